@@ -18,7 +18,7 @@ use Rattle.mm_world.proofs.LaidOut.{and-true}
 use Rattle.mm_world.proofs.Charges.{charge-set_region, sum_by-put, sum_by-split}
 use Rattle.mm_sections.specs.Pages.{uncommitted_in}
 use Rattle.mm_spaces.specs.Tables.{owned_in, rows_of, unmarked_in}
-use Rattle.mm_tables.specs.Fits.{marks_in, new_marks}
+use Rattle.mm_tables.specs.Fits.{newly_marked, new_marks}
 use Rattle.mm_calls.proofs.Around.{IsAround, around, has_own, in_range}
 use Rattle.mm_world.proofs.Ranges.{Inside}
 
@@ -140,9 +140,9 @@ protect_count (kind.View v) prot range r inside = by_base (base_of prot == 0x08)
 -- what the tables call them
 marks_is : (rs : List (RegionOf (Unit {0}))) (range : Range) (r : Found (RegionOf (Unit {0}))) (prot : ℕ) → region_around rs range ≡ Some r → new_marks rs range prot ≡ marks_of r.thing.kind prot (in_range range r.thing)
 marks_is rs range r prot e =
-    ap (λ o. unwrap_or (option_map (λ (r : Found (RegionOf (Unit {0}))). marks_in r.thing.kind rs range prot) o) 0) e ∙ by_kind r.thing.kind
+    ap (λ o. unwrap_or (option_map (λ (r : Found (RegionOf (Unit {0}))). newly_marked r.thing.kind rs range prot) o) 0) e ∙ by_kind r.thing.kind
   where
-    by_kind : (k : Kind) → marks_in k rs range prot ≡ marks_of k prot (in_range range r.thing)
+    by_kind : (k : Kind) → newly_marked k rs range prot ≡ marks_of k prot (in_range range r.thing)
     by_kind kind.Private = refl
     by_kind (kind.View v) = ap (λ o. cond (base_of prot == 0x08) (count_by (λ (row : RowOf (Unit {0})). not row.marked) (rows_of range o)) 0) e
 
@@ -229,11 +229,11 @@ no_marks rs range prot e = by_base (base_of prot == 0x08) refl
     base : is_one_of private_protections (base_of prot) ≡ true
     base = (and-true (is_one_of private_protections (base_of prot)) (nat_lt prot 0x200) (and-true (is_one_of private_protections (base_of prot) && nat_lt prot 0x200) (not (prot == 0x101)) e).0).0
 
-    by_kind : (k : Kind) → (base_of prot == 0x08) ≡ false → marks_in k rs range prot ≡ 0
+    by_kind : (k : Kind) → (base_of prot == 0x08) ≡ false → newly_marked k rs range prot ≡ 0
     by_kind kind.Private other = refl
     by_kind (kind.View v) other = ap (λ b. cond b (unmarked_in rs range) 0) other
 
-    by_found : (o : Option (Found (RegionOf (Unit {0})))) → (base_of prot == 0x08) ≡ false → unwrap_or (option_map (λ (r : Found (RegionOf (Unit {0}))). marks_in r.thing.kind rs range prot) o) 0 ≡ 0
+    by_found : (o : Option (Found (RegionOf (Unit {0})))) → (base_of prot == 0x08) ≡ false → unwrap_or (option_map (λ (r : Found (RegionOf (Unit {0}))). newly_marked r.thing.kind rs range prot) o) 0 ≡ 0
     by_found None other = refl
     by_found (Some r) other = by_kind r.thing.kind other
 

@@ -12,7 +12,7 @@ use Rattle.mm_world.specs.Keys.{shared_key}
 use Rattle.mm_pages.specs.Reports.{Served, wrote}
 use Rattle.mm_pages.specs.Store.{StoreOf}
 use Rattle.mm_sections.specs.Pages.{number_of_block}
-use Rattle.mm_tables.specs.Fits.{Fits}
+use Rattle.mm_tables.specs.Fits.{FitsTables}
 use Rattle.mm_tables.specs.References.{IsTidy}
 use Rattle.mm_calls.specs.Stages.{AreHeld, InBlocks}
 use Rattle.mm_blocks.proofs.Serving.{all_served_later, failed_later, named_as_before}
@@ -93,7 +93,7 @@ blamed_since s z y h failed = failed_later s.file_device z.file_device y.file_de
 
 -- ---- a store that was only written to
 
-pub fits_written : (t : Tables) (c d : Key → Option Page) (s z : StoreOf) → Fits t c s → z ≡ wrote s z → d ≡ c → Served s z → length z.file_blocks ≡ length s.file_blocks → Fits t d z
+pub fits_written : (t : Tables) (c d : Key → Option Page) (s z : StoreOf) → FitsTables t c s → z ≡ wrote s z → d ≡ c → Served s z → length z.file_blocks ≡ length s.file_blocks → FitsTables t d z
 fits_written t c d s z f e same served stored =
     record {
       machine = ap (λ (x : StoreOf). x.machine) e ∙ f.machine;
@@ -126,7 +126,7 @@ all_there (Some x ∷ pages) zero all h = refl
 all_there (Some x ∷ pages) (suc index) all h =
     all_there pages index (omega (arith, all, sum_by-cons (λ (page : Option (Unit {0})). one_if (is_some page)) (Some x) pages)) (omega (arith, h))
 
-pub in_blocks : (t : Tables) (c : Key → Option Page) (s : StoreOf) (area first count block : ℕ) → Fits t c s → IsTidy t → (area_at t area).file_block ≡ Some block → first + count ≤ length (area_at t area).pages → InBlocks s.block_of area first count block
+pub in_blocks : (t : Tables) (c : Key → Option Page) (s : StoreOf) (area first count block : ℕ) → FitsTables t c s → IsTidy t → (area_at t area).file_block ≡ Some block → first + count ≤ length (area_at t area).pages → InBlocks s.block_of area first count block
 in_blocks t c s area first count block f tidy file inside =
     record {
       at = λ index low high.

@@ -15,21 +15,21 @@ use Rattle.mm_world.specs.Outcome.{OutcomeOf}
 use Rattle.mm_world.specs.Stack.{stack, probe, grown, is_overflow}
 use Rattle.mm_world.proofs.NaturalSections.{in_stack, in_probe}
 use Rattle.mm_world.proofs.Reconstruct.{tables_back}
-use Rattle.mm_calls.specs.Growth.{has_grown, grows, lowered, Grows}
+use Rattle.mm_calls.specs.Growth.{has_grown, grows, guard_lowered, StackGrows}
 use Rattle.mm_calls.proofs.Growths.{same_number, is_same, put_here}
 use Rattle.mm_calls.proofs.StacksKept.{alloc_stacks}
 use Rattle.mm_calls.proofs.Touching.{at_ended, at_bare, chosen, reached, at_growth}
 
 -- ---- a stack that grows
 
-lower_is_other : (s : StackOf) → s.base < s.guard_page → has_grown (Some s) (Some (lowered s)) ≡ true
+lower_is_other : (s : StackOf) → s.base < s.guard_page → has_grown (Some s) (Some (guard_lowered s)) ≡ true
 lower_is_other s above = ap not (not_true ((s.guard_page - 1) == s.guard_page) (λ e. absurd (omega (arith, above, same_number (s.guard_page - 1) s.guard_page e))))
 
 module _ {B : Type 0} (fill : ℕ → B) (w v : WorldOf B) (tid : ℕ) (s : StackOf) (has : stack_by w tid ≡ Some s) (same : v.stacks ≡ w.stacks) where
-  pub grown_has : stack_by (grown fill v tid s).world tid ≡ Some (lowered s)
+  pub grown_has : stack_by (grown fill v tid s).world tid ≡ Some (guard_lowered s)
   grown_has =
-      ap (λ (z : Numbered StackOf). numbered (set z tid (Some (lowered s))) tid) (alloc_stacks fill v s.pid (address_of (s.guard_page - 1)) 1 commit_type 0x104 ∙ same)
-      ∙ put_here w.stacks tid s (lowered s) has
+      ap (λ (z : Numbered StackOf). numbered (set z tid (Some (guard_lowered s))) tid) (alloc_stacks fill v s.pid (address_of (s.guard_page - 1)) 1 commit_type 0x104 ∙ same)
+      ∙ put_here w.stacks tid s (guard_lowered s) has
 
   -- where a probe comes to a growth
   pub grows_by : (addr : ℕ) → s.base < s.guard_page → probe fill w tid addr ≡ grown fill v tid s → grows fill w tid addr ≡ true
@@ -61,7 +61,7 @@ module _ (w : World) (tid addr : ℕ) (s : StackOf) (has : stack_by w tid ≡ So
   stayed o is same =
       sym e ∙ ap (λ (z : Numbered StackOf). has_grown (stack_by w tid) (numbered z tid)) (ap (λ (o : OutcomeOf Page). o.world.stacks) is ∙ same) ∙ no_growth (stack_by w tid)
 
-  by_test : (p : ProcessOf Page) (lives : process_of w s.pid ≡ Some p) (c : Committed Page) (there : committed_at w p.regions (page_of addr) ≡ Some c) (g here over read : Bool) → c.row.guard ≡ g → (page_of addr == s.guard_page) ≡ here → is_overflow w p s ≡ over → probe filled w tid addr ≡ chosen filled w tid addr s has p lives c there g here over read → Grows w s (page_of addr)
+  by_test : (p : ProcessOf Page) (lives : process_of w s.pid ≡ Some p) (c : Committed Page) (there : committed_at w p.regions (page_of addr) ≡ Some c) (g here over read : Bool) → c.row.guard ≡ g → (page_of addr == s.guard_page) ≡ here → is_overflow w p s ≡ over → probe filled w tid addr ≡ chosen filled w tid addr s has p lives c there g here over read → StackGrows w s (page_of addr)
   by_test p lives c there true false over read on at left is = let bad = stayed _ is refl in cc
   by_test p lives c there true true true read on at left is = let bad = stayed _ is refl in cc
   by_test p lives c there true true false read on at left is =
@@ -69,19 +69,19 @@ module _ (w : World) (tid addr : ℕ) (s : StackOf) (has : stack_by w tid ≡ So
   by_test p lives c there false here over false on at left is = let bad = stayed _ is refl in cc
   by_test p lives c there false here over true on at left is = let bad = stayed _ is refl in cc
 
-  by_row : (p : ProcessOf Page) → process_of w s.pid ≡ Some p → (x : Option (Committed Page)) → committed_at w p.regions (page_of addr) ≡ x → Grows w s (page_of addr)
+  by_row : (p : ProcessOf Page) → process_of w s.pid ≡ Some p → (x : Option (Committed Page)) → committed_at w p.regions (page_of addr) ≡ x → StackGrows w s (page_of addr)
   by_row p lives None there = let bad = stayed _ (at_bare filled w tid addr s has p lives there) refl in cc
   by_row p lives (Some c) there =
       by_test p lives c there c.row.guard (page_of addr == s.guard_page) (is_overflow w p s) (permits c.row.prot access_kind.Read) refl refl refl (reached filled w tid addr s has p lives c there)
 
-  by_process : (x : Option (ProcessOf Page)) → process_of w s.pid ≡ x → Grows w s (page_of addr)
+  by_process : (x : Option (ProcessOf Page)) → process_of w s.pid ≡ x → StackGrows w s (page_of addr)
   by_process None lives = let bad = stayed _ (at_ended filled w tid addr s has lives) refl in cc
   by_process (Some p) lives = by_row p lives (committed_at w p.regions (page_of addr)) refl
 
-  pub grows_there : Grows w s (page_of addr)
+  pub grows_there : StackGrows w s (page_of addr)
   grows_there = by_process (process_of w s.pid) refl
 
-pub there_grows : (w : World) (tid addr : ℕ) (s : StackOf) → stack_by w tid ≡ Some s → s.base < s.guard_page → Grows w s (page_of addr) → grows filled w tid addr ≡ true
+pub there_grows : (w : World) (tid addr : ℕ) (s : StackOf) → stack_by w tid ≡ Some s → s.base < s.guard_page → StackGrows w s (page_of addr) → grows filled w tid addr ≡ true
 there_grows w tid addr s has above h =
     grows_by filled w (guard_off w s.pid h.process h.committed (page_of addr)) tid s has refl addr above
     (at_growth filled w tid addr s has h.process h.lives h.committed h.there h.guard_on (is_same (page_of addr) s.guard_page h.on_guard_page) h.something_left)

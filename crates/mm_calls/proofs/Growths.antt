@@ -20,7 +20,7 @@ use Rattle.mm_world.specs.Outcome.{OutcomeOf}
 use Rattle.mm_world.specs.Stack.{stack, probe, is_overflow, reserve_pages, commit_pages}
 use Rattle.mm_world.proofs.Finding.{numbered_inside}
 use Rattle.mm_world.proofs.LaidOut.{and-true, or-false}
-use Rattle.mm_calls.specs.Growth.{ProbeIn, probed, has_grown, growths, lowered, NothingLeft, Overflows}
+use Rattle.mm_calls.specs.Growth.{ProbeIn, probed, has_grown, growths, guard_lowered, NothingLeft, Overflows}
 use Rattle.mm_calls.proofs.Making.{at_dead, at_busy, at_few, at_no_gap, at_past, at_made}
 use Rattle.mm_calls.proofs.StacksKept.{alloc_stacks}
 use Rattle.mm_calls.proofs.Touching.{at_nobody, at_ended, at_bare, chosen, reached, at_overflow, off}
@@ -44,7 +44,7 @@ pub data Cases (w : World) (tid : ℕ) (s : StackOf) (o : OutcomeOf Page) : Type
   IsNothing : o.answer ≡ answer.Nothing → o.world.stacks ≡ w.stacks → Cases w tid s o
   IsRaised : (r : Raise) → o.answer ≡ answer.Raised r → o.world.stacks ≡ w.stacks → Cases w tid s o
   IsSame : o.answer ≡ answer.At (address_of s.guard_page) → o.world.stacks ≡ w.stacks → Cases w tid s o
-  IsNext : o.answer ≡ answer.At (address_of (s.guard_page - 1)) → o.world.stacks ≡ set w.stacks tid (Some (lowered s)) → (s.base < s.guard_page → s.base + 1 < s.guard_page) → Cases w tid s o
+  IsNext : o.answer ≡ answer.At (address_of (s.guard_page - 1)) → o.world.stacks ≡ set w.stacks tid (Some (guard_lowered s)) → (s.base < s.guard_page → s.base + 1 < s.guard_page) → Cases w tid s o
 
 pub not_next : {B : Type 0} (w : WorldOf B) (p : ProcessOf B) (s : StackOf) → is_overflow w p s ≡ false → s.base < s.guard_page → s.base + 1 < s.guard_page
 not_next w p s e above = by_order (leb (s.base + 2) s.guard_page) refl
@@ -61,8 +61,8 @@ module _ (w : World) (tid addr : ℕ) (s : StackOf) (has : stack_by w tid ≡ So
   whole = probe filled w tid addr
 
   module _ (p : ProcessOf Page) (lives : process_of w s.pid ≡ Some p) (c : Committed Page) (there : committed_at w p.regions (page_of addr) ≡ Some c) where
-    grown_stacks : (chosen filled w tid addr s has p lives c there true true false true).world.stacks ≡ set w.stacks tid (Some (lowered s))
-    grown_stacks = ap (λ z. set z tid (Some (lowered s))) (alloc_stacks filled (off filled w tid addr s has p lives c there) s.pid (address_of (s.guard_page - 1)) 1 commit_type 0x104)
+    grown_stacks : (chosen filled w tid addr s has p lives c there true true false true).world.stacks ≡ set w.stacks tid (Some (guard_lowered s))
+    grown_stacks = ap (λ z. set z tid (Some (guard_lowered s))) (alloc_stacks filled (off filled w tid addr s has p lives c there) s.pid (address_of (s.guard_page - 1)) 1 commit_type 0x104)
 
     by_choice : (o : OutcomeOf Page) (g same over read : Bool) → is_overflow w p s ≡ over → o ≡ chosen filled w tid addr s has p lives c there g same over read → Cases w tid s o
     by_choice o true false over read full e = IsRaised raise.GuardPage (ap (λ o. o.answer) e) (ap (λ o. o.world.stacks) e)
@@ -118,7 +118,7 @@ told_in w tid guard s o has (IsNothing is stays) e = let bad : answer.Nothing �
 told_in w tid guard s o has (IsRaised r is stays) e = let bad : answer.Raised r ≡ answer.At guard = sym is ∙ e in cc
 told_in w tid guard s o has (IsSame is stays) e = told_by guard tid o s (ap (λ (z : Numbered StackOf). numbered z tid) stays ∙ has) (same_address s.guard_page guard (sym is ∙ e))
 told_in w tid guard s o has (IsNext is moves more) e =
-    told_by guard tid o (lowered s) (ap (λ (z : Numbered StackOf). numbered z tid) moves ∙ put_here w.stacks tid s (lowered s) has) (same_address (s.guard_page - 1) guard (sym is ∙ e))
+    told_by guard tid o (guard_lowered s) (ap (λ (z : Numbered StackOf). numbered z tid) moves ∙ put_here w.stacks tid s (guard_lowered s) has) (same_address (s.guard_page - 1) guard (sym is ∙ e))
 
 pub told : (w : World) (tid addr guard : ℕ) → (probe filled w tid addr).answer ≡ answer.At guard → Told guard tid (probe filled w tid addr)
 told w tid addr guard e = by_stack (stack_by w tid) refl
@@ -162,8 +162,8 @@ module _ (stacks : Numbered StackOf) (tid : ℕ) (s : StackOf) (p : ProbeIn) (ps
   one_probe (IsRaised r is stays) = at_same stays
   one_probe (IsSame is stays) = at_same stays
   one_probe (IsNext is moves more) =
-      let now : numbered after tid ≡ Some (lowered s) = ap (λ (z : Numbered StackOf). numbered z tid) moves ∙ put_here stacks tid s (lowered s) has in
-      let after_it : growths after tid ps + s.base + 1 ≤ s.guard_page - 1 = rest after (lowered s) now (omega (arith, more above)) in
+      let now : numbered after tid ≡ Some (guard_lowered s) = ap (λ (z : Numbered StackOf). numbered z tid) moves ∙ put_here stacks tid s (guard_lowered s) has in
+      let after_it : growths after tid ps + s.base + 1 ≤ s.guard_page - 1 = rest after (guard_lowered s) now (omega (arith, more above)) in
       omega (arith, more above, after_it, one_at_most (has_grown (numbered stacks tid) (numbered after tid)))
 
 pub bounded : (stacks : Numbered StackOf) (tid : ℕ) (s : StackOf) (probes : List ProbeIn) → numbered stacks tid ≡ Some s → s.base < s.guard_page → growths stacks tid probes + s.base + 1 ≤ s.guard_page

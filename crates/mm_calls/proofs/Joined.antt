@@ -8,7 +8,7 @@ use Rattle.mm_world.specs.Find.{process_of, set_regions}
 use Rattle.mm_world.specs.Contents.{Tables}
 use Rattle.mm_world.specs.Keys.{content_of, own_page}
 use Rattle.mm_pages.specs.Store.{StoreOf}
-use Rattle.mm_tables.specs.Fits.{Fits, Settled, Carried}
+use Rattle.mm_tables.specs.Fits.{FitsTables, Settled, Carried}
 use Rattle.mm_tables.proofs.EndingFits.{beside_then}
 use Rattle.mm_tables.proofs.OneProcess.{regions_in, content_is, regions_of_process, regions_set_same, regions_set_other}
 
@@ -48,7 +48,7 @@ carried_then (Some x) None c p q h = let bad : false ≡ true = h refl in cc
 carried_then (Some x) (Some y) None p q h = refl
 carried_then (Some x) (Some y) (Some z) p q h = q ∙ p
 
-pub joined : (t u v : Tables) (c d e : Key → Option Page) (s y z : StoreOf) → Fits t c s → Lasts t u → Settled u c d s y → Settled v d e y z → Settled v c e s z
+pub joined : (t u v : Tables) (c d e : Key → Option Page) (s y z : StoreOf) → FitsTables t c s → Lasts t u → Settled u c d s y → Settled v d e y z → Settled v c e s z
 joined t u v c d e s y z f lasts p q =
     record {
       fits = q.fits;

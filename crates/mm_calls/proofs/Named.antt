@@ -18,7 +18,7 @@ use Rattle.mm_world.specs.Sections.{create, handle_or, next_handle, with_handle,
 use Rattle.mm_world.specs.WellFormed.{Each}
 use Rattle.mm_pages.specs.Store.{StoreOf}
 use Rattle.mm_sections.specs.Directories.{id_of, area_of}
-use Rattle.mm_tables.specs.Fits.{Fits, Called, Settled, Carries, bytes_of}
+use Rattle.mm_tables.specs.Fits.{FitsTables, Called, Settled, CarriesPages, key_bytes}
 use Rattle.mm_tables.specs.References.{IsTidy}
 use Rattle.mm_world.proofs.Outcomes.{at_alive, at_met}
 
@@ -67,11 +67,11 @@ file_told t name area tidy e = by_file (file_named t name) refl e
 
 -- ---- a section that was there
 
-bytes_after : (t after : Tables) (old new : Key → Option Page) (s z : StoreOf) → Fits t old s → Fits after new z → Carries old new → BytesAfter t (bytes_of old) after (bytes_of new)
+bytes_after : (t after : Tables) (old new : Key → Option Page) (s z : StoreOf) → FitsTables t old s → FitsTables after new z → CarriesPages old new → BytesAfter t (key_bytes old) after (key_bytes new)
 bytes_after t after old new s z before fits h k =
-    h.at k ∙ (λ i. cond (before.live k i && fits.live k i) (bytes_of old k) (filled 0))
+    h.at k ∙ (λ i. cond (before.live k i && fits.live k i) (key_bytes old k) (filled 0))
 
-pub created_existing : (t after : Tables) (c : Key → Option Page) (s : StoreOf) (pid size flags number : ℕ) (name : Option Text) (p : ProcessOf (Unit {0})) (r : Result Answer NoMemory) → process_of t pid ≡ Some p → (are_section_flags flags && not (size == 0) && nat_le size largest_section) ≡ true → option_and_then (section_named t) name ≡ Some number → IfOk r (λ a. (p : ProcessOf (Unit {0})) → process_of t pid ≡ Some p → done (answer.Created (next_handle p) true) (with_handle t pid p number) ≡ record { answer = a; world = after }) → Fits t c s → Settled after c c s s → IfOk r (λ a. Called (create blank t pid size flags name) t c a after c)
+pub created_existing : (t after : Tables) (c : Key → Option Page) (s : StoreOf) (pid size flags number : ℕ) (name : Option Text) (p : ProcessOf (Unit {0})) (r : Result Answer NoMemory) → process_of t pid ≡ Some p → (are_section_flags flags && not (size == 0) && nat_le size largest_section) ≡ true → option_and_then (section_named t) name ≡ Some number → IfOk r (λ a. (p : ProcessOf (Unit {0})) → process_of t pid ≡ Some p → done (answer.Created (next_handle p) true) (with_handle t pid p number) ≡ record { answer = a; world = after }) → FitsTables t c s → Settled after c c s s → IfOk r (λ a. Called (create blank t pid size flags name) t c a after c)
 created_existing t after c s pid size flags number name p (Ok a) lives parameters named made f settled =
     record {
       outcome =

@@ -10,7 +10,7 @@ use Rattle.mm_world.specs.Find.{no_area}
 use Rattle.mm_world.specs.Contents.{Tables, BytesAfterFile, file_bytes}
 use Rattle.mm_world.proofs.LaidOut.{and-true}
 use Rattle.mm_pages.specs.Store.{StoreOf, with_file}
-use Rattle.mm_tables.specs.Fits.{Fits, bytes_of}
+use Rattle.mm_tables.specs.Fits.{FitsTables, key_bytes}
 
 abbrev AfterFile : Option Page → Option Page → Page → Type 0
 AfterFile o q x = unwrap_or q (filled 0) ≡ cond (is_some o && is_some q) (unwrap_or o (filled 0)) (cond (is_some q) x (filled 0))
@@ -34,7 +34,7 @@ past_end [] n e = refl
 past_end (a ∷ areas) zero e = absurd (omega (arith, e))
 past_end (a ∷ areas) (suc n) e = past_end areas n (omega (arith, e))
 
-module _ (t after : Tables) (c d : Key → Option Page) (s z : StoreOf) (pages byte : ℕ) (f : Fits t c s) (h : Fits after d z) (e : d ≡ with_file (length t.areas) pages byte c) where
+module _ (t after : Tables) (c d : Key → Option Page) (s z : StoreOf) (pages byte : ℕ) (f : FitsTables t c s) (h : FitsTables after d z) (e : d ≡ with_file (length t.areas) pages byte c) where
   unused : (a : Area) (i : ℕ) → a.0 ≡ length t.areas → is_some (c (key.Shared a i)) ≡ false
   unused a i at = f.live (key.Shared a i) ∙ ap (λ o. is_some (numbered (unwrap_or o no_area).pages i)) (past_end t.areas a.0 at)
 
@@ -53,5 +53,5 @@ module _ (t after : Tables) (c d : Key → Option Page) (s z : StoreOf) (pages b
       by_test false old =
           kept (c (key.Shared a i)) (d (key.Shared a i)) (filled ((byte + i) % 256)) (is ∙ ap (λ b. cond b (Some (filled ((byte + i) % 256))) (c (key.Shared a i))) old)
 
-  pub with_file_bytes : BytesAfterFile byte t (bytes_of c) after (bytes_of d)
-  with_file_bytes k = by_key k ∙ (λ i. cond (f.live k i && h.live k i) (bytes_of c k) (cond (h.live k i) (file_bytes byte k) (filled 0)))
+  pub with_file_bytes : BytesAfterFile byte t (key_bytes c) after (key_bytes d)
+  with_file_bytes k = by_key k ∙ (λ i. cond (f.live k i && h.live k i) (key_bytes c k) (cond (h.live k i) (file_bytes byte k) (filled 0)))

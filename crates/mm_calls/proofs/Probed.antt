@@ -16,21 +16,21 @@ use Rattle.mm_world.specs.Stack.{probe, grown, is_overflow}
 use Rattle.mm_world.specs.Alloc.{alloc}
 use Rattle.mm_pages.specs.Store.{StoreOf}
 use Rattle.mm_tables.specs.declared.looks.CommittedRow.{CommittedRow}
-use Rattle.mm_tables.specs.Fits.{Fits, Settled}
+use Rattle.mm_tables.specs.Fits.{FitsTables, Settled}
 use Rattle.mm_tables.specs.Looks.{committed_row}
 use Rattle.mm_tables.proofs.Carried.{carries_same}
-use Rattle.mm_calls.specs.Growth.{grows, lowered}
+use Rattle.mm_calls.specs.Growth.{grows, guard_lowered}
 use Rattle.mm_calls.proofs.Growable.{grows_by}
 use Rattle.mm_calls.proofs.Growths.{is_same, same_number}
 use Rattle.mm_calls.proofs.Touching.{IsTold, told, at_other, at_overflow, at_growth}
 use Rattle.mm_types.proofs.Booleans.{not_true}
 
 -- a guard is off, and the store is as before
-pub settled_off : (v : Tables) (c : Key → Option Page) (s : StoreOf) → Fits v c s → Settled v c c s s
+pub settled_off : (v : Tables) (c : Key → Option Page) (s : StoreOf) → FitsTables v c s → Settled v c c s s
 settled_off v c s f = record { fits = f; carries = carries_same c c refl; rest = refl }
 
 -- other tables, which any store fits that fits these
-pub settled_then : (u v : Tables) (c d : Key → Option Page) (s z : StoreOf) → ((c : Key → Option Page) (s : StoreOf) → Fits u c s → Fits v c s) → Settled u c d s z → Settled v c d s z
+pub settled_then : (u v : Tables) (c d : Key → Option Page) (s z : StoreOf) → ((c : Key → Option Page) (s : StoreOf) → FitsTables u c s → FitsTables v c s) → Settled u c d s z → Settled v c d s z
 settled_then u v c d s z keeps h = record { fits = keeps d z h.fits; carries = h.carries; rest = h.rest }
 
 -- what took a guard off
@@ -66,11 +66,11 @@ module _ (t : Tables) (tid addr : ℕ) (s : StackOf) (has : stack_by t tid ≡ S
         ∙ (λ i. done (answer.Raised raise.StackOverflow) (guard_off t s.pid is.process is.committed (here i)))
         ∙ (λ i. done (answer.Raised raise.StackOverflow) (sym (off is.process is.committed is.lives there) i))
 
-    pub of_growth : ((p : ProcessOf (Unit {0})) → process_of t s.pid ≡ Some p → is_overflow t p s ≡ false) → (u v : Tables) → ((p : ProcessOf (Unit {0})) (c : Committed (Unit {0})) → process_of t s.pid ≡ Some p → committed_at t p.regions s.guard_page ≡ Some c → u ≡ (alloc blank (guard_off t s.pid p c s.guard_page) s.pid (address_of (s.guard_page - 1)) 1 commit_type 0x104).world) → v ≡ set_stack u tid (lowered s) → (a : Answer) → a ≡ answer.At (address_of (s.guard_page - 1)) → probe blank t tid addr ≡ record { answer = a; world = v }
+    pub of_growth : ((p : ProcessOf (Unit {0})) → process_of t s.pid ≡ Some p → is_overflow t p s ≡ false) → (u v : Tables) → ((p : ProcessOf (Unit {0})) (c : Committed (Unit {0})) → process_of t s.pid ≡ Some p → committed_at t p.regions s.guard_page ≡ Some c → u ≡ (alloc blank (guard_off t s.pid p c s.guard_page) s.pid (address_of (s.guard_page - 1)) 1 commit_type 0x104).world) → v ≡ set_stack u tid (guard_lowered s) → (a : Answer) → a ≡ answer.At (address_of (s.guard_page - 1)) → probe blank t tid addr ≡ record { answer = a; world = v }
     of_growth more u v commits lowers a said =
         at_growth blank t tid addr s has is.process is.lives is.committed is.there guarded (is_same page s.guard_page here) (more is.process is.lives)
         ∙ (λ i. grown blank (guard_off t s.pid is.process is.committed (here i)) tid s)
-        ∙ (λ i. done (sym said i) (set_stack (sym (commits is.process is.committed is.lives there) i) tid (lowered s)))
+        ∙ (λ i. done (sym said i) (set_stack (sym (commits is.process is.committed is.lives there) i) tid (guard_lowered s)))
         ∙ ap (λ (v : Tables). done a v) (sym lowers)
 
     pub grows_here : s.base < s.guard_page → ((p : ProcessOf (Unit {0})) → process_of t s.pid ≡ Some p → is_overflow t p s ≡ false) → grows blank t tid addr ≡ true

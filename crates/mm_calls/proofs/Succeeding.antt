@@ -32,7 +32,7 @@ use Rattle.mm_tables.proofs.OneProcess.{process_set_same}
 use Rattle.mm_tables.proofs.Regions.{holds}
 use Rattle.mm_tables.proofs.Rows as rows
 use Rattle.mm_calls.proofs.Around.{around_is, has_own, in_range}
-use Rattle.mm_calls.specs.Growth.{StandsIn}
+use Rattle.mm_calls.specs.Growth.{StackStandsIn}
 use Rattle.mm_calls.proofs.Growths.{is_same, not_next}
 use Rattle.mm_calls.proofs.Touching.{alloc_commits}
 use Rattle.mm_world.proofs.Outcomes.{at_found, at_room}
@@ -68,7 +68,7 @@ own_there w i k (Some x) home private e = refl
 own_there w i kind.Private None home private e = cc
 own_there w i (kind.View v) None home private e = let bad : false ≡ true = ap is_private private in cc
 
-module _ (w : World) (s : StackOf) (p : ProcessOf Page) (h : WellFormed w) (stands : StandsIn w s p) where
+module _ (w : World) (s : StackOf) (p : ProcessOf Page) (h : WellFormed w) (stands : StackStandsIn w s p) where
   abbrev next : ℕ
   next = s.guard_page - 1
 

@@ -16,7 +16,7 @@ use Rattle.mm_world.specs.Alloc.{alloc, reserve, commit_pages}
 use Rattle.mm_world.specs.Contents.{Tables}
 use Rattle.mm_world.specs.Stack.{probe, probe_of, probe_in, probe_at, grown, is_overflow}
 use Rattle.mm_tables.specs.declared.looks.CommittedRow.{CommittedRow}
-use Rattle.mm_tables.specs.Looks.{committed_row, told_row}
+use Rattle.mm_tables.specs.Looks.{committed_row, told_committed}
 use Rattle.mm_world.proofs.Outcomes.{at_alive}
 
 module _ {B : Type 0} (fill : ℕ → B) (w : WorldOf B) (tid addr : ℕ) where
@@ -78,13 +78,13 @@ pub record IsTold (t : Tables) (pid page : ℕ) (row : CommittedRow) : Type 0 wh
 pub told : (t : Tables) (pid page : ℕ) (row : CommittedRow) → committed_row t pid page ≡ Some row → IsTold t pid page row
 told t pid page row e = by_process (process_of t pid) refl e
   where
-    by_row : (p : ProcessOf (Unit {0})) (o : Option (Committed (Unit {0}))) → process_of t pid ≡ Some p → committed_at t p.regions page ≡ o → option_map (told_row pid page) o ≡ Some row → IsTold t pid page row
+    by_row : (p : ProcessOf (Unit {0})) (o : Option (Committed (Unit {0}))) → process_of t pid ≡ Some p → committed_at t p.regions page ≡ o → option_map (told_committed pid page) o ≡ Some row → IsTold t pid page row
     by_row p None lives there e = cc
     by_row p (Some c) lives there e =
-        let same : told_row pid page c ≡ row = cc in
+        let same : told_committed pid page c ≡ row = cc in
         record { process = p; lives = lives; committed = c; there = there; guard = ap (λ (r : CommittedRow). r.guard) same; prot = ap (λ (r : CommittedRow). r.prot.0) same }
 
-    by_process : (o : Option (ProcessOf (Unit {0}))) → process_of t pid ≡ o → option_and_then (λ (p : ProcessOf (Unit {0})). option_map (told_row pid page) (committed_at t p.regions page)) o ≡ Some row → IsTold t pid page row
+    by_process : (o : Option (ProcessOf (Unit {0}))) → process_of t pid ≡ o → option_and_then (λ (p : ProcessOf (Unit {0})). option_map (told_committed pid page) (committed_at t p.regions page)) o ≡ Some row → IsTold t pid page row
     by_process None lives e = cc
     by_process (Some p) lives e = by_row p (committed_at t p.regions page) lives refl e
 

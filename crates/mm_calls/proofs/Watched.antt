@@ -15,12 +15,12 @@ use Rattle.mm_world.specs.Outcome.{OutcomeOf, refused}
 use Rattle.mm_world.specs.Watch.{watched_around, written_in, unwritten, with_watched, watch, reset_watch}
 use Rattle.mm_world.proofs.Outcomes.{at_alive, at_met, at_found, at_missing}
 use Rattle.mm_pages.specs.Store.{StoreOf}
-use Rattle.mm_tables.specs.Fits.{Fits, Called}
+use Rattle.mm_tables.specs.Fits.{FitsTables, Called}
 use Rattle.mm_calls.specs.Watching.{after_watch}
 use Rattle.mm_tables.proofs.Carried.{called_by, carries_same}
 
 -- nothing but tables was changed, and the store fits them as it did
-pub called_beside : (q : OutcomeOf (Unit {0})) (t after : Tables) (contents : Key → Option Page) (s : StoreOf) (a : Answer) → q ≡ record { answer = a; world = after } → Fits t contents s → Fits after contents s → Called q t contents a after contents
+pub called_beside : (q : OutcomeOf (Unit {0})) (t after : Tables) (contents : Key → Option Page) (s : StoreOf) (a : Answer) → q ≡ record { answer = a; world = after } → FitsTables t contents s → FitsTables after contents s → Called q t contents a after contents
 called_beside q t after contents s a e f g =
     called_by q t after contents contents s s a e f (record { fits = g; carries = carries_same contents contents refl; rest = refl })
 

@@ -9,8 +9,8 @@ use Rattle.mm_world.specs.Keys.{Committed, committed_at}
 use Rattle.mm_world.specs.Stack.{probe, is_overflow}
 
 -- the guard page is one page lower
-abbrev pub lowered : StackOf → StackOf
-lowered s = record s { guard_page = s.guard_page - 1 }
+abbrev pub guard_lowered : StackOf → StackOf
+guard_lowered s = record s { guard_page = s.guard_page - 1 }
 
 -- the stack is there before and after, and its guard page is another
 abbrev pub has_grown : Option StackOf → Option StackOf → Bool
@@ -58,7 +58,7 @@ pub record Overflows (w : World) (tid page : ℕ) : Type 0 where
   pub nothing_left : NothingLeft w process stack
 
 -- the page is the guard page of the stack, its guard is on, and something is left
-pub record Grows (w : World) (s : StackOf) (page : ℕ) : Type 0 where
+pub record StackGrows (w : World) (s : StackOf) (page : ℕ) : Type 0 where
   pub process : ProcessOf Page
   pub lives : process_of w s.pid ≡ Some process
   pub committed : Committed Page
@@ -69,7 +69,7 @@ pub record Grows (w : World) (s : StackOf) (page : ℕ) : Type 0 where
 
 -- the stack begins where a private region of a living process does, and this region has its guard
 -- page
-pub record StandsIn (w : World) (s : StackOf) (p : ProcessOf Page) : Type 0 where
+pub record StackStandsIn (w : World) (s : StackOf) (p : ProcessOf Page) : Type 0 where
   pub lives : process_of w s.pid ≡ Some p
   pub place : ℕ
   pub region : RegionOf Page

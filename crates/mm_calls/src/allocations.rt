@@ -11,7 +11,7 @@ ghost use Rattle.mm_world.specs.Rows.{is_protection_among, private_protections};
 ghost use Rattle.mm_pages.specs.Housekeeping.{Turn, Turns, Makes};
 ghost use Rattle.mm_pages.specs.Passing.{PassesIn};
 ghost use Rattle.mm_spaces.specs.Tables.{found_info};
-ghost use Rattle.mm_tables.specs.Fits.{Fits, Settled};
+ghost use Rattle.mm_tables.specs.Fits.{FitsTables, Settled};
 
 use crate::parameters::new_pages;
 use mm_pages::Pages;
@@ -33,7 +33,7 @@ pub(crate) fn reserve<G: Pages>(
     kind: u32,
     prot: u32,
 ) -> Result<Answer, NoMemory>
-    requires fits { Fits t.old (G.contents g.old) (G.store g.old) }
+    requires fits { FitsTables t.old (G.contents g.old) (G.store g.old) }
     requires kind { (G.store g.old).kind ≡ line_kind.Call }
     requires lives { is_some (process_of t.old pid.0) ≡ true }
     requires some { 1 ≤ size }
@@ -77,7 +77,7 @@ pub fn commit<G: Pages>(
     range: PageRange,
     prot: u32,
 ) -> Result<Answer, NoMemory>
-    requires fits { Fits t.old (G.contents g.old) (G.store g.old) }
+    requires fits { FitsTables t.old (G.contents g.old) (G.store g.old) }
     requires kind { (G.store g.old).kind ≡ line_kind.Call }
     requires lives { is_some (process_of t.old pid.0) ≡ true }
     requires prot { is_protection_among private_protections prot ≡ true }
@@ -120,7 +120,7 @@ fn commit_private<G: Pages>(
     range: PageRange,
     prot: u32,
 ) -> Result<Answer, NoMemory>
-    requires fits { Fits t.old (G.contents g.old) (G.store g.old) }
+    requires fits { FitsTables t.old (G.contents g.old) (G.store g.old) }
     requires kind { (G.store g.old).kind ≡ line_kind.Call }
     requires lives { is_some (process_of t.old pid.0) ≡ true }
     requires around { (p : ProcessOf (Unit {0})) → process_of t.old pid.0 ≡ Some p →
@@ -167,7 +167,7 @@ fn commit_view<G: Pages>(
     view: View,
     prot: u32,
 ) -> Result<Answer, NoMemory>
-    requires fits { Fits t.old (G.contents g.old) (G.store g.old) }
+    requires fits { FitsTables t.old (G.contents g.old) (G.store g.old) }
     requires kind { (G.store g.old).kind ≡ line_kind.Call }
     requires lives { is_some (process_of t.old pid.0) ≡ true }
     requires around { (p : ProcessOf (Unit {0})) → process_of t.old pid.0 ≡ Some p →

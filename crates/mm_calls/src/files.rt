@@ -11,7 +11,7 @@ ghost use Rattle.mm_pages.specs.Housekeeping.{Turns, Makes, Flushes};
 ghost use Rattle.mm_pages.specs.Passing.{PassesIn, NotesIn};
 ghost use Rattle.mm_pages.specs.Reports.{Served, wrote};
 ghost use Rattle.mm_tables.specs.References.{IsFew};
-ghost use Rattle.mm_tables.specs.Fits.{Fits, BlocksHold, filed, flushed, bytes_of, beside_file, block_in};
+ghost use Rattle.mm_tables.specs.Fits.{FitsTables, BlocksHold, file_told, flush_told, key_bytes, beside_file, file_block_in};
 ghost use Rattle.mm_calls.specs.Stages.{AreHeld, NewFileMade, keys_from, flushed_keys};
 
 use crate::flushes::flush_pages;
@@ -37,22 +37,23 @@ pub fn new_file<G: Pages>(
     pages: u32,
     byte: u8,
 ) -> Result<Answer, NoMemory>
-    requires fits { Fits t.old (G.contents g.old) (G.store g.old) }
+    requires fits { FitsTables t.old (G.contents g.old) (G.store g.old) }
     requires kind { (G.store g.old).kind ≡ line_kind.Call }
     requires few { IsFew t.old }
     requires some { 1 ≤ pages }
     requires begun { (G.store g.old).report.file_writes.failed ≡ 0 }
-    ensures ok { IfOk result (λ a. filed t.old name.now pages byte (G.store g.new).report ≡ record {
-      answer = a;
-      world = t.new;
-    }) }
-    ensures bytes { OnOk result (BytesAfterFile byte t.old (bytes_of (G.contents g.old)) t.new
-        (bytes_of (G.contents g.new))) }
+    ensures ok { IfOk result (λ a. file_told t.old name.now pages byte (G.store g.new).report
+        ≡ record {
+          answer = a;
+          world = t.new;
+        }) }
+    ensures bytes { OnOk result (BytesAfterFile byte t.old (key_bytes (G.contents g.old)) t.new
+        (key_bytes (G.contents g.new))) }
     ensures err { OnErr result ((t.new ≡ t.old) × (G.contents g.new ≡ G.contents g.old) ×
         (G.store g.new ≡ G.store g.old)) }
     ensures no_memory { is_success (new_file blank t.old name.now pages byte).answer ≡ false
         → IsOk result }
-    ensures fits { Fits t.new (G.contents g.new) (G.store g.new) }
+    ensures fits { FitsTables t.new (G.contents g.new) (G.store g.new) }
     ensures beside { G.store g.new ≡ beside_file (G.store g.old) (G.store g.new) }
     ensures served { Served (G.store g.old) (G.store g.new) }
     ensures blamed { IfOk result (λ a. a ≡ answer.Fault →
@@ -83,15 +84,15 @@ pub fn new_file<G: Pages>(
 /// range does not lie in one view; `Fault` exactly where a write of the file device failed; the
 /// pages before it were written.
 pub fn flush_view<G: Pages>(t: &Tables, g: &mut G, pid: Pid, addr: u32, size: u32) -> Answer
-    requires fits { Fits t.now (G.contents g.old) (G.store g.old) }
+    requires fits { FitsTables t.now (G.contents g.old) (G.store g.old) }
     requires kind { (G.store g.old).kind ≡ line_kind.Call }
     requires begun { (G.store g.old).report.file_writes.failed ≡ 0 }
-    ensures outcome { flushed t.now pid.0 addr size (G.store g.new).report ≡ record {
+    ensures outcome { flush_told t.now pid.0 addr size (G.store g.new).report ≡ record {
       answer = result;
       world = t.now;
     } }
     ensures contents { G.contents g.new ≡ G.contents g.old }
-    ensures fits { Fits t.now (G.contents g.new) (G.store g.new) }
+    ensures fits { FitsTables t.now (G.contents g.new) (G.store g.new) }
     ensures beside { G.store g.new ≡ wrote (G.store g.old) (G.store g.new) }
     ensures holds { result ≡ answer.Ok →
         BlocksHold t.now (G.contents g.new) (G.store g.new).file_blocks pid.0 addr size }
@@ -138,7 +139,7 @@ fn flushed_count(size: u32, left: u32, meant: u32) -> u32
 /// Flushes `count` pages of a view from its page `before` on; those of a page-file section have no
 /// blocks.
 fn flush_view_pages<G: Pages>(t: &Tables, g: &mut G, view: View, before: u32, count: u32) -> Answer
-    requires fits { Fits t.now (G.contents g.old) (G.store g.old) }
+    requires fits { FitsTables t.now (G.contents g.old) (G.store g.old) }
     requires kind { (G.store g.old).kind ≡ line_kind.Call }
     requires begun { (G.store g.old).report.file_writes.failed ≡ 0 }
     requires area { view.area.0 < length t.now.areas }
@@ -146,10 +147,11 @@ fn flush_view_pages<G: Pages>(t: &Tables, g: &mut G, view: View, before: u32, co
     ensures answer { (if nat_lt 0 (G.store g.new).report.file_writes.failed then answer.Fault else
         answer.Ok) ≡ result }
     ensures contents { G.contents g.new ≡ G.contents g.old }
-    ensures fits { Fits t.now (G.contents g.new) (G.store g.new) }
+    ensures fits { FitsTables t.now (G.contents g.new) (G.store g.new) }
     ensures beside { G.store g.new ≡ wrote (G.store g.old) (G.store g.new) }
     ensures held { result ≡ answer.Ok →
-        AreHeld (λ k. block_in t.now k) (G.contents g.new) (G.store g.new).file_blocks view.area.0
+        AreHeld (λ k. file_block_in t.now k) (G.contents g.new) (G.store g.new).file_blocks
+        view.area.0
         (view.first + before) count }
     ensures served { Served (G.store g.old) (G.store g.new) }
     ensures blamed { result ≡ answer.Fault →

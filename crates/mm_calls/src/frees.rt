@@ -9,7 +9,7 @@ ghost use Rattle.mm_world.specs.Outcome.{done, find_or};
 ghost use Rattle.mm_pages.specs.Housekeeping.{Turns, Goes};
 ghost use Rattle.mm_pages.specs.Leaving.{leaving};
 ghost use Rattle.mm_pages.specs.Passing.{PassesIn};
-ghost use Rattle.mm_tables.specs.Fits.{Fits, Settled, is_uncommitted};
+ghost use Rattle.mm_tables.specs.Fits.{FitsTables, Settled, is_uncommitted};
 
 use mm_pages::Pages;
 use mm_spaces::PageRange;
@@ -20,7 +20,7 @@ use mm_types::{Answer, Code, Pid};
 /// stack, the thread has none any more.
 #[tactic(auto, using(mm_pages::proofs::Passed::turns_same))]
 pub(crate) fn release<G: Pages>(t: &mut Tables, g: &mut G, pid: Pid, addr: u32) -> Answer
-    requires fits { Fits t.old (G.contents g.old) (G.store g.old) }
+    requires fits { FitsTables t.old (G.contents g.old) (G.store g.old) }
     requires kind { (G.store g.old).kind ≡ line_kind.Unbind pid }
     requires lives { is_some (process_of t.old pid.0) ≡ true }
     ensures outcome { (p : ProcessOf (Unit {0})) → process_of t.old pid.0 ≡ Some p →
@@ -49,7 +49,7 @@ pub(crate) fn release<G: Pages>(t: &mut Tables, g: &mut G, pid: Pid, addr: u32) 
 /// Decommits all pages of the region of a living process that begins at the address.
 #[tactic(auto, using(mm_pages::proofs::Passed::turns_same))]
 pub(crate) fn decommit_region<G: Pages>(t: &mut Tables, g: &mut G, pid: Pid, addr: u32) -> Answer
-    requires fits { Fits t.old (G.contents g.old) (G.store g.old) }
+    requires fits { FitsTables t.old (G.contents g.old) (G.store g.old) }
     requires kind { (G.store g.old).kind ≡ line_kind.Unbind pid }
     requires lives { is_some (process_of t.old pid.0) ≡ true }
     ensures outcome { (p : ProcessOf (Unit {0})) → process_of t.old pid.0 ≡ Some p →
@@ -82,7 +82,7 @@ pub(crate) fn decommit_range<G: Pages>(
     pid: Pid,
     range: PageRange,
 ) -> Answer
-    requires fits { Fits t.old (G.contents g.old) (G.store g.old) }
+    requires fits { FitsTables t.old (G.contents g.old) (G.store g.old) }
     requires kind { (G.store g.old).kind ≡ line_kind.Unbind pid }
     requires lives { is_some (process_of t.old pid.0) ≡ true }
     requires some { 1 ≤ range.count }

@@ -9,7 +9,7 @@ ghost use Rattle.mm_pages.specs.Reports.{begun};
 ghost use Rattle.mm_pages.specs.Housekeeping.{Turn, Turns};
 ghost use Rattle.mm_pages.specs.Passing.{PassesIn, NotesIn};
 ghost use Rattle.mm_calls.specs.Growing.{GrowsBy};
-ghost use Rattle.mm_tables.specs.Fits.{Fits, Called, beside, before_process, extended, grown};
+ghost use Rattle.mm_tables.specs.Fits.{FitsTables, Called, store_beside, before_process, extended, grow_told};
 
 use mm_pages::Pages;
 use mm_tables::Tables;
@@ -22,8 +22,8 @@ const SLOTS: u32 = 262_144;
 /// `process` (CreateProcess): a new process without regions. The store's line has begun, with the
 /// pid that the process gets and the least and the greatest size of its working set.
 ///
-/// `Full` exactly where 64 processes were made. After `NoMemory` tables and store are as before,
-/// and no call of this line can follow.
+/// `Full` exactly where 64 processes were made. `NoMemory`, after which tables and store are as
+/// before and no call of this line can follow, comes only where it is not `Full`.
 #[tactic(auto, using(mm_pages::proofs::Passed::turns_same))]
 pub fn new_process<G: Pages>(
     allocator: Global,
@@ -32,7 +32,7 @@ pub fn new_process<G: Pages>(
     min: u32,
     max: u32,
 ) -> Result<Answer, NoMemory>
-    requires starts { Fits t.old (G.contents g.old) (before_process t.old (G.store g.old)) }
+    requires starts { FitsTables t.old (G.contents g.old) (before_process t.old (G.store g.old)) }
     requires last_pid { (G.store g.old).last_pid + 1 ≡ length (new_process t.old).world.processes }
     requires kind { nat_le (length t.old.processes) most_processes ≡ true →
         (G.store g.old).kind ≡ line_kind.Process (record {
@@ -40,10 +40,11 @@ pub fn new_process<G: Pages>(
         }) min max }
     ensures ok { IfOk result (λ a. Called (new_process t.old) t.old (G.contents g.old) a t.new
         (G.contents g.new)) }
-    ensures fits { OnOk result (Fits t.new (G.contents g.new) (G.store g.new)) }
+    ensures fits { OnOk result (FitsTables t.new (G.contents g.new) (G.store g.new)) }
     ensures err { OnErr result ((t.new ≡ t.old) × (G.contents g.new ≡ G.contents g.old) ×
         (G.store g.new ≡ G.store g.old)) }
-    ensures beside { G.store g.new ≡ beside (G.store g.old) (G.store g.new) }
+    ensures no_memory { nat_le (length t.old.processes) most_processes ≡ false → IsOk result }
+    ensures beside { G.store g.new ≡ store_beside (G.store g.old) (G.store g.new) }
     ensures passes { (turn : Turn) →
         PassesIn G.unpaged (Turns turn) (G.store g.old) (G.store g.new) (G.behind g.old)
         (G.behind g.new) }
@@ -69,15 +70,15 @@ pub fn grow_paging<G: Pages>(
     line: u32,
     n: u32,
 ) -> Result<Answer, NoMemory>
-    requires fits { Fits t.old (G.contents g.old) (G.store g.old) }
+    requires fits { FitsTables t.old (G.contents g.old) (G.store g.old) }
     requires next { line ≡ (G.store g.old).line + 1 }
     requires some { 1 ≤ n }
-    ensures ok { IfOk result (λ a. grown t.old n (G.store g.new).report ≡ record {
+    ensures ok { IfOk result (λ a. grow_told t.old n (G.store g.new).report ≡ record {
       answer = a;
       world = t.new;
     }) }
     ensures contents { G.contents g.new ≡ G.contents g.old }
-    ensures fits { Fits t.new (G.contents g.new) (G.store g.new) }
+    ensures fits { FitsTables t.new (G.contents g.new) (G.store g.new) }
     ensures rest { OnOk result (G.store g.new ≡ extended (G.store g.old) (G.store g.new)) }
     ensures report { OnOk result ((G.store g.new).report ≡
         record (begun (G.store g.old).report) {

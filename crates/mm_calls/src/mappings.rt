@@ -11,7 +11,7 @@ ghost use Rattle.mm_world.specs.Views.{is_copy};
 ghost use Rattle.mm_world.specs.WellFormed.{ViewFits};
 ghost use Rattle.mm_pages.specs.Housekeeping.{Turn, Turns};
 ghost use Rattle.mm_pages.specs.Passing.{PassesIn};
-ghost use Rattle.mm_tables.specs.Fits.{Fits, Settled};
+ghost use Rattle.mm_tables.specs.Fits.{FitsTables, Settled};
 ghost use Rattle.mm_calls.specs.Stages.{are_viewed, place_view, map_section};
 
 use crate::section_parameters::{is_granule_address, may_view};
@@ -34,7 +34,7 @@ pub(crate) fn map_handle<G: Pages>(
     view_length: u32,
     addr: u32,
 ) -> Result<Answer, NoMemory>
-    requires fits { Fits t.old (G.contents g.old) (G.store g.old) }
+    requires fits { FitsTables t.old (G.contents g.old) (G.store g.old) }
     requires kind { (G.store g.old).kind ≡ line_kind.Call }
     requires lives { is_some (process_of t.old pid.0) ≡ true }
     ensures ok { IfOk result (λ a. (p : ProcessOf (Unit {0})) → process_of t.old pid.0 ≡ Some p →
@@ -108,7 +108,7 @@ fn place_view<G: Pages>(
     count: u32,
     addr: u32,
 ) -> Result<Answer, NoMemory>
-    requires fits { Fits t.old (G.contents g.old) (G.store g.old) }
+    requires fits { FitsTables t.old (G.contents g.old) (G.store g.old) }
     requires kind { (G.store g.old).kind ≡ line_kind.Call }
     requires lives { is_some (process_of t.old pid.0) ≡ true }
     requires section { ViewFits t.old view count }

@@ -8,7 +8,7 @@ ghost use Rattle.mm_world.specs.Protect.{protect};
 ghost use Rattle.mm_pages.specs.Housekeeping.{Turn, Turns, Makes, Goes};
 ghost use Rattle.mm_pages.specs.Leaving.{leaving};
 ghost use Rattle.mm_pages.specs.Passing.{PassesIn};
-ghost use Rattle.mm_tables.specs.Fits.{Fits, Called, beside, is_uncommitted};
+ghost use Rattle.mm_tables.specs.Fits.{FitsTables, Called, store_beside, is_uncommitted};
 ghost use Rattle.mm_calls.specs.Allocating.{allocates_anew};
 ghost use Rattle.mm_calls.specs.Marking.{marks_anew};
 
@@ -45,14 +45,14 @@ pub fn valloc<G: Pages>(
     kind: u32,
     prot: u32,
 ) -> Result<Answer, NoMemory>
-    requires fits { Fits t.old (G.contents g.old) (G.store g.old) }
+    requires fits { FitsTables t.old (G.contents g.old) (G.store g.old) }
     requires kind { (G.store g.old).kind ≡ line_kind.Call }
     ensures ok { IfOk result (λ a. Called (alloc blank t.old pid.0 addr size kind prot) t.old
         (G.contents g.old) a t.new (G.contents g.new)) }
     ensures err { OnErr result ((t.new ≡ t.old) × (G.contents g.new ≡ G.contents g.old)) }
     ensures no_memory { allocates_anew blank t.old pid.0 addr size kind prot ≡ false → IsOk result }
-    ensures fits { Fits t.new (G.contents g.new) (G.store g.new) }
-    ensures beside { G.store g.new ≡ beside (G.store g.old) (G.store g.new) }
+    ensures fits { FitsTables t.new (G.contents g.new) (G.store g.new) }
+    ensures beside { G.store g.new ≡ store_beside (G.store g.old) (G.store g.new) }
     ensures passes { PassesIn G.unpaged (Turns Makes) (G.store g.old) (G.store g.new)
         (G.behind g.old) (G.behind g.new) }
     ensures idle { OnErr result
@@ -90,13 +90,13 @@ pub fn vfree<G: Pages>(
     size: u32,
     kind: u32,
 ) -> Answer
-    requires fits { Fits t.old (G.contents g.old) (G.store g.old) }
+    requires fits { FitsTables t.old (G.contents g.old) (G.store g.old) }
     requires kind { is_some (process_of t.old pid.0) ≡ true →
         (G.store g.old).kind ≡ line_kind.Unbind pid }
     ensures called { Called (free t.old pid.0 addr size kind) t.old (G.contents g.old) result t.new
         (G.contents g.new) }
-    ensures fits { Fits t.new (G.contents g.new) (G.store g.new) }
-    ensures beside { G.store g.new ≡ beside (G.store g.old) (G.store g.new) }
+    ensures fits { FitsTables t.new (G.contents g.new) (G.store g.new) }
+    ensures beside { G.store g.new ≡ store_beside (G.store g.old) (G.store g.new) }
     ensures passes { PassesIn G.unpaged (Turns (Goes (leaving t.old pid.0 (is_uncommitted t.new))))
         (G.store g.old) (G.store g.new) (G.behind g.old) (G.behind g.new) }
     ensures loans { G.loans g.new ≡ G.loans g.old }
@@ -133,14 +133,14 @@ pub fn protect<G: Pages>(
     size: u32,
     prot: u32,
 ) -> Result<Answer, NoMemory>
-    requires fits { Fits t.old (G.contents g.old) (G.store g.old) }
+    requires fits { FitsTables t.old (G.contents g.old) (G.store g.old) }
     requires kind { (G.store g.old).kind ≡ line_kind.Call }
     ensures ok { IfOk result (λ a. Called (protect t.old pid.0 addr size prot) t.old
         (G.contents g.old) a t.new (G.contents g.new)) }
     ensures err { OnErr result ((t.new ≡ t.old) × (G.contents g.new ≡ G.contents g.old)) }
     ensures no_memory { marks_anew t.old pid.0 addr size prot ≡ false → IsOk result }
-    ensures fits { Fits t.new (G.contents g.new) (G.store g.new) }
-    ensures beside { G.store g.new ≡ beside (G.store g.old) (G.store g.new) }
+    ensures fits { FitsTables t.new (G.contents g.new) (G.store g.new) }
+    ensures beside { G.store g.new ≡ store_beside (G.store g.old) (G.store g.new) }
     ensures passes { (turn : Turn) →
         PassesIn G.unpaged (Turns turn) (G.store g.old) (G.store g.new) (G.behind g.old)
         (G.behind g.new) }

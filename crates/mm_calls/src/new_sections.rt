@@ -12,7 +12,7 @@ ghost use Rattle.mm_pages.specs.Passing.{PassesIn};
 ghost use Rattle.mm_pages.specs.Store.{StoreOf};
 ghost use Rattle.mm_sections.specs.Directories.{id_of};
 ghost use Rattle.mm_tables.specs.References.{IsFew};
-ghost use Rattle.mm_tables.specs.Fits.{Fits, Settled};
+ghost use Rattle.mm_tables.specs.Fits.{FitsTables, Settled};
 ghost use Rattle.mm_calls.specs.Stages.{make_section};
 
 use crate::section_parameters::{is_reserve, section_prot};
@@ -43,7 +43,7 @@ pub(crate) fn add_existing(t: &mut Tables, pid: Pid, id: SectionId) -> Result<An
           world = t.new;
         }) }
     ensures err { OnErr result (t.new ≡ t.old) }
-    ensures settled { (c : Key → Option Page) (s : StoreOf) → Fits t.old c s →
+    ensures settled { (c : Key → Option Page) (s : StoreOf) → FitsTables t.old c s →
         Settled t.new c c s s }
 {
     let handle = t.add_handle(pid, id)?;
@@ -61,7 +61,7 @@ pub(crate) fn add_paging_section<G: Pages>(
     flags: u32,
     name: Option<Name>,
 ) -> Result<Answer, NoMemory>
-    requires fits { Fits t.old (G.contents g.old) (G.store g.old) }
+    requires fits { FitsTables t.old (G.contents g.old) (G.store g.old) }
     requires kind { (G.store g.old).kind ≡ line_kind.Call }
     requires lives { is_some (process_of t.old pid.0) ≡ true }
     requires few { IsFew t.old }
@@ -118,7 +118,7 @@ pub(crate) fn add_file_section(
           area = area.0;
         }) ≡ record { answer = a; world = t.new }) }
     ensures err { OnErr result (t.new ≡ t.old) }
-    ensures settled { (c : Key → Option Page) (s : StoreOf) → Fits t.old c s →
+    ensures settled { (c : Key → Option Page) (s : StoreOf) → FitsTables t.old c s →
         Settled t.new c c s s }
 {
     let handle = t.add_file_section(pid, area, section_prot(flags), name)?;

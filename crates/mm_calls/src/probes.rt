@@ -14,8 +14,8 @@ ghost use Rattle.mm_world.specs.Stack.{probe, is_overflow};
 ghost use Rattle.mm_pages.specs.Housekeeping.{Turn, Turns, Makes};
 ghost use Rattle.mm_pages.specs.Passing.{PassesIn};
 ghost use Rattle.mm_pages.specs.Store.{StoreOf};
-ghost use Rattle.mm_tables.specs.Fits.{Fits, Settled, Called, beside};
-ghost use Rattle.mm_calls.specs.Growth.{grows, lowered};
+ghost use Rattle.mm_tables.specs.Fits.{FitsTables, Settled, Called, store_beside};
+ghost use Rattle.mm_calls.specs.Growth.{grows, guard_lowered};
 
 use crate::commit;
 use mm_pages::Pages;
@@ -47,7 +47,7 @@ fn total_with_one(t: &Tables) -> u32
 /// guard page off. After `NoMemory` tables and bytes are as before.
 #[tactic(auto, using(mm_pages::proofs::Passed::idle_before))]
 fn grow<G: Pages>(t: &mut Tables, g: &mut G, stack: &ThreadStack) -> Result<(), NoMemory>
-    requires fits { Fits t.old (G.contents g.old) (G.store g.old) }
+    requires fits { FitsTables t.old (G.contents g.old) (G.store g.old) }
     requires kind { (G.store g.old).kind ≡ line_kind.Call }
     requires lives { is_some (process_of t.old stack.now.pid) ≡ true }
     requires committed { (p : ProcessOf (Unit {0})) → process_of t.old stack.now.pid ≡ Some p →
@@ -85,8 +85,9 @@ fn grow<G: Pages>(t: &mut Tables, g: &mut G, stack: &ThreadStack) -> Result<(), 
 fn lower(t: &mut Tables, tid: Tid, stack: &ThreadStack) -> Answer
     requires above { stack.now.base + 1 < stack.now.guard_page }
     ensures answer { result ≡ answer.At (address_of (stack.now.guard_page - 1)) }
-    ensures lowered { t.new ≡ set_stack t.old tid.0 (lowered stack.now) }
-    ensures fits { (c : Key → Option Page) (s : StoreOf) → Fits t.old c s → Fits t.new c s }
+    ensures lowered { t.new ≡ set_stack t.old tid.0 (guard_lowered stack.now) }
+    ensures fits { (c : Key → Option Page) (s : StoreOf) → FitsTables t.old c s →
+        FitsTables t.new c s }
 {
     let guard_page = stack.guard_page - 1;
     t.set_stack(
@@ -110,14 +111,14 @@ fn lower(t: &mut Tables, tid: Tid, stack: &ThreadStack) -> Answer
 /// permits no read. `NoMemory` comes only where the stack grows; then nothing has changed.
 #[tactic(auto, using(mm_pages::proofs::Passed::turns_same))]
 pub fn probe<G: Pages>(t: &mut Tables, g: &mut G, tid: Tid, addr: u32) -> Result<Answer, NoMemory>
-    requires fits { Fits t.old (G.contents g.old) (G.store g.old) }
+    requires fits { FitsTables t.old (G.contents g.old) (G.store g.old) }
     requires kind { (G.store g.old).kind ≡ line_kind.Call }
     ensures ok { IfOk result (λ a. Called (probe blank t.old tid.0 addr) t.old (G.contents g.old) a
         t.new (G.contents g.new)) }
     ensures err { OnErr result ((t.new ≡ t.old) × (G.contents g.new ≡ G.contents g.old)) }
     ensures no_memory { grows blank t.old tid.0 addr ≡ false → IsOk result }
-    ensures fits { Fits t.new (G.contents g.new) (G.store g.new) }
-    ensures beside { G.store g.new ≡ beside (G.store g.old) (G.store g.new) }
+    ensures fits { FitsTables t.new (G.contents g.new) (G.store g.new) }
+    ensures beside { G.store g.new ≡ store_beside (G.store g.old) (G.store g.new) }
     ensures passes { PassesIn G.unpaged (Turns Makes) (G.store g.old) (G.store g.new)
         (G.behind g.old) (G.behind g.new) }
     ensures idle { OnErr result

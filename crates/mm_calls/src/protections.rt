@@ -7,7 +7,7 @@ ghost use Rattle.mm_world.specs.Rows.{is_protection_among, all_protections, is_c
 ghost use Rattle.mm_pages.specs.Housekeeping.{Turn, Turns};
 ghost use Rattle.mm_pages.specs.Passing.{PassesIn};
 ghost use Rattle.mm_spaces.specs.Asked.{IsAsked};
-ghost use Rattle.mm_tables.specs.Fits.{Fits, Settled, new_marks};
+ghost use Rattle.mm_tables.specs.Fits.{FitsTables, Settled, new_marks};
 ghost use Rattle.mm_calls.specs.Marking.{protect_pages};
 
 use mm_pages::Pages;
@@ -24,7 +24,7 @@ pub(crate) fn protect_range<G: Pages>(
     range: PageRange,
     prot: u32,
 ) -> Result<Answer, NoMemory>
-    requires fits { Fits t.old (G.contents g.old) (G.store g.old) }
+    requires fits { FitsTables t.old (G.contents g.old) (G.store g.old) }
     requires kind { (G.store g.old).kind ≡ line_kind.Call }
     requires lives { is_some (process_of t.old pid.0) ≡ true }
     requires prot { is_protection_among all_protections prot ≡ true }

@@ -11,7 +11,7 @@ ghost use Rattle.mm_pages.specs.Leaving.{leaving};
 ghost use Rattle.mm_pages.specs.Passing.{PassesIn};
 ghost use Rattle.mm_pages.specs.Store.{StoreOf};
 ghost use Rattle.mm_tables.specs.References.{IsFew};
-ghost use Rattle.mm_tables.specs.Fits.{Fits, Called, Settled, beside};
+ghost use Rattle.mm_tables.specs.Fits.{FitsTables, Called, Settled, store_beside};
 
 use crate::new_sections::{add_existing, add_file_section, add_paging_section, section_with};
 use crate::section_parameters::{are_section_flags, are_section_parameters};
@@ -38,7 +38,7 @@ pub fn create<G: Pages>(
     flags: u32,
     name: Option<Name>,
 ) -> Result<Answer, NoMemory>
-    requires fits { Fits t.old (G.contents g.old) (G.store g.old) }
+    requires fits { FitsTables t.old (G.contents g.old) (G.store g.old) }
     requires kind { (G.store g.old).kind ≡ line_kind.Call }
     requires few { IsFew t.old }
     ensures ok { IfOk result (λ a. Called (create blank t.old pid.0 size flags name) t.old
@@ -46,8 +46,8 @@ pub fn create<G: Pages>(
     ensures err { OnErr result ((t.new ≡ t.old) × (G.contents g.new ≡ G.contents g.old)) }
     ensures no_memory { is_success (create blank t.old pid.0 size flags name).answer ≡ false
         → IsOk result }
-    ensures fits { Fits t.new (G.contents g.new) (G.store g.new) }
-    ensures beside { G.store g.new ≡ beside (G.store g.old) (G.store g.new) }
+    ensures fits { FitsTables t.new (G.contents g.new) (G.store g.new) }
+    ensures beside { G.store g.new ≡ store_beside (G.store g.old) (G.store g.new) }
     ensures passes { PassesIn G.unpaged (Turns Makes) (G.store g.old) (G.store g.new)
         (G.behind g.old) (G.behind g.new) }
     ensures idle { OnErr result
@@ -89,7 +89,7 @@ pub fn create_file(
     ensures err { OnErr result (t.new ≡ t.old) }
     ensures no_memory { is_success (create_file t.old pid.0 file.now flags name).answer ≡ false
         → IsOk result }
-    ensures settled { (c : Key → Option Page) (s : StoreOf) → Fits t.old c s →
+    ensures settled { (c : Key → Option Page) (s : StoreOf) → FitsTables t.old c s →
         Settled t.new c c s s }
 {
     if !t.has(pid) {
@@ -122,7 +122,7 @@ pub fn open_section(t: &mut Tables, pid: Pid, name: &Name) -> Result<Answer, NoM
     ensures err { OnErr result (t.new ≡ t.old) }
     ensures no_memory { is_success (open_section t.old pid.0 name.now).answer ≡ false
         → IsOk result }
-    ensures settled { (c : Key → Option Page) (s : StoreOf) → Fits t.old c s →
+    ensures settled { (c : Key → Option Page) (s : StoreOf) → FitsTables t.old c s →
         Settled t.new c c s s }
 {
     if !t.has(pid) {
@@ -142,12 +142,12 @@ pub fn open_section(t: &mut Tables, pid: Pid, name: &Name) -> Result<Answer, NoM
 /// `InvalidHandle` for a process that does not live, or has no such handle.
 #[tactic(auto, using(mm_pages::proofs::Passed::turns_same))]
 pub fn close<G: Pages>(t: &mut Tables, g: &mut G, pid: Pid, handle: u32) -> Answer
-    requires fits { Fits t.old (G.contents g.old) (G.store g.old) }
+    requires fits { FitsTables t.old (G.contents g.old) (G.store g.old) }
     requires kind { (G.store g.old).kind ≡ line_kind.Call }
     ensures called { Called (close t.old pid.0 handle) t.old (G.contents g.old) result t.new
         (G.contents g.new) }
-    ensures fits { Fits t.new (G.contents g.new) (G.store g.new) }
-    ensures beside { G.store g.new ≡ beside (G.store g.old) (G.store g.new) }
+    ensures fits { FitsTables t.new (G.contents g.new) (G.store g.new) }
+    ensures beside { G.store g.new ≡ store_beside (G.store g.old) (G.store g.new) }
     ensures passes { (places : Place → Bool) →
         PassesIn G.unpaged (Turns (Goes (leaving t.old pid.0 places))) (G.store g.old)
         (G.store g.new) (G.behind g.old) (G.behind g.new) }

@@ -9,7 +9,7 @@ ghost use Rattle.mm_world.specs.Find.{stack_by};
 ghost use Rattle.mm_world.specs.Keys.{Committed, committed_at, guard_off};
 ghost use Rattle.mm_world.specs.Stack.{stack, probe, is_overflow, reserve_pages, commit_pages};
 ghost use Rattle.mm_world.specs.WellFormed.{WellFormed};
-ghost use Rattle.mm_calls.specs.Growth.{ProbeIn, grows, growths, Overflows, Grows, StandsIn};
+ghost use Rattle.mm_calls.specs.Growth.{ProbeIn, grows, growths, Overflows, StackGrows, StackStandsIn};
 
 /// A stack of r pages with c committed grows at most r - c - 2 times, whatever the probes and
 /// whatever happens between them.
@@ -51,14 +51,14 @@ pub fn overflows_are_raised_where_nothing_is_left()
 pub fn stacks_grow_where_something_is_left()
     ensures { (w : World) (tid addr : ℕ) (s : StackOf) → stack_by w tid ≡ Some s →
         s.base < s.guard_page →
-        (grows filled w tid addr ≡ true) ↔ Grows w s (page_of addr) }
+        (grows filled w tid addr ≡ true) ↔ StackGrows w s (page_of addr) }
 {}
 
 /// Where the stack stands in its region, and something is left, the commitment of the next guard
 /// page succeeds.
 pub fn growth_succeeds_in_the_region()
     ensures { (w : World) (s : StackOf) (p : ProcessOf Page) (c : Committed Page) → WellFormed w →
-        StandsIn w s p → committed_at w p.regions s.guard_page ≡ Some c →
+        StackStandsIn w s p → committed_at w p.regions s.guard_page ≡ Some c →
         is_overflow w p s ≡ false →
         (alloc filled (guard_off w s.pid p c s.guard_page) s.pid (address_of (s.guard_page - 1)) 1
         commit_type 0x104).answer ≡ answer.At (address_of (s.guard_page - 1)) }

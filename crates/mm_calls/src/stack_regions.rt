@@ -9,7 +9,7 @@ ghost use Rattle.mm_world.specs.Rows.{is_protection_among, private_protections, 
 ghost use Rattle.mm_world.specs.Stack.{stack_region};
 ghost use Rattle.mm_pages.specs.Housekeeping.{Turn, Turns, MakesFrom, MakesStack};
 ghost use Rattle.mm_pages.specs.Passing.{PassesIn};
-ghost use Rattle.mm_tables.specs.Fits.{Fits, Settled};
+ghost use Rattle.mm_tables.specs.Fits.{FitsTables, Settled};
 ghost use Rattle.mm_tables.specs.Ranges.{StandsFrom};
 ghost use Rattle.mm_calls.specs.Regions.{IsUncommitted, IsReserved, reserved_region};
 
@@ -21,7 +21,7 @@ use std::alloc::Global;
 
 /// Commits pages of a private region of which none is committed; there is room for them.
 fn commit_new<G: Pages>(t: &mut Tables, g: &mut G, pid: Pid, range: PageRange, prot: u32)
-    requires fits { Fits t.old (G.contents g.old) (G.store g.old) }
+    requires fits { FitsTables t.old (G.contents g.old) (G.store g.old) }
     requires kind { (G.store g.old).kind ≡ line_kind.Call }
     requires free { IsUncommitted t.old pid.0 range }
     requires prot { is_protection_among private_protections prot ≡ true }
@@ -48,7 +48,7 @@ fn commit_new<G: Pages>(t: &mut Tables, g: &mut G, pid: Pid, range: PageRange, p
 /// Commits the top `top` pages of a region of which no page is committed, and makes the page below
 /// them its guard page; there is room for them.
 fn commit_ends<G: Pages>(t: &mut Tables, g: &mut G, pid: Pid, range: PageRange, top: u32)
-    requires fits { Fits t.old (G.contents g.old) (G.store g.old) }
+    requires fits { FitsTables t.old (G.contents g.old) (G.store g.old) }
     requires kind { (G.store g.old).kind ≡ line_kind.Call }
     requires reserved { IsReserved t.old pid.0 range }
     requires some { 1 ≤ top }
@@ -88,7 +88,7 @@ fn reserve_region<G: Pages>(
     range: PageRange,
     n: u32,
 ) -> Result<(), NoMemory>
-    requires fits { Fits t.old (G.contents g.old) (G.store g.old) }
+    requires fits { FitsTables t.old (G.contents g.old) (G.store g.old) }
     requires kind { (G.store g.old).kind ≡ line_kind.Call }
     requires lives { is_some (process_of t.old pid.0) ≡ true }
     requires free { (p : ProcessOf (Unit {0})) → process_of t.old pid.0 ≡ Some p →
@@ -133,7 +133,7 @@ pub(crate) fn make_region<G: Pages>(
     range: PageRange,
     top: u32,
 ) -> Result<(), NoMemory>
-    requires fits { Fits t.old (G.contents g.old) (G.store g.old) }
+    requires fits { FitsTables t.old (G.contents g.old) (G.store g.old) }
     requires kind { (G.store g.old).kind ≡ line_kind.Call }
     requires lives { is_some (process_of t.old pid.0) ≡ true }
     requires free { (p : ProcessOf (Unit {0})) → process_of t.old pid.0 ≡ Some p →

@@ -11,7 +11,7 @@ ghost use Rattle.mm_world.specs.Laws.{is_success};
 ghost use Rattle.mm_pages.specs.Housekeeping.{Turn, Turns, MakesStack, guard_told};
 ghost use Rattle.mm_pages.specs.Passing.{PassesIn};
 ghost use Rattle.mm_pages.specs.Store.{StoreOf};
-ghost use Rattle.mm_tables.specs.Fits.{Fits, Called, beside};
+ghost use Rattle.mm_tables.specs.Fits.{FitsTables, Called, store_beside};
 
 use crate::stack_regions::make_region;
 use crate::stack_sizes::{commit_pages, reserve_pages};
@@ -34,7 +34,8 @@ fn begin(t: &mut Tables, tid: Tid, pid: Pid, range: PageRange, top: u32) -> Answ
       base = range.first;
       guard_page = range.first + range.count - (top + 1);
     }) }
-    ensures fits { (c : Key → Option Page) (s : StoreOf) → Fits t.old c s → Fits t.new c s }
+    ensures fits { (c : Key → Option Page) (s : StoreOf) → FitsTables t.old c s →
+        FitsTables t.new c s }
 {
     let guard_page = range.first + range.count - (top + 1);
     t.set_stack(
@@ -73,15 +74,15 @@ pub fn stack<G: Pages>(
     reserve: u32,
     commit: u32,
 ) -> Result<Answer, NoMemory>
-    requires fits { Fits t.old (G.contents g.old) (G.store g.old) }
+    requires fits { FitsTables t.old (G.contents g.old) (G.store g.old) }
     requires kind { (G.store g.old).kind ≡ line_kind.Call }
     ensures ok { IfOk result (λ a. Called (stack blank t.old tid.0 pid.0 reserve commit) t.old
         (G.contents g.old) a t.new (G.contents g.new)) }
     ensures err { OnErr result ((t.new ≡ t.old) × (G.contents g.new ≡ G.contents g.old)) }
     ensures no_memory { is_success (stack blank t.old tid.0 pid.0 reserve commit).answer ≡ false →
         IsOk result }
-    ensures fits { Fits t.new (G.contents g.new) (G.store g.new) }
-    ensures beside { G.store g.new ≡ beside (G.store g.old) (G.store g.new) }
+    ensures fits { FitsTables t.new (G.contents g.new) (G.store g.new) }
+    ensures beside { G.store g.new ≡ store_beside (G.store g.old) (G.store g.new) }
     ensures passes { IfOk result (λ a. PassesIn G.unpaged (Turns (MakesStack (guard_told a)))
         (G.store g.old) (G.store g.new) (G.behind g.old) (G.behind g.new)) }
     ensures idle { OnErr result

@@ -7,7 +7,7 @@ ghost use Rattle.mm_world.specs.Views.{map_view, unmap};
 ghost use Rattle.mm_pages.specs.Housekeeping.{Turn, Turns, Goes};
 ghost use Rattle.mm_pages.specs.Leaving.{leaving};
 ghost use Rattle.mm_pages.specs.Passing.{PassesIn};
-ghost use Rattle.mm_tables.specs.Fits.{Fits, Called, beside, is_uncommitted};
+ghost use Rattle.mm_tables.specs.Fits.{FitsTables, Called, store_beside, is_uncommitted};
 
 use crate::mappings::map_handle;
 use crate::section_parameters::view_access;
@@ -38,7 +38,7 @@ pub fn map<G: Pages>(
     view_length: u32,
     addr: u32,
 ) -> Result<Answer, NoMemory>
-    requires fits { Fits t.old (G.contents g.old) (G.store g.old) }
+    requires fits { FitsTables t.old (G.contents g.old) (G.store g.old) }
     requires kind { (G.store g.old).kind ≡ line_kind.Call }
     ensures ok { IfOk result (λ a.
         Called (map_view t.old pid.0 handle access offset view_length addr) t.old (G.contents g.old)
@@ -47,8 +47,8 @@ pub fn map<G: Pages>(
     ensures no_memory { is_success (map_view t.old pid.0 handle access offset view_length
         addr).answer ≡ false
         → IsOk result }
-    ensures fits { Fits t.new (G.contents g.new) (G.store g.new) }
-    ensures beside { G.store g.new ≡ beside (G.store g.old) (G.store g.new) }
+    ensures fits { FitsTables t.new (G.contents g.new) (G.store g.new) }
+    ensures beside { G.store g.new ≡ store_beside (G.store g.old) (G.store g.new) }
     ensures passes { (turn : Turn) →
         PassesIn G.unpaged (Turns turn) (G.store g.old) (G.store g.new) (G.behind g.old)
         (G.behind g.new) }
@@ -82,13 +82,13 @@ pub fn map<G: Pages>(
 /// as its base, to the byte.
 #[tactic(auto, using(mm_pages::proofs::Passed::turns_same))]
 pub fn unmap<G: Pages>(t: &mut Tables, g: &mut G, pid: Pid, addr: u32) -> Answer
-    requires fits { Fits t.old (G.contents g.old) (G.store g.old) }
+    requires fits { FitsTables t.old (G.contents g.old) (G.store g.old) }
     requires kind { is_some (process_of t.old pid.0) ≡ true →
         (G.store g.old).kind ≡ line_kind.Unbind pid }
     ensures called { Called (unmap t.old pid.0 addr) t.old (G.contents g.old) result t.new
         (G.contents g.new) }
-    ensures fits { Fits t.new (G.contents g.new) (G.store g.new) }
-    ensures beside { G.store g.new ≡ beside (G.store g.old) (G.store g.new) }
+    ensures fits { FitsTables t.new (G.contents g.new) (G.store g.new) }
+    ensures beside { G.store g.new ≡ store_beside (G.store g.old) (G.store g.new) }
     ensures passes { PassesIn G.unpaged (Turns (Goes (leaving t.old pid.0 (is_uncommitted t.new))))
         (G.store g.old) (G.store g.new) (G.behind g.old) (G.behind g.new) }
     ensures loans { G.loans g.new ≡ G.loans g.old }

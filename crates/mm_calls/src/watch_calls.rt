@@ -5,7 +5,7 @@ ghost use Rattle.mm_world.specs.World.{Page, RegionOf, ProcessOf};
 ghost use Rattle.mm_world.specs.Find.{Found, process_of};
 ghost use Rattle.mm_world.specs.Watch.{watch, reset_watch, watched_around, written_in};
 ghost use Rattle.mm_pages.specs.Store.{StoreOf};
-ghost use Rattle.mm_tables.specs.Fits.{Fits, Called};
+ghost use Rattle.mm_tables.specs.Fits.{FitsTables, Called};
 ghost use Rattle.mm_calls.specs.Watching.{after_watch};
 
 use mm_spaces::PageRange;
@@ -34,7 +34,7 @@ fn written_pages(
     ensures none { (p : ProcessOf (Unit {0})) → process_of t.old pid.0 ≡ Some p
         → watched_around p.regions range ≡ None → t.new ≡ t.old }
     ensures fits { (contents : Key → Option Page) (s : StoreOf)
-        → Fits t.old contents s → Fits t.new contents s }
+        → FitsTables t.old contents s → FitsTables t.new contents s }
 {
     if unwrites {
         t.take_written(pid, range, count)
@@ -51,11 +51,11 @@ fn written_pages(
 /// of 0, or pages that do not all lie in one watched region.
 pub fn watch(t: &mut Tables, pid: Pid, unwrites: bool, addr: u32, size: u32, count: u32) -> Answer
     requires few { count ≤ 16 }
-    ensures called { (contents : Key → Option Page) (s : StoreOf) → Fits t.old contents s
+    ensures called { (contents : Key → Option Page) (s : StoreOf) → FitsTables t.old contents s
         → Called (watch t.old pid.0 unwrites addr size count)
         t.old contents result t.new contents }
     ensures fits { (contents : Key → Option Page) (s : StoreOf)
-        → Fits t.old contents s → Fits t.new contents s }
+        → FitsTables t.old contents s → FitsTables t.new contents s }
 {
     if !t.has(pid) {
         return Answer::Error(Code::InvalidHandle);
@@ -74,10 +74,10 @@ pub fn watch(t: &mut Tables, pid: Pid, unwrites: bool, addr: u32, size: u32, cou
 ///
 /// Its refusals are those of `watch`.
 pub fn reset_watch(t: &mut Tables, pid: Pid, addr: u32, size: u32) -> Answer
-    ensures called { (contents : Key → Option Page) (s : StoreOf) → Fits t.old contents s
+    ensures called { (contents : Key → Option Page) (s : StoreOf) → FitsTables t.old contents s
         → Called (reset_watch t.old pid.0 addr size) t.old contents result t.new contents }
     ensures fits { (contents : Key → Option Page) (s : StoreOf)
-        → Fits t.old contents s → Fits t.new contents s }
+        → FitsTables t.old contents s → FitsTables t.new contents s }
 {
     if !t.has(pid) {
         return Answer::Error(Code::InvalidHandle);

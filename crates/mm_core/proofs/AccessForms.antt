@@ -30,7 +30,7 @@ use Rattle.mm_pages.proofs.Walking.{accesses_then}
 use Rattle.mm_paging.specs.Kinds.{aim_at, is_write}
 use Rattle.mm_paging.specs.Lines.{is_had, is_failed, is_pending_read}
 use Rattle.mm_paging.proofs.Threads.{ready_moves}
-use Rattle.mm_core.specs.Answering.{Answers, Answered}
+use Rattle.mm_core.specs.Answering.{AnswersAccess, Answered}
 use Rattle.mm_core.proofs.Pieces.{passes_as}
 use Rattle.mm_core.proofs.AccessPieces.{count-then, walked_life, ready-reads, ready-wrote, ready-ages, twice}
 
@@ -64,7 +64,7 @@ no_frame n after fault.Read e none =
     let bad : true ≡ false = sym (e.read refl) ∙ ap (λ (o : Option Key). unwrap_or (option_map (same_key n.key) o) false) none in cc
 
 module _ (a : Aim) (after : Report) (b : Behind) (ms : List Move) (c : Behind) where
-  answers_had : (r : Answer) → Gives r → Had a b ms c → Answers a r after b ms c
+  answers_had : (r : Answer) → Gives r → Had a b ms c → AnswersAccess a r after b ms c
   answers_had r g h = record {
     made = h.made;
     valid = λ e. h.valid;
@@ -74,7 +74,7 @@ module _ (a : Aim) (after : Report) (b : Behind) (ms : List Move) (c : Behind) w
     settled = g.settled;
   }
 
-  answers_lost : {T : Type 0} (why : PageFault) → Ends {T = T} a.need after (Err why) → Failed a why b ms c → Answers a (answer.Raised raise.InPageError) after b ms c
+  answers_lost : {T : Type 0} (why : PageFault) → Ends {T = T} a.need after (Err why) → Failed a why b ms c → AnswersAccess a (answer.Raised raise.InPageError) after b ms c
   answers_lost why e h = record {
     made = h.made;
     valid = λ bad. cc;

@@ -21,11 +21,11 @@ use Rattle.mm_world.specs.Contents.{Tables, world_with}
 use Rattle.mm_world.proofs.Tables.{Holds, tables}
 use Rattle.mm_pages.specs.Store.{StoreOf, changed}
 use Rattle.mm_pages.specs.Reports.{Ends, Served, SomeFailed}
-use Rattle.mm_tables.specs.Fits.{Fits, bytes_of}
-use Rattle.mm_core.specs.Serving.{IsFailure, Named, Flushed}
+use Rattle.mm_tables.specs.Fits.{FitsTables, key_bytes}
+use Rattle.mm_core.specs.Serving.{IsFailure, Named, FlushServed}
 use Rattle.mm_core.specs.Accessing.{Refuses, Accessed}
 use Rattle.mm_core.specs.Stepping.{Stepped}
-use Rattle.mm_core.specs.Deciding.{Keeps, Begins, Decided}
+use Rattle.mm_core.specs.Deciding.{KeepsTables, LineBegins, Decided}
 use Rattle.mm_core.proofs.Serving.{devices-served, served-quiet, quiet-same}
 use Rattle.mm_core.proofs.Lines.{stepped-plain, never-fails}
 
@@ -81,7 +81,7 @@ module _ (u : Bool) (w : World) (pid addr : ℕ) (what : Attempt) (m z : StoreOf
 
 -- ---- the lines
 
-pub keeps-begun : (n : ℕ) (t : Tables) (old mid : Key → Option Page) (s m : StoreOf) → Keeps t old s → n ≡ s.line + 1 → Begins n s m → Fits t mid m → Keeps t mid m
+pub keeps-begun : (n : ℕ) (t : Tables) (old mid : Key → Option Page) (s m : StoreOf) → KeepsTables t old s → n ≡ s.line + 1 → LineBegins n s m → FitsTables t mid m → KeepsTables t mid m
 keeps-begun n t old mid s m keeps next b fits =
     let is : m.line ≡ s.line + 1 = b.line_is ∙ next in
     record {
@@ -93,18 +93,18 @@ keeps-begun n t old mid s m keeps next b fits =
       };
     }
 
-module _ (u : Bool) (e : Event) (n : ℕ) (t : Tables) (old mid : Key → Option Page) (s m : StoreOf) (a : Answer) (after : Tables) (new : Key → Option Page) (z : StoreOf) (pid addr : ℕ) (what : Attempt) (same : mid ≡ old) (b : Begins n s m) where
+module _ (u : Bool) (e : Event) (n : ℕ) (t : Tables) (old mid : Key → Option Page) (s m : StoreOf) (a : Answer) (after : Tables) (new : Key → Option Page) (z : StoreOf) (pid addr : ℕ) (what : Attempt) (same : mid ≡ old) (b : LineBegins n s m) where
   abbrev w : World
-  w = world_with t (bytes_of mid)
+  w = world_with t (key_bytes mid)
 
   abbrev v : World
-  v = world_with after (bytes_of new)
+  v = world_with after (key_bytes new)
 
-  module _ (keeps : Keeps after new z) (line_is : z.line ≡ m.line) (is_told : told w e s.report z.report ≡ failing (need_at w pid addr what) z.report) (is_unpaged : unpaged w e ≡ access w pid addr what) (named : Named u e a s.paging_device z.paging_device s.file_device z.file_device) (flushed : Flushed v z.file_blocks e a) where
+  module _ (keeps : KeepsTables after new z) (line_is : z.line ≡ m.line) (is_told : told w e s.report z.report ≡ failing (need_at w pid addr what) z.report) (is_unpaged : unpaged w e ≡ access w pid addr what) (named : Named u e a s.paging_device z.paging_device s.file_device z.file_device) (flushed : FlushServed v z.file_blocks e a) where
     decided-by : Stepped u w e s.report z.report a v → Served m z → (IsFailure a → SomeFailed m z) → Decided u e n t old s a after new z
     decided-by step served failed =
         record {
-          stepped = subst (λ (c : Key → Option Page). Stepped u (world_with t (bytes_of c)) e s.report z.report a v) same step;
+          stepped = subst (λ (c : Key → Option Page). Stepped u (world_with t (key_bytes c)) e s.report z.report a v) same step;
           devices = devices-served u e n s m z a b served named failed;
           flushed = flushed;
           keeps = keeps;
@@ -143,14 +143,14 @@ module _ (u : Bool) (e : Event) (n : ℕ) (t : Tables) (old mid : Key → Option
 -- ---- bytes, changed
 
 module _ (c : Key → Option Page) (key : Key) where
-  pub changed-others : (x : Page) (k : Key) → same_key k key ≡ false → bytes_of (changed same_key c key (Some x)) k ≡ bytes_of c k
+  pub changed-others : (x : Page) (k : Key) → same_key k key ≡ false → key_bytes (changed same_key c key (Some x)) k ≡ key_bytes c k
   changed-others x k other = ap (λ b. unwrap_or (cond b (Some x) (c k)) (filled 0)) other
 
-  pub changed-at : (x : Page) → same_key key key ≡ true → bytes_of (changed same_key c key (Some x)) key ≡ x
+  pub changed-at : (x : Page) → same_key key key ≡ true → key_bytes (changed same_key c key (Some x)) key ≡ x
   changed-at x same = ap (λ b. unwrap_or (cond b (Some x) (c key)) (filled 0)) same
 
-  pub twice-others : (y : Option Page) (x : Page) (k : Key) → same_key k key ≡ false → bytes_of (changed same_key (changed same_key c key y) key (Some x)) k ≡ bytes_of c k
+  pub twice-others : (y : Option Page) (x : Page) (k : Key) → same_key k key ≡ false → key_bytes (changed same_key (changed same_key c key y) key (Some x)) k ≡ key_bytes c k
   twice-others y x k other = ap (λ b. unwrap_or (cond b (Some x) (cond b y (c k))) (filled 0)) other
 
-  pub twice-at : (y : Option Page) (x : Page) → same_key key key ≡ true → bytes_of (changed same_key (changed same_key c key y) key (Some x)) key ≡ x
+  pub twice-at : (y : Option Page) (x : Page) → same_key key key ≡ true → key_bytes (changed same_key (changed same_key c key y) key (Some x)) key ≡ x
   twice-at y x same = ap (λ b. unwrap_or (cond b (Some x) (cond b y (c key))) (filled 0)) same

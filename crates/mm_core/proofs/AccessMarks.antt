@@ -22,10 +22,10 @@ use Rattle.mm_pages.specs.declared.pages.Pages.{Ghosts as PagesGhosts}
 use Rattle.mm_world.specs.Contents.{Tables}
 use Rattle.mm_core.specs.Lining.{Lined}
 use Rattle.mm_core.specs.Over.{MarkedOver, PassesOver, world_over}
-use Rattle.mm_core.specs.Noting.{keeps_keys, Each, Went, Tells}
+use Rattle.mm_core.specs.Noting.{keeps_keys, EachMove, LineWent, TellsLine}
 use Rattle.mm_core.proofs.Begun.{paged}
 
-through_keeps : (a : Aim) (w : Walk) (ms : List Move) → Through (AccessMove a) w ms → Each keeps_keys ms
+through_keeps : (a : Aim) (w : Walk) (ms : List Move) → Through (AccessMove a) w ms → EachMove keeps_keys ms
 through_keeps a w [] h = tt
 through_keeps a w (move.At n k ∷ ms) h = absurd h.0
 through_keeps a w (move.Add k None ∷ ms) h = (refl, through_keeps a (walked w (move.Add k None)) ms h.1)
@@ -44,13 +44,13 @@ through_keeps a w (move.Write f s ∷ ms) h = (refl, through_keeps a (walked w (
 through_keeps a w (move.Wrote f ∷ ms) h = (refl, through_keeps a (walked w (move.Wrote f)) ms h.1)
 through_keeps a w (move.Lost f ∷ ms) h = (refl, through_keeps a (walked w (move.Lost f)) ms h.1)
 
-access_keeps : (plain : Bool) (o : Option Aim) (r : Answer) (after : Report) (b : Behind) (ms : List Move) (c : Behind) → AccessesBy plain o r after b ms c → Each keeps_keys ms
-access_keeps plain None r after b ms c h = subst (Each keeps_keys) (sym h) tt
+access_keeps : (plain : Bool) (o : Option Aim) (r : Answer) (after : Report) (b : Behind) (ms : List Move) (c : Behind) → AccessesBy plain o r after b ms c → EachMove keeps_keys ms
+access_keeps plain None r after b ms c h = subst (EachMove keeps_keys) (sym h) tt
 access_keeps plain (Some a) r after b ms c h = through_keeps a (walk_from b) ms h.made.each
 
 -- a line whose moves are those of an access, if any
 marked_lined : (plain : Bool) (w : World) (e : Event) (n : ℕ) (a : Answer) (v : World) (u : Bool) (s z : StoreOf) (b c : Behind) → ((x : Behind) (ms : List Move) → Does w e a v z.report x ms c → AccessesBy plain (aim_of w x.life e) a z.report x ms c) → PassesIn u (Lined w e n a v z.report) s z b c → u ≡ false
-    → Went false (move.At n (kind_of_line w e a)) (λ ms. Tells n (kind_of_line w e a) e w a v z.report b ms c) s z b c
+    → LineWent false (move.At n (kind_of_line w e a)) (λ ms. TellsLine n (kind_of_line w e a) e w a v z.report b ms c) s z b c
 marked_lined plain w e n a v u s z b c accesses p paging =
     let q = paged u (Lined w e n a v z.report) s z b c paging p in
     let is = q.that.begins in
@@ -86,8 +86,8 @@ module _ {G : Type 0} (p : PagesGhosts G) where
       → PassesOver p (Lined (world_over p t x) e n a (world_over p after y) (p.store y).report) x y → MarkedOver p f n t x a after y
   access_marked plain e f is bare n t x a after y accesses passes =
       let kind = kind_of_line (world_over p t x) e a in
-      let tells = λ (ms : List Move). Tells n kind e (world_over p t x) a (world_over p after y) (p.store y).report (p.behind x) ms (p.behind y) in
+      let tells = λ (ms : List Move). TellsLine n kind e (world_over p t x) a (world_over p after y) (p.store y).report (p.behind x) ms (p.behind y) in
       subst (λ (l : Event). MarkedOver p l n t x a after y) (sym is)
       (λ paging.
-      subst (λ (b : Bool). Went b (move.At n kind) tells (p.store x) (p.store y) (p.behind x) (p.behind y)) (sym bare)
+      subst (λ (b : Bool). LineWent b (move.At n kind) tells (p.store x) (p.store y) (p.behind x) (p.behind y)) (sym bare)
       (marked_lined plain (world_over p t x) e n a (world_over p after y) p.unpaged (p.store x) (p.store y) (p.behind x) (p.behind y) accesses passes paging))

@@ -22,7 +22,7 @@ use Rattle.mm_pages.specs.Housekeeping.{OneMove}
 use Rattle.mm_pages.specs.Passing.{PassesIn}
 use Rattle.mm_paging.specs.Kinds.{kind_of_line, if_lives}
 use Rattle.mm_paging.specs.Lines.{waits_of_line}
-use Rattle.mm_tables.specs.Fits.{bytes_of}
+use Rattle.mm_tables.specs.Fits.{key_bytes}
 use Rattle.mm_core.specs.Answering.{Answered, aim_in}
 use Rattle.mm_core.specs.Lining.{Lined}
 use Rattle.mm_core.proofs.AccessForms.{aim-needless}
@@ -58,18 +58,18 @@ pub plain-exec : (w : World) (pid : Pid) (addr : ℕ) → IsPlain w (line.Exec p
 plain-exec w pid addr =
     record { form = λ r v after. record { aim = λ l. refl; does = λ b ms c h. h; ages = λ b ms. refl }; kind_is = λ r. refl; waits = λ r b f l. refl }
 
-module _ (u : Bool) (e : Event) (n : ℕ) (t : Tables) (old mid : Key → Option Page) (same : mid ≡ old) (s m : StoreOf) (b y : Behind) (pid : Pid) (addr : ℕ) (what : Attempt) (plain : IsPlain (world_with t (bytes_of old)) e pid addr what) (lived : Bool) (lives : lived ≡ is_some (process_of t pid.0)) (began : PassesIn u (OneMove (move.At n (cond lived (kind.Access pid) kind.Call))) s m b y) where
+module _ (u : Bool) (e : Event) (n : ℕ) (t : Tables) (old mid : Key → Option Page) (same : mid ≡ old) (s m : StoreOf) (b y : Behind) (pid : Pid) (addr : ℕ) (what : Attempt) (plain : IsPlain (world_with t (key_bytes old)) e pid addr what) (lived : Bool) (lives : lived ≡ is_some (process_of t pid.0)) (began : PassesIn u (OneMove (move.At n (cond lived (kind.Access pid) kind.Call))) s m b y) where
   abbrev w : World
-  w = world_with t (bytes_of old)
+  w = world_with t (key_bytes old)
 
   begins : (r : Answer) → PassesIn u (OneMove (move.At n (kind_of_line w e r))) s m b y
-  begins r = subst (λ (k : LineKind). PassesIn u (OneMove (move.At n k)) s m b y) (kind-lives t (bytes_of old) pid (kind.Access pid) lived lives ∙ sym (plain.kind_is r)) began
+  begins r = subst (λ (k : LineKind). PassesIn u (OneMove (move.At n k)) s m b y) (kind-lives t (key_bytes old) pid (kind.Access pid) lived lives ∙ sym (plain.kind_is r)) began
 
   -- the access is refused, or there is no process
-  pub refused-passes : (r : Answer) (v : World) → need_at (world_with t (bytes_of mid)) pid.0 addr what ≡ None → PassesIn u (Lined w e n r v m.report) s m b y
+  pub refused-passes : (r : Answer) (v : World) → need_at (world_with t (key_bytes mid)) pid.0 addr what ≡ None → PassesIn u (Lined w e n r v m.report) s m b y
   refused-passes r v needless =
       let form = plain.form r v m.report in
-      let none : need_at w pid.0 addr what ≡ None = ap (λ (c : Key → Option Page). need_at (world_with t (bytes_of c)) pid.0 addr what) (sym same) ∙ needless in
+      let none : need_at w pid.0 addr what ≡ None = ap (λ (c : Key → Option Page). need_at (world_with t (key_bytes c)) pid.0 addr what) (sym same) ∙ needless in
       none_line u true w e n r v s m b y (λ b c. form.does b [] c) (λ b. form.ages b []) (λ l. form.aim l ∙ aim-needless w l pid addr what none) (plain.waits r) (begins r)
 
   -- it is made, whether it fails or not

@@ -24,7 +24,7 @@ use Rattle.mm_world.specs.Sections.{is_view_of, uses}
 use Rattle.mm_pages.specs.Leaving.{page_rank, or_else, last_rank, rank_behind, handle_rank, section_rank, goes_with, leaving}
 use Rattle.mm_paging.specs.Kinds.{lives, row_key, if_lives, file_block_of}
 use Rattle.mm_paging.specs.Lines.{is_uncommitted, flushed_in, flushed_keys}
-use Rattle.mm_tables.specs.Fits.{key_at, block_in, is_uncommitted as is_free}
+use Rattle.mm_tables.specs.Fits.{key_at, file_block_in, is_uncommitted as is_free}
 use Rattle.mm_calls.specs.Stages.{keys_of_region, flushed_keys as keys_flushed}
 use Rattle.mm_core.proofs.With.{found_with, home_with, committed_with, pages-with, get-areas, process-with, committed-with}
 
@@ -100,7 +100,7 @@ module _ (t : Tables) (b : Key → Page) where
       by_area None = refl
       by_area (Some a) = refl
 
-  pub block_of-with : (k : Key) → file_block_of w k ≡ block_in t k
+  pub block_of-with : (k : Key) → file_block_of w k ≡ file_block_in t k
   block_of-with (key_of_page.Private pid page) = refl
   block_of-with (key_of_page.Shared area index) = λ i.
       cond (live-with (key_of_page.Shared area index) i) (option_map (λ first. first + index) (block-with area.0 i)) None

@@ -18,7 +18,7 @@ use Rattle.mm_pages.specs.Housekeeping.{OneMove}
 use Rattle.mm_pages.specs.Passing.{Passes, PassesIn, Notes, NotesIn}
 use Rattle.mm_pages.proofs.Passed.{Joins, passes_then}
 use Rattle.mm_paging.specs.Lines.{with_line}
-use Rattle.mm_core.specs.Noting.{Went}
+use Rattle.mm_core.specs.Noting.{LineWent}
 
 -- of a store that pages
 pub paged : (u : Bool) (P : Behind → List Move → Behind → Type 0) (s z : StoreOf) (b c : Behind) → u ≡ false → PassesIn u P s z b c → Passes P s z b c
@@ -66,7 +66,7 @@ module _ (n : ℕ) (k : LineKind) where
     }
 
     -- a piece that opens so
-    pub went_from : (s z : StoreOf) (b c : Behind) (Q : List Move → Type 0) → ((log : Log) (ms : List Move) → P (begun_with n k log b) ms c → Q ms) → Passes (Opens n k P) s z b c → Went false at Q s z b c
+    pub went_from : (s z : StoreOf) (b c : Behind) (Q : List Move → Type 0) → ((log : Log) (ms : List Move) → P (begun_with n k log b) ms c → Q ms) → Passes (Opens n k P) s z b c → LineWent false at Q s z b c
     went_from s z b c Q to p =
         let e = p.that.is in
         record {
@@ -89,12 +89,12 @@ module _ (n : ℕ) (k : LineKind) where
         }
 
     -- a line begins, and a call makes moves of which that holds
-    pub went_then : (u : Bool) (s m z : StoreOf) (b y c : Behind) (Q : List Move → Type 0) → u ≡ false → ((log : Log) (ms : List Move) → P (begun_with n k log b) ms c → Q ms) → PassesIn u (OneMove at) s m b y → PassesIn u P m z y c → Went false at Q s z b c
+    pub went_then : (u : Bool) (s m z : StoreOf) (b y c : Behind) (Q : List Move → Type 0) → u ≡ false → ((log : Log) (ms : List Move) → P (begun_with n k log b) ms c → Q ms) → PassesIn u (OneMove at) s m b y → PassesIn u P m z y c → LineWent false at Q s z b c
     went_then u s m z b y c Q e to p q =
         went_from s z b c Q to (paged u (Opens n k P) s z b c e (passes_then u (OneMove at) P (Opens n k P) s m z b y c opens_then p q))
 
     -- such moves of a line of which nothing is told of devices
-    pub noted_from : (s z : StoreOf) (b c : Behind) (Q : List Move → Type 0) → ((log : Log) (ms : List Move) → P (begun_with n k log b) ms c → Q ms) → Notes (Opens n k P) b c → Went true at Q s z b c
+    pub noted_from : (s z : StoreOf) (b c : Behind) (Q : List Move → Type 0) → ((log : Log) (ms : List Move) → P (begun_with n k log b) ms c → Q ms) → Notes (Opens n k P) b c → LineWent true at Q s z b c
     noted_from s z b c Q to p =
         let e = p.that.is in
         record {
@@ -117,7 +117,7 @@ module _ (n : ℕ) (k : LineKind) where
     }
 
     -- a line begins, and a call that asks devices for what is no move makes such moves
-    pub noted_then : (u : Bool) (s m z : StoreOf) (b y c : Behind) (Q : List Move → Type 0) → u ≡ false → ((log : Log) (ms : List Move) → P (begun_with n k log b) ms c → Q ms) → PassesIn u (OneMove at) s m b y → NotesIn u P y c → Went true at Q s z b c
+    pub noted_then : (u : Bool) (s m z : StoreOf) (b y c : Behind) (Q : List Move → Type 0) → u ≡ false → ((log : Log) (ms : List Move) → P (begun_with n k log b) ms c → Q ms) → PassesIn u (OneMove at) s m b y → NotesIn u P y c → LineWent true at Q s z b c
     noted_then u s m z b y c Q e to p q =
         noted_from s z b c Q to (notes_both s m b y c (paged u (OneMove at) s m b y e p) (noted u P y c e q))
 
@@ -140,6 +140,6 @@ module _ (n : ℕ) (k : LineKind) where
     blocks_kept = p.blocks_kept;
   }
 
-  pub went_alone : (u : Bool) (s z : StoreOf) (b c : Behind) (Q : List Move → Type 0) → u ≡ false → ((log : Log) → c ≡ begun_with n k log b → Q []) → PassesIn u (OneMove at) s z b c → Went false at Q s z b c
+  pub went_alone : (u : Bool) (s z : StoreOf) (b c : Behind) (Q : List Move → Type 0) → u ≡ false → ((log : Log) → c ≡ begun_with n k log b → Q []) → PassesIn u (OneMove at) s z b c → LineWent false at Q s z b c
   went_alone u s z b c Q e to p =
       went_from (λ x ms y. (ms ≡ []) × (y ≡ x)) s z b c Q (λ log ms h. subst Q (sym h.0) (to log h.1)) (alone s z b c (paged u (OneMove at) s z b c e p))

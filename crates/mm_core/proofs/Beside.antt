@@ -19,7 +19,7 @@ use Rattle.mm_tables.specs.Fits.{beside_file, extended}
 use Rattle.mm_calls.specs.Growing.{GrowsBy}
 use Rattle.mm_calls.specs.Stages.{NewFileMade}
 use Rattle.mm_core.specs.Serving.{WritesBlocks, FileWrites, AskedBeside}
-use Rattle.mm_core.specs.Deciding.{Begins}
+use Rattle.mm_core.specs.Deciding.{LineBegins}
 use Rattle.mm_core.proofs.Begun.{paged, noted}
 
 -- ---- the blocks of a file
@@ -43,7 +43,7 @@ begun-slots : (u : Bool) (x : Move) (s m : StoreOf) (b y : Behind) → u ≡ fal
 begun-slots u x s m b y paging p = (paged u (OneMove x) s m b y paging p).that.slots
 
 pub beside-file : (w : World) (name : Name) (pages byte number : ℕ) (a : Answer) (x : Move) (u : Bool) (s m z : StoreOf) (b y c : Behind)
-    → u ≡ false → Begins number s m → z ≡ beside_file m z → NewFileMade w.blocks_used pages a m z
+    → u ≡ false → LineBegins number s m → z ≡ beside_file m z → NewFileMade w.blocks_used pages a m z
     → PassesIn u (OneMove x) s m b y → NotesIn u (Turns Makes) y c
     → AskedBeside w.blocks_used (line.File name pages byte) a s.paging_device z.paging_device s.file_device z.file_device s.file_blocks z.file_blocks × HoldsBeside w (line.File name pages byte) a b.slots c.slots s.file_blocks z.file_blocks
 beside-file w name pages byte number a x u s m z b y c paging begins beside h p q = (
@@ -78,7 +78,7 @@ module _ (w : World) (used n number : ℕ) (u : Bool) (s z : StoreOf) (b c : Beh
   beside-grow (Err x) e grew p = tt
 
 pub beside-fail : (w : World) (used : ℕ) (device : Device) (direction : Direction) (k n number : ℕ) (a : Answer) (x : Move) (u : Bool) (s m z : StoreOf) (b y c : Behind)
-    → u ≡ false → Begins number s m → z.file_blocks ≡ m.file_blocks → c ≡ y
+    → u ≡ false → LineBegins number s m → z.file_blocks ≡ m.file_blocks → c ≡ y
     → PassesIn u (OneMove x) s m b y
     → AskedBeside used (line.Fail device direction k n) a s.paging_device z.paging_device s.file_device z.file_device s.file_blocks z.file_blocks × HoldsBeside w (line.Fail device direction k n) a b.slots c.slots s.file_blocks z.file_blocks
 beside-fail w used device direction k n number a x u s m z b y c paging begins blocks same p =

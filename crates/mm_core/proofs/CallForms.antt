@@ -34,11 +34,11 @@ use Rattle.mm_pages.specs.Housekeeping.{Makes, Goes, Turned, Turns, OneMove, Tri
 use Rattle.mm_pages.specs.Passing.{PassesIn, Notes, NotesIn}
 use Rattle.mm_paging.specs.Kinds.{lives, if_lives, made_process, kind_of_growth}
 use Rattle.mm_paging.specs.Lines.{Does, GivesUp, Trimming, is_uncommitted, keeps_for, with_line}
-use Rattle.mm_tables.specs.Fits.{Called, bytes_of, is_uncommitted as is_free}
+use Rattle.mm_tables.specs.Fits.{Called, key_bytes, is_uncommitted as is_free}
 use Rattle.mm_calls.specs.Growing.{GrowsBy}
 use Rattle.mm_calls.specs.Stages.{flushed_keys as keys_flushed}
-use Rattle.mm_core.specs.Forgetting.{is_of, waited}
-use Rattle.mm_core.specs.Noting.{keeps_keys, takes_away, Each, Went, Tells, IdlesIn, idle_left, Halted}
+use Rattle.mm_core.specs.Forgetting.{is_of_process, waited}
+use Rattle.mm_core.specs.Noting.{keeps_keys, takes_away, EachMove, LineWent, TellsLine, IdlesIn, idle_left, Halted}
 use Rattle.mm_core.proofs.Alike.{lives-with, kind-with, leaving-with, gives-with, flushed-with}
 use Rattle.mm_core.proofs.Begun.{noted, begun_with, went_then, noted_from, noted_then, went_alone}
 use Rattle.mm_core.proofs.Turned.{makes_keep, ends_take}
@@ -65,7 +65,7 @@ passes_to false P Q s z b c to p = record {
 }
 
 -- of a line that asks devices for what is no move, nothing is told of devices
-pub unasked : (x : Move) (That : List Move → Type 0) (s z s' z' : StoreOf) (b c : Behind) → Went false x That s z b c → Went true x That s' z' b c
+pub unasked : (x : Move) (That : List Move → Type 0) (s z s' z' : StoreOf) (b c : Behind) → LineWent false x That s z b c → LineWent true x That s' z' b c
 unasked x That s z s' z' b c h = record { moves = h.moves; in_range = h.in_range; grew = h.grew; replays = h.replays; that = h.that; told = λ bad. cc; traffic = λ bad. cc }
 
 -- ---- pages that are taken away
@@ -75,29 +75,29 @@ none place = false
 
 module _ (t : Tables) (old : Key → Option Page) (after : Tables) (new : Key → Option Page) (n : ℕ) (pid : Pid) (e : Event) (a : Answer) where
   abbrev w : World
-  w = world_with t (bytes_of old)
+  w = world_with t (key_bytes old)
 
   abbrev v : World
-  v = world_with after (bytes_of new)
+  v = world_with after (key_bytes new)
 
   abbrev now : LineKind
   now = cond (is_some (process_of t pid.0)) (kind.Unbind pid) kind.Call
 
   pub marked_release : (u : Bool) (s m z : StoreOf) (b y c : Behind) → Plain e w a b → ((k : LineKind) (ms : List Move) → GivesUp w pid v (with_line (move.At n k) b).life ms → Does w e a v z.report (with_line (move.At n k) b) ms c)
       → PassesIn u (OneMove (move.At n now)) s m b y → PassesIn u (Turns (Goes (leaving t pid.0 (is_free after)))) m z y c → u ≡ false
-      → Went false (move.At n (if_lives w pid (kind.Unbind pid))) (λ ms. Tells n (if_lives w pid (kind.Unbind pid)) e w a v z.report b ms c) s z b c
+      → LineWent false (move.At n (if_lives w pid (kind.Unbind pid))) (λ ms. TellsLine n (if_lives w pid (kind.Unbind pid)) e w a v z.report b ms c) s z b c
   marked_release u s m z b y c plain does p q paging =
-      subst (λ (k : LineKind). Went false (move.At n k) (λ ms. Tells n k e w a v z.report b ms c) s z b c) (kind-with t (bytes_of old) pid (kind.Unbind pid))
+      subst (λ (k : LineKind). LineWent false (move.At n k) (λ ms. TellsLine n k e w a v z.report b ms c) s z b c) (kind-with t (key_bytes old) pid (kind.Unbind pid))
       (marked_ends n now e w a v u s m z b y c plain (leaving t pid.0 (is_free after)) 1 (page_rank end_of_user_pages)
-      (λ ms log h. does now ms (subst (λ (held : Leaving). Turned (Goes held) (with_line (move.At n now) b).life ms) (gives-with t (bytes_of old) pid.0 after (bytes_of new)) h.turned)) p q paging)
+      (λ ms log h. does now ms (subst (λ (held : Leaving). Turned (Goes held) (with_line (move.At n now) b).life ms) (gives-with t (key_bytes old) pid.0 after (key_bytes new)) h.turned)) p q paging)
 
   -- a handle is closed: of pages of the process none goes
   pub marked_close : (u : Bool) (s m z : StoreOf) (b y c : Behind) → Plain e w a b → ((ms : List Move) → Turned (Goes (leaving w pid.0 none)) (with_line (move.At n kind.Call) b).life ms → Does w e a v z.report (with_line (move.At n kind.Call) b) ms c)
       → PassesIn u (OneMove (move.At n kind.Call)) s m b y → PassesIn u (Turns (Goes (leaving t pid.0 none))) m z y c → u ≡ false
-      → Went false (move.At n kind.Call) (λ ms. Tells n kind.Call e w a v z.report b ms c) s z b c
+      → LineWent false (move.At n kind.Call) (λ ms. TellsLine n kind.Call e w a v z.report b ms c) s z b c
   marked_close u s m z b y c plain does p q paging =
       marked_ends n kind.Call e w a v u s m z b y c plain (leaving t pid.0 none) 1 (page_rank end_of_user_pages)
-      (λ ms log h. does ms (subst (λ (held : Leaving). Turned (Goes held) (with_line (move.At n kind.Call) b).life ms) (leaving-with t (bytes_of old) pid.0 none) h.turned)) p q paging
+      (λ ms log h. does ms (subst (λ (held : Leaving). Turned (Goes held) (with_line (move.At n kind.Call) b).life ms) (leaving-with t (key_bytes old) pid.0 none) h.turned)) p q paging
 
 -- ---- a process
 
@@ -122,17 +122,17 @@ process_kind t old new pid o a after min max is told called =
 
 module _ (t : Tables) (old new : Key → Option Page) (n : ℕ) (pid : Pid) (u : Bool) (s m z : StoreOf) (b y c : Behind) where
   abbrev before : World
-  before = world_with t (bytes_of old)
+  before = world_with t (key_bytes old)
 
   abbrev later : World
-  later = world_with t (bytes_of new)
+  later = world_with t (key_bytes new)
 
   module _ (found : Bool) (is : found ≡ is_some (process_of t pid.0)) where
     lives_is : found ≡ lives before pid
-    lives_is = is ∙ sym (lives-with t (bytes_of old) pid)
+    lives_is = is ∙ sym (lives-with t (key_bytes old) pid)
 
     abbrev Trimmed : ℕ → Answer → StoreOf → Behind → LineKind → Type 0
-    Trimmed count a z c k = Went false (move.At n k) (λ ms. Tells n k (event.Trim pid count) before a later z.report b ms c) s z b c
+    Trimmed count a z c k = LineWent false (move.At n k) (λ ms. TellsLine n k (event.Trim pid count) before a later z.report b ms c) s z b c
 
     trim_kind : cond found (kind.Trim pid) kind.Call ≡ if_lives before pid (kind.Trim pid)
     trim_kind = ap (λ x. cond x (kind.Trim pid) kind.Call) lives_is
@@ -153,13 +153,13 @@ module _ (t : Tables) (old new : Key → Option Page) (n : ℕ) (pid : Pid) (u :
 
     -- the ages of the pages of a living process
     abbrev Aged : Answer → StoreOf → Behind → Type 0
-    Aged a z c = Went false (move.At n kind.Call) (λ ms. Tells n kind.Call (event.Age pid) before a later z.report b ms c) s z b c
+    Aged a z c = LineWent false (move.At n kind.Call) (λ ms. TellsLine n kind.Call (event.Age pid) before a later z.report b ms c) s z b c
 
     pub marked_age : (a : Answer) → found ≡ true → PassesIn u (OneMove (move.At n kind.Call)) s m b y → PassesIn u (Ages pid) m z y c → u ≡ false → Aged a z c
     marked_age a on p q paging =
-        went_then n kind.Call (Ages pid) u s m z b y c (λ ms. Tells n kind.Call (event.Age pid) before a later z.report b ms c) paging
+        went_then n kind.Call (Ages pid) u s m z b y c (λ ms. TellsLine n kind.Call (event.Age pid) before a later z.report b ms c) paging
         (λ log ms h. record {
-          one_way = inl (subst (λ (xs : List Move). Each keeps_keys xs) (sym h.none) tt);
+          one_way = inl (subst (λ (xs : List Move). EachMove keeps_keys xs) (sym h.none) tt);
           does = h.none;
           ages = ap (λ (x : Behind). x.ages) h.same ∙ (λ i. λ place. cond ((sym on ∙ lives_is) i) (all_aged pid b.life b.ages place) (b.ages place));
           waits = ap (λ (x : Behind). x.waits) h.same ∙ ap (λ xs. waits_through xs b.waits) (sym h.none);
@@ -167,7 +167,7 @@ module _ (t : Tables) (old new : Key → Option Page) (n : ℕ) (pid : Pid) (u :
 
     pub marked_no_age : (a : Answer) → found ≡ false → PassesIn u (OneMove (move.At n kind.Call)) s m b y → u ≡ false → Aged a m y
     marked_no_age a off p paging =
-        went_alone n kind.Call u s m b y (λ ms. Tells n kind.Call (event.Age pid) before a later m.report b ms y) paging
+        went_alone n kind.Call u s m b y (λ ms. TellsLine n kind.Call (event.Age pid) before a later m.report b ms y) paging
         (λ log same. record {
           one_way = inl tt;
           does = refl;
@@ -178,18 +178,18 @@ module _ (t : Tables) (old new : Key → Option Page) (n : ℕ) (pid : Pid) (u :
 -- ---- a flush
 
 pub marked_flush : (t : Tables) (old new : Key → Option Page) (n : ℕ) (pid : Pid) (addr size : ℕ) (a : Answer) (u : Bool) (s m z : StoreOf) (b y c : Behind) → PassesIn u (OneMove (move.At n kind.Call)) s m b y → PassesIn u (Flushes (keys_flushed t pid.0 addr size)) m z y c → u ≡ false
-    → Went false (move.At n kind.Call) (λ ms. Tells n kind.Call (event.Flush pid addr size) (world_with t (bytes_of old)) a (world_with t (bytes_of new)) z.report b ms c) s z b c
+    → LineWent false (move.At n kind.Call) (λ ms. TellsLine n kind.Call (event.Flush pid addr size) (world_with t (key_bytes old)) a (world_with t (key_bytes new)) z.report b ms c) s z b c
 marked_flush t old new n pid addr size a u s m z b y c p q paging =
-    marked_flushes n kind.Call (event.Flush pid addr size) (world_with t (bytes_of old)) a (world_with t (bytes_of new)) u s m z b y c (record { ages = λ ms. refl; waits = λ ws l. refl }) (keys_flushed t pid.0 addr size)
-    (λ ms h. subst (λ (ks : List Key). Flushing (with_line (move.At n kind.Call) b).life ks ms) (flushed-with t (bytes_of old) pid.0 addr size) h) p q paging
+    marked_flushes n kind.Call (event.Flush pid addr size) (world_with t (key_bytes old)) a (world_with t (key_bytes new)) u s m z b y c (record { ages = λ ms. refl; waits = λ ws l. refl }) (keys_flushed t pid.0 addr size)
+    (λ ms h. subst (λ (ks : List Key). Flushing (with_line (move.At n kind.Call) b).life ks ms) (flushed-with t (key_bytes old) pid.0 addr size) h) p q paging
 
 -- ---- lines that ask devices for what is no move
 
 -- a file
 pub marked_file : (n : ℕ) (e : Event) (w : World) (a : Answer) (v : World) (u : Bool) (s m z : StoreOf) (b y c : Behind) → Plain e w a b → ((ms : List Move) → Turned Makes (with_line (move.At n kind.Call) b).life ms → Does w e a v z.report (with_line (move.At n kind.Call) b) ms c) → PassesIn u (OneMove (move.At n kind.Call)) s m b y → NotesIn u (Turns Makes) y c → u ≡ false
-    → Went true (move.At n kind.Call) (λ ms. Tells n kind.Call e w a v z.report b ms c) s z b c
+    → LineWent true (move.At n kind.Call) (λ ms. TellsLine n kind.Call e w a v z.report b ms c) s z b c
 marked_file n e w a v u s m z b y c plain does p q paging =
-    noted_then n kind.Call (Turns Makes) u s m z b y c (λ ms. Tells n kind.Call e w a v z.report b ms c) paging
+    noted_then n kind.Call (Turns Makes) u s m z b y c (λ ms. TellsLine n kind.Call e w a v z.report b ms c) paging
     (λ log ms h. record {
       one_way = inl (makes_keep ms h.turned.all);
       does = does ms h.turned;
@@ -200,14 +200,14 @@ marked_file n e w a v u s m z b y c plain does p q paging =
 -- the paging file grows, or the paging device failed
 module _ (n count : ℕ) (w v : World) (s z : StoreOf) (b c : Behind) where
   abbrev Extends : Answer → LineKind → Type 0
-  Extends a k = Went true (move.At n k) (λ ms. Tells n k (event.Grow count) w a v z.report b ms c) s z b c
+  Extends a k = LineWent true (move.At n k) (λ ms. TellsLine n k (event.Grow count) w a v z.report b ms c) s z b c
 
   alone_as : (k : LineKind) (a : Answer) (P : Behind → List Move → Behind → Type 0) → ((ms : List Move) → P b ms c → ms ≡ move.At n k ∷ []) → ((ms : List Move) → P b ms c → c.ages ≡ ages_through ms b.ages) → ((ms : List Move) → P b ms c → c.waits ≡ waits_through ms b.waits) → Notes P b c → Extends a k
   alone_as k a P one ages waits p =
       let e = one p.moves p.that in
-      noted_from n k (λ x ms d. ms ≡ []) s z b c (λ ms. Tells n k (event.Grow count) w a v z.report b ms c)
+      noted_from n k (λ x ms d. ms ≡ []) s z b c (λ ms. TellsLine n k (event.Grow count) w a v z.report b ms c)
       (λ log ms h. record {
-        one_way = inl (subst (λ (xs : List Move). Each keeps_keys xs) (sym h) tt);
+        one_way = inl (subst (λ (xs : List Move). EachMove keeps_keys xs) (sym h) tt);
         does = h;
         ages = ages p.moves p.that ∙ ap (λ t. ages_through t b.ages) e ∙ ap (λ t. ages_through t b.ages) (sym h);
         waits = waits p.moves p.that ∙ ap (λ t. waits_through t b.waits) e ∙ ap (λ t. waits_through t b.waits) (sym h);
@@ -228,10 +228,10 @@ module _ (n count : ℕ) (w v : World) (s z : StoreOf) (b c : Behind) where
 
 -- calls are named to fail: nothing behind the store changes
 pub marked_fail : (n : ℕ) (e : Event) (w : World) (a : Answer) (v : World) (u : Bool) (s m z : StoreOf) (b y c : Behind) → Plain e w a b → Does w e a v z.report (with_line (move.At n kind.Call) b) [] c → c ≡ y → PassesIn u (OneMove (move.At n kind.Call)) s m b y → u ≡ false
-    → Went true (move.At n kind.Call) (λ ms. Tells n kind.Call e w a v z.report b ms c) s z b c
+    → LineWent true (move.At n kind.Call) (λ ms. TellsLine n kind.Call e w a v z.report b ms c) s z b c
 marked_fail n e w a v u s m z b y c plain does same p paging =
-    unasked (move.At n kind.Call) (λ ms. Tells n kind.Call e w a v z.report b ms c) s m s z b c
-    (went_alone n kind.Call u s m b c (λ ms. Tells n kind.Call e w a v z.report b ms c) paging
+    unasked (move.At n kind.Call) (λ ms. TellsLine n kind.Call e w a v z.report b ms c) s m s z b c
+    (went_alone n kind.Call u s m b c (λ ms. TellsLine n kind.Call e w a v z.report b ms c) paging
     (λ log is. record {
       one_way = inl tt;
       does = does;
@@ -241,37 +241,37 @@ marked_fail n e w a v u s m z b y c plain does same p paging =
 
 -- ---- a process ends
 
-away_waits : (ms : List Move) (ws : ℕ → Waiting) → Each takes_away ms → waits_through ms ws ≡ ws
+away_waits : (ms : List Move) (ws : ℕ → Waiting) → EachMove takes_away ms → waits_through ms ws ≡ ws
 away_waits [] ws a = refl
 away_waits (move.Unmap p ∷ ms) ws a = away_waits ms ws a.1
 away_waits (move.Drop k ∷ ms) ws a = away_waits ms ws a.1
 away_waits (_ ∷ ms) ws a = let bad = a.0 in cc
 
-same_holder : (pid : Pid) (o : Option KeptOf) → is_of pid.0 o ≡ keeps_for o pid
+same_holder : (pid : Pid) (o : Option KeptOf) → is_of_process pid.0 o ≡ keeps_for o pid
 same_holder pid None = refl
 same_holder pid (Some k) = refl
 
 -- each thread that keeps an access has a number below 256
-below : (pid : ℕ) (t : Tables) (tid : ℕ) → length t.kept ≡ threads → (nat_lt tid threads && is_of pid (kept_by t tid)) ≡ is_of pid (kept_by t tid)
+below : (pid : ℕ) (t : Tables) (tid : ℕ) → length t.kept ≡ threads → (nat_lt tid threads && is_of_process pid (kept_by t tid)) ≡ is_of_process pid (kept_by t tid)
 below pid t tid count = by_kept (kept_by t tid) refl
   where
-    by_kept : (o : Option KeptOf) → kept_by t tid ≡ o → (nat_lt tid threads && is_of pid o) ≡ is_of pid o
+    by_kept : (o : Option KeptOf) → kept_by t tid ≡ o → (nat_lt tid threads && is_of_process pid o) ≡ is_of_process pid o
     by_kept None e = and_none (nat_lt tid threads)
       where
         and_none : (x : Bool) → (x && false) ≡ false
         and_none true = refl
         and_none false = refl
-    by_kept (Some k) e = ap (λ x. x && is_of pid (Some k)) (lt-ltb tid threads (omega (arith, numbered_inside t.kept tid k e, count)))
+    by_kept (Some k) e = ap (λ x. x && is_of_process pid (Some k)) (lt-ltb tid threads (omega (arith, numbered_inside t.kept tid k e, count)))
 
 module _ (t : Tables) (old mid : Key → Option Page) (after : Tables) (new : Key → Option Page) (n : ℕ) (pid : Pid) (a : Answer) (count : length t.kept ≡ threads) (u : Bool) (s x m z : StoreOf) (b d y c : Behind) where
   abbrev e : Event
   e = event.Exit pid
 
   abbrev exits : World
-  exits = world_with t (bytes_of old)
+  exits = world_with t (key_bytes old)
 
   abbrev exited : World
-  exited = world_with after (bytes_of new)
+  exited = world_with after (key_bytes new)
 
   abbrev first : LineKind
   first = cond (is_some (process_of t pid.0)) (kind.Unbind pid) kind.Call
@@ -279,17 +279,17 @@ module _ (t : Tables) (old mid : Key → Option Page) (after : Tables) (new : Ke
   abbrev Ended : Behind → List Move → Type 0
   Ended d ms = (log : Log) × Turns (Goes (leaving t pid.0 (is_free after))) (begun_with n first log d) ms c
 
-  exit_tells : (ws : ℕ → Waiting) → ((tid : ℕ) → ws tid ≡ idle_left t pid.0 threads b.waits tid) → (ms : List Move) → Ended (record b { waits = ws }) ms → Tells n first e exits a exited z.report b ms c
+  exit_tells : (ws : ℕ → Waiting) → ((tid : ℕ) → ws tid ≡ idle_left t pid.0 threads b.waits tid) → (ms : List Move) → Ended (record b { waits = ws }) ms → TellsLine n first e exits a exited z.report b ms c
   exit_tells ws idle ms (log, h) = record {
     one_way = inr (ends_take (leaving t pid.0 (is_free after)) 1 (page_rank end_of_user_pages) ms h.turned.all);
-    does = subst (λ (held : Leaving). Turned (Goes held) (with_line (move.At n first) b).life ms) (gives-with t (bytes_of old) pid.0 after (bytes_of new)) h.turned;
+    does = subst (λ (held : Leaving). Turned (Goes held) (with_line (move.At n first) b).life ms) (gives-with t (key_bytes old) pid.0 after (key_bytes new)) h.turned;
     ages = h.moved.ages;
     waits =
         h.moved.waits ∙ away_waits ms ws (ends_take (leaving t pid.0 (is_free after)) 1 (page_rank end_of_user_pages) ms h.turned.all)
         ∙ (λ i. λ tid. (idle tid ∙ (λ j. cond ((below pid.0 t tid count ∙ same_holder pid (kept_by t tid)) j) Idle (b.waits tid)) ∙ (λ j. cond (keeps_for (kept_by t tid) pid) Idle (sym (away_waits ms b.waits (ends_take (leaving t pid.0 (is_free after)) 1 (page_rank end_of_user_pages) ms h.turned.all)) j tid))) i);
   }
 
-  moved_back : (ws : ℕ → Waiting) → ((tid : ℕ) → ws tid ≡ idle_left t pid.0 threads b.waits tid) → Went false (move.At n first) (Ended (record b { waits = ws })) (waited s x) z (record b { waits = ws }) c → Went false (move.At n first) (λ ms. Tells n first e exits a exited z.report b ms c) s z b c
+  moved_back : (ws : ℕ → Waiting) → ((tid : ℕ) → ws tid ≡ idle_left t pid.0 threads b.waits tid) → LineWent false (move.At n first) (Ended (record b { waits = ws })) (waited s x) z (record b { waits = ws }) c → LineWent false (move.At n first) (λ ms. TellsLine n first e exits a exited z.report b ms c) s z b c
   moved_back ws idle h = record {
     moves = h.moves;
     in_range = h.in_range;
@@ -310,11 +310,11 @@ module _ (t : Tables) (old mid : Key → Option Page) (after : Tables) (new : Ke
   }
 
   pub marked_exit : IdlesIn u t pid.0 threads b d → x ≡ waited s x → PassesIn u (OneMove (move.At n first)) x m d y → PassesIn u (Turns (Goes (leaving t pid.0 (is_free after)))) m z y c → u ≡ false
-      → Went false (move.At n (if_lives exits pid (kind.Unbind pid))) (λ ms. Tells n (if_lives exits pid (kind.Unbind pid)) e exits a exited z.report b ms c) s z b c
+      → LineWent false (move.At n (if_lives exits pid (kind.Unbind pid))) (λ ms. TellsLine n (if_lives exits pid (kind.Unbind pid)) e exits a exited z.report b ms c) s z b c
   marked_exit idles rest p q paging =
       let h = idles paging in
       let went = went_then n first (Turns (Goes (leaving t pid.0 (is_free after)))) u x m z d y c (Ended d) paging (λ log ms k. (log, k)) p q in
-      subst (λ (k : LineKind). Went false (move.At n k) (λ ms. Tells n k e exits a exited z.report b ms c) s z b c) (kind-with t (bytes_of old) pid (kind.Unbind pid))
+      subst (λ (k : LineKind). LineWent false (move.At n k) (λ ms. TellsLine n k e exits a exited z.report b ms c) s z b c) (kind-with t (key_bytes old) pid (kind.Unbind pid))
       (moved_back d.waits h.waits
-      (subst (λ (o : StoreOf). Went false (move.At n first) (Ended (record b { waits = d.waits })) o z (record b { waits = d.waits }) c) rest
-      (subst (λ (o : Behind). Went false (move.At n first) (Ended o) x z o c) h.same went)))
+      (subst (λ (o : StoreOf). LineWent false (move.At n first) (Ended (record b { waits = d.waits })) o z (record b { waits = d.waits }) c) rest
+      (subst (λ (o : Behind). LineWent false (move.At n first) (Ended o) x z o c) h.same went)))

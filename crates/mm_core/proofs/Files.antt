@@ -36,11 +36,11 @@ use Rattle.mm_world.proofs.Natural.{first-map}
 use Rattle.mm_blocks.specs.Devices.{DeviceOf}
 use Rattle.mm_pages.specs.Store.{StoreOf}
 use Rattle.mm_pages.specs.Reports.{with_named, with_named_paging}
-use Rattle.mm_tables.specs.Fits.{bytes_of, block_in, BlocksHold, IsNamed, filed, flushed}
+use Rattle.mm_tables.specs.Fits.{key_bytes, file_block_in, BlocksHold, NamesAtMostOne, file_told, flush_told}
 use Rattle.mm_tables.specs.References.{IsTidy}
-use Rattle.mm_core.specs.Serving.{FlushHolds, Flushed}
+use Rattle.mm_core.specs.Serving.{FlushHolds, FlushServed}
 use Rattle.mm_core.specs.Stepping.{Stepped}
-use Rattle.mm_core.specs.Deciding.{Begins, Devices}
+use Rattle.mm_core.specs.Deciding.{LineBegins, Devices}
 use Rattle.mm_core.proofs.Lines.{stepped-faulted, bytes-kept}
 use Rattle.mm_core.proofs.With.{found_with, process-with, pages-with, get-areas, shared-with}
 
@@ -55,32 +55,32 @@ file-same (Some y) false x e = cc
 
 module _ (u : Bool) (n : ℕ) (t : Tables) (old new : Key → Option Page) (s m z : StoreOf) (spaces : Spaces t) (live : (k : Key) → is_some (old k) ≡ is_some (content_of t k)) (a : Answer) (after : Tables) where
   abbrev w : World
-  w = world_with t (bytes_of old)
+  w = world_with t (key_bytes old)
 
   module _ (name : Text) (pages byte : ℕ) where
     abbrev made : OutcomeOf (Unit {0})
     made = new_file blank t name pages byte
 
     abbrev some-bytes : Key → Page
-    some-bytes k = cond (is_some (content_of t k) && is_some (content_of made.world k)) (bytes_of old k) (cond (is_some (content_of made.world k)) (file_bytes byte k) (filled 0))
+    some-bytes k = cond (is_some (content_of t k) && is_some (content_of made.world k)) (key_bytes old k) (cond (is_some (content_of made.world k)) (file_bytes byte k) (filled 0))
 
     file-answers : (unpaged w (line.File name pages byte)).answer ≡ made.answer
-    file-answers = ap (λ (o : OutcomeOf Page). o.answer) ((new_file_across t (bytes_of old) spaces name pages byte).across some-bytes (λ k. refl))
+    file-answers = ap (λ (o : OutcomeOf Page). o.answer) ((new_file_across t (key_bytes old) spaces name pages byte).across some-bytes (λ k. refl))
 
-    pub file-stepped : filed t name pages byte z.report ≡ done a after → BytesAfterFile byte t (bytes_of old) after (bytes_of new) → Stepped u w (line.File name pages byte) s.report z.report a (world_with after (bytes_of new))
+    pub file-stepped : file_told t name pages byte z.report ≡ done a after → BytesAfterFile byte t (key_bytes old) after (key_bytes new) → Stepped u w (line.File name pages byte) s.report z.report a (world_with after (key_bytes new))
     file-stepped outcome bytes =
         stepped-faulted u (line.File name pages byte) n t old s m a after new z (is_ok made.answer && nat_lt 0 z.report.file_writes.failed) made outcome
         (ap (λ (a : Answer). when (is_ok a && nat_lt 0 z.report.file_writes.failed) answer.Fault) file-answers) refl
         (λ same.
-        let kept : bytes_of new ≡ bytes_of old = fun_ext (λ k.
+        let kept : key_bytes new ≡ key_bytes old = fun_ext (λ k.
         bytes k
-        ∙ ap (λ (v : Tables). cond (is_some (content_of t k) && is_some (content_of v k)) (bytes_of old k) (cond (is_some (content_of v k)) (file_bytes byte k) (filled 0))) same
+        ∙ ap (λ (v : Tables). cond (is_some (content_of t k) && is_some (content_of v k)) (key_bytes old k) (cond (is_some (content_of v k)) (file_bytes byte k) (filled 0))) same
         ∙ file-same (old k) (is_some (content_of t k)) (file_bytes byte k) (live k)) in
         λ i. world_with (same i) (kept i))
         (λ e.
         let world : made.world ≡ after = ap (λ (q : OutcomeOf (Unit {0})). q.world) e in
-        (new_file_across t (bytes_of old) spaces name pages byte).across (bytes_of new) (subst (λ (v : Tables). BytesAfterFile byte t (bytes_of old) v (bytes_of new)) (sym world) bytes)
-        ∙ ap (λ (q : OutcomeOf (Unit {0})). done q.answer (world_with q.world (bytes_of new))) e)
+        (new_file_across t (key_bytes old) spaces name pages byte).across (key_bytes new) (subst (λ (v : Tables). BytesAfterFile byte t (key_bytes old) v (key_bytes new)) (sym world) bytes)
+        ∙ ap (λ (q : OutcomeOf (Unit {0})). done q.answer (world_with q.world (key_bytes new))) e)
 
   -- ---- `flush`
 
@@ -89,22 +89,22 @@ module _ (u : Bool) (n : ℕ) (t : Tables) (old new : Key → Option Page) (s m 
     flushes = flush t pid.0 addr size
 
     abbrev flushed-bytes : Key → Page
-    flushed-bytes k = cond (is_some (content_of t k) && is_some (content_of flushes.world k)) (bytes_of old k) (filled 0)
+    flushed-bytes k = cond (is_some (content_of t k) && is_some (content_of flushes.world k)) (key_bytes old k) (filled 0)
 
     flush-answers : (unpaged w (line.Flush pid addr size)).answer ≡ flushes.answer
-    flush-answers = ap (λ (o : OutcomeOf Page). o.answer) ((flush_across t (bytes_of old) spaces pid.0 addr size).across flushed-bytes (λ k. refl))
+    flush-answers = ap (λ (o : OutcomeOf Page). o.answer) ((flush_across t (key_bytes old) spaces pid.0 addr size).across flushed-bytes (λ k. refl))
 
-    pub flush-stepped : flushed t pid.0 addr size z.report ≡ done a after → after ≡ t → new ≡ old → Stepped u w (line.Flush pid addr size) s.report z.report a (world_with after (bytes_of new))
+    pub flush-stepped : flush_told t pid.0 addr size z.report ≡ done a after → after ≡ t → new ≡ old → Stepped u w (line.Flush pid addr size) s.report z.report a (world_with after (key_bytes new))
     flush-stepped outcome tables contents =
         stepped-faulted u (line.Flush pid addr size) n t old s m a after new z (is_ok flushes.answer && nat_lt 0 z.report.file_writes.failed) flushes outcome
         (ap (λ (a : Answer). when (is_ok a && nat_lt 0 z.report.file_writes.failed) answer.Fault) flush-answers) refl
-        (λ same. λ i. world_with (same i) (bytes_of (contents i)))
+        (λ same. λ i. world_with (same i) (key_bytes (contents i)))
         (λ e.
         let world : flushes.world ≡ t = ap (λ (q : OutcomeOf (Unit {0})). q.world) e ∙ tables in
-        let kept : BytesAfter t (bytes_of old) flushes.world (bytes_of old) = subst (λ (v : Tables). BytesAfter t (bytes_of old) v (bytes_of old)) (sym world) (bytes-kept t t old live live) in
-        (flush_across t (bytes_of old) spaces pid.0 addr size).across (bytes_of old) kept
-        ∙ ap (λ (q : OutcomeOf (Unit {0})). done q.answer (world_with q.world (bytes_of old))) e
-        ∙ ap (λ (c : Key → Option Page). done a (world_with after (bytes_of c))) (sym contents))
+        let kept : BytesAfter t (key_bytes old) flushes.world (key_bytes old) = subst (λ (v : Tables). BytesAfter t (key_bytes old) v (key_bytes old)) (sym world) (bytes-kept t t old live live) in
+        (flush_across t (key_bytes old) spaces pid.0 addr size).across (key_bytes old) kept
+        ∙ ap (λ (q : OutcomeOf (Unit {0})). done q.answer (world_with q.world (key_bytes old))) e
+        ∙ ap (λ (c : Key → Option Page). done a (world_with after (key_bytes c))) (sym contents))
 
 -- ---- what a `flush` leaves in the blocks
 
@@ -135,7 +135,7 @@ same-bytes (Some x) None e f = cc
 
 module _ (t : Tables) (c : Key → Option Page) (sound : WellFormed t) (tidy : IsTidy t) (live : (k : Key) → is_some (c k) ≡ is_some (content_of t k)) where
   abbrev b : Key → Page
-  b = bytes_of c
+  b = key_bytes c
 
   view-with : (pid : ℕ) (range : Range) (rs : List (RegionOf (Unit {0}))) → view_around (map (region_with_bytes b pid) rs) range ≡ option_map (found_with b pid) (view_around rs range)
   view-with pid range rs =
@@ -183,7 +183,7 @@ module _ (t : Tables) (c : Key → Option Page) (sound : WellFormed t) (tidy : I
         let view = refers v is in
         let file = tidy.files v.area.0 first block in
         let there : is_some (shared_page t v.area.0 index) ≡ true = all-some (area_at t v.area.0).pages index file.committed (omega (arith, at.low, at.high, view.within)) in
-        let has : block_in t (shared_key v.area.0 index) ≡ Some (first + index) =
+        let has : file_block_in t (shared_key v.area.0 index) ≡ Some (first + index) =
         (λ i. cond (there i) (option_map (λ first. first + index) (block i)) None) in
         holds p r v page (first + index) lives found is inside has
         ∙ same-bytes (c (shared_key v.area.0 index)) (shared_page t v.area.0 index) (live (shared_key v.area.0 index) ∙ there) there
@@ -204,7 +204,7 @@ module _ (t : Tables) (c : Key → Option Page) (sound : WellFormed t) (tidy : I
         (ap (λ (range : Range). holds_page range page) (sym (range-with x.thing.thing)) ∙ ap (λ (g : RegionOf Page). holds_page (flushed_range g addr size) page) same ∙ inside)
         (sym (block-with v.area.0) ∙ block))
 
-pub flushed-line : (t : Tables) (c : Key → Option Page) → WellFormed t → IsTidy t → ((k : Key) → is_some (c k) ≡ is_some (content_of t k)) → (blocks : List Page) (pid : Pid) (addr size : ℕ) (a : Answer) → (a ≡ answer.Ok → BlocksHold t c blocks pid.0 addr size) → Flushed (world_with t (bytes_of c)) blocks (line.Flush pid addr size) a
+pub flushed-line : (t : Tables) (c : Key → Option Page) → WellFormed t → IsTidy t → ((k : Key) → is_some (c k) ≡ is_some (content_of t k)) → (blocks : List Page) (pid : Pid) (addr size : ℕ) (a : Answer) → (a ≡ answer.Ok → BlocksHold t c blocks pid.0 addr size) → FlushServed (world_with t (key_bytes c)) blocks (line.Flush pid addr size) a
 flushed-line t c sound tidy live blocks pid addr size answer.Ok holds = flush-holds t c sound tidy live blocks pid.0 addr size (holds refl)
 flushed-line t c sound tidy live blocks pid addr size a holds = tt
 
@@ -213,7 +213,7 @@ flushed-line t c sound tidy live blocks pid addr size a holds = tt
 pub fail-taken : (t : Tables) → t.fails_taken < 64 → take_fail t ≡ done answer.Ok (record t { fails_taken = t.fails_taken + 1 })
 fail-taken t h = ap (λ b. cond b (done answer.Ok (record t { fails_taken = t.fails_taken + 1 })) (done answer.Full t)) (lt-ltb t.fails_taken most_fails h)
 
-module _ (u : Bool) (direction : Direction) (k n number : ℕ) (s m z : StoreOf) (b : Begins number s m) where
+module _ (u : Bool) (direction : Direction) (k n number : ℕ) (s m z : StoreOf) (b : LineBegins number s m) where
   abbrev calls : NamedCalls
   calls = record { direction = direction; passes = k - 1; fails = n }
 
@@ -261,7 +261,7 @@ module _ (u : Bool) (direction : Direction) (k n number : ℕ) (s m z : StoreOf)
   devices-named device_of.File files paging = on-files (files refl)
   devices-named device_of.Paging files paging = on-paging (paging refl)
 
-  pub is-named : (device : Device) → (device ≡ device_of.File → FilesNamed) → (device ≡ device_of.Paging → PagingNamed) → IsNamed m z
+  pub is-named : (device : Device) → (device ≡ device_of.File → FilesNamed) → (device ≡ device_of.Paging → PagingNamed) → NamesAtMostOne m z
   is-named device_of.File files paging =
       let e = files refl in
       record {

@@ -11,7 +11,7 @@ use Rattle.mm_world.specs.Keys.{content_of}
 use Rattle.mm_world.specs.Contents.{Tables}
 use Rattle.mm_pages.specs.Store.{StoreOf, changed, same_place, own_key}
 use Rattle.mm_pages.specs.Reports.{fetched, rearranged, Served}
-use Rattle.mm_tables.specs.Fits.{Fits, key_at, copied}
+use Rattle.mm_tables.specs.Fits.{FitsTables, key_at, copied}
 use Rattle.mm_types.proofs.Booleans.{parts}
 use Rattle.mm_core.proofs.Serving.{all-named}
 
@@ -43,7 +43,7 @@ place_itself place = λ i. (unsigned_Decides place.pid.0 place.pid.0).1 refl i &
 
 -- ---- pages are fetched
 
-module _ (t : Tables) (c : Key → Option Page) (s : StoreOf) (f : Fits t c s) where
+module _ (t : Tables) (c : Key → Option Page) (s : StoreOf) (f : FitsTables t c s) where
   -- what an access changes beside the names
   abbrev around : (Place → Option Key) → StoreOf → StoreOf
   around names z =
@@ -56,9 +56,9 @@ module _ (t : Tables) (c : Key → Option Page) (s : StoreOf) (f : Fits t c s) w
         file_device = z.file_device;
       }
 
-  pub fits_fetched : (names : Place → Option Key) (z : StoreOf) → Served s z → length z.file_blocks ≡ length s.file_blocks → z ≡ around names z → ((place : Place) (k : Key) → names place ≡ Some k → key_at t place ≡ Some k) → Fits t c z
+  pub fits_fetched : (names : Place → Option Key) (z : StoreOf) → Served s z → length z.file_blocks ≡ length s.file_blocks → z ≡ around names z → ((place : Place) (k : Key) → names place ≡ Some k → key_at t place ≡ Some k) → FitsTables t c z
   fits_fetched names z served stored e named =
-      subst (λ (z : StoreOf). Fits t c z) (sym e)
+      subst (λ (z : StoreOf). FitsTables t c z) (sym e)
       (record {
         machine = f.machine;
         opened = f.opened;
@@ -85,7 +85,7 @@ module _ (t : Tables) (c : Key → Option Page) (s : StoreOf) (f : Fits t c s) w
       by_test false other e = f.named q j e
 
   -- the bytes of a live key are others
-  pub fits_bytes : (k : Key) (x : Page) → is_some (c k) ≡ true → Fits t (changed same_key c k (Some x)) s
+  pub fits_bytes : (k : Key) (x : Page) → is_some (c k) ≡ true → FitsTables t (changed same_key c k (Some x)) s
   fits_bytes k x there =
       record {
         machine = f.machine;
@@ -115,21 +115,21 @@ module _ (t : Tables) (c : Key → Option Page) (s : StoreOf) (f : Fits t c s) w
 
 -- ---- however an access of the store ended
 
-module _ (t : Tables) (c : Key → Option Page) (s : StoreOf) (c' : Key → Option Page) (z : StoreOf) (place : Place) (k : Key) (f : Fits t c s) (at : key_at t place ≡ Some k) (served : Served s z) (stored : length z.file_blocks ≡ length s.file_blocks) where
-  pub fits_fetch : {T E : Type 0} (r : Result T E) → c' ≡ c → OnOk r (z ≡ record (fetched s z) { names = changed same_place s.names place (Some k) }) → OnErr r (z ≡ fetched s z) → Fits t c' z
-  fits_fetch (Ok x) same ok err = subst (λ (c : Key → Option Page). Fits t c z) (sym same) (fits_fetched t c s f (changed same_place s.names place (Some k)) z served stored ok (names_one t c s f place k at))
-  fits_fetch (Err e) same ok err = subst (λ (c : Key → Option Page). Fits t c z) (sym same) (fits_fetched t c s f s.names z served stored err f.named)
+module _ (t : Tables) (c : Key → Option Page) (s : StoreOf) (c' : Key → Option Page) (z : StoreOf) (place : Place) (k : Key) (f : FitsTables t c s) (at : key_at t place ≡ Some k) (served : Served s z) (stored : length z.file_blocks ≡ length s.file_blocks) where
+  pub fits_fetch : {T E : Type 0} (r : Result T E) → c' ≡ c → OnOk r (z ≡ record (fetched s z) { names = changed same_place s.names place (Some k) }) → OnErr r (z ≡ fetched s z) → FitsTables t c' z
+  fits_fetch (Ok x) same ok err = subst (λ (c : Key → Option Page). FitsTables t c z) (sym same) (fits_fetched t c s f (changed same_place s.names place (Some k)) z served stored ok (names_one t c s f place k at))
+  fits_fetch (Err e) same ok err = subst (λ (c : Key → Option Page). FitsTables t c z) (sym same) (fits_fetched t c s f s.names z served stored err f.named)
 
-  pub fits_put : {T E : Type 0} (r : Result T E) (x : Page) → is_some (c k) ≡ true → OnOk r (c' ≡ changed same_key c k (Some x)) → OnErr r (c' ≡ c) → OnOk r (z ≡ record (fetched s z) { names = changed same_place s.names place (Some k) }) → OnErr r (z ≡ fetched s z) → Fits t c' z
+  pub fits_put : {T E : Type 0} (r : Result T E) (x : Page) → is_some (c k) ≡ true → OnOk r (c' ≡ changed same_key c k (Some x)) → OnErr r (c' ≡ c) → OnOk r (z ≡ record (fetched s z) { names = changed same_place s.names place (Some k) }) → OnErr r (z ≡ fetched s z) → FitsTables t c' z
   fits_put (Ok y) x live put kept ok err =
-      subst (λ (c : Key → Option Page). Fits t c z) (sym put)
+      subst (λ (c : Key → Option Page). FitsTables t c z) (sym put)
       (fits_bytes t c z (fits_fetched t c s f (changed same_place s.names place (Some k)) z served stored ok (names_one t c s f place k at)) k x live)
-  fits_put (Err e) x live put kept ok err = subst (λ (c : Key → Option Page). Fits t c z) (sym kept) (fits_fetched t c s f s.names z served stored err f.named)
+  fits_put (Err e) x live put kept ok err = subst (λ (c : Key → Option Page). FitsTables t c z) (sym kept) (fits_fetched t c s f s.names z served stored err f.named)
 
   -- a copy that failed
-  pub fits_uncopied : c' ≡ c → z ≡ record (fetched s z) { names = z.names } → (z.names ≡ s.names) ⊎ (z.names ≡ changed same_place s.names place (Some k)) → Fits t c' z
+  pub fits_uncopied : c' ≡ c → z ≡ record (fetched s z) { names = z.names } → (z.names ≡ s.names) ⊎ (z.names ≡ changed same_place s.names place (Some k)) → FitsTables t c' z
   fits_uncopied same err names =
-      subst (λ (c : Key → Option Page). Fits t c z) (sym same)
+      subst (λ (c : Key → Option Page). FitsTables t c z) (sym same)
       (fits_fetched t c s f z.names z served stored err (λ q j e. elim names [
         | inl none ↦ f.named q j (ap (λ (n : Place → Option Key). n q) (sym none) ∙ e)
         | inr one ↦ names_one t c s f place k at q j (ap (λ (n : Place → Option Key). n q) (sym one) ∙ e)
@@ -138,21 +138,21 @@ module _ (t : Tables) (c : Key → Option Page) (s : StoreOf) (c' : Key → Opti
 -- ---- a page was copied
 
 -- the store that the tables' own change speaks of is this one but for what an access changes
-pub fits_copied : (t : Tables) (c : Key → Option Page) (s z : StoreOf) (place : Place) → Fits t c (copied place s) → Served s z → length z.file_blocks ≡ length s.file_blocks → z ≡ record (fetched s z) { names = changed same_place s.names place (Some (own_key place)); paging = changed same_key s.paging (own_key place) true; paging_keys = s.paging_keys + 1 } → Fits t c z
+pub fits_copied : (t : Tables) (c : Key → Option Page) (s z : StoreOf) (place : Place) → FitsTables t c (copied place s) → Served s z → length z.file_blocks ≡ length s.file_blocks → z ≡ record (fetched s z) { names = changed same_place s.names place (Some (own_key place)); paging = changed same_key s.paging (own_key place) true; paging_keys = s.paging_keys + 1 } → FitsTables t c z
 fits_copied t c s z place f served stored e =
     let again : Served (copied place s) z = record { paging_calls = served.paging_calls; file_calls = served.file_calls; paging = served.paging; files = served.files; paging_reads = served.paging_reads; paging_writes = served.paging_writes; file_reads = served.file_reads; file_writes = served.file_writes } in
     fits_fetched t c (copied place s) f (changed same_place s.names place (Some (own_key place))) z again stored e f.named
 
 -- ---- calls of the store that change none of what the tables know
 
-pub fits-same : (t : Tables) (c : Key → Option Page) (s : StoreOf) (c' : Key → Option Page) (z : StoreOf) → Fits t c s → c' ≡ c → z ≡ s → Fits t c' z
+pub fits-same : (t : Tables) (c : Key → Option Page) (s : StoreOf) (c' : Key → Option Page) (z : StoreOf) → FitsTables t c s → c' ≡ c → z ≡ s → FitsTables t c' z
 fits-same t c s c' z f contents store =
-    subst (λ (c : Key → Option Page). Fits t c z) (sym contents) (subst (λ (s : StoreOf). Fits t c s) (sym store) f)
+    subst (λ (c : Key → Option Page). FitsTables t c z) (sym contents) (subst (λ (s : StoreOf). FitsTables t c s) (sym store) f)
 
-pub fits-rearranged : (t : Tables) (c : Key → Option Page) (s : StoreOf) (c' : Key → Option Page) (z : StoreOf) → Fits t c s → c' ≡ c → z ≡ record s { report = rearranged s.report z.report } → Fits t c' z
+pub fits-rearranged : (t : Tables) (c : Key → Option Page) (s : StoreOf) (c' : Key → Option Page) (z : StoreOf) → FitsTables t c s → c' ≡ c → z ≡ record s { report = rearranged s.report z.report } → FitsTables t c' z
 fits-rearranged t c s c' z f contents store =
-    subst (λ (c : Key → Option Page). Fits t c z) (sym contents)
-    (subst (λ (s : StoreOf). Fits t c s) (sym store)
+    subst (λ (c : Key → Option Page). FitsTables t c z) (sym contents)
+    (subst (λ (s : StoreOf). FitsTables t c s) (sym store)
     (record {
       machine = f.machine;
       opened = f.opened;

@@ -19,15 +19,15 @@ use Rattle.mm_pages.specs.Store.{StoreOf, changed}
 use Rattle.mm_pages.specs.Behind.{Behind}
 use Rattle.mm_pages.specs.Accesses.{Forgets}
 use Rattle.mm_pages.specs.Passing.{PassesIn}
-use Rattle.mm_core.specs.Forgetting.{is_of, waits_but, waited, Forgot, EndsWaits}
-use Rattle.mm_core.specs.Deciding.{Keeps, Decided}
+use Rattle.mm_core.specs.Forgetting.{is_of_process, waits_but, waited, Forgot, EndsWaits}
+use Rattle.mm_core.specs.Deciding.{KeepsTables, Decided}
 use Rattle.mm_core.specs.Noting.{idle_but, IdlesBut, Idles}
 
 -- ---- one thread more
 
 module _ {A : Type 0} (none : A) (t : Tables) (pid : ℕ) (w y z : ℕ → A) (i : ℕ) where
   abbrev of : ℕ → Bool
-  of tid = is_of pid (kept_by t tid)
+  of tid = is_of_process pid (kept_by t tid)
 
   -- those below a number whose access is of the process have none
   abbrev left : ℕ → (ℕ → A) → ℕ → A
@@ -65,7 +65,7 @@ module _ {A : Type 0} (none : A) (t : Tables) (pid : ℕ) (w y z : ℕ → A) (i
 
 module _ (t : Tables) (pid : ℕ) (s : StoreOf) where
   pub forgot-none : Forgot t pid 0 s s
-  forgot-none = record { waits = λ tid. ap (λ c. cond (c && is_of pid (kept_by t tid)) wait.None (s.report.wait tid)) (sym (le-ltb tid 0 (omega arith))); rest = refl }
+  forgot-none = record { waits = λ tid. ap (λ c. cond (c && is_of_process pid (kept_by t tid)) wait.None (s.report.wait tid)) (sym (le-ltb tid 0 (omega arith))); rest = refl }
 
   pub forgot-more : (i : ℕ) (y z : StoreOf) → Forgot t pid i s y → z ≡ waited y z → z.report.wait ≡ waits_but t pid i y.report.wait → Forgot t pid (i + 1) s z
   forgot-more i y z h rest waits = record {
@@ -76,20 +76,20 @@ module _ (t : Tables) (pid : ℕ) (s : StoreOf) where
 -- ---- what stands behind the store
 
 -- one thread more
-pub idles-one : (u : Bool) (t : Tables) (pid tid : ℕ) (s z : StoreOf) (b c : Behind) (found : Bool) → found ≡ is_of pid (kept_by t tid) → found ≡ true → PassesIn u (Forgets tid) s z b c → u ≡ false → IdlesBut t pid tid b c
+pub idles-one : (u : Bool) (t : Tables) (pid tid : ℕ) (s z : StoreOf) (b c : Behind) (found : Bool) → found ≡ is_of_process pid (kept_by t tid) → found ≡ true → PassesIn u (Forgets tid) s z b c → u ≡ false → IdlesBut t pid tid b c
 idles-one true t pid tid s z b c found is on p paging = cc
 idles-one false t pid tid s z b c found is on p paging =
-    let e : true ≡ is_of pid (kept_by t tid) = sym on ∙ is in
+    let e : true ≡ is_of_process pid (kept_by t tid) = sym on ∙ is in
     p.that.same ∙ (λ i. record b { waits = cond (e i) (changed ◌==◌ b.waits tid Idle) b.waits })
 
-pub idles-not : (t : Tables) (pid tid : ℕ) (b : Behind) (found : Bool) → found ≡ is_of pid (kept_by t tid) → found ≡ false → IdlesBut t pid tid b b
+pub idles-not : (t : Tables) (pid tid : ℕ) (b : Behind) (found : Bool) → found ≡ is_of_process pid (kept_by t tid) → found ≡ false → IdlesBut t pid tid b b
 idles-not t pid tid b found is off =
-    let e : false ≡ is_of pid (kept_by t tid) = sym off ∙ is in
+    let e : false ≡ is_of_process pid (kept_by t tid) = sym off ∙ is in
     λ i. record b { waits = cond (e i) (changed ◌==◌ b.waits tid Idle) b.waits }
 
 module _ (t : Tables) (pid : ℕ) (b : Behind) where
   pub idles-none : Idles t pid 0 b b
-  idles-none = record { waits = λ tid. ap (λ c. cond (c && is_of pid (kept_by t tid)) Idle (b.waits tid)) (sym (le-ltb tid 0 (omega arith))); same = refl }
+  idles-none = record { waits = λ tid. ap (λ c. cond (c && is_of_process pid (kept_by t tid)) Idle (b.waits tid)) (sym (le-ltb tid 0 (omega arith))); same = refl }
 
   pub idles-more : (i : ℕ) (y c : Behind) → Idles t pid i b y → IdlesBut t pid i y c → Idles t pid (i + 1) b c
   idles-more i y c h e =
@@ -101,11 +101,11 @@ module _ (t : Tables) (pid : ℕ) (b : Behind) where
 
 -- ---- the store goes on fitting the tables
 
-pub keeps-forgot : (t : Tables) (c d : Key → Option Page) (s z : StoreOf) → Keeps t c s → d ≡ c → z ≡ waited s z → Keeps t d z
+pub keeps-forgot : (t : Tables) (c d : Key → Option Page) (s z : StoreOf) → KeepsTables t c s → d ≡ c → z ≡ waited s z → KeepsTables t d z
 keeps-forgot t c d s z keeps same rest =
     let f = keeps.fits in
-    subst (λ (c : Key → Option Page). Keeps t c z) (sym same)
-    (subst (λ (z : StoreOf). Keeps t c z) (sym rest)
+    subst (λ (c : Key → Option Page). KeepsTables t c z) (sym same)
+    (subst (λ (z : StoreOf). KeepsTables t c z) (sym rest)
     (record {
       fits = record {
         machine = f.machine;
@@ -155,5 +155,5 @@ module _ (u : Bool) (pid : Pid) (n : ℕ) (t : Tables) (c d : Key → Option Pag
 pub ends-waits : (t : Tables) (pid : Pid) (a : Answer) (s y m z : StoreOf) → length t.kept ≡ threads → Forgot t pid.0 threads s y → m.report.wait ≡ y.report.wait → z.report.wait ≡ m.report.wait → EndsWaits t (event.Exit pid) a z.report
 ends-waits t pid a s y m z count h began ended tid k kept of =
     let below : tid < threads = omega (arith, numbered_inside t.kept tid k kept, count) in
-    let is : is_of pid.0 (kept_by t tid) ≡ true = ap (is_of pid.0) kept ∙ (unsigned_Decides k.pid pid.0).1 of in
+    let is : is_of_process pid.0 (kept_by t tid) ≡ true = ap (is_of_process pid.0) kept ∙ (unsigned_Decides k.pid pid.0).1 of in
     ap (λ (f : ℕ → Wait). f tid) (ended ∙ began) ∙ h.waits tid ∙ (λ i. cond (lt-ltb tid threads below i && is i) wait.None (s.report.wait tid))

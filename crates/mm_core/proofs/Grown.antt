@@ -16,9 +16,9 @@ use Rattle.mm_world.specs.Report.{Report}
 use Rattle.mm_world.specs.Step.{is_failed_extension}
 use Rattle.mm_pages.specs.Store.{StoreOf}
 use Rattle.mm_pages.specs.Reports.{begun}
-use Rattle.mm_tables.specs.Fits.{Fits, bytes_of, extended, grown}
+use Rattle.mm_tables.specs.Fits.{FitsTables, key_bytes, extended, grow_told}
 use Rattle.mm_tables.specs.References.{MadeAtMost}
-use Rattle.mm_core.specs.Deciding.{Keeps, Decided}
+use Rattle.mm_core.specs.Deciding.{KeepsTables, Decided}
 use Rattle.mm_core.specs.Serving.{IsFailure}
 use Rattle.mm_core.proofs.Lines.{stepped-faulted, faulted-answer, faulted-made, keeps-made, one-later}
 
@@ -54,8 +54,8 @@ module _ (t : Tables) (n : ℕ) where
       by_room false = h
 
 pub grow-line : (u : Bool) (count n : ℕ) (t : Tables) (old : Key → Option Page) (s : StoreOf) (a : Answer) (after : Tables) (new : Key → Option Page) (z : StoreOf)
-    → Keeps t old s → n ≡ s.line + 1 → grown t count z.report ≡ done a after → new ≡ old
-    → Fits after new z → z ≡ extended s z
+    → KeepsTables t old s → n ≡ s.line + 1 → grow_told t count z.report ≡ done a after → new ≡ old
+    → FitsTables after new z → z ≡ extended s z
     → z.report ≡ record (begun s.report) { counts = z.report.counts; extended = z.report.extended } → z.line ≡ n → (a ≡ answer.Fault → Rose s.paging_device.faults z.paging_device.faults) → s.paging_device.faults ≤ z.paging_device.faults → Decided u (line.Grow count) n t old s a after new z
 grow-line u count n t old s a after new z keeps next outcome contents fits rest report is blamed later =
     let e : Event = line.Grow count in
@@ -64,11 +64,11 @@ grow-line u count n t old s a after new z keeps next outcome contents fits rest 
     let files : z.file_device ≡ s.file_device = ap (λ (x : StoreOf). x.file_device) rest in
     record {
       stepped = stepped-faulted u e n t old s s a after new z b q outcome refl refl
-          (λ same. λ i. world_with (same i) (bytes_of (contents i)))
+          (λ same. λ i. world_with (same i) (key_bytes (contents i)))
           (λ made.
-          with-bytes t count (bytes_of old)
-          ∙ ap (λ (o : OutcomeOf (Unit {0})). done o.answer (world_with o.world (bytes_of old))) made
-          ∙ ap (λ (c : Key → Option Page). done a (world_with after (bytes_of c))) (sym contents));
+          with-bytes t count (key_bytes old)
+          ∙ ap (λ (o : OutcomeOf (Unit {0})). done o.answer (world_with o.world (key_bytes old))) made
+          ∙ ap (λ (c : Key → Option Page). done a (world_with after (key_bytes c))) (sym contents));
       devices = record {
         asked_files = λ plain. record {
           calls = [];

@@ -10,7 +10,7 @@ use Rattle.mm_world.specs.Keys.{Committed, committed_at, key_of, content_of}
 use Rattle.mm_world.specs.Contents.{Tables}
 use Rattle.mm_pages.specs.Store.{StoreOf}
 use Rattle.mm_pages.specs.Conditions.{place_at}
-use Rattle.mm_tables.specs.Fits.{Fits, key_at}
+use Rattle.mm_tables.specs.Fits.{FitsTables, key_at}
 use Rattle.mm_world.proofs.Finding.{row_has_live_key}
 
 -- the key of a committed row's place
@@ -38,7 +38,7 @@ behind t place k e = by_process (process_of t place.pid.0) refl e
     by_process None lives e = cc
     by_process (Some p) lives e = by_row p (committed_at t p.regions place.vpn.0) lives refl e
 
-module _ (t : Tables) (contents : Key → Option Page) (s : StoreOf) (fits : Fits t contents s) where
+module _ (t : Tables) (contents : Key → Option Page) (s : StoreOf) (fits : FitsTables t contents s) where
   module _ (place : Place) (k : Key) (at : key_at t place ≡ Some k) where
     pub key-live : is_some (contents k) ≡ true
     key-live =

@@ -17,22 +17,22 @@ use Rattle.mm_world.specs.Contents.{Tables, BytesAfter, AcrossBytes, world_with}
 use Rattle.mm_world.proofs.Tables.{Holds}
 use Rattle.mm_pages.specs.Store.{StoreOf}
 use Rattle.mm_pages.specs.Reports.{Served, SomeFailed, begun}
-use Rattle.mm_tables.specs.Fits.{Fits, bytes_of, Called}
+use Rattle.mm_tables.specs.Fits.{FitsTables, key_bytes, Called}
 use Rattle.mm_tables.specs.References.{MadeAtMost}
-use Rattle.mm_core.specs.Serving.{IsFailure, Named, Flushed}
+use Rattle.mm_core.specs.Serving.{IsFailure, Named, FlushServed}
 use Rattle.mm_core.specs.Stepping.{Stepped}
-use Rattle.mm_core.specs.Deciding.{Keeps, Begins, Decided}
+use Rattle.mm_core.specs.Deciding.{KeepsTables, LineBegins, Decided}
 use Rattle.mm_core.proofs.Serving.{Quiet, devices-served, devices-quiet}
 use Rattle.mm_core.proofs.Making.{Makes}
 
 -- ---- calls
 
 -- a call on the tables is the call on the world
-pub called-across : (q : OutcomeOf (Unit {0})) (o : OutcomeOf Page) (t : Tables) (old : Key → Option Page) (a : Answer) (after : Tables) (new : Key → Option Page) → AcrossBytes t (bytes_of old) q o → Called q t old a after new → o ≡ done a (world_with after (bytes_of new))
+pub called-across : (q : OutcomeOf (Unit {0})) (o : OutcomeOf Page) (t : Tables) (old : Key → Option Page) (a : Answer) (after : Tables) (new : Key → Option Page) → AcrossBytes t (key_bytes old) q o → Called q t old a after new → o ≡ done a (world_with after (key_bytes new))
 called-across q o t old a after new across h =
     let world : q.world ≡ after = ap (λ (q : OutcomeOf (Unit {0})). q.world) h.outcome in
-    across.across (bytes_of new) (subst (λ (v : Tables). BytesAfter t (bytes_of old) v (bytes_of new)) (sym world) h.bytes)
-    ∙ ap (λ (q : OutcomeOf (Unit {0})). done q.answer (world_with q.world (bytes_of new))) h.outcome
+    across.across (key_bytes new) (subst (λ (v : Tables). BytesAfter t (key_bytes old) v (key_bytes new)) (sym world) h.bytes)
+    ∙ ap (λ (q : OutcomeOf (Unit {0})). done q.answer (world_with q.world (key_bytes new))) h.outcome
 
 -- bytes that stay, of keys that stay live
 bytes_at : (o : Option Page) (a b : Bool) → is_some o ≡ a → is_some o ≡ b → unwrap_or o (filled 0) ≡ cond (a && b) (unwrap_or o (filled 0)) (filled 0)
@@ -46,7 +46,7 @@ bytes_at (Some x) true true e f = refl
 bytes_at (Some x) false b e f = cc
 bytes_at (Some x) true false e f = cc
 
-pub bytes-kept : (t after : Tables) (c : Key → Option Page) → ((k : Key) → is_some (c k) ≡ is_some (content_of t k)) → ((k : Key) → is_some (c k) ≡ is_some (content_of after k)) → BytesAfter t (bytes_of c) after (bytes_of c)
+pub bytes-kept : (t after : Tables) (c : Key → Option Page) → ((k : Key) → is_some (c k) ≡ is_some (content_of t k)) → ((k : Key) → is_some (c k) ≡ is_some (content_of after k)) → BytesAfter t (key_bytes c) after (key_bytes c)
 bytes-kept t after c old new k = bytes_at (c k) _ _ (old k) (new k)
 
 -- a line of which the store tells nothing
@@ -56,20 +56,20 @@ stepped-plain u w e before later a v none outcome =
 
 module _ (u : Bool) (e : Event) (n : ℕ) (t : Tables) (old : Key → Option Page) (s m : StoreOf) (a : Answer) (after : Tables) (new : Key → Option Page) (z : StoreOf) where
   abbrev w : World
-  w = world_with t (bytes_of old)
+  w = world_with t (key_bytes old)
 
   abbrev v : World
-  v = world_with after (bytes_of new)
+  v = world_with after (key_bytes new)
 
   abbrev NamedHere : Type 0
   NamedHere = Named u e a s.paging_device z.paging_device s.file_device z.file_device
 
-  pub keeps-made : n ≡ s.line + 1 → z.line ≡ n → MadeAtMost (s.line + 1) after → Fits after new z → Keeps after new z
+  pub keeps-made : n ≡ s.line + 1 → z.line ≡ n → MadeAtMost (s.line + 1) after → FitsTables after new z → KeepsTables after new z
   keeps-made next is few fits =
       record { fits = fits; few = subst (λ (k : ℕ). MadeAtMost k after) (sym (is ∙ next)) few }
 
   -- a line that called no device
-  decided-still : n ≡ s.line + 1 → Begins n s m → Quiet m z → Stepped u w e s.report z.report a v → (IsFailure a → ⊥) → NamedHere → Flushed v z.file_blocks e a → MadeAtMost (s.line + 1) after → Fits after new z → Decided u e n t old s a after new z
+  decided-still : n ≡ s.line + 1 → LineBegins n s m → Quiet m z → Stepped u w e s.report z.report a v → (IsFailure a → ⊥) → NamedHere → FlushServed v z.file_blocks e a → MadeAtMost (s.line + 1) after → FitsTables after new z → Decided u e n t old s a after new z
   decided-still next b quiet step fine named flushed few fits =
       record {
         stepped = step;
@@ -79,11 +79,11 @@ module _ (u : Bool) (e : Event) (n : ℕ) (t : Tables) (old : Key → Option Pag
         line_is = quiet.line_is ∙ b.line_is;
       }
 
-  pub decided-quiet : n ≡ s.line + 1 → Begins n s m → Quiet m z → told w e s.report z.report ≡ None → unpaged w e ≡ done a v → (IsFailure a → ⊥) → NamedHere → Flushed v z.file_blocks e a → MadeAtMost (s.line + 1) after → Fits after new z → Decided u e n t old s a after new z
+  pub decided-quiet : n ≡ s.line + 1 → LineBegins n s m → Quiet m z → told w e s.report z.report ≡ None → unpaged w e ≡ done a v → (IsFailure a → ⊥) → NamedHere → FlushServed v z.file_blocks e a → MadeAtMost (s.line + 1) after → FitsTables after new z → Decided u e n t old s a after new z
   decided-quiet next b quiet none outcome = decided-still next b quiet (stepped-plain u w e s.report z.report a v none outcome)
 
   -- one whose call on the world has the outcome of its call on the tables
-  pub decided-call : (q : OutcomeOf (Unit {0})) → Keeps t old s → n ≡ s.line + 1 → Begins n s m → Quiet m z → AcrossBytes t (bytes_of old) q (unpaged w e) → Holds (Makes t) q → told w e s.report z.report ≡ None → NamedHere → Flushed v z.file_blocks e a → Called q t old a after new → Fits after new z → Decided u e n t old s a after new z
+  pub decided-call : (q : OutcomeOf (Unit {0})) → KeepsTables t old s → n ≡ s.line + 1 → LineBegins n s m → Quiet m z → AcrossBytes t (key_bytes old) q (unpaged w e) → Holds (Makes t) q → told w e s.report z.report ≡ None → NamedHere → FlushServed v z.file_blocks e a → Called q t old a after new → FitsTables after new z → Decided u e n t old s a after new z
   decided-call q keeps next b quiet across makes none named flushed called fits =
       let answers : q.answer ≡ a = ap (λ (q : OutcomeOf (Unit {0})). q.answer) called.outcome in
       let tables : q.world ≡ after = ap (λ (q : OutcomeOf (Unit {0})). q.world) called.outcome in
@@ -111,7 +111,7 @@ module _ (u : Bool) (e : Event) (n : ℕ) (t : Tables) (old : Key → Option Pag
   faulted-made false q k h h' outcome = subst (λ (t : Tables). MadeAtMost k t) (ap (λ (o : OutcomeOf (Unit {0})). o.world) outcome) h'
 
   -- a line that called devices
-  pub decided-served : n ≡ s.line + 1 → Begins n s m → z.line ≡ m.line → Served m z → Stepped u w e s.report z.report a v → (IsFailure a → SomeFailed m z) → NamedHere → Flushed v z.file_blocks e a → MadeAtMost (s.line + 1) after → Fits after new z → Decided u e n t old s a after new z
+  pub decided-served : n ≡ s.line + 1 → LineBegins n s m → z.line ≡ m.line → Served m z → Stepped u w e s.report z.report a v → (IsFailure a → SomeFailed m z) → NamedHere → FlushServed v z.file_blocks e a → MadeAtMost (s.line + 1) after → FitsTables after new z → Decided u e n t old s a after new z
   decided-served next b line_is served step failed named flushed few fits =
       record {
         stepped = step;
@@ -125,14 +125,14 @@ pub one-later : (t : Tables) (n : ℕ) → MadeAtMost n t → MadeAtMost (n + 1)
 one-later t n h = record { sections = omega (arith, h.sections); areas = omega (arith, h.areas); handles = λ pid p lives. omega (arith, h.handles pid p lives) }
 
 -- a line after which tables and bytes are those before
-pub decided-same : (u : Bool) (e : Event) (n : ℕ) (t : Tables) (old : Key → Option Page) (s m : StoreOf) (a : Answer) (after : Tables) (new : Key → Option Page) (z : StoreOf) → Keeps t old s → n ≡ s.line + 1 → Begins n s m → Quiet m z → after ≡ t → new ≡ old → told (world_with t (bytes_of old)) e s.report z.report ≡ None → unpaged (world_with t (bytes_of old)) e ≡ done a (world_with t (bytes_of old)) → (IsFailure a → ⊥) → Named u e a s.paging_device z.paging_device s.file_device z.file_device → Flushed (world_with after (bytes_of new)) z.file_blocks e a → Fits after new z → Decided u e n t old s a after new z
+pub decided-same : (u : Bool) (e : Event) (n : ℕ) (t : Tables) (old : Key → Option Page) (s m : StoreOf) (a : Answer) (after : Tables) (new : Key → Option Page) (z : StoreOf) → KeepsTables t old s → n ≡ s.line + 1 → LineBegins n s m → Quiet m z → after ≡ t → new ≡ old → told (world_with t (key_bytes old)) e s.report z.report ≡ None → unpaged (world_with t (key_bytes old)) e ≡ done a (world_with t (key_bytes old)) → (IsFailure a → ⊥) → Named u e a s.paging_device z.paging_device s.file_device z.file_device → FlushServed (world_with after (key_bytes new)) z.file_blocks e a → FitsTables after new z → Decided u e n t old s a after new z
 decided-same u e n t old s m a after new z keeps next b quiet tables contents none outcome fine named flushed fits =
     decided-quiet u e n t old s m a after new z next b quiet none
-    (outcome ∙ (λ i. done a (world_with (sym tables i) (bytes_of (sym contents i))))) fine named flushed
+    (outcome ∙ (λ i. done a (world_with (sym tables i) (key_bytes (sym contents i))))) fine named flushed
     (subst (λ (t : Tables). MadeAtMost (s.line + 1) t) (sym tables) (one-later t s.line keeps.few)) fits
 
 -- a line that the store began by itself
-pub begins-line : (n : ℕ) (k : LineKind) (s m : StoreOf) → m ≡ record s { line = n; kind = k; last_pid = pid_after s.last_pid k; ready = None; report = begun s.report } → Begins n s m
+pub begins-line : (n : ℕ) (k : LineKind) (s m : StoreOf) → m ≡ record s { line = n; kind = k; last_pid = pid_after s.last_pid k; ready = None; report = begun s.report } → LineBegins n s m
 begins-line n k s m e =
     record {
       line_is = ap (λ (s : StoreOf). s.line) e;

@@ -31,7 +31,7 @@ use Rattle.mm_pages.specs.Housekeeping.{Turn, Makes, Ends, AllTurn, Turned, Turn
 use Rattle.mm_pages.specs.Passing.{Passes, PassesIn, Notes, NotesIn}
 use Rattle.mm_pages.specs.Leaving.{Leaving, nothing}
 use Rattle.mm_paging.specs.Lines.{Does, with_line, ages_of_line, waits_of_line}
-use Rattle.mm_core.specs.Noting.{keeps_keys, Each, IsOneWay, Went, Tells, is_later, Halted}
+use Rattle.mm_core.specs.Noting.{keeps_keys, EachMove, IsOneWay, LineWent, TellsLine, is_later, Halted}
 use Rattle.mm_core.proofs.Begun.{paged, begun_with, went_then, noted_then, went_alone}
 use Rattle.mm_core.proofs.Turned.{makes_keep, ends_take, still}
 
@@ -47,30 +47,30 @@ each-err (Err e) f = f
 
 -- ---- moves that take no key away
 
-each_then : (test : Move → Bool) (xs ys : List Move) → Each test xs → Each test ys → Each test (xs ++ ys)
+each_then : (test : Move → Bool) (xs ys : List Move) → EachMove test xs → EachMove test ys → EachMove test (xs ++ ys)
 each_then test [] ys p q = q
 each_then test (x ∷ xs) ys p q = (p.0, each_then test xs ys p.1 q)
 
-cleared_keep : (fs : List ℕ) → Each keeps_keys (map (λ f. move.Clear (frame_of f)) fs)
+cleared_keep : (fs : List ℕ) → EachMove keeps_keys (map (λ f. move.Clear (frame_of f)) fs)
 cleared_keep [] = tt
 cleared_keep (f ∷ fs) = (refl, cleared_keep fs)
 
-pub clearings_keep : (n : ℕ) (l : FrameLife) → Each keeps_keys (clearings n l)
+pub clearings_keep : (n : ℕ) (l : FrameLife) → EachMove keeps_keys (clearings n l)
 clearings_keep n l = cleared_keep (take n l.frames.free)
 
-written_by : (b c : Bool) (xs ys : List Move) → Each keeps_keys xs → Each keeps_keys ys → Each keeps_keys (cond b (cond c xs ys) [])
+written_by : (b c : Bool) (xs ys : List Move) → EachMove keeps_keys xs → EachMove keeps_keys ys → EachMove keeps_keys (cond b (cond c xs ys) [])
 written_by true true xs ys p q = p
 written_by true false xs ys p q = q
 written_by false c xs ys p q = tt
 
-pub written_keep : (n : ℕ) (l : FrameLife) (fs : List ℕ) → Each keeps_keys (writes_begun n l fs)
+pub written_keep : (n : ℕ) (l : FrameLife) (fs : List ℕ) → EachMove keeps_keys (writes_begun n l fs)
 written_keep n l [] = tt
 written_keep n l (f ∷ fs) =
     let m = move.Write (frame_of f) (target (record_at l.frames f).backing l) in
     written_by _ (can_be_written l f) (m ∷ writes_begun (n - 1) (after_move l m) fs) (writes_begun n l fs)
     (refl, written_keep (n - 1) (after_move l m) fs) (written_keep n l fs)
 
-trimmed_keep : (pid : Pid) (w : Walk) (ms : List Move) → Through (TrimMove pid) w ms → Each keeps_keys ms
+trimmed_keep : (pid : Pid) (w : Walk) (ms : List Move) → Through (TrimMove pid) w ms → EachMove keeps_keys ms
 trimmed_keep pid w [] h = tt
 trimmed_keep pid w (move.Unmap p ∷ ms) h = (refl, trimmed_keep pid (walked w (move.Unmap p)) ms h.1)
 trimmed_keep pid w (_ ∷ ms) h = absurd h.0
@@ -94,43 +94,43 @@ end_keeps f m (inr e) = ap keeps_keys e
 write_keeps : (f : Frame) (m : Move) → IsWriteOf f m → keeps_keys m ≡ true
 write_keeps f m e = ap keeps_keys e.1
 
-none_keep : (ms : List Move) → ms ≡ [] → Each keeps_keys ms
-none_keep ms e = subst (Each keeps_keys) (sym e) tt
+none_keep : (ms : List Move) → ms ≡ [] → EachMove keeps_keys ms
+none_keep ms e = subst (EachMove keeps_keys) (sym e) tt
 
-written_now_keep : (f : Frame) (ms : List Move) → IsWrittenNow f ms → Each keeps_keys ms
+written_now_keep : (f : Frame) (ms : List Move) → IsWrittenNow f ms → EachMove keeps_keys ms
 written_now_keep f [] h = absurd h
 written_now_keep f (x ∷ []) h = absurd h
 written_now_keep f (x ∷ y ∷ []) h = (write_keeps f x h.0, (end_keeps f y h.1, tt))
 written_now_keep f (x ∷ y ∷ z ∷ ms) h = absurd h
 
-written_if_keep : (changed : Bool) (f : Frame) (ms : List Move) → IsWrittenIf changed f ms → Each keeps_keys ms
+written_if_keep : (changed : Bool) (f : Frame) (ms : List Move) → IsWrittenIf changed f ms → EachMove keeps_keys ms
 written_if_keep true f ms h = written_now_keep f ms h
 written_if_keep false f ms h = none_keep ms h
 
-ended_first_keep : (again : Bool) (f : Frame) (ms : List Move) → IsEndedFirst again f ms → Each keeps_keys ms
+ended_first_keep : (again : Bool) (f : Frame) (ms : List Move) → IsEndedFirst again f ms → EachMove keeps_keys ms
 ended_first_keep again f [] h = absurd h
 ended_first_keep again f (x ∷ ms) (inl h) = (ap keeps_keys h.0, written_if_keep again f ms h.1)
 ended_first_keep again f (x ∷ ms) (inr h) = (ap keeps_keys h.0, none_keep ms h.1)
 
-flush_keeps : (r : Request) (changed : Bool) (f : Frame) (ms : List Move) → FlushesBy r changed f ms → Each keeps_keys ms
+flush_keeps : (r : Request) (changed : Bool) (f : Frame) (ms : List Move) → FlushesBy r changed f ms → EachMove keeps_keys ms
 flush_keeps request.None changed f ms h = written_if_keep changed f ms h
 flush_keeps request.Read changed f ms h = written_if_keep changed f ms h
 flush_keeps request.Write changed f ms h = ended_first_keep false f ms h
 flush_keeps request.WriteAgain changed f ms h = ended_first_keep true f ms h
 
-flushed_keep : (l : FrameLife) (h : Held) (ms : List Move) → FlushedAt l h ms → Each keeps_keys ms
+flushed_keep : (l : FrameLife) (h : Held) (ms : List Move) → FlushedAt l h ms → EachMove keeps_keys ms
 flushed_keep l (held.Frame f) ms p = let r = record_at l.frames f.0 in flush_keeps r.request r.changed f ms p
 flushed_keep l (held.Slot s) ms p = none_keep ms p
 flushed_keep l (held.Block b) ms p = none_keep ms p
 flushed_keep l held.Zero ms p = none_keep ms p
 flushed_keep l held.Dead ms p = none_keep ms p
 
-flushing_keep : (l : FrameLife) (ks : List Key) (ms : List Move) → Flushing l ks ms → Each keeps_keys ms
+flushing_keep : (l : FrameLife) (ks : List Key) (ms : List Move) → Flushing l ks ms → EachMove keeps_keys ms
 flushing_keep l [] ms h = none_keep ms h
 flushing_keep l (k ∷ ks) ms h =
-    subst (Each keeps_keys) (sym h.1.1.0) (each_then keeps_keys h.0 h.1.0 (flushed_keep l (l.stands k) h.0 h.1.1.1) (by_end (ends_lost h.0) (λ e. none_keep h.1.0 (h.1.1.2 e)) (λ e. flushing_keep (life_through l h.0) ks h.1.0 (h.1.1.3 e))))
+    subst (EachMove keeps_keys) (sym h.1.1.0) (each_then keeps_keys h.0 h.1.0 (flushed_keep l (l.stands k) h.0 h.1.1.1) (by_end (ends_lost h.0) (λ e. none_keep h.1.0 (h.1.1.2 e)) (λ e. flushing_keep (life_through l h.0) ks h.1.0 (h.1.1.3 e))))
   where
-    by_end : (b : Bool) → (b ≡ true → Each keeps_keys h.1.0) → (b ≡ false → Each keeps_keys h.1.0) → Each keeps_keys h.1.0
+    by_end : (b : Bool) → (b ≡ true → EachMove keeps_keys h.1.0) → (b ≡ false → EachMove keeps_keys h.1.0) → EachMove keeps_keys h.1.0
     by_end true f g = f refl
     by_end false f g = g refl
 
@@ -146,13 +146,13 @@ module _ (n : ℕ) (k : LineKind) (e : Event) (w : World) (a : Answer) (v : Worl
 
   module _ (u : Bool) (s m z : StoreOf) (b y c : Behind) (plain : Plain e w a b) where
     abbrev There : List Move → Type 0
-    There ms = Tells n k e w a v z.report b ms c
+    There ms = TellsLine n k e w a v z.report b ms c
 
     abbrev Done : List Move → Type 0
     Done ms = Does w e a v z.report (with_line at b) ms c
 
     abbrev Noted : Type 0
-    Noted = u ≡ false → Went false at There s z b c
+    Noted = u ≡ false → LineWent false at There s z b c
 
     tells : (ms : List Move) → IsOneWay ms → Done ms → c.ages ≡ ages_through ms b.ages → c.waits ≡ waits_through ms b.waits → There ms
     tells ms way done ages waits = record {
@@ -189,10 +189,10 @@ module _ (n : ℕ) (k : LineKind) (e : Event) (w : World) (a : Answer) (v : Worl
         passed false e h = h
 
     -- moves that are known
-    pub marked_exactly : (known : Behind → List Move) → ((log : Log) → Each keeps_keys (known (begun_with n k log b))) → ((ms : List Move) (log : Log) → ms ≡ known (begun_with n k log b) → Done ms) → PassesIn u (OneMove at) s m b y → PassesIn u (λ x ms d. Exactly (known x) x ms d) m z y c → Noted
+    pub marked_exactly : (known : Behind → List Move) → ((log : Log) → EachMove keeps_keys (known (begun_with n k log b))) → ((ms : List Move) (log : Log) → ms ≡ known (begun_with n k log b) → Done ms) → PassesIn u (OneMove at) s m b y → PassesIn u (λ x ms d. Exactly (known x) x ms d) m z y c → Noted
     marked_exactly known keeps done p q paging =
         went_then n k (λ x ms d. Exactly (known x) x ms d) u s m z b y c There paging
-        (λ log ms h. tells ms (inl (subst (Each keeps_keys) (sym h.are) (keeps log))) (done ms log h.are) h.moved.ages h.moved.waits) p q
+        (λ log ms h. tells ms (inl (subst (EachMove keeps_keys) (sym h.are) (keeps log))) (done ms log h.are) h.moved.ages h.moved.waits) p q
 
     pub marked_trims : (pid : Pid) (count : ℕ) → ((ms : List Move) (log : Log) → Trims pid count (begun_with n k log b) ms c → Done ms) → PassesIn u (OneMove at) s m b y → PassesIn u (Trims pid count) m z y c → Noted
     marked_trims pid count done p q paging =
@@ -202,7 +202,7 @@ module _ (n : ℕ) (k : LineKind) (e : Event) (w : World) (a : Answer) (v : Worl
     pub marked_completes : (i : ℕ) (ok : Bool) → ((ms : List Move) (log : Log) → Completes i ok (begun_with n k log b) ms c → Done ms) → PassesIn u (OneMove at) s m b y → PassesIn u (Completes i ok) m z y c → Noted
     marked_completes i ok done p q paging =
         went_then n k (Completes i ok) u s m z b y c There paging
-        (λ log ms h. tells ms (inl (subst (Each keeps_keys) (sym h.one) (ending_keeps (record_at (begun_with n k log b).life.frames h.frame) (frame_of h.frame) ok, tt))) (done ms log h) h.moved.ages h.moved.waits) p q
+        (λ log ms h. tells ms (inl (subst (EachMove keeps_keys) (sym h.one) (ending_keeps (record_at (begun_with n k log b).life.frames h.frame) (frame_of h.frame) ok, tt))) (done ms log h) h.moved.ages h.moved.waits) p q
 
     pub marked_flushes : (keys : List Key) → ((ms : List Move) → Flushing (with_line at b).life keys ms → Done ms) → PassesIn u (OneMove at) s m b y → PassesIn u (Flushes keys) m z y c → Noted
     marked_flushes keys done p q paging =
@@ -218,9 +218,9 @@ module _ (n : ℕ) (k : LineKind) (e : Event) (w : World) (a : Answer) (v : Worl
         (ap (λ (x : Behind). x.waits) h.same ∙ ap (λ t. waits_through t b.waits) (sym h.none))) p q
 
   -- a line that makes no call
-  pub marked_alone : (u : Bool) (s z : StoreOf) (b c : Behind) → Plain e w a b → Does w e a v z.report (with_line at b) [] c → PassesIn u (OneMove at) s z b c → u ≡ false → Went false at (λ ms. Tells n k e w a v z.report b ms c) s z b c
+  pub marked_alone : (u : Bool) (s z : StoreOf) (b c : Behind) → Plain e w a b → Does w e a v z.report (with_line at b) [] c → PassesIn u (OneMove at) s z b c → u ≡ false → LineWent false at (λ ms. TellsLine n k e w a v z.report b ms c) s z b c
   marked_alone u s z b c plain done p paging =
-      went_alone n k u s z b c (λ ms. Tells n k e w a v z.report b ms c) paging
+      went_alone n k u s z b c (λ ms. TellsLine n k e w a v z.report b ms c) paging
       (λ log same. record {
         one_way = inl tt;
         does = done;
@@ -234,7 +234,7 @@ module _ (n : ℕ) (k : LineKind) (e : Event) (w : World) (a : Answer) (v : Worl
 abbrev Adds : Behind → Behind → List Move → Type 0
 Adds b c ms = AllTurn Makes ms × (c.slots ≡ b.slots)
 
-halted : (beside : Bool) (n : ℕ) (k : LineKind) (s z : StoreOf) (b c : Behind) → is_later k ≡ true → Went beside (move.At n k) (Adds b c) s z b c → Halted n b c
+halted : (beside : Bool) (n : ℕ) (k : LineKind) (s z : StoreOf) (b c : Behind) → is_later k ≡ true → LineWent beside (move.At n k) (Adds b c) s z b c → Halted n b c
 halted beside n k s z b c later h =
     record { piece = move.At n k ∷ h.moves; in_range = h.in_range; grew = h.grew; replays = h.replays; slots = h.that.1; cut = inr (k, (h.moves, (later, refl, h.that.0))) }
 

@@ -24,9 +24,9 @@ use Rattle.mm_pages.specs.Behind.{Behind}
 use Rattle.mm_pages.specs.Standing.{Stands, StandsIn}
 use Rattle.mm_paging.specs.Kinds.{kind_of_line, made_process, kind_of_growth, kept_kind, lives}
 use Rattle.mm_paging.specs.Lines.{Agrees, TurnsKeys, HoldsBeside, Noted, Broken}
-use Rattle.mm_tables.specs.Fits.{Fits, bytes_of, is_paging}
-use Rattle.mm_core.specs.Deciding.{Keeps}
-use Rattle.mm_core.specs.Noting.{is_later, IsOneWay, IsCut, Marked, MarkedIn, Halted, HaltedIn}
+use Rattle.mm_tables.specs.Fits.{FitsTables, key_bytes, is_paging}
+use Rattle.mm_core.specs.Deciding.{KeepsTables}
+use Rattle.mm_core.specs.Noting.{is_later, IsOneWay, IsCutLine, Marked, MarkedIn, Halted, HaltedIn}
 use Rattle.mm_core.proofs.Alike.{live-with, row_key-with, block_of-with}
 use Rattle.mm_types.proofs.Options.{some_found}
 use Rattle.mm_core.proofs.Turned.{keys_made, keys_gone, none_made}
@@ -105,40 +105,40 @@ pub stands : (u : Bool) (c : Key → Option Page) (s : StoreOf) (b : Behind) →
 stands true c s b e h = cc
 stands false c s b e h = h
 
-module _ (t : Tables) (c : Key → Option Page) (s : StoreOf) (b : Behind) (fits : Fits t c s) (h : Stands c s b) where
+module _ (t : Tables) (c : Key → Option Page) (s : StoreOf) (b : Behind) (fits : FitsTables t c s) (h : Stands c s b) where
   abbrev w : World
-  w = world_with t (bytes_of c)
+  w = world_with t (key_bytes c)
 
   lives_in : (k : Key) → is_live b.life k ≡ is_some (content_of w k)
-  lives_in k = h.live k ∙ fits.live k ∙ sym (live-with t (bytes_of c) k)
+  lives_in k = h.live k ∙ fits.live k ∙ sym (live-with t (key_bytes c) k)
 
   listed_in : (k : Key) → b.life.paging k ≡ true → is_some (content_of w k) ≡ true
   listed_in k e =
       let listed : is_paging t k ≡ true = sym (fits.paging k) ∙ sym (h.paging k) ∙ e in
-      live-with t (bytes_of c) k ∙ (parts (is_some (content_of t k)) (not (is_file_key t k)) listed).0
+      live-with t (key_bytes c) k ∙ (parts (is_some (content_of t k)) (not (is_file_key t k)) listed).0
 
   pub agrees : Agrees w s.report b
   agrees = record {
     keys = lives_in;
     places = λ p f valid.
         let k = some_found (s.names p) (h.valid p f valid) in
-        (k.0, (row_key-with t (bytes_of c) p ∙ fits.named p k.0 k.1, h.named p f valid ∙ k.1));
+        (k.0, (row_key-with t (key_bytes c) p ∙ fits.named p k.0 k.1, h.named p f valid ∙ k.1));
     counts = h.counts;
     whereabouts = h.whereabouts;
     waits = h.waits;
     machine = h.machine ∙ fits.machine;
     slots = h.slots ∙ ap (λ (m : MachineOf). m.slots) fits.machine;
-    blocks = λ k. sym (h.block k) ∙ fits.blocks k ∙ sym (block_of-with t (bytes_of c) k);
+    blocks = λ k. sym (h.block k) ∙ fits.blocks k ∙ sym (block_of-with t (key_bytes c) k);
   }
 
 -- ---- the line
 
-module _ (e : Event) (a : Answer) (t : Tables) (old : Key → Option Page) (s : StoreOf) (b : Behind) (after : Tables) (new : Key → Option Page) (z : StoreOf) (c : Behind) (fits : Fits t old s) (h : Stands old s b) (fits' : Fits after new z) (h' : Stands new z c) where
+module _ (e : Event) (a : Answer) (t : Tables) (old : Key → Option Page) (s : StoreOf) (b : Behind) (after : Tables) (new : Key → Option Page) (z : StoreOf) (c : Behind) (fits : FitsTables t old s) (h : Stands old s b) (fits' : FitsTables after new z) (h' : Stands new z c) where
   abbrev x : World
-  x = world_with t (bytes_of old)
+  x = world_with t (key_bytes old)
 
   abbrev v : World
-  v = world_with after (bytes_of new)
+  v = world_with after (key_bytes new)
 
   abbrev Here : Type 0
   Here = Noted x s.report b s.paging_device s.file_device s.file_blocks e a v z.report c z.paging_device z.file_device z.file_blocks
@@ -175,14 +175,14 @@ module _ (e : Event) (a : Answer) (t : Tables) (old : Key → Option Page) (s : 
   noted_by : (n : ℕ) → n ≡ s.line + 1 → Held → Marked e n x s b a v z c → Here
   noted_by n next beside m = noted_at beside (subst (λ (k : ℕ). Marked e k x s b a v z c) (next ∙ ap (λ l. l + 1) (sym h.line)) m)
 
-pub line-noted : (u : Bool) (e : Event) (n : ℕ) (t : Tables) (old : Key → Option Page) (s : StoreOf) (b : Behind) (a : Answer) (after : Tables) (new : Key → Option Page) (z : StoreOf) (c : Behind) → u ≡ false → n ≡ s.line + 1 → Fits t old s → Keeps after new z → StandsIn u old s b → StandsIn u new z c → HoldsBeside (world_with t (bytes_of old)) e a b.slots c.slots s.file_blocks z.file_blocks → MarkedIn u e n t old s b a after new z c → Noted (world_with t (bytes_of old)) s.report b s.paging_device s.file_device s.file_blocks e a (world_with after (bytes_of new)) z.report c z.paging_device z.file_device z.file_blocks
+pub line-noted : (u : Bool) (e : Event) (n : ℕ) (t : Tables) (old : Key → Option Page) (s : StoreOf) (b : Behind) (a : Answer) (after : Tables) (new : Key → Option Page) (z : StoreOf) (c : Behind) → u ≡ false → n ≡ s.line + 1 → FitsTables t old s → KeepsTables after new z → StandsIn u old s b → StandsIn u new z c → HoldsBeside (world_with t (key_bytes old)) e a b.slots c.slots s.file_blocks z.file_blocks → MarkedIn u e n t old s b a after new z c → Noted (world_with t (key_bytes old)) s.report b s.paging_device s.file_device s.file_blocks e a (world_with after (key_bytes new)) z.report c z.paging_device z.file_device z.file_blocks
 line-noted u e n t old s b a after new z c paging next fits keeps h h' beside m =
     noted_by e a t old s b after new z c fits (stands u old s b paging h) keeps.fits (stands u new z c paging h') n next beside (m paging)
 
 -- ---- a line that ran out of memory
 
 module _ (old new : Key → Option Page) (s z : StoreOf) (b c : Behind) (same : new ≡ old) (h : Stands old s b) (h' : Stands new z c) where
-  cut_short : (n : ℕ) (piece : List Move) → Replays piece b.life c.life → IsCut n piece → (piece ≡ []) ⊎ ((k : LineKind) × (piece ≡ move.At n k ∷ []))
+  cut_short : (n : ℕ) (piece : List Move) → Replays piece b.life c.life → IsCutLine n piece → (piece ≡ []) ⊎ ((k : LineKind) × (piece ≡ move.At n k ∷ []))
   cut_short n piece r (inl e) = inl e
   cut_short n piece r (inr (k, (ms, (later, is, makes)))) =
       let r' = subst (λ (xs : List Move). Replays xs b.life c.life) is r in

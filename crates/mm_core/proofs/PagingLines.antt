@@ -13,29 +13,29 @@ use Rattle.mm_world.specs.Step.{step, stepped, when}
 use Rattle.mm_world.specs.Contents.{Tables, world_with}
 use Rattle.mm_pages.specs.Store.{StoreOf, Ready}
 use Rattle.mm_pages.specs.Reports.{Served, SomeFailed, completed}
-use Rattle.mm_tables.specs.Fits.{Fits, bytes_of}
-use Rattle.mm_core.specs.Serving.{IsFailure, Named, Flushed}
+use Rattle.mm_tables.specs.Fits.{FitsTables, key_bytes}
+use Rattle.mm_core.specs.Serving.{IsFailure, Named, FlushServed}
 use Rattle.mm_core.specs.Stepping.{asks_frames}
-use Rattle.mm_core.specs.Deciding.{Keeps, Begins, Decided}
+use Rattle.mm_core.specs.Deciding.{KeepsTables, LineBegins, Decided}
 use Rattle.mm_core.proofs.Lines.{decided-served, one-later}
 use Rattle.mm_core.proofs.Fitting.{fits_fetched}
 
-module _ (u : Bool) (n : ℕ) (t : Tables) (c : Key → Option Page) (s m z : StoreOf) (d : Key → Option Page) (keeps : Keeps t c s) (next : n ≡ s.line + 1) (b : Begins n s m) (same : d ≡ c) where
+module _ (u : Bool) (n : ℕ) (t : Tables) (c : Key → Option Page) (s m z : StoreOf) (d : Key → Option Page) (keeps : KeepsTables t c s) (next : n ≡ s.line + 1) (b : LineBegins n s m) (same : d ≡ c) where
   abbrev w : World
-  w = world_with t (bytes_of c)
+  w = world_with t (key_bytes c)
 
-  pub told-line : (e : Event) (a : Answer) → asks_frames e ≡ true → step w e s.report z.report ≡ done a w → z.line ≡ m.line → Served m z → (IsFailure a → SomeFailed m z) → Named u e a s.paging_device z.paging_device s.file_device z.file_device → Flushed (world_with t (bytes_of d)) z.file_blocks e a → Fits t d z → Decided u e n t c s a t d z
+  pub told-line : (e : Event) (a : Answer) → asks_frames e ≡ true → step w e s.report z.report ≡ done a w → z.line ≡ m.line → Served m z → (IsFailure a → SomeFailed m z) → Named u e a s.paging_device z.paging_device s.file_device z.file_device → FlushServed (world_with t (key_bytes d)) z.file_blocks e a → FitsTables t d z → Decided u e n t c s a t d z
   told-line e a asks answer line_is served failed named flushed fits =
       decided-served u e n t c s m a t d z next b line_is served
       (record {
-        decided = answer ∙ (λ i. done a (world_with t (bytes_of (sym same i))));
+        decided = answer ∙ (λ i. done a (world_with t (key_bytes (sym same i))));
         told = λ never plain fine. let bad : true ≡ false = sym asks ∙ plain in cc;
       })
       failed named flushed (one-later t s.line keeps.few) fits
 
   -- of an `io` line, which changes nothing that the tables know
-  pub fits-completed : Fits t c m → Served m z → length z.file_blocks ≡ length m.file_blocks → z ≡ completed m z → Fits t d z
-  fits-completed f served stored store = subst (λ (c : Key → Option Page). Fits t c z) (sym same) (fits_fetched t c m f m.names z served stored (store ∙ ap (λ (r : Option Ready). record (completed m z) { ready = r }) (sym (ap (λ (s : StoreOf). s.ready) store))) f.named)
+  pub fits-completed : FitsTables t c m → Served m z → length z.file_blocks ≡ length m.file_blocks → z ≡ completed m z → FitsTables t d z
+  fits-completed f served stored store = subst (λ (c : Key → Option Page). FitsTables t c z) (sym same) (fits_fetched t c m f m.names z served stored (store ∙ ap (λ (r : Option Ready). record (completed m z) { ready = r }) (sym (ap (λ (s : StoreOf). s.ready) store))) f.named)
 
   io-answer : (i : ℕ) (few fails : Bool) (a : Answer) → nat_lt s.report.counts.requests i ≡ few → nat_lt 0 (failed_calls z.report) ≡ fails
       → stepped w (line.Io i) (cond few (Some answer.Nothing) (when fails answer.Fault)) ≡ done a w → step w (line.Io i) s.report z.report ≡ done a w

@@ -1,6 +1,6 @@
 -- What a line's function ensures of tables and store is the promise of a world over them.
 use Rattle.std.proofs.Common.{◌≡◌, ◌≤◌, ◌+◌, ℕ, Bool, true, false, Option, List, [], refl, sym, subst, inl, arith}
-use Rattle.std.specs.Prelude.{Result, Ok, Err, IfOk, OnErr}
+use Rattle.std.specs.Prelude.{Result, Ok, Err, OnOk, OnErr}
 use Rattle.mm_types.specs.declared.answers.Answer.{Answer}
 use Rattle.mm_types.specs.declared.events.Event.{Event}
 use Rattle.mm_types.specs.declared.events.Event.TheVariants as event
@@ -16,12 +16,12 @@ use Rattle.mm_pages.specs.Behind.{Behind}
 use Rattle.mm_pages.specs.Standing.{StandsIn}
 use Rattle.mm_pages.specs.Store.{StoreOf}
 use Rattle.mm_paging.specs.Lines.{Line, HoldsBeside, Noted}
-use Rattle.mm_tables.specs.Fits.{Fits, bytes_of}
+use Rattle.mm_tables.specs.Fits.{FitsTables, key_bytes}
 use Rattle.mm_tables.specs.References.{IsTidy}
 use Rattle.mm_core.specs.Deciding.{Decided, Idle}
 use Rattle.mm_core.specs.Forgetting.{EndsWaits}
 use Rattle.mm_core.specs.Noting.{MarkedIn, HaltedIn}
-use Rattle.mm_core.specs.Promise.{Scene, Sound, Notes, Decides, Breaks, scene_of}
+use Rattle.mm_core.specs.Promise.{Scene, StaysSound, NotesMoves, Decides, Breaks, scene_of}
 use Rattle.mm_core.specs.Serving.{AskedBeside}
 use Rattle.mm_core.proofs.Charged.{charge-with}
 use Rattle.mm_core.proofs.Noted.{line-noted, line-broken}
@@ -35,7 +35,7 @@ NotedIn u s e a z = u ≡ false → Noted s.world s.report s.behind s.paging s.f
 
 pub record Piece (u : Bool) (s : Scene) (e : Event) (a : Answer) (z : Scene) : Type 0 where
   pub moves : List Move
-  pub notes : u ≡ false → Notes s.behind moves z.behind
+  pub notes : u ≡ false → NotesMoves s.behind moves z.behind
   pub line : u ≡ false → Line s.world s.report s.behind s.paging s.files s.blocks e a moves z.world z.report z.behind z.paging z.files z.blocks
 
 no_way : true ≡ false → ⊥
@@ -74,15 +74,15 @@ module _ (u : Bool) (n : ℕ) (t : Tables) (old : Key → Option Page) (s : Stor
     pub tidy : IsTidy after
     pub within : charge after ≤ limit after
 
-  sound : Standing → Sound u before behind
+  sound : Standing → StaysSound u before behind
   sound h = record {
-    within = omega (arith, charge-with after (bytes_of new), h.within);
-    lives = subst (λ (t : Tables). IsTidy t) (sym (tables_back (bytes_of new) after)) h.tidy;
+    within = omega (arith, charge-with after (key_bytes new), h.within);
+    lives = subst (λ (t : Tables). IsTidy t) (sym (tables_back (key_bytes new) after)) h.tidy;
     unwaited_before = λ never tid. idle_in u old s b h.stands never tid;
     unwaited = λ never tid. idle_in u new z c h.stands_after never tid;
   }
 
-  pub decides : (e : Event) (a : Answer) → Fits t old s → Standing → Decided u e n t old s a after new z → EndsWaits t e a z.report → (u ≡ false → AskedBeside t.blocks_used e a s.paging_device z.paging_device s.file_device z.file_device s.file_blocks z.file_blocks × HoldsBeside (world_with t (bytes_of old)) e a b.slots c.slots s.file_blocks z.file_blocks) → MarkedIn u e n t old s b a after new z c → Decides u before e a behind
+  pub decides : (e : Event) (a : Answer) → FitsTables t old s → Standing → Decided u e n t old s a after new z → EndsWaits t e a z.report → (u ≡ false → AskedBeside t.blocks_used e a s.paging_device z.paging_device s.file_device z.file_device s.file_blocks z.file_blocks × HoldsBeside (world_with t (key_bytes old)) e a b.slots c.slots s.file_blocks z.file_blocks) → MarkedIn u e n t old s b a after new z c → Decides u before e a behind
   decides e a fits h d waits beside marked =
       let p = piece_in u before e a behind (λ paging. line-noted u e n t old s b a after new z c paging h.next fits d.keeps h.stands h.stands_after (beside paging).1 marked) in
       record {
@@ -101,7 +101,7 @@ module _ (u : Bool) (n : ℕ) (t : Tables) (old : Key → Option Page) (s : Stor
           paging_later = d.devices.paging_later;
           files_later = d.devices.files_later;
           flushed = d.flushed;
-          waits = waits_with t (bytes_of old) e a z.report waits;
+          waits = waits_with t (key_bytes old) e a z.report waits;
           line = p.line;
         };
       }
@@ -109,7 +109,7 @@ module _ (u : Bool) (n : ℕ) (t : Tables) (old : Key → Option Page) (s : Stor
   pub breaks : Standing → Idle t old s after new z → HaltedIn u n b c → Breaks u before behind
   breaks h i halted = record {
     sound = sound h;
-    world = λ j. world_with (i.tables j) (bytes_of (i.contents j));
+    world = λ j. world_with (i.tables j) (key_bytes (i.contents j));
     paging = i.paging;
     files = i.files;
     blocks = i.blocks;
@@ -119,9 +119,9 @@ module _ (u : Bool) (n : ℕ) (t : Tables) (old : Key → Option Page) (s : Stor
 -- ---- results
 
 -- what follows where a line was decided
-pub at-ok : {A E : Type 0} (P : A → Type 0) (r : Result A E) → ((a : A) → r ≡ Ok a → P a) → IfOk r P
-at-ok P (Ok a) h = h a refl
-at-ok P (Err x) h = tt
+pub at-ok : {A E : Type 0} {P : Type 0} (r : Result A E) → ((a : A) → r ≡ Ok a → P) → OnOk r P
+at-ok (Ok a) h = h a refl
+at-ok (Err x) h = tt
 
 -- and where memory ran out
 pub at-err : {A E : Type 0} {P : Type 0} (r : Result A E) → ((x : E) → r ≡ Err x → P) → OnErr r P

@@ -12,7 +12,7 @@ use Rattle.mm_world.specs.Contents.{Tables}
 use Rattle.mm_world.specs.WellFormed.{RowFits, RowsFit, Spaces}
 use Rattle.mm_world.proofs.Each.{each-at}
 use Rattle.mm_world.proofs.Finding.{found_stands, numbered_there, committed_is}
-use Rattle.mm_tables.specs.Fits.{owned_by, paging_count}
+use Rattle.mm_tables.specs.Fits.{owned_keys, paging_count}
 
 module _ {A : Type 0} (f g : A → ℕ) where
   sum-most : (xs : List A) → ((i : ℕ) (x : A) → slice_get xs i ≡ Some x → f x ≤ g x) → sum_by f xs ≤ sum_by g xs
@@ -61,7 +61,7 @@ numbered-of (y ∷ ys) zero x e = cc
 numbered-of (y ∷ ys) (suc i) x e = numbered-of ys i x e
 
 module _ (t : Tables) (spaces : Spaces t) where
-  process-most : (pid : ℕ) (p : Option (ProcessOf (Unit {0}))) → slice_get t.processes pid ≡ Some p → owned_by p ≤ process_charge p
+  process-most : (pid : ℕ) (p : Option (ProcessOf (Unit {0}))) → slice_get t.processes pid ≡ Some p → owned_keys p ≤ process_charge p
   process-most pid None there = omega arith
   process-most pid (Some p) there =
       let rows = (spaces pid p (numbered-of t.processes pid p there)).rows in
@@ -76,7 +76,7 @@ module _ (t : Tables) (spaces : Spaces t) where
       let rows = each-at RowsFit p.regions c.region.place r fits at in
       let region : owned_in r < region_charge r =
       sum-less owns (counts r.kind) r.rows (λ i row there. row-most r.kind row (each-at (RowFits r.kind) r.rows i row rows there)) (page - r.base) c.row h.row_there (row-less r.kind v c.row is none marked) in
-      let process : owned_by (Some p) < process_charge (Some p) =
+      let process : owned_keys (Some p) < process_charge (Some p) =
       sum-less owned_in region_charge p.regions (λ i r at. region-most r (each-at RowsFit p.regions i r fits at)) c.region.place r at region in
-      let processes = sum-less owned_by process_charge t.processes process-most pid (Some p) (numbered_there t.processes pid p lives) process in
+      let processes = sum-less owned_keys process_charge t.processes process-most pid (Some p) (numbered_there t.processes pid p lives) process in
       omega (arith, processes)

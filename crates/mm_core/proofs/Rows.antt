@@ -2,7 +2,7 @@
 use Rattle.std.proofs.Common.{◌≡◌, ℕ, true, false, Option, Some, None, refl, sym, ◌∙◌, ap, is_some, option_map}
 use Rattle.std.specs.Prelude.{option_and_then}
 use Rattle.mm_tables.specs.declared.looks.CommittedRow.{CommittedRow}
-use Rattle.mm_tables.specs.Looks.{told_row, committed_row}
+use Rattle.mm_tables.specs.Looks.{told_committed, committed_row}
 use Rattle.mm_world.specs.World.{ProcessOf}
 use Rattle.mm_world.specs.Find.{process_of}
 use Rattle.mm_world.specs.Keys.{Committed, committed_at}
@@ -31,16 +31,16 @@ gone-by t pid e = by_process (process_of t pid) e
 pub record IsTold (o : Option (Committed (Unit {0}))) (pid page : ℕ) (row : CommittedRow) : Type 0 where
   pub committed : Committed (Unit {0})
   pub there : o ≡ Some committed
-  pub is : told_row pid page committed ≡ row
+  pub is : told_committed pid page committed ≡ row
 
-row-in : (t : Tables) (pid page : ℕ) (p : ProcessOf (Unit {0})) → process_of t pid ≡ Some p → committed_row t pid page ≡ option_map (told_row pid page) (committed_at t p.regions page)
-row-in t pid page p lives = ap (λ p. option_and_then (λ (p : ProcessOf (Unit {0})). option_map (told_row pid page) (committed_at t p.regions page)) p) lives
+row-in : (t : Tables) (pid page : ℕ) (p : ProcessOf (Unit {0})) → process_of t pid ≡ Some p → committed_row t pid page ≡ option_map (told_committed pid page) (committed_at t p.regions page)
+row-in t pid page p lives = ap (λ p. option_and_then (λ (p : ProcessOf (Unit {0})). option_map (told_committed pid page) (committed_at t p.regions page)) p) lives
 
-told-by : (pid page : ℕ) (o : Option (Committed (Unit {0}))) (row : CommittedRow) → option_map (told_row pid page) o ≡ Some row → IsTold o pid page row
+told-by : (pid page : ℕ) (o : Option (Committed (Unit {0}))) (row : CommittedRow) → option_map (told_committed pid page) o ≡ Some row → IsTold o pid page row
 told-by pid page None row e = cc
 told-by pid page (Some c) row e = record { committed = c; there = refl; is = cc }
 
-none-by : (pid page : ℕ) (o : Option (Committed (Unit {0}))) → option_map (told_row pid page) o ≡ None → o ≡ None
+none-by : (pid page : ℕ) (o : Option (Committed (Unit {0}))) → option_map (told_committed pid page) o ≡ None → o ≡ None
 none-by pid page None e = refl
 none-by pid page (Some c) e = cc
 

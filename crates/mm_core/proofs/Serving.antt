@@ -10,9 +10,9 @@ use Rattle.mm_blocks.specs.Devices.{DeviceOf, Call, AllServed}
 use Rattle.mm_pages.specs.Tallies.{tallied}
 use Rattle.mm_pages.specs.Store.{StoreOf}
 use Rattle.mm_pages.specs.Reports.{Served, SomeFailed, rearranged}
-use Rattle.mm_tables.specs.Fits.{beside}
+use Rattle.mm_tables.specs.Fits.{store_beside}
 use Rattle.mm_core.specs.Serving.{IsFailure, FailedBefore, Named, OneFailed}
-use Rattle.mm_core.specs.Deciding.{Begins, Devices}
+use Rattle.mm_core.specs.Deciding.{LineBegins, Devices}
 
 -- ---- calls behind calls
 
@@ -32,7 +32,7 @@ pub record Quiet (m z : StoreOf) : Type 0 where
   pub report_is : z.report ≡ rearranged m.report z.report
   pub line_is : z.line ≡ m.line
 
-pub quiet-beside : (m z : StoreOf) → z ≡ beside m z → Quiet m z
+pub quiet-beside : (m z : StoreOf) → z ≡ store_beside m z → Quiet m z
 quiet-beside m z e =
     record {
       paging = ap (λ (s : StoreOf). s.paging_device) e;
@@ -74,7 +74,7 @@ served-quiet m z h =
 
 -- ---- a line
 
-pub devices-told : (u : Bool) (e : Event) (n : ℕ) (s m z : StoreOf) (a : Answer) → Begins n s m → Served m z → Named u e a s.paging_device z.paging_device s.file_device z.file_device → (IsFailure a → FailedBefore e s.report ⊎ SomeFailed m z) → Devices u e s z a
+pub devices-told : (u : Bool) (e : Event) (n : ℕ) (s m z : StoreOf) (a : Answer) → LineBegins n s m → Served m z → Named u e a s.paging_device z.paging_device s.file_device z.file_device → (IsFailure a → FailedBefore e s.report ⊎ SomeFailed m z) → Devices u e s z a
 devices-told u e n s m z a b h named failed =
     record {
       asked_files = λ plain.
@@ -101,9 +101,9 @@ devices-told u e n s m z a b h named failed =
       files_later = omega (arith, all-later h.file_calls m.file_device z.file_device h.files, ap (λ (d : DeviceOf). d.faults) b.files);
     }
 
-pub devices-served : (u : Bool) (e : Event) (n : ℕ) (s m z : StoreOf) (a : Answer) → Begins n s m → Served m z → Named u e a s.paging_device z.paging_device s.file_device z.file_device → (IsFailure a → SomeFailed m z) → Devices u e s z a
+pub devices-served : (u : Bool) (e : Event) (n : ℕ) (s m z : StoreOf) (a : Answer) → LineBegins n s m → Served m z → Named u e a s.paging_device z.paging_device s.file_device z.file_device → (IsFailure a → SomeFailed m z) → Devices u e s z a
 devices-served u e n s m z a b h named failed = devices-told u e n s m z a b h named (λ f. inr (failed f))
 
 -- where no device was called, the answer is no failure
-pub devices-quiet : (u : Bool) (e : Event) (n : ℕ) (s m z : StoreOf) (a : Answer) → Begins n s m → Quiet m z → Named u e a s.paging_device z.paging_device s.file_device z.file_device → (IsFailure a → ⊥) → Devices u e s z a
+pub devices-quiet : (u : Bool) (e : Event) (n : ℕ) (s m z : StoreOf) (a : Answer) → LineBegins n s m → Quiet m z → Named u e a s.paging_device z.paging_device s.file_device z.file_device → (IsFailure a → ⊥) → Devices u e s z a
 devices-quiet u e n s m z a b h named fine = devices-served u e n s m z a b (served-quiet m z h) named (λ f. absurd (fine f))

@@ -25,7 +25,7 @@ use Rattle.mm_pages.specs.declared.outcomes.Start.TheVariants as start
 use Rattle.mm_pages.proofs.Passed.{passes_then, waits_then, ages_then}
 use Rattle.mm_pages.proofs.Walking.{accesses_then}
 use Rattle.mm_paging.specs.Lines.{place_had}
-use Rattle.mm_core.specs.Answering.{Answers, Answered, MadeBy, WaitsBy}
+use Rattle.mm_core.specs.Answering.{AnswersAccess, Answered, MadeBy, WaitsBy}
 use Rattle.mm_core.proofs.Pieces.{passes_as}
 use Rattle.mm_core.proofs.AccessPieces.{count-then, idle_through, kind-through, restarted, thread-walk}
 
@@ -55,7 +55,7 @@ module _ (aim later : Option Aim) (a : Aim) (is : aim ≡ Some a) (l : FrameLife
   joined : (b c d : Behind) (xs ys : List Move) → Replays xs b.life c.life → Begun a tid b xs c → Followed later Ready r after c ys d → MadeBy aim tid r b (xs ++ ys) d
   joined b c d xs ys rep p q =
       let s = p.starts in
-      let answers : Answers second r after c ys d = subst (λ (x : Aim). Answers x r after c ys d) (same_aim later q.answered.aimed second q.answered.is again) q.answered.answers in
+      let answers : AnswersAccess second r after c ys d = subst (λ (x : Aim). AnswersAccess x r after c ys d) (same_aim later q.answered.aimed second q.answered.is again) q.answered.answers in
       let none : count_by is_read_move ys ≡ 0 = q.answered.calm ready in
       let thread : is_thread c.life.kind ≡ true = ap is_thread (kind-through a xs (walk_from b) c.life rep s.made.each) ∙ p.thread in
       let walk : walked_all (walk_from b) xs ≡ walk_from c = thread-walk a xs b c p.thread rep s.made.each s.ages in

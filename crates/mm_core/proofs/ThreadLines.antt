@@ -23,12 +23,12 @@ use Rattle.mm_world.specs.Contents.{Tables, world_with, process_with}
 use Rattle.mm_core.proofs.With.{process-with}
 use Rattle.mm_pages.specs.Store.{StoreOf}
 use Rattle.mm_pages.specs.Reports.{Served, SomeFailed}
-use Rattle.mm_tables.specs.Fits.{bytes_of}
-use Rattle.mm_core.specs.Serving.{IsFailure, Named, Flushed, FailedBefore}
+use Rattle.mm_tables.specs.Fits.{key_bytes}
+use Rattle.mm_core.specs.Serving.{IsFailure, Named, FlushServed, FailedBefore}
 use Rattle.mm_core.specs.Accessing.{Refuses}
-use Rattle.mm_core.specs.Pending.{Waits, Went, Permitted}
+use Rattle.mm_core.specs.Pending.{Waits, AccessMade, Permitted}
 use Rattle.mm_core.specs.Stepping.{Stepped}
-use Rattle.mm_core.specs.Deciding.{Keeps, Begins, Decided}
+use Rattle.mm_core.specs.Deciding.{KeepsTables, LineBegins, Decided}
 use Rattle.mm_core.proofs.Serving.{devices-told}
 use Rattle.mm_core.proofs.Lines.{stepped-plain}
 use Rattle.mm_core.proofs.AccessLines.{fine_access}
@@ -56,18 +56,18 @@ waits_by w (Some k) n why before after e p =
 not-failed : (o : OutcomeOf Page) (a : Answer) (v : World) → (IsFailure o.answer → ⊥) → o ≡ done a v → IsFailure a → ⊥
 not-failed o a v fine e f = fine (subst (λ (o : OutcomeOf Page). IsFailure o.answer) (sym e) f)
 
-module _ (u : Bool) (n : ℕ) (t : Tables) (old mid : Key → Option Page) (s m : StoreOf) (same : mid ≡ old) (b : Begins n s m) where
+module _ (u : Bool) (n : ℕ) (t : Tables) (old mid : Key → Option Page) (s m : StoreOf) (same : mid ≡ old) (b : LineBegins n s m) where
   abbrev w : World
-  w = world_with t (bytes_of mid)
+  w = world_with t (key_bytes mid)
 
   -- the reports before the line and once it has begun say the same of what has to wait
   began : (depth : ℕ) (need : Need) (z : StoreOf) (o : Option Why) → pending depth need m.report z.report ≡ o → pending depth need s.report z.report ≡ o
   began depth need z o p = subst (λ (r : Report). pending depth need r z.report ≡ o) b.report_is p
 
-  thread-line : (e : Event) (a : Answer) (after : Tables) (new : Key → Option Page) (z : StoreOf) → Keeps after new z → z.line ≡ m.line → Stepped u w e s.report z.report a (world_with after (bytes_of new)) → Served m z → (IsFailure a → FailedBefore e s.report ⊎ SomeFailed m z) → Named u e a s.paging_device z.paging_device s.file_device z.file_device → Flushed (world_with after (bytes_of new)) z.file_blocks e a → Decided u e n t old s a after new z
+  thread-line : (e : Event) (a : Answer) (after : Tables) (new : Key → Option Page) (z : StoreOf) → KeepsTables after new z → z.line ≡ m.line → Stepped u w e s.report z.report a (world_with after (key_bytes new)) → Served m z → (IsFailure a → FailedBefore e s.report ⊎ SomeFailed m z) → Named u e a s.paging_device z.paging_device s.file_device z.file_device → FlushServed (world_with after (key_bytes new)) z.file_blocks e a → Decided u e n t old s a after new z
   thread-line e a after new z keeps line_is step served failed named flushed =
       record {
-        stepped = subst (λ (c : Key → Option Page). Stepped u (world_with t (bytes_of c)) e s.report z.report a (world_with after (bytes_of new))) same step;
+        stepped = subst (λ (c : Key → Option Page). Stepped u (world_with t (key_bytes c)) e s.report z.report a (world_with after (key_bytes new))) same step;
         devices = devices-told u e n s m z a b served named failed;
         flushed = flushed;
         keeps = keeps;
@@ -84,10 +84,10 @@ module _ (u : Bool) (n : ℕ) (t : Tables) (old mid : Key → Option Page) (s m 
     later p = cond (is_some (kept_by w tid.0)) (done answer.Busy w) (access w pid.0 (address_in what) (attempt_in what))
 
     begin-lives : Lives t pid.0 → unpaged w e ≡ cond (is_some (kept_by w tid.0)) (done answer.Busy w) (access w pid.0 (address_in what) (attempt_in what))
-    begin-lives l = ap (λ p. find_or w code.InvalidHandle p later) (process-with (bytes_of mid) t pid.0 ∙ ap (option_map (process_with (bytes_of mid) pid.0)) l.lives)
+    begin-lives l = ap (λ p. find_or w code.InvalidHandle p later) (process-with (key_bytes mid) t pid.0 ∙ ap (option_map (process_with (key_bytes mid) pid.0)) l.lives)
 
     begin-gone : process_of t pid.0 ≡ None → unpaged w e ≡ done (answer.Error code.InvalidHandle) w
-    begin-gone gone = ap (λ p. find_or w code.InvalidHandle p later) (process-with (bytes_of mid) t pid.0 ∙ ap (option_map (process_with (bytes_of mid) pid.0)) gone)
+    begin-gone gone = ap (λ p. find_or w code.InvalidHandle p later) (process-with (key_bytes mid) t pid.0 ∙ ap (option_map (process_with (key_bytes mid) pid.0)) gone)
 
     tells-none : (z : StoreOf) → need_at w pid.0 (address_in what) (attempt_in what) ≡ None → told w e s.report z.report ≡ None
     tells-none z none = none_either (is_some (kept_by w tid.0)) _ (waits_none w (need_at w pid.0 (address_in what) (attempt_in what)) s.report z.report none)
@@ -96,19 +96,19 @@ module _ (u : Bool) (n : ℕ) (t : Tables) (old mid : Key → Option Page) (s m 
     busy-told z true o e = refl
     busy-told z false o e = cc
 
-    pub begin-nobody : Keeps t mid m → Served m m → process_of t pid.0 ≡ None → Refuses w pid.0 (address_in what) (attempt_in what) (answer.Error code.InvalidHandle) w → Decided u e n t old s (answer.Error code.InvalidHandle) t mid m
+    pub begin-nobody : KeepsTables t mid m → Served m m → process_of t pid.0 ≡ None → Refuses w pid.0 (address_in what) (attempt_in what) (answer.Error code.InvalidHandle) w → Decided u e n t old s (answer.Error code.InvalidHandle) t mid m
     begin-nobody keeps served gone h =
         thread-line e (answer.Error code.InvalidHandle) t mid m keeps refl (stepped-plain u w e s.report m.report _ w (tells-none m h.needless) (begin-gone gone)) served (λ f. absurd f) tt tt
 
-    pub begin-busy : Keeps t mid m → Served m m → Lives t pid.0 → is_some (kept_by t tid.0) ≡ true → Decided u e n t old s answer.Busy t mid m
+    pub begin-busy : KeepsTables t mid m → Served m m → Lives t pid.0 → is_some (kept_by t tid.0) ≡ true → Decided u e n t old s answer.Busy t mid m
     begin-busy keeps served l kept =
         thread-line e answer.Busy t mid m keeps refl
         (stepped-plain u w e s.report m.report answer.Busy w (busy-told m (is_some (kept_by t tid.0)) _ kept) (begin-lives l ∙ ap (λ b. cond b (done answer.Busy w) (access w pid.0 (address_in what) (attempt_in what))) kept))
         served (λ f. absurd f) tt tt
 
-    module _ (l : Lives t pid.0) (free : is_some (kept_by t tid.0) ≡ false) (after : Tables) (new : Key → Option Page) (z : StoreOf) (keeps : Keeps after new z) (line_is : z.line ≡ m.line) where
+    module _ (l : Lives t pid.0) (free : is_some (kept_by t tid.0) ≡ false) (after : Tables) (new : Key → Option Page) (z : StoreOf) (keeps : KeepsTables after new z) (line_is : z.line ≡ m.line) where
       abbrev v : World
-      v = world_with after (bytes_of new)
+      v = world_with after (key_bytes new)
 
       accessed : unpaged w e ≡ access w pid.0 (address_in what) (attempt_in what)
       accessed = begin-lives l ∙ none_kept (is_some (kept_by t tid.0)) _ _ free
@@ -121,7 +121,7 @@ module _ (u : Bool) (n : ℕ) (t : Tables) (old mid : Key → Option Page) (s m 
           thread-line e a after new z keeps line_is (stepped-plain u w e s.report z.report a v (tells-none z h.needless) (accessed ∙ h.outcome)) served
           (λ f. absurd (not-failed (access w pid.0 (address_in what) (attempt_in what)) a v (fine_access w pid.0 (address_in what) (attempt_in what)).it.fine h.outcome f)) tt tt
 
-      pub begin-made : (a : Answer) → Went w.machine.depth w pid.0 (address_in what) (attempt_in what) m z a v → Decided u e n t old s a after new z
+      pub begin-made : (a : Answer) → AccessMade w.machine.depth w pid.0 (address_in what) (attempt_in what) m z a v → Decided u e n t old s a after new z
       begin-made a h =
           thread-line e a after new z keeps line_is
           (stepped-plain u w e s.report z.report a v (tells ∙ waits_by w _ h.need None s.report z.report h.needs (began w.machine.depth h.need z None h.ready)) (accessed ∙ h.outcome)) h.served
@@ -141,14 +141,14 @@ module _ (u : Bool) (n : ℕ) (t : Tables) (old mid : Key → Option Page) (s m 
     abbrev f : Event
     f = line.Resume tid
 
-    pub resume-nothing : (new : Key → Option Page) (z : StoreOf) → Keeps t new z → z.line ≡ m.line → Served m z → new ≡ mid → kept_by t tid.0 ≡ None → Decided u f n t old s answer.Nothing t new z
+    pub resume-nothing : (new : Key → Option Page) (z : StoreOf) → KeepsTables t new z → z.line ≡ m.line → Served m z → new ≡ mid → kept_by t tid.0 ≡ None → Decided u f n t old s answer.Nothing t new z
     resume-nothing new z keeps line_is served kept_bytes none =
         thread-line f answer.Nothing t new z keeps line_is
-        (stepped-plain u w f s.report z.report answer.Nothing (world_with t (bytes_of new)) (ap (λ k. resume_told w tid.0 k s.report z.report) none)
-        (ap (resume w tid.0) none ∙ ap (λ (c : Key → Option Page). done answer.Nothing (world_with t (bytes_of c))) (sym kept_bytes)))
+        (stepped-plain u w f s.report z.report answer.Nothing (world_with t (key_bytes new)) (ap (λ k. resume_told w tid.0 k s.report z.report) none)
+        (ap (resume w tid.0) none ∙ ap (λ (c : Key → Option Page). done answer.Nothing (world_with t (key_bytes c))) (sym kept_bytes)))
         served (λ f. absurd f) tt tt
 
-    module _ (k : KeptOf) (kept : kept_by t tid.0 ≡ Some k) (after : Tables) (new : Key → Option Page) (z : StoreOf) (keeps : Keeps after new z) (line_is : z.line ≡ m.line) where
+    module _ (k : KeptOf) (kept : kept_by t tid.0 ≡ Some k) (after : Tables) (new : Key → Option Page) (z : StoreOf) (keeps : KeepsTables after new z) (line_is : z.line ≡ m.line) where
       abbrev at : ℕ
       at = address_in k.access
 
@@ -156,7 +156,7 @@ module _ (u : Bool) (n : ℕ) (t : Tables) (old mid : Key → Option Page) (s m 
       does = attempt_in k.access
 
       abbrev x : World
-      x = world_with after (bytes_of new)
+      x = world_with after (key_bytes new)
 
       resumed : unpaged w f ≡ done (access w k.pid at does).answer (keep (access w k.pid at does).world tid.0 None)
       resumed = ap (resume w tid.0) kept
@@ -180,7 +180,7 @@ module _ (u : Bool) (n : ℕ) (t : Tables) (old mid : Key → Option Page) (s m 
           (stepped-plain u w f s.report z.report a x (by-need None _ None refl h.needless refl) (ended a y h.outcome is)) served
           (λ g. absurd (not-failed (access w k.pid at does) a y (fine_access w k.pid at does).it.fine h.outcome g)) tt tt
 
-      pub resume-made : (a : Answer) (y : World) → wait_failed (m.report.wait tid.0) ≡ false → Went w.machine.depth w k.pid at does m z a y → x ≡ keep y tid.0 None → Decided u f n t old s a after new z
+      pub resume-made : (a : Answer) (y : World) → wait_failed (m.report.wait tid.0) ≡ false → AccessMade w.machine.depth w k.pid at does m z a y → x ≡ keep y tid.0 None → Decided u f n t old s a after new z
       resume-made a y fine h is =
           thread-line f a after new z keeps line_is
           (stepped-plain u w f s.report z.report a x

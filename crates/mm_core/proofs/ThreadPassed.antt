@@ -31,7 +31,7 @@ use Rattle.mm_pages.specs.Passing.{PassesIn}
 use Rattle.mm_pages.proofs.Passed.{passes_then}
 use Rattle.mm_paging.specs.Kinds.{kind_of_line, aim_of, aim_at, aim_kept, kept_kind}
 use Rattle.mm_paging.specs.Lines.{awaited, is_pending_read, wait_of_begin}
-use Rattle.mm_tables.specs.Fits.{bytes_of}
+use Rattle.mm_tables.specs.Fits.{key_bytes}
 use Rattle.mm_core.specs.Answering.{MadeBy, WaitsBy, WentBy, RefusedBy, FailedBy, TurnedBy, aim_in}
 use Rattle.mm_core.specs.Over.{PassesOver, aim_over}
 use Rattle.mm_pages.specs.declared.pages.Pages.{Ghosts as PagesGhosts}
@@ -51,7 +51,7 @@ idle_either false = refl
 
 module _ (u : Bool) (tid : Tid) (pid : Pid) (what : AccessSpec) (n : ℕ) (t : Tables) (old mid : Key → Option Page) (same : mid ≡ old) (s m : StoreOf) (b y : Behind) (busy lived : Bool) (kept : busy ≡ is_some (kept_by t tid.0)) (lives : lived ≡ is_some (process_of t pid.0)) (began : PassesIn u (OneMove (move.At n (cond busy kind.Call (cond lived (kind.Thread pid) kind.Call)))) s m b y) where
   abbrev w : World
-  w = world_with t (bytes_of old)
+  w = world_with t (key_bytes old)
 
   abbrev e : Event
   e = line.Begin tid pid what
@@ -63,7 +63,7 @@ module _ (u : Bool) (tid : Tid) (pid : Pid) (what : AccessSpec) (n : ℕ) (t : T
   does = attempt_in what
 
   begins : (r : Answer) → PassesIn u (OneMove (move.At n (kind_of_line w e r))) s m b y
-  begins r = subst (λ (k : LineKind). PassesIn u (OneMove (move.At n k)) s m b y) (λ i. cond (kept i) kind.Call (kind-lives t (bytes_of old) pid (kind.Thread pid) lived lives i)) began
+  begins r = subst (λ (k : LineKind). PassesIn u (OneMove (move.At n k)) s m b y) (λ i. cond (kept i) kind.Call (kind-lives t (key_bytes old) pid (kind.Thread pid) lived lives i)) began
 
   begin-none : (r : Answer) (v : World) → ((l : FrameLife) → aim_of w l e ≡ None) → PassesIn u (Lined w e n r v m.report) s m b y
   begin-none r v needless =
@@ -75,15 +75,15 @@ module _ (u : Bool) (tid : Tid) (pid : Pid) (what : AccessSpec) (n : ℕ) (t : T
   either_none false o h = h
 
   -- the access is refused, or there is no process
-  pub begin-refused-passes : (r : Answer) (v : World) → need_at (world_with t (bytes_of mid)) pid.0 addr does ≡ None → PassesIn u (Lined w e n r v m.report) s m b y
+  pub begin-refused-passes : (r : Answer) (v : World) → need_at (world_with t (key_bytes mid)) pid.0 addr does ≡ None → PassesIn u (Lined w e n r v m.report) s m b y
   begin-refused-passes r v needless =
-      let none : need_at w pid.0 addr does ≡ None = ap (λ (c : Key → Option Page). need_at (world_with t (bytes_of c)) pid.0 addr does) (sym same) ∙ needless in
+      let none : need_at w pid.0 addr does ≡ None = ap (λ (c : Key → Option Page). need_at (world_with t (key_bytes c)) pid.0 addr does) (sym same) ∙ needless in
       begin-none r v (λ l. either_none (is_some (kept_by t tid.0)) (aim_at w l pid addr does) (aim-needless w l pid addr does none))
 
   -- the access is refused by its row
-  pub begin-turned-passes : (r : Answer) (v : World) (z : StoreOf) (c : Behind) → need_at (world_with t (bytes_of mid)) pid.0 addr does ≡ None → PassesIn u (RefusedBy (aim_in t mid y pid addr does)) m z y c → PassesIn u (Lined w e n r v z.report) s z b c
+  pub begin-turned-passes : (r : Answer) (v : World) (z : StoreOf) (c : Behind) → need_at (world_with t (key_bytes mid)) pid.0 addr does ≡ None → PassesIn u (RefusedBy (aim_in t mid y pid addr does)) m z y c → PassesIn u (Lined w e n r v z.report) s z b c
   begin-turned-passes r v z c needless p =
-      let none : need_at w pid.0 addr does ≡ None = ap (λ (c : Key → Option Page). need_at (world_with t (bytes_of c)) pid.0 addr does) (sym same) ∙ needless in
+      let none : need_at w pid.0 addr does ≡ None = ap (λ (c : Key → Option Page). need_at (world_with t (key_bytes c)) pid.0 addr does) (sym same) ∙ needless in
       let aims : (l : FrameLife) → aim_of w l e ≡ None = λ l. either_none (is_some (kept_by t tid.0)) (aim_at w l pid addr does) (aim-needless w l pid addr does none) in
       none_line u false w e n r v s z b c (λ b c h. h) (λ b. refl) aims
       (λ b f l. ap (λ (o : Option Aim). λ x. wait_of_begin o tid.0 r f l x) (aims b.life))
@@ -116,7 +116,7 @@ module _ (u : Bool) (tid : Tid) (pid : Pid) (what : AccessSpec) (n : ℕ) (t : T
 
 module _ (u : Bool) (tid : Tid) (n : ℕ) (t : Tables) (old mid : Key → Option Page) (same : mid ≡ old) (s m : StoreOf) (b y : Behind) where
   abbrev x : World
-  x = world_with t (bytes_of old)
+  x = world_with t (key_bytes old)
 
   abbrev f : Event
   f = line.Resume tid
@@ -175,17 +175,17 @@ module _ (u : Bool) (tid : Tid) (n : ℕ) (t : Tables) (old mid : Key → Option
           (moved (λ aim. MadeBy aim tid.0 r) z' c' p) forgot)
 
       -- it is refused
-      pub resume-refused-passes : (r : Answer) → need_at (world_with t (bytes_of mid)) k.pid at tries ≡ None → PassesIn u (RefusedBy (aim_in t mid y pid at tries)) m z' y c' → PassesIn u (Lined x f n r v z.report) s z b c
+      pub resume-refused-passes : (r : Answer) → need_at (world_with t (key_bytes mid)) k.pid at tries ≡ None → PassesIn u (RefusedBy (aim_in t mid y pid at tries)) m z' y c' → PassesIn u (Lined x f n r v z.report) s z b c
       resume-refused-passes r needless p =
-          let none : need_at x k.pid at tries ≡ None = ap (λ (c : Key → Option Page). need_at (world_with t (bytes_of c)) k.pid at tries) (sym same) ∙ needless in
+          let none : need_at x k.pid at tries ≡ None = ap (λ (c : Key → Option Page). need_at (world_with t (key_bytes c)) k.pid at tries) (sym same) ∙ needless in
           resume-still r v z' z c' c (λ l. aims l ∙ aim-needless x l pid at tries none)
           (begun_still u (move.At n (kind_of_line x f r)) (RefusedBy (aim_in t mid y pid at tries)) s m z' b y c' (λ b ms c h. h.still) (begun r) p) forgot
 
       -- the read that its thread waited for has failed
-      pub resume-failed-passes : Permitted (world_with t (bytes_of mid)) k.pid at tries → PassesIn u (FailedBy (aim_in t mid y pid at tries)) m z' y c' → PassesIn u (Lined x f n (answer.Raised raise.InPageError) v z.report) s z b c
+      pub resume-failed-passes : Permitted (world_with t (key_bytes mid)) k.pid at tries → PassesIn u (FailedBy (aim_in t mid y pid at tries)) m z' y c' → PassesIn u (Lined x f n (answer.Raised raise.InPageError) v z.report) s z b c
       resume-failed-passes h p =
           let r : Answer = answer.Raised raise.InPageError in
-          let needs : need_at x k.pid at tries ≡ Some h.need = ap (λ (c : Key → Option Page). need_at (world_with t (bytes_of c)) k.pid at tries) (sym same) ∙ h.needs in
+          let needs : need_at x k.pid at tries ≡ Some h.need = ap (λ (c : Key → Option Page). need_at (world_with t (key_bytes c)) k.pid at tries) (sym same) ∙ h.needs in
           failed_line u x f n v s z' z b c' c r pid at tries tid.0 (access r v z.report) (awaits r) refl refl (λ l. ap is_some (aim-needs x l pid at tries h.need needs))
           (begun_still u (move.At n (kind_of_line x f r)) (FailedBy (aim_in t mid y pid at tries)) s m z' b y c' (λ b ms c h. h.still) (begun r) p) forgot
 

@@ -27,7 +27,7 @@ use Rattle.mm_pages.specs.Housekeeping.{Makes, MakesStack, Ends, AllTurn, Turns,
 use Rattle.mm_pages.specs.Leaving.{Leaving, nothing}
 use Rattle.mm_pages.specs.Passing.{Passes}
 use Rattle.mm_paging.specs.Lines.{TurnsOne, TurnsKeys}
-use Rattle.mm_core.specs.Noting.{keeps_keys, takes_away, Each}
+use Rattle.mm_core.specs.Noting.{keeps_keys, takes_away, EachMove}
 use Rattle.mm_life.proofs.Held.{home_lives}
 
 same_again : (k : Key) → same_key k k ≡ true
@@ -76,7 +76,7 @@ keeps_live l (move.Write g s) q e f = write_keeps l g s q ∙ f
 keeps_live l (move.Wrote g) q e f = f
 keeps_live l (move.Lost g) q e f = f
 
-lives_on : (ms : List Move) (l m : FrameLife) → Replays ms l m → Each keeps_keys ms → (q : Key) → is_live l q ≡ true → is_live m q ≡ true
+lives_on : (ms : List Move) (l m : FrameLife) → Replays ms l m → EachMove keeps_keys ms → (q : Key) → is_live l q ≡ true → is_live m q ≡ true
 lives_on [] l m e a q f = ap (λ (x : FrameLife). is_live x q) e ∙ f
 lives_on (x ∷ ms) l m r a q f = lives_on ms (after_move l x) m r.1 a.1 q (keeps_live l x q a.0 f)
 
@@ -91,7 +91,7 @@ dead_before l k None ms m r = not_left (is_live l k) _ _ r.0
 dead_before l k (Some b) ms m r = not_third (is_call l.kind) (is_shared k) (is_live l k) _ _ r.0
 
 module _ (w v : World) (o : FrameLife) (m : FrameLife) (before : (k : Key) → is_live o k ≡ is_some (content_of w k)) (after : (k : Key) → is_live m k ≡ is_some (content_of v k)) where
-  made_one : (x : Move) (ms : List Move) (l : FrameLife) → ((q : Key) → is_live o q ≡ true → is_live l q ≡ true) → Replays (x ∷ ms) l m → Each keeps_keys (x ∷ ms) → TurnsOne w v x
+  made_one : (x : Move) (ms : List Move) (l : FrameLife) → ((q : Key) → is_live o q ≡ true → is_live l q ≡ true) → Replays (x ∷ ms) l m → EachMove keeps_keys (x ∷ ms) → TurnsOne w v x
   made_one (move.At n k) ms l h r a = tt
   made_one (move.Add k b) ms l h r a = (
     none_of (content_of w k) (sym (before k) ∙ not_then (is_live o k) (is_live l k) (h k) (dead_before l k b ms m r)),
@@ -111,12 +111,12 @@ module _ (w v : World) (o : FrameLife) (m : FrameLife) (before : (k : Key) → i
   made_one (move.Wrote f) ms l h r a = tt
   made_one (move.Lost f) ms l h r a = tt
 
-  all_made : (ms : List Move) (l : FrameLife) → ((q : Key) → is_live o q ≡ true → is_live l q ≡ true) → Replays ms l m → Each keeps_keys ms → TurnsKeys w v ms
+  all_made : (ms : List Move) (l : FrameLife) → ((q : Key) → is_live o q ≡ true → is_live l q ≡ true) → Replays ms l m → EachMove keeps_keys ms → TurnsKeys w v ms
   all_made [] l h r a = tt
   all_made (x ∷ ms) l h r a = (made_one x ms l h r a, all_made ms (after_move l x) (λ q f. keeps_live l x q a.0 (h q f)) r.1 a.1)
 
   -- where no key goes
-  pub keys_made : (ms : List Move) → Replays ms o m → Each keeps_keys ms → TurnsKeys w v ms
+  pub keys_made : (ms : List Move) → Replays ms o m → EachMove keeps_keys ms → TurnsKeys w v ms
   keys_made ms r a = all_made ms o (λ q f. f) r a
 
 -- ---- a key that goes
@@ -164,7 +164,7 @@ away_paging l (move.Unmap p) q e f = sym (unmap_paging (l.valid p) l p q) ∙ f
 away_paging l (move.Drop k) q e f = dropped_paging (l.stands k) l k q f
 away_paging l _ q e f = cc
 
-stays_dead : (ms : List Move) (l m : FrameLife) → Replays ms l m → Each takes_away ms → (q : Key) → is_live l q ≡ false → is_live m q ≡ false
+stays_dead : (ms : List Move) (l m : FrameLife) → Replays ms l m → EachMove takes_away ms → (q : Key) → is_live l q ≡ false → is_live m q ≡ false
 stays_dead [] l m e a q f = ap (λ (x : FrameLife). is_live x q) e ∙ f
 stays_dead (x ∷ ms) l m r a q f = stays_dead ms (after_move l x) m r.1 a.1 q (away_dead l x q a.0 f)
 
@@ -177,7 +177,7 @@ listed_before : (l : FrameLife) (k : Key) (ms : List Move) (m : FrameLife) → R
 listed_before l k ms m r = middle (is_call l.kind || is_unbind l.kind) (l.paging k) (is_unmapped l (l.stands k)) r.0
 
 module _ (w v : World) (o : FrameLife) (m : FrameLife) (before : (k : Key) → o.paging k ≡ true → is_some (content_of w k) ≡ true) (after : (k : Key) → is_live m k ≡ is_some (content_of v k)) where
-  gone_one : (x : Move) (ms : List Move) (l : FrameLife) → ((q : Key) → l.paging q ≡ true → o.paging q ≡ true) → Replays (x ∷ ms) l m → Each takes_away (x ∷ ms) → TurnsOne w v x
+  gone_one : (x : Move) (ms : List Move) (l : FrameLife) → ((q : Key) → l.paging q ≡ true → o.paging q ≡ true) → Replays (x ∷ ms) l m → EachMove takes_away (x ∷ ms) → TurnsOne w v x
   gone_one (move.Drop k) ms l h r a = (
     before k (h k (listed_before l k ms m r)),
     none_of (content_of v k) (sym (after k) ∙ stays_dead ms (dropped_at (l.stands k) l k) m r.1 a.1 k (dropped_dies (l.stands k) l k)),
@@ -185,17 +185,17 @@ module _ (w v : World) (o : FrameLife) (m : FrameLife) (before : (k : Key) → o
   gone_one (move.Unmap p) ms l h r a = tt
   gone_one _ ms l h r a = let bad = a.0 in cc
 
-  all_gone : (ms : List Move) (l : FrameLife) → ((q : Key) → l.paging q ≡ true → o.paging q ≡ true) → Replays ms l m → Each takes_away ms → TurnsKeys w v ms
+  all_gone : (ms : List Move) (l : FrameLife) → ((q : Key) → l.paging q ≡ true → o.paging q ≡ true) → Replays ms l m → EachMove takes_away ms → TurnsKeys w v ms
   all_gone [] l h r a = tt
   all_gone (x ∷ ms) l h r a = (gone_one x ms l h r a, all_gone ms (after_move l x) (λ q f. h q (away_paging l x q a.0 f)) r.1 a.1)
 
   -- where none comes to be
-  pub keys_gone : (ms : List Move) → Replays ms o m → Each takes_away ms → TurnsKeys w v ms
+  pub keys_gone : (ms : List Move) → Replays ms o m → EachMove takes_away ms → TurnsKeys w v ms
   keys_gone ms r a = all_gone ms o (λ q f. f) r a
 
 -- ---- the same keys before and after
 
-pub makes_keep : (ms : List Move) → AllTurn Makes ms → Each keeps_keys ms
+pub makes_keep : (ms : List Move) → AllTurn Makes ms → EachMove keeps_keys ms
 makes_keep [] a = tt
 makes_keep (move.Add k b ∷ ms) a = (refl, makes_keep ms a.1)
 makes_keep (_ ∷ ms) a = let bad = a.0 in cc
@@ -205,7 +205,7 @@ pub stack_makes : (guard : ℕ) (ms : List Move) → AllTurn (MakesStack guard) 
 stack_makes guard [] a = tt
 stack_makes guard (m ∷ ms) a = (a.0, stack_makes guard ms a.1)
 
-pub ends_take : (held : Leaving) (from to : ℕ) (ms : List Move) → AllTurn (Ends held from to) ms → Each takes_away ms
+pub ends_take : (held : Leaving) (from to : ℕ) (ms : List Move) → AllTurn (Ends held from to) ms → EachMove takes_away ms
 ends_take held from to [] a = tt
 ends_take held from to (move.Unmap p ∷ ms) a = (refl, ends_take held from to ms a.1)
 ends_take held from to (move.Drop k ∷ ms) a = (refl, ends_take held from to ms a.1)

@@ -27,16 +27,16 @@ use Rattle.mm_core.specs.Forgetting.{waited}
 use Rattle.mm_pages.specs.Conditions.{waits_at_once}
 use Rattle.mm_pages.proofs.Served.{served_nothing, served_then}
 use Rattle.mm_paging.proofs.Pending.{not_pending}
-use Rattle.mm_tables.specs.Fits.{Fits, key_at, bytes_of}
+use Rattle.mm_tables.specs.Fits.{FitsTables, key_at, key_bytes}
 use Rattle.mm_core.specs.Accessing.{Accessed, IsHad}
-use Rattle.mm_core.specs.Pending.{Waits, Went, Permitted}
+use Rattle.mm_core.specs.Pending.{Waits, AccessMade, Permitted}
 use Rattle.mm_world.specs.Access.{WriteOf}
 use Rattle.mm_world.specs.Contents.{world_with}
 use Rattle.mm_types.specs.declared.protections.Access.TheVariants as access_kind
 use Rattle.mm_tables.specs.declared.looks.CommittedRow.{CommittedRow}
 use Rattle.mm_core.specs.Accessing.{Admits}
 use Rattle.mm_core.proofs.Accesses.{write-needs, copy-needs}
-use Rattle.mm_core.specs.Deciding.{Keeps}
+use Rattle.mm_core.specs.Deciding.{KeepsTables}
 use Rattle.mm_core.proofs.Fitting.{names_one}
 
 module _ (s z : StoreOf) (e : z ≡ started s z) where
@@ -46,10 +46,10 @@ module _ (s z : StoreOf) (e : z ≡ started s z) where
       (ap (λ (s : StoreOf). s.report.paging_reads) e) (ap (λ (s : StoreOf). s.report.paging_writes) e)
       (ap (λ (s : StoreOf). s.report.file_reads) e) (ap (λ (s : StoreOf). s.report.file_writes) e)
 
-  pub keeps_started : (t : Tables) (c : Key → Option Page) (place : Place) (k : Key) → Keeps t c s → key_at t place ≡ Some k → (z.names ≡ s.names) ⊎ (z.names ≡ changed same_place s.names place (Some k)) → Keeps t c z
+  pub keeps_started : (t : Tables) (c : Key → Option Page) (place : Place) (k : Key) → KeepsTables t c s → key_at t place ≡ Some k → (z.names ≡ s.names) ⊎ (z.names ≡ changed same_place s.names place (Some k)) → KeepsTables t c z
   keeps_started t c place k keeps at names =
       let f = keeps.fits in
-      subst (λ (z : StoreOf). Keeps t c z) (sym e)
+      subst (λ (z : StoreOf). KeepsTables t c z) (sym e)
       (record {
         fits = record {
           machine = f.machine;
@@ -80,7 +80,7 @@ one_need None n k a b = cc
 one_need (Some x) n k a b = cc
 
 -- an access that was ready, and was made
-pub went : (u : Bool) (depth : ℕ) (w : World) (pid addr : ℕ) (what : Attempt) (need : Need) (s m z : StoreOf) (a : Answer) (v : World) → need_at w pid addr what ≡ Some need → waits_at_once depth need.key s.report ≡ None → m ≡ started s m → IsHad need z.report → Accessed u w pid addr what m z a v → Went depth w pid addr what s z a v
+pub went : (u : Bool) (depth : ℕ) (w : World) (pid addr : ℕ) (what : Attempt) (need : Need) (s m z : StoreOf) (a : Answer) (v : World) → need_at w pid addr what ≡ Some need → waits_at_once depth need.key s.report ≡ None → m ≡ started s m → IsHad need z.report → Accessed u w pid addr what m z a v → AccessMade depth w pid addr what s z a v
 went u depth w pid addr what need s m z a v needs at_once begun had h =
     let same : h.need ≡ need = one_need (need_at w pid addr what) h.need need h.needs needs in
     record {
@@ -94,20 +94,20 @@ went u depth w pid addr what need s m z a v needs at_once begun had h =
 -- ---- an access of a thread was begun
 
 module _ (t : Tables) (c d : Key → Option Page) (s z : StoreOf) (same : d ≡ c) (e : z ≡ started s z) where
-  pub keeps_start : (place at : Place) (k : Key) → place ≡ at → Keeps t c s → key_at t at ≡ Some k → (z.names ≡ s.names) ⊎ (z.names ≡ changed same_place s.names place (Some k)) → Keeps t d z
+  pub keeps_start : (place at : Place) (k : Key) → place ≡ at → KeepsTables t c s → key_at t at ≡ Some k → (z.names ≡ s.names) ⊎ (z.names ≡ changed same_place s.names place (Some k)) → KeepsTables t d z
   keeps_start place at k is keeps there names =
-      subst (λ (c : Key → Option Page). Keeps t c z) (sym same) (keeps_started s z e t c place k keeps (ap (key_at t) is ∙ there) names)
+      subst (λ (c : Key → Option Page). KeepsTables t c z) (sym same) (keeps_started s z e t c place k keeps (ap (key_at t) is ∙ there) names)
 
-  module _ (machine : s.machine ≡ t.machine) (pid addr : ℕ) (what : Attempt) (need : Need) (needs : need_at (world_with t (bytes_of c)) pid addr what ≡ Some need) where
-    pub waits_start : (why : Why) → pending s.machine.depth need s.report z.report ≡ Some why → Waits t.machine.depth (world_with t (bytes_of c)) pid addr what s z why
+  module _ (machine : s.machine ≡ t.machine) (pid addr : ℕ) (what : Attempt) (need : Need) (needs : need_at (world_with t (key_bytes c)) pid addr what ≡ Some need) where
+    pub waits_start : (why : Why) → pending s.machine.depth need s.report z.report ≡ Some why → Waits t.machine.depth (world_with t (key_bytes c)) pid addr what s z why
     waits_start why pends =
         record { need = need; needs = needs; pends = ap (λ (m : MachineOf). pending m.depth need s.report z.report) (sym machine) ∙ pends; served = served_started s z e }
 
-    pub went_start : (u : Bool) (y : StoreOf) (a : Answer) (v : World) → waits_at_once s.machine.depth need.key s.report ≡ None → IsHad need y.report → Accessed u (world_with t (bytes_of d)) pid addr what z y a v → Went t.machine.depth (world_with t (bytes_of c)) pid addr what s y a v
+    pub went_start : (u : Bool) (y : StoreOf) (a : Answer) (v : World) → waits_at_once s.machine.depth need.key s.report ≡ None → IsHad need y.report → Accessed u (world_with t (key_bytes d)) pid addr what z y a v → AccessMade t.machine.depth (world_with t (key_bytes c)) pid addr what s y a v
     went_start u y a v at_once had h =
-        went u t.machine.depth (world_with t (bytes_of c)) pid addr what need s z y a v needs
+        went u t.machine.depth (world_with t (key_bytes c)) pid addr what need s z y a v needs
         (ap (λ (m : MachineOf). waits_at_once m.depth need.key s.report) (sym machine) ∙ at_once) e had
-        (subst (λ (c : Key → Option Page). Accessed u (world_with t (bytes_of c)) pid addr what z y a v) same h)
+        (subst (λ (c : Key → Option Page). Accessed u (world_with t (key_bytes c)) pid addr what z y a v) same h)
 
 -- a permitted write needs its page, or a copy of it
 pub write_permitted : (t : Tables) (b : Key → Page) (pid addr : ℕ) (bytes : List ℕ) (row : CommittedRow) → Admits t pid addr access_kind.Write row → Permitted (world_with t b) pid addr (WriteOf bytes)
@@ -126,7 +126,7 @@ kept_told f (Some x) k e = ap is_some (sym e)
 made_kept : (n : ℕ) (t : Tables) (tid : ℕ) (k : Option KeptOf) → MadeAtMost n t → MadeAtMost n (keep t tid k)
 made_kept n t tid k h = record { sections = h.sections; areas = h.areas; handles = h.handles }
 
-pub keeps_kept : (t after : Tables) (c : Key → Option Page) (s : StoreOf) (tid : ℕ) (k : Option KeptOf) → Keeps t c s → after ≡ keep t tid k → Fits after c s → Keeps after c s
+pub keeps_kept : (t after : Tables) (c : Key → Option Page) (s : StoreOf) (tid : ℕ) (k : Option KeptOf) → KeepsTables t c s → after ≡ keep t tid k → FitsTables after c s → KeepsTables after c s
 keeps_kept t after c s tid k keeps is fits =
     record { fits = fits; few = subst (λ (t : Tables). MadeAtMost s.line t) (sym is) (made_kept s.line t tid k keeps.few) }
 
@@ -154,7 +154,7 @@ module _ (m y z : StoreOf) (e : z ≡ waited y z) where
         file_writes = h.file_writes;
       })
 
-  pub went_forgot : (depth : ℕ) (w : World) (pid addr : ℕ) (what : Attempt) (a : Answer) (v : World) → Went depth w pid addr what m y a v → Went depth w pid addr what m z a v
+  pub went_forgot : (depth : ℕ) (w : World) (pid addr : ℕ) (what : Attempt) (a : Answer) (v : World) → AccessMade depth w pid addr what m y a v → AccessMade depth w pid addr what m z a v
   went_forgot depth w pid addr what a v h =
       record { need = h.need; needs = h.needs; ready = ap (λ (z : StoreOf). pending depth h.need m.report z.report) e ∙ h.ready; outcome = h.outcome; served = served_forgot h.served }
 

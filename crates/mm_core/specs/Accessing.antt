@@ -19,7 +19,7 @@ use Rattle.mm_world.specs.Contents.{Tables}
 use Rattle.mm_pages.specs.Store.{StoreOf}
 use Rattle.mm_pages.specs.Reports.{Served, SomeFailed}
 use Rattle.mm_tables.specs.declared.looks.CommittedRow.{CommittedRow}
-use Rattle.mm_tables.specs.Looks.{told_row}
+use Rattle.mm_tables.specs.Looks.{told_committed}
 
 -- an access that is refused, or that met a guard: it needs no page
 pub record Refuses (w : World) (pid addr : ℕ) (what : Attempt) (a : Answer) (v : World) :
@@ -35,7 +35,7 @@ pub record Admits (t : Tables) (pid addr : ℕ) (kind : Access) (told : Committe
   pub committed : committed_at t process.regions (page_of addr) ≡ Some row
   pub unguarded : row.row.guard ≡ false
   pub permitted : permits row.row.prot kind ≡ true
-  pub is_told : told_row pid (page_of addr) row ≡ told
+  pub is_told : told_committed pid (page_of addr) row ≡ told
 
 -- after a write to bytes of the page's own it is written, where its region is watched
 pub record Marks (t : Tables) (pid page : ℕ) (told : CommittedRow) (after : Tables) : Type 0 where
@@ -45,7 +45,7 @@ pub record Marks (t : Tables) (pid page : ℕ) (told : CommittedRow) (after : Ta
   pub plain : told.watched ≡ false → after ≡ t
 
 -- a permitted access failed: a device did, and the world is as before
-pub record Lost (never_fails : Bool) (w : World) (m z : StoreOf) (a : Answer) (v : World) :
+pub record AccessFailed (never_fails : Bool) (w : World) (m z : StoreOf) (a : Answer) (v : World) :
     Type 0 where
   pub raised : a ≡ answer.Raised raise.InPageError
   pub same : v ≡ w
@@ -61,7 +61,7 @@ pub record Accessed (never_fails : Bool) (w : World) (pid addr : ℕ) (what : At
     answer = a;
     world = v;
   }
-  pub lost : access_fails need z.report ≡ true → Lost never_fails w m z a v
+  pub lost : access_fails need z.report ≡ true → AccessFailed never_fails w m z a v
   pub served : Served m z
 
 -- what an access needs was had: it does not fail, and needs no frame any more

@@ -21,19 +21,19 @@ use Rattle.mm_pages.specs.Housekeeping.{NoMove}
 use Rattle.mm_pages.specs.declared.outcomes.Start.TheVariants as start
 use Rattle.mm_paging.specs.Kinds.{aim_at}
 use Rattle.mm_paging.specs.Lines.{is_had, is_failed, is_pending_read, place_had}
-use Rattle.mm_tables.specs.Fits.{bytes_of}
+use Rattle.mm_tables.specs.Fits.{key_bytes}
 use Rattle.mm_core.specs.declared.threads.Threaded.{Threaded}
 use Rattle.mm_core.specs.declared.threads.Threaded.TheVariants as threaded
 
 -- what an access is about, where it is permitted
 abbrev pub aim_in : Tables → (Key → Option Page) → Behind → Pid → ℕ → Attempt → Option Aim
-aim_in t contents b pid addr what = aim_at (world_with t (bytes_of contents)) b.life pid addr what
+aim_in t contents b pid addr what = aim_at (world_with t (key_bytes contents)) b.life pid addr what
 
 -- ---- a plain access
 
 -- an access of this aim was answered: where it was had, its place is valid and new; where it failed
 -- because no frame was found, none was to be found
-pub record Answers (a : Aim) (r : Answer) (after : Report) (b : Behind) (moves : List Move)
+pub record AnswersAccess (a : Aim) (r : Answer) (after : Report) (b : Behind) (moves : List Move)
     (c : Behind) : Type 0 where
   pub made : AccessMoves a b moves
   pub valid : is_had r ≡ true → is_valid c.life a.place ≡ true
@@ -48,7 +48,7 @@ pub record Answered (aim : Option Aim) (IsReady : Type 0) (r : Answer) (after : 
     (moves : List Move) (c : Behind) : Type 0 where
   pub aimed : Aim
   pub is : aim ≡ Some aimed
-  pub answers : Answers aimed r after b moves c
+  pub answers : AnswersAccess aimed r after b moves c
   pub calm : IsReady → count_by is_read_move moves ≡ 0
 
 -- ---- an access of a thread

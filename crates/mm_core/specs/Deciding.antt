@@ -10,25 +10,25 @@ use Rattle.mm_world.specs.World.{Page}
 use Rattle.mm_world.specs.Contents.{Tables, world_with}
 use Rattle.mm_pages.specs.Store.{StoreOf}
 use Rattle.mm_pages.specs.Reports.{begun}
-use Rattle.mm_tables.specs.Fits.{Fits, bytes_of}
+use Rattle.mm_tables.specs.Fits.{FitsTables, key_bytes}
 use Rattle.mm_tables.specs.References.{MadeAtMost}
-use Rattle.mm_core.specs.Serving.{AskedFiles, AskedPaging, IsFailure, OneFailed, Flushed, Named, is_grow, is_fail, FailedBefore}
+use Rattle.mm_core.specs.Serving.{AskedFiles, AskedPaging, IsFailure, OneFailed, FlushServed, Named, is_grow, is_fail, FailedBefore}
 use Rattle.mm_core.specs.Stepping.{Stepped}
 
 -- a line that names no numbers of its own in its kind
-abbrev pub is_plain : LineKind → Bool
-is_plain (kind_of.Machine frames slots depth blocks) = false
-is_plain (kind_of.Process pid min max) = false
-is_plain (kind_of.Grow n) = false
-is_plain _ = true
+abbrev pub is_plain_kind : LineKind → Bool
+is_plain_kind (kind_of.Machine frames slots depth blocks) = false
+is_plain_kind (kind_of.Process pid min max) = false
+is_plain_kind (kind_of.Grow n) = false
+is_plain_kind _ = true
 
 -- a store fits the tables, and each line before made at most one of each thing that is numbered
-pub record Keeps (t : Tables) (contents : Key → Option Page) (s : StoreOf) : Type 0 where
-  pub fits : Fits t contents s
+pub record KeepsTables (t : Tables) (contents : Key → Option Page) (s : StoreOf) : Type 0 where
+  pub fits : FitsTables t contents s
   pub few : MadeAtMost s.line t
 
 -- a line has begun, and no device was called yet
-pub record Begins (number : ℕ) (s m : StoreOf) : Type 0 where
+pub record LineBegins (number : ℕ) (s m : StoreOf) : Type 0 where
   pub line_is : m.line ≡ number
   pub report_is : m.report ≡ begun s.report
   pub paging : m.paging_device ≡ s.paging_device
@@ -50,11 +50,11 @@ pub record Devices (never_fails : Bool) (e : Event) (s z : StoreOf) (a : Answer)
 pub record Decided (never_fails : Bool) (e : Event) (number : ℕ) (t : Tables)
     (old : Key → Option Page) (s : StoreOf) (a : Answer) (after : Tables) (new : Key → Option Page)
     (z : StoreOf) : Type 0 where
-  pub stepped : Stepped never_fails (world_with t (bytes_of old)) e s.report z.report a
-      (world_with after (bytes_of new))
+  pub stepped : Stepped never_fails (world_with t (key_bytes old)) e s.report z.report a
+      (world_with after (key_bytes new))
   pub devices : Devices never_fails e s z a
-  pub flushed : Flushed (world_with after (bytes_of new)) z.file_blocks e a
-  pub keeps : Keeps after new z
+  pub flushed : FlushServed (world_with after (key_bytes new)) z.file_blocks e a
+  pub keeps : KeepsTables after new z
   pub line_is : z.line ≡ number
 
 -- a line ran out of memory: the world and the devices are as before

@@ -15,19 +15,21 @@ use Rattle.mm_world.specs.Contents.{Tables}
 use Rattle.mm_pages.specs.Store.{StoreOf, changed}
 
 -- the access is of this process
-abbrev pub is_of : ℕ → Option KeptOf → Bool
-is_of pid None = false
-is_of pid (Some k) = k.pid == pid
+abbrev pub is_of_process : ℕ → Option KeptOf → Bool
+is_of_process pid None = false
+is_of_process pid (Some k) = k.pid == pid
 
 -- what the threads wait for, where those below a number whose access is of the process wait for
 -- nothing
 abbrev pub wait_left : Tables → ℕ → ℕ → (ℕ → Wait) → ℕ → Wait
-wait_left t pid end waits tid = if nat_lt tid end && is_of pid (kept_by t tid) then wait.None else
+wait_left t pid end waits tid = if nat_lt tid end &&
+    is_of_process pid (kept_by t tid) then wait.None else
     waits tid
 
 -- one thread's wait is forgotten, if its access is of the process
 abbrev pub waits_but : Tables → ℕ → ℕ → (ℕ → Wait) → ℕ → Wait
-waits_but t pid tid waits = if is_of pid (kept_by t tid) then changed ◌==◌ waits tid wait.None else
+waits_but t pid tid waits = if is_of_process pid (kept_by t tid) then changed ◌==◌ waits tid
+    wait.None else
     waits
 
 -- a store in which threads wait otherwise, and all else is as before

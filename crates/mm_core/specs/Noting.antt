@@ -23,8 +23,8 @@ use Rattle.mm_pages.specs.Told.{told_of, told_through}
 use Rattle.mm_pages.specs.Housekeeping.{Makes, AllTurn}
 use Rattle.mm_paging.specs.Kinds.{kind_of_line}
 use Rattle.mm_paging.specs.Lines.{Does, Traffic, asks_beside, with_line, ages_of_line, waits_of_line}
-use Rattle.mm_tables.specs.Fits.{bytes_of}
-use Rattle.mm_core.specs.Forgetting.{is_of}
+use Rattle.mm_tables.specs.Fits.{key_bytes}
+use Rattle.mm_core.specs.Forgetting.{is_of_process}
 
 -- ---- keys come to be, or go
 
@@ -40,19 +40,19 @@ takes_away (move.Unmap p) = true
 takes_away (move.Drop k) = true
 takes_away _ = false
 
-abbrev pub Each : (Move → Bool) → List Move → Type 0
-Each test [] = Unit {0}
-Each test (m ∷ ms) = (test m ≡ true) × Each test ms
+abbrev pub EachMove : (Move → Bool) → List Move → Type 0
+EachMove test [] = Unit {0}
+EachMove test (m ∷ ms) = (test m ≡ true) × EachMove test ms
 
 -- in no line keys both come to be and go
 abbrev pub IsOneWay : List Move → Type 0
-IsOneWay ms = Each keeps_keys ms ⊎ Each takes_away ms
+IsOneWay ms = EachMove keeps_keys ms ⊎ EachMove takes_away ms
 
 -- ---- a line
 
 -- a line's first move, and after it moves of which this holds. Of a line whose calls of devices are
 -- no moves nothing is told of devices
-pub record Went (beside : Bool) (first : Move) (That : List Move → Type 0) (s z : StoreOf)
+pub record LineWent (beside : Bool) (first : Move) (That : List Move → Type 0) (s z : StoreOf)
     (b c : Behind) : Type 0 where
   pub moves : List Move
   pub in_range : AreMoves (first ∷ moves)
@@ -67,7 +67,7 @@ pub record Went (beside : Bool) (first : Move) (That : List Move → Type 0) (s 
 
 -- what the moves of a line are, by the worlds before and after it, where its `at` has this number
 -- and kind
-pub record Tells (n : ℕ) (k : LineKind) (e : Event) (w : World) (a : Answer) (v : World)
+pub record TellsLine (n : ℕ) (k : LineKind) (e : Event) (w : World) (a : Answer) (v : World)
     (after : Report) (b : Behind) (moves : List Move) (c : Behind) : Type 0 where
   pub one_way : IsOneWay moves
   pub does : Does w e a v after (with_line (move.At n k) b) moves c
@@ -78,7 +78,7 @@ pub record Tells (n : ℕ) (k : LineKind) (e : Event) (w : World) (a : Answer) (
 abbrev pub MarkedAs : LineKind → Event → ℕ → World → StoreOf → Behind → Answer → World → StoreOf →
     Behind → Type 0
 MarkedAs k e n w s b a v z c =
-    Went (asks_beside e) (move.At n k) (λ ms. Tells n k e w a v z.report b ms c) s z b c
+    LineWent (asks_beside e) (move.At n k) (λ ms. TellsLine n k e w a v z.report b ms c) s z b c
 
 abbrev pub Marked : Event → ℕ → World → StoreOf → Behind → Answer → World → StoreOf → Behind →
     Type 0
@@ -90,7 +90,7 @@ abbrev pub MarkedIn : Bool → Event → ℕ → Tables → (Key → Option Page
     Tables → (Key → Option Page) → StoreOf → Behind → Type 0
 MarkedIn unpaged e n t old s b a after new z c =
     unpaged ≡ false →
-    Marked e n (world_with t (bytes_of old)) s b a (world_with after (bytes_of new)) z c
+    Marked e n (world_with t (key_bytes old)) s b a (world_with after (key_bytes new)) z c
 
 -- ---- a line that ran out of memory
 
@@ -100,8 +100,8 @@ is_later (kind.Machine frames slots depth blocks) = false
 is_later _ = true
 
 -- no move, or an `at` of the line's number, and after it keys that came to be
-abbrev pub IsCut : ℕ → List Move → Type 0
-IsCut n piece = (piece ≡ []) ⊎
+abbrev pub IsCutLine : ℕ → List Move → Type 0
+IsCutLine n piece = (piece ≡ []) ⊎
     ((k : LineKind) ×
     ((moves : List Move) ×
     ((is_later k ≡ true) × (piece ≡ move.At n k ∷ moves) × AllTurn Makes moves)))
@@ -112,7 +112,7 @@ pub record Halted (n : ℕ) (b c : Behind) : Type 0 where
   pub grew : Grew b.log c.log (spelled_moves piece)
   pub replays : Replays piece b.life c.life
   pub slots : c.slots ≡ b.slots
-  pub cut : IsCut n piece
+  pub cut : IsCutLine n piece
 
 abbrev pub HaltedIn : Bool → ℕ → Behind → Behind → Type 0
 HaltedIn unpaged n b c = unpaged ≡ false → Halted n b c
@@ -122,12 +122,14 @@ HaltedIn unpaged n b c = unpaged ≡ false → Halted n b c
 -- what the threads wait for, where those below a number whose access is of the process wait for
 -- nothing
 abbrev pub idle_left : Tables → ℕ → ℕ → (ℕ → Waiting) → ℕ → Waiting
-idle_left t pid end waits tid = if nat_lt tid end && is_of pid (kept_by t tid) then Idle else
+idle_left t pid end waits tid = if nat_lt tid end &&
+    is_of_process pid (kept_by t tid) then Idle else
     waits tid
 
 -- one thread's wait is forgotten, if its access is of the process
 abbrev pub idle_but : Tables → ℕ → ℕ → (ℕ → Waiting) → ℕ → Waiting
-idle_but t pid tid waits = if is_of pid (kept_by t tid) then changed ◌==◌ waits tid Idle else waits
+idle_but t pid tid waits = if is_of_process pid (kept_by t tid) then changed ◌==◌ waits tid Idle
+    else waits
 
 abbrev pub IdlesBut : Tables → ℕ → ℕ → Behind → Behind → Type 0
 IdlesBut t pid tid b c = c ≡ record b { waits = idle_but t pid tid b.waits }

@@ -13,26 +13,26 @@ use Rattle.mm_pages.specs.Behind.{Behind}
 use Rattle.mm_pages.specs.Passing.{PassesIn}
 use Rattle.mm_pages.specs.declared.pages.Pages.{Ghosts as PagesGhosts}
 use Rattle.mm_paging.specs.Lines.{HoldsBeside}
-use Rattle.mm_tables.specs.Fits.{Fits, bytes_of}
+use Rattle.mm_tables.specs.Fits.{FitsTables, key_bytes}
 use Rattle.mm_core.specs.Serving.{AskedBeside}
-use Rattle.mm_core.specs.Deciding.{Keeps, Decided, Idle}
+use Rattle.mm_core.specs.Deciding.{KeepsTables, Decided, Idle}
 use Rattle.mm_core.specs.Noting.{MarkedIn, HaltedIn}
 use Rattle.mm_core.specs.Answering.{aim_in}
 
 module _ {G : Type 0} (p : PagesGhosts G) where
   -- the world of these tables, with the store's bytes in its pages
   abbrev pub world_over : Tables → G → World
-  world_over t g = world_with t (bytes_of (p.contents g))
+  world_over t g = world_with t (key_bytes (p.contents g))
 
   -- what an access aims at
   abbrev pub aim_over : Tables → G → Pid → ℕ → Attempt → Option Aim
   aim_over t g pid addr what = aim_in t (p.contents g) (p.behind g) pid addr what
 
   abbrev pub FitsOver : Tables → G → Type 0
-  FitsOver t g = Fits t (p.contents g) (p.store g)
+  FitsOver t g = FitsTables t (p.contents g) (p.store g)
 
   abbrev pub KeepsOver : Tables → G → Type 0
-  KeepsOver t g = Keeps t (p.contents g) (p.store g)
+  KeepsOver t g = KeepsTables t (p.contents g) (p.store g)
 
   abbrev pub PassesOver : (Behind → List Move → Behind → Type 0) → G → G → Type 0
   PassesOver That g h = PassesIn p.unpaged That (p.store g) (p.store h) (p.behind g) (p.behind h)

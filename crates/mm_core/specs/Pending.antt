@@ -22,7 +22,8 @@ pub record Waits (depth : ℕ) (w : World) (pid addr : ℕ) (what : Attempt) (m 
   pub served : Served m z
 
 -- it had what it needs, and was made
-pub record Went (depth : ℕ) (w : World) (pid addr : ℕ) (what : Attempt) (m z : StoreOf) (a : Answer)
+pub record AccessMade (depth : ℕ) (w : World) (pid addr : ℕ) (what : Attempt) (m z : StoreOf)
+    (a : Answer)
     (v : World) : Type 0 where
   pub need : Need
   pub needs : need_at w pid addr what ≡ Some need
@@ -36,13 +37,13 @@ pub record Permitted (w : World) (pid addr : ℕ) (what : Attempt) : Type 0 wher
   pub needs : need_at w pid addr what ≡ Some need
 
 -- how an access of a thread went, whose wait failed or not
-abbrev pub Turned : Threaded → Bool → ℕ → World → ℕ → ℕ → Attempt → StoreOf → StoreOf → World →
+abbrev pub ThreadWent : Threaded → Bool → ℕ → World → ℕ → ℕ → Attempt → StoreOf → StoreOf → World →
     Type 0
-Turned (threaded.Refused a) failed depth w pid addr what m z v = Refuses w pid addr what a v ×
+ThreadWent (threaded.Refused a) failed depth w pid addr what m z v = Refuses w pid addr what a v ×
     (z ≡ m)
-Turned threaded.Failed failed depth w pid addr what m z v = (failed ≡ true) ×
+ThreadWent threaded.Failed failed depth w pid addr what m z v = (failed ≡ true) ×
     Permitted w pid addr what × (z ≡ m) × (v ≡ w)
-Turned (threaded.Made a) failed depth w pid addr what m z v = (failed ≡ false) ×
-    Went depth w pid addr what m z a v
-Turned (threaded.Waiting why) failed depth w pid addr what m z v = (failed ≡ false) ×
+ThreadWent (threaded.Made a) failed depth w pid addr what m z v = (failed ≡ false) ×
+    AccessMade depth w pid addr what m z a v
+ThreadWent (threaded.Waiting why) failed depth w pid addr what m z v = (failed ≡ false) ×
     Waits depth w pid addr what m z why × (v ≡ w)

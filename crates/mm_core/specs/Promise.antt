@@ -18,12 +18,12 @@ use Rattle.mm_pages.specs.Behind.{Behind}
 use Rattle.mm_pages.specs.Store.{StoreOf}
 use Rattle.mm_pages.specs.declared.pages.Pages.{Ghosts as PagesGhosts}
 use Rattle.mm_paging.specs.Lines.{Line, Broken}
-use Rattle.mm_tables.specs.Fits.{bytes_of}
+use Rattle.mm_tables.specs.Fits.{key_bytes}
 use Rattle.mm_tables.specs.References.{IsTidy}
 use Rattle.mm_core.specs.declared.worlds.World.{World as Kept}
 use Rattle.mm_core.specs.Forgetting.{EndsWaits}
 use Rattle.mm_core.specs.Serving.{AskedBeside, AskedFiles, AskedPaging, Named}
-use Rattle.mm_core.specs.Serving.{IsFailure, FailedBefore, OneFailed, Flushed, is_fail, is_grow}
+use Rattle.mm_core.specs.Serving.{IsFailure, FailedBefore, OneFailed, FlushServed, is_fail, is_grow}
 use Rattle.mm_core.specs.Stepping.{Stepped}
 
 -- What a world over a store shows between two lines.
@@ -38,7 +38,7 @@ pub record Scene : Type 0 where
 -- of these tables and bytes, and of this store
 abbrev pub scene_of : Tables → (Key → Option Page) → StoreOf → Behind → Scene
 scene_of t contents s b = record {
-  world = world_with t (bytes_of contents);
+  world = world_with t (key_bytes contents);
   report = s.report;
   paging = s.paging_device;
   files = s.file_device;
@@ -56,7 +56,7 @@ module _ {G : Type 0} {g : PagesGhosts G} where
 abbrev pub NoneWaits : Bool → Scene → Type 0
 NoneWaits never_fails s = never_fails ≡ true → (tid : ℕ) → s.report.wait tid ≡ wait.None
 
-pub record Sound (never_fails : Bool) (s z : Scene) : Type 0 where
+pub record StaysSound (never_fails : Bool) (s z : Scene) : Type 0 where
   pub within : charge z.world ≤ limit z.world
   -- sections and names live while something refers to them
   pub lives : IsTidy (tables_of z.world)
@@ -66,9 +66,9 @@ pub record Sound (never_fails : Bool) (s z : Scene) : Type 0 where
 -- ---- a line that was decided
 
 -- What is told of it beside its answer and the new world, with these moves over a store that pages.
-pub record Told (never_fails : Bool) (s : Scene) (e : Event) (a : Answer) (moves : List Move)
+pub record ToldBeside (never_fails : Bool) (s : Scene) (e : Event) (a : Answer) (moves : List Move)
     (z : Scene) : Type 0 where
-  pub sound : Sound never_fails s z
+  pub sound : StaysSound never_fails s z
   -- but of `grow` and `fail` lines, the calls of a device in this line are those of its log and of
   -- the report
   pub asked_paging : is_fail e ≡ false → is_grow e ≡ false → AskedPaging s.paging z.paging z.report
@@ -87,7 +87,7 @@ pub record Told (never_fails : Bool) (s : Scene) (e : Event) (a : Answer) (moves
   pub paging_later : s.paging.faults ≤ z.paging.faults
   pub files_later : s.files.faults ≤ z.files.faults
   -- after a `flush` answered `ok` the blocks hold the bytes of their pages
-  pub flushed : Flushed z.world z.blocks e a
+  pub flushed : FlushServed z.world z.blocks e a
   -- threads whose access or whose process ends wait no more
   pub waits : EndsWaits s.world e a z.report
   -- the moves are one `at` with the line's number and kind, and what its form allows
@@ -96,7 +96,7 @@ pub record Told (never_fails : Bool) (s : Scene) (e : Event) (a : Answer) (moves
       z.world z.report z.behind z.paging z.files z.blocks
 
 -- Moves that are legal one after another, and by whose text the log grew.
-pub record Notes (b : Behind) (moves : List Move) (c : Behind) : Type 0 where
+pub record NotesMoves (b : Behind) (moves : List Move) (c : Behind) : Type 0 where
   pub in_range : AreMoves moves
   pub grew : Grew b.log c.log (spelled_moves moves)
   pub replays : Replays moves b.life c.life
@@ -107,14 +107,14 @@ pub record Decides (never_fails : Bool) (s : Scene) (e : Event) (a : Answer) (z 
   where
     pub stepped : Stepped never_fails s.world e s.report z.report a z.world
     pub moves : List Move
-    pub notes : never_fails ≡ false → Notes s.behind moves z.behind
-    pub told : Told never_fails s e a moves z
+    pub notes : never_fails ≡ false → NotesMoves s.behind moves z.behind
+    pub told : ToldBeside never_fails s e a moves z
 
 -- ---- a line that ran out of memory
 
 -- It changed nothing but the log, which has its `at` alone or no move of it.
 pub record Breaks (never_fails : Bool) (s z : Scene) : Type 0 where
-  pub sound : Sound never_fails s z
+  pub sound : StaysSound never_fails s z
   pub world : z.world ≡ s.world
   pub paging : z.paging ≡ s.paging
   pub files : z.files ≡ s.files

@@ -134,6 +134,6 @@ FlushHolds w blocks pid addr size =
     slice_get blocks (first + (v.first + (page - r.thing.base))) ≡
     shared_page w v.area.0 (v.first + (page - r.thing.base))
 
-abbrev pub Flushed : World → List Page → Event → Answer → Type 0
-Flushed w blocks (line.Flush pid addr size) answer.Ok = FlushHolds w blocks pid.0 addr size
-Flushed w blocks _ _ = Unit {0}
+abbrev pub FlushServed : World → List Page → Event → Answer → Type 0
+FlushServed w blocks (line.Flush pid addr size) answer.Ok = FlushHolds w blocks pid.0 addr size
+FlushServed w blocks _ _ = Unit {0}

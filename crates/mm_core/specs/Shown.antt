@@ -8,24 +8,24 @@ use Rattle.mm_world.specs.Report.{Report}
 use Rattle.mm_pages.specs.Behind.{Behind}
 use Rattle.mm_pages.specs.declared.pages.Pages.{Ghosts as PagesGhosts}
 use Rattle.mm_blocks.specs.Devices.{DeviceOf}
-use Rattle.mm_tables.specs.Fits.{bytes_of}
+use Rattle.mm_tables.specs.Fits.{key_bytes}
 use Rattle.mm_core.specs.declared.worlds.World.{World as Kept}
 
 module _ {G : Type 0} {g : PagesGhosts G} where
   -- the tables, and in each live key's page the store's bytes
   abbrev pub world : Kept G g → World
-  world w = world_with w.tables (bytes_of (g.contents w.pages))
+  world w = world_with w.tables (key_bytes (g.contents w.pages))
 
   abbrev pub report : Kept G g → Report
   report w = (g.store w.pages).report
 
   -- what stands behind the store, where it pages
-  abbrev pub behind : Kept G g → Behind
-  behind w = g.behind w.pages
+  abbrev pub world_behind : Kept G g → Behind
+  world_behind w = g.behind w.pages
 
   -- the number of the line that began last
-  abbrev pub line_of : Kept G g → ℕ
-  line_of w = (g.store w.pages).line
+  abbrev pub line_number : Kept G g → ℕ
+  line_number w = (g.store w.pages).line
 
   -- what the store keeps of its devices, and the blocks of the file device
   abbrev pub paging_device : Kept G g → DeviceOf

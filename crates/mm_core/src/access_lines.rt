@@ -9,7 +9,7 @@ ghost use Rattle.mm_world.specs.WellFormed.{Spaces};
 ghost use Rattle.mm_pages.specs.Reports.{IsBegun};
 ghost use Rattle.mm_pages.specs.Conditions.{place_at, touch, copying, IsReady, MayAccess};
 ghost use Rattle.mm_pages.specs.Store.{StoreOf};
-ghost use Rattle.mm_tables.specs.Fits.{Fits, key_at};
+ghost use Rattle.mm_tables.specs.Fits.{FitsTables, key_at};
 ghost use Rattle.mm_core.specs.Accessing.{Admits, Accessed, IsHad, Marks};
 ghost use Rattle.mm_core.specs.Answering.{Answered};
 ghost use Rattle.mm_core.specs.Lining.{Lined};
@@ -31,7 +31,8 @@ pub(crate) fn read_at<G: Pages>(
     addr: u32,
     row: CommittedRow,
     len: u32,
-) -> Answer
+    answer: &mut Answer,
+)
     requires keeps { KeepsOver G.Pages t.now g.old }
     requires spaces { Spaces t.now }
     requires admitted { Admits t.now pid.0 addr access_kind.Read row }
@@ -42,20 +43,20 @@ pub(crate) fn read_at<G: Pages>(
     requires few { len ≤ 64 }
     requires inside { addr % 4096 + len ≤ 4096 }
     ensures accessed { Accessed G.unpaged (world_over G.Pages t.now g.old) pid.0 addr (ReadOf len)
-        (G.store g.old) (G.store g.new) result (world_over G.Pages t.now g.new) }
+        (G.store g.old) (G.store g.new) answer.new (world_over G.Pages t.now g.new) }
     ensures keeps { KeepsOver G.Pages t.now g.new }
     ensures had { IsReady (G.store g.old) (place_at pid (page_of addr)) (touch row.key) →
         IsHad (touch row.key) (G.store g.new).report }
     ensures line { (G.store g.new).line ≡ (G.store g.old).line }
     ensures passes { PassesOver G.Pages
         (Answered (aim_over G.Pages t.now g.old pid addr (ReadOf len))
-        (IsReady (G.store g.old) (place_at pid (page_of addr)) (touch row.key)) result
+        (IsReady (G.store g.old) (place_at pid (page_of addr)) (touch row.key)) answer.new
         (G.store g.new).report) g.old g.new }
     ensures loans { G.loans g.new ≡ G.loans g.old }
 {
     match read_bytes(t, g, pid, addr, row.key, len) {
-        Ok(bytes) => Answer::Bytes(bytes),
-        Err(_) => Answer::Raised(Raise::InPageError),
+        Ok(bytes) => *answer = Answer::Bytes(bytes),
+        Err(_) => *answer = Answer::Raised(Raise::InPageError),
     }
 }
 
@@ -68,7 +69,8 @@ pub(crate) fn execute_at<G: Pages>(
     pid: Pid,
     addr: u32,
     row: CommittedRow,
-) -> Answer
+    answer: &mut Answer,
+)
     requires keeps { KeepsOver G.Pages t.now g.old }
     requires spaces { Spaces t.now }
     requires admitted { Admits t.now pid.0 addr access_kind.Execute row }
@@ -76,20 +78,20 @@ pub(crate) fn execute_at<G: Pages>(
     requires may { MayAccess (G.store g.old) (place_at pid (page_of addr)) (touch row.key) }
     requires begun { IsBegun (G.store g.old).report }
     ensures accessed { Accessed G.unpaged (world_over G.Pages t.now g.old) pid.0 addr Execute
-        (G.store g.old) (G.store g.new) result (world_over G.Pages t.now g.new) }
+        (G.store g.old) (G.store g.new) answer.new (world_over G.Pages t.now g.new) }
     ensures keeps { KeepsOver G.Pages t.now g.new }
     ensures had { IsReady (G.store g.old) (place_at pid (page_of addr)) (touch row.key) →
         IsHad (touch row.key) (G.store g.new).report }
     ensures line { (G.store g.new).line ≡ (G.store g.old).line }
     ensures passes { PassesOver G.Pages
         (Answered (aim_over G.Pages t.now g.old pid addr Execute)
-        (IsReady (G.store g.old) (place_at pid (page_of addr)) (touch row.key)) result
+        (IsReady (G.store g.old) (place_at pid (page_of addr)) (touch row.key)) answer.new
         (G.store g.new).report) g.old g.new }
     ensures loans { G.loans g.new ≡ G.loans g.old }
 {
     match fetch(t, g, pid, addr, row.key, &mut []) {
-        Ok(()) => Answer::Ok,
-        Err(_) => Answer::Raised(Raise::InPageError),
+        Ok(()) => *answer = Answer::Ok,
+        Err(_) => *answer = Answer::Raised(Raise::InPageError),
     }
 }
 
@@ -99,7 +101,7 @@ fn mark_written(t: &mut Tables, pid: Pid, addr: u32, row: CommittedRow)
     requires admitted { Admits t.old pid.0 addr access_kind.Write row }
     ensures marks { Marks t.old pid.0 (page_of addr) row t.new }
     ensures fits { (contents : Key → Option Page) (s : StoreOf) →
-        Fits t.old contents s → Fits t.new contents s }
+        FitsTables t.old contents s → FitsTables t.new contents s }
 {
     if row.watched {
         t.mark(pid, addr / PAGE_SIZE);
@@ -116,7 +118,8 @@ pub(crate) fn write_at<G: Pages>(
     addr: u32,
     row: CommittedRow,
     bytes: &ByteBuf,
-) -> Answer
+    answer: &mut Answer,
+)
     requires keeps { KeepsOver G.Pages t.old g.old }
     requires spaces { Spaces t.old }
     requires admitted { Admits t.old pid.0 addr access_kind.Write row }
@@ -126,23 +129,24 @@ pub(crate) fn write_at<G: Pages>(
     requires stays { row.copies ≡ false }
     requires inside { addr % 4096 + length bytes.now ≤ 4096 }
     ensures accessed { Accessed G.unpaged (world_over G.Pages t.old g.old) pid.0 addr
-        (WriteOf bytes.now) (G.store g.old) (G.store g.new) result (world_over G.Pages t.new g.new) }
+        (WriteOf bytes.now) (G.store g.old) (G.store g.new) answer.new
+        (world_over G.Pages t.new g.new) }
     ensures keeps { KeepsOver G.Pages t.new g.new }
     ensures had { IsReady (G.store g.old) (place_at pid (page_of addr)) (touch row.key) →
         IsHad (touch row.key) (G.store g.new).report }
     ensures line { (G.store g.new).line ≡ (G.store g.old).line }
     ensures passes { PassesOver G.Pages
         (Answered (aim_over G.Pages t.old g.old pid addr (WriteOf bytes.now))
-        (IsReady (G.store g.old) (place_at pid (page_of addr)) (touch row.key)) result
+        (IsReady (G.store g.old) (place_at pid (page_of addr)) (touch row.key)) answer.new
         (G.store g.new).report) g.old g.new }
     ensures loans { G.loans g.new ≡ G.loans g.old }
 {
     match put(t, g, pid, addr, row.key, bytes.as_slice()) {
         Ok(()) => {
             mark_written(t, pid, addr, row);
-            Answer::Ok
+            *answer = Answer::Ok;
         }
-        Err(_) => Answer::Raised(Raise::InPageError),
+        Err(_) => *answer = Answer::Raised(Raise::InPageError),
     }
 }
 
@@ -156,7 +160,8 @@ pub(crate) fn write_to_copy<G: Pages>(
     addr: u32,
     row: CommittedRow,
     bytes: &ByteBuf,
-) -> Answer
+    answer: &mut Answer,
+)
     requires keeps { KeepsOver G.Pages t.old g.old }
     requires spaces { Spaces t.old }
     requires admitted { Admits t.old pid.0 addr access_kind.Write row }
@@ -167,7 +172,8 @@ pub(crate) fn write_to_copy<G: Pages>(
     requires copies { row.copies ≡ true }
     requires inside { addr % 4096 + length bytes.now ≤ 4096 }
     ensures accessed { Accessed G.unpaged (world_over G.Pages t.old g.old) pid.0 addr
-        (WriteOf bytes.now) (G.store g.old) (G.store g.new) result (world_over G.Pages t.new g.new) }
+        (WriteOf bytes.now) (G.store g.old) (G.store g.new) answer.new
+        (world_over G.Pages t.new g.new) }
     ensures keeps { KeepsOver G.Pages t.new g.new }
     ensures had { IsReady (G.store g.old) (place_at pid (page_of addr))
         (copying row.key (place_at pid (page_of addr))) →
@@ -176,12 +182,13 @@ pub(crate) fn write_to_copy<G: Pages>(
     ensures passes { PassesOver G.Pages
         (Answered (aim_over G.Pages t.old g.old pid addr (WriteOf bytes.now))
         (IsReady (G.store g.old) (place_at pid (page_of addr))
-        (copying row.key (place_at pid (page_of addr)))) result (G.store g.new).report) g.old g.new }
+        (copying row.key (place_at pid (page_of addr)))) answer.new
+        (G.store g.new).report) g.old g.new }
     ensures loans { G.loans g.new ≡ G.loans g.old }
 {
     match put_copy(t, g, pid, addr, row, bytes.as_slice()) {
-        Ok(()) => Answer::Ok,
-        Err(_) => Answer::Raised(Raise::InPageError),
+        Ok(()) => *answer = Answer::Ok,
+        Err(_) => *answer = Answer::Raised(Raise::InPageError),
     }
 }
 
@@ -193,28 +200,33 @@ pub(crate) fn read_line<G: Pages>(
     pid: Pid,
     addr: u32,
     len: u32,
-) -> Answer
+    answer: &mut Answer,
+)
     requires keeps { KeepsOver G.Pages t.old g.old }
     requires next { line ≡ (G.store g.old).line + 1 }
     requires some { 1 ≤ len }
     requires few { len ≤ 64 }
     requires inside { addr % 4096 + len ≤ 4096 }
-    ensures decided { DecidedOver G.Pages (event.Read pid addr len) line t.old g.old result t.new
-        g.new }
+    ensures decided { DecidedOver G.Pages (event.Read pid addr len) line t.old g.old answer.new
+        t.new g.new }
     ensures passes { PassesOver G.Pages
-        (Lined (world_over G.Pages t.old g.old) (event.Read pid addr len) line result
+        (Lined (world_over G.Pages t.old g.old) (event.Read pid addr len) line answer.new
         (world_over G.Pages t.new g.new) (G.store g.new).report) g.old g.new }
     ensures loans { G.loans g.new ≡ G.loans g.old }
 {
     t.sound();
     if !begin_access(t, g, line, pid) {
-        return Answer::Error(Code::InvalidHandle);
+        *answer = Answer::Error(Code::InvalidHandle);
+        return;
     }
     let row = match admit(t, pid, addr, Access::Read) {
         Ok(row) => row,
-        Err(why) => return Answer::Raised(why),
+        Err(why) => {
+            *answer = Answer::Raised(why);
+            return;
+        }
     };
-    read_at(t, g, pid, addr, row, len)
+    read_at(t, g, pid, addr, row, len, answer);
 }
 
 /// Decides a `write` line.
@@ -225,29 +237,34 @@ pub(crate) fn write_line<G: Pages>(
     pid: Pid,
     addr: u32,
     bytes: &ByteBuf,
-) -> Answer
+    answer: &mut Answer,
+)
     requires keeps { KeepsOver G.Pages t.old g.old }
     requires next { line ≡ (G.store g.old).line + 1 }
     requires inside { addr % 4096 + length bytes.now ≤ 4096 }
-    ensures decided { DecidedOver G.Pages (event.Write pid addr bytes.now) line t.old g.old result
-        t.new g.new }
+    ensures decided { DecidedOver G.Pages (event.Write pid addr bytes.now) line t.old g.old
+        answer.new t.new g.new }
     ensures passes { PassesOver G.Pages
-        (Lined (world_over G.Pages t.old g.old) (event.Write pid addr bytes.now) line result
+        (Lined (world_over G.Pages t.old g.old) (event.Write pid addr bytes.now) line answer.new
         (world_over G.Pages t.new g.new) (G.store g.new).report) g.old g.new }
     ensures loans { G.loans g.new ≡ G.loans g.old }
 {
     t.sound();
     if !begin_access(t, g, line, pid) {
-        return Answer::Error(Code::InvalidHandle);
+        *answer = Answer::Error(Code::InvalidHandle);
+        return;
     }
     let row = match admit(t, pid, addr, Access::Write) {
         Ok(row) => row,
-        Err(why) => return Answer::Raised(why),
+        Err(why) => {
+            *answer = Answer::Raised(why);
+            return;
+        }
     };
     if row.copies {
-        write_to_copy(t, g, pid, addr, row, bytes)
+        write_to_copy(t, g, pid, addr, row, bytes, answer)
     } else {
-        write_at(t, g, pid, addr, row, bytes)
+        write_at(t, g, pid, addr, row, bytes, answer)
     }
 }
 
@@ -258,22 +275,28 @@ pub(crate) fn exec_line<G: Pages>(
     line: u32,
     pid: Pid,
     addr: u32,
-) -> Answer
+    answer: &mut Answer,
+)
     requires keeps { KeepsOver G.Pages t.old g.old }
     requires next { line ≡ (G.store g.old).line + 1 }
-    ensures decided { DecidedOver G.Pages (event.Exec pid addr) line t.old g.old result t.new g.new }
+    ensures decided { DecidedOver G.Pages (event.Exec pid addr) line t.old g.old answer.new
+        t.new g.new }
     ensures passes { PassesOver G.Pages
-        (Lined (world_over G.Pages t.old g.old) (event.Exec pid addr) line result
+        (Lined (world_over G.Pages t.old g.old) (event.Exec pid addr) line answer.new
         (world_over G.Pages t.new g.new) (G.store g.new).report) g.old g.new }
     ensures loans { G.loans g.new ≡ G.loans g.old }
 {
     t.sound();
     if !begin_access(t, g, line, pid) {
-        return Answer::Error(Code::InvalidHandle);
+        *answer = Answer::Error(Code::InvalidHandle);
+        return;
     }
     let row = match admit(t, pid, addr, Access::Execute) {
         Ok(row) => row,
-        Err(why) => return Answer::Raised(why),
+        Err(why) => {
+            *answer = Answer::Raised(why);
+            return;
+        }
     };
-    execute_at(t, g, pid, addr, row)
+    execute_at(t, g, pid, addr, row, answer);
 }

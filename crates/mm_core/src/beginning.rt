@@ -4,7 +4,7 @@ ghost use Rattle.mm_types.specs.declared.moves.Move.TheVariants as move;
 ghost use Rattle.mm_pages.specs.Housekeeping.{OneMove};
 ghost use Rattle.mm_world.specs.Find.{process_of};
 ghost use Rattle.mm_world.specs.Contents.{Tables};
-ghost use Rattle.mm_core.specs.Deciding.{Begins, is_plain};
+ghost use Rattle.mm_core.specs.Deciding.{LineBegins, is_plain_kind};
 ghost use Rattle.mm_core.specs.Over.{FitsOver, PassesOver};
 
 use mm_pages::Pages;
@@ -14,9 +14,9 @@ use mm_types::{LineKind, Pid};
 /// Begins a line that names no numbers of its own.
 pub(crate) fn begin<G: Pages>(g: &mut G, line: u32, form: LineKind)
     requires next { line ≡ (G.store g.old).line + 1 }
-    requires plain { is_plain form ≡ true }
+    requires plain { is_plain_kind form ≡ true }
     ensures fits { (t : Tables) → FitsOver G.Pages t g.old → FitsOver G.Pages t g.new }
-    ensures begins { Begins line (G.store g.old) (G.store g.new) }
+    ensures begins { LineBegins line (G.store g.old) (G.store g.new) }
     ensures form { (G.store g.new).kind ≡ form }
     ensures contents { G.contents g.new ≡ G.contents g.old }
     ensures passes { PassesOver G.Pages (OneMove (move.At line form)) g.old g.new }
@@ -37,7 +37,7 @@ pub(crate) fn begin_release<G: Pages>(t: &Tables, g: &mut G, line: u32, pid: Pid
     requires fits { FitsOver G.Pages t.now g.old }
     requires next { line ≡ (G.store g.old).line + 1 }
     ensures fits { FitsOver G.Pages t.now g.new }
-    ensures begins { Begins line (G.store g.old) (G.store g.new) }
+    ensures begins { LineBegins line (G.store g.old) (G.store g.new) }
     ensures form { is_some (process_of t.now pid.0) ≡ true →
         (G.store g.new).kind ≡ line_kind.Unbind pid }
     ensures contents { G.contents g.new ≡ G.contents g.old }
@@ -56,7 +56,7 @@ pub(crate) fn begin_access<G: Pages>(t: &Tables, g: &mut G, line: u32, pid: Pid)
     requires next { line ≡ (G.store g.old).line + 1 }
     ensures lives { result ≡ is_some (process_of t.now pid.0) }
     ensures fits { FitsOver G.Pages t.now g.new }
-    ensures begins { Begins line (G.store g.old) (G.store g.new) }
+    ensures begins { LineBegins line (G.store g.old) (G.store g.new) }
     ensures form { result ≡ true → (G.store g.new).kind ≡ line_kind.Access pid }
     ensures contents { G.contents g.new ≡ G.contents g.old }
     ensures passes { PassesOver G.Pages
@@ -75,7 +75,7 @@ pub(crate) fn begin_trim<G: Pages>(t: &Tables, g: &mut G, line: u32, pid: Pid) -
     requires next { line ≡ (G.store g.old).line + 1 }
     ensures lives { result ≡ is_some (process_of t.now pid.0) }
     ensures fits { FitsOver G.Pages t.now g.new }
-    ensures begins { Begins line (G.store g.old) (G.store g.new) }
+    ensures begins { LineBegins line (G.store g.old) (G.store g.new) }
     ensures form { result ≡ true → (G.store g.new).kind ≡ line_kind.Trim pid }
     ensures contents { G.contents g.new ≡ G.contents g.old }
     ensures passes { PassesOver G.Pages

@@ -1,4 +1,4 @@
-ghost use Rattle.std.specs.Prelude.{◌≡◌, ◌≤◌, ◌+◌, ℕ, true, false, IfOk, OnErr, IsOk};
+ghost use Rattle.std.specs.Prelude.{◌≡◌, ◌≤◌, ◌+◌, ℕ, true, false, IfOk, OnOk, OnErr, IsOk};
 ghost use Rattle.mm_types.specs.declared.answers.Wait.TheVariants as wait;
 ghost use Rattle.mm_script.specs.Printed.{IsWellFormed};
 ghost use Rattle.mm_world.specs.Contents.{blank};
@@ -27,7 +27,6 @@ use mm_types::{Answer, Event, NoMemory};
 use std::alloc::Global;
 
 /// Decides a line that a world decides, and that makes no access itself.
-#[inline(never)]
 #[tactic(auto, using(crate::proofs::Formed::fits_page))]
 fn decide_other<G: Pages>(
     alloc: Global,
@@ -140,34 +139,86 @@ fn decide_other<G: Pages>(
     }
 }
 
-/// Decides a line that a world decides. Accesses come first, since they are the commonest.
+/// Decides a line that makes no access itself, and writes its answer where it is wanted. It is not
+/// inlined, so that an access does not pay for the room that a call's answer takes.
+#[inline(never)]
+fn answer_other<G: Pages>(
+    alloc: Global,
+    t: &mut Tables,
+    g: &mut G,
+    line: u32,
+    event: &Event,
+    answer: &mut Answer,
+) -> Result<(), NoMemory>
+    requires well_formed { IsWellFormed event.now }
+    requires later { is_machine event.now ≡ false }
+    requires other { is_access_line event.now ≡ false }
+    requires keeps { KeepsOver G.Pages t.old g.old }
+    requires next { line ≡ (G.store g.old).line + 1 }
+    requires few { line ≤ 1000000 }
+    requires idle { G.unpaged ≡ true → (tid : ℕ) → (G.store g.old).report.wait tid ≡ wait.None }
+    ensures ok { OnOk result
+        (DecidedOver G.Pages event.now line t.old g.old answer.new t.new g.new) }
+    ensures err { OnErr result (IdleOver G.Pages t.old g.old t.new g.new) }
+    ensures no_memory { takes_memory blank t.old event.now ≡ false → IsOk result }
+    ensures waits { OnOk result (EndsWaits t.old event.now answer.new (G.store g.new).report) }
+    ensures marked { OnOk result
+        (MarkedOver G.Pages event.now line t.old g.old answer.new t.new g.new) }
+    ensures halted { OnErr result (HaltedOver G.Pages line g.old g.new) }
+    ensures beside { G.unpaged ≡ false →
+        OnOk result (AskedBesideOver G.Pages t.old event.now answer.new g.old g.new) }
+    ensures loans { G.loans g.new ≡ G.loans g.old }
+{
+    match decide_other(alloc, t, g, line, event) {
+        Ok(given) => {
+            *answer = given;
+            Ok(())
+        }
+        Err(e) => Err(e),
+    }
+}
+
+/// Decides a line that a world decides, and writes its answer where it is wanted. Accesses come
+/// first, since they are the commonest.
 pub(crate) fn decide<G: Pages>(
     alloc: Global,
     t: &mut Tables,
     g: &mut G,
     line: u32,
     event: &Event,
-) -> Result<Answer, NoMemory>
+    answer: &mut Answer,
+) -> Result<(), NoMemory>
     requires well_formed { IsWellFormed event.now }
     requires later { is_machine event.now ≡ false }
     requires keeps { KeepsOver G.Pages t.old g.old }
     requires next { line ≡ (G.store g.old).line + 1 }
     requires few { line ≤ 1000000 }
     requires idle { G.unpaged ≡ true → (tid : ℕ) → (G.store g.old).report.wait tid ≡ wait.None }
-    ensures ok { IfOk result (λ a. DecidedOver G.Pages event.now line t.old g.old a t.new g.new) }
+    ensures ok { OnOk result
+        (DecidedOver G.Pages event.now line t.old g.old answer.new t.new g.new) }
     ensures err { OnErr result (IdleOver G.Pages t.old g.old t.new g.new) }
     ensures no_memory { takes_memory blank t.old event.now ≡ false → IsOk result }
-    ensures waits { IfOk result (λ a. EndsWaits t.old event.now a (G.store g.new).report) }
-    ensures marked { IfOk result (λ a. MarkedOver G.Pages event.now line t.old g.old a t.new g.new) }
+    ensures waits { OnOk result (EndsWaits t.old event.now answer.new (G.store g.new).report) }
+    ensures marked { OnOk result
+        (MarkedOver G.Pages event.now line t.old g.old answer.new t.new g.new) }
     ensures halted { OnErr result (HaltedOver G.Pages line g.old g.new) }
     ensures beside { G.unpaged ≡ false →
-        IfOk result (λ a. AskedBesideOver G.Pages t.old event.now a g.old g.new) }
+        OnOk result (AskedBesideOver G.Pages t.old event.now answer.new g.old g.new) }
     ensures loans { G.loans g.new ≡ G.loans g.old }
 {
     match event {
-        Event::Read { pid, addr, len } => Ok(read_line(t, g, line, *pid, *addr, *len)),
-        Event::Write { pid, addr, bytes } => Ok(write_line(t, g, line, *pid, *addr, bytes)),
-        Event::Exec { pid, addr } => Ok(exec_line(t, g, line, *pid, *addr)),
-        _ => decide_other(alloc, t, g, line, event),
+        Event::Read { pid, addr, len } => {
+            read_line(t, g, line, *pid, *addr, *len, answer);
+            Ok(())
+        }
+        Event::Write { pid, addr, bytes } => {
+            write_line(t, g, line, *pid, *addr, bytes, answer);
+            Ok(())
+        }
+        Event::Exec { pid, addr } => {
+            exec_line(t, g, line, *pid, *addr, answer);
+            Ok(())
+        }
+        _ => answer_other(alloc, t, g, line, event, answer),
     }
 }

@@ -12,7 +12,7 @@ ghost use Rattle.mm_pages.specs.Store.{changed};
 ghost use Rattle.mm_pages.specs.Accesses.{Touches, Copies};
 ghost use Rattle.mm_pages.specs.Reports.{IsBegun, Ends, Served, SomeFailed, eased};
 ghost use Rattle.mm_pages.specs.Conditions.{place_at, touch, copying, IsReady, MayAccess};
-ghost use Rattle.mm_tables.specs.Fits.{bytes_of, key_at};
+ghost use Rattle.mm_tables.specs.Fits.{key_bytes, key_at};
 ghost use Rattle.mm_core.specs.Accessing.{Admits};
 ghost use Rattle.mm_core.specs.Over.{FitsOver, PassesOver};
 
@@ -61,7 +61,7 @@ pub(crate) fn fetch<G: Pages>(
     requires inside { addr % 4096 + length out.old ≤ 4096 }
     ensures length { length out.new ≡ length out.old }
     ensures bytes { OnOk result (out.new ≡
-        take (length out.old) (drop (addr % page_size) (bytes_of (G.contents g.old) key))) }
+        take (length out.old) (drop (addr % page_size) (key_bytes (G.contents g.old) key))) }
     ensures ends { Ends (touch key) (G.store g.new).report result }
     ensures fits { FitsOver G.Pages t.now g.new }
     ensures contents { G.contents g.new ≡ G.contents g.old }
@@ -99,7 +99,7 @@ pub(crate) fn read_bytes<G: Pages>(
     requires few { len ≤ 64 }
     requires inside { addr % 4096 + len ≤ 4096 }
     ensures bytes { IfOk result (λ b.
-        b ≡ take len (drop (addr % page_size) (bytes_of (G.contents g.old) key))) }
+        b ≡ take len (drop (addr % page_size) (key_bytes (G.contents g.old) key))) }
     ensures ends { Ends (touch key) (G.store g.new).report result }
     ensures fits { FitsOver G.Pages t.now g.new }
     ensures contents { G.contents g.new ≡ G.contents g.old }
@@ -141,7 +141,7 @@ pub(crate) fn put<G: Pages>(
     requires few { length bytes.now ≤ 64 }
     requires inside { addr % 4096 + length bytes.now ≤ 4096 }
     ensures written { OnOk result (G.contents g.new ≡ changed same_key (G.contents g.old) key
-        (Some (written (bytes_of (G.contents g.old) key) (addr % page_size) bytes.now))) }
+        (Some (written (key_bytes (G.contents g.old) key) (addr % page_size) bytes.now))) }
     ensures kept { OnErr result (G.contents g.new ≡ G.contents g.old) }
     ensures ends { IsBegun (G.store g.old).report → Ends (touch key) (G.store g.new).report result }
     ensures fits { FitsOver G.Pages t.now g.new }
@@ -240,7 +240,7 @@ pub(crate) fn put_copy<G: Pages>(
         changed same_key
         (changed same_key (G.contents g.old) (private_key pid.0 (page_of addr))
         (G.contents g.old row.key)) (private_key pid.0 (page_of addr))
-        (Some (written (bytes_of (G.contents g.old) row.key) (addr % page_size) bytes.now))) }
+        (Some (written (key_bytes (G.contents g.old) row.key) (addr % page_size) bytes.now))) }
     ensures row { OnOk result ((p : ProcessOf (Unit {0})) (c : Committed (Unit {0})) →
         process_of t.old pid.0 ≡ Some p → committed_at t.old p.regions (page_of addr) ≡ Some c →
         t.new ≡ set_row t.old pid.0 p c.region (page_of addr) (record c.row {

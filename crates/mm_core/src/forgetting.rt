@@ -1,6 +1,6 @@
 ghost use Rattle.std.specs.Prelude.{◌≡◌, false};
 ghost use Rattle.mm_world.specs.Step.{kept_by};
-ghost use Rattle.mm_core.specs.Forgetting.{Forgot, is_of, waits_but, waited};
+ghost use Rattle.mm_core.specs.Forgetting.{Forgot, is_of_process, waits_but, waited};
 ghost use Rattle.mm_core.specs.Noting.{IdlesIn, IdlesBut};
 
 use mm_pages::Pages;
@@ -9,7 +9,7 @@ use mm_types::{Pid, THREADS, Tid};
 
 /// Whether a thread keeps an access of the process.
 fn keeps_of(t: &Tables, tid: Tid, pid: Pid) -> bool
-    ensures { result ≡ is_of pid.0 (kept_by t.now tid.0) }
+    ensures { result ≡ is_of_process pid.0 (kept_by t.now tid.0) }
 {
     match t.kept(tid) {
         Some(kept) => kept.pid.0 == pid.0,

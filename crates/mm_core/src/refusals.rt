@@ -10,9 +10,9 @@ ghost use Rattle.mm_world.specs.Contents.{world_with};
 ghost use Rattle.mm_world.specs.Keys.{Committed, committed_at, guard_off};
 ghost use Rattle.mm_pages.specs.Store.{StoreOf};
 ghost use Rattle.mm_pages.specs.Conditions.{place_at};
-ghost use Rattle.mm_tables.specs.Fits.{Fits, key_at};
+ghost use Rattle.mm_tables.specs.Fits.{FitsTables, key_at};
 ghost use Rattle.mm_core.specs.Accessing.{Refuses, Admits};
-ghost use Rattle.mm_core.specs.Deciding.{Keeps};
+ghost use Rattle.mm_core.specs.Deciding.{KeepsTables};
 
 use mm_tables::{CommittedRow, Tables};
 use mm_types::{Access, PAGE_SIZE, Pid, Raise, permits};
@@ -25,8 +25,8 @@ fn alarm(t: &mut Tables, pid: Pid, page: u32) -> Raise
     ensures off { (p : ProcessOf (Unit {0})) (c : Committed (Unit {0})) →
         process_of t.old pid.0 ≡ Some p → committed_at t.old p.regions page ≡ Some c →
         t.new ≡ guard_off t.old pid.0 p c page }
-    ensures fits { (contents : Key → Option Page) (s : StoreOf) → Fits t.old contents s →
-        Fits t.new contents s }
+    ensures fits { (contents : Key → Option Page) (s : StoreOf) → FitsTables t.old contents s →
+        FitsTables t.new contents s }
     ensures raised { result ≡ raise.GuardPage }
 {
     t.take_guard_off(pid, page);
@@ -50,8 +50,8 @@ pub(crate) fn admit(
     ensures admitted { IfOk result (λ row. Admits t.old pid.0 addr wanted row) }
     ensures at { IfOk result (λ row. key_at t.old (place_at pid (page_of addr)) ≡ Some row.key) }
     ensures unchanged { OnOk result (t.new ≡ t.old) }
-    ensures keeps { (contents : Key → Option Page) (s : StoreOf) → Keeps t.old contents s →
-        Keeps t.new contents s }
+    ensures keeps { (contents : Key → Option Page) (s : StoreOf) → KeepsTables t.old contents s →
+        KeepsTables t.new contents s }
 {
     let page = addr / PAGE_SIZE;
     let row = match t.committed_row(pid, page) {

@@ -7,9 +7,9 @@ ghost use Rattle.mm_world.specs.Failure.{wait_failed};
 ghost use Rattle.mm_world.specs.Find.{process_of};
 ghost use Rattle.mm_pages.specs.Reports.{IsBegun};
 ghost use Rattle.mm_tables.specs.Threads.{FitsPage};
-ghost use Rattle.mm_core.specs.Pending.{Turned};
+ghost use Rattle.mm_core.specs.Pending.{ThreadWent};
 ghost use Rattle.mm_core.specs.declared.threads.Threaded.TheVariants as threaded;
-ghost use Rattle.mm_core.specs.Deciding.{Begins};
+ghost use Rattle.mm_core.specs.Deciding.{LineBegins};
 ghost use Rattle.mm_core.specs.Forgetting.{waited, EndsWaits};
 ghost use Rattle.mm_types.specs.declared.moves.Move.TheVariants as move;
 ghost use Rattle.mm_pages.specs.Accesses.{Forgets};
@@ -40,7 +40,8 @@ fn access_on<G: Pages>(
     requires form { (G.store g.old).kind ≡ line_kind.Thread pid }
     requires begun { IsBegun (G.store g.old).report }
     requires fits { FitsPage what.now }
-    ensures turned { Turned result failed t.old.machine.depth (world_over G.Pages t.old g.old) pid.0
+    ensures turned { ThreadWent result failed t.old.machine.depth (world_over G.Pages t.old g.old)
+        pid.0
         (address_in what.now) (attempt_in what.now) (G.store g.old) (G.store g.new)
         (world_over G.Pages t.new g.new) }
     ensures keeps { KeepsOver G.Pages t.new g.new }
@@ -64,7 +65,7 @@ fn begin_thread<G: Pages>(t: &Tables, g: &mut G, line: u32, pid: Pid, busy: bool
     requires next { line ≡ (G.store g.old).line + 1 }
     ensures lives { result ≡ is_some (process_of t.now pid.0) }
     ensures fits { FitsOver G.Pages t.now g.new }
-    ensures begins { Begins line (G.store g.old) (G.store g.new) }
+    ensures begins { LineBegins line (G.store g.old) (G.store g.new) }
     ensures form { result ≡ true → busy ≡ false → (G.store g.new).kind ≡ line_kind.Thread pid }
     ensures contents { G.contents g.new ≡ G.contents g.old }
     ensures passes { PassesOver G.Pages

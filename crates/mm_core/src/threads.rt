@@ -11,7 +11,7 @@ ghost use Rattle.mm_core.specs.Accessing.{Admits};
 ghost use Rattle.mm_world.specs.Find.{process_of};
 ghost use Rattle.mm_types.specs.declared.answers.Why.{Why};
 ghost use Rattle.mm_core.specs.declared.threads.Threaded.TheVariants as threaded;
-ghost use Rattle.mm_core.specs.Pending.{Waits, Went, Turned};
+ghost use Rattle.mm_core.specs.Pending.{Waits, AccessMade, ThreadWent};
 ghost use Rattle.mm_core.specs.Answering.{WentBy, TurnedBy};
 ghost use Rattle.mm_core.specs.Over.{KeepsOver, PassesOver, aim_over, world_over};
 
@@ -53,7 +53,8 @@ pub(crate) fn read_on<G: Pages>(
     requires some { 1 ≤ len }
     requires few { len ≤ 64 }
     requires inside { addr % 4096 + len ≤ 4096 }
-    ensures went { IfOk result (λ a. Went t.now.machine.depth (world_over G.Pages t.now g.old) pid.0
+    ensures went { IfOk result (λ a. AccessMade t.now.machine.depth (world_over G.Pages t.now g.old)
+        pid.0
         addr (ReadOf len) (G.store g.old) (G.store g.new) a (world_over G.Pages t.now g.new)) }
     ensures waits { IfErr result
         (λ why. Waits t.now.machine.depth (world_over G.Pages t.now g.old) pid.0 addr (ReadOf len)
@@ -70,7 +71,11 @@ pub(crate) fn read_on<G: Pages>(
     g.sound();
     match g.start(tid, place_of(pid, addr), row.key, Need::Touch) {
         Start::Pending(why) => Err(why),
-        Start::Ready => Ok(read_at(t, g, pid, addr, row, len)),
+        Start::Ready => {
+            let mut answer = Answer::Ok;
+            read_at(t, g, pid, addr, row, len, &mut answer);
+            Ok(answer)
+        }
     }
 }
 
@@ -93,7 +98,8 @@ pub(crate) fn write_on<G: Pages>(
     requires begun { IsBegun (G.store g.old).report }
     requires stays { row.copies ≡ false }
     requires inside { addr % 4096 + length bytes.now ≤ 4096 }
-    ensures went { IfOk result (λ a. Went t.old.machine.depth (world_over G.Pages t.old g.old) pid.0
+    ensures went { IfOk result (λ a. AccessMade t.old.machine.depth (world_over G.Pages t.old g.old)
+        pid.0
         addr (WriteOf bytes.now) (G.store g.old) (G.store g.new) a (world_over G.Pages t.new g.new)) }
     ensures waits { IfErr result
         (λ why. Waits t.old.machine.depth (world_over G.Pages t.old g.old) pid.0 addr
@@ -110,7 +116,11 @@ pub(crate) fn write_on<G: Pages>(
     g.sound();
     match g.start(tid, place_of(pid, addr), row.key, Need::Touch) {
         Start::Pending(why) => Err(why),
-        Start::Ready => Ok(write_at(t, g, pid, addr, row, bytes)),
+        Start::Ready => {
+            let mut answer = Answer::Ok;
+            write_at(t, g, pid, addr, row, bytes, &mut answer);
+            Ok(answer)
+        }
     }
 }
 
@@ -133,7 +143,8 @@ pub(crate) fn write_to_copy_on<G: Pages>(
     requires begun { IsBegun (G.store g.old).report }
     requires copies { row.copies ≡ true }
     requires inside { addr % 4096 + length bytes.now ≤ 4096 }
-    ensures went { IfOk result (λ a. Went t.old.machine.depth (world_over G.Pages t.old g.old) pid.0
+    ensures went { IfOk result (λ a. AccessMade t.old.machine.depth (world_over G.Pages t.old g.old)
+        pid.0
         addr (WriteOf bytes.now) (G.store g.old) (G.store g.new) a (world_over G.Pages t.new g.new)) }
     ensures waits { IfErr result
         (λ why. Waits t.old.machine.depth (world_over G.Pages t.old g.old) pid.0 addr
@@ -150,7 +161,11 @@ pub(crate) fn write_to_copy_on<G: Pages>(
     g.sound();
     match g.start(tid, place_of(pid, addr), row.key, Need::Copy) {
         Start::Pending(why) => Err(why),
-        Start::Ready => Ok(write_to_copy(t, g, pid, addr, row, bytes)),
+        Start::Ready => {
+            let mut answer = Answer::Ok;
+            write_to_copy(t, g, pid, addr, row, bytes, &mut answer);
+            Ok(answer)
+        }
     }
 }
 
@@ -172,7 +187,8 @@ pub(crate) fn read_access<G: Pages>(
     requires some { 1 ≤ len }
     requires few { len ≤ 64 }
     requires inside { addr % 4096 + len ≤ 4096 }
-    ensures turned { Turned result failed t.old.machine.depth (world_over G.Pages t.old g.old) pid.0
+    ensures turned { ThreadWent result failed t.old.machine.depth (world_over G.Pages t.old g.old)
+        pid.0
         addr (ReadOf len) (G.store g.old) (G.store g.new) (world_over G.Pages t.new g.new) }
     ensures keeps { KeepsOver G.Pages t.new g.new }
     ensures line { (G.store g.new).line ≡ (G.store g.old).line }
@@ -211,7 +227,8 @@ pub(crate) fn write_access<G: Pages>(
     requires form { (G.store g.old).kind ≡ line_kind.Thread pid }
     requires begun { IsBegun (G.store g.old).report }
     requires inside { addr % 4096 + length bytes.now ≤ 4096 }
-    ensures turned { Turned result failed t.old.machine.depth (world_over G.Pages t.old g.old) pid.0
+    ensures turned { ThreadWent result failed t.old.machine.depth (world_over G.Pages t.old g.old)
+        pid.0
         addr (WriteOf bytes.now) (G.store g.old) (G.store g.new) (world_over G.Pages t.new g.new) }
     ensures keeps { KeepsOver G.Pages t.new g.new }
     ensures line { (G.store g.new).line ≡ (G.store g.old).line }

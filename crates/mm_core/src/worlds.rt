@@ -1,10 +1,10 @@
-ghost use Rattle.std.specs.Prelude.{◌≡◌, ◌≤◌, ◌+◌, true, false, IfOk, OnOk, OnErr, IsOk};
+ghost use Rattle.std.specs.Prelude.{◌≡◌, ◌≤◌, ◌+◌, true, false, OnOk, OnErr, IsOk};
 ghost use Rattle.mm_world.specs.World.{filled};
 ghost use Rattle.mm_world.specs.Step.{first_world};
 ghost use Rattle.mm_world.specs.Charge.{charge, limit};
 ghost use Rattle.mm_pages.specs.Conditions.{IsNew};
 ghost use Rattle.mm_script.specs.Printed.{IsWellFormed};
-ghost use Rattle.mm_tables.specs.Fits.{Fits};
+ghost use Rattle.mm_tables.specs.Fits.{FitsTables};
 ghost use Rattle.mm_tables.specs.References.{MadeAtMost};
 ghost use Rattle.mm_core.specs.Built.{is_machine, takes_memory};
 
@@ -23,14 +23,14 @@ pub struct World<G: Pages> {
     /// The store of the pages.
     pub pages: G,
     spent: bool,
-    ghost fits: { spent ≡ false → Fits tables (G.contents pages) (G.store pages) },
+    ghost fits: { spent ≡ false → FitsTables tables (G.contents pages) (G.store pages) },
     ghost few: { spent ≡ false → MadeAtMost (G.store pages).line tables },
 }
 
 impl<G: Pages> World<G> {
     ghost use Rattle.mm_core.specs.Promise.{Decides, Breaks, scene};
     ghost use Rattle.mm_paging.specs.Lines.{Agrees};
-    ghost use Rattle.mm_core.specs.Shown.{world, report, behind, line_of, loans};
+    ghost use Rattle.mm_core.specs.Shown.{world, report, world_behind, line_number, loans};
 
     /// The world after the `machine` line, over a new store of that machine. Over one that pages
     /// its report is that of the frames behind it.
@@ -38,7 +38,8 @@ impl<G: Pages> World<G> {
         requires new { IsNew machine (G.contents pages) (G.store pages) }
         ensures world { world result ≡ first_world machine }
         ensures pages { result.pages ≡ pages }
-        ensures agrees { G.unpaged ≡ false → Agrees (world result) (report result) (behind result) }
+        ensures agrees { G.unpaged ≡ false →
+            Agrees (world result) (report result) (world_behind result) }
         ensures ready { result.spent ≡ false }
     {
         pages.sound();
@@ -71,9 +72,9 @@ impl<G: Pages> World<G> {
         self.tables.charge()
     }
 
-    /// Decides one line, the next one: its answer is that of the definitions' step from the world
-    /// that there was, by the store's reports before and after it, and the world that there is then
-    /// is the step's.
+    /// Decides one line, the next one, and writes its answer over the one that stands there: it is
+    /// that of the definitions' step from the world that there was, by the store's reports before
+    /// and after it, and the world that there is then is the step's.
     ///
     /// Each form is the Windows call that `mm_calls` name at its function, or this
     /// profile's own. `line` is the number of the line in its script, where `machine` is line 1,
@@ -88,26 +89,39 @@ impl<G: Pages> World<G> {
     ///
     /// What is told of a line that was decided is one record (`Decides`), and of one that ran out
     /// of memory another (`Breaks`). Over a store that pages, the line's piece of the log of moves
-    /// is its `at` and the moves that its form allows (`Told`: `line`); after `NoMemory` it is an
-    /// `at` alone, or empty (`broken`).
+    /// is its `at` and the moves that its form allows (`ToldBeside`: `line`); after `NoMemory` it
+    /// is an `at` alone, or empty (`broken`).
     #[tactic(auto, using(crate::proofs::Readiness::idle_in))]
-    pub fn step(&mut self, alloc: Global, line: u32, event: &Event) -> Result<Answer, NoMemory>
+    pub fn step(
+        &mut self,
+        alloc: Global,
+        line: u32,
+        event: &Event,
+        answer: &mut Answer,
+    ) -> Result<(), NoMemory>
         requires well_formed { IsWellFormed event.now }
         requires later { is_machine event.now ≡ false }
-        requires next { line ≡ line_of self.old + 1 }
+        requires next { line ≡ line_number self.old + 1 }
         requires few { line ≤ 1000000 }
         requires ready { self.old.spent ≡ false }
-        ensures decided { IfOk result (λ a.
-            Decides G.unpaged (scene self.old) event.now a (scene self.new)) }
+        ensures decided { OnOk result
+            (Decides G.unpaged (scene self.old) event.now answer.new (scene self.new)) }
         ensures broke { OnErr result (Breaks G.unpaged (scene self.old) (scene self.new)) }
         ensures no_memory { takes_memory filled (world self.old) event.now ≡ false → IsOk result }
-        ensures line { OnOk result (line_of self.new ≡ line) }
+        ensures line { OnOk result (line_number self.new ≡ line) }
         ensures ready { OnOk result (self.new.spent ≡ false) }
         ensures spent { OnErr result (self.new.spent ≡ true) }
         ensures loans { loans self.new ≡ loans self.old }
     {
         self.pages.sound();
-        let result = decide(alloc, &mut self.tables, &mut self.pages, line, event);
+        let result = decide(
+            alloc,
+            &mut self.tables,
+            &mut self.pages,
+            line,
+            event,
+            answer,
+        );
         self.spent = result.is_err();
         self.tables.sound();
         self.pages.sound();

@@ -16,7 +16,7 @@ use Rattle.mm_laws.proofs.Tallies.{tally-more}
 use Rattle.mm_laws.proofs.PlaceCounts.{same_place-true, same_place-self}
 use Rattle.mm_life.specs.Order.{is_unpinned, may_go}
 use Rattle.mm_life.specs.Order.{Ages, turn_of, process_first, IsOldest, IsVictim}
-use Rattle.mm_frame_laws.specs.Order.{Sooner, IsNext, PassedTo, NoneFollows, IsBest, BestBelow, takes_over}
+use Rattle.mm_frame_laws.specs.Order.{Sooner, IsNextPage, PassedTo, NoPageFollows, IsBest, BestBelow, takes_over}
 use Rattle.mm_frame_laws.proofs.Ordering.{NotBefore, page_from, process_not, process_from, some_oldest, all_shown}
 
 -- ---- the pages of a set in turn
@@ -36,7 +36,7 @@ module _ (l : FrameLife) (ages : Ages) (pinned : Option Frame) where
       at None h = cc
       at (Some f) h = refl
 
-  pub next_oldest : (after : Option Place) (v : Place) → PassedTo l ages pinned v.pid.0 after → IsNext l ages after v → may_go l pinned v ≡ true → IsOldest l ages pinned v
+  pub next_oldest : (after : Option Place) (v : Place) → PassedTo l ages pinned v.pid.0 after → IsNextPage l ages after v → may_go l pinned v ≡ true → IsOldest l ages pinned v
   next_oldest after v passed next goes = record {
     goes = goes;
     first = λ q e g. elim (next.first q e (goes_valid q g) (passed q e g)) [
@@ -45,13 +45,13 @@ module _ (l : FrameLife) (ages : Ages) (pinned : Option Frame) where
     ];
   }
 
-  pub next_passed : (after : Option Place) (v : Place) → PassedTo l ages pinned v.pid.0 after → IsNext l ages after v → may_go l pinned v ≡ false → PassedTo l ages pinned v.pid.0 (Some v)
+  pub next_passed : (after : Option Place) (v : Place) → PassedTo l ages pinned v.pid.0 after → IsNextPage l ages after v → may_go l pinned v ≡ false → PassedTo l ages pinned v.pid.0 (Some v)
   next_passed after v passed next stays = λ q e g. elim (next.first q e (goes_valid q g) (passed q e g)) [
     | inl s ↦ (let bad : true ≡ false = sym g ∙ (ap (may_go l pinned) s ∙ stays) in cc)
     | inr s ↦ s
   ]
 
-  pub none_next : (pid : ℕ) (after : Option Place) → PassedTo l ages pinned pid after → NoneFollows l ages pid after → (q : Place) → q.pid.0 ≡ pid → may_go l pinned q ≡ false
+  pub none_next : (pid : ℕ) (after : Option Place) → PassedTo l ages pinned pid after → NoPageFollows l ages pid after → (q : Place) → q.pid.0 ≡ pid → may_go l pinned q ≡ false
   none_next pid after passed none q e = at (may_go l pinned q) refl
     where
       at : (b : Bool) → may_go l pinned q ≡ b → b ≡ false

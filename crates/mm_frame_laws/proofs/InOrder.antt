@@ -21,7 +21,7 @@ use Rattle.mm_laws.proofs.Tallies.{tally-append, times_on}
 use Rattle.mm_laws.proofs.Kept.{kept_along}
 use Rattle.mm_laws.proofs.PlaceCounts.{has_shares}
 use Rattle.mm_life.specs.Order.{Ages, IsVictim}
-use Rattle.mm_frame_laws.specs.Steps.{is_last, Unmapped, after_failed, put_last, walked}
+use Rattle.mm_frame_laws.specs.Steps.{is_last, Unmapped, after_failed, put_last, list_in_search}
 use Rattle.mm_frame_laws.specs.Searches.{is_lost_of, lost_in, failed_write, Walking, Emptying, first_passing, is_untried, next_try, written_by, open_write, IsUnmap, AreSteps, InOrder, InWalk}
 use Rattle.mm_frame_laws.proofs.Unmapping.{unmapped}
 use Rattle.mm_laws.specs.Settling.{at_end_if}
@@ -80,7 +80,7 @@ module _ (start l : FrameLife) (ages : Ages) (pinned : Option Frame) (passed lef
   fresh : lost_in moves f.0 ≡ false
   fresh = not_true (lost_in moves f.0) (λ h.
       let on = o.only f.0 h in
-      let list : l.frames.modified ≡ walked passed (f.0 ∷ left) lost = ap (λ (k : FrameLife). k.frames.modified) w.now in
+      let list : l.frames.modified ≡ list_in_search passed (f.0 ∷ left) lost = ap (λ (k : FrameLife). k.frames.modified) w.now in
       let once = sym (ap (λ (xs : List ℕ). times f.0 xs) list) ∙ (modified_frame l s f.0 (walk_on start l passed left lost moves f w)).once in
       let a = tally-append (λ x. x == f.0) passed (f.0 ∷ (left ++ lost)) in
       let b = tally-append (λ x. x == f.0) left lost in
@@ -92,7 +92,7 @@ module _ (start l : FrameLife) (ages : Ages) (pinned : Option Frame) (passed lef
   tries =
       ap (λ (xs : List ℕ). first_passing (is_untried l moves) xs) (ap (λ (k : FrameLife). k.frames.modified) w.now)
       ∙ passes_first (is_untried l moves) passed (left ++ lost) f.0
-      (λ x h. ap (λ b. b && not (lost_in moves x)) (writes_same start l (walked passed (f.0 ∷ left) lost) w.now x ∙ w.over x h))
+      (λ x h. ap (λ b. b && not (lost_in moves x)) (writes_same start l (list_in_search passed (f.0 ∷ left) lost) w.now x ∙ w.over x h))
       (ap (λ b. b && not (lost_in moves f.0)) can ∙ ap not fresh)
 
   -- its write failed

@@ -8,11 +8,11 @@ use Rattle.mm_types.specs.declared.numbers.Frame.{Frame}
 use Rattle.mm_types.specs.declared.numbers.Pid.{Pid}
 use Rattle.mm_types.specs.declared.numbers.Place.{Place}
 use Rattle.mm_life.specs.Life.{FrameLife}
-use Rattle.mm_wset.specs.Ages.{IsOldest, NoneFollows, GoesAfter, GoesBefore}
+use Rattle.mm_wset.specs.Ages.{IsOldestInSet, NoneFollowsInSet, GoesAfter, GoesBefore}
 use Rattle.mm_life.specs.Order.{Ages}
-use Rattle.mm_frame_laws.specs.Order.{Follows, IsNext}
-use Rattle.mm_frame_laws.specs.Sets.{SetShows, place_of_page, IsInSet, page_in}
-use Rattle.mm_frame_laws.specs.Order.{NoneFollows as NoneNext}
+use Rattle.mm_frame_laws.specs.Order.{FollowsPage, IsNextPage}
+use Rattle.mm_frame_laws.specs.Sets.{SetShows, place_of_page, IsInSet, page_of_place}
+use Rattle.mm_frame_laws.specs.Order.{NoPageFollows as NoneNext}
 
 module _ (l : FrameLife) (ages : Ages) (pid : Pid) (set : FinMap nat_cmp ℕ) (agrees : SetShows l ages pid set) where
   -- a page of the set is valid
@@ -31,28 +31,28 @@ module _ (l : FrameLife) (ages : Ages) (pid : Pid) (set : FinMap nat_cmp ℕ) (a
       at (Some f) g = refl
 
   -- of a page that is in the set
-  follows_by : (after : Option Place) → IsInSet l pid after → (q : Place) → GoesAfter set (page_in after) q.vpn.0 (ages q) → Follows ages after q
+  follows_by : (after : Option Place) → IsInSet l pid after → (q : Place) → GoesAfter set (page_of_place after) q.vpn.0 (ages q) → FollowsPage ages after q
   follows_by None known q h = tt
   follows_by (Some p) known q h = let k = known p refl in h (ages p) (valid_held p k.0 k.1)
 
-  goes_by : (after : Option Place) → IsInSet l pid after → (q : Place) → Follows ages after q → GoesAfter set (page_in after) q.vpn.0 (ages q)
+  goes_by : (after : Option Place) → IsInSet l pid after → (q : Place) → FollowsPage ages after q → GoesAfter set (page_of_place after) q.vpn.0 (ages q)
   goes_by None known q h = tt
   goes_by (Some p) known q h = λ a e.
       let k = known p refl in
       let same : ages p ≡ a = (held_valid p a k.0 e).1 in
       subst (λ (n : ℕ). GoesBefore p.vpn.0 n q.vpn.0 (ages q)) same h
 
-  pub oldest_next : (after : Option Place) → IsInSet l pid after → (v : ℕ) → IsOldest set (page_in after) v → IsNext l ages after (place_of_page pid v)
+  pub oldest_next : (after : Option Place) → IsInSet l pid after → (v : ℕ) → IsOldestInSet set (page_of_place after) v → IsNextPage l ages after (place_of_page pid v)
   oldest_next after known v o =
       let here = held_valid (place_of_page pid v) o.age refl o.held in
       record {
         valid = here.0;
-        follows = follows_by after known (place_of_page pid v) (subst (λ (n : ℕ). GoesAfter set (page_in after) v n) (sym here.1) o.follows);
+        follows = follows_by after known (place_of_page pid v) (subst (λ (n : ℕ). GoesAfter set (page_of_place after) v n) (sym here.1) o.follows);
         first = λ q e t h. elim (o.first q.vpn.0 (ages q) (valid_held q e t) (goes_by after known q h)) [
           | inl s ↦ inl (λ i. record { pid = record { 0 = e i }; vpn = record { 0 = s i } })
           | inr s ↦ inr (subst (λ (n : ℕ). GoesBefore v n q.vpn.0 (ages q)) (sym here.1) s)
         ];
       }
 
-  pub none_next_in : (after : Option Place) → IsInSet l pid after → NoneFollows set (page_in after) → NoneNext l ages pid.0 after
+  pub none_next_in : (after : Option Place) → IsInSet l pid after → NoneFollowsInSet set (page_of_place after) → NoneNext l ages pid.0 after
   none_next_in after known none = λ q e t h. none q.vpn.0 (ages q) (valid_held q e t) (goes_by after known q h)

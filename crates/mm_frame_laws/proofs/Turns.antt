@@ -18,7 +18,7 @@ use Rattle.mm_laws.proofs.Kept.{keeps, kept_along}
 use Rattle.mm_frame_laws.specs.Room.{NoneMayGo, IsWithinDepth}
 use Rattle.mm_laws.specs.Places.{valid_places}
 use Rattle.mm_frame_laws.specs.Steps.{Unmapped, after_failed}
-use Rattle.mm_frame_laws.specs.Searches.{failed_write, lost_in, Missed, Walking, Emptying}
+use Rattle.mm_frame_laws.specs.Searches.{failed_write, lost_in, AllWritesFailed, Walking, Emptying}
 use Rattle.mm_frame_laws.proofs.Unmapping.{unmapped}
 use Rattle.mm_frame_laws.proofs.Writing.{unmap_legal, lost_legal, failed}
 use Rattle.mm_frame_laws.proofs.Walks.{walk_ends, unmap_but, but_none, but_failed, ends_with_lost}
@@ -82,7 +82,7 @@ module _ (start l : FrameLife) (begun : Sound start) (moves : List Move) (e : Em
           access = ap (λ (k : FrameLife). is_access k.kind) same ∙ access_now;
           short = ap (λ (k : FrameLife). is_short k) same ∙ short;
           few = subst (λ (k : FrameLife). length k.flight ≤ k.machine.depth) (sym same) few_now;
-          missed = subst (λ (xs : List Move). Missed (after_failed m f home) xs) (append_assoc moves (move.Unmap place ∷ []) (failed_write f home))
+          missed = subst (λ (xs : List Move). AllWritesFailed (after_failed m f home) xs) (append_assoc moves (move.Unmap place ∷ []) (failed_write f home))
               (but_failed f m sound_now (moves ++ move.Unmap place ∷ []) on (unmap_but l m place f.0 u moves (move.Unmap place ∷ []) e.missed) home writes);
         }
 

@@ -21,8 +21,8 @@ use Rattle.mm_laws.specs.Tally.{one_if, times}
 use Rattle.mm_laws.specs.Sound.{Sound}
 use Rattle.mm_life.specs.Order.{may_go}
 use Rattle.mm_frame_laws.specs.Room.{NoneMayGo, Writable, IsWithinDepth}
-use Rattle.mm_frame_laws.specs.Steps.{is_last, SameWriters, Unmapped, after_failed, walked}
-use Rattle.mm_frame_laws.specs.Searches.{is_lost_of, lost_in, failed_write, Missed, MissedBut, with_modified, Walking}
+use Rattle.mm_frame_laws.specs.Steps.{is_last, SameWriters, Unmapped, after_failed, list_in_search}
+use Rattle.mm_frame_laws.specs.Searches.{is_lost_of, lost_in, failed_write, AllWritesFailed, MissedBut, with_modified, Walking}
 use Rattle.mm_frame_laws.proofs.Counting.{room}
 use Rattle.mm_laws.specs.Settling.{at_end_if}
 use Rattle.mm_laws.proofs.Tallies.{tally-append}
@@ -32,16 +32,16 @@ use Rattle.mm_frame_laws.proofs.Writing.{failed}
 
 -- ---- the list in the walk
 
-pub walk_over : (passed left lost : List ℕ) (f : ℕ) → walked (passed ++ f ∷ []) left lost ≡ walked passed (f ∷ left) lost
+pub walk_over : (passed left lost : List ℕ) (f : ℕ) → list_in_search (passed ++ f ∷ []) left lost ≡ list_in_search passed (f ∷ left) lost
 walk_over passed left lost f = append_assoc passed (f ∷ []) (left ++ lost)
 
-pub walk_lost : (passed left lost : List ℕ) (f : ℕ) → times f (walked passed (f ∷ left) lost) ≡ 1 → without f (walked passed (f ∷ left) lost) ++ f ∷ [] ≡ walked passed left (lost ++ f ∷ [])
+pub walk_lost : (passed left lost : List ℕ) (f : ℕ) → times f (list_in_search passed (f ∷ left) lost) ≡ 1 → without f (list_in_search passed (f ∷ left) lost) ++ f ∷ [] ≡ list_in_search passed left (lost ++ f ∷ [])
 walk_lost passed left lost f once =
     let a = tally-append (λ x. x == f) passed (f ∷ (left ++ lost)) in
     let one : one_if (f == f) ≡ 1 = ap one_if ((unsigned_Decides f f).1 refl) in
     let p : without f passed ≡ passed = without_none f passed (omega (arith, once, a, one)) in
     let q : without f (left ++ lost) ≡ left ++ lost = without_none f (left ++ lost) (omega (arith, once, a, one)) in
-    let e : without f (walked passed (f ∷ left) lost) ≡ passed ++ (left ++ lost) =
+    let e : without f (list_in_search passed (f ∷ left) lost) ≡ passed ++ (left ++ lost) =
     without_append f passed (f ∷ (left ++ lost)) ∙ (ap (λ (ys : List ℕ). without f passed ++ ys) (without_self f (left ++ lost) ∙ q) ∙ ap (λ (ys : List ℕ). ys ++ (left ++ lost)) p) in
     ap (λ (ys : List ℕ). ys ++ f ∷ []) e ∙ (append_assoc passed (left ++ lost) (f ∷ []) ∙ ap (λ (ys : List ℕ). passed ++ ys) (append_assoc left lost (f ∷ [])))
 
@@ -125,12 +125,12 @@ walk_passes_all start l passed more left lost moves w bars = record {
   now = w.now ∙ (λ i. with_modified start (list i));
   over = λ g e. elim (or_cases (is_on g passed) (is_on g more) (sym (on_append g passed more) ∙ e)) [
     | inl h ↦ w.over g h
-    | inr h ↦ sym (writes_same start l (walked passed (more ++ left) lost) w.now g) ∙ bars g h
+    | inr h ↦ sym (writes_same start l (list_in_search passed (more ++ left) lost) w.now g) ∙ bars g h
   ];
   tried = w.tried;
 }
   where
-    list : walked passed (more ++ left) lost ≡ walked (passed ++ more) left lost
+    list : list_in_search passed (more ++ left) lost ≡ list_in_search (passed ++ more) left lost
     list = ap (λ (xs : List ℕ). passed ++ xs) (append_assoc more left lost) ∙ sym (append_assoc passed more (left ++ lost))
 
 module _ (start l : FrameLife) (passed left lost : List ℕ) (moves : List Move) (f : Frame) (w : Walking start l passed (f.0 ∷ left) lost moves) where
@@ -146,7 +146,7 @@ module _ (start l : FrameLife) (passed left lost : List ℕ) (moves : List Move)
     now = w.now ∙ (λ i. with_modified start (sym (walk_over passed left lost f.0) i));
     over = λ g e. elim (on_push g f.0 passed e) [
       | inl h ↦ w.over g h
-      | inr h ↦ ap (can_be_written start) h ∙ (sym (writes_same start l (walked passed (f.0 ∷ left) lost) w.now f.0) ∙ bars)
+      | inr h ↦ ap (can_be_written start) h ∙ (sym (writes_same start l (list_in_search passed (f.0 ∷ left) lost) w.now f.0) ∙ bars)
     ];
     tried = w.tried;
   }
@@ -155,11 +155,11 @@ module _ (start l : FrameLife) (passed left lost : List ℕ) (moves : List Move)
   pub walk_fails : Sound l → (home : Stored) → IsLegal (move.Write f home) l → Walking start (after_failed l f home) passed left (lost ++ f.0 ∷ []) (moves ++ failed_write f home)
   walk_fails s home legal =
       let m = modified_frame l s f.0 walk_on in
-      let list : l.frames.modified ≡ walked passed (f.0 ∷ left) lost = ap (λ (k : FrameLife). k.frames.modified) w.now in
+      let list : l.frames.modified ≡ list_in_search passed (f.0 ∷ left) lost = ap (λ (k : FrameLife). k.frames.modified) w.now in
       let once = sym (ap (λ (xs : List ℕ). times f.0 xs) list) ∙ m.once in
-      let moved : without f.0 l.frames.modified ++ f.0 ∷ [] ≡ walked passed left (lost ++ f.0 ∷ []) = ap (λ (xs : List ℕ). without f.0 xs ++ f.0 ∷ []) list ∙ walk_lost passed left lost f.0 once in
+      let moved : without f.0 l.frames.modified ++ f.0 ∷ [] ≡ list_in_search passed left (lost ++ f.0 ∷ []) = ap (λ (xs : List ℕ). without f.0 xs ++ f.0 ∷ []) list ∙ walk_lost passed left lost f.0 once in
       record {
-        now = failed l s f walk_on home legal ∙ ((λ i. with_modified l (moved i)) ∙ (λ i. with_modified (w.now i) (walked passed left (lost ++ f.0 ∷ []))));
+        now = failed l s f walk_on home legal ∙ ((λ i. with_modified l (moved i)) ∙ (λ i. with_modified (w.now i) (list_in_search passed left (lost ++ f.0 ∷ []))));
         over = w.over;
         tried = λ g e. elim (on_push g f.0 lost e) [
           | inl h ↦ lost_still moves (failed_write f home) g (w.tried g h)
@@ -168,11 +168,11 @@ module _ (start l : FrameLife) (passed left lost : List ℕ) (moves : List Move)
       }
 
 -- after the walk each modified frame that can be written was tried
-pub walk_ends : (start l : FrameLife) (passed lost : List ℕ) (moves : List Move) → Walking start l passed [] lost moves → Missed l moves
+pub walk_ends : (start l : FrameLife) (passed lost : List ℕ) (moves : List Move) → Walking start l passed [] lost moves → AllWritesFailed l moves
 walk_ends start l passed lost moves w = λ g on can.
     let listed = sym (on_append g passed lost) ∙ (sym (ap (λ (k : FrameLife). is_on g k.frames.modified) w.now) ∙ on) in
     elim (or_cases (is_on g passed) (is_on g lost) listed) [
-      | inl h ↦ let bad : true ≡ false = sym can ∙ (writes_same start l (walked passed [] lost) w.now g ∙ w.over g h) in cc
+      | inl h ↦ let bad : true ≡ false = sym can ∙ (writes_same start l (list_in_search passed [] lost) w.now g ∙ w.over g h) in cc
       | inr h ↦ w.tried g h
     ]
 
@@ -193,13 +193,13 @@ module _ (l m : FrameLife) (place : Place) (f : ℕ) (u : Unmapped l m place f) 
   on_joined false xs g n e = e
 
   -- all but the frame of the place were tried as before
-  pub unmap_but : (moves more : List Move) → Missed l moves → MissedBut f m (moves ++ more)
+  pub unmap_but : (moves more : List Move) → AllWritesFailed l moves → MissedBut f m (moves ++ more)
   unmap_but moves more h = λ g n on can.
       let was = on_joined (is_last (record_at l.frames f) && (record_at l.frames f).changed) l.frames.modified g n (sym (ap (is_on g) u.lists.modified) ∙ on) in
       lost_still moves more g (h g was (sym (writers_same l m u.writers g) ∙ can))
 
 -- the frame is not modified, or cannot be written
-pub but_none : (f : ℕ) (m : FrameLife) (moves : List Move) → MissedBut f m moves → (is_on f m.frames.modified ≡ true → can_be_written m f ≡ false) → Missed m moves
+pub but_none : (f : ℕ) (m : FrameLife) (moves : List Move) → MissedBut f m moves → (is_on f m.frames.modified ≡ true → can_be_written m f ≡ false) → AllWritesFailed m moves
 but_none f m moves h bars = λ g on can. elim (same_or_not g f) [
   | inl e ↦
       let bad : true ≡ false = sym can ∙ (ap (can_be_written m) e ∙ bars (sym (ap (λ (k : ℕ). is_on k m.frames.modified) e) ∙ on)) in cc
@@ -207,9 +207,9 @@ but_none f m moves h bars = λ g on can. elim (same_or_not g f) [
 ]
 
 -- its write failed
-pub but_failed : (f : Frame) (m : FrameLife) (s : Sound m) (moves : List Move) → is_on f.0 m.frames.modified ≡ true → MissedBut f.0 m moves → (home : Stored) → IsLegal (move.Write f home) m → Missed (after_failed m f home) (moves ++ failed_write f home)
+pub but_failed : (f : Frame) (m : FrameLife) (s : Sound m) (moves : List Move) → is_on f.0 m.frames.modified ≡ true → MissedBut f.0 m moves → (home : Stored) → IsLegal (move.Write f home) m → AllWritesFailed (after_failed m f home) (moves ++ failed_write f home)
 but_failed f m s moves on h home legal =
-    subst (λ (k : FrameLife). Missed k (moves ++ failed_write f home)) (sym (failed m s f on home legal)) (λ g i can. elim (same_or_not g f.0) [
+    subst (λ (k : FrameLife). AllWritesFailed k (moves ++ failed_write f home)) (sym (failed m s f on home legal)) (λ g i can. elim (same_or_not g f.0) [
       | inl e ↦ ap (lost_in (moves ++ failed_write f home)) e ∙ lost_now moves f home
       | inr n ↦ elim (on_push g f.0 (without f.0 m.frames.modified) i) [
         | inl a ↦ lost_still moves (failed_write f home) g (h g n (on_without g f.0 m.frames.modified a) can)
@@ -242,7 +242,7 @@ module _ (l : FrameLife) (s : Sound l) (pinned : Option Frame) (short : is_short
   ]
 
   -- a search that ends without a frame had a write that failed
-  pub ends_with_lost : (moves : List Move) → Missed l moves → NoneMayGo l pinned → (f : ℕ) × (lost_in moves f ≡ true)
+  pub ends_with_lost : (moves : List Move) → AllWritesFailed l moves → NoneMayGo l pinned → (f : ℕ) × (lost_in moves f ≡ true)
   ends_with_lost moves missed none = elim either [
     | inl h ↦ (h.0, missed h.0 h.1.modified h.1.can)
     | inr h ↦ (let bad : true ≡ false = sym h.1 ∙ none h.0 in cc)

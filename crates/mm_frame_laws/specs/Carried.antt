@@ -57,18 +57,18 @@ slots_grown kind.Call = 0
 slots_grown (kind.Grow n) = n
 
 -- a state that legal moves reach, in which the bytes are located
-pub record Holds (l : FrameLife) (ram : FrameBytes) (slots blocks : BlockBytes) : Type 0 where
+pub record HoldsBytes (l : FrameLife) (ram : FrameBytes) (slots blocks : BlockBytes) : Type 0 where
   pub reached : ∥ Reached l ∥₁
   pub located : BytesLocated l ram slots blocks
 
 -- this leaves the bytes of every key
-abbrev pub Keeps : FrameLife → FrameBytes → BlockBytes → BlockBytes → FrameLife → FrameBytes →
+abbrev pub KeepsBytes : FrameLife → FrameBytes → BlockBytes → BlockBytes → FrameLife → FrameBytes →
     BlockBytes → BlockBytes → Type 0
-Keeps l ram slots blocks m ram' slots' blocks' =
+KeepsBytes l ram slots blocks m ram' slots' blocks' =
     Carries m ram' slots' blocks' (contents_of l ram slots blocks)
 
 -- and this changes those of one key
-abbrev pub Sets : FrameLife → FrameBytes → BlockBytes → BlockBytes → Key → Option (List ℕ) →
+abbrev pub SetsBytes : FrameLife → FrameBytes → BlockBytes → BlockBytes → Key → Option (List ℕ) →
     FrameLife → FrameBytes → Type 0
-Sets l ram slots blocks k v m ram' =
+SetsBytes l ram slots blocks k v m ram' =
     Carries m ram' slots blocks (changed same_key (contents_of l ram slots blocks) k v)

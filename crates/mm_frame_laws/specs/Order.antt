@@ -42,27 +42,27 @@ abbrev pub Sooner : Ages → Place → Place → Type 0
 Sooner ages p q = (ages q < ages p) ⊎ ((ages p ≡ ages q) × (p.vpn.0 < q.vpn.0))
 
 -- a page follows that page, if one is given
-abbrev pub Follows : Ages → Option Place → Place → Type 0
-Follows ages None q = Unit {0}
-Follows ages (Some p) q = Sooner ages p q
+abbrev pub FollowsPage : Ages → Option Place → Place → Type 0
+FollowsPage ages None q = Unit {0}
+FollowsPage ages (Some p) q = Sooner ages p q
 
 -- the page that goes next in its process after that page, if one is given
-pub record IsNext (l : FrameLife) (ages : Ages) (after : Option Place) (place : Place) :
+pub record IsNextPage (l : FrameLife) (ages : Ages) (after : Option Place) (place : Place) :
     Type 0 where
   pub valid : is_some (l.valid place) ≡ true
-  pub follows : Follows ages after place
+  pub follows : FollowsPage ages after place
   pub first : (q : Place) → q.pid.0 ≡ place.pid.0 → is_some (l.valid q) ≡ true →
-      Follows ages after q → (q ≡ place) ⊎ Sooner ages place q
+      FollowsPage ages after q → (q ≡ place) ⊎ Sooner ages place q
 
 -- each page of the process that may go follows that page, if one is given
 abbrev pub PassedTo : FrameLife → Ages → Option Frame → ℕ → Option Place → Type 0
 PassedTo l ages pinned pid after = (q : Place) → q.pid.0 ≡ pid → may_go l pinned q ≡ true →
-    Follows ages after q
+    FollowsPage ages after q
 
 -- no page of the process follows it
-abbrev pub NoneFollows : FrameLife → Ages → ℕ → Option Place → Type 0
-NoneFollows l ages pid after = (q : Place) → q.pid.0 ≡ pid → is_some (l.valid q) ≡ true →
-    Follows ages after q → ⊥
+abbrev pub NoPageFollows : FrameLife → Ages → ℕ → Option Place → Type 0
+NoPageFollows l ages pid after = (q : Place) → q.pid.0 ≡ pid → is_some (l.valid q) ≡ true →
+    FollowsPage ages after q → ⊥
 
 -- ---- how processes are gone through, the lowest pid first
 

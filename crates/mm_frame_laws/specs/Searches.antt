@@ -16,7 +16,7 @@ use Rattle.mm_life.specs.Replay.{Replays}
 use Rattle.mm_life.specs.Victims.{can_be_written}
 use Rattle.mm_frame_laws.specs.Room.{IsWithinDepth}
 use Rattle.mm_life.specs.Order.{Ages, IsVictim}
-use Rattle.mm_frame_laws.specs.Steps.{walked}
+use Rattle.mm_frame_laws.specs.Steps.{list_in_search}
 
 abbrev pub is_lost_of : ℕ → Move → Bool
 is_lost_of f (move.Lost g) = g.0 == f
@@ -31,8 +31,8 @@ abbrev pub failed_write : Frame → Stored → List Move
 failed_write f home = move.Write f home ∷ move.Lost f ∷ []
 
 -- each modified frame that can be written has a failed write in the moves
-abbrev pub Missed : FrameLife → List Move → Type 0
-Missed l moves = (g : ℕ) → is_on g l.frames.modified ≡ true → can_be_written l g ≡ true →
+abbrev pub AllWritesFailed : FrameLife → List Move → Type 0
+AllWritesFailed l moves = (g : ℕ) → is_on g l.frames.modified ≡ true → can_be_written l g ≡ true →
     lost_in moves g ≡ true
 
 -- the same of each frame but one
@@ -47,7 +47,7 @@ with_modified l xs = record l { frames = record l.frames { modified = xs } }
 -- the walk has passed over some frames, has some left, and the write of the others failed
 pub record Walking (start l : FrameLife) (passed left lost : List ℕ) (moves : List Move) :
     Type 0 where
-  pub now : l ≡ with_modified start (walked passed left lost)
+  pub now : l ≡ with_modified start (list_in_search passed left lost)
   pub over : (g : ℕ) → is_on g passed ≡ true → can_be_written start g ≡ false
   pub tried : (g : ℕ) → is_on g lost ≡ true → lost_in moves g ≡ true
 
@@ -59,7 +59,7 @@ pub record Emptying (start l : FrameLife) (moves : List Move) : Type 0 where
   pub access : is_access l.kind ≡ true
   pub short : is_short l ≡ true
   pub few : IsWithinDepth l
-  pub missed : Missed l moves
+  pub missed : AllWritesFailed l moves
 
 -- ---- the order of a search
 

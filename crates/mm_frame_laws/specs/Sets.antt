@@ -19,8 +19,8 @@ abbrev pub place_of_page : Pid → ℕ → Place
 place_of_page pid v = record { pid = pid; vpn = record { 0 = v } }
 
 -- the page of a place, if one is given
-abbrev pub page_in : Option Place → Option ℕ
-page_in after = option_map (λ p. p.vpn.0) after
+abbrev pub page_of_place : Option Place → Option ℕ
+page_of_place after = option_map (λ p. p.vpn.0) after
 
 -- a place that is given is of this process, and valid
 abbrev pub IsInSet : FrameLife → Pid → Option Place → Type 0

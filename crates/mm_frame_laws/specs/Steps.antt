@@ -61,5 +61,5 @@ put_last l f = record l {
 }
 
 -- the modified list in a search: those passed over, those not tried yet, those whose write failed
-abbrev pub walked : List ℕ → List ℕ → List ℕ → List ℕ
-walked passed left lost = passed ++ (left ++ lost)
+abbrev pub list_in_search : List ℕ → List ℕ → List ℕ → List ℕ
+list_in_search passed left lost = passed ++ (left ++ lost)

@@ -48,8 +48,8 @@ first_fails = move.Unmap (place 1 16) ∷
 
 -- ---- a request more than the depth
 
-abbrev pub shared_page : Key
-shared_page = Shared (record { 0 = 0 }) 0
+abbrev pub worked_page : Key
+worked_page = Shared (record { 0 = 0 }) 0
 
 -- depth 1 and two requests, one of them the line's own: nothing can be emptied but the pinned frame
 -- 1
@@ -59,7 +59,7 @@ one_too_many =
     ∷ move.At 2 (kind.Process (pid 1) 0 8)
     ∷ move.At 3 kind.Call
     ∷ move.Add (private 1 16) None
-    ∷ move.Add shared_page (Some (record { 0 = 0 }))
+    ∷ move.Add worked_page (Some (record { 0 = 0 }))
     ∷ move.At 4 (kind.Access (pid 1))
     ∷ move.Clear (frame 0)
     ∷ move.Give (frame 0) (private 1 16)
@@ -70,7 +70,7 @@ one_too_many =
     ∷ move.At 7 kind.Call
     ∷ (pages_added 17 4 ++ (
     move.At 8 (kind.Access (pid 1))
-    ∷ move.Read (frame 1) shared_page
+    ∷ move.Read (frame 1) worked_page
     ∷ move.Got (frame 1)
     ∷ move.Map (frame 1) (place 1 32)
     ∷ move.Clear (frame 2)

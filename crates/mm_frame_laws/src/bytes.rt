@@ -14,14 +14,15 @@ ghost use Rattle.mm_life.specs.Legal.{IsLegal};
 ghost use Rattle.mm_life.specs.Effect.{after_move, home_at};
 ghost use Rattle.mm_life.specs.Located.{FrameBytes, BlockBytes, zero_page, page_at, bytes_at};
 ghost use Rattle.mm_ram.specs.Ram.{with_page};
-ghost use Rattle.mm_frame_laws.specs.Carried.{Holds, Carries, Keeps, Sets, IsSoiled, slots_grown, slots_written, blocks_written};
+ghost use Rattle.mm_frame_laws.specs.Carried.{HoldsBytes, Carries, KeepsBytes, SetsBytes, IsSoiled, slots_grown, slots_written, blocks_written};
 
 /// A line leaves the bytes of every key. One in which the paging file grows has further slots,
 /// which are zero.
 pub fn lines_keep_bytes()
     ensures { (l : FrameLife) (ram : FrameBytes) (slots blocks : BlockBytes) →
-        Holds l ram slots blocks → (n : ℕ) (k : LineKind) → 1 ≤ l.line → IsLegal (move.At n k) l →
-        Keeps l ram slots blocks (after_move l (move.At n k)) ram
+        HoldsBytes l ram slots blocks → (n : ℕ) (k : LineKind) → 1 ≤ l.line →
+        IsLegal (move.At n k) l →
+        KeepsBytes l ram slots blocks (after_move l (move.At n k)) ram
         (slots ++ replicate (slots_grown k) zero_page) blocks }
 {}
 
@@ -29,81 +30,84 @@ pub fn lines_keep_bytes()
 /// others keep theirs.
 pub fn keys_come_and_go()
     ensures zero { (l : FrameLife) (ram : FrameBytes) (slots blocks : BlockBytes) →
-        Holds l ram slots blocks → (k : Key) → IsLegal (move.Add k None) l →
-        Sets l ram slots blocks k (Some zero_page) (after_move l (move.Add k None)) ram }
+        HoldsBytes l ram slots blocks → (k : Key) → IsLegal (move.Add k None) l →
+        SetsBytes l ram slots blocks k (Some zero_page) (after_move l (move.Add k None)) ram }
     ensures block { (l : FrameLife) (ram : FrameBytes) (slots blocks : BlockBytes) →
-        Holds l ram slots blocks → (k : Key) (b : Block) → IsLegal (move.Add k (Some b)) l →
-        Sets l ram slots blocks k (slice_get blocks b.0) (after_move l (move.Add k (Some b))) ram }
+        HoldsBytes l ram slots blocks → (k : Key) (b : Block) → IsLegal (move.Add k (Some b)) l →
+        SetsBytes l ram slots blocks k (slice_get blocks b.0) (after_move l (move.Add k (Some b)))
+        ram }
     ensures drop { (l : FrameLife) (ram : FrameBytes) (slots blocks : BlockBytes) →
-        Holds l ram slots blocks → (k : Key) → IsLegal (move.Drop k) l →
-        Sets l ram slots blocks k None (after_move l (move.Drop k)) ram }
+        HoldsBytes l ram slots blocks → (k : Key) → IsLegal (move.Drop k) l →
+        SetsBytes l ram slots blocks k None (after_move l (move.Drop k)) ram }
 {}
 
 /// A frame that is cleared, given, read into or stolen leaves the bytes of every key, where a
 /// cleared frame is zeroed.
 pub fn frames_are_taken()
     ensures clear { (l : FrameLife) (ram : FrameBytes) (slots blocks : BlockBytes) →
-        Holds l ram slots blocks → (f : Frame) → IsLegal (move.Clear f) l →
-        Keeps l ram slots blocks (after_move l (move.Clear f)) (with_page ram f.0 zero_page) slots
+        HoldsBytes l ram slots blocks → (f : Frame) → IsLegal (move.Clear f) l →
+        KeepsBytes l ram slots blocks (after_move l (move.Clear f)) (with_page ram f.0 zero_page)
+        slots
         blocks }
     ensures give { (l : FrameLife) (ram : FrameBytes) (slots blocks : BlockBytes) →
-        Holds l ram slots blocks → (f : Frame) (k : Key) → IsLegal (move.Give f k) l →
-        Keeps l ram slots blocks (after_move l (move.Give f k)) ram slots blocks }
+        HoldsBytes l ram slots blocks → (f : Frame) (k : Key) → IsLegal (move.Give f k) l →
+        KeepsBytes l ram slots blocks (after_move l (move.Give f k)) ram slots blocks }
     ensures read { (l : FrameLife) (ram : FrameBytes) (slots blocks : BlockBytes) →
-        Holds l ram slots blocks → (f : Frame) (k : Key) → IsLegal (move.Read f k) l →
-        Keeps l ram slots blocks (after_move l (move.Read f k)) ram slots blocks }
+        HoldsBytes l ram slots blocks → (f : Frame) (k : Key) → IsLegal (move.Read f k) l →
+        KeepsBytes l ram slots blocks (after_move l (move.Read f k)) ram slots blocks }
     ensures steal { (l : FrameLife) (ram : FrameBytes) (slots blocks : BlockBytes) →
-        Holds l ram slots blocks → (f : Frame) → IsLegal (move.Steal f) l →
-        Keeps l ram slots blocks (after_move l (move.Steal f)) ram slots blocks }
+        HoldsBytes l ram slots blocks → (f : Frame) → IsLegal (move.Steal f) l →
+        KeepsBytes l ram slots blocks (after_move l (move.Steal f)) ram slots blocks }
 {}
 
 /// A map, an unmap and a soil leave the bytes of every key.
 pub fn places_keep_bytes()
     ensures map { (l : FrameLife) (ram : FrameBytes) (slots blocks : BlockBytes) →
-        Holds l ram slots blocks → (f : Frame) (p : Place) → IsLegal (move.Map f p) l →
-        Keeps l ram slots blocks (after_move l (move.Map f p)) ram slots blocks }
+        HoldsBytes l ram slots blocks → (f : Frame) (p : Place) → IsLegal (move.Map f p) l →
+        KeepsBytes l ram slots blocks (after_move l (move.Map f p)) ram slots blocks }
     ensures unmap { (l : FrameLife) (ram : FrameBytes) (slots blocks : BlockBytes) →
-        Holds l ram slots blocks → (p : Place) → IsLegal (move.Unmap p) l →
-        Keeps l ram slots blocks (after_move l (move.Unmap p)) ram slots blocks }
+        HoldsBytes l ram slots blocks → (p : Place) → IsLegal (move.Unmap p) l →
+        KeepsBytes l ram slots blocks (after_move l (move.Unmap p)) ram slots blocks }
     ensures soil { (l : FrameLife) (ram : FrameBytes) (slots blocks : BlockBytes) →
-        Holds l ram slots blocks → (f : Frame) → IsLegal (move.Soil f) l →
-        Keeps l ram slots blocks (after_move l (move.Soil f)) ram slots blocks }
+        HoldsBytes l ram slots blocks → (f : Frame) → IsLegal (move.Soil f) l →
+        KeepsBytes l ram slots blocks (after_move l (move.Soil f)) ram slots blocks }
 {}
 
 /// A write that begins, and a request that ends, leave the bytes of every key: a read brings the
 /// page of the frame's backing, and a write takes the page of the frame there.
 pub fn requests_keep_bytes()
     ensures write { (l : FrameLife) (ram : FrameBytes) (slots blocks : BlockBytes) →
-        Holds l ram slots blocks → (f : Frame) (s : Stored) → IsLegal (move.Write f s) l →
-        Keeps l ram slots blocks (after_move l (move.Write f s)) ram slots blocks }
+        HoldsBytes l ram slots blocks → (f : Frame) (s : Stored) → IsLegal (move.Write f s) l →
+        KeepsBytes l ram slots blocks (after_move l (move.Write f s)) ram slots blocks }
     ensures got { (l : FrameLife) (ram : FrameBytes) (slots blocks : BlockBytes) →
-        Holds l ram slots blocks → (f : Frame) (page : List ℕ) → IsLegal (move.Got f) l →
+        HoldsBytes l ram slots blocks → (f : Frame) (page : List ℕ) → IsLegal (move.Got f) l →
         bytes_at ram slots blocks (home_at (record_at l.frames f.0).backing) ≡ Some page →
-        Keeps l ram slots blocks (after_move l (move.Got f)) (with_page ram f.0 page) slots blocks }
+        KeepsBytes l ram slots blocks (after_move l (move.Got f)) (with_page ram f.0 page) slots
+        blocks }
     ensures bad { (l : FrameLife) (ram : FrameBytes) (slots blocks : BlockBytes) →
-        Holds l ram slots blocks → (f : Frame) → IsLegal (move.Bad f) l →
-        Keeps l ram slots blocks (after_move l (move.Bad f)) ram slots blocks }
+        HoldsBytes l ram slots blocks → (f : Frame) → IsLegal (move.Bad f) l →
+        KeepsBytes l ram slots blocks (after_move l (move.Bad f)) ram slots blocks }
     ensures wrote { (l : FrameLife) (ram : FrameBytes) (slots blocks : BlockBytes) →
-        Holds l ram slots blocks → (f : Frame) (page : List ℕ) → IsLegal (move.Wrote f) l →
+        HoldsBytes l ram slots blocks → (f : Frame) (page : List ℕ) → IsLegal (move.Wrote f) l →
         page_at ram f.0 ≡ Some page →
-        Keeps l ram slots blocks (after_move l (move.Wrote f)) ram
+        KeepsBytes l ram slots blocks (after_move l (move.Wrote f)) ram
         (slots_written (record_at l.frames f.0).backing page slots)
         (blocks_written (record_at l.frames f.0).backing page blocks) }
     ensures lost { (l : FrameLife) (ram : FrameBytes) (slots blocks : BlockBytes) →
-        Holds l ram slots blocks → (f : Frame) → IsLegal (move.Lost f) l →
-        Keeps l ram slots blocks (after_move l (move.Lost f)) ram slots blocks }
+        HoldsBytes l ram slots blocks → (f : Frame) → IsLegal (move.Lost f) l →
+        KeepsBytes l ram slots blocks (after_move l (move.Lost f)) ram slots blocks }
 {}
 
 /// A page at hand that is written is that of its key alone; a block that no key ever had is
 /// nobody's.
 pub fn pages_are_written()
     ensures page { (l : FrameLife) (ram : FrameBytes) (slots blocks : BlockBytes) →
-        Holds l ram slots blocks → (f : Frame) (k : Key) (page : List ℕ) →
+        HoldsBytes l ram slots blocks → (f : Frame) (k : Key) (page : List ℕ) →
         (record_at l.frames f.0).owner ≡ Some k → IsSoiled (record_at l.frames f.0) →
-        Sets l ram slots blocks k (Some page) l (with_page ram f.0 page) }
+        SetsBytes l ram slots blocks k (Some page) l (with_page ram f.0 page) }
     ensures block { (l : FrameLife) (ram : FrameBytes) (slots blocks : BlockBytes) →
-        Holds l ram slots blocks → (b : ℕ) (page : List ℕ) → l.added b ≡ false →
-        Keeps l ram slots blocks l ram slots (slice_set blocks b page) }
+        HoldsBytes l ram slots blocks → (b : ℕ) (page : List ℕ) → l.added b ≡ false →
+        KeepsBytes l ram slots blocks l ram slots (slice_set blocks b page) }
 {}
 
 /// After its first line a machine has no key, whatever its devices hold.

@@ -9,10 +9,10 @@ ghost use Rattle.mm_laws.specs.Sound.{Sound};
 ghost use Rattle.mm_laws.specs.Tally.{tally};
 ghost use Rattle.mm_laws.specs.Places.{residents};
 ghost use Rattle.mm_life.specs.Order.{may_go};
-ghost use Rattle.mm_wset.specs.Ages.{IsOldest as IsOldestInSet, NoneFollows as NoneFollowsInSet};
-ghost use Rattle.mm_frame_laws.specs.Sets.{SetShows, place_of_page, page_in, IsInSet};
+ghost use Rattle.mm_wset.specs.Ages.{IsOldestInSet, NoneFollowsInSet};
+ghost use Rattle.mm_frame_laws.specs.Sets.{SetShows, place_of_page, page_of_place, IsInSet};
 ghost use Rattle.mm_life.specs.Order.{Ages, IsOldest, IsVictim};
-ghost use Rattle.mm_frame_laws.specs.Order.{first_to_go, first_to_go_in, IsNext, PassedTo, NoneFollows, IsBest, BestBelow, takes_over};
+ghost use Rattle.mm_frame_laws.specs.Order.{first_to_go, first_to_go_in, IsNextPage, PassedTo, NoPageFollows, IsBest, BestBelow, takes_over};
 
 /// Where a place may go, one page goes first of all, and one of that place's process; and no two
 /// do. Where no frame is pinned each valid place may go.
@@ -49,13 +49,13 @@ pub fn first_to_go_is_the_victim()
 /// that may.
 pub fn a_set_is_gone_through()
     ensures oldest { (l : FrameLife) (ages : Ages) (pinned : Option Frame) (after : Option Place)
-        (v : Place) → PassedTo l ages pinned v.pid.0 after → IsNext l ages after v →
+        (v : Place) → PassedTo l ages pinned v.pid.0 after → IsNextPage l ages after v →
         may_go l pinned v ≡ true → IsOldest l ages pinned v }
     ensures passed { (l : FrameLife) (ages : Ages) (pinned : Option Frame) (after : Option Place)
-        (v : Place) → PassedTo l ages pinned v.pid.0 after → IsNext l ages after v →
+        (v : Place) → PassedTo l ages pinned v.pid.0 after → IsNextPage l ages after v →
         may_go l pinned v ≡ false → PassedTo l ages pinned v.pid.0 (Some v) }
     ensures none { (l : FrameLife) (ages : Ages) (pinned : Option Frame) (pid : ℕ)
-        (after : Option Place) → PassedTo l ages pinned pid after → NoneFollows l ages pid after →
+        (after : Option Place) → PassedTo l ages pinned pid after → NoPageFollows l ages pid after →
         (q : Place) → q.pid.0 ≡ pid → may_go l pinned q ≡ false }
 {}
 
@@ -89,8 +89,8 @@ pub fn processes_are_gone_through()
 pub fn sets_go_by_age()
     ensures next { (l : FrameLife) (ages : Ages) (pid : Pid) (set : FinMap nat_cmp ℕ) →
         SetShows l ages pid set → (after : Option Place) → IsInSet l pid after → (v : ℕ) →
-        IsOldestInSet set (page_in after) v → IsNext l ages after (place_of_page pid v) }
+        IsOldestInSet set (page_of_place after) v → IsNextPage l ages after (place_of_page pid v) }
     ensures none { (l : FrameLife) (ages : Ages) (pid : Pid) (set : FinMap nat_cmp ℕ) →
         SetShows l ages pid set → (after : Option Place) → IsInSet l pid after →
-        NoneFollowsInSet set (page_in after) → NoneFollows l ages pid.0 after }
+        NoneFollowsInSet set (page_of_place after) → NoPageFollows l ages pid.0 after }
 {}

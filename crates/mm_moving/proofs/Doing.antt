@@ -24,7 +24,7 @@ use Rattle.mm_pages.specs.Told.{told_through, call_of, calls_of, in_slot, in_blo
 use Rattle.mm_pages.proofs.Passed.{waits_then, ages_then}
 use Rattle.mm_life.specs.Walks.{Walk, walked, walked_all, waits_through, ages_through}
 use Rattle.mm_moving.specs.Shown.{StateOf, CalledFor, backing_of_frame, Made}
-use Rattle.mm_moving.specs.Doing.{Does, walk_of}
+use Rattle.mm_moving.specs.Doing.{DoesMoves, walk_of}
 use Rattle.mm_types.proofs.Bytes.{append_nil}
 use Rattle.mm_pages.proofs.Passed.{told_then}
 
@@ -39,7 +39,7 @@ module _ (on : Direction → Bool → Backing → List DeviceCall) where
 pub count-append : {A : Type 0} (t : A → Bool) (xs ys : List A) → count_by t (xs ++ ys) ≡ count_by t xs + count_by t ys
 count-append t xs ys = sum_by-append (λ x. cond (t x) 1 0) xs ys
 
-pub does_nothing : (s : StateOf) → Does [] s s
+pub does_nothing : (s : StateOf) → DoesMoves [] s s
 does_nothing s = record {
   in_range = tt;
   grew = grew_nothing s.log;
@@ -57,7 +57,7 @@ does_nothing s = record {
   blocks_kept = keeps_same [] s.blocks s.blocks refl;
 }
 
-pub does_then : (xs ys : List Move) (s y z : StateOf) → Does xs s y → Does ys y z → Does (xs ++ ys) s z
+pub does_then : (xs ys : List Move) (s y z : StateOf) → DoesMoves xs s y → DoesMoves ys y z → DoesMoves (xs ++ ys) s z
 does_then xs ys s y z p q = record {
   in_range = moves-append xs ys p.in_range q.in_range;
   grew = subst (λ ms. Grew s.log z.log ms) (sym (spelled-append xs ys)) (grew_then s.log y.log z.log _ _ p.grew q.grew);
@@ -77,7 +77,7 @@ does_then xs ys s y z p q = record {
 
 -- ---- one move
 
-does_quiet : (x : Move) (s z : StateOf) → Made x s z → z.paging ≡ s.paging → z.files ≡ s.files → paging_traffic s.life (x ∷ []) ≡ [] → file_traffic s.life (x ∷ []) ≡ [] → Does (x ∷ []) s z
+does_quiet : (x : Move) (s z : StateOf) → Made x s z → z.paging ≡ s.paging → z.files ≡ s.files → paging_traffic s.life (x ∷ []) ≡ [] → file_traffic s.life (x ∷ []) ≡ [] → DoesMoves (x ∷ []) s z
 does_quiet x s z m p f e g = record {
   in_range = m.in_range;
   grew = m.grew;
@@ -99,7 +99,7 @@ abbrev one_call : Direction → ℕ → Bool → Bool → Call
 one_call w b ok n = record { way = w; block = b; succeeded = ok; named = n }
 
 does_called : (w : Direction) (ok : Bool) (x : Move) (b : Backing) (s z : StateOf) → Made x s z → CalledFor w b ok s.paging s.files z.paging z.files
-    → paging_traffic s.life (x ∷ []) ≡ in_slot w ok b → file_traffic s.life (x ∷ []) ≡ in_block w ok b → Does (x ∷ []) s z
+    → paging_traffic s.life (x ∷ []) ≡ in_slot w ok b → file_traffic s.life (x ∷ []) ≡ in_block w ok b → DoesMoves (x ∷ []) s z
 does_called w ok x backing.None s z m c e g = does_quiet x s z m c.0 c.1 e g
 does_called w ok x (backing.Slot t) s z m c e g = record {
   in_range = m.in_range;
@@ -134,7 +134,7 @@ does_called w ok x (backing.Block t) s z m c e g = record {
   blocks_kept = m.blocks_kept;
 }
 
-pub does_one : (x : Move) (s z : StateOf) → Made x s z → Does (x ∷ []) s z
+pub does_one : (x : Move) (s z : StateOf) → Made x s z → DoesMoves (x ∷ []) s z
 does_one (move.At n k) s z m = does_quiet _ s z m m.calls.0 m.calls.1 refl refl
 does_one (move.Add k b) s z m = does_quiet _ s z m m.calls.0 m.calls.1 refl refl
 does_one (move.Drop k) s z m = does_quiet _ s z m m.calls.0 m.calls.1 refl refl
@@ -151,7 +151,7 @@ does_one (move.Write f b) s z m = does_quiet _ s z m m.calls.0 m.calls.1 refl re
 does_one (move.Wrote f) s z m = does_called way.Write true _ (backing_of_frame s f) s z m m.calls (append_nil _) (append_nil _)
 does_one (move.Lost f) s z m = does_called way.Write false _ (backing_of_frame s f) s z m m.calls (append_nil _) (append_nil _)
 
-pub does_two : (x y : Move) (s t z : StateOf) → Made x s t → Made y t z → Does (x ∷ y ∷ []) s z
+pub does_two : (x y : Move) (s t z : StateOf) → Made x s t → Made y t z → DoesMoves (x ∷ y ∷ []) s z
 does_two x y s t z p q = does_then (x ∷ []) (y ∷ []) s t z (does_one x s t p) (does_one y t z q)
 
 -- ---- pieces
@@ -161,6 +161,6 @@ walked_is [] w m e = ap (λ (l : FrameLife). record { life = l; ages = w.ages; t
 walked_is (x ∷ xs) w m h = walked_is xs (walked w x) m h.1
 
 -- where a walk through the moves has come to
-pub walked_here : (ms : List Move) (s z : StateOf) → Does ms s z → walked_all (walk_of s) ms ≡ record { life = z.life; ages = z.ages; tried = (walked_all (walk_of s) ms).tried }
+pub walked_here : (ms : List Move) (s z : StateOf) → DoesMoves ms s z → walked_all (walk_of s) ms ≡ record { life = z.life; ages = z.ages; tried = (walked_all (walk_of s) ms).tried }
 walked_here ms s z d = walked_is ms (walk_of s) z.life d.replays
     ∙ ap (λ (g : Place → ℕ). record { life = z.life; ages = g; tried = (walked_all (walk_of s) ms).tried }) (sym d.ages)

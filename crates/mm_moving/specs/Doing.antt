@@ -13,11 +13,11 @@ use Rattle.mm_blocks.specs.Devices.{Call, AllServed, logged_call, KeepsOthers}
 use Rattle.mm_life.specs.Walks.{Walk, Through, walked_all, waits_through, ages_through, is_wrote_move, is_read_move}
 use Rattle.mm_life.specs.Searches.{SearchMove, Starved}
 use Rattle.mm_pages.specs.Told.{told_through, paging_traffic, file_traffic}
-use Rattle.mm_moving.specs.Shown.{StateOf, called, SomeFault}
+use Rattle.mm_moving.specs.Shown.{StateOf, moved_with_call, SomeFault}
 
 -- these moves were made, noted and counted; each device's calls are those that they stand for, and
 -- a slot or a block that none of them wrote is as before
-pub record Does (moves : List Move) (s z : StateOf) : Type 0 where
+pub record DoesMoves (moves : List Move) (s z : StateOf) : Type 0 where
   pub in_range : AreMoves moves
   pub grew : Grew s.log z.log (spelled_moves moves)
   pub replays : Replays moves s.life z.life
@@ -50,7 +50,7 @@ IsFlightOf flight pin l = (f : Frame) → is_on f.0 flight ≡ true → (is_on f
 -- pinned frame is valid, and a device write failed.
 pub record Searched (pin : Option Frame) (found : Bool) (s z : StateOf) : Type 0 where
   pub moves : List Move
-  pub does : Does moves s z
+  pub does : DoesMoves moves s z
   pub each : (flight : List ℕ) → IsFlightOf flight pin s.life →
       Through (SearchMove pin flight) (walk_of s) moves
   pub one : count_by is_wrote_move moves ≤ 1
@@ -63,4 +63,4 @@ pub record Searched (pin : Option Frame) (found : Bool) (s z : StateOf) : Type 0
   pub fault : found ≡ false → SomeFault s z
   pub none : found ≡ false → z.told.search_writes.succeeded ≡ s.told.search_writes.succeeded
   pub read : z.told.last_failed_read ≡ s.told.last_failed_read
-  pub same : z ≡ called s z
+  pub same : z ≡ moved_with_call s z

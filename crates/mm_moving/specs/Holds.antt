@@ -1,6 +1,6 @@
 -- What the joined state keeps at all times: of lines, of pages, of what is on devices, and of the
 -- line's device calls.
-use Rattle.std.specs.Prelude.{◌≡◌, ◌≤◌, ◌<◌, ℕ, ◌+◌, true, false, List, length, Some, None, is_some}
+use Rattle.std.specs.Prelude.{◌≡◌, ◌≤◌, ◌<◌, ℕ, ◌+◌, true, false, length, Some, None, is_some}
 use Rattle.mm_types.specs.Address.{end_of_user_pages}
 use Rattle.mm_types.specs.Machine.{IsMachine}
 use Rattle.mm_types.specs.declared.numbers.Frame.{Frame}
@@ -20,25 +20,22 @@ use Rattle.mm_parts.specs.Shown.{is_own_line, own_is}
 use Rattle.mm_parts.specs.Holds.{HasSet}
 use Rattle.mm_moving.specs.Shown.{StateOf, HasHome}
 
-pub record Holds (s : StateOf) : Type 0 where
+pub record StateHolds (s : StateOf) : Type 0 where
   -- ages are at most 7
   pub young : (p : Place) → s.ages p ≤ 7
   -- the state was reached by legal moves from before the first line
   pub reached : ∥ Reached s.life ∥₁
   pub machine : IsMachine s.life.machine
   pub begun : 1 ≤ s.life.line
-  -- the line's own request alone passes the depth, and it and the key beside the tables stand
-  -- within their line alone
-  pub few : s.own ≡ None → length s.life.flight ≤ s.life.machine.depth
+  -- the line's own request and the key beside the tables stand within their line alone
   pub own_line : is_some s.own ≡ true → is_own_line s.life.kind ≡ true
   pub copying : is_some s.aside ≡ true → is_touch s.life.kind ≡ true
   -- a thread waits for a read that is in flight and not the line's own
   pub awaited : (t f : ℕ) → s.waits t ≡ ForFrame f →
       is_read (record_at s.life.frames f).request ≡ true
   pub others_wait : (t f : ℕ) → s.waits t ≡ ForFrame f → own_is s.own f ≡ false
-  -- the live keys have bytes, a page of them each, and words
+  -- the live keys have bytes, and words
   pub live : (k : Key) → is_live s.life k ≡ is_some (s.contents k)
-  pub whole : (k : Key) (page : List ℕ) → s.contents k ≡ Some page → length page ≡ 4096
   pub home : (k : Key) → is_live s.life k ≡ true → HasHome s k
   -- a key stands in the frame that has it
   pub owner : (k : Key) (f : Frame) → s.life.stands k ≡ held.Frame f →

@@ -75,18 +75,18 @@ CalledFor w (backing.Block b) ok paging files paging' files' =
       named = is_named w files.named;
     }) files files' × (paging' ≡ paging)
 
-abbrev pub Called : Direction → Backing → Bool → StateOf → StateOf → Type 0
-Called w home ok s z = CalledFor w home ok s.paging s.files z.paging z.files
+abbrev pub DeviceCalled : Direction → Backing → Bool → StateOf → StateOf → Type 0
+DeviceCalled w home ok s z = CalledFor w home ok s.paging s.files z.paging z.files
 
 abbrev pub backing_of_frame : StateOf → Frame → Backing
 backing_of_frame s f = (record_at s.life.frames f.0).backing
 
 -- the device call that a move stands for
 abbrev pub Calls : Move → StateOf → StateOf → Type 0
-Calls (move.Got f) s z = Called way.Read (backing_of_frame s f) true s z
-Calls (move.Bad f) s z = Called way.Read (backing_of_frame s f) false s z
-Calls (move.Wrote f) s z = Called way.Write (backing_of_frame s f) true s z
-Calls (move.Lost f) s z = Called way.Write (backing_of_frame s f) false s z
+Calls (move.Got f) s z = DeviceCalled way.Read (backing_of_frame s f) true s z
+Calls (move.Bad f) s z = DeviceCalled way.Read (backing_of_frame s f) false s z
+Calls (move.Wrote f) s z = DeviceCalled way.Write (backing_of_frame s f) true s z
+Calls (move.Lost f) s z = DeviceCalled way.Write (backing_of_frame s f) false s z
 Calls _ s z = (z.paging ≡ s.paging) × (z.files ≡ s.files)
 
 -- one legal move was made, noted and counted
@@ -109,12 +109,12 @@ written_if true write blocks = write blocks
 written_if false write blocks = blocks
 
 -- a page was written to where a frame is backed, where the call succeeded
-pub record Wrote (home : Backing) (page : List ℕ) (ok : Bool) (s z : StateOf) : Type 0 where
+pub record WrotePage (home : Backing) (page : List ℕ) (ok : Bool) (s z : StateOf) : Type 0 where
   pub slots_are : z.slots ≡ written_if ok (slots_written home page) s.slots
   pub blocks_are : z.blocks ≡ written_if ok (blocks_written home page) s.blocks
 
 -- the same for a line in which the paging device grows: what came of that is told apart
-pub record Begins (x : Move) (s z : StateOf) : Type 0 where
+pub record GrowBegins (x : Move) (s z : StateOf) : Type 0 where
   pub legal : IsLegal x s.life
   pub life : z.life ≡ after_move s.life x
   pub in_range : AreMoves (x ∷ [])
@@ -132,8 +132,8 @@ abbrev pub moved : StateOf → StateOf → StateOf
 moved s z = record s { life = z.life; log = z.log; told = z.told; ages = z.ages; waits = z.waits }
 
 -- with a call of a device
-abbrev pub called : StateOf → StateOf → StateOf
-called s z = record (moved s z) {
+abbrev pub moved_with_call : StateOf → StateOf → StateOf
+moved_with_call s z = record (moved s z) {
   paging = z.paging;
   files = z.files;
   slots = z.slots;

@@ -28,14 +28,14 @@ ghost use Rattle.mm_life.specs.Chores.{all_aged};
 ghost use Rattle.mm_life.specs.Order.{IsOldest};
 ghost use Rattle.mm_life.specs.Waits.{Idle, ForFrame, wait_of};
 ghost use Rattle.mm_wset.specs.InOrder.{IsNextFrom};
-ghost use Rattle.mm_words.specs.Words.{changed_in, place_of};
-ghost use Rattle.mm_parts.specs.Moves.{front, front_for_read, own_after, own_ended, read_end, write_end, write_target, left_by, IsPlainLine, after_page};
+ghost use Rattle.mm_words.specs.Words.{changed_in, place_from};
+ghost use Rattle.mm_parts.specs.Moves.{front, front_for_read, own_after, own_ended, end_of_read, write_end, write_target, left_by, IsPlainLine, after_page};
 ghost use Rattle.mm_pages.specs.Reports.{with_named};
 ghost use Rattle.mm_pages.specs.Told.{with_write};
-ghost use Rattle.mm_frame_laws.specs.Order.{IsNext, NoneFollows};
+ghost use Rattle.mm_frame_laws.specs.Order.{IsNextPage, NoPageFollows};
 ghost use Rattle.mm_frame_laws.specs.Carried.{IsSoiled};
-ghost use Rattle.mm_moving.specs.Shown.{StateOf, Made, Begins, Wrote, Called, moved, called, asked_to_grow, backing_of_frame, written_if, HasHome, IsClear, MayMap, CanBegin, aside_after_add, names_after_give, names_after_map, names_after_drop, KeepsRequests};
-ghost use Rattle.mm_moving.specs.Holds.{Holds};
+ghost use Rattle.mm_moving.specs.Shown.{StateOf, Made, GrowBegins, WrotePage, DeviceCalled, moved, moved_with_call, asked_to_grow, backing_of_frame, written_if, HasHome, IsClear, MayMap, CanBegin, aside_after_add, names_after_give, names_after_map, names_after_drop, KeepsRequests};
+ghost use Rattle.mm_moving.specs.Holds.{StateHolds};
 
 use mm_types::{
     Area, Block, Counts, Device, Direction, Failed, Frame, GrowFault, Held, Key, LineKind, Machine,
@@ -54,9 +54,13 @@ pub trait Moving {
 
     ghost loans: { Self → Loans };
 
-    /// What it keeps at all times. The call does nothing.
+    /// The line's own request alone passes the depth, and each key has a page of bytes. The call
+    /// does nothing.
     fn sound(&self)
-        ensures holds { Holds (shown self.now) };
+        ensures few { (shown self.now).own ≡ None →
+            length (shown self.now).life.flight ≤ (shown self.now).life.machine.depth }
+        ensures whole { (k : Key) (page : List ℕ) → (shown self.now).contents k ≡ Some page →
+            length page ≡ 4096 };
 
     // ---- lines
 
@@ -78,14 +82,14 @@ pub trait Moving {
         requires legal { IsLegal (move.At line (kind.Grow n)) (shown self.old).life }
         requires done { (shown self.old).own ≡ None }
         requires alone { (shown self.old).aside ≡ None }
-        ensures ok { OnOk result (Begins (move.At line (kind.Grow n)) (shown self.old)
+        ensures ok { OnOk result (GrowBegins (move.At line (kind.Grow n)) (shown self.old)
             (shown self.new)) }
         ensures grown { OnOk result (shown self.new ≡
             record (moved (shown self.old) (shown self.new)) {
               slots = (shown self.old).slots ++ replicate n zero_page;
             }) }
         ensures failed { IsErrOf result grow_fault.Failed →
-            Begins (move.At line kind.Call) (shown self.old) (shown self.new) }
+            GrowBegins (move.At line kind.Call) (shown self.old) (shown self.new) }
         ensures kept { IsErrOf result grow_fault.Failed →
             shown self.new ≡ record (moved (shown self.old) (shown self.new)) {
               paging = asked_to_grow (shown self.old).paging (shown self.new).paging;
@@ -111,7 +115,7 @@ pub trait Moving {
     /// Closes an open process that has no bound place.
     fn close_process(&mut self, pid: Pid)
         requires open { (shown self.old).is_open pid.0 ≡ true }
-        requires unbound { (v : ℕ) → (shown self.old).bound (place_of pid (record {
+        requires unbound { (v : ℕ) → (shown self.old).bound (place_from pid (record {
           0 = v;
         })) ≡ false }
         ensures rest { shown self.new ≡ record (shown self.old) {
@@ -136,11 +140,11 @@ pub trait Moving {
     fn unbind(&mut self, pid: Pid, first: Vpn, n: u32)
         requires open { (shown self.old).is_open pid.0 ≡ true }
         requires bound { (v : ℕ) → first.0 ≤ v → v < first.0 + n →
-            (shown self.old).bound (place_of pid (record {
+            (shown self.old).bound (place_from pid (record {
               0 = v;
             })) ≡ true }
         requires invalid { (v : ℕ) → first.0 ≤ v → v < first.0 + n →
-            (shown self.old).life.valid (place_of pid (record {
+            (shown self.old).life.valid (place_from pid (record {
               0 = v;
             })) ≡ None }
         requires dead { (v : ℕ) → first.0 ≤ v → v < first.0 + n →
@@ -303,8 +307,8 @@ pub trait Moving {
         requires legal { IsLegal (move.Got f) (shown self.old).life }
         ensures quiet { result ≡ true
             → is_read (record_at (shown self.new).life.frames f.0).request ≡ false }
-        ensures made { Made (read_end result f) (shown self.old) (shown self.new) }
-        ensures rest { shown self.new ≡ record (called (shown self.old) (shown self.new)) {
+        ensures made { Made (end_of_read result f) (shown self.old) (shown self.new) }
+        ensures rest { shown self.new ≡ record (moved_with_call (shown self.old) (shown self.new)) {
           own = own_ended (shown self.old).own f.0;
           slots = (shown self.old).slots;
           blocks = (shown self.old).blocks;
@@ -331,14 +335,14 @@ pub trait Moving {
         requires legal { IsLegal (move.Wrote f) (shown self.old).life }
         ensures made { Made (write_end result f) (shown self.old) (shown self.new) }
         ensures rest { shown self.new ≡
-            record (called (shown self.old) (shown self.new)) {
+            record (moved_with_call (shown self.old) (shown self.new)) {
               own =
                   own_ended (shown self.old).own f.0;
             } }
         ensures wrote { (k : Key) (page : List ℕ) →
             (record_at (shown self.old).life.frames f.0).owner ≡ Some k →
             (shown self.old).contents k ≡ Some page →
-            Wrote (backing_of_frame (shown self.old) f) page result (shown self.old)
+            WrotePage (backing_of_frame (shown self.old) f) page result (shown self.old)
             (shown self.new) }
         ensures ownerless { (record_at (shown self.old).life.frames f.0).owner ≡ None →
             (shown self.new).blocks ≡ (shown self.old).blocks }
@@ -423,7 +427,8 @@ pub trait Moving {
     fn write_block(&mut self, b: Block, byte: u8) -> bool
         requires there { b.0 < (shown self.old).life.machine.blocks }
         requires new { (shown self.old).life.added b.0 ≡ false }
-        ensures called { Called way.Write (backing.Block b) result (shown self.old) (shown self.new) }
+        ensures called { DeviceCalled way.Write (backing.Block b) result (shown self.old)
+            (shown self.new) }
         ensures told { (shown self.new).told ≡
             with_write result (backing.Block b) (shown self.old).told }
         ensures written { (shown self.new).blocks ≡
@@ -556,18 +561,18 @@ pub trait Moving {
     fn oldest(&self, pid: Pid, after: Option<Vpn>) -> Option<Vpn>
         requires open { (shown self.now).is_open pid.0 ≡ true }
         requires held { ForSome after
-            (λ v. is_some ((shown self.now).life.valid (place_of pid v)) ≡ true) }
+            (λ v. is_some ((shown self.now).life.valid (place_from pid v)) ≡ true) }
         ensures next { MatchOption result
-            (NoneFollows (shown self.now).life (shown self.now).ages pid.0 (after_page pid after))
-            (λ v. IsNext (shown self.now).life (shown self.now).ages (after_page pid after)
-            (place_of pid v)) }
+            (NoPageFollows (shown self.now).life (shown self.now).ages pid.0 (after_page pid after))
+            (λ v. IsNextPage (shown self.now).life (shown self.now).ages (after_page pid after)
+            (place_from pid v)) }
         ensures first { after ≡ None → IfSome result
-            (λ v. IsOldest (shown self.now).life (shown self.now).ages None (place_of pid v)) };
+            (λ v. IsOldest (shown self.now).life (shown self.now).ages None (place_from pid v)) };
 
     /// The lowest valid page of an open process at `from` or above; none where there is none.
     fn next_valid(&self, pid: Pid, from: Vpn) -> Option<Vpn>
         requires { (shown self.now).is_open pid.0 ≡ true }
-        ensures { IsNextFrom (λ v. is_some ((shown self.now).life.valid (place_of pid (record {
+        ensures { IsNextFrom (λ v. is_some ((shown self.now).life.valid (place_from pid (record {
           0 = v;
         })))) from.0 result };
 
@@ -594,4 +599,7 @@ pub trait Moving {
         ensures rest { shown self.new ≡ record (shown self.old) { log = (shown self.new).log } }
         ensures flushed { Flushed (shown self.old).log (shown self.new).log result }
         ensures loans { loans self.new ≡ loans self.old };
+
+    /// What it keeps at all times.
+    ghost holds: { (s : Self) → StateHolds (shown s) };
 }

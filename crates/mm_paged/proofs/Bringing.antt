@@ -10,9 +10,9 @@ use Rattle.mm_types.specs.declared.numbers.Key.{Key}
 use Rattle.mm_life.specs.Life.{FrameLife}
 use Rattle.mm_life.specs.Legal.{is_stored}
 use Rattle.mm_pages.specs.Accesses.{Aim, is_had}
-use Rattle.mm_moving.specs.Shown.{StateOf, SomeFault, called}
-use Rattle.mm_moving.specs.Doing.{Does}
-use Rattle.mm_paged.specs.Pieces.{Went, Stuck, Begins, ReadsFor, Fails, Later}
+use Rattle.mm_moving.specs.Shown.{StateOf, SomeFault, moved_with_call}
+use Rattle.mm_moving.specs.Doing.{DoesMoves}
+use Rattle.mm_paged.specs.Pieces.{Went, Stuck, AccessBegins, ReadsFor, Fails, Later}
 use Rattle.mm_blocks.proofs.Serving.{all_served_later, failed_later}
 
 pub went_more : (a : Aim) (m n : ℕ) (s z : StateOf) → m ≤ n → Went a m s z → Went a n s z
@@ -37,7 +37,7 @@ stuck_more a e m n s z h w = record {
 
 -- ---- faults of devices
 
-pub does_later : (ms : List Move) (s z : StateOf) → Does ms s z → Later s z
+pub does_later : (ms : List Move) (s z : StateOf) → DoesMoves ms s z → Later s z
 does_later ms s z d = record { paging = all_served_later d.paging_calls s.paging z.paging d.paging; files = all_served_later d.file_calls s.files z.files d.files }
 
 pub fault_later : (s t z : StateOf) → Later s t → SomeFault t z → SomeFault s z
@@ -53,13 +53,13 @@ absent l (held.Block b) e = refl
 absent l held.Zero e = cc
 absent l held.Dead e = cc
 
-pub reads_for : (a : Aim) (k : Key) (s : StateOf) → Begins a k s → is_stored (s.life.stands k) ≡ true → ReadsFor a k
+pub reads_for : (a : Aim) (k : Key) (s : StateOf) → AccessBegins a k s → is_stored (s.life.stands k) ≡ true → ReadsFor a k
 reads_for a k s b h = record { needs = b.needs; absent = absent a.start (a.start.stands k) (ap (λ (l : FrameLife). is_stored (l.stands k)) b.from ∙ h) }
 
-called_both : (s t z : StateOf) → t ≡ called s t → z ≡ called t z → z ≡ called s z
-called_both s t z p q = q ∙ ap (λ (x : StateOf). called x z) p
+called_both : (s t z : StateOf) → t ≡ moved_with_call s t → z ≡ moved_with_call t z → z ≡ moved_with_call s z
+called_both s t z p q = q ∙ ap (λ (x : StateOf). moved_with_call x z) p
 
-pub fails_both : (e : PageFault) (k : Key) (s t z : StateOf) → e ≡ fault.Read → Later s t → t ≡ called s t → Fails e k t z → Fails e k s z
+pub fails_both : (e : PageFault) (k : Key) (s t z : StateOf) → e ≡ fault.Read → Later s t → t ≡ moved_with_call s t → Fails e k t z → Fails e k s z
 fails_both e k s t z w l c f = record {
   read = f.read;
   kept = λ h. let bad = sym w ∙ h in cc;

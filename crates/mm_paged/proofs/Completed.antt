@@ -37,12 +37,12 @@ use Rattle.mm_pages.specs.Reports.{completed, fetched, Served}
 use Rattle.mm_pages.specs.Store.{Ready}
 use Rattle.mm_pages.specs.Told.{Told, with_read, with_write}
 use Rattle.mm_pages.proofs.Served.{served_nothing}
-use Rattle.mm_parts.specs.Moves.{read_end, write_end, own_ended}
-use Rattle.mm_moving.specs.Shown.{StateOf, Made, Called, SomeFault, called}
-use Rattle.mm_moving.specs.Holds.{Holds}
+use Rattle.mm_parts.specs.Moves.{end_of_read, write_end, own_ended}
+use Rattle.mm_moving.specs.Shown.{StateOf, Made, DeviceCalled, SomeFault, moved_with_call}
+use Rattle.mm_moving.specs.Holds.{StateHolds}
 use Rattle.mm_moving.proofs.Doing.{does_one}
 use Rattle.mm_paged.specs.Pieces.{LifeKept, EndsOne, EndsAs}
-use Rattle.mm_paged.specs.Shown.{OwnOf, Kept, store_of, report_of, behind_of}
+use Rattle.mm_paged.specs.Shown.{OwnOf, StoreKept, store_of, report_of, behind_of}
 use Rattle.mm_paged.proofs.Keeping.{blocks_kept, fetched_by}
 use Rattle.mm_paged.proofs.Serving.{InLine, served_by}
 use Rattle.mm_paged.proofs.Shows.{passes_of}
@@ -52,7 +52,7 @@ use Rattle.mm_types.proofs.Naturals.{less}
 
 -- ---- the move with which a request ends
 
-ending_read : (r : Record) (f : Frame) (ok : Bool) → is_read r.request ≡ true → ending r f ok ≡ read_end ok f
+ending_read : (r : Record) (f : Frame) (ok : Bool) → is_read r.request ≡ true → ending r f ok ≡ end_of_read ok f
 ending_read r f true e = ap (λ (b : Bool). if b then move.Got f else move.Wrote f) e
 ending_read r f false e = ap (λ (b : Bool). if b then move.Bad f else move.Lost f) e
 
@@ -66,8 +66,8 @@ writes_else request.Read h r = cc
 writes_else request.Write h r = refl
 writes_else request.WriteAgain h r = refl
 
-pub called_by_write : (s z : StateOf) (n : ℕ) → s.own ≡ None → z ≡ record (called s z) { own = own_ended s.own n } → z ≡ called s z
-called_by_write s z n o e = e ∙ ap (λ (x : Option Frame). record (called s z) { own = x }) (ap (λ (x : Option Frame). own_ended x n) o ∙ sym o)
+pub called_by_write : (s z : StateOf) (n : ℕ) → s.own ≡ None → z ≡ record (moved_with_call s z) { own = own_ended s.own n } → z ≡ moved_with_call s z
+called_by_write s z n o e = e ∙ ap (λ (x : Option Frame). record (moved_with_call s z) { own = x }) (ap (λ (x : Option Frame). own_ended x n) o ∙ sym o)
 
 -- ---- the request that is found
 
@@ -98,7 +98,7 @@ one_is true h = refl
 one_is false h = absurd (omega (arith, h))
 
 -- a frame in flight has a request
-pub flight_request : (s : StateOf) (n f : ℕ) → Holds s → slice_get s.life.flight n ≡ Some f → has_request (record_at s.life.frames f).request ≡ true
+pub flight_request : (s : StateOf) (n f : ℕ) → StateHolds s → slice_get s.life.flight n ≡ Some f → has_request (record_at s.life.frames f).request ≡ true
 flight_request s n f h e = ∥∥₁_elim h.reached (hlevel props) (λ r.
     one_is (has_request (record_at s.life.frames f).request) (subst (λ (m : ℕ). 1 ≤ m) ((reached_sound s.life r).standing f).flight (get_times s.life.flight n f e)))
 
@@ -108,7 +108,7 @@ requested_low (x ∷ xs) zero h = lt-ltb 0 (length (x ∷ xs)) (omega arith)
 requested_low (x ∷ xs) (suc f) h = let a = requested_low xs f h in grind (arith, a)
 
 -- and is one of the machine's
-pub flight_low : (s : StateOf) (f : ℕ) → Holds s → has_request (record_at s.life.frames f).request ≡ true → f < s.life.machine.frames
+pub flight_low : (s : StateOf) (f : ℕ) → StateHolds s → has_request (record_at s.life.frames f).request ≡ true → f < s.life.machine.frames
 flight_low s f h e = less f s.life.machine.frames (∥∥₁_elim h.reached (hlevel props) (λ r.
     subst (λ (n : ℕ). nat_lt f n ≡ true) (reached_sound s.life r).framed (requested_low s.life.frames.records f e)))
 
@@ -154,7 +154,7 @@ in_ending r f false = at (is_read r.request)
 life_one : (i : ℕ) (ok : Bool) (s z : StateOf) → EndsOne i ok s z → LifeKept s.life z.life
 life_one i ok s z e = subst (λ (l : FrameLife). LifeKept s.life l) (sym e.made.life) (kept_ending (record_at s.life.frames e.frame.0) e.frame ok s.life)
 
-store_one : (i : ℕ) (ok : Bool) (s z : StateOf) (o : OwnOf) → Holds s → Holds z → EndsOne i ok s z → store_of z o ≡ completed (store_of s o) (store_of z o)
+store_one : (i : ℕ) (ok : Bool) (s z : StateOf) (o : OwnOf) → StateHolds s → StateHolds z → EndsOne i ok s z → store_of z o ≡ completed (store_of s o) (store_of z o)
 store_one i ok s z o h g e =
     let l = life_one i ok s z e in
     let m = ending (record_at s.life.frames e.frame.0) e.frame ok in
@@ -162,7 +162,7 @@ store_one i ok s z o h g e =
     (ap (λ (x : StateOf). x.is_open) e.same) (ap (λ (x : StateOf). x.areas) e.same) (ap (λ (x : StateOf). x.bound) e.same) refl refl
     ∙ ap (λ (n : Place → Option Key). record (fetched (store_of s o) (store_of z o)) { names = n }) (ap (λ (x : StateOf). x.names) e.same)
 
-pub ended_store : (i : ℕ) (r : Done) (s z : StateOf) (o : OwnOf) → Holds s → Holds z → EndsAs i r s z → store_of z o ≡ completed (store_of s o) (store_of z o)
+pub ended_store : (i : ℕ) (r : Done) (s z : StateOf) (o : OwnOf) → StateHolds s → StateHolds z → EndsAs i r s z → store_of z o ≡ completed (store_of s o) (store_of z o)
 ended_store i done.None s z o h g e = subst (λ (x : StateOf). store_of x o ≡ completed (store_of s o) (store_of x o)) (sym e.1) refl
 ended_store i done.Ok s z o h g e = store_one i true s z o h g e
 ended_store i done.Failed s z o h g e = store_one i false s z o h g e
@@ -223,10 +223,10 @@ bad_write (backing.Slot s) t h = some_in t.paging_reads.failed (min (t.paging_wr
 bad_write (backing.Block s) t h = some_in t.paging_reads.failed t.paging_writes.failed t.file_reads.failed (min (t.file_writes.failed + 1) (2 ^ 64 - 1)) _ (inr (inr (inr refl))) (one_more_some t.file_writes.failed)
 
 -- a page that is being written has a home to go to
-backed_write : (s : StateOf) (f : ℕ) → Holds s → is_write (record_at s.life.frames f).request ≡ true → is_backed (record_at s.life.frames f).backing ≡ true
+backed_write : (s : StateOf) (f : ℕ) → StateHolds s → is_write (record_at s.life.frames f).request ≡ true → is_backed (record_at s.life.frames f).backing ≡ true
 backed_write s f h w = ∥∥₁_elim h.reached (hlevel props) (λ r. (((reached_sound s.life r).standing f).fit.writing w).1)
 
-fault_by : (w : Direction) (b : Backing) (s z : StateOf) → is_backed b ≡ true → Called w b false s z → SomeFault s z
+fault_by : (w : Direction) (b : Backing) (s z : StateOf) → is_backed b ≡ true → DeviceCalled w b false s z → SomeFault s z
 fault_by w backing.None s z h c = cc
 fault_by w (backing.Slot t) s z h c = inl (serves_failed _ s.paging z.paging c.0 refl)
 fault_by w (backing.Block t) s z h c = inr (serves_failed _ s.files z.files c.0 refl)
@@ -243,7 +243,7 @@ pub record Blames (s z : StateOf) : Type 0 where
   pub failed : 0 < failed_told z.told
   pub fault : SomeFault s z
 
-pub bad_told : (s z : StateOf) (f : Frame) → Holds s → has_request (record_at s.life.frames f.0).request ≡ true → Made (ending (record_at s.life.frames f.0) f false) s z → Blames s z
+pub bad_told : (s z : StateOf) (f : Frame) → StateHolds s → has_request (record_at s.life.frames f.0).request ≡ true → Made (ending (record_at s.life.frames f.0) f false) s z → Blames s z
 bad_told s z f h q m = at (is_read (record_at s.life.frames f.0).request) refl
   where
     at : (b : Bool) → is_read (record_at s.life.frames f.0).request ≡ b → Blames s z
@@ -261,12 +261,12 @@ ended_ok i done.None s z o e q = let bad : 0 ≡ 1 = ap is_done q in absurd (ome
 ended_ok i done.Ok s z o e q = ok_told s z e.frame e.made
 ended_ok i done.Failed s z o e q = let bad : 2 ≡ 1 = ap is_done q in absurd (omega (arith, bad))
 
-pub ended_blames : (i : ℕ) (r : Done) (s z : StateOf) → Holds s → EndsAs i r s z → r ≡ done.Failed → Blames s z
+pub ended_blames : (i : ℕ) (r : Done) (s z : StateOf) → StateHolds s → EndsAs i r s z → r ≡ done.Failed → Blames s z
 ended_blames i done.None s z h e q = let bad : 0 ≡ 2 = ap is_done q in absurd (omega (arith, bad))
 ended_blames i done.Ok s z h e q = let bad : 1 ≡ 2 = ap is_done q in absurd (omega (arith, bad))
 ended_blames i done.Failed s z h e q = bad_told s z e.frame h (flight_request s (i - 1) e.frame.0 h e.found) e.made
 
-pub ended_failed : (i : ℕ) (r : Done) (s z : StateOf) (o : OwnOf) → Holds s → EndsAs i r s z → r ≡ done.Failed → 0 < failed_calls (report_of z o)
+pub ended_failed : (i : ℕ) (r : Done) (s z : StateOf) (o : OwnOf) → StateHolds s → EndsAs i r s z → r ≡ done.Failed → 0 < failed_calls (report_of z o)
 ended_failed i r s z o h e q = (ended_blames i r s z h e q).failed
 
 pub ended_served : (i : ℕ) (r : Done) (s z : StateOf) (o : OwnOf) → EndsAs i r s z → Served (store_of s o) (store_of z o)
@@ -274,7 +274,7 @@ ended_served i done.None s z o e = subst (λ (x : StateOf). Served (store_of s o
 ended_served i done.Ok s z o e = served_by (ending (record_at s.life.frames e.frame.0) e.frame true ∷ []) s z o o (in_ending (record_at s.life.frames e.frame.0) e.frame true) (does_one _ s z e.made)
 ended_served i done.Failed s z o e = served_by (ending (record_at s.life.frames e.frame.0) e.frame false ∷ []) s z o o (in_ending (record_at s.life.frames e.frame.0) e.frame false) (does_one _ s z e.made)
 
-pub ended_stored : (i : ℕ) (r : Done) (s z : StateOf) → Holds s → Holds z → EndsAs i r s z → length z.blocks ≡ length s.blocks
+pub ended_stored : (i : ℕ) (r : Done) (s z : StateOf) → StateHolds s → StateHolds z → EndsAs i r s z → length z.blocks ≡ length s.blocks
 ended_stored i done.None s z h g e = ap (λ (x : StateOf). length x.blocks) e.1
 ended_stored i done.Ok s z h g e = g.blocks ∙ ap (λ (n : MachineOf). n.blocks) (life_one i true s z e).machine ∙ sym h.blocks
 ended_stored i done.Failed s z h g e = g.blocks ∙ ap (λ (n : MachineOf). n.blocks) (life_one i false s z e).machine ∙ sym h.blocks
@@ -290,7 +290,7 @@ ended_passes i done.Failed s z o e = passes_one i false s z o e
 
 -- ---- what the store keeps
 
-kept_one : (i : ℕ) (ok : Bool) (s z : StateOf) (o : OwnOf) → Kept s o → s.life.kind ≡ kind.Io → EndsOne i ok s z → Kept z o
+kept_one : (i : ℕ) (ok : Bool) (s z : StateOf) (o : OwnOf) → StoreKept s o → s.life.kind ≡ kind.Io → EndsOne i ok s z → StoreKept z o
 kept_one i ok s z o k io e = record {
   own = ap (λ (x : StateOf). x.own) e.same ∙ k.own;
   aside = ap (λ (x : StateOf). x.aside) e.same ∙ k.aside;
@@ -304,7 +304,7 @@ kept_one i ok s z o k io e = record {
     none_ready : (r : Ready) → o.ready ≡ Some r → ⊥
     none_ready r t = let bad : false ≡ true = sym (ap is_touch io) ∙ k.touching r t in cc
 
-pub ended_kept : (i : ℕ) (r : Done) (s z : StateOf) (o : OwnOf) → Kept s o → s.life.kind ≡ kind.Io → EndsAs i r s z → Kept z o
-ended_kept i done.None s z o k io e = subst (λ (x : StateOf). Kept x o) (sym e.1) k
+pub ended_kept : (i : ℕ) (r : Done) (s z : StateOf) (o : OwnOf) → StoreKept s o → s.life.kind ≡ kind.Io → EndsAs i r s z → StoreKept z o
+ended_kept i done.None s z o k io e = subst (λ (x : StateOf). StoreKept x o) (sym e.1) k
 ended_kept i done.Ok s z o k io e = kept_one i true s z o k io e
 ended_kept i done.Failed s z o k io e = kept_one i false s z o k io e

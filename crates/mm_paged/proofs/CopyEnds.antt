@@ -25,12 +25,12 @@ use Rattle.mm_paged.proofs.Giving.{young_still}
 use Rattle.mm_pages.specs.Reports.{Ends, IsBegun, HasCauses, Served, fetched}
 use Rattle.mm_pages.specs.Standing.{where_of, block_at, backed_by}
 use Rattle.mm_pages.specs.Store.{StoreOf, Ready, own_key}
-use Rattle.mm_moving.specs.Shown.{StateOf, called}
+use Rattle.mm_moving.specs.Shown.{StateOf, moved_with_call}
 use Rattle.mm_moving.specs.Doing.{walk_of}
-use Rattle.mm_moving.specs.Holds.{Holds}
+use Rattle.mm_moving.specs.Holds.{StateHolds}
 use Rattle.mm_paged.specs.Pieces.{Went, Stuck, LifeKept}
 use Rattle.mm_paged.specs.Copies.{CopiesFrom, Copied, FailsToCopy, most_reads}
-use Rattle.mm_paged.specs.Shown.{OwnOf, Kept, store_of, report_of, behind_of}
+use Rattle.mm_paged.specs.Shown.{OwnOf, StoreKept, store_of, report_of, behind_of}
 use Rattle.mm_paged.proofs.Quiet.{calm_through}
 use Rattle.mm_paged.proofs.Ending.{in_line}
 use Rattle.mm_paged.proofs.Keeping.{block_same, blocks_kept, paging_has_none, dead_has_none, fetched_by}
@@ -44,16 +44,16 @@ pub some_bytes : (o : Option Page) → IsSome o → is_some o ≡ true
 some_bytes None n = cc
 some_bytes (Some v) n = refl
 
-pub plain_where_free : (place : Place) (k : Key) (s : StateOf) (o : OwnOf) → Kept s o → MayAccess (store_of s o) place (copying k place) → s.life.valid place ≡ None → s.life.kind ≡ kind.Access place.pid
+pub plain_where_free : (place : Place) (k : Key) (s : StateOf) (o : OwnOf) → StoreKept s o → MayAccess (store_of s o) place (copying k place) → s.life.valid place ≡ None → s.life.kind ≡ kind.Access place.pid
 plain_where_free place k s o h (inl e) n = e
 plain_where_free place k s o h (inr e) n = let bad : false ≡ true = sym (ap is_some n) ∙ h.ready _ e.1 in cc
 
-pub plain_where_short : (place : Place) (k : Key) (s : StateOf) (o : OwnOf) → Kept s o → MayAccess (store_of s o) place (copying k place) → is_short s.life ≡ true → s.life.kind ≡ kind.Access place.pid
+pub plain_where_short : (place : Place) (k : Key) (s : StateOf) (o : OwnOf) → StoreKept s o → MayAccess (store_of s o) place (copying k place) → is_short s.life ≡ true → s.life.kind ≡ kind.Access place.pid
 plain_where_short place k s o h (inl e) n = e
 plain_where_short place k s o h (inr e) n = let bad : true ≡ false = sym n ∙ h.room _ e.1 refl in cc
 
 -- where it was ready it does not fail
-pub never_unready : (place : Place) (k : Key) (s : StateOf) (o : OwnOf) → Kept s o → IsReady (store_of s o) place (copying k place) → (s.life.valid place ≡ None) ⊎ (is_short s.life ≡ true) → ⊥
+pub never_unready : (place : Place) (k : Key) (s : StateOf) (o : OwnOf) → StoreKept s o → IsReady (store_of s o) place (copying k place) → (s.life.valid place ≡ None) ⊎ (is_short s.life ≡ true) → ⊥
 never_unready place k s o h r (inl e) = let bad : false ≡ true = sym (ap is_some e) ∙ h.ready _ r in cc
 never_unready place k s o h r (inr e) = let bad : true ≡ false = sym e ∙ h.room _ r refl in cc
 
@@ -78,8 +78,8 @@ touches_then place k s o (inl e) = ap is_touch e
 touches_then place k s o (inr e) = ap is_touch e.0
 
 -- the page copied to is ready
-pub copied_kept : (n : ℕ) (k : Key) (place : Place) (s z : StateOf) (o u : OwnOf) (now : Ready) → Kept s o → MayAccess (store_of s o) place (copying k place) → ((a : Aim) → CopiesFrom a k place s → Went a n s z) → Copied k place s z
-    → u.ready ≡ Some now → now.place ≡ place → now.need.copy ≡ None → u.blocks_used ≡ o.blocks_used → Kept z u
+pub copied_kept : (n : ℕ) (k : Key) (place : Place) (s z : StateOf) (o u : OwnOf) (now : Ready) → StoreKept s o → MayAccess (store_of s o) place (copying k place) → ((a : Aim) → CopiesFrom a k place s → Went a n s z) → Copied k place s z
+    → u.ready ≡ Some now → now.place ≡ place → now.need.copy ≡ None → u.blocks_used ≡ o.blocks_used → StoreKept z u
 copied_kept n k place s z o u now h may went c ready at none used = record {
   own = ap (λ (x : StateOf). x.own) c.same ∙ h.own;
   aside = ap (λ (x : StateOf). x.aside) c.same ∙ h.aside;
@@ -94,8 +94,8 @@ copied_kept n k place s z o u now h may went c ready at none used = record {
     is_now r e = let both : Some now ≡ Some r = sym ready ∙ e in cc
 
 -- nothing is ready
-pub failed_kept : (e : PageFault) (k : Key) (place : Place) (s z : StateOf) (o u : OwnOf) → Kept s o → ((a : Aim) → CopiesFrom a k place s → Stuck a e 1 s z) → LifeKept s.life z.life → z ≡ record (called s z) { names = z.names }
-    → u.ready ≡ None → u.blocks_used ≡ o.blocks_used → Kept z u
+pub failed_kept : (e : PageFault) (k : Key) (place : Place) (s z : StateOf) (o u : OwnOf) → StoreKept s o → ((a : Aim) → CopiesFrom a k place s → Stuck a e 1 s z) → LifeKept s.life z.life → z ≡ record (moved_with_call s z) { names = z.names }
+    → u.ready ≡ None → u.blocks_used ≡ o.blocks_used → StoreKept z u
 failed_kept e k place s z o u h stuck life same none used = record {
   own = ap (λ (x : StateOf). x.own) same ∙ h.own;
   aside = ap (λ (x : StateOf). x.aside) same ∙ h.aside;
@@ -117,7 +117,7 @@ none_of : (o : Option Frame) (n : ℕ) → n ≤ most_reads o → is_some o ≡ 
 none_of None n h e = cc
 none_of (Some f) n h e = omega (arith, h)
 
-pub copy_passes : (k : Key) (place : Place) (s z : StateOf) (o u : OwnOf) → Kept s o → ((a : Aim) → CopiesFrom a k place s → Went a (most_reads (s.life.valid place)) s z) → Copied k place s z
+pub copy_passes : (k : Key) (place : Place) (s z : StateOf) (o u : OwnOf) → StoreKept s o → ((a : Aim) → CopiesFrom a k place s → Went a (most_reads (s.life.valid place)) s z) → Copied k place s z
     → Passes (Copies {T = Unit {0}} (copy_aim k place s) (IsReady (store_of s o) place (copying k place)) (Ok tt)) (store_of s o) (store_of z u) (behind_of s) (behind_of z)
 copy_passes k place s z o u h went c =
     let w = went (copy_aim k place s) (aims k place s) in
@@ -131,7 +131,7 @@ copy_passes k place s z o u h went c =
       calm = λ r. none_of (s.life.valid place) _ w.few_reads (h.ready _ r);
     })
 
-pub failed_passes : (e : PageFault) (k : Key) (place : Place) (s z : StateOf) (o u : OwnOf) → Kept s o → ((a : Aim) → CopiesFrom a k place s → Stuck a e 1 s z) → (s.life.valid place ≡ None) ⊎ (is_short s.life ≡ true)
+pub failed_passes : (e : PageFault) (k : Key) (place : Place) (s z : StateOf) (o u : OwnOf) → StoreKept s o → ((a : Aim) → CopiesFrom a k place s → Stuck a e 1 s z) → (s.life.valid place ≡ None) ⊎ (is_short s.life ≡ true)
     → Passes (Copies {T = Unit {0}} (copy_aim k place s) (IsReady (store_of s o) place (copying k place)) (Err e)) (store_of s o) (store_of z u) (behind_of s) (behind_of z)
 failed_passes e k place s z o u h stuck never =
     let w = stuck (copy_aim k place s) (aims k place s) in
@@ -147,7 +147,7 @@ failed_passes e k place s z o u h stuck never =
 
 -- ---- the store after it
 
-block_copied : (k : Key) (place : Place) (s z : StateOf) (ms : List Move) → Holds s → Holds z → Replays ms s.life z.life → s.contents (key_of_place place) ≡ None → Copied k place s z → (q : Key)
+block_copied : (k : Key) (place : Place) (s z : StateOf) (ms : List Move) → StateHolds s → StateHolds z → Replays ms s.life z.life → s.contents (key_of_place place) ≡ None → Copied k place s z → (q : Key)
     → block_at (backed_by z.life (z.life.stands q)) ≡ block_at (backed_by s.life (s.life.stands q))
 block_copied k place s z ms h g r dead c q = elim (key_or_not q (key_of_place place)) [
   | inl e ↦
@@ -166,7 +166,7 @@ with_copy s z place to = record (fetched s z) {
   paging_keys = s.paging_keys + 1;
 }
 
-pub copied_store : (n : ℕ) (k : Key) (place : Place) (s z : StateOf) (o u : OwnOf) → Holds s → Holds z → s.contents (key_of_place place) ≡ None → ((a : Aim) → CopiesFrom a k place s → Went a n s z) → Copied k place s z → u.extended ≡ o.extended → u.blocks_used ≡ o.blocks_used
+pub copied_store : (n : ℕ) (k : Key) (place : Place) (s z : StateOf) (o u : OwnOf) → StateHolds s → StateHolds z → s.contents (key_of_place place) ≡ None → ((a : Aim) → CopiesFrom a k place s → Went a n s z) → Copied k place s z → u.extended ≡ o.extended → u.blocks_used ≡ o.blocks_used
     → store_of z u ≡ with_copy (store_of s o) (store_of z u) place (own_key place)
 copied_store n k place s z o u h g dead went c x b =
     let w = went (copy_aim k place s) (aims k place s) in
@@ -196,7 +196,7 @@ copied_store n k place s z o u h g dead went c x b =
       file_device = z.files;
     }
 
-pub failed_store : (e : PageFault) (k : Key) (place : Place) (s z : StateOf) (o u : OwnOf) → Holds s → Holds z → ((a : Aim) → CopiesFrom a k place s → Stuck a e 1 s z) → LifeKept s.life z.life → z ≡ record (called s z) { names = z.names } → u.extended ≡ o.extended → u.blocks_used ≡ o.blocks_used
+pub failed_store : (e : PageFault) (k : Key) (place : Place) (s z : StateOf) (o u : OwnOf) → StateHolds s → StateHolds z → ((a : Aim) → CopiesFrom a k place s → Stuck a e 1 s z) → LifeKept s.life z.life → z ≡ record (moved_with_call s z) { names = z.names } → u.extended ≡ o.extended → u.blocks_used ≡ o.blocks_used
     → store_of z u ≡ record (fetched (store_of s o) (store_of z u)) { names = z.names }
 failed_store e k place s z o u h g stuck l c x b =
     let w = stuck (copy_aim k place s) (aims k place s) in
@@ -226,14 +226,14 @@ either_some : (a b : Bool) → b ≡ false → (not a || not b) ≡ true
 either_some a b q = grind (arith, q)
 
 -- the place's own page lives then
-copied_live : (k : Key) (place : Place) (s z : StateOf) → Holds z → Copied k place s z → is_some (s.contents k) ≡ true → is_live z.life (key_of_place place) ≡ true
+copied_live : (k : Key) (place : Place) (s z : StateOf) → StateHolds z → Copied k place s z → is_some (s.contents k) ≡ true → is_live z.life (key_of_place place) ≡ true
 copied_live k place s z g c some = g.live (key_of_place place) ∙ ap (λ (p : Key → Option Page). is_some (p (key_of_place place))) c.contents ∙ ap is_some (changed_here s.contents (key_of_place place) (s.contents k)) ∙ some
 
 -- a report tells of the store's own fields the extension alone
 abbrev told_by : Option Bool → OwnOf
 told_by x = record { extended = x; ready = None; blocks_used = 0 }
 
-pub copied_ends : (k : Key) (place : Place) (s z : StateOf) (o : OwnOf) (x : Option Bool) → Holds z → Copied k place s z → is_some (s.contents k) ≡ true → IsBegun (report_of s o) → Ends {T = Unit {0}} (copying k place) (report_of z (told_by x)) (Ok tt)
+pub copied_ends : (k : Key) (place : Place) (s z : StateOf) (o : OwnOf) (x : Option Bool) → StateHolds z → Copied k place s z → is_some (s.contents k) ≡ true → IsBegun (report_of s o) → Ends {T = Unit {0}} (copying k place) (report_of z (told_by x)) (Ok tt)
 copied_ends k place s z o x g c some b =
     let still : still_needs_frame (copying k place) (report_of z (told_by x)) ≡ false =
     either_none _ _ (framed_has z.life (z.life.stands k) c.framed) (live_where z.life (z.life.stands (key_of_place place)) (copied_live k place s z g c some)) in
@@ -244,7 +244,7 @@ copied_ends k place s z o x g c some b =
       no_frame = λ h. cc;
     }
 
-pub failed_causes_copy : (why : PageFault) (k : Key) (place : Place) (s z : StateOf) (x : Option Bool) → Holds z → z.contents (key_of_place place) ≡ None → FailsToCopy why k s z → HasCauses {T = Unit {0}} (copying k place) (report_of z (told_by x)) (Err why)
+pub failed_causes_copy : (why : PageFault) (k : Key) (place : Place) (s z : StateOf) (x : Option Bool) → StateHolds z → z.contents (key_of_place place) ≡ None → FailsToCopy why k s z → HasCauses {T = Unit {0}} (copying k place) (report_of z (told_by x)) (Err why)
 failed_causes_copy fault.Read k place s z x g dead h = record {
   read = λ e. ap (λ (r : Option Key). unwrap_or (option_map (same_in_world k) r) false) (h.read refl) ∙ same_key-self k;
   no_frame = λ e. cc;
@@ -258,7 +258,7 @@ failed_causes_copy fault.NoFrame k place s z x g dead h = record {
   );
 }
 
-pub failed_ends_copy : (why : PageFault) (k : Key) (place : Place) (s z : StateOf) (o : OwnOf) (x : Option Bool) → Holds z → z.contents (key_of_place place) ≡ None → FailsToCopy why k s z → IsBegun (report_of s o) → Ends {T = Unit {0}} (copying k place) (report_of z (told_by x)) (Err why)
+pub failed_ends_copy : (why : PageFault) (k : Key) (place : Place) (s z : StateOf) (o : OwnOf) (x : Option Bool) → StateHolds z → z.contents (key_of_place place) ≡ None → FailsToCopy why k s z → IsBegun (report_of s o) → Ends {T = Unit {0}} (copying k place) (report_of z (told_by x)) (Err why)
 failed_ends_copy fault.Read k place s z o x g dead h b = record { ok = tt; had = tt; read = (failed_causes_copy fault.Read k place s z x g dead h).read; no_frame = λ e. cc }
 failed_ends_copy fault.NoFrame k place s z o x g dead h b =
     let c = (failed_causes_copy fault.NoFrame k place s z x g dead h).no_frame refl in
@@ -275,9 +275,9 @@ failed_ends_copy fault.NoFrame k place s z o x g dead h b =
 -- ---- in the call's own words
 
 -- the place's own page is dead still
-pub failed_dead : (s z : StateOf) (place : Place) → z ≡ record (called s z) { names = z.names } → s.contents (key_of_place place) ≡ None → z.contents (key_of_place place) ≡ None
+pub failed_dead : (s z : StateOf) (place : Place) → z ≡ record (moved_with_call s z) { names = z.names } → s.contents (key_of_place place) ≡ None → z.contents (key_of_place place) ≡ None
 failed_dead s z place e dead = ap (λ (x : StateOf). x.contents (key_of_place place)) e ∙ dead
 
-pub copied_store_at : (n : ℕ) (k : Key) (place : Place) (to : Key) (s z : StateOf) (o u : OwnOf) → to ≡ own_key place → Holds s → Holds z → s.contents (key_of_place place) ≡ None → ((a : Aim) → CopiesFrom a k place s → Went a n s z) → Copied k place s z → u.extended ≡ o.extended → u.blocks_used ≡ o.blocks_used
+pub copied_store_at : (n : ℕ) (k : Key) (place : Place) (to : Key) (s z : StateOf) (o u : OwnOf) → to ≡ own_key place → StateHolds s → StateHolds z → s.contents (key_of_place place) ≡ None → ((a : Aim) → CopiesFrom a k place s → Went a n s z) → Copied k place s z → u.extended ≡ o.extended → u.blocks_used ≡ o.blocks_used
     → store_of z u ≡ with_copy (store_of s o) (store_of z u) place to
 copied_store_at n k place to s z o u e h g dead went c x b = copied_store n k place s z o u h g dead went c x b ∙ ap (with_copy (store_of s o) (store_of z u) place) (sym e)

@@ -12,9 +12,9 @@ use Rattle.mm_life.specs.Legal.{is_access, is_short}
 use Rattle.mm_pages.specs.Accesses.{Aim}
 use Rattle.mm_pages.specs.Conditions.{touch}
 use Rattle.mm_world.specs.Report.{Tally}
-use Rattle.mm_moving.specs.Shown.{StateOf, called}
+use Rattle.mm_moving.specs.Shown.{StateOf, moved_with_call}
 use Rattle.mm_moving.specs.Doing.{IsFlightOf}
-use Rattle.mm_moving.specs.Holds.{Holds}
+use Rattle.mm_moving.specs.Holds.{StateHolds}
 use Rattle.mm_paged.specs.Pieces.{Went, Stuck, Fails, LifeKept, Later}
 use Rattle.mm_paged.specs.Copies.{Reaches, NoneBeside, CopiesPage, FailsToCopyPage, CopiesFrom, Readied, Pins, Spares, Lacks, Copied, FailsToCopy, most_reads}
 use Rattle.mm_paged.proofs.Doing.{went_then, went_stuck}
@@ -38,7 +38,7 @@ module _ (k : Key) (f : Frame) (place : Place) (s t : StateOf) (r : Readied k f 
   pub still_dead : s.contents (key_of_place place) ≡ None → t.contents (key_of_place place) ≡ None
   still_dead dead = ap (λ (x : StateOf). x.contents (key_of_place place)) r.same ∙ dead
 
-  pins_then : Holds t → s.contents (key_of_place place) ≡ None → (a : Aim) → CopiesFrom a k place s → Pins a place f t
+  pins_then : StateHolds t → s.contents (key_of_place place) ≡ None → (a : Aim) → CopiesFrom a k place s → Pins a place f t
   pins_then h dead a c = record {
     at = c.reaches.at;
     copy = c.copy;
@@ -47,12 +47,12 @@ module _ (k : Key) (f : Frame) (place : Place) (s t : StateOf) (r : Readied k f 
     flight = subst (λ (l : FrameLife). IsFlightOf l.flight (Some f) t.life) (sym c.reaches.from) r.flight;
   }
 
-  pub page_went : Holds t → s.contents (key_of_place place) ≡ None → (z : StateOf) → ((a : Aim) → Pins a place f t → Went a 0 t z) → (a : Aim) → CopiesFrom a k place s → Went a (most_reads (s.life.valid place)) s z
+  pub page_went : StateHolds t → s.contents (key_of_place place) ≡ None → (z : StateOf) → ((a : Aim) → Pins a place f t → Went a 0 t z) → (a : Aim) → CopiesFrom a k place s → Went a (most_reads (s.life.valid place)) s z
   page_went ht dead z h a c =
       let n = most_reads (s.life.valid place) in
       went_more a (n + 0) n s z (omega arith) (went_then a n 0 s t z (r.went a c.reaches) (h a (pins_then ht dead a c)))
 
-  pub page_stuck : Holds t → s.contents (key_of_place place) ≡ None → (z : StateOf) → ((a : Aim) → Pins a place f t → Stuck a fault.NoFrame 0 t z) → (a : Aim) → CopiesFrom a k place s → Stuck a fault.NoFrame 1 s z
+  pub page_stuck : StateHolds t → s.contents (key_of_place place) ≡ None → (z : StateOf) → ((a : Aim) → Pins a place f t → Stuck a fault.NoFrame 0 t z) → (a : Aim) → CopiesFrom a k place s → Stuck a fault.NoFrame 1 s z
   page_stuck ht dead z h a c =
       let n = most_reads (s.life.valid place) in
       let few = few_reads (s.life.valid place) in
@@ -79,7 +79,7 @@ module _ (k : Key) (f : Frame) (place : Place) (s t : StateOf) (r : Readied k f 
     contents = c.contents ∙ ap (λ (x : StateOf). changed same_key x.contents (key_of_place place) (x.contents k)) r.same;
     framed = c.framed;
     read = c.read ∙ r.calm.read;
-    same = c.same ∙ ap (λ (x : StateOf). record (called x z) { names = z.names; contents = z.contents }) r.same;
+    same = c.same ∙ ap (λ (x : StateOf). record (moved_with_call x z) { names = z.names; contents = z.contents }) r.same;
   }
 
   short_before : (o : Option Frame) → s.life.valid place ≡ o → is_short t.life ≡ true → (s.life.valid place ≡ None) ⊎ (is_short s.life ≡ true)
@@ -92,10 +92,10 @@ module _ (k : Key) (f : Frame) (place : Place) (s t : StateOf) (r : Readied k f 
   pub page_names : (z : StateOf) → Spares f t z → (z.names ≡ s.names) ⊎ (z.names ≡ changed same_place s.names place (Some k))
   page_names z p = subst (λ (n : Place → Option Key). (n ≡ s.names) ⊎ (n ≡ changed same_place s.names place (Some k))) (sym (ap (λ (x : StateOf). x.names) p.same)) r.names
 
-  pub page_same : (z : StateOf) → Spares f t z → z ≡ record (called s z) { names = z.names }
+  pub page_same : (z : StateOf) → Spares f t z → z ≡ record (moved_with_call s z) { names = z.names }
   page_same z p =
-      p.same ∙ ap (λ (x : StateOf). record (called x z) { names = x.names }) r.same
-      ∙ ap (λ (n : Place → Option Key). record (called s z) { names = n }) (sym (ap (λ (x : StateOf). x.names) p.same))
+      p.same ∙ ap (λ (x : StateOf). record (moved_with_call x z) { names = x.names }) r.same
+      ∙ ap (λ (n : Place → Option Key). record (moved_with_call s z) { names = n }) (sym (ap (λ (x : StateOf). x.names) p.same))
 
   pub page_life : (z : StateOf) → Spares f t z → LifeKept s.life z.life
   page_life z p = kept_then s.life t.life z.life readied_life p.life
@@ -125,12 +125,12 @@ module _ (k : Key) (f : Frame) (place : Place) (s t : StateOf) (r : Readied k f 
 
 -- ---- by the result of the second half
 
-pub ok_copies : {T E : Type 0} (r : Result T E) (k : Key) (f : Frame) (place : Place) (s t : StateOf) → Readied k f place s t → Holds t → s.contents (key_of_place place) ≡ None → (z : StateOf)
+pub ok_copies : {T E : Type 0} (r : Result T E) (k : Key) (f : Frame) (place : Place) (s t : StateOf) → Readied k f place s t → StateHolds t → s.contents (key_of_place place) ≡ None → (z : StateOf)
     → OnOk r ((a : Aim) → Pins a place f t → Went a 0 t z) → OnOk r (Copied k place t z) → OnOk r (CopiesPage k place s z)
 ok_copies (Ok v) k f place s t rd h dead z w c = record { went = page_went k f place s t rd h dead z w; copied = page_copied k f place s t rd z c }
 ok_copies (Err e) k f place s t rd h dead z w c = tt
 
-pub err_copies : {T : Type 0} (r : Result T PageFault) (k : Key) (f : Frame) (place : Place) (s t : StateOf) → Readied k f place s t → Holds t → s.contents (key_of_place place) ≡ None → (z : StateOf)
+pub err_copies : {T : Type 0} (r : Result T PageFault) (k : Key) (f : Frame) (place : Place) (s t : StateOf) → Readied k f place s t → StateHolds t → s.contents (key_of_place place) ≡ None → (z : StateOf)
     → IfErr r (λ e. NoneBeside f e t z) → OnErr r (Spares f t z) → IfErr r (λ e. FailsToCopyPage k place e s z)
 err_copies (Ok v) k f place s t rd h dead z n o = tt
 err_copies (Err e) k f place s t rd h dead z n o = record {
@@ -157,5 +157,5 @@ fails_to_hold k place e s z w free f = record {
     none = λ h n. f.none h (ap (λ (x : Tally). x.succeeded) n);
     fault = f.fault;
   };
-  same = f.same ∙ ap (λ (n : Place → Option Key). record (called s z) { names = n }) (sym (ap (λ (x : StateOf). x.names) f.same));
+  same = f.same ∙ ap (λ (n : Place → Option Key). record (moved_with_call s z) { names = n }) (sym (ap (λ (x : StateOf). x.names) f.same));
 }

@@ -7,13 +7,13 @@ use Rattle.mm_pages.specs.Accesses.{Aim, AccessMove}
 use Rattle.mm_pages.proofs.Walking.{accesses_then, walked_then}
 use Rattle.mm_life.specs.Walks.{Walk, Through, walked_all, is_read_move, takes_frame, is_wrote_move}
 use Rattle.mm_moving.specs.Shown.{StateOf}
-use Rattle.mm_moving.specs.Doing.{Does, walk_of}
+use Rattle.mm_moving.specs.Doing.{DoesMoves, walk_of}
 use Rattle.mm_moving.proofs.Doing.{does_nothing, does_then, count-append, walked_here}
-use Rattle.mm_paged.specs.Pieces.{Went, Stuck, Sought, Took, Missed, walk_at}
+use Rattle.mm_paged.specs.Pieces.{Went, Stuck, Sought, TookFrame, Missed, walk_at}
 
 -- ---- pieces
 
-pub walked_to : (ms : List Move) (s z : StateOf) → Does ms s z → (walked_all (walk_of s) ms).tried ≡ [] → walked_all (walk_of s) ms ≡ walk_of z
+pub walked_to : (ms : List Move) (s z : StateOf) → DoesMoves ms s z → (walked_all (walk_of s) ms).tried ≡ [] → walked_all (walk_of s) ms ≡ walk_of z
 walked_to ms s z d e = walked_here ms s z d ∙ ap (λ (t : List ℕ). record { life = z.life; ages = z.ages; tried = t }) e
 
 pub went_then : (a : Aim) (m n : ℕ) (s t z : StateOf) → Went a m s t → Went a n t z → Went a (m + n) s z
@@ -42,11 +42,11 @@ went_stuck a why m n s t z p q =
     }
 
 -- where a search has come to
-sought_to : (ms : List Move) (s z : StateOf) → Does ms s z → walked_all (walk_of s) ms ≡ walk_at (walked_all (walk_of s) ms).tried z
+sought_to : (ms : List Move) (s z : StateOf) → DoesMoves ms s z → walked_all (walk_of s) ms ≡ walk_at (walked_all (walk_of s) ms).tried z
 sought_to ms s z d = walked_here ms s z d
 
 -- a frame is found, and taken
-pub sought_took : (a : Aim) (n : ℕ) (s t z : StateOf) → Sought a s t → Took a n t z → Went a n s z
+pub sought_took : (a : Aim) (n : ℕ) (s t z : StateOf) → Sought a s t → TookFrame a n t z → Went a n s z
 sought_took a n s t z p q =
     let at = sought_to p.moves s t p.does in
     let tried = (walked_all (walk_of s) p.moves).tried in

@@ -16,15 +16,15 @@ use Rattle.mm_laws.proofs.PlaceCounts.{same_place-self}
 use Rattle.mm_paged.proofs.Reading.{had_ends}
 use Rattle.mm_pages.specs.Store.{StoreOf, Ready}
 use Rattle.mm_life.specs.Walks.{Walk, Through}
-use Rattle.mm_moving.specs.Shown.{StateOf, called}
-use Rattle.mm_moving.specs.Doing.{Does, walk_of}
-use Rattle.mm_moving.specs.Holds.{Holds}
+use Rattle.mm_moving.specs.Shown.{StateOf, moved_with_call}
+use Rattle.mm_moving.specs.Doing.{DoesMoves, walk_of}
+use Rattle.mm_moving.specs.Holds.{StateHolds}
 use Rattle.mm_types.specs.declared.numbers.Frame.{Frame}
 use Rattle.std.proofs.Common.{arith}
 use Rattle.mm_moving.proofs.Doing.{does_one}
 use Rattle.mm_paged.proofs.Doing.{went_nothing}
-use Rattle.mm_paged.specs.Pieces.{Went, Stuck, Begins, Soils, Was, Is}
-use Rattle.mm_paged.specs.Shown.{OwnOf, Kept, store_of, report_of}
+use Rattle.mm_paged.specs.Pieces.{Went, Stuck, AccessBegins, Soils, Was, Is}
+use Rattle.mm_paged.specs.Shown.{OwnOf, StoreKept, store_of, report_of}
 use Rattle.mm_paged.specs.Pieces.{LifeKept}
 use Rattle.mm_paged.proofs.Keeping.{kept_all, blocks_kept, fetched_by}
 use Rattle.mm_paged.proofs.Serving.{InLine, served_by}
@@ -54,22 +54,22 @@ in_line a (move.Lost f ∷ ms) w h = in_line a ms _ h.1
 abbrev pub aim_at : Bool → Key → Place → StateOf → Aim
 aim_at w k place s = record { place = place; need = touch k; writes = w; start = s.life }
 
-beginning : (w : Bool) (k : Key) (place : Place) (s : StateOf) → s.life.valid place ≡ None → Begins (aim_at w k place s) k s
+beginning : (w : Bool) (k : Key) (place : Place) (s : StateOf) → s.life.valid place ≡ None → AccessBegins (aim_at w k place s) k s
 beginning w k place s e = record { needs = refl; from = refl; at = e }
 
 -- moves of an access that makes no copy
 pub record Moves (w : Bool) (k : Key) (place : Place) (s y : StateOf) : Type 0 where
   pub moves : List Move
-  pub does : Does moves s y
+  pub does : DoesMoves moves s y
   pub each : Through (AccessMove (aim_at w k place s)) (walk_of s) moves
 
-pub of_went : (k : Key) (place : Place) (s y : StateOf) → s.life.valid place ≡ None → ((a : Aim) → a.place ≡ place → Begins a k s → Went a 1 s y) → Moves false k place s y
+pub of_went : (k : Key) (place : Place) (s y : StateOf) → s.life.valid place ≡ None → ((a : Aim) → a.place ≡ place → AccessBegins a k s → Went a 1 s y) → Moves false k place s y
 of_went k place s y e h = let m = h (aim_at false k place s) refl (beginning false k place s e) in record { moves = m.moves; does = m.does; each = m.each }
 
-pub of_went_to_write : (k : Key) (place : Place) (s y : StateOf) → s.life.valid place ≡ None → ((a : Aim) → a.place ≡ place → a.writes ≡ true → Begins a k s → Went a 1 s y) → Moves true k place s y
+pub of_went_to_write : (k : Key) (place : Place) (s y : StateOf) → s.life.valid place ≡ None → ((a : Aim) → a.place ≡ place → a.writes ≡ true → AccessBegins a k s → Went a 1 s y) → Moves true k place s y
 of_went_to_write k place s y e h = let m = h (aim_at true k place s) refl refl (beginning true k place s e) in record { moves = m.moves; does = m.does; each = m.each }
 
-pub of_stuck : (w : Bool) (why : PageFault) (k : Key) (place : Place) (s y : StateOf) → s.life.valid place ≡ None → ((a : Aim) → Begins a k s → Stuck a why 1 s y) → Moves w k place s y
+pub of_stuck : (w : Bool) (why : PageFault) (k : Key) (place : Place) (s y : StateOf) → s.life.valid place ≡ None → ((a : Aim) → AccessBegins a k s → Stuck a why 1 s y) → Moves w k place s y
 of_stuck w why k place s y e h = let m = h (aim_at w k place s) (beginning w k place s e) in record { moves = m.moves; does = m.does; each = m.each }
 
 pub served_in : (w : Bool) (k : Key) (place : Place) (s y : StateOf) (o u : OwnOf) → Moves w k place s y → Served (store_of s o) (store_of y u)
@@ -78,35 +78,35 @@ served_in w k place s y o u m = served_by m.moves s y o u (in_line (aim_at w k p
 kept_in : (w : Bool) (k : Key) (place : Place) (s y : StateOf) → Moves w k place s y → LifeKept s.life y.life
 kept_in w k place s y m = kept_all (aim_at w k place s) m.moves (walk_of s) y.life refl m.each m.does.replays
 
-pub store_in : (w : Bool) (k : Key) (place : Place) (s y : StateOf) (o u : OwnOf) → Moves w k place s y → Holds s → Holds y → y ≡ record (called s y) { names = y.names } → u.extended ≡ o.extended → u.blocks_used ≡ o.blocks_used
+pub store_in : (w : Bool) (k : Key) (place : Place) (s y : StateOf) (o u : OwnOf) → Moves w k place s y → StateHolds s → StateHolds y → y ≡ record (moved_with_call s y) { names = y.names } → u.extended ≡ o.extended → u.blocks_used ≡ o.blocks_used
     → store_of y u ≡ record (fetched (store_of s o) (store_of y u)) { names = y.names }
 store_in w k place s y o u m h g e x b =
     let l = kept_in w k place s y m in
     fetched_by s y o u l (blocks_kept s y m.moves h g m.does.replays l.paging (ap (λ (t : StateOf). t.contents) e))
     (ap (λ (t : StateOf). t.is_open) e) (ap (λ (t : StateOf). t.areas) e) (ap (λ (t : StateOf). t.bound) e) x b
 
-pub stored_in : (w : Bool) (k : Key) (place : Place) (s y : StateOf) → Moves w k place s y → Holds s → Holds y → length y.blocks ≡ length s.blocks
+pub stored_in : (w : Bool) (k : Key) (place : Place) (s y : StateOf) → Moves w k place s y → StateHolds s → StateHolds y → length y.blocks ≡ length s.blocks
 stored_in w k place s y m h g = g.blocks ∙ ap (λ (n : MachineOf). n.blocks) (kept_in w k place s y m).machine ∙ sym h.blocks
 
 -- the access was had: its page was read then
-pub ok_store : (w : Bool) (k : Key) (place : Place) (s y z : StateOf) (o u : OwnOf) (c : Key → Option (List ℕ)) → Moves w k place s y → Holds s → Holds y → y ≡ record (called s y) { names = y.names } → y.names ≡ changed same_place s.names place (Some k)
+pub ok_store : (w : Bool) (k : Key) (place : Place) (s y z : StateOf) (o u : OwnOf) (c : Key → Option (List ℕ)) → Moves w k place s y → StateHolds s → StateHolds y → y ≡ record (moved_with_call s y) { names = y.names } → y.names ≡ changed same_place s.names place (Some k)
     → z ≡ record y { ages = changed same_place y.ages place 0; contents = c } → u.extended ≡ o.extended → u.blocks_used ≡ o.blocks_used
     → store_of z u ≡ record (fetched (store_of s o) (store_of z u)) { names = changed same_place s.names place (Some k) }
 ok_store w k place s y z o u c m h g e n r x b =
     subst (λ (t : StoreOf). t ≡ record (fetched (store_of s o) t) { names = changed same_place s.names place (Some k) }) (sym (ap (λ (t : StateOf). store_of t u) r))
     (store_in w k place s y o u m h g e x b ∙ ap (λ (q : Place → Option Key). record (fetched (store_of s o) (store_of y u)) { names = q }) n)
 
-pub err_store : (w : Bool) (k : Key) (place : Place) (s y : StateOf) (o u : OwnOf) → Moves w k place s y → Holds s → Holds y → y ≡ called s y → u.extended ≡ o.extended → u.blocks_used ≡ o.blocks_used
+pub err_store : (w : Bool) (k : Key) (place : Place) (s y : StateOf) (o u : OwnOf) → Moves w k place s y → StateHolds s → StateHolds y → y ≡ moved_with_call s y → u.extended ≡ o.extended → u.blocks_used ≡ o.blocks_used
     → store_of y u ≡ fetched (store_of s o) (store_of y u)
 err_store w k place s y o u m h g e x b =
     let n : y.names ≡ s.names = ap (λ (t : StateOf). t.names) e in
-    store_in w k place s y o u m h g (e ∙ ap (λ (q : Place → Option Key). record (called s y) { names = q }) (sym n)) x b
+    store_in w k place s y o u m h g (e ∙ ap (λ (q : Place → Option Key). record (moved_with_call s y) { names = q }) (sym n)) x b
     ∙ ap (λ (q : Place → Option Key). record (fetched (store_of s o) (store_of y u)) { names = q }) n
 
 pub ok_served : (w : Bool) (k : Key) (place : Place) (s y z : StateOf) (o u : OwnOf) (c : Key → Option (List ℕ)) → Moves w k place s y → z ≡ record y { ages = changed same_place y.ages place 0; contents = c } → Served (store_of s o) (store_of z u)
 ok_served w k place s y z o u c m r = subst (λ (t : StoreOf). Served (store_of s o) t) (sym (ap (λ (t : StateOf). store_of t u) r)) (served_in w k place s y o u m)
 
-pub read_store : (k : Key) (place : Place) (s y z : StateOf) (o u : OwnOf) → Moves false k place s y → Holds s → Holds y → y ≡ record (called s y) { names = y.names } → y.names ≡ changed same_place s.names place (Some k)
+pub read_store : (k : Key) (place : Place) (s y z : StateOf) (o u : OwnOf) → Moves false k place s y → StateHolds s → StateHolds y → y ≡ record (moved_with_call s y) { names = y.names } → y.names ≡ changed same_place s.names place (Some k)
     → z ≡ record y { ages = changed same_place y.ages place 0 } → u.extended ≡ o.extended → u.blocks_used ≡ o.blocks_used
     → store_of z u ≡ record (fetched (store_of s o) (store_of z u)) { names = changed same_place s.names place (Some k) }
 read_store k place s y z o u m h g e n r x b = ok_store false k place s y z o u y.contents m h g e n r x b
@@ -141,7 +141,7 @@ pub fresh_in : (w : Bool) (k : Key) (place : Place) (s y : StateOf) (used : ℕ)
 fresh_in w k place s y used m h b l = ap (λ (f : ℕ → Bool). f b) (kept_in w k place s y m).added ∙ h b l
 
 -- nothing is ready once an access faulted
-pub faulted_kept : (w : Bool) (k : Key) (place : Place) (s y z : StateOf) (o u : OwnOf) → Moves w k place s y → Kept s o → y ≡ record (called s y) { names = y.names } → z.life ≡ y.life → z.own ≡ y.own → z.aside ≡ y.aside → z.told ≡ y.told → u.ready ≡ None → u.blocks_used ≡ o.blocks_used → Kept z u
+pub faulted_kept : (w : Bool) (k : Key) (place : Place) (s y z : StateOf) (o u : OwnOf) → Moves w k place s y → StoreKept s o → y ≡ record (moved_with_call s y) { names = y.names } → z.life ≡ y.life → z.own ≡ y.own → z.aside ≡ y.aside → z.told ≡ y.told → u.ready ≡ None → u.blocks_used ≡ o.blocks_used → StoreKept z u
 faulted_kept w k place s y z o u m h e l a b t r q = record {
   own = a ∙ ap (λ (x : StateOf). x.own) e ∙ h.own;
   aside = b ∙ ap (λ (x : StateOf). x.aside) e ∙ h.aside;

@@ -18,9 +18,9 @@ use Rattle.mm_pages.specs.Accesses.{Aim}
 use Rattle.mm_pages.specs.Reports.{no_calls}
 use Rattle.mm_pages.specs.Told.{Told}
 use Rattle.mm_parts.specs.Moves.{front, front_for_read}
-use Rattle.mm_moving.specs.Shown.{StateOf, Made, SomeFault, moved, called, names_after_give}
-use Rattle.mm_paged.specs.Pieces.{Stuck, Took, IsFor, Keeps, Calm, Placed, Fails}
-use Rattle.mm_paged.specs.Faults.{MayReadIn, MayUse, Gives, KeepsNames, ReadsWell, ReadsBadly, TakesIn, MissesIn, Settles, FailsToSettle, SearchKeeps, Finds, Brings, FailsToBring, IsCalledOn}
+use Rattle.mm_moving.specs.Shown.{StateOf, Made, SomeFault, moved, moved_with_call, names_after_give}
+use Rattle.mm_paged.specs.Pieces.{Stuck, TookFrame, IsFor, KeepsButNames, Calm, Placed, Fails}
+use Rattle.mm_paged.specs.Faults.{MayReadIn, MayUse, GivesFrame, KeepsNames, ReadsWell, ReadsBadly, TakesIn, MissesIn, SettlesRead, FailsToSettle, SearchKeeps, FindsFrame, Brings, FailsToBring, IsCalledOn}
 use Rattle.mm_paged.proofs.Doing.{sought_took, sought_missed}
 use Rattle.mm_paged.proofs.Bringing.{went_more, stuck_more, reads_for, fails_both}
 use Rattle.mm_paged.proofs.Taking.{went_read, stuck_read, went_steal_read, stuck_steal_read}
@@ -68,7 +68,7 @@ ready_stolen s y m e = record {
 }
 
 -- no device was called
-moved_called : (s z : StateOf) → z ≡ record (moved s z) { names = z.names } → z ≡ record (called s z) { names = z.names }
+moved_called : (s z : StateOf) → z ≡ record (moved s z) { names = z.names } → z ≡ record (moved_with_call s z) { names = z.names }
 moved_called s z e =
     e
     ∙ ap (λ (d : DeviceOf). record (moved s z) { names = z.names; paging = d }) (sym (ap (λ (x : StateOf). x.paging) e))
@@ -84,7 +84,7 @@ given_moved k s y z r e =
 
 -- a demand-zero page got a frame that was made ready
 pub gives : (k : Key) (f : Frame) (s y z : StateOf) → Ready s y → Made (move.Give f k) y z → z ≡ record (moved y z) { names = names_after_give y k }
-    → is_read (record_at z.life.frames f.0).request ≡ false → ((a : Aim) → IsFor a k → Took a 0 s z) → Gives k f s z
+    → is_read (record_at z.life.frames f.0).request ≡ false → ((a : Aim) → IsFor a k → TookFrame a 0 s z) → GivesFrame k f s z
 gives k f s y z r m e quiet went =
     let w = given_moved k s y z r.rest e in
     record {
@@ -109,28 +109,28 @@ gives k f s y z r m e quiet went =
 
 -- ---- what stays
 
-pub keeps_nothing : (s : StateOf) → Keeps s s
+pub keeps_nothing : (s : StateOf) → KeepsButNames s s
 keeps_nothing s = record { kind = refl; unmapped = λ p h. h; same = refl }
 
-pub keeps_then : (s y z : StateOf) → Keeps s y → Keeps y z → Keeps s z
+pub keeps_then : (s y z : StateOf) → KeepsButNames s y → KeepsButNames y z → KeepsButNames s z
 keeps_then s y z a b = record {
   kind = b.kind ∙ a.kind;
   unmapped = λ p h. b.unmapped p (a.unmapped p h);
-  same = b.same ∙ ap (λ (x : StateOf). record (called x z) { names = z.names }) a.same;
+  same = b.same ∙ ap (λ (x : StateOf). record (moved_with_call x z) { names = z.names }) a.same;
 }
 
-ready_keeps : (s y z : StateOf) → Ready s y → Keeps y z → Keeps s z
+ready_keeps : (s y z : StateOf) → Ready s y → KeepsButNames y z → KeepsButNames s z
 ready_keeps s y z r k = record {
   kind = k.kind ∙ r.kind;
   unmapped = λ p h. k.unmapped p (ap (λ (v : Place → Option Frame). v p) r.valid ∙ h);
-  same = k.same ∙ ap (λ (x : StateOf). record (called x z) { names = z.names }) r.rest;
+  same = k.same ∙ ap (λ (x : StateOf). record (moved_with_call x z) { names = z.names }) r.rest;
 }
 
 pub ready_keeps_names : (s y z : StateOf) → Ready s y → KeepsNames y z → KeepsNames s z
 ready_keeps_names s y z r n = record { keeps = ready_keeps s y z r n.keeps; names = n.names ∙ ap (λ (x : StateOf). x.names) r.rest }
 
-pub called_on : (s z : StateOf) → z ≡ called s z → IsCalledOn s z
-called_on s z e = e ∙ ap (λ (n : Place → Option Key). record (called s z) { names = n }) (sym (ap (λ (x : StateOf). x.names) e))
+pub called_on : (s z : StateOf) → z ≡ moved_with_call s z → IsCalledOn s z
+called_on s z e = e ∙ ap (λ (n : Place → Option Key). record (moved_with_call s z) { names = n }) (sym (ap (λ (x : StateOf). x.names) e))
 
 pub may_use_then : (k : Key) (place : Place) (s z : StateOf) → IsCalledOn s z → MayUse k place s → MayUse k place z
 may_use_then k place s z e m = record {
@@ -181,7 +181,7 @@ fails_stolen e k s y z w r f = record {
   none = λ h. let bad = sym w ∙ h in cc;
   unframed = f.unframed;
   fault = fault_on s y z (ap (λ (x : StateOf). x.paging) r) (ap (λ (x : StateOf). x.files) r) f.fault;
-  same = f.same ∙ ap (λ (x : StateOf). called x z) r;
+  same = f.same ∙ ap (λ (x : StateOf). moved_with_call x z) r;
 }
 
 pub err_steals_in : (r : Result Frame PageFault) (k : Key) (s y z : StateOf) → is_empty s.life.frames.free ≡ true → Made (move.Steal (front s.life.frames.standby)) s y → y ≡ moved s y
@@ -195,7 +195,7 @@ err_steals_in (Err e) k s y z none m r w = record {
 
 -- ---- a page gets its frame
 
-pub ok_brings_settled : (r : Result Frame PageFault) (k : Key) (s z : StateOf) → KeepsNames s z → IfOk r (λ f. Settles k f s z) → IfOk r (λ f. Brings k f s z)
+pub ok_brings_settled : (r : Result Frame PageFault) (k : Key) (s z : StateOf) → KeepsNames s z → IfOk r (λ f. SettlesRead k f s z) → IfOk r (λ f. Brings k f s z)
 ok_brings_settled (Ok f) k s z n w = record {
   went = λ a b. went_more a 0 1 s z (omega arith) (w.went a b.needs);
   keeps = n.keeps;
@@ -214,7 +214,7 @@ err_brings_settled (Err e) k s z w = record { stuck = λ a b. stuck_more a e 0 1
 pub fails_to_find : (k : Key) (e : PageFault) (s z : StateOf) → FailsToBring k e 0 s z → FailsToBring k e 1 s z
 fails_to_find k e s z w = record { stuck = λ a b. stuck_more a e 0 1 s z (omega arith) (w.stuck a b); fails = w.fails }
 
-pub brings_given : (k : Key) (f : Frame) (s t z : StateOf) → Finds k s t → SearchKeeps s t → Gives k f t z → Brings k f s z
+pub brings_given : (k : Key) (f : Frame) (s t z : StateOf) → FindsFrame k s t → SearchKeeps s t → GivesFrame k f t z → Brings k f s z
 brings_given k f s t z p q w = record {
   went = λ a b. went_more a 0 1 s z (omega arith) (sought_took a 0 s t z (p.went a b) (w.went a (inl (sym b.needs))));
   keeps = keeps_then s t z p.keeps w.keeps;
@@ -224,14 +224,14 @@ brings_given k f s t z p q w = record {
   flight = flight_then s.life.flight (Some f) t.life z.life p.flight (flight_same t.life.flight (Some f) z.life w.flight);
 }
 
-pub may_read_in : (k : Key) (s t : StateOf) → MayReadIn k s → Finds k s t → SearchKeeps s t → MayReadIn k t
+pub may_read_in : (k : Key) (s t : StateOf) → MayReadIn k s → FindsFrame k s t → SearchKeeps s t → MayReadIn k t
 may_read_in k s t m p q = record {
   access = ap is_access p.keeps.kind ∙ m.access;
   stored = ap (λ (h : Key → Held). is_stored (h k)) q.stands ∙ m.stored;
   own = ap (λ (x : StateOf). x.own) q.same ∙ m.own;
 }
 
-pub ok_brings_read : (r : Result Frame PageFault) (k : Key) (s t z : StateOf) → is_stored (s.life.stands k) ≡ true → Finds k s t → SearchKeeps s t → KeepsNames t z → IfOk r (λ f. TakesIn k f t z) → IfOk r (λ f. Brings k f s z)
+pub ok_brings_read : (r : Result Frame PageFault) (k : Key) (s t z : StateOf) → is_stored (s.life.stands k) ≡ true → FindsFrame k s t → SearchKeeps s t → KeepsNames t z → IfOk r (λ f. TakesIn k f t z) → IfOk r (λ f. Brings k f s z)
 ok_brings_read (Ok f) k s t z st p q n w = record {
   went = λ a b. sought_took a 1 s t z (p.went a b) (w.went a (reads_for a k s b st));
   keeps = keeps_then s t z p.keeps n.keeps;
@@ -242,7 +242,7 @@ ok_brings_read (Ok f) k s t z st p q n w = record {
 }
 ok_brings_read (Err e) k s t z st p q n w = tt
 
-pub err_brings_read : (r : Result Frame PageFault) (k : Key) (s t z : StateOf) → is_stored (s.life.stands k) ≡ true → Finds k s t → SearchKeeps s t → IfErr r (λ e. MissesIn k e t z) → IfErr r (λ e. FailsToBring k e 1 s z)
+pub err_brings_read : (r : Result Frame PageFault) (k : Key) (s t z : StateOf) → is_stored (s.life.stands k) ≡ true → FindsFrame k s t → SearchKeeps s t → IfErr r (λ e. MissesIn k e t z) → IfErr r (λ e. FailsToBring k e 1 s z)
 err_brings_read (Ok f) k s t z st p q w = tt
 err_brings_read (Err e) k s t z st p q w = record {
   stuck = λ a b. subst (λ (x : PageFault). Stuck a x 1 s z) (sym w.why) (sought_missed a s t z (p.went a b) (w.stuck a (reads_for a k s b st)));

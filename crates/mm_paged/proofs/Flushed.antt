@@ -41,14 +41,14 @@ use Rattle.mm_pages.specs.Store.{Ready}
 use Rattle.mm_pages.specs.Told.{Told, with_write}
 use Rattle.mm_parts.specs.Moves.{write_end, write_target, goes_to, lowest_free, own_after, own_ended}
 use Rattle.mm_life.specs.Waits.{wait_of}
-use Rattle.mm_moving.specs.Shown.{StateOf, CalledFor, Made, Wrote, backing_of_frame, moved, called, written_if}
-use Rattle.mm_moving.specs.Doing.{Does}
-use Rattle.mm_moving.specs.Holds.{Holds}
+use Rattle.mm_moving.specs.Shown.{StateOf, CalledFor, Made, WrotePage, backing_of_frame, moved, moved_with_call, written_if}
+use Rattle.mm_moving.specs.Doing.{DoesMoves}
+use Rattle.mm_moving.specs.Holds.{StateHolds}
 use Rattle.mm_moving.proofs.Doing.{does_one, does_two, does_then, does_nothing}
 use Rattle.mm_frame_laws.specs.Carried.{blocks_written, slots_written}
-use Rattle.mm_paged.specs.Flushed.{Filed, WritesTo, WritesBack, EndedIf, WrittenIf, is_changed_then, EndsFlight, WritesChanged, FlushesFrame, FlushesPage}
+use Rattle.mm_paged.specs.Flushed.{HoldsFilePage, WritesTo, WritesBack, EndedIf, WrittenIf, is_changed_then, EndsFlight, WritesChanged, FlushesFrame, FlushesPage}
 use Rattle.mm_paged.specs.Pieces.{LifeKept}
-use Rattle.mm_paged.specs.Shown.{OwnOf, Kept, store_of, report_of, behind_of}
+use Rattle.mm_paged.specs.Shown.{OwnOf, StoreKept, store_of, report_of, behind_of}
 use Rattle.mm_paged.proofs.Quiet.{no_thread}
 use Rattle.mm_paged.proofs.Completed.{called_by_write}
 use Rattle.mm_paged.proofs.Keeping.{kept_same, kept_then, blocks_kept}
@@ -78,7 +78,7 @@ some_there (Some v) h = (v, refl)
 live_frame : (s : StateOf) (k : Key) (f : Frame) → s.life.stands k ≡ held.Frame f → is_live s.life k ≡ true
 live_frame s k f e = ap (λ (h : Held). not (is_dead h)) e
 
-page_of : (s : StateOf) (k : Key) (f : Frame) → Holds s → s.life.stands k ≡ held.Frame f → (page : List ℕ) × (s.contents k ≡ Some page)
+page_of : (s : StateOf) (k : Key) (f : Frame) → StateHolds s → s.life.stands k ≡ held.Frame f → (page : List ℕ) × (s.contents k ≡ Some page)
 page_of s k f h e = some_in (s.contents k) (sym (h.live k) ∙ live_frame s k f e)
 
 -- ---- device calls
@@ -128,7 +128,7 @@ one_failed t b false e = some_more t.file_writes.failed
     some_more : (n : ℕ) → 0 < min (n + 1) (2 ^ 64 - 1)
     some_more n = grind arith
 
-by_call : (b : Block) (page : List ℕ) (ok : Bool) (s z : StateOf) → z.told ≡ with_write ok (backing.Block b) s.told → z.waits ≡ s.waits → CalledFor way.Write (backing.Block b) ok s.paging s.files z.paging z.files → Wrote (backing.Block b) page ok s z → WritesTo b ok s z
+by_call : (b : Block) (page : List ℕ) (ok : Bool) (s z : StateOf) → z.told ≡ with_write ok (backing.Block b) s.told → z.waits ≡ s.waits → CalledFor way.Write (backing.Block b) ok s.paging s.files z.paging z.files → WrotePage (backing.Block b) page ok s z → WritesTo b ok s z
 by_call b page ok s z t w c p = record {
   paging = c.1;
   slots = p.slots_are ∙ slots_same b page ok s.slots;
@@ -141,9 +141,9 @@ by_call b page ok s z t w c p = record {
   blamed = λ e. serves_failed _ s.files z.files c.0 e;
 }
 
-ended_device : (b : Block) (f : Frame) (page : List ℕ) (ok : Bool) (s z : StateOf) → backing_of_frame s f ≡ backing.Block b → Made (write_end ok f) s z → Wrote (backing_of_frame s f) page ok s z → WritesTo b ok s z
-ended_device b f page true s z e m w = by_call b page true s z (m.told ∙ ap (λ (h : Backing). with_write true h s.told) e) m.waits (subst (λ (h : Backing). CalledFor way.Write h true s.paging s.files z.paging z.files) e m.calls) (subst (λ (h : Backing). Wrote h page true s z) e w)
-ended_device b f page false s z e m w = by_call b page false s z (m.told ∙ ap (λ (h : Backing). with_write false h s.told) e) m.waits (subst (λ (h : Backing). CalledFor way.Write h false s.paging s.files z.paging z.files) e m.calls) (subst (λ (h : Backing). Wrote h page false s z) e w)
+ended_device : (b : Block) (f : Frame) (page : List ℕ) (ok : Bool) (s z : StateOf) → backing_of_frame s f ≡ backing.Block b → Made (write_end ok f) s z → WrotePage (backing_of_frame s f) page ok s z → WritesTo b ok s z
+ended_device b f page true s z e m w = by_call b page true s z (m.told ∙ ap (λ (h : Backing). with_write true h s.told) e) m.waits (subst (λ (h : Backing). CalledFor way.Write h true s.paging s.files z.paging z.files) e m.calls) (subst (λ (h : Backing). WrotePage h page true s z) e w)
+ended_device b f page false s z e m w = by_call b page false s z (m.told ∙ ap (λ (h : Backing). with_write false h s.told) e) m.waits (subst (λ (h : Backing). CalledFor way.Write h false s.paging s.files z.paging z.files) e m.calls) (subst (λ (h : Backing). WrotePage h page false s z) e w)
 
 -- ---- the life of the frames
 
@@ -168,7 +168,7 @@ held_start : (b : Block) (f : Frame) (s z : StateOf) → Made (move.Write f (sto
 held_start b f s z m = ap (λ (l : FrameLife). l.stands) m.life
 
 -- the frame's page has the block that it had
-backed_after : (s z : StateOf) (ms : List Move) (k : Key) (f : Frame) (b : Block) → Holds s → Holds z → Does ms s z → LifeKept s.life z.life → z.life.stands ≡ s.life.stands → z.contents ≡ s.contents → s.life.stands k ≡ held.Frame f → backing_of_frame s f ≡ backing.Block b → backing_of_frame z f ≡ backing.Block b
+backed_after : (s z : StateOf) (ms : List Move) (k : Key) (f : Frame) (b : Block) → StateHolds s → StateHolds z → DoesMoves ms s z → LifeKept s.life z.life → z.life.stands ≡ s.life.stands → z.contents ≡ s.contents → s.life.stands k ≡ held.Frame f → backing_of_frame s f ≡ backing.Block b → backing_of_frame z f ≡ backing.Block b
 backed_after s z ms k f b h g d l st c e w =
     block_of_frame z k f b.0 (ap (λ (x : Key → Held). x k) st ∙ e)
     (blocks_kept s z ms h g d.replays l.paging c k ∙ ap (λ (x : Held). block_at (backed_by s.life x)) e ∙ ap (λ (x : Backing). block_at (in_backing x)) w)
@@ -183,7 +183,7 @@ writes_then b ok xs ys s y z p q = record {
   does = does_then xs ys s y z p.does q.does;
   life = kept_then s.life y.life z.life p.life q.life;
   stands = q.stands ∙ p.stands;
-  same = q.same ∙ ap (λ (x : StateOf). called x z) p.same;
+  same = q.same ∙ ap (λ (x : StateOf). moved_with_call x z) p.same;
   device = device_then b ok s y z p.device q.device;
 }
 
@@ -197,7 +197,7 @@ done_still r = at (is_some r.owner) (is_again r.request)
     at true false = refl
     at false a = refl
 
-ended_still : (ok : Bool) (f : Frame) (s z : StateOf) → Holds s → Made (write_end ok f) s z → ok ≡ true → is_write (record_at z.life.frames f.0).request ≡ false
+ended_still : (ok : Bool) (f : Frame) (s z : StateOf) → StateHolds s → Made (write_end ok f) s z → ok ≡ true → is_write (record_at z.life.frames f.0).request ≡ false
 ended_still true f s z h m e = ∥∥₁_elim h.reached (hlevel props) (λ r.
     ap (λ (l : FrameLife). is_write (record_at l.frames f.0).request) m.life
     ∙ ap (λ (t : Record). is_write t.request) (wrote_settles s.life (reached_sound s.life r) f m.legal).here
@@ -223,7 +223,7 @@ done_changed r o c = at (is_some r.owner) (is_again r.request) o
     at true false q = refl
     at false a q = cc
 
-ended_changed : (ok : Bool) (f : Frame) (s z : StateOf) → Holds s → Made (write_end ok f) s z → is_some (record_at s.life.frames f.0).owner ≡ true → is_write (record_at s.life.frames f.0).request ≡ true → ok ≡ true → (record_at z.life.frames f.0).changed ≡ is_again (record_at s.life.frames f.0).request
+ended_changed : (ok : Bool) (f : Frame) (s z : StateOf) → StateHolds s → Made (write_end ok f) s z → is_some (record_at s.life.frames f.0).owner ≡ true → is_write (record_at s.life.frames f.0).request ≡ true → ok ≡ true → (record_at z.life.frames f.0).changed ≡ is_again (record_at s.life.frames f.0).request
 ended_changed true f s z h m o w e = ∥∥₁_elim h.reached (hlevel props) (λ r.
     ap (λ (l : FrameLife). (record_at l.frames f.0).changed) m.life
     ∙ ap (λ (t : Record). t.changed) (wrote_settles s.life (reached_sound s.life r) f m.legal).here
@@ -232,9 +232,9 @@ ended_changed false f s z h m o w e = cc
 
 -- what the end of a write tells of the page that is written
 abbrev pub WroteOf : Frame → Bool → StateOf → StateOf → Type 0
-WroteOf f ok s z = (k : Key) (page : List ℕ) → (record_at s.life.frames f.0).owner ≡ Some k → s.contents k ≡ Some page → Wrote (backing_of_frame s f) page ok s z
+WroteOf f ok s z = (k : Key) (page : List ℕ) → (record_at s.life.frames f.0).owner ≡ Some k → s.contents k ≡ Some page → WrotePage (backing_of_frame s f) page ok s z
 
-pub flight_ended : (b : Block) (f : Frame) (ok : Bool) (s z : StateOf) → Holds s → Holds z → Filed f s → backing_of_frame s f ≡ backing.Block b → s.own ≡ None → is_write (record_at s.life.frames f.0).request ≡ true → Made (write_end ok f) s z → z ≡ record (called s z) { own = own_ended s.own f.0 } → WroteOf f ok s z → EndsFlight b f ok s z
+pub flight_ended : (b : Block) (f : Frame) (ok : Bool) (s z : StateOf) → StateHolds s → StateHolds z → HoldsFilePage f s → backing_of_frame s f ≡ backing.Block b → s.own ≡ None → is_write (record_at s.life.frames f.0).request ≡ true → Made (write_end ok f) s z → z ≡ record (moved_with_call s z) { own = own_ended s.own f.0 } → WroteOf f ok s z → EndsFlight b f ok s z
 flight_ended b f ok s z h g i e o v m r w =
     let same = called_by_write s z f.0 o r in
     let page = page_of s i.key f h i.stands in
@@ -255,7 +255,7 @@ flight_ended b f ok s z h g i e o v m r w =
     }
 
 -- the page is in the same frame then
-pub filed_after : (b : Block) (f : Frame) (ok : Bool) (s z : StateOf) → EndsFlight b f ok s z → Filed f s → Filed f z
+pub filed_after : (b : Block) (f : Frame) (ok : Bool) (s z : StateOf) → EndsFlight b f ok s z → HoldsFilePage f s → HoldsFilePage f z
 filed_after b f ok s z p i = record { key = i.key; stands = ap (λ (x : Key → Held). x i.key) p.writes.stands ∙ i.stands; block = b; backed = p.backed }
 
 -- ---- a changed page is written
@@ -273,7 +273,7 @@ no_request request.Read w r = absurd (r refl)
 no_request request.Write w r = cc
 no_request request.WriteAgain w r = cc
 
-quiet_frame : (s : StateOf) (f : Frame) → Holds s → is_write (record_at s.life.frames f.0).request ≡ false → (record_at s.life.frames f.0).changed ≡ true → has_request (record_at s.life.frames f.0).request ≡ false
+quiet_frame : (s : StateOf) (f : Frame) → StateHolds s → is_write (record_at s.life.frames f.0).request ≡ false → (record_at s.life.frames f.0).changed ≡ true → has_request (record_at s.life.frames f.0).request ≡ false
 quiet_frame s f h w c = ∥∥₁_elim h.reached (hlevel props) (λ r. no_request (record_at s.life.frames f.0).request w (λ e.
     let n = (((reached_sound s.life r).standing f.0).fit.reading e).1 in let bad : true ≡ false = sym c ∙ n in cc))
 
@@ -289,7 +289,7 @@ writes_in_call true true true d x y z p q r s t = cc
 writes_in_call true false c d x y z p q r s t = cc
 writes_in_call false b c d x y z p q r s t = cc
 
-pub start_legal : (s : StateOf) (f : Frame) → Holds s → Filed f s → s.life.kind ≡ kind.Call → is_write (record_at s.life.frames f.0).request ≡ false → (record_at s.life.frames f.0).changed ≡ true → IsLegal (move.Write f (write_target s.life f)) s.life
+pub start_legal : (s : StateOf) (f : Frame) → StateHolds s → HoldsFilePage f s → s.life.kind ≡ kind.Call → is_write (record_at s.life.frames f.0).request ≡ false → (record_at s.life.frames f.0).changed ≡ true → IsLegal (move.Write f (write_target s.life f)) s.life
 start_legal s f h i k w c = subst (λ (t : Stored). IsLegal (move.Write f t) s.life) (sym (target_is s.life f i.block i.backed))
     (writes_in_call r.changed (is_some r.owner) (has_request r.request) (is_block i.block.0 r.backing)
     (is_on f.0 s.life.frames.modified && is_access s.life.kind) (is_on f.0 s.life.frames.modified && is_writer s.life.kind && has_depth s.life) (is_call s.life.kind)
@@ -324,24 +324,24 @@ done_clean r e = at (is_some r.owner) (is_again r.request) e
     at true false q = refl
     at false a q = refl
 
-ended_clean : (ok : Bool) (f : Frame) (s z : StateOf) → Holds s → Made (write_end ok f) s z → is_again (record_at s.life.frames f.0).request ≡ false → ok ≡ true → (record_at z.life.frames f.0).changed ≡ false
+ended_clean : (ok : Bool) (f : Frame) (s z : StateOf) → StateHolds s → Made (write_end ok f) s z → is_again (record_at s.life.frames f.0).request ≡ false → ok ≡ true → (record_at z.life.frames f.0).changed ≡ false
 ended_clean true f s z h m a e = ∥∥₁_elim h.reached (hlevel props) (λ r.
     ap (λ (l : FrameLife). (record_at l.frames f.0).changed) m.life
     ∙ ap (λ (t : Record). t.changed) (wrote_settles s.life (reached_sound s.life r) f m.legal).here
     ∙ done_clean (record_at s.life.frames f.0) a)
 ended_clean false f s z h m a e = cc
 
-own_done : (s y z : StateOf) (f : Frame) → s.own ≡ None → s.life.kind ≡ kind.Call → y ≡ record (moved s y) { own = own_after s.life.kind s.own f } → z ≡ record (called y z) { own = own_ended y.own f.0 } → z ≡ called s z
+own_done : (s y z : StateOf) (f : Frame) → s.own ≡ None → s.life.kind ≡ kind.Call → y ≡ record (moved s y) { own = own_after s.life.kind s.own f } → z ≡ record (moved_with_call y z) { own = own_ended y.own f.0 } → z ≡ moved_with_call s z
 own_done s y z f o k a e =
     e
-    ∙ ap (λ (x : Option Frame). record (called y z) { own = own_ended x f.0 }) (ap (λ (x : StateOf). x.own) a ∙ ap (λ (x : LineKind). own_after x s.own f) k)
-    ∙ ap (λ (b : Bool). record (called y z) { own = if b then None else Some f }) (same_number f.0)
-    ∙ ap (λ (x : StateOf). record (called x z) { own = None }) a
-    ∙ ap (λ (x : Option Frame). record (called s z) { own = x }) (sym o)
+    ∙ ap (λ (x : Option Frame). record (moved_with_call y z) { own = own_ended x f.0 }) (ap (λ (x : StateOf). x.own) a ∙ ap (λ (x : LineKind). own_after x s.own f) k)
+    ∙ ap (λ (b : Bool). record (moved_with_call y z) { own = if b then None else Some f }) (same_number f.0)
+    ∙ ap (λ (x : StateOf). record (moved_with_call x z) { own = None }) a
+    ∙ ap (λ (x : Option Frame). record (moved_with_call s z) { own = x }) (sym o)
 
-pub changed_written : (b : Block) (f : Frame) (to : Stored) (ok : Bool) (s y z : StateOf) → Holds s → Holds y → Holds z → Filed f s → backing_of_frame s f ≡ backing.Block b → s.own ≡ None → s.life.kind ≡ kind.Call → (record_at s.life.frames f.0).changed ≡ true
+pub changed_written : (b : Block) (f : Frame) (to : Stored) (ok : Bool) (s y z : StateOf) → StateHolds s → StateHolds y → StateHolds z → HoldsFilePage f s → backing_of_frame s f ≡ backing.Block b → s.own ≡ None → s.life.kind ≡ kind.Call → (record_at s.life.frames f.0).changed ≡ true
     → to ≡ write_target s.life f → Made (move.Write f to) s y → y ≡ record (moved s y) { own = own_after s.life.kind s.own f }
-    → Made (write_end ok f) y z → z ≡ record (called y z) { own = own_ended y.own f.0 } → WroteOf f ok y z → WritesChanged b f ok s z
+    → Made (write_end ok f) y z → z ≡ record (moved_with_call y z) { own = own_ended y.own f.0 } → WroteOf f ok y z → WritesChanged b f ok s z
 changed_written b f to ok s y z h hy g i e o k c t n a m r w =
     let start : Made (move.Write f (stored.Block b)) s y = subst (λ (x : Stored). Made (move.Write f x) s y) (t ∙ target_is s.life f b e) n in
     let xs : List Move = move.Write f (stored.Block b) ∷ write_end ok f ∷ [] in
@@ -452,7 +452,7 @@ page_home k b s n e =
 
 -- ---- what the store shows then
 
-pub flushed_store : (k : Key) (b : Block) (ok : Bool) (s z : StateOf) (o : OwnOf) → Holds s → Holds z → FlushesPage k b ok s z → store_of z o ≡ wrote (store_of s o) (store_of z o)
+pub flushed_store : (k : Key) (b : Block) (ok : Bool) (s z : StateOf) (o : OwnOf) → StateHolds s → StateHolds z → FlushesPage k b ok s z → store_of z o ≡ wrote (store_of s o) (store_of z o)
 flushed_store k b ok s z o h g p = λ i. record {
   machine = life.machine i;
   is_open = opened i;
@@ -516,7 +516,7 @@ on_err_if (Ok v) f = tt
 on_err_if (Err e) f = f refl
 
 -- its block holds its bytes
-pub flushed_bytes : (k : Key) (b : Block) (ok : Bool) (s z : StateOf) → Holds z → FlushesPage k b ok s z → ok ≡ true → slice_get z.blocks b.0 ≡ s.contents k
+pub flushed_bytes : (k : Key) (b : Block) (ok : Bool) (s z : StateOf) → StateHolds z → FlushesPage k b ok s z → ok ≡ true → slice_get z.blocks b.0 ≡ s.contents k
 flushed_bytes k b ok s z g p e =
     let at = p.clean e in
     sym (ap (bytes_at z.slots z.blocks) at) ∙ sym (g.stored k (ap is_on_device at)) ∙ ap (λ (x : StateOf). x.contents k) p.writes.same
@@ -553,7 +553,7 @@ flushed_in_line l held.Dead ms p = subst InLine (sym p) tt
 pub flushed_served : (k : Key) (b : Block) (ok : Bool) (s z : StateOf) (o : OwnOf) → FlushesPage k b ok s z → Served (store_of s o) (store_of z o)
 flushed_served k b ok s z o p = served_by p.moves s z o o (flushed_in_line s.life (s.life.stands k) p.moves p.page) p.writes.does
 
-pub flushed_stored : (k : Key) (b : Block) (ok : Bool) (s z : StateOf) → Holds s → Holds z → FlushesPage k b ok s z → length z.blocks ≡ length s.blocks
+pub flushed_stored : (k : Key) (b : Block) (ok : Bool) (s z : StateOf) → StateHolds s → StateHolds z → FlushesPage k b ok s z → length z.blocks ≡ length s.blocks
 flushed_stored k b ok s z h g p = g.blocks ∙ ap (λ (n : MachineOf). n.blocks) p.writes.life.machine ∙ sym h.blocks
 
 pub flushed_passes : (k : Key) (b : Block) (ok : Bool) (s z : StateOf) (o : OwnOf) → FlushesPage k b ok s z → Passes (Flushes k ok) (store_of s o) (store_of z o) (behind_of s) (behind_of z)
@@ -564,7 +564,7 @@ flushed_passes k b ok s z o p = passes_of (Flushes k ok) p.moves s z o o p.write
   slots = p.writes.device.slots;
 })
 
-pub flushed_kept : (k : Key) (b : Block) (ok : Bool) (s z : StateOf) (o : OwnOf) → Kept s o → s.life.kind ≡ kind.Call → FlushesPage k b ok s z → Kept z o
+pub flushed_kept : (k : Key) (b : Block) (ok : Bool) (s z : StateOf) (o : OwnOf) → StoreKept s o → s.life.kind ≡ kind.Call → FlushesPage k b ok s z → StoreKept z o
 flushed_kept k b ok s z o h c p = record {
   own = ap (λ (x : StateOf). x.own) p.writes.same ∙ h.own;
   aside = ap (λ (x : StateOf). x.aside) p.writes.same ∙ h.aside;
@@ -596,7 +596,7 @@ pub flushing_of : (k : Key) (ok : Bool) (s z : StateOf) → IsSome (block_at (ba
 flushing_of k ok s z h f = let n = some_there (block_at (backed_by s.life (s.life.stands k))) h in record { block = record { 0 = n.0 }; is = n.1; page = f (record { 0 = n.0 }) n.1 }
 
 -- that block is the only one
-pub its_bytes : (k : Key) (ok : Bool) (s z : StateOf) → Holds z → Flushing k ok s z → ok ≡ true → (block : ℕ) → block_at (backed_by s.life (s.life.stands k)) ≡ Some block → slice_get z.blocks block ≡ s.contents k
+pub its_bytes : (k : Key) (ok : Bool) (s z : StateOf) → StateHolds z → Flushing k ok s z → ok ≡ true → (block : ℕ) → block_at (backed_by s.life (s.life.stands k)) ≡ Some block → slice_get z.blocks block ≡ s.contents k
 its_bytes k ok s z g p e block is =
     let both : Some p.block.0 ≡ Some block = sym p.is ∙ is in let same : p.block.0 ≡ block = cc in
     ap (λ (n : ℕ). slice_get z.blocks n) (sym same) ∙ flushed_bytes k p.block ok s z g p.page e

@@ -12,10 +12,10 @@ use Rattle.mm_life.specs.Legal.{IsLegal, touches, shows_shared, owner_is}
 use Rattle.mm_pages.specs.Accesses.{Aim}
 use Rattle.mm_pages.specs.Conditions.{touch}
 use Rattle.mm_moving.specs.Shown.{StateOf, Made, moved}
-use Rattle.mm_moving.specs.Holds.{Holds}
+use Rattle.mm_moving.specs.Holds.{StateHolds}
 use Rattle.mm_moving.proofs.Doing.{does_one, does_two, does_then}
 use Rattle.mm_parts.specs.Moves.{front}
-use Rattle.mm_paged.specs.Pieces.{Took, IsFor, LifeKept, walk_at}
+use Rattle.mm_paged.specs.Pieces.{TookFrame, IsFor, LifeKept, walk_at}
 use Rattle.mm_paged.specs.Copies.{KeyAdded, Readies, Zeroed, Cleared, Taken}
 use Rattle.mm_paged.proofs.HeldCopy.{room_then}
 use Rattle.mm_paged.proofs.Keeping.{kept_all, kept_same}
@@ -24,7 +24,7 @@ use Rattle.mm_paged.proofs.Taking.{cleared_first, stolen_first}
 -- ---- it is taken a frame
 
 -- with a frame that is zeroed
-took_added : (a : Aim) (k : Key) (f : Frame) (x y z : StateOf) → Made (move.Add k None) x y → a.need.copy ≡ Some k → Made (move.Give f k) y z → Took a 0 x z
+took_added : (a : Aim) (k : Key) (f : Frame) (x y z : StateOf) → Made (move.Add k None) x y → a.need.copy ≡ Some k → Made (move.Give f k) y z → TookFrame a 0 x z
 took_added a k f x y z m c g = record {
   moves = move.Add k None ∷ move.Give f k ∷ [];
   does = does_two (move.Add k None) (move.Give f k) x y z m g;
@@ -35,8 +35,8 @@ took_added a k f x y z m c g = record {
 }
 
 -- a frame is zeroed first
-pub took_ready : (a : Aim) (k : Key) (f : Frame) (s x y z : StateOf) → Readies s x → Made (move.Add k None) x y → a.need.copy ≡ Some k → f ≡ front y.life.frames.zeroed → Made (move.Give f k) y z → Took a 0 s z
-took_ready a k f s x y z (Zeroed e) m c q g = subst (λ (w : StateOf). Took a 0 w z) e (took_added a k f x y z m c g)
+pub took_ready : (a : Aim) (k : Key) (f : Frame) (s x y z : StateOf) → Readies s x → Made (move.Add k None) x y → a.need.copy ≡ Some k → f ≡ front y.life.frames.zeroed → Made (move.Give f k) y z → TookFrame a 0 s z
+took_ready a k f s x y z (Zeroed e) m c q g = subst (λ (w : StateOf). TookFrame a 0 w z) e (took_added a k f x y z m c g)
 took_ready a k f s x y z (Cleared none p) m c q g =
     let first = front s.life.frames.free in
     let taken : f ≡ first = q ∙ ap (λ (l : FrameLife). front l.frames.zeroed) m.life ∙ cleared_first s.life x.life first p.life none in
@@ -65,13 +65,13 @@ took_ready a k f s x y z (Taken u none none_free st p) m c q g =
 
 -- ---- what changes
 
-took_kept : (k : Key) (y z : StateOf) → ((a : Aim) → IsFor a k → Took a 0 y z) → LifeKept y.life z.life
+took_kept : (k : Key) (y z : StateOf) → ((a : Aim) → IsFor a k → TookFrame a 0 y z) → LifeKept y.life z.life
 took_kept k y z h =
     let aim : Aim = record { place = record { pid = record { 0 = 0 }; vpn = record { 0 = 0 } }; need = touch k; writes = false; start = y.life } in
     let w = h aim (inl refl) in
     kept_all aim w.moves (walk_at [] y) z.life refl (w.each []) w.does.replays
 
-pub given_life : (k : Key) (s y z : StateOf) → Made (move.Add k None) s y → ((a : Aim) → IsFor a k → Took a 0 y z) → KeyAdded k s.life z.life
+pub given_life : (k : Key) (s y z : StateOf) → Made (move.Add k None) s y → ((a : Aim) → IsFor a k → TookFrame a 0 y z) → KeyAdded k s.life z.life
 given_life k s y z m h =
     let w = took_kept k y z h in
     let e = m.life in
@@ -103,7 +103,7 @@ ready_valid s x (Zeroed e) = ap (λ (w : StateOf). w.life.valid) e
 ready_valid s x (Cleared none p) = ap (λ (l : FrameLife). l.valid) p.life
 ready_valid s x (Taken u none none_free st p) = ap (λ (l : FrameLife). l.valid) p.life ∙ ap (λ (l : FrameLife). l.valid) st.life
 
-pub copy_life : (k : Key) (s x y z : StateOf) → Readies s x → Made (move.Add k None) x y → ((a : Aim) → IsFor a k → Took a 0 y z) → KeyAdded k s.life z.life
+pub copy_life : (k : Key) (s x y z : StateOf) → Readies s x → Made (move.Add k None) x y → ((a : Aim) → IsFor a k → TookFrame a 0 y z) → KeyAdded k s.life z.life
 copy_life k s x y z r m h =
     let w = given_life k x y z m h in
     let e = ready_kept s x r in
@@ -119,7 +119,7 @@ copy_life k s x y z r m h =
 
 -- ---- the own page may come to be still
 
-ready_shows : (place : Place) (s x : StateOf) → Holds s → Holds x → Readies s x → x.names ≡ s.names → shows_shared s.life place ≡ true → shows_shared x.life place ≡ true
+ready_shows : (place : Place) (s x : StateOf) → StateHolds s → StateHolds x → Readies s x → x.names ≡ s.names → shows_shared s.life place ≡ true → shows_shared x.life place ≡ true
 ready_shows place s x h g r n e = at (s.life.valid place) refl
   where
     at : (o : Option Frame) → s.life.valid place ≡ o → shows_shared x.life place ≡ true
@@ -135,7 +135,7 @@ ready_shows place s x h g r n e = at (s.life.valid place) refl
 add_legal : (place : Place) (l : FrameLife) → is_live l (key_of_place place) ≡ false → l.paging_keys < limit_of l.machine → touches place.pid.0 l.kind ≡ true → shows_shared l place ≡ true → IsLegal (move.Add (key_of_place place) None) l
 add_legal place l dead room touch shows = grind (arith, dead, room, touch, shows)
 
-pub copy_legal : (place : Place) (s x : StateOf) → Holds s → Holds x → Readies s x → x ≡ moved s x → s.contents (key_of_place place) ≡ None → s.life.paging_keys < limit_of s.life.machine → touches place.pid.0 s.life.kind ≡ true → shows_shared s.life place ≡ true
+pub copy_legal : (place : Place) (s x : StateOf) → StateHolds s → StateHolds x → Readies s x → x ≡ moved s x → s.contents (key_of_place place) ≡ None → s.life.paging_keys < limit_of s.life.machine → touches place.pid.0 s.life.kind ≡ true → shows_shared s.life place ≡ true
     → IsLegal (move.Add (key_of_place place) None) x.life
 copy_legal place s x h g r e dead room touch shows =
     let k = ready_kept s x r in

@@ -14,9 +14,9 @@ use Rattle.mm_laws.proofs.Owners.{changed_else}
 use Rattle.mm_pages.specs.Accesses.{Aim}
 use Rattle.mm_pages.specs.Shortage.{is_framed}
 use Rattle.mm_pages.specs.Told.{Told}
-use Rattle.mm_moving.specs.Shown.{StateOf, called}
-use Rattle.mm_moving.specs.Holds.{Holds}
-use Rattle.mm_paged.specs.Pieces.{Went, Sought, Took, LifeKept}
+use Rattle.mm_moving.specs.Shown.{StateOf, moved_with_call}
+use Rattle.mm_moving.specs.Holds.{StateHolds}
+use Rattle.mm_paged.specs.Pieces.{Went, Sought, TookFrame, LifeKept}
 use Rattle.mm_paged.specs.Copies.{HeldAt, Spares, KeyAdded, Copied}
 use Rattle.mm_paged.proofs.Doing.{went_then, sought_took}
 
@@ -28,7 +28,7 @@ held_then k f place s t h p = record { valid = p.valid place h.valid; named = ap
 pub held_still : (k : Key) (f : Frame) (place : Place) (t u : StateOf) → HeldAt k f place t → u.life.valid ≡ t.life.valid → u.names ≡ t.names → HeldAt k f place u
 held_still k f place t u h v n = record { valid = ap (λ (x : Place → Option Frame). x place) v ∙ h.valid; named = ap (λ (x : Place → Option Key). x place) n ∙ h.named }
 
-stands_held : (k : Key) (f : Frame) (place : Place) (u : StateOf) → Holds u → HeldAt k f place u → u.life.stands k ≡ held.Frame f
+stands_held : (k : Key) (f : Frame) (place : Place) (u : StateOf) → StateHolds u → HeldAt k f place u → u.life.stands k ≡ held.Frame f
 stands_held k f place u h at = h.of_frame k f (h.named place f at.valid ∙ at.named)
 
 -- it is none of the place's own
@@ -37,10 +37,10 @@ not_own k place e = λ q. let bad : true ≡ false = sym e ∙ ap is_shared q in
 
 -- ---- the bytes can be copied
 
-pub owner_then : (k : Key) (f : Frame) (u v : StateOf) → Holds v → v.life.stands ≡ u.life.stands → u.life.stands k ≡ held.Frame f → (record_at v.life.frames f.0).owner ≡ Some k
+pub owner_then : (k : Key) (f : Frame) (u v : StateOf) → StateHolds v → v.life.stands ≡ u.life.stands → u.life.stands k ≡ held.Frame f → (record_at v.life.frames f.0).owner ≡ Some k
 owner_then k f u v h s e = h.owner k f (ap (λ (x : Key → Held). x k) s ∙ e)
 
-pub from_owner : (k : Key) (f : Frame) (place : Place) (u v : StateOf) → Holds u → Holds v → HeldAt k f place u → v.life.stands ≡ u.life.stands → (record_at v.life.frames f.0).owner ≡ Some k
+pub from_owner : (k : Key) (f : Frame) (place : Place) (u v : StateOf) → StateHolds u → StateHolds v → HeldAt k f place u → v.life.stands ≡ u.life.stands → (record_at v.life.frames f.0).owner ≡ Some k
 from_owner k f place u v g h at s = owner_then k f u v h s (stands_held k f place u g at)
 
 pub some_of : {A : Type 0} (o : Option A) (x : A) → o ≡ Some x → IsSome o
@@ -80,7 +80,7 @@ went_bytes a n s v c w = record {
   few_writes = w.few_writes;
 }
 
-pub went_held : (a : Aim) (s t u v z : StateOf) → Sought a s t → Took a 0 t u → Went a 0 u v → z ≡ record v { contents = z.contents } → Went a 0 s z
+pub went_held : (a : Aim) (s t u v z : StateOf) → Sought a s t → TookFrame a 0 t u → Went a 0 u v → z ≡ record v { contents = z.contents } → Went a 0 s z
 went_held a s t u v z p q r e = subst (λ (x : StateOf). Went a 0 s x) (sym e) (went_bytes a 0 s v z.contents (went_then a 0 0 s u v (sought_took a 0 s t u p q) r))
 
 -- ---- what is there then
@@ -107,15 +107,15 @@ pub record Makes (k : Key) (place : Place) (f g : Frame) (s t u v z : StateOf) :
   pub names_given : u.names ≡ t.names
   pub contents_given : u.contents ≡ changed same_key t.contents (key_of_place place) (Some zero_page)
   pub read_given : u.told.last_failed_read ≡ t.told.last_failed_read
-  pub given : u ≡ record (called t u) { names = u.names; aside = u.aside; contents = u.contents }
-  pub holds : Holds u
+  pub given : u ≡ record (moved_with_call t u) { names = u.names; aside = u.aside; contents = u.contents }
+  pub holds : StateHolds u
   pub kept : LifeKept u.life v.life
   pub valid_put : v.life.valid place ≡ Some g
   pub young : v.ages place ≡ 0
   pub stands : v.life.stands ≡ u.life.stands
   pub names_put : v.names ≡ changed same_place u.names place (Some (key_of_place place))
   pub told : v.told ≡ u.told
-  pub put : v ≡ record (called u v) { names = v.names; aside = None }
+  pub put : v ≡ record (moved_with_call u v) { names = v.names; aside = None }
   pub bytes : z.contents ≡ changed same_key v.contents (key_of_place place) (v.contents k)
   pub rest : z ≡ record v { contents = z.contents }
 
@@ -145,14 +145,14 @@ module _ (k : Key) (place : Place) (f g : Frame) (s t u v z : StateOf) (m : Make
   made_held : HeldAt k f place u
   made_held = held_still k f place t u (held_then k f place s t m.at m.spares) m.valid_given m.names_given
 
-  made_same : z ≡ record (called s z) { names = z.names; contents = z.contents }
+  made_same : z ≡ record (moved_with_call s z) { names = z.names; contents = z.contents }
   made_same =
       m.rest
       ∙ ap (λ (x : StateOf). record x { contents = z.contents }) m.put
-      ∙ ap (λ (x : StateOf). record (called x v) { names = v.names; aside = None; contents = z.contents }) m.given
-      ∙ ap (λ (x : StateOf). record (called x v) { names = v.names; aside = None; contents = z.contents }) m.spares.same
-      ∙ sym (ap (λ (x : StateOf). record (called s x) { names = x.names; aside = None; contents = z.contents }) m.rest)
-      ∙ ap (λ (o : Option Place). record (called s z) { names = z.names; aside = o; contents = z.contents }) (sym m.aside)
+      ∙ ap (λ (x : StateOf). record (moved_with_call x v) { names = v.names; aside = None; contents = z.contents }) m.given
+      ∙ ap (λ (x : StateOf). record (moved_with_call x v) { names = v.names; aside = None; contents = z.contents }) m.spares.same
+      ∙ sym (ap (λ (x : StateOf). record (moved_with_call s x) { names = x.names; aside = None; contents = z.contents }) m.rest)
+      ∙ ap (λ (o : Option Place). record (moved_with_call s z) { names = z.names; aside = o; contents = z.contents }) (sym m.aside)
 
   pub made_copied : Copied k place s z
   made_copied = record {

@@ -9,16 +9,16 @@ use Rattle.mm_life.specs.Life.{changed, same_place, is_shared}
 use Rattle.mm_life.specs.Legal.{fits_place}
 use Rattle.mm_pages.specs.Accesses.{Aim}
 use Rattle.mm_pages.specs.Conditions.{touch}
-use Rattle.mm_moving.specs.Shown.{StateOf, called}
+use Rattle.mm_moving.specs.Shown.{StateOf, moved_with_call}
 use Rattle.mm_moving.specs.Doing.{walk_of, IsFlightOf}
-use Rattle.mm_paged.specs.Pieces.{Went, Stuck, Begins, Calm, LifeKept}
+use Rattle.mm_paged.specs.Pieces.{Went, Stuck, AccessBegins, Calm, LifeKept}
 use Rattle.mm_paged.specs.Copies.{Reaches, Readied, most_reads}
 use Rattle.mm_paged.proofs.Doing.{went_nothing}
 use Rattle.mm_paged.proofs.Ending.{named_then, not_here}
 use Rattle.mm_paged.proofs.InFlight.{flight_same}
 use Rattle.mm_paged.proofs.Keeping.{kept_all}
 
-pub reaches_begins : (a : Aim) (k : Key) (place : Place) (s : StateOf) → s.life.valid place ≡ None → Reaches a k place s → Begins a k s
+pub reaches_begins : (a : Aim) (k : Key) (place : Place) (s : StateOf) → s.life.valid place ≡ None → Reaches a k place s → AccessBegins a k s
 reaches_begins a k place s e r = record { needs = r.needs; from = r.from; at = ap s.life.valid r.at ∙ e }
 
 -- a shared page fits any place
@@ -39,8 +39,8 @@ there_readied k f place s v n = record {
   same = refl;
 }
 
-pub faulted_readied : (k : Key) (f : Frame) (place : Place) (s z : StateOf) → s.life.valid place ≡ None → ((a : Aim) → a.place ≡ place → Begins a k s → Went a 1 s z) → z.life.valid place ≡ Some f → z.names ≡ changed same_place s.names place (Some k)
-    → ((g : Frame) → z.life.valid place ≡ Some g → IsFlightOf s.life.flight (Some g) z.life) → Calm s z → z ≡ record (called s z) { names = z.names } → Readied k f place s z
+pub faulted_readied : (k : Key) (f : Frame) (place : Place) (s z : StateOf) → s.life.valid place ≡ None → ((a : Aim) → a.place ≡ place → AccessBegins a k s → Went a 1 s z) → z.life.valid place ≡ Some f → z.names ≡ changed same_place s.names place (Some k)
+    → ((g : Frame) → z.life.valid place ≡ Some g → IsFlightOf s.life.flight (Some g) z.life) → Calm s z → z ≡ record (moved_with_call s z) { names = z.names } → Readied k f place s z
 faulted_readied k f place s z e went v n flight calm same = record {
   went = λ a r. subst (λ (o : Option Frame). Went a (most_reads o) s z) (sym e) (went a r.at (reaches_begins a k place s e r));
   held = record { valid = v; named = named_then k place z.names s.names n };

@@ -28,7 +28,7 @@ use Rattle.mm_pages.specs.Standing.{block_at, backed_by, in_backing}
 use Rattle.mm_pages.specs.Reports.{fetched}
 use Rattle.mm_life.specs.Walks.{Walk, Through, walked}
 use Rattle.mm_moving.specs.Shown.{StateOf}
-use Rattle.mm_moving.specs.Holds.{Holds}
+use Rattle.mm_moving.specs.Holds.{StateHolds}
 use Rattle.mm_paged.specs.Pieces.{LifeKept}
 use Rattle.mm_paged.specs.Shown.{OwnOf, store_of, report_of}
 
@@ -103,7 +103,7 @@ blocks_by l m ms k p q r pg lv true false e f = block_kept l m p ms r k (grind (
 blocks_by l m ms k p q r pg lv false y e f = dead_block m (m.stands k) (lv ∙ e) ∙ sym (dead_block l (l.stands k) e)
 
 -- a key has the block that it had, where it lives as it did
-pub block_same : (s z : StateOf) (ms : List Move) → Holds s → Holds z → Replays ms s.life z.life → (k : Key) → z.life.paging k ≡ s.life.paging k → is_some (z.contents k) ≡ is_some (s.contents k)
+pub block_same : (s z : StateOf) (ms : List Move) → StateHolds s → StateHolds z → Replays ms s.life z.life → (k : Key) → z.life.paging k ≡ s.life.paging k → is_some (z.contents k) ≡ is_some (s.contents k)
     → block_at (backed_by z.life (z.life.stands k)) ≡ block_at (backed_by s.life (s.life.stands k))
 block_same s z ms h g r k pg c =
     shown_block z.life (z.life.stands k)
@@ -112,13 +112,13 @@ block_same s z ms h g r k pg c =
     ∙ sym (shown_block s.life (s.life.stands k))
 
 -- a page-file key has none, nor has one that is dead
-pub paging_has_none : (s : StateOf) (k : Key) → Holds s → s.life.paging k ≡ true → block_at (backed_by s.life (s.life.stands k)) ≡ None
+pub paging_has_none : (s : StateOf) (k : Key) → StateHolds s → s.life.paging k ≡ true → block_at (backed_by s.life (s.life.stands k)) ≡ None
 paging_has_none s k h e = shown_block s.life (s.life.stands k) ∙ ∥∥₁_elim h.reached (hlevel props) (λ r. paging_block s.life (reached_sound s.life r) k e)
 
-pub dead_has_none : (s : StateOf) (k : Key) → Holds s → s.contents k ≡ None → block_at (backed_by s.life (s.life.stands k)) ≡ None
+pub dead_has_none : (s : StateOf) (k : Key) → StateHolds s → s.contents k ≡ None → block_at (backed_by s.life (s.life.stands k)) ≡ None
 dead_has_none s k h e = shown_block s.life (s.life.stands k) ∙ dead_block s.life (s.life.stands k) (h.live k ∙ ap is_some e)
 
-pub blocks_kept : (s z : StateOf) (ms : List Move) → Holds s → Holds z → Replays ms s.life z.life → z.life.paging ≡ s.life.paging → z.contents ≡ s.contents → (k : Key) → block_at (backed_by z.life (z.life.stands k)) ≡ block_at (backed_by s.life (s.life.stands k))
+pub blocks_kept : (s z : StateOf) (ms : List Move) → StateHolds s → StateHolds z → Replays ms s.life z.life → z.life.paging ≡ s.life.paging → z.contents ≡ s.contents → (k : Key) → block_at (backed_by z.life (z.life.stands k)) ≡ block_at (backed_by s.life (s.life.stands k))
 blocks_kept s z ms h g r pg c k = block_same s z ms h g r k (ap (λ (f : Key → Bool). f k) pg) (ap (λ (f : Key → Option (List ℕ)). is_some (f k)) c)
 
 -- ---- the store after it

@@ -43,7 +43,7 @@ use Rattle.mm_pages.specs.Standing.{block_at, backed_by}
 use Rattle.mm_pages.specs.Store.{StoreOf, changed_in, unnamed}
 use Rattle.mm_pages.proofs.Passed.{ends_then, ends_wider}
 use Rattle.mm_moving.specs.Shown.{StateOf, Made, moved, names_after_drop}
-use Rattle.mm_moving.specs.Holds.{Holds}
+use Rattle.mm_moving.specs.Holds.{StateHolds}
 use Rattle.mm_moving.proofs.Doing.{does_one, does_two}
 use Rattle.mm_paged.specs.Pieces.{LifeKept, Thins, LetsGo, LetGo, Still, Gone, OwnLetGo, MayLetGo, MayLetOwnGo, NextGone}
 use Rattle.mm_paged.specs.Shown.{OwnOf, store_of, report_of, behind_of}
@@ -233,11 +233,11 @@ drop_kind (Private pid vpn) s o (inl e) = ap (λ (x : LineKind). is_call x || is
 drop_kind (Private pid vpn) s o (inr e) = releasing_kind s.life.kind e.0
 drop_kind (Shared area index) s o e = releasing_kind s.life.kind e.0
 
-unnamed_invalid : (s : StateOf) (p : Place) (f : Frame) → Holds s → s.names p ≡ None → s.life.valid p ≡ Some f → ⊥
+unnamed_invalid : (s : StateOf) (p : Place) (f : Frame) → StateHolds s → s.names p ≡ None → s.life.valid p ≡ Some f → ⊥
 unnamed_invalid s p f h n v = let bad : false ≡ true = sym (ap is_some n) ∙ h.owned p f v in cc
 
 -- its own place can be let go
-pub may_let_own : (k : Key) (s : StateOf) (o : OwnOf) → Holds s → s.life.paging k ≡ true → is_live s.life k ≡ true → MayRemove (store_of s o) k → MayLetOwnGo k s
+pub may_let_own : (k : Key) (s : StateOf) (o : OwnOf) → StateHolds s → s.life.paging k ≡ true → is_live s.life k ≡ true → MayRemove (store_of s o) k → MayLetOwnGo k s
 may_let_own (Private pid vpn) s o h g l (inl e) = (h.home (Private pid vpn) l, λ f v. e)
 may_let_own (Private pid vpn) s o h g l (inr e) = (h.home (Private pid vpn) l, λ f v. absurd (unnamed_invalid s (record { pid = pid; vpn = vpn }) f h e.1 v))
 may_let_own (Shared area index) s o h g l e = tt
@@ -254,7 +254,7 @@ no_shares : (l : FrameLife) → Sound l → (f : ℕ) → ((p : Place) → is_fr
 no_shares l s f h = sym (s.shown.shares f) ∙ tally_zero (λ p. is_frame f (l.valid p)) s.shown.places h
 
 -- no place is valid for a page that no valid place names
-unmapped_by : (s : StateOf) (k : Key) → Holds s → ((p : Place) (f : Frame) → s.names p ≡ Some k → s.life.valid p ≡ Some f → ⊥) → is_unmapped s.life (s.life.stands k) ≡ true
+unmapped_by : (s : StateOf) (k : Key) → StateHolds s → ((p : Place) (f : Frame) → s.names p ≡ Some k → s.life.valid p ≡ Some f → ⊥) → is_unmapped s.life (s.life.stands k) ≡ true
 unmapped_by s k h none = at (s.life.stands k) refl
   where
     shows : (f : Frame) (p : Place) → s.life.stands k ≡ held.Frame f → (o : Option Frame) → s.life.valid p ≡ o → is_frame f.0 o ≡ false
@@ -280,7 +280,7 @@ own_place pid vpn p h = both (pid.0 == p.pid.0) (vpn.0 == p.vpn.0) refl refl h
     both false b e f q = cc
 
 -- once its own place is let go, no place is valid for it
-pub unmapped_then : (k : Key) (s y : StateOf) (o : OwnOf) → Holds y → OwnLetGo k s y → MayRemove (store_of s o) k → is_unmapped y.life (y.life.stands k) ≡ true
+pub unmapped_then : (k : Key) (s y : StateOf) (o : OwnOf) → StateHolds y → OwnLetGo k s y → MayRemove (store_of s o) k → is_unmapped y.life (y.life.stands k) ≡ true
 unmapped_then (Private pid vpn) s y o h g m = unmapped_by y (Private pid vpn) h (λ p f n v.
     let q = own_place pid vpn p (h.fits p f (Private pid vpn) v (h.named p f v ∙ n)) in
     let bad : None ≡ Some f = sym (invalid_of (record { pid = pid; vpn = vpn }) s y g) ∙ sym (ap y.life.valid q) ∙ v in cc)
@@ -290,7 +290,7 @@ pub own_thins : (k : Key) (s y : StateOf) → OwnLetGo k s y → Thins s y
 own_thins (Private pid vpn) s y g = thins_of (record { pid = pid; vpn = vpn }) s y g
 own_thins (Shared area index) s y g = subst (λ (x : StateOf). Thins s x) (sym g) (thins_none s)
 
-pub drop_legal : (k : Key) (s y : StateOf) (o : OwnOf) → Holds y → OwnLetGo k s y → s.life.paging k ≡ true → MayRemove (store_of s o) k → IsLegal (move.Drop k) y.life
+pub drop_legal : (k : Key) (s y : StateOf) (o : OwnOf) → StateHolds y → OwnLetGo k s y → s.life.paging k ≡ true → MayRemove (store_of s o) k → IsLegal (move.Drop k) y.life
 drop_legal k s y o h g p m =
     let t = own_thins k s y g in
     let a : (is_call y.life.kind || is_unbind y.life.kind) ≡ true = ap (λ (x : LineKind). is_call x || is_unbind x) t.life.kind ∙ drop_kind k s o m in
@@ -323,7 +323,7 @@ drops_by k s z m = subst (λ (l : FrameLife). Drops k s.life l) (sym m.life) (dr
 abbrev pub IsDropped : Key → StateOf → StateOf → Type 0
 IsDropped k s z = z ≡ record (moved s z) { contents = changed same_key s.contents k None; names = names_after_drop s k }
 
-drop_blocks : (k : Key) (s z : StateOf) → Holds s → Holds z → Made (move.Drop k) s z → s.life.paging k ≡ true → IsDropped k s z → (q : Key) → block_at (backed_by z.life (z.life.stands q)) ≡ block_at (backed_by s.life (s.life.stands q))
+drop_blocks : (k : Key) (s z : StateOf) → StateHolds s → StateHolds z → Made (move.Drop k) s z → s.life.paging k ≡ true → IsDropped k s z → (q : Key) → block_at (backed_by z.life (z.life.stands q)) ≡ block_at (backed_by s.life (s.life.stands q))
 drop_blocks k s z h g m p e q = elim (key_or_not q k) [
   | inl a ↦ (let gone : z.contents q ≡ None = ap (λ (f : Key → Option (List ℕ)). f q) (ap (λ (x : StateOf). x.contents) e) ∙ ap (λ (x : Key). changed same_key s.contents k None x) a.0 ∙ changed_here s.contents k None in
       dead_has_none z q g gone ∙ sym (paging_has_none s q h (ap s.life.paging a.0 ∙ p)))
@@ -359,7 +359,7 @@ dropped_shape k s z o n d b told waits = λ i. record (store_of s o) {
   };
 }
 
-dropped_store : (k : Key) (s z : StateOf) (o : OwnOf) → Holds s → Holds z → Made (move.Drop k) s z → s.life.paging k ≡ true → IsDropped k s z
+dropped_store : (k : Key) (s z : StateOf) (o : OwnOf) → StateHolds s → StateHolds z → Made (move.Drop k) s z → s.life.paging k ≡ true → IsDropped k s z
     → store_of z o ≡ record (store_of s o) { names = unnamed k s.names; paging = changed same_in_world s.life.paging k false; paging_keys = s.life.paging_keys - 1; report = rearranged (report_of s o) (report_of z o) }
 dropped_store k s z o h g m p e =
     ap (λ (x : StateOf). store_of x o) e
@@ -367,7 +367,7 @@ dropped_store k s z o h g m p e =
     ∙ ap (λ (n : Place → Option Key). record (store_of s o) { names = n; paging = changed same_in_world s.life.paging k false; paging_keys = s.life.paging_keys - 1; report = rearranged (report_of s o) (report_of z o) }) (dropped_names k s)
 
 -- the store once the key's own place was let go and the key dropped
-pub removed_store : (k : Key) (s y z : StateOf) (o : OwnOf) → Holds s → Holds y → Holds z → OwnLetGo k s y → s.life.paging k ≡ true → Made (move.Drop k) y z → IsDropped k y z
+pub removed_store : (k : Key) (s y z : StateOf) (o : OwnOf) → StateHolds s → StateHolds y → StateHolds z → OwnLetGo k s y → s.life.paging k ≡ true → Made (move.Drop k) y z → IsDropped k y z
     → store_of z o ≡ record (store_of s o) { names = unnamed k s.names; paging = changed same_in_world s.life.paging k false; paging_keys = s.life.paging_keys - 1; report = rearranged (report_of s o) (report_of z o) }
 removed_store k s y z o h g f w p m e =
     let t = own_thins k s y w in
@@ -375,7 +375,7 @@ removed_store k s y z o h g f w p m e =
     ∙ ap (λ (x : StoreOf). record x { names = unnamed k x.names; paging = changed same_in_world x.paging k false; paging_keys = x.paging_keys - 1; report = rearranged x.report (report_of z o) })
     (rearranged_by s y o t.life (own_blocks k s y h g w t) t.told t.waits t.same)
   where
-    own_blocks : (k : Key) (s y : StateOf) → Holds s → Holds y → OwnLetGo k s y → Thins s y → (q : Key) → block_at (backed_by y.life (y.life.stands q)) ≡ block_at (backed_by s.life (s.life.stands q))
+    own_blocks : (k : Key) (s y : StateOf) → StateHolds s → StateHolds y → OwnLetGo k s y → Thins s y → (q : Key) → block_at (backed_by y.life (y.life.stands q)) ≡ block_at (backed_by s.life (s.life.stands q))
     own_blocks (Private pid vpn) s y h g (Still e v) t q = ap (λ (x : StateOf). block_at (backed_by x.life (x.life.stands q))) e
     own_blocks (Private pid vpn) s y h g (Gone m e) t q = blocks_kept s y (move.Unmap (record { pid = pid; vpn = vpn }) ∷ []) h g (m.legal, m.life) t.life.paging (ap (λ (x : StateOf). x.contents) t.same) q
     own_blocks (Shared area index) s y h g e t q = ap (λ (x : StateOf). block_at (backed_by x.life (x.life.stands q))) e
@@ -384,10 +384,10 @@ pub removed_contents : (k : Key) (s y z : StateOf) → OwnLetGo k s y → IsDrop
 removed_contents k s y z w e = ap (λ (x : StateOf). x.contents) e ∙ ap (λ (f : Key → Option (List ℕ)). changed same_key f k None) (ap (λ (x : StateOf). x.contents) (own_thins k s y w).same) ∙ changed_keys s.contents k None
 
 -- a key without bytes is not live
-not_live : (s : StateOf) (k : Key) → Holds s → s.contents k ≡ None → is_live s.life k ≡ false
+not_live : (s : StateOf) (k : Key) → StateHolds s → s.contents k ≡ None → is_live s.life k ≡ false
 not_live s k h e = h.live k ∙ ap is_some e
 
-pub removed_passes : (k : Key) (s y z : StateOf) (o u : OwnOf) → Holds s → OwnLetGo k s y → Made (move.Drop k) y z → IsDropped k y z → (held : Leaving) (from to : ℕ) → IsAmong s.contents held from to k
+pub removed_passes : (k : Key) (s y z : StateOf) (o u : OwnOf) → StateHolds s → OwnLetGo k s y → Made (move.Drop k) y z → IsDropped k y z → (held : Leaving) (from to : ℕ) → IsAmong s.contents held from to k
     → PassesIn false (Turns (Ends held from to)) (store_of s o) (store_of z u) (behind_of s) (behind_of z)
 removed_passes (Private pid vpn) s y z o u g (Still e v) m w held from to h = subst (λ (x : StateOf). PassesIn false (Turns (Ends held from to)) (store_of x o) (store_of z u) (behind_of x) (behind_of z)) e
     (passes_of (Turns (Ends held from to)) (move.Drop (Private pid vpn) ∷ []) y z o u (does_one (move.Drop (Private pid vpn)) y z m)
@@ -418,7 +418,7 @@ removed_passes (Shared area index) s y z o u g e m w held from to h = subst (λ 
     }))
 
 -- a page-file key lives
-pub paging_lives : (s : StateOf) (k : Key) → Holds s → s.life.paging k ≡ true → is_live s.life k ≡ true
+pub paging_lives : (s : StateOf) (k : Key) → StateHolds s → s.life.paging k ≡ true → is_live s.life k ≡ true
 paging_lives s k h e = at (s.life.stands k) (ap (λ (b : Bool). is_home_for b (s.life.stands k)) (sym e) ∙ h.homes k)
   where
     at : (w : Held) → is_home_for true w ≡ true → not (is_dead w) ≡ true
@@ -431,12 +431,12 @@ paging_lives s k h e = at (s.life.stands k) (ap (λ (b : Bool). is_home_for b (s
 -- ---- pages of a process are given up
 
 -- none of them is valid, or the line unbinds them
-pub may_let_pages : (s : StateOf) (o : OwnOf) (pid : Pid) (range : Range) → Holds s → MayUnbind (store_of s o) pid range → (page : ℕ) → holds_page range page ≡ true → MayLetGo (place_at pid page) s
+pub may_let_pages : (s : StateOf) (o : OwnOf) (pid : Pid) (range : Range) → StateHolds s → MayUnbind (store_of s o) pid range → (page : ℕ) → holds_page range page ≡ true → MayLetGo (place_at pid page) s
 may_let_pages s o pid range h (inl e) page i f v = e
 may_let_pages s o pid range h (inr e) page i f v = absurd (unnamed_invalid s (place_at pid page) f h (e.1 page i) v)
 
 -- pages of 32 bits: the last one is a user page
-pub pages_low : (s : StateOf) (o : OwnOf) (pid : Pid) (first n : ℕ) → Holds s → AllBound (store_of s o) pid (record { first = first; count = n }) true → (n ≡ 0 → ⊥) → first + n < 2 ^ 32
+pub pages_low : (s : StateOf) (o : OwnOf) (pid : Pid) (first n : ℕ) → StateHolds s → AllBound (store_of s o) pid (record { first = first; count = n }) true → (n ≡ 0 → ⊥) → first + n < 2 ^ 32
 pages_low s o pid first n h bound some =
     let low = h.user (place_at pid (first + (n - 1))) (bound (first + (n - 1)) (nth_in first n (n - 1) (below n some))) in
     low_sum first n some low
@@ -450,7 +450,7 @@ pages_low s o pid first n h bound some =
     low_sum first (suc n) q l = omega (arith, l)
 
 -- their process is open
-pub pages_open : (s : StateOf) (o : OwnOf) (pid : Pid) (first n : ℕ) → Holds s → AllBound (store_of s o) pid (record { first = first; count = n }) true → (n ≡ 0 → ⊥) → s.is_open pid.0 ≡ true
+pub pages_open : (s : StateOf) (o : OwnOf) (pid : Pid) (first n : ℕ) → StateHolds s → AllBound (store_of s o) pid (record { first = first; count = n }) true → (n ≡ 0 → ⊥) → s.is_open pid.0 ≡ true
 pages_open s o pid first n h bound some = h.open_process (place_at pid first) (bound first (nth_there first n some))
   where
     nth_there : (first n : ℕ) → (n ≡ 0 → ⊥) → holds_page (record { first = first; count = n }) first ≡ true
@@ -465,7 +465,7 @@ IsUnbound pid range y z = z ≡ record y { bound = changed_in pid range y.bound 
 abbrev pub all_places : Leaving
 all_places = record { places = λ q. true; rank = λ area. 0 }
 
-pub unbound_store : (s y z : StateOf) (o : OwnOf) (pid : Pid) (range : Range) → Holds s → Holds y → Thins s y → LetsGo all_places 0 (page_rank (range.first + range.count)) s y → IsUnbound pid range y z
+pub unbound_store : (s y z : StateOf) (o : OwnOf) (pid : Pid) (range : Range) → StateHolds s → StateHolds y → Thins s y → LetsGo all_places 0 (page_rank (range.first + range.count)) s y → IsUnbound pid range y z
     → store_of z o ≡ record (store_of s o) { bound = changed_in pid range s.bound false; names = changed_in pid range s.names None; report = rearranged (report_of s o) (report_of z o) }
 unbound_store s y z o pid range h g t w e =
     ap (λ (x : StateOf). store_of x o) e

@@ -32,7 +32,7 @@ use Rattle.mm_pages.specs.Tallies.{tallied}
 use Rattle.mm_pages.specs.Told.{Told, with_write}
 use Rattle.mm_pages.proofs.Passed.{made_behind, made_wider, turned_none}
 use Rattle.mm_pages.proofs.Served.{tallied_then, served_nothing, served_writes}
-use Rattle.mm_moving.specs.Shown.{StateOf, Made, Called, moved, written_if}
+use Rattle.mm_moving.specs.Shown.{StateOf, Made, DeviceCalled, moved, written_if}
 use Rattle.mm_moving.proofs.Doing.{does_one, does_then, does_nothing}
 use Rattle.mm_paged.specs.NewFiles.{BlocksWritten, PagesAdded, with_pages, with_area, FileBuilt, UnmadeAs}
 use Rattle.mm_paged.specs.Shown.{OwnOf, store_of, behind_of}
@@ -83,12 +83,12 @@ call_for y b ok = record { way = way.Write; block = b; succeeded = ok; named = i
 
 -- what the write of one block does
 pub record OneWritten (b byte : ℕ) (ok : Bool) (y z : StateOf) : Type 0 where
-  pub called : Called way.Write (backing.Block (record { 0 = b })) ok y z
+  pub called : DeviceCalled way.Write (backing.Block (record { 0 = b })) ok y z
   pub told : z.told ≡ with_write ok (backing.Block (record { 0 = b })) y.told
   pub written : z.blocks ≡ written_if ok (λ blocks. slice_set blocks b (replicate 4096 byte)) y.blocks
   pub rest : z ≡ record y { told = z.told; files = z.files; blocks = z.blocks }
 
-pub one_written : (b byte value : ℕ) (ok : Bool) (y z : StateOf) → byte ≡ value → Called way.Write (backing.Block (record { 0 = b })) ok y z → z.told ≡ with_write ok (backing.Block (record { 0 = b })) y.told → z.blocks ≡ written_if ok (λ blocks. slice_set blocks b (replicate 4096 byte)) y.blocks → z ≡ record y { told = z.told; files = z.files; blocks = z.blocks } → OneWritten b value ok y z
+pub one_written : (b byte value : ℕ) (ok : Bool) (y z : StateOf) → byte ≡ value → DeviceCalled way.Write (backing.Block (record { 0 = b })) ok y z → z.told ≡ with_write ok (backing.Block (record { 0 = b })) y.told → z.blocks ≡ written_if ok (λ blocks. slice_set blocks b (replicate 4096 byte)) y.blocks → z ≡ record y { told = z.told; files = z.files; blocks = z.blocks } → OneWritten b value ok y z
 one_written b byte value ok y z e c t w r = record {
   called = c;
   told = t;

@@ -21,7 +21,7 @@ use Rattle.mm_life.specs.Effect.{after_move, after_unmap_at, dropped_at}
 use Rattle.mm_life.specs.Replay.{Replays}
 use Rattle.mm_laws.proofs.ResidentSets.{set_here, set_else}
 use Rattle.mm_moving.specs.Shown.{StateOf}
-use Rattle.mm_moving.specs.Holds.{Holds}
+use Rattle.mm_moving.specs.Holds.{StateHolds}
 
 -- the process of the line has a set
 abbrev has_own : LineKind → List ResidentSet → Bool
@@ -108,5 +108,5 @@ own_along : (xs : List Move) (l m : FrameLife) → Replays xs l m → has_own l.
 own_along [] l m r h = ap (λ (x : FrameLife). has_own x.kind x.sets) r ∙ h
 own_along (x ∷ xs) l m r h = own_along xs (after_move l x) m r.1 (own_step x l r.0 h)
 
-pub process_set : (s : StateOf) (pid : Pid) (min max : ℕ) → Holds s → s.life.kind ≡ kind.Process pid min max → is_some (set_of s.life pid.0) ≡ true
+pub process_set : (s : StateOf) (pid : Pid) (min max : ℕ) → StateHolds s → s.life.kind ≡ kind.Process pid min max → is_some (set_of s.life pid.0) ≡ true
 process_set s pid min max h e = ∥∥₁_elim h.reached (hlevel props) (λ r. ap (λ (k : LineKind). has_own k s.life.sets) (sym e) ∙ own_along r.moves _ s.life r.replays refl)

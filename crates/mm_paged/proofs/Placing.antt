@@ -17,16 +17,16 @@ use Rattle.mm_life.specs.Legal.{IsLegal, touches, fits_place, is_below_max, is_a
 use Rattle.mm_life.specs.Effect.{after_move, after_unmap_at}
 use Rattle.mm_laws.specs.Places.{residents}
 use Rattle.mm_laws.proofs.Deduced.{reached_sound}
-use Rattle.mm_frame_laws.specs.Order.{IsNext, NoneFollows}
+use Rattle.mm_frame_laws.specs.Order.{IsNextPage, NoPageFollows}
 use Rattle.mm_frame_laws.proofs.Going.{all_go, next_oldest, set_oldest}
 use Rattle.mm_frame_laws.proofs.Unmapping.{sized}
 use Rattle.mm_pages.specs.Accesses.{Aim, FromFull}
 use Rattle.mm_life.specs.Order.{IsOldest}
-use Rattle.mm_moving.specs.Shown.{StateOf, Made, MayMap, called, moved, names_after_map}
-use Rattle.mm_moving.specs.Holds.{Holds}
+use Rattle.mm_moving.specs.Shown.{StateOf, Made, MayMap, moved_with_call, moved, names_after_map}
+use Rattle.mm_moving.specs.Holds.{StateHolds}
 use Rattle.mm_parts.specs.Holds.{HasSet}
 use Rattle.mm_parts.specs.Moves.{left_by}
-use Rattle.mm_paged.specs.Pieces.{Went, InFrame, Placed}
+use Rattle.mm_paged.specs.Pieces.{Went, InQuietFrame, Placed}
 use Rattle.mm_paged.proofs.Records.{mapped_quiet, unmap_requests}
 use Rattle.mm_moving.proofs.Doing.{does_one, does_two}
 use Rattle.mm_laws.proofs.PlaceCounts.{same_place-self}
@@ -35,7 +35,7 @@ use Rattle.mm_types.proofs.Booleans.{not_false}
 pub own_test : (test : Key → Bool) (r : Record) (k : Key) → r.owner ≡ Some k → owner_is test r ≡ test k
 own_test test r k e = ap (λ (o : Option Key). unwrap_or (option_map test o) false) e
 
-pub map_legal : (k : Key) (f : Frame) (place : Place) (s : StateOf) → Holds s → InFrame k f s → fits_place place k ≡ true → s.life.valid place ≡ None → touches place.pid.0 s.life.kind ≡ true → is_below_max (set_of s.life place.pid.0) ≡ true → IsLegal (move.Map f place) s.life
+pub map_legal : (k : Key) (f : Frame) (place : Place) (s : StateOf) → StateHolds s → InQuietFrame k f s → fits_place place k ≡ true → s.life.valid place ≡ None → touches place.pid.0 s.life.kind ≡ true → is_below_max (set_of s.life place.pid.0) ≡ true → IsLegal (move.Map f place) s.life
 map_legal k f place s h i fits free touch below =
     let own : owner_is (fits_place place) (record_at s.life.frames f.0) ≡ true = own_test (fits_place place) (record_at s.life.frames f.0) k (h.owner k f i.stands) ∙ fits in
     let quiet = i.quiet in
@@ -43,13 +43,13 @@ map_legal k f place s h i fits free touch below =
     grind (arith, own, quiet, none, touch, below)
 
 -- a key without bytes is dead
-pub dead_of : (k : Key) (s : StateOf) → Holds s → s.contents k ≡ None → is_dead (s.life.stands k) ≡ true
+pub dead_of : (k : Key) (s : StateOf) → StateHolds s → s.contents k ≡ None → is_dead (s.life.stands k) ≡ true
 dead_of k s h e = not_false (is_dead (s.life.stands k)) (h.live k ∙ ap is_some e)
 
-pub may_map : (k : Key) (f : Frame) (place : Place) (s : StateOf) → Holds s → InFrame k f s → (is_shared k ≡ true → s.contents (key_of_place place) ≡ None) → MayMap s f place
+pub may_map : (k : Key) (f : Frame) (place : Place) (s : StateOf) → StateHolds s → InQuietFrame k f s → (is_shared k ≡ true → s.contents (key_of_place place) ≡ None) → MayMap s f place
 may_map k f place s h i alone = λ e. dead_of (key_of_place place) s h (alone (sym (own_test is_shared (record_at s.life.frames f.0) k (h.owner k f i.stands)) ∙ e))
 
-placed_same : (s z : StateOf) (place : Place) (n : Place → Option Key) → s.aside ≡ None → z ≡ record (moved s z) { names = n; aside = left_by s.aside place } → z ≡ record (called s z) { names = z.names }
+placed_same : (s z : StateOf) (place : Place) (n : Place → Option Key) → s.aside ≡ None → z ≡ record (moved s z) { names = n; aside = left_by s.aside place } → z ≡ record (moved_with_call s z) { names = z.names }
 placed_same s z place n a e =
     e ∙ ap (λ (x : Option Place). record (moved s z) { names = n; aside = x }) (ap (λ (x : Option Place). left_by x place) a ∙ sym a)
     ∙ ap (λ (x : Place → Option Key). record (moved s z) { names = x }) (sym (ap (λ (x : StateOf). x.names) e))
@@ -58,7 +58,7 @@ placed_same s z place n a e =
     flat : record z { life = s.life; log = s.log; told = s.told; ages = s.ages; waits = s.waits; names = s.names; aside = s.aside } ≡ s
     flat = ap (λ (x : StateOf). record x { life = s.life; log = s.log; told = s.told; ages = s.ages; waits = s.waits; names = s.names; aside = s.aside }) e
 
-pub placed_by : (k : Key) (f : Frame) (place : Place) (s z : StateOf) → Holds s → InFrame k f s → s.aside ≡ None → Made (move.Map f place) s z → z ≡ record (moved s z) { names = names_after_map s f place; aside = left_by s.aside place } → Placed k f place s z
+pub placed_by : (k : Key) (f : Frame) (place : Place) (s z : StateOf) → StateHolds s → InQuietFrame k f s → s.aside ≡ None → Made (move.Map f place) s z → z ≡ record (moved s z) { names = names_after_map s f place; aside = left_by s.aside place } → Placed k f place s z
 placed_by k f place s z h i a m e = record {
   valid = ap (λ (l : FrameLife). l.valid place) m.life ∙ ap (λ (b : Bool). if b then Some f else s.life.valid place) (same_place-self place);
   names = ap (λ (x : StateOf). x.names) e ∙ ap (λ (o : Option Key). changed same_place s.names place o) (h.owner k f i.stands);
@@ -76,7 +76,7 @@ placed_after k f place p s y z kind told e q = record {
   kind = q.kind ∙ kind;
   frame = q.frame;
   told = q.told ∙ told;
-  same = q.same ∙ ap (λ (x : StateOf). record (called x z) { names = z.names }) e;
+  same = q.same ∙ ap (λ (x : StateOf). record (moved_with_call x z) { names = z.names }) e;
 }
 
 -- ---- the piece
@@ -114,12 +114,12 @@ full_some l pid h e =
     subst (λ (o : Option ResidentSet). 1 ≤ residents o) (sym h.found) some
 
 -- a full set has a page
-pub some_page : (s : StateOf) (pid : ℕ) → Holds s → HasSet s.life pid → is_at_max (set_of s.life pid) ≡ true → NoneFollows s.life s.ages pid None → ⊥
+pub some_page : (s : StateOf) (pid : ℕ) → StateHolds s → HasSet s.life pid → is_at_max (set_of s.life pid) ≡ true → NoPageFollows s.life s.ages pid None → ⊥
 some_page s pid h t full none = ∥∥₁_elim h.reached (hlevel props) (λ r.
     let old = set_oldest s.life (reached_sound s.life r) s.ages pid (full_some s.life pid t full) in
     none old.0 old.1.0 (sym (all_go s.life old.0) ∙ old.1.1.goes) tt)
 
-pub full_oldest : (s : StateOf) (p : Place) → IsNext s.life s.ages None p → IsOldest s.life s.ages None p
+pub full_oldest : (s : StateOf) (p : Place) → IsNextPage s.life s.ages None p → IsOldest s.life s.ages None p
 full_oldest s p h = next_oldest s.life s.ages None None p (λ q e g. tt) h (all_go s.life p ∙ h.valid)
 
 some_frame : {A : Type 0} (o : Option A) → is_some o ≡ true → (f : A) × (o ≡ Some f)
@@ -140,7 +140,7 @@ unmapped_stands l p None = refl
 unmapped_stands l p (Some f) = refl
 
 -- a page stays in its frame where a place is valid no more
-pub in_frame_then : (k : Key) (f : Frame) (s y : StateOf) (p : Place) → InFrame k f s → y.life ≡ after_move s.life (move.Unmap p) → InFrame k f y
+pub in_frame_then : (k : Key) (f : Frame) (s y : StateOf) (p : Place) → InQuietFrame k f s → y.life ≡ after_move s.life (move.Unmap p) → InQuietFrame k f y
 in_frame_then k f s y p i e = record {
   stands = ap (λ (x : FrameLife). x.stands k) e ∙ ap (λ (g : Key → Held). g k) (unmapped_stands s.life p (s.life.valid p)) ∙ i.stands;
   quiet = ap is_read (unmap_requests s.life y.life p f.0 e) ∙ i.quiet;

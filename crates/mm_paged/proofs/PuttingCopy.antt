@@ -19,10 +19,10 @@ use Rattle.mm_pages.specs.Accesses.{Aim, ByCopy}
 use Rattle.mm_pages.specs.Conditions.{touch}
 use Rattle.mm_blocks.specs.Devices.{DeviceOf}
 use Rattle.mm_parts.specs.Moves.{left_by}
-use Rattle.mm_moving.specs.Shown.{StateOf, Made, MayMap, names_after_map, moved, called}
-use Rattle.mm_moving.specs.Holds.{Holds}
+use Rattle.mm_moving.specs.Shown.{StateOf, Made, MayMap, names_after_map, moved, moved_with_call}
+use Rattle.mm_moving.specs.Holds.{StateHolds}
 use Rattle.mm_moving.proofs.Doing.{does_one}
-use Rattle.mm_paged.specs.Pieces.{Went, InFrame, LifeKept}
+use Rattle.mm_paged.specs.Pieces.{Went, InQuietFrame, LifeKept}
 use Rattle.mm_paged.proofs.Keeping.{kept_then, kept_unmap, kept_map}
 use Rattle.mm_paged.proofs.Doing.{went_then}
 use Rattle.mm_paged.proofs.Placing.{own_test, map_legal, in_frame_then, kind_then, went_map}
@@ -32,7 +32,7 @@ use Rattle.mm_paged.proofs.LettingGo.{unmapped_gone}
 
 -- ---- the page that was copied goes
 
-in_frame_live : (k : Key) (f : Frame) (s : StateOf) → InFrame k f s → is_live s.life k ≡ true
+in_frame_live : (k : Key) (f : Frame) (s : StateOf) → InQuietFrame k f s → is_live s.life k ≡ true
 in_frame_live k f s i = ap (λ (h : Held). not (is_dead h)) i.stands
 
 pub unmapped_here : (s y : StateOf) (p : Place) → Made (move.Unmap p) s y → y.life.valid p ≡ None
@@ -52,13 +52,13 @@ below_copied place s y h shows m =
     let f = shows_valid s.life place (s.life.valid place) shows refl in
     ap (λ (x : FrameLife). is_below_max (set_of x place.pid.0)) m.life ∙ ap is_below_max (sized s.life place f.0 h.set f.1 h.found) ∙ fewer_below h.set h.some h.within
 
-pub map_copy : (place : Place) (f : Frame) (s y : StateOf) → Holds s → Holds y → InFrame (key_of_place place) f s → s.bound place ≡ true → shows_shared s.life place ≡ true → touches place.pid.0 s.life.kind ≡ true → Made (move.Unmap place) s y → IsLegal (move.Map f place) y.life
+pub map_copy : (place : Place) (f : Frame) (s y : StateOf) → StateHolds s → StateHolds y → InQuietFrame (key_of_place place) f s → s.bound place ≡ true → shows_shared s.life place ≡ true → touches place.pid.0 s.life.kind ≡ true → Made (move.Unmap place) s y → IsLegal (move.Map f place) y.life
 map_copy place f s y h g i bound shows touch m =
     map_legal (key_of_place place) f place y g (in_frame_then (key_of_place place) f s y place i m.life) (same_place-self place) (unmapped_here s y place m)
     (ap (touches place.pid.0) (kind_then s y place m.life) ∙ touch)
     (below_copied place s y (h.sets place.pid.0 (h.open_process place bound)) shows m)
 
-pub own_may_map : (place : Place) (f : Frame) (y : StateOf) → Holds y → InFrame (key_of_place place) f y → MayMap y f place
+pub own_may_map : (place : Place) (f : Frame) (y : StateOf) → StateHolds y → InQuietFrame (key_of_place place) f y → MayMap y f place
 own_may_map place f y g i = λ e. let bad : false ≡ true = sym (own_test is_shared (record_at y.life.frames f.0) (key_of_place place) (g.owner (key_of_place place) f i.stands)) ∙ e in cc
 
 -- ---- the piece
@@ -73,7 +73,7 @@ went_unmap a place s y e c l m = record {
   few_writes = omega arith;
 }
 
-pub went_put : (a : Aim) (place : Place) (f : Frame) (s y z : StateOf) → a.place ≡ place → a.need.copy ≡ Some (key_of_place place) → InFrame (key_of_place place) f s → Made (move.Unmap place) s y → Made (move.Map f place) y z → Went a 0 s z
+pub went_put : (a : Aim) (place : Place) (f : Frame) (s y z : StateOf) → a.place ≡ place → a.need.copy ≡ Some (key_of_place place) → InQuietFrame (key_of_place place) f s → Made (move.Unmap place) s y → Made (move.Map f place) y z → Went a 0 s z
 went_put a place f s y z e c i u m = went_then a 0 0 s y z (went_unmap a place s y e c (in_frame_live (key_of_place place) f s i) u) (went_map a f place y z e m)
 
 -- ---- what stays
@@ -90,7 +90,7 @@ put_look look same place f s y z u m g =
     ap (λ (l : FrameLife). look (record_at l.frames g)) m.life ∙ look_set look y.life.frames.records f.0 g (shared (record_at y.life.frames f.0)) (same (record_at y.life.frames f.0) _)
     ∙ ap (λ (l : FrameLife). look (record_at l.frames g)) u.life ∙ look_unmap look same s.life place g (s.life.valid place)
 
-pub put_names : (place : Place) (f : Frame) (s y z : StateOf) → Holds y → InFrame (key_of_place place) f y → y.names ≡ s.names → z.names ≡ names_after_map y f place → z.names ≡ changed same_place s.names place (Some (key_of_place place))
+pub put_names : (place : Place) (f : Frame) (s y z : StateOf) → StateHolds y → InQuietFrame (key_of_place place) f y → y.names ≡ s.names → z.names ≡ names_after_map y f place → z.names ≡ changed same_place s.names place (Some (key_of_place place))
 put_names place f s y z g i n e =
     e ∙ ap (λ (o : Option Key). changed same_place y.names place o) (g.owner (key_of_place place) f i.stands) ∙ ap (λ (h : Place → Option Key). changed same_place h place (Some (key_of_place place))) n
 
@@ -119,7 +119,7 @@ put_moved place n s y z a r e =
     ∙ ap (λ (m : Place → Option Key). record (moved s z) { names = m; aside = left_by y.aside place }) (sym (ap (λ (x : StateOf). x.names) e))
     ∙ ap (λ (o : Option Place). record (moved s z) { names = z.names; aside = o }) (left_here y.aside place (ap (λ (x : StateOf). x.aside) r ∙ a))
 
-pub put_same : (place : Place) (n : Place → Option Key) (s y z : StateOf) → s.aside ≡ Some place → y ≡ moved s y → z ≡ record (moved y z) { names = n; aside = left_by y.aside place } → z ≡ record (called s z) { names = z.names; aside = None }
+pub put_same : (place : Place) (n : Place → Option Key) (s y z : StateOf) → s.aside ≡ Some place → y ≡ moved s y → z ≡ record (moved y z) { names = n; aside = left_by y.aside place } → z ≡ record (moved_with_call s z) { names = z.names; aside = None }
 put_same place n s y z a r e =
     let w = put_moved place n s y z a r e in
     w

@@ -21,7 +21,7 @@ use Rattle.mm_life.specs.Waits.{Waiting, waits_after}
 use Rattle.mm_life.specs.Walks.{Walk, Through, walked, waits_through}
 use Rattle.mm_world.specs.Report.{Tally}
 use Rattle.mm_moving.specs.Shown.{StateOf}
-use Rattle.mm_moving.specs.Doing.{Does, walk_of}
+use Rattle.mm_moving.specs.Doing.{DoesMoves, walk_of}
 use Rattle.mm_paged.proofs.Placing.{unmapped_kind}
 
 -- ---- the line goes on
@@ -156,7 +156,7 @@ pub record Rests (s z : StateOf) : Type 0 where
   pub paging : z.paging ≡ s.paging
   pub files : z.files ≡ s.files
 
-pub rests_through : (a : Aim) (ms : List Move) (s z : StateOf) → Does ms s z → Through (AccessMove a) (walk_of s) ms → is_thread s.life.kind ≡ true → s.told.search_writes ≡ no_calls → Rests s z
+pub rests_through : (a : Aim) (ms : List Move) (s z : StateOf) → DoesMoves ms s z → Through (AccessMove a) (walk_of s) ms → is_thread s.life.kind ≡ true → s.told.search_writes ≡ no_calls → Rests s z
 rests_through a ms s z d h t e =
     let q = quiet_all a ms (walk_of s) z.life t h d.replays in
     record {
@@ -168,7 +168,7 @@ rests_through a ms s z d h t e =
     }
 
 -- no device write was tried, still
-pub calm_through : (a : Aim) (ms : List Move) (s z : StateOf) → Does ms s z → Through (AccessMove a) (walk_of s) ms → (is_thread s.life.kind ≡ true → s.told.search_writes ≡ no_calls) → is_thread z.life.kind ≡ true → z.told.search_writes ≡ no_calls
+pub calm_through : (a : Aim) (ms : List Move) (s z : StateOf) → DoesMoves ms s z → Through (AccessMove a) (walk_of s) ms → (is_thread s.life.kind ≡ true → s.told.search_writes ≡ no_calls) → is_thread z.life.kind ≡ true → z.told.search_writes ≡ no_calls
 calm_through a ms s z d h e t =
     let was = sym (ap is_thread (kind_through a ms (walk_of s) z.life h d.replays)) ∙ t in
     ap (λ (x : Told). x.search_writes) (rests_through a ms s z d h was (e was)).told ∙ e was

@@ -19,8 +19,8 @@ use Rattle.mm_pages.specs.Shortage.{is_framed}
 use Rattle.mm_pages.specs.Standing.{where_of, framed_where}
 use Rattle.mm_pages.specs.Passing.{Passes}
 use Rattle.mm_moving.specs.Shown.{StateOf}
-use Rattle.mm_moving.specs.Holds.{Holds}
-use Rattle.mm_paged.specs.Pieces.{Went, Stuck, Begins}
+use Rattle.mm_moving.specs.Holds.{StateHolds}
+use Rattle.mm_paged.specs.Pieces.{Went, Stuck, AccessBegins}
 use Rattle.mm_paged.specs.Shown.{OwnOf, report_of, store_of, behind_of}
 use Rattle.mm_moving.proofs.Doing.{does_nothing}
 use Rattle.mm_paged.proofs.Shows.{passes_of}
@@ -104,11 +104,11 @@ pub named_by : (n : Option Key) (k : Key) → is_some n ≡ true → (n ≡ None
 named_by n k h (inl e) = let bad : false ≡ true = sym (ap is_some e) ∙ h in cc
 named_by n k h (inr e) = e
 
-pub framed_at : (k : Key) (place : Place) (s : StateOf) → Holds s → (o : Option Frame) → s.life.valid place ≡ o → is_some o ≡ true → (s.names place ≡ None) ⊎ (s.names place ≡ Some k) → is_framed (s.life.stands k) ≡ true
+pub framed_at : (k : Key) (place : Place) (s : StateOf) → StateHolds s → (o : Option Frame) → s.life.valid place ≡ o → is_some o ≡ true → (s.names place ≡ None) ⊎ (s.names place ≡ Some k) → is_framed (s.life.stands k) ≡ true
 framed_at k place s h None e v n = cc
 framed_at k place s h (Some f) e v n = ap is_framed (h.of_frame k f (h.named place f e ∙ named_by (s.names place) k (h.owned place f e) n))
 
-pub valid_ends : (k : Key) (place : Place) (s z : StateOf) (o : OwnOf) → Holds s → is_some (s.life.valid place) ≡ true → (s.names place ≡ None) ⊎ (s.names place ≡ Some k)
+pub valid_ends : (k : Key) (place : Place) (s z : StateOf) (o : OwnOf) → StateHolds s → is_some (s.life.valid place) ≡ true → (s.names place ≡ None) ⊎ (s.names place ≡ Some k)
     → z ≡ record s { ages = changed same_place s.ages place 0 } → IsBegun (report_of s o) → Ends {T = Unit {0}} (touch k) (report_of z o) (Ok tt)
 valid_ends k place s z o h v n e b = had_ends k z o (ap (λ (x : StateOf). x.told.last_failed_read) e ∙ b.no_failed_read)
     (ap (λ (x : StateOf). is_framed (x.life.stands k)) e ∙ framed_at k place s h (s.life.valid place) refl v n)
@@ -116,7 +116,7 @@ valid_ends k place s z o h v n e b = had_ends k z o (ap (λ (x : StateOf). x.tol
 -- ---- an access that faulted
 
 pub went_passes : (w : Bool) (k : Key) (place : Place) (s y z : StateOf) (o u : OwnOf) (c : Key → Option (List ℕ)) (IsNow : Type 0) → s.life.valid place ≡ None → (IsNow → is_some (s.life.valid place) ≡ true)
-    → ((a : Aim) → a.place ≡ place → a.writes ≡ w → Begins a k s → Went a 1 s y) → is_some (y.life.valid place) ≡ true → z ≡ record y { ages = changed same_place y.ages place 0; contents = c }
+    → ((a : Aim) → a.place ≡ place → a.writes ≡ w → AccessBegins a k s → Went a 1 s y) → is_some (y.life.valid place) ≡ true → z ≡ record y { ages = changed same_place y.ages place 0; contents = c }
     → Passes (Touches {T = Unit {0}} (record { place = place; need = touch k; writes = w; start = s.life }) IsNow (Ok tt)) (store_of s o) (store_of z u) (behind_of s) (behind_of z)
 went_passes w k place s y z o u c IsNow none now went v e =
     let p : Went (record { place = place; need = touch k; writes = w; start = s.life }) 1 s y = went (record { place = place; need = touch k; writes = w; start = s.life }) refl refl (record { needs = refl; from = refl; at = none }) in
@@ -147,12 +147,12 @@ went_passes w k place s y z o u c IsNow none now went v e =
     })
 
 pub read_went_passes : (k : Key) (place : Place) (s y z : StateOf) (o u : OwnOf) (IsNow : Type 0) → s.life.valid place ≡ None → (IsNow → is_some (s.life.valid place) ≡ true)
-    → ((a : Aim) → a.place ≡ place → Begins a k s → Went a 1 s y) → is_some (y.life.valid place) ≡ true → z ≡ record y { ages = changed same_place y.ages place 0 }
+    → ((a : Aim) → a.place ≡ place → AccessBegins a k s → Went a 1 s y) → is_some (y.life.valid place) ≡ true → z ≡ record y { ages = changed same_place y.ages place 0 }
     → Passes (Touches {T = Unit {0}} (record { place = place; need = touch k; writes = false; start = s.life }) IsNow (Ok tt)) (store_of s o) (store_of z u) (behind_of s) (behind_of z)
 read_went_passes k place s y z o u IsNow none now went v e = went_passes false k place s y z o u y.contents IsNow none now (λ a p w b. went a p b) v e
 
 pub stuck_passes : (w : Bool) (why : PageFault) (k : Key) (place : Place) (s z : StateOf) (o u : OwnOf) (IsNow : Type 0) → s.life.valid place ≡ None → (IsNow → is_some (s.life.valid place) ≡ true)
-    → ((a : Aim) → Begins a k s → Stuck a why 1 s z)
+    → ((a : Aim) → AccessBegins a k s → Stuck a why 1 s z)
     → Passes (Touches {T = Unit {0}} (record { place = place; need = touch k; writes = w; start = s.life }) IsNow (Err why)) (store_of s o) (store_of z u) (behind_of s) (behind_of z)
 stuck_passes w why k place s z o u IsNow none now stuck =
     let p = stuck (record { place = place; need = touch k; writes = w; start = s.life }) (record { needs = refl; from = refl; at = none }) in

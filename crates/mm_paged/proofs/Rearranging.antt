@@ -24,11 +24,11 @@ use Rattle.mm_life.specs.Chores.{TrimMove, frame_of, clearings, target, writes_b
 use Rattle.mm_life.specs.Waits.{Waiting, waits_after}
 use Rattle.mm_life.specs.Walks.{Walk, Through, walked, waits_through}
 use Rattle.mm_moving.specs.Shown.{StateOf, moved}
-use Rattle.mm_moving.specs.Doing.{Does, walk_of}
-use Rattle.mm_moving.specs.Holds.{Holds}
+use Rattle.mm_moving.specs.Doing.{DoesMoves, walk_of}
+use Rattle.mm_moving.specs.Holds.{StateHolds}
 use Rattle.mm_reclaim.specs.Chores.{Trimmed}
 use Rattle.mm_paged.specs.Pieces.{LifeKept}
-use Rattle.mm_paged.specs.Shown.{OwnOf, Kept, store_of, report_of, behind_of}
+use Rattle.mm_paged.specs.Shown.{OwnOf, StoreKept, store_of, report_of, behind_of}
 use Rattle.mm_paged.proofs.Quiet.{no_thread}
 use Rattle.mm_paged.proofs.Keeping.{kept_same, kept_then, kept_unmap, blocks_kept}
 use Rattle.mm_paged.proofs.LettingGo.{rearranged_by}
@@ -120,7 +120,7 @@ all_begun n l (f ∷ fs) = at (nat_lt 0 n && has_depth l) (can_be_written l f) (
 -- ---- what a chore leaves
 
 record Tidied (ms : List Move) (s z : StateOf) : Type 0 where
-  does : Does ms s z
+  does : DoesMoves ms s z
   all : AllChores ms
   same : z ≡ moved s z
 
@@ -128,13 +128,13 @@ module _ (ms : List Move) (s z : StateOf) (o : OwnOf) (t : Tidied ms s z) where
   life_now : LifeKept s.life z.life
   life_now = life_kept ms s.life z.life t.all t.does.replays
 
-  store_now : Holds s → Holds z → store_of z o ≡ record (store_of s o) { report = rearranged (report_of s o) (report_of z o) }
+  store_now : StateHolds s → StateHolds z → store_of z o ≡ record (store_of s o) { report = rearranged (report_of s o) (report_of z o) }
   store_now h g =
       rearranged_by s z o life_now (blocks_kept s z ms h g t.does.replays life_now.paging (ap (λ (x : StateOf). x.contents) t.same))
       (t.does.told ∙ told_kept ms s.life s.told t.all) (t.does.waits ∙ waits_kept ms s.life s.waits t.all) t.same
 
   -- nothing is ready in a line that accesses no page
-  kept_now : Kept s o → is_touch s.life.kind ≡ false → Kept z o
+  kept_now : StoreKept s o → is_touch s.life.kind ≡ false → StoreKept z o
   kept_now k still = record {
     own = ap (λ (x : StateOf). x.own) t.same ∙ k.own;
     aside = ap (λ (x : StateOf). x.aside) t.same ∙ k.aside;
@@ -153,35 +153,35 @@ module _ (ms : List Move) (s z : StateOf) (o : OwnOf) (t : Tidied ms s z) where
 by_trim : (pid : Pid) (n : ℕ) (s z : StateOf) (t : Trimmed pid n s z) → Tidied t.moves s z
 by_trim pid n s z t = record { does = t.does; all = all_of_trim pid (walk_of s) t.moves t.each; same = t.same }
 
-by_clears : (n : ℕ) (s z : StateOf) → Does (clearings n s.life) s z → z ≡ moved s z → Tidied (clearings n s.life) s z
+by_clears : (n : ℕ) (s z : StateOf) → DoesMoves (clearings n s.life) s z → z ≡ moved s z → Tidied (clearings n s.life) s z
 by_clears n s z d e = record { does = d; all = all_cleared (take n s.life.frames.free); same = e }
 
-by_writes : (n : ℕ) (s z : StateOf) → Does (writes_begun n s.life s.life.frames.modified) s z → z ≡ moved s z → Tidied (writes_begun n s.life s.life.frames.modified) s z
+by_writes : (n : ℕ) (s z : StateOf) → DoesMoves (writes_begun n s.life s.life.frames.modified) s z → z ≡ moved s z → Tidied (writes_begun n s.life s.life.frames.modified) s z
 by_writes n s z d e = record { does = d; all = all_begun n s.life s.life.frames.modified; same = e }
 
-pub trim_store : (pid : Pid) (n : ℕ) (s z : StateOf) (o : OwnOf) → Holds s → Holds z → Trimmed pid n s z → store_of z o ≡ record (store_of s o) { report = rearranged (report_of s o) (report_of z o) }
+pub trim_store : (pid : Pid) (n : ℕ) (s z : StateOf) (o : OwnOf) → StateHolds s → StateHolds z → Trimmed pid n s z → store_of z o ≡ record (store_of s o) { report = rearranged (report_of s o) (report_of z o) }
 trim_store pid n s z o h g t = store_now t.moves s z o (by_trim pid n s z t) h g
 
-pub trim_kept : (pid : Pid) (n : ℕ) (s z : StateOf) (o : OwnOf) → Kept s o → s.life.kind ≡ kind.Trim pid → Trimmed pid n s z → Kept z o
+pub trim_kept : (pid : Pid) (n : ℕ) (s z : StateOf) (o : OwnOf) → StoreKept s o → s.life.kind ≡ kind.Trim pid → Trimmed pid n s z → StoreKept z o
 trim_kept pid n s z o k e t = kept_now t.moves s z o (by_trim pid n s z t) k (ap is_touch e)
 
 pub trim_passes : (pid : Pid) (n : ℕ) (s z : StateOf) (o u : OwnOf) → Trimmed pid n s z → Passes (Trims pid n) (store_of s o) (store_of z u) (behind_of s) (behind_of z)
 trim_passes pid n s z o u t = passes_of (Trims pid n) t.moves s z o u t.does (record { each = t.each; count = t.count; moved = record { waits = t.does.waits; ages = t.does.ages }; slots = ap (λ (x : StateOf). x.slots) t.same })
 
-pub zero_store : (n : ℕ) (s z : StateOf) (o : OwnOf) → Holds s → Holds z → Does (clearings n s.life) s z → z ≡ moved s z → store_of z o ≡ record (store_of s o) { report = rearranged (report_of s o) (report_of z o) }
+pub zero_store : (n : ℕ) (s z : StateOf) (o : OwnOf) → StateHolds s → StateHolds z → DoesMoves (clearings n s.life) s z → z ≡ moved s z → store_of z o ≡ record (store_of s o) { report = rearranged (report_of s o) (report_of z o) }
 zero_store n s z o h g d e = store_now (clearings n s.life) s z o (by_clears n s z d e) h g
 
-pub zero_kept : (n : ℕ) (s z : StateOf) (o : OwnOf) → Kept s o → s.life.kind ≡ kind.Zeroer → Does (clearings n s.life) s z → z ≡ moved s z → Kept z o
+pub zero_kept : (n : ℕ) (s z : StateOf) (o : OwnOf) → StoreKept s o → s.life.kind ≡ kind.Zeroer → DoesMoves (clearings n s.life) s z → z ≡ moved s z → StoreKept z o
 zero_kept n s z o k i d e = kept_now (clearings n s.life) s z o (by_clears n s z d e) k (ap is_touch i)
 
-pub zero_passes : (n : ℕ) (s z : StateOf) (o u : OwnOf) → Does (clearings n s.life) s z → z ≡ moved s z → Passes (Clears n) (store_of s o) (store_of z u) (behind_of s) (behind_of z)
+pub zero_passes : (n : ℕ) (s z : StateOf) (o u : OwnOf) → DoesMoves (clearings n s.life) s z → z ≡ moved s z → Passes (Clears n) (store_of s o) (store_of z u) (behind_of s) (behind_of z)
 zero_passes n s z o u d e = passes_of (Clears n) (clearings n s.life) s z o u d (record { are = refl; moved = record { waits = d.waits; ages = d.ages }; slots = ap (λ (x : StateOf). x.slots) e })
 
-pub write_store : (n : ℕ) (s z : StateOf) (o : OwnOf) → Holds s → Holds z → Does (writes_begun n s.life s.life.frames.modified) s z → z ≡ moved s z → store_of z o ≡ record (store_of s o) { report = rearranged (report_of s o) (report_of z o) }
+pub write_store : (n : ℕ) (s z : StateOf) (o : OwnOf) → StateHolds s → StateHolds z → DoesMoves (writes_begun n s.life s.life.frames.modified) s z → z ≡ moved s z → store_of z o ≡ record (store_of s o) { report = rearranged (report_of s o) (report_of z o) }
 write_store n s z o h g d e = store_now (writes_begun n s.life s.life.frames.modified) s z o (by_writes n s z d e) h g
 
-pub write_kept : (n : ℕ) (s z : StateOf) (o : OwnOf) → Kept s o → s.life.kind ≡ kind.Writer → Does (writes_begun n s.life s.life.frames.modified) s z → z ≡ moved s z → Kept z o
+pub write_kept : (n : ℕ) (s z : StateOf) (o : OwnOf) → StoreKept s o → s.life.kind ≡ kind.Writer → DoesMoves (writes_begun n s.life s.life.frames.modified) s z → z ≡ moved s z → StoreKept z o
 write_kept n s z o k i d e = kept_now (writes_begun n s.life s.life.frames.modified) s z o (by_writes n s z d e) k (ap is_touch i)
 
-pub write_passes : (n : ℕ) (s z : StateOf) (o u : OwnOf) → Does (writes_begun n s.life s.life.frames.modified) s z → z ≡ moved s z → Passes (WritesOut n) (store_of s o) (store_of z u) (behind_of s) (behind_of z)
+pub write_passes : (n : ℕ) (s z : StateOf) (o u : OwnOf) → DoesMoves (writes_begun n s.life s.life.frames.modified) s z → z ≡ moved s z → Passes (WritesOut n) (store_of s o) (store_of z u) (behind_of s) (behind_of z)
 write_passes n s z o u d e = passes_of (WritesOut n) (writes_begun n s.life s.life.frames.modified) s z o u d (record { are = refl; moved = record { waits = d.waits; ages = d.ages }; slots = ap (λ (x : StateOf). x.slots) e })

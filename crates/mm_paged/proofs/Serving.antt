@@ -18,7 +18,7 @@ use Rattle.mm_pages.specs.Tallies.{with_outcome, with_call, tallied}
 use Rattle.mm_pages.specs.Reports.{Served}
 use Rattle.mm_pages.specs.Told.{Told, told_after, told_through, with_read, with_write, in_slot, in_block, call_of, calls_of}
 use Rattle.mm_moving.specs.Shown.{StateOf}
-use Rattle.mm_moving.specs.Doing.{Does}
+use Rattle.mm_moving.specs.Doing.{DoesMoves}
 use Rattle.mm_paged.specs.Shown.{OwnOf, store_of}
 
 abbrev pub counted : Direction → List DeviceCall → Tally → Tally
@@ -93,7 +93,7 @@ counts_all (move.Wrote f ∷ ms) l t h = let o = one_write true (record_at l.fra
 counts_all (move.Lost f ∷ ms) l t h = let o = one_write false (record_at l.frames f.0).backing t in counts_more (move.Lost f) ms l t (told_after l (move.Lost f) t) _ o.paging_reads o.paging_writes o.file_reads o.file_writes (counts_all ms _ _ h)
 
 -- each call is one of the devices'
-pub served_by : (ms : List Move) (s z : StateOf) (o u : OwnOf) → InLine ms → Does ms s z → Served (store_of s o) (store_of z u)
+pub served_by : (ms : List Move) (s z : StateOf) (o u : OwnOf) → InLine ms → DoesMoves ms s z → Served (store_of s o) (store_of z u)
 served_by ms s z o u h d =
     let c = counts_all ms s.life s.told h in
     record {

@@ -26,11 +26,11 @@ use Rattle.mm_pages.specs.Standing.{block_at, backed_by}
 use Rattle.mm_pages.specs.Store.{changed}
 use Rattle.mm_pages.specs.Told.{Told, none_told}
 use Rattle.mm_moving.specs.Shown.{StateOf, Made, moved}
-use Rattle.mm_moving.specs.Doing.{Does}
+use Rattle.mm_moving.specs.Doing.{DoesMoves}
 use Rattle.mm_paged.specs.Shown.{OwnOf, report_of, store_of, behind_of}
 use Rattle.mm_moving.proofs.Doing.{does_one}
 
-pub passes_of : (That : Behind → List Move → Behind → Type 0) (moves : List Move) (s z : StateOf) (o u : OwnOf) → Does moves s z → That (behind_of s) moves (behind_of z) → Passes That (store_of s o) (store_of z u) (behind_of s) (behind_of z)
+pub passes_of : (That : Behind → List Move → Behind → Type 0) (moves : List Move) (s z : StateOf) (o u : OwnOf) → DoesMoves moves s z → That (behind_of s) moves (behind_of z) → Passes That (store_of s o) (store_of z u) (behind_of s) (behind_of z)
 passes_of That moves s z o u d t = record {
   moves = moves;
   in_range = d.in_range;

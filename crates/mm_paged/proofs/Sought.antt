@@ -20,9 +20,9 @@ use Rattle.mm_pages.specs.Shortage.{is_framed, is_shortage}
 use Rattle.mm_life.specs.Walks.{Walk, Through, walked, walked_all}
 use Rattle.mm_life.specs.Searches.{SearchMove, Starved}
 use Rattle.mm_life.specs.Order.{IsVictim}
-use Rattle.mm_moving.specs.Shown.{StateOf, called}
+use Rattle.mm_moving.specs.Shown.{StateOf, moved_with_call}
 use Rattle.mm_moving.specs.Doing.{Searched, walk_of}
-use Rattle.mm_paged.specs.Pieces.{Sought, Stuck, Begins, Keeps, Fails}
+use Rattle.mm_paged.specs.Pieces.{Sought, Stuck, AccessBegins, KeepsButNames, Fails}
 
 -- what a search leaves
 pub record Leaves (l m : FrameLife) : Type 0 where
@@ -107,10 +107,10 @@ search_leaves found s z h = leaves_all None [] h.moves (walk_of s) z.life (h.eac
 flight_of : (a : Aim) (l : FrameLife) → a.start ≡ l → (f : Frame) → is_on f.0 a.start.flight ≡ true → (is_on f.0 l.flight ≡ true) ⊎ (None ≡ Some f)
 flight_of a l e f h = inl (ap (λ (x : FrameLife). is_on f.0 x.flight) (sym e) ∙ h)
 
-search_each : (a : Aim) (k : Key) (found : Bool) (s z : StateOf) → is_framed (s.life.stands k) ≡ false → Begins a k s → (h : Searched None found s z) → Through (AccessMove a) (walk_of s) h.moves
+search_each : (a : Aim) (k : Key) (found : Bool) (s z : StateOf) → is_framed (s.life.stands k) ≡ false → AccessBegins a k s → (h : Searched None found s z) → Through (AccessMove a) (walk_of s) h.moves
 search_each a k found s z u b h = access_all a h.moves (walk_of s) (ap (λ (j : Key). is_framed (s.life.stands j)) b.needs ∙ u) b.at (h.each a.start.flight (flight_of a s.life b.from))
 
-pub sought_by : (a : Aim) (k : Key) (s z : StateOf) → is_framed (s.life.stands k) ≡ false → Begins a k s → Searched None true s z → Sought a s z
+pub sought_by : (a : Aim) (k : Key) (s z : StateOf) → is_framed (s.life.stands k) ≡ false → AccessBegins a k s → Searched None true s z → Sought a s z
 sought_by a k s z u b h = record {
   moves = h.moves;
   does = h.does;
@@ -119,7 +119,7 @@ sought_by a k s z u b h = record {
   one = h.one;
 }
 
-pub stuck_by : (a : Aim) (k : Key) (s z : StateOf) → is_framed (s.life.stands k) ≡ false → Begins a k s → Searched None false s z → Stuck a fault.NoFrame 0 s z
+pub stuck_by : (a : Aim) (k : Key) (s z : StateOf) → is_framed (s.life.stands k) ≡ false → AccessBegins a k s → Searched None false s z → Stuck a fault.NoFrame 0 s z
 stuck_by a k s z u b h = record {
   moves = h.moves;
   does = h.does;
@@ -147,9 +147,9 @@ search_stands found s z h = (search_leaves found s z h).stands
 pub search_as : (r b : Bool) (s z : StateOf) → r ≡ b → Searched None r s z → Searched None b s z
 search_as r b s z e h = subst (λ (x : Bool). Searched None x s z) e h
 
-pub search_keeps : (found : Bool) (s z : StateOf) → Searched None found s z → Keeps s z
+pub search_keeps : (found : Bool) (s z : StateOf) → Searched None found s z → KeepsButNames s z
 search_keeps found s z h = let l = search_leaves found s z h in record {
   kind = l.kind;
   unmapped = l.unmapped;
-  same = h.same ∙ ap (λ (n : Place → Option Key). record (called s z) { names = n }) (sym (ap (λ (x : StateOf). x.names) h.same));
+  same = h.same ∙ ap (λ (n : Place → Option Key). record (moved_with_call s z) { names = n }) (sym (ap (λ (x : StateOf). x.names) h.same));
 }

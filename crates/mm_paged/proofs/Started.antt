@@ -26,12 +26,12 @@ use Rattle.mm_pages.specs.declared.outcomes.Need.TheVariants as need
 use Rattle.mm_pages.specs.declared.outcomes.Start.{Start}
 use Rattle.mm_pages.specs.declared.outcomes.Start.TheVariants as start
 use Rattle.mm_parts.specs.Moves.{front, front_for_read}
-use Rattle.mm_moving.specs.Shown.{StateOf, Made, moved, called}
-use Rattle.mm_moving.specs.Holds.{Holds}
+use Rattle.mm_moving.specs.Shown.{StateOf, Made, moved, moved_with_call}
+use Rattle.mm_moving.specs.Holds.{StateHolds}
 use Rattle.mm_moving.proofs.Doing.{does_one, does_two}
-use Rattle.mm_paged.specs.Pieces.{Went, Took, ReadsFor, IsFor, Keeps, NamesFor, Placed}
+use Rattle.mm_paged.specs.Pieces.{Went, TookFrame, ReadsFor, IsFor, KeepsButNames, NamesFor, Placed}
 use Rattle.mm_paged.specs.Shown.{OwnOf, report_of}
-use Rattle.mm_paged.specs.Started.{AimsAt, Begun, IsBeingRead, Reads, answered}
+use Rattle.mm_paged.specs.Started.{AimsAt, AccessBegun, IsBeingRead, ReadBegins, answered}
 use Rattle.mm_paged.proofs.Doing.{went_then, went_nothing, sought_took, sought_nothing}
 use Rattle.mm_paged.proofs.Bringing.{went_more, absent}
 use Rattle.mm_paged.proofs.Reading.{named_by}
@@ -97,7 +97,7 @@ once_stored k s o short e d h = once_where (Some InStore) k s o (where_stored s.
 -- ---- pages that have a frame
 
 -- its page is valid already
-pub begun_here : (k : Key) (f : Frame) (place : Place) (s : StateOf) → Holds s → s.life.valid place ≡ Some f → (s.names place ≡ None) ⊎ (s.names place ≡ Some k) → Begun need.Touch k place start.Ready s s
+pub begun_here : (k : Key) (f : Frame) (place : Place) (s : StateOf) → StateHolds s → s.life.valid place ≡ Some f → (s.names place ≡ None) ⊎ (s.names place ≡ Some k) → AccessBegun need.Touch k place start.Ready s s
 begun_here k f place s h v n = record {
   went = λ a e. went_nothing a 1 s;
   names = inl refl;
@@ -112,7 +112,7 @@ begun_here k f place s h v n = record {
   wanting = λ e. cc;
 }
 
-pub begun_reading : (k : Key) (f : Frame) (place : Place) (s : StateOf) → s.life.stands k ≡ held.Frame f → is_read (record_at s.life.frames f.0).request ≡ true → Begun need.Touch k place (start.Pending why.Read) s s
+pub begun_reading : (k : Key) (f : Frame) (place : Place) (s : StateOf) → s.life.stands k ≡ held.Frame f → is_read (record_at s.life.frames f.0).request ≡ true → AccessBegun need.Touch k place (start.Pending why.Read) s s
 begun_reading k f place s t r = record {
   went = λ a e. went_nothing a 1 s;
   names = inl refl;
@@ -128,7 +128,7 @@ begun_reading k f place s t r = record {
 }
 
 pub begun_put : (k : Key) (f : Frame) (place : Place) (s z : StateOf) → s.life.stands k ≡ held.Frame f → is_read (record_at s.life.frames f.0).request ≡ false → ((a : Aim) → a.place ≡ place → Went a 0 s z) → Placed k f place s z
-    → (z.slots ≡ s.slots) × (z.blocks ≡ s.blocks) → Begun need.Touch k place start.Ready s z
+    → (z.slots ≡ s.slots) × (z.blocks ≡ s.blocks) → AccessBegun need.Touch k place start.Ready s z
 begun_put k f place s z t r w p b = record {
   went = λ a e. went_more a 0 1 s z (omega arith) (w a e.at);
   names = inr p.names;
@@ -145,14 +145,14 @@ begun_put k f place s z t r w p b = record {
 
 -- ---- demand-zero pages
 
-pub begun_given : (k : Key) (g : Frame) (place : Place) (s y z : StateOf) → is_zero (s.life.stands k) ≡ true → ((a : Aim) → IsFor a k → Took a 0 s y) → ((a : Aim) → a.place ≡ place → Went a 0 y z) → Keeps s y → NamesFor k s y → fits_place place k ≡ true
-    → Placed k g place y z → (y.slots ≡ s.slots) × (y.blocks ≡ s.blocks) → (z.slots ≡ y.slots) × (z.blocks ≡ y.blocks) → Begun need.Touch k place start.Ready s z
+pub begun_given : (k : Key) (g : Frame) (place : Place) (s y z : StateOf) → is_zero (s.life.stands k) ≡ true → ((a : Aim) → IsFor a k → TookFrame a 0 s y) → ((a : Aim) → a.place ≡ place → Went a 0 y z) → KeepsButNames s y → NamesFor k s y → fits_place place k ≡ true
+    → Placed k g place y z → (y.slots ≡ s.slots) × (y.blocks ≡ s.blocks) → (z.slots ≡ y.slots) × (z.blocks ≡ y.blocks) → AccessBegun need.Touch k place start.Ready s z
 begun_given k g place s y z t took w keeps n fits p b c = record {
   went = λ a e. went_more a 0 1 s z (omega arith) (went_then a 0 0 s y z (sought_took a 0 s s y (sought_nothing a s) (took a (inl (sym e.needs)))) (w a e.at));
   names = inr (p.names ∙ n place (Some k) fits);
   slots = c.0 ∙ b.0;
   blocks = c.1 ∙ b.1;
-  same = p.same ∙ ap (λ (x : StateOf). record (called x z) { names = z.names }) keeps.same;
+  same = p.same ∙ ap (λ (x : StateOf). record (moved_with_call x z) { names = z.names }) keeps.same;
   valid = λ e. ap is_some p.valid;
   room = λ e c. cc;
   at_once = λ o. once_where (Some AtZero) k s o (where_zero s.life (s.life.stands k) t);
@@ -168,7 +168,7 @@ zero_unframed (held.Block b) e = refl
 zero_unframed held.Zero e = refl
 zero_unframed held.Dead e = refl
 
-pub begun_starved : (k : Key) (place : Place) (s : StateOf) → is_zero (s.life.stands k) ≡ true → is_short s.life ≡ true → Begun need.Touch k place (start.Pending why.Frame) s s
+pub begun_starved : (k : Key) (place : Place) (s : StateOf) → is_zero (s.life.stands k) ≡ true → is_short s.life ≡ true → AccessBegun need.Touch k place (start.Pending why.Frame) s s
 begun_starved k place s t h = record {
   went = λ a e. went_nothing a 1 s;
   names = inl refl;
@@ -192,7 +192,7 @@ stored_unframed (held.Block b) e = refl
 stored_unframed held.Zero e = refl
 stored_unframed held.Dead e = refl
 
-pub begun_full : (k : Key) (place : Place) (s : StateOf) → is_stored (s.life.stands k) ≡ true → has_depth s.life ≡ false → Begun need.Touch k place (start.Pending why.Full) s s
+pub begun_full : (k : Key) (place : Place) (s : StateOf) → is_stored (s.life.stands k) ≡ true → has_depth s.life ≡ false → AccessBegun need.Touch k place (start.Pending why.Full) s s
 begun_full k place s t d = record {
   went = λ a e. went_nothing a 1 s;
   names = inl refl;
@@ -207,7 +207,7 @@ begun_full k place s t d = record {
   wanting = λ e. cc;
 }
 
-pub begun_short : (k : Key) (place : Place) (s : StateOf) → is_stored (s.life.stands k) ≡ true → has_depth s.life ≡ true → is_short s.life ≡ true → Begun need.Touch k place (start.Pending why.Frame) s s
+pub begun_short : (k : Key) (place : Place) (s : StateOf) → is_stored (s.life.stands k) ≡ true → has_depth s.life ≡ true → is_short s.life ≡ true → AccessBegun need.Touch k place (start.Pending why.Frame) s s
 begun_short k place s t d h = record {
   went = λ a e. went_nothing a 1 s;
   names = inl refl;
@@ -236,7 +236,7 @@ no_access kind.Call t e = cc
 no_access (kind.Grow n) t e = cc
 
 -- a read begins in a thread's line, and stays in flight
-took_read : (a : Aim) (f : Frame) (k : Key) (s z : StateOf) → is_thread s.life.kind ≡ true → Made (move.Read f k) s z → ReadsFor a k → Took a 1 s z
+took_read : (a : Aim) (f : Frame) (k : Key) (s z : StateOf) → is_thread s.life.kind ≡ true → Made (move.Read f k) s z → ReadsFor a k → TookFrame a 1 s z
 took_read a f k s z t m h = record {
   moves = move.Read f k ∷ [];
   does = does_one (move.Read f k) s z m;
@@ -246,7 +246,7 @@ took_read a f k s z t m h = record {
   paid = omega arith;
 }
 
-took_steal_read : (a : Aim) (f : Frame) (k : Key) (s y z : StateOf) → is_thread s.life.kind ≡ true → is_empty s.life.frames.free ≡ true → Made (move.Steal (front s.life.frames.standby)) s y → f ≡ front_for_read y.life → Made (move.Read f k) y z → ReadsFor a k → Took a 1 s z
+took_steal_read : (a : Aim) (f : Frame) (k : Key) (s y z : StateOf) → is_thread s.life.kind ≡ true → is_empty s.life.frames.free ≡ true → Made (move.Steal (front s.life.frames.standby)) s y → f ≡ front_for_read y.life → Made (move.Read f k) y z → ReadsFor a k → TookFrame a 1 s z
 took_steal_read a f k s y z t none p e m h =
     let d = front s.life.frames.standby in
     record {
@@ -258,10 +258,10 @@ took_steal_read a f k s y z t none p e m h =
       paid = omega arith;
     }
 
-pub reads_free : (k : Key) (s z : StateOf) → is_thread s.life.kind ≡ true → Made (move.Read (front_for_read s.life) k) s z → z ≡ moved s z → Reads k s z
+pub reads_free : (k : Key) (s z : StateOf) → is_thread s.life.kind ≡ true → Made (move.Read (front_for_read s.life) k) s z → z ≡ moved s z → ReadBegins k s z
 reads_free k s z t m e = record { frame = front_for_read s.life; mid = s; made = m; took = λ a h. took_read a (front_for_read s.life) k s z t m h; same = e }
 
-pub reads_standby : (k : Key) (s y z : StateOf) → is_thread s.life.kind ≡ true → is_empty s.life.frames.free ≡ true → Made (move.Steal (front s.life.frames.standby)) s y → y ≡ moved s y → Made (move.Read (front_for_read y.life) k) y z → z ≡ moved y z → Reads k s z
+pub reads_standby : (k : Key) (s y z : StateOf) → is_thread s.life.kind ≡ true → is_empty s.life.frames.free ≡ true → Made (move.Steal (front s.life.frames.standby)) s y → y ≡ moved s y → Made (move.Read (front_for_read y.life) k) y z → z ≡ moved y z → ReadBegins k s z
 reads_standby k s y z t none p q m e = record {
   frame = front_for_read y.life;
   mid = y;
@@ -273,12 +273,12 @@ reads_standby k s y z t none p q m e = record {
 reads_for : (a : Aim) (k : Key) (place : Place) (s : StateOf) → AimsAt a k place s → is_stored (s.life.stands k) ≡ true → ReadsFor a k
 reads_for a k place s b h = record { needs = b.needs; absent = absent a.start (a.start.stands k) (ap (λ (l : FrameLife). is_stored (l.stands k)) b.from ∙ h) }
 
-being_read : (k : Key) (s z : StateOf) → Holds z → Reads k s z → IsBeingRead k z
+being_read : (k : Key) (s z : StateOf) → StateHolds z → ReadBegins k s z → IsBeingRead k z
 being_read k s z h r =
     let t : z.life.stands k ≡ held.Frame r.frame = ap (λ (l : FrameLife). l.stands k) r.made.life ∙ changed_here r.mid.life.stands k (held.Frame r.frame) in
     (r.frame, t, read_begun r.mid.life z.life r.frame k k r.made.life (h.owner k r.frame t))
 
-pub begun_read : (k : Key) (place : Place) (s z : StateOf) → Holds z → is_stored (s.life.stands k) ≡ true → has_depth s.life ≡ true → is_short s.life ≡ false → Reads k s z → Begun need.Touch k place (start.Pending why.Read) s z
+pub begun_read : (k : Key) (place : Place) (s z : StateOf) → StateHolds z → is_stored (s.life.stands k) ≡ true → has_depth s.life ≡ true → is_short s.life ≡ false → ReadBegins k s z → AccessBegun need.Touch k place (start.Pending why.Read) s z
 begun_read k place s z h t d n r = record {
   went = λ a e. sought_took a 1 s s z (sought_nothing a s) (r.took a (reads_for a k place s e t));
   names = inl (ap (λ (x : StateOf). x.names) r.same);
@@ -295,11 +295,11 @@ begun_read k place s z h t d n r = record {
 
 -- ---- a frame for a copy
 
-pub begun_with_frame : (n : Need) (k : Key) (place : Place) (r : Start) (s z : StateOf) → Begun need.Touch k place r s z → Begun n k place (answered n r (is_short z.life)) s z
+pub begun_with_frame : (n : Need) (k : Key) (place : Place) (r : Start) (s z : StateOf) → AccessBegun need.Touch k place r s z → AccessBegun n k place (answered n r (is_short z.life)) s z
 begun_with_frame need.Touch k place r s z h = h
 begun_with_frame need.Copy k place start.Ready s z h = at (is_short z.life) refl
   where
-    at : (b : Bool) → is_short z.life ≡ b → Begun need.Copy k place (answered need.Copy start.Ready b) s z
+    at : (b : Bool) → is_short z.life ≡ b → AccessBegun need.Copy k place (answered need.Copy start.Ready b) s z
     at true e = record {
       went = h.went;
       names = h.names;

@@ -27,11 +27,11 @@ use Rattle.mm_pages.specs.declared.outcomes.Start.{Start}
 use Rattle.mm_pages.specs.declared.outcomes.Start.TheVariants as start
 use Rattle.mm_life.specs.Waits.{Waiting, wait_of}
 use Rattle.mm_moving.specs.Shown.{StateOf}
-use Rattle.mm_moving.specs.Holds.{Holds}
+use Rattle.mm_moving.specs.Holds.{StateHolds}
 use Rattle.mm_moving.specs.Doing.{walk_of}
 use Rattle.mm_paged.specs.Pieces.{Went, LifeKept}
-use Rattle.mm_paged.specs.Shown.{OwnOf, Kept, report_of, store_of, behind_of}
-use Rattle.mm_paged.specs.Started.{Begun, IsBeingRead, is_copy, ready_after}
+use Rattle.mm_paged.specs.Shown.{OwnOf, StoreKept, report_of, store_of, behind_of}
+use Rattle.mm_paged.specs.Started.{AccessBegun, IsBeingRead, needs_copy, ready_after}
 use Rattle.mm_paged.proofs.Ending.{aim_at}
 use Rattle.mm_paged.proofs.Keeping.{kept_all, blocks_kept}
 use Rattle.mm_paged.proofs.Quiet.{Rests, rests_through, thread_touches}
@@ -42,13 +42,13 @@ use Rattle.mm_types.proofs.Booleans.{or_true, both}
 
 -- ---- what stays
 
-went_plain : (n : Need) (k : Key) (place : Place) (r : Start) (s y : StateOf) → Begun n k place r s y → Went (aim_at false k place s) 1 s y
+went_plain : (n : Need) (k : Key) (place : Place) (r : Start) (s y : StateOf) → AccessBegun n k place r s y → Went (aim_at false k place s) 1 s y
 went_plain n k place r s y h = h.went (aim_at false k place s) (record { at = refl; needs = refl; from = refl })
 
-pub begun_rests : (n : Need) (k : Key) (place : Place) (r : Start) (s y : StateOf) → Begun n k place r s y → is_thread s.life.kind ≡ true → s.told.search_writes ≡ no_calls → Rests s y
+pub begun_rests : (n : Need) (k : Key) (place : Place) (r : Start) (s y : StateOf) → AccessBegun n k place r s y → is_thread s.life.kind ≡ true → s.told.search_writes ≡ no_calls → Rests s y
 begun_rests n k place r s y h t e = let w = went_plain n k place r s y h in rests_through (aim_at false k place s) w.moves s y w.does w.each t e
 
-begun_life : (n : Need) (k : Key) (place : Place) (r : Start) (s y : StateOf) → Begun n k place r s y → LifeKept s.life y.life
+begun_life : (n : Need) (k : Key) (place : Place) (r : Start) (s y : StateOf) → AccessBegun n k place r s y → LifeKept s.life y.life
 begun_life n k place r s y h = let w = went_plain n k place r s y h in kept_all (aim_at false k place s) w.moves (walk_of s) y.life refl w.each w.does.replays
 
 -- ---- what the store shows
@@ -57,7 +57,7 @@ begun_life n k place r s y h = let w = went_plain n k place r s y h in kept_all 
 abbrev pub waiting : StateOf → (ℕ → Waiting) → StateOf
 waiting y w = record y { waits = w }
 
-shown_started : (n : Need) (k : Key) (place : Place) (r : Start) (s y : StateOf) (w : ℕ → Waiting) (o u : OwnOf) → Begun n k place r s y → is_thread s.life.kind ≡ true → s.told.search_writes ≡ no_calls → Holds s → Holds (waiting y w)
+shown_started : (n : Need) (k : Key) (place : Place) (r : Start) (s y : StateOf) (w : ℕ → Waiting) (o u : OwnOf) → AccessBegun n k place r s y → is_thread s.life.kind ≡ true → s.told.search_writes ≡ no_calls → StateHolds s → StateHolds (waiting y w)
     → u.extended ≡ o.extended → u.blocks_used ≡ o.blocks_used → store_of (waiting y w) u ≡ started (store_of s o) (store_of (waiting y w) u)
 shown_started n k place r s y w o u h t e hs hz ext used = λ i. record {
   machine = life.machine i;
@@ -100,10 +100,10 @@ shown_started n k place r s y w o u h t e hs hz ext used = λ i. record {
     moves : Went (aim_at false k place s) 1 s y
     moves = went_plain n k place r s y h
 
-pub started_store : (n : Need) (k : Key) (place : Place) (r : Start) (s y z : StateOf) (w : ℕ → Waiting) (o u : OwnOf) → Begun n k place r s y → z ≡ waiting y w → is_thread s.life.kind ≡ true → s.told.search_writes ≡ no_calls → Holds s → Holds z
+pub started_store : (n : Need) (k : Key) (place : Place) (r : Start) (s y z : StateOf) (w : ℕ → Waiting) (o u : OwnOf) → AccessBegun n k place r s y → z ≡ waiting y w → is_thread s.life.kind ≡ true → s.told.search_writes ≡ no_calls → StateHolds s → StateHolds z
     → u.extended ≡ o.extended → u.blocks_used ≡ o.blocks_used → store_of z u ≡ started (store_of s o) (store_of z u)
 started_store n k place r s y z w o u h q t e hs hz ext used =
-    subst (λ (x : StateOf). store_of x u ≡ started (store_of s o) (store_of x u)) (sym q) (shown_started n k place r s y w o u h t e hs (subst (λ (x : StateOf). Holds x) q hz) ext used)
+    subst (λ (x : StateOf). store_of x u ≡ started (store_of s o) (store_of x u)) (sym q) (shown_started n k place r s y w o u h t e hs (subst (λ (x : StateOf). StateHolds x) q hz) ext used)
 
 -- ---- why it waits
 
@@ -126,25 +126,25 @@ pend_frame false false true d e f = cc
 pend_frame false false false d e f = ap (λ (x : Bool). if x then Some why.Frame else None) f
 
 -- a frame is still needed
-touch_needs : (k : Key) (y : StateOf) (u : OwnOf) → (is_framed (y.life.stands k) ≡ false) ⊎ (is_copy need.Touch ≡ true) → still_needs_frame (touch k) (report_of y u) ≡ true
+touch_needs : (k : Key) (y : StateOf) (u : OwnOf) → (is_framed (y.life.stands k) ≡ false) ⊎ (needs_copy need.Touch ≡ true) → still_needs_frame (touch k) (report_of y u) ≡ true
 touch_needs k y u (inl e) = ap (λ (b : Bool). not b || false) (unframed_has y.life (y.life.stands k) e)
 touch_needs k y u (inr e) = cc
 
-copy_needs : (k : Key) (place : Place) (y : StateOf) (u : OwnOf) → Holds y → y.contents (own_key place) ≡ None → still_needs_frame (copying k place) (report_of y u) ≡ true
+copy_needs : (k : Key) (place : Place) (y : StateOf) (u : OwnOf) → StateHolds y → y.contents (own_key place) ≡ None → still_needs_frame (copying k place) (report_of y u) ≡ true
 copy_needs k place y u h e =
     ap (λ (d : Held). still (where_of y.life d)) (stands_nowhere y (own_key place) h e) ∙ or_true (not (has_frame (where_of y.life (y.life.stands k))))
   where
     still : Option Whereabouts → Bool
     still w = not (has_frame (where_of y.life (y.life.stands k))) || not (not (is_none w))
 
-touch_pends : (k : Key) (place : Place) (r : Start) (w : Why) (s y : StateOf) (v : ℕ → Waiting) (o u : OwnOf) → Begun need.Touch k place r s y → r ≡ start.Pending w → pending s.life.machine.depth (touch k) (report_of s o) (report_of (waiting y v) u) ≡ Some w
+touch_pends : (k : Key) (place : Place) (r : Start) (w : Why) (s y : StateOf) (v : ℕ → Waiting) (o u : OwnOf) → AccessBegun need.Touch k place r s y → r ≡ start.Pending w → pending s.life.machine.depth (touch k) (report_of s o) (report_of (waiting y v) u) ≡ Some w
 touch_pends k place start.Ready w s y v o u h e = cc
 touch_pends k place (start.Pending why.Read) w s y v o u h e = pend_at_once _ _ _ _ why.Read (h.at_once o) ∙ ap reason e
 touch_pends k place (start.Pending why.Full) w s y v o u h e = pend_at_once _ _ _ _ why.Full (h.at_once o) ∙ ap reason e
 touch_pends k place (start.Pending why.Frame) w s y v o u h e =
     pend_frame _ _ _ _ (h.at_once o) (both _ _ (touch_needs k (waiting y v) u (h.wanting refl)) (shown_short (waiting y v) u ∙ h.short refl)) ∙ ap reason e
 
-copy_pends : (k : Key) (place : Place) (r : Start) (w : Why) (s y : StateOf) (v : ℕ → Waiting) (o u : OwnOf) → Begun need.Copy k place r s y → Holds (waiting y v) → s.contents (own_key place) ≡ None → r ≡ start.Pending w
+copy_pends : (k : Key) (place : Place) (r : Start) (w : Why) (s y : StateOf) (v : ℕ → Waiting) (o u : OwnOf) → AccessBegun need.Copy k place r s y → StateHolds (waiting y v) → s.contents (own_key place) ≡ None → r ≡ start.Pending w
     → pending s.life.machine.depth (copying k place) (report_of s o) (report_of (waiting y v) u) ≡ Some w
 copy_pends k place start.Ready w s y v o u h hz d e = cc
 copy_pends k place (start.Pending why.Read) w s y v o u h hz d e = pend_at_once _ _ _ _ why.Read (h.at_once o) ∙ ap reason e
@@ -152,10 +152,10 @@ copy_pends k place (start.Pending why.Full) w s y v o u h hz d e = pend_at_once 
 copy_pends k place (start.Pending why.Frame) w s y v o u h hz d e =
     pend_frame _ _ _ _ (h.at_once o) (both _ _ (copy_needs k place (waiting y v) u hz (ap (λ (x : StateOf). x.contents (own_key place)) h.same ∙ d)) (shown_short (waiting y v) u ∙ h.short refl)) ∙ ap reason e
 
-pub started_pends : (n : Need) (k : Key) (place : Place) (r : Start) (w : Why) (s y z : StateOf) (v : ℕ → Waiting) (o u : OwnOf) → Begun n k place r s y → z ≡ waiting y v → Holds z → (n ≡ need.Copy → s.contents (own_key place) ≡ None) → r ≡ start.Pending w
+pub started_pends : (n : Need) (k : Key) (place : Place) (r : Start) (w : Why) (s y z : StateOf) (v : ℕ → Waiting) (o u : OwnOf) → AccessBegun n k place r s y → z ≡ waiting y v → StateHolds z → (n ≡ need.Copy → s.contents (own_key place) ≡ None) → r ≡ start.Pending w
     → pending s.life.machine.depth (need_for n k place) (report_of s o) (report_of z u) ≡ Some w
 started_pends need.Touch k place r w s y z v o u h q hz d e = subst (λ (x : StateOf). pending s.life.machine.depth (touch k) (report_of s o) (report_of x u) ≡ Some w) (sym q) (touch_pends k place r w s y v o u h e)
-started_pends need.Copy k place r w s y z v o u h q hz d e = subst (λ (x : StateOf). pending s.life.machine.depth (copying k place) (report_of s o) (report_of x u) ≡ Some w) (sym q) (copy_pends k place r w s y v o u h (subst (λ (x : StateOf). Holds x) q hz) (d refl) e)
+started_pends need.Copy k place r w s y z v o u h q hz d e = subst (λ (x : StateOf). pending s.life.machine.depth (copying k place) (report_of s o) (report_of x u) ≡ Some w) (sym q) (copy_pends k place r w s y v o u h (subst (λ (x : StateOf). StateHolds x) q hz) (d refl) e)
 
 -- ---- the wait
 
@@ -166,7 +166,7 @@ wait_is k (start.Pending why.Frame) y h = refl
 wait_is k (start.Pending why.Full) y h = refl
 
 -- a page that is waited for is being read
-pub started_awaited : (n : Need) (k : Key) (place : Place) (r : Start) (s y z : StateOf) (w : ℕ → Waiting) (u : OwnOf) → Begun n k place r s y → z ≡ waiting y w → r ≡ start.Pending why.Read → (report_of z u).whereabouts k ≡ Some BeingRead
+pub started_awaited : (n : Need) (k : Key) (place : Place) (r : Start) (s y z : StateOf) (w : ℕ → Waiting) (u : OwnOf) → AccessBegun n k place r s y → z ≡ waiting y w → r ≡ start.Pending why.Read → (report_of z u).whereabouts k ≡ Some BeingRead
 started_awaited n k place r s y z w u h q e =
     let read = h.reading e in
     ap (λ (x : StateOf). (report_of x u).whereabouts k) q ∙ ap (where_of y.life) read.1 ∙ ap (λ (b : Bool). Some (if b then BeingRead else InFrame)) read.2
@@ -176,7 +176,7 @@ wait_set true v x p q e f = e
 wait_set false v x p q e f = ap wait_of f
 
 -- the thread's wait, and no other, has changed
-pub started_waits : (n : Need) (k : Key) (place : Place) (r : Start) (tid : ℕ) (s y z : StateOf) (o u : OwnOf) → Begun n k place r s y → z ≡ waiting y (changed ◌==◌ y.waits tid (wait_begun r (y.life.stands k))) → is_thread s.life.kind ≡ true → s.told.search_writes ≡ no_calls
+pub started_waits : (n : Need) (k : Key) (place : Place) (r : Start) (tid : ℕ) (s y z : StateOf) (o u : OwnOf) → AccessBegun n k place r s y → z ≡ waiting y (changed ◌==◌ y.waits tid (wait_begun r (y.life.stands k))) → is_thread s.life.kind ≡ true → s.told.search_writes ≡ no_calls
     → (report_of z u).wait ≡ changed ◌==◌ (report_of s o).wait tid (wait_after r)
 started_waits n k place r tid s y z o u h q t e =
     ap (λ (x : StateOf). (report_of x u).wait) q
@@ -191,7 +191,7 @@ need_key need.Copy k place = refl
 abbrev aim_for : Bool → Need → Key → Place → StateOf → Aim
 aim_for w n k place s = record { place = place; need = need_for n k place; writes = w; start = s.life }
 
-pub started_passes : (writes : Bool) (n : Need) (k : Key) (place : Place) (r : Start) (tid : ℕ) (s y z : StateOf) (o u : OwnOf) → Begun n k place r s y → z ≡ waiting y (changed ◌==◌ y.waits tid (wait_begun r (y.life.stands k)))
+pub started_passes : (writes : Bool) (n : Need) (k : Key) (place : Place) (r : Start) (tid : ℕ) (s y z : StateOf) (o u : OwnOf) → AccessBegun n k place r s y → z ≡ waiting y (changed ◌==◌ y.waits tid (wait_begun r (y.life.stands k)))
     → Passes (Starts (record { place = place; need = need_for n k place; writes = writes; start = s.life }) tid r) (store_of s o) (store_of z u) (behind_of s) (behind_of z)
 started_passes writes n k place r tid s y z o u h q =
     let p : Went (aim_for writes n k place s) 1 s y = h.went (aim_for writes n k place s) (record { at = refl; needs = need_key n k place; from = refl }) in
@@ -232,12 +232,12 @@ ready_is start.Ready n k place x e = (refl, sym (some_same e))
     some_same {a} {b} e = ap (out a) e
 ready_is (start.Pending w) n k place x e = cc
 
-copy_needed : (n : Need) (k : Key) (place : Place) → is_some (need_for n k place).copy ≡ true → is_copy n ≡ true
+copy_needed : (n : Need) (k : Key) (place : Place) → is_some (need_for n k place).copy ≡ true → needs_copy n ≡ true
 copy_needed need.Touch k place e = e
 copy_needed need.Copy k place e = refl
 
-pub started_kept : (n : Need) (k : Key) (place : Place) (r : Start) (s y z : StateOf) (w : ℕ → Waiting) (o u : OwnOf) → Begun n k place r s y → z ≡ waiting y w → is_thread s.life.kind ≡ true → Kept s o → u.ready ≡ ready_after r n k place → u.blocks_used ≡ o.blocks_used → Kept z u
-started_kept n k place r s y z w o u h q t kept e used = subst (λ (x : StateOf). Kept x u) (sym q) (record {
+pub started_kept : (n : Need) (k : Key) (place : Place) (r : Start) (s y z : StateOf) (w : ℕ → Waiting) (o u : OwnOf) → AccessBegun n k place r s y → z ≡ waiting y w → is_thread s.life.kind ≡ true → StoreKept s o → u.ready ≡ ready_after r n k place → u.blocks_used ≡ o.blocks_used → StoreKept z u
+started_kept n k place r s y z w o u h q t kept e used = subst (λ (x : StateOf). StoreKept x u) (sym q) (record {
   own = ap (λ (x : StateOf). x.own) h.same ∙ kept.own;
   aside = ap (λ (x : StateOf). x.aside) h.same ∙ kept.aside;
   ready = λ x f. let is = ready_is r n k place x (sym e ∙ f) in ap (λ (a : Ready). is_some (y.life.valid a.place)) is.1 ∙ h.valid is.0;

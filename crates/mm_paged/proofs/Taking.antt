@@ -23,16 +23,16 @@ use Rattle.mm_life.specs.Legal.{IsLegal, is_touch, is_access, is_io, is_zero}
 use Rattle.mm_life.specs.Effect.{after_move, homed}
 use Rattle.mm_pages.specs.Accesses.{Aim, AccessMove}
 use Rattle.mm_life.specs.Walks.{Walk, Through, walked}
-use Rattle.mm_moving.specs.Shown.{StateOf, Made, Called, SomeFault, called, moved}
-use Rattle.mm_moving.specs.Holds.{Holds}
-use Rattle.mm_parts.specs.Moves.{read_end, own_after, own_ended, front, front_for_read}
+use Rattle.mm_moving.specs.Shown.{StateOf, Made, DeviceCalled, SomeFault, moved_with_call, moved}
+use Rattle.mm_moving.specs.Holds.{StateHolds}
+use Rattle.mm_parts.specs.Moves.{end_of_read, own_after, own_ended, front, front_for_read}
 use Rattle.mm_parts.specs.Shown.{is_own_line}
-use Rattle.mm_paged.specs.Pieces.{Went, Stuck, Took, Missed, walk_at, IsFor, ReadsIn, ReadsFor, Fails, InFrame}
+use Rattle.mm_paged.specs.Pieces.{Went, Stuck, TookFrame, Missed, walk_at, IsFor, ReadsIn, ReadsFor, Fails, InQuietFrame}
 use Rattle.mm_paged.proofs.Records.{got_quiet, read_begun}
 use Rattle.mm_moving.proofs.Doing.{does_one, does_two, does_then}
 use Rattle.mm_paged.proofs.Doing.{walked_to}
 
-pub went_give : (a : Aim) (f : Frame) (k : Key) (s z : StateOf) → Made (move.Give f k) s z → IsFor a k → Took a 0 s z
+pub went_give : (a : Aim) (f : Frame) (k : Key) (s z : StateOf) → Made (move.Give f k) s z → IsFor a k → TookFrame a 0 s z
 went_give a f k s z m h = record {
   moves = move.Give f k ∷ [];
   does = does_one (move.Give f k) s z m;
@@ -56,7 +56,7 @@ cleared_first l m f e h = ap (λ (x : FrameLife). front x.frames.zeroed) e ∙ a
 pub stolen_first : (l m : FrameLife) (f : Frame) → m ≡ after_move l (move.Steal f) → is_empty l.frames.free ≡ true → front m.frames.free ≡ f
 stolen_first l m f e h = ap (λ (x : FrameLife). front x.frames.free) e ∙ ap (λ (xs : List ℕ). front (xs ++ f.0 ∷ [])) (nothing_in l.frames.free h)
 
-pub went_clear_give : (a : Aim) (g : Frame) (k : Key) (s y z : StateOf) → is_empty s.life.frames.zeroed ≡ true → Made (move.Clear (front s.life.frames.free)) s y → g ≡ front y.life.frames.zeroed → Made (move.Give g k) y z → IsFor a k → Took a 0 s z
+pub went_clear_give : (a : Aim) (g : Frame) (k : Key) (s y z : StateOf) → is_empty s.life.frames.zeroed ≡ true → Made (move.Clear (front s.life.frames.free)) s y → g ≡ front y.life.frames.zeroed → Made (move.Give g k) y z → IsFor a k → TookFrame a 0 s z
 went_clear_give a g k s y z none c e m h = record {
   moves = move.Clear (front s.life.frames.free) ∷ move.Give g k ∷ [];
   does = does_two (move.Clear (front s.life.frames.free)) (move.Give g k) s y z c m;
@@ -70,7 +70,7 @@ stolen_walk : (t : List ℕ) (s y : StateOf) → Made (move.Steal (front s.life.
 stolen_walk t s y p = ap (λ (w : Walk). record { life = w.life; ages = w.ages; tried = t }) (walked_to (move.Steal (front s.life.frames.standby) ∷ []) s y (does_one (move.Steal (front s.life.frames.standby)) s y p) refl)
 
 pub went_steal_give : (a : Aim) (g : Frame) (k : Key) (s x y z : StateOf) → is_empty s.life.frames.zeroed ≡ true → is_empty s.life.frames.free ≡ true
-    → Made (move.Steal (front s.life.frames.standby)) s x → Made (move.Clear (front x.life.frames.free)) x y → g ≡ front y.life.frames.zeroed → Made (move.Give g k) y z → IsFor a k → Took a 0 s z
+    → Made (move.Steal (front s.life.frames.standby)) s x → Made (move.Clear (front x.life.frames.free)) x y → g ≡ front y.life.frames.zeroed → Made (move.Give g k) y z → IsFor a k → TookFrame a 0 s z
 went_steal_give a g k s x y z none none_free p c e m h =
     let d = front s.life.frames.standby in
     let f = front x.life.frames.free in
@@ -107,7 +107,7 @@ first_snoc : (xs : List ℕ) (f : ℕ) → is_first (front (xs ++ f ∷ [])).0 (
 first_snoc [] f = grind arith
 first_snoc (x ∷ xs) f = grind arith
 
-pub give_legal : (k : Key) (s x y : StateOf) → Holds s → is_touch s.life.kind ≡ true → is_zero (s.life.stands k) ≡ true
+pub give_legal : (k : Key) (s x y : StateOf) → StateHolds s → is_touch s.life.kind ≡ true → is_zero (s.life.stands k) ≡ true
     → Made (move.Steal (front s.life.frames.standby)) s x → Made (move.Clear (front x.life.frames.free)) x y → IsLegal (move.Give (front y.life.frames.zeroed) k) y.life
 give_legal k s x y h t z p c =
     let zero : is_zero (y.life.stands k) ≡ true = ap (λ (l : FrameLife). is_zero (l.stands k)) c.life ∙ stolen_stays is_zero s.life x.life (front s.life.frames.standby) k refl (λ g o e. h.of_frame o g e) p.life z in
@@ -121,7 +121,7 @@ give_legal k s x y h t z p c =
 got_there : (f : Frame) (k j : Key) (l m : FrameLife) → m ≡ after_move l (move.Read f k) → (record_at m.frames f.0).owner ≡ Some k → j ≡ k → (record_at (after_move l (move.Read f k)).frames f.0).owner ≡ Some j
 got_there f k j l m e o q = ap (λ (x : FrameLife). (record_at x.frames f.0).owner) (sym e) ∙ o ∙ ap (λ (x : Key). Some x) (sym q)
 
-pub went_read : (a : Aim) (f : Frame) (k : Key) (s z : StateOf) → ReadsIn k f true s z → ReadsFor a k → Took a 1 s z
+pub went_read : (a : Aim) (f : Frame) (k : Key) (s z : StateOf) → ReadsIn k f true s z → ReadsFor a k → TookFrame a 1 s z
 went_read a f k s z r h = record {
   moves = move.Read f k ∷ move.Got f ∷ [];
   does = does_two (move.Read f k) (move.Got f) s r.mid z r.begins r.ends;
@@ -148,7 +148,7 @@ front_read l m d e h = ap front_for_read e ∙ at l.frames.free h
     at (x ∷ xs) q = cc
 
 -- the frame was taken from standby
-pub went_steal_read : (a : Aim) (f : Frame) (k : Key) (s y z : StateOf) → is_empty s.life.frames.free ≡ true → Made (move.Steal (front s.life.frames.standby)) s y → f ≡ front_for_read y.life → ReadsIn k f true y z → ReadsFor a k → Took a 1 s z
+pub went_steal_read : (a : Aim) (f : Frame) (k : Key) (s y z : StateOf) → is_empty s.life.frames.free ≡ true → Made (move.Steal (front s.life.frames.standby)) s y → f ≡ front_for_read y.life → ReadsIn k f true y z → ReadsFor a k → TookFrame a 1 s z
 unfolding went_read
 went_steal_read a f k s y z none p e r h =
     let d = front s.life.frames.standby in
@@ -199,7 +199,7 @@ stuck_bad a f k s z m o h = record {
   starved = λ e. cc;
 }
 
-fault_of : (b : Backing) (s z : StateOf) → is_backed b ≡ true → Called way.Read b false s z → SomeFault s z
+fault_of : (b : Backing) (s z : StateOf) → is_backed b ≡ true → DeviceCalled way.Read b false s z → SomeFault s z
 fault_of backing.None s z h c = cc
 fault_of (backing.Slot t) s z h c = inl (serves_failed _ s.paging z.paging c.0 refl)
 fault_of (backing.Block t) s z h c = inr (serves_failed _ s.files z.files c.0 refl)
@@ -208,7 +208,7 @@ read_by : (a b : Bool) → IsTrue (a && b) → a ≡ true
 read_by true b h = refl
 read_by false b h = cc
 
-pub bad_fails : (f : Frame) (k : Key) (s z : StateOf) → Made (move.Bad f) s z → (record_at s.life.frames f.0).owner ≡ Some k → (is_read (record_at s.life.frames f.0).request ≡ true → is_backed (record_at s.life.frames f.0).backing ≡ true) → z ≡ called s z → Fails fault.Read k s z
+pub bad_fails : (f : Frame) (k : Key) (s z : StateOf) → Made (move.Bad f) s z → (record_at s.life.frames f.0).owner ≡ Some k → (is_read (record_at s.life.frames f.0).request ≡ true → is_backed (record_at s.life.frames f.0).backing ≡ true) → z ≡ moved_with_call s z → Fails fault.Read k s z
 bad_fails f k s z m o b e = record {
   read = λ h. ap (λ (t : Told). t.last_failed_read) m.told ∙ o;
   kept = λ h. cc;
@@ -222,24 +222,24 @@ bad_fails f k s z m o b e = record {
 
 -- ---- the line's own request has ended
 
-pub called_by_read : (s z : StateOf) (n : ℕ) → s.own ≡ None → z ≡ record (called s z) { own = own_ended s.own n; slots = s.slots; blocks = s.blocks } → z ≡ called s z
+pub called_by_read : (s z : StateOf) (n : ℕ) → s.own ≡ None → z ≡ record (moved_with_call s z) { own = own_ended s.own n; slots = s.slots; blocks = s.blocks } → z ≡ moved_with_call s z
 called_by_read s z n o e =
-    e ∙ ap (λ (x : Option Frame). record (called s z) { own = x; slots = s.slots; blocks = s.blocks }) (ap (λ (x : Option Frame). own_ended x n) o ∙ sym o)
-    ∙ ap (λ (x : List (List ℕ)). record (called s z) { slots = x; blocks = s.blocks }) (sym (ap (λ (x : StateOf). x.slots) e))
-    ∙ ap (λ (x : List (List ℕ)). record (called s z) { blocks = x }) (sym (ap (λ (x : StateOf). x.blocks) e))
+    e ∙ ap (λ (x : Option Frame). record (moved_with_call s z) { own = x; slots = s.slots; blocks = s.blocks }) (ap (λ (x : Option Frame). own_ended x n) o ∙ sym o)
+    ∙ ap (λ (x : List (List ℕ)). record (moved_with_call s z) { slots = x; blocks = s.blocks }) (sym (ap (λ (x : StateOf). x.slots) e))
+    ∙ ap (λ (x : List (List ℕ)). record (moved_with_call s z) { blocks = x }) (sym (ap (λ (x : StateOf). x.blocks) e))
 
 own_back : (b : Bool) (o : Option Frame) (f : Frame) → o ≡ None → own_ended (if b then Some f else o) f.0 ≡ None
 own_back true o f e = ap (λ (b : Bool). if b then None else Some f) ((unsigned_Decides f.0 f.0).1 refl)
 own_back false o f e = ap (λ (x : Option Frame). own_ended x f.0) e
 
 -- a read of the line began and ended
-pub read_called : (s y z : StateOf) (f : Frame) → s.own ≡ None → y ≡ record (moved s y) { own = own_after s.life.kind s.own f } → z ≡ record (called y z) { own = own_ended y.own f.0; slots = y.slots; blocks = y.blocks } → z ≡ called s z
+pub read_called : (s y z : StateOf) (f : Frame) → s.own ≡ None → y ≡ record (moved s y) { own = own_after s.life.kind s.own f } → z ≡ record (moved_with_call y z) { own = own_ended y.own f.0; slots = y.slots; blocks = y.blocks } → z ≡ moved_with_call s z
 read_called s y z f o b e =
-    let w : z ≡ record (called s z) { own = s.own; slots = s.slots; blocks = s.blocks } = e
-    ∙ ap (λ (x : StateOf). record (called x z) { own = own_ended x.own f.0; slots = x.slots; blocks = x.blocks }) b
-    ∙ ap (λ (x : Option Frame). record (called s z) { own = x; slots = s.slots; blocks = s.blocks }) (own_back (is_own_line s.life.kind) s.own f o ∙ sym o) in
-    w ∙ ap (λ (x : List (List ℕ)). record (called s z) { slots = x; blocks = s.blocks }) (sym (ap (λ (x : StateOf). x.slots) w))
-    ∙ ap (λ (x : List (List ℕ)). record (called s z) { blocks = x }) (sym (ap (λ (x : StateOf). x.blocks) w))
+    let w : z ≡ record (moved_with_call s z) { own = s.own; slots = s.slots; blocks = s.blocks } = e
+    ∙ ap (λ (x : StateOf). record (moved_with_call x z) { own = own_ended x.own f.0; slots = x.slots; blocks = x.blocks }) b
+    ∙ ap (λ (x : Option Frame). record (moved_with_call s z) { own = x; slots = s.slots; blocks = s.blocks }) (own_back (is_own_line s.life.kind) s.own f o ∙ sym o) in
+    w ∙ ap (λ (x : List (List ℕ)). record (moved_with_call s z) { slots = x; blocks = s.blocks }) (sym (ap (λ (x : StateOf). x.slots) w))
+    ∙ ap (λ (x : List (List ℕ)). record (moved_with_call s z) { blocks = x }) (sym (ap (λ (x : StateOf). x.blocks) w))
 
 read_stands : (k : Key) (f : Frame) (s y : StateOf) → Made (move.Read f k) s y → y.life.stands k ≡ held.Frame f
 read_stands k f s y m = ap (λ (l : FrameLife). l.stands k) m.life ∙ changed_here s.life.stands k (held.Frame f)
@@ -250,22 +250,22 @@ got_by true false c p q = q
 got_by false b c p q = cc
 
 -- a read of the line can be ended
-pub read_legal : (k : Key) (f : Frame) (s y : StateOf) → Holds y → Made (move.Read f k) s y → is_access s.life.kind ≡ true → IsLegal (move.Got f) y.life
+pub read_legal : (k : Key) (f : Frame) (s y : StateOf) → StateHolds y → Made (move.Read f k) s y → is_access s.life.kind ≡ true → IsLegal (move.Got f) y.life
 read_legal k f s y h m a = got_by (is_read (record_at y.life.frames f.0).request) (is_io y.life.kind) (is_access y.life.kind)
     (read_begun s.life y.life f k k m.life (h.owner k f (read_stands k f s y m))) (ap (λ (l : FrameLife). is_access l.kind) m.life ∙ a)
 
-pub reads_in : (k : Key) (f g : Frame) (ok : Bool) (s y z : StateOf) → f ≡ g → Holds y → Made (move.Read f k) s y → Made (read_end ok f) y z → ReadsIn k g ok s z
+pub reads_in : (k : Key) (f g : Frame) (ok : Bool) (s y z : StateOf) → f ≡ g → StateHolds y → Made (move.Read f k) s y → Made (end_of_read ok f) y z → ReadsIn k g ok s z
 reads_in k f g ok s y z e h m n = subst (λ (x : Frame). ReadsIn k x ok s z) e (record { mid = y; begins = m; ends = n; owner = h.owner k f (read_stands k f s y m) })
 
 -- the page is in its frame then
-pub in_frame_got : (k : Key) (f : Frame) (s z : StateOf) → s.life.stands k ≡ held.Frame f → Made (move.Got f) s z → InFrame k f z
+pub in_frame_got : (k : Key) (f : Frame) (s z : StateOf) → s.life.stands k ≡ held.Frame f → Made (move.Got f) s z → InQuietFrame k f z
 in_frame_got k f s z e m = record { stands = ap (λ (l : FrameLife). l.stands k) m.life ∙ e; quiet = got_quiet s.life z.life f m.life }
 
-pub read_in_frame : (k : Key) (f : Frame) (s y z : StateOf) → Made (move.Read f k) s y → Made (move.Got f) y z → InFrame k f z
+pub read_in_frame : (k : Key) (f : Frame) (s y z : StateOf) → Made (move.Read f k) s y → Made (move.Got f) y z → InQuietFrame k f z
 read_in_frame k f s y z m n = in_frame_got k f y z (read_stands k f s y m) n
 
-pub read_fails : (k : Key) (f : Frame) (s y z : StateOf) → Holds y → s.own ≡ None → Made (move.Read f k) s y → y ≡ record (moved s y) { own = own_after s.life.kind s.own f } → Made (move.Bad f) y z
-    → z ≡ record (called y z) { own = own_ended y.own f.0; slots = y.slots; blocks = y.blocks } → Fails fault.Read k s z
+pub read_fails : (k : Key) (f : Frame) (s y z : StateOf) → StateHolds y → s.own ≡ None → Made (move.Read f k) s y → y ≡ record (moved s y) { own = own_after s.life.kind s.own f } → Made (move.Bad f) y z
+    → z ≡ record (moved_with_call y z) { own = own_ended y.own f.0; slots = y.slots; blocks = y.blocks } → Fails fault.Read k s z
 read_fails k f s y z h o m b n e = record {
   read = λ q. ap (λ (t : Told). t.last_failed_read) n.told ∙ h.owner k f (read_stands k f s y m);
   kept = λ q. cc;

@@ -23,8 +23,8 @@ use Rattle.mm_pages.specs.Housekeeping.{Turn, Turns, OneMove, NoMove, Grows, Gro
 use Rattle.mm_pages.specs.Passing.{Passes, PassesIn, Notes}
 use Rattle.mm_pages.specs.Store.{changed}
 use Rattle.mm_pages.proofs.Passed.{turns_nothing}
-use Rattle.mm_moving.specs.Shown.{StateOf, Begins, moved, asked_to_grow}
-use Rattle.mm_moving.specs.Holds.{Holds}
+use Rattle.mm_moving.specs.Shown.{StateOf, GrowBegins, moved, asked_to_grow}
+use Rattle.mm_moving.specs.Holds.{StateHolds}
 use Rattle.mm_moving.proofs.Doing.{does_nothing}
 use Rattle.mm_paged.specs.Shown.{OwnOf, store_of, report_of, behind_of}
 
@@ -70,7 +70,7 @@ dead_is held.Zero e = cc
 dead_is held.Dead e = refl
 
 -- a key without bytes stands nowhere
-pub stands_nowhere : (s : StateOf) (k : Key) → Holds s → s.contents k ≡ None → s.life.stands k ≡ held.Dead
+pub stands_nowhere : (s : StateOf) (k : Key) → StateHolds s → s.contents k ≡ None → s.life.stands k ≡ held.Dead
 stands_nowhere s k h e = dead_is (s.life.stands k) (h.live k ∙ ap is_some e)
 
 -- ---- devices
@@ -91,21 +91,21 @@ forgot_passes s z o t e = none_passes (Forgets t) s z o o (record { none = refl;
 
 -- ---- the paging file grows
 
-begun_notes : (That : Behind → List Move → Behind → Type 0) (x : Move) (s z : StateOf) → Begins x s z → That (behind_of s) (x ∷ []) (behind_of z) → Notes That (behind_of s) (behind_of z)
+begun_notes : (That : Behind → List Move → Behind → Type 0) (x : Move) (s z : StateOf) → GrowBegins x s z → That (behind_of s) (x ∷ []) (behind_of z) → Notes That (behind_of s) (behind_of z)
 begun_notes That x s z b t = record { moves = x ∷ []; in_range = b.in_range; grew = b.grew; replays = (b.legal, b.life); that = t }
 
-pub grown_notes : (s z : StateOf) (line n : ℕ) → Begins (move.At line (kind.Grow n)) s z → z.slots ≡ s.slots ++ replicate n zero_page → Notes (Grows line n) (behind_of s) (behind_of z)
+pub grown_notes : (s z : StateOf) (line n : ℕ) → GrowBegins (move.At line (kind.Grow n)) s z → z.slots ≡ s.slots ++ replicate n zero_page → Notes (Grows line n) (behind_of s) (behind_of z)
 unfolding filled
 grown_notes s z line n b e = begun_notes (Grows line n) (move.At line (kind.Grow n)) s z b (record { one = refl; moved = record { waits = b.waits; ages = b.ages }; slots = e })
 
-pub failed_notes : (s z : StateOf) (line : ℕ) → Begins (move.At line kind.Call) s z → z.slots ≡ s.slots → Notes (OneMove (move.At line kind.Call)) (behind_of s) (behind_of z)
+pub failed_notes : (s z : StateOf) (line : ℕ) → GrowBegins (move.At line kind.Call) s z → z.slots ≡ s.slots → Notes (OneMove (move.At line kind.Call)) (behind_of s) (behind_of z)
 failed_notes s z line b e = begun_notes (OneMove (move.At line kind.Call)) (move.At line kind.Call) s z b (record { one = refl; moved = record { waits = b.waits; ages = b.ages }; slots = e })
 
 pub memory_notes : (s z : StateOf) → z ≡ s → Notes NoMove (behind_of s) (behind_of z)
 memory_notes s z e = subst (λ (x : StateOf). Notes NoMove (behind_of s) (behind_of x)) (sym e) (record { moves = []; in_range = tt; grew = (does_nothing s).grew; replays = refl; that = record { none = refl; same = refl } })
 
-pub notes_by : {T : Type 0} (r : Result T GrowFault) (s z : StateOf) (line n : ℕ) → OnOk r (Begins (move.At line (kind.Grow n)) s z) → OnOk r (z ≡ record (moved s z) { slots = s.slots ++ replicate n zero_page })
-    → (IsErrOf r grow_fault.Failed → Begins (move.At line kind.Call) s z) → (IsErrOf r grow_fault.Failed → z ≡ record (moved s z) { paging = asked_to_grow s.paging z.paging }) → (IsErrOf r grow_fault.Memory → z ≡ s)
+pub notes_by : {T : Type 0} (r : Result T GrowFault) (s z : StateOf) (line n : ℕ) → OnOk r (GrowBegins (move.At line (kind.Grow n)) s z) → OnOk r (z ≡ record (moved s z) { slots = s.slots ++ replicate n zero_page })
+    → (IsErrOf r grow_fault.Failed → GrowBegins (move.At line kind.Call) s z) → (IsErrOf r grow_fault.Failed → z ≡ record (moved s z) { paging = asked_to_grow s.paging z.paging }) → (IsErrOf r grow_fault.Memory → z ≡ s)
     → Notes (GrowsAs line n r) (behind_of s) (behind_of z)
 notes_by (Ok v) s z line n a e f k m = grown_notes s z line n a (ap (λ (x : StateOf). x.slots) e)
 notes_by (Err grow_fault.Failed) s z line n a e f k m = failed_notes s z line (f refl) (ap (λ (x : StateOf). x.slots) (k refl))

@@ -31,8 +31,8 @@ use Rattle.mm_pages.specs.Shortage.{is_framed}
 use Rattle.mm_pages.specs.Standing.{where_of, block_at, backed_by, in_backing}
 use Rattle.mm_pages.specs.Told.{Told}
 use Rattle.mm_life.specs.Waits.{Waiting}
-use Rattle.mm_moving.specs.Shown.{StateOf, moved, called}
-use Rattle.mm_moving.specs.Holds.{Holds}
+use Rattle.mm_moving.specs.Shown.{StateOf, moved, moved_with_call}
+use Rattle.mm_moving.specs.Holds.{StateHolds}
 use Rattle.mm_moving.proofs.Doing.{does_one}
 use Rattle.mm_paged.specs.Pieces.{Soils, Was, Is}
 use Rattle.mm_paged.specs.Shown.{OwnOf, store_of, report_of, behind_of}
@@ -192,7 +192,7 @@ soils_told : (f : Frame) (s y : StateOf) → Soils f s y → y.told ≡ s.told
 soils_told f s y (Was e) = ap (λ (x : StateOf). x.told) e
 soils_told f s y (Is m e) = m.told
 
-pub wrote_ends : (k : Key) (f : Frame) (place : Place) (s y z : StateOf) (o : OwnOf) (a : Place → ℕ) (c : Key → Option (List ℕ)) → Holds s → s.life.valid place ≡ Some f → (s.names place ≡ None) ⊎ (s.names place ≡ Some k) → Soils f s y
+pub wrote_ends : (k : Key) (f : Frame) (place : Place) (s y z : StateOf) (o : OwnOf) (a : Place → ℕ) (c : Key → Option (List ℕ)) → StateHolds s → s.life.valid place ≡ Some f → (s.names place ≡ None) ⊎ (s.names place ≡ Some k) → Soils f s y
     → z ≡ record y { ages = a; contents = c } → IsBegun (report_of s o) → Ends {T = Unit {0}} (touch k) (report_of z o) (Ok tt)
 wrote_ends k f place s y z o a c h v n p e b =
     had_ends k z o (ap (λ (x : StateOf). x.told.last_failed_read) e ∙ ap (λ (t : Told). t.last_failed_read) (soils_told f s y p) ∙ b.no_failed_read)
@@ -205,7 +205,7 @@ pub soils_names : (f : Frame) (s y : StateOf) → Soils f s y → y.names ≡ s.
 soils_names f s y h = ap (λ (x : StateOf). x.names) (soiled_all f s y h).same
 
 -- a place that is valid names its page
-pub named_here : (k : Key) (f : Frame) (place : Place) (s : StateOf) → Holds s → s.life.valid place ≡ Some f → (s.names place ≡ None) ⊎ (s.names place ≡ Some k) → s.names place ≡ Some k
+pub named_here : (k : Key) (f : Frame) (place : Place) (s : StateOf) → StateHolds s → s.life.valid place ≡ Some f → (s.names place ≡ None) ⊎ (s.names place ≡ Some k) → s.names place ≡ Some k
 named_here k f place s h v n = named_by (s.names place) k (h.owned place f v) n
 
 -- the bytes that were written, in the words of worlds
@@ -222,7 +222,7 @@ written_in k f off bytes s y z a c h r w =
     w ∙ ap (λ (g : Key → Option (List ℕ)). changed same_key g k (Some (overwritten (unwrap_or (g k) zero_page) off bytes))) (soils_contents f s y h) ∙ filled_in k off bytes s.contents
 
 -- the same of a page that was brought first
-pub brought_written : (k : Key) (off : ℕ) (bytes : List ℕ) (s y z : StateOf) (a : Place → ℕ) (c : Key → Option (List ℕ)) → y ≡ record (called s y) { names = y.names } → z ≡ record y { ages = a; contents = c } → z.contents ≡ changed same_key y.contents k (Some (overwritten (unwrap_or (y.contents k) zero_page) off bytes))
+pub brought_written : (k : Key) (off : ℕ) (bytes : List ℕ) (s y z : StateOf) (a : Place → ℕ) (c : Key → Option (List ℕ)) → y ≡ record (moved_with_call s y) { names = y.names } → z ≡ record y { ages = a; contents = c } → z.contents ≡ changed same_key y.contents k (Some (overwritten (unwrap_or (y.contents k) zero_page) off bytes))
     → z.contents ≡ changed same_in_world s.contents k (Some (written (unwrap_or (s.contents k) (filled 0)) off bytes))
 brought_written k off bytes s y z a c e r w =
     w ∙ ap (λ (g : Key → Option (List ℕ)). changed same_key g k (Some (overwritten (unwrap_or (g k) zero_page) off bytes))) (ap (λ (x : StateOf). x.contents) e) ∙ filled_in k off bytes s.contents

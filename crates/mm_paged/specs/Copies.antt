@@ -18,9 +18,9 @@ use Rattle.mm_pages.specs.Accesses.{Aim}
 use Rattle.mm_pages.specs.Reports.{no_calls}
 use Rattle.mm_pages.specs.Shortage.{is_framed}
 use Rattle.mm_parts.specs.Moves.{front}
-use Rattle.mm_moving.specs.Shown.{StateOf, Made, called, SomeFault}
+use Rattle.mm_moving.specs.Shown.{StateOf, Made, moved_with_call, SomeFault}
 use Rattle.mm_moving.specs.Doing.{IsFlightOf}
-use Rattle.mm_paged.specs.Pieces.{Went, Stuck, Sought, Took, Calm, InFrame, LifeKept}
+use Rattle.mm_paged.specs.Pieces.{Went, Stuck, Sought, TookFrame, Calm, InQuietFrame, LifeKept}
 
 -- the access begins here, at this place, for this page
 pub record Reaches (a : Aim) (k : Key) (place : Place) (s : StateOf) : Type 0 where
@@ -51,7 +51,7 @@ pub record Readied (k : Key) (f : Frame) (place : Place) (s z : StateOf) : Type 
   pub calm : Calm s z
   pub names : (z.names ≡ s.names) ⊎ (z.names ≡ changed same_place s.names place (Some k))
   pub still : is_some (s.life.valid place) ≡ true → z ≡ s
-  pub same : z ≡ record (called s z) { names = z.names }
+  pub same : z ≡ record (moved_with_call s z) { names = z.names }
 
 -- an access that makes a copy, at a place that is valid for the page copied from, in this frame
 pub record Pins (a : Aim) (place : Place) (f : Frame) (s : StateOf) : Type 0 where
@@ -67,7 +67,7 @@ pub record Spares (pinned : Frame) (s z : StateOf) : Type 0 where
   pub stands : z.life.stands ≡ s.life.stands
   pub valid : (p : Place) → s.life.valid p ≡ Some pinned → z.life.valid p ≡ Some pinned
   pub read : z.told.last_failed_read ≡ s.told.last_failed_read
-  pub same : z ≡ called s z
+  pub same : z ≡ moved_with_call s z
 
 -- a search found no frame, by the report
 pub record Lacks (s z : StateOf) : Type 0 where
@@ -95,7 +95,7 @@ pub record Copied (k : Key) (place : Place) (s z : StateOf) : Type 0 where
   pub contents : z.contents ≡ changed same_key s.contents (key_of_place place) (s.contents k)
   pub framed : is_framed (z.life.stands k) ≡ true
   pub read : z.told.last_failed_read ≡ s.told.last_failed_read
-  pub same : z ≡ record (called s z) { names = z.names; contents = z.contents }
+  pub same : z ≡ record (moved_with_call s z) { names = z.names; contents = z.contents }
 
 -- why there is no copy, by the report: the read of the page copied from, or a search
 pub record FailsToCopy (why : PageFault) (k : Key) (s z : StateOf) : Type 0 where
@@ -168,16 +168,17 @@ pub record NoneBeside (pinned : Frame) (e : PageFault) (s z : StateOf) : Type 0 
 
 -- the place's own page came to be beside the tables, and has this frame
 pub record CopyGiven (place : Place) (f : Frame) (s z : StateOf) : Type 0 where
-  pub took : (a : Aim) → a.need.copy ≡ Some (key_of_place place) → Took a 0 s z
+  pub took : (a : Aim) → a.need.copy ≡ Some (key_of_place place) → TookFrame a 0 s z
   pub life : KeyAdded (key_of_place place) s.life z.life
   pub valid : z.life.valid ≡ s.life.valid
   pub names : z.names ≡ s.names
   pub aside : z.aside ≡ Some place
   pub contents : z.contents ≡ changed same_key s.contents (key_of_place place) (Some zero_page)
   pub read : z.told.last_failed_read ≡ s.told.last_failed_read
-  pub frame : InFrame (key_of_place place) f z
+  pub frame : InQuietFrame (key_of_place place) f z
   pub soiled : IsSoiled (record_at z.life.frames f.0)
-  pub same : z ≡ record (called s z) { names = z.names; aside = z.aside; contents = z.contents }
+  pub same : z ≡ record (moved_with_call s z)
+      { names = z.names; aside = z.aside; contents = z.contents }
 
 -- the place's own page became valid there, in the place of the page that it is a copy of
 pub record CopyPut (place : Place) (f : Frame) (s z : StateOf) : Type 0 where
@@ -191,7 +192,7 @@ pub record CopyPut (place : Place) (f : Frame) (s z : StateOf) : Type 0 where
   pub names : z.names ≡ changed same_place s.names place (Some (key_of_place place))
   pub aside : z.aside ≡ None
   pub told : z.told ≡ s.told
-  pub same : z ≡ record (called s z) { names = z.names; aside = None }
+  pub same : z ≡ record (moved_with_call s z) { names = z.names; aside = None }
 
 -- a page was copied to the place's own
 pub record CopiesPage (k : Key) (place : Place) (s z : StateOf) : Type 0 where
@@ -205,4 +206,4 @@ pub record FailsToCopyPage (k : Key) (place : Place) (e : PageFault) (s z : Stat
   pub life : LifeKept s.life z.life
   pub names : (z.names ≡ s.names) ⊎ (z.names ≡ changed same_place s.names place (Some k))
   pub fails : FailsToCopy e k s z
-  pub same : z ≡ record (called s z) { names = z.names }
+  pub same : z ≡ record (moved_with_call s z) { names = z.names }

@@ -16,9 +16,9 @@ use Rattle.mm_pages.specs.Reports.{no_calls}
 use Rattle.mm_pages.specs.Shortage.{is_framed}
 use Rattle.mm_parts.specs.Holds.{HasSet}
 use Rattle.mm_parts.specs.Moves.{front_for_read}
-use Rattle.mm_moving.specs.Shown.{StateOf, called}
+use Rattle.mm_moving.specs.Shown.{StateOf, moved_with_call}
 use Rattle.mm_moving.specs.Doing.{IsFlightOf}
-use Rattle.mm_paged.specs.Pieces.{Went, Stuck, Sought, Took, Missed, ReadsFor, IsFor, Begins, Keeps, Calm, NamesFor, Later, Placed, Fails, InFrame, ReadsIn}
+use Rattle.mm_paged.specs.Pieces.{Went, Stuck, Sought, TookFrame, Missed, ReadsFor, IsFor, AccessBegins, KeepsButNames, Calm, NamesFor, Later, Placed, Fails, InQuietFrame, ReadsIn}
 
 -- ---- what is asked
 
@@ -57,13 +57,13 @@ pub record MayFault (k : Key) (place : Place) (s : StateOf) : Type 0 where
 -- ---- a frame is given, or read into
 
 -- a demand-zero page got this frame: no device was called, and no place is valid that was not
-pub record Gives (k : Key) (f : Frame) (s z : StateOf) : Type 0 where
-  pub went : (a : Aim) → IsFor a k → Took a 0 s z
-  pub keeps : Keeps s z
+pub record GivesFrame (k : Key) (f : Frame) (s z : StateOf) : Type 0 where
+  pub went : (a : Aim) → IsFor a k → TookFrame a 0 s z
+  pub keeps : KeepsButNames s z
   pub stored : (z.slots ≡ s.slots) × (z.blocks ≡ s.blocks)
   pub calm : z.told ≡ record (s.told) { search_writes = no_calls }
   pub names : NamesFor k s z
-  pub frame : InFrame k f z
+  pub frame : InQuietFrame k f z
   pub flight : z.life.flight ≡ s.life.flight
   pub valid : z.life.valid ≡ s.life.valid
   -- a key beside the tables stays there
@@ -72,20 +72,20 @@ pub record Gives (k : Key) (f : Frame) (s z : StateOf) : Type 0 where
 
 -- what stays whatever comes of a read
 pub record KeepsNames (s z : StateOf) : Type 0 where
-  pub keeps : Keeps s z
+  pub keeps : KeepsButNames s z
   pub names : z.names ≡ s.names
 
 -- no search was begun since a frame was taken, and no read failed
-abbrev pub HasRead : StateOf → StateOf → Type 0
-HasRead s z = (z.told.search_writes ≡ no_calls) ×
+abbrev pub NoReadFailed : StateOf → StateOf → Type 0
+NoReadFailed s z = (z.told.search_writes ≡ no_calls) ×
     (z.told.last_failed_read ≡ s.told.last_failed_read)
 
 -- a page was read into the frame that a read takes first
 pub record ReadsWell (k : Key) (f : Frame) (s z : StateOf) : Type 0 where
   pub front : f ≡ front_for_read s.life
   pub read : ReadsIn k f true s z
-  pub calm : HasRead s z
-  pub frame : InFrame k f z
+  pub calm : NoReadFailed s z
+  pub frame : InQuietFrame k f z
   pub flight : IsFlightOf s.life.flight (Some f) z.life
 
 -- that read failed
@@ -96,9 +96,9 @@ pub record ReadsBadly (k : Key) (e : PageFault) (s z : StateOf) : Type 0 where
 
 -- a frame was taken, and a page read into it
 pub record TakesIn (k : Key) (f : Frame) (s z : StateOf) : Type 0 where
-  pub went : (a : Aim) → ReadsFor a k → Took a 1 s z
-  pub calm : HasRead s z
-  pub frame : InFrame k f z
+  pub went : (a : Aim) → ReadsFor a k → TookFrame a 1 s z
+  pub calm : NoReadFailed s z
+  pub frame : InQuietFrame k f z
   pub flight : IsFlightOf s.life.flight (Some f) z.life
 
 -- a frame was taken, and the read failed
@@ -110,10 +110,10 @@ pub record MissesIn (k : Key) (e : PageFault) (s z : StateOf) : Type 0 where
 -- ---- a page gets its frame
 
 -- a page that is in a frame can be used there: a read of it in flight has ended
-pub record Settles (k : Key) (f : Frame) (s z : StateOf) : Type 0 where
+pub record SettlesRead (k : Key) (f : Frame) (s z : StateOf) : Type 0 where
   pub went : (a : Aim) → a.need.key ≡ k → Went a 0 s z
   pub calm : Calm s z
-  pub frame : InFrame k f z
+  pub frame : InQuietFrame k f z
   pub flight : IsFlightOf s.life.flight (Some f) z.life
 
 -- that read failed
@@ -127,27 +127,27 @@ pub record SearchKeeps (s z : StateOf) : Type 0 where
   pub names : z.names ≡ s.names
   pub stands : z.life.stands ≡ s.life.stands
   pub later : Later s z
-  pub same : z ≡ called s z
+  pub same : z ≡ moved_with_call s z
 
 -- there is a frame to be taken now
-pub record Finds (k : Key) (s z : StateOf) : Type 0 where
+pub record FindsFrame (k : Key) (s z : StateOf) : Type 0 where
   pub some : is_short z.life ≡ false
-  pub went : (a : Aim) → Begins a k s → Sought a s z
-  pub keeps : Keeps s z
+  pub went : (a : Aim) → AccessBegins a k s → Sought a s z
+  pub keeps : KeepsButNames s z
   pub flight : IsFlightOf s.life.flight None z.life
 
 -- the page has a frame
 pub record Brings (k : Key) (f : Frame) (s z : StateOf) : Type 0 where
-  pub went : (a : Aim) → Begins a k s → Went a 1 s z
-  pub keeps : Keeps s z
+  pub went : (a : Aim) → AccessBegins a k s → Went a 1 s z
+  pub keeps : KeepsButNames s z
   pub calm : Calm s z
   pub names : NamesFor k s z
-  pub frame : InFrame k f z
+  pub frame : InQuietFrame k f z
   pub flight : IsFlightOf s.life.flight (Some f) z.life
 
 -- it has none, after at most so many reads
 pub record FailsToBring (k : Key) (e : PageFault) (reads : ℕ) (s z : StateOf) : Type 0 where
-  pub stuck : (a : Aim) → Begins a k s → Stuck a e reads s z
+  pub stuck : (a : Aim) → AccessBegins a k s → Stuck a e reads s z
   pub fails : Fails e k s z
 
 -- ---- it becomes valid
@@ -160,17 +160,17 @@ pub record Puts (k : Key) (f : Frame) (place : Place) (s z : StateOf) : Type 0 w
 
 -- a page that was not valid at a place is so now
 pub record Faults (k : Key) (place : Place) (s z : StateOf) : Type 0 where
-  pub went : (a : Aim) → a.place ≡ place → Begins a k s → Went a 1 s z
+  pub went : (a : Aim) → a.place ≡ place → AccessBegins a k s → Went a 1 s z
   pub calm : Calm s z
   pub kind : z.life.kind ≡ s.life.kind
   pub valid : IsSome (z.life.valid place)
-  pub frame : (f : Frame) × InFrame k f z
+  pub frame : (f : Frame) × InQuietFrame k f z
   pub names : z.names ≡ changed same_place s.names place (Some k)
   pub flight : (f : Frame) → z.life.valid place ≡ Some f → IsFlightOf s.life.flight (Some f) z.life
 
 -- and can be written
 pub record FaultsToWrite (k : Key) (place : Place) (s z : StateOf) : Type 0 where
-  pub went : (a : Aim) → a.place ≡ place → a.writes ≡ true → Begins a k s → Went a 1 s z
+  pub went : (a : Aim) → a.place ≡ place → a.writes ≡ true → AccessBegins a k s → Went a 1 s z
   pub calm : Calm s z
   pub framed : is_framed (z.life.stands k) ≡ true
   pub valid : IsSome (z.life.valid place)
@@ -179,4 +179,4 @@ pub record FaultsToWrite (k : Key) (place : Place) (s z : StateOf) : Type 0 wher
 
 -- nothing changed but what calls of devices and moves change, and names
 abbrev pub IsCalledOn : StateOf → StateOf → Type 0
-IsCalledOn s z = z ≡ record (called s z) { names = z.names }
+IsCalledOn s z = z ≡ record (moved_with_call s z) { names = z.names }

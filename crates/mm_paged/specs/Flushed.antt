@@ -15,12 +15,12 @@ use Rattle.mm_life.specs.Frames.{record_at, is_write, is_again}
 use Rattle.mm_pages.specs.Flushing.{FlushMoves, FlushedAt, ends_lost}
 use Rattle.mm_pages.specs.Standing.{stored_of}
 use Rattle.mm_parts.specs.Moves.{write_end}
-use Rattle.mm_moving.specs.Shown.{StateOf, backing_of_frame, called}
-use Rattle.mm_moving.specs.Doing.{Does}
+use Rattle.mm_moving.specs.Shown.{StateOf, backing_of_frame, moved_with_call}
+use Rattle.mm_moving.specs.Doing.{DoesMoves}
 use Rattle.mm_paged.specs.Pieces.{LifeKept}
 
 -- a page of a file is in this frame
-pub record Filed (f : Frame) (s : StateOf) : Type 0 where
+pub record HoldsFilePage (f : Frame) (s : StateOf) : Type 0 where
   pub key : Key
   pub stands : s.life.stands key ≡ held.Frame f
   pub block : Block
@@ -44,10 +44,10 @@ pub record WritesTo (b : Block) (ok : Bool) (s z : StateOf) : Type 0 where
 
 -- by these moves, and each page stands where it did
 pub record WritesBack (b : Block) (ok : Bool) (moves : List Move) (s z : StateOf) : Type 0 where
-  pub does : Does moves s z
+  pub does : DoesMoves moves s z
   pub life : LifeKept s.life z.life
   pub stands : z.life.stands ≡ s.life.stands
-  pub same : z ≡ called s z
+  pub same : z ≡ moved_with_call s z
   pub device : WritesTo b ok s z
 
 -- a write of a frame ends, where one is in flight

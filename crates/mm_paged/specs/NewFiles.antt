@@ -16,7 +16,7 @@ use Rattle.mm_pages.specs.Passing.{writes_from, last_write}
 use Rattle.mm_pages.specs.Store.{changed}
 use Rattle.mm_pages.specs.Tallies.{tallied}
 use Rattle.mm_moving.specs.Shown.{StateOf, moved}
-use Rattle.mm_moving.specs.Doing.{Does}
+use Rattle.mm_moving.specs.Doing.{DoesMoves}
 
 -- The first n blocks of a new file were written in order, block `first + i` with the byte `byte +
 -- i` throughout; or they were up to a write that failed. Nothing but the file device was changed,
@@ -54,7 +54,7 @@ with_pages area n value f (Shared a i) = if (a.0 == area) && nat_lt i n then val
 -- the first n pages of an area came to be, each in its block, the blocks from the first on
 pub record PagesAdded (area first n : ℕ) (s z : StateOf) : Type 0 where
   pub moves : List Move
-  pub does : Does moves s z
+  pub does : DoesMoves moves s z
   pub adds : Turned (MakesFrom 0 n) s.life moves
   pub life : z.life ≡ record s.life { stands = z.life.stands; added = z.life.added }
   pub stands : (k : Key) → z.life.stands k ≡ with_pages area n (λ i. held.Block (record {

@@ -30,14 +30,14 @@ use Rattle.mm_paged.specs.Shown.{OwnOf, store_of, behind_of}
 use Rattle.mm_life.specs.Legal.{fits_place}
 use Rattle.mm_pages.specs.Reports.{no_calls}
 use Rattle.mm_pages.specs.Shortage.{is_framed}
-use Rattle.mm_moving.specs.Shown.{StateOf, Made, moved, called, SomeFault}
-use Rattle.mm_moving.specs.Doing.{Does, walk_of}
-use Rattle.mm_parts.specs.Moves.{read_end}
+use Rattle.mm_moving.specs.Shown.{StateOf, Made, moved, moved_with_call, SomeFault}
+use Rattle.mm_moving.specs.Doing.{DoesMoves, walk_of}
+use Rattle.mm_parts.specs.Moves.{end_of_read}
 
 -- moves of an access, with at most so many reads, after which a new search would begin
 pub record Went (a : Aim) (reads : ℕ) (s z : StateOf) : Type 0 where
   pub moves : List Move
-  pub does : Does moves s z
+  pub does : DoesMoves moves s z
   pub each : Through (AccessMove a) (walk_of s) moves
   pub fresh : (walked_all (walk_of s) moves).tried ≡ []
   pub few_reads : count_by is_read_move moves ≤ reads
@@ -46,7 +46,7 @@ pub record Went (a : Aim) (reads : ℕ) (s z : StateOf) : Type 0 where
 -- the moves of an access that failed
 pub record Stuck (a : Aim) (why : PageFault) (reads : ℕ) (s z : StateOf) : Type 0 where
   pub moves : List Move
-  pub does : Does moves s z
+  pub does : DoesMoves moves s z
   pub each : Through (AccessMove a) (walk_of s) moves
   pub few_reads : count_by is_read_move moves ≤ reads
   pub few_writes : count_by is_wrote_move moves ≤ count_by takes_frame moves
@@ -59,15 +59,15 @@ walk_at tried s = record { life = s.life; ages = s.ages; tried = tried }
 -- the search of an access
 pub record Sought (a : Aim) (s z : StateOf) : Type 0 where
   pub moves : List Move
-  pub does : Does moves s z
+  pub does : DoesMoves moves s z
   pub each : Through (AccessMove a) (walk_of s) moves
   pub none : count_by is_read_move moves ≡ 0
   pub one : count_by is_wrote_move moves ≤ 1
 
 -- a frame is taken, whatever was tried in the search before
-pub record Took (a : Aim) (reads : ℕ) (s z : StateOf) : Type 0 where
+pub record TookFrame (a : Aim) (reads : ℕ) (s z : StateOf) : Type 0 where
   pub moves : List Move
-  pub does : Does moves s z
+  pub does : DoesMoves moves s z
   pub each : (t : List ℕ) → Through (AccessMove a) (walk_at t s) moves
   pub fresh : (t : List ℕ) → (walked_all (walk_at t s) moves).tried ≡ []
   pub few_reads : count_by is_read_move moves ≤ reads
@@ -76,7 +76,7 @@ pub record Took (a : Aim) (reads : ℕ) (s z : StateOf) : Type 0 where
 -- a frame is taken, and the read fails
 pub record Missed (a : Aim) (s z : StateOf) : Type 0 where
   pub moves : List Move
-  pub does : Does moves s z
+  pub does : DoesMoves moves s z
   pub each : (t : List ℕ) → Through (AccessMove a) (walk_at t s) moves
   pub few_reads : count_by is_read_move moves ≤ 1
   pub paid : count_by is_wrote_move moves + 1 ≤ count_by takes_frame moves
@@ -91,16 +91,16 @@ pub record ReadsFor (a : Aim) (k : Key) : Type 0 where
   pub absent : is_had a.start (a.start.stands k) ≡ false
 
 -- the access begins, for this page, at a place that is not valid
-pub record Begins (a : Aim) (k : Key) (s : StateOf) : Type 0 where
+pub record AccessBegins (a : Aim) (k : Key) (s : StateOf) : Type 0 where
   pub needs : a.need.key ≡ k
   pub from : a.start ≡ s.life
   pub at : s.life.valid a.place ≡ None
 
 -- what stays in an access, but for names
-pub record Keeps (s z : StateOf) : Type 0 where
+pub record KeepsButNames (s z : StateOf) : Type 0 where
   pub kind : z.life.kind ≡ s.life.kind
   pub unmapped : (p : Place) → s.life.valid p ≡ None → z.life.valid p ≡ None
-  pub same : z ≡ record (called s z) { names = z.names }
+  pub same : z ≡ record (moved_with_call s z) { names = z.names }
 
 -- of the line's report: no read failed, and a new search would begin
 pub record Calm (s z : StateOf) : Type 0 where
@@ -122,10 +122,10 @@ pub record Fails (why : PageFault) (k : Key) (s z : StateOf) : Type 0 where
       z.told.search_writes.succeeded ≡ 0
   pub unframed : why ≡ fault.NoFrame → is_framed (z.life.stands k) ≡ false
   pub fault : SomeFault s z
-  pub same : z ≡ called s z
+  pub same : z ≡ moved_with_call s z
 
 -- the key stands in this frame, which is not being read
-pub record InFrame (k : Key) (f : Frame) (s : StateOf) : Type 0 where
+pub record InQuietFrame (k : Key) (f : Frame) (s : StateOf) : Type 0 where
   pub stands : s.life.stands k ≡ held.Frame f
   pub quiet : is_read (record_at s.life.frames f.0).request ≡ false
 
@@ -133,7 +133,7 @@ pub record InFrame (k : Key) (f : Frame) (s : StateOf) : Type 0 where
 pub record ReadsIn (k : Key) (f : Frame) (ok : Bool) (s z : StateOf) : Type 0 where
   pub mid : StateOf
   pub begins : Made (move.Read f k) s mid
-  pub ends : Made (read_end ok f) mid z
+  pub ends : Made (end_of_read ok f) mid z
   pub owner : (record_at mid.life.frames f.0).owner ≡ Some k
 
 -- devices were called since
@@ -146,9 +146,9 @@ pub record Placed (k : Key) (f : Frame) (place : Place) (s z : StateOf) : Type 0
   pub valid : z.life.valid place ≡ Some f
   pub names : z.names ≡ changed same_place s.names place (Some k)
   pub kind : z.life.kind ≡ s.life.kind
-  pub frame : InFrame k f z
+  pub frame : InQuietFrame k f z
   pub told : z.told ≡ s.told
-  pub same : z ≡ record (called s z) { names = z.names }
+  pub same : z ≡ record (moved_with_call s z) { names = z.names }
 
 -- a page is soiled, or was so
 pub data Soils (f : Frame) (s z : StateOf) : Type 0 where
@@ -207,7 +207,7 @@ pub record EndsOne (i : ℕ) (ok : Bool) (s z : StateOf) : Type 0 where
   pub frame : Frame
   pub found : slice_get s.life.flight (i - 1) ≡ Some frame.0
   pub made : Made (ending (record_at s.life.frames frame.0) frame ok) s z
-  pub same : z ≡ called s z
+  pub same : z ≡ moved_with_call s z
 
 -- it has, if there were so many
 abbrev pub EndsAs : ℕ → Done → StateOf → StateOf → Type 0

@@ -70,7 +70,7 @@ own_of extended ready used = record {
 }
 
 -- what the store keeps of them at all times
-pub record Kept (s : StateOf) (o : OwnOf) : Type 0 where
+pub record StoreKept (s : StateOf) (o : OwnOf) : Type 0 where
   pub own : s.own ≡ None
   pub aside : s.aside ≡ None
   -- what is ready is valid at its place, in a line that accesses pages; for a copy there is a frame

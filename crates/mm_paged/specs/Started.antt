@@ -19,8 +19,8 @@ use Rattle.mm_pages.specs.declared.outcomes.Need.TheVariants as need
 use Rattle.mm_pages.specs.declared.outcomes.Start.{Start}
 use Rattle.mm_pages.specs.declared.outcomes.Start.TheVariants as start
 use Rattle.mm_types.specs.declared.moves.Move.TheVariants as move
-use Rattle.mm_moving.specs.Shown.{StateOf, Made, moved, called}
-use Rattle.mm_paged.specs.Pieces.{Went, Took, ReadsFor}
+use Rattle.mm_moving.specs.Shown.{StateOf, Made, moved, moved_with_call}
+use Rattle.mm_paged.specs.Pieces.{Went, TookFrame, ReadsFor}
 use Rattle.mm_paged.specs.Shown.{OwnOf, report_of}
 
 -- an access of this page at this place begins
@@ -36,9 +36,9 @@ reason_at_once (start.Pending why.Read) = Some why.Read
 reason_at_once (start.Pending why.Full) = Some why.Full
 reason_at_once (start.Pending why.Frame) = None
 
-abbrev pub is_copy : Need → Bool
-is_copy need.Touch = false
-is_copy need.Copy = true
+abbrev pub needs_copy : Need → Bool
+needs_copy need.Touch = false
+needs_copy need.Copy = true
 
 -- a read of the page is in flight
 abbrev pub IsBeingRead : Key → StateOf → Type 0
@@ -46,23 +46,23 @@ IsBeingRead k s = (f : Frame) × (s.life.stands k ≡ held.Frame f) ×
     (is_read (record_at s.life.frames f.0).request ≡ true)
 
 -- the access has begun so far as its moves go, and this is its answer
-pub record Begun (n : Need) (k : Key) (place : Place) (result : Start) (s z : StateOf) :
+pub record AccessBegun (n : Need) (k : Key) (place : Place) (result : Start) (s z : StateOf) :
     Type 0 where
   pub went : (a : Aim) → AimsAt a k place s → Went a 1 s z
   pub names : (z.names ≡ s.names) ⊎ (z.names ≡ changed same_place s.names place (Some k))
   pub slots : z.slots ≡ s.slots
   pub blocks : z.blocks ≡ s.blocks
-  pub same : z ≡ record (called s z) { names = z.names }
+  pub same : z ≡ record (moved_with_call s z) { names = z.names }
   -- its page is valid at its place, and for a copy there is a frame
   pub valid : result ≡ start.Ready → is_some (z.life.valid place) ≡ true
-  pub room : result ≡ start.Ready → is_copy n ≡ true → is_short z.life ≡ false
+  pub room : result ≡ start.Ready → needs_copy n ≡ true → is_short z.life ≡ false
   -- why it waits
   pub at_once : (o : OwnOf) →
       waits_at_once s.life.machine.depth k (report_of s o) ≡ reason_at_once result
   pub reading : result ≡ start.Pending why.Read → IsBeingRead k z
   pub short : result ≡ start.Pending why.Frame → is_short z.life ≡ true
   pub wanting : result ≡ start.Pending why.Frame → (is_framed (z.life.stands k) ≡ false) ⊎
-      (is_copy n ≡ true)
+      (needs_copy n ≡ true)
 
 -- what is ready then
 abbrev pub ready_after : Start → Need → Key → Place → Option Ready
@@ -75,9 +75,9 @@ answered need.Copy start.Ready true = start.Pending why.Frame
 answered n r short = r
 
 -- a read of the page begins
-pub record Reads (k : Key) (s z : StateOf) : Type 0 where
+pub record ReadBegins (k : Key) (s z : StateOf) : Type 0 where
   pub frame : Frame
   pub mid : StateOf
   pub made : Made (move.Read frame k) mid z
-  pub took : (a : Aim) → ReadsFor a k → Took a 1 s z
+  pub took : (a : Aim) → ReadsFor a k → TookFrame a 1 s z
   pub same : z ≡ moved s z

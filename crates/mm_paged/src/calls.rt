@@ -23,18 +23,15 @@ impl<T: Moving> Pages for Paged<T> {
 
     ghost store = { λ s. paged.store s };
 
-    ghost behind = { λ s. paged.behind s };
+    ghost behind = { λ s. paged.paged_behind s };
 
     ghost loans = { λ s. paged.loans s };
 
     ghost unpaged = { false };
 
-    fn sound(&self) {
-        self.state.sound();
-    }
+    fn sound(&self) {}
 
     fn open_process(&mut self, pid: Pid, _min: u32, _max: u32) -> Result<(), NoMemory> {
-        self.state.sound();
         self.state.open_process(pid)
     }
 
@@ -43,7 +40,6 @@ impl<T: Moving> Pages for Paged<T> {
     }
 
     fn bind(&mut self, pid: Pid, first: Vpn, n: u32) -> Result<(), NoMemory> {
-        self.state.sound();
         self.state.bind(pid, first, n)
     }
 
@@ -51,14 +47,11 @@ impl<T: Moving> Pages for Paged<T> {
         if n == 0 {
             return;
         }
-        self.state.sound();
         let_all_go(&mut self.state, pid, first, n);
-        self.state.sound();
         self.state.unbind(pid, first, n);
     }
 
     fn reserve(&mut self, _total: u32) -> Result<(), NoMemory> {
-        self.state.sound();
         Ok(())
     }
 
@@ -67,14 +60,11 @@ impl<T: Moving> Pages for Paged<T> {
     }
 
     fn close_area(&mut self, area: Area) {
-        self.state.sound();
         self.state.close_area(area);
     }
 
     fn make_file(&mut self, area: Area, first: Block, n: u32, byte: u8) -> Result<(), MakeFault> {
-        self.state.sound();
         let done = build_file(&mut self.state, area, first, n, byte);
-        self.state.sound();
         if let Err(why) = done {
             return Err(why);
         }
@@ -83,20 +73,15 @@ impl<T: Moving> Pages for Paged<T> {
     }
 
     fn add(&mut self, key: Key) {
-        self.state.sound();
         self.state.add_zero(key);
     }
 
     fn remove(&mut self, key: Key) {
-        self.state.sound();
         let_own_go(&mut self.state, key);
-        self.state.sound();
         self.state.drop_key(key);
-        self.state.sound();
     }
 
     fn read(&mut self, place: Place, key: Key, off: u16, out: &mut [u8]) -> Result<(), PageFault> {
-        self.state.sound();
         match self.state.valid(place) {
             Some(_frame) => {
                 self.state.read(place, off, out);
@@ -105,7 +90,6 @@ impl<T: Moving> Pages for Paged<T> {
             None => {
                 self.ready = None;
                 let done = fault(&mut self.state, key, place);
-                self.state.sound();
                 if let Err(why) = done {
                     return Err(why);
                 }
@@ -116,7 +100,6 @@ impl<T: Moving> Pages for Paged<T> {
     }
 
     fn write(&mut self, place: Place, key: Key, off: u16, bytes: &[u8]) -> Result<(), PageFault> {
-        self.state.sound();
         match self.state.valid(place) {
             Some(f) => {
                 soil(&mut self.state, place, f);
@@ -126,7 +109,6 @@ impl<T: Moving> Pages for Paged<T> {
             None => {
                 self.ready = None;
                 let done = fault_to_write(&mut self.state, key, place);
-                self.state.sound();
                 if let Err(why) = done {
                     return Err(why);
                 }
@@ -137,10 +119,8 @@ impl<T: Moving> Pages for Paged<T> {
     }
 
     fn copy(&mut self, place: Place, from: Key, to: Key) -> Result<(), PageFault> {
-        self.state.sound();
         self.ready = None;
         let done = copy_page(&mut self.state, place, from);
-        self.state.sound();
         if let Err(why) = done {
             return Err(why);
         }
@@ -153,16 +133,11 @@ impl<T: Moving> Pages for Paged<T> {
     }
 
     fn flush(&mut self, key: Key) -> Result<(), WriteFault> {
-        self.state.sound();
-        let done = flush_page(&mut self.state, key);
-        self.state.sound();
-        done
+        flush_page(&mut self.state, key)
     }
 
     fn trim(&mut self, pid: Pid, n: u32) {
-        self.state.sound();
         trim(&mut self.state, pid, n);
-        self.state.sound();
     }
 
     fn age(&mut self, pid: Pid) {
@@ -170,9 +145,7 @@ impl<T: Moving> Pages for Paged<T> {
     }
 
     fn zero(&mut self, n: u32) {
-        self.state.sound();
         zero(&mut self.state, n);
-        self.state.sound();
     }
 
     fn fail(&mut self, device: Device, direction: Direction, k: u32, n: u32) {
@@ -204,11 +177,9 @@ impl<T: Moving> Pages for Paged<T> {
     }
 
     fn start(&mut self, tid: Tid, place: Place, key: Key, need: Need) -> Start {
-        self.state.sound();
         self.ready = None;
         let began = start_key(&mut self.state, place, key, need);
         set_wait(&mut self.state, tid, key, began);
-        self.state.sound();
         self.ready = ready_for(began, place, key, need);
         began
     }
@@ -222,16 +193,11 @@ impl<T: Moving> Pages for Paged<T> {
     }
 
     fn write_out(&mut self, n: u32) {
-        self.state.sound();
         write_out(&mut self.state, n);
-        self.state.sound();
     }
 
     fn complete(&mut self, i: u32) -> Done {
-        self.state.sound();
-        let ended = complete_request(&mut self.state, i);
-        self.state.sound();
-        ended
+        complete_request(&mut self.state, i)
     }
 
     fn counts(&self) -> Counts {

@@ -2,7 +2,7 @@ ghost use Rattle.std.specs.Prelude.{◌≡◌, ◌≤◌, ◌<◌, true, false, 
 ghost use Rattle.mm_types.specs.declared.moves.LineKind.TheVariants as kind;
 ghost use Rattle.mm_life.specs.Frames.{record_at, is_read, has_request};
 ghost use Rattle.mm_life.specs.Chores.{ending};
-ghost use Rattle.mm_moving.specs.Shown.{Made, called};
+ghost use Rattle.mm_moving.specs.Shown.{Made, moved_with_call};
 ghost use Rattle.mm_paged.specs.Pieces.{EndsAs};
 
 use mm_moving::Moving;
@@ -29,7 +29,7 @@ fn end_request<T: Moving>(state: &mut T, f: Frame) -> bool
     requires own { (T.shown state.old).own ≡ None }
     ensures made { Made (ending (record_at (T.shown state.old).life.frames f.0) f result)
         (T.shown state.old) (T.shown state.new) }
-    ensures same { (T.shown state.new) ≡ called (T.shown state.old) (T.shown state.new) }
+    ensures same { (T.shown state.new) ≡ moved_with_call (T.shown state.old) (T.shown state.new) }
     ensures loans { T.loans state.new ≡ T.loans state.old }
 {
     let r = state.look(f);
@@ -47,7 +47,6 @@ pub(crate) fn complete_request<T: Moving>(state: &mut T, i: u32) -> Done
     ensures ends { EndsAs i result (T.shown state.old) (T.shown state.new) }
     ensures loans { T.loans state.new ≡ T.loans state.old }
 {
-    state.sound();
     match state.nth(i) {
         None => Done::None,
         Some(f) => {

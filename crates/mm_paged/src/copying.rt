@@ -8,7 +8,7 @@ ghost use Rattle.mm_life.specs.Legal.{is_access, is_touch, touches, shows_shared
 ghost use Rattle.mm_pages.specs.Accesses.{Aim};
 ghost use Rattle.mm_pages.specs.Conditions.{touch};
 ghost use Rattle.mm_moving.specs.Shown.{moved};
-ghost use Rattle.mm_paged.specs.Pieces.{Went, Stuck, Fails, InFrame};
+ghost use Rattle.mm_paged.specs.Pieces.{Went, Stuck, Fails, InQuietFrame};
 ghost use Rattle.mm_paged.specs.Faults.{StandbyAlone};
 ghost use Rattle.mm_paged.specs.Copies.{Reaches, Readied, Pins, Spares, Copied, Readies, MayHold, NeedsAccess, MayCopyHeld, MayCopy, FindsBeside, NoneBeside, CopyGiven, CopyPut, CopiesPage, FailsToCopyPage};
 
@@ -51,7 +51,6 @@ fn hold_shared<T: Moving>(state: &mut T, place: Place, from: Key) -> Result<Fram
     ensures fails { IfErr result (λ e. Fails e from (T.shown state.old) (T.shown state.new)) }
     ensures loans { T.loans state.new ≡ T.loans state.old }
 {
-    state.sound();
     match state.valid(place) {
         Some(f) => Ok(f),
         None => fault_shared(state, place, from),
@@ -88,7 +87,6 @@ fn ready_standby<T: Moving>(state: &mut T)
     ensures same { (T.shown state.new) ≡ moved (T.shown state.old) (T.shown state.new) }
     ensures loans { T.loans state.new ≡ T.loans state.old }
 {
-    state.sound();
     state.steal();
     state.clear();
 }
@@ -122,29 +120,22 @@ fn give_copy<T: Moving>(state: &mut T, place: Place) -> Frame
     ensures loans { T.loans state.new ≡ T.loans state.old }
 {
     let own = Key::Private(place.pid, place.vpn);
-    state.sound();
     ready_frame(state);
-    state.sound();
     state.add_zero(own);
-    state.sound();
-    let f = give_zeroed(state, own);
-    state.sound();
-    f
+    give_zeroed(state, own)
 }
 
 /// The place's own page becomes valid there: the page that it is a copy of is so no more.
 fn put_copy<T: Moving>(state: &mut T, place: Place, f: Frame)
     requires touch { touches place.pid.0 (T.shown state.old).life.kind ≡ true }
-    requires frame { InFrame (key_of_place place) f (T.shown state.old) }
+    requires frame { InQuietFrame (key_of_place place) f (T.shown state.old) }
     requires bound { (T.shown state.old).bound place ≡ true }
     requires shows { shows_shared (T.shown state.old).life place ≡ true }
     requires aside { (T.shown state.old).aside ≡ Some place }
     ensures put { CopyPut place f (T.shown state.old) (T.shown state.new) }
     ensures loans { T.loans state.new ≡ T.loans state.old }
 {
-    state.sound();
     state.unmap(place);
-    state.sound();
     state.map(f, place);
 }
 
@@ -162,13 +153,9 @@ fn copy_held<T: Moving>(state: &mut T, place: Place, from: Key, f: Frame) -> Res
     ensures spares { OnErr result (Spares f (T.shown state.old) (T.shown state.new)) }
     ensures loans { T.loans state.new ≡ T.loans state.old }
 {
-    state.sound();
     find_pinned(state, f)?;
-    state.sound();
     let own = give_copy(state, place);
-    state.sound();
     put_copy(state, place, own);
-    state.sound();
     state.copy(f, own);
     Ok(())
 }
@@ -187,8 +174,6 @@ pub(crate) fn copy_page<T: Moving>(state: &mut T, place: Place, from: Key) -> Re
         (λ e. FailsToCopyPage from place e (T.shown state.old) (T.shown state.new)) }
     ensures loans { T.loans state.new ≡ T.loans state.old }
 {
-    state.sound();
     let f = hold_shared(state, place, from)?;
-    state.sound();
     copy_held(state, place, from, f)
 }

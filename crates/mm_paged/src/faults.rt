@@ -10,8 +10,8 @@ ghost use Rattle.mm_types.specs.declared.numbers.Place.{Place};
 ghost use Rattle.mm_frame_laws.specs.Carried.{IsSoiled};
 ghost use Rattle.mm_parts.specs.Moves.{front};
 ghost use Rattle.mm_types.specs.declared.moves.Move.TheVariants as move;
-ghost use Rattle.mm_paged.specs.Pieces.{Went, InFrame, Soils};
-ghost use Rattle.mm_paged.specs.Faults.{StandbyAlone, MayReadIn, MayUse, HasFullSet, MayFault, Gives, KeepsNames, ReadsWell, ReadsBadly, TakesIn, MissesIn, Settles, FailsToSettle, SearchKeeps, Finds, Brings, FailsToBring, Puts, Faults, FaultsToWrite, IsCalledOn};
+ghost use Rattle.mm_paged.specs.Pieces.{Went, InQuietFrame, Soils};
+ghost use Rattle.mm_paged.specs.Faults.{StandbyAlone, MayReadIn, MayUse, HasFullSet, MayFault, GivesFrame, KeepsNames, ReadsWell, ReadsBadly, TakesIn, MissesIn, SettlesRead, FailsToSettle, SearchKeeps, FindsFrame, Brings, FailsToBring, Puts, Faults, FaultsToWrite, IsCalledOn};
 
 use mm_moving::Moving;
 use mm_reclaim::{NoFrame, find_frame};
@@ -24,7 +24,7 @@ pub(crate) fn give_zeroed<T: Moving>(state: &mut T, key: Key) -> Frame
     requires some { is_empty (T.shown state.old).life.frames.zeroed ≡ false }
     ensures front { result ≡ front (T.shown state.old).life.frames.zeroed }
     ensures made { Made (move.Give result key) (T.shown state.old) (T.shown state.new) }
-    ensures gave { Gives key result (T.shown state.old) (T.shown state.new) }
+    ensures gave { GivesFrame key result (T.shown state.old) (T.shown state.new) }
     ensures loans { T.loans state.new ≡ T.loans state.old }
 {
     state.give(key)
@@ -36,7 +36,7 @@ fn give_free<T: Moving>(state: &mut T, key: Key) -> Frame
     requires zero { is_zero ((T.shown state.old).life.stands key) ≡ true }
     requires none { is_empty (T.shown state.old).life.frames.zeroed ≡ true }
     requires some { is_empty (T.shown state.old).life.frames.free ≡ false }
-    ensures gave { Gives key result (T.shown state.old) (T.shown state.new) }
+    ensures gave { GivesFrame key result (T.shown state.old) (T.shown state.new) }
     ensures loans { T.loans state.new ≡ T.loans state.old }
 {
     state.clear();
@@ -48,10 +48,9 @@ fn give_standby<T: Moving>(state: &mut T, key: Key) -> Frame
     requires touch { is_touch (T.shown state.old).life.kind ≡ true }
     requires zero { is_zero ((T.shown state.old).life.stands key) ≡ true }
     requires only { StandbyAlone (T.shown state.old).life.frames }
-    ensures gave { Gives key result (T.shown state.old) (T.shown state.new) }
+    ensures gave { GivesFrame key result (T.shown state.old) (T.shown state.new) }
     ensures loans { T.loans state.new ≡ T.loans state.old }
 {
-    state.sound();
     state.steal();
     state.clear();
     state.give(key)
@@ -62,7 +61,7 @@ pub(crate) fn give<T: Moving>(state: &mut T, key: Key) -> Frame
     requires touch { is_touch (T.shown state.old).life.kind ≡ true }
     requires zero { is_zero ((T.shown state.old).life.stands key) ≡ true }
     requires some { is_short (T.shown state.old).life ≡ false }
-    ensures gave { Gives key result (T.shown state.old) (T.shown state.new) }
+    ensures gave { GivesFrame key result (T.shown state.old) (T.shown state.new) }
     ensures loans { T.loans state.new ≡ T.loans state.old }
 {
     if !state.no_zeroed() {
@@ -85,7 +84,6 @@ fn read_free<T: Moving>(state: &mut T, key: Key) -> Result<Frame, PageFault>
     ensures loans { T.loans state.new ≡ T.loans state.old }
 {
     let f = state.start_read(key);
-    state.sound();
     if state.end_read(f) {
         Ok(f)
     } else {
@@ -102,7 +100,6 @@ fn read_standby<T: Moving>(state: &mut T, key: Key) -> Result<Frame, PageFault>
     ensures keeps { KeepsNames (T.shown state.old) (T.shown state.new) }
     ensures loans { T.loans state.new ≡ T.loans state.old }
 {
-    state.sound();
     state.steal();
     read_free(state, key)
 }
@@ -130,12 +127,11 @@ fn settle<T: Moving>(state: &mut T, key: Key, f: Frame) -> Result<Frame, PageFau
     requires stands { (T.shown state.old).life.stands key ≡ held.Frame f }
     requires own { (T.shown state.old).own ≡ None }
     ensures same { IfOk result (λ g. g ≡ f) }
-    ensures ok { IfOk result (λ g. Settles key g (T.shown state.old) (T.shown state.new)) }
+    ensures ok { IfOk result (λ g. SettlesRead key g (T.shown state.old) (T.shown state.new)) }
     ensures err { IfErr result (λ e. FailsToSettle key e (T.shown state.old) (T.shown state.new)) }
     ensures keeps { KeepsNames (T.shown state.old) (T.shown state.new) }
     ensures loans { T.loans state.new ≡ T.loans state.old }
 {
-    state.sound();
     if state.look(f).request == Request::Read {
         if !state.end_read(f) {
             return Err(PageFault::Read);
@@ -149,7 +145,7 @@ fn find<T: Moving>(state: &mut T, key: Key) -> Result<(), PageFault>
     requires access { is_access (T.shown state.old).life.kind ≡ true }
     requires unframed { is_framed ((T.shown state.old).life.stands key) ≡ false }
     requires own { (T.shown state.old).own ≡ None }
-    ensures ok { OnOk result (Finds key (T.shown state.old) (T.shown state.new)) }
+    ensures ok { OnOk result (FindsFrame key (T.shown state.old) (T.shown state.new)) }
     ensures err { IfErr result (λ e. FailsToBring key e 0 (T.shown state.old) (T.shown state.new)) }
     ensures keeps { SearchKeeps (T.shown state.old) (T.shown state.new) }
     ensures loans { T.loans state.new ≡ T.loans state.old }
@@ -173,7 +169,6 @@ fn bring<T: Moving>(state: &mut T, key: Key) -> Result<Frame, PageFault>
     ensures err { IfErr result (λ e. FailsToBring key e 1 (T.shown state.old) (T.shown state.new)) }
     ensures loans { T.loans state.new ≡ T.loans state.old }
 {
-    state.sound();
     match state.stands(key) {
         Held::Frame(f) => settle(state, key, f),
         Held::Zero => bring_zero(state, key),
@@ -209,7 +204,7 @@ fn bring_stored<T: Moving>(state: &mut T, key: Key) -> Result<Frame, PageFault>
 /// A page becomes valid at a place, in a set that is not full.
 fn put_below<T: Moving>(state: &mut T, key: Key, f: Frame, place: Place)
     requires touch { touches place.pid.0 (T.shown state.old).life.kind ≡ true }
-    requires frame { InFrame key f (T.shown state.old) }
+    requires frame { InQuietFrame key f (T.shown state.old) }
     requires usable { MayUse key place (T.shown state.old) }
     requires free { (T.shown state.old).life.valid place ≡ None }
     requires below { is_below_max (set_of (T.shown state.old).life place.pid.0) ≡ true }
@@ -217,14 +212,13 @@ fn put_below<T: Moving>(state: &mut T, key: Key, f: Frame, place: Place)
     ensures puts { Puts key f place (T.shown state.old) (T.shown state.new) }
     ensures loans { T.loans state.new ≡ T.loans state.old }
 {
-    state.sound();
     state.map(f, place);
 }
 
 /// A page becomes valid at a place, in a full set: its oldest page goes right before.
 fn put_full<T: Moving>(state: &mut T, key: Key, f: Frame, place: Place)
     requires touch { touches place.pid.0 (T.shown state.old).life.kind ≡ true }
-    requires frame { InFrame key f (T.shown state.old) }
+    requires frame { InQuietFrame key f (T.shown state.old) }
     requires usable { MayUse key place (T.shown state.old) }
     requires free { (T.shown state.old).life.valid place ≡ None }
     requires set { HasFullSet (T.shown state.old).life place.pid.0 }
@@ -232,7 +226,6 @@ fn put_full<T: Moving>(state: &mut T, key: Key, f: Frame, place: Place)
     ensures puts { Puts key f place (T.shown state.old) (T.shown state.new) }
     ensures loans { T.loans state.new ≡ T.loans state.old }
 {
-    state.sound();
     match state.oldest(place.pid, None) {
         Some(vpn) => {
             let old = Place {
@@ -249,14 +242,13 @@ fn put_full<T: Moving>(state: &mut T, key: Key, f: Frame, place: Place)
 /// A page becomes valid at a place.
 pub(crate) fn put<T: Moving>(state: &mut T, key: Key, f: Frame, place: Place)
     requires touch { touches place.pid.0 (T.shown state.old).life.kind ≡ true }
-    requires frame { InFrame key f (T.shown state.old) }
+    requires frame { InQuietFrame key f (T.shown state.old) }
     requires usable { MayUse key place (T.shown state.old) }
     requires free { (T.shown state.old).life.valid place ≡ None }
     ensures went { (a : Aim) → a.place ≡ place → Went a 0 (T.shown state.old) (T.shown state.new) }
     ensures puts { Puts key f place (T.shown state.old) (T.shown state.new) }
     ensures loans { T.loans state.new ≡ T.loans state.old }
 {
-    state.sound();
     if state.is_full(place.pid) {
         put_full(state, key, f, place);
     } else {
@@ -298,7 +290,6 @@ pub(crate) fn soil<T: Moving>(state: &mut T, place: Place, f: Frame)
     ensures soiled { IsSoiled (record_at (T.shown state.new).life.frames f.0) }
     ensures loans { T.loans state.new ≡ T.loans state.old }
 {
-    state.sound();
     let r = state.look(f);
     if must_soil(&r) {
         state.soil(f);

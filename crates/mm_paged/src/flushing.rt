@@ -6,7 +6,7 @@ ghost use Rattle.mm_life.specs.Frames.{record_at, is_write};
 ghost use Rattle.mm_pages.specs.Reports.{wrote};
 ghost use Rattle.mm_pages.specs.Standing.{backed_by, block_at};
 ghost use Rattle.mm_moving.specs.Shown.{backing_of_frame};
-ghost use Rattle.mm_paged.specs.Flushed.{Filed, EndsFlight, WritesChanged, FlushesFrame, FlushesPage};
+ghost use Rattle.mm_paged.specs.Flushed.{HoldsFilePage, EndsFlight, WritesChanged, FlushesFrame, FlushesPage};
 
 use mm_moving::Moving;
 use mm_types::{Frame, Held, Key, Record, Request, WriteFault};
@@ -26,48 +26,41 @@ fn is_writing(r: &Record) -> bool
 /// A write of a page's frame that is in flight ends. False where it failed.
 fn end_flight<T: Moving>(state: &mut T, f: Frame) -> bool
     requires kind { (T.shown state.old).life.kind ≡ kind.Call }
-    requires filed { Filed f (T.shown state.old) }
+    requires filed { HoldsFilePage f (T.shown state.old) }
     requires own { (T.shown state.old).own ≡ None }
     ensures ended { (b : Block) → backing_of_frame (T.shown state.old) f ≡ backing.Block b
         → EndsFlight b f result (T.shown state.old) (T.shown state.new) }
     ensures loans { T.loans state.new ≡ T.loans state.old }
 {
-    state.sound();
     let r = state.look(f);
     if !is_writing(&r) {
         return true;
     }
-    let done = state.end_write(f);
-    state.sound();
-    done
+    state.end_write(f)
 }
 
 /// A page that is changed, and not being written, is written. False where that failed.
 fn write_changed<T: Moving>(state: &mut T, f: Frame) -> bool
     requires kind { (T.shown state.old).life.kind ≡ kind.Call }
-    requires filed { Filed f (T.shown state.old) }
+    requires filed { HoldsFilePage f (T.shown state.old) }
     requires still { is_write (record_at (T.shown state.old).life.frames f.0).request ≡ false }
     requires own { (T.shown state.old).own ≡ None }
     ensures wrote { (b : Block) → backing_of_frame (T.shown state.old) f ≡ backing.Block b
         → WritesChanged b f result (T.shown state.old) (T.shown state.new) }
     ensures loans { T.loans state.new ≡ T.loans state.old }
 {
-    state.sound();
     let changed = state.look(f).changed;
     if !changed {
         return true;
     }
     state.start_write(f);
-    state.sound();
-    let done = state.end_write(f);
-    state.sound();
-    done
+    state.end_write(f)
 }
 
 /// The page of a frame is in its block then, unless a write failed.
 fn flush_frame<T: Moving>(state: &mut T, f: Frame) -> Result<(), WriteFault>
     requires kind { (T.shown state.old).life.kind ≡ kind.Call }
-    requires filed { Filed f (T.shown state.old) }
+    requires filed { HoldsFilePage f (T.shown state.old) }
     requires own { (T.shown state.old).own ≡ None }
     ensures flushed { (b : Block) → backing_of_frame (T.shown state.old) f ≡ backing.Block b
         → FlushesFrame b f (is_ok result) (T.shown state.old) (T.shown state.new) }
@@ -94,7 +87,6 @@ pub(crate) fn flush_page<T: Moving>(state: &mut T, key: Key) -> Result<(), Write
         → FlushesPage key b (is_ok result) (T.shown state.old) (T.shown state.new) }
     ensures loans { T.loans state.new ≡ T.loans state.old }
 {
-    state.sound();
     match state.stands(key) {
         Held::Frame(f) => flush_frame(state, f),
         _ => Ok(()),

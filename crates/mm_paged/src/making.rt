@@ -22,7 +22,6 @@ fn write_blocks<T: Moving>(state: &mut T, first: Block, n: u32, byte: u8) -> boo
     ensures written { BlocksWritten first.0 n byte result (T.shown state.old) (T.shown state.new) }
     ensures loans { T.loans state.new ≡ T.loans state.old }
 {
-    state.sound();
     for i in 0..n {
         let block = Block(first.0 + i);
         if !state.write_block(block, page_byte(byte, i)) {
@@ -42,7 +41,6 @@ fn add_pages<T: Moving>(state: &mut T, area: Area, first: Block, n: u32)
     ensures added { PagesAdded area.0 first.0 n (T.shown state.old) (T.shown state.new) }
     ensures loans { T.loans state.new ≡ T.loans state.old }
 {
-    state.sound();
     for i in 0..n {
         state.add_block(Key::Shared(area, i), Block(first.0 + i));
     }
@@ -65,7 +63,6 @@ pub(crate) fn build_file<T: Moving>(
     ensures built { BuiltAs area.0 first.0 n byte result (T.shown state.old) (T.shown state.new) }
     ensures loans { T.loans state.new ≡ T.loans state.old }
 {
-    state.sound();
     if let Err(NoMemory) = state.open_area(area, n) {
         return Err(MakeFault::Memory);
     }

@@ -1,7 +1,7 @@
 ghost use Rattle.std.specs.Prelude.{◌≡◌, ◌<◌, ℕ, true, false, None};
 ghost use Rattle.mm_life.specs.Legal.{is_thread};
 ghost use Rattle.mm_pages.specs.Reports.{no_calls};
-ghost use Rattle.mm_paged.specs.Shown.{Kept, own_of, store_of, behind_of};
+ghost use Rattle.mm_paged.specs.Shown.{StoreKept, own_of, store_of, behind_of};
 
 use mm_moving::Moving;
 use mm_pages::Need;
@@ -21,11 +21,11 @@ pub struct Paged<T: Moving> {
     pub(crate) extended: Option<bool>,
     pub(crate) ready: Option<Wanted>,
     pub(crate) blocks_used: u32,
-    ghost kept: { Kept (T.shown state) (own_of extended ready blocks_used) },
+    ghost kept: { StoreKept (T.shown state) (own_of extended ready blocks_used) },
 }
 
 impl<T: Moving> Paged<T> {
-    ghost use Rattle.mm_paged.specs.Store.{contents, store, behind, loans};
+    ghost use Rattle.mm_paged.specs.Store.{contents, store, paged_behind, loans};
 
     /// A store over a machine's joined state, in which no file uses a block yet. The state has no
     /// request of its own line, and nothing stands beside its tables; where its line is a thread's,
@@ -38,7 +38,7 @@ impl<T: Moving> Paged<T> {
             → (T.shown state).told.search_writes ≡ no_calls }
         ensures store { store result ≡ store_of (T.shown state) (own_of None None 0) }
         ensures contents { contents result ≡ (T.shown state).contents }
-        ensures behind { behind result ≡ behind_of (T.shown state) }
+        ensures behind { paged_behind result ≡ behind_of (T.shown state) }
         ensures loans { loans result ≡ T.loans state }
     {
         Paged {
@@ -53,7 +53,7 @@ impl<T: Moving> Paged<T> {
     pub fn finish(self) -> T
         ensures state { result ≡ self.state }
         ensures contents { (T.shown result).contents ≡ contents self }
-        ensures behind { behind_of (T.shown result) ≡ behind self }
+        ensures behind { behind_of (T.shown result) ≡ paged_behind self }
         ensures loans { T.loans result ≡ loans self }
     {
         let Paged {

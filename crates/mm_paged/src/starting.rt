@@ -15,7 +15,7 @@ ghost use Rattle.mm_parts.specs.Moves.{front_for_read};
 ghost use Rattle.mm_types.specs.declared.moves.Move.TheVariants as move;
 ghost use Rattle.mm_paged.specs.Shown.{ready_at};
 ghost use Rattle.mm_paged.specs.Faults.{StandbyAlone, MayUse};
-ghost use Rattle.mm_paged.specs.Started.{Begun, IsBeingRead, Reads, answered, ready_after};
+ghost use Rattle.mm_paged.specs.Started.{AccessBegun, IsBeingRead, ReadBegins, answered, ready_after};
 
 use crate::completing::is_reading;
 use crate::faults::{give, put};
@@ -37,10 +37,10 @@ fn start_in_frame<T: Moving>(state: &mut T, key: Key, f: Frame, place: Place) ->
     requires stands { (T.shown state.old).life.stands key ≡ held.Frame f }
     requires usable { MayUse key place (T.shown state.old) }
     requires free { (T.shown state.old).life.valid place ≡ None }
-    ensures begun { Begun wanted.Touch key place result (T.shown state.old) (T.shown state.new) }
+    ensures begun { AccessBegun wanted.Touch key place result (T.shown state.old)
+        (T.shown state.new) }
     ensures loans { T.loans state.new ≡ T.loans state.old }
 {
-    state.sound();
     let r = state.look(f);
     if is_reading(&r) {
         return Start::Pending(Why::Read);
@@ -55,7 +55,8 @@ fn start_zero<T: Moving>(state: &mut T, key: Key, place: Place) -> Start
     requires zero { is_zero ((T.shown state.old).life.stands key) ≡ true }
     requires usable { MayUse key place (T.shown state.old) }
     requires free { (T.shown state.old).life.valid place ≡ None }
-    ensures begun { Begun wanted.Touch key place result (T.shown state.old) (T.shown state.new) }
+    ensures begun { AccessBegun wanted.Touch key place result (T.shown state.old)
+        (T.shown state.new) }
     ensures loans { T.loans state.new ≡ T.loans state.old }
 {
     if is_starved(state) {
@@ -87,10 +88,9 @@ fn begin_standby<T: Moving>(state: &mut T, key: Key)
     requires depth { has_depth (T.shown state.old).life ≡ true }
     requires stored { is_stored ((T.shown state.old).life.stands key) ≡ true }
     requires only { StandbyAlone (T.shown state.old).life.frames }
-    ensures reads { Reads key (T.shown state.old) (T.shown state.new) }
+    ensures reads { ReadBegins key (T.shown state.old) (T.shown state.new) }
     ensures loans { T.loans state.new ≡ T.loans state.old }
 {
-    state.sound();
     state.steal();
     begin_free(state, key);
 }
@@ -101,7 +101,7 @@ fn begin_read<T: Moving>(state: &mut T, key: Key)
     requires depth { has_depth (T.shown state.old).life ≡ true }
     requires stored { is_stored ((T.shown state.old).life.stands key) ≡ true }
     requires some { is_short (T.shown state.old).life ≡ false }
-    ensures reads { Reads key (T.shown state.old) (T.shown state.new) }
+    ensures reads { ReadBegins key (T.shown state.old) (T.shown state.new) }
     ensures loans { T.loans state.new ≡ T.loans state.old }
 {
     if state.no_zeroed() {
@@ -119,7 +119,7 @@ fn start_stored<T: Moving>(state: &mut T, key: Key) -> Start
     requires thread { is_thread (T.shown state.old).life.kind ≡ true }
     requires stored { is_stored ((T.shown state.old).life.stands key) ≡ true }
     ensures begun { (place : Place)
-        → Begun wanted.Touch key place result (T.shown state.old) (T.shown state.new) }
+        → AccessBegun wanted.Touch key place result (T.shown state.old) (T.shown state.new) }
     ensures loans { T.loans state.new ≡ T.loans state.old }
 {
     if !state.has_depth() {
@@ -129,7 +129,6 @@ fn start_stored<T: Moving>(state: &mut T, key: Key) -> Start
         return Start::Pending(Why::Frame);
     }
     begin_read(state, key);
-    state.sound();
     Start::Pending(Why::Read)
 }
 
@@ -139,10 +138,10 @@ fn start_fault<T: Moving>(state: &mut T, key: Key, place: Place) -> Start
     requires live { is_live (T.shown state.old).life key ≡ true }
     requires usable { MayUse key place (T.shown state.old) }
     requires free { (T.shown state.old).life.valid place ≡ None }
-    ensures begun { Begun wanted.Touch key place result (T.shown state.old) (T.shown state.new) }
+    ensures begun { AccessBegun wanted.Touch key place result (T.shown state.old)
+        (T.shown state.new) }
     ensures loans { T.loans state.new ≡ T.loans state.old }
 {
-    state.sound();
     match state.stands(key) {
         Held::Frame(f) => start_in_frame(state, key, f, place),
         Held::Zero => start_zero(state, key, place),
@@ -157,10 +156,10 @@ fn start_page<T: Moving>(state: &mut T, key: Key, place: Place) -> Start
     requires usable { MayUse key place (T.shown state.old) }
     requires named { ((T.shown state.old).names place ≡ None)
         ⊎ ((T.shown state.old).names place ≡ Some key) }
-    ensures begun { Begun wanted.Touch key place result (T.shown state.old) (T.shown state.new) }
+    ensures begun { AccessBegun wanted.Touch key place result (T.shown state.old)
+        (T.shown state.new) }
     ensures loans { T.loans state.new ≡ T.loans state.old }
 {
-    state.sound();
     match state.valid(place) {
         Some(_) => Start::Ready,
         None => start_fault(state, key, place),
@@ -192,7 +191,7 @@ pub(crate) fn start_key<T: Moving>(state: &mut T, place: Place, key: Key, need: 
     requires usable { MayUse key place (T.shown state.old) }
     requires named { ((T.shown state.old).names place ≡ None)
         ⊎ ((T.shown state.old).names place ≡ Some key) }
-    ensures begun { Begun need key place result (T.shown state.old) (T.shown state.new) }
+    ensures begun { AccessBegun need key place result (T.shown state.old) (T.shown state.new) }
     ensures loans { T.loans state.new ≡ T.loans state.old }
 {
     let page = start_page(state, key, place);
@@ -209,7 +208,6 @@ pub(crate) fn set_wait<T: Moving>(state: &mut T, tid: Tid, key: Key, began: Star
     } }
     ensures loans { T.loans state.new ≡ T.loans state.old }
 {
-    state.sound();
     match began {
         Start::Pending(Why::Read) => match state.stands(key) {
             Held::Frame(f) => state.wait(tid, f),

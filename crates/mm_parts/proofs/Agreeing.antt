@@ -22,11 +22,11 @@ use Rattle.mm_laws.proofs.PlaceCounts.{same_place-true}
 use Rattle.mm_words.specs.declared.layout.Entry.{Entry}
 use Rattle.mm_words.specs.declared.layout.Entry.TheVariants as entry
 use Rattle.mm_words.specs.declared.aside.Aside.{Aside}
-use Rattle.mm_words.specs.Words.{word_of, own_word, place_of, is_aside, aside_or, is_valid}
+use Rattle.mm_words.specs.Words.{key_entry, own_word, place_from, is_aside, aside_or, is_valid_entry}
 use Rattle.mm_parts.specs.Shown.{JoinedParts, owners, owned_by, held_by, life_in, requests}
 use Rattle.mm_parts.specs.Words.{is_aside_entry}
-use Rattle.mm_parts.specs.Agree.{EntriesAgree, SlotsAgree, RequestsAgree, SetsAgree, InFrame, IsValidFor, Says}
-use Rattle.mm_parts.specs.Kept.{Kept}
+use Rattle.mm_parts.specs.Agree.{EntriesAgree, SlotsAgree, RequestsAgree, SetsAgree, InFrame, IsValidFor, EntrySays}
+use Rattle.mm_parts.specs.Kept.{PartsKept}
 use Rattle.mm_parts.proofs.Keeping.{known}
 use Rattle.mm_parts.proofs.Stands.{at_place}
 use Rattle.mm_parts.proofs.StandingWords.{in_frame, beside_word, beside_shared}
@@ -43,7 +43,7 @@ slots_agree l r = record {
 
 -- ---- entries
 
-module _ (t : JoinedParts) (kept : Kept t) where
+module _ (t : JoinedParts) (kept : PartsKept t) where
   -- a valid place has a shared page, or its own
   valid_own : (p : Place) (f : Frame) → (life_in t).valid p ≡ Some f → (owner_is is_shared (record_at t.table f.0) ≡ true) ⊎ InFrame (life_in t) (key_of_place p) f
   valid_own p f v = at (record_at t.table f.0).owner refl
@@ -55,7 +55,7 @@ module _ (t : JoinedParts) (kept : Kept t) where
       at None e = let bad : false ≡ true = sym (ap is_some e) ∙ some in cc
       at (Some (Shared a i)) e = inl (rw e refl)
       at (Some (Private q u)) e =
-          let same : place_of q u ≡ p = same_place-true (place_of q u) p ((known t kept).fits p f (Private q u) v e) in
+          let same : place_from q u ≡ p = same_place-true (place_from q u) p ((known t kept).fits p f (Private q u) v e) in
           inr (record {
             stands = ap (λ (x : Place). (life_in t).stands (key_of_place x)) (sym same) ∙ (known t kept).owned f.0 (Private q u) e;
             owner = e ∙ ap (λ (x : Place). Some (key_of_place x)) same;
@@ -78,14 +78,14 @@ module _ (t : JoinedParts) (kept : Kept t) where
   pub in_its_frame : (k : Key) (f : Frame) → (life_in t).stands k ≡ held.Frame f → InFrame (life_in t) k f
   in_its_frame k f stands = record { stands = stands; owner = (known t kept).owner k f stands }
 
-  pub says_by : (k : Key) (e : Entry) → word_of t.words k ≡ e → Says (life_in t) k e
+  pub says_by : (k : Key) (e : Entry) → key_entry t.words k ≡ e → EntrySays (life_in t) k e
   says_by k entry.Empty h = ap (held_by (owned_by (owners t.table) k)) h
   says_by k entry.Zero h = ap (held_by (owned_by (owners t.table) k)) h
   says_by k (entry.Paged s) h = ap (held_by (owned_by (owners t.table) k)) h
-  says_by (Private p v) (entry.InFile b) h = own_no_file (place_of p v) b h
+  says_by (Private p v) (entry.InFile b) h = own_no_file (place_from p v) b h
   says_by (Shared a i) (entry.InFile b) h = ap (held_by (owned_by (owners t.table) (Shared a i))) h
   says_by k (entry.Transition f) h = (in_its_frame k f (ap (held_by (owned_by (owners t.table) k)) h), kept.words.transition k f h)
-  says_by (Private p v) (entry.Valid f n) h = valid_for (place_of p v) f (at_place t.words (place_of p v) f n kept.words.beside h)
+  says_by (Private p v) (entry.Valid f n) h = valid_for (place_from p v) f (at_place t.words (place_from p v) f n kept.words.beside h)
   says_by (Shared a i) (entry.Valid f n) h = (in_its_frame (Shared a i) f (ap (held_by (λ _. true)) h), (kept.words.valid_shared a i f n h).0)
   says_by (Private p v) (entry.Proto a i) h = ap (held_by (owned_by (owners t.table) (Private p v))) h
   says_by (Shared a i) (entry.Proto b j) h = kept.words.no_proto a.0 i b j h
@@ -107,7 +107,7 @@ module _ (t : JoinedParts) (kept : Kept t) where
 
   pub entries_agree : EntriesAgree (life_in t) t.words
   entries_agree = record {
-    says = λ k. says_by k (word_of t.words k) refl;
+    says = λ k. says_by k (key_entry t.words k) refl;
     valid = λ p. refl;
     page = valid_for;
     prototype = prototype_by;
@@ -127,7 +127,7 @@ one_more : (flight : List ℕ) (own : Option Frame) (n : ℕ) → length flight 
 one_more flight None n h = let e = length-append flight [] in omega (arith, h, e)
 one_more flight (Some f) n h = let e = length-append flight (f.0 ∷ []) in omega (arith, h, e)
 
-pub requests_agree : (t : JoinedParts) → Kept t → length t.flight.frames ≤ t.flight.depth → RequestsAgree (life_in t) t.flight.frames t.own
+pub requests_agree : (t : JoinedParts) → PartsKept t → length t.flight.frames ≤ t.flight.depth → RequestsAgree (life_in t) t.flight.frames t.own
 requests_agree t kept few =
     let depth = kept.depth in
     let low : length t.flight.frames ≤ t.line.machine.depth = omega (arith, few, depth) in
@@ -139,7 +139,7 @@ requests_agree t kept few =
       own_line = kept.within.requesting;
     }
 
-pub sets_agree : (t : JoinedParts) → Kept t → ((p : Place) → is_some (t.ages p) ≡ is_valid (t.words.at p)) → ((p : Place) (age : ℕ) → t.ages p ≡ Some age → age ≤ 7)
+pub sets_agree : (t : JoinedParts) → PartsKept t → ((p : Place) → is_some (t.ages p) ≡ is_valid_entry (t.words.at p)) → ((p : Place) (age : ℕ) → t.ages p ≡ Some age → age ≤ 7)
     → ((pid : ℕ) (s : ResidentSet) → set_in t.words.sets pid ≡ Some s → s.resident ≤ s.max) → SetsAgree (life_in t) t.ages
 sets_agree t kept aged young within = record {
   aged = λ p. aged p ∙ valid_is (t.words.at p);

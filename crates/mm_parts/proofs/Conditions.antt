@@ -24,9 +24,9 @@ use Rattle.mm_laws.proofs.PlaceCounts.{same_place-true}
 use Rattle.mm_words.specs.Layout.{IsEntry}
 use Rattle.mm_words.specs.declared.layout.Entry.{Entry}
 use Rattle.mm_words.specs.declared.layout.Entry.TheVariants as entry
-use Rattle.mm_words.specs.Words.{WordsOf, word_of, is_valid, is_there, keeps_places, has_word, valid_frame, made_valid, place_of, bare}
+use Rattle.mm_words.specs.Words.{WordsOf, key_entry, is_valid_entry, is_there, keeps_places, has_word, valid_frame, made_valid, place_from, bare}
 use Rattle.mm_parts.specs.Shown.{JoinedParts, valid_of, owners, owned_by, life_in, requests_in}
-use Rattle.mm_parts.specs.Kept.{Kept}
+use Rattle.mm_parts.specs.Kept.{PartsKept}
 use Rattle.mm_life.specs.Effect.{backing_of}
 use Rattle.mm_parts.specs.Moves.{front, home_entry, entry_backing, CanLeave, CanName}
 use Rattle.mm_parts.proofs.Tokens.{front_is}
@@ -36,20 +36,20 @@ use Rattle.mm_parts.proofs.StandingWords.{in_frame, resting_word, backing_bare, 
 
 -- ---- numbers that a word has room for
 
-pub frame_low : (t : JoinedParts) → Kept t → (f : ℕ) → f < length t.table.records → f < 268435456
+pub frame_low : (t : JoinedParts) → PartsKept t → (f : ℕ) → f < length t.table.records → f < 268435456
 frame_low t kept f low = let size = (known t kept).framed in let most = kept.line.machine.most_frames in omega (arith, low, size, most)
 
-pub frame_fits : (t : JoinedParts) → Kept t → (f : Frame) → f.0 < length t.table.records → IsEntry (entry.Transition f)
+pub frame_fits : (t : JoinedParts) → PartsKept t → (f : Frame) → f.0 < length t.table.records → IsEntry (entry.Transition f)
 frame_fits t kept f low = let small = frame_low t kept f.0 low in record { first = omega (arith, small); second = omega arith }
 
-pub valid_fits : (t : JoinedParts) → Kept t → (f : Frame) → f.0 < length t.table.records → IsEntry (entry.Valid f 0)
+pub valid_fits : (t : JoinedParts) → PartsKept t → (f : Frame) → f.0 < length t.table.records → IsEntry (entry.Valid f 0)
 valid_fits t kept f low = let small = frame_low t kept f.0 low in record { first = omega (arith, small); second = omega arith }
 
-pub slot_fits : (t : JoinedParts) → Kept t → (s : ℕ) → slice_get t.free s ≡ Some false → s < 268435456
+pub slot_fits : (t : JoinedParts) → PartsKept t → (s : ℕ) → slice_get t.free s ≡ Some false → s < 268435456
 slot_fits t kept s taken = let low = get_within t.free s false taken in let size = (known t kept).slotted in let most = kept.line.machine.most_slots in omega (arith, low, size, most)
 
 -- where the page of a frame goes
-pub home_fits : (t : JoinedParts) → Kept t → (f : Frame) (k : Key) → (record_at t.table f.0).owner ≡ Some k → IsEntry (home_entry (record_at t.table f.0).backing)
+pub home_fits : (t : JoinedParts) → PartsKept t → (f : Frame) (k : Key) → (record_at t.table f.0).owner ≡ Some k → IsEntry (home_entry (record_at t.table f.0).backing)
 home_fits t kept f k owner = by (record_at t.table f.0).backing refl
   where
     by : (b : Backing) → (record_at t.table f.0).backing ≡ b → IsEntry (home_entry b)
@@ -64,34 +64,34 @@ home_fits t kept f k owner = by (record_at t.table f.0).backing refl
 -- ---- a key whose word can be set
 
 pub record CanSet (t : JoinedParts) (k : Key) (e : Entry) : Type 0 where
-  pub there : is_there (word_of t.words k) ≡ true
+  pub there : is_there (key_entry t.words k) ≡ true
   pub fits : IsEntry e
   pub places : keeps_places t.words k e ≡ true
 
-home_calm : (b : Backing) → is_valid (home_entry b) ≡ false
+home_calm : (b : Backing) → is_valid_entry (home_entry b) ≡ false
 home_calm backing.None = refl
 home_calm (backing.Slot s) = refl
 home_calm (backing.Block b) = refl
 
 -- a page that has a frame and is valid nowhere goes home
-pub home_can : (t : JoinedParts) → Kept t → (f : Frame) (k : Key) → (record_at t.table f.0).owner ≡ Some k → (record_at t.table f.0).shares ≡ 0 → CanSet t k (home_entry (record_at t.table f.0).backing)
+pub home_can : (t : JoinedParts) → PartsKept t → (f : Frame) (k : Key) → (record_at t.table f.0).owner ≡ Some k → (record_at t.table f.0).shares ≡ 0 → CanSet t k (home_entry (record_at t.table f.0).backing)
 home_can t kept f k owner none =
     let word = resting_word t kept k f ((known t kept).owned f.0 k owner) none in
     record {
       there = ap is_there word;
       fits = home_fits t kept f k owner;
-      places = places_kept t.words k (home_entry (record_at t.table f.0).backing) (home_calm (record_at t.table f.0).backing) (ap is_valid word);
+      places = places_kept t.words k (home_entry (record_at t.table f.0).backing) (home_calm (record_at t.table f.0).backing) (ap is_valid_entry word);
     }
 
 -- a page in a frame has an entry
-pub framed_there : (t : JoinedParts) → Kept t → (f : Frame) (k : Key) → (record_at t.table f.0).owner ≡ Some k → is_there (word_of t.words k) ≡ true
-framed_there t kept f k owner = elim (in_frame (owned_by (owners t.table) k) (word_of t.words k) f ((known t kept).owned f.0 k owner)) [
+pub framed_there : (t : JoinedParts) → PartsKept t → (f : Frame) (k : Key) → (record_at t.table f.0).owner ≡ Some k → is_there (key_entry t.words k) ≡ true
+framed_there t kept f k owner = elim (in_frame (owned_by (owners t.table) k) (key_entry t.words k) f ((known t kept).owned f.0 k owner)) [
   | inl e ↦ ap is_there e
   | inr x ↦ ap is_there x.1
 ]
 
 -- the first frame on standby
-pub steal_can : (t : JoinedParts) → Kept t → IsLegal (move.Steal (front t.table.standby)) (life_in t) → (f : ℕ) (k : Key) → slice_get t.table.standby 0 ≡ Some f → (record_at t.table f).owner ≡ Some k
+pub steal_can : (t : JoinedParts) → PartsKept t → IsLegal (move.Steal (front t.table.standby)) (life_in t) → (f : ℕ) (k : Key) → slice_get t.table.standby 0 ≡ Some f → (record_at t.table f).owner ≡ Some k
     → CanSet t k (home_entry (record_at t.table f).backing)
 steal_can t kept legal f k first owner =
     let g = front t.table.standby in
@@ -135,7 +135,7 @@ mappable t f place legal =
       room = a.1;
     }
 
-pub invalid_entry : (e : Entry) → valid_frame e ≡ None → is_valid e ≡ false
+pub invalid_entry : (e : Entry) → valid_frame e ≡ None → is_valid_entry e ≡ false
 invalid_entry entry.Empty h = refl
 invalid_entry entry.Zero h = refl
 invalid_entry (entry.Paged s) h = refl
@@ -144,12 +144,12 @@ invalid_entry (entry.Transition f) h = refl
 invalid_entry (entry.Valid f n) h = cc
 invalid_entry (entry.Proto a i) h = refl
 
-pub shares_room : (t : JoinedParts) → Kept t → (f : ℕ) → (record_at t.table f).shares + 1 < 2 ^ 32
+pub shares_room : (t : JoinedParts) → PartsKept t → (f : ℕ) → (record_at t.table f).shares + 1 < 2 ^ 32
 shares_room t kept f = let most = (known t kept).most (λ pid s e. (kept.ranges.sets pid s e).1) f in omega (arith, most)
 
 -- the prototype word of the page can be set, once the place is valid
-pub name_can : (t : JoinedParts) → Kept t → (f : Frame) (place : Place) → (o : Option Key) → (record_at t.table f.0).owner ≡ o → f.0 < length t.table.records
-    → ((k : Key) → is_there (word_of t.words k) ≡ true → has_word t.words k ≡ true) → CanName (made_valid t.words place f) o f
+pub name_can : (t : JoinedParts) → PartsKept t → (f : Frame) (place : Place) → (o : Option Key) → (record_at t.table f.0).owner ≡ o → f.0 < length t.table.records
+    → ((k : Key) → is_there (key_entry t.words k) ≡ true → has_word t.words k ≡ true) → CanName (made_valid t.words place f) o f
 name_can t kept f place None e low has = tt
 name_can t kept f place (Some (Private p v)) e low has = tt
 name_can t kept f place (Some (Shared a i)) e low has = (has (Shared a i) (framed_there t kept f (Shared a i) e), valid_fits t kept f low, refl)
@@ -158,8 +158,8 @@ name_can t kept f place (Some (Shared a i)) e low has = (has (Shared a i) (frame
 pub own_place : (t : JoinedParts) (f : Frame) (place : Place) (p : Pid) (v : Vpn) → Mappable t f place → (record_at t.table f.0).owner ≡ Some (Private p v) → (record_at t.table f.0).owner ≡ Some (key_of_place place)
 own_place t f place p v m e =
     let is : m.key ≡ Private p v = (let both : Some m.key ≡ Some (Private p v) = sym m.owner ∙ e in cc) in
-    let same : same_place (place_of p v) place ≡ true = ap (fits_place place) (sym is) ∙ m.fits in
-    e ∙ ap (λ (x : Place). Some (key_of_place x)) (same_place-true (place_of p v) place same)
+    let same : same_place (place_from p v) place ≡ true = ap (fits_place place) (sym is) ∙ m.fits in
+    e ∙ ap (λ (x : Place). Some (key_of_place x)) (same_place-true (place_from p v) place same)
 
 -- ---- unmap
 
@@ -169,7 +169,7 @@ pub record Leaving (t : JoinedParts) (f : Frame) (place : Place) : Type 0 where
   pub some : 1 ≤ (record_at t.table f.0).shares
   pub owned : is_some (record_at t.table f.0).owner ≡ true
 
-pub leaving : (t : JoinedParts) → Kept t → (f : Frame) (n : ℕ) (place : Place) → t.words.at place ≡ entry.Valid f n → Leaving t f place
+pub leaving : (t : JoinedParts) → PartsKept t → (f : Frame) (n : ℕ) (place : Place) → t.words.at place ≡ entry.Valid f n → Leaving t f place
 leaving t kept f n place e =
     let there = ap valid_frame e in
     let some = (known t kept).shares place f there in
@@ -183,8 +183,8 @@ area_low w a i h = by (w.sizes a.0) h
     by None e = cc
     by (Some n) e = refl
 
-pub leave_can : (t : JoinedParts) → Kept t → (f : Frame) (k : Key) → (record_at t.table f.0).owner ≡ Some k → f.0 < length t.table.records
-    → ((k : Key) → is_there (word_of t.words k) ≡ true → has_word t.words k ≡ true) → CanLeave t.words k f
+pub leave_can : (t : JoinedParts) → PartsKept t → (f : Frame) (k : Key) → (record_at t.table f.0).owner ≡ Some k → f.0 < length t.table.records
+    → ((k : Key) → is_there (key_entry t.words k) ≡ true → has_word t.words k ≡ true) → CanLeave t.words k f
 leave_can t kept f (Private p v) e low has = frame_fits t kept f low
 leave_can t kept f (Shared a i) e low has =
     let h = has (Shared a i) (framed_there t kept f (Shared a i) e) in
@@ -194,9 +194,9 @@ leave_can t kept f (Shared a i) e low has =
 -- ---- read
 
 -- where the page is read from, by its entry
-pub read_backing : (t : JoinedParts) (k : Key) (e : Entry) → bare e ≡ word_of t.words k → entry_backing e ≡ backing_of ((life_in t).stands k)
-read_backing t k e is = sym (backing_bare e) ∙ ap entry_backing is ∙ sym (backing_held (owned_by (owners t.table) k) (word_of t.words k))
+pub read_backing : (t : JoinedParts) (k : Key) (e : Entry) → bare e ≡ key_entry t.words k → entry_backing e ≡ backing_of ((life_in t).stands k)
+read_backing t k e is = sym (backing_bare e) ∙ ap entry_backing is ∙ sym (backing_held (owned_by (owners t.table) k) (key_entry t.words k))
 
 -- by the entry as it is told, with its number
-pub leaving_told : (t : JoinedParts) → Kept t → (f : Frame) (n : ℕ) (place : Place) (e : Entry) → bare e ≡ t.words.at place → e ≡ entry.Valid f n → Leaving t f place
+pub leaving_told : (t : JoinedParts) → PartsKept t → (f : Frame) (n : ℕ) (place : Place) (e : Entry) → bare e ≡ t.words.at place → e ≡ entry.Valid f n → Leaving t f place
 leaving_told t kept f n place e told is = leaving t kept f 0 place (sym told ∙ ap bare is)

@@ -26,8 +26,9 @@ use Rattle.mm_laws.proofs.Taking.{idle_is}
 use Rattle.mm_frames.specs.Base.{FramesOf, has_block, slot_after_write, write_ended}
 use Rattle.mm_flight.specs.Requests.{ended}
 use Rattle.mm_parts.specs.Shown.{JoinedParts, life_in, shown_of, requests_in, own_is, is_own_line}
-use Rattle.mm_parts.specs.Kept.{Kept}
-use Rattle.mm_parts.specs.Moves.{after, own_after, own_ended, flight_begun, flight_ended, write_end, backing_to, slots_to}
+use Rattle.mm_parts.specs.Kept.{PartsKept}
+use Rattle.mm_frame_laws.specs.Steps.{backing_to}
+use Rattle.mm_parts.specs.Moves.{parts_after, own_after, own_ended, flight_begun, flight_ended, write_end, slots_to}
 use Rattle.mm_parts.proofs.FrameChanges.{Rewrites, rewrites_by, rewrites_none, settled_records, waits_frame, Quiet, quiet_by}
 use Rattle.mm_parts.proofs.Keeping.{Step, known, quiet_step}
 use Rattle.mm_parts.proofs.RequestLists.{ended_requests, ended_waits, ended_depth, ended_within, waits_ended, unread_waits, begun_requests, begun_within, begun_depth, begun_waits, waits_begun}
@@ -37,8 +38,8 @@ use Rattle.mm_life.proofs.Records.{done_part}
 
 -- ---- clear
 
-pub clear_step : (t : JoinedParts) → Kept t → (f : Frame) (bytes' : List (Option (List ℕ))) → IsLegal (move.Clear f) (life_in t)
-    → Step (record t { table = after_clear t.table f.0; bytes = bytes' }) (record (after (shown_of t) (move.Clear f)) { bytes = bytes' })
+pub clear_step : (t : JoinedParts) → PartsKept t → (f : Frame) (bytes' : List (Option (List ℕ))) → IsLegal (move.Clear f) (life_in t)
+    → Step (record t { table = after_clear t.table f.0; bytes = bytes' }) (record (parts_after (shown_of t) (move.Clear f)) { bytes = bytes' })
 clear_step t kept f bytes' legal =
     quiet_step t kept (move.Clear f) legal (after_clear t.table f.0) bytes' t.free t.flight t.own f.0 (record_at t.table f.0)
     (rewrites_none t.table (after_clear t.table f.0) f.0 refl) (record { owner = refl; shares = refl; blocks = λ k e. refl }) refl kept.waits refl kept.within.requesting
@@ -50,8 +51,8 @@ block_without backing.None = refl
 block_without (backing.Slot s) = refl
 block_without (backing.Block b) = refl
 
-pub soil_step : (t : JoinedParts) → Kept t → (f : Frame) → IsLegal (move.Soil f) (life_in t)
-    → Step (record t { table = after_soil t.table f.0; free = freed t.free (slot_after_soil (record_at t.table f.0)) }) (after (shown_of t) (move.Soil f))
+pub soil_step : (t : JoinedParts) → PartsKept t → (f : Frame) → IsLegal (move.Soil f) (life_in t)
+    → Step (record t { table = after_soil t.table f.0; free = freed t.free (slot_after_soil (record_at t.table f.0)) }) (parts_after (shown_of t) (move.Soil f))
 soil_step t kept f legal =
     let facts = known t kept in
     let r = record_at t.table f.0 in
@@ -78,7 +79,7 @@ pub record Holding (t : JoinedParts) (f : ℕ) : Type 0 where
   pub low : f < length t.table.records
   pub once : times f (requests_in t) ≡ 1
 
-pub held_by_request : (t : JoinedParts) → Kept t → (f : ℕ) → has_request (record_at t.table f).request ≡ true → Holding t f
+pub held_by_request : (t : JoinedParts) → PartsKept t → (f : ℕ) → has_request (record_at t.table f).request ≡ true → Holding t f
 held_by_request t kept f busy = record {
   low = kept_inside t.table f (or_right (is_some (record_at t.table f).owner) (has_request (record_at t.table f).request) busy);
   once = ((known t kept).standing f).flight ∙ ap one_if busy;
@@ -88,14 +89,14 @@ records_ended : (b : Bool) (new : Record) (d : FrameTable) (f : ℕ) → (if b t
 records_ended true new d f = settled_records d f new
 records_ended false new d f = refl
 
-module _ (t : JoinedParts) (kept : Kept t) (x : Move) (legal : IsLegal x (life_in t)) (d' : FrameTable) (bytes' : List (Option (List ℕ))) (free' : List Bool) (f : ℕ) (r : Record) (ok : Bool)
+module _ (t : JoinedParts) (kept : PartsKept t) (x : Move) (legal : IsLegal x (life_in t)) (d' : FrameTable) (bytes' : List (Option (List ℕ))) (free' : List Bool) (f : ℕ) (r : Record) (ok : Bool)
     (busy : has_request (record_at t.table f).request ≡ true) (records : d'.records ≡ slice_set t.table.records f r) (quiet : Quiet t.table f r)
     (moves : record (life_in t) { frames = d'; free_slots = free'; flight = without f (requests_in t) } ≡ after_move (life_in t) x) where
   change_ended : Rewrites t.table d' f r
   change_ended = rewrites_by t.table d' f r (held_by_request t kept f busy).low records
 
   pub end_step : Step (record t { table = d'; bytes = bytes'; free = free'; flight = flight_ended (own_is t.own f) t.flight f ok; own = own_ended t.own f })
-      (record (after (shown_of t) x) { bytes = bytes'; waits = map (ended f ok) t.flight.waits; own = own_ended t.own f })
+      (record (parts_after (shown_of t) x) { bytes = bytes'; waits = map (ended f ok) t.flight.waits; own = own_ended t.own f })
   end_step =
       let once = (held_by_request t kept f busy).once in
       let flight' = flight_ended (own_is t.own f) t.flight f ok in
@@ -106,12 +107,12 @@ module _ (t : JoinedParts) (kept : Kept t) (x : Move) (legal : IsLegal x (life_i
       (λ h. kept.within.requesting (ended_within t.own f h)) in
       record {
         kept = step.kept;
-        shown = step.shown ∙ ap (λ ws. record (after (shown_of t) x) { bytes = bytes'; waits = ws; own = own_ended t.own f }) (ended_waits t.table t.flight t.own f ok kept.waits once);
+        shown = step.shown ∙ ap (λ ws. record (parts_after (shown_of t) x) { bytes = bytes'; waits = ws; own = own_ended t.own f }) (ended_waits t.table t.flight t.own f ok kept.waits once);
       }
 
-pub got_step : (t : JoinedParts) → Kept t → (f : Frame) (bytes' : List (Option (List ℕ))) → IsLegal (move.Got f) (life_in t)
+pub got_step : (t : JoinedParts) → PartsKept t → (f : Frame) (bytes' : List (Option (List ℕ))) → IsLegal (move.Got f) (life_in t)
     → Step (record t { table = after_got t.table f.0; bytes = bytes'; free = freed t.free (slot_after_read (record_at t.table f.0)); flight = flight_ended (own_is t.own f.0) t.flight f.0 true; own = own_ended t.own f.0 })
-    (record (after (shown_of t) (move.Got f)) { bytes = bytes'; waits = map (ended f.0 true) t.flight.waits; own = own_ended t.own f.0 })
+    (record (parts_after (shown_of t) (move.Got f)) { bytes = bytes'; waits = map (ended f.0 true) t.flight.waits; own = own_ended t.own f.0 })
 got_step t kept f bytes' legal =
     let r = record_at t.table f.0 in
     let reading = (and_parts (is_read r.request) (is_io t.line.kind || is_access t.line.kind) legal).0 in
@@ -123,9 +124,9 @@ abbrev pub table_end : Bool → FrameTable → ℕ → FrameTable
 table_end true d f = after_wrote d f
 table_end false d f = after_lost d f
 
-write_ends : (t : JoinedParts) → Kept t → (f : Frame) (ok : Bool) → IsLegal (write_end ok f) (life_in t)
+write_ends : (t : JoinedParts) → PartsKept t → (f : Frame) (ok : Bool) → IsLegal (write_end ok f) (life_in t)
     → Step (record t { table = table_end ok t.table f.0; free = freed t.free (slot_after_write ok (record_at t.table f.0)); flight = flight_ended (own_is t.own f.0) t.flight f.0 ok; own = own_ended t.own f.0 })
-    (record (after (shown_of t) (write_end ok f)) { waits = map (ended f.0 ok) t.flight.waits; own = own_ended t.own f.0 })
+    (record (parts_after (shown_of t) (write_end ok f)) { waits = map (ended f.0 ok) t.flight.waits; own = own_ended t.own f.0 })
 write_ends t kept f true legal =
     let r = record_at t.table f.0 in
     let writing = (and_parts (is_write r.request) (is_io t.line.kind || is_access t.line.kind || is_call t.line.kind) legal).0 in
@@ -144,15 +145,15 @@ writing_in t f true legal = (and_parts (is_write (record_at t.table f.0).request
 writing_in t f false legal = (and_parts (is_write (record_at t.table f.0).request) (is_io t.line.kind || is_access t.line.kind || is_call t.line.kind) legal).0
 
 -- a write ends, well or not; nobody waits for it
-pub write_end_step : (t : JoinedParts) → Kept t → (f : Frame) (ok : Bool) → IsLegal (write_end ok f) (life_in t)
+pub write_end_step : (t : JoinedParts) → PartsKept t → (f : Frame) (ok : Bool) → IsLegal (write_end ok f) (life_in t)
     → Step (record t { table = table_end ok t.table f.0; free = freed t.free (slot_after_write ok (record_at t.table f.0)); flight = flight_ended (own_is t.own f.0) t.flight f.0 ok; own = own_ended t.own f.0 })
-    (record (after (shown_of t) (write_end ok f)) { own = own_ended t.own f.0 })
+    (record (parts_after (shown_of t) (write_end ok f)) { own = own_ended t.own f.0 })
 write_end_step t kept f ok legal =
     let step = write_ends t kept f ok legal in
     let calm = write_not_read (record_at t.table f.0).request (writing_in t f ok legal) in
     record {
       kept = step.kept;
-      shown = step.shown ∙ ap (λ ws. record (after (shown_of t) (write_end ok f)) { waits = ws; own = own_ended t.own f.0 }) (unread_waits t.table t.flight f.0 ok kept.waits calm);
+      shown = step.shown ∙ ap (λ ws. record (parts_after (shown_of t) (write_end ok f)) { waits = ws; own = own_ended t.own f.0 }) (unread_waits t.table t.flight f.0 ok kept.waits calm);
     }
 
 -- ---- the begin of a write
@@ -163,11 +164,11 @@ record Writable (d : FrameTable) (f : ℕ) (home : Backing) : Type 0 where
   quiet : has_request (record_at d f).request ≡ false
   blocks : has_block home ≡ has_block (record_at d f).backing
 
-write_begins : (t : JoinedParts) → Kept t → (f : Frame) (home : Backing) (free' : List Bool) (s : Stored) → IsLegal (move.Write f s) (life_in t) → Writable t.table f.0 home
+write_begins : (t : JoinedParts) → PartsKept t → (f : Frame) (home : Backing) (free' : List Bool) (s : Stored) → IsLegal (move.Write f s) (life_in t) → Writable t.table f.0 home
     → (is_own_line t.line.kind ≡ true → t.own ≡ None)
     → record (life_in t) { frames = after_write t.table f.0 home; free_slots = free'; flight = requests_in t ++ f.0 ∷ [] } ≡ after_move (life_in t) (move.Write f s)
     → Step (record t { table = after_write t.table f.0 home; free = free'; flight = flight_begun (is_own_line t.line.kind) t.flight f; own = own_after t.line.kind t.own f })
-    (record (after (shown_of t) (move.Write f s)) { own = own_after t.line.kind t.own f })
+    (record (parts_after (shown_of t) (move.Write f s)) { own = own_after t.line.kind t.own f })
 write_begins t kept f home free' s legal able can moves =
     let r = record_at t.table f.0 in
     let low = kept_inside t.table f.0 (or_left (is_some r.owner) (has_request r.request) able.owned) in
@@ -182,7 +183,7 @@ write_begins t kept f home free' s legal able can moves =
     (begun_within t.own t.line.kind f kept.within.requesting) in
     record {
       kept = step.kept;
-      shown = step.shown ∙ ap (λ ws. record (after (shown_of t) (move.Write f s)) { waits = ws; own = own_after t.line.kind t.own f }) (begun_waits (is_own_line t.line.kind) t.flight f);
+      shown = step.shown ∙ ap (λ ws. record (parts_after (shown_of t) (move.Write f s)) { waits = ws; own = own_after t.line.kind t.own f }) (begun_waits (is_own_line t.line.kind) t.flight f);
     }
 
 pub no_block : (b : Bool) (x : Backing) → b ≡ true → is_backing_for b x ≡ true → has_block x ≡ false
@@ -190,7 +191,7 @@ no_block b backing.None e h = refl
 no_block b (backing.Slot s) e h = refl
 no_block b (backing.Block c) e h = let bad : false ≡ true = sym (ap not e) ∙ h in cc
 
-write_slot_able : (t : JoinedParts) → Kept t → (f : Frame) (s : Slot) → IsLegal (move.Write f (stored.Slot s)) (life_in t) → Writable t.table f.0 (backing.Slot s)
+write_slot_able : (t : JoinedParts) → PartsKept t → (f : Frame) (s : Slot) → IsLegal (move.Write f (stored.Slot s)) (life_in t) → Writable t.table f.0 (backing.Slot s)
 write_slot_able t kept f s legal =
     let facts = known t kept in
     let r = record_at t.table f.0 in
@@ -212,7 +213,7 @@ is_that_block b backing.None h = cc
 is_that_block b (backing.Slot s) h = cc
 is_that_block b (backing.Block c) h = refl
 
-write_block_able : (t : JoinedParts) → Kept t → (f : Frame) (b : Block) → IsLegal (move.Write f (stored.Block b)) (life_in t) → Writable t.table f.0 (backing.Block b)
+write_block_able : (t : JoinedParts) → PartsKept t → (f : Frame) (b : Block) → IsLegal (move.Write f (stored.Block b)) (life_in t) → Writable t.table f.0 (backing.Block b)
 write_block_able t kept f b legal =
     let r = record_at t.table f.0 in
     let l = life_in t in
@@ -221,9 +222,9 @@ write_block_able t kept f b legal =
     let e = and_parts (r.changed && is_some r.owner) (not (has_request r.request)) c.0 in
     record { owned = (and_parts r.changed (is_some r.owner) e.0).1; quiet = not-true (has_request r.request) e.1; blocks = is_that_block b r.backing c.1 }
 
-pub write_step : (t : JoinedParts) → Kept t → (f : Frame) (s : Stored) → IsLegal (move.Write f s) (life_in t) → (is_own_line t.line.kind ≡ true → t.own ≡ None)
+pub write_step : (t : JoinedParts) → PartsKept t → (f : Frame) (s : Stored) → IsLegal (move.Write f s) (life_in t) → (is_own_line t.line.kind ≡ true → t.own ≡ None)
     → Step (record t { table = after_write t.table f.0 (backing_to s); free = slots_to s t.free; flight = flight_begun (is_own_line t.line.kind) t.flight f; own = own_after t.line.kind t.own f })
-    (record (after (shown_of t) (move.Write f s)) { own = own_after t.line.kind t.own f })
+    (record (parts_after (shown_of t) (move.Write f s)) { own = own_after t.line.kind t.own f })
 write_step t kept f (stored.Slot s) legal can = write_begins t kept f (backing.Slot s) (slice_set t.free s.0 false) (stored.Slot s) legal (write_slot_able t kept f s legal) can refl
 write_step t kept f (stored.Block b) legal can = write_begins t kept f (backing.Block b) t.free (stored.Block b) legal (write_block_able t kept f b legal) can refl
 
@@ -245,15 +246,15 @@ slot_if true x s e = cc
 slot_if false x s e = e
 
 -- the slot that is given back is not free
-pub write_frees : (t : JoinedParts) → Kept t → (f : Frame) (ok : Bool) (s : ℕ) → slot_after_write ok (record_at t.table f.0) ≡ Some s → slice_get t.free s ≡ Some false
+pub write_frees : (t : JoinedParts) → PartsKept t → (f : Frame) (ok : Bool) (s : ℕ) → slot_after_write ok (record_at t.table f.0) ≡ Some s → slice_get t.free s ≡ Some false
 write_frees t kept f true s e = let r = record_at t.table f.0 in (known t kept).backed f.0 s (slot_if (is_some r.owner && not (is_again r.request)) r.backing s e)
 write_frees t kept f false s e = (known t kept).backed f.0 s e
 
-pub read_frees : (t : JoinedParts) → Kept t → (f : Frame) (s : ℕ) → slot_after_read (record_at t.table f.0) ≡ Some s → slice_get t.free s ≡ Some false
+pub read_frees : (t : JoinedParts) → PartsKept t → (f : Frame) (s : ℕ) → slot_after_read (record_at t.table f.0) ≡ Some s → slice_get t.free s ≡ Some false
 read_frees t kept f s e = let r = record_at t.table f.0 in (known t kept).backed f.0 s (slot_if (is_some r.owner) r.backing s e)
 
 -- a frame that is being written is bound
-pub write_kept : (t : JoinedParts) → Kept t → (f : ℕ) → is_write (record_at t.table f).request ≡ true → (is_some (record_at t.table f).owner || has_request (record_at t.table f).request) ≡ true
+pub write_kept : (t : JoinedParts) → PartsKept t → (f : ℕ) → is_write (record_at t.table f).request ≡ true → (is_some (record_at t.table f).owner || has_request (record_at t.table f).request) ≡ true
 write_kept t kept f writing = by (is_some (record_at t.table f).owner) refl
   where
     by : (b : Bool) → is_some (record_at t.table f).owner ≡ b → (b || has_request (record_at t.table f).request) ≡ true

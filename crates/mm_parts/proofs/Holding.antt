@@ -18,10 +18,10 @@ use Rattle.mm_words.specs.declared.layout.Entry.{Entry}
 use Rattle.mm_words.specs.declared.layout.Entry.TheVariants as entry
 use Rattle.mm_flight.specs.Requests.{is_in}
 use Rattle.mm_words.specs.declared.aside.Aside.{Aside}
-use Rattle.mm_words.specs.Words.{word_of, has_word, is_there, valid_frame}
+use Rattle.mm_words.specs.Words.{key_entry, has_word, is_there, valid_frame}
 use Rattle.mm_parts.specs.Shown.{JoinedParts, Owners, owners, owned_by, held_by, named_by, life_in, shown_of, requests, requests_in, own_is}
 use Rattle.mm_parts.specs.Holds.{HasSet, LinesHold, PagesHold, StorageHolds}
-use Rattle.mm_parts.specs.Kept.{Kept}
+use Rattle.mm_parts.specs.Kept.{PartsKept}
 use Rattle.mm_laws.proofs.Facts.{Facts}
 use Rattle.mm_parts.proofs.Keeping.{known}
 use Rattle.mm_parts.proofs.RequestLists.{own_apart}
@@ -32,25 +32,25 @@ use Rattle.mm_types.proofs.Booleans.{not_true}
 -- ---- lines
 
 -- a frame whose page is being read has one request
-pub read_once : (t : JoinedParts) → Kept t → (f : ℕ) → is_read (record_at t.table f).request ≡ true → times f (requests_in t) ≡ 1
+pub read_once : (t : JoinedParts) → PartsKept t → (f : ℕ) → is_read (record_at t.table f).request ≡ true → times f (requests_in t) ≡ 1
 read_once t kept f h = ((known t kept).standing f).flight ∙ ap one_if (read_has (record_at t.table f).request h)
 
 -- a request in flight is not the line's own
-not_own : (t : JoinedParts) → Kept t → (f : ℕ) → is_in f t.flight.frames ≡ true → is_read (record_at t.table f).request ≡ true → own_is t.own f ≡ false
+not_own : (t : JoinedParts) → PartsKept t → (f : ℕ) → is_in f t.flight.frames ≡ true → is_read (record_at t.table f).request ≡ true → own_is t.own f ≡ false
 not_own t kept f flies reads = not_true (own_is t.own f) (λ e. let bad : true ≡ false = sym flies ∙ own_apart f t.own t.flight.frames (read_once t kept f reads) e in cc)
 
 some_place : (a : Option Aside) → is_some (option_map (λ (x : Aside). x.place) a) ≡ true → is_some a ≡ true
 some_place None h = cc
 some_place (Some x) h = refl
 
-few_by : (t : JoinedParts) → Kept t → length t.flight.frames ≤ t.flight.depth → t.own ≡ None → length (requests_in t) ≤ t.line.machine.depth
+few_by : (t : JoinedParts) → PartsKept t → length t.flight.frames ≤ t.flight.depth → t.own ≡ None → length (requests_in t) ≤ t.line.machine.depth
 few_by t kept few none =
     let depth = kept.depth in
     let e : length (requests_in t) ≡ length (t.flight.frames ++ []) = ap (λ o. length (requests t.flight.frames o)) none in
     let n = length-append t.flight.frames [] in
     omega (arith, few, depth, e, n)
 
-pub lines_hold : (t : JoinedParts) → Kept t → length t.flight.frames ≤ t.flight.depth → length t.flight.waits ≡ 256 → LinesHold (shown_of t)
+pub lines_hold : (t : JoinedParts) → PartsKept t → length t.flight.frames ≤ t.flight.depth → length t.flight.waits ≡ 256 → LinesHold (shown_of t)
 lines_hold t kept few threads = record {
   reached = kept.reached;
   machine = kept.line.machine;
@@ -91,19 +91,19 @@ unnamed_at o p (entry.Transition f) none = absurd (none refl)
 unnamed_at o p (entry.Valid f n) none = absurd (none refl)
 unnamed_at o p (entry.Proto a i) none = absurd (none refl)
 
-owned_low : (t : JoinedParts) → Kept t → (f : ℕ) → is_some (record_at t.table f).owner ≡ true → f < t.line.machine.frames
+owned_low : (t : JoinedParts) → PartsKept t → (f : ℕ) → is_some (record_at t.table f).owner ≡ true → f < t.line.machine.frames
 owned_low t kept f some =
     let low = kept_inside t.table f (or_left (is_some (record_at t.table f).owner) (has_request (record_at t.table f).request) some) in
     let size = (known t kept).framed in
     omega (arith, low, size)
 
-has_set : (t : JoinedParts) → Kept t → ((pid : ℕ) (s : ResidentSet) → set_in t.words.sets pid ≡ Some s → s.resident ≤ s.max) → (pid : ℕ) (o : Option ResidentSet)
+has_set : (t : JoinedParts) → PartsKept t → ((pid : ℕ) (s : ResidentSet) → set_in t.words.sets pid ≡ Some s → s.resident ≤ s.max) → (pid : ℕ) (o : Option ResidentSet)
     → set_in t.words.sets pid ≡ o → is_some o ≡ true → HasSet (life_in t) pid
 has_set t kept within pid None e h = cc
 has_set t kept within pid (Some s) e h = record { set = s; found = e; some = (kept.ranges.sets pid s e).0; most = (kept.ranges.sets pid s e).1; within = within pid s e }
 
-pub pages_hold : (t : JoinedParts) → Kept t
-    → ((k : Key) → is_there (word_of t.words k) ≡ true → has_word t.words k ≡ true)
+pub pages_hold : (t : JoinedParts) → PartsKept t
+    → ((k : Key) → is_there (key_entry t.words k) ≡ true → has_word t.words k ≡ true)
     → ((p : Place) → is_there (t.words.at p) ≡ true → t.words.bound p ≡ true)
     → ((p : Place) → t.words.bound p ≡ true → t.words.is_open p.pid.0 ≡ true)
     → ((pid : ℕ) → t.words.is_open pid ≡ true → is_some (set_in t.words.sets pid) ≡ true)
@@ -112,7 +112,7 @@ pub pages_hold : (t : JoinedParts) → Kept t
 pages_hold t kept there bound open_now begun within =
     let facts : Facts (life_in t) = known t kept in
     record {
-      home = λ k live. word_home t k (there k (live_there (owned_by (owners t.table) k) (word_of t.words k) live));
+      home = λ k live. word_home t k (there k (live_there (owned_by (owners t.table) k) (key_entry t.words k) live));
       owner = facts.owner;
       of_frame = λ k f e. facts.owned f.0 k e;
       there = λ k f e. owned_low t kept f.0 (ap is_some (facts.owner k f e));
@@ -132,7 +132,7 @@ pages_hold t kept there bound open_now begun within =
 
 -- ---- devices
 
-pub storage_holds : (t : JoinedParts) → Kept t → StorageHolds (shown_of t)
+pub storage_holds : (t : JoinedParts) → PartsKept t → StorageHolds (shown_of t)
 storage_holds t kept =
     let facts : Facts (life_in t) = known t kept in
     record {

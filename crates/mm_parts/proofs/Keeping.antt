@@ -9,24 +9,24 @@ use Rattle.mm_life.specs.Legal.{IsLegal}
 use Rattle.mm_life.specs.Effect.{after_move}
 use Rattle.mm_flight.specs.Requests.{FlightOf}
 use Rattle.mm_parts.specs.Shown.{JoinedParts, PartsOf, life_of, life_in, shown_of, requests, requests_in, is_own_line}
-use Rattle.mm_parts.specs.Kept.{Kept, AreWaits}
-use Rattle.mm_parts.specs.Moves.{after}
+use Rattle.mm_parts.specs.Kept.{PartsKept, AreWaits}
+use Rattle.mm_parts.specs.Moves.{parts_after}
 use Rattle.mm_laws.proofs.Facts.{Facts, facts_of, reached_by}
 use Rattle.mm_parts.proofs.FrameChanges.{Rewrites, Quiet, life_quiet, words_frame, names_frame}
 
 -- what the parts are after a call: they keep what they keep, and show this
 pub record Step (u : JoinedParts) (s : PartsOf) : Type 0 where
-  pub kept : Kept u
+  pub kept : PartsKept u
   pub shown : shown_of u ≡ s
 
 pub step_to : (u v : JoinedParts) (s : PartsOf) → v ≡ u → Step u s → Step v s
-step_to u v s e step = record { kept = subst Kept (sym e) step.kept; shown = ap shown_of e ∙ step.shown }
+step_to u v s e step = record { kept = subst PartsKept (sym e) step.kept; shown = ap shown_of e ∙ step.shown }
 
-pub known : (t : JoinedParts) → Kept t → Facts (life_in t)
+pub known : (t : JoinedParts) → PartsKept t → Facts (life_in t)
 known t kept = facts_of (life_in t) kept.reached
 
 -- a frame's record changes with no word: the owner and the shares stay
-module _ (t : JoinedParts) (kept : Kept t) (x : Move) (legal : IsLegal x (life_in t)) (d' : FrameTable) (bytes' : List (Option (List ℕ))) (free' : List Bool) (flight' : FlightOf) (own' : Option Frame)
+module _ (t : JoinedParts) (kept : PartsKept t) (x : Move) (legal : IsLegal x (life_in t)) (d' : FrameTable) (bytes' : List (Option (List ℕ))) (free' : List Bool) (flight' : FlightOf) (own' : Option Frame)
     (f : ℕ) (r : Record) (change : Rewrites t.table d' f r) (quiet : Quiet t.table f r)
     (moves : record (life_in t) { frames = d'; free_slots = free'; flight = requests flight'.frames own' } ≡ after_move (life_in t) x)
     (waits : AreWaits d' flight') (depth : flight'.depth ≡ t.flight.depth) (own : is_some own' ≡ true → is_own_line t.line.kind ≡ true) where
@@ -34,7 +34,7 @@ module _ (t : JoinedParts) (kept : Kept t) (x : Move) (legal : IsLegal x (life_i
   quiet_life = life_quiet t.line t.table d' t.free free' t.words (requests_in t) (requests flight'.frames own') f r (known t kept) change quiet ∙ moves
 
   pub quiet_step : Step (record t { table = d'; bytes = bytes'; free = free'; flight = flight'; own = own' })
-      (record (after (shown_of t) x) { bytes = bytes'; waits = flight'.waits; own = own' })
+      (record (parts_after (shown_of t) x) { bytes = bytes'; waits = flight'.waits; own = own' })
   quiet_step = record {
     kept = record {
       reached = reached_by (life_in t) _ x legal quiet_life kept.reached;

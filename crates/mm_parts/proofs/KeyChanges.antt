@@ -25,11 +25,11 @@ use Rattle.mm_flight.specs.Requests.{FlightOf}
 use Rattle.mm_words.specs.declared.layout.Entry.{Entry}
 use Rattle.mm_words.specs.declared.layout.Entry.TheVariants as entry
 use Rattle.mm_words.specs.declared.aside.Aside.{Aside}
-use Rattle.mm_words.specs.Words.{WordsOf, word_of, with_word, with_own, keeps_places, is_valid, is_aside, place_of}
+use Rattle.mm_words.specs.Words.{WordsOf, key_entry, with_entry, with_own, keeps_places, is_valid_entry, is_aside, place_from}
 use Rattle.mm_parts.specs.Shown.{JoinedParts, LineOf, owners, owned_by, held_by, stands_of, valid_of, names_of, is_paging, paging_of, life_of, life_in, shown_of, requests, is_own_line}
 use Rattle.mm_parts.specs.Words.{WordsKept, is_aside_entry, names_other}
-use Rattle.mm_parts.specs.Kept.{Kept, LineKept, AreWaits}
-use Rattle.mm_parts.specs.Moves.{after}
+use Rattle.mm_parts.specs.Kept.{PartsKept, LineKept, AreWaits}
+use Rattle.mm_parts.specs.Moves.{parts_after}
 use Rattle.mm_laws.proofs.Facts.{Facts, reached_by}
 use Rattle.mm_parts.proofs.Stands.{paging_at, same_life, stands_set, stands_owner, sets_set, valid_set, word_set}
 use Rattle.mm_parts.proofs.FrameChanges.{Rewrites}
@@ -58,16 +58,16 @@ is_file (entry.Proto a i) = false
 
 -- an entry that a key's word can be where no place is valid for its page
 abbrev pub is_resting : Key → Entry → Bool
-is_resting (Private p v) e = not (is_valid e) && not (is_file e)
-is_resting (Shared a i) e = not (is_valid e) && not (is_proto e)
+is_resting (Private p v) e = not (is_valid_entry e) && not (is_file e)
+is_resting (Shared a i) e = not (is_valid_entry e) && not (is_proto e)
 
-pub resting_calm : (k : Key) (e : Entry) → is_resting k e ≡ true → is_valid e ≡ false
-resting_calm (Private p v) e h = not-true (is_valid e) (and_parts (not (is_valid e)) (not (is_file e)) h).0
-resting_calm (Shared a i) e h = not-true (is_valid e) (and_parts (not (is_valid e)) (not (is_proto e)) h).0
+pub resting_calm : (k : Key) (e : Entry) → is_resting k e ≡ true → is_valid_entry e ≡ false
+resting_calm (Private p v) e h = not-true (is_valid_entry e) (and_parts (not (is_valid_entry e)) (not (is_file e)) h).0
+resting_calm (Shared a i) e h = not-true (is_valid_entry e) (and_parts (not (is_valid_entry e)) (not (is_proto e)) h).0
 
 -- the key is the one beside the tables
 abbrev pub is_beside : WordsOf → Key → Bool
-is_beside w (Private p v) = is_aside w.aside (place_of p v)
+is_beside w (Private p v) = is_aside w.aside (place_from p v)
 is_beside w (Shared a i) = false
 
 -- ---- what a change of a word leaves
@@ -76,34 +76,34 @@ bound_by : (b : Bool) (w : WordsOf) (place : Place) (e : Entry) → (with_own b 
 bound_by true w place e = refl
 bound_by false w place e = refl
 
-pub bound_set : (w : WordsOf) (k : Key) (e : Entry) → (with_word w k e).bound ≡ w.bound
-bound_set w (Private p v) e = bound_by (is_aside w.aside (place_of p v)) w (place_of p v) e
+pub bound_set : (w : WordsOf) (k : Key) (e : Entry) → (with_entry w k e).bound ≡ w.bound
+bound_set w (Private p v) e = bound_by (is_aside w.aside (place_from p v)) w (place_from p v) e
 bound_set w (Shared a i) e = refl
 
 open_by : (b : Bool) (w : WordsOf) (place : Place) (e : Entry) → (with_own b w place e).is_open ≡ w.is_open
 open_by true w place e = refl
 open_by false w place e = refl
 
-pub open_set : (w : WordsOf) (k : Key) (e : Entry) → (with_word w k e).is_open ≡ w.is_open
-open_set w (Private p v) e = open_by (is_aside w.aside (place_of p v)) w (place_of p v) e
+pub open_set : (w : WordsOf) (k : Key) (e : Entry) → (with_entry w k e).is_open ≡ w.is_open
+open_set w (Private p v) e = open_by (is_aside w.aside (place_from p v)) w (place_from p v) e
 open_set w (Shared a i) e = refl
 
 sizes_by : (b : Bool) (w : WordsOf) (place : Place) (e : Entry) → (with_own b w place e).sizes ≡ w.sizes
 sizes_by true w place e = refl
 sizes_by false w place e = refl
 
-pub sizes_set : (w : WordsOf) (k : Key) (e : Entry) → (with_word w k e).sizes ≡ w.sizes
-sizes_set w (Private p v) e = sizes_by (is_aside w.aside (place_of p v)) w (place_of p v) e
+pub sizes_set : (w : WordsOf) (k : Key) (e : Entry) → (with_entry w k e).sizes ≡ w.sizes
+sizes_set w (Private p v) e = sizes_by (is_aside w.aside (place_from p v)) w (place_from p v) e
 sizes_set w (Shared a i) e = refl
 
-pub aside_set : (w : WordsOf) (k : Key) (e : Entry) → option_map (λ x. x.place) (with_word w k e).aside ≡ option_map (λ x. x.place) w.aside
-aside_set w (Private p v) e = by (is_aside w.aside (place_of p v)) refl
+pub aside_set : (w : WordsOf) (k : Key) (e : Entry) → option_map (λ x. x.place) (with_entry w k e).aside ≡ option_map (λ x. x.place) w.aside
+aside_set w (Private p v) e = by (is_aside w.aside (place_from p v)) refl
   where
-    there : (a : Option Aside) → is_aside a (place_of p v) ≡ true → Some (place_of p v) ≡ option_map (λ x. x.place) a
+    there : (a : Option Aside) → is_aside a (place_from p v) ≡ true → Some (place_from p v) ≡ option_map (λ x. x.place) a
     there None h = cc
-    there (Some a) h = ap Some (same_place-true (place_of p v) a.place h)
+    there (Some a) h = ap Some (same_place-true (place_from p v) a.place h)
 
-    by : (b : Bool) → is_aside w.aside (place_of p v) ≡ b → option_map (λ x. x.place) (with_own b w (place_of p v) e).aside ≡ option_map (λ x. x.place) w.aside
+    by : (b : Bool) → is_aside w.aside (place_from p v) ≡ b → option_map (λ x. x.place) (with_own b w (place_from p v) e).aside ≡ option_map (λ x. x.place) w.aside
     by true h = there w.aside h
     by false h = refl
 aside_set w (Shared a i) e = refl
@@ -120,60 +120,60 @@ proto_by : (b : Bool) (w : WordsOf) (place : Place) (e : Entry) (a i : ℕ) → 
 proto_by true w place e a i = refl
 proto_by false w place e a i = refl
 
-no_file_set : (w : WordsOf) (k : Key) (e : Entry) → is_resting k e ≡ true → ((p : Place) (b : Block) → w.at p ≢ entry.InFile b) → (p : Place) (b : Block) → (with_word w k e).at p ≢ entry.InFile b
-no_file_set w (Private q v) e h kept p b at = elim (at_by (is_aside w.aside (place_of q v)) w (place_of q v) e p (entry.InFile b) at) [
-  | inl s ↦ let two = and_parts (not (is_valid e)) (not (is_file e)) h in let bad : true ≡ false = sym (ap is_file s) ∙ not-true (is_file e) two.1 in cc
+no_file_set : (w : WordsOf) (k : Key) (e : Entry) → is_resting k e ≡ true → ((p : Place) (b : Block) → w.at p ≢ entry.InFile b) → (p : Place) (b : Block) → (with_entry w k e).at p ≢ entry.InFile b
+no_file_set w (Private q v) e h kept p b at = elim (at_by (is_aside w.aside (place_from q v)) w (place_from q v) e p (entry.InFile b) at) [
+  | inl s ↦ let two = and_parts (not (is_valid_entry e)) (not (is_file e)) h in let bad : true ≡ false = sym (ap is_file s) ∙ not-true (is_file e) two.1 in cc
   | inr m ↦ kept p b m
 ]
 no_file_set w (Shared a i) e h kept p b at = kept p b at
 
-no_proto_set : (w : WordsOf) (k : Key) (e : Entry) → is_resting k e ≡ true → ((a i : ℕ) (b : Area) (j : ℕ) → w.proto a i ≢ entry.Proto b j) → (a i : ℕ) (b : Area) (j : ℕ) → (with_word w k e).proto a i ≢ entry.Proto b j
-no_proto_set w (Private q v) e h kept a i b j at = kept a i b j (sym (proto_by (is_aside w.aside (place_of q v)) w (place_of q v) e a i) ∙ at)
+no_proto_set : (w : WordsOf) (k : Key) (e : Entry) → is_resting k e ≡ true → ((a i : ℕ) (b : Area) (j : ℕ) → w.proto a i ≢ entry.Proto b j) → (a i : ℕ) (b : Area) (j : ℕ) → (with_entry w k e).proto a i ≢ entry.Proto b j
+no_proto_set w (Private q v) e h kept a i b j at = kept a i b j (sym (proto_by (is_aside w.aside (place_from q v)) w (place_from q v) e a i) ∙ at)
 no_proto_set w (Shared c m) e h kept a i b j at = go ((a == c.0) && (i == m)) at
   where
     go : (t : Bool) → (if t then e else w.proto a i) ≡ entry.Proto b j → ⊥
-    go true at = let two = and_parts (not (is_valid e)) (not (is_proto e)) h in let bad : true ≡ false = sym (ap is_proto at) ∙ not-true (is_proto e) two.1 in cc
+    go true at = let two = and_parts (not (is_valid_entry e)) (not (is_proto e)) h in let bad : true ≡ false = sym (ap is_proto at) ∙ not-true (is_proto e) two.1 in cc
     go false at = kept a i b j at
 
 beside_set : (w : WordsOf) (k : Key) (e : Entry) → (is_beside w k ≡ true → is_aside_entry e ≡ true) → ((x : Aside) → w.aside ≡ Some x → (is_aside_entry x.entry ≡ true) × (w.bound x.place ≡ true))
-    → (x : Aside) → (with_word w k e).aside ≡ Some x → (is_aside_entry x.entry ≡ true) × (w.bound x.place ≡ true)
-beside_set w (Private q v) e h kept x at = by (is_aside w.aside (place_of q v)) refl at
+    → (x : Aside) → (with_entry w k e).aside ≡ Some x → (is_aside_entry x.entry ≡ true) × (w.bound x.place ≡ true)
+beside_set w (Private q v) e h kept x at = by (is_aside w.aside (place_from q v)) refl at
   where
-    was : (a : Option Aside) → w.aside ≡ a → is_aside a (place_of q v) ≡ true → w.bound (place_of q v) ≡ true
+    was : (a : Option Aside) → w.aside ≡ a → is_aside a (place_from q v) ≡ true → w.bound (place_from q v) ≡ true
     was None g b = cc
-    was (Some a) g b = ap w.bound (same_place-true (place_of q v) a.place b) ∙ (kept a g).1
+    was (Some a) g b = ap w.bound (same_place-true (place_from q v) a.place b) ∙ (kept a g).1
 
-    by : (b : Bool) → is_aside w.aside (place_of q v) ≡ b → (with_own b w (place_of q v) e).aside ≡ Some x → (is_aside_entry x.entry ≡ true) × (w.bound x.place ≡ true)
+    by : (b : Bool) → is_aside w.aside (place_from q v) ≡ b → (with_own b w (place_from q v) e).aside ≡ Some x → (is_aside_entry x.entry ≡ true) × (w.bound x.place ≡ true)
     by true g at =
         let entry_is : e ≡ x.entry = cc in
-        let place_is : place_of q v ≡ x.place = cc in
+        let place_is : place_from q v ≡ x.place = cc in
         (ap is_aside_entry (sym entry_is) ∙ h g, ap w.bound (sym place_is) ∙ was w.aside refl g)
     by false g at = kept x at
 beside_set w (Shared a i) e h kept x at = kept x at
 
 other_set : (w : WordsOf) (k : Key) (e : Entry) → ((x : Aside) → w.aside ≡ Some x → names_other (w.at x.place) ≡ true)
-    → (x : Aside) → (with_word w k e).aside ≡ Some x → names_other ((with_word w k e).at x.place) ≡ true
-other_set w (Private q v) e kept x at = by (is_aside w.aside (place_of q v)) refl at
+    → (x : Aside) → (with_entry w k e).aside ≡ Some x → names_other ((with_entry w k e).at x.place) ≡ true
+other_set w (Private q v) e kept x at = by (is_aside w.aside (place_from q v)) refl at
   where
-    was : (a : Option Aside) → w.aside ≡ a → is_aside a (place_of q v) ≡ true → names_other (w.at (place_of q v)) ≡ true
+    was : (a : Option Aside) → w.aside ≡ a → is_aside a (place_from q v) ≡ true → names_other (w.at (place_from q v)) ≡ true
     was None g b = cc
-    was (Some a) g b = ap (λ (y : Place). names_other (w.at y)) (same_place-true (place_of q v) a.place b) ∙ kept a g
+    was (Some a) g b = ap (λ (y : Place). names_other (w.at y)) (same_place-true (place_from q v) a.place b) ∙ kept a g
 
-    elsewhere : is_aside w.aside (place_of q v) ≡ false → w.aside ≡ Some x → changed same_place w.at (place_of q v) e x.place ≡ w.at x.place
-    elsewhere g at = elim (place_or_not x.place (place_of q v)) [
+    elsewhere : is_aside w.aside (place_from q v) ≡ false → w.aside ≡ Some x → changed same_place w.at (place_from q v) e x.place ≡ w.at x.place
+    elsewhere g at = elim (place_or_not x.place (place_from q v)) [
       | inl s ↦
-          (let here : is_aside w.aside (place_of q v) ≡ same_place (place_of q v) x.place = ap (λ (a : Option Aside). is_aside a (place_of q v)) at in
-          let on : same_place (place_of q v) x.place ≡ true = ap (λ (y : Place). same_place (place_of q v) y) s.0 ∙ same_place-self (place_of q v) in
+          (let here : is_aside w.aside (place_from q v) ≡ same_place (place_from q v) x.place = ap (λ (a : Option Aside). is_aside a (place_from q v)) at in
+          let on : same_place (place_from q v) x.place ≡ true = ap (λ (y : Place). same_place (place_from q v) y) s.0 ∙ same_place-self (place_from q v) in
           let bad : false ≡ true = sym g ∙ here ∙ on in cc)
       | inr n ↦ ap (λ b. cond b e (w.at x.place)) n.1
     ]
 
-    by : (b : Bool) → is_aside w.aside (place_of q v) ≡ b → (with_own b w (place_of q v) e).aside ≡ Some x → names_other ((with_own b w (place_of q v) e).at x.place) ≡ true
-    by true g at = let place_is : place_of q v ≡ x.place = cc in ap (λ (y : Place). names_other (w.at y)) (sym place_is) ∙ was w.aside refl g
+    by : (b : Bool) → is_aside w.aside (place_from q v) ≡ b → (with_own b w (place_from q v) e).aside ≡ Some x → names_other ((with_own b w (place_from q v) e).at x.place) ≡ true
+    by true g at = let place_is : place_from q v ≡ x.place = cc in ap (λ (y : Place). names_other (w.at y)) (sym place_is) ∙ was w.aside refl g
     by false g at = ap names_other (elsewhere g at) ∙ kept x at
 other_set w (Shared a i) e kept x at = kept x at
 
-pub places_kept : (w : WordsOf) (k : Key) (e : Entry) → is_valid e ≡ false → is_valid (word_of w k) ≡ false → keeps_places w k e ≡ true
+pub places_kept : (w : WordsOf) (k : Key) (e : Entry) → is_valid_entry e ≡ false → is_valid_entry (key_entry w k) ≡ false → keeps_places w k e ≡ true
 places_kept w (Private p v) e a b = rw (a, b) refl
 places_kept w (Shared c i) e a b = refl
 
@@ -190,7 +190,7 @@ pub record Rewords (t : JoinedParts) (d' : FrameTable) (f : Frame) (r : Record) 
   pub resting : is_resting k e ≡ true
   pub beside : is_beside t.words k ≡ true → is_aside_entry e ≡ true
   pub lands : (g : Frame) → e ≡ entry.Transition g → g.0 ≡ f.0
-  pub calm : is_valid (word_of t.words k) ≡ false
+  pub calm : is_valid_entry (key_entry t.words k) ≡ false
 
 -- a frame that is not there: where a word changes and no frame
 pub beyond : FrameTable → Frame
@@ -200,7 +200,7 @@ pub beyond_blank : (d : FrameTable) → record_at d (beyond d).0 ≡ blank
 unfolding beyond
 beyond_blank d = get_or_past d.records (length d.records) blank (omega arith)
 
-module _ (t : JoinedParts) (kept : Kept t) (d' : FrameTable) (f : Frame) (r : Record) (k : Key) (e : Entry) (re : Rewords t d' f r k e) where
+module _ (t : JoinedParts) (kept : PartsKept t) (d' : FrameTable) (f : Frame) (r : Record) (k : Key) (e : Entry) (re : Rewords t d' f r k e) where
   facts_here : Facts (life_in t)
   facts_here = known t kept
 
@@ -210,12 +210,12 @@ module _ (t : JoinedParts) (kept : Kept t) (d' : FrameTable) (f : Frame) (r : Re
   owner_kept : (p : Place) (g : Frame) → valid_of t.words p ≡ Some g → owners d' g.0 ≡ owners t.table g.0
   owner_kept p g v = ap (λ (x : Record). x.owner) (re.change.elsewhere g.0 (valid_elsewhere p g v))
 
-  pub key_stands : (q : Key) → stands_of (owners d') (with_word t.words k e) q ≡ changed same_key (stands_of (owners t.table) t.words) k (held_by (owned_by (owners d') k) e) q
+  pub key_stands : (q : Key) → stands_of (owners d') (with_entry t.words k e) q ≡ changed same_key (stands_of (owners t.table) t.words) k (held_by (owned_by (owners d') k) e) q
   key_stands q = stands_set (owners d') t.words k e q
       ∙ ap (λ h. cond (same_key q k) (held_by (owned_by (owners d') k) e) h) (stands_owner (owners t.table) (owners d') t.words kept.words.beside owner_kept q)
 
   -- every other key is a page-file key or not as before
-  pub key_paging : (q : Key) → paging_of d' (stands_of (owners d') (with_word t.words k e)) q ≡ changed same_key (paging_of t.table (stands_of (owners t.table) t.words)) k (is_paging d' (held_by (owned_by (owners d') k) e)) q
+  pub key_paging : (q : Key) → paging_of d' (stands_of (owners d') (with_entry t.words k e)) q ≡ changed same_key (paging_of t.table (stands_of (owners t.table) t.words)) k (is_paging d' (held_by (owned_by (owners d') k) e)) q
   key_paging q = ap (is_paging d') (key_stands q)
       ∙ (elim (key_or_not q k) as (λ _. is_paging d' (if same_key q k then held_by (owned_by (owners d') k) e else stands_of (owners t.table) t.words q) ≡ (if same_key q k then is_paging d' (held_by (owned_by (owners d') k) e) else is_paging t.table (stands_of (owners t.table) t.words q))) [
         | inl s ↦ ap (λ b. is_paging d' (cond b (held_by (owned_by (owners d') k) e) (stands_of (owners t.table) t.words q))) s.1
@@ -225,14 +225,14 @@ module _ (t : JoinedParts) (kept : Kept t) (d' : FrameTable) (f : Frame) (r : Re
             ∙ sym (ap (λ b. cond b (is_paging d' (held_by (owned_by (owners d') k) e)) (is_paging t.table (stands_of (owners t.table) t.words q))) m.1)
       ])
 
-  key_words : WordsKept d' (with_word t.words k e)
+  key_words : WordsKept d' (with_entry t.words k e)
   key_words =
       let w = t.words in
       let shares_here : (record_at d' f.0).shares ≡ 0 = ap (λ (x : Record). x.shares) re.change.here ∙ re.bare in
-      let other : (q : Key) (x : Entry) → word_of (with_word t.words k e) q ≡ x → (e ≡ x) ⊎ (word_of t.words q ≡ x) =
-      (λ q x h. (elim (key_or_not q k) as (λ _. (e ≡ x) ⊎ (word_of t.words q ≡ x)) [
-        | inl s ↦ inl (sym (ap (λ b. cond b e (word_of t.words q)) s.1) ∙ sym (word_set t.words k e q) ∙ h)
-        | inr m ↦ inr (sym (ap (λ b. cond b e (word_of t.words q)) m.1) ∙ sym (word_set t.words k e q) ∙ h)
+      let other : (q : Key) (x : Entry) → key_entry (with_entry t.words k e) q ≡ x → (e ≡ x) ⊎ (key_entry t.words q ≡ x) =
+      (λ q x h. (elim (key_or_not q k) as (λ _. (e ≡ x) ⊎ (key_entry t.words q ≡ x)) [
+        | inl s ↦ inl (sym (ap (λ b. cond b e (key_entry t.words q)) s.1) ∙ sym (word_set t.words k e q) ∙ h)
+        | inr m ↦ inr (sym (ap (λ b. cond b e (key_entry t.words q)) m.1) ∙ sym (word_set t.words k e q) ∙ h)
       ])) in
       let both = beside_set w k e re.beside (λ x at. (kept.words.beside x at, kept.words.beside_bound x at)) in
       record {
@@ -244,7 +244,7 @@ module _ (t : JoinedParts) (kept : Kept t) (d' : FrameTable) (f : Frame) (r : Re
           ]
         ];
         valid_shared = λ a i g m h. elim (other (Shared a i) (entry.Valid g m) h) [
-          | inl s ↦ let bad : true ≡ false = sym (ap is_valid s) ∙ resting_calm k e re.resting in cc
+          | inl s ↦ let bad : true ≡ false = sym (ap is_valid_entry s) ∙ resting_calm k e re.resting in cc
           | inr n ↦
               let was = kept.words.valid_shared a i g m n in
               let here : g.0 ≢ f.0 = (λ same. let none : (record_at t.table g.0).shares ≡ 0 = ap (λ (x : ℕ). (record_at t.table x).shares) same ∙ re.unshared in let some = was.0 in omega (arith, some, none)) in
@@ -258,12 +258,12 @@ module _ (t : JoinedParts) (kept : Kept t) (d' : FrameTable) (f : Frame) (r : Re
         beside_other = other_set w k e kept.words.beside_other;
       }
 
-  pub key_valid : (p : Place) → valid_of (with_word t.words k e) p ≡ valid_of t.words p
+  pub key_valid : (p : Place) → valid_of (with_entry t.words k e) p ≡ valid_of t.words p
   key_valid = valid_set t.words k e (places_kept t.words k e (resting_calm k e re.resting) re.calm)
 
   -- the state of the replay then, where the key is a page-file key as before
   pub key_life : (free' : List Bool) (flight' : List ℕ) → is_paging d' (held_by (owned_by (owners d') k) e) ≡ is_paging t.table (stands_of (owners t.table) t.words k)
-      → life_of t.line d' free' (with_word t.words k e) flight'
+      → life_of t.line d' free' (with_entry t.words k e) flight'
       ≡ record (life_in t) { frames = d'; free_slots = free'; stands = changed same_key (stands_of (owners t.table) t.words) k (held_by (owned_by (owners d') k) e); flight = flight' }
   key_life free' flight' here =
       same_life t.line d' free' flight' _ _ _ _ _ _ _ _ (λ b. slice_index_or t.line.added b false)
@@ -277,15 +277,15 @@ module _ (t : JoinedParts) (kept : Kept t) (d' : FrameTable) (f : Frame) (r : Re
       ]
 
   -- where the frames' owners have changed, each place names what it named
-  pub key_names : (names' : Place → Option Key) → ((q : Place) → names_of (owners t.table) (with_word t.words k e) q ≡ names' q) → (q : Place) → names_of (owners d') (with_word t.words k e) q ≡ names' q
-  key_names names' h q = names_owner (owners t.table) (owners d') (with_word t.words k e) (λ p g v. owner_kept p g (sym (key_valid p) ∙ v)) q ∙ h q
+  pub key_names : (names' : Place → Option Key) → ((q : Place) → names_of (owners t.table) (with_entry t.words k e) q ≡ names' q) → (q : Place) → names_of (owners d') (with_entry t.words k e) q ≡ names' q
+  key_names names' h q = names_owner (owners t.table) (owners d') (with_entry t.words k e) (λ p g v. owner_kept p g (sym (key_valid p) ∙ v)) q ∙ h q
 
   pub key_step : (x : Move) → IsLegal x (life_in t) → (n' : LineOf) (bytes' : List (Option (List ℕ))) (free' : List Bool) (flight' : FlightOf) (own' : Option Frame) (names' : Place → Option Key)
-      → life_of n' d' free' (with_word t.words k e) (requests flight'.frames own') ≡ after_move (life_in t) x
-      → ((q : Place) → names_of (owners t.table) (with_word t.words k e) q ≡ names' q)
+      → life_of n' d' free' (with_entry t.words k e) (requests flight'.frames own') ≡ after_move (life_in t) x
+      → ((q : Place) → names_of (owners t.table) (with_entry t.words k e) q ≡ names' q)
       → LineKept n' → n'.kind ≡ t.line.kind → n'.machine ≡ t.line.machine → (is_some own' ≡ true → is_own_line t.line.kind ≡ true) → flight'.depth ≡ t.flight.depth → AreWaits d' flight'
-      → Step (record t { line = n'; table = d'; bytes = bytes'; free = free'; words = with_word t.words k e; flight = flight'; own = own' })
-      (record (after (shown_of t) x) { bytes = bytes'; waits = flight'.waits; own = own'; names = names' })
+      → Step (record t { line = n'; table = d'; bytes = bytes'; free = free'; words = with_entry t.words k e; flight = flight'; own = own' })
+      (record (parts_after (shown_of t) x) { bytes = bytes'; waits = flight'.waits; own = own'; names = names' })
   key_step x legal n' bytes' free' flight' own' names' life names line same_kind same_machine own depth waits = record {
     kept = record {
       reached = reached_by (life_in t) _ x legal life kept.reached;
@@ -293,7 +293,7 @@ module _ (t : JoinedParts) (kept : Kept t) (d' : FrameTable) (f : Frame) (r : Re
       words = key_words;
       within = record {
         requesting = λ h. ap is_own_line same_kind ∙ own h;
-        copying = λ h. ap is_touch same_kind ∙ kept.within.copying (sym (some_place t.words.aside) ∙ ap is_some (sym (aside_set t.words k e)) ∙ some_place (with_word t.words k e).aside ∙ h);
+        copying = λ h. ap is_touch same_kind ∙ kept.within.copying (sym (some_place t.words.aside) ∙ ap is_some (sym (aside_set t.words k e)) ∙ some_place (with_entry t.words k e).aside ∙ h);
       };
       ranges = record {
         sets = λ pid s h. kept.ranges.sets pid s (ap (λ z. set_in z pid) (sym (sets_set t.words k e)) ∙ h);

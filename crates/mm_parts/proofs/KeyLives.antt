@@ -22,11 +22,11 @@ use Rattle.mm_laws.proofs.Sights.{kept_inside}
 use Rattle.mm_words.specs.declared.layout.Entry.{Entry}
 use Rattle.mm_words.specs.declared.layout.Entry.TheVariants as entry
 use Rattle.mm_words.specs.declared.aside.Aside.{Aside}
-use Rattle.mm_words.specs.Words.{word_of, with_word, is_valid, is_there, is_aside, keeps_places, place_of, bare}
+use Rattle.mm_words.specs.Words.{key_entry, with_entry, is_valid_entry, is_there, is_aside, keeps_places, place_from, bare}
 use Rattle.mm_parts.specs.Shown.{JoinedParts, LineOf, owners, owned_by, held_by, names_of, life_in, shown_of, requests_in}
 use Rattle.mm_parts.specs.Words.{is_aside_entry}
-use Rattle.mm_parts.specs.Kept.{Kept}
-use Rattle.mm_parts.specs.Moves.{after, names_after_drop, table_released, slot_released, IsReleased}
+use Rattle.mm_parts.specs.Kept.{PartsKept}
+use Rattle.mm_parts.specs.Moves.{parts_after, names_after_drop, table_released, slot_released, IsReleased}
 use Rattle.mm_parts.proofs.Stands.{same_life, sets_set}
 use Rattle.mm_parts.proofs.FrameChanges.{Rewrites, rewrites_by, waits_frame}
 use Rattle.mm_parts.proofs.NameChanges.{names_gone}
@@ -40,7 +40,7 @@ use Rattle.mm_parts.proofs.KeySteps.{none_in, own_in}
 pub nowhere : (d : FrameTable) → Rewrites d d (beyond d).0 blank
 nowhere d = record { elsewhere = λ g m. refl; here = beyond_blank d }
 
-pub word_only : (t : JoinedParts) → Kept t → (k : Key) (e : Entry) → is_resting k e ≡ true → (is_beside t.words k ≡ true → is_aside_entry e ≡ true) → ((g : Frame) → e ≢ entry.Transition g) → is_valid (word_of t.words k) ≡ false
+pub word_only : (t : JoinedParts) → PartsKept t → (k : Key) (e : Entry) → is_resting k e ≡ true → (is_beside t.words k ≡ true → is_aside_entry e ≡ true) → ((g : Frame) → e ≢ entry.Transition g) → is_valid_entry (key_entry t.words k) ≡ false
     → Rewords t t.table (beyond t.table) blank k e
 word_only t kept k e resting beside still calm = record {
   change = nowhere t.table;
@@ -88,7 +88,7 @@ can_drop t k legal =
     let b = and_parts (is_call t.line.kind || is_unbind t.line.kind) (l.paging k) a.0 in
     record { touch = not_touching t.line.kind b.0; paging = b.1; unmapped = a.1 }
 
-module _ (t : JoinedParts) (kept : Kept t) (k : Key) (legal : IsLegal (move.Drop k) (life_in t)) where
+module _ (t : JoinedParts) (kept : PartsKept t) (k : Key) (legal : IsLegal (move.Drop k) (life_in t)) where
   can : CanDrop t k
   can = can_drop t k legal
 
@@ -103,21 +103,21 @@ module _ (t : JoinedParts) (kept : Kept t) (k : Key) (legal : IsLegal (move.Drop
   in_table = by k
     where
       by : (q : Key) → is_beside t.words q ≡ true → is_aside_entry entry.Empty ≡ true
-      by (Private p v) h = let bad : true ≡ false = sym h ∙ not_beside t.words.aside (place_of p v) none_aside in cc
+      by (Private p v) h = let bad : true ≡ false = sym h ∙ not_beside t.words.aside (place_from p v) none_aside in cc
       by (Shared a i) h = cc
 
-  gone_names : (q : Place) → names_of (owners t.table) (with_word t.words k entry.Empty) q ≡ names_after_drop (shown_of t) k q
+  gone_names : (q : Place) → names_of (owners t.table) (with_entry t.words k entry.Empty) q ≡ names_after_drop (shown_of t) k q
   gone_names = by k
     where
-      by : (j : Key) (q : Place) → names_of (owners t.table) (with_word t.words j entry.Empty) q ≡ names_after_drop (shown_of t) j q
-      by (Private p v) q = names_gone (owners t.table) t.words p v entry.Empty (not_beside t.words.aside (place_of p v) none_aside) refl q
+      by : (j : Key) (q : Place) → names_of (owners t.table) (with_entry t.words j entry.Empty) q ≡ names_after_drop (shown_of t) j q
+      by (Private p v) q = names_gone (owners t.table) t.words p v entry.Empty (not_beside t.words.aside (place_from p v) none_aside) refl q
       by (Shared a i) q = refl
 
   drop_by : (d' : FrameTable) (f : Frame) (r : Record) (free' : List Bool) → Rewords t d' f r k entry.Empty
       → record (unlisted (life_in t) k) { frames = d'; free_slots = free' } ≡ after_move (life_in t) (move.Drop k)
       → (is_read (record_at t.table f.0).request ≡ true → is_read r.request ≡ true)
-      → Step (record t { line = record t.line { paging_keys = t.line.paging_keys - 1 }; table = d'; free = free'; words = with_word t.words k entry.Empty })
-      (record (after (shown_of t) (move.Drop k)) { names = names_after_drop (shown_of t) k })
+      → Step (record t { line = record t.line { paging_keys = t.line.paging_keys - 1 }; table = d'; free = free'; words = with_entry t.words k entry.Empty })
+      (record (parts_after (shown_of t) (move.Drop k)) { names = names_after_drop (shown_of t) k })
   drop_by d' f r free' re moves goes_on =
       let n' : LineOf = record t.line { paging_keys = t.line.paging_keys - 1 } in
       key_step t kept d' f r k entry.Empty re (move.Drop k) legal n' t.bytes free' t.flight t.own (names_after_drop (shown_of t) k)
@@ -128,10 +128,10 @@ module _ (t : JoinedParts) (kept : Kept t) (k : Key) (legal : IsLegal (move.Drop
       (record { machine = kept.line.machine; begun = kept.line.begun; blocks = kept.line.blocks })
       refl refl kept.within.requesting refl (waits_frame t.table d' f.0 r t.flight re.change goes_on kept.waits)
 
-  drop_bare : (h : Held) (free' : List Bool) → is_valid (word_of t.words k) ≡ false → (life_in t).stands k ≡ h
+  drop_bare : (h : Held) (free' : List Bool) → is_valid_entry (key_entry t.words k) ≡ false → (life_in t).stands k ≡ h
       → record (unlisted (life_in t) k) { frames = t.table; free_slots = free' } ≡ dropped_at h (life_in t) k
-      → Step (record t { line = record t.line { paging_keys = t.line.paging_keys - 1 }; table = t.table; free = free'; words = with_word t.words k entry.Empty })
-      (record (after (shown_of t) (move.Drop k)) { names = names_after_drop (shown_of t) k })
+      → Step (record t { line = record t.line { paging_keys = t.line.paging_keys - 1 }; table = t.table; free = free'; words = with_entry t.words k entry.Empty })
+      (record (parts_after (shown_of t) (move.Drop k)) { names = names_after_drop (shown_of t) k })
   drop_bare h free' calm stands moves =
       drop_by t.table (beyond t.table) blank free' (word_only t kept k entry.Empty (empty_rests k) in_table (λ g e. cc) calm)
       (moves ∙ ap (λ x. dropped_at x (life_in t) k) (sym stands))
@@ -149,9 +149,9 @@ module _ (t : JoinedParts) (kept : Kept t) (k : Key) (legal : IsLegal (move.Drop
   dropped_reads r true e h = h
   dropped_reads r false e h = let bad : true ≡ false = sym (read_has r.request h) ∙ e in cc
 
-  drop_framed : (f : Frame) → word_of t.words k ≡ entry.Transition f → (life_in t).stands k ≡ held.Frame f
-      → Step (record t { line = record t.line { paging_keys = t.line.paging_keys - 1 }; table = after_drop t.table f.0; free = freed t.free (slot_after_drop (record_at t.table f.0)); words = with_word t.words k entry.Empty })
-      (record (after (shown_of t) (move.Drop k)) { names = names_after_drop (shown_of t) k })
+  drop_framed : (f : Frame) → key_entry t.words k ≡ entry.Transition f → (life_in t).stands k ≡ held.Frame f
+      → Step (record t { line = record t.line { paging_keys = t.line.paging_keys - 1 }; table = after_drop t.table f.0; free = freed t.free (slot_after_drop (record_at t.table f.0)); words = with_entry t.words k entry.Empty })
+      (record (parts_after (shown_of t) (move.Drop k)) { names = names_after_drop (shown_of t) k })
   drop_framed f word stands =
       let r = record_at t.table f.0 in
       let facts = known t kept in
@@ -167,11 +167,11 @@ module _ (t : JoinedParts) (kept : Kept t) (k : Key) (legal : IsLegal (move.Drop
         resting = empty_rests k;
         beside = in_table;
         lands = λ g e. cc;
-        calm = ap is_valid word;
+        calm = ap is_valid_entry word;
       } in
       drop_by (after_drop t.table f.0) f new (freed t.free (slot_after_drop r)) re (ap (λ x. dropped_at x (life_in t) k) (sym stands)) (dropped_reads r (has_request r.request) refl)
 
-  standing : (e : Entry) → word_of t.words k ≡ e → (life_in t).stands k ≡ held_by (owned_by (owners t.table) k) e
+  standing : (e : Entry) → key_entry t.words k ≡ e → (life_in t).stands k ≡ held_by (owned_by (owners t.table) k) e
   standing e h = ap (held_by (owned_by (owners t.table) k)) h
 
   not_dead : (life_in t).stands k ≡ held.Dead → ⊥
@@ -179,7 +179,7 @@ module _ (t : JoinedParts) (kept : Kept t) (k : Key) (legal : IsLegal (move.Drop
       let bad : is_home_for true held.Dead ≡ true = sym (ap (λ b. is_home_for b held.Dead) can.paging) ∙ ap (is_home_for ((life_in t).paging k)) (sym h) ∙ (known t kept).home k in cc
 
   -- a page that is dropped is valid nowhere
-  no_valid : (f : Frame) (n : ℕ) → word_of t.words k ≡ entry.Valid f n → ⊥
+  no_valid : (f : Frame) (n : ℕ) → key_entry t.words k ≡ entry.Valid f n → ⊥
   no_valid f n word = by (owned_by (owners t.table) k f) (standing (entry.Valid f n) word)
     where
       some : 1 ≤ (record_at t.table f.0).shares
@@ -191,12 +191,12 @@ module _ (t : JoinedParts) (kept : Kept t) (k : Key) (legal : IsLegal (move.Drop
           omega (arith, some, none)
       by false e = not_dead e
 
-  pub drop_step : (e : Entry) → word_of t.words k ≡ e
-      → Step (record t { line = record t.line { paging_keys = t.line.paging_keys - 1 }; table = table_released e t.table; free = freed t.free (slot_released e t.table); words = with_word t.words k entry.Empty })
-      (record (after (shown_of t) (move.Drop k)) { names = names_after_drop (shown_of t) k })
+  pub drop_step : (e : Entry) → key_entry t.words k ≡ e
+      → Step (record t { line = record t.line { paging_keys = t.line.paging_keys - 1 }; table = table_released e t.table; free = freed t.free (slot_released e t.table); words = with_entry t.words k entry.Empty })
+      (record (parts_after (shown_of t) (move.Drop k)) { names = names_after_drop (shown_of t) k })
   drop_step entry.Empty word = absurd (not_dead (standing entry.Empty word))
-  drop_step entry.Zero word = drop_bare held.Zero t.free (ap is_valid word) (standing entry.Zero word) refl
-  drop_step (entry.Paged s) word = drop_bare (held.Slot s) (freed t.free (Some s.0)) (ap is_valid word) (standing (entry.Paged s) word) refl
+  drop_step entry.Zero word = drop_bare held.Zero t.free (ap is_valid_entry word) (standing entry.Zero word) refl
+  drop_step (entry.Paged s) word = drop_bare (held.Slot s) (freed t.free (Some s.0)) (ap is_valid_entry word) (standing (entry.Paged s) word) refl
   drop_step (entry.InFile b) word =
       let stands = standing (entry.InFile b) word in
       let bad : is_home_for true (held.Block b) ≡ true = sym (ap (λ x. is_home_for x (held.Block b)) can.paging) ∙ ap (is_home_for ((life_in t).paging k)) (sym stands) ∙ (known t kept).home k in cc
@@ -216,14 +216,14 @@ released_bare (entry.Valid f n) d = (refl, refl)
 released_bare (entry.Proto a i) d = (refl, refl)
 
 -- the entry as it is told, with its number
-pub drop_told_step : (t : JoinedParts) (kept : Kept t) (k : Key) (legal : IsLegal (move.Drop k) (life_in t)) (e : Entry) → bare e ≡ word_of t.words k
-    → Step (record t { line = record t.line { paging_keys = t.line.paging_keys - 1 }; table = table_released e t.table; free = freed t.free (slot_released e t.table); words = with_word t.words k entry.Empty })
-    (record (after (shown_of t) (move.Drop k)) { names = names_after_drop (shown_of t) k })
+pub drop_told_step : (t : JoinedParts) (kept : PartsKept t) (k : Key) (legal : IsLegal (move.Drop k) (life_in t)) (e : Entry) → bare e ≡ key_entry t.words k
+    → Step (record t { line = record t.line { paging_keys = t.line.paging_keys - 1 }; table = table_released e t.table; free = freed t.free (slot_released e t.table); words = with_entry t.words k entry.Empty })
+    (record (parts_after (shown_of t) (move.Drop k)) { names = names_after_drop (shown_of t) k })
 drop_told_step t kept k legal e is =
-    step_to _ _ _ (λ i. record t { line = record t.line { paging_keys = t.line.paging_keys - 1 }; table = sym (released_bare e t.table).0 i; free = freed t.free (sym (released_bare e t.table).1 i); words = with_word t.words k entry.Empty })
+    step_to _ _ _ (λ i. record t { line = record t.line { paging_keys = t.line.paging_keys - 1 }; table = sym (released_bare e t.table).0 i; free = freed t.free (sym (released_bare e t.table).1 i); words = with_entry t.words k entry.Empty })
     (drop_step t kept k legal (bare e) (sym is))
 
-entry_free : (t : JoinedParts) → Kept t → (k : Key) (e : Entry) → word_of t.words k ≡ bare e → (s : ℕ) → slot_released e t.table ≡ Some s → slice_get t.free s ≡ Some false
+entry_free : (t : JoinedParts) → PartsKept t → (k : Key) (e : Entry) → key_entry t.words k ≡ bare e → (s : ℕ) → slot_released e t.table ≡ Some s → slice_get t.free s ≡ Some false
 entry_free t kept k entry.Empty w s h = cc
 entry_free t kept k entry.Zero w s h = cc
 entry_free t kept k (entry.Paged x) w s h = (known t kept).homed k s (ap (λ z. slot_at (held_by (owned_by (owners t.table) k) z)) w ∙ h)
@@ -236,10 +236,10 @@ entry_free t kept k (entry.Transition f) w s h = (known t kept).backed f.0 s (if
 entry_free t kept k (entry.Valid f n) w s h = cc
 entry_free t kept k (entry.Proto a i) w s h = cc
 
-pub drop_frees : (t : JoinedParts) → Kept t → (k : Key) (e : Entry) → bare e ≡ word_of t.words k → (s : ℕ) → slot_released e t.table ≡ Some s → slice_get t.free s ≡ Some false
+pub drop_frees : (t : JoinedParts) → PartsKept t → (k : Key) (e : Entry) → bare e ≡ key_entry t.words k → (s : ℕ) → slot_released e t.table ≡ Some s → slice_get t.free s ≡ Some false
 drop_frees t kept k e is s h = entry_free t kept k e (sym is) s h
 
-pub drop_released : (t : JoinedParts) → Kept t → (k : Key) (e : Entry) → bare e ≡ word_of t.words k → IsReleased e t.table
+pub drop_released : (t : JoinedParts) → PartsKept t → (k : Key) (e : Entry) → bare e ≡ key_entry t.words k → IsReleased e t.table
 drop_released t kept k entry.Empty is = tt
 drop_released t kept k entry.Zero is = tt
 drop_released t kept k (entry.Paged s) is = tt
@@ -251,26 +251,26 @@ drop_released t kept k (entry.Valid f n) is = tt
 drop_released t kept k (entry.Proto a i) is = tt
 
 -- the key is at rest, and there is one
-pub drop_calm : (t : JoinedParts) (kept : Kept t) (k : Key) → IsLegal (move.Drop k) (life_in t) → keeps_places t.words k entry.Empty ≡ true
-drop_calm t kept k legal = places_kept t.words k entry.Empty refl (calm (word_of t.words k) refl)
+pub drop_calm : (t : JoinedParts) (kept : PartsKept t) (k : Key) → IsLegal (move.Drop k) (life_in t) → keeps_places t.words k entry.Empty ≡ true
+drop_calm t kept k legal = places_kept t.words k entry.Empty refl (calm (key_entry t.words k) refl)
   where
-    calm : (e : Entry) → word_of t.words k ≡ e → is_valid (word_of t.words k) ≡ false
-    calm entry.Empty w = ap is_valid w
-    calm entry.Zero w = ap is_valid w
-    calm (entry.Paged s) w = ap is_valid w
-    calm (entry.InFile b) w = ap is_valid w
-    calm (entry.Transition f) w = ap is_valid w
+    calm : (e : Entry) → key_entry t.words k ≡ e → is_valid_entry (key_entry t.words k) ≡ false
+    calm entry.Empty w = ap is_valid_entry w
+    calm entry.Zero w = ap is_valid_entry w
+    calm (entry.Paged s) w = ap is_valid_entry w
+    calm (entry.InFile b) w = ap is_valid_entry w
+    calm (entry.Transition f) w = ap is_valid_entry w
     calm (entry.Valid f n) w = absurd (no_valid t kept k legal f n w)
-    calm (entry.Proto a i) w = ap is_valid w
+    calm (entry.Proto a i) w = ap is_valid_entry w
 
-pub drop_some : (t : JoinedParts) (kept : Kept t) (k : Key) → IsLegal (move.Drop k) (life_in t) → 1 ≤ t.line.paging_keys
+pub drop_some : (t : JoinedParts) (kept : PartsKept t) (k : Key) → IsLegal (move.Drop k) (life_in t) → 1 ≤ t.line.paging_keys
 drop_some t kept k legal = (known t kept).keyed k (can_drop t k legal).paging
 
 -- the key has an entry
-pub drop_there : (t : JoinedParts) (kept : Kept t) (k : Key) → IsLegal (move.Drop k) (life_in t) → is_there (word_of t.words k) ≡ true
-drop_there t kept k legal = by (word_of t.words k) refl
+pub drop_there : (t : JoinedParts) (kept : PartsKept t) (k : Key) → IsLegal (move.Drop k) (life_in t) → is_there (key_entry t.words k) ≡ true
+drop_there t kept k legal = by (key_entry t.words k) refl
   where
-    by : (e : Entry) → word_of t.words k ≡ e → is_there (word_of t.words k) ≡ true
+    by : (e : Entry) → key_entry t.words k ≡ e → is_there (key_entry t.words k) ≡ true
     by entry.Empty w = absurd (not_dead t kept k legal (standing t kept k legal entry.Empty w))
     by entry.Zero w = ap is_there w
     by (entry.Paged s) w = ap is_there w

@@ -23,11 +23,11 @@ use Rattle.mm_laws.specs.Sights.{Sight}
 use Rattle.mm_frames.specs.Base.{has_block}
 use Rattle.mm_flight.specs.Requests.{ended}
 use Rattle.mm_words.specs.declared.layout.Entry.TheVariants as entry
-use Rattle.mm_words.specs.Words.{WordsOf, word_of, with_word, is_there, has_word, is_valid}
+use Rattle.mm_words.specs.Words.{WordsOf, key_entry, with_entry, is_there, has_word, is_valid_entry}
 use Rattle.mm_parts.specs.Shown.{JoinedParts, owners, owned_by, held_by, stands_of, names_of, is_paging, life_of, life_in, shown_of, requests, requests_in, own_is, is_own_line}
 use Rattle.mm_parts.specs.Words.{is_aside_entry}
-use Rattle.mm_parts.specs.Kept.{Kept}
-use Rattle.mm_parts.specs.Moves.{after, own_after, own_ended, flight_begun, flight_ended, names_after_give, home_entry, words_sent, CanSend, read_end}
+use Rattle.mm_parts.specs.Kept.{PartsKept}
+use Rattle.mm_parts.specs.Moves.{parts_after, own_after, own_ended, flight_begun, flight_ended, names_after_give, home_entry, words_sent, CanSend, end_of_read}
 use Rattle.mm_parts.proofs.FrameChanges.{Rewrites, rewrites_by, waits_frame}
 use Rattle.mm_parts.proofs.NameChanges.{is_used, names_moved, names_used}
 use Rattle.mm_parts.proofs.Keeping.{Step, known}
@@ -39,10 +39,10 @@ use Rattle.mm_parts.proofs.StandingWords.{resting_word, zero_word, stored_word, 
 use Rattle.mm_life.proofs.Records.{records_taken}
 
 -- a frame that nobody owns is no key's
-pub none_in : (t : JoinedParts) → Kept t → (f : Frame) (k : Key) → (record_at t.table f.0).owner ≡ None → (q : Key) → stands_of (owners t.table) t.words q ≡ held.Frame f → q ≡ k
+pub none_in : (t : JoinedParts) → PartsKept t → (f : Frame) (k : Key) → (record_at t.table f.0).owner ≡ None → (q : Key) → stands_of (owners t.table) t.words q ≡ held.Frame f → q ≡ k
 none_in t kept f k none q at = let bad : Some q ≡ None = sym ((known t kept).owner q f at) ∙ none in cc
 
-pub own_in : (t : JoinedParts) → Kept t → (f : Frame) (k : Key) → (record_at t.table f.0).owner ≡ Some k → (q : Key) → stands_of (owners t.table) t.words q ≡ held.Frame f → q ≡ k
+pub own_in : (t : JoinedParts) → PartsKept t → (f : Frame) (k : Key) → (record_at t.table f.0).owner ≡ Some k → (q : Key) → stands_of (owners t.table) t.words q ≡ held.Frame f → q ≡ k
 own_in t kept f k owner q at = let both : Some q ≡ Some k = sym ((known t kept).owner q f at) ∙ owner in cc
 
 resting_transition : (k : Key) (f : Frame) → is_resting k (entry.Transition f) ≡ true
@@ -54,18 +54,18 @@ lands_here f g e = let same : f ≡ g = cc in ap (λ (x : Frame). x.0) (sym same
 
 -- ---- give
 
-names_give : (t : JoinedParts) (k : Key) (f : Frame) (q : Place) → names_of (owners t.table) (with_word t.words k (entry.Transition f)) q ≡ names_after_give (shown_of t) k q
+names_give : (t : JoinedParts) (k : Key) (f : Frame) (q : Place) → names_of (owners t.table) (with_entry t.words k (entry.Transition f)) q ≡ names_after_give (shown_of t) k q
 names_give t (Private p v) f q = names_used (owners t.table) t.words p v (entry.Transition f) refl q
 names_give t (Shared a i) f q = refl
 
-pub give_step : (t : JoinedParts) → Kept t → (f : Frame) (k : Key) → IsLegal (move.Give f k) (life_in t)
-    → Step (record t { table = after_give t.table f.0 k; words = with_word t.words k (entry.Transition f) }) (record (after (shown_of t) (move.Give f k)) { names = names_after_give (shown_of t) k })
+pub give_step : (t : JoinedParts) → PartsKept t → (f : Frame) (k : Key) → IsLegal (move.Give f k) (life_in t)
+    → Step (record t { table = after_give t.table f.0 k; words = with_entry t.words k (entry.Transition f) }) (record (parts_after (shown_of t) (move.Give f k)) { names = names_after_give (shown_of t) k })
 give_step t kept f k legal =
     let facts = known t kept in
     let d = t.table in
     let parts = and_parts (is_first f.0 d.zeroed) (is_zero ((life_in t).stands k)) (and_parts (is_first f.0 d.zeroed && is_zero ((life_in t).stands k)) (is_touch t.line.kind) legal).0 in
     let bare : record_at d f.0 ≡ blank = first_zeroed d (requests_in t) f.0 facts.standing parts.0 in
-    let word : word_of t.words k ≡ entry.Zero = zero_word (owned_by (owners d) k) (word_of t.words k) parts.1 in
+    let word : key_entry t.words k ≡ entry.Zero = zero_word (owned_by (owners d) k) (key_entry t.words k) parts.1 in
     let c = changes_give d (requests_in t) f.0 facts.standing k parts.0 in
     let change : Rewrites d (after_give d f.0 k) f.0 (given k) = record { elsewhere = λ g m. ap (λ (s : Sight). s.what) (c.elsewhere g m); here = c.here } in
     let re : Rewords t (after_give d f.0 k) f (given k) k (entry.Transition f) = record {
@@ -76,7 +76,7 @@ give_step t kept f k legal =
       resting = resting_transition k f;
       beside = λ h. refl;
       lands = lands_here f;
-      calm = ap is_valid word;
+      calm = ap is_valid_entry word;
     } in
     key_step t kept (after_give d f.0 k) f (given k) k (entry.Transition f) re (move.Give f k) legal t.line t.bytes t.free t.flight t.own (names_after_give (shown_of t) k)
     (key_life t kept (after_give d f.0 k) f (given k) k (entry.Transition f) re t.free (requests_in t)
@@ -87,9 +87,9 @@ give_step t kept f k legal =
 
 -- ---- read
 
-pub read_step : (t : JoinedParts) → Kept t → (f : Frame) (k : Key) → IsLegal (move.Read f k) (life_in t) → (is_own_line t.line.kind ≡ true → t.own ≡ None)
-    → Step (record t { table = after_read t.table f.0 k (backing_of ((life_in t).stands k)); words = with_word t.words k (entry.Transition f); flight = flight_begun (is_own_line t.line.kind) t.flight f; own = own_after t.line.kind t.own f })
-    (record (after (shown_of t) (move.Read f k)) { own = own_after t.line.kind t.own f })
+pub read_step : (t : JoinedParts) → PartsKept t → (f : Frame) (k : Key) → IsLegal (move.Read f k) (life_in t) → (is_own_line t.line.kind ≡ true → t.own ≡ None)
+    → Step (record t { table = after_read t.table f.0 k (backing_of ((life_in t).stands k)); words = with_entry t.words k (entry.Transition f); flight = flight_begun (is_own_line t.line.kind) t.flight f; own = own_after t.line.kind t.own f })
+    (record (parts_after (shown_of t) (move.Read f k)) { own = own_after t.line.kind t.own f })
 read_step t kept f k legal can =
     let facts = known t kept in
     let d = t.table in
@@ -108,7 +108,7 @@ read_step t kept f k legal can =
       resting = resting_transition k f;
       beside = λ h. refl;
       lands = lands_here f;
-      calm = away_calm (word_of t.words k) (stored_word (owned_by (owners d) k) (word_of t.words k) parts.1);
+      calm = away_calm (key_entry t.words k) (stored_word (owned_by (owners d) k) (key_entry t.words k) parts.1);
     } in
     let flight' = flight_begun (is_own_line t.line.kind) t.flight f in
     let own' = own_after t.line.kind t.own f in
@@ -122,7 +122,7 @@ read_step t kept f k legal can =
     (waits_frame d (after_read d f.0 k home) f.0 (being_read k home) t.flight change (λ read. refl) kept.waits)) in
     record {
       kept = step.kept;
-      shown = step.shown ∙ ap (λ ws. record (after (shown_of t) (move.Read f k)) { waits = ws; own = own' }) (begun_waits (is_own_line t.line.kind) t.flight f);
+      shown = step.shown ∙ ap (λ ws. record (parts_after (shown_of t) (move.Read f k)) { waits = ws; own = own' }) (begun_waits (is_own_line t.line.kind) t.flight f);
     }
 
 -- ---- a page goes home: steal, bad
@@ -134,11 +134,11 @@ record Leaves (t : JoinedParts) (f : Frame) (k : Key) : Type 0 where
   unshared : (record_at t.table f.0).shares ≡ 0
   backed : is_backed (record_at t.table f.0).backing ≡ true
 
-module _ (t : JoinedParts) (kept : Kept t) (f : Frame) (k : Key) (leaves : Leaves t f k) where
+module _ (t : JoinedParts) (kept : PartsKept t) (f : Frame) (k : Key) (leaves : Leaves t f k) where
   abbrev home_of : Backing
   home_of = (record_at t.table f.0).backing
 
-  leaving_word : word_of t.words k ≡ entry.Transition f
+  leaving_word : key_entry t.words k ≡ entry.Transition f
   leaving_word = resting_word t kept k f ((known t kept).owned f.0 k leaves.owner) leaves.unshared
 
   leaving_aside : is_beside t.words k ≡ true → is_aside_entry (home_entry (record_at t.table f.0).backing) ≡ true
@@ -157,14 +157,14 @@ module _ (t : JoinedParts) (kept : Kept t) (f : Frame) (k : Key) (leaves : Leave
     resting = home_resting k home_of (own_backing t kept k f leaves.owner);
     beside = leaving_aside;
     lands = λ g e. home_lands home_of g f e;
-    calm = ap is_valid leaving_word;
+    calm = ap is_valid_entry leaving_word;
   }
 
-  leaving_names : (q : Place) → names_of (owners t.table) (with_word t.words k (home_entry (record_at t.table f.0).backing)) q ≡ names_of (owners t.table) t.words q
+  leaving_names : (q : Place) → names_of (owners t.table) (with_entry t.words k (home_entry (record_at t.table f.0).backing)) q ≡ names_of (owners t.table) t.words q
   leaving_names = names_moved (owners t.table) t.words k (home_entry home_of) (λ own. (home_used home_of (own_backing t kept k f leaves.owner own) leaves.backed, ap is_used leaving_word))
 
   leaving_life : (d' : FrameTable) → d'.records ≡ slice_set t.table.records f.0 blank → (free' : List Bool) (flight' : List ℕ)
-      → life_of t.line d' free' (with_word t.words k (home_entry (record_at t.table f.0).backing)) flight'
+      → life_of t.line d' free' (with_entry t.words k (home_entry (record_at t.table f.0).backing)) flight'
       ≡ record (life_in t) { frames = d'; free_slots = free'; stands = homed (life_in t) (record_at t.table f.0).owner (record_at t.table f.0).backing; flight = flight' }
   leaving_life d' records free' flight' =
       key_life t kept d' f blank k (home_entry home_of) (leaving d' records) free' flight'
@@ -172,8 +172,8 @@ module _ (t : JoinedParts) (kept : Kept t) (f : Frame) (k : Key) (leaves : Leave
       ∙ ap (λ h. record (life_in t) { frames = d'; free_slots = free'; stands = changed same_key (stands_of (owners t.table) t.words) k h; flight = flight' }) (home_held (owned_by (owners d') k) home_of)
       ∙ ap (λ o. record (life_in t) { frames = d'; free_slots = free'; stands = homed (life_in t) o home_of; flight = flight' }) (sym leaves.owner)
 
-pub steal_step : (t : JoinedParts) → Kept t → (f : Frame) (k : Key) → IsLegal (move.Steal f) (life_in t) → (record_at t.table f.0).owner ≡ Some k
-    → Step (record t { table = after_steal t.table f.0; words = with_word t.words k (home_entry (record_at t.table f.0).backing) }) (after (shown_of t) (move.Steal f))
+pub steal_step : (t : JoinedParts) → PartsKept t → (f : Frame) (k : Key) → IsLegal (move.Steal f) (life_in t) → (record_at t.table f.0).owner ≡ Some k
+    → Step (record t { table = after_steal t.table f.0; words = with_entry t.words k (home_entry (record_at t.table f.0).backing) }) (parts_after (shown_of t) (move.Steal f))
 steal_step t kept f k legal owner =
     let facts = known t kept in
     let d = t.table in
@@ -199,7 +199,7 @@ record Reading (t : JoinedParts) (f : Frame) : Type 0 where
   backed : is_backed (record_at t.table f.0).backing ≡ true
   held : Holding t f.0
 
-reading_in : (t : JoinedParts) → Kept t → (f : Frame) → IsLegal (move.Bad f) (life_in t) → Reading t f
+reading_in : (t : JoinedParts) → PartsKept t → (f : Frame) → IsLegal (move.Bad f) (life_in t) → Reading t f
 reading_in t kept f legal =
     let r = record_at t.table f.0 in
     let fit = ((known t kept).standing f.0).fit in
@@ -214,16 +214,16 @@ reading_in t kept f legal =
 abbrev BadStep : JoinedParts → Frame → WordsOf → Type 0
 BadStep t f w =
     Step (record t { table = after_bad t.table f.0; free = freed t.free (slot_after_read (record_at t.table f.0)); words = w; flight = flight_ended (own_is t.own f.0) t.flight f.0 false; own = own_ended t.own f.0 })
-    (record (after (shown_of t) (move.Bad f)) { waits = map (ended f.0 false) t.flight.waits; own = own_ended t.own f.0 })
+    (record (parts_after (shown_of t) (move.Bad f)) { waits = map (ended f.0 false) t.flight.waits; own = own_ended t.own f.0 })
 
-bad_orphan : (t : JoinedParts) → Kept t → (f : Frame) → IsLegal (move.Bad f) (life_in t) → Reading t f → (record_at t.table f.0).owner ≡ None → BadStep t f t.words
+bad_orphan : (t : JoinedParts) → PartsKept t → (f : Frame) → IsLegal (move.Bad f) (life_in t) → Reading t f → (record_at t.table f.0).owner ≡ None → BadStep t f t.words
 bad_orphan t kept f legal r none =
     end_step t kept (move.Bad f) legal (after_bad t.table f.0) t.bytes (freed t.free (slot_after_read (record_at t.table f.0))) f.0 blank false (read_has (record_at t.table f.0).request r.reading) refl
     (record { owner = sym none; shares = sym r.unshared; blocks = λ k e. let bad : Some k ≡ None = sym e ∙ none in cc })
     (ap (λ o. record (life_in t) { frames = after_bad t.table f.0; free_slots = freed t.free (slot_after_read (record_at t.table f.0)); stands = homed (life_in t) o (record_at t.table f.0).backing; flight = without f.0 (requests_in t) }) (sym none))
 
-bad_owned : (t : JoinedParts) → Kept t → (f : Frame) (k : Key) → IsLegal (move.Bad f) (life_in t) → Reading t f → (record_at t.table f.0).owner ≡ Some k
-    → BadStep t f (with_word t.words k (home_entry (record_at t.table f.0).backing))
+bad_owned : (t : JoinedParts) → PartsKept t → (f : Frame) (k : Key) → IsLegal (move.Bad f) (life_in t) → Reading t f → (record_at t.table f.0).owner ≡ Some k
+    → BadStep t f (with_entry t.words k (home_entry (record_at t.table f.0).backing))
 bad_owned t kept f k legal r owner =
     let d = t.table in
     let free' = freed t.free (slot_after_read (record_at d f.0)) in
@@ -239,10 +239,10 @@ bad_owned t kept f k legal r owner =
     (waits_ended d (after_bad d f.0) t.flight t.own f.0 blank false re.change kept.waits r.held.once) in
     record {
       kept = step.kept;
-      shown = step.shown ∙ ap (λ ws. record (after (shown_of t) (move.Bad f)) { waits = ws; own = own' }) (ended_waits d t.flight t.own f.0 false kept.waits r.held.once);
+      shown = step.shown ∙ ap (λ ws. record (parts_after (shown_of t) (move.Bad f)) { waits = ws; own = own' }) (ended_waits d t.flight t.own f.0 false kept.waits r.held.once);
     }
 
-pub bad_step : (t : JoinedParts) → Kept t → (f : Frame) → IsLegal (move.Bad f) (life_in t) → BadStep t f (words_sent (record_at t.table f.0).owner (record_at t.table f.0).backing t.words)
+pub bad_step : (t : JoinedParts) → PartsKept t → (f : Frame) → IsLegal (move.Bad f) (life_in t) → BadStep t f (words_sent (record_at t.table f.0).owner (record_at t.table f.0).backing t.words)
 bad_step t kept f legal = by (record_at t.table f.0).owner refl
   where
     by : (o : Option Key) → (record_at t.table f.0).owner ≡ o → BadStep t f (words_sent o (record_at t.table f.0).backing t.words)
@@ -250,7 +250,7 @@ bad_step t kept f legal = by (record_at t.table f.0).owner refl
     by (Some k) e = bad_owned t kept f k legal (reading_in t kept f legal) e
 
 -- the page, if it lives, can go home
-pub send_can : (t : JoinedParts) → Kept t → (f : Frame) → IsLegal (move.Bad f) (life_in t) → ((k : Key) → is_there (word_of t.words k) ≡ true → has_word t.words k ≡ true)
+pub send_can : (t : JoinedParts) → PartsKept t → (f : Frame) → IsLegal (move.Bad f) (life_in t) → ((k : Key) → is_there (key_entry t.words k) ≡ true → has_word t.words k ≡ true)
     → CanSend t.words (record_at t.table f.0).owner (record_at t.table f.0).backing
 send_can t kept f legal has = by (record_at t.table f.0).owner refl
   where
@@ -258,6 +258,6 @@ send_can t kept f legal has = by (record_at t.table f.0).owner refl
     by None e = tt
     by (Some k) e = let can = home_can t kept f k e (reading_in t kept f legal).unshared in (has k can.there, can.fits, can.places)
 
-pub reading_busy : (t : JoinedParts) (f : Frame) (ok : Bool) → IsLegal (read_end ok f) (life_in t) → has_request (record_at t.table f.0).request ≡ true
+pub reading_busy : (t : JoinedParts) (f : Frame) (ok : Bool) → IsLegal (end_of_read ok f) (life_in t) → has_request (record_at t.table f.0).request ≡ true
 reading_busy t f true legal = read_has (record_at t.table f.0).request (and_parts (is_read (record_at t.table f.0).request) (is_io t.line.kind || is_access t.line.kind) legal).0
 reading_busy t f false legal = read_has (record_at t.table f.0).request (and_parts (is_read (record_at t.table f.0).request) (is_io t.line.kind || is_access t.line.kind) legal).0

@@ -16,8 +16,8 @@ use Rattle.mm_laws.proofs.ResidentSets.{set_more}
 use Rattle.mm_words.specs.declared.aside.Aside.{Aside}
 use Rattle.mm_words.specs.Words.{WordsOf}
 use Rattle.mm_parts.specs.Shown.{JoinedParts, life_in, shown_of, requests_in}
-use Rattle.mm_parts.specs.Kept.{Kept, WithinLine}
-use Rattle.mm_parts.specs.Moves.{after, IsPlainLine, words_begun, CanBeginSet}
+use Rattle.mm_parts.specs.Kept.{PartsKept, WithinLine}
+use Rattle.mm_parts.specs.Moves.{parts_after, IsPlainLine, words_begun, CanBeginSet}
 use Rattle.mm_parts.specs.Start.{more_slots}
 use Rattle.mm_laws.proofs.Facts.{reached_by}
 use Rattle.mm_parts.proofs.Keeping.{Step, known}
@@ -40,9 +40,9 @@ within_line k own w e h = record {
 }
 
 -- nothing but the line and its kind changes
-same_words : (t : JoinedParts) → Kept t → (n : ℕ) (k : LineKind) → IsLegal (move.At n k) (life_in t) → t.own ≡ None → t.words.aside ≡ None
+same_words : (t : JoinedParts) → PartsKept t → (n : ℕ) (k : LineKind) → IsLegal (move.At n k) (life_in t) → t.own ≡ None → t.words.aside ≡ None
     → after_at (life_in t) n k ≡ record (life_in t) { line = n; kind = k }
-    → Step (record t { line = record t.line { line = n; kind = k } }) (after (shown_of t) (move.At n k))
+    → Step (record t { line = record t.line { line = n; kind = k } }) (parts_after (shown_of t) (move.At n k))
 same_words t kept n k legal own aside e =
     let next = next_line t n k legal in
     let number = next.number in
@@ -59,8 +59,8 @@ same_words t kept n k legal own aside e =
       shown = ap (λ (l : FrameLife). record (shown_of t) { life = l }) (sym e);
     }
 
-process_line : (t : JoinedParts) → Kept t → (n : ℕ) (pid : Pid) (min max : ℕ) → IsLegal (move.At n (kind.Process pid min max)) (life_in t) → 1 ≤ max → max ≤ 65536 → t.own ≡ None → t.words.aside ≡ None
-    → Step (record t { line = record t.line { line = n; kind = kind.Process pid min max }; words = words_begun (kind.Process pid min max) t.words }) (after (shown_of t) (move.At n (kind.Process pid min max)))
+process_line : (t : JoinedParts) → PartsKept t → (n : ℕ) (pid : Pid) (min max : ℕ) → IsLegal (move.At n (kind.Process pid min max)) (life_in t) → 1 ≤ max → max ≤ 65536 → t.own ≡ None → t.words.aside ≡ None
+    → Step (record t { line = record t.line { line = n; kind = kind.Process pid min max }; words = words_begun (kind.Process pid min max) t.words }) (parts_after (shown_of t) (move.At n (kind.Process pid min max)))
 process_line t kept n pid min max legal low high own aside =
     let next = next_line t n (kind.Process pid min max) legal in
     let number = next.number in
@@ -83,8 +83,8 @@ process_line t kept n pid min max legal low high own aside =
       | inr is ↦ let m : max ≡ s.max = ap (λ (x : ResidentSet). x.max) is in (omega (arith, low, m), omega (arith, high, m))
     ]
 
-pub at_step : (t : JoinedParts) → Kept t → (n : ℕ) (k : LineKind) → IsLegal (move.At n k) (life_in t) → IsPlainLine k → t.own ≡ None → t.words.aside ≡ None
-    → Step (record t { line = record t.line { line = n; kind = k }; words = words_begun k t.words }) (after (shown_of t) (move.At n k))
+pub at_step : (t : JoinedParts) → PartsKept t → (n : ℕ) (k : LineKind) → IsLegal (move.At n k) (life_in t) → IsPlainLine k → t.own ≡ None → t.words.aside ≡ None
+    → Step (record t { line = record t.line { line = n; kind = k }; words = words_begun k t.words }) (parts_after (shown_of t) (move.At n k))
 at_step t kept n (kind.Machine frames slots depth blocks) legal plain own aside =
     let first = (and_parts (t.line.line == 0) _ (next_line t n (kind.Machine frames slots depth blocks) legal).kind_is).0 in
     let zero_line = eqb-true t.line.line 0 first in
@@ -103,15 +103,15 @@ at_step t kept n (kind.Grow count) legal plain own aside = absurd plain
 
 -- ---- the paging file grows
 
-pub grow_machine : (t : JoinedParts) → Kept t → (n count : ℕ) → IsLegal (move.At n (kind.Grow count)) (life_in t) → IsMachine (more_slots t.line.machine count)
+pub grow_machine : (t : JoinedParts) → PartsKept t → (n count : ℕ) → IsLegal (move.At n (kind.Grow count)) (life_in t) → IsMachine (more_slots t.line.machine count)
 grow_machine t kept n count legal =
     let m = kept.line.machine in
     let k = (next_line t n (kind.Grow count) legal).kind_is in
     let most = leb-true (t.line.machine.slots + count) 262144 (and_parts (nat_lt 0 t.line.line && nat_le 1 count) (nat_le (t.line.machine.slots + count) 262144) k).1 in
     record { least_frames = m.least_frames; most_frames = m.most_frames; most_slots = most; least_depth = m.least_depth; most_depth = m.most_depth; most_blocks = m.most_blocks; enough_frames = m.enough_frames }
 
-pub grow_step : (t : JoinedParts) → Kept t → (n count : ℕ) → IsLegal (move.At n (kind.Grow count)) (life_in t) → t.own ≡ None → t.words.aside ≡ None
-    → Step (record t { line = record t.line { machine = more_slots t.line.machine count; line = n; kind = kind.Grow count }; free = t.free ++ replicate count true }) (after (shown_of t) (move.At n (kind.Grow count)))
+pub grow_step : (t : JoinedParts) → PartsKept t → (n count : ℕ) → IsLegal (move.At n (kind.Grow count)) (life_in t) → t.own ≡ None → t.words.aside ≡ None
+    → Step (record t { line = record t.line { machine = more_slots t.line.machine count; line = n; kind = kind.Grow count }; free = t.free ++ replicate count true }) (parts_after (shown_of t) (move.At n (kind.Grow count)))
 grow_step t kept n count legal own aside =
     let number = (next_line t n (kind.Grow count) legal).number in
     record {
@@ -151,15 +151,15 @@ no_place None e = refl
 no_place (Some a) e = cc
 
 -- by what is shown
-pub at_shown : (t : JoinedParts) → Kept t → (n : ℕ) (k : LineKind) → IsLegal (move.At n k) (life_in t) → IsPlainLine k → t.own ≡ None → (shown_of t).aside ≡ None
-    → Step (record t { line = record t.line { line = n; kind = k }; words = words_begun k t.words }) (after (shown_of t) (move.At n k))
+pub at_shown : (t : JoinedParts) → PartsKept t → (n : ℕ) (k : LineKind) → IsLegal (move.At n k) (life_in t) → IsPlainLine k → t.own ≡ None → (shown_of t).aside ≡ None
+    → Step (record t { line = record t.line { line = n; kind = k }; words = words_begun k t.words }) (parts_after (shown_of t) (move.At n k))
 at_shown t kept n k legal plain own aside = at_step t kept n k legal plain own (no_place t.words.aside aside)
 
-pub grow_shown : (t : JoinedParts) → Kept t → (n count : ℕ) → IsLegal (move.At n (kind.Grow count)) (life_in t) → t.own ≡ None → (shown_of t).aside ≡ None
-    → Step (record t { line = record t.line { machine = more_slots t.line.machine count; line = n; kind = kind.Grow count }; free = t.free ++ replicate count true }) (after (shown_of t) (move.At n (kind.Grow count)))
+pub grow_shown : (t : JoinedParts) → PartsKept t → (n count : ℕ) → IsLegal (move.At n (kind.Grow count)) (life_in t) → t.own ≡ None → (shown_of t).aside ≡ None
+    → Step (record t { line = record t.line { machine = more_slots t.line.machine count; line = n; kind = kind.Grow count }; free = t.free ++ replicate count true }) (parts_after (shown_of t) (move.At n (kind.Grow count)))
 grow_shown t kept n count legal own aside = grow_step t kept n count legal own (no_place t.words.aside aside)
 
-pub slots_small : (t : JoinedParts) → Kept t → (n count : ℕ) → IsLegal (move.At n (kind.Grow count)) (life_in t) → length t.free + count < 4294967296
+pub slots_small : (t : JoinedParts) → PartsKept t → (n count : ℕ) → IsLegal (move.At n (kind.Grow count)) (life_in t) → length t.free + count < 4294967296
 slots_small t kept n count legal =
     let most = (grow_machine t kept n count legal).most_slots in
     let size = (known t kept).slotted in

@@ -12,7 +12,7 @@ use Rattle.mm_laws.proofs.PlaceCounts.{place_or_not}
 use Rattle.mm_words.specs.declared.layout.Entry.{Entry}
 use Rattle.mm_words.specs.declared.layout.Entry.TheVariants as entry
 use Rattle.mm_words.specs.declared.aside.Aside.{Aside}
-use Rattle.mm_words.specs.Words.{WordsOf, place_of, is_aside, aside_or, word_of, with_own, with_word, valid_frame}
+use Rattle.mm_words.specs.Words.{WordsOf, place_from, is_aside, aside_or, key_entry, with_own, with_entry, valid_frame}
 use Rattle.mm_parts.specs.Shown.{Owners, named_by, names_of, valid_of}
 use Rattle.mm_parts.specs.Moves.{names_given}
 
@@ -77,49 +77,49 @@ same_there names place q n e = elim (place_or_not q place) as (λ _. cond (same_
 ]
 
 -- a page that had a frame before has another entry of that kind: its place names it still
-pub names_still : (o : Owners) (w : WordsOf) (k : Key) (e : Entry) → is_used e ≡ true → is_used (word_of w k) ≡ true → (q : Place) → names_of o (with_word w k e) q ≡ names_of o w q
+pub names_still : (o : Owners) (w : WordsOf) (k : Key) (e : Entry) → is_used e ≡ true → is_used (key_entry w k) ≡ true → (q : Place) → names_of o (with_entry w k e) q ≡ names_of o w q
 names_still o w (Shared a i) e now was q = refl
-names_still o w (Private p v) e now was q = by (is_aside w.aside (place_of p v)) refl
+names_still o w (Private p v) e now was q = by (is_aside w.aside (place_from p v)) refl
   where
-    by : (b : Bool) → is_aside w.aside (place_of p v) ≡ b → names_of o (with_own b w (place_of p v) e) q ≡ names_of o w q
+    by : (b : Bool) → is_aside w.aside (place_from p v) ≡ b → names_of o (with_own b w (place_from p v) e) q ≡ names_of o w q
     by true h = refl
     by false h =
-        let here = used_names o (place_of p v) (w.at (place_of p v)) (sym (ap is_used (in_table w.aside (place_of p v) (w.at (place_of p v)) h)) ∙ was) in
-        names_at o w (place_of p v) e (Some (Private p v)) (used_names o (place_of p v) e now) q ∙ same_there (names_of o w) (place_of p v) q (Some (Private p v)) here
+        let here = used_names o (place_from p v) (w.at (place_from p v)) (sym (ap is_used (in_table w.aside (place_from p v) (w.at (place_from p v)) h)) ∙ was) in
+        names_at o w (place_from p v) e (Some (Private p v)) (used_names o (place_from p v) e now) q ∙ same_there (names_of o w) (place_from p v) q (Some (Private p v)) here
 
 -- a page comes to have a frame
 pub names_used : (o : Owners) (w : WordsOf) (p : Pid) (v : Vpn) (e : Entry) → is_used e ≡ true → (q : Place)
-    → names_of o (with_word w (Private p v) e) q ≡ names_given (option_map (λ x. x.place) w.aside) (names_of o w) (place_of p v) q
+    → names_of o (with_entry w (Private p v) e) q ≡ names_given (option_map (λ x. x.place) w.aside) (names_of o w) (place_from p v) q
 names_used o w p v e used q = by w.aside refl
   where
-    in_place : names_of o (record w { at = changed same_place w.at (place_of p v) e }) q ≡ changed same_place (names_of o w) (place_of p v) (Some (Private p v)) q
-    in_place = names_at o w (place_of p v) e (Some (Private p v)) (used_names o (place_of p v) e used) q
+    in_place : names_of o (record w { at = changed same_place w.at (place_from p v) e }) q ≡ changed same_place (names_of o w) (place_from p v) (Some (Private p v)) q
+    in_place = names_at o w (place_from p v) e (Some (Private p v)) (used_names o (place_from p v) e used) q
 
-    at : (b : Bool) → names_of o (with_own b w (place_of p v) e) q ≡ (if b then names_of o w else changed same_place (names_of o w) (place_of p v) (Some (Private p v))) q
+    at : (b : Bool) → names_of o (with_own b w (place_from p v) e) q ≡ (if b then names_of o w else changed same_place (names_of o w) (place_from p v) (Some (Private p v))) q
     at true = refl
     at false = in_place
 
-    by : (a : Option Aside) → w.aside ≡ a → names_of o (with_own (is_aside w.aside (place_of p v)) w (place_of p v) e) q ≡ names_given (option_map (λ x. x.place) a) (names_of o w) (place_of p v) q
-    by None h = ap (λ (a : Option Aside). names_of o (with_own (is_aside a (place_of p v)) w (place_of p v) e) q) h ∙ in_place
-    by (Some a) h = ap (λ (x : Option Aside). names_of o (with_own (is_aside x (place_of p v)) w (place_of p v) e) q) h ∙ at (same_place (place_of p v) a.place)
+    by : (a : Option Aside) → w.aside ≡ a → names_of o (with_own (is_aside w.aside (place_from p v)) w (place_from p v) e) q ≡ names_given (option_map (λ x. x.place) a) (names_of o w) (place_from p v) q
+    by None h = ap (λ (a : Option Aside). names_of o (with_own (is_aside a (place_from p v)) w (place_from p v) e) q) h ∙ in_place
+    by (Some a) h = ap (λ (x : Option Aside). names_of o (with_own (is_aside x (place_from p v)) w (place_from p v) e) q) h ∙ at (same_place (place_from p v) a.place)
 
 -- a page is no more, whose entry was in the table
-pub names_gone : (o : Owners) (w : WordsOf) (p : Pid) (v : Vpn) (e : Entry) → is_aside w.aside (place_of p v) ≡ false → named_by o (place_of p v) e ≡ None → (q : Place)
-    → names_of o (with_word w (Private p v) e) q ≡ changed same_place (names_of o w) (place_of p v) None q
-names_gone o w p v e h none q = ap (λ b. names_of o (with_own b w (place_of p v) e) q) h ∙ names_at o w (place_of p v) e None none q
+pub names_gone : (o : Owners) (w : WordsOf) (p : Pid) (v : Vpn) (e : Entry) → is_aside w.aside (place_from p v) ≡ false → named_by o (place_from p v) e ≡ None → (q : Place)
+    → names_of o (with_entry w (Private p v) e) q ≡ changed same_place (names_of o w) (place_from p v) None q
+names_gone o w p v e h none q = ap (λ b. names_of o (with_own b w (place_from p v) e) q) h ∙ names_at o w (place_from p v) e None none q
 
 -- a page comes to be, whose place named none
-pub names_none : (o : Owners) (w : WordsOf) (k : Key) (e : Entry) → ((p : Pid) (v : Vpn) → k ≡ Private p v → (names_of o w (place_of p v) ≡ None) × (named_by o (place_of p v) e ≡ None)) → (q : Place) → names_of o (with_word w k e) q ≡ names_of o w q
+pub names_none : (o : Owners) (w : WordsOf) (k : Key) (e : Entry) → ((p : Pid) (v : Vpn) → k ≡ Private p v → (names_of o w (place_from p v) ≡ None) × (named_by o (place_from p v) e ≡ None)) → (q : Place) → names_of o (with_entry w k e) q ≡ names_of o w q
 names_none o w (Shared a i) e h q = refl
-names_none o w (Private p v) e h q = by (is_aside w.aside (place_of p v))
+names_none o w (Private p v) e h q = by (is_aside w.aside (place_from p v))
   where
-    by : (b : Bool) → names_of o (with_own b w (place_of p v) e) q ≡ names_of o w q
+    by : (b : Bool) → names_of o (with_own b w (place_from p v) e) q ≡ names_of o w q
     by true = refl
     by false =
         let two = h p v refl in
-        names_at o w (place_of p v) e None two.1 q ∙ same_there (names_of o w) (place_of p v) q None two.0
+        names_at o w (place_from p v) e None two.1 q ∙ same_there (names_of o w) (place_from p v) q None two.0
 
 -- a page moves, and its place names it still where it is a private one
-pub names_moved : (o : Owners) (w : WordsOf) (k : Key) (e : Entry) → (is_shared k ≡ false → (is_used e ≡ true) × (is_used (word_of w k) ≡ true)) → (q : Place) → names_of o (with_word w k e) q ≡ names_of o w q
+pub names_moved : (o : Owners) (w : WordsOf) (k : Key) (e : Entry) → (is_shared k ≡ false → (is_used e ≡ true) × (is_used (key_entry w k) ≡ true)) → (q : Place) → names_of o (with_entry w k e) q ≡ names_of o w q
 names_moved o w (Shared a i) e h q = refl
 names_moved o w (Private p v) e h q = let two = h refl in names_still o w (Private p v) e two.0 two.1 q

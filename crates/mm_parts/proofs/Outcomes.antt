@@ -2,7 +2,7 @@
 use Rattle.std.proofs.Common.{◌≡◌, sym, ap, ◌∙◌, subst}
 use Rattle.std.specs.Prelude.{Result, Ok, Err, OnOk, OnErr}
 use Rattle.mm_parts.specs.Shown.{JoinedParts, PartsOf, shown_of}
-use Rattle.mm_parts.specs.Kept.{Kept}
+use Rattle.mm_parts.specs.Kept.{PartsKept}
 use Rattle.mm_parts.proofs.Keeping.{Step}
 
 pub on_ok : {A E : Type 0} (r : Result A E) {P Q : Type 0} → OnOk r P → (P → Q) → OnOk r Q
@@ -14,9 +14,9 @@ on_err (Ok x) p f = tt
 on_err (Err e) p f = f p
 
 -- what is kept, whether it is refused or not
-pub kept_by : {A E : Type 0} (r : Result A E) (t u v : JoinedParts) (s : PartsOf) → Kept t → Step u s → OnOk r (v ≡ u) → OnErr r (v ≡ t) → Kept v
-kept_by (Ok x) t u v s kept step ok err = subst Kept (sym ok) step.kept
-kept_by (Err e) t u v s kept step ok err = subst Kept (sym err) kept
+pub kept_by : {A E : Type 0} (r : Result A E) (t u v : JoinedParts) (s : PartsOf) → PartsKept t → Step u s → OnOk r (v ≡ u) → OnErr r (v ≡ t) → PartsKept v
+kept_by (Ok x) t u v s kept step ok err = subst PartsKept (sym ok) step.kept
+kept_by (Err e) t u v s kept step ok err = subst PartsKept (sym err) kept
 
 pub ok_by : {A E : Type 0} (r : Result A E) (u v : JoinedParts) (s : PartsOf) → Step u s → OnOk r (v ≡ u) → OnOk r (shown_of v ≡ s)
 ok_by (Ok x) u v s step ok = ap shown_of ok ∙ step.shown

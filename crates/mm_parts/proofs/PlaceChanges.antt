@@ -22,11 +22,11 @@ use Rattle.mm_laws.proofs.Sights.{kept_inside}
 use Rattle.mm_words.specs.declared.layout.Entry.{Entry}
 use Rattle.mm_words.specs.declared.layout.Entry.TheVariants as entry
 use Rattle.mm_words.specs.declared.aside.Aside.{Aside}
-use Rattle.mm_words.specs.Words.{WordsOf, word_of, own_word, aside_or, is_aside, without_aside, made_valid, made_invalid, place_of, valid_frame, is_valid}
+use Rattle.mm_words.specs.Words.{WordsOf, key_entry, own_word, aside_or, is_aside, without_aside, made_valid, made_invalid, place_from, valid_frame, is_valid_entry}
 use Rattle.mm_parts.specs.Shown.{JoinedParts, Owners, owners, owned_by, held_by, stands_of, valid_of, named_by, names_of, is_paging, life_of, life_in, shown_of, requests_in}
 use Rattle.mm_parts.specs.Words.{WordsKept, names_other}
-use Rattle.mm_parts.specs.Kept.{Kept}
-use Rattle.mm_parts.specs.Moves.{after, left_by, names_after_map}
+use Rattle.mm_parts.specs.Kept.{PartsKept}
+use Rattle.mm_parts.specs.Moves.{parts_after, left_by, names_after_map}
 use Rattle.mm_laws.proofs.Facts.{reached_by}
 use Rattle.mm_parts.proofs.Stands.{same_life, own_by, not_valid}
 use Rattle.mm_parts.proofs.FrameChanges.{Rewrites, rewrites_by, settled_records, same_owners, stands_frame, paging_frame, waits_frame}
@@ -121,10 +121,10 @@ some_made (Some a) place h = refl
 pub record Maps (t : JoinedParts) (f : Frame) (place : Place) (proto' : ℕ → ℕ → Entry) : Type 0 where
   pub owned : is_some (record_at t.table f.0).owner ≡ true
   pub protos : (a i : ℕ) (e : Entry) → proto' a i ≡ e → (t.words.proto a i ≡ e) ⊎ (entry.Valid f 0 ≡ e)
-  pub owner : (k : Key) → (record_at t.table f.0).owner ≡ Some k → word_of (record (made_valid t.words place f) { proto = proto' }) k ≡ entry.Valid f 0
+  pub owner : (k : Key) → (record_at t.table f.0).owner ≡ Some k → key_entry (record (made_valid t.words place f) { proto = proto' }) k ≡ entry.Valid f 0
   pub stands : (q : Key) → stands_of (owners t.table) (record (made_valid t.words place f) { proto = proto' }) q ≡ stands_of (owners t.table) t.words q
 
-module _ (t : JoinedParts) (kept : Kept t) (f : Frame) (place : Place) (legal : IsLegal (move.Map f place) (life_in t)) (proto' : ℕ → ℕ → Entry) (maps : Maps t f place proto') where
+module _ (t : JoinedParts) (kept : PartsKept t) (f : Frame) (place : Place) (legal : IsLegal (move.Map f place) (life_in t)) (proto' : ℕ → ℕ → Entry) (maps : Maps t f place proto') where
   map_change : Rewrites t.table (after_map t.table f.0) f.0 (shared (record_at t.table f.0))
   map_change = rewrites_by t.table (after_map t.table f.0) f.0 (shared (record_at t.table f.0)) (kept_inside t.table f.0 (or_left (is_some (record_at t.table f.0).owner) _ maps.owned)) refl
 
@@ -140,10 +140,10 @@ module _ (t : JoinedParts) (kept : Kept t) (f : Frame) (place : Place) (legal : 
       (λ q. paging_frame t.table (after_map t.table f.0) f.0 (shared (record_at t.table f.0)) (record (made_valid t.words place f) { proto = proto' }) map_change refl refl q ∙ ap (is_paging t.table) (maps.stands q))
       map_valid
 
-  made_before : (q : Key) (e : Entry) → word_of (record (made_valid t.words place f) { proto = proto' }) q ≡ e → (word_of t.words q ≡ e) ⊎ (entry.Valid f 0 ≡ e)
-  made_before (Private p v) e h = by (same_place (place_of p v) place) (sym (own_made t.words.aside t.words.at place (place_of p v) (entry.Valid f 0)) ∙ h)
+  made_before : (q : Key) (e : Entry) → key_entry (record (made_valid t.words place f) { proto = proto' }) q ≡ e → (key_entry t.words q ≡ e) ⊎ (entry.Valid f 0 ≡ e)
+  made_before (Private p v) e h = by (same_place (place_from p v) place) (sym (own_made t.words.aside t.words.at place (place_from p v) (entry.Valid f 0)) ∙ h)
     where
-      by : (b : Bool) → (if b then entry.Valid f 0 else own_word t.words (place_of p v)) ≡ e → (own_word t.words (place_of p v) ≡ e) ⊎ (entry.Valid f 0 ≡ e)
+      by : (b : Bool) → (if b then entry.Valid f 0 else own_word t.words (place_from p v)) ≡ e → (own_word t.words (place_from p v) ≡ e) ⊎ (entry.Valid f 0 ≡ e)
       by true x = inr x
       by false x = inl x
   made_before (Shared a i) e h = maps.protos a.0 i e h
@@ -184,7 +184,7 @@ module _ (t : JoinedParts) (kept : Kept t) (f : Frame) (place : Place) (legal : 
       ∙ names_at (owners t.table) t.words place (entry.Valid f 0) (record_at t.table f.0).owner refl q
 
   pub map_step : Step (record t { table = after_map t.table f.0; words = record (made_valid t.words place f) { proto = proto' }; ages = changed same_place t.ages place (Some 0) })
-      (record (after (shown_of t) (move.Map f place)) {
+      (record (parts_after (shown_of t) (move.Map f place)) {
         ages = changed same_place (shown_of t).ages place 0;
         aside = left_by (shown_of t).aside place;
         names = names_after_map (shown_of t) f place;
@@ -214,26 +214,26 @@ module _ (t : JoinedParts) (kept : Kept t) (f : Frame) (place : Place) (legal : 
 -- ---- a place is valid no more
 
 -- where the entry at the place is not that of its private key, or says where that stands, keys stand where they stood
-pub word_unmade : (w : WordsOf) (place : Place) (e : Entry) → is_aside w.aside place ≡ false → (q : Key) → word_of (made_invalid w place e) q ≡ changed same_key (word_of w) (key_of_place place) e q
-word_unmade w place e h (Private p v) = own_by false w place (place_of p v) e h
+pub word_unmade : (w : WordsOf) (place : Place) (e : Entry) → is_aside w.aside place ≡ false → (q : Key) → key_entry (made_invalid w place e) q ≡ changed same_key (key_entry w) (key_of_place place) e q
+word_unmade w place e h (Private p v) = own_by false w place (place_from p v) e h
 word_unmade w place e h (Shared a i) = refl
 
-pub word_beside : (w : WordsOf) (place : Place) (e : Entry) (a : Aside) → w.aside ≡ Some a → same_place place a.place ≡ true → (q : Key) → word_of (made_invalid w place e) q ≡ word_of w q
-word_beside w place e a g h (Private p v) = elim (place_or_not (place_of p v) place) as (λ _. own_word (made_invalid w place e) (place_of p v) ≡ own_word w (place_of p v)) [
-  | inl s ↦ aside_only w.aside g (w.at (place_of p v)) (changed same_place w.at place e (place_of p v)) s.0
-  | inr n ↦ ap (λ b. aside_or w.aside (place_of p v) (cond b e (w.at (place_of p v)))) n.1
+pub word_beside : (w : WordsOf) (place : Place) (e : Entry) (a : Aside) → w.aside ≡ Some a → same_place place a.place ≡ true → (q : Key) → key_entry (made_invalid w place e) q ≡ key_entry w q
+word_beside w place e a g h (Private p v) = elim (place_or_not (place_from p v) place) as (λ _. own_word (made_invalid w place e) (place_from p v) ≡ own_word w (place_from p v)) [
+  | inl s ↦ aside_only w.aside g (w.at (place_from p v)) (changed same_place w.at place e (place_from p v)) s.0
+  | inr n ↦ ap (λ b. aside_or w.aside (place_from p v) (cond b e (w.at (place_from p v)))) n.1
 ]
   where
-    aside_only : (x : Option Aside) → x ≡ Some a → (u t : Entry) → place_of p v ≡ place → aside_or x (place_of p v) t ≡ aside_or x (place_of p v) u
+    aside_only : (x : Option Aside) → x ≡ Some a → (u t : Entry) → place_from p v ≡ place → aside_or x (place_from p v) t ≡ aside_or x (place_from p v) u
     aside_only None e u t s = cc
     aside_only (Some b) e u t s =
         let is : b ≡ a = cc in
-        let on : same_place (place_of p v) b.place ≡ true = ap (λ (y : Aside). same_place (place_of p v) y.place) is ∙ ap (λ (y : Place). same_place y a.place) s ∙ h in
+        let on : same_place (place_from p v) b.place ≡ true = ap (λ (y : Aside). same_place (place_from p v) y.place) is ∙ ap (λ (y : Place). same_place y a.place) s ∙ h in
         ap (λ c. cond c b.entry t) on ∙ sym (ap (λ c. cond c b.entry u) on)
 word_beside w place e a g h (Shared b i) = refl
 
 -- an entry that is not valid, and names a shared page, is a prototype's
-named_shared : (o : Owners) (p : Place) (e : Entry) (a : Area) (i : ℕ) → is_valid e ≡ false → named_by o p e ≡ Some (Shared a i) → names_other e ≡ true
+named_shared : (o : Owners) (p : Place) (e : Entry) (a : Area) (i : ℕ) → is_valid_entry e ≡ false → named_by o p e ≡ Some (Shared a i) → names_other e ≡ true
 named_shared o p entry.Empty a i v h = cc
 named_shared o p entry.Zero a i v h = cc
 named_shared o p (entry.Paged s) a i v h = cc
@@ -245,16 +245,16 @@ named_shared o p (entry.Proto b j) a i v h = refl
 -- The place has this entry now, and prototype words may change. What is needed of the words then.
 pub record Unmaps (t : JoinedParts) (f : Frame) (place : Place) (e : Entry) (proto' : ℕ → ℕ → Entry) : Type 0 where
   pub there : valid_of t.words place ≡ Some f
-  pub calm : is_valid e ≡ false
+  pub calm : is_valid_entry e ≡ false
   pub no_file : (b : Block) → e ≢ entry.InFile b
   pub named : named_by (owners t.table) place e ≡ (record_at t.table f.0).owner
   -- a key that is in transition now was so before, or it is in this frame, which had one share
-  pub transition : (q : Key) (g : Frame) → word_of (record (made_invalid t.words place e) { proto = proto' }) q ≡ entry.Transition g → (word_of t.words q ≡ entry.Transition g) ⊎ ((g.0 ≡ f.0) × ((record_at t.table f.0).shares ≡ 1))
+  pub transition : (q : Key) (g : Frame) → key_entry (record (made_invalid t.words place e) { proto = proto' }) q ≡ entry.Transition g → (key_entry t.words q ≡ entry.Transition g) ⊎ ((g.0 ≡ f.0) × ((record_at t.table f.0).shares ≡ 1))
   pub valid : (a i : ℕ) (g : Frame) (m : ℕ) → proto' a i ≡ entry.Valid g m → (t.words.proto a i ≡ entry.Valid g m) × (g.0 ≡ f.0 → 2 ≤ (record_at t.table f.0).shares)
   pub no_proto : (a i : ℕ) (b : Area) (j : ℕ) → proto' a i ≢ entry.Proto b j
   pub stands : (q : Key) → stands_of (owners t.table) (record (made_invalid t.words place e) { proto = proto' }) q ≡ stands_of (owners t.table) t.words q
 
-module _ (t : JoinedParts) (kept : Kept t) (f : Frame) (place : Place) (legal : IsLegal (move.Unmap place) (life_in t)) (e : Entry) (proto' : ℕ → ℕ → Entry) (unmaps : Unmaps t f place e proto') where
+module _ (t : JoinedParts) (kept : PartsKept t) (f : Frame) (place : Place) (legal : IsLegal (move.Unmap place) (life_in t)) (e : Entry) (proto' : ℕ → ℕ → Entry) (unmaps : Unmaps t f place e proto') where
   some : 1 ≤ (record_at t.table f.0).shares
   some = (known t kept).shares place f unmaps.there
 
@@ -343,7 +343,7 @@ module _ (t : JoinedParts) (kept : Kept t) (f : Frame) (place : Place) (legal : 
       named_valid (entry.Proto a i) h = let bad : None ≡ Some f = sym (ap valid_frame h) ∙ unmaps.there in cc
 
   pub unmap_step : Step (record t { table = after_unmap t.table f.0; words = record (made_invalid t.words place e) { proto = proto' }; ages = changed same_place t.ages place None })
-      (record (after (shown_of t) (move.Unmap place)) { ages = changed same_place (shown_of t).ages place 0 })
+      (record (parts_after (shown_of t) (move.Unmap place)) { ages = changed same_place (shown_of t).ages place 0 })
   unmap_step = record {
     kept = record {
       reached = reached_by (life_in t) _ (move.Unmap place) legal unmap_life kept.reached;

@@ -20,11 +20,11 @@ use Rattle.mm_laws.proofs.PlaceCounts.{place_or_not, same_place-self}
 use Rattle.mm_words.specs.declared.layout.Entry.{Entry}
 use Rattle.mm_words.specs.declared.layout.Entry.TheVariants as entry
 use Rattle.mm_words.specs.declared.aside.Aside.{Aside}
-use Rattle.mm_words.specs.Words.{WordsOf, word_of, own_word, aside_or, is_aside, made_valid, made_invalid, changed_at, place_of, valid_frame}
+use Rattle.mm_words.specs.Words.{WordsOf, key_entry, own_word, aside_or, is_aside, made_valid, made_invalid, changed_at, place_from, valid_frame}
 use Rattle.mm_parts.specs.Shown.{JoinedParts, owners, owned_by, has_owner, held_by, stands_of, valid_of, life_in, shown_of}
 use Rattle.mm_parts.specs.Words.{is_aside_entry}
-use Rattle.mm_parts.specs.Kept.{Kept}
-use Rattle.mm_parts.specs.Moves.{after, left_by, names_after_map}
+use Rattle.mm_parts.specs.Kept.{PartsKept}
+use Rattle.mm_parts.specs.Moves.{parts_after, left_by, names_after_map}
 use Rattle.mm_parts.proofs.Keeping.{Step, known}
 use Rattle.mm_parts.proofs.StandingWords.{in_frame}
 use Rattle.mm_parts.proofs.PlaceChanges.{own_made, map_step, unmap_step, word_unmade, word_beside}
@@ -73,20 +73,20 @@ has_shared (Some k) a i p v e = let same : k ≡ Shared a i = cc in ap (λ (j : 
 made_stands : (t : JoinedParts) (place : Place) (f : Frame) → (if owned_by (owners t.table) (key_of_place place) f then held.Frame f else held.Dead) ≡ stands_of (owners t.table) t.words (key_of_place place)
     → (q : Key) → stands_of (owners t.table) (made_valid t.words place f) q ≡ stands_of (owners t.table) t.words q
 made_stands t place f here (Private p v) =
-    ap (held_by (owned_by (owners t.table) (Private p v))) (own_made t.words.aside t.words.at place (place_of p v) (entry.Valid f 0))
-    ∙ (elim (place_or_not (place_of p v) place) as (λ _. held_by (owned_by (owners t.table) (Private p v)) (if same_place (place_of p v) place then entry.Valid f 0 else own_word t.words (place_of p v)) ≡ stands_of (owners t.table) t.words (Private p v)) [
-      | inl s ↦ ap (λ b. held_by (owned_by (owners t.table) (Private p v)) (cond b (entry.Valid f 0) (own_word t.words (place_of p v)))) s.1
+    ap (held_by (owned_by (owners t.table) (Private p v))) (own_made t.words.aside t.words.at place (place_from p v) (entry.Valid f 0))
+    ∙ (elim (place_or_not (place_from p v) place) as (λ _. held_by (owned_by (owners t.table) (Private p v)) (if same_place (place_from p v) place then entry.Valid f 0 else own_word t.words (place_from p v)) ≡ stands_of (owners t.table) t.words (Private p v)) [
+      | inl s ↦ ap (λ b. held_by (owned_by (owners t.table) (Private p v)) (cond b (entry.Valid f 0) (own_word t.words (place_from p v)))) s.1
           ∙ ap (λ (x : Place). held_by (owned_by (owners t.table) (key_of_place x)) (entry.Valid f 0)) s.0 ∙ here ∙ ap (λ (x : Place). stands_of (owners t.table) t.words (key_of_place x)) (sym s.0)
-      | inr n ↦ ap (λ b. held_by (owned_by (owners t.table) (Private p v)) (cond b (entry.Valid f 0) (own_word t.words (place_of p v)))) n.1
+      | inr n ↦ ap (λ b. held_by (owned_by (owners t.table) (Private p v)) (cond b (entry.Valid f 0) (own_word t.words (place_from p v)))) n.1
     ])
 made_stands t place f here (Shared a i) = refl
 
-made_own : (t : JoinedParts) (place : Place) (f : Frame) → word_of (made_valid t.words place f) (key_of_place place) ≡ entry.Valid f 0
+made_own : (t : JoinedParts) (place : Place) (f : Frame) → key_entry (made_valid t.words place f) (key_of_place place) ≡ entry.Valid f 0
 made_own t place f = own_made t.words.aside t.words.at place place (entry.Valid f 0) ∙ ap (λ b. cond b (entry.Valid f 0) (own_word t.words place)) (same_place-self place)
 
-pub map_own_step : (t : JoinedParts) → Kept t → (f : Frame) (place : Place) → IsLegal (move.Map f place) (life_in t) → (record_at t.table f.0).owner ≡ Some (key_of_place place)
+pub map_own_step : (t : JoinedParts) → PartsKept t → (f : Frame) (place : Place) → IsLegal (move.Map f place) (life_in t) → (record_at t.table f.0).owner ≡ Some (key_of_place place)
     → Step (record t { table = after_map t.table f.0; words = made_valid t.words place f; ages = changed same_place t.ages place (Some 0) })
-    (record (after (shown_of t) (move.Map f place)) {
+    (record (parts_after (shown_of t) (move.Map f place)) {
       ages = changed same_place (shown_of t).ages place 0;
       aside = left_by (shown_of t).aside place;
       names = names_after_map (shown_of t) f place;
@@ -95,7 +95,7 @@ map_own_step t kept f place legal is =
     map_step t kept f place legal t.words.proto (record {
       owned = ap is_some is;
       protos = λ a i e h. inl h;
-      owner = λ k e. let same : k ≡ key_of_place place = cc in ap (word_of (made_valid t.words place f)) same ∙ made_own t place f;
+      owner = λ k e. let same : k ≡ key_of_place place = cc in ap (key_entry (made_valid t.words place f)) same ∙ made_own t place f;
       stands = made_stands t place f (ap (λ b. if b then held.Frame f else held.Dead) (has_own (record_at t.table f.0).owner place.pid place.vpn is) ∙ sym ((known t kept).owned f.0 (key_of_place place) is));
     })
 
@@ -106,10 +106,10 @@ dead_is_dead (held.Block b) e = cc
 dead_is_dead held.Zero e = cc
 dead_is_dead held.Dead e = refl
 
-pub map_shared_step : (t : JoinedParts) → Kept t → (f : Frame) (place : Place) (a : Area) (i : ℕ) → IsLegal (move.Map f place) (life_in t) → (record_at t.table f.0).owner ≡ Some (Shared a i)
+pub map_shared_step : (t : JoinedParts) → PartsKept t → (f : Frame) (place : Place) (a : Area) (i : ℕ) → IsLegal (move.Map f place) (life_in t) → (record_at t.table f.0).owner ≡ Some (Shared a i)
     → is_dead ((life_in t).stands (key_of_place place)) ≡ true
     → Step (record t { table = after_map t.table f.0; words = record (made_valid t.words place f) { proto = changed_at t.words.proto a.0 i (entry.Valid f 0) }; ages = changed same_place t.ages place (Some 0) })
-    (record (after (shown_of t) (move.Map f place)) {
+    (record (parts_after (shown_of t) (move.Map f place)) {
       ages = changed same_place (shown_of t).ages place 0;
       aside = left_by (shown_of t).aside place;
       names = names_after_map (shown_of t) f place;
@@ -119,7 +119,7 @@ map_shared_step t kept f place a i legal is dead =
     map_step t kept f place legal proto' (record {
       owned = ap is_some is;
       protos = λ b j e h. (elim (pair_or_not t.words.proto a.0 i b j (entry.Valid f 0) e h) as (λ _. (t.words.proto b j ≡ e) ⊎ (entry.Valid f 0 ≡ e)) [ inl s ↦ inr s.1 | inr n ↦ inl n.1 ]);
-      owner = λ k e. let same : k ≡ Shared a i = cc in ap (word_of (record (made_valid t.words place f) { proto = changed_at t.words.proto a.0 i (entry.Valid f 0) })) same ∙ at_pair t.words.proto a.0 i (entry.Valid f 0);
+      owner = λ k e. let same : k ≡ Shared a i = cc in ap (key_entry (record (made_valid t.words place f) { proto = changed_at t.words.proto a.0 i (entry.Valid f 0) })) same ∙ at_pair t.words.proto a.0 i (entry.Valid f 0);
       stands = stands;
     })
   where
@@ -146,9 +146,9 @@ unmade_stands t place e beside here q = by t.words.aside refl (is_aside t.words.
   where
     in_table : is_aside t.words.aside place ≡ false → stands_of (owners t.table) (made_invalid t.words place e) q ≡ stands_of (owners t.table) t.words q
     in_table h = ap (held_by (owned_by (owners t.table) q)) (word_unmade t.words place e h q)
-        ∙ (elim (key_or_not q (key_of_place place)) as (λ _. held_by (owned_by (owners t.table) q) (if same_key q (key_of_place place) then e else word_of t.words q) ≡ stands_of (owners t.table) t.words q) [
-          | inl s ↦ ap (λ b. held_by (owned_by (owners t.table) q) (cond b e (word_of t.words q))) s.1 ∙ ap (λ (j : Key). held_by (owned_by (owners t.table) j) e) s.0 ∙ here h ∙ ap (stands_of (owners t.table) t.words) (sym s.0)
-          | inr n ↦ ap (λ b. held_by (owned_by (owners t.table) q) (cond b e (word_of t.words q))) n.1
+        ∙ (elim (key_or_not q (key_of_place place)) as (λ _. held_by (owned_by (owners t.table) q) (if same_key q (key_of_place place) then e else key_entry t.words q) ≡ stands_of (owners t.table) t.words q) [
+          | inl s ↦ ap (λ b. held_by (owned_by (owners t.table) q) (cond b e (key_entry t.words q))) s.1 ∙ ap (λ (j : Key). held_by (owned_by (owners t.table) j) e) s.0 ∙ here h ∙ ap (stands_of (owners t.table) t.words) (sym s.0)
+          | inr n ↦ ap (λ b. held_by (owned_by (owners t.table) q) (cond b e (key_entry t.words q))) n.1
         ])
 
     by : (a : Option Aside) → t.words.aside ≡ a → (b : Bool) → is_aside t.words.aside place ≡ b → stands_of (owners t.table) (made_invalid t.words place e) q ≡ stands_of (owners t.table) t.words q
@@ -157,23 +157,23 @@ unmade_stands t place e beside here q = by t.words.aside refl (is_aside t.words.
     by (Some a) g true h = beside a g (sym (ap (λ x. is_aside x place) g) ∙ h) q
 
 -- the word of a key after, by the word before
-unmade_word : (w : WordsOf) (place : Place) (e : Entry) (q : Key) (x : Entry) → word_of (made_invalid w place e) q ≡ x → ((q ≡ key_of_place place) × (e ≡ x)) ⊎ (word_of w q ≡ x)
+unmade_word : (w : WordsOf) (place : Place) (e : Entry) (q : Key) (x : Entry) → key_entry (made_invalid w place e) q ≡ x → ((q ≡ key_of_place place) × (e ≡ x)) ⊎ (key_entry w q ≡ x)
 unmade_word w place e q x h = by w.aside refl (is_aside w.aside place) refl
   where
-    in_table : is_aside w.aside place ≡ false → ((q ≡ key_of_place place) × (e ≡ x)) ⊎ (word_of w q ≡ x)
+    in_table : is_aside w.aside place ≡ false → ((q ≡ key_of_place place) × (e ≡ x)) ⊎ (key_entry w q ≡ x)
     in_table g = elim (key_or_not q (key_of_place place)) [
-      | inl s ↦ inl (s.0, sym (ap (λ b. cond b e (word_of w q)) s.1) ∙ sym (word_unmade w place e g q) ∙ h)
-      | inr n ↦ inr (sym (ap (λ b. cond b e (word_of w q)) n.1) ∙ sym (word_unmade w place e g q) ∙ h)
+      | inl s ↦ inl (s.0, sym (ap (λ b. cond b e (key_entry w q)) s.1) ∙ sym (word_unmade w place e g q) ∙ h)
+      | inr n ↦ inr (sym (ap (λ b. cond b e (key_entry w q)) n.1) ∙ sym (word_unmade w place e g q) ∙ h)
     ]
 
-    by : (a : Option Aside) → w.aside ≡ a → (b : Bool) → is_aside w.aside place ≡ b → ((q ≡ key_of_place place) × (e ≡ x)) ⊎ (word_of w q ≡ x)
+    by : (a : Option Aside) → w.aside ≡ a → (b : Bool) → is_aside w.aside place ≡ b → ((q ≡ key_of_place place) × (e ≡ x)) ⊎ (key_entry w q ≡ x)
     by a g false k = in_table k
     by None g true k = let bad : false ≡ true = sym (ap (λ y. is_aside y place) g) ∙ k in cc
     by (Some a) g true k = inr (sym (word_beside w place e a g (sym (ap (λ y. is_aside y place) g) ∙ k) q) ∙ h)
 
 -- ---- of a private page
 
-module _ (t : JoinedParts) (kept : Kept t) (f : Frame) (place : Place) (legal : IsLegal (move.Unmap place) (life_in t)) (there : valid_of t.words place ≡ Some f) (own : (record_at t.table f.0).owner ≡ Some (key_of_place place)) where
+module _ (t : JoinedParts) (kept : PartsKept t) (f : Frame) (place : Place) (legal : IsLegal (move.Unmap place) (life_in t)) (there : valid_of t.words place ≡ Some f) (own : (record_at t.table f.0).owner ≡ Some (key_of_place place)) where
   own_some : 1 ≤ (record_at t.table f.0).shares
   own_some = (known t kept).shares place f there
 
@@ -183,7 +183,7 @@ module _ (t : JoinedParts) (kept : Kept t) (f : Frame) (place : Place) (legal : 
   -- its entry beside the tables would be that of a frame without shares
   not_beside : (a : Aside) → t.words.aside ≡ Some a → same_place place a.place ≡ true → ⊥
   not_beside a g i =
-      let word : word_of t.words (key_of_place place) ≡ a.entry = ap (λ x. aside_or x place (t.words.at place)) g ∙ ap (λ c. cond c a.entry (t.words.at place)) i in
+      let word : key_entry t.words (key_of_place place) ≡ a.entry = ap (λ x. aside_or x place (t.words.at place)) g ∙ ap (λ c. cond c a.entry (t.words.at place)) i in
       let stand : held_by (owned_by (owners t.table) (key_of_place place)) a.entry ≡ held.Frame f = ap (held_by (owned_by (owners t.table) (key_of_place place))) (sym word) ∙ (known t kept).owned f.0 (key_of_place place) own in
       elim (in_frame (owned_by (owners t.table) (key_of_place place)) a.entry f stand) [
         | inl e ↦ let none = kept.words.transition (key_of_place place) f (word ∙ e) in let some = own_some in omega (arith, some, none)
@@ -194,13 +194,13 @@ module _ (t : JoinedParts) (kept : Kept t) (f : Frame) (place : Place) (legal : 
   own_stands = unmade_stands t place (entry.Transition f) (λ a g i. absurd (not_beside a g i)) (λ h. sym ((known t kept).owned f.0 (key_of_place place) own))
 
   pub unmap_own_step : Step (record t { table = after_unmap t.table f.0; words = made_invalid t.words place (entry.Transition f); ages = changed same_place t.ages place None })
-      (record (after (shown_of t) (move.Unmap place)) { ages = changed same_place (shown_of t).ages place 0 })
+      (record (parts_after (shown_of t) (move.Unmap place)) { ages = changed same_place (shown_of t).ages place 0 })
   unmap_own_step = unmap_step t kept f place legal (entry.Transition f) t.words.proto (record {
     there = there;
     calm = refl;
     no_file = λ b e. cc;
     named = sym own;
-    transition = λ q g h. (elim (unmade_word t.words place (entry.Transition f) q (entry.Transition g) h) as (λ _. (word_of t.words q ≡ entry.Transition g) ⊎ ((g.0 ≡ f.0) × ((record_at t.table f.0).shares ≡ 1))) [
+    transition = λ q g h. (elim (unmade_word t.words place (entry.Transition f) q (entry.Transition g) h) as (λ _. (key_entry t.words q ≡ entry.Transition g) ⊎ ((g.0 ≡ f.0) × ((record_at t.table f.0).shares ≡ 1))) [
       | inl s ↦ inr ((let both = s.1 in let same : f ≡ g = cc in ap (λ (x : Frame). x.0) (sym same)), own_one)
       | inr was ↦ inl was
     ]);
@@ -217,7 +217,7 @@ module _ (t : JoinedParts) (kept : Kept t) (f : Frame) (place : Place) (legal : 
 
 -- ---- of a shared page
 
-module _ (t : JoinedParts) (kept : Kept t) (f : Frame) (place : Place) (a : Area) (i : ℕ) (legal : IsLegal (move.Unmap place) (life_in t)) (there : valid_of t.words place ≡ Some f) (owner : (record_at t.table f.0).owner ≡ Some (Shared a i)) where
+module _ (t : JoinedParts) (kept : PartsKept t) (f : Frame) (place : Place) (a : Area) (i : ℕ) (legal : IsLegal (move.Unmap place) (life_in t)) (there : valid_of t.words place ≡ Some f) (owner : (record_at t.table f.0).owner ≡ Some (Shared a i)) where
   -- the place's private key is dead, or stands beside the tables
   shared_dead : is_aside t.words.aside place ≡ false → held.Dead ≡ stands_of (owners t.table) t.words (key_of_place place)
   shared_dead h = sym (ap (held_by (owned_by (owners t.table) (key_of_place place))) (in_place t.words.aside h) ∙ by (t.words.at place) refl)
@@ -244,7 +244,7 @@ module _ (t : JoinedParts) (kept : Kept t) (f : Frame) (place : Place) (a : Area
   shared_stands = unmade_stands t place (entry.Proto a i)
       (λ b g h q. ap (held_by (owned_by (owners t.table) q)) (word_beside t.words place (entry.Proto a i) b g h q)) shared_dead
 
-  shared_word : (q : Key) (x : Entry) → word_of (made_invalid t.words place (entry.Proto a i)) q ≡ x → (entry.Proto a i ≡ x) ⊎ (word_of t.words q ≡ x)
+  shared_word : (q : Key) (x : Entry) → key_entry (made_invalid t.words place (entry.Proto a i)) q ≡ x → (entry.Proto a i ≡ x) ⊎ (key_entry t.words q ≡ x)
   shared_word q x h = elim (unmade_word t.words place (entry.Proto a i) q x h) [ inl s ↦ inl s.1 | inr was ↦ inr was ]
 
   -- a prototype word that is valid for the frame is that of its page
@@ -258,13 +258,13 @@ module _ (t : JoinedParts) (kept : Kept t) (f : Frame) (place : Place) (a : Area
 
   -- other places are valid for it
   pub unmap_shared_step : 2 ≤ (record_at t.table f.0).shares → Step (record t { table = after_unmap t.table f.0; words = made_invalid t.words place (entry.Proto a i); ages = changed same_place t.ages place None })
-      (record (after (shown_of t) (move.Unmap place)) { ages = changed same_place (shown_of t).ages place 0 })
+      (record (parts_after (shown_of t) (move.Unmap place)) { ages = changed same_place (shown_of t).ages place 0 })
   unmap_shared_step two = unmap_step t kept f place legal (entry.Proto a i) t.words.proto (record {
     there = there;
     calm = refl;
     no_file = λ b e. cc;
     named = sym owner;
-    transition = λ q g h. (elim (shared_word q (entry.Transition g) h) as (λ _. (word_of t.words q ≡ entry.Transition g) ⊎ ((g.0 ≡ f.0) × ((record_at t.table f.0).shares ≡ 1))) [ inl e ↦ cc | inr was ↦ inl was ]);
+    transition = λ q g h. (elim (shared_word q (entry.Transition g) h) as (λ _. (key_entry t.words q ≡ entry.Transition g) ⊎ ((g.0 ≡ f.0) × ((record_at t.table f.0).shares ≡ 1))) [ inl e ↦ cc | inr was ↦ inl was ]);
     valid = λ b j g m h. (h, λ same. two);
     no_proto = kept.words.no_proto;
     stands = shared_stands;
@@ -279,8 +279,8 @@ module _ (t : JoinedParts) (kept : Kept t) (f : Frame) (place : Place) (a : Area
     | inr n ↦ ap (held_by (λ _. true)) (sym n.1)
   ]
 
-  last_word : (q : Key) (g : Frame) → word_of (record (made_invalid t.words place (entry.Proto a i)) { proto = changed_at t.words.proto a.0 i (entry.Transition f) }) q ≡ entry.Transition g
-      → (word_of t.words q ≡ entry.Transition g) ⊎ (g.0 ≡ f.0)
+  last_word : (q : Key) (g : Frame) → key_entry (record (made_invalid t.words place (entry.Proto a i)) { proto = changed_at t.words.proto a.0 i (entry.Transition f) }) q ≡ entry.Transition g
+      → (key_entry t.words q ≡ entry.Transition g) ⊎ (g.0 ≡ f.0)
   last_word (Private p v) g h = elim (shared_word (Private p v) (entry.Transition g) h) [ inl e ↦ cc | inr was ↦ inl was ]
   last_word (Shared b j) g h = elim (pair_or_not t.words.proto a.0 i b.0 j (entry.Transition f) (entry.Transition g) h) [
     | inl s ↦ inr (let e = s.1 in let same : f ≡ g = cc in ap (λ (x : Frame). x.0) (sym same))
@@ -290,13 +290,13 @@ module _ (t : JoinedParts) (kept : Kept t) (f : Frame) (place : Place) (a : Area
   -- it was the last
   pub unmap_last_step : (record_at t.table f.0).shares ≡ 1
       → Step (record t { table = after_unmap t.table f.0; words = record (made_invalid t.words place (entry.Proto a i)) { proto = changed_at t.words.proto a.0 i (entry.Transition f) }; ages = changed same_place t.ages place None })
-      (record (after (shown_of t) (move.Unmap place)) { ages = changed same_place (shown_of t).ages place 0 })
+      (record (parts_after (shown_of t) (move.Unmap place)) { ages = changed same_place (shown_of t).ages place 0 })
   unmap_last_step one = unmap_step t kept f place legal (entry.Proto a i) (changed_at t.words.proto a.0 i (entry.Transition f)) (record {
     there = there;
     calm = refl;
     no_file = λ b e. cc;
     named = sym owner;
-    transition = λ q g h. (elim (last_word q g h) as (λ _. (word_of t.words q ≡ entry.Transition g) ⊎ ((g.0 ≡ f.0) × ((record_at t.table f.0).shares ≡ 1))) [ inl was ↦ inl was | inr same ↦ inr (same, one) ]);
+    transition = λ q g h. (elim (last_word q g h) as (λ _. (key_entry t.words q ≡ entry.Transition g) ⊎ ((g.0 ≡ f.0) × ((record_at t.table f.0).shares ≡ 1))) [ inl was ↦ inl was | inr same ↦ inr (same, one) ]);
     valid = λ b j g m h. (elim (pair_or_not t.words.proto a.0 i b j (entry.Transition f) (entry.Valid g m) h) as (λ _. (t.words.proto b j ≡ entry.Valid g m) × (g.0 ≡ f.0 → 2 ≤ (record_at t.table f.0).shares)) [
       | inl s ↦ cc
       | inr n ↦ (n.1, λ same. absurd (n.0 (valid_owner b j g m n.1 same)))

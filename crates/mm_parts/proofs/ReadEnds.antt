@@ -9,8 +9,8 @@ use Rattle.mm_ram.specs.Ram.{with_page}
 use Rattle.mm_frames.specs.Base.{FramesOf, read_ended}
 use Rattle.mm_flight.specs.Requests.{ended}
 use Rattle.mm_parts.specs.Shown.{JoinedParts, PartsOf, life_in, shown_of, own_is}
-use Rattle.mm_parts.specs.Kept.{Kept}
-use Rattle.mm_parts.specs.Moves.{after, own_ended, flight_ended, read_end, page_filled, words_sent}
+use Rattle.mm_parts.specs.Kept.{PartsKept}
+use Rattle.mm_parts.specs.Moves.{parts_after, own_ended, flight_ended, end_of_read, page_filled, words_sent}
 use Rattle.mm_parts.proofs.Keeping.{Step, step_to}
 use Rattle.mm_parts.proofs.FrameSteps.{got_step}
 use Rattle.mm_parts.proofs.KeySteps.{bad_step}
@@ -35,15 +35,15 @@ read_over false t f bytes' =
     record t { table = after_bad t.table f.0; bytes = bytes'; free = freed t.free (slot_after_read (record_at t.table f.0)); words = words_sent (record_at t.table f.0).owner (record_at t.table f.0).backing t.words; flight = flight_ended (own_is t.own f.0) t.flight f.0 false; own = own_ended t.own f.0 }
 
 abbrev pub read_shows : Bool → JoinedParts → Frame → List (Option (List ℕ)) → PartsOf
-read_shows ok t f bytes' = record (after (shown_of t) (read_end ok f)) { bytes = bytes'; waits = map (ended f.0 ok) t.flight.waits; own = own_ended t.own f.0 }
+read_shows ok t f bytes' = record (parts_after (shown_of t) (end_of_read ok f)) { bytes = bytes'; waits = map (ended f.0 ok) t.flight.waits; own = own_ended t.own f.0 }
 
-pub read_over_step : (t : JoinedParts) → Kept t → (f : Frame) (page : Option (List ℕ)) → IsLegal (read_end (is_some page) f) (life_in t)
+pub read_over_step : (t : JoinedParts) → PartsKept t → (f : Frame) (page : Option (List ℕ)) → IsLegal (end_of_read (is_some page) f) (life_in t)
     → Step (read_over (is_some page) t f (page_filled page t.bytes f.0)) (read_shows (is_some page) t f (page_filled page t.bytes f.0))
 read_over_step t kept f (Some p) legal = got_step t kept f (with_page t.bytes f.0 p) legal
 read_over_step t kept f None legal = bad_step t kept f legal
 
 -- by whether it was read
-pub read_over_by : (t : JoinedParts) → Kept t → (f : Frame) (page : Option (List ℕ)) (ok : Bool) → is_some page ≡ ok → IsLegal (read_end (is_some page) f) (life_in t)
+pub read_over_by : (t : JoinedParts) → PartsKept t → (f : Frame) (page : Option (List ℕ)) (ok : Bool) → is_some page ≡ ok → IsLegal (end_of_read (is_some page) f) (life_in t)
     → Step (read_over ok t f (page_filled page t.bytes f.0)) (read_shows (is_some page) t f (page_filled page t.bytes f.0))
 read_over_by t kept f page ok e legal =
     let step = read_over_step t kept f page legal in

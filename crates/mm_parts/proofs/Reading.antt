@@ -11,24 +11,24 @@ use Rattle.mm_life.specs.Frames.{record_at, is_empty, has_request}
 use Rattle.mm_laws.proofs.Sights.{kept_inside}
 use Rattle.mm_words.specs.declared.layout.Entry.{Entry}
 use Rattle.mm_words.specs.declared.layout.Entry.TheVariants as entry
-use Rattle.mm_words.specs.Words.{word_of, has_word, place_of, valid_frame, bare}
+use Rattle.mm_words.specs.Words.{key_entry, has_word, place_from, valid_frame, bare}
 use Rattle.mm_parts.specs.Shown.{JoinedParts, owners, owned_by, held_by, has_owner, valid_of, life_in, shown_of}
-use Rattle.mm_parts.specs.Kept.{Kept}
+use Rattle.mm_parts.specs.Kept.{PartsKept}
 use Rattle.mm_parts.specs.Moves.{HasHome}
-use Rattle.mm_parts.specs.Reading.{first_of, is_private, is_own_page}
+use Rattle.mm_parts.specs.Reading.{first_frame, is_private, is_own_page}
 use Rattle.mm_parts.proofs.Keeping.{known}
 use Rattle.mm_parts.proofs.Stands.{held_same, at_place}
 use Rattle.mm_parts.proofs.StandingWords.{shared_by}
 
 -- ---- fronts
 
-pub first_is : (xs : List ℕ) (o : Option Frame) → option_map (λ f. f.0) o ≡ slice_get xs 0 → o ≡ first_of xs
+pub first_is : (xs : List ℕ) (o : Option Frame) → option_map (λ f. f.0) o ≡ slice_get xs 0 → o ≡ first_frame xs
 first_is [] None e = refl
 first_is [] (Some f) e = cc
 first_is (x ∷ xs) None e = cc
 first_is (x ∷ xs) (Some f) e = let same : f.0 ≡ x = cc in λ i. Some (record { 0 = same i })
 
-pub none_first : (xs : List ℕ) → is_none (first_of xs) ≡ is_empty xs
+pub none_first : (xs : List ℕ) → is_none (first_frame xs) ≡ is_empty xs
 none_first [] = refl
 none_first (x ∷ xs) = refl
 
@@ -47,19 +47,19 @@ bare_valid : (e w : Entry) (f : Frame) (n : ℕ) → bare e ≡ w → e ≡ entr
 bare_valid e w f n told is = sym told ∙ ap bare is
 
 -- the frame of a valid entry of a private key is its own, exactly where its page is a private one
-own_by_page : (t : JoinedParts) → Kept t → (p : Pid) (v : Vpn) (f : Frame) → word_of t.words (Private p v) ≡ entry.Valid f 0
+own_by_page : (t : JoinedParts) → PartsKept t → (p : Pid) (v : Vpn) (f : Frame) → key_entry t.words (Private p v) ≡ entry.Valid f 0
     → is_private (owners t.table f.0) ≡ has_owner (owners t.table f.0) (Private p v)
 own_by_page t kept p v f word = by (owners t.table f.0) refl
   where
-    there : valid_of t.words (place_of p v) ≡ Some f
-    there = at_place t.words (place_of p v) f 0 kept.words.beside word
+    there : valid_of t.words (place_from p v) ≡ Some f
+    there = at_place t.words (place_from p v) f 0 kept.words.beside word
 
     by : (o : Option Key) → owners t.table f.0 ≡ o → is_private o ≡ has_owner o (Private p v)
     by None e = refl
-    by (Some (Private q u)) e = sym ((known t kept).fits (place_of p v) f (Private q u) there e)
+    by (Some (Private q u)) e = sym ((known t kept).fits (place_from p v) f (Private q u) there e)
     by (Some (Shared a i)) e = refl
 
-own_told : (t : JoinedParts) → Kept t → (k : Key) (f : Frame) → word_of t.words k ≡ entry.Valid f 0 → is_own_page k (owners t.table f.0) ≡ owned_by (owners t.table) k f
+own_told : (t : JoinedParts) → PartsKept t → (k : Key) (f : Frame) → key_entry t.words k ≡ entry.Valid f 0 → is_own_page k (owners t.table f.0) ≡ owned_by (owners t.table) k f
 own_told t kept (Private p v) f word = own_by_page t kept p v f word
 own_told t kept (Shared a i) f word = refl
 
@@ -67,15 +67,15 @@ valid_told_frame : (e : Entry) (f : Frame) (n : ℕ) → e ≡ entry.Valid f n �
 valid_told_frame e f n is = ap valid_frame is
 
 -- where a key stands, by its entry as it is told
-pub stands_told : (t : JoinedParts) → Kept t → (k : Key) (e : Entry) (own : Bool) → bare e ≡ word_of t.words k
+pub stands_told : (t : JoinedParts) → PartsKept t → (k : Key) (e : Entry) (own : Bool) → bare e ≡ key_entry t.words k
     → ((f : Frame) → valid_frame e ≡ Some f → own ≡ is_own_page k (record_at t.table f.0).owner) → held_by (λ _. own) e ≡ (life_in t).stands k
 stands_told t kept k e own told page =
-    held_same (λ _. own) (owned_by (owners t.table) k) e (λ f n is. page f (valid_told_frame e f n is) ∙ own_told t kept k f (bare_valid e (word_of t.words k) f n told is))
+    held_same (λ _. own) (owned_by (owners t.table) k) e (λ f n is. page f (valid_told_frame e f n is) ∙ own_told t kept k f (bare_valid e (key_entry t.words k) f n told is))
     ∙ sym (bare_held (owned_by (owners t.table) k) e)
     ∙ ap (held_by (owned_by (owners t.table) k)) told
 
 -- the frame of a valid entry is there
-pub told_low : (t : JoinedParts) → Kept t → (k : Key) (e : Entry) → bare e ≡ word_of t.words k → (f : Frame) → valid_frame e ≡ Some f → f.0 < length t.table.records
+pub told_low : (t : JoinedParts) → PartsKept t → (k : Key) (e : Entry) → bare e ≡ key_entry t.words k → (f : Frame) → valid_frame e ≡ Some f → f.0 < length t.table.records
 told_low t kept k e told f v = by e refl v
   where
     kept_low : 1 ≤ (record_at t.table f.0).shares → f.0 < length t.table.records
@@ -90,7 +90,7 @@ told_low t kept k e told f v = by e refl v
     by (entry.Transition c) g h = cc
     by (entry.Valid c n) g h =
         let same : c ≡ f = cc in
-        kept_low (shared_by t kept k f 0 (bare_valid e (word_of t.words k) f n told (g ∙ ap (λ (y : Frame). entry.Valid y n) same)))
+        kept_low (shared_by t kept k f 0 (bare_valid e (key_entry t.words k) f n told (g ∙ ap (λ (y : Frame). entry.Valid y n) same)))
     by (entry.Proto a i) g h = cc
 
 -- ---- keys that have a word

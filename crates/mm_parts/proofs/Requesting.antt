@@ -27,8 +27,9 @@ use Rattle.mm_slots.specs.Slots.{free_count, IsLowest}
 use Rattle.mm_frames.specs.Base.{has_block, can_go_to}
 use Rattle.mm_flight.specs.Requests.{is_in}
 use Rattle.mm_parts.specs.Shown.{JoinedParts, life_in, requests_in, own_request, is_own_line}
-use Rattle.mm_parts.specs.Kept.{Kept}
-use Rattle.mm_parts.specs.Moves.{lowest_free, goes_to, write_target, backing_to}
+use Rattle.mm_parts.specs.Kept.{PartsKept}
+use Rattle.mm_frame_laws.specs.Steps.{backing_to}
+use Rattle.mm_parts.specs.Moves.{lowest_free, goes_to, write_target}
 use Rattle.mm_parts.proofs.Keeping.{known}
 use Rattle.mm_parts.proofs.RequestLists.{not_in_flight}
 use Rattle.mm_parts.proofs.FrameSteps.{no_block}
@@ -38,7 +39,7 @@ or_split true b c e h = cc
 or_split false b c e h = (and_parts b c h).1
 
 -- fewer than depth requests are in flight then
-room_in : (t : JoinedParts) → Kept t → has_depth (life_in t) ≡ true → length t.flight.frames < t.flight.depth
+room_in : (t : JoinedParts) → PartsKept t → has_depth (life_in t) ≡ true → length t.flight.frames < t.flight.depth
 room_in t kept h =
     let below = ltb-true (length (requests_in t)) t.line.machine.depth h in
     let sum = length-append t.flight.frames (own_request t.own) in
@@ -59,12 +60,12 @@ not_own kind.Call h = cc
 not_own (kind.Grow n) h = (refl, refl)
 
 -- a frame without a request is not in flight
-pub new_in : (t : JoinedParts) → Kept t → (f : ℕ) → has_request (record_at t.table f).request ≡ false → is_in f t.flight.frames ≡ false
+pub new_in : (t : JoinedParts) → PartsKept t → (f : ℕ) → has_request (record_at t.table f).request ≡ false → is_in f t.flight.frames ≡ false
 new_in t kept f quiet = not_in_flight f t.own t.flight.frames (((known t kept).standing f).flight ∙ ap one_if quiet)
 
 -- ---- reads
 
-pub read_fewer : (t : JoinedParts) → Kept t → (f : Frame) (k : Key) → IsLegal (move.Read f k) (life_in t) → is_own_line t.line.kind ≡ false → length t.flight.frames < t.flight.depth
+pub read_fewer : (t : JoinedParts) → PartsKept t → (f : Frame) (k : Key) → IsLegal (move.Read f k) (life_in t) → is_own_line t.line.kind ≡ false → length t.flight.frames < t.flight.depth
 read_fewer t kept f k legal other =
     let l = life_in t in
     let there = is_first f.0 t.table.free || (is_empty t.table.free && is_first f.0 t.table.zeroed) in
@@ -77,13 +78,13 @@ read_there t f k legal =
     let there = is_first f.0 t.table.free || (is_empty t.table.free && is_first f.0 t.table.zeroed) in
     (and_parts there (is_stored (l.stands k)) (and_parts (there && is_stored (l.stands k)) (is_access t.line.kind || (is_thread t.line.kind && has_depth l)) legal).0).0
 
-read_fresh : (t : JoinedParts) → (kept : Kept t) → (f : Frame) (k : Key) → IsLegal (move.Read f k) (life_in t) → Fresh t.table (requests_in t) f.0 (known t kept).standing
+read_fresh : (t : JoinedParts) → (kept : PartsKept t) → (f : Frame) (k : Key) → IsLegal (move.Read f k) (life_in t) → Fresh t.table (requests_in t) f.0 (known t kept).standing
 read_fresh t kept f k legal = fresh_read t.table (requests_in t) f.0 (known t kept).standing (read_there t f k legal)
 
-pub read_low : (t : JoinedParts) → Kept t → (f : Frame) (k : Key) → IsLegal (move.Read f k) (life_in t) → f.0 < length t.table.records
+pub read_low : (t : JoinedParts) → PartsKept t → (f : Frame) (k : Key) → IsLegal (move.Read f k) (life_in t) → f.0 < length t.table.records
 read_low t kept f k legal = (read_fresh t kept f k legal).low
 
-pub read_new : (t : JoinedParts) → Kept t → (f : Frame) (k : Key) → IsLegal (move.Read f k) (life_in t) → is_in f.0 t.flight.frames ≡ false
+pub read_new : (t : JoinedParts) → PartsKept t → (f : Frame) (k : Key) → IsLegal (move.Read f k) (life_in t) → is_in f.0 t.flight.frames ≡ false
 read_new t kept f k legal = new_in t kept f.0 (ap (λ (r : Record). has_request r.request) (read_fresh t kept f k legal).bare)
 
 some_frame : (free zeroed : List ℕ) (f : ℕ) → (is_first f free || (is_empty free && is_first f zeroed)) ≡ true → is_empty free ≡ true → is_empty zeroed ≡ false
@@ -108,7 +109,7 @@ pub record CanWrite (t : JoinedParts) (f : Frame) (s : Stored) : Type 0 where
 can_slot : (n : ℕ) (b : Bool) → n ≡ 0 → b ≡ false → ((n == 0) && not b) ≡ true
 can_slot n b e f = rw (e, f) refl
 
-write_slot : (t : JoinedParts) → Kept t → (f : Frame) (s : Slot) → IsLegal (move.Write f (stored.Slot s)) (life_in t) → CanWrite t f (stored.Slot s)
+write_slot : (t : JoinedParts) → PartsKept t → (f : Frame) (s : Slot) → IsLegal (move.Write f (stored.Slot s)) (life_in t) → CanWrite t f (stored.Slot s)
 write_slot t kept f s legal =
     let facts = known t kept in
     let r = record_at t.table f.0 in
@@ -138,7 +139,7 @@ block_room true false false d false x y h = cc
 block_room false b c d true x y h = cc
 block_room false b c d false x y h = cc
 
-write_block : (t : JoinedParts) → Kept t → (f : Frame) (b : Block) → IsLegal (move.Write f (stored.Block b)) (life_in t) → CanWrite t f (stored.Block b)
+write_block : (t : JoinedParts) → PartsKept t → (f : Frame) (b : Block) → IsLegal (move.Write f (stored.Block b)) (life_in t) → CanWrite t f (stored.Block b)
 write_block t kept f b legal =
     let r = record_at t.table f.0 in
     let l = life_in t in
@@ -154,7 +155,7 @@ write_block t kept f b legal =
       fewer = λ other. let no = not_own t.line.kind other in room_in t kept (block_room (is_on f.0 t.table.modified) (is_access t.line.kind) (is_writer t.line.kind) (has_depth l) (is_call t.line.kind) no.0 no.1 z.1);
     }
 
-pub write_can : (t : JoinedParts) → Kept t → (f : Frame) (s : Stored) → IsLegal (move.Write f s) (life_in t) → CanWrite t f s
+pub write_can : (t : JoinedParts) → PartsKept t → (f : Frame) (s : Stored) → IsLegal (move.Write f s) (life_in t) → CanWrite t f s
 write_can t kept f (stored.Slot s) legal = write_slot t kept f s legal
 write_can t kept f (stored.Block b) legal = write_block t kept f b legal
 
@@ -193,7 +194,7 @@ slot_lowest t f s legal =
 pub write_low : (t : JoinedParts) (f : Frame) (s : Stored) → CanWrite t f s → f.0 < length t.table.records
 write_low t f s can = kept_inside t.table f.0 (or_left (is_some (record_at t.table f.0).owner) (has_request (record_at t.table f.0).request) can.owned)
 
-pub write_new : (t : JoinedParts) → Kept t → (f : Frame) (s : Stored) → CanWrite t f s → is_in f.0 t.flight.frames ≡ false
+pub write_new : (t : JoinedParts) → PartsKept t → (f : Frame) (s : Stored) → CanWrite t f s → is_in f.0 t.flight.frames ≡ false
 write_new t kept f s can = new_in t kept f.0 can.quiet
 
 -- a page without a block has a free slot to go to

@@ -21,10 +21,10 @@ use Rattle.mm_frames.specs.Base.{has_block}
 use Rattle.mm_words.specs.declared.layout.Entry.{Entry}
 use Rattle.mm_words.specs.declared.layout.Entry.TheVariants as entry
 use Rattle.mm_words.specs.declared.aside.Aside.{Aside}
-use Rattle.mm_words.specs.Words.{word_of, is_valid, place_of, bare, aside_or}
+use Rattle.mm_words.specs.Words.{key_entry, is_valid_entry, place_from, bare, aside_or}
 use Rattle.mm_parts.specs.Shown.{JoinedParts, owners, owned_by, held_by, stands_of, valid_of, is_paging, life_in}
 use Rattle.mm_parts.specs.Words.{is_aside_entry}
-use Rattle.mm_parts.specs.Kept.{Kept}
+use Rattle.mm_parts.specs.Kept.{PartsKept}
 use Rattle.mm_parts.specs.Moves.{home_entry, entry_backing}
 use Rattle.mm_parts.proofs.Keeping.{known}
 use Rattle.mm_parts.proofs.Stands.{at_place}
@@ -49,30 +49,30 @@ in_frame own (entry.Valid g n) f h = by (own g) h
 in_frame own (entry.Proto a i) f h = cc
 
 -- a key that is valid in some place has a share
-pub shared_by : (t : JoinedParts) → Kept t → (k : Key) (f : Frame) (n : ℕ) → word_of t.words k ≡ entry.Valid f n → 1 ≤ (record_at t.table f.0).shares
-shared_by t kept (Private p v) f n e = (known t kept).shares (place_of p v) f (at_place t.words (place_of p v) f n kept.words.beside e)
+pub shared_by : (t : JoinedParts) → PartsKept t → (k : Key) (f : Frame) (n : ℕ) → key_entry t.words k ≡ entry.Valid f n → 1 ≤ (record_at t.table f.0).shares
+shared_by t kept (Private p v) f n e = (known t kept).shares (place_from p v) f (at_place t.words (place_from p v) f n kept.words.beside e)
 shared_by t kept (Shared a i) f n e = (kept.words.valid_shared a i f n e).0
 
 -- a page that has a frame and is valid nowhere
-pub resting_word : (t : JoinedParts) → Kept t → (k : Key) (f : Frame) → stands_of (owners t.table) t.words k ≡ held.Frame f → (record_at t.table f.0).shares ≡ 0 → word_of t.words k ≡ entry.Transition f
-resting_word t kept k f stands none = elim (in_frame (owned_by (owners t.table) k) (word_of t.words k) f stands) [
+pub resting_word : (t : JoinedParts) → PartsKept t → (k : Key) (f : Frame) → stands_of (owners t.table) t.words k ≡ held.Frame f → (record_at t.table f.0).shares ≡ 0 → key_entry t.words k ≡ entry.Transition f
+resting_word t kept k f stands none = elim (in_frame (owned_by (owners t.table) k) (key_entry t.words k) f stands) [
   | inl e ↦ e
   | inr x ↦ let some = shared_by t kept k f x.0 x.1 in absurd (omega (arith, some, none))
 ]
 
 -- ---- the key beside the tables
 
-pub beside_word : (t : JoinedParts) (x : Aside) → t.words.aside ≡ Some x → word_of t.words (key_of_place x.place) ≡ x.entry
+pub beside_word : (t : JoinedParts) (x : Aside) → t.words.aside ≡ Some x → key_entry t.words (key_of_place x.place) ≡ x.entry
 beside_word t x e = ap (λ (a : Option Aside). aside_or a x.place (t.words.at x.place)) e ∙ ap (λ b. cond b x.entry (t.words.at x.place)) (same_place-self x.place)
 
 -- its place is valid for a shared page alone
-pub beside_shared : (t : JoinedParts) → Kept t → (x : Aside) → t.words.aside ≡ Some x → (f : Frame) → valid_of t.words x.place ≡ Some f → (k : Key) → (record_at t.table f.0).owner ≡ Some k → is_shared k ≡ true
+pub beside_shared : (t : JoinedParts) → PartsKept t → (x : Aside) → t.words.aside ≡ Some x → (f : Frame) → valid_of t.words x.place ≡ Some f → (k : Key) → (record_at t.table f.0).owner ≡ Some k → is_shared k ≡ true
 beside_shared t kept x at f v (Shared a i) e = refl
 beside_shared t kept x at f v (Private q u) e =
-    let same : place_of q u ≡ x.place = same_place-true (place_of q u) x.place ((known t kept).fits x.place f (Private q u) v e) in
+    let same : place_from q u ≡ x.place = same_place-true (place_from q u) x.place ((known t kept).fits x.place f (Private q u) v e) in
     let stands = ap (λ (y : Place). stands_of (owners t.table) t.words (key_of_place y)) (sym same) ∙ (known t kept).owned f.0 (Private q u) e in
     let some = (known t kept).shares x.place f v in
-    elim (in_frame (owned_by (owners t.table) (key_of_place x.place)) (word_of t.words (key_of_place x.place)) f stands) [
+    elim (in_frame (owned_by (owners t.table) (key_of_place x.place)) (key_entry t.words (key_of_place x.place)) f stands) [
       | inl rests ↦ (let none = kept.words.transition (key_of_place x.place) f rests in absurd (omega (arith, some, none)))
       | inr y ↦ (let bad : true ≡ false = sym (kept.words.beside x at) ∙ ap is_aside_entry (sym (beside_word t x at) ∙ y.1) in cc)
     ]
@@ -115,7 +115,7 @@ stored_word own (entry.Valid f n) h = by (own f) h
     by false h = cc
 stored_word own (entry.Proto a i) h = cc
 
-pub away_calm : (e : Entry) → is_away e ≡ true → is_valid e ≡ false
+pub away_calm : (e : Entry) → is_away e ≡ true → is_valid_entry e ≡ false
 away_calm entry.Empty h = refl
 away_calm entry.Zero h = refl
 away_calm (entry.Paged s) h = refl
@@ -190,13 +190,13 @@ stored_paging d d' held.Dead f e b = cc
 
 -- ---- private pages are on no block
 
-pub own_backing : (t : JoinedParts) → Kept t → (k : Key) (f : Frame) → (record_at t.table f.0).owner ≡ Some k → is_shared k ≡ false → has_block (record_at t.table f.0).backing ≡ false
+pub own_backing : (t : JoinedParts) → PartsKept t → (k : Key) (f : Frame) → (record_at t.table f.0).owner ≡ Some k → is_shared k ≡ false → has_block (record_at t.table f.0).backing ≡ false
 own_backing t kept k f owner own =
     let facts = known t kept in
     let live : is_live (life_in t) k ≡ true = ap (λ h. not (is_dead h)) (facts.owned f.0 k owner) in
     no_block ((life_in t).paging k) (record_at t.table f.0).backing (facts.paged k own live) (facts.backing f.0 k owner)
 
-pub home_aside : (t : JoinedParts) → Kept t → (k : Key) (f : Frame) → (record_at t.table f.0).owner ≡ Some k → is_shared k ≡ false → is_aside_entry (home_entry (record_at t.table f.0).backing) ≡ true
+pub home_aside : (t : JoinedParts) → PartsKept t → (k : Key) (f : Frame) → (record_at t.table f.0).owner ≡ Some k → is_shared k ≡ false → is_aside_entry (home_entry (record_at t.table f.0).backing) ≡ true
 home_aside t kept k f owner own = home_own (record_at t.table f.0).backing (own_backing t kept k f owner own)
 
 away_used : (d : FrameTable) (own : Frame → Bool) (e : Entry) → is_away e ≡ true → is_home_for (is_paging d (held_by own e)) (held_by own e) ≡ true → is_paging d (held_by own e) ≡ true → is_used e ≡ true
@@ -209,8 +209,8 @@ away_used d own (entry.Valid f n) h k p = cc
 away_used d own (entry.Proto a i) h k p = cc
 
 -- a private page on a device is in a slot
-pub stored_used : (t : JoinedParts) → Kept t → (k : Key) → is_stored (stands_of (owners t.table) t.words k) ≡ true → is_shared k ≡ false → is_used (word_of t.words k) ≡ true
+pub stored_used : (t : JoinedParts) → PartsKept t → (k : Key) → is_stored (stands_of (owners t.table) t.words k) ≡ true → is_shared k ≡ false → is_used (key_entry t.words k) ≡ true
 stored_used t kept k stored own =
     let facts = known t kept in
     let live : is_live (life_in t) k ≡ true = stored_live (stands_of (owners t.table) t.words k) stored in
-    away_used t.table (owned_by (owners t.table) k) (word_of t.words k) (stored_word (owned_by (owners t.table) k) (word_of t.words k) stored) (facts.home k) (facts.paged k own live)
+    away_used t.table (owned_by (owners t.table) k) (key_entry t.words k) (stored_word (owned_by (owners t.table) k) (key_entry t.words k) stored) (facts.home k) (facts.paged k own live)

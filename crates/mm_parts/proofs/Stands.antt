@@ -17,7 +17,7 @@ use Rattle.mm_frames.specs.Base.{has_block}
 use Rattle.mm_words.specs.declared.layout.Entry.{Entry}
 use Rattle.mm_words.specs.declared.layout.Entry.TheVariants as entry
 use Rattle.mm_words.specs.declared.aside.Aside.{Aside}
-use Rattle.mm_words.specs.Words.{WordsOf, place_of, is_aside, aside_or, own_word, word_of, is_valid, valid_frame, with_own, with_word, keeps_places}
+use Rattle.mm_words.specs.Words.{WordsOf, place_from, is_aside, aside_or, own_word, key_entry, is_valid_entry, valid_frame, with_own, with_entry, keeps_places}
 use Rattle.mm_parts.specs.Shown.{Owners, has_owner, held_by, owned_by, stands_of, valid_of, is_paging, LineOf}
 use Rattle.mm_parts.specs.Words.{is_aside_entry}
 
@@ -50,9 +50,9 @@ proto_by : (b : Bool) (w : WordsOf) (pl : Place) (e : Entry) (a i : ℕ) → (wi
 proto_by true w pl e a i = refl
 proto_by false w pl e a i = refl
 
-pub word_set : (w : WordsOf) (k : Key) (e : Entry) (q : Key) → word_of (with_word w k e) q ≡ changed same_key (word_of w) k e q
-word_set w (Private p v) e (Private q u) = own_by (is_aside w.aside (place_of p v)) w (place_of p v) (place_of q u) e refl
-word_set w (Private p v) e (Shared a i) = proto_by (is_aside w.aside (place_of p v)) w (place_of p v) e a.0 i
+pub word_set : (w : WordsOf) (k : Key) (e : Entry) (q : Key) → key_entry (with_entry w k e) q ≡ changed same_key (key_entry w) k e q
+word_set w (Private p v) e (Private q u) = own_by (is_aside w.aside (place_from p v)) w (place_from p v) (place_from q u) e refl
+word_set w (Private p v) e (Shared a i) = proto_by (is_aside w.aside (place_from p v)) w (place_from p v) e a.0 i
 word_set w (Shared b j) e (Private q u) = refl
 word_set w (Shared b j) e (Shared a i) = refl
 
@@ -60,11 +60,11 @@ sets_by : (b : Bool) (w : WordsOf) (pl : Place) (e : Entry) → (with_own b w pl
 sets_by true w pl e = refl
 sets_by false w pl e = refl
 
-pub sets_set : (w : WordsOf) (k : Key) (e : Entry) → (with_word w k e).sets ≡ w.sets
-sets_set w (Private p v) e = sets_by (is_aside w.aside (place_of p v)) w (place_of p v) e
+pub sets_set : (w : WordsOf) (k : Key) (e : Entry) → (with_entry w k e).sets ≡ w.sets
+sets_set w (Private p v) e = sets_by (is_aside w.aside (place_from p v)) w (place_from p v) e
 sets_set w (Shared a i) e = refl
 
-pub not_valid : (e : Entry) → is_valid e ≡ false → valid_frame e ≡ None
+pub not_valid : (e : Entry) → is_valid_entry e ≡ false → valid_frame e ≡ None
 not_valid entry.Empty h = refl
 not_valid entry.Zero h = refl
 not_valid (entry.Paged s) h = refl
@@ -77,26 +77,26 @@ in_table : (a : Option Aside) (pl : Place) (e : Entry) → is_aside a pl ≡ fal
 in_table None pl e h = refl
 in_table (Some a) pl e h = ap (λ b. cond b a.entry e) h
 
-valid_by : (b : Bool) (w : WordsOf) (pl : Place) (e : Entry) → is_aside w.aside pl ≡ b → is_valid e ≡ false → is_valid (own_word w pl) ≡ false → (q : Place) → valid_of (with_own b w pl e) q ≡ valid_of w q
+valid_by : (b : Bool) (w : WordsOf) (pl : Place) (e : Entry) → is_aside w.aside pl ≡ b → is_valid_entry e ≡ false → is_valid_entry (own_word w pl) ≡ false → (q : Place) → valid_of (with_own b w pl e) q ≡ valid_of w q
 valid_by true w pl e h v u q = refl
 valid_by false w pl e h v u q = elim (place_or_not q pl) as (λ _. valid_frame (if same_place q pl then e else w.at q) ≡ valid_frame (w.at q)) [
   | inl s ↦ ap (λ b. valid_frame (cond b e (w.at q))) s.1 ∙ not_valid e v
-      ∙ sym (ap (λ (p : Place). valid_frame (w.at p)) s.0 ∙ not_valid (w.at pl) (sym (ap is_valid (in_table w.aside pl (w.at pl) h)) ∙ u))
+      ∙ sym (ap (λ (p : Place). valid_frame (w.at p)) s.0 ∙ not_valid (w.at pl) (sym (ap is_valid_entry (in_table w.aside pl (w.at pl) h)) ∙ u))
   | inr n ↦ ap (λ b. valid_frame (cond b e (w.at q))) n.1
 ]
 
-pub valid_set : (w : WordsOf) (k : Key) (e : Entry) → keeps_places w k e ≡ true → (q : Place) → valid_of (with_word w k e) q ≡ valid_of w q
+pub valid_set : (w : WordsOf) (k : Key) (e : Entry) → keeps_places w k e ≡ true → (q : Place) → valid_of (with_entry w k e) q ≡ valid_of w q
 valid_set w (Private p v) e h q =
-    let both = and_parts (not (is_valid e)) (not (is_valid (own_word w (place_of p v)))) h in
-    valid_by (is_aside w.aside (place_of p v)) w (place_of p v) e refl (not-true (is_valid e) both.0) (not-true (is_valid (own_word w (place_of p v))) both.1) q
+    let both = and_parts (not (is_valid_entry e)) (not (is_valid_entry (own_word w (place_from p v)))) h in
+    valid_by (is_aside w.aside (place_from p v)) w (place_from p v) e refl (not-true (is_valid_entry e) both.0) (not-true (is_valid_entry (own_word w (place_from p v))) both.1) q
 valid_set w (Shared a i) e h q = refl
 
 -- where the keys stand then
-pub stands_set : (o : Owners) (w : WordsOf) (k : Key) (e : Entry) (q : Key) → stands_of o (with_word w k e) q ≡ changed same_key (stands_of o w) k (held_by (owned_by o k) e) q
-stands_set o w k e q = ap (held_by (owned_by o q)) (word_set w k e q) ∙ (elim (key_or_not q k) as (λ _. held_by (owned_by o q) (if same_key q k then e else word_of w q) ≡ (if same_key q k then held_by (owned_by o k) e else stands_of o w q)) [
-  | inl s ↦ ap (λ b. held_by (owned_by o q) (cond b e (word_of w q))) s.1 ∙ ap (λ (j : Key). held_by (owned_by o j) e) s.0
+pub stands_set : (o : Owners) (w : WordsOf) (k : Key) (e : Entry) (q : Key) → stands_of o (with_entry w k e) q ≡ changed same_key (stands_of o w) k (held_by (owned_by o k) e) q
+stands_set o w k e q = ap (held_by (owned_by o q)) (word_set w k e q) ∙ (elim (key_or_not q k) as (λ _. held_by (owned_by o q) (if same_key q k then e else key_entry w q) ≡ (if same_key q k then held_by (owned_by o k) e else stands_of o w q)) [
+  | inl s ↦ ap (λ b. held_by (owned_by o q) (cond b e (key_entry w q))) s.1 ∙ ap (λ (j : Key). held_by (owned_by o j) e) s.0
       ∙ sym (ap (λ b. cond b (held_by (owned_by o k) e) (stands_of o w q)) s.1)
-  | inr n ↦ ap (λ b. held_by (owned_by o q) (cond b e (word_of w q))) n.1 ∙ sym (ap (λ b. cond b (held_by (owned_by o k) e) (stands_of o w q)) n.1)
+  | inr n ↦ ap (λ b. held_by (owned_by o q) (cond b e (key_entry w q))) n.1 ∙ sym (ap (λ b. cond b (held_by (owned_by o k) e) (stands_of o w q)) n.1)
 ])
 
 -- ---- one frame's owner
@@ -124,8 +124,8 @@ held_same x y (entry.Proto a i) h = refl
 -- the owners of all frames that are valid somewhere stay
 pub stands_owner : (o p : Owners) (w : WordsOf) → ((x : Aside) → w.aside ≡ Some x → is_aside_entry x.entry ≡ true)
     → ((pl : Place) (f : Frame) → valid_of w pl ≡ Some f → p f.0 ≡ o f.0) → (q : Key) → stands_of p w q ≡ stands_of o w q
-stands_owner o p w beside same (Private q u) = held_same (owned_by p (Private q u)) (owned_by o (Private q u)) (own_word w (place_of q u))
-    (λ g n e. ap (λ x. has_owner x (Private q u)) (same (place_of q u) g (at_place w (place_of q u) g n beside e)))
+stands_owner o p w beside same (Private q u) = held_same (owned_by p (Private q u)) (owned_by o (Private q u)) (own_word w (place_from q u))
+    (λ g n e. ap (λ x. has_owner x (Private q u)) (same (place_from q u) g (at_place w (place_from q u) g n beside e)))
 stands_owner o p w beside same (Shared a i) = held_same (λ _. true) (λ _. true) (w.proto a.0 i) (λ g n e. refl)
 
 -- ---- page-file keys

@@ -15,10 +15,10 @@ use Rattle.mm_laws.specs.Reached.{Reached}
 use Rattle.mm_laws.proofs.Deduced.{reached_start, reached_next}
 use Rattle.mm_flight.specs.declared.flights.Waiting.TheVariants as waiting
 use Rattle.mm_words.specs.declared.layout.Entry.TheVariants as entry
-use Rattle.mm_words.specs.Words.{word_of}
+use Rattle.mm_words.specs.Words.{key_entry}
 use Rattle.mm_words.specs.Shown.{no_words}
 use Rattle.mm_parts.specs.Shown.{owners, stands_of, is_paging, life_in}
-use Rattle.mm_parts.specs.Start.{started, started_parts, first_kind, first_move}
+use Rattle.mm_parts.specs.Start.{first_parts, started_parts, first_kind, first_move}
 use Rattle.mm_parts.proofs.Stands.{same_life}
 use Rattle.mm_parts.proofs.Keeping.{Step}
 use Rattle.mm_types.proofs.Booleans.{both}
@@ -68,7 +68,7 @@ length_repeat : {A : Type 0} (n : ℕ) (x : A) → length (replicate n x) ≡ n
 length_repeat zero x = refl
 length_repeat (suc n) x = let e = length_repeat n x in omega (arith, e)
 
-pub start_step : (m : MachineOf) → IsMachine m → Step (started_parts m) (started m)
+pub start_step : (m : MachineOf) → IsMachine m → Step (started_parts m) (first_parts m)
 start_step m h = record {
   kept = record {
     reached = ∣ subst Reached (sym (life_at_start m)) (reached_next (first_move m) unstarted reached_start (first_legal m h)) ∣₁;
@@ -87,9 +87,9 @@ start_step m h = record {
     depth = refl;
     waits = λ t f e. absurd (nobody_waits 256 t f e);
   };
-  shown = λ i. record (started m) { life = life_at_start m i };
+  shown = λ i. record (first_parts m) { life = life_at_start m i };
 }
   where
-    by : (k : Key) (f : Frame) → word_of no_words k ≡ entry.Transition f → ⊥
+    by : (k : Key) (f : Frame) → key_entry no_words k ≡ entry.Transition f → ⊥
     by (Private p v) f e = cc
     by (Shared a i) f e = cc

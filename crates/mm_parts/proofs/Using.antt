@@ -7,9 +7,9 @@ use Rattle.mm_types.specs.declared.numbers.Place.{Place}
 use Rattle.mm_life.specs.Frames.{record_at, is_read}
 use Rattle.mm_words.specs.declared.layout.Entry.{Entry}
 use Rattle.mm_words.specs.declared.layout.Entry.TheVariants as entry
-use Rattle.mm_words.specs.Words.{is_valid, is_there, valid_frame, bare}
+use Rattle.mm_words.specs.Words.{is_valid_entry, is_there, valid_frame, bare}
 use Rattle.mm_parts.specs.Shown.{JoinedParts, valid_of}
-use Rattle.mm_parts.specs.Kept.{Kept}
+use Rattle.mm_parts.specs.Kept.{PartsKept}
 use Rattle.mm_parts.proofs.Keeping.{known}
 
 some_there : (e : Entry) → is_some (valid_frame e) ≡ true → is_there e ≡ true
@@ -52,10 +52,10 @@ some_valid (entry.Proto a i) h never = cc
 pub not_valid_told : (t : JoinedParts) (place : Place) (e : Entry) → bare e ≡ t.words.at place → is_some (valid_of t.words place) ≡ true → ((f : Frame) (n : ℕ) → e ≢ entry.Valid f n) → ⊥
 not_valid_told t place e told h never = some_valid e (sym (ap is_some (frame_told t place e told)) ∙ h) never
 
-pub valid_owned : (t : JoinedParts) → Kept t → (place : Place) (f : Frame) → valid_of t.words place ≡ Some f → is_some (record_at t.table f.0).owner ≡ true
+pub valid_owned : (t : JoinedParts) → PartsKept t → (place : Place) (f : Frame) → valid_of t.words place ≡ Some f → is_some (record_at t.table f.0).owner ≡ true
 valid_owned t kept place f v = let some = (known t kept).shares place f v in ((known t kept).standing f.0).fit.shown (lt-ltb 0 (record_at t.table f.0).shares (omega (arith, some)))
 
-pub valid_calm : (t : JoinedParts) → Kept t → (place : Place) (f : Frame) → valid_of t.words place ≡ Some f → is_read (record_at t.table f.0).request ≡ false
+pub valid_calm : (t : JoinedParts) → PartsKept t → (place : Place) (f : Frame) → valid_of t.words place ≡ Some f → is_read (record_at t.table f.0).request ≡ false
 valid_calm t kept place f v = by (is_read (record_at t.table f.0).request) refl
   where
     by : (b : Bool) → is_read (record_at t.table f.0).request ≡ b → b ≡ false
@@ -65,7 +65,7 @@ valid_calm t kept place f v = by (is_read (record_at t.table f.0).request) refl
 pub one_frame : (t : JoinedParts) (place : Place) (f g : Frame) → valid_of t.words place ≡ Some f → valid_of t.words place ≡ Some g → f ≡ g
 one_frame t place f g e h = let both : Some f ≡ Some g = sym e ∙ h in cc
 
-some_entry : (e : Entry) (f : Frame) → valid_frame e ≡ Some f → is_valid e ≡ true
+some_entry : (e : Entry) (f : Frame) → valid_frame e ≡ Some f → is_valid_entry e ≡ true
 some_entry entry.Empty f h = cc
 some_entry entry.Zero f h = cc
 some_entry (entry.Paged s) f h = cc
@@ -74,5 +74,5 @@ some_entry (entry.Transition g) f h = cc
 some_entry (entry.Valid g n) f h = refl
 some_entry (entry.Proto a i) f h = cc
 
-pub valid_entry : (t : JoinedParts) (place : Place) (f : Frame) → valid_of t.words place ≡ Some f → is_valid (t.words.at place) ≡ true
+pub valid_entry : (t : JoinedParts) (place : Place) (f : Frame) → valid_of t.words place ≡ Some f → is_valid_entry (t.words.at place) ≡ true
 valid_entry t place f v = some_entry (t.words.at place) f v

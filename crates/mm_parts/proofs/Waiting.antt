@@ -19,8 +19,8 @@ use Rattle.mm_flight.specs.declared.flights.Waiting.TheVariants as waiting
 use Rattle.mm_life.specs.Waits.{ForFrame, Ended, ended_by}
 use Rattle.mm_life.specs.Waits.{wait_of as walked_wait}
 use Rattle.mm_parts.specs.Shown.{JoinedParts, shown_of, requests, own_request, own_is}
-use Rattle.mm_parts.specs.Kept.{Kept, AreWaits}
-use Rattle.mm_parts.specs.Reading.{walked, walked_or, waits_of}
+use Rattle.mm_parts.specs.Kept.{PartsKept, AreWaits}
+use Rattle.mm_parts.specs.Reading.{wait_as_walked, walked_or, waits_of}
 use Rattle.mm_parts.proofs.Keeping.{Step, known}
 use Rattle.mm_parts.proofs.RequestLists.{in_flight, own_apart, times-append}
 use Rattle.mm_parts.proofs.Holding.{read_once}
@@ -28,7 +28,7 @@ use Rattle.mm_laws.proofs.Sums.{one_most}
 
 -- ---- how many
 
-pub few_requests : (t : JoinedParts) → Kept t → length t.flight.frames ≤ t.flight.depth → length t.flight.frames + 1 < 2 ^ 32
+pub few_requests : (t : JoinedParts) → PartsKept t → length t.flight.frames ≤ t.flight.depth → length t.flight.frames + 1 < 2 ^ 32
 few_requests t kept few = let depth = kept.depth in let most = kept.line.machine.most_depth in omega (arith, few, depth, most)
 
 -- ---- by age
@@ -69,7 +69,7 @@ place_last f xs None own none = cc
 place_last f xs (Some g) own none = place_own f xs g none (eqb-true g.0 f own)
 
 -- the line's own request is not in flight
-pub own_alone : (t : JoinedParts) → Kept t → (f : ℕ) → own_is t.own f ≡ true → is_in f t.flight.frames ≡ false
+pub own_alone : (t : JoinedParts) → PartsKept t → (f : ℕ) → own_is t.own f ≡ true → is_in f t.flight.frames ≡ false
 own_alone t kept f own =
     let once = ((known t kept).standing f).flight in
     let most = one_most (has_request (record_at t.table f).request) in
@@ -77,12 +77,12 @@ own_alone t kept f own =
     let some = own_once f t.own own in
     own_apart f t.own t.flight.frames (omega (arith, once, most, sum, some)) own
 
-pub read_flies : (t : JoinedParts) → Kept t → (f : ℕ) → is_read (record_at t.table f).request ≡ true → own_is t.own f ≡ false → is_in f t.flight.frames ≡ true
+pub read_flies : (t : JoinedParts) → PartsKept t → (f : ℕ) → is_read (record_at t.table f).request ≡ true → own_is t.own f ≡ false → is_in f t.flight.frames ≡ true
 read_flies t kept f reads other = in_flight f t.own t.flight.frames (read_once t kept f reads) other
 
 -- ---- waits
 
-set_waits : (t : JoinedParts) → Kept t → (n : ℕ) (x : Waiting) → n < length t.flight.waits
+set_waits : (t : JoinedParts) → PartsKept t → (n : ℕ) (x : Waiting) → n < length t.flight.waits
     → ((f : Frame) → x ≡ waiting.For f → (is_in f.0 t.flight.frames ≡ true) × (is_read (record_at t.table f.0).request ≡ true))
     → AreWaits t.table (record t.flight { waits = slice_set t.flight.waits n x })
 set_waits t kept n x within new u f e = elim (set_cases t.flight.waits n u x (waiting.For f) within e) [
@@ -90,7 +90,7 @@ set_waits t kept n x within new u f e = elim (set_cases t.flight.waits n u x (wa
   | inr there ↦ kept.waits u f there.1
 ]
 
-pub wait_step : (t : JoinedParts) → Kept t → (n : ℕ) (x : Waiting) → n < length t.flight.waits
+pub wait_step : (t : JoinedParts) → PartsKept t → (n : ℕ) (x : Waiting) → n < length t.flight.waits
     → ((f : Frame) → x ≡ waiting.For f → (is_in f.0 t.flight.frames ≡ true) × (is_read (record_at t.table f.0).request ≡ true))
     → Step (record t { flight = record t.flight { waits = slice_set t.flight.waits n x } }) (record (shown_of t) { waits = slice_set t.flight.waits n x })
 wait_step t kept n x within new = record {
@@ -107,7 +107,7 @@ wait_step t kept n x within new = record {
 }
 
 -- what a wait for a read is
-pub new_wait : (t : JoinedParts) → Kept t → (f g : Frame) → is_read (record_at t.table f.0).request ≡ true → own_is t.own f.0 ≡ false → waiting.For f ≡ waiting.For g
+pub new_wait : (t : JoinedParts) → PartsKept t → (f g : Frame) → is_read (record_at t.table f.0).request ≡ true → own_is t.own f.0 ≡ false → waiting.For f ≡ waiting.For g
     → (is_in g.0 t.flight.frames ≡ true) × (is_read (record_at t.table g.0).request ≡ true)
 new_wait t kept f g reads other e =
     let same : f ≡ g = cc in
@@ -116,13 +116,13 @@ new_wait t kept f g reads other e =
 pub no_wait : (t : JoinedParts) (f : Frame) → waiting.Nothing ≡ waiting.For f → (is_in f.0 t.flight.frames ≡ true) × (is_read (record_at t.table f.0).request ≡ true)
 no_wait t f e = cc
 
-pub waits_set : (ws : List Waiting) (n : ℕ) (x : Waiting) → n < length ws → (u : ℕ) → waits_of (slice_set ws n x) u ≡ changed ◌==◌ (waits_of ws) n (walked x) u
+pub waits_set : (ws : List Waiting) (n : ℕ) (x : Waiting) → n < length ws → (u : ℕ) → waits_of (slice_set ws n x) u ≡ changed ◌==◌ (waits_of ws) n (wait_as_walked x) u
 waits_set ws n x within u = elim (same_or_not u n) [
-  | inl e ↦ ap (waits_of (slice_set ws n x)) e ∙ ap walked_or (get_set_same ws n x within) ∙ sym (ap (λ b. if b then walked x else waits_of ws u) (eq-eqb u n e))
-  | inr other ↦ ap walked_or (get_set_other ws n u x other) ∙ sym (ap (λ b. if b then walked x else waits_of ws u) (differ u n other))
+  | inl e ↦ ap (waits_of (slice_set ws n x)) e ∙ ap walked_or (get_set_same ws n x within) ∙ sym (ap (λ b. if b then wait_as_walked x else waits_of ws u) (eq-eqb u n e))
+  | inr other ↦ ap walked_or (get_set_other ws n u x other) ∙ sym (ap (λ b. if b then wait_as_walked x else waits_of ws u) (differ u n other))
 ]
 
-wait_told : (x : Waiting) → wait_of x ≡ walked_wait (walked x)
+wait_told : (x : Waiting) → wait_of x ≡ walked_wait (wait_as_walked x)
 wait_told waiting.Nothing = refl
 wait_told (waiting.For f) = refl
 wait_told waiting.Done = refl
@@ -135,11 +135,11 @@ outcome_told ws n r e = by (slice_get ws n) (sym (slice_get-map wait_of ws n) �
     by None h = cc
     by (Some x) h = let same : wait_of x ≡ r = cc in sym same ∙ wait_told x
 
-ended_one : (f : ℕ) (ok : Bool) (x : Waiting) → walked (ended f ok x) ≡ ended_by f ok (walked x)
+ended_one : (f : ℕ) (ok : Bool) (x : Waiting) → wait_as_walked (ended f ok x) ≡ ended_by f ok (wait_as_walked x)
 ended_one f ok waiting.Nothing = refl
 ended_one f ok (waiting.For g) = by (g.0 == f) ok
   where
-    by : (b c : Bool) → walked (if b then (if c then waiting.Done else waiting.Failed) else waiting.For g) ≡ (if b then Ended c else ForFrame g.0)
+    by : (b c : Bool) → wait_as_walked (if b then (if c then waiting.Done else waiting.Failed) else waiting.For g) ≡ (if b then Ended c else ForFrame g.0)
     by true true = refl
     by true false = refl
     by false c = refl

@@ -14,10 +14,10 @@ use Rattle.mm_laws.specs.Reached.{Reached}
 use Rattle.mm_words.specs.declared.layout.Entry.{Entry}
 use Rattle.mm_words.specs.declared.layout.Entry.TheVariants as entry
 use Rattle.mm_words.specs.declared.aside.Aside.{Aside}
-use Rattle.mm_words.specs.Words.{WordsOf, word_of, own_word, aside_or, place_of, valid_frame, changed_in, is_valid}
+use Rattle.mm_words.specs.Words.{WordsOf, key_entry, own_word, aside_or, place_from, valid_frame, changed_in, is_valid_entry}
 use Rattle.mm_parts.specs.Shown.{JoinedParts, owners, owned_by, held_by, stands_of, valid_of, named_by, names_of, is_paging, life_of, life_in, shown_of, requests_in}
 use Rattle.mm_parts.specs.Words.{WordsKept}
-use Rattle.mm_parts.specs.Kept.{Kept}
+use Rattle.mm_parts.specs.Kept.{PartsKept}
 use Rattle.mm_life.specs.Victims.{aged}
 use Rattle.mm_wset.specs.Ages.{older}
 use Rattle.mm_parts.specs.Moves.{ages_older}
@@ -33,7 +33,7 @@ use Rattle.mm_parts.proofs.Stands.{same_life}
 abbrev pub with_homes : WordsOf → (ℕ → Bool) → (Place → Bool) → (ℕ → Option ℕ) → WordsOf
 with_homes w open_now bound sizes = record w { is_open = open_now; bound = bound; sizes = sizes }
 
-pub homes_step : (t : JoinedParts) → Kept t → (open_now : ℕ → Bool) (bound : Place → Bool) (sizes : ℕ → Option ℕ) → ((x : Aside) → t.words.aside ≡ Some x → bound x.place ≡ true) → ((a : ℕ) → is_some (sizes a) ≡ true → a < 2 ^ 28)
+pub homes_step : (t : JoinedParts) → PartsKept t → (open_now : ℕ → Bool) (bound : Place → Bool) (sizes : ℕ → Option ℕ) → ((x : Aside) → t.words.aside ≡ Some x → bound x.place ≡ true) → ((a : ℕ) → is_some (sizes a) ≡ true → a < 2 ^ 28)
     → ((p : Place) → bound p ≡ true → p.vpn.0 < end_of_user_pages)
     → Step (record t { words = with_homes t.words open_now bound sizes }) (record (shown_of t) { is_open = open_now; bound = bound; areas = sizes })
 homes_step t kept open_now bound sizes beside areas user = record {
@@ -49,7 +49,7 @@ homes_step t kept open_now bound sizes beside areas user = record {
   shown = refl;
 }
 
-pub open_step : (t : JoinedParts) → Kept t → (open_now : ℕ → Bool) → Step (record t { words = record t.words { is_open = open_now } }) (record (shown_of t) { is_open = open_now })
+pub open_step : (t : JoinedParts) → PartsKept t → (open_now : ℕ → Bool) → Step (record t { words = record t.words { is_open = open_now } }) (record (shown_of t) { is_open = open_now })
 open_step t kept open_now = homes_step t kept open_now t.words.bound t.words.sizes kept.words.beside_bound kept.ranges.areas kept.ranges.user
 
 bound_more : (f : Place → Bool) (pid : ℕ) (r : Range) (x : Place) → f x ≡ true → changed_in f pid r true x ≡ true
@@ -75,7 +75,7 @@ bound_less f pid r x h = by ((x.pid.0 == pid) && holds_page r x.vpn.0) h
     by true g = cc
     by false g = g
 
-pub bind_step : (t : JoinedParts) → Kept t → (pid : ℕ) (r : Range) → ((v : ℕ) → holds_page r v ≡ true → v < end_of_user_pages) → Step (record t { words = record t.words { bound = changed_in t.words.bound pid r true } }) (record (shown_of t) { bound = changed_in t.words.bound pid r true })
+pub bind_step : (t : JoinedParts) → PartsKept t → (pid : ℕ) (r : Range) → ((v : ℕ) → holds_page r v ≡ true → v < end_of_user_pages) → Step (record t { words = record t.words { bound = changed_in t.words.bound pid r true } }) (record (shown_of t) { bound = changed_in t.words.bound pid r true })
 bind_step t kept pid r low = homes_step t kept t.words.is_open (changed_in t.words.bound pid r true) t.words.sizes (λ x e. bound_more t.words.bound pid r x.place (kept.words.beside_bound x e)) kept.ranges.areas (bound_user t.words.bound pid r low kept.ranges.user)
 
 sized : (f : ℕ → Option ℕ) (a : ℕ) (n : Option ℕ) → (is_some n ≡ true → a < 2 ^ 28) → ((b : ℕ) → is_some (f b) ≡ true → b < 2 ^ 28) → (b : ℕ) → is_some (changed ◌==◌ f a n b) ≡ true → b < 2 ^ 28
@@ -85,12 +85,12 @@ sized f a n now kept b h = by (b == a) refl h
     by true e x = let same = eqb-true b a e in let low = now x in omega (arith, same, low)
     by false e x = kept b x
 
-pub area_step : (t : JoinedParts) → Kept t → (a : ℕ) (n : Option ℕ) → (is_some n ≡ true → a < 2 ^ 28)
+pub area_step : (t : JoinedParts) → PartsKept t → (a : ℕ) (n : Option ℕ) → (is_some n ≡ true → a < 2 ^ 28)
     → Step (record t { words = record t.words { sizes = changed ◌==◌ t.words.sizes a n } }) (record (shown_of t) { areas = changed ◌==◌ t.words.sizes a n })
 area_step t kept a n low = homes_step t kept t.words.is_open t.words.bound (changed ◌==◌ t.words.sizes a n) kept.words.beside_bound (sized t.words.sizes a n low kept.ranges.areas) kept.ranges.user
 
 -- a dead page of a control area has no entry
-pub area_clear : (t : JoinedParts) → Kept t → (a : Area) (i : ℕ) → (life_in t).stands (Shared a i) ≡ held.Dead → t.words.proto a.0 i ≡ entry.Empty
+pub area_clear : (t : JoinedParts) → PartsKept t → (a : Area) (i : ℕ) → (life_in t).stands (Shared a i) ≡ held.Dead → t.words.proto a.0 i ≡ entry.Empty
 area_clear t kept a i dead = by (t.words.proto a.0 i) refl dead
   where
     by : (e : Entry) → t.words.proto a.0 i ≡ e → held_by (λ _. true) e ≡ held.Dead → t.words.proto a.0 i ≡ entry.Empty
@@ -110,7 +110,7 @@ pub record Givable (t : JoinedParts) (pid : ℕ) (r : Range) : Type 0 where
   pub invalid : (x : Place) → (x.pid.0 ≡ pid) → holds_page r x.vpn.0 ≡ true → valid_of t.words x ≡ None
   pub none : t.words.aside ≡ None
 
-module _ (t : JoinedParts) (kept : Kept t) (pid : ℕ) (r : Range) (g : Givable t pid r) where
+module _ (t : JoinedParts) (kept : PartsKept t) (pid : ℕ) (r : Range) (g : Givable t pid r) where
   abbrev given_words : WordsOf
   given_words = record t.words { bound = changed_in t.words.bound pid r false; at = changed_in t.words.at pid r entry.Empty }
 
@@ -128,12 +128,12 @@ module _ (t : JoinedParts) (kept : Kept t) (pid : ℕ) (r : Range) (g : Givable 
 
   given_stands : (k : Key) → stands_of (owners t.table) (record t.words { bound = changed_in t.words.bound pid r false; at = changed_in t.words.at pid r entry.Empty }) k ≡ stands_of (owners t.table) t.words k
   given_stands (Private p v) =
-      ap (held_by (owned_by (owners t.table) (Private p v))) (own_alone given_words g.none (place_of p v))
-      ∙ (elim (at_cases (place_of p v)) [
+      ap (held_by (owned_by (owners t.table) (Private p v))) (own_alone given_words g.none (place_from p v))
+      ∙ (elim (at_cases (place_from p v)) [
         | inl e ↦ ap (held_by (owned_by (owners t.table) (Private p v))) e
-        | inr h ↦ ap (held_by (owned_by (owners t.table) (Private p v))) h.0 ∙ sym h.2 ∙ ap (held_by (owned_by (owners t.table) (Private p v))) (own_alone t.words g.none (place_of p v))
+        | inr h ↦ ap (held_by (owned_by (owners t.table) (Private p v))) h.0 ∙ sym h.2 ∙ ap (held_by (owned_by (owners t.table) (Private p v))) (own_alone t.words g.none (place_from p v))
       ])
-      ∙ sym (ap (held_by (owned_by (owners t.table) (Private p v))) (own_alone t.words g.none (place_of p v)))
+      ∙ sym (ap (held_by (owned_by (owners t.table) (Private p v))) (own_alone t.words g.none (place_from p v)))
   given_stands (Shared a i) = refl
 
   given_valid : (x : Place) → valid_of (record t.words { bound = changed_in t.words.bound pid r false; at = changed_in t.words.at pid r entry.Empty }) x ≡ valid_of t.words x
@@ -142,10 +142,10 @@ module _ (t : JoinedParts) (kept : Kept t) (pid : ℕ) (r : Range) (g : Givable 
   given_life : life_of t.line t.table t.free (record t.words { bound = changed_in t.words.bound pid r false; at = changed_in t.words.at pid r entry.Empty }) (requests_in t) ≡ life_in t
   given_life = same_life t.line t.table t.free (requests_in t) _ _ _ _ _ _ _ _ (λ b. slice_index_or t.line.added b false) refl given_stands (λ k. ap (is_paging t.table) (given_stands k)) given_valid
 
-  word_given : (k : Key) (e : Entry) → word_of (record t.words { bound = changed_in t.words.bound pid r false; at = changed_in t.words.at pid r entry.Empty }) k ≡ e → (word_of t.words k ≡ e) ⊎ (entry.Empty ≡ e)
-  word_given (Private p v) e h = elim (at_cases (place_of p v)) [
-    | inl same ↦ inl (own_alone t.words g.none (place_of p v) ∙ sym same ∙ sym (own_alone given_words g.none (place_of p v)) ∙ h)
-    | inr x ↦ inr (sym x.0 ∙ sym (own_alone given_words g.none (place_of p v)) ∙ h)
+  word_given : (k : Key) (e : Entry) → key_entry (record t.words { bound = changed_in t.words.bound pid r false; at = changed_in t.words.at pid r entry.Empty }) k ≡ e → (key_entry t.words k ≡ e) ⊎ (entry.Empty ≡ e)
+  word_given (Private p v) e h = elim (at_cases (place_from p v)) [
+    | inl same ↦ inl (own_alone t.words g.none (place_from p v) ∙ sym same ∙ sym (own_alone given_words g.none (place_from p v)) ∙ h)
+    | inr x ↦ inr (sym x.0 ∙ sym (own_alone given_words g.none (place_from p v)) ∙ h)
   ]
   word_given (Shared a i) e h = inl h
 
@@ -184,7 +184,7 @@ module _ (t : JoinedParts) (kept : Kept t) (pid : ℕ) (r : Range) (g : Givable 
 
 -- ---- ages and bytes
 
-pub bytes_step : (t : JoinedParts) → Kept t → (bytes' : List (Option (List ℕ))) → Step (record t { bytes = bytes' }) (record (shown_of t) { bytes = bytes' })
+pub bytes_step : (t : JoinedParts) → PartsKept t → (bytes' : List (Option (List ℕ))) → Step (record t { bytes = bytes' }) (record (shown_of t) { bytes = bytes' })
 bytes_step t kept bytes' = record {
   kept = record { reached = kept.reached; line = kept.line; words = kept.words; within = kept.within; ranges = kept.ranges; depth = kept.depth; waits = kept.waits };
   shown = refl;
@@ -195,7 +195,7 @@ age_set true a = refl
 age_set false a = refl
 
 -- a page is used: it has age 0, and its frame these bytes
-pub used_step : (t : JoinedParts) → Kept t → (place : Place) (bytes' : List (Option (List ℕ)))
+pub used_step : (t : JoinedParts) → PartsKept t → (place : Place) (bytes' : List (Option (List ℕ)))
     → Step (record t { ages = changed same_place t.ages place (Some 0); bytes = bytes' }) (record (shown_of t) { ages = changed same_place (shown_of t).ages place 0; bytes = bytes' })
 used_step t kept place bytes' = record {
   kept = record { reached = kept.reached; line = kept.line; words = kept.words; within = kept.within; ranges = kept.ranges; depth = kept.depth; waits = kept.waits };
@@ -211,16 +211,16 @@ range_of f n v h = let p = and_parts (nat_le f v) (nat_lt v (f + n)) h in (leb-t
 pub range_user : (f n : ℕ) → f + n ≤ end_of_user_pages → (v : ℕ) → holds_page (pages f n) v ≡ true → v < end_of_user_pages
 range_user f n high v h = let r = (range_of f n v h).1 in omega (arith, r, high)
 
-pub range_invalid : (t : JoinedParts) (x : Place) → (life_in t).valid x ≡ None → is_valid (t.words.at x) ≡ false
+pub range_invalid : (t : JoinedParts) (x : Place) → (life_in t).valid x ≡ None → is_valid_entry (t.words.at x) ≡ false
 range_invalid t x e = invalid_entry (t.words.at x) e
 
 pub givable : (t : JoinedParts) (pid : Pid) (f n : ℕ)
     → ((v : ℕ) → f ≤ v → v < f + n → (life_in t).stands (Private pid (record { 0 = v })) ≡ held.Dead)
-    → ((v : ℕ) → f ≤ v → v < f + n → (life_in t).valid (place_of pid (record { 0 = v })) ≡ None)
+    → ((v : ℕ) → f ≤ v → v < f + n → (life_in t).valid (place_from pid (record { 0 = v })) ≡ None)
     → (shown_of t).aside ≡ None → Givable t pid.0 (pages f n)
 givable t pid f n dead invalid alone = record {
   dead = λ x of h. let r = range_of f n x.vpn.0 h in ap (λ (p : Pid). (life_in t).stands (Private p x.vpn)) (λ i. record { 0 = of i }) ∙ dead x.vpn.0 r.0 r.1;
-  invalid = λ x of h. let r = range_of f n x.vpn.0 h in ap (λ (p : Pid). (life_in t).valid (place_of p x.vpn)) (λ i. record { 0 = of i }) ∙ invalid x.vpn.0 r.0 r.1;
+  invalid = λ x of h. let r = range_of f n x.vpn.0 h in ap (λ (p : Pid). (life_in t).valid (place_from p x.vpn)) (λ i. record { 0 = of i }) ∙ invalid x.vpn.0 r.0 r.1;
   none = no_place t.words.aside alone;
 }
 
@@ -231,7 +231,7 @@ older_cond true None = refl
 older_cond true (Some n) = refl
 older_cond false o = refl
 
-pub valid_is : (e : Entry) → is_valid e ≡ is_some (valid_frame e)
+pub valid_is : (e : Entry) → is_valid_entry e ≡ is_some (valid_frame e)
 valid_is entry.Empty = refl
 valid_is entry.Zero = refl
 valid_is (entry.Paged s) = refl
@@ -240,7 +240,7 @@ valid_is (entry.Transition f) = refl
 valid_is (entry.Valid f n) = refl
 valid_is (entry.Proto a i) = refl
 
-pub aged_step : (t : JoinedParts) → Kept t → (pid : ℕ) → ((p : Place) → is_some (t.ages p) ≡ is_valid (t.words.at p))
+pub aged_step : (t : JoinedParts) → PartsKept t → (pid : ℕ) → ((p : Place) → is_some (t.ages p) ≡ is_valid_entry (t.words.at p))
     → Step (record t { ages = λ x. if x.pid.0 == pid then option_map older (t.ages x) else t.ages x }) (record (shown_of t) { ages = ages_older (life_in t) (shown_of t).ages pid })
 aged_step t kept pid has_age = record {
   kept = record { reached = kept.reached; line = kept.line; words = kept.words; within = kept.within; ranges = kept.ranges; depth = kept.depth; waits = kept.waits };

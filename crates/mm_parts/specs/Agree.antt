@@ -17,7 +17,7 @@ use Rattle.mm_laws.specs.Tally.{one_if, times}
 use Rattle.mm_words.specs.declared.layout.Entry.{Entry}
 use Rattle.mm_words.specs.declared.layout.Entry.TheVariants as entry
 use Rattle.mm_words.specs.declared.aside.Aside.{Aside}
-use Rattle.mm_words.specs.Words.{WordsOf, word_of, place_of, valid_frame}
+use Rattle.mm_words.specs.Words.{WordsOf, key_entry, place_from, valid_frame}
 use Rattle.mm_parts.specs.Shown.{requests, is_own_line}
 use Rattle.mm_parts.specs.Words.{is_aside_entry, names_other}
 
@@ -36,25 +36,25 @@ pub record IsValidFor (l : FrameLife) (p : Place) (f : Frame) : Type 0 where
 
 -- What the one entry of a key says of where the key stands. The word of a private key is that of
 -- its place, which may be valid for a shared page, or name one: then the private key is not live.
-abbrev pub Says : FrameLife → Key → Entry → Type 0
-Says l k entry.Empty = l.stands k ≡ held.Dead
-Says l k entry.Zero = l.stands k ≡ held.Zero
-Says l k (entry.Paged s) = l.stands k ≡ held.Slot s
-Says l (Private p v) (entry.InFile b) = ⊥
-Says l (Shared a i) (entry.InFile b) = l.stands (Shared a i) ≡ held.Block b
-Says l k (entry.Transition f) = InFrame l k f × ((record_at l.frames f.0).shares ≡ 0)
-Says l (Private p v) (entry.Valid f n) = IsValidFor l (place_of p v) f
-Says l (Shared a i) (entry.Valid f n) = InFrame l (Shared a i) f ×
+abbrev pub EntrySays : FrameLife → Key → Entry → Type 0
+EntrySays l k entry.Empty = l.stands k ≡ held.Dead
+EntrySays l k entry.Zero = l.stands k ≡ held.Zero
+EntrySays l k (entry.Paged s) = l.stands k ≡ held.Slot s
+EntrySays l (Private p v) (entry.InFile b) = ⊥
+EntrySays l (Shared a i) (entry.InFile b) = l.stands (Shared a i) ≡ held.Block b
+EntrySays l k (entry.Transition f) = InFrame l k f × ((record_at l.frames f.0).shares ≡ 0)
+EntrySays l (Private p v) (entry.Valid f n) = IsValidFor l (place_from p v) f
+EntrySays l (Shared a i) (entry.Valid f n) = InFrame l (Shared a i) f ×
     (1 ≤ (record_at l.frames f.0).shares)
-Says l (Private p v) (entry.Proto a i) = l.stands (Private p v) ≡ held.Dead
-Says l (Shared a i) (entry.Proto b j) = ⊥
+EntrySays l (Private p v) (entry.Proto a i) = l.stands (Private p v) ≡ held.Dead
+EntrySays l (Shared a i) (entry.Proto b j) = ⊥
 
 -- the one key beside the tables: a live private key of a bound place, whose word is that of a
 -- shared page meanwhile
 pub record IsBeside (l : FrameLife) (w : WordsOf) (x : Aside) : Type 0 where
   pub bound : w.bound x.place ≡ true
   pub entry : is_aside_entry x.entry ≡ true
-  pub says : Says l (key_of_place x.place) x.entry
+  pub says : EntrySays l (key_of_place x.place) x.entry
   pub named : names_other (w.at x.place) ≡ true
   pub other : (f : Frame) → l.valid x.place ≡ Some f →
       owner_is is_shared (record_at l.frames f.0) ≡ true
@@ -62,7 +62,7 @@ pub record IsBeside (l : FrameLife) (w : WordsOf) (x : Aside) : Type 0 where
 pub record EntriesAgree (l : FrameLife) (w : WordsOf) : Type 0 where
   -- Each key has one entry: in its page table, in its prototype word, or, of the one key that is
   -- being made by a copy, beside the tables. It says where the key stands.
-  pub says : (k : Key) → Says l k (word_of w k)
+  pub says : (k : Key) → EntrySays l k (key_entry w k)
   -- a place is valid where its word names a frame
   pub valid : (p : Place) → l.valid p ≡ valid_frame (w.at p)
   pub page : (p : Place) (f : Frame) → l.valid p ≡ Some f → IsValidFor l p f

@@ -40,7 +40,7 @@ pub record RangesKept (w : WordsOf) : Type 0 where
       (s.max ≤ 65536)
   pub user : (p : Place) → w.bound p ≡ true → p.vpn.0 < end_of_user_pages
 
-pub record Kept (t : JoinedParts) : Type 0 where
+pub record PartsKept (t : JoinedParts) : Type 0 where
   -- the state that they show was reached by legal moves
   pub reached : ∥ Reached (life_in t) ∥₁
   pub line : LineKept t.line

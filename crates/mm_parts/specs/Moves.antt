@@ -23,7 +23,7 @@ use Rattle.mm_life.specs.Effect.{after_move}
 use Rattle.mm_life.specs.Victims.{aged}
 use Rattle.mm_ram.specs.Ram.{with_page}
 use Rattle.mm_words.specs.Layout.{IsEntry}
-use Rattle.mm_words.specs.Words.{WordsOf, with_word, has_word, keeps_places, made_invalid}
+use Rattle.mm_words.specs.Words.{WordsOf, with_entry, has_word, keeps_places, made_invalid}
 use Rattle.mm_flight.specs.Requests.{FlightOf, without, ended}
 use Rattle.mm_parts.specs.Shown.{PartsOf, is_own_line}
 
@@ -58,9 +58,9 @@ abbrev pub write_target : FrameLife → Frame → Stored
 write_target l f = goes_to (record_at l.frames f.0).backing (lowest_free l.free_slots)
 
 -- the move with which a read, or a write, ends
-abbrev pub read_end : Bool → Frame → Move
-read_end true f = move.Got f
-read_end false f = move.Bad f
+abbrev pub end_of_read : Bool → Frame → Move
+end_of_read true f = move.Got f
+end_of_read false f = move.Bad f
 
 abbrev pub write_end : Bool → Frame → Move
 write_end true f = move.Wrote f
@@ -69,8 +69,8 @@ write_end false f = move.Lost f
 -- ---- beside the state of the replay
 
 -- one move was made, and nothing else changed
-abbrev pub after : PartsOf → Move → PartsOf
-after s x = record s { life = after_move s.life x }
+abbrev pub parts_after : PartsOf → Move → PartsOf
+parts_after s x = record s { life = after_move s.life x }
 
 -- a request is the line's own in a plain access and in a call
 abbrev pub own_after : LineKind → Option Frame → Frame → Option Frame
@@ -185,11 +185,6 @@ entry_backing (entry.Transition f) = backing.None
 entry_backing (entry.Valid f n) = backing.None
 entry_backing (entry.Proto a i) = backing.None
 
--- the backing, and the slots, once a write has begun
-abbrev pub backing_to : Stored → Backing
-backing_to (stored.Slot s) = backing.Slot s
-backing_to (stored.Block b) = backing.Block b
-
 abbrev pub slots_to : Stored → List Bool → List Bool
 slots_to (stored.Slot s) free = slice_set free s.0 false
 slots_to (stored.Block b) free = free
@@ -197,7 +192,7 @@ slots_to (stored.Block b) free = free
 -- the words once a read has failed: the page, if it lives, is where it was read from
 abbrev pub words_sent : Option Key → Backing → WordsOf → WordsOf
 words_sent None home w = w
-words_sent (Some k) home w = with_word w k (home_entry home)
+words_sent (Some k) home w = with_entry w k (home_entry home)
 
 -- the frame of an entry, if any, has an owner and no shares
 abbrev pub IsReleased : Entry → FrameTable → Type 0
@@ -251,7 +246,7 @@ CanName w (Some (Shared a i)) f = CanHave w (Shared a i) (entry.Valid f 0)
 abbrev pub words_named : Option Key → Frame → WordsOf → WordsOf
 words_named None f w = w
 words_named (Some (Private p v)) f w = w
-words_named (Some (Shared a i)) f w = with_word w (Shared a i) (entry.Valid f 0)
+words_named (Some (Shared a i)) f w = with_entry w (Shared a i) (entry.Valid f 0)
 
 -- a place is valid no more: it names the shared page, whose prototype word is in transition after
 -- the last, or is in transition itself
@@ -263,7 +258,7 @@ CanLeave w (Shared a i) f = (has_word w (Shared a i) ≡ true) × IsEntry (entry
 abbrev pub words_left : Key → Frame → Bool → Place → WordsOf → WordsOf
 words_left (Private p v) f last place w = made_invalid w place (entry.Transition f)
 words_left (Shared a i) f last place w =
-    if last then with_word (made_invalid w place (entry.Proto a i)) (Shared a i)
+    if last then with_entry (made_invalid w place (entry.Proto a i)) (Shared a i)
     (entry.Transition f) else made_invalid w place (entry.Proto a i)
 
 -- the words once a line has begun: a process has a working set

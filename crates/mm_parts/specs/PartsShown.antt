@@ -6,8 +6,8 @@ use Rattle.mm_words.specs.Words.{WordsOf}
 use Rattle.mm_parts.specs.declared.parts.Parts.{Parts}
 use Rattle.mm_parts.specs.Shown.{JoinedParts, PartsOf, shown_of}
 
-abbrev pub joined : Parts → JoinedParts
-joined s = record {
+abbrev pub joined_parts : Parts → JoinedParts
+joined_parts s = record {
   line = record {
     machine = s.machine;
     line = s.line;
@@ -19,26 +19,26 @@ joined s = record {
   bytes = s.frames.bytes;
   free = s.slots.free;
   words = tables.words s.words;
-  ages = tables.ages s.words;
+  ages = tables.place_ages s.words;
   flight = s.flight;
   own = s.own;
 }
 
-abbrev pub shown : Parts → PartsOf
-shown s = shown_of (joined s)
+abbrev pub shown_parts : Parts → PartsOf
+shown_parts s = shown_of (joined_parts s)
 
 -- the entries of places and keys
-abbrev pub words_of : Parts → WordsOf
-words_of s = tables.words s.words
+abbrev pub parts_words : Parts → WordsOf
+parts_words s = tables.words s.words
 
 -- how many slots can be added without memory
 abbrev pub spare_slots : Parts → ℕ
 spare_slots s = s.slots.spare
 
 -- the age of each valid place, none of any other
-abbrev pub ages_of : Parts → Place → Option ℕ
-ages_of s = tables.ages s.words
+abbrev pub parts_ages : Parts → Place → Option ℕ
+parts_ages s = tables.place_ages s.words
 
 -- the requests in flight, without the line's own
-abbrev pub flight_of : Parts → List ℕ
-flight_of s = s.flight.frames
+abbrev pub parts_flight : Parts → List ℕ
+parts_flight s = s.flight.frames

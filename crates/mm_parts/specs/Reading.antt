@@ -8,9 +8,9 @@ use Rattle.mm_flight.specs.declared.flights.Waiting.TheVariants as waiting
 use Rattle.mm_life.specs.Waits.{Waiting as Walked, Idle, ForFrame, Ended}
 
 -- the first of a list of frames, if it has one
-abbrev pub first_of : List ℕ → Option Frame
-first_of [] = None
-first_of (x ∷ xs) = Some (record { 0 = x })
+abbrev pub first_frame : List ℕ → Option Frame
+first_frame [] = None
+first_frame (x ∷ xs) = Some (record { 0 = x })
 
 abbrev pub is_private : Option Key → Bool
 is_private None = false
@@ -26,15 +26,15 @@ is_own_page (Shared a i) owner = true
 -- ---- waits
 
 -- what a thread waits for, as walks through moves have it
-abbrev pub walked : Waiting → Walked
-walked waiting.Nothing = Idle
-walked (waiting.For f) = ForFrame f.0
-walked waiting.Done = Ended true
-walked waiting.Failed = Ended false
+abbrev pub wait_as_walked : Waiting → Walked
+wait_as_walked waiting.Nothing = Idle
+wait_as_walked (waiting.For f) = ForFrame f.0
+wait_as_walked waiting.Done = Ended true
+wait_as_walked waiting.Failed = Ended false
 
 abbrev pub walked_or : Option Waiting → Walked
 walked_or None = Idle
-walked_or (Some x) = walked x
+walked_or (Some x) = wait_as_walked x
 
 abbrev pub waits_of : List Waiting → ℕ → Walked
 waits_of waits t = walked_or (slice_get waits t)

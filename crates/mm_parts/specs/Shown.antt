@@ -16,7 +16,7 @@ use Rattle.mm_flight.specs.declared.flights.Waiting.{Waiting}
 use Rattle.mm_frames.specs.Base.{has_block}
 use Rattle.mm_words.specs.declared.layout.Entry.{Entry}
 use Rattle.mm_words.specs.declared.layout.Entry.TheVariants as entry
-use Rattle.mm_words.specs.Words.{WordsOf, word_of, valid_frame}
+use Rattle.mm_words.specs.Words.{WordsOf, key_entry, valid_frame}
 
 -- the owner of each frame
 abbrev pub Owners : Type 0
@@ -45,7 +45,7 @@ owned_by o (Private p v) f = has_owner (o f.0) (Private p v)
 owned_by o (Shared a i) f = true
 
 abbrev pub stands_of : Owners → WordsOf → Key → Held
-stands_of o w k = held_by (owned_by o k) (word_of w k)
+stands_of o w k = held_by (owned_by o k) (key_entry w k)
 
 abbrev pub valid_of : WordsOf → Place → Option Frame
 valid_of w place = valid_frame (w.at place)

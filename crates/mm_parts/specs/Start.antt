@@ -19,8 +19,8 @@ first_move m = move.At 1 (first_kind m)
 
 -- the first move was made: all frames are free, no key lives, no process and no area is there, and
 -- nobody waits
-abbrev pub started : MachineOf → PartsOf
-started m = record {
+abbrev pub first_parts : MachineOf → PartsOf
+first_parts m = record {
   life = after_move unstarted (first_move m);
   bytes = replicate m.frames None;
   ages = λ _. 0;

@@ -9,7 +9,7 @@ use Rattle.mm_life.specs.Frames.{FrameTable, record_at}
 use Rattle.mm_words.specs.declared.layout.Entry.{Entry}
 use Rattle.mm_words.specs.declared.layout.Entry.TheVariants as entry
 use Rattle.mm_words.specs.declared.aside.Aside.{Aside}
-use Rattle.mm_words.specs.Words.{WordsOf, word_of}
+use Rattle.mm_words.specs.Words.{WordsOf, key_entry}
 
 -- an entry that a private key can have beside the tables
 abbrev pub is_aside_entry : Entry → Bool
@@ -32,7 +32,7 @@ names_other (entry.Valid f n) = true
 names_other (entry.Proto a i) = true
 
 pub record WordsKept (d : FrameTable) (w : WordsOf) : Type 0 where
-  pub transition : (k : Key) (f : Frame) → word_of w k ≡ entry.Transition f →
+  pub transition : (k : Key) (f : Frame) → key_entry w k ≡ entry.Transition f →
       (record_at d f.0).shares ≡ 0
   pub valid_shared : (a : Area) (i : ℕ) (f : Frame) (n : ℕ) → w.proto a.0 i ≡ entry.Valid f n →
       (1 ≤ (record_at d f.0).shares) × (n ≡ 0)

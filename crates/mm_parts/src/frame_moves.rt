@@ -2,7 +2,7 @@ ghost use Rattle.std.specs.Prelude.{◌≡◌, Some};
 ghost use Rattle.mm_types.specs.declared.moves.Move.TheVariants as move;
 ghost use Rattle.mm_life.specs.Legal.{IsLegal};
 ghost use Rattle.mm_ram.specs.Ram.{page_at, zero_page, with_page};
-ghost use Rattle.mm_parts.specs.Moves.{front, after, names_after_give};
+ghost use Rattle.mm_parts.specs.Moves.{front, parts_after, names_after_give};
 
 use crate::backings::home;
 use crate::parts::Parts;
@@ -11,15 +11,17 @@ use mm_types::{Frame, Key};
 use mm_words::Entry;
 
 impl Parts {
-    ghost use Rattle.mm_parts.specs.PartsShown.{shown};
+    ghost use Rattle.mm_parts.specs.PartsShown.{shown_parts};
 
     /// The first free frame is cleared, and goes to the end of zeroed.
     pub fn clear(&mut self)
-        requires legal { IsLegal (move.Clear (front (shown self.old).life.frames.free))
-            (shown self.old).life }
-        ensures made { shown self.new ≡
-            record (after (shown self.old) (move.Clear (front (shown self.old).life.frames.free))) {
-              bytes = with_page (shown self.old).bytes (front (shown self.old).life.frames.free).0
+        requires legal { IsLegal (move.Clear (front (shown_parts self.old).life.frames.free))
+            (shown_parts self.old).life }
+        ensures made { shown_parts self.new ≡
+            record (parts_after (shown_parts self.old)
+            (move.Clear (front (shown_parts self.old).life.frames.free))) {
+              bytes = with_page (shown_parts self.old).bytes
+                  (front (shown_parts self.old).life.frames.free).0
                   zero_page;
             } }
     {
@@ -34,14 +36,14 @@ impl Parts {
 
     /// The first zeroed frame is that of a page that reads as zero and has none.
     pub fn give(&mut self, key: Key) -> Frame
-        requires legal { IsLegal (move.Give (front (shown self.old).life.frames.zeroed) key)
-            (shown self.old).life }
-        ensures frame { result ≡ front (shown self.old).life.frames.zeroed }
-        ensures zero { page_at (shown self.new).bytes result.0 ≡ Some zero_page }
-        ensures made { shown self.new ≡
-            record (after (shown self.old) (move.Give result key)) {
+        requires legal { IsLegal (move.Give (front (shown_parts self.old).life.frames.zeroed) key)
+            (shown_parts self.old).life }
+        ensures frame { result ≡ front (shown_parts self.old).life.frames.zeroed }
+        ensures zero { page_at (shown_parts self.new).bytes result.0 ≡ Some zero_page }
+        ensures made { shown_parts self.new ≡
+            record (parts_after (shown_parts self.old) (move.Give result key)) {
               names =
-                  names_after_give (shown self.old) key;
+                  names_after_give (shown_parts self.old) key;
             } }
     {
         self.words.words_hold();
@@ -58,10 +60,11 @@ impl Parts {
     /// The first frame on standby is taken from its page, and is free: the page is where it was
     /// read from or written to.
     pub fn steal(&mut self)
-        requires legal { IsLegal (move.Steal (front (shown self.old).life.frames.standby))
-            (shown self.old).life }
-        ensures made { shown self.new ≡
-            after (shown self.old) (move.Steal (front (shown self.old).life.frames.standby)) }
+        requires legal { IsLegal (move.Steal (front (shown_parts self.old).life.frames.standby))
+            (shown_parts self.old).life }
+        ensures made { shown_parts self.new ≡
+            parts_after (shown_parts self.old)
+            (move.Steal (front (shown_parts self.old).life.frames.standby)) }
     {
         self.words.words_hold();
         match self.frames.take_standby() {

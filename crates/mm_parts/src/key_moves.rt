@@ -3,7 +3,7 @@ ghost use Rattle.mm_types.specs.declared.moves.Move.TheVariants as move;
 ghost use Rattle.mm_life.specs.Frames.{record_at};
 ghost use Rattle.mm_life.specs.Legal.{IsLegal};
 ghost use Rattle.mm_frames.specs.Base.{FramesOf};
-ghost use Rattle.mm_parts.specs.Moves.{after, HasHome, IsClear, aside_after_add, names_after_drop, table_released, slot_released, IsReleased, copy_place};
+ghost use Rattle.mm_parts.specs.Moves.{parts_after, HasHome, IsClear, aside_after_add, names_after_drop, table_released, slot_released, IsReleased, copy_place};
 
 use crate::backings::give_back;
 use crate::parts::Parts;
@@ -40,18 +40,18 @@ fn copy_place(key: Key, kind: LineKind) -> Option<Place>
 }
 
 impl Parts {
-    ghost use Rattle.mm_parts.specs.PartsShown.{shown};
+    ghost use Rattle.mm_parts.specs.PartsShown.{shown_parts};
 
     /// A page-file key comes to be, and reads as zero. In an access it is that of a copy, and
     /// stands beside the tables, since its place names the page that is copied.
     pub fn add_zero(&mut self, key: Key)
-        requires legal { IsLegal (move.Add key None) (shown self.old).life }
-        requires home { HasHome (shown self.old) key }
-        requires clear { IsClear (shown self.old) key }
-        ensures made { shown self.new ≡
-            record (after (shown self.old) (move.Add key None)) {
+        requires legal { IsLegal (move.Add key None) (shown_parts self.old).life }
+        requires home { HasHome (shown_parts self.old) key }
+        requires clear { IsClear (shown_parts self.old) key }
+        ensures made { shown_parts self.new ≡
+            record (parts_after (shown_parts self.old) (move.Add key None)) {
               aside =
-                  aside_after_add (shown self.old) key;
+                  aside_after_add (shown_parts self.old) key;
             } }
     {
         self.paging_keys += 1;
@@ -63,9 +63,10 @@ impl Parts {
 
     /// A page of a file comes to be, on its block.
     pub fn add_block(&mut self, key: Key, b: Block)
-        requires legal { IsLegal (move.Add key (Some b)) (shown self.old).life }
-        requires home { HasHome (shown self.old) key }
-        ensures made { shown self.new ≡ after (shown self.old) (move.Add key (Some b)) }
+        requires legal { IsLegal (move.Add key (Some b)) (shown_parts self.old).life }
+        requires home { HasHome (shown_parts self.old) key }
+        ensures made { shown_parts self.new ≡ parts_after (shown_parts self.old)
+            (move.Add key (Some b)) }
     {
         self.words.set_word(key, Entry::InFile(b));
         self.added[b.0 as usize] = true;
@@ -73,11 +74,11 @@ impl Parts {
 
     /// A page-file key is no more: its slot is free, and so is its frame unless a request holds it.
     pub fn drop_key(&mut self, key: Key)
-        requires legal { IsLegal (move.Drop key) (shown self.old).life }
-        ensures made { shown self.new ≡
-            record (after (shown self.old) (move.Drop key)) {
+        requires legal { IsLegal (move.Drop key) (shown_parts self.old).life }
+        ensures made { shown_parts self.new ≡
+            record (parts_after (shown_parts self.old) (move.Drop key)) {
               names =
-                  names_after_drop (shown self.old) key;
+                  names_after_drop (shown_parts self.old) key;
             } }
     {
         self.words.words_hold();

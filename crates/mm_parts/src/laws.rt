@@ -13,19 +13,19 @@ ghost use Rattle.mm_parts.specs.Reading.{waits_of};
 use crate::parts::Parts;
 
 impl Parts {
-    ghost use Rattle.mm_parts.specs.PartsShown.{shown, words_of, ages_of, flight_of};
+    ghost use Rattle.mm_parts.specs.PartsShown.{shown_parts, parts_words, parts_ages, parts_flight};
 
     /// Each key has one entry, which says where it stands, and the words of places name the frames
     /// that they are valid for. It does nothing.
     pub fn entries_agree(&self)
-        ensures { EntriesAgree (shown self.now).life (words_of self.now) }
+        ensures { EntriesAgree (shown_parts self.now).life (parts_words self.now) }
     {
         let _words = &self.words;
     }
 
     /// A free slot has no holder, and each other slot one. It does nothing.
     pub fn slots_agree(&self)
-        ensures { SlotsAgree (shown self.now).life }
+        ensures { SlotsAgree (shown_parts self.now).life }
     {
         let _slots = &self.slots;
     }
@@ -33,23 +33,24 @@ impl Parts {
     /// The requests are those of the frames' records, at most one more than the depth: those in
     /// flight, and the line's own. It does nothing.
     pub fn requests_agree(&self)
-        ensures { RequestsAgree (shown self.now).life (flight_of self.now) (shown self.now).own }
+        ensures { RequestsAgree (shown_parts self.now).life (parts_flight self.now)
+            (shown_parts self.now).own }
     {
         self.flight.requests_hold();
     }
 
     /// Each working set holds the valid places of its process, each with an age. It does nothing.
     pub fn sets_agree(&self)
-        ensures { SetsAgree (shown self.now).life (ages_of self.now) }
+        ensures { SetsAgree (shown_parts self.now).life (parts_ages self.now) }
     {
         self.words.working_sets_hold();
     }
 
     /// What holds at all times: of lines, of pages and of what is on devices. It does nothing.
     pub fn parts_hold(&self)
-        ensures lines { LinesHold (shown self.now) }
-        ensures pages { PagesHold (shown self.now) }
-        ensures storage { StorageHolds (shown self.now) }
+        ensures lines { LinesHold (shown_parts self.now) }
+        ensures pages { PagesHold (shown_parts self.now) }
+        ensures storage { StorageHolds (shown_parts self.now) }
     {
         self.words.words_hold();
         self.words.working_sets_hold();
@@ -59,11 +60,14 @@ impl Parts {
     /// A frame that was written has 4,096 bytes; one that has an owner or a write request, and no
     /// read request, was written. It does nothing.
     pub fn bytes_hold(&self)
-        ensures whole { (f : ℕ) (page : List ℕ) → page_at (shown self.now).bytes f ≡ Some page →
+        ensures whole { (f : ℕ) (page : List ℕ) →
+            page_at (shown_parts self.now).bytes f ≡ Some page →
             length page ≡ 4096 }
-        ensures written { (f : ℕ) → is_bound (record_at (shown self.now).life.frames f) ≡ true →
-            is_read (record_at (shown self.now).life.frames f).request ≡ false →
-            page_at (shown self.now).bytes f ≡ Some (bytes_of (shown self.now).bytes f) }
+        ensures written { (f : ℕ) →
+            is_bound (record_at (shown_parts self.now).life.frames f) ≡ true →
+            is_read (record_at (shown_parts self.now).life.frames f).request ≡ false →
+            page_at (shown_parts self.now).bytes f ≡ Some
+            (bytes_of (shown_parts self.now).bytes f) }
     {
         self.frames.written_frames_are_whole();
     }

@@ -3,9 +3,9 @@ ghost use Rattle.mm_types.specs.declared.moves.LineKind.TheVariants as kind;
 ghost use Rattle.mm_types.specs.declared.moves.Move.TheVariants as move;
 ghost use Rattle.mm_life.specs.Legal.{IsLegal};
 ghost use Rattle.mm_words.specs.Shown as tables;
-ghost use Rattle.mm_parts.specs.Moves.{after, IsPlainLine, words_begun, CanBeginSet};
+ghost use Rattle.mm_parts.specs.Moves.{parts_after, IsPlainLine, words_begun, CanBeginSet};
 ghost use Rattle.mm_types.specs.Machine.{IsMachine};
-ghost use Rattle.mm_parts.specs.Start.{started, first_kind, more_slots};
+ghost use Rattle.mm_parts.specs.Start.{first_parts, first_kind, more_slots};
 
 use crate::parts::Parts;
 use mm_flight::Flight;
@@ -51,7 +51,7 @@ fn with_slots(machine: Machine, n: u32) -> Machine
 fn begin_set(words: &mut Words, kind: LineKind)
     requires { CanBeginSet kind (tables.words words.old) }
     ensures words { tables.words words.new ≡ words_begun kind (tables.words words.old) }
-    ensures ages { tables.ages words.new ≡ tables.ages words.old }
+    ensures ages { tables.place_ages words.new ≡ tables.place_ages words.old }
 {
     if let LineKind::Process(_, min, max) = kind {
         words.begin_process(min, max);
@@ -59,12 +59,12 @@ fn begin_set(words: &mut Words, kind: LineKind)
 }
 
 impl Parts {
-    ghost use Rattle.mm_parts.specs.PartsShown.{shown, spare_slots};
+    ghost use Rattle.mm_parts.specs.PartsShown.{shown_parts, spare_slots};
 
     /// A machine at rest, whose first line has begun. It takes the memory of all frames, slots,
     /// blocks and requests.
     pub fn new(alloc: Global, machine: Machine) -> Result<Parts, NoMemory>
-        ensures { IfOk result (λ p. shown p ≡ started machine) }
+        ensures { IfOk result (λ p. shown_parts p ≡ first_parts machine) }
     {
         let added = none_added(alloc, machine.blocks())?;
         let frames = Frames::new(alloc, machine.frames())?;
@@ -90,11 +90,12 @@ impl Parts {
     /// request is done, and nothing stands beside the tables. A process's working set has room for
     /// 1 to 65,536 pages.
     pub fn at(&mut self, line: u32, kind: LineKind)
-        requires legal { IsLegal (move.At line kind) (shown self.old).life }
+        requires legal { IsLegal (move.At line kind) (shown_parts self.old).life }
         requires plain { IsPlainLine kind }
-        requires done { (shown self.old).own ≡ None }
-        requires alone { (shown self.old).aside ≡ None }
-        ensures made { shown self.new ≡ after (shown self.old) (move.At line kind) }
+        requires done { (shown_parts self.old).own ≡ None }
+        requires alone { (shown_parts self.old).aside ≡ None }
+        ensures made { shown_parts self.new ≡ parts_after (shown_parts self.old)
+            (move.At line kind) }
     {
         self.line = line;
         self.kind = kind;
@@ -103,7 +104,7 @@ impl Parts {
 
     /// Takes the memory for `n` further slots. Nothing changes but how many can be added.
     pub fn reserve_slots(&mut self, n: u32) -> Result<(), NoMemory>
-        ensures shown { shown self.new ≡ shown self.old }
+        ensures shown { shown_parts self.new ≡ shown_parts self.old }
         ensures ok { OnOk result (n ≤ spare_slots self.new) }
         ensures kept { spare_slots self.old ≤ spare_slots self.new }
     {
@@ -112,11 +113,12 @@ impl Parts {
 
     /// A line begins in which the paging file grows by `n` slots, for which there is memory.
     pub fn grow(&mut self, line: u32, n: u32)
-        requires legal { IsLegal (move.At line (kind.Grow n)) (shown self.old).life }
+        requires legal { IsLegal (move.At line (kind.Grow n)) (shown_parts self.old).life }
         requires spare { n ≤ spare_slots self.old }
-        requires done { (shown self.old).own ≡ None }
-        requires alone { (shown self.old).aside ≡ None }
-        ensures made { shown self.new ≡ after (shown self.old) (move.At line (kind.Grow n)) }
+        requires done { (shown_parts self.old).own ≡ None }
+        requires alone { (shown_parts self.old).aside ≡ None }
+        ensures made { shown_parts self.new ≡ parts_after (shown_parts self.old)
+            (move.At line (kind.Grow n)) }
     {
         self.line = line;
         self.kind = LineKind::Grow(n);

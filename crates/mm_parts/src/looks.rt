@@ -62,32 +62,32 @@ fn is_own_page(frames: &Frames, key: Key, entry: Entry) -> bool
 }
 
 impl Parts {
-    ghost use Rattle.mm_parts.specs.PartsShown.{shown, words_of};
+    ghost use Rattle.mm_parts.specs.PartsShown.{shown_parts, parts_words};
 
     /// The machine, with the slots that there are now.
     pub fn machine(&self) -> Machine
-        ensures { result ≡ (shown self.now).life.machine }
+        ensures { result ≡ (shown_parts self.now).life.machine }
     {
         self.machine
     }
 
     /// The number of the line that began last, counted from 1.
     pub fn line(&self) -> u32
-        ensures { result ≡ (shown self.now).life.line }
+        ensures { result ≡ (shown_parts self.now).life.line }
     {
         self.line
     }
 
     /// The kind of the line that began last.
     pub fn kind(&self) -> LineKind
-        ensures { result ≡ (shown self.now).life.kind }
+        ensures { result ≡ (shown_parts self.now).life.kind }
     {
         self.kind
     }
 
     /// Whether a process of this pid is open.
     pub fn is_open(&self, pid: Pid) -> bool
-        ensures { result ≡ (shown self.now).is_open pid.0 }
+        ensures { result ≡ (shown_parts self.now).is_open pid.0 }
     {
         self.words.is_open(pid)
     }
@@ -95,8 +95,8 @@ impl Parts {
     /// Where the bytes of a key stand, or that it is not live. Its place is bound, or its index is
     /// one of an open area.
     pub fn stands(&self, key: Key) -> Held
-        requires { HasHome (shown self.now) key }
-        ensures { result ≡ (shown self.now).life.stands key }
+        requires { HasHome (shown_parts self.now) key }
+        ensures { result ≡ (shown_parts self.now).life.stands key }
     {
         let entry = self.words.word(key);
         let own = is_own_page(&self.frames, key, entry);
@@ -105,8 +105,8 @@ impl Parts {
 
     /// The frame that a bound place is valid for, if it is valid.
     pub fn valid(&self, place: Place) -> Option<Frame>
-        requires { (shown self.now).bound place ≡ true }
-        ensures { result ≡ (shown self.now).life.valid place }
+        requires { (shown_parts self.now).bound place ≡ true }
+        ensures { result ≡ (shown_parts self.now).life.valid place }
     {
         frame_of(self.words.at(place))
     }
@@ -114,16 +114,16 @@ impl Parts {
     /// The entry of a bound place, whatever stands beside the tables; the number of a valid one is
     /// its place in the working set.
     pub fn entry(&self, place: Place) -> Entry
-        requires { (shown self.now).bound place ≡ true }
-        ensures { bare result ≡ (words_of self.now).at place }
+        requires { (shown_parts self.now).bound place ≡ true }
+        ensures { bare result ≡ (parts_words self.now).at place }
     {
         self.words.at(place)
     }
 
     /// What is kept of a frame.
     pub fn look(&self, f: Frame) -> Record
-        requires { f.0 < (shown self.now).life.machine.frames }
-        ensures { result ≡ record_at (shown self.now).life.frames f.0 }
+        requires { f.0 < (shown_parts self.now).life.machine.frames }
+        ensures { result ≡ record_at (shown_parts self.now).life.frames f.0 }
     {
         self.frames.look(f)
     }

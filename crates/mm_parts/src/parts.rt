@@ -1,5 +1,5 @@
 ghost use Rattle.mm_words.specs.Shown as tables;
-ghost use Rattle.mm_parts.specs.Kept.{Kept};
+ghost use Rattle.mm_parts.specs.Kept.{PartsKept};
 
 use mm_flight::Flight;
 use mm_frames::Frames;
@@ -25,13 +25,13 @@ pub struct Parts {
     pub(crate) flight: Flight,
     // The line's own request, the youngest.
     pub(crate) own: Option<Frame>,
-    ghost kept: { Kept (record {
+    ghost kept: { PartsKept (record {
       line = record { machine = machine; line = line; kind = kind; paging_keys = paging_keys; added = added.items };
       table = frames.table;
       bytes = frames.bytes;
       free = slots.free;
       words = tables.words words;
-      ages = tables.ages words;
+      ages = tables.place_ages words;
       flight = flight;
       own = own;
     }) },

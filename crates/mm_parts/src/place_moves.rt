@@ -3,9 +3,9 @@ ghost use Rattle.mm_types.specs.declared.moves.Move.TheVariants as move;
 ghost use Rattle.mm_life.specs.Frames.{record_at};
 ghost use Rattle.mm_life.specs.Life.{changed, same_place, key_of_place, is_shared, is_dead};
 ghost use Rattle.mm_life.specs.Legal.{IsLegal, owner_is};
-ghost use Rattle.mm_parts.specs.Moves.{after, left_by, names_after_map, MayMap, CanName, words_named, CanLeave, words_left};
+ghost use Rattle.mm_parts.specs.Moves.{parts_after, left_by, names_after_map, MayMap, CanName, words_named, CanLeave, words_left};
 ghost use Rattle.mm_words.specs.Shown as tables;
-ghost use Rattle.mm_words.specs.Words.{is_valid};
+ghost use Rattle.mm_words.specs.Words.{is_valid_entry};
 
 use crate::parts::Parts;
 use mm_types::{Frame, Key, Place};
@@ -15,7 +15,7 @@ use mm_words::{Entry, Words};
 fn name_frame(words: &mut Words, owner: Option<Key>, f: Frame)
     requires { CanName (tables.words words.old) owner f }
     ensures words { tables.words words.new ≡ words_named owner f (tables.words words.old) }
-    ensures ages { tables.ages words.new ≡ tables.ages words.old }
+    ensures ages { tables.place_ages words.new ≡ tables.place_ages words.old }
 {
     if let Some(Key::Shared(area, index)) = owner {
         words.set_word(Key::Shared(area, index), Entry::Valid(f, 0));
@@ -25,10 +25,11 @@ fn name_frame(words: &mut Words, owner: Option<Key>, f: Frame)
 /// A place is valid no more for the frame of a key: for the last place of a shared page its
 /// prototype word is in transition.
 fn leave_place(words: &mut Words, place: Place, key: Key, f: Frame, last: bool)
-    requires valid { is_valid ((tables.words words.old).at place) ≡ true }
+    requires valid { is_valid_entry ((tables.words words.old).at place) ≡ true }
     requires can { CanLeave (tables.words words.old) key f }
     ensures words { tables.words words.new ≡ words_left key f last place (tables.words words.old) }
-    ensures ages { tables.ages words.new ≡ changed same_place (tables.ages words.old) place None }
+    ensures ages { tables.place_ages words.new ≡ changed same_place (tables.place_ages words.old)
+        place None }
 {
     match key {
         Key::Private(_, _) => words.make_invalid(place, Entry::Transition(f)),
@@ -42,19 +43,20 @@ fn leave_place(words: &mut Words, place: Place, key: Key, f: Frame, last: bool)
 }
 
 impl Parts {
-    ghost use Rattle.mm_parts.specs.PartsShown.{shown};
+    ghost use Rattle.mm_parts.specs.PartsShown.{shown_parts};
 
     /// The page of a frame becomes valid at a place, and has age 0 there. For a shared page the
     /// place's own private key is dead.
     pub fn map(&mut self, f: Frame, place: Place)
-        requires legal { IsLegal (move.Map f place) (shown self.old).life }
-        requires bound { (shown self.old).bound place ≡ true }
-        requires alone { MayMap (shown self.old) f place }
-        ensures made { shown self.new ≡ record (after (shown self.old) (move.Map f place)) {
-          ages = changed same_place (shown self.old).ages place 0;
-          aside = left_by (shown self.old).aside place;
-          names = names_after_map (shown self.old) f place;
-        } }
+        requires legal { IsLegal (move.Map f place) (shown_parts self.old).life }
+        requires bound { (shown_parts self.old).bound place ≡ true }
+        requires alone { MayMap (shown_parts self.old) f place }
+        ensures made { shown_parts self.new ≡ record
+            (parts_after (shown_parts self.old) (move.Map f place)) {
+              ages = changed same_place (shown_parts self.old).ages place 0;
+              aside = left_by (shown_parts self.old).aside place;
+              names = names_after_map (shown_parts self.old) f place;
+            } }
     {
         self.words.words_hold();
         let owner = self.frames.look(f).owner;
@@ -66,11 +68,11 @@ impl Parts {
     /// A place is valid no more. Without shares and without a request the page's frame goes to
     /// standby or modified.
     pub fn unmap(&mut self, place: Place)
-        requires legal { IsLegal (move.Unmap place) (shown self.old).life }
-        ensures made { shown self.new ≡
-            record (after (shown self.old) (move.Unmap place)) {
+        requires legal { IsLegal (move.Unmap place) (shown_parts self.old).life }
+        ensures made { shown_parts self.new ≡
+            record (parts_after (shown_parts self.old) (move.Unmap place)) {
               ages =
-                  changed same_place (shown self.old).ages place 0;
+                  changed same_place (shown_parts self.old).ages place 0;
             } }
     {
         self.words.words_hold();
@@ -89,8 +91,8 @@ impl Parts {
     /// is free. While it is being written, it is to be written again.
     #[tactic(auto, using(mm_laws::proofs::Facts::facts_of))]
     pub fn soil(&mut self, f: Frame)
-        requires legal { IsLegal (move.Soil f) (shown self.old).life }
-        ensures made { shown self.new ≡ after (shown self.old) (move.Soil f) }
+        requires legal { IsLegal (move.Soil f) (shown_parts self.old).life }
+        ensures made { shown_parts self.new ≡ parts_after (shown_parts self.old) (move.Soil f) }
     {
         if let Some(slot) = self.frames.soil(f) {
             self.slots.give(slot);

@@ -5,7 +5,7 @@ ghost use Rattle.mm_life.specs.Legal.{IsLegal};
 ghost use Rattle.mm_ram.specs.Ram.{page_at};
 ghost use Rattle.mm_frames.specs.Base.{IsDirty, has_block};
 ghost use Rattle.mm_flight.specs.Requests.{ended};
-ghost use Rattle.mm_parts.specs.Moves.{after, own_after, own_ended, front_or, front_for_read, read_end, write_end, write_target, CanBegin, page_filled, words_sent, CanSend, goes_to, lowest_free, slots_to};
+ghost use Rattle.mm_parts.specs.Moves.{parts_after, own_after, own_ended, front_or, front_for_read, end_of_read, write_end, write_target, CanBegin, page_filled, words_sent, CanSend, goes_to, lowest_free, slots_to};
 ghost use Rattle.mm_words.specs.Shown as tables;
 ghost use Rattle.mm_slots.specs.Slots.{free_count};
 
@@ -40,7 +40,7 @@ fn take_for_read(frames: &mut Frames) -> Dirty
 fn send_home(words: &mut Words, owner: Option<Key>, backing: Backing)
     requires { CanSend (tables.words words.old) owner backing }
     ensures words { tables.words words.new ≡ words_sent owner backing (tables.words words.old) }
-    ensures ages { tables.ages words.new ≡ tables.ages words.old }
+    ensures ages { tables.place_ages words.new ≡ tables.place_ages words.old }
 {
     if let Some(key) = owner {
         words.set_word(key, home(backing));
@@ -65,19 +65,19 @@ fn take_target(slots: &mut Slots, backing: Backing) -> Stored
 }
 
 impl Parts {
-    ghost use Rattle.mm_parts.specs.PartsShown.{shown};
+    ghost use Rattle.mm_parts.specs.PartsShown.{shown_parts};
 
     /// A read of a page begins, into the first free frame, or where none is free the first zeroed
     /// one.
     pub fn start_read(&mut self, key: Key) -> Frame
-        requires legal { IsLegal (move.Read (front_for_read (shown self.old).life) key)
-            (shown self.old).life }
-        requires room { CanBegin (shown self.old) }
-        ensures frame { result ≡ front_for_read (shown self.old).life }
-        ensures made { shown self.new ≡
-            record (after (shown self.old) (move.Read result key)) {
+        requires legal { IsLegal (move.Read (front_for_read (shown_parts self.old).life) key)
+            (shown_parts self.old).life }
+        requires room { CanBegin (shown_parts self.old) }
+        ensures frame { result ≡ front_for_read (shown_parts self.old).life }
+        ensures made { shown_parts self.new ≡
+            record (parts_after (shown_parts self.old) (move.Read result key)) {
               own =
-                  own_after (shown self.old).life.kind (shown self.old).own result;
+                  own_after (shown_parts self.old).life.kind (shown_parts self.old).own result;
             } }
     {
         self.words.words_hold();
@@ -91,12 +91,13 @@ impl Parts {
 
     /// A read has ended: well, with the bytes of the page, or not. The waits for it have ended too.
     pub fn end_read(&mut self, f: Frame, page: Option<&[u8; 4096]>)
-        requires legal { IsLegal (read_end (is_some page) f) (shown self.old).life }
-        ensures made { shown self.new ≡
-            record (after (shown self.old) (read_end (is_some page.entry) f)) {
-              bytes = page_filled (option_map (λ p. p.now) page.entry) (shown self.old).bytes f.0;
-              waits = map (ended f.0 (is_some page.entry)) (shown self.old).waits;
-              own = own_ended (shown self.old).own f.0;
+        requires legal { IsLegal (end_of_read (is_some page) f) (shown_parts self.old).life }
+        ensures made { shown_parts self.new ≡
+            record (parts_after (shown_parts self.old) (end_of_read (is_some page.entry) f)) {
+              bytes = page_filled (option_map (λ p. p.now) page.entry) (shown_parts self.old).bytes
+                  f.0;
+              waits = map (ended f.0 (is_some page.entry)) (shown_parts self.old).waits;
+              own = own_ended (shown_parts self.old).own f.0;
             } }
     {
         self.words.words_hold();
@@ -112,14 +113,14 @@ impl Parts {
     /// A write of a page begins: to the block that backs its frame, or for a page of the paging
     /// file to the lowest free slot.
     pub fn start_write(&mut self, f: Frame) -> Stored
-        requires legal { IsLegal (move.Write f (write_target (shown self.old).life f))
-            (shown self.old).life }
-        requires room { CanBegin (shown self.old) }
-        ensures to { result ≡ write_target (shown self.old).life f }
-        ensures made { shown self.new ≡
-            record (after (shown self.old) (move.Write f result)) {
+        requires legal { IsLegal (move.Write f (write_target (shown_parts self.old).life f))
+            (shown_parts self.old).life }
+        requires room { CanBegin (shown_parts self.old) }
+        ensures to { result ≡ write_target (shown_parts self.old).life f }
+        ensures made { shown_parts self.new ≡
+            record (parts_after (shown_parts self.old) (move.Write f result)) {
               own =
-                  own_after (shown self.old).life.kind (shown self.old).own f;
+                  own_after (shown_parts self.old).life.kind (shown_parts self.old).own f;
             } }
     {
         let to = take_target(&mut self.slots, self.frames.look(f).backing);
@@ -130,19 +131,19 @@ impl Parts {
 
     /// The bytes of a frame that is being written, where they are.
     pub fn page(&self, f: Frame) -> &[u8; 4096]
-        requires { is_write (record_at (shown self.now).life.frames f.0).request ≡ true }
-        ensures { page_at (shown self.now).bytes f.0 ≡ Some result.now }
+        requires { is_write (record_at (shown_parts self.now).life.frames f.0).request ≡ true }
+        ensures { page_at (shown_parts self.now).bytes f.0 ≡ Some result.now }
     {
         self.frames.page(f)
     }
 
     /// A write has ended, well or not.
     pub fn end_write(&mut self, f: Frame, ok: bool)
-        requires legal { IsLegal (write_end ok f) (shown self.old).life }
-        ensures made { shown self.new ≡
-            record (after (shown self.old) (write_end ok f)) {
+        requires legal { IsLegal (write_end ok f) (shown_parts self.old).life }
+        ensures made { shown_parts self.new ≡
+            record (parts_after (shown_parts self.old) (write_end ok f)) {
               own =
-                  own_ended (shown self.old).own f.0;
+                  own_ended (shown_parts self.old).own f.0;
             } }
     {
         let ended = self.frames.end_write(f, ok);

@@ -50,18 +50,18 @@ fn place_of_request(flight: &Flight, own: Option<Frame>, f: Frame) -> Option<u32
 }
 
 impl Parts {
-    ghost use Rattle.mm_parts.specs.PartsShown.{shown};
+    ghost use Rattle.mm_parts.specs.PartsShown.{shown_parts};
 
     /// The line's own request, the youngest.
     pub fn own(&self) -> Option<Frame>
-        ensures { result ≡ (shown self.now).own }
+        ensures { result ≡ (shown_parts self.now).own }
     {
         self.own
     }
 
     /// How many requests there are, the line's own among them.
     pub fn requests(&self) -> u32
-        ensures { result ≡ length (shown self.now).life.flight }
+        ensures { result ≡ length (shown_parts self.now).life.flight }
     {
         self.flight.requests_hold();
         number_of(&self.flight, self.own)
@@ -69,7 +69,7 @@ impl Parts {
 
     /// Whether there are fewer requests than the depth.
     pub fn has_depth(&self) -> bool
-        ensures { result ≡ has_depth (shown self.now).life }
+        ensures { result ≡ has_depth (shown_parts self.now).life }
     {
         self.requests() < self.machine.depth()
     }
@@ -77,14 +77,14 @@ impl Parts {
     /// The frame of the i-th oldest request, counted from 1, the line's own among them. `None`
     /// comes at 0 and past the last.
     pub fn nth(&self, i: u32) -> Option<Frame>
-        ensures { option_map (λ f. f.0) result ≡ nth_oldest i (shown self.now).life.flight }
+        ensures { option_map (λ f. f.0) result ≡ nth_oldest i (shown_parts self.now).life.flight }
     {
         nth_request(&self.flight, self.own, i)
     }
 
     /// How old the request of a frame is: the i of `nth`. `None` comes exactly where it has none.
     pub fn place_of(&self, f: Frame) -> Option<u32>
-        ensures { result ≡ place_in f.0 (shown self.now).life.flight }
+        ensures { result ≡ place_in f.0 (shown_parts self.now).life.flight }
     {
         self.flight.requests_hold();
         place_of_request(&self.flight, self.own, f)
@@ -92,31 +92,31 @@ impl Parts {
 
     /// A thread waits for a read in flight, which is not the line's own, from now on.
     pub fn wait(&mut self, t: Tid, f: Frame)
-        requires read { is_read (record_at (shown self.old).life.frames f.0).request ≡ true }
-        requires other { own_is (shown self.old).own f.0 ≡ false }
-        ensures made { shown self.new ≡ record (shown self.old) {
-          waits = slice_set (shown self.old).waits t.0 (waiting.For f);
+        requires read { is_read (record_at (shown_parts self.old).life.frames f.0).request ≡ true }
+        requires other { own_is (shown_parts self.old).own f.0 ≡ false }
+        ensures made { shown_parts self.new ≡ record (shown_parts self.old) {
+          waits = slice_set (shown_parts self.old).waits t.0 (waiting.For f);
         } }
-        ensures walked { (u : ℕ) → waits_of (shown self.new).waits u ≡
-            changed ◌==◌ (waits_of (shown self.old).waits) t.0 (ForFrame f.0) u }
+        ensures walked { (u : ℕ) → waits_of (shown_parts self.new).waits u ≡
+            changed ◌==◌ (waits_of (shown_parts self.old).waits) t.0 (ForFrame f.0) u }
     {
         self.flight.wait(t, f);
     }
 
     /// How a thread's wait stands.
     pub fn outcome(&self, t: Tid) -> Wait
-        ensures { result ≡ walked_wait (waits_of (shown self.now).waits t.0) }
+        ensures { result ≡ walked_wait (waits_of (shown_parts self.now).waits t.0) }
     {
         self.flight.outcome(t)
     }
 
     /// A thread waits for nothing from now on.
     pub fn forget(&mut self, t: Tid)
-        ensures made { shown self.new ≡ record (shown self.old) {
-          waits = slice_set (shown self.old).waits t.0 waiting.Nothing;
+        ensures made { shown_parts self.new ≡ record (shown_parts self.old) {
+          waits = slice_set (shown_parts self.old).waits t.0 waiting.Nothing;
         } }
-        ensures walked { (u : ℕ) → waits_of (shown self.new).waits u ≡
-            changed ◌==◌ (waits_of (shown self.old).waits) t.0 Idle u }
+        ensures walked { (u : ℕ) → waits_of (shown_parts self.new).waits u ≡
+            changed ◌==◌ (waits_of (shown_parts self.old).waits) t.0 Idle u }
     {
         self.flight.forget(t);
     }

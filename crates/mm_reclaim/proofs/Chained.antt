@@ -4,7 +4,7 @@ use Rattle.std.proofs.lemmas.List.{append-nil}
 use Rattle.mm_types.specs.declared.moves.Move.{Move}
 use Rattle.mm_life.specs.Life.{FrameLife}
 use Rattle.mm_moving.specs.Shown.{StateOf, moved}
-use Rattle.mm_moving.specs.Doing.{Does}
+use Rattle.mm_moving.specs.Doing.{DoesMoves}
 use Rattle.mm_moving.proofs.Doing.{does_nothing, does_then, does_one}
 use Rattle.mm_reclaim.specs.Chores.{Rounds, RoundsTo}
 
@@ -39,11 +39,11 @@ module _ (chore : ℕ → FrameLife → List Move) (n : ℕ) where
   }
 
   -- none is left: these were all
-  ends : (i : ℕ) (s z : StateOf) → RoundsTo chore n i s z → chore (n - i) z.life ≡ [] → Does (chore n s.life) s z
-  ends i s z p e = subst (λ (xs : List Move). Does xs s z) (sym (p.whole ∙ ap (λ (xs : List Move). p.moves ++ xs) e ∙ append-nil p.moves)) p.does
+  ends : (i : ℕ) (s z : StateOf) → RoundsTo chore n i s z → chore (n - i) z.life ≡ [] → DoesMoves (chore n s.life) s z
+  ends i s z p e = subst (λ (xs : List Move). DoesMoves xs s z) (sym (p.whole ∙ ap (λ (xs : List Move). p.moves ++ xs) e ∙ append-nil p.moves)) p.does
 
   pub record Over (s z : StateOf) : Type 0 where
-    pub does : Does (chore n s.life) s z
+    pub does : DoesMoves (chore n s.life) s z
     pub same : z ≡ moved s z
 
   pub chain_over : (i : ℕ) (s y z : StateOf) → RoundsTo chore n i s y → Rounds chore false y z → Over s z

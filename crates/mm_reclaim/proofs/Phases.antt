@@ -26,7 +26,7 @@ use Rattle.mm_laws.proofs.Machines.{in_range}
 use Rattle.mm_laws.proofs.PlaceCounts.{has_shares}
 use Rattle.mm_laws.proofs.FromSound.{modified_frame}
 use Rattle.mm_frame_laws.specs.Room.{IsWithinDepth}
-use Rattle.mm_frame_laws.specs.Steps.{walked, is_last, Unmapped, after_failed, put_last}
+use Rattle.mm_frame_laws.specs.Steps.{list_in_search, is_last, Unmapped, after_failed, put_last}
 use Rattle.mm_frame_laws.specs.Searches.{failed_write, lost_in, Walking, first_passing, is_untried, next_try}
 use Rattle.mm_frame_laws.proofs.Unmapping.{unmapped}
 use Rattle.mm_frame_laws.proofs.Writing.{failed}
@@ -58,7 +58,7 @@ walk_done start l moves n i end r replays access short few w =
     let same = w.walking.now in
     let walk : Walking start l (w.passed ++ w.left) [] w.lost moves = walk_passes_all start l w.passed w.left [] w.lost moves
     (subst (λ (xs : List ℕ). Walking start l w.passed xs w.lost moves) (sym (append_nil w.left)) w.walking)
-    (λ g h. writes_same start l (walked w.passed w.left w.lost) same g ∙ bars g h) in
+    (λ g h. writes_same start l (list_in_search w.passed w.left w.lost) same g ∙ bars g h) in
     record {
       emptying = walk_then start l (w.passed ++ w.left) w.lost moves walk replays
           (subst (λ (k : FrameLife). IsMachine k.machine) (sym same) (range.machine (range.begun (or_left (is_access start.kind) (is_thread start.kind) access))))
@@ -76,7 +76,7 @@ module _ (start l : FrameLife) (moves : List Move) (n i : ℕ) (w : WalkedTo sta
 
   -- which frames can be written stays in the walk
   same_test : (g : ℕ) → can_be_written l g ≡ can_be_written start g
-  same_test g = writes_same start l (walked w.passed w.left w.lost) w.walking.now g
+  same_test g = writes_same start l (list_in_search w.passed w.left w.lost) w.walking.now g
 
   next : FirstOf (can_be_written start) w.left
   next = first_of (can_be_written start) w.left (let a = w.count in omega (arith, a, low))
@@ -102,7 +102,7 @@ module _ (start l : FrameLife) (moves : List Move) (n i : ℕ) (w : WalkedTo sta
         (subst (λ (xs : List ℕ). Walking start l w.passed xs w.lost moves) (next.is ∙ ap (λ (x : ℕ). next.more ++ (x ∷ next.behind)) same_frame) w.walking)
         (λ g h. same_test g ∙ next.none g h)
 
-    list : l.frames.modified ≡ walked before (f.0 ∷ next.behind) w.lost
+    list : l.frames.modified ≡ list_in_search before (f.0 ∷ next.behind) w.lost
     list = ap (λ (k : FrameLife). k.frames.modified) walking.now
 
     pub on_list : is_on f.0 l.frames.modified ≡ true

@@ -25,11 +25,11 @@ use Rattle.mm_frame_laws.specs.Room.{NoneMayGo}
 use Rattle.mm_frame_laws.specs.Searches.{lost_in, is_lost_of, failed_write, first_passing, is_untried, next_try}
 use Rattle.mm_frame_laws.proofs.Walks.{any_append, or_none}
 use Rattle.mm_parts.specs.Moves.{write_end, own_after, own_ended}
-use Rattle.mm_moving.specs.Shown.{StateOf, Made, Called, called, moved, backing_of_frame, SomeFault}
-use Rattle.mm_moving.specs.Holds.{Holds}
-use Rattle.mm_moving.specs.Doing.{Does, walk_of, IsFlightOf, Searched}
+use Rattle.mm_moving.specs.Shown.{StateOf, Made, DeviceCalled, moved_with_call, moved, backing_of_frame, SomeFault}
+use Rattle.mm_moving.specs.Holds.{StateHolds}
+use Rattle.mm_moving.specs.Doing.{DoesMoves, walk_of, IsFlightOf, Searched}
 use Rattle.mm_moving.proofs.Doing.{does_nothing, does_one, does_two, does_then, count-append, walked_here}
-use Rattle.mm_reclaim.specs.Seeking.{Begun, Tries, Seeks}
+use Rattle.mm_reclaim.specs.Seeking.{IsUnderWay, Tries, Seeks}
 use Rattle.std.proofs.Math.Logic.{∥∥₁_elim}
 use Rattle.std.proofs.Props.{props}
 use Rattle.mm_types.specs.declared.devices.Direction.TheVariants as way
@@ -97,7 +97,7 @@ backed_mid s mid f home r on m = record { backed = λ none. ∥∥₁_elim r emp
         by (stored.Slot t) e = cc
         by (stored.Block t) e = cc
 
-called_failed : (b : Backing) (s z : StateOf) → b ≢ backing.None → Called way.Write b false s z → SomeFault s z
+called_failed : (b : Backing) (s z : StateOf) → b ≢ backing.None → DeviceCalled way.Write b false s z → SomeFault s z
 called_failed backing.None s z n c = absurd (n refl)
 called_failed (backing.Slot t) s z n c = inl (serves_failed _ s.paging z.paging c.0 refl)
 called_failed (backing.Block t) s z n c = inr (serves_failed _ s.files z.files c.0 refl)
@@ -107,7 +107,7 @@ fault_from s mid z p q (inl x) = inl (subst (λ (d : DeviceOf). CallFailed d z.p
 fault_from s mid z p q (inr x) = inr (subst (λ (d : DeviceOf). CallFailed d z.files) q x)
 
 -- a write of a modified frame that failed is a device's failure
-pub write_fault : (f : Frame) (home : Stored) (ok : Bool) (s mid z : StateOf) → Holds s → is_on f.0 s.life.frames.modified ≡ true → Made (move.Write f home) s mid → Made (write_end ok f) mid z → ok ≡ false → SomeFault s z
+pub write_fault : (f : Frame) (home : Stored) (ok : Bool) (s mid z : StateOf) → StateHolds s → is_on f.0 s.life.frames.modified ≡ true → Made (move.Write f home) s mid → Made (write_end ok f) mid z → ok ≡ false → SomeFault s z
 write_fault f home true s mid z h on b e lost = let bad : true ≡ false = lost in cc
 write_fault f home false s mid z h on b e lost =
     fault_from s mid z b.calls.0 b.calls.1 (called_failed (backing_of_frame mid f) mid z (backed_mid s mid f home h.reached on b).backed e.calls)
@@ -116,17 +116,17 @@ write_fault f home false s mid z h on b e lost =
 own_back : (k : LineKind) (o : Option Frame) (f : Frame) → is_access k ≡ true → o ≡ None → own_ended (own_after k o f) f.0 ≡ o
 own_back k o f e n = ap (λ (b : Bool). own_ended (if b || is_call k then Some f else o) f.0) e ∙ ap (λ (b : Bool). if b then None else Some f) (same_number f.0) ∙ sym n
 
-pub tries_same : (f : Frame) (s mid z : StateOf) → Begun s → mid ≡ record (moved s mid) { own = own_after s.life.kind s.own f } → z ≡ record (called mid z) { own = own_ended mid.own f.0 } → z ≡ called s z
+pub tries_same : (f : Frame) (s mid z : StateOf) → IsUnderWay s → mid ≡ record (moved s mid) { own = own_after s.life.kind s.own f } → z ≡ record (moved_with_call mid z) { own = own_ended mid.own f.0 } → z ≡ moved_with_call s z
 tries_same f s mid z b a e =
     e
-    ∙ ap (λ (x : StateOf). record (called mid z) { own = own_ended x.own f.0 }) a
-    ∙ ap (λ (x : Option Frame). record (called mid z) { own = x }) (own_back s.life.kind s.own f b.access b.done)
-    ∙ ap (λ (x : StateOf). record (called x z) { own = s.own }) a
+    ∙ ap (λ (x : StateOf). record (moved_with_call mid z) { own = own_ended x.own f.0 }) a
+    ∙ ap (λ (x : Option Frame). record (moved_with_call mid z) { own = x }) (own_back s.life.kind s.own f b.access b.done)
+    ∙ ap (λ (x : StateOf). record (moved_with_call x z) { own = s.own }) a
 
 -- ---- what stays
 
 -- the kind, the machine and the line's own request stay in a search
-pub begun_then : (s z : StateOf) → Begun s → z.life.kind ≡ s.life.kind → z.life.flight ≡ s.life.flight → z.life.machine ≡ s.life.machine → z ≡ called s z → Begun z
+pub begun_then : (s z : StateOf) → IsUnderWay s → z.life.kind ≡ s.life.kind → z.life.flight ≡ s.life.flight → z.life.machine ≡ s.life.machine → z ≡ moved_with_call s z → IsUnderWay z
 begun_then s z b k q m same = record {
   access = ap is_access k ∙ b.access;
   few =
@@ -136,10 +136,10 @@ begun_then s z b k q m same = record {
   done = ap (λ (t : StateOf). t.own) same ∙ b.done;
 }
 
-called_then : (s y z : StateOf) → y ≡ called s y → z ≡ called y z → z ≡ called s z
-called_then s y z p q = q ∙ (λ i. called (p i) z)
+called_then : (s y z : StateOf) → y ≡ moved_with_call s y → z ≡ moved_with_call y z → z ≡ moved_with_call s z
+called_then s y z p q = q ∙ (λ i. moved_with_call (p i) z)
 
-pub moved_called : (s z : StateOf) → z ≡ moved s z → z ≡ called s z
+pub moved_called : (s z : StateOf) → z ≡ moved s z → z ≡ moved_with_call s z
 moved_called s z e = e ∙ (λ i. record (moved s z) {
   paging = ap (λ (t : StateOf). t.paging) (sym e) i;
   files = ap (λ (t : StateOf). t.files) (sym e) i;
@@ -195,7 +195,7 @@ module _ (pin : Option Frame) (s z : StateOf) (moves : List Move) (k : Seeks pin
 
   -- a write that failed: the search goes on
   module _ (y : StateOf) (tries : Tries f false z y) (stays : Stays z y) (target : (g : Frame) → pin ≡ Some g → 1 ≤ (record_at y.life.frames g.0).shares) (short : is_short y.life ≡ true) where
-    made_two : Does (failed_write f tries.home) z y
+    made_two : DoesMoves (failed_write f tries.home) z y
     made_two = does_two (move.Write f tries.home) (move.Lost f) z tries.mid y tries.begins tries.ends
 
     pub seeks_failed : 0 < y.told.search_writes.failed → y.told.search_writes.succeeded ≡ z.told.search_writes.succeeded → y.told.last_failed_read ≡ z.told.last_failed_read
@@ -313,7 +313,7 @@ module _ (pin : Option Frame) (s z y : StateOf) (moves : List Move) (k : Seeks p
 
 -- ---- the ends
 
-same_called : (s : StateOf) → s ≡ called s s
+same_called : (s : StateOf) → s ≡ moved_with_call s s
 same_called s = refl
 
 pub found_at_once : (pin : Option Frame) (s : StateOf) → is_short s.life ≡ false → Searched pin true s s

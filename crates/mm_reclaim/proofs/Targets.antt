@@ -30,13 +30,13 @@ use Rattle.mm_frame_laws.proofs.Writing.{which_writes, store_there, wrote_legal,
 use Rattle.mm_parts.specs.Moves.{goes_to, lowest_free, write_target}
 use Rattle.mm_parts.proofs.Requesting.{lowest_is as lowest_number}
 use Rattle.mm_moving.specs.Shown.{StateOf, Made}
-use Rattle.mm_moving.specs.Holds.{Holds}
-use Rattle.mm_reclaim.specs.Seeking.{Begun}
+use Rattle.mm_moving.specs.Holds.{StateHolds}
+use Rattle.mm_reclaim.specs.Seeking.{IsUnderWay}
 
 lt_prop : (a b : ℕ) → IsProp (a < b)
 lt_prop a b = hlevel props
 
-pub modified_low : (s : StateOf) → Holds s → (f : ℕ) → is_on f s.life.frames.modified ≡ true → f < s.life.machine.frames
+pub modified_low : (s : StateOf) → StateHolds s → (f : ℕ) → is_on f s.life.frames.modified ≡ true → f < s.life.machine.frames
 modified_low s h f on = ∥∥₁_elim h.reached (lt_prop f s.life.machine.frames) (λ r.
     let low = (modified_frame s.life (reached_sound s.life r) f on).low in
     let size = (reached_sound s.life r).framed in
@@ -50,14 +50,14 @@ none_free (suc n) = ap not (by (suc n == 0) refl) ∙ sym (lt-ltb 0 (suc n) (ome
     by false e = refl
     by true e = let none = eqb-true (suc n) 0 e in absurd (omega (arith, none))
 
-pub writable_is : (s : StateOf) → Holds s → (f : ℕ) → is_on f s.life.frames.modified ≡ true → (n : ℕ) → n ≡ count_by (λ b. b) s.life.free_slots
+pub writable_is : (s : StateOf) → StateHolds s → (f : ℕ) → is_on f s.life.frames.modified ≡ true → (n : ℕ) → n ≡ count_by (λ b. b) s.life.free_slots
     → (is_some (block_of (record_at s.life.frames f).backing) || not (n == 0)) ≡ can_be_written s.life f
 writable_is s h f on n e = ∥∥₁_elim h.reached (Bool-set _ _) (λ r.
     ap (λ b. is_some (block_of (record_at s.life.frames f).backing) || b) (none_free n ∙ ap (nat_lt 0) e ∙ free_counted s.life.free_slots)
     ∙ sym (which_writes s.life (reached_sound s.life r) f on))
 
 -- a frame is modified where its record says so
-pub modified_is : (s : StateOf) → Holds s → (f : ℕ) → (is_some (record_at s.life.frames f).owner && (((record_at s.life.frames f).shares == 0) && not (has_request (record_at s.life.frames f).request) && (record_at s.life.frames f).changed)) ≡ is_on f s.life.frames.modified
+pub modified_is : (s : StateOf) → StateHolds s → (f : ℕ) → (is_some (record_at s.life.frames f).owner && (((record_at s.life.frames f).shares == 0) && not (has_request (record_at s.life.frames f).request) && (record_at s.life.frames f).changed)) ≡ is_on f s.life.frames.modified
 modified_is s h f = ∥∥₁_elim h.reached (Bool-set _ _) (λ r. by ((reached_sound s.life r).standing f).modified)
   where
     test : Bool
@@ -84,13 +84,13 @@ target_is l s f on (stored.Slot t) legal =
     ap (λ (n : ℕ). stored.Slot (record { 0 = n })) low ∙ sym (ap (λ (b : Backing). goes_to b (lowest_free l.free_slots)) none)
 target_is l s f on (stored.Block b) legal = sym (ap (λ (x : Backing). goes_to x (lowest_free l.free_slots)) (block_is l s f on b legal))
 
-pub target_legal : (s : StateOf) → Holds s → Begun s → (f : Frame) → Writable s.life f.0 → IsLegal (move.Write f (write_target s.life f)) s.life
+pub target_legal : (s : StateOf) → StateHolds s → IsUnderWay s → (f : Frame) → Writable s.life f.0 → IsLegal (move.Write f (write_target s.life f)) s.life
 target_legal s h b f w = ∥∥₁_elim h.reached (Bool-set _ _) (λ r.
     let sound = reached_sound s.life r in
     let there = store_there s.life sound f w.modified b.access w.can in
     subst (λ (x : Stored). IsLegal (move.Write f x) s.life) (target_is s.life sound f w.modified there.0 there.1) there.1)
 
-pub end_legal : (s : StateOf) → Holds s → Begun s → (f : Frame) → Writable s.life f.0 → (home : Stored) (m : StateOf) → Made (move.Write f home) s m → IsLegal (move.Wrote f) m.life
+pub end_legal : (s : StateOf) → StateHolds s → IsUnderWay s → (f : Frame) → Writable s.life f.0 → (home : Stored) (m : StateOf) → Made (move.Write f home) s m → IsLegal (move.Wrote f) m.life
 end_legal s h b f w home m made = subst (λ (l : FrameLife). IsLegal (move.Wrote f) l) (sym made.life) (∥∥₁_elim h.reached (Bool-set _ _) (λ r. wrote_legal s.life (reached_sound s.life r) f w.modified home b.access))
 
 -- a frame that can be written, of the modified ones

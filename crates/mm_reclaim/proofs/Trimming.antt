@@ -25,13 +25,13 @@ use Rattle.mm_laws.proofs.PlaceCounts.{same_place-self}
 use Rattle.mm_life.specs.Chores.{TrimMove, spare_of}
 use Rattle.mm_life.specs.Order.{Ages, IsOldest}
 use Rattle.mm_life.specs.Walks.{Walk, Through, walked, walked_all}
-use Rattle.mm_frame_laws.specs.Order.{IsNext, NoneFollows}
+use Rattle.mm_frame_laws.specs.Order.{IsNextPage, NoPageFollows}
 use Rattle.mm_frame_laws.proofs.Going.{next_oldest, all_go}
 use Rattle.mm_frame_laws.proofs.Unmapping.{sized}
-use Rattle.mm_words.specs.Words.{place_of}
+use Rattle.mm_words.specs.Words.{place_from}
 use Rattle.mm_moving.specs.Shown.{StateOf, Made, moved}
-use Rattle.mm_moving.specs.Doing.{Does, walk_of}
-use Rattle.mm_moving.specs.Holds.{Holds}
+use Rattle.mm_moving.specs.Doing.{DoesMoves, walk_of}
+use Rattle.mm_moving.specs.Holds.{StateHolds}
 use Rattle.mm_moving.proofs.Doing.{does_nothing, does_then, does_one, walked_here}
 use Rattle.mm_reclaim.specs.Chores.{TrimsOne, UnmapsOldest, Trimmed, TrimsTo}
 use Rattle.mm_reclaim.proofs.Chained.{moved_then}
@@ -45,22 +45,22 @@ second_of true b c d e h = refl
 second_of false true c d e h = refl
 second_of false false c d e h = cc
 
-pub trim_legal : (l : FrameLife) (pid : Pid) (v : Vpn) → l.kind ≡ kind.Trim pid → is_above_min (set_of l pid.0) ≡ true → is_some (l.valid (place_of pid v)) ≡ true → IsLegal (move.Unmap (place_of pid v)) l
-trim_legal l pid v k above = at (l.valid (place_of pid v))
+pub trim_legal : (l : FrameLife) (pid : Pid) (v : Vpn) → l.kind ≡ kind.Trim pid → is_above_min (set_of l pid.0) ≡ true → is_some (l.valid (place_from pid v)) ≡ true → IsLegal (move.Unmap (place_from pid v)) l
+trim_legal l pid v k above = at (l.valid (place_from pid v))
   where
-    may : (r : Record) → may_unmap l (place_of pid v) r ≡ true
+    may : (r : Record) → may_unmap l (place_from pid v) r ≡ true
     may r = second_of _ (trims pid.0 l.kind && is_above_min (set_of l pid.0)) _ _ _ (and_from (trims pid.0 l.kind) (is_above_min (set_of l pid.0)) (ap (trims pid.0) k ∙ (unsigned_Decides pid.0 pid.0).1 refl) above)
 
-    at : (o : Option Frame) → is_some o ≡ true → unwrap_or (option_map (λ f. may_unmap l (place_of pid v) (record_at l.frames f.0)) o) false ≡ true
+    at : (o : Option Frame) → is_some o ≡ true → unwrap_or (option_map (λ f. may_unmap l (place_from pid v) (record_at l.frames f.0)) o) false ≡ true
     at None h = cc
     at (Some f) h = may (record_at l.frames f.0)
 
-pub unmaps : (pid : Pid) (v : Vpn) (s z : StateOf) → is_above_min (set_of s.life pid.0) ≡ true → IsNext s.life s.ages None (place_of pid v) → Made (move.Unmap (place_of pid v)) s z → z ≡ moved s z → TrimsOne pid true s z
+pub unmaps : (pid : Pid) (v : Vpn) (s z : StateOf) → is_above_min (set_of s.life pid.0) ≡ true → IsNextPage s.life s.ages None (place_from pid v) → Made (move.Unmap (place_from pid v)) s z → z ≡ moved s z → TrimsOne pid true s z
 unmaps pid v s z above next m same = record {
-  place = place_of pid v;
+  place = place_from pid v;
   its = refl;
   above = above;
-  oldest = next_oldest s.life s.ages None None (place_of pid v) (λ q e g. tt) next (all_go s.life (place_of pid v) ∙ next.valid);
+  oldest = next_oldest s.life s.ages None None (place_from pid v) (λ q e g. tt) next (all_go s.life (place_from pid v) ∙ next.valid);
   made = m;
   same = same;
 }
@@ -85,7 +85,7 @@ none_of pid valid (x ∷ xs) once none = at (x.pid.0 == pid) refl (none_of pid v
     at true e rest = absurd (none x ((unsigned_Decides x.pid.0 pid).0 e) here)
     at false e rest = omega (arith, rest)
 
-pub some_page : (s : StateOf) (pid : Pid) → Holds s → is_above_min (set_of s.life pid.0) ≡ true → NoneFollows s.life s.ages pid.0 None → ⊥
+pub some_page : (s : StateOf) (pid : Pid) → StateHolds s → is_above_min (set_of s.life pid.0) ≡ true → NoPageFollows s.life s.ages pid.0 None → ⊥
 some_page s pid h above none = ∥∥₁_elim h.reached empty_prop (λ r. by (reached_sound s.life r))
   where
     by : Sound s.life → ⊥
@@ -147,7 +147,7 @@ through_more pid [] w x t h = (h, tt)
 through_more pid (m ∷ ms) w x t h = (alone pid w m ms (ms ++ x ∷ []) t.0, through_more pid ms (walked w m) x t.1 h)
 
 -- where the walk has come to, the place is the oldest
-oldest_here : (pid : Pid) (ms : List Move) (s y z : StateOf) → Does ms s y → (u : UnmapsOldest pid y z) → TrimMove pid (walked_all (walk_of s) ms) (move.Unmap u.place) []
+oldest_here : (pid : Pid) (ms : List Move) (s y z : StateOf) → DoesMoves ms s y → (u : UnmapsOldest pid y z) → TrimMove pid (walked_all (walk_of s) ms) (move.Unmap u.place) []
 oldest_here pid ms s y z d u =
     subst (λ (w : Walk). (u.place.pid ≡ pid) × (is_above_min (set_of w.life pid.0) ≡ true) × IsOldest w.life w.ages None u.place) (sym (walked_here ms s y d)) (u.its, u.above, u.oldest)
 

@@ -28,10 +28,10 @@ use Rattle.mm_frame_laws.proofs.Unmapping.{unmapped}
 use Rattle.mm_frame_laws.proofs.Writing.{unmap_legal, failed}
 use Rattle.mm_frame_laws.proofs.Turns.{turns_end}
 use Rattle.mm_moving.specs.Shown.{StateOf, Made, moved}
-use Rattle.mm_moving.specs.Holds.{Holds}
+use Rattle.mm_moving.specs.Holds.{StateHolds}
 use Rattle.mm_moving.specs.Doing.{Searched, walk_of}
-use Rattle.mm_reclaim.specs.Seeking.{Begun, Tries, Over, Wrote, Seeks, Seeking, SoughtTo}
-use Rattle.mm_reclaim.specs.Searching.{AfterUnmap, Freed, Unchanged, Changed, Turned}
+use Rattle.mm_reclaim.specs.Seeking.{IsUnderWay, Tries, Over, Wrote, Seeks, Seeking, SoughtTo}
+use Rattle.mm_reclaim.specs.Searching.{AfterUnmap, Freed, Unchanged, Changed, TookVictim}
 use Rattle.mm_reclaim.proofs.Steps.{Target, Stays, begun_then, moved_called, seeks_unmapped, unmapped_found, starves}
 use Rattle.mm_reclaim.proofs.Trying.{target_of, failed_on, wrote_on, two_life}
 use Rattle.mm_reclaim.proofs.Phases.{none_left, turn_over, tries_now, turn_lost}
@@ -40,14 +40,14 @@ use Rattle.mm_reclaim.proofs.Props.{empty_prop, next_set, nat_set}
 le_prop : (a b : ℕ) → IsProp (a ≤ b)
 le_prop a b = hlevel props
 
-pub may_unmap : (s : StateOf) (place : Place) (f : Frame) → Begun s → is_short s.life ≡ true → s.life.valid place ≡ Some f → IsLegal (move.Unmap place) s.life
+pub may_unmap : (s : StateOf) (place : Place) (f : Frame) → IsUnderWay s → is_short s.life ≡ true → s.life.valid place ≡ Some f → IsLegal (move.Unmap place) s.life
 may_unmap s place f begun short there = unmap_legal s.life place f begun.access short there
 
 pub goes_some : (l : FrameLife) (pinned : Option Frame) (place : Place) → may_go l pinned place ≡ true → l.valid place ≡ None → ⊥
 goes_some l pinned place goes none = let bad : false ≡ true = sym (ap (is_unpinned pinned) none) ∙ goes in cc
 
 -- a page that may go is of a bound place
-pub goes_bound : (s : StateOf) → Holds s → (pinned : Option Frame) (place : Place) → may_go s.life pinned place ≡ true → s.bound place ≡ true
+pub goes_bound : (s : StateOf) → StateHolds s → (pinned : Option Frame) (place : Place) → may_go s.life pinned place ≡ true → s.bound place ≡ true
 goes_bound s h pinned place goes = at (s.life.valid place) refl
   where
     at : (o : Option Frame) → s.life.valid place ≡ o → s.bound place ≡ true
@@ -67,13 +67,13 @@ module _ (s m : StateOf) (place : Place) (f : Frame) (there : s.life.valid place
     flight = ap (λ (l : FrameLife). l.flight) life_is;
   }
 
-  pub begun_after : Begun s → m ≡ moved s m → Begun m
+  pub begun_after : IsUnderWay s → m ≡ moved s m → IsUnderWay m
   begun_after begun rest = begun_then s m begun stays.kind stays.flight stays.machine (moved_called s m rest)
 
-  pub low_after : Holds s → f.0 < m.life.machine.frames
+  pub low_after : StateHolds s → f.0 < m.life.machine.frames
   low_after h = subst (λ (k : MachineOf). f.0 < k.frames) (sym stays.machine) (h.low place f there)
 
-  module _ (h : Holds s) where
+  module _ (h : StateHolds s) where
     unmapped_here : Reached s.life → Unmapped s.life m.life place f.0
     unmapped_here r = subst (λ (l : FrameLife). Unmapped s.life l place f.0) (sym made.life) (unmapped s.life (reached_sound s.life r) place f there)
 
@@ -96,9 +96,9 @@ module _ (s m : StateOf) (place : Place) (f : Frame) (there : s.life.valid place
 
 -- ---- one turn
 
-module _ (s z : StateOf) (place : Place) (f : Frame) (h : Holds s) (there : s.life.valid place ≡ Some f) where
+module _ (s z : StateOf) (place : Place) (f : Frame) (h : StateHolds s) (there : s.life.valid place ≡ Some f) where
   -- one place fewer is valid
-  pub turn_fewer : Turned place f false s z → valid_places z.life + 1 ≡ valid_places s.life
+  pub turn_fewer : TookVictim place f false s z → valid_places z.life + 1 ≡ valid_places s.life
   turn_fewer t = at t.after
     where
       fewer : valid_places t.mid.life + 1 ≡ valid_places s.life
@@ -112,7 +112,7 @@ module _ (s z : StateOf) (place : Place) (f : Frame) (h : Holds s) (there : s.li
           (λ r. ap (λ (k : FrameLife). valid_places k + 1) (two_life f t.mid z w ∙ failed t.mid.life (reached_sound t.mid.life r) f on w.home w.begins.legal) ∙ fewer)
 
 -- a turn of a search that has made these moves
-module _ (pin : Option Frame) (s z y : StateOf) (place : Place) (f : Frame) (start : Holds s) (h : Holds z) (k : Seeking pin s z) (victim : IsVictim z.life z.ages pin place) (there : z.life.valid place ≡ Some f) where
+module _ (pin : Option Frame) (s z y : StateOf) (place : Place) (f : Frame) (start : StateHolds s) (h : StateHolds z) (k : Seeking pin s z) (victim : IsVictim z.life z.ages pin place) (there : z.life.valid place ≡ Some f) where
   none_to_try : next_try z.life k.moves ≡ None
   none_to_try = ∥∥₁_elim start.reached (next_set (next_try z.life k.moves) None) (λ r. none_left s.life z.life k.moves (reached_sound s.life r) (k.to r))
 
@@ -169,16 +169,16 @@ module _ (pin : Option Frame) (s z y : StateOf) (place : Place) (f : Frame) (sta
     on_true (Changed short on (Wrote can t)) = wrote_on pin s m y more (seeks_now short) f (reached_after z m place f there made h) (target short on can) t
 
   -- no frame came of it, and one did
-  pub turn_on : Turned place f false z y → Seeking pin s y
+  pub turn_on : TookVictim place f false z y → Seeking pin s y
   turn_on t = on_false t.mid t.unmaps t.rest t.after
 
-  pub turn_found : Turned place f true z y → Searched pin true s y
+  pub turn_found : TookVictim place f true z y → Searched pin true s y
   turn_found t = on_true t.mid t.unmaps t.rest t.after
 
 -- ---- the end
 
 -- where no page may go, a write of this search failed
-module _ (pin : Option Frame) (s z : StateOf) (start : Holds s) (k : Seeking pin s z) (none : NoneMayGo z.life pin) where
+module _ (pin : Option Frame) (s z : StateOf) (start : StateHolds s) (k : Seeking pin s z) (none : NoneMayGo z.life pin) where
   abbrev tried : List ℕ
   tried = (walked_all (walk_of s) k.moves).tried
 

@@ -9,17 +9,17 @@ use Rattle.mm_life.specs.Legal.{is_short}
 use Rattle.mm_frame_laws.specs.Room.{Writable}
 use Rattle.mm_frame_laws.specs.Searches.{failed_write, next_try}
 use Rattle.mm_moving.specs.Shown.{StateOf}
-use Rattle.mm_moving.specs.Holds.{Holds}
+use Rattle.mm_moving.specs.Holds.{StateHolds}
 use Rattle.mm_moving.specs.Doing.{Searched}
 use Rattle.mm_moving.proofs.Doing.{does_nothing}
-use Rattle.mm_reclaim.specs.Seeking.{Begun, Tries, Seeks, Walks, Seeking, writable_modified}
+use Rattle.mm_reclaim.specs.Seeking.{IsUnderWay, Tries, Seeks, Walks, Seeking, writable_modified}
 use Rattle.mm_reclaim.proofs.Steps.{Target}
 use Rattle.mm_reclaim.proofs.Trying.{target_of, failed_on, wrote_on, two_life}
 use Rattle.mm_reclaim.proofs.Phases.{walk_start, walk_done, not_none, on_list, can, tries, walk_lost}
 use Rattle.mm_reclaim.proofs.Props.{empty_prop, next_set}
 
 -- a search that has made no move
-seeks_begins : (pin : Option Frame) (s : StateOf) → Begun s → ((f : Frame) → pin ≡ Some f → 1 ≤ (record_at s.life.frames f.0).shares) → is_short s.life ≡ true → Seeks pin s s []
+seeks_begins : (pin : Option Frame) (s : StateOf) → IsUnderWay s → ((f : Frame) → pin ≡ Some f → 1 ≤ (record_at s.life.frames f.0).shares) → is_short s.life ≡ true → Seeks pin s s []
 seeks_begins pin s begun pinned short = record {
   does = does_nothing s;
   each = λ flight of. tt;
@@ -37,7 +37,7 @@ seeks_begins pin s begun pinned short = record {
   flight = refl;
 }
 
-pub walk_begins : (pin : Option Frame) (s : StateOf) (n : ℕ) → Begun s → ((f : Frame) → pin ≡ Some f → 1 ≤ (record_at s.life.frames f.0).shares) → is_short s.life ≡ true
+pub walk_begins : (pin : Option Frame) (s : StateOf) (n : ℕ) → IsUnderWay s → ((f : Frame) → pin ≡ Some f → 1 ≤ (record_at s.life.frames f.0).shares) → is_short s.life ≡ true
     → n ≡ length (writable_modified s.life) → Walks pin s s n 0
 walk_begins pin s n begun pinned short count = record {
   moves = [];
@@ -46,14 +46,14 @@ walk_begins pin s n begun pinned short count = record {
 }
 
 -- no modified frame is left
-pub walk_ends : (pin : Option Frame) (s z : StateOf) (n i : ℕ) → Begun s → is_short s.life ≡ true → n ≤ i → Walks pin s z n i → Seeking pin s z
+pub walk_ends : (pin : Option Frame) (s z : StateOf) (n i : ℕ) → IsUnderWay s → is_short s.life ≡ true → n ≤ i → Walks pin s z n i → Seeking pin s z
 walk_ends pin s z n i begun short end w = record {
   moves = w.moves;
   seeks = w.seeks;
   to = λ r. walk_done s.life z.life w.moves n i end r w.seeks.does.replays begun.access short begun.few (w.to r);
 }
 
-module _ (pin : Option Frame) (s z : StateOf) (n i : ℕ) (start : Holds s) (w : Walks pin s z n i) (low : i < n) where
+module _ (pin : Option Frame) (s z : StateOf) (n i : ℕ) (start : StateHolds s) (w : Walks pin s z n i) (low : i < n) where
   -- there is one while the walk goes on
   pub some_front : None ≡ slice_get (writable_modified z.life) 0 → ⊥
   some_front e = ∥∥₁_elim start.reached empty_prop (λ r. not_none s.life z.life w.moves n i (w.to r) r w.seeks.does.replays low e)
@@ -68,7 +68,7 @@ module _ (pin : Option Frame) (s z : StateOf) (n i : ℕ) (start : Holds s) (w :
       can = ∥∥₁_elim start.reached (Bool-set _ _) (λ r. can s.life z.life w.moves n i (w.to r) r w.seeks.does.replays low f is_front);
     }
 
-    module _ (here : Holds z) (y : StateOf) where
+    module _ (here : StateHolds z) (y : StateOf) where
       target : Target pin z w.moves f
       target = target_of pin z w.moves f here.reached modified_here
           (∥∥₁_elim start.reached (next_set (next_try z.life w.moves) (Some f.0)) (λ r. tries s.life z.life w.moves n i (w.to r) r w.seeks.does.replays low f is_front))

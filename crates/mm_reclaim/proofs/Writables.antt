@@ -10,7 +10,7 @@ use Rattle.mm_life.specs.Victims.{can_be_written}
 use Rattle.mm_laws.specs.FileBlocks.{block_of}
 use Rattle.mm_frames.specs.Base.{has_block, modified_with_block}
 use Rattle.mm_moving.specs.Shown.{StateOf}
-use Rattle.mm_moving.specs.Holds.{Holds}
+use Rattle.mm_moving.specs.Holds.{StateHolds}
 use Rattle.mm_reclaim.specs.Seeking.{writable_modified}
 use Rattle.mm_reclaim.proofs.Targets.{writable_is}
 
@@ -105,7 +105,7 @@ or_false : (a b : Bool) → b ≡ false → (a || b) ≡ a
 or_false true b e = refl
 or_false false b e = e
 
-module _ (s : StateOf) (h : Holds s) (n : ℕ) (counted : n ≡ count_by (λ b. b) s.life.free_slots) where
+module _ (s : StateOf) (h : StateHolds s) (n : ℕ) (counted : n ≡ count_by (λ b. b) s.life.free_slots) where
   pub all_writable : not (n == 0) ≡ true → writable_modified s.life ≡ s.life.frames.modified
   all_writable some = filter_all (can_be_written s.life) s.life.frames.modified
       (λ f on. sym (writable_is s h f on n counted) ∙ or_right (is_some (block_of (record_at s.life.frames f).backing)) (not (n == 0)) some)

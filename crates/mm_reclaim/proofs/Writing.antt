@@ -34,7 +34,7 @@ use Rattle.mm_frame_laws.specs.Searches.{first_passing}
 use Rattle.mm_frame_laws.proofs.Writing.{which_writes, store_in_writer, write_others}
 use Rattle.mm_parts.specs.Moves.{goes_to, lowest_free, write_target, own_after}
 use Rattle.mm_moving.specs.Shown.{StateOf, Made, moved}
-use Rattle.mm_moving.specs.Holds.{Holds}
+use Rattle.mm_moving.specs.Holds.{StateHolds}
 use Rattle.mm_reclaim.specs.Chores.{Rounds, writings}
 use Rattle.mm_reclaim.proofs.Targets.{target_is}
 use Rattle.mm_types.proofs.Booleans.{or_false}
@@ -98,7 +98,7 @@ none_free free n e none = sym (free_counted free) ∙ ap (nat_lt 0) (sym e ∙ n
 pub first_of_all : (l : FrameLife) (n : ℕ) → n ≡ count_by (λ b. b) l.free_slots → n ≢ 0 → first_passing (can_be_written l) l.frames.modified ≡ slice_get l.frames.modified 0
 first_of_all l n e some = first_any (can_be_written l) l.frames.modified (λ x. or_right (owner_is (λ k. not (l.paging k)) (record_at l.frames x)) (list_any (λ b. b) l.free_slots) (any_free l.free_slots n e some))
 
-pub first_with_block : (s : StateOf) (n : ℕ) → Holds s → n ≡ count_by (λ b. b) s.life.free_slots → n ≡ 0 → first_passing (can_be_written s.life) s.life.frames.modified ≡ slice_get (modified_with_block s.life.frames) 0
+pub first_with_block : (s : StateOf) (n : ℕ) → StateHolds s → n ≡ count_by (λ b. b) s.life.free_slots → n ≡ 0 → first_passing (can_be_written s.life) s.life.frames.modified ≡ slice_get (modified_with_block s.life.frames) 0
 first_with_block s n h e none = first_filtered (can_be_written s.life) (λ f. has_block (record_at s.life.frames f).backing) s.life.frames.modified (λ x on.
     ∥∥₁_elim h.reached (Bool-set _ _) (λ r. which_writes s.life (reached_sound s.life r) x on)
     ∙ ap (λ b. is_some (block_of (record_at s.life.frames x).backing) || b) (none_free s.life.free_slots n e none)
@@ -106,7 +106,7 @@ first_with_block s n h e none = first_filtered (can_be_written s.life) (λ f. ha
 
 -- ---- where it is written to
 
-pub writer_legal : (s : StateOf) (f : Frame) → Holds s → s.life.kind ≡ kind.Writer → has_depth s.life ≡ true → first_passing (can_be_written s.life) s.life.frames.modified ≡ Some f.0 → IsLegal (move.Write f (write_target s.life f)) s.life
+pub writer_legal : (s : StateOf) (f : Frame) → StateHolds s → s.life.kind ≡ kind.Writer → has_depth s.life ≡ true → first_passing (can_be_written s.life) s.life.frames.modified ≡ Some f.0 → IsLegal (move.Write f (write_target s.life f)) s.life
 writer_legal s f h k depth first =
     let on = passing_on (can_be_written s.life) s.life.frames.modified f.0 first in
     let can = (split (can_be_written s.life) s.life.frames.modified f.0 first).here in
@@ -228,7 +228,7 @@ first_begun n l f fs depth can =
 
 -- ---- a round
 
-module _ (s z : StateOf) (f : Frame) (home : Stored) (h : Holds s) (depth : has_depth s.life ≡ true) (first : first_passing (can_be_written s.life) s.life.frames.modified ≡ Some f.0) (to : home ≡ write_target s.life f) (m : Made (move.Write f home) s z) where
+module _ (s z : StateOf) (f : Frame) (home : Stored) (h : StateHolds s) (depth : has_depth s.life ≡ true) (first : first_passing (can_be_written s.life) s.life.frames.modified ≡ Some f.0) (to : home ≡ write_target s.life f) (m : Made (move.Write f home) s z) where
   parts : Split (can_be_written s.life) s.life.frames.modified f.0
   parts = split (can_be_written s.life) s.life.frames.modified f.0 first
 

@@ -7,21 +7,21 @@ use Rattle.mm_types.specs.declared.numbers.Vpn.{Vpn}
 use Rattle.mm_types.specs.declared.numbers.Place.{Place}
 use Rattle.mm_life.specs.Life.{FrameLife}
 use Rattle.mm_life.specs.Order.{Ages, may_go}
-use Rattle.mm_words.specs.Words.{place_of}
+use Rattle.mm_words.specs.Words.{place_from}
 
 -- no page of the process may go
 abbrev pub NoneIn : FrameLife → Option Frame → ℕ → Type 0
 NoneIn l pinned pid = (q : Place) → q.pid.0 ≡ pid → may_go l pinned q ≡ false
 
 -- a page of the process that is valid, if one is given
-abbrev pub IsHeld : FrameLife → Pid → Option Vpn → Type 0
-IsHeld l pid None = Unit {0}
-IsHeld l pid (Some v) = is_some (l.valid (place_of pid v)) ≡ true
+abbrev pub IsValidPage : FrameLife → Pid → Option Vpn → Type 0
+IsValidPage l pid None = Unit {0}
+IsValidPage l pid (Some v) = is_some (l.valid (place_from pid v)) ≡ true
 
 -- the lower it is, the sooner the page goes
 abbrev pub rank : Ages → Pid → Option Vpn → ℕ
 rank ages pid None = 0
-rank ages pid (Some v) = 4294967296 * (7 - ages (place_of pid v)) + v.0 + 1
+rank ages pid (Some v) = 4294967296 * (7 - ages (place_from pid v)) + v.0 + 1
 
 abbrev pub IsLow : Option Vpn → Type 0
 IsLow None = Unit {0}

@@ -11,7 +11,7 @@ use Rattle.mm_life.specs.Chores.{TrimMove, spare_of, writes_begun}
 use Rattle.mm_life.specs.Order.{IsOldest}
 use Rattle.mm_life.specs.Walks.{Through}
 use Rattle.mm_moving.specs.Shown.{StateOf, Made, moved}
-use Rattle.mm_moving.specs.Doing.{Does, walk_of}
+use Rattle.mm_moving.specs.Doing.{DoesMoves, walk_of}
 
 -- ---- places of a process are unmapped
 
@@ -32,7 +32,7 @@ TrimsOne pid false s z = (is_above_min (set_of s.life pid.0) ≡ false) × (z �
 -- at most n of them, each the oldest at its move, down to the minimum
 pub record Trimmed (pid : Pid) (n : ℕ) (s z : StateOf) : Type 0 where
   pub moves : List Move
-  pub does : Does moves s z
+  pub does : DoesMoves moves s z
   pub each : Through (TrimMove pid) (walk_of s) moves
   pub count : length moves ≡ min n (spare_of (set_of s.life pid.0))
   pub same : z ≡ moved s z
@@ -40,7 +40,7 @@ pub record Trimmed (pid : Pid) (n : ℕ) (s z : StateOf) : Type 0 where
 -- the first i of them
 pub record TrimsTo (pid : Pid) (i : ℕ) (s z : StateOf) : Type 0 where
   pub moves : List Move
-  pub does : Does moves s z
+  pub does : DoesMoves moves s z
   pub each : Through (TrimMove pid) (walk_of s) moves
   pub count : length moves ≡ i
   pub spare : spare_of (set_of s.life pid.0) ≡ i + spare_of (set_of z.life pid.0)
@@ -69,7 +69,7 @@ Rounds chore false s z = ((n : ℕ) → chore n s.life ≡ []) × (z ≡ s)
 -- its first i moves
 pub record RoundsTo (chore : ℕ → FrameLife → List Move) (n i : ℕ) (s z : StateOf) : Type 0 where
   pub moves : List Move
-  pub does : Does moves s z
+  pub does : DoesMoves moves s z
   pub whole : chore n s.life ≡ moves ++ chore (n - i) z.life
   pub kind : z.life.kind ≡ s.life.kind
   pub same : z ≡ moved s z

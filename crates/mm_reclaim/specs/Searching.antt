@@ -13,10 +13,10 @@ use Rattle.mm_reclaim.specs.declared.searching.Found.TheVariants as found
 use Rattle.mm_reclaim.specs.Seeking.{Tried}
 
 -- the first of the lists that has a frame
-abbrev pub IsFirst : Found → FrameLife → Type 0
-IsFirst found.Zeroed l = is_empty l.frames.zeroed ≡ false
-IsFirst found.Free l = (is_empty l.frames.zeroed ≡ true) × (is_empty l.frames.free ≡ false)
-IsFirst found.Standby l = (is_empty l.frames.zeroed ≡ true) ×
+abbrev pub IsFirstList : Found → FrameLife → Type 0
+IsFirstList found.Zeroed l = is_empty l.frames.zeroed ≡ false
+IsFirstList found.Free l = (is_empty l.frames.zeroed ≡ true) × (is_empty l.frames.free ≡ false)
+IsFirstList found.Standby l = (is_empty l.frames.zeroed ≡ true) ×
     ((is_empty l.frames.free ≡ true) × (is_empty l.frames.standby ≡ false))
 
 -- after the unmap the lists have a frame, or the place's own frame is not modified, or it is and is
@@ -28,7 +28,7 @@ pub data AfterUnmap (f : Frame) (found : Bool) (m z : StateOf) : Type 0 where
   Changed : is_short m.life ≡ true → is_on f.0 m.life.frames.modified ≡ true → Tried f found m z →
       AfterUnmap f found m z
 
-pub record Turned (place : Place) (f : Frame) (found : Bool) (s z : StateOf) : Type 0 where
+pub record TookVictim (place : Place) (f : Frame) (found : Bool) (s z : StateOf) : Type 0 where
   pub mid : StateOf
   pub unmaps : Made (move.Unmap place) s mid
   pub rest : mid ≡ moved s mid

@@ -14,12 +14,12 @@ use Rattle.mm_life.specs.Searches.{SearchMove}
 use Rattle.mm_laws.specs.Reached.{Reached}
 use Rattle.mm_frame_laws.specs.Searches.{lost_in, Walking, Emptying}
 use Rattle.mm_parts.specs.Moves.{write_end}
-use Rattle.mm_moving.specs.Shown.{StateOf, Made, called, SomeFault}
-use Rattle.mm_moving.specs.Doing.{Does, walk_of, IsFlightOf}
+use Rattle.mm_moving.specs.Shown.{StateOf, Made, moved_with_call, SomeFault}
+use Rattle.mm_moving.specs.Doing.{DoesMoves, walk_of, IsFlightOf}
 
 -- a plain access is under way, without a request of its own, and at most depth requests are in
 -- flight
-pub record Begun (s : StateOf) : Type 0 where
+pub record IsUnderWay (s : StateOf) : Type 0 where
   pub access : is_access s.life.kind ≡ true
   pub few : length s.life.flight ≤ s.life.machine.depth
   pub done : s.own ≡ None
@@ -30,7 +30,7 @@ pub record Tries (f : Frame) (ok : Bool) (s z : StateOf) : Type 0 where
   pub mid : StateOf
   pub begins : Made (move.Write f home) s mid
   pub ends : Made (write_end ok f) mid z
-  pub same : z ≡ called s z
+  pub same : z ≡ moved_with_call s z
   pub fault : ok ≡ false → SomeFault s z
 
 -- a modified frame that cannot be written, or one write of it
@@ -41,7 +41,7 @@ pub data Tried (f : Frame) (ok : Bool) (s z : StateOf) : Type 0 where
 -- A search that has made these moves and has no frame yet: they are a search's, each failed write
 -- is told, and at most depth requests are in flight, those from before.
 pub record Seeks (pin : Option Frame) (s z : StateOf) (moves : List Move) : Type 0 where
-  pub does : Does moves s z
+  pub does : DoesMoves moves s z
   pub each : (flight : List ℕ) → IsFlightOf flight pin s.life →
       Through (SearchMove pin flight) (walk_of s) moves
   pub tried : (g : ℕ) → is_on g (walked_all (walk_of s) moves).tried ≡ lost_in moves g
@@ -51,8 +51,8 @@ pub record Seeks (pin : Option Frame) (s z : StateOf) (moves : List Move) : Type
   pub fault : (g : ℕ) → lost_in moves g ≡ true → SomeFault s z
   pub none : z.told.search_writes.succeeded ≡ s.told.search_writes.succeeded
   pub read : z.told.last_failed_read ≡ s.told.last_failed_read
-  pub same : z ≡ called s z
-  pub begun : Begun z
+  pub same : z ≡ moved_with_call s z
+  pub begun : IsUnderWay z
   pub pinned : (f : Frame) → pin ≡ Some f → 1 ≤ (record_at z.life.frames f.0).shares
   pub short : is_short z.life ≡ true
   pub flight : z.life.flight ≡ s.life.flight

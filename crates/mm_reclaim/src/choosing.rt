@@ -30,7 +30,6 @@ fn oldest_to_go<T: Moving>(state: &T, pinned: Option<Frame>, pid: Pid) -> Option
         (λ v. IsOldest (T.shown state.now).life (T.shown state.now).ages pinned v) }
     ensures of { ForSome result (λ v. v.pid ≡ pid) }
 {
-    state.sound();
     let mut after = None;
     'pages: loop {
         match state.oldest(pid, after) {
@@ -53,7 +52,6 @@ fn takes_over<T: Moving>(state: &T, pid: Pid, best: Option<Place>) -> bool
     requires best { ForSome best (λ v. (T.shown state.now).is_open v.pid.0 ≡ true) }
     ensures { result ≡ takes (T.shown state.now).life pid.0 best }
 {
-    state.sound();
     match best {
         None => true,
         Some(v) => state.is_above_min(pid) && !state.is_above_min(v.pid),
@@ -75,7 +73,6 @@ fn better<T: Moving>(
         result }
     ensures open { ForSome result (λ v. (T.shown state.now).is_open v.pid.0 ≡ true) }
 {
-    state.sound();
     if !state.is_open(pid) {
         return best;
     }
@@ -94,7 +91,6 @@ fn is_settled<T: Moving>(state: &T, best: Option<Place>) -> bool
     requires open { ForSome best (λ v. (T.shown state.now).is_open v.pid.0 ≡ true) }
     ensures { result ≡ true → (n : ℕ) → takes (T.shown state.now).life n best ≡ false }
 {
-    state.sound();
     match best {
         None => false,
         Some(v) => state.is_above_min(v.pid),
@@ -103,12 +99,11 @@ fn is_settled<T: Moving>(state: &T, best: Option<Place>) -> bool
 
 /// The page that a search unmaps: the oldest that may go in the first process that holds one, those
 /// above their minimum first, then the lowest pid. None exactly where no page may go.
-#[tactic(auto, using(crate::proofs::Bests::begins, crate::proofs::Bests::best_answer))]
+#[tactic(auto, using(crate::proofs::Bests::begins))]
 pub fn victim<T: Moving>(state: &T, pinned: Option<Frame>) -> Option<Place>
     ensures { MatchOption result (NoneMayGo (T.shown state.now).life pinned)
         (λ v. IsVictim (T.shown state.now).life (T.shown state.now).ages pinned v) }
 {
-    state.sound();
     let mut best = None;
     for n in 1..65 {
         best = better(state, pinned, Pid(n), best);

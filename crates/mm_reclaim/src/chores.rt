@@ -4,7 +4,7 @@ ghost use Rattle.mm_life.specs.Victims.{can_be_written as writable};
 ghost use Rattle.mm_life.specs.Chores.{clearings, writes_begun};
 ghost use Rattle.mm_frame_laws.specs.Searches.{first_passing};
 ghost use Rattle.mm_moving.specs.Shown.{moved};
-ghost use Rattle.mm_moving.specs.Doing.{Does};
+ghost use Rattle.mm_moving.specs.Doing.{DoesMoves};
 ghost use Rattle.mm_reclaim.specs.Chores.{TrimsOne, Trimmed, Rounds, writings};
 
 use mm_moving::Moving;
@@ -19,7 +19,6 @@ fn trim_one<T: Moving>(state: &mut T, pid: Pid) -> bool
     ensures trims { TrimsOne pid result (T.shown state.old) (T.shown state.new) }
     ensures loans { T.loans state.new ≡ T.loans state.old }
 {
-    state.sound();
     if !state.is_above_min(pid) {
         return false;
     }
@@ -66,7 +65,7 @@ fn clear_one<T: Moving>(state: &mut T) -> bool
 #[tactic(auto, using(crate::proofs::Chained::chain_none, crate::proofs::Chained::chain_more, crate::proofs::Chained::chain_over, crate::proofs::Chained::chain_all))]
 pub fn zero<T: Moving>(state: &mut T, n: u32)
     requires kind { (T.shown state.old).life.kind ≡ kind.Zeroer }
-    ensures cleared { Does (clearings n (T.shown state.old).life) (T.shown state.old)
+    ensures cleared { DoesMoves (clearings n (T.shown state.old).life) (T.shown state.old)
         (T.shown state.new) }
     ensures rest { T.shown state.new ≡ moved (T.shown state.old) (T.shown state.new) }
     ensures loans { T.loans state.new ≡ T.loans state.old }
@@ -85,7 +84,6 @@ fn first_to_write<T: Moving>(state: &T) -> Option<Frame>
     ensures { option_map (λ f. f.0) result ≡ first_passing (writable (T.shown state.now).life)
         (T.shown state.now).life.frames.modified }
 {
-    state.sound();
     if state.free_slots() != 0 {
         return state.front_modified();
     }
@@ -94,13 +92,12 @@ fn first_to_write<T: Moving>(state: &T) -> Option<Frame>
 
 /// The write of the first modified frame that can be written begins, while fewer requests than the
 /// depth are in flight. Answers whether it did.
-#[tactic(auto, using(crate::proofs::Writing::writer_legal, crate::proofs::Writing::writes, crate::proofs::Writing::writes_none, crate::proofs::Writing::writes_full))]
+#[tactic(auto, using(crate::proofs::Writing::writer_legal, crate::proofs::Writing::writes_none, crate::proofs::Writing::writes_full))]
 fn write_one<T: Moving>(state: &mut T) -> bool
     requires kind { (T.shown state.old).life.kind ≡ kind.Writer }
     ensures writes { Rounds writings result (T.shown state.old) (T.shown state.new) }
     ensures loans { T.loans state.new ≡ T.loans state.old }
 {
-    state.sound();
     if !state.has_depth() {
         return false;
     }
@@ -118,7 +115,7 @@ fn write_one<T: Moving>(state: &mut T) -> bool
 #[tactic(auto, using(crate::proofs::Chained::chain_none, crate::proofs::Chained::chain_more, crate::proofs::Chained::chain_over, crate::proofs::Chained::chain_all))]
 pub fn write_out<T: Moving>(state: &mut T, n: u32)
     requires kind { (T.shown state.old).life.kind ≡ kind.Writer }
-    ensures begun { Does (writes_begun n (T.shown state.old).life
+    ensures begun { DoesMoves (writes_begun n (T.shown state.old).life
         (T.shown state.old).life.frames.modified) (T.shown state.old) (T.shown state.new) }
     ensures rest { T.shown state.new ≡ moved (T.shown state.old) (T.shown state.new) }
     ensures loans { T.loans state.new ≡ T.loans state.old }

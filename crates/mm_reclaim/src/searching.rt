@@ -5,8 +5,8 @@ ghost use Rattle.mm_life.specs.Frames.{record_at, is_on, has_request};
 ghost use Rattle.mm_life.specs.Legal.{is_access, is_short as lists_are_empty};
 ghost use Rattle.mm_life.specs.Order.{may_go as goes};
 ghost use Rattle.mm_moving.specs.Doing.{Searched};
-ghost use Rattle.mm_reclaim.specs.Seeking.{Begun, Seeking, writable_modified};
-ghost use Rattle.mm_reclaim.specs.Searching.{IsFirst, Turned};
+ghost use Rattle.mm_reclaim.specs.Seeking.{IsUnderWay, Seeking, writable_modified};
+ghost use Rattle.mm_reclaim.specs.Searching.{IsFirstList, TookVictim};
 
 use crate::choosing::victim;
 use crate::seeking::{try_frame, write_frame};
@@ -58,7 +58,6 @@ fn is_modified<T: Moving>(state: &T, f: Frame) -> bool
     requires { f.0 < (T.shown state.now).life.machine.frames }
     ensures { result ≡ is_on f.0 (T.shown state.now).life.frames.modified }
 {
-    state.sound();
     let r = state.look(f);
     is_of_modified(&r)
 }
@@ -69,7 +68,6 @@ fn is_modified<T: Moving>(state: &T, f: Frame) -> bool
 fn writable_count<T: Moving>(state: &T) -> u32
     ensures { result ≡ length (writable_modified (T.shown state.now).life) }
 {
-    state.sound();
     if state.free_slots() != 0 {
         state.counts().modified
     } else {
@@ -83,7 +81,6 @@ fn first_writable<T: Moving>(state: &T) -> Option<Frame>
     ensures { option_map (λ f. f.0) result ≡ slice_get (writable_modified (T.shown state.now).life)
         0 }
 {
-    state.sound();
     if state.free_slots() != 0 {
         state.front_modified()
     } else {
@@ -94,7 +91,7 @@ fn first_writable<T: Moving>(state: &T) -> Option<Frame>
 /// Each modified frame that can be written is, from the front on, until a write succeeds: a frame
 /// whose write fails goes to the list's end. Answers whether one did.
 fn walk<T: Moving>(state: &mut T, pinned: Option<Frame>) -> bool
-    requires begun { Begun (T.shown state.old) }
+    requires begun { IsUnderWay (T.shown state.old) }
     requires short { lists_are_empty (T.shown state.old).life ≡ true }
     requires pinned { (f : Frame) → pinned ≡ Some f →
         1 ≤ (record_at (T.shown state.old).life.frames f.0).shares }
@@ -102,10 +99,8 @@ fn walk<T: Moving>(state: &mut T, pinned: Option<Frame>) -> bool
     ensures rest { OnFalse result (Seeking pinned (T.shown state.old) (T.shown state.new)) }
     ensures loans { T.loans state.new ≡ T.loans state.old }
 {
-    state.sound();
     let n = writable_count(state);
     for i in 0..n {
-        state.sound();
         match first_writable(state) {
             None => unreachable!(),
             Some(f) => {
@@ -121,13 +116,12 @@ fn walk<T: Moving>(state: &mut T, pinned: Option<Frame>) -> bool
 /// A page goes, and its frame is written where it can be. Answers whether there is a frame.
 #[tactic(auto, using(crate::proofs::Turning::may_unmap, crate::proofs::Turning::begun_after, crate::proofs::Turning::low_after))]
 fn turn<T: Moving>(state: &mut T, place: Place, f: Frame) -> bool
-    requires begun { Begun (T.shown state.old) }
+    requires begun { IsUnderWay (T.shown state.old) }
     requires short { lists_are_empty (T.shown state.old).life ≡ true }
     requires there { (T.shown state.old).life.valid place ≡ Some f }
-    ensures turned { Turned place f result (T.shown state.old) (T.shown state.new) }
+    ensures turned { TookVictim place f result (T.shown state.old) (T.shown state.new) }
     ensures loans { T.loans state.new ≡ T.loans state.old }
 {
-    state.sound();
     state.unmap(place);
     if !is_short(state) {
         return true;
@@ -144,7 +138,6 @@ fn frame_of<T: Moving>(state: &T, pinned: Option<Frame>, place: Place) -> Frame
     requires { goes (T.shown state.now).life pinned place ≡ true }
     ensures { (T.shown state.now).life.valid place ≡ Some result }
 {
-    state.sound();
     match state.valid(place) {
         None => unreachable!(),
         Some(f) => f,
@@ -154,7 +147,7 @@ fn frame_of<T: Moving>(state: &T, pinned: Option<Frame>, place: Place) -> Frame
 /// The first list that has a frame.
 fn first_list<T: Moving>(state: &T) -> Found
     requires { lists_are_empty (T.shown state.now).life ≡ false }
-    ensures { IsFirst result (T.shown state.now).life }
+    ensures { IsFirstList result (T.shown state.now).life }
 {
     if !state.no_zeroed() {
         return Found::Zeroed;
@@ -167,13 +160,12 @@ fn first_list<T: Moving>(state: &T) -> Found
 
 /// The modified list and then pages are gone through until there is a frame.
 fn search<T: Moving>(state: &mut T, pinned: Option<Frame>) -> bool
-    requires begun { Begun (T.shown state.old) }
+    requires begun { IsUnderWay (T.shown state.old) }
     requires pinned { (f : Frame) → pinned ≡ Some f →
         1 ≤ (record_at (T.shown state.old).life.frames f.0).shares }
     ensures searched { Searched pinned result (T.shown state.old) (T.shown state.new) }
     ensures loans { T.loans state.new ≡ T.loans state.old }
 {
-    state.sound();
     if !is_short(state) {
         return true;
     }
@@ -181,7 +173,6 @@ fn search<T: Moving>(state: &mut T, pinned: Option<Frame>) -> bool
         return true;
     }
     'turns: loop {
-        state.sound();
         match victim(state, pinned) {
             None => return false,
             Some(place) => {
@@ -208,7 +199,7 @@ pub fn find_frame<T: Moving>(state: &mut T, pinned: Option<Frame>) -> Result<Fou
         1 ≤ (record_at (T.shown state.old).life.frames f.0).shares }
     requires done { (T.shown state.old).own ≡ None }
     ensures searched { Searched pinned (is_ok result) (T.shown state.old) (T.shown state.new) }
-    ensures first { IfOk result (λ found. IsFirst found (T.shown state.new).life) }
+    ensures first { IfOk result (λ found. IsFirstList found (T.shown state.new).life) }
     ensures loans { T.loans state.new ≡ T.loans state.old }
 {
     if !search(state, pinned) {

@@ -3,7 +3,7 @@ ghost use Rattle.mm_life.specs.Frames.{is_on};
 ghost use Rattle.mm_life.specs.Victims.{can_be_written as writable};
 ghost use Rattle.mm_laws.specs.FileBlocks.{block_of};
 ghost use Rattle.mm_frame_laws.specs.Room.{Writable};
-ghost use Rattle.mm_reclaim.specs.Seeking.{Begun, Tries, Tried};
+ghost use Rattle.mm_reclaim.specs.Seeking.{IsUnderWay, Tries, Tried};
 
 use mm_moving::Moving;
 use mm_types::{Backing, Frame};
@@ -24,7 +24,6 @@ fn can_be_written<T: Moving>(state: &T, f: Frame) -> bool
     requires { is_on f.0 (T.shown state.now).life.frames.modified ≡ true }
     ensures { result ≡ writable (T.shown state.now).life f.0 }
 {
-    state.sound();
     let backing = state.look(f).backing;
     let room = state.free_slots();
     has_home(backing, room)
@@ -33,12 +32,11 @@ fn can_be_written<T: Moving>(state: &T, f: Frame) -> bool
 /// A modified frame that can be written is, in an access. Answers whether the write succeeded.
 #[tactic(auto, using(crate::proofs::Targets::target_legal, crate::proofs::Targets::end_legal))]
 pub(crate) fn write_frame<T: Moving>(state: &mut T, f: Frame) -> bool
-    requires begun { Begun (T.shown state.old) }
+    requires begun { IsUnderWay (T.shown state.old) }
     requires writable { Writable (T.shown state.old).life f.0 }
     ensures tries { Tries f result (T.shown state.old) (T.shown state.new) }
     ensures loans { T.loans state.new ≡ T.loans state.old }
 {
-    state.sound();
     let _to = state.start_write(f);
     state.end_write(f)
 }
@@ -47,7 +45,7 @@ pub(crate) fn write_frame<T: Moving>(state: &mut T, f: Frame) -> bool
 /// free slot. Answers whether it was written, and so stands on standby. Takes no memory.
 #[tactic(auto, using(crate::proofs::Targets::can_write))]
 pub fn try_frame<T: Moving>(state: &mut T, f: Frame) -> bool
-    requires begun { Begun (T.shown state.old) }
+    requires begun { IsUnderWay (T.shown state.old) }
     requires modified { is_on f.0 (T.shown state.old).life.frames.modified ≡ true }
     ensures tried { Tried f result (T.shown state.old) (T.shown state.new) }
     ensures loans { T.loans state.new ≡ T.loans state.old }

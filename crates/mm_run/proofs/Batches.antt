@@ -14,17 +14,17 @@ use Rattle.mm_run.specs.declared.endings.Ending.{Ending}
 use Rattle.mm_run.specs.declared.endings.Ending.TheVariants as ending
 use Rattle.mm_core.specs.Promise.{Scene}
 use Rattle.mm_run.specs.Scenes.{Outset, Stage, NotBegun, Running, Follows, HasNoted, log_of}
-use Rattle.mm_run.specs.Steps.{IsMade, Moved, Breaks}
-use Rattle.mm_run.specs.Answered.{DecidedLine, last_stage, answers_of}
+use Rattle.mm_run.specs.Steps.{MachineIsMade, Moved, BreaksLine}
+use Rattle.mm_run.specs.Answered.{DecidedLine, last_stage, answers_in}
 use Rattle.mm_run.specs.Ends.{BreaksOff}
-use Rattle.mm_run.specs.Bulk.{AreDecided, IsEventNext, ClosesEvents, Stops, events_of, begins_ok, is_none}
-use Rattle.mm_run.specs.Story.{Counts, IsBlamed}
+use Rattle.mm_run.specs.Bulk.{AreDecided, IsEventNext, ClosesEvents, BulkStops, events_in, begins_ok, is_none}
+use Rattle.mm_run.specs.Story.{FaultCounts, IsBlamed}
 use Rattle.mm_run.specs.Batch.{Handled, Stopped}
 use Rattle.mm_run.proofs.Stories.{follows_here, last-append, line_answers-append}
 use Rattle.mm_run.proofs.Firsts.{first_answered}
 use Rattle.mm_run.proofs.Ends.{blamed_beside}
 
-pub events-append : (xs ys : List DecidedLine) → events_of (xs ++ ys) ≡ events_of xs ++ events_of ys
+pub events-append : (xs ys : List DecidedLine) → events_in (xs ++ ys) ≡ events_in xs ++ events_in ys
 events-append [] ys = refl
 events-append (x ∷ xs) ys = ap (λ t. x.event ∷ t) (events-append xs ys)
 
@@ -32,11 +32,11 @@ pub decided_then : (old : Stage) (xs ys : List DecidedLine) → AreDecided old x
 decided_then old [] ys u v = v
 decided_then old (x ∷ xs) ys u v = (u.0, u.1, decided_then x.after xs ys u.2 v)
 
-pub answers_many : (lines : List DecidedLine) → length (answers_of lines) ≡ length lines
+pub answers_many : (lines : List DecidedLine) → length (answers_in lines) ≡ length lines
 answers_many [] = refl
 answers_many (l ∷ ls) = let more = answers_many ls in omega arith
 
-pub events_many : (lines : List DecidedLine) → length (events_of lines) ≡ length lines
+pub events_many : (lines : List DecidedLine) → length (events_in lines) ≡ length lines
 events_many [] = refl
 events_many (l ∷ ls) = let more = events_many ls in omega arith
 
@@ -47,9 +47,9 @@ decided_event e a moves before after = record { text = []; event = e; answer = a
 pub handled_none : (s : Stage) → Handled s [] 0 0 s
 handled_none s = record { lines = []; events_are = refl; decided = tt; ok_is = refl; none_is = refl; end_is = refl }
 
-counted_more : (p : Answer → Bool) (xs : List DecidedLine) (l : DecidedLine) (k : ℕ) → k ≡ count_by p (answers_of xs) → k + cond (p l.answer) 1 0 ≡ count_by p (answers_of (xs ++ l ∷ []))
+counted_more : (p : Answer → Bool) (xs : List DecidedLine) (l : DecidedLine) (k : ℕ) → k ≡ count_by p (answers_in xs) → k + cond (p l.answer) 1 0 ≡ count_by p (answers_in (xs ++ l ∷ []))
 counted_more p xs l k e =
-    ap (λ n. n + cond (p l.answer) 1 0) e ∙ sym (sum_by_push (λ x. cond (p x) 1 0) (answers_of xs) l.answer) ∙ ap (count_by p) (sym (line_answers-append xs (l ∷ [])))
+    ap (λ n. n + cond (p l.answer) 1 0) e ∙ sym (sum_by_push (λ x. cond (p x) 1 0) (answers_in xs) l.answer) ∙ ap (count_by p) (sym (line_answers-append xs (l ∷ [])))
 
 -- one event more
 pub handled_more : (s z end : Stage) (es : List Event) (ok none : ℕ) (e : Event) (a : Answer) → Handled s es ok none z → Moved z e a end → HasNoted end → Handled s (es ++ e ∷ []) (ok + cond (begins_ok a) 1 0) (none + cond (is_none a) 1 0) end
@@ -65,10 +65,10 @@ handled_more s z end es ok none e a h m noted =
       end_is = sym (last-append s h.lines (l ∷ []));
     }
 
-some_left : (e : Ending) (left : List Event) → (e ≡ ending.NoMemory) ⊎ ((e ≡ ending.MovesFault) ⊎ (e ≡ ending.SetupFault)) → 0 < length left → Stops e left
-some_left e left (inl q) some = subst (λ (k : Ending). Stops k left) (sym q) some
-some_left e left (inr (inl q)) some = subst (λ (k : Ending). Stops k left) (sym q) some
-some_left e left (inr (inr q)) some = subst (λ (k : Ending). Stops k left) (sym q) some
+some_left : (e : Ending) (left : List Event) → (e ≡ ending.NoMemory) ⊎ ((e ≡ ending.MovesFault) ⊎ (e ≡ ending.SetupFault)) → 0 < length left → BulkStops e left
+some_left e left (inl q) some = subst (λ (k : Ending). BulkStops k left) (sym q) some
+some_left e left (inr (inl q)) some = subst (λ (k : Ending). BulkStops k left) (sym q) some
+some_left e left (inr (inr q)) some = subst (λ (k : Ending). BulkStops k left) (sym q) some
 
 -- the next event is not decided, or not noted
 module _ (s z : Stage) (es left : List Event) (ok none : ℕ) (h : Handled s es ok none z) (some : 0 < length left) where
@@ -98,7 +98,7 @@ stopped_here s es e (inr q) some = subst (λ (k : Ending). Stopped s es k s) (sy
 
 -- how an event that was not noted stops the rest
 pub stopped_next : (s : Stage) (z y : Scene) (es left : List Event) (ok none : ℕ) (event : Event) (e : Ending) → Handled s es ok none (Running z) → 0 < length left
-    → ((e ≡ ending.NoMemory) × Breaks z y) ⊎ ((e ≡ ending.MovesFault) × ((a : Answer) × Moved (Running z) event a (Running y)) × (y.behind.log.failed ≡ true)) → Stopped s (es ++ left) e (Running y)
+    → ((e ≡ ending.NoMemory) × BreaksLine z y) ⊎ ((e ≡ ending.MovesFault) × ((a : Answer) × Moved (Running z) event a (Running y)) × (y.behind.log.failed ≡ true)) → Stopped s (es ++ left) e (Running y)
 stopped_next s z y es left ok none event e h some (inl b) =
     subst (λ (k : Ending). Stopped s (es ++ left) k (Running y)) (sym b.0)
     (stopped_memory s (Running z) es left ok none h some (Running y) (inr (record { before = Running z; follows = follows_here (Running z); breaks = b.1 })))
@@ -108,15 +108,15 @@ stopped_next s z y es left ok none event e h some (inr m) =
 
 -- ---- the first event
 
-module _ (m : MachineOf) (o : Outset) (s : Scene) (made : IsMade m o s) where
+module _ (m : MachineOf) (o : Outset) (s : Scene) (made : MachineIsMade m o s) where
   abbrev first_line : DecidedLine
   first_line = decided_event (line.Machine m) (answer.Limit (limit_of m)) (first_move m ∷ []) (NotBegun o) (Running s)
 
   first_next : IsEventNext (NotBegun o) first_line
   first_next = record { follows = follows_here (NotBegun o); decided = first_answered m o s made (limit_of m) refl }
 
-  counted_first : (p : Answer → Bool) (ls : List DecidedLine) → count_by p (answers_of (first_line ∷ ls)) ≡ cond (p (answer.Limit (limit_of m))) 1 0 + count_by p (answers_of ls)
-  counted_first p ls = sum_by-cons (λ x. cond (p x) 1 0) (answer.Limit (limit_of m)) (answers_of ls)
+  counted_first : (p : Answer → Bool) (ls : List DecidedLine) → count_by p (answers_in (first_line ∷ ls)) ≡ cond (p (answer.Limit (limit_of m))) 1 0 + count_by p (answers_in ls)
+  counted_first p ls = sum_by-cons (λ x. cond (p x) 1 0) (answer.Limit (limit_of m)) (answers_in ls)
 
   module _ (noted : HasNoted (Running s)) (es : List Event) (end : Stage) where
     pub first_handled : (ok none : ℕ) → Handled (Running s) es ok none end → Handled (NotBegun o) (line.Machine m ∷ es) (ok + 1) none end
@@ -167,12 +167,12 @@ handled_on s z end events i ok none x y e a within at h m noted p q =
 
 -- so many events of a list were decided, and the next was not
 pub stopped_on : (s : Stage) (z y : Scene) (events : List Event) (i ok none : ℕ) (event : Event) (e : Ending) → i < length events → Handled s (take i events) ok none (Running z)
-    → ((e ≡ ending.NoMemory) × Breaks z y) ⊎ ((e ≡ ending.MovesFault) × ((a : Answer) × Moved (Running z) event a (Running y)) × (y.behind.log.failed ≡ true)) → Stopped s events e (Running y)
+    → ((e ≡ ending.NoMemory) × BreaksLine z y) ⊎ ((e ≡ ending.MovesFault) × ((a : Answer) × Moved (Running z) event a (Running y)) × (y.behind.log.failed ≡ true)) → Stopped s events e (Running y)
 stopped_on s z y events i ok none event e within h why =
     subst (λ (es : List Event). Stopped s es e (Running y)) (take-append-drop i events)
     (stopped_next s z y (take i events) (drop i events) ok none event e h (omega (arith, length-drop i events)) why)
 
 -- with devices that were opened beside
-pub blamed_opened : {A : Type 0} (r : Result A Ending) (opening : Type 0) (c d : Counts) → MatchResult r (λ _. d ≡ c) (λ e. IsBlamed e ⊥ c d) → MatchResult r (λ _. d ≡ c) (λ e. IsBlamed e opening c d)
+pub blamed_opened : {A : Type 0} (r : Result A Ending) (opening : Type 0) (c d : FaultCounts) → MatchResult r (λ _. d ≡ c) (λ e. IsBlamed e ⊥ c d) → MatchResult r (λ _. d ≡ c) (λ e. IsBlamed e opening c d)
 blamed_opened (Ok x) opening c d h = h
 blamed_opened (Err e) opening c d h = blamed_beside e opening c d h

@@ -9,20 +9,20 @@ use Rattle.mm_life.proofs.Noting.{front_of_then, gave_nothing}
 use Rattle.mm_run.specs.declared.endings.Ending.{Ending}
 use Rattle.mm_run.specs.declared.endings.Ending.TheVariants as ending
 use Rattle.mm_run.specs.Scenes.{Stage, NotBegun, Running, Follows, outset, log_of}
-use Rattle.mm_run.specs.Answered.{DecidedLine, HoldMovesOf, last_stage, answers_of, moves_of}
+use Rattle.mm_run.specs.Answered.{DecidedLine, HoldMovesOf, last_stage, answers_in, moves_of}
 use Rattle.mm_run.specs.Texts.{last_text, status_of}
-use Rattle.mm_run.specs.Story.{CameFrom, Comes, Counts, IsBlamed, Settles, StandsAt, counts_with, outside, stand}
-use Rattle.mm_run.specs.Ends.{Closes, DeviceLeft, Left, Leaves, IsLeft, IsLogLeft}
+use Rattle.mm_run.specs.Story.{CameFrom, Comes, FaultCounts, IsBlamed, SettlesRun, StandsAt, fault_counts_with, outside, stand}
+use Rattle.mm_run.specs.Ends.{ClosesRun, DeviceLeft, Left, StageLeaves, IsLeft, IsLogLeft}
 use Rattle.mm_run.specs.Closing.{SinkSeen, GaveMoves, Drops, Closed, is_over}
 use Rattle.mm_run.specs.Faults.{IsAccounted}
-use Rattle.mm_run.specs.Ran.{Around, Ran, Ends, begun_at}
+use Rattle.mm_run.specs.Ran.{Around, Ran, EndsTelling, begun_at}
 use Rattle.mm_run.proofs.Stories.{held_both, held_by_more, spelled_lines}
 use Rattle.mm_run.proofs.Ends.{stands_whole, out_stands, moves_stand, accounted_behind, accounted_out, accounted_moves, blamed_later}
 use Rattle.mm_run.proofs.Logs.{all_logged, bytes_left, log_ran, log_left, holds_at_end}
 use Rattle.mm_run.proofs.Failures.{faultless}
 use Rattle.mm_run.proofs.WatchesTold.{watches_told}
 
-follows_done : (e : Ending) (n : ℕ) (front : Text) (last end : Stage) → e ≡ ending.Done → Closes e n front last end → Follows last end
+follows_done : (e : Ending) (n : ℕ) (front : Text) (last end : Stage) → e ≡ ending.Done → ClosesRun e n front last end → Follows last end
 follows_done ending.Done n front last end q h = h
 follows_done ending.NoMemory n front last end q h = cc
 follows_done ending.Usage n front last end q h = cc
@@ -53,12 +53,12 @@ log_after log x y m h =
       faults_are = omega (arith, f, l);
     }
 
-pub leaves_after : (end : Stage) (x y : Left) → MovesAfter x y → Leaves end x → Leaves end y
+pub leaves_after : (end : Stage) (x y : Left) → MovesAfter x y → StageLeaves end x → StageLeaves end y
 leaves_after (NotBegun o) x y m h = log_after o.log x y m h
 leaves_after (Running s) x y m h =
     (log_after s.behind.log x y m h.0, subst (λ (d : DeviceLeft). IsLeft s.paging s.behind.slots d) (sym m.paging_is) h.1, subst (λ (d : DeviceLeft). IsLeft s.files s.blocks d) (sym m.files_is) h.2)
 
-gave_left : (end : Stage) (x : Left) → Leaves end x → IsFrontOf (log_of end).given x.gave
+gave_left : (end : Stage) (x : Left) → StageLeaves end x → IsFrontOf (log_of end).given x.gave
 gave_left (NotBegun o) x h = h.gave_more
 gave_left (Running s) x h = h.0.gave_more
 
@@ -69,11 +69,11 @@ module _ (a b : Around) (e : Ending) (form : Type 0) (yes_form : form → e ≢ 
   came = h.came [] (record { text_is = refl; noted = tt })
 
   module _ (moves : MovesAfter x b.beside) where
-    ran_by : (told still : List DecidedLine) (written : Text) → came.decided.lines ≡ told ++ still → HoldMovesOf told b.beside.gave → Appended a.took b.took written → Ends b status e told still written → Ran a b form status
+    ran_by : (told still : List DecidedLine) (written : Text) → came.decided.lines ≡ told ++ still → HoldMovesOf told b.beside.gave → Appended a.took b.took written → EndsTelling b status e told still written → Ran a b form status
     ran_by told still written split gave wrote ends =
         let d = came.decided in
         let none : 0 + length d.lines ≡ length d.lines = omega arith in
-        let closes = subst (λ (k : ℕ). Closes e k d.front (last_stage (begun_at a.beside) d.lines) h.end) none d.closes in
+        let closes = subst (λ (k : ℕ). ClosesRun e k d.front (last_stage (begun_at a.beside) d.lines) h.end) none d.closes in
         let leaves = leaves_after h.end x b.beside moves h.leaves in
         record {
           lines = d.lines;
@@ -86,7 +86,7 @@ module _ (a b : Around) (e : Ending) (form : Type 0) (yes_form : form → e ≢ 
           more = d.more;
           read = d.read;
           whole = d.whole;
-          settled = subst (λ (k : ℕ). Settles k d.front d.more b.left e) none d.settled;
+          settled = subst (λ (k : ℕ). SettlesRun k d.front d.more b.left e) none d.settled;
           few = d.few;
           is_form = yes_form;
           no_form = not_form;
@@ -110,7 +110,7 @@ module _ (a b : Around) (e : Ending) (form : Type 0) (yes_form : form → e ≢ 
     gave_told : HoldMovesOf came.told b.beside.gave
     gave_told = held_by_more came.told (log_of h.end).given b.beside.gave (front_of_then (log_of h.end).given x.gave b.beside.gave (gave_left h.end x h.leaves) moves.grows) came.gave
 
-    ran_some : b.took ≡ o → Ends b status e came.told came.still came.written → Ran a b form status
+    ran_some : b.took ≡ o → EndsTelling b status e came.told came.still came.written → Ran a b form status
     ran_some same ends = ran_by came.told came.still came.written came.split gave_told (subst (λ (t : Option Text). Appended a.took t came.written) (sym same) came.wrote) ends
 
     -- all lines are told
@@ -119,25 +119,25 @@ module _ (a b : Around) (e : Ending) (form : Type 0) (yes_form : form → e ≢ 
       gave_all = held_both came.told came.still b.beside.gave gave_told
           (subst (λ (t : Option Text). HoldMovesOf came.still t) (bytes_left h.end x h.leaves ∙ sym moves.took_is ∙ sym all) came.keeps.noted)
 
-      text_all : came.written ++ (kept ++ last_text e) ≡ spelled (answers_of (came.told ++ came.still)) ++ last_text e
+      text_all : came.written ++ (kept ++ last_text e) ≡ spelled (answers_in (came.told ++ came.still)) ++ last_text e
       text_all =
           ap (λ t. t ++ (kept ++ last_text e)) (stands_whole e came.told came.still came.written goes came.stands)
-          ∙ ap (λ t. spelled (answers_of came.told) ++ (t ++ last_text e)) came.keeps.text_is
-          ∙ sym (append_assoc (spelled (answers_of came.told)) (spelled (answers_of came.still)) (last_text e))
+          ∙ ap (λ t. spelled (answers_in came.told) ++ (t ++ last_text e)) came.keeps.text_is
+          ∙ sym (append_assoc (spelled (answers_in came.told)) (spelled (answers_in came.still)) (last_text e))
           ∙ ap (λ t. t ++ last_text e) (sym (spelled_lines came.told came.still))
 
-      ran_all : (text : Text) → Appended o b.took text → Ends b status e (came.told ++ came.still) [] (came.written ++ text) → Ran a b form status
+      ran_all : (text : Text) → Appended o b.took text → EndsTelling b status e (came.told ++ came.still) [] (came.written ++ text) → Ran a b form status
       ran_all text w ends =
           ran_by (came.told ++ came.still) [] (came.written ++ text) (came.split ∙ sym (append_nil (came.told ++ came.still))) gave_all (appended_then a.took o b.took came.written text came.wrote w) ends
 
   -- a sink had failed
-  ends_over : (f : Ending) (told still : List DecidedLine) (written : Text) → is_over f ≡ true → status ≡ status_of f → StandsAt f told still written → Ends b status f told still written
+  ends_over : (f : Ending) (told still : List DecidedLine) (written : Text) → is_over f ≡ true → status ≡ status_of f → StandsAt f told still written → EndsTelling b status f told still written
   ends_over ending.OutFault told still written q s stands =
       inr (inl (record {
         status_is = s;
         moves_stand = λ same. cc;
         all_told = stands.0;
-        text = record { back = stands.1.back; whole = append_nil (spelled (answers_of told)) ∙ stands.1.whole };
+        text = record { back = stands.1.back; whole = append_nil (spelled (answers_in told)) ∙ stands.1.whole };
       }))
   ends_over ending.MovesFault told still written q s stands = inr (inr (record { status_is = s; out_stands = λ same. cc; text = stands }))
   ends_over ending.Done told still written q s stands = cc
@@ -214,17 +214,17 @@ module _ (a b : Around) (e : Ending) (form : Type 0) (yes_form : form → e ≢ 
 
 -- ---- the counts of faults
 
-module _ (opening : Type 0) (e : Ending) (s : ℕ) (o o' m m' : SinkSeen) (c : Counts) (kept : Text) (status : ℕ) (b : IsBlamed e opening c (counts_with s o.faults m.faults)) where
-  abbrev mid : Counts
-  mid = counts_with s o.faults m.faults
+module _ (opening : Type 0) (e : Ending) (s : ℕ) (o o' m m' : SinkSeen) (c : FaultCounts) (kept : Text) (status : ℕ) (b : IsBlamed e opening c (fault_counts_with s o.faults m.faults)) where
+  abbrev mid : FaultCounts
+  mid = fault_counts_with s o.faults m.faults
 
-  own : counts_with s o'.faults m'.faults ≡ mid → status ≡ status_of e → IsAccounted status opening c (counts_with s o'.faults m'.faults)
-  own same q = accounted_behind e opening c mid (counts_with s o'.faults m'.faults) status same q b
+  own : fault_counts_with s o'.faults m'.faults ≡ mid → status ≡ status_of e → IsAccounted status opening c (fault_counts_with s o'.faults m'.faults)
+  own same q = accounted_behind e opening c mid (fault_counts_with s o'.faults m'.faults) status same q b
 
-  pub accounted_closed : Closed o o' m m' e kept status → IsAccounted status opening c (counts_with s o'.faults m'.faults)
-  accounted_closed (inl t) = own (λ i. counts_with s (t.out_same i).faults (t.moves_same i).faults) t.status_is
+  pub accounted_closed : Closed o o' m m' e kept status → IsAccounted status opening c (fault_counts_with s o'.faults m'.faults)
+  accounted_closed (inl t) = own (λ i. fault_counts_with s (t.out_same i).faults (t.moves_same i).faults) t.status_is
   accounted_closed (inr (inl d)) =
-      accounted_moves opening c (counts_with s o'.faults m'.faults) status d.status_is (rose_later c.moves m.faults m'.faults (blamed_later opening c mid e d.goes b).1 d.rose)
-  accounted_closed (inr (inr (inl t))) = own (λ i. counts_with s (t.faults_are i) (t.moves.faults_are i)) t.status_is
+      accounted_moves opening c (fault_counts_with s o'.faults m'.faults) status d.status_is (rose_later c.moves m.faults m'.faults (blamed_later opening c mid e d.goes b).1 d.rose)
+  accounted_closed (inr (inr (inl t))) = own (λ i. fault_counts_with s (t.faults_are i) (t.moves.faults_are i)) t.status_is
   accounted_closed (inr (inr (inr t))) =
-      accounted_out opening c (counts_with s o'.faults m'.faults) status t.status_is (rose_later c.out o.faults o'.faults (blamed_later opening c mid e t.goes b).0 t.rose)
+      accounted_out opening c (fault_counts_with s o'.faults m'.faults) status t.status_is (rose_later c.out o.faults o'.faults (blamed_later opening c mid e t.goes b).0 t.rose)

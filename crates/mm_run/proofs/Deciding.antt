@@ -11,7 +11,7 @@ use Rattle.mm_pages.specs.Store.{StoreOf}
 use Rattle.mm_pages.specs.Behind.{Behind}
 use Rattle.mm_pages.specs.Standing.{Stands}
 use Rattle.mm_paging.specs.Runs.{DevicesHold}
-use Rattle.mm_tables.specs.Fits.{bytes_of}
+use Rattle.mm_tables.specs.Fits.{key_bytes}
 
 one_content : (o p : Option Page) → is_some p ≡ is_some o → ((x : Page) → o ≡ Some x → x ≡ unwrap_or p (filled 0)) → o ≡ p
 one_content None None e h = refl
@@ -20,6 +20,6 @@ one_content (Some x) None e h = cc
 one_content (Some x) (Some y) e h = ap Some (h x refl)
 
 -- what a store keeps at all times of its devices, it keeps of the world over it
-pub devices_hold : (t : Tables) (c : Key → Option Page) (s : StoreOf) (b : Behind) → Stands c s b → ((k : Key) → is_live b.life k ≡ is_some (content_of (world_with t (bytes_of c)) k)) → DevicesHold (world_with t (bytes_of c)) b.life b.slots s.file_blocks
+pub devices_hold : (t : Tables) (c : Key → Option Page) (s : StoreOf) (b : Behind) → Stands c s b → ((k : Key) → is_live b.life k ≡ is_some (content_of (world_with t (key_bytes c)) k)) → DevicesHold (world_with t (key_bytes c)) b.life b.slots s.file_blocks
 devices_hold t c s b h keys = λ k on.
-    one_content (content_of (world_with t (bytes_of c)) k) (c k) (sym (h.live k) ∙ keys k) (holds_bytes (bytes_of c) t k) ∙ h.stored k on
+    one_content (content_of (world_with t (key_bytes c)) k) (c k) (sym (h.live k) ∙ keys k) (holds_bytes (key_bytes c) t k) ∙ h.stored k on

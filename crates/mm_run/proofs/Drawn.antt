@@ -13,7 +13,7 @@ use Rattle.mm_script.specs.Grammar.{fields_of, are_joined}
 use Rattle.mm_make.specs.Outputs.{outputs, seeded, outputs_from}
 use Rattle.mm_make.specs.Generated.{Drawn, drawn, drawn_events, drawn_of_kind, write_drawn, read_drawn, address_drawn, script_of}
 use Rattle.mm_core.specs.Built.{is_machine}
-use Rattle.mm_run.specs.Batch.{IsLater, AreLater}
+use Rattle.mm_run.specs.Batch.{IsLaterEvent, AreLater}
 
 abbrev small_machine : MachineOf
 small_machine = record { frames = 64; slots = 256; depth = 4; blocks = 32 }
@@ -35,30 +35,30 @@ fixed_later =
 abbrev pub later_events : ℕ → ℕ → List Event
 later_events seed count = fixed_later ++ drawn_events count (outputs (seeded seed))
 
-later_of : (e : Event) → AllByRecursion IsInRange (fields_of e) → IsTrue (are_joined e) → is_machine e ≡ false → IsLater e
+later_of : (e : Event) → AllByRecursion IsInRange (fields_of e) → IsTrue (are_joined e) → is_machine e ≡ false → IsLaterEvent e
 later_of e fields joined later = record { well_formed = record { fields = fields; joined = joined }; later = later }
 
 -- ---- the fixed ones
 
-process_later : IsLater (line.Process 8 48)
+process_later : IsLaterEvent (line.Process 8 48)
 process_later = later_of (line.Process 8 48) (tt, ((omega arith, omega arith), ((omega arith, omega arith), tt))) refl refl
 
-file_later : IsLater (line.File (codes "data") 32 1)
+file_later : IsLaterEvent (line.File (codes "data") 32 1)
 file_later = later_of (line.File (codes "data") 32 1) (tt, (refl, ((omega arith, omega arith), ((omega arith, omega arith), tt)))) refl refl
 
-alloc_later : IsLater (line.Alloc (record { 0 = 1 }) 0x0 0x80000 0x3000 0x4)
+alloc_later : IsLaterEvent (line.Alloc (record { 0 = 1 }) 0x0 0x80000 0x3000 0x4)
 alloc_later = later_of (line.Alloc (record { 0 = 1 }) 0x0 0x80000 0x3000 0x4) (tt, ((omega arith, omega arith), (omega arith, (omega arith, (omega arith, (omega arith, tt)))))) refl refl
 
-create_later : IsLater (line.Create (record { 0 = 1 }) 0x20000 0x4 (Some (codes "pool")))
+create_later : IsLaterEvent (line.Create (record { 0 = 1 }) 0x20000 0x4 (Some (codes "pool")))
 create_later = later_of (line.Create (record { 0 = 1 }) 0x20000 0x4 (Some (codes "pool"))) (tt, ((omega arith, omega arith), (omega arith, (omega arith, (refl, tt))))) refl refl
 
-open_later : IsLater (line.Open (record { 0 = 2 }) (codes "pool"))
+open_later : IsLaterEvent (line.Open (record { 0 = 2 }) (codes "pool"))
 open_later = later_of (line.Open (record { 0 = 2 }) (codes "pool")) (tt, ((omega arith, omega arith), (refl, tt))) refl refl
 
-map_later : (pid handle access : ℕ) → pid ≤ 255 → handle ≤ 0xFFFFFFFF → access < 2 ^ 32 → IsLater (line.Map (record { 0 = pid }) handle access 0x0 0x0 0x0)
+map_later : (pid handle access : ℕ) → pid ≤ 255 → handle ≤ 0xFFFFFFFF → access < 2 ^ 32 → IsLaterEvent (line.Map (record { 0 = pid }) handle access 0x0 0x0 0x0)
 map_later pid handle access p h a = later_of (line.Map (record { 0 = pid }) handle access 0x0 0x0 0x0) (tt, ((omega arith, p), ((omega arith, h), (a, (omega arith, (omega arith, (omega arith, tt))))))) refl refl
 
-create_file_later : IsLater (line.CreateFile (record { 0 = 2 }) (codes "data") 0x4 None)
+create_file_later : IsLaterEvent (line.CreateFile (record { 0 = 2 }) (codes "data") 0x4 None)
 create_file_later = later_of (line.CreateFile (record { 0 = 2 }) (codes "data") 0x4 None) (tt, ((omega arith, omega arith), (refl, (omega arith, (tt, tt))))) refl refl
 
 -- ---- the drawn ones
@@ -69,33 +69,33 @@ address_low word pages some few = omega (arith, mod_below word pages some)
 address_whole : (addr : ℕ) → nat_le (addr % 4096 + 1) 4096 ≡ true
 address_whole addr = le-leb (addr % 4096 + 1) 4096 (let low = mod_below addr 4096 (omega arith) in omega (arith, low))
 
-write_later : (pid pages page byte : ℕ) → pid ≤ 255 → 0 < pages → pages ≤ 160 → IsLater (write_drawn pid pages page byte)
+write_later : (pid pages page byte : ℕ) → pid ≤ 255 → 0 < pages → pages ≤ 160 → IsLaterEvent (write_drawn pid pages page byte)
 write_later pid pages page byte p some few =
     later_of (write_drawn pid pages page byte)
     (tt, ((omega arith, p), (address_low page pages some few, (((omega arith), (omega arith), (mod_below byte 256 (omega arith), tt)), tt))))
     (address_whole (address_drawn page pages)) refl
 
-read_later : (pid pages page : ℕ) → pid ≤ 255 → 0 < pages → pages ≤ 160 → IsLater (read_drawn pid pages page)
+read_later : (pid pages page : ℕ) → pid ≤ 255 → 0 < pages → pages ≤ 160 → IsLaterEvent (read_drawn pid pages page)
 read_later pid pages page p some few =
     later_of (read_drawn pid pages page)
     (tt, ((omega arith, p), (address_low page pages some few, ((omega arith, omega arith), tt))))
     (address_whole (address_drawn page pages)) refl
 
-trim_later : (word : ℕ) → IsLater (line.Trim (record { 0 = 1 + word % 2 }) 8)
+trim_later : (word : ℕ) → IsLaterEvent (line.Trim (record { 0 = 1 + word % 2 }) 8)
 trim_later word =
     later_of (line.Trim (record { 0 = 1 + word % 2 }) 8) (tt, ((omega arith, (let low = mod_below word 2 (omega arith) in omega (arith, low))), ((omega arith, omega arith), tt))) refl refl
 
-writer_later : IsLater (line.Writer 4)
+writer_later : IsLaterEvent (line.Writer 4)
 writer_later = later_of (line.Writer 4) (tt, ((omega arith, omega arith), tt)) refl refl
 
-io_later : IsLater (line.Io 1)
+io_later : IsLaterEvent (line.Io 1)
 io_later = later_of (line.Io 1) (tt, ((omega arith, omega arith), tt)) refl refl
 
-later_if : (b : Bool) (x y : Drawn) → IsLater x.event → IsLater y.event → IsLater (if b then x else y).event
+later_if : (b : Bool) (x y : Drawn) → IsLaterEvent x.event → IsLaterEvent y.event → IsLaterEvent (if b then x else y).event
 later_if true x y p q = p
 later_if false x y p q = q
 
-of_kind_later : (kind : ℕ) (words : ℕ → ℕ) → IsLater (drawn_of_kind kind words).event
+of_kind_later : (kind : ℕ) (words : ℕ → ℕ) → IsLaterEvent (drawn_of_kind kind words).event
 of_kind_later kind words =
     later_if (nat_le kind 1) _ _ (write_later 1 160 (words 1) (words 2) (omega arith) (omega arith) (omega arith))
     (later_if (kind == 2) _ _ (read_later 1 160 (words 1) (omega arith) (omega arith) (omega arith))

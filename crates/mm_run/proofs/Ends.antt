@@ -7,20 +7,20 @@ use Rattle.mm_io.proofs.Fillings.{filled_none}
 use Rattle.mm_run.specs.declared.endings.Ending.{Ending}
 use Rattle.mm_run.specs.declared.endings.Ending.TheVariants as ending
 use Rattle.mm_run.specs.Scenes.{Stage}
-use Rattle.mm_run.specs.Answered.{DecidedLine, answers_of}
+use Rattle.mm_run.specs.Answered.{DecidedLine, answers_in}
 use Rattle.mm_run.specs.Texts.{status_of}
 use Rattle.mm_run.specs.Closing.{is_over}
 use Rattle.mm_run.specs.Script.{IsFault}
 use Rattle.mm_run.specs.Faults.{IsAccounted}
-use Rattle.mm_run.specs.Story.{Came, Counts, IsBlamed, EndsAt, StandsAt, outside, stand}
+use Rattle.mm_run.specs.Story.{CameToEnd, FaultCounts, IsBlamed, InputEndsAt, StandsAt, outside, stand}
 use Rattle.mm_run.proofs.Stories.{follows_here, grows_here}
 use Rattle.mm_run.proofs.Stops.{came_here}
 
-pub came_usage : (a t : Option Text) (kept : Text) (w : Stage) → Came (outside a t kept) (outside a t kept) (stand [] 0 w) ending.Usage w
+pub came_usage : (a t : Option Text) (kept : Text) (w : Stage) → CameToEnd (outside a t kept) (outside a t kept) (stand [] 0 w) ending.Usage w
 came_usage a t kept w = came_here a a t kept [] [] 0 w w ending.Usage [] [] (filled_none a []) refl (omega arith) (refl, refl, refl) (omega arith) (λ ks. refl) (follows_here w) (grows_here w)
 
 -- what stands is what was told, unless a sink has failed
-pub stands_whole : (e : Ending) (told still : List DecidedLine) (written : Text) → is_over e ≡ false → StandsAt e told still written → written ≡ spelled (answers_of told)
+pub stands_whole : (e : Ending) (told still : List DecidedLine) (written : Text) → is_over e ≡ false → StandsAt e told still written → written ≡ spelled (answers_in told)
 stands_whole ending.Done told still written q s = s
 stands_whole ending.NoMemory told still written q s = s
 stands_whole ending.Usage told still written q s = s
@@ -39,9 +39,9 @@ moves_stand e q same = let bad : true ≡ false = ap is_over (sym same) ∙ q in
 
 -- ---- the counts of faults
 
-module _ (opening : Type 0) (c d : Counts) where
+module _ (opening : Type 0) (c d : FaultCounts) where
   same_later : d ≡ c → (c.out ≤ d.out) × (c.moves ≤ d.moves)
-  same_later e = (let o = ap (λ (k : Counts). k.out) e in omega (arith, o), let m = ap (λ (k : Counts). k.moves) e in omega (arith, m))
+  same_later e = (let o = ap (λ (k : FaultCounts). k.out) e in omega (arith, o), let m = ap (λ (k : FaultCounts). k.moves) e in omega (arith, m))
 
   pub blamed_source : (e : Ending) → status_of e ≡ 4 → IsBlamed e opening c d → Rose c.source d.source
   blamed_source ending.Done q b = absurd (omega arith)
@@ -114,16 +114,16 @@ module _ (opening : Type 0) (c d : Counts) where
   -- no count fell
   pub blamed_later : (e : Ending) → is_over e ≡ false → IsBlamed e opening c d → (c.out ≤ d.out) × (c.moves ≤ d.moves)
   blamed_later ending.Done q b = same_later b
-  blamed_later ending.NoMemory q b = (let e = ap (λ (k : Counts). k.out) b.1 in omega (arith, e), b.0)
+  blamed_later ending.NoMemory q b = (let e = ap (λ (k : FaultCounts). k.out) b.1 in omega (arith, e), b.0)
   blamed_later ending.Usage q b = same_later b
   blamed_later (ending.Script l k) q b = same_later b
-  blamed_later ending.ReadFault q b = (let e = ap (λ (k : Counts). k.out) b.1 in omega (arith, e), let e = ap (λ (k : Counts). k.moves) b.1 in omega (arith, e))
+  blamed_later ending.ReadFault q b = (let e = ap (λ (k : FaultCounts). k.out) b.1 in omega (arith, e), let e = ap (λ (k : FaultCounts). k.moves) b.1 in omega (arith, e))
   blamed_later ending.OutFault q b = cc
   blamed_later ending.MovesFault q b = cc
   blamed_later ending.SetupFault q b = same_later b.1
   blamed_later (ending.TooLong l) q b = same_later b
 
-pub accounted : (e : Ending) (opening : Type 0) (c d : Counts) (status : ℕ) → status ≡ status_of e → IsBlamed e opening c d → IsAccounted status opening c d
+pub accounted : (e : Ending) (opening : Type 0) (c d : FaultCounts) (status : ℕ) → status ≡ status_of e → IsBlamed e opening c d → IsAccounted status opening c d
 accounted e opening c d status q b = record {
   read_fault = λ s. blamed_source opening c d e (sym q ∙ s) b;
   out_fault = λ s. blamed_out opening c d e (sym q ∙ s) b;
@@ -134,10 +134,10 @@ accounted e opening c d status q b = record {
 }
 
 -- nothing failed behind it
-pub accounted_behind : (e : Ending) (opening : Type 0) (c m d : Counts) (status : ℕ) → d ≡ m → status ≡ status_of e → IsBlamed e opening c m → IsAccounted status opening c d
-accounted_behind e opening c m d status same q b = subst (λ (k : Counts). IsAccounted status opening c k) (sym same) (accounted e opening c m status q b)
+pub accounted_behind : (e : Ending) (opening : Type 0) (c m d : FaultCounts) (status : ℕ) → d ≡ m → status ≡ status_of e → IsBlamed e opening c m → IsAccounted status opening c d
+accounted_behind e opening c m d status same q b = subst (λ (k : FaultCounts). IsAccounted status opening c k) (sym same) (accounted e opening c m status q b)
 
-pub accounted_out : (opening : Type 0) (c d : Counts) (status : ℕ) → status ≡ 5 → Rose c.out d.out → IsAccounted status opening c d
+pub accounted_out : (opening : Type 0) (c d : FaultCounts) (status : ℕ) → status ≡ 5 → Rose c.out d.out → IsAccounted status opening c d
 accounted_out opening c d status q rose = record {
   read_fault = λ s. absurd (omega (arith, q, s));
   out_fault = λ s. rose;
@@ -147,7 +147,7 @@ accounted_out opening c d status q rose = record {
   no_fault = λ calm. absurd (calm (inr (inr (inl q))));
 }
 
-pub accounted_moves : (opening : Type 0) (c d : Counts) (status : ℕ) → status ≡ 6 → Rose c.moves d.moves → IsAccounted status opening c d
+pub accounted_moves : (opening : Type 0) (c d : FaultCounts) (status : ℕ) → status ≡ 6 → Rose c.moves d.moves → IsAccounted status opening c d
 accounted_moves opening c d status q rose = record {
   read_fault = λ s. absurd (omega (arith, q, s));
   out_fault = λ s. absurd (omega (arith, q, s));
@@ -158,21 +158,21 @@ accounted_moves opening c d status q rose = record {
 }
 
 -- memory was refused, before anything else
-pub accounted_memory : (opening : Type 0) (c : Counts) (status : ℕ) → status ≡ 1 → IsAccounted status opening c c
+pub accounted_memory : (opening : Type 0) (c : FaultCounts) (status : ℕ) → status ≡ 1 → IsAccounted status opening c c
 accounted_memory opening c status q = accounted ending.NoMemory opening c c status q (omega arith, refl)
 
 -- the input's end is no fault
-pub blamed_end : (n len : ℕ) (e : Ending) (opening : Type 0) (c d : Counts) → EndsAt n len e → d ≡ c → IsBlamed e opening c d
+pub blamed_end : (n len : ℕ) (e : Ending) (opening : Type 0) (c d : FaultCounts) → InputEndsAt n len e → d ≡ c → IsBlamed e opening c d
 blamed_end n len e opening c d (inl done) q = subst (λ (f : Ending). IsBlamed f opening c d) (sym done.2) q
 blamed_end n len e opening c d (inr cut) q = subst (λ (f : Ending). IsBlamed f opening c d) (sym cut.1) q
 
 -- a device was not opened
-pub blamed_open : (e : Ending) (opening : Type 0) (c : Counts) → (e ≡ ending.NoMemory) ⊎ (e ≡ ending.SetupFault) → (e ≡ ending.SetupFault → opening) → IsBlamed e opening c c
+pub blamed_open : (e : Ending) (opening : Type 0) (c : FaultCounts) → (e ≡ ending.NoMemory) ⊎ (e ≡ ending.SetupFault) → (e ≡ ending.SetupFault → opening) → IsBlamed e opening c c
 blamed_open e opening c (inl memory) h = subst (λ (f : Ending). IsBlamed f opening c c) (sym memory) (omega arith, refl)
 blamed_open e opening c (inr setup) h = subst (λ (f : Ending). IsBlamed f opening c c) (sym setup) (h setup, refl)
 
 -- nothing is to be blamed on a device that was opened
-pub blamed_beside : (e : Ending) (opening : Type 0) (c d : Counts) → IsBlamed e ⊥ c d → IsBlamed e opening c d
+pub blamed_beside : (e : Ending) (opening : Type 0) (c d : FaultCounts) → IsBlamed e ⊥ c d → IsBlamed e opening c d
 blamed_beside ending.Done opening c d b = b
 blamed_beside ending.NoMemory opening c d b = b
 blamed_beside ending.Usage opening c d b = b

@@ -5,14 +5,14 @@ use Rattle.mm_run.specs.declared.endings.Ending.{Ending}
 use Rattle.mm_run.specs.declared.endings.Ending.TheVariants as ending
 use Rattle.mm_run.specs.Scenes.{Stage, log_of}
 use Rattle.mm_run.specs.Answered.{DecidedLine, AreAnswered}
-use Rattle.mm_run.specs.Ends.{Closes}
+use Rattle.mm_run.specs.Ends.{ClosesRun}
 use Rattle.mm_run.specs.Bulk.{AreDecided, ClosesEvents}
 
 pub decided_of : (n : ℕ) (old : Stage) (lines : List DecidedLine) → AreAnswered n old lines → AreDecided old lines
 decided_of n old [] u = tt
 decided_of n old (l ∷ ls) u = (record { follows = u.0.follows; decided = u.0.decided }, u.1, decided_of (suc n) l.after ls u.2)
 
-pub closed_of : (e : Ending) (n : ℕ) (front : Text) (last end : Stage) → Closes e n front last end → ClosesEvents e last end
+pub closed_of : (e : Ending) (n : ℕ) (front : Text) (last end : Stage) → ClosesRun e n front last end → ClosesEvents e last end
 closed_of ending.NoMemory n front last end h = elim h.broken [
   | inl m ↦ inl m.1
   | inr m ↦ inr m.1

@@ -18,9 +18,9 @@ use Rattle.mm_run.specs.declared.endings.Ending.{Ending}
 use Rattle.mm_run.specs.declared.endings.Ending.TheVariants as ending
 use Rattle.mm_core.specs.Promise.{Scene}
 use Rattle.mm_run.specs.Scenes.{Outset, Stage, NotBegun, Running, Follows}
-use Rattle.mm_run.specs.Steps.{Begins, Decides, IsDecided}
+use Rattle.mm_run.specs.Steps.{MachineBegins, DecidesLine, IsDecided}
 use Rattle.mm_run.specs.Answered.{DecidedLine, AreAnswered, last_stage, MadeNamed, AreFaultless}
-use Rattle.mm_run.specs.Ends.{Left, Leaves, Closes, BreaksAt}
+use Rattle.mm_run.specs.Ends.{Left, StageLeaves, ClosesRun, BreaksAt}
 use Rattle.mm_run.specs.Ran.{SomeRose, begun_at}
 use Rattle.mm_run.specs.Bulk.{AreDecided, ClosesEvents}
 use Rattle.mm_run.proofs.Events.{decided_of, closed_of}
@@ -78,7 +78,7 @@ follows_later s (NotBegun f) h = absurd (let bad = h.same in cc)
 follows_later s (Running z) h =
     later_same s z (ap (λ (x : Stage). (scene_in s x).paging) h.same) (ap (λ (x : Stage). (scene_in s x).files) h.same)
 
-decides_later : (m n : Scene) (e : Event) (a : Answer) (ms : List Move) → Decides m e a ms n → Later m n
+decides_later : (m n : Scene) (e : Event) (a : Answer) (ms : List Move) → DecidesLine m e a ms n → Later m n
 decides_later m n e a ms d = record { paging = d.told.paging_later; files = d.told.files_later }
 
 decided_later : (s : Scene) (before after : Stage) (e : Event) (a : Answer) (ms : List Move) → Follows (Running s) before → IsDecided before e a ms after → LaterAt s after
@@ -113,7 +113,7 @@ rose_from o s z c free (inl (inr m)) = absurd (free (inl m))
 rose_from o s z c free (inr (inl r)) = inr (rose_later o.files s.files.faults z.files.faults c.files_later r)
 rose_from o s z c free (inr (inr m)) = absurd (free (inr m))
 
-module _ (o : Outset) (s z : Scene) (e : Event) (a : Answer) (ms : List Move) (d : Decides s e a ms z) (replays : Replays ms s.behind.life z.behind.life) (calm : Calm o s) (free : MadeNamed (Running s) (Running z) → ⊥) where
+module _ (o : Outset) (s z : Scene) (e : Event) (a : Answer) (ms : List Move) (d : DecidesLine s e a ms z) (replays : Replays ms s.behind.life z.behind.life) (calm : Calm o s) (free : MadeNamed (Running s) (Running z) → ⊥) where
   later : Later s z
   later = decides_later s z e a ms d
 
@@ -178,7 +178,7 @@ module _ (o : Outset) (last : Stage) (never : RoseAt o last → ⊥) where
 
 -- ---- the first line
 
-first_calm : (o : Outset) (e : Event) (a : Answer) (ms : List Move) (s : Scene) → Begins o e a ms s → Replays ms unstarted s.behind.life → Calm o s
+first_calm : (o : Outset) (e : Event) (a : Answer) (ms : List Move) (s : Scene) → MachineBegins o e a ms s → Replays ms unstarted s.behind.life → Calm o s
 first_calm o e a ms s b r =
     let f = b.first in
     record {
@@ -214,8 +214,8 @@ abbrev outset_in : Outset → Stage → Outset
 outset_in o (NotBegun q) = q
 outset_in o (Running s) = o
 
-module _ (a b : Left) (e : Ending) (end : Stage) (leaves : Leaves end b) (calm : SomeRose a b → ⊥) where
-  rose_left : (q : Outset) (y : Stage) → q.paging ≡ a.paging.faults → q.files ≡ a.files.faults → Leaves y b → RoseAt q y → SomeRose a b
+module _ (a b : Left) (e : Ending) (end : Stage) (leaves : StageLeaves end b) (calm : SomeRose a b → ⊥) where
+  rose_left : (q : Outset) (y : Stage) → q.paging ≡ a.paging.faults → q.files ≡ a.files.faults → StageLeaves y b → RoseAt q y → SomeRose a b
   rose_left q (NotBegun f) p r l rose = absurd rose
   rose_left q (Running y) p r l (inl up) = inl (subst (λ (k : ℕ). Rose k b.paging.faults) p (subst (λ (k : ℕ). Rose q.paging k) l.1.faults_are up))
   rose_left q (Running y) p r l (inr up) = inr (subst (λ (k : ℕ). Rose k b.files.faults) r (subst (λ (k : ℕ). Rose q.files k) l.2.faults_are up))
@@ -241,5 +241,5 @@ module _ (a b : Left) (e : Ending) (end : Stage) (leaves : Leaves end b) (calm :
   events_faultless [] u closes = tt
   events_faultless (l ∷ ls) u closes = begun l ls l.before l.after u.0.follows u.0.decided u.2 closes
 
-  pub faultless : (n : ℕ) (front : Text) (lines : List DecidedLine) → AreAnswered 0 (begun_at a) lines → Closes e n front (last_stage (begun_at a) lines) end → AreFaultless lines
+  pub faultless : (n : ℕ) (front : Text) (lines : List DecidedLine) → AreAnswered 0 (begun_at a) lines → ClosesRun e n front (last_stage (begun_at a) lines) end → AreFaultless lines
   faultless n front lines u closes = events_faultless lines (decided_of 0 (begun_at a) lines u) (closed_of e n front (last_stage (begun_at a) lines) end closes)

@@ -3,14 +3,14 @@ use Rattle.std.specs.Prelude.{Result, Ok, Err, Some, None}
 use Rattle.std.proofs.Common.{◌≡◌, ℕ, Option, refl, subst, ◌∙◌, arith}
 use Rattle.mm_types.specs.Spelling.{Text}
 use Rattle.mm_run.specs.declared.endings.Ending.{Ending}
-use Rattle.mm_run.specs.Story.{Counts, IsBlamed, stand}
-use Rattle.mm_run.specs.Moments.{Moment, GoesOn, EndsRun, Steps, FindsLine, outside_of, counts_of}
+use Rattle.mm_run.specs.Story.{FaultCounts, IsBlamed, stand}
+use Rattle.mm_run.specs.Moments.{Moment, GoesOn, EndsRun, GoesOnOrEnds, FindsLine, outside_of, fault_counts_of}
 use Rattle.mm_run.proofs.Stories.{went_none, went_then, went_came}
 
 -- ---- counts of faults that stayed before
 
-pub blamed_then : (e : Ending) (opening : Type 0) (c m d : Counts) → m ≡ c → IsBlamed e opening m d → IsBlamed e opening c d
-blamed_then e opening c m d same b = subst (λ (k : Counts). IsBlamed e opening k d) same b
+pub blamed_then : (e : Ending) (opening : Type 0) (c m d : FaultCounts) → m ≡ c → IsBlamed e opening m d → IsBlamed e opening c d
+blamed_then e opening c m d same b = subst (λ (k : FaultCounts). IsBlamed e opening k d) same b
 
 -- ---- a step, and then another
 
@@ -33,12 +33,12 @@ module _ {held mid : Text} {n m : ℕ} {a b : Moment} (first : GoesOn held n mid
   pub goes_ends : {c : Moment} (e : Ending) → EndsRun mid m b c e → EndsRun held n a c e
   goes_ends {c} e h = record {
     came = went_came (outside_of a) (outside_of b) (outside_of c) (stand held n a.stage) (stand mid m b.stage) c.stage e first.went h.came;
-    faults = blamed_then e ⊥ (counts_of a) (counts_of b) (counts_of c) first.faults h.faults;
+    faults = blamed_then e ⊥ (fault_counts_of a) (fault_counts_of b) (fault_counts_of c) first.faults h.faults;
     idle = let i = first.idle in let j = h.idle in omega arith;
     form = h.form;
   }
 
-  pub steps_then : (c : Moment) (held' : Text) (n' : ℕ) (r : Option Ending) → Steps r mid m held' n' b c → Steps r held n held' n' a c
+  pub steps_then : (c : Moment) (held' : Text) (n' : ℕ) (r : Option Ending) → GoesOnOrEnds r mid m held' n' b c → GoesOnOrEnds r held n held' n' a c
   steps_then c held' n' None h = goes_then first h
   steps_then c held' n' (Some e) h = goes_ends e h
 

@@ -16,12 +16,12 @@ use Rattle.mm_world.specs.Step.{first_world}
 use Rattle.mm_paging.specs.Runs.{first_move}
 use Rattle.mm_types.specs.declared.moves.Move.{Move}
 use Rattle.mm_run.specs.declared.endings.Ending.TheVariants as ending
-use Rattle.mm_run.specs.Reading.{reading}
+use Rattle.mm_run.specs.Reading.{reading_of}
 use Rattle.mm_core.specs.Promise.{Scene}
 use Rattle.mm_run.specs.Scenes.{Outset, Stage, NotBegun, Running, HasNoted, log_of}
-use Rattle.mm_run.specs.Steps.{IsDecided, IsMade}
+use Rattle.mm_run.specs.Steps.{IsDecided, MachineIsMade}
 use Rattle.mm_run.specs.Answered.{DecidedLine, IsNext}
-use Rattle.mm_run.specs.Story.{Went, Came, outside, stand}
+use Rattle.mm_run.specs.Story.{WentOn, CameToEnd, outside, stand}
 use Rattle.mm_run.proofs.Stories.{follows_here}
 use Rattle.mm_run.proofs.Stops.{is_line, went_to, came_muted}
 
@@ -30,7 +30,7 @@ within_first : (m : MachineOf) (s : Scene) → s.world ≡ first_world m → cha
 within_first m s e = subst (λ (y : World). charge y ≤ limit y) (sym e) (omega arith)
 
 -- the first line is decided
-pub first_answered : (m : MachineOf) (o : Outset) (s : Scene) → IsMade m o s → (n : ℕ) → n ≡ limit_of m → IsDecided (NotBegun o) (line.Machine m) (answer.Limit n) (first_move m ∷ []) (Running s)
+pub first_answered : (m : MachineOf) (o : Outset) (s : Scene) → MachineIsMade m o s → (n : ℕ) → n ≡ limit_of m → IsDecided (NotBegun o) (line.Machine m) (answer.Limit n) (first_move m ∷ []) (Running s)
 first_answered m o s made n e = record {
   step = record { machine = m; names = refl; answered = ap (λ k. answer.Limit k) e; one = refl; first = made.first };
   within = within_first m s made.first.world;
@@ -40,15 +40,15 @@ first_answered m o s made n e = record {
 
 -- a decided line was answered, or was muted
 module _ (held : Text) (len n : ℕ) (h : HasLine held len) (small : n < 1000000) (behind : length held < len + 1 + 4096) where
-  module _ (a t : Option Text) (kept : Text) (w w' : Stage) (event : Event) (said : Answer) (moves : List Move) (p : reading n (take len held) ≡ Ok event) (g : IsLineFor (take len held) event) (s : IsDecided w event said moves w') where
+  module _ (a t : Option Text) (kept : Text) (w w' : Stage) (event : Event) (said : Answer) (moves : List Move) (p : reading_of n (take len held) ≡ Ok event) (g : IsLineFor (take len held) event) (s : IsDecided w event said moves w') where
     abbrev one : DecidedLine
     one = record { text = take len held; event = event; answer = said; moves = moves; before = w; after = w' }
 
     next : IsNext n w one
     next = record { follows = follows_here w; says = record { is_line = is_line held len n h small behind; says = p; grammar = g }; decided = s }
 
-    pub told_muted : (log_of w').failed ≡ true → Came (outside a t kept) (outside a t kept) (stand held n w) ending.MovesFault w'
+    pub told_muted : (log_of w').failed ≡ true → CameToEnd (outside a t kept) (outside a t kept) (stand held n w) ending.MovesFault w'
     told_muted failed = came_muted held len n h small behind a t kept w one refl next failed
 
-    pub told_went : HasNoted w' → (kept' held' : Text) → held' ≡ drop (len + 1) held → kept' ≡ kept ++ spelling said → Went (outside a t kept) (outside a t kept') (stand held n w) (stand held' (n + 1) w')
+    pub told_went : HasNoted w' → (kept' held' : Text) → held' ≡ drop (len + 1) held → kept' ≡ kept ++ spelling said → WentOn (outside a t kept) (outside a t kept') (stand held n w) (stand held' (n + 1) w')
     told_went noted kept' held' rest u = went_to held len n h small behind a t kept w one refl next kept' held' rest noted u

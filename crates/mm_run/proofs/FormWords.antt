@@ -14,7 +14,7 @@ use Rattle.mm_run.specs.declared.forms.WordsForm.{WordsForm}
 use Rattle.mm_run.specs.declared.forms.WordsForm.TheVariants as form
 use Rattle.mm_run.specs.Bulk.{IsBulk, IsNoBulk, BulkRan, below_64, word_value}
 use Rattle.mm_run.specs.Ran.{Around, Ran, RanOrRefused}
-use Rattle.mm_run.specs.Story.{IsForm}
+use Rattle.mm_run.specs.Story.{IsRunForm}
 use Rattle.mm_run.specs.WordForms.{SaysForm}
 
 -- ---- numbers do not begin with `-`
@@ -93,7 +93,7 @@ one_bulk ws s n s' n' a b =
     let counts : n ≡ n' = cc in
     (seeds, counts)
 
-pub no_run : (ws : List (String Global)) → IsForm ws → IsNoBulk ws
+pub no_run : (ws : List (String Global)) → IsRunForm ws → IsNoBulk ws
 no_run ws q = λ s n b. let both : codes "run" ∷ [] ≡ codes "bulk" ∷ b.first ∷ b.second ∷ [] = sym q ∙ b.words_are in absurd (let many = ap length both in omega arith)
 
 -- what a run of a script did is what a run of the same script did

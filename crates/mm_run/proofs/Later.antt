@@ -8,11 +8,11 @@ use Rattle.mm_script.specs.declared.faults.LineFault.{LineFault}
 use Rattle.mm_script.specs.Place.{without_return}
 use Rattle.mm_script.specs.Reading.{parse}
 use Rattle.mm_core.specs.Built.{is_machine}
-use Rattle.mm_run.specs.Reading.{reading, read_later, is_machine_word}
+use Rattle.mm_run.specs.Reading.{reading_of, read_later, is_machine_word}
 use Rattle.mm_run.specs.Story.{IsMisplaced}
 
 -- All later lines are read alike.
-pub later_reading : (n : ℕ) (text : Text) → 0 < n → reading n text ≡ reading 1 text
+pub later_reading : (n : ℕ) (text : Text) → 0 < n → reading_of n text ≡ reading_of 1 text
 later_reading zero text some = absurd (omega arith)
 later_reading (suc n) text some = refl
 
@@ -24,6 +24,6 @@ refused_is b (Ok x) column e q p = elim (is_machine x) as (λ m. is_machine x �
 ] refl
 
 -- A line of the grammar that is refused as a later one is a `machine` line.
-pub later_refused : (n : ℕ) (text : Text) (column : ℕ) (e : Event) → 0 < n → reading 1 text ≡ Err column → parse text ≡ Ok e → IsMisplaced n e
+pub later_refused : (n : ℕ) (text : Text) (column : ℕ) (e : Event) → 0 < n → reading_of 1 text ≡ Err column → parse text ≡ Ok e → IsMisplaced n e
 later_refused n text column e some q p =
     refused_is (is_machine_word (without_return text)) (parse text) column e q p ∙ sym (lt-ltb 0 n some)

@@ -14,11 +14,11 @@ use Rattle.mm_world.specs.World.{Page}
 use Rattle.mm_paging.specs.Runs.{DevicesHold}
 use Rattle.mm_run.specs.declared.endings.Ending.{Ending}
 use Rattle.mm_run.specs.declared.endings.Ending.TheVariants as ending
-use Rattle.mm_run.specs.Scenes.{Stage, NotBegun, Running, Follows, HasNoted, with_flush, log_of, life_of}
-use Rattle.mm_run.specs.Steps.{Notes, HoldsUnchanged}
+use Rattle.mm_run.specs.Scenes.{Stage, NotBegun, Running, Follows, HasNoted, with_flush, log_of, replay_of}
+use Rattle.mm_run.specs.Steps.{StageNotes, HoldsUnchanged}
 use Rattle.mm_run.specs.Answered.{DecidedLine, AreAnswered, last_stage, moves_of}
 use Rattle.mm_run.specs.Texts.{TornText}
-use Rattle.mm_run.specs.Ends.{Closes, BreaksAt, Left, Leaves}
+use Rattle.mm_run.specs.Ends.{ClosesRun, BreaksAt, Left, StageLeaves}
 use Rattle.mm_run.specs.Ran.{LogRan, EndsHolding}
 use Rattle.mm_run.specs.Bulk.{AreDecided, ClosesEvents}
 use Rattle.mm_run.proofs.Stories.{life_follows, bytes_follow, failed_follows}
@@ -50,7 +50,7 @@ all_of (Some a) (Some b) text p q e t =
 
 pub record Logged (old : Stage) (moves : List Move) (last : Stage) : Type 0 where
   pub in_range : AreMoves moves
-  pub replays : Replays moves (life_of old) (life_of last)
+  pub replays : Replays moves (replay_of old) (replay_of last)
   pub wrote : Appended (log_of old).bytes (log_of last).bytes (spelled_moves moves)
   pub later : (log_of old).faults ≤ (log_of last).faults
   pub noted : HasNoted old → HasNoted last
@@ -58,7 +58,7 @@ pub record Logged (old : Stage) (moves : List Move) (last : Stage) : Type 0 wher
 logged_here : (old : Stage) → Logged old [] old
 logged_here old = record { in_range = tt; replays = refl; wrote = appended_none (log_of old).bytes; later = omega arith; noted = λ h. h }
 
-one_logged : (old new : Stage) (moves : List Move) → Notes old moves new → HasNoted new → Logged old moves new
+one_logged : (old new : Stage) (moves : List Move) → StageNotes old moves new → HasNoted new → Logged old moves new
 one_logged old new moves n h = record {
   in_range = n.in_range;
   replays = n.replays;
@@ -71,7 +71,7 @@ one_logged old new moves n h = record {
 logged_from : (a b c : Stage) (moves : List Move) → Follows a b → Logged b moves c → Logged a moves c
 logged_from a b c moves h l = record {
   in_range = l.in_range;
-  replays = subst (λ (f : FrameLife). Replays moves f (life_of c)) (life_follows a b h) l.replays;
+  replays = subst (λ (f : FrameLife). Replays moves f (replay_of c)) (life_follows a b h) l.replays;
   wrote = subst (λ (x : Option Text). Appended x (log_of c).bytes (spelled_moves moves)) (bytes_follow a b h) l.wrote;
   later = omega (arith, h.later, l.later);
   noted = λ before. l.noted (failed_follows a b h ∙ before);
@@ -80,7 +80,7 @@ logged_from a b c moves h l = record {
 logged_then : (a b c : Stage) (xs ys : List Move) → Logged a xs b → Logged b ys c → Logged a (xs ++ ys) c
 logged_then a b c xs ys u v = record {
   in_range = moves-append xs ys u.in_range v.in_range;
-  replays = replays_then xs ys (life_of a) (life_of b) (life_of c) u.replays v.replays;
+  replays = replays_then xs ys (replay_of a) (replay_of b) (replay_of c) u.replays v.replays;
   wrote = subst (λ (x : Text). Appended (log_of a).bytes (log_of c).bytes x) (sym (spelled-append xs ys))
       (appended_then (log_of a).bytes (log_of b).bytes (log_of c).bytes (spelled_moves xs) (spelled_moves ys) u.wrote v.wrote);
   later = omega (arith, u.later, v.later);
@@ -99,11 +99,11 @@ all_logged n old lines u = events_logged old lines (decided_of n old lines u)
 
 -- ---- the end
 
-pub bytes_left : (end : Stage) (x : Left) → Leaves end x → (log_of end).bytes ≡ x.moves
+pub bytes_left : (end : Stage) (x : Left) → StageLeaves end x → (log_of end).bytes ≡ x.moves
 bytes_left (NotBegun o) x h = h.bytes_are
 bytes_left (Running s) x h = h.0.bytes_are
 
-faults_left : (end : Stage) (x : Left) → Leaves end x → (log_of end).faults ≤ x.moves_faults
+faults_left : (end : Stage) (x : Left) → StageLeaves end x → (log_of end).faults ≤ x.moves_faults
 faults_left (NotBegun o) x h = h.faults_are
 faults_left (Running s) x h = h.0.faults_are
 
@@ -112,9 +112,9 @@ none_missing : {R : Type 0} (back : Text) (q : Bool) → (q ≡ false → back �
 none_missing back false all blame calm = all refl
 none_missing back true all blame calm = absurd (calm (blame refl))
 
-module _ (old last : Stage) (moves : List Move) (l : Logged old moves last) (start : life_of old ≡ unstarted) (fresh : HasNoted old) where
-  from_start : Replays moves unstarted (life_of last)
-  from_start = subst (λ (f : FrameLife). Replays moves f (life_of last)) start l.replays
+module _ (old last : Stage) (moves : List Move) (l : Logged old moves last) (start : replay_of old ≡ unstarted) (fresh : HasNoted old) where
+  from_start : Replays moves unstarted (replay_of last)
+  from_start = subst (λ (f : FrameLife). Replays moves f (replay_of last)) start l.replays
 
   -- nothing more was noted
   log_whole : (e : Ending) (end : Stage) → Follows last end → LogRan (log_of old).bytes (log_of end).bytes (log_of old).faults (log_of end).faults moves e last end
@@ -136,14 +136,14 @@ module _ (old last : Stage) (moves : List Move) (l : Logged old moves last) (sta
   }
 
   -- a line more was noted, as far as the sink took it
-  log_more : (e : Ending) (mid end : Stage) (more : List Move) → Follows last mid → Notes mid more end → ((e ≢ ending.NoMemory) → (e ≢ ending.MovesFault) → ⊥) → LogRan (log_of old).bytes (log_of end).bytes (log_of old).faults (log_of end).faults moves e last end
+  log_more : (e : Ending) (mid end : Stage) (more : List Move) → Follows last mid → StageNotes mid more end → ((e ≢ ending.NoMemory) → (e ≢ ending.MovesFault) → ⊥) → LogRan (log_of old).bytes (log_of end).bytes (log_of old).faults (log_of end).faults moves e last end
   log_more e mid end more h n never =
       let t = front_of (log_of mid).bytes (log_of end).bytes (spelled_moves more) (log_of mid).failed (log_of end).failed n.grew.told in
       record {
         more = more;
         in_range = moves-append moves more l.in_range n.in_range;
         replays = from_start;
-        replays_more = subst (λ (f : FrameLife). Replays more f (life_of end)) (life_follows last mid h) n.replays;
+        replays_more = subst (λ (f : FrameLife). Replays more f (replay_of end)) (life_follows last mid h) n.replays;
         wrote = record {
           front = spelled_moves moves ++ t.front;
           back = t.back;
@@ -181,7 +181,7 @@ module _ (old last : Stage) (moves : List Move) (l : Logged old moves last) (sta
   log_closed ending.SetupFault end h = log_whole ending.SetupFault end h
   log_closed (ending.TooLong l) end h = log_whole (ending.TooLong l) end h
 
-  pub log_ran : (e : Ending) (n : ℕ) (front : Text) (end : Stage) → Closes e n front last end → LogRan (log_of old).bytes (log_of end).bytes (log_of old).faults (log_of end).faults moves e last end
+  pub log_ran : (e : Ending) (n : ℕ) (front : Text) (end : Stage) → ClosesRun e n front last end → LogRan (log_of old).bytes (log_of end).bytes (log_of old).faults (log_of end).faults moves e last end
   log_ran e n front end h = log_closed e end (closed_of e n front last end h)
 
 -- ---- what stands on devices
@@ -197,16 +197,16 @@ holds_with g k (Running s) h = h
 holds_follows : (a b : Stage) → Follows a b → HoldsUnchanged a → HoldsUnchanged b
 holds_follows a b f h = subst HoldsUnchanged (sym f.same) (holds_with (log_of b).given (log_of b).faults a h)
 
-ends_holding : (end : Stage) (x : Left) → Leaves end x → HoldsUnchanged end → EndsHolding end x.paging.blocks x.files.blocks
+ends_holding : (end : Stage) (x : Left) → StageLeaves end x → HoldsUnchanged end → EndsHolding end x.paging.blocks x.files.blocks
 ends_holding (NotBegun o) x l h = tt
 ends_holding (Running s) x l h =
     subst (λ (b : List Page). DevicesHold s.world s.behind.life x.paging.blocks b) l.2.blocks_are
     (subst (λ (b : List Page). DevicesHold s.world s.behind.life b s.blocks) l.1.blocks_are h)
 
-pub events_hold : (old : Stage) (lines : List DecidedLine) (end : Stage) (x : Left) → HoldsUnchanged old → AreDecided old lines → Follows (last_stage old lines) end → Leaves end x → EndsHolding end x.paging.blocks x.files.blocks
+pub events_hold : (old : Stage) (lines : List DecidedLine) (end : Stage) (x : Left) → HoldsUnchanged old → AreDecided old lines → Follows (last_stage old lines) end → StageLeaves end x → EndsHolding end x.paging.blocks x.files.blocks
 events_hold old lines end x h u f l = ends_holding end x l (holds_follows (last_stage old lines) end f (holds_last old lines h u))
 
-pub holds_at_end : (n : ℕ) (old : Stage) (lines : List DecidedLine) (end : Stage) (x : Left) → HoldsUnchanged old → AreAnswered n old lines → Follows (last_stage old lines) end → Leaves end x → EndsHolding end x.paging.blocks x.files.blocks
+pub holds_at_end : (n : ℕ) (old : Stage) (lines : List DecidedLine) (end : Stage) (x : Left) → HoldsUnchanged old → AreAnswered n old lines → Follows (last_stage old lines) end → StageLeaves end x → EndsHolding end x.paging.blocks x.files.blocks
 holds_at_end n old lines end x h u f l = events_hold old lines end x h (decided_of n old lines u) f l
 
 -- the count of faults may rise further
@@ -222,7 +222,7 @@ log_counted took took' faults counted counted' moves e last end more r = record 
   unless = λ calm. r.unless (λ rose. calm (rose_then faults counted counted' rose more));
 }
 
-pub log_left : (took : Option Text) (faults : ℕ) (moves : List Move) (e : Ending) (last end : Stage) (x : Left) → Leaves end x → LogRan took (log_of end).bytes faults (log_of end).faults moves e last end → LogRan took x.moves faults x.moves_faults moves e last end
+pub log_left : (took : Option Text) (faults : ℕ) (moves : List Move) (e : Ending) (last end : Stage) (x : Left) → StageLeaves end x → LogRan took (log_of end).bytes faults (log_of end).faults moves e last end → LogRan took x.moves faults x.moves_faults moves e last end
 log_left took faults moves e last end x h r =
     log_counted took x.moves faults (log_of end).faults x.moves_faults moves e last end (faults_left end x h)
     (subst (λ (b : Option Text). LogRan took b faults (log_of end).faults moves e last end) (bytes_left end x h) r)

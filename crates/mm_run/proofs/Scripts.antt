@@ -9,13 +9,13 @@ use Rattle.mm_io.specs.Lines.{NoFeed, IsLine, with_line_feed, text_of_lines}
 use Rattle.mm_types.specs.declared.events.Event.{Event}
 use Rattle.mm_run.specs.declared.endings.Ending.{Ending}
 use Rattle.mm_run.specs.declared.endings.Ending.TheVariants as ending
-use Rattle.mm_run.specs.Reading.{reading}
+use Rattle.mm_run.specs.Reading.{reading_of}
 use Rattle.mm_run.specs.Scenes.{Stage}
-use Rattle.mm_run.specs.Answered.{DecidedLine, AreAnswered, texts_of, answers_of}
+use Rattle.mm_run.specs.Answered.{DecidedLine, AreAnswered, texts_of, answers_in}
 use Rattle.mm_run.specs.Texts.{status_of, last_text}
-use Rattle.mm_run.specs.Story.{Settles, IsBad, IsOpen}
+use Rattle.mm_run.specs.Story.{SettlesRun, IsBad, IsOpen}
 use Rattle.mm_run.specs.Ran.{Around, Ran, RanOrRefused, begun_at}
-use Rattle.mm_run.specs.Script.{Each, IsVerdict, IsScript, IsFault, IsComplete}
+use Rattle.mm_run.specs.Script.{EachSays, IsVerdict, IsScriptOf, IsFault, IsComplete}
 
 -- Bytes without a line feed are no longer than the line in front.
 front_short : (l front r more : Text) → NoFeed front → l ++ 10 ∷ r ≡ front ++ more → length front ≤ length l
@@ -46,13 +46,13 @@ same_line l k front r more u v w q =
     let both = one_line l k r more u v (sym (feed_then l r) ∙ q ∙ ap (λ xs. xs ++ more) w ∙ feed_then k more) in both.0
 
 -- A line in the grammar settles nothing.
-goes_on : (n : ℕ) (l r front more : Text) (e : Ending) (event : Event) → n < 1000000 → IsLine l → reading n l ≡ Ok event → IsVerdict e → Settles n front more (Some []) e → with_line_feed l ++ r ≡ front ++ more → ⊥
+goes_on : (n : ℕ) (l r front more : Text) (e : Ending) (event : Event) → n < 1000000 → IsLine l → reading_of n l ≡ Ok event → IsVerdict e → SettlesRun n front more (Some []) e → with_line_feed l ++ r ≡ front ++ more → ⊥
 goes_on n l r front more ending.Done event few line p v s q =
     let len = ap length q in
     omega (arith, len, length-append (with_line_feed l) r, length-append l (10 ∷ []), length-append front more, ap length s.1, ap length s.2)
 goes_on n l r front more (ending.Script number column) event few line p v s q = elim s.2 [
   | inl bad ↦ (let same = same_line l bad.line front r more line.no_feed bad.is_line.no_feed bad.whole q in
-      let clash : Ok event ≡ Err column = sym p ∙ ap (reading n) same ∙ bad.place in cc)
+      let clash : Ok event ≡ Err column = sym p ∙ ap (reading_of n) same ∙ bad.place in cc)
   | inr open_ ↦ (let le = front_short l front r more open_.is_line.no_feed (sym (feed_then l r) ∙ q) in
       let len = ap length q in
       omega (arith, len, length-append (with_line_feed l) r, length-append l (10 ∷ []), length-append front more, ap length open_.last))
@@ -93,7 +93,7 @@ one_column : (n : ℕ) (front more front' more' : Text) (column column' : ℕ) �
     → IsBad n front' column' ⊎ IsOpen n front' more' (Some []) column' → column ≡ column'
 one_column n front more front' more' column column' q (inl b) (inl d) =
     let same = two_whole b.line d.line front more front' more' q b.is_line d.is_line b.whole d.whole in
-    let both : Err column ≡ Err column' = sym b.place ∙ ap (reading n) same ∙ d.place in cc
+    let both : Err column ≡ Err column' = sym b.place ∙ ap (reading_of n) same ∙ d.place in cc
 one_column n front more front' more' column column' q (inl b) (inr o) = absurd (whole_and_open n b.line front more front' more' column' q b.whole o)
 one_column n front more front' more' column column' q (inr o) (inl b) = absurd (whole_and_open n b.line front' more' front more column (sym q) b.whole o)
 one_column n front more front' more' column column' q (inr o) (inr i) =
@@ -112,7 +112,7 @@ done_and_long : (n : ℕ) (front more front' more' : Text) → front ≡ [] → 
 done_and_long n front more front' more' f m q (inl long) = let many = long.0 in omega (arith, ap length f, ap length m, ap length q, length-append front more, length-append front' more')
 done_and_long n front more front' more' f m q (inr full) = let one = full.1 in omega (arith, ap length f, ap length m, ap length q, length-append front more, length-append front' more')
 
-one_ending : (n : ℕ) (front more front' more' : Text) (e f : Ending) → front ++ more ≡ front' ++ more' → IsVerdict e → IsVerdict f → Settles n front more (Some []) e → Settles n front' more' (Some []) f → e ≡ f
+one_ending : (n : ℕ) (front more front' more' : Text) (e f : Ending) → front ++ more ≡ front' ++ more' → IsVerdict e → IsVerdict f → SettlesRun n front more (Some []) e → SettlesRun n front' more' (Some []) f → e ≡ f
 one_ending n x y x' y' ending.Done ending.Done q v w s t = refl
 one_ending n x y x' y' ending.Done (ending.Script l c) q v w s t = absurd (done_and_bad n x y x' y' c s.1 s.2 q s.0 t.2)
 one_ending n x y x' y' ending.Done (ending.TooLong l) q v w s t = absurd (done_and_long n x y x' y' s.1 s.2 q t.1)
@@ -138,17 +138,17 @@ one_ending n x y x' y' e ending.SetupFault q v w s t = absurd w
 
 -- From n decided lines on there is one reading.
 one_from : (n : ℕ) (ls ks : List Text) (es gs : List Event) (x y x' y' : Text) (e f : Ending)
-    → text_of_lines ls ++ (x ++ y) ≡ text_of_lines ks ++ (x' ++ y') → Each n ls es → Each n ks gs → n + length ls ≤ 1000000 → n + length ks ≤ 1000000
-    → Settles (n + length ls) x y (Some []) e → Settles (n + length ks) x' y' (Some []) f → IsVerdict e → IsVerdict f → (ls ≡ ks) × (e ≡ f)
+    → text_of_lines ls ++ (x ++ y) ≡ text_of_lines ks ++ (x' ++ y') → EachSays n ls es → EachSays n ks gs → n + length ls ≤ 1000000 → n + length ks ≤ 1000000
+    → SettlesRun (n + length ls) x y (Some []) e → SettlesRun (n + length ks) x' y' (Some []) f → IsVerdict e → IsVerdict f → (ls ≡ ks) × (e ≡ f)
 one_from n [] [] es gs x y x' y' e f q u v a b s r p w =
     (refl, one_ending (n + 0) x y x' y' e f q p w s r)
 one_from n [] (k ∷ ks) es (g ∷ gs) x y x' y' e f q u v a b s r p w =
     let here : n + 0 ≡ n = omega arith in
-    absurd (goes_on n k (text_of_lines ks ++ (x' ++ y')) x y e g (omega arith) v.0.is_line v.0.says p (subst (λ (m : ℕ). Settles m x y (Some []) e) here s) (sym (q ∙ append_assoc (with_line_feed k) (text_of_lines ks) (x' ++ y'))))
+    absurd (goes_on n k (text_of_lines ks ++ (x' ++ y')) x y e g (omega arith) v.0.is_line v.0.says p (subst (λ (m : ℕ). SettlesRun m x y (Some []) e) here s) (sym (q ∙ append_assoc (with_line_feed k) (text_of_lines ks) (x' ++ y'))))
 one_from n [] (k ∷ ks) es [] x y x' y' e f q u v a b s r p w = absurd v
 one_from n (l ∷ ls) [] (g ∷ es) gs x y x' y' e f q u v a b s r p w =
     let here : n + 0 ≡ n = omega arith in
-    absurd (goes_on n l (text_of_lines ls ++ (x ++ y)) x' y' f g (omega arith) u.0.is_line u.0.says w (subst (λ (m : ℕ). Settles m x' y' (Some []) f) here r) (sym (append_assoc (with_line_feed l) (text_of_lines ls) (x ++ y)) ∙ q))
+    absurd (goes_on n l (text_of_lines ls ++ (x ++ y)) x' y' f g (omega arith) u.0.is_line u.0.says w (subst (λ (m : ℕ). SettlesRun m x' y' (Some []) f) here r) (sym (append_assoc (with_line_feed l) (text_of_lines ls) (x ++ y)) ∙ q))
 one_from n (l ∷ ls) [] [] gs x y x' y' e f q u v a b s r p w = absurd u
 one_from n (l ∷ ls) (k ∷ ks) [] gs x y x' y' e f q u v a b s r p w = absurd u
 one_from n (l ∷ ls) (k ∷ ks) (h ∷ es) [] x y x' y' e f q u v a b s r p w = absurd v
@@ -158,14 +158,14 @@ one_from n (l ∷ ls) (k ∷ ks) (h ∷ es) (g ∷ gs) x y x' y' e f q u v a b s
     let i : n + suc (length ls) ≡ suc n + length ls = omega arith in
     let j : n + suc (length ks) ≡ suc n + length ks = omega arith in
     let rest = one_from (suc n) ls ks es gs x y x' y' e f split.1 u.1 v.1 (omega arith) (omega arith)
-    (subst (λ (m : ℕ). Settles m x y (Some []) e) i s) (subst (λ (m : ℕ). Settles m x' y' (Some []) f) j r) p w in
+    (subst (λ (m : ℕ). SettlesRun m x y (Some []) e) i s) (subst (λ (m : ℕ). SettlesRun m x' y' (Some []) f) j r) p w in
     (ap (λ z. z ∷ ls) split.0 ∙ ap (λ zs. k ∷ zs) rest.0, rest.1)
 
-pub one_script : (text : Text) (ls ks : List Text) (e f : Ending) → IsScript text 0 ls e → IsScript text 0 ks f → (ls ≡ ks) × (e ≡ f)
+pub one_script : (text : Text) (ls ks : List Text) (e f : Ending) → IsScriptOf text 0 ls e → IsScriptOf text 0 ks f → (ls ≡ ks) × (e ≡ f)
 one_script text ls ks e f a b = one_from 0 ls ks a.events b.events a.front a.more b.front b.more e f (sym a.whole ∙ b.whole) a.each b.each a.limit b.limit a.settled b.settled a.verdict b.verdict
 
 -- What was left makes no difference.
-settles_all : (n : ℕ) (x y rest : Text) (e : Ending) → IsVerdict e → Settles n x y (Some rest) e → Settles n x (y ++ rest) (Some []) e
+settles_all : (n : ℕ) (x y rest : Text) (e : Ending) → IsVerdict e → SettlesRun n x y (Some rest) e → SettlesRun n x (y ++ rest) (Some []) e
 settles_all n x y rest ending.Done v s = (s.0, s.1, ap (λ ys. ys ++ rest) s.2 ∙ s.3, refl)
 settles_all n x y rest (ending.Script l c) v s = (
   s.0,
@@ -186,7 +186,7 @@ settles_all n x y rest ending.SetupFault v s = absurd v
 abbrev events_of : List DecidedLine → List Event
 events_of lines = map (λ l. l.event) lines
 
-each_of : (n : ℕ) (old : Stage) (lines : List DecidedLine) → AreAnswered n old lines → Each n (texts_of lines) (events_of lines)
+each_of : (n : ℕ) (old : Stage) (lines : List DecidedLine) → AreAnswered n old lines → EachSays n (texts_of lines) (events_of lines)
 each_of n old [] u = tt
 each_of n old (l ∷ ls) u = (u.0.says, each_of (suc n) l.after ls u.2)
 
@@ -218,7 +218,7 @@ usage_only ending.SetupFault q = absurd (omega arith)
 
 -- a run that is a verdict is over the script
 module _ (a b : Around) (form : Type 0) (status : ℕ) (ran : Ran a b form status) where
-  script_of : (text : Text) (left left' : Option Text) → left ≡ Some text → Took left left' ran.taken → Settles (length ran.lines) ran.front ran.more left' ran.e → IsVerdict ran.e → IsScript text 0 (texts_of ran.lines) ran.e
+  script_of : (text : Text) (left left' : Option Text) → left ≡ Some text → Took left left' ran.taken → SettlesRun (length ran.lines) ran.front ran.more left' ran.e → IsVerdict ran.e → IsScriptOf text 0 (texts_of ran.lines) ran.e
   script_of text None left' q r s v = cc
   script_of text (Some x) None q r s v = absurd r
   script_of text (Some x) (Some rest) q r s v =
@@ -233,11 +233,11 @@ module _ (a b : Around) (form : Type 0) (status : ℕ) (ran : Ran a b form statu
         whole = sym same ∙ r ∙ ap (λ xs. xs ++ rest) ran.whole ∙ append_assoc (text_of_lines (texts_of ran.lines)) (ran.front ++ ran.more) rest ∙ ap (λ xs. text_of_lines (texts_of ran.lines) ++ xs) (append_assoc ran.front ran.more rest);
         each = each_of 0 (begun_at a.beside) ran.lines ran.answered;
         limit = omega (arith, many, l);
-        settled = subst (λ (k : ℕ). Settles k ran.front (ran.more ++ rest) (Some []) ran.e) here (settles_all (length ran.lines) ran.front ran.more rest ran.e v s);
+        settled = subst (λ (k : ℕ). SettlesRun k ran.front (ran.more ++ rest) (Some []) ran.e) here (settles_all (length ran.lines) ran.front ran.more rest ran.e v s);
         verdict = v;
       }
 
-  complete : (text : Text) (lines : List Text) (e : Ending) → a.left ≡ Some text → IsScript text 0 lines e → status ≡ status_of ran.e → IsVerdict ran.e → Appended a.took b.took (spelled (answers_of ran.lines) ++ last_text ran.e) → IsComplete a b form lines e status
+  complete : (text : Text) (lines : List Text) (e : Ending) → a.left ≡ Some text → IsScriptOf text 0 lines e → status ≡ status_of ran.e → IsVerdict ran.e → Appended a.took b.took (spelled (answers_in ran.lines) ++ last_text ran.e) → IsComplete a b form lines e status
   complete text lines e told script q v w =
       let one = one_script text (texts_of ran.lines) lines ran.e e (script_of text a.left b.left told ran.read ran.settled v) script in
       record {
@@ -245,14 +245,14 @@ module _ (a b : Around) (form : Type 0) (status : ℕ) (ran : Ran a b form statu
         came_to = one.1;
         all = one.0;
         status_is = q ∙ ap status_of one.1;
-        wrote = subst (λ (f : Ending). Appended a.took b.took (spelled (answers_of ran.lines) ++ last_text f)) one.1 w;
+        wrote = subst (λ (f : Ending). Appended a.took b.took (spelled (answers_in ran.lines) ++ last_text f)) one.1 w;
       }
 
-  exact_ran : (text : Text) (lines : List Text) (e : Ending) → a.left ≡ Some text → form → IsScript text 0 lines e → IsComplete a b form lines e status ⊎ IsFault status
+  exact_ran : (text : Text) (lines : List Text) (e : Ending) → a.left ≡ Some text → form → IsScriptOf text 0 lines e → IsComplete a b form lines e status ⊎ IsFault status
   exact_ran text lines e told words script = elim ran.ends [
     | inl whole ↦ elim (verdict_or ran.e (ran.is_form words)) [
       | inr fault ↦ inr (subst IsFault (sym whole.status_is) fault)
-      | inl verdict ↦ inl (complete text lines e told script whole.status_is verdict (subst (λ (ws : Text). Appended a.took b.took ws) (whole.text ∙ ap (λ ls. spelled (answers_of ls) ++ last_text ran.e) (all_told whole.all_told)) ran.wrote))
+      | inl verdict ↦ inl (complete text lines e told script whole.status_is verdict (subst (λ (ws : Text). Appended a.took b.took ws) (whole.text ∙ ap (λ ls. spelled (answers_in ls) ++ last_text ran.e) (all_told whole.all_told)) ran.wrote))
     ]
     | inr (inl torn) ↦ inr (inr (inr (inl torn.status_is)))
     | inr (inr some) ↦ inr (inr (inr (inr (inl some.status_is))))
@@ -277,7 +277,7 @@ module _ (a b : Around) (form : Type 0) (status : ℕ) (ran : Ran a b form statu
 
 -- or memory was refused before anything else
 module _ (a b : Around) (form : Type 0) (status : ℕ) where
-  pub exact : RanOrRefused a b form status → (text : Text) (lines : List Text) (e : Ending) → a.left ≡ Some text → form → IsScript text 0 lines e → IsComplete a b form lines e status ⊎ IsFault status
+  pub exact : RanOrRefused a b form status → (text : Text) (lines : List Text) (e : Ending) → a.left ≡ Some text → form → IsScriptOf text 0 lines e → IsComplete a b form lines e status ⊎ IsFault status
   exact (inl ran) text lines e told words script = exact_ran a b form status ran text lines e told words script
   exact (inr refused) text lines e told words script = inr (inl refused.status_is)
 

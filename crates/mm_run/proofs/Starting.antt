@@ -17,19 +17,19 @@ use Rattle.mm_world.specs.Step.{first_world}
 use Rattle.mm_life.specs.Waits.{Idle, wait_of}
 use Rattle.mm_flight.specs.declared.flights.Waiting.TheVariants as waiting
 use Rattle.mm_parts.specs.Reading.{walked_or}
-use Rattle.mm_parts.specs.Start.{started}
+use Rattle.mm_parts.specs.Start.{first_parts}
 use Rattle.mm_pages.specs.Store.{StoreOf}
 use Rattle.mm_pages.specs.Behind.{Behind}
 use Rattle.mm_pages.specs.Told.{none_told}
 use Rattle.mm_pages.specs.Conditions.{IsNew}
 use Rattle.mm_moving.specs.Shown.{StateOf}
-use Rattle.mm_state.specs.Shown.{Starts, state_of}
+use Rattle.mm_state.specs.Shown.{MachineStarts, joined_state}
 use Rattle.mm_paged.specs.Shown.{OwnOf, own_of, store_of, behind_of}
 use Rattle.mm_paging.specs.Lines.{Agrees}
 use Rattle.mm_paging.specs.Runs.{first_move}
 use Rattle.mm_core.specs.Promise.{Scene}
 use Rattle.mm_run.specs.Scenes.{Outset}
-use Rattle.mm_run.specs.Steps.{IsMade}
+use Rattle.mm_run.specs.Steps.{MachineIsMade}
 
 nobody_waits : (n t : ℕ) → walked_or (slice_get (replicate n waiting.Nothing) t) ≡ Idle
 nobody_waits zero t = refl
@@ -56,7 +56,7 @@ pub record Opened (m : MachineOf) (o : Outset) (paging files : DeviceOf) (slots 
 
 module _ (m : MachineOf) (o : Outset) (paging files : DeviceOf) (slots blocks : List Page) (opened : Opened m o paging files slots blocks) where
   abbrev begun : Log → StateOf
-  begun l = record (state_of (started m) l none_told paging files slots blocks) { contents = λ _. None }
+  begun l = record (joined_state (first_parts m) l none_told paging files slots blocks) { contents = λ _. None }
 
   new_at : (l : Log) → IsNew m (begun l).contents (store_of (begun l) own)
   new_at l = record {
@@ -80,7 +80,7 @@ module _ (m : MachineOf) (o : Outset) (paging files : DeviceOf) (slots blocks : 
     none_named_file = opened.files_named;
   }
 
-  pub is_new : (log : Log) (z : StateOf) → Starts m log paging files slots blocks z → (c : Key → Option Page) (s : StoreOf) → c ≡ z.contents → s ≡ store_of z own → IsNew m c s
+  pub is_new : (log : Log) (z : StateOf) → MachineStarts m log paging files slots blocks z → (c : Key → Option Page) (s : StoreOf) → c ≡ z.contents → s ≡ store_of z own → IsNew m c s
   is_new log z h c s ec es =
       let here : IsNew m z.contents (store_of z own) = subst (λ (x : StateOf). IsNew m x.contents (store_of x own)) (sym h.shows) (new_at z.log) in
       subst (λ (x : StoreOf). IsNew m c x) (sym es) (subst (λ (x : Key → Option Page). IsNew m x (store_of z own)) (sym ec) here)
@@ -89,7 +89,7 @@ module _ (m : MachineOf) (o : Outset) (paging files : DeviceOf) (slots blocks : 
   scene_of y s b = record { world = y; report = s.report; paging = s.paging_device; files = s.file_device; blocks = s.file_blocks; behind = b }
 
   made_at : (l : Log) → AreMoves (first_move m ∷ []) → Grew o.log l (spelled_moves (first_move m ∷ [])) → IsLegal (first_move m) unstarted → Agrees (first_world m) (store_of (begun l) own).report (behind_of (begun l))
-      → IsMade m o (scene_of (first_world m) (store_of (begun l) own) (behind_of (begun l)))
+      → MachineIsMade m o (scene_of (first_world m) (store_of (begun l) own) (behind_of (begun l)))
   made_at l range grew legal agrees = record {
     first = record {
       world = refl;
@@ -106,8 +106,8 @@ module _ (m : MachineOf) (o : Outset) (paging files : DeviceOf) (slots blocks : 
     holds = λ k on. (let no_way : false ≡ true = on in cc);
   }
 
-  pub is_made : (log : Log) (z : StateOf) → log ≡ o.log → Starts m log paging files slots blocks z → IsLegal (first_move m) unstarted → (y : World) (s : StoreOf) (b : Behind) → y ≡ first_world m → s ≡ store_of z own → b ≡ behind_of z
-      → Agrees y s.report b → IsMade m o (scene_of y s b)
+  pub is_made : (log : Log) (z : StateOf) → log ≡ o.log → MachineStarts m log paging files slots blocks z → IsLegal (first_move m) unstarted → (y : World) (s : StoreOf) (b : Behind) → y ≡ first_world m → s ≡ store_of z own → b ≡ behind_of z
+      → Agrees y s.report b → MachineIsMade m o (scene_of y s b)
   is_made log z same h legal y s b ey es eb agrees =
       let there : Agrees (first_world m) (store_of z own).report (behind_of z) =
       subst (λ (x : World). Agrees x (store_of z own).report (behind_of z)) ey
@@ -115,12 +115,12 @@ module _ (m : MachineOf) (o : Outset) (paging files : DeviceOf) (slots blocks : 
       (subst (λ (x : Behind). Agrees y s.report x) eb agrees)) in
       let begins : Agrees (first_world m) (store_of (begun z.log) own).report (behind_of (begun z.log)) =
       subst (λ (x : StateOf). Agrees (first_world m) (store_of x own).report (behind_of x)) h.shows there in
-      let here : IsMade m o (scene_of (first_world m) (store_of z own) (behind_of z)) =
-      subst (λ (x : StateOf). IsMade m o (scene_of (first_world m) (store_of x own) (behind_of x))) (sym h.shows)
+      let here : MachineIsMade m o (scene_of (first_world m) (store_of z own) (behind_of z)) =
+      subst (λ (x : StateOf). MachineIsMade m o (scene_of (first_world m) (store_of x own) (behind_of x))) (sym h.shows)
       (made_at z.log h.in_range (subst (λ (l : Log). Grew l z.log (spelled_moves (first_move m ∷ []))) same h.grew) legal begins) in
-      subst (λ (x : World). IsMade m o (scene_of x s b)) (sym ey)
-      (subst (λ (x : StoreOf). IsMade m o (scene_of (first_world m) x b)) (sym es)
-      (subst (λ (x : Behind). IsMade m o (scene_of (first_world m) (store_of z own) x)) (sym eb) here))
+      subst (λ (x : World). MachineIsMade m o (scene_of x s b)) (sym ey)
+      (subst (λ (x : StoreOf). MachineIsMade m o (scene_of (first_world m) x b)) (sym es)
+      (subst (λ (x : Behind). MachineIsMade m o (scene_of (first_world m) (store_of z own) x)) (sym eb) here))
 
 -- two devices that were opened, under injections that name nothing
 pub opened_of : (m : MachineOf) (o : Outset) (pp fp : List NamedCalls) (pl fl : Option (List DeviceCall)) (pf ff : ℕ) (slots blocks : List Page)

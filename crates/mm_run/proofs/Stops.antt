@@ -17,19 +17,19 @@ use Rattle.mm_run.specs.Scenes.{Stage, Running, HasNoted, Follows, log_of}
 use Rattle.mm_run.specs.declared.endings.Ending.{Ending}
 use Rattle.mm_run.specs.declared.endings.Ending.TheVariants as ending
 use Rattle.mm_core.specs.Built.{is_machine}
-use Rattle.mm_run.specs.Reading.{reading}
-use Rattle.mm_run.specs.Steps.{Breaks}
+use Rattle.mm_run.specs.Reading.{reading_of}
+use Rattle.mm_run.specs.Steps.{BreaksLine}
 use Rattle.mm_run.specs.Answered.{DecidedLine, HoldMovesOf, IsNext}
 use Rattle.mm_script.specs.Grammar.{IsLine as IsLineFor}
 use Rattle.mm_run.specs.Texts.{TornText}
-use Rattle.mm_run.specs.Ends.{Closes, BreaksOff, TakesMemory}
-use Rattle.mm_run.specs.Story.{AreKept, IsMisplaced, Went, Came, Settles, StandsAt, EndsAt, outside, stand}
+use Rattle.mm_run.specs.Ends.{ClosesRun, BreaksOff, TakesMemory}
+use Rattle.mm_run.specs.Story.{KeepsAnswers, IsMisplaced, WentOn, CameToEnd, SettlesRun, StandsAt, InputEndsAt, outside, stand}
 use Rattle.mm_run.proofs.Stories.{LogGrows, follows_here, grows_here, grows_follows, grows_grew, grows_next, kept_more, kept_on}
 
 -- No line more is decided, and none is told.
 pub came_here : (a b t : Option Text) (kept x y : Text) (n : ℕ) (w end : Stage) (e : Ending) (front more : Text)
-    → Filled a b x y → y ≡ front ++ more → n ≤ 1000000 → Settles n front more b e → length more < 4096 → ((still : List DecidedLine) → StandsAt e [] still []) → Closes e n front w end → LogGrows w end
-    → Came (outside a t kept) (outside b t kept) (stand x n w) e end
+    → Filled a b x y → y ≡ front ++ more → n ≤ 1000000 → SettlesRun n front more b e → length more < 4096 → ((still : List DecidedLine) → StandsAt e [] still []) → ClosesRun e n front w end → LogGrows w end
+    → CameToEnd (outside a t kept) (outside b t kept) (stand x n w) e end
 came_here a b t kept x y n w end e front more f q l s few stands closes grows ks k = record {
   decided = record {
     lines = [];
@@ -40,9 +40,9 @@ came_here a b t kept x y n w end e front more f q l s few stands closes grows ks
     whole = sym f.behind ∙ q;
     answered = tt;
     limit = omega arith;
-    settled = subst (λ (k : ℕ). Settles k front more b e) (sym (add-zero n)) s;
+    settled = subst (λ (k : ℕ). SettlesRun k front more b e) (sym (add-zero n)) s;
     few = few;
-    closes = subst (λ (k : ℕ). Closes e k front w end) (sym (add-zero n)) closes;
+    closes = subst (λ (k : ℕ). ClosesRun e k front w end) (sym (add-zero n)) closes;
   };
   told = [];
   still = ks;
@@ -69,27 +69,27 @@ module _ (held : Text) (len n : ℕ) (h : HasLine held len) (small : n < 1000000
   width : length (with_line_feed (take len held)) ≤ 257
   width = let s = h.short in omega (arith, length-take len held, length-append (take len held) (10 ∷ []))
 
-  pub came_bad : (a t : Option Text) (kept : Text) (w : Stage) (column : ℕ) → reading n (take len held) ≡ Err column → ((e : Event) → IsLineFor (take len held) e → IsMisplaced n e)
-      → Came (outside a t kept) (outside a t kept) (stand held n w) (ending.Script (n + 1) column) w
+  pub came_bad : (a t : Option Text) (kept : Text) (w : Stage) (column : ℕ) → reading_of n (take len held) ≡ Err column → ((e : Event) → IsLineFor (take len held) e → IsMisplaced n e)
+      → CameToEnd (outside a t kept) (outside a t kept) (stand held n w) (ending.Script (n + 1) column) w
   came_bad a t kept w column p r =
       came_here a a t kept held held n w w _ (with_line_feed (take len held)) _ (filled_none a held) split (omega arith)
       (refl, small, inl (record { line = take len held; is_line = is_line; whole = refl; place = p; refused = r })) few (λ ks. refl) (follows_here w) (grows_here w)
 
-  pub came_memory : (a t : Option Text) (kept : Text) (w end : Stage) (event : Event) → reading n (take len held) ≡ Ok event → IsLineFor (take len held) event
-      → ((is_machine event ≡ true) × Follows w end) ⊎ (TakesMemory w event × BreaksOff w end) → LogGrows w end → Came (outside a t kept) (outside a t kept) (stand held n w) ending.NoMemory end
+  pub came_memory : (a t : Option Text) (kept : Text) (w end : Stage) (event : Event) → reading_of n (take len held) ≡ Ok event → IsLineFor (take len held) event
+      → ((is_machine event ≡ true) × Follows w end) ⊎ (TakesMemory w event × BreaksOff w end) → LogGrows w end → CameToEnd (outside a t kept) (outside a t kept) (stand held n w) ending.NoMemory end
   came_memory a t kept w end event says grammar broken grows =
       came_here a a t kept held held n w end _ (with_line_feed (take len held)) _ (filled_none a held) split (omega arith) width few (λ ks. refl)
       (record { line = take len held; event = event; whole = refl; says = record { is_line = is_line; says = says; grammar = grammar }; broken = broken }) grows
 
-  pub came_broken : (a t : Option Text) (kept : Text) (s z : Scene) (event : Event) → reading n (take len held) ≡ Ok event → IsLineFor (take len held) event → TakesMemory (Running s) event → Breaks s z
-      → Came (outside a t kept) (outside a t kept) (stand held n (Running s)) ending.NoMemory (Running z)
+  pub came_broken : (a t : Option Text) (kept : Text) (s z : Scene) (event : Event) → reading_of n (take len held) ≡ Ok event → IsLineFor (take len held) event → TakesMemory (Running s) event → BreaksLine s z
+      → CameToEnd (outside a t kept) (outside a t kept) (stand held n (Running s)) ending.NoMemory (Running z)
   came_broken a t kept s z event says grammar takes b =
       let p = b.broken refl in
       came_memory a t kept (Running s) (Running z) event says grammar (inr (takes, record { before = Running s; follows = follows_here (Running s); breaks = b }))
       (grows_grew (Running s) (Running z) (spelled_moves p.piece) p.grew)
 
-  pub came_setup : (a t : Option Text) (kept : Text) (w : Stage) (event : Event) → n ≡ 0 → reading 0 (take len held) ≡ Ok event → is_machine event ≡ true
-      → Came (outside a t kept) (outside a t kept) (stand held n w) ending.SetupFault w
+  pub came_setup : (a t : Option Text) (kept : Text) (w : Stage) (event : Event) → n ≡ 0 → reading_of 0 (take len held) ≡ Ok event → is_machine event ≡ true
+      → CameToEnd (outside a t kept) (outside a t kept) (stand held n w) ending.SetupFault w
   came_setup a t kept w event first p m =
       came_here a a t kept held held n w w _ (with_line_feed (take len held)) _ (filled_none a held) split (omega arith)
       (record { first = first; line = take len held; event = event; whole = refl; says = p; machine = m }) few (λ ks. refl) (follows_here w) (grows_here w)
@@ -101,7 +101,7 @@ module _ (held : Text) (len n : ℕ) (h : HasLine held len) (small : n < 1000000
     whole_text : held ++ [] ≡ text_of_lines (l.text ∷ []) ++ drop (len + 1) held
     whole_text = whole_line ∙ ap (λ (x : Text). text_of_lines (x ∷ []) ++ drop (len + 1) held) (sym same)
 
-    went_line : (kept' : Text) → HasNoted l.after → kept' ≡ kept ++ spelling l.answer → Went (outside a t kept) (outside a t kept') (stand held n w) (stand (drop (len + 1) held) (n + 1) l.after)
+    went_line : (kept' : Text) → HasNoted l.after → kept' ≡ kept ++ spelling l.answer → WentOn (outside a t kept) (outside a t kept') (stand held n w) (stand (drop (len + 1) held) (n + 1) l.after)
     went_line kept' noted u ks k = record {
       lines = l ∷ [];
       taken = [];
@@ -119,12 +119,12 @@ module _ (held : Text) (len n : ℕ) (h : HasLine held len) (small : n < 1000000
       grows = (grows_next n w l next).given;
     }
 
-    pub went_to : (kept' held' : Text) → held' ≡ drop (len + 1) held → HasNoted l.after → kept' ≡ kept ++ spelling l.answer → Went (outside a t kept) (outside a t kept') (stand held n w) (stand held' (n + 1) l.after)
+    pub went_to : (kept' held' : Text) → held' ≡ drop (len + 1) held → HasNoted l.after → kept' ≡ kept ++ spelling l.answer → WentOn (outside a t kept) (outside a t kept') (stand held n w) (stand held' (n + 1) l.after)
     went_to kept' held' h noted u =
-        subst (λ (xs : Text). Went (outside a t kept) (outside a t kept') (stand held n w) (stand xs (n + 1) l.after)) (sym h) (went_line kept' noted u)
+        subst (λ (xs : Text). WentOn (outside a t kept) (outside a t kept') (stand held n w) (stand xs (n + 1) l.after)) (sym h) (went_line kept' noted u)
 
     -- its moves were not all written
-    pub came_muted : (log_of l.after).failed ≡ true → Came (outside a t kept) (outside a t kept) (stand held n w) ending.MovesFault l.after
+    pub came_muted : (log_of l.after).failed ≡ true → CameToEnd (outside a t kept) (outside a t kept) (stand held n w) ending.MovesFault l.after
     came_muted failed =
         came_here a a t kept held held n w l.after _ (with_line_feed (take len held)) _ (filled_none a held) split (omega arith) width few (λ ks. refl)
         (inr (record { line = l; whole = ap with_line_feed (sym same); muted = record { next = next; failed = failed }; after = refl })) (grows_next n w l next)
@@ -133,19 +133,19 @@ module _ (held : Text) (len n : ℕ) (h : HasLine held len) (small : n < 1000000
 
 module _ (a t : Option Text) (held : Text) (n : ℕ) (w z : Stage) (h : Follows w z) (l : n ≤ 1000000) (few : length held < 4096) where
   -- the moves could not be given on
-  pub came_held_back : (kept : Text) → Came (outside a t kept) (outside a t kept) (stand held n w) ending.MovesFault z
+  pub came_held_back : (kept : Text) → CameToEnd (outside a t kept) (outside a t kept) (stand held n w) ending.MovesFault z
   came_held_back kept =
       came_here a a t kept held held n w z ending.MovesFault [] held (filled_none a held) refl l (omega arith) few (λ ks. refl) (inl h) (grows_follows w z h)
 
   module _ (kept kept' : Text) (none : kept' ≡ []) (all : (log_of z).given ≡ (log_of w).bytes) where
-    gave_kept : (ks : List DecidedLine) → AreKept ks kept w → HoldMovesOf ks (log_of z).given
+    gave_kept : (ks : List DecidedLine) → KeepsAnswers ks kept w → HoldMovesOf ks (log_of z).given
     gave_kept ks k = subst (λ (b : Option Text). HoldMovesOf ks b) (sym all) k.noted
 
-    none_kept : AreKept [] kept' z
+    none_kept : KeepsAnswers [] kept' z
     none_kept = record { text_is = none; noted = tt }
 
     -- they were, and then the answers
-    pub went_told : (t' : Option Text) → Appended t t' kept → Went (outside a t kept) (outside a t' kept') (stand held n w) (stand held n z)
+    pub went_told : (t' : Option Text) → Appended t t' kept → WentOn (outside a t kept) (outside a t' kept') (stand held n w) (stand held n z)
     went_told t' u ks k = record {
       lines = [];
       taken = [];
@@ -164,7 +164,7 @@ module _ (a t : Option Text) (held : Text) (n : ℕ) (w z : Stage) (h : Follows 
     }
 
     -- they were, and the answers could not all be written
-    pub came_torn : (t' : Option Text) → TornText t t' kept → Came (outside a t kept) (outside a t' kept') (stand held n w) ending.OutFault z
+    pub came_torn : (t' : Option Text) → TornText t t' kept → CameToEnd (outside a t kept) (outside a t' kept') (stand held n w) ending.OutFault z
     came_torn t' u ks k = record {
       decided = record {
         lines = [];
@@ -196,30 +196,30 @@ module _ (a b t : Option Text) (kept x y : Text) (n : ℕ) (w : Stage) (f : Fill
   empty [] e = refl
   empty (x ∷ xs) e = absurd (omega arith)
 
-  pub came_end : (e : Ending) → n < 1000000 → IsLine y → IsEnd b → EndsAt n (length y) e → Came (outside a t kept) (outside b t kept) (stand x n w) e w
+  pub came_end : (e : Ending) → n < 1000000 → IsLine y → IsEnd b → InputEndsAt n (length y) e → CameToEnd (outside a t kept) (outside b t kept) (stand x n w) e w
   came_end e small l end s = elim s [
-    | inl d ↦ subst (λ (k : Ending). Came (outside a t kept) (outside b t kept) (stand x n w) k w) (sym d.2)
+    | inl d ↦ subst (λ (k : Ending). CameToEnd (outside a t kept) (outside b t kept) (stand x n w) k w) (sym d.2)
         (came_here a b t kept x y n w w ending.Done [] [] f (empty y d.1) (omega arith) (d.0, refl, refl, end) (omega arith) (λ ks. refl) (follows_here w) (grows_here w))
-    | inr o ↦ subst (λ (k : Ending). Came (outside a t kept) (outside b t kept) (stand x n w) k w) (sym o.1)
+    | inr o ↦ subst (λ (k : Ending). CameToEnd (outside a t kept) (outside b t kept) (stand x n w) k w) (sym o.1)
         (came_here a b t kept x y n w w (ending.Script (n + 1) (length y + 1)) y [] f (sym (append_nil y)) (omega arith)
         (refl, small, inr (record { is_line = l; last = refl; at_end = end; some = o.0; place = refl })) (omega arith) (λ ks. refl) (follows_here w) (grows_here w))
   ]
 
-  pub came_long : n < 1000000 → IsLong y → length y < 257 + 4096 → Came (outside a t kept) (outside b t kept) (stand x n w) (ending.TooLong (n + 1)) w
+  pub came_long : n < 1000000 → IsLong y → length y < 257 + 4096 → CameToEnd (outside a t kept) (outside b t kept) (stand x n w) (ending.TooLong (n + 1)) w
   came_long small l few =
       let m = l.many in
       came_here a b t kept x y n w w _ l.front l.more f l.whole (omega arith) (refl, inl (l.many, l.no_feed)) (omega (arith, ap length l.whole, length-append l.front l.more)) (λ ks. refl) (follows_here w) (grows_here w)
 
-  pub came_read : n ≤ 1000000 → IsLine y → Came (outside a t kept) (outside b t kept) (stand x n w) ending.ReadFault w
+  pub came_read : n ≤ 1000000 → IsLine y → CameToEnd (outside a t kept) (outside b t kept) (stand x n w) ending.ReadFault w
   came_read small l = came_here a b t kept x y n w w _ y [] f (sym (append_nil y)) small (l, refl) (omega arith) (λ ks. refl) (follows_here w) (grows_here w)
 
-  pub came_done : n ≡ 1000000 → y ≡ [] → IsEnd b → Came (outside a t kept) (outside b t kept) (stand x n w) ending.Done w
+  pub came_done : n ≡ 1000000 → y ≡ [] → IsEnd b → CameToEnd (outside a t kept) (outside b t kept) (stand x n w) ending.Done w
   came_done full e end = came_here a b t kept x y n w w ending.Done [] [] f e (omega arith) (omega arith, refl, refl, end) (omega arith) (λ ks. refl) (follows_here w) (grows_here w)
 
-  pub came_line : n ≡ 1000000 → 0 < length y → length y < 1 + 4096 → Came (outside a t kept) (outside b t kept) (stand x n w) (ending.TooLong (n + 1)) w
+  pub came_line : n ≡ 1000000 → 0 < length y → length y < 1 + 4096 → CameToEnd (outside a t kept) (outside b t kept) (stand x n w) (ending.TooLong (n + 1)) w
   came_line full some few = go y refl some few
     where
-      go : (ys : Text) → y ≡ ys → 0 < length ys → length ys < 1 + 4096 → Came (outside a t kept) (outside b t kept) (stand x n w) (ending.TooLong (n + 1)) w
+      go : (ys : Text) → y ≡ ys → 0 < length ys → length ys < 1 + 4096 → CameToEnd (outside a t kept) (outside b t kept) (stand x n w) (ending.TooLong (n + 1)) w
       go [] e s l = absurd (omega arith)
       go (z ∷ zs) e s l = came_here a b t kept x y n w w _ (z ∷ []) zs f e (omega arith) (refl, inr (full, refl)) (omega arith) (λ ks. refl) (follows_here w) (grows_here w)
 

@@ -13,14 +13,14 @@ use Rattle.mm_types.specs.declared.events.Event.{Event}
 use Rattle.mm_run.specs.declared.endings.Ending.{Ending}
 use Rattle.mm_run.specs.declared.endings.Ending.TheVariants as ending
 use Rattle.mm_core.specs.Promise.{Scene}
-use Rattle.mm_run.specs.Scenes.{Outset, Stage, NotBegun, Running, Follows, with_flush, log_of, life_of}
-use Rattle.mm_run.specs.Answered.{DecidedLine, IsNext, AreAnswered, HoldMovesOf, last_stage, texts_of, answers_of}
+use Rattle.mm_run.specs.Scenes.{Outset, Stage, NotBegun, Running, Follows, with_flush, log_of, replay_of}
+use Rattle.mm_run.specs.Answered.{DecidedLine, IsNext, AreAnswered, HoldMovesOf, last_stage, texts_of, answers_in}
 use Rattle.mm_run.specs.Texts.{IsFront}
 use Rattle.mm_life.specs.Logs.{Log, IsFrontOf, Told, Grew, Flushed}
 use Rattle.mm_life.specs.MoveText.{spelled_moves}
 use Rattle.mm_life.proofs.Noting.{front_of_then, gave_nothing, gave_then}
-use Rattle.mm_run.specs.Ends.{Closes, Left, IsLogLeft, TakesMemory}
-use Rattle.mm_run.specs.Story.{AreKept, Went, Came, Comes, Settles, StandsAt, Outside, Stand, outside, stand}
+use Rattle.mm_run.specs.Ends.{ClosesRun, Left, IsLogLeft, TakesMemory}
+use Rattle.mm_run.specs.Story.{KeepsAnswers, WentOn, CameToEnd, Comes, SettlesRun, StandsAt, Outside, RunStand, outside, stand}
 
 pub joined-append : (xs ys : List Text) → text_of_lines (xs ++ ys) ≡ text_of_lines xs ++ text_of_lines ys
 joined-append [] ys = refl
@@ -36,7 +36,7 @@ pub line_texts-append : (xs ys : List DecidedLine) → texts_of (xs ++ ys) ≡ t
 line_texts-append [] ys = refl
 line_texts-append (x ∷ xs) ys = ap (λ t. x.text ∷ t) (line_texts-append xs ys)
 
-pub line_answers-append : (xs ys : List DecidedLine) → answers_of (xs ++ ys) ≡ answers_of xs ++ answers_of ys
+pub line_answers-append : (xs ys : List DecidedLine) → answers_in (xs ++ ys) ≡ answers_in xs ++ answers_in ys
 line_answers-append [] ys = refl
 line_answers-append (x ∷ xs) ys = ap (λ t. x.answer ∷ t) (line_answers-append xs ys)
 
@@ -68,7 +68,7 @@ follows_then a b c u v = record {
   gave = gave_then (log_of a) (log_of b) (log_of c) u.gave v.gave;
 }
 
-life_with : (g : Option (List ℕ)) (k : ℕ) (s : Stage) → life_of (with_flush g k s) ≡ life_of s
+life_with : (g : Option (List ℕ)) (k : ℕ) (s : Stage) → replay_of (with_flush g k s) ≡ replay_of s
 life_with g k (NotBegun o) = refl
 life_with g k (Running s) = refl
 
@@ -80,8 +80,8 @@ failed_with : (g : Option (List ℕ)) (k : ℕ) (s : Stage) → (log_of (with_fl
 failed_with g k (NotBegun o) = refl
 failed_with g k (Running s) = refl
 
-pub life_follows : (a b : Stage) → Follows a b → life_of b ≡ life_of a
-life_follows a b h = ap life_of h.same ∙ life_with (log_of b).given (log_of b).faults a
+pub life_follows : (a b : Stage) → Follows a b → replay_of b ≡ replay_of a
+life_follows a b h = ap replay_of h.same ∙ life_with (log_of b).given (log_of b).faults a
 
 pub bytes_follow : (a b : Stage) → Follows a b → (log_of b).bytes ≡ (log_of a).bytes
 bytes_follow a b h = ap (λ (s : Stage). (log_of s).bytes) h.same ∙ bytes_with (log_of b).given (log_of b).faults a
@@ -107,7 +107,7 @@ takes_with g k (Running s) event h = h
 takes_from : (a b : Stage) (event : Event) → Follows a b → TakesMemory b event → TakesMemory a event
 takes_from a b event h t = takes_with (log_of b).given (log_of b).faults a event (subst (λ (s : Stage). TakesMemory s event) h.same t)
 
-closes_from : (e : Ending) (n : ℕ) (front : Text) (a b end : Stage) → Follows a b → Closes e n front b end → Closes e n front a end
+closes_from : (e : Ending) (n : ℕ) (front : Text) (a b end : Stage) → Follows a b → ClosesRun e n front b end → ClosesRun e n front a end
 closes_from ending.NoMemory n front a b end h c = record {
   line = c.line;
   event = c.event;
@@ -138,8 +138,8 @@ last_at : (old mid : Stage) (xs ys : List DecidedLine) → Follows (last_stage o
 last_at old mid xs ys q =
     subst (λ (s : Stage). Follows s (last_stage mid ys)) (sym (last-append old xs ys)) (last_from (last_stage old xs) mid ys q)
 
-pub spelled_lines : (xs ys : List DecidedLine) → spelled (answers_of (xs ++ ys)) ≡ spelled (answers_of xs) ++ spelled (answers_of ys)
-spelled_lines xs ys = ap spelled (line_answers-append xs ys) ∙ spelled-append (answers_of xs) (answers_of ys)
+pub spelled_lines : (xs ys : List DecidedLine) → spelled (answers_in (xs ++ ys)) ≡ spelled (answers_in xs) ++ spelled (answers_in ys)
+spelled_lines xs ys = ap spelled (line_answers-append xs ys) ∙ spelled-append (answers_in xs) (answers_in ys)
 
 -- ---- the bytes that hold the moves of lines
 
@@ -190,13 +190,13 @@ pub grows_next : (n : ℕ) (w : Stage) (l : DecidedLine) → IsNext n w l → Lo
 grows_next n w l h = grows_then w l.before l.after (grows_follows w l.before h.follows) (grows_grew l.before l.after (spelled_moves l.moves) h.decided.notes.grew)
 
 -- the lines that are kept stay so
-pub kept_on : (ks : List DecidedLine) (text : Text) (a b : Stage) → LogGrows a b → AreKept ks text a → AreKept ks text b
+pub kept_on : (ks : List DecidedLine) (text : Text) (a b : Stage) → LogGrows a b → KeepsAnswers ks text a → KeepsAnswers ks text b
 kept_on ks text a b g k = record { text_is = k.text_is; noted = held_by_more ks (log_of a).bytes (log_of b).bytes g.bytes k.noted }
 
 -- one line more is kept
-pub kept_more : (ks : List DecidedLine) (text text' : Text) (a : Stage) (l : DecidedLine) → LogGrows a l.after → text' ≡ text ++ spelling l.answer → AreKept ks text a → AreKept (ks ++ l ∷ []) text' l.after
+pub kept_more : (ks : List DecidedLine) (text text' : Text) (a : Stage) (l : DecidedLine) → LogGrows a l.after → text' ≡ text ++ spelling l.answer → KeepsAnswers ks text a → KeepsAnswers (ks ++ l ∷ []) text' l.after
 kept_more ks text text' a l g e k = record {
-  text_is = e ∙ ap (λ t. t ++ spelling l.answer) k.text_is ∙ ap (λ t. spelled (answers_of ks) ++ t) (sym (append_nil (spelling l.answer))) ∙ sym (spelled_lines ks (l ∷ []));
+  text_is = e ∙ ap (λ t. t ++ spelling l.answer) k.text_is ∙ ap (λ t. spelled (answers_in ks) ++ t) (sym (append_nil (spelling l.answer))) ∙ sym (spelled_lines ks (l ∷ []));
   noted = held_both ks (l ∷ []) (log_of l.after).bytes (held_by_more ks (log_of a).bytes (log_of l.after).bytes g.bytes k.noted) (front_same (log_of l.after).bytes, tt);
 }
 
@@ -207,16 +207,16 @@ split_then : (ks ls ms told still told' still' : List DecidedLine) → ks ++ ls 
 split_then ks ls ms told still told' still' e f =
     sym (append_assoc ks ls ms) ∙ ap (λ xs. xs ++ ms) e ∙ append_assoc told still ms ∙ ap (λ xs. told ++ xs) f ∙ sym (append_assoc told told' still')
 
-whole_more : (xs ys : List DecidedLine) (written : Text) → written ≡ spelled (answers_of ys) → spelled (answers_of xs) ++ written ≡ spelled (answers_of (xs ++ ys))
-whole_more xs ys written e = ap (λ t. spelled (answers_of xs) ++ t) e ∙ sym (spelled_lines xs ys)
+whole_more : (xs ys : List DecidedLine) (written : Text) → written ≡ spelled (answers_in ys) → spelled (answers_in xs) ++ written ≡ spelled (answers_in (xs ++ ys))
+whole_more xs ys written e = ap (λ t. spelled (answers_in xs) ++ t) e ∙ sym (spelled_lines xs ys)
 
-front_more : (xs ys : List DecidedLine) (written : Text) → IsFront written (spelled (answers_of ys)) → IsFront (spelled (answers_of xs) ++ written) (spelled (answers_of (xs ++ ys)))
+front_more : (xs ys : List DecidedLine) (written : Text) → IsFront written (spelled (answers_in ys)) → IsFront (spelled (answers_in xs) ++ written) (spelled (answers_in (xs ++ ys)))
 front_more xs ys written f = record {
   back = f.back;
-  whole = spelled_lines xs ys ∙ ap (λ t. spelled (answers_of xs) ++ t) f.whole ∙ sym (append_assoc (spelled (answers_of xs)) written f.back);
+  whole = spelled_lines xs ys ∙ ap (λ t. spelled (answers_in xs) ++ t) f.whole ∙ sym (append_assoc (spelled (answers_in xs)) written f.back);
 }
 
-stands_more : (e : Ending) (xs ys still : List DecidedLine) (written : Text) → StandsAt e ys still written → StandsAt e (xs ++ ys) still (spelled (answers_of xs) ++ written)
+stands_more : (e : Ending) (xs ys still : List DecidedLine) (written : Text) → StandsAt e ys still written → StandsAt e (xs ++ ys) still (spelled (answers_in xs) ++ written)
 stands_more ending.OutFault xs ys still written s = (s.0, front_more xs ys written s.1)
 stands_more ending.Done xs ys still written s = whole_more xs ys written s
 stands_more ending.NoMemory xs ys still written s = whole_more xs ys written s
@@ -234,8 +234,8 @@ chain x t u y z ls ks e f =
     ∙ sym (append_assoc (text_of_lines (texts_of ls)) (text_of_lines (texts_of ks)) z)
     ∙ ap (λ xs. xs ++ z) (sym (ap text_of_lines (line_texts-append ls ks) ∙ joined-append (texts_of ls) (texts_of ks)))
 
-module _ (a b c : Outside) (x y z : Stand) where
-  pub went_then : Went a b x y → Went b c y z → Went a c x z
+module _ (a b c : Outside) (x y z : RunStand) where
+  pub went_then : WentOn a b x y → WentOn b c y z → WentOn a c x z
   went_then went after kept k =
       let g = went kept k in
       let h = after g.still g.keeps in
@@ -256,8 +256,8 @@ module _ (a b c : Outside) (x y z : Stand) where
         grows = front_of_then (log_of x.stage).given (log_of y.stage).given (log_of z.stage).given g.grows h.grows;
       }
 
-module _ (a b c : Outside) (x y : Stand) (end : Stage) where
-  pub went_came : (e : Ending) → Went a b x y → Came b c y e end → Came a c x e end
+module _ (a b c : Outside) (x y : RunStand) (end : Stage) where
+  pub went_came : (e : Ending) → WentOn a b x y → CameToEnd b c y e end → CameToEnd a c x e end
   went_came e went came kept k =
       let g = went kept k in
       let h = came g.still g.keeps in
@@ -273,15 +273,15 @@ module _ (a b c : Outside) (x y : Stand) (end : Stage) where
           whole = chain x.held g.taken d.taken y.held (d.front ++ d.more) g.lines d.lines g.whole d.whole;
           answered = answered_at x.n y.n x.stage y.stage g.lines d.lines g.answered g.count g.stage d.answered;
           limit = let l = d.limit in omega arith;
-          settled = subst (λ (k : ℕ). Settles k d.front d.more c.left e) (sym i) d.settled;
+          settled = subst (λ (k : ℕ). SettlesRun k d.front d.more c.left e) (sym i) d.settled;
           few = d.few;
-          closes = subst (λ (k : ℕ). Closes e k d.front (last_stage x.stage (g.lines ++ d.lines)) end) (sym i)
+          closes = subst (λ (k : ℕ). ClosesRun e k d.front (last_stage x.stage (g.lines ++ d.lines)) end) (sym i)
               (closes_from e (y.n + length d.lines) d.front (last_stage x.stage (g.lines ++ d.lines)) (last_stage y.stage d.lines) end (last_at x.stage y.stage g.lines d.lines g.stage) d.closes);
         };
         told = g.told ++ h.told;
         still = h.still;
         split = split_then kept g.lines d.lines g.told g.still h.told h.still g.split h.split;
-        written = spelled (answers_of g.told) ++ h.written;
+        written = spelled (answers_in g.told) ++ h.written;
         wrote = appended_then a.took b.took c.took _ _ g.wrote h.wrote;
         stands = stands_more e g.told h.told h.still h.written h.stands;
         gave = held_both g.told h.told (log_of end).given (held_by_more g.told (log_of y.stage).given (log_of end).given h.grows g.gave) h.gave;
@@ -290,11 +290,11 @@ module _ (a b c : Outside) (x y : Stand) (end : Stage) where
       }
 
 -- More was read first.
-module _ (a b : Outside) (x : Stand) (left : Option Text) (held : Text) (f : Filled left a.left held x.held) where
+module _ (a b : Outside) (x : RunStand) (left : Option Text) (held : Text) (f : Filled left a.left held x.held) where
   regroup : (u w : Text) → x.held ++ u ≡ w → held ++ (f.taken ++ u) ≡ w
   regroup u w e = sym (append_assoc held f.taken u) ∙ ap (λ xs. xs ++ u) (sym f.behind) ∙ e
 
-  pub filled_came : (end : Stage) (e : Ending) → Came a b x e end → Came (record a { left = left }) b (record x { held = held }) e end
+  pub filled_came : (end : Stage) (e : Ending) → CameToEnd a b x e end → CameToEnd (record a { left = left }) b (record x { held = held }) e end
   filled_came end e came kept k =
       let h = came kept k in
       let d = h.decided in
@@ -329,7 +329,7 @@ module _ (a b : Outside) (x : Stand) (left : Option Text) (held : Text) (f : Fil
 -- ---- nothing is decided
 
 -- bytes were read, and no line was decided
-pub went_filled : (a b t : Option Text) (kept x y : Text) (n : ℕ) (w : Stage) → Filled a b x y → Went (outside a t kept) (outside b t kept) (stand x n w) (stand y n w)
+pub went_filled : (a b t : Option Text) (kept x y : Text) (n : ℕ) (w : Stage) → Filled a b x y → WentOn (outside a t kept) (outside b t kept) (stand x n w) (stand y n w)
 went_filled a b t kept x y n w f ks k = record {
   lines = [];
   taken = f.taken;
@@ -347,8 +347,8 @@ went_filled a b t kept x y n w f ks k = record {
   grows = (follows_here w).gave.grows;
 }
 
-pub went_none : (a : Outside) (x y : Stand) → y ≡ x → Went a a x y
-went_none a x y e = subst (λ (z : Stand). Went a a x z) (sym e) (went_filled a.left a.left a.took a.kept x.held x.held x.n x.stage (filled_none a.left x.held))
+pub went_none : (a : Outside) (x y : RunStand) → y ≡ x → WentOn a a x y
+went_none a x y e = subst (λ (z : RunStand). WentOn a a x z) (sym e) (went_filled a.left a.left a.took a.kept x.held x.held x.n x.stage (filled_none a.left x.held))
 
 pub log_left_at : (log : Log) (x : Left) → log.bytes ≡ x.moves → log.given ≡ x.gave → log.faults ≡ x.moves_faults → IsLogLeft log x
 log_left_at log x b g f = record {
@@ -358,8 +358,8 @@ log_left_at log x b g f = record {
 }
 
 -- nothing was decided, and nothing was noted
-pub comes_here : (a b : Outside) (x : Stand) (e : Ending) (o : Outset) (left : Left) → o.log.bytes ≡ left.moves → o.log.given ≡ left.gave → o.log.faults ≡ left.moves_faults
-    → Came a b x e (NotBegun o) → Comes a b x e left
+pub comes_here : (a b : Outside) (x : RunStand) (e : Ending) (o : Outset) (left : Left) → o.log.bytes ≡ left.moves → o.log.given ≡ left.gave → o.log.faults ≡ left.moves_faults
+    → CameToEnd a b x e (NotBegun o) → Comes a b x e left
 comes_here a b x e o left q g f h = record { end = NotBegun o; came = h; leaves = log_left_at o.log left q g f }
 
 -- a world whose log was flushed

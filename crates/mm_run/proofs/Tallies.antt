@@ -9,13 +9,13 @@ use Rattle.mm_run.specs.declared.bulk.Tally.{Tally}
 use Rattle.mm_run.specs.declared.endings.Ending.{Ending}
 use Rattle.mm_run.specs.declared.endings.Ending.TheVariants as ending
 use Rattle.mm_run.specs.Scenes.{Stage, Follows}
-use Rattle.mm_run.specs.Answered.{DecidedLine, last_stage, answers_of, moves_of}
+use Rattle.mm_run.specs.Answered.{DecidedLine, last_stage, answers_in, moves_of}
 use Rattle.mm_run.specs.Texts.{TornText, status_of}
-use Rattle.mm_run.specs.Ends.{Left, Leaves}
-use Rattle.mm_run.specs.Story.{Counts, IsBlamed}
+use Rattle.mm_run.specs.Ends.{Left, StageLeaves}
+use Rattle.mm_run.specs.Story.{FaultCounts, IsBlamed}
 use Rattle.mm_run.specs.Faults.{IsAccounted}
 use Rattle.mm_run.specs.Ran.{Around, GaveAll, begun_at}
-use Rattle.mm_run.specs.Bulk.{AreDecided, ClosesEvents, Stops, BulkEnds, BulkRan, events_of, bulk_text, four_lines}
+use Rattle.mm_run.specs.Bulk.{AreDecided, ClosesEvents, BulkStops, BulkEnds, BulkRan, events_in, bulk_text, four_lines}
 use Rattle.mm_run.specs.Batch.{Stopped, Tallied, BatchRan}
 use Rattle.mm_run.proofs.Stories.{follows_here}
 use Rattle.mm_run.proofs.Batches.{answers_many, events_many}
@@ -36,8 +36,8 @@ follows_done ending.SetupFault last end q h = cc
 follows_done (ending.TooLong l) last end q h = cc
 
 module _ (a b : Around) (events : List Event) (status : ℕ) where
-  ran_by : (lines : List DecidedLine) (left : List Event) (e : Ending) (end : Stage) (written : Text) → events ≡ events_of lines ++ left → AreDecided (begun_at a.beside) lines → Stops e left → ClosesEvents e (last_stage (begun_at a.beside) lines) end
-      → Leaves end b.beside → Appended a.took b.took written → BulkEnds b status e (bulk_text (answers_of lines) end) written → BulkRan a b events status
+  ran_by : (lines : List DecidedLine) (left : List Event) (e : Ending) (end : Stage) (written : Text) → events ≡ events_in lines ++ left → AreDecided (begun_at a.beside) lines → BulkStops e left → ClosesEvents e (last_stage (begun_at a.beside) lines) end
+      → StageLeaves end b.beside → Appended a.took b.took written → BulkEnds b status e (bulk_text (answers_in lines) end) written → BulkRan a b events status
   ran_by lines left e end written are decided stops closes leaves wrote ends = record {
     lines = lines;
     left = left;
@@ -58,15 +58,15 @@ module _ (a b : Around) (events : List Event) (status : ℕ) where
   }
 
   -- all events were decided
-  module _ (t : Tally) (end : Stage) (h : Tallied (begun_at a.beside) events t end) (leaves : Leaves end b.beside) where
-    text_is : four_lines t.lines t.ok t.none t.charge t.limit ≡ bulk_text (answers_of h.handled.lines) end
+  module _ (t : Tally) (end : Stage) (h : Tallied (begun_at a.beside) events t end) (leaves : StageLeaves end b.beside) where
+    text_is : four_lines t.lines t.ok t.none t.charge t.limit ≡ bulk_text (answers_in h.handled.lines) end
     text_is =
-        let many : t.lines ≡ length (answers_of h.handled.lines) = h.lines ∙ sym (ap length h.handled.events_are) ∙ events_many h.handled.lines ∙ sym (answers_many h.handled.lines) in
+        let many : t.lines ≡ length (answers_in h.handled.lines) = h.lines ∙ sym (ap length h.handled.events_are) ∙ events_many h.handled.lines ∙ sym (answers_many h.handled.lines) in
         λ i. four_lines (many i) (h.handled.ok_is i) (h.handled.none_is i) (h.charge i) (h.limit i)
 
-    all_by : (written : Text) → Appended a.took b.took written → BulkEnds b status ending.Done (bulk_text (answers_of h.handled.lines) end) written → BulkRan a b events status
+    all_by : (written : Text) → Appended a.took b.took written → BulkEnds b status ending.Done (bulk_text (answers_in h.handled.lines) end) written → BulkRan a b events status
     all_by written wrote ends =
-        ran_by h.handled.lines [] ending.Done end written (sym h.handled.events_are ∙ sym (append_nil (events_of h.handled.lines))) h.handled.decided refl
+        ran_by h.handled.lines [] ending.Done end written (sym h.handled.events_are ∙ sym (append_nil (events_in h.handled.lines))) h.handled.decided refl
         (subst (λ (x : Stage). Follows (last_stage (begun_at a.beside) h.handled.lines) x) (sym h.handled.end_is) (follows_here (last_stage (begun_at a.beside) h.handled.lines)))
         leaves wrote ends
 
@@ -80,13 +80,13 @@ module _ (a b : Around) (events : List Event) (status : ℕ) where
     all_unflushed q still = all_by [] (subst (λ (x : Option Text). Appended a.took x []) (sym still) (appended_none a.took)) (inr (inr (inl q, refl)))
 
   -- some were not
-  ran_stopped : (e : Ending) (end : Stage) → Stopped (begun_at a.beside) events e end → Leaves end b.beside → (status ≡ 6) ⊎ (status ≡ status_of e) → b.took ≡ a.took → BulkRan a b events status
+  ran_stopped : (e : Ending) (end : Stage) → Stopped (begun_at a.beside) events e end → StageLeaves end b.beside → (status ≡ 6) ⊎ (status ≡ status_of e) → b.took ≡ a.took → BulkRan a b events status
   ran_stopped e end h leaves q still =
       ran_by h.lines h.left e end [] h.events_are h.decided h.stops h.closes leaves (subst (λ (x : Option Text). Appended a.took x []) (sym still) (appended_none a.took))
       (inr (inr (either q, refl)))
     where
-      not_done : (k : Ending) → Stops k h.left → 0 < length h.left → k ≢ ending.Done
-      not_done k s some q = let none = ap length (subst (λ (x : Ending). Stops x h.left) q s) in omega (arith, none)
+      not_done : (k : Ending) → BulkStops k h.left → 0 < length h.left → k ≢ ending.Done
+      not_done k s some q = let none = ap length (subst (λ (x : Ending). BulkStops x h.left) q s) in omega (arith, none)
 
       either : (status ≡ 6) ⊎ (status ≡ status_of e) → (status ≡ 6) ⊎ ((status ≡ status_of e) × (e ≢ ending.Done))
       either (inl six) = inl six
@@ -94,7 +94,7 @@ module _ (a b : Around) (events : List Event) (status : ℕ) where
 
   -- the moves were given on after the last event, or could not be
   module _ (x : Left) (m : MovesAfter x b.beside) where
-    leaves_here : (end : Stage) → Leaves end x → Leaves end b.beside
+    leaves_here : (end : Stage) → StageLeaves end x → StageLeaves end b.beside
     leaves_here end h = leaves_after end x b.beside m h
 
     pub ran_unflushed : (r : Result Tally Ending) → BatchRan (begun_at a.beside) events r x → status ≡ 6 → b.took ≡ a.took → BulkRan a b events status
@@ -117,21 +117,21 @@ rose_twice : (a b c : ℕ) → Rose a b → Rose b c → Rose a c
 rose_twice a b c h k = omega arith
 
 -- the sink of moves failed at last, whatever came before
-rose_then_moves : (e : Ending) (opening : Type 0) (c m : Counts) (k : ℕ) → IsBlamed e opening c m → Rose m.moves k → Rose c.moves k
-rose_then_moves ending.Done opening c m k b r = subst (λ (x : Counts). Rose x.moves k) b r
+rose_then_moves : (e : Ending) (opening : Type 0) (c m : FaultCounts) (k : ℕ) → IsBlamed e opening c m → Rose m.moves k → Rose c.moves k
+rose_then_moves ending.Done opening c m k b r = subst (λ (x : FaultCounts). Rose x.moves k) b r
 rose_then_moves ending.NoMemory opening c m k b r = rose_later c.moves m.moves k b.0 r
-rose_then_moves ending.Usage opening c m k b r = subst (λ (x : Counts). Rose x.moves k) b r
-rose_then_moves (ending.Script l n) opening c m k b r = subst (λ (x : Counts). Rose x.moves k) b r
-rose_then_moves ending.ReadFault opening c m k b r = subst (λ (x : ℕ). Rose x k) (ap (λ (x : Counts). x.moves) b.1) r
-rose_then_moves ending.OutFault opening c m k b r = subst (λ (x : ℕ). Rose x k) (ap (λ (x : Counts). x.moves) b.1) r
+rose_then_moves ending.Usage opening c m k b r = subst (λ (x : FaultCounts). Rose x.moves k) b r
+rose_then_moves (ending.Script l n) opening c m k b r = subst (λ (x : FaultCounts). Rose x.moves k) b r
+rose_then_moves ending.ReadFault opening c m k b r = subst (λ (x : ℕ). Rose x k) (ap (λ (x : FaultCounts). x.moves) b.1) r
+rose_then_moves ending.OutFault opening c m k b r = subst (λ (x : ℕ). Rose x k) (ap (λ (x : FaultCounts). x.moves) b.1) r
 rose_then_moves ending.MovesFault opening c m k b r = rose_twice c.moves m.moves k b.0 r
-rose_then_moves ending.SetupFault opening c m k b r = subst (λ (x : Counts). Rose x.moves k) b.1 r
-rose_then_moves (ending.TooLong l) opening c m k b r = subst (λ (x : Counts). Rose x.moves k) b r
+rose_then_moves ending.SetupFault opening c m k b r = subst (λ (x : FaultCounts). Rose x.moves k) b.1 r
+rose_then_moves (ending.TooLong l) opening c m k b r = subst (λ (x : FaultCounts). Rose x.moves k) b r
 
-module _ {A : Type 0} (r : Result A Ending) (opening : Type 0) (c m : Counts) (h : MatchResult r (λ _. m ≡ c) (λ e. IsBlamed e opening c m)) where
+module _ {A : Type 0} (r : Result A Ending) (opening : Type 0) (c m : FaultCounts) (h : MatchResult r (λ _. m ≡ c) (λ e. IsBlamed e opening c m)) where
   moves_rose : (q : Result A Ending) → MatchResult q (λ _. m ≡ c) (λ e. IsBlamed e opening c m) → (k : ℕ) → Rose m.moves k → Rose c.moves k
-  moves_rose (Ok x) h k rose = subst (λ (x : Counts). Rose x.moves k) h rose
+  moves_rose (Ok x) h k rose = subst (λ (x : FaultCounts). Rose x.moves k) h rose
   moves_rose (Err e) h k rose = rose_then_moves e opening c m k h rose
 
-  pub accounted_unflushed : (d : Counts) (status : ℕ) → status ≡ 6 → Rose m.moves d.moves → IsAccounted status opening c d
+  pub accounted_unflushed : (d : FaultCounts) (status : ℕ) → status ≡ 6 → Rose m.moves d.moves → IsAccounted status opening c d
   accounted_unflushed d status q rose = accounted_moves opening c d status q (moves_rose r h d.moves rose)

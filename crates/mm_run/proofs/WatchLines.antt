@@ -18,7 +18,7 @@ use Rattle.mm_world.specs.Writes.{write_of, writes_of, writes_after}
 use Rattle.mm_world.proofs.FlagsTold.{flags_told}
 use Rattle.mm_world.proofs.WatchGives.{watch_gives_flagged}
 use Rattle.mm_world.proofs.KeptWrites.{kept_writes_follow}
-use Rattle.mm_run.specs.Written.{AnsweredLine, Marks, marks_after, marks_over, unmarked, GivesWritten}
+use Rattle.mm_run.specs.Written.{AnsweredLine, WriteMarks, write_marks_after, write_marks_over, no_write_marks, GivesWritten}
 use Rattle.mm_run.proofs.WrittenPages.{Agrees, WentOn, agrees_on, gives}
 
 -- a `resume` that was answered `ok` had an access
@@ -43,8 +43,8 @@ went_on w v (line.Resume tid) answer.Ok before after h = by_access (kept_by w ti
     by_access (Some k) e = inside_of w.kept tid.0 k write_of e
 went_on w v e a before after h = tt
 
-pub step_agrees : (m : ℕ → ℕ → Marks) (w v : World) (e : Event) (a : Answer) (before after : Report) → step w e before after ≡ done a v → Spaces w → Agrees m w
-    → Agrees (λ pid page. marks_after pid page (m pid page) (record { event = e; answer = a })) v
+pub step_agrees : (m : ℕ → ℕ → WriteMarks) (w v : World) (e : Event) (a : Answer) (before after : Report) → step w e before after ≡ done a v → Spaces w → Agrees m w
+    → Agrees (λ pid page. write_marks_after pid page (m pid page) (record { event = e; answer = a })) v
 step_agrees m w v e a before after h fits agrees =
     agrees_on m w v e a agrees
     (subst (λ (o : OutcomeOf Page). writes_of o.world ≡ writes_after (writes_of w) e o.answer) h (kept_writes_follow w e before after))
@@ -53,8 +53,8 @@ step_agrees m w v e a before after h fits agrees =
 
 -- ---- what a `watch` gives
 
-pub watch_gives : (lines : List AnsweredLine) (w v : World) (e : Event) (a : Answer) (before after : Report) → step w e before after ≡ done a v → Spaces w → Agrees (λ pid page. marks_over pid page unmarked lines) w → GivesWritten lines e a
+pub watch_gives : (lines : List AnsweredLine) (w v : World) (e : Event) (a : Answer) (before after : Report) → step w e before after ≡ done a v → Spaces w → Agrees (λ pid page. write_marks_over pid page no_write_marks lines) w → GivesWritten lines e a
 watch_gives lines w v (line.Watch pid unwrites addr size count) (answer.Watched pages) before after h fits agrees =
-    gives (λ pid page. marks_over pid page unmarked lines) w agrees pid.0 (range_of addr size) count pages
+    gives (λ pid page. write_marks_over pid page no_write_marks lines) w agrees pid.0 (range_of addr size) count pages
     (watch_gives_flagged w pid unwrites addr size count pages before after fits (ap (λ (o : OutcomeOf Page). o.answer) h))
 watch_gives lines w v e a before after h fits agrees = tt

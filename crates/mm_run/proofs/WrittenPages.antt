@@ -18,7 +18,7 @@ use Rattle.mm_world.specs.Step.{kept_by}
 use Rattle.mm_world.specs.Flags.{flag_of, is_flagged, FlagTold, Begun, Told, GivesFlagged}
 use Rattle.mm_world.specs.Written.{access_writes, kept_writes, line_begins, line_clears, line_wrote, written_after}
 use Rattle.mm_world.specs.Writes.{ends_none, page_written, write_of, writes_of, unless_in, writes_after}
-use Rattle.mm_run.specs.Written.{Marks, keeps_after, marks_after}
+use Rattle.mm_run.specs.Written.{WriteMarks, keeps_after, write_marks_after}
 
 equal : (p q : ℕ) → p ≡ q → (p == q) ≡ true
 equal p q e = elim (eqb_tells p q) [ inl h ↦ h.0 | inr h ↦ absurd (h.1 e) ]
@@ -128,7 +128,7 @@ WentOn w (line.Resume tid) answer.Ok = tid.0 < length (writes_of w)
 WentOn w _ _ = Unit {0}
 
 -- what lines tell of each page, and what stands of it
-pub record Agrees (m : ℕ → ℕ → Marks) (w : World) : Type 0 where
+pub record Agrees (m : ℕ → ℕ → WriteMarks) (w : World) : Type 0 where
   pub keeps : (pid page thread : ℕ) → thread < length (writes_of w) → (m pid page).keeps thread ≡ writes_to pid page (slice_index_or (writes_of w) thread None)
   pub written : (pid page : ℕ) (b : Bool) → flag_of w pid page ≡ Some b → b ≡ (m pid page).written
 
@@ -141,7 +141,7 @@ kept_in w tid inside = at w.kept tid
     at (k ∷ ks) zero = refl
     at (k ∷ ks) (suc i) = at ks i
 
-module _ (m : ℕ → ℕ → Marks) (w v : World) (e : Event) (a : Answer) (agrees : Agrees m w) (kept : writes_of v ≡ writes_after (writes_of w) e a) (on : WentOn w e a) where
+module _ (m : ℕ → ℕ → WriteMarks) (w v : World) (e : Event) (a : Answer) (agrees : Agrees m w) (kept : writes_of v ≡ writes_after (writes_of w) e a) (on : WentOn w e a) where
   module _ (pid page : ℕ) where
     abbrev keeps_now : ℕ → Bool
     keeps_now tid = kept_writes pid page (kept_by w tid)
@@ -161,7 +161,7 @@ module _ (m : ℕ → ℕ → Marks) (w v : World) (e : Event) (a : Answer) (agr
         ∙ ap (λ (x : Bool). cond (line_begins pid page e a) false (cond (line_clears pid page e a) false (cond x true was))) (sym (same_write e a on))
         ∙ ap (λ (x : Bool). cond (line_begins pid page e a) false (cond (line_clears pid page e a) false (cond (line_wrote pid page (m pid page).keeps e a) true x))) (agrees.written pid page was flag)
 
-  pub agrees_on : ((pid page : ℕ) (b : Bool) → flag_of v pid page ≡ Some b → FlagTold w e a pid page b) → Agrees (λ pid page. marks_after pid page (m pid page) (record { event = e; answer = a })) v
+  pub agrees_on : ((pid page : ℕ) (b : Bool) → flag_of v pid page ≡ Some b → FlagTold w e a pid page b) → Agrees (λ pid page. write_marks_after pid page (m pid page) (record { event = e; answer = a })) v
   agrees_on told = record {
     keeps = λ pid page thread inside.
         let many : length (writes_of v) ≡ length (writes_of w) = ap length kept ∙ as_many (writes_of w) e a in
@@ -184,7 +184,7 @@ flagged_so : (o : Option Bool) (was : Bool) → is_some o ≡ true → ((b : Boo
 flagged_so None was some same = cc
 flagged_so (Some b) was some same = same b refl
 
-pub gives : (m : ℕ → ℕ → Marks) (w : World) → Agrees m w → (pid : ℕ) (range : Range) (count : ℕ) (pages : List ℕ) → GivesFlagged w pid range count pages
+pub gives : (m : ℕ → ℕ → WriteMarks) (w : World) → Agrees m w → (pid : ℕ) (range : Range) (count : ℕ) (pages : List ℕ) → GivesFlagged w pid range count pages
     → pages ≡ map address_of (take count (filter (λ page. (m pid page).written) (range_with_len range.first range.count)))
 gives m w agrees pid range count pages g =
     g.given

@@ -11,7 +11,7 @@ use Rattle.mm_io.specs.Lines.{IsLine}
 use Rattle.mm_script.specs.Grammar.{IsLine as IsLineFor}
 use Rattle.mm_blocks.specs.Devices.{NamedMade}
 use Rattle.mm_core.specs.Serving.{IsFailure}
-use Rattle.mm_run.specs.Reading.{reading}
+use Rattle.mm_run.specs.Reading.{reading_of}
 use Rattle.mm_run.specs.Scenes.{Stage, Running, HasNoted, Follows, log_of}
 use Rattle.mm_run.specs.Steps.{IsDecided}
 use Rattle.mm_run.specs.Written.{AnsweredLine}
@@ -29,26 +29,26 @@ pub record DecidedLine : Type 0 where
 abbrev pub texts_of : List DecidedLine → List Text
 texts_of lines = map (λ l. l.text) lines
 
-abbrev pub answers_of : List DecidedLine → List Answer
-answers_of lines = map (λ l. l.answer) lines
+abbrev pub answers_in : List DecidedLine → List Answer
+answers_in lines = map (λ l. l.answer) lines
 
 -- the same lines, by their events and answers alone
-abbrev pub told_of : List DecidedLine → List AnsweredLine
-told_of lines = map (λ l. record { event = l.event; answer = l.answer }) lines
+abbrev pub answered_lines : List DecidedLine → List AnsweredLine
+answered_lines lines = map (λ l. record { event = l.event; answer = l.answer }) lines
 
 abbrev pub moves_of : List DecidedLine → List Move
 moves_of lines = flat_map (λ l. l.moves) lines
 
 -- After n others a text is a line in the grammar that says this event.
-pub record Says (n : ℕ) (text : Text) (event : Event) : Type 0 where
+pub record LineSays (n : ℕ) (text : Text) (event : Event) : Type 0 where
   pub is_line : IsLine text
-  pub says : reading n text ≡ Ok event
+  pub says : reading_of n text ≡ Ok event
   pub grammar : IsLineFor text event
 
 -- After n others and at this stage, the line is in the grammar, and is decided.
 pub record IsNext (n : ℕ) (old : Stage) (l : DecidedLine) : Type 0 where
   pub follows : Follows old l.before
-  pub says : Says n l.text l.event
+  pub says : LineSays n l.text l.event
   pub decided : IsDecided l.before l.event l.answer l.moves l.after
 
 -- Each line is decided from what the one before it left, and its moves were all written.

@@ -11,26 +11,26 @@ use Rattle.mm_run.specs.declared.endings.Ending.TheVariants as ending
 use Rattle.mm_core.specs.Built.{is_machine}
 use Rattle.mm_core.specs.Promise.{Scene}
 use Rattle.mm_run.specs.Scenes.{Stage, Running}
-use Rattle.mm_run.specs.Steps.{Moved, Breaks}
-use Rattle.mm_run.specs.Answered.{DecidedLine, last_stage, answers_of}
-use Rattle.mm_run.specs.Ends.{Left, Leaves}
+use Rattle.mm_run.specs.Steps.{Moved, BreaksLine}
+use Rattle.mm_run.specs.Answered.{DecidedLine, last_stage, answers_in}
+use Rattle.mm_run.specs.Ends.{Left, StageLeaves}
 use Rattle.mm_run.specs.Faults.{OpenFailed}
 use Rattle.mm_run.specs.Ran.{begun_at}
-use Rattle.mm_run.specs.Story.{IsBlamed, counts_with}
-use Rattle.mm_run.specs.Bulk.{AreDecided, ClosesEvents, Stops, events_of, begins_ok, is_none, charge_at, limit_at}
+use Rattle.mm_run.specs.Story.{IsBlamed, fault_counts_with}
+use Rattle.mm_run.specs.Bulk.{AreDecided, ClosesEvents, BulkStops, events_in, begins_ok, is_none, charge_at, limit_at}
 
 -- An event which does not make a machine.
-pub record IsLater (event : Event) : Type 0 where
+pub record IsLaterEvent (event : Event) : Type 0 where
   pub well_formed : IsWellFormed event
   pub later : is_machine event ≡ false
 
 abbrev pub AreLater : List Event → Type 0
-AreLater events = AllByRecursion IsLater events
+AreLater events = AllByRecursion IsLaterEvent events
 
 -- An event ran out of memory, or was decided and could not note all its moves.
 abbrev pub IsUnanswered : Scene → Event → Ending → Scene → Type 0
 IsUnanswered s event e z =
-    ((e ≡ ending.NoMemory) × Breaks s z)
+    ((e ≡ ending.NoMemory) × BreaksLine s z)
     ⊎ ((e ≡ ending.MovesFault)
     × ((a : Answer) × Moved (Running s) event a (Running z))
     × (z.behind.log.failed ≡ true))
@@ -39,25 +39,26 @@ IsUnanswered s event e z =
 -- where the end is to blame on it or on the opening.
 abbrev pub AccountsMoves : {A : Type 0} → Result A Ending → Type 0 → ℕ → ℕ → Type 0
 AccountsMoves r opening moves moves' = (source out : ℕ) → MatchResult r
-    (λ _. counts_with source out moves' ≡ counts_with source out moves)
-    (λ e. IsBlamed e opening (counts_with source out moves) (counts_with source out moves'))
+    (λ _. fault_counts_with source out moves' ≡ fault_counts_with source out moves)
+    (λ e. IsBlamed e opening (fault_counts_with source out moves)
+    (fault_counts_with source out moves'))
 
 -- These events were decided, and so many of their answers begin with `ok`, so many are `none`.
 pub record Handled (old : Stage) (events : List Event) (ok none : ℕ) (end : Stage) : Type 0 where
   pub lines : List DecidedLine
-  pub events_are : events_of lines ≡ events
+  pub events_are : events_in lines ≡ events
   pub decided : AreDecided old lines
-  pub ok_is : ok ≡ count_by begins_ok (answers_of lines)
-  pub none_is : none ≡ count_by is_none (answers_of lines)
+  pub ok_is : ok ≡ count_by begins_ok (answers_in lines)
+  pub none_is : none ≡ count_by is_none (answers_in lines)
   pub end_is : end ≡ last_stage old lines
 
 -- Some of these events were decided, and the next was not.
 pub record Stopped (old : Stage) (events : List Event) (e : Ending) (end : Stage) : Type 0 where
   pub lines : List DecidedLine
   pub left : List Event
-  pub events_are : events ≡ events_of lines ++ left
+  pub events_are : events ≡ events_in lines ++ left
   pub decided : AreDecided old lines
-  pub stops : Stops e left
+  pub stops : BulkStops e left
   pub some : 0 < length left
   pub closes : ClosesEvents e (last_stage old lines) end
 
@@ -77,7 +78,7 @@ pub record BatchRan (old : Stage) (events : List Event) (r : Result Tally Ending
     : Type 0 where
   pub end : Stage
   pub finished : Finished old events r end
-  pub leaves : Leaves end left
+  pub leaves : StageLeaves end left
 
 -- The same from before the first of them on, with what is to blame.
 pub record BatchEnds (events : List Event) (r : Result Tally Ending) (a b : Left) : Type 0 where

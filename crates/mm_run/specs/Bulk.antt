@@ -18,9 +18,9 @@ use Rattle.mm_run.specs.declared.endings.Ending.{Ending}
 use Rattle.mm_run.specs.declared.endings.Ending.TheVariants as ending
 use Rattle.mm_run.specs.Scenes.{Stage, NotBegun, Running, Follows, HasNoted, log_of}
 use Rattle.mm_run.specs.Steps.{IsDecided}
-use Rattle.mm_run.specs.Answered.{DecidedLine, last_stage, answers_of, moves_of, AreFaultless}
+use Rattle.mm_run.specs.Answered.{DecidedLine, last_stage, answers_in, moves_of, AreFaultless}
 use Rattle.mm_run.specs.Texts.{IsFront, status_of}
-use Rattle.mm_run.specs.Ends.{BreaksOff, Leaves}
+use Rattle.mm_run.specs.Ends.{BreaksOff, StageLeaves}
 use Rattle.mm_run.specs.Ran.{Around, GaveAll, IsRefused, LogRan, EndsHolding, SomeRose, begun_at}
 
 -- ---- the words
@@ -47,8 +47,8 @@ IsNoBulk words = (seed count : ℕ) → IsBulk words seed count → ⊥
 
 -- ---- the events
 
-abbrev pub events_of : List DecidedLine → List Event
-events_of lines = map (λ l. l.event) lines
+abbrev pub events_in : List DecidedLine → List Event
+events_in lines = map (λ l. l.event) lines
 
 -- An event is decided at this stage as a line would be.
 pub record IsEventNext (old : Stage) (l : DecidedLine) : Type 0 where
@@ -76,12 +76,12 @@ ClosesEvents _ last end = Follows last end
 
 -- All events were decided; or some are left, since memory ran out, or since the moves were not all
 -- written or a device was not opened.
-abbrev pub Stops : Ending → List Event → Type 0
-Stops ending.Done left = left ≡ []
-Stops ending.NoMemory left = 0 < length left
-Stops ending.MovesFault left = 0 < length left
-Stops ending.SetupFault left = 0 < length left
-Stops _ left = ⊥
+abbrev pub BulkStops : Ending → List Event → Type 0
+BulkStops ending.Done left = left ≡ []
+BulkStops ending.NoMemory left = 0 < length left
+BulkStops ending.MovesFault left = 0 < length left
+BulkStops ending.SetupFault left = 0 < length left
+BulkStops _ left = ⊥
 
 -- ---- the four lines
 
@@ -128,18 +128,18 @@ pub record BulkRan (a b : Around) (events : List Event) (status : ℕ) : Type 0 
   -- The events that were decided, one after another, and those that are left.
   pub lines : List DecidedLine
   pub left : List Event
-  pub events_are : events ≡ events_of lines ++ left
+  pub events_are : events ≡ events_in lines ++ left
   pub decided : AreDecided (begun_at a.beside) lines
   -- What it came to, and what was written.
   pub e : Ending
-  pub stops : Stops e left
+  pub stops : BulkStops e left
   pub end : Stage
   pub written : Text
   pub wrote : Appended a.took b.took written
-  pub ends : BulkEnds b status e (bulk_text (answers_of lines) end) written
+  pub ends : BulkEnds b status e (bulk_text (answers_in lines) end) written
   -- What happened after the last event, and what the end leaves, as `Ran` has it.
   pub closes : ClosesEvents e (last_stage (begun_at a.beside) lines) end
-  pub leaves : Leaves end b.beside
+  pub leaves : StageLeaves end b.beside
   pub log : LogRan a.beside.moves b.beside.moves a.beside.moves_faults b.beside.moves_faults
       (moves_of lines) e (last_stage (begun_at a.beside) lines) end
   pub holds : e ≡ ending.Done → EndsHolding end b.beside.paging.blocks b.beside.files.blocks

@@ -23,7 +23,7 @@ is_over ending.MovesFault = true
 is_over _ = false
 
 -- Of the sinks of answers and of moves, before and after, none was called.
-pub record Stops (o o' m m' : SinkSeen) (e : Ending) (status : ℕ) : Type 0 where
+pub record StopsAtOnce (o o' m m' : SinkSeen) (e : Ending) (status : ℕ) : Type 0 where
   pub over : is_over e ≡ true
   pub status_is : status ≡ status_of e
   pub out_same : o' ≡ o
@@ -47,7 +47,7 @@ pub record GaveMoves (m m' : SinkSeen) : Type 0 where
   pub faults_are : m'.faults ≡ m.faults
 
 -- Then all was written and given on.
-pub record Tells (o o' m m' : SinkSeen) (e : Ending) (kept : Text) (status : ℕ) : Type 0 where
+pub record WritesAll (o o' m m' : SinkSeen) (e : Ending) (kept : Text) (status : ℕ) : Type 0 where
   pub goes : is_over e ≡ false
   pub status_is : status ≡ status_of e
   pub moves : GaveMoves m m'
@@ -65,5 +65,6 @@ pub record Tears (o o' m m' : SinkSeen) (e : Ending) (kept : Text) (status : ℕ
 
 abbrev pub Closed : SinkSeen → SinkSeen → SinkSeen → SinkSeen → Ending → Text → ℕ → Type 0
 Closed o o' m m' e kept status =
-    Stops o o' m m' e status
-    ⊎ (Drops o o' m m' e status ⊎ (Tells o o' m m' e kept status ⊎ Tears o o' m m' e kept status))
+    StopsAtOnce o o' m m' e status
+    ⊎ (Drops o o' m m' e status ⊎
+    (WritesAll o o' m m' e kept status ⊎ Tears o o' m m' e kept status))

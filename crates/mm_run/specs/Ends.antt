@@ -13,8 +13,8 @@ use Rattle.mm_core.specs.Built.{is_machine, takes_memory}
 use Rattle.mm_run.specs.declared.endings.Ending.{Ending}
 use Rattle.mm_run.specs.declared.endings.Ending.TheVariants as ending
 use Rattle.mm_run.specs.Scenes.{Stage, NotBegun, Running, Follows}
-use Rattle.mm_run.specs.Steps.{Breaks}
-use Rattle.mm_run.specs.Answered.{DecidedLine, IsMuted, Says}
+use Rattle.mm_run.specs.Steps.{BreaksLine}
+use Rattle.mm_run.specs.Answered.{DecidedLine, IsMuted, LineSays}
 
 -- ---- between the last answer and the end
 
@@ -29,7 +29,7 @@ pub record Mutes (n : ℕ) (front : Text) (last end : Stage) : Type 0 where
 abbrev pub BreaksAt : Stage → Stage → Type 0
 BreaksAt (NotBegun o) end = ⊥
 BreaksAt (Running s) (NotBegun o) = ⊥
-BreaksAt (Running s) (Running z) = Breaks s z
+BreaksAt (Running s) (Running z) = BreaksLine s z
 
 pub record BreaksOff (last end : Stage) : Type 0 where
   pub before : Stage
@@ -47,15 +47,15 @@ pub record WantsMemory (n : ℕ) (front : Text) (last end : Stage) : Type 0 wher
   pub line : Text
   pub event : Event
   pub whole : front ≡ with_line_feed line
-  pub says : Says n line event
+  pub says : LineSays n line event
   pub broken : ((is_machine event ≡ true) × Follows last end)
       ⊎ (TakesMemory last event × BreaksOff last end)
 
 -- Nothing happened, but that a line ran out of memory, or could not note all its moves.
-abbrev pub Closes : Ending → ℕ → Text → Stage → Stage → Type 0
-Closes ending.NoMemory n front last end = WantsMemory n front last end
-Closes ending.MovesFault n front last end = Follows last end ⊎ Mutes n front last end
-Closes _ n front last end = Follows last end
+abbrev pub ClosesRun : Ending → ℕ → Text → Stage → Stage → Type 0
+ClosesRun ending.NoMemory n front last end = WantsMemory n front last end
+ClosesRun ending.MovesFault n front last end = Follows last end ⊎ Mutes n front last end
+ClosesRun _ n front last end = Follows last end
 
 -- ---- what is left
 
@@ -100,9 +100,9 @@ pub record IsLogLeft (log : Log) (x : Left) : Type 0 where
   pub faults_are : log.faults ≤ x.moves_faults
 
 -- Before the first line was decided nothing was noted; devices may have been opened.
-abbrev pub Leaves : Stage → Left → Type 0
-Leaves (NotBegun o) x = IsLogLeft o.log x
-Leaves (Running s) x =
+abbrev pub StageLeaves : Stage → Left → Type 0
+StageLeaves (NotBegun o) x = IsLogLeft o.log x
+StageLeaves (Running s) x =
     IsLogLeft s.behind.log x
     × IsLeft s.paging s.behind.slots x.paging
     × IsLeft s.files s.blocks x.files

@@ -4,7 +4,7 @@ use Rattle.std.specs.Prelude.{◌≡◌, ◌⊎◌, ◌≤◌, ℕ}
 use Rattle.mm_types.specs.Outside.{Rose}
 use Rattle.mm_blocks.specs.Traffic.{NoneLogged}
 use Rattle.mm_run.specs.Ends.{DeviceLeft}
-use Rattle.mm_run.specs.Story.{Counts}
+use Rattle.mm_run.specs.Story.{FaultCounts}
 use Rattle.mm_run.specs.Script.{IsFault}
 
 -- A device could not be opened: its count of faults rose, and no read or write of it is told.
@@ -24,7 +24,7 @@ OpenFailed paging paging' files files' =
 -- count of the source and of the sink of answers is another than before, and that of moves did not
 -- fall: it may have risen, where the `at` of the line that ran out of memory was not written. With
 -- the other statuses no count of these three is another.
-pub record IsAccounted (status : ℕ) (opening : Type 0) (c d : Counts) : Type 0 where
+pub record IsAccounted (status : ℕ) (opening : Type 0) (c d : FaultCounts) : Type 0 where
   pub read_fault : status ≡ 4 → Rose c.source d.source
   pub out_fault : status ≡ 5 → Rose c.out d.out
   pub moves_fault : status ≡ 6 → Rose c.moves d.moves

@@ -10,11 +10,11 @@ use Rattle.mm_script.specs.Printed.{IsWellFormed}
 use Rattle.mm_core.specs.Promise.{Scene}
 use Rattle.mm_run.specs.declared.endings.Ending.{Ending}
 use Rattle.mm_run.specs.declared.endings.Ending.TheVariants as ending
-use Rattle.mm_run.specs.Reading.{reading}
+use Rattle.mm_run.specs.Reading.{reading_of}
 use Rattle.mm_run.specs.Scenes.{Stage, Running, log_of}
-use Rattle.mm_run.specs.Steps.{Breaks}
+use Rattle.mm_run.specs.Steps.{BreaksLine}
 use Rattle.mm_run.specs.Ends.{TakesMemory}
-use Rattle.mm_run.specs.Story.{Outside, Counts, Went, Came, IsBlamed, outside, stand, counts_with, most_lines}
+use Rattle.mm_run.specs.Story.{Outside, FaultCounts, WentOn, CameToEnd, IsBlamed, outside, stand, fault_counts_with, most_lines}
 
 -- ---- what stands at one moment
 
@@ -49,8 +49,8 @@ moment input output kept stage = record {
 abbrev pub outside_of : Moment → Outside
 outside_of m = outside m.input.left m.output.took m.kept
 
-abbrev pub counts_of : Moment → Counts
-counts_of m = counts_with m.input.faults m.output.faults (log_of m.stage).faults
+abbrev pub fault_counts_of : Moment → FaultCounts
+fault_counts_of m = fault_counts_with m.input.faults m.output.faults (log_of m.stage).faults
 
 -- A world over a store: whether that is unpaged memory, the scene, how many lines began, whether
 -- memory ran out in one of them, and the references that it holds.
@@ -71,7 +71,7 @@ pub record HoldsLine (held : Text) (len : ℕ) : Type 0 where
 -- After n others, and not as the first, this text says this event.
 pub record SaysLater (n : ℕ) (text : Text) (event : Event) : Type 0 where
   pub some : 0 < n
-  pub says : reading n text ≡ Ok event
+  pub says : reading_of n text ≡ Ok event
   pub grammar : IsLineFor text event
   pub well_formed : IsWellFormed event
 
@@ -82,19 +82,19 @@ pub record HasBegun (n : ℕ) (w : WorldSeen) : Type 0 where
   pub paged : w.unpaged ≡ false
 
 -- It has noted all moves of these lines.
-pub record IsReady (n : ℕ) (w : WorldSeen) : Type 0 where
+pub record HasNotedAll (n : ℕ) (w : WorldSeen) : Type 0 where
   pub begun : HasBegun n w
   pub noted : w.scene.behind.log.failed ≡ false
 
 -- So it stands between two lines: of the bytes taken fewer than 4,096 are not used yet.
 pub record IsBetween (n : ℕ) (held : Text) (w : WorldSeen) : Type 0 where
   pub few : length held < 4096
-  pub ready : IsReady n w
+  pub ready : HasNotedAll n w
 
 -- ---- what is promised
 
 -- Of a world only its log of moves may be another, and it has failed where it had.
-pub record Keeps (v w : WorldSeen) : Type 0 where
+pub record KeepsWorld (v w : WorldSeen) : Type 0 where
   pub count : w.line ≡ v.line
   pub ready : w.spent ≡ v.spent
   pub noted : w.scene.behind.log.failed ≡ v.scene.behind.log.failed
@@ -112,27 +112,27 @@ pub record HasDecided (n : ℕ) (v w : WorldSeen) : Type 0 where
 
 -- Memory ran out in a line that may take some.
 pub record RunsShort (s : Scene) (event : Event) (z : Scene) : Type 0 where
-  pub breaks : Breaks s z
+  pub breaks : BreaksLine s z
   pub takes : TakesMemory (Running s) event
 
 -- From n lines on, with these bytes held, a run has come to where more lines are decided, and other
 -- bytes held: no count of faults is another, and a read that took no byte was not the last.
 pub record GoesOn (held : Text) (n : ℕ) (held' : Text) (n' : ℕ) (a b : Moment) : Type 0 where
-  pub went : Went (outside_of a) (outside_of b) (stand held n a.stage) (stand held' n' b.stage)
-  pub faults : counts_of b ≡ counts_of a
+  pub went : WentOn (outside_of a) (outside_of b) (stand held n a.stage) (stand held' n' b.stage)
+  pub faults : fault_counts_of b ≡ fault_counts_of a
   pub idle : b.input.idle ≤ a.input.idle
 
 -- From there it has come to its end: no count of faults is another that this end is not to blame
 -- on, and only the last read may have taken no byte.
 pub record EndsRun (held : Text) (n : ℕ) (a b : Moment) (e : Ending) : Type 0 where
-  pub came : Came (outside_of a) (outside_of b) (stand held n a.stage) e b.stage
-  pub faults : IsBlamed e ⊥ (counts_of a) (counts_of b)
+  pub came : CameToEnd (outside_of a) (outside_of b) (stand held n a.stage) e b.stage
+  pub faults : IsBlamed e ⊥ (fault_counts_of a) (fault_counts_of b)
   pub idle : b.input.idle ≤ a.input.idle + b.input.last_idle
   pub form : e ≢ ending.Usage
 
 -- A step goes on, or ends the run.
-abbrev pub Steps : Option Ending → Text → ℕ → Text → ℕ → Moment → Moment → Type 0
-Steps r held n held' n' a b = MatchOption r (GoesOn held n held' n' a b) (EndsRun held n a b)
+abbrev pub GoesOnOrEnds : Option Ending → Text → ℕ → Text → ℕ → Moment → Moment → Type 0
+GoesOnOrEnds r held n held' n' a b = MatchOption r (GoesOn held n held' n' a b) (EndsRun held n a b)
 
 -- It finds a line in front, or ends the run.
 abbrev pub FindsLine : Result ℕ Ending → Text → ℕ → Text → Moment → Moment → Type 0
@@ -143,4 +143,4 @@ FindsLine r held n held' a b = MatchResult r (λ _. GoesOn held n held' n a b) (
 abbrev pub StepsBetween : Option Ending → Output → Output → Text → Text → Stage → Stage → Type 0
 StepsBetween r out out' kept kept' s z =
     (input : Input) (held : Text) (n : ℕ) → n ≤ most_lines → length held < 4096 →
-    Steps r held n held n (moment input out kept s) (moment input out' kept' z)
+    GoesOnOrEnds r held n held n (moment input out kept s) (moment input out' kept' z)

@@ -17,12 +17,12 @@ use Rattle.mm_world.specs.World.{Page}
 use Rattle.mm_paging.specs.Runs.{DevicesHold}
 use Rattle.mm_run.specs.declared.endings.Ending.{Ending}
 use Rattle.mm_run.specs.declared.endings.Ending.TheVariants as ending
-use Rattle.mm_run.specs.Scenes.{Stage, NotBegun, Running, outset, life_of}
-use Rattle.mm_run.specs.Answered.{DecidedLine, AreAnswered, HoldMovesOf, last_stage, texts_of, answers_of, moves_of, told_of, AreFaultless}
+use Rattle.mm_run.specs.Scenes.{Stage, NotBegun, Running, outset, replay_of}
+use Rattle.mm_run.specs.Answered.{DecidedLine, AreAnswered, HoldMovesOf, last_stage, texts_of, answers_in, moves_of, answered_lines, AreFaultless}
 use Rattle.mm_run.specs.Written.{GivesWritten}
 use Rattle.mm_run.specs.Texts.{IsFront, TornText, status_of, last_text}
-use Rattle.mm_run.specs.Story.{Settles, most_lines}
-use Rattle.mm_run.specs.Ends.{Left, Leaves, Closes}
+use Rattle.mm_run.specs.Story.{SettlesRun, most_lines}
+use Rattle.mm_run.specs.Ends.{Left, StageLeaves, ClosesRun}
 
 -- What stands around a run.
 pub record Around : Type 0 where
@@ -50,7 +50,7 @@ pub record TellsAll (b : Around) (status : ℕ) (e : Ending) (told kept : List D
   pub out_stands : e ≢ ending.OutFault
   pub moves_stand : e ≢ ending.MovesFault
   pub all_told : kept ≡ []
-  pub text : written ≡ spelled (answers_of told) ++ last_text e
+  pub text : written ≡ spelled (answers_in told) ++ last_text e
   pub gave : GaveAll b
 
 -- With status 5, as the sink of answers failed, a front of all that stands.
@@ -59,7 +59,7 @@ pub record TellsFront (status : ℕ) (e : Ending) (told kept : List DecidedLine)
   pub status_is : status ≡ 5
   pub moves_stand : e ≢ ending.MovesFault
   pub all_told : kept ≡ []
-  pub text : IsFront written (spelled (answers_of told) ++ last_text e)
+  pub text : IsFront written (spelled (answers_in told) ++ last_text e)
 
 -- With status 6, as the sink of moves failed, the answers up to the last flush stand, and no last
 -- text.
@@ -67,10 +67,10 @@ pub record TellsSome (status : ℕ) (e : Ending) (told : List DecidedLine) (writ
     : Type 0 where
   pub status_is : status ≡ 6
   pub out_stands : e ≢ ending.OutFault
-  pub text : written ≡ spelled (answers_of told)
+  pub text : written ≡ spelled (answers_in told)
 
-abbrev pub Ends : Around → ℕ → Ending → List DecidedLine → List DecidedLine → Text → Type 0
-Ends b status e told kept written =
+abbrev pub EndsTelling : Around → ℕ → Ending → List DecidedLine → List DecidedLine → Text → Type 0
+EndsTelling b status e told kept written =
     TellsAll b status e told kept written
     ⊎ (TellsFront status e told kept written ⊎ TellsSome status e told written)
 
@@ -87,8 +87,8 @@ pub record LogRan (took took' : Option Text) (faults faults' : ℕ) (moves : Lis
     (last end : Stage) : Type 0 where
   pub more : List Move
   pub in_range : AreMoves (moves ++ more)
-  pub replays : Replays moves unstarted (life_of last)
-  pub replays_more : Replays more (life_of last) (life_of end)
+  pub replays : Replays moves unstarted (replay_of last)
+  pub replays_more : Replays more (replay_of last) (replay_of end)
   pub wrote : TornText took took' (spelled_moves (moves ++ more))
   pub none : e ≢ ending.NoMemory → e ≢ ending.MovesFault → more ≡ []
   pub whole : e ≢ ending.NoMemory → e ≢ ending.MovesFault → wrote.back ≡ []
@@ -101,9 +101,9 @@ EndsHolding (Running s) slots blocks = DevicesHold s.world s.behind.life slots b
 
 pub record Ran (a b : Around) (form : Type 0) (status : ℕ) : Type 0 where
   -- The lines that were decided and answered, one after another: each with its text, event, answer
-  -- and moves, and what stands after it. Each is in the grammar (`Says`), and decided from what the
-  -- one before it left (`IsDecided`): its answer and the new world are the definitions' step by the
-  -- reports before and after it; its charge is within the limit; its moves are its piece of the
+  -- and moves, and what stands after it. Each is in the grammar (`LineSays`), and decided from what
+  -- the one before it left (`IsDecided`): its answer and the new world are the definitions' step by
+  -- the reports before and after it; its charge is within the limit; its moves are its piece of the
   -- log.
   pub lines : List DecidedLine
   pub answered : AreAnswered 0 (begun_at a.beside) lines
@@ -112,7 +112,7 @@ pub record Ran (a b : Around) (form : Type 0) (status : ℕ) : Type 0 where
   -- the lines before it and their answers (GetWriteWatch): the lowest ones, at most as many as it
   -- asked for.
   pub watches : (before after : List DecidedLine) (l : DecidedLine) →
-      before ++ l ∷ after ≡ lines → GivesWritten (told_of before) l.event l.answer
+      before ++ l ∷ after ≡ lines → GivesWritten (answered_lines before) l.event l.answer
   -- What the run then came to, by the bytes after these lines up to the one that decided it
   -- (`front`); fewer than 4,096 more were taken.
   pub e : Ending
@@ -121,7 +121,7 @@ pub record Ran (a b : Around) (form : Type 0) (status : ℕ) : Type 0 where
   pub more : Text
   pub read : Took a.left b.left taken
   pub whole : taken ≡ text_of_lines (texts_of lines) ++ (front ++ more)
-  pub settled : Settles (length lines) front more b.left e
+  pub settled : SettlesRun (length lines) front more b.left e
   pub few : length more < 4096
   pub is_form : form → e ≢ ending.Usage
   pub no_form : (form → ⊥) → e ≡ ending.Usage
@@ -134,11 +134,11 @@ pub record Ran (a b : Around) (form : Type 0) (status : ℕ) : Type 0 where
   pub gave : HoldMovesOf told b.beside.gave
   pub written : Text
   pub wrote : Appended a.took b.took written
-  pub ends : Ends b status e told kept written
+  pub ends : EndsTelling b status e told kept written
   -- What happened after the last answer, and what the end leaves: the log of moves, the devices.
   pub end : Stage
-  pub closes : Closes e (length lines) front (last_stage (begun_at a.beside) lines) end
-  pub leaves : Leaves end b.beside
+  pub closes : ClosesRun e (length lines) front (last_stage (begun_at a.beside) lines) end
+  pub leaves : StageLeaves end b.beside
   pub log : LogRan a.beside.moves b.beside.moves a.beside.moves_faults b.beside.moves_faults
       (moves_of lines) e (last_stage (begun_at a.beside) lines) end
   pub holds : e ≡ ending.Done → EndsHolding end b.beside.paging.blocks b.beside.files.blocks

@@ -26,6 +26,6 @@ read_later says_machine (Err fault) = Err (if says_machine then 1 else fault.col
 
 -- What a line says after n others: its event, or the column of its fault. Where a first line's
 -- first word is not `machine`, or a later line's is, that is column 1.
-abbrev pub reading : ℕ → Text → Result Event ℕ
-reading zero text = read_first (is_machine_word (without_return text)) (parse text)
-reading (suc n) text = read_later (is_machine_word (without_return text)) (parse text)
+abbrev pub reading_of : ℕ → Text → Result Event ℕ
+reading_of zero text = read_first (is_machine_word (without_return text)) (parse text)
+reading_of (suc n) text = read_later (is_machine_word (without_return text)) (parse text)

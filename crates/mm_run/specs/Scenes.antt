@@ -24,9 +24,9 @@ pub data Stage : Type 0 where
   Running : Scene → Stage
 
 -- the state of the replay
-abbrev pub life_of : Stage → FrameLife
-life_of (NotBegun o) = unstarted
-life_of (Running s) = s.behind.life
+abbrev pub replay_of : Stage → FrameLife
+replay_of (NotBegun o) = unstarted
+replay_of (Running s) = s.behind.life
 
 -- how the sink of moves stands
 abbrev pub log_of : Stage → Log

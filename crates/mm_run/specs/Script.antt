@@ -8,17 +8,17 @@ use Rattle.mm_io.specs.Lines.{text_of_lines}
 use Rattle.mm_types.specs.declared.events.Event.{Event}
 use Rattle.mm_run.specs.declared.endings.Ending.{Ending}
 use Rattle.mm_run.specs.declared.endings.Ending.TheVariants as ending
-use Rattle.mm_run.specs.Answered.{Says, texts_of, answers_of}
+use Rattle.mm_run.specs.Answered.{LineSays, texts_of, answers_in}
 use Rattle.mm_run.specs.Texts.{status_of, last_text}
-use Rattle.mm_run.specs.Story.{Settles, most_lines}
+use Rattle.mm_run.specs.Story.{SettlesRun, most_lines}
 use Rattle.mm_run.specs.Ran.{Around, Ran}
 
 -- After n lines, each line is in the grammar and says this event.
-abbrev pub Each : ℕ → List Text → List Event → Type 0
-Each n [] [] = Unit {0}
-Each n [] (e ∷ es) = ⊥
-Each n (l ∷ ls) [] = ⊥
-Each n (l ∷ ls) (e ∷ es) = Says n l e × Each (suc n) ls es
+abbrev pub EachSays : ℕ → List Text → List Event → Type 0
+EachSays n [] [] = Unit {0}
+EachSays n [] (e ∷ es) = ⊥
+EachSays n (l ∷ ls) [] = ⊥
+EachSays n (l ∷ ls) (e ∷ es) = LineSays n l e × EachSays (suc n) ls es
 
 -- What the script alone can make a run come to.
 abbrev pub IsVerdict : Ending → Type 0
@@ -28,14 +28,14 @@ IsVerdict (ending.TooLong line) = Unit {0}
 IsVerdict _ = ⊥
 
 -- The script is these lines, each in the grammar, and then bytes that make a run come to this.
-pub record IsScript (text : Text) (n : ℕ) (lines : List Text) (e : Ending) : Type 0 where
+pub record IsScriptOf (text : Text) (n : ℕ) (lines : List Text) (e : Ending) : Type 0 where
   pub events : List Event
   pub front : Text
   pub more : Text
   pub whole : text ≡ text_of_lines lines ++ (front ++ more)
-  pub each : Each n lines events
+  pub each : EachSays n lines events
   pub limit : n + length lines ≤ most_lines
-  pub settled : Settles (n + length lines) front more (Some []) e
+  pub settled : SettlesRun (n + length lines) front more (Some []) e
   pub verdict : IsVerdict e
 
 -- Memory or the outside failed.
@@ -49,4 +49,4 @@ pub record IsComplete (a b : Around) (form : Type 0) (lines : List Text) (e : En
   pub came_to : ran.e ≡ e
   pub all : texts_of ran.lines ≡ lines
   pub status_is : status ≡ status_of e
-  pub wrote : Appended a.took b.took (spelled (answers_of ran.lines) ++ last_text e)
+  pub wrote : Appended a.took b.took (spelled (answers_in ran.lines) ++ last_text e)

@@ -6,14 +6,14 @@ use Rattle.mm_io.specs.declared.Sink.{Ghosts as SinkGhosts}
 use Rattle.mm_blocks.specs.declared.Blocks.{Ghosts as DeviceGhosts}
 use Rattle.mm_pages.specs.declared.pages.Pages.{Ghosts as PagesGhosts}
 use Rattle.mm_core.specs.declared.worlds.World.{World}
-use Rattle.mm_core.specs.Shown.{line_of, loans}
+use Rattle.mm_core.specs.Shown.{line_number, loans}
 use Rattle.mm_core.specs.Promise.{scene}
 use Rattle.mm_run.specs.Scenes.{Outset, Running, outset}
 use Rattle.mm_run.specs.Ends.{DeviceLeft, Left, device_left, left_with}
 use Rattle.mm_run.specs.Ran.{Around, around}
 use Rattle.mm_run.specs.Closing.{SinkSeen}
 use Rattle.mm_run.specs.Faults.{OpenFailed}
-use Rattle.mm_run.specs.Story.{Outside, Counts, outside, counts_with}
+use Rattle.mm_run.specs.Story.{Outside, FaultCounts, outside, fault_counts_with}
 use Rattle.mm_run.specs.Moments.{Input, Output, Moment, WorldSeen, moment}
 use Rattle.mm_run.specs.Settings.{Setting}
 
@@ -53,7 +53,7 @@ module _ {G : Type 0} {g : PagesGhosts G} where
   world_seen w = record {
     unpaged = g.unpaged;
     scene = scene w;
-    line = line_of w;
+    line = line_number w;
     spent = w.spent;
     loans = loans w;
   }
@@ -93,5 +93,6 @@ open_failed p f paging paging' files files' =
 
 -- the counts of faults
 abbrev pub counts_seen : {S O M : Type 0} →
-    SourceGhosts S → SinkGhosts O → SinkGhosts M → S → O → M → Counts
-counts_seen s o m source out moves = counts_with (s.faults source) (o.faults out) (m.faults moves)
+    SourceGhosts S → SinkGhosts O → SinkGhosts M → S → O → M → FaultCounts
+counts_seen s o m source out moves = fault_counts_with (s.faults source) (o.faults out)
+    (m.faults moves)

@@ -8,11 +8,11 @@ use Rattle.mm_io.specs.Looking.{HasLine}
 use Rattle.mm_script.specs.Grammar.{IsLine as IsLineFor}
 use Rattle.mm_blocks.specs.Traffic.{NoneLogged, empty_block}
 use Rattle.mm_run.specs.declared.endings.Ending.{Ending}
-use Rattle.mm_run.specs.Reading.{reading}
+use Rattle.mm_run.specs.Reading.{reading_of}
 use Rattle.mm_run.specs.Ends.{DeviceLeft, Left}
 use Rattle.mm_run.specs.Faults.{OpenFailed}
 use Rattle.mm_run.specs.Ran.{begun_at}
-use Rattle.mm_run.specs.Story.{Outside, Counts, Comes, IsBlamed, outside, stand, counts_with}
+use Rattle.mm_run.specs.Story.{Outside, FaultCounts, Comes, IsBlamed, outside, stand, fault_counts_with}
 use Rattle.mm_run.specs.Moments.{Input, Output}
 
 -- All that a run may change: its source, the sink of answers, the answers that are kept, the sink
@@ -26,8 +26,8 @@ pub record Setting : Type 0 where
 abbrev pub outside_in : Setting → Outside
 outside_in s = outside s.input.left s.output.took s.kept
 
-abbrev pub counts_in : Setting → Counts
-counts_in s = counts_with s.input.faults s.output.faults s.left.moves_faults
+abbrev pub counts_in : Setting → FaultCounts
+counts_in s = fault_counts_with s.input.faults s.output.faults s.left.moves_faults
 
 -- a device could not be opened
 abbrev pub open_failed_in : Left → Left → Type 0
@@ -40,7 +40,7 @@ open_failed_in a b = OpenFailed a.paging b.paging a.files b.files
 pub record HoldsMachine (held : Text) (len : ℕ) (m : MachineOf) : Type 0 where
   pub line : HasLine held len
   pub behind : length held < len + 1 + 4096
-  pub says : reading 0 (take len held) ≡ Ok (event.Machine m)
+  pub says : reading_of 0 (take len held) ≡ Ok (event.Machine m)
   pub grammar : IsLineFor (take len held) (event.Machine m)
 
 -- Both devices were opened for this machine: they hold zeros, and none was called.

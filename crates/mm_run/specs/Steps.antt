@@ -22,9 +22,9 @@ use Rattle.mm_pages.specs.Told.{told_of, none_told}
 use Rattle.mm_paging.specs.Lines.{Agrees}
 use Rattle.mm_paging.specs.Runs.{DevicesHold, first_move}
 use Rattle.mm_core.specs.Stepping.{asks_frames}
-use Rattle.mm_core.specs.Promise.{Scene, Told, Breaks as WorldBreaks}
+use Rattle.mm_core.specs.Promise.{Scene, ToldBeside, Breaks as WorldBreaks}
 use Rattle.mm_core.specs.Built.{is_machine}
-use Rattle.mm_run.specs.Scenes.{Outset, Stage, NotBegun, Running, life_of, log_of}
+use Rattle.mm_run.specs.Scenes.{Outset, Stage, NotBegun, Running, replay_of, log_of}
 
 -- ---- the first line
 
@@ -36,7 +36,7 @@ pub record IsUnused (faults : ℕ) (d : DeviceOf) : Type 0 where
 
 -- A machine has begun: its world is the first, its devices hold zeros and were not asked for one
 -- yet, its report tells of the frames, of no call and of no growing device, and no thread waits.
-pub record IsFirst (m : MachineOf) (o : Outset) (s : Scene) : Type 0 where
+pub record IsFirstScene (m : MachineOf) (o : Outset) (s : Scene) : Type 0 where
   pub world : s.world ≡ first_world m
   pub slots : s.behind.slots ≡ replicate m.slots empty_block
   pub blocks : s.blocks ≡ replicate m.blocks empty_block
@@ -48,13 +48,13 @@ pub record IsFirst (m : MachineOf) (o : Outset) (s : Scene) : Type 0 where
   pub idle : (tid : ℕ) → (s.behind.waits tid ≡ Idle) × (s.report.wait tid ≡ wait.None)
 
 -- The first line, which names the machine.
-pub record Begins (o : Outset) (e : Event) (a : Answer) (moves : List Move) (s : Scene)
+pub record MachineBegins (o : Outset) (e : Event) (a : Answer) (moves : List Move) (s : Scene)
     : Type 0 where
   pub machine : MachineOf
   pub names : e ≡ line.Machine machine
   pub answered : a ≡ answer.Limit (limit_of machine)
   pub one : moves ≡ first_move machine ∷ []
-  pub first : IsFirst machine o s
+  pub first : IsFirstScene machine o s
 
 -- ---- a later line
 
@@ -72,7 +72,7 @@ pub record NoneFailed (after : Report) : Type 0 where
   pub calls : failed_calls after ≡ 0
   pub extended : is_failed_extension after.extended ≡ false
 
-pub record Decides (s : Scene) (e : Event) (a : Answer) (moves : List Move) (z : Scene)
+pub record DecidesLine (s : Scene) (e : Event) (a : Answer) (moves : List Move) (z : Scene)
     : Type 0 where
   -- the answer and the new world are those of the definitions' step, by the reports before and
   -- after
@@ -85,16 +85,16 @@ pub record Decides (s : Scene) (e : Event) (a : Answer) (moves : List Move) (z :
   pub unpaged : asks_frames e ≡ false → is_told a ≡ false → unpaged_step s.world e ≡ done a z.world
   -- what the promise of a world tells beside: of sections and names, of devices, of waits, and of
   -- the moves, which are one `at` with the line's number and kind, and what its form allows
-  pub told : Told false s e a moves z
+  pub told : ToldBeside false s e a moves z
 
 -- ---- any line
 
 -- The first line makes the world; each later line is answered by it, and leaves the next.
-abbrev pub Stepped : Stage → Event → Answer → List Move → Stage → Type 0
-Stepped (NotBegun o) e a moves (NotBegun after) = ⊥
-Stepped (NotBegun o) e a moves (Running s) = Begins o e a moves s
-Stepped (Running s) e a moves (NotBegun o) = ⊥
-Stepped (Running s) e a moves (Running z) = (is_machine e ≡ false) × Decides s e a moves z
+abbrev pub StageStepped : Stage → Event → Answer → List Move → Stage → Type 0
+StageStepped (NotBegun o) e a moves (NotBegun after) = ⊥
+StageStepped (NotBegun o) e a moves (Running s) = MachineBegins o e a moves s
+StageStepped (Running s) e a moves (NotBegun o) = ⊥
+StageStepped (Running s) e a moves (Running z) = (is_machine e ≡ false) × DecidesLine s e a moves z
 
 -- The commit charge is at most the commit limit.
 abbrev pub IsWithinLimit : Stage → Type 0
@@ -108,24 +108,24 @@ HoldsUnchanged (Running s) = DevicesHold s.world s.behind.life s.behind.slots s.
 
 -- Moves that are legal one after another, and by whose text the log grew; where the sink fails in
 -- it, by a front of it.
-pub record Notes (old : Stage) (moves : List Move) (new : Stage) : Type 0 where
+pub record StageNotes (old : Stage) (moves : List Move) (new : Stage) : Type 0 where
   pub in_range : AreMoves moves
   pub grew : Grew (log_of old) (log_of new) (spelled_moves moves)
-  pub replays : Replays moves (life_of old) (life_of new)
+  pub replays : Replays moves (replay_of old) (replay_of new)
 
 -- A line is decided: its answer and the new world are the definition's, the charge stays within the
 -- limit, and its moves are noted.
 pub record IsDecided (old : Stage) (e : Event) (a : Answer) (moves : List Move) (new : Stage)
     : Type 0 where
-  pub step : Stepped old e a moves new
+  pub step : StageStepped old e a moves new
   pub within : IsWithinLimit new
-  pub notes : Notes old moves new
+  pub notes : StageNotes old moves new
   pub holds : HoldsUnchanged new
 
 -- A machine has begun at this scene, with its first line noted.
-pub record IsMade (m : MachineOf) (o : Outset) (s : Scene) : Type 0 where
-  pub first : IsFirst m o s
-  pub notes : Notes (NotBegun o) (first_move m ∷ []) (Running s)
+pub record MachineIsMade (m : MachineOf) (o : Outset) (s : Scene) : Type 0 where
+  pub first : IsFirstScene m o s
+  pub notes : StageNotes (NotBegun o) (first_move m ∷ []) (Running s)
   pub holds : HoldsUnchanged (Running s)
 
 -- A line is decided, with some moves.
@@ -135,5 +135,5 @@ pub record Moved (old : Stage) (e : Event) (a : Answer) (new : Stage) : Type 0 w
 
 -- A line ran out of memory: it noted its `at` alone or nothing, and world and devices are as
 -- before.
-abbrev pub Breaks : Scene → Scene → Type 0
-Breaks s z = WorldBreaks false s z
+abbrev pub BreaksLine : Scene → Scene → Type 0
+BreaksLine s z = WorldBreaks false s z

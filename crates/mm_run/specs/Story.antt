@@ -12,11 +12,11 @@ use Rattle.mm_types.specs.declared.events.Event.{Event}
 use Rattle.mm_run.specs.declared.endings.Ending.{Ending}
 use Rattle.mm_run.specs.declared.endings.Ending.TheVariants as ending
 use Rattle.mm_core.specs.Built.{is_machine}
-use Rattle.mm_run.specs.Reading.{reading}
+use Rattle.mm_run.specs.Reading.{reading_of}
 use Rattle.mm_run.specs.Scenes.{Stage, Follows, log_of}
-use Rattle.mm_run.specs.Answered.{DecidedLine, AreAnswered, HoldMovesOf, last_stage, texts_of, answers_of}
+use Rattle.mm_run.specs.Answered.{DecidedLine, AreAnswered, HoldMovesOf, last_stage, texts_of, answers_in}
 use Rattle.mm_run.specs.Texts.{IsFront}
-use Rattle.mm_run.specs.Ends.{Left, Leaves, Closes}
+use Rattle.mm_run.specs.Ends.{Left, StageLeaves, ClosesRun}
 
 -- the most lines of a script
 abbrev pub most_lines : ℕ
@@ -31,7 +31,7 @@ pub record Outside : Type 0 where
 
 -- Where a run stands: the bytes that were taken and not used yet, how many lines were decided, and
 -- its stage.
-pub record Stand : Type 0 where
+pub record RunStand : Type 0 where
   pub held : Text
   pub n : ℕ
   pub stage : Stage
@@ -39,7 +39,7 @@ pub record Stand : Type 0 where
 abbrev pub outside : Option Text → Option Text → Text → Outside
 outside left took kept = record { left = left; took = took; kept = kept }
 
-abbrev pub stand : Text → ℕ → Stage → Stand
+abbrev pub stand : Text → ℕ → Stage → RunStand
 stand held n stage = record { held = held; n = n; stage = stage }
 
 -- A `machine` line that is not the first, or another line that is.
@@ -51,7 +51,7 @@ pub record IsBad (n : ℕ) (front : Text) (column : ℕ) : Type 0 where
   pub line : Text
   pub is_line : IsLine line
   pub whole : front ≡ with_line_feed line
-  pub place : reading n line ≡ Err column
+  pub place : reading_of n line ≡ Err column
   pub refused : (e : Event) → IsLineFor line e → IsMisplaced n e
 
 -- A last line without a line feed, or no line at all.
@@ -68,34 +68,34 @@ pub record IsMachineLine (n : ℕ) (front : Text) : Type 0 where
   pub line : Text
   pub event : Event
   pub whole : front ≡ with_line_feed line
-  pub says : reading 0 line ≡ Ok event
+  pub says : reading_of 0 line ≡ Ok event
   pub machine : is_machine event ≡ true
 
 -- After n decided lines these bytes, and none before the last of them, make a run come to this.
 -- More were taken after them, and others are left.
-abbrev pub Settles : ℕ → Text → Text → Option Text → Ending → Type 0
-Settles n front more left ending.Done = (0 < n) × (front ≡ []) × (more ≡ []) × IsEnd left
-Settles n front more left ending.NoMemory = length front ≤ 257
-Settles n front more left ending.Usage = (n ≡ 0) × (front ≡ []) × (more ≡ [])
-Settles n front more left (ending.Script line column) =
+abbrev pub SettlesRun : ℕ → Text → Text → Option Text → Ending → Type 0
+SettlesRun n front more left ending.Done = (0 < n) × (front ≡ []) × (more ≡ []) × IsEnd left
+SettlesRun n front more left ending.NoMemory = length front ≤ 257
+SettlesRun n front more left ending.Usage = (n ≡ 0) × (front ≡ []) × (more ≡ [])
+SettlesRun n front more left (ending.Script line column) =
     (line ≡ n + 1) × (n < most_lines) × (IsBad n front column ⊎ IsOpen n front more left column)
-Settles n front more left ending.ReadFault = IsLine front × (more ≡ [])
-Settles n front more left ending.OutFault = front ≡ []
-Settles n front more left ending.MovesFault = length front ≤ 257
-Settles n front more left ending.SetupFault = IsMachineLine n front
-Settles n front more left (ending.TooLong line) =
+SettlesRun n front more left ending.ReadFault = IsLine front × (more ≡ [])
+SettlesRun n front more left ending.OutFault = front ≡ []
+SettlesRun n front more left ending.MovesFault = length front ≤ 257
+SettlesRun n front more left ending.SetupFault = IsMachineLine n front
+SettlesRun n front more left (ending.TooLong line) =
     (line ≡ n + 1)
     × (((length front ≡ 257) × NoFeed front) ⊎ ((n ≡ most_lines) × (length front ≡ 1)))
 
 -- This text is the answers of these lines, kept until the moves of all of them are given on; the
 -- log has taken these.
-pub record AreKept (lines : List DecidedLine) (text : Text) (s : Stage) : Type 0 where
-  pub text_is : text ≡ spelled (answers_of lines)
+pub record KeepsAnswers (lines : List DecidedLine) (text : Text) (s : Stage) : Type 0 where
+  pub text_is : text ≡ spelled (answers_in lines)
   pub noted : HoldMovesOf lines (log_of s).bytes
 
 -- So many more lines were read, decided and answered. Of those that were kept before and of these,
 -- the first were told: their moves were given on, and then their answers. The others are kept.
-pub record WentFrom (kept : List DecidedLine) (a b : Outside) (x y : Stand) : Type 0 where
+pub record WentFrom (kept : List DecidedLine) (a b : Outside) (x y : RunStand) : Type 0 where
   pub lines : List DecidedLine
   pub taken : Text
   pub read : Took a.left b.left taken
@@ -106,40 +106,43 @@ pub record WentFrom (kept : List DecidedLine) (a b : Outside) (x y : Stand) : Ty
   pub told : List DecidedLine
   pub still : List DecidedLine
   pub split : kept ++ lines ≡ told ++ still
-  pub wrote : Appended a.took b.took (spelled (answers_of told))
+  pub wrote : Appended a.took b.took (spelled (answers_in told))
   pub gave : HoldMovesOf told (log_of y.stage).given
-  pub keeps : AreKept still b.kept y.stage
+  pub keeps : KeepsAnswers still b.kept y.stage
   pub grows : IsFrontOf (log_of x.stage).given (log_of y.stage).given
 
-abbrev pub Went : Outside → Outside → Stand → Stand → Type 0
-Went a b x y = (kept : List DecidedLine) → AreKept kept a.kept x.stage → WentFrom kept a b x y
+abbrev pub WentOn : Outside → Outside → RunStand → RunStand → Type 0
+WentOn a b x y = (kept : List DecidedLine) → KeepsAnswers kept a.kept x.stage →
+    WentFrom kept a b x y
 
 -- The lines that were decided and answered, what the run then came to, and at which stage it ended.
 -- Fewer than 4,096 bytes were taken after the byte that decided it.
-pub record Decided (left left' : Option Text) (x : Stand) (e : Ending) (end : Stage) : Type 0 where
-  pub lines : List DecidedLine
-  pub taken : Text
-  pub front : Text
-  pub more : Text
-  pub read : Took left left' taken
-  pub whole : x.held ++ taken ≡ text_of_lines (texts_of lines) ++ (front ++ more)
-  pub answered : AreAnswered x.n x.stage lines
-  pub limit : x.n + length lines ≤ most_lines
-  pub settled : Settles (x.n + length lines) front more left' e
-  pub few : length more < 4096
-  pub closes : Closes e (x.n + length lines) front (last_stage x.stage lines) end
+pub record RunDecided (left left' : Option Text) (x : RunStand) (e : Ending) (end : Stage) : Type 0
+  where
+    pub lines : List DecidedLine
+    pub taken : Text
+    pub front : Text
+    pub more : Text
+    pub read : Took left left' taken
+    pub whole : x.held ++ taken ≡ text_of_lines (texts_of lines) ++ (front ++ more)
+    pub answered : AreAnswered x.n x.stage lines
+    pub limit : x.n + length lines ≤ most_lines
+    pub settled : SettlesRun (x.n + length lines) front more left' e
+    pub few : length more < 4096
+    pub closes : ClosesRun e (x.n + length lines) front (last_stage x.stage lines) end
 
 -- What stands on the sink of answers once a run has come to this, before the last text: the answers
 -- of the told lines, or where a call of the sink failed, a front of them, and then none is kept.
 abbrev pub StandsAt : Ending → List DecidedLine → List DecidedLine → Text → Type 0
 StandsAt ending.OutFault told still written =
-    (still ≡ []) × IsFront written (spelled (answers_of told))
-StandsAt _ told still written = written ≡ spelled (answers_of told)
+    (still ≡ []) × IsFront written (spelled (answers_in told))
+StandsAt _ told still written = written ≡ spelled (answers_in told)
 
 -- The same, with the answers that were told and those that are kept.
-pub record CameFrom (kept : List DecidedLine) (a b : Outside) (x : Stand) (e : Ending) (end : Stage)
+pub record CameFrom (kept : List DecidedLine) (a b : Outside) (x : RunStand) (e : Ending)
+    (end : Stage)
     : Type 0 where
-  pub decided : Decided a.left b.left x e end
+  pub decided : RunDecided a.left b.left x e end
   pub told : List DecidedLine
   pub still : List DecidedLine
   pub split : kept ++ decided.lines ≡ told ++ still
@@ -147,32 +150,32 @@ pub record CameFrom (kept : List DecidedLine) (a b : Outside) (x : Stand) (e : E
   pub wrote : Appended a.took b.took written
   pub stands : StandsAt e told still written
   pub gave : HoldMovesOf told (log_of end).given
-  pub keeps : AreKept still b.kept end
+  pub keeps : KeepsAnswers still b.kept end
   pub grows : IsFrontOf (log_of x.stage).given (log_of end).given
 
-abbrev pub Came : Outside → Outside → Stand → Ending → Stage → Type 0
-Came a b x e end =
-    (kept : List DecidedLine) → AreKept kept a.kept x.stage → CameFrom kept a b x e end
+abbrev pub CameToEnd : Outside → Outside → RunStand → Ending → Stage → Type 0
+CameToEnd a b x e end =
+    (kept : List DecidedLine) → KeepsAnswers kept a.kept x.stage → CameFrom kept a b x e end
 
 -- The same, with what is left on devices and in the log of moves.
-pub record Comes (a b : Outside) (x : Stand) (e : Ending) (left : Left) : Type 0 where
+pub record Comes (a b : Outside) (x : RunStand) (e : Ending) (left : Left) : Type 0 where
   pub end : Stage
-  pub came : Came a b x e end
-  pub leaves : Leaves end left
+  pub came : CameToEnd a b x e end
+  pub leaves : StageLeaves end left
 
 -- The counts of faults before and after, of the source and of both sinks.
-pub record Counts : Type 0 where
+pub record FaultCounts : Type 0 where
   pub source : ℕ
   pub out : ℕ
   pub moves : ℕ
 
-abbrev pub counts_with : ℕ → ℕ → ℕ → Counts
-counts_with source out moves = record { source = source; out = out; moves = moves }
+abbrev pub fault_counts_with : ℕ → ℕ → ℕ → FaultCounts
+fault_counts_with source out moves = record { source = source; out = out; moves = moves }
 
 -- The faults that an ending is to blame on: of the source, of a sink, of a device that was opened.
 -- No other count is another than before, but that of the moves where a line ran out of memory,
 -- whose `at` may not have been written.
-abbrev pub IsBlamed : Ending → Type 0 → Counts → Counts → Type 0
+abbrev pub IsBlamed : Ending → Type 0 → FaultCounts → FaultCounts → Type 0
 IsBlamed ending.ReadFault opening c d =
     Rose c.source d.source × (d ≡ record c { source = d.source })
 IsBlamed ending.OutFault opening c d = Rose c.out d.out × (d ≡ record c { out = d.out })
@@ -182,11 +185,11 @@ IsBlamed ending.SetupFault opening c d = opening × (d ≡ c)
 IsBlamed _ opening c d = d ≡ c
 
 -- What the input's end is, after n lines and so many bytes.
-abbrev pub EndsAt : ℕ → ℕ → Ending → Type 0
-EndsAt n len e =
+abbrev pub InputEndsAt : ℕ → ℕ → Ending → Type 0
+InputEndsAt n len e =
     ((0 < n) × (len ≡ 0) × (e ≡ ending.Done))
     ⊎ (((0 < len) ⊎ (n ≡ 0)) × (e ≡ ending.Script (n + 1) (len + 1)))
 
 -- These words are the form `run`.
-abbrev pub IsForm : List (String Global) → Type 0
-IsForm words = map string_bytes words ≡ codes "run" ∷ []
+abbrev pub IsRunForm : List (String Global) → Type 0
+IsRunForm words = map string_bytes words ≡ codes "run" ∷ []

@@ -17,12 +17,12 @@ pub record AnsweredLine : Type 0 where
   pub answer : Answer
 
 -- what lines tell of one page: whether a thread keeps a write to it, and whether it is written
-pub record Marks : Type 0 where
+pub record WriteMarks : Type 0 where
   pub keeps : ℕ → Bool
   pub written : Bool
 
-abbrev pub unmarked : Marks
-unmarked = record { keeps = λ thread. false; written = false }
+abbrev pub no_write_marks : WriteMarks
+no_write_marks = record { keeps = λ thread. false; written = false }
 
 module _ (pid page : ℕ) where
   -- the thread keeps a write to the page from a `begin` answered `pending` on, until a `resume`
@@ -35,24 +35,25 @@ module _ (pid page : ℕ) where
   keeps_after thread was (line.Exit by) answer.Ok = if by.0 == pid then false else was
   keeps_after thread was _ _ = was
 
-  abbrev pub marks_after : Marks → AnsweredLine → Marks
-  marks_after m l = record {
+  abbrev pub write_marks_after : WriteMarks → AnsweredLine → WriteMarks
+  write_marks_after m l = record {
     keeps = λ thread. keeps_after thread (m.keeps thread) l.event l.answer;
     written = written_after pid page m.keeps m.written l.event l.answer;
   }
 
   -- what these lines tell of the page, after others that told this
-  abbrev pub marks_over : Marks → List AnsweredLine → Marks
-  marks_over m lines = fold marks_after m lines
+  abbrev pub write_marks_over : WriteMarks → List AnsweredLine → WriteMarks
+  write_marks_over m lines = fold write_marks_after m lines
 
   -- whether the page is written after these lines
-  abbrev pub is_written : List AnsweredLine → Bool
-  is_written lines = (marks_over unmarked lines).written
+  abbrev pub is_page_written : List AnsweredLine → Bool
+  is_page_written lines = (write_marks_over no_write_marks lines).written
 
 -- the lowest pages of the range that are written after these lines, at most `count`
 abbrev pub lowest_written : List AnsweredLine → ℕ → Range → ℕ → List ℕ
 lowest_written lines pid range count =
-    take count (filter (λ page. is_written pid page lines) (range_with_len range.first range.count))
+    take count (filter (λ page. is_page_written pid page lines)
+    (range_with_len range.first range.count))
 
 -- a `watch` after these lines that was answered with pages gave exactly these
 abbrev pub GivesWritten : List AnsweredLine → Event → Answer → Type 0

@@ -2,17 +2,17 @@ ghost use Rattle.std.specs.Prelude.{◌≡◌, ◌<◌, ◌≤◌, ◌+◌, ◌*
 ghost use Rattle.mm_io.specs.Io.{CountsFaults};
 ghost use Rattle.mm_types.specs.declared.events.Event.TheVariants as event;
 ghost use Rattle.mm_make.specs.Generated.{script_of};
-ghost use Rattle.mm_core.specs.Shown.{line_of, loans, behind};
+ghost use Rattle.mm_core.specs.Shown.{line_number, loans, world_behind};
 ghost use Rattle.mm_core.specs.Promise.{scene};
 ghost use Rattle.mm_run.specs.Scenes.{Outset, NotBegun, Running, outset};
-ghost use Rattle.mm_run.specs.Steps.{IsMade, Moved};
+ghost use Rattle.mm_run.specs.Steps.{MachineIsMade, Moved};
 ghost use Rattle.mm_run.specs.Texts.{ToldText};
 ghost use Rattle.mm_run.specs.Ran.{around};
-ghost use Rattle.mm_run.specs.Story.{counts_with};
+ghost use Rattle.mm_run.specs.Story.{fault_counts_with};
 ghost use Rattle.mm_run.specs.Faults.{IsAccounted};
 ghost use Rattle.mm_run.specs.Bulk.{BulkRan, begins_ok, is_none, four_lines};
-ghost use Rattle.mm_run.specs.Batch.{IsLater, AreLater, Handled, Stopped, Finished, BatchRan, IsUnanswered, AccountsMoves, BatchEnds};
-ghost use Rattle.mm_run.specs.Moments.{HasBegun, IsReady};
+ghost use Rattle.mm_run.specs.Batch.{IsLaterEvent, AreLater, Handled, Stopped, Finished, BatchRan, IsUnanswered, AccountsMoves, BatchEnds};
+ghost use Rattle.mm_run.specs.Moments.{HasBegun, HasNotedAll};
 ghost use Rattle.mm_run.specs.Settings.{AreOpened};
 ghost use Rattle.mm_run.specs.Seen.{device_seen, left_seen, open_failed, world_seen};
 
@@ -85,20 +85,21 @@ fn decide_event<G: FlushesMoves>(
     event: &Event,
     world: &mut World<G>,
 ) -> Result<Answer, Ending>
-    requires later { IsLater event.now }
-    requires next { n ≡ line_of world.old + 1 }
+    requires later { IsLaterEvent event.now }
+    requires next { n ≡ line_number world.old + 1 }
     requires few { n ≤ 1000000 }
-    requires ready { IsReady (line_of world.old) (world_seen world.old) }
+    requires ready { HasNotedAll (line_number world.old) (world_seen world.old) }
     ensures came { MatchResult result
         (λ a. Moved (Running (scene world.old)) event.now a (Running (scene world.new)))
         (λ e. IsUnanswered (scene world.old) event.now e (scene world.new)) }
     ensures faults { AccountsMoves result ⊥
-        (behind world.old).log.faults (behind world.new).log.faults }
-    ensures ready { OnOk result (IsReady n (world_seen world.new)) }
+        (world_behind world.old).log.faults (world_behind world.new).log.faults }
+    ensures ready { OnOk result (HasNotedAll n (world_seen world.new)) }
     ensures loans { loans world.new ≡ loans world.old }
 {
-    match decide(alloc, n, event, world) {
-        Ok(answer) => {
+    let mut answer = Answer::Ok;
+    match decide(alloc, n, event, world, &mut answer) {
+        Ok(()) => {
             if world.pages.moves_failed() {
                 return Err(Ending::MovesFault);
             }
@@ -117,13 +118,13 @@ fn decide_later<G: FlushesMoves>(
 ) -> Result<(u32, u32), Ending>
     requires later { AreLater events.now }
     requires few { length events.now < 1000000 }
-    requires ready { IsReady 1 (world_seen world.old) }
+    requires ready { HasNotedAll 1 (world_seen world.old) }
     ensures came { MatchResult result
         (λ r. Handled (Running (scene world.old)) events.now r.0 r.1 (Running (scene world.new)))
         (λ e. Stopped (Running (scene world.old)) events.now e (Running (scene world.new))) }
     ensures few { IfOk result (λ r. (r.0 ≤ length events.now) × (r.1 ≤ length events.now)) }
     ensures faults { AccountsMoves result ⊥
-        (behind world.old).log.faults (behind world.new).log.faults }
+        (world_behind world.old).log.faults (world_behind world.new).log.faults }
     ensures loans { loans world.new ≡ loans world.old }
 {
     let mut n = 1u32;
@@ -152,11 +153,12 @@ fn decide_events<G: FlushesMoves>(
     requires later { AreLater events.now }
     requires few { length events.now < 1000000 }
     requires begun { HasBegun 1 (world_seen world.old) }
-    ensures came { (o : Outset) → IsMade machine o (scene world.old) →
+    ensures came { (o : Outset) → MachineIsMade machine o (scene world.old) →
         Finished (NotBegun o) (event.Machine machine ∷ events.now) result
         (Running (scene world.new)) }
-    ensures faults { (o : Outset) → IsMade machine o (scene world.old) → o.log.failed ≡ false →
-        AccountsMoves result ⊥ o.log.faults (behind world.new).log.faults }
+    ensures faults { (o : Outset) → MachineIsMade machine o (scene world.old) →
+        o.log.failed ≡ false →
+        AccountsMoves result ⊥ o.log.faults (world_behind world.new).log.faults }
     ensures loans { loans world.new ≡ loans world.old }
 {
     if world.pages.moves_failed() {
@@ -321,8 +323,8 @@ pub(crate) fn bulk<O: Sink, M: Sink, P: Blocks, F: Blocks>(
         (script_of seed count) result }
     ensures faults { (s : ℕ) → IsAccounted result
         (open_failed P.Blocks F.Blocks paging.old paging.new files.old files.new)
-        (counts_with s (O.faults out.old) (M.faults moves.old))
-        (counts_with s (O.faults out.new) (M.faults moves.new)) }
+        (fault_counts_with s (O.faults out.old) (M.faults moves.old))
+        (fault_counts_with s (O.faults out.new) (M.faults moves.new)) }
 {
     let decided = decide_script(alloc, seed, count, moves, paging, files);
     match moves.flush() {

@@ -2,13 +2,13 @@ ghost use Rattle.std.specs.Prelude.{◌≡◌, ◌<◌, ◌≤◌, ◌+◌, ◌+
 ghost use Rattle.mm_types.specs.AnswerText.{spelling};
 ghost use Rattle.mm_life.specs.Logs.{Flushed};
 ghost use Rattle.mm_io.specs.Looking.{HasLine};
-ghost use Rattle.mm_core.specs.Shown.{line_of, loans, behind};
+ghost use Rattle.mm_core.specs.Shown.{line_number, loans, world_behind};
 ghost use Rattle.mm_core.specs.Promise.{Scene, scene};
 ghost use Rattle.mm_run.specs.Scenes.{Stage, Running, Follows};
 ghost use Rattle.mm_run.specs.Steps.{Moved};
-ghost use Rattle.mm_run.specs.Story.{EndsAt};
-ghost use Rattle.mm_run.specs.Batch.{IsLater};
-ghost use Rattle.mm_run.specs.Moments.{Input, Output, moment, HoldsLine, SaysLater, IsReady, IsBetween, Keeps, HasDecided, RunsShort, EndsRun, Steps, FindsLine, StepsBetween};
+ghost use Rattle.mm_run.specs.Story.{InputEndsAt};
+ghost use Rattle.mm_run.specs.Batch.{IsLaterEvent};
+ghost use Rattle.mm_run.specs.Moments.{Input, Output, moment, HoldsLine, SaysLater, HasNotedAll, IsBetween, KeepsWorld, HasDecided, RunsShort, EndsRun, GoesOnOrEnds, FindsLine, StepsBetween};
 ghost use Rattle.mm_run.specs.Seen.{input_seen, output_seen, world_seen, moment_seen};
 
 use crate::answers::Kept;
@@ -35,24 +35,26 @@ pub(crate) fn tell(held: &mut Held, len: usize, answer: &Answer, kept: &mut Kept
     kept.keep(answer);
 }
 
-/// Decides a line of a world over a store that pages, which is not the first: it is told whole.
+/// Decides a line of a world over a store that pages, which is not the first: it is told whole. Its
+/// answer is written where it is wanted.
 pub(crate) fn decide<G: FlushesMoves>(
     alloc: Global,
     n: u32,
     event: &Event,
     world: &mut World<G>,
-) -> Result<Answer, NoMemory>
-    requires later { IsLater event.now }
-    requires next { n ≡ line_of world.old + 1 }
+    answer: &mut Answer,
+) -> Result<(), NoMemory>
+    requires later { IsLaterEvent event.now }
+    requires next { n ≡ line_number world.old + 1 }
     requires few { n ≤ 1000000 }
-    requires ready { IsReady (line_of world.old) (world_seen world.old) }
-    ensures moved { IfOk result
-        (λ a. Moved (Running (scene world.old)) event.now a (Running (scene world.new))) }
+    requires ready { HasNotedAll (line_number world.old) (world_seen world.old) }
+    ensures moved { OnOk result
+        (Moved (Running (scene world.old)) event.now answer.new (Running (scene world.new))) }
     ensures decided { OnOk result (HasDecided n (world_seen world.old) (world_seen world.new)) }
     ensures short { OnErr result (RunsShort (scene world.old) event.now (scene world.new)) }
     ensures loans { loans world.new ≡ loans world.old }
 {
-    let decided = world.step(alloc, n, event);
+    let decided = world.step(alloc, n, event, answer);
     world.pages.sound();
     decided
 }
@@ -71,20 +73,20 @@ fn answer_event<G: FlushesMoves>(
     requires line { HoldsLine held.old len }
     requires room { length kept.old + 256 ≤ 65536 }
     requires says { SaysLater n (take len held.old) event.now }
-    requires ready { IsReady n (world_seen world.old) }
-    ensures steps { (input : Input) (out : Output) → Steps result held.old n held.new (n + 1)
+    requires ready { HasNotedAll n (world_seen world.old) }
+    ensures steps { (input : Input) (out : Output) → GoesOnOrEnds result held.old n held.new (n + 1)
         (moment input out kept.old (Running (scene world.old)))
         (moment input out kept.new (Running (scene world.new))) }
     ensures between { IfNone result (IsBetween (n + 1) held.new (world_seen world.new)) }
     ensures loans { loans world.new ≡ loans world.old }
 {
-    let decided = decide(alloc, n + 1, event, world);
-    match &decided {
-        Ok(answer) => {
+    let mut answer = Answer::Ok;
+    match decide(alloc, n + 1, event, world, &mut answer) {
+        Ok(()) => {
             if world.pages.moves_failed() {
                 return Some(Ending::MovesFault);
             }
-            tell(held, len, answer, kept);
+            tell(held, len, &answer, kept);
             None
         }
         Err(_) => Some(Ending::NoMemory),
@@ -105,8 +107,8 @@ fn answer_line<G: FlushesMoves>(
     requires few { n < 1000000 }
     requires line { HoldsLine held.old len }
     requires room { length kept.old + 256 ≤ 65536 }
-    requires ready { IsReady n (world_seen world.old) }
-    ensures steps { (input : Input) (out : Output) → Steps result held.old n held.new (n + 1)
+    requires ready { HasNotedAll n (world_seen world.old) }
+    ensures steps { (input : Input) (out : Output) → GoesOnOrEnds result held.old n held.new (n + 1)
         (moment input out kept.old (Running (scene world.old)))
         (moment input out kept.new (Running (scene world.new))) }
     ensures between { IfNone result (IsBetween (n + 1) held.new (world_seen world.new)) }
@@ -124,7 +126,7 @@ fn answer_line<G: FlushesMoves>(
 pub(crate) fn at_end(n: u32, len: usize) -> Ending
     requires short { len ≤ 256 }
     requires few { n < 1000000 }
-    ensures { EndsAt n len result }
+    ensures { InputEndsAt n len result }
 {
     if len == 0 && n > 0 {
         Ending::Done
@@ -155,8 +157,8 @@ fn next_line<S: Source>(held: &mut Held, n: u32, source: &mut S) -> Result<usize
 /// Gives on the moves that were noted.
 fn flush_moves<G: FlushesMoves>(world: &mut World<G>) -> Result<(), Failed>
     ensures follows { Follows (Running (scene world.old)) (Running (scene world.new)) }
-    ensures flushed { Flushed (behind world.old).log (behind world.new).log result }
-    ensures keeps { Keeps (world_seen world.old) (world_seen world.new) }
+    ensures flushed { Flushed (world_behind world.old).log (world_behind world.new).log result }
+    ensures keeps { KeepsWorld (world_seen world.old) (world_seen world.new) }
 {
     world.flush_moves()
 }
@@ -170,7 +172,7 @@ fn flush<G: FlushesMoves, O: Sink>(
     ensures steps { StepsBetween result (output_seen O.Sink out.old) (output_seen O.Sink out.new)
         kept.old kept.new (Running (scene world.old)) (Running (scene world.new)) }
     ensures none { IfNone result (kept.new ≡ []) }
-    ensures keeps { Keeps (world_seen world.old) (world_seen world.new) }
+    ensures keeps { KeepsWorld (world_seen world.old) (world_seen world.new) }
 {
     match flush_moves(world) {
         Ok(()) => {}
@@ -191,7 +193,7 @@ fn make_room<G: FlushesMoves, O: Sink>(
     ensures steps { StepsBetween result (output_seen O.Sink out.old) (output_seen O.Sink out.new)
         kept.old kept.new (Running (scene world.old)) (Running (scene world.new)) }
     ensures room { IfNone result (length kept.new + 256 ≤ 65536) }
-    ensures keeps { Keeps (world_seen world.old) (world_seen world.new) }
+    ensures keeps { KeepsWorld (world_seen world.old) (world_seen world.new) }
 {
     if kept.has_room() {
         return None;
@@ -208,7 +210,7 @@ fn flush_before_read<G: FlushesMoves, O: Sink>(
 ) -> Option<Ending>
     ensures steps { StepsBetween result (output_seen O.Sink out.old) (output_seen O.Sink out.new)
         kept.old kept.new (Running (scene world.old)) (Running (scene world.new)) }
-    ensures keeps { Keeps (world_seen world.old) (world_seen world.new) }
+    ensures keeps { KeepsWorld (world_seen world.old) (world_seen world.new) }
 {
     match held.look() {
         Look::Line(_) => None,
@@ -233,7 +235,7 @@ fn read_line<G: FlushesMoves, S: Source, O: Sink>(
         (moment_seen S.Source O.Sink source.new out.new kept.new world.new) }
     ensures line { IfOk result (λ len. HoldsLine held.new len) }
     ensures none { OnOk result (kept.new ≡ []) }
-    ensures keeps { Keeps (world_seen world.old) (world_seen world.new) }
+    ensures keeps { KeepsWorld (world_seen world.old) (world_seen world.new) }
 {
     match flush(world, kept, out) {
         Some(ending) => Err(ending),
@@ -258,7 +260,7 @@ fn find_line<G: FlushesMoves, S: Source, O: Sink>(
         (moment_seen S.Source O.Sink source.new out.new kept.new world.new) }
     ensures line { IfOk result (λ len. HoldsLine held.new len) }
     ensures room { OnOk result (length kept.new + 256 ≤ 65536) }
-    ensures keeps { Keeps (world_seen world.old) (world_seen world.new) }
+    ensures keeps { KeepsWorld (world_seen world.old) (world_seen world.new) }
 {
     match held.look() {
         Look::Line(len) => Ok(len),
@@ -281,7 +283,7 @@ fn take_line<G: FlushesMoves, S: Source, O: Sink>(
     requires some { 0 < n }
     requires few { n < 1000000 }
     requires between { IsBetween n held.old (world_seen world.old) }
-    ensures steps { Steps result held.old n held.new (n + 1)
+    ensures steps { GoesOnOrEnds result held.old n held.new (n + 1)
         (moment_seen S.Source O.Sink source.old out.old kept.old world.old)
         (moment_seen S.Source O.Sink source.new out.new kept.new world.new) }
     ensures between { IfNone result (IsBetween (n + 1) held.new (world_seen world.new)) }
@@ -306,7 +308,7 @@ fn decide_line<G: FlushesMoves, S: Source, O: Sink>(
     requires some { 0 < n }
     requires few { n < 1000000 }
     requires between { IsBetween n held.old (world_seen world.old) }
-    ensures steps { Steps result held.old n held.new (n + 1)
+    ensures steps { GoesOnOrEnds result held.old n held.new (n + 1)
         (moment_seen S.Source O.Sink source.old out.old kept.old world.old)
         (moment_seen S.Source O.Sink source.new out.new kept.new world.new) }
     ensures between { IfNone result (IsBetween (n + 1) held.new (world_seen world.new)) }

@@ -1,6 +1,6 @@
 ghost use Rattle.std.specs.Prelude.{◌≡◌, ◌++◌, ◌∷◌, List};
 ghost use Rattle.mm_run.specs.Scenes.{Outset, NotBegun};
-ghost use Rattle.mm_run.specs.Answered.{DecidedLine, AreAnswered, told_of};
+ghost use Rattle.mm_run.specs.Answered.{DecidedLine, AreAnswered, answered_lines};
 ghost use Rattle.mm_run.specs.Written.{GivesWritten};
 
 /// Each `watch` of a run that was answered with pages (GetWriteWatch) gave exactly those of its
@@ -9,5 +9,5 @@ ghost use Rattle.mm_run.specs.Written.{GivesWritten};
 pub fn watches_give_written_pages()
     ensures { (o : Outset) (lines : List DecidedLine) → AreAnswered 0 (NotBegun o) lines
         → (before after : List DecidedLine) (l : DecidedLine) → before ++ l ∷ after ≡ lines
-        → GivesWritten (told_of before) l.event l.answer }
+        → GivesWritten (answered_lines before) l.event l.answer }
 {}

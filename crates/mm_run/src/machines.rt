@@ -1,9 +1,9 @@
 ghost use Rattle.std.specs.Prelude.{◌≡◌, ◌≢◌, ◌⊎◌, ◌≤◌, ◌+◌, ℕ, false, [], length, IfErr, OnOk};
-ghost use Rattle.mm_core.specs.Shown.{loans, behind};
+ghost use Rattle.mm_core.specs.Shown.{loans, world_behind};
 ghost use Rattle.mm_core.specs.Promise.{scene};
 ghost use Rattle.mm_run.specs.Scenes.{Outset, NotBegun, Running, outset};
-ghost use Rattle.mm_run.specs.Steps.{IsMade};
-ghost use Rattle.mm_run.specs.Story.{Came, Comes, IsBlamed, stand, counts_with};
+ghost use Rattle.mm_run.specs.Steps.{MachineIsMade};
+ghost use Rattle.mm_run.specs.Story.{CameToEnd, Comes, IsBlamed, stand, fault_counts_with};
 ghost use Rattle.mm_run.specs.Moments.{HoldsLine, HasBegun};
 ghost use Rattle.mm_run.specs.Settings.{HoldsMachine, AreOpened, ComesTo};
 ghost use Rattle.mm_run.specs.Seen.{counts_seen, device_seen, left_seen, open_failed, outside_seen, setting, world_seen};
@@ -71,13 +71,15 @@ fn answer_all<G: FlushesMoves, S: Source, O: Sink>(
     requires line { HoldsMachine held.old len machine }
     requires room { length kept.old + 256 ≤ 65536 }
     requires begun { HasBegun 1 (world_seen world.old) }
-    ensures came { (o : Outset) → IsMade machine o (scene world.old) → Came
+    ensures came { (o : Outset) → MachineIsMade machine o (scene world.old) → CameToEnd
         (outside_seen S.Source O.Sink source.old out.old kept.old)
         (outside_seen S.Source O.Sink source.new out.new kept.new)
         (stand held.old 0 (NotBegun o)) result (Running (scene world.new)) }
-    ensures faults { (o : Outset) → IsMade machine o (scene world.old) → o.log.failed ≡ false →
-        IsBlamed result ⊥ (counts_with (S.faults source.old) (O.faults out.old) o.log.faults)
-        (counts_with (S.faults source.new) (O.faults out.new) (behind world.new).log.faults) }
+    ensures faults { (o : Outset) → MachineIsMade machine o (scene world.old) →
+        o.log.failed ≡ false →
+        IsBlamed result ⊥ (fault_counts_with (S.faults source.old) (O.faults out.old) o.log.faults)
+        (fault_counts_with (S.faults source.new) (O.faults out.new)
+        (world_behind world.new).log.faults) }
     ensures idle { S.idle source.new ≤ S.idle source.old + S.last_idle source.new }
     ensures form { result ≢ Ending.Usage }
     ensures loans { loans world.new ≡ loans world.old }

@@ -5,7 +5,7 @@ ghost use Rattle.mm_run.specs.Story.{IsMisplaced};
 ghost use Rattle.mm_script.specs.Printed.{IsWellFormed};
 ghost use Rattle.mm_script.specs.Reading.{parse};
 ghost use Rattle.mm_core.specs.Built.{is_machine};
-ghost use Rattle.mm_run.specs.Reading.{reading, is_machine_word};
+ghost use Rattle.mm_run.specs.Reading.{reading_of, is_machine_word};
 
 use mm_core::is_machine;
 use mm_script::{LineFault, parse_line, without_return};
@@ -25,7 +25,7 @@ fn is_machine_word(line: &[u8]) -> bool
 /// The event of the first line, or the column of its fault.
 pub(crate) fn read_first(line: &[u8]) -> Result<Event, u32>
     requires given { length line.now ≤ 256 }
-    ensures reads { result ≡ reading 0 line.now }
+    ensures reads { result ≡ reading_of 0 line.now }
     ensures well_formed { IfOk result (λ e. IsWellFormed e) }
     ensures grammar { IfOk result (λ e. IsLine line.now e) }
     ensures refused { IfErr result (λ _. (e : Event) → IsLine line.now e → IsMisplaced 0 e) }
@@ -55,8 +55,8 @@ pub(crate) fn later_event<'a>(
     parsed: &'a Result<Event, LineFault>,
 ) -> Result<&'a Event, u32>
     requires parsed { parsed.now ≡ parse line.now }
-    ensures reads { MatchResult result (λ e. reading 1 line.now ≡ Ok e.now)
-        (λ column. reading 1 line.now ≡ Err column) }
+    ensures reads { MatchResult result (λ e. reading_of 1 line.now ≡ Ok e.now)
+        (λ column. reading_of 1 line.now ≡ Err column) }
     ensures same { IfOk result (λ e. parsed.now ≡ Ok e.now) }
 {
     match parsed {

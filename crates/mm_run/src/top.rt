@@ -1,8 +1,8 @@
 ghost use Rattle.std.specs.Prelude.{◌≡◌, ◌≢◌, ◌≤◌, ◌+◌, ◌⊎◌, true, ℕ, List, Some, [], length, ◌++◌};
 ghost use Rattle.mm_types.specs.Spelling.{decimal};
 ghost use Rattle.mm_io.specs.Io.{CountsFaults};
-ghost use Rattle.mm_run.specs.Script.{IsScript, IsComplete, IsFault};
-ghost use Rattle.mm_run.specs.Story.{IsForm};
+ghost use Rattle.mm_run.specs.Script.{IsScriptOf, IsComplete, IsFault};
+ghost use Rattle.mm_run.specs.Story.{IsRunForm};
 ghost use Rattle.mm_run.specs.Ran.{RanOrRefused};
 ghost use Rattle.mm_run.specs.Texts.{WroteText, ToldText, last_text};
 ghost use Rattle.mm_run.specs.Closing.{Closed, is_over};
@@ -194,7 +194,7 @@ pub fn run<S: Source, O: Sink, M: Sink, P: Blocks, F: Blocks>(
         source.old out.old moves.old paging.old files.old)
         (seen S.Source O.Sink M.Sink P.Blocks F.Blocks
         source.new out.new moves.new paging.new files.new)
-        (IsForm words.now) result }
+        (IsRunForm words.now) result }
     // Of a generated script, the same of its events.
     ensures bulk { (seed count : ℕ) → IsBulk words.now seed count → BulkRanOrRefused
         (seen S.Source O.Sink M.Sink P.Blocks F.Blocks
@@ -207,14 +207,14 @@ pub fn run<S: Source, O: Sink, M: Sink, P: Blocks, F: Blocks>(
     // A script that comes to something by itself ends with that status and its whole text, unless
     // memory or the outside fails.
     ensures exact { (text : List ℕ) (lines : List (List ℕ)) (e : Ending) →
-        S.left source.old ≡ Some text → IsForm words.now → IsScript text 0 lines e → IsComplete
+        S.left source.old ≡ Some text → IsRunForm words.now → IsScriptOf text 0 lines e → IsComplete
         (seen S.Source O.Sink M.Sink P.Blocks F.Blocks
         source.old out.old moves.old paging.old files.old)
         (seen S.Source O.Sink M.Sink P.Blocks F.Blocks
         source.new out.new moves.new paging.new files.new)
-        (IsForm words.now) lines e result ⊎ IsFault result }
-    ensures usage { (IsForm words.now → ⊥) → IsNoBulk words.now → (result ≡ 2) ⊎ IsFault result }
-    ensures form { IsForm words.now → result ≢ 2 }
+        (IsRunForm words.now) lines e result ⊎ IsFault result }
+    ensures usage { (IsRunForm words.now → ⊥) → IsNoBulk words.now → (result ≡ 2) ⊎ IsFault result }
+    ensures form { IsRunForm words.now → result ≢ 2 }
 
     // A read that took no byte is the last one.
     ensures idle { S.idle source.new ≤ S.idle source.old + S.last_idle source.new }

@@ -1,4 +1,5 @@
-use crate::failing::{Ended, Failing, NOTHING, assert_ended, assert_log, outcome};
+use crate::failing::{Ended, Failing, NOTHING, RUN, assert_ended, assert_log, outcome};
+use mm_types::Device;
 use std::alloc::{AllocError, Global};
 use std::process::Abort;
 use std::test::Fail;
@@ -11,7 +12,16 @@ const SCRIPT: &str =
 const ANSWERS: &str =
     "ok 8\nok\nok 1\nok 2\nok 4 0\nok 4\nok 8 0\nok 8\nok 0x00010000\nok 0x00010000\nok 0x00020000\nok 0x00020000\nok 5 8\nok 10\nok 0x00030000\nok 9 10\nok\nok\nok\nok 11\nok\nok 2109\nok 0A\nok\nok\nok\nok\nok\nok\nok 12\nok\nok\nok\nok\nok 13\nok 1255\nok 320A\nok\nok 41\nok 42\nok 43\nok 44\nok 3109\nok 2122\nok 230B\nok\nok\nok\nok\nok 5 13\n";
 
+/// How often the paging file grows.
 const GROWS: u32 = 2;
+
+fn script() -> &'static str {
+    SCRIPT
+}
+
+fn answers() -> &'static str {
+    ANSWERS
+}
 
 /// A text without one of its lines, counted from 0.
 fn without(alloc: Global, text: &str, place: usize) -> Result<String, AllocError> {
@@ -23,20 +33,6 @@ fn without(alloc: Global, text: &str, place: usize) -> Result<String, AllocError
         }
     }
     Ok(rest)
-}
-
-/// A text with one more line after its first one.
-fn with_second(alloc: Global, text: &str, second: &str) -> Result<String, AllocError> {
-    let mut more = String::new(alloc);
-    for (i, line) in text.lines().enumerate() {
-        if i == 1 {
-            more.push_str(second)?;
-            more.push_str("\n")?;
-        }
-        more.push_str(line)?;
-        more.push_str("\n")?;
-    }
-    Ok(more)
 }
 
 /// The line of a script that failed by a device, counted from 0, as its answers have it.
@@ -100,118 +96,107 @@ fn assert_failure(rt: &impl Abort, script: &str, ended: &Ended) -> Option<usize>
     failed
 }
 
-/// Asserts that a script without its `fail` line has these answers but that line's.
-fn assert_quiet(rt: &impl Abort, alloc: Global, script: &str, answers: &str) -> Result<(), Fail> {
-    if line_at(script, 1).starts_with("fail ") {
-        assert_eq!(rt; line_at(answers, 1), "ok");
-        let script = without(alloc, script, 1)?;
-        let answers = without(alloc, answers, 1)?;
-        let ended = outcome(alloc, script.as_str(), NOTHING)?;
-        return assert_ended(rt, alloc, &ended, 0, answers.as_str());
-    }
-    let ended = outcome(alloc, script, NOTHING)?;
-    assert_ended(rt, alloc, &ended, 0, answers)
-}
-
 /// Asserts that all lines of a run in which one call of a device failed answer as if the line that
 /// failed by it were not there.
-fn assert_fails_alone(
-    rt: &impl Abort,
-    alloc: Global,
-    script: &str,
-    ended: &Ended,
-) -> Result<(), Fail> {
+fn assert_fails_alone(rt: &impl Abort, alloc: Global, ended: &Ended) -> Result<(), Fail> {
     assert_eq!(rt; ended.status, 0);
     assert_log(rt, alloc, ended.moves.as_str())?;
-    let answers = ended.answers.as_str();
-    match assert_failure(rt, script, ended) {
-        Some(place) => {
-            let script = without(alloc, script, place)?;
-            let answers = without(alloc, answers, place)?;
-            assert_quiet(rt, alloc, script.as_str(), answers.as_str())
-        }
-        None => assert_quiet(rt, alloc, script, answers),
-    }
+    let told = ended.answers.as_str();
+    let Some(place) = assert_failure(rt, script(), ended) else {
+        assert_eq!(rt; told, answers());
+        return Ok(());
+    };
+    let script = without(alloc, script(), place)?;
+    let wanted = without(alloc, told, place)?;
+    let quiet = outcome(alloc, RUN, script.as_str(), NOTHING)?;
+    assert_ended(rt, alloc, &quiet, 0, wanted.as_str())
 }
 
-/// The run of the script on which nothing fails; each device reads and writes in it.
-fn quiet(rt: &impl Abort, alloc: Global) -> Result<Ended, Fail> {
-    let ended = outcome(alloc, SCRIPT, NOTHING)?;
-    assert_ended(rt, alloc, &ended, 0, ANSWERS)?;
+/// A run of the script in which one call of a device fails.
+fn run_failing(alloc: Global, device: Device, call: u32) -> Result<Ended, Fail> {
+    let failing = match device {
+        Device::Paging => Failing {
+            paging: call,
+            ..NOTHING
+        },
+        Device::File => Failing {
+            file: call,
+            ..NOTHING
+        },
+    };
+    outcome(alloc, RUN, script(), failing)
+}
+
+/// Asserts that nothing fails in a run of the script.
+fn assert_quiet(rt: &impl Abort, alloc: Global, ended: &Ended) -> Result<(), Fail> {
+    assert_ended(rt, alloc, ended, 0, answers())
+}
+
+/// How many calls a run of the script makes of each device on which nothing fails; its moves. Each
+/// device reads and writes in it.
+fn quiet(rt: &impl Abort, alloc: Global) -> Result<([(Device, u32); 2], String), Fail> {
+    let ended = outcome(alloc, RUN, script(), NOTHING)?;
+    assert_quiet(rt, alloc, &ended)?;
     for calls in [ended.paging, ended.files] {
         assert!(rt; calls.reads > 0);
         assert!(rt; calls.writes > 0);
     }
-    Ok(ended)
-}
-
-/// Asserts that nothing fails in a run of the script: its answers and its moves are those of the
-/// quiet run.
-fn assert_as_quiet(
-    rt: &impl Abort,
-    alloc: Global,
-    quiet: &Ended,
-    failing: Failing,
-) -> Result<(), Fail> {
-    let ended = outcome(alloc, SCRIPT, failing)?;
-    assert_ended(rt, alloc, &ended, 0, ANSWERS)?;
-    assert_eq!(rt; ended.moves.as_str(), quiet.moves.as_str());
-    Ok(())
+    let paging = ended.paging.reads.saturating_add(ended.paging.writes);
+    let files = ended.files.reads.saturating_add(ended.files.writes);
+    let calls = [
+        (Device::Paging, paging.saturating_add(1 + GROWS)),
+        (Device::File, files.saturating_add(1)),
+    ];
+    Ok((calls, ended.moves))
 }
 
 /// The first call of a device opens it. After the last one nothing fails.
 #[test]
 fn each_call_of_a_device_fails_once(rt: HostRuntime) -> Result<(), Fail> {
     let alloc = rt.alloc();
-    let quiet = quiet(&rt, alloc)?;
-    let paging = quiet.paging.reads.saturating_add(quiet.paging.writes);
-    for call in 2..=paging.saturating_add(1 + GROWS) {
-        let failing = Failing {
-            paging: &[call],
-            ..NOTHING
-        };
-        let ended = outcome(alloc, SCRIPT, failing)?;
-        assert_fails_alone(&rt, alloc, SCRIPT, &ended)?;
+    let (devices, moves) = quiet(&rt, alloc)?;
+    for (device, calls) in devices {
+        for call in 2..=calls {
+            let ended = run_failing(alloc, device, call)?;
+            assert_fails_alone(&rt, alloc, &ended)?;
+        }
+        let ended = run_failing(alloc, device, calls.saturating_add(1))?;
+        assert_quiet(&rt, alloc, &ended)?;
+        assert_eq!(rt; ended.moves.as_str(), moves.as_str());
     }
-    let files = quiet.files.reads.saturating_add(quiet.files.writes);
-    for call in 2..=files.saturating_add(1) {
-        let failing = Failing {
-            files: &[call],
-            ..NOTHING
-        };
-        let ended = outcome(alloc, SCRIPT, failing)?;
-        assert_fails_alone(&rt, alloc, SCRIPT, &ended)?;
-    }
-    let after_paging = Failing {
-        paging: &[paging.saturating_add(2 + GROWS)],
-        ..NOTHING
-    };
-    assert_as_quiet(&rt, alloc, &quiet, after_paging)?;
-    let after_files = Failing {
-        files: &[files.saturating_add(2)],
-        ..NOTHING
-    };
-    assert_as_quiet(&rt, alloc, &quiet, after_files)
+    Ok(())
 }
 
-/// A `fail` line counts the reads, or the writes, of its device from there on.
+/// A file is made, written in a view, flushed twice, and read.
+const FLUSHING: &str =
+    "machine 8 8 1 4\nfile a 2 1\nprocess 0 4\ncreatefile 1 a 0x04 -\nmap 1 4 6 0 0 0\nwrite 1 0x10000 FF\nflush 1 0x10000 0\nflush 1 0x10000 0\nread 1 0x10000 2\n";
+
+const FLUSHED: &str = "ok 12\nok\nok 1\nok 4 0\nok 0x00010000\nok\nok\nok\nok FF01\n";
+
+const NOT_MADE: &str =
+    "ok 12\nfault\nok 1\nerror 2\nerror 6\nraise 0xC0000005\nerror 487\nerror 487\nraise 0xC0000005\n";
+
+const NOT_READ: &str =
+    "ok 12\nok\nok 1\nok 4 0\nok 0x00010000\nraise 0xC0000006\nok\nok\nok 0101\n";
+
+const FLUSHED_LATER: &str = "ok 12\nok\nok 1\nok 4 0\nok 0x00010000\nok\nfault\nok\nok FF01\n";
+
+/// The first call opens the device, two write the file, one reads its first page, one flushes it:
+/// the second flush makes none.
 #[test]
-fn each_named_call_fails_once(rt: HostRuntime) -> Result<(), Fail> {
-    let alloc = rt.alloc();
-    let quiet = quiet(&rt, alloc)?;
-    let ways = [
-        ("paging read", quiet.paging.reads),
-        ("paging write", quiet.paging.writes),
-        ("file read", quiet.files.reads),
-        ("file write", quiet.files.writes),
-    ];
-    for (way, calls) in ways {
-        for call in 1..=calls {
-            let line = format!(in alloc; "fail {way} {call} 1")?;
-            let script = with_second(alloc, SCRIPT, line.as_str())?;
-            let ended = outcome(alloc, script.as_str(), NOTHING)?;
-            assert_fails_alone(&rt, alloc, script.as_str(), &ended)?;
-        }
+fn each_call_of_a_flushed_file_fails_once(rt: HostRuntime) -> Result<(), Fail> {
+    for (file, answers, first) in [
+        (2, NOT_MADE, [0, 0]),
+        (3, NOT_MADE, [1, 1]),
+        (4, NOT_READ, [1, 1]),
+        (5, FLUSHED_LATER, [0xFF, 1]),
+        (6, FLUSHED, [0xFF, 1]),
+    ] {
+        let failing = Failing { file, ..NOTHING };
+        let ended = outcome(rt.alloc(), RUN, FLUSHING, failing)?;
+        assert_eq!(rt; ended.status, 0);
+        assert_eq!(rt; ended.answers.as_str(), answers);
+        assert_eq!(rt; ended.first, first);
     }
     Ok(())
 }

@@ -7,23 +7,38 @@ use std::alloc::{AllocError, Global};
 use std::process::Abort;
 use std::test::Fail;
 
-/// What fails in a run: calls of the source, of the sinks and of the devices, each numbered from 1.
+pub(super) const RUN: &[&str] = &["run"];
+
+/// What fails in a run: one call of the source, of a sink or of a device each, counted from 1; none
+/// where it is 0.
 #[derive(Clone, Copy)]
-pub(super) struct Failing<'a> {
-    pub reads: &'a [u32],
-    pub answers: &'a [u32],
-    pub moves: &'a [u32],
-    pub paging: &'a [u32],
-    pub files: &'a [u32],
+pub(super) struct Failing {
+    pub read: u32,
+    pub answer: u32,
+    pub note: u32,
+    pub paging: u32,
+    pub file: u32,
 }
 
-pub(super) const NOTHING: Failing<'static> = Failing {
-    reads: &[],
-    answers: &[],
-    moves: &[],
-    paging: &[],
-    files: &[],
+pub(super) const NOTHING: Failing = Failing {
+    read: 0,
+    answer: 0,
+    note: 0,
+    paging: 0,
+    file: 0,
 };
+
+/// What a run came to: its status, what was written, how often each device was asked to read or to
+/// write, and the first two bytes of the file device.
+#[derive(Drop)]
+pub(super) struct Ended {
+    pub status: u8,
+    pub answers: String,
+    pub moves: String,
+    pub paging: Calls,
+    pub files: Calls,
+    pub first: [u8; 2],
+}
 
 /// How many reads and writes a device was asked for.
 #[derive(Clone, Copy)]
@@ -32,32 +47,27 @@ pub(super) struct Calls {
     pub writes: u32,
 }
 
-/// What a run came to.
-#[derive(Drop)]
-pub(super) struct Ended {
-    pub status: u8,
-    pub answers: String,
-    pub moves: String,
-    pub paging: Calls,
-    pub files: Calls,
+fn device(alloc: Global, fails: u32) -> Result<MemBlocks, Fail> {
+    let device = MemBlocks::new(alloc, vec![in alloc; fails]?, 1000);
+    Ok(device.map_err(|_| "no room for a device")?)
 }
 
-fn device(alloc: Global, fails: &[u32]) -> Result<MemBlocks, AllocError> {
-    match MemBlocks::new(alloc, Vec::from_slice(alloc, fails)?, 1000) {
-        Ok(device) => Ok(device),
-        Err(_) => Err(AllocError),
+fn sink(alloc: Global, room: u32, fails: u32) -> Result<MemSink, Fail> {
+    let sink = MemSink::new(alloc, room, vec![in alloc; fails]?);
+    Ok(sink.map_err(|_| "no room for a sink")?)
+}
+
+fn source(alloc: Global, text: &str, fails: u32) -> Result<MemSource, Fail> {
+    let bytes = Vec::from_slice(alloc, text.as_bytes())?;
+    Ok(MemSource::new(bytes, vec![in alloc; fails]?))
+}
+
+fn owned(alloc: Global, texts: &[&str]) -> Result<Vec<String>, Fail> {
+    let mut words: Vec<String> = Vec::new(alloc);
+    for text in texts {
+        words.push(String::from_str(alloc, *text)?)?;
     }
-}
-
-fn sink(alloc: Global, room: u32, fails: &[u32]) -> Result<MemSink, AllocError> {
-    match MemSink::new(alloc, room, Vec::from_slice(alloc, fails)?) {
-        Ok(sink) => Ok(sink),
-        Err(_) => Err(AllocError),
-    }
-}
-
-fn words(alloc: Global, word: &str) -> Result<Vec<String>, AllocError> {
-    Ok(vec![in alloc; String::from_str(alloc, word)?]?)
+    Ok(words)
 }
 
 fn calls_of(device: &MemBlocks) -> Calls {
@@ -76,23 +86,47 @@ fn calls_of(device: &MemBlocks) -> Calls {
     calls
 }
 
-fn text_of(alloc: Global, bytes: &[u8]) -> Result<String, Fail> {
-    let text = str::from_utf8(bytes)?;
+/// The first bytes of a device; zeros where it was not opened.
+fn first_bytes(device: &MemBlocks) -> [u8; 2] {
+    if device.count() == 0 {
+        return [0, 0];
+    }
+    let block = device.block(0);
+    [block[0], block[1]]
+}
+
+fn text_of(alloc: Global, sink: &MemSink) -> Result<String, Fail> {
+    let text = str::from_utf8(sink.bytes())?;
     Ok(String::from_str(alloc, text)?)
 }
 
-/// Runs a script, where these calls of the outside fail.
-pub(super) fn outcome(alloc: Global, script: &str, failing: Failing) -> Result<Ended, Fail> {
-    let form = words(alloc, "run")?;
-    let mut source = MemSource::new(
-        Vec::from_slice(alloc, script.as_bytes())?,
-        Vec::from_slice(alloc, failing.reads)?,
-    );
-    let mut out = sink(alloc, 4096, failing.answers)?;
-    let mut moves = sink(alloc, 65536, failing.moves)?;
+/// The status of a run; what else its contract says is not handed on.
+fn status_of(
+    alloc: Global,
+    words: &[String],
+    source: &mut MemSource,
+    out: &mut MemSink,
+    moves: &mut MemSink,
+    paging: &mut MemBlocks,
+    files: &mut MemBlocks,
+) -> u8 {
+    run(alloc, words, source, out, moves, paging, files)
+}
+
+/// Runs a script by these words, where one call of the outside fails.
+pub(super) fn outcome(
+    alloc: Global,
+    words: &[&str],
+    script: &str,
+    failing: Failing,
+) -> Result<Ended, Fail> {
+    let form = owned(alloc, words)?;
+    let mut source = source(alloc, script, failing.read)?;
+    let mut out = sink(alloc, 4096, failing.answer)?;
+    let mut moves = sink(alloc, 65536, failing.note)?;
     let mut paging = device(alloc, failing.paging)?;
-    let mut files = device(alloc, failing.files)?;
-    let status = run(
+    let mut files = device(alloc, failing.file)?;
+    let status = status_of(
         alloc,
         form.as_slice(),
         &mut source,
@@ -103,20 +137,20 @@ pub(super) fn outcome(alloc: Global, script: &str, failing: Failing) -> Result<E
     );
     Ok(Ended {
         status,
-        answers: text_of(alloc, out.bytes())?,
-        moves: text_of(alloc, moves.bytes())?,
+        answers: text_of(alloc, &out)?,
+        moves: text_of(alloc, &moves)?,
         paging: calls_of(&paging),
         files: calls_of(&files),
+        first: first_bytes(&files),
     })
 }
 
 /// Asserts that the checker of logs accepts these moves.
 pub(super) fn assert_log(rt: &impl Abort, alloc: Global, moves: &str) -> Result<(), Fail> {
-    let form = words(alloc, "check")?;
-    let mut source = MemSource::new(Vec::from_slice(alloc, moves.as_bytes())?, Vec::new(alloc));
-    let mut out = sink(alloc, 300, &[])?;
-    let status = run_log(alloc, form.as_slice(), &mut source, &mut out);
-    assert_eq!(rt; status, 0);
+    let form = owned(alloc, &["check"])?;
+    let mut source = source(alloc, moves, 0)?;
+    let mut out = sink(alloc, 300, 0)?;
+    assert_eq!(rt; run_log(alloc, form.as_slice(), &mut source, &mut out), 0);
     Ok(())
 }
 

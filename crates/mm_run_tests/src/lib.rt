@@ -7,8 +7,4 @@ mod devices;
 #[cfg(test)]
 mod failing;
 #[cfg(test)]
-mod runs;
-#[cfg(test)]
-mod shortage;
-#[cfg(test)]
 mod streams;

@@ -1,4 +1,4 @@
-use crate::failing::{Failing, NOTHING, assert_ended, first_lines, outcome};
+use crate::failing::{Ended, Failing, NOTHING, RUN, assert_ended, first_lines, outcome};
 use std::alloc::Global;
 use std::process::Abort;
 use std::test::Fail;
@@ -15,17 +15,38 @@ const ANSWERS: &str =
 const MOVES: &str =
     "at 1 machine 8 4 1 0\nat 2 process 1 1 8\nat 3 call\nadd p1.16 zero\nat 4 access 1\nclear 0\ngive 0 p1.16\nmap 0 1.16\nat 5 unbind 1\nunmap 1.16\ndrop p1.16\nat 6 access 1\nat 7 call\nadd p1.16 zero\nat 8 access 1\nclear 1\ngive 1 p1.16\nmap 1 1.16\n";
 
+fn script() -> &'static str {
+    SCRIPT
+}
+
+/// The answers of the first lines.
+fn answers(alloc: Global, lines: usize) -> Result<String, Fail> {
+    Ok(first_lines(alloc, ANSWERS, lines)?)
+}
+
+/// Runs the script, with more behind it, where one call fails, and asserts its status and that the
+/// answers of so many of its lines were given on.
+fn assert_run(
+    rt: &impl Abort,
+    alloc: Global,
+    behind: &str,
+    failing: Failing,
+    told: (u8, usize),
+) -> Result<Ended, Fail> {
+    let mut text = String::from_str(alloc, script())?;
+    text.push_str(behind)?;
+    let ended = outcome(alloc, RUN, text.as_str(), failing)?;
+    let wanted = answers(alloc, told.1)?;
+    assert_ended(rt, alloc, &ended, told.0, wanted.as_str())?;
+    Ok(ended)
+}
+
 /// The first read gives the whole script, the second one its end.
 #[test]
 fn a_source_that_fails(rt: HostRuntime) -> Result<(), Fail> {
-    let alloc = rt.alloc();
-    for (call, answers) in [(1, ""), (2, ANSWERS)] {
-        let failing = Failing {
-            reads: &[call],
-            ..NOTHING
-        };
-        let ended = outcome(alloc, SCRIPT, failing)?;
-        assert_ended(&rt, alloc, &ended, 4, answers)?;
+    for (read, lines) in [(1, 0), (2, 8)] {
+        let failing = Failing { read, ..NOTHING };
+        let _ended = assert_run(&rt, rt.alloc(), "", failing, (4, lines))?;
     }
     Ok(())
 }
@@ -34,54 +55,14 @@ fn a_source_that_fails(rt: HostRuntime) -> Result<(), Fail> {
 /// taken nothing is written.
 #[test]
 fn answers_that_are_not_taken(rt: HostRuntime) -> Result<(), Fail> {
-    let alloc = rt.alloc();
-    for (call, answers) in [(1, ""), (2, ANSWERS)] {
-        let failing = Failing {
-            answers: &[call],
-            ..NOTHING
-        };
-        let script = format!(in alloc; "{SCRIPT}x\n")?;
-        let ended = outcome(alloc, script.as_str(), failing)?;
-        assert_ended(&rt, alloc, &ended, 5, answers)?;
-    }
-    Ok(())
-}
-
-/// A script that takes two reads, and how many of its lines the first one gives.
-fn longer(alloc: Global) -> Result<(String, usize), Fail> {
-    let mut script = String::from_str(alloc, SCRIPT)?;
-    for _ in 0..600 {
-        script.push_str("charge\n")?;
-    }
-    let (first, _) = script
-        .as_str()
-        .split_at_checked(4096)
-        .ok_or("no second read")?;
-    let whole = first.bytes().filter(|byte| *byte == b'\n').count();
-    Ok((script, whole))
-}
-
-/// A line of a script that takes two reads has its move not taken: the answers of the first read
-/// alone are given on.
-#[test]
-fn moves_behind_a_flush(rt: HostRuntime) -> Result<(), Fail> {
-    let alloc = rt.alloc();
-    let (script, whole) = longer(alloc)?;
-    let mut answers = String::from_str(alloc, ANSWERS)?;
-    for _ in 0..600 {
-        answers.push_str("ok 1 8\n")?;
-    }
-    // The first eight lines make 18 moves, each later one makes one.
-    let behind = (whole.min(4_096) as u32).saturating_add(11);
-    for (call, told) in [(behind - 1, 0), (behind, whole), (behind + 9, whole)] {
-        let failing = Failing {
-            moves: &[call],
-            ..NOTHING
-        };
-        let ended = outcome(alloc, script.as_str(), failing)?;
-        let wanted = first_lines(alloc, answers.as_str(), told)?;
-        assert_eq!(rt; ended.status, 6);
-        assert_eq!(rt; ended.answers.as_str(), wanted.as_str());
+    for (behind, answer, told) in [
+        ("", 1, (5, 0)),
+        ("", 2, (0, 8)),
+        ("x\n", 1, (5, 0)),
+        ("x\n", 2, (5, 8)),
+    ] {
+        let failing = Failing { answer, ..NOTHING };
+        let _ended = assert_run(&rt, rt.alloc(), behind, failing, told)?;
     }
     Ok(())
 }
@@ -93,71 +74,79 @@ fn moves_that_are_not_taken(rt: HostRuntime) -> Result<(), Fail> {
     let alloc = rt.alloc();
     for taken in 0..19u32 {
         let failing = Failing {
-            moves: &[taken + 1],
+            note: taken + 1,
             ..NOTHING
         };
-        let ended = outcome(alloc, SCRIPT, failing)?;
+        let told = if taken < 18 { (6, 0) } else { (0, 8) };
+        let ended = assert_run(&rt, alloc, "", failing, told)?;
         let moves = first_lines(alloc, MOVES, taken as usize)?;
         assert_eq!(rt; ended.moves.as_str(), moves.as_str());
-        let (status, answers) = if taken < 18 { (6, "") } else { (0, ANSWERS) };
-        assert_ended(&rt, alloc, &ended, status, answers)?;
     }
     Ok(())
 }
 
-/// Asserts that a run whose devices are not both opened answers nothing and notes nothing.
-fn assert_not_opened(rt: &impl Abort, alloc: Global, failing: Failing) -> Result<(), Fail> {
-    let ended = outcome(alloc, SCRIPT, failing)?;
-    assert_ended(rt, alloc, &ended, 7, "")?;
-    assert_eq!(rt; ended.moves.as_str(), "");
-    Ok(())
-}
-
+/// A run whose devices are not both opened answers nothing and notes nothing.
 #[test]
 fn devices_that_are_not_opened(rt: HostRuntime) -> Result<(), Fail> {
-    let alloc = rt.alloc();
-    let paging = Failing {
-        paging: &[1],
-        ..NOTHING
-    };
-    assert_not_opened(&rt, alloc, paging)?;
-    let files = Failing {
-        files: &[1],
-        ..NOTHING
-    };
-    assert_not_opened(&rt, alloc, files)
+    for (paging, file) in [(1, 0), (0, 1)] {
+        let failing = Failing {
+            paging,
+            file,
+            ..NOTHING
+        };
+        let ended = assert_run(&rt, rt.alloc(), "", failing, (7, 0))?;
+        assert_eq!(rt; ended.moves.as_str(), "");
+    }
+    Ok(())
 }
 
-/// Asserts what a script that ends here comes to: all is well after a line feed, else the fault
-/// stands after its last byte.
-fn assert_cut(rt: &impl Abort, alloc: Global, script: &str) -> Result<(), Fail> {
-    let mut whole: usize = 0;
-    let mut cut: usize = 0;
-    for byte in script.bytes() {
-        cut = cut.saturating_add(1);
-        if byte == b'\n' {
-            whole = whole.saturating_add(1);
-            cut = 0;
-        }
+/// A text with 600 times the same line behind it.
+fn longer(alloc: Global, text: &str, line: &str) -> Result<String, Fail> {
+    let mut longer = String::from_str(alloc, text)?;
+    for _ in 0..600 {
+        longer.push_str(line)?;
     }
-    let mut answers = first_lines(alloc, ANSWERS, whole)?;
-    let is_done = whole > 0 && cut == 0;
-    if !is_done {
-        let line = whole.saturating_add(1);
-        let column = cut.saturating_add(1);
-        let last = format!(in alloc; "bad line {line} column {column}\n")?;
-        answers.push_str(last.as_str())?;
-    }
-    let status = if is_done { 0 } else { 3 };
-    let ended = outcome(alloc, script, NOTHING)?;
-    assert_ended(rt, alloc, &ended, status, answers.as_str())
+    Ok(longer)
 }
 
+/// How many lines of a script its first read gives.
+fn first_read(script: &str) -> Result<usize, Fail> {
+    let (first, _) = script.split_at_checked(4096).ok_or("no second read")?;
+    Ok(first.bytes().filter(|byte| *byte == b'\n').count())
+}
+
+/// A line of a script that takes two reads has its move not taken: the answers of the first read
+/// alone are given on.
 #[test]
-fn scripts_that_end_after_each_byte(rt: HostRuntime) -> Result<(), Fail> {
-    for end in 0..=SCRIPT.len() {
-        let (script, _) = SCRIPT.split_at_checked(end).ok_or("no place in it")?;
-        assert_cut(&rt, rt.alloc(), script)?;
+fn moves_behind_a_flush(rt: HostRuntime) -> Result<(), Fail> {
+    let alloc = rt.alloc();
+    let script = longer(alloc, script(), "charge\n")?;
+    let answers = longer(alloc, ANSWERS, "ok 1 8\n")?;
+    let whole = first_read(script.as_str())?;
+    // The first eight lines make 18 moves, each later one makes one.
+    let behind = (whole.min(4_096) as u32).saturating_add(11);
+    for (note, told) in [(behind - 1, 0), (behind, whole), (behind + 9, whole)] {
+        let failing = Failing { note, ..NOTHING };
+        let ended = outcome(alloc, RUN, script.as_str(), failing)?;
+        let wanted = first_lines(alloc, answers.as_str(), told)?;
+        assert_eq!(rt; ended.status, 6);
+        assert_eq!(rt; ended.answers.as_str(), wanted.as_str());
+    }
+    Ok(())
+}
+
+/// A generated script has four lines of answers, of which none is given on.
+#[test]
+fn a_generated_script_whose_streams_fail(rt: HostRuntime) -> Result<(), Fail> {
+    for (note, answer, status) in [(1, 0, 6), (2, 0, 6), (30, 0, 6), (0, 1, 5)] {
+        let failing = Failing {
+            note,
+            answer,
+            ..NOTHING
+        };
+        let ended = outcome(rt.alloc(), &["bulk", "7", "20"], "", failing)?;
+        assert_eq!(rt; ended.status, status);
+        assert_eq!(rt; ended.answers.as_str(), "");
     }
     Ok(())
 }

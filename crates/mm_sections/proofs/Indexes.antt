@@ -10,8 +10,8 @@ use Rattle.mm_types.specs.Spelling.{Text}
 use Rattle.mm_types.proofs.Cells.{same_or_not}
 use Rattle.mm_world.specs.World.{Numbered, numbered, SectionOf}
 use Rattle.mm_world.specs.Find.{is_named}
-use Rattle.mm_sections.specs.Directories.{CountedSection, section_in, settled_by}
-use Rattle.mm_sections.specs.Names.{IsIndex, name_lost, without_name, with_name}
+use Rattle.mm_sections.specs.Directories.{CountedSection, section_in, section_settled}
+use Rattle.mm_sections.specs.Names.{IsNameIndex, name_lost, without_name, with_name}
 
 -- ---- names
 
@@ -52,7 +52,7 @@ named_within t (s ∷ ss) (suc k) h = let below = named_within t ss k h in omega
 
 -- ---- what is found is what a search of the list gives
 
-pub position_is_found : (find : Text → Option ℕ) (ss : Numbered SectionOf) → IsIndex find ss → (t : Text) → position (is_named t) ss ≡ find t
+pub position_is_found : (find : Text → Option ℕ) (ss : Numbered SectionOf) → IsNameIndex find ss → (t : Text) → position (is_named t) ss ≡ find t
 position_is_found find ss i t =
     let at = position_or_len (is_named t) ss in
     elim (nat_lt at (length ss)) as (λ b. nat_lt at (length ss) ≡ b → cond b (Some at) None ≡ find t) [
@@ -89,7 +89,7 @@ loses_name s new unnamed =
       its = λ t e. named_it t s ∙ e;
     }
 
-pub settled_loses : (c : CountedSection) → Loses (name_lost c) (Some c.section) (option_map section_in (settled_by c))
+pub settled_loses : (c : CountedSection) → Loses (name_lost c) (Some c.section) (option_map section_in (section_settled c))
 settled_loses c =
     let unnamed : SectionOf = record (c.section) { name = None } in
     let ends : Option CountedSection = if nat_lt 0 c.views then Some (record c { section = unnamed }) else None in
@@ -102,7 +102,7 @@ settled_loses c =
           ]
     ]
 
-module _ (find other : Text → Option ℕ) (ss : Numbered SectionOf) (i : IsIndex find ss) where
+module _ (find other : Text → Option ℕ) (ss : Numbered SectionOf) (i : IsNameIndex find ss) where
   module _ (n : ℕ) (new : Option SectionOf) (gone : Option Text) (inside : n < length ss) (loses : Loses gone (numbered ss n) new) (is : (t : Text) → other t ≡ without_name gone find t) where
     lost_named : (t : Text) (k : ℕ) → other t ≡ Some k → is_named t (numbered (slice_set ss n new) k) ≡ true
     lost_named t k e =
@@ -138,7 +138,7 @@ module _ (find other : Text → Option ℕ) (ss : Numbered SectionOf) (i : IsInd
               ] refl)
         ]
 
-    pub index_after_loss : IsIndex other (slice_set ss n new)
+    pub index_after_loss : IsNameIndex other (slice_set ss n new)
     index_after_loss = record { named = lost_named; found = lost_found }
 
   -- ---- one section more
@@ -192,5 +192,5 @@ module _ (find other : Text → Option ℕ) (ss : Numbered SectionOf) (i : IsInd
         long [] = refl
         long (x ∷ xs) = let e = long xs in omega (arith, e)
 
-    pub index_after_one_more : IsIndex other (ss ++ Some s ∷ [])
+    pub index_after_one_more : IsNameIndex other (ss ++ Some s ∷ [])
     index_after_one_more = record { named = more_named; found = more_found }

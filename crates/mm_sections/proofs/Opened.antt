@@ -11,21 +11,21 @@ use Rattle.mm_types.specs.declared.numbers.SectionId.{SectionId}
 use Rattle.mm_types.proofs.Options.{none_of, some_map}
 use Rattle.mm_types.proofs.Cells.{same_or_not}
 use Rattle.mm_world.specs.World.{Numbered, numbered}
-use Rattle.mm_sections.specs.Handles.{held, handle_at, number_of, section_at, AreOpen}
+use Rattle.mm_sections.specs.Handles.{held, handle_at, section_number, section_by_handle, AreOpen}
 
 abbrev pub shown : (ℕ → Option SectionId) → ℕ → Numbered ℕ
-shown find next = map (section_at find) (range_with_len 0 next)
+shown find next = map (section_by_handle find) (range_with_len 0 next)
 
 pub length_shown : (find : ℕ → Option SectionId) (next : ℕ) → length (shown find next) ≡ next
-length_shown find next = length-map-range_with_len (section_at find) 0 next
+length_shown find next = length-map-range_with_len (section_by_handle find) 0 next
 
-shown_at : (find : ℕ → Option SectionId) (next i : ℕ) → i < next → numbered (shown find next) i ≡ section_at find i
-shown_at find next i lt = get_or-map-range_with_len (section_at find) 0 next i i None lt (omega arith)
+shown_at : (find : ℕ → Option SectionId) (next i : ℕ) → i < next → numbered (shown find next) i ≡ section_by_handle find i
+shown_at find next i lt = get_or-map-range_with_len (section_by_handle find) 0 next i i None lt (omega arith)
 
 -- what is shown is what is found where both have the same number
-same_shown : (find other : ℕ → Option SectionId) (next : ℕ) → ((i : ℕ) → i < next → section_at find i ≡ section_at other i) → shown find next ≡ shown other next
+same_shown : (find other : ℕ → Option SectionId) (next : ℕ) → ((i : ℕ) → i < next → section_by_handle find i ≡ section_by_handle other i) → shown find next ≡ shown other next
 same_shown find other next same =
-    fill_by_all (section_at other) (shown find next) next None (length_shown find next) (λ k lt. shown_at find next k lt ∙ same k lt)
+    fill_by_all (section_by_handle other) (shown find next) next None (length_shown find next) (λ k lt. shown_at find next k lt ∙ same k lt)
 
 not_same : (a b : ℕ) → a ≢ b → (a == b) ≡ false
 not_same a b apart =
@@ -42,14 +42,14 @@ ge_ltb a b past =
     ] refl
 
 module _ (find : ℕ → Option SectionId) (lowest next : ℕ) (kept : AreOpen find lowest next) where
-  numbered_at : (i : ℕ) → numbered (shown find next) i ≡ section_at find i
+  numbered_at : (i : ℕ) → numbered (shown find next) i ≡ section_by_handle find i
   numbered_at i =
-      elim (nat_lt i next) as (λ b. nat_lt i next ≡ b → numbered (shown find next) i ≡ section_at find i) [
+      elim (nat_lt i next) as (λ b. nat_lt i next ≡ b → numbered (shown find next) i ≡ section_by_handle find i) [
         | true ↦ λ e. shown_at find next i (ltb-true i next e)
         | false ↦ λ e. (
             let past = ltb-false i next e in
             get_or_past (shown find next) i None (omega (arith, past, length_shown find next))
-            ∙ sym (ap (option_map number_of) (none_of (find (4 * i)) (closed_past past))))
+            ∙ sym (ap (option_map section_number) (none_of (find (4 * i)) (closed_past past))))
       ] refl
     where
       closed_past : next ≤ i → is_some (find (4 * i)) ≡ false
@@ -59,14 +59,14 @@ module _ (find : ℕ → Option SectionId) (lowest next : ℕ) (kept : AreOpen f
             | false ↦ λ e. refl
           ] refl
 
-  pub held_is : (handle : ℕ) → option_map number_of (find handle) ≡ held (shown find next) handle
+  pub held_is : (handle : ℕ) → option_map section_number (find handle) ≡ held (shown find next) handle
   held_is handle =
-      elim (handle % 4 == 0) as (λ b. (handle % 4 == 0) ≡ b → option_map number_of (find handle) ≡ cond b (numbered (shown find next) (handle / 4)) None) [
+      elim (handle % 4 == 0) as (λ b. (handle % 4 == 0) ≡ b → option_map section_number (find handle) ≡ cond b (numbered (shown find next) (handle / 4)) None) [
         | true ↦ λ e. (
             let whole = (unsigned_Decides (handle % 4) 0).0 e in
             let same : 4 * (handle / 4) ≡ handle = omega (arith, whole) in
-            sym (numbered_at (handle / 4) ∙ ap (λ (n : ℕ). option_map number_of (find n)) same))
-        | false ↦ λ e. ap (option_map number_of) (none_of (find handle) (not_found e))
+            sym (numbered_at (handle / 4) ∙ ap (λ (n : ℕ). option_map section_number (find n)) same))
+        | false ↦ λ e. ap (option_map section_number) (none_of (find handle) (not_found e))
       ] refl
     where
       not_found : (handle % 4 == 0) ≡ false → is_some (find handle) ≡ false
@@ -85,13 +85,13 @@ module _ (find : ℕ → Option SectionId) (lowest next : ℕ) (kept : AreOpen f
     where
       closed_below : (k : ℕ) → k < lowest → is_some (numbered (shown find next) k) ≡ false
       closed_below k lt =
-          ap is_some (numbered_at k) ∙ some_map number_of (find (4 * k)) ∙ elim (is_some (find (4 * k))) as (λ b. is_some (find (4 * k)) ≡ b → b ≡ false) [
+          ap is_some (numbered_at k) ∙ some_map section_number (find (4 * k)) ∙ elim (is_some (find (4 * k))) as (λ b. is_some (find (4 * k)) ≡ b → b ≡ false) [
             | true ↦ λ e. (let above = (kept.among (4 * k) e).1 in absurd (omega (arith, lt, above)))
             | false ↦ λ e. refl
           ] refl
 
       opened : lowest < length (shown find next) → is_some (numbered (shown find next) lowest) ≡ true
-      opened lt = ap is_some (numbered_at lowest) ∙ some_map number_of (find (4 * lowest)) ∙ kept.first (omega (arith, lt, length_shown find next))
+      opened lt = ap is_some (numbered_at lowest) ∙ some_map section_number (find (4 * lowest)) ∙ kept.first (omega (arith, lt, length_shown find next))
 
       by : (b : Bool) → option_map handle_at (cond b (Some lowest) None) ≡ cond b (Some (4 * lowest)) None
       by true = refl
@@ -108,9 +108,9 @@ module _ (find : ℕ → Option SectionId) (lowest next : ℕ) (kept : AreOpen f
 
     pub shown_more : shown other (next + 1) ≡ shown find next ++ Some id.0 ∷ []
     shown_more =
-        map-range_with_len_more (section_at other) 0 next next (omega arith)
-        ∙ ap (λ (xs : Numbered ℕ). xs ++ section_at other next ∷ []) (same_shown other find next (λ i lt. ap (option_map number_of) (same_at (4 * i) (λ e. absurd (omega (arith, e, lt))))))
-        ∙ ap (λ (o : Option SectionId). shown find next ++ option_map number_of o ∷ []) new_at
+        map-range_with_len_more (section_by_handle other) 0 next next (omega arith)
+        ∙ ap (λ (xs : Numbered ℕ). xs ++ section_by_handle other next ∷ []) (same_shown other find next (λ i lt. ap (option_map section_number) (same_at (4 * i) (λ e. absurd (omega (arith, e, lt))))))
+        ∙ ap (λ (o : Option SectionId). shown find next ++ option_map section_number o ∷ []) new_at
 
     pub open_more : next < 2 ^ 28 → AreOpen other lowest (next + 1)
     open_more few =
@@ -132,22 +132,22 @@ module _ (find : ℕ → Option SectionId) (lowest next : ℕ) (kept : AreOpen f
 
   module _ (other : ℕ → Option SectionId) (handle : ℕ) (is : (q : ℕ) → other q ≡ cond (handle == q) None (find q)) (lives : is_some (held (shown find next) handle) ≡ true) where
     had : (handle % 4 ≡ 0) × (4 * lowest ≤ handle) × (handle < 4 * next)
-    had = kept.among handle (sym (some_map number_of (find handle)) ∙ ap is_some (held_is handle) ∙ lives)
+    had = kept.among handle (sym (some_map section_number (find handle)) ∙ ap is_some (held_is handle) ∙ lives)
 
     pub shown_less : shown other next ≡ slice_set (shown find next) (handle / 4) None
     shown_less =
-        sym (fill_by_all (section_at other) (slice_set (shown find next) (handle / 4) None) next None (length-set (shown find next) (handle / 4) None ∙ length_shown find next) at)
+        sym (fill_by_all (section_by_handle other) (slice_set (shown find next) (handle / 4) None) next None (length-set (shown find next) (handle / 4) None ∙ length_shown find next) at)
       where
-        at : (k : ℕ) → k < next → numbered (slice_set (shown find next) (handle / 4) None) k ≡ section_at other k
+        at : (k : ℕ) → k < next → numbered (slice_set (shown find next) (handle / 4) None) k ≡ section_by_handle other k
         at k lt = elim (same_or_not k (handle / 4)) [
           | inl same ↦ (
               let here : handle ≡ 4 * k = omega (arith, same, had.0) in
               ap (λ (j : ℕ). numbered (slice_set (shown find next) (handle / 4) None) j) same
               ∙ get_or-set_same (shown find next) (handle / 4) None None (omega (arith, had.2, length_shown find next))
-              ∙ sym (ap (option_map number_of) (is (4 * k) ∙ ap (λ b. cond b None (find (4 * k))) ((unsigned_Decides handle (4 * k)).1 here))))
+              ∙ sym (ap (option_map section_number) (is (4 * k) ∙ ap (λ b. cond b None (find (4 * k))) ((unsigned_Decides handle (4 * k)).1 here))))
           | inr apart ↦ (
               get_or-set_other (shown find next) (handle / 4) k None None apart ∙ shown_at find next k lt
-              ∙ sym (ap (option_map number_of) (is (4 * k) ∙ ap (λ b. cond b None (find (4 * k))) (not_same handle (4 * k) (λ e. apart (omega (arith, e)))))))
+              ∙ sym (ap (option_map section_number) (is (4 * k) ∙ ap (λ b. cond b None (find (4 * k))) (not_same handle (4 * k) (λ e. apart (omega (arith, e)))))))
         ]
 
     module _ (first : ℕ) (from : lowest ≤ first) (within : first ≤ next) (before : (i : ℕ) → lowest ≤ i → i < first → other (4 * i) ≡ None) (opens : first < next → is_some (other (4 * first)) ≡ true) where

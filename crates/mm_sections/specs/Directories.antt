@@ -26,12 +26,16 @@ abbrev pub sections_of : Numbered CountedSection → Numbered SectionOf
 sections_of entries = map (option_map section_in) entries
 
 -- what is told of a section
-abbrev pub told : CountedSection → Section
-told c = record { prot = record { 0 = c.section.prot }; area = record { 0 = c.section.area } }
+abbrev pub told_of_section : CountedSection → Section
+told_of_section c = record {
+  prot = record { 0 = c.section.prot };
+  area = record
+      { 0 = c.section.area };
+}
 
 -- a section lives while a handle or a view refers to it, its name while a handle does
-abbrev pub settled_by : CountedSection → Option CountedSection
-settled_by c =
+abbrev pub section_settled : CountedSection → Option CountedSection
+section_settled c =
     if nat_lt 0 c.handles then Some c
     else if nat_lt 0 c.views then Some (record c { section = record (c.section) { name = None } })
     else None

@@ -9,8 +9,8 @@ pub record HandlesOf : Type 0 where
   pub entries : Numbered ℕ
   pub spare : ℕ  -- how many more can be added without memory
 
-abbrev pub number_of : SectionId → ℕ
-number_of id = id.0
+abbrev pub section_number : SectionId → ℕ
+section_number id = id.0
 
 -- the section of a handle
 abbrev pub held : Numbered ℕ → ℕ → Option ℕ
@@ -21,8 +21,8 @@ handle_at index = 4 * index
 
 -- ---- how they are kept: what is found by an open handle is its section
 
-abbrev pub section_at : (ℕ → Option SectionId) → ℕ → Option ℕ
-section_at find index = option_map number_of (find (handle_at index))
+abbrev pub section_by_handle : (ℕ → Option SectionId) → ℕ → Option ℕ
+section_by_handle find index = option_map section_number (find (handle_at index))
 
 -- `lowest` is a fourth of the lowest open handle, and of the next one where none is open
 pub record AreOpen (find : ℕ → Option SectionId) (lowest next : ℕ) : Type 0 where

@@ -10,21 +10,21 @@ use Rattle.mm_world.specs.Find.{is_named}
 use Rattle.mm_sections.specs.declared.entries.Entry.{Entry}
 use Rattle.mm_sections.specs.declared.name_keys.NameKey.{NameKey}
 use Rattle.mm_sections.specs.Directories.{CountedSection}
-use Rattle.mm_sections.specs.Handles.{number_of}
+use Rattle.mm_sections.specs.Handles.{section_number}
 
-abbrev pub counted : Entry → CountedSection
-counted e =
+abbrev pub counted_section : Entry → CountedSection
+counted_section e =
     record {
       section = record { prot = e.prot.0; name = e.name; area = e.area.0 };
       handles = e.handles;
       views = e.views;
     }
 
-abbrev pub key_of : Text → NameKey
-key_of name = record { name = name }
+abbrev pub name_key : Text → NameKey
+name_key name = record { name = name }
 
-abbrev pub same_key : NameKey → NameKey → Bool
-same_key a b = bytes_eq a.name b.name
+abbrev pub same_name : NameKey → NameKey → Bool
+same_name a b = bytes_eq a.name b.name
 
 -- a file as it is kept: its name and its control area
 abbrev pub file_of : NameKey × Area → FileOf
@@ -32,7 +32,7 @@ file_of f = record { name = f.0.name; area = f.1.0 }
 
 -- the number of the section with a name
 abbrev pub found_by : {S : Type 0} → HashMap NameKey SectionId S → Text → Option ℕ
-found_by names name = option_map number_of (get same_key names (key_of name))
+found_by names name = option_map section_number (get same_name names (name_key name))
 
 -- the name that a section loses where no handle refers to it
 abbrev pub name_lost : CountedSection → Option Text
@@ -48,7 +48,7 @@ with_name None number find t = find t
 with_name (Some name) number find t = if bytes_eq name t then Some number else find t
 
 -- what is found by a name is the one section that has it
-pub record IsIndex (find : Text → Option ℕ) (sections : Numbered SectionOf) : Type 0 where
+pub record IsNameIndex (find : Text → Option ℕ) (sections : Numbered SectionOf) : Type 0 where
   pub named : (name : Text) (number : ℕ) → find name ≡ Some number →
       is_named name (numbered sections number) ≡ true
   pub found : (name : Text) (number : ℕ) → is_named name (numbered sections number) ≡ true →

@@ -18,5 +18,5 @@ page_if committed = if committed then Some tt else None
 abbrev pub uncommitted_in : AreaOf (Unit {0}) → ℕ → ℕ → ℕ
 uncommitted_in a first count = count_by is_none (take count (drop first a.pages))
 
-abbrev pub committed_in : AreaOf (Unit {0}) → ℕ
-committed_in a = count_by is_some a.pages
+abbrev pub committed_count : AreaOf (Unit {0}) → ℕ
+committed_count a = count_by is_some a.pages

@@ -1,7 +1,7 @@
 ghost use Rattle.std.specs.Prelude.{◌≡◌, ◌≤◌, ◌<◌, ◌+◌, ◌^◌, ◌++◌, [], ◌∷◌, true, is_none, is_some, length, Some, None, IfSome, OnOk, option_map, option_and_then, IsSomeAnd, slice_set, find, position, bytes_eq};
 ghost use Rattle.mm_world.specs.World.{numbered};
 ghost use Rattle.mm_world.specs.Find.{is_named};
-ghost use Rattle.mm_sections.specs.Directories.{CountedSection, sections_of, told, settled_by, new_entry, one_handle_more, one_view_more, one_handle_less, one_view_less, id_of, area_of};
+ghost use Rattle.mm_sections.specs.Directories.{CountedSection, sections_of, told_of_section, section_settled, new_entry, one_handle_more, one_view_more, one_handle_less, one_view_less, id_of, area_of};
 
 use crate::entries::{
     Entry, add_handle_to, add_view_to, drop_handle_of, drop_view_of, forget, remember, settle,
@@ -37,13 +37,13 @@ impl Model for Directory {
     ghost use Rattle.std.specs.Vec.{vec_capacity, vec_len};
     ghost use Rattle.indexmap.specs.IndexMap.{spare};
     ghost use Rattle.mm_sections.specs.Directories.{DirectoryOf, sections_of};
-    ghost use Rattle.mm_sections.specs.Names.{counted, file_of, found_by, IsIndex, IsRoom};
+    ghost use Rattle.mm_sections.specs.Names.{counted_section, file_of, found_by, IsNameIndex, IsRoom};
 
     ghost Value = { DirectoryOf };
 
-    ghost view = { λ d. record { entries = map (option_map counted) d.sections.items; files = map file_of d.files.entries; spare = d.room } };
+    ghost view = { λ d. record { entries = map (option_map counted_section) d.sections.items; files = map file_of d.files.entries; spare = d.room } };
 
-    ghost invariant = { λ d. (length d.sections.items ≤ 2 ^ 28) × IsIndex (found_by d.names) (sections_of (map (option_map counted) d.sections.items)) × IsRoom d.room (vec_capacity d.sections - vec_len d.sections) (spare d.names) (spare d.files) };
+    ghost invariant = { λ d. (length d.sections.items ≤ 2 ^ 28) × IsNameIndex (found_by d.names) (sections_of (map (option_map counted_section) d.sections.items)) × IsRoom d.room (vec_capacity d.sections - vec_len d.sections) (spare d.names) (spare d.files) };
 }
 
 impl Directory {
@@ -86,7 +86,7 @@ impl Directory {
 
     /// The section with this number. None exactly where it was never made, or has ended.
     pub fn section(&self, id: SectionId) -> Option<Section>
-        ensures { result ≡ option_map told (numbered self.now.entries id.0) }
+        ensures { result ≡ option_map told_of_section (numbered self.now.entries id.0) }
     {
         match self.sections.get(id.0 as usize) {
             Some(Some(entry)) => Some(Section {
@@ -189,7 +189,7 @@ impl Directory {
         requires lives { IsSomeAnd (numbered self.old.entries id.0) (λ c. 1 ≤ c.handles) }
         ensures dropped { self.new ≡ record self.old {
           entries = slice_set self.old.entries id.0
-              (option_and_then (λ c. settled_by (one_handle_less c))
+              (option_and_then (λ c. section_settled (one_handle_less c))
               (numbered self.old.entries id.0));
         } }
         ensures ended { result ≡ is_none (numbered self.new.entries id.0) }
@@ -204,7 +204,7 @@ impl Directory {
         requires lives { IsSomeAnd (numbered self.old.entries id.0) (λ c. 1 ≤ c.views) }
         ensures dropped { self.new ≡ record self.old {
           entries = slice_set self.old.entries id.0
-              (option_and_then (λ c. settled_by (one_view_less c))
+              (option_and_then (λ c. section_settled (one_view_less c))
               (numbered self.old.entries id.0));
         } }
         ensures ended { result ≡ is_none (numbered self.new.entries id.0) }
@@ -219,7 +219,7 @@ impl Directory {
         requires lives { is_some (numbered self.old.entries id.0) ≡ true }
         ensures settled { self.new ≡ record self.old {
           entries = slice_set self.old.entries id.0
-              (option_and_then settled_by (numbered self.old.entries id.0));
+              (option_and_then section_settled (numbered self.old.entries id.0));
         } }
         ensures ended { result ≡ is_none (numbered self.new.entries id.0) }
     {

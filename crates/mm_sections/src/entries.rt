@@ -2,8 +2,8 @@
 ghost use Rattle.std.specs.Prelude.{◌≡◌, ◌≤◌, ◌<◌, ◌+◌, ◌^◌, true, is_none, is_some, IfSome, IsSomeAnd, option_map, option_and_then};
 ghost use Rattle.indexmap.specs.IndexMap.{spare};
 ghost use Rattle.mm_types.specs.Spelling.{Text};
-ghost use Rattle.mm_sections.specs.Directories.{settled_by, one_handle_more, one_view_more, one_handle_less, one_view_less};
-ghost use Rattle.mm_sections.specs.Names.{counted, found_by, name_lost, without_name, with_name};
+ghost use Rattle.mm_sections.specs.Directories.{section_settled, one_handle_more, one_view_more, one_handle_less, one_view_less};
+ghost use Rattle.mm_sections.specs.Names.{counted_section, found_by, name_lost, without_name, with_name};
 
 use crate::name_keys::NameKey;
 use indexmap::IndexMap;
@@ -23,8 +23,8 @@ pub(crate) struct Entry {
 pub(crate) fn add_handle_to(section: &mut Option<Entry>)
     requires lives { is_some section.old ≡ true }
     requires few { IfSome section.old (λ e. e.handles < 2 ^ 60) }
-    ensures { option_map counted section.new ≡
-        option_map one_handle_more (option_map counted section.old) }
+    ensures { option_map counted_section section.new ≡
+        option_map one_handle_more (option_map counted_section section.old) }
 {
     let Some(entry) = section else { unreachable!() };
     entry.handles += 1;
@@ -34,8 +34,8 @@ pub(crate) fn add_handle_to(section: &mut Option<Entry>)
 pub(crate) fn add_view_to(section: &mut Option<Entry>)
     requires lives { is_some section.old ≡ true }
     requires few { IfSome section.old (λ e. e.views < 2 ^ 60) }
-    ensures { option_map counted section.new ≡
-        option_map one_view_more (option_map counted section.old) }
+    ensures { option_map counted_section section.new ≡
+        option_map one_view_more (option_map counted_section section.old) }
 {
     let Some(entry) = section else { unreachable!() };
     entry.views += 1;
@@ -44,8 +44,8 @@ pub(crate) fn add_view_to(section: &mut Option<Entry>)
 /// One handle less refers to a section to which one does.
 pub(crate) fn drop_handle_of(section: &mut Option<Entry>)
     requires lives { IsSomeAnd section.old (λ e. 1 ≤ e.handles) }
-    ensures { option_map counted section.new ≡
-        option_map one_handle_less (option_map counted section.old) }
+    ensures { option_map counted_section section.new ≡
+        option_map one_handle_less (option_map counted_section section.old) }
 {
     let Some(entry) = section else { unreachable!() };
     entry.handles -= 1;
@@ -54,8 +54,8 @@ pub(crate) fn drop_handle_of(section: &mut Option<Entry>)
 /// One view less refers to a section to which one does.
 pub(crate) fn drop_view_of(section: &mut Option<Entry>)
     requires lives { IsSomeAnd section.old (λ e. 1 ≤ e.views) }
-    ensures { option_map counted section.new ≡
-        option_map one_view_less (option_map counted section.old) }
+    ensures { option_map counted_section section.new ≡
+        option_map one_view_less (option_map counted_section section.old) }
 {
     let Some(entry) = section else { unreachable!() };
     entry.views -= 1;
@@ -65,9 +65,9 @@ pub(crate) fn drop_view_of(section: &mut Option<Entry>)
 /// either. Gives the name that it lost.
 pub(crate) fn settle(section: &mut Option<Entry>) -> Option<Name>
     requires lives { is_some section.old ≡ true }
-    ensures settled { option_map counted section.new ≡
-        option_and_then settled_by (option_map counted section.old) }
-    ensures name { result ≡ option_and_then name_lost (option_map counted section.old) }
+    ensures settled { option_map counted_section section.new ≡
+        option_and_then section_settled (option_map counted_section section.old) }
+    ensures name { result ≡ option_and_then name_lost (option_map counted_section section.old) }
 {
     let Some(entry) = section else { unreachable!() };
     if entry.handles > 0 {

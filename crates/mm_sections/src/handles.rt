@@ -1,6 +1,6 @@
 ghost use Rattle.std.specs.Prelude.{◌≡◌, ◌≤◌, ◌<◌, ◌+◌, ◌*◌, ◌/◌, ◌^◌, ◌++◌, [], ◌∷◌, ℕ, true, is_some, length, Some, None, OnOk, nat_eq, option_map, position, slice_set};
 ghost use Rattle.indexmap.specs.IndexMap.{get};
-ghost use Rattle.mm_sections.specs.Handles.{held, handle_at, number_of};
+ghost use Rattle.mm_sections.specs.Handles.{held, handle_at, section_number};
 
 use indexmap::IndexMap;
 use mm_types::{NoMemory, SectionId};
@@ -22,11 +22,11 @@ impl Model for Handles {
     ghost use Rattle.std.specs.Prelude.{map, nat_eq};
     ghost use Rattle.std.specs.List.{range_with_len};
     ghost use Rattle.indexmap.specs.IndexMap.{get, spare};
-    ghost use Rattle.mm_sections.specs.Handles.{HandlesOf, AreOpen, section_at};
+    ghost use Rattle.mm_sections.specs.Handles.{HandlesOf, AreOpen, section_by_handle};
 
     ghost Value = { HandlesOf };
 
-    ghost view = { λ h. record { entries = map (section_at (get nat_eq h.sections)) (range_with_len 0 h.next); spare = spare h.sections } };
+    ghost view = { λ h. record { entries = map (section_by_handle (get nat_eq h.sections)) (range_with_len 0 h.next); spare = spare h.sections } };
 
     ghost invariant = { λ h. AreOpen (get nat_eq h.sections) h.lowest h.next };
 }
@@ -72,7 +72,7 @@ impl Handles {
 
     /// The section of a handle. None exactly where the process has no such handle.
     pub fn section(&self, handle: u32) -> Option<SectionId>
-        ensures { option_map number_of result ≡ held self.now.entries handle }
+        ensures { option_map section_number result ≡ held self.now.entries handle }
     {
         self.sections.get(&handle).copied()
     }

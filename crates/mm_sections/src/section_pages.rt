@@ -3,7 +3,7 @@ ghost use Rattle.mm_world.specs.World.{numbered};
 ghost use Rattle.mm_world.specs.Alloc.{commit_shared};
 ghost use Rattle.mm_world.specs.Contents.{blank};
 ghost use Rattle.mm_world.specs.Find.{no_area};
-ghost use Rattle.mm_sections.specs.Pages.{number_of_block, page_if, uncommitted_in, committed_in};
+ghost use Rattle.mm_sections.specs.Pages.{number_of_block, page_if, uncommitted_in, committed_count};
 
 use mm_types::{Block, NoMemory};
 use std::alloc::Global;
@@ -130,7 +130,7 @@ impl SectionPages {
 
     /// How many pages are committed.
     pub fn committed(&self) -> u32
-        ensures { result ≡ committed_in self.now }
+        ensures { result ≡ committed_count self.now }
     {
         self.committed
             .iter()

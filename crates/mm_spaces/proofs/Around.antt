@@ -9,7 +9,7 @@ use Rattle.mm_vad.specs.Regions.{ranges_of as kept_ranges}
 use Rattle.mm_world.specs.World.{RegionOf, pages_of}
 use Rattle.mm_world.specs.Find.{Found, one_later, region_with, region_around}
 use Rattle.mm_world.proofs.Finding.{found_stands}
-use Rattle.mm_spaces.specs.Shown.{region_of, shown}
+use Rattle.mm_spaces.specs.Shown.{region_of, shown_regions}
 use Rattle.mm_spaces.proofs.Shows.{later, shown_pages}
 use Rattle.mm_world.proofs.Ranges.{inside, Inside, Within, holds, holds_not}
 
@@ -93,9 +93,9 @@ module _ {B : Type 0} where
           ∙ ap (option_map one_later) again)
 
 -- the regions that are kept rise where they are shown
-pub rising_shown : (low : ℕ) (gs : List Region) → All (λ g. length g.rows ≡ g.pages) gs → LieApart low (kept_ranges gs) → Rising low (shown gs)
+pub rising_shown : (low : ℕ) (gs : List Region) → All (λ g. length g.rows ≡ g.pages) gs → LieApart low (kept_ranges gs) → Rising low (shown_regions gs)
 rising_shown low [] a h = tt
 rising_shown low (x ∷ xs) a h =
     let whole : length x.rows ≡ x.pages = All-head (λ (g : Region). length g.rows ≡ g.pages) x xs a in
     let ends : end_of (pages_of (region_of x)) ≡ x.base.0 + x.pages = ap end_of (shown_pages x whole) in
-    (h.0.from, subst (λ (n : ℕ). Rising n (shown xs)) (sym ends) (rising_shown (x.base.0 + x.pages) xs (All-tail (λ (g : Region). length g.rows ≡ g.pages) x xs a) h.1))
+    (h.0.from, subst (λ (n : ℕ). Rising n (shown_regions xs)) (sym ends) (rising_shown (x.base.0 + x.pages) xs (All-tail (λ (g : Region). length g.rows ≡ g.pages) x xs a) h.1))

@@ -16,9 +16,9 @@ use Rattle.mm_world.proofs.LaidOut.{flags_changed}
 use Rattle.mm_world.proofs.Ranges.{inside, Inside}
 use Rattle.mm_world.proofs.RowsFit.{length-change_range}
 use Rattle.mm_world.proofs.Spaces.{space_set, length-unwritten}
-use Rattle.mm_spaces.specs.Shown.{row_of, region_of, shown}
-use Rattle.mm_spaces.specs.Finds.{IsKept}
-use Rattle.mm_spaces.specs.Kept.{IsAround, one_if, surrounds}
+use Rattle.mm_spaces.specs.Shown.{shown_row, region_of, shown_regions}
+use Rattle.mm_spaces.specs.Finds.{IsKeptSpace}
+use Rattle.mm_spaces.specs.Kept.{IsAround, found_if, surrounds}
 use Rattle.mm_spaces.proofs.Shows.{there, here}
 use Rattle.mm_spaces.proofs.OfPage.{both_around}
 use Rattle.mm_spaces.proofs.Kept.{found_has}
@@ -38,14 +38,14 @@ has_flags x = is_some x.watched
 -- ---- what is found
 
 -- the region around the range, where it is watched
-pub watched_there : (rs : Regions) (range : Range) (r : Region) (h : IsAround rs range r) → watched_around rs range ≡ one_if (is_some r.watched) h.at.found
-watched_there rs range r h = h.only has_flags ∙ ap (λ (x : RegionOf (Unit {0})). one_if (is_some x.watched) h.at.found) h.at.is_shown
+pub watched_there : (rs : Regions) (range : Range) (r : Region) (h : IsAround rs range r) → watched_around rs range ≡ found_if (is_some r.watched) h.at.found
+watched_there rs range r h = h.only has_flags ∙ ap (λ (x : RegionOf (Unit {0})). found_if (is_some x.watched) h.at.found) h.at.is_shown
 
 -- what is told of the flags of the region around a range
 pub told_here : (rs : Regions) (range : Range) (r : Region) (h : IsAround rs range r) (flags : List Bool) (count : ℕ) → r.watched ≡ Some flags
     → option_map (λ (x : Place). map address_of (written_in x.thing range count)) (watched_around rs range) ≡ Some (map address_of (take count (written_from range.first (take range.count (drop (range.first - r.base.0) flags)))))
 told_here rs range r h flags count e =
-    ap (option_map (λ (x : Place). map address_of (written_in x.thing range count))) (watched_there rs range r h ∙ ap (λ (o : Option (List Bool)). one_if (is_some o) h.at.found) e)
+    ap (option_map (λ (x : Place). map address_of (written_in x.thing range count))) (watched_there rs range r h ∙ ap (λ (o : Option (List Bool)). found_if (is_some o) h.at.found) e)
     ∙ ap (λ (x : RegionOf (Unit {0})). Some (map address_of (written_in x range count))) h.at.is_shown
     ∙ ap (λ (o : Option (List Bool)). Some (map address_of (take count (written_from range.first (take range.count (drop (range.first - r.base.0) (unwrap_or o []))))))) e
 
@@ -63,14 +63,14 @@ is_watched rs range r sound some e =
 pub watched_told : (rs : Regions) (range : Range) (r : Region) → IsAround rs range r → is_some (watched_around rs range) ≡ is_some r.watched
 watched_told rs range r h =
     ap is_some (watched_there rs range r h)
-    ∙ elim (is_some r.watched) as (λ b. is_some (one_if b h.at.found) ≡ b) [ true ↦ refl | false ↦ refl ]
+    ∙ elim (is_some r.watched) as (λ b. is_some (found_if b h.at.found) ≡ b) [ true ↦ refl | false ↦ refl ]
 
 -- as many flags as pages
 pub flags_many : (r : Region) (flags : List Bool) → vad.HasFlags r.pages r → r.watched ≡ Some flags → length flags ≡ r.pages
 flags_many r flags h e = subst (λ (o : Option (List Bool)). IfSome o (λ fs. length fs ≡ r.pages)) e h
 
 -- the range is said in two ways
-pub watched_in : (vs : List Region) (inner : Range) (rs : Regions) (range : Range) → Same vs inner rs range → watched_around (shown vs) inner ≡ watched_around rs range
+pub watched_in : (vs : List Region) (inner : Range) (rs : Regions) (range : Range) → Same vs inner rs range → watched_around (shown_regions vs) inner ≡ watched_around rs range
 watched_in vs inner rs range same = ap (λ (x : Regions). watched_around x inner) same.regions ∙ ap (λ (x : Range). watched_around rs x) same.range_is
 
 -- what was told was told of some region
@@ -92,29 +92,29 @@ record KeptAt (vs : List Region) (page : ℕ) (r : Place) : Type 0 where
   base : region.base.0 ≡ r.thing.base
   pages : length r.thing.rows ≡ region.pages
 
-kept_at : (vs : List Region) (page : ℕ) (r : Place) → IsKept vs → region_with (shown vs) page ≡ Some r → KeptAt vs page r
+kept_at : (vs : List Region) (page : ℕ) (r : Place) → IsKeptSpace vs → region_with (shown_regions vs) page ≡ Some r → KeptAt vs page r
 kept_at vs page r k e =
     let h = here vs page r k.whole.whole e in
-    let whole = (found_has (λ (x : Region). length x.rows ≡ x.pages) (vad.holds page) vs h.region k.whole.whole h.found).1 in
+    let whole = (found_has (λ (x : Region). length x.rows ≡ x.pages) (vad.region_holds page) vs h.region k.whole.whole h.found).1 in
     record {
       region = h.region;
       found = h.found;
       base = ap (λ (x : RegionOf (Unit {0})). x.base) h.is;
-      pages = sym (ap (λ (x : RegionOf (Unit {0})). length x.rows) h.is) ∙ length-map h.region.rows (row_of h.region.kind) ∙ whole;
+      pages = sym (ap (λ (x : RegionOf (Unit {0})). length x.rows) h.is) ∙ length-map h.region.rows (shown_row h.region.kind) ∙ whole;
     }
 
-pub some_at : (vs : List Region) (page : ℕ) → IsKept vs → is_some (region_with (shown vs) page) ≡ true → is_some (vad.region_at vs page) ≡ true
+pub some_at : (vs : List Region) (page : ℕ) → IsKeptSpace vs → is_some (region_with (shown_regions vs) page) ≡ true → is_some (vad.region_at vs page) ≡ true
 some_at vs page k some =
-    let r = there (region_with (shown vs) page) some in
+    let r = there (region_with (shown_regions vs) page) some in
     ap is_some (kept_at vs page r.thing k r.is).found
 
-pub lie_in_region : (vs : List Region) (range : Range) (r : Place) → IsKept vs → IsWatched (shown vs) range r → vad.LieInRegion vs range.first range.count
+pub lie_in_region : (vs : List Region) (range : Range) (r : Place) → IsKeptSpace vs → IsWatched (shown_regions vs) range r → vad.LieInRegion vs range.first range.count
 lie_in_region vs range r k w =
     let a = kept_at vs range.first r k w.there in
     subst (λ (o : Option Region). IsSomeAnd o (λ g. range.first - g.base.0 + range.count ≤ g.pages)) (sym a.found)
     (omega (arith, w.inside.low, w.inside.high, a.base, a.pages))
 
-pub lie_with_page : (vs : List Region) (range : Range) (r : Place) (count : ℕ) (addresses : List ℕ) → IsKept vs → IsWatched (shown vs) range r → addresses ≡ map address_of (written_in r.thing range count) → vad.LieWithPage vs range.first addresses
+pub lie_with_page : (vs : List Region) (range : Range) (r : Place) (count : ℕ) (addresses : List ℕ) → IsKeptSpace vs → IsWatched (shown_regions vs) range r → addresses ≡ map address_of (written_in r.thing range count) → vad.LieWithPage vs range.first addresses
 lie_with_page vs range r count addresses k w told =
     let a = kept_at vs range.first r k w.there in
     let among : vad.LieAmong a.region.base.0 a.region.pages (map address_of (written_in r.thing range count)) =
@@ -126,44 +126,44 @@ lie_with_page vs range r count addresses k w told =
 -- ---- flags changed
 
 -- the flags of the region of a page were changed, and nothing else
-pub flagged : (change : Region → Region) (flags : List Bool → List Bool) (vs : List Region) (page : ℕ) (r : Place) → ((g : Region) → region_of g ≡ r.thing → region_of (change g) ≡ change_flags flags (region_of g)) → IsKept vs → region_with (shown vs) page ≡ Some r → shown (vad.change_region change vs page) ≡ slice_set (shown vs) r.place (change_flags flags r.thing)
+pub flagged : (change : Region → Region) (flags : List Bool → List Bool) (vs : List Region) (page : ℕ) (r : Place) → ((g : Region) → region_of g ≡ r.thing → region_of (change g) ≡ change_flags flags (region_of g)) → IsKeptSpace vs → region_with (shown_regions vs) page ≡ Some r → shown_regions (vad.change_region change vs page) ≡ slice_set (shown_regions vs) r.place (change_flags flags r.thing)
 flagged change flags vs page r same k e =
     let h = here vs page r k.whole.whole e in
-    h.changed change ∙ ap (slice_set (shown vs) r.place) (same h.region h.is ∙ ap (change_flags flags) h.is)
+    h.changed change ∙ ap (slice_set (shown_regions vs) r.place) (same h.region h.is ∙ ap (change_flags flags) h.is)
 
-pub kept_flags : (vs after : List Region) (flags : List Bool → List Bool) (page : ℕ) (r : Place) → IsKept vs → region_with (shown vs) page ≡ Some r → ((ws : List Bool) → length (flags ws) ≡ length ws) → shown after ≡ slice_set (shown vs) r.place (change_flags flags r.thing) → vad.IsSpace after → IsKept after
+pub kept_flags : (vs after : List Region) (flags : List Bool → List Bool) (page : ℕ) (r : Place) → IsKeptSpace vs → region_with (shown_regions vs) page ≡ Some r → ((ws : List Bool) → length (flags ws) ≡ length ws) → shown_regions after ≡ slice_set (shown_regions vs) r.place (change_flags flags r.thing) → vad.IsSpace after → IsKeptSpace after
 kept_flags vs after flags page r k e long is whole =
     record {
       sound = subst IsSpace (sym is)
-          (space_set (shown vs) r.place r.thing (change_flags flags r.thing) (found_stands (λ x. holds_page (pages_of x) page) (shown vs) r e).there refl refl (flags_changed flags r.thing long) (λ fit. fit) k.sound);
+          (space_set (shown_regions vs) r.place r.thing (change_flags flags r.thing) (found_stands (λ x. holds_page (pages_of x) page) (shown_regions vs) r e).there refl refl (flags_changed flags r.thing long) (λ fit. fit) k.sound);
       whole = whole;
     }
 
 -- the pages of a range, the first of which lies in a region, are written or not from now on
-pub marked : (b : Bool) (vs after : List Region) (range : Range) (r : Place) → IsKept vs → region_with (shown vs) range.first ≡ Some r → after ≡ vad.set_marks b vs range.first range.count → shown after ≡ slice_set (shown vs) r.place (mark_written b range r.thing)
+pub marked : (b : Bool) (vs after : List Region) (range : Range) (r : Place) → IsKeptSpace vs → region_with (shown_regions vs) range.first ≡ Some r → after ≡ vad.set_marks b vs range.first range.count → shown_regions after ≡ slice_set (shown_regions vs) r.place (mark_written b range r.thing)
 marked b vs after range r k e is =
-    ap shown is
+    ap shown_regions is
     ∙ flagged (vad.with_marks b range.first range.count) (change_range (λ was. b) (range.first - r.thing.base) range.count) vs range.first r
     (λ g at. ap (λ (n : ℕ). change_flags (change_range (λ was. b) (range.first - n) range.count) (region_of g)) (ap (λ (x : RegionOf (Unit {0})). x.base) at))
     k e
 
-pub kept_marks : (b : Bool) (vs after : List Region) (range : Range) (r : Place) → IsKept vs → region_with (shown vs) range.first ≡ Some r → after ≡ vad.set_marks b vs range.first range.count → vad.IsSpace after → IsKept after
+pub kept_marks : (b : Bool) (vs after : List Region) (range : Range) (r : Place) → IsKeptSpace vs → region_with (shown_regions vs) range.first ≡ Some r → after ≡ vad.set_marks b vs range.first range.count → vad.IsSpace after → IsKeptSpace after
 kept_marks b vs after range r k e is whole =
     kept_flags vs after (change_range (λ was. b) (range.first - r.thing.base) range.count) range.first r k e
     (λ ws. length-change_range (λ was. b) (range.first - r.thing.base) range.count ws) (marked b vs after range r k e is) whole
 
 -- the pages that are told of a range are unwritten from now on
-pub unwrote : (vs after : List Region) (range : Range) (r : Place) (count : ℕ) (addresses : List ℕ) → IsKept vs → region_with (shown vs) range.first ≡ Some r → addresses ≡ map address_of (written_in r.thing range count) → after ≡ vad.change_region (vad.with_unwritten addresses) vs range.first → shown after ≡ slice_set (shown vs) r.place (change_flags (unwritten r.thing.base (written_in r.thing range count)) r.thing)
+pub unwrote : (vs after : List Region) (range : Range) (r : Place) (count : ℕ) (addresses : List ℕ) → IsKeptSpace vs → region_with (shown_regions vs) range.first ≡ Some r → addresses ≡ map address_of (written_in r.thing range count) → after ≡ vad.change_region (vad.with_unwritten addresses) vs range.first → shown_regions after ≡ slice_set (shown_regions vs) r.place (change_flags (unwritten r.thing.base (written_in r.thing range count)) r.thing)
 unwrote vs after range r count addresses k e told is =
     let pages = written_in r.thing range count in
-    ap shown is
+    ap shown_regions is
     ∙ flagged (vad.with_unwritten addresses) (unwritten r.thing.base pages) vs range.first r
     (λ g at.
     ap (λ (n : ℕ). change_flags (unwritten n (map page_of addresses)) (region_of g)) (ap (λ (x : RegionOf (Unit {0})). x.base) at)
     ∙ ap (λ (ps : List ℕ). change_flags (unwritten r.thing.base ps) (region_of g)) (ap (map page_of) told ∙ pages_again pages))
     k e
 
-pub kept_unwrote : (vs after : List Region) (range : Range) (r : Place) (count : ℕ) (addresses : List ℕ) → IsKept vs → region_with (shown vs) range.first ≡ Some r → addresses ≡ map address_of (written_in r.thing range count) → after ≡ vad.change_region (vad.with_unwritten addresses) vs range.first → vad.IsSpace after → IsKept after
+pub kept_unwrote : (vs after : List Region) (range : Range) (r : Place) (count : ℕ) (addresses : List ℕ) → IsKeptSpace vs → region_with (shown_regions vs) range.first ≡ Some r → addresses ≡ map address_of (written_in r.thing range count) → after ≡ vad.change_region (vad.with_unwritten addresses) vs range.first → vad.IsSpace after → IsKeptSpace after
 kept_unwrote vs after range r count addresses k e told is whole =
     kept_flags vs after (unwritten r.thing.base (written_in r.thing range count)) range.first r k e
     (λ ws. length-unwritten r.thing.base (written_in r.thing range count) ws) (unwrote vs after range r count addresses k e told is) whole

@@ -10,7 +10,7 @@ use Rattle.mm_vad.specs.declared.regions.Region.{Region}
 use Rattle.mm_vad.specs.Regions as vad
 use Rattle.mm_world.specs.Find.{placed, ranges_of}
 use Rattle.mm_world.proofs.LaidOut.{placed_is}
-use Rattle.mm_spaces.specs.Shown.{shown}
+use Rattle.mm_spaces.specs.Shown.{shown_regions}
 use Rattle.mm_spaces.proofs.Carried.{Whole, ranges_shown}
 
 pub free_by : (taken : List Range) (r : Range) → are_user_pages r ≡ true → list_any (meets r) taken ≡ false → is_free taken r ≡ true
@@ -37,9 +37,9 @@ by_address : (taken : List Range) (addr : ℕ) (wanted : Range) (count : ℕ) �
 by_address taken addr wanted count e = ap (λ (n : ℕ). placed taken n wanted count) e
 
 module _ (vs : List Region) (whole : Whole vs) (addr : ℕ) (wanted : Range) (count : ℕ) where
-  pub no_gap : addr ≡ 0 → None ≡ option_map page_number (lowest_gap (vad.ranges_of vs) count) → placed (ranges_of (shown vs)) addr wanted count ≡ None
+  pub no_gap : addr ≡ 0 → None ≡ option_map page_number (lowest_gap (vad.ranges_of vs) count) → placed (ranges_of (shown_regions vs)) addr wanted count ≡ None
   no_gap e none =
-      by_address (ranges_of (shown vs)) addr wanted count e
+      by_address (ranges_of (shown_regions vs)) addr wanted count e
       ∙ ap (λ taken. option_map (range_by count) (lowest_gap taken count)) (ranges_shown vs whole)
       ∙ by_gap (lowest_gap (vad.ranges_of vs) count) none
     where
@@ -47,9 +47,9 @@ module _ (vs : List Region) (whole : Whole vs) (addr : ℕ) (wanted : Range) (co
       by_gap None k = refl
       by_gap (Some n) k = cc
 
-  pub some_gap : (first : Vpn) → addr ≡ 0 → Some first ≡ option_map page_number (lowest_gap (vad.ranges_of vs) count) → placed (ranges_of (shown vs)) addr wanted count ≡ Some (range_by count first.0)
+  pub some_gap : (first : Vpn) → addr ≡ 0 → Some first ≡ option_map page_number (lowest_gap (vad.ranges_of vs) count) → placed (ranges_of (shown_regions vs)) addr wanted count ≡ Some (range_by count first.0)
   some_gap first e found =
-      by_address (ranges_of (shown vs)) addr wanted count e
+      by_address (ranges_of (shown_regions vs)) addr wanted count e
       ∙ ap (λ taken. option_map (range_by count) (lowest_gap taken count)) (ranges_shown vs whole)
       ∙ by_gap (lowest_gap (vad.ranges_of vs) count) found
     where
@@ -59,8 +59,8 @@ module _ (vs : List Region) (whole : Whole vs) (addr : ℕ) (wanted : Range) (co
           let same : first ≡ page_number n = cc in
           ap (λ (v : Vpn). Some (range_by count v.0)) (sym same)
 
-  pub by_wanted : (b : Bool) → (addr ≡ 0 → ⊥) → b ≡ is_free (vad.ranges_of vs) wanted → placed (ranges_of (shown vs)) addr wanted count ≡ cond b (Some wanted) None
+  pub by_wanted : (b : Bool) → (addr ≡ 0 → ⊥) → b ≡ is_free (vad.ranges_of vs) wanted → placed (ranges_of (shown_regions vs)) addr wanted count ≡ cond b (Some wanted) None
   by_wanted b other e =
-      ap (λ z. cond z (option_map (range_by count) (lowest_gap (ranges_of (shown vs)) count)) (cond (is_free (ranges_of (shown vs)) wanted) (Some wanted) None)) (ne_eqb addr 0 other)
+      ap (λ z. cond z (option_map (range_by count) (lowest_gap (ranges_of (shown_regions vs)) count)) (cond (is_free (ranges_of (shown_regions vs)) wanted) (Some wanted) None)) (ne_eqb addr 0 other)
       ∙ ap (λ taken. cond (is_free taken wanted) (Some wanted) None) (ranges_shown vs whole)
       ∙ ap (λ z. cond z (Some wanted) None) (sym e)

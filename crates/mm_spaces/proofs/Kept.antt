@@ -23,10 +23,10 @@ use Rattle.mm_world.specs.Rows.{is_one_of, private_protections}
 use Rattle.mm_world.specs.WellFormed.{IsSpace, RowsFit, RowFits, held_protections}
 use Rattle.mm_world.proofs.Finding.{found_stands}
 use Rattle.mm_world.proofs.Each.{each-at}
-use Rattle.mm_spaces.specs.Shown.{row_of, region_of, shown}
+use Rattle.mm_spaces.specs.Shown.{shown_row, region_of, shown_regions}
 use Rattle.mm_spaces.specs.Tables.{info_of, found_info}
-use Rattle.mm_spaces.specs.Finds.{IsKept}
-use Rattle.mm_spaces.specs.Kept.{IsAt, IsAround, NoneAround, IsBased, NoneBased, one_if, surrounds, is_based}
+use Rattle.mm_spaces.specs.Finds.{IsKeptSpace}
+use Rattle.mm_spaces.specs.Kept.{IsRegionAt, IsAround, NoneAround, IsBased, NoneBased, found_if, surrounds, is_based}
 use Rattle.mm_spaces.proofs.Shows.{shown_pages}
 use Rattle.mm_spaces.proofs.Carried.{place_of, with_shown}
 use Rattle.mm_spaces.proofs.OfPage.{kept_if, around_of_page, both_around, both_based}
@@ -46,25 +46,25 @@ found_has P t (x ∷ xs) r w e =
     ] refl e
 
 -- the region that is found at a page
-pub is_at : (vs : List Region) (page : ℕ) (r : Region) → IsKept vs → vad.region_at vs page ≡ Some r → IsAt (shown vs) page r
+pub is_at : (vs : List Region) (page : ℕ) (r : Region) → IsKeptSpace vs → vad.region_at vs page ≡ Some r → IsRegionAt (shown_regions vs) page r
 is_at vs page r k e =
-    let there = with_shown vs page k.whole.whole ∙ ap (option_map (place_of (vad.holds page) vs)) e in
-    let stands = found_stands (λ x. holds_page (pages_of x) page) (shown vs) (place_of (vad.holds page) vs r) there in
+    let there = with_shown vs page k.whole.whole ∙ ap (option_map (place_of (vad.region_holds page) vs)) e in
+    let stands = found_stands (λ x. holds_page (pages_of x) page) (shown_regions vs) (place_of (vad.region_holds page) vs r) there in
     let row = row_there vs page r k.whole.whole e in
     record {
-      found = place_of (vad.holds page) vs r;
+      found = place_of (vad.region_holds page) vs r;
       there = there;
       is_shown = refl;
-      rows = (found_has (λ (x : Region). length x.rows ≡ x.pages) (vad.holds page) vs r k.whole.whole e).1;
-      flags = (found_has (λ (x : Region). vad.HasFlags x.pages x) (vad.holds page) vs r k.whole.flags e).1;
+      rows = (found_has (λ (x : Region). length x.rows ≡ x.pages) (vad.region_holds page) vs r k.whole.whole e).1;
+      flags = (found_has (λ (x : Region). vad.HasFlags x.pages x) (vad.region_holds page) vs r k.whole.flags e).1;
       low = row.0;
       high = row.1;
-      within = (found_has (λ x. FollowsFrom first_user_page (vad.pages_of x)) (vad.holds page) vs r (each_region vs k.whole) e).1.within;
-      fit = each-at RowsFit (shown vs) _ (region_of r) k.sound.rows stands.there;
+      within = (found_has (λ x. FollowsFrom first_user_page (vad.pages_of x)) (vad.region_holds page) vs r (each_region vs k.whole) e).1.within;
+      fit = each-at RowsFit (shown_regions vs) _ (region_of r) k.sound.rows stands.there;
     }
 
-pub none_at : (vs : List Region) (page : ℕ) → IsKept vs → vad.region_at vs page ≡ None → region_with (shown vs) page ≡ None
-none_at vs page k e = with_shown vs page k.whole.whole ∙ ap (option_map (place_of (vad.holds page) vs)) e
+pub none_at : (vs : List Region) (page : ℕ) → IsKeptSpace vs → vad.region_at vs page ≡ None → region_with (shown_regions vs) page ≡ None
+none_at vs page k e = with_shown vs page k.whole.whole ∙ ap (option_map (place_of (vad.region_holds page) vs)) e
 
 -- ---- its rows
 
@@ -109,10 +109,10 @@ fit_low kind.Private row h = by_own row.own refl
 fit_low (kind.View v) row h = held_low v.access row.own row.marked row.prot h.held
 
 -- the protection of a row of a region is a byte, without its guard
-pub row_low : (rs : Regions) (page i : ℕ) (r : Region) (row : Row) → IsAt rs page r → slice_get r.rows i ≡ Some row → row.prot.0 < 0x100
+pub row_low : (rs : Regions) (page i : ℕ) (r : Region) (row : Row) → IsRegionAt rs page r → slice_get r.rows i ≡ Some row → row.prot.0 < 0x100
 row_low rs page i r row at e =
-    let there : slice_get (map (row_of r.kind) r.rows) i ≡ Some (row_of r.kind row) = slice_get-map (row_of r.kind) r.rows i ∙ ap (option_map (row_of r.kind)) e in
-    fit_low r.kind (row_of r.kind row) (each-at (RowFits r.kind) (map (row_of r.kind) r.rows) _ _ at.fit there)
+    let there : slice_get (map (shown_row r.kind) r.rows) i ≡ Some (shown_row r.kind row) = slice_get-map (shown_row r.kind) r.rows i ∙ ap (option_map (shown_row r.kind)) e in
+    fit_low r.kind (shown_row r.kind row) (each-at (RowFits r.kind) (map (shown_row r.kind) r.rows) _ _ at.fit there)
 
 -- ---- what lies around a range, and what has a base
 
@@ -132,34 +132,34 @@ both-left true b e = e
 both-left false b e = refl
 
 module _ (rs : Regions) (sound : IsSpace rs) where
-  surrounded : (range : Range) (r : Region) (at : IsAt rs range.first r) → surrounds range at.found.thing ≡ nat_le (end_of range) (r.base.0 + r.pages)
+  surrounded : (range : Range) (r : Region) (at : IsRegionAt rs range.first r) → surrounds range at.found.thing ≡ nat_le (end_of range) (r.base.0 + r.pages)
   surrounded range r at =
       ap (surrounds range) at.is_shown
       ∙ ap (λ (x : Range). lies_within range x) (shown_pages r at.rows)
       ∙ ap (λ (b : Bool). b && nat_le (end_of range) (r.base.0 + r.pages)) (le-leb r.base.0 range.first at.low)
 
-  pub around_some : (range : Range) (r : Region) → 1 ≤ range.count → IsAt rs range.first r → end_of range ≤ r.base.0 + r.pages → IsAround rs range r
+  pub around_some : (range : Range) (r : Region) → 1 ≤ range.count → IsRegionAt rs range.first r → end_of range ≤ r.base.0 + r.pages → IsAround rs range r
   around_some range r some at high =
       let passes : surrounds range at.found.thing ≡ true = surrounded range r at ∙ le-leb (end_of range) (r.base.0 + r.pages) high in
       record {
         at = at;
         high = omega (arith, high, at.low, at.rows);
-        around = around_of_page first_user_page rs range sound.laid_out some ∙ ap (kept_if (surrounds range)) at.there ∙ ap (λ b. one_if b at.found) passes;
+        around = around_of_page first_user_page rs range sound.laid_out some ∙ ap (kept_if (surrounds range)) at.there ∙ ap (λ b. found_if b at.found) passes;
         only = λ t.
             both_around t first_user_page rs range sound.laid_out some
             ∙ ap (kept_if (λ x. t x && surrounds range x)) at.there
-            ∙ ap (λ b. one_if b at.found) (both-left (t at.found.thing) (surrounds range at.found.thing) passes);
+            ∙ ap (λ b. found_if b at.found) (both-left (t at.found.thing) (surrounds range at.found.thing) passes);
       }
 
-  pub around_short : (range : Range) (r : Region) → 1 ≤ range.count → IsAt rs range.first r → nat_le (end_of range) (r.base.0 + r.pages) ≡ false → NoneAround rs range
+  pub around_short : (range : Range) (r : Region) → 1 ≤ range.count → IsRegionAt rs range.first r → nat_le (end_of range) (r.base.0 + r.pages) ≡ false → NoneAround rs range
   around_short range r some at short =
       let fails : surrounds range at.found.thing ≡ false = surrounded range r at ∙ short in
       record {
-        around = around_of_page first_user_page rs range sound.laid_out some ∙ ap (kept_if (surrounds range)) at.there ∙ ap (λ b. one_if b at.found) fails;
+        around = around_of_page first_user_page rs range sound.laid_out some ∙ ap (kept_if (surrounds range)) at.there ∙ ap (λ b. found_if b at.found) fails;
         only = λ t.
             both_around t first_user_page rs range sound.laid_out some
             ∙ ap (kept_if (λ x. t x && surrounds range x)) at.there
-            ∙ ap (λ b. one_if b at.found) (both-false (t at.found.thing) (surrounds range at.found.thing) fails);
+            ∙ ap (λ b. found_if b at.found) (both-false (t at.found.thing) (surrounds range at.found.thing) fails);
       }
 
   pub around_none : (range : Range) → 1 ≤ range.count → region_with rs range.first ≡ None → NoneAround rs range
@@ -169,7 +169,7 @@ module _ (rs : Regions) (sound : IsSpace rs) where
         only = λ t. both_around t first_user_page rs range sound.laid_out some ∙ ap (kept_if (λ x. t x && surrounds range x)) e;
       }
 
-  pub based_some : (addr : ℕ) (r : Region) (at : IsAt rs (page_of addr) r) → is_based addr (region_of r) ≡ true → IsBased rs addr r
+  pub based_some : (addr : ℕ) (r : Region) (at : IsRegionAt rs (page_of addr) r) → is_based addr (region_of r) ≡ true → IsBased rs addr r
   based_some addr r at e =
       let passes : is_based addr at.found.thing ≡ true = ap (is_based addr) at.is_shown ∙ e in
       record {
@@ -177,17 +177,17 @@ module _ (rs : Regions) (sound : IsSpace rs) where
         only = λ t.
             both_based t first_user_page rs addr sound.laid_out
             ∙ ap (kept_if (λ x. t x && is_based addr x)) at.there
-            ∙ ap (λ b. one_if b at.found) (both-left (t at.found.thing) (is_based addr at.found.thing) passes);
+            ∙ ap (λ b. found_if b at.found) (both-left (t at.found.thing) (is_based addr at.found.thing) passes);
       }
 
-  pub based_other : (addr : ℕ) (r : Region) (at : IsAt rs (page_of addr) r) → is_based addr (region_of r) ≡ false → NoneBased rs addr
+  pub based_other : (addr : ℕ) (r : Region) (at : IsRegionAt rs (page_of addr) r) → is_based addr (region_of r) ≡ false → NoneBased rs addr
   based_other addr r at e =
       let fails : is_based addr at.found.thing ≡ false = ap (is_based addr) at.is_shown ∙ e in
       record {
         only = λ t.
             both_based t first_user_page rs addr sound.laid_out
             ∙ ap (kept_if (λ x. t x && is_based addr x)) at.there
-            ∙ ap (λ b. one_if b at.found) (both-false (t at.found.thing) (is_based addr at.found.thing) fails);
+            ∙ ap (λ b. found_if b at.found) (both-false (t at.found.thing) (is_based addr at.found.thing) fails);
       }
 
   pub based_none : (addr : ℕ) → region_with rs (page_of addr) ≡ None → NoneBased rs addr
@@ -197,11 +197,11 @@ module _ (rs : Regions) (sound : IsSpace rs) where
 -- ---- what is told of them
 
 abbrev told_if : (RegionOf (Unit {0}) → Bool) → Found (RegionOf (Unit {0})) → Region → Type 0
-told_if t f r = option_map found_info (one_if (t f.thing) f) ≡ cond (t (region_of r)) (Some (info_of (region_of r))) None
+told_if t f r = option_map found_info (found_if (t f.thing) f) ≡ cond (t (region_of r)) (Some (info_of (region_of r))) None
 
 told_by : (t : RegionOf (Unit {0}) → Bool) (f : Found (RegionOf (Unit {0}))) (r : Region) → f.thing ≡ region_of r → told_if t f r
 told_by t f r e =
-    elim (t f.thing) as (λ b. t f.thing ≡ b → option_map found_info (one_if b f) ≡ cond (t (region_of r)) (Some (info_of (region_of r))) None) [
+    elim (t f.thing) as (λ b. t f.thing ≡ b → option_map found_info (found_if b f) ≡ cond (t (region_of r)) (Some (info_of (region_of r))) None) [
       | true ↦ λ p. ap (λ (x : RegionOf (Unit {0})). Some (info_of x)) e ∙ ap (λ b. cond b (Some (info_of (region_of r))) None) (sym p ∙ ap t e)
       | false ↦ λ p. ap (λ b. cond b (Some (info_of (region_of r))) None) (sym p ∙ ap t e)
     ] refl
@@ -210,8 +210,8 @@ module _ (rs : Regions) (range : Range) (r : Region) (h : IsAround rs range r) w
   pub is_in_private : is_some (private_around rs range) ≡ is_private r.kind
   is_in_private =
       ap is_some (h.only (λ x. is_private x.kind))
-      ∙ ap (λ (x : RegionOf (Unit {0})). is_some (one_if (is_private x.kind) h.at.found)) h.at.is_shown
-      ∙ elim (is_private r.kind) as (λ b. is_some (one_if b h.at.found) ≡ b) [ true ↦ refl | false ↦ refl ]
+      ∙ ap (λ (x : RegionOf (Unit {0})). is_some (found_if (is_private x.kind) h.at.found)) h.at.is_shown
+      ∙ elim (is_private r.kind) as (λ b. is_some (found_if b h.at.found) ≡ b) [ true ↦ refl | false ↦ refl ]
 
   pub view_around_told : option_map found_info (view_around rs range) ≡ cond (not (is_private r.kind)) (Some (info_of (region_of r))) None
   view_around_told = ap (option_map found_info) (h.only (λ x. not (is_private x.kind))) ∙ told_by (λ x. not (is_private x.kind)) h.at.found r h.at.is_shown
@@ -223,7 +223,7 @@ module _ (rs : Regions) (addr : ℕ) (r : Region) (h : IsBased rs addr r) where
   pub private_at_told : option_map (λ (x : Found (RegionOf (Unit {0}))). pages_of x.thing) (private_at rs addr) ≡ cond (is_private r.kind) (Some (pages_of (region_of r))) None
   private_at_told =
       ap (option_map (λ (x : Found (RegionOf (Unit {0}))). pages_of x.thing)) (h.only (λ x. is_private x.kind))
-      ∙ elim (is_private h.at.found.thing.kind) as (λ b. is_private h.at.found.thing.kind ≡ b → option_map (λ (x : Found (RegionOf (Unit {0}))). pages_of x.thing) (one_if b h.at.found) ≡ cond (is_private r.kind) (Some (pages_of (region_of r))) None) [
+      ∙ elim (is_private h.at.found.thing.kind) as (λ b. is_private h.at.found.thing.kind ≡ b → option_map (λ (x : Found (RegionOf (Unit {0}))). pages_of x.thing) (found_if b h.at.found) ≡ cond (is_private r.kind) (Some (pages_of (region_of r))) None) [
         | true ↦ λ p. ap (λ (x : RegionOf (Unit {0})). Some (pages_of x)) h.at.is_shown ∙ ap (λ b. cond b (Some (pages_of (region_of r))) None) (sym p ∙ ap (λ (x : RegionOf (Unit {0})). is_private x.kind) h.at.is_shown)
         | false ↦ λ p. ap (λ b. cond b (Some (pages_of (region_of r))) None) (sym p ∙ ap (λ (x : RegionOf (Unit {0})). is_private x.kind) h.at.is_shown)
       ] refl

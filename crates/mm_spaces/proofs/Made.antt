@@ -1,5 +1,5 @@
 -- What a change makes of the regions that are kept.
-use Rattle.std.proofs.Common.{◌≡◌, ℕ, ◌+◌, ◌%◌, ◌≤◌, Bool, true, false, cond, List, [], ◌∷◌, length, map, replicate, Option, Some, None, option_map, refl, sym, ap, ◌∙◌, subst, arith, nat_le, ◌&&◌, not, slice_get}
+use Rattle.std.proofs.Common.{◌≡◌, ℕ, ◌+◌, ◌%◌, ◌≤◌, Bool, true, false, cond, List, [], ◌∷◌, length, map, replicate, Option, Some, None, option_map, is_some, refl, sym, ap, ◌∙◌, subst, arith, nat_le, ◌&&◌, not, slice_get}
 use Rattle.std.specs.Prelude.{find, remove, ◌==◌}
 use Rattle.std.specs.List.{position_or_len}
 use Rattle.std.specs.Cmp.{unsigned_Decides}
@@ -27,10 +27,10 @@ use Rattle.mm_world.proofs.Each.{each-remove, each-replicate}
 use Rattle.mm_world.proofs.LaidOut.{and-true, laid_remove, free_of}
 use Rattle.mm_world.proofs.RowsFit.{reserved_fits, commit_fits, new_view_fits}
 use Rattle.mm_world.proofs.Spaces.{space_add}
-use Rattle.mm_spaces.specs.Shown.{row_of, region_of, new_flags, shown}
-use Rattle.mm_spaces.specs.Finds.{IsKept, IsWhole}
+use Rattle.mm_spaces.specs.Shown.{shown_row, region_of, new_flags, shown_regions}
+use Rattle.mm_spaces.specs.Finds.{IsKeptSpace, IsWholeRegion}
 use Rattle.mm_spaces.specs.Kept.{both_where, is_based}
-use Rattle.mm_spaces.proofs.Shows.{shown_pages}
+use Rattle.mm_spaces.proofs.Shows.{shown_pages, there}
 use Rattle.mm_spaces.proofs.OfPage.{kept_if, both_based, based_of_page}
 use Rattle.mm_spaces.proofs.Carried.{Whole, place_of, first_shown, ranges_shown, add_shown, remove_shown}
 use Rattle.mm_spaces.proofs.RowsKept.{base_allowed}
@@ -47,11 +47,11 @@ new_row_fits alloc_type prot e = by_type (alloc_type == reserve_type)
 abbrev region_by : ℕ → ℕ → ℕ → List Row → Option (List Bool) → Region
 region_by first count prot rows flags = record { base = record { 0 = first }; pages = count; alloc_prot = record { 0 = prot }; kind = kind.Private; rows = rows; watched = flags }
 
-module _ (watched : Bool) (alloc_type prot : ℕ) (range : Range) (rows : List Row) (flags : Option (List Bool)) (row : Row) (same : row_of kind.Private row ≡ new_row blank alloc_type prot) (all : rows ≡ replicate range.count row) (unwritten : flags ≡ new_flags watched range.count) where
-  rows_made : map (row_of kind.Private) rows ≡ replicate range.count (new_row blank alloc_type prot)
+module _ (watched : Bool) (alloc_type prot : ℕ) (range : Range) (rows : List Row) (flags : Option (List Bool)) (row : Row) (same : shown_row kind.Private row ≡ new_row blank alloc_type prot) (all : rows ≡ replicate range.count row) (unwritten : flags ≡ new_flags watched range.count) where
+  rows_made : map (shown_row kind.Private) rows ≡ replicate range.count (new_row blank alloc_type prot)
   rows_made =
-      ap (map (row_of kind.Private)) all
-      ∙ map-replicate (row_of kind.Private) range.count row
+      ap (map (shown_row kind.Private)) all
+      ∙ map-replicate (shown_row kind.Private) range.count row
       ∙ ap (replicate range.count) same
 
   pub region_made : region_of (region_by range.first range.count prot rows flags) ≡ private_region blank watched alloc_type prot range
@@ -64,7 +64,7 @@ module _ (watched : Bool) (alloc_type prot : ℕ) (range : Range) (rows : List R
 
 -- ---- one region more
 
-pub free_among : (vs : List Region) (r : Region) → Whole vs → IsWhole r → is_free (ranges_of (shown vs)) (pages_of (region_of r)) ≡ true → is_free (vad.ranges_of vs) (vad.pages_of r) ≡ true
+pub free_among : (vs : List Region) (r : Region) → Whole vs → IsWholeRegion r → is_free (ranges_of (shown_regions vs)) (pages_of (region_of r)) ≡ true → is_free (vad.ranges_of vs) (vad.pages_of r) ≡ true
 free_among vs r whole w e =
     sym (ap (λ taken. is_free taken (pages_of (region_of r))) (ranges_shown vs whole) ∙ ap (is_free (vad.ranges_of vs)) (shown_pages r w.rows)) ∙ e
 
@@ -75,20 +75,20 @@ pub record CanAdd (new : RegionOf (Unit {0})) (rs : List (RegionOf (Unit {0}))) 
   pub fit : RowsFit new
 
 -- a flag for each page, where the region is watched
-pub has_flags : (r : Region) → IsWhole r → vad.HasFlags r.pages r
+pub has_flags : (r : Region) → IsWholeRegion r → vad.HasFlags r.pages r
 has_flags r w =
-    IfSome_then r.watched {P = λ fs. (length fs ≡ length (map (row_of r.kind) r.rows)) × (is_private r.kind ≡ true)} {Q = λ fs. length fs ≡ r.pages} w.flags
-    (λ fs h. h.0 ∙ length-map r.rows (row_of r.kind) ∙ w.rows)
+    IfSome_then r.watched {P = λ fs. (length fs ≡ length (map (shown_row r.kind) r.rows)) × (is_private r.kind ≡ true)} {Q = λ fs. length fs ≡ r.pages} w.flags
+    (λ fs h. h.0 ∙ length-map r.rows (shown_row r.kind) ∙ w.rows)
 
-pub can_add : (vs : List Region) (r : Region) (rs : List (RegionOf (Unit {0}))) (new : RegionOf (Unit {0})) → shown vs ≡ rs → region_of r ≡ new → CanAdd new rs → CanAdd (region_of r) (shown vs)
+pub can_add : (vs : List Region) (r : Region) (rs : List (RegionOf (Unit {0}))) (new : RegionOf (Unit {0})) → shown_regions vs ≡ rs → region_of r ≡ new → CanAdd new rs → CanAdd (region_of r) (shown_regions vs)
 can_add vs r rs new same is can =
-    subst (λ (g : RegionOf (Unit {0})). CanAdd g (shown vs)) (sym is) (subst (λ (gs : List (RegionOf (Unit {0}))). CanAdd new gs) (sym same) can)
+    subst (λ (g : RegionOf (Unit {0})). CanAdd g (shown_regions vs)) (sym is) (subst (λ (gs : List (RegionOf (Unit {0}))). CanAdd new gs) (sym same) can)
 
-pub kept_add : (vs after : List Region) (r : Region) → IsKept vs → IsWhole r → CanAdd (region_of r) (shown vs) → after ≡ vad.add_region vs r → vad.IsSpace after → IsKept after
+pub kept_add : (vs after : List Region) (r : Region) → IsKeptSpace vs → IsWholeRegion r → CanAdd (region_of r) (shown_regions vs) → after ≡ vad.add_region vs r → vad.IsSpace after → IsKeptSpace after
 kept_add vs after r k w can e whole =
     let new = region_of r in
-    let rs = shown vs in
-    let is : shown after ≡ add_region new rs = ap shown e ∙ add_shown vs r in
+    let rs = shown_regions vs in
+    let is : shown_regions after ≡ add_region new rs = ap shown_regions e ∙ add_shown vs r in
     record {
       sound = subst IsSpace (sym is) (space_add new rs (pages_of new) (free_of (ranges_of rs) (pages_of new) can.granule can.free) refl refl can.some w.flags can.fit k.sound);
       whole = whole;
@@ -96,11 +96,11 @@ kept_add vs after r k w can e whole =
 
 -- ---- one region less
 
-pub kept_remove : (vs after : List Region) (base : ℕ) → IsKept vs → after ≡ vad.remove_region vs base → vad.IsSpace after → IsKept after
+pub kept_remove : (vs after : List Region) (base : ℕ) → IsKeptSpace vs → after ≡ vad.remove_region vs base → vad.IsSpace after → IsKeptSpace after
 kept_remove vs after base k e whole =
-    let rs = shown vs in
+    let rs = shown_regions vs in
     let i = position_or_len (vad.begins_at base) vs in
-    let is : shown after ≡ remove rs i = ap shown e ∙ remove_shown vs base in
+    let is : shown_regions after ≡ remove rs i = ap shown_regions e ∙ remove_shown vs base in
     record {
       sound = subst IsSpace (sym is) (record { laid_out = laid_remove first_user_page rs i k.sound.laid_out; rows = each-remove RowsFit rs i k.sound.rows });
       whole = whole;
@@ -130,20 +130,33 @@ was_found t (Some f) r e =
       | false ↦ λ p k. (cc)
     ] refl e
 
--- the region with the base is the one that goes, whatever else is asked of it
-pub removed_place : (t : RegionOf (Unit {0}) → Bool) (vs : List Region) (addr : ℕ) (r : Found (RegionOf (Unit {0}))) → IsKept vs → both_where t (is_based addr) (shown vs) ≡ Some r → position_or_len (vad.begins_at (page_of addr)) vs ≡ r.place
-removed_place t vs addr r k e =
-    let w = was_found (λ x. t x && is_based addr x) (region_with (shown vs) (page_of addr)) r (sym (both_based t first_user_page (shown vs) addr k.sound.laid_out) ∙ e) in
+-- the region with the base is the one that is found, whatever else is asked of it
+based : (t : RegionOf (Unit {0}) → Bool) (vs : List Region) (addr : ℕ) (r : Found (RegionOf (Unit {0}))) → IsKeptSpace vs → both_where t (is_based addr) (shown_regions vs) ≡ Some r → option_map (place_of (vad.begins_at (page_of addr)) vs) (find (vad.begins_at (page_of addr)) vs) ≡ Some r
+based t vs addr r k e =
+    let w = was_found (λ x. t x && is_based addr x) (region_with (shown_regions vs) (page_of addr)) r (sym (both_based t first_user_page (shown_regions vs) addr k.sound.laid_out) ∙ e) in
     let passes : is_based addr r.thing ≡ true = (and-true (t r.thing) (is_based addr r.thing) w.1).1 in
     let base : address_of r.thing.base ≡ addr = eqb-true (address_of r.thing.base) addr passes in
     let whole : addr ≡ address_of (page_of addr) = omega (arith, base) in
-    let is : first_where (is_based addr) (shown vs) ≡ Some r = based_of_page first_user_page (shown vs) addr k.sound.laid_out ∙ ap (kept_if (is_based addr)) w.0 ∙ ap (λ b. cond b (Some r) None) passes in
+    let is : first_where (is_based addr) (shown_regions vs) ≡ Some r = based_of_page first_user_page (shown_regions vs) addr k.sound.laid_out ∙ ap (kept_if (is_based addr)) w.0 ∙ ap (λ b. cond b (Some r) None) passes in
     let found = first_shown (is_based addr) (vad.begins_at (page_of addr)) vs k.whole.whole (λ x w. same_page x.base.0 (page_of addr) addr whole) in
-    place_is (vad.begins_at (page_of addr)) vs (find (vad.begins_at (page_of addr)) vs) r (sym found ∙ is)
+    sym found ∙ is
 
-pub removed : (t : RegionOf (Unit {0}) → Bool) (vs after : List Region) (addr : ℕ) (r : Found (RegionOf (Unit {0}))) → IsKept vs → after ≡ vad.remove_region vs (page_of addr) → both_where t (is_based addr) (shown vs) ≡ Some r → shown after ≡ remove (shown vs) r.place
+-- it is the one that goes
+pub removed_place : (t : RegionOf (Unit {0}) → Bool) (vs : List Region) (addr : ℕ) (r : Found (RegionOf (Unit {0}))) → IsKeptSpace vs → both_where t (is_based addr) (shown_regions vs) ≡ Some r → position_or_len (vad.begins_at (page_of addr)) vs ≡ r.place
+removed_place t vs addr r k e = place_is (vad.begins_at (page_of addr)) vs (find (vad.begins_at (page_of addr)) vs) r (based t vs addr r k e)
+
+some_mapped : {A C : Type 0} (f : A → C) (o : Option A) → is_some (option_map f o) ≡ true → is_some o ≡ true
+some_mapped f None e = e
+some_mapped f (Some x) e = refl
+
+pub is_there : (t : RegionOf (Unit {0}) → Bool) (vs : List Region) (addr : ℕ) → IsKeptSpace vs → is_some (both_where t (is_based addr) (shown_regions vs)) ≡ true → is_some (vad.region_with_base vs (page_of addr)) ≡ true
+is_there t vs addr k e =
+    let r = there (both_where t (is_based addr) (shown_regions vs)) e in
+    some_mapped (place_of (vad.begins_at (page_of addr)) vs) (find (vad.begins_at (page_of addr)) vs) (ap is_some (based t vs addr r.thing k r.is))
+
+pub removed : (t : RegionOf (Unit {0}) → Bool) (vs after : List Region) (addr : ℕ) (r : Found (RegionOf (Unit {0}))) → IsKeptSpace vs → after ≡ vad.remove_region vs (page_of addr) → both_where t (is_based addr) (shown_regions vs) ≡ Some r → shown_regions after ≡ remove (shown_regions vs) r.place
 removed t vs after addr r k e at =
-    ap shown e ∙ remove_shown vs (page_of addr) ∙ ap (remove (shown vs)) (removed_place t vs addr r k at)
+    ap shown_regions e ∙ remove_shown vs (page_of addr) ∙ ap (remove (shown_regions vs)) (removed_place t vs addr r k at)
 
 -- ---- the lowest region
 
@@ -151,10 +164,10 @@ always : (vs : List Region) → vad.region_from vs 0 ≡ slice_get vs 0
 always [] = refl
 always (x ∷ vs) = ap (λ b. cond b (Some x) (find (λ (r : Region). nat_le 0 r.base.0) vs)) (le-leb 0 x.base.0 (omega arith))
 
-pub lowest_shown : (vs : List Region) (o : Option Region) → o ≡ vad.region_from vs 0 → slice_get (shown vs) 0 ≡ option_map region_of o
+pub lowest_shown : (vs : List Region) (o : Option Region) → o ≡ vad.region_from vs 0 → slice_get (shown_regions vs) 0 ≡ option_map region_of o
 lowest_shown vs o e = slice_get-map region_of vs 0 ∙ ap (option_map region_of) (sym (e ∙ always vs))
 
-pub some_lowest : (vs : List Region) (rs : List (RegionOf (Unit {0}))) → shown vs ≡ rs → 1 ≤ length rs → None ≡ vad.region_from vs 0 → ⊥
+pub some_lowest : (vs : List Region) (rs : List (RegionOf (Unit {0}))) → shown_regions vs ≡ rs → 1 ≤ length rs → None ≡ vad.region_from vs 0 → ⊥
 some_lowest [] rs same some e = absurd (omega (arith, some, ap (λ (xs : List (RegionOf (Unit {0}))). length xs) same))
 some_lowest (x ∷ vs) rs same some e = let bad : None ≡ Some x = e ∙ always (x ∷ vs) in cc
 
@@ -165,8 +178,15 @@ lowest_place (x ∷ vs) r e =
     let same : x ≡ r = cc in
     ap (λ b. cond (not b) (1 + position_or_len (vad.begins_at r.base.0) vs) 0) ((unsigned_Decides x.base.0 r.base.0).1 (ap (λ (g : Region). g.base.0) same))
 
-pub removed_lowest : (vs after : List Region) (r : Region) → Some r ≡ vad.region_from vs 0 → after ≡ vad.remove_region vs r.base.0 → shown after ≡ remove (shown vs) 0
-removed_lowest vs after r first e = ap shown e ∙ remove_shown vs r.base.0 ∙ ap (remove (shown vs)) (lowest_place vs r first)
+pub lowest_there : (vs : List Region) (r : Region) → Some r ≡ vad.region_from vs 0 → is_some (vad.region_with_base vs r.base.0) ≡ true
+lowest_there [] r e = cc
+lowest_there (x ∷ vs) r e =
+    let both : Some r ≡ Some x = e ∙ always (x ∷ vs) in
+    let same : x ≡ r = cc in
+    ap (λ b. is_some (cond b (Some x) (find (vad.begins_at r.base.0) vs))) ((unsigned_Decides x.base.0 r.base.0).1 (ap (λ (g : Region). g.base.0) same))
+
+pub removed_lowest : (vs after : List Region) (r : Region) → Some r ≡ vad.region_from vs 0 → after ≡ vad.remove_region vs r.base.0 → shown_regions after ≡ remove (shown_regions vs) 0
+removed_lowest vs after r first e = ap shown_regions e ∙ remove_shown vs r.base.0 ∙ ap (remove (shown_regions vs)) (lowest_place vs r first)
 
 -- ---- a new view
 
@@ -184,13 +204,13 @@ pub record IsViewRow (access : ViewAccess) (row : Row) : Type 0 where
   pub copied : row.copied ≡ false
 
 module _ (v : View) (prot : ℕ) (range : Range) (rows : List Row) (row : Row) (is : IsViewRow v.access row) (first : prot ≡ first_protection v.access) (all : rows ≡ replicate range.count row) where
-  same_row : row_of (kind.View v) row ≡ new_view_row v.access
+  same_row : shown_row (kind.View v) row ≡ new_view_row v.access
   same_row = λ i. record { prot = is.prot i; guard = is.guard i; marked = is.marked i; own = cond (is.copied i) (Some tt) None }
 
-  view_rows : map (row_of (kind.View v)) rows ≡ replicate range.count (new_view_row v.access)
+  view_rows : map (shown_row (kind.View v)) rows ≡ replicate range.count (new_view_row v.access)
   view_rows =
-      ap (map (row_of (kind.View v))) all
-      ∙ map-replicate (row_of (kind.View v)) range.count row
+      ap (map (shown_row (kind.View v))) all
+      ∙ map-replicate (shown_row (kind.View v)) range.count row
       ∙ ap (replicate range.count) same_row
 
   abbrev with_view : ℕ → View → List (RowOf (Unit {0})) → RegionOf (Unit {0})

@@ -13,8 +13,8 @@ use Rattle.mm_vad.specs.declared.regions.Region.{Region}
 use Rattle.mm_world.specs.World.{RowOf, RegionOf, WorldOf}
 use Rattle.mm_world.specs.Find.{Found, region_around, is_private}
 use Rattle.mm_world.specs.Rows.{reserved_row, row_at, is_committed, is_committed_at, every_page, every_page_from}
-use Rattle.mm_spaces.specs.Shown.{row_of, region_of}
-use Rattle.mm_spaces.specs.Tables.{rows_in, rows_of}
+use Rattle.mm_spaces.specs.Shown.{shown_row, region_of}
+use Rattle.mm_spaces.specs.Tables.{rows_in_range, rows_of}
 use Rattle.mm_spaces.specs.Kept.{IsAround}
 use Rattle.mm_spaces.proofs.Around.{is_around}
 
@@ -24,16 +24,16 @@ abbrev Test : Type 0
 Test = RowOf (Unit {0}) → Bool
 
 abbrev pub shown_rows : Kind → List Row → List (RowOf (Unit {0}))
-shown_rows k rows = map (row_of k) rows
+shown_rows k rows = map (shown_row k) rows
 
 -- the row that is read is the one that is shown, counted from the range's first
-pub read_row : (k : Kind) (rows : List Row) (first i : ℕ) (row : Row) → slice_get rows (first + i) ≡ Some row → get_or (drop first (shown_rows k rows)) i reserved_row ≡ row_of k row
+pub read_row : (k : Kind) (rows : List Row) (first i : ℕ) (row : Row) → slice_get rows (first + i) ≡ Some row → get_or (drop first (shown_rows k rows)) i reserved_row ≡ shown_row k row
 read_row k rows first i row e =
     get_or-drop first (shown_rows k rows) i reserved_row
-    ∙ get_or_from_slice_get (shown_rows k rows) (first + i) (row_of k row) reserved_row (slice_get-map (row_of k) rows (first + i) ∙ ap (option_map (row_of k)) e)
+    ∙ get_or_from_slice_get (shown_rows k rows) (first + i) (shown_row k row) reserved_row (slice_get-map (shown_row k) rows (first + i) ∙ ap (option_map (shown_row k)) e)
 
 pub shown_length : (k : Kind) (rows : List Row) (first : ℕ) → length (drop first (shown_rows k rows)) ≡ length rows - first
-shown_length k rows first = length-drop first (shown_rows k rows) ∙ ap (λ (n : ℕ). n - first) (length-map rows (row_of k))
+shown_length k rows first = length-drop first (shown_rows k rows) ∙ ap (λ (n : ℕ). n - first) (length-map rows (shown_row k))
 
 -- ---- the pages of a range
 
@@ -55,7 +55,7 @@ every_is_all p r first (suc count) low high =
     ∙ ap (λ (b : Bool). p row && b) (rest ∙ ap (λ (n : ℕ). list_all p (take count (drop n r.rows))) next)
     ∙ sym (ap (λ rows. list_all p (take (suc count) rows)) (drop-cons r.rows k d inside))
 
-pub every_row : (p : Test) (rs : List (RegionOf (Unit {0}))) (range : Range) (r : Found (RegionOf (Unit {0}))) → region_around rs range ≡ Some r → every_page (at_page p r.thing) range ≡ list_all p (rows_in rs range)
+pub every_row : (p : Test) (rs : List (RegionOf (Unit {0}))) (range : Range) (r : Found (RegionOf (Unit {0}))) → region_around rs range ≡ Some r → every_page (at_page p r.thing) range ≡ list_all p (rows_in_range rs range)
 every_row p rs range r e =
     let i = is_around rs range r e in
     every_is_all p r.thing range.first range.count i.low i.high ∙ ap (λ o. list_all p (rows_of range o)) (sym e)
@@ -80,7 +80,7 @@ every_alike p q first (suc count) same =
     ap (λ b. b && every_page_from p (first + 1) count) (same first (omega arith) (omega arith))
     ∙ ap (λ b. q first && b) rest
 
-pub every_owned : (w : WorldOf (Unit {0})) (rs : List (RegionOf (Unit {0}))) (range : Range) (r : Found (RegionOf (Unit {0}))) → region_around rs range ≡ Some r → is_private r.thing.kind ≡ true → every_page (is_committed_at w r.thing) range ≡ list_all (λ (row : RowOf (Unit {0})). is_some row.own) (rows_in rs range)
+pub every_owned : (w : WorldOf (Unit {0})) (rs : List (RegionOf (Unit {0}))) (range : Range) (r : Found (RegionOf (Unit {0}))) → region_around rs range ≡ Some r → is_private r.thing.kind ≡ true → every_page (is_committed_at w r.thing) range ≡ list_all (λ (row : RowOf (Unit {0})). is_some row.own) (rows_in_range rs range)
 every_owned w rs range r e private =
     every_alike (is_committed_at w r.thing) (at_page (λ row. is_some row.own) r.thing) range.first range.count (λ page low high. owned_is_committed w r.thing page private)
     ∙ every_row (λ row. is_some row.own) rs range r e
@@ -99,7 +99,7 @@ module _ (p : Test) (k : Kind) (rows : List Row) (first : ℕ) where
   abbrev behind : List (RowOf (Unit {0}))
   behind = drop first (shown_rows k rows)
 
-  pub not_all : (count i : ℕ) (row : Row) (b : Bool) → first + count ≤ length rows → i < count → slice_get rows (first + i) ≡ Some row → b ≡ p (row_of k row) → b ≡ false → list_all p (take count behind) ≡ false
+  pub not_all : (count i : ℕ) (row : Row) (b : Bool) → first + count ≤ length rows → i < count → slice_get rows (first + i) ≡ Some row → b ≡ p (shown_row k row) → b ≡ false → list_all p (take count behind) ≡ false
   not_all count i row b inside more at same fails =
       list_all_at p (take count behind) i reserved_row
       (omega (arith, length-take-le count behind (omega (arith, shown_length k rows first, inside)), more))

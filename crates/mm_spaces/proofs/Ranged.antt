@@ -3,7 +3,7 @@ use Rattle.std.proofs.Common.{◌≡◌, ℕ, zero, suc, ◌+◌, ◌-◌, ◌<�
 use Rattle.std.specs.Prelude.{All}
 use Rattle.std.proofs.lemmas.List.Elements.{All-head, All-tail}
 use Rattle.mm_types.specs.Address.{Range, end_of, holds_page, first_user_page, end_of_user_pages}
-use Rattle.mm_vad.specs.Ranges.{LieApart}
+use Rattle.mm_vad.specs.Ranges.{LieApart, range_at}
 use Rattle.mm_vad.specs.declared.regions.Region.{Region}
 use Rattle.mm_vad.specs.Regions.{SpaceOf}
 use Rattle.mm_vad.specs.Regions.{IsSpace as IsVad, pages_of as kept_pages, ranges_of as kept_ranges}
@@ -13,8 +13,8 @@ use Rattle.mm_world.specs.Rows.{change_rows}
 use Rattle.mm_world.proofs.Finding.{found_stands}
 use Rattle.mm_world.proofs.RowsFit.{length-change_range}
 use Rattle.mm_spaces.specs.declared.rows.RowChange.{RowChange}
-use Rattle.mm_spaces.specs.Shown.{region_of, shown}
-use Rattle.mm_spaces.specs.RowChanges.{changed, RunChanged, IsInRegion, range_at}
+use Rattle.mm_spaces.specs.Shown.{region_of, shown_regions}
+use Rattle.mm_spaces.specs.RowChanges.{changed_row, RunChanged, IsInRegion}
 use Rattle.mm_spaces.proofs.Shows.{shown_pages}
 use Rattle.mm_spaces.proofs.Around.{is_around, some_with, with_around, around_set, rising_shown}
 use Rattle.mm_world.proofs.Ranges.{within}
@@ -76,7 +76,7 @@ set_none (y ∷ xs) (suc i) x e = ap (λ rest. y ∷ rest) (set_none xs i x e)
 
 -- the rows of the first pages of the range are changed, and nothing else
 pub record Changing (change : RowChange) (range : Range) (done : ℕ) (old new : SpaceOf) : Type 0 where
-  pub after : (r : Found (RegionOf (Unit {0}))) → region_around (shown old.regions) range ≡ Some r → shown new.regions ≡ slice_set (shown old.regions) r.place (change_rows (changed change r.thing.kind) (range_at range.first done) r.thing)
+  pub after : (r : Found (RegionOf (Unit {0}))) → region_around (shown_regions old.regions) range ≡ Some r → shown_regions new.regions ≡ slice_set (shown_regions old.regions) r.place (change_rows (changed_row change r.thing.kind) (range_at range.first done) r.thing)
   pub spare : new.spare ≡ old.spare
   pub kept : IsVad old.regions → IsVad new.regions
 
@@ -87,43 +87,43 @@ pub changing_none : (change : RowChange) (range : Range) (s : SpaceOf) → Chang
 unfolding with_rows
 changing_none change range s = record {
   after = λ r e.
-      sym (ap (λ rows. slice_set (shown s.regions) r.place (with_rows r.thing rows)) (change_none (changed change r.thing.kind) (range.first - r.thing.base) r.thing.rows)
-      ∙ set_none (shown s.regions) r.place r.thing (found_stands _ (shown s.regions) r e).there);
+      sym (ap (λ rows. slice_set (shown_regions s.regions) r.place (with_rows r.thing rows)) (change_none (changed_row change r.thing.kind) (range.first - r.thing.base) r.thing.rows)
+      ∙ set_none (shown_regions s.regions) r.place r.thing (found_stands _ (shown_regions s.regions) r e).there);
   spare = refl;
   kept = λ v. v;
 }
 
 -- what the region around the range is after some of its rows are changed
-module _ (change : RowChange) (range : Range) (done : ℕ) (old now : SpaceOf) (h : Changing change range done old now) (r : Found (RegionOf (Unit {0}))) (e : region_around (shown old.regions) range ≡ Some r) where
+module _ (change : RowChange) (range : Range) (done : ℕ) (old now : SpaceOf) (h : Changing change range done old now) (r : Found (RegionOf (Unit {0}))) (e : region_around (shown_regions old.regions) range ≡ Some r) where
   abbrev so_far : RegionOf (Unit {0})
-  so_far = change_rows (changed change r.thing.kind) (range_at range.first done) r.thing
+  so_far = change_rows (changed_row change r.thing.kind) (range_at range.first done) r.thing
 
-  pub around_now : region_around (shown now.regions) range ≡ Some (record { place = r.place; thing = so_far })
+  pub around_now : region_around (shown_regions now.regions) range ≡ Some (record { place = r.place; thing = so_far })
   around_now =
       ap (λ rs. region_around rs range) (h.after r e)
-      ∙ around_set (shown old.regions) range r so_far e refl (length-change_range (changed change r.thing.kind) (range.first - r.thing.base) done r.thing.rows)
+      ∙ around_set (shown_regions old.regions) range r so_far e refl (length-change_range (changed_row change r.thing.kind) (range.first - r.thing.base) done r.thing.rows)
 
-pub some_now : (change : RowChange) (range : Range) (done k : ℕ) (old now : SpaceOf) → IsInRegion (shown old.regions) range → Changing change range done old now → k < range.count → is_some (region_with (shown now.regions) (range.first + k)) ≡ true
+pub some_now : (change : RowChange) (range : Range) (done k : ℕ) (old now : SpaceOf) → IsInRegion (shown_regions old.regions) range → Changing change range done old now → k < range.count → is_some (region_with (shown_regions now.regions) (range.first + k)) ≡ true
 some_now change range done k old now inside h more =
-    by_around (region_around (shown old.regions) range) refl inside
+    by_around (region_around (shown_regions old.regions) range) refl inside
   where
-    by_around : (o : Option (Found (RegionOf (Unit {0})))) → region_around (shown old.regions) range ≡ o → is_some o ≡ true → is_some (region_with (shown now.regions) (range.first + k)) ≡ true
+    by_around : (o : Option (Found (RegionOf (Unit {0})))) → region_around (shown_regions old.regions) range ≡ o → is_some o ≡ true → is_some (region_with (shown_regions now.regions) (range.first + k)) ≡ true
     by_around None e p = cc
-    by_around (Some r) e p = some_with (shown now.regions) range (range.first + k) _ (around_now change range done old now h r e) (record { low = omega arith; high = omega (arith, more) })
+    by_around (Some r) e p = some_with (shown_regions now.regions) range (range.first + k) _ (around_now change range done old now h r e) (record { low = omega arith; high = omega (arith, more) })
 
 -- so many rows more were changed
-pub changing_more : (change : RowChange) (range : Range) (done n : ℕ) (old now new : SpaceOf) → Changing change range done old now → 0 < n → done + n ≤ range.count → IsVad now.regions → RunChanged change (range_at (range.first + done) n) (shown now.regions) (shown new.regions) → new.spare ≡ now.spare → IsVad new.regions → Changing change range (done + n) old new
+pub changing_more : (change : RowChange) (range : Range) (done n : ℕ) (old now new : SpaceOf) → Changing change range done old now → 0 < n → done + n ≤ range.count → IsVad now.regions → RunChanged change (range_at (range.first + done) n) (shown_regions now.regions) (shown_regions new.regions) → new.spare ≡ now.spare → IsVad new.regions → Changing change range (done + n) old new
 unfolding with_rows
 changing_more change range done n old now new h some more sound step spare kept = record {
   after = λ r e.
-      let f = changed change r.thing.kind in
-      let rs = shown old.regions in
+      let f = changed_row change r.thing.kind in
+      let rs = shown_regions old.regions in
       let page = range.first + done in
       let part = change_rows f (range_at range.first done) r.thing in
       let first = range.first - r.thing.base in
       let i = is_around rs range r e in
       let rising = rising_shown first_user_page now.regions sound.whole sound.apart in
-      let with_page = with_around first_user_page (shown now.regions) range page (record { place = r.place; thing = part }) rising (around_now change range done old now h r e) (record { low = omega arith; high = omega (arith, some, more) }) in
+      let with_page = with_around first_user_page (shown_regions now.regions) range page (record { place = r.place; thing = part }) rising (around_now change range done old now h r e) (record { low = omega arith; high = omega (arith, some, more) }) in
       let k = page - r.thing.base in
       let made : change_range f k n part.rows ≡ change_range f first (done + n) r.thing.rows =
       ap (λ (q : ℕ). change_range f q n part.rows) (let q : k ≡ first + done = omega (arith, i.low) in q) ∙ change_join f first done n r.thing.rows (omega (arith, i.low, i.high, more)) in
@@ -136,7 +136,7 @@ changing_more change range done n old now new h some more sound step spare kept 
 }
 
 -- a page of a region is a user page
-pub user_page : (low : ℕ) (gs : List Region) (page : ℕ) → LieApart low (kept_ranges gs) → All (λ g. length g.rows ≡ g.pages) gs → is_some (region_with (shown gs) page) ≡ true → page < end_of_user_pages
+pub user_page : (low : ℕ) (gs : List Region) (page : ℕ) → LieApart low (kept_ranges gs) → All (λ g. length g.rows ≡ g.pages) gs → is_some (region_with (shown_regions gs) page) ≡ true → page < end_of_user_pages
 user_page low [] page h a e = cc
 user_page low (x ∷ xs) page h a e = by_test (holds_page (pages_of (region_of x)) page) refl e (λ there. user_page (end_of (kept_pages x)) xs page h.1 (All-tail (λ (g : Region). length g.rows ≡ g.pages) x xs a) there)
   where
@@ -144,8 +144,8 @@ user_page low (x ∷ xs) page h a e = by_test (holds_page (pages_of (region_of x
     by_later None e = cc
     by_later (Some r) e = refl
 
-    by_test : (b : Bool) → holds_page (pages_of (region_of x)) page ≡ b → is_some (cond b (Some (record { place = 0; thing = region_of x })) (option_map one_later (region_with (shown xs) page))) ≡ true → (is_some (region_with (shown xs) page) ≡ true → page < end_of_user_pages) → page < end_of_user_pages
+    by_test : (b : Bool) → holds_page (pages_of (region_of x)) page ≡ b → is_some (cond b (Some (record { place = 0; thing = region_of x })) (option_map one_later (region_with (shown_regions xs) page))) ≡ true → (is_some (region_with (shown_regions xs) page) ≡ true → page < end_of_user_pages) → page < end_of_user_pages
     by_test true t k rest =
         let ends : end_of (pages_of (region_of x)) ≡ end_of (kept_pages x) = ap end_of (shown_pages x (All-head (λ (g : Region). length g.rows ≡ g.pages) x xs a)) in
         omega (arith, (within (pages_of (region_of x)) page t).high, h.0.within, ends)
-    by_test false f k rest = rest (by_later (region_with (shown xs) page) k)
+    by_test false f k rest = rest (by_later (region_with (shown_regions xs) page) k)

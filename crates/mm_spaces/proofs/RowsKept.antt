@@ -18,10 +18,10 @@ use Rattle.mm_world.proofs.Finding.{found_stands}
 use Rattle.mm_world.proofs.RowsFit.{length-change_range, reserved_fits, commit_fits, rows_change, view_rows_protected}
 use Rattle.mm_world.proofs.LaidOut.{flags_stay}
 use Rattle.mm_world.proofs.Spaces.{space_set}
-use Rattle.mm_spaces.specs.Tables.{rows_in, rows_of}
+use Rattle.mm_spaces.specs.Tables.{rows_in_range, rows_of}
 use Rattle.mm_spaces.specs.declared.rows.RowChange.{RowChange}
 use Rattle.mm_spaces.specs.declared.rows.RowChange.TheVariants as change
-use Rattle.mm_spaces.specs.RowChanges.{changed, owns}
+use Rattle.mm_spaces.specs.RowChanges.{changed_row, owns}
 use Rattle.mm_spaces.proofs.Around.{is_around}
 
 abbrev pub Regions : Type 0
@@ -61,7 +61,7 @@ unfolding one_row
 view_protected v prot row e h =
     (view_rows_protected (one_row v row) v prot (record { first = 0; count = 1 }) refl (h, tt) (omega arith) (and_true (accepts (one_row v row) prot 0) e)).0
 
-pub fits_after : (c : RowChange) (k : Kind) (row : RowOf (Unit {0})) → CanChange c k row → RowFits k row → RowFits k (changed c k row)
+pub fits_after : (c : RowChange) (k : Kind) (row : RowOf (Unit {0})) → CanChange c k row → RowFits k row → RowFits k (changed_row c k row)
 unfolding unguarded
 fits_after (change.Commit prot) kind.Private row can h = commit_fits tt prot row can.1
 fits_after (change.Commit prot) (kind.View v) row can h = let bad : false ≡ true = can.0 in cc
@@ -80,18 +80,18 @@ fits_after change.Copy (kind.View v) row can h = copied_fits row.marked can.1
 
 -- ---- the rows of a region
 
-pub sound_rows : (c : RowChange) (rs : Regions) (range : Range) (r : Found (RegionOf (Unit {0}))) → region_around rs range ≡ Some r → ((page : ℕ) (row : RowOf (Unit {0})) → range.first ≤ page → page < end_of range → row_at r.thing page ≡ Some row → CanChange c r.thing.kind row) → IsSpace rs → IsSpace (slice_set rs r.place (change_rows (changed c r.thing.kind) range r.thing))
+pub sound_rows : (c : RowChange) (rs : Regions) (range : Range) (r : Found (RegionOf (Unit {0}))) → region_around rs range ≡ Some r → ((page : ℕ) (row : RowOf (Unit {0})) → range.first ≤ page → page < end_of range → row_at r.thing page ≡ Some row → CanChange c r.thing.kind row) → IsSpace rs → IsSpace (slice_set rs r.place (change_rows (changed_row c r.thing.kind) range r.thing))
 sound_rows c rs range r e can h =
-    let f = changed c r.thing.kind in
+    let f = changed_row c r.thing.kind in
     space_set rs r.place r.thing (change_rows f range r.thing) (found_stands _ rs r e).there refl
     (length-change_range f (range.first - r.thing.base) range.count r.thing.rows)
     (flags_stay r.thing (change_rows f range r.thing) refl (length-change_range f (range.first - r.thing.base) range.count r.thing.rows) refl)
     (λ fit. rows_change f range r.thing fit (is_around rs range r e).low (λ page row low high at fits. fits_after c r.thing.kind row (can page row low high at) fits))
     h
 
-pub sound_row : (c : RowChange) (rs : Regions) (page : ℕ) (r : Found (RegionOf (Unit {0}))) (row : RowOf (Unit {0})) → region_with rs page ≡ Some r → row_at r.thing page ≡ Some row → CanChange c r.thing.kind row → IsSpace rs → IsSpace (slice_set rs r.place (record r.thing { rows = slice_set r.thing.rows (page - r.thing.base) (changed c r.thing.kind row) }))
+pub sound_row : (c : RowChange) (rs : Regions) (page : ℕ) (r : Found (RegionOf (Unit {0}))) (row : RowOf (Unit {0})) → region_with rs page ≡ Some r → row_at r.thing page ≡ Some row → CanChange c r.thing.kind row → IsSpace rs → IsSpace (slice_set rs r.place (record r.thing { rows = slice_set r.thing.rows (page - r.thing.base) (changed_row c r.thing.kind row) }))
 sound_row c rs page r row e at can h =
-    let new = changed c r.thing.kind row in
+    let new = changed_row c r.thing.kind row in
     space_set rs r.place r.thing (record r.thing { rows = slice_set r.thing.rows (page - r.thing.base) new }) (found_stands _ rs r e).there refl
     (length-set r.thing.rows (page - r.thing.base) new)
     (flags_stay r.thing (record r.thing { rows = slice_set r.thing.rows (page - r.thing.base) new }) refl (length-set r.thing.rows (page - r.thing.base) new) refl)
@@ -117,7 +117,7 @@ all_at (x ∷ rows) zero (suc count) (suc k) row h low high e = all_at rows zero
 all_at (x ∷ rows) (suc first) count zero row h low high e = absurd (omega (arith, low))
 all_at (x ∷ rows) (suc first) count (suc k) row h low high e = all_at rows first count k row h (omega (arith, low)) (omega (arith, high)) e
 
-pub can_protect : (rs : Regions) (range : Range) (r : Found (RegionOf (Unit {0}))) (prot : ℕ) → region_around rs range ≡ Some r → every_page (accepts r.thing prot) range ≡ true → (is_private r.thing.kind ≡ true → list_all owns (rows_in rs range) ≡ true) → (page : ℕ) (row : RowOf (Unit {0})) → range.first ≤ page → page < end_of range → row_at r.thing page ≡ Some row → CanChange (change.Protect prot) r.thing.kind row
+pub can_protect : (rs : Regions) (range : Range) (r : Found (RegionOf (Unit {0}))) (prot : ℕ) → region_around rs range ≡ Some r → every_page (accepts r.thing prot) range ≡ true → (is_private r.thing.kind ≡ true → list_all owns (rows_in_range rs range) ≡ true) → (page : ℕ) (row : RowOf (Unit {0})) → range.first ≤ page → page < end_of range → row_at r.thing page ≡ Some row → CanChange (change.Protect prot) r.thing.kind row
 can_protect rs range r prot e takes all page row low high at =
     let i = is_around rs range r e in
     let here = every_page-at (accepts r.thing prot) range.first range.count page takes low high in (

@@ -19,38 +19,38 @@ use Rattle.mm_world.specs.Find.{Found, region_with, is_private}
 use Rattle.mm_world.specs.Rows.{is_committed}
 use Rattle.mm_world.specs.Query.{PageState, same_state, first_run, row_state, page_states, region_info, next_base, type_of}
 use Rattle.mm_world.specs.WellFormed.{Each, RowFits, PrivateRowFits}
-use Rattle.mm_spaces.specs.Shown.{row_of, region_of, shown}
-use Rattle.mm_spaces.specs.Finds.{IsKept}
+use Rattle.mm_spaces.specs.Shown.{shown_row, region_of, shown_regions}
+use Rattle.mm_spaces.specs.Finds.{IsKeptSpace}
 use Rattle.mm_spaces.proofs.Carried.{map_drop}
-use Rattle.mm_spaces.specs.Kept.{IsAt}
+use Rattle.mm_spaces.specs.Kept.{IsRegionAt}
 use Rattle.mm_spaces.proofs.Kept.{found_has, private_low}
 use Rattle.mm_types.proofs.Booleans.{and_true, and_false}
 
 -- ---- the next region
 
-find_shown : (test : RegionOf (Unit {0}) → Bool) (t : Region → Bool) (vs : List Region) → ((r : Region) → test (region_of r) ≡ t r) → find test (shown vs) ≡ option_map region_of (find t vs)
+find_shown : (test : RegionOf (Unit {0}) → Bool) (t : Region → Bool) (vs : List Region) → ((r : Region) → test (region_of r) ≡ t r) → find test (shown_regions vs) ≡ option_map region_of (find t vs)
 find_shown test t [] same = refl
 find_shown test t (x ∷ xs) same =
     let later = find_shown test t xs same in
-    ap (λ b. cond b (Some (region_of x)) (find test (shown xs))) (same x)
-    ∙ elim (t x) as (λ b. cond b (Some (region_of x)) (find test (shown xs)) ≡ option_map region_of (cond b (Some x) (find t xs))) [
+    ap (λ b. cond b (Some (region_of x)) (find test (shown_regions xs))) (same x)
+    ∙ elim (t x) as (λ b. cond b (Some (region_of x)) (find test (shown_regions xs)) ≡ option_map region_of (cond b (Some x) (find t xs))) [
       | true ↦ refl
       | false ↦ later
     ]
 
-next_shown : (vs : List Region) (page : ℕ) (o : Option Region) → o ≡ vad.region_from vs (page + 1) → next_base (shown vs) page ≡ unwrap_or (option_map (λ r. r.base) (option_map region_of o)) end_of_user_pages
+next_shown : (vs : List Region) (page : ℕ) (o : Option Region) → o ≡ vad.region_from vs (page + 1) → next_base (shown_regions vs) page ≡ unwrap_or (option_map (λ r. r.base) (option_map region_of o)) end_of_user_pages
 next_shown vs page o e =
     let next : suc page ≡ page + 1 = omega arith in
     let found = find_shown (λ r. nat_lt page r.base) (λ r. nat_le (page + 1) r.base.0) vs (λ r. ap (λ n. nat_le n r.base.0) next) in
     ap (λ x. unwrap_or (option_map (λ (r : RegionOf (Unit {0})). r.base) x) end_of_user_pages) (found ∙ ap (option_map region_of) (sym e))
 
-pub next_is : (vs : List Region) (page : ℕ) (r : Region) → Some r ≡ vad.region_from vs (page + 1) → r.base.0 ≡ next_base (shown vs) page
+pub next_is : (vs : List Region) (page : ℕ) (r : Region) → Some r ≡ vad.region_from vs (page + 1) → r.base.0 ≡ next_base (shown_regions vs) page
 next_is vs page r e = sym (next_shown vs page (Some r) e)
 
-pub no_next : (vs : List Region) (page : ℕ) → None ≡ vad.region_from vs (page + 1) → end_of_user_pages ≡ next_base (shown vs) page
+pub no_next : (vs : List Region) (page : ℕ) → None ≡ vad.region_from vs (page + 1) → end_of_user_pages ≡ next_base (shown_regions vs) page
 no_next vs page e = sym (next_shown vs page None e)
 
-pub next_behind : (vs : List Region) (page : ℕ) (r : Region) → IsKept vs → Some r ≡ vad.region_from vs (page + 1) → (page ≤ r.base.0) × (r.base.0 ≤ end_of_user_pages)
+pub next_behind : (vs : List Region) (page : ℕ) (r : Region) → IsKeptSpace vs → Some r ≡ vad.region_from vs (page + 1) → (page ≤ r.base.0) × (r.base.0 ≤ end_of_user_pages)
 next_behind vs page r k e =
     let h = found_has (λ g. FollowsFrom first_user_page (vad.pages_of g)) (λ g. nat_le (page + 1) g.base.0) vs r (each_region vs k.whole) (sym e) in
     let low : page + 1 ≤ r.base.0 = leb-true _ _ h.0 in
@@ -62,7 +62,7 @@ abbrev own_by : Bool → Option (Unit {0})
 own_by committed = cond committed (Some tt) None
 
 abbrev pub state_of : Row → PageState
-state_of row = row_state row.committed (row_of kind.Private row)
+state_of row = row_state row.committed (shown_row kind.Private row)
 
 abbrev state_by : Bool → ℕ → Bool → PageState
 state_by committed prot guard = row_state {B = Unit {0}} committed (record { prot = prot; guard = guard; marked = false; own = None })
@@ -78,7 +78,7 @@ same_sum a b =
     ] refl
 
 state_is : (row : Row) → state_of row ≡ state_by row.committed row.prot.0 row.guard
-state_is row = elim row.committed as (λ b. row_state b (row_of kind.Private row) ≡ state_by b row.prot.0 row.guard) [ true ↦ refl | false ↦ refl ]
+state_is row = elim row.committed as (λ b. row_state b (shown_row kind.Private row) ≡ state_by b row.prot.0 row.guard) [ true ↦ refl | false ↦ refl ]
 
 -- pages look alike where they are in one state
 alike_by : (ca cb ga gb : Bool) (pa pb : ℕ) → (ca ≡ true → pa < 0x100) → (cb ≡ true → pb < 0x100) → same_state (state_by ca pa ga) (state_by cb pb gb) ≡ same_look (look_by ca pa ga) (look_by cb pb gb)
@@ -90,20 +90,20 @@ alike_by true false ga gb pa pb la lb = refl
 alike_by false true ga gb pa pb la lb = refl
 alike_by false false ga gb pa pb la lb = refl
 
-low_prot : (row : Row) → PrivateRowFits (row_of kind.Private row) → row.committed ≡ true → row.prot.0 < 0x100
+low_prot : (row : Row) → PrivateRowFits (shown_row kind.Private row) → row.committed ≡ true → row.prot.0 < 0x100
 low_prot row h e = private_low row.prot.0 (h.committed (ap (λ b. is_some (own_by b)) e))
 
-alike : (a b : Row) → PrivateRowFits (row_of kind.Private a) → PrivateRowFits (row_of kind.Private b) → same_state (state_of a) (state_of b) ≡ are_alike a b
+alike : (a b : Row) → PrivateRowFits (shown_row kind.Private a) → PrivateRowFits (shown_row kind.Private b) → same_state (state_of a) (state_of b) ≡ are_alike a b
 alike a b ha hb =
     ap (λ s. same_state s (state_of b)) (state_is a)
     ∙ ap (same_state (state_by a.committed a.prot.0 a.guard)) (state_is b)
     ∙ alike_by a.committed b.committed a.guard b.guard a.prot.0 b.prot.0 (low_prot a ha) (low_prot b hb)
 
 abbrev Fit : List Row → Type 0
-Fit rows = Each (RowFits kind.Private) (map (row_of kind.Private) rows)
+Fit rows = Each (RowFits kind.Private) (map (shown_row kind.Private) rows)
 
 -- a run of states is a run of rows that are alike
-run_alike : (a : Row) (rows : List Row) → PrivateRowFits (row_of kind.Private a) → Fit rows → length (take_while (same_state (state_of a)) (map state_of rows)) ≡ length (take_while (are_alike a) rows)
+run_alike : (a : Row) (rows : List Row) → PrivateRowFits (shown_row kind.Private a) → Fit rows → length (take_while (same_state (state_of a)) (map state_of rows)) ≡ length (take_while (are_alike a) rows)
 run_alike a [] ha h = refl
 run_alike a (x ∷ xs) ha h =
     let later = run_alike a xs ha h.1 in
@@ -120,7 +120,7 @@ self_alike true true prot = ap (λ b. b && true) ((unsigned_Decides prot prot).1
 self_alike true false prot = ap (λ b. b && true) ((unsigned_Decides prot prot).1 refl)
 self_alike false guard prot = refl
 
-run_states : (rows : List Row) → Fit rows → (first_run (map state_of rows)).1 ≡ looks.first_run rows
+run_states : (rows : List Row) → Fit rows → (first_run (map state_of rows)).1 ≡ looks.first_alike rows
 run_states [] h = refl
 run_states (row ∷ rows) h =
     let one : 1 + length (take_while (are_alike row) rows) ≡ suc (length (take_while (are_alike row) rows)) = omega arith in
@@ -129,13 +129,13 @@ run_states (row ∷ rows) h =
     ∙ sym (ap (λ b. length (cond b (row ∷ take_while (are_alike row) rows) [])) (self_alike row.committed row.guard row.prot.0))
     ∙ sym (ap length (take_while-cons (are_alike row) row rows))
 
-committed_is : (w : WorldOf (Unit {0})) (i : ℕ) (row : Row) → is_committed w kind.Private i (row_of kind.Private row) ≡ row.committed
+committed_is : (w : WorldOf (Unit {0})) (i : ℕ) (row : Row) → is_committed w kind.Private i (shown_row kind.Private row) ≡ row.committed
 committed_is w i row = elim row.committed as (λ b. is_some (own_by b) ≡ b) [ true ↦ refl | false ↦ refl ]
 
-states_are : (w : WorldOf (Unit {0})) (i : ℕ) (rows : List Row) → page_states w kind.Private i (map (row_of kind.Private) rows) ≡ map state_of rows
+states_are : (w : WorldOf (Unit {0})) (i : ℕ) (rows : List Row) → page_states w kind.Private i (map (shown_row kind.Private) rows) ≡ map state_of rows
 states_are w i [] = refl
 states_are w i (row ∷ rows) =
-    ap (λ b. row_state b (row_of kind.Private row) ∷ page_states w kind.Private (i + 1) (map (row_of kind.Private) rows)) (committed_is w i row)
+    ap (λ b. row_state b (shown_row kind.Private row) ∷ page_states w kind.Private (i + 1) (map (shown_row kind.Private) rows)) (committed_is w i row)
     ∙ ap (λ ss. state_of row ∷ ss) (states_are w (i + 1) rows)
 
 fit_drop : (n : ℕ) (rows : List Row) → Fit rows → Fit (drop n rows)
@@ -150,7 +150,7 @@ first_state (suc i) (x ∷ xs) row e = first_state i xs row e
 
 -- ---- a page in a region
 
-module _ (rs : List (RegionOf (Unit {0}))) (page : ℕ) (g : Region) (at : IsAt rs page g) where
+module _ (rs : List (RegionOf (Unit {0}))) (page : ℕ) (g : Region) (at : IsRegionAt rs page g) where
   abbrev pub states : WorldOf (Unit {0}) → RegionOf (Unit {0}) → List PageState
   states w r = drop (page - r.base) (page_states w r.kind 0 r.rows)
 
@@ -178,11 +178,11 @@ module _ (rs : List (RegionOf (Unit {0}))) (page : ℕ) (g : Region) (at : IsAt 
   module _ (private : g.kind ≡ kind.Private) where
     private_states : (w : WorldOf (Unit {0})) → states w (region_of g) ≡ drop (page - g.base.0) (map state_of g.rows)
     private_states w =
-        ap (λ k. drop (page - g.base.0) (page_states w k 0 (map (row_of k) g.rows))) private
+        ap (λ k. drop (page - g.base.0) (page_states w k 0 (map (shown_row k) g.rows))) private
         ∙ ap (drop (page - g.base.0)) (states_are w 0 g.rows)
 
     private_fit : Fit g.rows
-    private_fit = subst (λ k. Each (RowFits k) (map (row_of k) g.rows)) private at.fit
+    private_fit = subst (λ k. Each (RowFits k) (map (shown_row k) g.rows)) private at.fit
 
     pub private_run : (w : WorldOf (Unit {0})) → (first_run (states w (region_of g))).1 ≡ run_from g.rows (page - g.base.0)
     private_run w =

@@ -16,9 +16,9 @@ use Rattle.mm_world.specs.Find.{Found, region_with, region_around, area_at, is_p
 use Rattle.mm_world.specs.Rows.{row_at, is_committed, is_committed_at, every_page, every_page_from}
 use Rattle.mm_world.specs.Query.{PageState, same_state, first_run, row_state, page_states, page_info, type_of}
 use Rattle.mm_world.specs.WellFormed.{Each, RowFits, ViewRowFits}
-use Rattle.mm_spaces.specs.Shown.{row_of, region_of}
-use Rattle.mm_spaces.specs.Kept.{IsAt, IsAround}
-use Rattle.mm_spaces.specs.ViewStates.{is_area_page, view_state, view_states, states_in, told}
+use Rattle.mm_spaces.specs.Shown.{shown_row, region_of}
+use Rattle.mm_spaces.specs.Kept.{IsRegionAt, IsAround}
+use Rattle.mm_spaces.specs.ViewStates.{is_area_page, view_state, view_states, states_in, state_told}
 use Rattle.mm_spaces.specs.declared.view_states.ToldState.{ToldState}
 use Rattle.mm_spaces.proofs.Around.{is_around}
 use Rattle.mm_world.proofs.Each.{each-at}
@@ -113,7 +113,7 @@ length_states a v i [] = refl
 length_states a v i (row ∷ rows) = ap suc (length_states a v (i + 1) rows)
 
 pub length_in : (a : Area) (v : View) (rows : List Row) → length (states_in a v rows) ≡ length rows
-length_in a v rows = length_states a v 0 (map (row_of (kind.View v)) rows) ∙ length-map rows (row_of (kind.View v))
+length_in a v rows = length_states a v 0 (map (shown_row (kind.View v)) rows) ∙ length-map rows (shown_row (kind.View v))
 
 world_states : (w : WorldOf (Unit {0})) (a : Area) (v : View) → area_at w v.area.0 ≡ a → (i : ℕ) (rows : List (RowOf (Unit {0}))) → page_states w (kind.View v) i rows ≡ view_states a v i rows
 world_states w a v e i [] = refl
@@ -122,12 +122,12 @@ world_states w a v e i (row ∷ rows) =
     ∙ ap (λ ss. view_state a v i row ∷ ss) (world_states w a v e (i + 1) rows)
 
 -- what is told of a page stands among the states
-pub seen : (a : Area) (v : View) (rows : List Row) (k : ℕ) (t : ToldState) → k < length rows → ((row : Row) → slice_get rows k ≡ Some row → told t ≡ view_state a v k (row_of (kind.View v) row)) → slice_get (states_in a v rows) k ≡ Some (told t)
+pub seen : (a : Area) (v : View) (rows : List Row) (k : ℕ) (t : ToldState) → k < length rows → ((row : Row) → slice_get rows k ≡ Some row → state_told t ≡ view_state a v k (shown_row (kind.View v) row)) → slice_get (states_in a v rows) k ≡ Some (state_told t)
 seen a v rows k t inside is =
     let row = has_row rows k inside in
     let here : 0 + k ≡ k = omega arith in
-    state_at a v 0 k (map (row_of (kind.View v)) rows) (row_of (kind.View v) row.0) (slice_get-map (row_of (kind.View v)) rows k ∙ ap (option_map (row_of (kind.View v))) row.1)
-    ∙ ap (λ n. Some (view_state a v n (row_of (kind.View v) row.0))) here
+    state_at a v 0 k (map (shown_row (kind.View v)) rows) (shown_row (kind.View v) row.0) (slice_get-map (shown_row (kind.View v)) rows k ∙ ap (option_map (shown_row (kind.View v))) row.1)
+    ∙ ap (λ n. Some (view_state a v n (shown_row (kind.View v) row.0))) here
     ∙ ap (λ s. Some s) (sym (is row.0 row.1))
 
 pub first_at : (k : ℕ) (ss : List PageState) (s : PageState) → slice_get ss k ≡ Some s → first_run (drop k ss) ≡ (s, 1 + length (take_while (same_state s) (drop (suc k) ss)))
@@ -143,27 +143,27 @@ run_at k ss s e =
     ∙ ap (λ n. 1 + n) (length-prefix_len (same_state s) (drop (k + 1) ss))
 
 -- a protection that is kept in a view is a byte
-pub view_low : (v : View) (rows : List Row) (k : ℕ) (row : Row) → Each (ViewRowFits v.access) (map (row_of (kind.View v)) rows) → slice_get rows k ≡ Some row → row.prot.0 < 0x100
-view_low v rows k row fit e = fit_low (kind.View v) (row_of (kind.View v) row) (each-at (ViewRowFits v.access) (map (row_of (kind.View v)) rows) k _ fit (slice_get-map (row_of (kind.View v)) rows k ∙ ap (option_map (row_of (kind.View v))) e))
+pub view_low : (v : View) (rows : List Row) (k : ℕ) (row : Row) → Each (ViewRowFits v.access) (map (shown_row (kind.View v)) rows) → slice_get rows k ≡ Some row → row.prot.0 < 0x100
+view_low v rows k row fit e = fit_low (kind.View v) (shown_row (kind.View v) row) (each-at (ViewRowFits v.access) (map (shown_row (kind.View v)) rows) k _ fit (slice_get-map (shown_row (kind.View v)) rows k ∙ ap (option_map (shown_row (kind.View v))) e))
 
 -- ---- a page in a view
 
-module _ (rs : List (RegionOf (Unit {0}))) (page : ℕ) (g : Region) (at : IsAt rs page g) (u : View) (kept : g.kind ≡ kind.View u) where
-  pub view_fit : Each (ViewRowFits u.access) (map (row_of (kind.View u)) g.rows)
-  view_fit = subst (λ k. Each (RowFits k) (map (row_of k) g.rows)) kept at.fit
+module _ (rs : List (RegionOf (Unit {0}))) (page : ℕ) (g : Region) (at : IsRegionAt rs page g) (u : View) (kept : g.kind ≡ kind.View u) where
+  pub view_fit : Each (ViewRowFits u.access) (map (shown_row (kind.View u)) g.rows)
+  view_fit = subst (λ k. Each (RowFits k) (map (shown_row k) g.rows)) kept at.fit
 
   pub states_are : (w : WorldOf (Unit {0})) (a : Area) → area_at w u.area.0 ≡ a → states rs page g at w (region_of g) ≡ drop (page - g.base.0) (states_in a u g.rows)
   states_are w a same =
-      ap (λ k. drop (page - g.base.0) (page_states w k 0 (map (row_of k) g.rows))) kept
-      ∙ ap (drop (page - g.base.0)) (world_states w a u same 0 (map (row_of (kind.View u)) g.rows))
+      ap (λ k. drop (page - g.base.0) (page_states w k 0 (map (shown_row k) g.rows))) kept
+      ∙ ap (drop (page - g.base.0)) (world_states w a u same 0 (map (shown_row (kind.View u)) g.rows))
 
-pub state_read : (a : Area) (v : View) (rows : List Row) (k : ℕ) (got row : Row) (t : ToldState) (b : Bool) → slice_get rows k ≡ Some got → slice_get rows k ≡ Some row → told t ≡ row_state b (row_of (kind.View v) got) → b ≡ is_area_page a v k → told t ≡ view_state a v k (row_of (kind.View v) row)
+pub state_read : (a : Area) (v : View) (rows : List Row) (k : ℕ) (got row : Row) (t : ToldState) (b : Bool) → slice_get rows k ≡ Some got → slice_get rows k ≡ Some row → state_told t ≡ row_state b (shown_row (kind.View v) got) → b ≡ is_area_page a v k → state_told t ≡ view_state a v k (shown_row (kind.View v) row)
 state_read a v rows k got row t b e f is committed =
     let both : Some got ≡ Some row = sym e ∙ f in
     let same : got ≡ row = cc in
     is
-    ∙ ap (λ z. row_state z (row_of (kind.View v) got)) committed
-    ∙ ap (λ (x : Row). view_state a v k (row_of (kind.View v) x)) same
+    ∙ ap (λ z. row_state z (shown_row (kind.View v) got)) committed
+    ∙ ap (λ (x : Row). view_state a v k (shown_row (kind.View v) x)) same
 
 pub not_private : (k : Kind) → k ≡ kind.Private → is_private k ≡ false → ⊥
 not_private k e f = let bad : true ≡ false = ap is_private (sym e) ∙ f in cc
@@ -174,14 +174,14 @@ kind_around rs range g h b known = ap (λ (x : RegionOf (Unit {0})). is_private 
 
 -- ---- what a query tells of a page of a view
 
-module _ (rs : List (RegionOf (Unit {0}))) (page : ℕ) (g : Region) (at : IsAt rs page g) (u : View) (kept : g.kind ≡ kind.View u) where
-  pub view_told : (w : WorldOf (Unit {0})) (a : Area) (r : Found (RegionOf (Unit {0}))) (v : View) (t : ToldState) (n : ℕ) → region_with rs page ≡ Some r → r.thing.kind ≡ kind.View v → area_at w v.area.0 ≡ a → slice_get (states_in a u g.rows) (page - g.base.0) ≡ Some (told t) → n ≡ (first_run (drop (page - g.base.0) (states_in a u g.rows))).1 → info_by rs page g at (address_of n) (told t) 0x40000 ≡ page_info w rs page (region_with rs page)
+module _ (rs : List (RegionOf (Unit {0}))) (page : ℕ) (g : Region) (at : IsRegionAt rs page g) (u : View) (kept : g.kind ≡ kind.View u) where
+  pub view_told : (w : WorldOf (Unit {0})) (a : Area) (r : Found (RegionOf (Unit {0}))) (v : View) (t : ToldState) (n : ℕ) → region_with rs page ≡ Some r → r.thing.kind ≡ kind.View v → area_at w v.area.0 ≡ a → slice_get (states_in a u g.rows) (page - g.base.0) ≡ Some (state_told t) → n ≡ (first_run (drop (page - g.base.0) (states_in a u g.rows))).1 → info_by rs page g at (address_of n) (state_told t) 0x40000 ≡ page_info w rs page (region_with rs page)
   view_told w a r v t n e is same there run =
       let views : v ≡ u = same_view r.thing.kind v u is (ap (λ (x : RegionOf (Unit {0})). x.kind) (thing_at rs page g at r e) ∙ kept) in
       let area : area_at w u.area.0 ≡ a = subst (λ (x : View). area_at w x.area.0 ≡ a) views same in
       let all = states_are rs page g at u kept w a area in
-      region_told rs page g at w r (told t) n 0x40000 e
-      (ap (λ ss. (first_run ss).0) all ∙ ap (λ x. x.0) (first_at (page - g.base.0) (states_in a u g.rows) (told t) there))
+      region_told rs page g at w r (state_told t) n 0x40000 e
+      (ap (λ ss. (first_run ss).0) all ∙ ap (λ x. x.0) (first_at (page - g.base.0) (states_in a u g.rows) (state_told t) there))
       (run ∙ sym (ap (λ ss. (first_run ss).1) all))
       (sym (ap type_of kept))
       ∙ ap (page_info w rs page) (sym e)

@@ -10,9 +10,9 @@ use Rattle.mm_world.specs.Find.{Found, region_with, region_around}
 use Rattle.mm_world.specs.Rows.{row_at, accepts, every_page}
 use Rattle.mm_world.specs.WellFormed.{IsSpace}
 use Rattle.mm_world.proofs.Finding.{found_stands}
-use Rattle.mm_spaces.specs.Shown.{shown}
-use Rattle.mm_spaces.specs.Finds.{IsKept}
-use Rattle.mm_spaces.specs.Tables.{owned_in, rows_in, rows_of}
+use Rattle.mm_spaces.specs.Shown.{shown_regions}
+use Rattle.mm_spaces.specs.Finds.{IsKeptSpace}
+use Rattle.mm_spaces.specs.Tables.{owned_in, rows_in_range, rows_of}
 use Rattle.mm_spaces.specs.declared.rows.RowChange.{RowChange}
 use Rattle.mm_spaces.specs.RowChanges.{RowChanged, RowsChanged, owns}
 use Rattle.mm_spaces.proofs.Shows.{there}
@@ -25,19 +25,19 @@ use Rattle.mm_world.proofs.Ranges.{within}
 
 -- the range is said in two ways, and lies in one region
 pub record Same (vs : List Region) (inner : Range) (rs : Regions) (range : Range) : Type 0 where
-  pub regions : shown vs ≡ rs
+  pub regions : shown_regions vs ≡ rs
   pub range_is : inner ≡ range
 
 module _ (vs : List Region) (inner : Range) (rs : Regions) (range : Range) (same : Same vs inner rs range) where
-  pub inside : is_some (region_around rs range) ≡ true → is_some (region_around (shown vs) inner) ≡ true
+  pub inside : is_some (region_around rs range) ≡ true → is_some (region_around (shown_regions vs) inner) ≡ true
   inside e = ap (λ (x : Regions). is_some (region_around x inner)) same.regions ∙ ap (λ (x : Range). is_some (region_around rs x)) same.range_is ∙ e
 
-  pub owned : owned_in rs range ≡ range.count → owned_in (shown vs) inner ≡ inner.count
+  pub owned : owned_in rs range ≡ range.count → owned_in (shown_regions vs) inner ≡ inner.count
   owned e =
       ap (λ (x : Regions). owned_in x inner) same.regions ∙ ap (λ (x : Range). owned_in rs x) same.range_is ∙ e ∙ sym (ap (λ (x : Range). x.count) same.range_is)
 
   -- what is known of the region around the range, said in the other way
-  pub around : {P : Found (RegionOf (Unit {0})) → Type 0} → ((r : Found (RegionOf (Unit {0}))) → region_around rs range ≡ Some r → P r) → (r : Found (RegionOf (Unit {0}))) → region_around (shown vs) inner ≡ Some r → P r
+  pub around : {P : Found (RegionOf (Unit {0})) → Type 0} → ((r : Found (RegionOf (Unit {0}))) → region_around rs range ≡ Some r → P r) → (r : Found (RegionOf (Unit {0}))) → region_around (shown_regions vs) inner ≡ Some r → P r
   around known r e = known r (sym (ap (λ (x : Regions). region_around x inner) same.regions ∙ ap (λ (x : Range). region_around rs x) same.range_is) ∙ e)
 
   pub taken : (r : Found (RegionOf (Unit {0}))) (prot : ℕ) → every_page (accepts r.thing prot) range ≡ true → every_page (accepts r.thing prot) inner ≡ true
@@ -48,10 +48,10 @@ abbrev pub CanChangeRows : RowChange → Regions → Range → Type 0
 CanChangeRows c rs range =
     (r : Found (RegionOf (Unit {0}))) → region_around rs range ≡ Some r → (page : ℕ) (row : RowOf (Unit {0})) → range.first ≤ page → page < end_of range → row_at r.thing page ≡ Some row → CanChange c r.thing.kind row
 
-pub kept_rows : (vs after : List Region) (c : RowChange) (range : Range) → IsKept vs → is_some (region_around (shown vs) range) ≡ true → CanChangeRows c (shown vs) range → RowsChanged c range (shown vs) (shown after) → IsVad after → IsKept after
+pub kept_rows : (vs after : List Region) (c : RowChange) (range : Range) → IsKeptSpace vs → is_some (region_around (shown_regions vs) range) ≡ true → CanChangeRows c (shown_regions vs) range → RowsChanged c range (shown_regions vs) (shown_regions after) → IsVad after → IsKeptSpace after
 kept_rows vs after c range k some can changed whole =
-    let r = there (region_around (shown vs) range) some in
-    record { sound = subst IsSpace (sym (changed r.thing r.is)) (sound_rows c (shown vs) range r.thing r.is (can r.thing r.is) k.sound); whole = whole }
+    let r = there (region_around (shown_regions vs) range) some in
+    record { sound = subst IsSpace (sym (changed r.thing r.is)) (sound_rows c (shown_regions vs) range r.thing r.is (can r.thing r.is) k.sound); whole = whole }
 
 -- ---- all rows of a range are counted
 
@@ -72,7 +72,7 @@ counted_all p (suc n) (x ∷ xs) e = by_test (p x) refl (one_more p x (take n xs
     by_test true is one later = ap (λ b. b && list_all p (take n xs)) is ∙ later (omega (arith, e, one))
     by_test false is one later = absurd (omega (arith, e, one, counted_below p n xs))
 
-pub all_owned : (rs : Regions) (range : Range) → owned_in rs range ≡ range.count → list_all owns (rows_in rs range) ≡ true
+pub all_owned : (rs : Regions) (range : Range) → owned_in rs range ≡ range.count → list_all owns (rows_in_range rs range) ≡ true
 all_owned rs range e = by_found (region_around rs range) e
   where
     by_found : (o : Option (Found (RegionOf (Unit {0})))) → count_by owns (rows_of range o) ≡ range.count → list_all owns (rows_of range o) ≡ true
@@ -98,7 +98,7 @@ row_of_page rs page some =
 abbrev pub CanChangeRow : RowChange → Regions → ℕ → Type 0
 CanChangeRow c rs page = (r : Found (RegionOf (Unit {0}))) (row : RowOf (Unit {0})) → region_with rs page ≡ Some r → row_at r.thing page ≡ Some row → CanChange c r.thing.kind row
 
-pub kept_row : (vs after : List Region) (c : RowChange) (page : ℕ) → IsKept vs → is_some (region_with (shown vs) page) ≡ true → CanChangeRow c (shown vs) page → RowChanged c page (shown vs) (shown after) → IsVad after → IsKept after
+pub kept_row : (vs after : List Region) (c : RowChange) (page : ℕ) → IsKeptSpace vs → is_some (region_with (shown_regions vs) page) ≡ true → CanChangeRow c (shown_regions vs) page → RowChanged c page (shown_regions vs) (shown_regions after) → IsVad after → IsKeptSpace after
 kept_row vs after c page k some can changed whole =
-    let o = row_of_page (shown vs) page some in
-    record { sound = subst IsSpace (sym (changed o.found o.row o.there o.row_there)) (sound_row c (shown vs) page o.found o.row o.there o.row_there (can o.found o.row o.there o.row_there) k.sound); whole = whole }
+    let o = row_of_page (shown_regions vs) page some in
+    record { sound = subst IsSpace (sym (changed o.found o.row o.there o.row_there)) (sound_row c (shown_regions vs) page o.found o.row o.there o.row_there (can o.found o.row o.there o.row_there) k.sound); whole = whole }

@@ -4,7 +4,7 @@ use Rattle.std.specs.Prelude.{map}
 use Rattle.std.proofs.lemmas.List.{length-take, length-drop, get_or-take, get_or-drop, drop-drop, drop-take, take_all}
 use Rattle.mm_types.specs.Address.{address_of, page_of}
 use Rattle.mm_world.specs.Watch.{written_from}
-use Rattle.mm_vad.specs.Bits.{NoneSet, IsNextSet, flag_at}
+use Rattle.mm_vad.specs.Bits.{NoneSet, IsNextSet, bit_flag}
 use Rattle.mm_vad.specs.Regions.{LieAmong}
 
 no_page : (page : ℕ) (bits : List Bool) → ((i : ℕ) → i < length bits → get_or bits i false ≡ false) → written_from page bits ≡ []
@@ -35,10 +35,10 @@ module _ (written : List Bool) (base at end : ℕ) (within : end ≤ length writ
   length-piece : length (take (end - at) (drop at written)) ≡ end - at
   length-piece = omega (arith, length-take (end - at) (drop at written), length-drop at written)
 
-  pub none_between : NoneSet (flag_at written) at end → written_between written base at end ≡ []
+  pub none_between : NoneSet (bit_flag written) at end → written_between written base at end ≡ []
   none_between none = no_page (base + at) (take (end - at) (drop at written)) (λ i h. piece_at i (omega (arith, length-piece)) ∙ none.inside (at + i) (omega arith) (omega (arith, length-piece)))
 
-  pub next_between : (i : ℕ) → IsNextSet (flag_at written) at end i → written_between written base at end ≡ (base + i) ∷ written_between written base (i + 1) end
+  pub next_between : (i : ℕ) → IsNextSet (bit_flag written) at end i → written_between written base at end ≡ (base + i) ∷ written_between written base (i + 1) end
   next_between i next =
       let k = i - at in
       let there : at + k ≡ i = omega (arith, next.from) in
@@ -51,7 +51,7 @@ module _ (written : List Bool) (base at end : ℕ) (within : end ≤ length writ
       ∙ drop-take (suc k) (end - (i + 1)) (drop at written)
       ∙ ap (take (end - (i + 1))) (drop-drop (suc k) at written ∙ ap (λ (n : ℕ). drop n written) later) in
       first_page (base + at) (take (end - at) (drop at written)) k (omega (arith, length-piece, next.from, next.within))
-      (piece_at k (omega (arith, next.from, next.within)) ∙ ap (flag_at written) there ∙ next.is_set)
+      (piece_at k (omega (arith, next.from, next.within)) ∙ ap (bit_flag written) there ∙ next.is_set)
       (λ j h. piece_at j (omega (arith, next.from, next.within)) ∙ next.before.inside (at + j) (omega arith) (omega arith))
       ∙ ap (λ (p : ℕ). p ∷ written_from (base + at + k + 1) (drop (suc k) (take (end - at) (drop at written)))) place
       ∙ ap (λ (p : ℕ). (base + i) ∷ written_from p (drop (suc k) (take (end - at) (drop at written)))) place'

@@ -3,14 +3,14 @@ use Rattle.std.specs.Prelude.{◌≡◌, List, length}
 use Rattle.mm_vad.specs.declared.regions.Region.{Region}
 use Rattle.mm_vad.specs.Regions.{IsSpace as IsVad}
 use Rattle.mm_world.specs.WellFormed.{IsSpace, FlagsFit}
-use Rattle.mm_spaces.specs.Shown.{region_of, shown}
+use Rattle.mm_spaces.specs.Shown.{region_of, shown_regions}
 
 -- regions that lie apart on granules, their rows in order
-pub record IsKept (regions : List Region) : Type 0 where
-  pub sound : IsSpace (shown regions)
+pub record IsKeptSpace (regions : List Region) : Type 0 where
+  pub sound : IsSpace (shown_regions regions)
   pub whole : IsVad regions
 
 -- a region that is ready to be added: as many rows as pages, and where it is watched as many flags
-pub record IsWhole (r : Region) : Type 0 where
+pub record IsWholeRegion (r : Region) : Type 0 where
   pub rows : length r.rows ≡ r.pages
   pub flags : FlagsFit (region_of r)

@@ -10,7 +10,7 @@ use Rattle.mm_world.specs.WellFormed.{RowsFit}
 use Rattle.mm_spaces.specs.Shown.{region_of}
 
 -- the region in which a page lies, as it is kept
-pub record IsAt (regions : List (RegionOf (Unit {0}))) (page : ℕ) (r : Region) : Type 0 where
+pub record IsRegionAt (regions : List (RegionOf (Unit {0}))) (page : ℕ) (r : Region) : Type 0 where
   pub found : Found (RegionOf (Unit {0}))
   pub there : region_with regions page ≡ Some found
   pub is_shown : found.thing ≡ region_of r
@@ -26,8 +26,8 @@ abbrev pub both_where : (RegionOf (Unit {0}) → Bool) → (RegionOf (Unit {0}) 
     List (RegionOf (Unit {0})) → Option (Found (RegionOf (Unit {0})))
 both_where t test regions = first_where (λ x. t x && test x) regions
 
-abbrev pub one_if : Bool → Found (RegionOf (Unit {0})) → Option (Found (RegionOf (Unit {0})))
-one_if b f = if b then Some f else None
+abbrev pub found_if : Bool → Found (RegionOf (Unit {0})) → Option (Found (RegionOf (Unit {0})))
+found_if b f = if b then Some f else None
 
 abbrev pub surrounds : Range → RegionOf (Unit {0}) → Bool
 surrounds range x = lies_within range (pages_of x)
@@ -38,11 +38,11 @@ is_based addr x = address_of x.base == addr
 -- the one region in which all pages of the range lie
 pub record IsAround (regions : List (RegionOf (Unit {0}))) (range : Range) (r : Region) :
     Type 0 where
-  pub at : IsAt regions range.first r
+  pub at : IsRegionAt regions range.first r
   pub high : range.first - r.base.0 + range.count ≤ length r.rows
   pub around : region_around regions range ≡ Some at.found
   pub only : (t : RegionOf (Unit {0}) → Bool) →
-      both_where t (surrounds range) regions ≡ one_if (t at.found.thing) at.found
+      both_where t (surrounds range) regions ≡ found_if (t at.found.thing) at.found
 
 pub record NoneAround (regions : List (RegionOf (Unit {0}))) (range : Range) : Type 0 where
   pub around : region_around regions range ≡ None
@@ -50,9 +50,9 @@ pub record NoneAround (regions : List (RegionOf (Unit {0}))) (range : Range) : T
 
 -- the one region whose base is the address, to the byte
 pub record IsBased (regions : List (RegionOf (Unit {0}))) (addr : ℕ) (r : Region) : Type 0 where
-  pub at : IsAt regions (page_of addr) r
+  pub at : IsRegionAt regions (page_of addr) r
   pub only : (t : RegionOf (Unit {0}) → Bool) →
-      both_where t (is_based addr) regions ≡ one_if (t at.found.thing) at.found
+      both_where t (is_based addr) regions ≡ found_if (t at.found.thing) at.found
 
 pub record NoneBased (regions : List (RegionOf (Unit {0}))) (addr : ℕ) : Type 0 where
   pub only : (t : RegionOf (Unit {0}) → Bool) → both_where t (is_based addr) regions ≡ None

@@ -11,12 +11,12 @@ use Rattle.mm_spaces.specs.declared.rows.RowChange.TheVariants as change
 use Rattle.mm_types.specs.Protection.{readwrite}
 
 -- a row after the change, in a region of this kind
-abbrev pub changed : RowChange → Kind → RowOf (Unit {0}) → RowOf (Unit {0})
-changed (change.Commit prot) kind = commit tt prot
-changed change.Decommit kind = λ row. reserved_row
-changed (change.Protect prot) kind = protected kind prot
-changed change.GuardOff kind = λ row. record row { guard = false }
-changed change.Copy kind = λ row. record row { own = Some tt; prot = readwrite }
+abbrev pub changed_row : RowChange → Kind → RowOf (Unit {0}) → RowOf (Unit {0})
+changed_row (change.Commit prot) kind = commit tt prot
+changed_row change.Decommit kind = λ row. reserved_row
+changed_row (change.Protect prot) kind = protected kind prot
+changed_row change.GuardOff kind = λ row. record row { guard = false }
+changed_row change.Copy kind = λ row. record row { own = Some tt; prot = readwrite }
 
 -- all pages of the range lie in one region
 abbrev pub IsInRegion : List (RegionOf (Unit {0})) → Range → Type 0
@@ -26,9 +26,6 @@ IsInRegion regions range = is_some (region_around regions range) ≡ true
 abbrev pub owns : RowOf (Unit {0}) → Bool
 owns row = is_some row.own
 
-abbrev pub range_at : ℕ → ℕ → Range
-range_at first count = record { first = first; count = count }
-
 -- the row of the page was changed, and nothing else
 abbrev pub RowChanged : RowChange → ℕ → List (RegionOf (Unit {0})) → List (RegionOf (Unit {0})) →
     Type 0
@@ -36,7 +33,7 @@ RowChanged change page old new =
     (r : Found (RegionOf (Unit {0}))) (row : RowOf (Unit {0})) → region_with old page ≡ Some r →
     row_at r.thing page ≡ Some row →
     new ≡ slice_set old r.place (record r.thing {
-      rows = slice_set r.thing.rows (page - r.thing.base) (changed change r.thing.kind row);
+      rows = slice_set r.thing.rows (page - r.thing.base) (changed_row change r.thing.kind row);
     })
 
 -- the rows of the range, which begins in a region and lies in it, were changed, and nothing else
@@ -44,11 +41,11 @@ abbrev pub RunChanged : RowChange → Range → List (RegionOf (Unit {0})) →
     List (RegionOf (Unit {0})) → Type 0
 RunChanged change range old new =
     (r : Found (RegionOf (Unit {0}))) → region_with old range.first ≡ Some r →
-    new ≡ slice_set old r.place (change_rows (changed change r.thing.kind) range r.thing)
+    new ≡ slice_set old r.place (change_rows (changed_row change r.thing.kind) range r.thing)
 
 -- the rows of the range, which lies in one region, were changed, and nothing else
 abbrev pub RowsChanged : RowChange → Range → List (RegionOf (Unit {0})) →
     List (RegionOf (Unit {0})) → Type 0
 RowsChanged change range old new =
     (r : Found (RegionOf (Unit {0}))) → region_around old range ≡ Some r →
-    new ≡ slice_set old r.place (change_rows (changed change r.thing.kind) range r.thing)
+    new ≡ slice_set old r.place (change_rows (changed_row change r.thing.kind) range r.thing)

@@ -13,8 +13,8 @@ abbrev pub has_own : Kind → Row → Bool
 has_own kind.Private row = row.committed
 has_own (kind.View v) row = row.copied
 
-abbrev pub row_of : Kind → Row → RowOf (Unit {0})
-row_of kind row =
+abbrev pub shown_row : Kind → Row → RowOf (Unit {0})
+shown_row kind row =
     record {
       prot = row.prot.0;
       guard = row.guard;
@@ -27,7 +27,7 @@ region_of r = record {
   base = r.base.0;
   alloc_prot = r.alloc_prot.0;
   kind = r.kind;
-  rows = map (row_of r.kind) r.rows;
+  rows = map (shown_row r.kind) r.rows;
   watched = r.watched;
 }
 
@@ -35,5 +35,5 @@ region_of r = record {
 abbrev pub new_flags : Bool → ℕ → Option (List Bool)
 new_flags watched n = if watched then Some (replicate n false) else None
 
-abbrev pub shown : List Region → List (RegionOf (Unit {0}))
-shown regions = map region_of regions
+abbrev pub shown_regions : List Region → List (RegionOf (Unit {0}))
+shown_regions regions = map region_of regions

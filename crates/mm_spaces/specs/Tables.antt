@@ -32,8 +32,8 @@ told_row r page row =
       watched = is_some r.watched;
     }
 
-abbrev pub page_row : List (RegionOf (Unit {0})) → ℕ → Option PageRow
-page_row regions page =
+abbrev pub told_page_row : List (RegionOf (Unit {0})) → ℕ → Option PageRow
+told_page_row regions page =
     option_and_then (λ r. option_map (told_row r.thing page) (row_at r.thing page))
     (region_with regions page)
 
@@ -43,15 +43,15 @@ module _ {B : Type 0} where
   rows_of range (Some r) = take range.count (drop (range.first - r.thing.base) r.thing.rows)
 
   -- the rows of a range that lies in one region
-  abbrev pub rows_in : List (RegionOf B) → Range → List (RowOf B)
-  rows_in regions range = rows_of range (region_around regions range)
+  abbrev pub rows_in_range : List (RegionOf B) → Range → List (RowOf B)
+  rows_in_range regions range = rows_of range (region_around regions range)
 
   -- how many of them have bytes of their own, have no mark, have one
   abbrev pub owned_in : List (RegionOf B) → Range → ℕ
-  owned_in regions range = count_by (λ row. is_some row.own) (rows_in regions range)
+  owned_in regions range = count_by (λ row. is_some row.own) (rows_in_range regions range)
 
   abbrev pub unmarked_in : List (RegionOf B) → Range → ℕ
-  unmarked_in regions range = count_by (λ row. not row.marked) (rows_in regions range)
+  unmarked_in regions range = count_by (λ row. not row.marked) (rows_in_range regions range)
 
   abbrev pub marked_in : List (RegionOf B) → Range → ℕ
-  marked_in regions range = count_by (λ row. row.marked) (rows_in regions range)
+  marked_in regions range = count_by (λ row. row.marked) (rows_in_range regions range)

@@ -6,7 +6,7 @@ use Rattle.mm_types.specs.declared.views.Kind.TheVariants as kind
 use Rattle.mm_vad.specs.declared.pages.Row.{Row}
 use Rattle.mm_world.specs.World.{AreaOf, RowOf, numbered}
 use Rattle.mm_world.specs.Query.{PageState, row_state}
-use Rattle.mm_spaces.specs.Shown.{row_of}
+use Rattle.mm_spaces.specs.Shown.{shown_row}
 use Rattle.mm_spaces.specs.declared.view_states.ToldState.{ToldState}
 
 -- whether the page of a view is committed: the area's page with the view's first index and the
@@ -24,7 +24,7 @@ view_states a v i (row ∷ rows) = view_state a v i row ∷ view_states a v (i +
 
 -- the same of the rows that are kept
 abbrev pub states_in : AreaOf (Unit {0}) → View → List Row → List PageState
-states_in a v rows = view_states a v 0 (map (row_of (kind.View v)) rows)
+states_in a v rows = view_states a v 0 (map (shown_row (kind.View v)) rows)
 
-abbrev pub told : ToldState → PageState
-told s = record { state = s.state; prot = s.prot }
+abbrev pub state_told : ToldState → PageState
+state_told s = record { state = s.state; prot = s.prot }

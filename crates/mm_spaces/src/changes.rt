@@ -53,7 +53,7 @@ impl AddressSpace {
             → self.new.regions ≡ remove self.old.regions r.place }
         ensures room { self.old.spare ≤ self.new.spare }
     {
-        let _ = self.space.remove(Vpn(addr / PAGE_SIZE));
+        let _ = self.space.take_out(Vpn(addr / PAGE_SIZE));
     }
 
     /// Takes the lowest region out; there is one.
@@ -66,7 +66,7 @@ impl AddressSpace {
             unreachable!()
         };
         let base = region.base;
-        let _ = self.space.remove(base);
+        let _ = self.space.take_out(base);
     }
 
     // ---- rows

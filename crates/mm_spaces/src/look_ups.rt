@@ -5,7 +5,7 @@ ghost use Rattle.mm_world.specs.Find.{Found, region_with, region_around, is_priv
 ghost use Rattle.mm_world.specs.WellFormed.{IsSpace};
 ghost use Rattle.mm_spaces.specs.Shown.{region_of};
 ghost use Rattle.mm_spaces.specs.Tables.{info_of};
-ghost use Rattle.mm_spaces.specs.Kept.{IsAt, IsAround, NoneAround, IsBased, NoneBased};
+ghost use Rattle.mm_spaces.specs.Kept.{IsRegionAt, IsAround, NoneAround, IsBased, NoneBased};
 
 use crate::{AddressSpace, PageRange, RegionInfo};
 use mm_types::{Kind, PAGE_SIZE, Vpn};
@@ -42,7 +42,7 @@ pub(crate) fn is_private(region: &Region) -> bool
 impl AddressSpace {
     // The region in which a page lies.
     pub(crate) fn region_at(&self, page: u32) -> Option<&Region>
-        ensures some { IfSome result (λ r. IsAt self.now.regions page r.now) }
+        ensures some { IfSome result (λ r. IsRegionAt self.now.regions page r.now) }
         ensures none { IfNone result (region_with self.now.regions page ≡ None) }
         ensures sound { IsSpace self.now.regions }
     {

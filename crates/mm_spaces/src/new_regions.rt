@@ -6,7 +6,7 @@ ghost use Rattle.mm_world.specs.WellFormed.{RowsFit};
 ghost use Rattle.mm_world.specs.World.{SectionOf, pages_of};
 ghost use Rattle.mm_world.specs.Find.{Found};
 ghost use Rattle.mm_world.specs.Views.{view_region, first_protection, is_copy};
-ghost use Rattle.mm_spaces.specs.Shown.{row_of, new_flags};
+ghost use Rattle.mm_spaces.specs.Shown.{shown_row, new_flags};
 ghost use Rattle.mm_types.specs.declared.views.Kind.TheVariants as kind;
 
 use crate::PageRange;
@@ -24,18 +24,18 @@ pub struct NewRegion {
 impl Model for NewRegion {
     ghost use Rattle.mm_world.specs.World.{RegionOf};
     ghost use Rattle.mm_spaces.specs.Shown.{region_of};
-    ghost use Rattle.mm_spaces.specs.Finds.{IsWhole};
+    ghost use Rattle.mm_spaces.specs.Finds.{IsWholeRegion};
 
     ghost Value = { RegionOf (Unit {0}) };
 
     ghost view = { λ n. region_of n.region };
 
-    ghost invariant = { λ n. IsWhole n.region };
+    ghost invariant = { λ n. IsWholeRegion n.region };
 }
 
 // The row of each page of a new private region.
 fn new_row(alloc_type: u32, prot: u32) -> Row
-    ensures { row_of kind.Private result ≡ new_row blank alloc_type prot }
+    ensures { shown_row kind.Private result ≡ new_row blank alloc_type prot }
 {
     if alloc_type == AllocFlags::RESERVE.0 {
         Row {

@@ -5,7 +5,7 @@ ghost use Rattle.mm_types.specs.Address.{is_user_page, end_of_user_pages};
 ghost use Rattle.mm_world.specs.World.{RegionOf, WorldOf};
 ghost use Rattle.mm_world.specs.Find.{Found, region_with, area_at, is_private};
 ghost use Rattle.mm_world.specs.Query.{page_info, region_info, free_info, page_states, first_run, next_base};
-ghost use Rattle.mm_spaces.specs.Kept.{IsAt};
+ghost use Rattle.mm_spaces.specs.Kept.{IsRegionAt};
 ghost use Rattle.mm_spaces.specs.PageInfos.{IfTold, IfInView, LiesInView};
 
 use crate::AddressSpace;
@@ -81,7 +81,7 @@ impl AddressSpace {
 
     fn region_info(&self, page: u32, region: &Region) -> QueryInfo
         requires user { is_user_page page ≡ true }
-        requires at { IsAt self.now.regions page region.now }
+        requires at { IsRegionAt self.now.regions page region.now }
         requires private { region.now.kind ≡ kind.Private }
         ensures { (w : WorldOf (Unit {0})) (r : Found (RegionOf (Unit {0}))) →
             region_with self.now.regions page ≡ Some r

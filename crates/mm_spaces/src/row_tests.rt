@@ -2,7 +2,7 @@ ghost use Rattle.std.specs.Prelude.{◌≡◌, ◌+◌, ◌≤◌, ◌<◌, ◌^
 ghost use Rattle.std.specs.List.{list_all};
 ghost use Rattle.mm_types.specs.Protection.{base_of};
 ghost use Rattle.mm_world.specs.Rows.{is_one_of, private_protections, marked_protections, view_protections};
-ghost use Rattle.mm_spaces.specs.Shown.{has_own, row_of};
+ghost use Rattle.mm_spaces.specs.Shown.{has_own, shown_row};
 ghost use Rattle.mm_spaces.specs.RowTests.{passes};
 
 use mm_types::{Kind, ViewAccess};
@@ -59,7 +59,7 @@ fn is_view_protection(access: ViewAccess, prot: u32) -> bool
 impl RowTest {
     /// Whether the row passes, in a region of this kind.
     fn holds(self, region_kind: Kind, row: Row) -> bool
-        ensures { result ≡ passes self region_kind (row_of region_kind row) }
+        ensures { result ≡ passes self region_kind (shown_row region_kind row) }
     {
         match self {
             RowTest::Owned => has_own(region_kind, row),
@@ -85,7 +85,7 @@ pub(crate) fn count_rows(
     requires inside { first + count ≤ length rows.now }
     requires fits { first + count < 2 ^ 32 }
     ensures { result ≡ count_by (passes test region_kind)
-        (take count (drop first (map (row_of region_kind) rows.now))) }
+        (take count (drop first (map (shown_row region_kind) rows.now))) }
 {
     let mut passing = 0;
     let mut done = 0;
@@ -110,7 +110,7 @@ pub(crate) fn do_rows_pass(
     requires inside { first + count ≤ length rows.now }
     requires fits { first + count < 2 ^ 32 }
     ensures { result ≡ list_all (passes test region_kind)
-        (take count (drop first (map (row_of region_kind) rows.now))) }
+        (take count (drop first (map (shown_row region_kind) rows.now))) }
 {
     let mut done = 0;
     while done < count {

@@ -5,8 +5,9 @@ ghost use Rattle.mm_world.specs.World.{RowOf};
 ghost use Rattle.mm_world.specs.Find.{region_with};
 ghost use Rattle.mm_types.specs.declared.views.Kind.TheVariants as kind;
 ghost use Rattle.mm_world.specs.Rows.{has_guard, marked_prot, protected};
-ghost use Rattle.mm_spaces.specs.Shown.{row_of, shown};
-ghost use Rattle.mm_spaces.specs.RowChanges.{changed, RowChanged, RunChanged, RowsChanged, IsInRegion, range_at};
+ghost use Rattle.mm_spaces.specs.Shown.{shown_row, shown_regions};
+ghost use Rattle.mm_vad.specs.Ranges.{range_at};
+ghost use Rattle.mm_spaces.specs.RowChanges.{changed_row, RowChanged, RunChanged, RowsChanged, IsInRegion};
 
 use mm_types::{Kind, Prot, View, Vpn};
 use mm_vad::{Row, Space};
@@ -41,7 +42,7 @@ fn is_guarded(prot: u32) -> bool
 
 // The row, with bytes of its own.
 fn with_bytes(region_kind: Kind, row: Row) -> Row
-    ensures { row_of region_kind result ≡ record (row_of region_kind row) { own = Some tt } }
+    ensures { shown_row region_kind result ≡ record (shown_row region_kind row) { own = Some tt } }
 {
     match region_kind {
         Kind::Private => Row {
@@ -72,8 +73,8 @@ fn marked_protection(copied: bool, base: u32) -> u32
 
 // The row of a page of a view, with the protection.
 fn protected_in_view(view: View, row: Row, prot: u32) -> Row
-    ensures { row_of (kind.View view) result ≡
-        protected (kind.View view) prot (row_of (kind.View view) row) }
+    ensures { shown_row (kind.View view) result ≡
+        protected (kind.View view) prot (shown_row (kind.View view) row) }
 {
     let base = prot % Prot::GUARD.0;
     let marked = row.marked || base == Prot::WRITECOPY.0;
@@ -91,7 +92,8 @@ fn protected_in_view(view: View, row: Row, prot: u32) -> Row
 
 // The row with the protection, in a region of this kind.
 fn protected_row(region_kind: Kind, row: Row, prot: u32) -> Row
-    ensures { row_of region_kind result ≡ protected region_kind prot (row_of region_kind row) }
+    ensures { shown_row region_kind result ≡ protected region_kind prot
+        (shown_row region_kind row) }
 {
     match region_kind {
         Kind::Private => Row {
@@ -106,7 +108,8 @@ fn protected_row(region_kind: Kind, row: Row, prot: u32) -> Row
 impl RowChange {
     /// The row after the change, in a region of this kind.
     fn of(self, region_kind: Kind, row: Row) -> Row
-        ensures { row_of region_kind result ≡ changed self region_kind (row_of region_kind row) }
+        ensures { shown_row region_kind result ≡ changed_row self region_kind
+            (shown_row region_kind row) }
     {
         match self {
             RowChange::Commit(prot) => with_bytes(
@@ -144,8 +147,9 @@ impl RowChange {
 
 /// Changes the row of a page that lies in a region.
 pub(crate) fn change_row(space: &mut Space, page: u32, change: RowChange)
-    requires { IsSome (region_with (shown space.old.regions) page) }
-    ensures after { RowChanged change page (shown space.old.regions) (shown space.new.regions) }
+    requires { IsSome (region_with (shown_regions space.old.regions) page) }
+    ensures after { RowChanged change page (shown_regions space.old.regions)
+        (shown_regions space.new.regions) }
     ensures spare { space.new.spare ≡ space.old.spare }
     ensures sound { IsVad space.old.regions }
     ensures kept { IsVad space.new.regions }
@@ -160,12 +164,12 @@ pub(crate) fn change_row(space: &mut Space, page: u32, change: RowChange)
 // Changes the rows of pages from `page` on, which lies in a region: those that are known to be
 // equal, at least one and at most `count`. How many.
 fn change_some(space: &mut Space, page: u32, count: u32, change: RowChange) -> u32
-    requires there { IsSome (region_with (shown space.old.regions) page) }
+    requires there { IsSome (region_with (shown_regions space.old.regions) page) }
     requires some { 0 < count }
     ensures some { 0 < result }
     ensures within { result ≤ count }
-    ensures after { RunChanged change (range_at page result) (shown space.old.regions)
-        (shown space.new.regions) }
+    ensures after { RunChanged change (range_at page result) (shown_regions space.old.regions)
+        (shown_regions space.new.regions) }
     ensures spare { space.new.spare ≡ space.old.spare }
     ensures sound { IsVad space.old.regions }
     ensures kept { IsVad space.new.regions }
@@ -183,9 +187,9 @@ fn change_some(space: &mut Space, page: u32, count: u32, change: RowChange) -> u
 
 /// Changes the rows of `count` pages from `first` on, all of them in one region.
 pub(crate) fn change_rows(space: &mut Space, first: u32, count: u32, change: RowChange)
-    requires { IsInRegion (shown space.old.regions) (range_at first count) }
-    ensures after { RowsChanged change (range_at first count) (shown space.old.regions)
-        (shown space.new.regions) }
+    requires { IsInRegion (shown_regions space.old.regions) (range_at first count) }
+    ensures after { RowsChanged change (range_at first count) (shown_regions space.old.regions)
+        (shown_regions space.new.regions) }
     ensures spare { space.new.spare ≡ space.old.spare }
     ensures kept { IsVad space.old.regions → IsVad space.new.regions }
 {

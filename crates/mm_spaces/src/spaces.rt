@@ -11,7 +11,7 @@ ghost use Rattle.mm_world.specs.Keys.{own_page};
 ghost use Rattle.mm_world.specs.Rows.{every_page, accepts, is_committed_at};
 ghost use Rattle.mm_world.specs.WellFormed.{IsSpace};
 ghost use Rattle.mm_spaces.specs.Kept.{IsAround};
-ghost use Rattle.mm_spaces.specs.Tables.{info_of, found_info, page_row, owned_in, unmarked_in, marked_in, rows_in};
+ghost use Rattle.mm_spaces.specs.Tables.{info_of, found_info, told_page_row, owned_in, unmarked_in, marked_in, rows_in_range};
 ghost use Rattle.mm_spaces.specs.RowTests.{passes};
 
 use crate::PageRange;
@@ -65,14 +65,14 @@ pub struct AddressSpace {
 
 impl Model for AddressSpace {
     ghost use Rattle.mm_spaces.specs.Tables.{RegionsOf};
-    ghost use Rattle.mm_spaces.specs.Shown.{shown};
-    ghost use Rattle.mm_spaces.specs.Finds.{IsKept};
+    ghost use Rattle.mm_spaces.specs.Shown.{shown_regions};
+    ghost use Rattle.mm_spaces.specs.Finds.{IsKeptSpace};
 
     ghost Value = { RegionsOf };
 
-    ghost view = { λ s. record { regions = shown s.space.regions; spare = s.space.spare } };
+    ghost view = { λ s. record { regions = shown_regions s.space.regions; spare = s.space.spare } };
 
-    ghost invariant = { λ s. IsKept s.space.regions };
+    ghost invariant = { λ s. IsKeptSpace s.space.regions };
 }
 
 impl AddressSpace {
@@ -200,7 +200,7 @@ impl AddressSpace {
 
     /// What is told of a page. None exactly where it lies in no region.
     pub fn row(&self, page: u32) -> Option<PageRow>
-        ensures row { result ≡ page_row self.now.regions page }
+        ensures row { result ≡ told_page_row self.now.regions page }
         ensures sound { IsSpace self.now.regions }
     {
         let region = self.region_at(page)?;
@@ -308,7 +308,7 @@ impl AddressSpace {
     fn count_passing(&self, range: PageRange, test: RowTest) -> u32
         requires inside { is_some (region_around self.now.regions range) ≡ true }
         ensures { (r : Found (RegionOf (Unit {0}))) → region_around self.now.regions range ≡ Some r
-            → result ≡ count_by (passes test r.thing.kind) (rows_in self.now.regions range) }
+            → result ≡ count_by (passes test r.thing.kind) (rows_in_range self.now.regions range) }
     {
         let Some(region) = self.around(range) else {
             unreachable!()
@@ -321,7 +321,7 @@ impl AddressSpace {
     pub(crate) fn do_all_pass(&self, region: &Region, range: PageRange, test: RowTest) -> bool
         requires around { IsAround self.now.regions range region.now }
         ensures { (r : Found (RegionOf (Unit {0}))) → region_around self.now.regions range ≡ Some r
-            → result ≡ list_all (passes test r.thing.kind) (rows_in self.now.regions range) }
+            → result ≡ list_all (passes test r.thing.kind) (rows_in_range self.now.regions range) }
     {
         let first = range.first - region.base.0;
         do_rows_pass(&region.rows, region.kind, first, range.count, test)

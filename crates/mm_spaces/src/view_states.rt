@@ -5,8 +5,8 @@ ghost use Rattle.mm_vad.specs.declared.pages.Row.{Row};
 ghost use Rattle.mm_world.specs.Query.{same_state, first_run, row_state};
 ghost use Rattle.mm_world.specs.Rows.{with_guard, every_page_from};
 ghost use Rattle.mm_world.specs.WellFormed.{Each, ViewRowFits};
-ghost use Rattle.mm_spaces.specs.Shown.{row_of};
-ghost use Rattle.mm_spaces.specs.ViewStates.{is_area_page, view_state, states_in, told};
+ghost use Rattle.mm_spaces.specs.Shown.{shown_row};
+ghost use Rattle.mm_spaces.specs.ViewStates.{is_area_page, view_state, states_in, state_told};
 
 use mm_sections::SectionPages;
 use mm_types::{AllocFlags, Prot, View};
@@ -22,7 +22,7 @@ pub(crate) struct ToldState {
 
 impl ToldState {
     fn is_like(self, other: ToldState) -> bool
-        ensures { result ≡ same_state (told self) (told other) }
+        ensures { result ≡ same_state (state_told self) (state_told other) }
     {
         self.state == other.state && self.prot == other.prot
     }
@@ -43,7 +43,7 @@ pub(crate) fn protection_of_row(row: Row) -> u32
 /// What is told of a page with this row; one that is not committed has protection 0.
 pub(crate) fn told_of_row(row: Row, committed: bool) -> ToldState
     requires { row.prot.0 < 0x100 }
-    ensures { (k : Kind) → told result ≡ row_state committed (row_of k row) }
+    ensures { (k : Kind) → state_told result ≡ row_state committed (shown_row k row) }
 {
     if committed {
         ToldState {
@@ -87,9 +87,9 @@ pub(crate) fn are_pages_committed(view: View, first: u32, count: u32, pages: &Se
 /// What is told of the page of a view that stands at this place in it.
 pub(crate) fn state_in_view(rows: &Rows, view: View, index: u32, pages: &SectionPages) -> ToldState
     requires inside { index < length rows.now }
-    requires fit { Each (ViewRowFits view.access) (map (row_of (kind.View view)) rows.now) }
+    requires fit { Each (ViewRowFits view.access) (map (shown_row (kind.View view)) rows.now) }
     ensures { (row : Row) → slice_get rows.now index ≡ Some row
-        → told result ≡ view_state pages.now view index (row_of (kind.View view) row) }
+        → state_told result ≡ view_state pages.now view index (shown_row (kind.View view) row) }
 {
     let row = rows.get(index);
     told_of_row(row, is_page_committed(view, index, pages))
@@ -98,7 +98,7 @@ pub(crate) fn state_in_view(rows: &Rows, view: View, index: u32, pages: &Section
 /// How many pages of a view, from the place `index` on, are alike in what is told of them.
 pub(crate) fn run_in_view(rows: &Rows, view: View, index: u32, pages: &SectionPages) -> u32
     requires inside { index < length rows.now }
-    requires fit { Each (ViewRowFits view.access) (map (row_of (kind.View view)) rows.now) }
+    requires fit { Each (ViewRowFits view.access) (map (shown_row (kind.View view)) rows.now) }
     ensures run { result ≡ (first_run (drop index (states_in pages.now view rows.now))).1 }
     ensures within { index + result ≤ length rows.now }
 {

@@ -20,7 +20,7 @@ use Rattle.mm_laws.proofs.Changes.{changes_give}
 use Rattle.mm_laws.proofs.Taking.{changes_read}
 use Rattle.mm_laws.proofs.Requests.{read_has}
 use Rattle.mm_laws.proofs.Sound.{owner_passes}
-use Rattle.mm_parts.specs.Moves.{read_end}
+use Rattle.mm_parts.specs.Moves.{end_of_read}
 use Rattle.mm_frame_laws.specs.Carried.{IsSoiled, is_calm}
 use Rattle.mm_frame_laws.proofs.Alone.{others_set, here_set, records_ended}
 use Rattle.mm_laws.proofs.Facts.{facts_of}
@@ -137,6 +137,6 @@ module _ (l : FrameLife) (reached : ∥ Reached l ∥₁) where
       by None e h = cc
       by (Some g) e h = sets p.pid.0 full
 
-pub read_quiet : (l : FrameLife) → ∥ Reached l ∥₁ → (ok : Bool) (f : Frame) → IsLegal (move.Got f) l → ok ≡ true → is_read (record_at (after_move l (read_end ok f)).frames f.0).request ≡ false
+pub read_quiet : (l : FrameLife) → ∥ Reached l ∥₁ → (ok : Bool) (f : Frame) → IsLegal (move.Got f) l → ok ≡ true → is_read (record_at (after_move l (end_of_read ok f)).frames f.0).request ≡ false
 read_quiet l reached true f legal e = got_quiet l reached f legal
 read_quiet l reached false f legal e = cc

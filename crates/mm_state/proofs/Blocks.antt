@@ -12,7 +12,7 @@ use Rattle.mm_blocks.specs.Devices.{DeviceOf}
 use Rattle.mm_pages.specs.Told.{Told}
 use Rattle.mm_frame_laws.specs.Carried.{Carries}
 use Rattle.mm_frame_laws.proofs.Carrying.{carries_block}
-use Rattle.mm_state.specs.Shown.{state_of}
+use Rattle.mm_state.specs.Shown.{joined_state}
 use Rattle.mm_moving.specs.Shown.{written_if}
 
 pub block_written : (ok : Bool) (after before : BlockBytes) (write : BlockBytes → BlockBytes) → OnTrue ok (after ≡ write before) → OnFalse ok (after ≡ before) → after ≡ written_if ok write before
@@ -28,5 +28,5 @@ block_carries false l reached ram slots blocks kept b page new after e =
 
 -- the blocks of the file device changed, and what keys have stays
 pub rest_block : (u : PartsOf) (log : Log) (told : Told) (paging files : DeviceOf) (slots blocks after : BlockBytes) → contents_of u.life u.bytes slots after ≡ contents_of u.life u.bytes slots blocks
-    → state_of u log told paging files slots after ≡ record (state_of u log told paging files slots blocks) { blocks = after }
-rest_block u log told paging files slots blocks after e = λ i. record (state_of u log told paging files slots blocks) { contents = e i; blocks = after }
+    → joined_state u log told paging files slots after ≡ record (joined_state u log told paging files slots blocks) { blocks = after }
+rest_block u log told paging files slots blocks after e = λ i. record (joined_state u log told paging files slots blocks) { contents = e i; blocks = after }

@@ -24,7 +24,7 @@ use Rattle.mm_flight.specs.Requests.{ended}
 use Rattle.mm_flight.specs.declared.flights.Waiting.{Waiting as Wait}
 use Rattle.mm_life.specs.Waits.{Waiting, waits_after, ages_after}
 use Rattle.mm_pages.specs.Told.{Told, told_after, with_write, in_slot, in_block, paging_traffic, file_traffic}
-use Rattle.mm_parts.specs.Moves.{read_end, write_end, page_filled}
+use Rattle.mm_parts.specs.Moves.{end_of_read, write_end, page_filled}
 use Rattle.mm_frame_laws.specs.Carried.{Carries, slots_written, blocks_written}
 use Rattle.mm_frame_laws.proofs.Carrying.{carries_got, carries_bad, carries_wrote, carries_lost}
 use Rattle.mm_laws.proofs.Facts.{facts_of}
@@ -33,8 +33,8 @@ use Rattle.mm_frame_laws.proofs.FrameMoves.{asked_low}
 use Rattle.mm_frame_laws.proofs.Moving.{home_bytes}
 use Rattle.mm_parts.specs.Reading.{waits_of}
 use Rattle.mm_parts.proofs.Waiting.{waits_ended}
-use Rattle.mm_moving.specs.Shown.{StateOf, Calls, Called, CalledFor, backing_of_frame, written_if}
-use Rattle.mm_state.specs.Tallied.{page_if, read_told}
+use Rattle.mm_moving.specs.Shown.{StateOf, Calls, DeviceCalled, CalledFor, backing_of_frame, written_if}
+use Rattle.mm_state.specs.Tallied.{page_if_read, read_told}
 
 -- ---- reads
 
@@ -50,30 +50,30 @@ read_low l reached f legal =
 pub is_reading : (l : FrameLife) (f : Frame) → IsLegal (move.Got f) l → is_read (record_at l.frames f.0).request ≡ true
 is_reading l f legal = reading l f legal
 
-pub read_legal : (ok : Bool) (l : FrameLife) (f : Frame) → IsLegal (move.Got f) l → IsLegal (read_end ok f) l
+pub read_legal : (ok : Bool) (l : FrameLife) (f : Frame) → IsLegal (move.Got f) l → IsLegal (end_of_read ok f) l
 read_legal true l f legal = legal
 read_legal false l f legal = legal
 
 pub read_carries : (ok : Bool) (l : FrameLife) → ∥ Reached l ∥₁ → (ram : FrameBytes) (slots blocks : BlockBytes) → BytesLocated l ram slots blocks → (f : Frame) (page : List ℕ) → IsLegal (move.Got f) l
     → OnTrue ok (bytes_at [] slots blocks (home_at (record_at l.frames f.0).backing) ≡ Some page)
-    → Carries (after_move l (read_end ok f)) (page_filled (page_if ok page) ram f.0) slots blocks (contents_of l ram slots blocks)
+    → Carries (after_move l (end_of_read ok f)) (page_filled (page_if_read ok page) ram f.0) slots blocks (contents_of l ram slots blocks)
 read_carries true l reached ram slots blocks kept f page legal there =
     carries_got l reached ram slots blocks kept f page legal (home_bytes [] ram slots blocks (record_at l.frames f.0).backing ∙ there)
 read_carries false l reached ram slots blocks kept f page legal there = carries_bad l reached ram slots blocks kept f legal
 
-pub read_ages : (ok : Bool) (f : Frame) (ages : Place → ℕ) → ages ≡ ages_after (read_end ok f) ages
+pub read_ages : (ok : Bool) (f : Frame) (ages : Place → ℕ) → ages ≡ ages_after (end_of_read ok f) ages
 read_ages true f ages = refl
 read_ages false f ages = refl
 
-pub read_waits : (ok : Bool) (f : Frame) (ws : List Wait) → waits_of (map (ended f.0 ok) ws) ≡ waits_after (read_end ok f) (waits_of ws)
+pub read_waits : (ok : Bool) (f : Frame) (ws : List Wait) → waits_of (map (ended f.0 ok) ws) ≡ waits_after (end_of_read ok f) (waits_of ws)
 read_waits true f ws = λ i. λ t. waits_ended ws f.0 t true i
 read_waits false f ws = λ i. λ t. waits_ended ws f.0 t false i
 
-pub read_tells : (ok : Bool) (l : FrameLife) (f : Frame) (t : Told) → read_told ok (record_at l.frames f.0).backing (record_at l.frames f.0).owner t ≡ told_after l (read_end ok f) t
+pub read_tells : (ok : Bool) (l : FrameLife) (f : Frame) (t : Told) → read_told ok (record_at l.frames f.0).backing (record_at l.frames f.0).owner t ≡ told_after l (end_of_read ok f) t
 read_tells true l f t = refl
 read_tells false l f t = refl
 
-pub read_calls : (ok : Bool) (f : Frame) (s z : StateOf) → Called way.Read (backing_of_frame s f) ok s z → Calls (read_end ok f) s z
+pub read_calls : (ok : Bool) (f : Frame) (s z : StateOf) → DeviceCalled way.Read (backing_of_frame s f) ok s z → Calls (end_of_read ok f) s z
 read_calls true f s z h = h
 read_calls false f s z h = h
 
@@ -110,7 +110,7 @@ pub write_tells : (ok : Bool) (l : FrameLife) (f : Frame) (t : Told) → with_wr
 write_tells true l f t = refl
 write_tells false l f t = refl
 
-pub write_calls : (ok : Bool) (f : Frame) (s z : StateOf) → Called way.Write (backing_of_frame s f) ok s z → Calls (write_end ok f) s z
+pub write_calls : (ok : Bool) (f : Frame) (s z : StateOf) → DeviceCalled way.Write (backing_of_frame s f) ok s z → Calls (write_end ok f) s z
 write_calls true f s z h = h
 write_calls false f s z h = h
 

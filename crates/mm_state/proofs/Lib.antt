@@ -4,7 +4,6 @@ pub mod Ends
 pub mod Legals
 pub mod PageBytes
 pub mod Blocks
-pub mod Storing
 pub mod Waiting
 pub mod After
 pub mod Whole

@@ -17,7 +17,7 @@ use Rattle.mm_pages.specs.Told.{Told, told_after, paging_traffic, file_traffic}
 use Rattle.mm_parts.specs.Shown.{PartsOf}
 use Rattle.mm_frame_laws.specs.Carried.{Carries}
 use Rattle.mm_moving.specs.Shown.{StateOf, Made, Calls}
-use Rattle.mm_state.specs.Shown.{state_of}
+use Rattle.mm_state.specs.Shown.{joined_state}
 
 pub made_by : (x : Move) (s z : StateOf) → IsLegal x s.life → IsMove x → Grew s.log z.log (spelling_of_move x) → z.life ≡ after_move s.life x → z.ages ≡ ages_after x s.ages → z.waits ≡ waits_after x s.waits
     → z.told ≡ told_after s.life x s.told → Calls x s z → KeepsOthers (paging_traffic s.life (x ∷ [])) s.slots z.slots → KeepsOthers (file_traffic s.life (x ∷ [])) s.blocks z.blocks → Made x s z
@@ -42,7 +42,7 @@ made_quiet x s z legal range grew life ages waits told calls slots blocks =
 
 -- the parts show this, and the keys have these contents
 pub rest_of : (v w : PartsOf) (log : Log) (told : Told) (paging files : DeviceOf) (slots blocks : BlockBytes) (contents : Key → Option (List ℕ)) → v ≡ w → contents_of v.life v.bytes slots blocks ≡ contents
-    → state_of v log told paging files slots blocks ≡ record (state_of v log told paging files slots blocks) {
+    → joined_state v log told paging files slots blocks ≡ record (joined_state v log told paging files slots blocks) {
       contents = contents;
       is_open = w.is_open;
       bound = w.bound;
@@ -51,7 +51,7 @@ pub rest_of : (v w : PartsOf) (log : Log) (told : Told) (paging files : DeviceOf
       aside = w.aside;
       own = w.own;
     }
-rest_of v w log told paging files slots blocks contents e ce = λ i. record (state_of v log told paging files slots blocks) {
+rest_of v w log told paging files slots blocks contents e ce = λ i. record (joined_state v log told paging files slots blocks) {
   contents = ce i;
   is_open = (e i).is_open;
   bound = (e i).bound;
@@ -68,7 +68,7 @@ carried v w slots blocks contents e c = subst (λ (x : PartsOf). Carries x.life 
 -- the same where devices were called
 pub rest_called : (v w : PartsOf) (log : Log) (told : Told) (paging files : DeviceOf) (slots blocks slots2 blocks2 : BlockBytes) (contents : Key → Option (List ℕ)) → v ≡ w → slots ≡ slots2 → blocks ≡ blocks2
     → contents_of v.life v.bytes slots blocks ≡ contents
-    → state_of v log told paging files slots blocks ≡ record (state_of v log told paging files slots blocks) {
+    → joined_state v log told paging files slots blocks ≡ record (joined_state v log told paging files slots blocks) {
       contents = contents;
       is_open = w.is_open;
       bound = w.bound;
@@ -79,7 +79,7 @@ pub rest_called : (v w : PartsOf) (log : Log) (told : Told) (paging files : Devi
       slots = slots2;
       blocks = blocks2;
     }
-rest_called v w log told paging files slots blocks slots2 blocks2 contents e se be ce = λ i. record (state_of v log told paging files slots blocks) {
+rest_called v w log told paging files slots blocks slots2 blocks2 contents e se be ce = λ i. record (joined_state v log told paging files slots blocks) {
   contents = ce i;
   is_open = (e i).is_open;
   bound = (e i).bound;
@@ -99,8 +99,8 @@ carried_on v w slots blocks slots2 blocks2 contents e se be c =
 
 -- ---- calls that are no move
 
-pub shown_on : (v w : PartsOf) (log : Log) (told : Told) (paging files : DeviceOf) (slots blocks : BlockBytes) → v ≡ w → state_of v log told paging files slots blocks ≡ state_of w log told paging files slots blocks
-shown_on v w log told paging files slots blocks e = ap (λ (x : PartsOf). state_of x log told paging files slots blocks) e
+pub shown_on : (v w : PartsOf) (log : Log) (told : Told) (paging files : DeviceOf) (slots blocks : BlockBytes) → v ≡ w → joined_state v log told paging files slots blocks ≡ joined_state w log told paging files slots blocks
+shown_on v w log told paging files slots blocks e = ap (λ (x : PartsOf). joined_state x log told paging files slots blocks) e
 
 pub located_on : (v w : PartsOf) (slots blocks : BlockBytes) → v ≡ w → BytesLocated w.life w.bytes slots blocks → BytesLocated v.life v.bytes slots blocks
 located_on v w slots blocks e kept = subst (λ (x : PartsOf). BytesLocated x.life x.bytes slots blocks) (sym e) kept
@@ -113,8 +113,8 @@ located_or (Err x) v w u slots blocks ok err new old = located_on v u slots bloc
 
 -- the bytes of one frame changed, and what keys have is told apart
 pub rest_page : (v w : PartsOf) (log : Log) (told : Told) (paging files : DeviceOf) (slots blocks : BlockBytes) → v ≡ w
-    → state_of v log told paging files slots blocks ≡ record (state_of w log told paging files slots blocks) { contents = contents_of v.life v.bytes slots blocks }
-rest_page v w log told paging files slots blocks e = λ i. record (state_of v log told paging files slots blocks) {
+    → joined_state v log told paging files slots blocks ≡ record (joined_state w log told paging files slots blocks) { contents = contents_of v.life v.bytes slots blocks }
+rest_page v w log told paging files slots blocks e = λ i. record (joined_state v log told paging files slots blocks) {
   life = (e i).life;
   ages = (e i).ages;
   waits = waits_of (e i).waits;
@@ -127,13 +127,13 @@ rest_page v w log told paging files slots blocks e = λ i. record (state_of v lo
 }
 
 pub rest_waits : (v w : PartsOf) (log : Log) (told : Told) (paging files : DeviceOf) (slots blocks : BlockBytes) (waits : ℕ → Waiting) → v ≡ w → ((t : ℕ) → waits_of v.waits t ≡ waits t)
-    → state_of v log told paging files slots blocks ≡ record (state_of w log told paging files slots blocks) { waits = waits }
-rest_waits v w log told paging files slots blocks waits e we = λ i. record (state_of (e i) log told paging files slots blocks) { waits = λ t. we t i }
+    → joined_state v log told paging files slots blocks ≡ record (joined_state w log told paging files slots blocks) { waits = waits }
+rest_waits v w log told paging files slots blocks waits e we = λ i. record (joined_state (e i) log told paging files slots blocks) { waits = λ t. we t i }
 
 -- the paging device was asked to grow
 pub rest_grown : (v w : PartsOf) (log : Log) (told : Told) (now paging files : DeviceOf) (slots blocks slots2 : BlockBytes) (contents : Key → Option (List ℕ)) → v ≡ w → now ≡ paging → slots ≡ slots2
     → contents_of v.life v.bytes slots blocks ≡ contents
-    → state_of v log told now files slots blocks ≡ record (state_of v log told now files slots blocks) {
+    → joined_state v log told now files slots blocks ≡ record (joined_state v log told now files slots blocks) {
       contents = contents;
       is_open = w.is_open;
       bound = w.bound;
@@ -144,7 +144,7 @@ pub rest_grown : (v w : PartsOf) (log : Log) (told : Told) (now paging files : D
       paging = paging;
       slots = slots2;
     }
-rest_grown v w log told now paging files slots blocks slots2 contents e pe se ce = λ i. record (state_of v log told now files slots blocks) {
+rest_grown v w log told now paging files slots blocks slots2 contents e pe se ce = λ i. record (joined_state v log told now files slots blocks) {
   contents = ce i;
   is_open = (e i).is_open;
   bound = (e i).bound;
@@ -158,8 +158,8 @@ rest_grown v w log told now paging files slots blocks slots2 contents e pe se ce
 
 -- a machine at rest
 pub shows_start : (v w : PartsOf) (log : Log) (told none : Told) (paging files : DeviceOf) (slots blocks : BlockBytes) (contents : Key → Option (List ℕ)) → v ≡ w → told ≡ none → contents_of v.life v.bytes slots blocks ≡ contents
-    → state_of v log told paging files slots blocks ≡ record (state_of w log none paging files slots blocks) { contents = contents }
-shows_start v w log told none paging files slots blocks contents e te ce = λ i. record (state_of (e i) log (te i) paging files slots blocks) { contents = ce i }
+    → joined_state v log told paging files slots blocks ≡ record (joined_state w log none paging files slots blocks) { contents = contents }
+shows_start v w log told none paging files slots blocks contents e te ce = λ i. record (joined_state (e i) log (te i) paging files slots blocks) { contents = ce i }
 
 pub grew_one : (a b : Log) (x : Move) → Grew a b (spelling_of_move x) → Grew a b (spelled_moves (x ∷ []))
 grew_one a b x g = subst (λ xs. Grew a b xs) (sym (append_nil (spelling_of_move x))) g

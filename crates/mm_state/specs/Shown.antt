@@ -8,12 +8,13 @@ use Rattle.mm_blocks.specs.Devices.{DeviceOf}
 use Rattle.mm_pages.specs.Told.{Told, none_told}
 use Rattle.mm_parts.specs.Shown.{PartsOf}
 use Rattle.mm_parts.specs.Reading.{waits_of}
-use Rattle.mm_parts.specs.Start.{started, first_move}
+use Rattle.mm_parts.specs.Start.{first_parts, first_move}
 use Rattle.mm_moving.specs.Shown.{StateOf}
 
-abbrev pub state_of : PartsOf → Log → Told → DeviceOf → DeviceOf → List (List ℕ) → List (List ℕ) →
+abbrev pub joined_state : PartsOf → Log → Told → DeviceOf → DeviceOf → List (List ℕ) →
+    List (List ℕ) →
     StateOf
-state_of s log told paging files slots blocks = record {
+joined_state s log told paging files slots blocks = record {
   life = s.life;
   log = log;
   told = told;
@@ -34,12 +35,12 @@ state_of s log told paging files slots blocks = record {
 
 -- the first line of this machine was made and noted after this log, over these devices: nothing
 -- lives yet
-pub record Starts (m : MachineOf) (log : Log) (paging files : DeviceOf)
+pub record MachineStarts (m : MachineOf) (log : Log) (paging files : DeviceOf)
     (slots blocks : List (List ℕ)) (z : StateOf) : Type 0 where
   pub in_range : AreMoves (first_move m ∷ [])
   pub grew : Grew log z.log (spelled_moves (first_move m ∷ []))
   pub shows : z ≡
-      record (state_of (started m) z.log none_told paging files slots blocks) {
+      record (joined_state (first_parts m) z.log none_told paging files slots blocks) {
         contents = λ _.
             None;
       }

@@ -6,11 +6,11 @@ use Rattle.mm_parts.specs.PartsShown as parts
 use Rattle.mm_state.specs.declared.states.State.{State}
 use Rattle.mm_moving.specs.Shown.{StateOf}
 use Rattle.mm_blocks.specs.Devices.{device_with}
-use Rattle.mm_state.specs.Shown.{state_of}
+use Rattle.mm_state.specs.Shown.{joined_state}
 
 module _ {P F M : Type 0} {p : DeviceGhosts P} {f : DeviceGhosts F} {m : MovesGhosts M} where
-  abbrev pub shown : State P F M p f m → StateOf
-  shown s = state_of (parts.shown s.parts) (m.log s.moves) s.told
+  abbrev pub shown_state : State P F M p f m → StateOf
+  shown_state s = joined_state (parts.shown_parts s.parts) (m.log s.moves) s.told
       (device_with (p.log s.paging) (p.named s.paging) (p.faults s.paging))
       (device_with (f.log s.files) (f.named s.files) (f.faults s.files)) (p.blocks s.paging)
       (f.blocks s.files)

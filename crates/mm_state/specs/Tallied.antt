@@ -20,9 +20,9 @@ read_told true home owner t = with_read true home t
 read_told false home owner t = with_bad home owner t
 
 -- the page that a read brought, if it did
-abbrev pub page_if : Bool → List ℕ → Option (List ℕ)
-page_if true page = Some page
-page_if false page = None
+abbrev pub page_if_read : Bool → List ℕ → Option (List ℕ)
+page_if_read true page = Some page
+page_if_read false page = None
 
 -- a failed call of the line's search, or a read that failed, is one of the line's device calls
 pub record IsTallied (t : Told) : Type 0 where

@@ -14,14 +14,14 @@ use mm_types::{
 // counted between the two.
 impl<P: Inject, F: Inject, M: Moves> Moving for State<P, F, M> {
     ghost use Rattle.mm_state.specs.StateShown as state;
+    ghost use Rattle.mm_state.specs.Holding as holding;
 
-    ghost shown = { λ s. state.shown s };
+    ghost shown = { λ s. state.shown_state s };
 
     ghost loans = { λ s. state.loans s };
 
     fn sound(&self) {
         self.parts.parts_hold();
-        self.parts.sets_agree();
         self.parts.bytes_hold();
     }
 
@@ -315,4 +315,6 @@ impl<P: Inject, F: Inject, M: Moves> Moving for State<P, F, M> {
     fn moves_failed(&self) -> bool {
         self.moves.failed()
     }
+
+    ghost holds = { λ s. holding.state_holds s };
 }

@@ -4,15 +4,15 @@ ghost use Rattle.mm_life.specs.Frames.{is_empty};
 ghost use Rattle.mm_life.specs.Legal.{IsLegal};
 ghost use Rattle.mm_flight.specs.Requests.{ended};
 ghost use Rattle.mm_parts.specs.PartsShown as parts_of;
-ghost use Rattle.mm_parts.specs.Moves.{after, front, own_ended, read_end, write_end, page_filled};
-ghost use Rattle.mm_state.specs.Tallied.{page_if};
+ghost use Rattle.mm_parts.specs.Moves.{parts_after, front, own_ended, end_of_read, write_end, page_filled};
+ghost use Rattle.mm_state.specs.Tallied.{page_if_read};
 
 use mm_parts::Parts;
 use mm_types::{Frame, Move, NoMemory};
 
 /// Takes the memory for further slots, if it is there. Nothing changes but how many can be added.
 pub(crate) fn reserve(parts: &mut Parts, n: u32) -> bool
-    ensures shown { parts_of.shown parts.new ≡ parts_of.shown parts.old }
+    ensures shown { parts_of.shown_parts parts.new ≡ parts_of.shown_parts parts.old }
     ensures spare { OnTrue result (n ≤ parts_of.spare_slots parts.new) }
 {
     match parts.reserve_slots(n) {
@@ -23,8 +23,8 @@ pub(crate) fn reserve(parts: &mut Parts, n: u32) -> bool
 
 /// The first free frame, where there is one.
 pub(crate) fn first_free(parts: &Parts) -> Frame
-    requires { is_empty (parts_of.shown parts.now).life.frames.free ≡ false }
-    ensures { result ≡ front (parts_of.shown parts.now).life.frames.free }
+    requires { is_empty (parts_of.shown_parts parts.now).life.frames.free ≡ false }
+    ensures { result ≡ front (parts_of.shown_parts parts.now).life.frames.free }
 {
     match parts.front_free() {
         Some(f) => f,
@@ -34,8 +34,8 @@ pub(crate) fn first_free(parts: &Parts) -> Frame
 
 /// The first frame on standby, where there is one.
 pub(crate) fn first_standby(parts: &Parts) -> Frame
-    requires { is_empty (parts_of.shown parts.now).life.frames.standby ≡ false }
-    ensures { result ≡ front (parts_of.shown parts.now).life.frames.standby }
+    requires { is_empty (parts_of.shown_parts parts.now).life.frames.standby ≡ false }
+    ensures { result ≡ front (parts_of.shown_parts parts.now).life.frames.standby }
 {
     match parts.front_standby() {
         Some(f) => f,
@@ -45,7 +45,7 @@ pub(crate) fn first_standby(parts: &Parts) -> Frame
 
 /// The move with which a read ends.
 pub(crate) fn read_move(f: Frame, ok: bool) -> Move
-    ensures { result ≡ read_end ok f }
+    ensures { result ≡ end_of_read ok f }
 {
     if ok { Move::Got(f) } else { Move::Bad(f) }
 }
@@ -59,12 +59,13 @@ pub(crate) fn write_move(f: Frame, ok: bool) -> Move
 
 /// A read ends in the parts: well, with this page, or not.
 pub(crate) fn settle_read(parts: &mut Parts, f: Frame, ok: bool, page: &[u8; 4096])
-    requires { IsLegal (read_end ok f) (parts_of.shown parts.old).life }
-    ensures { parts_of.shown parts.new ≡ record (after (parts_of.shown parts.old) (read_end ok f)) {
-      bytes = page_filled (page_if ok page.now) (parts_of.shown parts.old).bytes f.0;
-      waits = map (ended f.0 ok) (parts_of.shown parts.old).waits;
-      own = own_ended (parts_of.shown parts.old).own f.0;
-    } }
+    requires { IsLegal (end_of_read ok f) (parts_of.shown_parts parts.old).life }
+    ensures { parts_of.shown_parts parts.new ≡ record
+        (parts_after (parts_of.shown_parts parts.old) (end_of_read ok f)) {
+          bytes = page_filled (page_if_read ok page.now) (parts_of.shown_parts parts.old).bytes f.0;
+          waits = map (ended f.0 ok) (parts_of.shown_parts parts.old).waits;
+          own = own_ended (parts_of.shown_parts parts.old).own f.0;
+        } }
 {
     if ok {
         parts.end_read(f, Some(page));

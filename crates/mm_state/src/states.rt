@@ -4,7 +4,7 @@ ghost use Rattle.mm_life.specs.Located.{BytesLocated};
 ghost use Rattle.mm_parts.specs.PartsShown as parts_of;
 ghost use Rattle.mm_parts.specs.Start.{first_move};
 ghost use Rattle.mm_blocks.specs.Devices.{device_with};
-ghost use Rattle.mm_state.specs.Shown.{Starts};
+ghost use Rattle.mm_state.specs.Shown.{MachineStarts};
 ghost use Rattle.mm_state.specs.Tallied.{IsTallied};
 ghost use Rattle.mm_state.specs.Whole.{AreWhole};
 
@@ -29,7 +29,8 @@ pub struct State<P: Inject, F: Inject, M: Moves> {
     /// Where the page of a device call stands. It is kept so that none is filled with zeros at each
     /// call.
     pub(crate) page: [u8; 4096],
-    ghost located: { BytesLocated (parts_of.shown parts).life (parts_of.shown parts).bytes
+    ghost located: { BytesLocated (parts_of.shown_parts parts).life
+        (parts_of.shown_parts parts).bytes
         (P.blocks paging) (F.blocks files) },
     ghost tallied: { IsTallied told },
     ghost slots_whole: { AreWhole (P.blocks paging) },
@@ -52,7 +53,7 @@ fn first_move(machine: Machine) -> Move
 }
 
 impl<P: Inject, F: Inject, M: Moves> State<P, F, M> {
-    ghost use Rattle.mm_state.specs.StateShown.{shown, loans};
+    ghost use Rattle.mm_state.specs.StateShown.{shown_state, loans};
 
     /// A machine at rest, whose first line has begun and is noted, over two devices that were
     /// opened with its slots and its blocks. It takes the memory of all frames, slots, blocks and
@@ -68,10 +69,10 @@ impl<P: Inject, F: Inject, M: Moves> State<P, F, M> {
         requires blocks { length (F.blocks files) ≡ machine.blocks }
         requires slots_whole { AreWhole (P.blocks paging) }
         requires blocks_whole { AreWhole (F.blocks files) }
-        ensures starts { IfOk result (λ s. Starts machine (M.log moves)
+        ensures starts { IfOk result (λ s. MachineStarts machine (M.log moves)
             (device_with (P.log paging) (P.named paging) (P.faults paging))
             (device_with (F.log files) (F.named files) (F.faults files))
-            (P.blocks paging) (F.blocks files) (shown s)) }
+            (P.blocks paging) (F.blocks files) (shown_state s)) }
         ensures devices { IfOk result (λ s. (s.paging ≡ paging) × (s.files ≡ files)) }
         ensures loans { IfOk result
             (λ s. loans s ≡ Both (Both (P.loans paging) (F.loans files)) (M.loans moves)) }

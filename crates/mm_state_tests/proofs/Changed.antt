@@ -16,7 +16,7 @@ use Rattle.mm_blocks.specs.Devices.{DeviceOf}
 use Rattle.mm_pages.specs.Told.{Told}
 use Rattle.mm_parts.specs.Shown.{PartsOf}
 use Rattle.mm_moving.specs.Shown.{written_if}
-use Rattle.mm_state.specs.Shown.{state_of}
+use Rattle.mm_state.specs.Shown.{joined_state}
 
 some_set : {A : Type 0} (xs : List A) (i j : ℕ) (x : A) → is_some (slice_get (slice_set xs i x) j) ≡ is_some (slice_get xs j)
 some_set [] i j x = refl
@@ -84,8 +84,8 @@ slot_behind false l ram slots blocks kept none s page after e = subst (λ (x : B
 
 -- where the bytes of frames alone changed, a state shows all else as before
 pub rest_bytes : (v u : PartsOf) (bytes : FrameBytes) (log : Log) (told : Told) (paging files : DeviceOf) (slots blocks : BlockBytes) → v ≡ record u { bytes = bytes }
-    → state_of v log told paging files slots blocks ≡ record (state_of u log told paging files slots blocks) { contents = contents_of v.life v.bytes slots blocks }
-rest_bytes v u bytes log told paging files slots blocks e = λ i. record (state_of (e i) log told paging files slots blocks) { contents = contents_of v.life v.bytes slots blocks }
+    → joined_state v log told paging files slots blocks ≡ record (joined_state u log told paging files slots blocks) { contents = contents_of v.life v.bytes slots blocks }
+rest_bytes v u bytes log told paging files slots blocks e = λ i. record (joined_state (e i) log told paging files slots blocks) { contents = contents_of v.life v.bytes slots blocks }
 
 -- the same keys are live
 pub same_live : (v u : PartsOf) (bytes : FrameBytes) (slots blocks : BlockBytes) → v ≡ record u { bytes = bytes } → BytesLocated v.life v.bytes slots blocks → BytesLocated u.life u.bytes slots blocks → (k : Key)

@@ -5,11 +5,11 @@ use Rattle.mm_types.specs.declared.numbers.Key.{Key}
 use Rattle.mm_world.specs.World.{Page}
 use Rattle.mm_world.specs.Contents.{Tables}
 use Rattle.mm_pages.specs.Store.{StoreOf}
-use Rattle.mm_tables.specs.Fits.{Fits}
+use Rattle.mm_tables.specs.Fits.{FitsTables}
 
-pub still_fits : (t : Tables) (c d : Key → Option Page) (s z : StoreOf) → z ≡ s → ((k : Key) → is_some (d k) ≡ is_some (c k)) → Fits t c s → Fits t d z
+pub still_fits : (t : Tables) (c d : Key → Option Page) (s z : StoreOf) → z ≡ s → ((k : Key) → is_some (d k) ≡ is_some (c k)) → FitsTables t c s → FitsTables t d z
 still_fits t c d s z e live h =
-    let there : Fits t d s = record {
+    let there : FitsTables t d s = record {
       machine = h.machine;
       opened = h.opened;
       last_pid = h.last_pid;
@@ -26,4 +26,4 @@ still_fits t c d s z e live h =
       named_paging = h.named_paging;
       named_file = h.named_file;
     } in
-    subst (λ (x : StoreOf). Fits t d x) (sym e) there
+    subst (λ (x : StoreOf). FitsTables t d x) (sym e) there

@@ -14,18 +14,18 @@ use Rattle.mm_moving.specs.Shown.{StateOf}
 use Rattle.mm_state_tests.specs.Rows.{after_moves}
 
 -- the page of the file
-abbrev pub filed : Key
-filed = Shared (record { 0 = 0 }) 0
+abbrev pub filed_key : Key
+filed_key = Shared (record { 0 = 0 }) 0
 
 abbrev pub filed_log : List Move
 filed_log =
     move.At 1 (kind.Machine 6 2 1 1)
     ∷ move.At 2 (kind.Process (pid 1) 0 8)
     ∷ move.At 3 kind.Call
-    ∷ move.Add filed (Some (record { 0 = 0 }))
+    ∷ move.Add filed_key (Some (record { 0 = 0 }))
     ∷ move.Add (private 1 17) None
     ∷ move.At 4 (kind.Thread (pid 1))
-    ∷ move.Read (frame 0) filed
+    ∷ move.Read (frame 0) filed_key
     ∷ move.At 5 kind.Io
     ∷ move.Got (frame 0)
     ∷ move.At 6 (kind.Access (pid 1))
@@ -40,12 +40,12 @@ filed_log =
     ∷ move.Drop (private 1 17)
     ∷ []
 
-abbrev pub life_at : ℕ → FrameLife
-life_at n = after_moves unstarted (take n filed_log)
+abbrev pub filed_life : ℕ → FrameLife
+filed_life n = after_moves unstarted (take n filed_log)
 
 -- nothing but the machine's line was made, and no call is named to fail
-pub record Opens (s : StateOf) : Type 0 where
-  pub life : s.life ≡ life_at 1
+pub record FiledBegins (s : StateOf) : Type 0 where
+  pub life : s.life ≡ filed_life 1
   pub own : s.own ≡ None
   pub aside : s.aside ≡ None
   pub bound : s.bound ≡ λ _. false
@@ -55,8 +55,8 @@ pub record Opens (s : StateOf) : Type 0 where
   pub named : s.paging.named ≡ []
 
 -- the first n moves were made, with nothing under way
-pub record Filed (n : ℕ) (s : StateOf) : Type 0 where
-  pub life : s.life ≡ life_at n
+pub record FiledStands (n : ℕ) (s : StateOf) : Type 0 where
+  pub life : s.life ≡ filed_life n
   pub own : s.own ≡ None
   pub aside : s.aside ≡ None
   pub bound : s.bound ≡ changed_in (λ _. false) 1 (pages 16 2) true

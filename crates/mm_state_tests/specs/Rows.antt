@@ -14,8 +14,8 @@ after_moves l [] = l
 after_moves l (x ∷ xs) = after_moves (after_move l x) xs
 
 -- the replay's state after the first n moves of the row
-abbrev pub life_after : ℕ → FrameLife
-life_after n = after_moves unstarted (take n rewritten_log)
+abbrev pub row_life : ℕ → FrameLife
+row_life n = after_moves unstarted (take n rewritten_log)
 
 -- the row's one page
 abbrev pub page : Key
@@ -25,16 +25,16 @@ abbrev pub page_place : Place
 page_place = place 1 16
 
 -- the machine's line has begun, and no key was used
-pub record Begun (s : StateOf) : Type 0 where
-  pub life : s.life ≡ life_after 1
+pub record RowBegun (s : StateOf) : Type 0 where
+  pub life : s.life ≡ row_life 1
   pub own : s.own ≡ None
   pub aside : s.aside ≡ None
   pub unnamed : s.names page_place ≡ None
 
 -- the first n moves were made, nothing is under way within the line, and the page's place is bound
 -- and names this
-pub record Stands (n : ℕ) (named : Option Key) (s : StateOf) : Type 0 where
-  pub life : s.life ≡ life_after n
+pub record RowStands (n : ℕ) (named : Option Key) (s : StateOf) : Type 0 where
+  pub life : s.life ≡ row_life n
   pub own : s.own ≡ None
   pub aside : s.aside ≡ None
   pub bound : s.bound page_place ≡ true

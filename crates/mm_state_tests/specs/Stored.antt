@@ -13,6 +13,6 @@ use Rattle.mm_state_tests.specs.Rows.{page, page_place}
 abbrev pub small_machine : MachineOf
 small_machine = record { frames = 8; slots = 4; depth = 1; blocks = 0 }
 
-pub record MayUse (contents : Key → Option Page) (s : StoreOf) : Type 0 where
+pub record MayUsePage (contents : Key → Option Page) (s : StoreOf) : Type 0 where
   pub at : IsAt contents s page_place page
   pub kind : s.kind ≡ kind.Access (pid 1)

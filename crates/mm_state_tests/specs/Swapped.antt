@@ -28,8 +28,8 @@ adds =
     ∷ []
 
 -- a page is used for the first time
-abbrev pub uses : ℕ → ℕ → List Move
-uses f v = move.Clear (frame f) ∷ move.Give (frame f) (private 1 v) ∷
+abbrev pub first_use : ℕ → ℕ → List Move
+first_use f v = move.Clear (frame f) ∷ move.Give (frame f) (private 1 v) ∷
     move.Map (frame f) (place 1 v) ∷ []
 
 -- the first page goes to a slot and comes back
@@ -50,15 +50,16 @@ leaves = move.Unmap (place 1 17) ∷ move.Unmap (place 1 18) ∷ move.Unmap (pla
     move.Unmap (place 1 20) ∷ move.Unmap (place 1 21) ∷ []
 
 abbrev pub swapped_log : List Move
-swapped_log = adds ++ uses 0 16 ++ uses 1 17 ++ uses 2 18 ++ uses 3 19 ++ uses 4 20 ++ uses 5 21 ++
+swapped_log = adds ++ first_use 0 16 ++ first_use 1 17 ++ first_use 2 18 ++ first_use 3 19 ++
+    first_use 4 20 ++ first_use 5 21 ++
     swap ++ leaves
 
-abbrev pub life_at : ℕ → FrameLife
-life_at n = after_moves unstarted (take n swapped_log)
+abbrev pub swapped_life : ℕ → FrameLife
+swapped_life n = after_moves unstarted (take n swapped_log)
 
 -- nothing but the machine's line was made
-pub record Opens (s : StateOf) : Type 0 where
-  pub life : s.life ≡ life_at 1
+pub record SwappedBegins (s : StateOf) : Type 0 where
+  pub life : s.life ≡ swapped_life 1
   pub own : s.own ≡ None
   pub aside : s.aside ≡ None
   pub bound : s.bound ≡ λ _. false
@@ -67,7 +68,7 @@ pub record Opens (s : StateOf) : Type 0 where
 
 -- the first n moves were made, with nothing under way, and no page was used yet
 pub record Unused (n : ℕ) (s : StateOf) : Type 0 where
-  pub life : s.life ≡ life_at n
+  pub life : s.life ≡ swapped_life n
   pub own : s.own ≡ None
   pub aside : s.aside ≡ None
   pub bound : s.bound ≡ changed_in (λ _. false) 1 (pages 16 6) true
@@ -76,7 +77,7 @@ pub record Unused (n : ℕ) (s : StateOf) : Type 0 where
 
 -- the first n moves were made, with nothing under way
 pub record Used (n : ℕ) (s : StateOf) : Type 0 where
-  pub life : s.life ≡ life_at n
+  pub life : s.life ≡ swapped_life n
   pub own : s.own ≡ None
   pub aside : s.aside ≡ None
   pub bound : s.bound ≡ changed_in (λ _. false) 1 (pages 16 6) true

@@ -5,7 +5,7 @@ ghost use Rattle.mm_life.specs.Frames.{record_at, is_read, slot_of};
 ghost use Rattle.mm_ram.specs.Ram.{bytes_of, overwritten, with_page};
 ghost use Rattle.mm_frame_laws.specs.Carried.{IsSoiled};
 ghost use Rattle.mm_parts.specs.PartsShown as parts_of;
-ghost use Rattle.mm_state.specs.StateShown.{shown};
+ghost use Rattle.mm_state.specs.StateShown.{shown_state};
 
 use mm_blocks::Inject;
 use mm_moves::Moves;
@@ -28,12 +28,13 @@ fn write_device<B: Inject>(device: &mut B, block: u32, page: &[u8; 4096]) -> boo
 
 /// The first bytes of a frame that has an owner are changed behind the parts.
 fn write_in_parts(parts: &mut Parts, f: Frame, bytes: &[u8])
-    requires owned { IsSome (record_at (parts_of.shown parts.old).life.frames f.0).owner }
-    requires calm { is_read (record_at (parts_of.shown parts.old).life.frames f.0).request ≡ false }
+    requires owned { IsSome (record_at (parts_of.shown_parts parts.old).life.frames f.0).owner }
+    requires calm { is_read (record_at (parts_of.shown_parts parts.old).life.frames f.0).request
+        ≡ false }
     requires inside { length bytes.now ≤ 4096 }
-    ensures made { parts_of.shown parts.new ≡ record (parts_of.shown parts.old) {
-      bytes = with_page (parts_of.shown parts.old).bytes f.0
-          (overwritten (bytes_of (parts_of.shown parts.old).bytes f.0) 0 bytes.now);
+    ensures made { parts_of.shown_parts parts.new ≡ record (parts_of.shown_parts parts.old) {
+      bytes = with_page (parts_of.shown_parts parts.old).bytes f.0
+          (overwritten (bytes_of (parts_of.shown_parts parts.old).bytes f.0) 0 bytes.now);
     } }
 {
     parts.frames.write(f, 0, bytes);
@@ -46,14 +47,14 @@ pub(crate) fn write_frame<P: Inject, F: Inject, M: Moves>(
     f: Frame,
     bytes: &[u8],
 )
-    requires owned { IsSome (record_at (shown state.old).life.frames f.0).owner }
-    requires soiled { IsSoiled (record_at (shown state.old).life.frames f.0) }
+    requires owned { IsSome (record_at (shown_state state.old).life.frames f.0).owner }
+    requires soiled { IsSoiled (record_at (shown_state state.old).life.frames f.0) }
     requires inside { length bytes.now ≤ 4096 }
-    ensures rest { shown state.new ≡ record (shown state.old) {
-      contents = (shown state.new).contents;
+    ensures rest { shown_state state.new ≡ record (shown_state state.old) {
+      contents = (shown_state state.new).contents;
     } }
-    ensures live { (k : Key) → is_some ((shown state.new).contents k) ≡
-        is_some ((shown state.old).contents k) }
+    ensures live { (k : Key) → is_some ((shown_state state.new).contents k) ≡
+        is_some ((shown_state state.old).contents k) }
 {
     write_in_parts(&mut state.parts, f, bytes);
 }
@@ -65,12 +66,13 @@ pub(crate) fn write_slot<P: Inject, F: Inject, M: Moves>(
     s: Slot,
     byte: u8,
 ) -> bool
-    requires there { s.0 < (shown state.old).life.machine.slots }
-    requires none { (f : ℕ) → slot_of (record_at (shown state.old).life.frames f).backing ≡ None }
-    ensures rest { shown state.new ≡ record (shown state.old) {
-      contents = (shown state.new).contents;
-      paging = (shown state.new).paging;
-      slots = (shown state.new).slots;
+    requires there { s.0 < (shown_state state.old).life.machine.slots }
+    requires none { (f : ℕ) →
+        slot_of (record_at (shown_state state.old).life.frames f).backing ≡ None }
+    ensures rest { shown_state state.new ≡ record (shown_state state.old) {
+      contents = (shown_state state.new).contents;
+      paging = (shown_state state.new).paging;
+      slots = (shown_state state.new).slots;
     } }
 {
     let page = [byte; 4096];
@@ -83,12 +85,13 @@ pub(crate) fn write_block<P: Inject, F: Inject, M: Moves>(
     b: Block,
     byte: u8,
 ) -> bool
-    requires there { b.0 < (shown state.old).life.machine.blocks }
-    requires none { (f : ℕ) → is_some (record_at (shown state.old).life.frames f).owner ≡ false }
-    ensures rest { shown state.new ≡ record (shown state.old) {
-      contents = (shown state.new).contents;
-      files = (shown state.new).files;
-      blocks = (shown state.new).blocks;
+    requires there { b.0 < (shown_state state.old).life.machine.blocks }
+    requires none { (f : ℕ) →
+        is_some (record_at (shown_state state.old).life.frames f).owner ≡ false }
+    ensures rest { shown_state state.new ≡ record (shown_state state.old) {
+      contents = (shown_state state.new).contents;
+      files = (shown_state state.new).files;
+      blocks = (shown_state state.new).blocks;
     } }
 {
     let page = [byte; 4096];

@@ -1,8 +1,8 @@
 ghost use Rattle.std.specs.Prelude.{◌≡◌, OnOk, replicate};
 ghost use Rattle.std.specs.Bool.{OnTrue};
 ghost use Rattle.mm_blocks.specs.Traffic.{empty_block};
-ghost use Rattle.mm_state.specs.StateShown.{shown};
-ghost use Rattle.mm_state_tests.specs.Filed.{Opens, Filed};
+ghost use Rattle.mm_state.specs.StateShown.{shown_state};
+ghost use Rattle.mm_state_tests.specs.Filed.{FiledBegins, FiledStands};
 
 use crate::behind::write_block;
 use crate::devices::opened;
@@ -17,27 +17,6 @@ use mm_types::{
 };
 use std::alloc::Global;
 use std::test::Fail;
-
-const LOG: &[u8] = b"at 1 machine 6 2 1 1
-at 2 process 1 0 8
-at 3 call
-add s0.0 block 0
-add p1.17 zero
-at 4 thread 1
-read 0 s0.0
-at 5 io
-got 0
-at 6 access 1
-map 0 1.16
-clear 1
-give 1 p1.17
-map 1 1.17
-at 7 grow 2
-at 8 unbind 1
-unmap 1.16
-unmap 1.17
-drop p1.17
-";
 
 const FILED: Key = Key::Shared(Area(0), 0);
 
@@ -55,8 +34,8 @@ fn at(v: u32) -> Place
 
 /// An area comes and goes, and another is that of a file of one page.
 fn open_areas<T: Moving>(state: &mut T) -> Result<(), NoMemory>
-    requires { Opens (T.shown state.old) }
-    ensures { OnOk result (Opens (T.shown state.new)) }
+    requires { FiledBegins (T.shown state.old) }
+    ensures { OnOk result (FiledBegins (T.shown state.new)) }
 {
     state.open_area(Area(1), 3)?;
     state.close_area(Area(1));
@@ -65,8 +44,8 @@ fn open_areas<T: Moving>(state: &mut T) -> Result<(), NoMemory>
 
 /// A file of one page, and a process of two.
 fn set_up<T: Moving>(state: &mut T) -> Result<(), NoMemory>
-    requires { Opens (T.shown state.old) }
-    ensures { OnOk result (Filed 5 (T.shown state.new)) }
+    requires { FiledBegins (T.shown state.old) }
+    ensures { OnOk result (FiledStands 5 (T.shown state.new)) }
 {
     state.fail(Device::Paging, Direction::Read, 9, 1);
     state.at(2, LineKind::Process(Pid(1), 0, 8));
@@ -82,8 +61,8 @@ fn set_up<T: Moving>(state: &mut T) -> Result<(), NoMemory>
 
 /// The page of the file is read, and a thread waits for it.
 fn begin_read<T: Moving>(state: &mut T) -> (Wait, Frame)
-    requires { Filed 5 (T.shown state.old) }
-    ensures { Filed 8 (T.shown state.new) }
+    requires { FiledStands 5 (T.shown state.old) }
+    ensures { FiledStands 8 (T.shown state.new) }
 {
     state.at(4, LineKind::Thread(Pid(1)));
     let f = state.start_read(FILED);
@@ -95,8 +74,8 @@ fn begin_read<T: Moving>(state: &mut T) -> (Wait, Frame)
 
 /// The read ends.
 fn end_read<T: Moving>(state: &mut T) -> (bool, Wait)
-    requires { Filed 8 (T.shown state.old) }
-    ensures { OnTrue result.0 (Filed 9 (T.shown state.new)) }
+    requires { FiledStands 8 (T.shown state.old) }
+    ensures { OnTrue result.0 (FiledStands 9 (T.shown state.new)) }
 {
     let ok = state.end_read(Frame(0));
     let wait = state.outcome(Tid(3));
@@ -106,8 +85,8 @@ fn end_read<T: Moving>(state: &mut T) -> (bool, Wait)
 
 /// The page is copied to the process's own.
 fn copy<T: Moving>(state: &mut T) -> u8
-    requires { Filed 9 (T.shown state.old) }
-    ensures { Filed 14 (T.shown state.new) }
+    requires { FiledStands 9 (T.shown state.old) }
+    ensures { FiledStands 14 (T.shown state.new) }
 {
     state.at(6, LineKind::Access(Pid(1)));
     state.map(Frame(0), at(16));
@@ -121,75 +100,18 @@ fn copy<T: Moving>(state: &mut T) -> u8
     out[0]
 }
 
-/// The paging file grows.
-fn grow<T: Moving>(state: &mut T) -> bool
-    requires { Filed 14 (T.shown state.old) }
-    ensures { OnTrue result (Filed 15 (T.shown state.new)) }
-{
-    state.grow(7, 2).is_ok()
-}
-
-/// The process ends.
-fn end<T: Moving>(state: &mut T)
-    requires { Filed 15 (T.shown state.old) }
-{
-    state.at(8, LineKind::Unbind(Pid(1)));
-    state.unmap(at(16));
-    state.unmap(at(17));
-    state.drop_key(OWN);
-    state.unbind(Pid(1), Vpn(16), 2);
-    state.close_process(Pid(1));
-}
-
-/// What the state told on the way.
-#[derive(Drop)]
-struct Told {
-    first: Wait,
-    frame: Frame,
-    last: Wait,
-    byte: u8,
-}
-
-/// The moves as they come, to the last.
-fn file<T: Moving>(state: &mut T) -> Option<Told>
-    requires { Opens (T.shown state.old) }
-{
-    let Ok(()) = open_areas(state) else {
-        return None;
-    };
-    let Ok(()) = set_up(state) else {
-        return None;
-    };
-    let (first, frame) = begin_read(state);
-    let (ok, last) = end_read(state);
-    if !ok {
-        return None;
-    }
-    let byte = copy(state);
-    if !grow(state) {
-        return None;
-    }
-    end(state);
-    Some(Told {
-        first,
-        frame,
-        last,
-        byte,
-    })
-}
-
 /// The block of the file's page is changed behind the state before the page has a frame. False
 /// where the device failed.
 fn change_in_block<P: Inject, F: Inject, M: Moves>(state: &mut State<P, F, M>) -> bool
-    requires { Filed 5 (shown state.old) }
-    ensures { Filed 5 (shown state.new) }
+    requires { FiledStands 5 (shown_state state.old) }
+    ensures { FiledStands 5 (shown_state state.new) }
 {
     write_block(state, Block(0), 0x77)
 }
 
 /// The copy of the page, where it is read after such a change.
 fn change_block<P: Inject, F: Inject, M: Moves>(state: &mut State<P, F, M>) -> Option<u8>
-    requires { Opens (shown state.old) }
+    requires { FiledBegins (shown_state state.old) }
 {
     let Ok(()) = open_areas(state) else {
         return None;
@@ -205,26 +127,6 @@ fn change_block<P: Inject, F: Inject, M: Moves>(state: &mut State<P, F, M>) -> O
         return None;
     }
     Some(copy(state))
-}
-
-/// The same on devices that were opened.
-fn run_file<'a>(
-    alloc: Global,
-    paging: &'a mut MemBlocks,
-    files: &'a mut MemBlocks,
-    sink: &'a mut MemSink,
-) -> Option<Told>
-    requires slots { paging.old.blocks ≡ replicate 2 empty_block }
-    requires blocks { files.old.blocks ≡ replicate 1 empty_block }
-{
-    let machine = Machine::new(6, 2, 1, 1);
-    let paging = Injected::new(paging);
-    let files = Injected::new(files);
-    let moves = Recorder::new(sink);
-    match State::new(alloc, machine, paging, files, moves) {
-        Ok(mut state) => file(&mut state),
-        Err(_) => None,
-    }
 }
 
 /// The block that is changed behind the state, on devices that were opened.
@@ -256,19 +158,5 @@ fn a_block_changed_on_its_device_is_read(rt: HostRuntime) -> Result<(), Fail> {
     let mut sink = MemSink::new(rt.alloc(), 1000, Vec::new(rt.alloc())).map_err(|_| "no room")?;
     let byte = run_change(rt.alloc(), &mut paging, &mut files, &mut sink);
     assert_eq!(rt; byte, Some(0x77));
-    Ok(())
-}
-
-#[test]
-fn a_page_of_a_file_is_copied(rt: HostRuntime) -> Result<(), Fail> {
-    let mut paging = opened(rt.alloc(), 2)?;
-    let mut files = opened(rt.alloc(), 1)?;
-    let mut sink = MemSink::new(rt.alloc(), 1000, Vec::new(rt.alloc())).map_err(|_| "no room")?;
-    let told = run_file(rt.alloc(), &mut paging, &mut files, &mut sink).expect(&rt, "done");
-    assert_eq!(rt; sink.bytes(), LOG);
-    assert_eq!(rt; told.first, Wait::InFlight);
-    assert_eq!(rt; told.frame, Frame(0));
-    assert_eq!(rt; told.last, Wait::Done);
-    assert_eq!(rt; told.byte, 0x5A);
     Ok(())
 }

@@ -9,8 +9,6 @@ mod devices;
 #[cfg(test)]
 mod filed;
 #[cfg(test)]
-mod pinned;
-#[cfg(test)]
 mod rewritten;
 #[cfg(test)]
 mod store;

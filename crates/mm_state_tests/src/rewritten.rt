@@ -1,8 +1,7 @@
 ghost use Rattle.std.specs.Prelude.{◌≡◌, None, Some, OnOk, replicate};
-ghost use Rattle.std.specs.Bool.{OnTrue};
 ghost use Rattle.mm_blocks.specs.Traffic.{empty_block};
-ghost use Rattle.mm_state.specs.StateShown.{shown};
-ghost use Rattle.mm_state_tests.specs.Rows.{Begun, Stands, page};
+ghost use Rattle.mm_state.specs.StateShown.{shown_state};
+ghost use Rattle.mm_state_tests.specs.Rows.{RowBegun, RowStands, page};
 
 use crate::behind::write_frame;
 use crate::devices::opened;
@@ -22,36 +21,10 @@ const PLACE: Place = Place {
     vpn: Vpn(16),
 };
 
-const LOG: &[u8] = b"at 1 machine 8 8 1 0
-at 2 process 1 0 8
-at 3 call
-add p1.16 zero
-at 4 access 1
-clear 0
-give 0 p1.16
-map 0 1.16
-at 5 trim 1
-unmap 1.16
-at 6 writer
-write 0 slot 0
-at 7 call
-at 8 access 1
-map 0 1.16
-soil 0
-at 9 call
-at 10 trim 1
-unmap 1.16
-at 11 io
-wrote 0
-at 12 call
-at 13 access 1
-map 0 1.16
-";
-
 /// A process of one page.
 fn set_up<T: Moving>(state: &mut T) -> Result<(), NoMemory>
-    requires { Begun (T.shown state.old) }
-    ensures { OnOk result (Stands 4 None (T.shown state.new)) }
+    requires { RowBegun (T.shown state.old) }
+    ensures { OnOk result (RowStands 4 None (T.shown state.new)) }
 {
     state.at(2, LineKind::Process(Pid(1), 0, 8));
     state.open_process(Pid(1))?;
@@ -63,8 +36,8 @@ fn set_up<T: Moving>(state: &mut T) -> Result<(), NoMemory>
 
 /// The page is used for the first time.
 fn first_write<T: Moving>(state: &mut T)
-    requires { Stands 4 None (T.shown state.old) }
-    ensures { Stands 8 (Some page) (T.shown state.new) }
+    requires { RowStands 4 None (T.shown state.old) }
+    ensures { RowStands 8 (Some page) (T.shown state.new) }
 {
     state.at(4, LineKind::Access(Pid(1)));
     state.clear();
@@ -73,73 +46,9 @@ fn first_write<T: Moving>(state: &mut T)
     state.write(PLACE, 0, &[1, 0x5A]);
 }
 
-/// Its write begins.
-fn begin_write<T: Moving>(state: &mut T)
-    requires { Stands 8 (Some page) (T.shown state.old) }
-    ensures { Stands 13 (Some page) (T.shown state.new) }
-{
-    state.at(5, LineKind::Trim(Pid(1)));
-    state.unmap(PLACE);
-    state.at(6, LineKind::Writer);
-    state.start_write(Frame(0));
-    state.at(7, LineKind::Call);
-}
-
-/// It is changed meanwhile.
-fn second_write<T: Moving>(state: &mut T)
-    requires { Stands 13 (Some page) (T.shown state.old) }
-    ensures { Stands 17 (Some page) (T.shown state.new) }
-{
-    state.at(8, LineKind::Access(Pid(1)));
-    state.map(Frame(0), PLACE);
-    state.soil(Frame(0));
-    state.write(PLACE, 0, &[2]);
-    state.at(9, LineKind::Call);
-}
-
-/// Its write ends.
-fn end_write<T: Moving>(state: &mut T) -> bool
-    requires { Stands 17 (Some page) (T.shown state.old) }
-    ensures { OnTrue result (Stands 21 (Some page) (T.shown state.new)) }
-{
-    state.at(10, LineKind::Trim(Pid(1)));
-    state.unmap(PLACE);
-    state.at(11, LineKind::Io);
-    state.end_write(Frame(0))
-}
-
-/// It is read.
-fn last_read<T: Moving>(state: &mut T) -> u8
-    requires { Stands 21 (Some page) (T.shown state.old) }
-{
-    state.at(12, LineKind::Call);
-    state.at(13, LineKind::Access(Pid(1)));
-    state.map(Frame(0), PLACE);
-    let mut out = [0; 1];
-    state.read(PLACE, 0, &mut out);
-    out[0]
-}
-
-/// The moves as they come, to the last.
-fn rewrite<T: Moving>(state: &mut T) -> Option<u8>
-    requires { Begun (T.shown state.old) }
-{
-    let Ok(()) = set_up(state) else {
-        return None;
-    };
-    first_write(state);
-    begin_write(state);
-    second_write(state);
-    if end_write(state) {
-        Some(last_read(state))
-    } else {
-        None
-    }
-}
-
 /// The first two bytes of the page, as it is first used.
 fn first_two<T: Moving>(state: &mut T) -> [u8; 2]
-    requires { Stands 8 (Some page) (T.shown state.old) }
+    requires { RowStands 8 (Some page) (T.shown state.old) }
 {
     let mut out = [0; 2];
     state.read(PLACE, 0, &mut out);
@@ -148,15 +57,15 @@ fn first_two<T: Moving>(state: &mut T) -> [u8; 2]
 
 /// The first byte of the page is changed behind the state, in the frame that holds it.
 fn change_in_frame<P: Inject, F: Inject, M: Moves>(state: &mut State<P, F, M>)
-    requires { Stands 8 (Some page) (shown state.old) }
-    ensures { Stands 8 (Some page) (shown state.new) }
+    requires { RowStands 8 (Some page) (shown_state state.old) }
+    ensures { RowStands 8 (Some page) (shown_state state.new) }
 {
     write_frame(state, Frame(0), &[0x77]);
 }
 
 /// The page as it is read through the state after such a change.
 fn change_frame<P: Inject, F: Inject, M: Moves>(state: &mut State<P, F, M>) -> Option<[u8; 2]>
-    requires { Begun (shown state.old) }
+    requires { RowBegun (shown_state state.old) }
 {
     let Ok(()) = set_up(state) else {
         return None;
@@ -164,26 +73,6 @@ fn change_frame<P: Inject, F: Inject, M: Moves>(state: &mut State<P, F, M>) -> O
     first_write(state);
     change_in_frame(state);
     Some(first_two(state))
-}
-
-/// The row on devices that were opened: the byte that is read last.
-fn run_row<'a>(
-    alloc: Global,
-    paging: &'a mut MemBlocks,
-    files: &'a mut MemBlocks,
-    sink: &'a mut MemSink,
-) -> Option<u8>
-    requires slots { paging.old.blocks ≡ replicate 8 empty_block }
-    requires blocks { files.old.blocks ≡ replicate 0 empty_block }
-{
-    let machine = Machine::new(8, 8, 1, 0);
-    let paging = Injected::new(paging);
-    let files = Injected::new(files);
-    let moves = Recorder::new(sink);
-    match State::new(alloc, machine, paging, files, moves) {
-        Ok(mut state) => rewrite(&mut state),
-        Err(_) => None,
-    }
 }
 
 /// The same for the byte that is changed behind the state.
@@ -215,16 +104,5 @@ fn a_byte_changed_in_a_frame_is_read(rt: HostRuntime) -> Result<(), Fail> {
     let mut sink = MemSink::new(rt.alloc(), 1000, Vec::new(rt.alloc())).map_err(|_| "no room")?;
     let bytes = run_change(rt.alloc(), &mut paging, &mut files, &mut sink);
     assert_eq!(rt; bytes, Some([0x77, 0x5A]));
-    Ok(())
-}
-
-#[test]
-fn a_page_rewritten_while_it_is_written(rt: HostRuntime) -> Result<(), Fail> {
-    let mut paging = opened(rt.alloc(), 8)?;
-    let mut files = opened(rt.alloc(), 0)?;
-    let mut sink = MemSink::new(rt.alloc(), 1000, Vec::new(rt.alloc())).map_err(|_| "no room")?;
-    let byte = run_row(rt.alloc(), &mut paging, &mut files, &mut sink);
-    assert_eq!(rt; byte, Some(2));
-    assert_eq!(rt; sink.bytes(), LOG);
     Ok(())
 }

@@ -6,7 +6,7 @@ ghost use Rattle.mm_frame_laws.specs.Carried.{IsSoiled};
 ghost use Rattle.mm_pages.specs.Conditions.{IsNew};
 ghost use Rattle.mm_paged.specs.Store as paged;
 ghost use Rattle.mm_state_tests.specs.Rows.{page_place};
-ghost use Rattle.mm_state_tests.specs.Stored.{MayUse, small_machine};
+ghost use Rattle.mm_state_tests.specs.Stored.{MayUsePage, small_machine};
 
 use crate::behind::write_frame;
 use crate::devices::opened;
@@ -31,7 +31,7 @@ const PLACE: Place = Place {
 /// A process of one page, which is about to be used.
 fn set_up<G: Pages>(store: &mut G) -> Result<(), NoMemory>
     requires { IsNew small_machine (G.contents store.old) (G.store store.old) }
-    ensures { OnOk result (MayUse (G.contents store.new) (G.store store.new)) }
+    ensures { OnOk result (MayUsePage (G.contents store.new) (G.store store.new)) }
 {
     store.line(2, LineKind::Process(Pid(1), 0, 8));
     store.open_process(Pid(1), 0, 8)?;
@@ -45,15 +45,15 @@ fn set_up<G: Pages>(store: &mut G) -> Result<(), NoMemory>
 
 /// Two bytes of the page are written. False where it failed.
 fn write_two<G: Pages>(store: &mut G) -> bool
-    requires { MayUse (G.contents store.old) (G.store store.old) }
-    ensures { OnTrue result (MayUse (G.contents store.new) (G.store store.new)) }
+    requires { MayUsePage (G.contents store.old) (G.store store.old) }
+    ensures { OnTrue result (MayUsePage (G.contents store.new) (G.store store.new)) }
 {
     store.write(PLACE, KEY, 0, &[0x5A, 0x5A]).is_ok()
 }
 
 /// They are read.
 fn read_two<G: Pages>(store: &mut G) -> Option<[u8; 2]>
-    requires { MayUse (G.contents store.old) (G.store store.old) }
+    requires { MayUsePage (G.contents store.old) (G.store store.old) }
 {
     let mut out = [0; 2];
     match store.read(PLACE, KEY, 0, &mut out) {
@@ -83,8 +83,8 @@ fn modified_frame<T: Moving>(state: &T) -> Option<Frame>
 /// The first byte of the page is changed behind the store, in the frame that holds it. False where
 /// it is in none.
 fn change_in_frame<P: Inject, F: Inject, M: Moves>(store: &mut Paged<State<P, F, M>>) -> bool
-    requires { MayUse (paged.contents store.old) (paged.store store.old) }
-    ensures { MayUse (paged.contents store.new) (paged.store store.new) }
+    requires { MayUsePage (paged.contents store.old) (paged.store store.old) }
+    ensures { MayUsePage (paged.contents store.new) (paged.store store.new) }
 {
     match modified_frame(&store.state) {
         Some(f) => {

@@ -3,7 +3,7 @@ ghost use Rattle.mm_blocks.specs.Traffic.{empty_block};
 ghost use Rattle.mm_pages.specs.Conditions.{IsNew};
 ghost use Rattle.mm_script.specs.Printed.{IsWellFormed};
 ghost use Rattle.mm_core.specs.Built.{is_machine};
-ghost use Rattle.mm_core.specs.Shown.{line_of};
+ghost use Rattle.mm_core.specs.Shown.{line_number};
 ghost use Rattle.mm_state_tests.specs.Stored.{small_machine};
 
 use crate::devices::opened;
@@ -32,20 +32,22 @@ fn decide<G: Pages>(
 ) -> Result<Answer, NoMemory>
     requires well_formed { IsWellFormed event.now }
     requires later { is_machine event.now ≡ false }
-    requires next { line ≡ line_of world.old + 1 }
+    requires next { line ≡ line_number world.old + 1 }
     requires few { line ≤ 1000000 }
     requires ready { world.old.spent ≡ false }
-    ensures line { OnOk result (line_of world.new ≡ line) }
+    ensures line { OnOk result (line_number world.new ≡ line) }
     ensures ready { OnOk result (world.new.spent ≡ false) }
 {
-    world.step(alloc, line, event)
+    let mut answer = Answer::Ok;
+    world.step(alloc, line, event, &mut answer)?;
+    Ok(answer)
 }
 
 /// Two bytes of the page are written.
 fn write_two<G: Pages>(alloc: Global, world: &mut World<G>) -> Result<(), NoMemory>
-    requires line { line_of world.old ≡ 3 }
+    requires line { line_number world.old ≡ 3 }
     requires ready { world.old.spent ≡ false }
-    ensures line { OnOk result (line_of world.new ≡ 4) }
+    ensures line { OnOk result (line_number world.new ≡ 4) }
     ensures ready { OnOk result (world.new.spent ≡ false) }
 {
     let Some(bytes) = ByteBuf::from_slice(&[0x5A, 0x5A]) else {
@@ -63,7 +65,7 @@ fn write_two<G: Pages>(alloc: Global, world: &mut World<G>) -> Result<(), NoMemo
 /// A new world over a new store.
 fn first<G: Pages>(alloc: Global, pages: G) -> World<G>
     requires { IsNew small_machine (G.contents pages) (G.store pages) }
-    ensures line { line_of result ≡ 1 }
+    ensures line { line_number result ≡ 1 }
     ensures ready { result.spent ≡ false }
 {
     World::new(alloc, Machine::new(8, 4, 1, 0), pages)
@@ -71,9 +73,9 @@ fn first<G: Pages>(alloc: Global, pages: G) -> World<G>
 
 /// A process with one page, which was written and trimmed.
 fn trimmed_page<G: Pages>(alloc: Global, world: &mut World<G>) -> Result<(), NoMemory>
-    requires line { line_of world.old ≡ 1 }
+    requires line { line_number world.old ≡ 1 }
     requires ready { world.old.spent ≡ false }
-    ensures line { OnOk result (line_of world.new ≡ 5) }
+    ensures line { OnOk result (line_number world.new ≡ 5) }
     ensures ready { OnOk result (world.new.spent ≡ false) }
 {
     decide(alloc, world, 2, &Event::Process { min: 0, max: 8 })?;
@@ -93,9 +95,9 @@ fn trimmed_page<G: Pages>(alloc: Global, world: &mut World<G>) -> Result<(), NoM
 /// The first byte of the page is changed behind the world, in the frame that holds it. False where
 /// it is in none.
 fn change_behind<P: Inject, F: Inject, M: Moves>(world: &mut World<Paged<State<P, F, M>>>) -> bool
-    requires line { line_of world.old ≡ 5 }
+    requires line { line_number world.old ≡ 5 }
     requires ready { world.old.spent ≡ false }
-    ensures line { line_of world.new ≡ 5 }
+    ensures line { line_number world.new ≡ 5 }
     ensures ready { world.new.spent ≡ false }
 {
     change_modified(&mut world.pages)
@@ -106,7 +108,7 @@ fn read_behind<P: Inject, F: Inject, M: Moves>(
     alloc: Global,
     world: &mut World<Paged<State<P, F, M>>>,
 ) -> Result<Option<Answer>, NoMemory>
-    requires line { line_of world.old ≡ 1 }
+    requires line { line_number world.old ≡ 1 }
     requires ready { world.old.spent ≡ false }
 {
     trimmed_page(alloc, world)?;

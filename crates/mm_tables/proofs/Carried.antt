@@ -19,9 +19,9 @@ use Rattle.mm_world.specs.Find.{process_of, region_with, set_regions}
 use Rattle.mm_world.specs.Charge.{charge}
 use Rattle.mm_world.specs.Keys.{own_page, content_of}
 use Rattle.mm_pages.specs.Store.{StoreOf, is_place_in}
-use Rattle.mm_tables.specs.Fits.{Fits, Called, Settled, bytes_of, Carried, Carries, is_paging, is_reserved, key_at, block_in, paging_count}
+use Rattle.mm_tables.specs.Fits.{FitsTables, Called, Settled, key_bytes, Carried, CarriesPages, is_paging, is_reserved, key_at, file_block_in, paging_count}
 use Rattle.mm_tables.specs.Ranges.{is_key_in}
-use Rattle.mm_tables.specs.Effects.{Effect, Makes, Ends, Leaves, after, contents_by, paging_by, bound_by, names_by, Stored, Moves, key_in}
+use Rattle.mm_tables.specs.Effects.{Effect, Makes, Ends, Leaves, after, contents_by, paging_by, bound_by, names_by, RangeStored, Moves, key_in}
 use Rattle.mm_tables.proofs.Regions.{some_cond}
 use Rattle.mm_tables.proofs.OneProcess.{regions_in, reserved_is, content_is, regions_of_process, regions_set_same, regions_set_other, lives_set, key_in_same, key_at_is}
 
@@ -29,8 +29,8 @@ pub at_same : (o : Option Page) → Carried o o
 at_same None = refl
 at_same (Some x) = refl
 
-pub carries_same : (old new : Key → Option Page) → new ≡ old → Carries old new
-carries_same old new e = subst (λ (c : Key → Option Page). Carries old c) (sym e) (record { at = λ k. at_same (old k) })
+pub carries_same : (old new : Key → Option Page) → new ≡ old → CarriesPages old new
+carries_same old new e = subst (λ (c : Key → Option Page). CarriesPages old c) (sym e) (record { at = λ k. at_same (old k) })
 
 pub at_added : (b : Bool) (o : Option Page) → Carried o (cond b (Some (unwrap_or o (filled 0))) o)
 at_added true None = refl
@@ -42,20 +42,20 @@ at_removed true None = refl
 at_removed true (Some x) = refl
 at_removed false o = at_same o
 
-pub carries_by : (keys : Effect) (pid : Pid) (range : Range) (c : Key → Option Page) → Carries c (contents_by keys pid range c)
+pub carries_by : (keys : Effect) (pid : Pid) (range : Range) (c : Key → Option Page) → CarriesPages c (contents_by keys pid range c)
 carries_by Makes pid range c = record { at = λ k. at_added (is_key_in pid range k) (c k) }
 carries_by Ends pid range c = record { at = λ k. at_removed (is_key_in pid range k) (c k) }
 carries_by Leaves pid range c = carries_same c c refl
 
 -- ---- what was decided
 
-pub called_by : (q : OutcomeOf (Unit {0})) (t after : Tables) (c d : Key → Option Page) (s z : StoreOf) (a : Answer) → q ≡ record { answer = a; world = after } → Fits t c s → Settled after c d s z → Called q t c a after d
-called_by q t after c d s z a e f h = record { outcome = e; bytes = λ k. h.carries.at k ∙ (λ i. cond (f.live k i && h.fits.live k i) (bytes_of c k) (filled 0)) }
+pub called_by : (q : OutcomeOf (Unit {0})) (t after : Tables) (c d : Key → Option Page) (s z : StoreOf) (a : Answer) → q ≡ record { answer = a; world = after } → FitsTables t c s → Settled after c d s z → Called q t c a after d
+called_by q t after c d s z a e f h = record { outcome = e; bytes = λ k. h.carries.at k ∙ (λ i. cond (f.live k i && h.fits.live k i) (key_bytes c k) (filled 0)) }
 
-pub settled_same : (t : Tables) (c : Key → Option Page) (s : StoreOf) → Fits t c s → Settled t c c s s
+pub settled_same : (t : Tables) (c : Key → Option Page) (s : StoreOf) → FitsTables t c s → Settled t c c s s
 settled_same t c s f = record { fits = f; carries = carries_same c c refl; rest = refl }
 
-pub called_same : (q : OutcomeOf (Unit {0})) (t : Tables) (c : Key → Option Page) (s : StoreOf) (a : Answer) → q ≡ record { answer = a; world = t } → Fits t c s → Called q t c a t c
+pub called_same : (q : OutcomeOf (Unit {0})) (t : Tables) (c : Key → Option Page) (s : StoreOf) (a : Answer) → q ≡ record { answer = a; world = t } → FitsTables t c s → Called q t c a t c
 called_same q t c s a e f = called_by q t t c c s s a e f (settled_same t c s f)
 
 -- ---- effects
@@ -71,12 +71,12 @@ outside Ends before = refl
 outside Leaves before = refl
 
 -- of a private key
-pub private_paging : (t : Tables) (c : Key → Option Page) (s : StoreOf) (q : Pid) (v : Vpn) → Fits t c s → s.paging (key.Private q v) ≡ is_some (c (key.Private q v))
+pub private_paging : (t : Tables) (c : Key → Option Page) (s : StoreOf) (q : Pid) (v : Vpn) → FitsTables t c s → s.paging (key.Private q v) ≡ is_some (c (key.Private q v))
 private_paging t c s q v f = f.paging (key.Private q v) ∙ and_true (is_some (content_of t (key.Private q v))) ∙ sym (f.live (key.Private q v))
 
 -- ---- one process's regions are others
 
-module _ (t : Tables) (pid : Pid) (p : ProcessOf (Unit {0})) (range : Range) (keys places : Effect) (clears : Bool) (ss : List (RegionOf (Unit {0}))) (c d : Key → Option Page) (s z : StoreOf) (lives : process_of t pid.0 ≡ Some p) (f : Fits t c s) (m : Stored pid range keys places clears c d s z) (r : Moves t pid range keys places clears p.regions ss) where
+module _ (t : Tables) (pid : Pid) (p : ProcessOf (Unit {0})) (range : Range) (keys places : Effect) (clears : Bool) (ss : List (RegionOf (Unit {0}))) (c d : Key → Option Page) (s z : StoreOf) (lives : process_of t pid.0 ≡ Some p) (f : FitsTables t c s) (m : RangeStored pid range keys places clears c d s z) (r : Moves t pid range keys places clears p.regions ss) where
   abbrev u : Tables
   u = set_regions t pid.0 p ss
 
@@ -126,7 +126,7 @@ module _ (t : Tables) (pid : Pid) (p : ProcessOf (Unit {0})) (range : Range) (ke
       ∙ sym (live_now (key.Private q v)) ∙ live (key.Private q v) ∙ sym (and_true (is_some (content_of u (key.Private q v))))
   paging (key.Shared area index) = paging_now (key.Shared area index) ∙ outside keys (s.paging (key.Shared area index)) ∙ f.paging (key.Shared area index)
 
-  block : (k : Key) → z.block_of k ≡ block_in u k
+  block : (k : Key) → z.block_of k ≡ file_block_in u k
   block (key.Private q v) = ap (λ (x : StoreOf). x.block_of (key.Private q v)) m.same ∙ f.blocks (key.Private q v)
   block (key.Shared area index) = ap (λ (x : StoreOf). x.block_of (key.Shared area index)) m.same ∙ f.blocks (key.Shared area index)
 
@@ -150,7 +150,7 @@ module _ (t : Tables) (pid : Pid) (p : ProcessOf (Unit {0})) (range : Range) (ke
         | inr other ↦ ap (λ rs. key_in t place.pid.0 rs v) (regions_set_other t pid.0 place.pid.0 p ss other) ∙ was
       ]
 
-  pub moved : z.paging_keys ≡ paging_count (set_regions t pid.0 p ss) → charge (set_regions t pid.0 p ss) ≤ z.room → Fits (set_regions t pid.0 p ss) d z
+  pub moved : z.paging_keys ≡ paging_count (set_regions t pid.0 p ss) → charge (set_regions t pid.0 p ss) ≤ z.room → FitsTables (set_regions t pid.0 p ss) d z
   moved counted room =
       record {
         machine = ap (λ (x : StoreOf). x.machine) m.same ∙ f.machine;

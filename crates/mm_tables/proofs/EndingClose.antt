@@ -19,14 +19,14 @@ use Rattle.mm_world.specs.WellFormed.{WellFormed}
 use Rattle.mm_world.proofs.Keeps.{close_keeps}
 use Rattle.mm_world.proofs.Charges.{charge-same_regions}
 use Rattle.mm_pages.specs.Store.{StoreOf}
-use Rattle.mm_sections.specs.Directories.{CountedSection, sections_of, section_in, DirectoryOf, settled_by, one_handle_less}
+use Rattle.mm_sections.specs.Directories.{CountedSection, sections_of, section_in, DirectoryOf, section_settled, one_handle_less}
 use Rattle.mm_sections.specs.Handles.{held}
 use Rattle.mm_tables.specs.declared.tables.Process.{Process}
 use Rattle.mm_tables.specs.declared.tables.Tables.TheInside.{Inside}
 use Rattle.mm_tables.specs.Shown.{shown_process, shown_processes}
 use Rattle.mm_tables.specs.References.{handles_in}
-use Rattle.mm_tables.specs.Fits.{Fits}
-use Rattle.mm_tables.specs.Sound.{IsKept}
+use Rattle.mm_tables.specs.Fits.{FitsTables}
+use Rattle.mm_tables.specs.Sound.{AreKeptTables}
 use Rattle.mm_tables.proofs.Standing.{lives_where, shown_at, shown_set, shown_with}
 use Rattle.mm_tables.proofs.EndingSettles.{closed_count, handles_put}
 use Rattle.mm_tables.proofs.OneProcess.{paging-set_process}
@@ -57,19 +57,19 @@ alive_shown (Some x) p e = refl
 
 pub record Known (i : Inside) (t : Tables) (pid : ℕ) (x : Option Process) : Type 0 where
   pub view : shown_with i i.processes.items ≡ t
-  pub kept : IsKept t i.directory.entries i.commit
+  pub kept : AreKeptTables t i.directory.entries i.commit
   pub process : ProcessOf (Unit {0})
   pub shown : option_map shown_process x ≡ Some process
   pub lives : process_of t pid ≡ Some process
   pub low : 1 ≤ pid
   pub there : is_some x ≡ true
 
-pub known : (i : Inside) (t : Tables) → shown_with i i.processes.items ≡ t → IsKept (shown_with i i.processes.items) i.directory.entries i.commit → (pid : ℕ) (x : Option Process) → is_some (process_of t pid) ≡ true → x ≡ get_or i.processes.items (pid - 1) x → Known i t pid x
+pub known : (i : Inside) (t : Tables) → shown_with i i.processes.items ≡ t → AreKeptTables (shown_with i i.processes.items) i.directory.entries i.commit → (pid : ℕ) (x : Option Process) → is_some (process_of t pid) ≡ true → x ≡ get_or i.processes.items (pid - 1) x → Known i t pid x
 known i t view kept pid x alive found =
     let h = has_process t i.processes.items pid x (ap (λ (t : Tables). t.processes) view) alive found in
     record {
       view = view;
-      kept = subst (λ (t : Tables). IsKept t i.directory.entries i.commit) view kept;
+      kept = subst (λ (t : Tables). AreKeptTables t i.directory.entries i.commit) view kept;
       process = h.process;
       shown = h.shown;
       lives = h.lives;
@@ -179,9 +179,9 @@ module _ {i : Inside} {t : Tables} {pid : ℕ} {x : Option Process} (k : Known i
       }
 
   pub close_step : {dir : DirectoryOf} {result : Option Area} {c : Key → Option Page} {s : StoreOf} (y : Option Process) → ((p : ProcessOf (Unit {0})) → option_map shown_process x ≡ Some p → option_map shown_process y ≡ Some (closed p handle))
-      → ((p : ProcessOf (Unit {0})) (n : ℕ) (c : CountedSection) → option_map shown_process x ≡ Some p → held p.handles handle ≡ Some n → numbered i.directory.entries n ≡ Some c → dir ≡ record i.directory { entries = set i.directory.entries n (settled_by (one_handle_less c)) })
-      → ((p : ProcessOf (Unit {0})) (n : ℕ) (c : CountedSection) → option_map shown_process x ≡ Some p → held p.handles handle ≡ Some n → numbered i.directory.entries n ≡ Some c → result ≡ cond (is_some (settled_by (one_handle_less c))) None (Some (record { 0 = c.section.area })))
-      → Fits t c s → Step i t pid q y dir result i.commit c c s s (handle / 4 + 1)
+      → ((p : ProcessOf (Unit {0})) (n : ℕ) (c : CountedSection) → option_map shown_process x ≡ Some p → held p.handles handle ≡ Some n → numbered i.directory.entries n ≡ Some c → dir ≡ record i.directory { entries = set i.directory.entries n (section_settled (one_handle_less c)) })
+      → ((p : ProcessOf (Unit {0})) (n : ℕ) (c : CountedSection) → option_map shown_process x ≡ Some p → held p.handles handle ≡ Some n → numbered i.directory.entries n ≡ Some c → result ≡ cond (is_some (section_settled (one_handle_less c))) None (Some (record { 0 = c.section.area })))
+      → FitsTables t c s → Step i t pid q y dir result i.commit c c s s (handle / 4 + 1)
   close_step {dir} {result} {c} {s} y shut dropped ended fits =
       record {
         p = k.process;

@@ -43,13 +43,13 @@ use Rattle.mm_sections.specs.Directories.{CountedSection}
 use Rattle.mm_sections.specs.Handles.{held, handle_at}
 use Rattle.mm_spaces.specs.Tables.{info_of, owned_in, found_info}
 use Rattle.mm_spaces.specs.declared.spaces.RegionInfo.{RegionInfo}
-use Rattle.mm_tables.specs.Endings.{Fewer, CanRelease, Released, Less, Toward, HasNoHandle, IsFor, nowhere}
+use Rattle.mm_tables.specs.Endings.{Fewer, CanRelease, Released, Less, Toward, HasNoHandle, IsRankFor, nowhere}
 use Rattle.mm_tables.specs.declared.tables.Process.{Process}
 use Rattle.mm_tables.specs.declared.tables.Tables.TheInside.{Inside}
 use Rattle.mm_tables.specs.References.{IsTidy, handles_to, views_of, NobodyKeeps}
 use Rattle.mm_tables.specs.Shown.{shown_process}
-use Rattle.mm_tables.specs.Sound.{IsKept}
-use Rattle.mm_tables.specs.Fits.{Fits, Settled, beside, paging_count}
+use Rattle.mm_tables.specs.Sound.{AreKeptTables}
+use Rattle.mm_tables.specs.Fits.{FitsTables, Settled, store_beside, paging_count}
 use Rattle.mm_tables.proofs.EndingFits.{regions_of, Loses, same_loses, process_same, at_each, less_then, beside_then}
 use Rattle.mm_tables.proofs.OneProcess.{regions_in, paging-set_process}
 use Rattle.mm_tables.proofs.StackTables.{sound_with}
@@ -158,7 +158,7 @@ module _ {i : Inside} {t : Tables} {x : Option Process} (pid : Pid) (k : Known i
   pub lowest_around : (p : ProcessOf (Unit {0})) → option_map shown_process x ≡ Some p → is_some (region_around p.regions range) ≡ true
   lowest_around = by_shown k (λ p. is_some (region_around p.regions range) ≡ true) (all_around t pid k.process 0 v.region range k.lives v.at v.pages k.kept.sound)
 
-  module _ {c : Key → Option Page} {s : StoreOf} (fits : Fits t c s) where
+  module _ {c : Key → Option Page} {s : StoreOf} (fits : FitsTables t c s) where
     pub lowest_end : end_of range ≤ end_of_user_pages
     lowest_end = ends_within t pid k.process 0 v.region range k.lives v.at v.pages k.kept.sound c s fits
 
@@ -201,14 +201,14 @@ toward_then {c = c} {d = d} {e = e} {s = s} {z = z} {y = y} a b =
 pub toward_nobody : {pid : ℕ} {t u : Tables} {c d : Key → Option Page} {s z : StoreOf} → Toward pid t u c d s z → NobodyKeeps pid t → NobodyKeeps pid u
 toward_nobody a nobody tid k e = nobody tid k (ap (λ (w : Tables). numbered w.kept tid) (sym a.same) ∙ e)
 
-pub toward_same : (pid : ℕ) (t : Tables) (c : Key → Option Page) (s : StoreOf) → Fits t c s → Toward pid t t c c s s
+pub toward_same : (pid : ℕ) (t : Tables) (c : Key → Option Page) (s : StoreOf) → FitsTables t c s → Toward pid t t c c s s
 toward_same pid t c s fits = record { same = refl; fits = fits; less = λ k some. refl; rest = refl; ranks = λ rank h. h }
 
-pub toward_settled : (pid : ℕ) (t : Tables) (q : Option (ProcessOf (Unit {0}))) {v : Tables} {c d : Key → Option Page} {s z : StoreOf} → v ≡ settle (set_process t pid q) → Settled v c d s z → Less c d → ((rank : ℕ → ℕ) → IsFor rank pid t → IsFor rank pid v) → Toward pid t v c d s z
+pub toward_settled : (pid : ℕ) (t : Tables) (q : Option (ProcessOf (Unit {0}))) {v : Tables} {c d : Key → Option Page} {s z : StoreOf} → v ≡ settle (set_process t pid q) → Settled v c d s z → Less c d → ((rank : ℕ → ℕ) → IsRankFor rank pid t → IsRankFor rank pid v) → Toward pid t v c d s z
 toward_settled pid t q is settled less ranks =
     record { same = ap (λ (w : Tables). settle (set_process w pid None)) is ∙ ends_same t pid q; fits = settled.fits; less = less; rest = settled.rest; ranks = ranks }
 
-pub toward_set : (pid : ℕ) (t : Tables) (q : Option (ProcessOf (Unit {0}))) {v : Tables} {c d : Key → Option Page} {s z : StoreOf} → v ≡ set_process t pid q → Settled v c d s z → Less c d → ((rank : ℕ → ℕ) → IsFor rank pid t → IsFor rank pid v) → Toward pid t v c d s z
+pub toward_set : (pid : ℕ) (t : Tables) (q : Option (ProcessOf (Unit {0}))) {v : Tables} {c d : Key → Option Page} {s z : StoreOf} → v ≡ set_process t pid q → Settled v c d s z → Less c d → ((rank : ℕ → ℕ) → IsRankFor rank pid t → IsRankFor rank pid v) → Toward pid t v c d s z
 toward_set pid t q is settled less ranks =
     record { same = ap (λ (w : Tables). settle (set_process w pid None)) is ∙ ap (λ (ps : List (Option (ProcessOf (Unit {0})))). settle (record t { processes = ps })) (set-set t.processes pid q None); fits = settled.fits; less = less; rest = settled.rest; ranks = ranks }
 
@@ -396,7 +396,7 @@ module _ (t : Tables) (pid : ℕ) (p : ProcessOf (Unit {0})) (lives : process_of
       ((λ i. settle (set_process (record t { kept = others_all pid t.kept nobody i }) pid None)) ∙ settled_none tidy)
       (sound_with _ t.stacks ended)
 
-  kept_none : (entries : Numbered CountedSection) (commit : CommitOf) → IsKept t entries commit → IsKept (set_process t pid None) entries commit
+  kept_none : (entries : Numbered CountedSection) (commit : CommitOf) → AreKeptTables t entries commit → AreKeptTables (set_process t pid None) entries commit
   kept_none entries commit kept =
       record {
         sound = sound_none kept.tidy kept.sound;
@@ -406,7 +406,7 @@ module _ (t : Tables) (pid : ℕ) (p : ProcessOf (Unit {0})) (lives : process_of
         limited = kept.limited;
       }
 
-  fits_none : (c : Key → Option Page) (s : StoreOf) → Fits t c s → Fits (set_process t pid None) c (record s { is_open = changed ◌==◌ s.is_open pid false })
+  fits_none : (c : Key → Option Page) (s : StoreOf) → FitsTables t c s → FitsTables (set_process t pid None) c (record s { is_open = changed ◌==◌ s.is_open pid false })
   fits_none c s f =
       let loses : Loses (λ k. false) nowhere 0 t (set_process t pid None) = same_loses t pid p None lives (sym empty) (omega (arith, charge_none)) count_none in
       record {
@@ -430,13 +430,13 @@ module _ (t : Tables) (pid : ℕ) (p : ProcessOf (Unit {0})) (lives : process_of
         named_file = f.named_file;
       }
 
-  pub process_landed : {made : Tables} {entries : Numbered CountedSection} {commit : CommitOf} {c d : Key → Option Page} {s z : StoreOf} → made ≡ set_process t pid None → IsKept t entries commit → Fits t c s → d ≡ c → z ≡ record s { is_open = changed ◌==◌ s.is_open pid false } → Landed (settle (set_process t pid None)) made entries commit c d s z
+  pub process_landed : {made : Tables} {entries : Numbered CountedSection} {commit : CommitOf} {c d : Key → Option Page} {s z : StoreOf} → made ≡ set_process t pid None → AreKeptTables t entries commit → FitsTables t c s → d ≡ c → z ≡ record s { is_open = changed ◌==◌ s.is_open pid false } → Landed (settle (set_process t pid None)) made entries commit c d s z
   process_landed {made} {entries} {commit} {c} {d} {s} {z} is kept f same after =
       let still = sym (settled_none kept.tidy) in
-      let now : Fits (set_process t pid None) d z =
-      subst (λ (z : StoreOf). Fits (set_process t pid None) d z) (sym after) (subst (λ (x : Key → Option Page). Fits (set_process t pid None) x (record s { is_open = changed ◌==◌ s.is_open pid false })) (sym same) (fits_none c s f)) in
-      landed_by (settle (set_process t pid None)) made entries commit c d s z (is ∙ still) (subst (λ (w : Tables). IsKept w entries commit) still (kept_none entries commit kept))
-      (subst (λ (w : Tables). Fits w d z) still now) (λ key some. ap (λ (x : Key → Option Page). x key) same) (after ∙ ap (beside s) (sym after))
+      let now : FitsTables (set_process t pid None) d z =
+      subst (λ (z : StoreOf). FitsTables (set_process t pid None) d z) (sym after) (subst (λ (x : Key → Option Page). FitsTables (set_process t pid None) x (record s { is_open = changed ◌==◌ s.is_open pid false })) (sym same) (fits_none c s f)) in
+      landed_by (settle (set_process t pid None)) made entries commit c d s z (is ∙ still) (subst (λ (w : Tables). AreKeptTables w entries commit) still (kept_none entries commit kept))
+      (subst (λ (w : Tables). FitsTables w d z) still now) (λ key some. ap (λ (x : Key → Option Page). x key) same) (after ∙ ap (store_beside s) (sym after))
 
 laid_low : (from : ℕ) (rs : List (RegionOf (Unit {0}))) → LaidOut from rs → from ≤ end_of_user_pages
 laid_low from [] h = h

@@ -24,8 +24,9 @@ use Rattle.mm_world.specs.Charge.{charge}
 use Rattle.mm_world.specs.Contents.{Tables}
 use Rattle.mm_world.proofs.Finding.{numbered_inside, found_stands, committed_is, home_cases, IsOwn, IsShared}
 use Rattle.mm_pages.specs.Store.{StoreOf, changed, is_place_in}
-use Rattle.mm_tables.specs.Fits.{Fits, Carried, Carries, beside, is_reserved, key_at, is_paging, open_pages, block_in, paging_count}
-use Rattle.mm_tables.specs.Endings.{Less, Lost, is_key_in, is_shared_in, nowhere}
+use Rattle.mm_tables.specs.Fits.{FitsTables, Carried, CarriesPages, store_beside, is_reserved, key_at, is_paging, open_pages, file_block_in, paging_count}
+use Rattle.mm_tables.specs.Ranges.{is_key_in}
+use Rattle.mm_tables.specs.Endings.{Less, Lost, is_key_of_area, nowhere}
 use Rattle.mm_tables.specs.Effects.{Moves, Ends, key_in}
 use Rattle.mm_tables.proofs.Regions.{has}
 use Rattle.mm_tables.proofs.Regional.{release_moves}
@@ -37,8 +38,8 @@ use Rattle.mm_tables.proofs.ViewWorlds.{area_here}
 pub less_then : (a b c : Key → Option Page) → Less a b → Less b c → Less a c
 less_then a b c h k x e = k x e ∙ h x (sym (ap is_some (k x e)) ∙ e)
 
-pub beside_then : (a b c : StoreOf) → b ≡ beside a b → c ≡ beside b c → c ≡ beside a c
-beside_then a b c e f = f ∙ ap (λ (x : StoreOf). beside x c) e
+pub beside_then : (a b c : StoreOf) → b ≡ store_beside a b → c ≡ store_beside b c → c ≡ store_beside a c
+beside_then a b c e f = f ∙ ap (λ (x : StoreOf). store_beside x c) e
 
 carried_less : (old new : Option Page) → (is_some new ≡ true → new ≡ old) → Carried old new
 carried_less None None h = refl
@@ -46,7 +47,7 @@ carried_less (Some x) None h = refl
 carried_less None (Some y) h = let bad : Some y ≡ None = h refl in cc
 carried_less (Some x) (Some y) h = let both : Some y ≡ Some x = h refl in let same : y ≡ x = cc in same
 
-pub carries_less : (c d : Key → Option Page) → Less c d → Carries c d
+pub carries_less : (c d : Key → Option Page) → Less c d → CarriesPages c d
 carries_less c d h = record { at = λ k. carried_less (c k) (d k) (h k) }
 
 -- ---- what is lost
@@ -57,12 +58,12 @@ pub record Loses (held : Key → Bool) (left : Place → Bool) (n : ℕ) (t u : 
   pub files : (k : Key) → held k ≡ false → is_file_key u k ≡ is_file_key t k
   pub reserved : (place : Place) → is_reserved u place ≡ cond (left place) false (is_reserved t place)
   pub stays : (place : Place) (k : Key) → left place ≡ false → key_at t place ≡ Some k → key_at u place ≡ Some k
-  pub block : (k : Key) → block_in u k ≡ block_in t k
+  pub block : (k : Key) → file_block_in u k ≡ file_block_in t k
   pub counted : paging_count u + n ≡ paging_count t
   pub charged : charge u ≤ charge t
   pub made : length u.processes ≡ length t.processes
 
-pub fits_lost : (held : Key → Bool) (left : Place → Bool) (n : ℕ) (t u : Tables) (c d : Key → Option Page) (s z : StoreOf) → Loses held left n t u → Fits t c s → Lost held left n c d s z → ((pid : ℕ) → z.is_open pid ≡ is_some (process_of u pid)) → ((area : ℕ) → z.areas area ≡ open_pages u area) → Fits u d z
+pub fits_lost : (held : Key → Bool) (left : Place → Bool) (n : ℕ) (t u : Tables) (c d : Key → Option Page) (s z : StoreOf) → Loses held left n t u → FitsTables t c s → Lost held left n c d s z → ((pid : ℕ) → z.is_open pid ≡ is_some (process_of u pid)) → ((area : ℕ) → z.areas area ≡ open_pages u area) → FitsTables u d z
 fits_lost held left n t u c d s z loses f lost opened areas =
     record {
       machine = ap (λ (x : StoreOf). x.machine) lost.rest ∙ f.machine ∙ sym (ap (λ (w : Tables). w.machine) loses.rest);
@@ -129,7 +130,7 @@ pub key_is : (t : Tables) (place : Place) → key_at t place ≡ has (region_key
 key_is t place = key_at_is t place ∙ key_in_has t place.pid.0 (regions_in t place.pid.0) place.vpn.0
 
 -- files are of areas alone
-files_stay : (t : Tables) (ps : Numbered (ProcessOf (Unit {0}))) (k : Key) → (is_file_key (record t { processes = ps }) k ≡ is_file_key t k) × (block_in (record t { processes = ps }) k ≡ block_in t k)
+files_stay : (t : Tables) (ps : Numbered (ProcessOf (Unit {0}))) (k : Key) → (is_file_key (record t { processes = ps }) k ≡ is_file_key t k) × (file_block_in (record t { processes = ps }) k ≡ file_block_in t k)
 files_stay t ps (key.Private n v) = (refl, refl)
 files_stay t ps (key.Shared area index) = (refl, refl)
 
@@ -228,13 +229,13 @@ module _ (t : Tables) (ss : Numbered SectionOf) (a n : ℕ) (inside : a < length
   differ : (b : ℕ) → b ≢ a → (b == a) ≡ false
   differ b other = not_true (b == a) (λ e. other ((unsigned_Decides b a).0 e))
 
-  area_content : (k : Key) → is_some (content_of after k) ≡ cond (is_shared_in a k) false (is_some (content_of t k))
+  area_content : (k : Key) → is_some (content_of after k) ≡ cond (is_key_of_area a k) false (is_some (content_of t k))
   area_content (key.Private q v) = refl
   area_content (key.Shared b i) =
       at_areas (λ b x y. is_some (numbered y.pages i) ≡ cond (b == a) false (is_some (numbered x.pages i)))
       (ap (λ c. cond c false (is_some (numbered (area_at t a).pages i))) (sym equal)) (λ b x other. ap (λ c. cond c false (is_some (numbered x.pages i))) (sym (differ b other))) b.0
 
-  area_files : (k : Key) → is_shared_in a k ≡ false → is_file_key after k ≡ is_file_key t k
+  area_files : (k : Key) → is_key_of_area a k ≡ false → is_file_key after k ≡ is_file_key t k
   area_files (key.Private q v) out = refl
   area_files (key.Shared b i) out = ap (λ (x : AreaOf (Unit {0})). is_some x.file_block) (stands b.0 (λ e. let bad : true ≡ false = sym ((unsigned_Decides b.0 a).1 e) ∙ out in cc))
 
@@ -245,7 +246,7 @@ module _ (t : Tables) (ss : Numbered SectionOf) (a n : ℕ) (inside : a < length
   no_block true o i e = sym (ap (option_map (λ first. first + i)) e)
   no_block false o i e = refl
 
-  area_blocks : (k : Key) → block_in after k ≡ block_in t k
+  area_blocks : (k : Key) → file_block_in after k ≡ file_block_in t k
   area_blocks (key.Private q v) = refl
   area_blocks (key.Shared b i) =
       at_areas (λ b x y. block i y ≡ block i x) (no_block (is_some (numbered (area_at t a).pages i)) (area_at t a).file_block i paging) (λ b x other. refl) b.0
@@ -276,7 +277,7 @@ module _ (t : Tables) (ss : Numbered SectionOf) (a n : ℕ) (inside : a < length
       ∙ has_same (region_key after q page) (region_key t q page) page (regions_in t q) (λ f e. key_same q page f.thing (λ x is. unseen_in q f.place f.thing x (found_stands _ (regions_in t q) f e).there is))
       ∙ sym (key_is t place)
 
-  pub area_loses : Loses (is_shared_in a) nowhere n t after
+  pub area_loses : Loses (is_key_of_area a) nowhere n t after
   area_loses =
       record {
         rest = refl;

@@ -21,9 +21,9 @@ use Rattle.mm_world.proofs.KindsAndKeys.{same_again}
 use Rattle.mm_pages.specs.Store.{StoreOf, own_key, changed, changed_in, is_place_in}
 use Rattle.mm_pages.specs.Reports.{rearranged}
 use Rattle.mm_pages.specs.Conditions.{MayRemove, IsReleasing, AllBound, place_at}
-use Rattle.mm_tables.specs.Endings.{among, owned_among, without_keys, without_paging, without_names, Gone, CanGo, CanGoAll, shared_at, is_committed_in, is_shared_in, CanEnd, Emptied, is_owned_at, is_key_in, CanRelease, CanGiveUp, GivenUp, Released}
-use Rattle.mm_tables.specs.Effects.{Ends, Stored}
-use Rattle.mm_tables.specs.Ranges.{passing, is_live, CanRemove, only, front}
+use Rattle.mm_tables.specs.Endings.{is_owned_among, owned_among, without_keys, without_paging, without_names, Gone, CanGo, CanGoAll, shared_at, is_committed_in, is_key_of_area, CanEnd, Emptied, is_owned_at, CanRelease, CanGiveUp, GivenUp, Released}
+use Rattle.mm_tables.specs.Effects.{Ends, RangeStored}
+use Rattle.mm_tables.specs.Ranges.{passing, is_page_live, CanRemove, one_page_range, first_pages, is_key_in}
 use Rattle.mm_tables.proofs.PageByPage.{key_in_more, not_yet, next_held, outside, only_is, no_key_in, no_place_in, own, key_in_only, place_in_only, by_same}
 
 -- ---- keys
@@ -31,30 +31,30 @@ use Rattle.mm_tables.proofs.PageByPage.{key_in_more, not_yet, next_held, outside
 pub here : (pid : Pid) (range : Range) (page : ℕ) → holds_page range page ≡ true → is_place_in pid range (place_at pid page) ≡ true
 here pid range page e = both (pid.0 == pid.0) (holds_page range page) ((unsigned_Decides pid.0 pid.0).1 refl) e
 
-among_one : (at : ℕ → Key) (owned : ℕ → Bool) (n i : ℕ) (k : Key) → i < n → owned i ≡ true → k ≡ at i → among at owned n k ≡ true
+among_one : (at : ℕ → Key) (owned : ℕ → Bool) (n i : ℕ) (k : Key) → i < n → owned i ≡ true → k ≡ at i → is_owned_among at owned n k ≡ true
 among_one at owned zero i k few o e = absurd (omega (arith, few))
 among_one at owned (suc n) i k few o e =
     elim (same_or_not i n) [
       | inl same ↦
-          or_left (owned n && same_key k (at n)) (among at owned n k)
+          or_left (owned n && same_key k (at n)) (is_owned_among at owned n k)
           (both (owned n) (same_key k (at n)) (ap owned (sym same) ∙ o) (ap (λ (j : Key). same_key k j) (sym (e ∙ ap at same)) ∙ same_again k))
-      | inr other ↦ or_right (owned n && same_key k (at n)) (among at owned n k) (among_one at owned n i k (omega (arith, few, other)) o e)
+      | inr other ↦ or_right (owned n && same_key k (at n)) (is_owned_among at owned n k) (among_one at owned n i k (omega (arith, few, other)) o e)
     ]
 
 -- ---- the loops
 
-pub gone_then : (at : ℕ → Key) (owned : ℕ → Bool) (n : ℕ) {c d e : Key → Option Page} {s z y : StoreOf} → Gone (among at owned n) (owned_among owned n) c d s z → Gone (λ k. owned n && same_key k (at n)) (cond (owned n) 1 0) d e z y → Gone (among at owned (n + 1)) (owned_among owned (n + 1)) c e s y
+pub gone_then : (at : ℕ → Key) (owned : ℕ → Bool) (n : ℕ) {c d e : Key → Option Page} {s z y : StoreOf} → Gone (is_owned_among at owned n) (owned_among owned n) c d s z → Gone (λ k. owned n && same_key k (at n)) (cond (owned n) 1 0) d e z y → Gone (is_owned_among at owned (n + 1)) (owned_among owned (n + 1)) c e s y
 gone_then at owned n {c = c} {e = e} {s = s} {y = y} a b =
     let more : suc n ≡ n + 1 = omega arith in
     let step : Key → Bool = λ k. owned n && same_key k (at n) in
     let count : s.paging_keys - owned_among owned n - cond (owned n) 1 0 ≡ s.paging_keys - owned_among owned (suc n) = omega arith in
-    let names : without_names step (without_names (among at owned n) s.names) ≡ without_names (among at owned (suc n)) s.names =
-    fun_ext (λ q. cond_twice (step (own_key q)) (among at owned n (own_key q)) None (s.names q)) in
-    let paging : without_paging step (without_paging (among at owned n) s.paging) ≡ without_paging (among at owned (suc n)) s.paging =
-    fun_ext (λ k. cond_twice (step k) (among at owned n k) false (s.paging k)) in
-    let contents : without_keys step (without_keys (among at owned n) c) ≡ without_keys (among at owned (suc n)) c =
-    fun_ext (λ k. cond_twice (step k) (among at owned n k) None (c k)) in
-    subst (λ (m : ℕ). Gone (among at owned m) (owned_among owned m) c e s y) more (record {
+    let names : without_names step (without_names (is_owned_among at owned n) s.names) ≡ without_names (is_owned_among at owned (suc n)) s.names =
+    fun_ext (λ q. cond_twice (step (own_key q)) (is_owned_among at owned n (own_key q)) None (s.names q)) in
+    let paging : without_paging step (without_paging (is_owned_among at owned n) s.paging) ≡ without_paging (is_owned_among at owned (suc n)) s.paging =
+    fun_ext (λ k. cond_twice (step k) (is_owned_among at owned n k) false (s.paging k)) in
+    let contents : without_keys step (without_keys (is_owned_among at owned n) c) ≡ without_keys (is_owned_among at owned (suc n)) c =
+    fun_ext (λ k. cond_twice (step k) (is_owned_among at owned n k) None (c k)) in
+    subst (λ (m : ℕ). Gone (is_owned_among at owned m) (owned_among owned m) c e s y) more (record {
       contents = b.contents ∙ ap (without_keys step) a.contents ∙ contents;
       store =
           b.store
@@ -85,21 +85,21 @@ may_still held (key.Shared area index) s z kind names may = (
   λ place e. may.1 place (named_still (held (own_key place)) (s.names place) (key.Shared area index) (sym (ap (λ (f : Place → Option Key). f place) names) ∙ e)).0,
 )
 
-among_apart : (at : ℕ → Key) (owned : ℕ → Bool) (n j : ℕ) → ((a b : ℕ) → a < b → same_key (at b) (at a) ≡ false) → n ≤ j → among at owned n (at j) ≡ false
+among_apart : (at : ℕ → Key) (owned : ℕ → Bool) (n j : ℕ) → ((a b : ℕ) → a < b → same_key (at b) (at a) ≡ false) → n ≤ j → is_owned_among at owned n (at j) ≡ false
 among_apart at owned zero j apart few = refl
 among_apart at owned (suc n) j apart few =
-    ap (λ b. (owned n && b) || among at owned n (at j)) (apart n j (omega (arith, few)))
-    ∙ ap (λ b. b || among at owned n (at j)) (and_false (owned n))
+    ap (λ b. (owned n && b) || is_owned_among at owned n (at j)) (apart n j (omega (arith, few)))
+    ∙ ap (λ b. b || is_owned_among at owned n (at j)) (and_false (owned n))
     ∙ among_apart at owned n j apart (omega (arith, few))
 
-pub can_go_next : (at : ℕ → Key) (owned : ℕ → Bool) (n i : ℕ) {c d : Key → Option Page} {s z : StoreOf} → CanGoAll at owned n s → i < n → Gone (among at owned i) (owned_among owned i) c d s z → CanGo (at i) (owned i) z
+pub can_go_next : (at : ℕ → Key) (owned : ℕ → Bool) (n i : ℕ) {c d : Key → Option Page} {s z : StoreOf} → CanGoAll at owned n s → i < n → Gone (is_owned_among at owned i) (owned_among owned i) c d s z → CanGo (at i) (owned i) z
 can_go_next at owned n i {s = s} {z = z} can few g =
     record {
       paging = λ o.
           ap (λ (x : StoreOf). x.paging (at i)) g.store
           ∙ ap (λ b. cond b false (s.paging (at i))) (among_apart at owned i i can.apart (omega arith))
           ∙ (can.each i few).paging o;
-      may = λ o. may_still (among at owned i) (at i) s z (ap (λ (x : StoreOf). x.kind) g.store) (ap (λ (x : StoreOf). x.names) g.store) ((can.each i few).may o);
+      may = λ o. may_still (is_owned_among at owned i) (at i) s z (ap (λ (x : StoreOf). x.kind) g.store) (ap (λ (x : StoreOf). x.names) g.store) ((can.each i few).may o);
     }
 
 -- ---- what is left
@@ -120,12 +120,12 @@ inside xs i e = let x = some_found (numbered xs i) e in numbered_inside xs i x.0
 -- of an area none that stands below is left
 pub lower_gone : (area : Area) (owned : ℕ → Bool) (n i : ℕ) {c d : Key → Option Page} {s z : StoreOf}
     → ((i : ℕ) → is_some (c (shared_at area i)) ≡ owned i)
-    → Gone (among (shared_at area) owned n) (owned_among owned n) c d s z → i < n
+    → Gone (is_owned_among (shared_at area) owned n) (owned_among owned n) c d s z → i < n
     → d (shared_at area i) ≡ None
 lower_gone area owned n i {c = c} live g low = ap (λ (f : Key → Option Page). f (shared_at area i)) g.contents ∙ by_owned (owned i) refl
   where
     held : Bool
-    held = among (shared_at area) owned n (shared_at area i)
+    held = is_owned_among (shared_at area) owned n (shared_at area i)
 
     absent : (b : Bool) {o : Option Page} → o ≡ None → cond b None o ≡ None
     absent true e = refl
@@ -136,17 +136,17 @@ lower_gone area owned n i {c = c} live g low = ap (λ (f : Key → Option Page).
     by_owned false e = absent held (none_of (c (shared_at area i)) (live i ∙ e))
 
 -- another key is not among them
-among_out : (area : Area) (owned : ℕ → Bool) (n : ℕ) (k : Key) → is_shared_in area.0 k ≡ false → among (shared_at area) owned n k ≡ false
+among_out : (area : Area) (owned : ℕ → Bool) (n : ℕ) (k : Key) → is_key_of_area area.0 k ≡ false → is_owned_among (shared_at area) owned n k ≡ false
 among_out area owned zero k out = refl
 among_out area owned (suc n) k out =
-    ap (λ b. (owned n && b) || among (shared_at area) owned n k) (by_kind k out) ∙ ap (λ b. b || among (shared_at area) owned n k) (and_false (owned n)) ∙ among_out area owned n k out
+    ap (λ b. (owned n && b) || is_owned_among (shared_at area) owned n k) (by_kind k out) ∙ ap (λ b. b || is_owned_among (shared_at area) owned n k) (and_false (owned n)) ∙ among_out area owned n k out
   where
-    by_kind : (k : Key) → is_shared_in area.0 k ≡ false → same_key k (shared_at area n) ≡ false
+    by_kind : (k : Key) → is_key_of_area area.0 k ≡ false → same_key k (shared_at area n) ≡ false
     by_kind (key.Private p v) out = refl
     by_kind (key.Shared b i) out = ap (λ t. t && (i == n)) out
 
 -- of its keys, those that are removed are those that are committed
-shared_test : (area : Area) (a : AreaOf (Unit {0})) (f : Key → Bool) → ((i : ℕ) → f (shared_at area i) ≡ is_committed_in a i) → (k : Key) → cond (among (shared_at area) (is_committed_in a) (length a.pages) k) false (f k) ≡ cond (is_shared_in area.0 k) false (f k)
+shared_test : (area : Area) (a : AreaOf (Unit {0})) (f : Key → Bool) → ((i : ℕ) → f (shared_at area i) ≡ is_committed_in a i) → (k : Key) → cond (is_owned_among (shared_at area) (is_committed_in a) (length a.pages) k) false (f k) ≡ cond (is_key_of_area area.0 k) false (f k)
 shared_test area a f h (key.Private p v) = ap (λ t. cond t false (f (key.Private p v))) (among_out area (is_committed_in a) (length a.pages) (key.Private p v) refl)
 shared_test area a f h (key.Shared b i) = by_area (b.0 == area.0) refl
   where
@@ -154,19 +154,19 @@ shared_test area a f h (key.Shared b i) = by_area (b.0 == area.0) refl
     none true x e = refl
     none false x e = e
 
-    by_index : key.Shared b i ≡ shared_at area i → (o : Bool) → is_committed_in a i ≡ o → cond (among (shared_at area) (is_committed_in a) (length a.pages) (key.Shared b i)) false (f (key.Shared b i)) ≡ false
+    by_index : key.Shared b i ≡ shared_at area i → (o : Bool) → is_committed_in a i ≡ o → cond (is_owned_among (shared_at area) (is_committed_in a) (length a.pages) (key.Shared b i)) false (f (key.Shared b i)) ≡ false
     by_index is true o = ap (λ t. cond t false (f (key.Shared b i))) (among_one (shared_at area) (is_committed_in a) (length a.pages) i (key.Shared b i) (inside a.pages i o) o is)
-    by_index is false o = none (among (shared_at area) (is_committed_in a) (length a.pages) (key.Shared b i)) (f (key.Shared b i)) (ap f is ∙ h i ∙ o)
+    by_index is false o = none (is_owned_among (shared_at area) (is_committed_in a) (length a.pages) (key.Shared b i)) (f (key.Shared b i)) (ap f is ∙ h i ∙ o)
 
-    by_area : (t : Bool) → (b.0 == area.0) ≡ t → cond (among (shared_at area) (is_committed_in a) (length a.pages) (key.Shared b i)) false (f (key.Shared b i)) ≡ cond t false (f (key.Shared b i))
+    by_area : (t : Bool) → (b.0 == area.0) ≡ t → cond (is_owned_among (shared_at area) (is_committed_in a) (length a.pages) (key.Shared b i)) false (f (key.Shared b i)) ≡ cond t false (f (key.Shared b i))
     by_area true e = let same = (unsigned_Decides b.0 area.0).0 e in by_index (λ n. key.Shared (record { 0 = same n }) i) (is_committed_in a i) refl
     by_area false e = ap (λ t. cond t false (f (key.Shared b i))) (among_out area (is_committed_in a) (length a.pages) (key.Shared b i) e)
 
-pub shared_dead : (area : Area) (a : AreaOf (Unit {0})) {c d : Key → Option Page} {s z : StoreOf} → CanEnd area a c s → Gone (among (shared_at area) (is_committed_in a) (length a.pages)) (owned_among (is_committed_in a) (length a.pages)) c d s z → (index : ℕ) → d (key.Shared area index) ≡ None
+pub shared_dead : (area : Area) (a : AreaOf (Unit {0})) {c d : Key → Option Page} {s z : StoreOf} → CanEnd area a c s → Gone (is_owned_among (shared_at area) (is_committed_in a) (length a.pages)) (owned_among (is_committed_in a) (length a.pages)) c d s z → (index : ℕ) → d (key.Shared area index) ≡ None
 shared_dead area a {c = c} {d = d} can g index =
     let k = key.Shared area index in
     none_of (d k) (
-    ap (λ (f : Key → Option Page). is_some (f k)) g.contents ∙ some_gone (among (shared_at area) (is_committed_in a) (length a.pages) k) (c k)
+    ap (λ (f : Key → Option Page). is_some (f k)) g.contents ∙ some_gone (is_owned_among (shared_at area) (is_committed_in a) (length a.pages) k) (c k)
     ∙ shared_test area a (λ k. is_some (c k)) can.live k ∙ ap (λ b. cond b false (is_some (c k))) ((unsigned_Decides area.0 area.0).1 refl))
 
 pub owned_front : (f : ℕ → Bool) (n : ℕ) → owned_among f (suc n) ≡ cond (f 0) 1 0 + owned_among (λ i. f (suc i)) n
@@ -181,9 +181,9 @@ committed_count : (xs : List (Option (Unit {0}))) → owned_among (λ i. is_some
 committed_count [] = refl
 committed_count (x ∷ xs) = omega (arith, owned_front (λ i. is_some (numbered (x ∷ xs) i)) (length xs), sum_by-cons (λ x. cond (is_some x) 1 0) x xs, committed_count xs)
 
-pub emptied : (area : Area) (a : AreaOf (Unit {0})) {c d e : Key → Option Page} {s y z : StoreOf} → CanEnd area a c s → Gone (among (shared_at area) (is_committed_in a) (length a.pages)) (owned_among (is_committed_in a) (length a.pages)) c d s y → e ≡ d → z ≡ record y { areas = changed ◌==◌ y.areas area.0 None } → Emptied area a c e s z
+pub emptied : (area : Area) (a : AreaOf (Unit {0})) {c d e : Key → Option Page} {s y z : StoreOf} → CanEnd area a c s → Gone (is_owned_among (shared_at area) (is_committed_in a) (length a.pages)) (owned_among (is_committed_in a) (length a.pages)) c d s y → e ≡ d → z ≡ record y { areas = changed ◌==◌ y.areas area.0 None } → Emptied area a c e s z
 emptied area a {c = c} {s = s} {y = y} {z = z} can g same after =
-    let gone = among (shared_at area) (is_committed_in a) (length a.pages) in
+    let gone = is_owned_among (shared_at area) (is_committed_in a) (length a.pages) in
     let made : StoreOf = record s { names = without_names gone s.names; paging = without_paging gone s.paging; paging_keys = s.paging_keys - owned_among (is_committed_in a) (length a.pages); report = rearranged s.report y.report; areas = changed ◌==◌ s.areas area.0 None } in
     let is : z ≡ made = after ∙ (λ i. record (g.store i) { areas = changed ◌==◌ (g.store i).areas area.0 None }) in
     subst (λ (e : Key → Option Page). Emptied area a c e s z) (sym (same ∙ g.contents)) (subst (λ (z : StoreOf). Emptied area a c (without_keys gone c) s z) (sym is) (record {
@@ -204,7 +204,7 @@ emptied area a {c = c} {s = s} {y = y} {z = z} can g same after =
 -- ---- one page
 
 -- a function of keys set at a page's key where it is owned, and which has that value already where it is not
-at_own : {V : Type 0} (owned : Bool) (pid : Pid) (page : ℕ) (f : Key → V) (x : V) → (owned ≡ false → f (own pid page) ≡ x) → (k : Key) → cond (owned && same_key k (own pid page)) x (f k) ≡ cond (is_key_in pid (only page) k) x (f k)
+at_own : {V : Type 0} (owned : Bool) (pid : Pid) (page : ℕ) (f : Key → V) (x : V) → (owned ≡ false → f (own pid page) ≡ x) → (k : Key) → cond (owned && same_key k (own pid page)) x (f k) ≡ cond (is_key_in pid (one_page_range page) k) x (f k)
 at_own true pid page f x e k = ap (λ b. cond b x (f k)) (sym (key_in_only pid page k))
 at_own false pid page f x e k = sym (ap (λ b. cond b x (f k)) (key_in_only pid page k) ∙ by_same pid page f (λ k. x) (sym (e refl)) k _ refl)
 
@@ -221,7 +221,7 @@ module _ {pid : Pid} {page : ℕ} {owned : Bool} {c : Key → Option Page} {s : 
 
   -- its key has gone
   module _ {n : ℕ} {d : Key → Option Page} {y : StoreOf} (g : Gone (λ k. owned && same_key k (own pid page)) n c d s y) where
-    pub page_bound : AllBound y pid (only page) true
+    pub page_bound : AllBound y pid (one_page_range page) true
     page_bound v e = ap (λ (v : ℕ). y.bound (place_at pid v)) (only_is page v e) ∙ ap (λ (x : StoreOf). x.bound (place_at pid page)) g.store ∙ can.bound
 
     pub page_dead : (v : ℕ) → page ≤ v → v < page + 1 → d (own pid v) ≡ None
@@ -235,9 +235,9 @@ module _ {pid : Pid} {page : ℕ} {owned : Bool} {c : Key → Option Page} {s : 
     page_unbinding = ap (λ (x : StoreOf). x.kind) g.store ∙ can.unbinding
 
     -- and its place
-    pub given_up : {e : Key → Option Page} {z : StoreOf} → e ≡ d → z ≡ record y { bound = changed_in pid (only page) y.bound false; names = changed_in pid (only page) y.names None; report = rearranged y.report z.report } → GivenUp pid (only page) n c e s z
+    pub given_up : {e : Key → Option Page} {z : StoreOf} → e ≡ d → z ≡ record y { bound = changed_in pid (one_page_range page) y.bound false; names = changed_in pid (one_page_range page) y.names None; report = rearranged y.report z.report } → GivenUp pid (one_page_range page) n c e s z
     given_up {z = z} same after =
-        let names : changed_in pid (only page) (without_names (λ k. owned && same_key k (own pid page)) s.names) None ≡ changed_in pid (only page) s.names None =
+        let names : changed_in pid (one_page_range page) (without_names (λ k. owned && same_key k (own pid page)) s.names) None ≡ changed_in pid (one_page_range page) s.names None =
         fun_ext (λ q. ap (λ b. cond b None (cond (owned && same_key (own_key q) (own pid page)) None (s.names q))) (place_in_only pid page q)
         ∙ at_place owned (same_key (own_key q) (own pid page)) (s.names q)
         ∙ ap (λ b. cond b None (s.names q)) (sym (place_in_only pid page q))) in
@@ -245,9 +245,9 @@ module _ {pid : Pid} {page : ℕ} {owned : Bool} {c : Key → Option Page} {s : 
           contents = same ∙ g.contents ∙ fun_ext (λ k. at_own owned pid page c None not_live k);
           store =
               after
-              ∙ ap (λ (x : StoreOf). let made : StoreOf = record x { bound = changed_in pid (only page) x.bound false; names = changed_in pid (only page) x.names None; report = rearranged x.report z.report } in made) g.store
+              ∙ ap (λ (x : StoreOf). let made : StoreOf = record x { bound = changed_in pid (one_page_range page) x.bound false; names = changed_in pid (one_page_range page) x.names None; report = rearranged x.report z.report } in made) g.store
               ∙ (λ i. record s {
-                bound = changed_in pid (only page) s.bound false;
+                bound = changed_in pid (one_page_range page) s.bound false;
                 names = names i;
                 paging = fun_ext (λ k. at_own owned pid page s.paging false (λ e. can.paging ∙ e) k) i;
                 paging_keys = s.paging_keys - n;
@@ -278,15 +278,15 @@ given_two {pid = pid} {first = first} {second = second} {whole = whole} {n = n} 
     both_in : {V : Type 0} (x o : V) (j : Key) → cond (is_key_in pid second j) x (cond (is_key_in pid first j) x o) ≡ cond (is_key_in pid whole j) x o
     both_in x o j = cond_twice (is_key_in pid second j) (is_key_in pid first j) x o ∙ ap (λ b. cond b x o) (sym (more j))
 
-pub given_then : (pid : Pid) (range : Range) (n : ℕ) (f : ℕ → Bool) {c d e : Key → Option Page} {s z y : StoreOf} → GivenUp pid (front range n) (owned_among f n) c d s z → GivenUp pid (only (range.first + n)) (cond (f n) 1 0) d e z y → GivenUp pid (front range (n + 1)) (owned_among f (n + 1)) c e s y
+pub given_then : (pid : Pid) (range : Range) (n : ℕ) (f : ℕ → Bool) {c d e : Key → Option Page} {s z y : StoreOf} → GivenUp pid (first_pages range n) (owned_among f n) c d s z → GivenUp pid (one_page_range (range.first + n)) (cond (f n) 1 0) d e z y → GivenUp pid (first_pages range (n + 1)) (owned_among f (n + 1)) c e s y
 given_then pid range n f {c = c} {e = e} {s = s} {y = y} a b =
     let more : suc n ≡ n + 1 = omega arith in
-    subst (λ (n : ℕ). GivenUp pid (front range n) (owned_among f n) c e s y) more (given_two (key_in_more pid range n) refl a b)
+    subst (λ (n : ℕ). GivenUp pid (first_pages range n) (owned_among f n) c e s y) more (given_two (key_in_more pid range n) refl a b)
 
-pub given_all : (pid : Pid) (range : Range) (n : ℕ) (f : ℕ → Bool) {c d : Key → Option Page} {s z : StoreOf} → n ≡ range.count → GivenUp pid (front range n) (owned_among f n) c d s z → GivenUp pid range (owned_among f range.count) c d s z
-given_all pid range n f {c = c} {d = d} {s = s} {z = z} all a = subst (λ (n : ℕ). GivenUp pid (front range n) (owned_among f n) c d s z) all a
+pub given_all : (pid : Pid) (range : Range) (n : ℕ) (f : ℕ → Bool) {c d : Key → Option Page} {s z : StoreOf} → n ≡ range.count → GivenUp pid (first_pages range n) (owned_among f n) c d s z → GivenUp pid range (owned_among f range.count) c d s z
+given_all pid range n f {c = c} {d = d} {s = s} {z = z} all a = subst (λ (n : ℕ). GivenUp pid (first_pages range n) (owned_among f n) c d s z) all a
 
-pub given_none : (pid : Pid) (range : Range) (c : Key → Option Page) (s : StoreOf) → GivenUp pid (front range 0) 0 c c s s
+pub given_none : (pid : Pid) (range : Range) (c : Key → Option Page) (s : StoreOf) → GivenUp pid (first_pages range 0) 0 c c s s
 given_none pid range c s =
     let count : s.paging_keys ≡ s.paging_keys - 0 = omega arith in
     record {
@@ -300,11 +300,11 @@ given_none pid range c s =
       };
     }
 
-pub next_can : (pid : Pid) (range : Range) (n k : ℕ) (rs : List (RegionOf (Unit {0}))) {c d : Key → Option Page} {s z : StoreOf} → CanRelease pid range rs c s → n < range.count → GivenUp pid (front range n) k c d s z → CanGiveUp pid (range.first + n) (is_owned_at rs range.first n) d z
+pub next_can : (pid : Pid) (range : Range) (n k : ℕ) (rs : List (RegionOf (Unit {0}))) {c d : Key → Option Page} {s z : StoreOf} → CanRelease pid range rs c s → n < range.count → GivenUp pid (first_pages range n) k c d s z → CanGiveUp pid (range.first + n) (is_owned_at rs range.first n) d z
 next_can pid range n k rs {c = c} {s = s} can few a =
     let page = range.first + n in
     let key = outside pid range n in
-    let place : is_place_in pid (front range n) (place_at pid page) ≡ false = ap (λ b. (pid.0 == pid.0) && b) (not_yet range n) ∙ and_false (pid.0 == pid.0) in
+    let place : is_place_in pid (first_pages range n) (place_at pid page) ≡ false = ap (λ b. (pid.0 == pid.0) && b) (not_yet range n) ∙ and_false (pid.0 == pid.0) in
     record {
       live = ap (λ (f : Key → Option Page). is_some (f (own pid page))) a.contents ∙ ap (λ b. is_some (cond b None (c (own pid page)))) key ∙ can.live n few;
       paging = ap (λ (x : StoreOf). x.paging (own pid page)) a.store ∙ ap (λ b. cond b false (s.paging (own pid page))) key ∙ can.paging n few;
@@ -319,11 +319,11 @@ owned_passing test first zero = refl
 owned_passing test first (suc n) = ap (λ k. k + cond (test (first + n)) 1 0) (owned_passing test first n)
 
 -- as many keys go as there are
-pub as_many : (pid : Pid) (range : Range) (rs : List (RegionOf (Unit {0}))) {c d : Key → Option Page} {s z : StoreOf} → CanRelease pid range rs c s → GivenUp pid range (owned_among (is_owned_at rs range.first) range.count) c d s z → GivenUp pid range (passing (is_live pid c) range.first range.count) c d s z
+pub as_many : (pid : Pid) (range : Range) (rs : List (RegionOf (Unit {0}))) {c d : Key → Option Page} {s z : StoreOf} → CanRelease pid range rs c s → GivenUp pid range (owned_among (is_owned_at rs range.first) range.count) c d s z → GivenUp pid range (passing (is_page_live pid c) range.first range.count) c d s z
 as_many pid range rs {c = c} {d = d} {s = s} {z = z} can a =
     subst (λ (n : ℕ). GivenUp pid range n c d s z)
-    (owned_same (is_owned_at rs range.first) (λ i. is_live pid c (range.first + i)) range.count (λ i few. sym (can.live i few))
-    ∙ owned_passing (is_live pid c) range.first range.count) a
+    (owned_same (is_owned_at rs range.first) (λ i. is_page_live pid c (range.first + i)) range.count (λ i few. sym (can.live i few))
+    ∙ owned_passing (is_page_live pid c) range.first range.count) a
 
 pub released : (pid : Pid) (range : Range) (rs : List (RegionOf (Unit {0}))) {c d : Key → Option Page} {s z : StoreOf} → GivenUp pid range (owned_among (is_owned_at rs range.first) range.count) c d s z → Released pid range rs c d s z
 released pid range rs {c = c} {s = s} {z = z} a =
@@ -353,6 +353,6 @@ can_release pid range rs c s can bound =
       unbinding = can.unbinding;
     }
 
-pub stored : (pid : Pid) (range : Range) (n : ℕ) (c d : Key → Option Page) (s z : StoreOf) → GivenUp pid range n c d s z → Stored pid range Ends Ends true c d s z
+pub stored : (pid : Pid) (range : Range) (n : ℕ) (c d : Key → Option Page) (s z : StoreOf) → GivenUp pid range n c d s z → RangeStored pid range Ends Ends true c d s z
 stored pid range n c d s z a =
-    subst (λ (z : StoreOf). Stored pid range Ends Ends true c d s z) (sym a.store) (record { contents = a.contents; paging = refl; bound = refl; names = refl; open_same = refl; areas_same = refl; same = refl })
+    subst (λ (z : StoreOf). RangeStored pid range Ends Ends true c d s z) (sym a.store) (record { contents = a.contents; paging = refl; bound = refl; names = refl; open_same = refl; areas_same = refl; same = refl })

@@ -16,7 +16,7 @@ use Rattle.mm_world.proofs.Finding.{numbered_inside}
 use Rattle.mm_pages.specs.Leaving.{or_else, last_rank, handle_rank, view_rank, section_rank, rank_behind, goes_with}
 use Rattle.mm_pages.specs.Store.{StoreOf}
 use Rattle.mm_tables.specs.References.{IsTidy, handles_in, views_in}
-use Rattle.mm_tables.specs.Endings.{IsFor}
+use Rattle.mm_tables.specs.Endings.{IsRankFor}
 use Rattle.mm_tables.proofs.EndingFits.{process_same}
 use Rattle.mm_tables.proofs.EndingSettles.{stood, at_area}
 
@@ -158,9 +158,9 @@ file_stays a false c e h = none_file a.file_block e
     none_file (Some n) e = cc
 
 -- what goes with the rest of a process goes as before, once what nothing refers to is gone
-pub for_settled : (rank : ℕ → ℕ) (pid : ℕ) (t v : Tables) (p q : ProcessOf (Unit {0})) → process_of t pid ≡ Some p → v ≡ settle (set_process t pid (Some q)) → Ranked p q → IsFor rank pid t → IsFor rank pid v
+pub for_settled : (rank : ℕ → ℕ) (pid : ℕ) (t v : Tables) (p q : ProcessOf (Unit {0})) → process_of t pid ≡ Some p → v ≡ settle (set_process t pid (Some q)) → Ranked p q → IsRankFor rank pid t → IsRankFor rank pid v
 for_settled rank pid t v p q lives is ranked for =
-    subst (λ (w : Tables). IsFor rank pid w) (sym is) (λ n s there paging some.
+    subst (λ (w : Tables). IsRankFor rank pid w) (sym is) (λ n s there paging some.
     let u = set_process t pid (Some q) in
     let now : process_of u pid ≡ Some q = process_same t pid p (Some q) lives in
     let x = stood u.processes t.sections n s there in
@@ -172,9 +172,9 @@ for_settled rank pid t v p q lives is ranked for =
     ap rank x.2 ∙ for n x.0 x.1 (ap (λ (a : ℕ). (area_at t a).file_block) (sym x.2) ∙ file) more
     ∙ ap (section_rank n) lives ∙ ranked n mine ∙ ap (section_rank n) (sym now))
 
-pub for_set : (rank : ℕ → ℕ) (pid : ℕ) (t v : Tables) (p q : ProcessOf (Unit {0})) → process_of t pid ≡ Some p → v ≡ set_process t pid (Some q) → Ranked p q → IsFor rank pid t → IsFor rank pid v
+pub for_set : (rank : ℕ → ℕ) (pid : ℕ) (t v : Tables) (p q : ProcessOf (Unit {0})) → process_of t pid ≡ Some p → v ≡ set_process t pid (Some q) → Ranked p q → IsRankFor rank pid t → IsRankFor rank pid v
 for_set rank pid t v p q lives is ranked for =
-    subst (λ (w : Tables). IsFor rank pid w) (sym is) (λ n s there paging some.
+    subst (λ (w : Tables). IsRankFor rank pid w) (sym is) (λ n s there paging some.
     let now : process_of (set_process t pid (Some q)) pid ≡ Some q = process_same t pid p (Some q) lives in
     let mine : 1 ≤ section_rank n (Some q) = subst (λ (o : Option (ProcessOf (Unit {0}))). 1 ≤ section_rank n o) now some in
     let more : 1 ≤ section_rank n (process_of t pid) = subst (λ (o : Option (ProcessOf (Unit {0}))). 1 ≤ section_rank n o) (sym lives) (subst (λ (m : ℕ). 1 ≤ m) (sym (ranked n mine)) mine) in
@@ -199,5 +199,5 @@ first_use t n s tidy lives paging =
     same None e u = cc
     same (Some r) e u = tidy.own_area n (position_or_len (uses s.area) t.sections) s r lives e (sym ((unsigned_Decides r.area s.area).0 u)) paging
 
-pub for_own : (t : Tables) (pid : ℕ) → IsTidy t → IsFor (goes_with t pid) pid t
+pub for_own : (t : Tables) (pid : ℕ) → IsTidy t → IsRankFor (goes_with t pid) pid t
 for_own t pid tidy n s lives paging some = ap (λ (o : Option ℕ). unwrap_or (option_map (λ n. section_rank n (process_of t pid)) o) 0) (first_use t n s tidy lives paging)

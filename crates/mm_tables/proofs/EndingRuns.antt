@@ -26,8 +26,8 @@ use Rattle.mm_pages.specs.Reports.{rearranged}
 use Rattle.mm_pages.specs.Store.{StoreOf, changed_in, own_key}
 use Rattle.mm_pages.proofs.Passed.{ends_then}
 use Rattle.mm_spaces.specs.Tables.{owned_in}
-use Rattle.mm_tables.specs.Endings.{owned_among, own_at, is_owned_at, is_key_in, CanRelease, GivenUp}
-use Rattle.mm_tables.specs.Ranges.{low_half, high_half, CanRemove, Removes, removed, passing, is_live, without_keys}
+use Rattle.mm_tables.specs.Endings.{owned_among, own_at, is_owned_at, CanRelease, GivenUp}
+use Rattle.mm_tables.specs.Ranges.{low_half, high_half, CanRemove, Removes, removed, passing, is_page_live, store_without_keys, is_key_in}
 use Rattle.mm_tables.proofs.EndingPages.{owned_passing, owned_same, given_two}
 use Rattle.mm_tables.proofs.PageByPage.{own, next_held}
 use Rattle.mm_tables.proofs.Settled.{around, found_there}
@@ -92,10 +92,10 @@ dead_at_once pid range rs c s can none page low high =
 
 pub removes_nothing : (pid : Pid) (range : Range) (rs : List (RegionOf (Unit {0}))) (c : Key → Option Page) (s : StoreOf) → CanRemove pid range rs c s → owned_among (is_owned_at rs range.first) range.count ≡ 0 → Removes pid range c c s s
 removes_nothing pid range rs c s can none =
-    let zero : passing (is_live pid c) range.first range.count ≡ 0 =
-    sym (owned_passing (is_live pid c) range.first range.count)
-    ∙ owned_same (λ i. is_live pid c (range.first + i)) (is_owned_at rs range.first) range.count (λ i few. can.live (range.first + i) (next_held range i few)) ∙ none in
-    let count : s.paging_keys ≡ s.paging_keys - passing (is_live pid c) range.first range.count = omega (arith, zero) in
+    let zero : passing (is_page_live pid c) range.first range.count ≡ 0 =
+    sym (owned_passing (is_page_live pid c) range.first range.count)
+    ∙ owned_same (λ i. is_page_live pid c (range.first + i)) (is_owned_at rs range.first) range.count (λ i few. can.live (range.first + i) (next_held range i few)) ∙ none in
+    let count : s.paging_keys ≡ s.paging_keys - passing (is_page_live pid c) range.first range.count = omega (arith, zero) in
     record {
       contents = fun_ext (keys_stay pid range c None (λ i few. none_of (c (own_at pid range.first i)) (dead i few)));
       store = λ i. record s {
@@ -106,7 +106,7 @@ removes_nothing pid range rs c s can none =
       };
     }
   where
-    dead : (i : ℕ) → i < range.count → is_live pid c (range.first + i) ≡ false
+    dead : (i : ℕ) → i < range.count → is_page_live pid c (range.first + i) ≡ false
     dead i few = can.live (range.first + i) (next_held range i few) ∙ none_owned (is_owned_at rs range.first) range.count none i few
 
 -- ---- parts of a range
@@ -166,8 +166,8 @@ module _ {pid : Pid} {first : Range} (second : Range) {c d : Key → Option Page
   out : (page : ℕ) → holds_page second page ≡ true → is_key_in pid first (own pid page) ≡ false
   out page e = let w = within second page e in out_of pid first page (omega (arith, w.low, behind))
 
-  still_live : (page : ℕ) → holds_page second page ≡ true → is_live pid d page ≡ is_live pid c page
-  still_live page e = ap (λ (f : Key → Option Page). is_live pid f page) a.contents ∙ ap (λ b. is_some (cond b None (c (own pid page)))) (out page e)
+  still_live : (page : ℕ) → holds_page second page ≡ true → is_page_live pid d page ≡ is_page_live pid c page
+  still_live page e = ap (λ (f : Key → Option Page). is_page_live pid f page) a.contents ∙ ap (λ b. is_some (cond b None (c (own pid page)))) (out page e)
 
   pub can_remove_after : {rs : List (RegionOf (Unit {0}))} → CanRemove pid second rs c s → CanRemove pid second rs d z
   can_remove_after can =
@@ -262,21 +262,21 @@ module _ {range low high : Range} (h : Halves range low high) where
 
     pub removes_halves : Removes pid low c d s z → Removes pid high d e z y → Removes pid range c e s y
     removes_halves a b =
-        let n = passing (is_live pid c) low.first low.count in
-        let m = passing (is_live pid d) high.first high.count in
-        let live = λ (i : ℕ). is_live pid c (range.first + i) in
-        let whole = owned_passing (is_live pid c) range.first range.count in
+        let n = passing (is_page_live pid c) low.first low.count in
+        let m = passing (is_page_live pid d) high.first high.count in
+        let live = λ (i : ℕ). is_page_live pid c (range.first + i) in
+        let whole = owned_passing (is_page_live pid c) range.first range.count in
         let split : owned_among live range.count ≡ owned_among live low.count + owned_among (λ i. live (low.count + i)) high.count = ap (owned_among live) (sym h.count) ∙ owned_split live low.count high.count in
-        let front : owned_among live low.count ≡ n = owned_passing (is_live pid c) range.first low.count ∙ ap (λ (k : ℕ). passing (is_live pid c) k low.count) (sym h.first) in
+        let front : owned_among live low.count ≡ n = owned_passing (is_page_live pid c) range.first low.count ∙ ap (λ (k : ℕ). passing (is_page_live pid c) k low.count) (sym h.first) in
         let behind : owned_among (λ i. live (low.count + i)) high.count ≡ m =
-        owned_same (λ i. live (low.count + i)) (λ i. is_live pid d (high.first + i)) high.count (λ i few.
-        ap (is_live pid c) (let same : range.first + (low.count + i) ≡ high.first + i = omega (arith, h.second) in same) ∙ sym (still_live high apart a (high.first + i) (next_held high i few)))
-        ∙ owned_passing (is_live pid d) high.first high.count in
-        let count : s.paging_keys - n - m ≡ s.paging_keys - passing (is_live pid c) range.first range.count = omega (arith, whole, split, front, behind) in
+        owned_same (λ i. live (low.count + i)) (λ i. is_page_live pid d (high.first + i)) high.count (λ i few.
+        ap (is_page_live pid c) (let same : range.first + (low.count + i) ≡ high.first + i = omega (arith, h.second) in same) ∙ sym (still_live high apart a (high.first + i) (next_held high i few)))
+        ∙ owned_passing (is_page_live pid d) high.first high.count in
+        let count : s.paging_keys - n - m ≡ s.paging_keys - passing (is_page_live pid c) range.first range.count = omega (arith, whole, split, front, behind) in
         record {
           contents = b.contents ∙ ap (removed pid high) a.contents ∙ fun_ext (λ k. key_both pid None (c k) k);
           store =
-              b.store ∙ ap (λ (x : StoreOf). without_keys pid high m x y) a.store
+              b.store ∙ ap (λ (x : StoreOf). store_without_keys pid high m x y) a.store
               ∙ (λ i. record s {
                 names = fun_ext (λ q. key_both pid None (s.names q) (own_key q)) i;
                 paging = fun_ext (λ k. key_both pid false (s.paging k) k) i;

@@ -30,11 +30,11 @@ use Rattle.mm_pages.specs.Store.{StoreOf, changed}
 use Rattle.mm_pages.specs.Conditions.{IsReleasing}
 use Rattle.mm_pages.specs.Leaving.{section_rank}
 use Rattle.mm_commit.specs.Charge.{CommitOf}
-use Rattle.mm_sections.specs.Directories.{CountedSection, DirectoryOf, section_in, sections_of, settled_by}
+use Rattle.mm_sections.specs.Directories.{CountedSection, DirectoryOf, section_in, sections_of, section_settled}
 use Rattle.mm_tables.specs.References.{handles_in, views_in, handles_to, views_of}
-use Rattle.mm_tables.specs.Sound.{IsCounted, IsKept}
-use Rattle.mm_tables.specs.Fits.{Fits, Settled, beside, block_in, paging_count}
-use Rattle.mm_tables.specs.Endings.{Less, Lost, is_shared_in, nowhere, ended_area, CanEnd, Emptied, IsFor}
+use Rattle.mm_tables.specs.Sound.{IsCounted, AreKeptTables}
+use Rattle.mm_tables.specs.Fits.{FitsTables, Settled, store_beside, file_block_in, paging_count}
+use Rattle.mm_tables.specs.Endings.{Less, Lost, is_key_of_area, nowhere, ended_area, CanEnd, Emptied, IsRankFor}
 use Rattle.mm_tables.specs.declared.tables.Process.{Process}
 use Rattle.mm_tables.specs.declared.tables.Tables.TheInside.{Inside}
 use Rattle.mm_tables.specs.Shown.{shown_process, shown_processes, shown_accesses, tables_with}
@@ -45,7 +45,7 @@ use Rattle.mm_tables.proofs.EndingFits.{seen_by, fits_lost, lost_nothing, at_eac
 
 -- ---- counted sections
 
-settled_counts : (c x : CountedSection) → settled_by c ≡ Some x → (x.handles ≡ c.handles) × (x.views ≡ c.views)
+settled_counts : (c x : CountedSection) → section_settled c ≡ Some x → (x.handles ≡ c.handles) × (x.views ≡ c.views)
 settled_counts c x e = by_tests (nat_lt 0 c.handles) (nat_lt 0 c.views) e
   where
     by_tests : (a b : Bool) → cond a (Some c) (cond b (Some (record c { section = record (c.section) { name = None } })) None) ≡ Some x → (x.handles ≡ c.handles) × (x.views ≡ c.views)
@@ -58,7 +58,7 @@ settled_section_is c true b = refl
 settled_section_is c false true = refl
 settled_section_is c false false = refl
 
-ended_bits : (c : CountedSection) → is_some (settled_by c) ≡ false → nat_lt 0 c.views ≡ false
+ended_bits : (c : CountedSection) → is_some (section_settled c) ≡ false → nat_lt 0 c.views ≡ false
 ended_bits c e = by_tests (nat_lt 0 c.handles) (nat_lt 0 c.views) e
   where
     by_tests : (a b : Bool) → is_some (cond a (Some c) (cond b (Some (record c { section = record (c.section) { name = None } })) None)) ≡ false → b ≡ false
@@ -66,7 +66,7 @@ ended_bits c e = by_tests (nat_lt 0 c.handles) (nat_lt 0 c.views) e
     by_tests false true e = cc
     by_tests false false e = refl
 
-ended_counts : (c : CountedSection) → is_some (settled_by c) ≡ false → (c.handles ≡ 0) × (c.views ≡ 0)
+ended_counts : (c : CountedSection) → is_some (section_settled c) ≡ false → (c.handles ≡ 0) × (c.views ≡ 0)
 ended_counts c e = by_tests (nat_lt 0 c.handles) (nat_lt 0 c.views) refl refl e
   where
     none : (k : ℕ) → nat_lt 0 k ≡ false → k ≡ 0
@@ -81,28 +81,28 @@ ended_counts c e = by_tests (nat_lt 0 c.handles) (nat_lt 0 c.views) refl refl e
 
 pub record Landed (v made : Tables) (entries : Numbered CountedSection) (commit : CommitOf) (c d : Key → Option Page) (s z : StoreOf) : Type 0 where
   pub is : made ≡ v
-  pub kept : IsKept made entries commit
+  pub kept : AreKeptTables made entries commit
   pub settled : Settled made c d s z
   pub less_live : Less c d
 
-pub landed_by : (v made : Tables) (entries : Numbered CountedSection) (commit : CommitOf) (c d : Key → Option Page) (s z : StoreOf) → made ≡ v → IsKept v entries commit → Fits v d z → Less c d → z ≡ beside s z → Landed v made entries commit c d s z
+pub landed_by : (v made : Tables) (entries : Numbered CountedSection) (commit : CommitOf) (c d : Key → Option Page) (s z : StoreOf) → made ≡ v → AreKeptTables v entries commit → FitsTables v d z → Less c d → z ≡ store_beside s z → Landed v made entries commit c d s z
 landed_by v made entries commit c d s z is kept fits less rest =
     record {
       is = is;
-      kept = subst (λ (w : Tables). IsKept w entries commit) (sym is) kept;
-      settled = record { fits = subst (λ (w : Tables). Fits w d z) (sym is) fits; carries = carries_less c d less; rest = rest };
+      kept = subst (λ (w : Tables). AreKeptTables w entries commit) (sym is) kept;
+      settled = record { fits = subst (λ (w : Tables). FitsTables w d z) (sym is) fits; carries = carries_less c d less; rest = rest };
       less_live = less;
     }
 
 -- ---- a store does not see sections
 
-fits_sections : (t : Tables) (ss : Numbered SectionOf) (c : Key → Option Page) (s : StoreOf) → Fits t c s → Fits (record t { sections = ss }) c s
+fits_sections : (t : Tables) (ss : Numbered SectionOf) (c : Key → Option Page) (s : StoreOf) → FitsTables t c s → FitsTables (record t { sections = ss }) c s
 fits_sections t ss c s f =
     fits_lost (λ k. false) nowhere 0 t (record t { sections = ss }) c c s s
     (record { rest = refl; content = λ k. (keys k).0; files = λ k out. (keys k).1; reserved = λ place. refl; stays = λ place k out e. e; block = λ k. (keys k).2; counted = omega arith; charged = omega arith; made = refl })
     f (lost_nothing c s) f.opened f.areas
   where
-    keys : (k : Key) → (is_some (content_of (record t { sections = ss }) k) ≡ is_some (content_of t k)) × (is_file_key (record t { sections = ss }) k ≡ is_file_key t k) × (block_in (record t { sections = ss }) k ≡ block_in t k)
+    keys : (k : Key) → (is_some (content_of (record t { sections = ss }) k) ≡ is_some (content_of t k)) × (is_file_key (record t { sections = ss }) k ≡ is_file_key t k) × (file_block_in (record t { sections = ss }) k ≡ file_block_in t k)
     keys (key.Private p v) = (refl, refl, refl)
     keys (key.Shared a i) = (refl, refl, refl)
 
@@ -111,7 +111,7 @@ pub lives_as : (t : Tables) (pid : ℕ) (p : ProcessOf (Unit {0})) (q : Option (
 lives_as t pid p q lives alive = at_each t pid p q lives (λ n o x. is_some x ≡ is_some o) alive (λ n o other. refl)
 
 -- and keeps its regions
-pub nothing_lost : (t : Tables) (pid : ℕ) (p : ProcessOf (Unit {0})) (q : Option (ProcessOf (Unit {0}))) → process_of t pid ≡ Some p → regions_of q ≡ p.regions → charge (set_process t pid q) ≤ charge t → paging_count (set_process t pid q) ≡ paging_count t → is_some q ≡ true → (c : Key → Option Page) (s : StoreOf) → Fits t c s → Fits (set_process t pid q) c s
+pub nothing_lost : (t : Tables) (pid : ℕ) (p : ProcessOf (Unit {0})) (q : Option (ProcessOf (Unit {0}))) → process_of t pid ≡ Some p → regions_of q ≡ p.regions → charge (set_process t pid q) ≤ charge t → paging_count (set_process t pid q) ≡ paging_count t → is_some q ≡ true → (c : Key → Option Page) (s : StoreOf) → FitsTables t c s → FitsTables (set_process t pid q) c s
 nothing_lost t pid p q lives same charged counted alive c s f =
     fits_lost (λ k. false) nowhere 0 t (set_process t pid q) c c s s (same_loses t pid p q lives same charged counted) f (lost_nothing c s)
     (λ n. f.opened n ∙ sym (lives_as t pid p q lives alive n)) f.areas
@@ -125,7 +125,7 @@ area_charged t n inside = omega (arith, area_sum t.areas n (area_at t n) no_area
 -- a process `p` becomes `q`, with one reference to a section less; `now` is what is counted of the section then
 pub record OneLess (t : Tables) (pid : ℕ) (p q : ProcessOf (Unit {0})) (m : ℕ) (old now : CountedSection) (entries : Numbered CountedSection) (commit : CommitOf) : Type 0 where
   pub lives : process_of t pid ≡ Some p
-  pub kept : IsKept t entries commit
+  pub kept : AreKeptTables t entries commit
   pub sections : sections_of entries ≡ t.sections
   pub entry : numbered entries m ≡ Some old
   pub others : (n : ℕ) → n ≢ m → (handles_in n (Some q) ≡ handles_in n (Some p)) × (views_in n (Some q) ≡ views_in n (Some p))
@@ -146,7 +146,7 @@ module _ {t : Tables} {pid : ℕ} {p q : ProcessOf (Unit {0})} {m : ℕ} {old no
   a = area_at t area
 
   abbrev es : Numbered CountedSection
-  es = set entries m (settled_by now)
+  es = set entries m (section_settled now)
 
   -- the tables after it, with these areas
   abbrev with_areas : List (AreaOf (Unit {0})) → Tables
@@ -179,37 +179,37 @@ module _ {t : Tables} {pid : ℕ} {p q : ProcessOf (Unit {0})} {m : ℕ} {old no
     views_count u n ∙ ap (nat_lt 0) (views_same n other) ∙ sym (views_count t n),
   )
 
-  settled_is : option_map section_in (settled_by now) ≡ settled_section u.processes m (Some old.section)
+  settled_is : option_map section_in (section_settled now) ≡ settled_section u.processes m (Some old.section)
   settled_is =
       settled_section_is now (nat_lt 0 now.handles) (nat_lt 0 now.views)
       ∙ (λ i. cond ((ap (nat_lt 0) handles_now ∙ sym (holds_count u m)) i) (Some (l.same_section i)) (cond ((ap (nat_lt 0) views_now ∙ sym (views_count u m)) i) (Some (record (l.same_section i) { name = None })) None))
 
   -- the tables after it, by the counted sections
-  one_is : settle u ≡ with_areas (cond (is_some (settled_by now)) t.areas (set t.areas area (ended_area a)))
+  one_is : settle u ≡ with_areas (cond (is_some (section_settled now)) t.areas (set t.areas area (ended_area a)))
   one_is =
       let ss : set t.sections m (settled_section u.processes m (Some old.section)) ≡ sections_of es =
-      (λ i. set (sym l.sections i) m (sym settled_is i)) ∙ sym (map-set (option_map section_in) entries m (settled_by now)) in
-      let some : is_some (settled_section u.processes m (Some old.section)) ≡ is_some (settled_by now) = ap is_some (sym settled_is) ∙ some_map section_in (settled_by now) in
+      (λ i. set (sym l.sections i) m (sym settled_is i)) ∙ sym (map-set (option_map section_in) entries m (section_settled now)) in
+      let some : is_some (settled_section u.processes m (Some old.section)) ≡ is_some (section_settled now) = ap is_some (sym settled_is) ∙ some_map section_in (section_settled now) in
       settle_put t u.processes m old.section l.kept.tidy there inside bits
       ∙ (λ i. record t { processes = u.processes; sections = ss i; areas = cond (some i) t.areas (set t.areas area (ended_area a)) })
 
-  one_if : (b : Bool) → is_some (settled_by now) ≡ b → settle u ≡ with_areas (cond b t.areas (set t.areas area (ended_area a)))
+  one_if : (b : Bool) → is_some (section_settled now) ≡ b → settle u ≡ with_areas (cond b t.areas (set t.areas area (ended_area a)))
   one_if b e = one_is ∙ (λ i. with_areas (cond (e i) t.areas (set t.areas area (ended_area a))))
 
   counted_now : (n : ℕ) (x : CountedSection) → numbered es n ≡ Some x → IsCounted (settle u) n x
   counted_now n x e =
       elim (same_or_not n m) [
         | inl is ↦
-            (let is_now : settled_by now ≡ Some x = sym (get_or-set_same entries m (settled_by now) None (numbered_inside entries m old l.entry)) ∙ ap (numbered es) (sym is) ∙ e in
+            (let is_now : section_settled now ≡ Some x = sym (get_or-set_same entries m (section_settled now) None (numbered_inside entries m old l.entry)) ∙ ap (numbered es) (sym is) ∙ e in
             let k = settled_counts now x is_now in
             record { handles = k.0 ∙ handles_now ∙ ap (handles_to u) (sym is); views = k.1 ∙ views_now ∙ ap (views_of u) (sym is) })
         | inr other ↦
-            (let was = l.kept.counted n x (sym (get_or-set_other entries m n (settled_by now) None other) ∙ e) in
+            (let was = l.kept.counted n x (sym (get_or-set_other entries m n (section_settled now) None other) ∙ e) in
             record { handles = was.handles ∙ sym (handles_same n other); views = was.views ∙ sym (views_same n other) })
       ]
 
   -- the commit charge is what the tables say after it
-  kept_now : (after : CommitOf) → after.charge ≡ charge (settle u) → after.limit ≡ commit.limit → IsKept (settle u) es after
+  kept_now : (after : CommitOf) → after.charge ≡ charge (settle u) → after.limit ≡ commit.limit → AreKeptTables (settle u) es after
   kept_now after charged limited =
       record {
         sound = l.sound;
@@ -221,16 +221,16 @@ module _ {t : Tables} {pid : ℕ} {p q : ProcessOf (Unit {0})} {m : ℕ} {old no
 
   -- ---- the section stays
 
-  pub landed_stays : (made : Tables) (after : CommitOf) (c0 c1 : Key → Option Page) (s0 s1 : StoreOf) → made ≡ with_areas t.areas → is_some (settled_by now) ≡ true → after.charge ≡ charge u → after.limit ≡ commit.limit → Less c0 c1 → s1 ≡ beside s0 s1 → Fits u c1 s1 → Landed (settle u) made es after c0 c1 s0 s1
+  pub landed_stays : (made : Tables) (after : CommitOf) (c0 c1 : Key → Option Page) (s0 s1 : StoreOf) → made ≡ with_areas t.areas → is_some (section_settled now) ≡ true → after.charge ≡ charge u → after.limit ≡ commit.limit → Less c0 c1 → s1 ≡ store_beside s0 s1 → FitsTables u c1 s1 → Landed (settle u) made es after c0 c1 s0 s1
   landed_stays made after c0 c1 s0 s1 made_is stays charged limited less rest fits =
       let is = one_if true stays in
       landed_by (settle u) made es after c0 c1 s0 s1 (made_is ∙ sym is) (kept_now after (charged ∙ sym (ap (λ (w : Tables). charge w) is)) limited)
-      (subst (λ (w : Tables). Fits w c1 s1) (sym is) (fits_sections u (sections_of es) c1 s1 fits)) less rest
+      (subst (λ (w : Tables). FitsTables w c1 s1) (sym is) (fits_sections u (sections_of es) c1 s1 fits)) less rest
 
   -- ---- the section ends
 
   -- the process has no reference to it left
-  left_none : is_some (settled_by now) ≡ false → (handles_in m (Some q) ≡ 0) × (views_in m (Some q) ≡ 0)
+  left_none : is_some (section_settled now) ≡ false → (handles_in m (Some q) ≡ 0) × (views_in m (Some q) ≡ 0)
   left_none ended =
       let none = ended_counts now ended in (
         omega (arith, none.0, l.handles, counts.handles, handles_put t pid m p None l.lives),
@@ -238,13 +238,13 @@ module _ {t : Tables} {pid : ℕ} {p q : ProcessOf (Unit {0})} {m : ℕ} {old no
       )
 
   -- its area goes with the last one
-  its_rank : a.file_block ≡ None → (rank : ℕ → ℕ) → IsFor rank pid t → (r : ℕ) → 1 ≤ r → section_rank m (Some p) ≡ r → rank area ≡ r
+  its_rank : a.file_block ≡ None → (rank : ℕ → ℕ) → IsRankFor rank pid t → (r : ℕ) → 1 ≤ r → section_rank m (Some p) ≡ r → rank area ≡ r
   its_rank paging rank for r some e =
       let same : section_rank m (process_of t pid) ≡ r = ap (section_rank m) l.lives ∙ e in
       for m old.section there paging (omega (arith, some, same)) ∙ same
 
   -- no view of its area is left
-  unseen : is_some (settled_by now) ≡ false → a.file_block ≡ None → (n i : ℕ) (x : ProcessOf (Unit {0})) (r : RegionOf (Unit {0})) (v : View) → process_of u n ≡ Some x → slice_get x.regions i ≡ Some r → r.kind ≡ kind.View v → v.area.0 ≢ area
+  unseen : is_some (section_settled now) ≡ false → a.file_block ≡ None → (n i : ℕ) (x : ProcessOf (Unit {0})) (r : RegionOf (Unit {0})) (v : View) → process_of u n ≡ Some x → slice_get x.regions i ≡ Some r → r.kind ≡ kind.View v → v.area.0 ≢ area
   unseen ended paging n i x r v alive at is same =
       let was : (k j : ℕ) × ((y : ProcessOf (Unit {0})) × ((process_of t k ≡ Some y) × (slice_get y.regions j ≡ Some r))) =
       elim (same_or_not n pid) [
@@ -264,7 +264,7 @@ module _ {t : Tables} {pid : ℕ} {p q : ProcessOf (Unit {0})} {m : ℕ} {old no
       let bad : true ≡ false = sym seen_now ∙ views_count u m ∙ ap (nat_lt 0) (sym views_now) ∙ ended_bits now ended in
       cc
 
-  pub can_end : (name : Area) (c1 : Key → Option Page) (s1 : StoreOf) → name.0 ≡ area → is_some (settled_by now) ≡ false → a.file_block ≡ None → Fits u c1 s1 → IsReleasing s1.kind → CanEnd name a c1 s1
+  pub can_end : (name : Area) (c1 : Key → Option Page) (s1 : StoreOf) → name.0 ≡ area → is_some (section_settled now) ≡ false → a.file_block ≡ None → FitsTables u c1 s1 → IsReleasing s1.kind → CanEnd name a c1 s1
   can_end name c1 s1 is ended paging fits releasing =
       let at : area_at t name.0 ≡ a = ap (λ (n : ℕ). area_at t n) is in
       record {
@@ -286,23 +286,23 @@ module _ {t : Tables} {pid : ℕ} {p q : ProcessOf (Unit {0})} {m : ℕ} {old no
   freed : (b : AreaOf (Unit {0})) → area_charge b ≡ 0 → sum_by area_charge (set t.areas area b) + area_charge a ≡ sum_by area_charge t.areas
   freed b none = omega (arith, area_sum t.areas area a b (some_get t.areas area no_area inside), none)
 
-  pub landed_ends : (name : Area) (made : Tables) (after : CommitOf) (c0 c1 d : Key → Option Page) (s0 s1 z : StoreOf) → name.0 ≡ area → made ≡ with_areas (set t.areas area (ended_area a)) → is_some (settled_by now) ≡ false → after.charge + area_charge a ≡ charge u → after.limit ≡ commit.limit → Less c0 c1 → s1 ≡ beside s0 s1 → Fits u c1 s1 → ((first : ℕ) → a.file_block ≡ Some first → (d ≡ c1) × (z ≡ s1)) → (a.file_block ≡ None → Emptied name a c1 d s1 z) → Landed (settle u) made es after c0 d s0 z
+  pub landed_ends : (name : Area) (made : Tables) (after : CommitOf) (c0 c1 d : Key → Option Page) (s0 s1 z : StoreOf) → name.0 ≡ area → made ≡ with_areas (set t.areas area (ended_area a)) → is_some (section_settled now) ≡ false → after.charge + area_charge a ≡ charge u → after.limit ≡ commit.limit → Less c0 c1 → s1 ≡ store_beside s0 s1 → FitsTables u c1 s1 → ((first : ℕ) → a.file_block ≡ Some first → (d ≡ c1) × (z ≡ s1)) → (a.file_block ≡ None → Emptied name a c1 d s1 z) → Landed (settle u) made es after c0 d s0 z
   landed_ends name made after c0 c1 d s0 s1 z name_is made_is ended charged limited less rest fits file emptied =
       let is = one_if false ended in
       let total : charge (settle u) + area_charge a ≡ charge u = omega (arith, ap (λ (w : Tables). charge w) is, freed (ended_area a) (ended_charge a)) in
       let f = after_area a.file_block refl in
       landed_by (settle u) made es after c0 d s0 z (made_is ∙ sym is) (kept_now after (omega (arith, charged, total)) limited)
-      (subst (λ (w : Tables). Fits w d z) (sym is) f.0) (less_then c0 c1 d less f.1.0) (beside_then s0 s1 z rest f.1.1)
+      (subst (λ (w : Tables). FitsTables w d z) (sym is) f.0) (less_then c0 c1 d less f.1.0) (beside_then s0 s1 z rest f.1.1)
     where
-      after_area : (o : Option ℕ) → a.file_block ≡ o → Fits (with_areas (set t.areas area (ended_area a))) d z × ((Less c1 d) × (z ≡ beside s1 z))
+      after_area : (o : Option ℕ) → a.file_block ≡ o → FitsTables (with_areas (set t.areas area (ended_area a))) d z × ((Less c1 d) × (z ≡ store_beside s1 z))
       after_area (Some first) e =
           let h = file first e in
           let stays : ended_area a ≡ get_or t.areas area no_area = ap (λ (o : Option ℕ). cond (is_some o) a no_area) e ∙ sym (get_or_from_slice_get t.areas area a no_area (some_get t.areas area no_area inside)) in
           let areas : t.areas ≡ set t.areas area (ended_area a) = sym (ap (set t.areas area) stays ∙ set-get_or t.areas area no_area) in (
-            subst (λ (x : Key → Option Page). Fits (with_areas (set t.areas area (ended_area a))) x z) (sym h.0)
-                (subst (λ (x : StoreOf). Fits (with_areas (set t.areas area (ended_area a))) c1 x) (sym h.1)
-                (subst (λ (areas : List (AreaOf (Unit {0}))). Fits (with_areas areas) c1 s1) areas (fits_sections u (sections_of es) c1 s1 fits))),
-            ((λ key some. ap (λ (x : Key → Option Page). x key) h.0), h.1 ∙ ap (beside s1) (sym h.1)),
+            subst (λ (x : Key → Option Page). FitsTables (with_areas (set t.areas area (ended_area a))) x z) (sym h.0)
+                (subst (λ (x : StoreOf). FitsTables (with_areas (set t.areas area (ended_area a))) c1 x) (sym h.1)
+                (subst (λ (areas : List (AreaOf (Unit {0}))). FitsTables (with_areas areas) c1 s1) areas (fits_sections u (sections_of es) c1 s1 fits))),
+            ((λ key some. ap (λ (x : Key → Option Page). x key) h.0), h.1 ∙ ap (store_beside s1) (sym h.1)),
           )
       after_area None e =
           let h = emptied e in
@@ -311,18 +311,18 @@ module _ {t : Tables} {pid : ℕ} {p q : ProcessOf (Unit {0})} {m : ℕ} {old no
           let n = count_by is_some a.pages in
           let less_charge : charge (record u { sections = ss; areas = set u.areas area no_area }) ≤ charge u = omega (arith, freed no_area refl) in
           let less_count : paging_count (record u { sections = ss; areas = set u.areas area no_area }) + n ≡ paging_count u = omega (arith, freed no_area refl, paging_charge a e) in
-          let now_fits : Fits (record u { sections = ss; areas = set u.areas area no_area }) d z =
-          fits_lost (is_shared_in area) nowhere n u (record u { sections = ss; areas = set u.areas area no_area }) c1 d s1 z
+          let now_fits : FitsTables (record u { sections = ss; areas = set u.areas area no_area }) d z =
+          fits_lost (is_key_of_area area) nowhere n u (record u { sections = ss; areas = set u.areas area no_area }) c1 d s1 z
           (area_loses u ss area n inside e (unseen ended e) less_charge less_count)
-          fits (subst (λ (k : ℕ). Lost (is_shared_in k) nowhere n c1 d s1 z) name_is h.lost)
+          fits (subst (λ (k : ℕ). Lost (is_key_of_area k) nowhere n c1 d s1 z) name_is h.lost)
           (λ n. ap (λ (f : ℕ → Bool). f n) h.lost.open_same ∙ fits.opened n)
           (areas_after u ss area n inside e (unseen ended e) less_charge less_count s1.areas z.areas fits.areas (h.areas ∙ ap (λ (n : ℕ). changed ◌==◌ s1.areas n None) name_is)) in
-          (subst (λ (b : AreaOf (Unit {0})). Fits (with_areas (set t.areas area b)) d z) (sym gone) now_fits, (h.lost.less, h.lost.rest))
+          (subst (λ (b : AreaOf (Unit {0})). FitsTables (with_areas (set t.areas area b)) d z) (sym gone) now_fits, (h.lost.less, h.lost.rest))
 
 -- ---- What the tables keep, of the fields that they are kept in; and areas at their places
 
 pub record Standing (t : Tables) (items : List (Option Process)) (entries : Numbered CountedSection) (areas : List (AreaOf (Unit {0}))) (commit : CommitOf) : Type 0 where
-  pub kept : IsKept t entries commit
+  pub kept : AreKeptTables t entries commit
   pub processes : shown_processes items ≡ t.processes
   pub sections : sections_of entries ≡ t.sections
   pub areas_are : areas ≡ t.areas
@@ -342,13 +342,13 @@ pub record Step (i : Inside) (t : Tables) (pid : ℕ) (q : ProcessOf (Unit {0}))
   pub low : 1 ≤ pid
   pub one : OneLess t pid p q m old now i.directory.entries i.commit
   pub shown : option_map shown_process y ≡ Some q
-  pub dir_is : dir ≡ record i.directory { entries = set i.directory.entries m (settled_by now) }
-  pub told : result ≡ cond (is_some (settled_by now)) None (Some (record { 0 = old.section.area }))
+  pub dir_is : dir ≡ record i.directory { entries = set i.directory.entries m (section_settled now) }
+  pub told : result ≡ cond (is_some (section_settled now)) None (Some (record { 0 = old.section.area }))
   pub charged : commit.charge ≡ charge (set_process t pid (Some q))
   pub limited : commit.limit ≡ i.commit.limit
   pub less : Less c0 c1
-  pub rest : s1 ≡ beside s0 s1
-  pub fits : Fits (set_process t pid (Some q)) c1 s1
+  pub rest : s1 ≡ store_beside s0 s1
+  pub fits : FitsTables (set_process t pid (Some q)) c1 s1
   pub ranked : handles_in m (Some q) ≡ 0 → views_in m (Some q) ≡ 0 → section_rank m (Some p) ≡ rank
   pub early : 1 ≤ rank
 
@@ -357,7 +357,7 @@ module _ {i : Inside} {t : Tables} {pid : ℕ} {q : ProcessOf (Unit {0})} {y : O
   its_area = w.old.section.area
 
   abbrev left : Numbered CountedSection
-  left = set i.directory.entries w.m (settled_by w.now)
+  left = set i.directory.entries w.m (section_settled w.now)
 
   made : (areas bs : List (AreaOf (Unit {0}))) → areas ≡ bs → kept_with i pid y dir areas ≡ record t { processes = set t.processes pid (Some q); sections = sections_of left; areas = bs }
   made areas bs same =
@@ -371,15 +371,15 @@ module _ {i : Inside} {t : Tables} {pid : ℕ} {q : ProcessOf (Unit {0})} {y : O
   pub whole_stays : result ≡ None → Landed (settle (set_process t pid (Some q))) (kept_with i pid y dir i.areas.items) dir.entries commit c0 c1 s0 s1
   whole_stays none =
       as_told (landed_stays w.one (kept_with i pid y dir i.areas.items) commit c0 c1 s0 s1 (made i.areas.items t.areas (ap (λ (t : Tables). t.areas) w.view))
-      (still (is_some (settled_by w.now)) (sym w.told ∙ none)) w.charged w.limited w.less w.rest w.fits)
+      (still (is_some (section_settled w.now)) (sym w.told ∙ none)) w.charged w.limited w.less w.rest w.fits)
     where
       still : (b : Bool) → ◌≡◌ {A = Option Area} (cond b None (Some (record { 0 = its_area }))) None → b ≡ true
       still true e = refl
       still false e = cc
 
   module _ {n : Area} (some : result ≡ Some n) where
-    end : (is_some (settled_by w.now) ≡ false) × (n.0 ≡ its_area)
-    end = by_test (is_some (settled_by w.now)) (sym w.told ∙ some)
+    end : (is_some (section_settled w.now) ≡ false) × (n.0 ≡ its_area)
+    end = by_test (is_some (section_settled w.now)) (sym w.told ∙ some)
       where
         by_test : (b : Bool) → ◌≡◌ {A = Option Area} (cond b None (Some (record { 0 = its_area }))) (Some n) → (b ≡ false) × (n.0 ≡ its_area)
         by_test true e = cc
@@ -395,7 +395,7 @@ module _ {i : Inside} {t : Tables} {pid : ℕ} {q : ProcessOf (Unit {0})} {y : O
       is_area : pages ≡ area_at t its_area
       is_area = get_or_read_under t.areas its_area (length t.areas) pages no_area (at ∙ (λ j. get_or (areas_are j) (end.1 j) pages)) (inside w.one) refl ∙ sym (unwrap_or-slice_get t.areas its_area no_area)
 
-      pub ends_at : pages.file_block ≡ None → (ranks : ℕ → ℕ) → IsFor ranks pid t → ranks n.0 ≡ rank
+      pub ends_at : pages.file_block ≡ None → (ranks : ℕ → ℕ) → IsRankFor ranks pid t → ranks n.0 ≡ rank
       ends_at paging ranks for =
           let none = left_none w.one end.0 in
           ap ranks end.1 ∙ its_rank w.one (ap (λ (a : AreaOf (Unit {0})). a.file_block) (sym is_area) ∙ paging) ranks for rank w.early (w.ranked none.0 none.1)

@@ -29,11 +29,12 @@ use Rattle.mm_world.proofs.Keeps.{unmap_keeps}
 use Rattle.mm_pages.specs.Store.{StoreOf, is_place_in}
 use Rattle.mm_pages.specs.Leaving.{section_rank, page_rank}
 use Rattle.mm_commit.specs.Charge.{CommitOf}
-use Rattle.mm_sections.specs.Directories.{CountedSection, DirectoryOf, settled_by, one_view_less}
+use Rattle.mm_sections.specs.Directories.{CountedSection, DirectoryOf, section_settled, one_view_less}
 use Rattle.mm_spaces.specs.Tables.{rows_of, owned_in, marked_in, found_info}
 use Rattle.mm_spaces.specs.declared.spaces.RegionInfo.{RegionInfo}
-use Rattle.mm_tables.specs.Fits.{Fits}
-use Rattle.mm_tables.specs.Endings.{CanRelease, Released, is_key_in, is_owned_at, owned_among}
+use Rattle.mm_tables.specs.Fits.{FitsTables}
+use Rattle.mm_tables.specs.Ranges.{is_key_in}
+use Rattle.mm_tables.specs.Endings.{CanRelease, Released, is_owned_at, owned_among}
 use Rattle.mm_tables.specs.declared.tables.Process.{Process}
 use Rattle.mm_tables.specs.declared.tables.Tables.TheInside.{Inside}
 use Rattle.mm_tables.specs.References.{views_in}
@@ -83,7 +84,7 @@ module _ (t : Tables) (pid : Pid) (p : ProcessOf (Unit {0})) (i : ℕ) (r : Regi
   pub charge_removed : charge (set_regions t pid.0 p (remove p.regions i)) + region_charge r ≡ charge t
   charge_removed = charge-remove_region t pid.0 p i r lives at
 
-  module _ (c : Key → Option Page) (s : StoreOf) (f : Fits t c s) where
+  module _ (c : Key → Option Page) (s : StoreOf) (f : FitsTables t c s) where
     pub ends_within : end_of range ≤ end_of_user_pages
     ends_within = ends t pid p c s lives sound f i r range at (whole_inside r range pages)
 
@@ -96,7 +97,7 @@ module _ (t : Tables) (pid : Pid) (p : ProcessOf (Unit {0})) (i : ℕ) (r : Regi
           unbinding = unbinding;
         }
 
-    pub fits_removed : (d : Key → Option Page) (z : StoreOf) → Released pid range p.regions c d s z → Fits (set_regions t pid.0 p (remove p.regions i)) d z
+    pub fits_removed : (d : Key → Option Page) (z : StoreOf) → Released pid range p.regions c d s z → FitsTables (set_regions t pid.0 p (remove p.regions i)) d z
     fits_removed d z released =
         let u = set_regions t pid.0 p (remove p.regions i) in
         let n = owned_among (is_owned_at p.regions range.first) range.count in
@@ -205,7 +206,7 @@ module _ {i : Inside} {t : Tables} {x : Option Process} (pid : Pid) (k : Known i
       let place = same_found (view_at k.process.regions addr) v.found r v.is_found (ap (λ (p : ProcessOf (Unit {0})). view_at p.regions addr) same ∙ found) in
       λ j. settle (set_process t pid.0 (Some (unmapped (same j) (place j).place)))
 
-  module _ {c : Key → Option Page} {s : StoreOf} (fits : Fits t c s) where
+  module _ {c : Key → Option Page} {s : StoreOf} (fits : FitsTables t c s) where
     pub unmap_end : end_of range ≤ end_of_user_pages
     unmap_end = ends_within t pid k.process v.found.place v.found.thing range k.lives v.at v.pages k.kept.sound c s fits
 
@@ -227,8 +228,8 @@ module _ {i : Inside} {t : Tables} {x : Option Process} (pid : Pid) (k : Known i
 
       pub unmap_step : {dir : DirectoryOf} {result : Option Area} {commit : CommitOf} {d : Key → Option Page} {z : StoreOf} (y : Option Process) → ((p : ProcessOf (Unit {0})) (r : Found (RegionOf (Unit {0}))) → option_map shown_process x ≡ Some p → view_at p.regions addr ≡ Some r → option_map shown_process y ≡ Some (unmapped p r.place))
           → ((p : ProcessOf (Unit {0})) → option_map shown_process x ≡ Some p → Released pid range p.regions c d s z) → commit ≡ record i.commit { charge = i.commit.charge - marked }
-          → ((c : CountedSection) → numbered i.directory.entries view.section.0 ≡ Some c → dir ≡ record i.directory { entries = set i.directory.entries view.section.0 (settled_by (one_view_less c)) })
-          → ((c : CountedSection) → numbered i.directory.entries view.section.0 ≡ Some c → result ≡ cond (is_some (settled_by (one_view_less c))) None (Some (record { 0 = c.section.area })))
+          → ((c : CountedSection) → numbered i.directory.entries view.section.0 ≡ Some c → dir ≡ record i.directory { entries = set i.directory.entries view.section.0 (section_settled (one_view_less c)) })
+          → ((c : CountedSection) → numbered i.directory.entries view.section.0 ≡ Some c → result ≡ cond (is_some (section_settled (one_view_less c))) None (Some (record { 0 = c.section.area })))
           → Step i t pid.0 q y dir result commit c d s z (page_rank (end_of range) - 1)
       unmap_step {dir} {result} {commit} {d} {z} y removed released refunded dropped ended =
           let gone = released k.process k.shown in

@@ -37,9 +37,9 @@ use Rattle.mm_pages.specs.Store.{StoreOf, changed, with_file, with_blocks}
 use Rattle.mm_pages.specs.Reports.{rearranged, wrote, Served}
 use Rattle.mm_sections.specs.Directories.{CountedSection}
 use Rattle.mm_tables.specs.SectionSteps.{is_page_of, CanFill, Fills}
-use Rattle.mm_tables.specs.Fits.{Fits}
+use Rattle.mm_tables.specs.Fits.{FitsTables}
 use Rattle.mm_tables.specs.References.{IsTidy}
-use Rattle.mm_tables.specs.Sound.{IsKept}
+use Rattle.mm_tables.specs.Sound.{AreKeptTables}
 use Rattle.mm_tables.specs.Shown.{shown_processes}
 use Rattle.mm_tables.specs.declared.tables.Tables.TheInside.{Inside}
 use Rattle.mm_tables.proofs.Lists.{same_number, area_at_end, area_before}
@@ -152,9 +152,9 @@ nothing_served s =
 
 -- ---- no file was made
 
-pub fits_wrote : (t : Tables) (c d : Key → Option Page) (s z : StoreOf) → Fits t c s → d ≡ c → z ≡ wrote s z → length z.file_blocks ≡ length s.file_blocks → Served s z → Fits t d z
+pub fits_wrote : (t : Tables) (c d : Key → Option Page) (s z : StoreOf) → FitsTables t c s → d ≡ c → z ≡ wrote s z → length z.file_blocks ≡ length s.file_blocks → Served s z → FitsTables t d z
 fits_wrote t c d s z f same e stored served =
-    subst (λ (d : Key → Option Page). Fits t d z) (sym same)
+    subst (λ (d : Key → Option Page). FitsTables t d z) (sym same)
     (fits_processes t t.processes t.sections t.files (λ q. refl) c s z (e ∙ ap (with_open_of s) (sym e)) (λ q. ap (λ (x : StoreOf). x.is_open q) e ∙ f.opened q)
     (ap (λ (x : StoreOf). x.last_pid + 1) e ∙ f.last_pid) stored (served_names served.file_calls s.file_device z.file_device served.files) refl refl f)
 
@@ -168,7 +168,7 @@ filed_store area pages first s z =
       blocks_used = s.blocks_used + pages;
     }
 
-module _ (t : Tables) (area pages byte first : ℕ) (c d : Key → Option Page) (s z : StoreOf) (at : area ≡ length t.areas) (f : Fits t c s) (contents : d ≡ with_file area pages byte c) (e : z ≡ filed_store area pages first s z) where
+module _ (t : Tables) (area pages byte first : ℕ) (c d : Key → Option Page) (s z : StoreOf) (at : area ≡ length t.areas) (f : FitsTables t c s) (contents : d ≡ with_file area pages byte c) (e : z ≡ filed_store area pages first s z) where
   page_here : (b : Area) (i : ℕ) → b.0 ≡ length t.areas → ((b.0 == area) && nat_lt i pages) ≡ is_some (numbered (replicate pages whole) i)
   page_here b i new = ap (λ x. x && nat_lt i pages) (same_number b.0 area (new ∙ sym at)) ∙ sym (replicated {A = Unit {0}} pages i tt)
 
@@ -290,12 +290,12 @@ module _ (i : Inside) {t : Tables} (name : Text) (pages byte : ℕ) {es : Number
   made_is : now i (shown_processes i.processes.items) es areas files (i.blocks_used + pages) ≡ with_new_file (as_kept i) name pages
   made_is = λ j. now i (shown_processes i.processes.items) (entries j) (areas_are j) (files_are j) (i.blocks_used + pages)
 
-  pub file_kept : IsKept (as_kept i) i.directory.entries i.commit → IsKept (now i (shown_processes i.processes.items) es areas files (i.blocks_used + pages)) es i.commit
+  pub file_kept : AreKeptTables (as_kept i) i.directory.entries i.commit → AreKeptTables (now i (shown_processes i.processes.items) es areas files (i.blocks_used + pages)) es i.commit
   file_kept k =
       let x = as_kept i in
       let free = ap (λ (t : Tables). file_named t name) view ∙ unnamed in
       let within : i.blocks_used + pages ≤ i.machine.blocks = omega (arith, room, ap (λ (t : Tables). t.blocks_used) view, ap (λ (t : Tables). t.machine.blocks) view) in
-      subst (λ (es : Numbered CountedSection). IsKept (now i (shown_processes i.processes.items) es areas files (i.blocks_used + pages)) es i.commit) (sym entries)
+      subst (λ (es : Numbered CountedSection). AreKeptTables (now i (shown_processes i.processes.items) es areas files (i.blocks_used + pages)) es i.commit) (sym entries)
       (kept_as (with_new_file x name pages) (now i (shown_processes i.processes.items) i.directory.entries areas files (i.blocks_used + pages)) i.directory.entries i.commit
       (λ j. now i (shown_processes i.processes.items) i.directory.entries (areas_are j) (files_are j) (i.blocks_used + pages)) (record {
         sound = subst (λ (t : Tables). WellFormed t) (file_is x name pages byte free within) (new_file_keeps blank x name pages byte k.sound);
@@ -308,12 +308,12 @@ module _ (i : Inside) {t : Tables} (name : Text) (pages byte : ℕ) {es : Number
   pub file_now : now i (shown_processes i.processes.items) es areas files (i.blocks_used + pages) ≡ (new_file blank t name pages byte).world
   file_now = made_is ∙ ap (λ (t : Tables). with_new_file t name pages) view ∙ sym (file_is t name pages byte unnamed room)
 
-  pub file_fits : (area : ℕ) (c d : Key → Option Page) (s z : StoreOf) → Fits t c s → area ≡ length i.areas.items → d ≡ with_file area pages byte c → z ≡ filed_store area pages i.blocks_used s z → length z.file_blocks ≡ length s.file_blocks → Served s z → Fits (now i (shown_processes i.processes.items) es areas files (i.blocks_used + pages)) d z
+  pub file_fits : (area : ℕ) (c d : Key → Option Page) (s z : StoreOf) → FitsTables t c s → area ≡ length i.areas.items → d ≡ with_file area pages byte c → z ≡ filed_store area pages i.blocks_used s z → length z.file_blocks ≡ length s.file_blocks → Served s z → FitsTables (now i (shown_processes i.processes.items) es areas files (i.blocks_used + pages)) d z
   file_fits area c d s z fits at contents e stored served =
       let x = as_kept i in
       let a = file_area i.blocks_used pages in
-      let f = subst (λ (t : Tables). Fits t c s) (sym view) fits in
+      let f = subst (λ (t : Tables). FitsTables t c s) (sym view) fits in
       let grown = fits_area x (i.areas.items ++ a ∷ []) (length i.areas.items) a (i.blocks_used + pages) c d s z (file_grown x area pages byte i.blocks_used c d s z at f contents e some stored served) f in
       let w = with_areas x (i.areas.items ++ a ∷ []) (i.blocks_used + pages) in
-      subst (λ (t : Tables). Fits t d z) (sym made_is)
+      subst (λ (t : Tables). FitsTables t d z) (sym made_is)
       (fits_processes w w.processes w.sections (i.directory.files ++ record { name = name; area = length i.areas.items } ∷ []) (λ q. refl) d z z refl grown.opened grown.last_pid refl refl refl refl grown)

@@ -16,10 +16,10 @@ use Rattle.mm_world.proofs.Finding.{found_stands}
 use Rattle.mm_world.proofs.KeptPages.{own_in}
 use Rattle.mm_world.proofs.LaidOut.{flags_changed}
 use Rattle.mm_pages.specs.Store.{StoreOf}
-use Rattle.mm_tables.specs.Fits.{Fits}
+use Rattle.mm_tables.specs.Fits.{FitsTables}
 use Rattle.mm_tables.specs.Effects.{Leaves, Moves}
-use Rattle.mm_tables.specs.Sound.{IsKept}
-use Rattle.mm_tables.specs.Spaces.{regions_of, Became}
+use Rattle.mm_tables.specs.Sound.{AreKeptTables}
+use Rattle.mm_tables.specs.Spaces.{process_regions, RegionsBecame}
 use Rattle.mm_tables.specs.declared.tables.Process.{Process}
 use Rattle.mm_tables.specs.declared.tables.Tables.TheInside.{Inside}
 use Rattle.mm_tables.proofs.Keeping.{StandIn}
@@ -58,7 +58,7 @@ module _ (t : Tables) (q : Pid) (p : ProcessOf (Unit {0})) (i : ℕ) (r : Region
         named = λ v k clear. set_named t p i r new at same refl q.0 v k (h.spaces q.0 p lives).laid_out (λ held was. was);
       }
 
-  flags_moved : (contents : Key → Option Page) (s : StoreOf) → Fits t contents s → Fits (set_region t q.0 p i new) contents s
+  flags_moved : (contents : Key → Option Page) (s : StoreOf) → FitsTables t contents s → FitsTables (set_region t q.0 p i new) contents s
   flags_moved contents s f =
       moved t q p (pages_of r) Leaves Leaves false (set p.regions i new) contents contents s s lives f
       (record { contents = refl; paging = refl; bound = refl; names = refl; open_same = refl; areas_same = refl; same = refl })
@@ -66,14 +66,14 @@ module _ (t : Tables) (q : Pid) (p : ProcessOf (Unit {0})) (i : ℕ) (r : Region
 
 -- ---- the tables as they are kept, after a step on the flags of the region that a look-up finds
 
-module _ {i : Inside} {t : Tables} {q : Pid} {o : Option Process} (h : Held i t q.0 o) (new : Option Process) (test : RegionOf (Unit {0}) → Bool) (flags : RegionOf (Unit {0}) → List Bool → List Bool) (long : (r : RegionOf (Unit {0})) (ws : List Bool) → length (flags r ws) ≡ length ws) (changed : (r : Found (RegionOf (Unit {0}))) → first_where test (regions_of o) ≡ Some r → Became o new (set (regions_of o) r.place (change_flags (flags r.thing) r.thing))) where
+module _ {i : Inside} {t : Tables} {q : Pid} {o : Option Process} (h : Held i t q.0 o) (new : Option Process) (test : RegionOf (Unit {0}) → Bool) (flags : RegionOf (Unit {0}) → List Bool → List Bool) (long : (r : RegionOf (Unit {0})) (ws : List Bool) → length (flags r ws) ≡ length ws) (changed : (r : Found (RegionOf (Unit {0}))) → first_where test (process_regions o) ≡ Some r → RegionsBecame o new (set (process_regions o) r.place (change_flags (flags r.thing) r.thing))) where
   abbrev with_flags : List (RegionOf (Unit {0})) → Found (RegionOf (Unit {0})) → List (RegionOf (Unit {0}))
   with_flags rs r = set rs r.place (change_flags (flags r.thing) r.thing)
 
-  flags_became : (p : ProcessOf (Unit {0})) (r : Found (RegionOf (Unit {0}))) → process_of t q.0 ≡ Some p → first_where test p.regions ≡ Some r → Became o new (with_flags p.regions r)
+  flags_became : (p : ProcessOf (Unit {0})) (r : Found (RegionOf (Unit {0}))) → process_of t q.0 ≡ Some p → first_where test p.regions ≡ Some r → RegionsBecame o new (with_flags p.regions r)
   flags_became p r lives found =
       let same = regions_by h p lives in
-      subst (λ rs. Became o new (with_flags rs r)) same (changed r (ap (first_where test) same ∙ found))
+      subst (λ rs. RegionsBecame o new (with_flags rs r)) same (changed r (ap (first_where test) same ∙ found))
 
   pub flagged : (p : ProcessOf (Unit {0})) (r : Found (RegionOf (Unit {0}))) → process_of t q.0 ≡ Some p → first_where test p.regions ≡ Some r → shown_with i (set i.processes.items (q.0 - 1) new) ≡ set_region t q.0 p r.place (change_flags (flags r.thing) r.thing)
   flagged p r lives found = h.changed new p (with_flags p.regions r) (flags_became p r lives found) lives
@@ -82,33 +82,33 @@ module _ {i : Inside} {t : Tables} {q : Pid} {o : Option Process} (h : Held i t 
     at : slice_get h.process.regions r.place ≡ Some r.thing
     at = (found_stands test h.process.regions r found).there
 
-    pub flags_kept : IsKept (shown_with i (set i.processes.items (q.0 - 1) new)) i.directory.entries i.commit
+    pub flags_kept : AreKeptTables (shown_with i (set i.processes.items (q.0 - 1) new)) i.directory.entries i.commit
     flags_kept =
         let same = flags_charge t q h.process r.place r.thing (flags r.thing) (long r.thing) h.lives at h.kept.sound in
         still_kept h new (with_flags h.process.regions r) i.commit i.commit.charge (flags_became h.process r h.lives found)
         (flags_stand t q h.process r.place r.thing (flags r.thing) (long r.thing) h.lives at h.kept.sound) (same ∙ sym h.kept.charged)
         (omega (arith, h.kept.charged, h.kept.sound.charged)) refl refl
 
-    pub flags_fit : (contents : Key → Option Page) (s : StoreOf) → Fits t contents s → Fits (shown_with i (set i.processes.items (q.0 - 1) new)) contents s
+    pub flags_fit : (contents : Key → Option Page) (s : StoreOf) → FitsTables t contents s → FitsTables (shown_with i (set i.processes.items (q.0 - 1) new)) contents s
     flags_fit contents s f =
-        subst (λ (t : Tables). Fits t contents s) (sym (flagged h.process r h.lives found))
+        subst (λ (t : Tables). FitsTables t contents s) (sym (flagged h.process r h.lives found))
         (flags_moved t q h.process r.place r.thing (flags r.thing) (long r.thing) h.lives at h.kept.sound contents s f)
 
   -- a step on the region, if one is found
-  module _ (kept : first_where test (regions_of o) ≡ None → Became o new (regions_of o)) where
+  module _ (kept : first_where test (process_regions o) ≡ None → RegionsBecame o new (process_regions o)) where
     pub none_found : (p : ProcessOf (Unit {0})) → process_of t q.0 ≡ Some p → first_where test p.regions ≡ None → shown_with i (set i.processes.items (q.0 - 1) new) ≡ t
     none_found p lives none = same_tables h new (kept (ap (first_where test) (regions_by h p lives) ∙ none))
 
-    pub either_kept : IsKept (shown_with i (set i.processes.items (q.0 - 1) new)) i.directory.entries i.commit
+    pub either_kept : AreKeptTables (shown_with i (set i.processes.items (q.0 - 1) new)) i.directory.entries i.commit
     either_kept = by_found (first_where test h.process.regions) refl
       where
-        by_found : (f : Option (Found (RegionOf (Unit {0})))) → first_where test h.process.regions ≡ f → IsKept (shown_with i (set i.processes.items (q.0 - 1) new)) i.directory.entries i.commit
+        by_found : (f : Option (Found (RegionOf (Unit {0})))) → first_where test h.process.regions ≡ f → AreKeptTables (shown_with i (set i.processes.items (q.0 - 1) new)) i.directory.entries i.commit
         by_found None none = kept_same h new (kept (ap (first_where test) h.same ∙ none))
         by_found (Some r) found = flags_kept r found
 
-    pub either_fit : (contents : Key → Option Page) (s : StoreOf) → Fits t contents s → Fits (shown_with i (set i.processes.items (q.0 - 1) new)) contents s
+    pub either_fit : (contents : Key → Option Page) (s : StoreOf) → FitsTables t contents s → FitsTables (shown_with i (set i.processes.items (q.0 - 1) new)) contents s
     either_fit contents s f = by_found (first_where test h.process.regions) refl
       where
-        by_found : (o : Option (Found (RegionOf (Unit {0})))) → first_where test h.process.regions ≡ o → Fits (shown_with i (set i.processes.items (q.0 - 1) new)) contents s
-        by_found None none = subst (λ (t : Tables). Fits t contents s) (sym (none_found h.process h.lives none)) f
+        by_found : (o : Option (Found (RegionOf (Unit {0})))) → first_where test h.process.regions ≡ o → FitsTables (shown_with i (set i.processes.items (q.0 - 1) new)) contents s
+        by_found None none = subst (λ (t : Tables). FitsTables t contents s) (sym (none_found h.process h.lives none)) f
         by_found (Some r) found = flags_fit r found contents s f

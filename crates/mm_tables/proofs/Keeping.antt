@@ -22,7 +22,7 @@ use Rattle.mm_world.proofs.Spaces.{by_regions}
 use Rattle.mm_commit.specs.Charge.{CommitOf}
 use Rattle.mm_sections.specs.Directories.{CountedSection}
 use Rattle.mm_tables.specs.References.{KeepersLive, NobodyKeeps, IsTidy, handles_in, views_in}
-use Rattle.mm_tables.specs.Sound.{IsKept}
+use Rattle.mm_tables.specs.Sound.{AreKeptTables}
 use Rattle.mm_tables.proofs.OneProcess.{process_cases}
 use Rattle.mm_tables.proofs.Lists.{one_if}
 
@@ -175,7 +175,7 @@ module _ (t : Tables) (pid : ℕ) (p : ProcessOf (Unit {0})) (ss : List (RegionO
         keepers = λ tid k e. lives_put t.processes pid k.pid (record p { regions = ss }) (tidy.keepers tid k e);
       }
 
-  pub kept_after : (entries : Numbered CountedSection) (old new : CommitOf) → IsKept t entries old → new.charge ≡ charge (set_regions t pid p ss) → new.limit ≡ limit t → charge (set_regions t pid p ss) ≤ limit t → IsKept (set_regions t pid p ss) entries new
+  pub kept_after : (entries : Numbered CountedSection) (old new : CommitOf) → AreKeptTables t entries old → new.charge ≡ charge (set_regions t pid p ss) → new.limit ≡ limit t → charge (set_regions t pid p ss) ≤ limit t → AreKeptTables (set_regions t pid p ss) entries new
   kept_after entries old new kept charged limited within =
       record {
         sound = sound_after kept.sound within;

@@ -14,7 +14,7 @@ use Rattle.mm_sections.specs.Directories.{CountedSection}
 use Rattle.mm_tables.specs.declared.waiting.Kept.{Kept}
 use Rattle.mm_tables.specs.References.{IsTidy, KeepersLive}
 use Rattle.mm_tables.specs.Shown.{kept_of, shown_accesses, unless_of}
-use Rattle.mm_tables.specs.Sound.{IsKept}
+use Rattle.mm_tables.specs.Sound.{AreKeptTables}
 use Rattle.mm_tables.proofs.Keeping.{keepers_put, of_others}
 use Rattle.mm_tables.proofs.Standing.{shown_with}
 use Rattle.mm_tables.specs.declared.tables.Tables.TheInside.{Inside}
@@ -50,7 +50,7 @@ module _ (t : Tables) (ks : Numbered KeptOf) where
         keepers = keepers;
       }
 
-  pub kept_with : (entries : Numbered CountedSection) (commit : CommitOf) → IsKept t entries commit → length ks ≡ threads → KeepersLive (record t { kept = ks }) → IsKept (record t { kept = ks }) entries commit
+  pub kept_with : (entries : Numbered CountedSection) (commit : CommitOf) → AreKeptTables t entries commit → length ks ≡ threads → KeepersLive (record t { kept = ks }) → AreKeptTables (record t { kept = ks }) entries commit
   kept_with entries commit kept count keepers =
       record {
         sound = sound_with count kept.sound;
@@ -63,10 +63,10 @@ module _ (t : Tables) (ks : Numbered KeptOf) where
 -- ---- one thread keeps another access, or none
 
 module _ (i : Inside) (tid : ℕ) (o : Option Kept) where
-  pub put_kept : ((k : KeptOf) → option_map kept_of o ≡ Some k → is_some (process_of (shown_with i i.processes.items) k.pid) ≡ true) → IsKept (shown_with i i.processes.items) i.directory.entries i.commit → IsKept (record (shown_with i i.processes.items) { kept = shown_accesses (set i.kept tid o) }) i.directory.entries i.commit
+  pub put_kept : ((k : KeptOf) → option_map kept_of o ≡ Some k → is_some (process_of (shown_with i i.processes.items) k.pid) ≡ true) → AreKeptTables (shown_with i i.processes.items) i.directory.entries i.commit → AreKeptTables (record (shown_with i i.processes.items) { kept = shown_accesses (set i.kept tid o) }) i.directory.entries i.commit
   put_kept lives kept =
       let t = shown_with i i.processes.items in
-      subst (λ (ks : Numbered KeptOf). IsKept (record t { kept = ks }) i.directory.entries i.commit) (sym (map-set (option_map kept_of) i.kept tid o))
+      subst (λ (ks : Numbered KeptOf). AreKeptTables (record t { kept = ks }) i.directory.entries i.commit) (sym (map-set (option_map kept_of) i.kept tid o))
       (kept_with t (set t.kept tid (option_map kept_of o)) i.directory.entries i.commit kept (length-set t.kept tid (option_map kept_of o) ∙ kept.sound.numbers.kept) (keepers_put t tid (option_map kept_of o) lives kept.tidy.keepers))
 
   pub put_is : (t : Tables) → shown_with i i.processes.items ≡ t → record (shown_with i i.processes.items) { kept = shown_accesses (set i.kept tid o) } ≡ keep t tid (option_map kept_of o)
@@ -79,7 +79,7 @@ none_kept zero tid k e = cc
 none_kept (suc n) zero k e = cc
 none_kept (suc n) (suc tid) k e = none_kept n tid k e
 
-pub first_kept : (m : MachineOf) (commit : CommitOf) → m.slots ≤ most_slots → commit.charge ≡ 0 → commit.limit ≡ limit_of m → IsKept (first_world m) [] commit
+pub first_kept : (m : MachineOf) (commit : CommitOf) → m.slots ≤ most_slots → commit.charge ≡ 0 → commit.limit ≡ limit_of m → AreKeptTables (first_world m) [] commit
 first_kept m commit few charged limited =
     record {
       sound = record {
@@ -123,7 +123,7 @@ shown_unless pid (x ∷ ks) = λ i. one x i ∷ shown_unless pid ks i
     one (Some k) = by_test k (k.pid.0 == pid)
 
 module _ (t : Tables) (pid : ℕ) where
-  pub kept_dropped : (entries : Numbered CountedSection) (commit : CommitOf) → IsKept t entries commit → IsKept (record t { kept = map (kept_of_others pid) t.kept }) entries commit
+  pub kept_dropped : (entries : Numbered CountedSection) (commit : CommitOf) → AreKeptTables t entries commit → AreKeptTables (record t { kept = map (kept_of_others pid) t.kept }) entries commit
   kept_dropped entries commit kept =
       kept_with t (map (kept_of_others pid) t.kept) entries commit kept (length-map t.kept (kept_of_others pid) ∙ kept.sound.numbers.kept)
       (λ tid k e. kept.tidy.keepers tid k (of_others pid t.kept tid k e).0)

@@ -18,6 +18,7 @@ pub mod Filled
 pub mod SectionTidy
 pub mod SectionFits
 pub mod SectionPaging
+pub mod Holding
 pub mod FileKept
 pub mod Lists
 pub mod ViewWorlds
@@ -31,5 +32,6 @@ pub mod EndingSteps
 pub mod EndingClose
 pub mod EndingUnmap
 pub mod EndingRuns
+pub mod Known
 pub mod EndingRanks
 pub mod EndingExits

@@ -28,10 +28,10 @@ use Rattle.mm_pages.specs.Store.{StoreOf, changed}
 use Rattle.mm_pages.specs.Conditions.{IsNew}
 use Rattle.mm_commit.specs.Charge.{CommitOf}
 use Rattle.mm_sections.specs.Directories.{CountedSection}
-use Rattle.mm_tables.specs.Fits.{Fits, before_process, is_paging, block_in, paging_count, owned_by}
+use Rattle.mm_tables.specs.Fits.{FitsTables, before_process, is_paging, file_block_in, paging_count, owned_keys}
 use Rattle.mm_tables.specs.References.{IsTidy, handles_in, views_in}
 use Rattle.mm_tables.specs.Shown.{tables_with, shown_accesses}
-use Rattle.mm_tables.specs.Sound.{IsKept}
+use Rattle.mm_tables.specs.Sound.{AreKeptTables}
 use Rattle.mm_tables.specs.declared.tables.Tables.TheInside.{Inside}
 use Rattle.mm_tables.proofs.Keeping.{lives_push}
 use Rattle.mm_tables.proofs.Lists.{any_more}
@@ -60,7 +60,7 @@ module _ (t : Tables) where
   more_charge = omega (arith, sum_by_push process_charge t.processes (Some no_regions))
 
   more_paging : paging_count (more t) ≡ paging_count t
-  more_paging = omega (arith, sum_by_push owned_by t.processes (Some no_regions))
+  more_paging = omega (arith, sum_by_push owned_keys t.processes (Some no_regions))
 
   more_tidy : IsTidy t → IsTidy (more t)
   more_tidy tidy =
@@ -75,7 +75,7 @@ module _ (t : Tables) where
         keepers = λ tid k e. lives_push t.processes no_regions k.pid (tidy.keepers tid k e);
       })
 
-  pub more_kept : (entries : Numbered CountedSection) (commit : CommitOf) → IsKept t entries commit → length t.processes ≤ most_processes → IsKept (more t) entries commit
+  pub more_kept : (entries : Numbered CountedSection) (commit : CommitOf) → AreKeptTables t entries commit → length t.processes ≤ most_processes → AreKeptTables (more t) entries commit
   more_kept entries commit kept few =
       record {
         sound = subst (λ (t : Tables). WellFormed t) (made_is few) (new_process_keeps t kept.sound);
@@ -103,9 +103,9 @@ module _ (t : Tables) where
             ∙ sym (ap is_some (push_other t.processes (Some no_regions) q (λ e. other (e ∙ sym at))))
       ]
 
-  pub more_fits : (c d : Key → Option Page) (s z : StoreOf) (pid : ℕ) → pid ≡ length t.processes → Fits t c (before_process t s) → z ≡ record s { is_open = changed ◌==◌ s.is_open pid true } → s.last_pid ≡ pid → d ≡ c → Fits (more t) d z
+  pub more_fits : (c d : Key → Option Page) (s z : StoreOf) (pid : ℕ) → pid ≡ length t.processes → FitsTables t c (before_process t s) → z ≡ record s { is_open = changed ◌==◌ s.is_open pid true } → s.last_pid ≡ pid → d ≡ c → FitsTables (more t) d z
   more_fits c d s z pid at f e last contents =
-      subst (λ (d : Key → Option Page). Fits (more t) d z) (sym contents)
+      subst (λ (d : Key → Option Page). FitsTables (more t) d z) (sym contents)
       (fits_processes t (more t).processes t.sections t.files same_regions c (before_process t s) z (e ∙ ap (with_open_of (before_process t s)) (sym e))
       (λ q. ap (λ (x : StoreOf). x.is_open q) e ∙ opened_more pid s.is_open at f.opened q)
       (omega (arith, ap (λ (x : StoreOf). x.last_pid) e, last, at, length-append t.processes (Some no_regions ∷ []))) (ap (λ (x : StoreOf). length x.file_blocks) e)
@@ -117,7 +117,7 @@ abbrev pub other : Tables → MachineOf → ℕ → Tables
 other t m n = record t { machine = m; fails_taken = n }
 
 module _ (t : Tables) (m : MachineOf) (n : ℕ) where
-  pub other_kept : (entries : Numbered CountedSection) (old new : CommitOf) → IsKept t entries old → WellFormed (other t m n) → new.charge ≡ old.charge → new.limit ≡ limit_of m → IsKept (other t m n) entries new
+  pub other_kept : (entries : Numbered CountedSection) (old new : CommitOf) → AreKeptTables t entries old → WellFormed (other t m n) → new.charge ≡ old.charge → new.limit ≡ limit_of m → AreKeptTables (other t m n) entries new
   other_kept entries old new kept sound charged limited =
       record {
         sound = sound;
@@ -140,7 +140,7 @@ grown_is : (t : Tables) (n : ℕ) → t.machine.slots + n ≤ most_slots → (gr
 grown_is t n h =
     ap (λ b. let o : OutcomeOf (Unit {0}) = cond b (done (answer.Limit (limit_of (with_slots t.machine n))) (record t { machine = with_slots t.machine n })) (done answer.Full t) in o.world) (le-leb (t.machine.slots + n) most_slots h)
 
-pub slots_kept : (t : Tables) (n : ℕ) (entries : Numbered CountedSection) (commit new : CommitOf) → IsKept t entries commit → t.machine.slots + n ≤ most_slots → limit_of (with_slots t.machine n) ≡ limit_of t.machine + n → new ≡ record commit { limit = commit.limit + n } → IsKept (other t (with_slots t.machine n) t.fails_taken) entries new
+pub slots_kept : (t : Tables) (n : ℕ) (entries : Numbered CountedSection) (commit new : CommitOf) → AreKeptTables t entries commit → t.machine.slots + n ≤ most_slots → limit_of (with_slots t.machine n) ≡ limit_of t.machine + n → new ≡ record commit { limit = commit.limit + n } → AreKeptTables (other t (with_slots t.machine n) t.fails_taken) entries new
 slots_kept t n entries commit new kept h limits e =
     other_kept t (with_slots t.machine n) t.fails_taken entries commit new kept (subst (λ (t : Tables). WellFormed t) (grown_is t n h) (grow_keeps t n kept.sound))
     (ap (λ (c : CommitOf). c.charge) e) (ap (λ (c : CommitOf). c.limit) e ∙ ap (λ (k : ℕ). k + n) kept.limited ∙ sym limits)
@@ -151,7 +151,7 @@ taken_is : (t : Tables) → t.fails_taken < most_fails → (take_fail t).world �
 taken_is t h =
     ap (λ b. let o : OutcomeOf (Unit {0}) = cond b (done answer.Ok (record t { fails_taken = t.fails_taken + 1 })) (done answer.Full t) in o.world) (le-leb _ _ (omega (arith, h)))
 
-pub fail_kept : (t : Tables) (entries : Numbered CountedSection) (commit : CommitOf) → IsKept t entries commit → t.fails_taken < most_fails → IsKept (other t t.machine (t.fails_taken + 1)) entries commit
+pub fail_kept : (t : Tables) (entries : Numbered CountedSection) (commit : CommitOf) → AreKeptTables t entries commit → t.fails_taken < most_fails → AreKeptTables (other t t.machine (t.fails_taken + 1)) entries commit
 fail_kept t entries commit kept h =
     other_kept t t.machine (t.fails_taken + 1) entries commit commit kept (subst (λ (t : Tables). WellFormed t) (taken_is t h) (take_fail_keeps t kept.sound)) refl kept.limited
 
@@ -173,11 +173,11 @@ no_paging : (m : MachineOf) (k : Key) → is_paging {B = Unit {0}} (first_world 
 no_paging m (key.Private q v) = ap (λ b. b && true) (no_content m (key.Private q v))
 no_paging m (key.Shared area index) = refl
 
-no_block : (m : MachineOf) (k : Key) → block_in {B = Unit {0}} (first_world m) k ≡ None
+no_block : (m : MachineOf) (k : Key) → file_block_in {B = Unit {0}} (first_world m) k ≡ None
 no_block m (key.Private q v) = refl
 no_block m (key.Shared area index) = refl
 
-pub new_fits : (m : MachineOf) (c : Key → Option Page) (s : StoreOf) → IsNew m c s → Fits (first_world m) c s
+pub new_fits : (m : MachineOf) (c : Key → Option Page) (s : StoreOf) → IsNew m c s → FitsTables (first_world m) c s
 new_fits m c s h =
     record {
       machine = h.machine;

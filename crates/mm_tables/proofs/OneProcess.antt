@@ -17,7 +17,7 @@ use Rattle.mm_world.specs.Rows.{row_at}
 use Rattle.mm_world.specs.Contents.{Tables}
 use Rattle.mm_world.proofs.Charges.{sum_by-put}
 use Rattle.mm_world.proofs.Finding.{numbered_inside}
-use Rattle.mm_tables.specs.Fits.{owned_by, paging_count, is_reserved, key_at}
+use Rattle.mm_tables.specs.Fits.{owned_keys, paging_count, is_reserved, key_at}
 use Rattle.mm_tables.specs.Effects.{key_in}
 use Rattle.mm_tables.proofs.Regions.{has}
 
@@ -26,8 +26,8 @@ module _ {B : Type 0} where
   abbrev pub own_rows : RegionOf B → ℕ
   own_rows r = count_by (λ row. is_some row.own) r.rows
 
-  pub paging-set_process : (w : WorldOf B) (pid : ℕ) (p : ProcessOf B) (q : Option (ProcessOf B)) → process_of w pid ≡ Some p → paging_count (set_process w pid q) + owned_by (Some p) ≡ paging_count w + owned_by q
-  paging-set_process w pid p q lives = omega (arith, sum_by-set owned_by w.processes pid q None (numbered_inside w.processes pid p lives), ap owned_by lives)
+  pub paging-set_process : (w : WorldOf B) (pid : ℕ) (p : ProcessOf B) (q : Option (ProcessOf B)) → process_of w pid ≡ Some p → paging_count (set_process w pid q) + owned_keys (Some p) ≡ paging_count w + owned_keys q
+  paging-set_process w pid p q lives = omega (arith, sum_by-set owned_keys w.processes pid q None (numbered_inside w.processes pid p lives), ap owned_keys lives)
 
   pub paging-set_region : (w : WorldOf B) (pid : ℕ) (p : ProcessOf B) (place : ℕ) (r new : RegionOf B) → process_of w pid ≡ Some p → slice_get p.regions place ≡ Some r → paging_count (set_region w pid p place new) + own_rows r ≡ paging_count w + own_rows new
   paging-set_region w pid p place r new lives there =

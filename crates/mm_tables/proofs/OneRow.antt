@@ -29,14 +29,14 @@ use Rattle.mm_world.proofs.Ranges.{Inside as Within}
 use Rattle.mm_pages.specs.Store.{StoreOf, changed, changed_in, same_place, own_key}
 use Rattle.mm_pages.specs.Conditions.{place_at}
 use Rattle.mm_spaces.specs.declared.spaces.PageRow.{PageRow}
-use Rattle.mm_spaces.specs.Tables.{page_row, told_row}
-use Rattle.mm_tables.specs.Fits.{Fits, CanCopy, copied, key_at, paging_count}
+use Rattle.mm_spaces.specs.Tables.{told_page_row, told_row}
+use Rattle.mm_tables.specs.Fits.{FitsTables, CanCopy, copied, key_at, paging_count}
 use Rattle.mm_tables.specs.Effects.{Effect, Makes, Leaves, Moves, after, key_in}
-use Rattle.mm_tables.specs.Ranges.{only, added, set_in, is_key_in}
+use Rattle.mm_tables.specs.Ranges.{one_page_range, with_range_keys, flags_set_in, is_key_in}
 use Rattle.mm_tables.specs.declared.tables.Process.{Process}
 use Rattle.mm_tables.specs.declared.tables.Tables.TheInside.{Inside}
-use Rattle.mm_tables.specs.Sound.{IsKept}
-use Rattle.mm_tables.specs.Spaces.{regions_of, Became}
+use Rattle.mm_tables.specs.Sound.{AreKeptTables}
+use Rattle.mm_tables.specs.Spaces.{process_regions, RegionsBecame}
 use Rattle.mm_tables.proofs.Keeping.{StandIn}
 use Rattle.mm_tables.proofs.Standing.{Held, regions_by, still_kept, shown_with}
 use Rattle.mm_tables.proofs.Carried.{moved}
@@ -98,7 +98,7 @@ module _ (t : Tables) (q : Pid) (p : ProcessOf (Unit {0})) (page : ℕ) (c : Com
   stands : Stands (λ (r : RegionOf (Unit {0})). holds_page (pages_of r) page) p.regions c.region
   stands = found_stands (λ (r : RegionOf (Unit {0})). holds_page (pages_of r) page) p.regions c.region is.region
 
-  inner : Within (only page) (pages_of r)
+  inner : Within (one_page_range page) (pages_of r)
   inner = let w = within (pages_of r) page stands.passes in record { low = w.low; high = omega (arith, w.high) }
 
   fits : RowFits r.kind c.row
@@ -111,10 +111,10 @@ module _ (t : Tables) (q : Pid) (p : ProcessOf (Unit {0})) (page : ℕ) (c : Com
   row_stands row fit = set_stands t p c.region.place r (with_row row) stands.there (pages row) refl (flags_stay r (with_row row) refl (pages row).rows refl) (λ rows. each-set (RowFits r.kind) r.rows i row rows fit)
 
   -- a row that is changed is the range of one page changed
-  row_moves : (change : RowOf (Unit {0}) → RowOf (Unit {0})) (keys : Effect) (clears : Bool) → ((row : RowOf (Unit {0})) → is_some (change row).own ≡ after keys true (is_some row.own)) → ((v : ℕ) (k : Key) → (clears ≡ true → holds_page (only page) v ≡ false) → holds_page (only page) v ≡ true → KeepsKey t q.0 p c.region.place r (only page) lives h stands.there inner change q.0 v k) → Moves t q (only page) keys Leaves clears p.regions (regions_with (change c.row))
+  row_moves : (change : RowOf (Unit {0}) → RowOf (Unit {0})) (keys : Effect) (clears : Bool) → ((row : RowOf (Unit {0})) → is_some (change row).own ≡ after keys true (is_some row.own)) → ((v : ℕ) (k : Key) → (clears ≡ true → holds_page (one_page_range page) v ≡ false) → holds_page (one_page_range page) v ≡ true → KeepsKey t q.0 p c.region.place r (one_page_range page) lives h stands.there inner change q.0 v k) → Moves t q (one_page_range page) keys Leaves clears p.regions (regions_with (change c.row))
   row_moves change keys clears makes keeps =
-      subst (λ rows. Moves t q (only page) keys Leaves clears p.regions (set p.regions c.region.place (record c.region.thing { rows = rows }))) (one_changed change r.rows i c.row is.row_there)
-      (change_moves t q.0 p c.region.place r (only page) lives h stands.there inner change keys clears q makes keeps)
+      subst (λ rows. Moves t q (one_page_range page) keys Leaves clears p.regions (set p.regions c.region.place (record c.region.thing { rows = rows }))) (one_changed change r.rows i c.row is.row_there)
+      (change_moves t q.0 p c.region.place r (one_page_range page) lives h stands.there inner change keys clears q makes keeps)
 
   row_paging : (row : RowOf (Unit {0})) → paging_count (set_row t q.0 p c.region page row) + one_if (has_own c.row) ≡ paging_count t + one_if (has_own row)
   row_paging row =
@@ -135,9 +135,9 @@ module _ (t : Tables) (q : Pid) (p : ProcessOf (Unit {0})) (page : ℕ) (c : Com
   pub guard_charge : charge (guard_off t q.0 p c page) ≡ charge t
   guard_charge = charge-guard_off t q.0 p c page lives there
 
-  pub guard_moved : (contents : Key → Option Page) (s : StoreOf) → Fits t contents s → Fits (guard_off t q.0 p c page) contents s
+  pub guard_moved : (contents : Key → Option Page) (s : StoreOf) → FitsTables t contents s → FitsTables (guard_off t q.0 p c page) contents s
   guard_moved contents s f =
-      moved t q p (only page) Leaves Leaves false (regions_with off) contents contents s s lives f
+      moved t q p (one_page_range page) Leaves Leaves false (regions_with off) contents contents s s lives f
       (record { contents = refl; paging = refl; bound = refl; names = refl; open_same = refl; areas_same = refl; same = refl })
       (row_moves (λ row. record row { guard = false }) Leaves false (λ row. refl) (λ v k clear held row e. e)) (omega (arith, f.counted, row_paging off)) (omega (arith, f.room, guard_charge))
 
@@ -159,7 +159,7 @@ module _ (t : Tables) (q : Pid) (p : ProcessOf (Unit {0})) (page : ℕ) (c : Com
     pub copy_charge : charge u ≡ charge t
     copy_charge = charge-set_row t q.0 p c page copy lives is (subst (λ k. is_charged k copy ≡ is_charged k c.row) (sym copy_view.1) refl)
 
-    copy_moves : Moves t q (only page) Makes Leaves true p.regions (regions_with copy)
+    copy_moves : Moves t q (one_page_range page) Makes Leaves true p.regions (regions_with copy)
     copy_moves = row_moves (λ row. record row { own = Some tt; prot = 0x04 }) Makes true (λ row. refl) (λ v k clear held. let bad : true ≡ false = sym held ∙ clear refl in cc)
 
     copy_key : key_at u (place_at q page) ≡ Some (own_key (place_at q page))
@@ -172,20 +172,20 @@ module _ (t : Tables) (q : Pid) (p : ProcessOf (Unit {0})) (page : ℕ) (c : Com
 
     -- before the place names the new key
     abbrev unnamed : StoreOf → StoreOf
-    unnamed s = record s { names = changed_in q (only page) s.names None; paging = set_in q (only page) s.paging true; paging_keys = s.paging_keys + 1 }
+    unnamed s = record s { names = changed_in q (one_page_range page) s.names None; paging = flags_set_in q (one_page_range page) s.paging true; paging_keys = s.paging_keys + 1 }
 
-    copied_first : (contents : Key → Option Page) (s : StoreOf) → Fits t contents s → Fits u (added q (only page) contents) (unnamed s)
+    copied_first : (contents : Key → Option Page) (s : StoreOf) → FitsTables t contents s → FitsTables u (with_range_keys q (one_page_range page) contents) (unnamed s)
     copied_first contents s f =
-        moved t q p (only page) Makes Leaves true (regions_with copy) contents (added q (only page) contents) s (unnamed s) lives f
+        moved t q p (one_page_range page) Makes Leaves true (regions_with copy) contents (with_range_keys q (one_page_range page) contents) s (unnamed s) lives f
         (record { contents = refl; paging = refl; bound = refl; names = refl; open_same = refl; areas_same = refl; same = refl })
         copy_moves (omega (arith, f.counted, row_paging copy, ap (λ (o : Option (Unit {0})). one_if (is_some o)) can.shared)) (omega (arith, f.room, copy_charge))
 
-    live_too : (contents : Key → Option Page) (bytes : Page) (k : Key) → is_some (changed same_key contents (own q page) (Some bytes) k) ≡ is_some (added q (only page) contents k)
+    live_too : (contents : Key → Option Page) (bytes : Page) (k : Key) → is_some (changed same_key contents (own q page) (Some bytes) k) ≡ is_some (with_range_keys q (one_page_range page) contents k)
     live_too contents bytes k =
         some_cond (same_key k (own q page)) (Some bytes) (contents k) ∙ ap (λ b. cond b true (is_some (contents k))) (sym (key_in_only q page k))
-        ∙ sym (some_cond (is_key_in q (only page) k) (Some (unwrap_or (contents k) (filled 0))) (contents k))
+        ∙ sym (some_cond (is_key_in q (one_page_range page) k) (Some (unwrap_or (contents k) (filled 0))) (contents k))
 
-    pub copy_moved : (contents : Key → Option Page) (s : StoreOf) (bytes : Page) → Fits t contents s → Fits u (changed same_key contents (private_key q.0 page) (Some bytes)) (copied (place_at q page) s)
+    pub copy_moved : (contents : Key → Option Page) (s : StoreOf) (bytes : Page) → FitsTables t contents s → FitsTables u (changed same_key contents (private_key q.0 page) (Some bytes)) (copied (place_at q page) s)
     copy_moved contents s bytes f =
         let g = copied_first contents s f in
         record {
@@ -206,7 +206,7 @@ module _ (t : Tables) (q : Pid) (p : ProcessOf (Unit {0})) (page : ℕ) (c : Com
           named_file = g.named_file;
         }
       where
-        named : Fits u (added q (only page) contents) (unnamed s) → (place : Place) (k : Key) (b : Bool) → same_place place (place_at q page) ≡ b → cond b (Some (own_key (place_at q page))) (s.names place) ≡ Some k → key_at u place ≡ Some k
+        named : FitsTables u (with_range_keys q (one_page_range page) contents) (unnamed s) → (place : Place) (k : Key) (b : Bool) → same_place place (place_at q page) ≡ b → cond b (Some (own_key (place_at q page))) (s.names place) ≡ Some k → key_at u place ≡ Some k
         named g place k true same e = ap (λ (place : Place). key_at u place) (same_place_is q page place same) ∙ copy_key ∙ e
         named g place k false other e = g.named place k (ap (λ b. cond b None (s.names place)) (place_in_only q page place ∙ other) ∙ e)
 
@@ -227,7 +227,7 @@ some_with None P h = absurd h
 some_with (Some a) P h = (a, (refl, h))
 
 -- a page of a view lies within its area
-pub in_area : (t : Tables) (pid page : ℕ) (p : ProcessOf (Unit {0})) (row : PageRow) → WellFormed t → process_of t pid ≡ Some p → page_row p.regions page ≡ Some row → (v : View) → row.kind ≡ kind.View v → v.first + row.index < length (area_at t v.area.0).pages
+pub in_area : (t : Tables) (pid page : ℕ) (p : ProcessOf (Unit {0})) (row : PageRow) → WellFormed t → process_of t pid ≡ Some p → told_page_row p.regions page ≡ Some row → (v : View) → row.kind ≡ kind.View v → v.first + row.index < length (area_at t v.area.0).pages
 in_area t pid page p row h lives found v is =
     option_and_then_some (λ (r : Found (RegionOf (Unit {0}))). option_map (told_row r.thing page) (row_at r.thing page)) (region_with p.regions page) row found (λ r there told.
     by_row r there (row_at r.thing page) told)
@@ -243,20 +243,20 @@ in_area t pid page p row h lives found v is =
 
 -- ---- the tables as they are kept, after a step on one committed row
 
-module _ {i : Inside} {t : Tables} {pid : ℕ} {o : Option Process} (h : Held i t pid o) (new : Option Process) (page : ℕ) (change : RowOf (Unit {0}) → RowOf (Unit {0})) (changed : (r : Found (RegionOf (Unit {0}))) (row : RowOf (Unit {0})) → region_with (regions_of o) page ≡ Some r → row_at r.thing page ≡ Some row → Became o new (set (regions_of o) r.place (record r.thing { rows = set r.thing.rows (page - r.thing.base) (change row) }))) where
+module _ {i : Inside} {t : Tables} {pid : ℕ} {o : Option Process} (h : Held i t pid o) (new : Option Process) (page : ℕ) (change : RowOf (Unit {0}) → RowOf (Unit {0})) (changed : (r : Found (RegionOf (Unit {0}))) (row : RowOf (Unit {0})) → region_with (process_regions o) page ≡ Some r → row_at r.thing page ≡ Some row → RegionsBecame o new (set (process_regions o) r.place (record r.thing { rows = set r.thing.rows (page - r.thing.base) (change row) }))) where
   abbrev with_change : List (RegionOf (Unit {0})) → Committed (Unit {0}) → List (RegionOf (Unit {0}))
   with_change rs k = set rs k.region.place (record k.region.thing { rows = set k.region.thing.rows (page - k.region.thing.base) (change k.row) })
 
-  row_became : (p : ProcessOf (Unit {0})) (k : Committed (Unit {0})) → process_of t pid ≡ Some p → committed_at t p.regions page ≡ Some k → Became o new (with_change p.regions k)
+  row_became : (p : ProcessOf (Unit {0})) (k : Committed (Unit {0})) → process_of t pid ≡ Some p → committed_at t p.regions page ≡ Some k → RegionsBecame o new (with_change p.regions k)
   row_became p k lives there =
       let same = regions_by h p lives in
       let is = committed_is t p.regions page k there in
-      subst (λ rs. Became o new (with_change rs k)) same (changed k.region k.row (ap (λ rs. region_with rs page) same ∙ is.region) is.row_there)
+      subst (λ rs. RegionsBecame o new (with_change rs k)) same (changed k.region k.row (ap (λ rs. region_with rs page) same ∙ is.region) is.row_there)
 
   pub row_changed : (p : ProcessOf (Unit {0})) (k : Committed (Unit {0})) → process_of t pid ≡ Some p → committed_at t p.regions page ≡ Some k → shown_with i (set i.processes.items (pid - 1) new) ≡ set_row t pid p k.region page (change k.row)
   row_changed p k lives there = h.changed new p (with_change p.regions k) (row_became p k lives there) lives
 
-  pub row_kept : (k : Committed (Unit {0})) → committed_at t h.process.regions page ≡ Some k → StandIn t h.process.regions (with_change h.process.regions k) → charge (set_row t pid h.process k.region page (change k.row)) ≡ charge t → IsKept (shown_with i (set i.processes.items (pid - 1) new)) i.directory.entries i.commit
+  pub row_kept : (k : Committed (Unit {0})) → committed_at t h.process.regions page ≡ Some k → StandIn t h.process.regions (with_change h.process.regions k) → charge (set_row t pid h.process k.region page (change k.row)) ≡ charge t → AreKeptTables (shown_with i (set i.processes.items (pid - 1) new)) i.directory.entries i.commit
   row_kept k there stands same =
       still_kept h new (with_change h.process.regions k) i.commit i.commit.charge (row_became h.process k h.lives there) stands (same ∙ sym h.kept.charged)
       (omega (arith, h.kept.charged, h.kept.sound.charged)) refl refl

@@ -17,7 +17,7 @@ use Rattle.mm_world.proofs.LaidOut.{and-true}
 use Rattle.mm_pages.specs.Store.{StoreOf, changed, changed_in, same_place, is_place_in}
 use Rattle.mm_pages.specs.Reports.{rearranged}
 use Rattle.mm_pages.specs.Conditions.{place_at}
-use Rattle.mm_tables.specs.Ranges.{is_key_in, added, removed, set_in, passing, is_live, is_dead, only, Adds, Removes, with_keys, without_keys, CanAdd, CanRemove, front}
+use Rattle.mm_tables.specs.Ranges.{is_key_in, with_range_keys, removed, flags_set_in, passing, is_page_live, is_page_dead, one_page_range, Adds, Removes, with_keys, store_without_keys, CanAdd, CanRemove, first_pages}
 use Rattle.mm_tables.proofs.Regions.{within, holds, holds_not}
 
 abbrev pub own : Pid → ℕ → Key
@@ -25,17 +25,17 @@ own pid page = key.Private pid (record { 0 = page })
 
 -- ---- one page
 
-pub holds_only : (page v : ℕ) → holds_page (only page) v ≡ (v == page)
+pub holds_only : (page v : ℕ) → holds_page (one_page_range page) v ≡ (v == page)
 holds_only page v =
     same_tests _ _
-    (λ e. let w = within (only page) v e in (unsigned_Decides v page).1 (let same : v ≡ page = omega (arith, w.low, w.high) in same))
-    (λ e. let same : v ≡ page = (unsigned_Decides v page).0 e in holds (only page) v (omega (arith, same)) (omega (arith, same)))
+    (λ e. let w = within (one_page_range page) v e in (unsigned_Decides v page).1 (let same : v ≡ page = omega (arith, w.low, w.high) in same))
+    (λ e. let same : v ≡ page = (unsigned_Decides v page).0 e in holds (one_page_range page) v (omega (arith, same)) (omega (arith, same)))
 
-pub key_in_only : (pid : Pid) (page : ℕ) (k : Key) → is_key_in pid (only page) k ≡ same_key k (own pid page)
+pub key_in_only : (pid : Pid) (page : ℕ) (k : Key) → is_key_in pid (one_page_range page) k ≡ same_key k (own pid page)
 key_in_only pid page (key.Private p v) = ap (λ b. (p.0 == pid.0) && b) (holds_only page v.0)
 key_in_only pid page (key.Shared area index) = refl
 
-pub place_in_only : (pid : Pid) (page : ℕ) (q : Place) → is_place_in pid (only page) q ≡ same_place q (place_at pid page)
+pub place_in_only : (pid : Pid) (page : ℕ) (q : Place) → is_place_in pid (one_page_range page) q ≡ same_place q (place_at pid page)
 place_in_only pid page q = ap (λ b. (q.pid.0 == pid.0) && b) (holds_only page q.vpn.0)
 
 same_is : (pid : Pid) (page : ℕ) (k : Key) → same_key k (own pid page) ≡ true → k ≡ own pid page
@@ -74,7 +74,7 @@ pub none_of : (o : Option Page) → is_some o ≡ false → o ≡ None
 none_of None e = refl
 none_of (Some x) e = cc
 
-pub set_only : (pid : Pid) (page : ℕ) (f : Key → Bool) (x : Bool) → set_in pid (only page) f x ≡ changed same_key f (own pid page) x
+pub set_only : (pid : Pid) (page : ℕ) (f : Key → Bool) (x : Bool) → flags_set_in pid (one_page_range page) f x ≡ changed same_key f (own pid page) x
 set_only pid page f x = fun_ext (λ k. ap (λ b. cond b x (f k)) (key_in_only pid page k))
 
 pub once : (test : ℕ → Bool) (page : ℕ) → passing test page 1 ≡ cond (test page) 1 0
@@ -82,24 +82,24 @@ once test page = ap (λ (k : ℕ). 0 + cond (test k) 1 0) (let same : page + 0 �
 
 -- ---- ranges
 
-pub holds_more : (range : Range) (n v : ℕ) → holds_page (front range (suc n)) v ≡ (holds_page (only (range.first + n)) v || holds_page (front range n) v)
+pub holds_more : (range : Range) (n v : ℕ) → holds_page (first_pages range (suc n)) v ≡ (holds_page (one_page_range (range.first + n)) v || holds_page (first_pages range n) v)
 holds_more range n v =
     same_tests _ _
-    (λ e. let w = within (front range (suc n)) v e in
+    (λ e. let w = within (first_pages range (suc n)) v e in
     elim (same_or_not v (range.first + n)) [
-      | inl same ↦ or_left (holds_page (only (range.first + n)) v) (holds_page (front range n) v) (holds (only (range.first + n)) v (omega (arith, same)) (omega (arith, same)))
-      | inr other ↦ or_right (holds_page (only (range.first + n)) v) (holds_page (front range n) v) (holds (front range n) v w.low (omega (arith, w.high, other)))
+      | inl same ↦ or_left (holds_page (one_page_range (range.first + n)) v) (holds_page (first_pages range n) v) (holds (one_page_range (range.first + n)) v (omega (arith, same)) (omega (arith, same)))
+      | inr other ↦ or_right (holds_page (one_page_range (range.first + n)) v) (holds_page (first_pages range n) v) (holds (first_pages range n) v w.low (omega (arith, w.high, other)))
     ])
-    (λ e. by_either (holds_page (only (range.first + n)) v) (holds_page (front range n) v) e (holds_page (front range (suc n)) v ≡ true)
-    (λ h. let w = within (only (range.first + n)) v h in holds (front range (suc n)) v (omega (arith, w.low)) (omega (arith, w.low, w.high)))
-    (λ h. let w = within (front range n) v h in holds (front range (suc n)) v (omega (arith, w.low)) (omega (arith, w.low, w.high))))
+    (λ e. by_either (holds_page (one_page_range (range.first + n)) v) (holds_page (first_pages range n) v) e (holds_page (first_pages range (suc n)) v ≡ true)
+    (λ h. let w = within (one_page_range (range.first + n)) v h in holds (first_pages range (suc n)) v (omega (arith, w.low)) (omega (arith, w.low, w.high)))
+    (λ h. let w = within (first_pages range n) v h in holds (first_pages range (suc n)) v (omega (arith, w.low)) (omega (arith, w.low, w.high))))
 
-pub key_in_more : (pid : Pid) (range : Range) (n : ℕ) (k : Key) → is_key_in pid (front range (suc n)) k ≡ (is_key_in pid (only (range.first + n)) k || is_key_in pid (front range n) k)
-key_in_more pid range n (key.Private p v) = ap (λ b. (p.0 == pid.0) && b) (holds_more range n v.0) ∙ spread (p.0 == pid.0) (holds_page (only (range.first + n)) v.0) (holds_page (front range n) v.0)
+pub key_in_more : (pid : Pid) (range : Range) (n : ℕ) (k : Key) → is_key_in pid (first_pages range (suc n)) k ≡ (is_key_in pid (one_page_range (range.first + n)) k || is_key_in pid (first_pages range n) k)
+key_in_more pid range n (key.Private p v) = ap (λ b. (p.0 == pid.0) && b) (holds_more range n v.0) ∙ spread (p.0 == pid.0) (holds_page (one_page_range (range.first + n)) v.0) (holds_page (first_pages range n) v.0)
 key_in_more pid range n (key.Shared area index) = refl
 
-pub place_in_more : (pid : Pid) (range : Range) (n : ℕ) (q : Place) → is_place_in pid (front range (suc n)) q ≡ (is_place_in pid (only (range.first + n)) q || is_place_in pid (front range n) q)
-place_in_more pid range n q = ap (λ b. (q.pid.0 == pid.0) && b) (holds_more range n q.vpn.0) ∙ spread (q.pid.0 == pid.0) (holds_page (only (range.first + n)) q.vpn.0) (holds_page (front range n) q.vpn.0)
+pub place_in_more : (pid : Pid) (range : Range) (n : ℕ) (q : Place) → is_place_in pid (first_pages range (suc n)) q ≡ (is_place_in pid (one_page_range (range.first + n)) q || is_place_in pid (first_pages range n) q)
+place_in_more pid range n q = ap (λ b. (q.pid.0 == pid.0) && b) (holds_more range n q.vpn.0) ∙ spread (q.pid.0 == pid.0) (holds_page (one_page_range (range.first + n)) q.vpn.0) (holds_page (first_pages range n) q.vpn.0)
 
 -- ---- functions changed in a range and then at its next page
 
@@ -108,46 +108,46 @@ added_twice true true o = refl
 added_twice true false o = refl
 added_twice false b o = refl
 
-added_more : (pid : Pid) (range : Range) (n : ℕ) (c : Key → Option Page) → added pid (only (range.first + n)) (added pid (front range n) c) ≡ added pid (front range (suc n)) c
+added_more : (pid : Pid) (range : Range) (n : ℕ) (c : Key → Option Page) → with_range_keys pid (one_page_range (range.first + n)) (with_range_keys pid (first_pages range n) c) ≡ with_range_keys pid (first_pages range (suc n)) c
 added_more pid range n c =
     fun_ext (λ k.
-    added_twice (is_key_in pid (only (range.first + n)) k) (is_key_in pid (front range n) k) (c k)
+    added_twice (is_key_in pid (one_page_range (range.first + n)) k) (is_key_in pid (first_pages range n) k) (c k)
     ∙ ap (λ b. cond b (Some (unwrap_or (c k) (filled 0))) (c k)) (sym (key_in_more pid range n k)))
 
-keys_more : {V : Type 0} (pid : Pid) (range : Range) (n : ℕ) (x : V) (f : Key → V) → ◌≡◌ {A = Key → V} (λ k. cond (is_key_in pid (only (range.first + n)) k) x (cond (is_key_in pid (front range n) k) x (f k))) (λ k. cond (is_key_in pid (front range (suc n)) k) x (f k))
+keys_more : {V : Type 0} (pid : Pid) (range : Range) (n : ℕ) (x : V) (f : Key → V) → ◌≡◌ {A = Key → V} (λ k. cond (is_key_in pid (one_page_range (range.first + n)) k) x (cond (is_key_in pid (first_pages range n) k) x (f k))) (λ k. cond (is_key_in pid (first_pages range (suc n)) k) x (f k))
 keys_more pid range n x f =
     fun_ext (λ k.
-    cond_twice (is_key_in pid (only (range.first + n)) k) (is_key_in pid (front range n) k) x (f k)
+    cond_twice (is_key_in pid (one_page_range (range.first + n)) k) (is_key_in pid (first_pages range n) k) x (f k)
     ∙ ap (λ b. cond b x (f k)) (sym (key_in_more pid range n k)))
 
-names_more : (pid : Pid) (range : Range) (n : ℕ) (names : Place → Option Key) → changed_in pid (only (range.first + n)) (changed_in pid (front range n) names None) None ≡ changed_in pid (front range (suc n)) names None
+names_more : (pid : Pid) (range : Range) (n : ℕ) (names : Place → Option Key) → changed_in pid (one_page_range (range.first + n)) (changed_in pid (first_pages range n) names None) None ≡ changed_in pid (first_pages range (suc n)) names None
 names_more pid range n names =
     fun_ext (λ q.
-    cond_twice (is_place_in pid (only (range.first + n)) q) (is_place_in pid (front range n) q) None (names q)
+    cond_twice (is_place_in pid (one_page_range (range.first + n)) q) (is_place_in pid (first_pages range n) q) None (names q)
     ∙ ap (λ b. cond b None (names q)) (sym (place_in_more pid range n q)))
 
 -- ---- the next page is not in the range yet
 
-pub not_yet : (range : Range) (n : ℕ) → holds_page (front range n) (range.first + n) ≡ false
-not_yet range n = holds_not (front range n) (range.first + n) (λ w. absurd (omega (arith, w.high)))
+pub not_yet : (range : Range) (n : ℕ) → holds_page (first_pages range n) (range.first + n) ≡ false
+not_yet range n = holds_not (first_pages range n) (range.first + n) (λ w. absurd (omega (arith, w.high)))
 
 pub next_held : (range : Range) (n : ℕ) → n < range.count → holds_page range (range.first + n) ≡ true
 next_held range n h = holds range (range.first + n) (omega arith) (omega (arith, h))
 
-pub outside : (pid : Pid) (range : Range) (n : ℕ) → is_key_in pid (front range n) (own pid (range.first + n)) ≡ false
+pub outside : (pid : Pid) (range : Range) (n : ℕ) → is_key_in pid (first_pages range n) (own pid (range.first + n)) ≡ false
 outside pid range n = ap (λ b. (pid.0 == pid.0) && b) (not_yet range n) ∙ and_false (pid.0 == pid.0)
 
-live_yet : (pid : Pid) (range : Range) (n : ℕ) (c d : Key → Option Page) → d ≡ added pid (front range n) c → is_live pid d (range.first + n) ≡ is_live pid c (range.first + n)
+live_yet : (pid : Pid) (range : Range) (n : ℕ) (c d : Key → Option Page) → d ≡ with_range_keys pid (first_pages range n) c → is_page_live pid d (range.first + n) ≡ is_page_live pid c (range.first + n)
 live_yet pid range n c d e =
-    ap (λ (d : Key → Option Page). is_live pid d (range.first + n)) e
+    ap (λ (d : Key → Option Page). is_page_live pid d (range.first + n)) e
     ∙ ap (λ b. is_some (cond b (Some (unwrap_or (c (own pid (range.first + n))) (filled 0))) (c (own pid (range.first + n))))) (outside pid range n)
 
-live_still : (pid : Pid) (range : Range) (n : ℕ) (c d : Key → Option Page) → d ≡ removed pid (front range n) c → is_live pid d (range.first + n) ≡ is_live pid c (range.first + n)
+live_still : (pid : Pid) (range : Range) (n : ℕ) (c d : Key → Option Page) → d ≡ removed pid (first_pages range n) c → is_page_live pid d (range.first + n) ≡ is_page_live pid c (range.first + n)
 live_still pid range n c d e =
-    ap (λ (d : Key → Option Page). is_live pid d (range.first + n)) e
+    ap (λ (d : Key → Option Page). is_page_live pid d (range.first + n)) e
     ∙ ap (λ b. is_some (cond b None (c (own pid (range.first + n))))) (outside pid range n)
 
-pub only_is : (page v : ℕ) → holds_page (only page) v ≡ true → v ≡ page
+pub only_is : (page v : ℕ) → holds_page (one_page_range page) v ≡ true → v ≡ page
 only_is page v e = (unsigned_Decides v page).0 (sym (holds_only page v) ∙ e)
 
 -- a number that does not fall from one to the next
@@ -181,77 +181,77 @@ passing_all test first (suc n) all = omega (arith, passing_all test first n (λ 
 
 -- ---- the loop that adds
 
-pub can_add_next : (pid : Pid) (range : Range) (n : ℕ) (rs : List (RegionOf (Unit {0}))) (c d : Key → Option Page) (s z : StoreOf) → CanAdd pid range rs c s → n < range.count → Adds pid (front range n) c d s z → CanAdd pid (only (range.first + n)) rs d z
+pub can_add_next : (pid : Pid) (range : Range) (n : ℕ) (rs : List (RegionOf (Unit {0}))) (c d : Key → Option Page) (s z : StoreOf) → CanAdd pid range rs c s → n < range.count → Adds pid (first_pages range n) c d s z → CanAdd pid (one_page_range (range.first + n)) rs d z
 can_add_next pid range n rs c d s z can few a =
     let page = range.first + n in
     let held = next_held range n few in
     let yet = live_yet pid range n c d a.contents in
-    let dead : is_dead pid d page ≡ is_dead pid c page = ap not yet in
-    let used : z.paging_keys ≡ s.paging_keys + passing (is_dead pid c) range.first n = ap (λ (x : StoreOf). x.paging_keys) a.store in
+    let dead : is_page_dead pid d page ≡ is_page_dead pid c page = ap not yet in
+    let used : z.paging_keys ≡ s.paging_keys + passing (is_page_dead pid c) range.first n = ap (λ (x : StoreOf). x.paging_keys) a.store in
     let room : z.room ≡ s.room = ap (λ (x : StoreOf). x.room) a.store in
-    let one : passing (is_dead pid d) page 1 ≡ cond (is_dead pid c page) 1 0 = once (is_dead pid d) page ∙ ap (λ b. cond b 1 0) dead in
-    let most : passing (is_dead pid c) range.first (suc n) ≤ passing (is_dead pid c) range.first range.count = passing_most (is_dead pid c) range.first (suc n) range.count (omega (arith, few)) in
+    let one : passing (is_page_dead pid d) page 1 ≡ cond (is_page_dead pid c page) 1 0 = once (is_page_dead pid d) page ∙ ap (λ b. cond b 1 0) dead in
+    let most : passing (is_page_dead pid c) range.first (suc n) ≤ passing (is_page_dead pid c) range.first range.count = passing_most (is_page_dead pid c) range.first (suc n) range.count (omega (arith, few)) in
     record {
-      live = λ v e. subst (λ (v : ℕ). is_live pid d v ≡ is_some (own_page rs v)) (sym (only_is page v e)) (yet ∙ can.live page held);
+      live = λ v e. subst (λ (v : ℕ). is_page_live pid d v ≡ is_some (own_page rs v)) (sym (only_is page v e)) (yet ∙ can.live page held);
       bound = λ v e. subst (λ (v : ℕ). z.bound (place_at pid v) ≡ true) (sym (only_is page v e)) (ap (λ (x : StoreOf). x.bound (place_at pid page)) a.store ∙ can.bound page held);
-      named = λ v e. subst (λ (v : ℕ). is_live pid d v ≡ false → z.names (place_at pid v) ≡ None) (sym (only_is page v e)) (λ free.
+      named = λ v e. subst (λ (v : ℕ). is_page_live pid d v ≡ false → z.names (place_at pid v) ≡ None) (sym (only_is page v e)) (λ free.
           ap (λ (x : StoreOf). x.names (place_at pid page)) a.store ∙ can.named page held (sym yet ∙ free));
-      paging = λ v e. subst (λ (v : ℕ). z.paging (own pid v) ≡ is_live pid d v) (sym (only_is page v e)) (
+      paging = λ v e. subst (λ (v : ℕ). z.paging (own pid v) ≡ is_page_live pid d v) (sym (only_is page v e)) (
           ap (λ (x : StoreOf). x.paging (own pid page)) a.store ∙ ap (λ b. cond b true (s.paging (own pid page))) (outside pid range n) ∙ can.paging page held ∙ sym yet
           );
       room = omega (arith, can.room, used, room, one, most);
       called = ap (λ (x : StoreOf). x.kind) a.store ∙ can.called;
     }
 
-pub adds_then : (pid : Pid) (range : Range) (n : ℕ) (c d e : Key → Option Page) (s z y : StoreOf) → Adds pid (front range n) c d s z → Adds pid (only (range.first + n)) d e z y → Adds pid (front range (n + 1)) c e s y
+pub adds_then : (pid : Pid) (range : Range) (n : ℕ) (c d e : Key → Option Page) (s z y : StoreOf) → Adds pid (first_pages range n) c d s z → Adds pid (one_page_range (range.first + n)) d e z y → Adds pid (first_pages range (n + 1)) c e s y
 adds_then pid range n c d e s z y a b =
     let page = range.first + n in
     let more : suc n ≡ n + 1 = omega arith in
-    let dead : is_dead pid d page ≡ is_dead pid c page = ap not (live_yet pid range n c d a.contents) in
-    let one : passing (is_dead pid d) page 1 ≡ cond (is_dead pid c page) 1 0 = once (is_dead pid d) page ∙ ap (λ b. cond b 1 0) dead in
-    let count : s.paging_keys + passing (is_dead pid c) range.first n + passing (is_dead pid d) page 1 ≡ s.paging_keys + passing (is_dead pid c) range.first (suc n) = omega (arith, one) in
-    subst (λ (k : ℕ). Adds pid (front range k) c e s y) more (record {
-      contents = b.contents ∙ ap (added pid (only page)) a.contents ∙ added_more pid range n c;
+    let dead : is_page_dead pid d page ≡ is_page_dead pid c page = ap not (live_yet pid range n c d a.contents) in
+    let one : passing (is_page_dead pid d) page 1 ≡ cond (is_page_dead pid c page) 1 0 = once (is_page_dead pid d) page ∙ ap (λ b. cond b 1 0) dead in
+    let count : s.paging_keys + passing (is_page_dead pid c) range.first n + passing (is_page_dead pid d) page 1 ≡ s.paging_keys + passing (is_page_dead pid c) range.first (suc n) = omega (arith, one) in
+    subst (λ (k : ℕ). Adds pid (first_pages range k) c e s y) more (record {
+      contents = b.contents ∙ ap (with_range_keys pid (one_page_range page)) a.contents ∙ added_more pid range n c;
       store =
-          b.store ∙ ap (λ (x : StoreOf). with_keys pid (only page) (passing (is_dead pid d) page 1) x y) a.store
+          b.store ∙ ap (λ (x : StoreOf). with_keys pid (one_page_range page) (passing (is_page_dead pid d) page 1) x y) a.store
           ∙ (λ i. record s { paging = keys_more pid range n true s.paging i; paging_keys = count i; report = rearranged s.report y.report });
     })
 
 -- ---- the loop that removes
 
-pub no_key_in : (pid : Pid) (range : Range) (k : Key) → is_key_in pid (front range 0) k ≡ false
-no_key_in pid range (key.Private p v) = ap (λ b. (p.0 == pid.0) && b) (holds_not (front range 0) v.0 (λ w. absurd (omega (arith, w.low, w.high)))) ∙ and_false (p.0 == pid.0)
+pub no_key_in : (pid : Pid) (range : Range) (k : Key) → is_key_in pid (first_pages range 0) k ≡ false
+no_key_in pid range (key.Private p v) = ap (λ b. (p.0 == pid.0) && b) (holds_not (first_pages range 0) v.0 (λ w. absurd (omega (arith, w.low, w.high)))) ∙ and_false (p.0 == pid.0)
 no_key_in pid range (key.Shared area index) = refl
 
-pub no_place_in : (pid : Pid) (range : Range) (q : Place) → is_place_in pid (front range 0) q ≡ false
-no_place_in pid range q = ap (λ b. (q.pid.0 == pid.0) && b) (holds_not (front range 0) q.vpn.0 (λ w. absurd (omega (arith, w.low, w.high)))) ∙ and_false (q.pid.0 == pid.0)
+pub no_place_in : (pid : Pid) (range : Range) (q : Place) → is_place_in pid (first_pages range 0) q ≡ false
+no_place_in pid range q = ap (λ b. (q.pid.0 == pid.0) && b) (holds_not (first_pages range 0) q.vpn.0 (λ w. absurd (omega (arith, w.low, w.high)))) ∙ and_false (q.pid.0 == pid.0)
 
-pub can_remove_next : (pid : Pid) (range : Range) (n : ℕ) (rs : List (RegionOf (Unit {0}))) (c d : Key → Option Page) (s z : StoreOf) → CanRemove pid range rs c s → n < range.count → Removes pid (front range n) c d s z → CanRemove pid (only (range.first + n)) rs d z
+pub can_remove_next : (pid : Pid) (range : Range) (n : ℕ) (rs : List (RegionOf (Unit {0}))) (c d : Key → Option Page) (s z : StoreOf) → CanRemove pid range rs c s → n < range.count → Removes pid (first_pages range n) c d s z → CanRemove pid (one_page_range (range.first + n)) rs d z
 can_remove_next pid range n rs c d s z can few a =
     let page = range.first + n in
     let held = next_held range n few in
     let still = live_still pid range n c d a.contents in
-    let place : is_place_in pid (front range n) (place_at pid page) ≡ false = ap (λ b. (pid.0 == pid.0) && b) (not_yet range n) ∙ and_false (pid.0 == pid.0) in
+    let place : is_place_in pid (first_pages range n) (place_at pid page) ≡ false = ap (λ b. (pid.0 == pid.0) && b) (not_yet range n) ∙ and_false (pid.0 == pid.0) in
     record {
-      live = λ v e. subst (λ (v : ℕ). is_live pid d v ≡ is_some (own_page rs v)) (sym (only_is page v e)) (still ∙ can.live page held);
-      named = λ v e. subst (λ (v : ℕ). is_live pid d v ≡ false → z.names (place_at pid v) ≡ None) (sym (only_is page v e)) (λ free.
+      live = λ v e. subst (λ (v : ℕ). is_page_live pid d v ≡ is_some (own_page rs v)) (sym (only_is page v e)) (still ∙ can.live page held);
+      named = λ v e. subst (λ (v : ℕ). is_page_live pid d v ≡ false → z.names (place_at pid v) ≡ None) (sym (only_is page v e)) (λ free.
           ap (λ (x : StoreOf). x.names (place_at pid page)) a.store ∙ ap (λ b. cond b None (s.names (place_at pid page))) place ∙ can.named page held (sym still ∙ free));
-      paging = λ v e. subst (λ (v : ℕ). z.paging (own pid v) ≡ is_live pid d v) (sym (only_is page v e)) (
+      paging = λ v e. subst (λ (v : ℕ). z.paging (own pid v) ≡ is_page_live pid d v) (sym (only_is page v e)) (
           ap (λ (x : StoreOf). x.paging (own pid page)) a.store ∙ ap (λ b. cond b false (s.paging (own pid page))) (outside pid range n) ∙ can.paging page held ∙ sym still
           );
       unbinding = ap (λ (x : StoreOf). x.kind) a.store ∙ can.unbinding;
     }
 
-pub removes_then : (pid : Pid) (range : Range) (n : ℕ) (c d e : Key → Option Page) (s z y : StoreOf) → Removes pid (front range n) c d s z → Removes pid (only (range.first + n)) d e z y → Removes pid (front range (n + 1)) c e s y
+pub removes_then : (pid : Pid) (range : Range) (n : ℕ) (c d e : Key → Option Page) (s z y : StoreOf) → Removes pid (first_pages range n) c d s z → Removes pid (one_page_range (range.first + n)) d e z y → Removes pid (first_pages range (n + 1)) c e s y
 removes_then pid range n c d e s z y a b =
     let page = range.first + n in
     let more : suc n ≡ n + 1 = omega arith in
     let live = live_still pid range n c d a.contents in
-    let one : passing (is_live pid d) page 1 ≡ cond (is_live pid c page) 1 0 = once (is_live pid d) page ∙ ap (λ b. cond b 1 0) live in
-    let count : s.paging_keys - passing (is_live pid c) range.first n - passing (is_live pid d) page 1 ≡ s.paging_keys - passing (is_live pid c) range.first (suc n) = omega (arith, one) in
-    subst (λ (k : ℕ). Removes pid (front range k) c e s y) more (record {
-      contents = b.contents ∙ ap (removed pid (only page)) a.contents ∙ keys_more pid range n None c;
+    let one : passing (is_page_live pid d) page 1 ≡ cond (is_page_live pid c page) 1 0 = once (is_page_live pid d) page ∙ ap (λ b. cond b 1 0) live in
+    let count : s.paging_keys - passing (is_page_live pid c) range.first n - passing (is_page_live pid d) page 1 ≡ s.paging_keys - passing (is_page_live pid c) range.first (suc n) = omega (arith, one) in
+    subst (λ (k : ℕ). Removes pid (first_pages range k) c e s y) more (record {
+      contents = b.contents ∙ ap (removed pid (one_page_range page)) a.contents ∙ keys_more pid range n None c;
       store =
-          b.store ∙ ap (λ (x : StoreOf). without_keys pid (only page) (passing (is_live pid d) page 1) x y) a.store
+          b.store ∙ ap (λ (x : StoreOf). store_without_keys pid (one_page_range page) (passing (is_page_live pid d) page 1) x y) a.store
           ∙ (λ i. record s { names = names_more pid range n s.names i; paging = keys_more pid range n false s.paging i; paging_keys = count i; report = rearranged s.report y.report });
     })

@@ -32,7 +32,7 @@ use Rattle.mm_world.proofs.LaidOut.{flags_stay, and-true, laid_remove, free_of}
 use Rattle.mm_world.proofs.RowsFit.{reserved_fits, commit_fits}
 use Rattle.mm_world.proofs.Spaces.{private_flags, space_add, space_set}
 use Rattle.mm_spaces.specs.Tables.{rows_of}
-use Rattle.mm_tables.specs.Fits.{paging_count, new_pages, marks_in, new_marks}
+use Rattle.mm_tables.specs.Fits.{paging_count, new_pages, newly_marked, new_marks}
 use Rattle.mm_tables.specs.Effects.{Effect, Makes, Ends, Leaves, after, Moves, keys_of, key_in}
 use Rattle.mm_tables.proofs.Keeping.{StandIn}
 use Rattle.mm_tables.proofs.Lists.{get-change_range, count-change_range, count-all, count-same, count-replicate, one_if}
@@ -84,8 +84,8 @@ marked_or_not (row ∷ rows) v =
 -- a protection charges the pages that it marks
 pub protect_count : (rs : List (RegionOf (Unit {0}))) (range : Range) (r : Found (RegionOf (Unit {0}))) (prot : ℕ) → region_around rs range ≡ Some r → count_by (is_charged r.thing.kind) (change_range (protected r.thing.kind prot) (range.first - r.thing.base) range.count r.thing.rows) ≡ count_by (is_charged r.thing.kind) r.thing.rows + new_marks rs range prot
 protect_count rs range r prot found =
-    let named : new_marks rs range prot ≡ marks_in r.thing.kind rs range prot =
-    ap (λ o. unwrap_or (option_map (λ (r : Found (RegionOf (Unit {0}))). marks_in r.thing.kind rs range prot) o) 0) found in
+    let named : new_marks rs range prot ≡ newly_marked r.thing.kind rs range prot =
+    ap (λ o. unwrap_or (option_map (λ (r : Found (RegionOf (Unit {0}))). newly_marked r.thing.kind rs range prot) o) 0) found in
     omega (arith, by_kind r.thing.kind, named)
   where
     rows : List (RowOf (Unit {0}))
@@ -102,12 +102,12 @@ protect_count rs range r prot found =
         let same = count-same (is_charged (kind.View v)) (protected (kind.View v) prot) rows (λ row. ap (λ b. row.marked || b) e ∙ or_false row.marked) in
         omega (arith, count-change_range (is_charged (kind.View v)) (protected (kind.View v) prot) (range.first - r.thing.base) range.count r.thing.rows, same)
 
-    by_kind : (k : Kind) → count_by (is_charged k) (after_change k) ≡ count_by (is_charged k) r.thing.rows + marks_in k rs range prot
+    by_kind : (k : Kind) → count_by (is_charged k) (after_change k) ≡ count_by (is_charged k) r.thing.rows + newly_marked k rs range prot
     by_kind kind.Private =
         let same = count-same has_own (protected kind.Private prot) rows (λ row. refl) in
         omega (arith, count-change_range has_own (protected kind.Private prot) (range.first - r.thing.base) range.count r.thing.rows, same)
     by_kind (kind.View v) =
-        let unmarked : marks_in (kind.View v) rs range prot ≡ cond (base_of prot == 0x08) (count_by (λ row. not row.marked) rows) 0 =
+        let unmarked : newly_marked (kind.View v) rs range prot ≡ cond (base_of prot == 0x08) (count_by (λ row. not row.marked) rows) 0 =
         ap (λ o. cond (base_of prot == 0x08) (count_by (λ row. not row.marked) (rows_of range o)) 0) found in
         omega (arith, by_base v (base_of prot == 0x08) refl, unmarked)
 

@@ -32,7 +32,7 @@ use Rattle.mm_tables.specs.References.{handles_in, views_in, handles_to, views_o
 use Rattle.mm_tables.specs.Shown.{tables_with, shown_processes, shown_accesses}
 use Rattle.mm_tables.specs.Sound.{IsCounted}
 use Rattle.mm_tables.specs.declared.tables.Tables.TheInside.{Inside}
-use Rattle.mm_tables.specs.Fits.{Fits, is_reserved, key_at, is_paging, open_pages, block_in, owned_by, paging_count}
+use Rattle.mm_tables.specs.Fits.{FitsTables, is_reserved, key_at, is_paging, open_pages, file_block_in, owned_keys, paging_count}
 use Rattle.mm_tables.proofs.Lists.{same_number, same_some, one_if, area_in, no_area_past}
 use Rattle.mm_tables.proofs.OneProcess.{regions_in, reserved_is, content_is, key_in_same, key_at_is}
 use Rattle.mm_tables.proofs.SectionTidy.{with_section, with_areas, with_handle_charge}
@@ -238,7 +238,7 @@ module _ (w : Tables) (ps : List (Option (ProcessOf (Unit {0})))) (sections : Nu
   paging_same (key.Private q n) = ap (λ b. b && true) (live_same (key.Private q n))
   paging_same (key.Shared area i) = refl
 
-  block_same : (k : Key) → block_in (with_processes w ps sections files) k ≡ block_in w k
+  block_same : (k : Key) → file_block_in (with_processes w ps sections files) k ≡ file_block_in w k
   block_same (key.Private q n) = refl
   block_same (key.Shared area i) = refl
 
@@ -247,7 +247,7 @@ module _ (w : Tables) (ps : List (Option (ProcessOf (Unit {0})))) (sections : Nu
       key_at_is (with_processes w ps sections files) place ∙ ap (λ rs. key_in (with_processes w ps sections files) place.pid.0 rs place.vpn.0) (same place.pid.0)
       ∙ key_in_same (with_processes w ps sections files) w place.pid.0 (regions_in w place.pid.0) place.vpn.0 refl ∙ sym (key_at_is w place)
 
-  pub fits_processes : (c : Key → Option Page) (s z : StoreOf) → z ≡ with_open_of s z → ((q : ℕ) → z.is_open q ≡ is_some (numbered ps q)) → z.last_pid + 1 ≡ length ps → length z.file_blocks ≡ length s.file_blocks → length z.file_device.named ≡ length s.file_device.named → paging_count (with_processes w ps sections files) ≡ paging_count w → charge (with_processes w ps sections files) ≡ charge w → Fits w c s → Fits (with_processes w ps sections files) c z
+  pub fits_processes : (c : Key → Option Page) (s z : StoreOf) → z ≡ with_open_of s z → ((q : ℕ) → z.is_open q ≡ is_some (numbered ps q)) → z.last_pid + 1 ≡ length ps → length z.file_blocks ≡ length s.file_blocks → length z.file_device.named ≡ length s.file_device.named → paging_count (with_processes w ps sections files) ≡ paging_count w → charge (with_processes w ps sections files) ≡ charge w → FitsTables w c s → FitsTables (with_processes w ps sections files) c z
   fits_processes c s z rest opened count stored named counted charged f =
       record {
         machine = ap (λ (x : StoreOf). x.machine) rest ∙ f.machine;
@@ -281,13 +281,13 @@ read_push read [] x (suc j) e = refl
 read_push read (y ∷ xs) x zero e = refl
 read_push read (y ∷ xs) x (suc j) e = read_push read xs x j e
 
-pub fits_handle : (w : Tables) (pid : ℕ) (p : ProcessOf (Unit {0})) (number : ℕ) (sections : Numbered SectionOf) → process_of w pid ≡ Some p → (c : Key → Option Page) (s : StoreOf) → Fits w c s → Fits (record (with_handle w pid p number) { sections = sections }) c s
+pub fits_handle : (w : Tables) (pid : ℕ) (p : ProcessOf (Unit {0})) (number : ℕ) (sections : Numbered SectionOf) → process_of w pid ≡ Some p → (c : Key → Option Page) (s : StoreOf) → FitsTables w c s → FitsTables (record (with_handle w pid p number) { sections = sections }) c s
 fits_handle w pid p number sections lives c s f =
     let q : Option (ProcessOf (Unit {0})) = Some (record p { handles = p.handles ++ Some number ∷ [] }) in
     let spaces : Option (ProcessOf (Unit {0})) → List (RegionOf (Unit {0})) = λ o. unwrap_or (option_map (λ (p : ProcessOf (Unit {0})). p.regions) o) [] in
     fits_processes w (set w.processes pid q) sections w.files (λ j. read_set spaces w.processes pid j q (ap spaces (sym lives))) c s s refl
     (λ j. f.opened j ∙ sym (read_set is_some w.processes pid j q (ap is_some (sym lives)))) (f.last_pid ∙ sym (length-set w.processes pid q)) refl refl
-    (omega (arith, sum_by-put owned_by w.processes pid (Some p) q (numbered_there w.processes pid p lives))) (with_handle_charge w pid p number lives) f
+    (omega (arith, sum_by-put owned_keys w.processes pid (Some p) q (numbered_there w.processes pid p lives))) (with_handle_charge w pid p number lives) f
 
 -- ---- the key of a committed row, where committed pages of areas stay
 
@@ -392,30 +392,30 @@ module _ (w : Tables) (areas : List (AreaOf (Unit {0}))) (at : ℕ) (a : AreaOf 
         all = λ q i e. by_area (λ b. is_some (numbered b.pages i) ≡ true) q (λ same. g.stays i (ap (λ (k : ℕ). is_some (shared_page w k i)) (sym same) ∙ e)) (λ other. e);
       }
 
-  live_at : Fits w c s → (k : Key) → is_some (d k) ≡ is_some (content_of (with_areas w areas used) k)
+  live_at : FitsTables w c s → (k : Key) → is_some (d k) ≡ is_some (content_of (with_areas w areas used) k)
   live_at f (key.Private pid page) = g.live_old (key.Private pid page) tt ∙ f.live (key.Private pid page)
   live_at f (key.Shared area i) =
       by_area (λ b. is_some (d (key.Shared area i)) ≡ is_some (numbered b.pages i)) area.0 (g.live_new area i)
       (λ other. g.live_old (key.Shared area i) other ∙ f.live (key.Shared area i))
 
-  paging_at : Fits w c s → (k : Key) → z.paging k ≡ is_paging (with_areas w areas used) k
+  paging_at : FitsTables w c s → (k : Key) → z.paging k ≡ is_paging (with_areas w areas used) k
   paging_at f (key.Private pid page) = g.paging_old (key.Private pid page) tt ∙ f.paging (key.Private pid page)
   paging_at f (key.Shared area i) =
       by_area (λ b. z.paging (key.Shared area i) ≡ (is_some (numbered b.pages i) && not (is_some b.file_block))) area.0 (g.paging_new area i)
       (λ other. g.paging_old (key.Shared area i) other ∙ f.paging (key.Shared area i))
 
-  block_at : Fits w c s → (k : Key) → z.block_of k ≡ block_in (with_areas w areas used) k
+  block_at : FitsTables w c s → (k : Key) → z.block_of k ≡ file_block_in (with_areas w areas used) k
   block_at f (key.Private pid page) = g.block_old (key.Private pid page) tt ∙ f.blocks (key.Private pid page)
   block_at f (key.Shared area i) =
       by_area (λ b. z.block_of (key.Shared area i) ≡ cond (is_some (numbered b.pages i)) (option_map (λ (first : ℕ). first + i) b.file_block) None) area.0 (g.block_new area i)
       (λ other. g.block_old (key.Shared area i) other ∙ f.blocks (key.Shared area i))
 
-  area_open : Fits w c s → (q : ℕ) → z.areas q ≡ open_pages (with_areas w areas used) q
+  area_open : FitsTables w c s → (q : ℕ) → z.areas q ≡ open_pages (with_areas w areas used) q
   area_open f q =
       by_area (λ b. z.areas q ≡ cond (length b.pages == 0) None (Some (length b.pages))) q
       (λ same. ap (λ (k : ℕ). z.areas k) same ∙ g.areas_new ∙ opened_some (length a.pages) g.some) (λ other. g.areas_old q other ∙ f.areas q)
 
-  pub fits_area : Fits w c s → Fits (with_areas w areas used) d z
+  pub fits_area : FitsTables w c s → FitsTables (with_areas w areas used) d z
   fits_area f =
       record {
         machine = ap (λ (x : StoreOf). x.machine) g.rest ∙ f.machine;

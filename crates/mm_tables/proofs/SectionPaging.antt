@@ -24,10 +24,10 @@ use Rattle.mm_pages.specs.Store.{StoreOf}
 use Rattle.mm_commit.specs.Charge.{CommitOf}
 use Rattle.mm_sections.specs.Directories.{CountedSection, DirectoryOf, sections_of, new_entry, one_handle_more}
 use Rattle.mm_sections.specs.Pages.{page_if}
-use Rattle.mm_tables.specs.Fits.{Fits, Carried, Carries, Settled, beside}
+use Rattle.mm_tables.specs.Fits.{FitsTables, Carried, CarriesPages, Settled, store_beside}
 use Rattle.mm_tables.specs.References.{IsFew}
 use Rattle.mm_tables.specs.Shown.{shown_processes}
-use Rattle.mm_tables.specs.Sound.{IsKept}
+use Rattle.mm_tables.specs.Sound.{AreKeptTables}
 use Rattle.mm_tables.specs.SectionSteps.{is_page_of, Opens}
 use Rattle.mm_tables.specs.declared.tables.Tables.TheInside.{Inside}
 use Rattle.mm_tables.proofs.SectionFits.{now, as_kept, fits_handle, no_page, no_block, IsOld, with_area_of, Grown, fits_area, Counts, handle_counts, section_counts, handles_few, sections_kept, sections_more, length_sections}
@@ -37,8 +37,8 @@ use Rattle.mm_tables.proofs.PageByPage.{cond_at}
 use Rattle.mm_tables.proofs.Settled.{settled_as}
 use Rattle.mm_tables.proofs.Lists.{same_number, area_at_end, area_before, no_area_past, if_some}
 
-pub kept_as : (t after : Tables) (entries : Numbered CountedSection) (commit : CommitOf) → after ≡ t → IsKept t entries commit → IsKept after entries commit
-kept_as t after entries commit same h = subst (λ (t : Tables). IsKept t entries commit) (sym same) h
+pub kept_as : (t after : Tables) (entries : Numbered CountedSection) (commit : CommitOf) → after ≡ t → AreKeptTables t entries commit → AreKeptTables after entries commit
+kept_as t after entries commit same h = subst (λ (t : Tables). AreKeptTables t entries commit) (sym same) h
 
 -- ---- only room was had
 
@@ -46,14 +46,14 @@ module _ (i : Inside) {ps : List (Option (ProcessOf (Unit {0})))} {es : Numbered
   pub same_tables : {t : Tables} → as_kept i ≡ t → now i ps es areas files i.blocks_used ≡ t
   same_tables view = (λ j. now i (a j) (b j) (c j) (d j) i.blocks_used) ∙ view
 
-  pub same_kept : IsKept (as_kept i) i.directory.entries i.commit → IsKept (now i ps es areas files i.blocks_used) es i.commit
+  pub same_kept : AreKeptTables (as_kept i) i.directory.entries i.commit → AreKeptTables (now i ps es areas files i.blocks_used) es i.commit
   same_kept k =
-      subst (λ (es : Numbered CountedSection). IsKept (now i ps es areas files i.blocks_used) es i.commit) (sym b)
+      subst (λ (es : Numbered CountedSection). AreKeptTables (now i ps es areas files i.blocks_used) es i.commit) (sym b)
       (kept_as (as_kept i) (now i ps i.directory.entries areas files i.blocks_used) i.directory.entries i.commit (λ j. now i (a j) i.directory.entries (c j) (d j) i.blocks_used) k)
 
 -- ---- a handle
 
-pub handle_few : (i : Inside) {t : Tables} (number : ℕ) → as_kept i ≡ t → IsKept (as_kept i) i.directory.entries i.commit → IsFew t → IfSome (numbered i.directory.entries number) (λ c. c.handles < 2 ^ 60)
+pub handle_few : (i : Inside) {t : Tables} (number : ℕ) → as_kept i ≡ t → AreKeptTables (as_kept i) i.directory.entries i.commit → IsFew t → IfSome (numbered i.directory.entries number) (λ c. c.handles < 2 ^ 60)
 handle_few i number view k few =
     let here = subst (λ (t : Tables). IsFew t) (sym view) few in
     if_some (numbered i.directory.entries number) (λ c. c.handles < 2 ^ 60)
@@ -73,7 +73,7 @@ module _ (i : Inside) {t : Tables} (pid number : ℕ) {mid ps : List (Option (Pr
       given p (ap (λ ps. numbered ps pid) grown ∙ lives) ∙ ap (λ ps. set ps pid (Some (record p { handles = p.handles ++ Some number ∷ [] }))) grown in
       λ j. record (as_kept i) { processes = made j; sections = sections_kept i.directory.entries d.entries number entries j; files = ap (λ (d : DirectoryOf). d.files) counted j }
 
-  pub handle_kept : is_some (section_of t number) ≡ true → IsKept (as_kept i) i.directory.entries i.commit → IsKept (now i ps d.entries i.areas.items d.files i.blocks_used) d.entries i.commit
+  pub handle_kept : is_some (section_of t number) ≡ true → AreKeptTables (as_kept i) i.directory.entries i.commit → AreKeptTables (now i ps d.entries i.areas.items d.files i.blocks_used) d.entries i.commit
   handle_kept known k =
       let w = as_kept i in
       let there = ap (λ (t : Tables). is_some (section_of t number)) view ∙ known in
@@ -88,14 +88,14 @@ module _ (i : Inside) {t : Tables} (pid number : ℕ) {mid ps : List (Option (Pr
   pub handle_now : now i ps d.entries i.areas.items d.files i.blocks_used ≡ with_handle t pid p number
   handle_now = handle_is ∙ ap (λ (t : Tables). with_handle t pid p number) view
 
-  pub handle_settled : (c : Key → Option Page) (s : StoreOf) → Fits t c s → Settled (now i ps d.entries i.areas.items d.files i.blocks_used) c c s s
+  pub handle_settled : (c : Key → Option Page) (s : StoreOf) → FitsTables t c s → Settled (now i ps d.entries i.areas.items d.files i.blocks_used) c c s s
   handle_settled c s f =
       let w = as_kept i in
-      settled_as handle_is (settled_same (with_handle w pid p number) c s (fits_handle w pid p number w.sections lives c s (subst (λ (t : Tables). Fits t c s) (sym view) f)))
+      settled_as handle_is (settled_same (with_handle w pid p number) c s (fits_handle w pid p number w.sections lives c s (subst (λ (t : Tables). FitsTables t c s) (sym view) f)))
 
 -- ---- a section with a handle
 
-section_kept : (w : Tables) (pid : ℕ) (p : ProcessOf (Unit {0})) (s : SectionOf) (entries new : Numbered CountedSection) (commit : CommitOf) → process_of w pid ≡ Some p → s.area < length w.areas → w.sections ≡ sections_of entries → new ≡ entries ++ Some (one_handle_more (new_entry s.prot s.name s.area)) ∷ [] → WellFormed w → Settles s.area w → Rest w → MayList w s → Counts w entries → commit.charge ≡ charge w → commit.limit ≡ limit w → IsKept (new_section w pid p s).world new commit
+section_kept : (w : Tables) (pid : ℕ) (p : ProcessOf (Unit {0})) (s : SectionOf) (entries new : Numbered CountedSection) (commit : CommitOf) → process_of w pid ≡ Some p → s.area < length w.areas → w.sections ≡ sections_of entries → new ≡ entries ++ Some (one_handle_more (new_entry s.prot s.name s.area)) ∷ [] → WellFormed w → Settles s.area w → Rest w → MayList w s → Counts w entries → commit.charge ≡ charge w → commit.limit ≡ limit w → AreKeptTables (new_section w pid p s).world new commit
 section_kept w pid p s entries new commit lives inside listed e well settles rest may counts charged limited =
     let v = with_handle (with_section w s) pid p (length w.sections) in
     record {
@@ -149,7 +149,7 @@ module _ {i : Inside} {t : Tables} {pid : ℕ} {s : SectionOf} {ps : List (Optio
 
   -- ---- of a file
 
-  pub file_section_kept : is_some (area_at t s.area).file_block ≡ true → IsKept (as_kept i) i.directory.entries i.commit → IsKept (now i ps es i.areas.items files i.blocks_used) es i.commit
+  pub file_section_kept : is_some (area_at t s.area).file_block ≡ true → AreKeptTables (as_kept i) i.directory.entries i.commit → AreKeptTables (now i ps es i.areas.items files i.blocks_used) es i.commit
   file_section_kept known k =
       let w = as_kept i in
       let first = some_found (area_at w s.area).file_block (ap (λ (t : Tables). is_some (area_at t s.area).file_block) l.view ∙ known) in
@@ -160,11 +160,11 @@ module _ {i : Inside} {t : Tables} {pid : ℕ} {s : SectionOf} {ps : List (Optio
         some = (k.tidy.files s.area first.0 first.1).some;
       }) k.counted k.charged k.limited)
 
-  pub file_section_settled : (c : Key → Option Page) (z : StoreOf) → Fits t c z → Settled (now i ps es i.areas.items files i.blocks_used) c c z z
+  pub file_section_settled : (c : Key → Option Page) (z : StoreOf) → FitsTables t c z → Settled (now i ps es i.areas.items files i.blocks_used) c c z z
   file_section_settled c z f =
       let w = as_kept i in
       settled_as (section_is refl) (settled_same (new_section w pid p s).world c z
-      (fits_handle w pid p (length w.sections) (w.sections ++ Some s ∷ []) here c z (subst (λ (t : Tables). Fits t c z) (sym l.view) f)))
+      (fits_handle w pid p (length w.sections) (w.sections ++ Some s ∷ []) here c z (subst (λ (t : Tables). FitsTables t c z) (sym l.view) f)))
 
 -- ---- A page-file section with its area: what the store holds of it, and what the tables keep
 
@@ -204,14 +204,14 @@ paging_charge pages false = omega (arith, sum_by-replicate (λ (page : Option (U
 
 -- ---- the area is new
 
-pub area_free : (t : Tables) (c : Key → Option Page) (s : StoreOf) (number : ℕ) → Fits t c s → number ≡ length t.areas → s.areas number ≡ None
+pub area_free : (t : Tables) (c : Key → Option Page) (s : StoreOf) (number : ℕ) → FitsTables t c s → number ≡ length t.areas → s.areas number ≡ None
 area_free t c s number f e = f.areas number ∙ ap (λ (a : AreaOf (Unit {0})). cond (length a.pages == 0) None (Some (length a.pages))) (no_area_past t.areas number (omega (arith, e)))
 
-pub key_free : (t : Tables) (c : Key → Option Page) (s : StoreOf) (area : Area) (i : ℕ) → Fits t c s → area.0 ≡ length t.areas → c (key.Shared area i) ≡ None
+pub key_free : (t : Tables) (c : Key → Option Page) (s : StoreOf) (area : Area) (i : ℕ) → FitsTables t c s → area.0 ≡ length t.areas → c (key.Shared area i) ≡ None
 key_free t c s area i f e =
     none_of (c (key.Shared area i)) (f.live (key.Shared area i) ∙ ap (λ (a : AreaOf (Unit {0})). is_some (numbered a.pages i)) (no_area_past t.areas area.0 (omega (arith, e))))
 
-pub free_key : (t : Tables) (c : Key → Option Page) (s : StoreOf) (b : Area) (i : ℕ) → Fits t c s → b.0 ≡ length t.areas → (s.paging (key.Shared b i) ≡ false) × (s.block_of (key.Shared b i) ≡ None)
+pub free_key : (t : Tables) (c : Key → Option Page) (s : StoreOf) (b : Area) (i : ℕ) → FitsTables t c s → b.0 ≡ length t.areas → (s.paging (key.Shared b i) ≡ false) × (s.block_of (key.Shared b i) ≡ None)
 free_key t c s b i f e =
     let none = no_area_past t.areas b.0 (omega (arith, e)) in (
       f.paging (key.Shared b i) ∙ ap (λ (a : AreaOf (Unit {0})). is_some (numbered a.pages i) && not (is_some a.file_block)) none,
@@ -228,7 +228,7 @@ pub some_if : (b : Bool) (x : Page) (y : Option Page) → y ≡ None → is_some
 some_if true x y e = refl
 some_if false x y e = ap is_some e
 
-module _ (t : Tables) (area : Area) (pages : ℕ) (committed : Bool) (c d : Key → Option Page) (s z : StoreOf) (at : area.0 ≡ length t.areas) (f : Fits t c s) (o : Opens area pages (committed_pages pages committed) c d s z) where
+module _ (t : Tables) (area : Area) (pages : ℕ) (committed : Bool) (c d : Key → Option Page) (s z : StoreOf) (at : area.0 ≡ length t.areas) (f : FitsTables t c s) (o : Opens area pages (committed_pages pages committed) c d s z) where
   page_new : (b : Area) (i : ℕ) → b.0 ≡ length t.areas → is_page_of area (committed_pages pages committed) (key.Shared b i) ≡ is_some (numbered (paging_pages pages committed).pages i)
   page_new b i e = ap (λ x. x && nat_lt i (committed_pages pages committed)) (same_number b.0 area.0 (e ∙ sym at)) ∙ sym (page_there pages committed i)
 
@@ -274,9 +274,9 @@ module _ (t : Tables) (area : Area) (pages : ℕ) (committed : Bool) (c d : Key 
   page_dead (key.Shared b i) e =
       key_free t c s b i f ((unsigned_Decides b.0 area.0).0 (and-true (b.0 == area.0) (nat_lt i (committed_pages pages committed)) e).0 ∙ at)
 
-  opened_carries : Carries c d
+  opened_carries : CarriesPages c d
   opened_carries =
-      subst (λ (d : Key → Option Page). Carries c d) (sym o.contents) (record {
+      subst (λ (d : Key → Option Page). CarriesPages c d) (sym o.contents) (record {
         at = λ k.
             let b = is_page_of area (committed_pages pages committed) k in
             subst (λ (o : Option Page). Carried (c k) o)
@@ -293,7 +293,7 @@ module _ {i : Inside} {t : Tables} {pid : ℕ} {s : SectionOf} {ps : List (Optio
         some = omega (arith, ap (λ (a : AreaOf (Unit {0})). length a.pages) (area_at_end i.areas.items (paging_pages pages committed) s.area at), length-replicate pages (page_if committed), some);
       }
 
-  pub paging_kept : (n : ℕ) (new : CommitOf) → charge t + committed_pages pages committed ≤ limit t → n ≡ committed_pages pages committed → new ≡ record (i.commit) { charge = i.commit.charge + n } → IsKept (as_kept i) i.directory.entries i.commit → IsKept (now i ps es areas files i.blocks_used) es new
+  pub paging_kept : (n : ℕ) (new : CommitOf) → charge t + committed_pages pages committed ≤ limit t → n ≡ committed_pages pages committed → new ≡ record (i.commit) { charge = i.commit.charge + n } → AreKeptTables (as_kept i) i.directory.entries i.commit → AreKeptTables (now i ps es areas files i.blocks_used) es new
   paging_kept n new room charged taken k =
       let x = as_kept i in
       let a = paging_pages pages committed in
@@ -314,15 +314,15 @@ module _ {i : Inside} {t : Tables} {pid : ℕ} {s : SectionOf} {ps : List (Optio
       ∙ ap (λ (k : ℕ). (new_section (record (as_kept i) { areas = i.areas.items ++ paging_pages pages committed ∷ [] }) pid p (record s { area = k })).world) at
       ∙ ap (λ (t : Tables). (new_section (record t { areas = t.areas ++ paging_pages pages committed ∷ [] }) pid p (record s { area = length t.areas })).world) l.view
 
-  pub paging_settled : (area : Area) (n : ℕ) (c d : Key → Option Page) (st z : StoreOf) → area.0 ≡ s.area → Fits t c st → n ≡ committed_pages pages committed → Opens area pages n c d st z → charge (as_kept i) + committed_pages pages committed ≤ z.room → Settled (now i ps es areas files i.blocks_used) c d st z
+  pub paging_settled : (area : Area) (n : ℕ) (c d : Key → Option Page) (st z : StoreOf) → area.0 ≡ s.area → FitsTables t c st → n ≡ committed_pages pages committed → Opens area pages n c d st z → charge (as_kept i) + committed_pages pages committed ≤ z.room → Settled (now i ps es areas files i.blocks_used) c d st z
   paging_settled area n c d st z same fits count opened room =
       let x = as_kept i in
       let a = paging_pages pages committed in
-      let f = subst (λ (t : Tables). Fits t c st) (sym l.view) fits in
+      let f = subst (λ (t : Tables). FitsTables t c st) (sym l.view) fits in
       let o = subst (λ (n : ℕ). Opens area pages n c d st z) count opened in
       settled_as (section_is l p alive made) (record {
         fits = fits_handle (with_area x a) pid p (length x.sections) (x.sections ++ Some s ∷ []) (here l p alive) d z
             (fits_area x (i.areas.items ++ a ∷ []) (length i.areas.items) a i.blocks_used c d st z (opened_grown x area pages committed c d st z (same ∙ at) f o some room) f);
         carries = opened_carries x area pages committed c d st z (same ∙ at) f o;
-        rest = o.store ∙ ap (beside st) (sym o.store);
+        rest = o.store ∙ ap (store_beside st) (sym o.store);
       })

@@ -38,9 +38,9 @@ use Rattle.mm_world.proofs.RowsFit.{rows_committed, rows_cleared, rows_protected
 use Rattle.mm_pages.specs.Conditions.{place_at}
 use Rattle.mm_pages.specs.Store.{StoreOf}
 use Rattle.mm_spaces.specs.Tables.{owned_in, rows_of}
-use Rattle.mm_tables.specs.Effects.{CanMake, key_in, Effect, Makes, Ends, Leaves, Stored, Moves, Roomier, keys_of}
-use Rattle.mm_tables.specs.Fits.{Fits, key_at, new_pages, new_marks, paging_count, owned_by, Carries, Settled, beside}
-use Rattle.mm_tables.specs.Ranges.{CanAdd, CanRemove, passing, is_live, is_dead}
+use Rattle.mm_tables.specs.Effects.{CanMake, key_in, Effect, Makes, Ends, Leaves, RangeStored, Moves, Roomier, keys_of}
+use Rattle.mm_tables.specs.Fits.{FitsTables, key_at, new_pages, new_marks, paging_count, owned_keys, CarriesPages, Settled, store_beside}
+use Rattle.mm_tables.specs.Ranges.{CanAdd, CanRemove, passing, is_page_live, is_page_dead}
 use Rattle.mm_tables.proofs.Lists.{found-cons, one_if}
 use Rattle.mm_tables.proofs.Carried.{private_paging, moved, carries_by, carries_same}
 use Rattle.mm_tables.proofs.PageByPage.{passing_all}
@@ -76,7 +76,7 @@ row_few (kind'.View v) row fits = by_two (is_some row.own) row.marked fits.copie
     by_two true b f = omega (arith, ap one_if (f refl))
     by_two false b f = omega arith
 
-process_few : (o : Option (ProcessOf (Unit {0}))) → ((p : ProcessOf (Unit {0})) → o ≡ Some p → IsSpace p.regions) → owned_by o ≤ process_charge o
+process_few : (o : Option (ProcessOf (Unit {0}))) → ((p : ProcessOf (Unit {0})) → o ≡ Some p → IsSpace p.regions) → owned_keys o ≤ process_charge o
 process_few None h = omega arith
 process_few (Some p) h =
     sum_few own_rows region_charge p.regions (λ i r at.
@@ -85,12 +85,12 @@ process_few (Some p) h =
 
 pub paging_few : (t : Tables) → WellFormed t → paging_count t ≤ charge t
 paging_few t h =
-    omega (arith, sum_few owned_by process_charge t.processes (λ pid o at. process_few o (λ p e. h.spaces pid p (get_or_from_slice_get t.processes pid o None at ∙ e))))
+    omega (arith, sum_few owned_keys process_charge t.processes (λ pid o at. process_few o (λ p e. h.spaces pid p (get_or_from_slice_get t.processes pid o None at ∙ e))))
 
 -- ---- a process
 
-module _ (t : Tables) (pid : Pid) (p : ProcessOf (Unit {0})) (c : Key → Option Page) (s : StoreOf) (lives : process_of t pid.0 ≡ Some p) (h : WellFormed t) (f : Fits t c s) where
-  pub live_is : (page : ℕ) → is_live pid c page ≡ is_some (own_page p.regions page)
+module _ (t : Tables) (pid : Pid) (p : ProcessOf (Unit {0})) (c : Key → Option Page) (s : StoreOf) (lives : process_of t pid.0 ≡ Some p) (h : WellFormed t) (f : FitsTables t c s) where
+  pub live_is : (page : ℕ) → is_page_live pid c page ≡ is_some (own_page p.regions page)
   live_is page =
       f.live (key.Private pid (record { 0 = page })) ∙ ap is_some (content_is t pid.0 page) ∙ ap (λ rs. is_some (own_page rs page)) (regions_of_process t pid.0 p lives)
 
@@ -108,7 +108,7 @@ module _ (t : Tables) (pid : Pid) (p : ProcessOf (Unit {0})) (c : Key → Option
     bound_in page e =
         bound_is page ∙ found_there (λ (r : RegionOf (Unit {0})). holds_page (pages_of r) page) p.regions i r at (holds_too range (pages_of r) page inside e)
 
-    pub live_count : passing (is_live pid c) range.first range.count ≡ count_by has_own (in_range range r)
+    pub live_count : passing (is_page_live pid c) range.first range.count ≡ count_by has_own (in_range range r)
     live_count =
         ap (λ test. passing test range.first range.count) (fun_ext live_is)
         ∙ passing_owned first_user_page i p.regions r range range.count (h.spaces pid.0 p lives).laid_out at inside (omega arith)
@@ -119,7 +119,7 @@ module _ (t : Tables) (pid : Pid) (p : ProcessOf (Unit {0})) (c : Key → Option
       by_row page None = refl
       by_row page (Some row) = private_home t pid.0 page (page - r.base) r.kind row.own private
 
-      pub uncommitted_is : (page : ℕ) → holds_page range page ≡ true → is_live pid c page ≡ false → key_at t (place_at pid page) ≡ None
+      pub uncommitted_is : (page : ℕ) → holds_page range page ≡ true → is_page_live pid c page ≡ false → key_at t (place_at pid page) ≡ None
       uncommitted_is page held dead =
           let laid = (h.spaces pid.0 p lives).laid_out in
           let in_r = holds_too range (pages_of r) page inside held in
@@ -128,7 +128,7 @@ module _ (t : Tables) (pid : Pid) (p : ProcessOf (Unit {0})) (c : Key → Option
           key_at_is t (place_at pid page) ∙ ap (λ rs. key_in t pid.0 rs page) (regions_of_process t pid.0 p lives) ∙ key_in_has t pid.0 p.regions page
           ∙ has_at (region_key t pid.0 page) first_user_page i page p.regions r laid at in_r ∙ by_row page (row_at r page) ∙ ap (option_map (λ (x : Unit {0}). private_key pid.0 page)) none
 
-      unnamed_is : (page : ℕ) → holds_page range page ≡ true → is_live pid c page ≡ false → s.names (place_at pid page) ≡ None
+      unnamed_is : (page : ℕ) → holds_page range page ≡ true → is_page_live pid c page ≡ false → s.names (place_at pid page) ≡ None
       unnamed_is page held dead =
           elim (s.names (place_at pid page)) as (λ o. s.names (place_at pid page) ≡ o → o ≡ None)
           [ None ↦ λ e. refl | Some k ↦ λ e. sym (f.named (place_at pid page) k e) ∙ uncommitted_is page held dead ] refl
@@ -149,7 +149,7 @@ module _ (t : Tables) (pid : Pid) (p : ProcessOf (Unit {0})) (c : Key → Option
             bound = bound_in;
             named = λ page e dead. unnamed_is page e dead;
             paging = λ page e. private_paging t c s pid (record { 0 = page }) f;
-            room = omega (arith, counted, room, f.counted, paging_few t h, live_count, passing_both (is_live pid c) range.first range.count);
+            room = omega (arith, counted, room, f.counted, paging_few t h, live_count, passing_both (is_page_live pid c) range.first range.count);
             called = called;
           }
 
@@ -229,7 +229,7 @@ free_page (r ∷ rs) range page free held =
     found-cons (λ (r : RegionOf (Unit {0})). holds_page (pages_of r) page) r rs
     ∙ ap (λ b. b || is_some (region_with rs page)) (apart_too range (pages_of r) page h.0 held) ∙ free_page rs range page h.1 held
 
-pub can_make : (t : Tables) (pid : Pid) (p : ProcessOf (Unit {0})) (c : Key → Option Page) (s : StoreOf) → process_of t pid.0 ≡ Some p → WellFormed t → Fits t c s → (range : Range) (type total : ℕ) → is_free (ranges_of p.regions) range ≡ true → charge t + new_pages type range ≤ total → total ≤ limit_of s.machine → s.kind ≡ kind.Call → CanMake pid range type total p.regions c s
+pub can_make : (t : Tables) (pid : Pid) (p : ProcessOf (Unit {0})) (c : Key → Option Page) (s : StoreOf) → process_of t pid.0 ≡ Some p → WellFormed t → FitsTables t c s → (range : Range) (type total : ℕ) → is_free (ranges_of p.regions) range ≡ true → charge t + new_pages type range ≤ total → total ≤ limit_of s.machine → s.kind ≡ kind.Call → CanMake pid range type total p.regions c s
 can_make t pid p c s lives h f range type total free room within called =
     record {
       live = λ page e. live_is t pid p c s lives h f page;
@@ -254,10 +254,10 @@ module _ (t : Tables) (pid : ℕ) (p : ProcessOf (Unit {0})) (i : ℕ) (r : Regi
 
 -- ---- nothing but room
 
-pub roomier_beside : (c d : Key → Option Page) (s z : StoreOf) → Roomier c d s z → z ≡ beside s z
-roomier_beside c d s z h = h.store ∙ ap (beside s) (sym h.store)
+pub roomier_beside : (c d : Key → Option Page) (s z : StoreOf) → Roomier c d s z → z ≡ store_beside s z
+roomier_beside c d s z h = h.store ∙ ap (store_beside s) (sym h.store)
 
-pub fits_more : (t : Tables) (c : Key → Option Page) (s : StoreOf) (n : ℕ) → Fits t c s → s.room ≤ n → Fits t c (record s { room = n })
+pub fits_more : (t : Tables) (c : Key → Option Page) (s : StoreOf) (n : ℕ) → FitsTables t c s → s.room ≤ n → FitsTables t c (record s { room = n })
 fits_more t c s n f more =
     record {
       machine = f.machine;
@@ -277,10 +277,10 @@ fits_more t c s n f more =
       named_file = f.named_file;
     }
 
-pub roomier_settled : {t after : Tables} {c d : Key → Option Page} {s z : StoreOf} → Fits t c s → after ≡ t → Roomier c d s z → Settled after c d s z
+pub roomier_settled : {t after : Tables} {c d : Key → Option Page} {s z : StoreOf} → FitsTables t c s → after ≡ t → Roomier c d s z → Settled after c d s z
 roomier_settled {t} {after} {c} {d} {s} {z} f same r =
     record {
-      fits = subst (λ (t : Tables). Fits t d z) (sym same) (subst (λ (z : StoreOf). Fits t d z) (sym r.store) (subst (λ (d : Key → Option Page). Fits t d (record s { room = z.room })) (sym r.contents) (fits_more t c s z.room f r.later)));
+      fits = subst (λ (t : Tables). FitsTables t d z) (sym same) (subst (λ (z : StoreOf). FitsTables t d z) (sym r.store) (subst (λ (d : Key → Option Page). FitsTables t d (record s { room = z.room })) (sym r.contents) (fits_more t c s z.room f r.later)));
       carries = carries_same c d r.contents;
       rest = roomier_beside c d s z r;
     }
@@ -288,11 +288,11 @@ roomier_settled {t} {after} {c} {d} {s} {z} f same r =
 pub settled_as : {t after : Tables} {c d : Key → Option Page} {s z : StoreOf} → after ≡ t → Settled t c d s z → Settled after c d s z
 settled_as {t} {after} {c} {d} {s} {z} same h = subst (λ (t : Tables). Settled t c d s z) (sym same) h
 
-pub settled_by : (t : Tables) (pid : Pid) (p : ProcessOf (Unit {0})) (range : Range) (keys places : Effect) (clears : Bool) (ss : List (RegionOf (Unit {0}))) (c d : Key → Option Page) (s z : StoreOf) → process_of t pid.0 ≡ Some p → Fits t c s → Stored pid range keys places clears c d s z → Moves t pid range keys places clears p.regions ss → z.paging_keys ≡ paging_count (set_regions t pid.0 p ss) → charge (set_regions t pid.0 p ss) ≤ z.room → Settled (set_regions t pid.0 p ss) c d s z
+pub settled_by : (t : Tables) (pid : Pid) (p : ProcessOf (Unit {0})) (range : Range) (keys places : Effect) (clears : Bool) (ss : List (RegionOf (Unit {0}))) (c d : Key → Option Page) (s z : StoreOf) → process_of t pid.0 ≡ Some p → FitsTables t c s → RangeStored pid range keys places clears c d s z → Moves t pid range keys places clears p.regions ss → z.paging_keys ≡ paging_count (set_regions t pid.0 p ss) → charge (set_regions t pid.0 p ss) ≤ z.room → Settled (set_regions t pid.0 p ss) c d s z
 settled_by t pid p range keys places clears ss c d s z lives f stored moves counted room =
     record {
       fits = moved t pid p range keys places clears ss c d s z lives f stored moves counted room;
-      carries = subst (λ (e : Key → Option Page). Carries c e) (sym stored.contents) (carries_by keys pid range c);
+      carries = subst (λ (e : Key → Option Page). CarriesPages c e) (sym stored.contents) (carries_by keys pid range c);
       rest = stored.same;
     }
 
@@ -302,8 +302,8 @@ pub record Done (t : Tables) (pid : Pid) (p : ProcessOf (Unit {0})) (ss : List (
   pub charged : charge (set_regions t pid.0 p ss) ≡ total
   pub settled : Settled (set_regions t pid.0 p ss) c d s z
 
-module _ (t : Tables) (pid : Pid) (p : ProcessOf (Unit {0})) (range : Range) (c d : Key → Option Page) (s z : StoreOf) (lives : process_of t pid.0 ≡ Some p) (h : WellFormed t) (f : Fits t c s) where
-  done : (keys places : Effect) (clears : Bool) (ss : List (RegionOf (Unit {0}))) (total : ℕ) → StandIn t p.regions ss → Moves t pid range keys places clears p.regions ss → Stored pid range keys places clears c d s z → charge (set_regions t pid.0 p ss) ≡ total → z.paging_keys ≡ paging_count (set_regions t pid.0 p ss) → total ≤ z.room → Done t pid p ss total c d s z
+module _ (t : Tables) (pid : Pid) (p : ProcessOf (Unit {0})) (range : Range) (c d : Key → Option Page) (s z : StoreOf) (lives : process_of t pid.0 ≡ Some p) (h : WellFormed t) (f : FitsTables t c s) where
+  done : (keys places : Effect) (clears : Bool) (ss : List (RegionOf (Unit {0}))) (total : ℕ) → StandIn t p.regions ss → Moves t pid range keys places clears p.regions ss → RangeStored pid range keys places clears c d s z → charge (set_regions t pid.0 p ss) ≡ total → z.paging_keys ≡ paging_count (set_regions t pid.0 p ss) → total ≤ z.room → Done t pid p ss total c d s z
   done keys places clears ss total stands moves stored charged counted room =
       record {
         stands = stands;
@@ -311,7 +311,7 @@ module _ (t : Tables) (pid : Pid) (p : ProcessOf (Unit {0})) (range : Range) (c 
         settled = settled_by t pid p range keys places clears ss c d s z lives f stored moves counted (omega (arith, charged, room));
       }
 
-  pub commit_done : (r : Found (RegionOf (Unit {0}))) (prot n : ℕ) → region_around p.regions range ≡ Some r → is_private r.thing.kind ≡ true → is_protection_among private_protections prot ≡ true → n + owned_in p.regions range ≡ range.count → Stored pid range Makes Leaves false c d s z → z.paging_keys ≡ s.paging_keys + passing (is_dead pid c) range.first range.count → charge t + n ≤ z.room → Done t pid p (set p.regions r.place (change_rows (commit tt prot) range r.thing)) (charge t + n) c d s z
+  pub commit_done : (r : Found (RegionOf (Unit {0}))) (prot n : ℕ) → region_around p.regions range ≡ Some r → is_private r.thing.kind ≡ true → is_protection_among private_protections prot ≡ true → n + owned_in p.regions range ≡ range.count → RangeStored pid range Makes Leaves false c d s z → z.paging_keys ≡ s.paging_keys + passing (is_page_dead pid c) range.first range.count → charge t + n ≤ z.room → Done t pid p (set p.regions r.place (change_rows (commit tt prot) range r.thing)) (charge t + n) c d s z
   commit_done r prot n found private e counted stored used more =
       let a = around p.regions range r found in
       let new = change_rows (commit tt prot) range r.thing in
@@ -322,9 +322,9 @@ module _ (t : Tables) (pid : Pid) (p : ProcessOf (Unit {0})) (range : Range) (c 
       done Makes Leaves false (set p.regions r.place new) (charge t + n)
       (change_stands t pid.0 p r.place r.thing range lives h a.at a.inside (commit tt prot) (λ fit. rows_committed tt r.thing prot range (private_kind r.thing.kind private) fit a.inside.low (allowed prot e)))
       (commit_moves t pid.0 p r.place r.thing range lives h a.at a.inside private pid prot refl) stored total
-      (omega (arith, keys, total, used, f.counted, counted, a.owned, live, passing_both (is_live pid c) range.first range.count)) more
+      (omega (arith, keys, total, used, f.counted, counted, a.owned, live, passing_both (is_page_live pid c) range.first range.count)) more
 
-  pub decommit_done : (i : ℕ) (r : RegionOf (Unit {0})) → slice_get p.regions i ≡ Some r → Inside range (pages_of r) → is_private r.kind ≡ true → Stored pid range Ends Leaves true c d s z → z.paging_keys ≡ s.paging_keys - passing (is_live pid c) range.first range.count → z.room ≡ s.room → Done t pid p (set p.regions i (change_rows (λ row. reserved_row) range r)) (charge t - count_by has_own (in_range range r)) c d s z
+  pub decommit_done : (i : ℕ) (r : RegionOf (Unit {0})) → slice_get p.regions i ≡ Some r → Inside range (pages_of r) → is_private r.kind ≡ true → RangeStored pid range Ends Leaves true c d s z → z.paging_keys ≡ s.paging_keys - passing (is_page_live pid c) range.first range.count → z.room ≡ s.room → Done t pid p (set p.regions i (change_rows (λ row. reserved_row) range r)) (charge t - count_by has_own (in_range range r)) c d s z
   decommit_done i r at inside private stored used room =
       let after = decommit_charge t pid.0 p i r range lives h at inside private in
       let keys = paging_as_charge t pid.0 p i r range lives h at inside private (λ row. reserved_row) in
@@ -354,9 +354,9 @@ module _ (t : Tables) (pid : Pid) (p : ProcessOf (Unit {0})) (range : Range) (c 
       (omega (arith, charge-set_region t pid.0 p r.place r.thing new lives a.at, protect_count p.regions range r prot found))
       (ap (λ (x : StoreOf). x.paging_keys) more.store ∙ f.counted ∙ sym (protect_paging t pid.0 p r.place r.thing range lives h a.at a.inside prot)) room
 
-  pub release_done : (i : ℕ) (r : RegionOf (Unit {0})) → slice_get p.regions i ≡ Some r → pages_of r ≡ range → is_private r.kind ≡ true → Stored pid range Ends Ends true c d s z → z.paging_keys ≡ s.paging_keys - passing (is_live pid c) range.first range.count → z.room ≡ s.room → Done t pid p (remove p.regions i) (charge t - own_rows r) c d s z
+  pub release_done : (i : ℕ) (r : RegionOf (Unit {0})) → slice_get p.regions i ≡ Some r → pages_of r ≡ range → is_private r.kind ≡ true → RangeStored pid range Ends Ends true c d s z → z.paging_keys ≡ s.paging_keys - passing (is_page_live pid c) range.first range.count → z.room ≡ s.room → Done t pid p (remove p.regions i) (charge t - own_rows r) c d s z
   release_done i r at pages private stored used room =
-      let live : passing (is_live pid c) range.first range.count ≡ own_rows r =
+      let live : passing (is_page_live pid c) range.first range.count ≡ own_rows r =
       live_count t pid p c s lives h f i r range at (whole_inside r range pages) ∙ ap (λ (range : Range). count_by has_own (in_range range r)) (sym pages) ∙ ap (count_by has_own) (whole_range r) in
       done Ends Ends true (remove p.regions i) (charge t - own_rows r)
       (release_stands t pid.0 p i r lives h at private)
@@ -364,7 +364,7 @@ module _ (t : Tables) (pid : Pid) (p : ProcessOf (Unit {0})) (range : Range) (c 
       (omega (arith, release_charge t pid.0 p i r lives h at, private_charge r private))
       (omega (arith, paging-remove_region t pid.0 p i r lives at, used, f.counted, live)) (omega (arith, room, f.room))
 
-  pub reserve_done : (watched : Bool) (type prot : ℕ) → is_free (ranges_of p.regions) range ≡ true → range.first % 16 ≡ 0 → 1 ≤ range.count → is_protection_among private_protections prot ≡ true → Stored pid range (keys_of type) Makes true c d s z → z.paging_keys ≡ s.paging_keys + new_pages type range → charge t + new_pages type range ≤ z.room → Done t pid p (add_region (private_region blank watched type prot range) p.regions) (charge t + new_pages type range) c d s z
+  pub reserve_done : (watched : Bool) (type prot : ℕ) → is_free (ranges_of p.regions) range ≡ true → range.first % 16 ≡ 0 → 1 ≤ range.count → is_protection_among private_protections prot ≡ true → RangeStored pid range (keys_of type) Makes true c d s z → z.paging_keys ≡ s.paging_keys + new_pages type range → charge t + new_pages type range ≤ z.room → Done t pid p (add_region (private_region blank watched type prot range) p.regions) (charge t + new_pages type range) c d s z
   reserve_done watched type prot free granule some e stored used more =
       done (keys_of type) Makes true (add_region (private_region blank watched type prot range) p.regions) (charge t + new_pages type range)
       (reserve_stands t pid.0 p watched type prot range lives free granule some e) (reserve_moves t pid.0 p watched type prot range lives free pid refl) stored

@@ -1,14 +1,16 @@
 -- Tables whose threads have other stacks.
-use Rattle.std.proofs.Common.{◌≡◌, ◌<◌, ◌+◌, ℕ, zero, suc, List, [], ◌∷◌, refl, ◌∙◌, ap, set, map, take, drop, ◌++◌, length, get_or, Bool, sym, subst}
+use Rattle.std.proofs.Common.{◌≡◌, ◌≤◌, ◌<◌, ◌+◌, ℕ, zero, suc, List, [], ◌∷◌, Option, None, max, replicate, arith, refl, ◌∙◌, ap, set, get_or-set_other, map, take, drop, ◌++◌, length, get_or, Bool, sym, subst}
 use Rattle.std.proofs.lemmas.List.Edits.{map_over_more}
 use Rattle.mm_commit.specs.Charge.{CommitOf}
-use Rattle.mm_world.specs.World.{RegionOf, Numbered, StackOf}
-use Rattle.mm_world.specs.Find.{end_stacks}
+use Rattle.mm_world.specs.World.{RegionOf, Numbered, StackOf, numbered}
+use Rattle.mm_world.specs.Find.{unless, end_stacks}
+use Rattle.mm_world.specs.Step.{threads}
 use Rattle.mm_world.specs.WellFormed.{WellFormed, Each, RegionRefers}
 use Rattle.mm_world.specs.Contents.{Tables}
 use Rattle.mm_sections.specs.Directories.{CountedSection}
 use Rattle.mm_tables.specs.References.{IsTidy, NobodyKeeps}
-use Rattle.mm_tables.specs.Sound.{IsKept}
+use Rattle.mm_tables.specs.Sound.{AreKeptTables}
+use Rattle.mm_tables.specs.Stacks.{StandBelow}
 
 module _ (t : Tables) (ss : Numbered StackOf) where
   refers_too : (rs : List (RegionOf (Unit {0}))) → Each (RegionRefers t) rs → Each (RegionRefers (record t { stacks = ss })) rs
@@ -42,7 +44,7 @@ module _ (t : Tables) (ss : Numbered StackOf) where
       }
 
   -- stacks stand beside what is kept
-  pub kept_beside : (entries : Numbered CountedSection) (commit : CommitOf) → IsKept t entries commit → IsKept (record t { stacks = ss }) entries commit
+  pub kept_beside : (entries : Numbered CountedSection) (commit : CommitOf) → AreKeptTables t entries commit → AreKeptTables (record t { stacks = ss }) entries commit
   kept_beside entries commit kept =
       record {
         sound = sound_with kept.sound;
@@ -65,3 +67,44 @@ module _ {A : Type 0} where
 
   pub one_more : (f : A → A) (xs ys : List A) (i : ℕ) (d r : A) → i < length xs → ys ≡ map f (take i xs) ++ drop i xs → r ≡ f (get_or ys i d) → set ys i r ≡ map f (take (i + 1) xs) ++ drop (i + 1) xs
   one_more f xs ys i d r lt h is = ap (set ys i) is ∙ map_over_more f xs ys i (get_or ys i d) lt h (same_read ys i d)
+
+-- ---- threads that have no stack are passed over
+
+module _ (test : StackOf → Bool) where
+  numbered_unless : (xs : Numbered StackOf) (i : ℕ) → numbered (map (unless test) xs) i ≡ unless test (numbered xs i)
+  numbered_unless [] i = refl
+  numbered_unless (x ∷ xs) zero = refl
+  numbered_unless (x ∷ xs) (suc i) = numbered_unless xs i
+
+  pub below_too : (end : ℕ) (xs : Numbered StackOf) → StandBelow end xs → StandBelow end (map (unless test) xs)
+  below_too end xs below = record { within = below.within; none = λ tid after. numbered_unless xs tid ∙ ap (unless test) (below.none tid after) }
+
+  none_kept : (xs : Numbered StackOf) → ((tid : ℕ) → numbered xs tid ≡ None) → xs ≡ map (unless test) xs
+  none_kept [] none = refl
+  none_kept (x ∷ xs) none =
+      let e : x ≡ unless test x = none 0 ∙ ap (unless test) (sym (none 0)) in
+      ap (λ (y : Option StackOf). y ∷ xs) e ∙ ap (λ (ys : Numbered StackOf). unless test x ∷ ys) (none_kept xs (λ tid. none (suc tid)))
+
+  front_alone : (xs : Numbered StackOf) (end : ℕ) → ((tid : ℕ) → end ≤ tid → numbered xs tid ≡ None) → map (unless test) (take end xs) ++ drop end xs ≡ map (unless test) xs
+  front_alone [] zero none = refl
+  front_alone [] (suc end) none = refl
+  front_alone (x ∷ xs) zero none = none_kept (x ∷ xs) (λ tid. none tid (omega arith))
+  front_alone (x ∷ xs) (suc end) none = ap (λ (ys : Numbered StackOf). unless test x ∷ ys) (front_alone xs end (λ tid after. none (suc tid) (omega (arith, after))))
+
+  pub all_changed : (end tid : ℕ) (xs ys : Numbered StackOf) → end ≤ tid → StandBelow end xs → ys ≡ map (unless test) (take tid xs) ++ drop tid xs → ys ≡ map (unless test) xs
+  all_changed end tid xs ys after below is = is ∙ front_alone xs tid (λ i later. below.none i (omega (arith, after, later)))
+
+nothing : (n tid : ℕ) → numbered {A = StackOf} (replicate n None) tid ≡ None
+nothing zero tid = refl
+nothing (suc n) zero = refl
+nothing (suc n) (suc tid) = nothing n tid
+
+pub none_yet : (n : ℕ) → StandBelow 0 (replicate n None)
+none_yet n = record { within = omega arith; none = λ tid after. nothing n tid }
+
+pub below_put : (end tid : ℕ) (xs : Numbered StackOf) (x : Option StackOf) → tid < threads → StandBelow end xs → StandBelow (max end (tid + 1)) (set xs tid x)
+below_put end tid xs x lt below =
+    record {
+      within = omega (arith, lt, below.within);
+      none = λ i after. get_or-set_other xs tid i x None (λ (e : i ≡ tid). omega (arith, e, after)) ∙ below.none i (omega (arith, after));
+    }

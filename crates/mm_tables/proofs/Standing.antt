@@ -15,9 +15,9 @@ use Rattle.mm_commit.specs.Charge.{CommitOf}
 use Rattle.mm_sections.specs.Directories.{CountedSection}
 use Rattle.mm_tables.specs.declared.tables.Process.{Process}
 use Rattle.mm_tables.specs.Shown.{shown_process, shown_processes, tables_with, shown_accesses}
-use Rattle.mm_tables.specs.Spaces.{regions_of, Became}
+use Rattle.mm_tables.specs.Spaces.{process_regions, RegionsBecame}
 use Rattle.mm_tables.specs.declared.tables.Tables.TheInside.{Inside}
-use Rattle.mm_tables.specs.Sound.{IsKept}
+use Rattle.mm_tables.specs.Sound.{AreKeptTables}
 use Rattle.mm_tables.proofs.OneProcess.{process_is}
 use Rattle.mm_tables.proofs.Keeping.{StandIn, kept_after}
 
@@ -64,7 +64,7 @@ module _ (m : MachineOf) (items : List (Option Process)) (entries : Numbered Cou
       let x = some_found o (sym (some_map shown_process o) ∙ ap is_some (sym at ∙ here) ∙ alive) in
       record { process = x.0; is = x.1; lives = sym here ∙ at ∙ ap (option_map shown_process) x.1; some = w.0; few = w.1 }
 
-  pub new_tables : (pid : ℕ) (o new : Option Process) (p : ProcessOf (Unit {0})) (ss : List (RegionOf (Unit {0}))) → Standing t pid items o → Became o new ss → process_of t pid ≡ Some p → tables_with m (shown_processes (set items (pid - 1) new)) entries areas files blocks fails accesses stacks ≡ set_regions t pid p ss
+  pub new_tables : (pid : ℕ) (o new : Option Process) (p : ProcessOf (Unit {0})) (ss : List (RegionOf (Unit {0}))) → Standing t pid items o → RegionsBecame o new ss → process_of t pid ≡ Some p → tables_with m (shown_processes (set items (pid - 1) new)) entries areas files blocks fails accesses stacks ≡ set_regions t pid p ss
   new_tables pid o new p ss h b lives =
       let process : b.process ≡ h.process = same_found o b.process h.process b.was h.is in
       let shown : shown_process b.process ≡ p = ap shown_process process ∙ process_is t pid (shown_process h.process) p h.lives lives in
@@ -83,23 +83,23 @@ pub record Held (i : Inside) (t : Tables) (pid : ℕ) (o : Option Process) : Typ
   pub process : ProcessOf (Unit {0})
   pub there : is_some o ≡ true
   pub lives : process_of t pid ≡ Some process
-  pub same : regions_of o ≡ process.regions
-  pub kept : IsKept t i.directory.entries i.commit
-  pub changed : (new : Option Process) (p : ProcessOf (Unit {0})) (ss : List (RegionOf (Unit {0}))) → Became o new ss → process_of t pid ≡ Some p → shown_with i (set i.processes.items (pid - 1) new) ≡ set_regions t pid p ss
+  pub same : process_regions o ≡ process.regions
+  pub kept : AreKeptTables t i.directory.entries i.commit
+  pub changed : (new : Option Process) (p : ProcessOf (Unit {0})) (ss : List (RegionOf (Unit {0}))) → RegionsBecame o new ss → process_of t pid ≡ Some p → shown_with i (set i.processes.items (pid - 1) new) ≡ set_regions t pid p ss
 
 standing_in : (i : Inside) (t : Tables) → shown_with i i.processes.items ≡ t → (pid : ℕ) (o : Option Process) → is_some (process_of t pid) ≡ true → o ≡ get_or i.processes.items (pid - 1) o → Standing t pid i.processes.items o
 standing_in i t view pid o alive found =
     standing i.machine i.processes.items i.directory.entries i.areas.items i.directory.files i.blocks_used i.fails_taken (shown_accesses i.kept) i.stacks t view pid o alive found
 
-pub held_by : (i : Inside) (t : Tables) → shown_with i i.processes.items ≡ t → IsKept (shown_with i i.processes.items) i.directory.entries i.commit → (pid : ℕ) (o : Option Process) → is_some (process_of t pid) ≡ true → o ≡ get_or i.processes.items (pid - 1) o → Held i t pid o
+pub held_by : (i : Inside) (t : Tables) → shown_with i i.processes.items ≡ t → AreKeptTables (shown_with i i.processes.items) i.directory.entries i.commit → (pid : ℕ) (o : Option Process) → is_some (process_of t pid) ≡ true → o ≡ get_or i.processes.items (pid - 1) o → Held i t pid o
 held_by i t view kept pid o alive found =
     let s = standing_in i t view pid o alive found in
     record {
       process = shown_process s.process;
       there = ap is_some s.is;
       lives = s.lives;
-      same = ap regions_of s.is;
-      kept = subst (λ (t : Tables). IsKept t i.directory.entries i.commit) view kept;
+      same = ap process_regions s.is;
+      kept = subst (λ (t : Tables). AreKeptTables t i.directory.entries i.commit) view kept;
       changed = λ new p ss b lives.
           new_tables i.machine i.processes.items i.directory.entries i.areas.items i.directory.files i.blocks_used i.fails_taken (shown_accesses i.kept) i.stacks t view pid o new p ss s b lives;
     }
@@ -112,30 +112,30 @@ shown_is i t view pid o alive found x p e lives =
 
 module _ {i : Inside} {t : Tables} {pid : ℕ} {o : Option Process} (h : Held i t pid o) where
   -- the regions of the process by whatever name it has
-  pub regions_by : (p : ProcessOf (Unit {0})) → process_of t pid ≡ Some p → regions_of o ≡ p.regions
+  pub regions_by : (p : ProcessOf (Unit {0})) → process_of t pid ≡ Some p → process_regions o ≡ p.regions
   regions_by p lives = h.same ∙ ap (λ (p : ProcessOf (Unit {0})). p.regions) (process_is t pid h.process p h.lives lives)
 
   -- a step has changed the regions
-  pub still_kept : (new : Option Process) (ss : List (RegionOf (Unit {0}))) (commit : CommitOf) (total : ℕ) → Became o new ss → StandIn t h.process.regions ss → charge (set_regions t pid h.process ss) ≡ total → total ≤ limit t → commit.charge ≡ total → commit.limit ≡ i.commit.limit → IsKept (shown_with i (set i.processes.items (pid - 1) new)) i.directory.entries commit
+  pub still_kept : (new : Option Process) (ss : List (RegionOf (Unit {0}))) (commit : CommitOf) (total : ℕ) → RegionsBecame o new ss → StandIn t h.process.regions ss → charge (set_regions t pid h.process ss) ≡ total → total ≤ limit t → commit.charge ≡ total → commit.limit ≡ i.commit.limit → AreKeptTables (shown_with i (set i.processes.items (pid - 1) new)) i.directory.entries commit
   still_kept new ss commit total b stands charged within counted limited =
-      subst (λ (t : Tables). IsKept t i.directory.entries commit) (sym (h.changed new h.process ss b h.lives))
+      subst (λ (t : Tables). AreKeptTables t i.directory.entries commit) (sym (h.changed new h.process ss b h.lives))
       (kept_after t pid h.process ss h.lives stands i.directory.entries i.commit commit h.kept (counted ∙ sym charged) (limited ∙ h.kept.limited) (omega (arith, charged, within)))
 
   -- a step has changed nothing
-  pub same_tables : (new : Option Process) → Became o new (regions_of o) → shown_with i (set i.processes.items (pid - 1) new) ≡ t
+  pub same_tables : (new : Option Process) → RegionsBecame o new (process_regions o) → shown_with i (set i.processes.items (pid - 1) new) ≡ t
   same_tables new b =
       let same : set t.processes pid (Some h.process) ≡ t.processes = ap (set t.processes pid) (sym h.lives) ∙ set-get_or t.processes pid None in
-      h.changed new h.process h.process.regions (subst (λ rs. Became o new rs) h.same b) h.lives ∙ (λ i. record t { processes = same i })
+      h.changed new h.process h.process.regions (subst (λ rs. RegionsBecame o new rs) h.same b) h.lives ∙ (λ i. record t { processes = same i })
 
-  pub kept_same : (new : Option Process) → Became o new (regions_of o) → IsKept (shown_with i (set i.processes.items (pid - 1) new)) i.directory.entries i.commit
-  kept_same new b = subst (λ (t : Tables). IsKept t i.directory.entries i.commit) (sym (same_tables new b)) h.kept
+  pub kept_same : (new : Option Process) → RegionsBecame o new (process_regions o) → AreKeptTables (shown_with i (set i.processes.items (pid - 1) new)) i.directory.entries i.commit
+  kept_same new b = subst (λ (t : Tables). AreKeptTables t i.directory.entries i.commit) (sym (same_tables new b)) h.kept
 
   -- a step has changed rows of the region around a range: the regions, and the tables then
-  module _ (range : Range) (new : Option Process) (change : RegionOf (Unit {0}) → RowOf (Unit {0}) → RowOf (Unit {0})) (changed : (r : Found (RegionOf (Unit {0}))) → region_around (regions_of o) range ≡ Some r → Became o new (set (regions_of o) r.place (change_rows (change r.thing) range r.thing))) (p : ProcessOf (Unit {0})) (r : Found (RegionOf (Unit {0}))) (lives : process_of t pid ≡ Some p) (found : region_around p.regions range ≡ Some r) where
-    pub around_became : Became o new (set p.regions r.place (change_rows (change r.thing) range r.thing))
+  module _ (range : Range) (new : Option Process) (change : RegionOf (Unit {0}) → RowOf (Unit {0}) → RowOf (Unit {0})) (changed : (r : Found (RegionOf (Unit {0}))) → region_around (process_regions o) range ≡ Some r → RegionsBecame o new (set (process_regions o) r.place (change_rows (change r.thing) range r.thing))) (p : ProcessOf (Unit {0})) (r : Found (RegionOf (Unit {0}))) (lives : process_of t pid ≡ Some p) (found : region_around p.regions range ≡ Some r) where
+    pub around_became : RegionsBecame o new (set p.regions r.place (change_rows (change r.thing) range r.thing))
     around_became =
         let same = regions_by p lives in
-        subst (λ rs. Became o new (set rs r.place (change_rows (change r.thing) range r.thing))) same (changed r (ap (λ rs. region_around rs range) same ∙ found))
+        subst (λ rs. RegionsBecame o new (set rs r.place (change_rows (change r.thing) range r.thing))) same (changed r (ap (λ rs. region_around rs range) same ∙ found))
 
     pub around_changed : shown_with i (set i.processes.items (pid - 1) new) ≡ set_region t pid p r.place (change_rows (change r.thing) range r.thing)
     around_changed = h.changed new p (set p.regions r.place (change_rows (change r.thing) range r.thing)) around_became lives

@@ -18,17 +18,17 @@ use Rattle.mm_world.specs.Charge.{charge}
 use Rattle.mm_world.specs.Rows.{reserved_row, change_rows}
 use Rattle.mm_world.specs.Sections.{settle}
 use Rattle.mm_world.specs.WellFormed.{WellFormed}
-use Rattle.mm_tables.specs.Effects.{Effect, Ends, Leaves, Stored}
+use Rattle.mm_tables.specs.Effects.{Effect, Ends, Leaves, RangeStored}
 use Rattle.mm_tables.specs.Endings.{AreUnbound}
-use Rattle.mm_tables.specs.Ranges.{is_live, CanRemove, passing}
+use Rattle.mm_tables.specs.Ranges.{is_page_live, CanRemove, passing}
 use Rattle.mm_tables.proofs.EndingFits.{process_same, key_is}
 use Rattle.mm_tables.proofs.EndingPages.{here}
 use Rattle.mm_tables.proofs.OneProcess.{region_key, regions_in, reserved_is, own_rows}
 use Rattle.mm_tables.proofs.Standing.{Held, shown_with, still_kept, regions_by}
 use Rattle.mm_tables.specs.declared.tables.Process.{Process}
 use Rattle.mm_tables.specs.declared.tables.Tables.TheInside as the_inside
-use Rattle.mm_tables.specs.Spaces.{regions_of, Became}
-use Rattle.mm_tables.specs.Sound.{IsKept}
+use Rattle.mm_tables.specs.Spaces.{process_regions, RegionsBecame}
+use Rattle.mm_tables.specs.Sound.{AreKeptTables}
 use Rattle.mm_commit.specs.Charge.{CommitOf}
 use Rattle.mm_types.proofs.Options.{none_of, some_found}
 use Rattle.mm_tables.proofs.Keeping.{sound_after}
@@ -36,7 +36,7 @@ use Rattle.mm_tables.proofs.PageByPage.{own}
 use Rattle.mm_tables.proofs.Rows.{Inside, same_pages, has_own, in_range, private_charge}
 use Rattle.mm_tables.proofs.Settled.{Done, ends, settled_as, uncommitted_is, IsAround, decommit_done, can_remove, around, Begins, release_done, is_around, begins, bound_in, whole_inside, pages_found, some_pages, whole_owned}
 use Rattle.mm_pages.specs.Conditions.{AreAmong, place_at, AllBound}
-use Rattle.mm_tables.specs.Fits.{Fits, Settled, is_reserved, is_uncommitted}
+use Rattle.mm_tables.specs.Fits.{FitsTables, Settled, is_reserved, is_uncommitted}
 use Rattle.mm_types.specs.declared.moves.LineKind.TheVariants as line_kind
 use Rattle.mm_spaces.specs.Tables.{owned_in}
 use Rattle.mm_tables.proofs.Regional.{decommit_charge, release_charge}
@@ -60,7 +60,7 @@ pub its_own : (pid : Pid) (places : Place → Bool) (page : ℕ) → places (pla
 its_own pid places page e = both (pid.0 == pid.0) (places (place_at pid page)) ((unsigned_Decides pid.0 pid.0).1 refl) e
 
 -- places that are bound no more
-pub among_unbound : (o t : Tables) (c : Key → Option Page) (z : StoreOf) (pid : Pid) (range : Range) → Fits t c z → AreUnbound pid range z → AreAmong (leaving o pid.0 (is_uncommitted t)) 1 (page_rank end_of_user_pages) pid range
+pub among_unbound : (o t : Tables) (c : Key → Option Page) (z : StoreOf) (pid : Pid) (range : Range) → FitsTables t c z → AreUnbound pid range z → AreAmong (leaving o pid.0 (is_uncommitted t)) 1 (page_rank end_of_user_pages) pid range
 among_unbound o t c z pid range fits unbound =
     record {
       each = λ page e. its_own pid (is_uncommitted t) page (unreserved t (place_at pid page) (sym (fits.bound (place_at pid page)) ∙ unbound.each page e));
@@ -68,7 +68,7 @@ among_unbound o t c z pid range fits unbound =
       last = omega (arith, unbound.end);
     }
 
-pub stored_unbound : (pid : Pid) (range : Range) (keys : Effect) (clears : Bool) (c d : Key → Option Page) (s z : StoreOf) → end_of range ≤ end_of_user_pages → Stored pid range keys Ends clears c d s z → AreUnbound pid range z
+pub stored_unbound : (pid : Pid) (range : Range) (keys : Effect) (clears : Bool) (c d : Key → Option Page) (s z : StoreOf) → end_of range ≤ end_of_user_pages → RangeStored pid range keys Ends clears c d s z → AreUnbound pid range z
 stored_unbound pid range keys clears c d s z end a =
     record { each = λ page e. ap (λ (f : Place → Bool). f (place_at pid page)) a.bound ∙ ap (λ b. cond b false (s.bound (place_at pid page))) (here pid range page e); end = end }
 
@@ -77,14 +77,14 @@ stored_unbound pid range keys clears c d s z end a =
 pub record Freed (i : the_inside.Inside) (t : Tables) (pid : Pid) (p : ProcessOf (Unit {0})) (o new : Option Process) (ss : List (RegionOf (Unit {0}))) (n : ℕ) (c d : Key → Option Page) (s z : StoreOf) : Type 0 where
   pub total : ℕ
   pub done : Done t pid p ss total c d s z
-  pub became : Became o new ss
+  pub became : RegionsBecame o new ss
   pub counted : n + total ≡ charge t
 
 module _ {i : the_inside.Inside} {t : Tables} {o new : Option Process} {ss : List (RegionOf (Unit {0}))} {n : ℕ} {c d : Key → Option Page} {s z : StoreOf} (pid : Pid) (h : Held i t pid.0 o) (f : Freed i t pid h.process o new ss n c d s z) where
   pub freed_charged : n ≤ i.commit.charge
   freed_charged = omega (arith, f.counted, h.kept.charged)
 
-  pub freed_kept : (commit : CommitOf) → commit ≡ record i.commit { charge = i.commit.charge - n } → IsKept (shown_with i (set i.processes.items (pid.0 - 1) new)) i.directory.entries commit
+  pub freed_kept : (commit : CommitOf) → commit ≡ record i.commit { charge = i.commit.charge - n } → AreKeptTables (shown_with i (set i.processes.items (pid.0 - 1) new)) i.directory.entries commit
   freed_kept commit refunded =
       still_kept h new ss commit f.total f.became f.done.stands f.done.charged (omega (arith, f.counted, h.kept.sound.charged))
       (omega (arith, ap (λ (k : CommitOf). k.charge) refunded, h.kept.charged, f.counted)) (ap (λ (k : CommitOf). k.limit) refunded)
@@ -97,14 +97,14 @@ module _ {i : the_inside.Inside} {t : Tables} {o new : Option Process} {ss : Lis
 
 -- by whatever names the process and its region have
 pub freed_named : {i : the_inside.Inside} {t : Tables} {pid : ℕ} {o : Option Process} (h : Held i t pid o) (new : Option Process) (pick : List (RegionOf (Unit {0})) → Option (Found (RegionOf (Unit {0})))) (put : List (RegionOf (Unit {0})) → Found (RegionOf (Unit {0})) → List (RegionOf (Unit {0})))
-    → ((r : Found (RegionOf (Unit {0}))) → pick (regions_of o) ≡ Some r → Became o new (put (regions_of o) r)) → (q : ProcessOf (Unit {0})) (r : Found (RegionOf (Unit {0}))) → process_of t pid ≡ Some q → pick q.regions ≡ Some r → shown_with i (set i.processes.items (pid - 1) new) ≡ set_regions t pid q (put q.regions r)
+    → ((r : Found (RegionOf (Unit {0}))) → pick (process_regions o) ≡ Some r → RegionsBecame o new (put (process_regions o) r)) → (q : ProcessOf (Unit {0})) (r : Found (RegionOf (Unit {0}))) → process_of t pid ≡ Some q → pick q.regions ≡ Some r → shown_with i (set i.processes.items (pid - 1) new) ≡ set_regions t pid q (put q.regions r)
 freed_named {o = o} h new pick put changed q r lives found =
     let regions = regions_by h q lives in
-    h.changed new q (put q.regions r) (subst (λ rs. Became o new (put rs r)) regions (changed r (ap pick regions ∙ found))) lives
+    h.changed new q (put q.regions r) (subst (λ rs. RegionsBecame o new (put rs r)) regions (changed r (ap pick regions ∙ found))) lives
 
 -- ---- pages of a private region are decommitted
 
-module _ {i : the_inside.Inside} {t : Tables} {o : Option Process} (pid : Pid) (h : Held i t pid.0 o) (range : Range) (inside : (p : ProcessOf (Unit {0})) → process_of t pid.0 ≡ Some p → is_some (region_around p.regions range) ≡ true) (private : (p : ProcessOf (Unit {0})) (r : Found (RegionOf (Unit {0}))) → process_of t pid.0 ≡ Some p → region_around p.regions range ≡ Some r → is_private r.thing.kind ≡ true) {c : Key → Option Page} {s : StoreOf} (fits : Fits t c s) where
+module _ {i : the_inside.Inside} {t : Tables} {o : Option Process} (pid : Pid) (h : Held i t pid.0 o) (range : Range) (inside : (p : ProcessOf (Unit {0})) → process_of t pid.0 ≡ Some p → is_some (region_around p.regions range) ≡ true) (private : (p : ProcessOf (Unit {0})) (r : Found (RegionOf (Unit {0}))) → process_of t pid.0 ≡ Some p → region_around p.regions range ≡ Some r → is_private r.thing.kind ≡ true) {c : Key → Option Page} {s : StoreOf} (fits : FitsTables t c s) where
   pub found : (f : Found (RegionOf (Unit {0}))) × (region_around h.process.regions range ≡ Some f)
   found = some_found (region_around h.process.regions range) (inside h.process h.lives)
 
@@ -120,24 +120,24 @@ module _ {i : the_inside.Inside} {t : Tables} {o : Option Process} (pid : Pid) (
   pub decommit_end : end_of range ≤ end_of_user_pages
   decommit_end = ends t pid h.process c s h.lives h.kept.sound fits found.0.place found.0.thing range placed.at placed.inside
 
-  pub decommit_can : s.kind ≡ line_kind.Unbind pid → CanRemove pid range (regions_of o) c s
+  pub decommit_can : s.kind ≡ line_kind.Unbind pid → CanRemove pid range (process_regions o) c s
   decommit_can unbinding =
       subst (λ rs. CanRemove pid range rs c s) (sym h.same) (can_remove t pid h.process c s h.lives h.kept.sound fits found.0.place found.0.thing range placed.at placed.inside of_own unbinding)
 
-  pub decommitted : {n : ℕ} {new : Option Process} {d : Key → Option Page} {z : StoreOf} → n ≡ owned_in (regions_of o) range
-      → ((r : Found (RegionOf (Unit {0}))) → region_around (regions_of o) range ≡ Some r → Became o new (set (regions_of o) r.place (change_rows (λ row. reserved_row) range r.thing)))
-      → Stored pid range Ends Leaves true c d s z → z.paging_keys ≡ s.paging_keys - passing (is_live pid c) range.first range.count → z.room ≡ s.room → Freed i t pid h.process o new emptied_rows n c d s z
+  pub decommitted : {n : ℕ} {new : Option Process} {d : Key → Option Page} {z : StoreOf} → n ≡ owned_in (process_regions o) range
+      → ((r : Found (RegionOf (Unit {0}))) → region_around (process_regions o) range ≡ Some r → RegionsBecame o new (set (process_regions o) r.place (change_rows (λ row. reserved_row) range r.thing)))
+      → RangeStored pid range Ends Leaves true c d s z → z.paging_keys ≡ s.paging_keys - passing (is_page_live pid c) range.first range.count → z.room ≡ s.room → Freed i t pid h.process o new emptied_rows n c d s z
   decommitted {n} {new} {d} {z} owned changed stored counted room =
       let few = decommit_charge t pid.0 h.process found.0.place found.0.thing range h.lives h.kept.sound placed.at placed.inside of_own in
       let some = owned ∙ ap (λ rs. owned_in rs range) h.same ∙ placed.owned in
       record {
         total = charge t - count_by has_own (in_range range found.0.thing);
         done = decommit_done t pid h.process range c d s z h.lives h.kept.sound fits found.0.place found.0.thing placed.at placed.inside of_own stored counted room;
-        became = subst (λ rs. Became o new (set rs found.0.place (change_rows (λ row. reserved_row) range found.0.thing))) h.same (changed found.0 (ap (λ rs. region_around rs range) h.same ∙ found.1));
+        became = subst (λ rs. RegionsBecame o new (set rs found.0.place (change_rows (λ row. reserved_row) range found.0.thing))) h.same (changed found.0 (ap (λ rs. region_around rs range) h.same ∙ found.1));
         counted = omega (arith, some, few);
       }
 
-  pub decommit_among : {n : ℕ} {new : Option Process} {d : Key → Option Page} {z : StoreOf} → Freed i t pid h.process o new emptied_rows n c d s z → Stored pid range Ends Leaves true c d s z → AreAmong (leaving t pid.0 (is_uncommitted (shown_with i (set i.processes.items (pid.0 - 1) new)))) 1 (page_rank end_of_user_pages) pid range
+  pub decommit_among : {n : ℕ} {new : Option Process} {d : Key → Option Page} {z : StoreOf} → Freed i t pid h.process o new emptied_rows n c d s z → RangeStored pid range Ends Leaves true c d s z → AreAmong (leaving t pid.0 (is_uncommitted (shown_with i (set i.processes.items (pid.0 - 1) new)))) 1 (page_rank end_of_user_pages) pid range
   decommit_among {n} {new} {d} {z} f stored =
       let row = change_rows (λ row. reserved_row) range found.0.thing in
       let q : ProcessOf (Unit {0}) = record h.process { regions = emptied_rows } in
@@ -152,14 +152,14 @@ module _ {i : the_inside.Inside} {t : Tables} {o : Option Process} (pid : Pid) (
         each = λ page e. its_own pid (is_uncommitted u) page
             (ap (λ (o : Option Key). not (is_some o))
             (uncommitted_is u pid q d z now sound f.done.settled.fits found.0.place row range there within of_own page e
-            (ap (λ (f : Key → Option Page). is_live pid f page) stored.contents ∙ ap (λ b. is_some (cond b None (c (own pid page)))) (here pid range page e))));
+            (ap (λ (f : Key → Option Page). is_page_live pid f page) stored.contents ∙ ap (λ b. is_some (cond b None (c (own pid page)))) (here pid range page e))));
         first = omega arith;
         last = omega (arith, ends u pid q d z now sound f.done.settled.fits found.0.place row range there within);
       })
 
 -- ---- a private region is released
 
-module _ {i : the_inside.Inside} {t : Tables} {o : Option Process} (pid : Pid) (h : Held i t pid.0 o) (addr : ℕ) (range : Range) (there : (p : ProcessOf (Unit {0})) → process_of t pid.0 ≡ Some p → option_map (λ (r : Found (RegionOf (Unit {0}))). pages_of r.thing) (private_at p.regions addr) ≡ Some range) {c : Key → Option Page} {s : StoreOf} (fits : Fits t c s) where
+module _ {i : the_inside.Inside} {t : Tables} {o : Option Process} (pid : Pid) (h : Held i t pid.0 o) (addr : ℕ) (range : Range) (there : (p : ProcessOf (Unit {0})) → process_of t pid.0 ≡ Some p → option_map (λ (r : Found (RegionOf (Unit {0}))). pages_of r.thing) (private_at p.regions addr) ≡ Some range) {c : Key → Option Page} {s : StoreOf} (fits : FitsTables t c s) where
   pub begun : (f : Found (RegionOf (Unit {0}))) × ((private_at h.process.regions addr ≡ Some f) × (pages_of f.thing ≡ range))
   begun = pages_found (private_at h.process.regions addr) range (there h.process h.lives)
 
@@ -175,7 +175,7 @@ module _ {i : the_inside.Inside} {t : Tables} {o : Option Process} (pid : Pid) (
   pub release_end : end_of range ≤ end_of_user_pages
   release_end = ends t pid h.process c s h.lives h.kept.sound fits begun.0.place begun.0.thing range starts.at whole
 
-  pub release_inside : is_some (region_around (regions_of o) range) ≡ true
+  pub release_inside : is_some (region_around (process_regions o) range) ≡ true
   release_inside =
       ap (λ rs. is_some (region_around rs range)) h.same
       ∙ is_around t pid.0 h.process begun.0.place begun.0.thing range h.lives h.kept.sound starts.at whole (some_pages t pid.0 h.process begun.0.place begun.0.thing range h.lives h.kept.sound starts.at begun.1.1)
@@ -183,24 +183,24 @@ module _ {i : the_inside.Inside} {t : Tables} {o : Option Process} (pid : Pid) (
   pub release_bound : AllBound s pid range true
   release_bound = bound_in t pid h.process c s h.lives h.kept.sound fits begun.0.place begun.0.thing range starts.at whole
 
-  pub release_can : s.kind ≡ line_kind.Unbind pid → CanRemove pid range (regions_of o) c s
+  pub release_can : s.kind ≡ line_kind.Unbind pid → CanRemove pid range (process_regions o) c s
   release_can unbinding =
       subst (λ rs. CanRemove pid range rs c s) (sym h.same) (can_remove t pid h.process c s h.lives h.kept.sound fits begun.0.place begun.0.thing range starts.at whole starts.private unbinding)
 
-  pub release_freed : {n : ℕ} {new : Option Process} {d : Key → Option Page} {z : StoreOf} → n ≡ owned_in (regions_of o) range
-      → ((r : Found (RegionOf (Unit {0}))) → private_at (regions_of o) addr ≡ Some r → Became o new (remove (regions_of o) r.place))
-      → Stored pid range Ends Ends true c d s z → z.paging_keys ≡ s.paging_keys - passing (is_live pid c) range.first range.count → z.room ≡ s.room → Freed i t pid h.process o new without_it n c d s z
+  pub release_freed : {n : ℕ} {new : Option Process} {d : Key → Option Page} {z : StoreOf} → n ≡ owned_in (process_regions o) range
+      → ((r : Found (RegionOf (Unit {0}))) → private_at (process_regions o) addr ≡ Some r → RegionsBecame o new (remove (process_regions o) r.place))
+      → RangeStored pid range Ends Ends true c d s z → z.paging_keys ≡ s.paging_keys - passing (is_page_live pid c) range.first range.count → z.room ≡ s.room → Freed i t pid h.process o new without_it n c d s z
   release_freed {n} {new} {d} {z} owned changed stored counted room =
       let some = owned ∙ ap (λ rs. owned_in rs range) h.same ∙ whole_owned t pid.0 h.process begun.0.place begun.0.thing range h.lives h.kept.sound starts.at begun.1.1 in
       let few = release_charge t pid.0 h.process begun.0.place begun.0.thing h.lives h.kept.sound starts.at in
       record {
         total = charge t - own_rows begun.0.thing;
         done = release_done t pid h.process range c d s z h.lives h.kept.sound fits begun.0.place begun.0.thing starts.at begun.1.1 starts.private stored counted room;
-        became = subst (λ rs. Became o new (remove rs begun.0.place)) h.same (changed begun.0 (ap (λ rs. private_at rs addr) h.same ∙ begun.1.0));
+        became = subst (λ rs. RegionsBecame o new (remove rs begun.0.place)) h.same (changed begun.0 (ap (λ rs. private_at rs addr) h.same ∙ begun.1.0));
         counted = omega (arith, some, few, private_charge begun.0.thing starts.private);
       }
 
-  pub release_among : {n : ℕ} {new : Option Process} {d : Key → Option Page} {z : StoreOf} → Freed i t pid h.process o new without_it n c d s z → Stored pid range Ends Ends true c d s z → AreAmong (leaving t pid.0 (is_uncommitted (shown_with i (set i.processes.items (pid.0 - 1) new)))) 1 (page_rank end_of_user_pages) pid range
+  pub release_among : {n : ℕ} {new : Option Process} {d : Key → Option Page} {z : StoreOf} → Freed i t pid h.process o new without_it n c d s z → RangeStored pid range Ends Ends true c d s z → AreAmong (leaving t pid.0 (is_uncommitted (shown_with i (set i.processes.items (pid.0 - 1) new)))) 1 (page_rank end_of_user_pages) pid range
   release_among {n} {new} {d} {z} f stored =
       subst (λ (w : Tables). AreAmong (leaving t pid.0 (is_uncommitted w)) 1 (page_rank end_of_user_pages) pid range) (sym (freed_is pid h f))
       (among_unbound t (set_regions t pid.0 h.process without_it) d z pid range f.done.settled.fits (stored_unbound pid range Ends true c d s z release_end stored))

@@ -35,11 +35,11 @@ use Rattle.mm_commit.specs.Charge.{CommitOf}
 use Rattle.mm_sections.specs.Directories.{CountedSection, DirectoryOf, sections_of, one_view_more}
 use Rattle.mm_spaces.specs.declared.spaces.RegionInfo.{RegionInfo}
 use Rattle.mm_spaces.specs.Tables.{found_info}
-use Rattle.mm_tables.specs.Effects.{Makes, Leaves, Stored, Moves}
-use Rattle.mm_tables.specs.Fits.{Fits, Settled, beside, paging_count, new_pages}
+use Rattle.mm_tables.specs.Effects.{Makes, Leaves, RangeStored, Moves}
+use Rattle.mm_tables.specs.Fits.{FitsTables, Settled, store_beside, paging_count, new_pages}
 use Rattle.mm_tables.specs.References.{handles_in, views_in, views_of, handles_to}
 use Rattle.mm_tables.specs.Shown.{shown_processes}
-use Rattle.mm_tables.specs.Sound.{IsKept}
+use Rattle.mm_tables.specs.Sound.{AreKeptTables}
 use Rattle.mm_tables.specs.ViewChanges.{region_of_view, NewPlaces, living}
 use Rattle.mm_tables.specs.declared.tables.Tables.TheInside.{Inside}
 use Rattle.mm_tables.proofs.Lists.{same_number, same_some, any_insert, count-replicate, found-insert, if_some}
@@ -177,14 +177,14 @@ module _ (t : Tables) (pid : Pid) (p : ProcessOf (Unit {0})) (range : Range) (v 
   -- ---- the store fits
 
   -- no page of it is bound
-  pub unbound : (c : Key → Option Page) (s : StoreOf) → WellFormed t → Fits t c s → s.kind ≡ line_kind.Call → AllBound s pid range false
+  pub unbound : (c : Key → Option Page) (s : StoreOf) → WellFormed t → FitsTables t c s → s.kind ≡ line_kind.Call → AllBound s pid range false
   unbound c s h f called =
       let none : new_pages reserve_type range ≡ 0 = refl in
       (can_make t pid p c s lives h f range reserve_type (charge t) free (omega (arith, none)) (omega (arith, h.charged, ap limit_of f.machine)) called).unbound
 
-  settled_now : (c d : Key → Option Page) (s z : StoreOf) → Fits t c s → d ≡ c → NewPlaces pid range s z → charge t + marked_of range v ≤ z.room → Settled (with_view t pid.0 p range v) c d s z
+  settled_now : (c d : Key → Option Page) (s z : StoreOf) → FitsTables t c s → d ≡ c → NewPlaces pid range s z → charge t + marked_of range v ≤ z.room → Settled (with_view t pid.0 p range v) c d s z
   settled_now c d s z f contents m room =
-      let stored : Stored pid range Leaves Makes true c d s z =
+      let stored : RangeStored pid range Leaves Makes true c d s z =
       record {
         contents = contents;
         paging = ap (λ (x : StoreOf). x.paging) m.store;
@@ -192,7 +192,7 @@ module _ (t : Tables) (pid : Pid) (p : ProcessOf (Unit {0})) (range : Range) (v 
         names = ap (λ (x : StoreOf). x.names) m.store;
         open_same = ap (λ (x : StoreOf). x.is_open) m.store;
         areas_same = ap (λ (x : StoreOf). x.areas) m.store;
-        same = m.store ∙ ap (beside s) (sym m.store);
+        same = m.store ∙ ap (store_beside s) (sym m.store);
       } in
       settled_by t pid p range Leaves Makes true (add_region (region_of_view v range) p.regions) c d s z lives f stored added_moves
       (ap (λ (x : StoreOf). x.paging_keys) m.store ∙ f.counted ∙ sym paging_now) (omega (arith, charge_now, room))
@@ -215,10 +215,10 @@ module _ {i : Inside} {t : Tables} {pid : Pid} {range : Range} {v : View} {d : D
       (λ j. record (as_kept i) { processes = is j; sections = sections j; files = ap (λ (d : DirectoryOf). d.files) a.counted j })
       ∙ ap (λ (t : Tables). with_view t pid.0 p range v) a.view
 
-  pub view_kept : (n : ℕ) (new : CommitOf) → range.first % 16 ≡ 0 → 1 ≤ range.count → ViewFits t v range.count → charge t + marked_of range v ≤ limit t → n ≡ marked_of range v → new ≡ record (i.commit) { charge = i.commit.charge + n } → IsKept t i.directory.entries i.commit → IsKept (now i ps d.entries i.areas.items d.files i.blocks_used) d.entries new
+  pub view_kept : (n : ℕ) (new : CommitOf) → range.first % 16 ≡ 0 → 1 ≤ range.count → ViewFits t v range.count → charge t + marked_of range v ≤ limit t → n ≡ marked_of range v → new ≡ record (i.commit) { charge = i.commit.charge + n } → AreKeptTables t i.directory.entries i.commit → AreKeptTables (now i ps d.entries i.areas.items d.files i.blocks_used) d.entries new
   view_kept n new granule some fit room charged taken h =
       let free = a.free p lives in
-      subst (λ (u : Tables). IsKept u d.entries new) (sym view_now) (record {
+      subst (λ (u : Tables). AreKeptTables u d.entries new) (sym view_now) (record {
         sound = sound_now t pid p range v lives free granule some fit room h.sound;
         tidy = put_tidy t pid.0 p (record p { regions = add_region (region_of_view v range) p.regions }) lives (λ n k. k)
             (λ n. any_insert (λ (r : RegionOf (Unit {0})). is_view_of n r.kind) p.regions (place_in p.regions range) (region_of_view v range)) h.tidy;
@@ -232,10 +232,10 @@ module _ {i : Inside} {t : Tables} {pid : Pid} {range : Range} {v : View} {d : D
       let same : s.thing ≡ fit.section = same_found (section_of t s.place) s.thing fit.section at (ap (λ (n : ℕ). section_of t n) place ∙ fit.lives) in
       view_now ∙ ap (λ (r : RegionOf (Unit {0})). set_regions t pid.0 p (add_region r p.regions)) (sym (made_view s v range place (ap (λ (s : SectionOf). s.area) same ∙ fit.same_area)))
 
-  pub view_settled : (c e : Key → Option Page) (s z : StoreOf) → Fits t c s → e ≡ c → NewPlaces pid range s z → charge t + marked_of range v ≤ z.room → Settled (now i ps d.entries i.areas.items d.files i.blocks_used) c e s z
+  pub view_settled : (c e : Key → Option Page) (s z : StoreOf) → FitsTables t c s → e ≡ c → NewPlaces pid range s z → charge t + marked_of range v ≤ z.room → Settled (now i ps d.entries i.areas.items d.files i.blocks_used) c e s z
   view_settled c e s z f contents m room = settled_as view_now (settled_now t pid p range v lives (a.free p lives) c e s z f contents m room)
 
-pub few_views : (t : Tables) (entries : Numbered CountedSection) (commit : CommitOf) (n : ℕ) → IsKept t entries commit → IfSome (numbered entries n) (λ c. c.views < 2 ^ 60)
+pub few_views : (t : Tables) (entries : Numbered CountedSection) (commit : CommitOf) (n : ℕ) → AreKeptTables t entries commit → IfSome (numbered entries n) (λ c. c.views < 2 ^ 60)
 few_views t entries commit n h = if_some (numbered entries n) (λ c. c.views < 2 ^ 60) (λ c e. omega (arith, (h.counted n c e).views, views_bound t n h.sound))
 
 pub process_is : (o : Option (ProcessOf (Unit {0}))) (p q : ProcessOf (Unit {0})) → o ≡ Some p → o ≡ Some q → p ≡ q

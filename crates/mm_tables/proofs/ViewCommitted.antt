@@ -34,12 +34,12 @@ use Rattle.mm_commit.specs.Charge.{CommitOf}
 use Rattle.mm_sections.specs.Directories.{CountedSection}
 use Rattle.mm_sections.specs.Pages.{uncommitted_in}
 use Rattle.mm_spaces.specs.Tables.{unmarked_in}
-use Rattle.mm_tables.specs.Fits.{Fits, Settled, Carried, beside, marks_in, new_marks}
+use Rattle.mm_tables.specs.Fits.{FitsTables, Settled, Carried, store_beside, newly_marked, new_marks}
 use Rattle.mm_tables.specs.References.{views_in, views_of}
 use Rattle.mm_tables.specs.Shown.{shown_processes}
-use Rattle.mm_tables.specs.Sound.{IsKept}
+use Rattle.mm_tables.specs.Sound.{AreKeptTables}
 use Rattle.mm_tables.specs.Effects.{Roomier, Leaves}
-use Rattle.mm_tables.specs.ViewChanges.{area_in, is_shared_in, shared_added, living, CanShare, Shares}
+use Rattle.mm_tables.specs.ViewChanges.{listed_area, is_shared_in, shared_added, living, CanShare, Shares}
 use Rattle.mm_tables.specs.declared.tables.Tables.TheInside.{Inside}
 use Rattle.mm_tables.proofs.Carried.{at_added}
 use Rattle.mm_tables.proofs.EndingFits.{beside_then}
@@ -81,8 +81,8 @@ not_copying n e = not_true (n == 8) (λ same.
 -- a protection of private pages marks none
 no_marks : (rs : List (RegionOf (Unit {0}))) (range : Range) (r : Found (RegionOf (Unit {0}))) (v : View) (prot : ℕ) → region_around rs range ≡ Some r → r.thing.kind ≡ kind.View v → is_protection_among private_protections prot ≡ true → new_marks rs range prot ≡ 0
 no_marks rs range r v prot found is e =
-    ap (λ o. unwrap_or (option_map (λ (r : Found (RegionOf (Unit {0}))). marks_in r.thing.kind rs range prot) o) 0) found
-    ∙ ap (λ (k : Kind). marks_in k rs range prot) is ∙ ap (λ b. cond b (unmarked_in rs range) 0) (not_copying (base_of prot) (allowed prot e))
+    ap (λ o. unwrap_or (option_map (λ (r : Found (RegionOf (Unit {0}))). newly_marked r.thing.kind rs range prot) o) 0) found
+    ∙ ap (λ (k : Kind). newly_marked k rs range prot) is ∙ ap (λ b. cond b (unmarked_in rs range) 0) (not_copying (base_of prot) (allowed prot e))
 
 -- ---- the pages of an area that are committed
 
@@ -157,7 +157,7 @@ module _ (t : Tables) (area : Area) (first count : ℕ) (none : (area_at t area.
       let a = area_at t area.0 in
       omega (arith, charge_area t area.0 (commit_shared blank first count a) (alike_now a first count) there, area_charge_now a first count none inner)
 
-  pages_kept : (entries : Numbered CountedSection) (old new : CommitOf) → new.charge ≡ charge t + uncommitted_in (area_at t area.0) first count → new.limit ≡ limit t → charge t + uncommitted_in (area_at t area.0) first count ≤ limit t → IsKept t entries old → IsKept (with_pages t area.0 first count) entries new
+  pages_kept : (entries : Numbered CountedSection) (old new : CommitOf) → new.charge ≡ charge t + uncommitted_in (area_at t area.0) first count → new.limit ≡ limit t → charge t + uncommitted_in (area_at t area.0) first count ≤ limit t → AreKeptTables t entries old → AreKeptTables (with_pages t area.0 first count) entries new
   pages_kept entries old new charged limited room h =
       let a = area_at t area.0 in
       record {
@@ -176,7 +176,7 @@ module _ (t : Tables) (area : Area) (first count : ℕ) (none : (area_at t area.
   not_here (key.Private pid page) h = refl
   not_here (key.Shared k i) h = ap (λ b. b && is_between first count i) (differ k.0 area.0 h)
 
-  pages_fit : (c d : Key → Option Page) (s z : StoreOf) → Fits t c s → 1 ≤ count → Shares area first count (area_at t area.0) c d s z → charge t + uncommitted_in (area_at t area.0) first count ≤ z.room → Fits (with_pages t area.0 first count) d z
+  pages_fit : (c d : Key → Option Page) (s z : StoreOf) → FitsTables t c s → 1 ≤ count → Shares area first count (area_at t area.0) c d s z → charge t + uncommitted_in (area_at t area.0) first count ≤ z.room → FitsTables (with_pages t area.0 first count) d z
   pages_fit c d s z f some m room =
       let a = area_at t area.0 in
       let b = commit_shared blank first count a in
@@ -222,7 +222,7 @@ module _ (t : Tables) (area : Area) (first count : ℕ) (none : (area_at t area.
       either false = refl
 
   -- they can be committed where there is room for all keys
-  pages_can : (c : Key → Option Page) (s : StoreOf) → WellFormed t → Fits t c s → 1 ≤ count → charge t + uncommitted_in (area_at t area.0) first count ≤ s.room → s.kind ≡ line_kind.Call → CanShare area first count (area_at t area.0) c s
+  pages_can : (c : Key → Option Page) (s : StoreOf) → WellFormed t → FitsTables t c s → 1 ≤ count → charge t + uncommitted_in (area_at t area.0) first count ≤ s.room → s.kind ≡ line_kind.Call → CanShare area first count (area_at t area.0) c s
   pages_can c s h f some room called =
       record {
         inside = inner;
@@ -234,7 +234,7 @@ module _ (t : Tables) (area : Area) (first count : ℕ) (none : (area_at t area.
         called = called;
       }
 
-pub roomier_fits : (t : Tables) (c d : Key → Option Page) (s z : StoreOf) → Fits t c s → d ≡ c → z ≡ record s { room = z.room } → s.room ≤ z.room → Fits t d z
+pub roomier_fits : (t : Tables) (c d : Key → Option Page) (s z : StoreOf) → FitsTables t c s → d ≡ c → z ≡ record s { room = z.room } → s.room ≤ z.room → FitsTables t d z
 roomier_fits t c d s z f contents store later = let more : Roomier c d s z = record { contents = contents; store = store; later = later } in (roomier_settled f refl more).fits
 
 -- ---- the rows of a view have a protection before its pages come to be
@@ -277,7 +277,7 @@ module _ (t : Tables) (pid : Pid) (p : ProcessOf (Unit {0})) (r : Found (RegionO
           no_marks p.regions range r v prot x.found x.is_view private,
         )
 
-    region_kept : (entries : Numbered CountedSection) (commit : CommitOf) → every_page (accepts r.thing prot) range ≡ true → IsKept t entries commit → IsKept (with_region t pid.0 p r prot range) entries commit
+    region_kept : (entries : Numbered CountedSection) (commit : CommitOf) → every_page (accepts r.thing prot) range ≡ true → AreKeptTables t entries commit → AreKeptTables (with_region t pid.0 p r prot range) entries commit
     region_kept entries commit takes k =
         let ss = set p.regions r.place (change_rows (protected r.thing.kind prot) range r.thing) in
         let stand : StandIn t p.regions ss =
@@ -285,7 +285,7 @@ module _ (t : Tables) (pid : Pid) (p : ProcessOf (Unit {0})) (r : Found (RegionO
         (λ fits. view_rows_protected r.thing v prot range x.is_view fits inside_view.low takes) in
         kept_after t pid.0 p ss x.lives stand entries commit commit k (k.charged ∙ sym charge_region) k.limited (omega (arith, charge_region, h.charged))
 
-    region_fits : (c : Key → Option Page) (s : StoreOf) → Fits t c s → Fits (with_region t pid.0 p r prot range) c s
+    region_fits : (c : Key → Option Page) (s : StoreOf) → FitsTables t c s → FitsTables (with_region t pid.0 p r prot range) c s
     region_fits c s f =
         (settled_by t pid p range Leaves Leaves false (set p.regions r.place (change_rows (protected r.thing.kind prot) range r.thing)) c c s s x.lives f
         (record { contents = refl; paging = refl; bound = refl; names = refl; open_same = refl; areas_same = refl; same = refl })
@@ -297,8 +297,8 @@ module _ (t : Tables) (pid : Pid) (p : ProcessOf (Unit {0})) (r : Found (RegionO
 -- pages of a view, `offset` pages behind its first, are to be committed
 pub record CommitsView (i : Inside) (t : Tables) (pid : Pid) (range : Range) (prot n : ℕ) (v : View) (offset count : ℕ) (c : Key → Option Page) (s : StoreOf) : Type 0 where
   pub view : as_kept i ≡ t
-  pub kept : IsKept (as_kept i) i.directory.entries i.commit
-  pub fits : Fits t c s
+  pub kept : AreKeptTables (as_kept i) i.directory.entries i.commit
+  pub fits : FitsTables t c s
   pub lives : is_some (process_of t pid.0) ≡ true
   pub inside : (p : ProcessOf (Unit {0})) → process_of t pid.0 ≡ Some p → is_some (region_around p.regions range) ≡ true
   pub paging : (p : ProcessOf (Unit {0})) (r : Found (RegionOf (Unit {0}))) (w : View) → process_of t pid.0 ≡ Some p → region_around p.regions range ≡ Some r → r.thing.kind ≡ kind.View w → (area_at t w.area.0).file_block ≡ None
@@ -313,12 +313,12 @@ pub record CommitsView (i : Inside) (t : Tables) (pid : Pid) (range : Range) (pr
 -- what becomes of the processes and the areas
 pub record Committed (i : Inside) (pid : Pid) (range : Range) (prot : ℕ) (v : View) (offset count : ℕ) (ps : List (Option (ProcessOf (Unit {0})))) (areas : List (AreaOf (Unit {0}))) : Type 0 where
   pub processes : (p : ProcessOf (Unit {0})) (r : Found (RegionOf (Unit {0}))) → living i.processes.items pid.0 ≡ Some p → region_around p.regions range ≡ Some r → ps ≡ set (shown_processes i.processes.items) pid.0 (Some (record p { regions = set p.regions r.place (change_rows (protected r.thing.kind prot) range r.thing) }))
-  pub areas_are : areas ≡ set i.areas.items v.area.0 (commit_shared blank (v.first + offset) count (area_in i.areas.items v.area.0))
+  pub areas_are : areas ≡ set i.areas.items v.area.0 (commit_shared blank (v.first + offset) count (listed_area i.areas.items v.area.0))
 
 -- the process, its region, that it is a view, and how many pages are not committed
 abbrev Viewed : Inside → Pid → View → Range → ℕ → ℕ → ℕ → Type 0
 Viewed i pid v range n first count =
-    (p : ProcessOf (Unit {0})) × (r : Found (RegionOf (Unit {0}))) × IsViewed (as_kept i) pid.0 p r v range first count × (n ≡ uncommitted_in (area_in i.areas.items v.area.0) first count)
+    (p : ProcessOf (Unit {0})) × (r : Found (RegionOf (Unit {0}))) × IsViewed (as_kept i) pid.0 p r v range first count × (n ≡ uncommitted_in (listed_area i.areas.items v.area.0) first count)
 
 module _ {i : Inside} {t : Tables} {pid : Pid} {range : Range} {prot n : ℕ} {v : View} {offset count : ℕ} {c : Key → Option Page} {s : StoreOf} (a : CommitsView i t pid range prot n v offset count c s) where
   -- the same of the tables by what they are made of
@@ -334,16 +334,16 @@ module _ {i : Inside} {t : Tables} {pid : Pid} {range : Range} {prot n : ℕ} {v
         p.0,
         r.0,
         record { lives = p.1; found = r.1; is_view = told.0; paging = home.paging p.0 r.0 v p.1 r.1 told.0; first_is = first; count_is = a.count_is },
-        home.counted p.0 r.0 v p.1 r.1 told.0 ∙ (λ j. uncommitted_in (area_in i.areas.items v.area.0) (sym first j) (sym a.count_is j)),
+        home.counted p.0 r.0 v p.1 r.1 told.0 ∙ (λ j. uncommitted_in (listed_area i.areas.items v.area.0) (sym first j) (sym a.count_is j)),
       )
 
-  inner_here : v.first + offset + count ≤ length (area_in i.areas.items v.area.0).pages
+  inner_here : v.first + offset + count ≤ length (listed_area i.areas.items v.area.0).pages
   inner_here = within_area (as_kept i) pid viewed.0 viewed.1 v range (v.first + offset) count viewed.2 a.kept.sound
 
   there : v.area.0 < length i.areas.items
   there = area_there (as_kept i) pid viewed.0 viewed.1 v range (v.first + offset) count viewed.2 a.kept.sound
 
-  pub can_share : (d : Key → Option Page) (z : StoreOf) → d ≡ c → z ≡ record s { room = z.room } → s.room ≤ z.room → i.commit.charge + n ≤ z.room → s.kind ≡ line_kind.Call → CanShare v.area (v.first + offset) count (area_in i.areas.items v.area.0) d z
+  pub can_share : (d : Key → Option Page) (z : StoreOf) → d ≡ c → z ≡ record s { room = z.room } → s.room ≤ z.room → i.commit.charge + n ≤ z.room → s.kind ≡ line_kind.Call → CanShare v.area (v.first + offset) count (listed_area i.areas.items v.area.0) d z
   can_share d z contents store later room called =
       pages_can (as_kept i) v.area (v.first + offset) count viewed.2.paging inner_here there d z a.kept.sound
       (roomier_fits (as_kept i) c d s z home.fits contents store later) a.some (omega (arith, room, viewed.3, a.kept.charged)) (ap (λ (x : StoreOf). x.kind) store ∙ called)
@@ -355,20 +355,20 @@ module _ {i : Inside} {t : Tables} {pid : Pid} {range : Range} {prot n : ℕ} {v
     same_charge : charge (with_region (as_kept i) pid.0 viewed.0 viewed.1 prot range) ≡ charge (as_kept i)
     same_charge = charge_region (as_kept i) pid viewed.0 viewed.1 v range (v.first + offset) count viewed.2 a.kept.sound prot a.private
 
-    pub view_kept : (new : CommitOf) → new ≡ record (i.commit) { charge = i.commit.charge + n } → IsKept (now i ps i.directory.entries areas i.directory.files i.blocks_used) i.directory.entries new
+    pub view_kept : (new : CommitOf) → new ≡ record (i.commit) { charge = i.commit.charge + n } → AreKeptTables (now i ps i.directory.entries areas i.directory.files i.blocks_used) i.directory.entries new
     view_kept new taken =
-        subst (λ (u : Tables). IsKept u i.directory.entries new) (sym after_is)
+        subst (λ (u : Tables). AreKeptTables u i.directory.entries new) (sym after_is)
         (pages_kept (with_region (as_kept i) pid.0 viewed.0 viewed.1 prot range) v.area (v.first + offset) count viewed.2.paging inner_here there i.directory.entries i.commit new
         (omega (arith, ap (λ (k : CommitOf). k.charge) taken, a.kept.charged, same_charge, viewed.3)) (ap (λ (k : CommitOf). k.limit) taken ∙ a.kept.limited) (omega (arith, home.room, same_charge, viewed.3))
         (region_kept (as_kept i) pid viewed.0 viewed.1 v range (v.first + offset) count viewed.2 a.kept.sound prot a.private i.directory.entries i.commit
         (home.accepted viewed.0 viewed.1 viewed.2.lives viewed.2.found) a.kept))
 
-    pub view_settled : (e d : Key → Option Page) (y z : StoreOf) → e ≡ c → y ≡ record s { room = y.room } → s.room ≤ y.room → i.commit.charge + n ≤ y.room → Shares v.area (v.first + offset) count (area_in i.areas.items v.area.0) e d y z → Settled (now i ps i.directory.entries areas i.directory.files i.blocks_used) c d s z
+    pub view_settled : (e d : Key → Option Page) (y z : StoreOf) → e ≡ c → y ≡ record s { room = y.room } → s.room ≤ y.room → i.commit.charge + n ≤ y.room → Shares v.area (v.first + offset) count (listed_area i.areas.items v.area.0) e d y z → Settled (now i ps i.directory.entries areas i.directory.files i.blocks_used) c d s z
     view_settled e d y z contents store later room m =
         let before = region_fits (as_kept i) pid viewed.0 viewed.1 v range (v.first + offset) count viewed.2 a.kept.sound prot a.private e y
         (roomier_fits (as_kept i) c e s y home.fits contents store later) in
         record {
-          fits = subst (λ (u : Tables). Fits u d z) (sym after_is)
+          fits = subst (λ (u : Tables). FitsTables u d z) (sym after_is)
               (pages_fit (with_region (as_kept i) pid.0 viewed.0 viewed.1 prot range) v.area (v.first + offset) count viewed.2.paging inner_here there e d y z before a.some m
               (omega (arith, room, a.kept.charged, same_charge, viewed.3, ap (λ (x : StoreOf). x.room) m.store)));
           carries = record {
@@ -378,5 +378,5 @@ module _ {i : Inside} {t : Tables} {pid : Pid} {range : Range} {prot n : ℕ} {v
                 ap (λ (d : Key → Option Page). d k) m.contents ∙ ap (λ (e : Key → Option Page). shared_added v.area first count e k) contents in
                 subst (λ (o : Option Page). Carried (c k) o) (sym made) (at_added (is_shared_in v.area first count k) (c k));
           };
-          rest = beside_then s y z (store ∙ ap (beside s) (sym store)) (m.store ∙ ap (beside y) (sym m.store));
+          rest = beside_then s y z (store ∙ ap (store_beside s) (sym store)) (m.store ∙ ap (store_beside y) (sym m.store));
         }

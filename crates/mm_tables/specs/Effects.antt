@@ -13,9 +13,9 @@ use Rattle.mm_world.specs.Find.{region_with}
 use Rattle.mm_world.specs.Keys.{own_page, key_of, committed_at}
 use Rattle.mm_world.specs.Contents.{Tables}
 use Rattle.mm_pages.specs.Store.{StoreOf, changed_in, own_key}
-use Rattle.mm_tables.specs.Fits.{beside, new_pages}
+use Rattle.mm_tables.specs.Fits.{store_beside, new_pages}
 use Rattle.mm_pages.specs.Conditions.{AllBound, place_at}
-use Rattle.mm_tables.specs.Ranges.{added, removed, set_in, is_live}
+use Rattle.mm_tables.specs.Ranges.{with_range_keys, removed, flags_set_in, is_page_live}
 
 -- each of the range comes to be, none of it is any more, or all are as they were
 pub data Effect : Type 0 where
@@ -29,13 +29,13 @@ after Ends held before = cond held false before
 after Leaves held before = before
 
 abbrev pub contents_by : Effect → Pid → Range → (Key → Option Page) → Key → Option Page
-contents_by Makes pid range c = added pid range c
+contents_by Makes pid range c = with_range_keys pid range c
 contents_by Ends pid range c = removed pid range c
 contents_by Leaves pid range c = c
 
 abbrev pub paging_by : Effect → Pid → Range → (Key → Bool) → Key → Bool
-paging_by Makes pid range f = set_in pid range f true
-paging_by Ends pid range f = set_in pid range f false
+paging_by Makes pid range f = flags_set_in pid range f true
+paging_by Ends pid range f = flags_set_in pid range f false
 paging_by Leaves pid range f = f
 
 abbrev pub bound_by : Effect → Pid → Range → (Place → Bool) → Place → Bool
@@ -49,7 +49,7 @@ names_by true pid range names = changed_in pid range names None
 names_by false pid range names = names
 
 -- a store after a call on a range
-pub record Stored (pid : Pid) (range : Range) (keys places : Effect) (clears : Bool)
+pub record RangeStored (pid : Pid) (range : Range) (keys places : Effect) (clears : Bool)
     (c d : Key → Option Page) (s z : StoreOf) : Type 0 where
   pub contents : d ≡ contents_by keys pid range c
   pub paging : z.paging ≡ paging_by keys pid range s.paging
@@ -57,7 +57,7 @@ pub record Stored (pid : Pid) (range : Range) (keys places : Effect) (clears : B
   pub names : z.names ≡ names_by clears pid range s.names
   pub open_same : z.is_open ≡ s.is_open
   pub areas_same : z.areas ≡ s.areas
-  pub same : z ≡ beside s z
+  pub same : z ≡ store_beside s z
 
 -- the key of the committed row of a page
 abbrev pub key_in : Tables → ℕ → List (RegionOf (Unit {0})) → ℕ → Option Key
@@ -88,12 +88,12 @@ keys_of type = if type == reserve_type then Leaves else Makes
 pub record CanMake (pid : Pid) (range : Range) (type total : ℕ)
     (regions : List (RegionOf (Unit {0}))) (c : Key → Option Page) (s : StoreOf) : Type 0 where
   pub live : (page : ℕ) → holds_page range page ≡ true →
-      is_live pid c page ≡ is_some (own_page regions page)
+      is_page_live pid c page ≡ is_some (own_page regions page)
   pub dead : (page : ℕ) → holds_page range page ≡ true → is_some (own_page regions page) ≡ false
   pub opened : s.is_open pid.0 ≡ true
   pub unbound : AllBound s pid range false
   pub paging : (page : ℕ) → holds_page range page ≡ true →
-      s.paging (own_key (place_at pid page)) ≡ is_live pid c page
+      s.paging (own_key (place_at pid page)) ≡ is_page_live pid c page
   pub few : s.paging_keys + new_pages type range ≤ total
   pub within : total ≤ limit_of s.machine
   pub called : s.kind ≡ kind.Call

@@ -7,7 +7,7 @@ use Rattle.mm_types.specs.declared.numbers.Key.{Key}
 use Rattle.mm_types.specs.declared.numbers.Key.TheVariants as key
 use Rattle.mm_types.specs.declared.numbers.Pid.{Pid}
 use Rattle.mm_types.specs.declared.numbers.Place.{Place}
-use Rattle.mm_types.specs.Address.{Range, holds_page, end_of, end_of_user_pages}
+use Rattle.mm_types.specs.Address.{Range, end_of, end_of_user_pages}
 use Rattle.mm_world.specs.World.{Page, AreaOf, RegionOf, ProcessOf, SectionOf, numbered}
 use Rattle.mm_world.specs.Find.{no_area, area_at, process_of, section_of, set_process}
 use Rattle.mm_world.specs.Keys.{own_page}
@@ -18,14 +18,15 @@ use Rattle.mm_pages.specs.Store.{StoreOf, changed, changed_in, own_key, is_place
 use Rattle.mm_pages.specs.Reports.{rearranged}
 use Rattle.mm_pages.specs.Leaving.{section_rank}
 use Rattle.mm_pages.specs.Conditions.{AllBound, MayRemove, IsReleasing, place_at}
-use Rattle.mm_tables.specs.Fits.{Fits, beside}
+use Rattle.mm_tables.specs.Fits.{FitsTables, store_beside}
+use Rattle.mm_tables.specs.Ranges.{is_key_in}
 
 -- ---- keys
 
 -- one of those among the first `n` of these keys that are owned
-abbrev pub among : (ℕ → Key) → (ℕ → Bool) → ℕ → Key → Bool
-among at owned zero k = false
-among at owned (suc n) k = (owned n && same_key k (at n)) || among at owned n k
+abbrev pub is_owned_among : (ℕ → Key) → (ℕ → Bool) → ℕ → Key → Bool
+is_owned_among at owned zero k = false
+is_owned_among at owned (suc n) k = (owned n && same_key k (at n)) || is_owned_among at owned n k
 
 -- how many of them there are
 abbrev pub owned_among : (ℕ → Bool) → ℕ → ℕ
@@ -93,17 +94,12 @@ pub record Lost (held : Key → Bool) (left : Place → Bool) (n : ℕ) (c d : K
   pub count : z.paging_keys ≡ s.paging_keys - n
   pub open_same : z.is_open ≡ s.is_open
   pub room : z.room ≡ s.room
-  pub rest : z ≡ beside s z
-
--- a private key of one of the pages of a process
-abbrev pub is_key_in : Pid → Range → Key → Bool
-is_key_in pid range (key.Private p v) = (p.0 == pid.0) && holds_page range v.0
-is_key_in pid range (key.Shared area index) = false
+  pub rest : z ≡ store_beside s z
 
 -- a key of a page of the area
-abbrev pub is_shared_in : ℕ → Key → Bool
-is_shared_in area (key.Private pid page) = false
-is_shared_in area (key.Shared a i) = a.0 == area
+abbrev pub is_key_of_area : ℕ → Key → Bool
+is_key_of_area area (key.Private pid page) = false
+is_key_of_area area (key.Shared a i) = a.0 == area
 
 abbrev pub nowhere : Place → Bool
 nowhere place = false
@@ -169,14 +165,21 @@ pub record CanEnd (area : Area) (a : AreaOf (Unit {0})) (c : Key → Option Page
 -- a store after an area ended that is no file's
 pub record Emptied (area : Area) (a : AreaOf (Unit {0})) (c d : Key → Option Page) (s z : StoreOf) :
     Type 0 where
-  pub lost : Lost (is_shared_in area.0) nowhere (count_by is_some a.pages) c d s z
+  pub lost : Lost (is_key_of_area area.0) nowhere (count_by is_some a.pages) c d s z
   pub areas : z.areas ≡ changed ◌==◌ s.areas area.0 None
+
+-- what the end of an area is to the store: nothing where it is a file's
+pub record EndsArea (area : Area) (a : AreaOf (Unit {0})) (c d : Key → Option Page)
+    (s z : StoreOf) : Type 0 where
+  pub file : (first : ℕ) → a.file_block ≡ Some first → (d ≡ c) × (z ≡ s)
+  pub bound : (place : Place) → z.bound place ≡ s.bound place
+  pub emptied : a.file_block ≡ None → Emptied area a c d s z
 
 -- ---- the order in which areas end
 
 -- the pages of page-file sections that a process can give up go where they have these ranks
-abbrev pub IsFor : (ℕ → ℕ) → ℕ → Tables → Type 0
-IsFor rank pid t = (n : ℕ) (s : SectionOf) → section_of t n ≡ Some s
+abbrev pub IsRankFor : (ℕ → ℕ) → ℕ → Tables → Type 0
+IsRankFor rank pid t = (n : ℕ) (s : SectionOf) → section_of t n ≡ Some s
     → (area_at t s.area).file_block ≡ None → 1 ≤ section_rank n (process_of t pid)
     → rank s.area ≡ section_rank n (process_of t pid)
 
@@ -185,10 +188,10 @@ IsFor rank pid t = (n : ℕ) (s : SectionOf) → section_of t n ≡ Some s
 -- one step towards the end of a process: what stays when it has ended is the same
 pub record Toward (pid : ℕ) (t u : Tables) (c d : Key → Option Page) (s z : StoreOf) : Type 0 where
   pub same : settle (set_process u pid None) ≡ settle (set_process t pid None)
-  pub fits : Fits u d z
+  pub fits : FitsTables u d z
   pub less : Less c d
-  pub rest : z ≡ beside s z
-  pub ranks : (rank : ℕ → ℕ) → IsFor rank pid t → IsFor rank pid u
+  pub rest : z ≡ store_beside s z
+  pub ranks : (rank : ℕ → ℕ) → IsRankFor rank pid t → IsRankFor rank pid u
 
 -- no handle of the process is open
 abbrev pub HasNoHandle : ProcessOf (Unit {0}) → Type 0

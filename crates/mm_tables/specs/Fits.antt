@@ -28,8 +28,8 @@ use Rattle.mm_pages.specs.Store.{StoreOf, changed, same_place, own_key}
 use Rattle.mm_pages.specs.Reports.{rearranged, begun, called, wrote}
 
 -- the bytes of a key; of one that is not live zeros
-abbrev pub bytes_of : (Key → Option Page) → Key → Page
-bytes_of contents k = unwrap_or (contents k) (filled 0)
+abbrev pub key_bytes : (Key → Option Page) → Key → Page
+key_bytes contents k = unwrap_or (contents k) (filled 0)
 
 module _ {B : Type 0} where
   -- the place lies in a region of a living process
@@ -59,24 +59,24 @@ module _ {B : Type 0} where
   open_pages w area = let n = length (area_at w area).pages in if n == 0 then None else Some n
 
   -- of a live file key
-  abbrev pub block_in : WorldOf B → Key → Option ℕ
-  block_in w (key.Private pid page) = None
-  block_in w (key.Shared area index) =
+  abbrev pub file_block_in : WorldOf B → Key → Option ℕ
+  file_block_in w (key.Private pid page) = None
+  file_block_in w (key.Shared area index) =
       if is_some (content_of w (key.Shared area index))
       then option_map (λ first. first + index) (area_at w area.0).file_block
       else None
 
   -- how many page-file keys live: the private pages, copied ones among them, and the committed
   -- pages of page-file sections
-  abbrev pub owned_by : Option (ProcessOf B) → ℕ
-  owned_by None = 0
-  owned_by (Some p) = sum_by (λ r. count_by (λ row. is_some row.own) r.rows) p.regions
+  abbrev pub owned_keys : Option (ProcessOf B) → ℕ
+  owned_keys None = 0
+  owned_keys (Some p) = sum_by (λ r. count_by (λ row. is_some row.own) r.rows) p.regions
 
   abbrev pub paging_count : WorldOf B → ℕ
-  paging_count w = sum_by owned_by w.processes + sum_by area_charge w.areas
+  paging_count w = sum_by owned_keys w.processes + sum_by area_charge w.areas
 
 -- a store holds what the tables say
-pub record Fits (t : Tables) (contents : Key → Option Page) (s : StoreOf) : Type 0 where
+pub record FitsTables (t : Tables) (contents : Key → Option Page) (s : StoreOf) : Type 0 where
   pub machine : s.machine ≡ t.machine
   pub opened : (pid : ℕ) → s.is_open pid ≡ is_some (process_of t pid)
   pub last_pid : s.last_pid + 1 ≡ length t.processes
@@ -87,7 +87,7 @@ pub record Fits (t : Tables) (contents : Key → Option Page) (s : StoreOf) : Ty
   pub counted : s.paging_keys ≡ paging_count t
   pub room : charge t ≤ s.room
   pub named : (place : Place) (k : Key) → s.names place ≡ Some k → key_at t place ≡ Some k
-  pub blocks : (k : Key) → s.block_of k ≡ block_in t k
+  pub blocks : (k : Key) → s.block_of k ≡ file_block_in t k
   pub used : s.blocks_used ≡ t.blocks_used
   pub stored : length s.file_blocks ≡ t.machine.blocks
   pub named_paging : length s.paging_device.named ≤ t.fails_taken
@@ -97,11 +97,11 @@ pub record Fits (t : Tables) (contents : Key → Option Page) (s : StoreOf) : Ty
 pub record Called (q : OutcomeOf (Unit {0})) (t : Tables) (old : Key → Option Page) (a : Answer)
     (after : Tables) (new : Key → Option Page) : Type 0 where
   pub outcome : q ≡ record { answer = a; world = after }
-  pub bytes : BytesAfter t (bytes_of old) after (bytes_of new)
+  pub bytes : BytesAfter t (key_bytes old) after (key_bytes new)
 
 -- a store after a call: all that calls leave alone is as before
-abbrev pub beside : StoreOf → StoreOf → StoreOf
-beside old new =
+abbrev pub store_beside : StoreOf → StoreOf → StoreOf
+store_beside old new =
     record old {
       is_open = new.is_open;
       areas = new.areas;
@@ -118,14 +118,14 @@ abbrev pub Carried : Option Page → Option Page → Type 0
 Carried old new = unwrap_or new (filled 0) ≡
     (if is_some old && is_some new then unwrap_or old (filled 0) else filled 0)
 
-pub record Carries (old new : Key → Option Page) : Type 0 where
+pub record CarriesPages (old new : Key → Option Page) : Type 0 where
   pub at : (k : Key) → Carried (old k) (new k)
 
 -- what each step of a call leaves: the store fits the new tables, and all that stays is as before
 pub record Settled (after : Tables) (old new : Key → Option Page) (s z : StoreOf) : Type 0 where
-  pub fits : Fits after new z
-  pub carries : Carries old new
-  pub rest : z ≡ beside s z
+  pub fits : FitsTables after new z
+  pub carries : CarriesPages old new
+  pub rest : z ≡ store_beside s z
 
 -- a store after the paging file was to grow: all that this leaves alone is as before
 abbrev pub extended : StoreOf → StoreOf → StoreOf
@@ -144,15 +144,15 @@ extended old new =
     }
 
 -- `grow`: that the paging device failed is told by the line's report
-abbrev pub grown : Tables → ℕ → Report → OutcomeOf (Unit {0})
-grown t n after =
+abbrev pub grow_told : Tables → ℕ → Report → OutcomeOf (Unit {0})
+grow_told t n after =
     if nat_le (t.machine.slots + n) most_slots && is_failed_extension after.extended
     then done answer.Fault t
     else grow t n
 
 -- `file`: that the file device failed is told by the line's report
-abbrev pub filed : Tables → Text → ℕ → ℕ → Report → OutcomeOf (Unit {0})
-filed t name pages byte after =
+abbrev pub file_told : Tables → Text → ℕ → ℕ → Report → OutcomeOf (Unit {0})
+file_told t name pages byte after =
     if is_ok (new_file blank t name pages byte).answer && nat_lt 0 after.file_writes.failed
     then done answer.Fault t
     else new_file blank t name pages byte
@@ -166,8 +166,8 @@ beside_file old new = record (wrote old new) {
 }
 
 -- `flush`: that the file device failed is told by the line's report
-abbrev pub flushed : Tables → ℕ → ℕ → ℕ → Report → OutcomeOf (Unit {0})
-flushed t pid addr size after =
+abbrev pub flush_told : Tables → ℕ → ℕ → ℕ → Report → OutcomeOf (Unit {0})
+flush_told t pid addr size after =
     if is_ok (flush t pid addr size).answer && nat_lt 0 after.file_writes.failed
     then done answer.Fault t
     else flush t pid addr size
@@ -178,7 +178,7 @@ BlocksHold t contents blocks pid addr size =
     (p : ProcessOf (Unit {0})) (r : Found (RegionOf (Unit {0}))) (v : View) (page block : ℕ) →
     process_of t pid ≡ Some p → flushed_view p.regions addr size ≡ Some r →
     r.thing.kind ≡ view_kind.View v → holds_page (flushed_range r.thing addr size) page ≡ true →
-    block_in t (shared_key v.area.0 (v.first + (page - r.thing.base))) ≡ Some block →
+    file_block_in t (shared_key v.area.0 (v.first + (page - r.thing.base))) ≡ Some block →
     slice_get blocks block ≡ contents (shared_key v.area.0 (v.first + (page - r.thing.base)))
 
 -- the store before the line of a process that is to be made
@@ -193,14 +193,14 @@ new_pages type range = if type == reserve_type then 0 else range.count
 
 -- how many pages of a range, which lies in one region, a protection marks: in a view WRITECOPY
 -- marks those without a mark
-abbrev pub marks_in : Kind → List (RegionOf (Unit {0})) → Range → ℕ → ℕ
-marks_in view_kind.Private regions range prot = 0
-marks_in (view_kind.View v) regions range prot = if base_of prot == 0x08 then
+abbrev pub newly_marked : Kind → List (RegionOf (Unit {0})) → Range → ℕ → ℕ
+newly_marked view_kind.Private regions range prot = 0
+newly_marked (view_kind.View v) regions range prot = if base_of prot == 0x08 then
     unmarked_in regions range else 0
 
 abbrev pub new_marks : List (RegionOf (Unit {0})) → Range → ℕ → ℕ
 new_marks regions range prot =
-    unwrap_or (option_map (λ r. marks_in r.thing.kind regions range prot)
+    unwrap_or (option_map (λ r. newly_marked r.thing.kind regions range prot)
     (region_around regions range)) 0
 
 -- ---- copies
@@ -222,7 +222,7 @@ copied place s =
 -- ---- named calls
 
 -- at most one more was named on each device, and nothing else changed
-pub record IsNamed (s z : StoreOf) : Type 0 where
+pub record NamesAtMostOne (s z : StoreOf) : Type 0 where
   pub same : z ≡ record s { paging_device = z.paging_device; file_device = z.file_device }
   pub paging : length z.paging_device.named ≤ length s.paging_device.named + 1
   pub file : length z.file_device.named ≤ length s.file_device.named + 1

@@ -1,12 +1,16 @@
 pub mod Threads
+pub mod Stacks
 pub mod References
 pub mod Sound
 pub mod Shown
 pub mod Fits
 pub mod Looks
 pub mod Ranges
+pub mod Known
 pub mod Effects
 pub mod Spaces
 pub mod SectionSteps
 pub mod Endings
 pub mod ViewChanges
+pub mod Promises
+pub mod FilePromises

@@ -14,8 +14,8 @@ is_own (Own own) = true
 is_own (InSection area index) = false
 
 -- what an access asks of a committed row
-abbrev pub told_row : ℕ → ℕ → Committed (Unit {0}) → CommittedRow
-told_row pid page c =
+abbrev pub told_committed : ℕ → ℕ → Committed (Unit {0}) → CommittedRow
+told_committed pid page c =
     record {
       prot = record { 0 = c.row.prot };
       guard = c.row.guard;
@@ -26,7 +26,7 @@ told_row pid page c =
 
 abbrev pub committed_row : Tables → ℕ → ℕ → Option CommittedRow
 committed_row t pid page =
-    option_and_then (λ p. option_map (told_row pid page) (committed_at t p.regions page))
+    option_and_then (λ p. option_map (told_committed pid page) (committed_at t p.regions page))
     (process_of t pid)
 
 -- the section of a handle

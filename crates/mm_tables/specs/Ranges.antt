@@ -17,8 +17,8 @@ is_key_in pid range (key.Private p v) = (p.0 == pid.0) && holds_page range v.0
 is_key_in pid range (key.Shared area index) = false
 
 -- these pages of a process have a key: what was not live reads as zero
-abbrev pub added : Pid → Range → (Key → Option Page) → Key → Option Page
-added pid range contents k = if is_key_in pid range k then
+abbrev pub with_range_keys : Pid → Range → (Key → Option Page) → Key → Option Page
+with_range_keys pid range contents k = if is_key_in pid range k then
     Some (unwrap_or (contents k) (filled 0)) else contents k
 
 -- these pages of a process have none
@@ -26,8 +26,8 @@ abbrev pub removed : Pid → Range → (Key → Option Page) → Key → Option 
 removed pid range contents k = if is_key_in pid range k then None else contents k
 
 -- of a function of keys, the value at these pages of a process set
-abbrev pub set_in : Pid → Range → (Key → Bool) → Bool → Key → Bool
-set_in pid range flags b k = if is_key_in pid range k then b else flags k
+abbrev pub flags_set_in : Pid → Range → (Key → Bool) → Bool → Key → Bool
+flags_set_in pid range flags b k = if is_key_in pid range k then b else flags k
 
 -- how many of `count` numbers from `first` on pass the test
 abbrev pub passing : (ℕ → Bool) → ℕ → ℕ → ℕ
@@ -35,27 +35,27 @@ passing test first zero = 0
 passing test first (suc count) = passing test first count + (if test (first + count) then 1 else 0)
 
 -- a page of a process has a key
-abbrev pub is_live : Pid → (Key → Option Page) → ℕ → Bool
-is_live pid contents page = is_some (contents (key.Private pid (record { 0 = page })))
+abbrev pub is_page_live : Pid → (Key → Option Page) → ℕ → Bool
+is_page_live pid contents page = is_some (contents (key.Private pid (record { 0 = page })))
 
-abbrev pub is_dead : Pid → (Key → Option Page) → ℕ → Bool
-is_dead pid contents page = not (is_live pid contents page)
+abbrev pub is_page_dead : Pid → (Key → Option Page) → ℕ → Bool
+is_page_dead pid contents page = not (is_page_live pid contents page)
 
 -- the store after the keys were added, `new` for its report alone
 abbrev pub with_keys : Pid → Range → ℕ → StoreOf → StoreOf → StoreOf
 with_keys pid range count old new =
     record old {
-      paging = set_in pid range old.paging true;
+      paging = flags_set_in pid range old.paging true;
       paging_keys = old.paging_keys + count;
       report = rearranged old.report new.report;
     }
 
 -- the store after they were removed
-abbrev pub without_keys : Pid → Range → ℕ → StoreOf → StoreOf → StoreOf
-without_keys pid range count old new =
+abbrev pub store_without_keys : Pid → Range → ℕ → StoreOf → StoreOf → StoreOf
+store_without_keys pid range count old new =
     record old {
       names = changed_in pid range old.names None;
-      paging = set_in pid range old.paging false;
+      paging = flags_set_in pid range old.paging false;
       paging_keys = old.paging_keys - count;
       report = rearranged old.report new.report;
     }
@@ -64,24 +64,24 @@ without_keys pid range count old new =
 pub record CanAdd (pid : Pid) (range : Range) (regions : List (RegionOf (Unit {0})))
     (c : Key → Option Page) (s : StoreOf) : Type 0 where
   pub live : (page : ℕ) → holds_page range page ≡ true →
-      is_live pid c page ≡ is_some (own_page regions page)
+      is_page_live pid c page ≡ is_some (own_page regions page)
   pub bound : AllBound s pid range true
-  pub named : (page : ℕ) → holds_page range page ≡ true → is_live pid c page ≡ false →
+  pub named : (page : ℕ) → holds_page range page ≡ true → is_page_live pid c page ≡ false →
       s.names (place_at pid page) ≡ None
   pub paging : (page : ℕ) → holds_page range page ≡ true →
-      s.paging (own_key (place_at pid page)) ≡ is_live pid c page
-  pub room : s.paging_keys + passing (is_dead pid c) range.first range.count ≤ s.room
+      s.paging (own_key (place_at pid page)) ≡ is_page_live pid c page
+  pub room : s.paging_keys + passing (is_page_dead pid c) range.first range.count ≤ s.room
   pub called : s.kind ≡ kind.Call
 
 -- those that these pages hold can be removed
 pub record CanRemove (pid : Pid) (range : Range) (regions : List (RegionOf (Unit {0})))
     (c : Key → Option Page) (s : StoreOf) : Type 0 where
   pub live : (page : ℕ) → holds_page range page ≡ true →
-      is_live pid c page ≡ is_some (own_page regions page)
-  pub named : (page : ℕ) → holds_page range page ≡ true → is_live pid c page ≡ false →
+      is_page_live pid c page ≡ is_some (own_page regions page)
+  pub named : (page : ℕ) → holds_page range page ≡ true → is_page_live pid c page ≡ false →
       s.names (place_at pid page) ≡ None
   pub paging : (page : ℕ) → holds_page range page ≡ true →
-      s.paging (own_key (place_at pid page)) ≡ is_live pid c page
+      s.paging (own_key (place_at pid page)) ≡ is_page_live pid c page
   pub unbinding : s.kind ≡ kind.Unbind pid
 
 -- these pages stand from one number to before another
@@ -89,12 +89,12 @@ abbrev pub StandsFrom : ℕ → ℕ → Range → Type 0
 StandsFrom from to range = (from ≤ range.first) × (range.first + range.count ≤ to)
 
 -- one page
-abbrev pub only : ℕ → Range
-only page = record { first = page; count = 1 }
+abbrev pub one_page_range : ℕ → Range
+one_page_range page = record { first = page; count = 1 }
 
 -- the first `n` pages of a range
-abbrev pub front : Range → ℕ → Range
-front range n = record { first = range.first; count = n }
+abbrev pub first_pages : Range → ℕ → Range
+first_pages range n = record { first = range.first; count = n }
 
 -- its first half, and the other
 abbrev pub low_half : Range → Range
@@ -108,11 +108,12 @@ high_half range = record {
 
 -- what adding keys comes to
 pub record Adds (pid : Pid) (range : Range) (c d : Key → Option Page) (s z : StoreOf) : Type 0 where
-  pub contents : d ≡ added pid range c
-  pub store : z ≡ with_keys pid range (passing (is_dead pid c) range.first range.count) s z
+  pub contents : d ≡ with_range_keys pid range c
+  pub store : z ≡ with_keys pid range (passing (is_page_dead pid c) range.first range.count) s z
 
 -- what removing keys comes to
 pub record Removes (pid : Pid) (range : Range) (c d : Key → Option Page) (s z : StoreOf) :
     Type 0 where
   pub contents : d ≡ removed pid range c
-  pub store : z ≡ without_keys pid range (passing (is_live pid c) range.first range.count) s z
+  pub store : z ≡ store_without_keys pid range
+      (passing (is_page_live pid c) range.first range.count) s z

@@ -1,13 +1,15 @@
 -- The steps in which a section is made: room for a handle, and the keys of a new area.
-use Rattle.std.specs.Prelude.{◌≡◌, ◌≤◌, ◌<◌, ℕ, ◌+◌, ◌-◌, Bool, true, false, ◌&&◌, ◌==◌, nat_le, nat_lt, if◌then◌else◌, List, Option, Some, None}
+use Rattle.std.specs.Prelude.{◌≡◌, ◌≤◌, ◌<◌, ℕ, ◌+◌, ◌-◌, ◌^◌, Bool, true, false, ◌&&◌, ◌==◌, nat_le, nat_lt, if◌then◌else◌, is_some, List, length, Option, Some, None}
 use Rattle.mm_types.specs.declared.numbers.Area.{Area}
 use Rattle.mm_types.specs.declared.numbers.Key.{Key}
 use Rattle.mm_types.specs.declared.numbers.Key.TheVariants as key
 use Rattle.mm_types.specs.declared.moves.LineKind.TheVariants as kind
-use Rattle.mm_world.specs.World.{Page, numbered, filled}
+use Rattle.mm_world.specs.World.{Page, ProcessOf, numbered, filled}
 use Rattle.mm_pages.specs.Store.{StoreOf, changed}
 use Rattle.mm_pages.specs.Reports.{rearranged}
+use Rattle.mm_sections.specs.Directories.{DirectoryOf}
 use Rattle.mm_tables.specs.declared.tables.Process.{Process}
+use Rattle.mm_tables.specs.Shown.{shown_processes}
 
 -- ---- handles
 
@@ -19,6 +21,18 @@ has_spare (Some p) = nat_le 1 p.handles.spare
 abbrev pub has_room : List (Option Process) → ℕ → Bool
 has_room processes pid = has_spare (numbered processes (pid - 1))
 
+-- a living process can be given a handle
+pub record CanHold (processes : List (Option Process)) (pid : ℕ) : Type 0 where
+  pub lives : is_some (numbered (shown_processes processes) pid) ≡ true
+  pub room : has_room processes pid ≡ true
+  pub few : (p : ProcessOf (Unit {0})) → numbered (shown_processes processes) pid ≡ Some p →
+      length p.handles < 2 ^ 28
+
+-- a directory of the same sections and files
+pub record IsListedAs (old new : DirectoryOf) : Type 0 where
+  pub entries : new.entries ≡ old.entries
+  pub files : new.files ≡ old.files
+
 -- ---- keys
 
 -- one of the first `n` pages of the area
@@ -27,8 +41,8 @@ is_page_of area n (key.Private pid vpn) = false
 is_page_of area n (key.Shared a i) = (a.0 == area.0) && nat_lt i n
 
 -- these pages read as zero
-abbrev pub with_pages : Area → ℕ → (Key → Option Page) → Key → Option Page
-with_pages area n contents k = if is_page_of area n k then Some (filled 0) else contents k
+abbrev pub with_zero_pages : Area → ℕ → (Key → Option Page) → Key → Option Page
+with_zero_pages area n contents k = if is_page_of area n k then Some (filled 0) else contents k
 
 abbrev pub with_flags : Area → ℕ → (Key → Bool) → Key → Bool
 with_flags area n flags k = if is_page_of area n k then true else flags k
@@ -51,15 +65,24 @@ pub record CanFill (area : Area) (n : ℕ) (c : Key → Option Page) (s : StoreO
   pub room : s.paging_keys + n ≤ s.room
   pub called : s.kind ≡ kind.Call
 
+-- the next area can be opened with so many pages, of which the first `n` get keys
+pub record IsNewArea (area : Area) (pages n : ℕ) (c : Key → Option Page) (s : StoreOf) : Type 0
+  where
+    pub new : s.areas area.0 ≡ None
+    pub few : area.0 < 2 ^ 28
+    pub some : 1 ≤ pages
+    pub within : n ≤ pages
+    pub dead : (i : ℕ) → c (key.Shared area i) ≡ None
+
 -- what adding them comes to
 pub record Fills (area : Area) (n : ℕ) (c d : Key → Option Page) (s z : StoreOf) : Type 0 where
-  pub contents : d ≡ with_pages area n c
+  pub contents : d ≡ with_zero_pages area n c
   pub store : z ≡ with_area_keys area n s z
 
 -- an area was opened, and its first `n` pages have keys
 pub record Opens (area : Area) (pages n : ℕ) (c d : Key → Option Page) (s z : StoreOf) :
     Type 0 where
-  pub contents : d ≡ with_pages area n c
+  pub contents : d ≡ with_zero_pages area n c
   pub store : z ≡ record (with_area_keys area n s z) {
     areas = changed ◌==◌ s.areas area.0 (Some pages);
     room = z.room;

@@ -13,7 +13,7 @@ pub record IsCounted (t : Tables) (number : ℕ) (c : CountedSection) : Type 0 w
   pub handles : c.handles ≡ handles_to t number
   pub views : c.views ≡ views_of t number
 
-pub record IsKept (t : Tables) (entries : Numbered CountedSection) (commit : CommitOf) :
+pub record AreKeptTables (t : Tables) (entries : Numbered CountedSection) (commit : CommitOf) :
     Type 0 where
   pub sound : WellFormed t
   pub tidy : IsTidy t

@@ -24,8 +24,8 @@ use Rattle.mm_tables.specs.Shown.{shown_processes}
 abbrev pub living : List (Option Process) → ℕ → Option (ProcessOf (Unit {0}))
 living processes pid = numbered (shown_processes processes) pid
 
-abbrev pub area_in : List (AreaOf (Unit {0})) → ℕ → AreaOf (Unit {0})
-area_in areas area = unwrap_or (slice_get areas area) no_area
+abbrev pub listed_area : List (AreaOf (Unit {0})) → ℕ → AreaOf (Unit {0})
+listed_area areas area = unwrap_or (slice_get areas area) no_area
 
 -- ---- a new view
 

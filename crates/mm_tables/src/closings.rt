@@ -1,18 +1,14 @@
 ghost use Rattle.std.specs.Prelude.{if◌then◌else◌, ℕ, Bool, ◌≡◌, ◌≤◌, ◌/◌, true, is_some, Option, Some, None, IsSomeAnd, option_map, slice_set, remove, length};
-ghost use Rattle.mm_types.specs.Address.{end_of, end_of_user_pages};
 ghost use Rattle.mm_types.specs.declared.numbers.Place.{Place};
-ghost use Rattle.mm_pages.specs.Conditions.{AreAmong};
-ghost use Rattle.mm_pages.specs.Housekeeping.{Turns, Ends};
-ghost use Rattle.mm_pages.specs.Leaving.{Leaving};
-ghost use Rattle.mm_pages.specs.Passing.{PassesIn};
 ghost use Rattle.mm_world.specs.World.{RegionOf, ProcessOf, numbered};
-ghost use Rattle.mm_world.specs.Find.{Found, region_around};
+ghost use Rattle.mm_world.specs.Find.{Found};
 ghost use Rattle.mm_world.specs.Views.{view_at};
-ghost use Rattle.mm_sections.specs.Directories.{CountedSection, settled_by, one_handle_less, one_view_less};
+ghost use Rattle.mm_sections.specs.Directories.{CountedSection, section_settled, one_handle_less, one_view_less};
 ghost use Rattle.mm_sections.specs.Handles.{held};
 ghost use Rattle.mm_spaces.specs.Tables.{owned_in, marked_in};
 ghost use Rattle.mm_tables.specs.Shown.{shown_process};
-ghost use Rattle.mm_tables.specs.Endings.{CanRelease, Released, AreUnbound};
+ghost use Rattle.mm_tables.specs.Endings.{Released, AreUnbound};
+ghost use Rattle.mm_tables.specs.Promises.{CanLose, EndsPages};
 
 use crate::removals::release_pages;
 use crate::tables::Process;
@@ -26,10 +22,10 @@ fn drop_handle_of(directory: &mut Directory, id: SectionId) -> Option<Area>
     requires lives { IsSomeAnd (numbered directory.old.entries id.0) (λ c. 1 ≤ c.handles) }
     ensures dropped { (c : CountedSection) → numbered directory.old.entries id.0 ≡ Some c →
         directory.new ≡ record directory.old {
-          entries = slice_set directory.old.entries id.0 (settled_by (one_handle_less c));
+          entries = slice_set directory.old.entries id.0 (section_settled (one_handle_less c));
         } }
     ensures ended { (c : CountedSection) → numbered directory.old.entries id.0 ≡ Some c →
-        result ≡ (if is_some (settled_by (one_handle_less c)) then None else Some (record {
+        result ≡ (if is_some (section_settled (one_handle_less c)) then None else Some (record {
           0 = c.section.area;
         })) }
 {
@@ -46,10 +42,10 @@ pub(crate) fn drop_view_of(directory: &mut Directory, id: SectionId) -> Option<A
     requires lives { IsSomeAnd (numbered directory.old.entries id.0) (λ c. 1 ≤ c.views) }
     ensures dropped { (c : CountedSection) → numbered directory.old.entries id.0 ≡ Some c →
         directory.new ≡ record directory.old {
-          entries = slice_set directory.old.entries id.0 (settled_by (one_view_less c));
+          entries = slice_set directory.old.entries id.0 (section_settled (one_view_less c));
         } }
     ensures ended { (c : CountedSection) → numbered directory.old.entries id.0 ≡ Some c →
-        result ≡ (if is_some (settled_by (one_view_less c)) then None else Some (record {
+        result ≡ (if is_some (section_settled (one_view_less c)) then None else Some (record {
           0 = c.section.area;
         })) }
 {
@@ -80,12 +76,12 @@ pub(crate) fn close_in(
     ensures dropped { (p : ProcessOf (Unit {0})) (n : ℕ) (c : CountedSection) →
         option_map shown_process process.old ≡ Some p → held p.handles handle ≡ Some n →
         numbered directory.old.entries n ≡ Some c → directory.new ≡ record directory.old {
-          entries = slice_set directory.old.entries n (settled_by (one_handle_less c));
+          entries = slice_set directory.old.entries n (section_settled (one_handle_less c));
         } }
     ensures ended { (p : ProcessOf (Unit {0})) (n : ℕ) (c : CountedSection) →
         option_map shown_process process.old ≡ Some p → held p.handles handle ≡ Some n →
         numbered directory.old.entries n ≡ Some c →
-        result ≡ (if is_some (settled_by (one_handle_less c)) then None else Some (record {
+        result ≡ (if is_some (section_settled (one_handle_less c)) then None else Some (record {
           0 = c.section.area;
         })) }
 {
@@ -111,14 +107,9 @@ pub(crate) fn unmap_in<G: Pages>(
     addr: u32,
     range: PageRange,
 ) -> u32
-    requires end { end_of range ≤ end_of_user_pages }
-    requires lives { is_some process.old ≡ true }
+    requires can { CanLose G.Pages process.old pid range g.old }
     requires there { (p : ProcessOf (Unit {0})) → option_map shown_process process.old ≡ Some p →
         is_some (view_at p.regions addr) ≡ true }
-    requires around { (p : ProcessOf (Unit {0})) → option_map shown_process process.old ≡ Some p →
-        is_some (region_around p.regions range) ≡ true }
-    requires can { (p : ProcessOf (Unit {0})) → option_map shown_process process.old ≡ Some p →
-        CanRelease pid range p.regions (G.contents g.old) (G.store g.old) }
     ensures removed { (p : ProcessOf (Unit {0})) (r : Found (RegionOf (Unit {0}))) →
         option_map shown_process process.old ≡ Some p → view_at p.regions addr ≡ Some r →
         option_map shown_process process.new ≡ Some (record p {
@@ -130,10 +121,7 @@ pub(crate) fn unmap_in<G: Pages>(
         Released pid range p.regions (G.contents g.old) (G.contents g.new) (G.store g.old)
         (G.store g.new) }
     ensures unbound { AreUnbound pid range (G.store g.new) }
-    ensures passes { (held : Leaving) (from to : ℕ) → AreAmong held from to pid range →
-        PassesIn G.unpaged (Turns (Ends held from to)) (G.store g.old) (G.store g.new)
-        (G.behind g.old) (G.behind g.new) }
-    ensures loans { G.loans g.new ≡ G.loans g.old }
+    ensures ends { EndsPages G.Pages pid range g.old g.new }
 {
     match process {
         Some(process) => {
@@ -154,14 +142,9 @@ pub(crate) fn release_in<G: Pages>(
     pid: Pid,
     range: PageRange,
 ) -> u32
-    requires end { end_of range ≤ end_of_user_pages }
-    requires lives { is_some process.old ≡ true }
+    requires can { CanLose G.Pages process.old pid range g.old }
     requires there { (p : ProcessOf (Unit {0})) → option_map shown_process process.old ≡ Some p →
         1 ≤ length p.regions }
-    requires around { (p : ProcessOf (Unit {0})) → option_map shown_process process.old ≡ Some p →
-        is_some (region_around p.regions range) ≡ true }
-    requires can { (p : ProcessOf (Unit {0})) → option_map shown_process process.old ≡ Some p →
-        CanRelease pid range p.regions (G.contents g.old) (G.store g.old) }
     ensures removed { (p : ProcessOf (Unit {0})) → option_map shown_process process.old ≡ Some p →
         option_map shown_process process.new ≡ Some (record p {
           regions = remove p.regions 0;
@@ -171,10 +154,7 @@ pub(crate) fn release_in<G: Pages>(
     ensures released { (p : ProcessOf (Unit {0})) → option_map shown_process process.old ≡ Some p →
         Released pid range p.regions (G.contents g.old) (G.contents g.new) (G.store g.old)
         (G.store g.new) }
-    ensures passes { (held : Leaving) (from to : ℕ) → AreAmong held from to pid range →
-        PassesIn G.unpaged (Turns (Ends held from to)) (G.store g.old) (G.store g.new)
-        (G.behind g.old) (G.behind g.new) }
-    ensures loans { G.loans g.new ≡ G.loans g.old }
+    ensures ends { EndsPages G.Pages pid range g.old g.new }
 {
     match process {
         Some(process) => {

@@ -2,17 +2,17 @@ ghost use Rattle.std.specs.Prelude.{◌≡◌, ◌≤◌, ◌<◌, ◌+◌, ◌/
 ghost use Rattle.mm_types.specs.declared.moves.LineKind.TheVariants as line_kind;
 ghost use Rattle.mm_types.specs.declared.views.Kind.TheVariants as kind;
 ghost use Rattle.mm_types.specs.declared.numbers.Place.{Place};
-ghost use Rattle.mm_pages.specs.Housekeeping.{Turns, Ends, Goes};
+ghost use Rattle.mm_pages.specs.Housekeeping.{Ends, Goes};
 ghost use Rattle.mm_pages.specs.Leaving.{Leaving, leaving};
-ghost use Rattle.mm_pages.specs.Passing.{PassesIn};
 ghost use Rattle.mm_world.specs.World.{RegionOf, ProcessOf};
 ghost use Rattle.mm_world.specs.Find.{Found, process_of, set_regions, set_process};
 ghost use Rattle.mm_world.specs.Sections.{handle_section, settle};
 ghost use Rattle.mm_world.specs.Views.{view_at};
 ghost use Rattle.mm_pages.specs.Conditions.{AreAmong, IsReleasing};
 ghost use Rattle.mm_spaces.specs.Tables.{found_info, info_of};
-ghost use Rattle.mm_tables.specs.Fits.{Fits, Settled, is_uncommitted};
-ghost use Rattle.mm_tables.specs.Endings.{Less, AreUnbound, IsFor};
+ghost use Rattle.mm_tables.specs.Fits.{FitsTables, Settled, is_uncommitted};
+ghost use Rattle.mm_tables.specs.Endings.{AreUnbound, IsRankFor};
+ghost use Rattle.mm_tables.specs.Promises.{IsReady, PassesAs, Shrinks};
 
 use crate::Tables;
 use crate::closings::{close_in, drop_view_of, release_in, unmap_in};
@@ -25,7 +25,7 @@ impl Tables {
     /// `drop_handle`, which also tells that keys that live on keep their bytes.
     #[tactic(auto, using(mm_pages::proofs::Passed::turns_same))]
     pub(crate) fn close_handle<G: Pages>(&mut self, g: &mut G, pid: Pid, handle: u32)
-        requires fits { Fits self.old (G.contents g.old) (G.store g.old) }
+        requires fits { FitsTables self.old (G.contents g.old) (G.store g.old) }
         requires kind { IsReleasing (G.store g.old).kind }
         requires lives { is_some (process_of self.old pid.0) ≡ true }
         requires there { (p : ProcessOf (Unit {0})) → process_of self.old pid.0 ≡ Some p →
@@ -34,14 +34,10 @@ impl Tables {
             self.new ≡ settle (set_process self.old pid.0 (Some (record p {
               handles = slice_set p.handles (handle / 4) None;
             }))) }
-        ensures settled { Settled self.new (G.contents g.old) (G.contents g.new) (G.store g.old)
-            (G.store g.new) }
-        ensures less { Less (G.contents g.old) (G.contents g.new) }
-        ensures passes { (held : Leaving) (from to : ℕ) → IsFor held.rank pid.0 self.old
+        ensures shrinks { Shrinks G.Pages self.new g.old g.new }
+        ensures passes { (held : Leaving) (from to : ℕ) → IsRankFor held.rank pid.0 self.old
             → from ≤ handle / 4 + 1 → handle / 4 + 1 < to →
-            PassesIn G.unpaged (Turns (Ends held from to)) (G.store g.old) (G.store g.new)
-            (G.behind g.old) (G.behind g.new) }
-        ensures loans { G.loans g.new ≡ G.loans g.old }
+            PassesAs G.Pages (Ends held from to) g.old g.new }
     {
         let process = &mut self.processes[pid.0 as usize - 1];
         let ended = close_in(process, &mut self.directory, handle);
@@ -60,9 +56,7 @@ impl Tables {
         range: PageRange,
         view: View,
     )
-        requires fits { Fits self.old (G.contents g.old) (G.store g.old) }
-        requires kind { (G.store g.old).kind ≡ line_kind.Unbind pid }
-        requires lives { is_some (process_of self.old pid.0) ≡ true }
+        requires ready { IsReady G.Pages (line_kind.Unbind pid) pid self.old g.old }
         requires there { (p : ProcessOf (Unit {0})) → process_of self.old pid.0 ≡ Some p →
             option_map found_info (view_at p.regions addr) ≡ Some (record {
               pages = range;
@@ -71,15 +65,10 @@ impl Tables {
         ensures removed { (p : ProcessOf (Unit {0})) (r : Found (RegionOf (Unit {0}))) →
             process_of self.old pid.0 ≡ Some p → view_at p.regions addr ≡ Some r →
             self.new ≡ settle (set_regions self.old pid.0 p (remove p.regions r.place)) }
-        ensures settled { Settled self.new (G.contents g.old) (G.contents g.new) (G.store g.old)
-            (G.store g.new) }
-        ensures less { Less (G.contents g.old) (G.contents g.new) }
+        ensures shrinks { Shrinks G.Pages self.new g.old g.new }
         ensures unbound { AreUnbound pid range (G.store g.new) }
-        ensures passes { (held : Leaving) (from to : ℕ) → IsFor held.rank pid.0 self.old
-            → AreAmong held from to pid range →
-            PassesIn G.unpaged (Turns (Ends held from to)) (G.store g.old) (G.store g.new)
-            (G.behind g.old) (G.behind g.new) }
-        ensures loans { G.loans g.new ≡ G.loans g.old }
+        ensures passes { (held : Leaving) (from to : ℕ) → IsRankFor held.rank pid.0 self.old
+            → AreAmong held from to pid range → PassesAs G.Pages (Ends held from to) g.old g.new }
     {
         let process = &mut self.processes[pid.0 as usize - 1];
         let marked = unmap_in(process, g, pid, addr, range);
@@ -93,9 +82,7 @@ impl Tables {
 
     /// Releases the lowest region of a process, which is private and has these pages.
     pub(crate) fn release_lowest<G: Pages>(&mut self, g: &mut G, pid: Pid, range: PageRange)
-        requires fits { Fits self.old (G.contents g.old) (G.store g.old) }
-        requires kind { (G.store g.old).kind ≡ line_kind.Unbind pid }
-        requires lives { is_some (process_of self.old pid.0) ≡ true }
+        requires ready { IsReady G.Pages (line_kind.Unbind pid) pid self.old g.old }
         requires there { (p : ProcessOf (Unit {0})) → process_of self.old pid.0 ≡ Some p →
             option_map info_of (slice_get p.regions 0) ≡ Some (record {
               pages = range;
@@ -103,13 +90,9 @@ impl Tables {
             }) }
         ensures removed { (p : ProcessOf (Unit {0})) → process_of self.old pid.0 ≡ Some p →
             self.new ≡ set_regions self.old pid.0 p (remove p.regions 0) }
-        ensures settled { Settled self.new (G.contents g.old) (G.contents g.new) (G.store g.old)
-            (G.store g.new) }
-        ensures less { Less (G.contents g.old) (G.contents g.new) }
+        ensures shrinks { Shrinks G.Pages self.new g.old g.new }
         ensures passes { (held : Leaving) (from to : ℕ) → AreAmong held from to pid range →
-            PassesIn G.unpaged (Turns (Ends held from to)) (G.store g.old) (G.store g.new)
-            (G.behind g.old) (G.behind g.new) }
-        ensures loans { G.loans g.new ≡ G.loans g.old }
+            PassesAs G.Pages (Ends held from to) g.old g.new }
     {
         let process = &mut self.processes[pid.0 as usize - 1];
         let owned = release_in(process, g, pid, range);
@@ -119,7 +102,7 @@ impl Tables {
     /// Closes a handle that a process has. A section to which nothing refers any more ends, and
     /// with a page-file section its pages; a name is gone with the section's last handle.
     pub fn drop_handle<G: Pages>(&mut self, g: &mut G, pid: Pid, handle: u32)
-        requires fits { Fits self.old (G.contents g.old) (G.store g.old) }
+        requires fits { FitsTables self.old (G.contents g.old) (G.store g.old) }
         requires kind { IsReleasing (G.store g.old).kind }
         requires lives { is_some (process_of self.old pid.0) ≡ true }
         requires there { (p : ProcessOf (Unit {0})) → process_of self.old pid.0 ≡ Some p →
@@ -131,8 +114,7 @@ impl Tables {
         ensures settled { Settled self.new (G.contents g.old) (G.contents g.new) (G.store g.old)
             (G.store g.new) }
         ensures passes { (places : Place → Bool) →
-            PassesIn G.unpaged (Turns (Goes (leaving self.old pid.0 places))) (G.store g.old)
-            (G.store g.new) (G.behind g.old) (G.behind g.new) }
+            PassesAs G.Pages (Goes (leaving self.old pid.0 places)) g.old g.new }
         ensures loans { G.loans g.new ≡ G.loans g.old }
     {
         self.sound();
@@ -149,9 +131,7 @@ impl Tables {
         range: PageRange,
         view: View,
     )
-        requires fits { Fits self.old (G.contents g.old) (G.store g.old) }
-        requires kind { (G.store g.old).kind ≡ line_kind.Unbind pid }
-        requires lives { is_some (process_of self.old pid.0) ≡ true }
+        requires ready { IsReady G.Pages (line_kind.Unbind pid) pid self.old g.old }
         requires there { (p : ProcessOf (Unit {0})) → process_of self.old pid.0 ≡ Some p →
             option_map found_info (view_at p.regions addr) ≡ Some (record {
               pages = range;
@@ -162,9 +142,8 @@ impl Tables {
             self.new ≡ settle (set_regions self.old pid.0 p (remove p.regions r.place)) }
         ensures settled { Settled self.new (G.contents g.old) (G.contents g.new) (G.store g.old)
             (G.store g.new) }
-        ensures passes { PassesIn G.unpaged
-            (Turns (Goes (leaving self.old pid.0 (is_uncommitted self.new)))) (G.store g.old)
-            (G.store g.new) (G.behind g.old) (G.behind g.new) }
+        ensures passes { PassesAs G.Pages (Goes (leaving self.old pid.0 (is_uncommitted self.new)))
+            g.old g.new }
         ensures loans { G.loans g.new ≡ G.loans g.old }
     {
         self.sound();

@@ -2,9 +2,8 @@ ghost use Rattle.std.specs.Prelude.{◌≡◌, ◌≤◌, ◌<◌, ◌^◌, ◌=
 ghost use Rattle.mm_types.specs.declared.moves.LineKind.TheVariants as line_kind;
 ghost use Rattle.mm_types.specs.declared.numbers.Place.{Place};
 ghost use Rattle.mm_pages.specs.Conditions.{AreAmong, place_at};
-ghost use Rattle.mm_pages.specs.Housekeeping.{Turn, Turns, Ends, Goes};
+ghost use Rattle.mm_pages.specs.Housekeeping.{Turn, Ends, Goes};
 ghost use Rattle.mm_pages.specs.Leaving.{Leaving, leaving, page_rank};
-ghost use Rattle.mm_pages.specs.Passing.{PassesIn};
 ghost use Rattle.mm_types.specs.Address.{end_of, end_of_user_pages};
 ghost use Rattle.mm_world.specs.World.{ProcessOf};
 ghost use Rattle.mm_world.specs.Find.{process_of, set_process, end_stacks};
@@ -15,8 +14,9 @@ ghost use Rattle.mm_sections.specs.Handles.{handle_at};
 ghost use Rattle.mm_spaces.specs.Tables.{info_of};
 ghost use Rattle.mm_tables.specs.References.{IsTidy, NobodyKeeps};
 ghost use Rattle.mm_tables.specs.Shown.{shown_process};
-ghost use Rattle.mm_tables.specs.Fits.{Fits, Settled};
-ghost use Rattle.mm_tables.specs.Endings.{Less, Toward, Fewer, HasNoHandle, IsFor};
+ghost use Rattle.mm_tables.specs.Fits.{FitsTables, Settled};
+ghost use Rattle.mm_tables.specs.Endings.{Fewer, HasNoHandle, IsRankFor};
+ghost use Rattle.mm_tables.specs.Promises.{IsReady, PassesAs, Shrinks, Nears};
 
 use crate::Tables;
 use crate::tables::Process;
@@ -65,18 +65,12 @@ impl Tables {
     /// Closes all handles of a process, in rising order.
     #[tactic(auto, using(mm_pages::proofs::Passed::turns_same))]
     fn close_handles<G: Pages>(&mut self, g: &mut G, pid: Pid)
-        requires fits { Fits self.old (G.contents g.old) (G.store g.old) }
-        requires kind { (G.store g.old).kind ≡ line_kind.Unbind pid }
-        requires lives { is_some (process_of self.old pid.0) ≡ true }
-        ensures toward { Toward pid.0 self.old self.new (G.contents g.old) (G.contents g.new)
-            (G.store g.old) (G.store g.new) }
-        ensures lives { is_some (process_of self.new pid.0) ≡ true }
+        requires ready { IsReady G.Pages (line_kind.Unbind pid) pid self.old g.old }
+        ensures nears { Nears G.Pages pid self.old self.new g.old g.new }
         ensures closed { (p : ProcessOf (Unit {0})) → process_of self.new pid.0 ≡ Some p →
             HasNoHandle p }
-        ensures passes { (held : Leaving) → IsFor held.rank pid.0 self.old →
-            PassesIn G.unpaged (Turns (Ends held 1 (page_rank 0))) (G.store g.old) (G.store g.new)
-            (G.behind g.old) (G.behind g.new) }
-        ensures loans { G.loans g.new ≡ G.loans g.old }
+        ensures passes { (held : Leaving) → IsRankFor held.rank pid.0 self.old →
+            PassesAs G.Pages (Ends held 1 (page_rank 0)) g.old g.new }
     {
         while let Some(handle) = self.lowest_handle(pid) {
             self.close_handle(g, pid, handle);
@@ -85,24 +79,18 @@ impl Tables {
 
     /// Releases or unmaps the lowest region of a process, of which this is told.
     fn drop_lowest<G: Pages>(&mut self, g: &mut G, pid: Pid, info: RegionInfo)
-        requires fits { Fits self.old (G.contents g.old) (G.store g.old) }
-        requires kind { (G.store g.old).kind ≡ line_kind.Unbind pid }
-        requires lives { is_some (process_of self.old pid.0) ≡ true }
+        requires ready { IsReady G.Pages (line_kind.Unbind pid) pid self.old g.old }
         requires there { (p : ProcessOf (Unit {0})) → process_of self.old pid.0 ≡ Some p →
             option_map info_of (slice_get p.regions 0) ≡ Some info }
         requires within { end_of info.pages ≤ end_of_user_pages }
         requires closed { (p : ProcessOf (Unit {0})) → process_of self.old pid.0 ≡ Some p →
             HasNoHandle p }
-        ensures toward { Toward pid.0 self.old self.new (G.contents g.old) (G.contents g.new)
-            (G.store g.old) (G.store g.new) }
-        ensures lives { is_some (process_of self.new pid.0) ≡ true }
+        ensures nears { Nears G.Pages pid self.old self.new g.old g.new }
         ensures fewer { (p q : ProcessOf (Unit {0})) → process_of self.old pid.0 ≡ Some p →
             process_of self.new pid.0 ≡ Some q → Fewer p q }
-        ensures passes { (held : Leaving) (from to : ℕ) → IsFor held.rank pid.0 self.old
+        ensures passes { (held : Leaving) (from to : ℕ) → IsRankFor held.rank pid.0 self.old
             → AreAmong held from to pid info.pages →
-            PassesIn G.unpaged (Turns (Ends held from to)) (G.store g.old) (G.store g.new)
-            (G.behind g.old) (G.behind g.new) }
-        ensures loans { G.loans g.new ≡ G.loans g.old }
+            PassesAs G.Pages (Ends held from to) g.old g.new }
     {
         let range = info.pages;
         match info.kind {
@@ -116,23 +104,17 @@ impl Tables {
     /// Releases and unmaps all regions of a process, from the lowest on.
     #[tactic(auto, using(mm_pages::proofs::Passed::turns_same))]
     fn drop_regions<G: Pages>(&mut self, g: &mut G, pid: Pid)
-        requires fits { Fits self.old (G.contents g.old) (G.store g.old) }
-        requires kind { (G.store g.old).kind ≡ line_kind.Unbind pid }
-        requires lives { is_some (process_of self.old pid.0) ≡ true }
+        requires ready { IsReady G.Pages (line_kind.Unbind pid) pid self.old g.old }
         requires closed { (p : ProcessOf (Unit {0})) → process_of self.old pid.0 ≡ Some p →
             HasNoHandle p }
-        ensures toward { Toward pid.0 self.old self.new (G.contents g.old) (G.contents g.new)
-            (G.store g.old) (G.store g.new) }
-        ensures lives { is_some (process_of self.new pid.0) ≡ true }
+        ensures nears { Nears G.Pages pid self.old self.new g.old g.new }
         ensures closed { (p : ProcessOf (Unit {0})) → process_of self.new pid.0 ≡ Some p →
             HasNoHandle p }
         ensures empty { (p : ProcessOf (Unit {0})) → process_of self.new pid.0 ≡ Some p →
             p.regions ≡ [] }
-        ensures passes { (held : Leaving) → IsFor held.rank pid.0 self.old
+        ensures passes { (held : Leaving) → IsRankFor held.rank pid.0 self.old
             → ((page : ℕ) → held.places (place_at pid page) ≡ true) →
-            PassesIn G.unpaged (Turns (Ends held (page_rank 0) (page_rank end_of_user_pages)))
-            (G.store g.old) (G.store g.new) (G.behind g.old) (G.behind g.new) }
-        ensures loans { G.loans g.new ≡ G.loans g.old }
+            PassesAs G.Pages (Ends held (page_rank 0) (page_rank end_of_user_pages)) g.old g.new }
     {
         while let Some(info) = self.lowest(pid) {
             self.drop_lowest(g, pid, info);
@@ -141,7 +123,7 @@ impl Tables {
 
     /// Ends a process that has no handle and no region.
     fn close_process<G: Pages>(&mut self, g: &mut G, pid: Pid)
-        requires fits { Fits self.old (G.contents g.old) (G.store g.old) }
+        requires fits { FitsTables self.old (G.contents g.old) (G.store g.old) }
         requires lives { is_some (process_of self.old pid.0) ≡ true }
         requires closed { (p : ProcessOf (Unit {0})) → process_of self.old pid.0 ≡ Some p →
             HasNoHandle p }
@@ -149,13 +131,8 @@ impl Tables {
             p.regions ≡ [] }
         requires nobody { NobodyKeeps pid.0 self.old }
         ensures ended { self.new ≡ settle (set_process self.old pid.0 None) }
-        ensures settled { Settled self.new (G.contents g.old) (G.contents g.new) (G.store g.old)
-            (G.store g.new) }
-        ensures less { Less (G.contents g.old) (G.contents g.new) }
-        ensures passes { (turn : Turn) →
-            PassesIn G.unpaged (Turns turn) (G.store g.old) (G.store g.new) (G.behind g.old)
-            (G.behind g.new) }
-        ensures loans { G.loans g.new ≡ G.loans g.old }
+        ensures shrinks { Shrinks G.Pages self.new g.old g.new }
+        ensures passes { (turn : Turn) → PassesAs G.Pages turn g.old g.new }
     {
         g.close_process(pid);
         self.processes[pid.0 as usize - 1] = None;
@@ -164,9 +141,7 @@ impl Tables {
     /// Ends a living process: what threads keep of it and its stacks are gone, its handles are
     /// closed in rising order, then its regions unmapped or released from the lowest on.
     pub fn end_process<G: Pages>(&mut self, g: &mut G, pid: Pid)
-        requires fits { Fits self.old (G.contents g.old) (G.store g.old) }
-        requires kind { (G.store g.old).kind ≡ line_kind.Unbind pid }
-        requires lives { is_some (process_of self.old pid.0) ≡ true }
+        requires ready { IsReady G.Pages (line_kind.Unbind pid) pid self.old g.old }
         ensures ended { self.new ≡ settle (set_process (end_stacks (record self.old {
           kept = map (kept_of_others pid.0) self.old.kept;
         }) (λ s. s.pid == pid.0)) pid.0 None) }
@@ -174,8 +149,7 @@ impl Tables {
             (G.store g.new) }
         ensures passes { (places : Place → Bool) →
             ((page : ℕ) → places (place_at pid page) ≡ true) →
-            PassesIn G.unpaged (Turns (Goes (leaving self.old pid.0 places))) (G.store g.old)
-            (G.store g.new) (G.behind g.old) (G.behind g.new) }
+            PassesAs G.Pages (Goes (leaving self.old pid.0 places)) g.old g.new }
         ensures loans { G.loans g.new ≡ G.loans g.old }
     {
         self.sound();

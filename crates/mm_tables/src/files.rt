@@ -1,16 +1,10 @@
-ghost use Rattle.std.specs.Prelude.{◌≡◌, ◌≤◌, ◌<◌, ◌+◌, ◌++◌, [], ◌∷◌, false, length, replicate, Some, None, find, bytes_eq, IsErrOf, IfOk, OnOk, OnErr, vec_len, vec_capacity};
+ghost use Rattle.std.specs.Prelude.{◌≡◌, ◌≤◌, ◌<◌, ◌+◌, ◌++◌, [], ◌∷◌, replicate, Some, None, find, bytes_eq, IfOk, OnOk, vec_len, vec_capacity};
 ghost use Rattle.mm_types.specs.declared.moves.LineKind.TheVariants as line_kind;
-ghost use Rattle.mm_types.specs.declared.faults.MakeFault.TheVariants as make_fault;
-ghost use Rattle.mm_blocks.specs.Devices.{CallFailed};
-ghost use Rattle.mm_world.specs.Contents.{blank};
-ghost use Rattle.mm_world.specs.Processes.{new_file};
-ghost use Rattle.mm_world.specs.Sections.{file_named};
-ghost use Rattle.mm_pages.specs.Store.{with_file};
-ghost use Rattle.mm_pages.specs.Reports.{Served};
-ghost use Rattle.mm_pages.specs.Housekeeping.{Turns, Makes};
-ghost use Rattle.mm_pages.specs.Passing.{NotesIn, FileMade};
+ghost use Rattle.mm_pages.specs.Housekeeping.{Makes};
 ghost use Rattle.mm_tables.specs.References.{IsFew};
-ghost use Rattle.mm_tables.specs.Fits.{Fits, beside_file};
+ghost use Rattle.mm_tables.specs.Fits.{FitsTables};
+ghost use Rattle.mm_tables.specs.FilePromises.{IsNewFile, MakesFile, StoresFile, BlamesDevice, NotesFile};
+ghost use Rattle.mm_tables.specs.SectionSteps.{IsListedAs};
 
 use crate::Tables;
 use mm_pages::Pages;
@@ -30,8 +24,7 @@ fn grow_for_file(
       file_block = Some first.0;
       pages = replicate pages (Some tt);
     }) }
-    ensures entries { directory.new.entries ≡ directory.old.entries }
-    ensures files { directory.new.files ≡ directory.old.files }
+    ensures listed { IsListedAs directory.old directory.new }
     ensures areas { areas.new.items ≡ areas.old.items }
     ensures spare { OnOk result (1 ≤ directory.new.spare) }
     ensures space { OnOk result (vec_len areas.new + 1 ≤ vec_capacity areas.new) }
@@ -79,31 +72,14 @@ impl Tables {
         pages: u32,
         byte: u8,
     ) -> Result<(), MakeFault>
-        requires fits { Fits self.old (G.contents g.old) (G.store g.old) }
+        requires fits { FitsTables self.old (G.contents g.old) (G.store g.old) }
         requires kind { (G.store g.old).kind ≡ line_kind.Call }
         requires few { IsFew self.old }
-        requires some { 1 ≤ pages }
-        requires unnamed { file_named self.old name ≡ None }
-        requires room { self.old.blocks_used + pages ≤ self.old.machine.blocks }
-        ensures ok { OnOk result (self.new ≡ (new_file blank self.old name pages byte).world) }
-        ensures err { OnErr result (self.new ≡ self.old) }
-        ensures made { OnOk result (G.contents g.new ≡ with_file (length self.old.areas) pages byte
-            (G.contents g.old)) }
-        ensures kept { OnErr result (G.contents g.new ≡ G.contents g.old) }
-        ensures fits { Fits self.new (G.contents g.new) (G.store g.new) }
-        ensures beside { G.store g.new ≡ beside_file (G.store g.old) (G.store g.new) }
-        ensures memory { IsErrOf result make_fault.Memory → G.store g.new ≡ G.store g.old }
-        ensures served { Served (G.store g.old) (G.store g.new) }
-        ensures quiet { OnOk result ((G.store g.new).report.file_writes.failed ≡
-            (G.store g.old).report.file_writes.failed) }
-        ensures failed { IsErrOf result make_fault.Write →
-            0 < (G.store g.new).report.file_writes.failed }
-        ensures blamed { IsErrOf result make_fault.Write →
-            CallFailed (G.store g.old).file_device (G.store g.new).file_device }
-        ensures notes { NotesIn G.unpaged (Turns Makes) (G.behind g.old) (G.behind g.new) }
-        ensures file { G.unpaged ≡ false →
-            FileMade self.old.blocks_used pages result (G.store g.old) (G.store g.new) }
-        ensures loans { G.loans g.new ≡ G.loans g.old }
+        requires new { IsNewFile name pages self.old }
+        ensures files { MakesFile G.Pages name pages byte result self.old self.new g.old g.new }
+        ensures stored { StoresFile G.Pages result self.new g.old g.new }
+        ensures fails { BlamesDevice G.Pages result g.old g.new }
+        ensures notes { NotesFile G.Pages self.old.blocks_used pages result g.old g.new }
     {
         let area = Area(self.areas.len() as u32);
         let first = Block(self.blocks_used);

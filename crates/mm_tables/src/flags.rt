@@ -4,7 +4,7 @@ ghost use Rattle.mm_world.specs.World.{RegionOf};
 ghost use Rattle.mm_world.specs.Find.{Found, region_with};
 ghost use Rattle.mm_world.specs.Rows.{change_flags, mark_written, one_page};
 ghost use Rattle.mm_world.specs.Watch.{watched_around, written_in, unwritten};
-ghost use Rattle.mm_tables.specs.Spaces.{regions_of, Became};
+ghost use Rattle.mm_tables.specs.Spaces.{process_regions, RegionsBecame};
 
 use crate::tables::Process;
 use mm_spaces::PageRange;
@@ -14,10 +14,10 @@ use mm_types::PageList;
 /// watched.
 pub(crate) fn mark_page(process: &mut Option<Process>, page: u32)
     requires lives { is_some process.old ≡ true }
-    requires there { is_some (region_with (regions_of process.old) page) ≡ true }
+    requires there { is_some (region_with (process_regions process.old) page) ≡ true }
     ensures changed { (r : Found (RegionOf (Unit {0})))
-        → region_with (regions_of process.old) page ≡ Some r
-        → Became process.old process.new (slice_set (regions_of process.old) r.place
+        → region_with (process_regions process.old) page ≡ Some r
+        → RegionsBecame process.old process.new (slice_set (process_regions process.old) r.place
         (mark_written true (one_page page) r.thing)) }
 {
     match process {
@@ -35,13 +35,13 @@ pub(crate) fn take_pages(
     requires lives { is_some process.old ≡ true }
     requires few { count ≤ 16 }
     ensures found { result ≡ option_map (λ r. map address_of (written_in r.thing range count))
-        (watched_around (regions_of process.old) range) }
+        (watched_around (process_regions process.old) range) }
     ensures changed { (r : Found (RegionOf (Unit {0})))
-        → watched_around (regions_of process.old) range ≡ Some r
-        → Became process.old process.new (slice_set (regions_of process.old) r.place
+        → watched_around (process_regions process.old) range ≡ Some r
+        → RegionsBecame process.old process.new (slice_set (process_regions process.old) r.place
         (change_flags (unwritten r.thing.base (written_in r.thing range count)) r.thing)) }
-    ensures kept { watched_around (regions_of process.old) range ≡ None
-        → Became process.old process.new (regions_of process.old) }
+    ensures kept { watched_around (process_regions process.old) range ≡ None
+        → RegionsBecame process.old process.new (process_regions process.old) }
 {
     match process {
         Some(process) => process.space.take_written(range, count),
@@ -52,13 +52,13 @@ pub(crate) fn take_pages(
 /// The pages of a range are unwritten from now on, where it lies in a watched region.
 pub(crate) fn reset_pages(process: &mut Option<Process>, range: PageRange) -> Option<()>
     requires lives { is_some process.old ≡ true }
-    ensures found { is_some result ≡ is_some (watched_around (regions_of process.old) range) }
+    ensures found { is_some result ≡ is_some (watched_around (process_regions process.old) range) }
     ensures changed { (r : Found (RegionOf (Unit {0})))
-        → watched_around (regions_of process.old) range ≡ Some r
-        → Became process.old process.new (slice_set (regions_of process.old) r.place
+        → watched_around (process_regions process.old) range ≡ Some r
+        → RegionsBecame process.old process.new (slice_set (process_regions process.old) r.place
         (mark_written false range r.thing)) }
-    ensures kept { watched_around (regions_of process.old) range ≡ None
-        → Became process.old process.new (regions_of process.old) }
+    ensures kept { watched_around (process_regions process.old) range ≡ None
+        → RegionsBecame process.old process.new (process_regions process.old) }
 {
     match process {
         Some(process) => process.space.reset_written(range),

@@ -5,7 +5,7 @@ ghost use Rattle.mm_world.specs.Find.{process_of};
 ghost use Rattle.mm_world.specs.Processes.{kept_of_others};
 ghost use Rattle.mm_world.specs.Step.{threads, kept_by, keep};
 ghost use Rattle.mm_pages.specs.Store.{StoreOf};
-ghost use Rattle.mm_tables.specs.Fits.{Fits};
+ghost use Rattle.mm_tables.specs.Fits.{FitsTables};
 ghost use Rattle.mm_tables.specs.References.{NobodyKeeps};
 ghost use Rattle.mm_tables.specs.Threads.{FitsPage};
 ghost use Rattle.mm_tables.specs.Shown.{kept_of, shown_accesses, unless_of};
@@ -93,8 +93,8 @@ impl Tables {
           pid = pid.0;
           access = access.now;
         })) }
-        ensures fits { (c : Key → Option Page) (s : StoreOf) → Fits self.old c s →
-            Fits self.new c s }
+        ensures fits { (c : Key → Option Page) (s : StoreOf) → FitsTables self.old c s →
+            FitsTables self.new c s }
     {
         self.kept[tid.0 as usize] = Some(kept_access(pid, access));
     }
@@ -102,8 +102,8 @@ impl Tables {
     /// A thread keeps no access any more.
     pub fn end_kept(&mut self, tid: Tid)
         ensures ended { self.new ≡ keep self.old tid.0 None }
-        ensures fits { (c : Key → Option Page) (s : StoreOf) → Fits self.old c s →
-            Fits self.new c s }
+        ensures fits { (c : Key → Option Page) (s : StoreOf) → FitsTables self.old c s →
+            FitsTables self.new c s }
     {
         self.kept[tid.0 as usize] = None;
     }
@@ -114,8 +114,8 @@ impl Tables {
           kept = map (kept_of_others pid.0) self.old.kept;
         } }
         ensures nobody { NobodyKeeps pid.0 self.new }
-        ensures fits { (c : Key → Option Page) (s : StoreOf) → Fits self.old c s →
-            Fits self.new c s }
+        ensures fits { (c : Key → Option Page) (s : StoreOf) → FitsTables self.old c s →
+            FitsTables self.new c s }
     {
         drop_accesses(&mut self.kept, pid);
     }

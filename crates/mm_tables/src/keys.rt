@@ -1,4 +1,4 @@
-ghost use Rattle.std.specs.Prelude.{◌≡◌, ◌≤◌, ◌<◌, ◌+◌, ℕ, Bool, true, is_some};
+ghost use Rattle.std.specs.Prelude.{◌≡◌, ◌≤◌, ◌<◌, ◌+◌, ℕ, Bool, true, IfSome, is_some};
 ghost use Rattle.mm_types.specs.Address.{end_of, end_of_user_pages};
 ghost use Rattle.mm_pages.specs.Housekeeping.{Turns, MakesFrom, Ends};
 ghost use Rattle.mm_pages.specs.Leaving.{Leaving, page_rank};
@@ -6,8 +6,10 @@ ghost use Rattle.mm_pages.specs.Passing.{PassesIn};
 ghost use Rattle.mm_pages.specs.Conditions.{AreAmong, place_at};
 ghost use Rattle.mm_types.specs.declared.numbers.Place.{Place};
 ghost use Rattle.mm_world.specs.Find.{region_around};
+ghost use Rattle.mm_world.specs.Keys.{own_page};
 ghost use Rattle.mm_spaces.specs.Tables.{owned_in};
-ghost use Rattle.mm_tables.specs.Ranges.{CanAdd, CanRemove, Adds, Removes, StandsFrom, only};
+ghost use Rattle.mm_tables.specs.Known.{KnownAt, KnownIn};
+ghost use Rattle.mm_tables.specs.Ranges.{CanAdd, CanRemove, Adds, Removes, StandsFrom, one_page_range};
 
 use crate::halves::{FEW_PAGES, high_half, low_half};
 use mm_pages::Pages;
@@ -21,25 +23,48 @@ fn private_key(pid: Pid, page: u32) -> Key
     Key::Private(pid, Vpn(page))
 }
 
-/// Adds the page's key if it is not committed.
+/// Whether a page has bytes of its own, of which this is known: only where nothing is, it is looked
+/// up.
+pub(crate) fn is_owned(space: &AddressSpace, page: u32, known: Option<bool>) -> bool
+    requires known { KnownAt known space.now.regions page }
+    ensures { result ≡ is_some (own_page space.now.regions page) }
+{
+    match known {
+        Some(owned) => owned,
+        None => space.is_owned(page),
+    }
+}
+
+/// Adds the page's key if it is not committed, of which this is known.
 #[tactic(auto, using(mm_pages::proofs::Passed::turns_same))]
-fn add_page<G: Pages>(g: &mut G, space: &AddressSpace, pid: Pid, page: u32)
-    requires can { CanAdd pid (only page) space.now.regions (G.contents g.old) (G.store g.old) }
-    ensures adds { Adds pid (only page) (G.contents g.old) (G.contents g.new) (G.store g.old)
+fn add_page<G: Pages>(g: &mut G, space: &AddressSpace, pid: Pid, page: u32, known: Option<bool>)
+    requires known { KnownAt known space.now.regions page }
+    requires can { CanAdd pid (one_page_range page) space.now.regions (G.contents g.old)
+        (G.store g.old) }
+    ensures adds { Adds pid (one_page_range page) (G.contents g.old) (G.contents g.new)
+        (G.store g.old)
         (G.store g.new) }
     ensures passes { (from to : ℕ) → from ≤ page → page < to →
         PassesIn G.unpaged (Turns (MakesFrom from to)) (G.store g.old) (G.store g.new)
         (G.behind g.old) (G.behind g.new) }
     ensures loans { G.loans g.new ≡ G.loans g.old }
 {
-    if !space.is_owned(page) {
+    if !is_owned(space, page, known) {
         g.add(private_key(pid, page));
     }
 }
 
-/// Adds the keys of those pages of the range that are not committed, in rising order.
+/// Adds the keys of those pages of the range that are not committed, of which this is known, in
+/// rising order.
 #[tactic(auto, using(mm_pages::proofs::Passed::turns_same))]
-pub(crate) fn add_pages<G: Pages>(g: &mut G, space: &AddressSpace, pid: Pid, range: PageRange)
+pub(crate) fn add_pages<G: Pages>(
+    g: &mut G,
+    space: &AddressSpace,
+    pid: Pid,
+    range: PageRange,
+    known: Option<bool>,
+)
+    requires known { KnownIn known space.now.regions range }
     requires end { end_of range ≤ end_of_user_pages }
     requires can { CanAdd pid range space.now.regions (G.contents g.old) (G.store g.old) }
     ensures adds { Adds pid range (G.contents g.old) (G.contents g.new) (G.store g.old)
@@ -50,15 +75,18 @@ pub(crate) fn add_pages<G: Pages>(g: &mut G, space: &AddressSpace, pid: Pid, ran
     ensures loans { G.loans g.new ≡ G.loans g.old }
 {
     for i in 0..range.count {
-        add_page(g, space, pid, range.first + i);
+        add_page(g, space, pid, range.first + i, known);
     }
 }
 
-/// Removes the page's key if it is committed.
+/// Removes the page's key if it is committed, of which this is known.
 #[tactic(auto, using(mm_pages::proofs::Passed::turns_same))]
-fn remove_page<G: Pages>(g: &mut G, space: &AddressSpace, pid: Pid, page: u32)
-    requires can { CanRemove pid (only page) space.now.regions (G.contents g.old) (G.store g.old) }
-    ensures removes { Removes pid (only page) (G.contents g.old) (G.contents g.new) (G.store g.old)
+fn remove_page<G: Pages>(g: &mut G, space: &AddressSpace, pid: Pid, page: u32, known: Option<bool>)
+    requires known { KnownAt known space.now.regions page }
+    requires can { CanRemove pid (one_page_range page) space.now.regions (G.contents g.old)
+        (G.store g.old) }
+    ensures removes { Removes pid (one_page_range page) (G.contents g.old) (G.contents g.new)
+        (G.store g.old)
         (G.store g.new) }
     ensures passes { (held : Leaving) (from to : ℕ) → held.places (place_at pid page) ≡ true →
         from ≤ page_rank page → page_rank (page + 1) ≤ to →
@@ -66,14 +94,22 @@ fn remove_page<G: Pages>(g: &mut G, space: &AddressSpace, pid: Pid, page: u32)
         (G.behind g.old) (G.behind g.new) }
     ensures loans { G.loans g.new ≡ G.loans g.old }
 {
-    if space.is_owned(page) {
+    if is_owned(space, page, known) {
         g.remove(private_key(pid, page));
     }
 }
 
-/// Removes the keys of those pages of the range that are committed, page by page.
+/// Removes the keys of those pages of the range that are committed, of which this is known, page by
+/// page.
 #[tactic(auto, using(mm_pages::proofs::Passed::turns_same))]
-fn remove_each<G: Pages>(g: &mut G, space: &AddressSpace, pid: Pid, range: PageRange)
+fn remove_each<G: Pages>(
+    g: &mut G,
+    space: &AddressSpace,
+    pid: Pid,
+    range: PageRange,
+    known: Option<bool>,
+)
+    requires known { KnownIn known space.now.regions range }
     requires end { end_of range ≤ end_of_user_pages }
     requires can { CanRemove pid range space.now.regions (G.contents g.old) (G.store g.old) }
     ensures removes { Removes pid range (G.contents g.old) (G.contents g.new) (G.store g.old)
@@ -84,7 +120,7 @@ fn remove_each<G: Pages>(g: &mut G, space: &AddressSpace, pid: Pid, range: PageR
     ensures loans { G.loans g.new ≡ G.loans g.old }
 {
     for i in 0..range.count {
-        remove_page(g, space, pid, range.first + i);
+        remove_page(g, space, pid, range.first + i, known);
     }
 }
 
@@ -113,8 +149,10 @@ pub(crate) fn remove_pages<G: Pages>(
     if owned == 0 {
         return;
     }
-    if owned == range.count || range.count <= FEW_PAGES {
-        remove_each(g, space, pid, range);
+    if owned == range.count {
+        remove_each(g, space, pid, range, Some(true));
+    } else if range.count <= FEW_PAGES {
+        remove_each(g, space, pid, range, None);
     } else {
         let low = low_half(range);
         let high = high_half(range);

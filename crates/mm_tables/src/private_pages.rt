@@ -1,21 +1,16 @@
-ghost use Rattle.std.specs.Prelude.{◌≡◌, ◌≤◌, ◌+◌, ◌%◌, ◌^◌, ◌==◌, ℕ, Bool, true, false, is_some, Option, Some, IsOk, OnOk, OnErr, option_map, remove};
+ghost use Rattle.std.specs.Prelude.{◌≡◌, ◌≤◌, ◌+◌, ◌^◌, ◌==◌, Bool, true, false, is_some, Option, Some, IsOk, OnOk, option_map, remove};
 ghost use Rattle.mm_types.specs.declared.moves.LineKind.TheVariants as line_kind;
 ghost use Rattle.mm_types.specs.declared.numbers.Place.{Place};
-ghost use Rattle.mm_pages.specs.Conditions.{AreAmong};
-ghost use Rattle.mm_pages.specs.Housekeeping.{Turn, Turns, MakesFrom, Ends};
-ghost use Rattle.mm_pages.specs.Leaving.{Leaving, leaving, page_rank};
-ghost use Rattle.mm_pages.specs.Passing.{PassesIn};
-ghost use Rattle.mm_types.specs.Address.{is_free, end_of_user_pages};
 ghost use Rattle.mm_types.specs.Allocation.{reserve_type};
 ghost use Rattle.mm_world.specs.World.{RegionOf, ProcessOf, pages_of};
-ghost use Rattle.mm_world.specs.Find.{Found, process_of, region_around, ranges_of, add_region, set_region, set_regions, end_stacks, is_private};
+ghost use Rattle.mm_world.specs.Find.{Found, process_of, region_around, add_region, set_region, set_regions, end_stacks, is_private};
 ghost use Rattle.mm_world.specs.Alloc.{private_region};
 ghost use Rattle.mm_world.specs.Charge.{charge, limit};
 ghost use Rattle.mm_world.specs.Contents.{blank};
 ghost use Rattle.mm_world.specs.Free.{private_at, is_stack_at};
 ghost use Rattle.mm_world.specs.Rows.{is_protection_among, private_protections, commit, reserved_row, change_rows};
-ghost use Rattle.mm_spaces.specs.Tables.{owned_in};
-ghost use Rattle.mm_tables.specs.Fits.{Fits, Settled, new_pages, is_uncommitted};
+ghost use Rattle.mm_tables.specs.Fits.{new_pages};
+ghost use Rattle.mm_tables.specs.Promises.{CommitsPages, IsNewRange, IsReady, MakesWithin, Settles, Frees};
 ghost use Rattle.mm_tables.specs.Ranges.{StandsFrom};
 
 use crate::Tables;
@@ -37,35 +32,18 @@ impl Tables {
         prot: u32,
         n: u32,
     ) -> Result<(), NoMemory>
-        requires fits { Fits self.old (G.contents g.old) (G.store g.old) }
-        requires kind { (G.store g.old).kind ≡ line_kind.Call }
-        requires lives { is_some (process_of self.old pid.0) ≡ true }
-        requires inside { (p : ProcessOf (Unit {0})) → process_of self.old pid.0 ≡ Some p →
-            is_some (region_around p.regions range) ≡ true }
-        requires private { (p : ProcessOf (Unit {0})) (r : Found (RegionOf (Unit {0}))) →
-            process_of self.old pid.0 ≡ Some p → region_around p.regions range ≡ Some r →
-            is_private r.thing.kind ≡ true }
-        requires prot { is_protection_among private_protections prot ≡ true }
-        requires counted { (p : ProcessOf (Unit {0})) → process_of self.old pid.0 ≡ Some p →
-            n + owned_in p.regions range ≡ range.count }
+        requires ready { IsReady G.Pages line_kind.Call pid self.old g.old }
+        requires can { CommitsPages pid range prot n self.old }
         requires room { charge self.old + n ≤ limit self.old }
         ensures ok { OnOk result ((p : ProcessOf (Unit {0})) (r : Found (RegionOf (Unit {0}))) →
             process_of self.old pid.0 ≡ Some p → region_around p.regions range ≡ Some r →
             self.new ≡ set_region self.old pid.0 p r.place
             (change_rows (commit tt prot) range r.thing)) }
         ensures enough { charge self.old + n ≤ (G.store g.old).room → IsOk result }
-        ensures later { (G.store g.old).room ≤ (G.store g.new).room }
-        ensures err { OnErr result ((self.new ≡ self.old) × (G.contents g.new ≡ G.contents g.old)) }
-        ensures settled { Settled self.new (G.contents g.old) (G.contents g.new) (G.store g.old)
-            (G.store g.new) }
+        ensures makes { MakesWithin G.Pages (λ from to. StandsFrom from to range) result g.old
+            g.new }
+        ensures settles { Settles G.Pages result self.old self.new g.old g.new }
         ensures among { StandsFrom 0 (2 ^ 32) range }
-        ensures passes { (from to : ℕ) → StandsFrom from to range →
-            PassesIn G.unpaged (Turns (MakesFrom from to)) (G.store g.old) (G.store g.new)
-            (G.behind g.old) (G.behind g.new) }
-        ensures idle { OnErr result ((turn : Turn) →
-            PassesIn G.unpaged (Turns turn) (G.store g.old) (G.store g.new) (G.behind g.old)
-            (G.behind g.new)) }
-        ensures loans { G.loans g.new ≡ G.loans g.old }
     {
         let total = self.commit.now() + n;
         commit_pages(
@@ -92,31 +70,18 @@ impl Tables {
         kind: u32,
         prot: u32,
     ) -> Result<(), NoMemory>
-        requires fits { Fits self.old (G.contents g.old) (G.store g.old) }
-        requires kind { (G.store g.old).kind ≡ line_kind.Call }
-        requires lives { is_some (process_of self.old pid.0) ≡ true }
-        requires free { (p : ProcessOf (Unit {0})) → process_of self.old pid.0 ≡ Some p →
-            is_free (ranges_of p.regions) range ≡ true }
-        requires granule { range.first % 16 ≡ 0 }
-        requires some { 1 ≤ range.count }
+        requires ready { IsReady G.Pages line_kind.Call pid self.old g.old }
+        requires new { (p : ProcessOf (Unit {0})) → process_of self.old pid.0 ≡ Some p →
+            IsNewRange p.regions range }
         requires prot { is_protection_among private_protections prot ≡ true }
         requires room { charge self.old + new_pages kind range ≤ limit self.old }
         ensures ok { OnOk result ((p : ProcessOf (Unit {0})) → process_of self.old pid.0 ≡ Some p →
             self.new ≡ set_regions self.old pid.0 p
             (add_region (private_region blank watched kind prot range) p.regions)) }
-        ensures later { (G.store g.old).room ≤ (G.store g.new).room }
-        ensures err { OnErr result ((self.new ≡ self.old) × (G.contents g.new ≡ G.contents g.old)) }
-        ensures settled { Settled self.new (G.contents g.old) (G.contents g.new) (G.store g.old)
-            (G.store g.new) }
+        ensures makes { MakesWithin G.Pages (λ from to.
+            (kind == reserve_type) ≡ false → StandsFrom from to range) result g.old g.new }
+        ensures settles { Settles G.Pages result self.old self.new g.old g.new }
         ensures among { StandsFrom 0 (2 ^ 32) range }
-        ensures passes { (from to : ℕ) →
-            ((kind == reserve_type) ≡ false → StandsFrom from to range) →
-            PassesIn G.unpaged (Turns (MakesFrom from to)) (G.store g.old) (G.store g.new)
-            (G.behind g.old) (G.behind g.new) }
-        ensures idle { OnErr result ((turn : Turn) →
-            PassesIn G.unpaged (Turns turn) (G.store g.old) (G.store g.new) (G.behind g.old)
-            (G.behind g.new)) }
-        ensures loans { G.loans g.new ≡ G.loans g.old }
     {
         let pages = new_pages(kind, range);
         let total = self.commit.now() + pages;
@@ -128,9 +93,7 @@ impl Tables {
 
     /// Decommits a range of one private region of a process.
     pub fn decommit<G: Pages>(&mut self, g: &mut G, pid: Pid, range: PageRange)
-        requires fits { Fits self.old (G.contents g.old) (G.store g.old) }
-        requires kind { (G.store g.old).kind ≡ line_kind.Unbind pid }
-        requires lives { is_some (process_of self.old pid.0) ≡ true }
+        requires ready { IsReady G.Pages (line_kind.Unbind pid) pid self.old g.old }
         requires inside { (p : ProcessOf (Unit {0})) → process_of self.old pid.0 ≡ Some p →
             is_some (region_around p.regions range) ≡ true }
         requires private { (p : ProcessOf (Unit {0})) (r : Found (RegionOf (Unit {0}))) →
@@ -140,14 +103,7 @@ impl Tables {
             process_of self.old pid.0 ≡ Some p → region_around p.regions range ≡ Some r →
             self.new ≡ set_region self.old pid.0 p r.place
             (change_rows (λ row. reserved_row) range r.thing) }
-        ensures settled { Settled self.new (G.contents g.old) (G.contents g.new) (G.store g.old)
-            (G.store g.new) }
-        ensures among { AreAmong (leaving self.old pid.0 (is_uncommitted self.new)) 1
-            (page_rank end_of_user_pages) pid range }
-        ensures passes { (held : Leaving) (from to : ℕ) → AreAmong held from to pid range →
-            PassesIn G.unpaged (Turns (Ends held from to)) (G.store g.old) (G.store g.new)
-            (G.behind g.old) (G.behind g.new) }
-        ensures loans { G.loans g.new ≡ G.loans g.old }
+        ensures frees { Frees G.Pages pid range self.old self.new g.old g.new }
     {
         let owned = decommit_pages(&mut self.processes[pid.0 as usize - 1], g, pid, range);
         self.commit.refund(owned);
@@ -155,22 +111,13 @@ impl Tables {
 
     /// `release`, before the stack is looked at that may have had the region.
     fn release_region<G: Pages>(&mut self, g: &mut G, pid: Pid, addr: u32, range: PageRange)
-        requires fits { Fits self.old (G.contents g.old) (G.store g.old) }
-        requires kind { (G.store g.old).kind ≡ line_kind.Unbind pid }
-        requires lives { is_some (process_of self.old pid.0) ≡ true }
+        requires ready { IsReady G.Pages (line_kind.Unbind pid) pid self.old g.old }
         requires there { (p : ProcessOf (Unit {0})) → process_of self.old pid.0 ≡ Some p →
             option_map (λ r. pages_of r.thing) (private_at p.regions addr) ≡ Some range }
         ensures changed { (p : ProcessOf (Unit {0})) (r : Found (RegionOf (Unit {0}))) →
             process_of self.old pid.0 ≡ Some p → private_at p.regions addr ≡ Some r →
             self.new ≡ set_regions self.old pid.0 p (remove p.regions r.place) }
-        ensures settled { Settled self.new (G.contents g.old) (G.contents g.new) (G.store g.old)
-            (G.store g.new) }
-        ensures among { AreAmong (leaving self.old pid.0 (is_uncommitted self.new)) 1
-            (page_rank end_of_user_pages) pid range }
-        ensures passes { (held : Leaving) (from to : ℕ) → AreAmong held from to pid range →
-            PassesIn G.unpaged (Turns (Ends held from to)) (G.store g.old) (G.store g.new)
-            (G.behind g.old) (G.behind g.new) }
-        ensures loans { G.loans g.new ≡ G.loans g.old }
+        ensures frees { Frees G.Pages pid range self.old self.new g.old g.new }
     {
         let freed = release_pages(&mut self.processes[pid.0 as usize - 1], g, pid, addr, range);
         self.commit.refund(freed);
@@ -179,23 +126,14 @@ impl Tables {
     /// Releases the private region of a process that begins at the address and has these pages.
     /// Where it was a thread's stack, the thread has none any more.
     pub fn release<G: Pages>(&mut self, g: &mut G, pid: Pid, addr: u32, range: PageRange)
-        requires fits { Fits self.old (G.contents g.old) (G.store g.old) }
-        requires kind { (G.store g.old).kind ≡ line_kind.Unbind pid }
-        requires lives { is_some (process_of self.old pid.0) ≡ true }
+        requires ready { IsReady G.Pages (line_kind.Unbind pid) pid self.old g.old }
         requires there { (p : ProcessOf (Unit {0})) → process_of self.old pid.0 ≡ Some p →
             option_map (λ r. pages_of r.thing) (private_at p.regions addr) ≡ Some range }
         ensures changed { (p : ProcessOf (Unit {0})) (r : Found (RegionOf (Unit {0}))) →
             process_of self.old pid.0 ≡ Some p → private_at p.regions addr ≡ Some r →
             self.new ≡ end_stacks (set_regions self.old pid.0 p (remove p.regions r.place))
             (is_stack_at pid.0 addr) }
-        ensures settled { Settled self.new (G.contents g.old) (G.contents g.new) (G.store g.old)
-            (G.store g.new) }
-        ensures among { AreAmong (leaving self.old pid.0 (is_uncommitted self.new)) 1
-            (page_rank end_of_user_pages) pid range }
-        ensures passes { (held : Leaving) (from to : ℕ) → AreAmong held from to pid range →
-            PassesIn G.unpaged (Turns (Ends held from to)) (G.store g.old) (G.store g.new)
-            (G.behind g.old) (G.behind g.new) }
-        ensures loans { G.loans g.new ≡ G.loans g.old }
+        ensures frees { Frees G.Pages pid range self.old self.new g.old g.new }
     {
         self.release_region(g, pid, addr, range);
         self.end_stack_at(pid, addr);

@@ -7,12 +7,12 @@ ghost use Rattle.mm_world.specs.Charge.{charge, limit};
 ghost use Rattle.mm_world.specs.Keys.{Committed, committed_at, guard_off, set_row, private_key};
 ghost use Rattle.mm_world.specs.Failure.{same_key};
 ghost use Rattle.mm_world.specs.Processes.{most_processes, most_slots, most_fails, no_regions, with_slots};
-ghost use Rattle.mm_world.specs.Rows.{is_protection_among, all_protections, is_committed_at, accepts, every_page, protected, change_rows};
+ghost use Rattle.mm_world.specs.Rows.{protected, change_rows};
 ghost use Rattle.mm_pages.specs.Conditions.{place_at};
-ghost use Rattle.mm_pages.specs.Housekeeping.{Turn, Turns};
-ghost use Rattle.mm_pages.specs.Passing.{PassesIn};
+ghost use Rattle.mm_pages.specs.Housekeeping.{Turns};
 ghost use Rattle.mm_pages.specs.Store.{StoreOf, changed};
-ghost use Rattle.mm_tables.specs.Fits.{Fits, Settled, before_process, extended, new_marks, copied, CanCopy, IsNamed};
+ghost use Rattle.mm_tables.specs.Fits.{FitsTables, extended, copied, CanCopy, NamesAtMostOne};
+ghost use Rattle.mm_tables.specs.Promises.{CanProtectAll, IsReady, StartsProcess, Idles, IdlesOver, Settles};
 
 use crate::Tables;
 use crate::steps::{
@@ -38,22 +38,16 @@ impl Tables {
     ) -> Result<(), NoMemory>
         requires few { length self.old.processes ≤ most_processes }
         requires next { pid.0 ≡ length self.old.processes }
-        requires kind { (G.store g.old).kind ≡ line_kind.Process pid min max }
-        requires starts { Fits self.old (G.contents g.old) (before_process self.old (G.store g.old)) }
-        requires last_pid { (G.store g.old).last_pid ≡ pid.0 }
+        requires starts { StartsProcess G.Pages pid min max self.old g.old }
         ensures ok { OnOk result (self.new ≡ record self.old {
           processes = self.old.processes ++ Some no_regions ∷ [];
         }) }
         ensures store { OnOk result (G.store g.new ≡ record (G.store g.old) {
           is_open = changed ◌==◌ (G.store g.old).is_open pid.0 true;
         }) }
-        ensures fits { OnOk result (Fits self.new (G.contents g.new) (G.store g.new)) }
+        ensures fits { OnOk result (FitsTables self.new (G.contents g.new) (G.store g.new)) }
         ensures kept { OnErr result ((self.new ≡ self.old) × (G.store g.new ≡ G.store g.old)) }
-        ensures contents { G.contents g.new ≡ G.contents g.old }
-        ensures passes { (turn : Turn) →
-            PassesIn G.unpaged (Turns turn) (G.store g.old) (G.store g.new) (G.behind g.old)
-            (G.behind g.new) }
-        ensures loans { G.loans g.new ≡ G.loans g.old }
+        ensures idles { IdlesOver G.Pages g.old g.new }
     {
         push_process(&mut self.processes, allocator, g, pid, min, max)?;
         Ok(())
@@ -63,9 +57,10 @@ impl Tables {
     pub fn add_slots(&mut self, n: u32)
         requires most { self.old.machine.slots + n ≤ most_slots }
         ensures grown { self.new ≡ record self.old { machine = with_slots self.old.machine n } }
-        ensures fits { (contents : Key → Option Page) (s z : StoreOf) → Fits self.old contents s →
+        ensures fits { (contents : Key → Option Page) (s z : StoreOf) →
+            FitsTables self.old contents s →
             z ≡ extended s z → z.machine ≡ with_slots s.machine n → s.room ≤ z.room →
-            Fits self.new contents z }
+            FitsTables self.new contents z }
     {
         self.machine = with_slots(self.machine, n);
         self.commit.raise(n);
@@ -75,8 +70,9 @@ impl Tables {
     pub fn take_fail(&mut self)
         requires most { self.old.fails_taken < most_fails }
         ensures taken { self.new ≡ record self.old { fails_taken = self.old.fails_taken + 1 } }
-        ensures fits { (contents : Key → Option Page) (s z : StoreOf) → Fits self.old contents s →
-            IsNamed s z → Fits self.new contents z }
+        ensures fits { (contents : Key → Option Page) (s z : StoreOf) →
+            FitsTables self.old contents s →
+            NamesAtMostOne s z → FitsTables self.new contents z }
     {
         self.fails_taken += 1;
     }
@@ -91,8 +87,9 @@ impl Tables {
         ensures off { (p : ProcessOf (Unit {0})) (c : Committed (Unit {0})) →
             process_of self.old pid.0 ≡ Some p → committed_at self.old p.regions page ≡ Some c →
             self.new ≡ guard_off self.old pid.0 p c page }
-        ensures fits { (contents : Key → Option Page) (s : StoreOf) → Fits self.old contents s →
-            Fits self.new contents s }
+        ensures fits { (contents : Key → Option Page) (s : StoreOf) →
+            FitsTables self.old contents s →
+            FitsTables self.new contents s }
     {
         take_guard_off(&mut self.processes[pid.0 as usize - 1], page);
     }
@@ -110,8 +107,8 @@ impl Tables {
               prot = 0x04;
             }) }
         ensures fits { (contents : Key → Option Page) (s : StoreOf) (bytes : Page) →
-            Fits self.old contents s →
-            Fits self.new (changed same_key contents (private_key pid.0 page) (Some bytes))
+            FitsTables self.old contents s →
+            FitsTables self.new (changed same_key contents (private_key pid.0 page) (Some bytes))
             (copied (place_at pid page) s) }
     {
         copy_page(&mut self.processes[pid.0 as usize - 1], page);
@@ -128,33 +125,16 @@ impl Tables {
         prot: u32,
         n: u32,
     ) -> Result<(), NoMemory>
-        requires fits { Fits self.old (G.contents g.old) (G.store g.old) }
-        requires kind { (G.store g.old).kind ≡ line_kind.Call }
-        requires lives { is_some (process_of self.old pid.0) ≡ true }
-        requires inside { (p : ProcessOf (Unit {0})) → process_of self.old pid.0 ≡ Some p →
-            is_some (region_around p.regions range) ≡ true }
-        requires prot { is_protection_among all_protections prot ≡ true }
-        requires committed { (p : ProcessOf (Unit {0})) (r : Found (RegionOf (Unit {0}))) →
-            process_of self.old pid.0 ≡ Some p → region_around p.regions range ≡ Some r →
-            every_page (is_committed_at self.old r.thing) range ≡ true }
-        requires accepted { (p : ProcessOf (Unit {0})) (r : Found (RegionOf (Unit {0}))) →
-            process_of self.old pid.0 ≡ Some p → region_around p.regions range ≡ Some r →
-            every_page (accepts r.thing prot) range ≡ true }
-        requires counted { (p : ProcessOf (Unit {0})) → process_of self.old pid.0 ≡ Some p →
-            n ≡ new_marks p.regions range prot }
+        requires ready { IsReady G.Pages line_kind.Call pid self.old g.old }
+        requires can { CanProtectAll pid range prot n self.old }
         requires room { charge self.old + n ≤ limit self.old }
         ensures ok { OnOk result ((p : ProcessOf (Unit {0})) (r : Found (RegionOf (Unit {0}))) →
             process_of self.old pid.0 ≡ Some p → region_around p.regions range ≡ Some r →
             self.new ≡ set_region self.old pid.0 p r.place
             (change_rows (protected r.thing.kind prot) range r.thing)) }
-        ensures err { OnErr result ((self.new ≡ self.old) × (G.contents g.new ≡ G.contents g.old)) }
+        ensures settles { Settles G.Pages result self.old self.new g.old g.new }
         ensures some { n ≡ 0 → IsOk result }
-        ensures settled { Settled self.new (G.contents g.old) (G.contents g.new) (G.store g.old)
-            (G.store g.new) }
-        ensures passes { (turn : Turn) →
-            PassesIn G.unpaged (Turns turn) (G.store g.old) (G.store g.new) (G.behind g.old)
-            (G.behind g.new) }
-        ensures loans { G.loans g.new ≡ G.loans g.old }
+        ensures idles { Idles G.Pages g.old g.new }
     {
         let total = self.commit.now() + n;
         grow_for_marks(g, n, total)?;

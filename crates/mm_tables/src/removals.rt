@@ -1,6 +1,5 @@
-ghost use Rattle.std.specs.Prelude.{if◌then◌else◌, Bool, true, ℕ, ◌≡◌, ◌≤◌, ◌<◌, ◌+◌, ◌&&◌, ◌-◌, Some, None, length, count_by, is_some};
+ghost use Rattle.std.specs.Prelude.{if◌then◌else◌, Bool, true, ℕ, ◌≡◌, ◌≤◌, ◌<◌, ◌+◌, ◌&&◌, ◌-◌, None, length, count_by, is_some};
 ghost use Rattle.mm_types.specs.Address.{end_of, end_of_user_pages};
-ghost use Rattle.mm_types.specs.declared.numbers.Place.{Place};
 ghost use Rattle.mm_pages.specs.Conditions.{AreAmong, IsAmong, place_at};
 ghost use Rattle.mm_pages.specs.Housekeeping.{Turns, Ends};
 ghost use Rattle.mm_pages.specs.Leaving.{Leaving, page_rank};
@@ -10,10 +9,12 @@ ghost use Rattle.mm_world.specs.Failure.{same_key};
 ghost use Rattle.mm_world.specs.Find.{no_area, region_around};
 ghost use Rattle.mm_world.specs.Keys.{own_page};
 ghost use Rattle.mm_spaces.specs.Tables.{owned_in};
-ghost use Rattle.mm_tables.specs.Endings.{is_owned_at, CanGo, CanGoAll, Gone, among, owned_among, shared_at, is_committed_in, CanGiveUp, GivenUp, CanRelease, Released, CanEnd, Emptied, ended_area};
-ghost use Rattle.mm_tables.specs.Ranges.{only, passing, is_live};
+ghost use Rattle.mm_tables.specs.Endings.{is_owned_at, CanGo, CanGoAll, Gone, is_owned_among, owned_among, shared_at, is_committed_in, CanGiveUp, GivenUp, CanRelease, Released, CanEnd, Emptied, ended_area, EndsArea};
+ghost use Rattle.mm_tables.specs.Known.{KnownAt, KnownIn};
+ghost use Rattle.mm_tables.specs.Ranges.{one_page_range, passing, is_page_live};
 
 use crate::halves::{FEW_PAGES, high_half, low_half};
+use crate::keys::is_owned;
 use mm_commit::Commit;
 use mm_pages::Pages;
 use mm_sections::SectionPages;
@@ -43,7 +44,7 @@ fn remove_shared<G: Pages>(g: &mut G, pages: &SectionPages, area: Area)
         (G.store g.old) }
     requires live { (i : ℕ) → is_some (G.contents g.old (shared_at area i)) ≡
         is_committed_in pages.now i }
-    ensures gone { Gone (among (shared_at area) (is_committed_in pages.now)
+    ensures gone { Gone (is_owned_among (shared_at area) (is_committed_in pages.now)
         (length pages.now.pages)) (owned_among (is_committed_in pages.now) (length pages.now.pages))
         (G.contents g.old) (G.contents g.new) (G.store g.old) (G.store g.new) }
     ensures passes { (held : Leaving) (from to : ℕ) → from ≤ held.rank area.0 →
@@ -58,11 +59,13 @@ fn remove_shared<G: Pages>(g: &mut G, pages: &SectionPages, area: Area)
     }
 }
 
-/// Gives up one page of a process: its key, where it has bytes of its own, and then its place.
-fn release_page<G: Pages>(g: &mut G, space: &AddressSpace, pid: Pid, page: u32)
+/// Gives up one page of a process: its key, where it has bytes of its own, of which this is known,
+/// and then its place.
+fn release_page<G: Pages>(g: &mut G, space: &AddressSpace, pid: Pid, page: u32, known: Option<bool>)
+    requires known { KnownAt known space.now.regions page }
     requires can { CanGiveUp pid page (is_some (own_page space.now.regions page)) (G.contents g.old)
         (G.store g.old) }
-    ensures given_up { GivenUp pid (only page)
+    ensures given_up { GivenUp pid (one_page_range page)
         (if is_some (own_page space.now.regions page) then 1 else 0) (G.contents g.old)
         (G.contents g.new) (G.store g.old) (G.store g.new) }
     ensures passes { (held : Leaving) (from to : ℕ) → held.places (place_at pid page) ≡ true →
@@ -71,12 +74,24 @@ fn release_page<G: Pages>(g: &mut G, space: &AddressSpace, pid: Pid, page: u32)
         (G.behind g.old) (G.behind g.new) }
     ensures loans { G.loans g.new ≡ G.loans g.old }
 {
-    remove_if(g, space.is_owned(page), Key::Private(pid, Vpn(page)));
+    remove_if(
+        g,
+        is_owned(space, page, known),
+        Key::Private(pid, Vpn(page)),
+    );
     g.unbind(pid, Vpn(page), 1);
 }
 
-/// Gives up pages of a process one by one in rising order, each with its key before the next.
-fn release_each<G: Pages>(g: &mut G, space: &AddressSpace, pid: Pid, range: PageRange)
+/// Gives up pages of a process one by one in rising order, each with its key before the next; of
+/// each this is known.
+fn release_each<G: Pages>(
+    g: &mut G,
+    space: &AddressSpace,
+    pid: Pid,
+    range: PageRange,
+    known: Option<bool>,
+)
+    requires known { KnownIn known space.now.regions range }
     requires end { end_of range ≤ end_of_user_pages }
     requires can { CanRelease pid range space.now.regions (G.contents g.old) (G.store g.old) }
     ensures given_up { GivenUp pid range
@@ -88,7 +103,7 @@ fn release_each<G: Pages>(g: &mut G, space: &AddressSpace, pid: Pid, range: Page
     ensures loans { G.loans g.new ≡ G.loans g.old }
 {
     for i in 0..range.count {
-        release_page(g, space, pid, range.first + i);
+        release_page(g, space, pid, range.first + i, known);
     }
 }
 
@@ -125,8 +140,10 @@ fn release_some<G: Pages>(g: &mut G, space: &AddressSpace, pid: Pid, range: Page
     space.sound();
     if owned == 0 {
         release_empty(g, space, pid, range);
-    } else if owned == range.count || range.count <= FEW_PAGES {
-        release_each(g, space, pid, range);
+    } else if owned == range.count {
+        release_each(g, space, pid, range, Some(true));
+    } else if range.count <= FEW_PAGES {
+        release_each(g, space, pid, range, None);
     } else {
         let low = low_half(range);
         let high = high_half(range);
@@ -149,7 +166,7 @@ pub(crate) fn release_pages<G: Pages>(
     requires can { CanRelease pid range space.now.regions (G.contents g.old) (G.store g.old) }
     ensures owned { result ≡ owned_in space.now.regions range }
     ensures given_up { GivenUp pid range
-        (passing (is_live pid (G.contents g.old)) range.first range.count) (G.contents g.old)
+        (passing (is_page_live pid (G.contents g.old)) range.first range.count) (G.contents g.old)
         (G.contents g.new) (G.store g.old) (G.store g.new) }
     ensures released { Released pid range space.now.regions (G.contents g.old) (G.contents g.new)
         (G.store g.old) (G.store g.new) }
@@ -201,11 +218,8 @@ pub(crate) fn end_area<G: Pages>(
     ensures refunded { commit.new ≡ record commit.old {
       charge = commit.old.charge - area_charge pages.old;
     } }
-    ensures file { (first : ℕ) → pages.old.file_block ≡ Some first →
-        (G.contents g.new ≡ G.contents g.old) × (G.store g.new ≡ G.store g.old) }
-    ensures bound { (place : Place) → (G.store g.new).bound place ≡ (G.store g.old).bound place }
-    ensures emptied { pages.old.file_block ≡ None →
-        Emptied area pages.old (G.contents g.old) (G.contents g.new) (G.store g.old) (G.store g.new) }
+    ensures ends { EndsArea area pages.old (G.contents g.old) (G.contents g.new) (G.store g.old)
+        (G.store g.new) }
     ensures passes { (held : Leaving) (from to : ℕ)
         → (pages.old.file_block ≡ None → (from ≤ held.rank area.0) × (held.rank area.0 < to)) →
         PassesIn G.unpaged (Turns (Ends held from to)) (G.store g.old) (G.store g.new)

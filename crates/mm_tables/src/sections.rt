@@ -1,4 +1,4 @@
-ghost use Rattle.std.specs.Prelude.{◌≡◌, ◌≤◌, ◌<◌, ◌+◌, ◌^◌, ◌++◌, [], ◌∷◌, true, false, is_some, ℕ, length, replicate, if◌then◌else◌, Option, Some, None, IfOk, OnOk, OnErr, IfSome, position, slice_set, option_map, vec_len, vec_capacity};
+ghost use Rattle.std.specs.Prelude.{◌≡◌, ◌≤◌, ◌<◌, ◌+◌, ◌^◌, ◌++◌, [], ◌∷◌, true, false, is_some, length, replicate, if◌then◌else◌, Option, Some, None, IfOk, OnOk, OnErr, IfSome, position, slice_set, option_map, vec_len, vec_capacity};
 ghost use Rattle.mm_types.specs.declared.answers.Answer.TheVariants as answer;
 ghost use Rattle.mm_types.specs.declared.numbers.Key.{Key};
 ghost use Rattle.mm_types.specs.Machine.{limit_of};
@@ -6,16 +6,16 @@ ghost use Rattle.mm_world.specs.World.{Page, ProcessOf, numbered};
 ghost use Rattle.mm_world.specs.Find.{process_of, section_of, section_named, area_at, is_named};
 ghost use Rattle.mm_world.specs.Charge.{charge, limit};
 ghost use Rattle.mm_world.specs.Sections.{next_handle, with_handle, new_section};
-ghost use Rattle.mm_pages.specs.Housekeeping.{Turn, Turns, Makes};
-ghost use Rattle.mm_pages.specs.Passing.{PassesIn};
+ghost use Rattle.mm_pages.specs.Housekeeping.{Makes};
 ghost use Rattle.mm_pages.specs.Store.{StoreOf};
 ghost use Rattle.mm_sections.specs.Directories.{sections_of, new_entry, one_handle_more};
 ghost use Rattle.mm_sections.specs.Pages.{page_if};
 ghost use Rattle.mm_tables.specs.References.{IsFew};
 ghost use Rattle.mm_tables.specs.Shown.{shown_process, shown_processes};
-ghost use Rattle.mm_tables.specs.SectionSteps.{has_spare, has_room, CanFill, Fills, Opens};
+ghost use Rattle.mm_tables.specs.Promises.{IsReady, PassesAs, MakesPages, Settles};
+ghost use Rattle.mm_tables.specs.SectionSteps.{has_spare, has_room, CanFill, Fills, Opens, IsListedAs, CanHold, IsNewArea};
 ghost use Rattle.mm_tables.specs.Effects.{Roomier};
-ghost use Rattle.mm_tables.specs.Fits.{Fits, Settled};
+ghost use Rattle.mm_tables.specs.Fits.{FitsTables, Settled};
 ghost use Rattle.mm_types.specs.declared.moves.LineKind.TheVariants as line_kind;
 
 use crate::Tables;
@@ -67,10 +67,7 @@ fn grow_handles_of(processes: &mut Vec<Option<Process>>, pid: Pid) -> Result<(),
 
 /// The next handle of the process, to this section. There is room for it.
 fn give_handle_of(processes: &mut Vec<Option<Process>>, pid: Pid, id: SectionId) -> u32
-    requires lives { is_some (numbered (shown_processes processes.old.items) pid.0) ≡ true }
-    requires room { has_room processes.old.items pid.0 ≡ true }
-    requires few { (p : ProcessOf (Unit {0})) →
-        numbered (shown_processes processes.old.items) pid.0 ≡ Some p → length p.handles < 2 ^ 28 }
+    requires holds { CanHold processes.old.items pid.0 }
     ensures handle { (p : ProcessOf (Unit {0})) →
         numbered (shown_processes processes.old.items) pid.0 ≡ Some p → result ≡ next_handle p }
     ensures given { (p : ProcessOf (Unit {0})) →
@@ -92,8 +89,7 @@ fn grow_for_section(
 ) -> Result<(), NoMemory>
     requires lives { is_some (numbered (shown_processes processes.old.items) pid.0) ≡ true }
     ensures processes { shown_processes processes.new.items ≡ shown_processes processes.old.items }
-    ensures entries { directory.new.entries ≡ directory.old.entries }
-    ensures files { directory.new.files ≡ directory.old.files }
+    ensures listed { IsListedAs directory.old directory.new }
     ensures spare { OnOk result (1 ≤ directory.new.spare) }
     ensures room { OnOk result (has_room processes.new.items pid.0 ≡ true) }
 {
@@ -111,12 +107,9 @@ fn list_section(
     prot: Prot,
     name: Option<Name>,
 ) -> u32
-    requires lives { is_some (numbered (shown_processes processes.old.items) pid.0) ≡ true }
+    requires holds { CanHold processes.old.items pid.0 }
     requires spare { 1 ≤ directory.old.spare }
-    requires room { has_room processes.old.items pid.0 ≡ true }
     requires few { length directory.old.entries < 2 ^ 28 }
-    requires held { (p : ProcessOf (Unit {0})) →
-        numbered (shown_processes processes.old.items) pid.0 ≡ Some p → length p.handles < 2 ^ 28 }
     requires unnamed { IfSome name (λ n. position (is_named n) (sections_of directory.old.entries) ≡
         None) }
     ensures handle { (p : ProcessOf (Unit {0})) →
@@ -152,8 +145,7 @@ fn grow_for_paging(
       pages = replicate pages (page_if committed);
     }) }
     ensures processes { shown_processes processes.new.items ≡ shown_processes processes.old.items }
-    ensures entries { directory.new.entries ≡ directory.old.entries }
-    ensures files { directory.new.files ≡ directory.old.files }
+    ensures listed { IsListedAs directory.old directory.new }
     ensures areas { areas.new.items ≡ areas.old.items }
     ensures spare { OnOk result (1 ≤ directory.new.spare) }
     ensures room { OnOk result (has_room processes.new.items pid.0 ≡ true) }
@@ -171,8 +163,7 @@ fn fill_area<G: Pages>(g: &mut G, area: Area, n: u32)
     requires can { CanFill area n (G.contents g.old) (G.store g.old) }
     ensures fills { Fills area n (G.contents g.old) (G.contents g.new) (G.store g.old)
         (G.store g.new) }
-    ensures passes { PassesIn G.unpaged (Turns Makes) (G.store g.old) (G.store g.new)
-        (G.behind g.old) (G.behind g.new) }
+    ensures passes { PassesAs G.Pages Makes g.old g.new }
     ensures loans { G.loans g.new ≡ G.loans g.old }
 {
     for i in 0..n {
@@ -190,11 +181,7 @@ fn open_paging_area<G: Pages>(
     n: u32,
     total: u32,
 ) -> Result<(), NoMemory>
-    requires new { (G.store g.old).areas area.0 ≡ None }
-    requires few { area.0 < 2 ^ 28 }
-    requires some { 1 ≤ pages }
-    requires within { n ≤ pages }
-    requires dead { (i : ℕ) → G.contents g.old (Key.Shared area i) ≡ None }
+    requires new { IsNewArea area pages n (G.contents g.old) (G.store g.old) }
     requires limit { total ≤ limit_of (G.store g.old).machine }
     requires keys { (G.store g.old).paging_keys + n ≤ total }
     requires kind { (G.store g.old).kind ≡ line_kind.Call }
@@ -203,13 +190,7 @@ fn open_paging_area<G: Pages>(
     ensures room { OnOk result (total ≤ (G.store g.new).room) }
     ensures err { OnErr result
         (Roomier (G.contents g.old) (G.contents g.new) (G.store g.old) (G.store g.new)) }
-    ensures passes { PassesIn G.unpaged (Turns Makes) (G.store g.old) (G.store g.new)
-        (G.behind g.old) (G.behind g.new) }
-    ensures idle { OnErr result
-        ((turn : Turn) →
-        PassesIn G.unpaged (Turns turn) (G.store g.old) (G.store g.new) (G.behind g.old)
-        (G.behind g.new)) }
-    ensures loans { G.loans g.new ≡ G.loans g.old }
+    ensures makes { MakesPages G.Pages result g.old g.new }
 {
     g.reserve(total)?;
     g.open_area(area, pages)?;
@@ -261,9 +242,7 @@ impl Tables {
         prot: Prot,
         name: Option<Name>,
     ) -> Result<u32, NoMemory>
-        requires fits { Fits self.old (G.contents g.old) (G.store g.old) }
-        requires kind { (G.store g.old).kind ≡ line_kind.Call }
-        requires lives { is_some (process_of self.old pid.0) ≡ true }
+        requires ready { IsReady G.Pages line_kind.Call pid self.old g.old }
         requires few { IsFew self.old }
         requires some { 1 ≤ pages }
         requires unnamed { IfSome name (λ n. section_named self.old n ≡ None) }
@@ -275,15 +254,8 @@ impl Tables {
                   record { file_block = None; pages = replicate pages (page_if committed) } ∷ [];
             }) pid.0 p (record { prot = prot.0; name = name; area = length self.old.areas })
             ≡ record { answer = answer.Created handle false; world = self.new }) }
-        ensures err { OnErr result ((self.new ≡ self.old) × (G.contents g.new ≡ G.contents g.old)) }
-        ensures settled { Settled self.new (G.contents g.old) (G.contents g.new) (G.store g.old)
-            (G.store g.new) }
-        ensures passes { PassesIn G.unpaged (Turns Makes) (G.store g.old) (G.store g.new)
-            (G.behind g.old) (G.behind g.new) }
-        ensures idle { OnErr result ((turn : Turn) →
-            PassesIn G.unpaged (Turns turn) (G.store g.old) (G.store g.new) (G.behind g.old)
-            (G.behind g.new)) }
-        ensures loans { G.loans g.new ≡ G.loans g.old }
+        ensures settles { Settles G.Pages result self.old self.new g.old g.new }
+        ensures makes { MakesPages G.Pages result g.old g.new }
     {
         let area = Area(self.areas.len() as u32);
         let n = pages_if(pages, committed);
@@ -332,7 +304,7 @@ impl Tables {
               area = area.0;
             }) ≡ record { answer = answer.Created handle false; world = self.new }) }
         ensures err { OnErr result (self.new ≡ self.old) }
-        ensures settled { (c : Key → Option Page) (s : StoreOf) → Fits self.old c s →
+        ensures settled { (c : Key → Option Page) (s : StoreOf) → FitsTables self.old c s →
             Settled self.new c c s s }
     {
         grow_for_section(&mut self.directory, &mut self.processes, pid)?;
@@ -355,7 +327,7 @@ impl Tables {
             process_of self.old pid.0 ≡ Some p →
             (handle ≡ next_handle p) × (self.new ≡ with_handle self.old pid.0 p id.0)) }
         ensures err { OnErr result (self.new ≡ self.old) }
-        ensures settled { (c : Key → Option Page) (s : StoreOf) → Fits self.old c s →
+        ensures settled { (c : Key → Option Page) (s : StoreOf) → FitsTables self.old c s →
             Settled self.new c c s s }
     {
         grow_handles_of(&mut self.processes, pid)?;

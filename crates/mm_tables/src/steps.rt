@@ -1,26 +1,24 @@
-ghost use Rattle.std.specs.Prelude.{◌≡◌, ◌≤◌, ◌+◌, ◌-◌, ◌%◌, ◌==◌, ◌++◌, [], ◌∷◌, ℕ, true, false, is_some, Some, IsOk, OnOk, OnErr, option_map, slice_set, remove};
-ghost use Rattle.mm_types.specs.Address.{end_of, end_of_user_pages, are_user_pages, is_free, holds_page};
+ghost use Rattle.std.specs.Prelude.{◌≡◌, ◌≤◌, ◌+◌, ◌-◌, ◌==◌, ◌++◌, [], ◌∷◌, ℕ, true, false, is_some, Some, IsOk, OnOk, OnErr, slice_set, remove};
+ghost use Rattle.mm_types.specs.Address.{end_of, end_of_user_pages, are_user_pages, holds_page};
 ghost use Rattle.mm_types.specs.Machine.{limit_of};
-ghost use Rattle.mm_world.specs.World.{RowOf, RegionOf, pages_of};
-ghost use Rattle.mm_world.specs.Find.{Found, region_with, region_around, ranges_of, add_region, is_private};
+ghost use Rattle.mm_world.specs.World.{RowOf, RegionOf};
+ghost use Rattle.mm_world.specs.Find.{Found, region_with, region_around, add_region, is_private};
 ghost use Rattle.mm_types.specs.Allocation.{reserve_type};
 ghost use Rattle.mm_world.specs.Alloc.{private_region};
 ghost use Rattle.mm_world.specs.Contents.{blank};
 ghost use Rattle.mm_world.specs.Free.{private_at};
 ghost use Rattle.mm_world.specs.Rows.{row_at, is_protection_among, private_protections, all_protections, every_page, accepts, commit, reserved_row, protected, change_rows};
 ghost use Rattle.mm_pages.specs.Conditions.{AllBound};
-ghost use Rattle.mm_pages.specs.Conditions.{AreAmong};
-ghost use Rattle.mm_pages.specs.Housekeeping.{Turn, Turns, MakesFrom, Ends as Ending};
-ghost use Rattle.mm_pages.specs.Leaving.{Leaving};
-ghost use Rattle.mm_pages.specs.Passing.{PassesIn};
+ghost use Rattle.mm_pages.specs.Housekeeping.{MakesFrom};
 ghost use Rattle.mm_types.specs.declared.numbers.Place.{Place};
 ghost use Rattle.std.specs.Prelude.{Bool};
 ghost use Rattle.mm_spaces.specs.Tables.{owned_in};
-ghost use Rattle.mm_tables.specs.Effects.{Makes, Ends, Leaves, Stored, Roomier, CanMake, keys_of};
+ghost use Rattle.mm_tables.specs.Effects.{Makes, Ends, Leaves, RangeStored, Roomier, CanMake, keys_of};
 ghost use Rattle.mm_tables.specs.Fits.{new_pages};
-ghost use Rattle.mm_tables.specs.Ranges.{CanAdd, CanRemove, StandsFrom, passing, is_dead, is_live};
+ghost use Rattle.mm_tables.specs.Promises.{LiesInPrivate, BeginsAt, IsNewRange, CanAddUpTo, CanRemoveIn, CanBind, PassesAs, Idles, IdlesOver, EndsPages, MakesWithin, Adds, Removes, Binds, KeepsCount, KeepsRegions};
+ghost use Rattle.mm_tables.specs.Ranges.{CanAdd, StandsFrom, passing, is_page_dead, is_page_live};
 ghost use Rattle.mm_tables.specs.Shown.{shown_processes};
-ghost use Rattle.mm_tables.specs.Spaces.{regions_of, Became};
+ghost use Rattle.mm_tables.specs.Spaces.{process_regions, RegionsBecame};
 ghost use Rattle.mm_types.specs.declared.moves.LineKind.TheVariants as line_kind;
 ghost use Rattle.mm_pages.specs.Store.{changed};
 ghost use Rattle.mm_world.specs.Processes.{no_regions, with_slots, most_slots};
@@ -41,11 +39,11 @@ const RESERVE_TYPE: u32 = 0x2000;
 /// Takes the guard off a page that lies in a region of a living process.
 pub(crate) fn take_guard_off(process: &mut Option<Process>, page: u32)
     requires lives { is_some process.old ≡ true }
-    requires there { is_some (region_with (regions_of process.old) page) ≡ true }
+    requires there { is_some (region_with (process_regions process.old) page) ≡ true }
     ensures changed { (r : Found (RegionOf (Unit {0}))) (row : RowOf (Unit {0})) →
-        region_with (regions_of process.old) page ≡ Some r → row_at r.thing page ≡ Some row
-        → Became process.old process.new
-        (slice_set (regions_of process.old) r.place (record r.thing {
+        region_with (process_regions process.old) page ≡ Some r → row_at r.thing page ≡ Some row
+        → RegionsBecame process.old process.new
+        (slice_set (process_regions process.old) r.place (record r.thing {
           rows = slice_set r.thing.rows (page - r.thing.base) (record row { guard = false });
         })) }
 {
@@ -59,14 +57,14 @@ pub(crate) fn take_guard_off(process: &mut Option<Process>, page: u32)
 /// READWRITE.
 pub(crate) fn copy_page(process: &mut Option<Process>, page: u32)
     requires lives { is_some process.old ≡ true }
-    requires there { is_some (region_with (regions_of process.old) page) ≡ true }
+    requires there { is_some (region_with (process_regions process.old) page) ≡ true }
     requires marked { (r : Found (RegionOf (Unit {0}))) (row : RowOf (Unit {0})) →
-        region_with (regions_of process.old) page ≡ Some r → row_at r.thing page ≡ Some row
+        region_with (process_regions process.old) page ≡ Some r → row_at r.thing page ≡ Some row
         → (is_private r.thing.kind ≡ false) × (row.marked ≡ true) }
     ensures changed { (r : Found (RegionOf (Unit {0}))) (row : RowOf (Unit {0})) →
-        region_with (regions_of process.old) page ≡ Some r → row_at r.thing page ≡ Some row
-        → Became process.old process.new
-        (slice_set (regions_of process.old) r.place (record r.thing {
+        region_with (process_regions process.old) page ≡ Some r → row_at r.thing page ≡ Some row
+        → RegionsBecame process.old process.new
+        (slice_set (process_regions process.old) r.place (record r.thing {
           rows = slice_set r.thing.rows (page - r.thing.base)
               (record row { own = Some tt; prot = 0x04 });
         })) }
@@ -88,46 +86,25 @@ pub(crate) fn commit_pages<G: Pages>(
     prot: u32,
     total: u32,
 ) -> Result<(), NoMemory>
-    requires lives { is_some process.old ≡ true }
-    requires within { total ≤ limit_of (G.store g.old).machine }
-    requires end { end_of range ≤ end_of_user_pages }
-    requires inside { is_some (region_around (regions_of process.old) range) ≡ true }
-    requires private { (r : Found (RegionOf (Unit {0}))) →
-        region_around (regions_of process.old) range ≡ Some r → is_private r.thing.kind ≡ true }
+    requires lies { LiesInPrivate process.old range }
     requires prot { is_protection_among private_protections prot ≡ true }
-    requires can { CanAdd pid range (regions_of process.old) (G.contents g.old)
-        (record (G.store g.old) {
-          room = total;
-        }) }
+    requires can { CanAddUpTo G.Pages pid range total (process_regions process.old) g.old }
     ensures changed { OnOk result ((r : Found (RegionOf (Unit {0}))) →
-        region_around (regions_of process.old) range ≡ Some r →
-        Became process.old process.new
-        (slice_set (regions_of process.old) r.place (change_rows (commit tt prot) range r.thing))) }
-    ensures stored { OnOk result (Stored pid range Makes Leaves false (G.contents g.old)
-        (G.contents g.new) (G.store g.old) (G.store g.new)) }
-    ensures counted { OnOk result ((G.store g.new).paging_keys ≡
-        (G.store g.old).paging_keys + passing (is_dead pid (G.contents g.old)) range.first
-        range.count) }
-    ensures room { OnOk result (total ≤ (G.store g.new).room) }
+        region_around (process_regions process.old) range ≡ Some r →
+        RegionsBecame process.old process.new
+        (slice_set (process_regions process.old) r.place
+        (change_rows (commit tt prot) range r.thing))) }
+    ensures adds { OnOk result (Adds G.Pages pid range Makes Leaves false
+        (passing (is_page_dead pid (G.contents g.old)) range.first range.count) total g.old g.new) }
     ensures enough { total ≤ (G.store g.old).room → IsOk result }
-    ensures later { (G.store g.old).room ≤ (G.store g.new).room }
-    ensures kept { OnErr result (Became process.old process.new (regions_of process.old)) }
-    ensures err { OnErr result
-        (Roomier (G.contents g.old) (G.contents g.new) (G.store g.old) (G.store g.new)) }
-    ensures passes { (from to : ℕ) → StandsFrom from to range →
-        PassesIn G.unpaged (Turns (MakesFrom from to)) (G.store g.old) (G.store g.new)
-        (G.behind g.old) (G.behind g.new) }
-    ensures idle { OnErr result
-        ((turn : Turn) →
-        PassesIn G.unpaged (Turns turn) (G.store g.old) (G.store g.new) (G.behind g.old)
-        (G.behind g.new)) }
-    ensures loans { G.loans g.new ≡ G.loans g.old }
+    ensures keeps { OnErr result (KeepsRegions G.Pages process.old process.new g.old g.new) }
+    ensures makes { MakesWithin G.Pages (λ from to. StandsFrom from to range) result g.old g.new }
 {
     let Some(process) = process else {
         unreachable!()
     };
     g.reserve(total)?;
-    add_pages(g, &process.space, pid, range);
+    add_pages(g, &process.space, pid, range, None);
     process.space.commit(range, prot);
     Ok(())
 }
@@ -140,28 +117,16 @@ pub(crate) fn decommit_pages<G: Pages>(
     pid: Pid,
     range: PageRange,
 ) -> u32
-    requires lives { is_some process.old ≡ true }
-    requires end { end_of range ≤ end_of_user_pages }
-    requires inside { is_some (region_around (regions_of process.old) range) ≡ true }
-    requires private { (r : Found (RegionOf (Unit {0}))) →
-        region_around (regions_of process.old) range ≡ Some r → is_private r.thing.kind ≡ true }
-    requires can { CanRemove pid range (regions_of process.old) (G.contents g.old) (G.store g.old) }
-    ensures owned { result ≡ owned_in (regions_of process.old) range }
+    requires lies { LiesInPrivate process.old range }
+    requires can { CanRemoveIn G.Pages pid range (process_regions process.old) g.old }
+    ensures owned { result ≡ owned_in (process_regions process.old) range }
     ensures changed { (r : Found (RegionOf (Unit {0}))) →
-        region_around (regions_of process.old) range ≡ Some r →
-        Became process.old process.new
-        (slice_set (regions_of process.old) r.place
+        region_around (process_regions process.old) range ≡ Some r →
+        RegionsBecame process.old process.new
+        (slice_set (process_regions process.old) r.place
         (change_rows (λ row. reserved_row) range r.thing)) }
-    ensures stored { Stored pid range Ends Leaves true (G.contents g.old) (G.contents g.new)
-        (G.store g.old) (G.store g.new) }
-    ensures counted { (G.store g.new).paging_keys ≡
-        (G.store g.old).paging_keys - passing (is_live pid (G.contents g.old)) range.first
-        range.count }
-    ensures room { (G.store g.new).room ≡ (G.store g.old).room }
-    ensures passes { (held : Leaving) (from to : ℕ) → AreAmong held from to pid range →
-        PassesIn G.unpaged (Turns (Ending held from to)) (G.store g.old) (G.store g.new)
-        (G.behind g.old) (G.behind g.new) }
-    ensures loans { G.loans g.new ≡ G.loans g.old }
+    ensures removes { Removes G.Pages pid range Leaves g.old g.new }
+    ensures ends { EndsPages G.Pages pid range g.old g.new }
 {
     let Some(process) = process else {
         unreachable!()
@@ -182,27 +147,15 @@ pub(crate) fn release_pages<G: Pages>(
     addr: u32,
     range: PageRange,
 ) -> u32
-    requires lives { is_some process.old ≡ true }
-    requires end { end_of range ≤ end_of_user_pages }
-    requires there { option_map (λ r. pages_of r.thing) (private_at (regions_of process.old) addr) ≡
-        Some range }
-    requires inside { is_some (region_around (regions_of process.old) range) ≡ true }
+    requires begins { BeginsAt process.old addr range }
     requires bound { AllBound (G.store g.old) pid range true }
-    requires can { CanRemove pid range (regions_of process.old) (G.contents g.old) (G.store g.old) }
-    ensures owned { result ≡ owned_in (regions_of process.old) range }
+    requires can { CanRemoveIn G.Pages pid range (process_regions process.old) g.old }
+    ensures owned { result ≡ owned_in (process_regions process.old) range }
     ensures changed { (r : Found (RegionOf (Unit {0}))) →
-        private_at (regions_of process.old) addr ≡ Some r →
-        Became process.old process.new (remove (regions_of process.old) r.place) }
-    ensures stored { Stored pid range Ends Ends true (G.contents g.old) (G.contents g.new)
-        (G.store g.old) (G.store g.new) }
-    ensures counted { (G.store g.new).paging_keys ≡
-        (G.store g.old).paging_keys - passing (is_live pid (G.contents g.old)) range.first
-        range.count }
-    ensures room { (G.store g.new).room ≡ (G.store g.old).room }
-    ensures passes { (held : Leaving) (from to : ℕ) → AreAmong held from to pid range →
-        PassesIn G.unpaged (Turns (Ending held from to)) (G.store g.old) (G.store g.new)
-        (G.behind g.old) (G.behind g.new) }
-    ensures loans { G.loans g.new ≡ G.loans g.old }
+        private_at (process_regions process.old) addr ≡ Some r →
+        RegionsBecame process.old process.new (remove (process_regions process.old) r.place) }
+    ensures removes { Removes G.Pages pid range Ends g.old g.new }
+    ensures ends { EndsPages G.Pages pid range g.old g.new }
 {
     let Some(process) = process else {
         unreachable!()
@@ -222,22 +175,14 @@ fn grow_for_region<G: Pages>(
     total: u32,
 ) -> Result<(), NoMemory>
     requires user { are_user_pages range ≡ true }
-    requires within { total ≤ limit_of (G.store g.old).machine }
-    requires opened { (G.store g.old).is_open pid.0 ≡ true }
-    requires unbound { AllBound (G.store g.old) pid range false }
+    requires bind { CanBind G.Pages pid range total g.old }
     ensures regions { space.new.regions ≡ space.old.regions }
     ensures spare { OnOk result (1 ≤ space.new.spare) }
-    ensures stored { OnOk result (Stored pid range Leaves Makes true (G.contents g.old)
-        (G.contents g.new) (G.store g.old) (G.store g.new)) }
-    ensures counted { (G.store g.new).paging_keys ≡ (G.store g.old).paging_keys }
-    ensures room { OnOk result (total ≤ (G.store g.new).room) }
-    ensures later { (G.store g.old).room ≤ (G.store g.new).room }
+    ensures binds { OnOk result (Binds G.Pages pid range total g.old g.new) }
+    ensures keeps { KeepsCount G.Pages g.old g.new }
     ensures err { OnErr result
         (Roomier (G.contents g.old) (G.contents g.new) (G.store g.old) (G.store g.new)) }
-    ensures passes { (turn : Turn) →
-        PassesIn G.unpaged (Turns turn) (G.store g.old) (G.store g.new) (G.behind g.old)
-        (G.behind g.new) }
-    ensures loans { G.loans g.new ≡ G.loans g.old }
+    ensures idles { Idles G.Pages g.old g.new }
 {
     space.reserve()?;
     g.reserve(total)?;
@@ -252,19 +197,18 @@ fn fill_region<G: Pages>(space: &AddressSpace, g: &mut G, pid: Pid, range: PageR
     requires can { (kind == reserve_type) ≡ false →
         CanAdd pid range space.now.regions (G.contents g.old) (G.store g.old) }
     requires dead { (page : ℕ) → holds_page range page ≡ true →
-        is_live pid (G.contents g.old) page ≡ false }
-    ensures stored { Stored pid range (keys_of kind) Leaves false (G.contents g.old)
+        is_page_live pid (G.contents g.old) page ≡ false }
+    ensures stored { RangeStored pid range (keys_of kind) Leaves false (G.contents g.old)
         (G.contents g.new) (G.store g.old) (G.store g.new) }
     ensures counted { (G.store g.new).paging_keys ≡ (G.store g.old).paging_keys + new_pages kind
         range }
     ensures room { (G.store g.new).room ≡ (G.store g.old).room }
     ensures passes { (from to : ℕ) → ((kind == reserve_type) ≡ false → StandsFrom from to range) →
-        PassesIn G.unpaged (Turns (MakesFrom from to)) (G.store g.old) (G.store g.new)
-        (G.behind g.old) (G.behind g.new) }
+        PassesAs G.Pages (MakesFrom from to) g.old g.new }
     ensures loans { G.loans g.new ≡ G.loans g.old }
 {
     if kind != RESERVE_TYPE {
-        add_pages(g, space, pid, range);
+        add_pages(g, space, pid, range, Some(false));
     }
 }
 
@@ -284,31 +228,17 @@ pub(crate) fn make_region<G: Pages>(
     total: u32,
 ) -> Result<(), NoMemory>
     requires lives { is_some process.old ≡ true }
-    requires free { is_free (ranges_of (regions_of process.old)) range ≡ true }
-    requires granule { range.first % 16 ≡ 0 }
-    requires some { 1 ≤ range.count }
+    requires new { IsNewRange (process_regions process.old) range }
     requires prot { is_protection_among private_protections prot ≡ true }
-    requires can { CanMake pid range kind total (regions_of process.old) (G.contents g.old)
+    requires can { CanMake pid range kind total (process_regions process.old) (G.contents g.old)
         (G.store g.old) }
-    ensures changed { OnOk result (Became process.old process.new
-        (add_region (private_region blank watched kind prot range) (regions_of process.old))) }
-    ensures stored { OnOk result (Stored pid range (keys_of kind) Makes true (G.contents g.old)
-        (G.contents g.new) (G.store g.old) (G.store g.new)) }
-    ensures counted { OnOk result ((G.store g.new).paging_keys ≡
-        (G.store g.old).paging_keys + new_pages kind range) }
-    ensures room { OnOk result (total ≤ (G.store g.new).room) }
-    ensures later { (G.store g.old).room ≤ (G.store g.new).room }
-    ensures kept { OnErr result (Became process.old process.new (regions_of process.old)) }
-    ensures err { OnErr result
-        (Roomier (G.contents g.old) (G.contents g.new) (G.store g.old) (G.store g.new)) }
-    ensures passes { (from to : ℕ) → ((kind == reserve_type) ≡ false → StandsFrom from to range) →
-        PassesIn G.unpaged (Turns (MakesFrom from to)) (G.store g.old) (G.store g.new)
-        (G.behind g.old) (G.behind g.new) }
-    ensures idle { OnErr result
-        ((turn : Turn) →
-        PassesIn G.unpaged (Turns turn) (G.store g.old) (G.store g.new) (G.behind g.old)
-        (G.behind g.new)) }
-    ensures loans { G.loans g.new ≡ G.loans g.old }
+    ensures changed { OnOk result (RegionsBecame process.old process.new
+        (add_region (private_region blank watched kind prot range) (process_regions process.old))) }
+    ensures adds { OnOk result (Adds G.Pages pid range (keys_of kind) Makes true
+        (new_pages kind range) total g.old g.new) }
+    ensures makes { MakesWithin G.Pages (λ from to.
+        (kind == reserve_type) ≡ false → StandsFrom from to range) result g.old g.new }
+    ensures keeps { OnErr result (KeepsRegions G.Pages process.old process.new g.old g.new) }
 {
     let Some(process) = process else {
         unreachable!()
@@ -329,10 +259,7 @@ pub(crate) fn grow_for_marks<G: Pages>(g: &mut G, n: u32, total: u32) -> Result<
     ensures room { OnOk result (total ≤ (G.store g.new).room) }
     ensures some { n ≡ 0 → IsOk result }
     ensures more { Roomier (G.contents g.old) (G.contents g.new) (G.store g.old) (G.store g.new) }
-    ensures passes { (turn : Turn) →
-        PassesIn G.unpaged (Turns turn) (G.store g.old) (G.store g.new) (G.behind g.old)
-        (G.behind g.new) }
-    ensures loans { G.loans g.new ≡ G.loans g.old }
+    ensures idles { Idles G.Pages g.old g.new }
 {
     if n > 0 {
         g.reserve(total)?;
@@ -343,18 +270,19 @@ pub(crate) fn grow_for_marks<G: Pages>(g: &mut G, n: u32, total: u32) -> Result<
 /// Gives pages of one region of a living process another protection, which they accept.
 pub(crate) fn protect_pages(process: &mut Option<Process>, range: PageRange, prot: u32)
     requires lives { is_some process.old ≡ true }
-    requires inside { is_some (region_around (regions_of process.old) range) ≡ true }
+    requires inside { is_some (region_around (process_regions process.old) range) ≡ true }
     requires prot { is_protection_among all_protections prot ≡ true }
     requires accepted { (r : Found (RegionOf (Unit {0}))) →
-        region_around (regions_of process.old) range ≡ Some r →
+        region_around (process_regions process.old) range ≡ Some r →
         every_page (accepts r.thing prot) range ≡ true }
     requires committed { (r : Found (RegionOf (Unit {0}))) →
-        region_around (regions_of process.old) range ≡ Some r → is_private r.thing.kind ≡ true →
-        owned_in (regions_of process.old) range ≡ range.count }
+        region_around (process_regions process.old) range ≡ Some r →
+        is_private r.thing.kind ≡ true →
+        owned_in (process_regions process.old) range ≡ range.count }
     ensures changed { (r : Found (RegionOf (Unit {0}))) →
-        region_around (regions_of process.old) range ≡ Some r →
-        Became process.old process.new
-        (slice_set (regions_of process.old) r.place
+        region_around (process_regions process.old) range ≡ Some r →
+        RegionsBecame process.old process.new
+        (slice_set (process_regions process.old) r.place
         (change_rows (protected r.thing.kind prot) range r.thing)) }
 {
     match process {
@@ -383,11 +311,7 @@ pub(crate) fn push_process<G: Pages>(
       is_open = changed ◌==◌ (G.store g.old).is_open pid.0 true;
     }) }
     ensures kept { OnErr result (G.store g.new ≡ G.store g.old) }
-    ensures contents { G.contents g.new ≡ G.contents g.old }
-    ensures passes { (turn : Turn) →
-        PassesIn G.unpaged (Turns turn) (G.store g.old) (G.store g.new) (G.behind g.old)
-        (G.behind g.new) }
-    ensures loans { G.loans g.new ≡ G.loans g.old }
+    ensures idles { IdlesOver G.Pages g.old g.new }
 {
     processes.push(Some(Process {
         space: AddressSpace::new(allocator),

@@ -45,13 +45,13 @@ pub struct Tables {
 impl Model for Tables {
     ghost use Rattle.mm_world.specs.Contents.{Tables};
     ghost use Rattle.mm_tables.specs.Shown.{shown_processes, shown_accesses, tables_with};
-    ghost use Rattle.mm_tables.specs.Sound.{IsKept};
+    ghost use Rattle.mm_tables.specs.Sound.{AreKeptTables};
 
     ghost Value = { Tables };
 
     ghost view = { λ t. tables_with t.machine (shown_processes t.processes.items) t.directory.entries t.areas.items t.directory.files t.blocks_used t.fails_taken (shown_accesses t.kept) t.stacks };
 
-    ghost invariant = { λ t. IsKept (tables_with t.machine (shown_processes t.processes.items) t.directory.entries t.areas.items t.directory.files t.blocks_used t.fails_taken (shown_accesses t.kept) t.stacks) t.directory.entries t.commit };
+    ghost invariant = { λ t. AreKeptTables (tables_with t.machine (shown_processes t.processes.items) t.directory.entries t.areas.items t.directory.files t.blocks_used t.fails_taken (shown_accesses t.kept) t.stacks) t.directory.entries t.commit };
 }
 
 impl Tables {

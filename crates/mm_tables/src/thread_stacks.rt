@@ -5,7 +5,8 @@ ghost use Rattle.mm_world.specs.Find.{unless, stack_by, set_stack, end_stacks};
 ghost use Rattle.mm_world.specs.Free.{is_stack_at};
 ghost use Rattle.mm_world.specs.Step.{threads};
 ghost use Rattle.mm_pages.specs.Store.{StoreOf};
-ghost use Rattle.mm_tables.specs.Fits.{Fits};
+ghost use Rattle.mm_tables.specs.Fits.{FitsTables};
+ghost use Rattle.mm_tables.specs.Stacks.{StandBelow};
 
 use crate::Tables;
 use mm_types::{PAGE_SIZE, Pid, THREADS, Tid};
@@ -43,14 +44,19 @@ impl Model for ThreadStack {
 #[derive(Drop)]
 pub(crate) struct Stacks {
     places: [Option<ThreadStack>; THREADS],
+    /// No thread from this number on has a stack.
+    end: usize,
 }
 
 impl Model for Stacks {
     ghost use Rattle.mm_world.specs.World.{Numbered, StackOf};
+    ghost use Rattle.mm_tables.specs.Stacks.{StandBelow};
 
     ghost Value = { Numbered StackOf };
 
     ghost view = { λ s. s.places };
+
+    ghost invariant = { λ s. StandBelow s.end s.places };
 }
 
 /// The stack, unless its process is this one and its lowest page has this address.
@@ -77,20 +83,23 @@ fn unless_in(pid: Pid, stack: Option<ThreadStack>) -> Option<ThreadStack>
     }
 }
 
-/// No stack is one whose region begins at the address any more.
-fn drop_at(places: &mut [Option<ThreadStack>; THREADS], pid: Pid, addr: u32)
+/// No stack is one whose region begins at the address any more; the threads below `end` may have
+/// one.
+fn drop_at(places: &mut [Option<ThreadStack>; THREADS], end: usize, pid: Pid, addr: u32)
+    requires below { StandBelow end places.old }
     ensures { places.new ≡ map (unless (is_stack_at pid.0 addr)) places.old }
 {
-    for tid in 0..THREADS {
+    for tid in 0..end {
         places[tid] = unless_at(pid, addr, places[tid]);
     }
 }
 
-/// No stack is one of the process any more.
-fn drop_in(places: &mut [Option<ThreadStack>; THREADS], pid: Pid)
+/// No stack is one of the process any more; the threads below `end` may have one.
+fn drop_in(places: &mut [Option<ThreadStack>; THREADS], end: usize, pid: Pid)
+    requires below { StandBelow end places.old }
     ensures { places.new ≡ map (unless (λ (s : StackOf). s.pid == pid.0)) places.old }
 {
-    for tid in 0..THREADS {
+    for tid in 0..end {
         places[tid] = unless_in(pid, places[tid]);
     }
 }
@@ -102,6 +111,7 @@ impl Stacks {
     {
         Stacks {
             places: [None; THREADS],
+            end: 0,
         }
     }
 
@@ -116,21 +126,23 @@ impl Stacks {
     fn put(&mut self, tid: Tid, stack: ThreadStack)
         ensures { self.new ≡ slice_set self.old tid.0 (Some stack) }
     {
-        self.places[tid.0 as usize] = Some(stack);
+        let place = tid.0 as usize;
+        self.places[place] = Some(stack);
+        self.end = self.end.max(place + 1);
     }
 
     /// A stack of the process whose region begins at the address ends.
     fn end_at(&mut self, pid: Pid, addr: u32)
         ensures { self.new ≡ map (unless (is_stack_at pid.0 addr)) self.old }
     {
-        drop_at(&mut self.places, pid, addr);
+        drop_at(&mut self.places, self.end, pid, addr);
     }
 
     /// Each stack of the process ends.
     fn end_in(&mut self, pid: Pid)
         ensures { self.new ≡ map (unless (λ (s : StackOf). s.pid == pid.0)) self.old }
     {
-        drop_in(&mut self.places, pid);
+        drop_in(&mut self.places, self.end, pid);
     }
 }
 
@@ -145,8 +157,8 @@ impl Tables {
     /// A thread has this stack from now on, in the place of one that it had.
     pub fn set_stack(&mut self, tid: Tid, stack: ThreadStack)
         ensures set { self.new ≡ set_stack self.old tid.0 stack }
-        ensures fits { (c : Key → Option Page) (s : StoreOf) → Fits self.old c s →
-            Fits self.new c s }
+        ensures fits { (c : Key → Option Page) (s : StoreOf) → FitsTables self.old c s →
+            FitsTables self.new c s }
     {
         self.stacks.put(tid, stack);
     }
@@ -155,8 +167,8 @@ impl Tables {
     /// the thread has none.
     pub(crate) fn end_stack_at(&mut self, pid: Pid, addr: u32)
         ensures ended { self.new ≡ end_stacks self.old (is_stack_at pid.0 addr) }
-        ensures fits { (c : Key → Option Page) (s : StoreOf) → Fits self.old c s →
-            Fits self.new c s }
+        ensures fits { (c : Key → Option Page) (s : StoreOf) → FitsTables self.old c s →
+            FitsTables self.new c s }
     {
         self.stacks.end_at(pid, addr);
     }
@@ -164,8 +176,8 @@ impl Tables {
     /// No thread has a stack in this process any more.
     pub(crate) fn end_stacks_in(&mut self, pid: Pid)
         ensures ended { self.new ≡ end_stacks self.old (λ s. s.pid == pid.0) }
-        ensures fits { (c : Key → Option Page) (s : StoreOf) → Fits self.old c s →
-            Fits self.new c s }
+        ensures fits { (c : Key → Option Page) (s : StoreOf) → FitsTables self.old c s →
+            FitsTables self.new c s }
     {
         self.stacks.end_in(pid);
     }

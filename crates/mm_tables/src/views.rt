@@ -1,24 +1,20 @@
-ghost use Rattle.std.specs.Prelude.{◌≡◌, ◌≤◌, ◌<◌, ◌+◌, ◌-◌, ◌%◌, ◌^◌, ℕ, true, false, is_some, if◌then◌else◌, Some, None, IsOk, OnOk, OnErr, length, slice_set};
+ghost use Rattle.std.specs.Prelude.{◌≡◌, ◌≤◌, ◌<◌, ◌+◌, ◌-◌, ◌^◌, ℕ, true, false, is_some, if◌then◌else◌, Some, None, IsOk, OnOk, OnErr, length, slice_set};
 ghost use Rattle.mm_types.specs.declared.moves.LineKind.TheVariants as line_kind;
 ghost use Rattle.mm_types.specs.declared.views.View.{View};
 ghost use Rattle.mm_types.specs.declared.views.Kind.TheVariants as kind;
-ghost use Rattle.mm_types.specs.Address.{are_user_pages, is_free};
-ghost use Rattle.mm_types.specs.Machine.{limit_of};
+ghost use Rattle.mm_types.specs.Address.{are_user_pages};
 ghost use Rattle.mm_world.specs.World.{RegionOf, ProcessOf, SectionOf};
-ghost use Rattle.mm_world.specs.Find.{Found, process_of, section_of, region_around, ranges_of, add_region, set_region, set_regions, set_area, area_at, is_private};
+ghost use Rattle.mm_world.specs.Find.{Found, process_of, section_of, region_around, add_region, set_region, set_regions, set_area, area_at, is_private};
 ghost use Rattle.mm_world.specs.Alloc.{commit_shared};
 ghost use Rattle.mm_world.specs.Charge.{charge, limit};
 ghost use Rattle.mm_world.specs.Contents.{blank};
-ghost use Rattle.mm_world.specs.Rows.{is_protection_among, all_protections, private_protections, every_page, accepts, protected, change_rows};
+ghost use Rattle.mm_world.specs.Rows.{is_protection_among, all_protections, protected, change_rows};
 ghost use Rattle.mm_world.specs.Views.{view_region, is_copy};
 ghost use Rattle.mm_world.specs.WellFormed.{ViewFits};
-ghost use Rattle.mm_pages.specs.Conditions.{AllBound};
-ghost use Rattle.mm_pages.specs.Housekeeping.{Turn, Turns, Makes, MakesFrom};
-ghost use Rattle.mm_pages.specs.Passing.{PassesIn};
-ghost use Rattle.mm_sections.specs.Pages.{uncommitted_in};
-ghost use Rattle.mm_tables.specs.Fits.{Fits, Settled};
+ghost use Rattle.mm_pages.specs.Housekeeping.{Makes, MakesFrom};
+ghost use Rattle.mm_tables.specs.Promises.{CommitsInView, IsNewPlace, IsReady, CanBind, PassesAs, Idles, IdlesOver, MakesPages, BindsPlaces, Settles};
 ghost use Rattle.mm_tables.specs.Shown.{shown_processes};
-ghost use Rattle.mm_tables.specs.ViewChanges.{region_of_view, living, area_in, MoreRoom, NewPlaces, CanShare, Shares, CanProtect};
+ghost use Rattle.mm_tables.specs.ViewChanges.{region_of_view, living, listed_area, MoreRoom, CanShare, Shares, CanProtect};
 
 use crate::Tables;
 use crate::tables::Process;
@@ -63,19 +59,13 @@ fn grow_for_view<G: Pages>(
     total: u32,
 ) -> Result<(), NoMemory>
     requires user { are_user_pages range ≡ true }
-    requires within { total ≤ limit_of (G.store g.old).machine }
-    requires opened { (G.store g.old).is_open pid.0 ≡ true }
-    requires unbound { AllBound (G.store g.old) pid range false }
+    requires bind { CanBind G.Pages pid range total g.old }
     ensures regions { space.new.regions ≡ space.old.regions }
     ensures spare { OnOk result (1 ≤ space.new.spare) }
-    ensures bound { OnOk result (NewPlaces pid range (G.store g.old) (G.store g.new)) }
-    ensures room { OnOk result (total ≤ (G.store g.new).room) }
+    ensures binds { OnOk result (BindsPlaces G.Pages pid range total g.old g.new) }
     ensures contents { G.contents g.new ≡ G.contents g.old }
     ensures err { OnErr result (MoreRoom (G.store g.old) (G.store g.new)) }
-    ensures passes { (turn : Turn) →
-        PassesIn G.unpaged (Turns turn) (G.store g.old) (G.store g.new) (G.behind g.old)
-        (G.behind g.new) }
-    ensures loans { G.loans g.new ≡ G.loans g.old }
+    ensures idles { Idles G.Pages g.old g.new }
 {
     space.reserve()?;
     g.reserve(total)?;
@@ -95,22 +85,14 @@ fn make_view<G: Pages>(
     view: View,
     total: u32,
 ) -> Result<(), NoMemory>
-    requires free { is_free (ranges_of space.old.regions) range ≡ true }
-    requires granule { range.first % 16 ≡ 0 }
-    requires within { total ≤ limit_of (G.store g.old).machine }
-    requires opened { (G.store g.old).is_open pid.0 ≡ true }
-    requires unbound { AllBound (G.store g.old) pid range false }
+    requires new { IsNewPlace space.old.regions range }
+    requires bind { CanBind G.Pages pid range total g.old }
     ensures regions { OnOk result (space.new.regions ≡
         add_region (region_of_view view range) space.old.regions) }
-    ensures bound { OnOk result (NewPlaces pid range (G.store g.old) (G.store g.new)) }
-    ensures room { OnOk result (total ≤ (G.store g.new).room) }
-    ensures contents { G.contents g.new ≡ G.contents g.old }
+    ensures binds { OnOk result (BindsPlaces G.Pages pid range total g.old g.new) }
+    ensures idles { IdlesOver G.Pages g.old g.new }
     ensures kept { OnErr result (space.new.regions ≡ space.old.regions) }
     ensures err { OnErr result (MoreRoom (G.store g.old) (G.store g.new)) }
-    ensures passes { (turn : Turn) →
-        PassesIn G.unpaged (Turns turn) (G.store g.old) (G.store g.new) (G.behind g.old)
-        (G.behind g.new) }
-    ensures loans { G.loans g.new ≡ G.loans g.old }
 {
     let region = NewRegion::view(alloc, view, range)?;
     grow_for_view(space, g, pid, range, total)?;
@@ -130,28 +112,20 @@ fn make_view_in<G: Pages>(
     total: u32,
 ) -> Result<(), NoMemory>
     requires lives { is_some (living processes.old.items pid.0) ≡ true }
-    requires free { (p : ProcessOf (Unit {0})) → living processes.old.items pid.0 ≡ Some p →
-        is_free (ranges_of p.regions) range ≡ true }
-    requires granule { range.first % 16 ≡ 0 }
-    requires within { total ≤ limit_of (G.store g.old).machine }
-    requires opened { (G.store g.old).is_open pid.0 ≡ true }
-    requires unbound { AllBound (G.store g.old) pid range false }
+    requires new { (p : ProcessOf (Unit {0})) → living processes.old.items pid.0 ≡ Some p →
+        IsNewPlace p.regions range }
+    requires bind { CanBind G.Pages pid range total g.old }
     ensures made { OnOk result ((p : ProcessOf (Unit {0})) →
         living processes.old.items pid.0 ≡ Some p →
         shown_processes processes.new.items ≡ slice_set (shown_processes processes.old.items) pid.0
         (Some (record p {
           regions = add_region (region_of_view view range) p.regions;
         }))) }
-    ensures bound { OnOk result (NewPlaces pid range (G.store g.old) (G.store g.new)) }
-    ensures room { OnOk result (total ≤ (G.store g.new).room) }
-    ensures contents { G.contents g.new ≡ G.contents g.old }
+    ensures binds { OnOk result (BindsPlaces G.Pages pid range total g.old g.new) }
+    ensures idles { IdlesOver G.Pages g.old g.new }
     ensures kept { OnErr result
         (shown_processes processes.new.items ≡ shown_processes processes.old.items) }
     ensures err { OnErr result (MoreRoom (G.store g.old) (G.store g.new)) }
-    ensures passes { (turn : Turn) →
-        PassesIn G.unpaged (Turns turn) (G.store g.old) (G.store g.new) (G.behind g.old)
-        (G.behind g.new) }
-    ensures loans { G.loans g.new ≡ G.loans g.old }
 {
     match &mut processes[pid.0 as usize - 1] {
         Some(process) => make_view(alloc, &mut process.space, g, pid, range, view, total),
@@ -211,8 +185,7 @@ fn share_page<G: Pages>(g: &mut G, pages: &SectionPages, area: Area, index: u32)
     ensures shares { Shares area index 1 pages.now (G.contents g.old) (G.contents g.new)
         (G.store g.old) (G.store g.new) }
     ensures passes { (from to : ℕ) → from ≤ index → index < to →
-        PassesIn G.unpaged (Turns (MakesFrom from to)) (G.store g.old) (G.store g.new)
-        (G.behind g.old) (G.behind g.new) }
+        PassesAs G.Pages (MakesFrom from to) g.old g.new }
     ensures loans { G.loans g.new ≡ G.loans g.old }
 {
     if !pages.is_committed(index) {
@@ -227,8 +200,7 @@ fn share_range<G: Pages>(g: &mut G, pages: &SectionPages, area: Area, first: u32
     requires can { CanShare area first count pages.now (G.contents g.old) (G.store g.old) }
     ensures shares { Shares area first count pages.now (G.contents g.old) (G.contents g.new)
         (G.store g.old) (G.store g.new) }
-    ensures passes { PassesIn G.unpaged (Turns Makes) (G.store g.old) (G.store g.new)
-        (G.behind g.old) (G.behind g.new) }
+    ensures passes { PassesAs G.Pages Makes g.old g.new }
     ensures loans { G.loans g.new ≡ G.loans g.old }
 {
     for i in 0..count {
@@ -256,8 +228,7 @@ fn share_in<G: Pages>(pages: &mut SectionPages, g: &mut G, view: View, offset: u
     ensures pages { pages.new ≡ commit_shared blank (view.first + offset) count pages.old }
     ensures shares { Shares view.area (view.first + offset) count pages.old (G.contents g.old)
         (G.contents g.new) (G.store g.old) (G.store g.new) }
-    ensures passes { PassesIn G.unpaged (Turns Makes) (G.store g.old) (G.store g.new)
-        (G.behind g.old) (G.behind g.new) }
+    ensures passes { PassesAs G.Pages Makes g.old g.new }
     ensures loans { G.loans g.new ≡ G.loans g.old }
 {
     let first = index_behind(pages, view.first, offset);
@@ -275,15 +246,16 @@ fn share_pages<G: Pages>(
 )
     requires some { 1 ≤ count }
     requires can { CanShare view.area (view.first + offset) count
-        (area_in areas.old.items view.area.0) (G.contents g.old) (G.store g.old) }
+        (listed_area areas.old.items view.area.0) (G.contents g.old) (G.store g.old) }
     ensures areas { areas.new.items ≡
         slice_set areas.old.items view.area.0
-        (commit_shared blank (view.first + offset) count (area_in areas.old.items view.area.0)) }
+        (commit_shared blank (view.first +
+        offset) count (listed_area areas.old.items view.area.0)) }
     ensures shares { Shares view.area (view.first + offset) count
-        (area_in areas.old.items view.area.0) (G.contents g.old) (G.contents g.new) (G.store g.old)
+        (listed_area areas.old.items view.area.0) (G.contents g.old) (G.contents g.new)
+        (G.store g.old)
         (G.store g.new) }
-    ensures passes { PassesIn G.unpaged (Turns Makes) (G.store g.old) (G.store g.new)
-        (G.behind g.old) (G.behind g.new) }
+    ensures passes { PassesAs G.Pages Makes g.old g.new }
     ensures loans { G.loans g.new ≡ G.loans g.old }
 {
     share_in(&mut areas[view.area.0 as usize], g, view, offset, count);
@@ -323,26 +295,8 @@ impl Tables {
         prot: u32,
         n: u32,
     ) -> Result<(), NoMemory>
-        requires fits { Fits self.old (G.contents g.old) (G.store g.old) }
-        requires kind { (G.store g.old).kind ≡ line_kind.Call }
-        requires lives { is_some (process_of self.old pid.0) ≡ true }
-        requires inside { (p : ProcessOf (Unit {0})) → process_of self.old pid.0 ≡ Some p →
-            is_some (region_around p.regions range) ≡ true }
-        requires view { (p : ProcessOf (Unit {0})) (r : Found (RegionOf (Unit {0}))) →
-            process_of self.old pid.0 ≡ Some p → region_around p.regions range ≡ Some r →
-            is_private r.thing.kind ≡ false }
-        requires paging { (p : ProcessOf (Unit {0})) (r : Found (RegionOf (Unit {0}))) (v : View) →
-            process_of self.old pid.0 ≡ Some p → region_around p.regions range ≡ Some r →
-            r.thing.kind ≡ kind.View v → (area_at self.old v.area.0).file_block ≡ None }
-        requires prot { is_protection_among private_protections prot ≡ true }
-        requires accepted { (p : ProcessOf (Unit {0})) (r : Found (RegionOf (Unit {0}))) →
-            process_of self.old pid.0 ≡ Some p → region_around p.regions range ≡ Some r →
-            every_page (accepts r.thing prot) range ≡ true }
-        requires counted { (p : ProcessOf (Unit {0})) (r : Found (RegionOf (Unit {0}))) (v : View) →
-            process_of self.old pid.0 ≡ Some p → region_around p.regions range ≡ Some r →
-            r.thing.kind ≡ kind.View v →
-            n ≡ uncommitted_in (area_at self.old v.area.0) (v.first + (range.first - r.thing.base))
-            range.count }
+        requires ready { IsReady G.Pages line_kind.Call pid self.old g.old }
+        requires can { CommitsInView pid range prot n self.old }
         requires room { charge self.old + n ≤ limit self.old }
         ensures ok { OnOk result ((p : ProcessOf (Unit {0})) (r : Found (RegionOf (Unit {0})))
             (v : View) → process_of self.old pid.0 ≡ Some p →
@@ -353,15 +307,8 @@ impl Tables {
             (commit_shared blank (v.first + (range.first - r.thing.base)) range.count
             (area_at self.old v.area.0))) }
         ensures enough { charge self.old + n ≤ (G.store g.old).room → IsOk result }
-        ensures err { OnErr result ((self.new ≡ self.old) × (G.contents g.new ≡ G.contents g.old)) }
-        ensures settled { Settled self.new (G.contents g.old) (G.contents g.new) (G.store g.old)
-            (G.store g.new) }
-        ensures passes { PassesIn G.unpaged (Turns Makes) (G.store g.old) (G.store g.new)
-            (G.behind g.old) (G.behind g.new) }
-        ensures idle { OnErr result ((turn : Turn) →
-            PassesIn G.unpaged (Turns turn) (G.store g.old) (G.store g.new) (G.behind g.old)
-            (G.behind g.new)) }
-        ensures loans { G.loans g.new ≡ G.loans g.old }
+        ensures settles { Settles G.Pages result self.old self.new g.old g.new }
+        ensures makes { MakesPages G.Pages result g.old g.new }
     {
         let (view, offset) = view_around(&self.processes, pid, range);
         let total = self.commit.now() + n;
@@ -382,12 +329,9 @@ impl Tables {
         range: PageRange,
         view: View,
     ) -> Result<(), NoMemory>
-        requires fits { Fits self.old (G.contents g.old) (G.store g.old) }
-        requires kind { (G.store g.old).kind ≡ line_kind.Call }
-        requires lives { is_some (process_of self.old pid.0) ≡ true }
-        requires free { (p : ProcessOf (Unit {0})) → process_of self.old pid.0 ≡ Some p →
-            is_free (ranges_of p.regions) range ≡ true }
-        requires granule { range.first % 16 ≡ 0 }
+        requires ready { IsReady G.Pages line_kind.Call pid self.old g.old }
+        requires new { (p : ProcessOf (Unit {0})) → process_of self.old pid.0 ≡ Some p →
+            IsNewPlace p.regions range }
         requires section { ViewFits self.old view range.count }
         requires room { charge self.old + (if is_copy view.access then range.count else 0) ≤ limit
             self.old }
@@ -396,13 +340,8 @@ impl Tables {
             section_of self.old s.place ≡ Some s.thing →
             self.new ≡ set_regions self.old pid.0 p
             (add_region (view_region s view.access view.first range) p.regions)) }
-        ensures err { OnErr result ((self.new ≡ self.old) × (G.contents g.new ≡ G.contents g.old)) }
-        ensures settled { Settled self.new (G.contents g.old) (G.contents g.new) (G.store g.old)
-            (G.store g.new) }
-        ensures passes { (turn : Turn) →
-            PassesIn G.unpaged (Turns turn) (G.store g.old) (G.store g.new) (G.behind g.old)
-            (G.behind g.new) }
-        ensures loans { G.loans g.new ≡ G.loans g.old }
+        ensures settles { Settles G.Pages result self.old self.new g.old g.new }
+        ensures idles { Idles G.Pages g.old g.new }
     {
         let charged = marked_pages(view, range);
         let total = self.commit.now() + charged;

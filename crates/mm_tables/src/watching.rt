@@ -7,7 +7,7 @@ ghost use Rattle.mm_world.specs.Keys.{Committed, committed_at};
 ghost use Rattle.mm_world.specs.Rows.{change_flags, mark_written, one_page};
 ghost use Rattle.mm_world.specs.Watch.{watched_around, written_in, unwritten};
 ghost use Rattle.mm_pages.specs.Store.{StoreOf};
-ghost use Rattle.mm_tables.specs.Fits.{Fits};
+ghost use Rattle.mm_tables.specs.Fits.{FitsTables};
 
 use crate::Tables;
 use crate::flags::{mark_page, reset_pages, take_pages};
@@ -26,7 +26,7 @@ impl Tables {
             → self.new ≡ set_region self.old pid.0 p c.region.place
             (mark_written true (one_page page) c.region.thing) }
         ensures fits { (contents : Key → Option Page) (s : StoreOf)
-            → Fits self.old contents s → Fits self.new contents s }
+            → FitsTables self.old contents s → FitsTables self.new contents s }
     {
         mark_page(&mut self.processes[pid.0 as usize - 1], page);
     }
@@ -48,7 +48,7 @@ impl Tables {
         ensures none { (p : ProcessOf (Unit {0})) → process_of self.old pid.0 ≡ Some p
             → watched_around p.regions range ≡ None → self.new ≡ self.old }
         ensures fits { (contents : Key → Option Page) (s : StoreOf)
-            → Fits self.old contents s → Fits self.new contents s }
+            → FitsTables self.old contents s → FitsTables self.new contents s }
     {
         take_pages(&mut self.processes[pid.0 as usize - 1], range, count)
     }
@@ -65,7 +65,7 @@ impl Tables {
         ensures none { (p : ProcessOf (Unit {0})) → process_of self.old pid.0 ≡ Some p
             → watched_around p.regions range ≡ None → self.new ≡ self.old }
         ensures fits { (contents : Key → Option Page) (s : StoreOf)
-            → Fits self.old contents s → Fits self.new contents s }
+            → FitsTables self.old contents s → FitsTables self.new contents s }
     {
         reset_pages(&mut self.processes[pid.0 as usize - 1], range)
     }

@@ -5,7 +5,7 @@ use Rattle.std.proofs.lemmas.List.{ext_get_or, length-map, length-replicate, get
 use Rattle.mm_vad.specs.declared.pages.Row.{Row}
 use Rattle.mm_vad.specs.declared.chunks.Chunk.{Chunk}
 use Rattle.mm_vad.specs.declared.chunks.Chunk.TheVariants as chunk
-use Rattle.mm_vad.specs.Chunks.{rows_in, chunks_of, own_place, owned, place_of, unplaced, AreWritten, place_after, places_after}
+use Rattle.mm_vad.specs.Chunks.{rows_in, chunks_of, own_place, owned, place_of_chunk, unplaced, AreWritten, place_after, places_after}
 use Rattle.std.specs.Prelude.{slice_get}
 use Rattle.std.proofs.lemmas.Option.{slice_get-get_or}
 use Rattle.mm_types.proofs.Cells.{same_or_not}
@@ -27,7 +27,7 @@ pub chunk_rows : (chunks : List Chunk) (places : List (List Row)) (i : ℕ) (c :
 unfolding chunks_of
 chunk_rows chunks places i c h e = get_or-map (rows_in places) chunks i c [] h ∙ ap (rows_in places) e
 
-pub chunk_place : (chunks : List Chunk) (i : ℕ) (c : Chunk) → i < length chunks → get_or chunks i c ≡ c → place_of chunks i ≡ own_place c
+pub chunk_place : (chunks : List Chunk) (i : ℕ) (c : Chunk) → i < length chunks → get_or chunks i c ≡ c → place_of_chunk chunks i ≡ own_place c
 unfolding owned
 chunk_place chunks i c h e = get_or-map own_place chunks i c None h ∙ ap own_place e
 
@@ -43,7 +43,7 @@ unplaced-set (None ∷ owners) (suc i) k h e = omega (arith, unplaced-set owners
 unplaced-set (Some j ∷ owners) (suc i) k h e = unplaced-set owners i k (omega arith) e
 
 -- there is room for a chunk that has no place
-pub room_left : (chunks : List Chunk) (places : List (List Row)) (room i : ℕ) → AreWritten chunks places room → i < length chunks → place_of chunks i ≡ None → length places < room
+pub room_left : (chunks : List Chunk) (places : List (List Row)) (room i : ℕ) → AreWritten chunks places room → i < length chunks → place_of_chunk chunks i ≡ None → length places < room
 room_left chunks places room i s h e = omega (arith, s.counted, s.roomy, unplaced-set (owned chunks) i 0 (omega (arith, h, length-owned chunks)) e)
 
 -- chunk i changed, and the others show what they did
@@ -87,12 +87,12 @@ rows_in_here places None rows low = get_or-append_seam places rows [] []
 rows_in_here places (Some k) rows low = get_or-set_same places k rows [] (low k refl)
 
 -- no other chunk has the place that a chunk is written out to
-place_is_free : (chunks : List Chunk) (places : List (List Row)) (room i j : ℕ) (place : Option ℕ) → AreWritten chunks places room → place_of chunks i ≡ place → j ≢ i → place_of chunks j ≢ Some (place_after places place)
+place_is_free : (chunks : List Chunk) (places : List (List Row)) (room i j : ℕ) (place : Option ℕ) → AreWritten chunks places room → place_of_chunk chunks i ≡ place → j ≢ i → place_of_chunk chunks j ≢ Some (place_after places place)
 place_is_free chunks places room i j None s e far f = let h = s.below j (length places) f in absurd (omega arith)
 place_is_free chunks places room i j (Some k) s e far f = far (s.apart j i k f e)
 
 -- a chunk's rows were written out
-module _ (chunks : List Chunk) (places : List (List Row)) (room i : ℕ) (place : Option ℕ) (rows : List Row) (s : AreWritten chunks places room) (there : i < length chunks) (e : place_of chunks i ≡ place) where
+module _ (chunks : List Chunk) (places : List (List Row)) (room i : ℕ) (place : Option ℕ) (rows : List Row) (s : AreWritten chunks places room) (there : i < length chunks) (e : place_of_chunk chunks i ≡ place) where
   pub chunk_written : chunks_of (set chunks i (chunk.Each (place_after places place))) (places_after places place rows) ≡ set (chunks_of chunks places) i rows
   chunk_written =
       chunk_changed chunks places (places_after places place rows) i (chunk.Each (place_after places place)) rows there
@@ -104,7 +104,7 @@ module _ (chunks : List Chunk) (places : List (List Row)) (room i : ℕ) (place 
 -- the chunks' places stay, and what is written there may change
 pub places_kept : (chunks chunks' : List Chunk) (places places' : List (List Row)) (room room' : ℕ) → AreWritten chunks places room → owned chunks' ≡ owned chunks → length chunks' ≡ length chunks → length places' ≡ length places → room ≤ room' → AreWritten chunks' places' room'
 places_kept chunks chunks' places places' room room' s same long longer wide =
-    let at : (i : ℕ) → place_of chunks' i ≡ place_of chunks i = λ i. ap (λ (os : List (Option ℕ)). get_or os i None) same in
+    let at : (i : ℕ) → place_of_chunk chunks' i ≡ place_of_chunk chunks i = λ i. ap (λ (os : List (Option ℕ)). get_or os i None) same in
     record {
       below = λ i k f. omega (arith, s.below i k (sym (at i) ∙ f), longer);
       apart = λ i j k f g. s.apart i j k (sym (at i) ∙ f) (sym (at j) ∙ g);
@@ -114,14 +114,14 @@ places_kept chunks chunks' places places' room room' s same long longer wide =
     }
 
 -- a chunk that keeps its place
-pub owned_same : (chunks : List Chunk) (i : ℕ) (c : Chunk) → place_of chunks i ≡ own_place c → owned (set chunks i c) ≡ owned chunks
+pub owned_same : (chunks : List Chunk) (i : ℕ) (c : Chunk) → place_of_chunk chunks i ≡ own_place c → owned (set chunks i c) ≡ owned chunks
 owned_same chunks i c e = owned-set chunks i c ∙ ap (λ (p : Option ℕ). set (owned chunks) i p) (sym e) ∙ set-get_or (owned chunks) i None
 
 -- a chunk that had none takes the next
-module _ (chunks : List Chunk) (places : List (List Row)) (room i : ℕ) (rows : List Row) (s : AreWritten chunks places room) (there : i < length chunks) (e : place_of chunks i ≡ None) where
-  place_now : (j k : ℕ) → place_of (set chunks i (chunk.Each (length places))) j ≡ Some k → ((j ≡ i) × (k ≡ length places)) ⊎ (place_of chunks j ≡ Some k)
+module _ (chunks : List Chunk) (places : List (List Row)) (room i : ℕ) (rows : List Row) (s : AreWritten chunks places room) (there : i < length chunks) (e : place_of_chunk chunks i ≡ None) where
+  place_now : (j k : ℕ) → place_of_chunk (set chunks i (chunk.Each (length places))) j ≡ Some k → ((j ≡ i) × (k ≡ length places)) ⊎ (place_of_chunk chunks j ≡ Some k)
   place_now j k f =
-      let changed : place_of (set chunks i (chunk.Each (length places))) j ≡ get_or (set (owned chunks) i (Some (length places))) j None = ap (λ (os : List (Option ℕ)). get_or os j None) (owned-set chunks i (chunk.Each (length places))) in
+      let changed : place_of_chunk (set chunks i (chunk.Each (length places))) j ≡ get_or (set (owned chunks) i (Some (length places))) j None = ap (λ (os : List (Option ℕ)). get_or os j None) (owned-set chunks i (chunk.Each (length places))) in
       elim (same_or_not j i) [
         | inl same ↦
             let here : get_or (set (owned chunks) i (Some (length places))) j None ≡ Some (length places) =
@@ -155,7 +155,7 @@ module _ (chunks : List Chunk) (places : List (List Row)) (room i : ℕ) (rows :
     few = omega (arith, s.few, length-set chunks i (chunk.Each (length places)));
   }
 
-pub written_out : (chunks : List Chunk) (places : List (List Row)) (room room' i : ℕ) (place : Option ℕ) (rows : List Row) → AreWritten chunks places room → i < length chunks → place_of chunks i ≡ place → room ≤ room' → AreWritten (set chunks i (chunk.Each (place_after places place))) (places_after places place rows) room'
+pub written_out : (chunks : List Chunk) (places : List (List Row)) (room room' i : ℕ) (place : Option ℕ) (rows : List Row) → AreWritten chunks places room → i < length chunks → place_of_chunk chunks i ≡ place → room ≤ room' → AreWritten (set chunks i (chunk.Each (place_after places place))) (places_after places place rows) room'
 written_out chunks places room room' i None rows s there e wide = place_taken chunks places room i rows s there e room' wide
 written_out chunks places room room' i (Some k) rows s there e wide =
     places_kept chunks (set chunks i (chunk.Each k)) places (set places k rows) room room' s (owned_same chunks i (chunk.Each k) e) (length-set chunks i (chunk.Each k)) (length-set places k rows) wide
@@ -173,7 +173,7 @@ past_or_within (suc n) (suc i) p = past_or_within n i p
 
 pub new_chunks : (n room : ℕ) (row : Row) → n ≤ room → n < 2 ^ 32 → AreWritten (replicate n (chunk.Equal row None)) [] room
 new_chunks n room row wide few =
-    let none : (i k : ℕ) → place_of (replicate n (chunk.Equal row None)) i ≢ Some k =
+    let none : (i k : ℕ) → place_of_chunk (replicate n (chunk.Equal row None)) i ≢ Some k =
     λ i k f. (let bad : None ≡ Some k = sym (past_or_within n i None) ∙ sym (ap (λ (os : List (Option ℕ)). get_or os i None) (owned-equal n row)) ∙ f in cc) in
     record {
       below = λ i k f. absurd (none i k f);
@@ -206,7 +206,7 @@ pub rows_read : (chunks : List Chunk) (places shown : List (List Row)) (i : ℕ)
 rows_read chunks places shown i x c e h read is =
     ap (λ (cs : List (List Row)). get_or cs i []) (sym e) ∙ chunk_rows chunks places i c (inside chunks places shown i e h) (stands chunks i x c read is)
 
-pub place_read : (chunks : List Chunk) (places shown : List (List Row)) (i : ℕ) (x c : Chunk) → chunks_of chunks places ≡ shown → i < length shown → x ≡ get_or chunks i x → x ≡ c → place_of chunks i ≡ own_place c
+pub place_read : (chunks : List Chunk) (places shown : List (List Row)) (i : ℕ) (x c : Chunk) → chunks_of chunks places ≡ shown → i < length shown → x ≡ get_or chunks i x → x ≡ c → place_of_chunk chunks i ≡ own_place c
 place_read chunks places shown i x c e h read is = chunk_place chunks i c (inside chunks places shown i e h) (stands chunks i x c read is)
 
 pub equal_read : (rows : List Row) (at : ℕ) (row : Row) → rows ≡ replicate 512 row → at < 512 → slice_get rows at ≡ Some row

@@ -5,19 +5,19 @@ use Rattle.std.proofs.lemmas.List.FromFn.{length-map-range_with_len, get_or-map-
 use Rattle.mm_world.specs.Find.{change_range}
 use Rattle.mm_bits.specs.Bits.{have_bit, Becomes}
 use Rattle.mm_bits.proofs.BitLemmas.{zero_bit}
-use Rattle.mm_vad.specs.Bits.{flags, NoneSet, IsNextSet, flag_at}
+use Rattle.mm_vad.specs.Bits.{word_flags, NoneSet, IsNextSet, bit_flag}
 
-pub length-flags : (words : List ℕ) (n : ℕ) → length (flags words n) ≡ n
-unfolding flags
+pub length-flags : (words : List ℕ) (n : ℕ) → length (word_flags words n) ≡ n
+unfolding word_flags
 length-flags words n = length-map-range_with_len (have_bit words) 0 n
 
-pub get_or-flags : (words : List ℕ) (n i : ℕ) → i < n → get_or (flags words n) i false ≡ have_bit words i
-unfolding flags
+pub get_or-flags : (words : List ℕ) (n i : ℕ) → i < n → get_or (word_flags words n) i false ≡ have_bit words i
+unfolding word_flags
 get_or-flags words n i h = get_or-map-range_with_len (have_bit words) 0 n i i false h (omega arith)
 
-pub flags_zero : (k n : ℕ) → flags (replicate k 0) n ≡ replicate n false
+pub flags_zero : (k n : ℕ) → word_flags (replicate k 0) n ≡ replicate n false
 flags_zero k n =
-    ext_get_or false (flags (replicate k 0) n) (replicate n false) (length-flags (replicate k 0) n ∙ sym (length-replicate n false))
+    ext_get_or false (word_flags (replicate k 0) n) (replicate n false) (length-flags (replicate k 0) n ∙ sym (length-replicate n false))
     (λ i h.
     let inside : i < n = omega (arith, h, length-flags (replicate k 0) n) in
     get_or-flags (replicate k 0) n i inside ∙ zero_bit k i ∙ sym (get_or-replicate n i false false inside))
@@ -63,9 +63,9 @@ same_as_change b zero zero (x ∷ xs) (y ∷ ys) e inside below above =
     (λ i h high. above (suc i) (omega arith) (omega arith)))
 
 -- some bits of the words are all like this: so are the flags
-pub flags_become : (b : Bool) (words words' : List ℕ) (n first count end : ℕ) → end ≡ first + count → Becomes b (have_bit words) (have_bit words') first end → flags words' n ≡ change_range (λ _. b) first count (flags words n)
+pub flags_become : (b : Bool) (words words' : List ℕ) (n first count end : ℕ) → end ≡ first + count → Becomes b (have_bit words) (have_bit words') first end → word_flags words' n ≡ change_range (λ _. b) first count (word_flags words n)
 flags_become b words words' n first count end to c =
-    same_as_change b first count (flags words n) (flags words' n) (length-flags words' n ∙ sym (length-flags words n))
+    same_as_change b first count (word_flags words n) (word_flags words' n) (length-flags words' n ∙ sym (length-flags words n))
     (λ i h low high. let inside : i < n = omega (arith, h, length-flags words n) in get_or-flags words' n i inside ∙ c.inside i low (omega arith))
     (λ i h low.
     let inside : i < n = omega (arith, h, length-flags words n) in
@@ -76,12 +76,12 @@ flags_become b words words' n first count end to c =
 
 -- ---- what a search in the words finds is found in the flags
 
-pub none_flagged : (words : List ℕ) (n first end : ℕ) → end ≤ n → NoneSet (have_bit words) first end → NoneSet (flag_at (flags words n)) first end
+pub none_flagged : (words : List ℕ) (n first end : ℕ) → end ≤ n → NoneSet (have_bit words) first end → NoneSet (bit_flag (word_flags words n)) first end
 none_flagged words n first end h none = record {
   inside = λ i low high. get_or-flags words n i (omega arith) ∙ none.inside i low high;
 }
 
-pub next_flagged : (words : List ℕ) (n first end i : ℕ) → end ≤ n → IsNextSet (have_bit words) first end i → IsNextSet (flag_at (flags words n)) first end i
+pub next_flagged : (words : List ℕ) (n first end i : ℕ) → end ≤ n → IsNextSet (have_bit words) first end i → IsNextSet (bit_flag (word_flags words n)) first end i
 next_flagged words n first end i h next = record {
   from = next.from;
   within = next.within;

@@ -8,7 +8,7 @@ use Rattle.std.proofs.lemmas.List.Sums.{sum_by-cons}
 use Rattle.mm_types.specs.Address.{Range, end_of, meets, holds_page, first_user_page}
 use Rattle.mm_vad.specs.Ranges.{LieApart, add_range, remove_range}
 use Rattle.mm_vad.specs.declared.regions.Region.{Region}
-use Rattle.mm_vad.specs.Regions.{IsSpace, HasFlags, pages_of, ranges_of, holds, begins_at, add_region, remove_region, change_region}
+use Rattle.mm_vad.specs.Regions.{IsSpace, HasFlags, pages_of, ranges_of, region_holds, begins_at, add_region, remove_region, change_region}
 use Rattle.mm_vad.specs.Index.{regions_of, IsHeld, AllHeld, IsIndex}
 
 -- a range and the region of just its pages
@@ -254,17 +254,17 @@ pub record Rewrites (found other : ℕ → Option Region) (change : Region → R
   pub keeps : Keeps change region
   pub kept : (q : ℕ) → q ≢ base → other q ≡ found q
 
-pub change_here : (change : Region → Region) (page : ℕ) (g : Region) (gs : List Region) → holds page g ≡ true → change_region change (g ∷ gs) page ≡ change g ∷ gs
+pub change_here : (change : Region → Region) (page : ℕ) (g : Region) (gs : List Region) → region_holds page g ≡ true → change_region change (g ∷ gs) page ≡ change g ∷ gs
 change_here change page g gs e = ap (λ (b : Bool). cond b (change g ∷ gs) (g ∷ change_region change gs page)) e
 
-pub change_later : (change : Region → Region) (page : ℕ) (g : Region) (gs : List Region) → holds page g ≡ false → change_region change (g ∷ gs) page ≡ g ∷ change_region change gs page
+pub change_later : (change : Region → Region) (page : ℕ) (g : Region) (gs : List Region) → region_holds page g ≡ false → change_region change (g ∷ gs) page ≡ g ∷ change_region change gs page
 change_later change page g gs e = ap (λ (b : Bool). cond b (change g ∷ gs) (g ∷ change_region change gs page)) e
 
 pub change_held : (low page : ℕ) (found other : ℕ → Option Region) (change : Region → Region) (region : Region) (at : Range) (rs : List Range) → Rewrites found other change at.first region → LieApart low rs → AllHeld found rs → find (λ r. holds_page r page) rs ≡ Some at → Becomes other rs (change_region change (regions_of found rs) page)
 change_held low page found other change region at [] w a h e = cc
 change_held low page found other change region at (x ∷ xs) w a h e =
     let p = pair_of found x h.0 in
-    let held : holds page p.region ≡ holds_page x page = ap (λ (r : Range). holds_page r page) p.pages in
+    let held : region_holds page p.region ≡ holds_page x page = ap (λ (r : Range). holds_page r page) p.pages in
     let cons = ap (λ (gs : List Region). change_region change gs page) (regions_cons found x xs p.region p.there) in
     elim (holds_page x page) as (λ b. holds_page x page ≡ b → cond b (Some x) (find (λ r. holds_page r page) xs) ≡ Some at → Becomes other (x ∷ xs) (change_region change (regions_of found (x ∷ xs)) page)) [
       | true ↦ λ t k. (

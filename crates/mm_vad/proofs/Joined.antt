@@ -6,9 +6,9 @@ use Rattle.std.specs.Prelude.{slice_get}
 use Rattle.std.proofs.lemmas.Nat.{div-add-mod', mod_below}
 use Rattle.std.proofs.lemmas.Option.{slice_get-get_or, get_or_from_slice_get}
 use Rattle.mm_types.proofs.Cells.{same_or_not}
-use Rattle.std.proofs.lemmas.List.{ext_get_or, same_lists, length-replicate, length-take-le, length-drop, get_or_past, set-set, set-get_or, get_or_append_left, get_or-append_right, set-append_left, set-append_right, replicate-append-replicate, get_or-replicate, get_or-take, get_or-drop}
+use Rattle.std.proofs.lemmas.List.{ext_get_or, same_lists, get_or_default, length-replicate, length-take-le, length-drop, get_or_past, set-set, set-get_or, get_or_append_left, get_or-append_right, set-append_left, set-append_right, replicate-append-replicate, get_or-replicate, get_or-take, get_or-drop}
 use Rattle.mm_vad.specs.declared.pages.Row.{Row}
-use Rattle.mm_vad.specs.Chunks.{rows_joined, AreRows, filled}
+use Rattle.mm_vad.specs.Chunks.{rows_joined, AreRows, filled_rows}
 
 abbrev pub AreWhole : List (List Row) → Type 0
 AreWhole chunks = All (λ rows. length rows ≡ 512) chunks
@@ -81,10 +81,18 @@ joined-replicate (suc n) m row =
     ∙ ap (λ (q : ℕ). replicate q row) (omega arith)
 
 -- rows that compare as equal
-pub equal_if_eq : (a b : Row) → (beq a.committed b.committed && (eqb a.prot.0 b.prot.0 && (beq a.guard b.guard && (beq a.copied b.copied && beq a.marked b.marked)))) ≡ true → a ≡ b
+pub equal_if_eq : (a b : Row) → (eqb a.prot.0 b.prot.0 && (beq a.committed b.committed && (beq a.guard b.guard && (beq a.copied b.copied && beq a.marked b.marked)))) ≡ true → a ≡ b
 equal_if_eq a b e = grind (arith, e)
 
-pub equal_unless_other : (a b : Row) → not (beq a.committed b.committed && (eqb a.prot.0 b.prot.0 && (beq a.guard b.guard && (beq a.copied b.copied && beq a.marked b.marked)))) ≡ false → a ≡ b
+-- one row more that is equal to it
+pub equal_more : (rows : List Row) (at n : ℕ) (row d : Row) → at + n < length rows → ((k : ℕ) → k < n → get_or rows (at + k) row ≡ row) → get_or rows (at + n) d ≡ row → (k : ℕ) → k < n + 1 → get_or rows (at + k) row ≡ row
+equal_more rows at n row d inside before here k few =
+    elim (same_or_not k n) [
+      | inl same ↦ ap (λ (i : ℕ). get_or rows (at + i) row) same ∙ get_or_default rows (at + n) row d inside ∙ here
+      | inr other ↦ before k (omega (arith, few, other))
+    ]
+
+pub equal_unless_other : (a b : Row) → not (eqb a.prot.0 b.prot.0 && (beq a.committed b.committed && (beq a.guard b.guard && (beq a.copied b.copied && beq a.marked b.marked)))) ≡ false → a ≡ b
 equal_unless_other a b e = equal_if_eq a b (is_true _ e)
   where
     is_true : (b : Bool) → not b ≡ false → b ≡ true
@@ -173,26 +181,26 @@ kept_behind chunks rest rest' s long = rows_kept chunks chunks rest rest' s s.wh
 
 -- ---- rows that are filled
 
-pub length-filled : (rows : List Row) (first n : ℕ) (row : Row) → first + n ≤ length rows → length (filled rows first n row) ≡ length rows
+pub length-filled : (rows : List Row) (first n : ℕ) (row : Row) → first + n ≤ length rows → length (filled_rows rows first n row) ≡ length rows
 length-filled rows first n row h =
     omega (arith, length-append (take first rows ++ replicate n row) (drop (first + n) rows), length-append (take first rows) (replicate n row), length-take-le first rows (omega arith), length-replicate n row, length-drop (first + n) rows)
 
 -- the rows before, in and behind those that are filled
-filled_before : (rows : List Row) (first n : ℕ) (row : Row) (k : ℕ) (d : Row) → first + n ≤ length rows → k < first → get_or (filled rows first n row) k d ≡ get_or rows k d
+filled_before : (rows : List Row) (first n : ℕ) (row : Row) (k : ℕ) (d : Row) → first + n ≤ length rows → k < first → get_or (filled_rows rows first n row) k d ≡ get_or rows k d
 filled_before rows first n row k d h low =
     let long = length-take-le first rows (omega arith) in
     get_or_append_left (take first rows ++ replicate n row) (drop (first + n) rows) d k (omega (arith, long, length-append (take first rows) (replicate n row)))
     ∙ get_or_append_left (take first rows) (replicate n row) d k (omega (arith, long))
     ∙ get_or-take first rows k d low
 
-filled_within : (rows : List Row) (first n : ℕ) (row : Row) (k : ℕ) (d : Row) → first + n ≤ length rows → first ≤ k → k < first + n → get_or (filled rows first n row) k d ≡ row
+filled_within : (rows : List Row) (first n : ℕ) (row : Row) (k : ℕ) (d : Row) → first + n ≤ length rows → first ≤ k → k < first + n → get_or (filled_rows rows first n row) k d ≡ row
 filled_within rows first n row k d h low high =
     let long = length-take-le first rows (omega arith) in
     get_or_append_left (take first rows ++ replicate n row) (drop (first + n) rows) d k (omega (arith, long, length-append (take first rows) (replicate n row), length-replicate n row))
     ∙ get_or-append_right (take first rows) (replicate n row) first k d long low
     ∙ get_or-replicate n (k - first) row d (omega arith)
 
-filled_behind : (rows : List Row) (first n : ℕ) (row : Row) (k : ℕ) (d : Row) → first + n ≤ length rows → first + n ≤ k → get_or (filled rows first n row) k d ≡ get_or rows k d
+filled_behind : (rows : List Row) (first n : ℕ) (row : Row) (k : ℕ) (d : Row) → first + n ≤ length rows → first + n ≤ k → get_or (filled_rows rows first n row) k d ≡ get_or rows k d
 filled_behind rows first n row k d h high =
     let long : length (take first rows ++ replicate n row) ≡ first + n = omega (arith, length-append (take first rows) (replicate n row), length-replicate n row, length-take-le first rows (omega arith)) in
     get_or-append_right (take first rows ++ replicate n row) (drop (first + n) rows) (first + n) k d long high
@@ -206,9 +214,9 @@ below_or_not k n = elim (same_or_not (n - k) 0) [
 ]
 
 -- rows are filled by what stands there afterwards
-pub filled_is : (rows rows' : List Row) (first n : ℕ) (row : Row) → first + n ≤ length rows → length rows' ≡ length rows → ((k : ℕ) (d : Row) → k < first → get_or rows' k d ≡ get_or rows k d) → ((k : ℕ) (d : Row) → first ≤ k → k < first + n → get_or rows' k d ≡ row) → ((k : ℕ) (d : Row) → first + n ≤ k → get_or rows' k d ≡ get_or rows k d) → rows' ≡ filled rows first n row
+pub filled_is : (rows rows' : List Row) (first n : ℕ) (row : Row) → first + n ≤ length rows → length rows' ≡ length rows → ((k : ℕ) (d : Row) → k < first → get_or rows' k d ≡ get_or rows k d) → ((k : ℕ) (d : Row) → first ≤ k → k < first + n → get_or rows' k d ≡ row) → ((k : ℕ) (d : Row) → first + n ≤ k → get_or rows' k d ≡ get_or rows k d) → rows' ≡ filled_rows rows first n row
 filled_is rows rows' first n row h long before within behind =
-    same_lists rows' (filled rows first n row) (long ∙ sym (length-filled rows first n row h))
+    same_lists rows' (filled_rows rows first n row) (long ∙ sym (length-filled rows first n row h))
     (λ k d l. elim (below_or_not k first) [
       | inl low ↦ before k d low ∙ sym (filled_before rows first n row k d h low)
       | inr high ↦ elim (below_or_not k (first + n)) [
@@ -217,22 +225,22 @@ filled_is rows rows' first n row h long before within behind =
       ]
     ])
 
-pub filled_none : (rows : List Row) (first : ℕ) (row : Row) → first ≤ length rows → rows ≡ filled rows first 0 row
+pub filled_none : (rows : List Row) (first : ℕ) (row : Row) → first ≤ length rows → rows ≡ filled_rows rows first 0 row
 filled_none rows first row h = filled_is rows rows first 0 row (omega arith) refl (λ k d low. refl) (λ k d low high. absurd (omega arith)) (λ k d high. refl)
 
-pub filled_one : (rows : List Row) (i : ℕ) (row : Row) → i < length rows → set rows i row ≡ filled rows i 1 row
+pub filled_one : (rows : List Row) (i : ℕ) (row : Row) → i < length rows → set rows i row ≡ filled_rows rows i 1 row
 filled_one rows i row h =
     filled_is rows (set rows i row) i 1 row (omega arith) (length-set rows i row)
     (λ k d low. get_or-set_other rows i k row d (omega arith))
     (λ k d low high. let is : k ≡ i = omega arith in ap (λ (q : ℕ). get_or (set rows i row) q d) is ∙ get_or-set_same rows i row d h)
     (λ k d high. get_or-set_other rows i k row d (omega arith))
 
-pub filled-more : (rows : List Row) (first a b : ℕ) (row : Row) → first + a + b ≤ length rows → filled (filled rows first a row) (first + a) b row ≡ filled rows first (a + b) row
+pub filled-more : (rows : List Row) (first a b : ℕ) (row : Row) → first + a + b ≤ length rows → filled_rows (filled_rows rows first a row) (first + a) b row ≡ filled_rows rows first (a + b) row
 filled-more rows first a b row h =
     let long = length-filled rows first a row (omega arith) in
-    let once = filled rows first a row in
+    let once = filled_rows rows first a row in
     let more : first + a + b ≤ length once = omega (arith, long) in
-    filled_is rows (filled once (first + a) b row) first (a + b) row (omega arith) (length-filled once (first + a) b row more ∙ long)
+    filled_is rows (filled_rows once (first + a) b row) first (a + b) row (omega arith) (length-filled once (first + a) b row more ∙ long)
     (λ k d low. filled_before once (first + a) b row k d more (omega arith) ∙ filled_before rows first a row k d (omega arith) low)
     (λ k d low high. elim (below_or_not k (first + a)) [
       | inl mid ↦ filled_before once (first + a) b row k d more mid ∙ filled_within rows first a row k d (omega arith) low mid
@@ -240,14 +248,14 @@ filled-more rows first a b row h =
     ])
     (λ k d high. filled_behind once (first + a) b row k d more (omega arith) ∙ filled_behind rows first a row k d (omega arith) (omega arith))
 
-filled_next : (rows : List Row) (first n : ℕ) (row : Row) → first + suc n ≤ length rows → filled rows first (suc n) row ≡ set (filled rows first n row) (first + n) row
+filled_next : (rows : List Row) (first n : ℕ) (row : Row) → first + suc n ≤ length rows → filled_rows rows first (suc n) row ≡ set (filled_rows rows first n row) (first + n) row
 filled_next rows first n row h =
-    ap (λ (q : ℕ). filled rows first q row) (let q : suc n ≡ n + 1 = omega arith in q)
+    ap (λ (q : ℕ). filled_rows rows first q row) (let q : suc n ≡ n + 1 = omega arith in q)
     ∙ sym (filled-more rows first n 1 row (omega (arith, h)))
-    ∙ sym (filled_one (filled rows first n row) (first + n) row (omega (arith, h, length-filled rows first n row (omega (arith, h)))))
+    ∙ sym (filled_one (filled_rows rows first n row) (first + n) row (omega (arith, h, length-filled rows first n row (omega (arith, h)))))
 
 -- rows that are equal already
-pub filled_same : (rows : List Row) (first n m : ℕ) (row : Row) → first + m ≤ length rows → n ≤ m → take m (drop first rows) ≡ replicate m row → rows ≡ filled rows first n row
+pub filled_same : (rows : List Row) (first n m : ℕ) (row : Row) → first + m ≤ length rows → n ≤ m → take m (drop first rows) ≡ replicate m row → rows ≡ filled_rows rows first n row
 filled_same rows first n m row h l e =
     filled_is rows rows first n row (omega arith) refl (λ k d low. refl)
     (λ k d low high.
@@ -259,7 +267,7 @@ filled_same rows first n m row h l e =
     (λ k d high. refl)
 
 -- a whole chunk
-pub filled_whole : (rows : List Row) (at n : ℕ) (row : Row) → length rows ≡ 512 → n ≡ 512 → at ≡ 0 → replicate 512 row ≡ filled rows at n row
+pub filled_whole : (rows : List Row) (at n : ℕ) (row : Row) → length rows ≡ 512 → n ≡ 512 → at ≡ 0 → replicate 512 row ≡ filled_rows rows at n row
 filled_whole rows at n row long all first =
     filled_is rows (replicate 512 row) at n row (omega (arith, long, all, first)) (length-replicate 512 row ∙ sym long)
     (λ k d low. absurd (omega (arith, first)))
@@ -267,7 +275,7 @@ filled_whole rows at n row long all first =
     (λ k d high. get_or_past (replicate 512 row) k d (omega (arith, all, first, length-replicate 512 row)) ∙ sym (get_or_past rows k d (omega (arith, all, first, long))))
 
 -- rows of a chunk, one after another, and rows behind the chunks
-filled_part : (chunks : List (List Row)) (rest : List Row) (k o n : ℕ) (row : Row) → AreWhole chunks → k < length chunks → o + n ≤ 512 → rows_joined (set chunks k (filled (get_or chunks k []) o n row)) rest ≡ filled (rows_joined chunks rest) (k * 512 + o) n row
+filled_part : (chunks : List (List Row)) (rest : List Row) (k o n : ℕ) (row : Row) → AreWhole chunks → k < length chunks → o + n ≤ 512 → rows_joined (set chunks k (filled_rows (get_or chunks k []) o n row)) rest ≡ filled_rows (rows_joined chunks rest) (k * 512 + o) n row
 filled_part chunks rest k o zero row whole h l =
     let r = get_or chunks k [] in
     let all = rows_joined chunks rest in
@@ -279,7 +287,7 @@ filled_part chunks rest k o (suc n) row whole h l =
     let r = get_or chunks k [] in
     let all = rows_joined chunks rest in
     let long : length r ≡ 512 = whole k [] h in
-    let part = filled r o n row in
+    let part = filled_rows r o n row in
     let size : length part ≡ 512 = length-filled r o n row (omega (arith, l, long)) ∙ long in
     let now = set chunks k part in
     let stands : get_or now k [] ≡ part = get_or-set_same chunks k part [] h in
@@ -289,30 +297,30 @@ filled_part chunks rest k o (suc n) row whole h l =
     ∙ ap (λ (rs : List Row). rows_joined (set now k (set rs (o + n) row)) rest) (sym stands)
     ∙ sym (joined-set now rest k (o + n) row (whole-set chunks k part whole size) (omega (arith, h, length-set chunks k part)) (omega (arith, l)))
     ∙ ap (λ (rs : List Row). set rs (k * 512 + (o + n)) row) (filled_part chunks rest k o n row whole h (omega (arith, l)))
-    ∙ ap (λ (q : ℕ). set (filled all (k * 512 + o) n row) q row) (let q : k * 512 + (o + n) ≡ k * 512 + o + n = omega arith in q)
+    ∙ ap (λ (q : ℕ). set (filled_rows all (k * 512 + o) n row) q row) (let q : k * 512 + (o + n) ≡ k * 512 + o + n = omega arith in q)
     ∙ sym (filled_next all (k * 512 + o) n row room)
 
-filled_rest : (chunks : List (List Row)) (rest : List Row) (o n : ℕ) (row : Row) → AreWhole chunks → o + n ≤ length rest → rows_joined chunks (filled rest o n row) ≡ filled (rows_joined chunks rest) (length chunks * 512 + o) n row
+filled_rest : (chunks : List (List Row)) (rest : List Row) (o n : ℕ) (row : Row) → AreWhole chunks → o + n ≤ length rest → rows_joined chunks (filled_rows rest o n row) ≡ filled_rows (rows_joined chunks rest) (length chunks * 512 + o) n row
 filled_rest chunks rest o zero row whole l =
     ap (rows_joined chunks) (sym (filled_none rest o row (omega (arith, l))))
     ∙ filled_none (rows_joined chunks rest) (length chunks * 512 + o) row (omega (arith, l, length-joined chunks rest whole))
 filled_rest chunks rest o (suc n) row whole l =
     let all = rows_joined chunks rest in
     ap (rows_joined chunks) (filled_next rest o n row l)
-    ∙ sym (joined-set_behind chunks (filled rest o n row) (o + n) row whole)
+    ∙ sym (joined-set_behind chunks (filled_rows rest o n row) (o + n) row whole)
     ∙ ap (λ (rs : List Row). set rs (length chunks * 512 + (o + n)) row) (filled_rest chunks rest o n row whole (omega (arith, l)))
-    ∙ ap (λ (q : ℕ). set (filled all (length chunks * 512 + o) n row) q row) (let q : length chunks * 512 + (o + n) ≡ length chunks * 512 + o + n = omega arith in q)
+    ∙ ap (λ (q : ℕ). set (filled_rows all (length chunks * 512 + o) n row) q row) (let q : length chunks * 512 + (o + n) ≡ length chunks * 512 + o + n = omega arith in q)
     ∙ sym (filled_next all (length chunks * 512 + o) n row (omega (arith, l, length-joined chunks rest whole)))
 
 -- the same from row i of all on
-pub filled_within_chunk : (chunks : List (List Row)) (rest shown : List Row) (i n : ℕ) (row : Row) → AreWhole chunks → rows_joined chunks rest ≡ shown → i / 512 < length chunks → i % 512 + n ≤ 512 → rows_joined (set chunks (i / 512) (filled (get_or chunks (i / 512) []) (i % 512) n row)) rest ≡ filled shown i n row
+pub filled_within_chunk : (chunks : List (List Row)) (rest shown : List Row) (i n : ℕ) (row : Row) → AreWhole chunks → rows_joined chunks rest ≡ shown → i / 512 < length chunks → i % 512 + n ≤ 512 → rows_joined (set chunks (i / 512) (filled_rows (get_or chunks (i / 512) []) (i % 512) n row)) rest ≡ filled_rows shown i n row
 filled_within_chunk chunks rest shown i n row whole is low high =
     filled_part chunks rest (i / 512) (i % 512) n row whole low high
-    ∙ ap (λ (q : ℕ). filled (rows_joined chunks rest) q n row) (div-add-mod' i 512)
-    ∙ ap (λ (rs : List Row). filled rs i n row) is
+    ∙ ap (λ (q : ℕ). filled_rows (rows_joined chunks rest) q n row) (div-add-mod' i 512)
+    ∙ ap (λ (rs : List Row). filled_rows rs i n row) is
 
-pub filled_behind_chunks : (chunks : List (List Row)) (rest shown : List Row) (i n : ℕ) (row : Row) → AreWhole chunks → rows_joined chunks rest ≡ shown → length chunks ≤ i / 512 → i - length chunks * 512 + n ≤ length rest → rows_joined chunks (filled rest (i - length chunks * 512) n row) ≡ filled shown i n row
+pub filled_behind_chunks : (chunks : List (List Row)) (rest shown : List Row) (i n : ℕ) (row : Row) → AreWhole chunks → rows_joined chunks rest ≡ shown → length chunks ≤ i / 512 → i - length chunks * 512 + n ≤ length rest → rows_joined chunks (filled_rows rest (i - length chunks * 512) n row) ≡ filled_rows shown i n row
 filled_behind_chunks chunks rest shown i n row whole is high room =
     filled_rest chunks rest (i - length chunks * 512) n row whole room
-    ∙ ap (λ (q : ℕ). filled (rows_joined chunks rest) q n row) (omega (arith, div-add-mod' i 512, high))
-    ∙ ap (λ (rs : List Row). filled rs i n row) is
+    ∙ ap (λ (q : ℕ). filled_rows (rows_joined chunks rest) q n row) (omega (arith, div-add-mod' i 512, high))
+    ∙ ap (λ (rs : List Row). filled_rows rs i n row) is

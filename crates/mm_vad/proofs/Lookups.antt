@@ -1,7 +1,7 @@
 -- What a look-up by a range tells of the list of regions.
 use Rattle.std.proofs.Common.{◌≡◌, ℕ, ◌+◌, ◌-◌, ◌<◌, ◌≤◌, Bool, true, false, cond, List, [], ◌∷◌, length, Option, Some, None, refl, sym, ap, ◌∙◌, subst, arith}
 use Rattle.std.specs.List.{list_any}
-use Rattle.std.specs.Prelude.{◌||◌, find, option_map, option_and_then, ◌==◌, nat_le, nat_lt, All, IsSomeAnd}
+use Rattle.std.specs.Prelude.{◌||◌, find, option_map, option_and_then, ◌==◌, nat_le, nat_lt, All, IsSome, IsSomeAnd}
 use Rattle.std.proofs.lemmas.Bool.{eqb-true, leb-true, ltb-true, and_parts, or_parts}
 use Rattle.std.proofs.lemmas.List.Elements.{All-head, All-tail}
 use Rattle.std.proofs.lemmas.Option.{some_pair_parts}
@@ -10,7 +10,7 @@ use Rattle.mm_types.specs.Address.{Range, end_of, holds_page}
 use Rattle.mm_vad.specs.Ranges.{page_number, is_begun_at}
 use Rattle.mm_vad.specs.Ranges.{first_and_count as told_of}
 use Rattle.mm_vad.specs.declared.regions.Region.{Region}
-use Rattle.mm_vad.specs.Regions.{HasFlags, LieInRegion, LieAmong, LieWithPage, pages_of, holds, region_at, region_with_base}
+use Rattle.mm_vad.specs.Regions.{HasFlags, LieInRegion, LieAmong, LieWithPage, pages_of, region_holds, region_at, region_with_base}
 use Rattle.mm_vad.specs.Index.{regions_of, IsHeld, AllHeld, IsIndex}
 use Rattle.mm_vad.proofs.Held.{pair_of, find_held}
 
@@ -51,7 +51,7 @@ found_region t (x ∷ xs) g a e =
 -- the page has a row in its region
 pub row_there : (gs : List Region) (page : ℕ) (g : Region) → All (λ r. length r.rows ≡ r.pages) gs → region_at gs page ≡ Some g → (g.base.0 ≤ page) × (page - g.base.0 < length g.rows)
 row_there gs page g a e =
-    let f = found_region (holds page) gs g a e in
+    let f = found_region (region_holds page) gs g a e in
     let both = and_parts (nat_le g.base.0 page) (nat_lt page (end_of (pages_of g))) f.0 in
     let low = leb-true g.base.0 page both.0 in
     let high = ltb-true page (end_of (pages_of g)) both.1 in
@@ -59,7 +59,7 @@ row_there gs page g a e =
 
 -- the region in which a page lies has a row for each of its pages
 pub rows_whole : (gs : List Region) (page : ℕ) (g : Region) → All (λ r. length r.rows ≡ r.pages) gs → region_at gs page ≡ Some g → length g.rows ≡ g.pages
-rows_whole gs page g a e = (found_region (holds page) gs g a e).1
+rows_whole gs page g a e = (found_region (region_holds page) gs g a e).1
 
 -- what a search among ranges finds passes its test, and a region is held at it
 pub found_range : (found : ℕ → Option Region) (t : Range → Bool) (rs : List Range) (r : Range) → AllHeld found rs → find t rs ≡ Some r → (t r ≡ true) × IsHeld found r
@@ -105,6 +105,19 @@ module _ (found : ℕ → Option Region) (ranges : List Range) (index : IsIndex 
       find_held found (λ r. r.first == base) ranges index.held
       ∙ ap (option_and_then (λ (r : Range). found r.first)) one.1
       ∙ ap found (eqb-true one.0.first base one.2)
+
+  pub is_with_base : (base : ℕ) → is_begun_at base ranges ≡ true → IsSome (region_with_base (regions_of found ranges) base)
+  is_with_base base e =
+      let one = one_begins (λ r. r.first == base) ranges e in
+      let p = pair_of found one.0 (found_range found (λ r. r.first == base) ranges one.0 index.held one.1).1 in
+      subst IsSome (sym (with_base base e ∙ ap found (sym (eqb-true one.0.first base one.2)) ∙ p.there)) refl
+
+  pub begun : (base : ℕ) → IsSome (region_with_base (regions_of found ranges) base) → is_begun_at base ranges ≡ true
+  begun base some =
+      elim (is_begun_at base ranges) as (λ b. is_begun_at base ranges ≡ b → is_begun_at base ranges ≡ true) [
+        | true ↦ λ e. e
+        | false ↦ λ e. (let bad : false ≡ true = subst IsSome (none_with_base base e) some in cc)
+      ] refl
 
   -- the region that is found at the first page of the range of the page
   pub region_there : (page base : ℕ) (region : Region) → Told (find (λ r. holds_page r page) ranges) base → found base ≡ Some region → HasPage region page

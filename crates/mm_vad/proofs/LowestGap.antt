@@ -6,7 +6,7 @@ use Rattle.std.proofs.lemmas.Bool.{le-leb, lt-leb, leb-true, leb-false, lt-ltb, 
 use Rattle.mm_types.specs.Address.{Range, end_of, end_of_user_pages, first_user_page, granules, granule_pages, granule_range, meets, is_free, least_from, lowest_gap}
 use Rattle.mm_types.proofs.Least.{least_from-is, least_from-none}
 use Rattle.mm_vad.specs.Ranges.{FollowsFrom, LieApart, range_at}
-use Rattle.mm_vad.specs.Room.{aligned, room, fit}
+use Rattle.mm_vad.specs.Room.{aligned, room, first_fit}
 use Rattle.mm_vad.proofs.FreeAt.{met_above}
 
 -- whether `count` pages from the granule on end with the user pages and meet no range
@@ -70,7 +70,7 @@ later_outcome low count x xs (Some page) small some f p = (
   ],
 )
 
-pub fit_outcome : (low : ℕ) (xs : List Range) (count : ℕ) → 0 < count → LieApart low xs → Outcome low xs count (fit low xs end_of_user_pages count)
+pub fit_outcome : (low : ℕ) (xs : List Range) (count : ℕ) → 0 < count → LieApart low xs → Outcome low xs count (first_fit low xs end_of_user_pages count)
 fit_outcome low [] count some p =
     elim (leb count (room low end_of_user_pages)) as (λ b. leb count (room low end_of_user_pages) ≡ b → Outcome low [] count (cond b (Some (aligned low)) None)) [
       | true ↦ λ e. at_first low [] count some (let h : count ≤ room low end_of_user_pages = leb-true count (room low end_of_user_pages) e in omega (arith, h, some)) refl
@@ -78,11 +78,11 @@ fit_outcome low [] count some p =
           ap (λ b. b && true) (lt-leb (k * granule_pages + count) end_of_user_pages (omega (arith, small, h))))
     ] refl
 fit_outcome low (x ∷ xs) count some p =
-    elim (leb count (room low x.first)) as (λ b. leb count (room low x.first) ≡ b → Outcome low (x ∷ xs) count (cond b (Some (aligned low)) (fit (end_of x) xs end_of_user_pages count))) [
+    elim (leb count (room low x.first)) as (λ b. leb count (room low x.first) ≡ b → Outcome low (x ∷ xs) count (cond b (Some (aligned low)) (first_fit (end_of x) xs end_of_user_pages count))) [
       | true ↦ λ e. (let h : count ≤ room low x.first = leb-true count (room low x.first) e in
           at_first low (x ∷ xs) count some (omega (arith, h, some, p.0.within, p.0.some))
           (met_above (granule_range count ((low + 15) / granule_pages)) x.first (x ∷ xs) (record { from = omega arith; some = p.0.some; within = p.0.within }, p.1) (omega (arith, h, some))))
-      | false ↦ λ e. later_outcome low count x xs (fit (end_of x) xs end_of_user_pages count) (leb-false count (room low x.first) e) some p.0 (fit_outcome (end_of x) xs count some p.1)
+      | false ↦ λ e. later_outcome low count x xs (first_fit (end_of x) xs end_of_user_pages count) (leb-false count (room low x.first) e) some p.0 (fit_outcome (end_of x) xs count some p.1)
     ] refl
 
 -- a granule below the first user page is not free
@@ -112,8 +112,8 @@ lowest_is taken count (Some page) some p =
     (λ k _ less. test_closed taken count k (λ h. p.4 k h less)))
     ∙ ap (λ (n : ℕ). Some n) (sym p.1)
 
-pub lowest_gap-fit : (taken : List Range) (count : ℕ) → 0 < count → LieApart first_user_page taken → lowest_gap taken count ≡ fit first_user_page taken end_of_user_pages count
-lowest_gap-fit taken count some p = lowest_is taken count (fit first_user_page taken end_of_user_pages count) some (fit_outcome first_user_page taken count some p)
+pub lowest_gap-fit : (taken : List Range) (count : ℕ) → 0 < count → LieApart first_user_page taken → lowest_gap taken count ≡ first_fit first_user_page taken end_of_user_pages count
+lowest_gap-fit taken count some p = lowest_is taken count (first_fit first_user_page taken end_of_user_pages count) some (fit_outcome first_user_page taken count some p)
 
 least_from-passes : (test : ℕ → Bool) (count start g : ℕ) → least_from test count start ≡ Some g → test g ≡ true
 unfolding least_from

@@ -6,7 +6,7 @@ use Rattle.std.proofs.lemmas.Bool.{and_from, eq-eqb}
 use Rattle.std.proofs.lemmas.List.{drop_more, drop-drop, take-append-drop, get_or-take, get_or-drop, get_or-replicate}
 use Rattle.std.proofs.lemmas.List.Folds.{length-prefix_len}
 use Rattle.mm_vad.specs.declared.pages.Row.{Row}
-use Rattle.mm_vad.specs.Looks.{Look, look_of, same_flag, same_look, are_alike, first_run, run_from}
+use Rattle.mm_vad.specs.Looks.{Look, look_of, same_flag, same_look, are_alike, first_alike, run_from}
 
 same_flag_itself : (b : Bool) → same_flag b b ≡ true
 same_flag_itself true = refl
@@ -24,7 +24,7 @@ are_alike_itself row = same_look_itself (look_of row)
 pub run_from_is : (rows : List Row) (i : ℕ) (first : Row) → i < length rows → get_or rows i first ≡ first → run_from rows i ≡ prefix_len (are_alike first) (drop i rows)
 run_from_is rows i first h e =
     let here : drop i rows ≡ first ∷ drop (i + 1) rows = drop_more rows i first h ∙ ap (λ (row : Row). row ∷ drop (i + 1) rows) e in
-    ap first_run here
+    ap first_alike here
     ∙ length-prefix_len (are_alike first) (first ∷ drop (i + 1) rows)
     ∙ sym (ap (prefix_len (are_alike first)) here)
 

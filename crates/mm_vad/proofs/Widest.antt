@@ -2,7 +2,7 @@
 use Rattle.std.proofs.Common.{◌≡◌, ℕ, ◌≤◌, ◌<◌, max, true, false, cond, leb, List, [], ◌∷◌, ◌++◌, Option, Some, None, refl, ap, ◌∙◌, arith}
 use Rattle.std.proofs.lemmas.Bool.{le-leb, lt-leb, leb-false}
 use Rattle.mm_types.specs.Address.{Range, end_of, end_of_user_pages}
-use Rattle.mm_vad.specs.Room.{aligned, room, lowest, end_after, widest, fit}
+use Rattle.mm_vad.specs.Room.{aligned, room, lowest, end_after, widest, first_fit}
 use Rattle.mm_vad.proofs.Finds.{or_else}
 
 pub end_after-append : (low : ℕ) (xs : List Range) (m : Range) (ys : List Range) → end_after low (xs ++ m ∷ ys) ≡ end_after (end_of m) ys
@@ -26,16 +26,16 @@ pub widest_parts : (low : ℕ) (xs : List Range) → low ≤ end_of_user_pages �
 widest_parts low [] h = omega arith
 widest_parts low (x ∷ xs) h = omega (arith, room_falls low end_of_user_pages x.first h)
 
-pub fit-append : (low : ℕ) (xs : List Range) (m : Range) (ys : List Range) (high n : ℕ) → fit low (xs ++ m ∷ ys) high n ≡ or_else (fit low xs m.first n) (fit (end_of m) ys high n)
-fit-append low [] m ys high n = elim (leb n (room low m.first)) as (λ b. cond b (Some (aligned low)) (fit (end_of m) ys high n) ≡ or_else (cond b (Some (aligned low)) None) (fit (end_of m) ys high n)) [ true ↦ refl | false ↦ refl ]
+pub fit-append : (low : ℕ) (xs : List Range) (m : Range) (ys : List Range) (high n : ℕ) → first_fit low (xs ++ m ∷ ys) high n ≡ or_else (first_fit low xs m.first n) (first_fit (end_of m) ys high n)
+fit-append low [] m ys high n = elim (leb n (room low m.first)) as (λ b. cond b (Some (aligned low)) (first_fit (end_of m) ys high n) ≡ or_else (cond b (Some (aligned low)) None) (first_fit (end_of m) ys high n)) [ true ↦ refl | false ↦ refl ]
 fit-append low (x ∷ xs) m ys high n =
-    elim (leb n (room low x.first)) as (λ b. cond b (Some (aligned low)) (fit (end_of x) (xs ++ m ∷ ys) high n) ≡ or_else (cond b (Some (aligned low)) (fit (end_of x) xs m.first n)) (fit (end_of m) ys high n)) [
+    elim (leb n (room low x.first)) as (λ b. cond b (Some (aligned low)) (first_fit (end_of x) (xs ++ m ∷ ys) high n) ≡ or_else (cond b (Some (aligned low)) (first_fit (end_of x) xs m.first n)) (first_fit (end_of m) ys high n)) [
       | true ↦ refl
       | false ↦ fit-append (end_of x) xs m ys high n
     ]
 
 -- nothing fits where the room is less
-pub fit_none : (low : ℕ) (xs : List Range) (high n : ℕ) → widest low xs < n → room (end_after low xs) high < n → fit low xs high n ≡ None
+pub fit_none : (low : ℕ) (xs : List Range) (high n : ℕ) → widest low xs < n → room (end_after low xs) high < n → first_fit low xs high n ≡ None
 fit_none low [] high n h k = rw (lt-leb n (room low high) k)
 fit_none low (x ∷ xs) high n h k =
     let here : room low x.first < n = omega (arith, h) in
@@ -47,11 +47,11 @@ is_place None = ⊥
 is_place (Some x) = Unit {0}
 
 -- something fits where there is room before one of the ranges
-pub fit_some : (low : ℕ) (xs : List Range) (high n : ℕ) → n ≤ max (widest low xs) (room (end_after low xs) high) → is_place (fit low xs high n)
+pub fit_some : (low : ℕ) (xs : List Range) (high n : ℕ) → n ≤ max (widest low xs) (room (end_after low xs) high) → is_place (first_fit low xs high n)
 fit_some low [] high n h =
     let here : n ≤ room low high = omega (arith, h) in rw (le-leb n (room low high) here) tt
 fit_some low (x ∷ xs) high n h =
-    elim (leb n (room low x.first)) as (λ b. leb n (room low x.first) ≡ b → is_place (cond b (Some (aligned low)) (fit (end_of x) xs high n))) [
+    elim (leb n (room low x.first)) as (λ b. leb n (room low x.first) ≡ b → is_place (cond b (Some (aligned low)) (first_fit (end_of x) xs high n))) [
       | true ↦ λ e. tt
       | false ↦ λ e. fit_some (end_of x) xs high n (let here : room low x.first < n = leb-false n (room low x.first) e in omega (arith, here, h))
     ] refl
@@ -65,19 +65,19 @@ lowest_front [] m ys zs = refl
 lowest_front (x ∷ xs) m ys zs = refl
 
 -- the first place is below the middle one where there is enough room between the ranges up to it
-pub fit_left : (low : ℕ) (xs : List Range) (m : Range) (ys : List Range) (high n : ℕ) → low ≤ end_of_user_pages → n ≤ widest end_of_user_pages (xs ++ m ∷ []) → fit low (xs ++ m ∷ ys) high n ≡ fit low xs m.first n
+pub fit_left : (low : ℕ) (xs : List Range) (m : Range) (ys : List Range) (high n : ℕ) → low ≤ end_of_user_pages → n ≤ widest end_of_user_pages (xs ++ m ∷ []) → first_fit low (xs ++ m ∷ ys) high n ≡ first_fit low xs m.first n
 fit_left low xs m ys high n h enough =
     let more = widest_falls low end_of_user_pages (xs ++ m ∷ []) h in
     let parts = widest-append low xs m [] in
     let place = fit_some low xs m.first n (omega (arith, enough, more, parts)) in
-    fit-append low xs m ys high n ∙ or_place (fit low xs m.first n) (fit (end_of m) ys high n) place
+    fit-append low xs m ys high n ∙ or_place (first_fit low xs m.first n) (first_fit (end_of m) ys high n) place
 
 -- and above it where there is not, nor below the lowest range
-pub fit_right : (low : ℕ) (xs : List Range) (m : Range) (ys : List Range) (high n : ℕ) → low ≤ end_of_user_pages → room low (lowest (xs ++ m ∷ ys)) < n → widest end_of_user_pages (xs ++ m ∷ []) < n → fit low (xs ++ m ∷ ys) high n ≡ fit (end_of m) ys high n
+pub fit_right : (low : ℕ) (xs : List Range) (m : Range) (ys : List Range) (high n : ℕ) → low ≤ end_of_user_pages → room low (lowest (xs ++ m ∷ ys)) < n → widest end_of_user_pages (xs ++ m ∷ []) < n → first_fit low (xs ++ m ∷ ys) high n ≡ first_fit (end_of m) ys high n
 fit_right low xs m ys high n h first small =
     let same : room low (lowest (xs ++ m ∷ [])) < n = rw (lowest_front xs m [] ys) first in
     let all = widest_parts low (xs ++ m ∷ []) h in
     let parts = widest-append low xs m [] in
     let before : widest low xs < n = omega (arith, same, small, all, parts) in
     let last : room (end_after low xs) m.first < n = omega (arith, same, small, all, parts) in
-    fit-append low xs m ys high n ∙ ap (λ o. or_else o (fit (end_of m) ys high n)) (fit_none low xs m.first n before last)
+    fit-append low xs m ys high n ∙ ap (λ o. or_else o (first_fit (end_of m) ys high n)) (fit_none low xs m.first n before last)

@@ -4,8 +4,8 @@ use Rattle.std.specs.List.{range_with_len}
 use Rattle.mm_bits.specs.Bits.{have_bit}
 
 -- the first bits of the words
-unfoldable pub flags : List ℕ → ℕ → List Bool
-flags words n = map (have_bit words) (range_with_len 0 n)
+unfoldable pub word_flags : List ℕ → ℕ → List Bool
+word_flags words n = map (have_bit words) (range_with_len 0 n)
 
 -- no bit from `first` on and below `end` is set
 pub record NoneSet (has : ℕ → Bool) (first end : ℕ) : Type 0 where
@@ -18,5 +18,5 @@ pub record IsNextSet (has : ℕ → Bool) (first end i : ℕ) : Type 0 where
   pub is_set : has i ≡ true
   pub before : NoneSet has first i
 
-abbrev pub flag_at : List Bool → ℕ → Bool
-flag_at bits i = slice_index_or bits i false
+abbrev pub bit_flag : List Bool → ℕ → Bool
+bit_flag bits i = slice_index_or bits i false

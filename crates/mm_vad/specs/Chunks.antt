@@ -21,8 +21,8 @@ own_place (chunk.Each k) = Some k
 unfoldable pub owned : List Chunk → List (Option ℕ)
 owned chunks = map own_place chunks
 
-abbrev pub place_of : List Chunk → ℕ → Option ℕ
-place_of chunks i = slice_index_or (owned chunks) i None
+abbrev pub place_of_chunk : List Chunk → ℕ → Option ℕ
+place_of_chunk chunks i = slice_index_or (owned chunks) i None
 
 -- how many have no place
 abbrev pub unplaced : List (Option ℕ) → ℕ
@@ -32,8 +32,9 @@ unplaced (Some k ∷ places) = unplaced places
 
 -- each place is one chunk's own, and there is room for each chunk that has none yet
 pub record AreWritten (chunks : List Chunk) (places : List (List Row)) (room : ℕ) : Type 0 where
-  pub below : (i k : ℕ) → place_of chunks i ≡ Some k → k < length places
-  pub apart : (i j k : ℕ) → place_of chunks i ≡ Some k → place_of chunks j ≡ Some k → i ≡ j
+  pub below : (i k : ℕ) → place_of_chunk chunks i ≡ Some k → k < length places
+  pub apart : (i j k : ℕ) → place_of_chunk chunks i ≡ Some k → place_of_chunk chunks j ≡ Some k →
+      i ≡ j
   pub counted : length places + unplaced (owned chunks) ≡ length chunks
   pub roomy : length chunks ≤ room
   pub few : length chunks < 2 ^ 32
@@ -57,5 +58,5 @@ pub record AreRows (chunks : List (List Row)) (rest : List Row) : Type 0 where
   pub few : length (rows_joined chunks rest) < 2 ^ 32
 
 -- the rows with n of them, from the first on, equal to this one
-abbrev pub filled : List Row → ℕ → ℕ → Row → List Row
-filled rows first n row = take first rows ++ replicate n row ++ drop (first + n) rows
+abbrev pub filled_rows : List Row → ℕ → ℕ → Row → List Row
+filled_rows rows first n row = take first rows ++ replicate n row ++ drop (first + n) rows

@@ -28,10 +28,10 @@ abbrev pub are_alike : Row → Row → Bool
 are_alike a b = same_look (look_of a) (look_of b)
 
 -- how many rows from the first on are alike
-abbrev pub first_run : List Row → ℕ
-first_run [] = 0
-first_run (row ∷ rows) = length (take_while (are_alike row) (row ∷ rows))
+abbrev pub first_alike : List Row → ℕ
+first_alike [] = 0
+first_alike (row ∷ rows) = length (take_while (are_alike row) (row ∷ rows))
 
 -- the same from row i on
 abbrev pub run_from : List Row → ℕ → ℕ
-run_from rows i = first_run (drop i rows)
+run_from rows i = first_alike (drop i rows)

@@ -8,7 +8,7 @@ use Rattle.mm_world.specs.Watch.{unwritten}
 use Rattle.mm_vad.specs.Ranges.{LieApart}
 use Rattle.mm_vad.specs.declared.pages.Row.{Row}
 use Rattle.mm_vad.specs.declared.regions.Region.{Region}
-use Rattle.mm_vad.specs.Chunks.{filled}
+use Rattle.mm_vad.specs.Chunks.{filled_rows}
 
 -- what a `Space` is seen as: its regions, and how many more can be added without memory
 pub record SpaceOf : Type 0 where
@@ -32,12 +32,12 @@ pub record IsSpace (regions : List Region) : Type 0 where
   pub whole : All (λ r. length r.rows ≡ r.pages) regions
   pub flags : All (λ r. HasFlags r.pages r) regions
 
-abbrev pub holds : ℕ → Region → Bool
-holds page r = holds_page (pages_of r) page
+abbrev pub region_holds : ℕ → Region → Bool
+region_holds page r = holds_page (pages_of r) page
 
 -- the region in which the page lies
 abbrev pub region_at : List Region → ℕ → Option Region
-region_at regions page = find (holds page) regions
+region_at regions page = find (region_holds page) regions
 
 -- the first region whose base is the page or above it
 abbrev pub region_from : List Region → ℕ → Option Region
@@ -64,7 +64,7 @@ with_row page row r = record r { rows = slice_set r.rows (page - r.base.0) row }
 abbrev pub change_region : (Region → Region) → List Region → ℕ → List Region
 change_region change [] page = []
 change_region change (r ∷ rs) page = let later = change_region change rs page in
-    if holds page r then change r ∷ rs else r ∷ later
+    if region_holds page r then change r ∷ rs else r ∷ later
 
 -- the regions with the row of one page changed
 abbrev pub set_row : List Region → ℕ → Row → List Region
@@ -72,7 +72,7 @@ set_row regions page row = change_region (with_row page row) regions page
 
 -- the region with the rows of `n` pages from this one on equal to one
 abbrev pub with_equal_rows : ℕ → ℕ → Row → Region → Region
-with_equal_rows page n row r = record r { rows = filled r.rows (page - r.base.0) n row }
+with_equal_rows page n row r = record r { rows = filled_rows r.rows (page - r.base.0) n row }
 
 abbrev pub fill_rows : List Region → ℕ → ℕ → Row → List Region
 fill_rows regions page n row = change_region (with_equal_rows page n row) regions page

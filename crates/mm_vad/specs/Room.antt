@@ -26,7 +26,7 @@ widest low [] = 0
 widest low (r ∷ rs) = max (room low r.first) (widest (end_of r) rs)
 
 -- the first place with room for n pages, from `low` on, before one of the ranges or below `high`
-abbrev pub fit : ℕ → List Range → ℕ → ℕ → Option ℕ
-fit low [] high n = if nat_le n (room low high) then Some (aligned low) else None
-fit low (r ∷ rs) high n = let later = fit (end_of r) rs high n in
+abbrev pub first_fit : ℕ → List Range → ℕ → ℕ → Option ℕ
+first_fit low [] high n = if nat_le n (room low high) then Some (aligned low) else None
+first_fit low (r ∷ rs) high n = let later = first_fit (end_of r) rs high n in
     if nat_le n (room low r.first) then Some (aligned low) else later

@@ -2,7 +2,7 @@ ghost use Rattle.std.specs.Prelude.{◌≡◌, ℕ, ◌+◌, ◌*◌, ◌^◌, �
 ghost use Rattle.std.specs.Int.{bit_at};
 ghost use Rattle.mm_world.specs.Find.{change_range};
 ghost use Rattle.mm_bits.specs.Bits.{have_bit};
-ghost use Rattle.mm_vad.specs.Bits.{flags, NoneSet, IsNextSet, flag_at};
+ghost use Rattle.mm_vad.specs.Bits.{word_flags, NoneSet, IsNextSet, bit_flag};
 
 use mm_bits::put_bits;
 use mm_types::NoMemory;
@@ -39,11 +39,11 @@ pub struct Bits {
 
 impl Model for Bits {
     ghost use Rattle.std.specs.Prelude.{List, Bool, ◌*◌, ◌≤◌, length};
-    ghost use Rattle.mm_vad.specs.Bits.{flags};
+    ghost use Rattle.mm_vad.specs.Bits.{word_flags};
 
     ghost Value = { List Bool };
 
-    ghost view = { λ b. flags b.words.items b.len };
+    ghost view = { λ b. word_flags b.words.items b.len };
 
     ghost invariant = { λ b. b.len ≤ 64 * length b.words.items };
 }
@@ -89,8 +89,8 @@ impl Bits {
     /// The lowest bit that is set from `first` on and below `end`.
     pub fn next(&self, first: u32, end: u32) -> Option<u32>
         requires { end ≤ length self.now }
-        ensures found { IfSome result (IsNextSet (flag_at self.now) first end) }
-        ensures none { IfNone result (NoneSet (flag_at self.now) first end) }
+        ensures found { IfSome result (IsNextSet (bit_flag self.now) first end) }
+        ensures none { IfNone result (NoneSet (bit_flag self.now) first end) }
     {
         match next_set(&self.words, first as usize, end as usize) {
             Some(i) => Some(i as u32),

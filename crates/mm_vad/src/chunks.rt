@@ -1,5 +1,5 @@
 ghost use Rattle.std.specs.Prelude.{◌≡◌, ◌+◌, ◌<◌, ◌≤◌, ◌^◌, [], Some, None, IfOk, IfSome, length, replicate, take, drop, slice_get, slice_set, slice_index_or, vec_len, vec_capacity};
-ghost use Rattle.mm_vad.specs.Chunks.{own_place, place_after, places_after, filled};
+ghost use Rattle.mm_vad.specs.Chunks.{own_place, place_after, places_after, filled_rows};
 
 use crate::Row;
 use mm_types::NoMemory;
@@ -117,7 +117,7 @@ impl Chunks {
         requires inside { at + n ≤ 512 }
         requires whole { length (slice_index_or self.old index []) ≡ 512 }
         ensures { self.new ≡ slice_set self.old index
-            (filled (slice_index_or self.old index []) at n row) }
+            (filled_rows (slice_index_or self.old index []) at n row) }
     {
         if n == CHUNK {
             self.fill_whole(index, row);
@@ -155,7 +155,7 @@ pub(crate) fn equal_in(rows: &[Row], at: usize, most: usize) -> (Row, usize)
 /// The `n` rows from row `at` on become `row`.
 pub(crate) fn fill_in(rows: &mut [Row], at: usize, n: usize, row: Row)
     requires { at + n ≤ length rows.old }
-    ensures { rows.new ≡ filled rows.old at n row }
+    ensures { rows.new ≡ filled_rows rows.old at n row }
 {
     rows[at..at + n].fill(row);
 }
@@ -177,7 +177,7 @@ fn write_out(
     requires room { place ≡ None → vec_len places.old < vec_capacity places.old }
     ensures place { result ≡ place_after places.old.items place }
     ensures items { places.new.items
-        ≡ places_after places.old.items place (filled (replicate 512 before) at n row) }
+        ≡ places_after places.old.items place (filled_rows (replicate 512 before) at n row) }
     ensures capacity { vec_capacity places.new ≡ vec_capacity places.old }
 {
     let mut rows = [before; CHUNK];

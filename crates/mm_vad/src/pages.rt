@@ -8,10 +8,10 @@ use std::marker::Model;
 /// What a region knows of one of its pages (the software side of a page-table entry).
 #[derive(Clone, Copy, PartialEq, Eq, Debug)]
 pub struct Row {
-    /// A private page is committed. In a view, its section page is.
-    pub committed: bool,
     /// The base protection; the guard stands beside it.
     pub prot: Prot,
+    /// A private page is committed. In a view, its section page is.
+    pub committed: bool,
     /// The first access raises an alarm and takes the guard off (PAGE_GUARD).
     pub guard: bool,
     /// A page of a view has bytes of its own.
@@ -36,9 +36,6 @@ impl Row {
     }
 }
 
-/// How many rows are written at once.
-const BLOCK: usize = 64;
-
 /// The rows of a region, one for each page, in the order of its pages.
 #[derive(Drop)]
 pub struct Rows {
@@ -59,29 +56,16 @@ impl Model for Rows {
     ghost invariant = { λ r. AreRows r.chunks r.rest.items };
 }
 
-// `n` rows, each equal to `row`.
-fn equal_rows(alloc: Global, n: usize, row: Row) -> Result<Vec<Row>, NoMemory>
-    ensures { IfOk result (λ rows. rows.items ≡ replicate n row) }
-{
-    let mut rows = Vec::with_capacity(alloc, n)?;
-    let block = [row; BLOCK];
-    for _ in 0..n / BLOCK {
-        rows.extend_from_slice(&block)?;
-    }
-    rows.extend_from_slice(&block[..n % BLOCK])?;
-    Ok(rows)
-}
-
 impl Rows {
     ghost use Rattle.mm_vad.specs.Looks.{run_from};
-    ghost use Rattle.mm_vad.specs.Chunks.{filled};
+    ghost use Rattle.mm_vad.specs.Chunks.{filled_rows};
 
     /// `n` rows, each equal to `row`. `NoMemory` where a request for memory was refused.
     pub fn new(alloc: Global, n: u32, row: Row) -> Result<Rows, NoMemory>
         ensures { IfOk result (λ rows. rows ≡ replicate n row) }
     {
         let chunks = Chunks::new(alloc, n as usize / CHUNK, row)?;
-        let rest = equal_rows(alloc, n as usize % CHUNK, row)?;
+        let rest = vec![in alloc; row; n as usize % CHUNK]?;
         Ok(Rows { chunks, rest })
     }
 
@@ -145,7 +129,7 @@ impl Rows {
     /// The `n` rows from row `first` on become `row`.
     pub fn fill(&mut self, first: u32, n: u32, row: Row)
         requires { first + n ≤ length self.old }
-        ensures { self.new ≡ filled self.old first n row }
+        ensures { self.new ≡ filled_rows self.old first n row }
     {
         let mut done = 0;
         while done < n {
@@ -160,7 +144,7 @@ impl Rows {
         ensures some { 0 < result }
         ensures within { result ≤ n }
         ensures fits { first + result < 2 ^ 32 }
-        ensures after { self.new ≡ filled self.old first result row }
+        ensures after { self.new ≡ filled_rows self.old first result row }
     {
         let (index, at) = (first as usize / CHUNK, first as usize % CHUNK);
         let whole = self.chunks.count();

@@ -214,6 +214,17 @@ impl Space {
         if !self.taken.is_begun_at(base) {
             return None;
         }
+        self.take_out(base)
+    }
+
+    /// The same of a region that is there, so that it is not searched for before.
+    pub fn take_out(&mut self, base: Vpn) -> Option<Region>
+        requires { IsSome (region_with_base self.old.regions base.0) }
+        ensures removed { result ≡ region_with_base self.old.regions base.0 }
+        ensures after { self.new.regions ≡ remove_region self.old.regions base.0 }
+        ensures room { self.old.spare ≤ self.new.spare }
+        ensures sound { IsSpace self.new.regions }
+    {
         self.taken.remove(base);
         self.regions.remove(&base.0)
     }

@@ -1,7 +1,7 @@
 ghost use Rattle.std.specs.Prelude.{◌≡◌, ◌+◌, ◌^◌, ◌<◌, ◌≤◌, max, [], ◌∷◌, ◌++◌, length, MatchOption, IfSome, option_map, find, nat_le};
 ghost use Rattle.mm_types.specs.Address.{end_of, end_of_user_pages, holds_page};
 ghost use Rattle.mm_vad.specs.Ranges.{LieApart, range_at, add_range, remove_range, first_and_count};
-ghost use Rattle.mm_vad.specs.Room.{aligned, room, fit};
+ghost use Rattle.mm_vad.specs.Room.{aligned, room, first_fit};
 ghost use Rattle.mm_vad.specs.Shape.{IsShaped, IsFork, IsBalanced, DifferByAtMost, VisitsAtMost};
 ghost use Rattle.mm_vad.specs.Nodes.{range_in, kept_over, IsSpan, IsNode};
 
@@ -222,7 +222,7 @@ impl Tree {
         steps: &mut Steps<L>,
     ) -> Option<u32>
         requires { low ≤ end_of_user_pages }
-        ensures found { result ≡ fit low self.now.ranges high n }
+        ensures found { result ≡ first_fit low self.now.ranges high n }
         ensures few { VisitsAtMost L.stepped steps.old.ledger steps.new.ledger self.now.height }
         ensures shaped { IsShaped self.now }
     {

@@ -3,7 +3,7 @@ use Rattle.std.proofs.Common.{◌≡◌, ℕ, zero, suc, ◌<◌, List, [], ◌�
 use Rattle.std.proofs.lemmas.Bool.{cases_lt}
 use Rattle.std.proofs.lemmas.Option.{slice_get_past, slice_get_read, slice_get-get_or}
 use Rattle.std.specs.Prelude.{slice_get, slice_set, IsSome, is_some, unwrap_or}
-use Rattle.mm_words.specs.Prototypes.{AreaWords, word_at, words_of}
+use Rattle.mm_words.specs.Prototypes.{AreaWords, proto_word, area_words}
 use Rattle.std.specs.Option.{option_and_then}
 use Rattle.std.specs.Ordering.{nat_cmp}
 use Rattle.std.specs.FinMap as finite
@@ -49,13 +49,13 @@ some_before None i some = some
 some_before (Some words) i some = refl
 
 -- an area with a word is open
-pub open_of_word : (m : AreaWords) (a i : ℕ) → IsSome (word_at m a i) → IsSome (finite.get m a)
+pub open_of_word : (m : AreaWords) (a i : ℕ) → IsSome (proto_word m a i) → IsSome (finite.get m a)
 open_of_word m a i some = some_before (finite.get m a) i some
 
-pub word_is : (m : AreaWords) (a i : ℕ) (words : List ℕ) → finite.get m a ≡ Some words → word_at m a i ≡ slice_get words i
+pub word_is : (m : AreaWords) (a i : ℕ) (words : List ℕ) → finite.get m a ≡ Some words → proto_word m a i ≡ slice_get words i
 word_is m a i words is = ap (option_and_then (λ (ws : List ℕ). slice_get ws i)) is
 
-pub word_within : (m : AreaWords) (a i : ℕ) (words : List ℕ) → finite.get m a ≡ Some words → IsSome (word_at m a i) → i < length words
+pub word_within : (m : AreaWords) (a i : ℕ) (words : List ℕ) → finite.get m a ≡ Some words → IsSome (proto_word m a i) → i < length words
 word_within m a i words is some = elim (cases_lt i (length words)) [
   | inl near ↦ near
   | inr far ↦
@@ -63,12 +63,12 @@ word_within m a i words is some = elim (cases_lt i (length words)) [
       cc
 ]
 
-pub no_word : (m : AreaWords) (a i : ℕ) → finite.get m a ≡ None → IsSome (word_at m a i) → ⊥
+pub no_word : (m : AreaWords) (a i : ℕ) → finite.get m a ≡ None → IsSome (proto_word m a i) → ⊥
 no_word m a i is some =
     let bad : false ≡ true = sym (ap is_some is) ∙ open_of_word m a i some in
     cc
 
-pub words_are : (m : AreaWords) (a : ℕ) (words : List ℕ) → finite.get m a ≡ Some words → words_of m a ≡ words
+pub words_are : (m : AreaWords) (a : ℕ) (words : List ℕ) → finite.get m a ≡ Some words → area_words m a ≡ words
 words_are m a words is = ap (λ (o : Option (List ℕ)). unwrap_or o []) is
 
 -- what users of the maps need: what an area has after a call
@@ -86,17 +86,17 @@ in_words (Some words) j some = elim (cases_lt j (length words)) [
 ]
 
 -- an area that was opened has so many words
-pub opened : (m : AreaWords) (a n i : ℕ) → i < n → IsSome (word_at (finite.insert m a (replicate n 0)) a i)
+pub opened : (m : AreaWords) (a n i : ℕ) → i < n → IsSome (proto_word (finite.insert m a (replicate n 0)) a i)
 opened m a n i range =
     ap is_some (word_is _ a i (replicate n 0) (get_inserted m a (replicate n 0)))
     ∙ has_word (replicate n 0) i (omega (arith, range, length-replicate {A = ℕ} n 0))
 
 -- an area has as many words after one was set
-pub still_there : (m : AreaWords) (a i word j : ℕ) → IsSome (word_at m a j) → IsSome (word_at (finite.insert m a (slice_set (words_of m a) i word)) a j)
+pub still_there : (m : AreaWords) (a i word j : ℕ) → IsSome (proto_word m a j) → IsSome (proto_word (finite.insert m a (slice_set (area_words m a) i word)) a j)
 still_there m a i word j some =
-    let new : List ℕ = slice_set (words_of m a) i word in
+    let new : List ℕ = slice_set (area_words m a) i word in
     ap is_some (word_is _ a j new (get_inserted m a new))
-    ∙ has_word new j (omega (arith, in_words (finite.get m a) j some, length-set (words_of m a) i word))
+    ∙ has_word new j (omega (arith, in_words (finite.get m a) j some, length-set (area_words m a) i word))
 
 -- an area is open after it was opened, and a word of it was set
 pub is_open : (m : AreaWords) (a : ℕ) (words : List ℕ) → IsSome (finite.get (finite.insert m a words) a)

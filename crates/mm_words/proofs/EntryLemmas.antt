@@ -1,7 +1,7 @@
 -- For users: the entry of an entry's word is that entry, and the word of a word's entry is that word.
 use Rattle.std.proofs.Common.{◌≡◌, ℕ, ◌+◌, ◌*◌, ◌<◌, ◌^◌, false, cond, refl, sym, ap, ◌∙◌, arith}
 use Rattle.std.proofs.lemmas.Bool.Decides.{nat_tests}
-use Rattle.mm_words.specs.Layout.{IsEntry, word_of, tag_of, first_of, second_of, is_no_entry, tag_in, first_in, second_in}
+use Rattle.mm_words.specs.Layout.{IsEntry, entry_word, tag_of, first_number, second_number, is_no_entry, tag_in, first_in, second_in}
 use Rattle.mm_words.specs.declared.layout.Entry.{Entry}
 use Rattle.mm_words.specs.declared.layout.Entry.TheVariants as entry
 use Rattle.mm_words.specs.Entries.{by_parts, entry_in}
@@ -24,7 +24,7 @@ small_tag (entry.Transition f) = omega arith
 small_tag (entry.Valid f n) = omega arith
 small_tag (entry.Proto a i) = omega arith
 
-by_its_parts : (e : Entry) → by_parts (tag_of e) (first_of e) (second_of e) ≡ e
+by_its_parts : (e : Entry) → by_parts (tag_of e) (first_number e) (second_number e) ≡ e
 by_its_parts entry.Empty = refl
 by_its_parts entry.Zero = refl
 by_its_parts (entry.Paged s) = refl
@@ -33,22 +33,22 @@ by_its_parts (entry.Transition f) = refl
 by_its_parts (entry.Valid f n) = refl
 by_its_parts (entry.Proto a i) = refl
 
-parts_again : (e : Entry) → IsEntry e → by_parts (tag_in (word_of e)) (first_in (word_of e)) (second_in (word_of e)) ≡ e
+parts_again : (e : Entry) → IsEntry e → by_parts (tag_in (entry_word e)) (first_in (entry_word e)) (second_in (entry_word e)) ≡ e
 parts_again e h =
     let t : tag_of e < 16 = omega (arith, small_tag e) in
-    ap (λ n. by_parts n (first_in (word_of e)) (second_in (word_of e))) (tag_again (tag_of e) (first_of e) (second_of e) t)
-    ∙ ap (λ n. by_parts (tag_of e) n (second_in (word_of e))) (first_again (tag_of e) (first_of e) (second_of e) t h.first)
-    ∙ ap (λ n. by_parts (tag_of e) (first_of e) n) (second_again (tag_of e) (first_of e) (second_of e) t h.first)
+    ap (λ n. by_parts n (first_in (entry_word e)) (second_in (entry_word e))) (tag_again (tag_of e) (first_number e) (second_number e) t)
+    ∙ ap (λ n. by_parts (tag_of e) n (second_in (entry_word e))) (first_again (tag_of e) (first_number e) (second_number e) t h.first)
+    ∙ ap (λ n. by_parts (tag_of e) (first_number e) n) (second_again (tag_of e) (first_number e) (second_number e) t h.first)
     ∙ by_its_parts e
 
 -- a word that some entry has
-pub read_some : (word : ℕ) (e : Entry) → is_no_entry word ≡ false → IsEntry e → word_of e ≡ word → e ≡ entry_in word
+pub read_some : (word : ℕ) (e : Entry) → is_no_entry word ≡ false → IsEntry e → entry_word e ≡ word → e ≡ entry_in word
 unfolding entry_in
 read_some word e nay is same =
     sym (ap (λ b. cond b entry.Empty (by_parts (tag_in word) (first_in word) (second_in word))) nay
     ∙ ap (λ w. by_parts (tag_in w) (first_in w) (second_in w)) (sym same) ∙ parts_again e is)
 
-is_entry_word : (e : Entry) → IsEntry e → is_no_entry (word_of e) ≡ false
+is_entry_word : (e : Entry) → IsEntry e → is_no_entry (entry_word e) ≡ false
 is_entry_word entry.Empty h = refl
 is_entry_word entry.Zero h = refl
 is_entry_word (entry.Paged s) h = let f = h.first in grind (arith, nat_tests)
@@ -57,8 +57,8 @@ is_entry_word (entry.Transition s) h = let f = h.first in grind (arith, nat_test
 is_entry_word (entry.Valid s n) h = let f = h.first in grind (arith, nat_tests)
 is_entry_word (entry.Proto s n) h = let f = h.first in grind (arith, nat_tests)
 
-pub entry_again : (e : Entry) → IsEntry e → entry_in (word_of e) ≡ e
-entry_again e h = sym (read_some (word_of e) e (is_entry_word e h) h refl)
+pub entry_again : (e : Entry) → IsEntry e → entry_in (entry_word e) ≡ e
+entry_again e h = sym (read_some (entry_word e) e (is_entry_word e h) h refl)
 
 -- reserved words of a page table and of a new area
 pub zero_is_empty : entry_in 0 ≡ entry.Empty

@@ -10,24 +10,24 @@ use Rattle.mm_types.proofs.Finite.{same, len_more, len_less}
 use Rattle.mm_types.specs.Address.{holds_page}
 use Rattle.mm_types.specs.declared.numbers.Frame.{Frame}
 use Rattle.mm_wset.specs.Ages.{WorkingSetOf, AgesBy, older}
-use Rattle.mm_words.specs.Layout.{IsEntry, word_of}
+use Rattle.mm_words.specs.Layout.{IsEntry, entry_word}
 use Rattle.mm_words.specs.declared.layout.Entry.{Entry}
 use Rattle.mm_words.specs.declared.layout.Entry.TheVariants as entry
 use Rattle.mm_words.specs.Entries.{entry_or}
 use Rattle.mm_words.proofs.EntryLemmas.{entry_again}
 use Rattle.mm_words.specs.Pages.{pages, Releases}
-use Rattle.mm_words.specs.Words.{bare, is_valid}
-use Rattle.mm_words.specs.Processes.{IsProcess, place_in, set_place}
+use Rattle.mm_words.specs.Words.{bare, is_valid_entry}
+use Rattle.mm_words.specs.Processes.{IsKeptProcess, place_in_set, set_place}
 use Rattle.mm_words.proofs.ReadWords.{no_set_place, plain_place}
 use Rattle.mm_words.proofs.PageChanges.{here, elsewhere, gone, left}
 
-place_here : (t : FinMap nat_cmp ℕ) (v : ℕ) (e : Entry) → IsEntry e → place_in (finite.insert t v (word_of e)) v ≡ set_place e
-place_here t v e is = ap (λ o. set_place (entry_or o)) (here t v (word_of e)) ∙ ap set_place (entry_again e is)
+place_here : (t : FinMap nat_cmp ℕ) (v : ℕ) (e : Entry) → IsEntry e → place_in_set (finite.insert t v (entry_word e)) v ≡ set_place e
+place_here t v e is = ap (λ o. set_place (entry_or o)) (here t v (entry_word e)) ∙ ap set_place (entry_again e is)
 
-place_elsewhere : (t : FinMap nat_cmp ℕ) (v w q : ℕ) → q ≢ v → place_in (finite.insert t v w) q ≡ place_in t q
+place_elsewhere : (t : FinMap nat_cmp ℕ) (v w q : ℕ) → q ≢ v → place_in_set (finite.insert t v w) q ≡ place_in_set t q
 place_elsewhere t v w q other = ap (λ o. set_place (entry_or o)) (elsewhere t v w q other)
 
-module _ (t : FinMap nat_cmp ℕ) (s : WorkingSetOf) (o : Bool) (is : IsProcess t s o) where
+module _ (t : FinMap nat_cmp ℕ) (s : WorkingSetOf) (o : Bool) (is : IsKeptProcess t s o) where
   never_closed : {A : Type 0} (v : ℕ) → is_some (finite.get t v) ≡ true → o ≡ false → A
   never_closed v bound nay = let bad : true ≡ false = sym bound ∙ ap is_some (is.closed nay v) in cc
 
@@ -40,7 +40,7 @@ module _ (t : FinMap nat_cmp ℕ) (s : WorkingSetOf) (o : Bool) (is : IsProcess 
       by_flag false e = never_closed v bound e
 
   -- each page names the place that it named
-  pub same_places_kept : (u : FinMap nat_cmp ℕ) → ((page : ℕ) → place_in u page ≡ place_in t page) → (o ≡ false → (page : ℕ) → finite.get u page ≡ None) → IsProcess u s o
+  pub same_places_kept : (u : FinMap nat_cmp ℕ) → ((page : ℕ) → place_in_set u page ≡ place_in_set t page) → (o ≡ false → (page : ℕ) → finite.get u page ≡ None) → IsKeptProcess u s o
   same_places_kept u stays closed = record {
     named = λ page n h. is.named page n (sym (stays page) ∙ h);
     held = λ n page h. stays page ∙ is.held n page h;
@@ -53,19 +53,19 @@ module _ (t : FinMap nat_cmp ℕ) (s : WorkingSetOf) (o : Bool) (is : IsProcess 
 
   -- ---- an entry that is not valid becomes another that is not
 
-  pub set_kept : (u : FinMap nat_cmp ℕ) (v w : ℕ) (e : Entry) → u ≡ finite.insert t v w → w ≡ word_of e
-      → is_some (finite.get t v) ≡ true → is_valid (bare (entry_or (finite.get t v))) ≡ false → is_valid e ≡ false → IsEntry e → IsProcess u s o
-  set_kept u v w e ue we bound invalid other fits = subst (λ (x : FinMap nat_cmp ℕ). IsProcess x s o) (sym (ue ∙ ap (finite.insert t v) we)) (same_places_kept (finite.insert t v (word_of e)) stays (never_closed v bound))
+  pub set_kept : (u : FinMap nat_cmp ℕ) (v w : ℕ) (e : Entry) → u ≡ finite.insert t v w → w ≡ entry_word e
+      → is_some (finite.get t v) ≡ true → is_valid_entry (bare (entry_or (finite.get t v))) ≡ false → is_valid_entry e ≡ false → IsEntry e → IsKeptProcess u s o
+  set_kept u v w e ue we bound invalid other fits = subst (λ (x : FinMap nat_cmp ℕ). IsKeptProcess x s o) (sym (ue ∙ ap (finite.insert t v) we)) (same_places_kept (finite.insert t v (entry_word e)) stays (never_closed v bound))
     where
-      stays : (page : ℕ) → place_in (finite.insert t v (word_of e)) page ≡ place_in t page
+      stays : (page : ℕ) → place_in_set (finite.insert t v (entry_word e)) page ≡ place_in_set t page
       stays page = elim (same_or_not page v) [
-        | inl e_is ↦ ap (place_in (finite.insert t v (word_of e))) e_is ∙ place_here t v e fits ∙ plain_place e other ∙ sym (ap (place_in t) e_is ∙ no_set_place (entry_or (finite.get t v)) invalid)
-        | inr differs ↦ place_elsewhere t v (word_of e) page differs
+        | inl e_is ↦ ap (place_in_set (finite.insert t v (entry_word e))) e_is ∙ place_here t v e fits ∙ plain_place e other ∙ sym (ap (place_in_set t) e_is ∙ no_set_place (entry_or (finite.get t v)) invalid)
+        | inr differs ↦ place_elsewhere t v (entry_word e) page differs
       ]
 
   -- ---- pages are bound or given up
 
-  pub bind_kept : (u : FinMap nat_cmp ℕ) → ((q : ℕ) → entry_or (finite.get u q) ≡ entry_or (finite.get t q)) → o ≡ true → IsProcess u s o
+  pub bind_kept : (u : FinMap nat_cmp ℕ) → ((q : ℕ) → entry_or (finite.get u q) ≡ entry_or (finite.get t q)) → o ≡ true → IsKeptProcess u s o
   bind_kept u stays opened = same_places_kept u (λ page. ap set_place (stays page)) (λ nay. (let bad : true ≡ false = sym opened ∙ nay in cc))
 
   range_parts : (first n q : ℕ) → holds_page (pages first n) q ≡ true → (first ≤ q) × (q < first + n)
@@ -73,10 +73,10 @@ module _ (t : FinMap nat_cmp ℕ) (s : WorkingSetOf) (o : Bool) (is : IsProcess 
 
   -- no page of the range is valid
   abbrev NoneValid : ℕ → ℕ → Type 0
-  NoneValid first n = (q : ℕ) → first ≤ q → q < first + n → is_valid (bare (entry_or (finite.get t q))) ≡ false
+  NoneValid first n = (q : ℕ) → first ≤ q → q < first + n → is_valid_entry (bare (entry_or (finite.get t q))) ≡ false
 
-  unbind_place : (u : FinMap nat_cmp ℕ) (first n : ℕ) → Releases t u (pages first n) → NoneValid first n → (q : ℕ) → place_in u q ≡ place_in t q
-  unbind_place u first n rel invalid q = elim (holds_page (pages first n) q) as (λ b. holds_page (pages first n) q ≡ b → place_in u q ≡ place_in t q) [
+  unbind_place : (u : FinMap nat_cmp ℕ) (first n : ℕ) → Releases t u (pages first n) → NoneValid first n → (q : ℕ) → place_in_set u q ≡ place_in_set t q
+  unbind_place u first n rel invalid q = elim (holds_page (pages first n) q) as (λ b. holds_page (pages first n) q ≡ b → place_in_set u q ≡ place_in_set t q) [
     | true ↦ λ h. let w = range_parts first n q h in
         ap (λ r. set_place (entry_or r)) (rel q ∙ ap (λ b. cond b None (finite.get t q)) h) ∙ sym (no_set_place (entry_or (finite.get t q)) (invalid q w.0 w.1))
     | false ↦ λ h. ap (λ r. set_place (entry_or r)) (rel q ∙ ap (λ b. cond b None (finite.get t q)) h)
@@ -86,13 +86,13 @@ module _ (t : FinMap nat_cmp ℕ) (s : WorkingSetOf) (o : Bool) (is : IsProcess 
   gone_none true r h = refl
   gone_none false r h = h
 
-  pub unbind_kept : (u : FinMap nat_cmp ℕ) (first n : ℕ) → Releases t u (pages first n) → NoneValid first n → IsProcess u s o
+  pub unbind_kept : (u : FinMap nat_cmp ℕ) (first n : ℕ) → Releases t u (pages first n) → NoneValid first n → IsKeptProcess u s o
   unbind_kept u first n rel invalid = same_places_kept u (unbind_place u first n rel invalid) (λ nay page. rel page ∙ gone_none (holds_page (pages first n) page) (finite.get t page) (is.closed nay page))
 
   -- ---- a page becomes valid, at a vacant place
 
   -- a page that is not valid has no age
-  pub no_age : (v : ℕ) → is_valid (bare (entry_or (finite.get t v))) ≡ false → finite.get s.ages v ≡ None
+  pub no_age : (v : ℕ) → is_valid_entry (bare (entry_or (finite.get t v))) ≡ false → finite.get s.ages v ≡ None
   no_age v invalid = none_of (finite.get s.ages v) (is.aged v ∙ ap is_some (no_set_place (entry_or (finite.get t v)) invalid))
     where
       none_of : (a : Option ℕ) → is_some a ≡ false → a ≡ None
@@ -109,21 +109,21 @@ module _ (t : FinMap nat_cmp ℕ) (s : WorkingSetOf) (o : Bool) (is : IsProcess 
     | inr differs ↦ is.young page age (sym (elsewhere s.ages v 0 page differs) ∙ h)
   ]
 
-  module _ (v : ℕ) (f : Frame) (m : ℕ) (bound : is_some (finite.get t v) ≡ true) (invalid : is_valid (bare (entry_or (finite.get t v))) ≡ false)
+  module _ (v : ℕ) (f : Frame) (m : ℕ) (bound : is_some (finite.get t v) ≡ true) (invalid : is_valid_entry (bare (entry_or (finite.get t v))) ≡ false)
       (fits : IsEntry (entry.Valid f m)) (vacant : finite.get s.places m ≡ None) (few : finite.len s.places < s.max) where
     abbrev table_more : FinMap nat_cmp ℕ
-    table_more = finite.insert t v (word_of (entry.Valid f m))
+    table_more = finite.insert t v (entry_word (entry.Valid f m))
 
-    here_more : place_in table_more v ≡ Some m
+    here_more : place_in_set table_more v ≡ Some m
     here_more = place_here t v (entry.Valid f m) fits
 
-    there_more : (page : ℕ) → page ≢ v → place_in table_more page ≡ place_in t page
-    there_more = place_elsewhere t v (word_of (entry.Valid f m))
+    there_more : (page : ℕ) → page ≢ v → place_in_set table_more page ≡ place_in_set t page
+    there_more = place_elsewhere t v (entry_word (entry.Valid f m))
 
-    named_more : (page n : ℕ) → place_in table_more page ≡ Some n → finite.get (finite.insert s.places m v) n ≡ Some page
+    named_more : (page n : ℕ) → place_in_set table_more page ≡ Some n → finite.get (finite.insert s.places m v) n ≡ Some page
     named_more page n h = elim (same_or_not page v) [
       | inl e ↦
-          let both : Some m ≡ Some n = sym here_more ∙ ap (place_in table_more) (sym e) ∙ h in
+          let both : Some m ≡ Some n = sym here_more ∙ ap (place_in_set table_more) (sym e) ∙ h in
           let mn : m ≡ n = cc in
           ap (finite.get (finite.insert s.places m v)) (sym mn) ∙ here s.places m v ∙ ap Some (sym e)
       | inr differs ↦
@@ -131,24 +131,24 @@ module _ (t : FinMap nat_cmp ℕ) (s : WorkingSetOf) (o : Bool) (is : IsProcess 
           elsewhere s.places m v n (λ nm. (let bad : None ≡ Some page = sym vacant ∙ ap (finite.get s.places) (sym nm) ∙ old in cc)) ∙ old
     ]
 
-    held_more : (n page : ℕ) → finite.get (finite.insert s.places m v) n ≡ Some page → place_in table_more page ≡ Some n
+    held_more : (n page : ℕ) → finite.get (finite.insert s.places m v) n ≡ Some page → place_in_set table_more page ≡ Some n
     held_more n page h = elim (same_or_not n m) [
       | inl e ↦
           let both : Some v ≡ Some page = sym (here s.places m v) ∙ ap (finite.get (finite.insert s.places m v)) (sym e) ∙ h in
           let vp : v ≡ page = cc in
-          ap (place_in table_more) (sym vp) ∙ here_more ∙ ap Some (sym e)
+          ap (place_in_set table_more) (sym vp) ∙ here_more ∙ ap Some (sym e)
       | inr differs ↦
           let old = is.held n page (sym (elsewhere s.places m v n differs) ∙ h) in
-          there_more page (λ pv. (let bad : None ≡ Some n = sym (no_set_place (entry_or (finite.get t v)) invalid) ∙ ap (place_in t) (sym pv) ∙ old in cc)) ∙ old
+          there_more page (λ pv. (let bad : None ≡ Some n = sym (no_set_place (entry_or (finite.get t v)) invalid) ∙ ap (place_in_set t) (sym pv) ∙ old in cc)) ∙ old
     ]
 
-    aged_more : (page : ℕ) → is_some (finite.get (finite.insert s.ages v 0) page) ≡ is_some (place_in table_more page)
+    aged_more : (page : ℕ) → is_some (finite.get (finite.insert s.ages v 0) page) ≡ is_some (place_in_set table_more page)
     aged_more page = elim (same_or_not page v) [
-      | inl e ↦ ap (λ k. is_some (finite.get (finite.insert s.ages v 0) k)) e ∙ ap is_some (here s.ages v 0) ∙ sym (ap (λ k. is_some (place_in table_more k)) e ∙ ap is_some here_more)
+      | inl e ↦ ap (λ k. is_some (finite.get (finite.insert s.ages v 0) k)) e ∙ ap is_some (here s.ages v 0) ∙ sym (ap (λ k. is_some (place_in_set table_more k)) e ∙ ap is_some here_more)
       | inr differs ↦ ap is_some (elsewhere s.ages v 0 page differs) ∙ is.aged page ∙ ap is_some (sym (there_more page differs))
     ]
 
-    pub process_more : IsProcess table_more (record s { ages = finite.insert s.ages v 0; places = finite.insert s.places m v }) o
+    pub process_more : IsKeptProcess table_more (record s { ages = finite.insert s.ages v 0; places = finite.insert s.places m v }) o
     process_more = record {
       named = named_more;
       held = held_more;
@@ -161,19 +161,19 @@ module _ (t : FinMap nat_cmp ℕ) (s : WorkingSetOf) (o : Bool) (is : IsProcess 
 
   -- ---- a valid page is valid no more
 
-  module _ (v : ℕ) (e : Entry) (m : ℕ) (bound : is_some (finite.get t v) ≡ true) (valid : place_in t v ≡ Some m) (other : is_valid e ≡ false) (fits : IsEntry e) where
+  module _ (v : ℕ) (e : Entry) (m : ℕ) (bound : is_some (finite.get t v) ≡ true) (valid : place_in_set t v ≡ Some m) (other : is_valid_entry e ≡ false) (fits : IsEntry e) where
     abbrev table_less : FinMap nat_cmp ℕ
-    table_less = finite.insert t v (word_of e)
+    table_less = finite.insert t v (entry_word e)
 
-    here_less : place_in table_less v ≡ None
+    here_less : place_in_set table_less v ≡ None
     here_less = place_here t v e fits ∙ plain_place e other
 
-    there_less : (page : ℕ) → page ≢ v → place_in table_less page ≡ place_in t page
-    there_less = place_elsewhere t v (word_of e)
+    there_less : (page : ℕ) → page ≢ v → place_in_set table_less page ≡ place_in_set t page
+    there_less = place_elsewhere t v (entry_word e)
 
-    named_less : (page n : ℕ) → place_in table_less page ≡ Some n → finite.get (finite.remove s.places m) n ≡ Some page
+    named_less : (page n : ℕ) → place_in_set table_less page ≡ Some n → finite.get (finite.remove s.places m) n ≡ Some page
     named_less page n h = elim (same_or_not page v) [
-      | inl same_page ↦ (let bad : None ≡ Some n = sym here_less ∙ ap (place_in table_less) (sym same_page) ∙ h in cc)
+      | inl same_page ↦ (let bad : None ≡ Some n = sym here_less ∙ ap (place_in_set table_less) (sym same_page) ∙ h in cc)
       | inr differs ↦
           let old = is.named page n (sym (there_less page differs) ∙ h) in
           left s.places m n (λ nm.
@@ -181,19 +181,19 @@ module _ (t : FinMap nat_cmp ℕ) (s : WorkingSetOf) (o : Bool) (is : IsProcess 
           let vp : page ≡ v = cc in differs vp) ∙ old
     ]
 
-    held_less : (n page : ℕ) → finite.get (finite.remove s.places m) n ≡ Some page → place_in table_less page ≡ Some n
+    held_less : (n page : ℕ) → finite.get (finite.remove s.places m) n ≡ Some page → place_in_set table_less page ≡ Some n
     held_less n page h = elim (same_or_not n m) [
       | inl nm ↦ (let bad : None ≡ Some page = sym (gone s.places m) ∙ ap (finite.get (finite.remove s.places m)) (sym nm) ∙ h in cc)
       | inr differs ↦
           let old = is.held n page (sym (left s.places m n differs) ∙ h) in
           there_less page (λ pv.
-          let both : Some m ≡ Some n = sym valid ∙ ap (place_in t) (sym pv) ∙ old in
+          let both : Some m ≡ Some n = sym valid ∙ ap (place_in_set t) (sym pv) ∙ old in
           let mn : n ≡ m = cc in differs mn) ∙ old
     ]
 
-    aged_less : (page : ℕ) → is_some (finite.get (finite.remove s.ages v) page) ≡ is_some (place_in table_less page)
+    aged_less : (page : ℕ) → is_some (finite.get (finite.remove s.ages v) page) ≡ is_some (place_in_set table_less page)
     aged_less page = elim (same_or_not page v) [
-      | inl same_page ↦ ap (λ k. is_some (finite.get (finite.remove s.ages v) k)) same_page ∙ ap is_some (gone s.ages v) ∙ sym (ap (λ k. is_some (place_in table_less k)) same_page ∙ ap is_some here_less)
+      | inl same_page ↦ ap (λ k. is_some (finite.get (finite.remove s.ages v) k)) same_page ∙ ap is_some (gone s.ages v) ∙ sym (ap (λ k. is_some (place_in_set table_less k)) same_page ∙ ap is_some here_less)
       | inr differs ↦ ap is_some (left s.ages v page differs) ∙ is.aged page ∙ ap is_some (sym (there_less page differs))
     ]
 
@@ -203,7 +203,7 @@ module _ (t : FinMap nat_cmp ℕ) (s : WorkingSetOf) (o : Bool) (is : IsProcess 
       | inr differs ↦ is.young page age (sym (left s.ages v page differs) ∙ h)
     ]
 
-    pub process_less : IsProcess table_less (record s { ages = finite.remove s.ages v; places = finite.remove s.places m }) o
+    pub process_less : IsKeptProcess table_less (record s { ages = finite.remove s.ages v; places = finite.remove s.places m }) o
     process_less = record {
       named = named_less;
       held = held_less;
@@ -216,12 +216,12 @@ module _ (t : FinMap nat_cmp ℕ) (s : WorkingSetOf) (o : Bool) (is : IsProcess 
 
   -- ---- ages alone change
 
-  pub touched_kept : (v m : ℕ) → place_in t v ≡ Some m → (r : WorkingSetOf) → r ≡ record s { ages = finite.insert s.ages v 0 } → IsProcess t r o
-  touched_kept v m valid r re = subst (λ (x : WorkingSetOf). IsProcess t x o) (sym re) (record {
+  pub touched_kept : (v m : ℕ) → place_in_set t v ≡ Some m → (r : WorkingSetOf) → r ≡ record s { ages = finite.insert s.ages v 0 } → IsKeptProcess t r o
+  touched_kept v m valid r re = subst (λ (x : WorkingSetOf). IsKeptProcess t x o) (sym re) (record {
     named = is.named;
     held = is.held;
     aged = λ page. elim (same_or_not page v) [
-      | inl e ↦ ap (λ k. is_some (finite.get (finite.insert s.ages v 0) k)) e ∙ ap is_some (here s.ages v 0) ∙ sym (ap (λ k. is_some (place_in t k)) e ∙ ap is_some valid)
+      | inl e ↦ ap (λ k. is_some (finite.get (finite.insert s.ages v 0) k)) e ∙ ap is_some (here s.ages v 0) ∙ sym (ap (λ k. is_some (place_in_set t k)) e ∙ ap is_some valid)
       | inr differs ↦ ap is_some (elsewhere s.ages v 0 page differs) ∙ is.aged page
     ];
     young = young_new v;
@@ -238,8 +238,8 @@ module _ (t : FinMap nat_cmp ℕ) (s : WorkingSetOf) (o : Bool) (is : IsProcess 
   still_young None age h = cc
   still_young (Some x) age h = let e : older x ≡ age = cc in omega (arith, e)
 
-  pub older_kept : (r : WorkingSetOf) → r ≡ record s { ages = r.ages } → AgesBy older s.ages r.ages → IsProcess t r o
-  older_kept r re by = subst (λ (x : WorkingSetOf). IsProcess t x o) (sym re) (record {
+  pub older_kept : (r : WorkingSetOf) → r ≡ record s { ages = r.ages } → AgesBy older s.ages r.ages → IsKeptProcess t r o
+  older_kept r re by = subst (λ (x : WorkingSetOf). IsKeptProcess t x o) (sym re) (record {
     named = is.named;
     held = is.held;
     aged = λ page. ap is_some (by page) ∙ same_kind (finite.get s.ages page) ∙ is.aged page;
@@ -270,8 +270,8 @@ module _ (t : FinMap nat_cmp ℕ) (s : WorkingSetOf) (o : Bool) (is : IsProcess 
     pub none_resident : finite.len s.places ≡ 0
     none_resident = ap finite.len (same s.places finite.empty (λ n. no_place n ∙ sym (finite.get-empty nat_cmp n))) ∙ finite.len-empty nat_cmp ℕ
 
-    pub close_kept : (r : WorkingSetOf) → r ≡ record s { reserved = false } → IsProcess t r false
-    close_kept r re = subst (λ (x : WorkingSetOf). IsProcess t x false) (sym re) (record {
+    pub close_kept : (r : WorkingSetOf) → r ≡ record s { reserved = false } → IsKeptProcess t r false
+    close_kept r re = subst (λ (x : WorkingSetOf). IsKeptProcess t x false) (sym re) (record {
       named = is.named;
       held = is.held;
       aged = is.aged;
@@ -283,42 +283,42 @@ module _ (t : FinMap nat_cmp ℕ) (s : WorkingSetOf) (o : Bool) (is : IsProcess 
 
 -- ---- as the calls below say it
 
-pub more_kept : (t u : FinMap nat_cmp ℕ) (s r : WorkingSetOf) (o : Bool) (v w : ℕ) (f : Frame) (m : ℕ) → u ≡ finite.insert t v w → w ≡ word_of (entry.Valid f m)
+pub more_kept : (t u : FinMap nat_cmp ℕ) (s r : WorkingSetOf) (o : Bool) (v w : ℕ) (f : Frame) (m : ℕ) → u ≡ finite.insert t v w → w ≡ entry_word (entry.Valid f m)
     → r ≡ record s { ages = finite.insert s.ages v 0; places = finite.insert s.places m v } → finite.get s.places m ≡ None → finite.len s.places < s.max
-    → IsProcess t s o → is_some (finite.get t v) ≡ true → is_valid (bare (entry_or (finite.get t v))) ≡ false → IsEntry (entry.Valid f m) → IsProcess u r o
+    → IsKeptProcess t s o → is_some (finite.get t v) ≡ true → is_valid_entry (bare (entry_or (finite.get t v))) ≡ false → IsEntry (entry.Valid f m) → IsKeptProcess u r o
 more_kept t u s r o v w f m ue we re vacant few is bound invalid fits =
-    subst (λ (x : FinMap nat_cmp ℕ). IsProcess x r o) (sym (ue ∙ ap (finite.insert t v) we))
-    (subst (λ (x : WorkingSetOf). IsProcess (finite.insert t v (word_of (entry.Valid f m))) x o) (sym re)
+    subst (λ (x : FinMap nat_cmp ℕ). IsKeptProcess x r o) (sym (ue ∙ ap (finite.insert t v) we))
+    (subst (λ (x : WorkingSetOf). IsKeptProcess (finite.insert t v (entry_word (entry.Valid f m))) x o) (sym re)
     (process_more t s o is v f m bound invalid fits vacant few))
 
-pub less_kept : (t u : FinMap nat_cmp ℕ) (s r : WorkingSetOf) (o : Bool) (v w : ℕ) (e : Entry) (m x : ℕ) → u ≡ finite.insert t v w → w ≡ word_of e
+pub less_kept : (t u : FinMap nat_cmp ℕ) (s r : WorkingSetOf) (o : Bool) (v w : ℕ) (e : Entry) (m x : ℕ) → u ≡ finite.insert t v w → w ≡ entry_word e
     → r ≡ record s { ages = finite.remove s.ages x; places = finite.remove s.places m } → x ≡ v
-    → IsProcess t s o → is_some (finite.get t v) ≡ true → place_in t v ≡ Some m → is_valid e ≡ false → IsEntry e → IsProcess u r o
+    → IsKeptProcess t s o → is_some (finite.get t v) ≡ true → place_in_set t v ≡ Some m → is_valid_entry e ≡ false → IsEntry e → IsKeptProcess u r o
 less_kept t u s r o v w e m x ue we re xv is bound valid other fits =
-    subst (λ (y : FinMap nat_cmp ℕ). IsProcess y r o) (sym (ue ∙ ap (finite.insert t v) we))
-    (subst (λ (y : WorkingSetOf). IsProcess (finite.insert t v (word_of e)) y o)
+    subst (λ (y : FinMap nat_cmp ℕ). IsKeptProcess y r o) (sym (ue ∙ ap (finite.insert t v) we))
+    (subst (λ (y : WorkingSetOf). IsKeptProcess (finite.insert t v (entry_word e)) y o)
     (sym (re ∙ ap (λ k. record s { ages = finite.remove s.ages k; places = finite.remove s.places m }) xv))
     (process_less t s o is v e m bound valid other fits))
 
-pub place_of_valid : (t : FinMap nat_cmp ℕ) (v : ℕ) (f : Frame) (m : ℕ) → entry.Valid f m ≡ entry_or (finite.get t v) → place_in t v ≡ Some m
+pub place_of_valid : (t : FinMap nat_cmp ℕ) (v : ℕ) (f : Frame) (m : ℕ) → entry.Valid f m ≡ entry_or (finite.get t v) → place_in_set t v ≡ Some m
 place_of_valid t v f m h = sym (ap set_place h)
 
-pub set_held : (t : FinMap nat_cmp ℕ) (s : WorkingSetOf) (o : Bool) (v : ℕ) (f : Frame) (m : ℕ) → IsProcess t s o → entry.Valid f m ≡ entry_or (finite.get t v) → finite.get s.places m ≡ Some v
+pub set_held : (t : FinMap nat_cmp ℕ) (s : WorkingSetOf) (o : Bool) (v : ℕ) (f : Frame) (m : ℕ) → IsKeptProcess t s o → entry.Valid f m ≡ entry_or (finite.get t v) → finite.get s.places m ≡ Some v
 set_held t s o v f m is h = is.named v m (place_of_valid t v f m h)
 
 -- the page that the set gave up at the place that a word names is the word's own
-pub removed_page : (t : FinMap nat_cmp ℕ) (s : WorkingSetOf) (o : Bool) (v : ℕ) (f : Frame) (m x : ℕ) → IsProcess t s o → entry.Valid f m ≡ entry_or (finite.get t v) → finite.get s.places m ≡ Some x → x ≡ v
+pub removed_page : (t : FinMap nat_cmp ℕ) (s : WorkingSetOf) (o : Bool) (v : ℕ) (f : Frame) (m x : ℕ) → IsKeptProcess t s o → entry.Valid f m ≡ entry_or (finite.get t v) → finite.get s.places m ≡ Some x → x ≡ v
 removed_page t s o v f m x is h there = let both : Some x ≡ Some v = sym there ∙ set_held t s o v f m is h in cc
 
 no_none : (n page : ℕ) → finite.get (finite.empty {X = ℕ} {R = nat_cmp}) n ≡ Some page → ⊥
 no_none n page h = let bad : None ≡ Some page = sym (finite.get-empty nat_cmp n) ∙ h in cc
 
-empty_place : (page : ℕ) → place_in finite.empty page ≡ None
+empty_place : (page : ℕ) → place_in_set finite.empty page ≡ None
 empty_place page = ap (λ o. set_place (entry_or o)) (finite.get-empty nat_cmp page)
 
 -- a process begins closed, without a page
-pub begin_kept : (t : FinMap nat_cmp ℕ) (s : WorkingSetOf) (min max : ℕ) → t ≡ finite.empty → s ≡ record { min = min; max = max; reserved = false; ages = finite.empty; places = finite.empty } → IsProcess t s false
-begin_kept t s min max te se = subst (λ (x : FinMap nat_cmp ℕ). IsProcess x s false) (sym te) (subst (λ (x : WorkingSetOf). IsProcess finite.empty x false) (sym se) (record {
+pub begin_kept : (t : FinMap nat_cmp ℕ) (s : WorkingSetOf) (min max : ℕ) → t ≡ finite.empty → s ≡ record { min = min; max = max; reserved = false; ages = finite.empty; places = finite.empty } → IsKeptProcess t s false
+begin_kept t s min max te se = subst (λ (x : FinMap nat_cmp ℕ). IsKeptProcess x s false) (sym te) (subst (λ (x : WorkingSetOf). IsKeptProcess finite.empty x false) (sym se) (record {
   named = λ page n h. (let bad : None ≡ Some n = sym (empty_place page) ∙ h in cc);
   held = λ n page h. absurd (no_none n page h);
   aged = λ page. ap is_some (finite.get-empty nat_cmp page) ∙ sym (ap is_some (empty_place page));

@@ -15,7 +15,7 @@ use Rattle.std.specs.Prelude.{replicate, ◌-◌}
 use Rattle.mm_types.specs.Address.{holds_page}
 use Rattle.mm_words.specs.Pages.{pages, Reserves, Releases, AreReserved, reserved_word}
 use Rattle.mm_words.specs.LeafWords.{leaf_word, no_word}
-use Rattle.mm_words.specs.Directory.{Leaves, leaf_of, word_in, numbers_from, end_of_pages, words_of, IsWhole, IsDirectory, HasPlace, with_leaf, with_word, SameWords, Changes, PlacesMore}
+use Rattle.mm_words.specs.Directory.{LeavesOf, leaf_of, word_in, numbers_from, end_of_pages, directory_words, IsWholeLeaf, IsDirectory, IsInLeaf, with_leaf, with_leaf_word, SameWords, Changes, PlacesMore}
 use Rattle.mm_words.proofs.WordLemmas.{none_after}
 use Rattle.std.proofs.lemmas.List.{length-replicate}
 
@@ -32,14 +32,14 @@ numbers_past start (suc count) zero h = absurd (omega arith)
 numbers_past start (suc count) (suc i) h = numbers_past (start + 1) count i (omega arith)
 
 -- no leaf has words past the end of pages
-word_past : (leaves : Leaves) (page : ℕ) → length leaves ≤ 512 → end_of_pages ≤ page → word_in leaves page ≡ None
+word_past : (leaves : LeavesOf) (page : ℕ) → length leaves ≤ 512 → end_of_pages ≤ page → word_in leaves page ≡ None
 word_past leaves page few far =
     let past : length leaves ≤ page / 1024 = omega arith in
     ap (λ (leaf : List (Option ℕ)). get_or leaf (page % 1024) None) (get_or_past leaves (page / 1024) [] past)
 
 -- what the map answers is what stands in the leaves
-pub get-words_of : (leaves : Leaves) → IsDirectory leaves → (page : ℕ) → finite.get (words_of leaves) page ≡ word_in leaves page
-unfolding words_of
+pub get-words_of : (leaves : LeavesOf) → IsDirectory leaves → (page : ℕ) → finite.get (directory_words leaves) page ≡ word_in leaves page
+unfolding directory_words
 get-words_of leaves directory page =
     get_table (word_in leaves) (numbers_from 0 end_of_pages) page ∙ elim (cases_lt page end_of_pages) [
       | inl near ↦ ap (found (word_in leaves)) (numbers_within 0 end_of_pages page near ∙ ap (λ (n : ℕ). Some n) (omega arith))
@@ -47,7 +47,7 @@ get-words_of leaves directory page =
     ]
 
 -- a page with a word has a place
-pub place_of_some : (leaves : Leaves) (page : ℕ) → IsSome (word_in leaves page) → HasPlace leaves page
+pub place_of_some : (leaves : LeavesOf) (page : ℕ) → IsSome (word_in leaves page) → IsInLeaf leaves page
 place_of_some leaves page some = elim (cases_lt (page % 1024) (length (leaf_of leaves page))) [
   | inl near ↦ near
   | inr far ↦
@@ -56,7 +56,7 @@ place_of_some leaves page some = elim (cases_lt (page % 1024) (length (leaf_of l
       cc
 ]
 
-pub leaf_of_place : (leaves : Leaves) (page : ℕ) → HasPlace leaves page → page / 1024 < length leaves
+pub leaf_of_place : (leaves : LeavesOf) (page : ℕ) → IsInLeaf leaves page → page / 1024 < length leaves
 leaf_of_place leaves page place = elim (cases_lt (page / 1024) (length leaves)) [
   | inl near ↦ near
   | inr far ↦
@@ -65,20 +65,20 @@ leaf_of_place leaves page place = elim (cases_lt (page / 1024) (length leaves)) 
 ]
 
 -- a leaf is put in another's place
-pub leaf_of-same : (leaves : Leaves) (page q : ℕ) (leaf : List (Option ℕ)) → page / 1024 < length leaves → q / 1024 ≡ page / 1024 → leaf_of (with_leaf leaves page leaf) q ≡ leaf
+pub leaf_of-same : (leaves : LeavesOf) (page q : ℕ) (leaf : List (Option ℕ)) → page / 1024 < length leaves → q / 1024 ≡ page / 1024 → leaf_of (with_leaf leaves page leaf) q ≡ leaf
 leaf_of-same leaves page q leaf within e =
     ap (λ (i : ℕ). get_or (set leaves (page / 1024) leaf) i []) e ∙ get_or-set_same leaves (page / 1024) leaf [] within
 
-pub leaf_of-other : (leaves : Leaves) (page q : ℕ) (leaf : List (Option ℕ)) → q / 1024 ≢ page / 1024 → leaf_of (with_leaf leaves page leaf) q ≡ leaf_of leaves q
+pub leaf_of-other : (leaves : LeavesOf) (page q : ℕ) (leaf : List (Option ℕ)) → q / 1024 ≢ page / 1024 → leaf_of (with_leaf leaves page leaf) q ≡ leaf_of leaves q
 leaf_of-other leaves page q leaf other = get_or-set_other leaves (page / 1024) (q / 1024) leaf [] other
 
-module _ (leaves : Leaves) (page : ℕ) (word : Option ℕ) (place : HasPlace leaves page) where
-  pub word_in-same : word_in (with_word leaves page word) page ≡ word
+module _ (leaves : LeavesOf) (page : ℕ) (word : Option ℕ) (place : IsInLeaf leaves page) where
+  pub word_in-same : word_in (with_leaf_word leaves page word) page ≡ word
   word_in-same =
       ap (λ (leaf : List (Option ℕ)). get_or leaf (page % 1024) None) (leaf_of-same leaves page page (set (leaf_of leaves page) (page % 1024) word) (leaf_of_place leaves page place) refl)
       ∙ get_or-set_same (leaf_of leaves page) (page % 1024) word None place
 
-  pub word_in-other : (q : ℕ) → q ≢ page → word_in (with_word leaves page word) q ≡ word_in leaves q
+  pub word_in-other : (q : ℕ) → q ≢ page → word_in (with_leaf_word leaves page word) q ≡ word_in leaves q
   word_in-other q other = elim (cases_eq (q / 1024) (page / 1024)) [
     | inl same_leaf ↦
         let apart : q % 1024 ≢ page % 1024 = λ e. other (omega (arith, e, same_leaf)) in
@@ -90,7 +90,7 @@ module _ (leaves : Leaves) (page : ℕ) (word : Option ℕ) (place : HasPlace le
   ]
 
 -- where a leaf is put in another's place, the directory keeps its form
-pub is_directory-with_leaf : (leaves : Leaves) (page : ℕ) (leaf : List (Option ℕ)) → IsWhole leaf → IsDirectory leaves → IsDirectory (with_leaf leaves page leaf)
+pub is_directory-with_leaf : (leaves : LeavesOf) (page : ℕ) (leaf : List (Option ℕ)) → IsWholeLeaf leaf → IsDirectory leaves → IsDirectory (with_leaf leaves page leaf)
 is_directory-with_leaf leaves page leaf whole directory = record {
   few = omega (arith, length-set leaves (page / 1024) leaf, directory.few);
   full = λ i. elim (cases_eq i (page / 1024)) [
@@ -108,7 +108,7 @@ is_directory-with_leaf leaves page leaf whole directory = record {
   ];
 }
 
-pub is_directory-with_word : (leaves : Leaves) (page : ℕ) (word : Option ℕ) → HasPlace leaves page → IsDirectory leaves → IsDirectory (with_word leaves page word)
+pub is_directory-with_word : (leaves : LeavesOf) (page : ℕ) (word : Option ℕ) → IsInLeaf leaves page → IsDirectory leaves → IsDirectory (with_leaf_word leaves page word)
 is_directory-with_word leaves page word place directory =
     let same_length : length (set (leaf_of leaves page) (page % 1024) word) ≡ length (leaf_of leaves page) = length-set (leaf_of leaves page) (page % 1024) word in
     is_directory-with_leaf leaves page (set (leaf_of leaves page) (page % 1024) word)
@@ -116,21 +116,21 @@ is_directory-with_word leaves page word place directory =
     directory
 
 -- the map where one word is set
-pub words_of-with_word : (leaves : Leaves) (page word : ℕ) → HasPlace leaves page → IsDirectory leaves → words_of (with_word leaves page (Some word)) ≡ finite.insert (words_of leaves) page word
+pub words_of-with_word : (leaves : LeavesOf) (page word : ℕ) → IsInLeaf leaves page → IsDirectory leaves → directory_words (with_leaf_word leaves page (Some word)) ≡ finite.insert (directory_words leaves) page word
 words_of-with_word leaves page word place directory =
-    let new : IsDirectory (with_word leaves page (Some word)) = is_directory-with_word leaves page (Some word) place directory in
-    is_insert (words_of leaves) (words_of (with_word leaves page (Some word))) page word
+    let new : IsDirectory (with_leaf_word leaves page (Some word)) = is_directory-with_word leaves page (Some word) place directory in
+    is_insert (directory_words leaves) (directory_words (with_leaf_word leaves page (Some word))) page word
     (get-words_of _ new page ∙ word_in-same leaves page (Some word) place)
     (λ q other. get-words_of _ new q ∙ word_in-other leaves page (Some word) place q other ∙ sym (get-words_of leaves directory q))
 
-pub words_of-none : words_of [] ≡ finite.empty
+pub words_of-none : directory_words [] ≡ finite.empty
 words_of-none =
     let none : IsDirectory [] = record { few = omega arith; full = λ i some. absurd (omega arith) } in
-    same (words_of []) finite.empty (λ q. get-words_of [] none q ∙ sym (finite.get-empty nat_cmp q))
+    same (directory_words []) finite.empty (λ q. get-words_of [] none q ∙ sym (finite.get-empty nat_cmp q))
 
 -- maps of the same words are the same
-pub words_of-same : (old new : Leaves) → IsDirectory old → IsDirectory new → SameWords old new → words_of new ≡ words_of old
-words_of-same old new before after is = same (words_of new) (words_of old) (λ q. get-words_of new after q ∙ is q ∙ sym (get-words_of old before q))
+pub words_of-same : (old new : LeavesOf) → IsDirectory old → IsDirectory new → SameWords old new → directory_words new ≡ directory_words old
+words_of-same old new before after is = same (directory_words new) (directory_words old) (λ q. get-words_of new after q ∙ is q ∙ sym (get-words_of old before q))
 
 inside : (q first n : ℕ) (v u : Option ℕ) → first ≤ q → q < first + n → (if holds_page (pages first n) q then v else u) ≡ v
 inside q first n v u l h = grind (arith, nat_tests)
@@ -141,7 +141,7 @@ outside q first n v u h = grind (arith, nat_tests)
 -- ---- a part of one leaf is changed
 
 -- a leaf with room comes where none was
-pub placed_leaf : (leaves : Leaves) (page : ℕ) (old leaf : List (Option ℕ)) → IsDirectory leaves → page / 1024 < length leaves → old ≡ get_or leaves (page / 1024) old → (0 < length old → ⊥) → leaf ≡ replicate 1024 None →
+pub placed_leaf : (leaves : LeavesOf) (page : ℕ) (old leaf : List (Option ℕ)) → IsDirectory leaves → page / 1024 < length leaves → old ≡ get_or leaves (page / 1024) old → (0 < length old → ⊥) → leaf ≡ replicate 1024 None →
     PlacesMore leaves (with_leaf leaves page leaf)
 placed_leaf leaves page old leaf directory present is absent fresh =
     let none : length (leaf_of leaves page) ≤ 0 = elim (cases_lt 0 (length old)) [
@@ -178,38 +178,38 @@ module _ (f : Option ℕ → Option ℕ) where
       ]
 
   -- what a change of the leaves is to the map
-  pub changes_map : (old new : Leaves) (first n : ℕ) → IsDirectory old → Changes f old new first (first + n) →
-      (q : ℕ) → finite.get (words_of new) q ≡ (if holds_page (pages first n) q then f (finite.get (words_of old) q) else finite.get (words_of old) q)
+  pub changes_map : (old new : LeavesOf) (first n : ℕ) → IsDirectory old → Changes f old new first (first + n) →
+      (q : ℕ) → finite.get (directory_words new) q ≡ (if holds_page (pages first n) q then f (finite.get (directory_words old) q) else finite.get (directory_words old) q)
   changes_map old new first n before is q =
-      let at_old : finite.get (words_of old) q ≡ word_in old q = get-words_of old before q in
+      let at_old : finite.get (directory_words old) q ≡ word_in old q = get-words_of old before q in
       get-words_of new is.directory q
-      ∙ chosen q first n (word_in new q) (f (finite.get (words_of old) q)) (finite.get (words_of old) q)
+      ∙ chosen q first n (word_in new q) (f (finite.get (directory_words old) q)) (finite.get (directory_words old) q)
       (λ l u. is.words.within q l u ∙ ap f (sym at_old))
       (λ u. is.words.below q u ∙ sym at_old)
       (λ l. is.words.above q l ∙ sym at_old)
 
 -- a page that the map knows has a word
-pub worded : (leaves : Leaves) (m : FinMap nat_cmp ℕ) (page : ℕ) → words_of leaves ≡ m → IsDirectory leaves → IsSome (finite.get m page) → IsSome (word_in leaves page)
+pub worded : (leaves : LeavesOf) (m : FinMap nat_cmp ℕ) (page : ℕ) → directory_words leaves ≡ m → IsDirectory leaves → IsSome (finite.get m page) → IsSome (word_in leaves page)
 worded leaves m page view directory some =
     let P : Option ℕ → Type 0 = λ o. IsSome o in
     subst P (ap (λ (n : FinMap nat_cmp ℕ). finite.get n page) (sym view) ∙ get-words_of leaves directory page) some
 
 -- reserved pages end before the last leaf does
-pub reserved_end : (leaves : Leaves) (m : FinMap nat_cmp ℕ) (first n : ℕ) → words_of leaves ≡ m → IsDirectory leaves → AreReserved m (pages first n) → 0 < n → first + n ≤ end_of_pages
+pub reserved_end : (leaves : LeavesOf) (m : FinMap nat_cmp ℕ) (first n : ℕ) → directory_words leaves ≡ m → IsDirectory leaves → AreReserved m (pages first n) → 0 < n → first + n ≤ end_of_pages
 reserved_end leaves m first n view directory reserved some =
     let word : IsSome (word_in leaves (first + n - 1)) = worded leaves m (first + n - 1) view directory (reserved (first + n - 1) (omega arith) (omega arith)) in
     omega (arith, directory.few, leaf_of_place leaves (first + n - 1) (place_of_some leaves (first + n - 1) word))
 
-pub release_map : (old new : Leaves) (m : FinMap nat_cmp ℕ) (first n : ℕ) → words_of old ≡ m → IsDirectory old → Changes no_word old new first (first + n) → Releases m (words_of new) (pages first n)
+pub release_map : (old new : LeavesOf) (m : FinMap nat_cmp ℕ) (first n : ℕ) → directory_words old ≡ m → IsDirectory old → Changes no_word old new first (first + n) → Releases m (directory_words new) (pages first n)
 release_map old new m first n view directory changes =
-    let P : FinMap nat_cmp ℕ → Type 0 = λ k. Releases k (words_of new) (pages first n) in
+    let P : FinMap nat_cmp ℕ → Type 0 = λ k. Releases k (directory_words new) (pages first n) in
     subst P view (changes_map no_word old new first n directory changes)
 
-pub reserve_map : (old whole room new : Leaves) (m : FinMap nat_cmp ℕ) (first n : ℕ) → words_of old ≡ m → IsDirectory old → PlacesMore old whole → PlacesMore whole room → Changes reserved_word room new first (first + n) → Reserves m (words_of new) (pages first n)
+pub reserve_map : (old whole room new : LeavesOf) (m : FinMap nat_cmp ℕ) (first n : ℕ) → directory_words old ≡ m → IsDirectory old → PlacesMore old whole → PlacesMore whole room → Changes reserved_word room new first (first + n) → Reserves m (directory_words new) (pages first n)
 reserve_map old whole room new m first n view directory a b changes =
-    let P : FinMap nat_cmp ℕ → Type 0 = λ k. Reserves k (words_of new) (pages first n) in
-    let is : words_of room ≡ m = words_of-same whole room a.directory b.directory b.words ∙ words_of-same old whole directory a.directory a.words ∙ view in
+    let P : FinMap nat_cmp ℕ → Type 0 = λ k. Reserves k (directory_words new) (pages first n) in
+    let is : directory_words room ≡ m = words_of-same whole room a.directory b.directory b.words ∙ words_of-same old whole directory a.directory a.words ∙ view in
     subst P is (changes_map reserved_word room new first n b.directory changes)
 
-pub placed_map : (old whole : Leaves) (m : FinMap nat_cmp ℕ) → words_of old ≡ m → IsDirectory old → PlacesMore old whole → words_of whole ≡ m
+pub placed_map : (old whole : LeavesOf) (m : FinMap nat_cmp ℕ) → directory_words old ≡ m → IsDirectory old → PlacesMore old whole → directory_words whole ≡ m
 placed_map old whole m view directory a = words_of-same old whole directory a.directory a.words ∙ view

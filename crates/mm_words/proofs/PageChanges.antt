@@ -9,14 +9,14 @@ use Rattle.mm_types.proofs.Finite.{get-insert, get-remove, len_more, len_less}
 use Rattle.mm_types.proofs.Tables.{differ}
 use Rattle.mm_types.specs.Address.{Range, holds_page}
 use Rattle.mm_wset.specs.Ages.{WorkingSetOf}
-use Rattle.mm_words.specs.Layout.{IsEntry, word_of}
+use Rattle.mm_words.specs.Layout.{IsEntry, entry_word}
 use Rattle.mm_words.specs.declared.layout.Entry.{Entry}
 use Rattle.mm_words.specs.Entries.{entry_in, entry_or}
 use Rattle.mm_words.proofs.EntryLemmas.{entry_again, zero_is_empty}
-use Rattle.mm_words.specs.Words.{bare, is_valid}
+use Rattle.mm_words.specs.Words.{bare, is_valid_entry}
 use Rattle.mm_words.specs.Pages.{Reserves, reserved_word}
 use Rattle.std.specs.Prelude.{Result, Ok, Err, OnOk, OnErr}
-use Rattle.mm_words.specs.Changes.{bound_of, at_of, resident_set, resident_by_numbers, Becomes}
+use Rattle.mm_words.specs.Changes.{bound_of, at_of, resident_set, resident_by_numbers, EntryBecomes}
 use Rattle.mm_words.specs.declared.processes.Process.{Process}
 
 -- ---- finite maps
@@ -40,10 +40,10 @@ bare_or_cond true w o = refl
 bare_or_cond false w o = refl
 
 at_set : (t : FinMap nat_cmp ℕ) (v : ℕ) (e : Entry) (q : ℕ) → IsEntry e
-    → bare (entry_or (finite.get (finite.insert t v (word_of e)) q)) ≡ (if q == v then bare e else bare (entry_or (finite.get t q)))
+    → bare (entry_or (finite.get (finite.insert t v (entry_word e)) q)) ≡ (if q == v then bare e else bare (entry_or (finite.get t q)))
 at_set t v e q is =
-    ap (λ o. bare (entry_or o)) (get-insert t v (word_of e) q)
-    ∙ bare_or_cond (q == v) (word_of e) (finite.get t q)
+    ap (λ o. bare (entry_or o)) (get-insert t v (entry_word e) q)
+    ∙ bare_or_cond (q == v) (entry_word e) (finite.get t q)
     ∙ ap (λ (x : Entry). cond (q == v) (bare x) (bare (entry_or (finite.get t q)))) (entry_again e is)
 
 bound_cond : (b : Bool) (w : ℕ) (o : Option ℕ) → (b ≡ true → is_some o ≡ true) → is_some (cond b (Some w) o) ≡ is_some o
@@ -53,8 +53,8 @@ bound_cond false w o h = refl
 bound_set : (t : FinMap nat_cmp ℕ) (v w q : ℕ) → is_some (finite.get t v) ≡ true → is_some (finite.get (finite.insert t v w) q) ≡ is_some (finite.get t q)
 bound_set t v w q h = ap is_some (get-insert t v w q) ∙ bound_cond (q == v) w (finite.get t q) (λ e. subst (λ (k : ℕ). is_some (finite.get t k) ≡ true) (sym ((unsigned_Decides q v).0 e)) h)
 
-pub becomes : (p q : Process) (v w : ℕ) (e : Entry) → q.table ≡ finite.insert p.table v w → w ≡ word_of e → IsEntry e → bound_of p v ≡ true → q.is_open ≡ p.is_open
-    → (d : Entry) → bare e ≡ d → Becomes p q v d
+pub becomes : (p q : Process) (v w : ℕ) (e : Entry) → q.table ≡ finite.insert p.table v w → w ≡ entry_word e → IsEntry e → bound_of p v ≡ true → q.is_open ≡ p.is_open
+    → (d : Entry) → bare e ≡ d → EntryBecomes p q v d
 becomes p q v w e te we fits bound same d be = record {
   at = λ k. ap (λ (t : FinMap nat_cmp ℕ). bare (entry_or (finite.get t k))) (te ∙ ap (finite.insert p.table v) we) ∙ at_set p.table v e k fits
       ∙ ap (λ (x : Entry). cond (k == v) x (at_of p k)) be;
@@ -83,7 +83,7 @@ ages_less s r v x m re xv q = ap (λ (y : WorkingSetOf). finite.get y.ages q) re
 pub ages_touched : (s r : WorkingSetOf) (v : ℕ) → r ≡ record s { ages = finite.insert s.ages v 0 } → (q : ℕ) → finite.get r.ages q ≡ (if q == v then Some 0 else finite.get s.ages q)
 ages_touched s r v re q = ap (λ (x : WorkingSetOf). finite.get x.ages q) re ∙ get-insert s.ages v 0 q
 
-pub valid_bound : (w : Option ℕ) → is_valid (bare (entry_or w)) ≡ true → is_some w ≡ true
+pub valid_bound : (w : Option ℕ) → is_valid_entry (bare (entry_or w)) ≡ true → is_some w ≡ true
 valid_bound None h = cc
 valid_bound (Some w) h = refl
 

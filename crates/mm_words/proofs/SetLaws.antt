@@ -7,24 +7,24 @@ use Rattle.mm_life.specs.declared.sets.ResidentSet.{ResidentSet}
 use Rattle.mm_life.specs.Life.{set_in}
 use Rattle.mm_words.specs.Entries.{entry_or}
 use Rattle.mm_words.specs.declared.layout.Entry.TheVariants as entry
-use Rattle.mm_words.specs.Words.{is_valid}
+use Rattle.mm_words.specs.Words.{is_valid_entry}
 use Rattle.mm_words.specs.declared.processes.Process.{Process}
 use Rattle.mm_words.specs.Changes.{bound_of, at_of, age_of, resident_of}
-use Rattle.mm_words.specs.Tables.{process_in, read_or, bound_in, at_in, age_in, is_open_in}
+use Rattle.mm_words.specs.Tables.{process_in, read_or, bound_in, at_in, age_of_place, is_open_in}
 use Rattle.mm_words.proofs.ReadWords.{valid_place}
 
-aged_by : (o : Option Process) (v : ℕ) → is_some (read_or (λ p. age_of p v) None o) ≡ is_valid (read_or (λ p. at_of p v) entry.Empty o)
+aged_by : (o : Option Process) (v : ℕ) → is_some (read_or (λ p. age_of p v) None o) ≡ is_valid_entry (read_or (λ p. at_of p v) entry.Empty o)
 aged_by None v = refl
 aged_by (Some p) v = p.kept.aged v ∙ valid_place (entry_or (finite.get p.table v))
 
-pub aged : (ps : List Process) (x : Place) → is_some (age_in ps x) ≡ is_valid (at_in ps x)
+pub aged : (ps : List Process) (x : Place) → is_some (age_of_place ps x) ≡ is_valid_entry (at_in ps x)
 aged ps x = aged_by (process_in ps x.pid.0) x.vpn.0
 
 young_by : (o : Option Process) (v age : ℕ) → read_or (λ p. age_of p v) None o ≡ Some age → age ≤ 7
 young_by None v age h = cc
 young_by (Some p) v age h = p.kept.young v age h
 
-pub young : (ps : List Process) (x : Place) (age : ℕ) → age_in ps x ≡ Some age → age ≤ 7
+pub young : (ps : List Process) (x : Place) (age : ℕ) → age_of_place ps x ≡ Some age → age ≤ 7
 young ps x age h = young_by (process_in ps x.pid.0) x.vpn.0 age h
 
 open_of_bound : (p : Process) (v : ℕ) (b : Bool) → p.is_open ≡ b → bound_of p v ≡ true → b ≡ true

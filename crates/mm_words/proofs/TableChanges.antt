@@ -16,15 +16,15 @@ use Rattle.std.specs.FinMap as finite
 use Rattle.std.specs.FinMap.{FinMap}
 use Rattle.mm_wset.specs.Ages.{WorkingSetOf}
 use Rattle.mm_words.specs.Entries.{entry_or}
-use Rattle.mm_words.specs.Words.{WordsOf, bare, changed_in, is_valid}
+use Rattle.mm_words.specs.Words.{WordsOf, bare, changed_in, is_valid_entry}
 use Rattle.std.proofs.Math.Path.{fun_ext}
 use Rattle.std.proofs.lemmas.Option.{slice_get-get_or}
 use Rattle.mm_words.specs.Prototypes.{AreaWords}
 use Rattle.mm_words.specs.declared.aside.Aside.{Aside}
-use Rattle.mm_words.specs.Shown.{shown}
+use Rattle.mm_words.specs.Shown.{shown_words}
 use Rattle.mm_words.specs.declared.processes.Process.{Process}
-use Rattle.mm_words.specs.Changes.{bound_of, at_of, age_of, resident_of, resident_set, resident_by_numbers, Becomes, Rebinds, Begins, KeepsPages}
-use Rattle.mm_words.specs.Tables.{process_in, read_or, bound_in, at_in, age_in, is_open_in, AsideBound}
+use Rattle.mm_words.specs.Changes.{bound_of, at_of, age_of, resident_of, resident_set, resident_by_numbers, EntryBecomes, Rebinds, ProcessBegins, KeepsPages}
+use Rattle.mm_words.specs.Tables.{process_in, read_or, bound_in, at_in, age_of_place, is_open_in, AsideBound}
 use Rattle.mm_types.proofs.Lists.{get_last}
 
 there_by : (o : Option Process) (page : ℕ) → read_or (λ p. bound_of p page) false o ≡ true → is_some o ≡ true
@@ -113,32 +113,32 @@ module _ (ps : List Process) (k : ℕ) (p q : Process) (within : k < length ps) 
   pub aside_kept : (aside : Option Aside) → ((v : ℕ) → bound_of q v ≡ bound_of p v) → AsideBound ps aside → AsideBound (slice_set ps k q) aside
   aside_kept aside same kept a is = bound_same same a.place ∙ kept a is
 
-  pub set_shown : (areas : AreaWords) (aside : Option Aside) (e : Entry) → Becomes p q place.vpn.0 e → q.set ≡ p.set
-      → shown (slice_set ps k q) areas aside ≡ record (shown ps areas aside) { at = changed same_place (at_in ps) place e }
+  pub set_shown : (areas : AreaWords) (aside : Option Aside) (e : Entry) → EntryBecomes p q place.vpn.0 e → q.set ≡ p.set
+      → shown_words (slice_set ps k q) areas aside ≡ record (shown_words ps areas aside) { at = changed same_place (at_in ps) place e }
   set_shown areas aside e b same = same_words _ _ (bound_same b.bound)
       (same_reads ps k p q is_at (λ r. r.is_open) false b.opened)
       (changed_reads ps k p q is_at at_of entry.Empty e place at_next b.at)
       (λ _. refl) (λ _ _. refl) refl (same_sets ps k p q is_at (ap resident_set same))
 
-  pub moved_shown : (areas : AreaWords) (aside : Option Aside) (e : Entry) (change : ℕ → ℕ) → Becomes p q place.vpn.0 e → resident_of q ≡ record (resident_of p) { resident = change (resident_of p).resident }
-      → shown (slice_set ps k q) areas aside ≡ record (shown ps areas aside) { at = changed same_place (at_in ps) place e; sets = with_resident (map resident_of ps) place.pid.0 change }
+  pub moved_shown : (areas : AreaWords) (aside : Option Aside) (e : Entry) (change : ℕ → ℕ) → EntryBecomes p q place.vpn.0 e → resident_of q ≡ record (resident_of p) { resident = change (resident_of p).resident }
+      → shown_words (slice_set ps k q) areas aside ≡ record (shown_words ps areas aside) { at = changed same_place (at_in ps) place e; sets = with_resident (map resident_of ps) place.pid.0 change }
   moved_shown areas aside e change b moved = same_words _ _ (bound_same b.bound)
       (same_reads ps k p q is_at (λ r. r.is_open) false b.opened)
       (changed_reads ps k p q is_at at_of entry.Empty e place at_next b.at)
       (λ _. refl) (λ _ _. refl) refl (changed_sets ps k p q is_at change moved ∙ sym (ap (λ n. with_resident (map resident_of ps) n change) at_next))
 
   pub same_shown : (areas : AreaWords) (aside : Option Aside) → q.table ≡ p.table → resident_of q ≡ resident_of p → q.is_open ≡ p.is_open
-      → shown (slice_set ps k q) areas aside ≡ shown ps areas aside
+      → shown_words (slice_set ps k q) areas aside ≡ shown_words ps areas aside
   same_shown areas aside table resident opened = same_words _ _
       (bound_same (λ v. ap (λ (t : FinMap nat_cmp ℕ). is_some (finite.get t v)) table))
       (same_reads ps k p q is_at (λ r. r.is_open) false opened)
       (λ x. same_reads ps k p q is_at (λ r. at_of r x.vpn.0) entry.Empty (ap (λ (t : FinMap nat_cmp ℕ). bare (entry_or (finite.get t x.vpn.0))) table) x.pid.0)
       (λ _. refl) (λ _ _. refl) refl (same_sets ps k p q is_at resident)
 
-  pub ages_changed : (a : Option ℕ) → ((v : ℕ) → age_of q v ≡ changed ◌==◌ (age_of p) place.vpn.0 a v) → age_in (slice_set ps k q) ≡ changed same_place (age_in ps) place a
+  pub ages_changed : (a : Option ℕ) → ((v : ℕ) → age_of q v ≡ changed ◌==◌ (age_of p) place.vpn.0 a v) → age_of_place (slice_set ps k q) ≡ changed same_place (age_of_place ps) place a
   ages_changed a change = fun_ext (changed_reads ps k p q is_at age_of None a place at_next change)
 
-  pub ages_same : q.set ≡ p.set → age_in (slice_set ps k q) ≡ age_in ps
+  pub ages_same : q.set ≡ p.set → age_of_place (slice_set ps k q) ≡ age_of_place ps
   ages_same same = fun_ext (λ x. same_reads ps k p q is_at (λ r. age_of r x.vpn.0) None (ap (λ (s : WorkingSetOf). finite.get s.ages x.vpn.0) same) x.pid.0)
 
   pub table_bound : q.table ≡ p.table → (v : ℕ) → bound_of q v ≡ bound_of p v
@@ -201,15 +201,15 @@ module _ (ps : List Process) (k : ℕ) (p q : Process) (within : k < length ps) 
   sets_stay : q.set ≡ p.set → map resident_of (slice_set ps k q) ≡ map resident_of ps
   sets_stay same = same_sets ps k p q at_k (ap resident_set same)
 
-  pub ages_kept : q.set.ages ≡ p.set.ages → age_in (slice_set ps k q) ≡ age_in ps
+  pub ages_kept : q.set.ages ≡ p.set.ages → age_of_place (slice_set ps k q) ≡ age_of_place ps
   ages_kept same = fun_ext (λ x. stays (λ r. age_of r x.vpn.0) None (ap (λ (m : FinMap nat_cmp ℕ). finite.get m x.vpn.0) same) x.pid.0)
 
-  pub ages_stay : q.set ≡ p.set → age_in (slice_set ps k q) ≡ age_in ps
+  pub ages_stay : q.set ≡ p.set → age_of_place (slice_set ps k q) ≡ age_of_place ps
   ages_stay same = ages_kept (ap (λ (s : WorkingSetOf). s.ages) same)
 
   -- the process is open now, or closed
   pub opened_words : (areas : AreaWords) (aside : Option Aside) (b : Bool) → q.is_open ≡ b → KeepsPages p q
-      → shown (slice_set ps k q) areas aside ≡ record (shown ps areas aside) { is_open = changed ◌==◌ (is_open_in ps) pid b }
+      → shown_words (slice_set ps k q) areas aside ≡ record (shown_words ps areas aside) { is_open = changed ◌==◌ (is_open_in ps) pid b }
   opened_words areas aside b opened kept = same_words _ _
       (λ x. stays (λ r. bound_of r x.vpn.0) false (ap (λ (t : FinMap nat_cmp ℕ). is_some (finite.get t x.vpn.0)) kept.table) x.pid.0)
       (λ n. reads_by (λ r. r.is_open) false n ∙ ap (λ t. cond (n == pid) t (is_open_in ps n)) opened)
@@ -217,7 +217,7 @@ module _ (ps : List Process) (k : ℕ) (p q : Process) (within : k < length ps) 
       (λ _. refl) (λ _ _. refl) refl (same_sets ps k p q at_k kept.resident)
 
   pub bound_words : (areas : AreaWords) (aside : Option Aside) (r : Range) → Rebinds p q r true → ((v : ℕ) → at_of q v ≡ at_of p v)
-      → shown (slice_set ps k q) areas aside ≡ record (shown ps areas aside) { bound = changed_in (bound_in ps) pid r true }
+      → shown_words (slice_set ps k q) areas aside ≡ record (shown_words ps areas aside) { bound = changed_in (bound_in ps) pid r true }
   bound_words areas aside r re at = same_words _ _
       (range_reads bound_of false true r re.bound)
       (stays (λ s. s.is_open) false re.opened)
@@ -225,7 +225,7 @@ module _ (ps : List Process) (k : ℕ) (p q : Process) (within : k < length ps) 
       (λ _. refl) (λ _ _. refl) refl (sets_stay re.set)
 
   pub unbound_words : (areas : AreaWords) (aside : Option Aside) (r : Range) → Rebinds p q r false → ((v : ℕ) → at_of q v ≡ (if holds_page r v then entry.Empty else at_of p v))
-      → shown (slice_set ps k q) areas aside ≡ record (shown ps areas aside) { bound = changed_in (bound_in ps) pid r false; at = changed_in (at_in ps) pid r entry.Empty }
+      → shown_words (slice_set ps k q) areas aside ≡ record (shown_words ps areas aside) { bound = changed_in (bound_in ps) pid r false; at = changed_in (at_in ps) pid r entry.Empty }
   unbound_words areas aside r re at = same_words _ _
       (range_reads bound_of false false r re.bound)
       (stays (λ s. s.is_open) false re.opened)
@@ -233,7 +233,7 @@ module _ (ps : List Process) (k : ℕ) (p q : Process) (within : k < length ps) 
       (λ _. refl) (λ _ _. refl) refl (sets_stay re.set)
 
   pub still_words : (areas : AreaWords) (aside : Option Aside) → q.table ≡ p.table → resident_of q ≡ resident_of p → q.is_open ≡ p.is_open
-      → shown (slice_set ps k q) areas aside ≡ shown ps areas aside
+      → shown_words (slice_set ps k q) areas aside ≡ shown_words ps areas aside
   still_words areas aside table resident opened = same_words _ _
       (λ x. stays (λ r. bound_of r x.vpn.0) false (ap (λ (t : FinMap nat_cmp ℕ). is_some (finite.get t x.vpn.0)) table) x.pid.0)
       (stays (λ r. r.is_open) false opened)
@@ -241,13 +241,13 @@ module _ (ps : List Process) (k : ℕ) (p q : Process) (within : k < length ps) 
       (λ _. refl) (λ _ _. refl) refl (same_sets ps k p q at_k resident)
 
   pub older_ages : (f : ℕ → ℕ) → ((v : ℕ) → age_of q v ≡ option_map f (age_of p v))
-      → (x : Place) → age_in (slice_set ps k q) x ≡ (if x.pid.0 == pid then option_map f (age_in ps x) else age_in ps x)
+      → (x : Place) → age_of_place (slice_set ps k q) x ≡ (if x.pid.0 == pid then option_map f (age_of_place ps x) else age_of_place ps x)
   older_ages f older x = elim (same_or_not x.pid.0 pid) [
-    | inl e ↦ reads_by (λ r. age_of r x.vpn.0) None x.pid.0 ∙ ap (λ t. cond t (age_of q x.vpn.0) (age_in ps x)) ((unsigned_Decides x.pid.0 pid).1 e) ∙ older x.vpn.0
+    | inl e ↦ reads_by (λ r. age_of r x.vpn.0) None x.pid.0 ∙ ap (λ t. cond t (age_of q x.vpn.0) (age_of_place ps x)) ((unsigned_Decides x.pid.0 pid).1 e) ∙ older x.vpn.0
         ∙ ap (option_map f) (sym (read_was (λ r. age_of r x.vpn.0) None x.pid.0 e))
-        ∙ sym (ap (λ t. cond t (option_map f (age_in ps x)) (age_in ps x)) ((unsigned_Decides x.pid.0 pid).1 e))
-    | inr d ↦ reads_by (λ r. age_of r x.vpn.0) None x.pid.0 ∙ ap (λ t. cond t (age_of q x.vpn.0) (age_in ps x)) (differ x.pid.0 pid d)
-        ∙ sym (ap (λ t. cond t (option_map f (age_in ps x)) (age_in ps x)) (differ x.pid.0 pid d))
+        ∙ sym (ap (λ t. cond t (option_map f (age_of_place ps x)) (age_of_place ps x)) ((unsigned_Decides x.pid.0 pid).1 e))
+    | inr d ↦ reads_by (λ r. age_of r x.vpn.0) None x.pid.0 ∙ ap (λ t. cond t (age_of q x.vpn.0) (age_of_place ps x)) (differ x.pid.0 pid d)
+        ∙ sym (ap (λ t. cond t (option_map f (age_of_place ps x)) (age_of_place ps x)) (differ x.pid.0 pid d))
   ]
 
   pub aside_stays : (aside : Option Aside) → q.table ≡ p.table → AsideBound ps aside → AsideBound (slice_set ps k q) aside
@@ -265,7 +265,7 @@ module _ (ps : List Process) (k : ℕ) (p q : Process) (within : k < length ps) 
   place_reads read none d e y h = sym (read_was (λ s. read s d.vpn.0) none d.pid.0 e) ∙ h
 
 -- the ages of the pid's places are those of the process
-pub ages_of_process : (ps : List Process) (k : ℕ) (p : Process) (pid : Pid) → k < length ps → p ≡ slice_index_or ps k p → pid.0 ≡ k + 1 → age_of p ≡ ages_in (age_in ps) pid
+pub ages_of_process : (ps : List Process) (k : ℕ) (p : Process) (pid : Pid) → k < length ps → p ≡ slice_index_or ps k p → pid.0 ≡ k + 1 → age_of p ≡ ages_in (age_of_place ps) pid
 ages_of_process ps k p pid within value next = fun_ext (λ v. sym (read_was ps k p p within value pid.0 next (λ r. age_of r v) None pid.0 refl))
 
 -- ---- one process more
@@ -293,7 +293,7 @@ module _ (ps : List Process) (p : Process) where
     | inr d ↦ ap (read_or read none) (append_other ps p k d)
   ]
 
-  module _ (min max : ℕ) (begins : Begins p min max) where
+  module _ (min max : ℕ) (begins : ProcessBegins p min max) where
     no_page : (v : ℕ) → finite.get p.table v ≡ None
     no_page v = ap (λ (t : FinMap nat_cmp ℕ). finite.get t v) begins.table ∙ finite.get-empty nat_cmp v
 
@@ -303,7 +303,7 @@ module _ (ps : List Process) (p : Process) where
     bound_more : (x : Place) → bound_in (ps ++ p ∷ []) x ≡ bound_in ps x
     bound_more x = more_reads (λ r. bound_of r x.vpn.0) false (ap is_some (no_page x.vpn.0)) x.pid.0
 
-    begun_words : (areas : AreaWords) (aside : Option Aside) → shown (ps ++ p ∷ []) areas aside ≡ record (shown ps areas aside) { sets = map resident_of ps ++ record { min = min; max = max; resident = 0 } ∷ [] }
+    begun_words : (areas : AreaWords) (aside : Option Aside) → shown_words (ps ++ p ∷ []) areas aside ≡ record (shown_words ps areas aside) { sets = map resident_of ps ++ record { min = min; max = max; resident = 0 } ∷ [] }
     begun_words areas aside = same_words _ _ bound_more (more_reads (λ r. r.is_open) false begins.opened)
         (λ x. more_reads (λ r. at_of r x.vpn.0) entry.Empty (ap (λ o. bare (entry_or o)) (no_page x.vpn.0)) x.pid.0)
         (λ _. refl) (λ _ _. refl) refl
@@ -311,18 +311,18 @@ module _ (ps : List Process) (p : Process) where
 
     -- the list of processes is the old one and this process
     module _ (qs : List Process) (is : qs ≡ ps ++ p ∷ []) where
-      pub pushed_words : (areas : AreaWords) (aside : Option Aside) → shown qs areas aside ≡ record (shown ps areas aside) { sets = map resident_of ps ++ record { min = min; max = max; resident = 0 } ∷ [] }
-      pushed_words areas aside = ap (λ (x : List Process). shown x areas aside) is ∙ begun_words areas aside
+      pub pushed_words : (areas : AreaWords) (aside : Option Aside) → shown_words qs areas aside ≡ record (shown_words ps areas aside) { sets = map resident_of ps ++ record { min = min; max = max; resident = 0 } ∷ [] }
+      pushed_words areas aside = ap (λ (x : List Process). shown_words x areas aside) is ∙ begun_words areas aside
 
-      pub pushed_ages : age_in qs ≡ age_in ps
-      pushed_ages = ap age_in is ∙ fun_ext (λ x. more_reads (λ r. age_of r x.vpn.0) None (no_age_there x.vpn.0) x.pid.0)
+      pub pushed_ages : age_of_place qs ≡ age_of_place ps
+      pushed_ages = ap age_of_place is ∙ fun_ext (λ x. more_reads (λ r. age_of r x.vpn.0) None (no_age_there x.vpn.0) x.pid.0)
 
       pub pushed_aside : (aside : Option Aside) → AsideBound ps aside → AsideBound qs aside
       pushed_aside aside kept a h = ap (λ (x : List Process). bound_in x a.place) is ∙ bound_more a.place ∙ kept a h
 
-valid_by : (o : Option Process) (v : ℕ) → is_valid (read_or (λ s. at_of s v) entry.Empty o) ≡ read_or (λ s. is_valid (at_of s v)) false o
+valid_by : (o : Option Process) (v : ℕ) → is_valid_entry (read_or (λ s. at_of s v) entry.Empty o) ≡ read_or (λ s. is_valid_entry (at_of s v)) false o
 valid_by None v = refl
 valid_by (Some p) v = refl
 
-pub valid_read : (ps : List Process) (d : Place) → is_valid (at_in ps d) ≡ false → read_or (λ s. is_valid (at_of s d.vpn.0)) false (process_in ps d.pid.0) ≡ false
+pub valid_read : (ps : List Process) (d : Place) → is_valid_entry (at_in ps d) ≡ false → read_or (λ s. is_valid_entry (at_of s d.vpn.0)) false (process_in ps d.pid.0) ≡ false
 valid_read ps d h = sym (valid_by (process_in ps d.pid.0) d.vpn.0) ∙ h

@@ -10,7 +10,7 @@ use Rattle.std.proofs.lemmas.Nat.Bits.{bit_at_ones, bit_at-zero}
 use Rattle.mm_bits.specs.Bits.{have_bit, Becomes, SameWordsFrom}
 use Rattle.mm_bits.proofs.BitLemmas.{zero_bit}
 use Rattle.mm_words.specs.Pages.{reserved_word}
-use Rattle.mm_words.specs.LeafWords.{leaf_word, places, page_word, shown, IsLeaf, Changed, no_word, zero_word}
+use Rattle.mm_words.specs.LeafWords.{leaf_word, place_count, stored_word, shown_leaf, IsLeaf, Changed, no_word, zero_word}
 
 -- ---- words changed between two places
 
@@ -22,36 +22,36 @@ none_after n i = elim (cases_lt i n) [
 
 -- ---- what numbers show
 
-length-shown : (ns : List ℕ) → length (shown ns) ≡ places ns
-unfolding shown
-length-shown ns = length-map-range_with_len (page_word ns) 0 (places ns)
+length-shown : (ns : List ℕ) → length (shown_leaf ns) ≡ place_count ns
+unfolding shown_leaf
+length-shown ns = length-map-range_with_len (stored_word ns) 0 (place_count ns)
 
-pub all_places : (ns : List ℕ) → 0 < length ns → places ns ≡ 1024
+pub all_places : (ns : List ℕ) → 0 < length ns → place_count ns ≡ 1024
 all_places [] some = absurd (omega arith)
 all_places (n ∷ ns) some = refl
 
-pub some_numbers : (ns : List ℕ) → 0 < places ns → 0 < length ns
+pub some_numbers : (ns : List ℕ) → 0 < place_count ns → 0 < length ns
 some_numbers [] some = absurd (omega arith)
 some_numbers (n ∷ ns) some = omega arith
 
-pub most_places : (ns : List ℕ) → places ns ≤ 1024
+pub most_places : (ns : List ℕ) → place_count ns ≤ 1024
 most_places [] = omega arith
 most_places (n ∷ ns) = omega arith
 
-pub places_shown : (ns : List ℕ) (now : List (Option ℕ)) → shown ns ≡ now → length now ≡ places ns
+pub places_shown : (ns : List ℕ) (now : List (Option ℕ)) → shown_leaf ns ≡ now → length now ≡ place_count ns
 places_shown ns now view = sym (ap length view) ∙ length-shown ns
 
-word-shown : (ns : List ℕ) (i : ℕ) → i < places ns → leaf_word (shown ns) i ≡ page_word ns i
-unfolding shown
-word-shown ns i near = get_or-map-range_with_len (page_word ns) 0 (places ns) i i None near (omega arith)
+word-shown : (ns : List ℕ) (i : ℕ) → i < place_count ns → leaf_word (shown_leaf ns) i ≡ stored_word ns i
+unfolding shown_leaf
+word-shown ns i near = get_or-map-range_with_len (stored_word ns) 0 (place_count ns) i i None near (omega arith)
 
-word-shown_past : (ns : List ℕ) (i : ℕ) → places ns ≤ i → leaf_word (shown ns) i ≡ None
-word-shown_past ns i far = get_or_past (shown ns) i None (omega (arith, far, length-shown ns))
+word-shown_past : (ns : List ℕ) (i : ℕ) → place_count ns ≤ i → leaf_word (shown_leaf ns) i ≡ None
+word-shown_past ns i far = get_or_past (shown_leaf ns) i None (omega (arith, far, length-shown ns))
 
 -- a page with a word has a place, and its bit is set
-module _ (ns : List ℕ) (now : List (Option ℕ)) (at : ℕ) (view : shown ns ≡ now) (some : IsSome (leaf_word now at)) where
-  pub placed : at < places ns
-  placed = elim (cases_lt at (places ns)) [
+module _ (ns : List ℕ) (now : List (Option ℕ)) (at : ℕ) (view : shown_leaf ns ≡ now) (some : IsSome (leaf_word now at)) where
+  pub placed : at < place_count ns
+  placed = elim (cases_lt at (place_count ns)) [
     | inl near ↦ near
     | inr far ↦
         let none : leaf_word now at ≡ None = ap (λ (ws : List (Option ℕ)). leaf_word ws at) (sym view) ∙ word-shown_past ns at far in
@@ -62,7 +62,7 @@ module _ (ns : List ℕ) (now : List (Option ℕ)) (at : ℕ) (view : shown ns �
   pub placed_low : at < 1024
   placed_low = omega (arith, placed, most_places ns)
 
-  pub word_there : leaf_word now at ≡ page_word ns at
+  pub word_there : leaf_word now at ≡ stored_word ns at
   word_there = ap (λ (ws : List (Option ℕ)). leaf_word ws at) (sym view) ∙ word-shown ns at placed
 
   pub bit_there : have_bit ns at ≡ true
@@ -74,18 +74,18 @@ module _ (ns : List ℕ) (now : List (Option ℕ)) (at : ℕ) (view : shown ns �
   pub word_is : (x : ℕ) → slice_index ns (16 + at) ≡ x → leaf_word now at ≡ Some x
   word_is x e = word_there ∙ ap (λ (b : Bool). cond b (Some (slice_index ns (16 + at))) None) bit_there ∙ ap (λ (n : ℕ). Some n) e
 
-pub shown_none : shown [] ≡ []
-unfolding shown
+pub shown_none : shown_leaf [] ≡ []
+unfolding shown_leaf
 shown_none = refl
 
 -- no page of a leaf of zeros is reserved
-pub shown_zero : (ns : List ℕ) → ns ≡ replicate 16 0 → shown ns ≡ replicate 1024 None
+pub shown_zero : (ns : List ℕ) → ns ≡ replicate 16 0 → shown_leaf ns ≡ replicate 1024 None
 shown_zero ns is =
     let long : length ns ≡ 16 = ap length is ∙ length-replicate {A = ℕ} 16 0 in
-    let all : places ns ≡ 1024 = all_places ns (omega (arith, long)) in
-    ext_get_or None (shown ns) (replicate 1024 None) (length-shown ns ∙ all ∙ sym (length-replicate {A = Option ℕ} 1024 None))
+    let all : place_count ns ≡ 1024 = all_places ns (omega (arith, long)) in
+    ext_get_or None (shown_leaf ns) (replicate 1024 None) (length-shown ns ∙ all ∙ sym (length-replicate {A = Option ℕ} 1024 None))
     (λ i h.
-    let near : i < places ns = omega (arith, h, length-shown ns) in
+    let near : i < place_count ns = omega (arith, h, length-shown ns) in
     let unset : have_bit ns i ≡ false = ap (λ (ms : List ℕ). have_bit ms i) is ∙ zero_bit 16 i in
     word-shown ns i near ∙ ap (λ (b : Bool). cond b (Some (slice_index ns (16 + i))) None) unset ∙ sym (get_or-replicate {A = Option ℕ} 1024 i None None (omega (arith, near, all))))
 
@@ -95,7 +95,7 @@ same_bit : (old new : List ℕ) (i : ℕ) → get_or new (i / 64) 0 ≡ get_or o
 unfolding have_bit
 same_bit old new i e = ap (λ (n : ℕ). bit_at n (i % 64) == 1) e
 
-same_page_word : (old new : List ℕ) (i : ℕ) → have_bit new i ≡ have_bit old i → get_or new (16 + i) 0 ≡ get_or old (16 + i) 0 → page_word new i ≡ page_word old i
+same_page_word : (old new : List ℕ) (i : ℕ) → have_bit new i ≡ have_bit old i → get_or new (16 + i) 0 ≡ get_or old (16 + i) 0 → stored_word new i ≡ stored_word old i
 same_page_word old new i bit word =
     ap (λ (b : Bool). cond b (Some (get_or new (16 + i) 0)) None) bit ∙ ap (λ (n : ℕ). cond (have_bit old i) (Some n) None) word
 
@@ -111,7 +111,7 @@ extended ns n i = elim (cases_lt i (length ns)) [
 ]
 
 -- one word is set, after zeros were added at the end
-module _ (capacity capacity' : ℕ) (old mid : List ℕ) (n at word : ℕ) (leaf : IsLeaf capacity old) (is : mid ≡ old ++ replicate n 0) (low : at < places old) (set_before : have_bit old at ≡ true) (long : 16 + at < length mid) where
+module _ (capacity capacity' : ℕ) (old mid : List ℕ) (n at word : ℕ) (leaf : IsLeaf capacity old) (is : mid ≡ old ++ replicate n 0) (low : at < place_count old) (set_before : have_bit old at ≡ true) (long : 16 + at < length mid) where
   abbrev new : List ℕ
   new = set mid (16 + at) word
 
@@ -130,27 +130,27 @@ module _ (capacity capacity' : ℕ) (old mid : List ℕ) (n at word : ℕ) (leaf
   new_length : length new ≡ length mid
   new_length = length-set mid (16 + at) word
 
-  all_old : places old ≡ 1024
+  all_old : place_count old ≡ 1024
   all_old = all_places old some
 
-  all_new : places new ≡ 1024
+  all_new : place_count new ≡ 1024
   all_new = all_places new (omega (arith, new_length, long))
 
-  pub shown_set : shown (set mid (16 + at) word) ≡ set (shown old) at (Some word)
+  pub shown_set : shown_leaf (set mid (16 + at) word) ≡ set (shown_leaf old) at (Some word)
   shown_set =
-      ext_get_or None (shown new) (set (shown old) at (Some word)) (length-shown new ∙ all_new ∙ sym (length-set (shown old) at (Some word) ∙ length-shown old ∙ all_old))
+      ext_get_or None (shown_leaf new) (set (shown_leaf old) at (Some word)) (length-shown new ∙ all_new ∙ sym (length-set (shown_leaf old) at (Some word) ∙ length-shown old ∙ all_old))
       (λ i h.
       let near : i < 1024 = omega (arith, h, length-shown new, all_new) in
       word-shown new i (omega (arith, near, all_new)) ∙ (elim (cases_eq i at) [
         | inl e ↦
-            ap (page_word new) e
+            ap (stored_word new) e
             ∙ ap (λ (b : Bool). cond b (Some (get_or new (16 + at) 0)) None) (bit_kept at at_low ∙ set_before)
             ∙ ap (λ (w : ℕ). Some w) (get_or-set_same mid (16 + at) word 0 long)
-            ∙ sym (ap (λ (k : ℕ). get_or (set (shown old) at (Some word)) k None) e ∙ get_or-set_same (shown old) at (Some word) None (omega (arith, low, length-shown old)))
+            ∙ sym (ap (λ (k : ℕ). get_or (set (shown_leaf old) at (Some word)) k None) e ∙ get_or-set_same (shown_leaf old) at (Some word) None (omega (arith, low, length-shown old)))
         | inr other ↦
             same_page_word old new i (bit_kept i near) (number_kept (16 + i) (λ e. other (omega (arith, e))))
             ∙ sym (word-shown old i (omega (arith, near, all_old)))
-            ∙ sym (get_or-set_other (shown old) at i (Some word) None other)
+            ∙ sym (get_or-set_other (shown_leaf old) at i (Some word) None other)
       ]))
 
   pub set_leaf : length mid ≤ 1040 → 1040 ≤ capacity' → IsLeaf capacity' (set mid (16 + at) word)
@@ -168,8 +168,8 @@ module _ (capacity capacity' : ℕ) (old mid : List ℕ) (n at word : ℕ) (leaf
 
 -- ---- a range of pages
 
-module _ (f : Option ℕ → Option ℕ) (old new : List ℕ) (from to : ℕ) (all_old : places old ≡ 1024) (all_new : places new ≡ 1024) (end : to ≤ 1024) where
-  changed_shown : ((i : ℕ) → from ≤ i → i < to → page_word new i ≡ f (page_word old i)) → ((i : ℕ) → i < 1024 → (i < from) ⊎ (to ≤ i) → page_word new i ≡ page_word old i) → Changed f (leaf_word (shown old)) (leaf_word (shown new)) from to
+module _ (f : Option ℕ → Option ℕ) (old new : List ℕ) (from to : ℕ) (all_old : place_count old ≡ 1024) (all_new : place_count new ≡ 1024) (end : to ≤ 1024) where
+  changed_shown : ((i : ℕ) → from ≤ i → i < to → stored_word new i ≡ f (stored_word old i)) → ((i : ℕ) → i < 1024 → (i < from) ⊎ (to ≤ i) → stored_word new i ≡ stored_word old i) → Changed f (leaf_word (shown_leaf old)) (leaf_word (shown_leaf new)) from to
   changed_shown inside outside = record {
     within = λ i l u. word-shown new i (omega (arith, all_new)) ∙ inside i l u ∙ ap f (sym (word-shown old i (omega (arith, all_old))));
     below = λ i u. elim (cases_lt i 1024) [
@@ -201,9 +201,9 @@ reserved_of true x blank = refl
 reserved_of false x blank = ap (λ (n : ℕ). Some n) (blank refl)
 
 -- bits are set, and no word is changed
-module _ (capacity capacity' : ℕ) (old new : List ℕ) (now : List (Option ℕ)) (from to : ℕ) (leaf : IsLeaf capacity old) (view : shown old ≡ now) (some : from < to) (end : to ≤ length now)
+module _ (capacity capacity' : ℕ) (old new : List ℕ) (now : List (Option ℕ)) (from to : ℕ) (leaf : IsLeaf capacity old) (view : shown_leaf old ≡ now) (some : from < to) (end : to ≤ length now)
     (put : Becomes true (have_bit old) (have_bit new) from to) (rest : SameWordsFrom 1024 old new) (kept : length new ≡ length old) where
-  reserve_end : to ≤ places old
+  reserve_end : to ≤ place_count old
   reserve_end = omega (arith, end, places_shown old now view)
 
   pub reserve_some : 0 < length old
@@ -216,7 +216,7 @@ module _ (capacity capacity' : ℕ) (old new : List ℕ) (now : List (Option ℕ
   outside_bit i (inl low) = put.below i low
   outside_bit i (inr high) = put.above i high
 
-  changed_reserve : Changed reserved_word (leaf_word (shown old)) (leaf_word (shown new)) from to
+  changed_reserve : Changed reserved_word (leaf_word (shown_leaf old)) (leaf_word (shown_leaf new)) from to
   changed_reserve =
       changed_shown reserved_word old new from to (all_places old reserve_some) (all_places new (omega (arith, kept, reserve_some))) (omega (arith, reserve_end, most_places old))
       (λ i l u.
@@ -225,18 +225,18 @@ module _ (capacity capacity' : ℕ) (old new : List ℕ) (now : List (Option ℕ
       ∙ reserved_of (have_bit old i) (get_or old (16 + i) 0) (leaf.blank i (omega (arith, reserve_end, most_places old, u))))
       (λ i h place. same_page_word old new i (outside_bit i place) (word_kept i))
 
-  pub reserved_words : Changed reserved_word (leaf_word now) (leaf_word (shown new)) from to
-  reserved_words = subst (λ (ws : List (Option ℕ)). Changed reserved_word (leaf_word ws) (leaf_word (shown new)) from to) view changed_reserve
+  pub reserved_words : Changed reserved_word (leaf_word now) (leaf_word (shown_leaf new)) from to
+  reserved_words = subst (λ (ws : List (Option ℕ)). Changed reserved_word (leaf_word ws) (leaf_word (shown_leaf new)) from to) view changed_reserve
 
-  pub reserved_places : length (shown new) ≡ length now
+  pub reserved_places : length (shown_leaf new) ≡ length now
   reserved_places =
       length-shown new ∙ all_places new (omega (arith, kept, reserve_some)) ∙ sym (places_shown old now view ∙ all_places old reserve_some)
 
 -- bits are cleared, and then the words of their pages
-module _ (capacity capacity' : ℕ) (old mid new : List ℕ) (now : List (Option ℕ)) (from to : ℕ) (leaf : IsLeaf capacity old) (view : shown old ≡ now) (some : from < to) (end : to ≤ length now)
+module _ (capacity capacity' : ℕ) (old mid new : List ℕ) (now : List (Option ℕ)) (from to : ℕ) (leaf : IsLeaf capacity old) (view : shown_leaf old ≡ now) (some : from < to) (end : to ≤ length now)
     (put : Becomes false (have_bit old) (have_bit mid) from to) (rest : SameWordsFrom 1024 old mid) (kept : length mid ≡ length old)
     (cleared : Changed zero_word (slice_index mid) (slice_index new) (16 + from) (16 + to)) (kept' : length new ≡ length mid) where
-  release_end : to ≤ places old
+  release_end : to ≤ place_count old
   release_end = omega (arith, end, places_shown old now view)
 
   pub release_some : 0 < length old
@@ -253,16 +253,16 @@ module _ (capacity capacity' : ℕ) (old mid new : List ℕ) (now : List (Option
   bit_outside i h (inl low) = bit_after i h ∙ put.below i low
   bit_outside i h (inr high) = bit_after i h ∙ put.above i high
 
-  changed_release : Changed no_word (leaf_word (shown old)) (leaf_word (shown new)) from to
+  changed_release : Changed no_word (leaf_word (shown_leaf old)) (leaf_word (shown_leaf new)) from to
   changed_release =
       changed_shown no_word old new from to (all_places old release_some) (all_places new (omega (arith, kept, kept', release_some))) (omega (arith, release_end, most_places old))
       (λ i l u. ap (λ (b : Bool). cond b (Some (get_or new (16 + i) 0)) None) (bit_after i (omega (arith, release_end, most_places old, u)) ∙ put.inside i l u))
       (λ i h place. same_page_word old new i (bit_outside i h place) (word_outside i place))
 
-  pub released_words : Changed no_word (leaf_word now) (leaf_word (shown new)) from to
-  released_words = subst (λ (ws : List (Option ℕ)). Changed no_word (leaf_word ws) (leaf_word (shown new)) from to) view changed_release
+  pub released_words : Changed no_word (leaf_word now) (leaf_word (shown_leaf new)) from to
+  released_words = subst (λ (ws : List (Option ℕ)). Changed no_word (leaf_word ws) (leaf_word (shown_leaf new)) from to) view changed_release
 
-  pub released_places : length (shown new) ≡ length now
+  pub released_places : length (shown_leaf new) ≡ length now
   released_places =
       length-shown new ∙ all_places new (omega (arith, kept, kept', release_some)) ∙ sym (places_shown old now view ∙ all_places old release_some)
 

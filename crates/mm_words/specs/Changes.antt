@@ -29,7 +29,7 @@ abbrev pub resident_of : Process → ResidentSet
 resident_of p = resident_set p.set
 
 -- one page has another entry now
-pub record Becomes (old new : Process) (page : ℕ) (e : Entry) : Type 0 where
+pub record EntryBecomes (old new : Process) (page : ℕ) (e : Entry) : Type 0 where
   pub at : (q : ℕ) → at_of new q ≡ changed ◌==◌ (at_of old) page e q
   pub bound : (q : ℕ) → bound_of new q ≡ bound_of old q
   pub opened : new.is_open ≡ old.is_open
@@ -41,7 +41,7 @@ pub record Rebinds (old new : Process) (r : Range) (b : Bool) : Type 0 where
   pub opened : new.is_open ≡ old.is_open
 
 -- a closed process without a page
-pub record Begins (p : Process) (min max : ℕ) : Type 0 where
+pub record ProcessBegins (p : Process) (min max : ℕ) : Type 0 where
   pub table : p.table ≡ finite.empty
   pub set : p.set ≡ record {
     min = min;

@@ -4,14 +4,14 @@ use Rattle.mm_types.specs.Table.{table}
 use Rattle.mm_words.specs.Pages.{Words}
 use Rattle.mm_words.specs.LeafWords.{leaf_word, Changed}
 
-abbrev pub Leaves : Type 0
-Leaves = List (List (Option ℕ))
+abbrev pub LeavesOf : Type 0
+LeavesOf = List (List (Option ℕ))
 
-abbrev pub leaf_of : Leaves → ℕ → List (Option ℕ)
+abbrev pub leaf_of : LeavesOf → ℕ → List (Option ℕ)
 leaf_of leaves page = slice_index_or leaves (page / 1024) []
 
 -- the word at a page, if it is reserved
-abbrev pub word_in : Leaves → ℕ → Option ℕ
+abbrev pub word_in : LeavesOf → ℕ → Option ℕ
 word_in leaves page = leaf_word (leaf_of leaves page) (page % 1024)
 
 -- the numbers from `start` on
@@ -23,38 +23,38 @@ numbers_from start (suc count) = start ∷ numbers_from (start + 1) count
 abbrev pub end_of_pages : ℕ
 end_of_pages = 524288
 
-unfoldable pub words_of : Leaves → Words
-words_of leaves = table (word_in leaves) (numbers_from 0 end_of_pages)
+unfoldable pub directory_words : LeavesOf → Words
+directory_words leaves = table (word_in leaves) (numbers_from 0 end_of_pages)
 
 -- a leaf is there with room for all its words, or not at all
-abbrev pub IsWhole : List (Option ℕ) → Type 0
-IsWhole leaf = 0 < length leaf → length leaf ≡ 1024
+abbrev pub IsWholeLeaf : List (Option ℕ) → Type 0
+IsWholeLeaf leaf = 0 < length leaf → length leaf ≡ 1024
 
 -- there are at most 512 leaves, and each that is there has room for all its words
-pub record IsDirectory (leaves : Leaves) : Type 0 where
+pub record IsDirectory (leaves : LeavesOf) : Type 0 where
   pub few : length leaves ≤ 512
-  pub full : (i : ℕ) → IsWhole (slice_index_or leaves i [])
+  pub full : (i : ℕ) → IsWholeLeaf (slice_index_or leaves i [])
 
 -- the page has a place in its leaf
-abbrev pub HasPlace : Leaves → ℕ → Type 0
-HasPlace leaves page = page % 1024 < length (leaf_of leaves page)
+abbrev pub IsInLeaf : LeavesOf → ℕ → Type 0
+IsInLeaf leaves page = page % 1024 < length (leaf_of leaves page)
 
-abbrev pub with_leaf : Leaves → ℕ → List (Option ℕ) → Leaves
+abbrev pub with_leaf : LeavesOf → ℕ → List (Option ℕ) → LeavesOf
 with_leaf leaves page leaf = slice_set leaves (page / 1024) leaf
 
 -- one word is put in or taken away
-abbrev pub with_word : Leaves → ℕ → Option ℕ → Leaves
-with_word leaves page word =
+abbrev pub with_leaf_word : LeavesOf → ℕ → Option ℕ → LeavesOf
+with_leaf_word leaves page word =
     with_leaf leaves page (slice_set (leaf_of leaves page) (page % 1024) word)
 
-abbrev pub SameWords : Leaves → Leaves → Type 0
+abbrev pub SameWords : LeavesOf → LeavesOf → Type 0
 SameWords old new = (page : ℕ) → word_in new page ≡ word_in old page
 
-abbrev pub KeepsPlaces : Leaves → Leaves → Type 0
-KeepsPlaces old new = (page : ℕ) → HasPlace old page → HasPlace new page
+abbrev pub KeepsPlaces : LeavesOf → LeavesOf → Type 0
+KeepsPlaces old new = (page : ℕ) → IsInLeaf old page → IsInLeaf new page
 
 -- the words of the pages from `first` on and below `end` are changed by f, and all else stays
-pub record Changes (f : Option ℕ → Option ℕ) (old new : Leaves) (first end : ℕ) : Type 0 where
+pub record Changes (f : Option ℕ → Option ℕ) (old new : LeavesOf) (first end : ℕ) : Type 0 where
   pub words : Changed f (word_in old) (word_in new) first end
   pub directory : IsDirectory new
 
@@ -64,15 +64,15 @@ pub record IsPart (first end : ℕ) : Type 0 where
   pub same_leaf : end ≤ 1024 * (first / 1024 + 1)
 
 -- each page from `first` on and below `end` has a place
-abbrev pub HavePlaces : Leaves → ℕ → ℕ → Type 0
-HavePlaces leaves first end = (page : ℕ) → first ≤ page → page < end → HasPlace leaves page
+abbrev pub HavePlaces : LeavesOf → ℕ → ℕ → Type 0
+HavePlaces leaves first end = (page : ℕ) → first ≤ page → page < end → IsInLeaf leaves page
 
 -- each page from `first` on and below `end` has a word
-abbrev pub HaveWords : Leaves → ℕ → ℕ → Type 0
+abbrev pub HaveWords : LeavesOf → ℕ → ℕ → Type 0
 HaveWords leaves first end = (page : ℕ) → first ≤ page → page < end → IsSome (word_in leaves page)
 
 -- every word stays, and so does every place
-pub record PlacesMore (old new : Leaves) : Type 0 where
+pub record PlacesMore (old new : LeavesOf) : Type 0 where
   pub words : SameWords old new
   pub directory : IsDirectory new
   pub places : KeepsPlaces old new

@@ -13,31 +13,31 @@ tag_of (Transition frame) = 4
 tag_of (Valid frame place) = 5
 tag_of (Proto area index) = 6
 
-abbrev pub first_of : Entry → ℕ
-first_of Empty = 0
-first_of Zero = 0
-first_of (Paged slot) = slot.0
-first_of (InFile block) = block.0
-first_of (Transition frame) = frame.0
-first_of (Valid frame place) = frame.0
-first_of (Proto area index) = area.0
+abbrev pub first_number : Entry → ℕ
+first_number Empty = 0
+first_number Zero = 0
+first_number (Paged slot) = slot.0
+first_number (InFile block) = block.0
+first_number (Transition frame) = frame.0
+first_number (Valid frame place) = frame.0
+first_number (Proto area index) = area.0
 
-abbrev pub second_of : Entry → ℕ
-second_of Empty = 0
-second_of Zero = 0
-second_of (Paged slot) = 0
-second_of (InFile block) = 0
-second_of (Transition frame) = 0
-second_of (Valid frame place) = place
-second_of (Proto area index) = index
+abbrev pub second_number : Entry → ℕ
+second_number Empty = 0
+second_number Zero = 0
+second_number (Paged slot) = 0
+second_number (InFile block) = 0
+second_number (Transition frame) = 0
+second_number (Valid frame place) = place
+second_number (Proto area index) = index
 
-abbrev pub word_of : Entry → ℕ
-word_of e = tag_of e + 16 * first_of e + 2 ^ 32 * second_of e
+abbrev pub entry_word : Entry → ℕ
+entry_word e = tag_of e + 16 * first_number e + 2 ^ 32 * second_number e
 
 -- both numbers have room in a word
 pub record IsEntry (e : Entry) : Type 0 where
-  pub first : first_of e < 2 ^ 28
-  pub second : second_of e < 2 ^ 32
+  pub first : first_number e < 2 ^ 28
+  pub second : second_number e < 2 ^ 32
 
 -- a word's three numbers
 abbrev pub tag_in : ℕ → ℕ

@@ -7,17 +7,17 @@ abbrev pub leaf_word : List (Option ℕ) → ℕ → Option ℕ
 leaf_word words i = slice_index_or words i None
 
 -- for how many pages there is a place beside these numbers
-abbrev pub places : List ℕ → ℕ
-places [] = 0
-places (n ∷ numbers) = 1024
+abbrev pub place_count : List ℕ → ℕ
+place_count [] = 0
+place_count (n ∷ numbers) = 1024
 
 -- sixteen numbers have the bits of 1,024 pages; behind them stand the words
-abbrev pub page_word : List ℕ → ℕ → Option ℕ
-page_word numbers i = if have_bit numbers i then Some (slice_index numbers (16 + i)) else None
+abbrev pub stored_word : List ℕ → ℕ → Option ℕ
+stored_word numbers i = if have_bit numbers i then Some (slice_index numbers (16 + i)) else None
 
 -- the words that these numbers are
-unfoldable pub shown : List ℕ → List (Option ℕ)
-shown numbers = map (page_word numbers) (range_with_len 0 (places numbers))
+unfoldable pub shown_leaf : List ℕ → List (Option ℕ)
+shown_leaf numbers = map (stored_word numbers) (range_with_len 0 (place_count numbers))
 
 -- where there are numbers, the bits are there and there is room for all words; a page that is not
 -- reserved has no word but 0

@@ -19,16 +19,16 @@ set_place (entry.Valid f n) = Some n
 set_place (entry.Proto a i) = None
 
 -- the place in the working set that the word of a page names
-abbrev pub place_in : FinMap nat_cmp ℕ → ℕ → Option ℕ
-place_in table page = set_place (entry_or (finite.get table page))
+abbrev pub place_in_set : FinMap nat_cmp ℕ → ℕ → Option ℕ
+place_in_set table page = set_place (entry_or (finite.get table page))
 
-pub record IsProcess (table : FinMap nat_cmp ℕ) (set : WorkingSetOf) (open_now : Bool) :
+pub record IsKeptProcess (table : FinMap nat_cmp ℕ) (set : WorkingSetOf) (open_now : Bool) :
     Type 0 where
   -- a page's word names a place exactly where that place holds the page
-  pub named : (page n : ℕ) → place_in table page ≡ Some n → finite.get set.places n ≡ Some page
-  pub held : (n page : ℕ) → finite.get set.places n ≡ Some page → place_in table page ≡ Some n
+  pub named : (page n : ℕ) → place_in_set table page ≡ Some n → finite.get set.places n ≡ Some page
+  pub held : (n page : ℕ) → finite.get set.places n ≡ Some page → place_in_set table page ≡ Some n
   -- the pages whose words name a place have an age, at most 7
-  pub aged : (page : ℕ) → is_some (finite.get set.ages page) ≡ is_some (place_in table page)
+  pub aged : (page : ℕ) → is_some (finite.get set.ages page) ≡ is_some (place_in_set table page)
   pub young : (page age : ℕ) → finite.get set.ages page ≡ Some age → age ≤ 7
   pub within : finite.len set.places ≤ set.max
   -- an open process has the room of its working set, a closed one has no word

@@ -11,12 +11,12 @@ abbrev pub AreaWords : Type 0
 AreaWords = FinMap nat_cmp (List ℕ)
 
 -- the word at an index of an area, if it is open and has so many
-abbrev pub word_at : AreaWords → ℕ → ℕ → Option ℕ
-word_at areas a i = option_and_then (λ words. slice_get words i) (finite.get areas a)
+abbrev pub proto_word : AreaWords → ℕ → ℕ → Option ℕ
+proto_word areas a i = option_and_then (λ words. slice_get words i) (finite.get areas a)
 
 -- the words of an area; none if it is not open
-abbrev pub words_of : AreaWords → ℕ → List ℕ
-words_of areas a = unwrap_or (finite.get areas a) []
+abbrev pub area_words : AreaWords → ℕ → List ℕ
+area_words areas a = unwrap_or (finite.get areas a) []
 
 -- what stands for an area in a table
 abbrev pub words_in : {X Z : Type 0} → Option (Vec X Z) → Option (List X)

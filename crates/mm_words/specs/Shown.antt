@@ -4,13 +4,13 @@ use Rattle.std.specs.FinMap as finite
 use Rattle.mm_types.specs.declared.numbers.Place.{Place}
 use Rattle.mm_words.specs.declared.layout.Entry.{Entry}
 use Rattle.mm_words.specs.declared.layout.Entry.TheVariants as entry
-use Rattle.mm_words.specs.Prototypes.{AreaWords, word_at}
+use Rattle.mm_words.specs.Prototypes.{AreaWords, proto_word}
 use Rattle.mm_words.specs.Entries.{entry_or}
 use Rattle.mm_words.specs.Words.{WordsOf, bare}
 use Rattle.mm_words.specs.declared.aside.Aside.{Aside}
 use Rattle.mm_words.specs.declared.processes.Process.{Process}
 use Rattle.mm_words.specs.Changes.{resident_of}
-use Rattle.mm_words.specs.Tables.{bound_in, at_in, age_in, is_open_in}
+use Rattle.mm_words.specs.Tables.{bound_in, at_in, age_of_place, is_open_in}
 use Rattle.mm_words.specs.declared.tables.Words.{Words}
 
 abbrev pub bare_aside : Option Aside → Option Aside
@@ -18,13 +18,13 @@ bare_aside None = None
 bare_aside (Some a) = Some (record { place = a.place; entry = bare a.entry })
 
 abbrev pub proto_in : AreaWords → ℕ → ℕ → Entry
-proto_in areas a i = bare (entry_or (word_at areas a i))
+proto_in areas a i = bare (entry_or (proto_word areas a i))
 
 abbrev pub size_in : AreaWords → ℕ → Option ℕ
 size_in areas a = option_map length (finite.get areas a)
 
-abbrev pub shown : List Process → AreaWords → Option Aside → WordsOf
-shown ps areas aside = record {
+abbrev pub shown_words : List Process → AreaWords → Option Aside → WordsOf
+shown_words ps areas aside = record {
   bound = bound_in ps;
   is_open = is_open_in ps;
   at = at_in ps;
@@ -35,11 +35,11 @@ shown ps areas aside = record {
 }
 
 abbrev pub words : Words → WordsOf
-words w = shown w.processes.items w.protos w.aside
+words w = shown_words w.processes.items w.protos w.aside
 
 -- the age of each valid place
-abbrev pub ages : Words → Place → Option ℕ
-ages w place = age_in w.processes.items place
+abbrev pub place_ages : Words → Place → Option ℕ
+place_ages w place = age_of_place w.processes.items place
 
 abbrev pub no_words : WordsOf
 no_words = record {

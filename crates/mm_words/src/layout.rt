@@ -1,5 +1,5 @@
 ghost use Rattle.std.specs.Prelude.{◌≡◌, ◌+◌, ◌*◌, ◌^◌, ◌<◌, Some, IfSome, MatchOption, is_none};
-ghost use Rattle.mm_words.specs.Layout.{word_of, first_of, IsEntry, is_no_entry};
+ghost use Rattle.mm_words.specs.Layout.{entry_word, first_number, IsEntry, is_no_entry};
 ghost use Rattle.mm_words.specs.Entries.{entry_in};
 
 use mm_types::{Area, Block, Frame, Slot};
@@ -35,8 +35,8 @@ fn joined(tag: u64, first: u32, second: u32) -> u64
 
 /// The word of an entry, whose first number is below 2^28.
 pub fn encode(entry: Entry) -> u64
-    requires { first_of entry < 2 ^ 28 }
-    ensures { result ≡ word_of entry }
+    requires { first_number entry < 2 ^ 28 }
+    ensures { result ≡ entry_word entry }
 {
     match entry {
         Entry::Empty => 0,
@@ -54,8 +54,8 @@ pub fn encode(entry: Entry) -> u64
 #[tactic(auto, unfolding(crate::specs::Entries::entry_in))]
 pub fn decode(word: u64) -> Option<Entry>
     ensures value { MatchOption result (entry_in word ≡ Entry.Empty) (λ e. e ≡ entry_in word) }
-    ensures entry { (e : Entry) → IsEntry e → word ≡ word_of e → result ≡ Some e }
-    ensures word_again { IfSome result (λ e. IsEntry e × (word_of e ≡ word)) }
+    ensures entry { (e : Entry) → IsEntry e → word ≡ entry_word e → result ≡ Some e }
+    ensures word_again { IfSome result (λ e. IsEntry e × (entry_word e ≡ word)) }
     ensures none { is_none result ≡ is_no_entry word }
 {
     let tag = word % 16;

@@ -28,11 +28,11 @@ pub struct Leaf {
 
 impl Model for Leaf {
     ghost use Rattle.std.specs.Prelude.{ℕ, List, Option, vec_capacity};
-    ghost use Rattle.mm_words.specs.LeafWords.{shown, IsLeaf};
+    ghost use Rattle.mm_words.specs.LeafWords.{shown_leaf, IsLeaf};
 
     ghost Value = { List (Option ℕ) };
 
-    ghost view = { λ l. shown l.numbers.items };
+    ghost view = { λ l. shown_leaf l.numbers.items };
 
     ghost invariant = { λ l. IsLeaf (vec_capacity l.numbers) l.numbers.items };
 }

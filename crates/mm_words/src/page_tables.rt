@@ -4,7 +4,7 @@ ghost use Rattle.std.specs.FinMap as finite;
 ghost use Rattle.mm_types.specs.Address.{first_user_page, end_of_user_pages};
 ghost use Rattle.mm_words.specs.Pages.{pages, Reserves, Releases, AreReserved, reserved_word};
 ghost use Rattle.mm_words.specs.LeafWords.{no_word};
-ghost use Rattle.mm_words.specs.Directory.{word_in, HasPlace, HavePlaces, HaveWords, KeepsPlaces, PlacesMore, Changes, IsPart, with_word, IsDirectory, end_of_pages};
+ghost use Rattle.mm_words.specs.Directory.{word_in, IsInLeaf, HavePlaces, HaveWords, KeepsPlaces, PlacesMore, Changes, IsPart, with_leaf_word, IsDirectory, end_of_pages};
 
 use crate::leaves::{LEAF_PAGES, Leaf};
 use mm_types::{NoMemory, Vpn};
@@ -28,13 +28,13 @@ impl Model for Table {
     ghost use Rattle.std.specs.Ordering.{nat_cmp};
     ghost use Rattle.std.specs.FinMap as finite;
     ghost use Rattle.std.specs.Coded.{coded_ℕ};
-    ghost use Rattle.mm_words.specs.Directory.{words_of, IsDirectory};
+    ghost use Rattle.mm_words.specs.Directory.{directory_words, IsDirectory};
 
     ghost Value = { finite.FinMap nat_cmp ℕ };
 
     ghost coded = { finite.code coded_ℕ coded_ℕ };
 
-    ghost view = { λ t. words_of t.leaves.items };
+    ghost view = { λ t. directory_words t.leaves.items };
 
     ghost invariant = { λ t. IsDirectory t.leaves.items };
 }
@@ -50,7 +50,7 @@ fn word_at(leaves: &[Leaf], page: u32) -> u64
 /// Sets the word at a reserved page.
 fn set_at(leaves: &mut Vec<Leaf>, page: u32, word: u64)
     requires { IsSome (word_in leaves.old.items page) }
-    ensures { leaves.new.items ≡ with_word leaves.old.items page (Some word) }
+    ensures { leaves.new.items ≡ with_leaf_word leaves.old.items page (Some word) }
 {
     let leaf = &mut leaves[page as usize / LEAF_PAGES];
     leaf.set(page as usize % LEAF_PAGES, word);
@@ -69,7 +69,7 @@ fn end_in_leaf(page: u32, end: u32) -> u32
 /// Gives each page of a part of one leaf a word of 0 if it has none.
 fn reserve_part(leaves: &mut Vec<Leaf>, page: u32, end: u32)
     requires part { IsPart page end }
-    requires place { HasPlace leaves.old.items page }
+    requires place { IsInLeaf leaves.old.items page }
     requires directory { IsDirectory leaves.old.items }
     ensures changes { Changes reserved_word leaves.old.items leaves.new.items page end }
     ensures places { KeepsPlaces leaves.old.items leaves.new.items }
@@ -98,7 +98,7 @@ fn reserve_words(leaves: &mut Vec<Leaf>, first: u32, end: u32)
 /// Takes the words of the pages of a part of one leaf away.
 fn release_part(leaves: &mut Vec<Leaf>, page: u32, end: u32)
     requires part { IsPart page end }
-    requires place { HasPlace leaves.old.items page }
+    requires place { IsInLeaf leaves.old.items page }
     requires directory { IsDirectory leaves.old.items }
     ensures { Changes no_word leaves.old.items leaves.new.items page end }
 {
@@ -129,7 +129,7 @@ fn place_leaf(alloc: Global, leaves: &mut Vec<Leaf>, page: u32) -> Result<(), No
     requires directory { IsDirectory leaves.old.items }
     requires whole { length leaves.old.items ≡ 512 }
     ensures placed { PlacesMore leaves.old.items leaves.new.items }
-    ensures place { OnOk result (HasPlace leaves.new.items page) }
+    ensures place { OnOk result (IsInLeaf leaves.new.items page) }
     ensures count { length leaves.new.items ≡ length leaves.old.items }
 {
     let at = page as usize / LEAF_PAGES;

@@ -8,10 +8,10 @@ ghost use Rattle.mm_wset.specs.InOrder.{IsNextFrom};
 ghost use Rattle.mm_words.specs.Pages.{pages};
 ghost use Rattle.mm_types.specs.Address.{holds_page, first_user_page, end_of_user_pages};
 ghost use Rattle.mm_words.specs.Entries.{entry_or};
-ghost use Rattle.mm_words.specs.Words.{is_valid};
+ghost use Rattle.mm_words.specs.Words.{is_valid_entry};
 ghost use Rattle.std.specs.Option.{ForSome};
 ghost use Rattle.mm_words.specs.Oldest.{NoneBehind, IsOldestOf};
-ghost use Rattle.mm_words.specs.Processes.{IsProcess};
+ghost use Rattle.mm_words.specs.Processes.{IsKeptProcess};
 
 use crate::entries::entry_of;
 use crate::{Entry, Table, encode};
@@ -27,11 +27,11 @@ pub struct Process {
     pub table: Table,
     pub set: WorkingSet,
     pub is_open: bool,
-    ghost kept: { IsProcess table set is_open },
+    ghost kept: { IsKeptProcess table set is_open },
 }
 
 impl Process {
-    ghost use Rattle.mm_words.specs.Changes.{bound_of, at_of, age_of, resident_of, Becomes, Rebinds, Begins, KeepsPages};
+    ghost use Rattle.mm_words.specs.Changes.{bound_of, at_of, age_of, resident_of, EntryBecomes, Rebinds, ProcessBegins, KeepsPages};
 
     /// The entry of a bound page; the number of a valid one is its place in the working set.
     pub fn entry(&self, v: Vpn) -> Entry
@@ -44,10 +44,10 @@ impl Process {
     /// An entry that is not valid is another that is not.
     pub fn set_entry(&mut self, v: Vpn, e: Entry)
         requires bound { bound_of self.old v.0 ≡ true }
-        requires invalid { is_valid (at_of self.old v.0) ≡ false }
-        requires other { is_valid e ≡ false }
+        requires invalid { is_valid_entry (at_of self.old v.0) ≡ false }
+        requires other { is_valid_entry e ≡ false }
         requires fits { IsEntry e }
-        ensures becomes { Becomes self.old self.new v.0 e }
+        ensures becomes { EntryBecomes self.old self.new v.0 e }
         ensures set { self.new.set ≡ self.old.set }
     {
         self.table.set(v, encode(e));
@@ -56,10 +56,10 @@ impl Process {
     /// A bound page that is not valid becomes valid.
     pub fn make_valid(&mut self, v: Vpn, f: Frame)
         requires bound { bound_of self.old v.0 ≡ true }
-        requires invalid { is_valid (at_of self.old v.0) ≡ false }
+        requires invalid { is_valid_entry (at_of self.old v.0) ≡ false }
         requires room { finite.len self.old.set.places < self.old.set.max }
         requires fits { f.0 < 2 ^ 28 }
-        ensures becomes { Becomes self.old self.new v.0 (entry.Valid f 0) }
+        ensures becomes { EntryBecomes self.old self.new v.0 (entry.Valid f 0) }
         ensures resident { resident_of self.new ≡ record (resident_of self.old) {
           resident = finite.len self.old.set.places + 1;
         } }
@@ -71,10 +71,10 @@ impl Process {
 
     /// A valid page is valid no more, and has this entry.
     pub fn make_invalid(&mut self, v: Vpn, e: Entry)
-        requires valid { is_valid (at_of self.old v.0) ≡ true }
-        requires other { is_valid e ≡ false }
+        requires valid { is_valid_entry (at_of self.old v.0) ≡ true }
+        requires other { is_valid_entry e ≡ false }
         requires fits { IsEntry e }
-        ensures becomes { Becomes self.old self.new v.0 e }
+        ensures becomes { EntryBecomes self.old self.new v.0 e }
         ensures resident { resident_of self.new ≡ record (resident_of self.old) {
           resident = finite.len self.old.set.places - 1;
         } }
@@ -91,7 +91,7 @@ impl Process {
 
     /// A valid page was used.
     pub fn touch(&mut self, v: Vpn)
-        requires { is_valid (at_of self.old v.0) ≡ true }
+        requires { is_valid_entry (at_of self.old v.0) ≡ true }
         ensures ages { (q : ℕ) → age_of self.new q ≡ changed ◌==◌ (age_of self.old) v.0 (Some 0) q }
         ensures table { self.new.table ≡ self.old.table }
         ensures resident { resident_of self.new ≡ resident_of self.old }
@@ -116,7 +116,7 @@ impl Process {
 
     /// A closed process without a page, with these sizes of its working set. It takes no memory.
     pub fn begin(alloc: Global, min: u32, max: u32) -> Process
-        ensures { Begins result min max }
+        ensures { ProcessBegins result min max }
     {
         Process {
             table: Table::new(alloc),
@@ -154,7 +154,7 @@ impl Process {
     pub fn unbind(&mut self, first: Vpn, n: u32)
         requires bound { (q : ℕ) → first.0 ≤ q → q < first.0 + n → bound_of self.old q ≡ true }
         requires invalid { (q : ℕ) → first.0 ≤ q → q < first.0 + n →
-            is_valid (at_of self.old q) ≡ false }
+            is_valid_entry (at_of self.old q) ≡ false }
         ensures rebinds { Rebinds self.old self.new (pages first.0 n) false }
         ensures at { (q : ℕ) → at_of self.new q ≡
             (if holds_page (pages first.0 n) q then entry.Empty else at_of self.old q) }

@@ -1,7 +1,7 @@
 ghost use Rattle.std.specs.Prelude.{◌≡◌, ◌<◌, ◌^◌, None, Some, IsSome, OnOk, OnErr, replicate, slice_set, vec_len};
 ghost use Rattle.std.specs.FinMap as finite;
 ghost use Rattle.mm_types.specs.Table.{table};
-ghost use Rattle.mm_words.specs.Prototypes.{word_at, words_of, words_in};
+ghost use Rattle.mm_words.specs.Prototypes.{proto_word, area_words, words_in};
 
 use mm_types::{Area, NoMemory};
 use std::alloc::Global;
@@ -75,8 +75,8 @@ impl Protos {
 
     /// The word at an index of an open area, within its words.
     pub fn get(&self, a: Area, i: u32) -> u64
-        requires { IsSome (word_at self.now a.0 i) }
-        ensures { word_at self.now a.0 i ≡ Some result }
+        requires { IsSome (proto_word self.now a.0 i) }
+        ensures { proto_word self.now a.0 i ≡ Some result }
     {
         match &self.areas[a.0 as usize] {
             Some(words) => words[i as usize],
@@ -86,8 +86,9 @@ impl Protos {
 
     /// Sets the word at an index of an open area, within its words.
     pub fn set(&mut self, a: Area, i: u32, word: u64)
-        requires { IsSome (word_at self.old a.0 i) }
-        ensures { self.new ≡ finite.insert self.old a.0 (slice_set (words_of self.old a.0) i word) }
+        requires { IsSome (proto_word self.old a.0 i) }
+        ensures { self.new ≡ finite.insert self.old a.0
+            (slice_set (area_words self.old a.0) i word) }
     {
         match &mut self.areas[a.0 as usize] {
             Some(words) => words[i as usize] = word,

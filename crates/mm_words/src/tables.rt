@@ -4,7 +4,7 @@ ghost use Rattle.mm_types.specs.declared.numbers.Key.TheVariants.{Private, Share
 ghost use Rattle.mm_life.specs.Life.{changed, same_place, set_in};
 ghost use Rattle.mm_life.specs.Legal.{is_below_max};
 ghost use Rattle.mm_words.specs.Layout.{IsEntry};
-ghost use Rattle.mm_words.specs.Words.{word_of, has_word, own_word, with_own, is_valid, is_there, is_aside, bare, keeps_places, with_word, with_aside, without_aside, made_valid, made_invalid, changed_at, changed_in, place_of};
+ghost use Rattle.mm_words.specs.Words.{key_entry, has_word, own_word, with_own, is_valid_entry, is_there, is_aside, bare, keeps_places, with_entry, with_aside, without_aside, made_valid, made_invalid, changed_at, changed_in, place_from};
 ghost use Rattle.mm_words.specs.declared.layout.Entry.TheVariants as entry;
 ghost use Rattle.mm_types.specs.declared.numbers.Key.{Key};
 ghost use Rattle.mm_types.specs.declared.numbers.Place.{Place};
@@ -29,8 +29,8 @@ const MOST_PROCESSES: usize = 64;
 /// Page tables, working sets and prototype words, and the one private key whose entry stands beside
 /// the tables.
 ///
-/// Contracts see it as `words`, a `WordsOf`: entries of places and keys; and as `ages`, the age of
-/// each valid place.
+/// Contracts see it as `words`, a `WordsOf`: entries of places and keys; and as `place_ages`, the
+/// age of each valid place.
 #[derive(Drop)]
 pub struct Words {
     alloc: Global,
@@ -59,13 +59,13 @@ fn index_of(processes: &Vec<Process>, pid: Pid) -> usize
 
 #[tactic(auto, using(crate::proofs::TableChanges::bound_there, crate::proofs::TableChanges::set_there, crate::proofs::TableChanges::open_there, crate::proofs::AreaWords::proto_there))]
 impl Words {
-    ghost use Rattle.mm_words.specs.Shown.{words, ages, no_words, no_ages};
+    ghost use Rattle.mm_words.specs.Shown.{words, place_ages, no_words, no_ages};
 
     /// No process is there, no area is open, and nothing stands beside the tables. It takes the
     /// room for 64 processes.
     pub fn new(alloc: Global) -> Result<Words, NoMemory>
         ensures words { IfOk result (λ w. words w ≡ no_words) }
-        ensures ages { IfOk result (λ w. ages w ≡ no_ages) }
+        ensures ages { IfOk result (λ w. place_ages w ≡ no_ages) }
     {
         let processes = Vec::with_capacity(alloc, MOST_PROCESSES)?;
         Ok(Words {
@@ -83,7 +83,7 @@ impl Words {
         ensures words { words self.new ≡ record (words self.old) {
           sets = (words self.old).sets ++ record { min = min; max = max; resident = 0 } ∷ [];
         } }
-        ensures ages { ages self.new ≡ ages self.old }
+        ensures ages { place_ages self.new ≡ place_ages self.old }
     {
         let process = Process::begin(self.alloc, min, max);
         self.processes.push_reserved(process);
@@ -97,7 +97,7 @@ impl Words {
           is_open = changed ◌==◌ (words self.old).is_open pid.0 true;
         }) }
         ensures err { OnErr result (words self.new ≡ words self.old) }
-        ensures ages { ages self.new ≡ ages self.old }
+        ensures ages { place_ages self.new ≡ place_ages self.old }
     {
         let at = index_of(&self.processes, pid);
         self.processes[at].open()
@@ -106,13 +106,13 @@ impl Words {
     /// Closes an open process that has no bound place, and gives the room of its working set back.
     pub fn close_process(&mut self, pid: Pid)
         requires open { (words self.old).is_open pid.0 ≡ true }
-        requires unbound { (v : ℕ) → (words self.old).bound (place_of pid (record {
+        requires unbound { (v : ℕ) → (words self.old).bound (place_from pid (record {
           0 = v;
         })) ≡ false }
         ensures words { words self.new ≡ record (words self.old) {
           is_open = changed ◌==◌ (words self.old).is_open pid.0 false;
         } }
-        ensures ages { ages self.new ≡ ages self.old }
+        ensures ages { place_ages self.new ≡ place_ages self.old }
     {
         let at = index_of(&self.processes, pid);
         self.processes[at].close();
@@ -128,7 +128,7 @@ impl Words {
           bound = changed_in (words self.old).bound pid.0 (pages first.0 n) true;
         }) }
         ensures err { OnErr result (words self.new ≡ words self.old) }
-        ensures ages { ages self.new ≡ ages self.old }
+        ensures ages { place_ages self.new ≡ place_ages self.old }
     {
         let at = index_of(&self.processes, pid);
         self.processes[at].bind(first, n)
@@ -139,11 +139,11 @@ impl Words {
     pub fn unbind(&mut self, pid: Pid, first: Vpn, n: u32)
         requires open { (words self.old).is_open pid.0 ≡ true }
         requires bound { (v : ℕ) → first.0 ≤ v → v < first.0 + n →
-            (words self.old).bound (place_of pid (record {
+            (words self.old).bound (place_from pid (record {
               0 = v;
             })) ≡ true }
         requires invalid { (v : ℕ) → first.0 ≤ v → v < first.0 + n →
-            is_valid ((words self.old).at (place_of pid (record {
+            is_valid_entry ((words self.old).at (place_from pid (record {
               0 = v;
             }))) ≡ false }
         requires none { (words self.old).aside ≡ None }
@@ -151,7 +151,7 @@ impl Words {
           bound = changed_in (words self.old).bound pid.0 (pages first.0 n) false;
           at = changed_in (words self.old).at pid.0 (pages first.0 n) entry.Empty;
         } }
-        ensures ages { ages self.new ≡ ages self.old }
+        ensures ages { place_ages self.new ≡ place_ages self.old }
     {
         let at = index_of(&self.processes, pid);
         self.processes[at].unbind(first, n);
@@ -165,7 +165,7 @@ impl Words {
           sizes = changed ◌==◌ (words self.old).sizes a.0 (Some n);
         }) }
         ensures err { OnErr result (words self.new ≡ words self.old) }
-        ensures ages { ages self.new ≡ ages self.old }
+        ensures ages { place_ages self.new ≡ place_ages self.old }
     {
         self.protos.open(a, n)
     }
@@ -177,7 +177,7 @@ impl Words {
         ensures words { words self.new ≡ record (words self.old) {
           sizes = changed ◌==◌ (words self.old).sizes a.0 None;
         } }
-        ensures ages { ages self.new ≡ ages self.old }
+        ensures ages { place_ages self.new ≡ place_ages self.old }
     {
         self.protos.close(a);
     }
@@ -214,7 +214,7 @@ impl Words {
     /// set.
     pub fn word(&self, key: Key) -> Entry
         requires { has_word (words self.now) key ≡ true }
-        ensures { bare result ≡ word_of (words self.now) key }
+        ensures { bare result ≡ key_entry (words self.now) key }
     {
         match key {
             Key::Private(pid, vpn) => self.own(Place { pid, vpn }),
@@ -224,7 +224,7 @@ impl Words {
 
     /// A key has a word where it has an entry, and no entry is told with a number.
     pub fn words_hold(&self)
-        ensures there { (k : Key) → is_there (word_of (words self.now) k) ≡ true →
+        ensures there { (k : Key) → is_there (key_entry (words self.now) k) ≡ true →
             has_word (words self.now) k ≡ true }
         ensures bound { (p : Place) → is_there ((words self.now).at p) ≡ true →
             (words self.now).bound p ≡ true }
@@ -236,8 +236,9 @@ impl Words {
     /// Exactly the valid places have an age, at most 7. A bound place is of an open process, an
     /// open process has begun, and no working set has more pages than its greatest size.
     pub fn working_sets_hold(&self)
-        ensures aged { (p : Place) → is_some (ages self.now p) ≡ is_valid ((words self.now).at p) }
-        ensures young { (p : Place) (age : ℕ) → ages self.now p ≡ Some age → age ≤ 7 }
+        ensures aged { (p : Place) →
+            is_some (place_ages self.now p) ≡ is_valid_entry ((words self.now).at p) }
+        ensures young { (p : Place) (age : ℕ) → place_ages self.now p ≡ Some age → age ≤ 7 }
         ensures open { (p : Place) → (words self.now).bound p ≡ true →
             (words self.now).is_open p.pid.0 ≡ true }
         ensures begun { (pid : ℕ) → (words self.now).is_open pid ≡ true →
@@ -261,13 +262,13 @@ impl Words {
     /// The entry of a bound place that is not valid becomes another that is not.
     fn set_at(&mut self, place: Place, e: Entry)
         requires bound { (words self.old).bound place ≡ true }
-        requires invalid { is_valid ((words self.old).at place) ≡ false }
-        requires other { is_valid e ≡ false }
+        requires invalid { is_valid_entry ((words self.old).at place) ≡ false }
+        requires other { is_valid_entry e ≡ false }
         requires fits { IsEntry e }
         ensures words { words self.new ≡ record (words self.old) {
           at = changed same_place (words self.old).at place e;
         } }
-        ensures ages { ages self.new ≡ ages self.old }
+        ensures ages { place_ages self.new ≡ place_ages self.old }
     {
         let at = index_of(&self.processes, place.pid);
         self.processes[at].set_entry(place.vpn, e);
@@ -276,12 +277,12 @@ impl Words {
     /// The entry of a private key becomes another; neither is valid.
     fn set_own(&mut self, place: Place, e: Entry)
         requires bound { (words self.old).bound place ≡ true }
-        requires invalid { is_valid (own_word (words self.old) place) ≡ false }
-        requires other { is_valid e ≡ false }
+        requires invalid { is_valid_entry (own_word (words self.old) place) ≡ false }
+        requires other { is_valid_entry e ≡ false }
         requires fits { IsEntry e }
         ensures words { words self.new ≡ with_own (is_aside (words self.old).aside place)
             (words self.old) place e }
-        ensures ages { ages self.new ≡ ages self.old }
+        ensures ages { place_ages self.new ≡ place_ages self.old }
     {
         if self.is_beside(place) {
             self.aside = Some(Aside { place, entry: e });
@@ -298,7 +299,7 @@ impl Words {
         ensures words { words self.new ≡ record (words self.old) {
           proto = changed_at (words self.old).proto a.0 i e;
         } }
-        ensures ages { ages self.new ≡ ages self.old }
+        ensures ages { place_ages self.new ≡ place_ages self.old }
     {
         self.protos.set(a, i, encode(e));
     }
@@ -309,8 +310,8 @@ impl Words {
         requires fits { IsEntry e }
         requires plain { bare e ≡ e }
         requires places { keeps_places (words self.old) key e ≡ true }
-        ensures words { words self.new ≡ with_word (words self.old) key e }
-        ensures ages { ages self.new ≡ ages self.old }
+        ensures words { words self.new ≡ with_entry (words self.old) key e }
+        ensures ages { place_ages self.new ≡ place_ages self.old }
     {
         match key {
             Key::Private(pid, vpn) => self.set_own(Place { pid, vpn }, e),
@@ -322,8 +323,8 @@ impl Words {
     pub fn clear_word(&mut self, key: Key)
         requires has { has_word (words self.old) key ≡ true }
         requires places { keeps_places (words self.old) key entry.Empty ≡ true }
-        ensures words { words self.new ≡ with_word (words self.old) key entry.Empty }
-        ensures ages { ages self.new ≡ ages self.old }
+        ensures words { words self.new ≡ with_entry (words self.old) key entry.Empty }
+        ensures ages { place_ages self.new ≡ place_ages self.old }
     {
         self.set_word(key, Entry::Empty);
     }
@@ -334,7 +335,7 @@ impl Words {
         requires bound { (words self.old).bound place ≡ true }
         requires plain { bare e ≡ e }
         ensures words { words self.new ≡ with_aside (words self.old) place e }
-        ensures ages { ages self.new ≡ ages self.old }
+        ensures ages { place_ages self.new ≡ place_ages self.old }
     {
         let aside = Aside { place, entry: e };
         self.aside = Some(aside);
@@ -345,7 +346,7 @@ impl Words {
         ensures words { words self.new ≡ record (words self.old) {
           aside = without_aside (words self.old).aside place;
         } }
-        ensures ages { ages self.new ≡ ages self.old }
+        ensures ages { place_ages self.new ≡ place_ages self.old }
     {
         match self.aside {
             Some(a) if is_same(place, a.place) => self.aside = None,
@@ -356,11 +357,12 @@ impl Words {
     /// A place that is bound and not valid becomes valid for a frame.
     pub fn make_valid(&mut self, place: Place, f: Frame)
         requires bound { (words self.old).bound place ≡ true }
-        requires invalid { is_valid ((words self.old).at place) ≡ false }
+        requires invalid { is_valid_entry ((words self.old).at place) ≡ false }
         requires room { is_below_max (set_in (words self.old).sets place.pid.0) ≡ true }
         requires fits { f.0 < 2 ^ 28 }
         ensures words { words self.new ≡ made_valid (words self.old) place f }
-        ensures ages { ages self.new ≡ changed same_place (ages self.old) place (Some 0) }
+        ensures ages { place_ages self.new ≡ changed same_place (place_ages self.old) place
+            (Some 0) }
     {
         let at = index_of(&self.processes, place.pid);
         self.processes[at].make_valid(place.vpn, f);
@@ -369,11 +371,11 @@ impl Words {
 
     /// A valid place has this entry now, which is not valid.
     pub fn make_invalid(&mut self, place: Place, e: Entry)
-        requires valid { is_valid ((words self.old).at place) ≡ true }
-        requires other { is_valid e ≡ false }
+        requires valid { is_valid_entry ((words self.old).at place) ≡ true }
+        requires other { is_valid_entry e ≡ false }
         requires fits { IsEntry e }
         ensures words { words self.new ≡ made_invalid (words self.old) place e }
-        ensures ages { ages self.new ≡ changed same_place (ages self.old) place None }
+        ensures ages { place_ages self.new ≡ changed same_place (place_ages self.old) place None }
     {
         let at = index_of(&self.processes, place.pid);
         self.processes[at].make_invalid(place.vpn, e);
@@ -381,9 +383,10 @@ impl Words {
 
     /// A valid place was used: its age is 0.
     pub fn touch(&mut self, place: Place)
-        requires { is_valid ((words self.old).at place) ≡ true }
+        requires { is_valid_entry ((words self.old).at place) ≡ true }
         ensures words { words self.new ≡ words self.old }
-        ensures ages { ages self.new ≡ changed same_place (ages self.old) place (Some 0) }
+        ensures ages { place_ages self.new ≡ changed same_place (place_ages self.old) place
+            (Some 0) }
     {
         let at = index_of(&self.processes, place.pid);
         self.processes[at].touch(place.vpn);
@@ -394,8 +397,9 @@ impl Words {
         requires { (words self.old).is_open pid.0 ≡ true }
         ensures words { words self.new ≡ words self.old }
         ensures ages { (x : Place) →
-            ages self.new x ≡
-            (if x.pid.0 == pid.0 then option_map older (ages self.old x) else ages self.old x) }
+            place_ages self.new x ≡
+            (if x.pid.0 == pid.0 then option_map older (place_ages self.old x) else place_ages
+            self.old x) }
     {
         let at = index_of(&self.processes, pid);
         self.processes[at].age_all();
@@ -405,10 +409,12 @@ impl Words {
     /// after it; none where there is none.
     pub fn oldest(&self, pid: Pid, after: Option<Vpn>) -> Option<Vpn>
         requires open { (words self.now).is_open pid.0 ≡ true }
-        requires held { ForSome after (λ v. is_some (ages_in (ages self.now) pid v.0) ≡ true) }
+        requires held { ForSome after (λ v. is_some (ages_in (place_ages self.now) pid v.0)
+            ≡ true) }
         ensures { MatchOption result
-            (NoneBehind (ages_in (ages self.now) pid) (option_map (λ w. w.0) after))
-            (λ v. IsOldestOf (ages_in (ages self.now) pid) (option_map (λ w. w.0) after) v.0) }
+            (NoneBehind (ages_in (place_ages self.now) pid) (option_map (λ w. w.0) after))
+            (λ v. IsOldestOf (ages_in (place_ages self.now) pid) (option_map (λ w. w.0) after)
+            v.0) }
     {
         let at = index_of(&self.processes, pid);
         self.processes[at].oldest(after)
@@ -417,7 +423,7 @@ impl Words {
     /// The lowest valid page of an open process at `from` or above; none where there is none.
     pub fn next_from(&self, pid: Pid, from: Vpn) -> Option<Vpn>
         requires { (words self.now).is_open pid.0 ≡ true }
-        ensures { IsNextFrom (λ v. is_some (ages_in (ages self.now) pid v)) from.0 result }
+        ensures { IsNextFrom (λ v. is_some (ages_in (place_ages self.now) pid v)) from.0 result }
     {
         let at = index_of(&self.processes, pid);
         self.processes[at].next_from(from)

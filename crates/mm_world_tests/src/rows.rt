@@ -2,7 +2,7 @@ ghost use Rattle.std.specs.Prelude.{◌≡◌, ◌≤◌, ◌+◌, false, OnOk, 
 ghost use Rattle.mm_blocks.specs.Traffic.{empty_block};
 ghost use Rattle.mm_script.specs.Printed.{IsWellFormed};
 ghost use Rattle.mm_core.specs.Built.{is_machine};
-ghost use Rattle.mm_core.specs.Shown.{line_of};
+ghost use Rattle.mm_core.specs.Shown.{line_number};
 
 use mm_blocks::{Blocks, Injected, MemBlocks};
 use mm_core::{World, is_machine};
@@ -93,13 +93,15 @@ fn decide<G: Pages>(
 ) -> Result<Answer, NoMemory>
     requires well_formed { IsWellFormed event.now }
     requires later { is_machine event.now ≡ false }
-    requires next { line ≡ line_of world.old + 1 }
+    requires next { line ≡ line_number world.old + 1 }
     requires few { line ≤ 1000000 }
     requires ready { world.old.spent ≡ false }
-    ensures line { OnOk result (line_of world.new ≡ line) }
+    ensures line { OnOk result (line_number world.new ≡ line) }
     ensures ready { OnOk result (world.new.spent ≡ false) }
 {
-    world.step(alloc, line, event)
+    let mut answer = Answer::Ok;
+    world.step(alloc, line, event, &mut answer)?;
+    Ok(answer)
 }
 
 /// Whether an answer is spelled so.
@@ -120,10 +122,10 @@ fn read_line<G: Pages>(
     line: &[u8],
     wanted: &[u8],
 ) -> Result<(), Stopped>
-    requires next { n ≡ line_of world.old + 1 }
+    requires next { n ≡ line_number world.old + 1 }
     requires few { n ≤ 1000000 }
     requires ready { world.old.spent ≡ false }
-    ensures line { OnOk result (line_of world.new ≡ n) }
+    ensures line { OnOk result (line_number world.new ≡ n) }
     ensures ready { OnOk result (world.new.spent ≡ false) }
 {
     if line.len() > 256 {
@@ -163,7 +165,7 @@ fn all_lines<G: Pages>(
     script: &[u8],
     answers: &[u8],
 ) -> Result<u32, Stopped>
-    requires first { line_of world.old ≡ 1 }
+    requires first { line_number world.old ≡ 1 }
     requires ready { world.old.spent ≡ false }
 {
     let mut lines = script;

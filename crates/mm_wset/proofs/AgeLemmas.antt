@@ -10,9 +10,9 @@ use Rattle.mm_types.proofs.Finite.{same}
 use Rattle.mm_types.proofs.Tables.{is_insert, is_remove}
 use Rattle.mm_wset.specs.declared.trees.Grouped.{Grouped}
 use Rattle.mm_wset.specs.Ages.{older, AgesBy}
-use Rattle.mm_wset.specs.GroupedPages.{IsSorted, group_in, age_in, add_page, remove_page, moved, retired}
+use Rattle.mm_wset.specs.GroupedPages.{IsSorted, group_in, age_of_page, add_page, remove_page, regrouped, retired}
 use Rattle.mm_wset.specs.Ring.{turned, next_newest}
-use Rattle.mm_wset.specs.Held.{entry_of, ages_of}
+use Rattle.mm_wset.specs.Held.{entry_of, ages_by_group}
 use Rattle.mm_wset.proofs.PageLemmas.{group_below, group_here, group_there}
 use Rattle.mm_wset.proofs.RingLemmas.{turned_newest, known_turned, turned_older}
 
@@ -29,44 +29,44 @@ module _ (newest : ℕ) where
   one_or_later true g later = refl
   one_or_later false g later = refl
 
-  find_age : (xs : List Grouped) (v : ℕ) → find nat_cmp v (map (entry_of newest) xs) ≡ age_in newest xs v
+  find_age : (xs : List Grouped) (v : ℕ) → find nat_cmp v (map (entry_of newest) xs) ≡ age_of_page newest xs v
   find_age [] v = refl
   find_age (x ∷ xs) v =
       ap (λ t. cond t (Some (turned newest x.group)) (find nat_cmp v (map (entry_of newest) xs))) (unsigned_tied v x.page ∙ either_way v x.page)
       ∙ ap (cond (eqb x.page v) (Some (turned newest x.group))) (find_age xs v)
       ∙ one_or_later (eqb x.page v) x.group (group_in xs v)
 
-  pub get-ages : (xs : List Grouped) (v : ℕ) → finite.get (ages_of newest xs) v ≡ age_in newest xs v
-  unfolding ages_of
+  pub get-ages : (xs : List Grouped) (v : ℕ) → finite.get (ages_by_group newest xs) v ≡ age_of_page newest xs v
+  unfolding ages_by_group
   get-ages xs v = finite.get-from_entries nat_cmp_total (map (entry_of newest) xs) v ∙ find_age xs v
 
   -- the same map where each page has the same group
-  get_by : (xs : List Grouped) (v : ℕ) (o : Option ℕ) → group_in xs v ≡ o → finite.get (ages_of newest xs) v ≡ option_map (turned newest) o
+  get_by : (xs : List Grouped) (v : ℕ) (o : Option ℕ) → group_in xs v ≡ o → finite.get (ages_by_group newest xs) v ≡ option_map (turned newest) o
   get_by xs v o e = get-ages xs v ∙ ap (option_map (turned newest)) e
 
-  pub ages_none : ages_of newest [] ≡ finite.empty
-  ages_none = same (ages_of newest []) finite.empty (λ v. get-ages [] v ∙ sym (finite.get-empty nat_cmp v))
+  pub ages_none : ages_by_group newest [] ≡ finite.empty
+  ages_none = same (ages_by_group newest []) finite.empty (λ v. get-ages [] v ∙ sym (finite.get-empty nat_cmp v))
 
   -- a page without an age has no group
-  pub no_group : (xs : List Grouped) (v : ℕ) → finite.get (ages_of newest xs) v ≡ None → group_in xs v ≡ None
+  pub no_group : (xs : List Grouped) (v : ℕ) → finite.get (ages_by_group newest xs) v ≡ None → group_in xs v ≡ None
   no_group xs v e = by (group_in xs v) (sym (get-ages xs v) ∙ e) where
     by : (o : Option ℕ) → option_map (turned newest) o ≡ None → o ≡ None
     by None e = refl
     by (Some g) e = cc
 
   -- a page has a group where it has an age
-  pub has_both : (xs : List Grouped) (v : ℕ) → is_some (finite.get (ages_of newest xs) v) ≡ is_some (group_in xs v)
+  pub has_both : (xs : List Grouped) (v : ℕ) → is_some (finite.get (ages_by_group newest xs) v) ≡ is_some (group_in xs v)
   has_both xs v = ap is_some (get-ages xs v) ∙ by (group_in xs v) where
     by : (o : Option ℕ) → is_some (option_map (turned newest) o) ≡ is_some o
     by None = refl
     by (Some g) = refl
 
   -- one with an age has one
-  pub some_group : (xs : List Grouped) (v : ℕ) → IsSome (finite.get (ages_of newest xs) v) → IsSome (group_in xs v)
+  pub some_group : (xs : List Grouped) (v : ℕ) → IsSome (finite.get (ages_by_group newest xs) v) → IsSome (group_in xs v)
   some_group xs v held = sym (has_both xs v) ∙ held
 
   -- the groups are the eight where the ages are
-  pub known_group : newest < 7 → (xs : List Grouped) → ((v a : ℕ) → finite.get (ages_of newest xs) v ≡ Some a → a ≤ 7) → (v g : ℕ) → group_in xs v ≡ Some g → g ≤ 7
+  pub known_group : newest < 7 → (xs : List Grouped) → ((v a : ℕ) → finite.get (ages_by_group newest xs) v ≡ Some a → a ≤ 7) → (v g : ℕ) → group_in xs v ≡ Some g → g ≤ 7
   known_group turning xs young v g e = known_turned newest turning g (young v (turned newest g) (get_by xs v (Some g) e))
 
 -- ---- one page more
@@ -94,9 +94,9 @@ added_there x (y ∷ ys) q other =
       | false ↦ ap (cond (eqb y.page q) (Some y.group)) (added_there x ys q other)
     ]
 
-pub ages_add : (newest : ℕ) (x : Grouped) (xs : List Grouped) → group_in xs x.page ≡ None → ages_of newest (add_page x xs) ≡ finite.insert (ages_of newest xs) x.page (turned newest x.group)
+pub ages_add : (newest : ℕ) (x : Grouped) (xs : List Grouped) → group_in xs x.page ≡ None → ages_by_group newest (add_page x xs) ≡ finite.insert (ages_by_group newest xs) x.page (turned newest x.group)
 ages_add newest x xs none =
-    is_insert (ages_of newest xs) (ages_of newest (add_page x xs)) x.page (turned newest x.group)
+    is_insert (ages_by_group newest xs) (ages_by_group newest (add_page x xs)) x.page (turned newest x.group)
     (get_by newest (add_page x xs) x.page (Some x.group) (added_here x xs none))
     (λ q other. get_by newest (add_page x xs) q (group_in xs q) (added_there x xs q other) ∙ sym (get-ages newest xs q))
 
@@ -137,9 +137,9 @@ removed_there v (x ∷ xs) q other =
       | false ↦ λ t. ap (cond (eqb x.page q) (Some x.group)) (removed_there v xs q other)
     ] refl
 
-pub ages_removed : (newest v : ℕ) (xs : List Grouped) → IsSorted 0 xs → ages_of newest (remove_page v xs) ≡ finite.remove (ages_of newest xs) v
+pub ages_removed : (newest v : ℕ) (xs : List Grouped) → IsSorted 0 xs → ages_by_group newest (remove_page v xs) ≡ finite.remove (ages_by_group newest xs) v
 ages_removed newest v xs sorted =
-    is_remove (ages_of newest xs) (ages_of newest (remove_page v xs)) v
+    is_remove (ages_by_group newest xs) (ages_by_group newest (remove_page v xs)) v
     (get_by newest (remove_page v xs) v None (removed_here v 0 xs sorted))
     (λ q other. get_by newest (remove_page v xs) q (group_in xs q) (removed_there v xs q other) ∙ sym (get-ages newest xs q))
 
@@ -164,28 +164,28 @@ length-removed v (x ∷ xs) held =
 
 -- ---- groups change
 
-moved_here : (v group : ℕ) (xs : List Grouped) → IsSome (group_in xs v) → group_in (map (moved v group) xs) v ≡ Some group
+moved_here : (v group : ℕ) (xs : List Grouped) → IsSome (group_in xs v) → group_in (map (regrouped v group) xs) v ≡ Some group
 moved_here v group [] held = let bad : false ≡ true = held in cc
 moved_here v group (x ∷ xs) held =
-    elim (eqb x.page v) as (λ b. IsSome (cond b (Some x.group) (group_in xs v)) → cond b (Some (cond b group x.group)) (group_in (map (moved v group) xs) v) ≡ Some group) [
+    elim (eqb x.page v) as (λ b. IsSome (cond b (Some x.group) (group_in xs v)) → cond b (Some (cond b group x.group)) (group_in (map (regrouped v group) xs) v) ≡ Some group) [
       | true ↦ λ h. refl
       | false ↦ λ h. moved_here v group xs h
     ] held
 
-moved_there : (v group : ℕ) (xs : List Grouped) (q : ℕ) → q ≢ v → group_in (map (moved v group) xs) q ≡ group_in xs q
+moved_there : (v group : ℕ) (xs : List Grouped) (q : ℕ) → q ≢ v → group_in (map (regrouped v group) xs) q ≡ group_in xs q
 moved_there v group [] q other = refl
 moved_there v group (x ∷ xs) q other =
-    elim (eqb x.page q) as (λ b. eqb x.page q ≡ b → cond b (Some (cond (eqb x.page v) group x.group)) (group_in (map (moved v group) xs) q) ≡ cond b (Some x.group) (group_in xs q)) [
+    elim (eqb x.page q) as (λ b. eqb x.page q ≡ b → cond b (Some (cond (eqb x.page v) group x.group)) (group_in (map (regrouped v group) xs) q) ≡ cond b (Some x.group) (group_in xs q)) [
       | true ↦ λ t. ap (λ b. Some (cond b group x.group)) (ne_eqb x.page v (λ e. other (sym (eqb-true x.page q t) ∙ e)))
       | false ↦ λ t. moved_there v group xs q other
     ] refl
 
 -- a page that went to the newest group has age 0
-pub ages_used : (newest v : ℕ) (xs : List Grouped) → IsSome (group_in xs v) → ages_of newest (map (moved v newest) xs) ≡ finite.insert (ages_of newest xs) v 0
+pub ages_used : (newest v : ℕ) (xs : List Grouped) → IsSome (group_in xs v) → ages_by_group newest (map (regrouped v newest) xs) ≡ finite.insert (ages_by_group newest xs) v 0
 ages_used newest v xs held =
-    is_insert (ages_of newest xs) (ages_of newest (map (moved v newest) xs)) v 0
-    (get_by newest (map (moved v newest) xs) v (Some newest) (moved_here v newest xs held) ∙ ap (λ (n : ℕ). Some n) (turned_newest newest))
-    (λ q other. get_by newest (map (moved v newest) xs) q (group_in xs q) (moved_there v newest xs q other) ∙ sym (get-ages newest xs q))
+    is_insert (ages_by_group newest xs) (ages_by_group newest (map (regrouped v newest) xs)) v 0
+    (get_by newest (map (regrouped v newest) xs) v (Some newest) (moved_here v newest xs held) ∙ ap (λ (n : ℕ). Some n) (turned_newest newest))
+    (λ q other. get_by newest (map (regrouped v newest) xs) q (group_in xs q) (moved_there v newest xs q other) ∙ sym (get-ages newest xs q))
 
 abbrev retired_to : ℕ → ℕ → ℕ
 retired_to group g = cond (eqb g group) 7 g
@@ -200,7 +200,7 @@ retired_group group (x ∷ xs) v =
 
 -- the ring turned by one: each age is one more
 pub ages_older : (newest : ℕ) → newest < 7 → (xs : List Grouped) → ((v g : ℕ) → group_in xs v ≡ Some g → g ≤ 7)
-    → AgesBy older (ages_of newest xs) (ages_of (next_newest newest) (map (retired (next_newest newest)) xs))
+    → AgesBy older (ages_by_group newest xs) (ages_by_group (next_newest newest) (map (retired (next_newest newest)) xs))
 ages_older newest turning xs known v =
     get_by next (map (retired next) xs) v (option_map (retired_to next) (group_in xs v)) (retired_group next xs v)
     ∙ by (group_in xs v) (known v)

@@ -4,7 +4,7 @@ use Rattle.std.proofs.lemmas.Bool.{cases_lt, cases_eq, le-leb, lt-leb, leb-true,
 use Rattle.std.specs.Prelude.{find, MatchOption, is_some, option_map}
 use Rattle.mm_wset.specs.declared.trees.Grouped.{Grouped}
 use Rattle.mm_wset.specs.Ages.{GoesBefore}
-use Rattle.mm_wset.specs.GroupedPages.{IsSorted, group_in, age_in, is_from, has_group, IsFirstOf, NoneOf, IsBelow}
+use Rattle.mm_wset.specs.GroupedPages.{IsSorted, group_in, age_of_page, is_from, has_group, IsFirstOf, NoneOf, IsBelow}
 use Rattle.mm_wset.specs.Ring.{turned}
 use Rattle.mm_wset.proofs.PageLemmas.{sorted_middle, not_below, group_here, group_there}
 use Rattle.mm_wset.proofs.RingLemmas.{turned_back}
@@ -155,11 +155,11 @@ some_is (Some x) other = refl
 module _ (newest : ℕ) (xs : List Grouped) where
   -- no page has an age from `age` on and below `limit`
   abbrev pub NoneFrom : ℕ → ℕ → Type 0
-  NoneFrom limit age = (w b : ℕ) → age_in newest xs w ≡ Some b → b < limit → b < age
+  NoneFrom limit age = (w b : ℕ) → age_of_page newest xs w ≡ Some b → b < limit → b < age
 
 module _ (newest : ℕ) (turning : newest < 7) (xs : List Grouped) where
   -- the group of a page is that of its age
-  group_by_age : (w b : ℕ) → age_in newest xs w ≡ Some b → group_in xs w ≡ Some (turned newest b)
+  group_by_age : (w b : ℕ) → age_of_page newest xs w ≡ Some b → group_in xs w ≡ Some (turned newest b)
   group_by_age w b e = by (group_in xs w) e where
     by : (o : Option ℕ) → option_map (turned newest) o ≡ Some b → o ≡ Some (turned newest b)
     by None f = cc
@@ -167,7 +167,7 @@ module _ (newest : ℕ) (turning : newest < 7) (xs : List Grouped) where
         let age : turned newest g ≡ b = cc in
         ap (λ (n : ℕ). Some n) (sym (turned_back newest turning g) ∙ ap (turned newest) age)
 
-  age_by_group : (w g b : ℕ) → group_in xs w ≡ Some g → turned newest g ≡ b → age_in newest xs w ≡ Some b
+  age_by_group : (w g b : ℕ) → group_in xs w ≡ Some g → turned newest g ≡ b → age_of_page newest xs w ≡ Some b
   age_by_group w g b e is = ap (option_map (turned newest)) e ∙ ap (λ (n : ℕ). Some n) is
 
   pub none_from_lacking : (limit before age : ℕ) → before ≡ age + 1 → NoneFrom newest xs limit before → has_group (turned newest age) xs ≡ false → NoneFrom newest xs limit age
@@ -179,7 +179,7 @@ module _ (newest : ℕ) (turning : newest < 7) (xs : List Grouped) where
 
   -- the lowest page of the group of an age that none below `limit` exceeds
   pub oldest_is : (limit before age : ℕ) (r : Option Grouped) → IsSorted 0 xs → before ≡ age + 1 → before ≤ limit → NoneFrom newest xs limit before → r ≡ find (is_from 0 (turned newest age)) xs → is_some r ≡ true
-      → MatchOption r (NoneOf (age_in newest xs) (IsBelow limit)) (λ x. IsFirstOf (age_in newest xs) (IsBelow limit) x.page)
+      → MatchOption r (NoneOf (age_of_page newest xs) (IsBelow limit)) (λ x. IsFirstOf (age_of_page newest xs) (IsBelow limit) x.page)
   oldest_is limit before age None sorted step within none is some = cc
   oldest_is limit before age (Some x) sorted step within none is some =
       let lowest = found_lowest 0 (turned newest age) 0 xs x sorted (sym is) in
@@ -193,13 +193,13 @@ module _ (newest : ℕ) (turning : newest < 7) (xs : List Grouped) where
 
   module _ (v g a : ℕ) (aged : turned newest g ≡ a) where
     -- a page of the same age is of the same group
-    same_group : (w b : ℕ) → age_in newest xs w ≡ Some b → a ≡ b → group_in xs w ≡ Some g
+    same_group : (w b : ℕ) → age_of_page newest xs w ≡ Some b → a ≡ b → group_in xs w ≡ Some g
     same_group w b h same =
         group_by_age w b h ∙ ap (λ n. Some (turned newest n)) (sym same ∙ sym aged) ∙ ap (λ (n : ℕ). Some n) (turned_back newest turning g)
 
     -- the page after v is of the same age
     pub next_is : (r : Option Grouped) → IsSorted 0 xs → r ≡ find (is_from (v + 1) g) xs → is_some r ≡ true
-        → MatchOption r (NoneOf (age_in newest xs) (GoesBefore v a)) (λ x. IsFirstOf (age_in newest xs) (GoesBefore v a) x.page)
+        → MatchOption r (NoneOf (age_of_page newest xs) (GoesBefore v a)) (λ x. IsFirstOf (age_of_page newest xs) (GoesBefore v a) x.page)
     next_is None sorted is some = cc
     next_is (Some x) sorted is some =
         let lowest = found_lowest (v + 1) g 0 xs x sorted (sym is) in
@@ -214,15 +214,15 @@ module _ (newest : ℕ) (turning : newest < 7) (xs : List Grouped) where
         }
 
     -- or else it is younger
-    younger : find (is_from (v + 1) g) xs ≡ None → (w b : ℕ) → age_in newest xs w ≡ Some b → GoesBefore v a w b → b < a
+    younger : find (is_from (v + 1) g) xs ≡ None → (w b : ℕ) → age_of_page newest xs w ≡ Some b → GoesBefore v a w b → b < a
     younger e w b h goes = elim goes [
       | inl less ↦ less
       | inr after ↦ absurd (found_none (v + 1) g xs w e (same_group w b h after.0) (omega (arith, after.1)))
     ]
 
     pub next_below : (found r : Option Grouped) → found ≡ find (is_from (v + 1) g) xs → is_some found ≡ false
-        → MatchOption r (NoneOf (age_in newest xs) (IsBelow a)) (λ x. IsFirstOf (age_in newest xs) (IsBelow a) x.page)
-        → MatchOption r (NoneOf (age_in newest xs) (GoesBefore v a)) (λ x. IsFirstOf (age_in newest xs) (GoesBefore v a) x.page)
+        → MatchOption r (NoneOf (age_of_page newest xs) (IsBelow a)) (λ x. IsFirstOf (age_of_page newest xs) (IsBelow a) x.page)
+        → MatchOption r (NoneOf (age_of_page newest xs) (GoesBefore v a)) (λ x. IsFirstOf (age_of_page newest xs) (GoesBefore v a) x.page)
     next_below found None is not none = λ w b h goes. none w b h (younger (sym is ∙ not_some found not) w b h goes)
     next_below found (Some x) is not first = record {
       age = first.age;

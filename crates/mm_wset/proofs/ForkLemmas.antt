@@ -13,7 +13,7 @@ use Rattle.mm_wset.specs.declared.trees.Span.{Span}
 use Rattle.mm_wset.specs.GroupedPages.{IsSorted, group_in, remove_page, has_group}
 use Rattle.mm_wset.proofs.PageLemmas.{remove_middle}
 use Rattle.mm_wset.specs.Shape.{TreeOf, IsShaped, IsBalanced, DifferByAtMost}
-use Rattle.mm_wset.specs.Nodes.{number, kept_over, tree_of, pages_of, IsSpan, IsNode, IsTree, Alike, MayLean, Became}
+use Rattle.mm_wset.specs.Nodes.{number, kept_over, tree_of, pages_under, IsSpan, IsNode, IsTree, Alike, MayLean, Became}
 
 abbrev pub fork_of : TreeOf → Grouped → TreeOf → TreeOf
 fork_of l x u = record { pages = l.pages ++ x ∷ u.pages; height = max l.height u.height + 1 }
@@ -142,7 +142,7 @@ module _ (n : Node) (t l u : TreeOf) (is : IsNode n t) where
   pub may_lean : (d : Node) → d ≡ with_sides → DifferByAtMost 2 l.height u.height → length l.pages + length u.pages + 1 < 2 ^ 32 → MayLean d
   may_lean d e near few = let made : MayLean with_sides = record { near = near; known = is.known; few = few } in subst MayLean (sym e) made
 
-  module _ (d : Node) (e : d ≡ with_sides) (s : TreeOf) (r : Bool) (balanced : IsBalanced s (pages_of d) d.left.height d.right.height) (same : r ≡ false → IsSpan d.span s)
+  module _ (d : Node) (e : d ≡ with_sides) (s : TreeOf) (r : Bool) (balanced : IsBalanced s (pages_under d) d.left.height d.right.height) (same : r ≡ false → IsSpan d.span s)
       (pages : List Grouped) (are : pages ≡ l.pages ++ n.member ∷ u.pages) where
     settles : Settles l.height u.height s.height
     settles =
@@ -151,7 +151,7 @@ module _ (n : Node) (t l u : TreeOf) (is : IsNode n t) where
         subst P e made
 
     pages_are : s.pages ≡ pages
-    pages_are = balanced.is ∙ ap pages_of e ∙ sym are
+    pages_are = balanced.is ∙ ap pages_under e ∙ sym are
 
     as_before : r ≡ false → Alike t s
     as_before unset = alike n.span t s is.span (subst (λ (x : Node). IsSpan x.span s) e (same unset))

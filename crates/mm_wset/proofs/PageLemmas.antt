@@ -3,7 +3,7 @@ use Rattle.std.proofs.Common.{◌≡◌, ◌≢◌, ℕ, ◌+◌, ◌<◌, ◌�
 use Rattle.std.proofs.lemmas.Bool.{cases_lt, lt-ltb, le-ltb, eq-eqb, ne_eqb, or_parts}
 use Rattle.std.proofs.lemmas.List.{map-append}
 use Rattle.mm_wset.specs.declared.trees.Grouped.{Grouped}
-use Rattle.mm_wset.specs.GroupedPages.{IsSorted, group_in, add_page, remove_page, moved, retired, has_group}
+use Rattle.mm_wset.specs.GroupedPages.{IsSorted, group_in, add_page, remove_page, regrouped, retired, has_group}
 
 -- ---- order
 
@@ -130,45 +130,45 @@ length-remove-le v (x ∷ xs) =
 -- ---- one page went to a group
 
 module _ (v group : ℕ) where
-  stays : (x : Grouped) → x.page ≢ v → moved v group x ≡ x
+  stays : (x : Grouped) → x.page ≢ v → regrouped v group x ≡ x
   stays x other = ap (λ b. let y : Grouped = record { page = x.page; group = cond b group x.group } in y) (ne_eqb x.page v other)
 
   -- pages above are not that page
-  moved_none : (a : ℕ) (xs : List Grouped) → IsSorted a xs → v < a → map (moved v group) xs ≡ xs
+  moved_none : (a : ℕ) (xs : List Grouped) → IsSorted a xs → v < a → map (regrouped v group) xs ≡ xs
   moved_none a [] p h = refl
   moved_none a (x ∷ xs) p h =
-      ap (λ y. y ∷ map (moved v group) xs) (stays x (omega (arith, p.0, h)))
+      ap (λ y. y ∷ map (regrouped v group) xs) (stays x (omega (arith, p.0, h)))
       ∙ ap (λ rest. x ∷ rest) (moved_none (x.page + 1) xs p.1 (omega (arith, p.0, h)))
 
   -- nor are those below one that is not above it
-  moved_before : (a : ℕ) (xs : List Grouped) (m : Grouped) (ys : List Grouped) → IsSorted a (xs ++ m ∷ ys) → m.page ≤ v → map (moved v group) xs ≡ xs
+  moved_before : (a : ℕ) (xs : List Grouped) (m : Grouped) (ys : List Grouped) → IsSorted a (xs ++ m ∷ ys) → m.page ≤ v → map (regrouped v group) xs ≡ xs
   moved_before a [] m ys p h = refl
   moved_before a (x ∷ xs) m ys p h =
       let above = sorted_middle (x.page + 1) xs m ys p.1 in
-      ap (λ y. y ∷ map (moved v group) xs) (stays x (omega (arith, above.0, h)))
+      ap (λ y. y ∷ map (regrouped v group) xs) (stays x (omega (arith, above.0, h)))
       ∙ ap (λ rest. x ∷ rest) (moved_before (x.page + 1) xs m ys p.1 h)
 
-  pub moved_left : (a : ℕ) (xs : List Grouped) (m : Grouped) (ys : List Grouped) → IsSorted a (xs ++ m ∷ ys) → v < m.page → map (moved v group) (xs ++ m ∷ ys) ≡ map (moved v group) xs ++ m ∷ ys
+  pub moved_left : (a : ℕ) (xs : List Grouped) (m : Grouped) (ys : List Grouped) → IsSorted a (xs ++ m ∷ ys) → v < m.page → map (regrouped v group) (xs ++ m ∷ ys) ≡ map (regrouped v group) xs ++ m ∷ ys
   moved_left a xs m ys p h =
       let above = sorted_middle a xs m ys p in
-      map-append (moved v group) xs (m ∷ ys)
-      ∙ ap (λ y. map (moved v group) xs ++ y ∷ map (moved v group) ys) (stays m (omega arith))
-      ∙ ap (λ rest. map (moved v group) xs ++ m ∷ rest) (moved_none (m.page + 1) ys above.1 (omega arith))
+      map-append (regrouped v group) xs (m ∷ ys)
+      ∙ ap (λ y. map (regrouped v group) xs ++ y ∷ map (regrouped v group) ys) (stays m (omega arith))
+      ∙ ap (λ rest. map (regrouped v group) xs ++ m ∷ rest) (moved_none (m.page + 1) ys above.1 (omega arith))
 
-  pub moved_right : (a : ℕ) (xs : List Grouped) (m : Grouped) (ys : List Grouped) → IsSorted a (xs ++ m ∷ ys) → m.page < v → map (moved v group) (xs ++ m ∷ ys) ≡ xs ++ m ∷ map (moved v group) ys
+  pub moved_right : (a : ℕ) (xs : List Grouped) (m : Grouped) (ys : List Grouped) → IsSorted a (xs ++ m ∷ ys) → m.page < v → map (regrouped v group) (xs ++ m ∷ ys) ≡ xs ++ m ∷ map (regrouped v group) ys
   moved_right a xs m ys p h =
-      map-append (moved v group) xs (m ∷ ys)
-      ∙ ap (λ front. front ++ moved v group m ∷ map (moved v group) ys) (moved_before a xs m ys p (omega arith))
-      ∙ ap (λ y. xs ++ y ∷ map (moved v group) ys) (stays m (omega arith))
+      map-append (regrouped v group) xs (m ∷ ys)
+      ∙ ap (λ front. front ++ regrouped v group m ∷ map (regrouped v group) ys) (moved_before a xs m ys p (omega arith))
+      ∙ ap (λ y. xs ++ y ∷ map (regrouped v group) ys) (stays m (omega arith))
 
-  pub moved_middle : (a : ℕ) (xs : List Grouped) (m n : Grouped) (ys : List Grouped) → IsSorted a (xs ++ m ∷ ys) → m.page ≡ v → n.page ≡ m.page → n.group ≡ group → map (moved v group) (xs ++ m ∷ ys) ≡ xs ++ n ∷ ys
+  pub moved_middle : (a : ℕ) (xs : List Grouped) (m n : Grouped) (ys : List Grouped) → IsSorted a (xs ++ m ∷ ys) → m.page ≡ v → n.page ≡ m.page → n.group ≡ group → map (regrouped v group) (xs ++ m ∷ ys) ≡ xs ++ n ∷ ys
   moved_middle a xs m n ys p e page is =
       let above = sorted_middle a xs m ys p in
       let made : ℕ → ℕ → Grouped = λ q b. record { page = q; group = b } in
-      let new : moved v group m ≡ n = ap (λ b. made m.page (cond b group m.group)) (eq-eqb m.page v e) ∙ ap (λ q. made q group) (sym page) ∙ ap (made n.page) (sym is) in
-      map-append (moved v group) xs (m ∷ ys)
-      ∙ ap (λ front. front ++ moved v group m ∷ map (moved v group) ys) (moved_before a xs m ys p (omega arith))
-      ∙ ap (λ y. xs ++ y ∷ map (moved v group) ys) new
+      let new : regrouped v group m ≡ n = ap (λ b. made m.page (cond b group m.group)) (eq-eqb m.page v e) ∙ ap (λ q. made q group) (sym page) ∙ ap (made n.page) (sym is) in
+      map-append (regrouped v group) xs (m ∷ ys)
+      ∙ ap (λ front. front ++ regrouped v group m ∷ map (regrouped v group) ys) (moved_before a xs m ys p (omega arith))
+      ∙ ap (λ y. xs ++ y ∷ map (regrouped v group) ys) new
       ∙ ap (λ rest. xs ++ n ∷ rest) (moved_none (m.page + 1) ys above.1 (omega arith))
 
 -- ---- a group joins the last one

@@ -13,16 +13,16 @@ use Rattle.slab.specs.Slab as slabs
 use Rattle.slab.specs.Slab.{Slab, slab_len, Updates}
 use Rattle.mm_wset.specs.declared.trees.Grouped.{Grouped}
 use Rattle.mm_wset.specs.Ages.{WorkingSetOf, EachAtOnePlace, AgesBy, older}
-use Rattle.mm_wset.specs.GroupedPages.{IsSorted, group_in, age_in, add_page, remove_page, moved, retired}
+use Rattle.mm_wset.specs.GroupedPages.{IsSorted, group_in, age_of_page, add_page, remove_page, regrouped, retired}
 use Rattle.mm_wset.specs.Ring.{next_newest}
-use Rattle.mm_wset.specs.Held.{ages_of, places_of, room_of, maps, last_round, KnowsUses, IsWorkingSet}
+use Rattle.mm_wset.specs.Held.{ages_by_group, places_of, room_of, maps, last_round, KnowsUses, IsWorkingSet}
 use Rattle.mm_wset.proofs.PageLemmas.{length-add}
 use Rattle.mm_wset.proofs.AgeLemmas.{get-ages, ages_none, no_group, some_group, known_group, ages_add, sorted_add, ages_removed, sorted_removed, length-removed, ages_used, ages_older, sorted_map}
 use Rattle.mm_wset.proofs.RingLemmas.{turned_newest, next_turns}
 use Rattle.mm_wset.proofs.MapLemmas.{kept, each_add, each_remove, each_used, each_older, uses_add, uses_remove, uses_used, uses_older}
 
 abbrev pub set_of : ℕ → ℕ → Bool → ℕ → List Grouped → Slab ℕ → WorkingSetOf
-set_of min max reserved newest pages places = record { min = min; max = max; reserved = reserved; ages = ages_of newest pages; places = places_of places }
+set_of min max reserved newest pages places = record { min = min; max = max; reserved = reserved; ages = ages_by_group newest pages; places = places_of places }
 
 abbrev made : ℕ → ℕ → Bool → FinMap nat_cmp ℕ → FinMap nat_cmp ℕ → WorkingSetOf
 made min max reserved ages places = record { min = min; max = max; reserved = reserved; ages = ages; places = places }
@@ -70,7 +70,7 @@ less_one n k m e f = omega (arith, e, f)
 -- ---- a page is taken in
 
 module _ (most : ℕ) (old new : Slab ℕ) (newest : ℕ) (pages : List Grouped) (spare spare_room rounds : ℕ) (used_in : List ℕ) (place v : ℕ)
-    (is : IsWorkingSet most old newest pages spare spare_room rounds used_in) (vacant : slabs.get old place ≡ None) (updates : Updates old new place (Some v)) (absent : finite.get (ages_of newest pages) v ≡ None) where
+    (is : IsWorkingSet most old newest pages spare spare_room rounds used_in) (vacant : slabs.get old place ≡ None) (updates : Updates old new place (Some v)) (absent : finite.get (ages_by_group newest pages) v ≡ None) where
   abbrev fresh_page : Grouped
   fresh_page = record { page = v; group = newest }
 
@@ -80,8 +80,8 @@ module _ (most : ℕ) (old new : Slab ℕ) (newest : ℕ) (pages : List Grouped)
   pub insert_vacant : finite.get (places_of old) place ≡ None
   insert_vacant = get-places old place ∙ vacant
 
-  ages_is : ages_of newest (add_page fresh_page pages) ≡ finite.insert (ages_of newest pages) v 0
-  ages_is = ages_add newest fresh_page pages not_there ∙ ap (finite.insert (ages_of newest pages) v) (turned_newest newest)
+  ages_is : ages_by_group newest (add_page fresh_page pages) ≡ finite.insert (ages_by_group newest pages) v 0
+  ages_is = ages_add newest fresh_page pages not_there ∙ ap (finite.insert (ages_by_group newest pages) v) (turned_newest newest)
 
   places_is : places_of new ≡ finite.insert (places_of old) place v
   places_is = places_put old new place v updates
@@ -106,14 +106,14 @@ module _ (most : ℕ) (old new : Slab ℕ) (newest : ℕ) (pages : List Grouped)
         ];
         turning = is.turning;
         sorted = sorted_add fresh_page 0 pages is.sorted (omega arith) not_there;
-        each = subst (λ a. P a (places_of new)) (sym ages_is) (subst (P (finite.insert (ages_of newest pages) v 0)) (sym places_is) (each_add (ages_of newest pages) (places_of old) is.each place v absent insert_vacant));
-        uses = subst (λ a. Q a (places_of new)) (sym ages_is) (subst (Q (finite.insert (ages_of newest pages) v 0)) (sym places_is) (uses_add (ages_of newest pages) (places_of old) rounds used_in is.uses place v stamp within is_stamp));
+        each = subst (λ a. P a (places_of new)) (sym ages_is) (subst (P (finite.insert (ages_by_group newest pages) v 0)) (sym places_is) (each_add (ages_by_group newest pages) (places_of old) is.each place v absent insert_vacant));
+        uses = subst (λ a. Q a (places_of new)) (sym ages_is) (subst (Q (finite.insert (ages_by_group newest pages) v 0)) (sym places_is) (uses_add (ages_by_group newest pages) (places_of old) rounds used_in is.uses place v stamp within is_stamp));
       })
 
   pub insert_view : (min max : ℕ) (reserved : Bool) (after : List Grouped) → after ≡ add_page fresh_page pages →
-      set_of min max reserved newest after new ≡ record (set_of min max reserved newest pages old) { ages = finite.insert (ages_of newest pages) v 0; places = finite.insert (places_of old) place v }
+      set_of min max reserved newest after new ≡ record (set_of min max reserved newest pages old) { ages = finite.insert (ages_by_group newest pages) v 0; places = finite.insert (places_of old) place v }
   insert_view min max reserved after is_after =
-      ap (λ a. made min max reserved a (places_of new)) (ap (ages_of newest) is_after ∙ ages_is) ∙ ap (made min max reserved (finite.insert (ages_of newest pages) v 0)) places_is
+      ap (λ a. made min max reserved a (places_of new)) (ap (ages_by_group newest) is_after ∙ ages_is) ∙ ap (made min max reserved (finite.insert (ages_by_group newest pages) v 0)) places_is
 
 -- ---- a page goes
 
@@ -125,7 +125,7 @@ module _ (most : ℕ) (old new : Slab ℕ) (newest : ℕ) (pages : List Grouped)
   pub remove_held : IsSome (group_in pages v)
   remove_held = some_group newest pages v (is.each.aged place v remove_page_at)
 
-  ages_left : ages_of newest (remove_page v pages) ≡ finite.remove (ages_of newest pages) v
+  ages_left : ages_by_group newest (remove_page v pages) ≡ finite.remove (ages_by_group newest pages) v
   ages_left = ages_removed newest v pages is.sorted
 
   places_left : places_of new ≡ finite.remove (places_of old) place
@@ -147,30 +147,30 @@ module _ (most : ℕ) (old new : Slab ℕ) (newest : ℕ) (pages : List Grouped)
         in_range = λ p w e. omega (arith, capacity, is.in_range p w (kept (places_of old) place p w (ap (λ (m : FinMap nat_cmp ℕ). finite.get m p) (sym places_left) ∙ e)).1);
         turning = is.turning;
         sorted = sorted_removed v 0 pages is.sorted;
-        each = subst (λ a. P a (places_of new)) (sym ages_left) (subst (P (finite.remove (ages_of newest pages) v)) (sym places_left) (each_remove (ages_of newest pages) (places_of old) is.each place v remove_page_at));
-        uses = subst (λ a. Q a (places_of new)) (sym ages_left) (subst (Q (finite.remove (ages_of newest pages) v)) (sym places_left) (uses_remove (ages_of newest pages) (places_of old) rounds used_in is.uses place v is.each remove_page_at));
+        each = subst (λ a. P a (places_of new)) (sym ages_left) (subst (P (finite.remove (ages_by_group newest pages) v)) (sym places_left) (each_remove (ages_by_group newest pages) (places_of old) is.each place v remove_page_at));
+        uses = subst (λ a. Q a (places_of new)) (sym ages_left) (subst (Q (finite.remove (ages_by_group newest pages) v)) (sym places_left) (uses_remove (ages_by_group newest pages) (places_of old) rounds used_in is.uses place v is.each remove_page_at));
       })
 
   pub remove_view : (min max : ℕ) (reserved : Bool) (after : List Grouped) → after ≡ remove_page v pages →
-      set_of min max reserved newest after new ≡ record (set_of min max reserved newest pages old) { ages = finite.remove (ages_of newest pages) v; places = finite.remove (places_of old) place }
+      set_of min max reserved newest after new ≡ record (set_of min max reserved newest pages old) { ages = finite.remove (ages_by_group newest pages) v; places = finite.remove (places_of old) place }
   remove_view min max reserved after is_after =
-      ap (λ a. made min max reserved a (places_of new)) (ap (ages_of newest) is_after ∙ ages_left) ∙ ap (made min max reserved (finite.remove (ages_of newest pages) v)) places_left
+      ap (λ a. made min max reserved a (places_of new)) (ap (ages_by_group newest) is_after ∙ ages_left) ∙ ap (made min max reserved (finite.remove (ages_by_group newest pages) v)) places_left
 
 -- ---- a page is used
 
 module _ (most : ℕ) (places : Slab ℕ) (newest : ℕ) (pages : List Grouped) (spare spare_room rounds : ℕ) (used_in : List ℕ) (place v : ℕ)
     (is : IsWorkingSet most places newest pages spare spare_room rounds used_in) (there : finite.get (places_of places) place ≡ Some v) where
-  ages_now : ages_of newest (map (moved v newest) pages) ≡ finite.insert (ages_of newest pages) v 0
+  ages_now : ages_by_group newest (map (regrouped v newest) pages) ≡ finite.insert (ages_by_group newest pages) v 0
   ages_now = ages_used newest v pages (some_group newest pages v (is.each.aged place v there))
 
-  pub touch_keeps : (after : List Grouped) (stamp : ℕ) → after ≡ map (moved v newest) pages → stamp ≡ min rounds (last_round - 1) → IsWorkingSet most places newest after spare spare_room rounds (set used_in place stamp)
+  pub touch_keeps : (after : List Grouped) (stamp : ℕ) → after ≡ map (regrouped v newest) pages → stamp ≡ min rounds (last_round - 1) → IsWorkingSet most places newest after spare spare_room rounds (set used_in place stamp)
   touch_keeps after stamp is_after is_stamp =
       let within : place < length used_in = omega (arith, is.in_range place v there, is.enough) in
       let P : FinMap nat_cmp ℕ → Type 0 = λ a. EachAtOnePlace (maps a (places_of places)) in
       let Q : FinMap nat_cmp ℕ → Type 0 = λ a. KnowsUses a (places_of places) rounds (set used_in place stamp) in
       subst (λ (a : List Grouped). IsWorkingSet most places newest a spare spare_room rounds (set used_in place stamp)) (sym is_after) (record {
         counted = is.counted;
-        as_many = length-map pages (moved v newest) ∙ is.as_many;
+        as_many = length-map pages (regrouped v newest) ∙ is.as_many;
         stocked = is.stocked;
         room_for_spare = is.room_for_spare;
         room = is.room;
@@ -178,26 +178,26 @@ module _ (most : ℕ) (places : Slab ℕ) (newest : ℕ) (pages : List Grouped) 
         enough = omega (arith, is.enough, length-set used_in place stamp);
         in_range = is.in_range;
         turning = is.turning;
-        sorted = sorted_map (moved v newest) 0 pages (λ x. refl) is.sorted;
-        each = subst P (sym ages_now) (each_used (ages_of newest pages) (places_of places) is.each place v there);
-        uses = subst Q (sym ages_now) (uses_used (ages_of newest pages) (places_of places) rounds used_in is.uses place v stamp within there is_stamp);
+        sorted = sorted_map (regrouped v newest) 0 pages (λ x. refl) is.sorted;
+        each = subst P (sym ages_now) (each_used (ages_by_group newest pages) (places_of places) is.each place v there);
+        uses = subst Q (sym ages_now) (uses_used (ages_by_group newest pages) (places_of places) rounds used_in is.uses place v stamp within there is_stamp);
       })
 
-  pub touch_view : (min max : ℕ) (reserved : Bool) (after : List Grouped) → after ≡ map (moved v newest) pages → set_of min max reserved newest after places ≡ record (set_of min max reserved newest pages places) { ages = finite.insert (ages_of newest pages) v 0 }
-  touch_view min max reserved after is_after = ap (λ a. made min max reserved a (places_of places)) (ap (ages_of newest) is_after ∙ ages_now)
+  pub touch_view : (min max : ℕ) (reserved : Bool) (after : List Grouped) → after ≡ map (regrouped v newest) pages → set_of min max reserved newest after places ≡ record (set_of min max reserved newest pages places) { ages = finite.insert (ages_by_group newest pages) v 0 }
+  touch_view min max reserved after is_after = ap (λ a. made min max reserved a (places_of places)) (ap (ages_by_group newest) is_after ∙ ages_now)
 
   -- a page that was used in this round has age 0 already
-  pub used_already : (min max : ℕ) (reserved : Bool) (read : ℕ) → read ≡ get_or used_in place read → read ≡ rounds → set_of min max reserved newest pages places ≡ record (set_of min max reserved newest pages places) { ages = finite.insert (ages_of newest pages) v 0 }
+  pub used_already : (min max : ℕ) (reserved : Bool) (read : ℕ) → read ≡ get_or used_in place read → read ≡ rounds → set_of min max reserved newest pages places ≡ record (set_of min max reserved newest pages places) { ages = finite.insert (ages_by_group newest pages) v 0 }
   used_already min max reserved read is_read now =
       let within : place < length used_in = omega (arith, is.in_range place v there, is.enough) in
       let same_round : get_or used_in place 0 ≡ rounds = get_or_default used_in place 0 read within ∙ sym is_read ∙ now in
-      ap (λ a. made min max reserved a (places_of places)) (is_insert (ages_of newest pages) (ages_of newest pages) v 0 (is.uses.fresh place v there same_round) (λ q other. refl))
+      ap (λ a. made min max reserved a (places_of places)) (is_insert (ages_by_group newest pages) (ages_by_group newest pages) v 0 (is.uses.fresh place v there same_round) (λ q other. refl))
 
 -- ---- all pages become older
 
 module _ (most : ℕ) (places : Slab ℕ) (newest : ℕ) (pages : List Grouped) (spare spare_room rounds : ℕ) (used_in : List ℕ)
     (is : IsWorkingSet most places newest pages spare spare_room rounds used_in) where
-  pub ages_later : AgesBy older (ages_of newest pages) (ages_of (next_newest newest) (map (retired (next_newest newest)) pages))
+  pub ages_later : AgesBy older (ages_by_group newest pages) (ages_by_group (next_newest newest) (map (retired (next_newest newest)) pages))
   ages_later = ages_older newest is.turning pages (known_group newest is.turning pages is.each.young)
 
   pub older_keeps : (then : ℕ) (after : List Grouped) (next : ℕ) → then ≡ next_newest newest → after ≡ map (retired then) pages → next ≡ min (rounds + 1) last_round
@@ -218,15 +218,15 @@ module _ (most : ℕ) (places : Slab ℕ) (newest : ℕ) (pages : List Grouped) 
         in_range = is.in_range;
         turning = next_turns newest is.turning;
         sorted = sorted_map (retired group) 0 pages (λ x. refl) is.sorted;
-        each = each_older (ages_of newest pages) (places_of places) is.each (ages_of group later) ages_later;
-        uses = uses_older (ages_of newest pages) (places_of places) rounds used_in is.uses (ages_of group later) next is_next;
+        each = each_older (ages_by_group newest pages) (places_of places) is.each (ages_by_group group later) ages_later;
+        uses = uses_older (ages_by_group newest pages) (places_of places) rounds used_in is.uses (ages_by_group group later) next is_next;
       }))
 
-  pub older_ages : (then : ℕ) (after : List Grouped) → then ≡ next_newest newest → after ≡ map (retired then) pages → AgesBy older (ages_of newest pages) (ages_of then after)
+  pub older_ages : (then : ℕ) (after : List Grouped) → then ≡ next_newest newest → after ≡ map (retired then) pages → AgesBy older (ages_by_group newest pages) (ages_by_group then after)
   older_ages then after is_then is_after =
       let later_is : after ≡ map (retired (next_newest newest)) pages = is_after ∙ ap (λ n. map (retired n) pages) is_then in
-      subst (λ n. AgesBy older (ages_of newest pages) (ages_of n after)) (sym is_then)
-      (subst (λ xs. AgesBy older (ages_of newest pages) (ages_of (next_newest newest) xs)) (sym later_is) ages_later)
+      subst (λ n. AgesBy older (ages_by_group newest pages) (ages_by_group n after)) (sym is_then)
+      (subst (λ xs. AgesBy older (ages_by_group newest pages) (ages_by_group (next_newest newest) xs)) (sym later_is) ages_later)
 
 -- ---- a set without a page
 
@@ -240,8 +240,8 @@ pub empty_keeps : (most spare spare_room rounds n newest : ℕ) (places : Slab �
     places.capacity < 2 ^ 32 → used_in ≡ replicate n 0 → places.capacity ≤ n → newest < 7 → IsWorkingSet most places newest pages spare spare_room rounds used_in
 empty_keeps most spare spare_room rounds n newest places pages used_in empty bare stocked room_for_spare room fits zeros enough turning =
     let none : (p v : ℕ) → finite.get (places_of places) p ≡ Some v → ⊥ = λ p v e. (let bad : None ≡ Some v = sym (get-places places p ∙ none_at places p empty) ∙ e in cc) in
-    let no_age : (v age : ℕ) → finite.get (ages_of newest pages) v ≡ Some age → ⊥ =
-    λ v age e. (let bad : None ≡ Some age = sym (get-ages newest pages v ∙ ap (λ (xs : List Grouped). age_in newest xs v) (nil_from_length pages bare)) ∙ e in cc) in
+    let no_age : (v age : ℕ) → finite.get (ages_by_group newest pages) v ≡ Some age → ⊥ =
+    λ v age e. (let bad : None ≡ Some age = sym (get-ages newest pages v ∙ ap (λ (xs : List Grouped). age_of_page newest xs v) (nil_from_length pages bare)) ∙ e in cc) in
     let zero_at : (p : ℕ) → get_or used_in p 0 ≡ 0 = λ p. ap (λ (xs : List ℕ). get_or xs p 0) zeros ∙ zeros_at n p in
     record {
       counted = ap finite.len (no_places places empty) ∙ finite.len-empty nat_cmp ℕ ∙ sym (no_slots places empty);
@@ -270,7 +270,7 @@ empty_keeps most spare spare_room rounds n newest places pages used_in empty bar
 -- a set without a page, seen by its maps
 pub empty_view : (min max : ℕ) (reserved : Bool) (newest : ℕ) (pages : List Grouped) (places : Slab ℕ) → length pages ≡ 0 → places.slots ≡ [] → set_of min max reserved newest pages places ≡ record { min = min; max = max; reserved = reserved; ages = finite.empty; places = finite.empty }
 empty_view min max reserved newest pages places bare empty =
-    ap (λ a. made min max reserved a (places_of places)) (ap (ages_of newest) (nil_from_length pages bare) ∙ ages_none newest) ∙ ap (made min max reserved finite.empty) (no_places places empty)
+    ap (λ a. made min max reserved a (places_of places)) (ap (ages_by_group newest) (nil_from_length pages bare) ∙ ages_none newest) ∙ ap (made min max reserved finite.empty) (no_places places empty)
 
 -- where no place is in use the places are the empty map
 pub none_in_use : (most : ℕ) (places : Slab ℕ) (newest : ℕ) (pages : List Grouped) (spare spare_room rounds : ℕ) (used_in : List ℕ) → IsWorkingSet most places newest pages spare spare_room rounds used_in → length pages ≡ 0 → places_of places ≡ finite.empty
@@ -278,13 +278,13 @@ none_in_use most places newest pages spare spare_room rounds used_in is bare = s
   nothing : (p : ℕ) (o : Option ℕ) → finite.get (places_of places) p ≡ o → finite.get (places_of places) p ≡ None
   nothing p None e = e
   nothing p (Some v) e =
-      let held : IsSome (finite.get (ages_of newest pages) v) = is.each.aged p v e in
-      let bad : false ≡ true = ap is_some (sym (get-ages newest pages v ∙ ap (λ (xs : List Grouped). age_in newest xs v) (nil_from_length pages bare))) ∙ held in
+      let held : IsSome (finite.get (ages_by_group newest pages) v) = is.each.aged p v e in
+      let bad : false ≡ true = ap is_some (sym (get-ages newest pages v ∙ ap (λ (xs : List Grouped). age_of_page newest xs v) (nil_from_length pages bare))) ∙ held in
       cc
 
 -- other places that show the same, and room taken or given back
 pub same_places : (min max : ℕ) (reserved now : Bool) (newest : ℕ) (pages : List Grouped) (old new : Slab ℕ) → places_of new ≡ places_of old → set_of min max now newest pages new ≡ record (set_of min max reserved newest pages old) { reserved = now }
-same_places min max reserved now newest pages old new e = ap (made min max now (ages_of newest pages)) e
+same_places min max reserved now newest pages old new e = ap (made min max now (ages_by_group newest pages)) e
 
 -- a set without a page has none in its tree
 pub no_pages : (most : ℕ) (places : Slab ℕ) (newest : ℕ) (pages : List Grouped) (spare spare_room rounds : ℕ) (used_in : List ℕ) → IsWorkingSet most places newest pages spare spare_room rounds used_in → finite.len (places_of places) ≡ 0 → length pages ≡ 0

@@ -52,12 +52,12 @@ GoesAfter ages None w b = Unit {0}
 GoesAfter ages (Some v) w b = (a : ℕ) → finite.get ages v ≡ Some a → GoesBefore v a w b
 
 -- page v is the first of those that follow
-pub record IsOldest (ages : FinMap nat_cmp ℕ) (after : Option ℕ) (v : ℕ) : Type 0 where
+pub record IsOldestInSet (ages : FinMap nat_cmp ℕ) (after : Option ℕ) (v : ℕ) : Type 0 where
   pub age : ℕ
   pub held : finite.get ages v ≡ Some age
   pub follows : GoesAfter ages after v age
   pub first : (w b : ℕ) → finite.get ages w ≡ Some b → GoesAfter ages after w b → (w ≡ v) ⊎
       GoesBefore v age w b
 
-abbrev pub NoneFollows : FinMap nat_cmp ℕ → Option ℕ → Type 0
-NoneFollows ages after = (w b : ℕ) → finite.get ages w ≡ Some b → GoesAfter ages after w b → ⊥
+abbrev pub NoneFollowsInSet : FinMap nat_cmp ℕ → Option ℕ → Type 0
+NoneFollowsInSet ages after = (w b : ℕ) → finite.get ages w ≡ Some b → GoesAfter ages after w b → ⊥

@@ -17,8 +17,8 @@ group_in [] v = None
 group_in (x ∷ xs) v = let later = group_in xs v in if x.page == v then Some x.group else later
 
 -- its age, if it is one of them
-abbrev pub age_in : ℕ → List Grouped → ℕ → Option ℕ
-age_in newest xs v = option_map (turned newest) (group_in xs v)
+abbrev pub age_of_page : ℕ → List Grouped → ℕ → Option ℕ
+age_of_page newest xs v = option_map (turned newest) (group_in xs v)
 
 -- the pages with one more, in order
 abbrev pub add_page : Grouped → List Grouped → List Grouped
@@ -32,8 +32,8 @@ remove_page v [] = []
 remove_page v (x ∷ xs) = let later = remove_page v xs in if x.page == v then xs else x ∷ later
 
 -- what stands for a page after page v went to a group
-abbrev pub moved : ℕ → ℕ → Grouped → Grouped
-moved v group x = record { page = x.page; group = if x.page == v then group else x.group }
+abbrev pub regrouped : ℕ → ℕ → Grouped → Grouped
+regrouped v group x = record { page = x.page; group = if x.page == v then group else x.group }
 
 -- what stands for a page after those of a group joined the last one
 abbrev pub retired : ℕ → Grouped → Grouped

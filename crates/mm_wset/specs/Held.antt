@@ -14,8 +14,8 @@ abbrev pub entry_of : ℕ → Grouped → ℕ × ℕ
 entry_of newest x = (x.page, turned newest x.group)
 
 -- from each page its age, which its group has
-unfoldable pub ages_of : ℕ → List Grouped → FinMap nat_cmp ℕ
-ages_of newest pages = finite.from_entries (map (entry_of newest) pages)
+unfoldable pub ages_by_group : ℕ → List Grouped → FinMap nat_cmp ℕ
+ages_by_group newest pages = finite.from_entries (map (entry_of newest) pages)
 
 -- from each place in use its page
 abbrev pub places_of : Slab ℕ → FinMap nat_cmp ℕ
@@ -53,5 +53,5 @@ pub record IsWorkingSet (most : ℕ) (places : Slab ℕ) (newest : ℕ) (pages :
   pub in_range : (p v : ℕ) → finite.get (places_of places) p ≡ Some v → p < places.capacity
   pub turning : newest < 7
   pub sorted : IsSorted 0 pages
-  pub each : EachAtOnePlace (maps (ages_of newest pages) (places_of places))
-  pub uses : KnowsUses (ages_of newest pages) (places_of places) rounds used_in
+  pub each : EachAtOnePlace (maps (ages_by_group newest pages) (places_of places))
+  pub uses : KnowsUses (ages_by_group newest pages) (places_of places) rounds used_in

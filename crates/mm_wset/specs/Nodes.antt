@@ -38,11 +38,11 @@ pub record IsNode (n : Node) (t : TreeOf) : Type 0 where
   pub span : IsSpan n.span t
 
 -- the pages of a node and of its two sides
-abbrev pub pages_of : Node → List Grouped
-pages_of n = n.left.pages ++ n.member ∷ n.right.pages
+abbrev pub pages_under : Node → List Grouped
+pages_under n = n.left.pages ++ n.member ∷ n.right.pages
 
 abbrev pub tree_at : Node → TreeOf
-tree_at n = record { pages = pages_of n; height = n.span.height }
+tree_at n = record { pages = pages_under n; height = n.span.height }
 
 -- a node one of whose sides may be two levels higher than the other; what it keeps of them may
 -- be out of date

@@ -1,7 +1,7 @@
 ghost use Rattle.std.specs.Prelude.{◌≡◌, ◌==◌, ◌+◌, ◌-◌, ◌^◌, ◌<◌, ◌≤◌, ℕ, true, false, min, length, Some, None, IfOk, OnOk, OnErr, MatchOption, IsSome, is_some, option_map, vec_len, vec_capacity};
 ghost use Rattle.std.specs.Option.{ForSome};
 ghost use Rattle.std.specs.FinMap as finite;
-ghost use Rattle.mm_wset.specs.Ages.{EachAtOnePlace, AgesBy, older, IsOldest, NoneFollows};
+ghost use Rattle.mm_wset.specs.Ages.{EachAtOnePlace, AgesBy, older, IsOldestInSet, NoneFollowsInSet};
 ghost use Rattle.mm_wset.specs.InOrder.{IsNextFrom};
 ghost use Rattle.mm_wset.specs.GroupedPages.{IsSorted, group_in, add_page, remove_page};
 ghost use Rattle.mm_wset.specs.Held.{last_round};
@@ -40,13 +40,13 @@ pub struct WorkingSet {
 impl Model for WorkingSet {
     ghost use Rattle.std.specs.Prelude.{vec_len, vec_capacity};
     ghost use Rattle.mm_wset.specs.Ages.{WorkingSetOf, working_set_code};
-    ghost use Rattle.mm_wset.specs.Held.{ages_of, places_of, room_of, IsWorkingSet};
+    ghost use Rattle.mm_wset.specs.Held.{ages_by_group, places_of, room_of, IsWorkingSet};
 
     ghost Value = { WorkingSetOf };
 
     ghost coded = { working_set_code };
 
-    ghost view = { λ s. record { min = s.min; max = s.max; reserved = s.is_reserved; ages = ages_of s.newest s.pages.pages; places = places_of s.places } };
+    ghost view = { λ s. record { min = s.min; max = s.max; reserved = s.is_reserved; ages = ages_by_group s.newest s.pages.pages; places = places_of s.places } };
 
     ghost invariant = { λ s. IsWorkingSet (room_of s.is_reserved s.max) s.places s.newest s.pages.pages (vec_len s.stock) (vec_capacity s.stock) s.rounds s.used_in.items };
 }
@@ -253,8 +253,8 @@ impl WorkingSet {
     /// page of the set, the one that goes next after it. `None` comes exactly where there is none.
     pub fn oldest(&self, after: Option<Vpn>) -> Option<Vpn>
         requires { ForSome after (λ v. IsSome (finite.get self.now.ages v.0)) }
-        ensures { MatchOption result (NoneFollows self.now.ages (option_map (λ w. w.0) after))
-            (λ v. IsOldest self.now.ages (option_map (λ w. w.0) after) v.0) }
+        ensures { MatchOption result (NoneFollowsInSet self.now.ages (option_map (λ w. w.0) after))
+            (λ v. IsOldestInSet self.now.ages (option_map (λ w. w.0) after) v.0) }
     {
         let found = match after {
             None => self.pages.oldest_below(self.newest, AGES),

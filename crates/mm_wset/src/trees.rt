@@ -2,11 +2,11 @@ ghost use Rattle.std.specs.Prelude.{◌≡◌, ◌==◌, ◌+◌, ◌-◌, ◌^�
 ghost use Rattle.std.specs.Int.{bit_at};
 ghost use Rattle.std.specs.Option.{ForSome};
 ghost use Rattle.mm_wset.specs.Ages.{GoesBefore};
-ghost use Rattle.mm_wset.specs.GroupedPages.{IsSorted, group_in, age_in, add_page, remove_page, moved, retired, is_from, has_group, IsFirstOf, NoneOf, IsBelow};
+ghost use Rattle.mm_wset.specs.GroupedPages.{IsSorted, group_in, age_of_page, add_page, remove_page, regrouped, retired, is_from, has_group, IsFirstOf, NoneOf, IsBelow};
 ghost use Rattle.mm_wset.specs.Ring.{turned};
 ghost use Rattle.mm_wset.specs.InOrder.{IsNextFrom};
 ghost use Rattle.mm_wset.specs.Shape.{IsShaped, IsFork, IsTurned, IsBalanced, DifferByAtMost};
-ghost use Rattle.mm_wset.specs.Nodes.{number, tree_of, tree_at, pages_of, IsTree, Became, MayLean, kept_over, IsSpan, IsNode};
+ghost use Rattle.mm_wset.specs.Nodes.{number, tree_of, tree_at, pages_under, IsTree, Became, MayLean, kept_over, IsSpan, IsNode};
 
 use mm_types::Vpn;
 use std::marker::Model;
@@ -219,7 +219,7 @@ impl Tree {
     pub fn regroup(&mut self, page: u32, group: u8)
         requires sorted { IsSorted 0 self.old.pages }
         requires known { group ≤ 7 }
-        ensures pages { self.new.pages ≡ map (moved page group) self.old.pages }
+        ensures pages { self.new.pages ≡ map (regrouped page group) self.old.pages }
         ensures height { self.new.height ≡ self.old.height }
     {
         let Some(node) = &mut self.root else { return };
@@ -323,8 +323,8 @@ impl Tree {
         requires sorted { IsSorted 0 self.now.pages }
         requires turning { newest < 7 }
         requires young { limit ≤ 8 }
-        ensures { MatchOption result (NoneOf (age_in newest self.now.pages) (IsBelow limit))
-            (λ x. IsFirstOf (age_in newest self.now.pages) (IsBelow limit) x.page) }
+        ensures { MatchOption result (NoneOf (age_of_page newest self.now.pages) (IsBelow limit))
+            (λ x. IsFirstOf (age_of_page newest self.now.pages) (IsBelow limit) x.page) }
     {
         let span = self.span();
         let mut age = limit;
@@ -344,9 +344,9 @@ impl Tree {
         requires turning { newest < 7 }
         requires held { IsSome (group_in self.now.pages page) }
         requires known { (g : ℕ) → group_in self.now.pages page ≡ Some g → g ≤ 7 }
-        ensures { (a : ℕ) → age_in newest self.now.pages page ≡ Some a →
-            MatchOption result (NoneOf (age_in newest self.now.pages) (GoesBefore page a))
-            (λ x. IsFirstOf (age_in newest self.now.pages) (GoesBefore page a) x.page) }
+        ensures { (a : ℕ) → age_of_page newest self.now.pages page ≡ Some a →
+            MatchOption result (NoneOf (age_of_page newest self.now.pages) (GoesBefore page a))
+            (λ x. IsFirstOf (age_of_page newest self.now.pages) (GoesBefore page a) x.page) }
     {
         let Some(group) = self.group_of(page) else {
             unreachable!()
@@ -366,7 +366,7 @@ fn renew(node: &mut Node)
     ensures same { node.new ≡ record node.old { span = node.new.span } }
     ensures height { node.new.span.height ≡ node.old.span.height }
     ensures groups { (g : ℕ) → bit_at node.new.span.groups g ≡
-        number (has_group g (pages_of node.old)) }
+        number (has_group g (pages_under node.old)) }
 {
     let (below, above) = (node.left.span(), node.right.span());
     node.span.groups = groups_over(below.groups, node.member.group, above.groups);
@@ -422,7 +422,7 @@ fn fork(left: Tree, mut node: Box<Node>, right: Tree) -> Tree
 fn settle(node: &mut Node) -> bool
     requires { MayLean node.old }
     ensures is { IsNode node.new (tree_at node.new) }
-    ensures balanced { IsBalanced (tree_at node.new) (pages_of node.old) node.old.left.height
+    ensures balanced { IsBalanced (tree_at node.new) (pages_under node.old) node.old.left.height
         node.old.right.height }
     ensures same { result ≡ false → IsSpan node.old.span (tree_at node.new) }
 {
@@ -443,7 +443,7 @@ fn settle(node: &mut Node) -> bool
 fn level(node: &mut Node)
     requires { MayLean node.old }
     ensures is { IsNode node.new (tree_at node.new) }
-    ensures balanced { IsBalanced (tree_at node.new) (pages_of node.old) node.old.left.height
+    ensures balanced { IsBalanced (tree_at node.new) (pages_under node.old) node.old.left.height
         node.old.right.height }
 {
     let left = mem::replace(&mut node.left, Tree::new());

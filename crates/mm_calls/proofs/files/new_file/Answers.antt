@@ -11,4 +11,4 @@ returns-then-blocks-blocks_used-clause-served g c = served_none (g.G.Pages.store
 pub returns-in-Ok-clause-bytes : goal.returns-in-Ok-clause-bytes
 returns-in-Ok-clause-bytes g c =
     with_file_bytes c.args.t.now c.add_file.new.self (g.G.Pages.contents c.args.g.now) (g.G.Pages.contents c.add_file.new.g) (g.G.Pages.store c.args.g.now) (g.G.Pages.store c.add_file.new.g)
-    c.args.pages c.args.byte c.requires.fits c.in-Ok.ensures.fits c.in-Ok.ensures.made
+    c.args.pages c.args.byte c.requires.fits c.in-Ok.ensures.stored.fits c.in-Ok.ensures.files.made

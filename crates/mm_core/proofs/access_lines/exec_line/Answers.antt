@@ -3,7 +3,7 @@ use Rattle.std.proofs.Common.{refl, sym, ◌∙◌, subst}
 use Rattle.mm_world.specs.Access.{Execute}
 use Rattle.mm_world.specs.Contents.{Tables, world_with}
 use Rattle.mm_world.specs.WellFormed.{Spaces}
-use Rattle.mm_tables.specs.Fits.{bytes_of}
+use Rattle.mm_tables.specs.Fits.{key_bytes}
 use Rattle.mm_core.specs.Accessing.{Accessed}
 use Rattle.mm_core.proofs.Rows.{gone-by}
 use Rattle.mm_core.proofs.Accesses.{no_process}
@@ -23,7 +23,7 @@ returns-then-not-begin_access-clause-decided g c =
     let begins = c.begin_access.ensures.begins in
     decided-refused g.G.Pages.unpaged (event.Exec c.args.pid c.args.addr) c.args.line t old mid s m (answer.Error code.InvalidHandle) t mid m c.args.pid.0 c.args.addr Execute
     c.begin_access.ensures.contents begins (keeps-begun c.args.line t old mid s m c.requires.keeps c.requires.next begins c.begin_access.ensures.fits) refl refl refl tt tt refl
-    (no_process t (bytes_of mid) c.args.pid.0 c.args.addr Execute (gone-by t c.args.pid.0 (sym c.begin_access.ensures.lives ∙ c.if-not-begin_access.true)))
+    (no_process t (key_bytes mid) c.args.pid.0 c.args.addr Execute (gone-by t c.args.pid.0 (sym c.begin_access.ensures.lives ∙ c.if-not-begin_access.true)))
 
 pub returns-in-Err-clause-decided : goal.returns-in-Err-clause-decided
 returns-in-Err-clause-decided g c =
@@ -35,7 +35,7 @@ returns-in-Err-clause-decided g c =
     let begins = c.begin_access.ensures.begins in
     decided-refused g.G.Pages.unpaged (event.Exec c.args.pid c.args.addr) c.args.line t old mid s m (answer.Raised c.in-Err.why) c.admit.new.t mid m c.args.pid.0 c.args.addr Execute
     c.begin_access.ensures.contents begins (c.admit.ensures.keeps mid m (keeps-begun c.args.line t old mid s m c.requires.keeps c.requires.next begins c.begin_access.ensures.fits)) refl refl refl tt tt refl
-    (c.in-Err.ensures.refused (bytes_of mid) Execute refl)
+    (c.in-Err.ensures.refused (key_bytes mid) Execute refl)
 
 pub execute_at-requires-clause-spaces : goal.execute_at-requires-clause-spaces
 execute_at-requires-clause-spaces g c = subst (λ (v : Tables). Spaces v) (sym c.in-Ok.ensures.unchanged) c.sound.ensures.sound.spaces
@@ -49,50 +49,50 @@ returns-clause-decided g c =
     let m = g.G.Pages.store c.begin_access.new.g in
     let call = c.execute_at in
     let z = g.G.Pages.store call.new.g in
-    let v = world_with c.admit.new.t (bytes_of (g.G.Pages.contents call.new.g)) in
-    decided-access g.G.Pages.unpaged (event.Exec c.args.pid c.args.addr) c.args.line t old mid s m call.result c.admit.new.t (g.G.Pages.contents call.new.g) z c.args.pid.0 c.args.addr Execute
+    let v = world_with c.admit.new.t (key_bytes (g.G.Pages.contents call.new.g)) in
+    decided-access g.G.Pages.unpaged (event.Exec c.args.pid c.args.addr) c.args.line t old mid s m call.new.answer c.admit.new.t (g.G.Pages.contents call.new.g) z c.args.pid.0 c.args.addr Execute
     c.begin_access.ensures.contents c.begin_access.ensures.begins call.ensures.keeps call.ensures.line refl refl tt tt refl
-    (subst (λ (x : Tables). Accessed g.G.Pages.unpaged (world_with x (bytes_of mid)) c.args.pid.0 c.args.addr Execute m z call.result v) c.in-Ok.ensures.unchanged call.ensures.accessed)
+    (subst (λ (x : Tables). Accessed g.G.Pages.unpaged (world_with x (key_bytes mid)) c.args.pid.0 c.args.addr Execute m z call.new.answer v) c.in-Ok.ensures.unchanged call.ensures.accessed)
 
 pub returns-then-not-begin_access-clause-passes : goal.returns-then-not-begin_access-clause-passes
 returns-then-not-begin_access-clause-passes g c =
     let t = c.args.t.now in
     let old = g.G.Pages.contents c.args.g.now in
     let mid = g.G.Pages.contents c.begin_access.new.g in
-    let w = world_with t (bytes_of old) in
+    let w = world_with t (key_bytes old) in
     let s = g.G.Pages.store c.args.g.now in
     let m = g.G.Pages.store c.begin_access.new.g in
     let b = g.G.Pages.behind c.args.g.now in
     let y = g.G.Pages.behind c.begin_access.new.g in
     let began = c.begin_access.ensures in
-    refused-passes g.G.Pages.unpaged (event.Exec c.args.pid c.args.addr) c.args.line t old mid began.contents s m b y c.args.pid c.args.addr Execute (plain-exec w c.args.pid c.args.addr) c.begin_access.result began.lives began.passes (answer.Error code.InvalidHandle) (world_with t (bytes_of mid))
-    (no_process t (bytes_of mid) c.args.pid.0 c.args.addr Execute (gone-by t c.args.pid.0 (sym began.lives ∙ c.if-not-begin_access.true))).needless
+    refused-passes g.G.Pages.unpaged (event.Exec c.args.pid c.args.addr) c.args.line t old mid began.contents s m b y c.args.pid c.args.addr Execute (plain-exec w c.args.pid c.args.addr) c.begin_access.result began.lives began.passes (answer.Error code.InvalidHandle) (world_with t (key_bytes mid))
+    (no_process t (key_bytes mid) c.args.pid.0 c.args.addr Execute (gone-by t c.args.pid.0 (sym began.lives ∙ c.if-not-begin_access.true))).needless
 
 pub returns-in-Err-clause-passes : goal.returns-in-Err-clause-passes
 returns-in-Err-clause-passes g c =
     let t = c.args.t.now in
     let old = g.G.Pages.contents c.args.g.now in
     let mid = g.G.Pages.contents c.begin_access.new.g in
-    let w = world_with t (bytes_of old) in
+    let w = world_with t (key_bytes old) in
     let s = g.G.Pages.store c.args.g.now in
     let m = g.G.Pages.store c.begin_access.new.g in
     let b = g.G.Pages.behind c.args.g.now in
     let y = g.G.Pages.behind c.begin_access.new.g in
     let began = c.begin_access.ensures in
-    refused-passes g.G.Pages.unpaged (event.Exec c.args.pid c.args.addr) c.args.line t old mid began.contents s m b y c.args.pid c.args.addr Execute (plain-exec w c.args.pid c.args.addr) c.begin_access.result began.lives began.passes (answer.Raised c.in-Err.why) (world_with c.admit.new.t (bytes_of mid))
-    (c.in-Err.ensures.refused (bytes_of mid) Execute refl).needless
+    refused-passes g.G.Pages.unpaged (event.Exec c.args.pid c.args.addr) c.args.line t old mid began.contents s m b y c.args.pid c.args.addr Execute (plain-exec w c.args.pid c.args.addr) c.begin_access.result began.lives began.passes (answer.Raised c.in-Err.why) (world_with c.admit.new.t (key_bytes mid))
+    (c.in-Err.ensures.refused (key_bytes mid) Execute refl).needless
 
 pub returns-clause-passes : goal.returns-clause-passes
 returns-clause-passes g c =
     let t = c.args.t.now in
     let old = g.G.Pages.contents c.args.g.now in
     let mid = g.G.Pages.contents c.begin_access.new.g in
-    let w = world_with t (bytes_of old) in
+    let w = world_with t (key_bytes old) in
     let s = g.G.Pages.store c.args.g.now in
     let m = g.G.Pages.store c.begin_access.new.g in
     let b = g.G.Pages.behind c.args.g.now in
     let y = g.G.Pages.behind c.begin_access.new.g in
     let began = c.begin_access.ensures in
     let call = c.execute_at in
-    access-passes g.G.Pages.unpaged (event.Exec c.args.pid c.args.addr) c.args.line t old mid began.contents s m b y c.args.pid c.args.addr Execute (plain-exec w c.args.pid c.args.addr) c.begin_access.result began.lives began.passes _ call.result (world_with c.admit.new.t (bytes_of (g.G.Pages.contents call.new.g))) c.admit.new.t (g.G.Pages.store call.new.g) (g.G.Pages.behind call.new.g)
+    access-passes g.G.Pages.unpaged (event.Exec c.args.pid c.args.addr) c.args.line t old mid began.contents s m b y c.args.pid c.args.addr Execute (plain-exec w c.args.pid c.args.addr) c.begin_access.result began.lives began.passes _ call.new.answer (world_with c.admit.new.t (key_bytes (g.G.Pages.contents call.new.g))) c.admit.new.t (g.G.Pages.store call.new.g) (g.G.Pages.behind call.new.g)
     c.in-Ok.ensures.unchanged call.ensures.passes

@@ -8,7 +8,7 @@ use Rattle.mm_world.specs.World.{Page}
 use Rattle.mm_world.specs.Access.{Execute}
 use Rattle.mm_world.specs.Outcome.{done}
 use Rattle.mm_world.specs.Contents.{world_with}
-use Rattle.mm_tables.specs.Fits.{bytes_of}
+use Rattle.mm_tables.specs.Fits.{key_bytes}
 use Rattle.mm_core.proofs.AccessLines.{accessed-had, accessed-lost}
 use Rattle.mm_core.proofs.Accesses.{execute-needs, executes}
 use Rattle.mm_types.specs.declared.answers.Answer.TheVariants as answer
@@ -18,20 +18,20 @@ pub returns-in-Ok-clause-accessed : goal.returns-in-Ok-clause-accessed
 returns-in-Ok-clause-accessed g c =
     let t = c.args.t.now in
     let old = g.G.Pages.contents c.args.g.now in
-    let w = world_with t (bytes_of old) in
-    accessed-had g.G.Pages.unpaged w c.args.pid.0 c.args.addr Execute _ _ _ (execute-needs t (bytes_of old) c.args.pid.0 c.args.addr c.args.row c.requires.admitted)
+    let w = world_with t (key_bytes old) in
+    accessed-had g.G.Pages.unpaged w c.args.pid.0 c.args.addr Execute _ _ _ (execute-needs t (key_bytes old) c.args.pid.0 c.args.addr c.args.row c.requires.admitted)
     c.fetch.result c.fetch.ensures.ends c.fetch.ensures.served _ _ c.in-Ok.field-0 c.in-Ok.is
-    (executes t (bytes_of old) c.args.pid.0 c.args.addr c.args.row c.requires.admitted
-    ∙ (λ i. done answer.Ok (world_with t (bytes_of (sym c.fetch.ensures.contents i)))))
+    (executes t (key_bytes old) c.args.pid.0 c.args.addr c.args.row c.requires.admitted
+    ∙ (λ i. done answer.Ok (world_with t (key_bytes (sym c.fetch.ensures.contents i)))))
 
 pub returns-in-Err-clause-accessed : goal.returns-in-Err-clause-accessed
 returns-in-Err-clause-accessed g c =
     let t = c.args.t.now in
     let old = g.G.Pages.contents c.args.g.now in
-    let w = world_with t (bytes_of old) in
-    accessed-lost g.G.Pages.unpaged w c.args.pid.0 c.args.addr Execute _ _ _ (execute-needs t (bytes_of old) c.args.pid.0 c.args.addr c.args.row c.requires.admitted)
+    let w = world_with t (key_bytes old) in
+    accessed-lost g.G.Pages.unpaged w c.args.pid.0 c.args.addr Execute _ _ _ (execute-needs t (key_bytes old) c.args.pid.0 c.args.addr c.args.row c.requires.admitted)
     c.fetch.result c.fetch.ensures.ends c.fetch.ensures.served _ c.in-Err.field-0 c.in-Err.is
-    (ap (λ (c : Key → Option Page). world_with t (bytes_of c)) c.fetch.ensures.contents) c.fetch.ensures.blamed c.fetch.ensures.unpaged
+    (ap (λ (c : Key → Option Page). world_with t (key_bytes c)) c.fetch.ensures.contents) c.fetch.ensures.blamed c.fetch.ensures.unpaged
 
 pub returns-in-Ok-clause-passes : goal.returns-in-Ok-clause-passes
 returns-in-Ok-clause-passes g c =
@@ -41,7 +41,7 @@ returns-in-Ok-clause-passes g c =
     let place = place_at c.args.pid (page_of c.args.addr) in
     touched_had g.G.Pages.unpaged (aim_in t old b c.args.pid c.args.addr Execute)
     (record { place = place; need = (touch c.args.row.key); writes = false; start = b.life })
-    (aim-needs (world_with t (bytes_of old)) b.life c.args.pid c.args.addr Execute (touch c.args.row.key) (execute-needs t (bytes_of old) c.args.pid.0 c.args.addr c.args.row c.requires.admitted))
+    (aim-needs (world_with t (key_bytes old)) b.life c.args.pid c.args.addr Execute (touch c.args.row.key) (execute-needs t (key_bytes old) c.args.pid.0 c.args.addr c.args.row c.requires.admitted))
     (IsReady (g.G.Pages.store c.args.g.now) place (touch c.args.row.key)) c.fetch.result (g.G.Pages.store c.args.g.now) (g.G.Pages.store c.fetch.new.g) b (g.G.Pages.behind c.fetch.new.g) c.in-Ok.field-0 _ c.in-Ok.is gives_ok c.fetch.ensures.passes
 
 pub returns-in-Err-clause-passes : goal.returns-in-Err-clause-passes
@@ -52,5 +52,5 @@ returns-in-Err-clause-passes g c =
     let place = place_at c.args.pid (page_of c.args.addr) in
     touched_lost g.G.Pages.unpaged (aim_in t old b c.args.pid c.args.addr Execute)
     (record { place = place; need = (touch c.args.row.key); writes = false; start = b.life })
-    (aim-needs (world_with t (bytes_of old)) b.life c.args.pid c.args.addr Execute (touch c.args.row.key) (execute-needs t (bytes_of old) c.args.pid.0 c.args.addr c.args.row c.requires.admitted))
+    (aim-needs (world_with t (key_bytes old)) b.life c.args.pid c.args.addr Execute (touch c.args.row.key) (execute-needs t (key_bytes old) c.args.pid.0 c.args.addr c.args.row c.requires.admitted))
     (IsReady (g.G.Pages.store c.args.g.now) place (touch c.args.row.key)) c.fetch.result (g.G.Pages.store c.args.g.now) (g.G.Pages.store c.fetch.new.g) b (g.G.Pages.behind c.fetch.new.g) c.in-Err.field-0 c.in-Err.is c.fetch.ensures.ends c.fetch.ensures.passes

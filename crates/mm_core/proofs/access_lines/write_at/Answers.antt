@@ -8,7 +8,7 @@ use Rattle.mm_types.specs.declared.numbers.Key.{Key}
 use Rattle.mm_world.specs.World.{Page}
 use Rattle.mm_world.specs.Access.{WriteOf, written}
 use Rattle.mm_world.specs.Contents.{world_with}
-use Rattle.mm_tables.specs.Fits.{bytes_of}
+use Rattle.mm_tables.specs.Fits.{key_bytes}
 use Rattle.mm_core.proofs.AccessLines.{accessed-had, accessed-lost, changed-others, changed-at}
 use Rattle.mm_core.proofs.Accesses.{write-needs, writes, made-marks}
 use Rattle.mm_tables.specs.References.{MadeAtMost}
@@ -21,15 +21,15 @@ pub returns-in-Ok-clause-accessed : goal.returns-in-Ok-clause-accessed
 returns-in-Ok-clause-accessed g c =
     let t = c.args.t.now in
     let old = g.G.Pages.contents c.args.g.now in
-    let w = world_with t (bytes_of old) in
-    accessed-had g.G.Pages.unpaged w c.args.pid.0 c.args.addr (WriteOf c.args.bytes.now) _ _ _ (write-needs t (bytes_of old) c.args.pid.0 c.args.addr c.args.bytes.now c.args.row c.requires.admitted c.requires.stays)
+    let w = world_with t (key_bytes old) in
+    accessed-had g.G.Pages.unpaged w c.args.pid.0 c.args.addr (WriteOf c.args.bytes.now) _ _ _ (write-needs t (key_bytes old) c.args.pid.0 c.args.addr c.args.bytes.now c.args.row c.requires.admitted c.requires.stays)
     c.put.result (c.put.ensures.ends c.requires.begun) c.put.ensures.served _ _ c.in-Ok.field-0 c.in-Ok.is
     (let new = g.G.Pages.contents c.put.new.g in
-    let stored : Page = written (bytes_of old c.args.row.key) (c.args.addr % page_size) c.args.bytes.now in
-    let is : new ≡ changed same_key old c.args.row.key (Some stored) = c.in-Ok.ensures.written ∙ (λ i. changed same_key old c.args.row.key (Some (written (bytes_of old c.args.row.key) (c.args.addr % page_size) (c.as_slice.ensures.bytes i)))) in
-    writes t (bytes_of old) c.args.pid.0 c.args.addr c.args.bytes.now c.args.row c.requires.admitted c.mark_written.new.t c.mark_written.ensures.marks (bytes_of new) c.requires.spaces
-    (λ k other. ap (λ (c : Key → Option Page). bytes_of c k) is ∙ changed-others old c.args.row.key stored k other)
-    (ap (λ (n : Key → Option Page). bytes_of n c.args.row.key) is ∙ changed-at old c.args.row.key stored (keys-same c.args.row.key)) c.requires.stays)
+    let stored : Page = written (key_bytes old c.args.row.key) (c.args.addr % page_size) c.args.bytes.now in
+    let is : new ≡ changed same_key old c.args.row.key (Some stored) = c.in-Ok.ensures.written ∙ (λ i. changed same_key old c.args.row.key (Some (written (key_bytes old c.args.row.key) (c.args.addr % page_size) (c.as_slice.ensures.bytes i)))) in
+    writes t (key_bytes old) c.args.pid.0 c.args.addr c.args.bytes.now c.args.row c.requires.admitted c.mark_written.new.t c.mark_written.ensures.marks (key_bytes new) c.requires.spaces
+    (λ k other. ap (λ (c : Key → Option Page). key_bytes c k) is ∙ changed-others old c.args.row.key stored k other)
+    (ap (λ (n : Key → Option Page). key_bytes n c.args.row.key) is ∙ changed-at old c.args.row.key stored (keys-same c.args.row.key)) c.requires.stays)
 
 pub returns-in-Ok-clause-keeps : goal.returns-in-Ok-clause-keeps
 returns-in-Ok-clause-keeps g c =
@@ -45,10 +45,10 @@ pub returns-in-Err-clause-accessed : goal.returns-in-Err-clause-accessed
 returns-in-Err-clause-accessed g c =
     let t = c.args.t.now in
     let old = g.G.Pages.contents c.args.g.now in
-    let w = world_with t (bytes_of old) in
-    accessed-lost g.G.Pages.unpaged w c.args.pid.0 c.args.addr (WriteOf c.args.bytes.now) _ _ _ (write-needs t (bytes_of old) c.args.pid.0 c.args.addr c.args.bytes.now c.args.row c.requires.admitted c.requires.stays)
+    let w = world_with t (key_bytes old) in
+    accessed-lost g.G.Pages.unpaged w c.args.pid.0 c.args.addr (WriteOf c.args.bytes.now) _ _ _ (write-needs t (key_bytes old) c.args.pid.0 c.args.addr c.args.bytes.now c.args.row c.requires.admitted c.requires.stays)
     c.put.result (c.put.ensures.ends c.requires.begun) c.put.ensures.served _ c.in-Err.field-0 c.in-Err.is
-    (ap (λ (c : Key → Option Page). world_with t (bytes_of c)) c.in-Err.ensures.kept) c.put.ensures.blamed c.put.ensures.unpaged
+    (ap (λ (c : Key → Option Page). world_with t (key_bytes c)) c.in-Err.ensures.kept) c.put.ensures.blamed c.put.ensures.unpaged
 
 pub returns-in-Ok-clause-passes : goal.returns-in-Ok-clause-passes
 returns-in-Ok-clause-passes g c =
@@ -58,7 +58,7 @@ returns-in-Ok-clause-passes g c =
     let place = place_at c.args.pid (page_of c.args.addr) in
     touched_had g.G.Pages.unpaged (aim_in t old b c.args.pid c.args.addr (WriteOf c.args.bytes.now))
     (record { place = place; need = (touch c.args.row.key); writes = true; start = b.life })
-    (aim-needs (world_with t (bytes_of old)) b.life c.args.pid c.args.addr (WriteOf c.args.bytes.now) (touch c.args.row.key) (write-needs t (bytes_of old) c.args.pid.0 c.args.addr c.args.bytes.now c.args.row c.requires.admitted c.requires.stays))
+    (aim-needs (world_with t (key_bytes old)) b.life c.args.pid c.args.addr (WriteOf c.args.bytes.now) (touch c.args.row.key) (write-needs t (key_bytes old) c.args.pid.0 c.args.addr c.args.bytes.now c.args.row c.requires.admitted c.requires.stays))
     (IsReady (g.G.Pages.store c.args.g.now) place (touch c.args.row.key)) c.put.result (g.G.Pages.store c.args.g.now) (g.G.Pages.store c.put.new.g) b (g.G.Pages.behind c.put.new.g) c.in-Ok.field-0 _ c.in-Ok.is gives_ok c.put.ensures.passes
 
 pub returns-in-Err-clause-passes : goal.returns-in-Err-clause-passes
@@ -69,5 +69,5 @@ returns-in-Err-clause-passes g c =
     let place = place_at c.args.pid (page_of c.args.addr) in
     touched_lost g.G.Pages.unpaged (aim_in t old b c.args.pid c.args.addr (WriteOf c.args.bytes.now))
     (record { place = place; need = (touch c.args.row.key); writes = true; start = b.life })
-    (aim-needs (world_with t (bytes_of old)) b.life c.args.pid c.args.addr (WriteOf c.args.bytes.now) (touch c.args.row.key) (write-needs t (bytes_of old) c.args.pid.0 c.args.addr c.args.bytes.now c.args.row c.requires.admitted c.requires.stays))
+    (aim-needs (world_with t (key_bytes old)) b.life c.args.pid c.args.addr (WriteOf c.args.bytes.now) (touch c.args.row.key) (write-needs t (key_bytes old) c.args.pid.0 c.args.addr c.args.bytes.now c.args.row c.requires.admitted c.requires.stays))
     (IsReady (g.G.Pages.store c.args.g.now) place (touch c.args.row.key)) c.put.result (g.G.Pages.store c.args.g.now) (g.G.Pages.store c.put.new.g) b (g.G.Pages.behind c.put.new.g) c.in-Err.field-0 c.in-Err.is (c.put.ensures.ends c.requires.begun) c.put.ensures.passes

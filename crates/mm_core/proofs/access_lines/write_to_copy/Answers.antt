@@ -8,7 +8,7 @@ use Rattle.mm_world.specs.World.{Page}
 use Rattle.mm_world.specs.Access.{WriteOf, written}
 use Rattle.mm_world.specs.Outcome.{done}
 use Rattle.mm_world.specs.Contents.{Tables, world_with}
-use Rattle.mm_tables.specs.Fits.{bytes_of}
+use Rattle.mm_tables.specs.Fits.{key_bytes}
 use Rattle.mm_core.proofs.AccessLines.{accessed-had, accessed-lost, twice-others, twice-at}
 use Rattle.mm_core.proofs.Accesses.{copy-needs, copies-write}
 use Rattle.mm_core.proofs.Writing.{key_itself}
@@ -24,23 +24,23 @@ pub returns-in-Ok-clause-accessed : goal.returns-in-Ok-clause-accessed
 returns-in-Ok-clause-accessed g c =
     let t = c.args.t.now in
     let old = g.G.Pages.contents c.args.g.now in
-    let w = world_with t (bytes_of old) in
+    let w = world_with t (key_bytes old) in
     let h = c.requires.admitted in
     let row = c.args.row in
     let page = page_of c.args.addr in
     let own = private_key c.args.pid.0 page in
     let new = g.G.Pages.contents c.put_copy.new.g in
-    let stored : Page = written (bytes_of old row.key) (c.args.addr % page_size) c.args.bytes.now in
+    let stored : Page = written (key_bytes old row.key) (c.args.addr % page_size) c.args.bytes.now in
     let is : new ≡ changed same_key (changed same_key old own (old row.key)) own (Some stored) =
-    c.in-Ok.ensures.written ∙ (λ i. changed same_key (changed same_key old own (old row.key)) own (Some (written (bytes_of old row.key) (c.args.addr % page_size) (c.as_slice.ensures.bytes i)))) in
+    c.in-Ok.ensures.written ∙ (λ i. changed same_key (changed same_key old own (old row.key)) own (Some (written (key_bytes old row.key) (c.args.addr % page_size) (c.as_slice.ensures.bytes i)))) in
     let tables : c.put_copy.new.t ≡ set_row t c.args.pid.0 h.process h.row.region page (record h.row.row { own = Some tt; prot = 0x04 }) = c.in-Ok.ensures.row h.process h.row h.lives h.committed in
     accessed-had g.G.Pages.unpaged w c.args.pid.0 c.args.addr (WriteOf c.args.bytes.now) _ _ _
-    (copy-needs t (bytes_of old) c.args.pid.0 c.args.addr c.args.bytes.now row h c.requires.copies)
+    (copy-needs t (key_bytes old) c.args.pid.0 c.args.addr c.args.bytes.now row h c.requires.copies)
     c.put_copy.result c.put_copy.ensures.ends c.put_copy.ensures.served _ _ c.in-Ok.field-0 c.in-Ok.is
-    (copies-write t (bytes_of old) c.args.pid.0 c.args.addr c.args.bytes.now row h (bytes_of new) c.requires.spaces
-    (λ k other. ap (λ (n : Key → Option Page). bytes_of n k) is ∙ twice-others old own (old row.key) stored k other)
-    (ap (λ (n : Key → Option Page). bytes_of n own) is ∙ twice-at old own (old row.key) stored (key_itself c.args.pid.0 page)) c.requires.copies
-    ∙ ap (λ (v : Tables). done answer.Ok (world_with v (bytes_of new))) (sym tables))
+    (copies-write t (key_bytes old) c.args.pid.0 c.args.addr c.args.bytes.now row h (key_bytes new) c.requires.spaces
+    (λ k other. ap (λ (n : Key → Option Page). key_bytes n k) is ∙ twice-others old own (old row.key) stored k other)
+    (ap (λ (n : Key → Option Page). key_bytes n own) is ∙ twice-at old own (old row.key) stored (key_itself c.args.pid.0 page)) c.requires.copies
+    ∙ ap (λ (v : Tables). done answer.Ok (world_with v (key_bytes new))) (sym tables))
 
 pub returns-in-Ok-clause-keeps : goal.returns-in-Ok-clause-keeps
 returns-in-Ok-clause-keeps g c =
@@ -59,12 +59,12 @@ pub returns-in-Err-clause-accessed : goal.returns-in-Err-clause-accessed
 returns-in-Err-clause-accessed g c =
     let t = c.args.t.now in
     let old = g.G.Pages.contents c.args.g.now in
-    let w = world_with t (bytes_of old) in
+    let w = world_with t (key_bytes old) in
     let kept = c.in-Err.ensures.kept in
     accessed-lost g.G.Pages.unpaged w c.args.pid.0 c.args.addr (WriteOf c.args.bytes.now) _ _ _
-    (copy-needs t (bytes_of old) c.args.pid.0 c.args.addr c.args.bytes.now c.args.row c.requires.admitted c.requires.copies)
+    (copy-needs t (key_bytes old) c.args.pid.0 c.args.addr c.args.bytes.now c.args.row c.requires.admitted c.requires.copies)
     c.put_copy.result c.put_copy.ensures.ends c.put_copy.ensures.served _ c.in-Err.field-0 c.in-Err.is
-    (λ i. world_with (kept.0 i) (bytes_of (kept.1 i))) c.put_copy.ensures.blamed c.put_copy.ensures.unpaged
+    (λ i. world_with (kept.0 i) (key_bytes (kept.1 i))) c.put_copy.ensures.blamed c.put_copy.ensures.unpaged
 
 pub returns-in-Ok-clause-passes : goal.returns-in-Ok-clause-passes
 returns-in-Ok-clause-passes g c =
@@ -74,7 +74,7 @@ returns-in-Ok-clause-passes g c =
     let place = place_at c.args.pid (page_of c.args.addr) in
     copied_had g.G.Pages.unpaged (aim_in t old b c.args.pid c.args.addr (WriteOf c.args.bytes.now))
     (record { place = place; need = (copying c.args.row.key place); writes = true; start = b.life })
-    (aim-needs (world_with t (bytes_of old)) b.life c.args.pid c.args.addr (WriteOf c.args.bytes.now) (copying c.args.row.key place) (copy-needs t (bytes_of old) c.args.pid.0 c.args.addr c.args.bytes.now c.args.row c.requires.admitted c.requires.copies))
+    (aim-needs (world_with t (key_bytes old)) b.life c.args.pid c.args.addr (WriteOf c.args.bytes.now) (copying c.args.row.key place) (copy-needs t (key_bytes old) c.args.pid.0 c.args.addr c.args.bytes.now c.args.row c.requires.admitted c.requires.copies))
     (IsReady (g.G.Pages.store c.args.g.now) place (copying c.args.row.key place)) c.put_copy.result (g.G.Pages.store c.args.g.now) (g.G.Pages.store c.put_copy.new.g) b (g.G.Pages.behind c.put_copy.new.g) c.in-Ok.field-0 _ c.in-Ok.is gives_ok c.put_copy.ensures.passes
 
 pub returns-in-Err-clause-passes : goal.returns-in-Err-clause-passes
@@ -85,5 +85,5 @@ returns-in-Err-clause-passes g c =
     let place = place_at c.args.pid (page_of c.args.addr) in
     copied_lost g.G.Pages.unpaged (aim_in t old b c.args.pid c.args.addr (WriteOf c.args.bytes.now))
     (record { place = place; need = (copying c.args.row.key place); writes = true; start = b.life })
-    (aim-needs (world_with t (bytes_of old)) b.life c.args.pid c.args.addr (WriteOf c.args.bytes.now) (copying c.args.row.key place) (copy-needs t (bytes_of old) c.args.pid.0 c.args.addr c.args.bytes.now c.args.row c.requires.admitted c.requires.copies))
+    (aim-needs (world_with t (key_bytes old)) b.life c.args.pid c.args.addr (WriteOf c.args.bytes.now) (copying c.args.row.key place) (copy-needs t (key_bytes old) c.args.pid.0 c.args.addr c.args.bytes.now c.args.row c.requires.admitted c.requires.copies))
     (IsReady (g.G.Pages.store c.args.g.now) place (copying c.args.row.key place)) c.put_copy.result (g.G.Pages.store c.args.g.now) (g.G.Pages.store c.put_copy.new.g) b (g.G.Pages.behind c.put_copy.new.g) c.in-Err.field-0 c.in-Err.is c.put_copy.ensures.ends c.put_copy.ensures.passes

@@ -3,7 +3,7 @@ use Rattle.mm_types.specs.declared.numbers.Key.{Key}
 use Rattle.mm_types.specs.Address.{page_of}
 use Rattle.mm_world.specs.World.{Page}
 use Rattle.mm_pages.specs.Conditions.{place_at}
-use Rattle.mm_tables.specs.Fits.{Fits, key_at}
+use Rattle.mm_tables.specs.Fits.{FitsTables, key_at}
 use Rattle.std.proofs.Common.{cond, true, ◌+◌}
 use Rattle.mm_world.specs.Failure.{same_key}
 use Rattle.mm_world.specs.Keys.{private_key}
@@ -51,7 +51,7 @@ returns-clause-fits g c =
     let store : z ≡ record (fetched s z) { names = changed same_place s.names place (Some own); paging = changed same_key s.paging own true; paging_keys = s.paging_keys + 1 } =
     c.in_ok-copy.ensures.ok
     ∙ (λ i. record (fetched s z) { names = changed same_place s.names (c.place_of.ensures i) (Some (c.own_key_of.ensures i)); paging = changed same_key s.paging (c.own_key_of.ensures i) true; paging_keys = s.paging_keys + 1 }) in
-    subst (λ (n : Key → Option Page). Fits c.copy_page.new.self n z) (sym contents)
+    subst (λ (n : Key → Option Page). FitsTables c.copy_page.new.self n z) (sym contents)
     (fits_copied c.copy_page.new.self (changed same_key old own (Some from.0)) s z place (c.copy_page.ensures.fits old s from.0 c.requires.fits) c.copy.ensures.served c.copy.ensures.stored store)
 
 pub returns-clause-at : goal.returns-clause-at

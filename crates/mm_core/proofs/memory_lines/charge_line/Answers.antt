@@ -3,7 +3,7 @@ use Rattle.mm_types.specs.declared.answers.Answer.TheVariants as answer
 use Rattle.mm_types.specs.declared.events.Event.TheVariants as event
 use Rattle.mm_world.specs.Outcome.{done}
 use Rattle.mm_world.specs.Contents.{world_with}
-use Rattle.mm_tables.specs.Fits.{bytes_of}
+use Rattle.mm_tables.specs.Fits.{key_bytes}
 use Rattle.mm_core.proofs.Charged.{charge-with}
 use Rattle.mm_core.proofs.Serving.{quiet-same}
 use Rattle.mm_core.proofs.Lines.{decided-same}
@@ -19,11 +19,11 @@ returns-clause-decided g c =
     let told = c.charge-charge in
     decided-same g.G.Pages.unpaged event.Charge c.args.line t old _ m (answer.Charge told.result.0 told.result.1) t (g.G.Pages.contents c.begin.new.g) m
     c.requires.keeps c.requires.next c.begin.ensures.begins (quiet-same _ _ refl) refl c.begin.ensures.contents refl
-    (λ i. done (answer.Charge ((charge-with t (bytes_of old) ∙ sym told.ensures.charge) i) (sym told.ensures.limit i)) (world_with t (bytes_of old)))
+    (λ i. done (answer.Charge ((charge-with t (key_bytes old) ∙ sym told.ensures.charge) i) (sym told.ensures.limit i)) (world_with t (key_bytes old)))
     (λ f. f) tt tt (c.begin.ensures.fits t c.requires.keeps.fits)
 
 pub returns-clause-marked : goal.returns-clause-marked
 returns-clause-marked g c =
-    marked_alone c.args.line kind.Call event.Charge (world_with c.args.t.now (bytes_of (g.G.Pages.contents c.args.g.now))) (answer.Charge c.charge-charge.result.0 c.charge-charge.result.1) (world_with c.args.t.now (bytes_of (g.G.Pages.contents c.begin.new.g))) g.G.Pages.unpaged
+    marked_alone c.args.line kind.Call event.Charge (world_with c.args.t.now (key_bytes (g.G.Pages.contents c.args.g.now))) (answer.Charge c.charge-charge.result.0 c.charge-charge.result.1) (world_with c.args.t.now (key_bytes (g.G.Pages.contents c.begin.new.g))) g.G.Pages.unpaged
     (g.G.Pages.store c.args.g.now) (g.G.Pages.store c.begin.new.g) (g.G.Pages.behind c.args.g.now) (g.G.Pages.behind c.begin.new.g)
     (record { ages = λ ms. refl; waits = λ ws l. refl }) refl c.begin.ensures.passes

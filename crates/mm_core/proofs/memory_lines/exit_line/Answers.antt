@@ -2,7 +2,7 @@ use Rattle.std.proofs.Common.{refl, sym, subst, ap, ◌∙◌, ◌+◌, Option}
 use Rattle.mm_types.specs.declared.events.Event.TheVariants as event
 use Rattle.mm_types.specs.declared.numbers.Key.{Key}
 use Rattle.mm_world.specs.World.{Page}
-use Rattle.mm_tables.specs.Fits.{Called, bytes_of}
+use Rattle.mm_tables.specs.Fits.{Called, key_bytes}
 use Rattle.mm_core.proofs.Serving.{quiet-beside}
 use Rattle.mm_world.specs.Processes.{exit}
 use Rattle.mm_world.proofs.Across.{exit_across}
@@ -35,7 +35,7 @@ returns-clause-decided g c =
     decided-forgot u c.args.pid c.args.line t old mid s y call.result call.new.t new (g.G.Pages.store call.new.g) c.forget_waits.ensures.contents rest
     (decided-call u (event.Exit c.args.pid) c.args.line t mid y (g.G.Pages.store c.begin_release.new.g) call.result call.new.t new (g.G.Pages.store call.new.g)
     (exit t c.args.pid.0) keeps (c.requires.next ∙ ap (λ (s : StoreOf). s.line + 1) (sym rest)) c.begin_release.ensures.begins (quiet-beside _ _ call.ensures.beside)
-    (exit_across t (bytes_of mid) c.sound.ensures.sound.spaces c.args.pid.0) (in_exit t c.args.pid.0) refl tt tt
+    (exit_across t (key_bytes mid) c.sound.ensures.sound.spaces c.args.pid.0) (in_exit t c.args.pid.0) refl tt tt
     (subst (λ (old : Key → Option Page). Called (exit t c.args.pid.0) t old call.result call.new.t new) c.begin_release.ensures.contents call.ensures.called) call.ensures.fits)
 
 pub returns-clause-waits : goal.returns-clause-waits

@@ -2,7 +2,7 @@ use Rattle.std.proofs.Common.{◌≡◌, refl}
 use Rattle.std.specs.Prelude.{Ok, Err, IfOk}
 use Rattle.mm_types.specs.declared.events.Event.TheVariants as event
 use Rattle.mm_world.specs.Contents.{world_with}
-use Rattle.mm_tables.specs.Fits.{bytes_of}
+use Rattle.mm_tables.specs.Fits.{key_bytes}
 use Rattle.mm_core.proofs.CallForms.{marked_grow, halted_grow}
 use Rattle.mm_core.specs.Deciding.{Decided}
 use Rattle.mm_core.proofs.Beside.{beside-grow}
@@ -27,15 +27,15 @@ returns-clause-ok g c =
 pub returns-clause-marked : goal.returns-clause-marked
 returns-clause-marked g c =
     let call = c.grow_paging in
-    marked_grow c.args.line c.args.n (world_with c.args.t.now (bytes_of (g.G.Pages.contents c.args.g.now))) (world_with call.new.t (bytes_of (g.G.Pages.contents call.new.g))) (g.G.Pages.store c.args.g.now) (g.G.Pages.store call.new.g) (g.G.Pages.behind c.args.g.now) (g.G.Pages.behind call.new.g) g.G.Pages.unpaged call.result call.ensures.notes
+    marked_grow c.args.line c.args.n (world_with c.args.t.now (key_bytes (g.G.Pages.contents c.args.g.now))) (world_with call.new.t (key_bytes (g.G.Pages.contents call.new.g))) (g.G.Pages.store c.args.g.now) (g.G.Pages.store call.new.g) (g.G.Pages.behind c.args.g.now) (g.G.Pages.behind call.new.g) g.G.Pages.unpaged call.result call.ensures.notes
 
 pub returns-clause-halted : goal.returns-clause-halted
 returns-clause-halted g c =
     let call = c.grow_paging in
-    halted_grow c.args.line c.args.n (world_with c.args.t.now (bytes_of (g.G.Pages.contents c.args.g.now))) (world_with call.new.t (bytes_of (g.G.Pages.contents call.new.g))) (g.G.Pages.store c.args.g.now) (g.G.Pages.store call.new.g) (g.G.Pages.behind c.args.g.now) (g.G.Pages.behind call.new.g) g.G.Pages.unpaged call.result call.ensures.notes
+    halted_grow c.args.line c.args.n (world_with c.args.t.now (key_bytes (g.G.Pages.contents c.args.g.now))) (world_with call.new.t (key_bytes (g.G.Pages.contents call.new.g))) (g.G.Pages.store c.args.g.now) (g.G.Pages.store call.new.g) (g.G.Pages.behind c.args.g.now) (g.G.Pages.behind call.new.g) g.G.Pages.unpaged call.result call.ensures.notes
 
 pub returns-clause-beside : goal.returns-clause-beside
 returns-clause-beside g c = λ paged.
     let call = c.grow_paging in
-    beside-grow (world_with c.args.t.now (bytes_of (g.G.Pages.contents c.args.g.now))) c.args.t.now.blocks_used c.args.n c.args.line g.G.Pages.unpaged
+    beside-grow (world_with c.args.t.now (key_bytes (g.G.Pages.contents c.args.g.now))) c.args.t.now.blocks_used c.args.n c.args.line g.G.Pages.unpaged
     (g.G.Pages.store c.args.g.now) (g.G.Pages.store call.new.g) (g.G.Pages.behind c.args.g.now) (g.G.Pages.behind call.new.g) paged call.result call.ensures.rest call.ensures.grew call.ensures.notes

@@ -4,7 +4,7 @@ use Rattle.mm_types.specs.declared.events.Event.TheVariants as event
 use Rattle.mm_types.specs.declared.numbers.Key.{Key}
 use Rattle.mm_world.specs.World.{Page}
 use Rattle.mm_world.specs.Processes.{new_process}
-use Rattle.mm_tables.specs.Fits.{Called, bytes_of}
+use Rattle.mm_tables.specs.Fits.{Called, key_bytes}
 use Rattle.mm_world.proofs.Across.{new_process_across}
 use Rattle.mm_core.proofs.Serving.{quiet-beside, quiet-same}
 use Rattle.mm_core.proofs.Making.{in_new_process}
@@ -27,7 +27,7 @@ returns-in-None-clause-ok g c =
     let fits = c.begin.ensures.fits t c.requires.keeps.fits in
     decided-call g.G.Pages.unpaged (event.Process c.args.min c.args.max) c.args.line t old _ m answer.Full t new m
     (new_process t) c.requires.keeps c.requires.next c.begin.ensures.begins (quiet-same _ _ refl)
-    (new_process_across t (bytes_of old) c.sound.ensures.sound.spaces) (in_new_process t) refl tt tt
+    (new_process_across t (key_bytes old) c.sound.ensures.sound.spaces) (in_new_process t) refl tt tt
     (subst (λ (old : Key → Option Page). Called (new_process t) t old answer.Full t new) c.begin.ensures.contents
     (record { outcome = full-process t (none-if _ _ c.next_pid.result c.in-None.is c.next_pid.ensures); bytes = bytes-kept t t new fits.live fits.live })) fits
 
@@ -40,12 +40,12 @@ returns-clause-ok g c =
     if-both call.result call.ensures.ok (on-ok _ call.result call.ensures.fits) (λ a h fits.
     decided-call g.G.Pages.unpaged (event.Process c.args.min c.args.max) c.args.line t old _ (g.G.Pages.store c.line.new.self) a call.new.t new (g.G.Pages.store call.new.g)
     (new_process t) c.requires.keeps c.requires.next (begins-line _ _ _ _ c.line.ensures.store) (quiet-beside _ _ call.ensures.beside)
-    (new_process_across t (bytes_of old) c.sound.ensures.sound.spaces) (in_new_process t) refl tt tt
+    (new_process_across t (key_bytes old) c.sound.ensures.sound.spaces) (in_new_process t) refl tt tt
     (subst (λ (old : Key → Option Page). Called (new_process t) t old a call.new.t new) c.line.ensures.contents h) fits)
 
 pub returns-in-None-clause-marked : goal.returns-in-None-clause-marked
 returns-in-None-clause-marked g c =
-    marked_alone c.args.line kind.Call (event.Process c.args.min c.args.max) (world_with c.args.t.now (bytes_of (g.G.Pages.contents c.args.g.now))) answer.Full (world_with c.args.t.now (bytes_of (g.G.Pages.contents c.begin.new.g))) g.G.Pages.unpaged
+    marked_alone c.args.line kind.Call (event.Process c.args.min c.args.max) (world_with c.args.t.now (key_bytes (g.G.Pages.contents c.args.g.now))) answer.Full (world_with c.args.t.now (key_bytes (g.G.Pages.contents c.begin.new.g))) g.G.Pages.unpaged
     (g.G.Pages.store c.args.g.now) (g.G.Pages.store c.begin.new.g) (g.G.Pages.behind c.args.g.now) (g.G.Pages.behind c.begin.new.g)
     (record { ages = λ ms. refl; waits = λ ws l. refl }) refl c.begin.ensures.passes
 
@@ -53,9 +53,9 @@ pub returns-clause-marked : goal.returns-clause-marked
 returns-clause-marked g c =
     let call = c.new_process in
     if-ok call.result call.ensures.ok (λ a called.
-    subst (λ (k : LineKind). g.G.Pages.unpaged ≡ false → MarkedAs k (event.Process c.args.min c.args.max) c.args.line (world_with c.args.t.now (bytes_of (g.G.Pages.contents c.args.g.now))) (g.G.Pages.store c.args.g.now) (g.G.Pages.behind c.args.g.now) a (world_with call.new.t (bytes_of (g.G.Pages.contents call.new.g))) (g.G.Pages.store call.new.g) (g.G.Pages.behind call.new.g))
+    subst (λ (k : LineKind). g.G.Pages.unpaged ≡ false → MarkedAs k (event.Process c.args.min c.args.max) c.args.line (world_with c.args.t.now (key_bytes (g.G.Pages.contents c.args.g.now))) (g.G.Pages.store c.args.g.now) (g.G.Pages.behind c.args.g.now) a (world_with call.new.t (key_bytes (g.G.Pages.contents call.new.g))) (g.G.Pages.store call.new.g) (g.G.Pages.behind call.new.g))
     (process_kind c.args.t.now (g.G.Pages.contents c.line.new.self) (g.G.Pages.contents call.new.g) c.in-Some.pid c.next_pid.result a call.new.t c.args.min c.args.max c.in-Some.is c.next_pid.ensures called)
-    (marked_still c.args.line (kind.Process c.in-Some.pid c.args.min c.args.max) (event.Process c.args.min c.args.max) (world_with c.args.t.now (bytes_of (g.G.Pages.contents c.args.g.now))) a (world_with call.new.t (bytes_of (g.G.Pages.contents call.new.g))) g.G.Pages.unpaged
+    (marked_still c.args.line (kind.Process c.in-Some.pid c.args.min c.args.max) (event.Process c.args.min c.args.max) (world_with c.args.t.now (key_bytes (g.G.Pages.contents c.args.g.now))) a (world_with call.new.t (key_bytes (g.G.Pages.contents call.new.g))) g.G.Pages.unpaged
     (g.G.Pages.store c.args.g.now) (g.G.Pages.store c.line.new.self) (g.G.Pages.store call.new.g) (g.G.Pages.behind c.args.g.now) (g.G.Pages.behind c.line.new.self) (g.G.Pages.behind call.new.g)
     (record { ages = λ ms. refl; waits = λ ws l. refl }) (λ ms h. h) c.line.ensures.passes call.ensures.passes))
 

@@ -2,7 +2,7 @@ use Rattle.std.proofs.Common.{refl, subst, Option}
 use Rattle.mm_types.specs.declared.events.Event.TheVariants as event
 use Rattle.mm_types.specs.declared.numbers.Key.{Key}
 use Rattle.mm_world.specs.World.{Page}
-use Rattle.mm_tables.specs.Fits.{Called, bytes_of}
+use Rattle.mm_tables.specs.Fits.{Called, key_bytes}
 use Rattle.mm_core.proofs.Serving.{quiet-beside}
 use Rattle.mm_world.specs.Protect.{protect}
 use Rattle.mm_world.proofs.Across.{protect_across}
@@ -23,14 +23,14 @@ returns-clause-ok g c =
     if-ok call.result call.ensures.ok (λ a h.
     decided-call g.G.Pages.unpaged (event.Protect c.args.pid c.args.addr c.args.size c.args.prot) c.args.line t old _ (g.G.Pages.store c.begin.new.g) a call.new.t new (g.G.Pages.store call.new.g)
     (protect t c.args.pid.0 c.args.addr c.args.size c.args.prot) c.requires.keeps c.requires.next c.begin.ensures.begins (quiet-beside _ _ call.ensures.beside)
-    (protect_across t (bytes_of old) c.sound.ensures.sound.spaces c.args.pid.0 c.args.addr c.args.size c.args.prot) (in_protect t c.args.pid.0 c.args.addr c.args.size c.args.prot) refl tt tt
+    (protect_across t (key_bytes old) c.sound.ensures.sound.spaces c.args.pid.0 c.args.addr c.args.size c.args.prot) (in_protect t c.args.pid.0 c.args.addr c.args.size c.args.prot) refl tt tt
     (subst (λ (old : Key → Option Page). Called (protect t c.args.pid.0 c.args.addr c.args.size c.args.prot) t old a call.new.t new) c.begin.ensures.contents h) call.ensures.fits)
 
 pub returns-clause-marked : goal.returns-clause-marked
 returns-clause-marked g c =
     let call = c.protect in
     each-ok call.result (λ a.
-    marked_still c.args.line kind.Call (event.Protect c.args.pid c.args.addr c.args.size c.args.prot) (world_with c.args.t.now (bytes_of (g.G.Pages.contents c.args.g.now))) a (world_with call.new.t (bytes_of (g.G.Pages.contents call.new.g))) g.G.Pages.unpaged
+    marked_still c.args.line kind.Call (event.Protect c.args.pid c.args.addr c.args.size c.args.prot) (world_with c.args.t.now (key_bytes (g.G.Pages.contents c.args.g.now))) a (world_with call.new.t (key_bytes (g.G.Pages.contents call.new.g))) g.G.Pages.unpaged
     (g.G.Pages.store c.args.g.now) (g.G.Pages.store c.begin.new.g) (g.G.Pages.store call.new.g) (g.G.Pages.behind c.args.g.now) (g.G.Pages.behind c.begin.new.g) (g.G.Pages.behind call.new.g)
     (record { ages = λ ms. refl; waits = λ ws l. refl }) (λ ms h. h) c.begin.ensures.passes call.ensures.passes)
 

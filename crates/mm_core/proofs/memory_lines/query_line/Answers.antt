@@ -2,7 +2,7 @@ use Rattle.std.proofs.Common.{refl, subst, Option}
 use Rattle.mm_types.specs.declared.events.Event.TheVariants as event
 use Rattle.mm_types.specs.declared.numbers.Key.{Key}
 use Rattle.mm_world.specs.World.{Page}
-use Rattle.mm_tables.specs.Fits.{Called, bytes_of}
+use Rattle.mm_tables.specs.Fits.{Called, key_bytes}
 use Rattle.mm_world.specs.Query.{query}
 use Rattle.mm_world.proofs.Across.{query_across}
 use Rattle.mm_core.proofs.Serving.{quiet-same}
@@ -22,12 +22,12 @@ returns-clause-decided g c =
     let fits = c.begin.ensures.fits t c.requires.keeps.fits in
     decided-call g.G.Pages.unpaged (event.Query c.args.pid c.args.addr) c.args.line t old _ m c.query.result t new m
     (query t c.args.pid.0 c.args.addr) c.requires.keeps c.requires.next c.begin.ensures.begins (quiet-same _ _ refl)
-    (query_across t (bytes_of old) c.sound.ensures.sound.spaces c.args.pid.0 c.args.addr) (in_query t c.args.pid.0 c.args.addr) refl tt tt
+    (query_across t (key_bytes old) c.sound.ensures.sound.spaces c.args.pid.0 c.args.addr) (in_query t c.args.pid.0 c.args.addr) refl tt tt
     (subst (λ (old : Key → Option Page). Called (query t c.args.pid.0 c.args.addr) t old c.query.result t new) c.begin.ensures.contents
     (record { outcome = c.query.ensures; bytes = bytes-kept t t new fits.live fits.live })) fits
 
 pub returns-clause-marked : goal.returns-clause-marked
 returns-clause-marked g c =
-    marked_alone c.args.line kind.Call (event.Query c.args.pid c.args.addr) (world_with c.args.t.now (bytes_of (g.G.Pages.contents c.args.g.now))) c.query.result (world_with c.args.t.now (bytes_of (g.G.Pages.contents c.begin.new.g))) g.G.Pages.unpaged
+    marked_alone c.args.line kind.Call (event.Query c.args.pid c.args.addr) (world_with c.args.t.now (key_bytes (g.G.Pages.contents c.args.g.now))) c.query.result (world_with c.args.t.now (key_bytes (g.G.Pages.contents c.begin.new.g))) g.G.Pages.unpaged
     (g.G.Pages.store c.args.g.now) (g.G.Pages.store c.begin.new.g) (g.G.Pages.behind c.args.g.now) (g.G.Pages.behind c.begin.new.g)
     (record { ages = λ ms. refl; waits = λ ws l. refl }) refl c.begin.ensures.passes

@@ -2,7 +2,7 @@ use Rattle.std.proofs.Common.{◌∙◌, refl, sym}
 use Rattle.mm_types.specs.declared.answers.Answer.TheVariants as answer
 use Rattle.mm_types.specs.declared.codes.Code.TheVariants as code
 use Rattle.mm_types.specs.declared.events.Event.TheVariants as event
-use Rattle.mm_tables.specs.Fits.{bytes_of}
+use Rattle.mm_tables.specs.Fits.{key_bytes}
 use Rattle.mm_core.proofs.Serving.{quiet-same}
 use Rattle.mm_core.proofs.Lines.{decided-same}
 use Rattle.mm_core.proofs.Fitting.{fits-same}
@@ -18,7 +18,7 @@ returns-then-not-has-clause-decided g c =
     let m = g.G.Pages.store c.begin.new.g in
     decided-same g.G.Pages.unpaged (event.Age c.args.pid) c.args.line t old _ m (answer.Error code.InvalidHandle) t (g.G.Pages.contents c.begin.new.g) m
     c.requires.keeps c.requires.next c.begin.ensures.begins (quiet-same _ _ refl) refl c.begin.ensures.contents refl
-    (store-gone t (bytes_of old) c.args.pid.0 (gone-by t c.args.pid.0 (sym c.has.ensures ∙ c.if-not-has.true)))
+    (store-gone t (key_bytes old) c.args.pid.0 (gone-by t c.args.pid.0 (sym c.has.ensures ∙ c.if-not-has.true)))
     (λ f. f) tt tt (c.begin.ensures.fits t c.requires.keeps.fits)
 
 pub returns-clause-decided : goal.returns-clause-decided
@@ -29,7 +29,7 @@ returns-clause-decided g c =
     let z = g.G.Pages.store c.age.new.self in
     decided-same g.G.Pages.unpaged (event.Age c.args.pid) c.args.line t old _ m answer.Ok t (g.G.Pages.contents c.age.new.self) z
     c.requires.keeps c.requires.next c.begin.ensures.begins (quiet-same m z c.age.ensures.store) refl (c.age.ensures.contents ∙ c.begin.ensures.contents) refl
-    (store-lives t (bytes_of old) c.args.pid.0 (lives-by t c.args.pid.0 (sym c.has.ensures ∙ c.if-not-has.false)))
+    (store-lives t (key_bytes old) c.args.pid.0 (lives-by t c.args.pid.0 (sym c.has.ensures ∙ c.if-not-has.false)))
     (λ f. f) tt tt (fits-same t _ m _ z (c.begin.ensures.fits t c.requires.keeps.fits) c.age.ensures.contents c.age.ensures.store)
 
 pub returns-then-not-has-clause-marked : goal.returns-then-not-has-clause-marked

@@ -4,7 +4,7 @@ use Rattle.mm_types.specs.declared.answers.Counts.{Counts}
 use Rattle.mm_types.specs.declared.events.Event.TheVariants as event
 use Rattle.mm_world.specs.Outcome.{done}
 use Rattle.mm_world.specs.Contents.{world_with}
-use Rattle.mm_tables.specs.Fits.{bytes_of}
+use Rattle.mm_tables.specs.Fits.{key_bytes}
 use Rattle.mm_core.proofs.Serving.{served-quiet, quiet-same}
 use Rattle.mm_core.proofs.PagingLines.{told-line}
 use Rattle.mm_types.specs.declared.moves.LineKind.TheVariants as kind
@@ -18,11 +18,11 @@ returns-clause-decided g c =
     let s = g.G.Pages.store c.args.g.now in
     let m = g.G.Pages.store c.begin.new.g in
     told-line g.G.Pages.unpaged c.args.line t old s m m (g.G.Pages.contents c.begin.new.g) c.requires.keeps c.requires.next c.begin.ensures.begins c.begin.ensures.contents
-    event.Counts (answer.Counts c.counts.result) refl (ap (λ (n : Counts). done (answer.Counts n) (world_with t (bytes_of old))) (sym c.counts.ensures)) refl (served-quiet m m (quiet-same m m refl)) (λ f. absurd f) tt tt
+    event.Counts (answer.Counts c.counts.result) refl (ap (λ (n : Counts). done (answer.Counts n) (world_with t (key_bytes old))) (sym c.counts.ensures)) refl (served-quiet m m (quiet-same m m refl)) (λ f. absurd f) tt tt
     (c.begin.ensures.fits t c.requires.keeps.fits)
 
 pub returns-clause-marked : goal.returns-clause-marked
 returns-clause-marked g c =
-    marked_alone c.args.line kind.Call event.Counts (world_with c.args.t.now (bytes_of (g.G.Pages.contents c.args.g.now))) (answer.Counts c.counts.result) (world_with c.args.t.now (bytes_of (g.G.Pages.contents c.begin.new.g))) g.G.Pages.unpaged
+    marked_alone c.args.line kind.Call event.Counts (world_with c.args.t.now (key_bytes (g.G.Pages.contents c.args.g.now))) (answer.Counts c.counts.result) (world_with c.args.t.now (key_bytes (g.G.Pages.contents c.begin.new.g))) g.G.Pages.unpaged
     (g.G.Pages.store c.args.g.now) (g.G.Pages.store c.begin.new.g) (g.G.Pages.behind c.args.g.now) (g.G.Pages.behind c.begin.new.g)
     (record { ages = λ ms. refl; waits = λ ws l. refl }) refl c.begin.ensures.passes

@@ -5,7 +5,7 @@ use Rattle.mm_types.specs.declared.numbers.Key.{Key}
 use Rattle.mm_world.specs.World.{Page}
 use Rattle.mm_pages.specs.declared.outcomes.Done.TheVariants as done
 use Rattle.mm_pages.specs.Store.{StoreOf}
-use Rattle.mm_tables.specs.Fits.{Fits, bytes_of}
+use Rattle.mm_tables.specs.Fits.{FitsTables, key_bytes}
 use Rattle.mm_core.proofs.PagingLines.{told-line, fits-completed, io-none, io-ok, io-failed}
 use Rattle.mm_types.specs.declared.moves.LineKind.TheVariants as kind
 use Rattle.mm_world.specs.Contents.{world_with}
@@ -27,7 +27,7 @@ returns-in-None-clause-decided g c =
     told-line g.G.Pages.unpaged c.args.line t old s m z d c.requires.keeps c.requires.next b same (event.Io c.args.i) answer.Nothing refl
     (io-none g.G.Pages.unpaged c.args.line t old s m z d c.requires.keeps c.requires.next b same c.args.i (c.complete.ensures.none c.in-None.is).0)
     (ap (λ (s : StoreOf). s.line) c.complete.ensures.store) c.complete.ensures.served (λ f. absurd f) tt tt
-    (fits-completed g.G.Pages.unpaged c.args.line t old s m z d c.requires.keeps c.requires.next b same (subst (λ (x : Key → Option Page). Fits t x m) c.begin.ensures.contents (c.begin.ensures.fits t c.requires.keeps.fits)) c.complete.ensures.served c.complete.ensures.stored c.complete.ensures.store)
+    (fits-completed g.G.Pages.unpaged c.args.line t old s m z d c.requires.keeps c.requires.next b same (subst (λ (x : Key → Option Page). FitsTables t x m) c.begin.ensures.contents (c.begin.ensures.fits t c.requires.keeps.fits)) c.complete.ensures.served c.complete.ensures.stored c.complete.ensures.store)
 
 pub returns-in-Ok-clause-decided : goal.returns-in-Ok-clause-decided
 returns-in-Ok-clause-decided g c =
@@ -42,7 +42,7 @@ returns-in-Ok-clause-decided g c =
     told-line g.G.Pages.unpaged c.args.line t old s m z d c.requires.keeps c.requires.next b same (event.Io c.args.i) answer.Ok refl
     (io-ok g.G.Pages.unpaged c.args.line t old s m z d c.requires.keeps c.requires.next b same c.args.i (λ few. let bad : done.Ok ≡ done.None = sym c.in-Ok.is ∙ c.complete.ensures.some few in cc) (c.complete.ensures.ok c.in-Ok.is))
     (ap (λ (s : StoreOf). s.line) c.complete.ensures.store) c.complete.ensures.served (λ f. absurd f) tt tt
-    (fits-completed g.G.Pages.unpaged c.args.line t old s m z d c.requires.keeps c.requires.next b same (subst (λ (x : Key → Option Page). Fits t x m) c.begin.ensures.contents (c.begin.ensures.fits t c.requires.keeps.fits)) c.complete.ensures.served c.complete.ensures.stored c.complete.ensures.store)
+    (fits-completed g.G.Pages.unpaged c.args.line t old s m z d c.requires.keeps c.requires.next b same (subst (λ (x : Key → Option Page). FitsTables t x m) c.begin.ensures.contents (c.begin.ensures.fits t c.requires.keeps.fits)) c.complete.ensures.served c.complete.ensures.stored c.complete.ensures.store)
 
 pub returns-in-Failed-clause-decided : goal.returns-in-Failed-clause-decided
 returns-in-Failed-clause-decided g c =
@@ -57,23 +57,23 @@ returns-in-Failed-clause-decided g c =
     told-line g.G.Pages.unpaged c.args.line t old s m z d c.requires.keeps c.requires.next b same (event.Io c.args.i) answer.Fault refl
     (io-failed g.G.Pages.unpaged c.args.line t old s m z d c.requires.keeps c.requires.next b same c.args.i (λ few. let bad : done.Failed ≡ done.None = sym c.in-Failed.is ∙ c.complete.ensures.some few in cc) (c.complete.ensures.failed c.in-Failed.is))
     (ap (λ (s : StoreOf). s.line) c.complete.ensures.store) c.complete.ensures.served (λ f. c.complete.ensures.blamed c.in-Failed.is) tt tt
-    (fits-completed g.G.Pages.unpaged c.args.line t old s m z d c.requires.keeps c.requires.next b same (subst (λ (x : Key → Option Page). Fits t x m) c.begin.ensures.contents (c.begin.ensures.fits t c.requires.keeps.fits)) c.complete.ensures.served c.complete.ensures.stored c.complete.ensures.store)
+    (fits-completed g.G.Pages.unpaged c.args.line t old s m z d c.requires.keeps c.requires.next b same (subst (λ (x : Key → Option Page). FitsTables t x m) c.begin.ensures.contents (c.begin.ensures.fits t c.requires.keeps.fits)) c.complete.ensures.served c.complete.ensures.stored c.complete.ensures.store)
 
 pub returns-in-None-clause-marked : goal.returns-in-None-clause-marked
 returns-in-None-clause-marked g c =
-    marked_none c.args.line kind.Io (event.Io c.args.i) (world_with c.args.t.now (bytes_of (g.G.Pages.contents c.args.g.now))) answer.Nothing (world_with c.args.t.now (bytes_of (g.G.Pages.contents c.complete.new.self))) g.G.Pages.unpaged
+    marked_none c.args.line kind.Io (event.Io c.args.i) (world_with c.args.t.now (key_bytes (g.G.Pages.contents c.args.g.now))) answer.Nothing (world_with c.args.t.now (key_bytes (g.G.Pages.contents c.complete.new.self))) g.G.Pages.unpaged
     (g.G.Pages.store c.args.g.now) (g.G.Pages.store c.begin.new.g) (g.G.Pages.store c.complete.new.self) (g.G.Pages.behind c.args.g.now) (g.G.Pages.behind c.begin.new.g) (g.G.Pages.behind c.complete.new.self)
     (record { ages = λ ms. refl; waits = λ ws l. refl }) (λ ms h. h) c.begin.ensures.passes
     (passes_to g.G.Pages.unpaged (CompletesAs c.args.i done.None) NoMove (g.G.Pages.store c.begin.new.g) (g.G.Pages.store c.complete.new.self) (g.G.Pages.behind c.begin.new.g) (g.G.Pages.behind c.complete.new.self) (λ ms h. h.1) c.in-None.ensures.passes)
 
 pub returns-in-Ok-clause-marked : goal.returns-in-Ok-clause-marked
 returns-in-Ok-clause-marked g c =
-    marked_completes c.args.line kind.Io (event.Io c.args.i) (world_with c.args.t.now (bytes_of (g.G.Pages.contents c.args.g.now))) answer.Ok (world_with c.args.t.now (bytes_of (g.G.Pages.contents c.complete.new.self))) g.G.Pages.unpaged
+    marked_completes c.args.line kind.Io (event.Io c.args.i) (world_with c.args.t.now (key_bytes (g.G.Pages.contents c.args.g.now))) answer.Ok (world_with c.args.t.now (key_bytes (g.G.Pages.contents c.complete.new.self))) g.G.Pages.unpaged
     (g.G.Pages.store c.args.g.now) (g.G.Pages.store c.begin.new.g) (g.G.Pages.store c.complete.new.self) (g.G.Pages.behind c.args.g.now) (g.G.Pages.behind c.begin.new.g) (g.G.Pages.behind c.complete.new.self)
     (record { ages = λ ms. refl; waits = λ ws l. refl }) c.args.i true (λ ms log h. record { frame = h.frame; found = h.found; one = h.one; moved = record { waits = h.moved.waits; ages = h.moved.ages } }) c.begin.ensures.passes c.in-Ok.ensures.passes
 
 pub returns-in-Failed-clause-marked : goal.returns-in-Failed-clause-marked
 returns-in-Failed-clause-marked g c =
-    marked_completes c.args.line kind.Io (event.Io c.args.i) (world_with c.args.t.now (bytes_of (g.G.Pages.contents c.args.g.now))) answer.Fault (world_with c.args.t.now (bytes_of (g.G.Pages.contents c.complete.new.self))) g.G.Pages.unpaged
+    marked_completes c.args.line kind.Io (event.Io c.args.i) (world_with c.args.t.now (key_bytes (g.G.Pages.contents c.args.g.now))) answer.Fault (world_with c.args.t.now (key_bytes (g.G.Pages.contents c.complete.new.self))) g.G.Pages.unpaged
     (g.G.Pages.store c.args.g.now) (g.G.Pages.store c.begin.new.g) (g.G.Pages.store c.complete.new.self) (g.G.Pages.behind c.args.g.now) (g.G.Pages.behind c.begin.new.g) (g.G.Pages.behind c.complete.new.self)
     (record { ages = λ ms. refl; waits = λ ws l. refl }) c.args.i false (λ ms log h. record { frame = h.frame; found = h.found; one = h.one; moved = record { waits = h.moved.waits; ages = h.moved.ages } }) c.begin.ensures.passes c.in-Failed.ensures.passes

@@ -2,7 +2,7 @@ use Rattle.std.proofs.Common.{◌∙◌, refl, sym}
 use Rattle.mm_types.specs.declared.answers.Answer.TheVariants as answer
 use Rattle.mm_types.specs.declared.codes.Code.TheVariants as code
 use Rattle.mm_types.specs.declared.events.Event.TheVariants as event
-use Rattle.mm_tables.specs.Fits.{bytes_of}
+use Rattle.mm_tables.specs.Fits.{key_bytes}
 use Rattle.mm_core.proofs.Serving.{quiet-same, quiet-rearranged}
 use Rattle.mm_core.proofs.Lines.{decided-same}
 use Rattle.mm_core.proofs.Fitting.{fits-rearranged}
@@ -18,7 +18,7 @@ returns-then-not-begin_trim-clause-decided g c =
     let m = g.G.Pages.store c.begin_trim.new.g in
     decided-same g.G.Pages.unpaged (event.Trim c.args.pid c.args.n) c.args.line t old _ m (answer.Error code.InvalidHandle) t (g.G.Pages.contents c.begin_trim.new.g) m
     c.requires.keeps c.requires.next c.begin_trim.ensures.begins (quiet-same _ _ refl) refl c.begin_trim.ensures.contents refl
-    (store-gone t (bytes_of old) c.args.pid.0 (gone-by t c.args.pid.0 (sym c.begin_trim.ensures.lives ∙ c.if-not-begin_trim.true)))
+    (store-gone t (key_bytes old) c.args.pid.0 (gone-by t c.args.pid.0 (sym c.begin_trim.ensures.lives ∙ c.if-not-begin_trim.true)))
     (λ f. f) tt tt c.begin_trim.ensures.fits
 
 pub returns-clause-decided : goal.returns-clause-decided
@@ -29,7 +29,7 @@ returns-clause-decided g c =
     let z = g.G.Pages.store c.trim.new.self in
     decided-same g.G.Pages.unpaged (event.Trim c.args.pid c.args.n) c.args.line t old _ m answer.Ok t (g.G.Pages.contents c.trim.new.self) z
     c.requires.keeps c.requires.next c.begin_trim.ensures.begins (quiet-rearranged m z c.trim.ensures.store) refl (c.trim.ensures.contents ∙ c.begin_trim.ensures.contents) refl
-    (store-lives t (bytes_of old) c.args.pid.0 (lives-by t c.args.pid.0 (sym c.begin_trim.ensures.lives ∙ c.if-not-begin_trim.false)))
+    (store-lives t (key_bytes old) c.args.pid.0 (lives-by t c.args.pid.0 (sym c.begin_trim.ensures.lives ∙ c.if-not-begin_trim.false)))
     (λ f. f) tt tt (fits-rearranged t _ m _ z c.begin_trim.ensures.fits c.trim.ensures.contents c.trim.ensures.store)
 
 pub returns-then-not-begin_trim-clause-marked : goal.returns-then-not-begin_trim-clause-marked

@@ -6,7 +6,7 @@ use Rattle.mm_world.specs.Contents.{blank, BytesAfterFile, world_with}
 use Rattle.mm_world.specs.Processes.{new_file}
 use Rattle.mm_world.specs.Step.{is_ok}
 use Rattle.mm_pages.specs.Store.{StoreOf}
-use Rattle.mm_tables.specs.Fits.{bytes_of}
+use Rattle.mm_tables.specs.Fits.{key_bytes}
 use Rattle.mm_core.proofs.Beside.{beside-file}
 use Rattle.mm_core.proofs.Lines.{if-ok, decided-served, faulted-answer, faulted-made, one-later, if-and, if-both, on-ok}
 use Rattle.mm_core.proofs.Making.{in_new_file}
@@ -36,7 +36,7 @@ returns-clause-ok g c =
     if-both call.result (if-and _ _ call.result call.ensures.ok (on-ok _ call.result call.ensures.bytes)) call.ensures.blamed (λ a both blamed.
     decided-served u e c.args.line t old s m a after new z c.requires.next c.begin.ensures.begins (ap (λ (s : StoreOf). s.line) call.ensures.beside) call.ensures.served
     (file-stepped u c.args.line t old new s m z c.sound.ensures.sound.spaces c.requires.keeps.fits.live a after name c.args.pages c.args.byte both.first
-    (subst (λ (x : Key → Option Page). BytesAfterFile c.args.byte t (bytes_of x) after (bytes_of new)) c.begin.ensures.contents both.second))
+    (subst (λ (x : Key → Option Page). BytesAfterFile c.args.byte t (key_bytes x) after (key_bytes new)) c.begin.ensures.contents both.second))
     (λ f. inr (blamed (faulted-answer u e c.args.line t old s m a after new z b q makes.fine both.first f))) tt tt
     (faulted-made u e c.args.line t old s m a after new z b q (s.line + 1) (one-later t s.line c.requires.keeps.few) (makes.made s.line c.requires.keeps.few) both.first) call.ensures.fits)
 
@@ -44,7 +44,7 @@ pub returns-clause-marked : goal.returns-clause-marked
 returns-clause-marked g c =
     let call = c.new_file in
     each-ok call.result (λ a.
-    marked_file c.args.line (event.File c.args.name.now c.args.pages c.args.byte) (world_with c.args.t.now (bytes_of (g.G.Pages.contents c.args.g.now))) a (world_with call.new.t (bytes_of (g.G.Pages.contents call.new.g))) g.G.Pages.unpaged (g.G.Pages.store c.args.g.now) (g.G.Pages.store c.begin.new.g) (g.G.Pages.store call.new.g) (g.G.Pages.behind c.args.g.now) (g.G.Pages.behind c.begin.new.g) (g.G.Pages.behind call.new.g)
+    marked_file c.args.line (event.File c.args.name.now c.args.pages c.args.byte) (world_with c.args.t.now (key_bytes (g.G.Pages.contents c.args.g.now))) a (world_with call.new.t (key_bytes (g.G.Pages.contents call.new.g))) g.G.Pages.unpaged (g.G.Pages.store c.args.g.now) (g.G.Pages.store c.begin.new.g) (g.G.Pages.store call.new.g) (g.G.Pages.behind c.args.g.now) (g.G.Pages.behind c.begin.new.g) (g.G.Pages.behind call.new.g)
     (record { ages = λ ms. refl; waits = λ ws l. refl }) (λ ms h. h) c.begin.ensures.passes call.ensures.notes)
 
 pub returns-clause-halted : goal.returns-clause-halted
@@ -57,6 +57,6 @@ pub returns-clause-beside : goal.returns-clause-beside
 returns-clause-beside g c = λ paged.
     let call = c.new_file in
     if-ok call.result (call.ensures.file paged) (λ a made.
-    beside-file (world_with c.args.t.now (bytes_of (g.G.Pages.contents c.args.g.now))) c.args.name.now c.args.pages c.args.byte c.args.line a (move.At c.args.line kind.Call) g.G.Pages.unpaged
+    beside-file (world_with c.args.t.now (key_bytes (g.G.Pages.contents c.args.g.now))) c.args.name.now c.args.pages c.args.byte c.args.line a (move.At c.args.line kind.Call) g.G.Pages.unpaged
     (g.G.Pages.store c.args.g.now) (g.G.Pages.store c.begin.new.g) (g.G.Pages.store call.new.g) (g.G.Pages.behind c.args.g.now) (g.G.Pages.behind c.begin.new.g) (g.G.Pages.behind call.new.g) paged
     c.begin.ensures.begins call.ensures.beside made c.begin.ensures.passes call.ensures.notes)

@@ -2,7 +2,7 @@ use Rattle.std.proofs.Common.{refl, subst, Option}
 use Rattle.mm_types.specs.declared.events.Event.TheVariants as event
 use Rattle.mm_types.specs.declared.numbers.Key.{Key}
 use Rattle.mm_world.specs.World.{Page}
-use Rattle.mm_tables.specs.Fits.{Called, bytes_of}
+use Rattle.mm_tables.specs.Fits.{Called, key_bytes}
 use Rattle.mm_core.proofs.Serving.{quiet-same}
 use Rattle.mm_core.proofs.Lines.{decided-call, bytes-kept, if-ok}
 use Rattle.mm_world.specs.Sections.{open_section}
@@ -24,14 +24,14 @@ returns-clause-ok g c =
     if-ok call.result call.ensures.ok (λ a h.
     decided-call g.G.Pages.unpaged (event.Open c.args.pid c.args.name.now) c.args.line t old _ m a call.new.t new m
     (open_section t c.args.pid.0 c.args.name.now) c.requires.keeps c.requires.next c.begin.ensures.begins (quiet-same _ _ refl)
-    (open_across t (bytes_of old) c.sound.ensures.sound.spaces c.args.pid.0 c.args.name.now) (in_open t c.args.pid.0 c.args.name.now) refl tt tt
+    (open_across t (key_bytes old) c.sound.ensures.sound.spaces c.args.pid.0 c.args.name.now) (in_open t c.args.pid.0 c.args.name.now) refl tt tt
     (subst (λ (old : Key → Option Page). Called (open_section t c.args.pid.0 c.args.name.now) t old a call.new.t new) c.begin.ensures.contents
     (record { outcome = h; bytes = bytes-kept t call.new.t new (c.begin.ensures.fits t c.requires.keeps.fits).live settled.fits.live })) settled.fits)
 
 pub returns-clause-marked : goal.returns-clause-marked
 returns-clause-marked g c =
     each-ok c.open_section.result (λ a.
-    marked_alone c.args.line kind.Call (event.Open c.args.pid c.args.name.now) (world_with c.args.t.now (bytes_of (g.G.Pages.contents c.args.g.now))) a (world_with c.open_section.new.t (bytes_of (g.G.Pages.contents c.begin.new.g))) g.G.Pages.unpaged
+    marked_alone c.args.line kind.Call (event.Open c.args.pid c.args.name.now) (world_with c.args.t.now (key_bytes (g.G.Pages.contents c.args.g.now))) a (world_with c.open_section.new.t (key_bytes (g.G.Pages.contents c.begin.new.g))) g.G.Pages.unpaged
     (g.G.Pages.store c.args.g.now) (g.G.Pages.store c.begin.new.g) (g.G.Pages.behind c.args.g.now) (g.G.Pages.behind c.begin.new.g)
     (record { ages = λ ms. refl; waits = λ ws l. refl }) refl c.begin.ensures.passes)
 

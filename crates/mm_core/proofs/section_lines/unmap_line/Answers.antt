@@ -2,7 +2,7 @@ use Rattle.std.proofs.Common.{refl, subst, Option}
 use Rattle.mm_types.specs.declared.events.Event.TheVariants as event
 use Rattle.mm_types.specs.declared.numbers.Key.{Key}
 use Rattle.mm_world.specs.World.{Page}
-use Rattle.mm_tables.specs.Fits.{Called, bytes_of}
+use Rattle.mm_tables.specs.Fits.{Called, key_bytes}
 use Rattle.mm_core.proofs.Serving.{quiet-beside}
 use Rattle.mm_world.specs.Views.{unmap}
 use Rattle.mm_world.proofs.Across.{unmap_across}
@@ -19,7 +19,7 @@ returns-clause-decided g c =
     let new = g.G.Pages.contents call.new.g in
     decided-call g.G.Pages.unpaged (event.Unmap c.args.pid c.args.addr) c.args.line t old _ (g.G.Pages.store c.begin_release.new.g) call.result call.new.t new (g.G.Pages.store call.new.g)
     (unmap t c.args.pid.0 c.args.addr) c.requires.keeps c.requires.next c.begin_release.ensures.begins (quiet-beside _ _ call.ensures.beside)
-    (unmap_across t (bytes_of old) c.sound.ensures.sound.spaces c.args.pid.0 c.args.addr) (in_unmap t c.args.pid.0 c.args.addr) refl tt tt
+    (unmap_across t (key_bytes old) c.sound.ensures.sound.spaces c.args.pid.0 c.args.addr) (in_unmap t c.args.pid.0 c.args.addr) refl tt tt
     (subst (λ (old : Key → Option Page). Called (unmap t c.args.pid.0 c.args.addr) t old call.result call.new.t new) c.begin_release.ensures.contents call.ensures.called) call.ensures.fits
 
 pub returns-clause-marked : goal.returns-clause-marked

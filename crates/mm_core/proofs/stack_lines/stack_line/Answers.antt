@@ -6,7 +6,7 @@ use Rattle.mm_world.specs.World.{Page}
 use Rattle.mm_world.specs.Contents.{blank, world_with}
 use Rattle.mm_world.specs.Stack.{stack}
 use Rattle.mm_world.proofs.Across.{stack_across}
-use Rattle.mm_tables.specs.Fits.{Called, bytes_of}
+use Rattle.mm_tables.specs.Fits.{Called, key_bytes}
 use Rattle.mm_core.proofs.Serving.{quiet-beside}
 use Rattle.mm_core.proofs.Making.{in_stack}
 use Rattle.mm_core.proofs.Lines.{decided-call, if-ok, if-err}
@@ -25,14 +25,14 @@ returns-clause-ok g c =
     decided-call g.G.Pages.unpaged (event.Stack c.args.tid c.args.pid c.args.reserve c.args.commit) c.args.line t old _ (g.G.Pages.store c.begin.new.g) a call.new.t new (g.G.Pages.store call.new.g)
     (stack blank t c.args.tid.0 c.args.pid.0 c.args.reserve c.args.commit)
     c.requires.keeps c.requires.next c.begin.ensures.begins (quiet-beside _ _ call.ensures.beside)
-    (stack_across t (bytes_of old) c.sound.ensures.sound.spaces c.args.tid.0 c.args.pid.0 c.args.reserve c.args.commit) (in_stack blank t c.args.tid.0 c.args.pid.0 c.args.reserve c.args.commit) refl tt tt
+    (stack_across t (key_bytes old) c.sound.ensures.sound.spaces c.args.tid.0 c.args.pid.0 c.args.reserve c.args.commit) (in_stack blank t c.args.tid.0 c.args.pid.0 c.args.reserve c.args.commit) refl tt tt
     (subst (λ (old : Key → Option Page). Called (stack blank t c.args.tid.0 c.args.pid.0 c.args.reserve c.args.commit) t old a call.new.t new) c.begin.ensures.contents h) call.ensures.fits)
 
 pub returns-clause-marked : goal.returns-clause-marked
 returns-clause-marked g c =
     let call = c.stack in
     if-ok call.result call.ensures.passes (λ a passes.
-    marked_turn c.args.line kind.Call (event.Stack c.args.tid c.args.pid c.args.reserve c.args.commit) (world_with c.args.t.now (bytes_of (g.G.Pages.contents c.args.g.now))) a (world_with call.new.t (bytes_of (g.G.Pages.contents call.new.g))) g.G.Pages.unpaged
+    marked_turn c.args.line kind.Call (event.Stack c.args.tid c.args.pid c.args.reserve c.args.commit) (world_with c.args.t.now (key_bytes (g.G.Pages.contents c.args.g.now))) a (world_with call.new.t (key_bytes (g.G.Pages.contents call.new.g))) g.G.Pages.unpaged
     (g.G.Pages.store c.args.g.now) (g.G.Pages.store c.begin.new.g) (g.G.Pages.store call.new.g) (g.G.Pages.behind c.args.g.now) (g.G.Pages.behind c.begin.new.g) (g.G.Pages.behind call.new.g)
     (record { ages = λ ms. refl; waits = λ ws l. refl }) (MakesStack (guard_told a)) (stack_makes (guard_told a)) (λ ms h. h) c.begin.ensures.passes passes)
 

@@ -6,7 +6,7 @@ use Rattle.mm_core.specs.Pending.{Permitted}
 use Rattle.mm_core.proofs.ThreadPassed.{turned_refused, turned_failed, went_joined}
 use Rattle.mm_world.specs.Contents.{Tables, world_with}
 use Rattle.mm_world.specs.WellFormed.{Spaces}
-use Rattle.mm_tables.specs.Fits.{bytes_of}
+use Rattle.mm_tables.specs.Fits.{key_bytes}
 use Rattle.mm_core.proofs.Waiting.{write_permitted}
 use Rattle.mm_core.proofs.threads.write_access.Goals as goal
 use Rattle.mm_core.proofs.threads.write_access.Goals.{then-row, else-row}
@@ -16,7 +16,7 @@ returns-in-Err-clause-keeps g c = c.admit.ensures.keeps _ _ c.requires.keeps
 
 pub returns-then-failed-clause-turned : goal.returns-then-failed-clause-turned
 returns-then-failed-clause-turned g c =
-    let old = bytes_of (g.G.Pages.contents c.args.g.now) in (
+    let old = key_bytes (g.G.Pages.contents c.args.g.now) in (
       c.if-failed.true,
       write_permitted c.args.t.now old c.args.pid.0 c.args.addr c.args.bytes.now c.in-Ok.row c.in-Ok.ensures.admitted,
       refl,
@@ -31,12 +31,12 @@ write_on-written-requires-clause-spaces g c = subst (λ (v : Tables). Spaces v) 
 
 pub returns-in-Err-clause-passes : goal.returns-in-Err-clause-passes
 returns-in-Err-clause-passes g c =
-    let old = bytes_of (g.G.Pages.contents c.args.g.now) in
+    let old = key_bytes (g.G.Pages.contents c.args.g.now) in
     turned_refused g.G.Pages.unpaged (world_with c.args.t.now old) c.args.pid c.args.addr (WriteOf c.args.bytes.now) c.args.tid.0 (answer.Raised c.in-Err.why) (g.G.Pages.store c.args.g.now) (g.G.Pages.behind c.args.g.now) (c.in-Err.ensures.refused old (WriteOf c.args.bytes.now) refl).needless
 
 pub returns-then-failed-clause-passes : goal.returns-then-failed-clause-passes
 returns-then-failed-clause-passes g c =
-    let old = bytes_of (g.G.Pages.contents c.args.g.now) in
+    let old = key_bytes (g.G.Pages.contents c.args.g.now) in
     let permitted : Permitted (world_with c.args.t.now old) c.args.pid.0 c.args.addr (WriteOf c.args.bytes.now) = write_permitted c.args.t.now old c.args.pid.0 c.args.addr c.args.bytes.now c.in-Ok.row c.in-Ok.ensures.admitted in
     turned_failed g.G.Pages.unpaged (world_with c.args.t.now old) c.args.pid c.args.addr (WriteOf c.args.bytes.now) c.args.tid.0 (g.G.Pages.store c.args.g.now) (g.G.Pages.behind c.args.g.now) permitted
 

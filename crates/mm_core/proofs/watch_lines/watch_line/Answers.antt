@@ -6,7 +6,7 @@ use Rattle.mm_world.specs.World.{Page}
 use Rattle.mm_world.specs.Contents.{world_with}
 use Rattle.mm_world.specs.Watch.{watch}
 use Rattle.mm_world.proofs.Across.{watch_across}
-use Rattle.mm_tables.specs.Fits.{Called, bytes_of}
+use Rattle.mm_tables.specs.Fits.{Called, key_bytes}
 use Rattle.mm_core.proofs.Serving.{quiet-same}
 use Rattle.mm_core.proofs.Making.{in_watch}
 use Rattle.mm_core.proofs.Lines.{decided-call}
@@ -23,13 +23,13 @@ returns-clause-decided g c =
     let fits = c.begin.ensures.fits t c.requires.keeps.fits in
     decided-call g.G.Pages.unpaged (event.Watch c.args.pid c.args.unwrites c.args.addr c.args.size c.args.count) c.args.line t old _ m call.result call.new.t mid m
     (watch t c.args.pid.0 c.args.unwrites c.args.addr c.args.size c.args.count) c.requires.keeps c.requires.next c.begin.ensures.begins (quiet-same _ _ refl)
-    (watch_across t (bytes_of old) c.sound.ensures.sound.spaces c.args.pid.0 c.args.unwrites c.args.addr c.args.size c.args.count) (in_watch t c.args.pid.0 c.args.unwrites c.args.addr c.args.size c.args.count) refl tt tt
+    (watch_across t (key_bytes old) c.sound.ensures.sound.spaces c.args.pid.0 c.args.unwrites c.args.addr c.args.size c.args.count) (in_watch t c.args.pid.0 c.args.unwrites c.args.addr c.args.size c.args.count) refl tt tt
     (subst (λ (old : Key → Option Page). Called (watch t c.args.pid.0 c.args.unwrites c.args.addr c.args.size c.args.count) t old call.result call.new.t mid) c.begin.ensures.contents (call.ensures.called mid m fits))
     (call.ensures.fits mid m fits)
 
 pub returns-clause-marked : goal.returns-clause-marked
 returns-clause-marked g c =
     let call = c.watch in
-    marked_alone c.args.line kind.Call (event.Watch c.args.pid c.args.unwrites c.args.addr c.args.size c.args.count) (world_with c.args.t.now (bytes_of (g.G.Pages.contents c.args.g.now))) call.result (world_with call.new.t (bytes_of (g.G.Pages.contents c.begin.new.g))) g.G.Pages.unpaged
+    marked_alone c.args.line kind.Call (event.Watch c.args.pid c.args.unwrites c.args.addr c.args.size c.args.count) (world_with c.args.t.now (key_bytes (g.G.Pages.contents c.args.g.now))) call.result (world_with call.new.t (key_bytes (g.G.Pages.contents c.begin.new.g))) g.G.Pages.unpaged
     (g.G.Pages.store c.args.g.now) (g.G.Pages.store c.begin.new.g) (g.G.Pages.behind c.args.g.now) (g.G.Pages.behind c.begin.new.g)
     (record { ages = λ ms. refl; waits = λ ws l. refl }) refl c.begin.ensures.passes

@@ -5,12 +5,12 @@ use Rattle.mm_paged.proofs.copying.copy_held.Goals as goal
 
 pub copy-requires-clause-from_owned : goal.copy-requires-clause-from_owned
 copy-requires-clause-from_owned g c = some_of (record_at (g.T.Moving.shown c.put_copy.new.state).life.frames c.args.f.0).owner c.args.from
-    (from_owner c.args.from c.args.f c.args.place (g.T.Moving.shown c.give_copy-own.new.state) (g.T.Moving.shown c.put_copy.new.state) c.sound-3.ensures.holds c.sound-4.ensures.holds (held_still c.args.from c.args.f c.args.place (g.T.Moving.shown c.find_pinned.new.state) (g.T.Moving.shown c.give_copy-own.new.state) (held_then c.args.from c.args.f c.args.place (g.T.Moving.shown c.args.state.now) (g.T.Moving.shown c.find_pinned.new.state) c.requires.may.held c.in_ok-find_pinned.ensures.spares) c.give_copy-own.ensures.gave.valid c.give_copy-own.ensures.gave.names) c.put_copy.ensures.put.stands)
+    (from_owner c.args.from c.args.f c.args.place (g.T.Moving.shown c.give_copy-own.new.state) (g.T.Moving.shown c.put_copy.new.state) (g.met.T.Moving.holds c.give_copy-own.new.state) (g.met.T.Moving.holds c.put_copy.new.state) (held_still c.args.from c.args.f c.args.place (g.T.Moving.shown c.find_pinned.new.state) (g.T.Moving.shown c.give_copy-own.new.state) (held_then c.args.from c.args.f c.args.place (g.T.Moving.shown c.args.state.now) (g.T.Moving.shown c.find_pinned.new.state) c.requires.may.held c.in_ok-find_pinned.ensures.spares) c.give_copy-own.ensures.gave.valid c.give_copy-own.ensures.gave.names) c.put_copy.ensures.put.stands)
 
 pub copy-requires-clause-other : goal.copy-requires-clause-other
 copy-requires-clause-other g c = other_frame c.args.from c.args.place c.args.f c.give_copy-own.result (g.T.Moving.shown c.put_copy.new.state) c.requires.may.shared
-    (from_owner c.args.from c.args.f c.args.place (g.T.Moving.shown c.give_copy-own.new.state) (g.T.Moving.shown c.put_copy.new.state) c.sound-3.ensures.holds c.sound-4.ensures.holds (held_still c.args.from c.args.f c.args.place (g.T.Moving.shown c.find_pinned.new.state) (g.T.Moving.shown c.give_copy-own.new.state) (held_then c.args.from c.args.f c.args.place (g.T.Moving.shown c.args.state.now) (g.T.Moving.shown c.find_pinned.new.state) c.requires.may.held c.in_ok-find_pinned.ensures.spares) c.give_copy-own.ensures.gave.valid c.give_copy-own.ensures.gave.names) c.put_copy.ensures.put.stands)
-    (owner_then (key_of_place c.args.place) c.give_copy-own.result (g.T.Moving.shown c.give_copy-own.new.state) (g.T.Moving.shown c.put_copy.new.state) c.sound-4.ensures.holds c.put_copy.ensures.put.stands c.give_copy-own.ensures.gave.frame.stands)
+    (from_owner c.args.from c.args.f c.args.place (g.T.Moving.shown c.give_copy-own.new.state) (g.T.Moving.shown c.put_copy.new.state) (g.met.T.Moving.holds c.give_copy-own.new.state) (g.met.T.Moving.holds c.put_copy.new.state) (held_still c.args.from c.args.f c.args.place (g.T.Moving.shown c.find_pinned.new.state) (g.T.Moving.shown c.give_copy-own.new.state) (held_then c.args.from c.args.f c.args.place (g.T.Moving.shown c.args.state.now) (g.T.Moving.shown c.find_pinned.new.state) c.requires.may.held c.in_ok-find_pinned.ensures.spares) c.give_copy-own.ensures.gave.valid c.give_copy-own.ensures.gave.names) c.put_copy.ensures.put.stands)
+    (owner_then (key_of_place c.args.place) c.give_copy-own.result (g.T.Moving.shown c.give_copy-own.new.state) (g.T.Moving.shown c.put_copy.new.state) (g.met.T.Moving.holds c.put_copy.new.state) c.put_copy.ensures.put.stands c.give_copy-own.ensures.gave.frame.stands)
 
 pub returns-clause-went : goal.returns-clause-went
 returns-clause-went g c a p = went_held a (g.T.Moving.shown c.args.state.now) (g.T.Moving.shown c.find_pinned.new.state) (g.T.Moving.shown c.give_copy-own.new.state) (g.T.Moving.shown c.put_copy.new.state) (g.T.Moving.shown c.copy.new.self) (c.in_ok-find_pinned.ensures.ok.went a c.args.place p) (c.give_copy-own.ensures.gave.took a p.copy) (c.put_copy.ensures.put.went a p.at p.copy) c.copy.ensures.rest
@@ -27,7 +27,7 @@ returns-clause-copied g c = made_copied c.args.from c.args.place c.args.f c.give
   contents_given = c.give_copy-own.ensures.gave.contents;
   read_given = c.give_copy-own.ensures.gave.read;
   given = c.give_copy-own.ensures.gave.same;
-  holds = c.sound-3.ensures.holds;
+  holds = (g.met.T.Moving.holds c.give_copy-own.new.state);
   kept = c.put_copy.ensures.put.life;
   valid_put = c.put_copy.ensures.put.valid;
   young = c.put_copy.ensures.put.young;
@@ -36,7 +36,7 @@ returns-clause-copied g c = made_copied c.args.from c.args.place c.args.f c.give
   told = c.put_copy.ensures.put.told;
   put = c.put_copy.ensures.put.same;
   bytes = c.copy.ensures.copied c.args.from (key_of_place c.args.place)
-      (from_owner c.args.from c.args.f c.args.place (g.T.Moving.shown c.give_copy-own.new.state) (g.T.Moving.shown c.put_copy.new.state) c.sound-3.ensures.holds c.sound-4.ensures.holds (held_still c.args.from c.args.f c.args.place (g.T.Moving.shown c.find_pinned.new.state) (g.T.Moving.shown c.give_copy-own.new.state) (held_then c.args.from c.args.f c.args.place (g.T.Moving.shown c.args.state.now) (g.T.Moving.shown c.find_pinned.new.state) c.requires.may.held c.in_ok-find_pinned.ensures.spares) c.give_copy-own.ensures.gave.valid c.give_copy-own.ensures.gave.names) c.put_copy.ensures.put.stands)
-      (owner_then (key_of_place c.args.place) c.give_copy-own.result (g.T.Moving.shown c.give_copy-own.new.state) (g.T.Moving.shown c.put_copy.new.state) c.sound-4.ensures.holds c.put_copy.ensures.put.stands c.give_copy-own.ensures.gave.frame.stands);
+      (from_owner c.args.from c.args.f c.args.place (g.T.Moving.shown c.give_copy-own.new.state) (g.T.Moving.shown c.put_copy.new.state) (g.met.T.Moving.holds c.give_copy-own.new.state) (g.met.T.Moving.holds c.put_copy.new.state) (held_still c.args.from c.args.f c.args.place (g.T.Moving.shown c.find_pinned.new.state) (g.T.Moving.shown c.give_copy-own.new.state) (held_then c.args.from c.args.f c.args.place (g.T.Moving.shown c.args.state.now) (g.T.Moving.shown c.find_pinned.new.state) c.requires.may.held c.in_ok-find_pinned.ensures.spares) c.give_copy-own.ensures.gave.valid c.give_copy-own.ensures.gave.names) c.put_copy.ensures.put.stands)
+      (owner_then (key_of_place c.args.place) c.give_copy-own.result (g.T.Moving.shown c.give_copy-own.new.state) (g.T.Moving.shown c.put_copy.new.state) (g.met.T.Moving.holds c.put_copy.new.state) c.put_copy.ensures.put.stands c.give_copy-own.ensures.gave.frame.stands);
   rest = c.copy.ensures.rest;
 })

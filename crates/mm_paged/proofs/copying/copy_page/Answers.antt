@@ -24,10 +24,10 @@ copy_held-requires-clause-may g c = record {
 }
 
 pub returns-clause-ok : goal.returns-clause-ok
-returns-clause-ok g c = ok_copies _ c.args.from _ c.args.place _ _ c.in_ok-f.ensures.readied c.sound-2.ensures.holds c.requires.may.dead _ c.copy_held.ensures.went c.copy_held.ensures.copied
+returns-clause-ok g c = ok_copies _ c.args.from _ c.args.place _ _ c.in_ok-f.ensures.readied (g.met.T.Moving.holds c.hold_shared.new.state) c.requires.may.dead _ c.copy_held.ensures.went c.copy_held.ensures.copied
 
 pub returns-clause-err : goal.returns-clause-err
-returns-clause-err g c = err_copies _ c.args.from _ c.args.place _ _ c.in_ok-f.ensures.readied c.sound-2.ensures.holds c.requires.may.dead _ c.copy_held.ensures.err c.copy_held.ensures.spares
+returns-clause-err g c = err_copies _ c.args.from _ c.args.place _ _ c.in_ok-f.ensures.readied (g.met.T.Moving.holds c.hold_shared.new.state) c.requires.may.dead _ c.copy_held.ensures.err c.copy_held.ensures.spares
 
 pub returns-in_err-f-clause-err : goal.returns-in_err-f-clause-err
 returns-in_err-f-clause-err g c =

@@ -9,7 +9,7 @@ pub returns-in-Frame-clause-err : goal.returns-in-Frame-clause-err
 returns-in-Frame-clause-err g c = err_brings_settled _ c.args.key _ _ c.settle.ensures.err
 
 pub stands-requires : goal.stands-requires
-stands-requires g c = c.sound.ensures.holds.home c.args.key c.requires.live
+stands-requires g c = (g.met.T.Moving.holds c.args.state.now).home c.args.key c.requires.live
 
 pub bring_stored-requires : goal.bring_stored-requires
 bring_stored-requires g c = record { may = record { access = c.requires.access; stored = search rules; own = c.requires.own } }

@@ -3,7 +3,7 @@ use Rattle.mm_paged.proofs.FaultSteps.{gives, ready_then, ready_cleared, ready_s
 use Rattle.mm_paged.proofs.faults.give_standby.Goals as goal
 
 pub give-requires : goal.give-requires
-give-requires g c = record { legal = give_legal c.args.key _ _ _ c.sound.ensures.holds c.requires.touch c.requires.zero c.steal.ensures.made c.clear.ensures.made }
+give-requires g c = record { legal = give_legal c.args.key _ _ _ (g.met.T.Moving.holds c.args.state.now) c.requires.touch c.requires.zero c.steal.ensures.made c.clear.ensures.made }
 
 pub returns-clause-gave : goal.returns-clause-gave
 returns-clause-gave g c =

@@ -19,7 +19,7 @@ pub put_below-requires-clause-below : goal.put_below-requires-clause-below
 put_below-requires-clause-below g c = below_then _ _ (record { pid = c.args.place.pid; vpn = c.in-Some.vpn }) c.requires.set.set c.in-Some.ensures.next.valid c.requires.set.full c.unmap.ensures.made.life
 
 pub unreachable-requires : goal.unreachable-requires
-unreachable-requires g c = some_page _ c.args.place.pid.0 c.sound.ensures.holds c.requires.set.set c.requires.set.full c.in-None.ensures.next
+unreachable-requires g c = some_page _ c.args.place.pid.0 (g.met.T.Moving.holds c.args.state.now) c.requires.set.set c.requires.set.full c.in-None.ensures.next
 
 pub returns-clause-puts : goal.returns-clause-puts
 returns-clause-puts g c =

@@ -4,12 +4,12 @@ use Rattle.mm_paged.proofs.InFlight.{read_flight}
 use Rattle.mm_paged.proofs.faults.read_free.Goals as goal
 
 pub end_read-requires : goal.end_read-requires
-end_read-requires g c = record { legal = read_legal c.args.key _ _ _ c.sound.ensures.holds c.start_read-f.ensures.made c.requires.may.access }
+end_read-requires g c = record { legal = read_legal c.args.key _ _ _ (g.met.T.Moving.holds c.start_read-f.new.self) c.start_read-f.ensures.made c.requires.may.access }
 
 pub returns-then-end_read-clause-ok : goal.returns-then-end_read-clause-ok
 returns-then-end_read-clause-ok g c = record {
   front = c.start_read-f.ensures.frame;
-  read = reads_in c.args.key c.start_read-f.result c.start_read-f.result true _ _ _ refl c.sound.ensures.holds c.start_read-f.ensures.made c.if-end_read.ensures.made;
+  read = reads_in c.args.key c.start_read-f.result c.start_read-f.result true _ _ _ refl (g.met.T.Moving.holds c.start_read-f.new.self) c.start_read-f.ensures.made c.if-end_read.ensures.made;
   calm = search rules;
   frame = read_in_frame c.args.key _ _ _ _ c.start_read-f.ensures.made c.if-end_read.ensures.made;
   flight = read_flight c.args.key _ _ _ _ c.start_read-f.ensures.made c.if-end_read.ensures.made;
@@ -17,7 +17,7 @@ returns-then-end_read-clause-ok g c = record {
 
 pub returns-else-end_read-clause-err : goal.returns-else-end_read-clause-err
 returns-else-end_read-clause-err g c = record {
-  bad = reads_in c.args.key c.start_read-f.result _ false _ _ _ c.start_read-f.ensures.frame c.sound.ensures.holds c.start_read-f.ensures.made c.if-end_read.ensures.made;
+  bad = reads_in c.args.key c.start_read-f.result _ false _ _ _ c.start_read-f.ensures.frame (g.met.T.Moving.holds c.start_read-f.new.self) c.start_read-f.ensures.made c.if-end_read.ensures.made;
   why = refl;
-  fails = read_fails c.args.key _ _ _ _ c.sound.ensures.holds c.requires.may.own c.start_read-f.ensures.made c.start_read-f.ensures.rest c.if-end_read.ensures.made c.if-end_read.ensures.rest;
+  fails = read_fails c.args.key _ _ _ _ (g.met.T.Moving.holds c.start_read-f.new.self) c.requires.may.own c.start_read-f.ensures.made c.start_read-f.ensures.rest c.if-end_read.ensures.made c.if-end_read.ensures.rest;
 }

@@ -7,14 +7,14 @@ use Rattle.mm_paged.proofs.faults.settle.Goals as goal
 
 pub returns-then-not-end_read-clause-err : goal.returns-then-not-end_read-clause-err
 returns-then-not-end_read-clause-err g c = record {
-  stuck = λ a h. stuck_bad a c.args.f c.args.key _ _ c.if-not-end_read.ensures.made (c.sound.ensures.holds.owner c.args.key c.args.f c.requires.stands) h;
-  fails = bad_fails c.args.f c.args.key _ _ c.if-not-end_read.ensures.made (c.sound.ensures.holds.owner c.args.key c.args.f c.requires.stands) (c.sound.ensures.holds.reading c.args.f)
+  stuck = λ a h. stuck_bad a c.args.f c.args.key _ _ c.if-not-end_read.ensures.made ((g.met.T.Moving.holds c.args.state.now).owner c.args.key c.args.f c.requires.stands) h;
+  fails = bad_fails c.args.f c.args.key _ _ c.if-not-end_read.ensures.made ((g.met.T.Moving.holds c.args.state.now).owner c.args.key c.args.f c.requires.stands) ((g.met.T.Moving.holds c.args.state.now).reading c.args.f)
       (called_by_read (g.T.Moving.shown c.args.state.now) _ c.args.f.0 c.requires.own c.if-not-end_read.ensures.rest);
 }
 
 pub returns-else-not-end_read-clause-ok : goal.returns-else-not-end_read-clause-ok
 returns-else-not-end_read-clause-ok g c = record {
-  went = λ a h. went_got a c.args.f c.args.key _ _ c.if-not-end_read.ensures.made (c.sound.ensures.holds.owner c.args.key c.args.f c.requires.stands) h;
+  went = λ a h. went_got a c.args.f c.args.key _ _ c.if-not-end_read.ensures.made ((g.met.T.Moving.holds c.args.state.now).owner c.args.key c.args.f c.requires.stands) h;
   calm = search rules;
   frame = in_frame_got c.args.key c.args.f _ _ c.requires.stands c.if-not-end_read.ensures.made;
   flight = got_flight c.args.f _ _ c.if-not-end_read.ensures.made;

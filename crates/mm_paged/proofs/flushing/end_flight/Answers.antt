@@ -11,4 +11,4 @@ returns-then-not-is_writing-clause-ended g c b e =
 pub returns-clause-ended : goal.returns-clause-ended
 returns-clause-ended g c b e =
     let writing : is_write (record_at (g.T.Moving.shown c.args.state.now).life.frames c.args.f.0).request ≡ true = cc in
-    flight_ended b c.args.f c.end_write-done.result (g.T.Moving.shown c.args.state.now) (g.T.Moving.shown c.end_write-done.new.self) c.sound.ensures.holds c.sound-2.ensures.holds c.requires.filed e c.requires.own writing c.end_write-done.ensures.made c.end_write-done.ensures.rest c.end_write-done.ensures.wrote
+    flight_ended b c.args.f c.end_write.result (g.T.Moving.shown c.args.state.now) (g.T.Moving.shown c.end_write.new.self) (g.met.T.Moving.holds c.args.state.now) (g.met.T.Moving.holds c.end_write.new.self) c.requires.filed e c.requires.own writing c.end_write.ensures.made c.end_write.ensures.rest c.end_write.ensures.wrote

@@ -9,8 +9,8 @@ returns-then-not-changed-clause-wrote g c b e =
 
 pub start_write-requires-clause-legal : goal.start_write-requires-clause-legal
 start_write-requires-clause-legal g c =
-    start_legal (g.T.Moving.shown c.args.state.now) c.args.f c.sound.ensures.holds c.requires.filed c.requires.kind c.requires.still (sym (ap (λ (r : Record). r.changed) c.look-changed.ensures) ∙ c.if-not-changed.false)
+    start_legal (g.T.Moving.shown c.args.state.now) c.args.f (g.met.T.Moving.holds c.args.state.now) c.requires.filed c.requires.kind c.requires.still (sym (ap (λ (r : Record). r.changed) c.look-changed.ensures) ∙ c.if-not-changed.false)
 
 pub returns-clause-wrote : goal.returns-clause-wrote
-returns-clause-wrote g c b e = changed_written b c.args.f c.start_write.result c.end_write-done.result (g.T.Moving.shown c.args.state.now) (g.T.Moving.shown c.start_write.new.self) (g.T.Moving.shown c.end_write-done.new.self) c.sound.ensures.holds c.sound-2.ensures.holds c.sound-3.ensures.holds c.requires.filed e c.requires.own c.requires.kind (sym (ap (λ (r : Record). r.changed) c.look-changed.ensures) ∙ c.if-not-changed.false)
-    c.start_write.ensures.to c.start_write.ensures.made c.start_write.ensures.rest c.end_write-done.ensures.made c.end_write-done.ensures.rest c.end_write-done.ensures.wrote
+returns-clause-wrote g c b e = changed_written b c.args.f c.start_write.result c.end_write.result (g.T.Moving.shown c.args.state.now) (g.T.Moving.shown c.start_write.new.self) (g.T.Moving.shown c.end_write.new.self) (g.met.T.Moving.holds c.args.state.now) (g.met.T.Moving.holds c.start_write.new.self) (g.met.T.Moving.holds c.end_write.new.self) c.requires.filed e c.requires.own c.requires.kind (sym (ap (λ (r : Record). r.changed) c.look-changed.ensures) ∙ c.if-not-changed.false)
+    c.start_write.ensures.to c.start_write.ensures.made c.start_write.ensures.rest c.end_write.ensures.made c.end_write.ensures.rest c.end_write.ensures.wrote

@@ -18,7 +18,7 @@ returns-then-not-write_block-clause-written g c =
 pub loop-i-preserved : goal.loop-i-preserved
 loop-i-preserved g c =
     let e = c.if-not-write_block.ensures in
-    let long : length (g.T.Moving.shown c.loop-i.state).blocks ≡ (g.T.Moving.shown c.args.state.now).life.machine.blocks = c.loop-i.invariant.written.long ∙ c.sound.ensures.holds.blocks in
+    let long : length (g.T.Moving.shown c.loop-i.state).blocks ≡ (g.T.Moving.shown c.args.state.now).life.machine.blocks = c.loop-i.invariant.written.long ∙ (g.met.T.Moving.holds c.args.state.now).blocks in
     record {
       few = omega (arith, c.loop-i-test.true);
       written = blocks_more c.args.first.0 c.loop-i.i c.args.byte (g.T.Moving.shown c.args.state.now) (g.T.Moving.shown c.loop-i.state) (g.T.Moving.shown c.write_block.new.self) c.loop-i.invariant.written

@@ -9,4 +9,4 @@ pub returns-then-is_starved-clause-begun : goal.returns-then-is_starved-clause-b
 returns-then-is_starved-clause-begun g c place = begun_short c.args.key place _ c.requires.stored (sym c.has_depth.ensures ∙ c.if-not-has_depth.false) (sym c.is_starved.ensures ∙ c.if-is_starved.true)
 
 pub returns-clause-begun : goal.returns-clause-begun
-returns-clause-begun g c place = begun_read c.args.key place _ _ c.sound.ensures.holds c.requires.stored (sym c.has_depth.ensures ∙ c.if-not-has_depth.false) (sym c.is_starved.ensures ∙ c.if-is_starved.false) c.begin_read.ensures.reads
+returns-clause-begun g c place = begun_read c.args.key place _ _ (g.met.T.Moving.holds c.begin_read.new.state) c.requires.stored (sym c.has_depth.ensures ∙ c.if-not-has_depth.false) (sym c.is_starved.ensures ∙ c.if-is_starved.false) c.begin_read.ensures.reads

@@ -1,12 +1,12 @@
 use Rattle.std.proofs.Common.{◌-◌}
 use Rattle.mm_frame_laws.specs.Order.{PassedTo}
 use Rattle.mm_parts.specs.Moves.{after_page}
-use Rattle.mm_reclaim.specs.Choosing.{IsHeld, IsLow, rank}
+use Rattle.mm_reclaim.specs.Choosing.{IsValidPage, IsLow, rank}
 use Rattle.mm_reclaim.proofs.choosing.oldest_to_go.Given as goal
 
 abbrev pub invariant-pages : goal.invariant-pages
 invariant-pages g l = record {
-  held : IsHeld (g.T.Moving.shown l.state).life l.pid l.after;
+  held : IsValidPage (g.T.Moving.shown l.state).life l.pid l.after;
   low : IsLow l.after;
   passed : PassedTo (g.T.Moving.shown l.state).life (g.T.Moving.shown l.state).ages l.pinned l.pid.0 (after_page l.pid l.after);
 }

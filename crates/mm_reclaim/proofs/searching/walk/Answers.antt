@@ -10,21 +10,21 @@ loop-i-init g c = record {
 }
 
 pub unreachable-requires : goal.unreachable-requires
-unreachable-requires g c = some_front c.args.pinned (g.T.Moving.shown c.args.state.now) (g.T.Moving.shown c.loop-i.state) c.writable_count-n.result c.loop-i.i c.sound.ensures.holds c.loop-i.invariant.walks c.loop-i-test.true
+unreachable-requires g c = some_front c.args.pinned (g.T.Moving.shown c.args.state.now) (g.T.Moving.shown c.loop-i.state) c.writable_count-n.result c.loop-i.i (g.met.T.Moving.holds c.args.state.now) c.loop-i.invariant.walks c.loop-i-test.true
     (sym (ap (λ (o : Option Frame). option_map (λ f. f.0) o) c.in-None.is) ∙ c.first_writable.ensures)
 
 pub write_frame-requires-clause-writable : goal.write_frame-requires-clause-writable
-write_frame-requires-clause-writable g c = writable_here c.args.pinned (g.T.Moving.shown c.args.state.now) (g.T.Moving.shown c.loop-i.state) c.writable_count-n.result c.loop-i.i c.sound.ensures.holds c.loop-i.invariant.walks c.loop-i-test.true
+write_frame-requires-clause-writable g c = writable_here c.args.pinned (g.T.Moving.shown c.args.state.now) (g.T.Moving.shown c.loop-i.state) c.writable_count-n.result c.loop-i.i (g.met.T.Moving.holds c.args.state.now) c.loop-i.invariant.walks c.loop-i-test.true
     c.in-Some.f (sym (ap (λ (o : Option Frame). option_map (λ f. f.0) o) c.in-Some.is) ∙ c.first_writable.ensures)
 
 pub returns-then-write_frame-clause-found : goal.returns-then-write_frame-clause-found
-returns-then-write_frame-clause-found g c = walk_found c.args.pinned (g.T.Moving.shown c.args.state.now) (g.T.Moving.shown c.loop-i.state) c.writable_count-n.result c.loop-i.i c.sound.ensures.holds c.loop-i.invariant.walks c.loop-i-test.true
-    c.in-Some.f (sym (ap (λ (o : Option Frame). option_map (λ f. f.0) o) c.in-Some.is) ∙ c.first_writable.ensures) c.sound-in-loop-i.ensures.holds (g.T.Moving.shown c.write_frame.new.state) c.if-write_frame.ensures.tries
+returns-then-write_frame-clause-found g c = walk_found c.args.pinned (g.T.Moving.shown c.args.state.now) (g.T.Moving.shown c.loop-i.state) c.writable_count-n.result c.loop-i.i (g.met.T.Moving.holds c.args.state.now) c.loop-i.invariant.walks c.loop-i-test.true
+    c.in-Some.f (sym (ap (λ (o : Option Frame). option_map (λ f. f.0) o) c.in-Some.is) ∙ c.first_writable.ensures) (g.met.T.Moving.holds c.loop-i.state) (g.T.Moving.shown c.write_frame.new.state) c.if-write_frame.ensures.tries
 
 pub loop-i-preserved : goal.loop-i-preserved
 loop-i-preserved g c = record {
-  walks = walk_goes_on c.args.pinned (g.T.Moving.shown c.args.state.now) (g.T.Moving.shown c.loop-i.state) c.writable_count-n.result c.loop-i.i c.sound.ensures.holds c.loop-i.invariant.walks c.loop-i-test.true
-      c.in-Some.f (sym (ap (λ (o : Option Frame). option_map (λ f. f.0) o) c.in-Some.is) ∙ c.first_writable.ensures) c.sound-in-loop-i.ensures.holds (g.T.Moving.shown c.write_frame.new.state) c.if-write_frame.ensures.tries;
+  walks = walk_goes_on c.args.pinned (g.T.Moving.shown c.args.state.now) (g.T.Moving.shown c.loop-i.state) c.writable_count-n.result c.loop-i.i (g.met.T.Moving.holds c.args.state.now) c.loop-i.invariant.walks c.loop-i-test.true
+      c.in-Some.f (sym (ap (λ (o : Option Frame). option_map (λ f. f.0) o) c.in-Some.is) ∙ c.first_writable.ensures) (g.met.T.Moving.holds c.loop-i.state) (g.T.Moving.shown c.write_frame.new.state) c.if-write_frame.ensures.tries;
   loans = c.write_frame.ensures.loans ∙ c.loop-i.invariant.loans;
 }
 

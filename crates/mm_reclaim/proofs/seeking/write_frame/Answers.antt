@@ -12,5 +12,5 @@ returns-clause-tries g c =
       begins = c.start_write-to.ensures.made;
       ends = c.end_write.ensures.made;
       same = tries_same c.args.f s mid z c.requires.begun c.start_write-to.ensures.rest c.end_write.ensures.rest;
-      fault = write_fault c.args.f c.start_write-to.result c.end_write.result s mid z c.sound.ensures.holds c.requires.writable.modified c.start_write-to.ensures.made c.end_write.ensures.made;
+      fault = write_fault c.args.f c.start_write-to.result c.end_write.result s mid z (g.met.T.Moving.holds c.args.state.now) c.requires.writable.modified c.start_write-to.ensures.made c.end_write.ensures.made;
     }

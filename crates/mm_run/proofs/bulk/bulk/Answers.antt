@@ -1,7 +1,7 @@
 use Rattle.std.proofs.Common.{refl, ◌∙◌}
 use Rattle.mm_make.specs.Generated.{script_of}
 use Rattle.mm_run.specs.declared.endings.Ending.TheVariants as ending
-use Rattle.mm_run.specs.Story.{counts_with}
+use Rattle.mm_run.specs.Story.{fault_counts_with}
 use Rattle.mm_run.proofs.Ends.{accounted, accounted_behind}
 use Rattle.mm_run.proofs.Tallies.{ran_unflushed, ran_failed, all_told, all_torn, accounted_unflushed}
 use Rattle.mm_run.proofs.bulk.bulk.Goals as goal
@@ -31,7 +31,7 @@ pub returns-in-Ok-tell_tally-clause-faults : goal.returns-in-Ok-tell_tally-claus
 returns-in-Ok-tell_tally-clause-faults g c = λ s.
     let out = g.O.Sink.faults in
     accounted ending.Done _ _ _ c.status.result c.status.ensures
-    ((λ i. counts_with s (c.in-Ok-tell_tally.ensures.cause.same i) (c.in-Ok.ensures.cause.same i)) ∙ c.in-Ok-decided.ensures.ends.faults s (out c.args.out.now))
+    ((λ i. fault_counts_with s (c.in-Ok-tell_tally.ensures.cause.same i) (c.in-Ok.ensures.cause.same i)) ∙ c.in-Ok-decided.ensures.ends.faults s (out c.args.out.now))
 
 pub returns-in-Err-tell_tally-clause-ran : goal.returns-in-Err-tell_tally-clause-ran
 returns-in-Err-tell_tally-clause-ran g c = λ left.
@@ -50,4 +50,4 @@ returns-in-Err-decided-clause-ran g c = λ left.
 pub returns-in-Err-decided-clause-faults : goal.returns-in-Err-decided-clause-faults
 returns-in-Err-decided-clause-faults g c = λ s.
     let out = g.O.Sink.faults c.args.out.now in
-    accounted_behind c.in-Err-decided.ending _ _ _ _ c.status-in-Err-decided.result (λ i. counts_with s out (c.in-Ok.ensures.cause.same i)) c.status-in-Err-decided.ensures (c.in-Err-decided.ensures.ends.faults s out)
+    accounted_behind c.in-Err-decided.ending _ _ _ _ c.status-in-Err-decided.result (λ i. fault_counts_with s out (c.in-Ok.ensures.cause.same i)) c.status-in-Err-decided.ensures (c.in-Err-decided.ensures.ends.faults s out)

@@ -1,10 +1,10 @@
 use Rattle.std.proofs.Common.{refl, sym, ap, inl, inr}
-use Rattle.mm_run.specs.Story.{counts_with}
+use Rattle.mm_run.specs.Story.{fault_counts_with}
 use Rattle.mm_run.proofs.bulk.decide_event.Goals as goal
 
 pub returns-then-moves_failed-clause-came : goal.returns-then-moves_failed-clause-came
 returns-then-moves_failed-clause-came g c =
-    inr (refl, (c.in-Ok.answer, rw c.in-Ok.is at c.decide.ensures.moved), sym c.if-moves_failed.ensures)
+    inr (refl, (c.decide.new.answer, rw c.in-Ok.is at c.decide.ensures.moved), sym c.if-moves_failed.ensures)
 
 pub returns-then-moves_failed-clause-faults : goal.returns-then-moves_failed-clause-faults
 returns-then-moves_failed-clause-faults g c = λ s o.
@@ -14,7 +14,7 @@ returns-then-moves_failed-clause-faults g c = λ s o.
 pub returns-else-moves_failed-clause-faults : goal.returns-else-moves_failed-clause-faults
 returns-else-moves_failed-clause-faults g c = λ s o.
     let decided = rw c.in-Ok.is at c.decide.ensures.decided in
-    ap (λ k. counts_with s o k) (decided.same (sym c.if-moves_failed.ensures))
+    ap (λ k. fault_counts_with s o k) (decided.same (sym c.if-moves_failed.ensures))
 
 pub returns-else-moves_failed-clause-ready : goal.returns-else-moves_failed-clause-ready
 returns-else-moves_failed-clause-ready g c =

@@ -1,7 +1,7 @@
 use Rattle.std.proofs.Common.{◌≡◌, ◌∙◌, refl, sym, ap, inl, inr, true, false, arith}
 use Rattle.mm_core.specs.Promise.{scene}
 use Rattle.mm_run.specs.Scenes.{Running}
-use Rattle.mm_run.specs.Story.{counts_with}
+use Rattle.mm_run.specs.Story.{fault_counts_with}
 use Rattle.mm_run.proofs.Finding.{blamed_then}
 use Rattle.mm_run.proofs.Batches.{first_handled, first_stopped, first_muted}
 use Rattle.mm_run.proofs.bulk.decide_events.Goals as goal
@@ -33,7 +33,7 @@ returns-then-moves_failed-clause-faults g c = λ o made fresh s k. (
 )
 
 pub returns-in-Ok-clause-faults : goal.returns-in-Ok-clause-faults
-returns-in-Ok-clause-faults g c = λ o made fresh s k. c.in-Ok.ensures.faults s k ∙ ap (λ n. counts_with s k n) (made.notes.grew.same (sym c.if-moves_failed.ensures))
+returns-in-Ok-clause-faults g c = λ o made fresh s k. c.in-Ok.ensures.faults s k ∙ ap (λ n. fault_counts_with s k n) (made.notes.grew.same (sym c.if-moves_failed.ensures))
 
 pub returns-in-Err-clause-faults : goal.returns-in-Err-clause-faults
-returns-in-Err-clause-faults g c = λ o made fresh s k. blamed_then c.in-Err.ending _ _ _ _ (ap (λ n. counts_with s k n) (made.notes.grew.same (sym c.if-moves_failed.ensures))) (c.in-Err.ensures.faults s k)
+returns-in-Err-clause-faults g c = λ o made fresh s k. blamed_then c.in-Err.ending _ _ _ _ (ap (λ n. fault_counts_with s k n) (made.notes.grew.same (sym c.if-moves_failed.ensures))) (c.in-Err.ensures.faults s k)

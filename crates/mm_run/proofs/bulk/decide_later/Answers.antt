@@ -1,7 +1,7 @@
 use Rattle.std.proofs.Common.{refl, ap, ◌∙◌, cond, arith}
 use Rattle.mm_core.specs.Promise.{scene}
 use Rattle.mm_run.specs.Scenes.{Running}
-use Rattle.mm_run.specs.Story.{Counts, counts_with}
+use Rattle.mm_run.specs.Story.{FaultCounts, fault_counts_with}
 use Rattle.mm_run.proofs.Finding.{blamed_then}
 use Rattle.mm_run.proofs.Batches.{handled_none, handled_on, stopped_on}
 use Rattle.mm_run.proofs.bulk.decide_later.Goals as goal
@@ -32,7 +32,7 @@ loop-event-preserved g c =
       none_few = omega (arith, i.none_few, none_most);
       ready = d.ready;
       same = c.decide_event.ensures.loans ∙ i.same;
-      faults = ap (λ (k : Counts). k.moves) (d.faults 0 0) ∙ i.faults;
+      faults = ap (λ (k : FaultCounts). k.moves) (d.faults 0 0) ∙ i.faults;
     }
 
 pub returns-in-Err-clause-came : goal.returns-in-Err-clause-came
@@ -41,7 +41,7 @@ returns-in-Err-clause-came g c =
     stopped_on (Running (scene c.args.world.now)) (scene l.world) (scene c.decide_event.new.world) c.args.events.now l.event-index l.ok l.none c.event-item.result c.in-Err.ending (omega arith) l.invariant.handled c.in-Err.ensures.came
 
 pub returns-in-Err-clause-faults : goal.returns-in-Err-clause-faults
-returns-in-Err-clause-faults g c = λ s o. blamed_then c.in-Err.ending _ _ _ _ (ap (λ k. counts_with s o k) c.loop-event.invariant.faults) (c.in-Err.ensures.faults s o)
+returns-in-Err-clause-faults g c = λ s o. blamed_then c.in-Err.ending _ _ _ _ (ap (λ k. fault_counts_with s o k) c.loop-event.invariant.faults) (c.in-Err.ensures.faults s o)
 
 pub returns-clause-faults : goal.returns-clause-faults
-returns-clause-faults g c = λ s o. ap (λ k. counts_with s o k) c.loop-event.invariant.faults
+returns-clause-faults g c = λ s o. ap (λ k. fault_counts_with s o k) c.loop-event.invariant.faults

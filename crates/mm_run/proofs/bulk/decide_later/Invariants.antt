@@ -1,9 +1,9 @@
 use Rattle.std.proofs.Common.{◌≡◌, ◌≤◌, ◌+◌, take}
-use Rattle.mm_core.specs.Shown.{loans, behind}
+use Rattle.mm_core.specs.Shown.{loans, world_behind}
 use Rattle.mm_core.specs.Promise.{scene}
 use Rattle.mm_run.specs.Scenes.{Running}
 use Rattle.mm_run.specs.Batch.{Handled}
-use Rattle.mm_run.specs.Moments.{IsReady}
+use Rattle.mm_run.specs.Moments.{HasNotedAll}
 use Rattle.mm_run.specs.Seen.{world_seen}
 use Rattle.mm_run.proofs.bulk.decide_later.Given as goal
 
@@ -13,7 +13,7 @@ invariant-loop-event g l = record {
   next : l.n ≡ l.event-index + 1;
   ok_few : l.ok ≤ l.event-index;
   none_few : l.none ≤ l.event-index;
-  ready : IsReady l.n (world_seen l.world);
+  ready : HasNotedAll l.n (world_seen l.world);
   same : loans l.world ≡ loans l.fn.world;
-  faults : (behind l.world).log.faults ≡ (behind l.fn.world).log.faults;
+  faults : (world_behind l.world).log.faults ≡ (world_behind l.fn.world).log.faults;
 }

@@ -1,7 +1,7 @@
 use Rattle.std.proofs.Common.{◌∷◌, ◌≡◌, ◌≤◌, refl, sym, ap, ◌∙◌, subst, inl, arith, rules}
 use Rattle.mm_types.specs.Machine.{IsMachine}
 use Rattle.mm_blocks.specs.Traffic.{NoneLogged}
-use Rattle.mm_core.specs.Shown.{world, behind}
+use Rattle.mm_core.specs.Shown.{world, world_behind}
 use Rattle.mm_moving.specs.Shown.{StateOf}
 use Rattle.mm_paged.specs.Store as paged
 use Rattle.mm_types.specs.declared.events.Event.TheVariants as line
@@ -67,8 +67,8 @@ returns-clause-came g c = λ p f later later'.
     let log : _ ≡ o.log = λ i. record { bytes = bm.taken (c.new-3.ensures.sink i); given = bm.given (c.new-3.ensures.sink i); failed = c.new-3.ensures.fresh i; faults = bm.faults (c.new-3.ensures.sink i) } in
     let first = c.new-world.result in
     let last = c.decide_events-decided.new.world in
-    let made = is_made m o _ _ _ _ opened _ _ log c.in-Ok.ensures.starts (first_legal m whole) (world first) (paged.store first.pages) (paged.behind first.pages) c.new-world.ensures.world
-    (ap (λ x. paged.store x) c.new-world.ensures.pages ∙ c.over.ensures.store) (ap (λ x. paged.behind x) c.new-world.ensures.pages ∙ c.over.ensures.behind) (c.new-world.ensures.agrees refl) in
+    let made = is_made m o _ _ _ _ opened _ _ log c.in-Ok.ensures.starts (first_legal m whole) (world first) (paged.store first.pages) (paged.paged_behind first.pages) c.new-world.ensures.world
+    (ap (λ x. paged.store x) c.new-world.ensures.pages ∙ c.over.ensures.store) (ap (λ x. paged.paged_behind x) c.new-world.ensures.pages ∙ c.over.ensures.behind) (c.new-world.ensures.agrees refl) in
     let names = three_names last.pages.state.paging.device.ghost_name last.pages.state.files.device.ghost_name last.pages.state.moves.sink.ghost_name c.new.result.device.ghost_name c.new-2.result.device.ghost_name c.new-3.result.sink.ghost_name
     (c.decide_events-decided.ensures.loans ∙ ap (λ x. paged.loans x) c.new-world.ensures.pages ∙ c.over.ensures.loans ∙ c.in-Ok.ensures.loans) in
     let paging : c.finish-paging.result.0 ≡ last.pages.state.paging = ap (λ x. x.0) c.finish-paging.ensures ∙ ap (λ x. x.paging) c.finish-3.ensures.state ∙ ap (λ x. x.state.paging) c.finish-2.ensures in
@@ -84,7 +84,7 @@ returns-clause-came g c = λ p f later later'.
       end = Running (scene last);
       finished = c.decide_events-decided.ensures.came o made;
       leaves = (
-        log_left_at (behind last).log _ (ap bm.taken left_m) (ap bm.given left_m) (ap bm.faults left_m),
+        log_left_at (world_behind last).log _ (ap bm.taken left_m) (ap bm.given left_m) (ap bm.faults left_m),
         record {
           log_is = ap bp.log left_p;
           blocks_are = ap bp.blocks left_p;
@@ -115,8 +115,8 @@ returns-clause-faults g c =
     let log : _ ≡ o.log = λ i. record { bytes = bm.taken (c.new-3.ensures.sink i); given = bm.given (c.new-3.ensures.sink i); failed = c.new-3.ensures.fresh i; faults = bm.faults (c.new-3.ensures.sink i) } in
     let first = c.new-world.result in
     let last = c.decide_events-decided.new.world in
-    let made = is_made m o _ _ _ _ opened _ _ log c.in-Ok.ensures.starts (first_legal m whole) (world first) (paged.store first.pages) (paged.behind first.pages) c.new-world.ensures.world
-    (ap (λ x. paged.store x) c.new-world.ensures.pages ∙ c.over.ensures.store) (ap (λ x. paged.behind x) c.new-world.ensures.pages ∙ c.over.ensures.behind) (c.new-world.ensures.agrees refl) in
+    let made = is_made m o _ _ _ _ opened _ _ log c.in-Ok.ensures.starts (first_legal m whole) (world first) (paged.store first.pages) (paged.paged_behind first.pages) c.new-world.ensures.world
+    (ap (λ x. paged.store x) c.new-world.ensures.pages ∙ c.over.ensures.store) (ap (λ x. paged.paged_behind x) c.new-world.ensures.pages ∙ c.over.ensures.behind) (c.new-world.ensures.agrees refl) in
     let names = three_names last.pages.state.paging.device.ghost_name last.pages.state.files.device.ghost_name last.pages.state.moves.sink.ghost_name c.new.result.device.ghost_name c.new-2.result.device.ghost_name c.new-3.result.sink.ghost_name
     (c.decide_events-decided.ensures.loans ∙ ap (λ x. paged.loans x) c.new-world.ensures.pages ∙ c.over.ensures.loans ∙ c.in-Ok.ensures.loans) in
     let moves : c.finish-paging.result.2 ≡ last.pages.state.moves = ap (λ x. x.2) c.finish-paging.ensures ∙ ap (λ x. x.moves) c.finish-3.ensures.state ∙ ap (λ x. x.state.moves) c.finish-2.ensures in

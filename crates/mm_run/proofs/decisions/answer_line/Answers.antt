@@ -1,7 +1,7 @@
 use Rattle.std.proofs.Common.{◌≡◌, take, sym, refl, ap, ◌∙◌, subst, List, ℕ, arith}
 use Rattle.mm_script.specs.Grammar.{IsLine as IsLineFor}
 use Rattle.std.specs.Prelude.{Err}
-use Rattle.mm_run.specs.Reading.{reading}
+use Rattle.mm_run.specs.Reading.{reading_of}
 use Rattle.mm_run.proofs.Later.{later_reading, later_refused}
 use Rattle.mm_run.proofs.Stops.{came_bad}
 use Rattle.mm_run.proofs.decisions.answer_line.Goals as goal
@@ -11,8 +11,8 @@ returns-in-Err-clause-steps g c = λ input out.
     let column = c.in-Err.column in
     let text = take c.args.len c.bytes.result.now in
     let line = c.requires.line in
-    let bad : reading c.args.n (take c.args.len c.args.held.now) ≡ Err c.in-Err.column =
-    later_reading c.args.n _ c.requires.some ∙ ap (λ xs. reading 1 (take c.args.len xs)) (sym c.bytes.ensures) ∙ c.in-Err.ensures.reads in
+    let bad : reading_of c.args.n (take c.args.len c.args.held.now) ≡ Err c.in-Err.column =
+    later_reading c.args.n _ c.requires.some ∙ ap (λ xs. reading_of 1 (take c.args.len xs)) (sym c.bytes.ensures) ∙ c.in-Err.ensures.reads in
     record {
       came = came_bad _ _ _ line.line c.requires.few line.behind _ _ _ _ _ bad
           (λ e s. later_refused c.args.n text column e c.requires.some c.in-Err.ensures.reads
@@ -27,7 +27,7 @@ answer_event-requires-clause-says g c =
     let line = rw c.in-Ok.ensures.same at c.parse_line-parsed.ensures.ok in
     record {
       some = c.requires.some;
-      says = later_reading c.args.n (take c.args.len c.args.held.now) c.requires.some ∙ ap (λ xs. reading 1 (take c.args.len xs)) (sym c.bytes.ensures) ∙ c.in-Ok.ensures.reads;
+      says = later_reading c.args.n (take c.args.len c.args.held.now) c.requires.some ∙ ap (λ xs. reading_of 1 (take c.args.len xs)) (sym c.bytes.ensures) ∙ c.in-Ok.ensures.reads;
       grammar = subst (λ (xs : List ℕ). IsLineFor (take c.args.len xs) c.in-Ok.event.now) c.bytes.ensures line;
       well_formed = rw c.in-Ok.ensures.same at c.parse_line-parsed.ensures.well_formed;
     }

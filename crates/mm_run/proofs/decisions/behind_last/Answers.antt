@@ -1,5 +1,5 @@
 use Rattle.std.proofs.Common.{refl, ap, lit≤, arith}
-use Rattle.mm_run.specs.Story.{counts_with}
+use Rattle.mm_run.specs.Story.{fault_counts_with}
 use Rattle.mm_run.proofs.Stops.{came_done, came_line, came_read, line_of_none}
 use Rattle.mm_run.specs.Scenes.{Running}
 use Rattle.mm_run.proofs.decisions.behind_last.Goals as goal
@@ -10,7 +10,7 @@ returns-in-Ok-true g c =
     record {
       ends = λ out kept z. record {
         came = came_line _ _ out.took kept _ _ _ (Running z) c.has_more.ensures.filled refl found.0 found.1;
-        faults = ap (λ k. counts_with k out.faults z.behind.log.faults) c.in-Ok-true.ensures.cause.same;
+        faults = ap (λ k. fault_counts_with k out.faults z.behind.log.faults) c.in-Ok-true.ensures.cause.same;
         idle = omega arith;
         form = λ q. cc;
       };
@@ -22,7 +22,7 @@ returns-in-Ok-false g c =
     record {
       ends = λ out kept z. record {
         came = came_done _ _ out.took kept _ _ _ (Running z) c.has_more.ensures.filled refl found.0 found.1;
-        faults = ap (λ k. counts_with k out.faults z.behind.log.faults) c.in-Ok-false.ensures.cause.same;
+        faults = ap (λ k. fault_counts_with k out.faults z.behind.log.faults) c.in-Ok-false.ensures.cause.same;
         idle = omega arith;
         form = λ q. cc;
       };

@@ -1,9 +1,9 @@
 use Rattle.std.proofs.Common.{◌≡◌, ◌∙◌, refl, sym, inl, inr, true, false, subst, rules}
-use Rattle.std.specs.Prelude.{Bool, Ok, Err, IfOk, OnOk, OnErr}
+use Rattle.std.specs.Prelude.{Bool, Ok, Err, OnOk, OnErr}
 use Rattle.mm_world.specs.World.{filled}
 use Rattle.mm_core.specs.Built.{takes_memory}
 use Rattle.mm_core.specs.Shown.{world, report}
-use Rattle.mm_core.specs.Promise.{Told, Breaks, scene}
+use Rattle.mm_core.specs.Promise.{ToldBeside, Breaks, scene}
 use Rattle.mm_run.specs.Scenes.{Running}
 use Rattle.mm_run.specs.Steps.{Moved}
 use Rattle.mm_run.specs.Moments.{HasDecided, RunsShort}
@@ -18,10 +18,11 @@ returns-clause-moved g c =
     let e = c.args.event.now in
     let old = c.args.world.now in
     let new = c.step-decided.new.self in
+    let a = c.step-decided.new.answer in
     let pages = g.G.Pages in
     let kept = stands pages.unpaged (pages.contents new.pages) (pages.store new.pages) (pages.behind new.pages) c.requires.ready.begun.paged c.sound.ensures.stands in
-    elim c.step-decided.result as (λ r. c.step-decided.result ≡ r → IfOk r (λ a. Moved (Running (scene old)) e a (Running (scene new)))) [
-      | Ok a ↦ λ q.
+    elim c.step-decided.result as (λ r. c.step-decided.result ≡ r → OnOk r (Moved (Running (scene old)) e a (Running (scene new)))) [
+      | Ok x ↦ λ q.
           (let d = rw q at c.step-decided.ensures.decided in
           let o = d.stepped in
           let noted = d.notes c.requires.ready.begun.paged in
@@ -34,7 +35,7 @@ returns-clause-moved g c =
                   answered = o.decided;
                   unpaged = unpaged_answer (world old) (world new) e a (report old) (report new) o.decided;
                   plain = λ few none. plain_answer (world old) (report old) (report new) none kept.search kept.read (world new) e a o.decided few;
-                  told = subst (λ (u : Bool). Told u (scene old) e a d.moves (scene new)) c.requires.ready.begun.paged d.told;
+                  told = subst (λ (u : Bool). ToldBeside u (scene old) e a d.moves (scene new)) c.requires.ready.begun.paged d.told;
                 },
               );
               within = d.told.sound.within;
@@ -50,7 +51,7 @@ returns-clause-decided g c =
     let v = world_seen c.args.world.now in
     let w = world_seen c.step-decided.new.self in
     elim c.step-decided.result as (λ r. c.step-decided.result ≡ r → OnOk r (HasDecided c.args.n v w)) [
-      | Ok a ↦ λ q.
+      | Ok x ↦ λ q.
           (let d = rw q at c.step-decided.ensures.decided in
           let grew = (d.notes c.requires.ready.begun.paged).grew in
           record {
@@ -71,7 +72,7 @@ returns-clause-short g c =
     let old = scene c.args.world.now in
     let new = scene c.step-decided.new.self in
     elim c.step-decided.result as (λ r. c.step-decided.result ≡ r → OnErr r (RunsShort old c.args.event.now new)) [
-      | Ok a ↦ λ q. tt
+      | Ok x ↦ λ q. tt
       | Err x ↦ λ q.
           record {
             breaks = (let b = rw q at s.broke in subst (λ (u : Bool). Breaks u old new) c.requires.ready.begun.paged b);

@@ -1,7 +1,7 @@
 use Rattle.std.proofs.Common.{refl, ap, arith}
 use Rattle.mm_core.specs.Promise.{scene}
 use Rattle.mm_run.specs.Scenes.{Running}
-use Rattle.mm_run.specs.Story.{counts_with}
+use Rattle.mm_run.specs.Story.{fault_counts_with}
 use Rattle.mm_run.proofs.Stops.{came_held_back, went_told, came_torn}
 use Rattle.mm_run.proofs.decisions.flush.Goals as goal
 
@@ -22,7 +22,7 @@ returns-in-Ok-give_on-clause-steps g c = λ input held n few short.
     record {
       went = went_told input.left _ held n (Running (scene c.args.world.now)) (Running (scene f.new.world)) f.ensures.follows few short c.args.kept.now gave.new.self gave.ensures.none (ap (λ l. l.given) c.in-Ok.ensures.flushed.all)
           (g.O.Sink.taken gave.new.out) c.in-Ok-give_on.ensures.wrote;
-      faults = λ i. counts_with input.faults (c.in-Ok-give_on.ensures.cause.same i) (c.in-Ok.ensures.flushed.all i).faults;
+      faults = λ i. fault_counts_with input.faults (c.in-Ok-give_on.ensures.cause.same i) (c.in-Ok.ensures.flushed.all i).faults;
       idle = omega arith;
     }
 
@@ -33,7 +33,7 @@ returns-in-Err-give_on-clause-steps g c = λ input held n few short.
     record {
       came = came_torn input.left _ held n (Running (scene c.args.world.now)) (Running (scene f.new.world)) f.ensures.follows few short c.args.kept.now gave.new.self gave.ensures.none (ap (λ l. l.given) c.in-Ok.ensures.flushed.all)
           (g.O.Sink.taken gave.new.out) c.in-Err-give_on.ensures.wrote;
-      faults = (c.in-Err-give_on.ensures.cause.failed, λ i. counts_with input.faults (g.O.Sink.faults gave.new.out) (c.in-Ok.ensures.flushed.all i).faults);
+      faults = (c.in-Err-give_on.ensures.cause.failed, λ i. fault_counts_with input.faults (g.O.Sink.faults gave.new.out) (c.in-Ok.ensures.flushed.all i).faults);
       idle = omega arith;
       form = λ q. cc;
     }

@@ -1,6 +1,6 @@
 use Rattle.std.proofs.Common.{List, ℕ, subst, length, refl, ap, arith, rules}
 use Rattle.mm_run.specs.Scenes.{log_of}
-use Rattle.mm_run.specs.Story.{EndsAt, counts_with}
+use Rattle.mm_run.specs.Story.{InputEndsAt, fault_counts_with}
 use Rattle.mm_run.proofs.Stories.{went_filled}
 use Rattle.mm_run.proofs.Stops.{came_end, came_long, came_read}
 use Rattle.mm_run.proofs.Ends.{blamed_end}
@@ -9,7 +9,7 @@ use Rattle.mm_run.proofs.decisions.next_line.Goals as goal
 pub returns-in-Ok-Line-clause-finds : goal.returns-in-Ok-Line-clause-finds
 returns-in-Ok-Line-clause-finds g c = λ out kept z. record {
   went = went_filled _ _ out.took kept _ _ c.args.n z c.next.ensures.filled;
-  faults = ap (λ k. counts_with k out.faults (log_of z).faults) c.in-Ok-Line.ensures.cause.same;
+  faults = ap (λ k. fault_counts_with k out.faults (log_of z).faults) c.in-Ok-Line.ensures.cause.same;
   idle = let i = rw c.in-Ok-Line.field-0-is at c.in-Ok-Line.ensures.idle in omega arith;
 }
 
@@ -18,7 +18,7 @@ returns-in-Ok-Long-clause-finds g c = λ out kept z.
     let found = rw c.in-Ok-Long.field-0-is at c.in-Ok-Long.ensures.finds in
     record {
       came = came_long _ _ out.took kept _ _ c.args.n z c.next.ensures.filled c.requires.few found.0 found.1;
-      faults = ap (λ k. counts_with k out.faults (log_of z).faults) c.in-Ok-Long.ensures.cause.same;
+      faults = ap (λ k. fault_counts_with k out.faults (log_of z).faults) c.in-Ok-Long.ensures.cause.same;
       idle = omega arith;
       form = λ q. cc;
     }
@@ -28,8 +28,8 @@ returns-in-Ok-End-clause-finds g c = λ out kept z.
     let found = rw c.in-Ok-End.field-0-is at c.in-Ok-End.ensures.finds in
     record {
       came = came_end _ _ out.took kept _ _ c.args.n z c.next.ensures.filled _ c.requires.few found.0 found.1
-          (subst (λ (xs : List ℕ). EndsAt c.args.n (length xs) c.at_end.result) c.bytes.ensures c.at_end.ensures);
-      faults = blamed_end _ _ c.at_end.result _ _ _ c.at_end.ensures (ap (λ k. counts_with k out.faults (log_of z).faults) c.in-Ok-End.ensures.cause.same);
+          (subst (λ (xs : List ℕ). InputEndsAt c.args.n (length xs) c.at_end.result) c.bytes.ensures c.at_end.ensures);
+      faults = blamed_end _ _ c.at_end.result _ _ _ c.at_end.ensures (ap (λ k. fault_counts_with k out.faults (log_of z).faults) c.in-Ok-End.ensures.cause.same);
       idle = omega arith;
       form = search rules;
     }

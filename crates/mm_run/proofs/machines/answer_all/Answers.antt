@@ -5,7 +5,7 @@ use Rattle.mm_types.specs.Machine.{limit_of}
 use Rattle.mm_paging.specs.Runs.{first_move}
 use Rattle.mm_core.specs.Promise.{scene}
 use Rattle.mm_run.specs.Scenes.{NotBegun, Running}
-use Rattle.mm_run.specs.Story.{counts_with}
+use Rattle.mm_run.specs.Story.{fault_counts_with}
 use Rattle.mm_run.proofs.Firsts.{first_answered, told_went, told_muted}
 use Rattle.mm_run.proofs.Finding.{blamed_then}
 use Rattle.mm_run.proofs.Stories.{went_came}
@@ -38,4 +38,4 @@ returns-clause-came g c = λ o made.
 
 pub returns-clause-faults : goal.returns-clause-faults
 returns-clause-faults g c = λ o made fresh.
-    blamed_then c.decide_rest.result _ _ _ _ (ap (λ k. counts_with (g.S.Source.faults c.args.source.now) (g.O.Sink.faults c.args.out.now) k) (made.notes.grew.same (sym c.if-moves_failed.ensures))) c.decide_rest.ensures.ends.faults
+    blamed_then c.decide_rest.result _ _ _ _ (ap (λ k. fault_counts_with (g.S.Source.faults c.args.source.now) (g.O.Sink.faults c.args.out.now) k) (made.notes.grew.same (sym c.if-moves_failed.ensures))) c.decide_rest.ensures.ends.faults

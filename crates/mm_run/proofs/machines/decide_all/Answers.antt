@@ -1,7 +1,7 @@
 use Rattle.std.proofs.Common.{◌<◌, List, ℕ, [], refl, ap, subst, length, arith}
 use Rattle.mm_io.specs.Filling.{Filled}
 use Rattle.mm_run.specs.Scenes.{NotBegun, outset}
-use Rattle.mm_run.specs.Story.{EndsAt, stand, counts_with}
+use Rattle.mm_run.specs.Story.{InputEndsAt, stand, fault_counts_with}
 use Rattle.mm_run.proofs.Stories.{filled_comes, comes_here}
 use Rattle.mm_run.proofs.Ends.{blamed_end}
 use Rattle.mm_run.proofs.Finding.{blamed_then}
@@ -15,7 +15,7 @@ returns-in-Ok-Line-clause-ends g c =
     let first = c.decide_first.ensures.ends in
     record {
       came = filled_comes _ _ (stand c.next.new.self 0 (NotBegun o)) _ [] filled _ c.decide_first.result first.came;
-      faults = blamed_then c.decide_first.result _ _ _ _ (ap (λ k. counts_with k (g.O.Sink.faults c.args.out.now) (g.M.Sink.faults c.args.moves.now)) c.in-Ok-Line.ensures.cause.same) first.faults;
+      faults = blamed_then c.decide_first.result _ _ _ _ (ap (λ k. fault_counts_with k (g.O.Sink.faults c.args.out.now) (g.M.Sink.faults c.args.moves.now)) c.in-Ok-Line.ensures.cause.same) first.faults;
       idle = let i = rw c.in-Ok-Line.field-0-is at c.in-Ok-Line.ensures.idle in omega (arith, first.idle);
     }
 
@@ -26,7 +26,7 @@ returns-in-Ok-Long-clause-ends g c =
     let found = rw c.in-Ok-Long.field-0-is at c.in-Ok-Long.ensures.finds in
     record {
       came = comes_here _ _ _ _ _ _ refl refl refl (came_long _ _ _ _ _ _ 0 _ filled small found.0 found.1);
-      faults = (ap (λ k. counts_with k (g.O.Sink.faults c.args.out.now) (g.M.Sink.faults c.args.moves.now)) c.in-Ok-Long.ensures.cause.same);
+      faults = (ap (λ k. fault_counts_with k (g.O.Sink.faults c.args.out.now) (g.M.Sink.faults c.args.moves.now)) c.in-Ok-Long.ensures.cause.same);
       idle = omega arith;
     }
 
@@ -38,8 +38,8 @@ returns-in-Ok-End-clause-ends g c =
     record {
       came = comes_here _ _ _ _ _ _ refl refl refl
           (came_end _ _ _ _ _ _ 0 _ filled _ small found.0 found.1
-          (subst (λ (xs : List ℕ). EndsAt 0 (length xs) c.at_end.result) c.bytes.ensures c.at_end.ensures));
-      faults = blamed_end _ _ c.at_end.result _ _ _ c.at_end.ensures (ap (λ k. counts_with k (g.O.Sink.faults c.args.out.now) (g.M.Sink.faults c.args.moves.now)) c.in-Ok-End.ensures.cause.same);
+          (subst (λ (xs : List ℕ). InputEndsAt 0 (length xs) c.at_end.result) c.bytes.ensures c.at_end.ensures));
+      faults = blamed_end _ _ c.at_end.result _ _ _ c.at_end.ensures (ap (λ k. fault_counts_with k (g.O.Sink.faults c.args.out.now) (g.M.Sink.faults c.args.moves.now)) c.in-Ok-End.ensures.cause.same);
       idle = omega arith;
     }
 

@@ -2,12 +2,12 @@ use Rattle.std.proofs.Common.{◌≡◌, ◌≤◌, ◌<◌, refl, sym, ap, ◌�
 use Rattle.mm_types.specs.Machine.{IsMachine}
 use Rattle.mm_types.specs.declared.events.Event.TheVariants as line
 use Rattle.mm_blocks.specs.Traffic.{NoneLogged}
-use Rattle.mm_core.specs.Shown.{world, behind}
+use Rattle.mm_core.specs.Shown.{world, world_behind}
 use Rattle.mm_moving.specs.Shown.{StateOf}
 use Rattle.mm_paged.specs.Store as paged
 use Rattle.mm_core.specs.Promise.{scene}
 use Rattle.mm_run.specs.Scenes.{NotBegun, Running, outset}
-use Rattle.mm_run.specs.Story.{IsBlamed, counts_with}
+use Rattle.mm_run.specs.Story.{IsBlamed, fault_counts_with}
 use Rattle.mm_run.proofs.Starting.{opened_of, is_new, is_made, three_names}
 use Rattle.mm_parts.proofs.Starting.{first_legal}
 use Rattle.mm_run.proofs.Stories.{comes_here, follows_here, grows_here, log_left_at}
@@ -64,8 +64,8 @@ returns-clause-came g c = λ p f later later'.
     let log : _ ≡ o.log = λ i. record { bytes = bm.taken (c.new-3.ensures.sink i); given = bm.given (c.new-3.ensures.sink i); failed = c.new-3.ensures.fresh i; faults = bm.faults (c.new-3.ensures.sink i) } in
     let first = c.new-world.result in
     let last = c.answer_all-ending.new.world in
-    let made = is_made m o _ _ _ _ opened _ _ log c.in-Ok.ensures.starts (first_legal m whole) (world first) (paged.store first.pages) (paged.behind first.pages) c.new-world.ensures.world
-    (ap (λ x. paged.store x) c.new-world.ensures.pages ∙ c.over.ensures.store) (ap (λ x. paged.behind x) c.new-world.ensures.pages ∙ c.over.ensures.behind) (c.new-world.ensures.agrees refl) in
+    let made = is_made m o _ _ _ _ opened _ _ log c.in-Ok.ensures.starts (first_legal m whole) (world first) (paged.store first.pages) (paged.paged_behind first.pages) c.new-world.ensures.world
+    (ap (λ x. paged.store x) c.new-world.ensures.pages ∙ c.over.ensures.store) (ap (λ x. paged.paged_behind x) c.new-world.ensures.pages ∙ c.over.ensures.behind) (c.new-world.ensures.agrees refl) in
     let names = three_names last.pages.state.paging.device.ghost_name last.pages.state.files.device.ghost_name last.pages.state.moves.sink.ghost_name c.new.result.device.ghost_name c.new-2.result.device.ghost_name c.new-3.result.sink.ghost_name
     (c.answer_all-ending.ensures.loans ∙ ap (λ x. paged.loans x) c.new-world.ensures.pages ∙ c.over.ensures.loans ∙ c.in-Ok.ensures.loans) in
     let paging : c.finish-paging.result.0 ≡ last.pages.state.paging = ap (λ x. x.0) c.finish-paging.ensures ∙ ap (λ x. x.paging) c.finish-3.ensures.state ∙ ap (λ x. x.state.paging) c.finish-2.ensures in
@@ -81,7 +81,7 @@ returns-clause-came g c = λ p f later later'.
       end = Running (scene last);
       came = c.answer_all-ending.ensures.came o made;
       leaves = (
-        log_left_at (behind last).log _ (ap bm.taken left_m) (ap bm.given left_m) (ap bm.faults left_m),
+        log_left_at (world_behind last).log _ (ap bm.taken left_m) (ap bm.given left_m) (ap bm.faults left_m),
         record {
           log_is = ap bp.log left_p;
           blocks_are = ap bp.blocks left_p;
@@ -112,12 +112,12 @@ returns-clause-faults g c =
     let log : _ ≡ o.log = λ i. record { bytes = bm.taken (c.new-3.ensures.sink i); given = bm.given (c.new-3.ensures.sink i); failed = c.new-3.ensures.fresh i; faults = bm.faults (c.new-3.ensures.sink i) } in
     let first = c.new-world.result in
     let last = c.answer_all-ending.new.world in
-    let made = is_made m o _ _ _ _ opened _ _ log c.in-Ok.ensures.starts (first_legal m whole) (world first) (paged.store first.pages) (paged.behind first.pages) c.new-world.ensures.world
-    (ap (λ x. paged.store x) c.new-world.ensures.pages ∙ c.over.ensures.store) (ap (λ x. paged.behind x) c.new-world.ensures.pages ∙ c.over.ensures.behind) (c.new-world.ensures.agrees refl) in
+    let made = is_made m o _ _ _ _ opened _ _ log c.in-Ok.ensures.starts (first_legal m whole) (world first) (paged.store first.pages) (paged.paged_behind first.pages) c.new-world.ensures.world
+    (ap (λ x. paged.store x) c.new-world.ensures.pages ∙ c.over.ensures.store) (ap (λ x. paged.paged_behind x) c.new-world.ensures.pages ∙ c.over.ensures.behind) (c.new-world.ensures.agrees refl) in
     let names = three_names last.pages.state.paging.device.ghost_name last.pages.state.files.device.ghost_name last.pages.state.moves.sink.ghost_name c.new.result.device.ghost_name c.new-2.result.device.ghost_name c.new-3.result.sink.ghost_name
     (c.answer_all-ending.ensures.loans ∙ ap (λ x. paged.loans x) c.new-world.ensures.pages ∙ c.over.ensures.loans ∙ c.in-Ok.ensures.loans) in
     let moves : c.finish-paging.result.2 ≡ last.pages.state.moves = ap (λ x. x.2) c.finish-paging.ensures ∙ ap (λ x. x.moves) c.finish-3.ensures.state ∙ ap (λ x. x.state.moves) c.finish-2.ensures in
     let end_m = c.moves-2-1.given.1 (sym c.new-3.ensures.same_reference ∙ sym names.2 ∙ sym (ap (λ x. x.sink.ghost_name) moves) ∙ sym c.finish-6.ensures.same_reference) in
     let left_m = sym (end_m ∙ c.finish-6.ensures.sink ∙ ap (λ x. x.sink.now) moves) in
-    subst (λ d. IsBlamed c.answer_all-ending.result ⊥ (counts_with (g.S.Source.faults c.args.source.now) (g.O.Sink.faults c.args.out.now) (bm.faults c.args.moves.now)) (counts_with (g.S.Source.faults c.answer_all-ending.new.source) (g.O.Sink.faults c.answer_all-ending.new.out) (bm.faults d))) left_m
+    subst (λ d. IsBlamed c.answer_all-ending.result ⊥ (fault_counts_with (g.S.Source.faults c.args.source.now) (g.O.Sink.faults c.args.out.now) (bm.faults c.args.moves.now)) (fault_counts_with (g.S.Source.faults c.answer_all-ending.new.source) (g.O.Sink.faults c.answer_all-ending.new.out) (bm.faults d))) left_m
     (c.answer_all-ending.ensures.faults o made refl)

@@ -2,7 +2,7 @@ use Rattle.std.proofs.Common.{◌<◌, refl, sym, subst, arith, inl, inr}
 use Rattle.mm_types.specs.declared.events.Event.TheVariants as line
 use Rattle.mm_run.specs.declared.endings.Ending.{Ending}
 use Rattle.mm_run.specs.Scenes.{NotBegun, outset}
-use Rattle.mm_run.specs.Story.{Came, outside, stand}
+use Rattle.mm_run.specs.Story.{CameToEnd, outside, stand}
 use Rattle.mm_run.proofs.Stories.{comes_here, follows_here, grows_here}
 use Rattle.mm_run.proofs.Ends.{blamed_beside, blamed_open}
 use Rattle.mm_run.proofs.Stops.{came_memory, came_setup}
@@ -25,11 +25,11 @@ returns-in-Err-clause-ends g c =
     let left = g.S.Source.left c.args.source.now in
     let took = g.O.Sink.taken c.args.out.now in
     let held = c.requires.line in
-    let came : Came (outside left took c.args.kept.now) (outside left took c.args.kept.now) (stand c.args.held.now 0 (NotBegun o)) c.in-Err.ending (NotBegun o) =
+    let came : CameToEnd (outside left took c.args.kept.now) (outside left took c.args.kept.now) (stand c.args.held.now 0 (NotBegun o)) c.in-Err.ending (NotBegun o) =
     elim c.in-Err.ensures.ends [
-      | inl memory ↦ subst (λ (e : Ending). Came (outside left took c.args.kept.now) (outside left took c.args.kept.now) (stand c.args.held.now 0 (NotBegun o)) e (NotBegun o)) (sym memory)
+      | inl memory ↦ subst (λ (e : Ending). CameToEnd (outside left took c.args.kept.now) (outside left took c.args.kept.now) (stand c.args.held.now 0 (NotBegun o)) e (NotBegun o)) (sym memory)
           (came_memory c.args.held.now c.args.len 0 held.line small held.behind left took c.args.kept.now (NotBegun o) (NotBegun o) (line.Machine c.args.machine) held.says held.grammar (inl (refl, follows_here (NotBegun o))) (grows_here (NotBegun o)))
-      | inr failed ↦ subst (λ (e : Ending). Came (outside left took c.args.kept.now) (outside left took c.args.kept.now) (stand c.args.held.now 0 (NotBegun o)) e (NotBegun o)) (sym failed)
+      | inr failed ↦ subst (λ (e : Ending). CameToEnd (outside left took c.args.kept.now) (outside left took c.args.kept.now) (stand c.args.held.now 0 (NotBegun o)) e (NotBegun o)) (sym failed)
           (came_setup c.args.held.now c.args.len 0 held.line small held.behind left took c.args.kept.now (NotBegun o) (line.Machine c.args.machine) refl held.says refl)
     ] in
     record {

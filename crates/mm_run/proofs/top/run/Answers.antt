@@ -1,7 +1,7 @@
 use Rattle.std.proofs.Common.{◌≡◌, false, true, refl, inl, inr}
 use Rattle.mm_run.specs.declared.forms.WordsForm.TheVariants as form
 use Rattle.mm_run.specs.Bulk.{IsBulk}
-use Rattle.mm_run.specs.Story.{IsForm}
+use Rattle.mm_run.specs.Story.{IsRunForm}
 use Rattle.mm_run.proofs.Scripts.{exact, usage, not_usage}
 use Rattle.mm_run.proofs.Ends.{accounted_memory}
 use Rattle.mm_run.proofs.FormWords.{bulk_same, form_said, no_run, one_bulk}
@@ -45,38 +45,38 @@ returns-in-Bulk-clause-exact g c = λ text lines e told run script.
 pub returns-in-Run-clause-ran : goal.returns-in-Run-clause-ran
 returns-in-Run-clause-ran g c = λ no.
     let some = rw c.in-Some.is at c.in-Ok.ensures in
-    let says : IsForm c.args.words.now = rw c.in-Run.is at some in
-    form_said _ _ (true ≡ true) (IsForm c.args.words.now) c.run_lines.result (λ p. says) (λ p. refl) c.run_lines.ensures.ran
+    let says : IsRunForm c.args.words.now = rw c.in-Run.is at some in
+    form_said _ _ (true ≡ true) (IsRunForm c.args.words.now) c.run_lines.result (λ p. says) (λ p. refl) c.run_lines.ensures.ran
 
 pub returns-in-Run-clause-bulk : goal.returns-in-Run-clause-bulk
 returns-in-Run-clause-bulk g c = λ s n is.
     let some = rw c.in-Some.is at c.in-Ok.ensures in
-    let says : IsForm c.args.words.now = rw c.in-Run.is at some in
+    let says : IsRunForm c.args.words.now = rw c.in-Run.is at some in
     absurd (no_run c.args.words.now says s n is)
 
 pub returns-in-Run-clause-unread : goal.returns-in-Run-clause-unread
 returns-in-Run-clause-unread g c = λ s n is.
     let some = rw c.in-Some.is at c.in-Ok.ensures in
-    let says : IsForm c.args.words.now = rw c.in-Run.is at some in
+    let says : IsRunForm c.args.words.now = rw c.in-Run.is at some in
     absurd (no_run c.args.words.now says s n is)
 
 pub returns-in-Run-clause-exact : goal.returns-in-Run-clause-exact
 returns-in-Run-clause-exact g c = λ text lines e told run script.
     let some = rw c.in-Some.is at c.in-Ok.ensures in
-    let says : IsForm c.args.words.now = rw c.in-Run.is at some in
-    exact _ _ (IsForm c.args.words.now) c.run_lines.result (form_said _ _ (true ≡ true) (IsForm c.args.words.now) c.run_lines.result (λ p. says) (λ p. refl) c.run_lines.ensures.ran) text lines e told run script
+    let says : IsRunForm c.args.words.now = rw c.in-Run.is at some in
+    exact _ _ (IsRunForm c.args.words.now) c.run_lines.result (form_said _ _ (true ≡ true) (IsRunForm c.args.words.now) c.run_lines.result (λ p. says) (λ p. refl) c.run_lines.ensures.ran) text lines e told run script
 
 pub returns-in-Run-clause-usage : goal.returns-in-Run-clause-usage
 returns-in-Run-clause-usage g c = λ no other.
     let some = rw c.in-Some.is at c.in-Ok.ensures in
-    let says : IsForm c.args.words.now = rw c.in-Run.is at some in
+    let says : IsRunForm c.args.words.now = rw c.in-Run.is at some in
     absurd (no says)
 
 pub returns-in-Run-clause-form : goal.returns-in-Run-clause-form
 returns-in-Run-clause-form g c = λ run.
     let some = rw c.in-Some.is at c.in-Ok.ensures in
-    let says : IsForm c.args.words.now = rw c.in-Run.is at some in
-    not_usage _ _ (IsForm c.args.words.now) c.run_lines.result (form_said _ _ (true ≡ true) (IsForm c.args.words.now) c.run_lines.result (λ p. says) (λ p. refl) c.run_lines.ensures.ran) run
+    let says : IsRunForm c.args.words.now = rw c.in-Run.is at some in
+    not_usage _ _ (IsRunForm c.args.words.now) c.run_lines.result (form_said _ _ (true ≡ true) (IsRunForm c.args.words.now) c.run_lines.result (λ p. says) (λ p. refl) c.run_lines.ensures.ran) run
 
 -- the words are no form
 
@@ -86,7 +86,7 @@ no_true p = cc
 pub returns-in-None-clause-ran : goal.returns-in-None-clause-ran
 returns-in-None-clause-ran g c = λ no.
     let none = rw c.in-None.is at c.in-Ok.ensures in
-    form_said _ _ (false ≡ true) (IsForm c.args.words.now) c.run_lines-in-None.result no_true (λ run. absurd (none form.Run run)) c.run_lines-in-None.ensures.ran
+    form_said _ _ (false ≡ true) (IsRunForm c.args.words.now) c.run_lines-in-None.result no_true (λ run. absurd (none form.Run run)) c.run_lines-in-None.ensures.ran
 
 pub returns-in-None-clause-bulk : goal.returns-in-None-clause-bulk
 returns-in-None-clause-bulk g c = λ s n is.
@@ -106,7 +106,7 @@ returns-in-None-clause-exact g c = λ text lines e told run script.
 pub returns-in-None-clause-usage : goal.returns-in-None-clause-usage
 returns-in-None-clause-usage g c = λ no other.
     let none = rw c.in-None.is at c.in-Ok.ensures in
-    usage _ _ (IsForm c.args.words.now) c.run_lines-in-None.result (form_said _ _ (false ≡ true) (IsForm c.args.words.now) c.run_lines-in-None.result no_true (λ run. absurd (none form.Run run)) c.run_lines-in-None.ensures.ran) no
+    usage _ _ (IsRunForm c.args.words.now) c.run_lines-in-None.result (form_said _ _ (false ≡ true) (IsRunForm c.args.words.now) c.run_lines-in-None.result no_true (λ run. absurd (none form.Run run)) c.run_lines-in-None.ensures.ran) no
 
 pub returns-in-None-clause-form : goal.returns-in-None-clause-form
 returns-in-None-clause-form g c = λ run.

@@ -3,15 +3,15 @@ use Rattle.mm_vad.specs.declared.regions.Region.{Region}
 use Rattle.mm_vad.specs.Regions.{SpaceOf}
 use Rattle.mm_vad.proofs.Lookups.{row_there}
 use Rattle.mm_world.specs.Find.{region_with}
-use Rattle.mm_spaces.specs.Shown.{row_of, shown}
-use Rattle.mm_spaces.specs.RowChanges.{changed}
+use Rattle.mm_spaces.specs.Shown.{shown_row, shown_regions}
+use Rattle.mm_spaces.specs.RowChanges.{changed_row}
 use Rattle.mm_spaces.proofs.Shows.{there, here, row_changed}
 use Rattle.mm_spaces.proofs.rows.change_row.Goals as goal
 
 pub unreachable-requires : goal.unreachable-requires
 unreachable-requires c =
     let gs = c.args.space.now.regions in
-    let r = there (region_with (shown gs) c.args.page) c.requires in
+    let r = there (region_with (shown_regions gs) c.args.page) c.requires in
     let h = here gs c.args.page r.thing c.find.ensures.sound.whole r.is in
     let bad : None ≡ Some h.region = c.in_default.ensures.found ∙ h.found in
     cc
@@ -31,6 +31,6 @@ returns-clause-after c r row e at =
     let both : Some h.region ≡ Some c.in-Some.region.now = sym h.found ∙ sym c.in-Some.ensures.found in
     let same : h.region ≡ c.in-Some.region.now = cc in
     let read = subst (λ (g : Region). slice_get g.rows (c.args.page - g.base.0) ≡ Some old) (sym same) c.get.ensures in
-    let made = subst (λ (g : Region). row_of g.kind new ≡ changed c.args.change g.kind (row_of g.kind old)) (sym same) c.of-row.ensures in
-    ap (λ (s : SpaceOf). shown s.regions) c.set_row.ensures.after
+    let made = subst (λ (g : Region). shown_row g.kind new ≡ changed_row c.args.change g.kind (shown_row g.kind old)) (sym same) c.of-row.ensures in
+    ap (λ (s : SpaceOf). shown_regions s.regions) c.set_row.ensures.after
     ∙ row_changed gs c.args.page r h c.args.change old new row read at made

@@ -1,5 +1,5 @@
 use Rattle.std.proofs.Common.{◌+◌, ◌-◌, ◌<◌, ◌≤◌, ◌^◌}
-use Rattle.mm_spaces.specs.RowChanges.{range_at}
+use Rattle.mm_vad.specs.Ranges.{range_at}
 use Rattle.mm_spaces.proofs.Ranged.{Changing}
 use Rattle.mm_spaces.proofs.rows.change_rows.Given as goal
 

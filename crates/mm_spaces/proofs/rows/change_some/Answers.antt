@@ -3,8 +3,8 @@ use Rattle.mm_vad.specs.declared.regions.Region.{Region}
 use Rattle.mm_vad.specs.Regions.{SpaceOf}
 use Rattle.mm_vad.proofs.Lookups.{row_there, rows_whole}
 use Rattle.mm_world.specs.Find.{region_with}
-use Rattle.mm_spaces.specs.Shown.{row_of, shown}
-use Rattle.mm_spaces.specs.RowChanges.{changed}
+use Rattle.mm_spaces.specs.Shown.{shown_row, shown_regions}
+use Rattle.mm_spaces.specs.RowChanges.{changed_row}
 use Rattle.mm_spaces.proofs.Shows.{there, here}
 use Rattle.mm_spaces.proofs.EqualRows.{run_changed, in_region}
 use Rattle.mm_spaces.proofs.rows.change_some.Goals as goal
@@ -12,7 +12,7 @@ use Rattle.mm_spaces.proofs.rows.change_some.Goals as goal
 pub unreachable-requires : goal.unreachable-requires
 unreachable-requires c =
     let gs = c.args.space.now.regions in
-    let r = there (region_with (shown gs) c.args.page) c.requires.there in
+    let r = there (region_with (shown_regions gs) c.args.page) c.requires.there in
     let h = here gs c.args.page r.thing c.find.ensures.sound.whole r.is in
     let bad : None ≡ Some h.region = c.in_default.ensures.found ∙ h.found in
     cc
@@ -59,6 +59,6 @@ returns-clause-after c = λ r e.
     let both : Some h.region ≡ Some c.in-Some.region.now = sym h.found ∙ sym c.in-Some.ensures.found in
     let same : h.region ≡ c.in-Some.region.now = cc in
     let equal = subst (λ (g : Region). take c.equal_from-n.result.1 (drop (c.args.page - g.base.0) g.rows) ≡ replicate c.equal_from-n.result.1 old) (sym same) c.equal_from-n.ensures.equal in
-    let made = subst (λ (g : Region). row_of g.kind new ≡ changed c.args.change g.kind (row_of g.kind old)) (sym same) c.of-row.ensures in
-    ap (λ (s : SpaceOf). shown s.regions) c.fill_rows.ensures.after
+    let made = subst (λ (g : Region). shown_row g.kind new ≡ changed_row c.args.change g.kind (shown_row g.kind old)) (sym same) c.of-row.ensures in
+    ap (λ (s : SpaceOf). shown_regions s.regions) c.fill_rows.ensures.after
     ∙ run_changed gs c.args.page c.equal_from-n.result.1 c.equal_from-n.result.1 r h c.args.change old new (omega arith) equal made

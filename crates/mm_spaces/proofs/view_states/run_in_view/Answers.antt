@@ -3,7 +3,7 @@ use Rattle.std.specs.List.{prefix_len}
 use Rattle.std.proofs.lemmas.List.Sums.{prefix_len-drop_yes, prefix_len-drop_no, prefix_len-drop_all}
 use Rattle.std.proofs.lemmas.Option.{get_or_from_slice_get}
 use Rattle.mm_world.specs.Query.{same_state}
-use Rattle.mm_spaces.specs.ViewStates.{states_in, told}
+use Rattle.mm_spaces.specs.ViewStates.{states_in, state_told}
 use Rattle.mm_spaces.proofs.Viewed.{seen, run_at, length_in}
 use Rattle.mm_spaces.proofs.view_states.run_in_view.Goals as goal
 use Rattle.mm_spaces.proofs.view_states.run_in_view.Goals.{then-loop-end-test+else-is_like, else-loop-end-test}
@@ -12,11 +12,11 @@ pub loop-end-preserved : goal.loop-end-preserved
 loop-end-preserved c =
     let rows = c.args.rows.now in
     let ss = states_in c.args.pages.now c.args.view rows in
-    let first = told c.state_in_view-first.result in
+    let first = state_told c.state_in_view-first.result in
     let end = c.loop-end.end in
     let inside : end < length rows = omega arith in
     let at = seen c.args.pages.now c.args.view rows end c.state_in_view.result inside c.state_in_view.ensures in
-    let there : get_or ss end first ≡ told c.state_in_view.result = get_or_from_slice_get ss end (told c.state_in_view.result) first at in
+    let there : get_or ss end first ≡ state_told c.state_in_view.result = get_or_from_slice_get ss end (state_told c.state_in_view.result) first at in
     let step = prefix_len-drop_yes (same_state first) ss end first (omega (arith, inside, length_in c.args.pages.now c.args.view rows)) (ap (same_state first) there ∙ sym c.is_like.ensures ∙ c.if-is_like.true) in
     (omega arith, omega arith, omega (arith, step, c.loop-end.invariant.2))
 
@@ -24,7 +24,7 @@ pub returns-clause-run : goal.returns-clause-run
 returns-clause-run c =
     let rows = c.args.rows.now in
     let ss = states_in c.args.pages.now c.args.view rows in
-    let first = told c.state_in_view-first.result in
+    let first = state_told c.state_in_view-first.result in
     let end = c.loop-end.end in
     let size = length_in c.args.pages.now c.args.view rows in
     let run = run_at c.args.index ss first (seen c.args.pages.now c.args.view rows c.args.index c.state_in_view-first.result c.requires.inside c.state_in_view-first.ensures) in
@@ -32,7 +32,7 @@ returns-clause-run c =
       | then-loop-end-test+else-is_like w ↦ (
           let inside : end < length rows = omega arith in
           let at = seen c.args.pages.now c.args.view rows end w.state_in_view.result inside w.state_in_view.ensures in
-          let there : get_or ss end first ≡ told w.state_in_view.result = get_or_from_slice_get ss end (told w.state_in_view.result) first at in
+          let there : get_or ss end first ≡ state_told w.state_in_view.result = get_or_from_slice_get ss end (state_told w.state_in_view.result) first at in
           prefix_len-drop_no (same_state first) ss end first (omega (arith, inside, size)) (ap (same_state first) there ∙ sym w.is_like.ensures ∙ w.if-is_like.false))
       | else-loop-end-test w ↦ prefix_len-drop_all (same_state first) ss end (omega (arith, size))
     ] in

@@ -10,7 +10,7 @@ use Rattle.mm_state_tests.proofs.behind.write_block.Goals as goal
 pub invariant_of-state : goal.invariant_of-state
 invariant_of-state g c =
     let s = c.args.state.now in
-    let u = parts_of.shown s.parts in
+    let u = parts_of.shown_parts s.parts in
     let ok = c.write_device.result in
     let page = replicate 4096 c.args.byte in
     let e = block_written ok _ _ (λ blocks. slice_set blocks c.args.b.0 page) c.write_device.ensures.ok c.write_device.ensures.err in

@@ -8,12 +8,12 @@ use Rattle.mm_state_tests.proofs.Changed.{rest_bytes, same_live}
 use Rattle.mm_state_tests.proofs.behind.write_frame.Goals as goal
 
 pub write_in_parts-requires-clause-calm : goal.write_in_parts-requires-clause-calm
-write_in_parts-requires-clause-calm g c = soiled_calm (record_at (parts_of.shown c.args.state.now.parts).life.frames c.args.f.0) c.requires.soiled
+write_in_parts-requires-clause-calm g c = soiled_calm (record_at (parts_of.shown_parts c.args.state.now.parts).life.frames c.args.f.0) c.requires.soiled
 
 pub invariant_of-state : goal.invariant_of-state
 invariant_of-state g c =
     let s = c.args.state.now in
-    let u = parts_of.shown s.parts in
+    let u = parts_of.shown_parts s.parts in
     let slots = g.P.Inject.blocks s.paging in
     let blocks = g.F.Inject.blocks s.files in
     let k = pick (record_at u.life.frames c.args.f.0).owner c.requires.owned in
@@ -23,13 +23,13 @@ invariant_of-state g c =
 
 pub returns-clause-rest : goal.returns-clause-rest
 returns-clause-rest g c =
-    let u = parts_of.shown c.args.state.now.parts in
+    let u = parts_of.shown_parts c.args.state.now.parts in
     rest_bytes _ u (with_page u.bytes c.args.f.0 (overwritten (bytes_of u.bytes c.args.f.0) 0 c.args.bytes.now)) _ _ _ _ _ _ c.write_in_parts.ensures.made
 
 pub returns-clause-live : goal.returns-clause-live
 returns-clause-live g c = λ k.
     let s = c.args.state.now in
-    let u = parts_of.shown s.parts in
+    let u = parts_of.shown_parts s.parts in
     let slots = g.P.Inject.blocks s.paging in
     let blocks = g.F.Inject.blocks s.files in
     let own = pick (record_at u.life.frames c.args.f.0).owner c.requires.owned in

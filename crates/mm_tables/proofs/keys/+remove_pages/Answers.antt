@@ -1,5 +1,7 @@
 use Rattle.std.proofs.Common.{◌≡◌, ◌-◌, ◌/◌, ap, arith}
 use Rattle.mm_types.specs.Address.{Range}
+use Rattle.mm_tables.specs.Endings.{is_owned_at}
+use Rattle.mm_tables.proofs.Known.{all_owned}
 use Rattle.mm_tables.proofs.EndingRuns.{removes_nothing, owned_is, halves, low_in, high_in, apart, around_part, counted, can_remove_part, can_remove_after, removes_halves, halves_pass}
 use Rattle.mm_tables.proofs.keys.+remove_pages.Goals as goal
 
@@ -7,6 +9,12 @@ pub returns-then-owned-eq0-clause-removes : goal.returns-then-owned-eq0-clause-r
 returns-then-owned-eq0-clause-removes g t c =
     let is = owned_is c.args.space.now.regions c.args.range c.sound.ensures c.requires.around in
     removes_nothing c.args.pid c.args.range c.args.space.now.regions (g.G.Pages.contents c.args.g.now) (g.G.Pages.store c.args.g.now) c.requires.can (omega (arith, is))
+
+pub remove_each-requires-clause-known : goal.remove_each-requires-clause-known
+remove_each-requires-clause-known g t c =
+    let is = owned_is c.args.space.now.regions c.args.range c.sound.ensures c.requires.around in
+    let whole : c.range.inside.count ≡ c.args.range.count = ap (λ (r : Range). r.count) c.range.view_is in
+    all_owned (is_owned_at c.args.space.now.regions c.args.range.first) c.args.range.count (omega (arith, is, whole))
 
 pub owned-low_owned-requires : goal.owned-low_owned-requires
 owned-low_owned-requires g t c =

@@ -1,7 +1,9 @@
 use Rattle.mm_pages.proofs.Passed.{makes_then, makes_wider}
 use Rattle.std.proofs.Common.{◌≡◌, ℕ, ◌+◌, ◌<◌, ◌∙◌, sym, ap, subst, arith}
 use Rattle.mm_types.specs.Address.{Range}
-use Rattle.mm_tables.specs.Ranges.{CanAdd, Adds, only}
+use Rattle.mm_tables.specs.Ranges.{CanAdd, Adds, one_page_range}
+use Rattle.mm_tables.specs.Known.{KnownAt}
+use Rattle.mm_tables.proofs.Known.{known_at}
 use Rattle.mm_tables.proofs.PageByPage.{can_add_next, adds_then}
 use Rattle.mm_tables.proofs.keys.add_pages.Goals as goal
 
@@ -10,7 +12,8 @@ add_page-requires g c =
     let first : c.range.inside.first ≡ c.args.range.first = ap (λ (r : Range). r.first) c.range.view_is in
     let few : c.loop-i.i < c.args.range.count = omega (arith, c.loop-i-test.true, ap (λ (r : Range). r.count) c.range.view_is) in
     record {
-      can = subst (λ (k : ℕ). CanAdd c.args.pid (only (k + c.loop-i.i)) c.args.space.now.regions (g.G.Pages.contents c.loop-i.g) (g.G.Pages.store c.loop-i.g)) (sym first)
+      known = subst (λ (k : ℕ). KnownAt c.args.known c.args.space.now.regions (k + c.loop-i.i)) (sym first) (known_at c.args.known c.args.space.now.regions c.args.range c.loop-i.i c.requires.known few);
+      can = subst (λ (k : ℕ). CanAdd c.args.pid (one_page_range (k + c.loop-i.i)) c.args.space.now.regions (g.G.Pages.contents c.loop-i.g) (g.G.Pages.store c.loop-i.g)) (sym first)
           (can_add_next c.args.pid c.args.range c.loop-i.i c.args.space.now.regions (g.G.Pages.contents c.args.g.now) (g.G.Pages.contents c.loop-i.g) (g.G.Pages.store c.args.g.now) (g.G.Pages.store c.loop-i.g) c.requires.can few c.loop-i.invariant.adds);
     }
 
@@ -20,7 +23,7 @@ loop-i-preserved g c =
     record {
       adds = adds_then c.args.pid c.args.range c.loop-i.i (g.G.Pages.contents c.args.g.now) (g.G.Pages.contents c.loop-i.g) (g.G.Pages.contents c.add_page.new.g)
           (g.G.Pages.store c.args.g.now) (g.G.Pages.store c.loop-i.g) (g.G.Pages.store c.add_page.new.g) c.loop-i.invariant.adds
-          (subst (λ (k : ℕ). Adds c.args.pid (only (k + c.loop-i.i)) (g.G.Pages.contents c.loop-i.g) (g.G.Pages.contents c.add_page.new.g) (g.G.Pages.store c.loop-i.g) (g.G.Pages.store c.add_page.new.g)) first c.add_page.ensures.adds);
+          (subst (λ (k : ℕ). Adds c.args.pid (one_page_range (k + c.loop-i.i)) (g.G.Pages.contents c.loop-i.g) (g.G.Pages.contents c.add_page.new.g) (g.G.Pages.store c.loop-i.g) (g.G.Pages.store c.add_page.new.g)) first c.add_page.ensures.adds);
       passes = makes_then g.G.Pages.unpaged c.args.range.first (c.args.range.first + c.loop-i.i) (c.args.range.first + (c.loop-i.i + 1)) (g.G.Pages.store c.args.g.now) (g.G.Pages.store c.loop-i.g) (g.G.Pages.store c.add_page.new.g)
           (g.G.Pages.behind c.args.g.now) (g.G.Pages.behind c.loop-i.g) (g.G.Pages.behind c.add_page.new.g) (omega arith) (omega arith) c.loop-i.invariant.passes
           (c.add_page.ensures.passes (c.args.range.first + c.loop-i.i) (c.args.range.first + (c.loop-i.i + 1)) (omega (arith, first)) (omega (arith, first)));

@@ -1,12 +1,12 @@
 use Rattle.mm_pages.specs.Housekeeping.{Turns, MakesFrom}
 use Rattle.mm_pages.specs.Passing.{PassesIn}
 use Rattle.std.proofs.Common.{◌≡◌, ◌+◌}
-use Rattle.mm_tables.specs.Ranges.{Adds, front}
+use Rattle.mm_tables.specs.Ranges.{Adds, first_pages}
 use Rattle.mm_tables.proofs.keys.add_pages.Given as goal
 
 abbrev pub invariant-loop-i : goal.invariant-loop-i
 invariant-loop-i g l = record {
-  adds : Adds l.pid (front l.fn.range l.i) (g.G.Pages.contents l.fn.g) (g.G.Pages.contents l.g) (g.G.Pages.store l.fn.g) (g.G.Pages.store l.g);
+  adds : Adds l.pid (first_pages l.fn.range l.i) (g.G.Pages.contents l.fn.g) (g.G.Pages.contents l.g) (g.G.Pages.store l.fn.g) (g.G.Pages.store l.g);
   passes : PassesIn g.G.Pages.unpaged (Turns (MakesFrom l.fn.range.first (l.fn.range.first + l.i))) (g.G.Pages.store l.fn.g) (g.G.Pages.store l.g) (g.G.Pages.behind l.fn.g) (g.G.Pages.behind l.g);
   loans : g.G.Pages.loans l.g ≡ g.G.Pages.loans l.fn.g;
 }

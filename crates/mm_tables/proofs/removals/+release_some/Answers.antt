@@ -1,5 +1,7 @@
 use Rattle.std.proofs.Common.{◌≡◌, ◌-◌, ◌/◌, ap, arith}
 use Rattle.mm_types.specs.Address.{Range}
+use Rattle.mm_tables.specs.Endings.{is_owned_at}
+use Rattle.mm_tables.proofs.Known.{all_owned}
 use Rattle.mm_tables.proofs.EndingRuns.{owned_is, halves, low_in, high_in, apart, around_part, counted, can_part, can_after, given_halves, halves_pass}
 use Rattle.mm_tables.proofs.removals.+release_some.Goals as goal
 
@@ -7,6 +9,12 @@ pub release_empty-requires-clause-none : goal.release_empty-requires-clause-none
 release_empty-requires-clause-none g t c =
     let is = owned_is c.args.space.now.regions c.args.range c.sound.ensures c.requires.around in
     omega (arith, is)
+
+pub release_each-requires-clause-known : goal.release_each-requires-clause-known
+release_each-requires-clause-known g t c =
+    let is = owned_is c.args.space.now.regions c.args.range c.sound.ensures c.requires.around in
+    let whole : c.range.inside.count ≡ c.args.range.count = ap (λ (r : Range). r.count) c.range.view_is in
+    all_owned (is_owned_at c.args.space.now.regions c.args.range.first) c.args.range.count (omega (arith, is, whole))
 
 pub owned-low_owned-requires : goal.owned-low_owned-requires
 owned-low_owned-requires g t c =

@@ -6,9 +6,11 @@ use Rattle.mm_pages.specs.Housekeeping.{Ends}
 use Rattle.mm_pages.specs.Leaving.{page_rank}
 use Rattle.mm_pages.proofs.Passed.{turns_same}
 use Rattle.mm_tables.specs.Endings.{CanGiveUp, GivenUp, is_owned_at, owned_among}
-use Rattle.mm_tables.specs.Ranges.{only}
+use Rattle.mm_tables.specs.Ranges.{one_page_range}
 use Rattle.mm_tables.proofs.EndingPages.{given_none, given_then, given_all, next_can}
 use Rattle.mm_tables.proofs.EndingExits.{page_then, range_passes}
+use Rattle.mm_tables.specs.Known.{KnownAt}
+use Rattle.mm_tables.proofs.Known.{known_at}
 use Rattle.mm_tables.proofs.PageByPage.{next_held}
 use Rattle.mm_tables.proofs.removals.release_each.Goals as goal
 
@@ -26,6 +28,7 @@ release_page-requires g c =
     let few : c.loop-i.i < c.args.range.count = omega (arith, c.loop-i-test.true, ap (λ (r : Range). r.count) c.range.view_is) in
     let rs = c.args.space.now.regions in
     record {
+      known = subst (λ (k : ℕ). KnownAt c.args.known c.args.space.now.regions (k + c.loop-i.i)) (sym first) (known_at c.args.known c.args.space.now.regions c.args.range c.loop-i.i c.requires.known few);
       can = subst (λ (k : ℕ). CanGiveUp c.args.pid (k + c.loop-i.i) (is_some (own_page rs (k + c.loop-i.i))) (g.G.Pages.contents c.loop-i.g) (g.G.Pages.store c.loop-i.g)) (sym first)
           (next_can c.args.pid c.args.range c.loop-i.i (owned_among (is_owned_at rs c.args.range.first) c.loop-i.i) rs c.requires.can few c.loop-i.invariant.given_up);
     }
@@ -38,7 +41,7 @@ loop-i-preserved g c =
     let rs = c.args.space.now.regions in
     record {
       given_up = given_then c.args.pid c.args.range c.loop-i.i (is_owned_at rs c.args.range.first) c.loop-i.invariant.given_up
-          (subst (λ (k : ℕ). GivenUp c.args.pid (only (k + c.loop-i.i)) (cond (is_some (own_page rs (k + c.loop-i.i))) 1 0) (g.G.Pages.contents c.loop-i.g) (g.G.Pages.contents c.release_page.new.g) (g.G.Pages.store c.loop-i.g) (g.G.Pages.store c.release_page.new.g)) first c.release_page.ensures.given_up);
+          (subst (λ (k : ℕ). GivenUp c.args.pid (one_page_range (k + c.loop-i.i)) (cond (is_some (own_page rs (k + c.loop-i.i))) 1 0) (g.G.Pages.contents c.loop-i.g) (g.G.Pages.contents c.release_page.new.g) (g.G.Pages.store c.loop-i.g) (g.G.Pages.store c.release_page.new.g)) first c.release_page.ensures.given_up);
       passes = λ held each. page_then g.G.Pages.unpaged held c.args.range.first c.loop-i.i (g.G.Pages.store c.args.g.now) (g.G.Pages.store c.loop-i.g) (g.G.Pages.store c.release_page.new.g)
           (g.G.Pages.behind c.args.g.now) (g.G.Pages.behind c.loop-i.g) (g.G.Pages.behind c.release_page.new.g) (c.loop-i.invariant.passes held each)
           (c.release_page.ensures.passes held (page_rank (c.args.range.first + c.loop-i.i)) (page_rank (c.args.range.first + (c.loop-i.i + 1)))

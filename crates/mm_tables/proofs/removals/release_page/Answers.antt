@@ -1,7 +1,7 @@
 use Rattle.std.proofs.Common.{inl, ◌+◌, ℕ, Bool, sym, ap, ◌∙◌, subst, arith, cond}
 use Rattle.mm_pages.specs.Conditions.{place_at}
 use Rattle.mm_tables.specs.Endings.{CanGiveUp, GivenUp}
-use Rattle.mm_tables.specs.Ranges.{only}
+use Rattle.mm_tables.specs.Ranges.{one_page_range}
 use Rattle.mm_tables.proofs.EndingPages.{page_can_go, page_bound, page_dead, page_unbinding, given_up}
 use Rattle.mm_pages.proofs.Passed.{ends_meet}
 use Rattle.mm_pages.specs.Leaving.{page_rank}
@@ -22,7 +22,7 @@ unbind-requires g c =
 pub returns-clause-given_up : goal.returns-clause-given_up
 returns-clause-given_up g c =
     let can = subst (λ (b : Bool). CanGiveUp c.args.pid c.args.page b (g.G.Pages.contents c.args.g.now) (g.G.Pages.store c.args.g.now)) (sym c.is_owned.ensures) c.requires.can in
-    subst (λ (b : Bool). GivenUp c.args.pid (only c.args.page) (cond b 1 0) (g.G.Pages.contents c.args.g.now) (g.G.Pages.contents c.unbind.new.self) (g.G.Pages.store c.args.g.now) (g.G.Pages.store c.unbind.new.self)) c.is_owned.ensures
+    subst (λ (b : Bool). GivenUp c.args.pid (one_page_range c.args.page) (cond b 1 0) (g.G.Pages.contents c.args.g.now) (g.G.Pages.contents c.unbind.new.self) (g.G.Pages.store c.args.g.now) (g.G.Pages.store c.unbind.new.self)) c.is_owned.ensures
     (given_up can c.remove_if.ensures.gone c.unbind.ensures.contents c.unbind.ensures.store)
 
 pub returns-clause-passes : goal.returns-clause-passes

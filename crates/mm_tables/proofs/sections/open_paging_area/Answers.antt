@@ -1,4 +1,6 @@
 use Rattle.std.proofs.Common.{◌∙◌}
+use Rattle.mm_pages.specs.Housekeeping.{Turn, Turns, Makes}
+use Rattle.mm_pages.specs.Passing.{PassesIn}
 use Rattle.mm_tables.proofs.FileKept.{can_fill}
 use Rattle.mm_tables.proofs.Turning.{idle_then}
 use Rattle.mm_types.proofs.Options.{on_err}
@@ -8,10 +10,14 @@ pub fill_area-requires : goal.fill_area-requires
 fill_area-requires g c =
     record {
       can = can_fill c.args.area c.args.pages c.args.n c.args.total (g.G.Pages.contents c.args.g.now) (g.G.Pages.contents c.open_area.new.self) (g.G.Pages.store c.args.g.now) (g.G.Pages.store c.reserve.new.self) (g.G.Pages.store c.open_area.new.self)
-          (c.in_ok-open_area.ensures.contents ∙ c.in_ok-reserve.ensures.contents) c.in_ok-reserve.ensures.store c.in_ok-reserve.ensures.ok c.in_ok-open_area.ensures.ok c.requires.dead c.requires.within c.requires.keys c.requires.kind;
+          (c.in_ok-open_area.ensures.contents ∙ c.in_ok-reserve.ensures.contents) c.in_ok-reserve.ensures.store c.in_ok-reserve.ensures.ok c.in_ok-open_area.ensures.ok c.requires.new.dead c.requires.new.within c.requires.keys c.requires.kind;
     }
 
-pub returns-in_err-open_area-clause-idle : goal.returns-in_err-open_area-clause-idle
-returns-in_err-open_area-clause-idle g c =
-    on_err c.from_residual-in_err-open_area.result
-    (idle_then g.G.Pages.unpaged (g.G.Pages.store c.args.g.now) (g.G.Pages.store c.reserve.new.self) (g.G.Pages.store c.open_area.new.self) (g.G.Pages.behind c.args.g.now) (g.G.Pages.behind c.reserve.new.self) (g.G.Pages.behind c.open_area.new.self) c.reserve.ensures.passes c.open_area.ensures.passes)
+pub returns-in_err-open_area-clause-makes : goal.returns-in_err-open_area-clause-makes
+returns-in_err-open_area-clause-makes g c =
+    let idle : (turn : Turn) → PassesIn g.G.Pages.unpaged (Turns turn) (g.G.Pages.store c.args.g.now) (g.G.Pages.store c.open_area.new.self) (g.G.Pages.behind c.args.g.now) (g.G.Pages.behind c.open_area.new.self) = idle_then g.G.Pages.unpaged (g.G.Pages.store c.args.g.now) (g.G.Pages.store c.reserve.new.self) (g.G.Pages.store c.open_area.new.self) (g.G.Pages.behind c.args.g.now) (g.G.Pages.behind c.reserve.new.self) (g.G.Pages.behind c.open_area.new.self) c.reserve.ensures.passes c.open_area.ensures.passes in
+    record {
+      passes = idle Makes;
+      idle = on_err c.from_residual-in_err-open_area.result idle;
+      loans = c.open_area.ensures.loans ∙ c.reserve.ensures.loans;
+    }

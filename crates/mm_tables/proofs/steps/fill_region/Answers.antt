@@ -1,12 +1,18 @@
-use Rattle.std.proofs.Common.{◌≡◌, ◌+◌, ap, arith, cond, not}
+use Rattle.std.proofs.Common.{◌≡◌, ◌∙◌, ◌+◌, sym, ap, arith, cond, not}
 use Rattle.mm_types.specs.Address.{Range}
 use Rattle.mm_pages.specs.Store.{StoreOf}
 use Rattle.mm_tables.specs.Fits.{new_pages}
-use Rattle.mm_tables.specs.Ranges.{is_dead}
+use Rattle.mm_tables.specs.Ranges.{is_page_dead}
 use Rattle.mm_tables.proofs.PageByPage.{passing_all}
 use Rattle.mm_tables.proofs.Regions.{holds}
 use Rattle.mm_types.proofs.Tables.{differ}
 use Rattle.mm_tables.proofs.steps.fill_region.Goals as goal
+
+pub add_pages-requires-clause-known : goal.add_pages-requires-clause-known
+add_pages-requires-clause-known g c i few =
+    let range : Range = c.args.range in
+    let at = holds range (range.first + i) (omega arith) (omega (arith, few)) in
+    sym ((c.requires.can (differ c.args.kind 0x2000 c.if-kind-ne-RESERVE_TYPE.true)).live (range.first + i) at) ∙ c.requires.dead (range.first + i) at
 
 pub returns-then-kind-ne-RESERVE_TYPE-clause-counted :
     goal.returns-then-kind-ne-RESERVE_TYPE-clause-counted
@@ -17,6 +23,6 @@ returns-then-kind-ne-RESERVE_TYPE-clause-counted g c =
       arith,
       ap (λ (x : StoreOf). x.paging_keys) c.add_pages.ensures.adds.store,
       pages,
-      passing_all (is_dead c.args.pid (g.G.Pages.contents c.args.g.now)) range.first range.count (λ j few.
+      passing_all (is_page_dead c.args.pid (g.G.Pages.contents c.args.g.now)) range.first range.count (λ j few.
           ap not (c.requires.dead (range.first + j) (holds range (range.first + j) (omega arith) (omega (arith, few))))),
     )

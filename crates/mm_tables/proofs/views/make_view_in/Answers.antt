@@ -7,9 +7,9 @@ use Rattle.mm_tables.specs.ViewChanges.{region_of_view}
 use Rattle.mm_tables.proofs.ViewWorlds.{lives_at, not_none, still_at, changed_in}
 use Rattle.mm_tables.proofs.views.make_view_in.Goals as goal
 
-pub make_view-requires-clause-free : goal.make_view-requires-clause-free
-make_view-requires-clause-free g c =
-    c.requires.free (shown_process c.in-Some.process) (lives_at c.args.processes.now.items c.args.pid.0 c.index_mut.result.now c.in-Some.process c.requires.lives c.index_mut.ensures.value c.in-Some.is)
+pub make_view-requires-clause-new : goal.make_view-requires-clause-new
+make_view-requires-clause-new g c =
+    c.requires.new (shown_process c.in-Some.process) (lives_at c.args.processes.now.items c.args.pid.0 c.index_mut.result.now c.in-Some.process c.requires.lives c.index_mut.ensures.value c.in-Some.is)
 
 pub unreachable-requires : goal.unreachable-requires
 unreachable-requires g c = not_none c.args.processes.now.items c.args.pid.0 c.index_mut.result.now c.requires.lives c.index_mut.ensures.value c.in-None.is

@@ -1,6 +1,13 @@
-use Rattle.std.proofs.Common.{arith}
-use Rattle.mm_vad.proofs.Joined.{equal_run}
+use Rattle.std.proofs.Common.{◌∙◌, sym, arith}
+use Rattle.mm_vad.proofs.Joined.{equal_run, equal_if_eq, equal_more}
 use Rattle.mm_vad.proofs.chunks.equal_in.Goals as goal
+
+pub loop-n-preserved : goal.loop-n-preserved
+loop-n-preserved c = (
+  omega arith,
+  omega (arith, c.loop-n-test.true),
+  equal_more c.args.rows.now c.args.at c.loop-n.n _ _ (omega (arith, c.requires.inside, c.loop-n-test.true)) c.loop-n.invariant.2 (equal_if_eq _ _ (sym c.eq.ensures ∙ c.if-eq.true)),
+)
 
 pub returns-else-eq-clause-equal : goal.returns-else-eq-clause-equal
 returns-else-eq-clause-equal c = equal_run c.args.rows.now c.args.at c.loop-n.n _ (omega (arith, c.requires.inside, c.loop-n.invariant.1)) c.loop-n.invariant.2

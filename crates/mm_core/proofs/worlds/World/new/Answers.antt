@@ -5,7 +5,7 @@ use Rattle.mm_world.specs.Contents.{Tables, world_with}
 use Rattle.mm_world.specs.Step.{first_world}
 use Rattle.mm_tables.specs.References.{MadeAtMost}
 use Rattle.mm_paging.specs.Lines.{Agrees}
-use Rattle.mm_tables.specs.Fits.{Fits, bytes_of}
+use Rattle.mm_tables.specs.Fits.{FitsTables, key_bytes}
 use Rattle.mm_tables.proofs.Lines.{new_fits}
 use Rattle.mm_core.proofs.Noted.{agrees, stands}
 use Rattle.mm_core.proofs.worlds.World.new.Goals as goal
@@ -26,7 +26,7 @@ pub invariant_of-result : goal.invariant_of-result
 invariant_of-result g c =
     let pages = c.args.pages in
     record {
-      fits = λ h. subst (λ (t : Tables). Fits t (g.G.Pages.contents pages) (g.G.Pages.store pages)) (sym c.new.ensures) (new_fits c.args.machine _ _ c.requires.new);
+      fits = λ h. subst (λ (t : Tables). FitsTables t (g.G.Pages.contents pages) (g.G.Pages.store pages)) (sym c.new.ensures) (new_fits c.args.machine _ _ c.requires.new);
       few = λ h. subst (λ (t : Tables). MadeAtMost (g.G.Pages.store pages).line t) (sym c.new.ensures) (made_none c.args.machine (g.G.Pages.store pages).line);
     }
 
@@ -35,5 +35,5 @@ returns-clause-agrees g c paging =
     let contents = g.G.Pages.contents c.args.pages in
     let store = g.G.Pages.store c.args.pages in
     let behind = g.G.Pages.behind c.args.pages in
-    subst (λ (t : Tables). Agrees (world_with t (bytes_of contents)) store.report behind) (sym c.new.ensures)
+    subst (λ (t : Tables). Agrees (world_with t (key_bytes contents)) store.report behind) (sym c.new.ensures)
     (agrees (first_world c.args.machine) contents store behind (new_fits c.args.machine _ _ c.requires.new) (stands g.G.Pages.unpaged contents store behind paging c.sound.ensures.stands))

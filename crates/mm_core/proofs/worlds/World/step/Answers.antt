@@ -1,5 +1,4 @@
-use Rattle.mm_core.specs.Promise.{Decides, scene_of, scene}
-use Rattle.mm_tables.specs.Fits.{bytes_of}
+use Rattle.mm_tables.specs.Fits.{key_bytes}
 use Rattle.mm_core.proofs.Memory.{is_ok_with}
 use Rattle.mm_core.proofs.Promised.{at-ok, at-err, decides, breaks}
 use Rattle.mm_core.proofs.worlds.World.step.Goals as goal
@@ -9,10 +8,10 @@ returns-clause-decided g c =
     let d = c.decide-result in
     let w = c.args.self.now in
     let p = g.G.Pages in
-    at-ok (λ a. Decides p.unpaged (scene w) c.args.event.now a (scene_of d.new.t (p.contents d.new.g) (p.store d.new.g) (p.behind d.new.g))) d.result (λ a q.
+    at-ok d.result (λ x q.
     decides p.unpaged c.args.line w.tables (p.contents w.pages) (p.store w.pages) (p.behind w.pages)
     d.new.t (p.contents d.new.g) (p.store d.new.g) (p.behind d.new.g)
-    c.args.event.now a (w.fits c.requires.ready)
+    c.args.event.now d.new.answer (w.fits c.requires.ready)
     (record {
       next = c.requires.next;
       stands = c.sound.ensures.stands;
@@ -42,4 +41,4 @@ returns-clause-broke g c =
 pub returns-clause-no_memory : goal.returns-clause-no_memory
 returns-clause-no_memory g c =
     let w = c.args.self.now in
-    is_ok_with w.tables (bytes_of (g.G.Pages.contents w.pages)) c.args.event.now c.decide-result.result c.decide-result.ensures.no_memory
+    is_ok_with w.tables (key_bytes (g.G.Pages.contents w.pages)) c.args.event.now c.decide-result.result c.decide-result.ensures.no_memory

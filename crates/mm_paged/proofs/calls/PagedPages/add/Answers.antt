@@ -1,7 +1,7 @@
 use Rattle.std.proofs.Common.{ap, ◌∙◌}
 use Rattle.mm_world.specs.World.{filled}
 use Rattle.mm_moving.specs.Shown.{StateOf}
-use Rattle.mm_paged.specs.Store.{own_in, state_of}
+use Rattle.mm_paged.specs.Store.{own_in, paged_state}
 use Rattle.mm_paged.proofs.Shows.{changed_keys, adds_passes, added_store}
 use Rattle.mm_paged.proofs.Unmoved.{stands_nowhere}
 use Rattle.mm_paged.proofs.calls.PagedPages.add.Goals as goal
@@ -14,4 +14,4 @@ pub returns-clause-passes : goal.returns-clause-passes
 returns-clause-passes g c = adds_passes c.args.key _ _ (own_in c.args.self.now) _ c.add_zero.ensures.made (ap (λ (s : StateOf). s.slots) c.add_zero.ensures.rest)
 
 pub returns-clause-store : goal.returns-clause-store
-returns-clause-store g c = added_store (state_of c.args.self.now) (g.T.Moving.shown c.add_zero.new.self) (own_in c.args.self.now) c.args.key _ _ (stands_nowhere (state_of c.args.self.now) c.args.key c.sound.ensures.holds c.requires.dead) c.add_zero.ensures.made c.add_zero.ensures.rest
+returns-clause-store g c = added_store (paged_state c.args.self.now) (g.T.Moving.shown c.add_zero.new.self) (own_in c.args.self.now) c.args.key _ _ (stands_nowhere (paged_state c.args.self.now) c.args.key (g.met.T.Moving.holds c.args.self.now.state) c.requires.dead) c.add_zero.ensures.made c.add_zero.ensures.rest

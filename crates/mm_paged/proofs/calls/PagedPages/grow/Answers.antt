@@ -1,12 +1,60 @@
-use Rattle.mm_paged.specs.Store.{state_of}
+use Rattle.std.proofs.Common.{◌≡◌, ℕ, false, None, Some, refl, sym, ap, ◌∙◌, subst}
+use Rattle.mm_types.specs.declared.moves.LineKind.TheVariants as kind
+use Rattle.mm_types.specs.declared.moves.Move.TheVariants as move
+use Rattle.mm_types.specs.declared.numbers.Place.{Place}
+use Rattle.mm_blocks.specs.Devices.{DeviceOf}
+use Rattle.mm_life.specs.Effect.{after_move}
+use Rattle.mm_life.specs.Life.{FrameLife}
+use Rattle.mm_life.specs.Waits.{Waiting, waits_after, ages_after}
+use Rattle.mm_pages.specs.Reports.{begun, called}
+use Rattle.mm_pages.specs.Told.{Told, none_told}
+use Rattle.mm_moving.specs.Shown.{StateOf, GrowBegins, moved, asked_to_grow}
+use Rattle.mm_paged.specs.Shown.{OwnOf, store_of}
+use Rattle.mm_paged.specs.Store.{own_in, paged_state}
 use Rattle.mm_paged.proofs.Unmoved.{notes_by}
 use Rattle.mm_paged.proofs.calls.PagedPages.grow.Goals as goal
 
+-- the line is a call that changes nothing, and the device's count of faults rose
+abbrev failed_at : StateOf → StateOf → ℕ → StateOf
+failed_at s z n = record s {
+  life = after_move s.life (move.At n kind.Call);
+  log = z.log;
+  told = none_told;
+  ages = ages_after (move.At n kind.Call) s.ages;
+  waits = waits_after (move.At n kind.Call) s.waits;
+  paging = asked_to_grow s.paging z.paging;
+}
+
+abbrev failed_own : OwnOf → OwnOf
+failed_own o = record { extended = Some false; ready = None; blocks_used = o.blocks_used }
+
+abbrev HasFailed : StateOf → DeviceOf → OwnOf → ℕ → StateOf → Type 0
+HasFailed s d o n x = store_of x (failed_own o) ≡ record (store_of s o) {
+  line = n;
+  kind = kind.Call;
+  ready = None;
+  report = record (begun (store_of s o).report) { extended = Some false };
+  paging_device = called (store_of s o).paging_device d;
+}
+
+failed_store : (s z : StateOf) (o : OwnOf) (n : ℕ) → GrowBegins (move.At n kind.Call) s z → z ≡ record (moved s z) { paging = asked_to_grow s.paging z.paging } → HasFailed s z.paging o n z
+failed_store s z o n b e = subst (λ (x : StateOf). HasFailed s z.paging o n x) (sym whole) refl
+  where
+    whole : z ≡ failed_at s z n
+    whole = e
+        ∙ ap (λ (l : FrameLife). record (failed_at s z n) { life = l; told = z.told; ages = z.ages; waits = z.waits }) b.life
+        ∙ ap (λ (t : Told). record (failed_at s z n) { told = t; ages = z.ages; waits = z.waits }) b.told
+        ∙ ap (λ (t : Place → ℕ). record (failed_at s z n) { ages = t; waits = z.waits }) b.ages
+        ∙ ap (λ (t : ℕ → Waiting). record (failed_at s z n) { waits = t }) b.waits
+
+pub returns-in-Err-Failed-clause-failed : goal.returns-in-Err-Failed-clause-failed
+returns-in-Err-Failed-clause-failed g c q = failed_store (paged_state c.args.self.now) (g.T.Moving.shown c.grow-done.new.self) (own_in c.args.self.now) c.args.line (c.grow-done.ensures.failed q) (c.grow-done.ensures.kept q)
+
 pub returns-in-Ok-clause-notes : goal.returns-in-Ok-clause-notes
-returns-in-Ok-clause-notes g c = notes_by c.grow-done.result (state_of c.args.self.now) (g.T.Moving.shown c.grow-done.new.self) c.args.line c.args.n c.grow-done.ensures.ok c.grow-done.ensures.grown c.grow-done.ensures.failed c.grow-done.ensures.kept c.grow-done.ensures.memory
+returns-in-Ok-clause-notes g c = notes_by c.grow-done.result (paged_state c.args.self.now) (g.T.Moving.shown c.grow-done.new.self) c.args.line c.args.n c.grow-done.ensures.ok c.grow-done.ensures.grown c.grow-done.ensures.failed c.grow-done.ensures.kept c.grow-done.ensures.memory
 
 pub returns-in-Err-Failed-clause-notes : goal.returns-in-Err-Failed-clause-notes
-returns-in-Err-Failed-clause-notes g c = notes_by c.grow-done.result (state_of c.args.self.now) (g.T.Moving.shown c.grow-done.new.self) c.args.line c.args.n c.grow-done.ensures.ok c.grow-done.ensures.grown c.grow-done.ensures.failed c.grow-done.ensures.kept c.grow-done.ensures.memory
+returns-in-Err-Failed-clause-notes g c = notes_by c.grow-done.result (paged_state c.args.self.now) (g.T.Moving.shown c.grow-done.new.self) c.args.line c.args.n c.grow-done.ensures.ok c.grow-done.ensures.grown c.grow-done.ensures.failed c.grow-done.ensures.kept c.grow-done.ensures.memory
 
 pub returns-in-Err-Memory-clause-notes : goal.returns-in-Err-Memory-clause-notes
-returns-in-Err-Memory-clause-notes g c = notes_by c.grow-done.result (state_of c.args.self.now) (g.T.Moving.shown c.grow-done.new.self) c.args.line c.args.n c.grow-done.ensures.ok c.grow-done.ensures.grown c.grow-done.ensures.failed c.grow-done.ensures.kept c.grow-done.ensures.memory
+returns-in-Err-Memory-clause-notes g c = notes_by c.grow-done.result (paged_state c.args.self.now) (g.T.Moving.shown c.grow-done.new.self) c.args.line c.args.n c.grow-done.ensures.ok c.grow-done.ensures.grown c.grow-done.ensures.failed c.grow-done.ensures.kept c.grow-done.ensures.memory

@@ -5,7 +5,7 @@ use Rattle.mm_paged.proofs.Unmoved.{turns_either}
 use Rattle.mm_paged.proofs.calls.PagedPages.open_process.Goals as goal
 
 pub open_process-requires : goal.open_process-requires
-open_process-requires g c = process_set _ c.args.pid _ _ c.sound.ensures.holds c.requires.kind
+open_process-requires g c = process_set _ c.args.pid _ _ (g.met.T.Moving.holds c.args.self.now.state) c.requires.kind
 
 pub returns-clause-passes : goal.returns-clause-passes
 returns-clause-passes g c = turns_either _ _ _ _ (own_in c.args.self.now) _ c.open_process.ensures.ok c.open_process.ensures.err refl refl refl refl refl

@@ -5,7 +5,7 @@ use Rattle.mm_pages.specs.Reports.{Served}
 use Rattle.mm_pages.specs.Store.{StoreOf}
 use Rattle.mm_pages.proofs.Served.{served_nothing}
 use Rattle.mm_paged.specs.Shown.{store_of}
-use Rattle.mm_paged.specs.Store.{store, own_in, state_of}
+use Rattle.mm_paged.specs.Store.{store, own_in, paged_state}
 use Rattle.mm_paged.proofs.Reading.{valid_ends, read_valid_passes, read_went_passes, stuck_passes}
 use Rattle.mm_paged.proofs.Writing.{named_here, read_named}
 use Rattle.mm_paged.proofs.Ending.{of_went, of_stuck, served_in, read_store, err_store, read_served, stored_in, some_is, not_here, faulted_kept}
@@ -16,10 +16,10 @@ returns-in-Some-clause-served g c = subst (λ (x : StoreOf). Served (store c.arg
 
 pub returns-in-Some-clause-ok : goal.returns-in-Some-clause-ok
 returns-in-Some-clause-ok g c = read_named c.args.key c.args.place (store c.args.self.now) _ (ap (λ (x : StateOf). store_of x (own_in c.args.self.now)) c.read.ensures.rest)
-    (named_here c.args.key c.in-Some._frame c.args.place (state_of c.args.self.now) c.sound.ensures.holds (sym c.valid.ensures ∙ c.in-Some.is) c.requires.at.named)
+    (named_here c.args.key c.in-Some._frame c.args.place (paged_state c.args.self.now) (g.met.T.Moving.holds c.args.self.now.state) (sym c.valid.ensures ∙ c.in-Some.is) c.requires.at.named)
 
 pub returns-in-Some-clause-fault : goal.returns-in-Some-clause-fault
-returns-in-Some-clause-fault g c b = valid_ends c.args.key c.args.place _ _ (own_in c.args.self.now) c.sound.ensures.holds (ap is_some (sym c.valid.ensures ∙ c.in-Some.is)) c.requires.at.named c.read.ensures.rest b
+returns-in-Some-clause-fault g c b = valid_ends c.args.key c.args.place _ _ (own_in c.args.self.now) (g.met.T.Moving.holds c.args.self.now.state) (ap is_some (sym c.valid.ensures ∙ c.in-Some.is)) c.requires.at.named c.read.ensures.rest b
 
 pub returns-in-Some-clause-passes : goal.returns-in-Some-clause-passes
 returns-in-Some-clause-passes g c = read_valid_passes c.args.key c.args.place _ _ (own_in c.args.self.now) (ap is_some (sym c.valid.ensures ∙ c.in-Some.is)) c.read.ensures.rest
@@ -30,10 +30,10 @@ pub returns-in_default-clause-served : goal.returns-in_default-clause-served
 returns-in_default-clause-served g c = read_served c.args.key c.args.place _ _ _ (own_in c.args.self.now) _ (of_went c.args.key c.args.place _ _ (sym c.valid.ensures ∙ c.in-None.is) c.in_default.ensures.ok.went) c.read-in-None.ensures.rest
 
 pub returns-in_default-clause-ok : goal.returns-in_default-clause-ok
-returns-in_default-clause-ok g c = read_store c.args.key c.args.place _ _ _ (own_in c.args.self.now) _ (of_went c.args.key c.args.place _ _ (sym c.valid.ensures ∙ c.in-None.is) c.in_default.ensures.ok.went) c.sound.ensures.holds c.sound-in-None.ensures.holds c.fault-done.ensures.same c.in_default.ensures.ok.names c.read-in-None.ensures.rest refl refl
+returns-in_default-clause-ok g c = read_store c.args.key c.args.place _ _ _ (own_in c.args.self.now) _ (of_went c.args.key c.args.place _ _ (sym c.valid.ensures ∙ c.in-None.is) c.in_default.ensures.ok.went) (g.met.T.Moving.holds c.args.self.now.state) (g.met.T.Moving.holds c.fault-done.new.state) c.fault-done.ensures.same c.in_default.ensures.ok.names c.read-in-None.ensures.rest refl refl
 
 pub returns-in_default-clause-stored : goal.returns-in_default-clause-stored
-returns-in_default-clause-stored g c = ap (λ (s : StateOf). length s.blocks) c.read-in-None.ensures.rest ∙ stored_in false c.args.key c.args.place _ _ (of_went c.args.key c.args.place _ _ (sym c.valid.ensures ∙ c.in-None.is) c.in_default.ensures.ok.went) c.sound.ensures.holds c.sound-in-None.ensures.holds
+returns-in_default-clause-stored g c = ap (λ (s : StateOf). length s.blocks) c.read-in-None.ensures.rest ∙ stored_in false c.args.key c.args.place _ _ (of_went c.args.key c.args.place _ _ (sym c.valid.ensures ∙ c.in-None.is) c.in_default.ensures.ok.went) (g.met.T.Moving.holds c.args.self.now.state) (g.met.T.Moving.holds c.fault-done.new.state)
 
 pub returns-in_default-clause-eased : goal.returns-in_default-clause-eased
 returns-in_default-clause-eased g c r = absurd (not_here _ (sym c.valid.ensures ∙ c.in-None.is) (c.args.self.now.kept.ready _ r))
@@ -45,10 +45,10 @@ pub returns-in-Err-clause-served : goal.returns-in-Err-clause-served
 returns-in-Err-clause-served g c = served_in false c.args.key c.args.place _ _ (own_in c.args.self.now) _ (of_stuck false _ c.args.key c.args.place _ _ (sym c.valid.ensures ∙ c.in-None.is) c.in-Err.ensures.err.stuck)
 
 pub returns-in-Err-clause-stored : goal.returns-in-Err-clause-stored
-returns-in-Err-clause-stored g c = stored_in false c.args.key c.args.place _ _ (of_stuck false _ c.args.key c.args.place _ _ (sym c.valid.ensures ∙ c.in-None.is) c.in-Err.ensures.err.stuck) c.sound.ensures.holds c.sound-in-None.ensures.holds
+returns-in-Err-clause-stored g c = stored_in false c.args.key c.args.place _ _ (of_stuck false _ c.args.key c.args.place _ _ (sym c.valid.ensures ∙ c.in-None.is) c.in-Err.ensures.err.stuck) (g.met.T.Moving.holds c.args.self.now.state) (g.met.T.Moving.holds c.fault-done.new.state)
 
 pub returns-in-Err-clause-err : goal.returns-in-Err-clause-err
-returns-in-Err-clause-err g c = err_store false c.args.key c.args.place _ _ (own_in c.args.self.now) _ (of_stuck false _ c.args.key c.args.place _ _ (sym c.valid.ensures ∙ c.in-None.is) c.in-Err.ensures.err.stuck) c.sound.ensures.holds c.sound-in-None.ensures.holds c.in-Err.ensures.err.fails.same refl refl
+returns-in-Err-clause-err g c = err_store false c.args.key c.args.place _ _ (own_in c.args.self.now) _ (of_stuck false _ c.args.key c.args.place _ _ (sym c.valid.ensures ∙ c.in-None.is) c.in-Err.ensures.err.stuck) (g.met.T.Moving.holds c.args.self.now.state) (g.met.T.Moving.holds c.fault-done.new.state) c.in-Err.ensures.err.fails.same refl refl
 
 pub returns-in-Err-clause-ready : goal.returns-in-Err-clause-ready
 returns-in-Err-clause-ready g c r = absurd (not_here _ (sym c.valid.ensures ∙ c.in-None.is) (c.args.self.now.kept.ready _ r))
@@ -60,10 +60,10 @@ pub returns-in-Err-clause-passes : goal.returns-in-Err-clause-passes
 returns-in-Err-clause-passes g c = stuck_passes false _ c.args.key c.args.place _ _ (own_in c.args.self.now) _ _ (sym c.valid.ensures ∙ c.in-None.is) (λ r. c.args.self.now.kept.ready _ r) c.in-Err.ensures.err.stuck
 
 pub invariant_of-self-in-Err-1 : goal.invariant_of-self-in-Err-1
-invariant_of-self-in-Err-1 g c = record { kept = faulted_kept false c.args.key c.args.place (state_of c.args.self.now) (g.T.Moving.shown c.fault-done.new.state) _ (own_in c.args.self.now) _ (of_stuck false _ c.args.key c.args.place _ _ (sym c.valid.ensures ∙ c.in-None.is) c.in-Err.ensures.err.stuck) c.args.self.now.kept c.fault-done.ensures.same refl refl refl refl refl refl }
+invariant_of-self-in-Err-1 g c = record { kept = faulted_kept false c.args.key c.args.place (paged_state c.args.self.now) (g.T.Moving.shown c.fault-done.new.state) _ (own_in c.args.self.now) _ (of_stuck false _ c.args.key c.args.place _ _ (sym c.valid.ensures ∙ c.in-None.is) c.in-Err.ensures.err.stuck) c.args.self.now.kept c.fault-done.ensures.same refl refl refl refl refl refl }
 
 pub invariant_of-self-in-None : goal.invariant_of-self-in-None
-invariant_of-self-in-None g c = record { kept = faulted_kept false c.args.key c.args.place (state_of c.args.self.now) (g.T.Moving.shown c.fault-done.new.state) _ (own_in c.args.self.now) _ (of_went c.args.key c.args.place _ _ (sym c.valid.ensures ∙ c.in-None.is) c.in_default.ensures.ok.went) c.args.self.now.kept c.fault-done.ensures.same (ap (λ (s : StateOf). s.life) c.read-in-None.ensures.rest) (ap (λ (s : StateOf). s.own) c.read-in-None.ensures.rest) (ap (λ (s : StateOf). s.aside) c.read-in-None.ensures.rest) (ap (λ (s : StateOf). s.told) c.read-in-None.ensures.rest) refl refl }
+invariant_of-self-in-None g c = record { kept = faulted_kept false c.args.key c.args.place (paged_state c.args.self.now) (g.T.Moving.shown c.fault-done.new.state) _ (own_in c.args.self.now) _ (of_went c.args.key c.args.place _ _ (sym c.valid.ensures ∙ c.in-None.is) c.in_default.ensures.ok.went) c.args.self.now.kept c.fault-done.ensures.same (ap (λ (s : StateOf). s.life) c.read-in-None.ensures.rest) (ap (λ (s : StateOf). s.own) c.read-in-None.ensures.rest) (ap (λ (s : StateOf). s.aside) c.read-in-None.ensures.rest) (ap (λ (s : StateOf). s.told) c.read-in-None.ensures.rest) refl refl }
 
 pub fault-done-requires : goal.fault-done-requires
 fault-done-requires g c = record {

@@ -1,7 +1,7 @@
 use Rattle.std.proofs.Common.{refl}
-use Rattle.mm_paged.specs.Store.{own_in, state_of}
+use Rattle.mm_paged.specs.Store.{own_in, paged_state}
 use Rattle.mm_paged.proofs.Unmoved.{turns_still}
 use Rattle.mm_paged.proofs.calls.PagedPages.reserve.Goals as goal
 
 pub returns-clause-passes : goal.returns-clause-passes
-returns-clause-passes g c = turns_still (state_of c.args.self.now) (state_of c.args.self.now) (own_in c.args.self.now) _ refl refl refl refl refl
+returns-clause-passes g c = turns_still (paged_state c.args.self.now) (paged_state c.args.self.now) (own_in c.args.self.now) _ refl refl refl refl refl

@@ -1,4 +1,4 @@
-use Rattle.mm_parts.specs.PartsShown.{joined}
+use Rattle.mm_parts.specs.PartsShown.{joined_parts}
 use Rattle.mm_parts.proofs.Keeping.{step_to}
 use Rattle.mm_parts.proofs.WordSteps.{aged_step}
 use Rattle.mm_parts.proofs.parts.Parts.age_all.Goals as goal
@@ -6,9 +6,9 @@ use Rattle.mm_parts.proofs.parts.Parts.age_all.Goals as goal
 pub invariant_of-self : goal.invariant_of-self
 invariant_of-self c =
     let s = c.args.self.now in
-    record { kept = (step_to _ _ _ (λ i. record (joined s) { words = c.age_all.ensures.words i; ages = λ x. c.age_all.ensures.ages x i }) (aged_step (joined s) s.kept c.args.pid.0 c.working_sets_hold.ensures.aged)).kept }
+    record { kept = (step_to _ _ _ (λ i. record (joined_parts s) { words = c.age_all.ensures.words i; ages = λ x. c.age_all.ensures.ages x i }) (aged_step (joined_parts s) s.kept c.args.pid.0 c.working_sets_hold.ensures.aged)).kept }
 
 pub returns : goal.returns
 returns c =
     let s = c.args.self.now in
-    record { made = (step_to _ _ _ (λ i. record (joined s) { words = c.age_all.ensures.words i; ages = λ x. c.age_all.ensures.ages x i }) (aged_step (joined s) s.kept c.args.pid.0 c.working_sets_hold.ensures.aged)).shown }
+    record { made = (step_to _ _ _ (λ i. record (joined_parts s) { words = c.age_all.ensures.words i; ages = λ x. c.age_all.ensures.ages x i }) (aged_step (joined_parts s) s.kept c.args.pid.0 c.working_sets_hold.ensures.aged)).shown }

@@ -1,17 +1,17 @@
-use Rattle.mm_parts.specs.PartsShown.{joined}
+use Rattle.mm_parts.specs.PartsShown.{joined_parts}
 use Rattle.mm_parts.proofs.Keeping.{step_to}
 use Rattle.mm_parts.proofs.LineSteps.{at_shown, set_room}
 use Rattle.mm_parts.proofs.parts.Parts.at.Goals as goal
 
 pub begin_set-requires : goal.begin_set-requires
-begin_set-requires c = set_room (joined c.args.self.now) c.args.line c.args.kind c.requires.legal
+begin_set-requires c = set_room (joined_parts c.args.self.now) c.args.line c.args.kind c.requires.legal
 
 pub invariant_of-self : goal.invariant_of-self
 invariant_of-self c =
     let s = c.args.self.now in
-    record { kept = (step_to _ _ _ (λ i. record (joined s) { line = record (joined s).line { line = c.args.line; kind = c.args.kind }; words = c.begin_set.ensures.words i; ages = c.begin_set.ensures.ages i }) (at_shown (joined s) s.kept c.args.line c.args.kind c.requires.legal c.requires.plain c.requires.done c.requires.alone)).kept }
+    record { kept = (step_to _ _ _ (λ i. record (joined_parts s) { line = record (joined_parts s).line { line = c.args.line; kind = c.args.kind }; words = c.begin_set.ensures.words i; ages = c.begin_set.ensures.ages i }) (at_shown (joined_parts s) s.kept c.args.line c.args.kind c.requires.legal c.requires.plain c.requires.done c.requires.alone)).kept }
 
 pub returns : goal.returns
 returns c =
     let s = c.args.self.now in
-    record { made = (step_to _ _ _ (λ i. record (joined s) { line = record (joined s).line { line = c.args.line; kind = c.args.kind }; words = c.begin_set.ensures.words i; ages = c.begin_set.ensures.ages i }) (at_shown (joined s) s.kept c.args.line c.args.kind c.requires.legal c.requires.plain c.requires.done c.requires.alone)).shown }
+    record { made = (step_to _ _ _ (λ i. record (joined_parts s) { line = record (joined_parts s).line { line = c.args.line; kind = c.args.kind }; words = c.begin_set.ensures.words i; ages = c.begin_set.ensures.ages i }) (at_shown (joined_parts s) s.kept c.args.line c.args.kind c.requires.legal c.requires.plain c.requires.done c.requires.alone)).shown }

@@ -3,7 +3,7 @@ use Rattle.mm_types.specs.declared.numbers.Frame.{Frame}
 use Rattle.mm_life.specs.Frames.{after_clear}
 use Rattle.mm_ram.specs.Ram.{with_page, zero_page}
 use Rattle.mm_frames.specs.Base.{FramesOf, free_taken, zeroed_put, now_cleared}
-use Rattle.mm_parts.specs.PartsShown.{joined}
+use Rattle.mm_parts.specs.PartsShown.{joined_parts}
 use Rattle.mm_parts.specs.Moves.{front}
 use Rattle.mm_parts.proofs.Tokens.{front_is}
 use Rattle.mm_parts.proofs.Keeping.{step_to}
@@ -20,7 +20,7 @@ invariant_of-self c =
     c.put_zeroed.ensures ∙ ap (λ (v : FramesOf). zeroed_put v c.clear-blank.result) (c.clear-blank.ensures.cleared ∙ ap (λ (v : FramesOf). now_cleared v c.in-Some.dirty) c.take_free.ensures.taken) in
     let table : c.put_zeroed.new.self.table ≡ after_clear s.frames.table f.0 = ap (λ (v : FramesOf). v.table) now ∙ ap (λ (x : ℕ). after_clear s.frames.table x) same in
     let bytes : c.put_zeroed.new.self.bytes ≡ with_page s.frames.bytes f.0 zero_page = ap (λ (v : FramesOf). v.bytes) now ∙ ap (λ (x : ℕ). with_page s.frames.bytes x zero_page) is in
-    record { kept = (step_to _ _ _ (λ i. record (joined s) { table = table i; bytes = bytes i }) (clear_step (joined s) s.kept f (with_page s.frames.bytes f.0 zero_page) c.requires.legal)).kept }
+    record { kept = (step_to _ _ _ (λ i. record (joined_parts s) { table = table i; bytes = bytes i }) (clear_step (joined_parts s) s.kept f (with_page s.frames.bytes f.0 zero_page) c.requires.legal)).kept }
 
 pub returns : goal.returns
 returns c =
@@ -32,4 +32,4 @@ returns c =
     c.put_zeroed.ensures ∙ ap (λ (v : FramesOf). zeroed_put v c.clear-blank.result) (c.clear-blank.ensures.cleared ∙ ap (λ (v : FramesOf). now_cleared v c.in-Some.dirty) c.take_free.ensures.taken) in
     let table : c.put_zeroed.new.self.table ≡ after_clear s.frames.table f.0 = ap (λ (v : FramesOf). v.table) now ∙ ap (λ (x : ℕ). after_clear s.frames.table x) same in
     let bytes : c.put_zeroed.new.self.bytes ≡ with_page s.frames.bytes f.0 zero_page = ap (λ (v : FramesOf). v.bytes) now ∙ ap (λ (x : ℕ). with_page s.frames.bytes x zero_page) is in
-    record { made = (step_to _ _ _ (λ i. record (joined s) { table = table i; bytes = bytes i }) (clear_step (joined s) s.kept f (with_page s.frames.bytes f.0 zero_page) c.requires.legal)).shown }
+    record { made = (step_to _ _ _ (λ i. record (joined_parts s) { table = table i; bytes = bytes i }) (clear_step (joined_parts s) s.kept f (with_page s.frames.bytes f.0 zero_page) c.requires.legal)).shown }

@@ -1,7 +1,7 @@
 use Rattle.std.proofs.Common.{ap, ◌∙◌}
 use Rattle.mm_flight.specs.Requests.{FlightOf}
 use Rattle.mm_flight.specs.declared.flights.Waiting.TheVariants as waiting
-use Rattle.mm_parts.specs.PartsShown.{joined}
+use Rattle.mm_parts.specs.PartsShown.{joined_parts}
 use Rattle.mm_parts.specs.Reading.{waits_of}
 use Rattle.mm_parts.proofs.Keeping.{step_to}
 use Rattle.mm_parts.proofs.Waiting.{wait_step, waits_set, no_wait}
@@ -10,12 +10,12 @@ use Rattle.mm_parts.proofs.parts.Parts.forget.Goals as goal
 pub invariant_of-self : goal.invariant_of-self
 invariant_of-self c =
     let s = c.args.self.now in
-    record { kept = (step_to _ _ _ (λ i. record (joined s) { flight = c.forget.ensures.waits i }) (wait_step (joined s) s.kept c.args.t.0 waiting.Nothing c.forget.ensures.there (no_wait (joined s)))).kept }
+    record { kept = (step_to _ _ _ (λ i. record (joined_parts s) { flight = c.forget.ensures.waits i }) (wait_step (joined_parts s) s.kept c.args.t.0 waiting.Nothing c.forget.ensures.there (no_wait (joined_parts s)))).kept }
 
 pub returns-clause-made : goal.returns-clause-made
 returns-clause-made c =
     let s = c.args.self.now in
-    (step_to _ _ _ (λ i. record (joined s) { flight = c.forget.ensures.waits i }) (wait_step (joined s) s.kept c.args.t.0 waiting.Nothing c.forget.ensures.there (no_wait (joined s)))).shown
+    (step_to _ _ _ (λ i. record (joined_parts s) { flight = c.forget.ensures.waits i }) (wait_step (joined_parts s) s.kept c.args.t.0 waiting.Nothing c.forget.ensures.there (no_wait (joined_parts s)))).shown
 
 pub returns-clause-walked : goal.returns-clause-walked
 returns-clause-walked c = λ u.

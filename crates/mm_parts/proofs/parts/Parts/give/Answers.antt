@@ -5,7 +5,7 @@ use Rattle.mm_life.specs.Frames.{after_give}
 use Rattle.mm_life.specs.Legal.{IsLegal}
 use Rattle.mm_frames.specs.Base.{FramesOf, zeroed_taken, given_to}
 use Rattle.mm_parts.specs.Shown.{life_in}
-use Rattle.mm_parts.specs.PartsShown.{joined}
+use Rattle.mm_parts.specs.PartsShown.{joined_parts}
 use Rattle.mm_parts.specs.Moves.{front}
 use Rattle.mm_parts.proofs.Tokens.{front_is}
 use Rattle.mm_parts.proofs.Keeping.{step_to}
@@ -17,26 +17,26 @@ pub set_word-requires-clause-fits : goal.set_word-requires-clause-fits
 set_word-requires-clause-fits c =
     let low = c.in-Some.ensures.there in
     let same = c.bind-f.ensures.same in
-    frame_fits (joined c.args.self.now) c.args.self.now.kept c.bind-f.result (omega (arith, low, same))
+    frame_fits (joined_parts c.args.self.now) c.args.self.now.kept c.bind-f.result (omega (arith, low, same))
 
 pub invariant_of-self : goal.invariant_of-self
 invariant_of-self c =
     let s = c.args.self.now in
     let f = c.bind-f.result in
     let is : f ≡ front s.frames.table.zeroed = front_is s.frames.table.zeroed c.in-Some.blank f (sym c.in-Some.ensures.first) c.bind-f.ensures.same in
-    let legal : IsLegal (move.Give f c.args.key) (life_in (joined s)) = subst (λ (g : Frame). IsLegal (move.Give g c.args.key) (life_in (joined s))) (sym is) c.requires.legal in
+    let legal : IsLegal (move.Give f c.args.key) (life_in (joined_parts s)) = subst (λ (g : Frame). IsLegal (move.Give g c.args.key) (life_in (joined_parts s))) (sym is) c.requires.legal in
     let now : c.bind-f.new.self ≡ given_to (zeroed_taken s.frames) c.in-Some.blank c.args.key = c.bind-f.ensures.bound ∙ ap (λ (v : FramesOf). given_to v c.in-Some.blank c.args.key) c.take_zeroed.ensures.taken in
     let table : c.bind-f.new.self.table ≡ after_give s.frames.table f.0 c.args.key = ap (λ (v : FramesOf). v.table) now ∙ ap (λ (x : ℕ). after_give s.frames.table x c.args.key) (sym c.bind-f.ensures.same) in
     let bytes : c.bind-f.new.self.bytes ≡ s.frames.bytes = ap (λ (v : FramesOf). v.bytes) now in
-    record { kept = (step_to _ _ _ (λ i. record (joined s) { table = table i; bytes = bytes i; words = c.set_word.ensures.words i; ages = c.set_word.ensures.ages i }) (give_step (joined s) s.kept f c.args.key legal)).kept }
+    record { kept = (step_to _ _ _ (λ i. record (joined_parts s) { table = table i; bytes = bytes i; words = c.set_word.ensures.words i; ages = c.set_word.ensures.ages i }) (give_step (joined_parts s) s.kept f c.args.key legal)).kept }
 
 pub returns-clause-made : goal.returns-clause-made
 returns-clause-made c =
     let s = c.args.self.now in
     let f = c.bind-f.result in
     let is : f ≡ front s.frames.table.zeroed = front_is s.frames.table.zeroed c.in-Some.blank f (sym c.in-Some.ensures.first) c.bind-f.ensures.same in
-    let legal : IsLegal (move.Give f c.args.key) (life_in (joined s)) = subst (λ (g : Frame). IsLegal (move.Give g c.args.key) (life_in (joined s))) (sym is) c.requires.legal in
+    let legal : IsLegal (move.Give f c.args.key) (life_in (joined_parts s)) = subst (λ (g : Frame). IsLegal (move.Give g c.args.key) (life_in (joined_parts s))) (sym is) c.requires.legal in
     let now : c.bind-f.new.self ≡ given_to (zeroed_taken s.frames) c.in-Some.blank c.args.key = c.bind-f.ensures.bound ∙ ap (λ (v : FramesOf). given_to v c.in-Some.blank c.args.key) c.take_zeroed.ensures.taken in
     let table : c.bind-f.new.self.table ≡ after_give s.frames.table f.0 c.args.key = ap (λ (v : FramesOf). v.table) now ∙ ap (λ (x : ℕ). after_give s.frames.table x c.args.key) (sym c.bind-f.ensures.same) in
     let bytes : c.bind-f.new.self.bytes ≡ s.frames.bytes = ap (λ (v : FramesOf). v.bytes) now in
-    (step_to _ _ _ (λ i. record (joined s) { table = table i; bytes = bytes i; words = c.set_word.ensures.words i; ages = c.set_word.ensures.ages i }) (give_step (joined s) s.kept f c.args.key legal)).shown
+    (step_to _ _ _ (λ i. record (joined_parts s) { table = table i; bytes = bytes i; words = c.set_word.ensures.words i; ages = c.set_word.ensures.ages i }) (give_step (joined_parts s) s.kept f c.args.key legal)).shown

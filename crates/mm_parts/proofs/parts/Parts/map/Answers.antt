@@ -3,7 +3,7 @@ use Rattle.mm_types.specs.declared.frames.Record.{Record}
 use Rattle.mm_life.specs.Frames.{after_map}
 use Rattle.mm_frames.specs.Base.{FramesOf}
 use Rattle.mm_words.specs.Words.{WordsOf}
-use Rattle.mm_parts.specs.PartsShown.{joined}
+use Rattle.mm_parts.specs.PartsShown.{joined_parts}
 use Rattle.mm_parts.specs.Moves.{CanName, words_named}
 use Rattle.mm_parts.proofs.Keeping.{step_to}
 use Rattle.mm_parts.proofs.Conditions.{mappable, invalid_entry, shares_room, name_can, frame_low}
@@ -11,23 +11,23 @@ use Rattle.mm_parts.proofs.AnyPage.{map_any_step}
 use Rattle.mm_parts.proofs.parts.Parts.map.Goals as goal
 
 pub share-requires-clause-room : goal.share-requires-clause-room
-share-requires-clause-room c = shares_room (joined c.args.self.now) c.args.self.now.kept c.args.f.0
+share-requires-clause-room c = shares_room (joined_parts c.args.self.now) c.args.self.now.kept c.args.f.0
 
 pub make_valid-requires-clause-invalid : goal.make_valid-requires-clause-invalid
-make_valid-requires-clause-invalid c = invalid_entry ((joined c.args.self.now).words.at c.args.place) (mappable (joined c.args.self.now) c.args.f c.args.place c.requires.legal).invalid
+make_valid-requires-clause-invalid c = invalid_entry ((joined_parts c.args.self.now).words.at c.args.place) (mappable (joined_parts c.args.self.now) c.args.f c.args.place c.requires.legal).invalid
 
 pub make_valid-requires-clause-room : goal.make_valid-requires-clause-room
-make_valid-requires-clause-room c = (mappable (joined c.args.self.now) c.args.f c.args.place c.requires.legal).room
+make_valid-requires-clause-room c = (mappable (joined_parts c.args.self.now) c.args.f c.args.place c.requires.legal).room
 
 pub make_valid-requires-clause-fits : goal.make_valid-requires-clause-fits
-make_valid-requires-clause-fits c = frame_low (joined c.args.self.now) c.args.self.now.kept c.args.f.0 (mappable (joined c.args.self.now) c.args.f c.args.place c.requires.legal).low
+make_valid-requires-clause-fits c = frame_low (joined_parts c.args.self.now) c.args.self.now.kept c.args.f.0 (mappable (joined_parts c.args.self.now) c.args.f c.args.place c.requires.legal).low
 
 pub name_frame-requires : goal.name_frame-requires
 name_frame-requires c =
     let s = c.args.self.now in
     let o = ap (λ (r : Record). r.owner) c.look-owner.ensures in
     subst (λ (w : WordsOf). CanName w c.look-owner.result.owner c.args.f) (sym c.make_valid.ensures.words)
-    (name_can (joined s) s.kept c.args.f c.args.place c.look-owner.result.owner (sym o) (mappable (joined s) c.args.f c.args.place c.requires.legal).low c.words_hold.ensures.there)
+    (name_can (joined_parts s) s.kept c.args.f c.args.place c.look-owner.result.owner (sym o) (mappable (joined_parts s) c.args.f c.args.place c.requires.legal).low c.words_hold.ensures.there)
 
 pub invariant_of-self : goal.invariant_of-self
 invariant_of-self c =
@@ -37,7 +37,7 @@ invariant_of-self c =
     let owner = ap (λ (r : Record). r.owner) c.look-owner.ensures in
     let words = c.name_frame.ensures.words ∙ (λ i. words_named (owner i) c.args.f (c.make_valid.ensures.words i)) in
     let ages = c.name_frame.ensures.ages ∙ c.make_valid.ensures.ages in
-    record { kept = (step_to _ _ _ (λ i. record (joined s) { table = table i; bytes = bytes i; words = words i; ages = ages i }) (map_any_step (joined s) s.kept c.args.f c.args.place c.requires.legal c.requires.alone)).kept }
+    record { kept = (step_to _ _ _ (λ i. record (joined_parts s) { table = table i; bytes = bytes i; words = words i; ages = ages i }) (map_any_step (joined_parts s) s.kept c.args.f c.args.place c.requires.legal c.requires.alone)).kept }
 
 pub returns : goal.returns
 returns c =
@@ -47,4 +47,4 @@ returns c =
     let owner = ap (λ (r : Record). r.owner) c.look-owner.ensures in
     let words = c.name_frame.ensures.words ∙ (λ i. words_named (owner i) c.args.f (c.make_valid.ensures.words i)) in
     let ages = c.name_frame.ensures.ages ∙ c.make_valid.ensures.ages in
-    record { made = (step_to _ _ _ (λ i. record (joined s) { table = table i; bytes = bytes i; words = words i; ages = ages i }) (map_any_step (joined s) s.kept c.args.f c.args.place c.requires.legal c.requires.alone)).shown }
+    record { made = (step_to _ _ _ (λ i. record (joined_parts s) { table = table i; bytes = bytes i; words = words i; ages = ages i }) (map_any_step (joined_parts s) s.kept c.args.f c.args.place c.requires.legal c.requires.alone)).shown }

@@ -4,7 +4,7 @@ use Rattle.mm_types.specs.Machine.{IsMachine}
 use Rattle.mm_life.specs.Life.{free_table}
 use Rattle.mm_frames.specs.Base.{FramesOf}
 use Rattle.mm_flight.specs.declared.flights.Waiting.TheVariants as waiting
-use Rattle.mm_parts.specs.Start.{started, started_parts}
+use Rattle.mm_parts.specs.Start.{first_parts, started_parts}
 use Rattle.mm_parts.proofs.Keeping.{step_to}
 use Rattle.mm_parts.proofs.Starting.{start_step}
 use Rattle.mm_parts.proofs.parts.Parts.new.Goals as goal
@@ -18,7 +18,7 @@ invariant_of-result c =
     let bytes : c.in_ok-frames.frames.bytes ≡ replicate m.frames None = ap (λ (v : FramesOf). v.bytes) c.in_ok-frames.ensures ∙ ap (λ (n : ℕ). replicate n None) c.frames.ensures in
     let free : c.in_ok-slots.slots.free ≡ replicate m.slots true = c.in_ok-slots.ensures ∙ ap (λ (n : ℕ). replicate n true) c.slots.ensures in
     let flight : c.in_ok-flight.flight ≡ record { depth = m.depth; frames = []; waits = replicate 256 waiting.Nothing } = c.in_ok-flight.ensures ∙ ap (λ (n : ℕ). record { depth = n; frames = []; waits = replicate 256 waiting.Nothing }) c.depth.ensures in
-    record { kept = (step_to (started_parts m) _ (started m) (λ i. record { line = record { machine = m; line = 1; kind = c.kind_of-kind.ensures i; paging_keys = 0; added = added i }; table = table i; bytes = bytes i; free = free i; words = c.in_ok-words.ensures.words i; ages = c.in_ok-words.ensures.ages i; flight = flight i; own = None }) (start_step m h)).kept }
+    record { kept = (step_to (started_parts m) _ (first_parts m) (λ i. record { line = record { machine = m; line = 1; kind = c.kind_of-kind.ensures i; paging_keys = 0; added = added i }; table = table i; bytes = bytes i; free = free i; words = c.in_ok-words.ensures.words i; ages = c.in_ok-words.ensures.ages i; flight = flight i; own = None }) (start_step m h)).kept }
 
 pub returns : goal.returns
 returns c =
@@ -29,4 +29,4 @@ returns c =
     let bytes : c.in_ok-frames.frames.bytes ≡ replicate m.frames None = ap (λ (v : FramesOf). v.bytes) c.in_ok-frames.ensures ∙ ap (λ (n : ℕ). replicate n None) c.frames.ensures in
     let free : c.in_ok-slots.slots.free ≡ replicate m.slots true = c.in_ok-slots.ensures ∙ ap (λ (n : ℕ). replicate n true) c.slots.ensures in
     let flight : c.in_ok-flight.flight ≡ record { depth = m.depth; frames = []; waits = replicate 256 waiting.Nothing } = c.in_ok-flight.ensures ∙ ap (λ (n : ℕ). record { depth = n; frames = []; waits = replicate 256 waiting.Nothing }) c.depth.ensures in
-    (step_to (started_parts m) _ (started m) (λ i. record { line = record { machine = m; line = 1; kind = c.kind_of-kind.ensures i; paging_keys = 0; added = added i }; table = table i; bytes = bytes i; free = free i; words = c.in_ok-words.ensures.words i; ages = c.in_ok-words.ensures.ages i; flight = flight i; own = None }) (start_step m h)).shown
+    (step_to (started_parts m) _ (first_parts m) (λ i. record { line = record { machine = m; line = 1; kind = c.kind_of-kind.ensures i; paging_keys = 0; added = added i }; table = table i; bytes = bytes i; free = free i; words = c.in_ok-words.ensures.words i; ages = c.in_ok-words.ensures.ages i; flight = flight i; own = None }) (start_step m h)).shown

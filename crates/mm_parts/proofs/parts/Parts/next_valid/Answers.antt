@@ -1,6 +1,6 @@
-use Rattle.mm_parts.specs.PartsShown.{joined}
+use Rattle.mm_parts.specs.PartsShown.{joined_parts}
 use Rattle.mm_parts.proofs.Ageing.{next_shown}
 use Rattle.mm_parts.proofs.parts.Parts.next_valid.Goals as goal
 
 pub returns : goal.returns
-returns c = next_shown (joined c.args.self.now) c.working_sets_hold.ensures.aged c.args.pid c.args.from.0 c.next_from.result c.next_from.ensures
+returns c = next_shown (joined_parts c.args.self.now) c.working_sets_hold.ensures.aged c.args.pid c.args.from.0 c.next_from.result c.next_from.ensures

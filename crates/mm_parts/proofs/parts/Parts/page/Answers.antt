@@ -1,6 +1,6 @@
-use Rattle.mm_parts.specs.PartsShown.{joined}
+use Rattle.mm_parts.specs.PartsShown.{joined_parts}
 use Rattle.mm_parts.proofs.FrameSteps.{write_kept}
 use Rattle.mm_parts.proofs.parts.Parts.page.Goals as goal
 
 pub page-requires-clause-kept : goal.page-requires-clause-kept
-page-requires-clause-kept c = write_kept (joined c.args.self.now) c.args.self.now.kept c.args.f.0 c.requires
+page-requires-clause-kept c = write_kept (joined_parts c.args.self.now) c.args.self.now.kept c.args.f.0 c.requires

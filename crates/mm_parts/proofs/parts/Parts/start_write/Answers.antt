@@ -7,36 +7,37 @@ use Rattle.mm_life.specs.Frames.{record_at, after_write}
 use Rattle.mm_life.specs.Legal.{IsLegal}
 use Rattle.mm_frames.specs.Base.{FramesOf, can_go_to}
 use Rattle.mm_parts.specs.Shown.{life_in}
-use Rattle.mm_parts.specs.PartsShown.{joined}
-use Rattle.mm_parts.specs.Moves.{write_target, goes_to, lowest_free, backing_to}
+use Rattle.mm_parts.specs.PartsShown.{joined_parts}
+use Rattle.mm_frame_laws.specs.Steps.{backing_to}
+use Rattle.mm_parts.specs.Moves.{write_target, goes_to, lowest_free}
 use Rattle.mm_parts.proofs.Keeping.{step_to}
 use Rattle.mm_parts.proofs.Requesting.{write_can, write_low, write_new, write_free}
 use Rattle.mm_parts.proofs.FrameSteps.{write_step}
 use Rattle.mm_parts.proofs.parts.Parts.start_write.Goals as goal
 
 pub look-requires : goal.look-requires
-look-requires c = write_low (joined c.args.self.now) c.args.f _ (write_can (joined c.args.self.now) c.args.self.now.kept c.args.f _ c.requires.legal)
+look-requires c = write_low (joined_parts c.args.self.now) c.args.f _ (write_can (joined_parts c.args.self.now) c.args.self.now.kept c.args.f _ c.requires.legal)
 
 pub take_target-to-requires : goal.take_target-to-requires
-take_target-to-requires c = write_free (joined c.args.self.now) c.args.f c.requires.legal c.look.result.backing (ap (λ (r : Record). r.backing) c.look.ensures)
+take_target-to-requires c = write_free (joined_parts c.args.self.now) c.args.f c.requires.legal c.look.result.backing (ap (λ (r : Record). r.backing) c.look.ensures)
 
 pub start_write-requires-clause-changed : goal.start_write-requires-clause-changed
-start_write-requires-clause-changed c = (write_can (joined c.args.self.now) c.args.self.now.kept c.args.f _ c.requires.legal).changed
+start_write-requires-clause-changed c = (write_can (joined_parts c.args.self.now) c.args.self.now.kept c.args.f _ c.requires.legal).changed
 
 pub start_write-requires-clause-target : goal.start_write-requires-clause-target
 start_write-requires-clause-target c =
     let s = c.args.self.now in
-    let to : c.take_target-to.result ≡ write_target (life_in (joined s)) c.args.f = c.take_target-to.ensures.to ∙ ap (λ (r : Record). goes_to r.backing (lowest_free s.slots.free)) c.look.ensures in
-    ap (λ (b : Backing). can_go_to b (record_at s.frames.table c.args.f.0)) (c.target.ensures ∙ ap backing_to to) ∙ (write_can (joined s) s.kept c.args.f _ c.requires.legal).goes
+    let to : c.take_target-to.result ≡ write_target (life_in (joined_parts s)) c.args.f = c.take_target-to.ensures.to ∙ ap (λ (r : Record). goes_to r.backing (lowest_free s.slots.free)) c.look.ensures in
+    ap (λ (b : Backing). can_go_to b (record_at s.frames.table c.args.f.0)) (c.target.ensures ∙ ap backing_to to) ∙ (write_can (joined_parts s) s.kept c.args.f _ c.requires.legal).goes
 
 pub start_write-requires-clause-no_request : goal.start_write-requires-clause-no_request
-start_write-requires-clause-no_request c = (write_can (joined c.args.self.now) c.args.self.now.kept c.args.f _ c.requires.legal).quiet
+start_write-requires-clause-no_request c = (write_can (joined_parts c.args.self.now) c.args.self.now.kept c.args.f _ c.requires.legal).quiet
 
 pub begin_request-requires-clause-fewer : goal.begin_request-requires-clause-fewer
-begin_request-requires-clause-fewer c = (write_can (joined c.args.self.now) c.args.self.now.kept c.args.f _ c.requires.legal).fewer
+begin_request-requires-clause-fewer c = (write_can (joined_parts c.args.self.now) c.args.self.now.kept c.args.f _ c.requires.legal).fewer
 
 pub begin_request-requires-clause-new : goal.begin_request-requires-clause-new
-begin_request-requires-clause-new c = λ other. write_new (joined c.args.self.now) c.args.self.now.kept c.args.f _ (write_can (joined c.args.self.now) c.args.self.now.kept c.args.f _ c.requires.legal)
+begin_request-requires-clause-new c = λ other. write_new (joined_parts c.args.self.now) c.args.self.now.kept c.args.f _ (write_can (joined_parts c.args.self.now) c.args.self.now.kept c.args.f _ c.requires.legal)
 
 pub returns-clause-to : goal.returns-clause-to
 returns-clause-to c = c.take_target-to.ensures.to ∙ ap (λ (r : Record). goes_to r.backing (lowest_free c.args.self.now.slots.free)) c.look.ensures
@@ -45,18 +46,18 @@ pub invariant_of-self : goal.invariant_of-self
 invariant_of-self c =
     let s = c.args.self.now in
     let t = c.take_target-to.result in
-    let to : t ≡ write_target (life_in (joined s)) c.args.f = c.take_target-to.ensures.to ∙ ap (λ (r : Record). goes_to r.backing (lowest_free s.slots.free)) c.look.ensures in
-    let legal : IsLegal (move.Write c.args.f t) (life_in (joined s)) = subst (λ (x : Stored). IsLegal (move.Write c.args.f x) (life_in (joined s))) (sym to) c.requires.legal in
+    let to : t ≡ write_target (life_in (joined_parts s)) c.args.f = c.take_target-to.ensures.to ∙ ap (λ (r : Record). goes_to r.backing (lowest_free s.slots.free)) c.look.ensures in
+    let legal : IsLegal (move.Write c.args.f t) (life_in (joined_parts s)) = subst (λ (x : Stored). IsLegal (move.Write c.args.f x) (life_in (joined_parts s))) (sym to) c.requires.legal in
     let table : c.start_write.new.self.table ≡ after_write s.frames.table c.args.f.0 (backing_to t) = ap (λ (v : FramesOf). v.table) c.start_write.ensures ∙ ap (after_write s.frames.table c.args.f.0) c.target.ensures in
     let bytes : c.start_write.new.self.bytes ≡ s.frames.bytes = ap (λ (v : FramesOf). v.bytes) c.start_write.ensures in
-    record { kept = (step_to _ _ _ (λ i. record (joined s) { table = table i; bytes = bytes i; free = c.take_target-to.ensures.slots i; flight = c.begin_request.ensures.flight i; own = c.begin_request.ensures.own i }) (write_step (joined s) s.kept c.args.f t legal c.requires.room)).kept }
+    record { kept = (step_to _ _ _ (λ i. record (joined_parts s) { table = table i; bytes = bytes i; free = c.take_target-to.ensures.slots i; flight = c.begin_request.ensures.flight i; own = c.begin_request.ensures.own i }) (write_step (joined_parts s) s.kept c.args.f t legal c.requires.room)).kept }
 
 pub returns-clause-made : goal.returns-clause-made
 returns-clause-made c =
     let s = c.args.self.now in
     let t = c.take_target-to.result in
-    let to : t ≡ write_target (life_in (joined s)) c.args.f = c.take_target-to.ensures.to ∙ ap (λ (r : Record). goes_to r.backing (lowest_free s.slots.free)) c.look.ensures in
-    let legal : IsLegal (move.Write c.args.f t) (life_in (joined s)) = subst (λ (x : Stored). IsLegal (move.Write c.args.f x) (life_in (joined s))) (sym to) c.requires.legal in
+    let to : t ≡ write_target (life_in (joined_parts s)) c.args.f = c.take_target-to.ensures.to ∙ ap (λ (r : Record). goes_to r.backing (lowest_free s.slots.free)) c.look.ensures in
+    let legal : IsLegal (move.Write c.args.f t) (life_in (joined_parts s)) = subst (λ (x : Stored). IsLegal (move.Write c.args.f x) (life_in (joined_parts s))) (sym to) c.requires.legal in
     let table : c.start_write.new.self.table ≡ after_write s.frames.table c.args.f.0 (backing_to t) = ap (λ (v : FramesOf). v.table) c.start_write.ensures ∙ ap (after_write s.frames.table c.args.f.0) c.target.ensures in
     let bytes : c.start_write.new.self.bytes ≡ s.frames.bytes = ap (λ (v : FramesOf). v.bytes) c.start_write.ensures in
-    (step_to _ _ _ (λ i. record (joined s) { table = table i; bytes = bytes i; free = c.take_target-to.ensures.slots i; flight = c.begin_request.ensures.flight i; own = c.begin_request.ensures.own i }) (write_step (joined s) s.kept c.args.f t legal c.requires.room)).shown
+    (step_to _ _ _ (λ i. record (joined_parts s) { table = table i; bytes = bytes i; free = c.take_target-to.ensures.slots i; flight = c.begin_request.ensures.flight i; own = c.begin_request.ensures.own i }) (write_step (joined_parts s) s.kept c.args.f t legal c.requires.room)).shown

@@ -3,8 +3,8 @@ use Rattle.mm_types.specs.declared.numbers.Frame.{Frame}
 use Rattle.mm_words.specs.Layout.{IsEntry}
 use Rattle.mm_life.specs.Frames.{record_at, after_steal}
 use Rattle.mm_frames.specs.Base.{FramesOf, standby_taken, free_put}
-use Rattle.mm_words.specs.Words.{with_word, keeps_places}
-use Rattle.mm_parts.specs.PartsShown.{joined}
+use Rattle.mm_words.specs.Words.{with_entry, keeps_places}
+use Rattle.mm_parts.specs.PartsShown.{joined_parts}
 use Rattle.mm_parts.specs.Moves.{front, home_entry}
 use Rattle.mm_parts.proofs.Tokens.{front_is, stolen_table}
 use Rattle.mm_parts.proofs.Keeping.{step_to}
@@ -15,17 +15,17 @@ use Rattle.mm_parts.proofs.parts.Parts.steal.Goals as goal
 pub set_word-requires-clause-has : goal.set_word-requires-clause-has
 set_word-requires-clause-has c =
     let s = c.args.self.now in
-    c.words_hold.ensures.there c.in-Some.stolen.key (steal_can (joined s) s.kept c.requires.legal c.in-Some.stolen.dirty c.in-Some.stolen.key (sym c.in-Some.ensures.first) c.in-Some.ensures.key).there
+    c.words_hold.ensures.there c.in-Some.stolen.key (steal_can (joined_parts s) s.kept c.requires.legal c.in-Some.stolen.dirty c.in-Some.stolen.key (sym c.in-Some.ensures.first) c.in-Some.ensures.key).there
 
 pub set_word-requires-clause-fits : goal.set_word-requires-clause-fits
 set_word-requires-clause-fits c =
     let s = c.args.self.now in
-    subst IsEntry (ap home_entry c.in-Some.ensures.backing ∙ sym c.home.ensures) (steal_can (joined s) s.kept c.requires.legal c.in-Some.stolen.dirty c.in-Some.stolen.key (sym c.in-Some.ensures.first) c.in-Some.ensures.key).fits
+    subst IsEntry (ap home_entry c.in-Some.ensures.backing ∙ sym c.home.ensures) (steal_can (joined_parts s) s.kept c.requires.legal c.in-Some.stolen.dirty c.in-Some.stolen.key (sym c.in-Some.ensures.first) c.in-Some.ensures.key).fits
 
 pub set_word-requires-clause-places : goal.set_word-requires-clause-places
 set_word-requires-clause-places c =
     let s = c.args.self.now in
-    ap (keeps_places (joined s).words c.in-Some.stolen.key) (c.home.ensures ∙ ap home_entry (sym c.in-Some.ensures.backing)) ∙ (steal_can (joined s) s.kept c.requires.legal c.in-Some.stolen.dirty c.in-Some.stolen.key (sym c.in-Some.ensures.first) c.in-Some.ensures.key).places
+    ap (keeps_places (joined_parts s).words c.in-Some.stolen.key) (c.home.ensures ∙ ap home_entry (sym c.in-Some.ensures.backing)) ∙ (steal_can (joined_parts s) s.kept c.requires.legal c.in-Some.stolen.dirty c.in-Some.stolen.key (sym c.in-Some.ensures.first) c.in-Some.ensures.key).places
 
 pub invariant_of-self : goal.invariant_of-self
 invariant_of-self c =
@@ -40,8 +40,8 @@ invariant_of-self c =
     let now : c.put_free.new.self ≡ free_put (standby_taken s.frames) dirty = c.put_free.ensures ∙ ap (λ (v : FramesOf). free_put v dirty) c.take_standby.ensures.taken in
     let table : c.put_free.new.self.table ≡ after_steal s.frames.table f.0 = ap (λ (v : FramesOf). v.table) now ∙ stolen_table s.frames dirty first ∙ ap (λ (x : ℕ). after_steal s.frames.table x) is in
     let bytes : c.put_free.new.self.bytes ≡ s.frames.bytes = ap (λ (v : FramesOf). v.bytes) now in
-    let words = c.set_word.ensures.words ∙ ap (with_word (joined s).words key) (c.home.ensures ∙ ap home_entry backing) in
-    record { kept = (step_to _ _ _ (λ i. record (joined s) { table = table i; bytes = bytes i; words = words i; ages = c.set_word.ensures.ages i }) (steal_step (joined s) s.kept f key c.requires.legal owner)).kept }
+    let words = c.set_word.ensures.words ∙ ap (with_entry (joined_parts s).words key) (c.home.ensures ∙ ap home_entry backing) in
+    record { kept = (step_to _ _ _ (λ i. record (joined_parts s) { table = table i; bytes = bytes i; words = words i; ages = c.set_word.ensures.ages i }) (steal_step (joined_parts s) s.kept f key c.requires.legal owner)).kept }
 
 pub returns : goal.returns
 returns c =
@@ -56,5 +56,5 @@ returns c =
     let now : c.put_free.new.self ≡ free_put (standby_taken s.frames) dirty = c.put_free.ensures ∙ ap (λ (v : FramesOf). free_put v dirty) c.take_standby.ensures.taken in
     let table : c.put_free.new.self.table ≡ after_steal s.frames.table f.0 = ap (λ (v : FramesOf). v.table) now ∙ stolen_table s.frames dirty first ∙ ap (λ (x : ℕ). after_steal s.frames.table x) is in
     let bytes : c.put_free.new.self.bytes ≡ s.frames.bytes = ap (λ (v : FramesOf). v.bytes) now in
-    let words = c.set_word.ensures.words ∙ ap (with_word (joined s).words key) (c.home.ensures ∙ ap home_entry backing) in
-    record { made = (step_to _ _ _ (λ i. record (joined s) { table = table i; bytes = bytes i; words = words i; ages = c.set_word.ensures.ages i }) (steal_step (joined s) s.kept f key c.requires.legal owner)).shown }
+    let words = c.set_word.ensures.words ∙ ap (with_entry (joined_parts s).words key) (c.home.ensures ∙ ap home_entry backing) in
+    record { made = (step_to _ _ _ (λ i. record (joined_parts s) { table = table i; bytes = bytes i; words = words i; ages = c.set_word.ensures.ages i }) (steal_step (joined_parts s) s.kept f key c.requires.legal owner)).shown }

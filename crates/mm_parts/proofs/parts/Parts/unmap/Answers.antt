@@ -3,49 +3,49 @@ use Rattle.std.specs.Prelude.{◌==◌, is_some}
 use Rattle.mm_types.specs.declared.frames.Record.{Record}
 use Rattle.mm_life.specs.Frames.{record_at}
 use Rattle.mm_frames.specs.Base.{FramesOf}
-use Rattle.mm_parts.specs.PartsShown.{joined}
+use Rattle.mm_parts.specs.PartsShown.{joined_parts}
 use Rattle.mm_parts.proofs.Keeping.{step_to}
 use Rattle.mm_parts.proofs.Conditions.{Leaving, leaving_told, leave_can}
 use Rattle.mm_parts.proofs.AnyPage.{unmap_any_step}
 use Rattle.mm_parts.proofs.parts.Parts.unmap.Goals as goal
 
 pub look-r-requires : goal.look-r-requires
-look-r-requires c = (leaving_told (joined c.args.self.now) c.args.self.now.kept c.in-Valid.f c.in-Valid.field-1 c.args.place c.at.result c.at.ensures c.in-Valid.is).low
+look-r-requires c = (leaving_told (joined_parts c.args.self.now) c.args.self.now.kept c.in-Valid.f c.in-Valid.field-1 c.args.place c.at.result c.at.ensures c.in-Valid.is).low
 
 pub unshare-requires : goal.unshare-requires
-unshare-requires c = (leaving_told (joined c.args.self.now) c.args.self.now.kept c.in-Valid.f c.in-Valid.field-1 c.args.place c.at.result c.at.ensures c.in-Valid.is).some
+unshare-requires c = (leaving_told (joined_parts c.args.self.now) c.args.self.now.kept c.in-Valid.f c.in-Valid.field-1 c.args.place c.at.result c.at.ensures c.in-Valid.is).some
 
 pub unwrap-key-requires : goal.unwrap-key-requires
 unwrap-key-requires c =
     let s = c.args.self.now in
-    ap (λ (r : Record). is_some r.owner) c.look-r.ensures ∙ (leaving_told (joined s) s.kept c.in-Valid.f c.in-Valid.field-1 c.args.place c.at.result c.at.ensures c.in-Valid.is).owned
+    ap (λ (r : Record). is_some r.owner) c.look-r.ensures ∙ (leaving_told (joined_parts s) s.kept c.in-Valid.f c.in-Valid.field-1 c.args.place c.at.result c.at.ensures c.in-Valid.is).owned
 
 pub leave_place-requires-clause-can : goal.leave_place-requires-clause-can
 leave_place-requires-clause-can c =
     let s = c.args.self.now in
     let f = c.in-Valid.f in
-    let l : Leaving (joined s) f c.args.place = leaving_told (joined s) s.kept f c.in-Valid.field-1 c.args.place c.at.result c.at.ensures c.in-Valid.is in
+    let l : Leaving (joined_parts s) f c.args.place = leaving_told (joined_parts s) s.kept f c.in-Valid.field-1 c.args.place c.at.result c.at.ensures c.in-Valid.is in
     let owner : (record_at s.frames.table f.0).owner ≡ Some c.unwrap-key.result = sym (ap (λ (r : Record). r.owner) c.look-r.ensures) ∙ c.unwrap-key.ensures in
-    leave_can (joined s) s.kept f c.unwrap-key.result owner l.low c.words_hold.ensures.there
+    leave_can (joined_parts s) s.kept f c.unwrap-key.result owner l.low c.words_hold.ensures.there
 
 pub invariant_of-self : goal.invariant_of-self
 invariant_of-self c =
     let s = c.args.self.now in
     let f = c.in-Valid.f in
-    let l : Leaving (joined s) f c.args.place = leaving_told (joined s) s.kept f c.in-Valid.field-1 c.args.place c.at.result c.at.ensures c.in-Valid.is in
+    let l : Leaving (joined_parts s) f c.args.place = leaving_told (joined_parts s) s.kept f c.in-Valid.field-1 c.args.place c.at.result c.at.ensures c.in-Valid.is in
     let owner : (record_at s.frames.table f.0).owner ≡ Some c.unwrap-key.result = sym (ap (λ (r : Record). r.owner) c.look-r.ensures) ∙ c.unwrap-key.ensures in
     let table = ap (λ (v : FramesOf). v.table) c.unshare.ensures in
     let bytes = ap (λ (v : FramesOf). v.bytes) c.unshare.ensures in
     let last : ((record_at s.frames.table f.0).shares == 1) ≡ (c.look-r.result.shares == 1) = ap (λ (r : Record). r.shares == 1) (sym c.look-r.ensures) in
-    record { kept = (step_to _ _ _ (λ i. record (joined s) { table = table i; bytes = bytes i; words = c.leave_place.ensures.words i; ages = c.leave_place.ensures.ages i }) (unmap_any_step (joined s) s.kept f c.args.place c.unwrap-key.result c.requires.legal l owner (c.look-r.result.shares == 1) last)).kept }
+    record { kept = (step_to _ _ _ (λ i. record (joined_parts s) { table = table i; bytes = bytes i; words = c.leave_place.ensures.words i; ages = c.leave_place.ensures.ages i }) (unmap_any_step (joined_parts s) s.kept f c.args.place c.unwrap-key.result c.requires.legal l owner (c.look-r.result.shares == 1) last)).kept }
 
 pub returns : goal.returns
 returns c =
     let s = c.args.self.now in
     let f = c.in-Valid.f in
-    let l : Leaving (joined s) f c.args.place = leaving_told (joined s) s.kept f c.in-Valid.field-1 c.args.place c.at.result c.at.ensures c.in-Valid.is in
+    let l : Leaving (joined_parts s) f c.args.place = leaving_told (joined_parts s) s.kept f c.in-Valid.field-1 c.args.place c.at.result c.at.ensures c.in-Valid.is in
     let owner : (record_at s.frames.table f.0).owner ≡ Some c.unwrap-key.result = sym (ap (λ (r : Record). r.owner) c.look-r.ensures) ∙ c.unwrap-key.ensures in
     let table = ap (λ (v : FramesOf). v.table) c.unshare.ensures in
     let bytes = ap (λ (v : FramesOf). v.bytes) c.unshare.ensures in
     let last : ((record_at s.frames.table f.0).shares == 1) ≡ (c.look-r.result.shares == 1) = ap (λ (r : Record). r.shares == 1) (sym c.look-r.ensures) in
-    record { made = (step_to _ _ _ (λ i. record (joined s) { table = table i; bytes = bytes i; words = c.leave_place.ensures.words i; ages = c.leave_place.ensures.ages i }) (unmap_any_step (joined s) s.kept f c.args.place c.unwrap-key.result c.requires.legal l owner (c.look-r.result.shares == 1) last)).shown }
+    record { made = (step_to _ _ _ (λ i. record (joined_parts s) { table = table i; bytes = bytes i; words = c.leave_place.ensures.words i; ages = c.leave_place.ensures.ages i }) (unmap_any_step (joined_parts s) s.kept f c.args.place c.unwrap-key.result c.requires.legal l owner (c.look-r.result.shares == 1) last)).shown }

@@ -1,7 +1,7 @@
 use Rattle.std.proofs.Common.{sym, ◌∙◌}
-use Rattle.mm_parts.specs.PartsShown.{joined}
+use Rattle.mm_parts.specs.PartsShown.{joined_parts}
 use Rattle.mm_parts.proofs.Using.{frame_told}
 use Rattle.mm_parts.proofs.parts.Parts.valid.Goals as goal
 
 pub returns : goal.returns
-returns c = c.frame_of.ensures ∙ sym (frame_told (joined c.args.self.now) c.args.place c.at.result c.at.ensures)
+returns c = c.frame_of.ensures ∙ sym (frame_told (joined_parts c.args.self.now) c.args.place c.at.result c.at.ensures)

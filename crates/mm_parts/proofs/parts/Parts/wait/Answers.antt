@@ -1,24 +1,24 @@
 use Rattle.std.proofs.Common.{ap, ◌∙◌}
 use Rattle.mm_flight.specs.Requests.{FlightOf}
 use Rattle.mm_flight.specs.declared.flights.Waiting.TheVariants as waiting
-use Rattle.mm_parts.specs.PartsShown.{joined}
+use Rattle.mm_parts.specs.PartsShown.{joined_parts}
 use Rattle.mm_parts.specs.Reading.{waits_of}
 use Rattle.mm_parts.proofs.Keeping.{step_to}
 use Rattle.mm_parts.proofs.Waiting.{read_flies, wait_step, new_wait, waits_set}
 use Rattle.mm_parts.proofs.parts.Parts.wait.Goals as goal
 
 pub wait-requires : goal.wait-requires
-wait-requires c = read_flies (joined c.args.self.now) c.args.self.now.kept c.args.f.0 c.requires.read c.requires.other
+wait-requires c = read_flies (joined_parts c.args.self.now) c.args.self.now.kept c.args.f.0 c.requires.read c.requires.other
 
 pub invariant_of-self : goal.invariant_of-self
 invariant_of-self c =
     let s = c.args.self.now in
-    record { kept = (step_to _ _ _ (λ i. record (joined s) { flight = c.wait.ensures.waits i }) (wait_step (joined s) s.kept c.args.t.0 (waiting.For c.args.f) c.wait.ensures.there (λ g e. new_wait (joined s) s.kept c.args.f g c.requires.read c.requires.other e))).kept }
+    record { kept = (step_to _ _ _ (λ i. record (joined_parts s) { flight = c.wait.ensures.waits i }) (wait_step (joined_parts s) s.kept c.args.t.0 (waiting.For c.args.f) c.wait.ensures.there (λ g e. new_wait (joined_parts s) s.kept c.args.f g c.requires.read c.requires.other e))).kept }
 
 pub returns-clause-made : goal.returns-clause-made
 returns-clause-made c =
     let s = c.args.self.now in
-    (step_to _ _ _ (λ i. record (joined s) { flight = c.wait.ensures.waits i }) (wait_step (joined s) s.kept c.args.t.0 (waiting.For c.args.f) c.wait.ensures.there (λ g e. new_wait (joined s) s.kept c.args.f g c.requires.read c.requires.other e))).shown
+    (step_to _ _ _ (λ i. record (joined_parts s) { flight = c.wait.ensures.waits i }) (wait_step (joined_parts s) s.kept c.args.t.0 (waiting.For c.args.f) c.wait.ensures.there (λ g e. new_wait (joined_parts s) s.kept c.args.f g c.requires.read c.requires.other e))).shown
 
 pub returns-clause-walked : goal.returns-clause-walked
 returns-clause-walked c = λ u.

@@ -3,14 +3,14 @@ use Rattle.mm_types.specs.declared.numbers.Frame.{Frame}
 use Rattle.mm_life.specs.Life.{changed, same_place}
 use Rattle.mm_ram.specs.Ram.{bytes_of, overwritten, with_page}
 use Rattle.mm_frames.specs.Base.{FramesOf}
-use Rattle.mm_parts.specs.PartsShown.{joined, shown}
+use Rattle.mm_parts.specs.PartsShown.{joined_parts, shown_parts}
 use Rattle.mm_parts.proofs.Keeping.{step_to}
 use Rattle.mm_parts.proofs.WordSteps.{used_step}
 use Rattle.mm_parts.proofs.Using.{one_frame, valid_entry}
 use Rattle.mm_parts.proofs.parts.Parts.write.Goals as goal
 
 pub touch-requires : goal.touch-requires
-touch-requires c = valid_entry (joined c.args.self.now) c.args.place c.frame_at-f.result c.frame_at-f.ensures.frame
+touch-requires c = valid_entry (joined_parts c.args.self.now) c.args.place c.frame_at-f.result c.frame_at-f.ensures.frame
 
 pub invariant_of-self : goal.invariant_of-self
 invariant_of-self c =
@@ -18,7 +18,7 @@ invariant_of-self c =
     let f = c.frame_at-f.result in
     let table = ap (λ (v : FramesOf). v.table) c.write.ensures.wrote in
     let bytes = ap (λ (v : FramesOf). v.bytes) c.write.ensures.wrote in
-    record { kept = (step_to _ _ _ (λ i. record (joined s) { table = table i; bytes = bytes i; words = c.touch.ensures.words i; ages = c.touch.ensures.ages i }) (used_step (joined s) s.kept c.args.place (with_page s.frames.bytes f.0 (overwritten (bytes_of s.frames.bytes f.0) c.args.off c.args.bytes.now)))).kept }
+    record { kept = (step_to _ _ _ (λ i. record (joined_parts s) { table = table i; bytes = bytes i; words = c.touch.ensures.words i; ages = c.touch.ensures.ages i }) (used_step (joined_parts s) s.kept c.args.place (with_page s.frames.bytes f.0 (overwritten (bytes_of s.frames.bytes f.0) c.args.off c.args.bytes.now)))).kept }
 
 pub returns : goal.returns
 returns c =
@@ -27,7 +27,7 @@ returns c =
     let table = ap (λ (v : FramesOf). v.table) c.write.ensures.wrote in
     let bytes = ap (λ (v : FramesOf). v.bytes) c.write.ensures.wrote in
     record {
-      made = λ g v. (step_to _ _ _ (λ i. record (joined s) { table = table i; bytes = bytes i; words = c.touch.ensures.words i; ages = c.touch.ensures.ages i }) (used_step (joined s) s.kept c.args.place (with_page s.frames.bytes f.0 (overwritten (bytes_of s.frames.bytes f.0) c.args.off c.args.bytes.now)))).shown
-          ∙ ap (λ (h : Frame). record (shown s) { ages = changed same_place (shown s).ages c.args.place 0; bytes = with_page s.frames.bytes h.0 (overwritten (bytes_of s.frames.bytes h.0) c.args.off c.args.bytes.now) })
-          (one_frame (joined s) c.args.place f g c.frame_at-f.ensures.frame v);
+      made = λ g v. (step_to _ _ _ (λ i. record (joined_parts s) { table = table i; bytes = bytes i; words = c.touch.ensures.words i; ages = c.touch.ensures.ages i }) (used_step (joined_parts s) s.kept c.args.place (with_page s.frames.bytes f.0 (overwritten (bytes_of s.frames.bytes f.0) c.args.off c.args.bytes.now)))).shown
+          ∙ ap (λ (h : Frame). record (shown_parts s) { ages = changed same_place (shown_parts s).ages c.args.place 0; bytes = with_page s.frames.bytes h.0 (overwritten (bytes_of s.frames.bytes h.0) c.args.off c.args.bytes.now) })
+          (one_frame (joined_parts s) c.args.place f g c.frame_at-f.ensures.frame v);
     }

@@ -2,7 +2,7 @@ use Rattle.std.proofs.Common.{◌≤◌, ap, ◌∙◌, sym, refl, is_some, arit
 use Rattle.std.specs.Prelude.{map, option_map, option_and_then, slice_set}
 use Rattle.std.proofs.lemmas.List.{length-set}
 use Rattle.mm_world.specs.World.{Numbered, numbered}
-use Rattle.mm_sections.specs.Directories.{DirectoryOf, CountedSection, settled_by, one_view_less}
+use Rattle.mm_sections.specs.Directories.{DirectoryOf, CountedSection, section_settled, one_view_less}
 use Rattle.mm_sections.specs.Names.{file_of, found_by}
 use Rattle.mm_sections.proofs.Lists.{tables, within, some_of, some_map, shown_now, shown_then, changed_entry, counted_index, dropped_entries, length_tables}
 use Rattle.mm_sections.proofs.directories.Directory.drop_view.Goals as goal
@@ -34,6 +34,6 @@ returns-clause-dropped c =
     let inside = within s.sections.items n (ap (λ (v : DirectoryOf). is_some (numbered v.entries n)) c.self.view_is ∙ some_of (numbered c.args.self.now.entries n) (λ e. 1 ≤ e.views) c.requires.lives) in
     let changed = changed_entry s.sections.items n c.index_mut.result.now c.drop_view_of.new.section (option_map one_view_less) inside c.index_mut.ensures.value c.drop_view_of.ensures in
     c.settle.ensures.settled
-    ∙ ap (λ (es : Numbered CountedSection). record { entries = slice_set es n (option_and_then settled_by (numbered es n)); files = map file_of s.files.entries; spare = s.room }) changed
+    ∙ ap (λ (es : Numbered CountedSection). record { entries = slice_set es n (option_and_then section_settled (numbered es n)); files = map file_of s.files.entries; spare = s.room }) changed
     ∙ ap (λ (es : Numbered CountedSection). record { entries = es; files = map file_of s.files.entries; spare = s.room }) (dropped_entries (tables s.sections.items) n one_view_less (omega (arith, inside, length_tables s.sections.items)))
-    ∙ ap (λ (v : DirectoryOf). record { entries = slice_set v.entries n (option_and_then (λ e. settled_by (one_view_less e)) (numbered v.entries n)); files = v.files; spare = v.spare }) c.self.view_is
+    ∙ ap (λ (v : DirectoryOf). record { entries = slice_set v.entries n (option_and_then (λ e. section_settled (one_view_less e)) (numbered v.entries n)); files = v.files; spare = v.spare }) c.self.view_is

@@ -2,7 +2,7 @@ use Rattle.std.proofs.Common.{ap, ◌∙◌, sym, is_some, is_none, arith}
 use Rattle.std.specs.Prelude.{map, option_and_then, slice_set}
 use Rattle.std.proofs.lemmas.List.{length-set}
 use Rattle.mm_world.specs.World.{Numbered, numbered}
-use Rattle.mm_sections.specs.Directories.{DirectoryOf, CountedSection, settled_by}
+use Rattle.mm_sections.specs.Directories.{DirectoryOf, CountedSection, section_settled}
 use Rattle.mm_sections.specs.Names.{file_of, found_by}
 use Rattle.mm_sections.proofs.Lists.{within, shown_then, changed_entry, settled_index, ended_is}
 use Rattle.mm_sections.proofs.directories.Directory.settle.Goals as goal
@@ -26,8 +26,8 @@ returns-clause-settled c =
     let n = c.args.id.0 in
     let inside = within s.sections.items n (ap (λ (v : DirectoryOf). is_some (numbered v.entries n)) c.self.view_is ∙ c.requires.lives) in
     ap (λ (es : Numbered CountedSection). record { entries = es; files = map file_of s.files.entries; spare = s.room })
-    (changed_entry s.sections.items n c.index_mut-section.result.now c.settle-name.new.section (option_and_then settled_by) inside c.index_mut-section.ensures.value c.settle-name.ensures.settled)
-    ∙ ap (λ (v : DirectoryOf). record { entries = slice_set v.entries n (option_and_then settled_by (numbered v.entries n)); files = v.files; spare = v.spare }) c.self.view_is
+    (changed_entry s.sections.items n c.index_mut-section.result.now c.settle-name.new.section (option_and_then section_settled) inside c.index_mut-section.ensures.value c.settle-name.ensures.settled)
+    ∙ ap (λ (v : DirectoryOf). record { entries = slice_set v.entries n (option_and_then section_settled (numbered v.entries n)); files = v.files; spare = v.spare }) c.self.view_is
 
 pub returns-clause-ended : goal.returns-clause-ended
 returns-clause-ended c =

@@ -1,7 +1,7 @@
 use Rattle.std.proofs.Common.{ap, ◌∙◌}
 use Rattle.mm_world.specs.World.{RegionOf}
 use Rattle.mm_world.specs.Find.{add_region}
-use Rattle.mm_spaces.specs.Shown.{shown, region_of}
+use Rattle.mm_spaces.specs.Shown.{shown_regions, region_of}
 use Rattle.mm_spaces.specs.Tables.{RegionsOf}
 use Rattle.mm_spaces.proofs.Carried.{add_shown}
 use Rattle.mm_spaces.proofs.Made.{can_add, free_among, has_flags, kept_add}
@@ -30,7 +30,7 @@ pub returns-clause-added : goal.returns-clause-added
 returns-clause-added c =
     let vs = c.self.inside.space.regions in
     let r = c.region.inside.region in
-    ap shown c.add.ensures.after
+    ap shown_regions c.add.ensures.after
     ∙ add_shown vs r
     ∙ ap (λ (v : RegionsOf). add_region (region_of r) v.regions) c.self.view_is
     ∙ ap (λ (g : RegionOf (Unit {0})). add_region g c.args.self.now.regions) c.region.view_is

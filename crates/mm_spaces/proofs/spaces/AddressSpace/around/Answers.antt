@@ -2,7 +2,7 @@ use Rattle.std.proofs.Common.{◌≡◌, ◌+◌, ◌≤◌, arith, None, sym, s
 use Rattle.std.specs.Prelude.{IfNone}
 use Rattle.mm_types.specs.Address.{Range, end_of}
 use Rattle.mm_world.specs.Find.{region_with}
-use Rattle.mm_spaces.specs.Kept.{IsAt, NoneAround}
+use Rattle.mm_spaces.specs.Kept.{IsRegionAt, NoneAround}
 use Rattle.mm_spaces.proofs.Kept.{around_some, around_short, around_none, long}
 use Rattle.mm_spaces.proofs.spaces.AddressSpace.around.Goals as goal
 
@@ -20,7 +20,7 @@ returns-then-end-end_of_region-clause-some c =
     let rs = c.args.self.now.regions in
     let some = subst (λ (v : Range). 1 ≤ v.count) c.range.view_is c.range.invariant in
     let region = c.in_ok-region.region.now in
-    let at : IsAt rs range.first region = subst (λ (v : Range). IsAt rs v.first region) c.range.view_is c.in_ok-region.ensures.some in
+    let at : IsRegionAt rs range.first region = subst (λ (v : Range). IsRegionAt rs v.first region) c.range.view_is c.in_ok-region.ensures.some in
     let high : end_of range ≤ region.base.0 + region.pages = subst (λ n. n ≤ region.base.0 + region.pages) c.end.ensures.end (subst (λ n. c.end.result ≤ n) c.end_of_region.ensures c.if-end-end_of_region.true) in
     around_some rs c.region_at.ensures.sound range region some at high
 
@@ -30,6 +30,6 @@ returns-else-end-end_of_region-clause-none c =
     let rs = c.args.self.now.regions in
     let some = subst (λ (v : Range). 1 ≤ v.count) c.range.view_is c.range.invariant in
     let region = c.in_ok-region.region.now in
-    let at : IsAt rs range.first region = subst (λ (v : Range). IsAt rs v.first region) c.range.view_is c.in_ok-region.ensures.some in
+    let at : IsRegionAt rs range.first region = subst (λ (v : Range). IsRegionAt rs v.first region) c.range.view_is c.in_ok-region.ensures.some in
     around_short rs c.region_at.ensures.sound range region some at
     (long (end_of range) (region.base.0 + region.pages) (omega (arith, c.end.ensures.end, c.end_of_region.ensures, c.if-end-end_of_region.false)))

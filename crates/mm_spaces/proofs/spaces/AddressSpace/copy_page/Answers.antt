@@ -1,7 +1,7 @@
 use Rattle.std.proofs.Common.{◌≡◌, Some, true, is_some, sym, ap, ◌∙◌, subst, slice_set, ◌-◌}
 use Rattle.mm_world.specs.World.{RegionOf}
 use Rattle.mm_world.specs.Find.{region_with}
-use Rattle.mm_spaces.specs.RowChanges.{changed}
+use Rattle.mm_spaces.specs.RowChanges.{changed_row}
 use Rattle.mm_spaces.specs.Tables.{RegionsOf}
 use Rattle.mm_spaces.specs.declared.rows.RowChange.TheVariants as change
 use Rattle.mm_spaces.proofs.Written.{kept_row}
@@ -20,6 +20,6 @@ invariant_of-self c =
 pub returns-clause-changed : goal.returns-clause-changed
 returns-clause-changed c = λ r row e at. (
     let there = subst (λ (v : RegionsOf). region_with v.regions c.args.page ≡ Some r) (sym c.self.view_is) e in
-    let after : RegionOf (Unit {0}) = record r.thing { rows = slice_set r.thing.rows (c.args.page - r.thing.base) (changed change.Copy r.thing.kind row) } in
+    let after : RegionOf (Unit {0}) = record r.thing { rows = slice_set r.thing.rows (c.args.page - r.thing.base) (changed_row change.Copy r.thing.kind row) } in
     c.change_row.ensures.after r row there at
     ∙ ap (λ (v : RegionsOf). slice_set v.regions r.place after) c.self.view_is)

@@ -1,6 +1,6 @@
 use Rattle.std.proofs.Common.{◌≡◌, true, ap}
 use Rattle.mm_world.specs.Find.{is_private}
-use Rattle.mm_spaces.specs.RowChanges.{range_at}
+use Rattle.mm_vad.specs.Ranges.{range_at}
 use Rattle.mm_spaces.specs.Tables.{RegionsOf}
 use Rattle.mm_spaces.specs.declared.rows.RowChange.TheVariants as change
 use Rattle.mm_spaces.proofs.Written.{Same, inside, around, kept_rows}

@@ -2,7 +2,7 @@ use Rattle.std.proofs.Common.{◌≡◌, Some, true, is_some, sym, ap, ◌∙◌
 use Rattle.mm_vad.specs.Regions.{SpaceOf}
 use Rattle.mm_world.specs.Find.{region_with}
 use Rattle.mm_world.specs.Rows.{mark_written, one_page}
-use Rattle.mm_spaces.specs.Shown.{shown}
+use Rattle.mm_spaces.specs.Shown.{shown_regions}
 use Rattle.mm_spaces.specs.Tables.{RegionsOf}
 use Rattle.mm_spaces.proofs.Shows.{there}
 use Rattle.mm_spaces.proofs.Flagged.{some_at, marked, kept_marks}
@@ -17,7 +17,7 @@ pub invariant_of-self : goal.invariant_of-self
 invariant_of-self c =
     let vs = c.self.inside.space.regions in
     let some = subst (λ (v : RegionsOf). is_some (region_with v.regions c.args.page) ≡ true) (sym c.self.view_is) c.requires.there in
-    let r = there (region_with (shown vs) c.args.page) some in
+    let r = there (region_with (shown_regions vs) c.args.page) some in
     kept_marks true vs c.mark.new.self.regions (one_page c.args.page) r.thing c.self.invariant r.is
     (ap (λ (s : SpaceOf). s.regions) c.mark.ensures.after) c.mark.ensures.sound
 

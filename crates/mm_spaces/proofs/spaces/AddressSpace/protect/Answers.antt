@@ -1,8 +1,8 @@
 use Rattle.std.proofs.Common.{◌≡◌, true, ap}
 use Rattle.mm_world.specs.Find.{is_private}
 use Rattle.mm_world.specs.Rows.{accepts, every_page}
-use Rattle.mm_spaces.specs.RowChanges.{range_at}
-use Rattle.mm_spaces.specs.Shown.{shown}
+use Rattle.mm_vad.specs.Ranges.{range_at}
+use Rattle.mm_spaces.specs.Shown.{shown_regions}
 use Rattle.mm_spaces.specs.Tables.{RegionsOf, owned_in}
 use Rattle.mm_spaces.specs.declared.rows.RowChange.TheVariants as change
 use Rattle.mm_spaces.proofs.RowsKept.{can_protect}
@@ -26,5 +26,5 @@ invariant_of-self c =
     let accepted = around vs inner rs c.args.range same {P = λ r. every_page (accepts r.thing c.args.prot) c.args.range ≡ true} c.requires.accepted in
     let committed = around vs inner rs c.args.range same {P = λ r. is_private r.thing.kind ≡ true → owned_in rs c.args.range ≡ c.args.range.count} c.requires.committed in
     kept_rows vs c.change_rows.new.space.regions (change.Protect c.args.prot) inner c.self.invariant (inside vs inner rs c.args.range same c.requires.inside)
-    (λ r e. can_protect (shown vs) inner r c.args.prot e (taken vs inner rs c.args.range same r c.args.prot (accepted r e)) (λ private. all_owned (shown vs) inner (owned vs inner rs c.args.range same (committed r e private))))
+    (λ r e. can_protect (shown_regions vs) inner r c.args.prot e (taken vs inner rs c.args.range same r c.args.prot (accepted r e)) (λ private. all_owned (shown_regions vs) inner (owned vs inner rs c.args.range same (committed r e private))))
     c.change_rows.ensures.after (c.change_rows.ensures.kept c.self.invariant.whole)

@@ -4,7 +4,7 @@ use Rattle.std.specs.Option.{option_copied}
 use Rattle.mm_vad.specs.Regions as vad
 use Rattle.mm_world.specs.Find.{region_with}
 use Rattle.mm_spaces.specs.Tables.{RegionsOf}
-use Rattle.mm_spaces.specs.Kept.{IsAt}
+use Rattle.mm_spaces.specs.Kept.{IsRegionAt}
 use Rattle.mm_spaces.proofs.Kept.{is_at, none_at}
 use Rattle.mm_spaces.proofs.spaces.AddressSpace.region_at.Goals as goal
 
@@ -12,9 +12,9 @@ pub returns-clause-some : goal.returns-clause-some
 returns-clause-some c =
     let vs = c.self.inside.space.regions in
     let page = c.args.page in
-    elim c.find.result as (λ o. option_copied o ≡ vad.region_at vs page → IfSome o (λ r. IsAt c.args.self.now.regions page r.now)) [
+    elim c.find.result as (λ o. option_copied o ≡ vad.region_at vs page → IfSome o (λ r. IsRegionAt c.args.self.now.regions page r.now)) [
       | None ↦ λ e. tt
-      | Some r ↦ λ e. subst (λ (v : RegionsOf). IsAt v.regions page r.now) c.self.view_is (is_at vs page r.now c.self.invariant (sym e))
+      | Some r ↦ λ e. subst (λ (v : RegionsOf). IsRegionAt v.regions page r.now) c.self.view_is (is_at vs page r.now c.self.invariant (sym e))
     ] c.find.ensures.found
 
 pub returns-clause-none : goal.returns-clause-none

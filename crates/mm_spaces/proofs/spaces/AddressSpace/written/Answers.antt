@@ -1,7 +1,7 @@
 use Rattle.std.proofs.Common.{◌-◌, Bool, List, map, take, drop, Option, Some, is_some, sym, ap, ◌∙◌, arith, option_map, ℕ}
 use Rattle.mm_types.specs.Address.{Range, address_of}
 use Rattle.mm_world.specs.Watch.{written_from, written_in}
-use Rattle.mm_spaces.specs.Kept.{one_if}
+use Rattle.mm_spaces.specs.Kept.{found_if}
 use Rattle.mm_spaces.proofs.Flagged.{Place, watched_there, told_here, flags_many}
 use Rattle.mm_spaces.proofs.spaces.AddressSpace.written.Goals as goal
 
@@ -36,4 +36,4 @@ returns-in-None-clause-found c =
     let region = c.in_ok-region.region.now in
     let h = c.in_ok-region.ensures.some in
     sym (ap (option_map (λ (x : Place). map address_of (written_in x.thing c.args.range c.args.count)))
-    (watched_there c.args.self.now.regions c.args.range region h ∙ ap (λ (o : Option (List Bool)). one_if (is_some o) h.at.found) c.in-None.is))
+    (watched_there c.args.self.now.regions c.args.range region h ∙ ap (λ (o : Option (List Bool)). found_if (is_some o) h.at.found) c.in-None.is))

@@ -14,20 +14,20 @@ use Rattle.mm_state.proofs.calls.StateMoving.at.Goals as goal
 pub invariant_of-self : goal.invariant_of-self
 invariant_of-self g c =
     let s = c.args.self.now in
-    let u = parts_of.shown s.parts in
+    let u = parts_of.shown_parts s.parts in
     let now = carried _ _ _ _ _ c.at.ensures.made (carries_at_plain u.life s.parts.kept.reached u.bytes _ _ s.located c.args.line c.args.kind s.parts.kept.line.begun (plain_grown c.args.kind c.requires.plain) c.requires.legal) in
     record { located = now.located; tallied = subst IsTallied (sym c.none-self.ensures) tallied_none; slots_whole = s.slots_whole; blocks_whole = s.blocks_whole }
 
 pub returns-clause-made : goal.returns-clause-made
 returns-clause-made g c =
-    let u = parts_of.shown c.args.self.now.parts in
+    let u = parts_of.shown_parts c.args.self.now.parts in
     let e = c.at.ensures.made in
     made_quiet (move.At c.args.line c.args.kind) _ _ c.requires.legal c.note.ensures.in_range c.note.ensures.grew (ap (λ (x : PartsOf). x.life) e) (ap (λ (x : PartsOf). x.ages) e) (ap (λ (x : PartsOf). waits_of x.waits) e) c.none-self.ensures (refl, refl) refl refl
 
 pub returns-clause-rest : goal.returns-clause-rest
 returns-clause-rest g c =
     let s = c.args.self.now in
-    let u = parts_of.shown s.parts in
+    let u = parts_of.shown_parts s.parts in
     let e = c.at.ensures.made in
     let now = carried _ _ _ _ _ e (carries_at_plain u.life s.parts.kept.reached u.bytes _ _ s.located c.args.line c.args.kind s.parts.kept.line.begun (plain_grown c.args.kind c.requires.plain) c.requires.legal) in
     rest_of _ _ _ _ _ _ _ _ _ e now.bytes

@@ -15,7 +15,7 @@ copy-requires-clause-to_calm g c = soiled_calm _ c.requires.soiled
 pub invariant_of-self : goal.invariant_of-self
 invariant_of-self g c =
     let s = c.args.self.now in
-    let u = parts_of.shown s.parts in
+    let u = parts_of.shown_parts s.parts in
     let k = pick (record_at u.life.frames c.args.to.0).owner c.requires.to_owned in
     let now = carried _ _ _ _ _ c.copy.ensures.made (carries_written u.life s.parts.kept.reached u.bytes _ _ s.located c.args.to k.0 (bytes_of u.bytes c.args.«from».0) k.1 c.requires.soiled) in
     record { located = now.located; tallied = s.tallied; slots_whole = s.slots_whole; blocks_whole = s.blocks_whole }
@@ -23,7 +23,7 @@ invariant_of-self g c =
 pub returns-clause-copied : goal.returns-clause-copied
 returns-clause-copied g c =
     let s = c.args.self.now in
-    let u = parts_of.shown s.parts in
+    let u = parts_of.shown_parts s.parts in
     let slots = g.P.Inject.blocks s.paging in
     let blocks = g.F.Inject.blocks s.files in
     λ j k from_owner to_owner.

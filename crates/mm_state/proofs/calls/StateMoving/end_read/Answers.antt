@@ -14,7 +14,7 @@ use Rattle.mm_laws.specs.FileBlocks.{block_of}
 use Rattle.mm_parts.specs.Shown.{PartsOf}
 use Rattle.mm_parts.specs.PartsShown as parts_of
 use Rattle.mm_parts.specs.Reading.{waits_of}
-use Rattle.mm_parts.specs.Moves.{read_end}
+use Rattle.mm_parts.specs.Moves.{end_of_read}
 use Rattle.mm_frame_laws.proofs.Carrying.{read_backed, slot_there, block_there}
 use Rattle.mm_blocks.specs.Devices.{device_with}
 use Rattle.mm_state.specs.Tallied.{read_told, IsTallied}
@@ -26,33 +26,33 @@ use Rattle.mm_state.proofs.After.{read_quiet}
 use Rattle.mm_state.proofs.calls.StateMoving.end_read.Goals as goal
 
 pub look-r-requires : goal.look-r-requires
-look-r-requires g c = let s = c.args.self.now in read_low (parts_of.shown s.parts).life s.parts.kept.reached c.args.f c.requires.legal
+look-r-requires g c = let s = c.args.self.now in read_low (parts_of.shown_parts s.parts).life s.parts.kept.reached c.args.f c.requires.legal
 
 pub get_page-ok-requires-clause-backed : goal.get_page-ok-requires-clause-backed
 get_page-ok-requires-clause-backed g c =
     let s = c.args.self.now in
-    let u = parts_of.shown s.parts in
+    let u = parts_of.shown_parts s.parts in
     ap (λ (x : Record). is_backed x.backing) c.look-r.ensures ∙ read_backed u.life s.parts.kept.reached u.bytes _ _ s.located c.args.f (is_reading u.life c.args.f c.requires.legal)
 
 pub get_page-ok-requires-clause-slot : goal.get_page-ok-requires-clause-slot
 get_page-ok-requires-clause-slot g c =
     let s = c.args.self.now in
-    let u = parts_of.shown s.parts in
+    let u = parts_of.shown_parts s.parts in
     λ n e. slot_there u.life s.parts.kept.reached u.bytes _ _ s.located c.args.f n (sym (ap (λ (x : Record). slot_of x.backing) c.look-r.ensures) ∙ e)
 
 pub get_page-ok-requires-clause-block : goal.get_page-ok-requires-clause-block
 get_page-ok-requires-clause-block g c =
     let s = c.args.self.now in
-    let u = parts_of.shown s.parts in
+    let u = parts_of.shown_parts s.parts in
     λ n e. block_there u.life s.parts.kept.reached u.bytes _ _ s.located c.args.f n (sym (ap (λ (x : Record). block_of x.backing) c.look-r.ensures) ∙ e)
 
 pub settle_read-requires : goal.settle_read-requires
-settle_read-requires g c = read_legal c.get_page-ok.result (parts_of.shown c.args.self.now.parts).life c.args.f c.requires.legal
+settle_read-requires g c = read_legal c.get_page-ok.result (parts_of.shown_parts c.args.self.now.parts).life c.args.f c.requires.legal
 
 pub invariant_of-self : goal.invariant_of-self
 invariant_of-self g c =
     let s = c.args.self.now in
-    let u = parts_of.shown s.parts in
+    let u = parts_of.shown_parts s.parts in
     let ok = c.get_page-ok.result in
     let there : OnTrue ok (bytes_at [] (g.P.Inject.blocks s.paging) (g.F.Inject.blocks s.files) (home_at (record_at u.life.frames c.args.f.0).backing) ≡ Some c.get_page-ok.new.page)
     = subst (λ (x : Record). OnTrue ok (bytes_at [] (g.P.Inject.blocks s.paging) (g.F.Inject.blocks s.files) (home_at x.backing) ≡ Some c.get_page-ok.new.page)) c.look-r.ensures c.get_page-ok.ensures.ok in
@@ -64,10 +64,10 @@ invariant_of-self g c =
 pub returns-clause-made : goal.returns-clause-made
 returns-clause-made g c =
     let s = c.args.self.now in
-    let u = parts_of.shown s.parts in
+    let u = parts_of.shown_parts s.parts in
     let ok = c.get_page-ok.result in
     let e = c.settle_read.ensures in
-    let x = read_end ok c.args.f in
+    let x = end_of_read ok c.args.f in
     made_quiet x _ _ (read_legal ok u.life c.args.f c.requires.legal)
     (subst IsMove c.read_move.ensures c.note.ensures.in_range)
     (subst (λ (m : Move). Grew (g.M.Moves.log s.moves) (g.M.Moves.log c.note.new.self) (spelling_of_move m)) c.read_move.ensures c.note.ensures.grew)
@@ -83,7 +83,7 @@ returns-clause-made g c =
 pub returns-clause-rest : goal.returns-clause-rest
 returns-clause-rest g c =
     let s = c.args.self.now in
-    let u = parts_of.shown s.parts in
+    let u = parts_of.shown_parts s.parts in
     let ok = c.get_page-ok.result in
     let there : OnTrue ok (bytes_at [] (g.P.Inject.blocks s.paging) (g.F.Inject.blocks s.files) (home_at (record_at u.life.frames c.args.f.0).backing) ≡ Some c.get_page-ok.new.page)
     = subst (λ (x : Record). OnTrue ok (bytes_at [] (g.P.Inject.blocks s.paging) (g.F.Inject.blocks s.files) (home_at x.backing) ≡ Some c.get_page-ok.new.page)) c.look-r.ensures c.get_page-ok.ensures.ok in
@@ -97,7 +97,7 @@ returns-clause-loans g c = λ i. Both (Both (c.get_page-ok.ensures.loans.0 i) (c
 pub returns-clause-quiet : goal.returns-clause-quiet
 returns-clause-quiet g c =
     let s = c.args.self.now in
-    let u = parts_of.shown s.parts in
+    let u = parts_of.shown_parts s.parts in
     λ done.
     ap (λ (x : PartsOf). is_read (record_at x.life.frames c.args.f.0).request) c.settle_read.ensures
     ∙ read_quiet u.life s.parts.kept.reached c.get_page-ok.result c.args.f c.requires.legal done

@@ -25,36 +25,36 @@ use Rattle.mm_state.proofs.Ends.{write_low, is_writing, write_legal, write_carri
 use Rattle.mm_state.proofs.calls.StateMoving.end_write.Goals as goal
 
 pub page-page-requires : goal.page-page-requires
-page-page-requires g c = is_writing (parts_of.shown c.args.self.now.parts).life c.args.f c.requires.legal
+page-page-requires g c = is_writing (parts_of.shown_parts c.args.self.now.parts).life c.args.f c.requires.legal
 
 pub look-home-requires : goal.look-home-requires
-look-home-requires g c = let s = c.args.self.now in write_low (parts_of.shown s.parts).life s.parts.kept.reached c.args.f c.requires.legal
+look-home-requires g c = let s = c.args.self.now in write_low (parts_of.shown_parts s.parts).life s.parts.kept.reached c.args.f c.requires.legal
 
 pub put_page-ok-requires-clause-backed : goal.put_page-ok-requires-clause-backed
 put_page-ok-requires-clause-backed g c =
     let s = c.args.self.now in
-    let u = parts_of.shown s.parts in
+    let u = parts_of.shown_parts s.parts in
     ap (λ (x : Record). is_backed x.backing) c.look-home.ensures ∙ write_backed u.life s.parts.kept.reached u.bytes _ _ s.located c.args.f (is_writing u.life c.args.f c.requires.legal)
 
 pub put_page-ok-requires-clause-slot : goal.put_page-ok-requires-clause-slot
 put_page-ok-requires-clause-slot g c =
     let s = c.args.self.now in
-    let u = parts_of.shown s.parts in
+    let u = parts_of.shown_parts s.parts in
     λ n e. slot_there u.life s.parts.kept.reached u.bytes _ _ s.located c.args.f n (sym (ap (λ (x : Record). slot_of x.backing) c.look-home.ensures) ∙ e)
 
 pub put_page-ok-requires-clause-block : goal.put_page-ok-requires-clause-block
 put_page-ok-requires-clause-block g c =
     let s = c.args.self.now in
-    let u = parts_of.shown s.parts in
+    let u = parts_of.shown_parts s.parts in
     λ n e. block_there u.life s.parts.kept.reached u.bytes _ _ s.located c.args.f n (sym (ap (λ (x : Record). block_of x.backing) c.look-home.ensures) ∙ e)
 
 pub end_write-requires : goal.end_write-requires
-end_write-requires g c = record { legal = write_legal c.put_page-ok.result (parts_of.shown c.args.self.now.parts).life c.args.f c.requires.legal }
+end_write-requires g c = record { legal = write_legal c.put_page-ok.result (parts_of.shown_parts c.args.self.now.parts).life c.args.f c.requires.legal }
 
 pub invariant_of-self : goal.invariant_of-self
 invariant_of-self g c =
     let s = c.args.self.now in
-    let u = parts_of.shown s.parts in
+    let u = parts_of.shown_parts s.parts in
     let ok = c.put_page-ok.result in
     let page = c.page-page.result.now in
     let slots = g.P.Inject.blocks s.paging in
@@ -74,7 +74,7 @@ invariant_of-self g c =
 pub returns-clause-made : goal.returns-clause-made
 returns-clause-made g c =
     let s = c.args.self.now in
-    let u = parts_of.shown s.parts in
+    let u = parts_of.shown_parts s.parts in
     let ok = c.put_page-ok.result in
     let page = c.page-page.result.now in
     let slots = g.P.Inject.blocks s.paging in
@@ -100,7 +100,7 @@ returns-clause-made g c =
 pub returns-clause-rest : goal.returns-clause-rest
 returns-clause-rest g c =
     let s = c.args.self.now in
-    let u = parts_of.shown s.parts in
+    let u = parts_of.shown_parts s.parts in
     let ok = c.put_page-ok.result in
     let page = c.page-page.result.now in
     let slots = g.P.Inject.blocks s.paging in
@@ -114,7 +114,7 @@ returns-clause-rest g c =
 pub returns-clause-wrote : goal.returns-clause-wrote
 returns-clause-wrote g c =
     let s = c.args.self.now in
-    let u = parts_of.shown s.parts in
+    let u = parts_of.shown_parts s.parts in
     let ok = c.put_page-ok.result in
     let slots = g.P.Inject.blocks s.paging in
     let blocks = g.F.Inject.blocks s.files in
@@ -129,7 +129,7 @@ returns-clause-wrote g c =
 pub returns-clause-ownerless : goal.returns-clause-ownerless
 returns-clause-ownerless g c =
     let s = c.args.self.now in
-    let u = parts_of.shown s.parts in
+    let u = parts_of.shown_parts s.parts in
     let ok = c.put_page-ok.result in
     let page = c.page-page.result.now in
     let blocks = g.F.Inject.blocks s.files in

@@ -12,10 +12,10 @@ invariant_of-self g c = let s = c.args.self.now in record { located = located_on
 pub returns-clause-bytes : goal.returns-clause-bytes
 returns-clause-bytes g c =
     let s = c.args.self.now in
-    let u = parts_of.shown s.parts in
+    let u = parts_of.shown_parts s.parts in
     let at = pick (u.life.valid c.args.place) c.requires.valid in
     λ k named.
-    let owner = sym (valid_names (owners u.life.frames) (parts_of.words_of s.parts) c.args.place at.0 at.1) ∙ named in
+    let owner = sym (valid_names (owners u.life.frames) (parts_of.parts_words s.parts) c.args.place at.0 at.1) ∙ named in
     c.read.ensures.bytes at.0 at.1
     ∙ ap (λ (page : List ℕ). bytes_from page c.args.off (length c.args.out.now)) (own_bytes u.life s.parts.kept.reached u.bytes (g.P.Inject.blocks s.paging) (g.F.Inject.blocks s.files) s.located at.0 k owner
     (valid_calm u.life s.parts.kept.reached u.bytes (g.P.Inject.blocks s.paging) (g.F.Inject.blocks s.files) s.located c.args.place at.0 at.1))

@@ -15,20 +15,20 @@ use Rattle.mm_state.proofs.calls.StateMoving.unmap.Goals as goal
 pub invariant_of-self : goal.invariant_of-self
 invariant_of-self g c =
     let s = c.args.self.now in
-    let u = parts_of.shown s.parts in
+    let u = parts_of.shown_parts s.parts in
     let now = carried _ _ _ _ _ c.unmap.ensures.made (carries_unmap u.life s.parts.kept.reached u.bytes _ _ s.located c.args.place c.requires.legal) in
     record { located = now.located; tallied = s.tallied; slots_whole = s.slots_whole; blocks_whole = s.blocks_whole }
 
 pub returns-clause-made : goal.returns-clause-made
 returns-clause-made g c =
-    let u = parts_of.shown c.args.self.now.parts in
+    let u = parts_of.shown_parts c.args.self.now.parts in
     let e = c.unmap.ensures.made in
     made_quiet (move.Unmap c.args.place) _ _ c.requires.legal c.note.ensures.in_range c.note.ensures.grew (ap (λ (x : PartsOf). x.life) e) (ap (λ (x : PartsOf). x.ages) e) (ap (λ (x : PartsOf). waits_of x.waits) e) refl (refl, refl) refl refl
 
 pub returns-clause-rest : goal.returns-clause-rest
 returns-clause-rest g c =
     let s = c.args.self.now in
-    let u = parts_of.shown s.parts in
+    let u = parts_of.shown_parts s.parts in
     let e = c.unmap.ensures.made in
     let now = carried _ _ _ _ _ e (carries_unmap u.life s.parts.kept.reached u.bytes _ _ s.located c.args.place c.requires.legal) in
     rest_of _ _ _ _ _ _ _ _ _ e now.bytes
@@ -39,13 +39,13 @@ returns-clause-loans g c = ap (λ (x : Loans). Both (Both (g.P.Inject.loans c.ar
 pub returns-clause-requests : goal.returns-clause-requests
 returns-clause-requests g c =
     let s = c.args.self.now in
-    let u = parts_of.shown s.parts in
+    let u = parts_of.shown_parts s.parts in
     λ f. ap (λ (x : PartsOf). (record_at x.life.frames f.0).request) c.unmap.ensures.made ∙ unmap_requests u.life s.parts.kept.reached c.args.place c.requires.legal f
 
 pub returns-clause-below : goal.returns-clause-below
 returns-clause-below g c =
     let s = c.args.self.now in
-    let u = parts_of.shown s.parts in
+    let u = parts_of.shown_parts s.parts in
     λ full.
     ap (λ (x : PartsOf). is_below_max (set_of x.life c.args.place.pid.0)) c.unmap.ensures.made
     ∙ unmap_below u.life s.parts.kept.reached (λ pid t e. (s.parts.kept.ranges.sets pid t e).0) c.args.place c.requires.legal full

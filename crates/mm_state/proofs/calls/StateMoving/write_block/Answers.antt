@@ -18,7 +18,7 @@ returns-clause-written g c = block_written c.write_device-ok.result _ _ (λ bloc
 pub invariant_of-self : goal.invariant_of-self
 invariant_of-self g c =
     let s = c.args.self.now in
-    let u = parts_of.shown s.parts in
+    let u = parts_of.shown_parts s.parts in
     let ok = c.write_device-ok.result in
     let page = replicate 4096 c.args.byte in
     let now = block_carries ok u.life s.parts.kept.reached u.bytes (g.P.Inject.blocks s.paging) (g.F.Inject.blocks s.files) s.located c.args.b.0 page c.requires.new _
@@ -28,7 +28,7 @@ invariant_of-self g c =
 pub returns-clause-rest : goal.returns-clause-rest
 returns-clause-rest g c =
     let s = c.args.self.now in
-    let u = parts_of.shown s.parts in
+    let u = parts_of.shown_parts s.parts in
     let ok = c.write_device-ok.result in
     let page = replicate 4096 c.args.byte in
     let now = block_carries ok u.life s.parts.kept.reached u.bytes (g.P.Inject.blocks s.paging) (g.F.Inject.blocks s.files) s.located c.args.b.0 page c.requires.new _

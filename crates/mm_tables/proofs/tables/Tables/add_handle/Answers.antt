@@ -2,6 +2,7 @@ use Rattle.std.proofs.Common.{◌∙◌, refl, ap}
 use Rattle.mm_world.specs.World.{numbered}
 use Rattle.mm_world.specs.Contents.{Tables}
 use Rattle.mm_world.specs.Find.{process_of}
+use Rattle.mm_tables.proofs.Holding.{can_hold}
 use Rattle.mm_tables.proofs.SectionPaging.{same_kept, handle_few, handle_kept, handle_now, handle_settled}
 use Rattle.mm_types.proofs.Options.{some_found}
 use Rattle.mm_tables.proofs.tables.Tables.add_handle.Goals as goal
@@ -11,6 +12,12 @@ invariant_of-self c = same_kept c.self.inside c.grow_handles_of.ensures.same ref
 
 pub add_handle-requires-clause-few : goal.add_handle-requires-clause-few
 add_handle-requires-clause-few c = handle_few c.self.inside c.args.id.0 c.self.view_is c.self.invariant c.requires.few
+
+pub give_handle_of-requires : goal.give_handle_of-requires
+give_handle_of-requires c = record {
+  holds = can_hold c.self.inside c.args.self.now c.grow_handles_of.new.processes.items c.args.pid.0 c.self.view_is c.grow_handles_of.ensures.same c.requires.lives c.requires.few
+      c.in_ok-grow_handles_of.ensures.ok;
+}
 
 pub invariant_of-self-2 : goal.invariant_of-self-2
 invariant_of-self-2 c =

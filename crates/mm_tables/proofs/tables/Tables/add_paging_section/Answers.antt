@@ -1,4 +1,5 @@
-use Rattle.std.proofs.Common.{◌≡◌, ◌≤◌, ◌+◌, ◌++◌, ◌∷◌, [], ◌∙◌, sym, ap, subst, length, arith, false, refl}
+use Rattle.std.proofs.Common.{◌≡◌, ◌≤◌, ◌+◌, ◌++◌, ◌∷◌, [], ◌∙◌, ℕ, Bool, sym, ap, subst, length, arith, true, false, refl}
+use Rattle.std.specs.Prelude.{if◌then◌else◌}
 use Rattle.mm_types.specs.declared.answers.Answer.TheVariants as answer
 use Rattle.mm_world.specs.World.{numbered}
 use Rattle.mm_world.specs.Charge.{charge}
@@ -6,18 +7,24 @@ use Rattle.mm_world.specs.Contents.{Tables}
 use Rattle.mm_world.specs.Find.{process_of}
 use Rattle.mm_world.specs.WellFormed.{WellFormed}
 use Rattle.mm_tables.specs.Shown.{shown_processes}
+use Rattle.mm_tables.proofs.Holding.{can_hold}
 use Rattle.mm_tables.proofs.SectionPaging.{ListsSection, paging_pages, committed_pages, area_free, key_free, lists, paging_kept, paging_now, paging_settled, same_kept, same_tables}
 use Rattle.mm_tables.proofs.SectionFits.{as_kept}
 use Rattle.mm_tables.proofs.Settled.{paging_few, roomier_settled}
-use Rattle.mm_types.proofs.Options.{some_found}
+use Rattle.mm_types.proofs.Options.{some_found, on_err}
 use Rattle.mm_tables.proofs.tables.Tables.add_paging_section.Given as given
 use Rattle.mm_tables.proofs.tables.Tables.add_paging_section.Goals as goal
+
+-- no more pages are committed than there are
+committed_few : (pages : ℕ) (committed : Bool) (n : ℕ) → n ≡ (if committed then pages else 0) → n ≤ pages
+committed_few pages true n is = omega (arith, is)
+committed_few pages false n is = omega (arith, is)
 
 -- what has become of the processes, the directory and the areas
 listed : (g : given.Over) (c : goal.After-take g) → ListsSection c.self.inside c.args.self.now c.args.pid.0 (record { prot = c.args.prot.0; name = c.args.name; area = c.len.result }) (shown_processes c.list_section-handle.new.processes.items) c.list_section-handle.new.directory.entries c.list_section-handle.new.directory.files
 listed g c =
     lists c.self.inside c.args.pid.0 (record { prot = c.args.prot.0; name = c.args.name; area = c.len.result }) c.self.view_is c.grow_for_paging.ensures.processes
-    c.grow_for_paging.ensures.entries c.grow_for_paging.ensures.files c.list_section-handle.ensures.given c.list_section-handle.ensures.entries c.list_section-handle.ensures.files
+    c.grow_for_paging.ensures.listed.entries c.grow_for_paging.ensures.listed.files c.list_section-handle.ensures.given c.list_section-handle.ensures.entries c.list_section-handle.ensures.files
 
 at_end : (g : given.Over) (c : goal.After-take g) → c.len.result ≡ length c.self.inside.areas.items
 at_end g c = omega (arith, c.len.ensures, c.self.inside.areas.ok.0)
@@ -27,36 +34,44 @@ areas_are g c = c.push_area.ensures ∙ (λ i. c.grow_for_paging.ensures.areas i
 
 pub invariant_of-self : goal.invariant_of-self
 invariant_of-self g c =
-    same_kept c.self.inside c.grow_for_paging.ensures.processes c.grow_for_paging.ensures.entries c.grow_for_paging.ensures.areas c.grow_for_paging.ensures.files c.self.invariant
+    same_kept c.self.inside c.grow_for_paging.ensures.processes c.grow_for_paging.ensures.listed.entries c.grow_for_paging.ensures.areas c.grow_for_paging.ensures.listed.files c.self.invariant
 
 pub open_paging_area-requires-clause-new : goal.open_paging_area-requires-clause-new
 open_paging_area-requires-clause-new g c =
     let at : c.len.result ≡ length c.args.self.now.areas = omega (arith, c.len.ensures, c.self.inside.areas.ok.0, ap (λ (t : Tables). length t.areas) c.self.view_is) in
-    area_free c.args.self.now (g.G.Pages.contents c.args.g.now) (g.G.Pages.store c.args.g.now) c.len.result c.requires.fits at
-
-pub open_paging_area-requires-clause-dead : goal.open_paging_area-requires-clause-dead
-open_paging_area-requires-clause-dead g c i =
-    let at : c.len.result ≡ length c.args.self.now.areas = omega (arith, c.len.ensures, c.self.inside.areas.ok.0, ap (λ (t : Tables). length t.areas) c.self.view_is) in
-    key_free c.args.self.now (g.G.Pages.contents c.args.g.now) (g.G.Pages.store c.args.g.now) (record { 0 = c.len.result }) i c.requires.fits at
+    record {
+      new = area_free c.args.self.now (g.G.Pages.contents c.args.g.now) (g.G.Pages.store c.args.g.now) c.len.result c.requires.ready.fits at;
+      few = omega (arith, at, c.requires.few.areas);
+      some = c.requires.some;
+      within = committed_few c.args.pages c.args.committed c.pages_if-n.result c.pages_if-n.ensures;
+      dead = λ i. key_free c.args.self.now (g.G.Pages.contents c.args.g.now) (g.G.Pages.store c.args.g.now) (record { 0 = c.len.result }) i c.requires.ready.fits at;
+    }
 
 pub open_paging_area-requires-clause-keys : goal.open_paging_area-requires-clause-keys
 open_paging_area-requires-clause-keys g c =
     let sound = subst (λ (t : Tables). WellFormed t) c.self.view_is c.self.invariant.sound in
-    omega (arith, paging_few c.args.self.now sound, c.requires.fits.counted, c.now.ensures.charge, c.self.invariant.charged, ap (λ (t : Tables). charge t) c.self.view_is)
+    omega (arith, paging_few c.args.self.now sound, c.requires.ready.fits.counted, c.now.ensures.charge, c.self.invariant.charged, ap (λ (t : Tables). charge t) c.self.view_is)
 
 pub invariant_of-self-in_err-open_paging_area : goal.invariant_of-self-in_err-open_paging_area
 invariant_of-self-in_err-open_paging_area g c =
-    same_kept c.self.inside c.grow_for_paging.ensures.processes c.grow_for_paging.ensures.entries c.grow_for_paging.ensures.areas c.grow_for_paging.ensures.files c.self.invariant
+    same_kept c.self.inside c.grow_for_paging.ensures.processes c.grow_for_paging.ensures.listed.entries c.grow_for_paging.ensures.areas c.grow_for_paging.ensures.listed.files c.self.invariant
 
-pub returns-in_err-open_paging_area-clause-settled : goal.returns-in_err-open_paging_area-clause-settled
-returns-in_err-open_paging_area-clause-settled g c =
-    roomier_settled c.requires.fits
-    (same_tables c.self.inside c.grow_for_paging.ensures.processes c.grow_for_paging.ensures.entries c.grow_for_paging.ensures.areas c.grow_for_paging.ensures.files c.self.view_is)
-    c.in_err-open_paging_area.ensures.err
+pub returns-in_err-open_paging_area-clause-settles : goal.returns-in_err-open_paging_area-clause-settles
+returns-in_err-open_paging_area-clause-settles g c =
+    let same = same_tables c.self.inside c.grow_for_paging.ensures.processes c.grow_for_paging.ensures.listed.entries c.grow_for_paging.ensures.areas c.grow_for_paging.ensures.listed.files c.self.view_is in
+    record {
+      err = on_err c.from_residual-in_err-open_paging_area.result (same, c.in_err-open_paging_area.ensures.err.contents);
+      settled = roomier_settled c.requires.ready.fits same c.in_err-open_paging_area.ensures.err;
+    }
+
+pub list_section-handle-requires-clause-holds : goal.list_section-handle-requires-clause-holds
+list_section-handle-requires-clause-holds g c =
+    can_hold c.self.inside c.args.self.now c.grow_for_paging.new.processes.items c.args.pid.0 c.self.view_is c.grow_for_paging.ensures.processes c.requires.ready.lives c.requires.few
+    c.in_ok-made.ensures.room
 
 pub invariant_of-self-2 : goal.invariant_of-self-2
 invariant_of-self-2 g c =
-    let p = some_found (process_of c.args.self.now c.args.pid.0) c.requires.lives in
+    let p = some_found (process_of c.args.self.now c.args.pid.0) c.requires.ready.lives in
     paging_kept (listed g c) p.0 p.1 c.args.pages c.args.committed (at_end g c) c.requires.some (areas_are g c)
     c.pages_if-n.result c.take.new.commit c.requires.room c.pages_if-n.ensures c.take.ensures c.self.invariant
 
@@ -66,12 +81,15 @@ returns-clause-ok g c p lives =
     let end = paging_now (listed g c) p lives c.args.pages c.args.committed (at_end g c) c.requires.some (areas_are g c) in
     λ i. record { answer = answer.Created (sym handle i) false; world = sym end i }
 
-pub returns-clause-settled : goal.returns-clause-settled
-returns-clause-settled g c =
+pub returns-clause-settles : goal.returns-clause-settles
+returns-clause-settles g c =
     let z = g.G.Pages.store c.open_paging_area.new.g in
-    let p = some_found (process_of c.args.self.now c.args.pid.0) c.requires.lives in
+    let p = some_found (process_of c.args.self.now c.args.pid.0) c.requires.ready.lives in
     let room : charge (as_kept c.self.inside) + committed_pages c.args.pages c.args.committed ≤ z.room =
     omega (arith, c.in_ok-open_paging_area.ensures.room, c.now.ensures.charge, c.self.invariant.charged, c.pages_if-n.ensures) in
-    paging_settled (listed g c) p.0 p.1 c.args.pages c.args.committed (at_end g c) c.requires.some (areas_are g c)
-    (record { 0 = c.len.result }) c.pages_if-n.result (g.G.Pages.contents c.args.g.now) (g.G.Pages.contents c.open_paging_area.new.g) (g.G.Pages.store c.args.g.now) z refl
-    c.requires.fits c.pages_if-n.ensures c.in_ok-open_paging_area.ensures.ok room
+    record {
+      err = tt;
+      settled = paging_settled (listed g c) p.0 p.1 c.args.pages c.args.committed (at_end g c) c.requires.some (areas_are g c)
+          (record { 0 = c.len.result }) c.pages_if-n.result (g.G.Pages.contents c.args.g.now) (g.G.Pages.contents c.open_paging_area.new.g) (g.G.Pages.store c.args.g.now) z refl
+          c.requires.ready.fits c.pages_if-n.ensures c.in_ok-open_paging_area.ensures.ok room;
+    }

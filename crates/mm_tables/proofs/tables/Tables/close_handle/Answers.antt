@@ -30,7 +30,7 @@ pub invariant_of-self : goal.invariant_of-self
 invariant_of-self g c =
     let k = known c.self.inside c.args.self.now c.self.view_is c.self.invariant c.args.pid.0 c.index_mut-process.result.now c.requires.lives c.index_mut-process.ensures.value in
     let w = close_step k c.args.handle c.requires.there c.close_in-ended.new.process c.close_in-ended.ensures.closed c.close_in-ended.ensures.dropped c.close_in-ended.ensures.ended c.requires.fits in
-    (whole_ends w c.in-Some.is c.index_mut-pages.ensures.value c.end_area.ensures.ended c.end_area.ensures.refunded c.end_area.ensures.file c.end_area.ensures.emptied).kept
+    (whole_ends w c.in-Some.is c.index_mut-pages.ensures.value c.end_area.ensures.ended c.end_area.ensures.refunded c.end_area.ensures.ends.file c.end_area.ensures.ends.emptied).kept
 
 pub invariant_of-self-in_default : goal.invariant_of-self-in_default
 invariant_of-self-in_default g c =
@@ -42,15 +42,13 @@ pub returns-in-Some : goal.returns-in-Some
 returns-in-Some g c =
     let k = known c.self.inside c.args.self.now c.self.view_is c.self.invariant c.args.pid.0 c.index_mut-process.result.now c.requires.lives c.index_mut-process.ensures.value in
     let w = close_step k c.args.handle c.requires.there c.close_in-ended.new.process c.close_in-ended.ensures.closed c.close_in-ended.ensures.dropped c.close_in-ended.ensures.ended c.requires.fits in
-    let e = whole_ends w c.in-Some.is c.index_mut-pages.ensures.value c.end_area.ensures.ended c.end_area.ensures.refunded c.end_area.ensures.file c.end_area.ensures.emptied in
+    let e = whole_ends w c.in-Some.is c.index_mut-pages.ensures.value c.end_area.ensures.ended c.end_area.ensures.refunded c.end_area.ensures.ends.file c.end_area.ensures.ends.emptied in
     record {
       closed = λ p lives. e.is ∙ close_named k c.args.handle c.requires.there p lives;
-      settled = e.settled;
-      less = e.less_live;
+      shrinks = record { settled = e.settled; less = e.less_live; loans = c.end_area.ensures.loans };
       passes = λ held from to for low high. c.end_area.ensures.passes held from to (λ paging.
           let at = ends_at w c.in-Some.is c.index_mut-pages.ensures.value paging held.rank for in
           (omega (arith, at, low), omega (arith, at, high)));
-      loans = c.end_area.ensures.loans;
     }
 
 pub returns-in_default : goal.returns-in_default
@@ -60,8 +58,6 @@ returns-in_default g c =
     let e = whole_stays w c.in_default.is in
     record {
       closed = λ p lives. e.is ∙ close_named k c.args.handle c.requires.there p lives;
-      settled = e.settled;
-      less = e.less_live;
+      shrinks = record { settled = e.settled; less = e.less_live; loans = refl };
       passes = λ held from to for low high. turns_same g.G.Pages.unpaged (Ends held from to) (g.G.Pages.store c.args.g.now) (g.G.Pages.behind c.args.g.now);
-      loans = refl;
     }

@@ -16,8 +16,8 @@ close_handle-requires-clause-there g c p lives =
 
 pub loop-handle-init : goal.loop-handle-init
 loop-handle-init g c = record {
-  toward = toward_same c.args.pid.0 c.args.self.now (g.G.Pages.contents c.args.g.now) (g.G.Pages.store c.args.g.now) c.requires.fits;
-  lives = c.requires.lives;
+  toward = toward_same c.args.pid.0 c.args.self.now (g.G.Pages.contents c.args.g.now) (g.G.Pages.store c.args.g.now) c.requires.ready.fits;
+  lives = c.requires.ready.lives;
   closed = (0, (omega arith, ((λ p lives j h. absurd (omega (arith, h))), λ held for. turns_same g.G.Pages.unpaged (Ends held 1 1) (g.G.Pages.store c.args.g.now) (g.G.Pages.behind c.args.g.now))));
   loans = refl;
 }
@@ -34,7 +34,7 @@ loop-handle-preserved g c =
     let next = next_closed t c.close_handle.new.self c.args.pid.0 p.0 c.in-Some.handle before.closed.0 p.1 is told
     (subst (λ (o : Option ℕ). IfSome o (λ handle. handle < 2 ^ 32)) c.in-Some.is c.lowest_handle.ensures.within) before.closed.1.1.0 in
     record {
-      toward = toward_then before.toward (toward_settled c.args.pid.0 t (Some q) is c.close_handle.ensures.settled c.close_handle.ensures.less
+      toward = toward_then before.toward (toward_settled c.args.pid.0 t (Some q) is c.close_handle.ensures.shrinks.settled c.close_handle.ensures.shrinks.less
           (λ rank. for_settled rank c.args.pid.0 t c.close_handle.new.self p.0 q p.1 is (ranked_closed p.0 (c.in-Some.handle / 4) low)));
       lives = ap is_some (after_settled t c.close_handle.new.self c.args.pid.0 p.0 q p.1 is);
       closed = (
@@ -50,7 +50,7 @@ loop-handle-preserved g c =
           ),
         ),
       );
-      loans = c.close_handle.ensures.loans ∙ before.loans;
+      loans = c.close_handle.ensures.shrinks.loans ∙ before.loans;
     }
 
 pub loop-handle-smaller : goal.loop-handle-smaller

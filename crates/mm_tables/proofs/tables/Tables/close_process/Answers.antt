@@ -1,4 +1,6 @@
-use Rattle.std.proofs.Common.{None, refl}
+use Rattle.std.proofs.Common.{Option, None, ap, refl}
+use Rattle.mm_types.specs.declared.numbers.Key.{Key}
+use Rattle.mm_world.specs.World.{Page}
 use Rattle.mm_tables.proofs.EndingClose.{known, put_process}
 use Rattle.mm_tables.proofs.EndingExits.{process_landed}
 use Rattle.mm_tables.proofs.tables.Tables.close_process.Goals as goal
@@ -15,8 +17,9 @@ returns-clause-ended g c =
     (process_landed c.args.self.now c.args.pid.0 k.process k.lives (c.requires.closed k.process k.lives) (c.requires.empty k.process k.lives) c.requires.nobody (put_process k None None refl) k.kept c.requires.fits
     c.close_process.ensures.contents c.close_process.ensures.store).is
 
-pub returns-clause-settled : goal.returns-clause-settled
-returns-clause-settled g c =
+pub returns-clause-shrinks : goal.returns-clause-shrinks
+returns-clause-shrinks g c =
     let k = known c.self.inside c.args.self.now c.self.view_is c.self.invariant c.args.pid.0 c.index_mut.result.now c.requires.lives c.index_mut.ensures.value in
-    (process_landed c.args.self.now c.args.pid.0 k.process k.lives (c.requires.closed k.process k.lives) (c.requires.empty k.process k.lives) c.requires.nobody (put_process k None None refl) k.kept c.requires.fits
-    c.close_process.ensures.contents c.close_process.ensures.store).settled
+    let e = process_landed c.args.self.now c.args.pid.0 k.process k.lives (c.requires.closed k.process k.lives) (c.requires.empty k.process k.lives) c.requires.nobody (put_process k None None refl) k.kept c.requires.fits
+    c.close_process.ensures.contents c.close_process.ensures.store in
+    record { settled = e.settled; less = λ k live. ap (λ (f : Key → Option Page). f k) c.close_process.ensures.contents; loans = c.close_process.ensures.loans }

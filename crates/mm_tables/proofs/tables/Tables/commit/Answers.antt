@@ -12,44 +12,47 @@ use Rattle.mm_tables.proofs.tables.Tables.commit.Goals as goal
 use Rattle.mm_tables.proofs.tables.Tables.commit.Goals.{After-index_mut}
 
 held : (g : given.Over) (c : After-index_mut g) → Held c.self.inside c.args.self.now c.args.pid.0 c.index_mut.result.now
-held g c = held_by c.self.inside c.args.self.now c.self.view_is c.self.invariant c.args.pid.0 c.index_mut.result.now c.requires.lives c.index_mut.ensures.value
+held g c = held_by c.self.inside c.args.self.now c.self.view_is c.self.invariant c.args.pid.0 c.index_mut.result.now c.requires.ready.lives c.index_mut.ensures.value
 
 pub commit_pages-requires : goal.commit_pages-requires
 commit_pages-requires g c =
     let h = held g (goal.at.commit_pages-requires g c).After-index_mut in
-    let r = some_found (region_around h.process.regions c.args.range) (c.requires.inside h.process h.lives) in
+    let r = some_found (region_around h.process.regions c.args.range) (c.requires.can.inside h.process h.lives) in
     let a = around h.process.regions c.args.range r.0 r.1 in
     record {
-      lives = h.there;
-      within = omega (arith, c.now.ensures.charge, h.kept.charged, ap limit_of c.requires.fits.machine, c.requires.room);
-      end = ends c.args.self.now c.args.pid h.process _ _ h.lives h.kept.sound c.requires.fits r.0.place r.0.thing c.args.range a.at a.inside;
-      inside = ap (λ rs. is_some (region_around rs c.args.range)) h.same ∙ c.requires.inside h.process h.lives;
-      private = λ q found. c.requires.private h.process q h.lives (ap (λ rs. region_around rs c.args.range) (sym h.same) ∙ found);
-      prot = c.requires.prot;
-      can = subst (λ rs. CanAdd c.args.pid c.args.range rs (g.G.Pages.contents c.args.g.now) (record (g.G.Pages.store c.args.g.now) { room = c.now.result + c.args.n })) (sym h.same)
-          (can_add c.args.self.now c.args.pid h.process _ _ h.lives h.kept.sound c.requires.fits r.0.place r.0.thing c.args.range a.at a.inside (c.requires.private h.process r.0 h.lives r.1) c.args.n (c.now.result + c.args.n)
-          (omega (arith, c.requires.counted h.process h.lives, a.owned)) (omega (arith, c.now.ensures.charge, h.kept.charged)) c.requires.kind);
+      lies = record {
+        lives = h.there;
+        inside = ap (λ rs. is_some (region_around rs c.args.range)) h.same ∙ c.requires.can.inside h.process h.lives;
+        private = λ q found. c.requires.can.private h.process q h.lives (ap (λ rs. region_around rs c.args.range) (sym h.same) ∙ found);
+      };
+      prot = c.requires.can.allowed;
+      can = record {
+        within = omega (arith, c.now.ensures.charge, h.kept.charged, ap limit_of c.requires.ready.fits.machine, c.requires.room);
+        end = ends c.args.self.now c.args.pid h.process _ _ h.lives h.kept.sound c.requires.ready.fits r.0.place r.0.thing c.args.range a.at a.inside;
+        can = subst (λ rs. CanAdd c.args.pid c.args.range rs (g.G.Pages.contents c.args.g.now) (record (g.G.Pages.store c.args.g.now) { room = c.now.result + c.args.n })) (sym h.same)
+            (can_add c.args.self.now c.args.pid h.process _ _ h.lives h.kept.sound c.requires.ready.fits r.0.place r.0.thing c.args.range a.at a.inside (c.requires.can.private h.process r.0 h.lives r.1) c.args.n (c.now.result + c.args.n)
+            (omega (arith, c.requires.can.counted h.process h.lives, a.owned)) (omega (arith, c.now.ensures.charge, h.kept.charged)) c.requires.ready.kind_is);
+      };
     }
 
 pub invariant_of-self : goal.invariant_of-self
-invariant_of-self g c = kept_same (held g (goal.at.invariant_of-self g c).After-index_mut) c.commit_pages.new.process c.in_err-commit_pages.ensures.kept
+invariant_of-self g c = kept_same (held g (goal.at.invariant_of-self g c).After-index_mut) c.commit_pages.new.process c.in_err-commit_pages.ensures.keeps.kept
 
-pub returns-in_err-commit_pages-clause-err : goal.returns-in_err-commit_pages-clause-err
-returns-in_err-commit_pages-clause-err g c =
-    let h = held g (goal.at.returns-in_err-commit_pages-clause-err g c).After-index_mut in
-    on_err c.from_residual.result (same_tables h c.commit_pages.new.process c.in_err-commit_pages.ensures.kept, c.in_err-commit_pages.ensures.err.contents)
-
-pub returns-in_err-commit_pages-clause-settled : goal.returns-in_err-commit_pages-clause-settled
-returns-in_err-commit_pages-clause-settled g c =
-    let h = held g (goal.at.returns-in_err-commit_pages-clause-settled g c).After-index_mut in
-    roomier_settled c.requires.fits (same_tables h c.commit_pages.new.process c.in_err-commit_pages.ensures.kept) c.in_err-commit_pages.ensures.err
+pub returns-in_err-commit_pages-clause-settles : goal.returns-in_err-commit_pages-clause-settles
+returns-in_err-commit_pages-clause-settles g c =
+    let h = held g (goal.at.returns-in_err-commit_pages-clause-settles g c).After-index_mut in
+    let same = same_tables h c.commit_pages.new.process c.in_err-commit_pages.ensures.keeps.kept in
+    record {
+      err = on_err c.from_residual.result (same, c.in_err-commit_pages.ensures.keeps.err.contents);
+      settled = roomier_settled c.requires.ready.fits same c.in_err-commit_pages.ensures.keeps.err;
+    }
 
 pub invariant_of-self-2 : goal.invariant_of-self-2
 invariant_of-self-2 g c =
     let h = held g (goal.at.invariant_of-self-2 g c).After-index_mut in
-    let r = some_found (region_around h.process.regions c.args.range) (c.requires.inside h.process h.lives) in
-    let done = commit_done c.args.self.now c.args.pid h.process c.args.range _ _ _ _ h.lives h.kept.sound c.requires.fits r.0 c.args.prot c.args.n r.1 (c.requires.private h.process r.0 h.lives r.1) c.requires.prot (c.requires.counted h.process h.lives)
-    c.in_ok-commit_pages.ensures.stored c.in_ok-commit_pages.ensures.counted (omega (arith, c.now.ensures.charge, h.kept.charged, c.in_ok-commit_pages.ensures.room)) in
+    let r = some_found (region_around h.process.regions c.args.range) (c.requires.can.inside h.process h.lives) in
+    let done = commit_done c.args.self.now c.args.pid h.process c.args.range _ _ _ _ h.lives h.kept.sound c.requires.ready.fits r.0 c.args.prot c.args.n r.1 (c.requires.can.private h.process r.0 h.lives r.1) c.requires.can.allowed (c.requires.can.counted h.process h.lives)
+    c.in_ok-commit_pages.ensures.adds.stored c.in_ok-commit_pages.ensures.adds.counted (omega (arith, c.now.ensures.charge, h.kept.charged, c.in_ok-commit_pages.ensures.adds.room)) in
     let became = around_became h c.args.range c.commit_pages.new.process (λ r. commit tt c.args.prot) c.in_ok-commit_pages.ensures.changed h.process r.0 h.lives r.1 in
     still_kept h c.commit_pages.new.process _ c.take.new.commit _ became done.stands done.charged c.requires.room
     (omega (arith, ap (λ (k : CommitOf). k.charge) c.take.ensures, h.kept.charged)) (ap (λ (k : CommitOf). k.limit) c.take.ensures)
@@ -58,21 +61,21 @@ pub returns-clause-ok : goal.returns-clause-ok
 returns-clause-ok g c p r lives found =
     around_changed (held g (goal.at.returns-clause-ok g c).After-index_mut) c.args.range c.commit_pages.new.process (λ r. commit tt c.args.prot) c.in_ok-commit_pages.ensures.changed p r lives found
 
-pub returns-clause-settled : goal.returns-clause-settled
-returns-clause-settled g c =
-    let h = held g (goal.at.returns-clause-settled g c).After-index_mut in
-    let r = some_found (region_around h.process.regions c.args.range) (c.requires.inside h.process h.lives) in
-    let done = commit_done c.args.self.now c.args.pid h.process c.args.range _ _ _ _ h.lives h.kept.sound c.requires.fits r.0 c.args.prot c.args.n r.1 (c.requires.private h.process r.0 h.lives r.1) c.requires.prot (c.requires.counted h.process h.lives)
-    c.in_ok-commit_pages.ensures.stored c.in_ok-commit_pages.ensures.counted (omega (arith, c.now.ensures.charge, h.kept.charged, c.in_ok-commit_pages.ensures.room)) in
-    settled_as (around_changed h c.args.range c.commit_pages.new.process (λ r. commit tt c.args.prot) c.in_ok-commit_pages.ensures.changed h.process r.0 h.lives r.1) done.settled
+pub returns-clause-settles : goal.returns-clause-settles
+returns-clause-settles g c =
+    let h = held g (goal.at.returns-clause-settles g c).After-index_mut in
+    let r = some_found (region_around h.process.regions c.args.range) (c.requires.can.inside h.process h.lives) in
+    let done = commit_done c.args.self.now c.args.pid h.process c.args.range _ _ _ _ h.lives h.kept.sound c.requires.ready.fits r.0 c.args.prot c.args.n r.1 (c.requires.can.private h.process r.0 h.lives r.1) c.requires.can.allowed (c.requires.can.counted h.process h.lives)
+    c.in_ok-commit_pages.ensures.adds.stored c.in_ok-commit_pages.ensures.adds.counted (omega (arith, c.now.ensures.charge, h.kept.charged, c.in_ok-commit_pages.ensures.adds.room)) in
+    record { err = tt; settled = settled_as (around_changed h c.args.range c.commit_pages.new.process (λ r. commit tt c.args.prot) c.in_ok-commit_pages.ensures.changed h.process r.0 h.lives r.1) done.settled }
 
 -- the pages are user pages
 stands : (g : given.Over) (c : After-index_mut g) → StandsFrom 0 (2 ^ 32) c.args.range
 stands g c =
     let h = held g c in
-    let r = some_found (region_around h.process.regions c.args.range) (c.requires.inside h.process h.lives) in
+    let r = some_found (region_around h.process.regions c.args.range) (c.requires.can.inside h.process h.lives) in
     let a = around h.process.regions c.args.range r.0 r.1 in
-    let end = ends c.args.self.now c.args.pid h.process _ _ h.lives h.kept.sound c.requires.fits r.0.place r.0.thing c.args.range a.at a.inside in
+    let end = ends c.args.self.now c.args.pid h.process _ _ h.lives h.kept.sound c.requires.ready.fits r.0.place r.0.thing c.args.range a.at a.inside in
     (omega arith, omega (arith, end))
 
 pub returns-in_err-commit_pages-clause-among : goal.returns-in_err-commit_pages-clause-among

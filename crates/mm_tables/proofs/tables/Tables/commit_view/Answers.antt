@@ -12,13 +12,13 @@ commits g c =
     record {
       view = c.self.view_is;
       kept = c.self.invariant;
-      fits = c.requires.fits;
-      lives = c.requires.lives;
-      inside = c.requires.inside;
-      paging = c.requires.paging;
-      counted = c.requires.counted;
-      accepted = c.requires.accepted;
-      private = c.requires.prot;
+      fits = c.requires.ready.fits;
+      lives = c.requires.ready.lives;
+      inside = c.requires.can.inside;
+      paging = c.requires.can.paging;
+      counted = c.requires.can.counted;
+      accepted = c.requires.can.accepted;
+      private = c.requires.can.allowed;
       room = c.requires.room;
       told = c.view_around-offset.ensures;
       count_is = count;
@@ -36,14 +36,17 @@ committed g c = record { processes = c.protect_view.ensures; areas_are = c.share
 pub share_pages-requires-clause-can : goal.share_pages-requires-clause-can
 share_pages-requires-clause-can g c =
     can_share (commits g c) (g.G.Pages.contents c.reserve.new.self) (g.G.Pages.store c.reserve.new.self) c.reserve.ensures.contents c.reserve.ensures.store c.reserve.ensures.later
-    (omega (arith, c.in_ok-reserve.ensures.ok, c.now.ensures.charge)) c.requires.kind
+    (omega (arith, c.in_ok-reserve.ensures.ok, c.now.ensures.charge)) c.requires.ready.kind_is
 
 pub invariant_of-self : goal.invariant_of-self
 invariant_of-self g c =
     view_kept (commits g (at_range g c)) (shown_processes c.protect_view.new.processes.items) c.share_pages.new.areas.items (committed g c) c.take.new.commit c.take.ensures
 
-pub returns-clause-settled : goal.returns-clause-settled
-returns-clause-settled g c =
-    view_settled (commits g (at_range g c)) (shown_processes c.protect_view.new.processes.items) c.share_pages.new.areas.items (committed g c)
-    (g.G.Pages.contents c.reserve.new.self) (g.G.Pages.contents c.share_pages.new.g) (g.G.Pages.store c.reserve.new.self) (g.G.Pages.store c.share_pages.new.g)
-    c.reserve.ensures.contents c.reserve.ensures.store c.reserve.ensures.later (omega (arith, c.in_ok-reserve.ensures.ok, c.now.ensures.charge)) c.share_pages.ensures.shares
+pub returns-clause-settles : goal.returns-clause-settles
+returns-clause-settles g c =
+    record {
+      err = tt;
+      settled = view_settled (commits g (at_range g c)) (shown_processes c.protect_view.new.processes.items) c.share_pages.new.areas.items (committed g c)
+          (g.G.Pages.contents c.reserve.new.self) (g.G.Pages.contents c.share_pages.new.g) (g.G.Pages.store c.reserve.new.self) (g.G.Pages.store c.share_pages.new.g)
+          c.reserve.ensures.contents c.reserve.ensures.store c.reserve.ensures.later (omega (arith, c.in_ok-reserve.ensures.ok, c.now.ensures.charge)) c.share_pages.ensures.shares;
+    }

@@ -6,7 +6,7 @@ use Rattle.mm_world.specs.Keys.{committed_at, private_key}
 use Rattle.mm_world.proofs.Finding.{committed_is}
 use Rattle.mm_pages.specs.Store.{changed}
 use Rattle.mm_pages.specs.Conditions.{place_at}
-use Rattle.mm_tables.specs.Fits.{Fits, CanCopy, copied}
+use Rattle.mm_tables.specs.Fits.{FitsTables, CanCopy, copied}
 use Rattle.mm_tables.proofs.OneRow.{copy_stands, copy_charge, copy_moved, copy_marked, some_with, row_changed, row_kept}
 use Rattle.mm_tables.proofs.Standing.{Held, held_by}
 use Rattle.mm_tables.proofs.tables.Tables.copy_page.Goals as goal
@@ -42,6 +42,6 @@ pub returns-clause-fits : goal.returns-clause-fits
 returns-clause-fits c contents s bytes f =
     let h = held (goal.at.returns-clause-fits c).After-index_mut in
     let k = some_with (committed_at c.args.self.now h.process.regions c.args.page) (λ c. CanCopy c) (c.requires.marked h.process h.lives) in
-    subst (λ (t : Tables). Fits t (changed same_key contents (private_key c.args.pid.0 c.args.page) (Some bytes)) (copied (place_at c.args.pid c.args.page) s))
+    subst (λ (t : Tables). FitsTables t (changed same_key contents (private_key c.args.pid.0 c.args.page) (Some bytes)) (copied (place_at c.args.pid c.args.page) s))
     (sym (row_changed h c.copy_page.new.process c.args.page (λ row. record row { own = Some tt; prot = 0x04 }) c.copy_page.ensures.changed h.process k.0 h.lives k.1.0))
     (copy_moved c.args.self.now c.args.pid h.process c.args.page k.0 h.lives k.1.0 h.kept.sound k.1.1 contents s bytes f)

@@ -7,38 +7,44 @@ use Rattle.mm_tables.proofs.tables.Tables.decommit.Goals as goal
 
 pub decommit_pages-owned-requires : goal.decommit_pages-owned-requires
 decommit_pages-owned-requires g c =
-    let h = held_by c.self.inside c.args.self.now c.self.view_is c.self.invariant c.args.pid.0 c.index_mut.result.now c.requires.lives c.index_mut.ensures.value in
+    let h = held_by c.self.inside c.args.self.now c.self.view_is c.self.invariant c.args.pid.0 c.index_mut.result.now c.requires.ready.lives c.index_mut.ensures.value in
     record {
-      lives = h.there;
-      end = decommit_end c.args.pid h c.args.range c.requires.inside c.requires.private c.requires.fits;
-      inside = ap (λ rs. is_some (region_around rs c.args.range)) h.same ∙ c.requires.inside h.process h.lives;
-      private = λ r found. c.requires.private h.process r h.lives (ap (λ rs. region_around rs c.args.range) (sym h.same) ∙ found);
-      can = decommit_can c.args.pid h c.args.range c.requires.inside c.requires.private c.requires.fits c.requires.kind;
+      lies = record {
+        lives = h.there;
+        inside = ap (λ rs. is_some (region_around rs c.args.range)) h.same ∙ c.requires.inside h.process h.lives;
+        private = λ r found. c.requires.private h.process r h.lives (ap (λ rs. region_around rs c.args.range) (sym h.same) ∙ found);
+      };
+      can = record {
+        end = decommit_end c.args.pid h c.args.range c.requires.inside c.requires.private c.requires.ready.fits;
+        can = decommit_can c.args.pid h c.args.range c.requires.inside c.requires.private c.requires.ready.fits c.requires.ready.kind_is;
+      };
     }
 
 pub refund-requires : goal.refund-requires
 refund-requires g c =
-    let h = held_by c.self.inside c.args.self.now c.self.view_is c.self.invariant c.args.pid.0 c.index_mut.result.now c.requires.lives c.index_mut.ensures.value in
-    let f = decommitted c.args.pid h c.args.range c.requires.inside c.requires.private c.requires.fits
-    c.decommit_pages-owned.ensures.owned c.decommit_pages-owned.ensures.changed c.decommit_pages-owned.ensures.stored c.decommit_pages-owned.ensures.counted c.decommit_pages-owned.ensures.room in
+    let h = held_by c.self.inside c.args.self.now c.self.view_is c.self.invariant c.args.pid.0 c.index_mut.result.now c.requires.ready.lives c.index_mut.ensures.value in
+    let f = decommitted c.args.pid h c.args.range c.requires.inside c.requires.private c.requires.ready.fits
+    c.decommit_pages-owned.ensures.owned c.decommit_pages-owned.ensures.changed c.decommit_pages-owned.ensures.removes.stored c.decommit_pages-owned.ensures.removes.counted c.decommit_pages-owned.ensures.removes.room in
     freed_charged c.args.pid h f
 
 pub invariant_of-self : goal.invariant_of-self
 invariant_of-self g c =
-    let h = held_by c.self.inside c.args.self.now c.self.view_is c.self.invariant c.args.pid.0 c.index_mut.result.now c.requires.lives c.index_mut.ensures.value in
-    let f = decommitted c.args.pid h c.args.range c.requires.inside c.requires.private c.requires.fits
-    c.decommit_pages-owned.ensures.owned c.decommit_pages-owned.ensures.changed c.decommit_pages-owned.ensures.stored c.decommit_pages-owned.ensures.counted c.decommit_pages-owned.ensures.room in
+    let h = held_by c.self.inside c.args.self.now c.self.view_is c.self.invariant c.args.pid.0 c.index_mut.result.now c.requires.ready.lives c.index_mut.ensures.value in
+    let f = decommitted c.args.pid h c.args.range c.requires.inside c.requires.private c.requires.ready.fits
+    c.decommit_pages-owned.ensures.owned c.decommit_pages-owned.ensures.changed c.decommit_pages-owned.ensures.removes.stored c.decommit_pages-owned.ensures.removes.counted c.decommit_pages-owned.ensures.removes.room in
     freed_kept c.args.pid h f c.refund.new.self c.refund.ensures
 
 pub returns : goal.returns
 returns g c =
-    let h = held_by c.self.inside c.args.self.now c.self.view_is c.self.invariant c.args.pid.0 c.index_mut.result.now c.requires.lives c.index_mut.ensures.value in
-    let f = decommitted c.args.pid h c.args.range c.requires.inside c.requires.private c.requires.fits
-    c.decommit_pages-owned.ensures.owned c.decommit_pages-owned.ensures.changed c.decommit_pages-owned.ensures.stored c.decommit_pages-owned.ensures.counted c.decommit_pages-owned.ensures.room in
+    let h = held_by c.self.inside c.args.self.now c.self.view_is c.self.invariant c.args.pid.0 c.index_mut.result.now c.requires.ready.lives c.index_mut.ensures.value in
+    let f = decommitted c.args.pid h c.args.range c.requires.inside c.requires.private c.requires.ready.fits
+    c.decommit_pages-owned.ensures.owned c.decommit_pages-owned.ensures.changed c.decommit_pages-owned.ensures.removes.stored c.decommit_pages-owned.ensures.removes.counted c.decommit_pages-owned.ensures.removes.room in
     record {
       changed = freed_named h c.decommit_pages-owned.new.process (λ rs. region_around rs c.args.range) (λ rs r. set rs r.place (change_rows (λ row. reserved_row) c.args.range r.thing)) c.decommit_pages-owned.ensures.changed;
-      settled = freed_settled c.args.pid h f;
-      among = decommit_among c.args.pid h c.args.range c.requires.inside c.requires.private c.requires.fits f c.decommit_pages-owned.ensures.stored;
-      passes = c.decommit_pages-owned.ensures.passes;
-      loans = c.decommit_pages-owned.ensures.loans;
+      frees = record {
+        settled = freed_settled c.args.pid h f;
+        among = decommit_among c.args.pid h c.args.range c.requires.inside c.requires.private c.requires.ready.fits f c.decommit_pages-owned.ensures.removes.stored;
+        passes = c.decommit_pages-owned.ensures.ends.passes;
+        loans = c.decommit_pages-owned.ensures.ends.loans;
+      };
     }

@@ -1,6 +1,6 @@
 use Rattle.std.proofs.Common.{sym, ◌∙◌, ap, subst}
 use Rattle.mm_world.specs.World.{Numbered, KeptOf, numbered}
-use Rattle.mm_tables.specs.Sound.{IsKept}
+use Rattle.mm_tables.specs.Sound.{AreKeptTables}
 use Rattle.mm_tables.specs.Shown.{shown_accesses}
 use Rattle.mm_tables.proofs.Keeping.{of_others}
 use Rattle.mm_tables.proofs.Standing.{shown_with}
@@ -10,7 +10,7 @@ use Rattle.mm_tables.proofs.tables.Tables.drop_kept.Goals as goal
 pub invariant_of-self : goal.invariant_of-self
 invariant_of-self c =
     let t = shown_with c.self.inside c.self.inside.processes.items in
-    subst (λ (ks : Numbered KeptOf). IsKept (record t { kept = ks }) c.self.inside.directory.entries c.self.inside.commit) (sym c.drop_accesses.ensures)
+    subst (λ (ks : Numbered KeptOf). AreKeptTables (record t { kept = ks }) c.self.inside.directory.entries c.self.inside.commit) (sym c.drop_accesses.ensures)
     (kept_dropped t c.args.pid.0 c.self.inside.directory.entries c.self.inside.commit c.self.invariant)
 
 pub returns-clause-nobody : goal.returns-clause-nobody

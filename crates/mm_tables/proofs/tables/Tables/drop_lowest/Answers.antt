@@ -17,23 +17,31 @@ pub returns-in-Private : goal.returns-in-Private
 returns-in-Private g c =
     let t = c.args.self.now in
     let v = c.release_lowest.new.self in
-    let p = some_found (process_of t c.args.pid.0) c.requires.lives in
+    let p = some_found (process_of t c.args.pid.0) c.requires.ready.lives in
     let low = has_lowest p.0 c.args.info.pages c.args.info.kind (c.requires.there p.0 p.1) in
     let removed = c.release_lowest.ensures.removed p.0 p.1 in
     let d = dropped c.args.pid.0 t v p.0 low.region p.1 low.at (after_set t v c.args.pid.0 p.0 (unmapped p.0 0) p.1 removed)
-    (toward_set c.args.pid.0 t (Some (unmapped p.0 0)) removed c.release_lowest.ensures.settled c.release_lowest.ensures.less
+    (toward_set c.args.pid.0 t (Some (unmapped p.0 0)) removed c.release_lowest.ensures.shrinks.settled c.release_lowest.ensures.shrinks.less
     (λ rank. for_set rank c.args.pid.0 t v p.0 (unmapped p.0 0) p.1 removed (ranked_removed p.0 (c.requires.closed p.0 p.1)))) in
-    record { toward = d.toward; lives = d.lives; fewer = d.fewer; passes = λ held from to for among. c.release_lowest.ensures.passes held from to among; loans = c.release_lowest.ensures.loans }
+    record {
+      nears = record { toward = d.toward; lives = d.lives; loans = c.release_lowest.ensures.shrinks.loans };
+      fewer = d.fewer;
+      passes = λ held from to for among. c.release_lowest.ensures.passes held from to among;
+    }
 
 pub returns-in-View : goal.returns-in-View
 returns-in-View g c =
     let t = c.args.self.now in
     let v = c.unmap_view.new.self in
-    let p = some_found (process_of t c.args.pid.0) c.requires.lives in
+    let p = some_found (process_of t c.args.pid.0) c.requires.ready.lives in
     let first : c.range.inside.first ≡ c.args.info.pages.first = ap (λ (r : Range). r.first) c.range.view_is in
     let low = has_lowest p.0 c.args.info.pages (kind.View c.in-View.view) (c.requires.there p.0 p.1 ∙ (λ i. Some (record { pages = c.args.info.pages; kind = c.in-View.is i }))) in
     let removed = c.unmap_view.ensures.removed p.0 (record { place = 0; thing = low.region }) p.1 (view_lowest p.0 c.args.info.pages c.in-View.view c.range.inside.first low first) in
     let d = dropped c.args.pid.0 t v p.0 low.region p.1 low.at (after_settled t v c.args.pid.0 p.0 (unmapped p.0 0) p.1 removed)
-    (toward_settled c.args.pid.0 t (Some (unmapped p.0 0)) removed c.unmap_view.ensures.settled c.unmap_view.ensures.less
+    (toward_settled c.args.pid.0 t (Some (unmapped p.0 0)) removed c.unmap_view.ensures.shrinks.settled c.unmap_view.ensures.shrinks.less
     (λ rank. for_settled rank c.args.pid.0 t v p.0 (unmapped p.0 0) p.1 removed (ranked_removed p.0 (c.requires.closed p.0 p.1)))) in
-    record { toward = d.toward; lives = d.lives; fewer = d.fewer; passes = c.unmap_view.ensures.passes; loans = c.unmap_view.ensures.loans }
+    record {
+      nears = record { toward = d.toward; lives = d.lives; loans = c.unmap_view.ensures.shrinks.loans };
+      fewer = d.fewer;
+      passes = c.unmap_view.ensures.passes;
+    }

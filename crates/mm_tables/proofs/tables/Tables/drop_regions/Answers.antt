@@ -1,29 +1,37 @@
 use Rattle.std.proofs.Common.{sym, ◌∙◌, ap, ℕ}
+use Rattle.mm_pages.specs.Store.{StoreOf}
 use Rattle.mm_world.specs.World.{Numbered, numbered}
 use Rattle.mm_types.proofs.Options.{some_found}
 use Rattle.mm_world.specs.Find.{process_of}
 use Rattle.mm_tables.proofs.EndingExits.{toward_then, no_region, regions_fewer, regions_then, regions_end}
 use Rattle.mm_tables.proofs.tables.Tables.drop_regions.Goals as goal
 
+pub drop_lowest-requires-clause-ready : goal.drop_lowest-requires-clause-ready
+drop_lowest-requires-clause-ready g c = record {
+  fits = c.loop-info.invariant.toward.fits;
+  kind_is = ap (λ (x : StoreOf). x.kind) c.loop-info.invariant.toward.rest ∙ c.requires.ready.kind_is;
+  lives = c.loop-info.invariant.lives;
+}
+
 pub loop-info-preserved : goal.loop-info-preserved
 loop-info-preserved g c =
     let p = some_found (process_of c.loop-info.self c.args.pid.0) c.loop-info.invariant.lives in
     record {
-      toward = toward_then c.loop-info.invariant.toward c.drop_lowest.ensures.toward;
-      lives = c.drop_lowest.ensures.lives;
+      toward = toward_then c.loop-info.invariant.toward c.drop_lowest.ensures.nears.toward;
+      lives = c.drop_lowest.ensures.nears.lives;
       closed = λ q now k. ap (λ (hs : Numbered ℕ). numbered hs k) (c.drop_lowest.ensures.fewer p.0 q p.1 now).same ∙ c.loop-info.invariant.closed p.0 p.1 k;
       passes = λ held for all.
-          let q = some_found (process_of c.drop_lowest.new.self c.args.pid.0) c.drop_lowest.ensures.lives in
+          let q = some_found (process_of c.drop_lowest.new.self c.args.pid.0) c.drop_lowest.ensures.nears.lives in
           regions_then g.G.Pages.unpaged held c.args.pid c.loop-info.self c.drop_lowest.new.self p.0 q.0 c.in-Some.info (g.G.Pages.store c.args.g.now) (g.G.Pages.store c.loop-info.g) (g.G.Pages.store c.drop_lowest.new.g) (g.G.Pages.behind c.args.g.now) (g.G.Pages.behind c.loop-info.g) (g.G.Pages.behind c.drop_lowest.new.g)
           p.1 q.1 (c.lowest.ensures.sound.spaces c.args.pid.0 p.0 p.1) (sym c.in-Some.is ∙ c.lowest.ensures.found p.0 p.1) (c.drop_lowest.ensures.fewer p.0 q.0 p.1 q.1) all (c.loop-info.invariant.passes held for all)
           (λ from to among. c.drop_lowest.ensures.passes held from to (c.loop-info.invariant.toward.ranks held.rank for) among);
-      loans = c.drop_lowest.ensures.loans ∙ c.loop-info.invariant.loans;
+      loans = c.drop_lowest.ensures.nears.loans ∙ c.loop-info.invariant.loans;
     }
 
 pub loop-info-smaller : goal.loop-info-smaller
 loop-info-smaller g c =
     let p = some_found (process_of c.loop-info.self c.args.pid.0) c.loop-info.invariant.lives in
-    let q = some_found (process_of c.drop_lowest.new.self c.args.pid.0) c.drop_lowest.ensures.lives in
+    let q = some_found (process_of c.drop_lowest.new.self c.args.pid.0) c.drop_lowest.ensures.nears.lives in
     regions_fewer c.loop-info.self c.drop_lowest.new.self c.args.pid.0 p.0 q.0 p.1 q.1 (c.drop_lowest.ensures.fewer p.0 q.0 p.1 q.1)
 
 pub returns-clause-empty : goal.returns-clause-empty

@@ -5,7 +5,7 @@ use Rattle.mm_pages.specs.Leaving.{Leaving, page_rank}
 use Rattle.mm_pages.specs.Passing.{PassesIn}
 use Rattle.mm_world.specs.World.{ProcessOf}
 use Rattle.mm_world.specs.Find.{process_of}
-use Rattle.mm_tables.specs.Endings.{Toward, HasNoHandle, IsFor}
+use Rattle.mm_tables.specs.Endings.{Toward, HasNoHandle, IsRankFor}
 use Rattle.mm_tables.proofs.EndingExits.{first_page}
 use Rattle.mm_tables.proofs.OneProcess.{regions_in}
 use Rattle.mm_tables.proofs.tables.Tables.drop_regions.Given as goal
@@ -15,7 +15,7 @@ invariant-loop-info g l = record {
   toward : Toward l.pid.0 l.fn.self l.self (g.G.Pages.contents l.fn.g) (g.G.Pages.contents l.g) (g.G.Pages.store l.fn.g) (g.G.Pages.store l.g);
   lives : is_some (process_of l.self l.pid.0) ≡ true;
   closed : (p : ProcessOf (Unit {0})) → process_of l.self l.pid.0 ≡ Some p → HasNoHandle p;
-  passes : (held : Leaving) → IsFor held.rank l.pid.0 l.fn.self → ((page : ℕ) → held.places (place_at l.pid page) ≡ true) →
+  passes : (held : Leaving) → IsRankFor held.rank l.pid.0 l.fn.self → ((page : ℕ) → held.places (place_at l.pid page) ≡ true) →
       PassesIn g.G.Pages.unpaged (Turns (Ends held (page_rank 0) (page_rank (first_page (regions_in l.self l.pid.0))))) (g.G.Pages.store l.fn.g) (g.G.Pages.store l.g) (g.G.Pages.behind l.fn.g) (g.G.Pages.behind l.g);
   loans : g.G.Pages.loans l.g ≡ g.G.Pages.loans l.fn.g;
 }

@@ -4,7 +4,7 @@ use Rattle.mm_world.specs.Step.{first_world}
 use Rattle.mm_commit.specs.Charge.{CommitOf}
 use Rattle.mm_world.specs.World.{Numbered}
 use Rattle.mm_sections.specs.Directories.{CountedSection, DirectoryOf}
-use Rattle.mm_tables.specs.Sound.{IsKept}
+use Rattle.mm_tables.specs.Sound.{AreKeptTables}
 use Rattle.mm_tables.specs.Shown.{shown_processes, shown_accesses, tables_with}
 use Rattle.mm_tables.proofs.KeptAccesses.{first_kept}
 use Rattle.mm_tables.proofs.tables.Tables.new.Goals as goal
@@ -17,4 +17,4 @@ invariant_of-result c =
     let files : c.new-2.result.files ≡ [] = ap (λ (d : DirectoryOf). d.files) c.new-2.ensures in
     let same : tables_with c.args.machine (shown_processes c.new.result.items) c.new-2.result.entries c.new-3.result.items c.new-2.result.files 0 0 (shown_accesses c.no_accesses.result) c.new-5.result ≡ first_world c.args.machine =
     λ i. tables_with c.args.machine (shown_processes (c.new.ensures.items i)) (entries i) (c.new-3.ensures.items i) (files i) 0 0 (c.no_accesses.ensures i) (c.new-5.ensures i) in
-    subst (λ (t : Tables). IsKept t c.new-2.result.entries c.new-4.result) (sym same) (subst (λ (es : Numbered CountedSection). IsKept (first_world c.args.machine) es c.new-4.result) (sym entries) first)
+    subst (λ (t : Tables). AreKeptTables t c.new-2.result.entries c.new-4.result) (sym same) (subst (λ (es : Numbered CountedSection). AreKeptTables (first_world c.args.machine) es c.new-4.result) (sym entries) first)

@@ -1,5 +1,5 @@
 use Rattle.std.proofs.Common.{refl, ◌∙◌, sym, ap, arith, is_some}
-use Rattle.mm_types.proofs.Options.{some_found}
+use Rattle.mm_types.proofs.Options.{some_found, on_err}
 use Rattle.mm_world.specs.Find.{region_around}
 use Rattle.mm_world.specs.Rows.{protected}
 use Rattle.mm_commit.specs.Charge.{CommitOf}
@@ -11,29 +11,29 @@ use Rattle.mm_tables.proofs.tables.Tables.protect.Goals as goal
 use Rattle.mm_tables.proofs.tables.Tables.protect.Goals.{After-index_mut}
 
 held : (g : given.Over) (c : After-index_mut g) → Held c.self.inside c.args.self.now c.args.pid.0 c.index_mut.result.now
-held g c = held_by c.self.inside c.args.self.now c.self.view_is c.self.invariant c.args.pid.0 c.index_mut.result.now c.requires.lives c.index_mut.ensures.value
+held g c = held_by c.self.inside c.args.self.now c.self.view_is c.self.invariant c.args.pid.0 c.index_mut.result.now c.requires.ready.lives c.index_mut.ensures.value
 
 pub protect_pages-requires : goal.protect_pages-requires
 protect_pages-requires g c =
     let h = held g (goal.at.protect_pages-requires g c).After-index_mut in
     record {
       lives = h.there;
-      inside = ap (λ rs. is_some (region_around rs c.args.range)) h.same ∙ c.requires.inside h.process h.lives;
-      prot = c.requires.prot;
-      accepted = λ r found. c.requires.accepted h.process r h.lives (ap (λ rs. region_around rs c.args.range) (sym h.same) ∙ found);
+      inside = ap (λ rs. is_some (region_around rs c.args.range)) h.same ∙ c.requires.can.inside h.process h.lives;
+      prot = c.requires.can.allowed;
+      accepted = λ r found. c.requires.can.accepted h.process r h.lives (ap (λ rs. region_around rs c.args.range) (sym h.same) ∙ found);
       committed = λ r found private.
           let at = ap (λ rs. region_around rs c.args.range) (sym h.same) ∙ found in
           let a = around h.process.regions c.args.range r at in
           ap (λ rs. owned_in rs c.args.range) h.same ∙ a.owned
-          ∙ all_owned c.args.self.now c.args.pid.0 h.process r.place r.thing c.args.range h.lives h.kept.sound a.at a.inside private (c.requires.committed h.process r h.lives at);
+          ∙ all_owned c.args.self.now c.args.pid.0 h.process r.place r.thing c.args.range h.lives h.kept.sound a.at a.inside private (c.requires.can.committed h.process r h.lives at);
     }
 
 pub invariant_of-self : goal.invariant_of-self
 invariant_of-self g c =
     let h = held g (goal.at.invariant_of-self g c).After-index_mut in
-    let r = some_found (region_around h.process.regions c.args.range) (c.requires.inside h.process h.lives) in
-    let n = c.requires.counted h.process h.lives in
-    let done = protect_done c.args.self.now c.args.pid h.process c.args.range _ _ _ _ h.lives h.kept.sound c.requires.fits r.0 c.args.prot r.1 (c.requires.committed h.process r.0 h.lives r.1) (c.requires.accepted h.process r.0 h.lives r.1)
+    let r = some_found (region_around h.process.regions c.args.range) (c.requires.can.inside h.process h.lives) in
+    let n = c.requires.can.counted h.process h.lives in
+    let done = protect_done c.args.self.now c.args.pid h.process c.args.range _ _ _ _ h.lives h.kept.sound c.requires.ready.fits r.0 c.args.prot r.1 (c.requires.can.committed h.process r.0 h.lives r.1) (c.requires.can.accepted h.process r.0 h.lives r.1)
     c.grow_for_marks.ensures.more (omega (arith, c.now.ensures.charge, h.kept.charged, c.in_ok-grow_for_marks.ensures.room, n)) in
     let became = around_became h c.args.range c.protect_pages.new.process (λ r. protected r.kind c.args.prot) c.protect_pages.ensures.changed h.process r.0 h.lives r.1 in
     still_kept h c.protect_pages.new.process _ c.take.new.commit _ became done.stands done.charged (omega (arith, c.requires.room, n))
@@ -43,15 +43,17 @@ pub returns-clause-ok : goal.returns-clause-ok
 returns-clause-ok g c p r lives found =
     around_changed (held g (goal.at.returns-clause-ok g c).After-index_mut) c.args.range c.protect_pages.new.process (λ r. protected r.kind c.args.prot) c.protect_pages.ensures.changed p r lives found
 
-pub returns-clause-settled : goal.returns-clause-settled
-returns-clause-settled g c =
-    let h = held g (goal.at.returns-clause-settled g c).After-index_mut in
-    let r = some_found (region_around h.process.regions c.args.range) (c.requires.inside h.process h.lives) in
-    let done = protect_done c.args.self.now c.args.pid h.process c.args.range _ _ _ _ h.lives h.kept.sound c.requires.fits r.0 c.args.prot r.1 (c.requires.committed h.process r.0 h.lives r.1) (c.requires.accepted h.process r.0 h.lives r.1)
-    c.grow_for_marks.ensures.more (omega (arith, c.now.ensures.charge, h.kept.charged, c.in_ok-grow_for_marks.ensures.room, c.requires.counted h.process h.lives)) in
-    settled_as (around_changed h c.args.range c.protect_pages.new.process (λ r. protected r.kind c.args.prot) c.protect_pages.ensures.changed h.process r.0 h.lives r.1) done.settled
+pub returns-clause-settles : goal.returns-clause-settles
+returns-clause-settles g c =
+    let h = held g (goal.at.returns-clause-settles g c).After-index_mut in
+    let r = some_found (region_around h.process.regions c.args.range) (c.requires.can.inside h.process h.lives) in
+    let done = protect_done c.args.self.now c.args.pid h.process c.args.range _ _ _ _ h.lives h.kept.sound c.requires.ready.fits r.0 c.args.prot r.1 (c.requires.can.committed h.process r.0 h.lives r.1) (c.requires.can.accepted h.process r.0 h.lives r.1)
+    c.grow_for_marks.ensures.more (omega (arith, c.now.ensures.charge, h.kept.charged, c.in_ok-grow_for_marks.ensures.room, c.requires.can.counted h.process h.lives)) in
+    record { err = tt; settled = settled_as (around_changed h c.args.range c.protect_pages.new.process (λ r. protected r.kind c.args.prot) c.protect_pages.ensures.changed h.process r.0 h.lives r.1) done.settled }
 
-pub returns-in_err-grow_for_marks-clause-settled :
-    goal.returns-in_err-grow_for_marks-clause-settled
-returns-in_err-grow_for_marks-clause-settled g c =
-    roomier_settled c.requires.fits refl c.grow_for_marks.ensures.more
+pub returns-in_err-grow_for_marks-clause-settles :
+    goal.returns-in_err-grow_for_marks-clause-settles
+returns-in_err-grow_for_marks-clause-settles g c = record {
+  err = on_err c.from_residual.result (refl, c.grow_for_marks.ensures.more.contents);
+  settled = roomier_settled c.requires.ready.fits refl c.grow_for_marks.ensures.more;
+}

@@ -9,39 +9,45 @@ use Rattle.mm_tables.proofs.tables.Tables.release_region.Goals as goal
 
 pub release_pages-freed-requires : goal.release_pages-freed-requires
 release_pages-freed-requires g c =
-    let h = held_by c.self.inside c.args.self.now c.self.view_is c.self.invariant c.args.pid.0 c.index_mut.result.now c.requires.lives c.index_mut.ensures.value in
+    let h = held_by c.self.inside c.args.self.now c.self.view_is c.self.invariant c.args.pid.0 c.index_mut.result.now c.requires.ready.lives c.index_mut.ensures.value in
     record {
-      lives = h.there;
-      end = release_end c.args.pid h c.args.addr c.args.range c.requires.there c.requires.fits;
-      there = ap (λ rs. option_map (λ (r : Found (RegionOf (Unit {0}))). pages_of r.thing) (private_at rs c.args.addr)) h.same ∙ c.requires.there h.process h.lives;
-      inside = release_inside c.args.pid h c.args.addr c.args.range c.requires.there c.requires.fits;
-      bound = release_bound c.args.pid h c.args.addr c.args.range c.requires.there c.requires.fits;
-      can = release_can c.args.pid h c.args.addr c.args.range c.requires.there c.requires.fits c.requires.kind;
+      begins = record {
+        lives = h.there;
+        there = ap (λ rs. option_map (λ (r : Found (RegionOf (Unit {0}))). pages_of r.thing) (private_at rs c.args.addr)) h.same ∙ c.requires.there h.process h.lives;
+        inside = release_inside c.args.pid h c.args.addr c.args.range c.requires.there c.requires.ready.fits;
+      };
+      bound = release_bound c.args.pid h c.args.addr c.args.range c.requires.there c.requires.ready.fits;
+      can = record {
+        end = release_end c.args.pid h c.args.addr c.args.range c.requires.there c.requires.ready.fits;
+        can = release_can c.args.pid h c.args.addr c.args.range c.requires.there c.requires.ready.fits c.requires.ready.kind_is;
+      };
     }
 
 pub refund-requires : goal.refund-requires
 refund-requires g c =
-    let h = held_by c.self.inside c.args.self.now c.self.view_is c.self.invariant c.args.pid.0 c.index_mut.result.now c.requires.lives c.index_mut.ensures.value in
-    let f = release_freed c.args.pid h c.args.addr c.args.range c.requires.there c.requires.fits
-    c.release_pages-freed.ensures.owned c.release_pages-freed.ensures.changed c.release_pages-freed.ensures.stored c.release_pages-freed.ensures.counted c.release_pages-freed.ensures.room in
+    let h = held_by c.self.inside c.args.self.now c.self.view_is c.self.invariant c.args.pid.0 c.index_mut.result.now c.requires.ready.lives c.index_mut.ensures.value in
+    let f = release_freed c.args.pid h c.args.addr c.args.range c.requires.there c.requires.ready.fits
+    c.release_pages-freed.ensures.owned c.release_pages-freed.ensures.changed c.release_pages-freed.ensures.removes.stored c.release_pages-freed.ensures.removes.counted c.release_pages-freed.ensures.removes.room in
     freed_charged c.args.pid h f
 
 pub invariant_of-self : goal.invariant_of-self
 invariant_of-self g c =
-    let h = held_by c.self.inside c.args.self.now c.self.view_is c.self.invariant c.args.pid.0 c.index_mut.result.now c.requires.lives c.index_mut.ensures.value in
-    let f = release_freed c.args.pid h c.args.addr c.args.range c.requires.there c.requires.fits
-    c.release_pages-freed.ensures.owned c.release_pages-freed.ensures.changed c.release_pages-freed.ensures.stored c.release_pages-freed.ensures.counted c.release_pages-freed.ensures.room in
+    let h = held_by c.self.inside c.args.self.now c.self.view_is c.self.invariant c.args.pid.0 c.index_mut.result.now c.requires.ready.lives c.index_mut.ensures.value in
+    let f = release_freed c.args.pid h c.args.addr c.args.range c.requires.there c.requires.ready.fits
+    c.release_pages-freed.ensures.owned c.release_pages-freed.ensures.changed c.release_pages-freed.ensures.removes.stored c.release_pages-freed.ensures.removes.counted c.release_pages-freed.ensures.removes.room in
     freed_kept c.args.pid h f c.refund.new.self c.refund.ensures
 
 pub returns : goal.returns
 returns g c =
-    let h = held_by c.self.inside c.args.self.now c.self.view_is c.self.invariant c.args.pid.0 c.index_mut.result.now c.requires.lives c.index_mut.ensures.value in
-    let f = release_freed c.args.pid h c.args.addr c.args.range c.requires.there c.requires.fits
-    c.release_pages-freed.ensures.owned c.release_pages-freed.ensures.changed c.release_pages-freed.ensures.stored c.release_pages-freed.ensures.counted c.release_pages-freed.ensures.room in
+    let h = held_by c.self.inside c.args.self.now c.self.view_is c.self.invariant c.args.pid.0 c.index_mut.result.now c.requires.ready.lives c.index_mut.ensures.value in
+    let f = release_freed c.args.pid h c.args.addr c.args.range c.requires.there c.requires.ready.fits
+    c.release_pages-freed.ensures.owned c.release_pages-freed.ensures.changed c.release_pages-freed.ensures.removes.stored c.release_pages-freed.ensures.removes.counted c.release_pages-freed.ensures.removes.room in
     record {
       changed = freed_named h c.release_pages-freed.new.process (λ rs. private_at rs c.args.addr) (λ rs r. remove rs r.place) c.release_pages-freed.ensures.changed;
-      settled = freed_settled c.args.pid h f;
-      among = release_among c.args.pid h c.args.addr c.args.range c.requires.there c.requires.fits f c.release_pages-freed.ensures.stored;
-      passes = c.release_pages-freed.ensures.passes;
-      loans = c.release_pages-freed.ensures.loans;
+      frees = record {
+        settled = freed_settled c.args.pid h f;
+        among = release_among c.args.pid h c.args.addr c.args.range c.requires.there c.requires.ready.fits f c.release_pages-freed.ensures.removes.stored;
+        passes = c.release_pages-freed.ensures.ends.passes;
+        loans = c.release_pages-freed.ensures.ends.loans;
+      };
     }

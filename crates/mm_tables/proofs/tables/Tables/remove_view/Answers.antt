@@ -10,4 +10,4 @@ returns-clause-passes g c =
     let t = c.args.self.now in
     c.unmap_view.ensures.passes (leaving t c.args.pid.0 (is_uncommitted c.unmap_view.new.self)) 1 (page_rank end_of_user_pages)
     (for_own t c.args.pid.0 c.sound.ensures.tidy)
-    (among_unbound t c.unmap_view.new.self _ _ c.args.pid c.args.range c.unmap_view.ensures.settled.fits c.unmap_view.ensures.unbound)
+    (among_unbound t c.unmap_view.new.self _ _ c.args.pid c.args.range c.unmap_view.ensures.shrinks.settled.fits c.unmap_view.ensures.unbound)

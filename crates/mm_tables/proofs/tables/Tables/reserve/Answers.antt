@@ -1,9 +1,9 @@
-use Rattle.std.proofs.Common.{◌+◌, ◌^◌, ◌∙◌, sym, ap, subst, arith, not}
+use Rattle.std.proofs.Common.{◌+◌, ◌^◌, sym, ap, subst, arith, not}
 use Rattle.std.specs.Prelude.{nat_le}
 use Rattle.std.specs.List.{list_any}
 use Rattle.std.proofs.lemmas.Bool.{leb-true}
 use Rattle.mm_types.proofs.Booleans.{parts}
-use Rattle.mm_types.specs.Address.{Range, is_free, are_user_pages, first_user_page, end_of, end_of_user_pages, meets}
+use Rattle.mm_types.specs.Address.{Range, are_user_pages, first_user_page, end_of, end_of_user_pages, meets}
 use Rattle.mm_types.specs.Machine.{limit_of}
 use Rattle.mm_types.proofs.Options.{on_err}
 use Rattle.mm_world.specs.Alloc.{private_region}
@@ -11,8 +11,9 @@ use Rattle.mm_world.specs.Contents.{blank}
 use Rattle.mm_world.specs.Find.{ranges_of, add_region}
 use Rattle.mm_commit.specs.Charge.{CommitOf}
 use Rattle.mm_tables.specs.Effects.{CanMake}
+use Rattle.mm_tables.specs.Promises.{IsNewRange}
 use Rattle.mm_tables.specs.Ranges.{StandsFrom}
-use Rattle.mm_tables.specs.Spaces.{Became}
+use Rattle.mm_tables.specs.Spaces.{RegionsBecame}
 use Rattle.mm_tables.proofs.Settled.{roomier_settled, settled_as, reserve_done, can_make}
 use Rattle.mm_tables.proofs.Standing.{Held, held_by, regions_by, still_kept, same_tables, kept_same}
 use Rattle.mm_tables.proofs.tables.Tables.reserve.Given as given
@@ -20,44 +21,41 @@ use Rattle.mm_tables.proofs.tables.Tables.reserve.Goals as goal
 use Rattle.mm_tables.proofs.tables.Tables.reserve.Goals.{After-index_mut-process}
 
 held : (g : given.Over) (c : After-index_mut-process g) → Held c.self.inside c.args.self.now c.args.pid.0 c.index_mut-process.result.now
-held g c = held_by c.self.inside c.args.self.now c.self.view_is c.self.invariant c.args.pid.0 c.index_mut-process.result.now c.requires.lives c.index_mut-process.ensures.value
+held g c = held_by c.self.inside c.args.self.now c.self.view_is c.self.invariant c.args.pid.0 c.index_mut-process.result.now c.requires.ready.lives c.index_mut-process.ensures.value
 
 pub make_region-requires : goal.make_region-requires
 make_region-requires g c =
     let h = held g (goal.at.make_region-requires g c).After-index_mut-process in
     let total = c.now.result + c.new_pages-pages.result in
-    let free = c.requires.free h.process h.lives in
+    let new = c.requires.new h.process h.lives in
     record {
       lives = h.there;
-      free = ap (λ rs. is_free (ranges_of rs) c.args.range) h.same ∙ free;
-      granule = c.requires.granule;
-      some = c.requires.some;
+      new = subst (λ rs. IsNewRange rs c.args.range) (sym h.same) new;
       prot = c.requires.prot;
       can = subst (λ rs. CanMake c.args.pid c.args.range c.args.kind total rs (g.G.Pages.contents c.args.g.now) (g.G.Pages.store c.args.g.now)) (sym h.same)
-          (can_make c.args.self.now c.args.pid h.process _ _ h.lives h.kept.sound c.requires.fits c.args.range c.args.kind total free
+          (can_make c.args.self.now c.args.pid h.process _ _ h.lives h.kept.sound c.requires.ready.fits c.args.range c.args.kind total new.free
           (omega (arith, c.now.ensures.charge, h.kept.charged, c.new_pages-pages.ensures))
-          (omega (arith, c.now.ensures.charge, h.kept.charged, c.new_pages-pages.ensures, ap limit_of c.requires.fits.machine, c.requires.room)) c.requires.kind);
+          (omega (arith, c.now.ensures.charge, h.kept.charged, c.new_pages-pages.ensures, ap limit_of c.requires.ready.fits.machine, c.requires.room)) c.requires.ready.kind_is);
     }
 
 pub invariant_of-self : goal.invariant_of-self
-invariant_of-self g c = kept_same (held g (goal.at.invariant_of-self g c).After-index_mut-process) c.make_region.new.process c.in_err-make_region.ensures.kept
+invariant_of-self g c = kept_same (held g (goal.at.invariant_of-self g c).After-index_mut-process) c.make_region.new.process c.in_err-make_region.ensures.keeps.kept
 
-pub returns-in_err-make_region-clause-err : goal.returns-in_err-make_region-clause-err
-returns-in_err-make_region-clause-err g c =
-    let h = held g (goal.at.returns-in_err-make_region-clause-err g c).After-index_mut-process in
-    on_err c.from_residual.result (same_tables h c.make_region.new.process c.in_err-make_region.ensures.kept, c.in_err-make_region.ensures.err.contents)
-
-pub returns-in_err-make_region-clause-settled : goal.returns-in_err-make_region-clause-settled
-returns-in_err-make_region-clause-settled g c =
-    let h = held g (goal.at.returns-in_err-make_region-clause-settled g c).After-index_mut-process in
-    roomier_settled c.requires.fits (same_tables h c.make_region.new.process c.in_err-make_region.ensures.kept) c.in_err-make_region.ensures.err
+pub returns-in_err-make_region-clause-settles : goal.returns-in_err-make_region-clause-settles
+returns-in_err-make_region-clause-settles g c =
+    let h = held g (goal.at.returns-in_err-make_region-clause-settles g c).After-index_mut-process in
+    let same = same_tables h c.make_region.new.process c.in_err-make_region.ensures.keeps.kept in
+    record {
+      err = on_err c.from_residual.result (same, c.in_err-make_region.ensures.keeps.err.contents);
+      settled = roomier_settled c.requires.ready.fits same c.in_err-make_region.ensures.keeps.err;
+    }
 
 pub invariant_of-self-2 : goal.invariant_of-self-2
 invariant_of-self-2 g c =
     let h = held g (goal.at.invariant_of-self-2 g c).After-index_mut-process in
-    let done = reserve_done c.args.self.now c.args.pid h.process c.args.range _ _ _ _ h.lives h.kept.sound c.requires.fits c.args.watched c.args.kind c.args.prot (c.requires.free h.process h.lives) c.requires.granule c.requires.some c.requires.prot
-    c.in_ok-make_region.ensures.stored c.in_ok-make_region.ensures.counted (omega (arith, c.now.ensures.charge, h.kept.charged, c.new_pages-pages.ensures, c.in_ok-make_region.ensures.room)) in
-    let became = subst (λ rs. Became c.index_mut-process.result.now c.make_region.new.process (add_region (private_region blank c.args.watched c.args.kind c.args.prot c.args.range) rs)) h.same c.in_ok-make_region.ensures.changed in
+    let done = reserve_done c.args.self.now c.args.pid h.process c.args.range _ _ _ _ h.lives h.kept.sound c.requires.ready.fits c.args.watched c.args.kind c.args.prot (c.requires.new h.process h.lives).free (c.requires.new h.process h.lives).granule (c.requires.new h.process h.lives).some c.requires.prot
+    c.in_ok-make_region.ensures.adds.stored c.in_ok-make_region.ensures.adds.counted (omega (arith, c.now.ensures.charge, h.kept.charged, c.new_pages-pages.ensures, c.in_ok-make_region.ensures.adds.room)) in
+    let became = subst (λ rs. RegionsBecame c.index_mut-process.result.now c.make_region.new.process (add_region (private_region blank c.args.watched c.args.kind c.args.prot c.args.range) rs)) h.same c.in_ok-make_region.ensures.changed in
     still_kept h c.make_region.new.process _ c.take.new.commit _ became done.stands done.charged c.requires.room
     (omega (arith, ap (λ (k : CommitOf). k.charge) c.take.ensures, h.kept.charged, c.new_pages-pages.ensures)) (ap (λ (k : CommitOf). k.limit) c.take.ensures)
 
@@ -65,21 +63,21 @@ pub returns-clause-ok : goal.returns-clause-ok
 returns-clause-ok g c q lives =
     let h = held g (goal.at.returns-clause-ok g c).After-index_mut-process in
     h.changed c.make_region.new.process q (add_region (private_region blank c.args.watched c.args.kind c.args.prot c.args.range) q.regions)
-    (subst (λ rs. Became c.index_mut-process.result.now c.make_region.new.process (add_region (private_region blank c.args.watched c.args.kind c.args.prot c.args.range) rs)) (regions_by h q lives) c.in_ok-make_region.ensures.changed) lives
+    (subst (λ rs. RegionsBecame c.index_mut-process.result.now c.make_region.new.process (add_region (private_region blank c.args.watched c.args.kind c.args.prot c.args.range) rs)) (regions_by h q lives) c.in_ok-make_region.ensures.changed) lives
 
-pub returns-clause-settled : goal.returns-clause-settled
-returns-clause-settled g c =
-    let h = held g (goal.at.returns-clause-settled g c).After-index_mut-process in
-    let done = reserve_done c.args.self.now c.args.pid h.process c.args.range _ _ _ _ h.lives h.kept.sound c.requires.fits c.args.watched c.args.kind c.args.prot (c.requires.free h.process h.lives) c.requires.granule c.requires.some c.requires.prot
-    c.in_ok-make_region.ensures.stored c.in_ok-make_region.ensures.counted (omega (arith, c.now.ensures.charge, h.kept.charged, c.new_pages-pages.ensures, c.in_ok-make_region.ensures.room)) in
-    settled_as (returns-clause-ok g c h.process h.lives) done.settled
+pub returns-clause-settles : goal.returns-clause-settles
+returns-clause-settles g c =
+    let h = held g (goal.at.returns-clause-settles g c).After-index_mut-process in
+    let done = reserve_done c.args.self.now c.args.pid h.process c.args.range _ _ _ _ h.lives h.kept.sound c.requires.ready.fits c.args.watched c.args.kind c.args.prot (c.requires.new h.process h.lives).free (c.requires.new h.process h.lives).granule (c.requires.new h.process h.lives).some c.requires.prot
+    c.in_ok-make_region.ensures.adds.stored c.in_ok-make_region.ensures.adds.counted (omega (arith, c.now.ensures.charge, h.kept.charged, c.new_pages-pages.ensures, c.in_ok-make_region.ensures.adds.room)) in
+    record { err = tt; settled = settled_as (returns-clause-ok g c h.process h.lives) done.settled }
 
 -- the pages are user pages
 stands : (g : given.Over) (c : After-index_mut-process g) → StandsFrom 0 (2 ^ 32) c.args.range
 stands g c =
     let range : Range = c.args.range in
     let h = held g c in
-    let user = (parts (are_user_pages range) (not (list_any (meets range) (ranges_of h.process.regions))) (c.requires.free h.process h.lives)).0 in
+    let user = (parts (are_user_pages range) (not (list_any (meets range) (ranges_of h.process.regions))) (c.requires.new h.process h.lives).free).0 in
     let end = leb-true (end_of range) end_of_user_pages (parts (nat_le first_user_page range.first) (nat_le (end_of range) end_of_user_pages) user).1 in
     (omega arith, omega (arith, end))
 

@@ -4,7 +4,7 @@ use Rattle.mm_world.specs.Contents.{Tables}
 use Rattle.mm_world.specs.Find.{region_with}
 use Rattle.mm_world.specs.Keys.{committed_at}
 use Rattle.mm_world.proofs.Finding.{committed_is}
-use Rattle.mm_tables.specs.Fits.{Fits}
+use Rattle.mm_tables.specs.Fits.{FitsTables}
 use Rattle.mm_tables.proofs.OneRow.{guard_stands, guard_charge, guard_moved, row_changed, row_kept}
 use Rattle.mm_tables.proofs.Standing.{Held, held_by}
 use Rattle.mm_tables.proofs.tables.Tables.take_guard_off.Goals as goal
@@ -35,5 +35,5 @@ pub returns-clause-fits : goal.returns-clause-fits
 returns-clause-fits c contents s f =
     let h = held (goal.at.returns-clause-fits c).After-index_mut in
     let k = some_found (committed_at c.args.self.now h.process.regions c.args.page) (c.requires.committed h.process h.lives) in
-    subst (λ (t : Tables). Fits t contents s) (sym (row_changed h c.take_guard_off.new.process c.args.page (λ row. record row { guard = false }) c.take_guard_off.ensures.changed h.process k.0 h.lives k.1))
+    subst (λ (t : Tables). FitsTables t contents s) (sym (row_changed h c.take_guard_off.new.process c.args.page (λ row. record row { guard = false }) c.take_guard_off.ensures.changed h.process k.0 h.lives k.1))
     (guard_moved c.args.self.now c.args.pid h.process c.args.page k.0 h.lives k.1 h.kept.sound contents s f)

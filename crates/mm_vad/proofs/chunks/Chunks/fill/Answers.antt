@@ -4,7 +4,7 @@ use Rattle.std.proofs.Common.{rules}
 use Rattle.std.proofs.lemmas.List.{get_or_read, set-get_or}
 use Rattle.mm_vad.specs.declared.pages.Row.{Row}
 use Rattle.mm_vad.specs.declared.chunks.Chunk.TheVariants as chunk
-use Rattle.mm_vad.specs.Chunks.{chunks_of, AreWritten, place_after, places_after, filled}
+use Rattle.mm_vad.specs.Chunks.{chunks_of, AreWritten, place_after, places_after, filled_rows}
 use Rattle.mm_vad.proofs.Chunked.{inside, stands, rows_read, place_read, room_left, written_out, chunk_written, rows_written}
 use Rattle.mm_vad.proofs.Joined.{equal_part, equal_unless_other, filled_same, filled_whole}
 use Rattle.mm_vad.proofs.chunks.Chunks.fill.Goals as goal
@@ -45,7 +45,7 @@ pub invariant_of-self-then-ne : goal.invariant_of-self-then-ne
 invariant_of-self-then-ne c =
     let s = c.self.inside in
     let new = c.write_out-place.new.places in
-    let rows = filled (replicate 512 c.in-Equal.before) c.args.at c.args.n c.args.row in
+    let rows = filled_rows (replicate 512 c.in-Equal.before) c.args.at c.args.n c.args.row in
     let there = inside s.chunks.items s.places.items c.args.self.now c.args.index c.self.view_is c.requires.there in
     let e = place_read s.chunks.items s.places.items c.args.self.now c.args.index _ (chunk.Equal c.in-Equal.before c.in-Equal.place) c.self.view_is c.requires.there c.index.ensures c.in-Equal.is in
     subst (λ (k : ℕ). AreWritten (set s.chunks.items c.args.index (chunk.Each k)) new.items (vec_capacity new)) (sym c.write_out-place.ensures.place)
@@ -58,15 +58,15 @@ returns-in-Each c =
     let there = inside s.chunks.items s.places.items c.args.self.now c.args.index c.self.view_is c.requires.there in
     let e = place_read s.chunks.items s.places.items c.args.self.now c.args.index _ (chunk.Each c.in-Each.place) c.self.view_is c.requires.there c.index.ensures c.in-Each.is in
     ap (λ (rs : List Row). chunks_of s.chunks.items (set s.places.items c.in-Each.place rs)) c.fill_in.ensures
-    ∙ rows_written s.chunks.items s.places.items _ c.args.index c.in-Each.place (λ (rs : List Row). filled rs c.args.at c.args.n c.args.row) _ c.self.invariant there
+    ∙ rows_written s.chunks.items s.places.items _ c.args.index c.in-Each.place (λ (rs : List Row). filled_rows rs c.args.at c.args.n c.args.row) _ c.self.invariant there
     (stands s.chunks.items c.args.index _ (chunk.Each c.in-Each.place) c.index.ensures c.in-Each.is)
     (get_or_read s.places.items c.in-Each.place _ (c.self.invariant.below c.args.index c.in-Each.place e) c.index_mut.ensures.value [])
-    ∙ ap (λ (cs : List (List Row)). set cs c.args.index (filled (get_or cs c.args.index []) c.args.at c.args.n c.args.row)) c.self.view_is
+    ∙ ap (λ (cs : List (List Row)). set cs c.args.index (filled_rows (get_or cs c.args.index []) c.args.at c.args.n c.args.row)) c.self.view_is
 
 pub returns-then-ne : goal.returns-then-ne
 returns-then-ne c =
     let s = c.self.inside in
-    let rows = filled (replicate 512 c.in-Equal.before) c.args.at c.args.n c.args.row in
+    let rows = filled_rows (replicate 512 c.in-Equal.before) c.args.at c.args.n c.args.row in
     let there = inside s.chunks.items s.places.items c.args.self.now c.args.index c.self.view_is c.requires.there in
     let e = place_read s.chunks.items s.places.items c.args.self.now c.args.index _ (chunk.Equal c.in-Equal.before c.in-Equal.place) c.self.view_is c.requires.there c.index.ensures c.in-Equal.is in
     let was = rows_read s.chunks.items s.places.items c.args.self.now c.args.index _ (chunk.Equal c.in-Equal.before c.in-Equal.place) c.self.view_is c.requires.there c.index.ensures c.in-Equal.is in
@@ -74,7 +74,7 @@ returns-then-ne c =
     ∙ ap (λ (k : ℕ). chunks_of (set s.chunks.items c.args.index (chunk.Each k)) (places_after s.places.items c.in-Equal.place rows)) c.write_out-place.ensures.place
     ∙ chunk_written s.chunks.items s.places.items _ c.args.index c.in-Equal.place rows c.self.invariant there e
     ∙ ap (λ (cs : List (List Row)). set cs c.args.index rows) c.self.view_is
-    ∙ ap (λ (rs : List Row). set c.args.self.now c.args.index (filled rs c.args.at c.args.n c.args.row)) (sym was)
+    ∙ ap (λ (rs : List Row). set c.args.self.now c.args.index (filled_rows rs c.args.at c.args.n c.args.row)) (sym was)
 
 pub returns-else-ne : goal.returns-else-ne
 returns-else-ne c =

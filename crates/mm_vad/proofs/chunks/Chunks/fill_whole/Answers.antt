@@ -1,7 +1,7 @@
 use Rattle.std.proofs.Common.{◌≡◌, List, set, replicate, refl, sym, ap, ◌∙◌, arith, length-set}
 use Rattle.mm_vad.specs.declared.pages.Row.{Row}
 use Rattle.mm_vad.specs.declared.chunks.Chunk.TheVariants as chunk
-use Rattle.mm_vad.specs.Chunks.{place_of}
+use Rattle.mm_vad.specs.Chunks.{place_of_chunk}
 use Rattle.mm_vad.proofs.Chunked.{inside, place_read, places_kept, owned_same, chunk_filled}
 use Rattle.mm_vad.proofs.chunks.Chunks.fill_whole.Goals as goal
 
@@ -19,7 +19,7 @@ pub invariant_of-self : goal.invariant_of-self
 invariant_of-self c =
     let s = c.self.inside in
     let new = chunk.Equal c.args.row c.own_place-place.result in
-    let e : place_of s.chunks.items c.args.index ≡ c.own_place-place.result =
+    let e : place_of_chunk s.chunks.items c.args.index ≡ c.own_place-place.result =
     place_read s.chunks.items s.places.items c.args.self.now c.args.index c.index.result.now c.index.result.now c.self.view_is c.requires c.index.ensures refl ∙ sym c.own_place-place.ensures in
     places_kept s.chunks.items (set s.chunks.items c.args.index new) s.places.items s.places.items _ _ c.self.invariant
     (owned_same s.chunks.items c.args.index new e) (length-set s.chunks.items c.args.index new) refl (omega arith)

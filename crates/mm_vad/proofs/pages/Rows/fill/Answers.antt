@@ -1,6 +1,6 @@
 use Rattle.std.proofs.Common.{◌+◌, ◌≤◌, List, length, ap, ◌∙◌, arith}
 use Rattle.mm_vad.specs.declared.pages.Row.{Row}
-use Rattle.mm_vad.specs.Chunks.{filled}
+use Rattle.mm_vad.specs.Chunks.{filled_rows}
 use Rattle.mm_vad.proofs.Joined.{filled_none, filled-more}
 use Rattle.mm_vad.proofs.pages.Rows.fill.Goals as goal
 
@@ -13,6 +13,6 @@ loop-done-preserved c =
       omega (arith, c.fill_some-done.ensures.within, c.loop-done.invariant.0),
       omega (arith, c.fill_some-done.ensures.fits),
       c.fill_some-done.ensures.after
-          ∙ ap (λ (rs : List Row). filled rs (c.args.first + c.loop-done.done) c.fill_some-done.result c.args.row) c.loop-done.invariant.2
+          ∙ ap (λ (rs : List Row). filled_rows rs (c.args.first + c.loop-done.done) c.fill_some-done.result c.args.row) c.loop-done.invariant.2
           ∙ filled-more c.args.self.now c.args.first c.loop-done.done c.fill_some-done.result c.args.row more,
     )

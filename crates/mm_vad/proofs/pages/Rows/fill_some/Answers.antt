@@ -2,7 +2,7 @@ use Rattle.std.proofs.Common.{◌≡◌, ◌<◌, ◌≤◌, ◌+◌, ◌-◌, �
 use Rattle.std.proofs.lemmas.Nat.{div-add-mod', mod_below}
 use Rattle.std.proofs.lemmas.List.{take_all, take-append-le}
 use Rattle.mm_vad.specs.declared.pages.Row.{Row}
-use Rattle.mm_vad.specs.Chunks.{rows_joined, filled}
+use Rattle.mm_vad.specs.Chunks.{rows_joined, filled_rows}
 use Rattle.mm_vad.proofs.Joined.{length-joined, kept_within, kept_behind, length-filled, filled_within_chunk, filled_behind_chunks}
 use Rattle.mm_vad.proofs.pages.Rows.fill_some.Goals as goal
 
@@ -43,8 +43,8 @@ returns-then-index-whole-clause-after c =
     let at = c.args.first - c.count-whole.result * 512 in
     let high : length s.chunks ≤ c.args.first / 512 = omega (arith, c.count-whole.ensures, c.if-index-whole.true) in
     ap (rows_joined s.chunks) ((rest_filled c).1 ∙ c.fill_in.ensures)
-    ∙ ap (λ (rs : List Row). rows_joined s.chunks (filled rs at c.args.n c.args.row)) c.deref_mut.ensures.value
-    ∙ ap (λ (n : ℕ). rows_joined s.chunks (filled s.rest.items (c.args.first - n * 512) c.args.n c.args.row)) c.count-whole.ensures
+    ∙ ap (λ (rs : List Row). rows_joined s.chunks (filled_rows rs at c.args.n c.args.row)) c.deref_mut.ensures.value
+    ∙ ap (λ (n : ℕ). rows_joined s.chunks (filled_rows s.rest.items (c.args.first - n * 512) c.args.n c.args.row)) c.count-whole.ensures
     ∙ filled_behind_chunks s.chunks s.rest.items c.args.self.now c.args.first c.args.n c.args.row c.self.invariant.whole c.self.view_is high
     (omega (arith, c.requires.inside, high, div-add-mod' c.args.first 512, length-joined s.chunks s.rest.items c.self.invariant.whole, ap length c.self.view_is))
 

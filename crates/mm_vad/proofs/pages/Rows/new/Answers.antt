@@ -19,8 +19,8 @@ new-requires c = omega (arith, div-add-mod' c.args.n 512)
 pub invariant_of-result : goal.invariant_of-result
 invariant_of-result c = record {
   whole = subst AreWhole (sym c.in_ok-chunks.ensures) (whole-replicate (c.args.n / 512) (replicate 512 c.args.row) (length-replicate 512 c.args.row));
-  few = omega (arith, c.ranges.n.fits, ap length (made c.args.n c.args.row _ _ c.in_ok-chunks.ensures c.in_ok-rest.ensures), length-replicate c.args.n c.args.row);
+  few = omega (arith, c.ranges.n.fits, ap length (made c.args.n c.args.row _ _ c.in_ok-chunks.ensures (c.in_ok-rest.ensures.items_if_clones_equal (λ y e. e))), length-replicate c.args.n c.args.row);
 }
 
 pub returns : goal.returns
-returns c = made c.args.n c.args.row _ _ c.in_ok-chunks.ensures c.in_ok-rest.ensures
+returns c = made c.args.n c.args.row _ _ c.in_ok-chunks.ensures (c.in_ok-rest.ensures.items_if_clones_equal (λ y e. e))

@@ -1,11 +1,10 @@
 use Rattle.std.proofs.Common.{◌≡◌, List, sym, ap, ◌∙◌, subst}
-use Rattle.std.specs.Prelude.{nat_eq}
+use Rattle.std.specs.Prelude.{nat_eq, IsSome}
 use Rattle.std.specs.HashMap.{get}
 use Rattle.mm_vad.specs.declared.regions.Region.{Region}
 use Rattle.mm_vad.specs.Regions.{SpaceOf, IsSpace, region_with_base, remove_region}
 use Rattle.mm_vad.proofs.Held.{is_space, remove_none}
-use Rattle.mm_vad.proofs.Lookups.{none_with_base, with_base}
-use Rattle.mm_vad.proofs.Changes.{after_remove}
+use Rattle.mm_vad.proofs.Lookups.{none_with_base, is_with_base}
 use Rattle.mm_vad.proofs.spaces.Space.remove.Goals as goal
 
 pub returns-then-not-is_begun_at-clause-removed : goal.returns-then-not-is_begun_at-clause-removed
@@ -29,34 +28,9 @@ returns-then-not-is_begun_at-clause-sound c =
     let s = c.self.inside in
     subst (λ (v : SpaceOf). IsSpace v.regions) c.self.view_is (is_space (get nat_eq s.regions) s.taken.ranges c.self.invariant)
 
-pub invariant_of-self : goal.invariant_of-self
-invariant_of-self c =
+pub take_out-requires : goal.take_out-requires
+take_out-requires c =
     let s = c.self.inside in
     let base = c.args.base.0 in
-    let done = after_remove s.regions c.remove-2.new.self s.taken.ranges c.remove.new.self.ranges base c.self.invariant c.remove-2.ensures.updates
-    (ap (λ g. g.ranges) c.remove.ensures.after) c.remove.ensures.apart in
-    done.index
-
-pub returns-clause-removed : goal.returns-clause-removed
-returns-clause-removed c =
-    let s = c.self.inside in
-    let base = c.args.base.0 in
-    c.remove-2.ensures.value
-    ∙ sym (with_base (get nat_eq s.regions) s.taken.ranges c.self.invariant base (sym c.is_begun_at.ensures ∙ c.if-not-is_begun_at.false))
-    ∙ ap (λ (v : SpaceOf). region_with_base v.regions base) c.self.view_is
-
-pub returns-clause-after : goal.returns-clause-after
-returns-clause-after c =
-    let s = c.self.inside in
-    let base = c.args.base.0 in
-    let done = after_remove s.regions c.remove-2.new.self s.taken.ranges c.remove.new.self.ranges base c.self.invariant c.remove-2.ensures.updates
-    (ap (λ g. g.ranges) c.remove.ensures.after) c.remove.ensures.apart in
-    done.shown ∙ ap (λ (v : SpaceOf). remove_region v.regions base) c.self.view_is
-
-pub returns-clause-sound : goal.returns-clause-sound
-returns-clause-sound c =
-    let s = c.self.inside in
-    let base = c.args.base.0 in
-    let done = after_remove s.regions c.remove-2.new.self s.taken.ranges c.remove.new.self.ranges base c.self.invariant c.remove-2.ensures.updates
-    (ap (λ g. g.ranges) c.remove.ensures.after) c.remove.ensures.apart in
-    is_space (get nat_eq c.remove-2.new.self) c.remove.new.self.ranges done.index
+    subst IsSome (ap (λ (v : SpaceOf). region_with_base v.regions base) c.self.view_is)
+    (is_with_base (get nat_eq s.regions) s.taken.ranges c.self.invariant base (sym c.is_begun_at.ensures ∙ c.if-not-is_begun_at.false))

@@ -1,7 +1,7 @@
 use Rattle.std.proofs.Common.{ap, ◌∙◌}
-use Rattle.mm_words.specs.Directory.{words_of}
+use Rattle.mm_words.specs.Directory.{directory_words}
 use Rattle.mm_words.proofs.LeafLemmas.{words_of-none}
 use Rattle.mm_words.proofs.page_tables.Table.new.Goals as goal
 
 pub returns : goal.returns
-returns c = ap words_of c.new.ensures.items ∙ words_of-none
+returns c = ap directory_words c.new.ensures.items ∙ words_of-none

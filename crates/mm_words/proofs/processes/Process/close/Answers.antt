@@ -1,7 +1,7 @@
 use Rattle.std.proofs.Common.{ℕ, false, sym, subst}
 use Rattle.std.specs.Ordering.{nat_cmp}
 use Rattle.std.specs.FinMap.{FinMap}
-use Rattle.mm_words.specs.Processes.{IsProcess}
+use Rattle.mm_words.specs.Processes.{IsKeptProcess}
 use Rattle.mm_words.proofs.KeptProcesses.{close_kept, no_word, none_resident}
 use Rattle.mm_words.proofs.processes.Process.close.Goals as goal
 
@@ -14,6 +14,6 @@ release-requires c = none_resident c.args.self.now.table c.args.self.now.set c.a
 pub invariant_of-self : goal.invariant_of-self
 invariant_of-self c = record {
   kept =
-      subst (λ (t : FinMap nat_cmp ℕ). IsProcess t c.release.new.self false) (sym c.give_back.ensures)
+      subst (λ (t : FinMap nat_cmp ℕ). IsKeptProcess t c.release.new.self false) (sym c.give_back.ensures)
       (close_kept c.args.self.now.table c.args.self.now.set c.args.self.now.is_open c.args.self.now.kept c.requires c.release.new.self c.release.ensures);
 }

@@ -1,12 +1,12 @@
 use Rattle.std.proofs.Common.{refl, false}
 use Rattle.mm_types.specs.declared.numbers.Place.{Place}
-use Rattle.mm_words.specs.Words.{place_of}
+use Rattle.mm_words.specs.Words.{place_from}
 use Rattle.mm_words.specs.Changes.{bound_of}
 use Rattle.mm_words.proofs.TableChanges.{opened_words, ages_kept, aside_stays, place_reads}
 use Rattle.mm_words.proofs.tables.Words.close_process.Goals as goal
 
 pub close-requires : goal.close-requires
-close-requires c q = let d : Place = place_of c.args.pid (record { 0 = q }) in
+close-requires c q = let d : Place = place_from c.args.pid (record { 0 = q }) in
     place_reads c.args.self.now.processes.items c.index_of-at.result c.index_mut.result.now c.index_mut.result.now c.index_of-at.ensures.within c.index_mut.ensures.value c.args.pid.0 c.index_of-at.ensures.next bound_of false d refl false (c.requires.unbound q)
 
 pub invariant_of-self-clause-kept : goal.invariant_of-self-clause-kept

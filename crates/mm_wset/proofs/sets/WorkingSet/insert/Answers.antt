@@ -1,7 +1,7 @@
 use Rattle.std.proofs.Common.{◌≡◌, None, sym, ap, ◌∙◌}
 use Rattle.std.specs.FinMap as finite
 use Rattle.mm_wset.specs.Ages.{WorkingSetOf}
-use Rattle.mm_wset.specs.Held.{ages_of}
+use Rattle.mm_wset.specs.Held.{ages_by_group}
 use Rattle.mm_wset.proofs.SetLemmas.{insert_vacant, insert_keeps, insert_view}
 use Rattle.mm_wset.proofs.sets.WorkingSet.insert.Goals as goal
 
@@ -9,7 +9,7 @@ pub invariant_of-self : goal.invariant_of-self
 invariant_of-self c =
     let s = c.self.inside in
     let i = c.insert_reserved-place in
-    let absent : finite.get (ages_of s.newest s.pages.pages) c.args.v.0 ≡ None = ap (λ (w : WorkingSetOf). finite.get w.ages c.args.v.0) c.self.view_is ∙ c.requires.absent in
+    let absent : finite.get (ages_by_group s.newest s.pages.pages) c.args.v.0 ≡ None = ap (λ (w : WorkingSetOf). finite.get w.ages c.args.v.0) c.self.view_is ∙ c.requires.absent in
     insert_keeps _ s.places i.new.self s.newest s.pages.pages _ _ s.rounds s.used_in.items i.result c.args.v.0 c.self.invariant i.ensures.was_vacant i.ensures.updates absent
     c.put_in.new.pages.pages _ _ c.use_in.result i.ensures.len i.ensures.capacity i.ensures.key_in_range c.put_in.ensures.pages c.put_in.ensures.spare c.put_in.ensures.room c.use_in.ensures
 
@@ -17,7 +17,7 @@ pub returns-clause-vacant : goal.returns-clause-vacant
 returns-clause-vacant c =
     let s = c.self.inside in
     let i = c.insert_reserved-place in
-    let absent : finite.get (ages_of s.newest s.pages.pages) c.args.v.0 ≡ None = ap (λ (w : WorkingSetOf). finite.get w.ages c.args.v.0) c.self.view_is ∙ c.requires.absent in
+    let absent : finite.get (ages_by_group s.newest s.pages.pages) c.args.v.0 ≡ None = ap (λ (w : WorkingSetOf). finite.get w.ages c.args.v.0) c.self.view_is ∙ c.requires.absent in
     ap (λ (w : WorkingSetOf). finite.get w.places i.result) (sym c.self.view_is)
     ∙ insert_vacant _ s.places i.new.self s.newest s.pages.pages _ _ s.rounds s.used_in.items i.result c.args.v.0 c.self.invariant i.ensures.was_vacant i.ensures.updates absent
 
@@ -25,7 +25,7 @@ pub returns-clause-set : goal.returns-clause-set
 returns-clause-set c =
     let s = c.self.inside in
     let i = c.insert_reserved-place in
-    let absent : finite.get (ages_of s.newest s.pages.pages) c.args.v.0 ≡ None = ap (λ (w : WorkingSetOf). finite.get w.ages c.args.v.0) c.self.view_is ∙ c.requires.absent in
+    let absent : finite.get (ages_by_group s.newest s.pages.pages) c.args.v.0 ≡ None = ap (λ (w : WorkingSetOf). finite.get w.ages c.args.v.0) c.self.view_is ∙ c.requires.absent in
     insert_view _ s.places i.new.self s.newest s.pages.pages _ _ s.rounds s.used_in.items i.result c.args.v.0 c.self.invariant i.ensures.was_vacant i.ensures.updates absent
     s.min s.max s.is_reserved c.put_in.new.pages.pages c.put_in.ensures.pages
     ∙ ap (λ (w : WorkingSetOf). record w { ages = finite.insert w.ages c.args.v.0 0; places = finite.insert w.places i.result c.args.v.0 }) c.self.view_is

@@ -1,7 +1,7 @@
 use Rattle.std.proofs.Common.{sym, subst}
 use Rattle.std.specs.Prelude.{IsSome, option_map}
 use Rattle.std.specs.FinMap as finite
-use Rattle.mm_wset.specs.Ages.{WorkingSetOf, IsOldest, NoneFollows}
+use Rattle.mm_wset.specs.Ages.{WorkingSetOf, IsOldestInSet, NoneFollowsInSet}
 use Rattle.mm_wset.proofs.AgeLemmas.{some_group, known_group}
 use Rattle.mm_wset.proofs.OldestLemmas.{Answers, answered_none, answered_some, some_answered, none_answered}
 use Rattle.mm_wset.proofs.sets.WorkingSet.oldest.Goals as goal
@@ -24,7 +24,7 @@ returns-in-Some-found c =
           (subst (λ (s : WorkingSetOf). IsSome (finite.get s.ages w.in-Some.v.0)) (sym c.self.view_is) (c.requires w.in-Some.v w.in-Some.is))
           w.found-is w.next_after-found.ensures
     ] in
-    subst (λ (s : WorkingSetOf). IsOldest s.ages (option_map (λ w. w.0) c.args.after) c.in-Some-found.first.page) c.self.view_is
+    subst (λ (s : WorkingSetOf). IsOldestInSet s.ages (option_map (λ w. w.0) c.args.after) c.in-Some-found.first.page) c.self.view_is
     (some_answered s.newest s.pages.pages (option_map (λ w. w.0) c.args.after) c.match-after.found c.in-Some-found.first answered c.in-Some-found.is)
 
 pub returns-in-None-found : goal.returns-in-None-found
@@ -37,5 +37,5 @@ returns-in-None-found c =
           (subst (λ (s : WorkingSetOf). IsSome (finite.get s.ages w.in-Some.v.0)) (sym c.self.view_is) (c.requires w.in-Some.v w.in-Some.is))
           w.found-is w.next_after-found.ensures
     ] in
-    subst (λ (s : WorkingSetOf). NoneFollows s.ages (option_map (λ w. w.0) c.args.after)) c.self.view_is
+    subst (λ (s : WorkingSetOf). NoneFollowsInSet s.ages (option_map (λ w. w.0) c.args.after)) c.self.view_is
     (none_answered s.newest s.pages.pages (option_map (λ w. w.0) c.args.after) c.match-after.found answered c.in-None-found.is)

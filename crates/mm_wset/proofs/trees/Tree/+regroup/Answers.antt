@@ -3,7 +3,7 @@ use Rattle.mm_wset.specs.declared.trees.Grouped.{Grouped}
 use Rattle.mm_wset.specs.declared.trees.Node.{Node}
 use Rattle.mm_wset.specs.Shape.{TreeOf}
 use Rattle.mm_wset.specs.Nodes.{tree_of}
-use Rattle.mm_wset.specs.GroupedPages.{IsSorted, moved}
+use Rattle.mm_wset.specs.GroupedPages.{IsSorted, regrouped}
 use Rattle.mm_wset.proofs.PageLemmas.{sorted_front, sorted_back, shorter, moved_left, moved_middle, moved_right}
 use Rattle.mm_wset.proofs.trees.Tree.+regroup.Goals as goal
 
@@ -33,7 +33,7 @@ returns-then-page-deref-clause-pages t c =
     let h : c.args.page < n.member.page = omega (arith, c.if-page-deref.true, ap (λ n. n.member.page) c.deref.ensures, ap (λ (x : Node). x.member.page) c.deref_mut.ensures.value) in
     ap all_of c.renew.ensures.same ∙ ap all_of c.deref_mut-then-page-deref.ensures.value
     ∙ ap (λ xs. xs ++ n.member ∷ n.right.pages) c.regroup.ensures.pages
-    ∙ sym (ap (map (moved c.args.page c.args.group)) e ∙ moved_left c.args.page c.args.group 0 n.left.pages n.member n.right.pages (subst (IsSorted 0) e c.requires.sorted) h)
+    ∙ sym (ap (map (regrouped c.args.page c.args.group)) e ∙ moved_left c.args.page c.args.group 0 n.left.pages n.member n.right.pages (subst (IsSorted 0) e c.requires.sorted) h)
 
 pub returns-then-deref-page-clause-pages : goal.returns-then-deref-page-clause-pages
 returns-then-deref-page-clause-pages t c =
@@ -42,7 +42,7 @@ returns-then-deref-page-clause-pages t c =
     let h : n.member.page < c.args.page = omega (arith, c.if-deref-page.true, ap (λ n. n.member.page) c.deref-2.ensures, ap (λ (x : Node). x.member.page) c.deref_mut-then-deref-page.ensures.value) in
     ap all_of c.renew-then-deref-page.ensures.same ∙ ap all_of c.deref_mut-then-deref-page-2.ensures.value
     ∙ ap (λ xs. n.left.pages ++ n.member ∷ xs) c.regroup-then-deref-page.ensures.pages
-    ∙ sym (ap (map (moved c.args.page c.args.group)) e ∙ moved_right c.args.page c.args.group 0 n.left.pages n.member n.right.pages (subst (IsSorted 0) e c.requires.sorted) h)
+    ∙ sym (ap (map (regrouped c.args.page c.args.group)) e ∙ moved_right c.args.page c.args.group 0 n.left.pages n.member n.right.pages (subst (IsSorted 0) e c.requires.sorted) h)
 
 pub returns-clause-pages : goal.returns-clause-pages
 returns-clause-pages t c =
@@ -51,5 +51,5 @@ returns-clause-pages t c =
     let h : n.member.page ≡ c.args.page = omega (arith, c.if-page-deref.false, c.if-deref-page.false, ap (λ n. n.member.page) c.deref.ensures, ap (λ n. n.member.page) c.deref-2.ensures, ap (λ (x : Node). x.member.page) c.deref_mut-2.ensures.value) in
     let new : Grouped = record { page = n.member.page; group = c.args.group } in
     ap all_of c.renew-2.ensures.same ∙ ap all_of c.deref_mut-3.ensures.value
-    ∙ sym (ap (map (moved c.args.page c.args.group)) e
+    ∙ sym (ap (map (regrouped c.args.page c.args.group)) e
     ∙ moved_middle c.args.page c.args.group 0 n.left.pages n.member new n.right.pages (subst (IsSorted 0) e c.requires.sorted) h refl refl)
