@@ -1,7 +1,7 @@
 ghost use Rattle.std.specs.Prelude.{◌≡◌, ◌≤◌, OnOk, IfSome, option_map, slice_index};
 ghost use Rattle.indexmap.specs.IndexMap.{get};
 ghost use Rattle.mm_life.specs.Life.{same_place};
-ghost use Rattle.mm_moves.specs.Standing.{life as life_of};
+ghost use Rattle.mm_replay.specs.Standing.{life as life_of};
 ghost use Rattle.mm_ages.specs.Ages.{no_ages, made_valid, made_invalid, touched, aged, keeping};
 ghost use Rattle.mm_ages.specs.Ages.{after_move};
 ghost use Rattle.mm_ages.specs.Keeping.{AreEarlier};
@@ -13,7 +13,7 @@ ghost use Rattle.mm_ages.specs.Reasons.{reason_at};
 use crate::reasons::{Reason, is_above_min};
 use crate::stamps::{count_of, drop_page, kept_by, make_older, set_kept, stamp_of, touch_page};
 use indexmap::IndexMap;
-use mm_moves::Life;
+use mm_replay::Life;
 use mm_script::parse_line;
 use mm_types::{AccessSpec, Event, Move, NoMemory, Pid, Place, Tid, Vpn};
 use std::alloc::Global;

@@ -5,8 +5,6 @@
 mod ages;
 mod reasons;
 mod stamps;
-#[cfg(test)]
-mod tests;
 
 pub use ages::Ages;
 pub use reasons::{Reason, put_reason};

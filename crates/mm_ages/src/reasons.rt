@@ -29,7 +29,7 @@ pub(crate) fn is_above_min(set: Option<ResidentSet>) -> bool
 }
 
 /// Writes a number between two texts.
-#[tactic(auto, using(mm_moves::proofs::Onto::onto))]
+#[tactic(auto, using(mm_text::proofs::DigitCounts::joined))]
 fn put_number(front: &[u8], number: u64, end: &[u8], text: &mut Vec<u8>) -> Result<(), NoMemory>
     ensures { OnOk result (text.new.items
         ≡ text.old.items ++ (front.now ++ (decimal number ++ end.now))) }
@@ -65,7 +65,7 @@ fn put_process(reason: &Reason, text: &mut Vec<u8>) -> Result<(), NoMemory>
 /// Writes, in brackets and behind a space, why a page was replaced, or was trimmed for want of
 /// frames; nothing behind a move of another class. The only error is that memory is refused; then a
 /// part may have been written.
-#[tactic(auto, using(mm_moves::proofs::Onto::onto))]
+#[tactic(auto, using(mm_text::proofs::DigitCounts::joined))]
 pub fn put_reason(class: Class, reason: &Reason, text: &mut Vec<u8>) -> Result<(), NoMemory>
     ensures { OnOk result (text.new.items ≡ text.old.items ++ reason_words class reason.now) }
 {

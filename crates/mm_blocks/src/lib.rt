@@ -155,6 +155,3 @@ pub trait Inject {
         ensures faults { faults self.new ≡ faults self.old }
         ensures loans { loans self.new ≡ loans self.old };
 }
-
-#[cfg(test)]
-mod tests;

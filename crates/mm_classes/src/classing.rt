@@ -3,7 +3,7 @@ ghost use Rattle.mm_life.specs.Frames.{has_request, is_again};
 ghost use Rattle.mm_life.specs.Legal.{is_access, is_touch, is_unbind, is_writer, is_zeroer};
 ghost use Rattle.mm_life.specs.Legal.{touches, is_at_max, shows_shared, is_short, owner_is};
 ghost use Rattle.mm_life.specs.Life.{is_shared};
-ghost use Rattle.mm_moves.specs.Standing.{life};
+ghost use Rattle.mm_replay.specs.Standing.{life};
 ghost use Rattle.mm_classes.specs.Classes.{class_of_add, class_of_drop, class_of_clear};
 ghost use Rattle.mm_classes.specs.Classes.{class_of_give, class_of_read, class_of_got};
 ghost use Rattle.mm_classes.specs.Classes.{class_of_bad, class_of_soft, class_of_map};
@@ -16,7 +16,7 @@ ghost use Rattle.mm_classes.specs.Marking.{marks_of};
 use crate::classes::Class;
 use crate::marks::Marks;
 use mm_life::ResidentSet;
-use mm_moves::{FrameList, Life};
+use mm_replay::{FrameList, Life};
 use mm_types::{Block, Frame, Held, Key, LineKind, Move, Pid, Place, Record, Request};
 
 // ---- kinds of lines

@@ -145,7 +145,8 @@ pub fn sentence(class: Class) -> &'static [u8]
         Class::PlaceEnds => b"{p} ends: frame {f} leaves the working set of process {i}{goes}",
         Class::Trimmed => b"{p} is trimmed from the working set of process {i}: frame {f}{goes}",
         Class::TrimmedForWantOfFrames => {
-            b"{p} is trimmed from the working set of process {i} for want of frames: frame {f}{goes}"
+            b"{p} is trimmed from the working set of process {i} for want of frames: \
+            frame {f}{goes}"
         }
         Class::Replaced => {
             b"{p} is replaced: the working set of process {i} is full: frame {f}{goes}"
@@ -162,7 +163,8 @@ pub fn sentence(class: Class) -> &'static [u8]
         Class::WriteByFlush => b"flush writes {k}: frame {f} to {home}",
         Class::WriteDone => b"write-out of {k} is complete: frame {f} is clean{goes}",
         Class::WriteDoneChanged => {
-            b"write-out of {k} is complete, but it was changed meanwhile: frame {f} stays changed{goes}"
+            b"write-out of {k} is complete, but it was changed meanwhile: \
+            frame {f} stays changed{goes}"
         }
         Class::WriteDoneDeleted => {
             b"write-out of frame {f} is complete; its page was deleted, so the frame is free"

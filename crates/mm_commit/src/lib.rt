@@ -4,7 +4,5 @@
 #![tactic(auto)]
 
 mod charges;
-#[cfg(test)]
-mod tests;
 
 pub use charges::{Commit, OverLimit};

@@ -21,7 +21,8 @@ use Rattle.mm_paging.specs.Lines.{AccessesBy, Does, asks_beside, with_line}
 use Rattle.mm_pages.specs.declared.pages.Pages.{Ghosts as PagesGhosts}
 use Rattle.mm_world.specs.Contents.{Tables}
 use Rattle.mm_core.specs.Lining.{Lined}
-use Rattle.mm_core.specs.Over.{MarkedOver, PassesOver, world_over}
+use Rattle.mm_core.specs.LinePromises.{AnswersLine}
+use Rattle.mm_core.specs.Over.{DecidedOver, MarkedOver, PassesOver, world_over}
 use Rattle.mm_core.specs.Noting.{keeps_keys, EachMove, LineWent, TellsLine}
 use Rattle.mm_core.proofs.Begun.{paged}
 
@@ -91,3 +92,13 @@ module _ {G : Type 0} (p : PagesGhosts G) where
       (λ paging.
       subst (λ (b : Bool). LineWent b (move.At n kind) tells (p.store x) (p.store y) (p.behind x) (p.behind y)) (sym bare)
       (marked_lined plain (world_over p t x) e n a (world_over p after y) p.unpaged (p.store x) (p.store y) (p.behind x) (p.behind y) accesses passes paging))
+
+  -- and decided
+  pub access_answers : (plain : Bool) (e f : Event) → f ≡ e → asks_beside e ≡ false → (n : ℕ) (t : Tables) (x : G) (a : Answer) (after : Tables) (y : G)
+      → ((d : Behind) (ms : List Move) → Does (world_over p t x) e a (world_over p after y) (p.store y).report d ms (p.behind y) → AccessesBy plain (aim_of (world_over p t x) d.life e) a (p.store y).report d ms (p.behind y))
+      → DecidedOver p e n t x a after y → PassesOver p (Lined (world_over p t x) e n a (world_over p after y) (p.store y).report) x y → AnswersLine p f n t x a after y
+  access_answers plain e f is bare n t x a after y accesses decided passes =
+      record {
+        decided = subst (λ (l : Event). DecidedOver p l n t x a after y) (sym is) decided;
+        marked = access_marked plain e f is bare n t x a after y accesses passes;
+      }

@@ -4,6 +4,7 @@ pub mod Making
 pub mod With
 pub mod Charged
 pub mod Lines
+pub mod LinesDone
 pub mod Keys
 pub mod Room
 pub mod Fitting
@@ -20,6 +21,7 @@ pub mod Forgotten
 pub mod Formed
 pub mod Pieces
 pub mod AccessPieces
+pub mod Admitted
 pub mod AccessForms
 pub mod LineForms
 pub mod ThreadForms

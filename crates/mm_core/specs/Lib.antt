@@ -11,3 +11,5 @@ pub mod Lining
 pub mod Noting
 pub mod Over
 pub mod Promise
+pub mod LinePromises
+pub mod AccessPromises

@@ -1,19 +1,18 @@
-ghost use Rattle.std.specs.Prelude.{◌≡◌, ◌≤◌, ◌+◌, ◌%◌, true, false, Option, Some, length};
+ghost use Rattle.std.specs.Prelude.{◌≡◌, ◌≤◌, ◌+◌, ◌%◌, true, false, Option, length};
 ghost use Rattle.mm_types.specs.declared.events.Event.TheVariants as event;
 ghost use Rattle.mm_types.specs.declared.protections.Access.TheVariants as access_kind;
 ghost use Rattle.mm_types.specs.declared.numbers.Key.{Key};
 ghost use Rattle.mm_types.specs.Address.{page_of};
 ghost use Rattle.mm_world.specs.World.{Page};
 ghost use Rattle.mm_world.specs.Access.{ReadOf, WriteOf, Execute};
-ghost use Rattle.mm_world.specs.WellFormed.{Spaces};
-ghost use Rattle.mm_pages.specs.Reports.{IsBegun};
-ghost use Rattle.mm_pages.specs.Conditions.{place_at, touch, copying, IsReady, MayAccess};
+ghost use Rattle.mm_pages.specs.Conditions.{place_at, touch, copying};
 ghost use Rattle.mm_pages.specs.Store.{StoreOf};
-ghost use Rattle.mm_tables.specs.Fits.{FitsTables, key_at};
-ghost use Rattle.mm_core.specs.Accessing.{Admits, Accessed, IsHad, Marks};
-ghost use Rattle.mm_core.specs.Answering.{Answered};
+ghost use Rattle.mm_tables.specs.Fits.{FitsTables};
+ghost use Rattle.mm_core.specs.Accessing.{Admits, Marks};
 ghost use Rattle.mm_core.specs.Lining.{Lined};
-ghost use Rattle.mm_core.specs.Over.{DecidedOver, KeepsOver, PassesOver, aim_over, world_over};
+ghost use Rattle.mm_core.specs.Over.{DecidedOver, PassesOver, world_over};
+ghost use Rattle.mm_core.specs.LinePromises.{IsNext};
+ghost use Rattle.mm_core.specs.AccessPromises.{LieInPage, CanAccess, AccessDone};
 
 use crate::beginning::begin_access;
 use crate::fetching::{fetch, put, put_copy, read_bytes};
@@ -23,7 +22,6 @@ use mm_tables::{CommittedRow, Tables};
 use mm_types::{Access, Answer, ByteBuf, Code, PAGE_SIZE, Pid, Raise};
 
 /// Reads 1 to 64 bytes, which the row of their page permits.
-#[tactic(auto, using(crate::proofs::Readiness::had_ready))]
 pub(crate) fn read_at<G: Pages>(
     t: &Tables,
     g: &mut G,
@@ -33,25 +31,11 @@ pub(crate) fn read_at<G: Pages>(
     len: u32,
     answer: &mut Answer,
 )
-    requires keeps { KeepsOver G.Pages t.now g.old }
-    requires spaces { Spaces t.now }
-    requires admitted { Admits t.now pid.0 addr access_kind.Read row }
-    requires at { key_at t.now (place_at pid (page_of addr)) ≡ Some row.key }
-    requires may { MayAccess (G.store g.old) (place_at pid (page_of addr)) (touch row.key) }
-    requires begun { IsBegun (G.store g.old).report }
+    requires can { CanAccess G.Pages access_kind.Read t.now pid addr row (touch row.key) g.old }
     requires some { 1 ≤ len }
-    requires few { len ≤ 64 }
-    requires inside { addr % 4096 + len ≤ 4096 }
-    ensures accessed { Accessed G.unpaged (world_over G.Pages t.now g.old) pid.0 addr (ReadOf len)
-        (G.store g.old) (G.store g.new) answer.new (world_over G.Pages t.now g.new) }
-    ensures keeps { KeepsOver G.Pages t.now g.new }
-    ensures had { IsReady (G.store g.old) (place_at pid (page_of addr)) (touch row.key) →
-        IsHad (touch row.key) (G.store g.new).report }
-    ensures line { (G.store g.new).line ≡ (G.store g.old).line }
-    ensures passes { PassesOver G.Pages
-        (Answered (aim_over G.Pages t.now g.old pid addr (ReadOf len))
-        (IsReady (G.store g.old) (place_at pid (page_of addr)) (touch row.key)) answer.new
-        (G.store g.new).report) g.old g.new }
+    requires lie { LieInPage addr len }
+    ensures done { AccessDone G.Pages (ReadOf len) pid addr (touch row.key) t.now g.old
+        answer.new t.now g.new }
     ensures loans { G.loans g.new ≡ G.loans g.old }
 {
     match read_bytes(t, g, pid, addr, row.key, len) {
@@ -62,7 +46,6 @@ pub(crate) fn read_at<G: Pages>(
 
 /// Executes what the row of a page permits. No byte is read, but a page that cannot be had raises
 /// as for a read.
-#[tactic(auto, using(crate::proofs::Readiness::had_ready))]
 pub(crate) fn execute_at<G: Pages>(
     t: &Tables,
     g: &mut G,
@@ -71,22 +54,9 @@ pub(crate) fn execute_at<G: Pages>(
     row: CommittedRow,
     answer: &mut Answer,
 )
-    requires keeps { KeepsOver G.Pages t.now g.old }
-    requires spaces { Spaces t.now }
-    requires admitted { Admits t.now pid.0 addr access_kind.Execute row }
-    requires at { key_at t.now (place_at pid (page_of addr)) ≡ Some row.key }
-    requires may { MayAccess (G.store g.old) (place_at pid (page_of addr)) (touch row.key) }
-    requires begun { IsBegun (G.store g.old).report }
-    ensures accessed { Accessed G.unpaged (world_over G.Pages t.now g.old) pid.0 addr Execute
-        (G.store g.old) (G.store g.new) answer.new (world_over G.Pages t.now g.new) }
-    ensures keeps { KeepsOver G.Pages t.now g.new }
-    ensures had { IsReady (G.store g.old) (place_at pid (page_of addr)) (touch row.key) →
-        IsHad (touch row.key) (G.store g.new).report }
-    ensures line { (G.store g.new).line ≡ (G.store g.old).line }
-    ensures passes { PassesOver G.Pages
-        (Answered (aim_over G.Pages t.now g.old pid addr Execute)
-        (IsReady (G.store g.old) (place_at pid (page_of addr)) (touch row.key)) answer.new
-        (G.store g.new).report) g.old g.new }
+    requires can { CanAccess G.Pages access_kind.Execute t.now pid addr row (touch row.key) g.old }
+    ensures done { AccessDone G.Pages Execute pid addr (touch row.key) t.now g.old
+        answer.new t.now g.new }
     ensures loans { G.loans g.new ≡ G.loans g.old }
 {
     match fetch(t, g, pid, addr, row.key, &mut []) {
@@ -110,7 +80,6 @@ fn mark_written(t: &mut Tables, pid: Pid, addr: u32, row: CommittedRow)
 
 /// Writes bytes where they are, which the row of their page permits. A page of a watched region is
 /// written from then on.
-#[tactic(auto, using(crate::proofs::Readiness::had_ready))]
 pub(crate) fn write_at<G: Pages>(
     t: &mut Tables,
     g: &mut G,
@@ -120,25 +89,11 @@ pub(crate) fn write_at<G: Pages>(
     bytes: &ByteBuf,
     answer: &mut Answer,
 )
-    requires keeps { KeepsOver G.Pages t.old g.old }
-    requires spaces { Spaces t.old }
-    requires admitted { Admits t.old pid.0 addr access_kind.Write row }
-    requires at { key_at t.old (place_at pid (page_of addr)) ≡ Some row.key }
-    requires may { MayAccess (G.store g.old) (place_at pid (page_of addr)) (touch row.key) }
-    requires begun { IsBegun (G.store g.old).report }
+    requires can { CanAccess G.Pages access_kind.Write t.old pid addr row (touch row.key) g.old }
     requires stays { row.copies ≡ false }
     requires inside { addr % 4096 + length bytes.now ≤ 4096 }
-    ensures accessed { Accessed G.unpaged (world_over G.Pages t.old g.old) pid.0 addr
-        (WriteOf bytes.now) (G.store g.old) (G.store g.new) answer.new
-        (world_over G.Pages t.new g.new) }
-    ensures keeps { KeepsOver G.Pages t.new g.new }
-    ensures had { IsReady (G.store g.old) (place_at pid (page_of addr)) (touch row.key) →
-        IsHad (touch row.key) (G.store g.new).report }
-    ensures line { (G.store g.new).line ≡ (G.store g.old).line }
-    ensures passes { PassesOver G.Pages
-        (Answered (aim_over G.Pages t.old g.old pid addr (WriteOf bytes.now))
-        (IsReady (G.store g.old) (place_at pid (page_of addr)) (touch row.key)) answer.new
-        (G.store g.new).report) g.old g.new }
+    ensures done { AccessDone G.Pages (WriteOf bytes.now) pid addr (touch row.key) t.old g.old
+        answer.new t.new g.new }
     ensures loans { G.loans g.new ≡ G.loans g.old }
 {
     match put(t, g, pid, addr, row.key, bytes.as_slice()) {
@@ -152,7 +107,6 @@ pub(crate) fn write_at<G: Pages>(
 
 /// Writes bytes, which the row of their page permits, to a copy that is the page's own from then
 /// on.
-#[tactic(auto, using(crate::proofs::Readiness::had_ready))]
 pub(crate) fn write_to_copy<G: Pages>(
     t: &mut Tables,
     g: &mut G,
@@ -162,28 +116,12 @@ pub(crate) fn write_to_copy<G: Pages>(
     bytes: &ByteBuf,
     answer: &mut Answer,
 )
-    requires keeps { KeepsOver G.Pages t.old g.old }
-    requires spaces { Spaces t.old }
-    requires admitted { Admits t.old pid.0 addr access_kind.Write row }
-    requires at { key_at t.old (place_at pid (page_of addr)) ≡ Some row.key }
-    requires may { MayAccess (G.store g.old) (place_at pid (page_of addr))
-        (copying row.key (place_at pid (page_of addr))) }
-    requires begun { IsBegun (G.store g.old).report }
+    requires can { CanAccess G.Pages access_kind.Write t.old pid addr row
+        (copying row.key (place_at pid (page_of addr))) g.old }
     requires copies { row.copies ≡ true }
     requires inside { addr % 4096 + length bytes.now ≤ 4096 }
-    ensures accessed { Accessed G.unpaged (world_over G.Pages t.old g.old) pid.0 addr
-        (WriteOf bytes.now) (G.store g.old) (G.store g.new) answer.new
-        (world_over G.Pages t.new g.new) }
-    ensures keeps { KeepsOver G.Pages t.new g.new }
-    ensures had { IsReady (G.store g.old) (place_at pid (page_of addr))
-        (copying row.key (place_at pid (page_of addr))) →
-        IsHad (copying row.key (place_at pid (page_of addr))) (G.store g.new).report }
-    ensures line { (G.store g.new).line ≡ (G.store g.old).line }
-    ensures passes { PassesOver G.Pages
-        (Answered (aim_over G.Pages t.old g.old pid addr (WriteOf bytes.now))
-        (IsReady (G.store g.old) (place_at pid (page_of addr))
-        (copying row.key (place_at pid (page_of addr)))) answer.new
-        (G.store g.new).report) g.old g.new }
+    ensures done { AccessDone G.Pages (WriteOf bytes.now) pid addr
+        (copying row.key (place_at pid (page_of addr))) t.old g.old answer.new t.new g.new }
     ensures loans { G.loans g.new ≡ G.loans g.old }
 {
     match put_copy(t, g, pid, addr, row, bytes.as_slice()) {
@@ -202,8 +140,7 @@ pub(crate) fn read_line<G: Pages>(
     len: u32,
     answer: &mut Answer,
 )
-    requires keeps { KeepsOver G.Pages t.old g.old }
-    requires next { line ≡ (G.store g.old).line + 1 }
+    requires next { IsNext G.Pages line t.old g.old }
     requires some { 1 ≤ len }
     requires few { len ≤ 64 }
     requires inside { addr % 4096 + len ≤ 4096 }
@@ -239,8 +176,7 @@ pub(crate) fn write_line<G: Pages>(
     bytes: &ByteBuf,
     answer: &mut Answer,
 )
-    requires keeps { KeepsOver G.Pages t.old g.old }
-    requires next { line ≡ (G.store g.old).line + 1 }
+    requires next { IsNext G.Pages line t.old g.old }
     requires inside { addr % 4096 + length bytes.now ≤ 4096 }
     ensures decided { DecidedOver G.Pages (event.Write pid addr bytes.now) line t.old g.old
         answer.new t.new g.new }
@@ -277,8 +213,7 @@ pub(crate) fn exec_line<G: Pages>(
     addr: u32,
     answer: &mut Answer,
 )
-    requires keeps { KeepsOver G.Pages t.old g.old }
-    requires next { line ≡ (G.store g.old).line + 1 }
+    requires next { IsNext G.Pages line t.old g.old }
     ensures decided { DecidedOver G.Pages (event.Exec pid addr) line t.old g.old answer.new
         t.new g.new }
     ensures passes { PassesOver G.Pages

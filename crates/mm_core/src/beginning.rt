@@ -4,7 +4,8 @@ ghost use Rattle.mm_types.specs.declared.moves.Move.TheVariants as move;
 ghost use Rattle.mm_pages.specs.Housekeeping.{OneMove};
 ghost use Rattle.mm_world.specs.Find.{process_of};
 ghost use Rattle.mm_world.specs.Contents.{Tables};
-ghost use Rattle.mm_core.specs.Deciding.{LineBegins, is_plain_kind};
+ghost use Rattle.mm_core.specs.Deciding.{is_plain_kind};
+ghost use Rattle.mm_core.specs.LinePromises.{StartsLine};
 ghost use Rattle.mm_core.specs.Over.{FitsOver, PassesOver};
 
 use mm_pages::Pages;
@@ -16,11 +17,9 @@ pub(crate) fn begin<G: Pages>(g: &mut G, line: u32, form: LineKind)
     requires next { line ≡ (G.store g.old).line + 1 }
     requires plain { is_plain_kind form ≡ true }
     ensures fits { (t : Tables) → FitsOver G.Pages t g.old → FitsOver G.Pages t g.new }
-    ensures begins { LineBegins line (G.store g.old) (G.store g.new) }
+    ensures starts { StartsLine G.Pages line g.old g.new }
     ensures form { (G.store g.new).kind ≡ form }
-    ensures contents { G.contents g.new ≡ G.contents g.old }
     ensures passes { PassesOver G.Pages (OneMove (move.At line form)) g.old g.new }
-    ensures loans { G.loans g.new ≡ G.loans g.old }
 {
     g.line(line, form);
 }
@@ -37,15 +36,13 @@ pub(crate) fn begin_release<G: Pages>(t: &Tables, g: &mut G, line: u32, pid: Pid
     requires fits { FitsOver G.Pages t.now g.old }
     requires next { line ≡ (G.store g.old).line + 1 }
     ensures fits { FitsOver G.Pages t.now g.new }
-    ensures begins { LineBegins line (G.store g.old) (G.store g.new) }
+    ensures starts { StartsLine G.Pages line g.old g.new }
     ensures form { is_some (process_of t.now pid.0) ≡ true →
         (G.store g.new).kind ≡ line_kind.Unbind pid }
-    ensures contents { G.contents g.new ≡ G.contents g.old }
     ensures passes { PassesOver G.Pages
         (OneMove (move.At line
         (if is_some (process_of t.now pid.0) then line_kind.Unbind pid else line_kind.Call))) g.old
         g.new }
-    ensures loans { G.loans g.new ≡ G.loans g.old }
 {
     begin(g, line, kind_if(t.has(pid), LineKind::Unbind(pid)));
 }
@@ -56,13 +53,11 @@ pub(crate) fn begin_access<G: Pages>(t: &Tables, g: &mut G, line: u32, pid: Pid)
     requires next { line ≡ (G.store g.old).line + 1 }
     ensures lives { result ≡ is_some (process_of t.now pid.0) }
     ensures fits { FitsOver G.Pages t.now g.new }
-    ensures begins { LineBegins line (G.store g.old) (G.store g.new) }
+    ensures starts { StartsLine G.Pages line g.old g.new }
     ensures form { result ≡ true → (G.store g.new).kind ≡ line_kind.Access pid }
-    ensures contents { G.contents g.new ≡ G.contents g.old }
     ensures passes { PassesOver G.Pages
         (OneMove (move.At line (if result then line_kind.Access pid else line_kind.Call))) g.old
         g.new }
-    ensures loans { G.loans g.new ≡ G.loans g.old }
 {
     let lives = t.has(pid);
     begin(g, line, kind_if(lives, LineKind::Access(pid)));
@@ -75,12 +70,11 @@ pub(crate) fn begin_trim<G: Pages>(t: &Tables, g: &mut G, line: u32, pid: Pid) -
     requires next { line ≡ (G.store g.old).line + 1 }
     ensures lives { result ≡ is_some (process_of t.now pid.0) }
     ensures fits { FitsOver G.Pages t.now g.new }
-    ensures begins { LineBegins line (G.store g.old) (G.store g.new) }
+    ensures starts { StartsLine G.Pages line g.old g.new }
     ensures form { result ≡ true → (G.store g.new).kind ≡ line_kind.Trim pid }
-    ensures contents { G.contents g.new ≡ G.contents g.old }
     ensures passes { PassesOver G.Pages
-        (OneMove (move.At line (if result then line_kind.Trim pid else line_kind.Call))) g.old g.new }
-    ensures loans { G.loans g.new ≡ G.loans g.old }
+        (OneMove (move.At line (if result then line_kind.Trim pid else line_kind.Call))) g.old
+        g.new }
 {
     let lives = t.has(pid);
     begin(g, line, kind_if(lives, LineKind::Trim(pid)));

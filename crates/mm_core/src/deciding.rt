@@ -1,10 +1,9 @@
-ghost use Rattle.std.specs.Prelude.{◌≡◌, ◌≤◌, ◌+◌, ℕ, true, false, IfOk, OnOk, OnErr, IsOk};
-ghost use Rattle.mm_types.specs.declared.answers.Wait.TheVariants as wait;
-ghost use Rattle.mm_script.specs.Printed.{IsWellFormed};
+ghost use Rattle.std.specs.Prelude.{◌≡◌, false, IfOk, OnOk, OnErr, IsOk};
 ghost use Rattle.mm_world.specs.Contents.{blank};
-ghost use Rattle.mm_core.specs.Built.{is_access_line, is_machine, takes_memory};
+ghost use Rattle.mm_core.specs.Built.{is_access_line, takes_memory};
 ghost use Rattle.mm_core.specs.Forgetting.{EndsWaits};
-ghost use Rattle.mm_core.specs.Over.{AskedBesideOver, DecidedOver, HaltedOver, IdleOver, KeepsOver, MarkedOver};
+ghost use Rattle.mm_core.specs.LinePromises.{AnswersLine, CanDecide, HaltsLine};
+ghost use Rattle.mm_core.specs.Over.{AskedBesideOver};
 
 use crate::access_lines::{exec_line, read_line, write_line};
 use crate::memory_lines::{
@@ -35,19 +34,13 @@ fn decide_other<G: Pages>(
     line: u32,
     event: &Event,
 ) -> Result<Answer, NoMemory>
-    requires well_formed { IsWellFormed event.now }
-    requires later { is_machine event.now ≡ false }
+    requires can { CanDecide G.Pages event.now line t.old g.old }
     requires other { is_access_line event.now ≡ false }
-    requires keeps { KeepsOver G.Pages t.old g.old }
-    requires next { line ≡ (G.store g.old).line + 1 }
-    requires few { line ≤ 1000000 }
-    requires idle { G.unpaged ≡ true → (tid : ℕ) → (G.store g.old).report.wait tid ≡ wait.None }
-    ensures ok { IfOk result (λ a. DecidedOver G.Pages event.now line t.old g.old a t.new g.new) }
-    ensures err { OnErr result (IdleOver G.Pages t.old g.old t.new g.new) }
+    ensures done { IfOk result
+        (λ a. AnswersLine G.Pages event.now line t.old g.old a t.new g.new) }
+    ensures broke { OnErr result (HaltsLine G.Pages line t.old g.old t.new g.new) }
     ensures no_memory { takes_memory blank t.old event.now ≡ false → IsOk result }
     ensures waits { IfOk result (λ a. EndsWaits t.old event.now a (G.store g.new).report) }
-    ensures marked { IfOk result (λ a. MarkedOver G.Pages event.now line t.old g.old a t.new g.new) }
-    ensures halted { OnErr result (HaltedOver G.Pages line g.old g.new) }
     ensures beside { G.unpaged ≡ false →
         IfOk result (λ a. AskedBesideOver G.Pages t.old event.now a g.old g.new) }
     ensures loans { G.loans g.new ≡ G.loans g.old }
@@ -150,21 +143,13 @@ fn answer_other<G: Pages>(
     event: &Event,
     answer: &mut Answer,
 ) -> Result<(), NoMemory>
-    requires well_formed { IsWellFormed event.now }
-    requires later { is_machine event.now ≡ false }
+    requires can { CanDecide G.Pages event.now line t.old g.old }
     requires other { is_access_line event.now ≡ false }
-    requires keeps { KeepsOver G.Pages t.old g.old }
-    requires next { line ≡ (G.store g.old).line + 1 }
-    requires few { line ≤ 1000000 }
-    requires idle { G.unpaged ≡ true → (tid : ℕ) → (G.store g.old).report.wait tid ≡ wait.None }
-    ensures ok { OnOk result
-        (DecidedOver G.Pages event.now line t.old g.old answer.new t.new g.new) }
-    ensures err { OnErr result (IdleOver G.Pages t.old g.old t.new g.new) }
+    ensures done { OnOk result
+        (AnswersLine G.Pages event.now line t.old g.old answer.new t.new g.new) }
+    ensures broke { OnErr result (HaltsLine G.Pages line t.old g.old t.new g.new) }
     ensures no_memory { takes_memory blank t.old event.now ≡ false → IsOk result }
     ensures waits { OnOk result (EndsWaits t.old event.now answer.new (G.store g.new).report) }
-    ensures marked { OnOk result
-        (MarkedOver G.Pages event.now line t.old g.old answer.new t.new g.new) }
-    ensures halted { OnErr result (HaltedOver G.Pages line g.old g.new) }
     ensures beside { G.unpaged ≡ false →
         OnOk result (AskedBesideOver G.Pages t.old event.now answer.new g.old g.new) }
     ensures loans { G.loans g.new ≡ G.loans g.old }
@@ -188,20 +173,12 @@ pub(crate) fn decide<G: Pages>(
     event: &Event,
     answer: &mut Answer,
 ) -> Result<(), NoMemory>
-    requires well_formed { IsWellFormed event.now }
-    requires later { is_machine event.now ≡ false }
-    requires keeps { KeepsOver G.Pages t.old g.old }
-    requires next { line ≡ (G.store g.old).line + 1 }
-    requires few { line ≤ 1000000 }
-    requires idle { G.unpaged ≡ true → (tid : ℕ) → (G.store g.old).report.wait tid ≡ wait.None }
-    ensures ok { OnOk result
-        (DecidedOver G.Pages event.now line t.old g.old answer.new t.new g.new) }
-    ensures err { OnErr result (IdleOver G.Pages t.old g.old t.new g.new) }
+    requires can { CanDecide G.Pages event.now line t.old g.old }
+    ensures done { OnOk result
+        (AnswersLine G.Pages event.now line t.old g.old answer.new t.new g.new) }
+    ensures broke { OnErr result (HaltsLine G.Pages line t.old g.old t.new g.new) }
     ensures no_memory { takes_memory blank t.old event.now ≡ false → IsOk result }
     ensures waits { OnOk result (EndsWaits t.old event.now answer.new (G.store g.new).report) }
-    ensures marked { OnOk result
-        (MarkedOver G.Pages event.now line t.old g.old answer.new t.new g.new) }
-    ensures halted { OnErr result (HaltedOver G.Pages line g.old g.new) }
     ensures beside { G.unpaged ≡ false →
         OnOk result (AskedBesideOver G.Pages t.old event.now answer.new g.old g.new) }
     ensures loans { G.loans g.new ≡ G.loans g.old }

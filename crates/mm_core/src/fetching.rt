@@ -1,5 +1,4 @@
-ghost use Rattle.std.specs.Prelude.{◌≡◌, ◌≤◌, ◌+◌, ◌%◌, true, false, Some, None, IsOk, IfOk, OnOk, OnErr, length, take, drop};
-ghost use Rattle.mm_types.specs.declared.protections.Access.TheVariants as access_kind;
+ghost use Rattle.std.specs.Prelude.{◌≡◌, ◌≤◌, ◌%◌, true, false, Some, None, IfOk, OnOk, OnErr, length, take, drop};
 ghost use Rattle.mm_types.specs.Address.{page_of, page_size};
 ghost use Rattle.mm_types.specs.Protection.{readwrite};
 ghost use Rattle.mm_world.specs.World.{ProcessOf};
@@ -7,14 +6,11 @@ ghost use Rattle.mm_world.specs.Find.{process_of};
 ghost use Rattle.mm_world.specs.Failure.{same_key};
 ghost use Rattle.mm_world.specs.Keys.{Committed, committed_at, private_key, set_row};
 ghost use Rattle.mm_world.specs.Access.{written};
-ghost use Rattle.mm_world.specs.WellFormed.{Spaces};
 ghost use Rattle.mm_pages.specs.Store.{changed};
-ghost use Rattle.mm_pages.specs.Accesses.{Touches, Copies};
-ghost use Rattle.mm_pages.specs.Reports.{IsBegun, Ends, Served, SomeFailed, eased};
-ghost use Rattle.mm_pages.specs.Conditions.{place_at, touch, copying, IsReady, MayAccess};
-ghost use Rattle.mm_tables.specs.Fits.{key_bytes, key_at};
-ghost use Rattle.mm_core.specs.Accessing.{Admits};
-ghost use Rattle.mm_core.specs.Over.{FitsOver, PassesOver};
+ghost use Rattle.mm_pages.specs.Reports.{IsBegun, Ends, eased};
+ghost use Rattle.mm_pages.specs.Conditions.{place_at, touch, copying, IsReady};
+ghost use Rattle.mm_tables.specs.Fits.{key_bytes};
+ghost use Rattle.mm_core.specs.AccessPromises.{LieInPage, CanReach, CanCopy, HasOwn, Touched, Copied};
 
 use mm_pages::Pages;
 use mm_tables::{CommittedRow, Tables};
@@ -53,31 +49,16 @@ pub(crate) fn fetch<G: Pages>(
     key: Key,
     out: &mut [u8],
 ) -> Result<(), PageFault>
-    requires fits { FitsOver G.Pages t.now g.old }
-    requires at { key_at t.now (place_at pid (page_of addr)) ≡ Some key }
-    requires may { MayAccess (G.store g.old) (place_at pid (page_of addr)) (touch key) }
+    requires can { CanReach G.Pages t.now (place_at pid (page_of addr)) key (touch key) g.old }
     requires begun { IsBegun (G.store g.old).report }
-    requires few { length out.old ≤ 64 }
-    requires inside { addr % 4096 + length out.old ≤ 4096 }
+    requires lie { LieInPage addr (length out.old) }
     ensures length { length out.new ≡ length out.old }
     ensures bytes { OnOk result (out.new ≡
         take (length out.old) (drop (addr % page_size) (key_bytes (G.contents g.old) key))) }
     ensures ends { Ends (touch key) (G.store g.new).report result }
-    ensures fits { FitsOver G.Pages t.now g.new }
     ensures contents { G.contents g.new ≡ G.contents g.old }
-    ensures line { (G.store g.new).line ≡ (G.store g.old).line }
-    ensures served { Served (G.store g.old) (G.store g.new) }
-    ensures blamed { OnErr result (SomeFailed (G.store g.old) (G.store g.new)) }
-    ensures ready { IsReady (G.store g.old) (place_at pid (page_of addr)) (touch key) →
-        IsOk result }
-    ensures unpaged { G.unpaged ≡ true → IsOk result }
-    ensures passes { PassesOver G.Pages (Touches (record {
-      place = place_at pid (page_of addr);
-      need = touch key;
-      writes = false;
-      start = (G.behind g.old).life;
-    }) (IsReady (G.store g.old) (place_at pid (page_of addr)) (touch key)) result) g.old g.new }
-    ensures loans { G.loans g.new ≡ G.loans g.old }
+    ensures touched { Touched G.Pages (place_at pid (page_of addr)) key false result t.now g.old
+        g.new }
 {
     g.read(place_of(pid, addr), key, offset_of(addr), out)
 }
@@ -91,31 +72,16 @@ pub(crate) fn read_bytes<G: Pages>(
     key: Key,
     len: u32,
 ) -> Result<ByteBuf, PageFault>
-    requires fits { FitsOver G.Pages t.now g.old }
-    requires at { key_at t.now (place_at pid (page_of addr)) ≡ Some key }
-    requires may { MayAccess (G.store g.old) (place_at pid (page_of addr)) (touch key) }
+    requires can { CanReach G.Pages t.now (place_at pid (page_of addr)) key (touch key) g.old }
     requires begun { IsBegun (G.store g.old).report }
     requires some { 1 ≤ len }
-    requires few { len ≤ 64 }
-    requires inside { addr % 4096 + len ≤ 4096 }
+    requires lie { LieInPage addr len }
     ensures bytes { IfOk result (λ b.
         b ≡ take len (drop (addr % page_size) (key_bytes (G.contents g.old) key))) }
     ensures ends { Ends (touch key) (G.store g.new).report result }
-    ensures fits { FitsOver G.Pages t.now g.new }
     ensures contents { G.contents g.new ≡ G.contents g.old }
-    ensures line { (G.store g.new).line ≡ (G.store g.old).line }
-    ensures served { Served (G.store g.old) (G.store g.new) }
-    ensures blamed { OnErr result (SomeFailed (G.store g.old) (G.store g.new)) }
-    ensures ready { IsReady (G.store g.old) (place_at pid (page_of addr)) (touch key) →
-        IsOk result }
-    ensures unpaged { G.unpaged ≡ true → IsOk result }
-    ensures passes { PassesOver G.Pages (Touches (record {
-      place = place_at pid (page_of addr);
-      need = touch key;
-      writes = false;
-      start = (G.behind g.old).life;
-    }) (IsReady (G.store g.old) (place_at pid (page_of addr)) (touch key)) result) g.old g.new }
-    ensures loans { G.loans g.new ≡ G.loans g.old }
+    ensures touched { Touched G.Pages (place_at pid (page_of addr)) key false result t.now g.old
+        g.new }
 {
     let mut room = [0; 64];
     let out = &mut room[..len as usize];
@@ -135,31 +101,16 @@ pub(crate) fn put<G: Pages>(
     key: Key,
     bytes: &[u8],
 ) -> Result<(), PageFault>
-    requires fits { FitsOver G.Pages t.now g.old }
-    requires at { key_at t.now (place_at pid (page_of addr)) ≡ Some key }
-    requires may { MayAccess (G.store g.old) (place_at pid (page_of addr)) (touch key) }
-    requires few { length bytes.now ≤ 64 }
-    requires inside { addr % 4096 + length bytes.now ≤ 4096 }
+    requires can { CanReach G.Pages t.now (place_at pid (page_of addr)) key (touch key) g.old }
+    requires lie { LieInPage addr (length bytes.now) }
     ensures written { OnOk result (G.contents g.new ≡ changed same_key (G.contents g.old) key
         (Some (written (key_bytes (G.contents g.old) key) (addr % page_size) bytes.now))) }
     ensures kept { OnErr result (G.contents g.new ≡ G.contents g.old) }
     ensures ends { IsBegun (G.store g.old).report → Ends (touch key) (G.store g.new).report result }
-    ensures fits { FitsOver G.Pages t.now g.new }
-    ensures line { (G.store g.new).line ≡ (G.store g.old).line }
-    ensures served { Served (G.store g.old) (G.store g.new) }
-    ensures blamed { OnErr result (SomeFailed (G.store g.old) (G.store g.new)) }
-    ensures ready { IsReady (G.store g.old) (place_at pid (page_of addr)) (touch key) →
-        IsOk result }
     ensures eased { IsReady (G.store g.old) (place_at pid (page_of addr)) (touch key) →
         (G.store g.new).report ≡ eased (G.store g.old).report (G.store g.new).report }
-    ensures unpaged { G.unpaged ≡ true → IsOk result }
-    ensures passes { PassesOver G.Pages (Touches (record {
-      place = place_at pid (page_of addr);
-      need = touch key;
-      writes = true;
-      start = (G.behind g.old).life;
-    }) (IsReady (G.store g.old) (place_at pid (page_of addr)) (touch key)) result) g.old g.new }
-    ensures loans { G.loans g.new ≡ G.loans g.old }
+    ensures touched { Touched G.Pages (place_at pid (page_of addr)) key true result t.now g.old
+        g.new }
 {
     g.write(place_of(pid, addr), key, offset_of(addr), bytes)
 }
@@ -172,14 +123,8 @@ fn copy<G: Pages>(
     addr: u32,
     row: CommittedRow,
 ) -> Result<(), PageFault>
-    requires fits { FitsOver G.Pages t.old g.old }
-    requires spaces { Spaces t.old }
-    requires admitted { Admits t.old pid.0 addr access_kind.Write row }
-    requires copies { row.copies ≡ true }
-    requires may { MayAccess (G.store g.old) (place_at pid (page_of addr))
-        (copying row.key (place_at pid (page_of addr))) }
-    requires begun { IsBegun (G.store g.old).report }
-    ensures copied { OnOk result (G.contents g.new ≡
+    requires can { CanCopy G.Pages t.old pid addr row g.old }
+    ensures bytes { OnOk result (G.contents g.new ≡
         changed same_key (G.contents g.old) (private_key pid.0 (page_of addr))
         (G.contents g.old row.key)) }
     ensures row { OnOk result ((p : ProcessOf (Unit {0})) (c : Committed (Unit {0})) →
@@ -189,28 +134,12 @@ fn copy<G: Pages>(
           prot = readwrite;
         })) }
     ensures kept { OnErr result ((t.new ≡ t.old) × (G.contents g.new ≡ G.contents g.old)) }
-    ensures at { OnOk result (key_at t.new (place_at pid (page_of addr)) ≡
-        Some (private_key pid.0 (page_of addr))) }
-    ensures ready { OnOk result (IsReady (G.store g.new) (place_at pid (page_of addr))
-        (touch (private_key pid.0 (page_of addr)))) }
+    ensures own { OnOk result (HasOwn G.Pages t.new pid addr g.new) }
     ensures form { (G.store g.new).kind ≡ (G.store g.old).kind }
     ensures ends { Ends (copying row.key (place_at pid (page_of addr))) (G.store g.new).report
         result }
-    ensures fits { FitsOver G.Pages t.new g.new }
-    ensures line { (G.store g.new).line ≡ (G.store g.old).line }
-    ensures served { Served (G.store g.old) (G.store g.new) }
-    ensures blamed { OnErr result (SomeFailed (G.store g.old) (G.store g.new)) }
-    ensures was_ready { IsReady (G.store g.old) (place_at pid (page_of addr))
-        (copying row.key (place_at pid (page_of addr))) → IsOk result }
-    ensures unpaged { G.unpaged ≡ true → IsOk result }
-    ensures passes { PassesOver G.Pages (Copies (record {
-      place = place_at pid (page_of addr);
-      need = copying row.key (place_at pid (page_of addr));
-      writes = true;
-      start = (G.behind g.old).life;
-    }) (IsReady (G.store g.old) (place_at pid (page_of addr))
-        (copying row.key (place_at pid (page_of addr)))) result) g.old g.new }
-    ensures loans { G.loans g.new ≡ G.loans g.old }
+    ensures copied { Copied G.Pages (place_at pid (page_of addr)) row.key result t.new g.old
+        g.new }
 {
     g.copy(place_of(pid, addr), row.key, own_key_of(pid, addr))?;
     t.copy_page(pid, addr / PAGE_SIZE);
@@ -227,15 +156,8 @@ pub(crate) fn put_copy<G: Pages>(
     row: CommittedRow,
     bytes: &[u8],
 ) -> Result<(), PageFault>
-    requires fits { FitsOver G.Pages t.old g.old }
-    requires spaces { Spaces t.old }
-    requires admitted { Admits t.old pid.0 addr access_kind.Write row }
-    requires copies { row.copies ≡ true }
-    requires may { MayAccess (G.store g.old) (place_at pid (page_of addr))
-        (copying row.key (place_at pid (page_of addr))) }
-    requires begun { IsBegun (G.store g.old).report }
-    requires few { length bytes.now ≤ 64 }
-    requires inside { addr % 4096 + length bytes.now ≤ 4096 }
+    requires can { CanCopy G.Pages t.old pid addr row g.old }
+    requires lie { LieInPage addr (length bytes.now) }
     ensures written { OnOk result (G.contents g.new ≡
         changed same_key
         (changed same_key (G.contents g.old) (private_key pid.0 (page_of addr))
@@ -250,21 +172,8 @@ pub(crate) fn put_copy<G: Pages>(
     ensures kept { OnErr result ((t.new ≡ t.old) × (G.contents g.new ≡ G.contents g.old)) }
     ensures ends { Ends (copying row.key (place_at pid (page_of addr))) (G.store g.new).report
         result }
-    ensures fits { FitsOver G.Pages t.new g.new }
-    ensures line { (G.store g.new).line ≡ (G.store g.old).line }
-    ensures served { Served (G.store g.old) (G.store g.new) }
-    ensures blamed { OnErr result (SomeFailed (G.store g.old) (G.store g.new)) }
-    ensures was_ready { IsReady (G.store g.old) (place_at pid (page_of addr))
-        (copying row.key (place_at pid (page_of addr))) → IsOk result }
-    ensures unpaged { G.unpaged ≡ true → IsOk result }
-    ensures passes { PassesOver G.Pages (Copies (record {
-      place = place_at pid (page_of addr);
-      need = copying row.key (place_at pid (page_of addr));
-      writes = true;
-      start = (G.behind g.old).life;
-    }) (IsReady (G.store g.old) (place_at pid (page_of addr))
-        (copying row.key (place_at pid (page_of addr)))) result) g.old g.new }
-    ensures loans { G.loans g.new ≡ G.loans g.old }
+    ensures copied { Copied G.Pages (place_at pid (page_of addr)) row.key result t.new g.old
+        g.new }
 {
     copy(t, g, pid, addr, row)?;
     match put(t, g, pid, addr, own_key_of(pid, addr), bytes) {

@@ -1,4 +1,4 @@
-ghost use Rattle.std.specs.Prelude.{◌≡◌, ◌≤◌, ◌+◌, false, length, nat_le, IfOk, OnErr, IsOk};
+ghost use Rattle.std.specs.Prelude.{◌≡◌, ◌≤◌, false, length, nat_le, IfOk, OnErr, IsOk};
 ghost use Rattle.mm_types.specs.declared.events.Event.TheVariants as event;
 ghost use Rattle.mm_world.specs.Contents.{blank};
 ghost use Rattle.mm_world.specs.Laws.{is_success};
@@ -6,7 +6,8 @@ ghost use Rattle.mm_world.specs.Processes.{grow, most_processes};
 ghost use Rattle.mm_calls.specs.Allocating.{allocates_anew};
 ghost use Rattle.mm_calls.specs.Marking.{marks_anew};
 ghost use Rattle.mm_core.specs.Forgetting.{EndsWaits};
-ghost use Rattle.mm_core.specs.Over.{AskedBesideOver, DecidedOver, HaltedOver, IdleOver, KeepsOver, MarkedOver};
+ghost use Rattle.mm_core.specs.Over.{AskedBesideOver};
+ghost use Rattle.mm_core.specs.LinePromises.{AnswersLine, HaltsLine, IsNext};
 
 use crate::beginning::{begin, begin_release};
 use crate::forgetting::forget_waits;
@@ -25,18 +26,14 @@ pub(crate) fn process_line<G: Pages>(
     min: u32,
     max: u32,
 ) -> Result<Answer, NoMemory>
-    requires keeps { KeepsOver G.Pages t.old g.old }
-    requires next { line ≡ (G.store g.old).line + 1 }
+    requires next { IsNext G.Pages line t.old g.old }
     requires ordered { min ≤ max }
     requires some { 1 ≤ max }
     requires most { max ≤ 65536 }
-    ensures ok { IfOk result (λ a. DecidedOver G.Pages (event.Process min max) line t.old g.old a
-        t.new g.new) }
-    ensures err { OnErr result (IdleOver G.Pages t.old g.old t.new g.new) }
+    ensures done { IfOk result (λ a. AnswersLine G.Pages (event.Process min max) line t.old g.old
+        a t.new g.new) }
+    ensures broke { OnErr result (HaltsLine G.Pages line t.old g.old t.new g.new) }
     ensures no_memory { nat_le (length t.old.processes) most_processes ≡ false → IsOk result }
-    ensures marked { IfOk result (λ a. MarkedOver G.Pages (event.Process min max) line t.old g.old a
-        t.new g.new) }
-    ensures halted { OnErr result (HaltedOver G.Pages line g.old g.new) }
     ensures loans { G.loans g.new ≡ G.loans g.old }
 {
     t.sound();
@@ -54,11 +51,9 @@ pub(crate) fn process_line<G: Pages>(
 /// Decides an `exit` line. Threads that keep an access of the process wait no more, before the line
 /// begins.
 pub(crate) fn exit_line<G: Pages>(t: &mut Tables, g: &mut G, line: u32, pid: Pid) -> Answer
-    requires keeps { KeepsOver G.Pages t.old g.old }
-    requires next { line ≡ (G.store g.old).line + 1 }
-    ensures decided { DecidedOver G.Pages (event.Exit pid) line t.old g.old result t.new g.new }
+    requires next { IsNext G.Pages line t.old g.old }
+    ensures done { AnswersLine G.Pages (event.Exit pid) line t.old g.old result t.new g.new }
     ensures waits { EndsWaits t.old (event.Exit pid) result (G.store g.new).report }
-    ensures marked { MarkedOver G.Pages (event.Exit pid) line t.old g.old result t.new g.new }
     ensures loans { G.loans g.new ≡ G.loans g.old }
 {
     t.sound();
@@ -79,15 +74,11 @@ pub(crate) fn alloc_line<G: Pages>(
     form: u32,
     prot: u32,
 ) -> Result<Answer, NoMemory>
-    requires keeps { KeepsOver G.Pages t.old g.old }
-    requires next { line ≡ (G.store g.old).line + 1 }
-    ensures ok { IfOk result (λ a. DecidedOver G.Pages (event.Alloc pid addr size form prot) line
-        t.old g.old a t.new g.new) }
-    ensures err { OnErr result (IdleOver G.Pages t.old g.old t.new g.new) }
+    requires next { IsNext G.Pages line t.old g.old }
+    ensures done { IfOk result (λ a. AnswersLine G.Pages (event.Alloc pid addr size form prot)
+        line t.old g.old a t.new g.new) }
+    ensures broke { OnErr result (HaltsLine G.Pages line t.old g.old t.new g.new) }
     ensures no_memory { allocates_anew blank t.old pid.0 addr size form prot ≡ false → IsOk result }
-    ensures marked { IfOk result (λ a. MarkedOver G.Pages (event.Alloc pid addr size form prot) line
-        t.old g.old a t.new g.new) }
-    ensures halted { OnErr result (HaltedOver G.Pages line g.old g.new) }
     ensures loans { G.loans g.new ≡ G.loans g.old }
 {
     t.sound();
@@ -105,11 +96,8 @@ pub(crate) fn free_line<G: Pages>(
     size: u32,
     form: u32,
 ) -> Answer
-    requires keeps { KeepsOver G.Pages t.old g.old }
-    requires next { line ≡ (G.store g.old).line + 1 }
-    ensures decided { DecidedOver G.Pages (event.Free pid addr size form) line t.old g.old result
-        t.new g.new }
-    ensures marked { MarkedOver G.Pages (event.Free pid addr size form) line t.old g.old result
+    requires next { IsNext G.Pages line t.old g.old }
+    ensures done { AnswersLine G.Pages (event.Free pid addr size form) line t.old g.old result
         t.new g.new }
     ensures loans { G.loans g.new ≡ G.loans g.old }
 {
@@ -128,15 +116,11 @@ pub(crate) fn protect_line<G: Pages>(
     size: u32,
     prot: u32,
 ) -> Result<Answer, NoMemory>
-    requires keeps { KeepsOver G.Pages t.old g.old }
-    requires next { line ≡ (G.store g.old).line + 1 }
-    ensures ok { IfOk result (λ a. DecidedOver G.Pages (event.Protect pid addr size prot) line t.old
-        g.old a t.new g.new) }
-    ensures err { OnErr result (IdleOver G.Pages t.old g.old t.new g.new) }
-    ensures no_memory { marks_anew t.old pid.0 addr size prot ≡ false → IsOk result }
-    ensures marked { IfOk result (λ a. MarkedOver G.Pages (event.Protect pid addr size prot) line
+    requires next { IsNext G.Pages line t.old g.old }
+    ensures done { IfOk result (λ a. AnswersLine G.Pages (event.Protect pid addr size prot) line
         t.old g.old a t.new g.new) }
-    ensures halted { OnErr result (HaltedOver G.Pages line g.old g.new) }
+    ensures broke { OnErr result (HaltsLine G.Pages line t.old g.old t.new g.new) }
+    ensures no_memory { marks_anew t.old pid.0 addr size prot ≡ false → IsOk result }
     ensures loans { G.loans g.new ≡ G.loans g.old }
 {
     t.sound();
@@ -152,10 +136,8 @@ pub(crate) fn query_line<G: Pages>(
     pid: Pid,
     addr: u32,
 ) -> Answer
-    requires keeps { KeepsOver G.Pages t.old g.old }
-    requires next { line ≡ (G.store g.old).line + 1 }
-    ensures decided { DecidedOver G.Pages (event.Query pid addr) line t.old g.old result t.new g.new }
-    ensures marked { MarkedOver G.Pages (event.Query pid addr) line t.old g.old result t.new g.new }
+    requires next { IsNext G.Pages line t.old g.old }
+    ensures done { AnswersLine G.Pages (event.Query pid addr) line t.old g.old result t.new g.new }
     ensures loans { G.loans g.new ≡ G.loans g.old }
 {
     t.sound();
@@ -165,10 +147,8 @@ pub(crate) fn query_line<G: Pages>(
 
 /// Decides a `charge` line.
 pub(crate) fn charge_line<G: Pages>(t: &mut Tables, g: &mut G, line: u32) -> Answer
-    requires keeps { KeepsOver G.Pages t.old g.old }
-    requires next { line ≡ (G.store g.old).line + 1 }
-    ensures decided { DecidedOver G.Pages event.Charge line t.old g.old result t.new g.new }
-    ensures marked { MarkedOver G.Pages event.Charge line t.old g.old result t.new g.new }
+    requires next { IsNext G.Pages line t.old g.old }
+    ensures done { AnswersLine G.Pages event.Charge line t.old g.old result t.new g.new }
     ensures loans { G.loans g.new ≡ G.loans g.old }
 {
     begin(g, line, LineKind::Call);
@@ -183,20 +163,15 @@ pub(crate) fn grow_line<G: Pages>(
     line: u32,
     n: u32,
 ) -> Result<Answer, NoMemory>
-    requires keeps { KeepsOver G.Pages t.old g.old }
-    requires next { line ≡ (G.store g.old).line + 1 }
+    requires next { IsNext G.Pages line t.old g.old }
     requires some { 1 ≤ n }
-    ensures ok { IfOk result (λ a. DecidedOver G.Pages (event.Grow n) line t.old g.old a t.new
+    ensures done { IfOk result (λ a. AnswersLine G.Pages (event.Grow n) line t.old g.old a t.new
         g.new) }
-    ensures err { OnErr result (IdleOver G.Pages t.old g.old t.new g.new) }
+    ensures broke { OnErr result (HaltsLine G.Pages line t.old g.old t.new g.new) }
     ensures no_memory { is_success (grow t.old n).answer ≡ false → IsOk result }
-    ensures marked { IfOk result (λ a. MarkedOver G.Pages (event.Grow n) line t.old g.old a t.new
-        g.new) }
-    ensures halted { OnErr result (HaltedOver G.Pages line g.old g.new) }
     ensures beside { G.unpaged ≡ false →
         IfOk result (λ a. AskedBesideOver G.Pages t.old (event.Grow n) a g.old g.new) }
     ensures loans { G.loans g.new ≡ G.loans g.old }
 {
-    t.sound();
     grow_paging(t, g, line, n)
 }

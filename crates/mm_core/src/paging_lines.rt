@@ -1,6 +1,7 @@
-ghost use Rattle.std.specs.Prelude.{◌≡◌, ◌≤◌, ◌+◌, false};
+ghost use Rattle.std.specs.Prelude.{◌≡◌, ◌≤◌, false};
 ghost use Rattle.mm_types.specs.declared.events.Event.TheVariants as event;
-ghost use Rattle.mm_core.specs.Over.{AskedBesideOver, DecidedOver, KeepsOver, MarkedOver};
+ghost use Rattle.mm_core.specs.Over.{AskedBesideOver};
+ghost use Rattle.mm_core.specs.LinePromises.{AnswersLine, IsNext};
 
 use crate::beginning::{begin, begin_trim};
 use mm_pages::{Done, Pages};
@@ -12,10 +13,8 @@ const MOST_FAILS: u32 = 64;
 
 /// Decides a `trim` line: pages of the process's working set, the oldest first, are taken from it.
 pub(crate) fn trim_line<G: Pages>(t: &mut Tables, g: &mut G, line: u32, pid: Pid, n: u32) -> Answer
-    requires keeps { KeepsOver G.Pages t.old g.old }
-    requires next { line ≡ (G.store g.old).line + 1 }
-    ensures decided { DecidedOver G.Pages (event.Trim pid n) line t.old g.old result t.new g.new }
-    ensures marked { MarkedOver G.Pages (event.Trim pid n) line t.old g.old result t.new g.new }
+    requires next { IsNext G.Pages line t.old g.old }
+    ensures done { AnswersLine G.Pages (event.Trim pid n) line t.old g.old result t.new g.new }
     ensures loans { G.loans g.new ≡ G.loans g.old }
 {
     if !begin_trim(t, g, line, pid) {
@@ -27,10 +26,8 @@ pub(crate) fn trim_line<G: Pages>(t: &mut Tables, g: &mut G, line: u32, pid: Pid
 
 /// Decides an `age` line: the pages of the process's working set are older.
 pub(crate) fn age_line<G: Pages>(t: &mut Tables, g: &mut G, line: u32, pid: Pid) -> Answer
-    requires keeps { KeepsOver G.Pages t.old g.old }
-    requires next { line ≡ (G.store g.old).line + 1 }
-    ensures decided { DecidedOver G.Pages (event.Age pid) line t.old g.old result t.new g.new }
-    ensures marked { MarkedOver G.Pages (event.Age pid) line t.old g.old result t.new g.new }
+    requires next { IsNext G.Pages line t.old g.old }
+    ensures done { AnswersLine G.Pages (event.Age pid) line t.old g.old result t.new g.new }
     ensures loans { G.loans g.new ≡ G.loans g.old }
 {
     begin(g, line, LineKind::Call);
@@ -43,10 +40,8 @@ pub(crate) fn age_line<G: Pages>(t: &mut Tables, g: &mut G, line: u32, pid: Pid)
 
 /// Decides a `zeroer` line: free frames are cleared.
 pub(crate) fn zeroer_line<G: Pages>(t: &mut Tables, g: &mut G, line: u32, n: u32) -> Answer
-    requires keeps { KeepsOver G.Pages t.old g.old }
-    requires next { line ≡ (G.store g.old).line + 1 }
-    ensures decided { DecidedOver G.Pages (event.Zeroer n) line t.old g.old result t.new g.new }
-    ensures marked { MarkedOver G.Pages (event.Zeroer n) line t.old g.old result t.new g.new }
+    requires next { IsNext G.Pages line t.old g.old }
+    ensures done { AnswersLine G.Pages (event.Zeroer n) line t.old g.old result t.new g.new }
     ensures loans { G.loans g.new ≡ G.loans g.old }
 {
     begin(g, line, LineKind::Zeroer);
@@ -65,13 +60,10 @@ pub(crate) fn fail_line<G: Pages>(
     k: u32,
     n: u32,
 ) -> Answer
-    requires keeps { KeepsOver G.Pages t.old g.old }
-    requires next { line ≡ (G.store g.old).line + 1 }
+    requires next { IsNext G.Pages line t.old g.old }
     requires first { 1 ≤ k }
     requires some { 1 ≤ n }
-    ensures decided { DecidedOver G.Pages (event.Fail device direction k n) line t.old g.old result
-        t.new g.new }
-    ensures marked { MarkedOver G.Pages (event.Fail device direction k n) line t.old g.old result
+    ensures done { AnswersLine G.Pages (event.Fail device direction k n) line t.old g.old result
         t.new g.new }
     ensures beside { G.unpaged ≡ false →
         AskedBesideOver G.Pages t.old (event.Fail device direction k n) result g.old g.new }
@@ -89,10 +81,8 @@ pub(crate) fn fail_line<G: Pages>(
 
 /// Decides a `writer` line: modified pages begin to be written, from the front of their list.
 pub(crate) fn writer_line<G: Pages>(t: &mut Tables, g: &mut G, line: u32, n: u32) -> Answer
-    requires keeps { KeepsOver G.Pages t.old g.old }
-    requires next { line ≡ (G.store g.old).line + 1 }
-    ensures decided { DecidedOver G.Pages (event.Writer n) line t.old g.old result t.new g.new }
-    ensures marked { MarkedOver G.Pages (event.Writer n) line t.old g.old result t.new g.new }
+    requires next { IsNext G.Pages line t.old g.old }
+    ensures done { AnswersLine G.Pages (event.Writer n) line t.old g.old result t.new g.new }
     ensures loans { G.loans g.new ≡ G.loans g.old }
 {
     begin(g, line, LineKind::Writer);
@@ -102,11 +92,9 @@ pub(crate) fn writer_line<G: Pages>(t: &mut Tables, g: &mut G, line: u32, n: u32
 
 /// Decides an `io` line: the `i`-th oldest request is completed, and its device called.
 pub(crate) fn io_line<G: Pages>(t: &mut Tables, g: &mut G, line: u32, i: u32) -> Answer
-    requires keeps { KeepsOver G.Pages t.old g.old }
-    requires next { line ≡ (G.store g.old).line + 1 }
+    requires next { IsNext G.Pages line t.old g.old }
     requires some { 1 ≤ i }
-    ensures decided { DecidedOver G.Pages (event.Io i) line t.old g.old result t.new g.new }
-    ensures marked { MarkedOver G.Pages (event.Io i) line t.old g.old result t.new g.new }
+    ensures done { AnswersLine G.Pages (event.Io i) line t.old g.old result t.new g.new }
     ensures loans { G.loans g.new ≡ G.loans g.old }
 {
     begin(g, line, LineKind::Io);
@@ -119,10 +107,8 @@ pub(crate) fn io_line<G: Pages>(t: &mut Tables, g: &mut G, line: u32, i: u32) ->
 
 /// Decides a `counts` line: how many frames, slots and requests there are.
 pub(crate) fn counts_line<G: Pages>(t: &mut Tables, g: &mut G, line: u32) -> Answer
-    requires keeps { KeepsOver G.Pages t.old g.old }
-    requires next { line ≡ (G.store g.old).line + 1 }
-    ensures decided { DecidedOver G.Pages event.Counts line t.old g.old result t.new g.new }
-    ensures marked { MarkedOver G.Pages event.Counts line t.old g.old result t.new g.new }
+    requires next { IsNext G.Pages line t.old g.old }
+    ensures done { AnswersLine G.Pages event.Counts line t.old g.old result t.new g.new }
     ensures loans { G.loans g.new ≡ G.loans g.old }
 {
     begin(g, line, LineKind::Call);

@@ -1,11 +1,12 @@
-ghost use Rattle.std.specs.Prelude.{◌≡◌, ◌≤◌, ◌+◌, false, IfOk, IsOk, OnErr};
+ghost use Rattle.std.specs.Prelude.{◌≡◌, ◌≤◌, false, IfOk, IsOk, OnErr};
 ghost use Rattle.mm_types.specs.declared.events.Event.TheVariants as event;
 ghost use Rattle.mm_world.specs.Contents.{blank};
 ghost use Rattle.mm_world.specs.Laws.{is_success};
 ghost use Rattle.mm_world.specs.Processes.{new_file};
 ghost use Rattle.mm_world.specs.Sections.{create, create_file, open_section};
 ghost use Rattle.mm_world.specs.Views.{map_view};
-ghost use Rattle.mm_core.specs.Over.{AskedBesideOver, DecidedOver, HaltedOver, IdleOver, KeepsOver, MarkedOver};
+ghost use Rattle.mm_core.specs.Over.{AskedBesideOver};
+ghost use Rattle.mm_core.specs.LinePromises.{AnswersLine, HaltsLine, IsNext};
 
 use crate::beginning::{begin, begin_release};
 use mm_calls::{close, create, create_file, flush_view, map, new_file, open_section, unmap};
@@ -24,18 +25,14 @@ pub(crate) fn file_line<G: Pages>(
     pages: u32,
     byte: u8,
 ) -> Result<Answer, NoMemory>
-    requires keeps { KeepsOver G.Pages t.old g.old }
-    requires next { line ≡ (G.store g.old).line + 1 }
+    requires next { IsNext G.Pages line t.old g.old }
     requires few { line ≤ 1000000 }
     requires some { 1 ≤ pages }
-    ensures ok { IfOk result (λ a. DecidedOver G.Pages (event.File name.now pages byte) line t.old
-        g.old a t.new g.new) }
-    ensures err { OnErr result (IdleOver G.Pages t.old g.old t.new g.new) }
+    ensures done { IfOk result (λ a. AnswersLine G.Pages (event.File name.now pages byte) line
+        t.old g.old a t.new g.new) }
+    ensures broke { OnErr result (HaltsLine G.Pages line t.old g.old t.new g.new) }
     ensures no_memory { is_success (new_file blank t.old name.now pages byte).answer ≡ false
         → IsOk result }
-    ensures marked { IfOk result (λ a. MarkedOver G.Pages (event.File name.now pages byte) line
-        t.old g.old a t.new g.new) }
-    ensures halted { OnErr result (HaltedOver G.Pages line g.old g.new) }
     ensures beside { G.unpaged ≡ false →
         IfOk result (λ a. AskedBesideOver G.Pages t.old (event.File name.now pages byte) a g.old
         g.new) }
@@ -57,17 +54,13 @@ pub(crate) fn create_line<G: Pages>(
     flags: u32,
     name: Option<Name>,
 ) -> Result<Answer, NoMemory>
-    requires keeps { KeepsOver G.Pages t.old g.old }
-    requires next { line ≡ (G.store g.old).line + 1 }
+    requires next { IsNext G.Pages line t.old g.old }
     requires few { line ≤ 1000000 }
-    ensures ok { IfOk result (λ a. DecidedOver G.Pages (event.Create pid size flags name) line t.old
-        g.old a t.new g.new) }
-    ensures err { OnErr result (IdleOver G.Pages t.old g.old t.new g.new) }
+    ensures done { IfOk result (λ a. AnswersLine G.Pages (event.Create pid size flags name) line
+        t.old g.old a t.new g.new) }
+    ensures broke { OnErr result (HaltsLine G.Pages line t.old g.old t.new g.new) }
     ensures no_memory { is_success (create blank t.old pid.0 size flags name).answer ≡ false
         → IsOk result }
-    ensures marked { IfOk result (λ a. MarkedOver G.Pages (event.Create pid size flags name) line
-        t.old g.old a t.new g.new) }
-    ensures halted { OnErr result (HaltedOver G.Pages line g.old g.new) }
     ensures loans { G.loans g.new ≡ G.loans g.old }
 {
     t.sound();
@@ -85,17 +78,13 @@ pub(crate) fn create_file_line<G: Pages>(
     flags: u32,
     name: Option<Name>,
 ) -> Result<Answer, NoMemory>
-    requires keeps { KeepsOver G.Pages t.old g.old }
-    requires next { line ≡ (G.store g.old).line + 1 }
+    requires next { IsNext G.Pages line t.old g.old }
     requires few { line ≤ 1000000 }
-    ensures ok { IfOk result (λ a. DecidedOver G.Pages (event.CreateFile pid file.now flags name)
-        line t.old g.old a t.new g.new) }
-    ensures err { OnErr result (IdleOver G.Pages t.old g.old t.new g.new) }
+    ensures done { IfOk result (λ a. AnswersLine G.Pages (event.CreateFile pid file.now flags
+        name) line t.old g.old a t.new g.new) }
+    ensures broke { OnErr result (HaltsLine G.Pages line t.old g.old t.new g.new) }
     ensures no_memory { is_success (create_file t.old pid.0 file.now flags name).answer ≡ false
         → IsOk result }
-    ensures marked { IfOk result (λ a. MarkedOver G.Pages (event.CreateFile pid file.now flags name)
-        line t.old g.old a t.new g.new) }
-    ensures halted { OnErr result (HaltedOver G.Pages line g.old g.new) }
     ensures loans { G.loans g.new ≡ G.loans g.old }
 {
     t.sound();
@@ -111,17 +100,13 @@ pub(crate) fn open_line<G: Pages>(
     pid: Pid,
     name: &Name,
 ) -> Result<Answer, NoMemory>
-    requires keeps { KeepsOver G.Pages t.old g.old }
-    requires next { line ≡ (G.store g.old).line + 1 }
+    requires next { IsNext G.Pages line t.old g.old }
     requires few { line ≤ 1000000 }
-    ensures ok { IfOk result (λ a. DecidedOver G.Pages (event.Open pid name.now) line t.old g.old a
-        t.new g.new) }
-    ensures err { OnErr result (IdleOver G.Pages t.old g.old t.new g.new) }
+    ensures done { IfOk result (λ a. AnswersLine G.Pages (event.Open pid name.now) line t.old
+        g.old a t.new g.new) }
+    ensures broke { OnErr result (HaltsLine G.Pages line t.old g.old t.new g.new) }
     ensures no_memory { is_success (open_section t.old pid.0 name.now).answer ≡ false
         → IsOk result }
-    ensures marked { IfOk result (λ a. MarkedOver G.Pages (event.Open pid name.now) line t.old g.old
-        a t.new g.new) }
-    ensures halted { OnErr result (HaltedOver G.Pages line g.old g.new) }
     ensures loans { G.loans g.new ≡ G.loans g.old }
 {
     t.sound();
@@ -137,11 +122,9 @@ pub(crate) fn close_line<G: Pages>(
     pid: Pid,
     handle: u32,
 ) -> Answer
-    requires keeps { KeepsOver G.Pages t.old g.old }
-    requires next { line ≡ (G.store g.old).line + 1 }
-    ensures decided { DecidedOver G.Pages (event.Close pid handle) line t.old g.old result t.new
+    requires next { IsNext G.Pages line t.old g.old }
+    ensures done { AnswersLine G.Pages (event.Close pid handle) line t.old g.old result t.new
         g.new }
-    ensures marked { MarkedOver G.Pages (event.Close pid handle) line t.old g.old result t.new g.new }
     ensures loans { G.loans g.new ≡ G.loans g.old }
 {
     t.sound();
@@ -162,19 +145,13 @@ pub(crate) fn map_line<G: Pages>(
     view_length: u32,
     addr: u32,
 ) -> Result<Answer, NoMemory>
-    requires keeps { KeepsOver G.Pages t.old g.old }
-    requires next { line ≡ (G.store g.old).line + 1 }
-    ensures ok { IfOk result (λ a.
-        DecidedOver G.Pages (event.Map pid handle access offset view_length addr) line t.old g.old a
-        t.new g.new) }
-    ensures err { OnErr result (IdleOver G.Pages t.old g.old t.new g.new) }
+    requires next { IsNext G.Pages line t.old g.old }
+    ensures done { IfOk result (λ a. AnswersLine G.Pages (event.Map pid handle access offset
+        view_length addr) line t.old g.old a t.new g.new) }
+    ensures broke { OnErr result (HaltsLine G.Pages line t.old g.old t.new g.new) }
     ensures no_memory { is_success (map_view t.old pid.0 handle access offset view_length
         addr).answer ≡ false
         → IsOk result }
-    ensures marked { IfOk result (λ a.
-        MarkedOver G.Pages (event.Map pid handle access offset view_length addr) line t.old g.old a
-        t.new g.new) }
-    ensures halted { OnErr result (HaltedOver G.Pages line g.old g.new) }
     ensures loans { G.loans g.new ≡ G.loans g.old }
 {
     t.sound();
@@ -190,10 +167,8 @@ pub(crate) fn unmap_line<G: Pages>(
     pid: Pid,
     addr: u32,
 ) -> Answer
-    requires keeps { KeepsOver G.Pages t.old g.old }
-    requires next { line ≡ (G.store g.old).line + 1 }
-    ensures decided { DecidedOver G.Pages (event.Unmap pid addr) line t.old g.old result t.new g.new }
-    ensures marked { MarkedOver G.Pages (event.Unmap pid addr) line t.old g.old result t.new g.new }
+    requires next { IsNext G.Pages line t.old g.old }
+    ensures done { AnswersLine G.Pages (event.Unmap pid addr) line t.old g.old result t.new g.new }
     ensures loans { G.loans g.new ≡ G.loans g.old }
 {
     t.sound();
@@ -210,11 +185,8 @@ pub(crate) fn flush_line<G: Pages>(
     addr: u32,
     size: u32,
 ) -> Answer
-    requires keeps { KeepsOver G.Pages t.old g.old }
-    requires next { line ≡ (G.store g.old).line + 1 }
-    ensures decided { DecidedOver G.Pages (event.Flush pid addr size) line t.old g.old result t.new
-        g.new }
-    ensures marked { MarkedOver G.Pages (event.Flush pid addr size) line t.old g.old result t.new
+    requires next { IsNext G.Pages line t.old g.old }
+    ensures done { AnswersLine G.Pages (event.Flush pid addr size) line t.old g.old result t.new
         g.new }
     ensures loans { G.loans g.new ≡ G.loans g.old }
 {

@@ -1,10 +1,10 @@
-ghost use Rattle.std.specs.Prelude.{◌≡◌, ◌+◌, false, IfOk, IsOk, OnErr};
+ghost use Rattle.std.specs.Prelude.{◌≡◌, false, IfOk, IsOk, OnErr};
 ghost use Rattle.mm_types.specs.declared.events.Event.TheVariants as event;
 ghost use Rattle.mm_world.specs.Contents.{blank};
 ghost use Rattle.mm_world.specs.Laws.{is_success};
 ghost use Rattle.mm_world.specs.Stack.{stack};
 ghost use Rattle.mm_calls.specs.Growth.{grows};
-ghost use Rattle.mm_core.specs.Over.{DecidedOver, HaltedOver, IdleOver, KeepsOver, MarkedOver};
+ghost use Rattle.mm_core.specs.LinePromises.{AnswersLine, HaltsLine, IsNext};
 
 use crate::beginning::begin;
 use mm_calls::{probe, stack};
@@ -24,16 +24,12 @@ pub(crate) fn stack_line<G: Pages>(
     reserve: u32,
     commit: u32,
 ) -> Result<Answer, NoMemory>
-    requires keeps { KeepsOver G.Pages t.old g.old }
-    requires next { line ≡ (G.store g.old).line + 1 }
-    ensures ok { IfOk result (λ a. DecidedOver G.Pages (event.Stack tid pid reserve commit) line
-        t.old g.old a t.new g.new) }
-    ensures err { OnErr result (IdleOver G.Pages t.old g.old t.new g.new) }
+    requires next { IsNext G.Pages line t.old g.old }
+    ensures done { IfOk result (λ a. AnswersLine G.Pages (event.Stack tid pid reserve commit)
+        line t.old g.old a t.new g.new) }
+    ensures broke { OnErr result (HaltsLine G.Pages line t.old g.old t.new g.new) }
     ensures no_memory { is_success (stack blank t.old tid.0 pid.0 reserve commit).answer ≡ false →
         IsOk result }
-    ensures marked { IfOk result (λ a. MarkedOver G.Pages (event.Stack tid pid reserve commit) line
-        t.old g.old a t.new g.new) }
-    ensures halted { OnErr result (HaltedOver G.Pages line g.old g.new) }
     ensures loans { G.loans g.new ≡ G.loans g.old }
 {
     t.sound();
@@ -49,15 +45,11 @@ pub(crate) fn probe_line<G: Pages>(
     tid: Tid,
     addr: u32,
 ) -> Result<Answer, NoMemory>
-    requires keeps { KeepsOver G.Pages t.old g.old }
-    requires next { line ≡ (G.store g.old).line + 1 }
-    ensures ok { IfOk result (λ a. DecidedOver G.Pages (event.Probe tid addr) line t.old g.old a
-        t.new g.new) }
-    ensures err { OnErr result (IdleOver G.Pages t.old g.old t.new g.new) }
+    requires next { IsNext G.Pages line t.old g.old }
+    ensures done { IfOk result (λ a. AnswersLine G.Pages (event.Probe tid addr) line t.old g.old
+        a t.new g.new) }
+    ensures broke { OnErr result (HaltsLine G.Pages line t.old g.old t.new g.new) }
     ensures no_memory { grows blank t.old tid.0 addr ≡ false → IsOk result }
-    ensures marked { IfOk result (λ a. MarkedOver G.Pages (event.Probe tid addr) line t.old g.old a
-        t.new g.new) }
-    ensures halted { OnErr result (HaltedOver G.Pages line g.old g.new) }
     ensures loans { G.loans g.new ≡ G.loans g.old }
 {
     t.sound();

@@ -5,11 +5,8 @@ ghost use Rattle.mm_types.specs.declared.moves.LineKind.TheVariants as line_kind
 ghost use Rattle.mm_world.specs.Access.{address_in, attempt_in};
 ghost use Rattle.mm_world.specs.Failure.{wait_failed};
 ghost use Rattle.mm_world.specs.Find.{process_of};
-ghost use Rattle.mm_pages.specs.Reports.{IsBegun};
 ghost use Rattle.mm_tables.specs.Threads.{FitsPage};
 ghost use Rattle.mm_core.specs.Pending.{ThreadWent};
-ghost use Rattle.mm_core.specs.declared.threads.Threaded.TheVariants as threaded;
-ghost use Rattle.mm_core.specs.Deciding.{LineBegins};
 ghost use Rattle.mm_core.specs.Forgetting.{waited, EndsWaits};
 ghost use Rattle.mm_types.specs.declared.moves.Move.TheVariants as move;
 ghost use Rattle.mm_pages.specs.Accesses.{Forgets};
@@ -17,8 +14,9 @@ ghost use Rattle.mm_pages.specs.Housekeeping.{OneMove};
 ghost use Rattle.mm_core.specs.Answering.{TurnedBy};
 ghost use Rattle.mm_core.specs.Lining.{Lined};
 ghost use Rattle.mm_world.specs.Step.{keep};
-ghost use Rattle.mm_types.specs.declared.answers.Why.{Why};
 ghost use Rattle.mm_core.specs.Over.{DecidedOver, FitsOver, KeepsOver, PassesOver, aim_over, world_over};
+ghost use Rattle.mm_core.specs.LinePromises.{IsNext, StartsLine};
+ghost use Rattle.mm_core.specs.AccessPromises.{CanTurn, TurnKeeps};
 
 use crate::beginning::begin;
 use crate::threads::{Threaded, read_access, write_access};
@@ -36,21 +34,17 @@ fn access_on<G: Pages>(
     failed: bool,
 ) -> Threaded
     requires lives { is_some (process_of t.old pid.0) ≡ true }
-    requires keeps { KeepsOver G.Pages t.old g.old }
-    requires form { (G.store g.old).kind ≡ line_kind.Thread pid }
-    requires begun { IsBegun (G.store g.old).report }
+    requires can { CanTurn G.Pages t.old pid g.old }
     requires fits { FitsPage what.now }
     ensures turned { ThreadWent result failed t.old.machine.depth (world_over G.Pages t.old g.old)
         pid.0
         (address_in what.now) (attempt_in what.now) (G.store g.old) (G.store g.new)
         (world_over G.Pages t.new g.new) }
     ensures keeps { KeepsOver G.Pages t.new g.new }
-    ensures line { (G.store g.new).line ≡ (G.store g.old).line }
-    ensures unpaged { G.unpaged ≡ true → (why : Why) → result ≡ threaded.Waiting why → ⊥ }
+    ensures rest { TurnKeeps G.Pages result g.old g.new }
     ensures passes { PassesOver G.Pages
         (TurnedBy (aim_over G.Pages t.old g.old pid (address_in what.now) (attempt_in what.now))
         tid.0 result (G.store g.new).report) g.old g.new }
-    ensures loans { G.loans g.new ≡ G.loans g.old }
 {
     match what {
         AccessSpec::Read { addr, len } => read_access(t, g, tid, pid, *addr, *len, failed),
@@ -65,14 +59,12 @@ fn begin_thread<G: Pages>(t: &Tables, g: &mut G, line: u32, pid: Pid, busy: bool
     requires next { line ≡ (G.store g.old).line + 1 }
     ensures lives { result ≡ is_some (process_of t.now pid.0) }
     ensures fits { FitsOver G.Pages t.now g.new }
-    ensures begins { LineBegins line (G.store g.old) (G.store g.new) }
+    ensures starts { StartsLine G.Pages line g.old g.new }
     ensures form { result ≡ true → busy ≡ false → (G.store g.new).kind ≡ line_kind.Thread pid }
-    ensures contents { G.contents g.new ≡ G.contents g.old }
     ensures passes { PassesOver G.Pages
         (OneMove (move.At line
         (if busy then line_kind.Call else if result then line_kind.Thread pid else line_kind.Call)))
         g.old g.new }
-    ensures loans { G.loans g.new ≡ G.loans g.old }
 {
     let lives = t.has(pid);
     if lives && !busy {
@@ -93,8 +85,7 @@ pub(crate) fn begin_line<G: Pages>(
     pid: Pid,
     what: &AccessSpec,
 ) -> Answer
-    requires keeps { KeepsOver G.Pages t.old g.old }
-    requires next { line ≡ (G.store g.old).line + 1 }
+    requires next { IsNext G.Pages line t.old g.old }
     requires fits { FitsPage what.now }
     ensures decided { DecidedOver G.Pages (event.Begin tid pid what.now) line t.old g.old result
         t.new g.new }
@@ -149,8 +140,7 @@ fn end_access<G: Pages>(t: &mut Tables, g: &mut G, tid: Tid)
 /// Decides a `resume` line (own): the access that a thread keeps is decided anew, in the world that
 /// there is now. Any answer but `pending` ends it.
 pub(crate) fn resume_line<G: Pages>(t: &mut Tables, g: &mut G, line: u32, tid: Tid) -> Answer
-    requires keeps { KeepsOver G.Pages t.old g.old }
-    requires next { line ≡ (G.store g.old).line + 1 }
+    requires next { IsNext G.Pages line t.old g.old }
     requires idle { G.unpaged ≡ true → (n : ℕ) → (G.store g.old).report.wait n ≡ wait.None }
     ensures decided { DecidedOver G.Pages (event.Resume tid) line t.old g.old result t.new g.new }
     ensures waits { EndsWaits t.old (event.Resume tid) result (G.store g.new).report }

@@ -1,19 +1,12 @@
-ghost use Rattle.std.specs.Prelude.{◌≡◌, ◌≤◌, ◌+◌, ◌%◌, true, false, Some, is_some, IsOk, IfOk, IfErr, OnErr, length};
-ghost use Rattle.mm_types.specs.declared.moves.LineKind.TheVariants as line_kind;
+ghost use Rattle.std.specs.Prelude.{◌≡◌, ◌≤◌, ◌+◌, ◌%◌, true, false, is_some, IfOk, IfErr, length};
 ghost use Rattle.mm_types.specs.declared.protections.Access.TheVariants as access_kind;
-ghost use Rattle.mm_types.specs.Address.{page_of};
 ghost use Rattle.mm_world.specs.Access.{ReadOf, WriteOf};
-ghost use Rattle.mm_world.specs.WellFormed.{Spaces};
-ghost use Rattle.mm_pages.specs.Reports.{IsBegun};
-ghost use Rattle.mm_pages.specs.Conditions.{place_at};
-ghost use Rattle.mm_tables.specs.Fits.{key_at};
-ghost use Rattle.mm_core.specs.Accessing.{Admits};
 ghost use Rattle.mm_world.specs.Find.{process_of};
 ghost use Rattle.mm_types.specs.declared.answers.Why.{Why};
-ghost use Rattle.mm_core.specs.declared.threads.Threaded.TheVariants as threaded;
 ghost use Rattle.mm_core.specs.Pending.{Waits, AccessMade, ThreadWent};
 ghost use Rattle.mm_core.specs.Answering.{WentBy, TurnedBy};
 ghost use Rattle.mm_core.specs.Over.{KeepsOver, PassesOver, aim_over, world_over};
+ghost use Rattle.mm_core.specs.AccessPromises.{LieInPage, CanStart, CanTurn, StartKeeps, TurnKeeps};
 
 use crate::access_lines::{read_at, write_at, write_to_copy};
 use crate::fetching::place_of;
@@ -44,29 +37,20 @@ pub(crate) fn read_on<G: Pages>(
     row: CommittedRow,
     len: u32,
 ) -> Result<Answer, Why>
-    requires keeps { KeepsOver G.Pages t.now g.old }
-    requires spaces { Spaces t.now }
-    requires admitted { Admits t.now pid.0 addr access_kind.Read row }
-    requires at { key_at t.now (place_at pid (page_of addr)) ≡ Some row.key }
-    requires form { (G.store g.old).kind ≡ line_kind.Thread pid }
-    requires begun { IsBegun (G.store g.old).report }
+    requires can { CanStart G.Pages access_kind.Read t.now pid addr row g.old }
     requires some { 1 ≤ len }
-    requires few { len ≤ 64 }
-    requires inside { addr % 4096 + len ≤ 4096 }
+    requires lie { LieInPage addr len }
     ensures went { IfOk result (λ a. AccessMade t.now.machine.depth (world_over G.Pages t.now g.old)
-        pid.0
-        addr (ReadOf len) (G.store g.old) (G.store g.new) a (world_over G.Pages t.now g.new)) }
+        pid.0 addr (ReadOf len) (G.store g.old) (G.store g.new) a
+        (world_over G.Pages t.now g.new)) }
     ensures waits { IfErr result
         (λ why. Waits t.now.machine.depth (world_over G.Pages t.now g.old) pid.0 addr (ReadOf len)
         (G.store g.old) (G.store g.new) why) }
-    ensures same { OnErr result (G.contents g.new ≡ G.contents g.old) }
     ensures keeps { KeepsOver G.Pages t.now g.new }
-    ensures line { (G.store g.new).line ≡ (G.store g.old).line }
-    ensures unpaged { G.unpaged ≡ true → IsOk result }
+    ensures rest { StartKeeps G.Pages result t.now g.old t.now g.new }
     ensures passes { PassesOver G.Pages
         (WentBy (aim_over G.Pages t.now g.old pid addr (ReadOf len)) tid.0 result
         (G.store g.new).report) g.old g.new }
-    ensures loans { G.loans g.new ≡ G.loans g.old }
 {
     g.sound();
     match g.start(tid, place_of(pid, addr), row.key, Need::Touch) {
@@ -90,28 +74,20 @@ pub(crate) fn write_on<G: Pages>(
     row: CommittedRow,
     bytes: &ByteBuf,
 ) -> Result<Answer, Why>
-    requires keeps { KeepsOver G.Pages t.old g.old }
-    requires spaces { Spaces t.old }
-    requires admitted { Admits t.old pid.0 addr access_kind.Write row }
-    requires at { key_at t.old (place_at pid (page_of addr)) ≡ Some row.key }
-    requires form { (G.store g.old).kind ≡ line_kind.Thread pid }
-    requires begun { IsBegun (G.store g.old).report }
+    requires can { CanStart G.Pages access_kind.Write t.old pid addr row g.old }
     requires stays { row.copies ≡ false }
     requires inside { addr % 4096 + length bytes.now ≤ 4096 }
     ensures went { IfOk result (λ a. AccessMade t.old.machine.depth (world_over G.Pages t.old g.old)
-        pid.0
-        addr (WriteOf bytes.now) (G.store g.old) (G.store g.new) a (world_over G.Pages t.new g.new)) }
+        pid.0 addr (WriteOf bytes.now) (G.store g.old) (G.store g.new) a
+        (world_over G.Pages t.new g.new)) }
     ensures waits { IfErr result
         (λ why. Waits t.old.machine.depth (world_over G.Pages t.old g.old) pid.0 addr
         (WriteOf bytes.now) (G.store g.old) (G.store g.new) why) }
-    ensures same { OnErr result ((t.new ≡ t.old) × (G.contents g.new ≡ G.contents g.old)) }
     ensures keeps { KeepsOver G.Pages t.new g.new }
-    ensures line { (G.store g.new).line ≡ (G.store g.old).line }
-    ensures unpaged { G.unpaged ≡ true → IsOk result }
+    ensures rest { StartKeeps G.Pages result t.old g.old t.new g.new }
     ensures passes { PassesOver G.Pages
         (WentBy (aim_over G.Pages t.old g.old pid addr (WriteOf bytes.now)) tid.0 result
         (G.store g.new).report) g.old g.new }
-    ensures loans { G.loans g.new ≡ G.loans g.old }
 {
     g.sound();
     match g.start(tid, place_of(pid, addr), row.key, Need::Touch) {
@@ -135,28 +111,20 @@ pub(crate) fn write_to_copy_on<G: Pages>(
     row: CommittedRow,
     bytes: &ByteBuf,
 ) -> Result<Answer, Why>
-    requires keeps { KeepsOver G.Pages t.old g.old }
-    requires spaces { Spaces t.old }
-    requires admitted { Admits t.old pid.0 addr access_kind.Write row }
-    requires at { key_at t.old (place_at pid (page_of addr)) ≡ Some row.key }
-    requires form { (G.store g.old).kind ≡ line_kind.Thread pid }
-    requires begun { IsBegun (G.store g.old).report }
+    requires can { CanStart G.Pages access_kind.Write t.old pid addr row g.old }
     requires copies { row.copies ≡ true }
     requires inside { addr % 4096 + length bytes.now ≤ 4096 }
     ensures went { IfOk result (λ a. AccessMade t.old.machine.depth (world_over G.Pages t.old g.old)
-        pid.0
-        addr (WriteOf bytes.now) (G.store g.old) (G.store g.new) a (world_over G.Pages t.new g.new)) }
+        pid.0 addr (WriteOf bytes.now) (G.store g.old) (G.store g.new) a
+        (world_over G.Pages t.new g.new)) }
     ensures waits { IfErr result
         (λ why. Waits t.old.machine.depth (world_over G.Pages t.old g.old) pid.0 addr
         (WriteOf bytes.now) (G.store g.old) (G.store g.new) why) }
-    ensures same { OnErr result ((t.new ≡ t.old) × (G.contents g.new ≡ G.contents g.old)) }
     ensures keeps { KeepsOver G.Pages t.new g.new }
-    ensures line { (G.store g.new).line ≡ (G.store g.old).line }
-    ensures unpaged { G.unpaged ≡ true → IsOk result }
+    ensures rest { StartKeeps G.Pages result t.old g.old t.new g.new }
     ensures passes { PassesOver G.Pages
         (WentBy (aim_over G.Pages t.old g.old pid addr (WriteOf bytes.now)) tid.0 result
         (G.store g.new).report) g.old g.new }
-    ensures loans { G.loans g.new ≡ G.loans g.old }
 {
     g.sound();
     match g.start(tid, place_of(pid, addr), row.key, Need::Copy) {
@@ -181,22 +149,16 @@ pub(crate) fn read_access<G: Pages>(
     failed: bool,
 ) -> Threaded
     requires lives { is_some (process_of t.old pid.0) ≡ true }
-    requires keeps { KeepsOver G.Pages t.old g.old }
-    requires form { (G.store g.old).kind ≡ line_kind.Thread pid }
-    requires begun { IsBegun (G.store g.old).report }
+    requires can { CanTurn G.Pages t.old pid g.old }
     requires some { 1 ≤ len }
-    requires few { len ≤ 64 }
-    requires inside { addr % 4096 + len ≤ 4096 }
+    requires lie { LieInPage addr len }
     ensures turned { ThreadWent result failed t.old.machine.depth (world_over G.Pages t.old g.old)
-        pid.0
-        addr (ReadOf len) (G.store g.old) (G.store g.new) (world_over G.Pages t.new g.new) }
+        pid.0 addr (ReadOf len) (G.store g.old) (G.store g.new) (world_over G.Pages t.new g.new) }
     ensures keeps { KeepsOver G.Pages t.new g.new }
-    ensures line { (G.store g.new).line ≡ (G.store g.old).line }
-    ensures unpaged { G.unpaged ≡ true → (why : Why) → result ≡ threaded.Waiting why → ⊥ }
+    ensures rest { TurnKeeps G.Pages result g.old g.new }
     ensures passes { PassesOver G.Pages
         (TurnedBy (aim_over G.Pages t.old g.old pid addr (ReadOf len)) tid.0 result
         (G.store g.new).report) g.old g.new }
-    ensures loans { G.loans g.new ≡ G.loans g.old }
 {
     t.sound();
     let row = match admit(t, pid, addr, Access::Read) {
@@ -223,20 +185,16 @@ pub(crate) fn write_access<G: Pages>(
     failed: bool,
 ) -> Threaded
     requires lives { is_some (process_of t.old pid.0) ≡ true }
-    requires keeps { KeepsOver G.Pages t.old g.old }
-    requires form { (G.store g.old).kind ≡ line_kind.Thread pid }
-    requires begun { IsBegun (G.store g.old).report }
+    requires can { CanTurn G.Pages t.old pid g.old }
     requires inside { addr % 4096 + length bytes.now ≤ 4096 }
     ensures turned { ThreadWent result failed t.old.machine.depth (world_over G.Pages t.old g.old)
-        pid.0
-        addr (WriteOf bytes.now) (G.store g.old) (G.store g.new) (world_over G.Pages t.new g.new) }
+        pid.0 addr (WriteOf bytes.now) (G.store g.old) (G.store g.new)
+        (world_over G.Pages t.new g.new) }
     ensures keeps { KeepsOver G.Pages t.new g.new }
-    ensures line { (G.store g.new).line ≡ (G.store g.old).line }
-    ensures unpaged { G.unpaged ≡ true → (why : Why) → result ≡ threaded.Waiting why → ⊥ }
+    ensures rest { TurnKeeps G.Pages result g.old g.new }
     ensures passes { PassesOver G.Pages
         (TurnedBy (aim_over G.Pages t.old g.old pid addr (WriteOf bytes.now)) tid.0 result
         (G.store g.new).report) g.old g.new }
-    ensures loans { G.loans g.new ≡ G.loans g.old }
 {
     t.sound();
     let row = match admit(t, pid, addr, Access::Write) {

@@ -1,6 +1,6 @@
-ghost use Rattle.std.specs.Prelude.{◌≡◌, ◌≤◌, ◌+◌};
+ghost use Rattle.std.specs.Prelude.{◌≡◌, ◌≤◌};
 ghost use Rattle.mm_types.specs.declared.events.Event.TheVariants as event;
-ghost use Rattle.mm_core.specs.Over.{DecidedOver, KeepsOver, MarkedOver};
+ghost use Rattle.mm_core.specs.LinePromises.{AnswersLine, IsNext};
 
 use crate::beginning::begin;
 use mm_calls::{reset_watch, watch};
@@ -19,13 +19,10 @@ pub(crate) fn watch_line<G: Pages>(
     size: u32,
     count: u32,
 ) -> Answer
-    requires keeps { KeepsOver G.Pages t.old g.old }
-    requires next { line ≡ (G.store g.old).line + 1 }
+    requires next { IsNext G.Pages line t.old g.old }
     requires few { count ≤ 16 }
-    ensures decided { DecidedOver G.Pages (event.Watch pid unwrites addr size count) line
-        t.old g.old result t.new g.new }
-    ensures marked { MarkedOver G.Pages (event.Watch pid unwrites addr size count) line
-        t.old g.old result t.new g.new }
+    ensures done { AnswersLine G.Pages (event.Watch pid unwrites addr size count) line t.old
+        g.old result t.new g.new }
     ensures loans { G.loans g.new ≡ G.loans g.old }
 {
     t.sound();
@@ -42,12 +39,9 @@ pub(crate) fn reset_watch_line<G: Pages>(
     addr: u32,
     size: u32,
 ) -> Answer
-    requires keeps { KeepsOver G.Pages t.old g.old }
-    requires next { line ≡ (G.store g.old).line + 1 }
-    ensures decided { DecidedOver G.Pages (event.ResetWatch pid addr size) line
-        t.old g.old result t.new g.new }
-    ensures marked { MarkedOver G.Pages (event.ResetWatch pid addr size) line
-        t.old g.old result t.new g.new }
+    requires next { IsNext G.Pages line t.old g.old }
+    ensures done { AnswersLine G.Pages (event.ResetWatch pid addr size) line t.old g.old result
+        t.new g.new }
     ensures loans { G.loans g.new ≡ G.loans g.old }
 {
     t.sound();

@@ -83,9 +83,10 @@ impl<G: Pages> World<G> {
     /// `NoMemory` comes only from a `process` for which a number is left, an `alloc` that makes a
     /// region or commits a page that was not, a `protect` that gives a page its first mark, a
     /// `probe` that makes a stack grow, and a `file`, `create`, `createfile`, `open`, `map`, `grow`
-    /// or `stack` that is not refused. Then the world is as it was, and no further line can be
-    /// decided. A failed access and a `fault` come only where a device's count of faults rose in
-    /// the line, or, of a `resume`, where the read that its thread waited for failed before.
+    /// or `stack` that is not refused. Then the world is as it was, what stands in the answer's
+    /// place is not told, and no further line can be decided. A failed access and a `fault` come
+    /// only where a device's count of faults rose in the line, or, of a `resume`, where the read
+    /// that its thread waited for failed before.
     ///
     /// What is told of a line that was decided is one record (`Decides`), and of one that ran out
     /// of memory another (`Breaks`). Over a store that pages, the line's piece of the log of moves

@@ -1,5 +1,5 @@
 ghost use Rattle.std.specs.Prelude.{◌≡◌, ◌<◌, ◌+◌, IfOk, IfSome, OnOk, length};
-ghost use Rattle.mm_moves.specs.Standing.{life as life_of};
+ghost use Rattle.mm_replay.specs.Standing.{life as life_of};
 ghost use Rattle.mm_faults.specs.Rest.{tally_of};
 ghost use Rattle.mm_faults.specs.Tallies.{counted, no_tally, one_more};
 ghost use Rattle.mm_faults.specs.Kept.{counts_at};
@@ -10,7 +10,7 @@ use crate::kinds::{
     page_of, place_of, process_of,
 };
 use mm_classes::Class;
-use mm_moves::Life;
+use mm_replay::Life;
 use mm_types::{Key, Move, NoMemory};
 use std::alloc::Global;
 use std::collections::BTreeMap;

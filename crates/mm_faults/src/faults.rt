@@ -4,13 +4,13 @@ ghost use Rattle.mm_life.specs.Effect.{after_move};
 ghost use Rattle.mm_life.specs.Life.{unstarted};
 ghost use Rattle.mm_classes.specs.Classes.{class_of};
 ghost use Rattle.mm_classes.specs.Marking.{marks_of};
-ghost use Rattle.mm_moves.specs.Standing.{life as life_of};
+ghost use Rattle.mm_replay.specs.Standing.{life as life_of};
 ghost use Rattle.mm_faults.specs.Rows.{fault_rows};
 
 use crate::counters::Counters;
 use crate::rows::put_tally;
 use mm_classes::{Class, Marks, class_of};
-use mm_moves::Life;
+use mm_replay::Life;
 use mm_sentences::put_why;
 use mm_tell::Teller;
 use mm_types::{Move, NoMemory};

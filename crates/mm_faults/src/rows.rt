@@ -15,7 +15,7 @@ use mm_text::{LineBuf, put_decimal, put_left, put_numbers, put_right_number};
 use mm_types::NoMemory;
 use std::collections::BTreeMap;
 
-#[tactic(auto, using(mm_moves::proofs::Onto::onto))]
+#[tactic(auto, using(mm_text::proofs::DigitCounts::joined))]
 fn put_head(text: &mut Vec<u8>) -> Result<(), NoMemory>
     ensures { OnOk result (text.new.items ≡ text.old.items ++ head) }
 {
@@ -30,7 +30,7 @@ fn put_head(text: &mut Vec<u8>) -> Result<(), NoMemory>
 }
 
 /// Writes words and a number.
-#[tactic(auto, using(mm_moves::proofs::Onto::onto))]
+#[tactic(auto, using(mm_text::proofs::DigitCounts::joined))]
 fn put_numbered(words: &[u8], n: u64, text: &mut Vec<u8>) -> Result<(), NoMemory>
     ensures { OnOk result (text.new.items ≡ text.old.items ++ (words.now ++ decimal n)) }
 {
@@ -39,7 +39,7 @@ fn put_numbered(words: &[u8], n: u64, text: &mut Vec<u8>) -> Result<(), NoMemory
 }
 
 /// Writes two numbers, each behind words, and words behind them.
-#[tactic(auto, using(mm_moves::proofs::Onto::onto))]
+#[tactic(auto, using(mm_text::proofs::DigitCounts::joined))]
 fn put_pair(
     words: &[u8],
     first: u64,
@@ -76,7 +76,7 @@ fn percent(hard: u64, soft: u128) -> u64
 }
 
 /// Writes how many of a hundred hard and soft faults are hard, if there are any.
-#[tactic(auto, using(mm_moves::proofs::Onto::onto))]
+#[tactic(auto, using(mm_text::proofs::DigitCounts::joined))]
 fn put_share(hard: u64, soft: u128, text: &mut Vec<u8>) -> Result<(), NoMemory>
     requires { soft < 2 ^ 66 }
     ensures { OnOk result (text.new.items ≡ text.old.items ++ share hard soft) }
@@ -90,7 +90,7 @@ fn put_share(hard: u64, soft: u128, text: &mut Vec<u8>) -> Result<(), NoMemory>
 }
 
 /// Writes the row of a process and a page, or of all pages.
-#[tactic(auto, using(mm_moves::proofs::Onto::onto))]
+#[tactic(auto, using(mm_text::proofs::DigitCounts::joined))]
 fn put_fault_row(
     pid: u8,
     page: &[u8],
@@ -118,7 +118,7 @@ fn letter(shared: bool) -> &'static [u8]
 }
 
 /// The key of a page, as logs spell it.
-#[tactic(auto, using(mm_moves::proofs::Onto::onto_short))]
+#[tactic(auto, using(mm_text::proofs::Lines::steps))]
 fn page_line(place: FaultPlace) -> LineBuf
     ensures { result ≡ page_text place }
 {
@@ -163,7 +163,7 @@ fn put_page_rows(
 }
 
 /// Writes the rows of a process: of all its pages together, and of each.
-#[tactic(auto, using(mm_moves::proofs::Onto::onto))]
+#[tactic(auto, using(mm_text::proofs::DigitCounts::joined))]
 fn put_process(
     pages: &BTreeMap<FaultPlace, [u64; 8]>,
     pid: u8,
@@ -216,7 +216,7 @@ fn put_writes(written: u64, failed: u64, text: &mut Vec<u8>) -> Result<(), NoMem
 }
 
 /// Writes how requests on a device ended.
-#[tactic(auto, using(mm_moves::proofs::Onto::onto))]
+#[tactic(auto, using(mm_text::proofs::DigitCounts::joined))]
 fn put_device(name: &[u8], ends: &[u64; 4], text: &mut Vec<u8>) -> Result<(), NoMemory>
     ensures { OnOk result (text.new.items ≡ text.old.items ++ device_row name.now ends.now) }
 {
@@ -256,7 +256,7 @@ fn put_soft(soft: u64, first_uses: u64, text: &mut Vec<u8>) -> Result<(), NoMemo
 }
 
 /// Writes what a check of the log counts.
-#[tactic(auto, using(mm_moves::proofs::Onto::onto))]
+#[tactic(auto, using(mm_text::proofs::DigitCounts::joined))]
 fn put_check(counters: &Counters, text: &mut Vec<u8>) -> Result<(), NoMemory>
     ensures { OnOk result (text.new.items
         ≡ text.old.items ++ check_row (tally_of counters.now)) }
@@ -266,7 +266,7 @@ fn put_check(counters: &Counters, text: &mut Vec<u8>) -> Result<(), NoMemory>
 }
 
 /// Writes all that was counted.
-#[tactic(auto, using(mm_moves::proofs::Onto::onto))]
+#[tactic(auto, using(mm_text::proofs::DigitCounts::joined))]
 pub(crate) fn put_tally(counters: &Counters, text: &mut Vec<u8>) -> Result<(), NoMemory>
     ensures { OnOk result (text.new.items
         ≡ text.old.items ++ tally_text (tally_of counters.now)) }

@@ -36,7 +36,11 @@ impl Model for Flight {
 
     ghost Value = { FlightOf };
 
-    ghost view = { λ f. record { depth = f.depth; frames = map number_of f.frames.items; waits = f.waits.items } };
+    ghost view = { λ f. record {
+      depth = f.depth;
+      frames = map number_of f.frames.items;
+      waits = f.waits.items;
+    } };
 
     ghost invariant = { λ f. record {
       room : HasRoom f.depth (vec_len f.frames) (vec_capacity f.frames) (length f.waits.items);

@@ -4,6 +4,3 @@
 mod flights;
 
 pub use flights::{Flight, Waiting};
-
-#[cfg(test)]
-mod tests;

@@ -98,7 +98,8 @@ pub fn searches_keep_their_order()
     ensures turn { (start l : FrameLife) (ages : Ages) (pinned : Option Frame) (moves : List Move) →
         Sound start → Emptying start l moves → InOrder start l ages pinned moves →
         (place : Place) (f : Frame) → l.valid place ≡ Some f → IsVictim l ages pinned place →
-        InOrder start (after_move l (move.Unmap place)) ages pinned (moves ++ move.Unmap place ∷ []) }
+        InOrder start (after_move l (move.Unmap place)) ages pinned
+        (moves ++ move.Unmap place ∷ []) }
     ensures turn_wrote { (start l : FrameLife) (ages : Ages) (pinned : Option Frame)
         (moves : List Move) → Sound start → Emptying start l moves →
         InOrder start l ages pinned moves → (place : Place) (f : Frame) → l.valid place ≡ Some f →

@@ -5,6 +5,8 @@
 #[cfg(test)]
 mod entries;
 #[cfg(test)]
+mod flights;
+#[cfg(test)]
 mod logs;
 #[cfg(test)]
 mod moves;

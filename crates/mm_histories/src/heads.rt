@@ -1,12 +1,12 @@
 ghost use Rattle.std.specs.Prelude.{◌≡◌, ◌++◌, ◌∷◌, [], ℕ, List, OnOk, codes};
 ghost use Rattle.mm_types.specs.declared.moves.Move.{Move};
 ghost use Rattle.mm_life.specs.MoveText.{numbered};
-ghost use Rattle.mm_moves.specs.Standing.{life as life_of};
+ghost use Rattle.mm_replay.specs.Standing.{life as life_of};
 ghost use Rattle.mm_sentences.specs.States.{frame_row};
 ghost use Rattle.mm_histories.specs.Histories.{frames_in, head, held_text, end_text};
 
 use crate::subjects::Subject;
-use mm_moves::Life;
+use mm_replay::Life;
 use mm_sentences::{put_frame_row, put_key, put_number, put_words};
 use mm_types::{Frame, Held, Key, LineKind, Move, NoMemory};
 
@@ -21,7 +21,7 @@ fn frames_in(m: &Move) -> u32
 }
 
 /// Writes words, a number and a line feed.
-#[tactic(auto, using(mm_moves::proofs::Onto::onto))]
+#[tactic(auto, using(mm_text::proofs::DigitCounts::joined))]
 fn put_numbered(words: &[u8], n: u32, text: &mut Vec<u8>) -> Result<(), NoMemory>
     ensures { OnOk result (text.new.items ≡ text.old.items ++ numbered words.now n (10 ∷ [])) }
 {
@@ -31,7 +31,7 @@ fn put_numbered(words: &[u8], n: u32, text: &mut Vec<u8>) -> Result<(), NoMemory
 }
 
 /// Writes what stands above the rows of a log with this first move.
-#[tactic(auto, using(mm_moves::proofs::Onto::onto))]
+#[tactic(auto, using(mm_text::proofs::DigitCounts::joined))]
 pub(crate) fn put_head(subject: Subject, m: &Move, text: &mut Vec<u8>) -> Result<(), NoMemory>
     ensures { OnOk result ((ms : List Move) → text.new.items
         ≡ text.old.items ++ head subject (m.now ∷ ms)) }
@@ -53,7 +53,7 @@ pub(crate) fn put_head(subject: Subject, m: &Move, text: &mut Vec<u8>) -> Result
 }
 
 /// Writes what stands above the rows of a log without moves.
-#[tactic(auto, using(mm_moves::proofs::Onto::onto))]
+#[tactic(auto, using(mm_text::proofs::DigitCounts::joined))]
 pub(crate) fn put_head_alone(subject: Subject, text: &mut Vec<u8>) -> Result<(), NoMemory>
     ensures { OnOk result (text.new.items ≡ text.old.items ++ head subject []) }
 {
@@ -67,7 +67,7 @@ pub(crate) fn put_head_alone(subject: Subject, text: &mut Vec<u8>) -> Result<(),
     }
 }
 
-#[tactic(auto, using(mm_moves::proofs::Onto::onto))]
+#[tactic(auto, using(mm_text::proofs::DigitCounts::joined))]
 fn put_held(held: Held, text: &mut Vec<u8>) -> Result<(), NoMemory>
     ensures { OnOk result (text.new.items ≡ text.old.items ++ held_text held) }
 {

@@ -2,14 +2,14 @@ ghost use Rattle.std.specs.Prelude.{◌≡◌, ◌++◌, ◌∷◌, [], ℕ, Boo
 ghost use Rattle.mm_types.specs.declared.moves.Move.{Move};
 ghost use Rattle.mm_life.specs.Effect.{after_move};
 ghost use Rattle.mm_life.specs.Life.{unstarted};
-ghost use Rattle.mm_moves.specs.Standing.{life as life_of};
+ghost use Rattle.mm_replay.specs.Standing.{life as life_of};
 ghost use Rattle.mm_histories.specs.Histories.{history, frame_history, key_history, end_text};
 ghost use Rattle.mm_histories.specs.Rest.{head_left};
 
 use crate::heads::{put_end, put_head, put_head_alone};
 use crate::rows::{Noted, note, put_waiting};
 use crate::subjects::Subject;
-use mm_moves::Life;
+use mm_replay::Life;
 use mm_sentences::put_why;
 use mm_tell::{Classifier, Teller};
 use mm_types::{Key, Move, NoMemory};
@@ -103,7 +103,7 @@ impl HistoryTeller {
     }
 
     /// Writes the row of the last move, and at the end of a whole log how the subject stands.
-    #[tactic(auto, using(mm_moves::proofs::Onto::onto))]
+    #[tactic(auto, using(mm_text::proofs::DigitCounts::joined))]
     fn put_last(&self, whole: bool, life: &Life, text: &mut Vec<u8>) -> Result<(), NoMemory>
         ensures { OnOk result (text.new.items ≡ text.old.items
             ++ history_rest self.now whole (life_of life.now) []) }

@@ -1,13 +1,13 @@
 ghost use Rattle.std.specs.Prelude.{◌≡◌, ◌++◌, ◌∷◌, [], OnOk, IfOk, codes};
 ghost use Rattle.mm_types.specs.Spelling.{decimal};
-ghost use Rattle.mm_moves.specs.Standing.{life as life_of};
+ghost use Rattle.mm_replay.specs.Standing.{life as life_of};
 ghost use Rattle.mm_text.specs.Columns.{left_in};
 ghost use Rattle.mm_histories.specs.Histories.{state_before, change_text, row_text, row_of};
 ghost use Rattle.mm_histories.specs.Rest.{noted, waiting_row};
 
 use crate::subjects::{Subject, is_about};
 use mm_classes::Class;
-use mm_moves::Life;
+use mm_replay::Life;
 use mm_sentences::{Facts, FrameState, facts_of, put_sentence, put_state, put_words, state_of};
 use mm_tell::Classed;
 use mm_text::{LineBuf, put_decimal, put_left};
@@ -45,7 +45,7 @@ pub(crate) fn note(life: &Life, m: &Move) -> Noted
 }
 
 /// Writes the state of a frame before a move and after it, if the move has a frame.
-#[tactic(auto, using(mm_moves::proofs::Onto::onto))]
+#[tactic(auto, using(mm_text::proofs::DigitCounts::joined))]
 fn put_change(
     was: Option<FrameState>,
     frame: Option<Frame>,
@@ -80,7 +80,7 @@ fn change_of(
 }
 
 /// Writes the line of a move, and what became of its frame.
-#[tactic(auto, using(mm_moves::proofs::Onto::onto))]
+#[tactic(auto, using(mm_text::proofs::DigitCounts::joined))]
 fn put_front(line: u32, change: &[u8], text: &mut Vec<u8>) -> Result<(), NoMemory>
     ensures { OnOk result (text.new.items ≡ text.old.items
         ++ (codes "line " ++ (left_in 7 (decimal line) ++ (32 ∷ [] ++ left_in 26 change.now)))) }
@@ -94,7 +94,7 @@ fn put_front(line: u32, change: &[u8], text: &mut Vec<u8>) -> Result<(), NoMemor
 }
 
 /// Writes the row of a move of this class.
-#[tactic(auto, using(mm_moves::proofs::Onto::onto))]
+#[tactic(auto, using(mm_text::proofs::DigitCounts::joined))]
 fn put_row(
     alloc: Global,
     x: &Noted,

@@ -71,7 +71,8 @@ pub trait Sink {
     /// `Failed` none was taken.
     fn write(&mut self, buf: &[u8]) -> Result<usize, Failed>
         ensures bytes { Takes (taken self.old) (taken self.new) buf.now result }
-        ensures given { GivesOn (given self.old) (given self.new) (taken self.old) (taken self.new) }
+        ensures given { GivesOn (given self.old) (given self.new)
+            (taken self.old) (taken self.new) }
         ensures cause { CountsFaults (faults self.old) (faults self.new) result }
         ensures loans { loans self.new ≡ loans self.old };
 
@@ -79,7 +80,8 @@ pub trait Sink {
     /// result is.
     fn flush(&mut self) -> Result<(), Failed>
         ensures taken { taken self.new ≡ taken self.old }
-        ensures given { GivesOn (given self.old) (given self.new) (taken self.old) (taken self.new) }
+        ensures given { GivesOn (given self.old) (given self.new)
+            (taken self.old) (taken self.new) }
         ensures all { OnOk result (given self.new ≡ taken self.new) }
         ensures cause { CountsFaults (faults self.old) (faults self.new) result }
         ensures loans { loans self.new ≡ loans self.old };

@@ -56,7 +56,8 @@ impl Sink for MemSink {
     ghost loans = { λ s. NoLoan };
 
     fn write(&mut self, buf: &[u8]) -> Result<usize, Failed>
-        ensures bytes { Takes (Some self.old.bytes.items) (Some self.new.bytes.items) buf.now result }
+        ensures bytes { Takes (Some self.old.bytes.items) (Some self.new.bytes.items)
+            buf.now result }
         ensures given { GivesOn (Some self.old.bytes.items) (Some self.new.bytes.items)
             (Some self.old.bytes.items) (Some self.new.bytes.items) }
         ensures cause { CountsFaults self.old.faults self.new.faults result }

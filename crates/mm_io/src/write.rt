@@ -7,7 +7,8 @@ use mm_types::Failed;
 /// Writes all of a text, or a front of it where the sink fails.
 pub fn write_all<O: Sink>(out: &mut O, text: &[u8]) -> Result<(), Failed>
     ensures wrote { Wrote (O.taken out.old) (O.taken out.new) text.now (is_err result) }
-    ensures given { GivesOn (O.given out.old) (O.given out.new) (O.taken out.old) (O.taken out.new) }
+    ensures given { GivesOn (O.given out.old) (O.given out.new)
+        (O.taken out.old) (O.taken out.new) }
     ensures cause { CountsFaults (O.faults out.old) (O.faults out.new) result }
     ensures loans { O.loans out.new ≡ O.loans out.old }
 {

@@ -8,6 +8,3 @@
 mod lists;
 
 pub use lists::Lists;
-
-#[cfg(test)]
-mod tests;

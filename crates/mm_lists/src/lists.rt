@@ -28,9 +28,13 @@ impl Model for Lists {
 
     ghost Value = { ListsOf };
 
-    ghost view = { λ s. record { numbers = length s.next.items; lists = rows s.next.items s.firsts.items s.lens.items } };
+    ghost view = { λ s. record {
+      numbers = length s.next.items;
+      lists = rows s.next.items s.firsts.items s.lens.items;
+    } };
 
-    ghost invariant = { λ s. Stands s.next.items s.prev.items s.owner.items s.firsts.items s.lasts.items s.lens.items (rows s.next.items s.firsts.items s.lens.items) };
+    ghost invariant = { λ s. Stands s.next.items s.prev.items s.owner.items s.firsts.items
+        s.lasts.items s.lens.items (rows s.next.items s.firsts.items s.lens.items) };
 }
 
 fn zeros(alloc: Global, n: u32) -> Result<Vec<u32>, NoMemory>
@@ -95,7 +99,8 @@ impl Lists {
         requires list_there { list < length self.old.lists }
         requires below { x < self.old.numbers }
         requires on_none { IsOnNone self.old.lists x }
-        ensures pushed { self.new ≡ with_list self.old list (list_at self.old.lists list ++ x ∷ []) }
+        ensures pushed { self.new ≡ with_list self.old list
+            (list_at self.old.lists list ++ x ∷ []) }
         ensures apart { AreApart self.new }
     {
         let at = list as usize;

@@ -11,7 +11,7 @@ use Rattle.mm_life.specs.Effect.{after_move}
 use Rattle.mm_life.specs.Replay.{Replays}
 use Rattle.mm_life.specs.LogCounts.{CountsOfLog, counts_of_log}
 use Rattle.mm_life.proofs.Replays.{replays_one}
-use Rattle.mm_moves.proofs.Lines.{move_onto-is, one_move}
+use Rattle.mm_replay.proofs.Lines.{move_onto-is, one_move}
 use Rattle.mm_log.specs.LogText.{yes_text, text_of, status_of}
 use Rattle.mm_log.specs.Verdict.{most_bytes, IsStuck, StuckBefore, Came, Shows, Ran}
 use Rattle.mm_log.specs.Exact.{IsFault, SaysYes, SaysNo}

@@ -1,4 +1,5 @@
 pub mod Marked
+pub mod InFront
 pub mod Counts
 pub mod Stuck
 pub mod Readings

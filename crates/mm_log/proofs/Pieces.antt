@@ -1,5 +1,4 @@
 -- Texts that are written piece by piece.
-use Rattle.std.proofs.Common.{◌≡◌, [], ◌++◌, ◌∙◌}
 use Rattle.mm_types.proofs.Bytes.{append_nil}
 
 pub ruleset texts = (append_nil)

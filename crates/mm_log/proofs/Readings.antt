@@ -1,5 +1,6 @@
 -- A log that is read line by line.
-use Rattle.std.proofs.Common.{◌≡◌, ℕ, ◌+◌, ◌-◌, ◌<◌, ◌≤◌, List, [], ◌∷◌, ◌++◌, length, take, drop, Option, None, refl, sym, ap, ◌∙◌, subst, arith, add-one, append_assoc, length-append}
+use Rattle.std.proofs.Common.{◌≡◌, ℕ, suc, ◌+◌, ◌-◌, ◌<◌, ◌≤◌, List, [], ◌∷◌, ◌++◌, length, take, drop, Option, None, refl, sym, ap, ◌∙◌, subst, arith, add-one, append_assoc, length-append}
+use Rattle.std.proofs.Math.Seq.{take-append_seam, drop-append-add}
 use Rattle.std.specs.Prelude.{Result, Ok, Err, MatchResult}
 use Rattle.mm_types.specs.Spelling.{Text}
 use Rattle.mm_types.specs.Outside.{IsEnd}
@@ -7,15 +8,17 @@ use Rattle.mm_types.proofs.Bytes.{took_then, append_nil}
 use Rattle.mm_types.specs.declared.moves.Move.{Move}
 use Rattle.mm_life.specs.MoveText.{move_text, spelling_of_move, spelled_moves, IsMove}
 use Rattle.mm_life.specs.Life.{FrameLife}
+use Rattle.mm_life.specs.Legal.{IsLegal}
 use Rattle.mm_life.proofs.Replays.{spelled-append, moves-append}
-use Rattle.mm_moves.proofs.Lines.{move_onto-is}
+use Rattle.mm_replay.proofs.Lines.{NoFeed, move_onto-is, move_no_feed, move_short}
 use Rattle.mm_io.specs.Lines.{IsLine}
 use Rattle.mm_io.specs.Looking.{HasLine, IsLong}
 use Rattle.mm_io.specs.Filling.{Filled, Finds}
 use Rattle.mm_io.specs.declared.buffers.Found.{Found}
 use Rattle.mm_io.specs.declared.buffers.Found.TheVariants as found
 use Rattle.mm_log.specs.Verdict.{most_bytes, EndsAt}
-use Rattle.mm_log.specs.Reading.{Lines, Reads, Stops, Takes}
+use Rattle.mm_log.specs.InFront.{StandsInFront}
+use Rattle.mm_log.specs.Reading.{Lines, Reading, Reads, Stops, Takes}
 use Rattle.mm_log.specs.declared.readers.LogReader.{LogReader}
 use Rattle.mm_log.specs.declared.endings.Ending.{Ending}
 use Rattle.mm_log.specs.declared.endings.Ending.TheVariants as ending
@@ -82,6 +85,48 @@ took_line left left' r r' len l moves (Err e) lines number h few t = record {
   ends = subst (λ (x : Ending). EndsAt x left' moves l r.held r.bytes) (sym t.no) (ap (λ (k : ℕ). k + 1) number, stuck_line l r.held left' len h t.none, few, spells_line l r.held left' len h _ t.spelled);
 }
 
+-- ---- a line that was read without seeking its end
+
+front_is : (m : Move) (rest held : Text) → StandsInFront m rest held → held ≡ move_text m ++ 10 ∷ rest
+front_is m rest held s = sym s.0 ∙ move_onto-is m (10 ∷ rest)
+
+pub shorter : (m : Move) (rest held : Text) → StandsInFront m rest held → length rest < length held
+shorter m rest held s = omega (arith, ap length (front_is m rest held s), length-append (move_text m) (10 ∷ rest))
+
+front_text : (m : Move) (rest held : Text) → StandsInFront m rest held → take (length (move_text m)) held ≡ move_text m
+front_text m rest held s = ap (take (length (move_text m))) (front_is m rest held s) ∙ take-append_seam (move_text m) (10 ∷ rest)
+
+front_line : (m : Move) (rest held : Text) → StandsInFront m rest held → HasLine held (length (move_text m))
+front_line m rest held s =
+    let n : ℕ = length (move_text m) in
+    let whole : held ≡ move_text m ++ 10 ∷ rest = front_is m rest held s in
+    let front : take n held ≡ move_text m = front_text m rest held s in
+    let behind : drop (suc n) held ≡ rest =
+    ap (drop (suc n)) whole ∙ ap (λ k. drop k (move_text m ++ 10 ∷ rest)) (sym (add-one n)) ∙ drop-append-add (move_text m) (10 ∷ rest) 1 in
+    record {
+      feed = record {
+        within = omega (arith, ap length whole, length-append (move_text m) (10 ∷ rest));
+        whole = whole ∙ ap (λ t. t ++ 10 ∷ rest) (sym front) ∙ ap (λ t. take n held ++ 10 ∷ t) (sym behind);
+        first = subst NoFeed (sym front) (move_no_feed m);
+      };
+      short = omega (arith, move_short m);
+    }
+
+pub took_front : (left left' : Option Text) (r r' : LogReader) (l : FrameLife) (moves : List Move) (m : Move) (rest : Text)
+    → Reading left left' r moves → StandsInFront m rest r.held → r.bytes ≤ most_bytes → IsLegal m l
+    → r'.held ≡ drop (length r.held - length rest) r.held → r'.lines ≡ r.lines + 1 → r'.bytes ≡ r.bytes → Reads left left' r' moves l m
+took_front left left' r r' l moves m rest reading s few legal held lines bytes =
+    let n : ℕ = length (move_text m) in
+    let count : length r.held - length rest ≡ n + 1 = omega (arith, ap length (front_is m rest r.held s), length-append (move_text m) (10 ∷ rest)) in
+    took_line left left' r r' n l moves (Ok m) reading.lines reading.number (front_line m rest r.held s) few (record {
+      in_range = s.1;
+      text = sym (front_text m rest r.held s);
+      legal = legal;
+      held = held ∙ ap (λ k. drop k r.held) count;
+      lines = lines;
+      bytes = bytes;
+    })
+
 -- ---- ends
 
 stops_here : (left left' : Option Text) (held : Text) (moves : List Move) (total : ℕ) (l : FrameLife) (e : Ending) → Lines left left' held moves total → EndsAt e left' moves l held total → Stops left left' moves l e
@@ -117,4 +162,4 @@ stops_last left left' (x ∷ xs) moves lines total l e r number few line end who
     subst (λ (y : Ending). Stops left left' moves l y) (sym (cut (omega arith)))
     (stops_here left left' (x ∷ xs) moves total l (ending.No (lines + 1) None) r (ap (λ (k : ℕ). k + 1) number, stuck_end l (x ∷ xs) left' (omega arith) line end, few, spells_end l (x ∷ xs) left' line end))
 
-pub ruleset readings = (longer)
+pub ruleset readings = (longer, shorter)

@@ -1,9 +1,8 @@
 -- The story of a check: what was read, made and counted so far.
-use Rattle.std.proofs.Common.{◌≡◌, ℕ, ◌<◌, ◌≤◌, List, [], ◌∷◌, ◌++◌, length, Option, refl, sym, ap, ◌∙◌, inl, inr, subst, append_assoc, arith}
+use Rattle.std.proofs.Common.{◌≡◌, ℕ, ◌<◌, List, [], ◌∷◌, ◌++◌, Option, sym, ap, ◌∙◌, inl, inr, subst, append_assoc, arith}
 use Rattle.mm_types.specs.Spelling.{Text}
 use Rattle.mm_types.specs.declared.moves.Move.{Move}
 use Rattle.mm_life.specs.Life.{FrameLife, unstarted}
-use Rattle.mm_life.specs.Effect.{after_move}
 use Rattle.mm_life.specs.Frames.{is_on}
 use Rattle.mm_life.specs.LogCounts.{CountsOfLog}
 use Rattle.mm_life.proofs.Replays.{replays_then, spelled-append}

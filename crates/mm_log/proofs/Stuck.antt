@@ -6,7 +6,7 @@ use Rattle.mm_types.specs.declared.moves.Move.{Move}
 use Rattle.mm_life.specs.MoveText.{move_text, IsMove}
 use Rattle.mm_life.specs.Life.{FrameLife}
 use Rattle.mm_life.specs.Legal.{is_legal}
-use Rattle.mm_moves.proofs.Lines.{NoFeed, move_onto-is, move_no_feed, move_short, one_line, no_line}
+use Rattle.mm_replay.proofs.Lines.{NoFeed, move_onto-is, move_no_feed, move_short, one_line, no_line}
 use Rattle.mm_io.specs.Lines.{IsLine}
 use Rattle.mm_io.specs.Looking.{HasLine, IsLong}
 use Rattle.mm_log.specs.Verdict.{IsStuck, StuckBefore, Spells, SpellsBefore}

@@ -2,7 +2,7 @@ ghost use Rattle.std.specs.Prelude.{◌≡◌, ◌+◌, ◌<◌, ◌≤◌, ◌^
 ghost use Rattle.mm_types.specs.Outside.{Rose};
 ghost use Rattle.mm_life.specs.Life.{unstarted};
 ghost use Rattle.mm_life.specs.Legal.{IsLegal};
-ghost use Rattle.mm_moves.specs.Standing.{life};
+ghost use Rattle.mm_replay.specs.Standing.{life};
 ghost use Rattle.mm_log.specs.Counting.{IsNew};
 ghost use Rattle.mm_log.specs.Verdict.{Came};
 ghost use Rattle.mm_log.specs.Stepping.{Steps, Halts, Stands};
@@ -12,8 +12,8 @@ use crate::endings::Ending;
 use crate::readers::{LogReader, MOST_LINES};
 use crate::tallies::Tally;
 use mm_io::Source;
-use mm_moves::Life;
-use mm_types::{Move, NoMemory};
+use mm_replay::Life;
+use mm_types::{Frame, Move, NoMemory};
 use std::alloc::Global;
 
 /// The state of a replay, and what was counted on the way.
@@ -61,10 +61,11 @@ impl Checker {
         ensures blame { result ≡ Err Ending.ReadFault →
             Rose (S.faults source.old) (S.faults source.new) }
     {
-        let m = match reader.next_move(&self.life, source) {
-            Ok(m) => m,
+        let mut m = Move::Clear(Frame(0));
+        match reader.take_next(&self.life, source, &mut m) {
+            Ok(()) => {}
             Err(e) => return Err(e),
-        };
+        }
         match self.take(&m) {
             Ok(()) => Ok(()),
             Err(NoMemory) => Err(Ending::NoMemory),

@@ -4,6 +4,7 @@
 
 mod checks;
 mod endings;
+mod fronts;
 mod marks;
 mod readers;
 mod tallies;

@@ -1,15 +1,16 @@
-ghost use Rattle.std.specs.Prelude.{◌≡◌, ◌+◌, ◌<◌, ◌≤◌, [], ℕ, List, Option, MatchResult, IfOk, length, Err, None};
+ghost use Rattle.std.specs.Prelude.{◌≡◌, ◌+◌, ◌<◌, ◌≤◌, true, false, [], ℕ, List, Option, MatchResult, IfOk, length, Err, None};
 ghost use Rattle.mm_life.specs.Legal.{IsLegal};
 ghost use Rattle.mm_types.specs.Outside.{Rose};
 ghost use Rattle.mm_types.specs.declared.moves.Move.{Move};
 ghost use Rattle.mm_io.specs.Looking.{HasLine};
-ghost use Rattle.mm_moves.specs.Standing.{life as life_of};
+ghost use Rattle.mm_replay.specs.Standing.{life as life_of};
 ghost use Rattle.mm_log.specs.Verdict.{most_bytes};
 ghost use Rattle.mm_log.specs.Reading.{IsReady, Reading, Reads, Stops, Takes};
 
 use crate::endings::Ending;
+use crate::fronts::front_move;
 use mm_io::{Found, Held, Source};
-use mm_moves::{Life, read_move};
+use mm_replay::{Life, read_move};
 use mm_types::{Failed, Move};
 
 /// The most bytes that a log may have.
@@ -45,6 +46,7 @@ impl LogReader {
     /// Takes the next line, a move that is legal in this state. An ending comes where there is
     /// none: at the end of the log, at a line of no such move, and after a byte too many or a read
     /// that failed. After an ending it reads no more.
+    #[inline(never)]
     #[tactic(auto, using(crate::proofs::Readings::readings))]
     pub fn next_move<S: Source>(&mut self, life: &Life, source: &mut S) -> Result<Move, Ending>
         requires { IsReady self.old }
@@ -75,6 +77,60 @@ impl LogReader {
             Found::Long => Err(Ending::No(self.lines + 1, None)),
             Found::End => Err(last_line(&self.held, self.lines)),
         }
+    }
+
+    /// Takes the line in front of the bytes held, where it is read without seeking its end and is
+    /// a move that is legal in this state. Else it takes nothing.
+    #[tactic(auto, using(crate::proofs::Readings::readings))]
+    fn take_front(&mut self, life: &Life, m: &mut Move) -> bool
+        requires { IsReady self.old }
+        ensures read { result ≡ true → (left left' : Option (List ℕ)) (moves : List Move) →
+            Reading left left' self.old moves
+            → Reads left left' self.new moves (life_of life.now) m.new }
+        ensures legal { result ≡ true → IsLegal m.new (life_of life.now) }
+        ensures ready { result ≡ true → IsReady self.new ×
+            (self.new.lines ≡ self.old.lines + 1) }
+        ensures none { result ≡ false → self.new ≡ self.old }
+    {
+        let bytes = self.held.bytes();
+        let Some(rest) = front_move(bytes, m) else {
+            return false;
+        };
+        let len = bytes.len() - rest.len();
+        if !life.is_legal(m) {
+            return false;
+        }
+        self.held.skip(len);
+        self.lines += 1;
+        true
+    }
+
+    /// Takes the next line as `next_move` does, and writes its move.
+    #[inline(always)]
+    pub fn take_next<S: Source>(
+        &mut self,
+        life: &Life,
+        source: &mut S,
+        m: &mut Move,
+    ) -> Result<(), Ending>
+        requires { IsReady self.old }
+        ensures read { (left : Option (List ℕ)) (moves : List Move) →
+            Reading left (S.left source.old) self.old moves
+            → MatchResult result
+            (λ u. Reads left (S.left source.new) self.new moves (life_of life.now) m.new)
+            (λ e. Stops left (S.left source.new) moves (life_of life.now) e) }
+        ensures legal { IfOk result (λ u. IsLegal m.new (life_of life.now)) }
+        ensures ready { MatchResult result (λ u. IsReady self.new ×
+            (self.new.lines ≡ self.old.lines + 1)) (λ e. Unit {0}) }
+        ensures later { S.faults source.old ≤ S.faults source.new }
+        ensures blame { result ≡ Err Ending.ReadFault →
+            Rose (S.faults source.old) (S.faults source.new) }
+    {
+        if self.take_front(life, m) {
+            return Ok(());
+        }
+        *m = self.next_move(life, source)?;
+        Ok(())
     }
 
     /// Takes the line of `len` bytes that stands in front of those held.

@@ -1,6 +1,4 @@
-ghost use Rattle.std.specs.Prelude.{◌≡◌, ℕ, ◌+◌, ◌<◌, ◌≤◌, ◌^◌, List, OnOk, OnErr, if◌then◌else◌};
-ghost use Rattle.mm_life.specs.LogCounts.{is_give, is_read_in, is_steal, is_wrote, soft_fault, brought_in};
-ghost use Rattle.mm_log.specs.Marking.{AreMarked};
+ghost use Rattle.std.specs.Prelude.{◌≡◌, ◌+◌, ◌<◌, ◌≤◌, ◌^◌, OnOk, if◌then◌else◌};
 ghost use Rattle.mm_log.specs.Counting.{IsNew, Counts};
 
 use crate::marks::Brought;
@@ -42,73 +40,6 @@ fn one_if(b: bool) -> u64
     if b { 1 } else { 0 }
 }
 
-fn is_give(m: &Move) -> bool
-    ensures { result ≡ is_give m.now }
-{
-    match m {
-        Move::Give(_, _) => true,
-        _ => false,
-    }
-}
-
-fn is_read_in(m: &Move) -> bool
-    ensures { result ≡ is_read_in m.now }
-{
-    match m {
-        Move::Read(_, _) => true,
-        _ => false,
-    }
-}
-
-fn is_steal(m: &Move) -> bool
-    ensures { result ≡ is_steal m.now }
-{
-    match m {
-        Move::Steal(_) => true,
-        _ => false,
-    }
-}
-
-fn is_wrote(m: &Move) -> bool
-    ensures { result ≡ is_wrote m.now }
-{
-    match m {
-        Move::Wrote(_) => true,
-        _ => false,
-    }
-}
-
-/// Whether the move maps a frame that was not brought in by this line.
-fn is_soft(brought: &Brought, m: &Move) -> bool
-    ensures { (frames : List ℕ) → AreMarked brought.now frames →
-        soft_fault frames m.now ≡ (if result then 1 else 0) }
-{
-    match *m {
-        Move::Map(frame, _) => !brought.has(frame.0),
-        _ => false,
-    }
-}
-
-/// Marks the frame, if any, that the move brings in.
-#[tactic(auto, using(crate::proofs::Marked::marked))]
-fn bring(brought: &mut Brought, m: &Move) -> Result<(), NoMemory>
-    requires { brought.old.line + 1 < 2 ^ 64 }
-    ensures ok { OnOk result ((frames : List ℕ) → AreMarked brought.old frames →
-        AreMarked brought.new (brought_in frames m.now)) }
-    ensures line { brought.new.line ≤ brought.old.line + 1 }
-    ensures err { OnErr result (brought.new.line ≡ brought.old.line) }
-{
-    match *m {
-        Move::At(_, _) => {
-            brought.begin_line();
-            Ok(())
-        }
-        Move::Give(frame, _) => brought.add(frame.0),
-        Move::Got(frame) => brought.add(frame.0),
-        _ => Ok(()),
-    }
-}
-
 impl Tally {
     /// No move was counted.
     pub(crate) fn new(alloc: Global) -> Tally
@@ -126,18 +57,25 @@ impl Tally {
     }
 
     /// Counts a move.
+    #[tactic(auto, using(crate::proofs::Marked::marked))]
     pub(crate) fn count(&mut self, m: &Move) -> Result<(), NoMemory>
         requires { self.old.counts.moves + 1 < 2 ^ 63 }
         ensures { OnOk result (Counts m.now self.old self.new) }
     {
-        let soft = one_if(is_soft(&self.brought, m));
-        bring(&mut self.brought, m)?;
+        match *m {
+            Move::At(_, _) => self.brought.begin_line(),
+            Move::Map(frame, _) => self.soft_faults += one_if(!self.brought.has(frame.0)),
+            Move::Steal(_) => self.steals += 1,
+            Move::Read(_, _) => self.hard_faults += 1,
+            Move::Got(frame) => self.brought.add(frame.0)?,
+            Move::Wrote(_) => self.write_outs += 1,
+            Move::Give(frame, _) => {
+                self.brought.add(frame.0)?;
+                self.zero_fills += 1;
+            }
+            _ => {}
+        }
         self.moves += 1;
-        self.zero_fills += one_if(is_give(m));
-        self.soft_faults += soft;
-        self.hard_faults += one_if(is_read_in(m));
-        self.steals += one_if(is_steal(m));
-        self.write_outs += one_if(is_wrote(m));
         Ok(())
     }
 }

@@ -1,6 +1,6 @@
 ghost use Rattle.std.specs.Prelude.{◌≡◌, ◌≤◌, ◌+◌, ◌∷◌, ◌++◌, [], List, ℕ, length};
 ghost use Rattle.mm_life.specs.MoveText.{numbered};
-ghost use Rattle.mm_moves.specs.Standing.{life};
+ghost use Rattle.mm_replay.specs.Standing.{life};
 ghost use Rattle.mm_log.specs.LogText.{check_text, held_text, yes_text, text_of, status_of};
 
 use crate::checks::Checker;
@@ -10,7 +10,7 @@ use mm_text::{LineBuf, put_decimal};
 use mm_types::Held;
 
 /// Some words and a number, of at most 20 digits.
-#[tactic(auto, using(mm_moves::proofs::Onto::onto))]
+#[tactic(auto, using(mm_text::proofs::DigitCounts::joined))]
 fn put_numbered(out: &mut LineBuf, word: &[u8], n: u64)
     requires { length out.old + length word.now + 20 ≤ 256 }
     ensures text { (behind : List ℕ) → out.new ++ behind ≡ out.old ++ numbered word.now n behind }
@@ -21,7 +21,7 @@ fn put_numbered(out: &mut LineBuf, word: &[u8], n: u64)
 }
 
 /// Some words.
-#[tactic(auto, using(mm_moves::proofs::Onto::onto))]
+#[tactic(auto, using(mm_text::proofs::DigitCounts::joined))]
 fn put_words(out: &mut LineBuf, words: &[u8])
     requires { length out.old + length words.now ≤ 256 }
     ensures text { (behind : List ℕ) → out.new ++ behind ≡ out.old ++ (words.now ++ behind) }

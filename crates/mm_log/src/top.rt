@@ -16,7 +16,7 @@ use crate::endings::{Asked, Ending};
 use crate::texts::{status_of, text_of};
 use mm_forms::{Form, read_words};
 use mm_io::{Sink, Source, write_all};
-use mm_moves::read_key;
+use mm_replay::read_key;
 use mm_types::{Failed, NoMemory};
 use std::alloc::Global;
 

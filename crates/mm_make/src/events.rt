@@ -84,7 +84,8 @@ fn read(words: &mut Lcg64Xsh32, pid: u8, pages: u32) -> Event
 /// The event that the next outputs draw.
 fn event(words: &mut Lcg64Xsh32) -> Event
     ensures drawn { result ≡ (drawn (outputs words.old)).event }
-    ensures after { words.new ≡ advance 64 multiplier_64 (drawn (outputs words.old)).taken words.old }
+    ensures after { words.new
+        ≡ advance 64 multiplier_64 (drawn (outputs words.old)).taken words.old }
 {
     match draw(words, 8) {
         0 | 1 => write(words, 1, 160),

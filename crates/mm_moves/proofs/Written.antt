@@ -1,9 +1,43 @@
 -- The digits of a number, the last apart from those before it.
-use Rattle.std.proofs.Common.{◌≡◌, ℕ, zero, suc, ◌+◌, ◌/◌, ◌%◌, ◌^◌, ◌≤◌, ◌<◌, [], ◌∷◌, ◌++◌, sym, ap, ◌∙◌, inl, inr, arith, append_assoc, length-append}
-use Rattle.std.proofs.lemmas.Bool.{cases_lt}
+use Rattle.std.proofs.Common.{◌≡◌, ℕ, zero, suc, ◌+◌, ◌/◌, ◌%◌, ◌^◌, ◌≤◌, ◌<◌, Bool, cond, [], ◌∷◌, ◌++◌, refl, sym, ap, ◌∙◌, subst, inl, inr, arith, add-one, append_assoc, length-append}
+use Rattle.std.proofs.lemmas.Bool.{lt-ltb, le-ltb, cases_lt}
+use Rattle.std.proofs.lemmas.Nat.{div_below}
+use Rattle.std.proofs.lemmas.Grind.{pow_more}
 use Rattle.std.proofs.Math.Nat.{mod-eq_of_lt}
 use Rattle.mm_types.specs.Spelling.{Text, glyph, decimal, decimal_onto}
-use Rattle.mm_moves.proofs.Numbers.{step_last, step_more, below_power, onto_append}
+
+-- ---- one digit after another, the last first
+
+abbrev either : Bool → Text → Text → Text
+either b last more = cond b last more
+
+pub step_last : (count n : ℕ) (rest : Text) → n < 10 → decimal_onto (suc count) n rest ≡ glyph (n % 10) ∷ rest
+unfolding decimal_onto
+step_last count n rest low = ap (λ b. either b (glyph (n % 10) ∷ rest) (decimal_onto count (n / 10) (glyph (n % 10) ∷ rest))) (lt-ltb n 10 low)
+
+pub step_more : (count n : ℕ) (rest : Text) → 10 ≤ n → decimal_onto (suc count) n rest ≡ decimal_onto count (n / 10) (glyph (n % 10) ∷ rest)
+unfolding decimal_onto
+step_more count n rest high = ap (λ b. either b (glyph (n % 10) ∷ rest) (decimal_onto count (n / 10) (glyph (n % 10) ∷ rest))) (le-ltb n 10 high)
+
+pub step_none : (n : ℕ) (rest : Text) → decimal_onto zero n rest ≡ rest
+unfolding decimal_onto
+step_none n rest = refl
+
+pub below_power : (count n : ℕ) → n < 10 ^ suc count → n / 10 < 10 ^ count
+below_power count n low = div_below n 10 (10 ^ count) (omega arith) (subst (λ (k : ℕ). n < k) (ap (λ (k : ℕ). 10 ^ k) (sym (add-one count)) ∙ pow_more 10 count) low)
+
+-- the digits in front of a text are written as one text
+pub onto_append : (count n : ℕ) (rest behind : Text) → decimal_onto count n rest ++ behind ≡ decimal_onto count n (rest ++ behind)
+onto_append zero n rest behind = ap (λ t. t ++ behind) (step_none n rest) ∙ sym (step_none n (rest ++ behind))
+onto_append (suc count) n rest behind = elim (cases_lt n 10) [
+  | inl small ↦ ap (λ t. t ++ behind) (step_last count n rest small) ∙ sym (step_last count n (rest ++ behind) small)
+  | inr large ↦
+      ap (λ t. t ++ behind) (step_more count n rest large)
+      ∙ onto_append count (n / 10) (glyph (n % 10) ∷ rest) behind
+      ∙ sym (step_more count n (rest ++ behind) large)
+]
+
+-- ---- a number of few digits
 
 -- a place more for digits than a number needs changes nothing
 room_more : (count n : ℕ) (rest : Text) → n < 10 ^ suc count → decimal_onto (suc count) n rest ≡ decimal_onto (suc (suc count)) n rest

@@ -1,14 +1,1 @@
-pub mod Reading
-pub mod Grids
-pub mod OrderedPairs
-pub mod Pairs
-pub mod Holdings
-pub mod Standing
-pub mod Listed
-pub mod Listings
-pub mod Slotted
-pub mod Sound
-pub mod Looking
-pub mod Replaying
-pub mod Flying
 pub mod Recorded

@@ -1,28 +1,9 @@
-//! Moves of page frames as a log has them: their spelling both ways, a recorder that writes them to
-//! a sink, and the replay of a log as a running check.
+//! Moves of page frames as a log has them: their spelling, and a recorder that writes them to a
+//! sink.
 #![tactic(auto)]
 
-mod budgets;
-mod conditions;
-mod four_lists;
-mod free_slots;
-mod grids;
-mod holdings;
-mod in_flight;
-mod listings;
-mod lives;
-mod looks;
-mod ordered_pairs;
-mod pairs;
-mod readings;
 mod recorders;
-mod records;
 mod spellings;
-mod states;
-mod tables;
 
-pub use four_lists::FrameList;
-pub use lives::{ApplyFault, Life};
-pub use readings::{lines_determine_moves, read_key, read_move};
 pub use recorders::{Moves, Recorder};
 pub use spellings::spell;

@@ -117,7 +117,7 @@ fn put_number(out: &mut LineBuf, n: u32)
 
 /// A word and a number, of at most 10 digits.
 #[inline(always)]
-#[tactic(auto, using(crate::proofs::Onto::onto_short))]
+#[tactic(auto, using(mm_text::proofs::Lines::steps))]
 fn put_numbered(out: &mut LineBuf, word: &[u8], n: u32)
     requires { length out.old + length word.now + 10 ≤ 256 }
     ensures text { (behind : List ℕ) → out.new ++ behind ≡ out.old ++ numbered word.now n behind }
@@ -129,7 +129,7 @@ fn put_numbered(out: &mut LineBuf, word: &[u8], n: u32)
 
 /// Some words.
 #[inline(always)]
-#[tactic(auto, using(crate::proofs::Onto::onto))]
+#[tactic(auto, using(mm_text::proofs::DigitCounts::joined))]
 fn put_words(out: &mut LineBuf, words: &[u8])
     requires { length out.old + length words.now ≤ 256 }
     ensures text { (behind : List ℕ) → out.new ++ behind ≡ out.old ++ (words.now ++ behind) }

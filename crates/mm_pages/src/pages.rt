@@ -206,7 +206,8 @@ pub trait Pages {
         requires some { 1 ≤ n }
         requires room { first.0 + n ≤ (store self.old).machine.blocks }
         requires kind { (store self.old).kind ≡ kind.Call }
-        ensures made { OnOk result (contents self.new ≡ with_file area.0 n byte (contents self.old)) }
+        ensures made { OnOk result
+            (contents self.new ≡ with_file area.0 n byte (contents self.old)) }
         ensures kept { OnErr result (contents self.new ≡ contents self.old) }
         ensures ok { OnOk result (store self.new ≡
             record (wrote (store self.old) (store self.new)) {
@@ -217,7 +218,8 @@ pub trait Pages {
         ensures err { OnErr result (store self.new ≡ wrote (store self.old) (store self.new)) }
         ensures memory { IsErrOf result make_fault.Memory → store self.new ≡ store self.old }
         ensures written { OnOk result ((i : ℕ) → i < n →
-            slice_get (store self.new).file_blocks (first.0 + i) ≡ Some (filled ((byte + i) % 256))) }
+            slice_get (store self.new).file_blocks (first.0 + i)
+            ≡ Some (filled ((byte + i) % 256))) }
         ensures others { (block : ℕ) → (block < first.0) ⊎ (first.0 + n ≤ block) →
             slice_get (store self.new).file_blocks block ≡
             slice_get (store self.old).file_blocks block }
@@ -363,7 +365,8 @@ pub trait Pages {
             (store self.new ≡
             record (fetched (store self.old) (store self.new)) { names = (store self.new).names }) }
         ensures names { OnErr result (((store self.new).names ≡ (store self.old).names) ⊎
-            ((store self.new).names ≡ changed same_place (store self.old).names place (Some from))) }
+            ((store self.new).names
+            ≡ changed same_place (store self.old).names place (Some from))) }
         ensures served { Served (store self.old) (store self.new) }
         ensures stored { length (store self.new).file_blocks ≡ length (store self.old).file_blocks }
         ensures fault { IsBegun (store self.old).report →
@@ -511,7 +514,8 @@ pub trait Pages {
         ensures cause { IsErrOf result grow_fault.Failed →
             Rose (store self.old).paging_device.faults (store self.new).paging_device.faults }
         ensures unpaged { unpaged ≡ true → IsErrOf result grow_fault.Failed → ⊥ }
-        ensures notes { NotesIn unpaged (GrowsAs line n result) (behind self.old) (behind self.new) }
+        ensures notes { NotesIn unpaged (GrowsAs line n result)
+            (behind self.old) (behind self.new) }
         ensures loans { loans self.new ≡ loans self.old };
 
     /// An access of a thread begins, and waits for no device: it is ready, or it waits as the

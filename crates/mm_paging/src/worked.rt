@@ -50,7 +50,8 @@ pub fn full_set()
 /// from the lowest on, before all others where they go with a handle, and right behind the pages of
 /// the view that they go with.
 pub fn pages_given_up()
-    ensures viewed { Turned (Goes (going (page_rank 17 - 1))) (life_after 8 section_log) behind_page }
+    ensures viewed { Turned (Goes (going (page_rank 17 - 1)))
+        (life_after 8 section_log) behind_page }
     ensures held { Turned (Goes (going 1)) (life_after 8 section_log) before_all }
     ensures late { Turned (Goes (going 1)) (life_after 8 section_log) behind_page → ⊥ }
     ensures early { Turned (Goes (going (page_rank 17 - 1))) (life_after 8 section_log) before_all →

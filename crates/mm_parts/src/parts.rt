@@ -26,7 +26,13 @@ pub struct Parts {
     // The line's own request, the youngest.
     pub(crate) own: Option<Frame>,
     ghost kept: { PartsKept (record {
-      line = record { machine = machine; line = line; kind = kind; paging_keys = paging_keys; added = added.items };
+      line = record {
+        machine = machine;
+        line = line;
+        kind = kind;
+        paging_keys = paging_keys;
+        added = added.items;
+      };
       table = frames.table;
       bytes = frames.bytes;
       free = slots.free;

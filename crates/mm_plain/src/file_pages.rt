@@ -57,7 +57,8 @@ impl FilePages {
     /// Sees that so many pages more can be taken on.
     pub(crate) fn reserve(&mut self, more: u32) -> Result<(), NoMemory>
         ensures pages { self.new.pages.items ≡ self.old.pages.items }
-        ensures ok { OnOk result (length self.new.pages.items + more ≤ vec_capacity self.new.pages) }
+        ensures ok { OnOk result
+            (length self.new.pages.items + more ≤ vec_capacity self.new.pages) }
     {
         self.pages.reserve(more as usize)?;
         Ok(())

@@ -166,7 +166,8 @@ impl Places {
     pub(crate) fn name(&mut self, place: Place, key: Key)
         requires { bound_in self.old place ≡ true }
         ensures bound { bound_in self.new ≡ bound_in self.old }
-        ensures names { names_in self.new ≡ changed same_place (names_in self.old) place (Some key) }
+        ensures names { names_in self.new
+            ≡ changed same_place (names_in self.old) place (Some key) }
         ensures pages { pages_at self.new ≡ pages_at self.old }
         ensures count { pages_in self.new ≡ pages_in self.old }
     {
@@ -182,7 +183,8 @@ impl Places {
         requires empty { pages_at self.old place ≡ None }
         ensures bound { bound_in self.new ≡ bound_in self.old }
         ensures names { names_in self.new ≡ names_in self.old }
-        ensures pages { pages_at self.new ≡ changed same_place (pages_at self.old) place (Some page) }
+        ensures pages { pages_at self.new
+            ≡ changed same_place (pages_at self.old) place (Some page) }
         ensures count { pages_in self.new ≡ pages_in self.old + 1 }
     {
         let Some(here) = self.map.get_mut(&place) else {

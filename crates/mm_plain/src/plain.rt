@@ -58,7 +58,8 @@ pub struct Plain<F: Inject> {
     kind: LineKind,
     last_pid: u8,
     ghost fits: { Fits places areas stock },
-    ghost files_fit: { FilesFit (area_in areas) file_pages.pages.items (F.blocks files) machine.blocks },
+    ghost files_fit: { FilesFit (area_in areas) file_pages.pages.items
+        (F.blocks files) machine.blocks },
     ghost numbers: { IsMachine machine },
 }
 

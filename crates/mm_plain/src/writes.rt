@@ -59,7 +59,8 @@ pub(crate) fn write_block<F: Inject>(
     page: &PageBox,
 ) -> Result<(), Failed>
     requires { block < length (F.blocks device.old) }
-    ensures ok { OnOk result (F.blocks device.new ≡ slice_set (F.blocks device.old) block page.now) }
+    ensures ok { OnOk result
+        (F.blocks device.new ≡ slice_set (F.blocks device.old) block page.now) }
     ensures err { OnErr result (F.blocks device.new ≡ F.blocks device.old) }
     ensures serves { Serves (record {
       way = way.Write;

@@ -10,6 +10,3 @@ mod ram;
 #[doc(hidden)]
 pub use cells::{Base, Cells, Deed};
 pub use ram::Ram;
-
-#[cfg(test)]
-mod tests;

@@ -30,7 +30,8 @@ impl Model for Ram {
 
     ghost view = { λ r. r.cells.slots };
 
-    ghost invariant = { λ r. IsRam r.base.ptr r.cells.at r.deed.at r.deed.len r.deed.alloc r.alloc r.cells.slots r.written.items };
+    ghost invariant = { λ r. IsRam r.base.ptr r.cells.at r.deed.at r.deed.len r.deed.alloc
+        r.alloc r.cells.slots r.written.items };
 }
 
 fn unwritten(alloc: Global, n: usize) -> Result<Vec<bool>, NoMemory>

@@ -12,7 +12,8 @@ fn put_protection(out: &mut Vec<u8>, prot: u32) -> Result<(), NoMemory> {
             put_hex(out, prot)?;
             put(
                 out,
-                b" is no protection: one of PAGE_NOACCESS to PAGE_EXECUTE_WRITECOPY, or with PAGE_GUARD",
+                b" is no protection: one of PAGE_NOACCESS to PAGE_EXECUTE_WRITECOPY, \
+                or with PAGE_GUARD",
             )
         }
     }
@@ -63,7 +64,8 @@ fn put_flags(out: &mut Vec<u8>, flags: u32) -> Result<(), NoMemory> {
             put_hex(out, flags)?;
             put(
                 out,
-                b" are no flags: PAGE_READONLY, PAGE_READWRITE or PAGE_WRITECOPY, or with SEC_COMMIT or SEC_RESERVE",
+                b" are no flags: PAGE_READONLY, PAGE_READWRITE or PAGE_WRITECOPY, \
+                or with SEC_COMMIT or SEC_RESERVE",
             )
         }
     }
@@ -77,7 +79,8 @@ fn put_view(out: &mut Vec<u8>, access: u32, offset: u32, addr: u32) -> Result<()
             put_hex(out, access)?;
             return put(
                 out,
-                b" is no access: FILE_MAP_COPY, FILE_MAP_READ, FILE_MAP_WRITE or FILE_MAP_ALL_ACCESS",
+                b" is no access: FILE_MAP_COPY, FILE_MAP_READ, FILE_MAP_WRITE \
+                or FILE_MAP_ALL_ACCESS",
             );
         }
     }

@@ -5,8 +5,6 @@ mod failures;
 mod laws;
 mod numbers;
 mod remarks;
-#[cfg(test)]
-mod tests;
 
 pub use laws::{failures_have_names, names_are_read_again};
 pub use remarks::put_remark;

@@ -22,3 +22,4 @@ pub mod FormWords
 pub mod WrittenPages
 pub mod WatchLines
 pub mod WatchesTold
+mod Pairs

@@ -4,8 +4,8 @@ ghost use Rattle.mm_io.specs.Io.{CountsFaults};
 ghost use Rattle.mm_run.specs.Texts.{WroteText};
 
 use mm_io::{Sink, write_all};
-use mm_text::{LineBuf, spell};
-use mm_types::{Answer, Failed, NoMemory};
+use mm_text::{LineBuf, fill_pairs, spell};
+use mm_types::{Answer, ByteBuf, Failed, NoMemory};
 use std::alloc::Global;
 use std::marker::Model;
 
@@ -64,18 +64,39 @@ impl Kept {
         self.bytes.clear();
     }
 
-    /// Keeps an answer. The commonest takes no buffer, which would be cleared.
+    /// Keeps the answer that a read gives.
+    #[inline(always)]
+    fn keep_bytes(&mut self, bytes: &ByteBuf)
+        requires { length self.old + 256 ≤ 65536 }
+        ensures { self.new ≡ self.old ++ spelling (Answer.Bytes bytes.now) }
+    {
+        let mut pairs = [0; 128];
+        let end = fill_pairs(bytes.as_slice(), &mut pairs);
+        self.put(b"ok ");
+        self.put(&pairs[..end]);
+        self.put(b"\n");
+    }
+
+    /// Keeps an answer of another kind, which is spelled in a buffer of its own.
+    #[inline(never)]
+    fn keep_other(&mut self, answer: &Answer)
+        requires { length self.old + 256 ≤ 65536 }
+        ensures { self.new ≡ self.old ++ spelling answer.now }
+    {
+        let mut line = LineBuf::new();
+        spell(answer, &mut line);
+        self.put(line.as_slice());
+    }
+
+    /// Keeps an answer. The commonest two take no line, which would be cleared.
     pub(crate) fn keep(&mut self, answer: &Answer)
         requires { length self.old + 256 ≤ 65536 }
         ensures { self.new ≡ self.old ++ spelling answer.now }
     {
         match answer {
             Answer::Ok => self.put(b"ok\n"),
-            _ => {
-                let mut line = LineBuf::new();
-                spell(answer, &mut line);
-                self.put(line.as_slice());
-            }
+            Answer::Bytes(bytes) => self.keep_bytes(bytes),
+            _ => self.keep_other(answer),
         }
     }
 

@@ -17,7 +17,6 @@ use crate::readings::later_event;
 use mm_core::World;
 use mm_io::{Found, Held, Look, Sink, Source};
 use mm_pages::FlushesMoves;
-use mm_script::parse_line;
 use mm_types::{Answer, Event, Failed, NoMemory};
 use std::alloc::Global;
 
@@ -94,12 +93,13 @@ fn answer_event<G: FlushesMoves>(
 }
 
 /// Decides and answers the line in front, which is not the first. Its event is large, and stays
-/// where it was parsed.
+/// in the one place that is kept for events.
 fn answer_line<G: FlushesMoves>(
     alloc: Global,
     held: &mut Held,
     len: usize,
     n: u32,
+    event: &mut Event,
     world: &mut World<G>,
     kept: &mut Kept,
 ) -> Option<Ending>
@@ -115,9 +115,8 @@ fn answer_line<G: FlushesMoves>(
     ensures loans { loans world.new ≡ loans world.old }
 {
     let line = &held.bytes()[..len];
-    let parsed = parse_line(line);
-    match later_event(line, &parsed) {
-        Ok(event) => answer_event(alloc, held, len, n, event, world, kept),
+    match later_event(line, event) {
+        Ok(()) => answer_event(alloc, held, len, n, event, world, kept),
         Err(column) => Some(Ending::Script(n + 1, column)),
     }
 }
@@ -274,6 +273,7 @@ fn take_line<G: FlushesMoves, S: Source, O: Sink>(
     alloc: Global,
     held: &mut Held,
     n: u32,
+    event: &mut Event,
     world: &mut World<G>,
     kept: &mut Kept,
     source: &mut S,
@@ -290,7 +290,7 @@ fn take_line<G: FlushesMoves, S: Source, O: Sink>(
     ensures loans { loans world.new ≡ loans world.old }
 {
     match find_line(held, n, world, kept, source, out) {
-        Ok(len) => answer_line(alloc, held, len, n, world, kept),
+        Ok(len) => answer_line(alloc, held, len, n, event, world, kept),
         Err(ending) => Some(ending),
     }
 }
@@ -300,6 +300,7 @@ fn decide_line<G: FlushesMoves, S: Source, O: Sink>(
     alloc: Global,
     held: &mut Held,
     n: u32,
+    event: &mut Event,
     world: &mut World<G>,
     kept: &mut Kept,
     source: &mut S,
@@ -316,7 +317,7 @@ fn decide_line<G: FlushesMoves, S: Source, O: Sink>(
 {
     match make_room(world, kept, out) {
         Some(ending) => Some(ending),
-        None => take_line(alloc, held, n, world, kept, source, out),
+        None => take_line(alloc, held, n, event, world, kept, source, out),
     }
 }
 
@@ -349,8 +350,9 @@ pub(crate) fn decide_rest<G: FlushesMoves, S: Source, O: Sink>(
         (moment_seen S.Source O.Sink source.new out.new kept.new world.new) result }
     ensures loans { loans world.new ≡ loans world.old }
 {
+    let mut event = Event::Charge;
     for n in 1..LINES {
-        match decide_line(alloc, held, n, world, kept, source, out) {
+        match decide_line(alloc, held, n, &mut event, world, kept, source, out) {
             Some(ending) => return ending,
             None => {}
         }

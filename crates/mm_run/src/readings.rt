@@ -1,14 +1,13 @@
-ghost use Rattle.std.specs.Prelude.{◌≡◌, ◌≤◌, length, Ok, Err, IfOk, IfErr, MatchResult};
+ghost use Rattle.std.specs.Prelude.{◌≡◌, ◌≤◌, ◌<◌, ◌+◌, ◌^◌, length, Ok, Err, IfOk, IfErr, OnOk, OnErr, MatchResult};
 ghost use Rattle.mm_types.specs.declared.events.Event.{Event};
 ghost use Rattle.mm_script.specs.Grammar.{IsLine};
 ghost use Rattle.mm_run.specs.Story.{IsMisplaced};
 ghost use Rattle.mm_script.specs.Printed.{IsWellFormed};
-ghost use Rattle.mm_script.specs.Reading.{parse};
 ghost use Rattle.mm_core.specs.Built.{is_machine};
 ghost use Rattle.mm_run.specs.Reading.{reading_of, is_machine_word};
 
 use mm_core::is_machine;
-use mm_script::{LineFault, parse_line, without_return};
+use mm_script::{parse_into, parse_line, without_return};
 use mm_types::Event;
 
 /// Whether the first word of a line is `machine`.
@@ -48,19 +47,17 @@ pub(crate) fn read_first(line: &[u8]) -> Result<Event, u32>
     }
 }
 
-/// The event of a later line, which stands in what the line was parsed to, or the column of its
-/// fault.
-pub(crate) fn later_event<'a>(
-    line: &[u8],
-    parsed: &'a Result<Event, LineFault>,
-) -> Result<&'a Event, u32>
-    requires parsed { parsed.now ≡ parse line.now }
-    ensures reads { MatchResult result (λ e. reading_of 1 line.now ≡ Ok e.now)
+/// Writes the event of a later line where it is wanted; else tells the column of the line's fault.
+pub(crate) fn later_event(line: &[u8], event: &mut Event) -> Result<(), u32>
+    requires given { length line.now + 1 < 2 ^ 32 }
+    ensures reads { MatchResult result (λ _. reading_of 1 line.now ≡ Ok event.new)
         (λ column. reading_of 1 line.now ≡ Err column) }
-    ensures same { IfOk result (λ e. parsed.now ≡ Ok e.now) }
+    ensures well_formed { OnOk result (IsWellFormed event.new) }
+    ensures grammar { OnOk result (IsLine line.now event.new) }
+    ensures refused { OnErr result ((e : Event) → IsLine line.now e → IsMisplaced 1 e) }
 {
-    match parsed {
-        Ok(event) => { if is_machine(event) { Err(1) } else { Ok(event) } }
+    match parse_into(line, event) {
+        Ok(()) => { if is_machine(event) { Err(1) } else { Ok(()) } }
         Err(fault) => {
             if is_machine_word(without_return(line)) {
                 Err(1)

@@ -2,7 +2,6 @@ use mm_blocks::MemBlocks;
 use mm_io::{MemSink, MemSource};
 use mm_log::run_log;
 use mm_run::run;
-use mm_types::Direction;
 use std::alloc::{AllocError, Global};
 use std::process::Abort;
 use std::test::Fail;
@@ -28,23 +27,13 @@ pub(super) const NOTHING: Failing = Failing {
     file: 0,
 };
 
-/// What a run came to: its status, what was written, how often each device was asked to read or to
-/// write, and the first two bytes of the file device.
+/// What a run came to: its status, what was written, and the first two bytes of the file device.
 #[derive(Drop)]
 pub(super) struct Ended {
     pub status: u8,
     pub answers: String,
     pub moves: String,
-    pub paging: Calls,
-    pub files: Calls,
     pub first: [u8; 2],
-}
-
-/// How many reads and writes a device was asked for.
-#[derive(Clone, Copy)]
-pub(super) struct Calls {
-    pub reads: u32,
-    pub writes: u32,
 }
 
 fn device(alloc: Global, fails: u32) -> Result<MemBlocks, Fail> {
@@ -68,22 +57,6 @@ fn owned(alloc: Global, texts: &[&str]) -> Result<Vec<String>, Fail> {
         words.push(String::from_str(alloc, *text)?)?;
     }
     Ok(words)
-}
-
-fn calls_of(device: &MemBlocks) -> Calls {
-    let mut calls = Calls {
-        reads: 0,
-        writes: 0,
-    };
-    if let Some(log) = device.log() {
-        for call in log {
-            match call.direction {
-                Direction::Read => calls.reads = calls.reads.saturating_add(1),
-                Direction::Write => calls.writes = calls.writes.saturating_add(1),
-            }
-        }
-    }
-    calls
 }
 
 /// The first bytes of a device; zeros where it was not opened.
@@ -139,8 +112,6 @@ pub(super) fn outcome(
         status,
         answers: text_of(alloc, &out)?,
         moves: text_of(alloc, &moves)?,
-        paging: calls_of(&paging),
-        files: calls_of(&files),
         first: first_bytes(&files),
     })
 }

@@ -5,7 +5,9 @@ use std::test::Fail;
 
 /// A page is written, given up, and committed again.
 const SCRIPT: &str =
-    "machine 8 4 1 0\nprocess 1 8\nalloc 1 0 0x1000 0x3000 0x04\nwrite 1 0x10000 5A5A\nfree 1 0x10000 0x1000 0x4000\nread 1 0x10000 2\nalloc 1 0x10000 0x1000 0x1000 0x04\nread 1 0x10000 2\n";
+    "machine 8 4 1 0\nprocess 1 8\nalloc 1 0 0x1000 0x3000 0x04\nwrite 1 0x10000 5A5A\n\
+free 1 0x10000 0x1000 0x4000\nread 1 0x10000 2\nalloc 1 0x10000 0x1000 0x1000 0x04\n\
+read 1 0x10000 2\n";
 
 const ANSWERS: &str =
     "ok 8\nok 1\nok 0x00010000\nok\nok\nraise 0xC0000005\nok 0x00010000\nok 0000\n";
@@ -13,7 +15,9 @@ const ANSWERS: &str =
 /// The page that comes again gets the next frame: the one that it had before is the last of the
 /// free ones then.
 const MOVES: &str =
-    "at 1 machine 8 4 1 0\nat 2 process 1 1 8\nat 3 call\nadd p1.16 zero\nat 4 access 1\nclear 0\ngive 0 p1.16\nmap 0 1.16\nat 5 unbind 1\nunmap 1.16\ndrop p1.16\nat 6 access 1\nat 7 call\nadd p1.16 zero\nat 8 access 1\nclear 1\ngive 1 p1.16\nmap 1 1.16\n";
+    "at 1 machine 8 4 1 0\nat 2 process 1 1 8\nat 3 call\nadd p1.16 zero\nat 4 access 1\nclear 0\n\
+give 0 p1.16\nmap 0 1.16\nat 5 unbind 1\nunmap 1.16\ndrop p1.16\nat 6 access 1\nat 7 call\n\
+add p1.16 zero\nat 8 access 1\nclear 1\ngive 1 p1.16\nmap 1 1.16\n";
 
 fn script() -> &'static str {
     SCRIPT

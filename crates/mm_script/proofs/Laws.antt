@@ -1,6 +1,6 @@
 -- A text is read as the event that it is a line for, and otherwise its first fault is told.
 use Rattle.std.proofs.Common.{◌≡◌, ◌≤◌, ◌⊎◌, arith, List, [], ◌∷◌, ◌++◌, length, Some, Result, Ok, Err, true, refl, sym, ap, ◌∙◌, subst, inl, inr}
-use Rattle.std.specs.Prelude.{IfOk, IfErr}
+use Rattle.std.specs.Prelude.{IfOk, IfErr, OnOk, OnErr}
 use Rattle.mm_types.specs.Spelling.{Text, spaced}
 use Rattle.mm_types.specs.declared.events.Event.{Event}
 use Rattle.mm_text.specs.Word.{Word, words_of}
@@ -13,7 +13,7 @@ use Rattle.mm_script.specs.Printed.{spaced_words}
 use Rattle.mm_script.specs.Keywords.{text_of, keyword_of}
 use Rattle.mm_script.specs.Shape.{shape_of}
 use Rattle.mm_script.specs.Place.{without_return, first_fault, fault_behind, fault_among, fault_place}
-use Rattle.mm_script.specs.Reading.{◌>>=◌, Rest, rest_behind, word_as, make_of, line_of, whole_line, parse}
+use Rattle.mm_script.specs.Reading.{◌>>=◌, Rest, rest_behind, word_as, make_of, line_of, whole_line, parse, IsPut}
 use Rattle.mm_script.proofs.Binds.{bind_ok, bind_err, Missing, Bad, word_ok, word_err, word_again}
 use Rattle.mm_script.proofs.Joined.{texts, joined_words, split_words, return_cases, return_taken, plain_kept, IsPlain, ArePlain}
 use Rattle.mm_script.proofs.Shapes.{Values, made_of, fields_for, plain_words}
@@ -123,3 +123,24 @@ answer_fault text (Err f) h = parse_err text f (sym h)
 pub answer_none : (text : Text) (r : Result Event LineFault) → r ≡ parse text → IfErr r (λ _. (e : Event) → IsLine text e → ⊥)
 answer_none text (Ok e) h = tt
 answer_none text (Err f) h = λ e g. let bad : Err f ≡ Ok e = h ∙ parse_again text e g in cc
+
+-- what is written where an event is wanted
+pub put_ok : (text : Text) (r : Result (Unit {0}) LineFault) (old new : Event) → IsPut r old new (parse text) → OnOk r (IsLine text new)
+put_ok text (Ok u) old new h = parse_ok text new h
+put_ok text (Err f) old new h = tt
+
+pub put_only : (text : Text) (r : Result (Unit {0}) LineFault) (old new e : Event) → IsPut r old new (parse text) → IsLine text e → (r ≡ Ok tt) × (new ≡ e)
+put_only text (Ok u) old new e h g = (refl, let same : Ok new ≡ Ok e = sym h ∙ parse_again text e g in cc)
+put_only text (Err f) old new e h g = let bad : Err f ≡ Ok e = sym h.0 ∙ parse_again text e g in cc
+
+pub put_fault : (text : Text) (r : Result (Unit {0}) LineFault) (old new : Event) → IsPut r old new (parse text) → IfErr r (λ f. f ≡ fault_place text)
+put_fault text (Ok u) old new h = tt
+put_fault text (Err f) old new h = parse_err text f h.0
+
+pub put_none : (text : Text) (r : Result (Unit {0}) LineFault) (old new : Event) → IsPut r old new (parse text) → OnErr r ((e : Event) → IsLine text e → ⊥)
+put_none text (Ok u) old new h = tt
+put_none text (Err f) old new h = λ e g. let bad : Err f ≡ Ok e = sym h.0 ∙ parse_again text e g in cc
+
+pub put_same : (text : Text) (r : Result (Unit {0}) LineFault) (old new : Event) → IsPut r old new (parse text) → OnErr r (new ≡ old)
+put_same text (Ok u) old new h = tt
+put_same text (Err f) old new h = h.1

@@ -1,6 +1,6 @@
 -- The fields of what is read are in their ranges.
 use Rattle.std.proofs.Common.{◌≡◌, ℕ, ◌+◌, ◌*◌, ◌^◌, ◌<◌, List, [], ◌∷◌, length, ◌&&◌, Option, Some, None, Result, Ok, Err, refl, subst, arith}
-use Rattle.std.specs.Prelude.{nat_le, nat_lt, option_and_then, IfOk}
+use Rattle.std.specs.Prelude.{nat_le, nat_lt, option_and_then, IfOk, OnOk}
 use Rattle.std.specs.List.{AllByRecursion}
 use Rattle.std.proofs.lemmas.Bool.{ltb-true, leb-true, and_parts}
 use Rattle.std.proofs.lemmas.Option.{cond_some}
@@ -69,3 +69,7 @@ line_fits text e h = record { fields = words_in_range (fields_of e) h.words h.sp
 pub answer_fits : (text : Text) (r : Result Event LineFault) → IfOk r (λ e. IsLine text e) → IfOk r (λ e. IsWellFormed e)
 answer_fits text (Ok e) h = line_fits text e h
 answer_fits text (Err f) h = tt
+
+pub put_fits : (text : Text) (r : Result (Unit {0}) LineFault) (e : Event) → OnOk r (IsLine text e) → OnOk r (IsWellFormed e)
+put_fits text (Ok u) e h = line_fits text e h
+put_fits text (Err f) e h = tt

@@ -142,3 +142,9 @@ parse text = word_as keyword_of (whole_line (without_return text)) >>= λ x. lin
 abbrev pub Gives : {A : Type 0} → Result A LineFault → Rest → Result (A × Rest) LineFault → Type 0
 Gives (Ok x) new read = read ≡ Ok (x, new)
 Gives (Err f) new read = read ≡ Err f
+
+-- What a function returned, and what it left where an event is wanted, is what reading gives: the
+-- event, or the fault, with the place as it was.
+abbrev pub IsPut : Result (Unit {0}) LineFault → (old new : Event) → Result Event LineFault → Type 0
+IsPut (Ok _) old new read = read ≡ Ok new
+IsPut (Err f) old new read = (read ≡ Err f) × (new ≡ old)

@@ -12,4 +12,4 @@ mod values;
 
 pub use faults::LineFault;
 pub use printing::print_event;
-pub use reading::{one_event, parse_line, without_return};
+pub use reading::{one_event, parse_into, parse_line, without_return};

@@ -1,9 +1,9 @@
-ghost use Rattle.std.specs.Prelude.{◌≡◌, ◌+◌, ◌^◌, ◌<◌, ◌≤◌, ℕ, List, length, IfOk, IfErr, Ok};
+ghost use Rattle.std.specs.Prelude.{◌≡◌, ◌+◌, ◌^◌, ◌<◌, ◌≤◌, ℕ, List, length, IfOk, IfErr, OnOk, OnErr, Ok};
 ghost use Rattle.mm_types.specs.declared.events.Event.{Event};
 ghost use Rattle.mm_script.specs.Grammar.{IsLine};
 ghost use Rattle.mm_script.specs.Printed.{IsWellFormed};
 ghost use Rattle.mm_script.specs.Place.{without_return, fault_place};
-ghost use Rattle.mm_script.specs.Reading.{line_of, parse};
+ghost use Rattle.mm_script.specs.Reading.{line_of, parse, IsPut};
 
 mod accesses;
 mod calls;
@@ -18,44 +18,44 @@ use mm_types::Event;
 
 /// The words after a keyword.
 #[inline(never)]
-fn fields_after(keyword: Keyword, fields: &mut Fields) -> Result<Event, LineFault>
+fn fields_after(keyword: Keyword, fields: &mut Fields, event: &mut Event) -> Result<(), LineFault>
     requires { fields.old.number ≡ 2 }
-    ensures { result ≡ line_of keyword fields.old }
+    ensures { IsPut result event.old event.new (line_of keyword fields.old) }
 {
     match keyword {
-        Keyword::Machine => setup::machine(fields),
-        Keyword::Process => setup::process(fields),
-        Keyword::Exit => setup::exit(fields),
-        Keyword::File => setup::file(fields),
-        Keyword::Alloc => calls::alloc(fields),
-        Keyword::Free => calls::free(fields),
-        Keyword::Protect => calls::protect(fields),
-        Keyword::Query => calls::query(fields),
-        Keyword::Create => sections::create(fields),
-        Keyword::CreateFile => sections::create_file(fields),
-        Keyword::Open => sections::open(fields),
-        Keyword::Close => sections::close(fields),
-        Keyword::Map => sections::map(fields),
-        Keyword::Unmap => sections::unmap(fields),
-        Keyword::Flush => sections::flush(fields),
-        Keyword::Read => accesses::read(fields),
-        Keyword::Write => accesses::write(fields),
-        Keyword::Exec => accesses::exec(fields),
-        Keyword::Begin => accesses::begin(fields),
-        Keyword::Resume => accesses::resume(fields),
-        Keyword::Io => paging::io(fields),
-        Keyword::Trim => paging::trim(fields),
-        Keyword::Age => paging::age(fields),
-        Keyword::Writer => paging::writer(fields),
-        Keyword::Zeroer => paging::zeroer(fields),
-        Keyword::Fail => setup::fail(fields),
-        Keyword::Charge => paging::charge(fields),
-        Keyword::Counts => paging::counts(fields),
-        Keyword::Grow => setup::grow(fields),
-        Keyword::Watch => calls::watch(fields),
-        Keyword::ResetWatch => calls::reset_watch(fields),
-        Keyword::Stack => calls::stack(fields),
-        Keyword::Probe => calls::probe(fields),
+        Keyword::Machine => setup::machine(fields, event),
+        Keyword::Process => setup::process(fields, event),
+        Keyword::Exit => setup::exit(fields, event),
+        Keyword::File => setup::file(fields, event),
+        Keyword::Alloc => calls::alloc(fields, event),
+        Keyword::Free => calls::free(fields, event),
+        Keyword::Protect => calls::protect(fields, event),
+        Keyword::Query => calls::query(fields, event),
+        Keyword::Create => sections::create(fields, event),
+        Keyword::CreateFile => sections::create_file(fields, event),
+        Keyword::Open => sections::open(fields, event),
+        Keyword::Close => sections::close(fields, event),
+        Keyword::Map => sections::map(fields, event),
+        Keyword::Unmap => sections::unmap(fields, event),
+        Keyword::Flush => sections::flush(fields, event),
+        Keyword::Read => accesses::read(fields, event),
+        Keyword::Write => accesses::write(fields, event),
+        Keyword::Exec => accesses::exec(fields, event),
+        Keyword::Begin => accesses::begin(fields, event),
+        Keyword::Resume => accesses::resume(fields, event),
+        Keyword::Io => paging::io(fields, event),
+        Keyword::Trim => paging::trim(fields, event),
+        Keyword::Age => paging::age(fields, event),
+        Keyword::Writer => paging::writer(fields, event),
+        Keyword::Zeroer => paging::zeroer(fields, event),
+        Keyword::Fail => setup::fail(fields, event),
+        Keyword::Charge => paging::charge(fields, event),
+        Keyword::Counts => paging::counts(fields, event),
+        Keyword::Grow => setup::grow(fields, event),
+        Keyword::Watch => calls::watch(fields, event),
+        Keyword::ResetWatch => calls::reset_watch(fields, event),
+        Keyword::Stack => calls::stack(fields, event),
+        Keyword::Probe => calls::probe(fields, event),
     }
 }
 
@@ -70,20 +70,31 @@ pub fn without_return(line: &[u8]) -> &[u8]
     }
 }
 
-/// Reads and writes, most lines of a script, are told apart here: each of the three calls writes
-/// its event where the caller wants it.
+/// Reads and writes, most lines of a script, are told apart here, and read by functions of their
+/// own.
 #[inline(always)]
 #[tactic(auto, unfolding(crate::specs::Reading::parse))]
+fn put_event(line: &[u8], event: &mut Event) -> Result<(), LineFault>
+    requires { length line.now + 1 < 2 ^ 32 }
+    ensures { IsPut result event.old event.new (parse line.now) }
+{
+    let mut fields = Fields::new(without_return(line));
+    match fields.keyword()? {
+        Keyword::Read => accesses::read(&mut fields, event),
+        Keyword::Write => accesses::write(&mut fields, event),
+        keyword => fields_after(keyword, &mut fields, event),
+    }
+}
+
+/// The event of a line in a place of its own.
+#[inline(always)]
 fn parse(line: &[u8]) -> Result<Event, LineFault>
     requires { length line.now + 1 < 2 ^ 32 }
     ensures { result ≡ parse line.now }
 {
-    let mut fields = Fields::new(without_return(line));
-    match fields.keyword()? {
-        Keyword::Read => accesses::read(&mut fields),
-        Keyword::Write => accesses::write(&mut fields),
-        keyword => fields_after(keyword, &mut fields),
-    }
+    let mut event = Event::Charge;
+    put_event(line, &mut event)?;
+    Ok(event)
 }
 
 /// The event of a line, from its bytes before the line feed; one carriage return at their end is
@@ -104,6 +115,25 @@ pub fn parse_line(line: &[u8]) -> Result<Event, LineFault>
     ensures exact { result ≡ parse line.now }
 {
     parse(line)
+}
+
+/// The same, with the event written where it is wanted. After an `Err` the event is as it was.
+#[inline(always)]
+pub fn parse_into(line: &[u8], event: &mut Event) -> Result<(), LineFault>
+    requires { length line.now + 1 < 2 ^ 32 }
+    // What is written is the line's event, with its fields in their ranges.
+    ensures ok { OnOk result (IsLine line.now event.new) }
+    ensures well_formed { OnOk result (IsWellFormed event.new) }
+    // A line of the grammar is accepted.
+    ensures only { (e : Event) → IsLine line.now e → (result ≡ Ok tt) × (event.new ≡ e) }
+    // The place of the first fault, where there is no event.
+    ensures fault { IfErr result (λ f. f ≡ fault_place line.now) }
+    ensures none { OnErr result ((e : Event) → IsLine line.now e → ⊥) }
+    ensures same { OnErr result (event.new ≡ event.old) }
+    // The same, to compute with.
+    ensures exact { IsPut result event.old event.new (parse line.now) }
+{
+    put_event(line, event)
 }
 
 /// No line stands for two events.

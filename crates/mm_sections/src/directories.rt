@@ -41,9 +41,17 @@ impl Model for Directory {
 
     ghost Value = { DirectoryOf };
 
-    ghost view = { λ d. record { entries = map (option_map counted_section) d.sections.items; files = map file_of d.files.entries; spare = d.room } };
+    ghost view = { λ d. record {
+      entries = map (option_map counted_section) d.sections.items;
+      files = map file_of d.files.entries;
+      spare = d.room;
+    } };
 
-    ghost invariant = { λ d. (length d.sections.items ≤ 2 ^ 28) × IsNameIndex (found_by d.names) (sections_of (map (option_map counted_section) d.sections.items)) × IsRoom d.room (vec_capacity d.sections - vec_len d.sections) (spare d.names) (spare d.files) };
+    ghost invariant = { λ d. (length d.sections.items ≤ 2 ^ 28) ×
+        IsNameIndex (found_by d.names)
+        (sections_of (map (option_map counted_section) d.sections.items)) ×
+        IsRoom d.room (vec_capacity d.sections - vec_len d.sections)
+        (spare d.names) (spare d.files) };
 }
 
 impl Directory {
@@ -107,7 +115,8 @@ impl Directory {
 
     /// The control area of the file with this name. None exactly where no file has it.
     pub fn file(&self, name: &Name) -> Option<Area>
-        ensures { result ≡ option_map area_of (find (λ f. bytes_eq f.name name.now) self.now.files) }
+        ensures { result
+            ≡ option_map area_of (find (λ f. bytes_eq f.name name.now) self.now.files) }
     {
         self.files.get(&NameKey::new(name)).copied()
     }

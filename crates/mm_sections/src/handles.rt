@@ -26,7 +26,10 @@ impl Model for Handles {
 
     ghost Value = { HandlesOf };
 
-    ghost view = { λ h. record { entries = map (section_by_handle (get nat_eq h.sections)) (range_with_len 0 h.next); spare = spare h.sections } };
+    ghost view = { λ h. record {
+      entries = map (section_by_handle (get nat_eq h.sections)) (range_with_len 0 h.next);
+      spare = spare h.sections;
+    } };
 
     ghost invariant = { λ h. AreOpen (get nat_eq h.sections) h.lowest h.next };
 }

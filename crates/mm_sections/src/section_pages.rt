@@ -23,7 +23,10 @@ impl Model for SectionPages {
 
     ghost Value = { AreaOf (Unit {0}) };
 
-    ghost view = { λ p. record { file_block = option_map block_number p.first_block; pages = map page_if p.committed.items } };
+    ghost view = { λ p. record {
+      file_block = option_map block_number p.first_block;
+      pages = map page_if p.committed.items;
+    } };
 
     ghost invariant = { λ p. length p.committed.items < 2 ^ 32 };
 }

@@ -1,6 +1,6 @@
 -- Texts one after another.
 use Rattle.std.proofs.Common.{append_assoc, length-append}
 use Rattle.mm_types.proofs.Bytes.{append_nil}
-use Rattle.mm_moves.proofs.Onto.{length-decimal}
+use Rattle.mm_text.proofs.DigitCounts.{length-decimal}
 
 pub ruleset joined = (append_assoc, append_nil, length-append, length-decimal)

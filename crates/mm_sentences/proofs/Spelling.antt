@@ -3,7 +3,7 @@ use Rattle.std.proofs.Common.{◌≡◌, ◌+◌, ◌-◌, [], ◌∷◌, ◌++�
 use Rattle.mm_types.specs.Spelling.{Text}
 use Rattle.mm_types.specs.declared.moves.Move.{Move}
 use Rattle.mm_life.specs.MoveText.{move_text, spelling_of_move}
-use Rattle.mm_moves.proofs.Lines.{move_onto-is}
+use Rattle.mm_replay.proofs.Lines.{move_onto-is}
 
 front : (a : Text) → take (length a) (a ++ 10 ∷ []) ≡ a
 front [] = refl

@@ -4,7 +4,7 @@ use Rattle.std.specs.Prelude.{Result, OnOk}
 use Rattle.mm_types.specs.Spelling.{Text}
 use Rattle.mm_life.specs.Life.{FrameLife}
 use Rattle.mm_classes.specs.declared.classes.Class.{Class}
-use Rattle.mm_moves.proofs.Outcomes.{on_ok_then}
+use Rattle.mm_replay.proofs.Outcomes.{on_ok_then}
 use Rattle.mm_sentences.specs.declared.facts.Facts.{Facts}
 use Rattle.mm_sentences.specs.Sentences.{sentence_text}
 

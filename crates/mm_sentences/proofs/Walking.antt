@@ -7,9 +7,9 @@ use Rattle.mm_types.specs.declared.numbers.Frame.{Frame}
 use Rattle.mm_life.specs.Frames.{FrameTable, is_on, is_first}
 use Rattle.mm_types.specs.Spelling.{Text}
 use Rattle.mm_sentences.specs.Refusals.{first_is, counted}
-use Rattle.mm_moves.specs.Looking.{frame_at, frames_on, IsBehind}
-use Rattle.mm_moves.specs.declared.four_lists.FrameList.TheVariants as list
-use Rattle.mm_moves.specs.Sound.{frame}
+use Rattle.mm_replay.specs.Looking.{frame_at, frames_on, IsBehind}
+use Rattle.mm_replay.specs.declared.four_lists.FrameList.TheVariants as list
+use Rattle.mm_replay.specs.Sound.{frame}
 
 same_number : (n : ℕ) (x : Frame) → Some (frame n) ≡ Some x → n ≡ x.0
 same_number n x e = ap (λ (f : Frame). f.0) (same_Some (frame n) x e)

@@ -16,8 +16,8 @@ use Rattle.mm_life.specs.Frames.{record_at, is_empty, is_on, is_read}
 use Rattle.mm_life.specs.Life.{FrameLife, set_of, is_live}
 use Rattle.mm_life.specs.Legal.{is_access, is_thread, is_touch, is_writer, touches, trims}
 use Rattle.mm_life.specs.MoveText.{place_onto, move_text}
-use Rattle.mm_moves.specs.declared.four_lists.FrameList.{FrameList}
-use Rattle.mm_moves.specs.declared.four_lists.FrameList.TheVariants as list
+use Rattle.mm_replay.specs.declared.four_lists.FrameList.{FrameList}
+use Rattle.mm_replay.specs.declared.four_lists.FrameList.TheVariants as list
 use Rattle.mm_sentences.specs.Words.{key_text, kind_text}
 use Rattle.mm_sentences.specs.Parts.{refusal}
 use Rattle.mm_sentences.specs.declared.parts.Part.{Part}

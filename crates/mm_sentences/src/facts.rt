@@ -1,10 +1,10 @@
 ghost use Rattle.std.specs.Prelude.{◌≡◌};
 ghost use Rattle.mm_life.specs.Effect.{home_at};
-ghost use Rattle.mm_moves.specs.Standing.{life as life_of};
+ghost use Rattle.mm_replay.specs.Standing.{life as life_of};
 ghost use Rattle.mm_sentences.specs.Facts.{slot_in, home_of, facts_away, facts_in, frame_facts};
 ghost use Rattle.mm_sentences.specs.Facts.{facts_held, key_facts, valid_facts, no_facts, facts_of};
 
-use mm_moves::Life;
+use mm_replay::Life;
 use mm_types::{Backing, Block, Frame, Held, Key, Move, Place, Record, Slot, Stored};
 
 /// What the sentence of a move names, by the state before the move.

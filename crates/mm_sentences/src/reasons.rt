@@ -1,7 +1,7 @@
 ghost use Rattle.std.specs.Prelude.{◌≡◌, ◌+◌, ◌<◌, ◌^◌, ◌++◌, [], OnOk, codes, length};
 ghost use Rattle.mm_types.specs.Spelling.{decimal};
-ghost use Rattle.mm_moves.specs.Standing.{life as life_of};
-ghost use Rattle.mm_moves.specs.Looking.{frames_on};
+ghost use Rattle.mm_replay.specs.Standing.{life as life_of};
+ghost use Rattle.mm_replay.specs.Looking.{frames_on};
 ghost use Rattle.mm_life.specs.Frames.{is_read};
 ghost use Rattle.mm_life.specs.Life.{set_of};
 ghost use Rattle.mm_life.specs.MoveText.{move_text, place_onto};
@@ -22,7 +22,8 @@ use crate::refusals::{limit, refusal};
 use crate::states::is_read;
 use crate::words::{put_key, put_kind, put_number, put_place, put_words};
 use mm_life::ResidentSet;
-use mm_moves::{FrameList, Life, spell};
+use mm_moves::spell;
+use mm_replay::{FrameList, Life};
 use mm_text::LineBuf;
 use mm_types::{Block, Frame, Held, Key, Move, NoMemory, Pid, Place, Request, Slot};
 

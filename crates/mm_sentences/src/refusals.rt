@@ -6,8 +6,8 @@ ghost use Rattle.mm_life.specs.Legal.{is_zero, is_stored, owner_is, fits_place, 
 ghost use Rattle.mm_life.specs.Legal.{is_lowest};
 ghost use Rattle.mm_life.specs.Legal.{is_legal};
 ghost use Rattle.mm_life.specs.Life.{is_shared};
-ghost use Rattle.mm_moves.specs.Looking.{frames_on};
-ghost use Rattle.mm_moves.specs.Standing.{life as life_of};
+ghost use Rattle.mm_replay.specs.Looking.{frames_on};
+ghost use Rattle.mm_replay.specs.Standing.{life as life_of};
 ghost use Rattle.mm_sentences.specs.Parts.{holds, parts_of, first_failing, is_clean, refusal};
 ghost use Rattle.mm_sentences.specs.Tested.{is_tested, are_tested, all_hold, none_free};
 ghost use Rattle.mm_sentences.specs.declared.parts.Part.TheVariants as part;
@@ -15,7 +15,7 @@ ghost use Rattle.mm_sentences.specs.declared.parts.Part.TheVariants as part;
 use crate::kinds::{is_call, is_unbind, touches};
 use crate::parts::Part;
 use crate::states::{has_request, is_read};
-use mm_moves::{FrameList, Life};
+use mm_replay::{FrameList, Life};
 use mm_types::{
     Backing, Block, Frame, Held, Key, LineKind, Move, Place, Record, Request, Slot, Stored,
 };

@@ -1,6 +1,6 @@
 ghost use Rattle.std.specs.Prelude.{◌≡◌, ◌++◌, [], OnOk, codes};
 ghost use Rattle.mm_types.specs.Spelling.{decimal};
-ghost use Rattle.mm_moves.specs.Standing.{life as life_of};
+ghost use Rattle.mm_replay.specs.Standing.{life as life_of};
 ghost use Rattle.mm_sentences.specs.Sentences.{page_text, frame_text, at_text, process_text};
 ghost use Rattle.mm_sentences.specs.Sentences.{block_text, home_text, unslot_text, freed_slot};
 ghost use Rattle.mm_sentences.specs.Sentences.{freed_text, stays_text, list_text, becomes_text};
@@ -10,7 +10,7 @@ use crate::facts::Facts;
 use crate::states::{FrameState, put_state, state_of};
 use crate::words::{put_key, put_number, put_place, put_words};
 use mm_classes::Class;
-use mm_moves::Life;
+use mm_replay::Life;
 use mm_types::{Block, Frame, Held, Key, NoMemory, Place, Slot};
 
 // ---- what stands for a name

@@ -1,13 +1,13 @@
 ghost use Rattle.std.specs.Prelude.{◌≡◌, ◌++◌, OnOk, codes};
 ghost use Rattle.mm_types.specs.Spelling.{decimal};
 ghost use Rattle.mm_life.specs.Frames.{record_at, is_on, is_read, has_request};
-ghost use Rattle.mm_moves.specs.Standing.{life as life_of};
+ghost use Rattle.mm_replay.specs.Standing.{life as life_of};
 ghost use Rattle.mm_sentences.specs.States.{list_of, state_by, state_of, state_text, owner_text};
 ghost use Rattle.mm_sentences.specs.States.{changed_text, copy_text, request_text, listed, row_of};
 ghost use Rattle.mm_sentences.specs.States.{frame_row};
 
 use crate::words::{put_key, put_number, put_words};
-use mm_moves::{FrameList, Life};
+use mm_replay::{FrameList, Life};
 use mm_types::{Backing, Frame, Key, NoMemory, Record, Request};
 
 /// What a page frame is: its page is valid somewhere, or it has a request, or it stands on a list.

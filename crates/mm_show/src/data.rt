@@ -1,7 +1,7 @@
 ghost use Rattle.std.specs.Prelude.{◌≡◌, ◌++◌, [], ◌∷◌, ℕ, Bool, List, OnOk, true, if◌then◌else◌};
 ghost use Rattle.mm_types.specs.declared.moves.Move.{Move};
 ghost use Rattle.mm_life.specs.Life.{unstarted, counts_of};
-ghost use Rattle.mm_moves.specs.Standing.{life as life_of};
+ghost use Rattle.mm_replay.specs.Standing.{life as life_of};
 ghost use Rattle.mm_classes.specs.Data.{log_data, is_marked, mark_before, last_mark};
 ghost use Rattle.mm_classes.specs.Encoding.{mark_data};
 ghost use Rattle.mm_classes.specs.Marking.{marks_of};
@@ -9,7 +9,7 @@ ghost use Rattle.mm_life.specs.Effect.{after_move};
 ghost use Rattle.mm_show.specs.Data.{classed_data};
 
 use mm_classes::{put_mark, put_move};
-use mm_moves::Life;
+use mm_replay::Life;
 use mm_tell::{Classed, Classifier, Teller};
 use mm_text::LineBuf;
 use mm_types::{Move, NoMemory};
@@ -17,7 +17,7 @@ use std::alloc::Global;
 
 /// Writes a move with its class, as the page's data has it. What was in the room for a line is
 /// lost.
-#[tactic(auto, using(mm_moves::proofs::Onto::onto))]
+#[tactic(auto, using(mm_text::proofs::DigitCounts::joined))]
 fn put_classed(
     classed: Option<Classed>,
     line: &mut LineBuf,
@@ -37,7 +37,7 @@ fn put_classed(
 }
 
 /// Writes the counts of a state, as the page's data has them.
-#[tactic(auto, using(mm_moves::proofs::Onto::onto))]
+#[tactic(auto, using(mm_text::proofs::DigitCounts::joined))]
 fn put_counts(life: &Life, text: &mut Vec<u8>) -> Result<(), NoMemory>
     ensures { OnOk result (text.new.items ≡ text.old.items
         ++ mark_data (counts_of (life_of life.now))) }
@@ -79,7 +79,7 @@ fn put_mark_before(life: &Life, m: &Move, text: &mut Vec<u8>) -> Result<(), NoMe
 }
 
 /// Writes the mark after the last line, if there is one, and the end of the data.
-#[tactic(auto, using(mm_moves::proofs::Onto::onto))]
+#[tactic(auto, using(mm_text::proofs::DigitCounts::joined))]
 fn put_end(life: &Life, text: &mut Vec<u8>) -> Result<(), NoMemory>
     ensures { OnOk result (text.new.items ≡ text.old.items ++ (last_mark (life_of life.now) ++ 10
         ∷ [])) }

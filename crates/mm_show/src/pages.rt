@@ -28,7 +28,7 @@ ghost use Rattle.mm_show.specs.Texts.{page_of};
 ghost use Rattle.mm_show.specs.PageRest.{page_rest};
 
 /// What stands in front of a page's moves.
-#[tactic(auto, using(mm_moves::proofs::Onto::onto))]
+#[tactic(auto, using(mm_text::proofs::DigitCounts::joined))]
 fn front_of(alloc: Global, page: &PageTexts<'_>) -> Result<Vec<u8>, NoMemory>
     ensures { IfOk result (λ v. v.items ≡ front_text (page_of page.now)) }
 {
@@ -40,7 +40,7 @@ fn front_of(alloc: Global, page: &PageTexts<'_>) -> Result<Vec<u8>, NoMemory>
 }
 
 /// What stands behind a page's moves.
-#[tactic(auto, using(mm_moves::proofs::Onto::onto))]
+#[tactic(auto, using(mm_text::proofs::DigitCounts::joined))]
 fn behind_of(
     alloc: Global,
     page: &PageTexts<'_>,

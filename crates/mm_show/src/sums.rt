@@ -4,7 +4,7 @@ ghost use Rattle.std.specs.Prelude.{length};
 ghost use Rattle.mm_types.specs.declared.moves.Move.{Move};
 ghost use Rattle.mm_life.specs.Life.{unstarted};
 ghost use Rattle.mm_life.specs.Effect.{after_move};
-ghost use Rattle.mm_moves.specs.Standing.{life as life_of};
+ghost use Rattle.mm_replay.specs.Standing.{life as life_of};
 ghost use Rattle.mm_classes.specs.declared.classes.Class.{Class};
 ghost use Rattle.mm_tell.specs.Classing.{class_list};
 ghost use Rattle.mm_show.specs.Sums.{sum_row, class_row, kind_row, class_sums, kind_sums};
@@ -14,7 +14,7 @@ ghost use Rattle.mm_show.specs.Counted.{of_class, of_kind, AreFew};
 
 use crate::words::CLASSES;
 use mm_classes::{Class, code, kind_code};
-use mm_moves::Life;
+use mm_replay::Life;
 use mm_sentences::put_why;
 use mm_tell::{Classed, Classifier, Teller};
 use mm_text::{LineBuf, put_decimal};
@@ -90,7 +90,7 @@ fn kind_letter(kind: KindName) -> u8
 }
 
 /// Writes how many there are of something, if there is one.
-#[tactic(auto, using(mm_moves::proofs::Onto::onto))]
+#[tactic(auto, using(mm_text::proofs::DigitCounts::joined))]
 fn put_row(name: &[u8], n: u64, text: &mut Vec<u8>) -> Result<(), NoMemory>
     requires { length name.now ≤ 20 }
     ensures { OnOk result (text.new.items ≡ text.old.items ++ sum_row name.now n) }

@@ -26,7 +26,7 @@ use mm_uses::{CountsTeller, StateTeller, UseTeller};
 use std::alloc::Global;
 
 /// Writes some words, a name and a line feed.
-#[tactic(auto, using(mm_moves::proofs::Onto::onto))]
+#[tactic(auto, using(mm_text::proofs::DigitCounts::joined))]
 fn put_named(words: &[u8], name: &[u8], text: &mut Vec<u8>) -> Result<(), NoMemory>
     ensures { OnOk result (text.new.items ≡ text.old.items ++ (words.now ++ (name.now
         ++ 10 ∷ []))) }

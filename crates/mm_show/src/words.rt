@@ -113,7 +113,7 @@ fn group_word(group: Option<Group>) -> &'static [u8]
 }
 
 /// Writes what the page has to know of a class: its code, its move, its group and its sentence.
-#[tactic(auto, using(mm_moves::proofs::Onto::onto))]
+#[tactic(auto, using(mm_text::proofs::DigitCounts::joined))]
 fn put_class(class: Class, text: &mut Vec<u8>) -> Result<(), NoMemory>
     ensures { OnOk result (text.new.items ≡ text.old.items ++ class_row class) }
 {

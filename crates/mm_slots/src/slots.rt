@@ -27,9 +27,13 @@ impl Model for Slots {
 
     ghost Value = { SlotsOf };
 
-    ghost view = { λ s. record { free = flags (have_bit s.tree.words.items) s.slots; spare = s.spare } };
+    ghost view = { λ s. record {
+      free = flags (have_bit s.tree.words.items) s.slots;
+      spare = s.spare;
+    } };
 
-    ghost invariant = { λ s. AreSlots (have_bit s.tree.words.items) (64 * length s.tree.words.items) s.slots s.free s.spare };
+    ghost invariant = { λ s. AreSlots (have_bit s.tree.words.items) (64 * length s.tree.words.items)
+        s.slots s.free s.spare };
 }
 
 /// The numbers from `from` on and below `end` come into the set.

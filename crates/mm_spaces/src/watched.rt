@@ -18,7 +18,8 @@ fn list(flags: &Bits, base: u32, first: u32, n: u32, count: u32) -> PageList
     requires user { base + length flags.now ≤ end_of_user_pages }
     requires few { count ≤ 16 }
     ensures { result
-        ≡ map address_of (take count (written_from first (take n (drop (first - base) flags.now)))) }
+        ≡ map address_of
+        (take count (written_from first (take n (drop (first - base) flags.now)))) }
 {
     let mut at = first - base;
     let end = at + n;

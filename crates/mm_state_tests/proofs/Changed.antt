@@ -1,5 +1,5 @@
--- Bytes that were changed behind the state are located still: those of a modified page in its frame, of a slot that backs no frame, and of a block while no page is in a frame.
-use Rattle.std.proofs.Common.{◌≡◌, ℕ, zero, suc, Bool, true, false, List, [], ◌∷◌, None, refl, sym, ap, ◌∙◌, subst}
+-- Bytes that were changed behind the state are located still: those of a modified page in its frame, and those of a device while no frame is backed.
+use Rattle.std.proofs.Common.{◌≡◌, ◌<◌, ℕ, zero, suc, Bool, true, false, List, [], ◌∷◌, length, refl, sym, ap, ◌∙◌, subst}
 use Rattle.std.specs.Prelude.{is_some, slice_get, slice_set}
 use Rattle.std.proofs.lemmas.List.{length-set}
 use Rattle.mm_types.specs.declared.frames.Backing.{Backing}
@@ -8,15 +8,20 @@ use Rattle.mm_types.specs.declared.frames.Held.{Held}
 use Rattle.mm_types.specs.declared.frames.Held.TheVariants as held
 use Rattle.mm_types.specs.declared.numbers.Key.{Key}
 use Rattle.mm_life.specs.Effect.{home_at}
-use Rattle.mm_life.specs.Frames.{record_at, slot_of}
+use Rattle.mm_life.specs.Frames.{record_at}
 use Rattle.mm_life.specs.Life.{FrameLife, is_live}
 use Rattle.mm_life.specs.Located.{FrameBytes, BlockBytes, bytes_at, contents_of, held_at, BytesLocated}
 use Rattle.mm_life.specs.Logs.{Log}
-use Rattle.mm_blocks.specs.Devices.{DeviceOf}
+use Rattle.mm_laws.specs.Reached.{Reached}
+use Rattle.mm_laws.proofs.Facts.{facts_of}
+use Rattle.mm_frame_laws.proofs.FrameMoves.{owned_low}
+use Rattle.mm_blocks.specs.Devices.{DeviceOf, Call, Serves}
+use Rattle.mm_blocks.proofs.Serving.{named_as_before}
 use Rattle.mm_pages.specs.Told.{Told}
 use Rattle.mm_parts.specs.Shown.{PartsOf}
-use Rattle.mm_moving.specs.Shown.{written_if}
+use Rattle.mm_moving.specs.Shown.{StateOf, written_if}
 use Rattle.mm_state.specs.Shown.{joined_state}
+use Rattle.mm_state_tests.specs.Behind.{BytesChanged, NoneBacked}
 
 some_set : {A : Type 0} (xs : List A) (i j : ℕ) (x : A) → is_some (slice_get (slice_set xs i x) j) ≡ is_some (slice_get xs j)
 some_set [] i j x = refl
@@ -25,12 +30,19 @@ some_set (y ∷ ys) zero (suc j) x = refl
 some_set (y ∷ ys) (suc i) zero x = refl
 some_set (y ∷ ys) (suc i) (suc j) x = some_set ys i j x
 
+-- a frame with an owner has nothing behind it
+bare : (l : FrameLife) → ∥ Reached l ∥₁ → NoneBacked l → (f : ℕ) → is_some (record_at l.frames f).owner ≡ true → (record_at l.frames f).backing ≡ backing.None
+bare l reached none f some = none f (subst (λ (n : ℕ). f < n) (facts_of l reached).framed (owned_low l.frames f some))
+
+same_home : (ram : FrameBytes) (slots blocks slots' blocks' : BlockBytes) (home : Backing) → home ≡ backing.None → bytes_at ram slots blocks (home_at home) ≡ bytes_at ram slots' blocks' (home_at home)
+same_home ram slots blocks slots' blocks' home e = subst (λ (h : Backing). bytes_at ram slots blocks (home_at h) ≡ bytes_at ram slots' blocks' (home_at h)) (sym e) refl
+
 -- ---- a block
 
-block_set : (l : FrameLife) (ram : FrameBytes) (slots blocks : BlockBytes) → BytesLocated l ram slots blocks → ((f : ℕ) → is_some (record_at l.frames f).owner ≡ false) → (b : ℕ) (page : List ℕ)
+block_set : (l : FrameLife) → ∥ Reached l ∥₁ → (ram : FrameBytes) (slots blocks : BlockBytes) → BytesLocated l ram slots blocks → NoneBacked l → (b : ℕ) (page : List ℕ)
     → BytesLocated l ram slots (slice_set blocks b page)
-block_set l ram slots blocks kept none b page = record {
-  clean = λ f some _ _. let bad : true ≡ false = sym some ∙ none f in cc;
+block_set l reached ram slots blocks kept none b page = record {
+  clean = λ f some same calm. kept.clean f some same calm ∙ same_home ram slots blocks slots (slice_set blocks b page) (record_at l.frames f).backing (bare l reached none f some);
   zeroed = kept.zeroed;
   live = λ k. still (held_at l k) ∙ kept.live k;
   frame_room = kept.frame_room;
@@ -45,17 +57,17 @@ block_set l ram slots blocks kept none b page = record {
     still held.Zero = refl
     still held.Dead = refl
 
-pub block_behind : (ok : Bool) (l : FrameLife) (ram : FrameBytes) (slots blocks : BlockBytes) → BytesLocated l ram slots blocks → ((f : ℕ) → is_some (record_at l.frames f).owner ≡ false) → (b : ℕ) (page : List ℕ)
+pub block_behind : (ok : Bool) (l : FrameLife) → ∥ Reached l ∥₁ → (ram : FrameBytes) (slots blocks : BlockBytes) → BytesLocated l ram slots blocks → NoneBacked l → (b : ℕ) (page : List ℕ)
     → (after : BlockBytes) → after ≡ written_if ok (λ xs. slice_set xs b page) blocks → BytesLocated l ram slots after
-block_behind true l ram slots blocks kept none b page after e = subst (λ (x : BlockBytes). BytesLocated l ram slots x) (sym e) (block_set l ram slots blocks kept none b page)
-block_behind false l ram slots blocks kept none b page after e = subst (λ (x : BlockBytes). BytesLocated l ram slots x) (sym e) kept
+block_behind true l reached ram slots blocks kept none b page after e = subst (λ (x : BlockBytes). BytesLocated l ram slots x) (sym e) (block_set l reached ram slots blocks kept none b page)
+block_behind false l reached ram slots blocks kept none b page after e = subst (λ (x : BlockBytes). BytesLocated l ram slots x) (sym e) kept
 
 -- ---- a slot
 
-slot_set : (l : FrameLife) (ram : FrameBytes) (slots blocks : BlockBytes) → BytesLocated l ram slots blocks → ((f : ℕ) → slot_of (record_at l.frames f).backing ≡ None) → (s : ℕ) (page : List ℕ)
+slot_set : (l : FrameLife) → ∥ Reached l ∥₁ → (ram : FrameBytes) (slots blocks : BlockBytes) → BytesLocated l ram slots blocks → NoneBacked l → (s : ℕ) (page : List ℕ)
     → BytesLocated l ram (slice_set slots s page) blocks
-slot_set l ram slots blocks kept none s page = record {
-  clean = λ f some same calm. kept.clean f some same calm ∙ apart (record_at l.frames f).backing (none f);
+slot_set l reached ram slots blocks kept none s page = record {
+  clean = λ f some same calm. kept.clean f some same calm ∙ same_home ram slots blocks (slice_set slots s page) blocks (record_at l.frames f).backing (bare l reached none f some);
   zeroed = kept.zeroed;
   live = λ k. still (held_at l k) ∙ kept.live k;
   frame_room = kept.frame_room;
@@ -63,11 +75,6 @@ slot_set l ram slots blocks kept none s page = record {
   file_room = kept.file_room;
 }
   where
-    apart : (home : Backing) → slot_of home ≡ None → bytes_at ram slots blocks (home_at home) ≡ bytes_at ram (slice_set slots s page) blocks (home_at home)
-    apart backing.None e = refl
-    apart (backing.Slot t) e = cc
-    apart (backing.Block b) e = refl
-
     still : (h : Held) → is_some (bytes_at ram (slice_set slots s page) blocks h) ≡ is_some (bytes_at ram slots blocks h)
     still (held.Frame f) = refl
     still (held.Slot t) = some_set slots s t.0 page
@@ -75,10 +82,10 @@ slot_set l ram slots blocks kept none s page = record {
     still held.Zero = refl
     still held.Dead = refl
 
-pub slot_behind : (ok : Bool) (l : FrameLife) (ram : FrameBytes) (slots blocks : BlockBytes) → BytesLocated l ram slots blocks → ((f : ℕ) → slot_of (record_at l.frames f).backing ≡ None) → (s : ℕ) (page : List ℕ)
+pub slot_behind : (ok : Bool) (l : FrameLife) → ∥ Reached l ∥₁ → (ram : FrameBytes) (slots blocks : BlockBytes) → BytesLocated l ram slots blocks → NoneBacked l → (s : ℕ) (page : List ℕ)
     → (after : BlockBytes) → after ≡ written_if ok (λ xs. slice_set xs s page) slots → BytesLocated l ram after blocks
-slot_behind true l ram slots blocks kept none s page after e = subst (λ (x : BlockBytes). BytesLocated l ram x blocks) (sym e) (slot_set l ram slots blocks kept none s page)
-slot_behind false l ram slots blocks kept none s page after e = subst (λ (x : BlockBytes). BytesLocated l ram x blocks) (sym e) kept
+slot_behind true l reached ram slots blocks kept none s page after e = subst (λ (x : BlockBytes). BytesLocated l ram x blocks) (sym e) (slot_set l reached ram slots blocks kept none s page)
+slot_behind false l reached ram slots blocks kept none s page after e = subst (λ (x : BlockBytes). BytesLocated l ram x blocks) (sym e) kept
 
 -- ---- a frame
 
@@ -91,3 +98,17 @@ rest_bytes v u bytes log told paging files slots blocks e = λ i. record (joined
 pub same_live : (v u : PartsOf) (bytes : FrameBytes) (slots blocks : BlockBytes) → v ≡ record u { bytes = bytes } → BytesLocated v.life v.bytes slots blocks → BytesLocated u.life u.bytes slots blocks → (k : Key)
     → is_some (contents_of v.life v.bytes slots blocks k) ≡ is_some (contents_of u.life u.bytes slots blocks k)
 same_live v u bytes slots blocks e now was k = now.live k ∙ ap (λ (x : PartsOf). is_live x.life k) e ∙ sym (was.live k)
+
+-- ---- what else stays
+
+-- a call of a device leaves as many named calls
+pub named_stays : (c : Call) (a b : DeviceOf) → Serves c a b → length b.named ≡ length a.named
+named_stays c a b h = named_as_before (c ∷ []) a b (b, (h, refl))
+
+-- as many blocks
+pub as_many : (ok : Bool) (i : ℕ) (page : List ℕ) (after before : BlockBytes) → after ≡ written_if ok (λ xs. slice_set xs i page) before → length after ≡ length before
+as_many true i page after before e = ap (λ (xs : BlockBytes). length xs) e ∙ length-set before i page
+as_many false i page after before e = ap (λ (xs : BlockBytes). length xs) e
+
+pub nothing_changed : (s : StateOf) → BytesChanged s s
+nothing_changed s = record { rest = refl; live = λ k. refl; paging = refl; files = refl; stored = refl }

@@ -1,4 +1,1 @@
-pub mod Rows
-pub mod Swapped
-pub mod Filed
-pub mod Stored
+pub mod Behind

@@ -1,11 +1,14 @@
-ghost use Rattle.std.specs.Prelude.{◌≡◌, ◌≤◌, ◌<◌, ℕ, false, length, IsSome, None, is_some, slice_set};
+ghost use Rattle.std.specs.Prelude.{◌≡◌, ◌≤◌, ◌<◌, false, length, IsSome, slice_set};
 ghost use Rattle.std.specs.Bool.{OnTrue, OnFalse};
-ghost use Rattle.mm_types.specs.declared.numbers.Key.{Key};
-ghost use Rattle.mm_life.specs.Frames.{record_at, is_read, slot_of};
+ghost use Rattle.mm_types.specs.declared.devices.Direction.TheVariants as way;
+ghost use Rattle.mm_blocks.specs.Traffic.{is_named};
+ghost use Rattle.mm_blocks.specs.Devices.{Serves, device_with};
+ghost use Rattle.mm_life.specs.Frames.{record_at, is_read};
 ghost use Rattle.mm_ram.specs.Ram.{bytes_of, overwritten, with_page};
 ghost use Rattle.mm_frame_laws.specs.Carried.{IsSoiled};
 ghost use Rattle.mm_parts.specs.PartsShown as parts_of;
 ghost use Rattle.mm_state.specs.StateShown.{shown_state};
+ghost use Rattle.mm_state_tests.specs.Behind.{BytesChanged, NoneBacked};
 
 use mm_blocks::Inject;
 use mm_moves::Moves;
@@ -19,6 +22,14 @@ fn write_device<B: Inject>(device: &mut B, block: u32, page: &[u8; 4096]) -> boo
     ensures ok { OnTrue result
         (B.blocks device.new ≡ slice_set (B.blocks device.old) block page.now) }
     ensures err { OnFalse result (B.blocks device.new ≡ B.blocks device.old) }
+    ensures served { Serves (record {
+      way = way.Write;
+      block = block;
+      succeeded = result;
+      named = is_named way.Write (B.named device.old);
+    })
+        (device_with (B.log device.old) (B.named device.old) (B.faults device.old))
+        (device_with (B.log device.new) (B.named device.new) (B.faults device.new)) }
 {
     match device.write(block, page) {
         Ok(()) => true,
@@ -50,49 +61,34 @@ pub(crate) fn write_frame<P: Inject, F: Inject, M: Moves>(
     requires owned { IsSome (record_at (shown_state state.old).life.frames f.0).owner }
     requires soiled { IsSoiled (record_at (shown_state state.old).life.frames f.0) }
     requires inside { length bytes.now ≤ 4096 }
-    ensures rest { shown_state state.new ≡ record (shown_state state.old) {
-      contents = (shown_state state.new).contents;
-    } }
-    ensures live { (k : Key) → is_some ((shown_state state.new).contents k) ≡
-        is_some ((shown_state state.old).contents k) }
+    ensures { BytesChanged (shown_state state.old) (shown_state state.new) }
 {
     write_in_parts(&mut state.parts, f, bytes);
 }
 
-/// A slot is written behind the state, while no frame is backed by one. False where the device
-/// failed.
+/// A slot is written behind the state, while no frame is backed. False where the device failed.
 pub(crate) fn write_slot<P: Inject, F: Inject, M: Moves>(
     state: &mut State<P, F, M>,
     s: Slot,
     byte: u8,
 ) -> bool
     requires there { s.0 < (shown_state state.old).life.machine.slots }
-    requires none { (f : ℕ) →
-        slot_of (record_at (shown_state state.old).life.frames f).backing ≡ None }
-    ensures rest { shown_state state.new ≡ record (shown_state state.old) {
-      contents = (shown_state state.new).contents;
-      paging = (shown_state state.new).paging;
-      slots = (shown_state state.new).slots;
-    } }
+    requires none { NoneBacked (shown_state state.old).life }
+    ensures { BytesChanged (shown_state state.old) (shown_state state.new) }
 {
     let page = [byte; 4096];
     write_device(&mut state.paging, s.0, &page)
 }
 
-/// A block is written behind the state, while no frame has an owner. False where the device failed.
+/// A block is written behind the state, while no frame is backed. False where the device failed.
 pub(crate) fn write_block<P: Inject, F: Inject, M: Moves>(
     state: &mut State<P, F, M>,
     b: Block,
     byte: u8,
 ) -> bool
     requires there { b.0 < (shown_state state.old).life.machine.blocks }
-    requires none { (f : ℕ) →
-        is_some (record_at (shown_state state.old).life.frames f).owner ≡ false }
-    ensures rest { shown_state state.new ≡ record (shown_state state.old) {
-      contents = (shown_state state.new).contents;
-      files = (shown_state state.new).files;
-      blocks = (shown_state state.new).blocks;
-    } }
+    requires none { NoneBacked (shown_state state.old).life }
+    ensures { BytesChanged (shown_state state.old) (shown_state state.new) }
 {
     let page = [byte; 4096];
     write_device(&mut state.files, b.0, &page)

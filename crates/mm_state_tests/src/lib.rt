@@ -1,18 +1,10 @@
-//! Tests of the joined state, one of the store that pages over it, and one of a world over that
-//! store, in a crate of their own, so that each is proved once.
+//! Tests of a world over the store that pages, whose bytes are changed behind it, in a crate of
+//! their own, so that the crates below are proved once.
 #![tactic(auto)]
 
 #[cfg(test)]
 mod behind;
 #[cfg(test)]
-mod devices;
-#[cfg(test)]
-mod filed;
-#[cfg(test)]
-mod rewritten;
-#[cfg(test)]
-mod store;
-#[cfg(test)]
-mod swapped;
+mod changes;
 #[cfg(test)]
 mod worlds;

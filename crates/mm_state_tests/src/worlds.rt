@@ -1,27 +1,101 @@
-ghost use Rattle.std.specs.Prelude.{◌≡◌, ◌≤◌, ◌+◌, true, false, OnOk, replicate};
+ghost use Rattle.std.specs.Prelude.{◌≡◌, ◌≤◌, ◌+◌, false, OnOk, IfOk, replicate};
 ghost use Rattle.mm_blocks.specs.Traffic.{empty_block};
 ghost use Rattle.mm_pages.specs.Conditions.{IsNew};
 ghost use Rattle.mm_script.specs.Printed.{IsWellFormed};
 ghost use Rattle.mm_core.specs.Built.{is_machine};
 ghost use Rattle.mm_core.specs.Shown.{line_number};
-ghost use Rattle.mm_state_tests.specs.Stored.{small_machine};
+ghost use Rattle.mm_state_tests.specs.Behind.{small_machine};
 
-use crate::devices::opened;
-use crate::store::change_modified;
-use mm_blocks::{Inject, Injected, MemBlocks};
-use mm_core::World;
+use crate::changes::{Change, change_world};
+use mm_blocks::{Blocks, Inject, Injected, MemBlocks};
+use mm_core::{World, is_machine};
 use mm_io::MemSink;
 use mm_moves::{Moves, Recorder};
 use mm_paged::Paged;
 use mm_pages::Pages;
+use mm_script::parse_line;
 use mm_state::State;
-use mm_types::{AllocFlags, Answer, ByteBuf, Event, Machine, NoMemory, Pid, Prot};
+use mm_text::{LineBuf, spell};
+use mm_types::{Answer, Event, Machine, NoMemory};
 use std::alloc::Global;
 use std::test::Fail;
 
-const PID: Pid = Pid(1);
+/// The lines of a scene after `machine 6 8 1 1`, each with its answer.
+type Lines = &'static [(&'static str, &'static str)];
 
-const PAGE: u32 = 0x10000;
+/// A byte of a valid, modified page is changed in its frame before line 5.
+const VALID: Lines = &[
+    ("process 0 8", "ok 1"),
+    ("alloc 1 0 1 0x3000 0x04", "ok 0x00010000"),
+    ("write 1 0x10000 5A5A", "ok"),
+    ("read 1 0x10000 2", "ok 775A"),
+];
+
+/// A byte of a page that was trimmed is changed in its frame before line 6.
+const TRIMMED: Lines = &[
+    ("process 0 8", "ok 1"),
+    ("alloc 1 0 1 0x3000 0x04", "ok 0x00010000"),
+    ("write 1 0x10000 5A5A", "ok"),
+    ("trim 1 1", "ok"),
+    ("read 1 0x10000 2", "ok 775A"),
+];
+
+/// A page goes to its slot and loses its frame; the slot is changed on the paging device before
+/// line 14.
+const PUT_OUT: Lines = &[
+    ("process 0 8", "ok 1"),
+    ("alloc 1 0 0x7000 0x3000 0x04", "ok 0x00010000"),
+    ("write 1 0x10000 5A5A", "ok"),
+    ("trim 1 1", "ok"),
+    ("writer 1", "ok"),
+    ("io 1", "ok"),
+    ("write 1 0x11000 01", "ok"),
+    ("write 1 0x12000 02", "ok"),
+    ("write 1 0x13000 03", "ok"),
+    ("write 1 0x14000 04", "ok"),
+    ("write 1 0x15000 05", "ok"),
+    ("write 1 0x16000 06", "ok"),
+    ("read 1 0x10000 2", "ok 7777"),
+];
+
+/// A file's page has no frame yet; its block is changed on the device of files before line 6. It is
+/// read in, and copied.
+const NOT_READ: Lines = &[
+    ("file d 1 65", "ok"),
+    ("process 0 8", "ok 1"),
+    ("createfile 1 d 0x04 -", "ok 4 0"),
+    ("map 1 4 1 0 0 0", "ok 0x00010000"),
+    ("read 1 0x10000 2", "ok 7777"),
+    ("write 1 0x10001 58", "ok"),
+    ("read 1 0x10000 3", "ok 775877"),
+];
+
+/// Why a scene was not gone through to its end.
+#[derive(Debug, PartialEq, Eq, Drop)]
+enum Stopped {
+    Memory,
+    /// Not a line that a world decides.
+    Form,
+    /// Nothing could be changed.
+    Change,
+    /// The answer is another than the scene's, at this line.
+    Answer(u32),
+    Long,
+}
+
+/// A device in memory that was opened with so many blocks.
+fn opened(alloc: Global, n: u32) -> Result<MemBlocks, Stopped>
+    requires { n ≤ 262144 }
+    ensures { IfOk result (λ d. d.blocks ≡ replicate n empty_block) }
+{
+    let Ok(mut device) = MemBlocks::new(alloc, Vec::new(alloc), 0) else {
+        return Err(Stopped::Memory);
+    };
+    match device.open(n) {
+        Ok(()) => Ok(device),
+        Err(_) => Err(Stopped::Memory),
+    }
+}
 
 /// One line, of which its number alone is told, so that what follows is proved with little at hand.
 fn decide<G: Pages>(
@@ -43,23 +117,88 @@ fn decide<G: Pages>(
     Ok(answer)
 }
 
-/// Two bytes of the page are written.
-fn write_two<G: Pages>(alloc: Global, world: &mut World<G>) -> Result<(), NoMemory>
-    requires line { line_number world.old ≡ 3 }
+/// Whether an answer is spelled so.
+fn is_spelled(answer: &Answer, wanted: &[u8]) -> bool {
+    let mut out = LineBuf::new();
+    spell(answer, &mut out);
+    match out.as_slice() {
+        [text @ .., b'\n'] => text == wanted,
+        _ => false,
+    }
+}
+
+/// The same for a line as it is written, whose answer is the one that is wanted.
+fn read_line<G: Pages>(
+    alloc: Global,
+    world: &mut World<G>,
+    n: u32,
+    line: &[u8],
+    wanted: &[u8],
+) -> Result<(), Stopped>
+    requires next { n ≡ line_number world.old + 1 }
+    requires few { n ≤ 1000000 }
     requires ready { world.old.spent ≡ false }
-    ensures line { OnOk result (line_number world.new ≡ 4) }
+    ensures line { OnOk result (line_number world.new ≡ n) }
     ensures ready { OnOk result (world.new.spent ≡ false) }
 {
-    let Some(bytes) = ByteBuf::from_slice(&[0x5A, 0x5A]) else {
-        return Err(NoMemory);
+    if line.len() > 256 {
+        return Err(Stopped::Form);
+    }
+    let Ok(event) = parse_line(line) else {
+        return Err(Stopped::Form);
     };
-    let write = Event::Write {
-        pid: PID,
-        addr: PAGE,
-        bytes,
+    if is_machine(&event) {
+        return Err(Stopped::Form);
+    }
+    let Ok(answer) = decide(alloc, world, n, &event) else {
+        return Err(Stopped::Memory);
     };
-    decide(alloc, world, 4, &write)?;
-    Ok(())
+    if is_spelled(&answer, wanted) {
+        Ok(())
+    } else {
+        Err(Stopped::Answer(n))
+    }
+}
+
+/// A line, before which the change is made where it is the one that is named.
+fn change_or_read<P: Inject, F: Inject, M: Moves>(
+    alloc: Global,
+    world: &mut World<Paged<State<P, F, M>>>,
+    n: u32,
+    line: (&str, &str),
+    scene: (u32, Change),
+) -> Result<(), Stopped>
+    requires next { n ≡ line_number world.old + 1 }
+    requires few { n ≤ 1000000 }
+    requires ready { world.old.spent ≡ false }
+    ensures line { OnOk result (line_number world.new ≡ n) }
+    ensures ready { OnOk result (world.new.spent ≡ false) }
+{
+    if n == scene.0 && !change_world(world, scene.1) {
+        return Err(Stopped::Change);
+    }
+    read_line(alloc, world, n, line.0.as_bytes(), line.1.as_bytes())
+}
+
+/// The lines of a scene, over a world in which the first line was decided.
+fn all_lines<P: Inject, F: Inject, M: Moves>(
+    alloc: Global,
+    world: &mut World<Paged<State<P, F, M>>>,
+    lines: &[(&str, &str)],
+    scene: (u32, Change),
+) -> Result<(), Stopped>
+    requires first { line_number world.old ≡ 1 }
+    requires ready { world.old.spent ≡ false }
+{
+    let mut rest = lines;
+    for n in 2..64 {
+        let [line, behind @ ..] = rest else {
+            return Ok(());
+        };
+        change_or_read(alloc, world, n, *line, scene)?;
+        rest = behind;
+    }
+    Err(Stopped::Long)
 }
 
 /// A new world over a new store.
@@ -68,73 +207,22 @@ fn first<G: Pages>(alloc: Global, pages: G) -> World<G>
     ensures line { line_number result ≡ 1 }
     ensures ready { result.spent ≡ false }
 {
-    World::new(alloc, Machine::new(8, 4, 1, 0), pages)
+    World::new(alloc, Machine::new(6, 8, 1, 1), pages)
 }
 
-/// A process with one page, which was written and trimmed.
-fn trimmed_page<G: Pages>(alloc: Global, world: &mut World<G>) -> Result<(), NoMemory>
-    requires line { line_number world.old ≡ 1 }
-    requires ready { world.old.spent ≡ false }
-    ensures line { OnOk result (line_number world.new ≡ 5) }
-    ensures ready { OnOk result (world.new.spent ≡ false) }
-{
-    decide(alloc, world, 2, &Event::Process { min: 0, max: 8 })?;
-    let page = Event::Alloc {
-        pid: PID,
-        addr: 0,
-        size: 1,
-        form: AllocFlags::COMMIT.0,
-        prot: Prot::READWRITE.0,
-    };
-    decide(alloc, world, 3, &page)?;
-    write_two(alloc, world)?;
-    decide(alloc, world, 5, &Event::Trim { pid: PID, count: 1 })?;
-    Ok(())
-}
-
-/// The first byte of the page is changed behind the world, in the frame that holds it. False where
-/// it is in none.
-fn change_behind<P: Inject, F: Inject, M: Moves>(world: &mut World<Paged<State<P, F, M>>>) -> bool
-    requires line { line_number world.old ≡ 5 }
-    requires ready { world.old.spent ≡ false }
-    ensures line { line_number world.new ≡ 5 }
-    ensures ready { world.new.spent ≡ false }
-{
-    change_modified(&mut world.pages)
-}
-
-/// What a line reads of the page after that.
-fn read_behind<P: Inject, F: Inject, M: Moves>(
-    alloc: Global,
-    world: &mut World<Paged<State<P, F, M>>>,
-) -> Result<Option<Answer>, NoMemory>
-    requires line { line_number world.old ≡ 1 }
-    requires ready { world.old.spent ≡ false }
-{
-    trimmed_page(alloc, world)?;
-    if !change_behind(world) {
-        return Ok(None);
-    }
-    let read = Event::Read {
-        pid: PID,
-        addr: PAGE,
-        len: 2,
-    };
-    let answer = decide(alloc, world, 6, &read)?;
-    Ok(Some(answer))
-}
-
-/// The same on devices that were opened.
-fn run_behind<'a>(
+/// A scene over devices that were opened.
+fn over_devices<'a>(
     alloc: Global,
     paging: &'a mut MemBlocks,
     files: &'a mut MemBlocks,
     sink: &'a mut MemSink,
-) -> Result<Option<Answer>, NoMemory>
-    requires slots { paging.old.blocks ≡ replicate 4 empty_block }
-    requires blocks { files.old.blocks ≡ replicate 0 empty_block }
+    lines: &[(&str, &str)],
+    scene: (u32, Change),
+) -> Result<(), Stopped>
+    requires slots { paging.old.blocks ≡ replicate 8 empty_block }
+    requires blocks { files.old.blocks ≡ replicate 1 empty_block }
 {
-    let machine = Machine::new(8, 4, 1, 0);
+    let machine = Machine::new(6, 8, 1, 1);
     let paging = Injected::new(paging);
     let files = Injected::new(files);
     let moves = Recorder::new(sink);
@@ -142,26 +230,36 @@ fn run_behind<'a>(
         Ok(state) => {
             let store = Paged::over(state);
             let mut world = first(alloc, store);
-            let read = read_behind(alloc, &mut world);
+            let gone = all_lines(alloc, &mut world, lines, scene);
             let _state = world.finish().finish();
-            read
+            gone
         }
-        Err(_) => Ok(None),
+        Err(_) => Err(Stopped::Memory),
     }
 }
 
-/// A world keeps no bytes beside its store: a byte changed in a frame, behind the world, is what a
-/// line reads.
+/// A scene, line by line.
+fn go_through(alloc: Global, lines: &[(&str, &str)], scene: (u32, Change)) -> Result<(), Stopped> {
+    let mut paging = opened(alloc, 8)?;
+    let mut files = opened(alloc, 1)?;
+    let Ok(mut sink) = MemSink::new(alloc, 4000, Vec::new(alloc)) else {
+        return Err(Stopped::Memory);
+    };
+    over_devices(alloc, &mut paging, &mut files, &mut sink, lines, scene)
+}
+
+/// No layer keeps bytes beside the frames and the devices: what is changed there, behind the world,
+/// is what a line reads.
 #[test]
-fn a_byte_changed_behind_the_world_is_read(rt: HostRuntime) -> Result<(), Fail> {
-    let mut paging = opened(rt.alloc(), 4)?;
-    let mut files = opened(rt.alloc(), 0)?;
-    let mut sink = MemSink::new(rt.alloc(), 1000, Vec::new(rt.alloc())).map_err(|_| "no room")?;
-    match &run_behind(rt.alloc(), &mut paging, &mut files, &mut sink)? {
-        Some(Answer::Bytes(bytes)) => {
-            assert_eq!(rt; bytes.as_slice(), [0x77, 0x5A].as_slice());
-        }
-        _ => panic!(rt; "the page cannot be changed or read"),
+fn bytes_changed_behind_a_world_are_read(rt: HostRuntime) -> Result<(), Fail> {
+    let scenes = [
+        (VALID, 5, Change::Frame),
+        (TRIMMED, 6, Change::Frame),
+        (PUT_OUT, 14, Change::Slot),
+        (NOT_READ, 6, Change::Block),
+    ];
+    for (lines, n, change) in scenes {
+        assert_eq!(rt; go_through(rt.alloc(), lines, (n, change)), Ok(()));
     }
     Ok(())
 }

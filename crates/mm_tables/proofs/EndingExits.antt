@@ -1,13 +1,12 @@
 -- Calls that give up pages, one after another: their moves, the pages of a range, the regions of a process, and its end.
 use Rattle.std.specs.Prelude.{position, remove, ◌==◌, ◌/◌, ◌%◌, option_and_then, IfSome}
-use Rattle.std.proofs.Common.{inl, inr, ◌≢◌, ◌^◌, option_map, slice_get, ◌≡◌, ℕ, ◌+◌, ◌≤◌, ◌<◌, Bool, true, false, List, [], ◌∷◌, ◌++◌, Option, Some, None, refl, sym, ap, ◌∙◌, subst, arith, ◌-◌, cond, length, set, is_some, nat_lt, ◌&&◌, suc, ◌*◌, map, sum_by, count_by, not}
+use Rattle.std.proofs.Common.{inl, inr, ◌≢◌, ◌^◌, option_map, slice_get, ◌≡◌, ℕ, ◌+◌, ◌≤◌, ◌<◌, Bool, true, false, List, [], ◌∷◌, Option, Some, None, refl, sym, ap, ◌∙◌, subst, arith, ◌-◌, cond, length, set, is_some, nat_lt, ◌&&◌, suc, ◌*◌, map, sum_by, count_by, not}
 use Rattle.std.specs.Cmp.{unsigned_Decides}
 use Rattle.std.specs.List.{position_or_len}
 use Rattle.std.proofs.lemmas.Bool.{ltb-true, ltb-false, cases_lt}
 use Rattle.std.proofs.lemmas.List.{get_or_past, set-set, get_or-set_same, get_or-set_other}
 use Rattle.std.proofs.lemmas.List.Sums.{sum_by-cons, sum_by-set, passes_at_first, fails_before_first}
 use Rattle.mm_types.specs.declared.numbers.Pid.{Pid}
-use Rattle.mm_types.specs.declared.numbers.Place.{Place}
 use Rattle.mm_types.specs.Address.{Range, holds_page, end_of, end_of_user_pages, address_of}
 use Rattle.mm_types.specs.declared.answers.Answer.TheVariants as answer
 use Rattle.mm_types.specs.declared.codes.Code.TheVariants as code

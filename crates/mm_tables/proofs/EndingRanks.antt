@@ -1,20 +1,16 @@
 -- With what the pages of a section go that a process gives up, as its handles are closed and its regions dropped.
 use Rattle.std.proofs.Common.{◌≡◌, ℕ, zero, suc, ◌+◌, ◌-◌, ◌≤◌, ◌<◌, Bool, true, false, Option, Some, None, List, [], ◌∷◌, refl, sym, ap, ◌∙◌, subst, cond, arith, set, slice_get, count_by, is_some, option_map, unwrap_or, length, nat_lt}
-use Rattle.std.specs.Prelude.{◌||◌, remove, position, ◌/◌, ◌==◌}
+use Rattle.std.specs.Prelude.{◌||◌, remove, position}
 use Rattle.std.specs.List.{position_or_len}
 use Rattle.std.specs.Cmp.{unsigned_Decides}
 use Rattle.std.proofs.lemmas.Bool.{ltb-true, ltb-false}
 use Rattle.std.proofs.lemmas.List.Sums.{sum_by-cons, passes_at_first, fails_before_first}
-use Rattle.mm_types.specs.declared.numbers.Area.{Area}
-use Rattle.mm_types.specs.declared.numbers.Key.{Key}
-use Rattle.mm_types.proofs.Options.{some_found, same_found}
-use Rattle.mm_world.specs.World.{Page, AreaOf, ProcessOf, RegionOf, SectionOf, Numbered, numbered}
+use Rattle.mm_world.specs.World.{AreaOf, ProcessOf, RegionOf, SectionOf, Numbered, numbered}
 use Rattle.mm_world.specs.Find.{process_of, section_of, area_at, no_area, set_process}
 use Rattle.mm_world.specs.Sections.{is_handle_to, is_view_of, uses, settle, settled_area}
 use Rattle.mm_world.specs.Contents.{Tables}
 use Rattle.mm_world.proofs.Finding.{numbered_inside}
 use Rattle.mm_pages.specs.Leaving.{or_else, last_rank, handle_rank, view_rank, section_rank, rank_behind, goes_with}
-use Rattle.mm_pages.specs.Store.{StoreOf}
 use Rattle.mm_tables.specs.References.{IsTidy, handles_in, views_in}
 use Rattle.mm_tables.specs.Endings.{IsRankFor}
 use Rattle.mm_tables.proofs.EndingFits.{process_same}

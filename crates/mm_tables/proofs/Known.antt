@@ -1,5 +1,5 @@
 -- What is known of the pages of a range, from how many of them have bytes of their own.
-use Rattle.std.proofs.Common.{◌≡◌, ◌<◌, ◌≤◌, ◌+◌, ℕ, zero, suc, Bool, true, false, List, Option, Some, None, cond, is_some, ap, ◌∙◌, arith, refl, inl, inr}
+use Rattle.std.proofs.Common.{◌≡◌, ◌<◌, ◌≤◌, ◌+◌, ℕ, zero, suc, Bool, true, false, List, Option, Some, None, cond, ap, ◌∙◌, arith, refl, inl, inr}
 use Rattle.mm_types.proofs.Cells.{same_or_not}
 use Rattle.mm_types.specs.Address.{Range}
 use Rattle.mm_world.specs.World.{RegionOf}

@@ -104,7 +104,7 @@ pub record CanProtectAll (pid : Pid) (range : Range) (prot n : ℕ) (t : Tables)
 
 module _ {G : Type 0} (p : PagesGhosts G) where
   -- a line of this kind, in which the process lives and the store fits the tables
-  pub record IsReady (kind : LineKind) (pid : Pid) (t : Tables) (g : G) : Type 0 where
+  pub record IsReadyFor (kind : LineKind) (pid : Pid) (t : Tables) (g : G) : Type 0 where
     pub fits : FitsTables t (p.contents g) (p.store g)
     pub kind_is : (p.store g).kind ≡ kind
     pub lives : is_some (process_of t pid.0) ≡ true
@@ -151,7 +151,7 @@ module _ {G : Type 0} (p : PagesGhosts G) where
       PassesIn p.unpaged (Turns turn) (p.store g) (p.store h) (p.behind g) (p.behind h)
 
   -- no page comes or goes: the call is of any turn
-  pub record Idles (g h : G) : Type 0 where
+  pub record StaysIdle (g h : G) : Type 0 where
     pub passes : (turn : Turn) → PassesAs turn g h
     pub loans : p.loans h ≡ p.loans g
 
@@ -184,7 +184,8 @@ module _ {G : Type 0} (p : PagesGhosts G) where
   -- ---- keys and places of a range
 
   -- a store with `n` keys more, and room for `total`
-  pub record Adds (pid : Pid) (range : Range) (keys places : Effect) (clears : Bool) (n total : ℕ)
+  pub record AddsKeys (pid : Pid) (range : Range) (keys places : Effect) (clears : Bool)
+      (n total : ℕ)
       (g h : G) : Type 0 where
     pub stored : RangeStored pid range keys places clears (p.contents g) (p.contents h) (p.store g)
         (p.store h)
@@ -192,7 +193,7 @@ module _ {G : Type 0} (p : PagesGhosts G) where
     pub room : total ≤ (p.store h).room
 
   -- one without the keys of the range
-  pub record Removes (pid : Pid) (range : Range) (places : Effect) (g h : G) : Type 0 where
+  pub record RemovesKeys (pid : Pid) (range : Range) (places : Effect) (g h : G) : Type 0 where
     pub stored : RangeStored pid range Ends places true (p.contents g) (p.contents h) (p.store g)
         (p.store h)
     pub counted : (p.store h).paging_keys ≡
@@ -223,7 +224,7 @@ module _ {G : Type 0} (p : PagesGhosts G) where
   -- ---- tables and store
 
   -- both change together; where memory ran out, tables and bytes are as before
-  pub record Settles {T : Type 0} (result : Result T NoMemory) (old new : Tables) (g h : G) :
+  pub record SettlesTables {T : Type 0} (result : Result T NoMemory) (old new : Tables) (g h : G) :
       Type 0 where
     pub err : OnErr result ((new ≡ old) × (p.contents h ≡ p.contents g))
     pub settled : Settled new (p.contents g) (p.contents h) (p.store g) (p.store h)

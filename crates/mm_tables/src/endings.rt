@@ -12,7 +12,7 @@ ghost use Rattle.mm_pages.specs.Conditions.{AreAmong, IsReleasing};
 ghost use Rattle.mm_spaces.specs.Tables.{found_info, info_of};
 ghost use Rattle.mm_tables.specs.Fits.{FitsTables, Settled, is_uncommitted};
 ghost use Rattle.mm_tables.specs.Endings.{AreUnbound, IsRankFor};
-ghost use Rattle.mm_tables.specs.Promises.{IsReady, PassesAs, Shrinks};
+ghost use Rattle.mm_tables.specs.Promises.{IsReadyFor, PassesAs, Shrinks};
 
 use crate::Tables;
 use crate::closings::{close_in, drop_view_of, release_in, unmap_in};
@@ -56,7 +56,7 @@ impl Tables {
         range: PageRange,
         view: View,
     )
-        requires ready { IsReady G.Pages (line_kind.Unbind pid) pid self.old g.old }
+        requires ready { IsReadyFor G.Pages (line_kind.Unbind pid) pid self.old g.old }
         requires there { (p : ProcessOf (Unit {0})) → process_of self.old pid.0 ≡ Some p →
             option_map found_info (view_at p.regions addr) ≡ Some (record {
               pages = range;
@@ -82,7 +82,7 @@ impl Tables {
 
     /// Releases the lowest region of a process, which is private and has these pages.
     pub(crate) fn release_lowest<G: Pages>(&mut self, g: &mut G, pid: Pid, range: PageRange)
-        requires ready { IsReady G.Pages (line_kind.Unbind pid) pid self.old g.old }
+        requires ready { IsReadyFor G.Pages (line_kind.Unbind pid) pid self.old g.old }
         requires there { (p : ProcessOf (Unit {0})) → process_of self.old pid.0 ≡ Some p →
             option_map info_of (slice_get p.regions 0) ≡ Some (record {
               pages = range;
@@ -131,7 +131,7 @@ impl Tables {
         range: PageRange,
         view: View,
     )
-        requires ready { IsReady G.Pages (line_kind.Unbind pid) pid self.old g.old }
+        requires ready { IsReadyFor G.Pages (line_kind.Unbind pid) pid self.old g.old }
         requires there { (p : ProcessOf (Unit {0})) → process_of self.old pid.0 ≡ Some p →
             option_map found_info (view_at p.regions addr) ≡ Some (record {
               pages = range;

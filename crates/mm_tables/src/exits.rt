@@ -16,7 +16,7 @@ ghost use Rattle.mm_tables.specs.References.{IsTidy, NobodyKeeps};
 ghost use Rattle.mm_tables.specs.Shown.{shown_process};
 ghost use Rattle.mm_tables.specs.Fits.{FitsTables, Settled};
 ghost use Rattle.mm_tables.specs.Endings.{Fewer, HasNoHandle, IsRankFor};
-ghost use Rattle.mm_tables.specs.Promises.{IsReady, PassesAs, Shrinks, Nears};
+ghost use Rattle.mm_tables.specs.Promises.{IsReadyFor, PassesAs, Shrinks, Nears};
 
 use crate::Tables;
 use crate::tables::Process;
@@ -65,7 +65,7 @@ impl Tables {
     /// Closes all handles of a process, in rising order.
     #[tactic(auto, using(mm_pages::proofs::Passed::turns_same))]
     fn close_handles<G: Pages>(&mut self, g: &mut G, pid: Pid)
-        requires ready { IsReady G.Pages (line_kind.Unbind pid) pid self.old g.old }
+        requires ready { IsReadyFor G.Pages (line_kind.Unbind pid) pid self.old g.old }
         ensures nears { Nears G.Pages pid self.old self.new g.old g.new }
         ensures closed { (p : ProcessOf (Unit {0})) → process_of self.new pid.0 ≡ Some p →
             HasNoHandle p }
@@ -79,7 +79,7 @@ impl Tables {
 
     /// Releases or unmaps the lowest region of a process, of which this is told.
     fn drop_lowest<G: Pages>(&mut self, g: &mut G, pid: Pid, info: RegionInfo)
-        requires ready { IsReady G.Pages (line_kind.Unbind pid) pid self.old g.old }
+        requires ready { IsReadyFor G.Pages (line_kind.Unbind pid) pid self.old g.old }
         requires there { (p : ProcessOf (Unit {0})) → process_of self.old pid.0 ≡ Some p →
             option_map info_of (slice_get p.regions 0) ≡ Some info }
         requires within { end_of info.pages ≤ end_of_user_pages }
@@ -104,7 +104,7 @@ impl Tables {
     /// Releases and unmaps all regions of a process, from the lowest on.
     #[tactic(auto, using(mm_pages::proofs::Passed::turns_same))]
     fn drop_regions<G: Pages>(&mut self, g: &mut G, pid: Pid)
-        requires ready { IsReady G.Pages (line_kind.Unbind pid) pid self.old g.old }
+        requires ready { IsReadyFor G.Pages (line_kind.Unbind pid) pid self.old g.old }
         requires closed { (p : ProcessOf (Unit {0})) → process_of self.old pid.0 ≡ Some p →
             HasNoHandle p }
         ensures nears { Nears G.Pages pid self.old self.new g.old g.new }
@@ -141,7 +141,7 @@ impl Tables {
     /// Ends a living process: what threads keep of it and its stacks are gone, its handles are
     /// closed in rising order, then its regions unmapped or released from the lowest on.
     pub fn end_process<G: Pages>(&mut self, g: &mut G, pid: Pid)
-        requires ready { IsReady G.Pages (line_kind.Unbind pid) pid self.old g.old }
+        requires ready { IsReadyFor G.Pages (line_kind.Unbind pid) pid self.old g.old }
         ensures ended { self.new ≡ settle (set_process (end_stacks (record self.old {
           kept = map (kept_of_others pid.0) self.old.kept;
         }) (λ s. s.pid == pid.0)) pid.0 None) }

@@ -113,7 +113,8 @@ impl Tables {
         requires inside { (v : View) → row.now.kind ≡ kind.View v →
             v.first + row.now.index < length (area_at self.now v.area.0).pages }
         ensures { result ≡ option_map (key_of pid.0 page)
-            (home_in self.now row.now.index row.now.kind (if row.now.owned then Some tt else None)) }
+            (home_in self.now row.now.index row.now.kind
+            (if row.now.owned then Some tt else None)) }
     {
         if row.owned {
             return Some(Key::Private(pid, Vpn(page)));

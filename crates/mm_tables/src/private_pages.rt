@@ -10,7 +10,7 @@ ghost use Rattle.mm_world.specs.Contents.{blank};
 ghost use Rattle.mm_world.specs.Free.{private_at, is_stack_at};
 ghost use Rattle.mm_world.specs.Rows.{is_protection_among, private_protections, commit, reserved_row, change_rows};
 ghost use Rattle.mm_tables.specs.Fits.{new_pages};
-ghost use Rattle.mm_tables.specs.Promises.{CommitsPages, IsNewRange, IsReady, MakesWithin, Settles, Frees};
+ghost use Rattle.mm_tables.specs.Promises.{CommitsPages, IsNewRange, IsReadyFor, MakesWithin, SettlesTables, Frees};
 ghost use Rattle.mm_tables.specs.Ranges.{StandsFrom};
 
 use crate::Tables;
@@ -32,7 +32,7 @@ impl Tables {
         prot: u32,
         n: u32,
     ) -> Result<(), NoMemory>
-        requires ready { IsReady G.Pages line_kind.Call pid self.old g.old }
+        requires ready { IsReadyFor G.Pages line_kind.Call pid self.old g.old }
         requires can { CommitsPages pid range prot n self.old }
         requires room { charge self.old + n ≤ limit self.old }
         ensures ok { OnOk result ((p : ProcessOf (Unit {0})) (r : Found (RegionOf (Unit {0}))) →
@@ -42,7 +42,7 @@ impl Tables {
         ensures enough { charge self.old + n ≤ (G.store g.old).room → IsOk result }
         ensures makes { MakesWithin G.Pages (λ from to. StandsFrom from to range) result g.old
             g.new }
-        ensures settles { Settles G.Pages result self.old self.new g.old g.new }
+        ensures settles { SettlesTables G.Pages result self.old self.new g.old g.new }
         ensures among { StandsFrom 0 (2 ^ 32) range }
     {
         let total = self.commit.now() + n;
@@ -70,7 +70,7 @@ impl Tables {
         kind: u32,
         prot: u32,
     ) -> Result<(), NoMemory>
-        requires ready { IsReady G.Pages line_kind.Call pid self.old g.old }
+        requires ready { IsReadyFor G.Pages line_kind.Call pid self.old g.old }
         requires new { (p : ProcessOf (Unit {0})) → process_of self.old pid.0 ≡ Some p →
             IsNewRange p.regions range }
         requires prot { is_protection_among private_protections prot ≡ true }
@@ -80,7 +80,7 @@ impl Tables {
             (add_region (private_region blank watched kind prot range) p.regions)) }
         ensures makes { MakesWithin G.Pages (λ from to.
             (kind == reserve_type) ≡ false → StandsFrom from to range) result g.old g.new }
-        ensures settles { Settles G.Pages result self.old self.new g.old g.new }
+        ensures settles { SettlesTables G.Pages result self.old self.new g.old g.new }
         ensures among { StandsFrom 0 (2 ^ 32) range }
     {
         let pages = new_pages(kind, range);
@@ -93,7 +93,7 @@ impl Tables {
 
     /// Decommits a range of one private region of a process.
     pub fn decommit<G: Pages>(&mut self, g: &mut G, pid: Pid, range: PageRange)
-        requires ready { IsReady G.Pages (line_kind.Unbind pid) pid self.old g.old }
+        requires ready { IsReadyFor G.Pages (line_kind.Unbind pid) pid self.old g.old }
         requires inside { (p : ProcessOf (Unit {0})) → process_of self.old pid.0 ≡ Some p →
             is_some (region_around p.regions range) ≡ true }
         requires private { (p : ProcessOf (Unit {0})) (r : Found (RegionOf (Unit {0}))) →
@@ -111,7 +111,7 @@ impl Tables {
 
     /// `release`, before the stack is looked at that may have had the region.
     fn release_region<G: Pages>(&mut self, g: &mut G, pid: Pid, addr: u32, range: PageRange)
-        requires ready { IsReady G.Pages (line_kind.Unbind pid) pid self.old g.old }
+        requires ready { IsReadyFor G.Pages (line_kind.Unbind pid) pid self.old g.old }
         requires there { (p : ProcessOf (Unit {0})) → process_of self.old pid.0 ≡ Some p →
             option_map (λ r. pages_of r.thing) (private_at p.regions addr) ≡ Some range }
         ensures changed { (p : ProcessOf (Unit {0})) (r : Found (RegionOf (Unit {0}))) →
@@ -126,7 +126,7 @@ impl Tables {
     /// Releases the private region of a process that begins at the address and has these pages.
     /// Where it was a thread's stack, the thread has none any more.
     pub fn release<G: Pages>(&mut self, g: &mut G, pid: Pid, addr: u32, range: PageRange)
-        requires ready { IsReady G.Pages (line_kind.Unbind pid) pid self.old g.old }
+        requires ready { IsReadyFor G.Pages (line_kind.Unbind pid) pid self.old g.old }
         requires there { (p : ProcessOf (Unit {0})) → process_of self.old pid.0 ≡ Some p →
             option_map (λ r. pages_of r.thing) (private_at p.regions addr) ≡ Some range }
         ensures changed { (p : ProcessOf (Unit {0})) (r : Found (RegionOf (Unit {0}))) →

@@ -12,7 +12,7 @@ ghost use Rattle.mm_pages.specs.Conditions.{place_at};
 ghost use Rattle.mm_pages.specs.Housekeeping.{Turns};
 ghost use Rattle.mm_pages.specs.Store.{StoreOf, changed};
 ghost use Rattle.mm_tables.specs.Fits.{FitsTables, extended, copied, CanCopy, NamesAtMostOne};
-ghost use Rattle.mm_tables.specs.Promises.{CanProtectAll, IsReady, StartsProcess, Idles, IdlesOver, Settles};
+ghost use Rattle.mm_tables.specs.Promises.{CanProtectAll, IsReadyFor, StartsProcess, StaysIdle, IdlesOver, SettlesTables};
 
 use crate::Tables;
 use crate::steps::{
@@ -125,16 +125,16 @@ impl Tables {
         prot: u32,
         n: u32,
     ) -> Result<(), NoMemory>
-        requires ready { IsReady G.Pages line_kind.Call pid self.old g.old }
+        requires ready { IsReadyFor G.Pages line_kind.Call pid self.old g.old }
         requires can { CanProtectAll pid range prot n self.old }
         requires room { charge self.old + n ≤ limit self.old }
         ensures ok { OnOk result ((p : ProcessOf (Unit {0})) (r : Found (RegionOf (Unit {0}))) →
             process_of self.old pid.0 ≡ Some p → region_around p.regions range ≡ Some r →
             self.new ≡ set_region self.old pid.0 p r.place
             (change_rows (protected r.thing.kind prot) range r.thing)) }
-        ensures settles { Settles G.Pages result self.old self.new g.old g.new }
+        ensures settles { SettlesTables G.Pages result self.old self.new g.old g.new }
         ensures some { n ≡ 0 → IsOk result }
-        ensures idles { Idles G.Pages g.old g.new }
+        ensures idles { StaysIdle G.Pages g.old g.new }
     {
         let total = self.commit.now() + n;
         grow_for_marks(g, n, total)?;

@@ -12,7 +12,7 @@ ghost use Rattle.mm_sections.specs.Directories.{sections_of, new_entry, one_hand
 ghost use Rattle.mm_sections.specs.Pages.{page_if};
 ghost use Rattle.mm_tables.specs.References.{IsFew};
 ghost use Rattle.mm_tables.specs.Shown.{shown_process, shown_processes};
-ghost use Rattle.mm_tables.specs.Promises.{IsReady, PassesAs, MakesPages, Settles};
+ghost use Rattle.mm_tables.specs.Promises.{IsReadyFor, PassesAs, MakesPages, SettlesTables};
 ghost use Rattle.mm_tables.specs.SectionSteps.{has_spare, has_room, CanFill, Fills, Opens, IsListedAs, CanHold, IsNewArea};
 ghost use Rattle.mm_tables.specs.Effects.{Roomier};
 ghost use Rattle.mm_tables.specs.Fits.{FitsTables, Settled};
@@ -242,7 +242,7 @@ impl Tables {
         prot: Prot,
         name: Option<Name>,
     ) -> Result<u32, NoMemory>
-        requires ready { IsReady G.Pages line_kind.Call pid self.old g.old }
+        requires ready { IsReadyFor G.Pages line_kind.Call pid self.old g.old }
         requires few { IsFew self.old }
         requires some { 1 ≤ pages }
         requires unnamed { IfSome name (λ n. section_named self.old n ≡ None) }
@@ -254,7 +254,7 @@ impl Tables {
                   record { file_block = None; pages = replicate pages (page_if committed) } ∷ [];
             }) pid.0 p (record { prot = prot.0; name = name; area = length self.old.areas })
             ≡ record { answer = answer.Created handle false; world = self.new }) }
-        ensures settles { Settles G.Pages result self.old self.new g.old g.new }
+        ensures settles { SettlesTables G.Pages result self.old self.new g.old g.new }
         ensures makes { MakesPages G.Pages result g.old g.new }
     {
         let area = Area(self.areas.len() as u32);

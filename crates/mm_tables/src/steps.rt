@@ -15,7 +15,7 @@ ghost use Rattle.std.specs.Prelude.{Bool};
 ghost use Rattle.mm_spaces.specs.Tables.{owned_in};
 ghost use Rattle.mm_tables.specs.Effects.{Makes, Ends, Leaves, RangeStored, Roomier, CanMake, keys_of};
 ghost use Rattle.mm_tables.specs.Fits.{new_pages};
-ghost use Rattle.mm_tables.specs.Promises.{LiesInPrivate, BeginsAt, IsNewRange, CanAddUpTo, CanRemoveIn, CanBind, PassesAs, Idles, IdlesOver, EndsPages, MakesWithin, Adds, Removes, Binds, KeepsCount, KeepsRegions};
+ghost use Rattle.mm_tables.specs.Promises.{LiesInPrivate, BeginsAt, IsNewRange, CanAddUpTo, CanRemoveIn, CanBind, PassesAs, StaysIdle, IdlesOver, EndsPages, MakesWithin, AddsKeys, RemovesKeys, Binds, KeepsCount, KeepsRegions};
 ghost use Rattle.mm_tables.specs.Ranges.{CanAdd, StandsFrom, passing, is_page_dead, is_page_live};
 ghost use Rattle.mm_tables.specs.Shown.{shown_processes};
 ghost use Rattle.mm_tables.specs.Spaces.{process_regions, RegionsBecame};
@@ -94,7 +94,7 @@ pub(crate) fn commit_pages<G: Pages>(
         RegionsBecame process.old process.new
         (slice_set (process_regions process.old) r.place
         (change_rows (commit tt prot) range r.thing))) }
-    ensures adds { OnOk result (Adds G.Pages pid range Makes Leaves false
+    ensures adds { OnOk result (AddsKeys G.Pages pid range Makes Leaves false
         (passing (is_page_dead pid (G.contents g.old)) range.first range.count) total g.old g.new) }
     ensures enough { total ≤ (G.store g.old).room → IsOk result }
     ensures keeps { OnErr result (KeepsRegions G.Pages process.old process.new g.old g.new) }
@@ -125,7 +125,7 @@ pub(crate) fn decommit_pages<G: Pages>(
         RegionsBecame process.old process.new
         (slice_set (process_regions process.old) r.place
         (change_rows (λ row. reserved_row) range r.thing)) }
-    ensures removes { Removes G.Pages pid range Leaves g.old g.new }
+    ensures removes { RemovesKeys G.Pages pid range Leaves g.old g.new }
     ensures ends { EndsPages G.Pages pid range g.old g.new }
 {
     let Some(process) = process else {
@@ -154,7 +154,7 @@ pub(crate) fn release_pages<G: Pages>(
     ensures changed { (r : Found (RegionOf (Unit {0}))) →
         private_at (process_regions process.old) addr ≡ Some r →
         RegionsBecame process.old process.new (remove (process_regions process.old) r.place) }
-    ensures removes { Removes G.Pages pid range Ends g.old g.new }
+    ensures removes { RemovesKeys G.Pages pid range Ends g.old g.new }
     ensures ends { EndsPages G.Pages pid range g.old g.new }
 {
     let Some(process) = process else {
@@ -182,7 +182,7 @@ fn grow_for_region<G: Pages>(
     ensures keeps { KeepsCount G.Pages g.old g.new }
     ensures err { OnErr result
         (Roomier (G.contents g.old) (G.contents g.new) (G.store g.old) (G.store g.new)) }
-    ensures idles { Idles G.Pages g.old g.new }
+    ensures idles { StaysIdle G.Pages g.old g.new }
 {
     space.reserve()?;
     g.reserve(total)?;
@@ -234,7 +234,7 @@ pub(crate) fn make_region<G: Pages>(
         (G.store g.old) }
     ensures changed { OnOk result (RegionsBecame process.old process.new
         (add_region (private_region blank watched kind prot range) (process_regions process.old))) }
-    ensures adds { OnOk result (Adds G.Pages pid range (keys_of kind) Makes true
+    ensures adds { OnOk result (AddsKeys G.Pages pid range (keys_of kind) Makes true
         (new_pages kind range) total g.old g.new) }
     ensures makes { MakesWithin G.Pages (λ from to.
         (kind == reserve_type) ≡ false → StandsFrom from to range) result g.old g.new }
@@ -259,7 +259,7 @@ pub(crate) fn grow_for_marks<G: Pages>(g: &mut G, n: u32, total: u32) -> Result<
     ensures room { OnOk result (total ≤ (G.store g.new).room) }
     ensures some { n ≡ 0 → IsOk result }
     ensures more { Roomier (G.contents g.old) (G.contents g.new) (G.store g.old) (G.store g.new) }
-    ensures idles { Idles G.Pages g.old g.new }
+    ensures idles { StaysIdle G.Pages g.old g.new }
 {
     if n > 0 {
         g.reserve(total)?;

@@ -49,9 +49,15 @@ impl Model for Tables {
 
     ghost Value = { Tables };
 
-    ghost view = { λ t. tables_with t.machine (shown_processes t.processes.items) t.directory.entries t.areas.items t.directory.files t.blocks_used t.fails_taken (shown_accesses t.kept) t.stacks };
+    ghost view = { λ t. tables_with t.machine (shown_processes t.processes.items)
+        t.directory.entries t.areas.items t.directory.files t.blocks_used t.fails_taken
+        (shown_accesses t.kept) t.stacks };
 
-    ghost invariant = { λ t. AreKeptTables (tables_with t.machine (shown_processes t.processes.items) t.directory.entries t.areas.items t.directory.files t.blocks_used t.fails_taken (shown_accesses t.kept) t.stacks) t.directory.entries t.commit };
+    ghost invariant = { λ t. AreKeptTables
+        (tables_with t.machine (shown_processes t.processes.items)
+        t.directory.entries t.areas.items t.directory.files t.blocks_used t.fails_taken
+        (shown_accesses t.kept) t.stacks)
+        t.directory.entries t.commit };
 }
 
 impl Tables {

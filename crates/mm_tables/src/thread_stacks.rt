@@ -35,7 +35,11 @@ impl Model for ThreadStack {
 
     ghost invariant = { λ s. (s.base < s.guard_page) × (s.guard_page < end_of_user_pages) };
 
-    ghost inverse = { λ s. record { pid = record { 0 = s.pid }; base = s.base; guard_page = s.guard_page } };
+    ghost inverse = { λ s. record {
+      pid = record { 0 = s.pid };
+      base = s.base;
+      guard_page = s.guard_page;
+    } };
 }
 
 /// The stacks of the 256 threads.

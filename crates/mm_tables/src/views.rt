@@ -12,7 +12,7 @@ ghost use Rattle.mm_world.specs.Rows.{is_protection_among, all_protections, prot
 ghost use Rattle.mm_world.specs.Views.{view_region, is_copy};
 ghost use Rattle.mm_world.specs.WellFormed.{ViewFits};
 ghost use Rattle.mm_pages.specs.Housekeeping.{Makes, MakesFrom};
-ghost use Rattle.mm_tables.specs.Promises.{CommitsInView, IsNewPlace, IsReady, CanBind, PassesAs, Idles, IdlesOver, MakesPages, BindsPlaces, Settles};
+ghost use Rattle.mm_tables.specs.Promises.{CommitsInView, IsNewPlace, IsReadyFor, CanBind, PassesAs, StaysIdle, IdlesOver, MakesPages, BindsPlaces, SettlesTables};
 ghost use Rattle.mm_tables.specs.Shown.{shown_processes};
 ghost use Rattle.mm_tables.specs.ViewChanges.{region_of_view, living, listed_area, MoreRoom, CanShare, Shares, CanProtect};
 
@@ -65,7 +65,7 @@ fn grow_for_view<G: Pages>(
     ensures binds { OnOk result (BindsPlaces G.Pages pid range total g.old g.new) }
     ensures contents { G.contents g.new ≡ G.contents g.old }
     ensures err { OnErr result (MoreRoom (G.store g.old) (G.store g.new)) }
-    ensures idles { Idles G.Pages g.old g.new }
+    ensures idles { StaysIdle G.Pages g.old g.new }
 {
     space.reserve()?;
     g.reserve(total)?;
@@ -295,7 +295,7 @@ impl Tables {
         prot: u32,
         n: u32,
     ) -> Result<(), NoMemory>
-        requires ready { IsReady G.Pages line_kind.Call pid self.old g.old }
+        requires ready { IsReadyFor G.Pages line_kind.Call pid self.old g.old }
         requires can { CommitsInView pid range prot n self.old }
         requires room { charge self.old + n ≤ limit self.old }
         ensures ok { OnOk result ((p : ProcessOf (Unit {0})) (r : Found (RegionOf (Unit {0})))
@@ -307,7 +307,7 @@ impl Tables {
             (commit_shared blank (v.first + (range.first - r.thing.base)) range.count
             (area_at self.old v.area.0))) }
         ensures enough { charge self.old + n ≤ (G.store g.old).room → IsOk result }
-        ensures settles { Settles G.Pages result self.old self.new g.old g.new }
+        ensures settles { SettlesTables G.Pages result self.old self.new g.old g.new }
         ensures makes { MakesPages G.Pages result g.old g.new }
     {
         let (view, offset) = view_around(&self.processes, pid, range);
@@ -329,7 +329,7 @@ impl Tables {
         range: PageRange,
         view: View,
     ) -> Result<(), NoMemory>
-        requires ready { IsReady G.Pages line_kind.Call pid self.old g.old }
+        requires ready { IsReadyFor G.Pages line_kind.Call pid self.old g.old }
         requires new { (p : ProcessOf (Unit {0})) → process_of self.old pid.0 ≡ Some p →
             IsNewPlace p.regions range }
         requires section { ViewFits self.old view range.count }
@@ -340,8 +340,8 @@ impl Tables {
             section_of self.old s.place ≡ Some s.thing →
             self.new ≡ set_regions self.old pid.0 p
             (add_region (view_region s view.access view.first range) p.regions)) }
-        ensures settles { Settles G.Pages result self.old self.new g.old g.new }
-        ensures idles { Idles G.Pages g.old g.new }
+        ensures settles { SettlesTables G.Pages result self.old self.new g.old g.new }
+        ensures idles { StaysIdle G.Pages g.old g.new }
     {
         let charged = marked_pages(view, range);
         let total = self.commit.now() + charged;

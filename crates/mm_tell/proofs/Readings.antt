@@ -10,7 +10,7 @@ use Rattle.mm_life.specs.Life.{FrameLife, unstarted}
 use Rattle.mm_life.specs.Effect.{after_move}
 use Rattle.mm_life.specs.Replay.{Replays}
 use Rattle.mm_life.proofs.Replays.{replays_then, replays_one}
-use Rattle.mm_moves.proofs.Lines.{one_move}
+use Rattle.mm_replay.proofs.Lines.{one_move}
 use Rattle.mm_log.specs.Verdict.{IsStuck, StuckBefore, Spells, SpellsBefore}
 use Rattle.mm_log.specs.Exact.{IsFault}
 use Rattle.mm_log.specs.Reading.{Lines}

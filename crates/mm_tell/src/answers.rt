@@ -2,7 +2,7 @@ ghost use Rattle.std.specs.Prelude.{◌≡◌, ◌≤◌, ◌++◌, ◌∷◌, [
 ghost use Rattle.mm_types.specs.Outside.{Rose};
 ghost use Rattle.mm_types.specs.Spelling.{decimal};
 ghost use Rattle.mm_life.specs.MoveText.{numbered};
-ghost use Rattle.mm_moves.specs.Standing.{life as life_of};
+ghost use Rattle.mm_replay.specs.Standing.{life as life_of};
 ghost use Rattle.mm_tell.specs.Telling.{is_broken};
 ghost use Rattle.mm_tell.specs.Answering.{ends_well, closing_status, close_words, refused_words};
 ghost use Rattle.mm_tell.specs.Answering.{said_by};
@@ -14,7 +14,7 @@ use crate::replays::tell_log;
 use crate::tellers::Teller;
 use mm_io::{Sink, Source};
 use mm_log::{Ending, write_flushed};
-use mm_moves::Life;
+use mm_replay::Life;
 use mm_text::{LineBuf, put_decimal};
 use mm_types::{Failed, Move, NoMemory};
 use std::alloc::Global;
@@ -59,7 +59,7 @@ fn is_broken(closing: Closing) -> bool
 }
 
 /// Writes some words and a number.
-#[tactic(auto, using(mm_moves::proofs::Onto::onto))]
+#[tactic(auto, using(mm_text::proofs::DigitCounts::joined))]
 fn put_number(words: &[u8], n: u64, text: &mut Vec<u8>) -> Result<(), NoMemory>
     requires { length words.now ≤ 20 }
     ensures { OnOk result (text.new.items ≡ text.old.items ++ (words.now ++ decimal n)) }
@@ -72,7 +72,7 @@ fn put_number(words: &[u8], n: u64, text: &mut Vec<u8>) -> Result<(), NoMemory>
 }
 
 /// Writes some words, a number and a line feed.
-#[tactic(auto, using(mm_moves::proofs::Onto::onto))]
+#[tactic(auto, using(mm_text::proofs::DigitCounts::joined))]
 fn put_numbered(words: &[u8], n: u64, text: &mut Vec<u8>) -> Result<(), NoMemory>
     requires { length words.now ≤ 20 }
     ensures { OnOk result (text.new.items ≡ text.old.items ++ numbered words.now n (10 ∷ [])) }
@@ -102,7 +102,7 @@ fn put_refused<T: Teller>(
 }
 
 /// Writes the number of a bad line, and what is wrong with it.
-#[tactic(auto, using(mm_moves::proofs::Onto::onto))]
+#[tactic(auto, using(mm_text::proofs::DigitCounts::joined))]
 fn put_bad_line<T: Teller>(
     line: u64,
     refused: Option<Move>,

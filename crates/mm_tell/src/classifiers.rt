@@ -1,5 +1,5 @@
 ghost use Rattle.std.specs.Prelude.{◌≡◌, OnOk, IfOk, None, Some, option_map};
-ghost use Rattle.mm_moves.specs.Standing.{life as life_of};
+ghost use Rattle.mm_replay.specs.Standing.{life as life_of};
 ghost use Rattle.mm_classes.specs.Classes.{class_of};
 ghost use Rattle.mm_classes.specs.Marks.{no_marks, marks_after};
 ghost use Rattle.mm_classes.specs.Marking.{marks_of};
@@ -7,7 +7,7 @@ ghost use Rattle.mm_tell.specs.Classing.{next_there, is_made_room, pending, clas
 ghost use Rattle.mm_tell.specs.Classing.{classed};
 
 use mm_classes::{Class, Marks, class_of};
-use mm_moves::Life;
+use mm_replay::Life;
 use mm_types::{Frame, Move, NoMemory};
 use std::alloc::Global;
 

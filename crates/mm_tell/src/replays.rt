@@ -3,7 +3,7 @@ ghost use Rattle.std.specs.Prelude.{Option, MatchResult, OnOk, Err};
 ghost use Rattle.mm_types.specs.declared.moves.Move.{Move};
 ghost use Rattle.mm_types.specs.Outside.{Rose};
 ghost use Rattle.mm_life.specs.Life.{unstarted};
-ghost use Rattle.mm_moves.specs.Standing.{life as life_of};
+ghost use Rattle.mm_replay.specs.Standing.{life as life_of};
 ghost use Rattle.mm_log.specs.declared.endings.Ending.{Ending};
 ghost use Rattle.mm_log.specs.Reading.{IsReady};
 ghost use Rattle.mm_life.specs.Legal.{IsLegal};
@@ -17,7 +17,7 @@ use crate::pouring::pour;
 use crate::tellers::Teller;
 use mm_io::{Sink, Source};
 use mm_log::{Ending, LogReader, MOST_LINES};
-use mm_moves::Life;
+use mm_replay::Life;
 use mm_types::{Failed, Move, NoMemory};
 
 /// Tells a move that is legal in this state, and makes it.

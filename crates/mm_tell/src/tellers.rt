@@ -3,9 +3,9 @@ ghost use Rattle.mm_types.specs.declared.moves.Move.{Move};
 ghost use Rattle.mm_life.specs.Life.{FrameLife};
 ghost use Rattle.mm_life.specs.Legal.{IsLegal};
 ghost use Rattle.mm_life.specs.Effect.{after_move};
-ghost use Rattle.mm_moves.specs.Standing.{life as life_of};
+ghost use Rattle.mm_replay.specs.Standing.{life as life_of};
 
-use mm_moves::Life;
+use mm_replay::Life;
 use mm_types::{Move, NoMemory};
 
 /// What writes a text of a log, told its moves one after another.

@@ -1,7 +1,7 @@
 -- Digits that are written from the last on, into the places of a list from its end on.
-use Rattle.std.proofs.Common.{◌≡◌, ℕ, zero, suc, ◌+◌, ◌-◌, ◌/◌, ◌%◌, ◌≤◌, ◌<◌, Bool, cond, List, [], ◌∷◌, ◌++◌, length, drop, take, set, get_or, refl, sym, ap, ◌∙◌, subst, arith, add-one, append_assoc}
+use Rattle.std.proofs.Common.{◌≡◌, ℕ, zero, suc, ◌+◌, ◌-◌, ◌/◌, ◌%◌, ◌≤◌, ◌<◌, Bool, cond, List, [], ◌∷◌, ◌++◌, length, drop, take, set, get_or, refl, sym, ap, ◌∙◌, subst, arith, add-one, append_assoc, length-set}
 use Rattle.std.specs.Prelude.{nat_lt}
-use Rattle.std.proofs.lemmas.List.{drop-set, drop_more, take_all, length-drop}
+use Rattle.std.proofs.lemmas.List.{drop-set, drop_more, take_all, take_more_set, length-drop}
 use Rattle.std.proofs.lemmas.Bool.{lt-ltb, le-ltb}
 use Rattle.mm_types.specs.Spelling.{Text, glyph, decimal, decimal_onto, hex_onto, byte_pairs}
 use Rattle.mm_text.specs.Shortest.{digits_onto}
@@ -65,7 +65,19 @@ pub pairs_more : (out xs : List ℕ) (i : ℕ) → i < length xs → get_or xs i
 pairs_more out xs i h low =
     pair_put out (get_or xs i 0) (drop (i + 1) xs) low ∙ ap (λ r. out ++ byte_pairs r) (sym (drop_more xs i 0 h))
 
-pub ruleset digits = (digits_last, digits_more, digits_none, hex_more, pairs_more)
+-- one pair more at the front of a room
+pub pairs_filled : (room xs : List ℕ) (end i : ℕ) → i < length xs → get_or xs i 0 < 256 → end + 1 < length room → take (end + 2) (set (set room end (glyph (get_or xs i 0 / 16))) (end + 1) (glyph (get_or xs i 0 % 16))) ++ byte_pairs (drop (i + 1) xs) ≡ take end room ++ byte_pairs (drop i xs)
+pairs_filled room xs end i h low fits =
+    let high = glyph (get_or xs i 0 / 16) in
+    let digit = glyph (get_or xs i 0 % 16) in
+    let two : end + 2 ≡ (end + 1) + 1 = omega arith in
+    let within : end + 1 < length (set room end high) = omega (arith, length-set room end high) in
+    ap (λ k. take k (set (set room end high) (end + 1) digit) ++ byte_pairs (drop (i + 1) xs)) two
+    ∙ ap (λ ys. ys ++ byte_pairs (drop (i + 1) xs)) (take_more_set (set room end high) (end + 1) digit within)
+    ∙ ap (λ ys. (ys ++ digit ∷ []) ++ byte_pairs (drop (i + 1) xs)) (take_more_set room end high (omega arith))
+    ∙ pairs_more (take end room) xs i h low
+
+pub ruleset digits = (digits_last, digits_more, digits_none, hex_more, pairs_more, pairs_filled)
 
 -- what stands in the twenty places from the first digit on
 pub decimal_tail : (n from : ℕ) (xs : Text) → length xs ≡ 20 → digits_onto 10 20 n [] ≡ drop from xs → take (20 - from) (drop from xs) ≡ decimal n

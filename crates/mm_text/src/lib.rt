@@ -3,20 +3,16 @@
 //! memory. And words and numbers in the columns of a table.
 #![tactic(auto)]
 
-#[cfg(test)]
-mod answer_tests;
 mod columns;
 mod fields;
 mod line_bufs;
 mod puts;
 mod spans;
 mod spells;
-#[cfg(test)]
-mod tests;
 
 pub use columns::{put_left, put_numbers, put_right, put_right_number};
 pub use fields::{bytes, name, number};
 pub use line_bufs::LineBuf;
-pub use puts::{put_bytes, put_decimal, put_hex_short, put_hex8};
+pub use puts::{fill_pairs, put_bytes, put_decimal, put_hex_short, put_hex8};
 pub use spans::{Numbered, Span, Words};
 pub use spells::{LONGEST, spell};

@@ -1,19 +1,39 @@
-ghost use Rattle.std.specs.Prelude.{◌≡◌, ◌≤◌, ◌<◌, ◌+◌, ◌*◌, ◌++◌, [], length, drop};
+ghost use Rattle.std.specs.Prelude.{◌≡◌, ◌≤◌, ◌<◌, ◌+◌, ◌*◌, ◌++◌, [], length, take, drop};
 ghost use Rattle.mm_types.specs.Spelling.{glyph, decimal, hex_onto, hex8, byte_pairs};
 ghost use Rattle.mm_text.specs.Shortest.{digits_onto, hex_short};
 
 use crate::LineBuf;
 
-/// A digit below 16 as a byte, with upper-case letters from ten on.
+/// The digits below 16 as bytes, with upper-case letters from ten on.
+static GLYPHS: [u8; 16] = [
+    b'0', b'1', b'2', b'3', b'4', b'5', b'6', b'7', b'8', b'9', b'A', b'B', b'C', b'D', b'E', b'F',
+];
+
+/// A digit below 16 as a byte.
+#[inline(always)]
 fn glyph(digit: u8) -> u8
     requires { digit < 16 }
     ensures { result ≡ glyph digit }
 {
-    if digit < 10 {
-        b'0' + digit
-    } else {
-        b'A' + (digit - 10)
+    GLYPHS[digit as usize]
+}
+
+/// Writes at most 64 bytes as pairs of hexadecimal digits in upper case at the front of `room`, and
+/// tells where they end.
+#[inline(always)]
+#[tactic(auto, using(crate::proofs::Digits::digits))]
+pub fn fill_pairs(bytes: &[u8], room: &mut [u8; 128]) -> usize
+    requires { length bytes.now ≤ 64 }
+    ensures pairs { take result room.new ≡ byte_pairs bytes.now }
+    ensures few { result ≤ 128 }
+{
+    let mut end = 0;
+    for byte in bytes {
+        room[end] = glyph(*byte / 16);
+        room[end + 1] = glyph(*byte % 16);
+        end += 2;
     }
+    end
 }
 
 /// Writes a number's digits at the end of `digits`, without leading zeros, and answers where they

@@ -15,11 +15,26 @@ pub struct Machine {
 impl Model for Machine {
     ghost Value = { MachineOf };
 
-    ghost view = { λ m. record { frames = m.frames; slots = m.slots; depth = m.depth; blocks = m.blocks } };
+    ghost view = { λ m. record {
+      frames = m.frames;
+      slots = m.slots;
+      depth = m.depth;
+      blocks = m.blocks;
+    } };
 
-    ghost invariant = { λ m. IsMachine (record { frames = m.frames; slots = m.slots; depth = m.depth; blocks = m.blocks }) };
+    ghost invariant = { λ m. IsMachine (record {
+      frames = m.frames;
+      slots = m.slots;
+      depth = m.depth;
+      blocks = m.blocks;
+    }) };
 
-    ghost inverse = { λ d. record { frames = d.frames; slots = d.slots; depth = d.depth; blocks = d.blocks } };
+    ghost inverse = { λ d. record {
+      frames = d.frames;
+      slots = d.slots;
+      depth = d.depth;
+      blocks = d.blocks;
+    } };
 }
 
 impl Clone for Machine {

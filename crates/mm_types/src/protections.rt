@@ -34,7 +34,10 @@ impl Flags for Prot {
 
     ghost exact = { ⊤ };
 
-    ghost table = { (codes "NOACCESS", 1) ∷ (codes "READONLY", 2) ∷ (codes "READWRITE", 4) ∷ (codes "WRITECOPY", 8) ∷ (codes "EXECUTE", 16) ∷ (codes "EXECUTE_READ", 32) ∷ (codes "EXECUTE_READWRITE", 64) ∷ (codes "EXECUTE_WRITECOPY", 128) ∷ (codes "GUARD", 256) ∷ [] };
+    ghost table = { (codes "NOACCESS", 1) ∷ (codes "READONLY", 2) ∷ (codes "READWRITE", 4) ∷
+        (codes "WRITECOPY", 8) ∷ (codes "EXECUTE", 16) ∷ (codes "EXECUTE_READ", 32) ∷
+        (codes "EXECUTE_READWRITE", 64) ∷ (codes "EXECUTE_WRITECOPY", 128) ∷
+        (codes "GUARD", 256) ∷ [] };
 
     ghost set_of = { λ p. p.0 };
 
@@ -70,7 +73,9 @@ impl Flags for AllocFlags {
 
     ghost exact = { ⊤ };
 
-    ghost table = { (codes "COMMIT", 0x1000) ∷ (codes "RESERVE", 0x2000) ∷ (codes "DECOMMIT", 0x4000) ∷ (codes "RELEASE", 0x8000) ∷ (codes "WRITE_WATCH", 0x200000) ∷ [] };
+    ghost table = { (codes "COMMIT", 0x1000) ∷ (codes "RESERVE", 0x2000) ∷
+        (codes "DECOMMIT", 0x4000) ∷ (codes "RELEASE", 0x8000) ∷
+        (codes "WRITE_WATCH", 0x200000) ∷ [] };
 
     ghost set_of = { λ f. f.0 };
 

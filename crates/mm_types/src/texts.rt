@@ -21,7 +21,8 @@ impl Model for ByteBuf {
 
     ghost inverse = { λ d. record { len = length d; bytes = padded 64 d } };
 
-    ghost inverse_ok = { λ b h. padded-take (λ n xs. record { len = n; bytes = xs }) 64 b.len b.bytes h.1 };
+    ghost inverse_ok = { λ b h. padded-take (λ n xs. record { len = n; bytes = xs })
+        64 b.len b.bytes h.1 };
 }
 
 impl Clone for ByteBuf {
@@ -77,7 +78,8 @@ impl Model for Name {
 
     ghost inverse = { λ d. record { len = length d; bytes = padded 32 d } };
 
-    ghost inverse_ok = { λ n h. padded-take (λ k xs. record { len = k; bytes = xs }) 32 n.len n.bytes h.1 };
+    ghost inverse_ok = { λ n h. padded-take (λ k xs. record { len = k; bytes = xs })
+        32 n.len n.bytes h.1 };
 }
 
 impl Clone for Name {
@@ -134,7 +136,8 @@ impl Model for PageList {
 
     ghost inverse = { λ d. record { len = length d; addresses = padded 16 d } };
 
-    ghost inverse_ok = { λ l h. padded-take (λ k xs. record { len = k; addresses = xs }) 16 l.len l.addresses h };
+    ghost inverse_ok = { λ l h. padded-take (λ k xs. record { len = k; addresses = xs })
+        16 l.len l.addresses h };
 }
 
 impl Clone for PageList {

@@ -2,7 +2,7 @@ ghost use Rattle.std.specs.Prelude.{◌≡◌, ◌||◌, ◌++◌, ◌∷◌, []
 ghost use Rattle.mm_types.specs.declared.moves.Move.{Move};
 ghost use Rattle.mm_life.specs.Effect.{after_move};
 ghost use Rattle.mm_life.specs.Life.{unstarted, counts_of};
-ghost use Rattle.mm_moves.specs.Standing.{life as life_of};
+ghost use Rattle.mm_replay.specs.Standing.{life as life_of};
 ghost use Rattle.mm_text.specs.Columns.{numbers_in};
 ghost use Rattle.mm_uses.specs.Counts.{counts_head, counts_row, counts_rows, numbers_of};
 ghost use Rattle.mm_uses.specs.Lines.{ended, ended_by, is_among, line_ends, said_of, unless_found};
@@ -10,14 +10,14 @@ ghost use Rattle.mm_uses.specs.Rest.{head_left};
 ghost use Rattle.mm_uses.specs.Uses.{use_rows, use_text};
 
 use crate::tables::put_use;
-use mm_moves::Life;
+use mm_replay::Life;
 use mm_sentences::{put_why, put_words};
 use mm_tell::Teller;
 use mm_text::{put_numbers, put_right_number};
 use mm_types::{Counts, Move, NoMemory};
 use std::alloc::Global;
 
-#[tactic(auto, using(mm_moves::proofs::Onto::onto))]
+#[tactic(auto, using(mm_text::proofs::DigitCounts::joined))]
 fn put_head(text: &mut Vec<u8>) -> Result<(), NoMemory>
     ensures { OnOk result (text.new.items ≡ text.old.items ++ counts_head) }
 {
@@ -50,7 +50,7 @@ fn put_counts(counts: Counts, text: &mut Vec<u8>) -> Result<(), NoMemory>
 }
 
 /// Writes a line's number, and the counts at its end.
-#[tactic(auto, using(mm_moves::proofs::Onto::onto))]
+#[tactic(auto, using(mm_text::proofs::DigitCounts::joined))]
 fn put_counts_row(life: &Life, text: &mut Vec<u8>) -> Result<(), NoMemory>
     ensures { OnOk result (text.new.items ≡ text.old.items ++ counts_row (life_of life.now)) }
 {
@@ -120,7 +120,7 @@ impl CountsTeller {
     }
 
     /// Writes what is left at the end.
-    #[tactic(auto, using(mm_moves::proofs::Onto::onto))]
+    #[tactic(auto, using(mm_text::proofs::DigitCounts::joined))]
     fn put_last(&self, whole: bool, life: &Life, text: &mut Vec<u8>) -> Result<(), NoMemory>
         ensures { OnOk result (text.new.items ≡ text.old.items
             ++ counts_rest self.now whole (life_of life.now) []) }
@@ -259,7 +259,7 @@ impl UseTeller {
     }
 
     /// Writes what is said of the last line of a whole log, or that it has no such line.
-    #[tactic(auto, using(mm_moves::proofs::Onto::onto))]
+    #[tactic(auto, using(mm_text::proofs::DigitCounts::joined))]
     fn put_last(&self, life: &Life, text: &mut Vec<u8>) -> Result<(), NoMemory>
         ensures { OnOk result (text.new.items ≡ text.old.items
             ++ use_rest self.now true (life_of life.now) []) }

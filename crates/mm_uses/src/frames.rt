@@ -1,13 +1,13 @@
 ghost use Rattle.std.specs.Prelude.{◌≡◌, ◌++◌, ◌∷◌, [], ℕ, ◌<◌, OnOk, IfOk, false};
 ghost use Rattle.std.specs.Prelude.{slice_index_or};
 ghost use Rattle.mm_life.specs.Frames.{is_on};
-ghost use Rattle.mm_moves.specs.Standing.{life as life_of};
+ghost use Rattle.mm_replay.specs.Standing.{life as life_of};
 ghost use Rattle.mm_sentences.specs.States.{state_by};
 ghost use Rattle.mm_uses.specs.StateRest.{AreMarked};
 ghost use Rattle.mm_uses.specs.States.{frame_line, frame_lines};
 
 use crate::tables::put_numbered;
-use mm_moves::Life;
+use mm_replay::Life;
 use mm_sentences::{FrameState, has_request, is_read, put_row, put_words};
 use mm_types::{Frame, NoMemory, Record};
 use std::alloc::Global;
@@ -52,7 +52,7 @@ fn state_of(life: &Life, frame: Frame, r: &Record, is_zeroed: bool) -> FrameStat
 }
 
 /// Writes the row of a frame of which it is known whether it is on the zeroed list.
-#[tactic(auto, using(mm_moves::proofs::Onto::onto))]
+#[tactic(auto, using(mm_text::proofs::DigitCounts::joined))]
 fn put_frame(
     life: &Life,
     frame: Frame,

@@ -1,7 +1,7 @@
-ghost use Rattle.mm_moves.specs.Standing.{life as life_of};
+ghost use Rattle.mm_replay.specs.Standing.{life as life_of};
 ghost use Rattle.mm_uses.specs.Sums.{AddUp};
 
-use mm_moves::Life;
+use mm_replay::Life;
 
 /// In each column of the table of uses the cells add up to its total, and the totals add up to the
 /// frames of the machine. It does nothing.

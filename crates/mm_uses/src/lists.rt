@@ -1,9 +1,9 @@
 ghost use Rattle.std.specs.Prelude.{◌≡◌, IfOk};
-ghost use Rattle.mm_moves.specs.Looking.{frames_on};
-ghost use Rattle.mm_moves.specs.Standing.{life as life_of};
+ghost use Rattle.mm_replay.specs.Looking.{frames_on};
+ghost use Rattle.mm_replay.specs.Standing.{life as life_of};
 ghost use Rattle.mm_uses.specs.Listing.{AreListsOf};
 
-use mm_moves::{FrameList, Life};
+use mm_replay::{FrameList, Life};
 use mm_types::NoMemory;
 use std::alloc::Global;
 

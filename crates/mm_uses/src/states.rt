@@ -2,7 +2,7 @@ ghost use Rattle.std.specs.Prelude.{◌≡◌, ◌||◌, ◌++◌, ◌∷◌, []
 ghost use Rattle.mm_types.specs.declared.moves.Move.{Move};
 ghost use Rattle.mm_life.specs.Effect.{after_move};
 ghost use Rattle.mm_life.specs.Life.{unstarted};
-ghost use Rattle.mm_moves.specs.Standing.{life as life_of};
+ghost use Rattle.mm_replay.specs.Standing.{life as life_of};
 ghost use Rattle.mm_uses.specs.Listing.{AreListsOf};
 ghost use Rattle.mm_uses.specs.States.{pages_after, page_at, frame_word, list_row, page_word};
 ghost use Rattle.mm_uses.specs.States.{process_line, process_lines, slots_line, list_rows};
@@ -14,7 +14,7 @@ use crate::frames::{marked, put_frames};
 use crate::lists::{FrameLists, frame_lists, requests};
 use crate::tables::{put_front, put_numbered, put_pair};
 use mm_life::ResidentSet;
-use mm_moves::Life;
+use mm_replay::Life;
 use mm_sentences::{put_number, put_why, put_words};
 use mm_tell::Teller;
 use mm_types::{LineKind, Move, NoMemory, Place};
@@ -51,7 +51,7 @@ fn follow(pages: &mut ValidPages, m: &Move) -> Result<(), NoMemory>
     }
 }
 
-#[tactic(auto, using(mm_moves::proofs::Onto::onto))]
+#[tactic(auto, using(mm_text::proofs::DigitCounts::joined))]
 fn put_frame_word(frame: u32, text: &mut Vec<u8>) -> Result<(), NoMemory>
     ensures { OnOk result (text.new.items ≡ text.old.items ++ frame_word frame) }
 {
@@ -69,7 +69,7 @@ fn put_frame_words(frames: &[u32], text: &mut Vec<u8>) -> Result<(), NoMemory>
 }
 
 /// Writes a name, and frames in order.
-#[tactic(auto, using(mm_moves::proofs::Onto::onto))]
+#[tactic(auto, using(mm_text::proofs::DigitCounts::joined))]
 fn put_list(name: &[u8], frames: &[u32], text: &mut Vec<u8>) -> Result<(), NoMemory>
     ensures { OnOk result (text.new.items ≡ text.old.items ++ list_row name.now frames.now) }
 {
@@ -79,7 +79,7 @@ fn put_list(name: &[u8], frames: &[u32], text: &mut Vec<u8>) -> Result<(), NoMem
 }
 
 /// Writes the number of a page, if it is of this process.
-#[tactic(auto, using(mm_moves::proofs::Onto::onto))]
+#[tactic(auto, using(mm_text::proofs::DigitCounts::joined))]
 fn put_page_word(pid: u64, page: (u8, u32), text: &mut Vec<u8>) -> Result<(), NoMemory>
     ensures { OnOk result (text.new.items ≡ text.old.items ++ page_word pid page) }
 {
@@ -101,7 +101,7 @@ fn put_page_words(pid: u64, pages: &ValidPages, text: &mut Vec<u8>) -> Result<()
 }
 
 /// Writes the working set of the process of this number, and its valid pages.
-#[tactic(auto, using(mm_moves::proofs::Onto::onto))]
+#[tactic(auto, using(mm_text::proofs::DigitCounts::joined))]
 fn put_process(
     pages: &ValidPages,
     pid: u64,
@@ -141,7 +141,7 @@ fn put_slots(life: &Life, text: &mut Vec<u8>) -> Result<(), NoMemory>
 }
 
 /// Writes the four lists and the requests, where these are the lists.
-#[tactic(auto, using(mm_moves::proofs::Onto::onto))]
+#[tactic(auto, using(mm_text::proofs::DigitCounts::joined))]
 fn put_lists(
     alloc: Global,
     life: &Life,
@@ -161,7 +161,7 @@ fn put_lists(
 
 /// Writes all that stands at the end of a line. Takes time in proportion to the frames, and to the
 /// valid pages times the processes.
-#[tactic(auto, using(mm_moves::proofs::Onto::onto))]
+#[tactic(auto, using(mm_text::proofs::DigitCounts::joined))]
 fn put_state(
     alloc: Global,
     life: &Life,
@@ -256,7 +256,7 @@ impl StateTeller {
 
     /// Writes the state at the end of a whole log, if it is asked for, or that there is no such
     /// line.
-    #[tactic(auto, using(mm_moves::proofs::Onto::onto))]
+    #[tactic(auto, using(mm_text::proofs::DigitCounts::joined))]
     fn put_last(&self, life: &Life, text: &mut Vec<u8>) -> Result<(), NoMemory>
         ensures { OnOk result (text.new.items ≡ text.old.items
             ++ state_rest self.now true (life_of life.now) []) }

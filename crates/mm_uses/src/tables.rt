@@ -2,7 +2,7 @@ ghost use Rattle.std.specs.Prelude.{◌≡◌, ◌<◌, ◌^◌, ◌++◌, OnOk,
 ghost use Rattle.mm_types.specs.Spelling.{decimal};
 ghost use Rattle.mm_life.specs.Life.{counts_of};
 ghost use Rattle.mm_life.specs.MoveText.{numbered};
-ghost use Rattle.mm_moves.specs.Standing.{life as life_of};
+ghost use Rattle.mm_replay.specs.Standing.{life as life_of};
 ghost use Rattle.mm_uses.specs.Listing.{AreListsOf};
 ghost use Rattle.mm_uses.specs.Uses.{name_of, sum_row, use_row, use_head, use_table, totals};
 ghost use Rattle.mm_uses.specs.Uses.{slots_row, requests_row, set_row, set_rows, use_text};
@@ -10,7 +10,7 @@ ghost use Rattle.mm_uses.specs.Uses.{slots_row, requests_row, set_row, set_rows,
 use crate::lists::{FrameLists, frame_lists};
 use crate::uses::{Use, cells};
 use mm_life::ResidentSet;
-use mm_moves::Life;
+use mm_replay::Life;
 use mm_sentences::{put_number, put_words};
 use mm_text::{put_numbers, put_right_number};
 use mm_types::{Counts, NoMemory};
@@ -49,7 +49,7 @@ fn sum_of(numbers: &[u64]) -> u64
 }
 
 /// Writes words and a number.
-#[tactic(auto, using(mm_moves::proofs::Onto::onto))]
+#[tactic(auto, using(mm_text::proofs::DigitCounts::joined))]
 pub(crate) fn put_front(words: &[u8], n: u64, text: &mut Vec<u8>) -> Result<(), NoMemory>
     ensures { OnOk result (text.new.items ≡ text.old.items ++ (words.now ++ decimal n)) }
 {
@@ -58,7 +58,7 @@ pub(crate) fn put_front(words: &[u8], n: u64, text: &mut Vec<u8>) -> Result<(), 
 }
 
 /// Writes two numbers, each behind words, and words behind them.
-#[tactic(auto, using(mm_moves::proofs::Onto::onto))]
+#[tactic(auto, using(mm_text::proofs::DigitCounts::joined))]
 pub(crate) fn put_pair(
     words: &[u8],
     first: u64,
@@ -75,7 +75,7 @@ pub(crate) fn put_pair(
 }
 
 /// Writes words, a number, and words.
-#[tactic(auto, using(mm_moves::proofs::Onto::onto))]
+#[tactic(auto, using(mm_text::proofs::DigitCounts::joined))]
 pub(crate) fn put_numbered(
     words: &[u8],
     n: u64,
@@ -90,7 +90,7 @@ pub(crate) fn put_numbered(
 }
 
 /// Writes a name, numbers and their sum.
-#[tactic(auto, using(mm_moves::proofs::Onto::onto))]
+#[tactic(auto, using(mm_text::proofs::DigitCounts::joined))]
 fn put_sum_row(name: &[u8], numbers: &[u64], text: &mut Vec<u8>) -> Result<(), NoMemory>
     requires { sum numbers.now < 2 ^ 64 }
     ensures { OnOk result (text.new.items ≡ text.old.items ++ sum_row name.now numbers.now) }
@@ -147,7 +147,7 @@ fn put_totals(counts: Counts, text: &mut Vec<u8>) -> Result<(), NoMemory>
     put_sum_row(b"Total                   ", &numbers, text)
 }
 
-#[tactic(auto, using(mm_moves::proofs::Onto::onto))]
+#[tactic(auto, using(mm_text::proofs::DigitCounts::joined))]
 fn put_head(text: &mut Vec<u8>) -> Result<(), NoMemory>
     ensures { OnOk result (text.new.items ≡ text.old.items ++ use_head) }
 {
@@ -224,7 +224,7 @@ fn put_sets(sets: &[ResidentSet], text: &mut Vec<u8>) -> Result<(), NoMemory>
 }
 
 /// Writes what the frames are used for, and what else is told of a line.
-#[tactic(auto, using(mm_moves::proofs::Onto::onto))]
+#[tactic(auto, using(mm_text::proofs::DigitCounts::joined))]
 pub(crate) fn put_use(alloc: Global, life: &Life, text: &mut Vec<u8>) -> Result<(), NoMemory>
     ensures { OnOk result (text.new.items ≡ text.old.items ++ use_text (life_of life.now)) }
 {

@@ -1,12 +1,12 @@
 ghost use Rattle.std.specs.Prelude.{◌≡◌, ◌≤◌, ◌<◌, ◌^◌, length, count_by, filter, sum};
 ghost use Rattle.mm_life.specs.Frames.{has_request};
 ghost use Rattle.mm_life.specs.Life.{is_active, is_in_transition};
-ghost use Rattle.mm_moves.specs.Standing.{life as life_of};
+ghost use Rattle.mm_replay.specs.Standing.{life as life_of};
 ghost use Rattle.mm_uses.specs.Listing.{AreListsOf, AreFew};
 ghost use Rattle.mm_uses.specs.Uses.{use_by, row_of, is_use, cells, listed};
 
 use crate::lists::FrameLists;
-use mm_moves::Life;
+use mm_replay::Life;
 use mm_types::{Frame, Key, Record, Request};
 
 /// What a page frame is used for.

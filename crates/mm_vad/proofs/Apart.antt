@@ -1,5 +1,5 @@
 -- Ranges that lie apart, around one of them.
-use Rattle.std.proofs.Common.{◌≡◌, ℕ, ◌+◌, ◌≤◌, ◌<◌, List, [], ◌∷◌, ◌++◌, length, arith, length-append}
+use Rattle.std.proofs.Common.{◌≡◌, ℕ, ◌+◌, ◌≤◌, List, [], ◌∷◌, ◌++◌, length, ap, ◌∙◌, arith, length-append}
 use Rattle.mm_types.specs.Address.{Range, end_of, end_of_user_pages}
 use Rattle.mm_vad.specs.Ranges.{FollowsFrom, LieApart}
 use Rattle.mm_vad.specs.Room.{end_after}
@@ -35,5 +35,5 @@ length-apart a (x ∷ xs) h p =
     omega (arith, p.0.from, p.0.some, rest)
 
 -- the ranges on each side are fewer
-pub shorter : (xs : List Range) (m : Range) (ys zs : List Range) → zs ≡ xs ++ m ∷ ys → (length xs < length zs) × (length ys < length zs)
-shorter xs m ys zs e = rw e (omega (arith, length-append xs (m ∷ ys)))
+pub both_shorter : (xs : List Range) (m : Range) (ys zs : List Range) → zs ≡ xs ++ m ∷ ys → length zs ≡ length xs + length ys + 1
+both_shorter xs m ys zs e = ap length e ∙ omega (arith, length-append xs (m ∷ ys))

@@ -1,5 +1,5 @@
 -- A counter that has room counts every node that was visited.
-use Rattle.std.proofs.Common.{◌≡◌, ◌+◌, ◌-◌, ◌^◌, ◌<◌, min}
+use Rattle.std.proofs.Common.{◌+◌, ◌-◌, ◌^◌, min}
 use Rattle.mm_vad.specs.declared.ledgers.Counter.{Counter}
 
 abbrev pub stepped : Counter → Counter

@@ -1,18 +1,15 @@
 -- The first range that passes a test, around one of the ranges.
 use Rattle.std.proofs.Common.{◌≡◌, ℕ, ◌≤◌, ◌<◌, Bool, true, false, cond, leb, ltb, ◌&&◌, List, [], ◌∷◌, ◌++◌, Option, Some, None, option_map, refl, ap, ◌∙◌, arith}
 use Rattle.std.specs.Prelude.{find, nat_le}
+use Rattle.std.specs.Option.{option_or}
 use Rattle.std.proofs.lemmas.Bool.{lt-ltb, le-ltb, le-leb, lt-leb}
 use Rattle.mm_types.specs.Address.{Range, end_of, holds_page}
 use Rattle.mm_vad.specs.Ranges.{LieApart}
 use Rattle.mm_vad.proofs.Apart.{begins_from, apart_middle}
 
-abbrev pub or_else : {A : Type 0} → Option A → Option A → Option A
-or_else None later = later
-or_else (Some x) later = Some x
-
-pub find-append : (p : Range → Bool) (xs ys : List Range) → find p (xs ++ ys) ≡ or_else (find p xs) (find p ys)
+pub find-append : (p : Range → Bool) (xs ys : List Range) → find p (xs ++ ys) ≡ option_or (find p xs) (find p ys)
 find-append p [] ys = refl
-find-append p (x ∷ xs) ys = elim (p x) as (λ b. cond b (Some x) (find p (xs ++ ys)) ≡ or_else (cond b (Some x) (find p xs)) (find p ys)) [ true ↦ refl | false ↦ find-append p xs ys ]
+find-append p (x ∷ xs) ys = elim (p x) as (λ b. cond b (Some x) (find p (xs ++ ys)) ≡ option_or (cond b (Some x) (find p xs)) (find p ys)) [ true ↦ refl | false ↦ find-append p xs ys ]
 
 -- no range passes where none that begins from `a` does
 pub find_none : (p : Range → Bool) (a : ℕ) (xs : List Range) → ((r : Range) → a ≤ r.first → p r ≡ false) → LieApart a xs → find p xs ≡ None
@@ -28,7 +25,7 @@ find_skip p a (x ∷ xs) m ys fails h =
     ap (λ b. cond b (Some x) (find p (xs ++ m ∷ ys))) (fails x h.0.some (begins_from (end_of x) xs m ys h.1))
     ∙ find_skip p (end_of x) xs m ys fails h.1
 
-or_none : {A : Type 0} (o : Option A) → or_else o None ≡ o
+or_none : {A : Type 0} (o : Option A) → option_or o None ≡ o
 or_none None = refl
 or_none (Some x) = refl
 
@@ -44,7 +41,7 @@ pub at_left : (v a : ℕ) (xs : List Range) (m : Range) (ys : List Range) → Li
 at_left v a xs m ys p h =
     let q = apart_middle a xs m ys p in
     let here : find (λ r. holds_page r v) (m ∷ ys) ≡ None = find_none (λ r. holds_page r v) m.first (m ∷ ys) (λ r k. begins_above v r (omega (arith, h, k))) (record { from = omega arith; some = q.0.some; within = q.0.within }, q.1) in
-    find-append (λ r. holds_page r v) xs (m ∷ ys) ∙ ap (or_else (find (λ r. holds_page r v) xs)) here ∙ or_none (find (λ r. holds_page r v) xs)
+    find-append (λ r. holds_page r v) xs (m ∷ ys) ∙ ap (option_or (find (λ r. holds_page r v) xs)) here ∙ or_none (find (λ r. holds_page r v) xs)
 
 pub at_middle : (v a : ℕ) (xs : List Range) (m : Range) (ys : List Range) → LieApart a (xs ++ m ∷ ys) → m.first ≤ v → v < end_of m → find (λ r. holds_page r v) (xs ++ m ∷ ys) ≡ Some m
 at_middle v a xs m ys p low high =
@@ -56,27 +53,21 @@ at_right v a xs m ys p h =
     find_skip (λ r. holds_page r v) a xs m ys (λ r _ k. ends_below v r (omega (arith, h, k))) p
     ∙ ap (λ b. cond b (Some m) (find (λ r. holds_page r v) ys)) (ends_below v m h)
 
-pub first_left : (v : ℕ) (xs : List Range) (m : Range) (ys : List Range) → v ≤ m.first → find (λ r. nat_le v r.first) (xs ++ m ∷ ys) ≡ or_else (find (λ r. nat_le v r.first) xs) (Some m)
+pub first_left : (v : ℕ) (xs : List Range) (m : Range) (ys : List Range) → v ≤ m.first → find (λ r. nat_le v r.first) (xs ++ m ∷ ys) ≡ option_or (find (λ r. nat_le v r.first) xs) (Some m)
 first_left v xs m ys h =
     find-append (λ r. nat_le v r.first) xs (m ∷ ys)
-    ∙ ap (λ b. or_else (find (λ r. nat_le v r.first) xs) (cond b (Some m) (find (λ r. nat_le v r.first) ys))) (le-leb v m.first h)
+    ∙ ap (λ b. option_or (find (λ r. nat_le v r.first) xs) (cond b (Some m) (find (λ r. nat_le v r.first) ys))) (le-leb v m.first h)
 
 pub first_right : (v a : ℕ) (xs : List Range) (m : Range) (ys : List Range) → LieApart a (xs ++ m ∷ ys) → m.first < v → find (λ r. nat_le v r.first) (xs ++ m ∷ ys) ≡ find (λ r. nat_le v r.first) ys
 first_right v a xs m ys p h =
     find_skip (λ r. nat_le v r.first) a xs m ys (λ r some k. lt-leb v r.first (omega (arith, h, some, k))) p
     ∙ ap (λ b. cond b (Some m) (find (λ r. nat_le v r.first) ys)) (lt-leb v m.first h)
 
-map_none : {A B : Type 0} (f : A → B) (o later : Option A) → option_map f o ≡ None → option_map f (or_else o later) ≡ option_map f later
-map_none f None later e = refl
-map_none f (Some x) later e = cc
+mapped_or : {B : Type 0} (f : Range → B) (o : Option Range) (m : Range) (above : Option B) → option_or (option_map f (option_or o (Some m))) above ≡ option_or (option_map f o) (Some (f m))
+mapped_or f None m above = refl
+mapped_or f (Some x) m above = refl
 
-map_some : {A B : Type 0} (f : A → B) (o later : Option A) → (option_map f o ≡ None → ⊥) → option_map f (or_else o later) ≡ option_map f o
-map_some f None later e = absurd (e refl)
-map_some f (Some x) later e = refl
-
--- the range in the middle is the first where none before it passes
-pub first_middle : {B : Type 0} (f : Range → B) (v : ℕ) (xs : List Range) (m : Range) (ys : List Range) → v ≤ m.first → option_map f (find (λ r. nat_le v r.first) xs) ≡ None → option_map f (find (λ r. nat_le v r.first) (xs ++ m ∷ ys)) ≡ Some (f m)
-first_middle f v xs m ys h e = ap (option_map f) (first_left v xs m ys h) ∙ map_none f (find (λ r. nat_le v r.first) xs) (Some m) e
-
-pub first_before : {B : Type 0} (f : Range → B) (v : ℕ) (xs : List Range) (m : Range) (ys : List Range) → v ≤ m.first → (option_map f (find (λ r. nat_le v r.first) xs) ≡ None → ⊥) → option_map f (find (λ r. nat_le v r.first) (xs ++ m ∷ ys)) ≡ option_map f (find (λ r. nat_le v r.first) xs)
-first_before f v xs m ys h e = ap (option_map f) (first_left v xs m ys h) ∙ map_some f (find (λ r. nat_le v r.first) xs) (Some m) e
+-- the range in the middle is what stands for none on its left, in place of what stood for none in all
+pub first_before : {B : Type 0} (f : Range → B) (v : ℕ) (xs : List Range) (m : Range) (ys : List Range) (above : Option B) → v ≤ m.first
+    → option_or (option_map f (find (λ r. nat_le v r.first) (xs ++ m ∷ ys))) above ≡ option_or (option_map f (find (λ r. nat_le v r.first) xs)) (Some (f m))
+first_before f v xs m ys above h = ap (λ o. option_or (option_map f o) above) (first_left v xs m ys h) ∙ mapped_or f (find (λ r. nat_le v r.first) xs) m above

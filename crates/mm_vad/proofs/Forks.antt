@@ -1,13 +1,19 @@
 -- What is kept of a tree, from what is kept of its two sides.
-use Rattle.std.proofs.Common.{◌≡◌, ℕ, ◌+◌, ◌*◌, ◌^◌, ◌≤◌, max, Bool, true, false, cond, eqb, List, [], ◌∷◌, ◌++◌, length, refl, sym, ap, ◌∙◌, subst, arith, length-append}
-use Rattle.std.proofs.lemmas.Bool.{eqb-true, eqb-false}
+use Rattle.std.proofs.Common.{◌≡◌, ◌≢◌, ◌⊎◌, ℕ, ◌+◌, ◌-◌, ◌*◌, ◌^◌, ◌<◌, ◌≤◌, max, Bool, true, false, cond, eqb, List, [], ◌∷◌, ◌++◌, length, refl, sym, ap, ◌∙◌, subst, arith, length-append, inl, inr}
+use Rattle.std.proofs.lemmas.Bool.{cases_lt, eqb-true, eqb-false, eq-eqb}
+use Rattle.std.specs.Prelude.{Option, None, Some, Box, IsTrue}
+use Rattle.std.specs.Option.{ForSome}
+use Rattle.std.specs.declared.alloc.Global.{Global}
 use Rattle.mm_types.specs.Address.{Range, end_of, end_of_user_pages}
-use Rattle.mm_vad.specs.Ranges.{range_at}
+use Rattle.mm_vad.specs.Ranges.{LieApart, is_begun_at, remove_range}
 use Rattle.mm_vad.specs.Room.{room, lowest, end_after, widest}
-use Rattle.mm_vad.specs.Shape.{TreeOf, IsShaped, DifferByAtMost}
-use Rattle.mm_vad.specs.Nodes.{kept_over, IsSpan, IsNode}
+use Rattle.mm_vad.specs.Shape.{TreeOf, IsShaped, IsBalanced, DifferByAtMost}
+use Rattle.mm_vad.specs.Nodes.{range_of, range_in, ranges_under, tree_of, tree_at, IsSpan, IsNode, IsTree, Alike, MayLeanLeft, MayLeanRight, Became}
+use Rattle.mm_vad.specs.declared.trees.Node.{Node}
+use Rattle.mm_vad.specs.declared.trees.Pages.{Pages}
 use Rattle.mm_vad.specs.declared.trees.Span.{Span}
-use Rattle.mm_vad.proofs.Widest.{end_after-append, widest-append, widest_parts}
+use Rattle.mm_vad.proofs.Edits.{remove_middle}
+use Rattle.mm_vad.proofs.Widest.{end_after-append, widest-append, widest_parts, lowest_front}
 use Rattle.mm_vad.proofs.Heights.{full_fork}
 
 max-zero : (n : ℕ) → n ≡ max n 0
@@ -26,22 +32,24 @@ highest_over xs ys m h true e bare low = rw (bare (eqb-true h 0 e))
 highest_over xs [] m h false e bare low = absurd (eqb-false h 0 e (omega (arith, low)))
 highest_over xs (y ∷ ys) m h false e bare low = refl
 
-gap_over : (g w r x v p q : ℕ) → g ≡ max (max w r) 0 → x ≡ max (max w r) v → v ≡ max p q → max g (max p q) ≡ x
-gap_over g w r x v p q a b c = omega arith
+pub lowest_fork : (l u : TreeOf) (m : Range) (below : Span) → IsSpan below l → IsShaped l → cond (eqb below.height 0) m.first below.lowest ≡ lowest (l.ranges ++ m ∷ u.ranges)
+lowest_fork l u m below b shaped_l =
+    ap (λ x. cond (eqb below.height 0) m.first x) b.lowest_is
+    ∙ lowest_over l.ranges u.ranges m below.height (eqb below.height 0) refl (λ e. shaped_l.bare (sym b.height_is ∙ e)) (omega (arith, b.height_is, shaped_l.low))
 
-pub span_fork : (l u : TreeOf) (m : Range) (below above : Span) (left_gap : ℕ) → IsSpan below l → IsSpan above u → IsShaped l → IsShaped u → end_of m ≤ end_of_user_pages
-    → left_gap ≡ widest end_of_user_pages (l.ranges ++ m ∷ []) → IsSpan (kept_over below m left_gap above) (fork_of l m u)
-span_fork l u m below above left_gap b a shaped_l shaped_u within gap = record {
-  lowest_is = ap (λ x. cond (eqb below.height 0) m.first x) b.lowest_is
-      ∙ lowest_over l.ranges u.ranges m below.height (eqb below.height 0) refl (λ e. shaped_l.bare (sym b.height_is ∙ e)) (omega (arith, b.height_is, shaped_l.low));
-  highest_is = ap (λ x. cond (eqb above.height 0) (end_of m) x) a.highest_is
-      ∙ highest_over l.ranges u.ranges m above.height (eqb above.height 0) refl (λ e. shaped_u.bare (sym a.height_is ∙ e)) (omega (arith, a.height_is, shaped_u.low))
-      ∙ sym (end_after-append end_of_user_pages l.ranges m u.ranges);
-  gap_is = rw (a.lowest_is, a.gap_is)
-      (gap_over left_gap (widest end_of_user_pages l.ranges) (room (end_after end_of_user_pages l.ranges) m.first) (widest end_of_user_pages (l.ranges ++ m ∷ u.ranges)) (widest (end_of m) u.ranges) (room (end_of m) (lowest u.ranges)) (widest end_of_user_pages u.ranges)
-      (gap ∙ widest-append end_of_user_pages l.ranges m []) (widest-append end_of_user_pages l.ranges m u.ranges) (widest_parts (end_of m) u.ranges within));
-  height_is = omega (arith, b.height_is, a.height_is);
-}
+pub highest_fork : (l u : TreeOf) (m : Range) (above : Span) → IsSpan above u → IsShaped u → cond (eqb above.height 0) (end_of m) above.highest ≡ end_after end_of_user_pages (l.ranges ++ m ∷ u.ranges)
+highest_fork l u m above a shaped_u =
+    ap (λ x. cond (eqb above.height 0) (end_of m) x) a.highest_is
+    ∙ highest_over l.ranges u.ranges m above.height (eqb above.height 0) refl (λ e. shaped_u.bare (sym a.height_is ∙ e)) (omega (arith, a.height_is, shaped_u.low))
+    ∙ sym (end_after-append end_of_user_pages l.ranges m u.ranges)
+
+-- the room on the left, from what is kept of that side
+pub left_fork : (l : TreeOf) (m : Range) (below : Span) (gap : ℕ) → IsSpan below l → gap ≡ max below.gap (room below.highest m.first) → gap ≡ widest end_of_user_pages (l.ranges ++ m ∷ [])
+left_fork l m below gap b is = rw (b.gap_is, b.highest_is) at is ∙ max-zero _ ∙ sym (widest-append end_of_user_pages l.ranges m [])
+
+-- and on the right
+pub right_fork : (u : TreeOf) (m : Range) (above : Span) (gap : ℕ) → IsSpan above u → end_of m ≤ end_of_user_pages → gap ≡ max (room (end_of m) above.lowest) above.gap → gap ≡ widest (end_of m) u.ranges
+right_fork u m above gap a within is = rw (a.gap_is, a.lowest_is) at is ∙ sym (widest_parts (end_of m) u.ranges within)
 
 within_after : (low : ℕ) (xs : List Range) → low ≤ end_of_user_pages → end_after end_of_user_pages xs ≤ end_of_user_pages → end_after low xs ≤ end_of_user_pages
 within_after low [] h k = h
@@ -57,19 +65,216 @@ shaped_fork l u m a b near within = record {
       subst (λ (n : ℕ). 2 ^ (max l.height u.height + 1) ≤ n * n) e (full_fork l.height u.height (length l.ranges + 1) (length u.ranges + 1) near a.full b.full);
 }
 
--- a node made of two sides and what was kept of them
-pub node_fork : (l u : TreeOf) (first count : ℕ) (below above : Span) (left_gap : ℕ) → IsSpan below l → IsSpan above u → IsShaped l → IsShaped u → DifferByAtMost 1 l.height u.height → first + count ≤ end_of_user_pages
-    → left_gap ≡ max below.gap (room below.highest first)
-    → let kept = kept_over below (range_at first count) left_gap above in IsNode (record { left = l; first = first; count = count; right = u; left_gap = left_gap; span = kept }) (record { ranges = l.ranges ++ range_at first count ∷ u.ranges; height = kept.height })
-node_fork l u first count below above left_gap b a shaped_l shaped_u near within gap =
-    let m = range_at first count in
-    let h : max l.height u.height + 1 ≡ max below.height above.height + 1 = omega (arith, b.height_is, a.height_is) in
-    let is : left_gap ≡ widest end_of_user_pages (l.ranges ++ m ∷ []) = rw (b.gap_is, b.highest_is) at gap ∙ max-zero _ ∙ sym (widest-append end_of_user_pages l.ranges m []) in
+-- a node made of two sides and what is kept of them
+pub node_fork : (l u : TreeOf) (p : Pages) (left_gap right_gap : ℕ) (s : Span) → IsShaped l → IsShaped u → DifferByAtMost 1 l.height u.height → end_of (range_of p) ≤ end_of_user_pages
+    → left_gap ≡ widest end_of_user_pages (l.ranges ++ range_of p ∷ []) → right_gap ≡ widest (end_of (range_of p)) u.ranges
+    → s.lowest ≡ lowest (l.ranges ++ range_of p ∷ u.ranges) → s.highest ≡ end_after end_of_user_pages (l.ranges ++ range_of p ∷ u.ranges) → s.gap ≡ max left_gap right_gap → s.height ≡ max l.height u.height + 1
+    → IsNode (record { left = l; pages = p; right = u; left_gap = left_gap; right_gap = right_gap; span = s }) (record { ranges = l.ranges ++ range_of p ∷ u.ranges; height = s.height })
+node_fork l u p left_gap right_gap s shaped_l shaped_u near within left right low high gap height =
+    let m = range_of p in
     let t : ℕ → TreeOf = λ n. record { ranges = l.ranges ++ m ∷ u.ranges; height = n } in
     record {
-      fork = record { ranges = refl; height = sym h; near = near };
-      shaped = subst (λ (n : ℕ). IsShaped (t n)) h (shaped_fork l u m shaped_l shaped_u near within);
+      fork = record { ranges = refl; height = height; near = near };
+      shaped = subst (λ (n : ℕ). IsShaped (t n)) (sym height) (shaped_fork l u m shaped_l shaped_u near within);
+      below = shaped_l;
+      above = shaped_u;
       within = within;
-      span = subst (λ (n : ℕ). IsSpan (kept_over below m left_gap above) (t n)) h (span_fork l u m below above left_gap b a shaped_l shaped_u within is);
-      left_gap = is;
+      span = record {
+        lowest_is = low;
+        highest_is = high;
+        gap_is = omega (arith, gap, left, right, widest-append end_of_user_pages l.ranges m [], widest-append end_of_user_pages l.ranges m u.ranges);
+        height_is = refl;
+      };
+      left_gap = left;
+      right_gap = right;
     }
+
+-- ---- a side becomes another tree
+
+-- the node at the root of a tree
+pub at_root : (root : Option (Box Node Global)) (top : Box Node Global) (n : Node) (t : TreeOf)
+    → IsTree root → root ≡ Some top → tree_of root ≡ t → n ≡ top.value → IsNode n t
+at_root root top n t is some view same =
+    let Q : TreeOf → Type 0 = λ u. IsNode top.value u in
+    let P : Node → Type 0 = λ x. IsNode x t in
+    subst P (sym same) (subst Q (ap tree_of (sym some) ∙ view) (subst IsTree some is))
+
+-- what was kept is still right of a node that keeps the same
+pub same_kept : (was : Span) (n : Node) → IsNode n (tree_at n) → was ≡ n.span → IsSpan was (tree_at n)
+same_kept was n is same = subst (λ (s : Span). IsSpan s (tree_at n)) (sym same) is.span
+
+-- two trees of which the same is kept
+pub alike : (s : Span) (t u : TreeOf) → IsSpan s t → IsSpan s u → Alike t u
+alike s t u a b = record {
+  lowest = sym b.lowest_is ∙ a.lowest_is;
+  highest = sym b.highest_is ∙ a.highest_is;
+  gap = sym b.gap_is ∙ a.gap_is;
+  height = sym b.height_is ∙ a.height_is;
+}
+
+pub alike_itself : (t : TreeOf) → Alike t t
+alike_itself t = record { lowest = refl; highest = refl; gap = refl; height = refl }
+
+abbrev span_of : TreeOf → Span
+span_of t = record { lowest = lowest t.ranges; highest = end_after end_of_user_pages t.ranges; gap = widest end_of_user_pages t.ranges; height = t.height }
+
+is_span : (t u : TreeOf) → Alike t u → IsSpan (span_of t) u
+is_span t u a = record { lowest_is = sym a.lowest; highest_is = sym a.highest; gap_is = sym a.gap; height_is = sym a.height }
+
+-- ---- heights where one side was changed by one
+
+-- the height of a node whose sides may lean, from those of its sides
+record Settles (l u s : ℕ) : Type 0 where
+  least : max l u ≤ s
+  most : s ≤ max l u + 1
+  near : DifferByAtMost 1 l u → s ≡ max l u + 1
+
+module _ (a b l u s : ℕ) (about : DifferByAtMost 1 a b) (settles : Settles l u s) where
+  settled_near : ((l ≤ u + 1) × (u ≤ l + 1)) ⊎ ((u + 2 ≤ l) ⊎ (l + 2 ≤ u))
+  settled_near = elim (cases_lt (u + 1) l) [
+    | inl left ↦ inr (inl (omega (arith, left)))
+    | inr not_left ↦ elim (cases_lt (l + 1) u) [ inl right ↦ inr (inr (omega (arith, right))) | inr not_right ↦ inl (omega (arith, not_left), omega (arith, not_right)) ]
+  ]
+
+  grown : a ≤ l → b ≤ u → l + u ≤ a + b + 1 → (max a b + 1 ≤ s) × (s ≤ max a b + 2)
+  grown la ub few = elim settled_near [
+    | inl flat ↦ (omega (arith, settles.near (flat.0, flat.1), la, ub), omega (arith, settles.most, la, ub, few, about.0, about.1))
+    | inr leans ↦ elim leans [
+      | inl left ↦ (omega (arith, settles.least, left, la, ub, few, about.0, about.1), omega (arith, settles.most, la, ub, few, about.0, about.1))
+      | inr right ↦ (omega (arith, settles.least, right, la, ub, few, about.0, about.1), omega (arith, settles.most, la, ub, few, about.0, about.1))
+    ]
+  ]
+
+  shrunk : l ≤ a → u ≤ b → a + b ≤ l + u + 1 → (max a b ≤ s) × (s ≤ max a b + 1)
+  shrunk la ub few = elim settled_near [
+    | inl flat ↦ (omega (arith, settles.near (flat.0, flat.1), la, ub, few, about.0, about.1), omega (arith, settles.most, la, ub))
+    | inr leans ↦ elim leans [
+      | inl left ↦ (omega (arith, settles.least, left, la, ub, few, about.0, about.1), omega (arith, settles.most, la, ub))
+      | inr right ↦ (omega (arith, settles.least, right, la, ub, few, about.0, about.1), omega (arith, settles.most, la, ub))
+    ]
+  ]
+
+-- ---- a node whose sides became others
+
+module _ (n : Node) (t l u : TreeOf) (is : IsNode n t) where
+  abbrev pub with_sides : Node
+  with_sides = record { left = l; pages = n.pages; right = u; left_gap = n.left_gap; right_gap = n.right_gap; span = n.span }
+
+  -- where the right side is as it was, or the left one
+  pub may_lean_left : (d : Node) → d ≡ with_sides → u ≡ n.right → DifferByAtMost 2 l.height u.height → length l.ranges + length u.ranges + 1 < 2 ^ 32 → MayLeanLeft d
+  may_lean_left d e same near few =
+      let m = range_in n in
+      let made : MayLeanLeft with_sides = record {
+        lean = record { near = near; within = is.within; few = few };
+        highest = is.span.highest_is
+            ∙ ap (end_after end_of_user_pages) is.fork.ranges
+            ∙ end_after-append end_of_user_pages n.left.ranges m n.right.ranges
+            ∙ ap (λ (x : TreeOf). end_after (end_of m) x.ranges) (sym same)
+            ∙ sym (end_after-append end_of_user_pages l.ranges m u.ranges);
+        right_gap = is.right_gap ∙ ap (λ (x : TreeOf). widest (end_of m) x.ranges) (sym same);
+      } in
+      subst MayLeanLeft (sym e) made
+
+  pub may_lean_right : (d : Node) → d ≡ with_sides → l ≡ n.left → DifferByAtMost 2 l.height u.height → length l.ranges + length u.ranges + 1 < 2 ^ 32 → MayLeanRight d
+  may_lean_right d e same near few =
+      let m = range_in n in
+      let made : MayLeanRight with_sides = record {
+        lean = record { near = near; within = is.within; few = few };
+        lowest = is.span.lowest_is
+            ∙ ap lowest is.fork.ranges
+            ∙ ap (λ (x : TreeOf). lowest (x.ranges ++ m ∷ n.right.ranges)) (sym same)
+            ∙ lowest_front l.ranges m n.right.ranges u.ranges;
+        left_gap = is.left_gap ∙ ap (λ (x : TreeOf). widest end_of_user_pages (x.ranges ++ m ∷ [])) (sym same);
+      } in
+      subst MayLeanRight (sym e) made
+
+  module _ (d : Node) (e : d ≡ with_sides) (s : TreeOf) (r : Bool) (shaped : IsShaped s) (balanced : IsBalanced s (ranges_under d) d.left.height d.right.height) (same : r ≡ false → IsSpan d.span s)
+      (ranges : List Range) (are : ranges ≡ l.ranges ++ range_in n ∷ u.ranges) where
+    settles : Settles l.height u.height s.height
+    settles =
+        let P : Node → Type 0 = λ x. Settles x.left.height x.right.height s.height in
+        let made : P d = record { least = balanced.least; most = balanced.most; near = balanced.near } in
+        subst P e made
+
+    ranges_are : s.ranges ≡ ranges
+    ranges_are = balanced.is ∙ ap ranges_under e ∙ sym are
+
+    as_before : r ≡ false → Alike t s
+    as_before unset = alike n.span t s is.span (subst (λ (x : Node). IsSpan x.span s) e (same unset))
+
+    pub settled_grown : n.left.height ≤ l.height → n.right.height ≤ u.height → l.height + u.height ≤ n.left.height + n.right.height + 1 → Became t s ranges t.height (t.height + 1) r
+    settled_grown low high few =
+        let by = grown n.left.height n.right.height l.height u.height s.height is.fork.near settles low high few in
+        record { is = ranges_are; shaped = shaped; not_lower = omega (arith, by.0, is.fork.height); not_higher = omega (arith, by.1, is.fork.height); same = as_before }
+
+    pub settled_shrunk : l.height ≤ n.left.height → u.height ≤ n.right.height → n.left.height + n.right.height ≤ l.height + u.height + 1 → Became t s ranges (t.height - 1) t.height r
+    settled_shrunk low high few =
+        let by = shrunk n.left.height n.right.height l.height u.height s.height is.fork.near settles low high few in
+        record { is = ranges_are; shaped = shaped; not_lower = omega (arith, by.0, is.fork.height); not_higher = omega (arith, by.1, is.fork.height); same = as_before }
+
+  module _ (left : Alike n.left l) (right : Alike n.right u) (shaped_l : IsShaped l) (shaped_u : IsShaped u) where
+    -- where the same is kept of both sides, what a node keeps is still right
+    pub node_unchanged : IsNode with_sides (tree_at with_sides)
+    node_unchanged =
+        let m = range_in n in
+        let near : DifferByAtMost 1 l.height u.height = (omega (arith, left.height, right.height, is.fork.near.0), omega (arith, left.height, right.height, is.fork.near.1)) in
+        let left_is : IsSpan (span_of n.left) l = is_span n.left l left in
+        let right_is : IsSpan (span_of n.right) u = is_span n.right u right in
+        let left_was = is_span n.left n.left (alike_itself n.left) in
+        let right_was = is_span n.right n.right (alike_itself n.right) in
+        node_fork l u n.pages n.left_gap n.right_gap n.span shaped_l shaped_u near is.within
+        (is.left_gap
+        ∙ widest-append end_of_user_pages n.left.ranges m []
+        ∙ ap (λ x. max (max x (room (end_after end_of_user_pages n.left.ranges) m.first)) 0) (sym left.gap)
+        ∙ ap (λ x. max (max (widest end_of_user_pages l.ranges) (room x m.first)) 0) (sym left.highest)
+        ∙ sym (widest-append end_of_user_pages l.ranges m []))
+        (is.right_gap
+        ∙ widest_parts (end_of m) n.right.ranges is.within
+        ∙ ap (λ x. max (room (end_of m) x) (widest end_of_user_pages n.right.ranges)) (sym right.lowest)
+        ∙ ap (λ x. max (room (end_of m) (lowest u.ranges)) x) (sym right.gap)
+        ∙ sym (widest_parts (end_of m) u.ranges is.within))
+        (is.span.lowest_is ∙ ap lowest is.fork.ranges ∙ sym (lowest_fork n.left n.right m (span_of n.left) left_was is.below) ∙ lowest_fork l u m (span_of n.left) left_is shaped_l)
+        (is.span.highest_is ∙ ap (end_after end_of_user_pages) is.fork.ranges ∙ sym (highest_fork n.left n.right m (span_of n.right) right_was is.above) ∙ highest_fork l u m (span_of n.right) right_is shaped_u)
+        (omega (arith, is.left_gap, is.right_gap, is.span.gap_is, ap (widest end_of_user_pages) is.fork.ranges, widest-append end_of_user_pages n.left.ranges m [], widest-append end_of_user_pages n.left.ranges m n.right.ranges))
+        (omega (arith, left.height, right.height, is.fork.height, is.span.height_is))
+
+    pub unchanged : (ranges : List Range) → ranges ≡ l.ranges ++ range_in n ∷ u.ranges → (least most : ℕ) → least ≤ t.height → t.height ≤ most → Became t (tree_at with_sides) ranges least most false
+    unchanged ranges are least most low high =
+        let now = node_unchanged in
+        record {
+          is = sym are;
+          shaped = now.shaped;
+          not_lower = omega (arith, low, is.span.height_is);
+          not_higher = omega (arith, high, is.span.height_is);
+          same = λ unset. alike n.span t (tree_at with_sides) is.span now.span;
+        }
+
+no_ranges : IsShaped (record { ranges = []; height = 0 })
+no_ranges = record { within = omega arith; bare = λ e. refl; low = omega arith; full = omega arith }
+
+tree_shaped : (root : Option (Box Node Global)) → IsTree root → IsShaped (tree_of root)
+tree_shaped None is = no_ranges
+tree_shaped (Some n) is = is.shaped
+
+-- the range at the root goes
+pub taken : (root new : Option (Box Node Global)) (t : TreeOf) (first : ℕ) → IsTree root → tree_of root ≡ t → LieApart 0 t.ranges → IsTrue (is_begun_at first t.ranges) → ForSome root (λ n. n.value.pages.first ≡ first) → IsTree new
+    → ForSome root (λ n. (tree_of new).ranges ≡ n.value.left.ranges ++ n.value.right.ranges) → ForSome root (λ n. max n.value.left.height n.value.right.height ≤ (tree_of new).height)
+    → ForSome root (λ n. (tree_of new).height ≤ max n.value.left.height n.value.right.height + 1) → Became t (tree_of new) (remove_range first t.ranges) (t.height - 1) t.height true
+taken None new t first is view apart begun here tree ranges least most =
+    let P : TreeOf → Type 0 = λ x. IsTrue (is_begun_at first x.ranges) in
+    let bad : false ≡ true = subst P (sym view) begun in
+    cc
+taken (Some n) new t first is view apart begun here tree ranges least most =
+    let node = at_root (Some n) n n.value t is refl view refl in
+    let l = n.value.left in
+    let u = n.value.right in
+    record {
+      is = ranges n refl ∙ sym (ap (remove_range first) node.fork.ranges ∙ remove_middle first 0 l.ranges (range_in n.value) u.ranges (subst (LieApart 0) node.fork.ranges apart) (here n refl));
+      shaped = tree_shaped new tree;
+      not_lower = omega (arith, least n refl, node.fork.height);
+      not_higher = omega (arith, most n refl, node.fork.height);
+      same = λ e. (let bad : true ≡ false = e in cc);
+    }
+
+pub apart : (a b : ℕ) → eqb a b ≡ false → a ≢ b
+apart a b unset e = let bad : true ≡ false = sym (eq-eqb a b e) ∙ unset in cc

@@ -1,5 +1,5 @@
 -- What the range at a page and the first range from it on tell of the pages from there on.
-use Rattle.std.proofs.Common.{◌≡◌, ℕ, ◌+◌, ◌≤◌, ◌<◌, Bool, true, false, cond, not, eqb, leb, ltb, ◌&&◌, ◌||◌, List, [], ◌∷◌, Option, Some, None, option_map, refl, sym, ap, ◌∙◌, arith}
+use Rattle.std.proofs.Common.{◌≡◌, ℕ, ◌+◌, ◌≤◌, ◌<◌, Bool, true, false, cond, not, eqb, leb, ltb, ◌&&◌, ◌||◌, List, [], ◌∷◌, ◌++◌, Option, Some, None, option_map, refl, sym, ap, ◌∙◌, arith}
 use Rattle.std.specs.Prelude.{find, nat_le, is_some, ◌==◌}
 use Rattle.std.specs.List.{list_any}
 use Rattle.std.proofs.lemmas.Bool.{leb-true, leb-false, lt-ltb, le-ltb, le-leb, ne_eqb, and_parts, and_right, or_right}
@@ -7,6 +7,7 @@ use Rattle.mm_types.specs.Address.{Range, end_of, end_of_user_pages, first_user_
 use Rattle.mm_types.specs.declared.numbers.Vpn.{Vpn}
 use Rattle.mm_vad.specs.Ranges.{LieApart, range_at, is_begun_at, first_and_count}
 use Rattle.mm_types.proofs.Booleans.{or_false}
+use Rattle.mm_vad.proofs.Apart as apart
 
 -- whether the range begins at the page
 abbrev pub begins_at : ℕ → Option Range → Bool
@@ -34,6 +35,17 @@ begun_is first low (x ∷ xs) p =
       | false ↦ λ k. (let below : x.first < first = leb-false first x.first k in
           ap (λ b. b || is_begun_at first xs) (ne_eqb x.first first (omega (arith, below))) ∙ begun_is first (end_of x) xs p.1)
     ] refl
+
+-- a range begins on the left or on the right of the one in the middle, as the page lies
+pub begun_left : (first a : ℕ) (xs : List Range) (m : Range) (ys : List Range) → LieApart a (xs ++ m ∷ ys) → first < m.first → is_begun_at first (xs ++ m ∷ ys) ≡ is_begun_at first xs
+begun_left first a [] m ys p h = ap (λ b. b || is_begun_at first ys) (ne_eqb m.first first (omega arith)) ∙ not_begun_above first (end_of m) ys p.1 (omega arith)
+begun_left first a (x ∷ xs) m ys p h = ap (λ b. eqb x.first first || b) (begun_left first (end_of x) xs m ys p.1 h)
+
+pub begun_right : (first a : ℕ) (xs : List Range) (m : Range) (ys : List Range) → LieApart a (xs ++ m ∷ ys) → m.first < first → is_begun_at first (xs ++ m ∷ ys) ≡ is_begun_at first ys
+begun_right first a [] m ys p h = ap (λ b. b || is_begun_at first ys) (ne_eqb m.first first (omega arith))
+begun_right first a (x ∷ xs) m ys p h =
+    let above : end_of x ≤ m.first = apart.begins_from (end_of x) xs m ys p.1 in
+    ap (λ b. b || is_begun_at first (xs ++ m ∷ ys)) (ne_eqb x.first first (omega (arith, above, h))) ∙ begun_right first (end_of x) xs m ys p.1 h
 
 pub met_above : (r : Range) (low : ℕ) (xs : List Range) → LieApart low xs → end_of r ≤ low → list_any (meets r) xs ≡ false
 met_above r low [] p h = refl

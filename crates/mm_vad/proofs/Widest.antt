@@ -3,7 +3,7 @@ use Rattle.std.proofs.Common.{◌≡◌, ℕ, ◌≤◌, ◌<◌, max, true, fal
 use Rattle.std.proofs.lemmas.Bool.{le-leb, lt-leb, leb-false}
 use Rattle.mm_types.specs.Address.{Range, end_of, end_of_user_pages}
 use Rattle.mm_vad.specs.Room.{aligned, room, lowest, end_after, widest, first_fit}
-use Rattle.mm_vad.proofs.Finds.{or_else}
+use Rattle.std.specs.Option.{option_or}
 
 pub end_after-append : (low : ℕ) (xs : List Range) (m : Range) (ys : List Range) → end_after low (xs ++ m ∷ ys) ≡ end_after (end_of m) ys
 end_after-append low [] m ys = refl
@@ -26,10 +26,10 @@ pub widest_parts : (low : ℕ) (xs : List Range) → low ≤ end_of_user_pages �
 widest_parts low [] h = omega arith
 widest_parts low (x ∷ xs) h = omega (arith, room_falls low end_of_user_pages x.first h)
 
-pub fit-append : (low : ℕ) (xs : List Range) (m : Range) (ys : List Range) (high n : ℕ) → first_fit low (xs ++ m ∷ ys) high n ≡ or_else (first_fit low xs m.first n) (first_fit (end_of m) ys high n)
-fit-append low [] m ys high n = elim (leb n (room low m.first)) as (λ b. cond b (Some (aligned low)) (first_fit (end_of m) ys high n) ≡ or_else (cond b (Some (aligned low)) None) (first_fit (end_of m) ys high n)) [ true ↦ refl | false ↦ refl ]
+pub fit-append : (low : ℕ) (xs : List Range) (m : Range) (ys : List Range) (high n : ℕ) → first_fit low (xs ++ m ∷ ys) high n ≡ option_or (first_fit low xs m.first n) (first_fit (end_of m) ys high n)
+fit-append low [] m ys high n = elim (leb n (room low m.first)) as (λ b. cond b (Some (aligned low)) (first_fit (end_of m) ys high n) ≡ option_or (cond b (Some (aligned low)) None) (first_fit (end_of m) ys high n)) [ true ↦ refl | false ↦ refl ]
 fit-append low (x ∷ xs) m ys high n =
-    elim (leb n (room low x.first)) as (λ b. cond b (Some (aligned low)) (first_fit (end_of x) (xs ++ m ∷ ys) high n) ≡ or_else (cond b (Some (aligned low)) (first_fit (end_of x) xs m.first n)) (first_fit (end_of m) ys high n)) [
+    elim (leb n (room low x.first)) as (λ b. cond b (Some (aligned low)) (first_fit (end_of x) (xs ++ m ∷ ys) high n) ≡ option_or (cond b (Some (aligned low)) (first_fit (end_of x) xs m.first n)) (first_fit (end_of m) ys high n)) [
       | true ↦ refl
       | false ↦ fit-append (end_of x) xs m ys high n
     ]
@@ -56,11 +56,11 @@ fit_some low (x ∷ xs) high n h =
       | false ↦ λ e. fit_some (end_of x) xs high n (let here : room low x.first < n = leb-false n (room low x.first) e in omega (arith, here, h))
     ] refl
 
-or_place : (o later : Option ℕ) → is_place o → or_else o later ≡ o
+or_place : (o later : Option ℕ) → is_place o → option_or o later ≡ o
 or_place None later h = absurd h
 or_place (Some x) later h = refl
 
-lowest_front : (xs : List Range) (m : Range) (ys zs : List Range) → lowest (xs ++ m ∷ ys) ≡ lowest (xs ++ m ∷ zs)
+pub lowest_front : (xs : List Range) (m : Range) (ys zs : List Range) → lowest (xs ++ m ∷ ys) ≡ lowest (xs ++ m ∷ zs)
 lowest_front [] m ys zs = refl
 lowest_front (x ∷ xs) m ys zs = refl
 
@@ -80,4 +80,4 @@ fit_right low xs m ys high n h first small =
     let parts = widest-append low xs m [] in
     let before : widest low xs < n = omega (arith, same, small, all, parts) in
     let last : room (end_after low xs) m.first < n = omega (arith, same, small, all, parts) in
-    fit-append low xs m ys high n ∙ ap (λ o. or_else o (first_fit (end_of m) ys high n)) (fit_none low xs m.first n before last)
+    fit-append low xs m ys high n ∙ ap (λ o. option_or o (first_fit (end_of m) ys high n)) (fit_none low xs m.first n before last)

@@ -1,14 +1,18 @@
 -- What the nodes of a tree are seen as, and what holds of each.
-use Rattle.std.specs.Prelude.{◌≡◌, ℕ, ◌+◌, ◌≤◌, max, ◌==◌, if◌then◌else◌, [], ◌∷◌, ◌++◌, Option, Some, None, Box}
+use Rattle.std.specs.Prelude.{◌≡◌, ℕ, ◌+◌, ◌^◌, ◌<◌, ◌≤◌, List, length, [], ◌∷◌, ◌++◌, Option, Some, None, Box, Bool, false}
 use Rattle.std.specs.declared.alloc.Global.{Global}
 use Rattle.mm_types.specs.Address.{Range, end_of, end_of_user_pages}
-use Rattle.mm_vad.specs.Room.{room, lowest, end_after, widest}
-use Rattle.mm_vad.specs.Shape.{TreeOf, IsShaped, IsFork}
+use Rattle.mm_vad.specs.Room.{lowest, end_after, widest}
+use Rattle.mm_vad.specs.Shape.{TreeOf, IsShaped, IsFork, DifferByAtMost}
 use Rattle.mm_vad.specs.declared.trees.Node.{Node}
+use Rattle.mm_vad.specs.declared.trees.Pages.{Pages}
 use Rattle.mm_vad.specs.declared.trees.Span.{Span}
 
+abbrev pub range_of : Pages → Range
+range_of p = record { first = p.first; count = p.count }
+
 abbrev pub range_in : Node → Range
-range_in n = record { first = n.first; count = n.count }
+range_in n = range_of n.pages
 
 abbrev pub tree_of : Option (Box Node Global) → TreeOf
 tree_of None = record { ranges = []; height = 0 }
@@ -24,22 +28,59 @@ pub record IsSpan (s : Span) (t : TreeOf) : Type 0 where
   pub gap_is : s.gap ≡ widest end_of_user_pages t.ranges
   pub height_is : s.height ≡ t.height
 
--- what is kept of the ranges on both sides of one, `left_gap` being the most room up to that one
-abbrev pub kept_over : Span → Range → ℕ → Span → Span
-kept_over below m left_gap above = record {
-  lowest = if below.height == 0 then m.first else below.lowest;
-  highest = if above.height == 0 then end_of m else above.highest;
-  gap = max left_gap (max (room (end_of m) above.lowest) above.gap);
-  height = max below.height above.height + 1;
-}
-
 -- a node between its two sides, with what it keeps of them
 pub record IsNode (n : Node) (t : TreeOf) : Type 0 where
   pub fork : IsFork t n.left (range_in n) n.right
   pub shaped : IsShaped t
+  pub below : IsShaped n.left
+  pub above : IsShaped n.right
   pub within : end_of (range_in n) ≤ end_of_user_pages
   pub span : IsSpan n.span t
   pub left_gap : n.left_gap ≡ widest end_of_user_pages (n.left.ranges ++ range_in n ∷ [])
+  pub right_gap : n.right_gap ≡ widest (end_of (range_in n)) n.right.ranges
+
+-- the ranges of a node and of its two sides
+abbrev pub ranges_under : Node → List Range
+ranges_under n = n.left.ranges ++ range_in n ∷ n.right.ranges
+
+abbrev pub tree_at : Node → TreeOf
+tree_at n = record { ranges = ranges_under n; height = n.span.height }
+
+-- a node one of whose sides may be two levels higher than the other; what it keeps of them may
+-- be out of date
+pub record MayLean (n : Node) : Type 0 where
+  pub near : DifferByAtMost 2 n.left.height n.right.height
+  pub within : end_of (range_in n) ≤ end_of_user_pages
+  pub few : length n.left.ranges + length n.right.ranges + 1 < 2 ^ 32
+
+-- the same, where all that it keeps of the range and the right side is right
+pub record MayLeanLeft (n : Node) : Type 0 where
+  pub lean : MayLean n
+  pub highest : n.span.highest ≡ end_after end_of_user_pages (ranges_under n)
+  pub right_gap : n.right_gap ≡ widest (end_of (range_in n)) n.right.ranges
+
+-- and where all that it keeps of the range and the left side is
+pub record MayLeanRight (n : Node) : Type 0 where
+  pub lean : MayLean n
+  pub lowest : n.span.lowest ≡ lowest (ranges_under n)
+  pub left_gap : n.left_gap ≡ widest end_of_user_pages (n.left.ranges ++ range_in n ∷ [])
+
+-- what is kept of one tree is so of the other
+pub record Alike (t u : TreeOf) : Type 0 where
+  pub lowest : lowest u.ranges ≡ lowest t.ranges
+  pub highest : end_after end_of_user_pages u.ranges ≡ end_after end_of_user_pages t.ranges
+  pub gap : widest end_of_user_pages u.ranges ≡ widest end_of_user_pages t.ranges
+  pub height : u.height ≡ t.height
+
+-- what a tree became: it has these ranges and a height within these bounds, and where it is not
+-- called changed, what is kept of it is the same
+pub record Became (t u : TreeOf) (ranges : List Range) (least most : ℕ) (changed : Bool) :
+    Type 0 where
+  pub is : u.ranges ≡ ranges
+  pub shaped : IsShaped u
+  pub not_lower : least ≤ u.height
+  pub not_higher : u.height ≤ most
+  pub same : changed ≡ false → Alike t u
 
 abbrev pub IsTree : Option (Box Node Global) → Type 0
 IsTree None = Unit {0}

@@ -1,6 +1,6 @@
 -- What a tree of ranges is seen as, and how high it is.
 use Rattle.std.specs.Prelude.{◌≡◌, ℕ, ◌+◌, ◌*◌, ◌^◌, ◌≤◌, max, List, [], ◌∷◌, ◌++◌, length}
-use Rattle.mm_types.specs.Address.{Range, end_of_user_pages}
+use Rattle.mm_types.specs.Address.{Range, end_of, end_of_user_pages}
 use Rattle.mm_vad.specs.Room.{end_after}
 use Rattle.mm_vad.specs.Visits.{repeated}
 
@@ -33,6 +33,16 @@ pub record IsBalanced (t : TreeOf) (ranges : List Range) (l u : ℕ) : Type 0 wh
   pub least : max l u ≤ t.height
   pub most : t.height ≤ max l u + 1
   pub near : DifferByAtMost 1 l u → t.height ≡ max l u + 1
+
+-- two trees and a range between them became two that are about as high, with the same ranges
+pub record IsTurned (l : TreeOf) (r : Range) (u l' : TreeOf) (r' : Range) (u' : TreeOf) :
+    Type 0 where
+  pub ranges : l'.ranges ++ r' ∷ u'.ranges ≡ l.ranges ++ r ∷ u.ranges
+  pub within : end_of r' ≤ end_of_user_pages
+  pub about : DifferByAtMost 1 l'.height u'.height
+  pub least : max l.height u.height ≤ max l'.height u'.height + 1
+  pub most : max l'.height u'.height ≤ max l.height u.height
+  pub near : DifferByAtMost 1 l.height u.height → max l'.height u'.height ≡ max l.height u.height
 
 -- between the two states of a ledger at most so many nodes were visited
 pub record VisitsAtMost {A : Type 0} (stepped : A → A) (before after : A) (most : ℕ) : Type 0 where

@@ -3,12 +3,11 @@ ghost use Rattle.mm_types.specs.Address.{holds_page, is_free, first_user_page, l
 ghost use Rattle.mm_vad.specs.Ranges.{GapsOf, LieApart, range_at, add_range, remove_range, is_begun_at, page_number, first_and_count};
 ghost use Rattle.mm_vad.specs.Visits.{VisitsFew};
 
-use crate::trees::{Node, Tree};
+use crate::trees::{Node, Pages, Tree};
 use crate::{Ledger, Steps};
 use mm_types::{END_OF_USER_PAGES, FIRST_USER_PAGE, NoMemory, Vpn};
 use std::alloc::Global;
 use std::marker::Model;
-use std::mem;
 
 /// The ranges of user pages that are taken, in a balanced tree, and some spare nodes for more.
 /// Windows keeps the like for each process: its tree of virtual address descriptors (VAD).
@@ -72,10 +71,11 @@ impl Gaps {
         let Some(mut node) = self.stock.pop() else {
             unreachable!()
         };
-        node.first = first.0;
-        node.count = n;
-        let tree = mem::replace(&mut self.tree, Tree::new());
-        self.tree = tree.insert(node);
+        node.pages = Pages {
+            first: first.0,
+            count: n,
+        };
+        self.tree.insert(node);
     }
 
     /// Gives the range that begins at `first` free. Its node is let go, and the spare room stays as
@@ -87,8 +87,7 @@ impl Gaps {
         } }
         ensures apart { LieApart first_user_page self.new.ranges }
     {
-        let tree = mem::replace(&mut self.tree, Tree::new());
-        self.tree = tree.remove(first.0);
+        self.tree.remove(first.0);
     }
 
     /// The range that holds page `v`: its first page, and how many pages it has. None exactly where

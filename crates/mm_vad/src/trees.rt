@@ -1,14 +1,32 @@
-ghost use Rattle.std.specs.Prelude.{◌≡◌, ◌+◌, ◌^◌, ◌<◌, ◌≤◌, max, [], ◌∷◌, ◌++◌, length, MatchOption, IfSome, option_map, find, nat_le};
+ghost use Rattle.std.specs.Prelude.{◌≡◌, ◌==◌, ◌+◌, ◌-◌, ◌^◌, ◌<◌, ◌≤◌, max, if◌then◌else◌, [], ◌∷◌, ◌++◌, length, Some, None, IsSome, IsTrue, MatchOption, IfSome, option_map, find, nat_le, false};
+ghost use Rattle.std.specs.Option.{ForSome, option_or};
 ghost use Rattle.mm_types.specs.Address.{end_of, end_of_user_pages, holds_page};
-ghost use Rattle.mm_vad.specs.Ranges.{LieApart, range_at, add_range, remove_range, first_and_count};
+ghost use Rattle.mm_vad.specs.Ranges.{LieApart, add_range, remove_range, is_begun_at, first_and_count};
 ghost use Rattle.mm_vad.specs.Room.{aligned, room, first_fit};
-ghost use Rattle.mm_vad.specs.Shape.{IsShaped, IsFork, IsBalanced, DifferByAtMost, VisitsAtMost};
-ghost use Rattle.mm_vad.specs.Nodes.{range_in, kept_over, IsSpan, IsNode};
+ghost use Rattle.mm_vad.specs.Shape.{IsShaped, IsFork, IsTurned, IsBalanced, DifferByAtMost, VisitsAtMost};
+ghost use Rattle.mm_vad.specs.Nodes.{range_of, range_in, ranges_under, tree_of, tree_at, IsSpan, IsNode, IsTree, MayLean, MayLeanLeft, MayLeanRight, Became};
 
 use crate::{Ledger, Steps, Uncounted};
 use mm_types::{END_OF_USER_PAGES, Vpn};
 use std::marker::Model;
 use std::mem;
+
+/// A range of pages.
+#[derive(Clone, Copy)]
+pub struct Pages {
+    pub first: u32,
+    pub count: u32,
+}
+
+impl Pages {
+    /// The page behind the last one.
+    fn end(self) -> u32
+        requires { self.first + self.count ≤ end_of_user_pages }
+        ensures { result ≡ self.first + self.count }
+    {
+        self.first + self.count
+    }
+}
 
 /// Ranges in order, as a balanced tree.
 #[cycle(tree)]
@@ -21,25 +39,26 @@ pub struct Tree {
 #[cycle(tree)]
 #[derive(Drop)]
 pub struct Node {
-    pub left: Tree,
-    pub first: u32,
-    pub count: u32,
-    pub right: Tree,
+    left: Tree,
+    pub pages: Pages,
+    right: Tree,
     /// The most room between the lowest range here and this one.
-    pub left_gap: u32,
-    pub span: Span,
+    left_gap: u32,
+    /// The most room between this range and the highest one here.
+    right_gap: u32,
+    span: Span,
 }
 
 /// What is kept of the ranges of a tree.
 #[derive(Clone, Copy)]
-pub struct Span {
+struct Span {
     /// The first page of the lowest range; 0 where there is none.
-    pub lowest: u32,
+    lowest: u32,
     /// The end of the highest range; that of the user pages where there is none.
-    pub highest: u32,
+    highest: u32,
     /// The most pages that are free from some granule on, between two of the ranges.
-    pub gap: u32,
-    pub height: u64,
+    gap: u32,
+    height: u32,
 }
 
 impl Span {
@@ -76,10 +95,10 @@ impl Node {
     pub fn blank() -> Node {
         Node {
             left: Tree::new(),
-            first: 0,
-            count: 0,
+            pages: Pages { first: 0, count: 0 },
             right: Tree::new(),
             left_gap: 0,
+            right_gap: 0,
             span: Span::NONE,
         }
     }
@@ -92,18 +111,32 @@ impl Tree {
         Tree { root: None }
     }
 
+    /// The node at the root.
+    fn top(&self) -> Option<&Node>
+        ensures node { MatchOption result (self.now ≡ record {
+          ranges = [];
+          height = 0;
+        }) (λ n. IsNode n.now self.now) }
+        ensures shaped { IsShaped self.now }
+    {
+        match &self.root {
+            None => None,
+            Some(node) => Some(node),
+        }
+    }
+
     /// What is kept of the ranges here.
     fn span(&self) -> Span
         ensures is { IsSpan result self.now }
         ensures shaped { IsShaped self.now }
     {
-        match self.visit(&mut Steps::new(Uncounted)) {
+        match self.top() {
             None => Span::NONE,
             Some(node) => node.span,
         }
     }
 
-    /// The node at the root. Every node that is read is read here, and counts as one step.
+    /// The node at the root, for a search that counts its steps: each node that it reads is one.
     fn visit<L: Ledger>(&self, steps: &mut Steps<L>) -> Option<&Node>
         ensures node { MatchOption result (self.now ≡ record {
           ranges = [];
@@ -140,47 +173,68 @@ impl Tree {
         }
     }
 
-    /// The ranges with that of `node` in its place.
-    pub fn insert(self, node: Box<Node>) -> Tree
-        requires apart { LieApart 0 self.ranges }
-        requires within { end_of (range_in node.value) ≤ end_of_user_pages }
-        requires few { length self.ranges < 2 ^ 32 }
-        ensures ranges { result.ranges ≡ add_range (range_in node.value) self.ranges }
-        ensures not_lower { self.height ≤ result.height }
-        ensures at_most_one_higher { result.height ≤ self.height + 1 }
+    /// The node at the root, with both of its sides.
+    fn opened(self) -> Option<Box<Node>>
+        ensures { MatchOption result (self ≡ record {
+          ranges = [];
+          height = 0;
+        }) (λ n. IsNode n.value self) }
     {
-        match self.apart() {
-            None => fork(Tree::new(), node, Tree::new()),
-            Some((left, top, right)) => {
-                if node.first < top.first {
-                    balance(left.insert(node), top, right)
-                } else {
-                    balance(left, top, right.insert(node))
-                }
-            }
-        }
+        self.root
     }
 
-    /// The ranges without the one that begins at `first`.
-    pub fn remove(self, first: u32) -> Tree
-        requires apart { LieApart 0 self.ranges }
-        requires few { length self.ranges < 2 ^ 32 }
-        ensures ranges { result.ranges ≡ remove_range first self.ranges }
-        ensures not_higher { result.height ≤ self.height }
-        ensures at_most_one_lower { self.height ≤ result.height + 1 }
+    /// The range of `node` comes to its place. Answers whether what is kept of the ranges has
+    /// changed.
+    pub fn insert(&mut self, node: Box<Node>) -> bool
+        requires apart { LieApart 0 self.old.ranges }
+        requires within { end_of (range_in node.value) ≤ end_of_user_pages }
+        requires few { length self.old.ranges + 1 < 2 ^ 32 }
+        ensures { Became self.old self.new (add_range (range_in node.value) self.old.ranges)
+            self.old.height (self.old.height + 1) result }
     {
-        match self.apart() {
-            None => Tree::new(),
-            Some((left, top, right)) => {
-                if first < top.first {
-                    balance(left.remove(first), top, right)
-                } else if top.first < first {
-                    balance(left, top, right.remove(first))
-                } else {
-                    join(left, right)
-                }
+        let Some(top) = &mut self.root else {
+            self.root = fork(Tree::new(), node, Tree::new()).opened();
+            return true;
+        };
+        if node.pages.first < top.pages.first {
+            if top.left.insert(node) {
+                return settle_left(top);
             }
+            return false;
         }
+        if top.right.insert(node) {
+            return settle_right(top);
+        }
+        false
+    }
+
+    /// The range that begins at `first` goes. Answers its node, and whether what is kept of the
+    /// ranges has changed.
+    pub fn remove(&mut self, first: u32) -> (Box<Node>, bool)
+        requires apart { LieApart 0 self.old.ranges }
+        requires begun { IsTrue (is_begun_at first self.old.ranges) }
+        requires few { length self.old.ranges < 2 ^ 32 }
+        ensures { Became self.old self.new (remove_range first self.old.ranges)
+            (self.old.height - 1) self.old.height result.1 }
+    {
+        if begins_at(&self.root, first) {
+            return (take_top(&mut self.root), true);
+        }
+        let Some(top) = &mut self.root else {
+            unreachable!()
+        };
+        if first < top.pages.first {
+            let (node, changed) = top.left.remove(first);
+            if changed {
+                return (node, settle_left(top));
+            }
+            return (node, false);
+        }
+        let (node, changed) = top.right.remove(first);
+        if changed {
+            return (node, settle_right(top));
+        }
+        (node, false)
     }
 
     /// The range that holds page `v`.
@@ -188,14 +242,18 @@ impl Tree {
         requires { LieApart 0 self.now.ranges }
         ensures { result ≡ option_map first_and_count (find (λ r. holds_page r v) self.now.ranges) }
     {
-        let node = self.visit(&mut Steps::new(Uncounted))?;
-        if v < node.first {
-            node.left.at(v)
-        } else if v < node.first + node.count {
-            Some((Vpn(node.first), node.count))
-        } else {
-            node.right.at(v)
+        let mut tree = self;
+        while let Some(node) = tree.top() {
+            let pages = node.pages;
+            if v < pages.first {
+                tree = &node.left;
+            } else if v < pages.end() {
+                return Some((Vpn(pages.first), pages.count));
+            } else {
+                tree = &node.right;
+            }
         }
+        None
     }
 
     /// The first range that begins at page `v` or above it.
@@ -203,14 +261,18 @@ impl Tree {
         requires { LieApart 0 self.now.ranges }
         ensures { result ≡ option_map first_and_count (find (λ r. nat_le v r.first) self.now.ranges) }
     {
-        let node = self.visit(&mut Steps::new(Uncounted))?;
-        if node.first < v {
-            return node.right.first_from(v);
+        let mut tree = self;
+        let mut above = None;
+        while let Some(node) = tree.top() {
+            let pages = node.pages;
+            if pages.first < v {
+                tree = &node.right;
+            } else {
+                above = Some((Vpn(pages.first), pages.count));
+                tree = &node.left;
+            }
         }
-        match node.left.first_from(v) {
-            None => Some((Vpn(node.first), node.count)),
-            found => found,
-        }
+        above
     }
 
     /// The first granule with room for `n` pages from `low` on, between the ranges or below `high`.
@@ -238,10 +300,9 @@ impl Tree {
                 if n <= room_between(low, node.span.lowest) {
                     Some(align_up(low))
                 } else if n <= node.left_gap {
-                    node.left.lowest_gap(low, node.first, n, steps)
+                    node.left.lowest_gap(low, node.pages.first, n, steps)
                 } else {
-                    node.right
-                        .lowest_gap(node.first + node.count, high, n, steps)
+                    node.right.lowest_gap(node.pages.end(), high, n, steps)
                 }
             }
         }
@@ -265,107 +326,274 @@ fn room_between(low: u32, high: u32) -> u32
 }
 
 /// The range of `node` between two trees that are about as high.
+#[inline(always)] // each step of the way to the lowest range of a side ends here
 fn fork(left: Tree, mut node: Box<Node>, right: Tree) -> Tree
     requires near { DifferByAtMost 1 left.height right.height }
     requires within { end_of (range_in node.value) ≤ end_of_user_pages }
-    requires few { length left.ranges + length right.ranges < 2 ^ 32 }
+    requires few { length left.ranges + length right.ranges + 1 < 2 ^ 32 }
     ensures { IsFork result left (range_in node.value) right }
 {
-    let (first, count) = (node.first, node.count);
-    let (below, above) = (left.span(), right.span());
-    let left_gap = below.gap.max(room_between(below.highest, first));
-    let span = span_over(below, first, count, left_gap, above);
-    *node = Node {
-        left,
-        first,
-        count,
-        right,
-        left_gap,
-        span,
-    };
+    let pages = node.pages;
+    *node = node_over(left, pages, right);
     Tree { root: Some(node) }
 }
 
-/// What is kept of the ranges on both sides of one, where `left_gap` is the most room up to that
-/// one.
-fn span_over(below: Span, first: u32, count: u32, left_gap: u32, above: Span) -> Span
-    requires within { first + count ≤ end_of_user_pages }
-    requires low { max below.height above.height < 2 ^ 63 }
-    ensures { result ≡ kept_over below (range_at first count) left_gap above }
+/// A range between two trees that are about as high, with what is kept of them.
+#[inline(always)]
+fn node_over(left: Tree, pages: Pages, right: Tree) -> Node
+    requires near { DifferByAtMost 1 left.height right.height }
+    requires within { end_of (range_of pages) ≤ end_of_user_pages }
+    requires few { length left.ranges + length right.ranges + 1 < 2 ^ 32 }
+    ensures node { IsNode result (tree_at result) }
+    ensures left { result.left ≡ left }
+    ensures pages { result.pages ≡ pages }
+    ensures right { result.right ≡ right }
 {
-    let end = first + count;
-    Span {
-        lowest: if below.height == 0 {
-            first
-        } else {
-            below.lowest
-        },
-        highest: if above.height == 0 {
-            end
-        } else {
-            above.highest
-        },
-        gap: left_gap.max(room_between(end, above.lowest).max(above.gap)),
+    let (below, above) = (left.span(), right.span());
+    let left_gap = room_up_to(pages, below);
+    let right_gap = room_from(pages, above);
+    let span = Span {
+        lowest: lowest_from(below, pages),
+        highest: highest_from(pages, above),
+        gap: left_gap.max(right_gap),
         height: below.height.max(above.height) + 1,
+    };
+    Node {
+        left,
+        pages,
+        right,
+        left_gap,
+        right_gap,
+        span,
+    }
+}
+
+/// Puts a node right whose left side may have changed and be two levels higher or lower than the
+/// other. Answers whether what it keeps of both has changed.
+#[inline(always)] // each step of the way down to a range that comes or goes may end here
+fn settle_left(node: &mut Node) -> bool
+    requires { MayLeanLeft node.old }
+    ensures is { IsNode node.new (tree_at node.new) }
+    ensures balanced { IsBalanced (tree_at node.new) (ranges_under node.old) node.old.left.height
+        node.old.right.height }
+    ensures same { result ≡ false → IsSpan node.old.span (tree_at node.new) }
+{
+    let (below, above) = (node.left.span(), node.right.span());
+    if below.height.abs_diff(above.height) > 1 {
+        level(node);
+        return true;
+    }
+    let was = node.span;
+    let left_gap = room_up_to(node.pages, below);
+    let span = Span {
+        lowest: lowest_from(below, node.pages),
+        highest: was.highest,
+        gap: left_gap.max(node.right_gap),
+        height: below.height.max(above.height) + 1,
+    };
+    node.left_gap = left_gap;
+    node.span = span;
+    differ(was, span)
+}
+
+/// The same, where its right side may have changed.
+#[inline(always)]
+fn settle_right(node: &mut Node) -> bool
+    requires { MayLeanRight node.old }
+    ensures is { IsNode node.new (tree_at node.new) }
+    ensures balanced { IsBalanced (tree_at node.new) (ranges_under node.old) node.old.left.height
+        node.old.right.height }
+    ensures same { result ≡ false → IsSpan node.old.span (tree_at node.new) }
+{
+    let (below, above) = (node.left.span(), node.right.span());
+    if below.height.abs_diff(above.height) > 1 {
+        level(node);
+        return true;
+    }
+    let was = node.span;
+    let right_gap = room_from(node.pages, above);
+    let span = Span {
+        lowest: was.lowest,
+        highest: highest_from(node.pages, above),
+        gap: node.left_gap.max(right_gap),
+        height: below.height.max(above.height) + 1,
+    };
+    node.right_gap = right_gap;
+    node.span = span;
+    differ(was, span)
+}
+
+/// Puts a node right of whose sides one is two levels higher.
+#[cold]
+#[inline(never)]
+fn level(node: &mut Node)
+    requires { MayLean node.old }
+    ensures is { IsNode node.new (tree_at node.new) }
+    ensures balanced { IsBalanced (tree_at node.new) (ranges_under node.old) node.old.left.height
+        node.old.right.height }
+{
+    let left = mem::replace(&mut node.left, Tree::new());
+    let right = mem::replace(&mut node.right, Tree::new());
+    let (left, pages, right) = turn(left, node.pages, right);
+    *node = node_over(left, pages, right);
+}
+
+/// Whether one says something else than the other.
+fn differ(a: Span, b: Span) -> bool
+    ensures { result ≡ false → a ≡ b }
+{
+    a.lowest != b.lowest || a.highest != b.highest || a.gap != b.gap || a.height != b.height
+}
+
+/// Whether the range at the root begins at `first`.
+fn begins_at(root: &Option<Box<Node>>, first: u32) -> bool
+    requires { IsSome root.now }
+    ensures { ForSome root.now (λ n. result ≡ (n.value.pages.first == first)) }
+{
+    match root {
+        None => unreachable!(),
+        Some(node) => node.pages.first == first,
+    }
+}
+
+/// The node at the root, in whose place the ranges of its sides stay.
+fn take_top(root: &mut Option<Box<Node>>) -> Box<Node>
+    requires some { IsSome root.old }
+    requires near { ForSome root.old
+        (λ n. DifferByAtMost 1 n.value.left.height n.value.right.height) }
+    requires few { ForSome root.old
+        (λ n. length n.value.left.ranges + length n.value.right.ranges < 2 ^ 32) }
+    ensures tree { IsTree root.new }
+    ensures ranges { ForSome root.old
+        (λ n. (tree_of root.new).ranges ≡ n.value.left.ranges ++ n.value.right.ranges) }
+    ensures least { ForSome root.old
+        (λ n. max n.value.left.height n.value.right.height ≤ (tree_of root.new).height) }
+    ensures most { ForSome root.old
+        (λ n. (tree_of root.new).height ≤ max n.value.left.height n.value.right.height + 1) }
+{
+    let Some(mut top) = mem::replace(root, None) else {
+        unreachable!()
+    };
+    let left = mem::replace(&mut top.left, Tree::new());
+    let right = mem::replace(&mut top.right, Tree::new());
+    *root = join(left, right).opened();
+    top
+}
+
+/// The most room between the ranges below a range, of which this is kept, and up to it.
+fn room_up_to(pages: Pages, below: Span) -> u32
+    requires { below.highest ≤ end_of_user_pages }
+    ensures { result ≡ max below.gap (room below.highest pages.first) }
+{
+    below.gap.max(room_between(below.highest, pages.first))
+}
+
+/// The most room from a range on between the ranges above it, of which this is kept.
+fn room_from(pages: Pages, above: Span) -> u32
+    requires { end_of (range_of pages) ≤ end_of_user_pages }
+    ensures { result ≡ max (room (end_of (range_of pages)) above.lowest) above.gap }
+{
+    room_between(pages.end(), above.lowest).max(above.gap)
+}
+
+/// The first page of the ranges below a range, of which this is kept, and of that one.
+fn lowest_from(below: Span, pages: Pages) -> u32
+    ensures { result ≡ if below.height == 0 then pages.first else below.lowest }
+{
+    if below.height == 0 {
+        pages.first
+    } else {
+        below.lowest
+    }
+}
+
+/// The end of a range and of the ranges above it, of which this is kept.
+fn highest_from(pages: Pages, above: Span) -> u32
+    requires { end_of (range_of pages) ≤ end_of_user_pages }
+    ensures { result ≡ if above.height == 0 then end_of (range_of pages) else above.highest }
+{
+    if above.height == 0 {
+        pages.end()
+    } else {
+        above.highest
     }
 }
 
 /// The range of `node` between two trees of which one may be two levels higher.
-fn balance(left: Tree, node: Box<Node>, right: Tree) -> Tree
+fn balance(left: Tree, mut node: Box<Node>, right: Tree) -> Tree
     requires near { DifferByAtMost 2 left.height right.height }
     requires within { end_of (range_in node.value) ≤ end_of_user_pages }
-    requires few { length left.ranges + length right.ranges < 2 ^ 32 }
+    requires few { length left.ranges + length right.ranges + 1 < 2 ^ 32 }
     ensures { IsBalanced result (left.ranges ++ range_in node.value ∷ right.ranges) left.height
         right.height }
+{
+    let (left, pages, right) = turn(left, node.pages, right);
+    node.pages = pages;
+    fork(left, node, right)
+}
+
+/// Two trees of which one may be two levels higher, and a range between them: as two that are about
+/// as high, and a range between these.
+fn turn(left: Tree, pages: Pages, right: Tree) -> (Tree, Pages, Tree)
+    requires near { DifferByAtMost 2 left.height right.height }
+    requires within { end_of (range_of pages) ≤ end_of_user_pages }
+    requires few { length left.ranges + length right.ranges + 1 < 2 ^ 32 }
+    ensures { IsTurned left (range_of pages) right result.0 (range_of result.1) result.2 }
 {
     let (l, r) = (left.span().height, right.span().height);
     if l > r + 1 {
-        lean_left(left, node, right)
+        turn_right(left, pages, right)
     } else if r > l + 1 {
-        lean_right(left, node, right)
+        turn_left(left, pages, right)
     } else {
-        fork(left, node, right)
+        (left, pages, right)
     }
 }
 
-/// The range of `node` between two trees, the left one two levels higher.
-fn lean_left(left: Tree, node: Box<Node>, right: Tree) -> Tree
+/// As `turn`, where the left one is two levels higher.
+#[cold]
+#[inline(never)]
+fn turn_right(left: Tree, pages: Pages, right: Tree) -> (Tree, Pages, Tree)
     requires two_higher { left.height ≡ right.height + 2 }
-    requires within { end_of (range_in node.value) ≤ end_of_user_pages }
-    requires few { length left.ranges + length right.ranges < 2 ^ 32 }
-    ensures { IsBalanced result (left.ranges ++ range_in node.value ∷ right.ranges) left.height
-        right.height }
+    requires within { end_of (range_of pages) ≤ end_of_user_pages }
+    requires few { length left.ranges + length right.ranges + 1 < 2 ^ 32 }
+    ensures { IsTurned left (range_of pages) right result.0 (range_of result.1) result.2 }
 {
-    let Some((outer, top, inner)) = left.apart() else {
+    let Some((outer, mut top, inner)) = left.apart() else {
         unreachable!()
     };
     if outer.span().height >= inner.span().height {
-        return fork(outer, top, fork(inner, node, right));
+        let between = mem::replace(&mut top.pages, pages);
+        return (outer, between, fork(inner, top, right));
     }
-    let Some((below, middle, above)) = inner.apart() else {
+    let Some((below, mut middle, above)) = inner.apart() else {
         unreachable!()
     };
-    fork(fork(outer, top, below), middle, fork(above, node, right))
+    let between = mem::replace(&mut middle.pages, pages);
+    (fork(outer, top, below), between, fork(above, middle, right))
 }
 
-/// The range of `node` between two trees, the right one two levels higher.
-fn lean_right(left: Tree, node: Box<Node>, right: Tree) -> Tree
+/// As `turn`, where the right one is two levels higher.
+#[cold]
+#[inline(never)]
+fn turn_left(left: Tree, pages: Pages, right: Tree) -> (Tree, Pages, Tree)
     requires two_higher { right.height ≡ left.height + 2 }
-    requires within { end_of (range_in node.value) ≤ end_of_user_pages }
-    requires few { length left.ranges + length right.ranges < 2 ^ 32 }
-    ensures { IsBalanced result (left.ranges ++ range_in node.value ∷ right.ranges) left.height
-        right.height }
+    requires within { end_of (range_of pages) ≤ end_of_user_pages }
+    requires few { length left.ranges + length right.ranges + 1 < 2 ^ 32 }
+    ensures { IsTurned left (range_of pages) right result.0 (range_of result.1) result.2 }
 {
-    let Some((inner, top, outer)) = right.apart() else {
+    let Some((inner, mut top, outer)) = right.apart() else {
         unreachable!()
     };
     if outer.span().height >= inner.span().height {
-        return fork(fork(left, node, inner), top, outer);
+        let between = mem::replace(&mut top.pages, pages);
+        return (fork(left, top, inner), between, outer);
     }
-    let Some((below, middle, above)) = inner.apart() else {
+    let Some((below, mut middle, above)) = inner.apart() else {
         unreachable!()
     };
-    fork(fork(left, node, below), middle, fork(above, top, outer))
+    let between = mem::replace(&mut middle.pages, pages);
+    (fork(left, middle, below), between, fork(above, top, outer))
 }
 
 /// The ranges of two trees that are about as high, one tree after the other.
@@ -385,11 +613,11 @@ fn join(left: Tree, right: Tree) -> Tree
     }
 }
 
-/// The lowest range of a tree that was taken apart, and the others.
+/// The node of the lowest range of a tree that was taken apart, and the others.
 fn take_lowest(left: Tree, top: Box<Node>, right: Tree) -> (Box<Node>, Tree)
     requires near { DifferByAtMost 1 left.height right.height }
     requires within { end_of (range_in top.value) ≤ end_of_user_pages }
-    requires few { length left.ranges + length right.ranges < 2 ^ 32 }
+    requires few { length left.ranges + length right.ranges + 1 < 2 ^ 32 }
     ensures ranges { range_in result.0.value ∷ result.1.ranges ≡ left.ranges ++ range_in top.value ∷
         right.ranges }
     ensures within { end_of (range_in result.0.value) ≤ end_of_user_pages }

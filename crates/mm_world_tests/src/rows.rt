@@ -16,8 +16,8 @@ use std::test::Fail;
 
 /// A page of a section that is marked copy on write in one of two views.
 const MARKED_PAGE: (&[u8], &[u8]) = (
-    b"machine 8 8 1 0\nprocess 0 8\nprocess 0 8\ncreate 1 0x2000 0x04 s\nopen 2 s\nmap 1 4 2 0 0 0\n\
-map 2 4 2 0 0 0\ncharge\nprotect 1 0x10000 1 0x08\ncharge\nwrite 2 0x10000 41\n\
+    b"machine 8 8 1 0\nprocess 0 8\nprocess 0 8\ncreate 1 0x2000 0x04 s\nopen 2 s\n\
+map 1 4 2 0 0 0\nmap 2 4 2 0 0 0\ncharge\nprotect 1 0x10000 1 0x08\ncharge\nwrite 2 0x10000 41\n\
 read 1 0x10000 1\nwrite 1 0x10000 42\nread 2 0x10000 1\nread 1 0x10000 1\nwrite 2 0x11000 43\n\
 read 1 0x11000 1\nprotect 1 0x10000 0x2000 0x08\ncharge\nquery 1 0x10000\nunmap 1 0x10000\n\
 charge\n",

@@ -46,9 +46,16 @@ impl Model for WorkingSet {
 
     ghost coded = { working_set_code };
 
-    ghost view = { λ s. record { min = s.min; max = s.max; reserved = s.is_reserved; ages = ages_by_group s.newest s.pages.pages; places = places_of s.places } };
+    ghost view = { λ s. record {
+      min = s.min;
+      max = s.max;
+      reserved = s.is_reserved;
+      ages = ages_by_group s.newest s.pages.pages;
+      places = places_of s.places;
+    } };
 
-    ghost invariant = { λ s. IsWorkingSet (room_of s.is_reserved s.max) s.places s.newest s.pages.pages (vec_len s.stock) (vec_capacity s.stock) s.rounds s.used_in.items };
+    ghost invariant = { λ s. IsWorkingSet (room_of s.is_reserved s.max) s.places s.newest
+        s.pages.pages (vec_len s.stock) (vec_capacity s.stock) s.rounds s.used_in.items };
 }
 
 /// So many nodes that hold no page yet.

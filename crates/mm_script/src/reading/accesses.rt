@@ -4,7 +4,7 @@ ghost use Rattle.mm_types.specs.declared.events.Event.TheVariants as line;
 ghost use Rattle.mm_script.specs.declared.keywords.Keyword.TheVariants as keyword;
 ghost use Rattle.mm_script.specs.Grammar.{lies_in_page};
 ghost use Rattle.mm_script.specs.Shape.{Then, End, AnyNumber, Number, ByteWord};
-ghost use Rattle.mm_script.specs.Reading.{event_in, line_of};
+ghost use Rattle.mm_script.specs.Reading.{event_in, line_of, IsPut};
 
 use crate::LineFault;
 use crate::fields::Fields;
@@ -21,9 +21,9 @@ fn lies_in_page(addr: u32, len: u32) -> bool
 /// `read <pid> <addr> <len>`
 #[inline(never)]
 #[tactic(auto, unfolding(crate::specs::Reading::line_of))]
-pub fn read(fields: &mut Fields) -> Result<Event, LineFault>
+pub fn read(fields: &mut Fields, event: &mut Event) -> Result<(), LineFault>
     requires { fields.old.number ≡ 2 }
-    ensures { result ≡ line_of keyword.Read fields.old }
+    ensures { IsPut result event.old event.new (line_of keyword.Read fields.old) }
 {
     let pid = fields.pid()?;
     let addr = fields.number()?;
@@ -32,15 +32,16 @@ pub fn read(fields: &mut Fields) -> Result<Event, LineFault>
     if !lies_in_page(addr, len) {
         return Err(fields.fault());
     }
-    Ok(Event::Read { pid, addr, len })
+    *event = Event::Read { pid, addr, len };
+    Ok(())
 }
 
 /// `write <pid> <addr> <bytes>`
 #[inline(never)]
 #[tactic(auto, unfolding(crate::specs::Reading::line_of))]
-pub fn write(fields: &mut Fields) -> Result<Event, LineFault>
+pub fn write(fields: &mut Fields, event: &mut Event) -> Result<(), LineFault>
     requires { fields.old.number ≡ 2 }
-    ensures { result ≡ line_of keyword.Write fields.old }
+    ensures { IsPut result event.old event.new (line_of keyword.Write fields.old) }
 {
     let pid = fields.pid()?;
     let addr = fields.number()?;
@@ -49,51 +50,55 @@ pub fn write(fields: &mut Fields) -> Result<Event, LineFault>
     if !lies_in_page(addr, bytes.as_slice().len() as u32) {
         return Err(fields.fault());
     }
-    Ok(Event::Write { pid, addr, bytes })
+    *event = Event::Write { pid, addr, bytes };
+    Ok(())
 }
 
 /// `exec <pid> <addr>`
 #[tactic(auto, unfolding(crate::specs::Reading::line_of))]
-pub fn exec(fields: &mut Fields) -> Result<Event, LineFault>
+pub fn exec(fields: &mut Fields, event: &mut Event) -> Result<(), LineFault>
     requires { fields.old.number ≡ 2 }
-    ensures { result ≡ line_of keyword.Exec fields.old }
+    ensures { IsPut result event.old event.new (line_of keyword.Exec fields.old) }
 {
     let pid = fields.pid()?;
     let addr = fields.number()?;
     fields.end()?;
-    Ok(Event::Exec { pid, addr })
+    *event = Event::Exec { pid, addr };
+    Ok(())
 }
 
 /// `resume <tid>`
 #[tactic(auto, unfolding(crate::specs::Reading::line_of))]
-pub fn resume(fields: &mut Fields) -> Result<Event, LineFault>
+pub fn resume(fields: &mut Fields, event: &mut Event) -> Result<(), LineFault>
     requires { fields.old.number ≡ 2 }
-    ensures { result ≡ line_of keyword.Resume fields.old }
+    ensures { IsPut result event.old event.new (line_of keyword.Resume fields.old) }
 {
     let tid = fields.tid()?;
     fields.end()?;
-    Ok(Event::Resume { tid })
+    *event = Event::Resume { tid };
+    Ok(())
 }
 
 /// `begin <tid> <pid> read <addr> <len>`, `begin <tid> <pid> write <addr> <bytes>`
 #[tactic(auto, unfolding(crate::specs::Reading::line_of))]
-pub fn begin(fields: &mut Fields) -> Result<Event, LineFault>
+pub fn begin(fields: &mut Fields, event: &mut Event) -> Result<(), LineFault>
     requires { fields.old.number ≡ 2 }
-    ensures { result ≡ line_of keyword.Begin fields.old }
+    ensures { IsPut result event.old event.new (line_of keyword.Begin fields.old) }
 {
     let tid = fields.tid()?;
     let pid = fields.pid()?;
     match fields.direction()? {
-        Direction::Read => begin_read(fields, tid, pid),
-        Direction::Write => begin_write(fields, tid, pid),
+        Direction::Read => begin_read(fields, tid, pid, event),
+        Direction::Write => begin_write(fields, tid, pid, event),
     }
 }
 
 /// The words of a read that is begun, after `read`.
-fn begin_read(fields: &mut Fields, tid: Tid, pid: Pid) -> Result<Event, LineFault>
+fn begin_read(fields: &mut Fields, tid: Tid, pid: Pid, event: &mut Event) -> Result<(), LineFault>
     requires { fields.old.number ≡ 5 }
-    ensures { result ≡ event_in keyword.Begin (Then AnyNumber (Then (Number 1 64) End))
-        (λ addr len. line.Begin tid pid (spec.Read addr len)) fields.old }
+    ensures { IsPut result event.old event.new
+        (event_in keyword.Begin (Then AnyNumber (Then (Number 1 64) End))
+        (λ addr len. line.Begin tid pid (spec.Read addr len)) fields.old) }
 {
     let addr = fields.number()?;
     let len = fields.number_in(1, 64)?;
@@ -101,18 +106,20 @@ fn begin_read(fields: &mut Fields, tid: Tid, pid: Pid) -> Result<Event, LineFaul
     if !lies_in_page(addr, len) {
         return Err(fields.fault());
     }
-    Ok(Event::Begin {
+    *event = Event::Begin {
         tid,
         pid,
         access: AccessSpec::Read { addr, len },
-    })
+    };
+    Ok(())
 }
 
 /// The words of a write that is begun, after `write`.
-fn begin_write(fields: &mut Fields, tid: Tid, pid: Pid) -> Result<Event, LineFault>
+fn begin_write(fields: &mut Fields, tid: Tid, pid: Pid, event: &mut Event) -> Result<(), LineFault>
     requires { fields.old.number ≡ 5 }
-    ensures { result ≡ event_in keyword.Begin (Then AnyNumber (Then ByteWord End))
-        (λ addr bytes. line.Begin tid pid (spec.Write addr bytes)) fields.old }
+    ensures { IsPut result event.old event.new
+        (event_in keyword.Begin (Then AnyNumber (Then ByteWord End))
+        (λ addr bytes. line.Begin tid pid (spec.Write addr bytes)) fields.old) }
 {
     let addr = fields.number()?;
     let bytes = fields.bytes()?;
@@ -120,9 +127,10 @@ fn begin_write(fields: &mut Fields, tid: Tid, pid: Pid) -> Result<Event, LineFau
     if !lies_in_page(addr, bytes.as_slice().len() as u32) {
         return Err(fields.fault());
     }
-    Ok(Event::Begin {
+    *event = Event::Begin {
         tid,
         pid,
         access: AccessSpec::Write { addr, bytes },
-    })
+    };
+    Ok(())
 }

@@ -1,4 +1,4 @@
-use Rattle.std.proofs.Common.{◌≡◌, ◌∙◌, sym, ap, subst, arith, Some, Option}
+use Rattle.std.proofs.Common.{rules, ◌≡◌, ◌∙◌, sym, ap, subst, arith, Some, Option}
 use Rattle.mm_types.specs.declared.numbers.Key.{Key}
 use Rattle.mm_types.specs.Address.{page_of}
 use Rattle.mm_world.specs.World.{Page}
@@ -20,47 +20,68 @@ use Rattle.mm_core.proofs.fetching.copy.Goals as goal
 pub copy-requires-clause-room : goal.copy-requires-clause-room
 copy-requires-clause-room g c =
     let t = c.args.t.now in
-    let h = c.requires.admitted in
+    let h = c.requires.can.admitted in
     let page = page_of c.args.addr in
-    let y = is-copying t c.args.pid.0 page h.process h.row h.committed (ap (λ (r : CommittedRow). r.copies) h.is_told ∙ c.requires.copies) in
-    omega (arith, room-to-copy t c.requires.spaces c.args.pid.0 page h.process h.row y.view h.lives h.committed y.is y.none y.marked, c.requires.fits.counted, c.requires.fits.room)
+    let y = is-copying t c.args.pid.0 page h.process h.row h.committed (ap (λ (r : CommittedRow). r.copies) h.is_told ∙ c.requires.can.copies) in
+    omega (arith, room-to-copy t c.requires.can.spaces c.args.pid.0 page h.process h.row y.view h.lives h.committed y.is y.none y.marked, c.requires.can.fits.counted, c.requires.can.fits.room)
 
-pub returns-in_err-copy-clause-fits : goal.returns-in_err-copy-clause-fits
-returns-in_err-copy-clause-fits g c =
+pub returns-in_err-copy-clause-copied : goal.returns-in_err-copy-clause-copied
+returns-in_err-copy-clause-copied g c =
     let t = c.args.t.now in
-    let h = c.requires.admitted in
+    let h = c.requires.can.admitted in
     let at : key_at t c.place_of.result ≡ Some c.args.row.key =
     ap (key_at t) c.place_of.ensures ∙ key-row t c.args.pid (page_of c.args.addr) h.process h.row h.lives h.committed ∙ ap (λ (r : CommittedRow). Some r.key) h.is_told in
-    fits_uncopied t _ _ _ _ c.place_of.result c.args.row.key c.requires.fits at c.copy.ensures.served c.copy.ensures.stored c.in_err-copy.ensures.kept c.in_err-copy.ensures.err c.in_err-copy.ensures.names
+    record {
+      fits = fits_uncopied t _ _ _ _ c.place_of.result c.args.row.key c.requires.can.fits at c.copy.ensures.served c.copy.ensures.stored c.in_err-copy.ensures.kept c.in_err-copy.ensures.err c.in_err-copy.ensures.names;
+      line = search rules;
+      served = search rules;
+      blamed = search rules;
+      was_ready = search rules;
+      unpaged = search rules;
+      passes = search rules;
+      loans = search rules;
+    }
 
-pub returns-clause-fits : goal.returns-clause-fits
-returns-clause-fits g c =
+pub returns-clause-copied : goal.returns-clause-copied
+returns-clause-copied g c =
     let t = c.args.t.now in
     let old = g.G.Pages.contents c.args.g.now in
     let s = g.G.Pages.store c.args.g.now in
     let z = g.G.Pages.store c.copy.new.self in
     let page = page_of c.args.addr in
     let place = place_at c.args.pid page in
-    let h = c.requires.admitted in
+    let h = c.requires.can.admitted in
     let own = private_key c.args.pid.0 page in
     let at : key_at t place ≡ Some c.args.row.key =
     key-row t c.args.pid page h.process h.row h.lives h.committed ∙ ap (λ (r : CommittedRow). Some r.key) h.is_told in
-    let from = some_found (old c.args.row.key) (key-live t old s c.requires.fits place c.args.row.key at) in
+    let from = some_found (old c.args.row.key) (key-live t old s c.requires.can.fits place c.args.row.key at) in
     let contents : g.G.Pages.contents c.copy.new.self ≡ changed same_key old own (Some from.0) =
     c.in_ok-copy.ensures.copied ∙ (λ i. changed same_key old (c.own_key_of.ensures i) (from.1 i)) in
     let store : z ≡ record (fetched s z) { names = changed same_place s.names place (Some own); paging = changed same_key s.paging own true; paging_keys = s.paging_keys + 1 } =
     c.in_ok-copy.ensures.ok
     ∙ (λ i. record (fetched s z) { names = changed same_place s.names (c.place_of.ensures i) (Some (c.own_key_of.ensures i)); paging = changed same_key s.paging (c.own_key_of.ensures i) true; paging_keys = s.paging_keys + 1 }) in
-    subst (λ (n : Key → Option Page). FitsTables c.copy_page.new.self n z) (sym contents)
-    (fits_copied c.copy_page.new.self (changed same_key old own (Some from.0)) s z place (c.copy_page.ensures.fits old s from.0 c.requires.fits) c.copy.ensures.served c.copy.ensures.stored store)
+    record {
+      fits = subst (λ (n : Key → Option Page). FitsTables c.copy_page.new.self n z) (sym contents)
+          (fits_copied c.copy_page.new.self (changed same_key old own (Some from.0)) s z place (c.copy_page.ensures.fits old s from.0 c.requires.can.fits) c.copy.ensures.served c.copy.ensures.stored store);
+      line = search rules;
+      served = search rules;
+      blamed = search rules;
+      was_ready = search rules;
+      unpaged = search rules;
+      passes = search rules;
+      loans = search rules;
+    }
 
-pub returns-clause-at : goal.returns-clause-at
-returns-clause-at g c =
+pub returns-clause-own : goal.returns-clause-own
+returns-clause-own g c =
     let s = g.G.Pages.store c.args.g.now in
     let page = page_of c.args.addr in
     let place = place_at c.args.pid page in
     let own = private_key c.args.pid.0 page in
-    at-named c.copy_page.new.self _ (g.G.Pages.store c.copy.new.self) (returns-clause-fits g c) place own
-    (ap (λ (s : StoreOf). s.names place) c.in_ok-copy.ensures.ok
-    ∙ (λ i. changed same_place s.names (c.place_of.ensures i) (Some (c.own_key_of.ensures i)) place)
-    ∙ ap (λ b. cond b (Some own) (s.names place)) (place_itself place))
+    record {
+      at = at-named c.copy_page.new.self _ (g.G.Pages.store c.copy.new.self) (returns-clause-copied g c).fits place own
+          (ap (λ (s : StoreOf). s.names place) c.in_ok-copy.ensures.ok
+          ∙ (λ i. changed same_place s.names (c.place_of.ensures i) (Some (c.own_key_of.ensures i)) place)
+          ∙ ap (λ b. cond b (Some own) (s.names place)) (place_itself place));
+      ready = search rules;
+    }

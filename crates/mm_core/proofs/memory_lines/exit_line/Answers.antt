@@ -15,13 +15,13 @@ use Rattle.mm_core.proofs.memory_lines.exit_line.Goals as goal
 
 pub begin_release-requires-clause-fits : goal.begin_release-requires-clause-fits
 begin_release-requires-clause-fits g c =
-    (keeps-forgot c.args.t.now _ _ _ _ c.requires.keeps c.forget_waits.ensures.contents c.forget_waits.ensures.forgot.rest).fits
+    (keeps-forgot c.args.t.now _ _ _ _ c.requires.next.keeps c.forget_waits.ensures.contents c.forget_waits.ensures.forgot.rest).fits
 
 pub begin_release-requires-clause-next : goal.begin_release-requires-clause-next
-begin_release-requires-clause-next g c = c.requires.next ∙ ap (λ (s : StoreOf). s.line + 1) (sym c.forget_waits.ensures.forgot.rest)
+begin_release-requires-clause-next g c = c.requires.next.line_is ∙ ap (λ (s : StoreOf). s.line + 1) (sym c.forget_waits.ensures.forgot.rest)
 
-pub returns-clause-decided : goal.returns-clause-decided
-returns-clause-decided g c =
+pub returns-clause-done : goal.returns-clause-done
+returns-clause-done g c =
     let u = g.G.Pages.unpaged in
     let t = c.args.t.now in
     let s = g.G.Pages.store c.args.g.now in
@@ -31,22 +31,21 @@ returns-clause-decided g c =
     let call = c.end_process in
     let new = g.G.Pages.contents call.new.g in
     let rest = c.forget_waits.ensures.forgot.rest in
-    let keeps = keeps-forgot t old mid s y c.requires.keeps c.forget_waits.ensures.contents rest in
-    decided-forgot u c.args.pid c.args.line t old mid s y call.result call.new.t new (g.G.Pages.store call.new.g) c.forget_waits.ensures.contents rest
-    (decided-call u (event.Exit c.args.pid) c.args.line t mid y (g.G.Pages.store c.begin_release.new.g) call.result call.new.t new (g.G.Pages.store call.new.g)
-    (exit t c.args.pid.0) keeps (c.requires.next ∙ ap (λ (s : StoreOf). s.line + 1) (sym rest)) c.begin_release.ensures.begins (quiet-beside _ _ call.ensures.beside)
-    (exit_across t (key_bytes mid) c.sound.ensures.sound.spaces c.args.pid.0) (in_exit t c.args.pid.0) refl tt tt
-    (subst (λ (old : Key → Option Page). Called (exit t c.args.pid.0) t old call.result call.new.t new) c.begin_release.ensures.contents call.ensures.called) call.ensures.fits)
+    let keeps = keeps-forgot t old mid s y c.requires.next.keeps c.forget_waits.ensures.contents rest in
+    record {
+      decided = decided-forgot u c.args.pid c.args.line t old mid s y call.result call.new.t new (g.G.Pages.store call.new.g) c.forget_waits.ensures.contents rest
+          (decided-call u (event.Exit c.args.pid) c.args.line t mid y (g.G.Pages.store c.begin_release.new.g) call.result call.new.t new (g.G.Pages.store call.new.g)
+          (exit t c.args.pid.0) keeps (c.requires.next.line_is ∙ ap (λ (s : StoreOf). s.line + 1) (sym rest)) c.begin_release.ensures.starts.begins (quiet-beside _ _ call.ensures.beside)
+          (exit_across t (key_bytes mid) c.sound.ensures.sound.spaces c.args.pid.0) (in_exit t c.args.pid.0) refl tt tt
+          (subst (λ (old : Key → Option Page). Called (exit t c.args.pid.0) t old call.result call.new.t new) c.begin_release.ensures.starts.contents call.ensures.called) call.ensures.fits);
+      marked = marked_exit c.args.t.now (g.G.Pages.contents c.args.g.now) (g.G.Pages.contents c.forget_waits.new.g) c.end_process.new.t (g.G.Pages.contents c.end_process.new.g) c.args.line c.args.pid c.end_process.result c.sound.ensures.sound.numbers.kept g.G.Pages.unpaged
+          (g.G.Pages.store c.args.g.now) (g.G.Pages.store c.forget_waits.new.g) (g.G.Pages.store c.begin_release.new.g) (g.G.Pages.store c.end_process.new.g) (g.G.Pages.behind c.args.g.now) (g.G.Pages.behind c.forget_waits.new.g) (g.G.Pages.behind c.begin_release.new.g) (g.G.Pages.behind c.end_process.new.g)
+          c.forget_waits.ensures.passes c.forget_waits.ensures.forgot.rest c.begin_release.ensures.passes c.end_process.ensures.passes;
+    }
 
 pub returns-clause-waits : goal.returns-clause-waits
 returns-clause-waits g c =
     ends-waits c.args.t.now c.args.pid c.end_process.result (g.G.Pages.store c.args.g.now) (g.G.Pages.store c.forget_waits.new.g) (g.G.Pages.store c.begin_release.new.g) (g.G.Pages.store c.end_process.new.g)
     c.sound.ensures.sound.numbers.kept c.forget_waits.ensures.forgot
-    (ap (λ r. r.wait) c.begin_release.ensures.begins.report_is)
+    (ap (λ r. r.wait) c.begin_release.ensures.starts.begins.report_is)
     (ap (λ (s : StoreOf). s.report.wait) c.end_process.ensures.beside)
-
-pub returns-clause-marked : goal.returns-clause-marked
-returns-clause-marked g c =
-    marked_exit c.args.t.now (g.G.Pages.contents c.args.g.now) (g.G.Pages.contents c.forget_waits.new.g) c.end_process.new.t (g.G.Pages.contents c.end_process.new.g) c.args.line c.args.pid c.end_process.result c.sound.ensures.sound.numbers.kept g.G.Pages.unpaged
-    (g.G.Pages.store c.args.g.now) (g.G.Pages.store c.forget_waits.new.g) (g.G.Pages.store c.begin_release.new.g) (g.G.Pages.store c.end_process.new.g) (g.G.Pages.behind c.args.g.now) (g.G.Pages.behind c.forget_waits.new.g) (g.G.Pages.behind c.begin_release.new.g) (g.G.Pages.behind c.end_process.new.g)
-    c.forget_waits.ensures.passes c.forget_waits.ensures.forgot.rest c.begin_release.ensures.passes c.end_process.ensures.passes

@@ -7,32 +7,33 @@ use Rattle.mm_core.proofs.CallForms.{marked_grow, halted_grow}
 use Rattle.mm_core.specs.Deciding.{Decided}
 use Rattle.mm_core.proofs.Beside.{beside-grow}
 use Rattle.mm_core.proofs.Grown.{grow-line}
+use Rattle.mm_core.proofs.Lines.{if-err}
+use Rattle.mm_core.proofs.LinesDone.{answers-line, halts-line, idle-grown}
 use Rattle.mm_core.proofs.memory_lines.grow_line.Goals as goal
 
-pub returns-clause-ok : goal.returns-clause-ok
-returns-clause-ok g c =
+pub returns-clause-done : goal.returns-clause-done
+returns-clause-done g c =
     let call = c.grow_paging in
     let t = c.args.t.now in
     let old = g.G.Pages.contents c.args.g.now in
     let new = g.G.Pages.contents call.new.g in
     let s = g.G.Pages.store c.args.g.now in
     let z = g.G.Pages.store call.new.g in
-    elim call.result as (λ r. call.result ≡ r → IfOk r (λ a. Decided g.G.Pages.unpaged (event.Grow c.args.n) c.args.line t old s a call.new.t new z)) [
+    answers-line g.G.Pages (event.Grow c.args.n) c.args.line c.args.t.now c.args.g.now call.result call.new.t call.new.g
+    (elim call.result as (λ r. call.result ≡ r → IfOk r (λ a. Decided g.G.Pages.unpaged (event.Grow c.args.n) c.args.line t old s a call.new.t new z)) [
       | Ok a ↦ λ q.
-          grow-line g.G.Pages.unpaged c.args.n c.args.line t old s a call.new.t new z c.requires.keeps c.requires.next (rw q at call.ensures.ok) call.ensures.contents call.ensures.fits
+          grow-line g.G.Pages.unpaged c.args.n c.args.line t old s a call.new.t new z c.requires.next.keeps c.requires.next.line_is (rw q at call.ensures.ok) call.ensures.contents call.ensures.fits
           (rw q at call.ensures.rest) (rw q at call.ensures.report) (rw q at call.ensures.line) (rw q at call.ensures.cause) call.ensures.faults
       | Err x ↦ λ q. tt
-    ] refl
+    ] refl)
+    (marked_grow c.args.line c.args.n (world_with c.args.t.now (key_bytes (g.G.Pages.contents c.args.g.now))) (world_with call.new.t (key_bytes (g.G.Pages.contents call.new.g))) (g.G.Pages.store c.args.g.now) (g.G.Pages.store call.new.g) (g.G.Pages.behind c.args.g.now) (g.G.Pages.behind call.new.g) g.G.Pages.unpaged call.result call.ensures.notes)
 
-pub returns-clause-marked : goal.returns-clause-marked
-returns-clause-marked g c =
+pub returns-clause-broke : goal.returns-clause-broke
+returns-clause-broke g c =
     let call = c.grow_paging in
-    marked_grow c.args.line c.args.n (world_with c.args.t.now (key_bytes (g.G.Pages.contents c.args.g.now))) (world_with call.new.t (key_bytes (g.G.Pages.contents call.new.g))) (g.G.Pages.store c.args.g.now) (g.G.Pages.store call.new.g) (g.G.Pages.behind c.args.g.now) (g.G.Pages.behind call.new.g) g.G.Pages.unpaged call.result call.ensures.notes
-
-pub returns-clause-halted : goal.returns-clause-halted
-returns-clause-halted g c =
-    let call = c.grow_paging in
-    halted_grow c.args.line c.args.n (world_with c.args.t.now (key_bytes (g.G.Pages.contents c.args.g.now))) (world_with call.new.t (key_bytes (g.G.Pages.contents call.new.g))) (g.G.Pages.store c.args.g.now) (g.G.Pages.store call.new.g) (g.G.Pages.behind c.args.g.now) (g.G.Pages.behind call.new.g) g.G.Pages.unpaged call.result call.ensures.notes
+    halts-line g.G.Pages c.args.line c.args.t.now c.args.g.now call.result call.new.t call.new.g
+    (if-err call.result call.ensures.err (λ same. idle-grown call.ensures.contents same.1 same.0))
+    (halted_grow c.args.line c.args.n (world_with c.args.t.now (key_bytes (g.G.Pages.contents c.args.g.now))) (world_with call.new.t (key_bytes (g.G.Pages.contents call.new.g))) (g.G.Pages.store c.args.g.now) (g.G.Pages.store call.new.g) (g.G.Pages.behind c.args.g.now) (g.G.Pages.behind call.new.g) g.G.Pages.unpaged call.result call.ensures.notes)
 
 pub returns-clause-beside : goal.returns-clause-beside
 returns-clause-beside g c = λ paged.

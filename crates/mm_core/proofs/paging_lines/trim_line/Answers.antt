@@ -11,31 +11,29 @@ use Rattle.mm_core.proofs.Accesses.{store-gone, store-lives}
 use Rattle.mm_core.proofs.CallForms.{marked_no_trim, marked_trim}
 use Rattle.mm_core.proofs.paging_lines.trim_line.Goals as goal
 
-pub returns-then-not-begin_trim-clause-decided : goal.returns-then-not-begin_trim-clause-decided
-returns-then-not-begin_trim-clause-decided g c =
+pub returns-then-not-begin_trim-clause-done : goal.returns-then-not-begin_trim-clause-done
+returns-then-not-begin_trim-clause-done g c =
     let t = c.args.t.now in
     let old = g.G.Pages.contents c.args.g.now in
     let m = g.G.Pages.store c.begin_trim.new.g in
-    decided-same g.G.Pages.unpaged (event.Trim c.args.pid c.args.n) c.args.line t old _ m (answer.Error code.InvalidHandle) t (g.G.Pages.contents c.begin_trim.new.g) m
-    c.requires.keeps c.requires.next c.begin_trim.ensures.begins (quiet-same _ _ refl) refl c.begin_trim.ensures.contents refl
-    (store-gone t (key_bytes old) c.args.pid.0 (gone-by t c.args.pid.0 (sym c.begin_trim.ensures.lives ∙ c.if-not-begin_trim.true)))
-    (λ f. f) tt tt c.begin_trim.ensures.fits
+    record {
+      decided = decided-same g.G.Pages.unpaged (event.Trim c.args.pid c.args.n) c.args.line t old _ m (answer.Error code.InvalidHandle) t (g.G.Pages.contents c.begin_trim.new.g) m
+          c.requires.next.keeps c.requires.next.line_is c.begin_trim.ensures.starts.begins (quiet-same _ _ refl) refl c.begin_trim.ensures.starts.contents refl
+          (store-gone t (key_bytes old) c.args.pid.0 (gone-by t c.args.pid.0 (sym c.begin_trim.ensures.lives ∙ c.if-not-begin_trim.true)))
+          (λ f. f) tt tt c.begin_trim.ensures.fits;
+      marked = marked_no_trim c.args.t.now (g.G.Pages.contents c.args.g.now) (g.G.Pages.contents c.begin_trim.new.g) c.args.line c.args.pid g.G.Pages.unpaged (g.G.Pages.store c.args.g.now) (g.G.Pages.store c.begin_trim.new.g) (g.G.Pages.store c.begin_trim.new.g) (g.G.Pages.behind c.args.g.now) (g.G.Pages.behind c.begin_trim.new.g) (g.G.Pages.behind c.begin_trim.new.g) c.begin_trim.result c.begin_trim.ensures.lives c.args.n (answer.Error code.InvalidHandle) c.if-not-begin_trim.true c.begin_trim.ensures.passes;
+    }
 
-pub returns-clause-decided : goal.returns-clause-decided
-returns-clause-decided g c =
+pub returns-clause-done : goal.returns-clause-done
+returns-clause-done g c =
     let t = c.args.t.now in
     let old = g.G.Pages.contents c.args.g.now in
     let m = g.G.Pages.store c.begin_trim.new.g in
     let z = g.G.Pages.store c.trim.new.self in
-    decided-same g.G.Pages.unpaged (event.Trim c.args.pid c.args.n) c.args.line t old _ m answer.Ok t (g.G.Pages.contents c.trim.new.self) z
-    c.requires.keeps c.requires.next c.begin_trim.ensures.begins (quiet-rearranged m z c.trim.ensures.store) refl (c.trim.ensures.contents ∙ c.begin_trim.ensures.contents) refl
-    (store-lives t (key_bytes old) c.args.pid.0 (lives-by t c.args.pid.0 (sym c.begin_trim.ensures.lives ∙ c.if-not-begin_trim.false)))
-    (λ f. f) tt tt (fits-rearranged t _ m _ z c.begin_trim.ensures.fits c.trim.ensures.contents c.trim.ensures.store)
-
-pub returns-then-not-begin_trim-clause-marked : goal.returns-then-not-begin_trim-clause-marked
-returns-then-not-begin_trim-clause-marked g c =
-    marked_no_trim c.args.t.now (g.G.Pages.contents c.args.g.now) (g.G.Pages.contents c.begin_trim.new.g) c.args.line c.args.pid g.G.Pages.unpaged (g.G.Pages.store c.args.g.now) (g.G.Pages.store c.begin_trim.new.g) (g.G.Pages.store c.begin_trim.new.g) (g.G.Pages.behind c.args.g.now) (g.G.Pages.behind c.begin_trim.new.g) (g.G.Pages.behind c.begin_trim.new.g) c.begin_trim.result c.begin_trim.ensures.lives c.args.n (answer.Error code.InvalidHandle) c.if-not-begin_trim.true c.begin_trim.ensures.passes
-
-pub returns-clause-marked : goal.returns-clause-marked
-returns-clause-marked g c =
-    marked_trim c.args.t.now (g.G.Pages.contents c.args.g.now) (g.G.Pages.contents c.trim.new.self) c.args.line c.args.pid g.G.Pages.unpaged (g.G.Pages.store c.args.g.now) (g.G.Pages.store c.begin_trim.new.g) (g.G.Pages.store c.trim.new.self) (g.G.Pages.behind c.args.g.now) (g.G.Pages.behind c.begin_trim.new.g) (g.G.Pages.behind c.trim.new.self) c.begin_trim.result c.begin_trim.ensures.lives c.args.n answer.Ok c.if-not-begin_trim.false c.begin_trim.ensures.passes c.trim.ensures.passes
+    record {
+      decided = decided-same g.G.Pages.unpaged (event.Trim c.args.pid c.args.n) c.args.line t old _ m answer.Ok t (g.G.Pages.contents c.trim.new.self) z
+          c.requires.next.keeps c.requires.next.line_is c.begin_trim.ensures.starts.begins (quiet-rearranged m z c.trim.ensures.store) refl (c.trim.ensures.contents ∙ c.begin_trim.ensures.starts.contents) refl
+          (store-lives t (key_bytes old) c.args.pid.0 (lives-by t c.args.pid.0 (sym c.begin_trim.ensures.lives ∙ c.if-not-begin_trim.false)))
+          (λ f. f) tt tt (fits-rearranged t _ m _ z c.begin_trim.ensures.fits c.trim.ensures.contents c.trim.ensures.store);
+      marked = marked_trim c.args.t.now (g.G.Pages.contents c.args.g.now) (g.G.Pages.contents c.trim.new.self) c.args.line c.args.pid g.G.Pages.unpaged (g.G.Pages.store c.args.g.now) (g.G.Pages.store c.begin_trim.new.g) (g.G.Pages.store c.trim.new.self) (g.G.Pages.behind c.args.g.now) (g.G.Pages.behind c.begin_trim.new.g) (g.G.Pages.behind c.trim.new.self) c.begin_trim.result c.begin_trim.ensures.lives c.args.n answer.Ok c.if-not-begin_trim.false c.begin_trim.ensures.passes c.trim.ensures.passes;
+    }

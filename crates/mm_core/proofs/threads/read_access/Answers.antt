@@ -1,16 +1,16 @@
 use Rattle.mm_types.specs.declared.answers.Answer.TheVariants as answer
-use Rattle.std.proofs.Common.{refl, sym, subst, ap}
+use Rattle.std.proofs.Common.{refl, ap}
 use Rattle.mm_world.specs.Access.{ReadOf}
 use Rattle.mm_core.specs.Pending.{Permitted}
 use Rattle.mm_core.proofs.ThreadPassed.{turned_refused, turned_failed}
 use Rattle.mm_world.specs.Contents.{Tables, world_with}
-use Rattle.mm_world.specs.WellFormed.{Spaces}
 use Rattle.mm_tables.specs.Fits.{key_bytes}
 use Rattle.mm_core.proofs.Accesses.{read-needs}
+use Rattle.mm_core.proofs.Admitted.{can-start}
 use Rattle.mm_core.proofs.threads.read_access.Goals as goal
 
 pub returns-in-Err-clause-keeps : goal.returns-in-Err-clause-keeps
-returns-in-Err-clause-keeps g c = c.admit.ensures.keeps _ _ c.requires.keeps
+returns-in-Err-clause-keeps g c = c.admit.ensures.keeps _ _ c.requires.can.keeps
 
 pub returns-then-failed-clause-turned : goal.returns-then-failed-clause-turned
 returns-then-failed-clause-turned g c =
@@ -21,8 +21,8 @@ returns-then-failed-clause-turned g c =
       ap (λ (t : Tables). world_with t old) c.in-Ok.ensures.unchanged,
     )
 
-pub read_on-requires-clause-spaces : goal.read_on-requires-clause-spaces
-read_on-requires-clause-spaces g c = subst (λ (v : Tables). Spaces v) (sym c.in-Ok.ensures.unchanged) c.sound.ensures.sound.spaces
+pub read_on-requires-clause-can : goal.read_on-requires-clause-can
+read_on-requires-clause-can g c = can-start g.G.Pages _ c.args.t.now c.admit.new.t _ _ _ c.args.g.now c.in-Ok.ensures.unchanged c.requires.can c.sound.ensures.sound.spaces c.in-Ok.ensures.admitted c.in-Ok.ensures.at
 
 pub returns-in-Err-clause-passes : goal.returns-in-Err-clause-passes
 returns-in-Err-clause-passes g c =

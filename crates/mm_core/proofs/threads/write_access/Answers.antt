@@ -1,18 +1,18 @@
 use Rattle.mm_types.specs.declared.answers.Answer.TheVariants as answer
-use Rattle.std.proofs.Common.{refl, sym, ◌∙◌, subst, ap}
+use Rattle.std.proofs.Common.{refl, sym, ◌∙◌, ap}
 use Rattle.std.specs.Prelude.{Ok, Err}
 use Rattle.mm_world.specs.Access.{WriteOf}
 use Rattle.mm_core.specs.Pending.{Permitted}
 use Rattle.mm_core.proofs.ThreadPassed.{turned_refused, turned_failed, went_joined}
 use Rattle.mm_world.specs.Contents.{Tables, world_with}
-use Rattle.mm_world.specs.WellFormed.{Spaces}
 use Rattle.mm_tables.specs.Fits.{key_bytes}
 use Rattle.mm_core.proofs.Waiting.{write_permitted}
+use Rattle.mm_core.proofs.Admitted.{can-start}
 use Rattle.mm_core.proofs.threads.write_access.Goals as goal
 use Rattle.mm_core.proofs.threads.write_access.Goals.{then-row, else-row}
 
 pub returns-in-Err-clause-keeps : goal.returns-in-Err-clause-keeps
-returns-in-Err-clause-keeps g c = c.admit.ensures.keeps _ _ c.requires.keeps
+returns-in-Err-clause-keeps g c = c.admit.ensures.keeps _ _ c.requires.can.keeps
 
 pub returns-then-failed-clause-turned : goal.returns-then-failed-clause-turned
 returns-then-failed-clause-turned g c =
@@ -23,11 +23,11 @@ returns-then-failed-clause-turned g c =
       ap (λ (t : Tables). world_with t old) c.in-Ok.ensures.unchanged,
     )
 
-pub write_to_copy_on-written-requires-clause-spaces : goal.write_to_copy_on-written-requires-clause-spaces
-write_to_copy_on-written-requires-clause-spaces g c = subst (λ (v : Tables). Spaces v) (sym c.in-Ok.ensures.unchanged) c.sound.ensures.sound.spaces
+pub write_to_copy_on-written-requires-clause-can : goal.write_to_copy_on-written-requires-clause-can
+write_to_copy_on-written-requires-clause-can g c = can-start g.G.Pages _ c.args.t.now c.admit.new.t _ _ _ c.args.g.now c.in-Ok.ensures.unchanged c.requires.can c.sound.ensures.sound.spaces c.in-Ok.ensures.admitted c.in-Ok.ensures.at
 
-pub write_on-written-requires-clause-spaces : goal.write_on-written-requires-clause-spaces
-write_on-written-requires-clause-spaces g c = subst (λ (v : Tables). Spaces v) (sym c.in-Ok.ensures.unchanged) c.sound.ensures.sound.spaces
+pub write_on-written-requires-clause-can : goal.write_on-written-requires-clause-can
+write_on-written-requires-clause-can g c = can-start g.G.Pages _ c.args.t.now c.admit.new.t _ _ _ c.args.g.now c.in-Ok.ensures.unchanged c.requires.can c.sound.ensures.sound.spaces c.in-Ok.ensures.admitted c.in-Ok.ensures.at
 
 pub returns-in-Err-clause-passes : goal.returns-in-Err-clause-passes
 returns-in-Err-clause-passes g c =

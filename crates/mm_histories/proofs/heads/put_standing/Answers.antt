@@ -1,6 +1,6 @@
 use Rattle.std.proofs.Common.{◌∷◌, []}
 use Rattle.std.specs.Prelude.{codes}
-use Rattle.mm_moves.specs.Standing.{life}
+use Rattle.mm_replay.specs.Standing.{life}
 use Rattle.mm_sentences.specs.States.{frame_row}
 use Rattle.mm_histories.proofs.Pieces.{three}
 use Rattle.mm_histories.proofs.heads.put_standing.Goals as goal

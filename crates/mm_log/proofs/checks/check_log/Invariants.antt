@@ -1,5 +1,5 @@
 use Rattle.std.proofs.Common.{◌≡◌, ◌≤◌}
-use Rattle.mm_moves.specs.Standing.{life}
+use Rattle.mm_replay.specs.Standing.{life}
 use Rattle.mm_log.specs.Reading.{IsReady}
 use Rattle.mm_log.specs.Stepping.{Stands}
 use Rattle.mm_log.proofs.checks.check_log.Given as goal

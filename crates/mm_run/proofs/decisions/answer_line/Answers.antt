@@ -2,32 +2,28 @@ use Rattle.std.proofs.Common.{◌≡◌, take, sym, refl, ap, ◌∙◌, subst, 
 use Rattle.mm_script.specs.Grammar.{IsLine as IsLineFor}
 use Rattle.std.specs.Prelude.{Err}
 use Rattle.mm_run.specs.Reading.{reading_of}
-use Rattle.mm_run.proofs.Later.{later_reading, later_refused}
+use Rattle.mm_run.proofs.Later.{later_reading, later_misplaced}
 use Rattle.mm_run.proofs.Stops.{came_bad}
 use Rattle.mm_run.proofs.decisions.answer_line.Goals as goal
 
 pub returns-in-Err-clause-steps : goal.returns-in-Err-clause-steps
 returns-in-Err-clause-steps g c = λ input out.
-    let column = c.in-Err.column in
-    let text = take c.args.len c.bytes.result.now in
     let line = c.requires.line in
     let bad : reading_of c.args.n (take c.args.len c.args.held.now) ≡ Err c.in-Err.column =
     later_reading c.args.n _ c.requires.some ∙ ap (λ xs. reading_of 1 (take c.args.len xs)) (sym c.bytes.ensures) ∙ c.in-Err.ensures.reads in
     record {
       came = came_bad _ _ _ line.line c.requires.few line.behind _ _ _ _ _ bad
-          (λ e s. later_refused c.args.n text column e c.requires.some c.in-Err.ensures.reads
-          (sym c.parse_line-parsed.ensures.exact ∙ c.parse_line-parsed.ensures.only e (subst (λ (xs : List ℕ). IsLineFor (take c.args.len xs) e) (sym c.bytes.ensures) s)));
+          (λ e s. later_misplaced c.args.n e c.requires.some
+          (c.in-Err.ensures.refused e (subst (λ (xs : List ℕ). IsLineFor (take c.args.len xs) e) (sym c.bytes.ensures) s)));
       faults = refl;
       idle = omega arith;
       form = λ q. cc;
     }
 
 pub answer_event-requires-clause-says : goal.answer_event-requires-clause-says
-answer_event-requires-clause-says g c =
-    let line = rw c.in-Ok.ensures.same at c.parse_line-parsed.ensures.ok in
-    record {
-      some = c.requires.some;
-      says = later_reading c.args.n (take c.args.len c.args.held.now) c.requires.some ∙ ap (λ xs. reading_of 1 (take c.args.len xs)) (sym c.bytes.ensures) ∙ c.in-Ok.ensures.reads;
-      grammar = subst (λ (xs : List ℕ). IsLineFor (take c.args.len xs) c.in-Ok.event.now) c.bytes.ensures line;
-      well_formed = rw c.in-Ok.ensures.same at c.parse_line-parsed.ensures.well_formed;
-    }
+answer_event-requires-clause-says g c = record {
+  some = c.requires.some;
+  says = later_reading c.args.n (take c.args.len c.args.held.now) c.requires.some ∙ ap (λ xs. reading_of 1 (take c.args.len xs)) (sym c.bytes.ensures) ∙ c.in-Ok.ensures.reads;
+  grammar = subst (λ (xs : List ℕ). IsLineFor (take c.args.len xs) c.later_event.new.event) c.bytes.ensures c.in-Ok.ensures.grammar;
+  well_formed = c.in-Ok.ensures.well_formed;
+}

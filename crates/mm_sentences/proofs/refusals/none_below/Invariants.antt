@@ -1,5 +1,5 @@
 use Rattle.std.proofs.Common.{◌≡◌, ◌-◌, drop}
-use Rattle.mm_moves.specs.Standing.{life}
+use Rattle.mm_replay.specs.Standing.{life}
 use Rattle.mm_sentences.specs.Tested.{none_free}
 use Rattle.mm_sentences.proofs.refusals.none_below.Given as goal
 

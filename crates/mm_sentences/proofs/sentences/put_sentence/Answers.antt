@@ -1,4 +1,4 @@
-use Rattle.mm_moves.specs.Standing.{life}
+use Rattle.mm_replay.specs.Standing.{life}
 use Rattle.mm_classes.specs.declared.classes.Class.TheVariants as class
 use Rattle.mm_sentences.proofs.Told.{told_of}
 use Rattle.mm_sentences.proofs.sentences.put_sentence.Goals as goal

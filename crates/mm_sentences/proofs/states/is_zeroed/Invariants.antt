@@ -1,7 +1,7 @@
 use Rattle.std.proofs.Common.{◌≡◌, drop}
 use Rattle.mm_life.specs.Frames.{is_on}
-use Rattle.mm_moves.specs.Looking.{frame_at}
-use Rattle.mm_moves.specs.Standing.{life}
+use Rattle.mm_replay.specs.Looking.{frame_at}
+use Rattle.mm_replay.specs.Standing.{life}
 use Rattle.mm_sentences.proofs.states.is_zeroed.Given as goal
 
 abbrev pub invariant-loop-i : goal.invariant-loop-i

@@ -1,3 +1,4 @@
+use Rattle.std.proofs.Common.{refl}
 use Rattle.mm_life.specs.Frames.{record_at}
 use Rattle.mm_ram.specs.Ram.{bytes_of, overwritten, with_page}
 use Rattle.mm_parts.specs.PartsShown as parts_of
@@ -21,13 +22,8 @@ invariant_of-state g c =
     let now = carried _ _ _ _ _ c.write_in_parts.ensures.made (carries_written u.life s.parts.kept.reached u.bytes slots blocks s.located c.args.f k.0 page k.1 c.requires.soiled) in
     record { located = now.located; tallied = s.tallied; slots_whole = s.slots_whole; blocks_whole = s.blocks_whole }
 
-pub returns-clause-rest : goal.returns-clause-rest
-returns-clause-rest g c =
-    let u = parts_of.shown_parts c.args.state.now.parts in
-    rest_bytes _ u (with_page u.bytes c.args.f.0 (overwritten (bytes_of u.bytes c.args.f.0) 0 c.args.bytes.now)) _ _ _ _ _ _ c.write_in_parts.ensures.made
-
-pub returns-clause-live : goal.returns-clause-live
-returns-clause-live g c = λ k.
+pub returns : goal.returns
+returns g c =
     let s = c.args.state.now in
     let u = parts_of.shown_parts s.parts in
     let slots = g.P.Inject.blocks s.paging in
@@ -35,4 +31,10 @@ returns-clause-live g c = λ k.
     let own = pick (record_at u.life.frames c.args.f.0).owner c.requires.owned in
     let page = overwritten (bytes_of u.bytes c.args.f.0) 0 c.args.bytes.now in
     let now = carried _ _ _ _ _ c.write_in_parts.ensures.made (carries_written u.life s.parts.kept.reached u.bytes slots blocks s.located c.args.f own.0 page own.1 c.requires.soiled) in
-    same_live _ u (with_page u.bytes c.args.f.0 page) slots blocks c.write_in_parts.ensures.made now.located s.located k
+    record {
+      rest = rest_bytes _ u (with_page u.bytes c.args.f.0 page) _ _ _ _ _ _ c.write_in_parts.ensures.made;
+      live = λ k. same_live _ u (with_page u.bytes c.args.f.0 page) slots blocks c.write_in_parts.ensures.made now.located s.located k;
+      paging = refl;
+      files = refl;
+      stored = refl;
+    }

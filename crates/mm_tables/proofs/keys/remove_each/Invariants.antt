@@ -1,5 +1,4 @@
-use Rattle.std.proofs.Common.{◌≡◌, ◌+◌, ℕ, Bool, true}
-use Rattle.mm_types.specs.declared.numbers.Place.{Place}
+use Rattle.std.proofs.Common.{◌≡◌, ◌+◌, ℕ, true}
 use Rattle.mm_types.specs.Address.{holds_page}
 use Rattle.mm_pages.specs.Conditions.{place_at}
 use Rattle.mm_pages.specs.Housekeeping.{Turns, Ends}

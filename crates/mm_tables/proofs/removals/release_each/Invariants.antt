@@ -1,5 +1,4 @@
-use Rattle.std.proofs.Common.{◌≡◌, ◌+◌, Bool}
-use Rattle.mm_types.specs.declared.numbers.Place.{Place}
+use Rattle.std.proofs.Common.{◌≡◌, ◌+◌}
 use Rattle.mm_pages.specs.Housekeeping.{Turns, Ends}
 use Rattle.mm_pages.specs.Leaving.{Leaving, page_rank}
 use Rattle.mm_pages.specs.Passing.{PassesIn}

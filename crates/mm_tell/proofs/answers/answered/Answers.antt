@@ -1,7 +1,7 @@
 use Rattle.std.proofs.Common.{◌≡◌, ◌∙◌, ℕ, false, sym, subst, inl}
 use Rattle.mm_types.specs.Spelling.{Text}
 use Rattle.mm_io.specs.Io.{Wrote}
-use Rattle.mm_moves.specs.Standing.{life}
+use Rattle.mm_replay.specs.Standing.{life}
 use Rattle.mm_tell.specs.Telling.{is_broken}
 use Rattle.mm_tell.specs.Answering.{said_by, Answers}
 use Rattle.mm_tell.proofs.Tellings.{has_told}

@@ -1,4 +1,4 @@
-use Rattle.mm_moves.specs.Standing.{life}
+use Rattle.mm_replay.specs.Standing.{life}
 use Rattle.mm_tell.proofs.Tellings.{tells_more, closes_stop, closes_misfit}
 use Rattle.mm_tell.proofs.replays.next.Goals as goal
 

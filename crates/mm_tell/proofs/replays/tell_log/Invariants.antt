@@ -1,5 +1,5 @@
 use Rattle.std.proofs.Common.{◌≡◌, ◌≤◌}
-use Rattle.mm_moves.specs.Standing.{life}
+use Rattle.mm_replay.specs.Standing.{life}
 use Rattle.mm_log.specs.Reading.{IsReady}
 use Rattle.mm_tell.specs.Telling.{Tells}
 use Rattle.mm_tell.proofs.replays.tell_log.Given as goal

@@ -1,5 +1,5 @@
 use Rattle.std.proofs.Common.{◌≡◌, ◌-◌, ◌++◌}
-use Rattle.mm_moves.specs.Standing.{life}
+use Rattle.mm_replay.specs.Standing.{life}
 use Rattle.mm_uses.specs.States.{frame_lines}
 use Rattle.mm_uses.proofs.frames.put_frames.Given as goal
 

@@ -1,6 +1,6 @@
 use Rattle.std.proofs.Common.{◌≡◌, ◌++◌, drop}
-use Rattle.mm_moves.specs.Looking.{frames_on, frame_at}
-use Rattle.mm_moves.specs.Standing.{life}
+use Rattle.mm_replay.specs.Looking.{frames_on, frame_at}
+use Rattle.mm_replay.specs.Standing.{life}
 use Rattle.mm_uses.proofs.lists.frames_on.Given as goal
 
 abbrev pub invariant-loop-n : goal.invariant-loop-n

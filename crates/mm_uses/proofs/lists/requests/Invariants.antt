@@ -1,6 +1,6 @@
 use Rattle.std.proofs.Common.{◌≡◌, ◌++◌, drop}
-use Rattle.mm_moves.specs.Looking.{frame_at}
-use Rattle.mm_moves.specs.Standing.{life}
+use Rattle.mm_replay.specs.Looking.{frame_at}
+use Rattle.mm_replay.specs.Standing.{life}
 use Rattle.mm_uses.proofs.lists.requests.Given as goal
 
 abbrev pub invariant-loop-n : goal.invariant-loop-n

@@ -1,6 +1,6 @@
 use Rattle.std.proofs.Common.{◌≡◌, ◌++◌, drop}
 use Rattle.std.specs.Prelude.{flat_map}
-use Rattle.mm_moves.specs.Standing.{life}
+use Rattle.mm_replay.specs.Standing.{life}
 use Rattle.mm_uses.specs.Uses.{use_row}
 use Rattle.mm_uses.proofs.tables.put_use_rows.Given as goal
 

@@ -19,7 +19,7 @@ returns-clause-decided g c =
       tidy = c.sound-2.ensures.tidy;
       within = c.sound-2.ensures.within;
     })
-    (rw q at d.ensures.ok) (rw q at d.ensures.waits) (λ paging. rw q at (d.ensures.beside paging)) (rw q at d.ensures.marked))
+    (rw q at d.ensures.done).decided (rw q at d.ensures.waits) (λ paging. rw q at (d.ensures.beside paging)) (rw q at d.ensures.done).marked)
 
 pub returns-clause-broke : goal.returns-clause-broke
 returns-clause-broke g c =
@@ -36,7 +36,7 @@ returns-clause-broke g c =
       tidy = c.sound-2.ensures.tidy;
       within = c.sound-2.ensures.within;
     })
-    (rw q at d.ensures.err) (rw q at d.ensures.halted))
+    (rw q at d.ensures.broke).idle (rw q at d.ensures.broke).halted)
 
 pub returns-clause-no_memory : goal.returns-clause-no_memory
 returns-clause-no_memory g c =

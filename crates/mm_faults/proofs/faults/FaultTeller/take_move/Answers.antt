@@ -1,5 +1,5 @@
 use Rattle.std.proofs.Common.{◌∙◌, Some, Option, ap, refl}
-use Rattle.mm_moves.specs.Standing.{life}
+use Rattle.mm_replay.specs.Standing.{life}
 use Rattle.mm_classes.specs.Marking.{marks_of}
 use Rattle.mm_classes.specs.declared.classes.Class.{Class}
 use Rattle.mm_faults.specs.Rest.{tally_of}

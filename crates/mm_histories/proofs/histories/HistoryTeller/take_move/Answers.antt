@@ -1,6 +1,6 @@
 use Rattle.std.proofs.Common.{◌++◌, Option, Some, ap, ◌∙◌}
 use Rattle.mm_classes.specs.Marking.{marks_of}
-use Rattle.mm_moves.specs.Standing.{life}
+use Rattle.mm_replay.specs.Standing.{life}
 use Rattle.mm_tell.specs.declared.classifiers.Classed.{Classed}
 use Rattle.mm_histories.specs.Rest.{waiting_row}
 use Rattle.mm_histories.specs.declared.rows.Noted.{Noted}

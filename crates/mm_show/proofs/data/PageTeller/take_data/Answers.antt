@@ -1,5 +1,5 @@
 use Rattle.std.proofs.Common.{◌++◌, refl, ap, ◌∙◌}
-use Rattle.mm_moves.specs.Standing.{life}
+use Rattle.mm_replay.specs.Standing.{life}
 use Rattle.mm_classes.specs.Data.{mark_before}
 use Rattle.mm_show.specs.Data.{classed_data}
 use Rattle.mm_show.specs.declared.data.PageTeller.{PageTeller}

@@ -1,5 +1,5 @@
 use Rattle.std.proofs.Common.{◌++◌, Option, ap, ◌∙◌}
-use Rattle.mm_moves.specs.Standing.{life}
+use Rattle.mm_replay.specs.Standing.{life}
 use Rattle.mm_classes.specs.Marking.{marks_of}
 use Rattle.mm_tell.specs.Classing.{class_list}
 use Rattle.mm_show.specs.Counted.{of_class}

@@ -1,8 +1,8 @@
-use Rattle.std.proofs.Common.{None, is_some, ◌∙◌, ap, sym, subst, arith}
+use Rattle.std.proofs.Common.{None, ◌∙◌, ap, sym, subst, arith}
 use Rattle.mm_world.specs.Contents.{Tables}
 use Rattle.std.specs.Prelude.{◌==◌}
 use Rattle.mm_pages.specs.Store.{StoreOf}
-use Rattle.mm_world.specs.Find.{process_of, set_process, end_stacks}
+use Rattle.mm_world.specs.Find.{set_process, end_stacks}
 use Rattle.mm_tables.proofs.StackTables.{nobody_beside}
 use Rattle.mm_world.specs.Sections.{settle}
 use Rattle.mm_tables.proofs.EndingFits.{less_then, beside_then, carries_less}

@@ -1,6 +1,6 @@
 use Rattle.std.proofs.Common.{◌++◌, Option, ap, ◌∙◌}
 use Rattle.mm_life.specs.Life.{FrameLife}
-use Rattle.mm_moves.specs.Standing.{life}
+use Rattle.mm_replay.specs.Standing.{life}
 use Rattle.mm_classes.specs.Marking.{marks_of}
 use Rattle.mm_ages.specs.Shown.{ages_of}
 use Rattle.mm_tell.specs.declared.classifiers.Classed.{Classed}

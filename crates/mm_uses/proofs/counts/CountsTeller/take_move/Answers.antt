@@ -1,5 +1,5 @@
 use Rattle.std.proofs.Common.{true, refl}
-use Rattle.mm_moves.specs.Standing.{life}
+use Rattle.mm_replay.specs.Standing.{life}
 use Rattle.mm_uses.proofs.Tellings.{counts_taken}
 use Rattle.mm_uses.proofs.counts.CountsTeller.take_move.Goals as goal
 

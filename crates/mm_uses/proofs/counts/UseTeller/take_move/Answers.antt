@@ -1,4 +1,4 @@
-use Rattle.mm_moves.specs.Standing.{life}
+use Rattle.mm_replay.specs.Standing.{life}
 use Rattle.mm_uses.specs.Uses.{use_text}
 use Rattle.mm_uses.proofs.Tellings.{said_taken}
 use Rattle.mm_uses.proofs.counts.UseTeller.take_move.Goals as goal

@@ -1,4 +1,4 @@
-use Rattle.mm_moves.specs.Standing.{life}
+use Rattle.mm_replay.specs.Standing.{life}
 use Rattle.mm_uses.proofs.Standing.{state_taken}
 use Rattle.mm_uses.proofs.states.StateTeller.take_move.Goals as goal
 

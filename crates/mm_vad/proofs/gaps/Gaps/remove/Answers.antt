@@ -1,19 +1,19 @@
-use Rattle.std.proofs.Common.{◌≡◌, length, ap, sym, ◌∙◌, subst, arith}
+use Rattle.std.proofs.Common.{◌≡◌, sym, subst, arith}
 use Rattle.mm_types.specs.Address.{first_user_page}
 use Rattle.mm_vad.specs.Ranges.{LieApart, remove_range}
-use Rattle.mm_vad.proofs.Apart.{length-apart}
+use Rattle.mm_vad.proofs.Apart.{apart_from_below, length-apart}
 use Rattle.mm_vad.proofs.RangeChanges.{remove_apart}
 use Rattle.mm_vad.proofs.gaps.Gaps.remove.Goals as goal
 
+pub remove-requires-clause-apart : goal.remove-requires-clause-apart
+remove-requires-clause-apart c = apart_from_below 0 first_user_page c.self.inside.tree.ranges (omega arith) c.self.invariant
+
 pub remove-requires-clause-few : goal.remove-requires-clause-few
-remove-requires-clause-few c =
-    let few = length-apart first_user_page c.self.inside.tree.ranges (omega arith) c.self.invariant in
-    let same = ap (λ t. length t.ranges) c.replace-tree.ensures.value in
-    omega (arith, few, same)
+remove-requires-clause-few c = omega (arith, length-apart first_user_page c.self.inside.tree.ranges (omega arith) c.self.invariant)
 
 pub returns-clause-apart : goal.returns-clause-apart
 returns-clause-apart c =
-    let is : c.remove.result.ranges ≡ remove_range c.args.first.0 c.self.inside.tree.ranges = c.remove.ensures.ranges ∙ ap (λ t. remove_range c.args.first.0 t.ranges) c.replace-tree.ensures.value in
+    let is : c.remove.new.self.ranges ≡ remove_range c.args.first.0 c.self.inside.tree.ranges = c.remove.ensures.is in
     subst (LieApart first_user_page) (sym is) (remove_apart first_user_page c.args.first.0 c.self.inside.tree.ranges c.self.invariant)
 
 pub invariant_of-self : goal.invariant_of-self

@@ -27,6 +27,7 @@ returns-else-n-node-clause-found g t c =
     let first : room c.args.low (lowest (n.left.ranges ++ range_in n ∷ n.right.ranges)) < c.args.n = rw (← s.fork.ranges, ← s.span.lowest_is, ← c.room_between-in-Some.ensures) c.if-n-room_between-2.false in
     let small : widest end_of_user_pages (n.left.ranges ++ range_in n ∷ []) < c.args.n = rw (← s.left_gap) c.if-n-node.false in
     c.lowest_gap-else-n-node.ensures.found
+    ∙ ap (λ low. first_fit low n.right.ranges c.args.high c.args.n) c.end.ensures
     ∙ sym (ap (λ rs. first_fit c.args.low rs c.args.high c.args.n) s.fork.ranges
     ∙ fit_right c.args.low n.left.ranges (range_in n) n.right.ranges c.args.high c.args.n c.requires first small)
 
@@ -35,3 +36,6 @@ returns-else-n-node-clause-few g t c =
     let n = c.in-Some.node.now in
     let s = c.in-Some.ensures.node in
     visits_more g.L.Ledger.stepped _ _ _ n.right.height c.args.self.now.height c.in-Some.ensures.counted (omega (arith, s.fork.height)) c.lowest_gap-else-n-node.ensures.few
+
+pub returns-then-n-room_between-2-clause-few : goal.returns-then-n-room_between-2-clause-few
+returns-then-n-room_between-2-clause-few g t c = record { visited = 1; counted = c.in-Some.ensures.counted; few = omega (arith, c.in-Some.ensures.node.fork.height) }

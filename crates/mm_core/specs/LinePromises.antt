@@ -1,0 +1,42 @@
+-- What the lines ask and promise of tables and store together.
+use Rattle.std.specs.Prelude.{◌≡◌, ◌≤◌, ℕ, ◌+◌, true, false}
+use Rattle.mm_types.specs.declared.answers.Answer.{Answer}
+use Rattle.mm_types.specs.declared.answers.Wait.TheVariants as wait
+use Rattle.mm_types.specs.declared.events.Event.{Event}
+use Rattle.mm_script.specs.Printed.{IsWellFormed}
+use Rattle.mm_world.specs.Contents.{Tables}
+use Rattle.mm_pages.specs.declared.pages.Pages.{Ghosts as PagesGhosts}
+use Rattle.mm_core.specs.Built.{is_machine}
+use Rattle.mm_core.specs.Deciding.{LineBegins}
+use Rattle.mm_core.specs.Over.{DecidedOver, HaltedOver, IdleOver, KeepsOver, MarkedOver}
+
+module _ {G : Type 0} (p : PagesGhosts G) where
+  -- the line has the next number, over a store that fits the tables
+  pub record IsNext (line : ℕ) (t : Tables) (g : G) : Type 0 where
+    pub keeps : KeepsOver p t g
+    pub line_is : line ≡ (p.store g).line + 1
+
+  -- it is one that a world decides, among those that a script may have
+  pub record CanDecide (e : Event) (line : ℕ) (t : Tables) (g : G) : Type 0 where
+    pub well_formed : IsWellFormed e
+    pub later : is_machine e ≡ false
+    pub next : IsNext line t g
+    pub few : line ≤ 1000000
+    pub idle : p.unpaged ≡ true → (tid : ℕ) → (p.store g).report.wait tid ≡ wait.None
+
+  -- it has begun: bytes and loans stay
+  pub record StartsLine (line : ℕ) (g h : G) : Type 0 where
+    pub begins : LineBegins line (p.store g) (p.store h)
+    pub contents : p.contents h ≡ p.contents g
+    pub loans : p.loans h ≡ p.loans g
+
+  -- it was decided, and noted
+  pub record AnswersLine (e : Event) (line : ℕ) (t : Tables) (g : G) (a : Answer) (after : Tables)
+      (h : G) : Type 0 where
+    pub decided : DecidedOver p e line t g a after h
+    pub marked : MarkedOver p e line t g a after h
+
+  -- it ran out of memory
+  pub record HaltsLine (line : ℕ) (t : Tables) (g : G) (after : Tables) (h : G) : Type 0 where
+    pub idle : IdleOver p t g after h
+    pub halted : HaltedOver p line g h

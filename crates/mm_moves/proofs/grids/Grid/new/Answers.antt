@@ -1,5 +1,0 @@
-use Rattle.mm_moves.proofs.Leaves.{none_in}
-use Rattle.mm_moves.proofs.grids.Grid.new.Goals as goal
-
-pub returns : goal.returns
-returns g c = λ n. none_in n c.new.result.items c.new.ensures.items

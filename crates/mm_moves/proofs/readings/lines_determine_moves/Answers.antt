@@ -1,5 +1,0 @@
-use Rattle.mm_moves.proofs.Lines.{one_move}
-use Rattle.mm_moves.proofs.readings.lines_determine_moves.Goals as goal
-
-pub returns : goal.returns
-returns c = one_move

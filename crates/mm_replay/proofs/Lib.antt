@@ -1,0 +1,16 @@
+pub mod Numbers
+pub mod ReadAgain
+pub mod Sounds
+pub mod Slotting
+pub mod Outcomes
+pub mod Leaves
+pub mod Pairing
+pub mod NearAndFar
+pub mod Holding
+pub mod Flags
+pub mod Lines
+pub mod Fresh
+pub mod Placing
+pub mod Looked
+pub mod Soundness
+pub mod Flying

@@ -1,0 +1,71 @@
+-- What stands on the lists, for the readers.
+use Rattle.std.proofs.Common.{◌≡◌, ℕ, zero, suc, ◌+◌, ◌<◌, Bool, true, false, List, length, Option, Some, None, ap, subst, arith, length-set}
+use Rattle.std.specs.Prelude.{option_map, slice_get, slice_set}
+use Rattle.std.proofs.lemmas.List.Sums.{count_by-le-length}
+use Rattle.mm_types.specs.declared.frames.Record.{Record}
+use Rattle.mm_life.specs.Frames.{is_idle}
+use Rattle.mm_lists.specs.Lists.{ListsOf, number_at}
+use Rattle.mm_lists.proofs.Standing.{list_within}
+use Rattle.mm_slots.specs.Slots.{free_count}
+use Rattle.mm_slots.proofs.FlagLemmas.{count_changed}
+use Rattle.mm_replay.specs.Listed.{Kept, table_of, record_of}
+use Rattle.mm_replay.specs.Looking.{frames_on, IsBehind}
+use Rattle.mm_replay.specs.Slotted.{AreApartFrom}
+use Rattle.mm_replay.specs.Sound.{frame}
+use Rattle.mm_replay.specs.declared.four_lists.FrameList.{FrameList}
+use Rattle.mm_replay.specs.declared.four_lists.FrameList.TheVariants as list
+use Rattle.mm_replay.proofs.Placing.{belongs_idle}
+
+-- ---- lists
+
+-- a frame on a list is there, and idle
+pub record OnList (records : List Record) (f : ℕ) : Type 0 where
+  pub low : f < length records
+  pub idle : is_idle (record_of records f) ≡ true
+
+pub on_list : (records : List Record) (v : ListsOf) → Kept records v → (j k f : ℕ) → number_at v.lists j k ≡ Some f → OnList records f
+on_list records v s j k f e = record {
+  low = subst (λ (n : ℕ). f < n) s.numbers (s.lists.apart.below j k f e);
+  idle = belongs_idle (record_of records f) j (s.listed j k f e);
+}
+
+module _ (records : List Record) (v : ListsOf) (s : Kept records v) (f : ℕ) (o : Option ℕ)
+    (behind : (j k : ℕ) → number_at v.lists j k ≡ Some f → o ≡ number_at v.lists j (k + 1))
+    (none : ((j k : ℕ) → number_at v.lists j k ≡ Some f → ⊥) → o ≡ None) where
+  next_there : (j : FrameList) (k : ℕ) → slice_get (frames_on (table_of records v) j) k ≡ Some f → o ≡ slice_get (frames_on (table_of records v) j) (k + 1)
+  next_there list.Zeroed k e = behind 0 k e
+  next_there list.Free k e = behind 1 k e
+  next_there list.Standby k e = behind 2 k e
+  next_there list.Modified k e = behind 3 k e
+
+  nowhere : ((j : FrameList) (k : ℕ) → slice_get (frames_on (table_of records v) j) k ≡ Some f → ⊥) → (j k : ℕ) → number_at v.lists j k ≡ Some f → ⊥
+  nowhere h zero k e = h list.Zeroed k e
+  nowhere h (suc zero) k e = h list.Free k e
+  nowhere h (suc (suc zero)) k e = h list.Standby k e
+  nowhere h (suc (suc (suc zero))) k e = h list.Modified k e
+  nowhere h (suc (suc (suc (suc j)))) k e = let low = list_within v.lists (suc (suc (suc (suc j)))) k f e in absurd (omega (arith, low, s.lists.four))
+
+  pub behind_frame : IsBehind (frames_on (table_of records v)) f (option_map frame o)
+  behind_frame = record {
+    behind = λ j k e. ap (λ (x : Option ℕ). option_map frame x) (next_there j k e);
+    none = λ h. ap (λ (x : Option ℕ). option_map frame x) (none (nowhere h));
+  }
+
+-- ---- slots
+
+module _ (free others : List Bool) (lowest : Option ℕ) (s : ℕ) (e : lowest ≡ Some s) (a : AreApartFrom free lowest others) where
+  apart : AreApartFrom free (Some s) others
+  apart = subst (λ (o : Option ℕ). AreApartFrom free o others) e a
+
+  -- the lowest free slot is counted apart
+  pub one_apart : free_count free ≡ free_count others + 1
+  one_apart =
+      let n = count_changed free s true false apart.is_lowest.is_free in
+      let m : free_count others ≡ free_count (slice_set free s false) = ap free_count apart.others_are in
+      omega (arith, n, m)
+
+  pub few_apart : free_count others < length others
+  few_apart =
+      let n = count_by-le-length (λ (b : Bool). b) free in
+      let m : length others ≡ length (slice_set free s false) = ap length apart.others_are in
+      omega (arith, n, m, one_apart, length-set free s false)

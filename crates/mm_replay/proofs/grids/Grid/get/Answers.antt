@@ -1,0 +1,19 @@
+use Rattle.std.proofs.Common.{◌≡◌, true, false, sym, ◌∙◌, arith}
+use Rattle.mm_replay.proofs.Leaves.{place_within, place_in, value_is, none_of}
+use Rattle.mm_replay.proofs.grids.Grid.get.Goals as goal
+
+pub index-requires : goal.index-requires
+index-requires g c = omega (arith, place_within c.args.self.now.leaves.items c.args.n (c.has_place.ensures.0 c.if-has_place.true), c.args.self.now.leaves.ok.0)
+
+pub index-requires-then-has_place : goal.index-requires-then-has_place
+index-requires-then-has_place g c =
+    let place = c.has_place.ensures.0 c.if-has_place.true in
+    omega (arith, place_in c.args.self.now.leaves.items c.args.n c.index.result.now (place_within c.args.self.now.leaves.items c.args.n place) c.index.ensures place, c.index.result.now.ok.0)
+
+pub returns-then-has_place : goal.returns-then-has_place
+returns-then-has_place g c =
+    value_is c.args.self.now.leaves.items c.args.n c.index.result.now c.index-then-has_place.result.now (c.has_place.ensures.0 c.if-has_place.true) c.index.ensures c.index-then-has_place.ensures
+
+pub returns-else-has_place : goal.returns-else-has_place
+returns-else-has_place g c =
+    sym (none_of c.args.self.now.leaves.items c.args.n (λ place. (let bad : false ≡ true = sym c.if-has_place.false ∙ c.has_place.ensures.1 place in cc)))

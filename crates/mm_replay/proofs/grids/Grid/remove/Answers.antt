@@ -1,0 +1,11 @@
+use Rattle.std.proofs.Common.{None, sym, ap, ◌∙◌}
+use Rattle.std.specs.Prelude.{is_some}
+use Rattle.mm_replay.specs.Grids.{in_leaves}
+use Rattle.mm_replay.proofs.Leaves.{place_of_some, set_to_same}
+use Rattle.mm_replay.proofs.grids.Grid.remove.Goals as goal
+
+pub put-requires : goal.put-requires
+put-requires g c = place_of_some c.args.self.now.leaves.items c.args.n (ap is_some (sym c.get.ensures ∙ c.in-Some.is))
+
+pub returns-in-None-clause-removed : goal.returns-in-None-clause-removed
+returns-in-None-clause-removed g c = set_to_same (in_leaves c.args.self.now.leaves.items) c.args.n None (sym c.get.ensures ∙ c.in-None.is)

@@ -1,0 +1,10 @@
+use Rattle.std.proofs.Common.{◌≡◌}
+use Rattle.mm_life.specs.Life.{numbers_from}
+use Rattle.mm_replay.specs.Listed.{AreFour, free_alone}
+use Rattle.mm_replay.proofs.listings.push_all.Given as goal
+
+abbrev pub invariant-loop-f : goal.invariant-loop-f
+invariant-loop-f l = record {
+  pushed : l.lists ≡ record { numbers = l.n; lists = free_alone (numbers_from 0 l.f) };
+  four : AreFour l.lists;
+}

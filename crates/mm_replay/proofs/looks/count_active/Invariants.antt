@@ -1,0 +1,10 @@
+use Rattle.std.proofs.Common.{◌≡◌, ◌≤◌, take}
+use Rattle.std.specs.Prelude.{count_by}
+use Rattle.mm_life.specs.Life.{is_active}
+use Rattle.mm_replay.proofs.looks.count_active.Given as goal
+
+abbrev pub invariant-loop-r : goal.invariant-loop-r
+invariant-loop-r l = record {
+  few : l.count ≤ l.r-index;
+  counted : l.count ≡ count_by is_active (take l.r-index l.records);
+}

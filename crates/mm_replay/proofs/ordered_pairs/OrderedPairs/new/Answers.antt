@@ -1,0 +1,5 @@
+use Rattle.mm_replay.proofs.Pairing.{mapped_none}
+use Rattle.mm_replay.proofs.ordered_pairs.OrderedPairs.new.Goals as goal
+
+pub returns : goal.returns
+returns g c = mapped_none c.new.result c.new.ensures.empty

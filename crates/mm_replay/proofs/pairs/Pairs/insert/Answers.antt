@@ -1,0 +1,35 @@
+use Rattle.std.proofs.Common.{Some}
+use Rattle.mm_replay.specs.Grids.{in_leaves}
+use Rattle.mm_replay.specs.OrderedPairs.{ordered}
+use Rattle.mm_replay.specs.Pairs.{near_part, near_of}
+use Rattle.mm_replay.proofs.Outcomes.{on_ok_then, on_err_then}
+use Rattle.mm_replay.proofs.NearAndFar.{near_sets, near_same, near_written, far_written, near_kept, far_kept}
+use Rattle.mm_replay.proofs.pairs.Pairs.insert.Goals as goal
+
+pub returns-in-Some-clause-ok : goal.returns-in-Some-clause-ok
+returns-in-Some-clause-ok g c =
+    let s = c.args.self.now in
+    let old = in_leaves s.near.leaves.items in
+    let new = in_leaves c.set.new.self.leaves.items in
+    on_ok_then c.set.result
+    (λ sets. near_written c.args.a c.args.b (near_part old) (near_part new) (ordered s.far) c.args.value (near_sets c.args.a c.args.b c.in-Some.n old new (Some c.args.value) c.in-Some.ensures sets))
+    c.set.ensures.ok
+
+pub returns-in-Some-clause-err : goal.returns-in-Some-clause-err
+returns-in-Some-clause-err g c =
+    let s = c.args.self.now in
+    let old = in_leaves s.near.leaves.items in
+    let new = in_leaves c.set.new.self.leaves.items in
+    on_err_then c.set.result (λ same. near_kept (near_part old) (near_part new) (ordered s.far) (near_same old new same)) c.set.ensures.err
+
+pub returns-in-None-clause-ok : goal.returns-in-None-clause-ok
+returns-in-None-clause-ok g c =
+    let s = c.args.self.now in
+    on_ok_then c.insert.result
+    (far_written c.args.a c.args.b (near_of s) (ordered s.far) (ordered c.insert.new.self) (Some c.args.value) c.in-None.ensures)
+    c.insert.ensures.ok
+
+pub returns-in-None-clause-err : goal.returns-in-None-clause-err
+returns-in-None-clause-err g c =
+    let s = c.args.self.now in
+    on_err_then c.insert.result (far_kept (near_of s) (ordered s.far) (ordered c.insert.new.self)) c.insert.ensures.err

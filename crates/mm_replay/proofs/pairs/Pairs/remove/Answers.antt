@@ -1,0 +1,28 @@
+use Rattle.std.proofs.Common.{sym, ap, ◌∙◌}
+use Rattle.mm_replay.specs.Grids.{in_leaves}
+use Rattle.mm_replay.specs.OrderedPairs.{ordered}
+use Rattle.mm_replay.specs.Pairs.{first_of, near_part, near_of}
+use Rattle.mm_replay.proofs.NearAndFar.{chosen, both_removed}
+use Rattle.mm_replay.proofs.pairs.Pairs.remove.Goals as goal
+
+pub returns-in-Some-clause-value : goal.returns-in-Some-clause-value
+returns-in-Some-clause-value g c =
+    let s = c.args.self.now in
+    sym (chosen (near_of s) (ordered s.far) c.args.a c.args.b ∙ ap (λ o. first_of o (ordered s.far c.args.a c.args.b)) (sym c.remove_near.ensures.value ∙ c.in-Some.is))
+
+pub returns-in-Some-clause-removed : goal.returns-in-Some-clause-removed
+returns-in-Some-clause-removed g c =
+    let s = c.args.self.now in
+    both_removed c.args.a c.args.b (near_of s) (near_part (in_leaves c.remove_near.new.near.leaves.items)) (ordered s.far) (ordered c.remove-far.new.self)
+    c.remove_near.ensures.removed c.remove-far.ensures.removed
+
+pub returns-in-None-clause-value : goal.returns-in-None-clause-value
+returns-in-None-clause-value g c =
+    let s = c.args.self.now in
+    c.remove-far.ensures.value ∙ sym (chosen (near_of s) (ordered s.far) c.args.a c.args.b ∙ ap (λ o. first_of o (ordered s.far c.args.a c.args.b)) (sym c.remove_near.ensures.value ∙ c.in-None.is))
+
+pub returns-in-None-clause-removed : goal.returns-in-None-clause-removed
+returns-in-None-clause-removed g c =
+    let s = c.args.self.now in
+    both_removed c.args.a c.args.b (near_of s) (near_part (in_leaves c.remove_near.new.near.leaves.items)) (ordered s.far) (ordered c.remove-far.new.self)
+    c.remove_near.ensures.removed c.remove-far.ensures.removed

@@ -1,0 +1,14 @@
+-- The records and lists that the frame database of a running check shows.
+use Rattle.std.specs.Prelude.{ℕ}
+use Rattle.mm_life.specs.Frames.{FrameTable}
+use Rattle.mm_replay.specs.declared.listings.Listing.{Listing}
+use Rattle.mm_replay.specs.Listed.{table_of, Kept, Off}
+
+abbrev pub table : Listing → FrameTable
+table s = table_of s.records.items s.lists
+
+abbrev pub IsKept : Listing → Type 0
+IsKept s = Kept s.records.items s.lists
+
+abbrev pub IsOff : Listing → ℕ → Type 0
+IsOff s f = Off s.records.items s.lists f

@@ -1,0 +1,360 @@
+ghost use Rattle.std.specs.Prelude.{◌≡◌, ◌^◌, ℕ, List, Option, IfSome, Some, [], option_map};
+ghost use Rattle.mm_types.specs.declared.moves.Move.{Move};
+ghost use Rattle.mm_life.specs.MoveText.{move_text, key_onto, IsMove, IsKey};
+ghost use Rattle.mm_types.specs.declared.numbers.Key.{Key};
+ghost use Rattle.mm_replay.specs.Reading.{strip, number_from, below, read_number, number_behind, read_pid, read_place, read_key, read_private, read_shared, read_frame, read_machine, read_process, read_plain_kind, read_kind, read_at, read_add, read_give, read_read, read_map, read_write, key_behind, place_behind, home_behind, stored_behind, read_end, read_taking, read_text};
+
+use mm_types::{Area, Block, Frame, Key, LineKind, Move, Pid, Place, Slot, Stored, Vpn};
+
+/// What stands after a word, where the text begins with it.
+fn behind<'a>(text: &'a [u8], word: &[u8]) -> Option<&'a [u8]>
+    ensures { option_map (λ x. x.now) result ≡ strip word.now text.now }
+{
+    let mut left = word;
+    let mut rest = text;
+    while let [wanted, others @ ..] = left {
+        match rest {
+            [byte, more @ ..] if *byte == *wanted => {
+                rest = more;
+                left = others;
+            }
+            _ => return None,
+        }
+    }
+    Some(rest)
+}
+
+/// Goes on with a number by the digits in front of a text. The number stays below 2^32.
+#[tactic(auto, using(crate::proofs::Numbers::numbers))]
+fn digits(first: u8, text: &[u8]) -> Option<(u32, &[u8])>
+    ensures { option_map (λ p. (p.0, p.1.now)) result ≡ below (2 ^ 32) (number_from first text.now) }
+{
+    let mut rest = text;
+    let mut sum = u64::from(first);
+    while let [byte, more @ ..] = rest {
+        if *byte < b'0' || *byte > b'9' {
+            break;
+        }
+        sum = 10 * sum + u64::from(*byte - b'0');
+        if sum > 0xFFFF_FFFF {
+            return None;
+        }
+        rest = more;
+    }
+    Some((sum as u32, rest))
+}
+
+/// The number below 2^32 in front of a text, and what stands after it. No zero stands in front of
+/// another digit.
+fn number(text: &[u8]) -> Option<(u32, &[u8])>
+    ensures { option_map (λ p. (p.0, p.1.now)) result ≡ read_number text.now }
+{
+    match text {
+        [byte, rest @ ..] => {
+            if *byte < b'0' || *byte > b'9' {
+                return None;
+            }
+            if *byte > b'0' {
+                return digits(*byte - b'0', rest);
+            }
+            Some((0, rest))
+        }
+        [] => None,
+    }
+}
+
+/// The number after a word.
+fn number_behind<'a>(text: &'a [u8], word: &[u8]) -> Option<(u32, &'a [u8])>
+    ensures { option_map (λ p. (p.0, p.1.now)) result ≡ number_behind word.now text.now }
+{
+    let rest = behind(text, word)?;
+    number(rest)
+}
+
+fn pid(text: &[u8]) -> Option<(Pid, &[u8])>
+    ensures { option_map (λ p. (p.0, p.1.now)) result ≡ read_pid text.now }
+{
+    let (number, rest) = number(text)?;
+    if number < 256 {
+        Some((Pid(number as u8), rest))
+    } else {
+        None
+    }
+}
+
+fn frame(text: &[u8]) -> Option<(Frame, &[u8])>
+    ensures { option_map (λ p. (p.0, p.1.now)) result ≡ read_frame text.now }
+{
+    let (number, rest) = number(text)?;
+    Some((Frame(number), rest))
+}
+
+fn place(text: &[u8]) -> Option<(Place, &[u8])>
+    ensures { option_map (λ p. (p.0, p.1.now)) result ≡ read_place text.now }
+{
+    let (pid, rest) = pid(text)?;
+    let (vpn, last) = number_behind(rest, b".")?;
+    Some((Place { pid, vpn: Vpn(vpn) }, last))
+}
+
+fn private_key(text: &[u8]) -> Option<(Key, &[u8])>
+    ensures { option_map (λ p. (p.0, p.1.now)) result ≡ read_private text.now }
+{
+    let (pid, rest) = pid(text)?;
+    let (vpn, last) = number_behind(rest, b".")?;
+    Some((Key::Private(pid, Vpn(vpn)), last))
+}
+
+fn shared_key(text: &[u8]) -> Option<(Key, &[u8])>
+    ensures { option_map (λ p. (p.0, p.1.now)) result ≡ read_shared text.now }
+{
+    let (area, rest) = number(text)?;
+    let (index, last) = number_behind(rest, b".")?;
+    Some((Key::Shared(Area(area), index), last))
+}
+
+/// The key in front of a text, and what stands after it.
+fn key(text: &[u8]) -> Option<(Key, &[u8])>
+    ensures { option_map (λ p. (p.0, p.1.now)) result ≡ read_key text.now }
+{
+    if let Some(rest) = behind(text, b"p") {
+        return private_key(rest);
+    }
+    let rest = behind(text, b"s")?;
+    shared_key(rest)
+}
+
+fn machine_kind(text: &[u8]) -> Option<(LineKind, &[u8])>
+    ensures { option_map (λ p. (p.0, p.1.now)) result ≡ read_machine text.now }
+{
+    let (frames, rest) = number(text)?;
+    let (slots, rest) = number_behind(rest, b" ")?;
+    let (depth, rest) = number_behind(rest, b" ")?;
+    let (blocks, last) = number_behind(rest, b" ")?;
+    Some((LineKind::Machine(frames, slots, depth, blocks), last))
+}
+
+fn process_kind(text: &[u8]) -> Option<(LineKind, &[u8])>
+    ensures { option_map (λ p. (p.0, p.1.now)) result ≡ read_process text.now }
+{
+    let (pid, rest) = pid(text)?;
+    let (min, rest) = number_behind(rest, b" ")?;
+    let (max, last) = number_behind(rest, b" ")?;
+    Some((LineKind::Process(pid, min, max), last))
+}
+
+/// A kind of line that names no process.
+fn plain_kind(text: &[u8]) -> Option<(LineKind, &[u8])>
+    ensures { option_map (λ p. (p.0, p.1.now)) result ≡ read_plain_kind text.now }
+{
+    if let Some(last) = behind(text, b"call") {
+        return Some((LineKind::Call, last));
+    }
+    if let Some(last) = behind(text, b"writer") {
+        return Some((LineKind::Writer, last));
+    }
+    if let Some(last) = behind(text, b"zeroer") {
+        return Some((LineKind::Zeroer, last));
+    }
+    if let Some(last) = behind(text, b"io") {
+        return Some((LineKind::Io, last));
+    }
+    if let Some(rest) = behind(text, b"machine ") {
+        return machine_kind(rest);
+    }
+    let (count, last) = number_behind(text, b"grow ")?;
+    Some((LineKind::Grow(count), last))
+}
+
+fn kind(text: &[u8]) -> Option<(LineKind, &[u8])>
+    ensures { option_map (λ p. (p.0, p.1.now)) result ≡ read_kind text.now }
+{
+    if let Some(rest) = behind(text, b"access ") {
+        let (pid, last) = pid(rest)?;
+        return Some((LineKind::Access(pid), last));
+    }
+    if let Some(rest) = behind(text, b"thread ") {
+        let (pid, last) = pid(rest)?;
+        return Some((LineKind::Thread(pid), last));
+    }
+    if let Some(rest) = behind(text, b"unbind ") {
+        let (pid, last) = pid(rest)?;
+        return Some((LineKind::Unbind(pid), last));
+    }
+    if let Some(rest) = behind(text, b"trim ") {
+        let (pid, last) = pid(rest)?;
+        return Some((LineKind::Trim(pid), last));
+    }
+    if let Some(rest) = behind(text, b"process ") {
+        return process_kind(rest);
+    }
+    plain_kind(text)
+}
+
+fn at_move(text: &[u8]) -> Option<(Move, &[u8])>
+    ensures { option_map (λ p. (p.0, p.1.now)) result ≡ read_at text.now }
+{
+    let (line, rest) = number(text)?;
+    let rest = behind(rest, b" ")?;
+    let (kind, last) = kind(rest)?;
+    Some((Move::At(line, kind), last))
+}
+
+fn add_move(text: &[u8]) -> Option<(Move, &[u8])>
+    ensures { option_map (λ p. (p.0, p.1.now)) result ≡ read_add text.now }
+{
+    let (key, rest) = key(text)?;
+    if let Some(last) = behind(rest, b" zero") {
+        return Some((Move::Add(key, None), last));
+    }
+    let (block, last) = number_behind(rest, b" block ")?;
+    Some((Move::Add(key, Some(Block(block))), last))
+}
+
+fn key_behind(text: &[u8]) -> Option<(Key, &[u8])>
+    ensures { option_map (λ p. (p.0, p.1.now)) result ≡ key_behind text.now }
+{
+    let rest = behind(text, b" ")?;
+    key(rest)
+}
+
+fn give_move(text: &[u8]) -> Option<(Move, &[u8])>
+    ensures { option_map (λ p. (p.0, p.1.now)) result ≡ read_give text.now }
+{
+    let (frame, rest) = frame(text)?;
+    let (key, last) = key_behind(rest)?;
+    Some((Move::Give(frame, key), last))
+}
+
+fn read_in(text: &[u8]) -> Option<(Move, &[u8])>
+    ensures { option_map (λ p. (p.0, p.1.now)) result ≡ read_read text.now }
+{
+    let (frame, rest) = frame(text)?;
+    let (key, last) = key_behind(rest)?;
+    Some((Move::Read(frame, key), last))
+}
+
+fn map_move(text: &[u8]) -> Option<(Move, &[u8])>
+    ensures { option_map (λ p. (p.0, p.1.now)) result ≡ read_map text.now }
+{
+    let (frame, rest) = frame(text)?;
+    let rest = behind(rest, b" ")?;
+    let (place, last) = place(rest)?;
+    Some((Move::Map(frame, place), last))
+}
+
+fn write_move(text: &[u8]) -> Option<(Move, &[u8])>
+    ensures { option_map (λ p. (p.0, p.1.now)) result ≡ read_write text.now }
+{
+    let (frame, rest) = frame(text)?;
+    if let Some(behind) = behind(rest, b" slot ") {
+        let (slot, last) = number(behind)?;
+        return Some((Move::Write(frame, Stored::Slot(Slot(slot))), last));
+    }
+    let (block, last) = number_behind(rest, b" block ")?;
+    Some((Move::Write(frame, Stored::Block(Block(block))), last))
+}
+
+/// The ends of requests, and `soil`.
+fn end_move(text: &[u8]) -> Option<(Move, &[u8])>
+    ensures { option_map (λ p. (p.0, p.1.now)) result ≡ read_end text.now }
+{
+    if let Some(rest) = behind(text, b"wrote ") {
+        let (frame, last) = frame(rest)?;
+        return Some((Move::Wrote(frame), last));
+    }
+    if let Some(rest) = behind(text, b"got ") {
+        let (frame, last) = frame(rest)?;
+        return Some((Move::Got(frame), last));
+    }
+    if let Some(rest) = behind(text, b"soil ") {
+        let (frame, last) = frame(rest)?;
+        return Some((Move::Soil(frame), last));
+    }
+    if let Some(rest) = behind(text, b"lost ") {
+        let (frame, last) = frame(rest)?;
+        return Some((Move::Lost(frame), last));
+    }
+    let rest = behind(text, b"bad ")?;
+    let (frame, last) = frame(rest)?;
+    Some((Move::Bad(frame), last))
+}
+
+/// The moves by which a frame is found and used.
+fn taking_move(text: &[u8]) -> Option<(Move, &[u8])>
+    ensures { option_map (λ p. (p.0, p.1.now)) result ≡ read_taking text.now }
+{
+    if let Some(rest) = behind(text, b"give ") {
+        return give_move(rest);
+    }
+    if let Some(rest) = behind(text, b"clear ") {
+        let (frame, last) = frame(rest)?;
+        return Some((Move::Clear(frame), last));
+    }
+    if let Some(rest) = behind(text, b"read ") {
+        return read_in(rest);
+    }
+    if let Some(rest) = behind(text, b"steal ") {
+        let (frame, last) = frame(rest)?;
+        return Some((Move::Steal(frame), last));
+    }
+    if let Some(rest) = behind(text, b"write ") {
+        return write_move(rest);
+    }
+    end_move(text)
+}
+
+/// The move in front of a text, and what stands after it.
+fn move_in_front(text: &[u8]) -> Option<(Move, &[u8])>
+    ensures { option_map (λ p. (p.0, p.1.now)) result ≡ read_text text.now }
+{
+    if let Some(rest) = behind(text, b"at ") {
+        return at_move(rest);
+    }
+    if let Some(rest) = behind(text, b"map ") {
+        return map_move(rest);
+    }
+    if let Some(rest) = behind(text, b"unmap ") {
+        let (place, last) = place(rest)?;
+        return Some((Move::Unmap(place), last));
+    }
+    if let Some(rest) = behind(text, b"add ") {
+        return add_move(rest);
+    }
+    if let Some(rest) = behind(text, b"drop ") {
+        let (key, last) = key(rest)?;
+        return Some((Move::Drop(key), last));
+    }
+    taking_move(text)
+}
+
+/// The move that a line is, without its line feed; `None` where it is none. A number has no leading
+/// zeros.
+pub fn read_move(line: &[u8]) -> Option<Move>
+    ensures spelled { IfSome result (λ m. move_text m ≡ line.now) }
+    ensures in_range { IfSome result IsMove }
+    ensures again { (m : Move) → IsMove m → move_text m ≡ line.now → result ≡ Some m }
+{
+    let (m, rest) = move_in_front(line)?;
+    if rest.is_empty() { Some(m) } else { None }
+}
+
+/// The key that a word is; `None` where it is none. A number has no leading zeros.
+pub fn read_key(word: &[u8]) -> Option<Key>
+    ensures spelled { IfSome result (λ k. key_onto k [] ≡ word.now) }
+    ensures in_range { IfSome result IsKey }
+    ensures again { (k : Key) → IsKey k → key_onto k [] ≡ word.now → result ≡ Some k }
+{
+    let (key, rest) = key(word)?;
+    if rest.is_empty() { Some(key) } else { None }
+}
+
+ghost use Rattle.std.specs.Prelude.{◌∷◌};
+ghost use Rattle.mm_life.specs.MoveText.{move_onto};
+
+/// The lines of a log determine its moves: two lines in front of two texts that are equal are the
+/// same move's.
+pub fn lines_determine_moves()
+    ensures { (m n : Move) (a b : List ℕ) → IsMove m → IsMove n →
+        move_onto m (10 ∷ a) ≡ move_onto n (10 ∷ b) → (m ≡ n) × (a ≡ b) }
+{}

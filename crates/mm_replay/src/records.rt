@@ -1,0 +1,237 @@
+ghost use Rattle.std.specs.Prelude.{◌≡◌, ◌+◌, ◌-◌, ◌<◌, ◌^◌, true, false, is_some};
+ghost use Rattle.mm_life.specs.Frames.{blank, given, being_read, shared, unshared, being_written, read_done, disowned, soiled, write_done, write_lost, is_again, has_request, is_read, is_write, without_slot, slot_of, slot_after_soil, slot_after_drop, slot_after_read, slot_after_wrote, is_idle};
+ghost use Rattle.mm_replay.specs.Listed.{is_changed_page};
+
+use mm_types::{Backing, Key, Record, Request};
+
+/// The record of a frame that holds nothing.
+pub(crate) fn blank() -> Record
+    ensures { result ≡ blank }
+{
+    Record {
+        owner: None,
+        changed: false,
+        backing: Backing::None,
+        shares: 0,
+        request: Request::None,
+    }
+}
+
+pub(crate) fn has_request(request: Request) -> bool
+    ensures { result ≡ has_request request }
+{
+    match request {
+        Request::None => false,
+        Request::Read | Request::Write | Request::WriteAgain => true,
+    }
+}
+
+pub(crate) fn is_read(request: Request) -> bool
+    ensures { result ≡ is_read request }
+{
+    match request {
+        Request::Read => true,
+        Request::None | Request::Write | Request::WriteAgain => false,
+    }
+}
+
+pub(crate) fn is_write(request: Request) -> bool
+    ensures { result ≡ is_write request }
+{
+    match request {
+        Request::Write | Request::WriteAgain => true,
+        Request::None | Request::Read => false,
+    }
+}
+
+pub(crate) fn is_again(request: Request) -> bool
+    ensures { result ≡ is_again request }
+{
+    match request {
+        Request::WriteAgain => true,
+        Request::None | Request::Read | Request::Write => false,
+    }
+}
+
+fn without_slot(backing: Backing) -> Backing
+    ensures { result ≡ without_slot backing }
+{
+    match backing {
+        Backing::None | Backing::Slot(_) => Backing::None,
+        Backing::Block(block) => Backing::Block(block),
+    }
+}
+
+pub(crate) fn slot_of(backing: Backing) -> Option<u32>
+    ensures { result ≡ slot_of backing }
+{
+    match backing {
+        Backing::None | Backing::Block(_) => None,
+        Backing::Slot(slot) => Some(slot.0),
+    }
+}
+
+// ---- one record
+
+pub(crate) fn given(key: Key) -> Record
+    ensures { result ≡ given key }
+{
+    Record {
+        owner: Some(key),
+        changed: true,
+        backing: Backing::None,
+        shares: 0,
+        request: Request::None,
+    }
+}
+
+pub(crate) fn being_read(key: Key, home: Backing) -> Record
+    ensures { result ≡ being_read key home }
+{
+    Record {
+        owner: Some(key),
+        changed: false,
+        backing: home,
+        shares: 0,
+        request: Request::Read,
+    }
+}
+
+pub(crate) fn soiled(r: Record) -> Record
+    ensures { result ≡ soiled r }
+{
+    if has_request(r.request) {
+        Record {
+            request: Request::WriteAgain,
+            ..r
+        }
+    } else {
+        Record {
+            changed: true,
+            backing: without_slot(r.backing),
+            ..r
+        }
+    }
+}
+
+pub(crate) fn write_done(r: Record) -> Record
+    ensures { result ≡ write_done r }
+{
+    if is_again(r.request) {
+        Record {
+            request: Request::None,
+            backing: without_slot(r.backing),
+            ..r
+        }
+    } else {
+        Record {
+            request: Request::None,
+            changed: false,
+            ..r
+        }
+    }
+}
+
+pub(crate) fn write_lost(r: Record) -> Record
+    ensures { result ≡ write_lost r }
+{
+    Record {
+        request: Request::None,
+        backing: without_slot(r.backing),
+        ..r
+    }
+}
+
+pub(crate) fn is_idle(r: &Record) -> bool
+    ensures { result ≡ is_idle r.now }
+{
+    r.shares == 0 && !has_request(r.request)
+}
+
+/// Whether this is an idle frame of a changed page.
+pub(crate) fn is_changed_page(r: &Record) -> bool
+    ensures { result ≡ is_changed_page r.now }
+{
+    r.owner.is_some() && is_idle(r) && r.changed
+}
+
+/// A page that is valid at one place more. Its frame has fewer than 2^32 - 1 shares.
+pub(crate) fn shared(r: Record) -> Record
+    requires { r.shares + 1 < 2 ^ 32 }
+    ensures now { result ≡ shared r }
+    ensures busy { is_idle result ≡ false }
+    ensures owned { result.owner ≡ r.owner }
+{
+    Record {
+        shares: r.shares + 1,
+        ..r
+    }
+}
+
+/// A page that is valid at one place fewer.
+pub(crate) fn unshared(r: Record) -> Record
+    ensures { result ≡ unshared r }
+{
+    Record {
+        shares: r.shares.saturating_sub(1),
+        ..r
+    }
+}
+
+pub(crate) fn being_written(r: Record, home: Backing) -> Record
+    ensures { result ≡ being_written home r }
+{
+    Record {
+        backing: home,
+        request: Request::Write,
+        ..r
+    }
+}
+
+pub(crate) fn read_done(r: Record) -> Record
+    ensures { result ≡ read_done r }
+{
+    Record {
+        request: Request::None,
+        ..r
+    }
+}
+
+pub(crate) fn disowned(r: Record) -> Record
+    ensures { result ≡ disowned r }
+{
+    Record { owner: None, ..r }
+}
+
+// ---- the slots that are given back
+
+pub(crate) fn slot_after_soil(r: &Record) -> Option<u32>
+    ensures soil { result ≡ slot_after_soil r.now }
+    ensures drop { result ≡ slot_after_drop r.now }
+{
+    if has_request(r.request) {
+        None
+    } else {
+        slot_of(r.backing)
+    }
+}
+
+pub(crate) fn slot_after_read(r: &Record) -> Option<u32>
+    ensures { result ≡ slot_after_read r.now }
+{
+    if r.owner.is_some() {
+        None
+    } else {
+        slot_of(r.backing)
+    }
+}
+
+pub(crate) fn slot_after_wrote(r: &Record) -> Option<u32>
+    ensures { result ≡ slot_after_wrote r.now }
+{
+    if r.owner.is_some() && !is_again(r.request) {
+        None
+    } else {
+        slot_of(r.backing)
+    }
+}

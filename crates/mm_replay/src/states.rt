@@ -1,0 +1,514 @@
+ghost use Rattle.std.specs.Prelude.{◌≡◌, ◌+◌, ◌-◌, ◌<◌, ◌≤◌, ◌↔◌, true, false, IsTrue, OnOk, OnErr, IfSome, Some, None, Err, length};
+ghost use Rattle.mm_types.specs.Machine.{MachineOf, IsMachine};
+ghost use Rattle.mm_types.specs.declared.moves.Move.TheVariants as move;
+ghost use Rattle.mm_types.specs.declared.moves.LineKind.TheVariants as kind;
+ghost use Rattle.mm_life.specs.Life.{unstarted, set_in, with_resident, is_dead};
+ghost use Rattle.mm_life.specs.Legal.{is_legal, IsLegal, is_below_max};
+ghost use Rattle.mm_life.specs.Effect.{after_move, after_at, after_add, unlisted, home_at, backing_of, homed};
+ghost use Rattle.mm_life.specs.Located.{held_at};
+ghost use Rattle.mm_replay.specs.Sound.{Listed, Sound};
+
+use crate::free_slots::SlotMap;
+use crate::holdings::{BlockSet, Keys, Places};
+use crate::in_flight::InFlight;
+use crate::records::{is_read, slot_after_read, slot_after_soil, slot_after_wrote, slot_of};
+use crate::tables::Table;
+use mm_life::ResidentSet;
+use mm_types::{Backing, Block, Frame, Held, Key, LineKind, Move, NoMemory, Pid, Place, Stored};
+use std::alloc::Global;
+
+/// The state of a replay.
+#[derive(Drop)]
+pub(crate) struct State {
+    alloc: Global,
+    pub(crate) frames: u32,
+    pub(crate) slots: u32,
+    pub(crate) depth: u32,
+    pub(crate) blocks: u32,
+    pub(crate) line: u32,
+    pub(crate) kind: LineKind,
+    pub(crate) sets: Vec<ResidentSet>,
+    pub(crate) table: Table,
+    pub(crate) free_slots: SlotMap,
+    pub(crate) keys: Keys,
+    pub(crate) paging_keys: u64,
+    pub(crate) added: BlockSet,
+    pub(crate) places: Places,
+    pub(crate) flight: InFlight,
+    ghost sized: { length added ≡ blocks },
+    ghost slotted: { length free_slots ≡ slots },
+    ghost requested: { flight.frames ≡ frames },
+}
+
+impl State {
+    ghost use Rattle.mm_replay.specs.Replaying.{life};
+
+    /// The state before the first move: only `at 1 machine` is legal.
+    pub(crate) fn new(alloc: Global) -> State
+        ensures { life result ≡ unstarted }
+    {
+        State {
+            alloc,
+            frames: 0,
+            slots: 0,
+            depth: 0,
+            blocks: 0,
+            line: 0,
+            kind: LineKind::Call,
+            sets: Vec::new(alloc),
+            table: Table::empty(alloc),
+            free_slots: SlotMap::none(alloc),
+            keys: Keys::new(alloc),
+            paging_keys: 0,
+            added: BlockSet::none(alloc),
+            places: Places::new(alloc),
+            flight: InFlight::none(alloc),
+        }
+    }
+
+    /// Where the bytes of a key stand.
+    pub(crate) fn held(&self, key: Key) -> Held
+        ensures { result ≡ held_at (life self.now) key }
+    {
+        match self.keys.held(key) {
+            Held::Frame(frame) => {
+                let r = self.table.record(frame.0);
+                if is_read(r.request) {
+                    home_of(r.backing)
+                } else {
+                    Held::Frame(frame)
+                }
+            }
+            Held::Slot(slot) => Held::Slot(slot),
+            Held::Block(block) => Held::Block(block),
+            Held::Zero => Held::Zero,
+            Held::Dead => Held::Dead,
+        }
+    }
+
+    /// Makes a legal move.
+    #[inline(always)]
+    pub(crate) fn make(&mut self, m: &Move) -> Result<(), NoMemory>
+        requires legal { IsLegal m.now (life self.old) }
+        requires sound { Sound (life self.old) }
+        requires listed { Listed self.old.table }
+        ensures ok { OnOk result (life self.new ≡ after_move (life self.old) m.now) }
+        ensures err { OnErr result (life self.new ≡ life self.old) }
+    {
+        match *m {
+            Move::At(line, kind) => self.at(line, kind),
+            Move::Add(key, block) => self.add(key, block),
+            Move::Drop(key) => {
+                self.drop_key(key);
+                Ok(())
+            }
+            Move::Clear(frame) => {
+                self.clear(frame);
+                Ok(())
+            }
+            Move::Steal(frame) => {
+                self.steal(frame);
+                Ok(())
+            }
+            Move::Give(frame, key) => {
+                self.give(frame, key);
+                Ok(())
+            }
+            Move::Read(frame, key) => {
+                self.read(frame, key);
+                Ok(())
+            }
+            Move::Got(frame) => {
+                self.got(frame);
+                Ok(())
+            }
+            Move::Bad(frame) => {
+                self.bad(frame);
+                Ok(())
+            }
+            Move::Map(frame, place) => self.map(frame, place),
+            Move::Unmap(place) => {
+                self.unmap(place);
+                Ok(())
+            }
+            Move::Soil(frame) => {
+                self.soil(frame);
+                Ok(())
+            }
+            Move::Write(frame, stored) => {
+                self.write(frame, stored);
+                Ok(())
+            }
+            Move::Wrote(frame) => {
+                self.wrote(frame);
+                Ok(())
+            }
+            Move::Lost(frame) => {
+                self.lost(frame);
+                Ok(())
+            }
+        }
+    }
+
+    // ---- `at`
+
+    #[tactic(auto, using(crate::proofs::Flags::flags))]
+    fn at_machine(
+        &mut self,
+        line: u32,
+        frames: u32,
+        slots: u32,
+        depth: u32,
+        blocks: u32,
+    ) -> Result<(), NoMemory>
+        ensures ok { OnOk result (life self.new ≡
+            after_at (life self.old) line (kind.Machine frames slots depth blocks)) }
+        ensures err { OnErr result (life self.new ≡ life self.old) }
+    {
+        let alloc = self.alloc;
+        let table = Table::new(alloc, frames)?;
+        let free_slots = SlotMap::new(alloc, slots)?;
+        let added = BlockSet::new(alloc, blocks)?;
+        let flight = InFlight::new(alloc, frames)?;
+        self.frames = frames;
+        self.slots = slots;
+        self.depth = depth;
+        self.blocks = blocks;
+        self.line = line;
+        self.kind = LineKind::Machine(frames, slots, depth, blocks);
+        self.sets.clear();
+        self.table = table;
+        self.free_slots = free_slots;
+        self.keys = Keys::new(alloc);
+        self.paging_keys = 0;
+        self.added = added;
+        self.places = Places::new(alloc);
+        self.flight = flight;
+        Ok(())
+    }
+
+    fn at_process(&mut self, line: u32, pid: Pid, min: u32, max: u32) -> Result<(), NoMemory>
+        ensures ok { OnOk result (life self.new ≡
+            after_at (life self.old) line (kind.Process pid min max)) }
+        ensures err { OnErr result (life self.new ≡ life self.old) }
+    {
+        self.sets.push(ResidentSet {
+            min,
+            max,
+            resident: 0,
+        })?;
+        self.line = line;
+        self.kind = LineKind::Process(pid, min, max);
+        Ok(())
+    }
+
+    fn at_grow(&mut self, line: u32, count: u32) -> Result<(), NoMemory>
+        requires { self.old.slots + count ≤ 262144 }
+        ensures ok { OnOk result (life self.new ≡ after_at (life self.old) line (kind.Grow count)) }
+        ensures err { OnErr result (life self.new ≡ life self.old) }
+    {
+        self.free_slots.grow(self.alloc, count)?;
+        self.slots += count;
+        self.line = line;
+        self.kind = LineKind::Grow(count);
+        Ok(())
+    }
+
+    fn at(&mut self, line: u32, kind: LineKind) -> Result<(), NoMemory>
+        requires { IsLegal (move.At line kind) (life self.old) }
+        ensures ok { OnOk result (life self.new ≡ after_at (life self.old) line kind) }
+        ensures err { OnErr result (life self.new ≡ life self.old) }
+    {
+        match kind {
+            LineKind::Machine(frames, slots, depth, blocks) => self.at_machine(
+                line, frames, slots, depth, blocks,
+            ),
+            LineKind::Process(pid, min, max) => self.at_process(line, pid, min, max),
+            LineKind::Grow(count) => self.at_grow(line, count),
+            LineKind::Unbind(_)
+            | LineKind::Access(_)
+            | LineKind::Thread(_)
+            | LineKind::Trim(_)
+            | LineKind::Writer
+            | LineKind::Zeroer
+            | LineKind::Io
+            | LineKind::Call => {
+                self.line = line;
+                self.kind = kind;
+                Ok(())
+            }
+        }
+    }
+
+    // ---- keys
+
+    fn add_zero(&mut self, key: Key) -> Result<(), NoMemory>
+        requires { IsLegal (move.Add key None) (life self.old) }
+        ensures ok { OnOk result (life self.new ≡ after_add (life self.old) key None) }
+        ensures err { OnErr result (life self.new ≡ life self.old) }
+    {
+        self.keys.add(key, Held::Zero, true)?;
+        self.paging_keys += 1;
+        Ok(())
+    }
+
+    #[tactic(auto, using(crate::proofs::Flags::flags))]
+    fn add_block(&mut self, key: Key, block: Block) -> Result<(), NoMemory>
+        requires { block.0 < self.old.blocks }
+        ensures ok { OnOk result (life self.new ≡ after_add (life self.old) key (Some block)) }
+        ensures err { OnErr result (life self.new ≡ life self.old) }
+    {
+        self.keys.place(key, Held::Block(block))?;
+        self.added.add(block.0);
+        Ok(())
+    }
+
+    fn add(&mut self, key: Key, block: Option<Block>) -> Result<(), NoMemory>
+        requires { IsLegal (move.Add key block) (life self.old) }
+        ensures ok { OnOk result (life self.new ≡ after_add (life self.old) key block) }
+        ensures err { OnErr result (life self.new ≡ life self.old) }
+    {
+        match block {
+            None => self.add_zero(key),
+            Some(block) => self.add_block(key, block),
+        }
+    }
+
+    /// A key is not live from now on.
+    fn unlist(&mut self, key: Key)
+        ensures { life self.new ≡ unlisted (life self.old) key }
+    {
+        self.keys.remove(key);
+        self.paging_keys = self.paging_keys.saturating_sub(1);
+    }
+
+    fn drop_key(&mut self, key: Key)
+        requires legal { IsLegal (move.Drop key) (life self.old) }
+        requires sound { Sound (life self.old) }
+        ensures { life self.new ≡ after_move (life self.old) (move.Drop key) }
+    {
+        match self.keys.held(key) {
+            Held::Frame(frame) => {
+                let r = self.table.record(frame.0);
+                let slot = slot_after_soil(&r);
+                self.table.drop_page(frame.0);
+                self.free_slots.give(slot);
+                self.unlist(key);
+            }
+            Held::Slot(slot) => {
+                self.free_slots.give(Some(slot.0));
+                self.unlist(key);
+            }
+            Held::Block(_) | Held::Zero | Held::Dead => self.unlist(key),
+        }
+    }
+
+    // ---- frames that are found
+
+    fn clear(&mut self, frame: Frame)
+        requires { IsLegal (move.Clear frame) (life self.old) }
+        ensures { life self.new ≡ after_move (life self.old) (move.Clear frame) }
+    {
+        self.table.clear(frame.0);
+    }
+
+    /// The owner, if any, has the backing as home from now on.
+    fn send_home(&mut self, owner: Option<Key>, home: Backing)
+        requires { IfSome owner (λ k. is_dead ((life self.old).stands k) ≡ false) }
+        ensures { life self.new ≡ record (life self.old) {
+          stands = homed (life self.old) owner home;
+        } }
+    {
+        match owner {
+            Some(key) => self.keys.move_to(key, home_of(home)),
+            None => {}
+        }
+    }
+
+    fn steal(&mut self, frame: Frame)
+        requires legal { IsLegal (move.Steal frame) (life self.old) }
+        requires sound { Sound (life self.old) }
+        ensures { life self.new ≡ after_move (life self.old) (move.Steal frame) }
+    {
+        let r = self.table.record(frame.0);
+        self.table.steal(frame.0);
+        self.send_home(r.owner, r.backing);
+    }
+
+    fn give(&mut self, frame: Frame, key: Key)
+        requires { IsLegal (move.Give frame key) (life self.old) }
+        ensures { life self.new ≡ after_move (life self.old) (move.Give frame key) }
+    {
+        self.table.give(frame.0, key);
+        self.keys.move_to(key, Held::Frame(frame));
+    }
+
+    fn read(&mut self, frame: Frame, key: Key)
+        requires legal { IsLegal (move.Read frame key) (life self.old) }
+        requires sound { Sound (life self.old) }
+        requires listed { Listed self.old.table }
+        ensures { life self.new ≡ after_move (life self.old) (move.Read frame key) }
+    {
+        let home = backing_of(self.keys.held(key));
+        self.flight.begin(frame.0);
+        self.table.read(frame.0, key, home);
+        self.keys.move_to(key, Held::Frame(frame));
+    }
+
+    // ---- the ends of requests
+
+    fn got(&mut self, frame: Frame)
+        requires { IsLegal (move.Got frame) (life self.old) }
+        ensures { life self.new ≡ after_move (life self.old) (move.Got frame) }
+    {
+        let slot = slot_after_read(&self.table.record(frame.0));
+        self.table.got(frame.0);
+        self.free_slots.give(slot);
+        self.flight.end(frame.0);
+    }
+
+    fn bad(&mut self, frame: Frame)
+        requires legal { IsLegal (move.Bad frame) (life self.old) }
+        requires sound { Sound (life self.old) }
+        ensures { life self.new ≡ after_move (life self.old) (move.Bad frame) }
+    {
+        let r = self.table.record(frame.0);
+        self.table.bad(frame.0);
+        self.free_slots.give(slot_after_read(&r));
+        self.flight.end(frame.0);
+        self.send_home(r.owner, r.backing);
+    }
+
+    fn wrote(&mut self, frame: Frame)
+        requires { IsLegal (move.Wrote frame) (life self.old) }
+        ensures { life self.new ≡ after_move (life self.old) (move.Wrote frame) }
+    {
+        let slot = slot_after_wrote(&self.table.record(frame.0));
+        self.table.wrote(frame.0);
+        self.free_slots.give(slot);
+        self.flight.end(frame.0);
+    }
+
+    fn lost(&mut self, frame: Frame)
+        requires { IsLegal (move.Lost frame) (life self.old) }
+        ensures { life self.new ≡ after_move (life self.old) (move.Lost frame) }
+    {
+        let slot = slot_of(self.table.record(frame.0).backing);
+        self.table.lost(frame.0);
+        self.free_slots.give(slot);
+        self.flight.end(frame.0);
+    }
+
+    // ---- places
+
+    fn map(&mut self, frame: Frame, place: Place) -> Result<(), NoMemory>
+        requires { IsLegal (move.Map frame place) (life self.old) }
+        ensures ok { OnOk result (life self.new ≡ after_move (life self.old) (move.Map frame place)) }
+        ensures err { OnErr result (life self.new ≡ life self.old) }
+    {
+        if self.table.record(frame.0).shares == u32::MAX {
+            return Err(NoMemory);
+        }
+        self.places.add(place, frame)?;
+        self.table.map(frame.0);
+        add_resident(&mut self.sets, place.pid);
+        Ok(())
+    }
+
+    fn unmap(&mut self, place: Place)
+        requires { Sound (life self.old) }
+        ensures { life self.new ≡ after_move (life self.old) (move.Unmap place) }
+    {
+        match self.places.remove(place) {
+            Some(frame) => {
+                self.table.unmap(frame.0);
+                remove_resident(&mut self.sets, place.pid);
+            }
+            None => {}
+        }
+    }
+
+    // ---- changed pages
+
+    fn soil(&mut self, frame: Frame)
+        requires { IsLegal (move.Soil frame) (life self.old) }
+        ensures { life self.new ≡ after_move (life self.old) (move.Soil frame) }
+    {
+        let slot = slot_after_soil(&self.table.record(frame.0));
+        self.table.soil(frame.0);
+        self.free_slots.give(slot);
+    }
+
+    fn write(&mut self, frame: Frame, stored: Stored)
+        requires legal { IsLegal (move.Write frame stored) (life self.old) }
+        requires sound { Sound (life self.old) }
+        requires listed { Listed self.old.table }
+        ensures { life self.new ≡ after_move (life self.old) (move.Write frame stored) }
+    {
+        self.flight.begin(frame.0);
+        match stored {
+            Stored::Slot(slot) => {
+                self.table.write(frame.0, Backing::Slot(slot));
+                self.free_slots.take(slot.0);
+            }
+            Stored::Block(block) => self.table.write(frame.0, Backing::Block(block)),
+        }
+    }
+}
+
+/// The backing that a home is.
+fn backing_of(held: Held) -> Backing
+    ensures { result ≡ backing_of held }
+{
+    match held {
+        Held::Slot(slot) => Backing::Slot(slot),
+        Held::Block(block) => Backing::Block(block),
+        Held::Frame(_) | Held::Zero | Held::Dead => Backing::None,
+    }
+}
+
+/// A pid has one valid place more.
+fn add_resident(sets: &mut [ResidentSet], pid: Pid)
+    requires { is_below_max (set_in sets.old pid.0) ≡ true }
+    ensures { sets.new ≡ with_resident sets.old pid.0 (λ n. n + 1) }
+{
+    if pid.0 == 0 {
+        return;
+    }
+    let at = usize::from(pid.0 - 1);
+    if at < sets.len() {
+        let set = sets[at];
+        sets[at] = ResidentSet {
+            resident: set.resident + 1,
+            ..set
+        };
+    }
+}
+
+/// A pid has one valid place fewer.
+fn remove_resident(sets: &mut [ResidentSet], pid: Pid)
+    ensures { sets.new ≡ with_resident sets.old pid.0 (λ n. n - 1) }
+{
+    if pid.0 == 0 {
+        return;
+    }
+    let at = usize::from(pid.0 - 1);
+    if at < sets.len() {
+        let set = sets[at];
+        sets[at] = ResidentSet {
+            resident: set.resident.saturating_sub(1),
+            ..set
+        };
+    }
+}
+
+/// The home that a backing is.
+fn home_of(backing: Backing) -> Held
+    ensures { result ≡ home_at backing }
+{
+    match backing {
+        Backing::None => Held::Zero,
+        Backing::Slot(slot) => Held::Slot(slot),
+        Backing::Block(block) => Held::Block(block),
+    }
+}

@@ -1,0 +1,310 @@
+ghost use Rattle.std.specs.Prelude.{◌≡◌, ◌+◌, ◌<◌, ◌≤◌, ◌^◌, ◌&&◌, ◌||◌, true, false, is_some, length, IfOk, slice_get};
+ghost use Rattle.mm_replay.specs.Looking.{frames_on, IsBehind};
+ghost use Rattle.mm_life.specs.Frames.{record_at, is_first, is_empty, is_on, is_read, is_write, has_request, taken_for_read, after_clear, after_steal, after_give, after_read, after_got, after_bad, after_map, after_unmap, after_soil, after_write, after_wrote, after_lost, after_drop};
+ghost use Rattle.mm_life.specs.Life.{free_table};
+ghost use Rattle.mm_replay.specs.Sound.{Listed};
+
+use crate::four_lists::{FREE, FrameList, MODIFIED, STANDBY, ZEROED};
+use crate::listings::Listing;
+use crate::records::{
+    being_read, being_written, disowned, given, has_request, read_done, shared, soiled, unshared,
+    write_done, write_lost,
+};
+use mm_types::{Backing, Frame, Key, NoMemory, Record};
+use std::alloc::Global;
+use std::marker::Model;
+
+/// The frame database: a record for each frame, and the four lists. Each call takes constant time,
+/// and none but `new` takes memory.
+#[derive(Drop)]
+pub(crate) struct Table {
+    listing: Listing,
+}
+
+impl Model for Table {
+    ghost use Rattle.mm_life.specs.Frames.{FrameTable};
+    ghost use Rattle.mm_replay.specs.Listings.{table, IsKept};
+
+    ghost Value = { FrameTable };
+
+    ghost view = { λ t. table t.listing };
+
+    ghost invariant = { λ t. IsKept t.listing };
+}
+
+#[tactic(auto, using(crate::proofs::Placing::placing))]
+impl Table {
+    /// A table of no frame.
+    pub(crate) fn empty(alloc: Global) -> Table
+        ensures { result ≡ free_table 0 }
+    {
+        Table {
+            listing: Listing::none(alloc),
+        }
+    }
+
+    /// All frames are free, in rising order.
+    pub(crate) fn new(alloc: Global, frames: u32) -> Result<Table, NoMemory>
+        ensures { IfOk result (λ t. t ≡ free_table frames) }
+    {
+        let listing = Listing::new(alloc, frames)?;
+        Ok(Table { listing })
+    }
+
+    /// The record of a frame; that of a frame that holds nothing, where there is no such frame.
+    pub(crate) fn record(&self, f: u32) -> Record
+        ensures { result ≡ record_at self.now f }
+    {
+        self.listing.record(f)
+    }
+
+    /// The record of each frame.
+    pub(crate) fn records(&self) -> &[Record]
+        ensures { result.now ≡ self.now.records }
+    {
+        self.listing.records()
+    }
+
+    /// How many frames are on a list.
+    pub(crate) fn len(&self, list: FrameList) -> u32
+        ensures { result ≡ length (frames_on self.now list) }
+    {
+        match list {
+            FrameList::Zeroed => self.listing.len(ZEROED),
+            FrameList::Free => self.listing.len(FREE),
+            FrameList::Standby => self.listing.len(STANDBY),
+            FrameList::Modified => self.listing.len(MODIFIED),
+        }
+    }
+
+    /// The first frame of a list, if any.
+    pub(crate) fn first(&self, list: FrameList) -> Option<u32>
+        ensures { result ≡ slice_get (frames_on self.now list) 0 }
+    {
+        match list {
+            FrameList::Zeroed => self.listing.first(ZEROED),
+            FrameList::Free => self.listing.first(FREE),
+            FrameList::Standby => self.listing.first(STANDBY),
+            FrameList::Modified => self.listing.first(MODIFIED),
+        }
+    }
+
+    /// The frame after `f` on its list, if `f` is on one and is not the last.
+    pub(crate) fn next(&self, f: u32) -> Option<Frame>
+        ensures { IsBehind (frames_on self.now) f result }
+    {
+        match self.listing.next(f) {
+            Some(next) => Some(Frame(next)),
+            None => None,
+        }
+    }
+
+    pub(crate) fn is_zeroed_empty(&self) -> bool
+        ensures { result ≡ is_empty self.now.zeroed }
+    {
+        self.listing.first(ZEROED).is_none()
+    }
+
+    pub(crate) fn is_free_empty(&self) -> bool
+        ensures { result ≡ is_empty self.now.free }
+    {
+        self.listing.first(FREE).is_none()
+    }
+
+    pub(crate) fn is_standby_empty(&self) -> bool
+        ensures { result ≡ is_empty self.now.standby }
+    {
+        self.listing.first(STANDBY).is_none()
+    }
+
+    pub(crate) fn is_first_zeroed(&self, f: u32) -> bool
+        ensures { result ≡ is_first f self.now.zeroed }
+    {
+        self.listing.first(ZEROED) == Some(f)
+    }
+
+    pub(crate) fn is_first_free(&self, f: u32) -> bool
+        ensures { result ≡ is_first f self.now.free }
+    {
+        self.listing.first(FREE) == Some(f)
+    }
+
+    pub(crate) fn is_first_standby(&self, f: u32) -> bool
+        ensures { result ≡ is_first f self.now.standby }
+    {
+        self.listing.first(STANDBY) == Some(f)
+    }
+
+    /// Whether a frame is on the modified list.
+    pub(crate) fn is_modified(&self, f: u32) -> bool
+        ensures { result ≡ is_on f self.now.modified }
+    {
+        self.listing.is_modified(f)
+    }
+
+    /// What the lists say of the records. It does nothing.
+    pub(crate) fn keeps_lists(&self)
+        ensures { Listed self.now }
+    {
+        let _listing = &self.listing;
+    }
+
+    /// The first free frame is zeroed.
+    pub(crate) fn clear(&mut self, f: u32)
+        requires { is_first f self.old.free ≡ true }
+        ensures { self.new ≡ after_clear self.old f }
+    {
+        self.listing.take_first(FREE, f);
+        self.listing.put(ZEROED, f);
+    }
+
+    /// The first standby frame becomes free.
+    pub(crate) fn steal(&mut self, f: u32)
+        requires { is_first f self.old.standby ≡ true }
+        ensures { self.new ≡ after_steal self.old f }
+    {
+        self.listing.take_first(STANDBY, f);
+        self.listing.free(f);
+    }
+
+    /// The first zeroed frame is given to a page.
+    pub(crate) fn give(&mut self, f: u32, key: Key)
+        requires { is_first f self.old.zeroed ≡ true }
+        ensures { self.new ≡ after_give self.old f key }
+    {
+        self.listing.take_first(ZEROED, f);
+        self.listing.set(f, given(key));
+        self.listing.put(MODIFIED, f);
+    }
+
+    /// A read into the first free frame begins, or where none is free into the first zeroed one.
+    pub(crate) fn read(&mut self, f: u32, key: Key, home: Backing)
+        requires { (is_first f self.old.free ||
+            (is_empty self.old.free && is_first f self.old.zeroed)) ≡ true }
+        ensures { self.new ≡ after_read self.old f key home }
+    {
+        take_for_read(&mut self.listing, f);
+        self.listing.keep_busy(f, being_read(key, home));
+    }
+
+    /// A read succeeded.
+    pub(crate) fn got(&mut self, f: u32)
+        requires { is_read (record_at self.old f).request ≡ true }
+        ensures { self.new ≡ after_got self.old f }
+    {
+        let r = self.listing.record(f);
+        if r.owner.is_some() {
+            self.listing.settle(f, read_done(r));
+        } else {
+            self.listing.free(f);
+        }
+    }
+
+    /// A read failed.
+    pub(crate) fn bad(&mut self, f: u32)
+        requires { is_read (record_at self.old f).request ≡ true }
+        ensures { self.new ≡ after_bad self.old f }
+    {
+        self.listing.free(f);
+    }
+
+    /// A page is valid at one place more. Its frame has fewer than 2^32 - 1 shares.
+    pub(crate) fn map(&mut self, f: u32)
+        requires owned { is_some (record_at self.old f).owner ≡ true }
+        requires not_read { is_read (record_at self.old f).request ≡ false }
+        requires room { (record_at self.old f).shares + 1 < 2 ^ 32 }
+        ensures { self.new ≡ after_map self.old f }
+    {
+        let r = self.listing.record(f);
+        self.listing.leave(f);
+        self.listing.keep_busy(f, shared(r));
+    }
+
+    /// A page is valid at one place fewer.
+    pub(crate) fn unmap(&mut self, f: u32)
+        requires { 1 ≤ (record_at self.old f).shares }
+        ensures { self.new ≡ after_unmap self.old f }
+    {
+        let r = self.listing.record(f);
+        self.listing.settle(f, unshared(r));
+    }
+
+    /// A page that is valid somewhere is changed.
+    pub(crate) fn soil(&mut self, f: u32)
+        requires { 1 ≤ (record_at self.old f).shares }
+        ensures { self.new ≡ after_soil self.old f }
+    {
+        let r = self.listing.record(f);
+        self.listing.keep_busy(f, soiled(r));
+    }
+
+    /// A write of a page to this home begins.
+    pub(crate) fn write(&mut self, f: u32, home: Backing)
+        requires { is_some (record_at self.old f).owner ≡ true }
+        ensures { self.new ≡ after_write self.old f home }
+    {
+        let r = self.listing.record(f);
+        self.listing.leave(f);
+        self.listing.keep_busy(f, being_written(r, home));
+    }
+
+    /// A write succeeded.
+    pub(crate) fn wrote(&mut self, f: u32)
+        requires { is_write (record_at self.old f).request ≡ true }
+        ensures { self.new ≡ after_wrote self.old f }
+    {
+        let r = self.listing.record(f);
+        if r.owner.is_some() {
+            self.listing.settle(f, write_done(r));
+        } else {
+            self.listing.free(f);
+        }
+    }
+
+    /// A write failed.
+    pub(crate) fn lost(&mut self, f: u32)
+        requires { is_write (record_at self.old f).request ≡ true }
+        ensures { self.new ≡ after_lost self.old f }
+    {
+        let r = self.listing.record(f);
+        if r.owner.is_some() {
+            self.listing.settle(f, write_lost(r));
+        } else {
+            self.listing.free(f);
+        }
+    }
+
+    /// The page of a frame, which is valid nowhere, is no more.
+    pub(crate) fn drop_page(&mut self, f: u32)
+        requires owned { is_some (record_at self.old f).owner ≡ true }
+        requires unmapped { (record_at self.old f).shares ≡ 0 }
+        ensures { self.new ≡ after_drop self.old f }
+    {
+        let r = self.listing.record(f);
+        if has_request(r.request) {
+            self.listing.keep_busy(f, disowned(r));
+        } else {
+            self.listing.leave(f);
+            self.listing.free(f);
+        }
+    }
+}
+
+/// The frame of a read leaves its list: the first free one, or where none is free the first zeroed
+/// one.
+#[tactic(auto, using(crate::proofs::Placing::placing))]
+fn take_for_read(listing: &mut Listing, f: u32)
+    requires kept { IsKept listing.old }
+    requires first { (is_first f (table listing.old).free ||
+        (is_empty (table listing.old).free && is_first f (table listing.old).zeroed)) ≡ true }
+    ensures off { IsOff listing.new f }
+    ensures table { table listing.new ≡ taken_for_read (table listing.old) }
+{
+    if listing.first(FREE).is_none() {
+        listing.take_first(ZEROED, f);
+    } else {
+        listing.take_first(FREE, f);
+    }
+}
+
+ghost use Rattle.mm_replay.specs.Listings.{table, IsKept, IsOff};
