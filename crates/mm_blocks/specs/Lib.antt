@@ -1,4 +1,5 @@
 pub mod Numbered
 pub mod Traffic
 pub mod Devices
+pub mod Reads
 pub mod Stores

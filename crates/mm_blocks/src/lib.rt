@@ -57,10 +57,11 @@ pub trait Blocks {
         ensures cause { HasOpenCause (faults self.old) (faults self.new) result }
         ensures loans { loans self.new ≡ loans self.old };
 
-    /// Reads block i, counted from 0, into `out`.
+    /// Reads block i, counted from 0, into `out`. After an error `out` is as before.
     fn read(&mut self, i: u32, out: &mut [u8; 4096]) -> Result<(), Failed>
         requires { i < length (blocks self.old) }
         ensures ok { OnOk result (slice_get (blocks self.old) i ≡ Some out.new) }
+        ensures err { OnErr result (out.new ≡ out.old) }
         ensures blocks { blocks self.new ≡ blocks self.old }
         ensures logged { Logged (log self.old) (log self.new) (made_call way.Read i result ∷ []) }
         ensures cause { HasCallCause (faults self.old) (faults self.new) result }
@@ -108,10 +109,12 @@ pub trait Inject {
         ensures cause { HasOpenCause (faults self.old) (faults self.new) result }
         ensures loans { loans self.new ≡ loans self.old };
 
-    /// Reads block i, counted from 0, into `out`. It fails where it was named to.
+    /// Reads block i, counted from 0, into `out`. It fails where it was named to; after an error
+    /// `out` is as before.
     fn read(&mut self, i: u32, out: &mut [u8; 4096]) -> Result<(), Failed>
         requires { i < length (blocks self.old) }
         ensures ok { OnOk result (slice_get (blocks self.old) i ≡ Some out.new) }
+        ensures err { OnErr result (out.new ≡ out.old) }
         ensures blocks { blocks self.new ≡ blocks self.old }
         ensures served { Serves (record {
           way = way.Read;

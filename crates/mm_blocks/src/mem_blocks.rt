@@ -136,6 +136,7 @@ impl Blocks for MemBlocks {
     fn read(&mut self, i: u32, out: &mut [u8; 4096]) -> Result<(), Failed>
         requires { i < length self.old.blocks }
         ensures ok { OnOk result (slice_get self.old.blocks i ≡ Some out.new) }
+        ensures err { OnErr result (out.new ≡ out.old) }
         ensures blocks { self.new.blocks ≡ self.old.blocks }
         ensures logged { Logged (told self.old.log.room self.old.log.made self.old.log.calls.items)
             (told self.new.log.room self.new.log.made self.new.log.calls.items)

@@ -23,3 +23,4 @@ pub mod Succeeding
 pub mod Created
 pub mod Growing
 pub mod Probed
+pub mod CallsDone

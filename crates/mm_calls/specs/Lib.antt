@@ -1,3 +1,5 @@
+pub mod CallPromises
+pub mod DevicePromises
 pub mod Allocating
 pub mod Growing
 pub mod Marking

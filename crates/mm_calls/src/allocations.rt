@@ -8,10 +8,9 @@ ghost use Rattle.mm_world.specs.Charge.{charge, limit};
 ghost use Rattle.mm_world.specs.Contents.{blank};
 ghost use Rattle.mm_world.specs.Laws.{is_success};
 ghost use Rattle.mm_world.specs.Rows.{is_protection_among, private_protections};
-ghost use Rattle.mm_pages.specs.Housekeeping.{Turn, Turns, Makes};
-ghost use Rattle.mm_pages.specs.Passing.{PassesIn};
 ghost use Rattle.mm_spaces.specs.Tables.{found_info};
-ghost use Rattle.mm_tables.specs.Fits.{FitsTables, Settled};
+ghost use Rattle.mm_tables.specs.Promises.{IsReadyFor, MakesPages};
+ghost use Rattle.mm_calls.specs.CallPromises.{DecidesIn, LacksMemory};
 
 use crate::parameters::new_pages;
 use mm_pages::Pages;
@@ -33,28 +32,15 @@ pub(crate) fn reserve<G: Pages>(
     kind: u32,
     prot: u32,
 ) -> Result<Answer, NoMemory>
-    requires fits { FitsTables t.old (G.contents g.old) (G.store g.old) }
-    requires kind { (G.store g.old).kind ≡ line_kind.Call }
-    requires lives { is_some (process_of t.old pid.0) ≡ true }
+    requires ready { IsReadyFor G.Pages line_kind.Call pid t.old g.old }
     requires some { 1 ≤ size }
     requires prot { is_protection_among private_protections prot ≡ true }
-    ensures ok { IfOk result (λ a. (p : ProcessOf (Unit {0})) → process_of t.old pid.0 ≡ Some p →
-        reserve blank t.old pid.0 p addr size watched kind prot ≡ record {
-          answer = a;
-          world = t.new;
-        }) }
-    ensures makes { OnErr result ((p : ProcessOf (Unit {0})) → process_of t.old pid.0 ≡ Some p
+    ensures done { IfOk result (λ a. DecidesIn G.Pages pid (λ p.
+        reserve blank t.old pid.0 p addr size watched kind prot) t.old g.old a t.new g.new) }
+    ensures broke { OnErr result (LacksMemory G.Pages t.old g.old t.new g.new) }
+    ensures succeeds { OnErr result ((p : ProcessOf (Unit {0})) → process_of t.old pid.0 ≡ Some p
         → is_success (reserve blank t.old pid.0 p addr size watched kind prot).answer ≡ true) }
-    ensures err { OnErr result ((t.new ≡ t.old) × (G.contents g.new ≡ G.contents g.old)) }
-    ensures settled { Settled t.new (G.contents g.old) (G.contents g.new) (G.store g.old)
-        (G.store g.new) }
-    ensures passes { PassesIn G.unpaged (Turns Makes) (G.store g.old) (G.store g.new)
-        (G.behind g.old) (G.behind g.new) }
-    ensures idle { OnErr result
-        ((turn : Turn) →
-        PassesIn G.unpaged (Turns turn) (G.store g.old) (G.store g.new) (G.behind g.old)
-        (G.behind g.new)) }
-    ensures loans { G.loans g.new ≡ G.loans g.old }
+    ensures makes { MakesPages G.Pages result g.old g.new }
 {
     let range = match t.space(pid).gap(addr, size) {
         Some(range) => range,
@@ -77,29 +63,16 @@ pub fn commit<G: Pages>(
     range: PageRange,
     prot: u32,
 ) -> Result<Answer, NoMemory>
-    requires fits { FitsTables t.old (G.contents g.old) (G.store g.old) }
-    requires kind { (G.store g.old).kind ≡ line_kind.Call }
-    requires lives { is_some (process_of t.old pid.0) ≡ true }
+    requires ready { IsReadyFor G.Pages line_kind.Call pid t.old g.old }
     requires prot { is_protection_among private_protections prot ≡ true }
-    ensures ok { IfOk result (λ a. (p : ProcessOf (Unit {0})) → process_of t.old pid.0 ≡ Some p →
-        commit_pages blank t.old pid.0 p range prot ≡ record {
-          answer = a;
-          world = t.new;
-        }) }
+    ensures done { IfOk result (λ a. DecidesIn G.Pages pid (λ p.
+        commit_pages blank t.old pid.0 p range prot) t.old g.old a t.new g.new) }
+    ensures broke { OnErr result (LacksMemory G.Pages t.old g.old t.new g.new) }
     ensures enough { min (charge t.old + range.count) (limit t.old) ≤ (G.store g.old).room →
         IsOk result }
     ensures charges { OnErr result ((p : ProcessOf (Unit {0})) → process_of t.old pid.0 ≡ Some p
         → charge t.old < charge (commit_pages blank t.old pid.0 p range prot).world) }
-    ensures err { OnErr result ((t.new ≡ t.old) × (G.contents g.new ≡ G.contents g.old)) }
-    ensures settled { Settled t.new (G.contents g.old) (G.contents g.new) (G.store g.old)
-        (G.store g.new) }
-    ensures passes { PassesIn G.unpaged (Turns Makes) (G.store g.old) (G.store g.new)
-        (G.behind g.old) (G.behind g.new) }
-    ensures idle { OnErr result
-        ((turn : Turn) →
-        PassesIn G.unpaged (Turns turn) (G.store g.old) (G.store g.new) (G.behind g.old)
-        (G.behind g.new)) }
-    ensures loans { G.loans g.new ≡ G.loans g.old }
+    ensures makes { MakesPages G.Pages result g.old g.new }
 {
     let region = match t.space(pid).region_around(range) {
         Some(region) => region,
@@ -120,31 +93,18 @@ fn commit_private<G: Pages>(
     range: PageRange,
     prot: u32,
 ) -> Result<Answer, NoMemory>
-    requires fits { FitsTables t.old (G.contents g.old) (G.store g.old) }
-    requires kind { (G.store g.old).kind ≡ line_kind.Call }
-    requires lives { is_some (process_of t.old pid.0) ≡ true }
+    requires ready { IsReadyFor G.Pages line_kind.Call pid t.old g.old }
     requires around { (p : ProcessOf (Unit {0})) → process_of t.old pid.0 ≡ Some p →
         option_map (λ r. r.thing.kind) (region_around p.regions range) ≡ Some kind.Private }
     requires prot { is_protection_among private_protections prot ≡ true }
-    ensures ok { IfOk result (λ a. (p : ProcessOf (Unit {0})) → process_of t.old pid.0 ≡ Some p →
-        commit_pages blank t.old pid.0 p range prot ≡ record {
-          answer = a;
-          world = t.new;
-        }) }
+    ensures done { IfOk result (λ a. DecidesIn G.Pages pid (λ p.
+        commit_pages blank t.old pid.0 p range prot) t.old g.old a t.new g.new) }
+    ensures broke { OnErr result (LacksMemory G.Pages t.old g.old t.new g.new) }
     ensures enough { min (charge t.old + range.count) (limit t.old) ≤ (G.store g.old).room →
         IsOk result }
     ensures charges { OnErr result ((p : ProcessOf (Unit {0})) → process_of t.old pid.0 ≡ Some p
         → charge t.old < charge (commit_pages blank t.old pid.0 p range prot).world) }
-    ensures err { OnErr result ((t.new ≡ t.old) × (G.contents g.new ≡ G.contents g.old)) }
-    ensures settled { Settled t.new (G.contents g.old) (G.contents g.new) (G.store g.old)
-        (G.store g.new) }
-    ensures passes { PassesIn G.unpaged (Turns Makes) (G.store g.old) (G.store g.new)
-        (G.behind g.old) (G.behind g.new) }
-    ensures idle { OnErr result
-        ((turn : Turn) →
-        PassesIn G.unpaged (Turns turn) (G.store g.old) (G.store g.new) (G.behind g.old)
-        (G.behind g.new)) }
-    ensures loans { G.loans g.new ≡ G.loans g.old }
+    ensures makes { MakesPages G.Pages result g.old g.new }
 {
     t.sound();
     let n = range.count - t.space(pid).owned(range);
@@ -167,34 +127,21 @@ fn commit_view<G: Pages>(
     view: View,
     prot: u32,
 ) -> Result<Answer, NoMemory>
-    requires fits { FitsTables t.old (G.contents g.old) (G.store g.old) }
-    requires kind { (G.store g.old).kind ≡ line_kind.Call }
-    requires lives { is_some (process_of t.old pid.0) ≡ true }
+    requires ready { IsReadyFor G.Pages line_kind.Call pid t.old g.old }
     requires around { (p : ProcessOf (Unit {0})) → process_of t.old pid.0 ≡ Some p →
         option_map found_info (region_around p.regions range) ≡ Some (record {
           pages = pages;
           kind = kind.View view;
         }) }
     requires prot { is_protection_among private_protections prot ≡ true }
-    ensures ok { IfOk result (λ a. (p : ProcessOf (Unit {0})) → process_of t.old pid.0 ≡ Some p →
-        commit_pages blank t.old pid.0 p range prot ≡ record {
-          answer = a;
-          world = t.new;
-        }) }
+    ensures done { IfOk result (λ a. DecidesIn G.Pages pid (λ p.
+        commit_pages blank t.old pid.0 p range prot) t.old g.old a t.new g.new) }
+    ensures broke { OnErr result (LacksMemory G.Pages t.old g.old t.new g.new) }
     ensures enough { min (charge t.old + range.count) (limit t.old) ≤ (G.store g.old).room →
         IsOk result }
     ensures charges { OnErr result ((p : ProcessOf (Unit {0})) → process_of t.old pid.0 ≡ Some p
         → charge t.old < charge (commit_pages blank t.old pid.0 p range prot).world) }
-    ensures err { OnErr result ((t.new ≡ t.old) × (G.contents g.new ≡ G.contents g.old)) }
-    ensures settled { Settled t.new (G.contents g.old) (G.contents g.new) (G.store g.old)
-        (G.store g.new) }
-    ensures passes { PassesIn G.unpaged (Turns Makes) (G.store g.old) (G.store g.new)
-        (G.behind g.old) (G.behind g.new) }
-    ensures idle { OnErr result
-        ((turn : Turn) →
-        PassesIn G.unpaged (Turns turn) (G.store g.old) (G.store g.new) (G.behind g.old)
-        (G.behind g.new)) }
-    ensures loans { G.loans g.new ≡ G.loans g.old }
+    ensures makes { MakesPages G.Pages result g.old g.new }
 {
     t.sound();
     let area = t.area(view.area);

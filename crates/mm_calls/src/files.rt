@@ -1,18 +1,17 @@
-ghost use Rattle.std.specs.Prelude.{[], false, is_some, ◌≡◌, ◌==◌, ◌≤◌, ◌<◌, ◌+◌, nat_lt, if◌then◌else◌, length, IfOk, IsOk, OnOk, OnErr};
-ghost use Rattle.mm_types.specs.declared.moves.LineKind.TheVariants as line_kind;
+ghost use Rattle.std.specs.Prelude.{[], false, is_some, ◌≡◌, ◌==◌, ◌≤◌, ◌<◌, ◌+◌, nat_lt, if◌then◌else◌, length, IfOk, IsOk, OnErr};
 ghost use Rattle.mm_types.specs.declared.answers.Answer.TheVariants as answer;
 ghost use Rattle.mm_types.specs.Address.{range_of};
-ghost use Rattle.mm_blocks.specs.Devices.{CallFailed};
 ghost use Rattle.mm_world.specs.Find.{area_at};
-ghost use Rattle.mm_world.specs.Contents.{BytesAfterFile, blank};
+ghost use Rattle.mm_world.specs.Contents.{blank};
 ghost use Rattle.mm_world.specs.Laws.{is_success};
 ghost use Rattle.mm_world.specs.Processes.{new_file};
 ghost use Rattle.mm_pages.specs.Housekeeping.{Turns, Makes, Flushes};
 ghost use Rattle.mm_pages.specs.Passing.{PassesIn, NotesIn};
-ghost use Rattle.mm_pages.specs.Reports.{Served, wrote};
 ghost use Rattle.mm_tables.specs.References.{IsFew};
-ghost use Rattle.mm_tables.specs.Fits.{FitsTables, BlocksHold, file_told, flush_told, key_bytes, beside_file, file_block_in};
-ghost use Rattle.mm_calls.specs.Stages.{AreHeld, NewFileMade, keys_from, flushed_keys};
+ghost use Rattle.mm_tables.specs.Fits.{BlocksHold, flush_told, file_block_in};
+ghost use Rattle.mm_calls.specs.Stages.{AreHeld, keys_from, flushed_keys};
+ghost use Rattle.mm_calls.specs.CallPromises.{BeginsWrites, ChangesNothing};
+ghost use Rattle.mm_calls.specs.DevicePromises.{AnswersFile, AnswersFlush};
 
 use crate::flushes::flush_pages;
 use crate::views::view_of;
@@ -28,7 +27,7 @@ use std::alloc::Global;
 /// In this order: `AlreadyExists` where a file has the name; `Full` where fewer blocks are left;
 /// `Fault` exactly where a write of the file device failed, and then there is no file. After
 /// `NoMemory`, which neither refusal comes to, nothing has changed.
-#[tactic(auto, using(mm_tables::proofs::Turning::notes_nothing))]
+#[tactic(auto, using(mm_tables::proofs::Turning::notes_nothing, mm_pages::proofs::Served::served_none))]
 pub fn new_file<G: Pages>(
     allocator: Global,
     t: &mut Tables,
@@ -37,30 +36,15 @@ pub fn new_file<G: Pages>(
     pages: u32,
     byte: u8,
 ) -> Result<Answer, NoMemory>
-    requires fits { FitsTables t.old (G.contents g.old) (G.store g.old) }
-    requires kind { (G.store g.old).kind ≡ line_kind.Call }
+    requires begins { BeginsWrites G.Pages t.old g.old }
     requires few { IsFew t.old }
     requires some { 1 ≤ pages }
-    requires begun { (G.store g.old).report.file_writes.failed ≡ 0 }
-    ensures ok { IfOk result (λ a. file_told t.old name.now pages byte (G.store g.new).report
-        ≡ record {
-          answer = a;
-          world = t.new;
-        }) }
-    ensures bytes { OnOk result (BytesAfterFile byte t.old (key_bytes (G.contents g.old)) t.new
-        (key_bytes (G.contents g.new))) }
-    ensures err { OnErr result ((t.new ≡ t.old) × (G.contents g.new ≡ G.contents g.old) ×
-        (G.store g.new ≡ G.store g.old)) }
+    ensures done { IfOk result (λ a. AnswersFile G.Pages name.now pages byte t.old g.old a t.new
+        g.new) }
+    ensures broke { OnErr result (ChangesNothing G.Pages t.old g.old t.new g.new) }
     ensures no_memory { is_success (new_file blank t.old name.now pages byte).answer ≡ false
         → IsOk result }
-    ensures fits { FitsTables t.new (G.contents g.new) (G.store g.new) }
-    ensures beside { G.store g.new ≡ beside_file (G.store g.old) (G.store g.new) }
-    ensures served { Served (G.store g.old) (G.store g.new) }
-    ensures blamed { IfOk result (λ a. a ≡ answer.Fault →
-        CallFailed (G.store g.old).file_device (G.store g.new).file_device) }
     ensures notes { NotesIn G.unpaged (Turns Makes) (G.behind g.old) (G.behind g.new) }
-    ensures file { G.unpaged ≡ false →
-        IfOk result (λ a. NewFileMade t.old.blocks_used pages a (G.store g.old) (G.store g.new)) }
     ensures loans { G.loans g.new ≡ G.loans g.old }
 {
     if t.file_named(name).is_some() {
@@ -83,25 +67,18 @@ pub fn new_file<G: Pages>(
 /// In this order: `InvalidHandle` for a process that does not live; `InvalidAddress` where the
 /// range does not lie in one view; `Fault` exactly where a write of the file device failed; the
 /// pages before it were written.
+#[tactic(auto, using(mm_pages::proofs::Served::served_none))]
 pub fn flush_view<G: Pages>(t: &Tables, g: &mut G, pid: Pid, addr: u32, size: u32) -> Answer
-    requires fits { FitsTables t.now (G.contents g.old) (G.store g.old) }
-    requires kind { (G.store g.old).kind ≡ line_kind.Call }
-    requires begun { (G.store g.old).report.file_writes.failed ≡ 0 }
+    requires begins { BeginsWrites G.Pages t.now g.old }
     ensures outcome { flush_told t.now pid.0 addr size (G.store g.new).report ≡ record {
       answer = result;
       world = t.now;
     } }
-    ensures contents { G.contents g.new ≡ G.contents g.old }
-    ensures fits { FitsTables t.now (G.contents g.new) (G.store g.new) }
-    ensures beside { G.store g.new ≡ wrote (G.store g.old) (G.store g.new) }
+    ensures done { AnswersFlush G.Pages t.now result g.old g.new }
     ensures holds { result ≡ answer.Ok →
         BlocksHold t.now (G.contents g.new) (G.store g.new).file_blocks pid.0 addr size }
-    ensures served { Served (G.store g.old) (G.store g.new) }
-    ensures blamed { result ≡ answer.Fault →
-        CallFailed (G.store g.old).file_device (G.store g.new).file_device }
     ensures passes { PassesIn G.unpaged (Flushes (flushed_keys t.now pid.0 addr size))
         (G.store g.old) (G.store g.new) (G.behind g.old) (G.behind g.new) }
-    ensures loans { G.loans g.new ≡ G.loans g.old }
 {
     if !t.has(pid) {
         return Answer::Error(Code::InvalidHandle);
@@ -138,29 +115,22 @@ fn flushed_count(size: u32, left: u32, meant: u32) -> u32
 
 /// Flushes `count` pages of a view from its page `before` on; those of a page-file section have no
 /// blocks.
+#[tactic(auto, using(mm_pages::proofs::Served::served_none))]
 fn flush_view_pages<G: Pages>(t: &Tables, g: &mut G, view: View, before: u32, count: u32) -> Answer
-    requires fits { FitsTables t.now (G.contents g.old) (G.store g.old) }
-    requires kind { (G.store g.old).kind ≡ line_kind.Call }
-    requires begun { (G.store g.old).report.file_writes.failed ≡ 0 }
+    requires begins { BeginsWrites G.Pages t.now g.old }
     requires area { view.area.0 < length t.now.areas }
     requires within { view.first + before + count ≤ length (area_at t.now view.area.0).pages }
     ensures answer { (if nat_lt 0 (G.store g.new).report.file_writes.failed then answer.Fault else
         answer.Ok) ≡ result }
-    ensures contents { G.contents g.new ≡ G.contents g.old }
-    ensures fits { FitsTables t.now (G.contents g.new) (G.store g.new) }
-    ensures beside { G.store g.new ≡ wrote (G.store g.old) (G.store g.new) }
+    ensures done { AnswersFlush G.Pages t.now result g.old g.new }
     ensures held { result ≡ answer.Ok →
         AreHeld (λ k. file_block_in t.now k) (G.contents g.new) (G.store g.new).file_blocks
         view.area.0
         (view.first + before) count }
-    ensures served { Served (G.store g.old) (G.store g.new) }
-    ensures blamed { result ≡ answer.Fault →
-        CallFailed (G.store g.old).file_device (G.store g.new).file_device }
     ensures passes { PassesIn G.unpaged
         (Flushes (if is_some (area_at t.now view.area.0).file_block then
         keys_from view.area.0 (view.first + before) count else [])) (G.store g.old) (G.store g.new)
         (G.behind g.old) (G.behind g.new) }
-    ensures loans { G.loans g.new ≡ G.loans g.old }
 {
     t.sound();
     let area = t.area(view.area);

@@ -1,10 +1,9 @@
-ghost use Rattle.std.specs.Prelude.{◌≡◌, ◌≤◌, ◌<◌, ◌+◌, ◌^◌, length, OnOk, OnErr};
+ghost use Rattle.std.specs.Prelude.{◌≡◌, ◌<◌, ◌+◌, ◌^◌, OnOk, OnErr};
 ghost use Rattle.mm_types.specs.declared.moves.LineKind.TheVariants as line_kind;
-ghost use Rattle.mm_blocks.specs.Devices.{CallFailed};
 ghost use Rattle.mm_pages.specs.Housekeeping.{Flushes};
 ghost use Rattle.mm_pages.specs.Passing.{PassesIn};
-ghost use Rattle.mm_pages.specs.Reports.{Served, wrote};
-ghost use Rattle.mm_calls.specs.Stages.{AreHeld, InBlocks, keys_from};
+ghost use Rattle.mm_calls.specs.Stages.{InBlocks, keys_from};
+ghost use Rattle.mm_calls.specs.DevicePromises.{FlushesBlocks, HoldsPages, FailsWrite};
 
 use mm_pages::Pages;
 use mm_types::{Area, Block, Key, WriteFault};
@@ -23,20 +22,11 @@ pub(crate) fn flush_pages<G: Pages>(
     requires few { first + count < 2 ^ 32 }
     requires begun { (G.store g.old).report.file_writes.failed ≡ 0 }
     requires blocks { InBlocks (G.store g.old).block_of area.0 first count block.0 }
-    ensures store { G.store g.new ≡ wrote (G.store g.old) (G.store g.new) }
-    ensures held { OnOk result (AreHeld (G.store g.old).block_of (G.contents g.old)
-        (G.store g.new).file_blocks area.0 first count) }
-    ensures served { Served (G.store g.old) (G.store g.new) }
-    ensures stored { length (G.store g.new).file_blocks ≡ length (G.store g.old).file_blocks }
-    ensures quiet { OnOk result ((G.store g.new).report.file_writes.failed ≡
-        (G.store g.old).report.file_writes.failed) }
-    ensures failed { OnErr result (0 < (G.store g.new).report.file_writes.failed) }
-    ensures blamed { OnErr result
-        (CallFailed (G.store g.old).file_device (G.store g.new).file_device) }
-    ensures contents { G.contents g.new ≡ G.contents g.old }
+    ensures flushes { FlushesBlocks G.Pages g.old g.new }
+    ensures held { OnOk result (HoldsPages G.Pages area.0 first count g.old g.new) }
+    ensures broke { OnErr result (FailsWrite G.Pages g.old g.new) }
     ensures passes { PassesIn G.unpaged (Flushes (keys_from area.0 first count)) (G.store g.old)
         (G.store g.new) (G.behind g.old) (G.behind g.new) }
-    ensures loans { G.loans g.new ≡ G.loans g.old }
 {
     for i in 0..count {
         g.flush(Key::Shared(area, first + i))?;

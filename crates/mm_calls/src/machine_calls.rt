@@ -1,15 +1,13 @@
-ghost use Rattle.std.specs.Prelude.{◌≡◌, ◌≤◌, ◌+◌, ◌-◌, ℕ, true, false, length, nat_le, IfOk, IsOk, OnOk, OnErr};
-ghost use Rattle.mm_types.specs.declared.answers.Answer.TheVariants as answer;
-ghost use Rattle.mm_types.specs.declared.moves.LineKind.TheVariants as line_kind;
-ghost use Rattle.mm_types.specs.Outside.{Rose};
+ghost use Rattle.std.specs.Prelude.{◌≡◌, ◌≤◌, ◌+◌, ◌-◌, false, length, nat_le, IfOk, IsOk, OnErr};
 ghost use Rattle.mm_world.specs.Laws.{is_success};
 ghost use Rattle.mm_world.specs.Processes.{grow, new_process, most_processes};
-ghost use Rattle.mm_world.specs.Step.{is_failed_extension};
 ghost use Rattle.mm_pages.specs.Reports.{begun};
-ghost use Rattle.mm_pages.specs.Housekeeping.{Turn, Turns};
-ghost use Rattle.mm_pages.specs.Passing.{PassesIn, NotesIn};
+ghost use Rattle.mm_pages.specs.Passing.{NotesIn};
 ghost use Rattle.mm_calls.specs.Growing.{GrowsBy};
-ghost use Rattle.mm_tables.specs.Fits.{FitsTables, Called, store_beside, before_process, extended, grow_told};
+ghost use Rattle.mm_tables.specs.Fits.{FitsTables};
+ghost use Rattle.mm_tables.specs.Promises.{StaysIdle};
+ghost use Rattle.mm_calls.specs.CallPromises.{BeginsProcess, AnswersCall, ChangesNothing};
+ghost use Rattle.mm_calls.specs.DevicePromises.{AnswersGrow};
 
 use mm_pages::Pages;
 use mm_tables::Tables;
@@ -32,23 +30,12 @@ pub fn new_process<G: Pages>(
     min: u32,
     max: u32,
 ) -> Result<Answer, NoMemory>
-    requires starts { FitsTables t.old (G.contents g.old) (before_process t.old (G.store g.old)) }
-    requires last_pid { (G.store g.old).last_pid + 1 ≡ length (new_process t.old).world.processes }
-    requires kind { nat_le (length t.old.processes) most_processes ≡ true →
-        (G.store g.old).kind ≡ line_kind.Process (record {
-          0 = length t.old.processes;
-        }) min max }
-    ensures ok { IfOk result (λ a. Called (new_process t.old) t.old (G.contents g.old) a t.new
-        (G.contents g.new)) }
-    ensures fits { OnOk result (FitsTables t.new (G.contents g.new) (G.store g.new)) }
-    ensures err { OnErr result ((t.new ≡ t.old) × (G.contents g.new ≡ G.contents g.old) ×
-        (G.store g.new ≡ G.store g.old)) }
+    requires begins { BeginsProcess G.Pages min max t.old g.old }
+    ensures done { IfOk result (λ a. AnswersCall G.Pages (new_process t.old) t.old g.old a t.new
+        g.new) }
+    ensures broke { OnErr result (ChangesNothing G.Pages t.old g.old t.new g.new) }
     ensures no_memory { nat_le (length t.old.processes) most_processes ≡ false → IsOk result }
-    ensures beside { G.store g.new ≡ store_beside (G.store g.old) (G.store g.new) }
-    ensures passes { (turn : Turn) →
-        PassesIn G.unpaged (Turns turn) (G.store g.old) (G.store g.new) (G.behind g.old)
-        (G.behind g.new) }
-    ensures loans { G.loans g.new ≡ G.loans g.old }
+    ensures idles { StaysIdle G.Pages g.old g.new }
 {
     let pid = match t.next_pid() {
         Some(pid) => pid,
@@ -73,28 +60,8 @@ pub fn grow_paging<G: Pages>(
     requires fits { FitsTables t.old (G.contents g.old) (G.store g.old) }
     requires next { line ≡ (G.store g.old).line + 1 }
     requires some { 1 ≤ n }
-    ensures ok { IfOk result (λ a. grow_told t.old n (G.store g.new).report ≡ record {
-      answer = a;
-      world = t.new;
-    }) }
-    ensures contents { G.contents g.new ≡ G.contents g.old }
-    ensures fits { FitsTables t.new (G.contents g.new) (G.store g.new) }
-    ensures rest { OnOk result (G.store g.new ≡ extended (G.store g.old) (G.store g.new)) }
-    ensures report { OnOk result ((G.store g.new).report ≡
-        record (begun (G.store g.old).report) {
-          counts = (G.store g.new).report.counts;
-          extended =
-              (G.store g.new).report.extended;
-        }) }
-    ensures line { OnOk result ((G.store g.new).line ≡ line) }
-    ensures grew { IfOk result (λ a. (limit : ℕ) → a ≡ answer.Limit limit →
-        (G.store g.new).paging_device ≡ (G.store g.old).paging_device) }
-    ensures cause { IfOk result (λ a. a ≡ answer.Fault →
-        Rose (G.store g.old).paging_device.faults (G.store g.new).paging_device.faults) }
-    ensures faults { (G.store g.old).paging_device.faults ≤ (G.store g.new).paging_device.faults }
-    ensures unpaged { G.unpaged ≡ true →
-        OnOk result (is_failed_extension (G.store g.new).report.extended ≡ false) }
-    ensures err { OnErr result ((t.new ≡ t.old) × (G.store g.new ≡ G.store g.old)) }
+    ensures done { IfOk result (λ a. AnswersGrow G.Pages line n t.old g.old a t.new g.new) }
+    ensures broke { OnErr result (ChangesNothing G.Pages t.old g.old t.new g.new) }
     ensures no_memory { is_success (grow t.old n).answer ≡ false → IsOk result }
     ensures notes { NotesIn G.unpaged (GrowsBy line n result) (G.behind g.old) (G.behind g.new) }
     ensures loans { G.loans g.new ≡ G.loans g.old }

@@ -1,4 +1,4 @@
-ghost use Rattle.std.specs.Prelude.{◌≡◌, ◌≤◌, ◌+◌, true, is_some, Some, if◌then◌else◌, IfOk, IfSome, OnErr};
+ghost use Rattle.std.specs.Prelude.{◌≡◌, ◌≤◌, ◌+◌, true, Some, if◌then◌else◌, IfOk, IfSome, OnErr};
 ghost use Rattle.mm_types.specs.declared.codes.Code.TheVariants as code;
 ghost use Rattle.mm_types.specs.declared.moves.LineKind.TheVariants as line_kind;
 ghost use Rattle.mm_types.specs.Address.{is_granule_address};
@@ -9,10 +9,9 @@ ghost use Rattle.mm_world.specs.Outcome.{find_or};
 ghost use Rattle.mm_world.specs.Sections.{handle_section};
 ghost use Rattle.mm_world.specs.Views.{is_copy};
 ghost use Rattle.mm_world.specs.WellFormed.{ViewFits};
-ghost use Rattle.mm_pages.specs.Housekeeping.{Turn, Turns};
-ghost use Rattle.mm_pages.specs.Passing.{PassesIn};
-ghost use Rattle.mm_tables.specs.Fits.{FitsTables, Settled};
 ghost use Rattle.mm_calls.specs.Stages.{are_viewed, place_view, map_section};
+ghost use Rattle.mm_tables.specs.Promises.{IsReadyFor, SettlesTables, StaysIdle};
+ghost use Rattle.mm_calls.specs.CallPromises.{DecidesIn, LacksMemory};
 
 use crate::section_parameters::{is_granule_address, may_view};
 use mm_pages::Pages;
@@ -34,23 +33,16 @@ pub(crate) fn map_handle<G: Pages>(
     view_length: u32,
     addr: u32,
 ) -> Result<Answer, NoMemory>
-    requires fits { FitsTables t.old (G.contents g.old) (G.store g.old) }
-    requires kind { (G.store g.old).kind ≡ line_kind.Call }
-    requires lives { is_some (process_of t.old pid.0) ≡ true }
-    ensures ok { IfOk result (λ a. (p : ProcessOf (Unit {0})) → process_of t.old pid.0 ≡ Some p →
+    requires ready { IsReadyFor G.Pages line_kind.Call pid t.old g.old }
+    ensures done { IfOk result (λ a. DecidesIn G.Pages pid (λ p.
         find_or t.old code.InvalidHandle (handle_section t.old p handle)
-        (λ s. map_section t.old pid.0 p s access offset view_length addr)
-        ≡ record { answer = a; world = t.new }) }
-    ensures makes { OnErr result ((p : ProcessOf (Unit {0})) → process_of t.old pid.0 ≡ Some p
+        (λ s. map_section t.old pid.0 p s access offset view_length addr)) t.old g.old a t.new
+        g.new) }
+    ensures broke { OnErr result (LacksMemory G.Pages t.old g.old t.new g.new) }
+    ensures succeeds { OnErr result ((p : ProcessOf (Unit {0})) → process_of t.old pid.0 ≡ Some p
         → is_success (find_or t.old code.InvalidHandle (handle_section t.old p handle)
         (λ s. map_section t.old pid.0 p s access offset view_length addr)).answer ≡ true) }
-    ensures err { OnErr result ((t.new ≡ t.old) × (G.contents g.new ≡ G.contents g.old)) }
-    ensures settled { Settled t.new (G.contents g.old) (G.contents g.new) (G.store g.old)
-        (G.store g.new) }
-    ensures passes { (turn : Turn) →
-        PassesIn G.unpaged (Turns turn) (G.store g.old) (G.store g.new) (G.behind g.old)
-        (G.behind g.new) }
-    ensures loans { G.loans g.new ≡ G.loans g.old }
+    ensures idles { StaysIdle G.Pages g.old g.new }
 {
     t.sound();
     let section = match t.section_at(pid, handle) {
@@ -108,9 +100,7 @@ fn place_view<G: Pages>(
     count: u32,
     addr: u32,
 ) -> Result<Answer, NoMemory>
-    requires fits { FitsTables t.old (G.contents g.old) (G.store g.old) }
-    requires kind { (G.store g.old).kind ≡ line_kind.Call }
-    requires lives { is_some (process_of t.old pid.0) ≡ true }
+    requires ready { IsReadyFor G.Pages line_kind.Call pid t.old g.old }
     requires section { ViewFits t.old view count }
     requires some { 1 ≤ count }
     requires granule { is_granule_address addr ≡ true }
@@ -121,16 +111,11 @@ fn place_view<G: Pages>(
           answer = a;
           world = t.new;
         }) }
-    ensures makes { OnErr result ((p : ProcessOf (Unit {0})) (s : Found SectionOf)
+    ensures succeeds { OnErr result ((p : ProcessOf (Unit {0})) (s : Found SectionOf)
         → process_of t.old pid.0 ≡ Some p
         → is_success (place_view t.old pid.0 p s view.access view.first count addr).answer ≡ true) }
-    ensures err { OnErr result ((t.new ≡ t.old) × (G.contents g.new ≡ G.contents g.old)) }
-    ensures settled { Settled t.new (G.contents g.old) (G.contents g.new) (G.store g.old)
-        (G.store g.new) }
-    ensures passes { (turn : Turn) →
-        PassesIn G.unpaged (Turns turn) (G.store g.old) (G.store g.new) (G.behind g.old)
-        (G.behind g.new) }
-    ensures loans { G.loans g.new ≡ G.loans g.old }
+    ensures settles { SettlesTables G.Pages result t.old t.new g.old g.new }
+    ensures idles { StaysIdle G.Pages g.old g.new }
 {
     let range = match t.space(pid).gap_for_view(addr, count) {
         Some(range) => range,

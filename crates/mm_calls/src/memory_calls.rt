@@ -1,16 +1,12 @@
-ghost use Rattle.std.specs.Prelude.{◌≡◌, true, false, is_some, IsOk, IfOk, OnErr};
-ghost use Rattle.mm_types.specs.declared.moves.LineKind.TheVariants as line_kind;
-ghost use Rattle.mm_world.specs.Find.{process_of};
+ghost use Rattle.std.specs.Prelude.{◌≡◌, false, IsOk, IfOk, OnErr};
 ghost use Rattle.mm_world.specs.Alloc.{alloc};
 ghost use Rattle.mm_world.specs.Contents.{blank};
 ghost use Rattle.mm_world.specs.Free.{free};
 ghost use Rattle.mm_world.specs.Protect.{protect};
-ghost use Rattle.mm_pages.specs.Housekeeping.{Turn, Turns, Makes, Goes};
-ghost use Rattle.mm_pages.specs.Leaving.{leaving};
-ghost use Rattle.mm_pages.specs.Passing.{PassesIn};
-ghost use Rattle.mm_tables.specs.Fits.{FitsTables, Called, store_beside, is_uncommitted};
 ghost use Rattle.mm_calls.specs.Allocating.{allocates_anew};
 ghost use Rattle.mm_calls.specs.Marking.{marks_anew};
+ghost use Rattle.mm_tables.specs.Promises.{MakesPages, StaysIdle};
+ghost use Rattle.mm_calls.specs.CallPromises.{BeginsCall, BeginsRelease, AnswersCall, LacksMemory, LosesPages};
 
 use crate::allocations::{commit, reserve};
 use crate::frees::{decommit_range, decommit_region, release};
@@ -45,21 +41,12 @@ pub fn valloc<G: Pages>(
     kind: u32,
     prot: u32,
 ) -> Result<Answer, NoMemory>
-    requires fits { FitsTables t.old (G.contents g.old) (G.store g.old) }
-    requires kind { (G.store g.old).kind ≡ line_kind.Call }
-    ensures ok { IfOk result (λ a. Called (alloc blank t.old pid.0 addr size kind prot) t.old
-        (G.contents g.old) a t.new (G.contents g.new)) }
-    ensures err { OnErr result ((t.new ≡ t.old) × (G.contents g.new ≡ G.contents g.old)) }
+    requires begins { BeginsCall G.Pages t.old g.old }
+    ensures done { IfOk result (λ a. AnswersCall G.Pages
+        (alloc blank t.old pid.0 addr size kind prot) t.old g.old a t.new g.new) }
+    ensures broke { OnErr result (LacksMemory G.Pages t.old g.old t.new g.new) }
     ensures no_memory { allocates_anew blank t.old pid.0 addr size kind prot ≡ false → IsOk result }
-    ensures fits { FitsTables t.new (G.contents g.new) (G.store g.new) }
-    ensures beside { G.store g.new ≡ store_beside (G.store g.old) (G.store g.new) }
-    ensures passes { PassesIn G.unpaged (Turns Makes) (G.store g.old) (G.store g.new)
-        (G.behind g.old) (G.behind g.new) }
-    ensures idle { OnErr result
-        ((turn : Turn) →
-        PassesIn G.unpaged (Turns turn) (G.store g.old) (G.store g.new) (G.behind g.old)
-        (G.behind g.new)) }
-    ensures loans { G.loans g.new ≡ G.loans g.old }
+    ensures makes { MakesPages G.Pages result g.old g.new }
 {
     if !t.has(pid) {
         return Ok(Answer::Error(Code::InvalidHandle));
@@ -90,16 +77,10 @@ pub fn vfree<G: Pages>(
     size: u32,
     kind: u32,
 ) -> Answer
-    requires fits { FitsTables t.old (G.contents g.old) (G.store g.old) }
-    requires kind { is_some (process_of t.old pid.0) ≡ true →
-        (G.store g.old).kind ≡ line_kind.Unbind pid }
-    ensures called { Called (free t.old pid.0 addr size kind) t.old (G.contents g.old) result t.new
-        (G.contents g.new) }
-    ensures fits { FitsTables t.new (G.contents g.new) (G.store g.new) }
-    ensures beside { G.store g.new ≡ store_beside (G.store g.old) (G.store g.new) }
-    ensures passes { PassesIn G.unpaged (Turns (Goes (leaving t.old pid.0 (is_uncommitted t.new))))
-        (G.store g.old) (G.store g.new) (G.behind g.old) (G.behind g.new) }
-    ensures loans { G.loans g.new ≡ G.loans g.old }
+    requires begins { BeginsRelease G.Pages pid t.old g.old }
+    ensures done { AnswersCall G.Pages (free t.old pid.0 addr size kind) t.old g.old result t.new
+        g.new }
+    ensures loses { LosesPages G.Pages pid t.old t.new g.old g.new }
 {
     if !t.has(pid) {
         return Answer::Error(Code::InvalidHandle);
@@ -133,18 +114,12 @@ pub fn protect<G: Pages>(
     size: u32,
     prot: u32,
 ) -> Result<Answer, NoMemory>
-    requires fits { FitsTables t.old (G.contents g.old) (G.store g.old) }
-    requires kind { (G.store g.old).kind ≡ line_kind.Call }
-    ensures ok { IfOk result (λ a. Called (protect t.old pid.0 addr size prot) t.old
-        (G.contents g.old) a t.new (G.contents g.new)) }
-    ensures err { OnErr result ((t.new ≡ t.old) × (G.contents g.new ≡ G.contents g.old)) }
+    requires begins { BeginsCall G.Pages t.old g.old }
+    ensures done { IfOk result (λ a. AnswersCall G.Pages (protect t.old pid.0 addr size prot) t.old
+        g.old a t.new g.new) }
+    ensures broke { OnErr result (LacksMemory G.Pages t.old g.old t.new g.new) }
     ensures no_memory { marks_anew t.old pid.0 addr size prot ≡ false → IsOk result }
-    ensures fits { FitsTables t.new (G.contents g.new) (G.store g.new) }
-    ensures beside { G.store g.new ≡ store_beside (G.store g.old) (G.store g.new) }
-    ensures passes { (turn : Turn) →
-        PassesIn G.unpaged (Turns turn) (G.store g.old) (G.store g.new) (G.behind g.old)
-        (G.behind g.new) }
-    ensures loans { G.loans g.new ≡ G.loans g.old }
+    ensures idles { StaysIdle G.Pages g.old g.new }
 {
     if !t.has(pid) {
         return Ok(Answer::Error(Code::InvalidHandle));

@@ -1,19 +1,16 @@
 ghost use Rattle.std.specs.Prelude.{◌≡◌, ◌≤◌, true, is_some, Option, Some, None, IfOk, OnErr, option_map, option_and_then};
 ghost use Rattle.mm_types.specs.declared.answers.Answer.TheVariants as answer;
 ghost use Rattle.mm_types.specs.declared.moves.LineKind.TheVariants as line_kind;
-ghost use Rattle.mm_types.specs.declared.numbers.Key.{Key};
-ghost use Rattle.mm_world.specs.World.{Page, ProcessOf};
+ghost use Rattle.mm_world.specs.World.{ProcessOf};
 ghost use Rattle.mm_world.specs.Find.{process_of, section_of, section_named, area_at};
 ghost use Rattle.mm_world.specs.Laws.{is_success};
 ghost use Rattle.mm_world.specs.Outcome.{done};
 ghost use Rattle.mm_world.specs.Sections.{next_handle, with_handle, new_section, section_prot};
-ghost use Rattle.mm_pages.specs.Housekeeping.{Turn, Turns, Makes};
-ghost use Rattle.mm_pages.specs.Passing.{PassesIn};
-ghost use Rattle.mm_pages.specs.Store.{StoreOf};
 ghost use Rattle.mm_sections.specs.Directories.{id_of};
 ghost use Rattle.mm_tables.specs.References.{IsFew};
-ghost use Rattle.mm_tables.specs.Fits.{FitsTables, Settled};
 ghost use Rattle.mm_calls.specs.Stages.{make_section};
+ghost use Rattle.mm_tables.specs.Promises.{IsReadyFor, MakesPages};
+ghost use Rattle.mm_calls.specs.CallPromises.{DecidesIn, LacksMemory, StaysSettled};
 
 use crate::section_parameters::{is_reserve, section_prot};
 use mm_pages::Pages;
@@ -43,8 +40,7 @@ pub(crate) fn add_existing(t: &mut Tables, pid: Pid, id: SectionId) -> Result<An
           world = t.new;
         }) }
     ensures err { OnErr result (t.new ≡ t.old) }
-    ensures settled { (c : Key → Option Page) (s : StoreOf) → FitsTables t.old c s →
-        Settled t.new c c s s }
+    ensures settled { StaysSettled t.old t.new }
 {
     let handle = t.add_handle(pid, id)?;
     Ok(Answer::Created(handle, true))
@@ -61,26 +57,16 @@ pub(crate) fn add_paging_section<G: Pages>(
     flags: u32,
     name: Option<Name>,
 ) -> Result<Answer, NoMemory>
-    requires fits { FitsTables t.old (G.contents g.old) (G.store g.old) }
-    requires kind { (G.store g.old).kind ≡ line_kind.Call }
-    requires lives { is_some (process_of t.old pid.0) ≡ true }
+    requires ready { IsReadyFor G.Pages line_kind.Call pid t.old g.old }
     requires few { IsFew t.old }
     requires some { 1 ≤ size }
     requires unnamed { option_and_then (section_named t.old) name ≡ None }
-    ensures ok { IfOk result (λ a. (p : ProcessOf (Unit {0})) → process_of t.old pid.0 ≡ Some p
-        → make_section t.old pid.0 p size flags name ≡ record { answer = a; world = t.new }) }
-    ensures makes { OnErr result ((p : ProcessOf (Unit {0})) → process_of t.old pid.0 ≡ Some p
+    ensures done { IfOk result (λ a. DecidesIn G.Pages pid (λ p.
+        make_section t.old pid.0 p size flags name) t.old g.old a t.new g.new) }
+    ensures broke { OnErr result (LacksMemory G.Pages t.old g.old t.new g.new) }
+    ensures succeeds { OnErr result ((p : ProcessOf (Unit {0})) → process_of t.old pid.0 ≡ Some p
         → is_success (make_section t.old pid.0 p size flags name).answer ≡ true) }
-    ensures err { OnErr result ((t.new ≡ t.old) × (G.contents g.new ≡ G.contents g.old)) }
-    ensures settled { Settled t.new (G.contents g.old) (G.contents g.new) (G.store g.old)
-        (G.store g.new) }
-    ensures passes { PassesIn G.unpaged (Turns Makes) (G.store g.old) (G.store g.new)
-        (G.behind g.old) (G.behind g.new) }
-    ensures idle { OnErr result
-        ((turn : Turn) →
-        PassesIn G.unpaged (Turns turn) (G.store g.old) (G.store g.new) (G.behind g.old)
-        (G.behind g.new)) }
-    ensures loans { G.loans g.new ≡ G.loans g.old }
+    ensures makes { MakesPages G.Pages result g.old g.new }
 {
     let pages = pages_for(size);
     let committed = !is_reserve(flags);
@@ -118,8 +104,7 @@ pub(crate) fn add_file_section(
           area = area.0;
         }) ≡ record { answer = a; world = t.new }) }
     ensures err { OnErr result (t.new ≡ t.old) }
-    ensures settled { (c : Key → Option Page) (s : StoreOf) → FitsTables t.old c s →
-        Settled t.new c c s s }
+    ensures settled { StaysSettled t.old t.new }
 {
     let handle = t.add_file_section(pid, area, section_prot(flags), name)?;
     Ok(Answer::Created(handle, false))

@@ -1,21 +1,18 @@
-ghost use Rattle.std.specs.Prelude.{◌≡◌, ℕ, ◌≤◌, ◌<◌, ◌+◌, ◌-◌, true, false, is_some, min, Option, Some, IsOk, IfOk, OnOk, OnErr};
+ghost use Rattle.std.specs.Prelude.{◌≡◌, ◌≤◌, ◌<◌, ◌+◌, ◌-◌, true, false, is_some, min, Some, IsOk, IfOk, OnOk, OnErr};
 ghost use Rattle.mm_types.specs.Address.{address_of};
 ghost use Rattle.mm_types.specs.Allocation.{commit_type};
 ghost use Rattle.mm_types.specs.declared.answers.Answer.TheVariants as answer;
 ghost use Rattle.mm_types.specs.declared.moves.LineKind.TheVariants as line_kind;
-ghost use Rattle.mm_types.specs.declared.numbers.Key.{Key};
-ghost use Rattle.mm_world.specs.World.{Page, ProcessOf};
+ghost use Rattle.mm_world.specs.World.{ProcessOf};
 ghost use Rattle.mm_world.specs.Find.{process_of, set_stack};
 ghost use Rattle.mm_world.specs.Alloc.{alloc};
 ghost use Rattle.mm_world.specs.Charge.{charge, limit};
 ghost use Rattle.mm_world.specs.Keys.{Committed, committed_at, guard_off};
 ghost use Rattle.mm_world.specs.Contents.{blank};
 ghost use Rattle.mm_world.specs.Stack.{probe, is_overflow};
-ghost use Rattle.mm_pages.specs.Housekeeping.{Turn, Turns, Makes};
-ghost use Rattle.mm_pages.specs.Passing.{PassesIn};
-ghost use Rattle.mm_pages.specs.Store.{StoreOf};
-ghost use Rattle.mm_tables.specs.Fits.{FitsTables, Settled, Called, store_beside};
 ghost use Rattle.mm_calls.specs.Growth.{grows, guard_lowered};
+ghost use Rattle.mm_tables.specs.Promises.{IsReadyFor, MakesPages, SettlesTables};
+ghost use Rattle.mm_calls.specs.CallPromises.{BeginsCall, AnswersCall, LacksMemory, StaysFit};
 
 use crate::commit;
 use mm_pages::Pages;
@@ -47,9 +44,7 @@ fn total_with_one(t: &Tables) -> u32
 /// guard page off. After `NoMemory` tables and bytes are as before.
 #[tactic(auto, using(mm_pages::proofs::Passed::idle_before))]
 fn grow<G: Pages>(t: &mut Tables, g: &mut G, stack: &ThreadStack) -> Result<(), NoMemory>
-    requires fits { FitsTables t.old (G.contents g.old) (G.store g.old) }
-    requires kind { (G.store g.old).kind ≡ line_kind.Call }
-    requires lives { is_some (process_of t.old stack.now.pid) ≡ true }
+    requires ready { IsReadyFor G.Pages line_kind.Call (record { 0 = stack.now.pid }) t.old g.old }
     requires committed { (p : ProcessOf (Unit {0})) → process_of t.old stack.now.pid ≡ Some p →
         is_some (committed_at t.old p.regions stack.now.guard_page) ≡ true }
     ensures ok { OnOk result ((p : ProcessOf (Unit {0})) (c : Committed (Unit {0})) →
@@ -57,16 +52,8 @@ fn grow<G: Pages>(t: &mut Tables, g: &mut G, stack: &ThreadStack) -> Result<(), 
         committed_at t.old p.regions stack.now.guard_page ≡ Some c
         → t.new ≡ (alloc blank (guard_off t.old stack.now.pid p c stack.now.guard_page)
         stack.now.pid (address_of (stack.now.guard_page - 1)) 1 commit_type 0x104).world) }
-    ensures err { OnErr result ((t.new ≡ t.old) × (G.contents g.new ≡ G.contents g.old)) }
-    ensures settled { Settled t.new (G.contents g.old) (G.contents g.new) (G.store g.old)
-        (G.store g.new) }
-    ensures passes { PassesIn G.unpaged (Turns Makes) (G.store g.old) (G.store g.new)
-        (G.behind g.old) (G.behind g.new) }
-    ensures idle { OnErr result
-        ((turn : Turn) →
-        PassesIn G.unpaged (Turns turn) (G.store g.old) (G.store g.new) (G.behind g.old)
-        (G.behind g.new)) }
-    ensures loans { G.loans g.new ≡ G.loans g.old }
+    ensures settles { SettlesTables G.Pages result t.old t.new g.old g.new }
+    ensures makes { MakesPages G.Pages result g.old g.new }
 {
     t.sound();
     let total = total_with_one(t);
@@ -86,8 +73,7 @@ fn lower(t: &mut Tables, tid: Tid, stack: &ThreadStack) -> Answer
     requires above { stack.now.base + 1 < stack.now.guard_page }
     ensures answer { result ≡ answer.At (address_of (stack.now.guard_page - 1)) }
     ensures lowered { t.new ≡ set_stack t.old tid.0 (guard_lowered stack.now) }
-    ensures fits { (c : Key → Option Page) (s : StoreOf) → FitsTables t.old c s →
-        FitsTables t.new c s }
+    ensures fits { StaysFit t.old t.new }
 {
     let guard_page = stack.guard_page - 1;
     t.set_stack(
@@ -111,21 +97,12 @@ fn lower(t: &mut Tables, tid: Tid, stack: &ThreadStack) -> Answer
 /// permits no read. `NoMemory` comes only where the stack grows; then nothing has changed.
 #[tactic(auto, using(mm_pages::proofs::Passed::turns_same))]
 pub fn probe<G: Pages>(t: &mut Tables, g: &mut G, tid: Tid, addr: u32) -> Result<Answer, NoMemory>
-    requires fits { FitsTables t.old (G.contents g.old) (G.store g.old) }
-    requires kind { (G.store g.old).kind ≡ line_kind.Call }
-    ensures ok { IfOk result (λ a. Called (probe blank t.old tid.0 addr) t.old (G.contents g.old) a
-        t.new (G.contents g.new)) }
-    ensures err { OnErr result ((t.new ≡ t.old) × (G.contents g.new ≡ G.contents g.old)) }
+    requires begins { BeginsCall G.Pages t.old g.old }
+    ensures done { IfOk result (λ a. AnswersCall G.Pages (probe blank t.old tid.0 addr) t.old g.old
+        a t.new g.new) }
+    ensures broke { OnErr result (LacksMemory G.Pages t.old g.old t.new g.new) }
     ensures no_memory { grows blank t.old tid.0 addr ≡ false → IsOk result }
-    ensures fits { FitsTables t.new (G.contents g.new) (G.store g.new) }
-    ensures beside { G.store g.new ≡ store_beside (G.store g.old) (G.store g.new) }
-    ensures passes { PassesIn G.unpaged (Turns Makes) (G.store g.old) (G.store g.new)
-        (G.behind g.old) (G.behind g.new) }
-    ensures idle { OnErr result
-        ((turn : Turn) →
-        PassesIn G.unpaged (Turns turn) (G.store g.old) (G.store g.new) (G.behind g.old)
-        (G.behind g.new)) }
-    ensures loans { G.loans g.new ≡ G.loans g.old }
+    ensures makes { MakesPages G.Pages result g.old g.new }
 {
     let stack = match t.stack_of(tid) {
         Some(stack) => stack,

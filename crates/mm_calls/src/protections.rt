@@ -4,11 +4,11 @@ ghost use Rattle.mm_world.specs.World.{RegionOf, ProcessOf};
 ghost use Rattle.mm_world.specs.Charge.{charge};
 ghost use Rattle.mm_world.specs.Find.{Found, process_of, region_around};
 ghost use Rattle.mm_world.specs.Rows.{is_protection_among, all_protections, is_committed_at, every_page};
-ghost use Rattle.mm_pages.specs.Housekeeping.{Turn, Turns};
-ghost use Rattle.mm_pages.specs.Passing.{PassesIn};
 ghost use Rattle.mm_spaces.specs.Asked.{IsAsked};
-ghost use Rattle.mm_tables.specs.Fits.{FitsTables, Settled, new_marks};
+ghost use Rattle.mm_tables.specs.Fits.{new_marks};
 ghost use Rattle.mm_calls.specs.Marking.{protect_pages};
+ghost use Rattle.mm_tables.specs.Promises.{IsReadyFor, StaysIdle};
+ghost use Rattle.mm_calls.specs.CallPromises.{DecidesIn, LacksMemory};
 
 use mm_pages::Pages;
 use mm_spaces::{AddressSpace, PageRange, ProtectInfo};
@@ -24,23 +24,15 @@ pub(crate) fn protect_range<G: Pages>(
     range: PageRange,
     prot: u32,
 ) -> Result<Answer, NoMemory>
-    requires fits { FitsTables t.old (G.contents g.old) (G.store g.old) }
-    requires kind { (G.store g.old).kind ≡ line_kind.Call }
-    requires lives { is_some (process_of t.old pid.0) ≡ true }
+    requires ready { IsReadyFor G.Pages line_kind.Call pid t.old g.old }
     requires prot { is_protection_among all_protections prot ≡ true }
-    ensures ok { IfOk result (λ a. (p : ProcessOf (Unit {0})) → process_of t.old pid.0 ≡ Some p
-        → protect_pages t.old pid.0 p range prot ≡ record { answer = a; world = t.new }) }
-    ensures err { OnErr result ((t.new ≡ t.old) × (G.contents g.new ≡ G.contents g.old)) }
+    ensures done { IfOk result (λ a. DecidesIn G.Pages pid (λ p.
+        protect_pages t.old pid.0 p range prot) t.old g.old a t.new g.new) }
+    ensures broke { OnErr result (LacksMemory G.Pages t.old g.old t.new g.new) }
     ensures marks { OnErr result ((p : ProcessOf (Unit {0})) → process_of t.old pid.0 ≡ Some p
         → charge t.old < charge (protect_pages t.old pid.0 p range prot).world) }
-    ensures settled { Settled t.new (G.contents g.old) (G.contents g.new) (G.store g.old)
-        (G.store g.new) }
-    ensures passes { (turn : Turn) →
-        PassesIn G.unpaged (Turns turn) (G.store g.old) (G.store g.new) (G.behind g.old)
-        (G.behind g.new) }
-    ensures loans { G.loans g.new ≡ G.loans g.old }
+    ensures idles { StaysIdle G.Pages g.old g.new }
 {
-    t.sound();
     let space = t.space(pid);
     let asked = match space.protect_info(range, prot) {
         Some(asked) => asked,

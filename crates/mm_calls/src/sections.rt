@@ -1,17 +1,13 @@
-ghost use Rattle.std.specs.Prelude.{◌≡◌, ℕ, Bool, false, Option, IfOk, IsOk, OnErr};
-ghost use Rattle.mm_types.specs.declared.moves.LineKind.TheVariants as line_kind;
-ghost use Rattle.mm_types.specs.declared.numbers.Key.{Key};
-ghost use Rattle.mm_world.specs.World.{Page};
+ghost use Rattle.std.specs.Prelude.{◌≡◌, Bool, false, Option, IfOk, IsOk, OnErr};
 ghost use Rattle.mm_world.specs.Contents.{blank};
 ghost use Rattle.mm_world.specs.Laws.{is_success};
 ghost use Rattle.mm_world.specs.Sections.{create, create_file, open_section, close};
 ghost use Rattle.mm_types.specs.declared.numbers.Place.{Place};
-ghost use Rattle.mm_pages.specs.Housekeeping.{Turn, Turns, Makes, Goes};
+ghost use Rattle.mm_pages.specs.Housekeeping.{Goes};
 ghost use Rattle.mm_pages.specs.Leaving.{leaving};
-ghost use Rattle.mm_pages.specs.Passing.{PassesIn};
-ghost use Rattle.mm_pages.specs.Store.{StoreOf};
 ghost use Rattle.mm_tables.specs.References.{IsFew};
-ghost use Rattle.mm_tables.specs.Fits.{FitsTables, Called, Settled, store_beside};
+ghost use Rattle.mm_tables.specs.Promises.{MakesPages, PassesAs};
+ghost use Rattle.mm_calls.specs.CallPromises.{BeginsCall, AnswersCall, LacksMemory, StaysSettled};
 
 use crate::new_sections::{add_existing, add_file_section, add_paging_section, section_with};
 use crate::section_parameters::{are_section_flags, are_section_parameters};
@@ -38,23 +34,14 @@ pub fn create<G: Pages>(
     flags: u32,
     name: Option<Name>,
 ) -> Result<Answer, NoMemory>
-    requires fits { FitsTables t.old (G.contents g.old) (G.store g.old) }
-    requires kind { (G.store g.old).kind ≡ line_kind.Call }
+    requires begins { BeginsCall G.Pages t.old g.old }
     requires few { IsFew t.old }
-    ensures ok { IfOk result (λ a. Called (create blank t.old pid.0 size flags name) t.old
-        (G.contents g.old) a t.new (G.contents g.new)) }
-    ensures err { OnErr result ((t.new ≡ t.old) × (G.contents g.new ≡ G.contents g.old)) }
+    ensures done { IfOk result (λ a. AnswersCall G.Pages (create blank t.old pid.0 size flags name)
+        t.old g.old a t.new g.new) }
+    ensures broke { OnErr result (LacksMemory G.Pages t.old g.old t.new g.new) }
     ensures no_memory { is_success (create blank t.old pid.0 size flags name).answer ≡ false
         → IsOk result }
-    ensures fits { FitsTables t.new (G.contents g.new) (G.store g.new) }
-    ensures beside { G.store g.new ≡ store_beside (G.store g.old) (G.store g.new) }
-    ensures passes { PassesIn G.unpaged (Turns Makes) (G.store g.old) (G.store g.new)
-        (G.behind g.old) (G.behind g.new) }
-    ensures idle { OnErr result
-        ((turn : Turn) →
-        PassesIn G.unpaged (Turns turn) (G.store g.old) (G.store g.new) (G.behind g.old)
-        (G.behind g.new)) }
-    ensures loans { G.loans g.new ≡ G.loans g.old }
+    ensures makes { MakesPages G.Pages result g.old g.new }
 {
     if !t.has(pid) {
         return Ok(Answer::Error(Code::InvalidHandle));
@@ -89,8 +76,7 @@ pub fn create_file(
     ensures err { OnErr result (t.new ≡ t.old) }
     ensures no_memory { is_success (create_file t.old pid.0 file.now flags name).answer ≡ false
         → IsOk result }
-    ensures settled { (c : Key → Option Page) (s : StoreOf) → FitsTables t.old c s →
-        Settled t.new c c s s }
+    ensures settled { StaysSettled t.old t.new }
 {
     if !t.has(pid) {
         return Ok(Answer::Error(Code::InvalidHandle));
@@ -122,8 +108,7 @@ pub fn open_section(t: &mut Tables, pid: Pid, name: &Name) -> Result<Answer, NoM
     ensures err { OnErr result (t.new ≡ t.old) }
     ensures no_memory { is_success (open_section t.old pid.0 name.now).answer ≡ false
         → IsOk result }
-    ensures settled { (c : Key → Option Page) (s : StoreOf) → FitsTables t.old c s →
-        Settled t.new c c s s }
+    ensures settled { StaysSettled t.old t.new }
 {
     if !t.has(pid) {
         return Ok(Answer::Error(Code::InvalidHandle));
@@ -142,15 +127,10 @@ pub fn open_section(t: &mut Tables, pid: Pid, name: &Name) -> Result<Answer, NoM
 /// `InvalidHandle` for a process that does not live, or has no such handle.
 #[tactic(auto, using(mm_pages::proofs::Passed::turns_same))]
 pub fn close<G: Pages>(t: &mut Tables, g: &mut G, pid: Pid, handle: u32) -> Answer
-    requires fits { FitsTables t.old (G.contents g.old) (G.store g.old) }
-    requires kind { (G.store g.old).kind ≡ line_kind.Call }
-    ensures called { Called (close t.old pid.0 handle) t.old (G.contents g.old) result t.new
-        (G.contents g.new) }
-    ensures fits { FitsTables t.new (G.contents g.new) (G.store g.new) }
-    ensures beside { G.store g.new ≡ store_beside (G.store g.old) (G.store g.new) }
+    requires begins { BeginsCall G.Pages t.old g.old }
+    ensures done { AnswersCall G.Pages (close t.old pid.0 handle) t.old g.old result t.new g.new }
     ensures passes { (places : Place → Bool) →
-        PassesIn G.unpaged (Turns (Goes (leaving t.old pid.0 places))) (G.store g.old)
-        (G.store g.new) (G.behind g.old) (G.behind g.new) }
+        PassesAs G.Pages (Goes (leaving t.old pid.0 places)) g.old g.new }
     ensures loans { G.loans g.new ≡ G.loans g.old }
 {
     if !t.has(pid) || t.section_at(pid, handle).is_none() {

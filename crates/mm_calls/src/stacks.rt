@@ -1,17 +1,13 @@
-ghost use Rattle.std.specs.Prelude.{◌≡◌, ℕ, ◌≤◌, ◌+◌, ◌-◌, false, Option, IfOk, IsOk, OnErr};
+ghost use Rattle.std.specs.Prelude.{◌≡◌, ◌≤◌, ◌+◌, ◌-◌, false, IfOk, IsOk, OnErr};
 ghost use Rattle.mm_types.specs.Address.{address_of, end_of, end_of_user_pages};
 ghost use Rattle.mm_types.specs.declared.answers.Answer.TheVariants as answer;
-ghost use Rattle.mm_types.specs.declared.moves.LineKind.TheVariants as line_kind;
-ghost use Rattle.mm_types.specs.declared.numbers.Key.{Key};
-ghost use Rattle.mm_world.specs.World.{Page};
 ghost use Rattle.mm_world.specs.Find.{set_stack};
 ghost use Rattle.mm_world.specs.Contents.{blank};
 ghost use Rattle.mm_world.specs.Stack.{stack};
 ghost use Rattle.mm_world.specs.Laws.{is_success};
-ghost use Rattle.mm_pages.specs.Housekeeping.{Turn, Turns, MakesStack, guard_told};
-ghost use Rattle.mm_pages.specs.Passing.{PassesIn};
-ghost use Rattle.mm_pages.specs.Store.{StoreOf};
-ghost use Rattle.mm_tables.specs.Fits.{FitsTables, Called, store_beside};
+ghost use Rattle.mm_pages.specs.Housekeeping.{Turn, MakesStack, guard_told};
+ghost use Rattle.mm_tables.specs.Promises.{PassesAs};
+ghost use Rattle.mm_calls.specs.CallPromises.{IsTallEnough, BeginsCall, AnswersCall, LacksMemory, StaysFit};
 
 use crate::stack_regions::make_region;
 use crate::stack_sizes::{commit_pages, reserve_pages};
@@ -24,8 +20,7 @@ use std::alloc::Global;
 /// A thread has the stack that was made of these pages, the top `top` of them committed. Tells the
 /// answer to its `stack` line.
 fn begin(t: &mut Tables, tid: Tid, pid: Pid, range: PageRange, top: u32) -> Answer
-    requires some { 1 ≤ top }
-    requires inside { top + 2 ≤ range.count }
+    requires tall { IsTallEnough top range }
     requires user { end_of range ≤ end_of_user_pages }
     ensures answer { result ≡ answer.Stack (address_of range.first) (address_of range.count)
         (address_of (range.first + range.count - (top + 1))) }
@@ -34,8 +29,7 @@ fn begin(t: &mut Tables, tid: Tid, pid: Pid, range: PageRange, top: u32) -> Answ
       base = range.first;
       guard_page = range.first + range.count - (top + 1);
     }) }
-    ensures fits { (c : Key → Option Page) (s : StoreOf) → FitsTables t.old c s →
-        FitsTables t.new c s }
+    ensures fits { StaysFit t.old t.new }
 {
     let guard_page = range.first + range.count - (top + 1);
     t.set_stack(
@@ -74,21 +68,14 @@ pub fn stack<G: Pages>(
     reserve: u32,
     commit: u32,
 ) -> Result<Answer, NoMemory>
-    requires fits { FitsTables t.old (G.contents g.old) (G.store g.old) }
-    requires kind { (G.store g.old).kind ≡ line_kind.Call }
-    ensures ok { IfOk result (λ a. Called (stack blank t.old tid.0 pid.0 reserve commit) t.old
-        (G.contents g.old) a t.new (G.contents g.new)) }
-    ensures err { OnErr result ((t.new ≡ t.old) × (G.contents g.new ≡ G.contents g.old)) }
+    requires begins { BeginsCall G.Pages t.old g.old }
+    ensures done { IfOk result (λ a. AnswersCall G.Pages
+        (stack blank t.old tid.0 pid.0 reserve commit) t.old g.old a t.new g.new) }
+    ensures broke { OnErr result (LacksMemory G.Pages t.old g.old t.new g.new) }
     ensures no_memory { is_success (stack blank t.old tid.0 pid.0 reserve commit).answer ≡ false →
         IsOk result }
-    ensures fits { FitsTables t.new (G.contents g.new) (G.store g.new) }
-    ensures beside { G.store g.new ≡ store_beside (G.store g.old) (G.store g.new) }
-    ensures passes { IfOk result (λ a. PassesIn G.unpaged (Turns (MakesStack (guard_told a)))
-        (G.store g.old) (G.store g.new) (G.behind g.old) (G.behind g.new)) }
-    ensures idle { OnErr result
-        ((turn : Turn) →
-        PassesIn G.unpaged (Turns turn) (G.store g.old) (G.store g.new) (G.behind g.old)
-        (G.behind g.new)) }
+    ensures passes { IfOk result (λ a. PassesAs G.Pages (MakesStack (guard_told a)) g.old g.new) }
+    ensures idle { OnErr result ((turn : Turn) → PassesAs G.Pages turn g.old g.new) }
     ensures loans { G.loans g.new ≡ G.loans g.old }
 {
     if !t.has(pid) {

@@ -1,13 +1,10 @@
-ghost use Rattle.std.specs.Prelude.{◌≡◌, true, false, is_some, IfOk, IsOk, OnErr};
-ghost use Rattle.mm_types.specs.declared.moves.LineKind.TheVariants as line_kind;
+ghost use Rattle.std.specs.Prelude.{◌≡◌, false, IfOk, IsOk, OnErr};
 ghost use Rattle.mm_types.specs.declared.views.Kind.TheVariants as view_kind;
-ghost use Rattle.mm_world.specs.Find.{process_of, is_private};
+ghost use Rattle.mm_world.specs.Find.{is_private};
 ghost use Rattle.mm_world.specs.Laws.{is_success};
 ghost use Rattle.mm_world.specs.Views.{map_view, unmap};
-ghost use Rattle.mm_pages.specs.Housekeeping.{Turn, Turns, Goes};
-ghost use Rattle.mm_pages.specs.Leaving.{leaving};
-ghost use Rattle.mm_pages.specs.Passing.{PassesIn};
-ghost use Rattle.mm_tables.specs.Fits.{FitsTables, Called, store_beside, is_uncommitted};
+ghost use Rattle.mm_tables.specs.Promises.{StaysIdle};
+ghost use Rattle.mm_calls.specs.CallPromises.{BeginsCall, BeginsRelease, AnswersCall, LacksMemory, LosesPages};
 
 use crate::mappings::map_handle;
 use crate::section_parameters::view_access;
@@ -38,21 +35,14 @@ pub fn map<G: Pages>(
     view_length: u32,
     addr: u32,
 ) -> Result<Answer, NoMemory>
-    requires fits { FitsTables t.old (G.contents g.old) (G.store g.old) }
-    requires kind { (G.store g.old).kind ≡ line_kind.Call }
-    ensures ok { IfOk result (λ a.
-        Called (map_view t.old pid.0 handle access offset view_length addr) t.old (G.contents g.old)
-        a t.new (G.contents g.new)) }
-    ensures err { OnErr result ((t.new ≡ t.old) × (G.contents g.new ≡ G.contents g.old)) }
+    requires begins { BeginsCall G.Pages t.old g.old }
+    ensures done { IfOk result (λ a. AnswersCall G.Pages
+        (map_view t.old pid.0 handle access offset view_length addr) t.old g.old a t.new g.new) }
+    ensures broke { OnErr result (LacksMemory G.Pages t.old g.old t.new g.new) }
     ensures no_memory { is_success (map_view t.old pid.0 handle access offset view_length
         addr).answer ≡ false
         → IsOk result }
-    ensures fits { FitsTables t.new (G.contents g.new) (G.store g.new) }
-    ensures beside { G.store g.new ≡ store_beside (G.store g.old) (G.store g.new) }
-    ensures passes { (turn : Turn) →
-        PassesIn G.unpaged (Turns turn) (G.store g.old) (G.store g.new) (G.behind g.old)
-        (G.behind g.new) }
-    ensures loans { G.loans g.new ≡ G.loans g.old }
+    ensures idles { StaysIdle G.Pages g.old g.new }
 {
     if !t.has(pid) {
         return Ok(Answer::Error(Code::InvalidHandle));
@@ -82,16 +72,9 @@ pub fn map<G: Pages>(
 /// as its base, to the byte.
 #[tactic(auto, using(mm_pages::proofs::Passed::turns_same))]
 pub fn unmap<G: Pages>(t: &mut Tables, g: &mut G, pid: Pid, addr: u32) -> Answer
-    requires fits { FitsTables t.old (G.contents g.old) (G.store g.old) }
-    requires kind { is_some (process_of t.old pid.0) ≡ true →
-        (G.store g.old).kind ≡ line_kind.Unbind pid }
-    ensures called { Called (unmap t.old pid.0 addr) t.old (G.contents g.old) result t.new
-        (G.contents g.new) }
-    ensures fits { FitsTables t.new (G.contents g.new) (G.store g.new) }
-    ensures beside { G.store g.new ≡ store_beside (G.store g.old) (G.store g.new) }
-    ensures passes { PassesIn G.unpaged (Turns (Goes (leaving t.old pid.0 (is_uncommitted t.new))))
-        (G.store g.old) (G.store g.new) (G.behind g.old) (G.behind g.new) }
-    ensures loans { G.loans g.new ≡ G.loans g.old }
+    requires begins { BeginsRelease G.Pages pid t.old g.old }
+    ensures done { AnswersCall G.Pages (unmap t.old pid.0 addr) t.old g.old result t.new g.new }
+    ensures loses { LosesPages G.Pages pid t.old t.new g.old g.new }
 {
     if !t.has(pid) {
         return Answer::Error(Code::InvalidHandle);

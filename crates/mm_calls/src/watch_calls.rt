@@ -7,6 +7,7 @@ ghost use Rattle.mm_world.specs.Watch.{watch, reset_watch, watched_around, writt
 ghost use Rattle.mm_pages.specs.Store.{StoreOf};
 ghost use Rattle.mm_tables.specs.Fits.{FitsTables, Called};
 ghost use Rattle.mm_calls.specs.Watching.{after_watch};
+ghost use Rattle.mm_calls.specs.CallPromises.{StaysFit};
 
 use mm_spaces::PageRange;
 use mm_tables::Tables;
@@ -33,8 +34,7 @@ fn written_pages(
         → t.new ≡ after_watch t.old pid.0 p r unwrites range count }
     ensures none { (p : ProcessOf (Unit {0})) → process_of t.old pid.0 ≡ Some p
         → watched_around p.regions range ≡ None → t.new ≡ t.old }
-    ensures fits { (contents : Key → Option Page) (s : StoreOf)
-        → FitsTables t.old contents s → FitsTables t.new contents s }
+    ensures fits { StaysFit t.old t.new }
 {
     if unwrites {
         t.take_written(pid, range, count)
@@ -54,8 +54,7 @@ pub fn watch(t: &mut Tables, pid: Pid, unwrites: bool, addr: u32, size: u32, cou
     ensures called { (contents : Key → Option Page) (s : StoreOf) → FitsTables t.old contents s
         → Called (watch t.old pid.0 unwrites addr size count)
         t.old contents result t.new contents }
-    ensures fits { (contents : Key → Option Page) (s : StoreOf)
-        → FitsTables t.old contents s → FitsTables t.new contents s }
+    ensures fits { StaysFit t.old t.new }
 {
     if !t.has(pid) {
         return Answer::Error(Code::InvalidHandle);
@@ -76,8 +75,7 @@ pub fn watch(t: &mut Tables, pid: Pid, unwrites: bool, addr: u32, size: u32, cou
 pub fn reset_watch(t: &mut Tables, pid: Pid, addr: u32, size: u32) -> Answer
     ensures called { (contents : Key → Option Page) (s : StoreOf) → FitsTables t.old contents s
         → Called (reset_watch t.old pid.0 addr size) t.old contents result t.new contents }
-    ensures fits { (contents : Key → Option Page) (s : StoreOf)
-        → FitsTables t.old contents s → FitsTables t.new contents s }
+    ensures fits { StaysFit t.old t.new }
 {
     if !t.has(pid) {
         return Answer::Error(Code::InvalidHandle);

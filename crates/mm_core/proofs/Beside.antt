@@ -1,6 +1,6 @@
 -- What a `file`, a `grow` and a `fail` line ask of devices beside their moves, and what slots and blocks hold then.
 use Rattle.std.proofs.Common.{◌≡◌, ℕ, Bool, true, false, refl, ◌∙◌, ap, subst}
-use Rattle.std.specs.Prelude.{Result, Ok, Err, IfOk, OnOk}
+use Rattle.std.specs.Prelude.{Result, Ok, Err, IfOk}
 use Rattle.mm_types.specs.declared.answers.Answer.{Answer}
 use Rattle.mm_types.specs.declared.answers.Answer.TheVariants as answer
 use Rattle.mm_types.specs.declared.devices.Device.{Device}
@@ -71,7 +71,7 @@ module _ (w : World) (used n number : ℕ) (u : Bool) (s z : StoreOf) (b c : Beh
     ((noted u (GrowsBy {E = E} number n (Ok a)) b c paging p).that.slots, ap (λ (s : StoreOf). s.file_blocks) e),
   )
 
-  pub beside-grow : {E : Type 0} (r : Result Answer E) → OnOk r (z ≡ extended s z)
+  pub beside-grow : {E : Type 0} (r : Result Answer E) → IfOk r (λ a. z ≡ extended s z)
       → IfOk r (λ a. (limit : ℕ) → a ≡ answer.Limit limit → z.paging_device ≡ s.paging_device)
       → NotesIn u (GrowsBy number n r) b c → IfOk r GrewBy
   beside-grow {E} (Ok a) e grew p = grew-by E a e grew p

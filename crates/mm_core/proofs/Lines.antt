@@ -1,6 +1,6 @@
 -- From what a call did to the tables and to the bytes to what its line did to the world.
 use Rattle.std.proofs.Common.{◌≡◌, ℕ, ◌+◌, Bool, true, false, Option, Some, None, Result, Ok, Err, refl, sym, ◌∙◌, ap, subst, cond, is_some, unwrap_or, ◌&&◌, nat_le, length, [], ◌∷◌, ◌++◌, arith}
-use Rattle.std.specs.Prelude.{IsOk, IfOk, OnOk, OnErr}
+use Rattle.std.specs.Prelude.{IsOk, IfOk, OnErr}
 use Rattle.mm_types.specs.declared.answers.Answer.{Answer}
 use Rattle.mm_types.specs.declared.answers.Answer.TheVariants as answer
 use Rattle.mm_types.specs.declared.events.Event.{Event}
@@ -148,10 +148,6 @@ full-process t full =
 
 -- ---- results
 
-pub on-ok : {T E : Type 0} (P : Type 0) (r : Result T E) → OnOk r P → IfOk r (λ (x : T). P)
-on-ok P (Ok x) h = h
-on-ok P (Err e) h = tt
-
 pub if-ok : {T E : Type 0} {P Q : T → Type 0} (r : Result T E) → IfOk r P → ((x : T) → P x → Q x) → IfOk r Q
 if-ok (Ok x) h f = f x h
 if-ok (Err e) h f = tt
@@ -159,18 +155,6 @@ if-ok (Err e) h f = tt
 pub if-err : {T E : Type 0} {P Q : Type 0} (r : Result T E) → OnErr r P → (P → Q) → OnErr r Q
 if-err (Ok x) h f = tt
 if-err (Err e) h f = f h
-
-pub record Both {T : Type 0} (P Q : T → Type 0) (x : T) : Type 0 where
-  pub first : P x
-  pub second : Q x
-
-pub if-and : {T E : Type 0} (P Q : T → Type 0) (r : Result T E) → IfOk r P → IfOk r Q → IfOk r (λ x. Both P Q x)
-if-and P Q (Ok x) h k = record { first = h; second = k }
-if-and P Q (Err e) h k = tt
-
-pub if-both : {T E : Type 0} {P Q R : T → Type 0} (r : Result T E) → IfOk r P → IfOk r Q → ((x : T) → P x → Q x → R x) → IfOk r R
-if-both (Ok x) h k f = f x h k
-if-both (Err e) h k f = tt
 
 pub none-if : {X : Type 0} (b : Bool) (x : X) (o : Option X) → o ≡ None → o ≡ cond b (Some x) None → b ≡ false
 none-if true x o e f = let bad : None ≡ Some x = sym e ∙ f in cc

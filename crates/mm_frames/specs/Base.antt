@@ -123,15 +123,13 @@ abbrev pub stands_with : Option Key → List Standing → ℕ → List Standing
 stands_with (Some k) standing f = standing
 stands_with None standing f = slice_set standing f Free
 
--- a read ends with the bytes of the page, or it fails
-abbrev pub read_ended : FramesOf → ℕ → Option (List ℕ) → FramesOf
-read_ended v f (Some page) =
-    record {
-      table = after_got v.table f;
-      bytes = with_page v.bytes f page;
-      standing = stands_with (record_at v.table f).owner v.standing f;
-    }
-read_ended v f None = record v {
+-- a read ends well, or it fails
+abbrev pub read_ended : FramesOf → ℕ → Bool → FramesOf
+read_ended v f true = record v {
+  table = after_got v.table f;
+  standing = stands_with (record_at v.table f).owner v.standing f;
+}
+read_ended v f false = record v {
   table = after_bad v.table f;
   standing = slice_set v.standing f Free;
 }

@@ -1,10 +1,11 @@
-ghost use Rattle.std.specs.Prelude.{◌≡◌, ◌≢◌, ℕ, List, ◌≤◌, ◌^◌, true, false, Some, IsSome, IfSome, ◌<◌, ◌+◌, ◌++◌, ◌∷◌, [], length, replicate, count_by, None, IfOk, option_map, slice_get, slice_set, slice_index, IsNone};
+ghost use Rattle.std.specs.Prelude.{◌≡◌, ◌≢◌, ℕ, List, ◌≤◌, ◌^◌, true, false, Some, IsSome, IfSome, ◌<◌, ◌+◌, ◌++◌, ◌∷◌, [], length, replicate, count_by, None, IfOk, OnOk, OnErr, is_ok, option_map, slice_get, slice_set, slice_index};
 ghost use Rattle.mm_life.specs.Frames.{blank, record_at, is_idle, is_on, is_read, is_write, has_request, with_record, off_lists, settled, after_map, after_unmap, after_soil, after_write, after_got, after_bad, after_wrote, after_lost, slot_after_soil, slot_after_read, slot_after_drop};
 ghost use Rattle.mm_life.specs.Life.{free_table, is_active, is_in_transition, numbers_from};
 ghost use Rattle.mm_lists.specs.Lists.{AreApart};
 ghost use Rattle.mm_frames.specs.Placing.{free_only, is_kept, is_bound, ArePlaced, IsAtRest, places};
 ghost use Rattle.mm_ram.specs.Ram.{bytes_of, bytes_from, overwritten, page_at, with_page, zero_page};
 ghost use Rattle.mm_types.specs.Address.{page_size};
+ghost use Rattle.mm_blocks.specs.Reads.{WasRead};
 ghost use Rattle.mm_frames.specs.Base.{FramesOf, has_block, modified_with_block, zeroed_taken, free_taken, standby_taken, zeroed_put, free_put, now_cleared, given_to, reading_into, IsBlank, IsDirty, can_be_soiled, can_go_to, read_ended, write_ended, slot_after_write, forgotten, stands_with, gone_free, ended_with};
 
 use crate::placing::{
@@ -14,9 +15,10 @@ use crate::placing::{
 };
 use crate::records::{BLANK, Records};
 use crate::{Blank, Dirty, Ended, Standing, Stolen};
+use mm_blocks::Inject;
 use mm_lists::Lists;
 use mm_ram::Ram;
-use mm_types::{Backing, Frame, Key, NoMemory, Record, Request, Slot};
+use mm_types::{Backing, Failed, Frame, Key, NoMemory, Record, Request, Slot};
 use std::alloc::Global;
 use std::marker::Model;
 
@@ -502,24 +504,42 @@ impl Frames {
         }
     }
 
-    /// The read request of a frame ends: with the page's bytes (the move `got`), or without (the
-    /// move `bad`).
+    /// Reads a block of a device into a frame whose page is being read. After an error all is as
+    /// before.
+    pub fn fill_from<D: Inject>(
+        &mut self,
+        f: Frame,
+        device: &mut D,
+        block: u32,
+    ) -> Result<(), Failed>
+        requires reading { is_read (record_at self.old.table f.0).request ≡ true }
+        requires block { block < length (D.blocks device.old) }
+        ensures ok { OnOk result (self.new ≡ record self.old {
+          bytes = slice_set self.old.bytes f.0 (slice_get (D.blocks device.old) block);
+        }) }
+        ensures written { OnOk result (IsSome (page_at self.new.bytes f.0)) }
+        ensures err { OnErr result (self.new ≡ self.old) }
+        ensures read { WasRead D.Inject block (is_ok result) device.old device.new }
+    {
+        self.ram.fill_from(f, device, block)
+    }
+
+    /// The read request of a frame ends: well, when the frame holds the page's bytes (the move
+    /// `got`), or not (the move `bad`).
     ///
     /// Answers the page that the frame was read for, if it still lives, the slot to give back, and
     /// the backing that was read: after a failure the page's home.
-    pub fn end_read(&mut self, f: Frame, bytes: Option<&[u8; 4096]>) -> Ended
+    pub fn end_read(&mut self, f: Frame, ok: bool) -> Ended
         requires reading { is_read (record_at self.old.table f.0).request ≡ true }
+        requires written { ok ≡ true → IsSome (page_at self.old.bytes f.0) }
         ensures owner { result.owner ≡ (record_at self.old.table f.0).owner }
         ensures slot { option_map (λ s. s.0) result.slot ≡
             slot_after_read (record_at self.old.table f.0) }
         ensures home { result.home ≡ (record_at self.old.table f.0).backing }
-        ensures ended { self.new ≡ read_ended self.old f.0
-            (option_map (λ page. page.now) bytes.entry) }
-        ensures got { IsSome bytes.entry → self.new.table ≡ after_got self.old.table f.0 }
-        ensures page { IfSome bytes.entry
-            (λ page. self.new.bytes ≡ with_page self.old.bytes f.0 page.now) }
-        ensures bad { IsNone bytes.entry
-            → (self.new.table ≡ after_bad self.old.table f.0) × (self.new.bytes ≡ self.old.bytes) }
+        ensures ended { self.new ≡ read_ended self.old f.0 ok }
+        ensures got { ok ≡ true → self.new.table ≡ after_got self.old.table f.0 }
+        ensures bad { ok ≡ false → self.new.table ≡ after_bad self.old.table f.0 }
+        ensures bytes { self.new.bytes ≡ self.old.bytes }
     {
         let r = self.records.get(f.0);
         let ended = Ended {
@@ -527,16 +547,14 @@ impl Frames {
             slot: slot_after_read(&r),
             home: r.backing,
         };
-        match bytes {
-            Some(page) => {
-                self.ram.fill(f, page);
-                let left = Record {
-                    request: Request::None,
-                    ..r
-                };
-                self.end_request(f, left);
-            }
-            None => self.free(f),
+        if ok {
+            let left = Record {
+                request: Request::None,
+                ..r
+            };
+            self.end_request(f, left);
+        } else {
+            self.free(f);
         }
         ended
     }

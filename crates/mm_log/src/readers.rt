@@ -105,7 +105,8 @@ impl LogReader {
         true
     }
 
-    /// Takes the next line as `next_move` does, and writes its move.
+    /// Takes the next line as `next_move` does, and writes its move. After an error what stands in
+    /// `m` is not told.
     #[inline(always)]
     pub fn take_next<S: Source>(
         &mut self,

@@ -9,6 +9,7 @@ use Rattle.mm_types.specs.declared.numbers.Key.{Key}
 use Rattle.mm_types.specs.declared.numbers.Place.{Place}
 use Rattle.mm_life.specs.Frames.{record_at}
 use Rattle.mm_life.specs.Life.{FrameLife, changed, same_key, same_place, is_shared, key_of_place}
+use Rattle.mm_life.specs.Legal.{owner_is, shows_shared}
 use Rattle.mm_life.specs.Located.{zero_page}
 use Rattle.mm_laws.proofs.Owners.{changed_else}
 use Rattle.mm_pages.specs.Accesses.{Aim}
@@ -17,7 +18,7 @@ use Rattle.mm_pages.specs.Told.{Told}
 use Rattle.mm_moving.specs.Shown.{StateOf, moved_with_call}
 use Rattle.mm_moving.specs.Holds.{StateHolds}
 use Rattle.mm_paged.specs.Pieces.{Went, Sought, TookFrame, LifeKept}
-use Rattle.mm_paged.specs.Copies.{HeldAt, Spares, KeyAdded, Copied}
+use Rattle.mm_paged.specs.Copies.{HeldAt, Spares, KeyAdded, Copied, MayCopy, MayCopyHeld}
 use Rattle.mm_paged.proofs.Doing.{went_then, sought_took}
 
 -- ---- the page copied from stays where it is
@@ -169,3 +170,23 @@ module _ (k : Key) (place : Place) (f g : Frame) (s t u v z : StateOf) (m : Make
 -- there is room for it still
 pub room_then : (l m : FrameLife) → LifeKept l m → l.paging_keys < limit_of l.machine → m.paging_keys < limit_of m.machine
 room_then l m k h = subst (λ (n : ℕ). n < limit_of m.machine) (sym k.keys) (subst (λ (x : MachineOf). l.paging_keys < limit_of x) (sym k.machine) h)
+
+-- ---- the place's own page can come to be
+
+pub shows_held : (k : Key) (f : Frame) (place : Place) (u : StateOf) → StateHolds u → is_shared k ≡ true → HeldAt k f place u → shows_shared u.life place ≡ true
+shows_held k f place u h e at =
+    ap (λ (o : Option Frame). unwrap_or (option_map (λ (x : Frame). owner_is is_shared (record_at u.life.frames x.0)) o) false) at.valid
+    ∙ ap (λ (o : Option Key). unwrap_or (option_map is_shared o) false) (h.named place f at.valid ∙ at.named)
+    ∙ e
+
+pub may_copy : (k : Key) (f : Frame) (place : Place) (s t : StateOf) → StateHolds t → MayCopyHeld k f place s → Spares f s t → MayCopy place t
+may_copy k f place s t h m p =
+    let at = held_then k f place s t m.held p in
+    record {
+      bound = h.bound place f at.valid;
+      dead = ap (λ (x : StateOf). x.contents (key_of_place place)) p.same ∙ m.dead;
+      room = room_then s.life t.life p.life m.room;
+      shows = shows_held k f place t h m.shared at;
+      named = ap is_some at.named;
+      aside = ap (λ (x : StateOf). x.aside) p.same ∙ m.aside;
+    }

@@ -21,7 +21,6 @@ use Rattle.mm_words.specs.declared.layout.Entry.TheVariants as entry
 use Rattle.mm_life.specs.Life.{FrameLife, changed, same_place, key_of_place, is_shared, is_dead}
 use Rattle.mm_life.specs.Effect.{after_move}
 use Rattle.mm_life.specs.Victims.{aged}
-use Rattle.mm_ram.specs.Ram.{with_page}
 use Rattle.mm_words.specs.Layout.{IsEntry}
 use Rattle.mm_words.specs.Words.{WordsOf, with_entry, has_word, keeps_places, made_invalid}
 use Rattle.mm_flight.specs.Requests.{FlightOf, without, ended}
@@ -209,11 +208,6 @@ IsReleased (entry.Proto a i) d = Unit {0}
 abbrev pub MayMap : PartsOf → Frame → Place → Type 0
 MayMap s f place = owner_is is_shared (record_at s.life.frames f.0) ≡ true →
     is_dead (s.life.stands (key_of_place place)) ≡ true
-
--- the bytes of the frames once a read has ended, with the page's bytes or without
-abbrev pub page_filled : Option (List ℕ) → List (Option (List ℕ)) → ℕ → List (Option (List ℕ))
-page_filled None bytes f = bytes
-page_filled (Some page) bytes f = with_page bytes f page
 
 -- ---- lines
 

@@ -1,20 +1,22 @@
-ghost use Rattle.std.specs.Prelude.{◌≡◌, ◌≢◌, Some, true, false, is_some, option_map, map};
+ghost use Rattle.std.specs.Prelude.{◌≡◌, ◌≢◌, ◌<◌, Some, IsSome, OnOk, OnErr, true, false, is_ok, length, map, slice_get, slice_set};
 ghost use Rattle.mm_types.specs.declared.moves.Move.TheVariants as move;
-ghost use Rattle.mm_life.specs.Frames.{record_at, is_write, is_empty, taken_for_read};
+ghost use Rattle.mm_life.specs.Frames.{record_at, is_read, is_write, is_empty, taken_for_read};
 ghost use Rattle.mm_life.specs.Legal.{IsLegal};
+ghost use Rattle.mm_blocks.specs.Reads.{WasRead};
 ghost use Rattle.mm_ram.specs.Ram.{page_at};
 ghost use Rattle.mm_frames.specs.Base.{IsDirty, has_block};
 ghost use Rattle.mm_flight.specs.Requests.{ended};
-ghost use Rattle.mm_parts.specs.Moves.{parts_after, own_after, own_ended, front_or, front_for_read, end_of_read, write_end, write_target, CanBegin, page_filled, words_sent, CanSend, goes_to, lowest_free, slots_to};
+ghost use Rattle.mm_parts.specs.Moves.{parts_after, own_after, own_ended, front_or, front_for_read, end_of_read, write_end, write_target, CanBegin, words_sent, CanSend, goes_to, lowest_free, slots_to};
 ghost use Rattle.mm_words.specs.Shown as tables;
 ghost use Rattle.mm_slots.specs.Slots.{free_count};
 
 use crate::backings::{backing_of, give_back, home, target};
 use crate::parts::Parts;
 use crate::requests::{begin_request, end_request};
+use mm_blocks::Inject;
 use mm_frames::{Dirty, Frames};
 use mm_slots::Slots;
-use mm_types::{Backing, Frame, Key, Stored};
+use mm_types::{Backing, Failed, Frame, Key, Stored};
 use mm_words::{Entry, Words};
 
 /// The frame that a page is read into is taken: the first free one, or where none is free the first
@@ -89,20 +91,41 @@ impl Parts {
         f
     }
 
-    /// A read has ended: well, with the bytes of the page, or not. The waits for it have ended too.
-    pub fn end_read(&mut self, f: Frame, page: Option<&[u8; 4096]>)
-        requires legal { IsLegal (end_of_read (is_some page) f) (shown_parts self.old).life }
+    /// Reads a block of a device into a frame whose page is being read. After an error all is as
+    /// before.
+    pub fn fill_from<D: Inject>(
+        &mut self,
+        f: Frame,
+        device: &mut D,
+        block: u32,
+    ) -> Result<(), Failed>
+        requires reading { is_read (record_at (shown_parts self.old).life.frames f.0).request
+            ≡ true }
+        requires block { block < length (D.blocks device.old) }
+        ensures ok { OnOk result (shown_parts self.new ≡ record (shown_parts self.old) {
+          bytes = slice_set (shown_parts self.old).bytes f.0
+              (slice_get (D.blocks device.old) block);
+        }) }
+        ensures written { OnOk result (IsSome (page_at (shown_parts self.new).bytes f.0)) }
+        ensures err { OnErr result (shown_parts self.new ≡ shown_parts self.old) }
+        ensures read { WasRead D.Inject block (is_ok result) device.old device.new }
+    {
+        self.frames.fill_from(f, device, block)
+    }
+
+    /// A read has ended: well, when the frame has the bytes of the page, or not. The waits for it
+    /// have ended too.
+    pub fn end_read(&mut self, f: Frame, ok: bool)
+        requires legal { IsLegal (end_of_read ok f) (shown_parts self.old).life }
+        requires written { ok ≡ true → IsSome (page_at (shown_parts self.old).bytes f.0) }
         ensures made { shown_parts self.new ≡
-            record (parts_after (shown_parts self.old) (end_of_read (is_some page.entry) f)) {
-              bytes = page_filled (option_map (λ p. p.now) page.entry) (shown_parts self.old).bytes
-                  f.0;
-              waits = map (ended f.0 (is_some page.entry)) (shown_parts self.old).waits;
+            record (parts_after (shown_parts self.old) (end_of_read ok f)) {
+              waits = map (ended f.0 ok) (shown_parts self.old).waits;
               own = own_ended (shown_parts self.old).own f.0;
             } }
     {
         self.words.words_hold();
-        let ok = page.is_some();
-        let ended = self.frames.end_read(f, page);
+        let ended = self.frames.end_read(f, ok);
         give_back(&mut self.slots, ended.slot);
         end_request(&mut self.flight, &mut self.own, f, ok);
         if !ok {

@@ -1,15 +1,21 @@
-ghost use Rattle.std.specs.Prelude.{◌≡◌, ◌≢◌, ℕ, List, ◌+◌, ◌<◌, ◌≤◌, false, length, replicate, Some, None, IfOk, IsSome, map};
-ghost use Rattle.mm_ram.specs.Frames.{is_written};
+ghost use Rattle.std.specs.Prelude.{◌≡◌, ◌≢◌, ℕ, List, ◌+◌, ◌<◌, ◌≤◌, length, replicate, Some, None, IfOk, OnOk, OnErr, IsSome, is_ok, map, slice_get, slice_set};
+ghost use Rattle.mm_ram.specs.declared.kinds.Kind.TheVariants as kind;
+ghost use Rattle.mm_blocks.specs.Reads.{WasRead};
+ghost use Rattle.mm_ram.specs.Frames.{ArePlaces, has_bytes, is_filled, shown};
+ghost use Rattle.mm_ram.specs.Places.{IsFilled};
 ghost use Rattle.mm_ram.specs.Ram.{page_at, bytes_of, bytes_from, overwritten, with_page, zero_page};
 ghost use Rattle.mm_types.specs.Address.{page_size};
 
+use crate::Kind;
 use crate::cells::{Base, Cells, Deed, allocate, deallocate};
-use mm_types::{Frame, NoMemory};
+use mm_blocks::Inject;
+use mm_types::{Failed, Frame, NoMemory};
 use std::alloc::Global;
 use std::marker::Model;
 
-/// A page of zeros.
-static ZEROS: [u8; 4096] = [0; 4096];
+/// A page of zeros, and one of ones beside it: from a constant of which all bytes are equal the
+/// compiler makes a fill in place of a copy, which takes longer.
+static ZEROS_FIRST: [[u8; 4096]; 2] = [[0; 4096], [1; 4096]];
 
 /// The bytes of a machine's page frames.
 ///
@@ -18,26 +24,26 @@ pub struct Ram {
     base: Base<[u8; 4096]>,
     cells: Cells<[u8; 4096]>,
     deed: Deed<[u8; 4096], Global>,
-    written: Vec<bool>,
+    kinds: Vec<Kind>,
     alloc: Global,
 }
 
 impl Model for Ram {
     ghost use Rattle.std.specs.Prelude.{ℕ, List, Option};
-    ghost use Rattle.mm_ram.specs.Frames.{IsRam};
+    ghost use Rattle.mm_ram.specs.Frames.{IsRam, shown};
 
     ghost Value = { List (Option (List ℕ)) };
 
-    ghost view = { λ r. r.cells.slots };
+    ghost view = { λ r. shown r.kinds.items r.cells.slots };
 
     ghost invariant = { λ r. IsRam r.base.ptr r.cells.at r.deed.at r.deed.len r.deed.alloc
-        r.alloc r.cells.slots r.written.items };
+        r.alloc r.cells.slots r.kinds.items };
 }
 
-fn unwritten(alloc: Global, n: usize) -> Result<Vec<bool>, NoMemory>
-    ensures { IfOk result (λ v. v.items ≡ replicate n false) }
+fn unwritten(alloc: Global, n: usize) -> Result<Vec<Kind>, NoMemory>
+    ensures { IfOk result (λ v. v.items ≡ replicate n kind.Unwritten) }
 {
-    Ok(vec![in alloc; false; n]?)
+    Ok(vec![in alloc; Kind::Unwritten; n]?)
 }
 
 /// Reads bytes from a place on.
@@ -58,19 +64,71 @@ fn put_bytes(page: &mut [u8], at: usize, new: &[u8])
     page[at..end].copy_from_slice(new);
 }
 
+/// A frame's place has these bytes, and the frame shows them.
+fn put_page(
+    base: Base<[u8; 4096]>,
+    cells: &mut Cells<[u8; 4096]>,
+    kinds: &mut Vec<Kind>,
+    i: usize,
+    bytes: &[u8; 4096],
+)
+    requires at { base.ptr ≡ cells.old.at }
+    requires there { i < length cells.old.slots }
+    requires filled { map has_bytes kinds.old.items ≡ map is_filled cells.old.slots }
+    ensures at { cells.new.at ≡ cells.old.at }
+    ensures slots { cells.new.slots ≡ slice_set cells.old.slots i (Some bytes.now) }
+    ensures kinds { kinds.new.items ≡ slice_set kinds.old.items i kind.Bytes }
+{
+    if kinds[i].has_bytes() {
+        *cells.get_mut(base, i) = *bytes;
+    } else {
+        cells.write(base, i, *bytes);
+    }
+    kinds[i] = Kind::Bytes;
+}
+
+/// A frame's place has bytes that can be lent, and all frames show the same as before.
+fn back(base: Base<[u8; 4096]>, cells: &mut Cells<[u8; 4096]>, kinds: &mut Vec<Kind>, i: usize)
+    requires at { base.ptr ≡ cells.old.at }
+    requires low { i < length cells.old.slots }
+    requires kept { ArePlaces cells.old.slots kinds.old.items }
+    ensures at { cells.new.at ≡ cells.old.at }
+    ensures long { length cells.new.slots ≡ length cells.old.slots }
+    ensures kept { ArePlaces cells.new.slots kinds.new.items }
+    ensures same { shown kinds.new.items cells.new.slots ≡ shown kinds.old.items cells.old.slots }
+    ensures there { IsFilled cells.new.slots i }
+{
+    let kind = kinds[i];
+    if !kind.has_bytes() {
+        cells.write(base, i, ZEROS_FIRST[0]);
+        kinds[i] = kind.backed();
+    }
+}
+
+/// Reads a block of a device into a page.
+fn read_page<D: Inject>(device: &mut D, block: u32, page: &mut [u8; 4096]) -> Result<(), Failed>
+    requires { block < length (D.blocks device.old) }
+    ensures ok { OnOk result (slice_get (D.blocks device.old) block ≡ Some page.new) }
+    ensures err { OnErr result (page.new ≡ page.old) }
+    ensures whole { length page.new ≡ page_size }
+    ensures read { WasRead D.Inject block (is_ok result) device.old device.new }
+{
+    device.read(block, page)
+}
+
 impl Ram {
     /// So many frames, none of which was written.
     pub fn new(alloc: Global, frames: u32) -> Result<Ram, NoMemory>
         ensures { IfOk result (λ r. r ≡ replicate frames None) }
     {
         let frames = frames as usize;
-        let written = unwritten(alloc, frames)?;
+        let kinds = unwritten(alloc, frames)?;
         let (base, cells, deed) = allocate(&alloc, frames)?;
         Ok(Ram {
             base,
             cells,
             deed,
-            written,
+            kinds,
             alloc,
         })
     }
@@ -80,7 +138,8 @@ impl Ram {
         requires { f.0 < length self.old }
         ensures { self.new ≡ with_page self.old f.0 zero_page }
     {
-        self.fill(f, &ZEROS);
+        let i = f.0 as usize;
+        self.kinds[i] = self.kinds[i].zeroed();
     }
 
     /// The frame holds these bytes.
@@ -88,13 +147,35 @@ impl Ram {
         requires { f.0 < length self.old }
         ensures { self.new ≡ with_page self.old f.0 bytes.now }
     {
+        put_page(
+            self.base,
+            &mut self.cells,
+            &mut self.kinds,
+            f.0 as usize,
+            bytes,
+        );
+    }
+
+    /// Reads a block of a device into a frame, which then holds its bytes; after an error all
+    /// frames are as before.
+    pub fn fill_from<D: Inject>(
+        &mut self,
+        f: Frame,
+        device: &mut D,
+        block: u32,
+    ) -> Result<(), Failed>
+        requires frame { f.0 < length self.old }
+        requires block { block < length (D.blocks device.old) }
+        ensures ok { OnOk result
+            (self.new ≡ slice_set self.old f.0 (slice_get (D.blocks device.old) block)) }
+        ensures err { OnErr result (self.new ≡ self.old) }
+        ensures read { WasRead D.Inject block (is_ok result) device.old device.new }
+    {
         let i = f.0 as usize;
-        if self.written[i] {
-            *self.cells.get_mut(self.base, i) = *bytes;
-        } else {
-            self.cells.write(self.base, i, *bytes);
-            self.written[i] = true;
-        }
+        back(self.base, &mut self.cells, &mut self.kinds, i);
+        read_page(device, block, self.cells.get_mut(self.base, i))?;
+        self.kinds[i] = Kind::Bytes;
+        Ok(())
     }
 
     /// The frame `to` holds the bytes of `from`, which was written.
@@ -104,8 +185,13 @@ impl Ram {
         requires other { from.0 ≢ to.0 }
         ensures { self.new ≡ with_page self.old to.0 (bytes_of self.old from.0) }
     {
-        let page = *self.cells.get(self.base, from.0 as usize);
-        self.fill(to, &page);
+        let i = from.0 as usize;
+        if let Kind::Bytes = self.kinds[i] {
+            let page = *self.cells.get(self.base, i);
+            self.fill(to, &page);
+        } else {
+            self.zero(to);
+        }
     }
 
     /// Reads bytes of a frame that was written, from an offset on.
@@ -115,8 +201,7 @@ impl Ram {
         ensures bytes { out.new ≡ bytes_from (bytes_of self.now f.0) off (length out.old) }
         ensures whole { length (bytes_of self.now f.0) ≡ page_size }
     {
-        let page = self.cells.get(self.base, f.0 as usize);
-        get_bytes(page, off as usize, out);
+        get_bytes(self.page(f), off as usize, out);
     }
 
     /// Writes bytes of a frame that was written, from an offset on.
@@ -126,8 +211,20 @@ impl Ram {
         ensures { self.new
             ≡ with_page self.old f.0 (overwritten (bytes_of self.old f.0) off bytes.now) }
     {
-        let page = self.cells.get_mut(self.base, f.0 as usize);
-        put_bytes(page, off as usize, bytes);
+        let i = f.0 as usize;
+        let off = off as usize;
+        if let Kind::Bytes = self.kinds[i] {
+            put_bytes(self.cells.get_mut(self.base, i), off, bytes);
+        } else {
+            put_page(
+                self.base,
+                &mut self.cells,
+                &mut self.kinds,
+                i,
+                &ZEROS_FIRST[0],
+            );
+            put_bytes(self.cells.get_mut(self.base, i), off, bytes);
+        }
     }
 
     /// All bytes of a frame that was written, where they are.
@@ -136,7 +233,11 @@ impl Ram {
         ensures { result.now ≡ bytes_of self.now f.0 }
     {
         let i = f.0 as usize;
-        self.cells.get(self.base, i)
+        if let Kind::Bytes = self.kinds[i] {
+            self.cells.get(self.base, i)
+        } else {
+            &ZEROS_FIRST[0]
+        }
     }
 
     /// A law, which does nothing: each frame that was written has 4,096 bytes.
@@ -144,19 +245,19 @@ impl Ram {
         ensures { (f : ℕ) (page : List ℕ) → page_at self.now f ≡ Some page →
             length page ≡ page_size }
     {
-        let _ = &self.written;
+        let _ = &self.kinds;
     }
 }
 
-/// Empties each place that was written, so that the block may be given back.
-fn empty(base: Base<[u8; 4096]>, cells: &mut Cells<[u8; 4096]>, written: &[bool])
+/// Empties each place that has bytes, so that the block may be given back.
+fn empty(base: Base<[u8; 4096]>, cells: &mut Cells<[u8; 4096]>, kinds: &[Kind])
     requires at { base.ptr ≡ cells.old.at }
-    requires flags { written.now ≡ map is_written cells.old.slots }
+    requires filled { map has_bytes kinds.now ≡ map is_filled cells.old.slots }
     ensures at { cells.new.at ≡ cells.old.at }
-    ensures slots { cells.new.slots ≡ replicate (length written.now) None }
+    ensures slots { cells.new.slots ≡ replicate (length kinds.now) None }
 {
-    for i in 0..written.len() {
-        if written[i] {
+    for i in 0..kinds.len() {
+        if kinds[i].has_bytes() {
             let _ = cells.read(base, i);
         }
     }
@@ -168,10 +269,10 @@ impl Drop for Ram {
             base,
             mut cells,
             deed,
-            written,
+            kinds,
             alloc,
         } = self;
-        empty(base, &mut cells, &written);
-        deallocate(&alloc, base, written.len(), cells, deed);
+        empty(base, &mut cells, &kinds);
+        deallocate(&alloc, base, kinds.len(), cells, deed);
     }
 }

@@ -60,7 +60,6 @@ fn takes_over<T: Moving>(state: &T, pid: Pid, best: Option<Place>) -> bool
 
 /// The first page to go of the processes up to a pid, from that of those below it. A process that
 /// cannot take over is not looked through.
-#[tactic(auto, using(crate::proofs::Bests::closed_same, crate::proofs::Bests::none_same, crate::proofs::Bests::best_stays, crate::proofs::Bests::best_taken))]
 fn better<T: Moving>(
     state: &T,
     pinned: Option<Frame>,

@@ -33,7 +33,6 @@ fn trim_one<T: Moving>(state: &mut T, pid: Pid) -> bool
 
 /// Unmaps at most `n` places of an open process, the oldest first, and leaves the least number of
 /// its working set.
-#[tactic(auto, using(crate::proofs::Trimming::trims_none, crate::proofs::Trimming::trims_more, crate::proofs::Trimming::trims_over, crate::proofs::Trimming::trims_all))]
 pub fn trim<T: Moving>(state: &mut T, pid: Pid, n: u32)
     requires open { (T.shown state.old).is_open pid.0 ≡ true }
     requires kind { (T.shown state.old).life.kind ≡ kind.Trim pid }
@@ -62,7 +61,6 @@ fn clear_one<T: Moving>(state: &mut T) -> bool
 }
 
 /// Clears at most `n` free frames, from the front of their list.
-#[tactic(auto, using(crate::proofs::Chained::chain_none, crate::proofs::Chained::chain_more, crate::proofs::Chained::chain_over, crate::proofs::Chained::chain_all))]
 pub fn zero<T: Moving>(state: &mut T, n: u32)
     requires kind { (T.shown state.old).life.kind ≡ kind.Zeroer }
     ensures cleared { DoesMoves (clearings n (T.shown state.old).life) (T.shown state.old)
@@ -112,7 +110,6 @@ fn write_one<T: Moving>(state: &mut T) -> bool
 
 /// Begins writes of at most `n` modified frames, from the front of their list, while fewer requests
 /// than the depth are in flight. Each goes to its block, or to the lowest free slot.
-#[tactic(auto, using(crate::proofs::Chained::chain_none, crate::proofs::Chained::chain_more, crate::proofs::Chained::chain_over, crate::proofs::Chained::chain_all))]
 pub fn write_out<T: Moving>(state: &mut T, n: u32)
     requires kind { (T.shown state.old).life.kind ≡ kind.Writer }
     ensures begun { DoesMoves (writes_begun n (T.shown state.old).life

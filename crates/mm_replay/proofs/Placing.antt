@@ -113,6 +113,21 @@ module _ (records : List Record) (v : ListsOf) (f : ℕ) where
     owned = λ g d. ap is_owned (get_or-set_other records f g r blank d) ∙ o.owned g d;
   }
 
+  pub busy_kept : Off records v f → is_idle (record_of records f) ≡ false → is_owned (record_of records f) ≡ true → Kept records v
+  busy_kept o busy held = record {
+    numbers = o.numbers;
+    lists = o.lists;
+    listed = o.listed;
+    there = λ g low idle. elim (same_or_not g f) [
+      | inl s ↦ let bad : true ≡ false = sym idle ∙ ap (λ (q : ℕ). is_idle (record_of records q)) s ∙ busy in cc
+      | inr d ↦ o.there g d low idle
+    ];
+    owned = λ g. elim (same_or_not g f) [
+      | inl s ↦ ap (λ (q : ℕ). is_owned (record_of records q)) s ∙ held
+      | inr d ↦ o.owned g d
+    ];
+  }
+
   pub put_kept : (i : ℕ) → Off records v f → i < 4 → belongs (record_of records f) i ≡ true → AreFour (with_list v i (list_at v.lists i ++ f ∷ [])) → Kept records (with_list v i (list_at v.lists i ++ f ∷ []))
   put_kept i o inside here four =
       let within : i < length v.lists = omega (arith, inside, o.lists.four) in

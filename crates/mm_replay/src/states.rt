@@ -17,6 +17,13 @@ use mm_life::ResidentSet;
 use mm_types::{Backing, Block, Frame, Held, Key, LineKind, Move, NoMemory, Pid, Place, Stored};
 use std::alloc::Global;
 
+/// A place has this value from now on.
+fn put<T: Drop>(place: &mut T, value: T)
+    ensures { place.new ≡ value }
+{
+    *place = value;
+}
+
 /// The state of a replay.
 #[derive(Drop)]
 pub(crate) struct State {
@@ -166,10 +173,10 @@ impl State {
         ensures err { OnErr result (life self.new ≡ life self.old) }
     {
         let alloc = self.alloc;
-        let table = Table::new(alloc, frames)?;
-        let free_slots = SlotMap::new(alloc, slots)?;
         let added = BlockSet::new(alloc, blocks)?;
         let flight = InFlight::new(alloc, frames)?;
+        let table = Table::new(alloc, frames)?;
+        let free_slots = SlotMap::new(alloc, slots)?;
         self.frames = frames;
         self.slots = slots;
         self.depth = depth;
@@ -177,13 +184,13 @@ impl State {
         self.line = line;
         self.kind = LineKind::Machine(frames, slots, depth, blocks);
         self.sets.clear();
-        self.table = table;
-        self.free_slots = free_slots;
-        self.keys = Keys::new(alloc);
+        put(&mut self.table, table);
+        put(&mut self.free_slots, free_slots);
+        put(&mut self.keys, Keys::new(alloc));
         self.paging_keys = 0;
-        self.added = added;
-        self.places = Places::new(alloc);
-        self.flight = flight;
+        put(&mut self.added, added);
+        put(&mut self.places, Places::new(alloc));
+        put(&mut self.flight, flight);
         Ok(())
     }
 

@@ -1,7 +1,6 @@
 -- The end of a read or of a write, well or not: bytes, what is told, and which device is called.
 use Rattle.std.proofs.Common.{◌≡◌, ℕ, ◌<◌, Bool, true, false, List, [], ◌∷◌, ◌++◌, Some, None, refl, sym, ap, ◌∙◌, subst, arith, map}
-use Rattle.std.specs.Prelude.{◌||◌, is_some}
-use Rattle.std.specs.Bool.{OnTrue}
+use Rattle.std.specs.Prelude.{◌||◌, is_some, IsSome, Option, slice_set}
 use Rattle.std.proofs.lemmas.Bool.{and_parts}
 use Rattle.mm_types.specs.declared.devices.Direction.{Direction}
 use Rattle.mm_types.specs.declared.devices.Direction.TheVariants as way
@@ -24,7 +23,7 @@ use Rattle.mm_flight.specs.Requests.{ended}
 use Rattle.mm_flight.specs.declared.flights.Waiting.{Waiting as Wait}
 use Rattle.mm_life.specs.Waits.{Waiting, waits_after, ages_after}
 use Rattle.mm_pages.specs.Told.{Told, told_after, with_write, in_slot, in_block, paging_traffic, file_traffic}
-use Rattle.mm_parts.specs.Moves.{end_of_read, write_end, page_filled}
+use Rattle.mm_parts.specs.Moves.{end_of_read, write_end}
 use Rattle.mm_frame_laws.specs.Carried.{Carries, slots_written, blocks_written}
 use Rattle.mm_frame_laws.proofs.Carrying.{carries_got, carries_bad, carries_wrote, carries_lost}
 use Rattle.mm_laws.proofs.Facts.{facts_of}
@@ -34,7 +33,7 @@ use Rattle.mm_frame_laws.proofs.Moving.{home_bytes}
 use Rattle.mm_parts.specs.Reading.{waits_of}
 use Rattle.mm_parts.proofs.Waiting.{waits_ended}
 use Rattle.mm_moving.specs.Shown.{StateOf, Calls, DeviceCalled, CalledFor, backing_of_frame, written_if}
-use Rattle.mm_state.specs.Tallied.{page_if_read, read_told}
+use Rattle.mm_state.specs.Tallied.{filled_if, read_told}
 
 -- ---- reads
 
@@ -54,12 +53,18 @@ pub read_legal : (ok : Bool) (l : FrameLife) (f : Frame) → IsLegal (move.Got f
 read_legal true l f legal = legal
 read_legal false l f legal = legal
 
-pub read_carries : (ok : Bool) (l : FrameLife) → ∥ Reached l ∥₁ → (ram : FrameBytes) (slots blocks : BlockBytes) → BytesLocated l ram slots blocks → (f : Frame) (page : List ℕ) → IsLegal (move.Got f) l
-    → OnTrue ok (bytes_at [] slots blocks (home_at (record_at l.frames f.0).backing) ≡ Some page)
-    → Carries (after_move l (end_of_read ok f)) (page_filled (page_if_read ok page) ram f.0) slots blocks (contents_of l ram slots blocks)
-read_carries true l reached ram slots blocks kept f page legal there =
-    carries_got l reached ram slots blocks kept f page legal (home_bytes [] ram slots blocks (record_at l.frames f.0).backing ∙ there)
-read_carries false l reached ram slots blocks kept f page legal there = carries_bad l reached ram slots blocks kept f legal
+there_is : (o : Option (List ℕ)) → IsSome o → (page : List ℕ) × (o ≡ Some page)
+there_is None s = let bad : false ≡ true = s in cc
+there_is (Some page) s = (page, refl)
+
+pub read_carries : (ok : Bool) (l : FrameLife) → ∥ Reached l ∥₁ → (ram : FrameBytes) (slots blocks : BlockBytes) → BytesLocated l ram slots blocks → (f : Frame) (home : Backing) → home ≡ (record_at l.frames f.0).backing → IsLegal (move.Got f) l
+    → IsSome (bytes_at [] slots blocks (home_at home))
+    → Carries (after_move l (end_of_read ok f)) (filled_if ok f.0 (bytes_at [] slots blocks (home_at home)) ram) slots blocks (contents_of l ram slots blocks)
+read_carries true l reached ram slots blocks kept f home is legal there =
+    let p = there_is (bytes_at [] slots blocks (home_at home)) there in
+    subst (λ (o : Option (List ℕ)). Carries (after_move l (move.Got f)) (slice_set ram f.0 o) slots blocks (contents_of l ram slots blocks)) (sym p.1)
+    (carries_got l reached ram slots blocks kept f p.0 legal (home_bytes [] ram slots blocks (record_at l.frames f.0).backing ∙ ap (λ (b : Backing). bytes_at [] slots blocks (home_at b)) (sym is) ∙ p.1))
+read_carries false l reached ram slots blocks kept f home is legal there = carries_bad l reached ram slots blocks kept f legal
 
 pub read_ages : (ok : Bool) (f : Frame) (ages : Place → ℕ) → ages ≡ ages_after (end_of_read ok f) ages
 read_ages true f ages = refl

@@ -1,6 +1,6 @@
 -- What a call of a device leaves: the counts of a line.
 -- Profile, "Paging, as far as answers show it".
-use Rattle.std.specs.Prelude.{◌≡◌, ◌<◌, ◌+◌, ℕ, is_some, Bool, true, false, List, Option, Some, None}
+use Rattle.std.specs.Prelude.{◌≡◌, ◌<◌, ◌+◌, ℕ, is_some, Bool, true, false, List, Option, slice_set}
 use Rattle.mm_types.specs.declared.frames.Backing.{Backing}
 use Rattle.mm_types.specs.declared.numbers.Key.{Key}
 use Rattle.mm_pages.specs.Reports.{no_calls}
@@ -19,10 +19,11 @@ abbrev pub read_told : Bool → Backing → Option Key → Told → Told
 read_told true home owner t = with_read true home t
 read_told false home owner t = with_bad home owner t
 
--- the page that a read brought, if it did
-abbrev pub page_if_read : Bool → List ℕ → Option (List ℕ)
-page_if_read true page = Some page
-page_if_read false page = None
+-- the bytes of the frames once the read of a page into one of them ended, well or not
+abbrev pub filled_if : Bool → ℕ → Option (List ℕ) → List (Option (List ℕ)) →
+    List (Option (List ℕ))
+filled_if true f page bytes = slice_set bytes f page
+filled_if false f page bytes = bytes
 
 -- a failed call of the line's search, or a read that failed, is one of the line's device calls
 pub record IsTallied (t : Told) : Type 0 where

@@ -1,5 +1,5 @@
-use crate::devices::{get_page, put_page, write_device};
-use crate::on_parts::{first_free, first_standby, read_move, reserve, settle_read, write_move};
+use crate::devices::{put_page, read_page, write_device};
+use crate::on_parts::{first_free, first_standby, read_move, reserve, write_move};
 use crate::states::State;
 use crate::tallies::Tallies;
 use mm_blocks::Inject;
@@ -144,8 +144,13 @@ impl<P: Inject, F: Inject, M: Moves> Moving for State<P, F, M> {
 
     fn end_read(&mut self, f: Frame) -> bool {
         let r = self.parts.look(f);
-        let ok = get_page(&mut self.paging, &mut self.files, r.backing, &mut self.page);
-        settle_read(&mut self.parts, f, ok, &self.page);
+        let ok = read_page(
+            &mut self.parts,
+            &mut self.paging,
+            &mut self.files,
+            f,
+            r.backing,
+        );
         self.told.read(r.backing, r.owner, ok);
         self.moves.note(read_move(f, ok));
         ok

@@ -1,40 +1,27 @@
-ghost use Rattle.std.specs.Prelude.{◌≡◌, ◌<◌, ℕ, true, Some, length, slice_get, slice_set};
+ghost use Rattle.std.specs.Prelude.{◌≡◌, ◌<◌, ℕ, true, Some, IsSome, length, map, slice_set};
 ghost use Rattle.std.specs.Bool.{OnTrue, OnFalse};
 ghost use Rattle.mm_types.specs.declared.devices.Direction.TheVariants as way;
+ghost use Rattle.mm_types.specs.declared.moves.Move.TheVariants as move;
 ghost use Rattle.mm_life.specs.Frames.{slot_of};
 ghost use Rattle.mm_life.specs.Effect.{home_at};
 ghost use Rattle.mm_life.specs.Located.{bytes_at};
+ghost use Rattle.mm_life.specs.Legal.{IsLegal};
 ghost use Rattle.mm_laws.specs.Fits.{is_backed};
 ghost use Rattle.mm_laws.specs.FileBlocks.{block_of};
 ghost use Rattle.mm_blocks.specs.Traffic.{is_named};
 ghost use Rattle.mm_blocks.specs.Devices.{Serves, device_with};
 ghost use Rattle.mm_frame_laws.specs.Carried.{slots_written, blocks_written};
 ghost use Rattle.mm_moving.specs.Shown.{CalledFor, written_if};
+ghost use Rattle.mm_flight.specs.Requests.{ended};
+ghost use Rattle.mm_parts.specs.PartsShown as parts_of;
+ghost use Rattle.mm_parts.specs.Moves.{parts_after, own_ended, end_of_read};
+ghost use Rattle.mm_state.specs.Tallied.{filled_if};
 ghost use Rattle.std.specs.Prelude.{[]};
 
+use crate::on_parts::read_from;
 use mm_blocks::Inject;
-use mm_types::{Backing, Failed};
-
-/// One read of a device: true where it succeeded.
-pub(crate) fn read_device<B: Inject>(device: &mut B, block: u32, page: &mut [u8; 4096]) -> bool
-    requires { block < length (B.blocks device.old) }
-    ensures ok { OnTrue result (slice_get (B.blocks device.old) block ≡ Some page.new) }
-    ensures blocks { B.blocks device.new ≡ B.blocks device.old }
-    ensures served { Serves (record {
-      way = way.Read;
-      block = block;
-      succeeded = result;
-      named = is_named way.Read (B.named device.old);
-    })
-        (device_with (B.log device.old) (B.named device.old) (B.faults device.old))
-        (device_with (B.log device.new) (B.named device.new) (B.faults device.new)) }
-    ensures loans { B.loans device.new ≡ B.loans device.old }
-{
-    match device.read(block, page) {
-        Ok(()) => true,
-        Err(Failed) => false,
-    }
-}
+use mm_parts::Parts;
+use mm_types::{Backing, Failed, Frame};
 
 /// One write of a device: true where it succeeded.
 pub(crate) fn write_device<B: Inject>(device: &mut B, block: u32, page: &[u8; 4096]) -> bool
@@ -58,19 +45,29 @@ pub(crate) fn write_device<B: Inject>(device: &mut B, block: u32, page: &[u8; 40
     }
 }
 
-/// Reads a page from where a frame is backed: true where the device call succeeded.
-pub(crate) fn get_page<P: Inject, F: Inject>(
+/// A page is read from where its frame is backed, and the read ends: true where the device call
+/// succeeded.
+pub(crate) fn read_page<P: Inject, F: Inject>(
+    parts: &mut Parts,
     paging: &mut P,
     files: &mut F,
+    f: Frame,
     home: Backing,
-    page: &mut [u8; 4096],
 ) -> bool
+    requires legal { IsLegal (move.Got f) (parts_of.shown_parts parts.old).life }
     requires backed { is_backed home ≡ true }
     requires slot { (s : ℕ) → slot_of home ≡ Some s → s < length (P.blocks paging.old) }
     requires block { (b : ℕ) → block_of home ≡ Some b → b < length (F.blocks files.old) }
-    ensures ok { OnTrue result
-        (bytes_at [] (P.blocks paging.old) (F.blocks files.old) (home_at home)
-        ≡ Some page.new) }
+    ensures shown { parts_of.shown_parts parts.new ≡ record
+        (parts_after (parts_of.shown_parts parts.old) (end_of_read result f)) {
+          bytes = filled_if result f.0
+              (bytes_at [] (P.blocks paging.old) (F.blocks files.old) (home_at home))
+              (parts_of.shown_parts parts.old).bytes;
+          waits = map (ended f.0 result) (parts_of.shown_parts parts.old).waits;
+          own = own_ended (parts_of.shown_parts parts.old).own f.0;
+        } }
+    ensures page { IsSome
+        (bytes_at [] (P.blocks paging.old) (F.blocks files.old) (home_at home)) }
     ensures slots { P.blocks paging.new ≡ P.blocks paging.old }
     ensures blocks { F.blocks files.new ≡ F.blocks files.old }
     ensures called { CalledFor way.Read home result
@@ -82,8 +79,8 @@ pub(crate) fn get_page<P: Inject, F: Inject>(
         × (F.loans files.new ≡ F.loans files.old) }
 {
     match home {
-        Backing::Slot(s) => read_device(paging, s.0, page),
-        Backing::Block(b) => read_device(files, b.0, page),
+        Backing::Slot(s) => read_from(parts, f, paging, s.0),
+        Backing::Block(b) => read_from(parts, f, files, b.0),
         Backing::None => unreachable!(),
     }
 }

@@ -1,14 +1,17 @@
-ghost use Rattle.std.specs.Prelude.{◌≡◌, ◌≤◌, false, map};
+ghost use Rattle.std.specs.Prelude.{◌≡◌, ◌≤◌, ◌<◌, false, length, map, slice_get};
 ghost use Rattle.std.specs.Bool.{OnTrue};
 ghost use Rattle.mm_life.specs.Frames.{is_empty};
 ghost use Rattle.mm_life.specs.Legal.{IsLegal};
 ghost use Rattle.mm_flight.specs.Requests.{ended};
 ghost use Rattle.mm_parts.specs.PartsShown as parts_of;
-ghost use Rattle.mm_parts.specs.Moves.{parts_after, front, own_ended, end_of_read, write_end, page_filled};
-ghost use Rattle.mm_state.specs.Tallied.{page_if_read};
+ghost use Rattle.mm_parts.specs.Moves.{parts_after, front, own_ended, end_of_read, write_end};
+ghost use Rattle.mm_blocks.specs.Reads.{WasRead};
+ghost use Rattle.mm_types.specs.declared.moves.Move.TheVariants as move;
+ghost use Rattle.mm_state.specs.Tallied.{filled_if};
 
+use mm_blocks::Inject;
 use mm_parts::Parts;
-use mm_types::{Frame, Move, NoMemory};
+use mm_types::{Failed, Frame, Move, NoMemory};
 
 /// Takes the memory for further slots, if it is there. Nothing changes but how many can be added.
 pub(crate) fn reserve(parts: &mut Parts, n: u32) -> bool
@@ -57,19 +60,28 @@ pub(crate) fn write_move(f: Frame, ok: bool) -> Move
     if ok { Move::Wrote(f) } else { Move::Lost(f) }
 }
 
-/// A read ends in the parts: well, with this page, or not.
-pub(crate) fn settle_read(parts: &mut Parts, f: Frame, ok: bool, page: &[u8; 4096])
-    requires { IsLegal (end_of_read ok f) (parts_of.shown_parts parts.old).life }
-    ensures { parts_of.shown_parts parts.new ≡ record
-        (parts_after (parts_of.shown_parts parts.old) (end_of_read ok f)) {
-          bytes = page_filled (page_if_read ok page.now) (parts_of.shown_parts parts.old).bytes f.0;
-          waits = map (ended f.0 ok) (parts_of.shown_parts parts.old).waits;
+/// A page is read from a block of a device into its frame, and the read ends: true where the device
+/// call succeeded.
+pub(crate) fn read_from<B: Inject>(parts: &mut Parts, f: Frame, device: &mut B, block: u32) -> bool
+    requires legal { IsLegal (move.Got f) (parts_of.shown_parts parts.old).life }
+    requires block { block < length (B.blocks device.old) }
+    ensures shown { parts_of.shown_parts parts.new ≡ record
+        (parts_after (parts_of.shown_parts parts.old) (end_of_read result f)) {
+          bytes = filled_if result f.0 (slice_get (B.blocks device.old) block)
+              (parts_of.shown_parts parts.old).bytes;
+          waits = map (ended f.0 result) (parts_of.shown_parts parts.old).waits;
           own = own_ended (parts_of.shown_parts parts.old).own f.0;
         } }
+    ensures read { WasRead B.Inject block result device.old device.new }
 {
-    if ok {
-        parts.end_read(f, Some(page));
-    } else {
-        parts.end_read(f, None);
+    match parts.fill_from(f, device, block) {
+        Ok(()) => {
+            parts.end_read(f, true);
+            true
+        }
+        Err(Failed) => {
+            parts.end_read(f, false);
+            false
+        }
     }
 }

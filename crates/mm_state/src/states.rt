@@ -26,9 +26,6 @@ pub struct State<P: Inject, F: Inject, M: Moves> {
     pub files: F,
     pub(crate) moves: M,
     pub(crate) told: Tallies,
-    /// Where the page of a device call stands. It is kept so that none is filled with zeros at each
-    /// call.
-    pub(crate) page: [u8; 4096],
     ghost located: { BytesLocated (parts_of.shown_parts parts).life
         (parts_of.shown_parts parts).bytes
         (P.blocks paging) (F.blocks files) },
@@ -87,7 +84,6 @@ impl<P: Inject, F: Inject, M: Moves> State<P, F, M> {
                     files,
                     moves,
                     told: Tallies::none(),
-                    page: [0; 4096],
                 })
             }
             Err(NoMemory) => Err(Unmade {
@@ -106,7 +102,6 @@ impl<P: Inject, F: Inject, M: Moves> State<P, F, M> {
             files,
             moves,
             told: _,
-            page: _,
         } = self;
         (paging, files, moves)
     }

@@ -363,6 +363,14 @@ module _ {i : Inside} {t : Tables} {pid : Pid} {range : Range} {prot n : ℕ} {v
         (region_kept (as_kept i) pid viewed.0 viewed.1 v range (v.first + offset) count viewed.2 a.kept.sound prot a.private i.directory.entries i.commit
         (home.accepted viewed.0 viewed.1 viewed.2.lives viewed.2.found) a.kept))
 
+    pub view_now : (p : ProcessOf (Unit {0})) (r : Found (RegionOf (Unit {0}))) (w : View) → process_of t pid.0 ≡ Some p → region_around p.regions range ≡ Some r → r.thing.kind ≡ kind.View w → now i ps i.directory.entries areas i.directory.files i.blocks_used ≡ with_pages (with_region t pid.0 p r prot range) w.area.0 (w.first + (range.first - r.thing.base)) range.count
+    view_now p r w lives found is_view =
+        let here : living i.processes.items pid.0 ≡ Some p = ap (λ (u : Tables). process_of u pid.0) a.view ∙ lives in
+        let told = a.told p r here found in
+        let same : v ≡ w = cc (told.0, is_view) in
+        (λ j. now i (b.processes p r here found j) i.directory.entries (b.areas_are j) i.directory.files i.blocks_used)
+        ∙ (λ j. with_pages (with_region (a.view j) pid.0 p r prot range) (same j).area.0 ((same j).first + told.1 j) (a.count_is j))
+
     pub view_settled : (e d : Key → Option Page) (y z : StoreOf) → e ≡ c → y ≡ record s { room = y.room } → s.room ≤ y.room → i.commit.charge + n ≤ y.room → Shares v.area (v.first + offset) count (listed_area i.areas.items v.area.0) e d y z → Settled (now i ps i.directory.entries areas i.directory.files i.blocks_used) c d s z
     view_settled e d y z contents store later room m =
         let before = region_fits (as_kept i) pid viewed.0 viewed.1 v range (v.first + offset) count viewed.2 a.kept.sound prot a.private e y

@@ -317,11 +317,13 @@ pub(crate) fn push_process<G: Pages>(
         space: AddressSpace::new(allocator),
         handles: Handles::new(allocator),
     }))?;
-    let opened = g.open_process(pid, min, max);
-    if opened.is_err() {
-        let _ = processes.pop();
+    match g.open_process(pid, min, max) {
+        Ok(()) => Ok(()),
+        Err(e) => {
+            let _ = processes.pop();
+            Err(e)
+        }
     }
-    opened
 }
 
 /// Charges pages for which there is room.

@@ -1,6 +1,7 @@
 ghost use Rattle.std.specs.Prelude.{◌≡◌, ◌≤◌, ◌++◌, ◌∷◌, [], length, codes, OnOk};
 ghost use Rattle.mm_types.specs.Outside.{Rose};
 ghost use Rattle.mm_types.specs.Spelling.{decimal};
+ghost use Rattle.mm_life.specs.Life.{unstarted};
 ghost use Rattle.mm_life.specs.MoveText.{numbered};
 ghost use Rattle.mm_replay.specs.Standing.{life as life_of};
 ghost use Rattle.mm_tell.specs.Telling.{is_broken};
@@ -158,6 +159,38 @@ fn put_end<T: Teller>(
     put_close(closing, life, teller, text)
 }
 
+/// Tells a log with a state before its first move.
+fn told_on<S: Source, T: Teller, O: Sink>(
+    life: &mut Life,
+    alloc: Global,
+    script: &Option<Lines>,
+    log: &mut S,
+    teller: &mut T,
+    out: &mut O,
+) -> u8
+    requires life { life_of life.old ≡ unstarted }
+    requires counted { T.counted teller.old ≡ 0 }
+    ensures answers { Answers (S.left log.old) (S.left log.new) (O.taken out.old) (O.taken out.new)
+        script.now (said_by (T.rest teller.old)) T.why result }
+    ensures later { (S.faults log.old ≤ S.faults log.new) × (O.faults out.old ≤ O.faults out.new) }
+    ensures read_fault { result ≡ 4 → Rose (S.faults log.old) (S.faults log.new) }
+    ensures out_fault { result ≡ 5 → Rose (O.faults out.old) (O.faults out.new) }
+{
+    let mut text = Vec::new(alloc);
+    let closing = tell_log(life, script, log, teller, &mut text, out);
+    if is_broken(closing) {
+        return status_of(closing);
+    }
+    match put_end(closing, life, teller, &mut text) {
+        Ok(()) => {}
+        Err(NoMemory) => return NO_MEMORY,
+    }
+    match write_flushed(out, text.as_slice()) {
+        Ok(()) => status_of(closing),
+        Err(Failed) => OUT_FAULT,
+    }
+}
+
 /// Tells a log: writes its text to `out`, in pieces of some 32 KiB while the log is read, and
 /// flushes it. The status is 0 where the log replays and fits the script, 1 where memory was
 /// refused, 3 where a line is no legal move, 4 where a read failed, 5 where a write failed, 6 where
@@ -178,17 +211,5 @@ pub fn answered<S: Source, T: Teller, O: Sink>(
     ensures out_fault { result ≡ 5 → Rose (O.faults out.old) (O.faults out.new) }
 {
     let mut life = Life::new(alloc);
-    let mut text = Vec::new(alloc);
-    let closing = tell_log(&mut life, script, log, teller, &mut text, out);
-    if is_broken(closing) {
-        return status_of(closing);
-    }
-    match put_end(closing, &life, teller, &mut text) {
-        Ok(()) => {}
-        Err(NoMemory) => return NO_MEMORY,
-    }
-    match write_flushed(out, text.as_slice()) {
-        Ok(()) => status_of(closing),
-        Err(Failed) => OUT_FAULT,
-    }
+    told_on(&mut life, alloc, script, log, teller, out)
 }

@@ -18,7 +18,7 @@ use crate::tellers::Teller;
 use mm_io::{Sink, Source};
 use mm_log::{Ending, LogReader, MOST_LINES};
 use mm_replay::Life;
-use mm_types::{Failed, Move, NoMemory};
+use mm_types::{Failed, Frame, Move, NoMemory};
 
 /// Tells a move that is legal in this state, and makes it.
 fn take<T: Teller>(
@@ -68,10 +68,11 @@ fn next<S: Source, T: Teller, O: Sink>(
         → Rose (S.faults source.old) (S.faults source.new) }
     ensures out_fault { result ≡ Err Closing.OutFault → Rose (O.faults out.old) (O.faults out.new) }
 {
-    let m = match reader.next_move(life, source) {
-        Ok(m) => m,
+    let mut m = Move::Clear(Frame(0));
+    match reader.take_next(life, source, &mut m) {
+        Ok(()) => {}
         Err(e) => return Err(Closing::Ended(e)),
-    };
+    }
     match misfit(script, &m) {
         Some(line) => return Err(Closing::Misfit(line)),
         None => {}

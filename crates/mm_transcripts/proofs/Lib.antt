@@ -1,2 +1,6 @@
+mod Aged
+mod Joins
+mod Kept
+mod Named
 pub mod Trimming
 pub mod Telling

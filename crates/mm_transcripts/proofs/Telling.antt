@@ -10,8 +10,8 @@ use Rattle.mm_classes.specs.Classes.{next_of}
 use Rattle.mm_classes.specs.declared.classes.Class.{Class}
 use Rattle.mm_sentences.specs.declared.facts.Facts.{Facts}
 use Rattle.mm_sentences.specs.Facts.{facts_of}
-use Rattle.mm_ages.specs.Ages.{AgesOf, no_ages}
-use Rattle.mm_ages.specs.declared.reasons.Reason.{Reason}
+use Rattle.mm_transcripts.specs.Ages.{AgesOf, no_ages}
+use Rattle.mm_transcripts.specs.declared.reasons.Reason.{Reason}
 use Rattle.mm_tell.specs.Classing.{pending, class_then, move_of}
 use Rattle.mm_tell.specs.declared.classifiers.Pending.{Pending}
 use Rattle.mm_tell.proofs.ClassKnown.{class_known}

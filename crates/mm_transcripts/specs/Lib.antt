@@ -1,4 +1,13 @@
+pub mod Ages
+pub mod Failures
+pub mod Keeping
+pub mod Lines
+pub mod Numbers
+pub mod Reasons
+pub mod Remarks
 pub mod Rows
+pub mod Shown
+pub mod TakenNumbers
 pub mod Transcripts
 pub mod Waiting
 pub mod Worked

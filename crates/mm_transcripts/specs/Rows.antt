@@ -12,9 +12,9 @@ use Rattle.mm_classes.specs.declared.classes.Class.{Class}
 use Rattle.mm_sentences.specs.declared.facts.Facts.{Facts}
 use Rattle.mm_sentences.specs.Words.{kind_text}
 use Rattle.mm_sentences.specs.Sentences.{sentence_text}
-use Rattle.mm_remarks.specs.Remarks.{remark_text}
-use Rattle.mm_ages.specs.Reasons.{words_if}
-use Rattle.mm_ages.specs.declared.reasons.Reason.{Reason}
+use Rattle.mm_transcripts.specs.Remarks.{remark_text}
+use Rattle.mm_transcripts.specs.Reasons.{words_if}
+use Rattle.mm_transcripts.specs.declared.reasons.Reason.{Reason}
 
 -- the script and its answers, where they are named
 pub record Beside : Type 0 where

@@ -10,10 +10,10 @@ use Rattle.mm_life.specs.Effect.{after_move}
 use Rattle.mm_classes.specs.Marks.{MarksOf, no_marks, marks_after}
 use Rattle.mm_classes.specs.Classes.{class_of, next_of}
 use Rattle.mm_sentences.specs.Facts.{facts_of}
-use Rattle.mm_ages.specs.Ages.{AgesOf, no_ages, after_move as ages_moved}
-use Rattle.mm_ages.specs.Lines.{after_line}
-use Rattle.mm_ages.specs.Reasons.{reason_at}
-use Rattle.mm_ages.specs.declared.reasons.Reason.{Reason}
+use Rattle.mm_transcripts.specs.Ages.{AgesOf, no_ages, after_move as ages_moved}
+use Rattle.mm_transcripts.specs.Lines.{after_line}
+use Rattle.mm_transcripts.specs.Reasons.{reason_at}
+use Rattle.mm_transcripts.specs.declared.reasons.Reason.{Reason}
 use Rattle.mm_transcripts.specs.Rows.{Beside, line_of, row_text}
 
 -- ages are known where the script and its answers are named

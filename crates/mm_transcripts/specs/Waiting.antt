@@ -8,9 +8,9 @@ use Rattle.mm_classes.specs.Marks.{MarksOf}
 use Rattle.mm_classes.specs.Marking.{marks_of}
 use Rattle.mm_classes.specs.Classes.{next_of}
 use Rattle.mm_sentences.specs.declared.facts.Facts.{Facts}
-use Rattle.mm_ages.specs.Ages.{AgesOf}
-use Rattle.mm_ages.specs.Shown.{ages_of}
-use Rattle.mm_ages.specs.declared.reasons.Reason.{Reason}
+use Rattle.mm_transcripts.specs.Ages.{AgesOf}
+use Rattle.mm_transcripts.specs.Shown.{ages_of}
+use Rattle.mm_transcripts.specs.declared.reasons.Reason.{Reason}
 use Rattle.mm_tell.specs.Classing.{class_then, move_of}
 use Rattle.mm_tell.specs.declared.classifiers.Classed.{Classed}
 use Rattle.mm_tell.specs.declared.classifiers.Pending.{Pending}

@@ -1,12 +1,12 @@
 ghost use Rattle.std.specs.Prelude.{◌≡◌, ◌-◌, ◌++◌, OnOk, length, replicate, option_map, codes};
 ghost use Rattle.mm_replay.specs.Standing.{life as life_of};
-ghost use Rattle.mm_ages.specs.Reasons.{words_if};
+ghost use Rattle.mm_transcripts.specs.Reasons.{words_if};
 ghost use Rattle.mm_transcripts.specs.Rows.{trimmed, padded, answered_row, asked_row, said_text};
 ghost use Rattle.mm_transcripts.specs.Rows.{names_text, line_row, class_row};
 
-use mm_ages::{Reason, put_reason};
+use crate::reasons::{Reason, put_reason};
+use crate::remarks::put_remark;
 use mm_classes::Class;
-use mm_remarks::put_remark;
 use mm_replay::Life;
 use mm_sentences::{Facts, put_kind, put_number, put_sentence, put_words};
 use mm_types::{LineKind, NoMemory};

@@ -3,14 +3,15 @@ ghost use Rattle.mm_types.specs.declared.moves.Move.{Move};
 ghost use Rattle.mm_life.specs.Life.{unstarted};
 ghost use Rattle.mm_life.specs.Effect.{after_move};
 ghost use Rattle.mm_replay.specs.Standing.{life as life_of};
-ghost use Rattle.mm_ages.specs.Shown.{ages_of};
+ghost use Rattle.mm_transcripts.specs.Shown.{ages_of};
 ghost use Rattle.mm_transcripts.specs.Rows.{Beside, line_of, row_text};
 ghost use Rattle.mm_transcripts.specs.Transcripts.{has_ages, ages_by, ages_then, reason_then};
 ghost use Rattle.mm_transcripts.specs.Transcripts.{transcript};
 ghost use Rattle.mm_transcripts.specs.Waiting.{classed_row};
 
+use crate::ages::Ages;
+use crate::reasons::Reason;
 use crate::rows::{put_class_row, put_line_row};
-use mm_ages::{Ages, Reason};
 use mm_replay::Life;
 use mm_sentences::{Facts, facts_of, no_facts, put_why};
 use mm_tell::{Classed, Classifier, Lines, Teller};

@@ -10,7 +10,7 @@ use Rattle.mm_vad.specs.Room.{room, lowest, end_after, widest}
 use Rattle.mm_vad.specs.Shape.{TreeOf, IsShaped, IsBalanced, DifferByAtMost}
 use Rattle.mm_vad.specs.Nodes.{range_of, range_in, ranges_under, tree_of, tree_at, IsSpan, IsNode, IsTree, Alike, MayLeanLeft, MayLeanRight, Became}
 use Rattle.mm_vad.specs.declared.trees.Node.{Node}
-use Rattle.mm_vad.specs.declared.trees.Pages.{Pages}
+use Rattle.mm_vad.specs.declared.trees.TakenRange.{TakenRange}
 use Rattle.mm_vad.specs.declared.trees.Span.{Span}
 use Rattle.mm_vad.proofs.Edits.{remove_middle}
 use Rattle.mm_vad.proofs.Widest.{end_after-append, widest-append, widest_parts, lowest_front}
@@ -66,7 +66,7 @@ shaped_fork l u m a b near within = record {
 }
 
 -- a node made of two sides and what is kept of them
-pub node_fork : (l u : TreeOf) (p : Pages) (left_gap right_gap : ℕ) (s : Span) → IsShaped l → IsShaped u → DifferByAtMost 1 l.height u.height → end_of (range_of p) ≤ end_of_user_pages
+pub node_fork : (l u : TreeOf) (p : TakenRange) (left_gap right_gap : ℕ) (s : Span) → IsShaped l → IsShaped u → DifferByAtMost 1 l.height u.height → end_of (range_of p) ≤ end_of_user_pages
     → left_gap ≡ widest end_of_user_pages (l.ranges ++ range_of p ∷ []) → right_gap ≡ widest (end_of (range_of p)) u.ranges
     → s.lowest ≡ lowest (l.ranges ++ range_of p ∷ u.ranges) → s.highest ≡ end_after end_of_user_pages (l.ranges ++ range_of p ∷ u.ranges) → s.gap ≡ max left_gap right_gap → s.height ≡ max l.height u.height + 1
     → IsNode (record { left = l; pages = p; right = u; left_gap = left_gap; right_gap = right_gap; span = s }) (record { ranges = l.ranges ++ range_of p ∷ u.ranges; height = s.height })

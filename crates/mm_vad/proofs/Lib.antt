@@ -17,6 +17,7 @@ pub mod Forks
 pub mod FreeAt
 pub mod Heights
 pub mod LowestGap
+pub mod Turned
 pub mod WorkedRanges
 pub mod Widest
 pub mod BitLemmas

@@ -5,10 +5,10 @@ use Rattle.mm_types.specs.Address.{Range, end_of, end_of_user_pages}
 use Rattle.mm_vad.specs.Room.{lowest, end_after, widest}
 use Rattle.mm_vad.specs.Shape.{TreeOf, IsShaped, IsFork, DifferByAtMost}
 use Rattle.mm_vad.specs.declared.trees.Node.{Node}
-use Rattle.mm_vad.specs.declared.trees.Pages.{Pages}
+use Rattle.mm_vad.specs.declared.trees.TakenRange.{TakenRange}
 use Rattle.mm_vad.specs.declared.trees.Span.{Span}
 
-abbrev pub range_of : Pages → Range
+abbrev pub range_of : TakenRange → Range
 range_of p = record { first = p.first; count = p.count }
 
 abbrev pub range_in : Node → Range

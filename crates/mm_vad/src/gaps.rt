@@ -3,7 +3,7 @@ ghost use Rattle.mm_types.specs.Address.{holds_page, is_free, first_user_page, l
 ghost use Rattle.mm_vad.specs.Ranges.{GapsOf, LieApart, range_at, add_range, remove_range, is_begun_at, page_number, first_and_count};
 ghost use Rattle.mm_vad.specs.Visits.{VisitsFew};
 
-use crate::trees::{Node, Pages, Tree};
+use crate::trees::{Node, TakenRange, Tree};
 use crate::{Ledger, Steps};
 use mm_types::{END_OF_USER_PAGES, FIRST_USER_PAGE, NoMemory, Vpn};
 use std::alloc::Global;
@@ -71,7 +71,7 @@ impl Gaps {
         let Some(mut node) = self.stock.pop() else {
             unreachable!()
         };
-        node.pages = Pages {
+        node.pages = TakenRange {
             first: first.0,
             count: n,
         };

@@ -13,12 +13,12 @@ use std::mem;
 
 /// A range of pages.
 #[derive(Clone, Copy)]
-pub struct Pages {
+pub struct TakenRange {
     pub first: u32,
     pub count: u32,
 }
 
-impl Pages {
+impl TakenRange {
     /// The page behind the last one.
     fn end(self) -> u32
         requires { self.first + self.count ≤ end_of_user_pages }
@@ -40,7 +40,7 @@ pub struct Tree {
 #[derive(Drop)]
 pub struct Node {
     left: Tree,
-    pub pages: Pages,
+    pub pages: TakenRange,
     right: Tree,
     /// The most room between the lowest range here and this one.
     left_gap: u32,
@@ -95,7 +95,7 @@ impl Node {
     pub fn blank() -> Node {
         Node {
             left: Tree::new(),
-            pages: Pages { first: 0, count: 0 },
+            pages: TakenRange { first: 0, count: 0 },
             right: Tree::new(),
             left_gap: 0,
             right_gap: 0,
@@ -340,7 +340,7 @@ fn fork(left: Tree, mut node: Box<Node>, right: Tree) -> Tree
 
 /// A range between two trees that are about as high, with what is kept of them.
 #[inline(always)]
-fn node_over(left: Tree, pages: Pages, right: Tree) -> Node
+fn node_over(left: Tree, pages: TakenRange, right: Tree) -> Node
     requires near { DifferByAtMost 1 left.height right.height }
     requires within { end_of (range_of pages) ≤ end_of_user_pages }
     requires few { length left.ranges + length right.ranges + 1 < 2 ^ 32 }
@@ -481,7 +481,7 @@ fn take_top(root: &mut Option<Box<Node>>) -> Box<Node>
 }
 
 /// The most room between the ranges below a range, of which this is kept, and up to it.
-fn room_up_to(pages: Pages, below: Span) -> u32
+fn room_up_to(pages: TakenRange, below: Span) -> u32
     requires { below.highest ≤ end_of_user_pages }
     ensures { result ≡ max below.gap (room below.highest pages.first) }
 {
@@ -489,7 +489,7 @@ fn room_up_to(pages: Pages, below: Span) -> u32
 }
 
 /// The most room from a range on between the ranges above it, of which this is kept.
-fn room_from(pages: Pages, above: Span) -> u32
+fn room_from(pages: TakenRange, above: Span) -> u32
     requires { end_of (range_of pages) ≤ end_of_user_pages }
     ensures { result ≡ max (room (end_of (range_of pages)) above.lowest) above.gap }
 {
@@ -497,7 +497,7 @@ fn room_from(pages: Pages, above: Span) -> u32
 }
 
 /// The first page of the ranges below a range, of which this is kept, and of that one.
-fn lowest_from(below: Span, pages: Pages) -> u32
+fn lowest_from(below: Span, pages: TakenRange) -> u32
     ensures { result ≡ if below.height == 0 then pages.first else below.lowest }
 {
     if below.height == 0 {
@@ -508,7 +508,7 @@ fn lowest_from(below: Span, pages: Pages) -> u32
 }
 
 /// The end of a range and of the ranges above it, of which this is kept.
-fn highest_from(pages: Pages, above: Span) -> u32
+fn highest_from(pages: TakenRange, above: Span) -> u32
     requires { end_of (range_of pages) ≤ end_of_user_pages }
     ensures { result ≡ if above.height == 0 then end_of (range_of pages) else above.highest }
 {
@@ -534,7 +534,7 @@ fn balance(left: Tree, mut node: Box<Node>, right: Tree) -> Tree
 
 /// Two trees of which one may be two levels higher, and a range between them: as two that are about
 /// as high, and a range between these.
-fn turn(left: Tree, pages: Pages, right: Tree) -> (Tree, Pages, Tree)
+fn turn(left: Tree, pages: TakenRange, right: Tree) -> (Tree, TakenRange, Tree)
     requires near { DifferByAtMost 2 left.height right.height }
     requires within { end_of (range_of pages) ≤ end_of_user_pages }
     requires few { length left.ranges + length right.ranges + 1 < 2 ^ 32 }
@@ -553,7 +553,7 @@ fn turn(left: Tree, pages: Pages, right: Tree) -> (Tree, Pages, Tree)
 /// As `turn`, where the left one is two levels higher.
 #[cold]
 #[inline(never)]
-fn turn_right(left: Tree, pages: Pages, right: Tree) -> (Tree, Pages, Tree)
+fn turn_right(left: Tree, pages: TakenRange, right: Tree) -> (Tree, TakenRange, Tree)
     requires two_higher { left.height ≡ right.height + 2 }
     requires within { end_of (range_of pages) ≤ end_of_user_pages }
     requires few { length left.ranges + length right.ranges + 1 < 2 ^ 32 }
@@ -576,7 +576,7 @@ fn turn_right(left: Tree, pages: Pages, right: Tree) -> (Tree, Pages, Tree)
 /// As `turn`, where the right one is two levels higher.
 #[cold]
 #[inline(never)]
-fn turn_left(left: Tree, pages: Pages, right: Tree) -> (Tree, Pages, Tree)
+fn turn_left(left: Tree, pages: TakenRange, right: Tree) -> (Tree, TakenRange, Tree)
     requires two_higher { right.height ≡ left.height + 2 }
     requires within { end_of (range_of pages) ≤ end_of_user_pages }
     requires few { length left.ranges + length right.ranges + 1 < 2 ^ 32 }

@@ -3,6 +3,7 @@ pub mod PageLemmas
 pub mod FirstLemmas
 pub mod InOrder
 pub mod ForkLemmas
+pub mod Turned
 pub mod UserLemmas
 pub mod AgeLemmas
 pub mod MapLemmas

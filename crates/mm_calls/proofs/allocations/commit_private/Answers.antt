@@ -12,43 +12,50 @@ use Rattle.mm_spaces.specs.Tables.{owned_in}
 use Rattle.mm_calls.proofs.Around.{kind_found, user_range}
 use Rattle.mm_calls.proofs.Counts.{owned_few}
 use Rattle.mm_calls.proofs.Decided.{commit_refused, commit_made, commit_charges, some_marks}
+use Rattle.mm_tables.proofs.Carried.{settled_same}
 use Rattle.mm_calls.proofs.allocations.commit_private.Goals as goal
 use Rattle.mm_types.proofs.Options.{some_found, on_err}
 
-pub returns-then-not-can_charge-clause-ok : goal.returns-then-not-can_charge-clause-ok
-returns-then-not-can_charge-clause-ok g c p lives =
-    let t = c.args.t.now in
-    let range : Range = c.args.range in
-    let r = kind_found (region_around p.regions range) kind.Private (c.requires.around p lives) in
-    let count : c.range.inside.count ≡ range.count = ap (λ (r : Range). r.count) c.range.view_is in
-    let n : ℕ = c.range.inside.count - c.owned.result in
-    let owned : c.owned.result ≡ owned_in p.regions range = c.owned.ensures ∙ ap (λ rs. owned_in rs range) (c.space.ensures p lives) in
-    let counted : n + owned_in p.regions range ≡ range.count = omega (arith, count, owned, owned_few p.regions range r.0 r.1.0) in
-    let past : limit t < charge t + n = (let h = leb-false _ _ (sym c.can_charge.ensures ∙ c.if-not-can_charge.true) in omega (arith, h)) in
-    commit_refused t c.args.pid.0 p range c.args.prot n lives r.0 r.1.0 r.1.1 counted past
+pub returns-then-not-can_charge-clause-done : goal.returns-then-not-can_charge-clause-done
+returns-then-not-can_charge-clause-done g c = record {
+  outcome = λ p lives.
+      let t = c.args.t.now in
+      let range : Range = c.args.range in
+      let r = kind_found (region_around p.regions range) kind.Private (c.requires.around p lives) in
+      let count : c.range.inside.count ≡ range.count = ap (λ (r : Range). r.count) c.range.view_is in
+      let n : ℕ = c.range.inside.count - c.owned.result in
+      let owned : c.owned.result ≡ owned_in p.regions range = c.owned.ensures ∙ ap (λ rs. owned_in rs range) (c.space.ensures p lives) in
+      let counted : n + owned_in p.regions range ≡ range.count = omega (arith, count, owned, owned_few p.regions range r.0 r.1.0) in
+      let past : limit t < charge t + n = (let h = leb-false _ _ (sym c.can_charge.ensures ∙ c.if-not-can_charge.true) in omega (arith, h)) in
+      commit_refused t c.args.pid.0 p range c.args.prot n lives r.0 r.1.0 r.1.1 counted past;
+  settled = settled_same c.args.t.now (g.G.Pages.contents c.args.g.now) (g.G.Pages.store c.args.g.now) c.requires.ready.fits;
+}
 
 pub overflow_mul-result : goal.overflow_mul-result
 overflow_mul-result g c =
     let t = c.args.t.now in
     let range : Range = c.args.range in
-    let p = some_found (process_of t c.args.pid.0) c.requires.lives in
+    let p = some_found (process_of t c.args.pid.0) c.requires.ready.lives in
     let r = kind_found (region_around p.0.regions range) kind.Private (c.requires.around p.0 p.1) in
     let first : c.range-2.inside.first ≡ range.first = ap (λ (r : Range). r.first) c.range-2.view_is in
     omega (arith, first, user_range t c.args.pid.0 p.0 range r.0 p.1 c.sound.ensures.sound r.1.0)
 
-pub returns-clause-ok : goal.returns-clause-ok
-returns-clause-ok g c p lives =
-    let t = c.args.t.now in
-    let range : Range = c.args.range in
-    let r = kind_found (region_around p.regions range) kind.Private (c.requires.around p lives) in
-    let count : c.range.inside.count ≡ range.count = ap (λ (r : Range). r.count) c.range.view_is in
-    let first : range.first ≡ c.range-2.inside.first = sym (ap (λ (r : Range). r.first) c.range-2.view_is) in
-    let n : ℕ = c.range.inside.count - c.owned.result in
-    let owned : c.owned.result ≡ owned_in p.regions range = c.owned.ensures ∙ ap (λ rs. owned_in rs range) (c.space.ensures p lives) in
-    let counted : n + owned_in p.regions range ≡ range.count = omega (arith, count, owned, owned_few p.regions range r.0 r.1.0) in
-    let room : charge t + n ≤ limit t = leb-true _ _ (sym c.can_charge.ensures ∙ c.if-not-can_charge.false) in
-    let now = sym (c.in_ok-commit.ensures.ok p r.0 lives r.1.0) in
-    commit_made t c.args.pid.0 p range c.args.prot n lives r.0 r.1.0 r.1.1 counted room ∙ (λ i. done (answer.At (first i * 4096)) (now i))
+pub returns-clause-done : goal.returns-clause-done
+returns-clause-done g c = record {
+  outcome = λ p lives.
+      let t = c.args.t.now in
+      let range : Range = c.args.range in
+      let r = kind_found (region_around p.regions range) kind.Private (c.requires.around p lives) in
+      let count : c.range.inside.count ≡ range.count = ap (λ (r : Range). r.count) c.range.view_is in
+      let first : range.first ≡ c.range-2.inside.first = sym (ap (λ (r : Range). r.first) c.range-2.view_is) in
+      let n : ℕ = c.range.inside.count - c.owned.result in
+      let owned : c.owned.result ≡ owned_in p.regions range = c.owned.ensures ∙ ap (λ rs. owned_in rs range) (c.space.ensures p lives) in
+      let counted : n + owned_in p.regions range ≡ range.count = omega (arith, count, owned, owned_few p.regions range r.0 r.1.0) in
+      let room : charge t + n ≤ limit t = leb-true _ _ (sym c.can_charge.ensures ∙ c.if-not-can_charge.false) in
+      let now = sym (c.in_ok-commit.ensures.ok p r.0 lives r.1.0) in
+      commit_made t c.args.pid.0 p range c.args.prot n lives r.0 r.1.0 r.1.1 counted room ∙ (λ i. done (answer.At (first i * 4096)) (now i));
+  settled = c.commit.ensures.settles.settled;
+}
 
 pub returns-in_err-commit-clause-charges : goal.returns-in_err-commit-clause-charges
 returns-in_err-commit-clause-charges g c = on_err c.from_residual.result (λ p lives.
@@ -61,4 +68,4 @@ returns-in_err-commit-clause-charges g c = on_err c.from_residual.result (λ p l
     let counted : n + owned_in p.regions range ≡ range.count = omega (arith, count, owned, owned_few p.regions range r.0 r.1.0) in
     let room : charge t + n ≤ limit t = leb-true _ _ (sym c.can_charge.ensures ∙ c.if-not-can_charge.false) in
     let charged : charge (commit_pages blank t c.args.pid.0 p range c.args.prot).world ≡ charge t + n = commit_charges t c.args.pid.0 p range c.args.prot n lives r.0 r.1.0 r.1.1 counted room in
-    omega (arith, charged, some_marks n (λ none. let bad = c.in_err-commit.ensures.enough (omega (arith, none, c.requires.fits.room)) in cc)))
+    omega (arith, charged, some_marks n (λ none. let bad = c.in_err-commit.ensures.enough (omega (arith, none, c.requires.ready.fits.room)) in cc)))

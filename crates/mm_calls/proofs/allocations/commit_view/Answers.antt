@@ -13,23 +13,24 @@ use Rattle.mm_sections.specs.Pages.{uncommitted_in}
 use Rattle.mm_calls.proofs.Areas.{tells_view, no_block}
 use Rattle.mm_calls.proofs.Around.{user_range}
 use Rattle.mm_calls.proofs.Decided.{view_refused, view_made, view_charges, some_marks}
+use Rattle.mm_tables.proofs.Carried.{settled_same}
 use Rattle.mm_calls.proofs.allocations.commit_view.Goals as goal
 use Rattle.mm_types.proofs.Options.{some_found, on_err}
 
 pub area-area-requires : goal.area-area-requires
 area-area-requires g c =
-    let p = some_found (process_of c.args.t.now c.args.pid.0) c.requires.lives in
+    let p = some_found (process_of c.args.t.now c.args.pid.0) c.requires.ready.lives in
     (tells_view c.args.t.now c.args.pid.0 p.0 c.args.range c.args.pages c.args.view p.1 c.sound.ensures.sound (c.requires.around p.0 p.1)).made
 
 pub overflow_sub-range-inside : goal.overflow_sub-range-inside
 overflow_sub-range-inside g c =
-    let p = some_found (process_of c.args.t.now c.args.pid.0) c.requires.lives in
+    let p = some_found (process_of c.args.t.now c.args.pid.0) c.requires.ready.lives in
     let v = tells_view c.args.t.now c.args.pid.0 p.0 c.args.range c.args.pages c.args.view p.1 c.sound.ensures.sound (c.requires.around p.0 p.1) in
     omega (arith, v.low, ap (λ (r : Range). r.first) c.range.view_is, ap (λ (r : Range). r.first) c.pages.view_is)
 
 pub overflow_add-view : goal.overflow_add-view
 overflow_add-view g c =
-    let p = some_found (process_of c.args.t.now c.args.pid.0) c.requires.lives in
+    let p = some_found (process_of c.args.t.now c.args.pid.0) c.requires.ready.lives in
     let v = tells_view c.args.t.now c.args.pid.0 p.0 c.args.range c.args.pages c.args.view p.1 c.sound.ensures.sound (c.requires.around p.0 p.1) in
     omega (
       arith,
@@ -43,7 +44,7 @@ overflow_add-view g c =
 
 pub uncommitted-n-requires : goal.uncommitted-n-requires
 uncommitted-n-requires g c = record {
-  inside = (let p = some_found (process_of c.args.t.now c.args.pid.0) c.requires.lives in
+  inside = (let p = some_found (process_of c.args.t.now c.args.pid.0) c.requires.ready.lives in
       let v = tells_view c.args.t.now c.args.pid.0 p.0 c.args.range c.args.pages c.args.view p.1 c.sound.ensures.sound (c.requires.around p.0 p.1) in
       omega (
         arith,
@@ -55,51 +56,57 @@ uncommitted-n-requires g c = record {
       ));
 }
 
-pub returns-then-not-can_charge-clause-ok : goal.returns-then-not-can_charge-clause-ok
-returns-then-not-can_charge-clause-ok g c p lives =
-    let t = c.args.t.now in
-    let range : Range = c.args.range in
-    let v = tells_view t c.args.pid.0 p range c.args.pages c.args.view lives c.sound.ensures.sound (c.requires.around p lives) in
-    let first : c.args.view.first + (c.range.inside.first - c.pages.inside.first) ≡ c.args.view.first + (range.first - v.region.thing.base) =
-    omega (arith, v.index, ap (λ (r : Range). r.first) c.range.view_is, ap (λ (r : Range). r.first) c.pages.view_is) in
-    let count : c.range.inside.count ≡ range.count = ap (λ (r : Range). r.count) c.range.view_is in
-    let n : ℕ = c.uncommitted-n.result in
-    let counted : n ≡ uncommitted_in (area_at t c.args.view.area.0) (c.args.view.first + (range.first - v.region.thing.base)) range.count =
-    c.uncommitted-n.ensures ∙ (λ i. uncommitted_in (c.area-area.ensures i) (first i) (count i)) in
-    let none : (area_at t c.args.view.area.0).file_block ≡ None =
-    ap (λ (a : AreaOf (Unit {0})). a.file_block) (sym c.area-area.ensures) ∙ no_block c.area-area.result.now.file_block (ap (λ o. is_some o) (sym c.first_block.ensures) ∙ sym c.is_some.ensures ∙ c.if-is_some.false) in
-    let takes : every_page (accepts v.region.thing c.args.prot) range ≡ true = sym (c.accepts.ensures v.region (ap (λ rs. region_around rs range) (c.space.ensures p lives) ∙ v.found)) ∙ c.if-not-accepts.false in
-    let past : limit t < charge t + n = (let h = leb-false _ _ (sym c.can_charge.ensures ∙ c.if-not-can_charge.true) in omega (arith, h)) in
-    view_refused t c.args.pid.0 p range c.args.prot n lives v.region v.found c.args.view v.kind none c.sound.ensures.sound c.requires.prot takes counted past
+pub returns-then-not-can_charge-clause-done : goal.returns-then-not-can_charge-clause-done
+returns-then-not-can_charge-clause-done g c = record {
+  outcome = λ p lives.
+      let t = c.args.t.now in
+      let range : Range = c.args.range in
+      let v = tells_view t c.args.pid.0 p range c.args.pages c.args.view lives c.sound.ensures.sound (c.requires.around p lives) in
+      let first : c.args.view.first + (c.range.inside.first - c.pages.inside.first) ≡ c.args.view.first + (range.first - v.region.thing.base) =
+      omega (arith, v.index, ap (λ (r : Range). r.first) c.range.view_is, ap (λ (r : Range). r.first) c.pages.view_is) in
+      let count : c.range.inside.count ≡ range.count = ap (λ (r : Range). r.count) c.range.view_is in
+      let n : ℕ = c.uncommitted-n.result in
+      let counted : n ≡ uncommitted_in (area_at t c.args.view.area.0) (c.args.view.first + (range.first - v.region.thing.base)) range.count =
+      c.uncommitted-n.ensures ∙ (λ i. uncommitted_in (c.area-area.ensures i) (first i) (count i)) in
+      let none : (area_at t c.args.view.area.0).file_block ≡ None =
+      ap (λ (a : AreaOf (Unit {0})). a.file_block) (sym c.area-area.ensures) ∙ no_block c.area-area.result.now.file_block (ap (λ o. is_some o) (sym c.first_block.ensures) ∙ sym c.is_some.ensures ∙ c.if-is_some.false) in
+      let takes : every_page (accepts v.region.thing c.args.prot) range ≡ true = sym (c.accepts.ensures v.region (ap (λ rs. region_around rs range) (c.space.ensures p lives) ∙ v.found)) ∙ c.if-not-accepts.false in
+      let past : limit t < charge t + n = (let h = leb-false _ _ (sym c.can_charge.ensures ∙ c.if-not-can_charge.true) in omega (arith, h)) in
+      view_refused t c.args.pid.0 p range c.args.prot n lives v.region v.found c.args.view v.kind none c.sound.ensures.sound c.requires.prot takes counted past;
+  settled = settled_same c.args.t.now (g.G.Pages.contents c.args.g.now) (g.G.Pages.store c.args.g.now) c.requires.ready.fits;
+}
 
 pub overflow_mul-result : goal.overflow_mul-result
 overflow_mul-result g c =
     let t = c.args.t.now in
     let range : Range = c.args.range in
-    let p = some_found (process_of t c.args.pid.0) c.requires.lives in
+    let p = some_found (process_of t c.args.pid.0) c.requires.ready.lives in
     let v = tells_view t c.args.pid.0 p.0 range c.args.pages c.args.view p.1 c.sound.ensures.sound (c.requires.around p.0 p.1) in
     let first : c.range-2.inside.first ≡ range.first = ap (λ (r : Range). r.first) c.range-2.view_is in
     omega (arith, first, user_range t c.args.pid.0 p.0 range v.region p.1 c.sound.ensures.sound v.found)
 
-pub returns-clause-ok : goal.returns-clause-ok
-returns-clause-ok g c p lives =
-    let t = c.args.t.now in
-    let range : Range = c.args.range in
-    let v = tells_view t c.args.pid.0 p range c.args.pages c.args.view lives c.sound.ensures.sound (c.requires.around p lives) in
-    let first : c.args.view.first + (c.range.inside.first - c.pages.inside.first) ≡ c.args.view.first + (range.first - v.region.thing.base) =
-    omega (arith, v.index, ap (λ (r : Range). r.first) c.range.view_is, ap (λ (r : Range). r.first) c.pages.view_is) in
-    let count : c.range.inside.count ≡ range.count = ap (λ (r : Range). r.count) c.range.view_is in
-    let n : ℕ = c.uncommitted-n.result in
-    let counted : n ≡ uncommitted_in (area_at t c.args.view.area.0) (c.args.view.first + (range.first - v.region.thing.base)) range.count =
-    c.uncommitted-n.ensures ∙ (λ i. uncommitted_in (c.area-area.ensures i) (first i) (count i)) in
-    let none : (area_at t c.args.view.area.0).file_block ≡ None =
-    ap (λ (a : AreaOf (Unit {0})). a.file_block) (sym c.area-area.ensures) ∙ no_block c.area-area.result.now.file_block (ap (λ o. is_some o) (sym c.first_block.ensures) ∙ sym c.is_some.ensures ∙ c.if-is_some.false) in
-    let takes : every_page (accepts v.region.thing c.args.prot) range ≡ true = sym (c.accepts.ensures v.region (ap (λ rs. region_around rs range) (c.space.ensures p lives) ∙ v.found)) ∙ c.if-not-accepts.false in
-    let room : charge t + n ≤ limit t = leb-true _ _ (sym c.can_charge.ensures ∙ c.if-not-can_charge.false) in
-    let at : range.first ≡ c.range-2.inside.first = sym (ap (λ (r : Range). r.first) c.range-2.view_is) in
-    let now = sym (c.in_ok-commit_view.ensures.ok p v.region c.args.view lives v.found v.kind) in
-    view_made t c.args.pid.0 p range c.args.prot n lives v.region v.found c.args.view v.kind none c.sound.ensures.sound c.requires.prot takes counted room
-    ∙ (λ i. done (answer.At (at i * 4096)) (now i))
+pub returns-clause-done : goal.returns-clause-done
+returns-clause-done g c = record {
+  outcome = λ p lives.
+      let t = c.args.t.now in
+      let range : Range = c.args.range in
+      let v = tells_view t c.args.pid.0 p range c.args.pages c.args.view lives c.sound.ensures.sound (c.requires.around p lives) in
+      let first : c.args.view.first + (c.range.inside.first - c.pages.inside.first) ≡ c.args.view.first + (range.first - v.region.thing.base) =
+      omega (arith, v.index, ap (λ (r : Range). r.first) c.range.view_is, ap (λ (r : Range). r.first) c.pages.view_is) in
+      let count : c.range.inside.count ≡ range.count = ap (λ (r : Range). r.count) c.range.view_is in
+      let n : ℕ = c.uncommitted-n.result in
+      let counted : n ≡ uncommitted_in (area_at t c.args.view.area.0) (c.args.view.first + (range.first - v.region.thing.base)) range.count =
+      c.uncommitted-n.ensures ∙ (λ i. uncommitted_in (c.area-area.ensures i) (first i) (count i)) in
+      let none : (area_at t c.args.view.area.0).file_block ≡ None =
+      ap (λ (a : AreaOf (Unit {0})). a.file_block) (sym c.area-area.ensures) ∙ no_block c.area-area.result.now.file_block (ap (λ o. is_some o) (sym c.first_block.ensures) ∙ sym c.is_some.ensures ∙ c.if-is_some.false) in
+      let takes : every_page (accepts v.region.thing c.args.prot) range ≡ true = sym (c.accepts.ensures v.region (ap (λ rs. region_around rs range) (c.space.ensures p lives) ∙ v.found)) ∙ c.if-not-accepts.false in
+      let room : charge t + n ≤ limit t = leb-true _ _ (sym c.can_charge.ensures ∙ c.if-not-can_charge.false) in
+      let at : range.first ≡ c.range-2.inside.first = sym (ap (λ (r : Range). r.first) c.range-2.view_is) in
+      let now = sym (c.in_ok-commit_view.ensures.ok p v.region c.args.view lives v.found v.kind) in
+      view_made t c.args.pid.0 p range c.args.prot n lives v.region v.found c.args.view v.kind none c.sound.ensures.sound c.requires.prot takes counted room
+      ∙ (λ i. done (answer.At (at i * 4096)) (now i));
+  settled = c.commit_view.ensures.settles.settled;
+}
 
 pub returns-in_err-commit_view-clause-charges : goal.returns-in_err-commit_view-clause-charges
 returns-in_err-commit_view-clause-charges g c = on_err c.from_residual.result (λ p lives.
@@ -118,4 +125,4 @@ returns-in_err-commit_view-clause-charges g c = on_err c.from_residual.result (�
     let room : charge t + n ≤ limit t = leb-true _ _ (sym c.can_charge.ensures ∙ c.if-not-can_charge.false) in
     let charged : charge (commit_pages blank t c.args.pid.0 p range c.args.prot).world ≡ charge t + n =
     view_charges t c.args.pid.0 p range c.args.prot n lives v.region v.found c.args.view v.kind none c.sound.ensures.sound c.requires.prot takes counted room in
-    omega (arith, charged, some_marks n (λ zero. let bad = c.in_err-commit_view.ensures.enough (omega (arith, zero, c.requires.fits.room)) in cc)))
+    omega (arith, charged, some_marks n (λ zero. let bad = c.in_err-commit_view.ensures.enough (omega (arith, zero, c.requires.ready.fits.room)) in cc)))

@@ -14,13 +14,6 @@ use Rattle.mm_spaces.specs.Tables.{found_info}
 use Rattle.mm_calls.proofs.Placing.{tells_view, told_view, told_none, flushed_within}
 use Rattle.mm_calls.proofs.files.flush_view.Goals as goal
 use Rattle.mm_types.proofs.Options.{some_found}
-use Rattle.mm_pages.proofs.Served.{served_none}
-
-pub returns-then-not-has-clause-served : goal.returns-then-not-has-clause-served
-returns-then-not-has-clause-served g c = served_none (g.G.Pages.store c.args.g.now)
-
-pub returns-in-None-clause-served : goal.returns-in-None-clause-served
-returns-in-None-clause-served g c = served_none (g.G.Pages.store c.args.g.now)
 
 pub view_of-view-requires : goal.view_of-view-requires
 view_of-view-requires g c =

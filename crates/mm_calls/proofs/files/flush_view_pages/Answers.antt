@@ -1,4 +1,4 @@
-use Rattle.std.proofs.Common.{◌≡◌, ◌+◌, ◌∙◌, sym, ap, subst, cond, is_some, false, Some, []}
+use Rattle.std.proofs.Common.{rules, ◌≡◌, ◌+◌, ◌∙◌, sym, ap, subst, cond, is_some, false, Some, []}
 use Rattle.mm_pages.specs.Housekeeping.{Flushes}
 use Rattle.mm_pages.specs.Passing.{PassesIn}
 use Rattle.mm_calls.specs.Stages.{keys_from}
@@ -7,7 +7,6 @@ use Rattle.mm_world.specs.World.{AreaOf}
 use Rattle.mm_world.specs.Find.{area_at}
 use Rattle.mm_calls.proofs.Flushing.{in_blocks, fits_written, block_told, block_none}
 use Rattle.mm_calls.proofs.files.flush_view_pages.Goals as goal
-use Rattle.mm_pages.proofs.Served.{served_none}
 
 pub flush_pages-requires-clause-blocks : goal.flush_pages-requires-clause-blocks
 flush_pages-requires-clause-blocks g c =
@@ -15,20 +14,31 @@ flush_pages-requires-clause-blocks g c =
     let v = c.args.view in
     let file : (area_at t v.area.0).file_block ≡ Some c.in-Some.block.0 =
     ap (λ (a : AreaOf (Unit {0})). a.file_block) (sym c.area-area.ensures) ∙ block_told c.area-area.result.now.file_block c.in-Some.block (sym c.first_block.ensures ∙ c.in-Some.is) in
-    in_blocks t (g.G.Pages.contents c.args.g.now) (g.G.Pages.store c.args.g.now) v.area.0 (v.first + c.args.before) c.args.count c.in-Some.block.0 c.requires.fits c.sound.ensures.tidy file c.requires.within
+    in_blocks t (g.G.Pages.contents c.args.g.now) (g.G.Pages.store c.args.g.now) v.area.0 (v.first + c.args.before) c.args.count c.in-Some.block.0 c.requires.begins.fits c.sound.ensures.tidy file c.requires.within
 
-pub returns-in-None-clause-served : goal.returns-in-None-clause-served
-returns-in-None-clause-served g c = served_none (g.G.Pages.store c.args.g.now)
+pub returns-in-Ok-clause-done : goal.returns-in-Ok-clause-done
+returns-in-Ok-clause-done g c =
+    let e = c.flush_pages.ensures.flushes in
+    record {
+      contents = e.contents;
+      fits = fits_written c.args.t.now (g.G.Pages.contents c.args.g.now) (g.G.Pages.contents c.flush_pages.new.g) (g.G.Pages.store c.args.g.now) (g.G.Pages.store c.flush_pages.new.g) c.requires.begins.fits e.store e.contents e.served e.stored;
+      beside = e.store;
+      served = e.served;
+      blamed = search rules;
+      loans = e.loans;
+    }
 
-pub returns-in-Ok-clause-fits : goal.returns-in-Ok-clause-fits
-returns-in-Ok-clause-fits g c =
-    let e = c.flush_pages.ensures in
-    fits_written c.args.t.now (g.G.Pages.contents c.args.g.now) (g.G.Pages.contents c.flush_pages.new.g) (g.G.Pages.store c.args.g.now) (g.G.Pages.store c.flush_pages.new.g) c.requires.fits e.store e.contents e.served e.stored
-
-pub returns-in-Err-clause-fits : goal.returns-in-Err-clause-fits
-returns-in-Err-clause-fits g c =
-    let e = c.flush_pages.ensures in
-    fits_written c.args.t.now (g.G.Pages.contents c.args.g.now) (g.G.Pages.contents c.flush_pages.new.g) (g.G.Pages.store c.args.g.now) (g.G.Pages.store c.flush_pages.new.g) c.requires.fits e.store e.contents e.served e.stored
+pub returns-in-Err-clause-done : goal.returns-in-Err-clause-done
+returns-in-Err-clause-done g c =
+    let e = c.flush_pages.ensures.flushes in
+    record {
+      contents = e.contents;
+      fits = fits_written c.args.t.now (g.G.Pages.contents c.args.g.now) (g.G.Pages.contents c.flush_pages.new.g) (g.G.Pages.store c.args.g.now) (g.G.Pages.store c.flush_pages.new.g) c.requires.begins.fits e.store e.contents e.served e.stored;
+      beside = e.store;
+      served = e.served;
+      blamed = search rules;
+      loans = e.loans;
+    }
 
 pub returns-in-None-clause-passes : goal.returns-in-None-clause-passes
 returns-in-None-clause-passes g c =

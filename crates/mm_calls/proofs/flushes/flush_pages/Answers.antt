@@ -1,4 +1,4 @@
-use Rattle.std.proofs.Common.{◌∙◌, refl, arith}
+use Rattle.std.proofs.Common.{rules, ◌∙◌, refl, arith}
 use Rattle.mm_calls.proofs.FlushMoves.{loop_none, loop_more, loop_all, loop_ended}
 use Rattle.mm_calls.proofs.Flushing.{flushed_none, flushed_more, blamed_since}
 use Rattle.mm_calls.proofs.flushes.flush_pages.Goals as goal
@@ -13,14 +13,22 @@ loop-i-init g c =
       loans = refl;
     }
 
-pub returns-in_err-flush-clause-served : goal.returns-in_err-flush-clause-served
-returns-in_err-flush-clause-served g c =
-    served_then (g.G.Pages.store c.args.g.now) (g.G.Pages.store c.loop-i.g) (g.G.Pages.store c.flush.new.self) c.loop-i.invariant.flushed.served c.in_err-flush.ensures.served
+pub returns-in_err-flush-clause-flushes : goal.returns-in_err-flush-clause-flushes
+returns-in_err-flush-clause-flushes g c = record {
+  store = search rules;
+  served = served_then (g.G.Pages.store c.args.g.now) (g.G.Pages.store c.loop-i.g) (g.G.Pages.store c.flush.new.self) c.loop-i.invariant.flushed.served c.in_err-flush.ensures.served;
+  stored = search rules;
+  contents = search rules;
+  loans = search rules;
+}
 
-pub returns-in_err-flush-clause-blamed : goal.returns-in_err-flush-clause-blamed
-returns-in_err-flush-clause-blamed g c =
+pub returns-in_err-flush-clause-broke : goal.returns-in_err-flush-clause-broke
+returns-in_err-flush-clause-broke g c =
     on_err c.from_residual.result
-    (blamed_since (g.G.Pages.store c.args.g.now) (g.G.Pages.store c.loop-i.g) (g.G.Pages.store c.flush.new.self) c.loop-i.invariant.flushed.served c.in_err-flush.ensures.blamed)
+    (record {
+      failed = search rules;
+      blamed = blamed_since (g.G.Pages.store c.args.g.now) (g.G.Pages.store c.loop-i.g) (g.G.Pages.store c.flush.new.self) c.loop-i.invariant.flushed.served c.in_err-flush.ensures.blamed;
+    })
 
 pub loop-i-preserved : goal.loop-i-preserved
 loop-i-preserved g c =

@@ -1,43 +1,34 @@
 use Rattle.std.proofs.Common.{◌≡◌, ◌<◌, true, sym, ap, ◌∙◌, refl, subst}
-use Rattle.std.specs.Prelude.{Ok, Err, IfOk, IsOk}
+use Rattle.std.specs.Prelude.{Ok, Err, IsOk}
 use Rattle.mm_types.specs.Address.{Range, range_of}
 use Rattle.mm_types.proofs.Options.{some_found}
 use Rattle.mm_world.specs.Charge.{charge}
 use Rattle.mm_world.specs.Find.{process_of}
-use Rattle.mm_world.specs.Alloc.{alloc, commit_pages, are_alloc_parameters}
+use Rattle.mm_world.specs.Alloc.{commit_pages, are_alloc_parameters}
 use Rattle.mm_world.specs.Contents.{blank}
-use Rattle.mm_tables.specs.Fits.{Called}
-use Rattle.mm_tables.proofs.Carried.{called_by}
 use Rattle.mm_calls.proofs.Allocated.{alloc_reserves, alloc_commits, reserves_anew, commits_anew}
+use Rattle.mm_calls.proofs.CallsDone.{answers-by}
 use Rattle.mm_calls.proofs.memory_calls.valloc.Goals as goal
 
-pub returns-then-is_reserving-clause-ok : goal.returns-then-is_reserving-clause-ok
-returns-then-is_reserving-clause-ok g c =
+pub returns-then-is_reserving-clause-done : goal.returns-then-is_reserving-clause-done
+returns-then-is_reserving-clause-done g c =
     let t = c.args.t.now in
     let p = some_found (process_of t c.args.pid.0) (sym c.has.ensures ∙ c.if-not-has.false) in
     let right : are_alloc_parameters c.args.size c.plain_type-plain.result c.args.prot ≡ true = sym c.are_alloc_parameters.ensures ∙ c.if-not-are_alloc_parameters.false in
-    elim c.reserve.result as (λ r. c.reserve.result ≡ r → IfOk r (λ a. Called (alloc blank t c.args.pid.0 c.args.addr c.args.size c.args.kind c.args.prot) t (g.G.Pages.contents c.args.g.now) a c.reserve.new.t (g.G.Pages.contents c.reserve.new.g))) [
-      | Ok a ↦ λ q.
-          called_by _ t c.reserve.new.t (g.G.Pages.contents c.args.g.now) (g.G.Pages.contents c.reserve.new.g) (g.G.Pages.store c.args.g.now) (g.G.Pages.store c.reserve.new.g) a
-          (alloc_reserves t c.args.pid.0 c.args.addr c.args.size c.args.kind c.args.prot p.0 c.plain_type-plain.result p.1 c.plain_type-plain.ensures right
-          c.is_watched_type-watched.result c.is_watched_type-watched.ensures (sym c.is_reserving.ensures ∙ c.if-is_reserving.true) ∙ (rw q at c.reserve.ensures.ok) p.0 p.1)
-          c.requires.fits c.reserve.ensures.settled
-      | Err x ↦ λ q. tt
-    ] refl
+    answers-by g.G.Pages _ t c.args.g.now c.requires.begins.fits c.args.pid p.0 _ p.1
+    (alloc_reserves t c.args.pid.0 c.args.addr c.args.size c.args.kind c.args.prot p.0 c.plain_type-plain.result p.1 c.plain_type-plain.ensures right
+    c.is_watched_type-watched.result c.is_watched_type-watched.ensures (sym c.is_reserving.ensures ∙ c.if-is_reserving.true))
+    c.reserve.result c.reserve.new.t c.reserve.new.g c.reserve.ensures.done
 
-pub returns-else-is_reserving-clause-ok : goal.returns-else-is_reserving-clause-ok
-returns-else-is_reserving-clause-ok g c =
+pub returns-else-is_reserving-clause-done : goal.returns-else-is_reserving-clause-done
+returns-else-is_reserving-clause-done g c =
     let t = c.args.t.now in
     let p = some_found (process_of t c.args.pid.0) (sym c.has.ensures ∙ c.if-not-has.false) in
     let right : are_alloc_parameters c.args.size c.plain_type-plain.result c.args.prot ≡ true = sym c.are_alloc_parameters.ensures ∙ c.if-not-are_alloc_parameters.false in
-    elim c.commit.result as (λ r. c.commit.result ≡ r → IfOk r (λ a. Called (alloc blank t c.args.pid.0 c.args.addr c.args.size c.args.kind c.args.prot) t (g.G.Pages.contents c.args.g.now) a c.commit.new.t (g.G.Pages.contents c.commit.new.g))) [
-      | Ok a ↦ λ q.
-          called_by _ t c.commit.new.t (g.G.Pages.contents c.args.g.now) (g.G.Pages.contents c.commit.new.g) (g.G.Pages.store c.args.g.now) (g.G.Pages.store c.commit.new.g) a
-          (alloc_commits t c.args.pid.0 c.args.addr c.args.size c.args.kind c.args.prot p.0 c.plain_type-plain.result p.1 c.plain_type-plain.ensures right (sym c.is_reserving.ensures ∙ c.if-is_reserving.false)
-          ∙ ap (λ (range : Range). commit_pages blank t c.args.pid.0 p.0 range c.args.prot) (sym c.of.ensures) ∙ (rw q at c.commit.ensures.ok) p.0 p.1)
-          c.requires.fits c.commit.ensures.settled
-      | Err x ↦ λ q. tt
-    ] refl
+    answers-by g.G.Pages _ t c.args.g.now c.requires.begins.fits c.args.pid p.0 _ p.1
+    (alloc_commits t c.args.pid.0 c.args.addr c.args.size c.args.kind c.args.prot p.0 c.plain_type-plain.result p.1 c.plain_type-plain.ensures right (sym c.is_reserving.ensures ∙ c.if-is_reserving.false)
+    ∙ ap (λ (range : Range). commit_pages blank t c.args.pid.0 p.0 range c.args.prot) (sym c.of.ensures))
+    c.commit.result c.commit.new.t c.commit.new.g c.commit.ensures.done
 
 pub returns-then-is_reserving-clause-no_memory : goal.returns-then-is_reserving-clause-no_memory
 returns-then-is_reserving-clause-no_memory g c none =
@@ -49,7 +40,7 @@ returns-then-is_reserving-clause-no_memory g c none =
       | Err x ↦ λ q.
           sym none
           ∙ reserves_anew t c.args.pid.0 c.args.addr c.args.size c.args.kind c.args.prot p.0 c.plain_type-plain.result p.1 c.plain_type-plain.ensures right
-          c.is_watched_type-watched.result c.is_watched_type-watched.ensures (sym c.is_reserving.ensures ∙ c.if-is_reserving.true) ((rw q at c.reserve.ensures.makes) p.0 p.1)
+          c.is_watched_type-watched.result c.is_watched_type-watched.ensures (sym c.is_reserving.ensures ∙ c.if-is_reserving.true) ((rw q at c.reserve.ensures.succeeds) p.0 p.1)
     ] refl
 
 pub returns-else-is_reserving-clause-no_memory : goal.returns-else-is_reserving-clause-no_memory

@@ -6,6 +6,7 @@ use Rattle.mm_world.specs.Contents.{blank}
 use Rattle.mm_world.specs.Find.{process_of}
 use Rattle.mm_world.specs.Keys.{committed_at, guard_off}
 use Rattle.mm_world.specs.World.{StackOf}
+use Rattle.mm_tables.specs.Fits.{FitsTables}
 use Rattle.mm_tables.proofs.ViewCommitted.{roomier_fits}
 use Rattle.mm_calls.proofs.Growing.{past_first, room_there, grown_is}
 use Rattle.mm_calls.proofs.probes.grow.Goals as goal
@@ -18,11 +19,20 @@ take_guard_off-requires-clause-committed g c p lives =
     let ms : c.stack.inside.guard_page ≡ c.args.stack.now.guard_page = ap (λ (s : StackOf). s.guard_page) c.stack.view_is in
     ap (λ n. is_some (committed_at t p.regions n)) ms ∙ c.requires.committed p (sym (ap (λ n. process_of t n) ns) ∙ lives)
 
-pub commit-requires-clause-fits : goal.commit-requires-clause-fits
-commit-requires-clause-fits g c =
-    c.take_guard_off.ensures.fits (g.G.Pages.contents c.reserve.new.self) (g.G.Pages.store c.reserve.new.self)
-    (roomier_fits c.args.t.now (g.G.Pages.contents c.args.g.now) (g.G.Pages.contents c.reserve.new.self) (g.G.Pages.store c.args.g.now) (g.G.Pages.store c.reserve.new.self)
-    c.requires.fits c.reserve.ensures.contents c.reserve.ensures.store c.reserve.ensures.later)
+pub commit-requires-clause-ready : goal.commit-requires-clause-ready
+commit-requires-clause-ready g c =
+    let t = c.args.t.now in
+    let pid = c.stack.inside.pid.0 in
+    let new = g.G.Pages.contents c.reserve.new.self in
+    let z = g.G.Pages.store c.reserve.new.self in
+    let before : FitsTables t new z =
+    roomier_fits t (g.G.Pages.contents c.args.g.now) new (g.G.Pages.store c.args.g.now) z c.requires.ready.fits c.reserve.ensures.contents c.reserve.ensures.store c.reserve.ensures.later in
+    let fits = c.take_guard_off.ensures.fits new z before in
+    record {
+      fits = fits;
+      kind_is = search rules;
+      lives = sym (fits.opened pid) ∙ before.opened pid ∙ ap (λ (s : StackOf). is_some (process_of t s.pid)) c.stack.view_is ∙ c.requires.ready.lives;
+    }
 
 pub unreachable-requires : goal.unreachable-requires
 unreachable-requires g c =
@@ -30,7 +40,7 @@ unreachable-requires g c =
     let s : StackOf = c.args.stack.now in
     let ns : c.stack.inside.pid.0 ≡ s.pid = ap (λ (s : StackOf). s.pid) c.stack.view_is in
     let ms : c.stack.inside.guard_page ≡ s.guard_page = ap (λ (s : StackOf). s.guard_page) c.stack.view_is in
-    let p = some_found (process_of t s.pid) c.requires.lives in
+    let p = some_found (process_of t s.pid) c.requires.ready.lives in
     let k = some_found (committed_at t p.0.regions s.guard_page) (c.requires.committed p.0 p.1) in
     let v = c.take_guard_off.new.self in
     let off : v ≡ guard_off t s.pid p.0 k.0 s.guard_page =
@@ -53,4 +63,4 @@ returns-clause-ok g c p k lives there =
     let next : c.of-next.result ≡ range_of (address_of (s.guard_page - 1)) 1 = c.of-next.ensures ∙ (λ i. range_of (address_of (ms i - 1)) 1) in
     let first : 16 ≤ s.guard_page = past_first t s.pid s.guard_page p k lives there c.sound.ensures.sound in
     grown_is t s.pid s.guard_page p k lives there v off c.of-next.result next c.commit.new.t _ (omega (arith, first))
-    (λ q now. (λ i. commit_pages blank v (sym ns i) q c.of-next.result 0x104) ∙ c.in-Ok.ensures.ok q (ap (λ n. process_of v n) ns ∙ now))
+    (λ q now. (λ i. commit_pages blank v (sym ns i) q c.of-next.result 0x104) ∙ c.in-Ok.ensures.done.outcome q (ap (λ n. process_of v n) ns ∙ now))

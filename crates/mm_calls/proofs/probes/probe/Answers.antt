@@ -3,15 +3,15 @@ use Rattle.mm_types.specs.Address.{page_of}
 use Rattle.mm_world.specs.World.{StackOf}
 use Rattle.mm_world.specs.Find.{process_of, stack_by}
 use Rattle.mm_tables.specs.Looks.{committed_row}
-use Rattle.mm_tables.proofs.Carried.{called_by}
 use Rattle.mm_calls.proofs.Growths.{not_next}
 use Rattle.mm_calls.proofs.Probed.{settled_off, settled_then, takes_off, of_other, of_overflow, of_growth, grows_here}
+use Rattle.mm_calls.proofs.CallsDone.{answers}
 use Rattle.mm_calls.proofs.probes.probe.Goals as goal
 use Rattle.mm_types.proofs.Options.{some_found}
 use Rattle.mm_types.proofs.Booleans.{not_false}
 
-pub returns-then-page-stack-clause-ok : goal.returns-then-page-stack-clause-ok
-returns-then-page-stack-clause-ok g c =
+pub returns-then-page-stack-clause-done : goal.returns-then-page-stack-clause-done
+returns-then-page-stack-clause-done g c =
     let t = c.args.t.now in
     let s = c.in-Some.stack in
     let page = page_of c.args.addr in
@@ -24,15 +24,12 @@ returns-then-page-stack-clause-ok g c =
     let v = c.take_guard_off.new.self in
     let contents = g.G.Pages.contents c.args.g.now in
     let store = g.G.Pages.store c.args.g.now in
-    called_by _ _ _ _ _ store store _
+    let fits = c.requires.begins.fits in
+    answers g.G.Pages _ t c.args.g.now fits _ v c.args.g.now (settled_off v contents store (c.take_guard_off.ensures.fits contents store fits))
     (of_other t c.args.tid.0 c.args.addr s has row at on (λ e. c.if-page-stack.true (e ∙ sym ms)) v (takes_off t s.pid c.stack.inside.pid.0 page page v ns refl c.take_guard_off.ensures.off))
-    c.requires.fits (settled_off v contents store (c.take_guard_off.ensures.fits contents store c.requires.fits))
 
-pub returns-then-page-stack-clause-fits : goal.returns-then-page-stack-clause-fits
-returns-then-page-stack-clause-fits g c = c.take_guard_off.ensures.fits (g.G.Pages.contents c.args.g.now) (g.G.Pages.store c.args.g.now) c.requires.fits
-
-pub returns-then-is_overflow-clause-ok : goal.returns-then-is_overflow-clause-ok
-returns-then-is_overflow-clause-ok g c =
+pub returns-then-is_overflow-clause-done : goal.returns-then-is_overflow-clause-done
+returns-then-is_overflow-clause-done g c =
     let t = c.args.t.now in
     let s = c.in-Some.stack in
     let page = page_of c.args.addr in
@@ -46,13 +43,10 @@ returns-then-is_overflow-clause-ok g c =
     let v = c.take_guard_off-then-is_overflow.new.self in
     let contents = g.G.Pages.contents c.args.g.now in
     let store = g.G.Pages.store c.args.g.now in
-    called_by _ _ _ _ _ store store _
+    let fits = c.requires.begins.fits in
+    answers g.G.Pages _ t c.args.g.now fits _ v c.args.g.now (settled_off v contents store (c.take_guard_off-then-is_overflow.ensures.fits contents store fits))
     (of_overflow t c.args.tid.0 c.args.addr s has row at on here (λ p lives. sym (c.is_overflow.ensures p lives) ∙ c.if-is_overflow.true) v
     (takes_off t s.pid c.stack.inside.pid.0 s.guard_page c.stack.inside.guard_page v ns ms c.take_guard_off-then-is_overflow.ensures.off))
-    c.requires.fits (settled_off v contents store (c.take_guard_off-then-is_overflow.ensures.fits contents store c.requires.fits))
-
-pub returns-then-is_overflow-clause-fits : goal.returns-then-is_overflow-clause-fits
-returns-then-is_overflow-clause-fits g c = c.take_guard_off-then-is_overflow.ensures.fits (g.G.Pages.contents c.args.g.now) (g.G.Pages.store c.args.g.now) c.requires.fits
 
 pub lower-requires : goal.lower-requires
 lower-requires g c =
@@ -81,8 +75,8 @@ returns-in_err-grow-clause-no_memory g c same =
     sym (grows_here t c.args.tid.0 c.args.addr s has row at on here (omega (arith, c.stack.invariant.0, bs, ms)) (λ p lives. sym (c.is_overflow.ensures p lives) ∙ c.if-is_overflow.false)) ∙ same in
     cc
 
-pub returns-clause-ok : goal.returns-clause-ok
-returns-clause-ok g c =
+pub returns-clause-done : goal.returns-clause-done
+returns-clause-done g c =
     let t = c.args.t.now in
     let s = c.in-Some.stack in
     let page = page_of c.args.addr in
@@ -93,10 +87,6 @@ returns-clause-ok g c =
     let at : committed_row t s.pid page ≡ Some row = ap (λ n. committed_row t n page) (sym ns) ∙ sym c.committed_row.ensures ∙ c.in-Some-committed_row.is in
     let on : row.guard ≡ true = not_false row.guard c.if-not-row.false in
     let here : page ≡ s.guard_page = c.if-page-stack.false ∙ ms in
-    called_by _ _ _ _ _ (g.G.Pages.store c.args.g.now) (g.G.Pages.store c.grow.new.g) _
+    answers g.G.Pages _ t c.args.g.now c.requires.begins.fits _ c.lower.new.t c.grow.new.g (settled_then _ _ _ _ _ _ c.lower.ensures.fits c.grow.ensures.settles.settled)
     (of_growth t c.args.tid.0 c.args.addr s has row at on here (λ p lives. sym (c.is_overflow.ensures p lives) ∙ c.if-is_overflow.false)
     c.grow.new.t c.lower.new.t c.in_ok-grow.ensures.ok c.lower.ensures.lowered c.lower.result c.lower.ensures.answer)
-    c.requires.fits (settled_then _ _ _ _ _ _ c.lower.ensures.fits c.grow.ensures.settled)
-
-pub returns-clause-fits : goal.returns-clause-fits
-returns-clause-fits g c = c.lower.ensures.fits (g.G.Pages.contents c.grow.new.g) (g.G.Pages.store c.grow.new.g) c.grow.ensures.settled.fits

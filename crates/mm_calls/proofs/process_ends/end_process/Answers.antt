@@ -8,9 +8,12 @@ use Rattle.mm_tables.proofs.Uncommitted.{all_ended}
 use Rattle.mm_calls.proofs.process_ends.end_process.Goals as goal
 use Rattle.mm_types.proofs.Options.{some_found}
 
-pub returns-clause-passes : goal.returns-clause-passes
-returns-clause-passes g c =
+pub returns-clause-loses : goal.returns-clause-loses
+returns-clause-loses g c =
     let old = c.args.t.now in
     let p = some_found (process_of old c.args.pid.0) (sym c.has.ensures ∙ c.if-not-has.false) in
     let t : Tables = end_stacks (record old { kept = map (kept_of_others c.args.pid.0) old.kept }) (λ s. s.pid == c.args.pid.0) in
-    c.end_process.ensures.passes (is_uncommitted c.end_process.new.self) (all_ended t c.end_process.new.self c.args.pid p.0 p.1 c.end_process.ensures.ended)
+    record {
+      passes = c.end_process.ensures.passes (is_uncommitted c.end_process.new.self) (all_ended t c.end_process.new.self c.args.pid p.0 p.1 c.end_process.ensures.ended);
+      loans = c.end_process.ensures.loans;
+    }

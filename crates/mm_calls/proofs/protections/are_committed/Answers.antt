@@ -1,4 +1,4 @@
-use Rattle.std.proofs.Common.{◌≡◌, ◌∙◌, Some, sym, ap, true, is_some}
+use Rattle.std.proofs.Common.{◌≡◌, ◌∙◌, Some, sym, ap, is_some}
 use Rattle.mm_world.specs.World.{RegionOf}
 use Rattle.mm_world.specs.Find.{Found, process_of, region_around, is_private}
 use Rattle.mm_world.specs.Rows.{is_committed_at, every_page}

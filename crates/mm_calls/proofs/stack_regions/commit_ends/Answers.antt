@@ -10,12 +10,12 @@ use Rattle.mm_calls.proofs.RegionSteps.{in_user, top_free, guard_free, both_made
 use Rattle.mm_calls.proofs.stack_regions.commit_ends.Goals as goal
 
 pub guard_of-guard-requires-clause-user : goal.guard_of-guard-requires-clause-user
-guard_of-guard-requires-clause-user g c = in_user c.args.t.now c.args.pid.0 c.args.range c.args.top c.requires.reserved c.requires.inside c.sound.ensures.sound
+guard_of-guard-requires-clause-user g c = in_user c.args.t.now c.args.pid.0 c.args.range c.args.top c.requires.reserved c.requires.tall.inside c.sound.ensures.sound
 
 pub overflow_add-guard : goal.overflow_add-guard
 overflow_add-guard g c =
     let range : Range = c.args.range in
-    omega (arith, c.guard_of-guard.ensures.guard, in_user c.args.t.now c.args.pid.0 range c.args.top c.requires.reserved c.requires.inside c.sound.ensures.sound)
+    omega (arith, c.guard_of-guard.ensures.guard, in_user c.args.t.now c.args.pid.0 range c.args.top c.requires.reserved c.requires.tall.inside c.sound.ensures.sound)
 
 pub commit_new-requires-clause-free : goal.commit_new-requires-clause-free
 commit_new-requires-clause-free g c =
@@ -23,10 +23,10 @@ commit_new-requires-clause-free g c =
     let pid = c.args.pid.0 in
     let range : Range = c.args.range in
     let top = c.args.top in
-    let fits = c.requires.inside in
+    let fits = c.requires.tall.inside in
     let inner = c.pages.result in
     let is : inner ≡ record { first = range.first + range.count - (top + 1) + 1; count = top } = c.pages.ensures.pages ∙ (λ i. record { first = c.guard_of-guard.ensures.guard i + 1; count = top }) in
-    top_free t pid range top c.requires.reserved fits inner is c.requires.some c.sound.ensures.sound
+    top_free t pid range top c.requires.reserved fits inner is c.requires.tall.some c.sound.ensures.sound
 
 pub commit_new-requires-2-clause-free : goal.commit_new-requires-2-clause-free
 commit_new-requires-2-clause-free g c =
@@ -34,35 +34,13 @@ commit_new-requires-2-clause-free g c =
     let pid = c.args.pid.0 in
     let range : Range = c.args.range in
     let top = c.args.top in
-    let fits = c.requires.inside in
+    let fits = c.requires.tall.inside in
     let inner = c.pages.result in
     let is : inner ≡ record { first = range.first + range.count - (top + 1) + 1; count = top } = c.pages.ensures.pages ∙ (λ i. record { first = c.guard_of-guard.ensures.guard i + 1; count = top }) in
-    let made = c.commit_new.ensures.changed (top_free t pid range top c.requires.reserved fits inner is c.requires.some c.sound.ensures.sound) in
+    let made = c.commit_new.ensures.changed (top_free t pid range top c.requires.reserved fits inner is c.requires.tall.some c.sound.ensures.sound) in
     let one = c.pages-2.result in
     let same : one ≡ record { first = range.first + range.count - (top + 1); count = 1 } = c.pages-2.ensures.pages ∙ (λ i. record { first = c.guard_of-guard.ensures.guard i; count = 1 }) in
     guard_free t pid range top c.requires.reserved fits inner is c.commit_new.new.t made one same c.sound-2.ensures.sound
-
-pub commit_new-requires-2-clause-limit : goal.commit_new-requires-2-clause-limit
-commit_new-requires-2-clause-limit g c =
-    let t = c.args.t.now in
-    let pid = c.args.pid.0 in
-    let range : Range = c.args.range in
-    let top = c.args.top in
-    let fits = c.requires.inside in
-    let inner = c.pages.result in
-    let is : inner ≡ record { first = range.first + range.count - (top + 1) + 1; count = top } = c.pages.ensures.pages ∙ (λ i. record { first = c.guard_of-guard.ensures.guard i + 1; count = top }) in
-    let made = c.commit_new.ensures.changed (top_free t pid range top c.requires.reserved fits inner is c.requires.some c.sound.ensures.sound) in
-    let one = c.pages-2.result in
-    let same : one ≡ record { first = range.first + range.count - (top + 1); count = 1 } = c.pages-2.ensures.pages ∙ (λ i. record { first = c.guard_of-guard.ensures.guard i; count = 1 }) in
-    omega (
-      arith,
-      charge_more t pid inner (top_free t pid range top c.requires.reserved fits inner is c.requires.some c.sound.ensures.sound) 0x04,
-      ap (λ (t : Tables). charge t) made,
-      ap (λ (t : Tables). limit t) made,
-      ap (λ (r : Range). r.count) is,
-      ap (λ (r : Range). r.count) same,
-      c.requires.limit,
-    )
 
 pub commit_new-requires-2-clause-room : goal.commit_new-requires-2-clause-room
 commit_new-requires-2-clause-room g c =
@@ -70,21 +48,32 @@ commit_new-requires-2-clause-room g c =
     let pid = c.args.pid.0 in
     let range : Range = c.args.range in
     let top = c.args.top in
-    let fits = c.requires.inside in
+    let fits = c.requires.tall.inside in
     let inner = c.pages.result in
     let is : inner ≡ record { first = range.first + range.count - (top + 1) + 1; count = top } = c.pages.ensures.pages ∙ (λ i. record { first = c.guard_of-guard.ensures.guard i + 1; count = top }) in
-    let made = c.commit_new.ensures.changed (top_free t pid range top c.requires.reserved fits inner is c.requires.some c.sound.ensures.sound) in
+    let made = c.commit_new.ensures.changed (top_free t pid range top c.requires.reserved fits inner is c.requires.tall.some c.sound.ensures.sound) in
     let one = c.pages-2.result in
     let same : one ≡ record { first = range.first + range.count - (top + 1); count = 1 } = c.pages-2.ensures.pages ∙ (λ i. record { first = c.guard_of-guard.ensures.guard i; count = 1 }) in
-    omega (
-      arith,
-      charge_more t pid inner (top_free t pid range top c.requires.reserved fits inner is c.requires.some c.sound.ensures.sound) 0x04,
-      ap (λ (t : Tables). charge t) made,
-      ap (λ (r : Range). r.count) is,
-      ap (λ (r : Range). r.count) same,
-      c.requires.room,
-      c.commit_new.ensures.later,
-    )
+    record {
+      allowed = omega (
+        arith,
+        charge_more t pid inner (top_free t pid range top c.requires.reserved fits inner is c.requires.tall.some c.sound.ensures.sound) 0x04,
+        ap (λ (t : Tables). charge t) made,
+        ap (λ (t : Tables). limit t) made,
+        ap (λ (r : Range). r.count) is,
+        ap (λ (r : Range). r.count) same,
+        c.requires.room.allowed,
+      );
+      room = omega (
+        arith,
+        charge_more t pid inner (top_free t pid range top c.requires.reserved fits inner is c.requires.tall.some c.sound.ensures.sound) 0x04,
+        ap (λ (t : Tables). charge t) made,
+        ap (λ (r : Range). r.count) is,
+        ap (λ (r : Range). r.count) same,
+        c.requires.room.room,
+        c.commit_new.ensures.makes.later,
+      );
+    }
 
 pub returns-clause-changed : goal.returns-clause-changed
 returns-clause-changed g c h =
@@ -92,10 +81,10 @@ returns-clause-changed g c h =
     let pid = c.args.pid.0 in
     let range : Range = c.args.range in
     let top = c.args.top in
-    let fits = c.requires.inside in
+    let fits = c.requires.tall.inside in
     let inner = c.pages.result in
     let is : inner ≡ record { first = range.first + range.count - (top + 1) + 1; count = top } = c.pages.ensures.pages ∙ (λ i. record { first = c.guard_of-guard.ensures.guard i + 1; count = top }) in
-    let made = c.commit_new.ensures.changed (top_free t pid range top h fits inner is c.requires.some c.sound.ensures.sound) in
+    let made = c.commit_new.ensures.changed (top_free t pid range top h fits inner is c.requires.tall.some c.sound.ensures.sound) in
     let one = c.pages-2.result in
     let same : one ≡ record { first = range.first + range.count - (top + 1); count = 1 } = c.pages-2.ensures.pages ∙ (λ i. record { first = c.guard_of-guard.ensures.guard i; count = 1 }) in
     both_made t pid range top h fits inner is c.commit_new.new.t made one same c.commit_new-2.new.t
@@ -107,14 +96,14 @@ returns-clause-settled g c =
     let pid = c.args.pid.0 in
     let range : Range = c.args.range in
     let top = c.args.top in
-    let fits = c.requires.inside in
+    let fits = c.requires.tall.inside in
     let inner = c.pages.result in
     let is : inner ≡ record { first = range.first + range.count - (top + 1) + 1; count = top } = c.pages.ensures.pages ∙ (λ i. record { first = c.guard_of-guard.ensures.guard i + 1; count = top }) in
-    let made = c.commit_new.ensures.changed (top_free t pid range top c.requires.reserved fits inner is c.requires.some c.sound.ensures.sound) in
+    let made = c.commit_new.ensures.changed (top_free t pid range top c.requires.reserved fits inner is c.requires.tall.some c.sound.ensures.sound) in
     let one = c.pages-2.result in
     let same : one ≡ record { first = range.first + range.count - (top + 1); count = 1 } = c.pages-2.ensures.pages ∙ (λ i. record { first = c.guard_of-guard.ensures.guard i; count = 1 }) in
-    joined t c.commit_new.new.t c.commit_new-2.new.t _ _ _ _ _ _ c.requires.fits
-    (lasts_commit t pid inner (top_free t pid range top c.requires.reserved fits inner is c.requires.some c.sound.ensures.sound) 0x04 c.commit_new.new.t c.sound.ensures.sound made)
+    joined t c.commit_new.new.t c.commit_new-2.new.t _ _ _ _ _ _ c.requires.begins.fits
+    (lasts_commit t pid inner (top_free t pid range top c.requires.reserved fits inner is c.requires.tall.some c.sound.ensures.sound) 0x04 c.commit_new.new.t c.sound.ensures.sound made)
     c.commit_new.ensures.settled c.commit_new-2.ensures.settled
 
 pub returns-clause-passes : goal.returns-clause-passes
@@ -129,5 +118,5 @@ returns-clause-passes g c =
     subst (λ (n : ℕ). PassesIn g.G.Pages.unpaged (Turns (MakesStack n)) (g.G.Pages.store c.args.g.now) (g.G.Pages.store c.commit_new-2.new.g) (g.G.Pages.behind c.args.g.now) (g.G.Pages.behind c.commit_new-2.new.g)) is
     (stack_then g.G.Pages.unpaged guard (g.G.Pages.store c.args.g.now) (g.G.Pages.store c.commit_new.new.g) (g.G.Pages.store c.commit_new-2.new.g)
     (g.G.Pages.behind c.args.g.now) (g.G.Pages.behind c.commit_new.new.g) (g.G.Pages.behind c.commit_new-2.new.g)
-    (c.commit_new.ensures.passes (guard + 1) (2 ^ 32) (omega (arith, first), c.commit_new.ensures.among.1))
-    (c.commit_new-2.ensures.passes guard (guard + 1) (omega (arith, below), omega (arith, below, count))))
+    (c.commit_new.ensures.makes.passes (guard + 1) (2 ^ 32) (omega (arith, first), c.commit_new.ensures.makes.among.1))
+    (c.commit_new-2.ensures.makes.passes guard (guard + 1) (omega (arith, below), omega (arith, below, count))))

@@ -8,39 +8,36 @@ use Rattle.mm_world.specs.Laws.{is_success}
 use Rattle.mm_world.specs.Outcome.{OutcomeOf}
 use Rattle.mm_world.specs.Find.{process_of, stack_by}
 use Rattle.mm_world.specs.Charge.{charge, limit}
-use Rattle.mm_tables.proofs.Carried.{called_by, called_same}
+use Rattle.mm_tables.proofs.Carried.{settled_same}
 use Rattle.mm_calls.proofs.Created.{refused_past, made}
 use Rattle.mm_calls.proofs.Probed.{settled_then}
+use Rattle.mm_calls.proofs.CallsDone.{answers}
 use Rattle.mm_calls.proofs.stacks.stack.Goals as goal
 use Rattle.mm_types.proofs.Options.{some_found}
 
-pub returns-then-not-can_charge-clause-ok : goal.returns-then-not-can_charge-clause-ok
-returns-then-not-can_charge-clause-ok g c =
+pub returns-then-not-can_charge-clause-done : goal.returns-then-not-can_charge-clause-done
+returns-then-not-can_charge-clause-done g c =
     let t = c.args.t.now in
     let top = c.commit_pages-top.result in
     let p = some_found (process_of t c.args.pid.0) (sym c.has.ensures ∙ c.if-not-has.false) in
     let free : is_some (stack_by t c.args.tid.0) ≡ false = ap (λ o. is_some o) (sym c.stack_of.ensures) ∙ sym c.is_some.ensures ∙ c.if-is_some.false in
     let past : limit t < charge t + (top + 1) = (let h = leb-false _ _ (sym c.can_charge.ensures ∙ c.if-not-can_charge.true) in omega (arith, h)) in
-    called_same _ _ _ (g.G.Pages.store c.args.g.now) _
+    let fits = c.requires.begins.fits in
+    answers g.G.Pages _ t c.args.g.now fits _ t c.args.g.now (settled_same t (g.G.Pages.contents c.args.g.now) (g.G.Pages.store c.args.g.now) fits)
     (refused_past t c.args.tid.0 c.args.pid.0 c.args.reserve c.args.commit p.0 p.1 free c.reserve_pages-pages.result top c.reserve_pages-pages.ensures.pages c.commit_pages-top.ensures.pages c.if-top-pages.false
     c.space.result.now.regions (c.space.ensures p.0 p.1) c.in-Some.range (sym c.gap_for_view.ensures.found ∙ c.in-Some.is) past)
-    c.requires.fits
 
-pub returns-clause-ok : goal.returns-clause-ok
-returns-clause-ok g c =
+pub returns-clause-done : goal.returns-clause-done
+returns-clause-done g c =
     let t = c.args.t.now in
     let top = c.commit_pages-top.result in
     let p = some_found (process_of t c.args.pid.0) (sym c.has.ensures ∙ c.if-not-has.false) in
     let free : is_some (stack_by t c.args.tid.0) ≡ false = ap (λ o. is_some o) (sym c.stack_of.ensures) ∙ sym c.is_some.ensures ∙ c.if-is_some.false in
     let room : charge t + (top + 1) ≤ limit t = leb-true _ _ (sym c.can_charge.ensures ∙ c.if-not-can_charge.false) in
-    called_by _ _ _ _ _ (g.G.Pages.store c.args.g.now) (g.G.Pages.store c.make_region.new.g) _
+    answers g.G.Pages _ t c.args.g.now c.requires.begins.fits _ c.begin.new.t c.make_region.new.g (settled_then _ _ _ _ _ _ c.begin.ensures.fits c.make_region.ensures.settles.settled)
     (made t c.args.tid.0 c.args.pid.0 c.args.reserve c.args.commit p.0 p.1 free c.reserve_pages-pages.result top c.reserve_pages-pages.ensures.pages c.commit_pages-top.ensures.pages c.if-top-pages.false
     c.space.result.now.regions (c.space.ensures p.0 p.1) c.in-Some.range (sym c.gap_for_view.ensures.found ∙ c.in-Some.is) room
     c.make_region.new.t c.begin.new.t (c.in_ok-make_region.ensures.ok p.0 p.1) c.begin.ensures.begun c.begin.result c.begin.ensures.answer)
-    c.requires.fits (settled_then _ _ _ _ _ _ c.begin.ensures.fits c.make_region.ensures.settled)
-
-pub returns-clause-fits : goal.returns-clause-fits
-returns-clause-fits g c = c.begin.ensures.fits (g.G.Pages.contents c.make_region.new.g) (g.G.Pages.store c.make_region.new.g) c.make_region.ensures.settled.fits
 
 pub returns-clause-passes : goal.returns-clause-passes
 returns-clause-passes g c =
@@ -48,7 +45,7 @@ returns-clause-passes g c =
     let guard = range.first + range.count - (c.commit_pages-top.result + 1) in
     let told : guard_told c.begin.result ≡ guard = ap guard_told c.begin.ensures.answer ∙ page_of-address_of guard in
     subst (λ (n : ℕ). PassesIn g.G.Pages.unpaged (Turns (MakesStack n)) (g.G.Pages.store c.args.g.now) (g.G.Pages.store c.make_region.new.g) (g.G.Pages.behind c.args.g.now) (g.G.Pages.behind c.make_region.new.g))
-    (sym told) c.make_region.ensures.passes
+    (sym told) c.make_region.ensures.makes.passes
 
 pub returns-in_err-make_region-clause-no_memory : goal.returns-in_err-make_region-clause-no_memory
 returns-in_err-make_region-clause-no_memory g c refused =

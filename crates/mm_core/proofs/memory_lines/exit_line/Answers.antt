@@ -35,12 +35,12 @@ returns-clause-done g c =
     record {
       decided = decided-forgot u c.args.pid c.args.line t old mid s y call.result call.new.t new (g.G.Pages.store call.new.g) c.forget_waits.ensures.contents rest
           (decided-call u (event.Exit c.args.pid) c.args.line t mid y (g.G.Pages.store c.begin_release.new.g) call.result call.new.t new (g.G.Pages.store call.new.g)
-          (exit t c.args.pid.0) keeps (c.requires.next.line_is ∙ ap (λ (s : StoreOf). s.line + 1) (sym rest)) c.begin_release.ensures.starts.begins (quiet-beside _ _ call.ensures.beside)
+          (exit t c.args.pid.0) keeps (c.requires.next.line_is ∙ ap (λ (s : StoreOf). s.line + 1) (sym rest)) c.begin_release.ensures.starts.begins (quiet-beside _ _ call.ensures.done.beside)
           (exit_across t (key_bytes mid) c.sound.ensures.sound.spaces c.args.pid.0) (in_exit t c.args.pid.0) refl tt tt
-          (subst (λ (old : Key → Option Page). Called (exit t c.args.pid.0) t old call.result call.new.t new) c.begin_release.ensures.starts.contents call.ensures.called) call.ensures.fits);
+          (subst (λ (old : Key → Option Page). Called (exit t c.args.pid.0) t old call.result call.new.t new) c.begin_release.ensures.starts.contents call.ensures.done.called) call.ensures.done.fits);
       marked = marked_exit c.args.t.now (g.G.Pages.contents c.args.g.now) (g.G.Pages.contents c.forget_waits.new.g) c.end_process.new.t (g.G.Pages.contents c.end_process.new.g) c.args.line c.args.pid c.end_process.result c.sound.ensures.sound.numbers.kept g.G.Pages.unpaged
           (g.G.Pages.store c.args.g.now) (g.G.Pages.store c.forget_waits.new.g) (g.G.Pages.store c.begin_release.new.g) (g.G.Pages.store c.end_process.new.g) (g.G.Pages.behind c.args.g.now) (g.G.Pages.behind c.forget_waits.new.g) (g.G.Pages.behind c.begin_release.new.g) (g.G.Pages.behind c.end_process.new.g)
-          c.forget_waits.ensures.passes c.forget_waits.ensures.forgot.rest c.begin_release.ensures.passes c.end_process.ensures.passes;
+          c.forget_waits.ensures.passes c.forget_waits.ensures.forgot.rest c.begin_release.ensures.passes c.end_process.ensures.loses.passes;
     }
 
 pub returns-clause-waits : goal.returns-clause-waits
@@ -48,4 +48,4 @@ returns-clause-waits g c =
     ends-waits c.args.t.now c.args.pid c.end_process.result (g.G.Pages.store c.args.g.now) (g.G.Pages.store c.forget_waits.new.g) (g.G.Pages.store c.begin_release.new.g) (g.G.Pages.store c.end_process.new.g)
     c.sound.ensures.sound.numbers.kept c.forget_waits.ensures.forgot
     (ap (λ r. r.wait) c.begin_release.ensures.starts.begins.report_is)
-    (ap (λ (s : StoreOf). s.report.wait) c.end_process.ensures.beside)
+    (ap (λ (s : StoreOf). s.report.wait) c.end_process.ensures.done.beside)

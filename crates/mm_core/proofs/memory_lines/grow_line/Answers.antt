@@ -1,13 +1,10 @@
-use Rattle.std.proofs.Common.{◌≡◌, refl}
-use Rattle.std.specs.Prelude.{Ok, Err, IfOk}
 use Rattle.mm_types.specs.declared.events.Event.TheVariants as event
 use Rattle.mm_world.specs.Contents.{world_with}
 use Rattle.mm_tables.specs.Fits.{key_bytes}
 use Rattle.mm_core.proofs.CallForms.{marked_grow, halted_grow}
-use Rattle.mm_core.specs.Deciding.{Decided}
 use Rattle.mm_core.proofs.Beside.{beside-grow}
 use Rattle.mm_core.proofs.Grown.{grow-line}
-use Rattle.mm_core.proofs.Lines.{if-err}
+use Rattle.mm_core.proofs.Lines.{if-ok, if-err}
 use Rattle.mm_core.proofs.LinesDone.{answers-line, halts-line, idle-grown}
 use Rattle.mm_core.proofs.memory_lines.grow_line.Goals as goal
 
@@ -20,23 +17,20 @@ returns-clause-done g c =
     let s = g.G.Pages.store c.args.g.now in
     let z = g.G.Pages.store call.new.g in
     answers-line g.G.Pages (event.Grow c.args.n) c.args.line c.args.t.now c.args.g.now call.result call.new.t call.new.g
-    (elim call.result as (λ r. call.result ≡ r → IfOk r (λ a. Decided g.G.Pages.unpaged (event.Grow c.args.n) c.args.line t old s a call.new.t new z)) [
-      | Ok a ↦ λ q.
-          grow-line g.G.Pages.unpaged c.args.n c.args.line t old s a call.new.t new z c.requires.next.keeps c.requires.next.line_is (rw q at call.ensures.ok) call.ensures.contents call.ensures.fits
-          (rw q at call.ensures.rest) (rw q at call.ensures.report) (rw q at call.ensures.line) (rw q at call.ensures.cause) call.ensures.faults
-      | Err x ↦ λ q. tt
-    ] refl)
+    (if-ok call.result call.ensures.done (λ a h.
+    grow-line g.G.Pages.unpaged c.args.n c.args.line t old s a call.new.t new z c.requires.next.keeps c.requires.next.line_is h.told h.contents h.fits h.rest h.report h.line_is h.cause h.faults))
     (marked_grow c.args.line c.args.n (world_with c.args.t.now (key_bytes (g.G.Pages.contents c.args.g.now))) (world_with call.new.t (key_bytes (g.G.Pages.contents call.new.g))) (g.G.Pages.store c.args.g.now) (g.G.Pages.store call.new.g) (g.G.Pages.behind c.args.g.now) (g.G.Pages.behind call.new.g) g.G.Pages.unpaged call.result call.ensures.notes)
 
 pub returns-clause-broke : goal.returns-clause-broke
 returns-clause-broke g c =
     let call = c.grow_paging in
     halts-line g.G.Pages c.args.line c.args.t.now c.args.g.now call.result call.new.t call.new.g
-    (if-err call.result call.ensures.err (λ same. idle-grown call.ensures.contents same.1 same.0))
+    (if-err call.result call.ensures.broke (λ h. idle-grown h.contents h.store h.tables))
     (halted_grow c.args.line c.args.n (world_with c.args.t.now (key_bytes (g.G.Pages.contents c.args.g.now))) (world_with call.new.t (key_bytes (g.G.Pages.contents call.new.g))) (g.G.Pages.store c.args.g.now) (g.G.Pages.store call.new.g) (g.G.Pages.behind c.args.g.now) (g.G.Pages.behind call.new.g) g.G.Pages.unpaged call.result call.ensures.notes)
 
 pub returns-clause-beside : goal.returns-clause-beside
 returns-clause-beside g c = λ paged.
     let call = c.grow_paging in
     beside-grow (world_with c.args.t.now (key_bytes (g.G.Pages.contents c.args.g.now))) c.args.t.now.blocks_used c.args.n c.args.line g.G.Pages.unpaged
-    (g.G.Pages.store c.args.g.now) (g.G.Pages.store call.new.g) (g.G.Pages.behind c.args.g.now) (g.G.Pages.behind call.new.g) paged call.result call.ensures.rest call.ensures.grew call.ensures.notes
+    (g.G.Pages.store c.args.g.now) (g.G.Pages.store call.new.g) (g.G.Pages.behind c.args.g.now) (g.G.Pages.behind call.new.g) paged call.result
+    (if-ok call.result call.ensures.done (λ a h. h.rest)) (if-ok call.result call.ensures.done (λ a h. h.grew)) call.ensures.notes

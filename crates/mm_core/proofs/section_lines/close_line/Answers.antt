@@ -19,9 +19,9 @@ returns-clause-done g c =
     let new = g.G.Pages.contents call.new.g in
     record {
       decided = decided-call g.G.Pages.unpaged (event.Close c.args.pid c.args.handle) c.args.line t old _ (g.G.Pages.store c.begin.new.g) call.result call.new.t new (g.G.Pages.store call.new.g)
-          (close t c.args.pid.0 c.args.handle) c.requires.next.keeps c.requires.next.line_is c.begin.ensures.starts.begins (quiet-beside _ _ call.ensures.beside)
+          (close t c.args.pid.0 c.args.handle) c.requires.next.keeps c.requires.next.line_is c.begin.ensures.starts.begins (quiet-beside _ _ call.ensures.done.beside)
           (close_across t (key_bytes old) c.sound.ensures.sound.spaces c.args.pid.0 c.args.handle) (in_close t c.args.pid.0 c.args.handle) refl tt tt
-          (subst (λ (old : Key → Option Page). Called (close t c.args.pid.0 c.args.handle) t old call.result call.new.t new) c.begin.ensures.starts.contents call.ensures.called) call.ensures.fits;
+          (subst (λ (old : Key → Option Page). Called (close t c.args.pid.0 c.args.handle) t old call.result call.new.t new) c.begin.ensures.starts.contents call.ensures.done.called) call.ensures.done.fits;
       marked = marked_close c.args.t.now (g.G.Pages.contents c.args.g.now) call.new.t (g.G.Pages.contents call.new.g) c.args.line c.args.pid (event.Close c.args.pid c.args.handle) call.result g.G.Pages.unpaged
           (g.G.Pages.store c.args.g.now) (g.G.Pages.store c.begin.new.g) (g.G.Pages.store call.new.g) (g.G.Pages.behind c.args.g.now) (g.G.Pages.behind c.begin.new.g) (g.G.Pages.behind call.new.g)
           (record { ages = λ ms. refl; waits = λ ws l. refl }) (λ ms h. h) c.begin.ensures.passes (call.ensures.passes none);

@@ -8,14 +8,14 @@ use Rattle.mm_world.specs.Step.{is_ok}
 use Rattle.mm_pages.specs.Store.{StoreOf}
 use Rattle.mm_tables.specs.Fits.{key_bytes}
 use Rattle.mm_core.proofs.Beside.{beside-file}
-use Rattle.mm_core.proofs.Lines.{if-ok, decided-served, faulted-answer, faulted-made, one-later, if-and, if-both, on-ok, if-err}
+use Rattle.mm_core.proofs.Lines.{if-ok, decided-served, faulted-answer, faulted-made, one-later, if-err}
 use Rattle.mm_core.proofs.Making.{in_new_file}
 use Rattle.mm_core.proofs.Files.{file-stepped}
 use Rattle.mm_types.specs.declared.moves.LineKind.TheVariants as kind
 use Rattle.mm_types.specs.declared.moves.Move.TheVariants as move
 use Rattle.mm_core.proofs.CallForms.{marked_file}
-use Rattle.mm_core.proofs.Marking.{each-ok, each-err, halted_notes}
-use Rattle.mm_core.proofs.LinesDone.{answers-line, halts-line, idle-still}
+use Rattle.mm_core.proofs.Marking.{halted_notes}
+use Rattle.mm_core.proofs.LinesDone.{idle-still}
 use Rattle.mm_core.proofs.section_lines.file_line.Goals as goal
 
 pub returns-clause-done : goal.returns-clause-done
@@ -34,29 +34,28 @@ returns-clause-done g c =
     let q = new_file blank t name c.args.pages c.args.byte in
     let makes = (in_new_file blank t name c.args.pages c.args.byte).it in
     let b = is_ok q.answer && nat_lt 0 z.report.file_writes.failed in
-    answers-line g.G.Pages (event.File c.args.name.now c.args.pages c.args.byte) c.args.line c.args.t.now c.args.g.now call.result call.new.t call.new.g
-    (if-both call.result (if-and _ _ call.result call.ensures.ok (on-ok _ call.result call.ensures.bytes)) call.ensures.blamed (λ a both blamed.
-    decided-served u e c.args.line t old s m a after new z c.requires.next.line_is c.begin.ensures.starts.begins (ap (λ (s : StoreOf). s.line) call.ensures.beside) call.ensures.served
-    (file-stepped u c.args.line t old new s m z c.sound.ensures.sound.spaces c.requires.next.keeps.fits.live a after name c.args.pages c.args.byte both.first
-    (subst (λ (x : Key → Option Page). BytesAfterFile c.args.byte t (key_bytes x) after (key_bytes new)) c.begin.ensures.starts.contents both.second))
-    (λ f. inr (blamed (faulted-answer u e c.args.line t old s m a after new z b q makes.fine both.first f))) tt tt
-    (faulted-made u e c.args.line t old s m a after new z b q (s.line + 1) (one-later t s.line c.requires.next.keeps.few) (makes.made s.line c.requires.next.keeps.few) both.first) call.ensures.fits))
-    (each-ok call.result (λ a.
-    marked_file c.args.line (event.File c.args.name.now c.args.pages c.args.byte) (world_with c.args.t.now (key_bytes (g.G.Pages.contents c.args.g.now))) a (world_with call.new.t (key_bytes (g.G.Pages.contents call.new.g))) g.G.Pages.unpaged (g.G.Pages.store c.args.g.now) (g.G.Pages.store c.begin.new.g) (g.G.Pages.store call.new.g) (g.G.Pages.behind c.args.g.now) (g.G.Pages.behind c.begin.new.g) (g.G.Pages.behind call.new.g)
-    (record { ages = λ ms. refl; waits = λ ws l. refl }) (λ ms h. h) c.begin.ensures.passes call.ensures.notes))
+    if-ok call.result call.ensures.done (λ a h. record {
+      decided = decided-served u e c.args.line t old s m a after new z c.requires.next.line_is c.begin.ensures.starts.begins (ap (λ (s : StoreOf). s.line) h.beside) h.served
+          (file-stepped u c.args.line t old new s m z c.sound.ensures.sound.spaces c.requires.next.keeps.fits.live a after name c.args.pages c.args.byte h.told
+          (subst (λ (x : Key → Option Page). BytesAfterFile c.args.byte t (key_bytes x) after (key_bytes new)) c.begin.ensures.starts.contents h.bytes))
+          (λ f. inr (h.blamed (faulted-answer u e c.args.line t old s m a after new z b q makes.fine h.told f))) tt tt
+          (faulted-made u e c.args.line t old s m a after new z b q (s.line + 1) (one-later t s.line c.requires.next.keeps.few) (makes.made s.line c.requires.next.keeps.few) h.told) h.fits;
+      marked = marked_file c.args.line (event.File c.args.name.now c.args.pages c.args.byte) (world_with c.args.t.now (key_bytes (g.G.Pages.contents c.args.g.now))) a (world_with call.new.t (key_bytes (g.G.Pages.contents call.new.g))) g.G.Pages.unpaged (g.G.Pages.store c.args.g.now) (g.G.Pages.store c.begin.new.g) (g.G.Pages.store call.new.g) (g.G.Pages.behind c.args.g.now) (g.G.Pages.behind c.begin.new.g) (g.G.Pages.behind call.new.g)
+          (record { ages = λ ms. refl; waits = λ ws l. refl }) (λ ms h. h) c.begin.ensures.passes call.ensures.notes;
+    })
 
 pub returns-clause-broke : goal.returns-clause-broke
 returns-clause-broke g c =
     let call = c.new_file in
-    halts-line g.G.Pages c.args.line c.args.t.now c.args.g.now call.result call.new.t call.new.g
-    (if-err call.result call.ensures.err (λ same. idle-still c.begin.ensures.starts.begins c.begin.ensures.starts.contents same.2 same.0 same.1))
-    (each-err call.result (
-    halted_notes c.args.line kind.Call refl g.G.Pages.unpaged (g.G.Pages.store c.args.g.now) (g.G.Pages.store c.begin.new.g) (g.G.Pages.store call.new.g) (g.G.Pages.behind c.args.g.now) (g.G.Pages.behind c.begin.new.g) (g.G.Pages.behind call.new.g) c.begin.ensures.passes call.ensures.notes))
+    if-err call.result call.ensures.broke (λ h. record {
+      idle = idle-still c.begin.ensures.starts.begins c.begin.ensures.starts.contents h.store h.tables h.contents;
+      halted = halted_notes c.args.line kind.Call refl g.G.Pages.unpaged (g.G.Pages.store c.args.g.now) (g.G.Pages.store c.begin.new.g) (g.G.Pages.store call.new.g) (g.G.Pages.behind c.args.g.now) (g.G.Pages.behind c.begin.new.g) (g.G.Pages.behind call.new.g) c.begin.ensures.passes call.ensures.notes;
+    })
 
 pub returns-clause-beside : goal.returns-clause-beside
 returns-clause-beside g c = λ paged.
     let call = c.new_file in
-    if-ok call.result (call.ensures.file paged) (λ a made.
+    if-ok call.result call.ensures.done (λ a h.
     beside-file (world_with c.args.t.now (key_bytes (g.G.Pages.contents c.args.g.now))) c.args.name.now c.args.pages c.args.byte c.args.line a (move.At c.args.line kind.Call) g.G.Pages.unpaged
     (g.G.Pages.store c.args.g.now) (g.G.Pages.store c.begin.new.g) (g.G.Pages.store call.new.g) (g.G.Pages.behind c.args.g.now) (g.G.Pages.behind c.begin.new.g) (g.G.Pages.behind call.new.g) paged
-    c.begin.ensures.starts.begins call.ensures.beside made c.begin.ensures.passes call.ensures.notes)
+    c.begin.ensures.starts.begins h.beside (h.file paged) c.begin.ensures.passes call.ensures.notes)

@@ -24,11 +24,11 @@ returns-clause-done g c =
     let q = flush t c.args.pid.0 c.args.addr c.args.size in
     let b = is_ok q.answer && nat_lt 0 z.report.file_writes.failed in
     record {
-      decided = decided-served u e c.args.line t old s m a t new z c.requires.next.line_is c.begin.ensures.starts.begins (ap (λ (s : StoreOf). s.line) call.ensures.beside) call.ensures.served
-          (flush-stepped u c.args.line t old new s m z c.sound.ensures.sound.spaces c.requires.next.keeps.fits.live a t c.args.pid c.args.addr c.args.size call.ensures.outcome refl (call.ensures.contents ∙ c.begin.ensures.starts.contents))
-          (λ f. inr (call.ensures.blamed (faulted-answer u e c.args.line t old s m a t new z b q (in_flush t c.args.pid.0 c.args.addr c.args.size).it.fine call.ensures.outcome f))) tt
-          (flushed-line t new c.sound.ensures.sound c.sound.ensures.tidy call.ensures.fits.live z.file_blocks c.args.pid c.args.addr c.args.size a call.ensures.holds)
-          (one-later t s.line c.requires.next.keeps.few) call.ensures.fits;
+      decided = decided-served u e c.args.line t old s m a t new z c.requires.next.line_is c.begin.ensures.starts.begins (ap (λ (s : StoreOf). s.line) call.ensures.done.beside) call.ensures.done.served
+          (flush-stepped u c.args.line t old new s m z c.sound.ensures.sound.spaces c.requires.next.keeps.fits.live a t c.args.pid c.args.addr c.args.size call.ensures.outcome refl (call.ensures.done.contents ∙ c.begin.ensures.starts.contents))
+          (λ f. inr (call.ensures.done.blamed (faulted-answer u e c.args.line t old s m a t new z b q (in_flush t c.args.pid.0 c.args.addr c.args.size).it.fine call.ensures.outcome f))) tt
+          (flushed-line t new c.sound.ensures.sound c.sound.ensures.tidy call.ensures.done.fits.live z.file_blocks c.args.pid c.args.addr c.args.size a call.ensures.holds)
+          (one-later t s.line c.requires.next.keeps.few) call.ensures.done.fits;
       marked = marked_flush c.args.t.now (g.G.Pages.contents c.args.g.now) (g.G.Pages.contents call.new.g) c.args.line c.args.pid c.args.addr c.args.size call.result g.G.Pages.unpaged
           (g.G.Pages.store c.args.g.now) (g.G.Pages.store c.begin.new.g) (g.G.Pages.store call.new.g) (g.G.Pages.behind c.args.g.now) (g.G.Pages.behind c.begin.new.g) (g.G.Pages.behind call.new.g) c.begin.ensures.passes call.ensures.passes;
     }

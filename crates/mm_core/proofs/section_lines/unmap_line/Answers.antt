@@ -19,10 +19,10 @@ returns-clause-done g c =
     let new = g.G.Pages.contents call.new.g in
     record {
       decided = decided-call g.G.Pages.unpaged (event.Unmap c.args.pid c.args.addr) c.args.line t old _ (g.G.Pages.store c.begin_release.new.g) call.result call.new.t new (g.G.Pages.store call.new.g)
-          (unmap t c.args.pid.0 c.args.addr) c.requires.next.keeps c.requires.next.line_is c.begin_release.ensures.starts.begins (quiet-beside _ _ call.ensures.beside)
+          (unmap t c.args.pid.0 c.args.addr) c.requires.next.keeps c.requires.next.line_is c.begin_release.ensures.starts.begins (quiet-beside _ _ call.ensures.done.beside)
           (unmap_across t (key_bytes old) c.sound.ensures.sound.spaces c.args.pid.0 c.args.addr) (in_unmap t c.args.pid.0 c.args.addr) refl tt tt
-          (subst (λ (old : Key → Option Page). Called (unmap t c.args.pid.0 c.args.addr) t old call.result call.new.t new) c.begin_release.ensures.starts.contents call.ensures.called) call.ensures.fits;
+          (subst (λ (old : Key → Option Page). Called (unmap t c.args.pid.0 c.args.addr) t old call.result call.new.t new) c.begin_release.ensures.starts.contents call.ensures.done.called) call.ensures.done.fits;
       marked = marked_release c.args.t.now (g.G.Pages.contents c.args.g.now) call.new.t (g.G.Pages.contents call.new.g) c.args.line c.args.pid (event.Unmap c.args.pid c.args.addr) call.result g.G.Pages.unpaged
           (g.G.Pages.store c.args.g.now) (g.G.Pages.store c.begin_release.new.g) (g.G.Pages.store call.new.g) (g.G.Pages.behind c.args.g.now) (g.G.Pages.behind c.begin_release.new.g) (g.G.Pages.behind call.new.g)
-          (record { ages = λ ms. refl; waits = λ ws l. refl }) (λ k ms h. h) c.begin_release.ensures.passes call.ensures.passes;
+          (record { ages = λ ms. refl; waits = λ ws l. refl }) (λ k ms h. h) c.begin_release.ensures.passes call.ensures.loses.passes;
     }

@@ -23,12 +23,12 @@ returns-clause-done g c =
     let call = c.stack in
     let new = g.G.Pages.contents call.new.g in
     answers-line g.G.Pages (event.Stack c.args.tid c.args.pid c.args.reserve c.args.commit) c.args.line c.args.t.now c.args.g.now call.result call.new.t call.new.g
-    (if-ok call.result call.ensures.ok (λ a h.
+    (if-ok call.result call.ensures.done (λ a h.
     decided-call g.G.Pages.unpaged (event.Stack c.args.tid c.args.pid c.args.reserve c.args.commit) c.args.line t old _ (g.G.Pages.store c.begin.new.g) a call.new.t new (g.G.Pages.store call.new.g)
     (stack blank t c.args.tid.0 c.args.pid.0 c.args.reserve c.args.commit)
-    c.requires.next.keeps c.requires.next.line_is c.begin.ensures.starts.begins (quiet-beside _ _ call.ensures.beside)
+    c.requires.next.keeps c.requires.next.line_is c.begin.ensures.starts.begins (quiet-beside _ _ h.beside)
     (stack_across t (key_bytes old) c.sound.ensures.sound.spaces c.args.tid.0 c.args.pid.0 c.args.reserve c.args.commit) (in_stack blank t c.args.tid.0 c.args.pid.0 c.args.reserve c.args.commit) refl tt tt
-    (subst (λ (old : Key → Option Page). Called (stack blank t c.args.tid.0 c.args.pid.0 c.args.reserve c.args.commit) t old a call.new.t new) c.begin.ensures.starts.contents h) call.ensures.fits))
+    (subst (λ (old : Key → Option Page). Called (stack blank t c.args.tid.0 c.args.pid.0 c.args.reserve c.args.commit) t old a call.new.t new) c.begin.ensures.starts.contents h.called) h.fits))
     (if-ok call.result call.ensures.passes (λ a passes.
     marked_turn c.args.line kind.Call (event.Stack c.args.tid c.args.pid c.args.reserve c.args.commit) (world_with c.args.t.now (key_bytes (g.G.Pages.contents c.args.g.now))) a (world_with call.new.t (key_bytes (g.G.Pages.contents call.new.g))) g.G.Pages.unpaged
     (g.G.Pages.store c.args.g.now) (g.G.Pages.store c.begin.new.g) (g.G.Pages.store call.new.g) (g.G.Pages.behind c.args.g.now) (g.G.Pages.behind c.begin.new.g) (g.G.Pages.behind call.new.g)
@@ -38,6 +38,6 @@ pub returns-clause-broke : goal.returns-clause-broke
 returns-clause-broke g c =
     let call = c.stack in
     halts-line g.G.Pages c.args.line c.args.t.now c.args.g.now call.result call.new.t call.new.g
-    (if-err call.result call.ensures.err (λ same. idle-beside c.begin.ensures.starts.begins c.begin.ensures.starts.contents call.ensures.beside same.0 same.1))
+    (if-err call.result call.ensures.broke (λ h. idle-beside c.begin.ensures.starts.begins c.begin.ensures.starts.contents h.settled.rest h.tables h.contents))
     (if-err call.result call.ensures.idle (λ idle.
     halted_turn c.args.line kind.Call refl (MakesStack 0) (stack_makes 0) g.G.Pages.unpaged (g.G.Pages.store c.args.g.now) (g.G.Pages.store c.begin.new.g) (g.G.Pages.store call.new.g) (g.G.Pages.behind c.args.g.now) (g.G.Pages.behind c.begin.new.g) (g.G.Pages.behind call.new.g) c.begin.ensures.passes (idle (MakesStack 0))))

@@ -1,7 +1,14 @@
 use Rattle.mm_life.specs.Life.{key_of_place}
 use Rattle.mm_life.specs.Frames.{record_at}
-use Rattle.mm_paged.proofs.HeldCopy.{held_then, held_still, from_owner, owner_then, some_of, other_frame, went_held, made_copied}
+use Rattle.mm_paged.proofs.HeldCopy.{held_then, held_still, from_owner, owner_then, some_of, other_frame, went_held, made_copied, may_copy, shows_held}
 use Rattle.mm_paged.proofs.copying.copy_held.Goals as goal
+
+pub give_copy-own-requires-clause-may : goal.give_copy-own-requires-clause-may
+give_copy-own-requires-clause-may g c = may_copy c.args.from c.args.f c.args.place (g.T.Moving.shown c.args.state.now) (g.T.Moving.shown c.find_pinned.new.state) (g.met.T.Moving.holds c.find_pinned.new.state) c.requires.may c.in_ok-find_pinned.ensures.spares
+
+pub put_copy-requires-clause-shows : goal.put_copy-requires-clause-shows
+put_copy-requires-clause-shows g c = shows_held c.args.from c.args.f c.args.place (g.T.Moving.shown c.give_copy-own.new.state) (g.met.T.Moving.holds c.give_copy-own.new.state) c.requires.may.shared
+    (held_still c.args.from c.args.f c.args.place (g.T.Moving.shown c.find_pinned.new.state) (g.T.Moving.shown c.give_copy-own.new.state) (held_then c.args.from c.args.f c.args.place (g.T.Moving.shown c.args.state.now) (g.T.Moving.shown c.find_pinned.new.state) c.requires.may.held c.in_ok-find_pinned.ensures.spares) c.give_copy-own.ensures.gave.valid c.give_copy-own.ensures.gave.names)
 
 pub copy-requires-clause-from_owned : goal.copy-requires-clause-from_owned
 copy-requires-clause-from_owned g c = some_of (record_at (g.T.Moving.shown c.put_copy.new.state).life.frames c.args.f.0).owner c.args.from

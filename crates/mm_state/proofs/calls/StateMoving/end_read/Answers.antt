@@ -1,12 +1,9 @@
-use Rattle.std.proofs.Common.{◌≡◌, [], Some, sym, ap, ◌∙◌, subst}
-use Rattle.std.specs.Bool.{OnTrue}
+use Rattle.std.proofs.Common.{sym, ap, ◌∙◌, subst}
 use Rattle.mm_types.specs.Outside.{Both}
 use Rattle.mm_types.specs.declared.devices.Direction.TheVariants as way
 use Rattle.mm_types.specs.declared.frames.Record.{Record}
 use Rattle.mm_types.specs.declared.moves.Move.{Move}
 use Rattle.mm_life.specs.Frames.{record_at, slot_of, is_read}
-use Rattle.mm_life.specs.Effect.{home_at}
-use Rattle.mm_life.specs.Located.{bytes_at}
 use Rattle.mm_life.specs.Logs.{Grew}
 use Rattle.mm_life.specs.MoveText.{IsMove, spelling_of_move}
 use Rattle.mm_laws.specs.Fits.{is_backed}
@@ -28,45 +25,43 @@ use Rattle.mm_state.proofs.calls.StateMoving.end_read.Goals as goal
 pub look-r-requires : goal.look-r-requires
 look-r-requires g c = let s = c.args.self.now in read_low (parts_of.shown_parts s.parts).life s.parts.kept.reached c.args.f c.requires.legal
 
-pub get_page-ok-requires-clause-backed : goal.get_page-ok-requires-clause-backed
-get_page-ok-requires-clause-backed g c =
+pub read_page-ok-requires-clause-backed : goal.read_page-ok-requires-clause-backed
+read_page-ok-requires-clause-backed g c =
     let s = c.args.self.now in
     let u = parts_of.shown_parts s.parts in
     ap (λ (x : Record). is_backed x.backing) c.look-r.ensures ∙ read_backed u.life s.parts.kept.reached u.bytes _ _ s.located c.args.f (is_reading u.life c.args.f c.requires.legal)
 
-pub get_page-ok-requires-clause-slot : goal.get_page-ok-requires-clause-slot
-get_page-ok-requires-clause-slot g c =
+pub read_page-ok-requires-clause-slot : goal.read_page-ok-requires-clause-slot
+read_page-ok-requires-clause-slot g c =
     let s = c.args.self.now in
     let u = parts_of.shown_parts s.parts in
     λ n e. slot_there u.life s.parts.kept.reached u.bytes _ _ s.located c.args.f n (sym (ap (λ (x : Record). slot_of x.backing) c.look-r.ensures) ∙ e)
 
-pub get_page-ok-requires-clause-block : goal.get_page-ok-requires-clause-block
-get_page-ok-requires-clause-block g c =
+pub read_page-ok-requires-clause-block : goal.read_page-ok-requires-clause-block
+read_page-ok-requires-clause-block g c =
     let s = c.args.self.now in
     let u = parts_of.shown_parts s.parts in
     λ n e. block_there u.life s.parts.kept.reached u.bytes _ _ s.located c.args.f n (sym (ap (λ (x : Record). block_of x.backing) c.look-r.ensures) ∙ e)
 
-pub settle_read-requires : goal.settle_read-requires
-settle_read-requires g c = read_legal c.get_page-ok.result (parts_of.shown_parts c.args.self.now.parts).life c.args.f c.requires.legal
+pub read_page-ok-requires-clause-legal : goal.read_page-ok-requires-clause-legal
+read_page-ok-requires-clause-legal g c = c.requires.legal
 
 pub invariant_of-self : goal.invariant_of-self
 invariant_of-self g c =
     let s = c.args.self.now in
     let u = parts_of.shown_parts s.parts in
-    let ok = c.get_page-ok.result in
-    let there : OnTrue ok (bytes_at [] (g.P.Inject.blocks s.paging) (g.F.Inject.blocks s.files) (home_at (record_at u.life.frames c.args.f.0).backing) ≡ Some c.get_page-ok.new.page)
-    = subst (λ (x : Record). OnTrue ok (bytes_at [] (g.P.Inject.blocks s.paging) (g.F.Inject.blocks s.files) (home_at x.backing) ≡ Some c.get_page-ok.new.page)) c.look-r.ensures c.get_page-ok.ensures.ok in
-    let now = carried_on _ _ _ _ _ _ _ c.settle_read.ensures c.get_page-ok.ensures.slots c.get_page-ok.ensures.blocks
-    (read_carries ok u.life s.parts.kept.reached u.bytes (g.P.Inject.blocks s.paging) (g.F.Inject.blocks s.files) s.located c.args.f c.get_page-ok.new.page c.requires.legal there) in
+    let ok = c.read_page-ok.result in
+    let now = carried_on _ _ _ _ _ _ _ c.read_page-ok.ensures.shown c.read_page-ok.ensures.slots c.read_page-ok.ensures.blocks
+    (read_carries ok u.life s.parts.kept.reached u.bytes (g.P.Inject.blocks s.paging) (g.F.Inject.blocks s.files) s.located c.args.f c.look-r.result.backing (ap (λ (x : Record). x.backing) c.look-r.ensures) c.requires.legal c.read_page-ok.ensures.page) in
     let backed = ap (λ (x : Record). is_backed x.backing) c.look-r.ensures ∙ read_backed u.life s.parts.kept.reached u.bytes _ _ s.located c.args.f (is_reading u.life c.args.f c.requires.legal) in
-    record { located = now.located; tallied = subst IsTallied (sym c.read.ensures) (tallied_read s.told ok c.look-r.result.backing c.look-r.result.owner backed s.tallied); slots_whole = whole_on _ _ c.get_page-ok.ensures.slots s.slots_whole; blocks_whole = whole_on _ _ c.get_page-ok.ensures.blocks s.blocks_whole }
+    record { located = now.located; tallied = subst IsTallied (sym c.read.ensures) (tallied_read s.told ok c.look-r.result.backing c.look-r.result.owner backed s.tallied); slots_whole = whole_on _ _ c.read_page-ok.ensures.slots s.slots_whole; blocks_whole = whole_on _ _ c.read_page-ok.ensures.blocks s.blocks_whole }
 
 pub returns-clause-made : goal.returns-clause-made
 returns-clause-made g c =
     let s = c.args.self.now in
     let u = parts_of.shown_parts s.parts in
-    let ok = c.get_page-ok.result in
-    let e = c.settle_read.ensures in
+    let ok = c.read_page-ok.result in
+    let e = c.read_page-ok.ensures.shown in
     let x = end_of_read ok c.args.f in
     made_quiet x _ _ (read_legal ok u.life c.args.f c.requires.legal)
     (subst IsMove c.read_move.ensures c.note.ensures.in_range)
@@ -76,28 +71,26 @@ returns-clause-made g c =
     (ap (λ (y : PartsOf). waits_of y.waits) e ∙ read_waits ok c.args.f u.waits)
     (c.read.ensures ∙ ap (λ (r : Record). read_told ok r.backing r.owner s.told) c.look-r.ensures ∙ read_tells ok u.life c.args.f s.told)
     (read_calls ok c.args.f _ _ (called_at way.Read _ _ ok (device_with (g.P.Inject.log s.paging) (g.P.Inject.named s.paging) (g.P.Inject.faults s.paging)) (device_with (g.F.Inject.log s.files) (g.F.Inject.named s.files) (g.F.Inject.faults s.files))
-    (device_with (g.P.Inject.log c.get_page-ok.new.paging) (g.P.Inject.named c.get_page-ok.new.paging) (g.P.Inject.faults c.get_page-ok.new.paging)) (device_with (g.F.Inject.log c.get_page-ok.new.files) (g.F.Inject.named c.get_page-ok.new.files) (g.F.Inject.faults c.get_page-ok.new.files))
-    (ap (λ (r : Record). r.backing) c.look-r.ensures) c.get_page-ok.ensures.called))
-    c.get_page-ok.ensures.slots c.get_page-ok.ensures.blocks
+    (device_with (g.P.Inject.log c.read_page-ok.new.paging) (g.P.Inject.named c.read_page-ok.new.paging) (g.P.Inject.faults c.read_page-ok.new.paging)) (device_with (g.F.Inject.log c.read_page-ok.new.files) (g.F.Inject.named c.read_page-ok.new.files) (g.F.Inject.faults c.read_page-ok.new.files))
+    (ap (λ (r : Record). r.backing) c.look-r.ensures) c.read_page-ok.ensures.called))
+    c.read_page-ok.ensures.slots c.read_page-ok.ensures.blocks
 
 pub returns-clause-rest : goal.returns-clause-rest
 returns-clause-rest g c =
     let s = c.args.self.now in
     let u = parts_of.shown_parts s.parts in
-    let ok = c.get_page-ok.result in
-    let there : OnTrue ok (bytes_at [] (g.P.Inject.blocks s.paging) (g.F.Inject.blocks s.files) (home_at (record_at u.life.frames c.args.f.0).backing) ≡ Some c.get_page-ok.new.page)
-    = subst (λ (x : Record). OnTrue ok (bytes_at [] (g.P.Inject.blocks s.paging) (g.F.Inject.blocks s.files) (home_at x.backing) ≡ Some c.get_page-ok.new.page)) c.look-r.ensures c.get_page-ok.ensures.ok in
-    let now = carried_on _ _ _ _ _ _ _ c.settle_read.ensures c.get_page-ok.ensures.slots c.get_page-ok.ensures.blocks
-    (read_carries ok u.life s.parts.kept.reached u.bytes (g.P.Inject.blocks s.paging) (g.F.Inject.blocks s.files) s.located c.args.f c.get_page-ok.new.page c.requires.legal there) in
-    rest_called _ _ _ _ _ _ _ _ _ _ _ c.settle_read.ensures c.get_page-ok.ensures.slots c.get_page-ok.ensures.blocks now.bytes
+    let ok = c.read_page-ok.result in
+    let now = carried_on _ _ _ _ _ _ _ c.read_page-ok.ensures.shown c.read_page-ok.ensures.slots c.read_page-ok.ensures.blocks
+    (read_carries ok u.life s.parts.kept.reached u.bytes (g.P.Inject.blocks s.paging) (g.F.Inject.blocks s.files) s.located c.args.f c.look-r.result.backing (ap (λ (x : Record). x.backing) c.look-r.ensures) c.requires.legal c.read_page-ok.ensures.page) in
+    rest_called _ _ _ _ _ _ _ _ _ _ _ c.read_page-ok.ensures.shown c.read_page-ok.ensures.slots c.read_page-ok.ensures.blocks now.bytes
 
 pub returns-clause-loans : goal.returns-clause-loans
-returns-clause-loans g c = λ i. Both (Both (c.get_page-ok.ensures.loans.0 i) (c.get_page-ok.ensures.loans.1 i)) (c.note.ensures.loans i)
+returns-clause-loans g c = λ i. Both (Both (c.read_page-ok.ensures.loans.0 i) (c.read_page-ok.ensures.loans.1 i)) (c.note.ensures.loans i)
 
 pub returns-clause-quiet : goal.returns-clause-quiet
 returns-clause-quiet g c =
     let s = c.args.self.now in
     let u = parts_of.shown_parts s.parts in
     λ done.
-    ap (λ (x : PartsOf). is_read (record_at x.life.frames c.args.f.0).request) c.settle_read.ensures
-    ∙ read_quiet u.life s.parts.kept.reached c.get_page-ok.result c.args.f c.requires.legal done
+    ap (λ (x : PartsOf). is_read (record_at x.life.frames c.args.f.0).request) c.read_page-ok.ensures.shown
+    ∙ read_quiet u.life s.parts.kept.reached c.read_page-ok.result c.args.f c.requires.legal done

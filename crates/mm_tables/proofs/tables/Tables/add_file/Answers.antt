@@ -1,4 +1,5 @@
 use Rattle.std.proofs.Common.{◌≡◌, ◌++◌, ◌∷◌, [], refl, sym, ◌∙◌, ap, subst, length, arith, rules}
+use Rattle.mm_types.proofs.Options.{on_err}
 use Rattle.mm_world.specs.Contents.{Tables}
 use Rattle.mm_tables.specs.Fits.{FitsTables}
 use Rattle.mm_tables.proofs.FileKept.{file_area, file_kept, file_now, file_fits, nothing_served, fits_wrote}
@@ -20,6 +21,14 @@ files_are g c = c.list_file.ensures.files ∙ (λ i. c.grow_for_file-grown.ensur
 
 pub invariant_of-self : goal.invariant_of-self
 invariant_of-self g c = same_kept c.self.inside refl c.grow_for_file-grown.ensures.listed.entries c.grow_for_file-grown.ensures.areas c.grow_for_file-grown.ensures.listed.files c.self.invariant
+
+pub returns-in-Err-clause-files : goal.returns-in-Err-clause-files
+returns-in-Err-clause-files g c = record {
+  ok = tt;
+  err = same_tables c.self.inside refl c.grow_for_file-grown.ensures.listed.entries c.grow_for_file-grown.ensures.areas c.grow_for_file-grown.ensures.listed.files c.self.view_is;
+  made = tt;
+  kept = refl;
+}
 
 pub returns-in-Err-clause-stored : goal.returns-in-Err-clause-stored
 returns-in-Err-clause-stored g c =
@@ -46,6 +55,14 @@ make_file-requires-clause-new g c =
 pub invariant_of-self-in_err-make_file : goal.invariant_of-self-in_err-make_file
 invariant_of-self-in_err-make_file g c =
     same_kept c.self.inside refl c.grow_for_file-grown.ensures.listed.entries c.grow_for_file-grown.ensures.areas c.grow_for_file-grown.ensures.listed.files c.self.invariant
+
+pub returns-in_err-make_file-clause-files : goal.returns-in_err-make_file-clause-files
+returns-in_err-make_file-clause-files g c = record {
+  ok = search rules;
+  err = on_err c.from_residual.result (same_tables c.self.inside refl c.grow_for_file-grown.ensures.listed.entries c.grow_for_file-grown.ensures.areas c.grow_for_file-grown.ensures.listed.files c.self.view_is);
+  made = search rules;
+  kept = on_err c.from_residual.result c.in_err-make_file.ensures.kept;
+}
 
 pub returns-in_err-make_file-clause-stored : goal.returns-in_err-make_file-clause-stored
 returns-in_err-make_file-clause-stored g c =

@@ -36,6 +36,14 @@ pub invariant_of-self : goal.invariant_of-self
 invariant_of-self g c =
     same_kept c.self.inside c.grow_for_paging.ensures.processes c.grow_for_paging.ensures.listed.entries c.grow_for_paging.ensures.areas c.grow_for_paging.ensures.listed.files c.self.invariant
 
+pub returns-in_err-made-clause-settles : goal.returns-in_err-made-clause-settles
+returns-in_err-made-clause-settles g c =
+    let same = same_tables c.self.inside c.grow_for_paging.ensures.processes c.grow_for_paging.ensures.listed.entries c.grow_for_paging.ensures.areas c.grow_for_paging.ensures.listed.files c.self.view_is in
+    record {
+      err = on_err c.from_residual.result (same, refl);
+      settled = roomier_settled c.requires.ready.fits same (record { contents = refl; store = refl; later = omega arith });
+    }
+
 pub open_paging_area-requires-clause-new : goal.open_paging_area-requires-clause-new
 open_paging_area-requires-clause-new g c =
     let at : c.len.result ≡ length c.args.self.now.areas = omega (arith, c.len.ensures, c.self.inside.areas.ok.0, ap (λ (t : Tables). length t.areas) c.self.view_is) in

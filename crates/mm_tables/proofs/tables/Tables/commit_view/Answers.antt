@@ -1,7 +1,11 @@
-use Rattle.std.proofs.Common.{ap, arith}
+use Rattle.std.proofs.Common.{◌∙◌, refl, ap, arith}
 use Rattle.mm_types.specs.Address.{Range}
+use Rattle.mm_types.proofs.Options.{on_err}
+use Rattle.mm_pages.specs.Housekeeping.{Makes}
+use Rattle.mm_pages.proofs.Passed.{idle_before}
 use Rattle.mm_tables.specs.Shown.{shown_processes}
-use Rattle.mm_tables.proofs.ViewCommitted.{CommitsView, Committed, can_share, view_kept, view_settled}
+use Rattle.mm_tables.proofs.ViewCommitted.{CommitsView, Committed, can_share, view_kept, view_now, view_settled}
+use Rattle.mm_tables.proofs.Settled.{roomier_settled}
 use Rattle.mm_tables.proofs.tables.Tables.commit_view.Given as given
 use Rattle.mm_tables.proofs.tables.Tables.commit_view.Goals as goal
 
@@ -50,3 +54,21 @@ returns-clause-settles g c =
           (g.G.Pages.contents c.reserve.new.self) (g.G.Pages.contents c.share_pages.new.g) (g.G.Pages.store c.reserve.new.self) (g.G.Pages.store c.share_pages.new.g)
           c.reserve.ensures.contents c.reserve.ensures.store c.reserve.ensures.later (omega (arith, c.in_ok-reserve.ensures.ok, c.now.ensures.charge)) c.share_pages.ensures.shares;
     }
+
+pub returns-in_err-reserve-clause-settles : goal.returns-in_err-reserve-clause-settles
+returns-in_err-reserve-clause-settles g c = record {
+  err = on_err c.from_residual.result (refl, c.reserve.ensures.contents);
+  settled = roomier_settled c.requires.ready.fits refl (record { contents = c.reserve.ensures.contents; store = c.reserve.ensures.store; later = c.reserve.ensures.later });
+}
+
+pub returns-clause-ok : goal.returns-clause-ok
+returns-clause-ok g c p r v lives around is_view =
+    view_now (commits g (at_range g c)) (shown_processes c.protect_view.new.processes.items) c.share_pages.new.areas.items (committed g c) p r v lives around is_view
+
+pub returns-clause-makes : goal.returns-clause-makes
+returns-clause-makes g c = record {
+  passes = idle_before g.G.Pages.unpaged Makes (g.G.Pages.store c.args.g.now) (g.G.Pages.store c.reserve.new.self) (g.G.Pages.store c.share_pages.new.g)
+      (g.G.Pages.behind c.args.g.now) (g.G.Pages.behind c.reserve.new.self) (g.G.Pages.behind c.share_pages.new.g) c.reserve.ensures.passes c.share_pages.ensures.passes;
+  idle = tt;
+  loans = c.share_pages.ensures.loans ∙ c.reserve.ensures.loans;
+}

@@ -2,7 +2,7 @@ use Rattle.std.proofs.Common.{◌++◌, Option, ap, ◌∙◌}
 use Rattle.mm_life.specs.Life.{FrameLife}
 use Rattle.mm_replay.specs.Standing.{life}
 use Rattle.mm_classes.specs.Marking.{marks_of}
-use Rattle.mm_ages.specs.Shown.{ages_of}
+use Rattle.mm_transcripts.specs.Shown.{ages_of}
 use Rattle.mm_tell.specs.declared.classifiers.Classed.{Classed}
 use Rattle.mm_transcripts.specs.Rows.{Beside}
 use Rattle.mm_transcripts.specs.Waiting.{classed_row, beside_of}

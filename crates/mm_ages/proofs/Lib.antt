@@ -1,2 +1,0 @@
-mod Aged
-mod Kept

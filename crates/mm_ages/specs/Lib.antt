@@ -1,5 +1,0 @@
-pub mod Ages
-pub mod Keeping
-pub mod Lines
-pub mod Reasons
-pub mod Shown

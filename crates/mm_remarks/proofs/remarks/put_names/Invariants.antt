@@ -1,6 +1,0 @@
-use Rattle.std.proofs.Common.{◌≡◌, ◌++◌, drop, false}
-use Rattle.mm_remarks.specs.Remarks.{listed}
-use Rattle.mm_remarks.proofs.remarks.put_names.Given as goal
-
-abbrev pub invariant-loop-number : goal.invariant-loop-number
-invariant-loop-number l = l.text.items ++ listed l.after (drop l.number-index l.numbers) ≡ l.fn.text.items ++ listed false l.numbers

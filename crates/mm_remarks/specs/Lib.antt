@@ -1,4 +1,0 @@
-pub mod Numbers
-pub mod Failures
-pub mod Remarks
-pub mod Worked

@@ -1,0 +1,89 @@
+-- What stands behind a line of a script and its answer.
+-- Profile, "What a log shows".
+use Rattle.std.specs.Prelude.{ℕ, Bool, false, ◌||◌, nat_le, if◌then◌else◌, List, [], ◌∷◌}
+use Rattle.std.specs.Prelude.{◌++◌, length, Option, Some, None, Result, Ok, Err, unwrap_or, codes}
+use Rattle.std.specs.List.{list_any}
+use Rattle.mm_types.specs.Spelling.{Text}
+use Rattle.mm_types.specs.declared.events.Event.{Event}
+use Rattle.mm_types.specs.declared.events.Event.TheVariants as line
+use Rattle.mm_text.specs.Field.{number_of}
+use Rattle.mm_text.specs.Word.{Word, words_of}
+use Rattle.mm_script.specs.declared.faults.LineFault.{LineFault}
+use Rattle.mm_script.specs.Reading.{parse}
+use Rattle.mm_transcripts.specs.Numbers.{has_name, name_text, name_behind}
+use Rattle.mm_transcripts.specs.Failures.{failure_name}
+use Rattle.mm_transcripts.specs.declared.numbers.NumberPlace.{NumberPlace}
+use Rattle.mm_transcripts.specs.declared.numbers.NumberPlace.TheVariants as place
+use Rattle.mm_transcripts.specs.declared.numbers.Number.{Number}
+
+-- ---- names in brackets
+
+-- the names of those numbers that have one, between them a comma; one stands before them or none
+abbrev pub listed : Bool → List Number → Text
+listed after [] = []
+listed after (x ∷ xs) =
+    (if has_name x then name_behind (codes ", ") after (name_text x) else [])
+    ++ listed (after || has_name x) xs
+
+-- they stand in brackets, behind this; nothing where no number has a name
+abbrev pub bracketed : Text → List Number → Text
+bracketed front numbers =
+    if list_any has_name numbers then front ++ 0x5B ∷ (listed false numbers ++ 0x5D ∷ []) else []
+
+-- ---- the numbers of a line that may have names
+
+abbrev pub placed : NumberPlace → ℕ → Number
+placed p n = record { place = p; value = n }
+
+abbrev pub numbers_of : Event → List Number
+numbers_of (line.Alloc pid addr size kind prot) =
+    placed place.Allocation kind ∷ placed place.Protection prot ∷ []
+numbers_of (line.Free pid addr size kind) = placed place.Allocation kind ∷ []
+numbers_of (line.Protect pid addr size prot) = placed place.Protection prot ∷ []
+numbers_of (line.Create pid size flags name) = placed place.Section flags ∷ []
+numbers_of (line.CreateFile pid file flags name) = placed place.Section flags ∷ []
+numbers_of (line.Map pid handle access offset len addr) = placed place.Access access ∷ []
+numbers_of _ = []
+
+-- ---- and of the answer of a `query`
+
+-- what is no number counts as 0, which has no name
+abbrev pub number_at : NumberPlace → Word → Number
+number_at p w = placed p (unwrap_or (number_of w.text) 0)
+
+-- behind `ok` and four more words stand the state, the protection and the type
+abbrev pub told_names : List Word → Text
+told_names (ok ∷ base ∷ region ∷ first ∷ size ∷ state ∷ prot ∷ type ∷ rest) =
+    bracketed (codes " ")
+    (number_at place.State state ∷ number_at place.Protection prot ∷ number_at place.Type type ∷ [])
+told_names _ = []
+
+-- an answer has at most 256 bytes
+abbrev pub told_remark : Event → Text → Text
+told_remark (line.Query pid addr) answer =
+    if nat_le (length answer) 256 then told_names (words_of answer) else []
+told_remark _ answer = []
+
+-- the name of an error or a status, or the names of what a `query` tells
+abbrev pub named_or : Option Text → Text → Text
+named_or (Some name) other = codes " [" ++ (name ++ codes "]")
+named_or None other = other
+
+abbrev pub answer_remark : Event → Option Text → Text
+answer_remark e None = []
+answer_remark e (Some answer) = named_or (failure_name answer) (told_remark e answer)
+
+-- ---- the line and its answer
+
+abbrev pub event_remark : Event → Option Text → Text
+event_remark e answer = answer_remark e answer ++ bracketed (codes "  ") (numbers_of e)
+
+abbrev pub remark_by : Result Event LineFault → Option Text → Text
+remark_by (Ok e) answer = event_remark e answer
+remark_by (Err f) answer = []
+
+-- What stands behind the answer of a line: its name, and then those of the line's numbers. A line
+-- of a script has at most 256 bytes; one that spells no event has no remark.
+unfoldable pub remark_text : Text → Option Text → Text
+remark_text line answer =
+    if nat_le (length line) 256 then remark_by (parse line) answer else []

@@ -1,0 +1,13 @@
+-- The ages that what is kept of them shows.
+use Rattle.std.specs.Prelude.{slice_index}
+use Rattle.indexmap.specs.IndexMap.{get}
+use Rattle.mm_life.specs.Life.{same_place}
+use Rattle.mm_transcripts.specs.Ages.{AgesOf}
+use Rattle.mm_transcripts.specs.Keeping.{age_in, same_thread}
+use Rattle.mm_transcripts.specs.declared.ages.Ages.{Ages}
+
+abbrev pub ages_of : Ages → AgesOf
+ages_of a = record {
+  age = age_in (slice_index a.counts) (get same_place a.stamps);
+  kept = get same_thread a.kept;
+}

@@ -1,0 +1,84 @@
+ghost use Rattle.std.specs.Prelude.{◌≡◌, ◌++◌, OnOk};
+ghost use Rattle.mm_types.specs.Spelling.{decimal};
+ghost use Rattle.mm_life.specs.Legal.{is_above_min};
+ghost use Rattle.mm_transcripts.specs.Reasons.{age_words, process_words, reason_words};
+
+use mm_classes::Class;
+use mm_life::ResidentSet;
+use mm_text::{LineBuf, put_decimal};
+use mm_types::{NoMemory, Pid};
+
+/// How a page stood right before it left its working set.
+#[derive(Clone, Copy, PartialEq, Eq, Debug)]
+pub struct Reason {
+    /// The process of the working set.
+    pub pid: Pid,
+    /// Whether that was above its minimum.
+    pub is_above_min: bool,
+    /// The age of the page, 0 to 7.
+    pub age: u64,
+}
+
+pub(crate) fn is_above_min(set: Option<ResidentSet>) -> bool
+    ensures { result ≡ is_above_min set }
+{
+    match set {
+        Some(set) => set.min < set.resident,
+        None => false,
+    }
+}
+
+/// Writes a number between two texts.
+#[tactic(auto, using(mm_text::proofs::DigitCounts::joined))]
+fn put_number(front: &[u8], number: u64, end: &[u8], text: &mut Vec<u8>) -> Result<(), NoMemory>
+    ensures { OnOk result (text.new.items
+        ≡ text.old.items ++ (front.now ++ (decimal number ++ end.now))) }
+{
+    let mut digits = LineBuf::new();
+    put_decimal(&mut digits, number);
+    text.extend_from_slice(front)?;
+    text.extend_from_slice(digits.as_slice())?;
+    text.extend_from_slice(end)?;
+    Ok(())
+}
+
+fn put_age(age: u64, text: &mut Vec<u8>) -> Result<(), NoMemory>
+    ensures { OnOk result (text.new.items ≡ text.old.items ++ age_words age) }
+{
+    if age == 0 {
+        text.extend_from_slice(b"lowest page of age 0")?;
+        return Ok(());
+    }
+    put_number(b"oldest: age ", age, b"", text)
+}
+
+fn put_process(reason: &Reason, text: &mut Vec<u8>) -> Result<(), NoMemory>
+    ensures { OnOk result (text.new.items ≡ text.old.items ++ process_words reason.now) }
+{
+    if !reason.is_above_min {
+        return Ok(());
+    }
+    let pid = u64::from(reason.pid.0);
+    put_number(b"process ", pid, b" is the first above its minimum; ", text)
+}
+
+/// Writes, in brackets and behind a space, why a page was replaced, or was trimmed for want of
+/// frames; nothing behind a move of another class. The only error is that memory is refused; then a
+/// part may have been written.
+#[tactic(auto, using(mm_text::proofs::DigitCounts::joined))]
+pub fn put_reason(class: Class, reason: &Reason, text: &mut Vec<u8>) -> Result<(), NoMemory>
+    ensures { OnOk result (text.new.items ≡ text.old.items ++ reason_words class reason.now) }
+{
+    match class {
+        Class::Replaced => {}
+        Class::TrimmedForWantOfFrames => {}
+        _ => return Ok(()),
+    }
+    text.extend_from_slice(b" [")?;
+    if class == Class::TrimmedForWantOfFrames {
+        put_process(reason, text)?;
+    }
+    put_age(reason.age, text)?;
+    text.push(b']')?;
+    Ok(())
+}
