@@ -56,8 +56,8 @@ pub(crate) fn read_page<P: Inject, F: Inject>(
 ) -> bool
     requires legal { IsLegal (move.Got f) (parts_of.shown_parts parts.old).life }
     requires backed { is_backed home ≡ true }
-    requires slot { (s : ℕ) → slot_of home ≡ Some s → s < length (P.blocks paging.old) }
-    requires block { (b : ℕ) → block_of home ≡ Some b → b < length (F.blocks files.old) }
+    requires there { ((s : ℕ) → slot_of home ≡ Some s → s < length (P.blocks paging.old))
+        × ((b : ℕ) → block_of home ≡ Some b → b < length (F.blocks files.old)) }
     ensures shown { parts_of.shown_parts parts.new ≡ record
         (parts_after (parts_of.shown_parts parts.old) (end_of_read result f)) {
           bytes = filled_if result f.0
@@ -68,8 +68,8 @@ pub(crate) fn read_page<P: Inject, F: Inject>(
         } }
     ensures page { IsSome
         (bytes_at [] (P.blocks paging.old) (F.blocks files.old) (home_at home)) }
-    ensures slots { P.blocks paging.new ≡ P.blocks paging.old }
-    ensures blocks { F.blocks files.new ≡ F.blocks files.old }
+    ensures blocks { (P.blocks paging.new ≡ P.blocks paging.old)
+        × (F.blocks files.new ≡ F.blocks files.old) }
     ensures called { CalledFor way.Read home result
         (device_with (P.log paging.old) (P.named paging.old) (P.faults paging.old))
         (device_with (F.log files.old) (F.named files.old) (F.faults files.old))

@@ -4,7 +4,7 @@ use Rattle.mm_laws.specs.FileBlocks.{block_of}
 use Rattle.mm_state.proofs.devices.read_page.Goals as goal
 
 pub read_from-requires-clause-block : goal.read_from-requires-clause-block
-read_from-requires-clause-block g c = c.requires.slot c.in-Slot.s.0 (ap slot_of c.in-Slot.is)
+read_from-requires-clause-block g c = c.requires.there.0 c.in-Slot.s.0 (ap slot_of c.in-Slot.is)
 
 pub read_from-requires-in-Block-clause-block : goal.read_from-requires-in-Block-clause-block
-read_from-requires-in-Block-clause-block g c = c.requires.block c.in-Block.b.0 (ap block_of c.in-Block.is)
+read_from-requires-in-Block-clause-block g c = c.requires.there.1 c.in-Block.b.0 (ap block_of c.in-Block.is)

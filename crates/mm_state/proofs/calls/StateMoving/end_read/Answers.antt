@@ -31,17 +31,13 @@ read_page-ok-requires-clause-backed g c =
     let u = parts_of.shown_parts s.parts in
     ap (λ (x : Record). is_backed x.backing) c.look-r.ensures ∙ read_backed u.life s.parts.kept.reached u.bytes _ _ s.located c.args.f (is_reading u.life c.args.f c.requires.legal)
 
-pub read_page-ok-requires-clause-slot : goal.read_page-ok-requires-clause-slot
-read_page-ok-requires-clause-slot g c =
+pub read_page-ok-requires-clause-there : goal.read_page-ok-requires-clause-there
+read_page-ok-requires-clause-there g c =
     let s = c.args.self.now in
-    let u = parts_of.shown_parts s.parts in
-    λ n e. slot_there u.life s.parts.kept.reached u.bytes _ _ s.located c.args.f n (sym (ap (λ (x : Record). slot_of x.backing) c.look-r.ensures) ∙ e)
-
-pub read_page-ok-requires-clause-block : goal.read_page-ok-requires-clause-block
-read_page-ok-requires-clause-block g c =
-    let s = c.args.self.now in
-    let u = parts_of.shown_parts s.parts in
-    λ n e. block_there u.life s.parts.kept.reached u.bytes _ _ s.located c.args.f n (sym (ap (λ (x : Record). block_of x.backing) c.look-r.ensures) ∙ e)
+    let u = parts_of.shown_parts s.parts in (
+      (λ n e. slot_there u.life s.parts.kept.reached u.bytes _ _ s.located c.args.f n (sym (ap (λ (x : Record). slot_of x.backing) c.look-r.ensures) ∙ e)),
+      (λ n e. block_there u.life s.parts.kept.reached u.bytes _ _ s.located c.args.f n (sym (ap (λ (x : Record). block_of x.backing) c.look-r.ensures) ∙ e)),
+    )
 
 pub read_page-ok-requires-clause-legal : goal.read_page-ok-requires-clause-legal
 read_page-ok-requires-clause-legal g c = c.requires.legal
@@ -51,10 +47,10 @@ invariant_of-self g c =
     let s = c.args.self.now in
     let u = parts_of.shown_parts s.parts in
     let ok = c.read_page-ok.result in
-    let now = carried_on _ _ _ _ _ _ _ c.read_page-ok.ensures.shown c.read_page-ok.ensures.slots c.read_page-ok.ensures.blocks
+    let now = carried_on _ _ _ _ _ _ _ c.read_page-ok.ensures.shown c.read_page-ok.ensures.blocks.0 c.read_page-ok.ensures.blocks.1
     (read_carries ok u.life s.parts.kept.reached u.bytes (g.P.Inject.blocks s.paging) (g.F.Inject.blocks s.files) s.located c.args.f c.look-r.result.backing (ap (λ (x : Record). x.backing) c.look-r.ensures) c.requires.legal c.read_page-ok.ensures.page) in
     let backed = ap (λ (x : Record). is_backed x.backing) c.look-r.ensures ∙ read_backed u.life s.parts.kept.reached u.bytes _ _ s.located c.args.f (is_reading u.life c.args.f c.requires.legal) in
-    record { located = now.located; tallied = subst IsTallied (sym c.read.ensures) (tallied_read s.told ok c.look-r.result.backing c.look-r.result.owner backed s.tallied); slots_whole = whole_on _ _ c.read_page-ok.ensures.slots s.slots_whole; blocks_whole = whole_on _ _ c.read_page-ok.ensures.blocks s.blocks_whole }
+    record { located = now.located; tallied = subst IsTallied (sym c.read.ensures) (tallied_read s.told ok c.look-r.result.backing c.look-r.result.owner backed s.tallied); slots_whole = whole_on _ _ c.read_page-ok.ensures.blocks.0 s.slots_whole; blocks_whole = whole_on _ _ c.read_page-ok.ensures.blocks.1 s.blocks_whole }
 
 pub returns-clause-made : goal.returns-clause-made
 returns-clause-made g c =
@@ -73,16 +69,16 @@ returns-clause-made g c =
     (read_calls ok c.args.f _ _ (called_at way.Read _ _ ok (device_with (g.P.Inject.log s.paging) (g.P.Inject.named s.paging) (g.P.Inject.faults s.paging)) (device_with (g.F.Inject.log s.files) (g.F.Inject.named s.files) (g.F.Inject.faults s.files))
     (device_with (g.P.Inject.log c.read_page-ok.new.paging) (g.P.Inject.named c.read_page-ok.new.paging) (g.P.Inject.faults c.read_page-ok.new.paging)) (device_with (g.F.Inject.log c.read_page-ok.new.files) (g.F.Inject.named c.read_page-ok.new.files) (g.F.Inject.faults c.read_page-ok.new.files))
     (ap (λ (r : Record). r.backing) c.look-r.ensures) c.read_page-ok.ensures.called))
-    c.read_page-ok.ensures.slots c.read_page-ok.ensures.blocks
+    c.read_page-ok.ensures.blocks.0 c.read_page-ok.ensures.blocks.1
 
 pub returns-clause-rest : goal.returns-clause-rest
 returns-clause-rest g c =
     let s = c.args.self.now in
     let u = parts_of.shown_parts s.parts in
     let ok = c.read_page-ok.result in
-    let now = carried_on _ _ _ _ _ _ _ c.read_page-ok.ensures.shown c.read_page-ok.ensures.slots c.read_page-ok.ensures.blocks
+    let now = carried_on _ _ _ _ _ _ _ c.read_page-ok.ensures.shown c.read_page-ok.ensures.blocks.0 c.read_page-ok.ensures.blocks.1
     (read_carries ok u.life s.parts.kept.reached u.bytes (g.P.Inject.blocks s.paging) (g.F.Inject.blocks s.files) s.located c.args.f c.look-r.result.backing (ap (λ (x : Record). x.backing) c.look-r.ensures) c.requires.legal c.read_page-ok.ensures.page) in
-    rest_called _ _ _ _ _ _ _ _ _ _ _ c.read_page-ok.ensures.shown c.read_page-ok.ensures.slots c.read_page-ok.ensures.blocks now.bytes
+    rest_called _ _ _ _ _ _ _ _ _ _ _ c.read_page-ok.ensures.shown c.read_page-ok.ensures.blocks.0 c.read_page-ok.ensures.blocks.1 now.bytes
 
 pub returns-clause-loans : goal.returns-clause-loans
 returns-clause-loans g c = λ i. Both (Both (c.read_page-ok.ensures.loans.0 i) (c.read_page-ok.ensures.loans.1 i)) (c.note.ensures.loans i)
