@@ -67,7 +67,7 @@ impl Ages {
     ghost use Rattle.mm_transcripts.specs.Shown.{ages_of};
 
     /// Before a log: no page is valid.
-    pub fn new(alloc: Global) -> Ages
+    pub(crate) fn new(alloc: Global) -> Ages
         ensures { ages_of result ≡ no_ages }
     {
         Ages {
@@ -78,7 +78,7 @@ impl Ages {
     }
 
     /// The age of a page, 0 to 7; `None` where it is not valid.
-    pub fn age(&self, place: Place) -> Option<u64>
+    pub(crate) fn age(&self, place: Place) -> Option<u64>
         ensures age { result ≡ (ages_of self.now).age place }
         ensures most { IfSome result (λ age. age ≤ 7) }
     {
@@ -211,7 +211,11 @@ impl Ages {
 
     /// A line begins: it stands so in the script, and this is its answer. Nothing changes where one
     /// of them is missing. The only error is that memory is refused.
-    pub fn line(&mut self, line: Option<&[u8]>, answer: Option<&[u8]>) -> Result<(), NoMemory>
+    pub(crate) fn line(
+        &mut self,
+        line: Option<&[u8]>,
+        answer: Option<&[u8]>,
+    ) -> Result<(), NoMemory>
         ensures { OnOk result (ages_of self.new ≡ after_line (option_map (λ l. l.now) line.entry)
             (option_map (λ a. a.now) answer.entry) (ages_of self.old)) }
     {
@@ -222,7 +226,7 @@ impl Ages {
     }
 
     /// A move is made. The only error is that memory is refused.
-    pub fn moved(&mut self, m: &Move) -> Result<(), NoMemory>
+    pub(crate) fn moved(&mut self, m: &Move) -> Result<(), NoMemory>
         ensures { OnOk result (ages_of self.new ≡ after_move m.now (ages_of self.old)) }
     {
         match *m {
@@ -237,7 +241,7 @@ impl Ages {
 
     /// How a page stood that this move takes from its working set; `None` for other moves. `life`
     /// is the replay before the move, and the ages are those before it.
-    pub fn reason(&self, life: &Life, m: &Move) -> Option<Reason>
+    pub(crate) fn reason(&self, life: &Life, m: &Move) -> Option<Reason>
         ensures { result ≡ reason_at (ages_of self.now) (life_of life.now) m.now }
     {
         match *m {

@@ -66,7 +66,7 @@ fn put_process(reason: &Reason, text: &mut Vec<u8>) -> Result<(), NoMemory>
 /// frames; nothing behind a move of another class. The only error is that memory is refused; then a
 /// part may have been written.
 #[tactic(auto, using(mm_text::proofs::DigitCounts::joined))]
-pub fn put_reason(class: Class, reason: &Reason, text: &mut Vec<u8>) -> Result<(), NoMemory>
+pub(crate) fn put_reason(class: Class, reason: &Reason, text: &mut Vec<u8>) -> Result<(), NoMemory>
     ensures { OnOk result (text.new.items ≡ text.old.items ++ reason_words class reason.now) }
 {
     match class {

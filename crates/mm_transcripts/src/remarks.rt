@@ -193,7 +193,11 @@ fn put_event_remark(
 /// and then, behind two spaces, the names of the line's numbers. Nothing where the line is none of
 /// a script. The only error is that memory is refused; then a part may have been written.
 #[tactic(auto, unfolding(crate::specs::Remarks::remark_text))]
-pub fn put_remark(line: &[u8], answer: Option<&[u8]>, text: &mut Vec<u8>) -> Result<(), NoMemory>
+pub(crate) fn put_remark(
+    line: &[u8],
+    answer: Option<&[u8]>,
+    text: &mut Vec<u8>,
+) -> Result<(), NoMemory>
     ensures { OnOk result (text.new.items ≡ text.old.items
         ++ remark_text line.now (option_map (λ a. a.now) answer.entry)) }
 {
