@@ -1,5 +1,5 @@
 -- What the definitions of calls come to.
-use Rattle.std.proofs.Common.{◌≡◌, ◌≤◌, ◌<◌, ◌+◌, ◌-◌, ℕ, zero, suc, true, Some, None, is_none, refl, sym, ◌∙◌, ap, arith}
+use Rattle.std.proofs.Common.{◌≡◌, ◌≤◌, ◌<◌, ◌+◌, ◌-◌, ℕ, zero, suc, true, false, Some, None, is_none, is_some, refl, sym, ◌∙◌, ap, arith}
 use Rattle.mm_types.specs.declared.answers.Answer.TheVariants as answer
 use Rattle.mm_types.specs.declared.codes.Code.TheVariants as code
 use Rattle.mm_types.specs.declared.views.Kind.TheVariants as kind
@@ -21,7 +21,7 @@ use Rattle.mm_calls.specs.Marking.{protect_pages}
 use Rattle.mm_calls.proofs.Areas.{in_section, range_in_section}
 use Rattle.mm_calls.proofs.Around.{around}
 use Rattle.mm_calls.proofs.Counts.{commit_charge, protect_charge, area_charge_more, no_marks}
-use Rattle.mm_world.proofs.Outcomes.{at_met, at_found, at_room, at_limit}
+use Rattle.mm_world.proofs.Outcomes.{at_met, at_unmet, at_found, at_missing, at_room, at_limit}
 
 module _ (t : Tables) (pid : ℕ) (p : ProcessOf (Unit {0})) (range : Range) (prot n : ℕ) (lives : process_of t pid ≡ Some p) (r : Found (RegionOf (Unit {0}))) (found : region_around p.regions range ≡ Some r) where
   -- ---- commit in a private region
@@ -115,3 +115,20 @@ module _ (t : Tables) (pid : ℕ) (p : ProcessOf (Unit {0})) (range : Range) (pr
     protect_charges room =
         ap (λ (o : OutcomeOf (Unit {0})). charge o.world) (protect_made room)
         ∙ protect_charge t pid p range r lives found prot ∙ ap (λ m. charge t + m) (sym counted)
+
+-- where it is refused before the limit is asked
+module _ (t : Tables) (pid : ℕ) (p : ProcessOf (Unit {0})) (range : Range) (prot : ℕ) where
+  pub protect_missing : region_around p.regions range ≡ None → protect_pages t pid p range prot ≡ refused t code.InvalidAddress
+  protect_missing e = at_missing t code.InvalidAddress (region_around p.regions range) _ (ap is_some e)
+
+  module _ (r : Found (RegionOf (Unit {0}))) (found : region_around p.regions range ≡ Some r) where
+    pub protect_uncommitted : every_page (is_committed_at t r.thing) range ≡ false → protect_pages t pid p range prot ≡ refused t code.InvalidAddress
+    protect_uncommitted e =
+        at_found t code.InvalidAddress (region_around p.regions range) r _ found
+        ∙ at_unmet t code.InvalidAddress (every_page (is_committed_at t r.thing) range) _ e
+
+    pub protect_unaccepted : every_page (is_committed_at t r.thing) range ≡ true → every_page (accepts r.thing prot) range ≡ false → protect_pages t pid p range prot ≡ refused t code.InvalidParameter
+    protect_unaccepted there e =
+        at_found t code.InvalidAddress (region_around p.regions range) r _ found
+        ∙ at_met t code.InvalidAddress (every_page (is_committed_at t r.thing) range) _ there
+        ∙ at_unmet t code.InvalidParameter (every_page (accepts r.thing prot) range) _ e

@@ -24,3 +24,4 @@ pub mod Created
 pub mod Growing
 pub mod Probed
 pub mod CallsDone
+pub mod Reserved

@@ -1,5 +1,5 @@
 -- Views that are made, found and flushed.
-use Rattle.std.proofs.Common.{◌≡◌, ◌≤◌, ◌<◌, ◌+◌, ◌-◌, ℕ, zero, suc, Bool, true, false, Option, Some, None, List, refl, sym, ◌∙◌, ap, cond, arith, length, not, nat_lt, nat_le, ◌&&◌, replicate, count_by, option_map}
+use Rattle.std.proofs.Common.{◌≡◌, ◌≤◌, ◌<◌, ◌+◌, ◌-◌, ℕ, zero, suc, Bool, true, false, Option, Some, None, List, refl, sym, ◌∙◌, ap, cond, arith, length, not, nat_lt, nat_le, ◌&&◌, replicate, count_by, option_map, is_some}
 use Rattle.std.proofs.lemmas.Bool.{leb-true}
 use Rattle.std.proofs.lemmas.List.Sums.{sum_by-cons, sum_by-insert}
 use Rattle.mm_types.specs.declared.answers.Answer.TheVariants as answer
@@ -12,7 +12,7 @@ use Rattle.mm_world.specs.World.{RowOf, RegionOf, ProcessOf, SectionOf, pages_of
 use Rattle.mm_world.specs.Find.{Found, first_where, process_of, add_region, ranges_of, set_regions, placed, area_at, is_private}
 use Rattle.mm_world.specs.Charge.{charge, limit, region_charge}
 use Rattle.mm_world.specs.Contents.{Tables}
-use Rattle.mm_world.specs.Outcome.{done}
+use Rattle.mm_world.specs.Outcome.{done, refused}
 use Rattle.mm_world.specs.Views.{view_region, is_copy, first_protection, view_around}
 use Rattle.mm_world.specs.WellFormed.{WellFormed, RegionRefers, ViewFits}
 use Rattle.mm_world.proofs.Charges.{charge-set_regions}
@@ -22,7 +22,7 @@ use Rattle.mm_world.proofs.LaidOut.{and-true}
 use Rattle.mm_spaces.specs.declared.spaces.RegionInfo.{RegionInfo}
 use Rattle.mm_spaces.specs.Tables.{found_info}
 use Rattle.mm_calls.specs.Stages.{place_view}
-use Rattle.mm_world.proofs.Outcomes.{at_found, at_room}
+use Rattle.mm_world.proofs.Outcomes.{at_found, at_missing, at_room, at_limit}
 
 -- ---- a new view
 
@@ -56,6 +56,15 @@ module _ (t : Tables) (pid : ℕ) (p : ProcessOf (Unit {0})) (s : Found SectionO
   place_made count addr found room =
       at_found t code.InvalidAddress (placed (ranges_of p.regions) addr (record { first = page_of addr; count = count }) count) range _ found
       ∙ at_room t (done (answer.At (address_of range.first)) (set_regions t pid p (add_region (view_region s access first range) p.regions))) (omega (arith, view_charge, room))
+
+  pub place_refused : (count addr : ℕ) → placed (ranges_of p.regions) addr (record { first = page_of addr; count = count }) count ≡ Some range → limit t < charge t + cond (is_copy access) range.count 0 → place_view t pid p s access first count addr ≡ refused t code.CommitmentLimit
+  place_refused count addr found past =
+      at_found t code.InvalidAddress (placed (ranges_of p.regions) addr (record { first = page_of addr; count = count }) count) range _ found
+      ∙ at_limit t (done (answer.At (address_of range.first)) (set_regions t pid p (add_region (view_region s access first range) p.regions))) (omega (arith, view_charge, past))
+
+-- no range was found
+pub place_missing : (t : Tables) (pid : ℕ) (p : ProcessOf (Unit {0})) (s : Found SectionOf) (access : ViewAccess) (first count addr : ℕ) → placed (ranges_of p.regions) addr (record { first = page_of addr; count = count }) count ≡ None → place_view t pid p s access first count addr ≡ refused t code.InvalidAddress
+place_missing t pid p s access first count addr e = at_missing t code.InvalidAddress (placed (ranges_of p.regions) addr (record { first = page_of addr; count = count }) count) _ (ap is_some e)
 
 -- where a range was found
 pub placed_there : (rs qs : List (RegionOf (Unit {0}))) (addr count : ℕ) (told : Option Range) (range : Range) → rs ≡ qs → told ≡ placed (ranges_of rs) addr (record { first = page_of addr; count = count }) count → told ≡ Some range → placed (ranges_of qs) addr (record { first = page_of addr; count = count }) count ≡ Some range

@@ -1,6 +1,6 @@
 -- What the calls ask and promise of tables and store together.
 -- Profile, "Calls".
-use Rattle.std.specs.Prelude.{◌≡◌, ◌≤◌, ◌+◌, ◌^◌, ℕ, true, is_some, length, nat_le, Option, Some, Result, OnErr}
+use Rattle.std.specs.Prelude.{◌≡◌, ◌≤◌, ◌<◌, ◌+◌, ◌^◌, ℕ, true, is_some, length, min, nat_le, Option, Some, Result, IfOk, IsOk, OnErr}
 use Rattle.mm_types.specs.declared.answers.Answer.{Answer}
 use Rattle.mm_types.specs.declared.faults.NoMemory.{NoMemory}
 use Rattle.mm_types.specs.declared.moves.LineKind.TheVariants as line_kind
@@ -8,8 +8,9 @@ use Rattle.mm_types.specs.declared.numbers.Key.{Key}
 use Rattle.mm_types.specs.declared.numbers.Pid.{Pid}
 use Rattle.mm_types.specs.Address.{Range}
 use Rattle.mm_world.specs.World.{Page, ProcessOf}
+use Rattle.mm_world.specs.Alloc.{commit_pages}
 use Rattle.mm_world.specs.Charge.{charge, limit}
-use Rattle.mm_world.specs.Contents.{Tables}
+use Rattle.mm_world.specs.Contents.{Tables, blank}
 use Rattle.mm_world.specs.Find.{process_of}
 use Rattle.mm_world.specs.Outcome.{OutcomeOf}
 use Rattle.mm_world.specs.Processes.{new_process, most_processes}
@@ -18,7 +19,7 @@ use Rattle.mm_pages.specs.Housekeeping.{Turn, Goes, MakesFrom, MakesStack}
 use Rattle.mm_pages.specs.Leaving.{leaving}
 use Rattle.mm_pages.specs.Store.{StoreOf}
 use Rattle.mm_tables.specs.Fits.{FitsTables, Called, Settled, before_process, is_uncommitted, store_beside}
-use Rattle.mm_tables.specs.Promises.{PassesAs}
+use Rattle.mm_tables.specs.Promises.{PassesAs, MakesPages}
 use Rattle.mm_tables.specs.Ranges.{StandsFrom}
 
 -- a stack of these pages has room for its top pages, its guard page and one page more
@@ -115,3 +116,18 @@ module _ {G : Type 0} (p : PagesGhosts G) where
     pub passes : PassesAs p (MakesStack guard) g h
     pub idle : OnErr result ((turn : Turn) → PassesAs p turn g h)
     pub loans : p.loans h ≡ p.loans g
+
+  -- ---- pages that are committed
+
+  -- pages of a living process are committed as the definition says, or memory ran out, which it
+  -- does only where some of them were not committed and the store has no room for them
+  pub record CommitsRange (pid : Pid) (range : Range) (prot : ℕ) (result : Result Answer NoMemory)
+      (t : Tables) (g : G) (after : Tables) (h : G) : Type 0 where
+    pub done : IfOk result
+        (λ a. DecidesIn pid (λ x. commit_pages blank t pid.0 x range prot) t g a after h)
+    pub broke : OnErr result (LacksMemory t g after h)
+    pub enough : min (charge t + range.count) (limit t) ≤ (p.store g).room → IsOk result
+    pub charges : OnErr result
+        ((x : ProcessOf (Unit {0})) → process_of t pid.0 ≡ Some x →
+        charge t < charge (commit_pages blank t pid.0 x range prot).world)
+    pub makes : MakesPages p result g h

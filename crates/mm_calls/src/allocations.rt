@@ -1,16 +1,15 @@
-ghost use Rattle.std.specs.Prelude.{◌≡◌, ◌≤◌, ◌<◌, ◌+◌, true, is_some, min, Some, IsOk, IfOk, OnErr, option_map};
+ghost use Rattle.std.specs.Prelude.{◌≡◌, ◌≤◌, true, Some, IfOk, OnErr, option_map};
 ghost use Rattle.mm_types.specs.declared.moves.LineKind.TheVariants as line_kind;
 ghost use Rattle.mm_types.specs.declared.views.Kind.TheVariants as kind;
 ghost use Rattle.mm_world.specs.World.{ProcessOf};
 ghost use Rattle.mm_world.specs.Find.{process_of, region_around};
-ghost use Rattle.mm_world.specs.Alloc.{reserve, commit_pages};
-ghost use Rattle.mm_world.specs.Charge.{charge, limit};
+ghost use Rattle.mm_world.specs.Alloc.{reserve};
 ghost use Rattle.mm_world.specs.Contents.{blank};
 ghost use Rattle.mm_world.specs.Laws.{is_success};
 ghost use Rattle.mm_world.specs.Rows.{is_protection_among, private_protections};
 ghost use Rattle.mm_spaces.specs.Tables.{found_info};
 ghost use Rattle.mm_tables.specs.Promises.{IsReadyFor, MakesPages};
-ghost use Rattle.mm_calls.specs.CallPromises.{DecidesIn, LacksMemory};
+ghost use Rattle.mm_calls.specs.CallPromises.{DecidesIn, LacksMemory, CommitsRange};
 
 use crate::parameters::new_pages;
 use mm_pages::Pages;
@@ -49,8 +48,10 @@ pub(crate) fn reserve<G: Pages>(
     if !t.can_charge(new_pages(kind, range)) {
         return Ok(Answer::Error(Code::CommitmentLimit));
     }
-    t.reserve(allocator, g, pid, range, watched, kind, prot)?;
-    Ok(Answer::At(range.first * PAGE_SIZE))
+    match t.reserve(allocator, g, pid, range, watched, kind, prot) {
+        Ok(()) => Ok(Answer::At(range.first * PAGE_SIZE)),
+        Err(NoMemory) => Err(NoMemory),
+    }
 }
 
 /// Commits pages of a living process, in a private region or in a view, as `valloc` does.
@@ -65,14 +66,7 @@ pub fn commit<G: Pages>(
 ) -> Result<Answer, NoMemory>
     requires ready { IsReadyFor G.Pages line_kind.Call pid t.old g.old }
     requires prot { is_protection_among private_protections prot ≡ true }
-    ensures done { IfOk result (λ a. DecidesIn G.Pages pid (λ p.
-        commit_pages blank t.old pid.0 p range prot) t.old g.old a t.new g.new) }
-    ensures broke { OnErr result (LacksMemory G.Pages t.old g.old t.new g.new) }
-    ensures enough { min (charge t.old + range.count) (limit t.old) ≤ (G.store g.old).room →
-        IsOk result }
-    ensures charges { OnErr result ((p : ProcessOf (Unit {0})) → process_of t.old pid.0 ≡ Some p
-        → charge t.old < charge (commit_pages blank t.old pid.0 p range prot).world) }
-    ensures makes { MakesPages G.Pages result g.old g.new }
+    ensures { CommitsRange G.Pages pid range prot result t.old g.old t.new g.new }
 {
     let region = match t.space(pid).region_around(range) {
         Some(region) => region,
@@ -97,22 +91,17 @@ fn commit_private<G: Pages>(
     requires around { (p : ProcessOf (Unit {0})) → process_of t.old pid.0 ≡ Some p →
         option_map (λ r. r.thing.kind) (region_around p.regions range) ≡ Some kind.Private }
     requires prot { is_protection_among private_protections prot ≡ true }
-    ensures done { IfOk result (λ a. DecidesIn G.Pages pid (λ p.
-        commit_pages blank t.old pid.0 p range prot) t.old g.old a t.new g.new) }
-    ensures broke { OnErr result (LacksMemory G.Pages t.old g.old t.new g.new) }
-    ensures enough { min (charge t.old + range.count) (limit t.old) ≤ (G.store g.old).room →
-        IsOk result }
-    ensures charges { OnErr result ((p : ProcessOf (Unit {0})) → process_of t.old pid.0 ≡ Some p
-        → charge t.old < charge (commit_pages blank t.old pid.0 p range prot).world) }
-    ensures makes { MakesPages G.Pages result g.old g.new }
+    ensures { CommitsRange G.Pages pid range prot result t.old g.old t.new g.new }
 {
     t.sound();
     let n = range.count - t.space(pid).owned(range);
     if !t.can_charge(n) {
         return Ok(Answer::Error(Code::CommitmentLimit));
     }
-    t.commit(g, pid, range, prot, n)?;
-    Ok(Answer::At(range.first * PAGE_SIZE))
+    match t.commit(g, pid, range, prot, n) {
+        Ok(()) => Ok(Answer::At(range.first * PAGE_SIZE)),
+        Err(NoMemory) => Err(NoMemory),
+    }
 }
 
 /// Commits section pages under pages of the view around them, which has these pages, and gives the
@@ -134,14 +123,7 @@ fn commit_view<G: Pages>(
           kind = kind.View view;
         }) }
     requires prot { is_protection_among private_protections prot ≡ true }
-    ensures done { IfOk result (λ a. DecidesIn G.Pages pid (λ p.
-        commit_pages blank t.old pid.0 p range prot) t.old g.old a t.new g.new) }
-    ensures broke { OnErr result (LacksMemory G.Pages t.old g.old t.new g.new) }
-    ensures enough { min (charge t.old + range.count) (limit t.old) ≤ (G.store g.old).room →
-        IsOk result }
-    ensures charges { OnErr result ((p : ProcessOf (Unit {0})) → process_of t.old pid.0 ≡ Some p
-        → charge t.old < charge (commit_pages blank t.old pid.0 p range prot).world) }
-    ensures makes { MakesPages G.Pages result g.old g.new }
+    ensures { CommitsRange G.Pages pid range prot result t.old g.old t.new g.new }
 {
     t.sound();
     let area = t.area(view.area);
@@ -157,6 +139,8 @@ fn commit_view<G: Pages>(
     if !t.can_charge(n) {
         return Ok(Answer::Error(Code::CommitmentLimit));
     }
-    t.commit_view(g, pid, range, prot, n)?;
-    Ok(Answer::At(range.first * PAGE_SIZE))
+    match t.commit_view(g, pid, range, prot, n) {
+        Ok(()) => Ok(Answer::At(range.first * PAGE_SIZE)),
+        Err(NoMemory) => Err(NoMemory),
+    }
 }

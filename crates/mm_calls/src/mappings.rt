@@ -124,8 +124,10 @@ fn place_view<G: Pages>(
     if !t.can_charge(charged_pages(view.access, range.count)) {
         return Ok(Answer::Error(Code::CommitmentLimit));
     }
-    t.add_view(allocator, g, pid, range, view)?;
-    Ok(Answer::At(range.first * PAGE_SIZE))
+    match t.add_view(allocator, g, pid, range, view) {
+        Ok(()) => Ok(Answer::At(range.first * PAGE_SIZE)),
+        Err(NoMemory) => Err(NoMemory),
+    }
 }
 
 /// How many of `count` pages of a new view are charged: each page of a copy view is, from its

@@ -48,8 +48,10 @@ pub(crate) fn protect_range<G: Pages>(
     if !t.can_charge(n) {
         return Ok(Answer::Error(Code::CommitmentLimit));
     }
-    t.protect(g, pid, range, prot, n)?;
-    Ok(Answer::OldProt(asked.before))
+    match t.protect(g, pid, range, prot, n) {
+        Ok(()) => Ok(Answer::OldProt(asked.before)),
+        Err(NoMemory) => Err(NoMemory),
+    }
 }
 
 /// Whether all pages of a range are committed, of which this was asked.

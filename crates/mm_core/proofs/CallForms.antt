@@ -14,7 +14,6 @@ use Rattle.mm_types.specs.declared.numbers.Key.{Key}
 use Rattle.mm_types.specs.declared.numbers.Pid.{Pid}
 use Rattle.mm_types.specs.declared.numbers.Place.{Place}
 use Rattle.mm_types.specs.Address.{end_of_user_pages}
-use Rattle.mm_life.specs.Life.{FrameLife}
 use Rattle.mm_life.specs.Logs.{Log}
 use Rattle.mm_world.specs.World.{Page, World, KeptOf}
 use Rattle.mm_world.specs.Find.{process_of}
@@ -33,7 +32,7 @@ use Rattle.mm_pages.specs.Leaving.{Leaving, leaving, page_rank}
 use Rattle.mm_pages.specs.Housekeeping.{Makes, Goes, Turned, Turns, OneMove, Trims, Ages, Flushes}
 use Rattle.mm_pages.specs.Passing.{PassesIn, Notes, NotesIn}
 use Rattle.mm_paging.specs.Kinds.{lives, if_lives, made_process, kind_of_growth}
-use Rattle.mm_paging.specs.Lines.{Does, GivesUp, Trimming, is_uncommitted, keeps_for, with_line}
+use Rattle.mm_paging.specs.Lines.{Does, GivesUp, Trimming, keeps_for, with_line}
 use Rattle.mm_tables.specs.Fits.{Called, key_bytes, is_uncommitted as is_free}
 use Rattle.mm_calls.specs.Growing.{GrowsBy}
 use Rattle.mm_calls.specs.Stages.{flushed_keys as keys_flushed}

@@ -37,3 +37,4 @@ pub mod AccessMarks
 pub mod Promised
 pub mod Memory
 pub mod Grown
+pub mod Taken

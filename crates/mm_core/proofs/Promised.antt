@@ -1,12 +1,11 @@
 -- What a line's function ensures of tables and store is the promise of a world over them.
-use Rattle.std.proofs.Common.{◌≡◌, ◌≤◌, ◌+◌, ℕ, Bool, true, false, Option, List, [], refl, sym, subst, inl, arith}
+use Rattle.std.proofs.Common.{◌≡◌, ◌≤◌, ◌+◌, ℕ, Bool, true, false, Option, List, [], refl, sym, subst, arith}
 use Rattle.std.specs.Prelude.{Result, Ok, Err, OnOk, OnErr}
 use Rattle.mm_types.specs.declared.answers.Answer.{Answer}
 use Rattle.mm_types.specs.declared.events.Event.{Event}
 use Rattle.mm_types.specs.declared.events.Event.TheVariants as event
 use Rattle.mm_types.specs.declared.moves.Move.{Move}
 use Rattle.mm_types.specs.declared.numbers.Key.{Key}
-use Rattle.mm_life.proofs.Noting.{grew_nothing}
 use Rattle.mm_world.specs.World.{Page}
 use Rattle.mm_world.specs.Charge.{charge, limit}
 use Rattle.mm_world.specs.Contents.{Tables, world_with}

@@ -1,8 +1,7 @@
 -- Threads whose access is of a process that ends wait for nothing any more.
 -- Profile, "Accesses".
-use Rattle.std.specs.Prelude.{◌≡◌, ℕ, Bool, true, false, ◌==◌, ◌&&◌, nat_lt, if◌then◌else◌, Option, Some, None}
+use Rattle.std.specs.Prelude.{◌≡◌, ℕ, Bool, false, ◌==◌, ◌&&◌, nat_lt, if◌then◌else◌, Option, Some, None}
 use Rattle.mm_types.specs.declared.answers.Answer.{Answer}
-use Rattle.mm_types.specs.declared.answers.Answer.TheVariants as answer
 use Rattle.mm_types.specs.declared.answers.Wait.{Wait}
 use Rattle.mm_types.specs.declared.answers.Wait.TheVariants as wait
 use Rattle.mm_types.specs.declared.events.Event.{Event}

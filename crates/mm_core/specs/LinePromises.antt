@@ -1,14 +1,16 @@
 -- What the lines ask and promise of tables and store together.
-use Rattle.std.specs.Prelude.{◌≡◌, ◌≤◌, ℕ, ◌+◌, true, false}
+use Rattle.std.specs.Prelude.{◌≡◌, ◌≤◌, ℕ, ◌+◌, true, false, Result, IfOk, OnErr, IsOk}
 use Rattle.mm_types.specs.declared.answers.Answer.{Answer}
 use Rattle.mm_types.specs.declared.answers.Wait.TheVariants as wait
 use Rattle.mm_types.specs.declared.events.Event.{Event}
+use Rattle.mm_types.specs.declared.faults.NoMemory.{NoMemory}
 use Rattle.mm_script.specs.Printed.{IsWellFormed}
-use Rattle.mm_world.specs.Contents.{Tables}
+use Rattle.mm_world.specs.Contents.{Tables, blank}
 use Rattle.mm_pages.specs.declared.pages.Pages.{Ghosts as PagesGhosts}
-use Rattle.mm_core.specs.Built.{is_machine}
+use Rattle.mm_core.specs.Built.{is_machine, takes_memory}
 use Rattle.mm_core.specs.Deciding.{LineBegins}
-use Rattle.mm_core.specs.Over.{DecidedOver, HaltedOver, IdleOver, KeepsOver, MarkedOver}
+use Rattle.mm_core.specs.Forgetting.{EndsWaits}
+use Rattle.mm_core.specs.Over.{AskedBesideOver, DecidedOver, HaltedOver, IdleOver, KeepsOver, MarkedOver}
 
 module _ {G : Type 0} (p : PagesGhosts G) where
   -- the line has the next number, over a store that fits the tables
@@ -40,3 +42,13 @@ module _ {G : Type 0} (p : PagesGhosts G) where
   pub record HaltsLine (line : ℕ) (t : Tables) (g : G) (after : Tables) (h : G) : Type 0 where
     pub idle : IdleOver p t g after h
     pub halted : HaltedOver p line g h
+
+  -- it was decided, which gave this answer, or it ran out of memory, as only lines do that take it
+  pub record TakesLine {T : Type 0} (e : Event) (line : ℕ) (t : Tables) (g : G) (given : T → Answer)
+      (result : Result T NoMemory) (after : Tables) (h : G) : Type 0 where
+    pub done : IfOk result (λ v. AnswersLine e line t g (given v) after h)
+    pub broke : OnErr result (HaltsLine line t g after h)
+    pub no_memory : takes_memory blank t e ≡ false → IsOk result
+    pub waits : IfOk result (λ v. EndsWaits t e (given v) (p.store h).report)
+    pub beside : p.unpaged ≡ false → IfOk result (λ v. AskedBesideOver p t e (given v) g h)
+    pub loans : p.loans h ≡ p.loans g

@@ -1,9 +1,6 @@
-ghost use Rattle.std.specs.Prelude.{◌≡◌, false, IfOk, OnOk, OnErr, IsOk};
-ghost use Rattle.mm_world.specs.Contents.{blank};
-ghost use Rattle.mm_core.specs.Built.{is_access_line, takes_memory};
-ghost use Rattle.mm_core.specs.Forgetting.{EndsWaits};
-ghost use Rattle.mm_core.specs.LinePromises.{AnswersLine, CanDecide, HaltsLine};
-ghost use Rattle.mm_core.specs.Over.{AskedBesideOver};
+ghost use Rattle.std.specs.Prelude.{◌≡◌, false};
+ghost use Rattle.mm_core.specs.Built.{is_access_line};
+ghost use Rattle.mm_core.specs.LinePromises.{CanDecide, TakesLine};
 
 use crate::access_lines::{exec_line, read_line, write_line};
 use crate::memory_lines::{
@@ -36,14 +33,7 @@ fn decide_other<G: Pages>(
 ) -> Result<Answer, NoMemory>
     requires can { CanDecide G.Pages event.now line t.old g.old }
     requires other { is_access_line event.now ≡ false }
-    ensures done { IfOk result
-        (λ a. AnswersLine G.Pages event.now line t.old g.old a t.new g.new) }
-    ensures broke { OnErr result (HaltsLine G.Pages line t.old g.old t.new g.new) }
-    ensures no_memory { takes_memory blank t.old event.now ≡ false → IsOk result }
-    ensures waits { IfOk result (λ a. EndsWaits t.old event.now a (G.store g.new).report) }
-    ensures beside { G.unpaged ≡ false →
-        IfOk result (λ a. AskedBesideOver G.Pages t.old event.now a g.old g.new) }
-    ensures loans { G.loans g.new ≡ G.loans g.old }
+    ensures { TakesLine G.Pages event.now line t.old g.old (λ a. a) result t.new g.new }
 {
     match event {
         Event::Process { min, max } => process_line(alloc, t, g, line, *min, *max),
@@ -145,14 +135,7 @@ fn answer_other<G: Pages>(
 ) -> Result<(), NoMemory>
     requires can { CanDecide G.Pages event.now line t.old g.old }
     requires other { is_access_line event.now ≡ false }
-    ensures done { OnOk result
-        (AnswersLine G.Pages event.now line t.old g.old answer.new t.new g.new) }
-    ensures broke { OnErr result (HaltsLine G.Pages line t.old g.old t.new g.new) }
-    ensures no_memory { takes_memory blank t.old event.now ≡ false → IsOk result }
-    ensures waits { OnOk result (EndsWaits t.old event.now answer.new (G.store g.new).report) }
-    ensures beside { G.unpaged ≡ false →
-        OnOk result (AskedBesideOver G.Pages t.old event.now answer.new g.old g.new) }
-    ensures loans { G.loans g.new ≡ G.loans g.old }
+    ensures { TakesLine G.Pages event.now line t.old g.old (λ _. answer.new) result t.new g.new }
 {
     match decide_other(alloc, t, g, line, event) {
         Ok(given) => {
@@ -174,14 +157,7 @@ pub(crate) fn decide<G: Pages>(
     answer: &mut Answer,
 ) -> Result<(), NoMemory>
     requires can { CanDecide G.Pages event.now line t.old g.old }
-    ensures done { OnOk result
-        (AnswersLine G.Pages event.now line t.old g.old answer.new t.new g.new) }
-    ensures broke { OnErr result (HaltsLine G.Pages line t.old g.old t.new g.new) }
-    ensures no_memory { takes_memory blank t.old event.now ≡ false → IsOk result }
-    ensures waits { OnOk result (EndsWaits t.old event.now answer.new (G.store g.new).report) }
-    ensures beside { G.unpaged ≡ false →
-        OnOk result (AskedBesideOver G.Pages t.old event.now answer.new g.old g.new) }
-    ensures loans { G.loans g.new ≡ G.loans g.old }
+    ensures { TakesLine G.Pages event.now line t.old g.old (λ _. answer.new) result t.new g.new }
 {
     match event {
         Event::Read { pid, addr, len } => {

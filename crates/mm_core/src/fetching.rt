@@ -141,9 +141,13 @@ fn copy<G: Pages>(
     ensures copied { Copied G.Pages (place_at pid (page_of addr)) row.key result t.new g.old
         g.new }
 {
-    g.copy(place_of(pid, addr), row.key, own_key_of(pid, addr))?;
-    t.copy_page(pid, addr / PAGE_SIZE);
-    Ok(())
+    match g.copy(place_of(pid, addr), row.key, own_key_of(pid, addr)) {
+        Ok(()) => {
+            t.copy_page(pid, addr / PAGE_SIZE);
+            Ok(())
+        }
+        Err(fault) => Err(fault),
+    }
 }
 
 /// Writes bytes from an address on to a copy of its page, which is the page's own from then on.

@@ -16,8 +16,8 @@ use std::alloc::Global;
 
 /// A machine's address spaces over a store of their pages.
 ///
-/// After `NoMemory` it is spent: nothing is to be asked of it but its charge and its store.
-#[derive(Drop)]
+/// After `NoMemory` it is spent: nothing is to be asked of it but its charge and its store. It is
+/// not let go, but given up for its store (`finish`).
 pub struct World<G: Pages> {
     tables: Tables,
     /// The store of the pages.
@@ -55,10 +55,11 @@ impl<G: Pages> World<G> {
         ensures { result ≡ self.pages }
     {
         let World {
-            tables: _,
+            tables,
             pages,
             spent: _,
         } = self;
+        tables.end();
         pages
     }
 

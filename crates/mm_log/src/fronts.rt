@@ -1,6 +1,6 @@
 ghost use Rattle.std.specs.Prelude.{◌≡◌, ◌∷◌, ◌++◌, IfSome, codes};
 ghost use Rattle.mm_types.specs.Spelling.{decimal};
-ghost use Rattle.mm_life.specs.MoveText.{place_onto, key_onto};
+ghost use Rattle.mm_life.specs.MoveText.{place_onto, key_onto, stored_onto};
 ghost use Rattle.mm_log.specs.InFront.{StandsInFront, KindInFront};
 
 use mm_types::{Area, Block, Frame, Key, LineKind, Move, Pid, Place, Slot, Stored, Vpn};
@@ -74,20 +74,30 @@ fn place(text: &[u8]) -> Option<(Place, &[u8])>
 }
 
 #[inline(always)]
+fn private_key(text: &[u8]) -> Option<(Key, &[u8])>
+    ensures { IfSome result (λ p. key_onto p.0 p.1.now ≡ codes "p" ++ text.now) }
+{
+    let (pid, rest) = pid(text)?;
+    let (vpn, rest) = number_behind(b'.', rest)?;
+    Some((Key::Private(pid, Vpn(vpn)), rest))
+}
+
+#[inline(always)]
+fn shared_key(text: &[u8]) -> Option<(Key, &[u8])>
+    ensures { IfSome result (λ p. key_onto p.0 p.1.now ≡ codes "s" ++ text.now) }
+{
+    let (area, rest) = number(text)?;
+    let (index, rest) = number_behind(b'.', rest)?;
+    Some((Key::Shared(Area(area), index), rest))
+}
+
+#[inline(always)]
 fn key(text: &[u8]) -> Option<(Key, &[u8])>
     ensures { IfSome result (λ p. key_onto p.0 p.1.now ≡ text.now) }
 {
     match text {
-        [b'p', rest @ ..] => {
-            let (pid, rest) = pid(rest)?;
-            let (vpn, rest) = number_behind(b'.', rest)?;
-            Some((Key::Private(pid, Vpn(vpn)), rest))
-        }
-        [b's', rest @ ..] => {
-            let (area, rest) = number(rest)?;
-            let (index, rest) = number_behind(b'.', rest)?;
-            Some((Key::Shared(Area(area), index), rest))
-        }
+        [b'p', rest @ ..] => private_key(rest),
+        [b's', rest @ ..] => shared_key(rest),
         _ => None,
     }
 }
@@ -103,13 +113,22 @@ fn end(text: &[u8]) -> Option<&[u8]>
     }
 }
 
+/// The number in front of a text and a line feed, and what stands after them.
+#[inline(always)]
+fn last_number(text: &[u8]) -> Option<(u32, &[u8])>
+    ensures { IfSome result (λ p. decimal p.0 ++ 10 ∷ p.1.now ≡ text.now) }
+{
+    let (number, rest) = number(text)?;
+    let rest = end(rest)?;
+    Some((number, rest))
+}
+
 /// The number of a frame, and what stands after its line feed.
 #[inline(always)]
 fn last_frame(text: &[u8]) -> Option<(Frame, &[u8])>
     ensures { IfSome result (λ p. decimal p.0.0 ++ 10 ∷ p.1.now ≡ text.now) }
 {
-    let (frame, rest) = number(text)?;
-    let rest = end(rest)?;
+    let (frame, rest) = last_number(text)?;
     Some((Frame(frame), rest))
 }
 
@@ -119,14 +138,35 @@ fn frame_and_key(text: &[u8]) -> Option<(Frame, Key, &[u8])>
     ensures { IfSome result (λ p. decimal p.0.0 ++ 32 ∷ key_onto p.1 (10 ∷ p.2.now) ≡ text.now) }
 {
     let (frame, rest) = number(text)?;
-    match rest {
-        [b' ', rest @ ..] => {
-            let (key, rest) = key(rest)?;
-            let rest = end(rest)?;
-            Some((Frame(frame), key, rest))
-        }
+    let rest = behind(rest, b" ")?;
+    let (key, rest) = key(rest)?;
+    let rest = end(rest)?;
+    Some((Frame(frame), key, rest))
+}
+
+/// What stands after some words in front of a text. The first byte is compared apart, since most
+/// calls end there.
+#[inline(always)]
+fn behind<'a>(text: &'a [u8], words: &[u8]) -> Option<&'a [u8]>
+    ensures { IfSome result (λ rest. words.now ++ rest.now ≡ text.now) }
+{
+    let [first, others @ ..] = words else {
+        return None;
+    };
+    match text {
+        [byte, rest @ ..] if *byte == *first => rest.strip_prefix(others),
         _ => None,
     }
+}
+
+/// The process and the line feed of a kind's line, and what stands after them.
+#[inline(always)]
+fn last_pid(text: &[u8]) -> Option<(Pid, &[u8])>
+    ensures { IfSome result (λ p. decimal p.0.0 ++ 10 ∷ p.1.now ≡ text.now) }
+{
+    let (pid, rest) = pid(text)?;
+    let rest = end(rest)?;
+    Some((pid, rest))
 }
 
 /// The kind of a line by its words, and what stands after the line feed; the rare ones are left
@@ -135,22 +175,24 @@ fn frame_and_key(text: &[u8]) -> Option<(Frame, Key, &[u8])>
 fn kind(text: &[u8]) -> Option<(LineKind, &[u8])>
     ensures { IfSome result (λ p. KindInFront p.0 p.1.now text.now) }
 {
-    match text {
-        [b'a', b'c', b'c', b'e', b's', b's', b' ', rest @ ..] => {
-            let (pid, rest) = pid(rest)?;
-            let rest = end(rest)?;
-            Some((LineKind::Access(pid), rest))
-        }
-        [b't', b'h', b'r', b'e', b'a', b'd', b' ', rest @ ..] => {
-            let (pid, rest) = pid(rest)?;
-            let rest = end(rest)?;
-            Some((LineKind::Thread(pid), rest))
-        }
-        [b'i', b'o', b'\n', rest @ ..] => Some((LineKind::Io, rest)),
-        [b'w', b'r', b'i', b't', b'e', b'r', b'\n', rest @ ..] => Some((LineKind::Writer, rest)),
-        [b'c', b'a', b'l', b'l', b'\n', rest @ ..] => Some((LineKind::Call, rest)),
-        _ => None,
+    if let Some(rest) = behind(text, b"access ") {
+        let (pid, rest) = last_pid(rest)?;
+        return Some((LineKind::Access(pid), rest));
     }
+    if let Some(rest) = behind(text, b"thread ") {
+        let (pid, rest) = last_pid(rest)?;
+        return Some((LineKind::Thread(pid), rest));
+    }
+    if let Some(rest) = behind(text, b"io\n") {
+        return Some((LineKind::Io, rest));
+    }
+    if let Some(rest) = behind(text, b"writer\n") {
+        return Some((LineKind::Writer, rest));
+    }
+    if let Some(rest) = behind(text, b"call\n") {
+        return Some((LineKind::Call, rest));
+    }
+    None
 }
 
 #[inline(always)]
@@ -158,14 +200,10 @@ fn at_move<'a>(text: &'a [u8], m: &mut Move) -> Option<&'a [u8]>
     ensures { IfSome result (λ rest. StandsInFront m.new rest.now (codes "at " ++ text.now)) }
 {
     let (line, rest) = number(text)?;
-    match rest {
-        [b' ', rest @ ..] => {
-            let (kind, rest) = kind(rest)?;
-            *m = Move::At(line, kind);
-            Some(rest)
-        }
-        _ => None,
-    }
+    let rest = behind(rest, b" ")?;
+    let (kind, rest) = kind(rest)?;
+    *m = Move::At(line, kind);
+    Some(rest)
 }
 
 #[inline(always)]
@@ -173,14 +211,24 @@ fn map_move<'a>(text: &'a [u8], m: &mut Move) -> Option<&'a [u8]>
     ensures { IfSome result (λ rest. StandsInFront m.new rest.now (codes "map " ++ text.now)) }
 {
     let (frame, rest) = number(text)?;
-    match rest {
-        [b' ', rest @ ..] => {
-            let (place, rest) = place(rest)?;
-            *m = Move::Map(Frame(frame), place);
-            end(rest)
-        }
-        _ => None,
+    let rest = behind(rest, b" ")?;
+    let (place, rest) = place(rest)?;
+    *m = Move::Map(Frame(frame), place);
+    end(rest)
+}
+
+/// Where a page is written to.
+#[inline(always)]
+fn stored(text: &[u8]) -> Option<(Stored, &[u8])>
+    ensures { IfSome result (λ p. stored_onto p.0 (10 ∷ p.1.now) ≡ text.now) }
+{
+    if let Some(rest) = behind(text, b" slot ") {
+        let (slot, rest) = last_number(rest)?;
+        return Some((Stored::Slot(Slot(slot)), rest));
     }
+    let rest = behind(text, b" block ")?;
+    let (block, rest) = last_number(rest)?;
+    Some((Stored::Block(Block(block)), rest))
 }
 
 #[inline(always)]
@@ -188,19 +236,9 @@ fn write_move<'a>(text: &'a [u8], m: &mut Move) -> Option<&'a [u8]>
     ensures { IfSome result (λ rest. StandsInFront m.new rest.now (codes "write " ++ text.now)) }
 {
     let (frame, rest) = number(text)?;
-    match rest {
-        [b' ', b's', b'l', b'o', b't', b' ', rest @ ..] => {
-            let (slot, rest) = number(rest)?;
-            *m = Move::Write(Frame(frame), Stored::Slot(Slot(slot)));
-            end(rest)
-        }
-        [b' ', b'b', b'l', b'o', b'c', b'k', b' ', rest @ ..] => {
-            let (block, rest) = number(rest)?;
-            *m = Move::Write(Frame(frame), Stored::Block(Block(block)));
-            end(rest)
-        }
-        _ => None,
-    }
+    let (stored, rest) = stored(rest)?;
+    *m = Move::Write(Frame(frame), stored);
+    Some(rest)
 }
 
 /// A page of zeros.
@@ -209,13 +247,9 @@ fn add_move<'a>(text: &'a [u8], m: &mut Move) -> Option<&'a [u8]>
     ensures { IfSome result (λ rest. StandsInFront m.new rest.now (codes "add " ++ text.now)) }
 {
     let (key, rest) = key(text)?;
-    match rest {
-        [b' ', b'z', b'e', b'r', b'o', b'\n', rest @ ..] => {
-            *m = Move::Add(key, None);
-            Some(rest)
-        }
-        _ => None,
-    }
+    let rest = behind(rest, b" zero\n")?;
+    *m = Move::Add(key, None);
+    Some(rest)
 }
 
 /// The rest of the moves that a page makes.
@@ -223,36 +257,36 @@ fn add_move<'a>(text: &'a [u8], m: &mut Move) -> Option<&'a [u8]>
 fn other_move<'a>(text: &'a [u8], m: &mut Move) -> Option<&'a [u8]>
     ensures { IfSome result (λ rest. StandsInFront m.new rest.now text.now) }
 {
-    match text {
-        [b'g', b'o', b't', b' ', rest @ ..] => {
-            let (frame, rest) = last_frame(rest)?;
-            *m = Move::Got(frame);
-            Some(rest)
-        }
-        [b'w', b'r', b'i', b't', b'e', b' ', rest @ ..] => write_move(rest, m),
-        [b'w', b'r', b'o', b't', b'e', b' ', rest @ ..] => {
-            let (frame, rest) = last_frame(rest)?;
-            *m = Move::Wrote(frame);
-            Some(rest)
-        }
-        [b's', b'o', b'i', b'l', b' ', rest @ ..] => {
-            let (frame, rest) = last_frame(rest)?;
-            *m = Move::Soil(frame);
-            Some(rest)
-        }
-        [b'c', b'l', b'e', b'a', b'r', b' ', rest @ ..] => {
-            let (frame, rest) = last_frame(rest)?;
-            *m = Move::Clear(frame);
-            Some(rest)
-        }
-        [b'a', b'd', b'd', b' ', rest @ ..] => add_move(rest, m),
-        [b'g', b'i', b'v', b'e', b' ', rest @ ..] => {
-            let (frame, key, rest) = frame_and_key(rest)?;
-            *m = Move::Give(frame, key);
-            Some(rest)
-        }
-        _ => None,
+    if let Some(rest) = behind(text, b"got ") {
+        let (frame, rest) = last_frame(rest)?;
+        *m = Move::Got(frame);
+        return Some(rest);
     }
+    if let Some(rest) = behind(text, b"write ") {
+        return write_move(rest, m);
+    }
+    if let Some(rest) = behind(text, b"wrote ") {
+        let (frame, rest) = last_frame(rest)?;
+        *m = Move::Wrote(frame);
+        return Some(rest);
+    }
+    if let Some(rest) = behind(text, b"soil ") {
+        let (frame, rest) = last_frame(rest)?;
+        *m = Move::Soil(frame);
+        return Some(rest);
+    }
+    if let Some(rest) = behind(text, b"clear ") {
+        let (frame, rest) = last_frame(rest)?;
+        *m = Move::Clear(frame);
+        return Some(rest);
+    }
+    if let Some(rest) = behind(text, b"add ") {
+        return add_move(rest, m);
+    }
+    let rest = behind(text, b"give ")?;
+    let (frame, key, rest) = frame_and_key(rest)?;
+    *m = Move::Give(frame, key);
+    Some(rest)
 }
 
 /// Reads the move whose line stands in front of a text, and answers what stands after the line.
@@ -261,24 +295,26 @@ fn other_move<'a>(text: &'a [u8], m: &mut Move) -> Option<&'a [u8]>
 pub(crate) fn front_move<'a>(text: &'a [u8], m: &mut Move) -> Option<&'a [u8]>
     ensures { IfSome result (λ rest. StandsInFront m.new rest.now text.now) }
 {
-    match text {
-        [b'a', b't', b' ', rest @ ..] => at_move(rest, m),
-        [b'm', b'a', b'p', b' ', rest @ ..] => map_move(rest, m),
-        [b'u', b'n', b'm', b'a', b'p', b' ', rest @ ..] => {
-            let (place, rest) = place(rest)?;
-            *m = Move::Unmap(place);
-            end(rest)
-        }
-        [b's', b't', b'e', b'a', b'l', b' ', rest @ ..] => {
-            let (frame, rest) = last_frame(rest)?;
-            *m = Move::Steal(frame);
-            Some(rest)
-        }
-        [b'r', b'e', b'a', b'd', b' ', rest @ ..] => {
-            let (frame, key, rest) = frame_and_key(rest)?;
-            *m = Move::Read(frame, key);
-            Some(rest)
-        }
-        _ => other_move(text, m),
+    if let Some(rest) = behind(text, b"at ") {
+        return at_move(rest, m);
     }
+    if let Some(rest) = behind(text, b"map ") {
+        return map_move(rest, m);
+    }
+    if let Some(rest) = behind(text, b"unmap ") {
+        let (place, rest) = place(rest)?;
+        *m = Move::Unmap(place);
+        return end(rest);
+    }
+    if let Some(rest) = behind(text, b"steal ") {
+        let (frame, rest) = last_frame(rest)?;
+        *m = Move::Steal(frame);
+        return Some(rest);
+    }
+    if let Some(rest) = behind(text, b"read ") {
+        let (frame, key, rest) = frame_and_key(rest)?;
+        *m = Move::Read(frame, key);
+        return Some(rest);
+    }
+    other_move(text, m)
 }

@@ -1,2 +1,4 @@
+mod Fronts
 pub mod Growing
+mod Table
 pub mod Written

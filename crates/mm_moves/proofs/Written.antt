@@ -96,7 +96,7 @@ front_then_four n old high low =
     append_assoc old (decimal (n / 10 / 10 / 10 / 10)) (glyph (n / 10 / 10 / 10 % 10) ∷ glyph (n / 10 / 10 % 10) ∷ glyph (n / 10 % 10) ∷ glyph (n % 10) ∷ [])
     ∙ ap (λ t. old ++ t) (sym (decimal_pieces n high low))
 
--- two, three and four digits
+-- two and three digits
 pub decimal_two : (n : ℕ) → 10 ≤ n → n < 100 → decimal n ≡ glyph (n / 10) ∷ glyph (n % 10) ∷ []
 decimal_two n high low =
     decimal_more n high (omega arith) ∙ ap (λ t. t ++ glyph (n % 10) ∷ []) (decimal_one (n / 10) (omega arith))
@@ -104,10 +104,6 @@ decimal_two n high low =
 pub decimal_three : (n : ℕ) → 100 ≤ n → n < 1000 → decimal n ≡ glyph (n / 10 / 10) ∷ glyph (n / 10 % 10) ∷ glyph (n % 10) ∷ []
 decimal_three n high low =
     decimal_more n (omega arith) (omega arith) ∙ ap (λ t. t ++ glyph (n % 10) ∷ []) (decimal_two (n / 10) (omega arith) (omega arith))
-
-pub decimal_four : (n : ℕ) → 1000 ≤ n → n < 10000 → decimal n ≡ glyph (n / 10 / 10 / 10) ∷ glyph (n / 10 / 10 % 10) ∷ glyph (n / 10 % 10) ∷ glyph (n % 10) ∷ []
-decimal_four n high low =
-    decimal_more n (omega arith) (omega arith) ∙ ap (λ t. t ++ glyph (n % 10) ∷ []) (decimal_three (n / 10) (omega arith) (omega arith))
 
 -- the digits by pairs
 pub three_by_pair : (n : ℕ) → 100 ≤ n → n < 1000 → decimal n ≡ glyph (n / 100) ∷ glyph (n % 100 / 10) ∷ glyph (n % 100 % 10) ∷ []
@@ -119,18 +115,6 @@ three_by_pair n high low =
     ∙ ap (λ x. glyph x ∷ glyph (n / 10 % 10) ∷ glyph (n % 10) ∷ []) a
     ∙ ap (λ x. glyph (n / 100) ∷ glyph x ∷ glyph (n % 10) ∷ []) b
     ∙ ap (λ x. glyph (n / 100) ∷ glyph (n % 100 / 10) ∷ glyph x ∷ []) c
-
-pub four_by_pairs : (n : ℕ) → 1000 ≤ n → n < 10000 → decimal n ≡ glyph (n / 100 / 10) ∷ glyph (n / 100 % 10) ∷ glyph (n % 100 / 10) ∷ glyph (n % 100 % 10) ∷ []
-four_by_pairs n high low =
-    let a : n / 10 / 10 / 10 ≡ n / 100 / 10 = omega arith in
-    let b : n / 10 / 10 % 10 ≡ n / 100 % 10 = omega arith in
-    let c : n / 10 % 10 ≡ n % 100 / 10 = omega arith in
-    let d : n % 10 ≡ n % 100 % 10 = omega arith in
-    decimal_four n high low
-    ∙ ap (λ x. glyph x ∷ glyph (n / 10 / 10 % 10) ∷ glyph (n / 10 % 10) ∷ glyph (n % 10) ∷ []) a
-    ∙ ap (λ x. glyph (n / 100 / 10) ∷ glyph x ∷ glyph (n / 10 % 10) ∷ glyph (n % 10) ∷ []) b
-    ∙ ap (λ x. glyph (n / 100 / 10) ∷ glyph (n / 100 % 10) ∷ glyph x ∷ glyph (n % 10) ∷ []) c
-    ∙ ap (λ x. glyph (n / 100 / 10) ∷ glyph (n / 100 % 10) ∷ glyph (n % 100 / 10) ∷ glyph x ∷ []) d
 
 pub front_then_pair : (n : ℕ) (old : Text) → 100 ≤ n → n < 2 ^ 32 → (old ++ decimal (n / 100)) ++ glyph (n % 100 / 10) ∷ glyph (n % 100 % 10) ∷ [] ≡ old ++ decimal n
 front_then_pair n old high low =
@@ -157,4 +141,4 @@ front_then_pairs n old high low =
     ∙ ap (λ x. front ++ glyph (n / 10 / 10 / 10 % 10) ∷ glyph (n / 10 / 10 % 10) ∷ glyph (n / 10 % 10) ∷ glyph x ∷ []) d
     ∙ front_then_four n old high low
 
-pub ruleset written = (decimal_one, decimal_two, three_by_pair, four_by_pairs, front_then_pair, front_then_pairs, length-append)
+pub ruleset written = (front_then_pair, append_assoc, length-append)

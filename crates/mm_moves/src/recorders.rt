@@ -5,9 +5,8 @@ ghost use Rattle.mm_life.specs.Logs.{Log, Grew, Flushed};
 ghost use Rattle.mm_life.specs.MoveText.{spelling_of_move, IsMove};
 ghost use Rattle.mm_moves.specs.Recorded.{FailsExactly, WroteOrCut};
 
-use crate::spell;
+use crate::spellings::{EMPTY, Line, put_line};
 use mm_io::Sink;
-use mm_text::LineBuf;
 use mm_types::{Failed, Move};
 
 /// Takes note of moves, one after another.
@@ -42,9 +41,9 @@ pub trait Moves {
 #[derive(Drop)]
 pub struct Recorder<'a, K: Sink> {
     sink: &'a mut K,
-    failed: bool,
     /// Room for the line of a move. It is kept, since a new one would be cleared for each move.
-    line: LineBuf,
+    line: Line,
+    failed: bool,
 }
 
 /// Writes a line. Where a call of the sink fails, the front that it took is not all of the line:
@@ -74,8 +73,8 @@ impl<'a, K: Sink> Recorder<'a, K> {
     {
         Recorder {
             sink,
+            line: EMPTY,
             failed: false,
-            line: LineBuf::new(),
         }
     }
 
@@ -86,8 +85,8 @@ impl<'a, K: Sink> Recorder<'a, K> {
     {
         let Recorder {
             sink,
-            failed: _,
             line: _,
+            failed: _,
         } = self;
         sink
     }
@@ -98,12 +97,12 @@ impl<'a, K: Sink> Moves for Recorder<'a, K> {
 
     ghost loans = { λ r. Loan r.sink.ghost_name };
 
+    #[inline(always)] // where it is called the move is known, and then nothing asks which it is
     #[tactic(auto, using(crate::proofs::Growing::growing))]
     fn note(&mut self, m: Move) {
-        self.line.clear();
-        spell(&m, &mut self.line);
+        let end = put_line(&mut self.line, &m);
         if !self.failed {
-            match write_line(self.sink, self.line.as_slice()) {
+            match write_line(self.sink, &self.line[..end]) {
                 Ok(()) => {}
                 Err(Failed) => self.failed = true,
             }

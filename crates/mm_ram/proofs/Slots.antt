@@ -1,4 +1,4 @@
--- The places of frames and their kinds, as one is written, cleared or emptied.
+-- The places of frames and their contents, as one is written, cleared or emptied.
 use Rattle.std.proofs.Common.{◌≡◌, ℕ, zero, suc, ◌+◌, ◌-◌, ◌<◌, ◌≤◌, Bool, true, false, List, [], ◌∷◌, ◌++◌, length, get_or, set, map, take, drop, replicate, Option, Some, None, refl, sym, ap, ◌∙◌, subst, inl, inr, arith, length-set, get_or-set_same, get_or-set_other, length-append, length-drop}
 use Rattle.std.specs.Prelude.{IsSome, unwrap_or}
 use Rattle.std.proofs.Math.ListN.{get_or-map}
@@ -6,8 +6,8 @@ use Rattle.std.proofs.Math.Seq.{map-set_same}
 use Rattle.std.proofs.lemmas.List.{ext_get_or, get_or_read, set-get_or, length-map, map-set, length-replicate, get_or_past, length-take-le}
 use Rattle.mm_types.proofs.Cells.{same_or_not}
 use Rattle.mm_ram.specs.Ram.{page_at, bytes_of, overwritten, zero_page}
-use Rattle.mm_ram.specs.declared.kinds.Kind.{Kind}
-use Rattle.mm_ram.specs.declared.kinds.Kind.TheVariants as kind
+use Rattle.mm_ram.specs.declared.contents.Contents.{Contents}
+use Rattle.mm_ram.specs.declared.contents.Contents.TheVariants as contains
 use Rattle.mm_ram.specs.Places.{IsFilled}
 use Rattle.mm_ram.specs.Frames.{is_filled, has_bytes, zeroed, backed, shows, shown, ArePlaces, IsRam}
 use Rattle.mm_types.specs.Address.{page_size}
@@ -24,92 +24,92 @@ some_if : (o : Option (List ℕ)) → IsSome o → (x : List ℕ) × (o ≡ Some
 some_if None s = let bad : false ≡ true = s in cc
 some_if (Some x) s = (x, refl)
 
-abbrev pub kind_at : List Kind → ℕ → Kind
-kind_at kinds i = get_or kinds i kind.Unwritten
+abbrev pub contents_at : List Contents → ℕ → Contents
+contents_at contents i = get_or contents i contains.Unwritten
 
--- what a kind says of its place
-module _ (places : List (Option (List ℕ))) (kinds : List Kind) (filled : map has_bytes kinds ≡ map is_filled places) where
-  kind_is : (i : ℕ) → has_bytes (kind_at kinds i) ≡ is_filled (page_at places i)
-  kind_is i = sym (get_or-map has_bytes kinds i kind.Unwritten) ∙ ap (λ (w : List Bool). get_or w i false) filled ∙ get_or-map is_filled places i None
+-- what the contents say of a place
+module _ (places : List (Option (List ℕ))) (contents : List Contents) (filled : map has_bytes contents ≡ map is_filled places) where
+  contents_is : (i : ℕ) → has_bytes (contents_at contents i) ≡ is_filled (page_at places i)
+  contents_is i = sym (get_or-map has_bytes contents i contains.Unwritten) ∙ ap (λ (w : List Bool). get_or w i false) filled ∙ get_or-map is_filled places i None
 
-  pub as_long : length kinds ≡ length places
-  as_long = sym (length-map kinds has_bytes) ∙ ap length filled ∙ length-map places is_filled
+  pub as_long : length contents ≡ length places
+  as_long = sym (length-map contents has_bytes) ∙ ap length filled ∙ length-map places is_filled
 
-  pub filled_at : (i : ℕ) → has_bytes (kind_at kinds i) ≡ true → IsFilled places i
-  filled_at i e = filled_if (page_at places i) (sym (kind_is i) ∙ e)
+  pub filled_at : (i : ℕ) → has_bytes (contents_at contents i) ≡ true → IsFilled places i
+  filled_at i e = filled_if (page_at places i) (sym (contents_is i) ∙ e)
 
-  pub empty_at : (i : ℕ) → has_bytes (kind_at kinds i) ≡ false → page_at places i ≡ None
-  empty_at i e = none_if (page_at places i) (sym (kind_is i) ∙ e)
+  pub empty_at : (i : ℕ) → has_bytes (contents_at contents i) ≡ false → page_at places i ≡ None
+  empty_at i e = none_if (page_at places i) (sym (contents_is i) ∙ e)
 
 -- what the frames show
-length-shown : (kinds : List Kind) (places : List (Option (List ℕ))) → length kinds ≡ length places → length (shown kinds places) ≡ length places
+length-shown : (contents : List Contents) (places : List (Option (List ℕ))) → length contents ≡ length places → length (shown contents places) ≡ length places
 length-shown [] [] e = refl
 length-shown [] (p ∷ places) e = absurd (omega arith)
-length-shown (k ∷ kinds) [] e = refl
-length-shown (k ∷ kinds) (p ∷ places) e = ap suc (length-shown kinds places (omega arith))
+length-shown (k ∷ contents) [] e = refl
+length-shown (k ∷ contents) (p ∷ places) e = ap suc (length-shown contents places (omega arith))
 
-shown_at : (kinds : List Kind) (places : List (Option (List ℕ))) (i : ℕ) → length kinds ≡ length places → page_at (shown kinds places) i ≡ shows (kind_at kinds i) (page_at places i)
+shown_at : (contents : List Contents) (places : List (Option (List ℕ))) (i : ℕ) → length contents ≡ length places → page_at (shown contents places) i ≡ shows (contents_at contents i) (page_at places i)
 shown_at [] places i e = refl
-shown_at (k ∷ kinds) [] i e = absurd (omega arith)
-shown_at (k ∷ kinds) (p ∷ places) zero e = refl
-shown_at (k ∷ kinds) (p ∷ places) (suc i) e = shown_at kinds places i (omega arith)
+shown_at (k ∷ contents) [] i e = absurd (omega arith)
+shown_at (k ∷ contents) (p ∷ places) zero e = refl
+shown_at (k ∷ contents) (p ∷ places) (suc i) e = shown_at contents places i (omega arith)
 
-shown_both : (kinds : List Kind) (places : List (Option (List ℕ))) (i : ℕ) (k : Kind) (p : Option (List ℕ)) → shown (set kinds i k) (set places i p) ≡ set (shown kinds places) i (shows k p)
+shown_both : (contents : List Contents) (places : List (Option (List ℕ))) (i : ℕ) (k : Contents) (p : Option (List ℕ)) → shown (set contents i k) (set places i p) ≡ set (shown contents places) i (shows k p)
 shown_both [] places i k p = refl
-shown_both (l ∷ kinds) [] zero k p = refl
-shown_both (l ∷ kinds) [] (suc i) k p = refl
-shown_both (l ∷ kinds) (q ∷ places) zero k p = refl
-shown_both (l ∷ kinds) (q ∷ places) (suc i) k p = ap (λ (s : List (Option (List ℕ))). shows l q ∷ s) (shown_both kinds places i k p)
+shown_both (l ∷ contents) [] zero k p = refl
+shown_both (l ∷ contents) [] (suc i) k p = refl
+shown_both (l ∷ contents) (q ∷ places) zero k p = refl
+shown_both (l ∷ contents) (q ∷ places) (suc i) k p = ap (λ (s : List (Option (List ℕ))). shows l q ∷ s) (shown_both contents places i k p)
 
-shown_kind : (kinds : List Kind) (places : List (Option (List ℕ))) (i : ℕ) (k : Kind) → shown (set kinds i k) places ≡ set (shown kinds places) i (shows k (page_at places i))
-shown_kind [] places i k = refl
-shown_kind (l ∷ kinds) [] zero k = refl
-shown_kind (l ∷ kinds) [] (suc i) k = refl
-shown_kind (l ∷ kinds) (q ∷ places) zero k = refl
-shown_kind (l ∷ kinds) (q ∷ places) (suc i) k = ap (λ (s : List (Option (List ℕ))). shows l q ∷ s) (shown_kind kinds places i k)
+shown_contents : (contents : List Contents) (places : List (Option (List ℕ))) (i : ℕ) (k : Contents) → shown (set contents i k) places ≡ set (shown contents places) i (shows k (page_at places i))
+shown_contents [] places i k = refl
+shown_contents (l ∷ contents) [] zero k = refl
+shown_contents (l ∷ contents) [] (suc i) k = refl
+shown_contents (l ∷ contents) (q ∷ places) zero k = refl
+shown_contents (l ∷ contents) (q ∷ places) (suc i) k = ap (λ (s : List (Option (List ℕ))). shows l q ∷ s) (shown_contents contents places i k)
 
-shown_place : (kinds : List Kind) (places : List (Option (List ℕ))) (i : ℕ) (p : Option (List ℕ)) → kind_at kinds i ≡ kind.Bytes → shown kinds (set places i p) ≡ set (shown kinds places) i p
+shown_place : (contents : List Contents) (places : List (Option (List ℕ))) (i : ℕ) (p : Option (List ℕ)) → contents_at contents i ≡ contains.Bytes → shown contents (set places i p) ≡ set (shown contents places) i p
 shown_place [] places i p e = refl
-shown_place (k ∷ kinds) [] i p e = refl
-shown_place (k ∷ kinds) (q ∷ places) zero p e = ap (λ (l : Kind). shows l p ∷ shown kinds places) e
-shown_place (k ∷ kinds) (q ∷ places) (suc i) p e = ap (λ (s : List (Option (List ℕ))). shows k q ∷ s) (shown_place kinds places i p e)
+shown_place (k ∷ contents) [] i p e = refl
+shown_place (k ∷ contents) (q ∷ places) zero p e = ap (λ (l : Contents). shows l p ∷ shown contents places) e
+shown_place (k ∷ contents) (q ∷ places) (suc i) p e = ap (λ (s : List (Option (List ℕ))). shows k q ∷ s) (shown_place contents places i p e)
 
-zeroed_shows : (k : Kind) (p : Option (List ℕ)) → shows (zeroed k) p ≡ Some zero_page
-zeroed_shows kind.Unwritten p = refl
-zeroed_shows kind.Zeros p = refl
-zeroed_shows kind.ZerosOver p = refl
-zeroed_shows kind.Bytes p = refl
-zeroed_shows kind.Hidden p = refl
+zeroed_shows : (k : Contents) (p : Option (List ℕ)) → shows (zeroed k) p ≡ Some zero_page
+zeroed_shows contains.Unwritten p = refl
+zeroed_shows contains.Zeros p = refl
+zeroed_shows contains.ZerosOver p = refl
+zeroed_shows contains.Bytes p = refl
+zeroed_shows contains.Hidden p = refl
 
-zeroed_has : (k : Kind) → has_bytes (zeroed k) ≡ has_bytes k
-zeroed_has kind.Unwritten = refl
-zeroed_has kind.Zeros = refl
-zeroed_has kind.ZerosOver = refl
-zeroed_has kind.Bytes = refl
-zeroed_has kind.Hidden = refl
+zeroed_has : (k : Contents) → has_bytes (zeroed k) ≡ has_bytes k
+zeroed_has contains.Unwritten = refl
+zeroed_has contains.Zeros = refl
+zeroed_has contains.ZerosOver = refl
+zeroed_has contains.Bytes = refl
+zeroed_has contains.Hidden = refl
 
 -- a frame that shows something, and not what its place holds, shows zeros
-shows_zeros : (k : Kind) (p : Option (List ℕ)) → IsSome (shows k p) → (k ≡ kind.Bytes → ⊥) → shows k p ≡ Some zero_page
-shows_zeros kind.Unwritten p s n = let bad : false ≡ true = s in cc
-shows_zeros kind.Zeros p s n = refl
-shows_zeros kind.ZerosOver p s n = refl
-shows_zeros kind.Bytes p s n = absurd (n refl)
-shows_zeros kind.Hidden p s n = let bad : false ≡ true = s in cc
+shows_zeros : (k : Contents) (p : Option (List ℕ)) → IsSome (shows k p) → (k ≡ contains.Bytes → ⊥) → shows k p ≡ Some zero_page
+shows_zeros contains.Unwritten p s n = let bad : false ≡ true = s in cc
+shows_zeros contains.Zeros p s n = refl
+shows_zeros contains.ZerosOver p s n = refl
+shows_zeros contains.Bytes p s n = absurd (n refl)
+shows_zeros contains.Hidden p s n = let bad : false ≡ true = s in cc
 
-backed_has : (k : Kind) → has_bytes (backed k) ≡ true
-backed_has kind.Unwritten = refl
-backed_has kind.Zeros = refl
-backed_has kind.ZerosOver = refl
-backed_has kind.Bytes = refl
-backed_has kind.Hidden = refl
+backed_has : (k : Contents) → has_bytes (backed k) ≡ true
+backed_has contains.Unwritten = refl
+backed_has contains.Zeros = refl
+backed_has contains.ZerosOver = refl
+backed_has contains.Bytes = refl
+backed_has contains.Hidden = refl
 
 -- over a place that was empty and has zeros now, the frame shows the same
-backed_shows : (k : Kind) → has_bytes k ≡ false → (p : Option (List ℕ)) → shows (backed k) p ≡ shows k None
-backed_shows kind.Unwritten e p = refl
-backed_shows kind.Zeros e p = refl
-backed_shows kind.ZerosOver e p = cc
-backed_shows kind.Bytes e p = cc
-backed_shows kind.Hidden e p = cc
+backed_shows : (k : Contents) → has_bytes k ≡ false → (p : Option (List ℕ)) → shows (backed k) p ≡ shows k None
+backed_shows contains.Unwritten e p = refl
+backed_shows contains.Zeros e p = refl
+backed_shows contains.ZerosOver e p = cc
+backed_shows contains.Bytes e p = cc
+backed_shows contains.Hidden e p = cc
 
 -- a place that holds a page is one of the row's
 filled_low : (slots : List (Option (List ℕ))) (i : ℕ) (x : List ℕ) → page_at slots i ≡ Some x → i < length slots
@@ -127,57 +127,57 @@ zeros_long = length-replicate {A = ℕ} page_size 0
 zero_long : (page : List ℕ) → Some zero_page ≡ Some page → length page ≡ page_size
 zero_long page e = let is : zero_page ≡ page = cc in ap length (sym is) ∙ zeros_long
 
-shows_whole : (k : Kind) (place : Option (List ℕ)) → ((page : List ℕ) → place ≡ Some page → length page ≡ page_size) → (page : List ℕ) → shows k place ≡ Some page → length page ≡ page_size
-shows_whole kind.Unwritten place whole page e = cc
-shows_whole kind.Zeros place whole page e = zero_long page e
-shows_whole kind.ZerosOver place whole page e = zero_long page e
-shows_whole kind.Bytes place whole page e = whole page e
-shows_whole kind.Hidden place whole page e = cc
+shows_whole : (k : Contents) (place : Option (List ℕ)) → ((page : List ℕ) → place ≡ Some page → length page ≡ page_size) → (page : List ℕ) → shows k place ≡ Some page → length page ≡ page_size
+shows_whole contains.Unwritten place whole page e = cc
+shows_whole contains.Zeros place whole page e = zero_long page e
+shows_whole contains.ZerosOver place whole page e = zero_long page e
+shows_whole contains.Bytes place whole page e = whole page e
+shows_whole contains.Hidden place whole page e = cc
 
--- what contracts see: the pages that the kinds show over the places
-pub record Seen (places : List (Option (List ℕ))) (kinds : List Kind) (ram : List (Option (List ℕ))) : Type 0 where
-  pub filled : map has_bytes kinds ≡ map is_filled places
-  pub view : shown kinds places ≡ ram
+-- what contracts see: the pages that the contents show over the places
+pub record Seen (places : List (Option (List ℕ))) (contents : List Contents) (ram : List (Option (List ℕ))) : Type 0 where
+  pub filled : map has_bytes contents ≡ map is_filled places
+  pub view : shown contents places ≡ ram
 
-module _ {places : List (Option (List ℕ))} {kinds : List Kind} {ram : List (Option (List ℕ))} (s : Seen places kinds ram) (f : ℕ) where
-  frame_is : page_at ram f ≡ shows (kind_at kinds f) (page_at places f)
-  frame_is = ap (λ (q : List (Option (List ℕ))). page_at q f) (sym s.view) ∙ shown_at kinds places f (as_long places kinds s.filled)
+module _ {places : List (Option (List ℕ))} {contents : List Contents} {ram : List (Option (List ℕ))} (s : Seen places contents ram) (f : ℕ) where
+  frame_is : page_at ram f ≡ shows (contents_at contents f) (page_at places f)
+  frame_is = ap (λ (q : List (Option (List ℕ))). page_at q f) (sym s.view) ∙ shown_at contents places f (as_long places contents s.filled)
 
   pub frame_low : f < length ram → f < length places
-  frame_low h = omega (arith, h, ap length s.view, length-shown kinds places (as_long places kinds s.filled))
+  frame_low h = omega (arith, h, ap length s.view, length-shown contents places (as_long places contents s.filled))
 
-  pub kind_low : f < length ram → f < length kinds
-  kind_low h = omega (arith, frame_low h, as_long places kinds s.filled)
+  pub contents_low : f < length ram → f < length contents
+  contents_low h = omega (arith, frame_low h, as_long places contents s.filled)
 
   pub some_low : IsSome (page_at ram f) → f < length ram
   some_low some = let x = some_if (page_at ram f) some in filled_low ram f x.0 x.1
 
-  pub kind_read : f < length ram → (k : Kind) → k ≡ get_or kinds f k → k ≡ kind_at kinds f
-  kind_read h k e = get_or_read kinds f k (kind_low h) e kind.Unwritten
+  pub contents_read : f < length ram → (k : Contents) → k ≡ get_or contents f k → k ≡ contents_at contents f
+  contents_read h k e = get_or_read contents f k (contents_low h) e contains.Unwritten
 
-  pub own_filled : kind_at kinds f ≡ kind.Bytes → IsFilled places f
-  own_filled e = filled_at places kinds s.filled f (ap has_bytes e)
+  pub own_filled : contents_at contents f ≡ contains.Bytes → IsFilled places f
+  own_filled e = filled_at places contents s.filled f (ap has_bytes e)
 
-  pub own_is : kind_at kinds f ≡ kind.Bytes → (x : List ℕ) → page_at places f ≡ Some x → bytes_of ram f ≡ x
-  own_is e x p = ap (λ (o : Option (List ℕ)). unwrap_or o []) (frame_is ∙ ap (λ (k : Kind). shows k (page_at places f)) e ∙ p)
+  pub own_is : contents_at contents f ≡ contains.Bytes → (x : List ℕ) → page_at places f ≡ Some x → bytes_of ram f ≡ x
+  own_is e x p = ap (λ (o : Option (List ℕ)). unwrap_or o []) (frame_is ∙ ap (λ (k : Contents). shows k (page_at places f)) e ∙ p)
 
-  pub zeros_are : IsSome (page_at ram f) → (kind_at kinds f ≡ kind.Bytes → ⊥) → bytes_of ram f ≡ zero_page
+  pub zeros_are : IsSome (page_at ram f) → (contents_at contents f ≡ contains.Bytes → ⊥) → bytes_of ram f ≡ zero_page
   zeros_are some n =
       ap (λ (o : Option (List ℕ)). unwrap_or o [])
-      (frame_is ∙ shows_zeros (kind_at kinds f) (page_at places f) (subst (λ (o : Option (List ℕ)). IsSome o) frame_is some) n)
+      (frame_is ∙ shows_zeros (contents_at contents f) (page_at places f) (subst (λ (o : Option (List ℕ)). IsSome o) frame_is some) n)
 
   -- what is seen once the frame has bytes in its place, once these change, and once it shows zeros
-  pub seen_filled : (x : List ℕ) (places' : List (Option (List ℕ))) (kinds' : List Kind) → places' ≡ set places f (Some x) → kinds' ≡ set kinds f kind.Bytes → shown kinds' places' ≡ set ram f (Some x)
-  seen_filled x places' kinds' p k = ap (λ (q : List (Option (List ℕ))). shown kinds' q) p ∙ ap (λ (q : List Kind). shown q (set places f (Some x))) k ∙ shown_both kinds places f kind.Bytes (Some x) ∙ ap (λ (q : List (Option (List ℕ))). set q f (Some x)) s.view
+  pub seen_filled : (x : List ℕ) (places' : List (Option (List ℕ))) (contents' : List Contents) → places' ≡ set places f (Some x) → contents' ≡ set contents f contains.Bytes → shown contents' places' ≡ set ram f (Some x)
+  seen_filled x places' contents' p k = ap (λ (q : List (Option (List ℕ))). shown contents' q) p ∙ ap (λ (q : List Contents). shown q (set places f (Some x))) k ∙ shown_both contents places f contains.Bytes (Some x) ∙ ap (λ (q : List (Option (List ℕ))). set q f (Some x)) s.view
 
-  pub seen_rewritten : kind_at kinds f ≡ kind.Bytes → (x : List ℕ) → shown kinds (set places f (Some x)) ≡ set ram f (Some x)
-  seen_rewritten e x = shown_place kinds places f (Some x) e ∙ ap (λ (q : List (Option (List ℕ))). set q f (Some x)) s.view
+  pub seen_rewritten : contents_at contents f ≡ contains.Bytes → (x : List ℕ) → shown contents (set places f (Some x)) ≡ set ram f (Some x)
+  seen_rewritten e x = shown_place contents places f (Some x) e ∙ ap (λ (q : List (Option (List ℕ))). set q f (Some x)) s.view
 
-  pub seen_zeroed : (k : Kind) → shown (set kinds f (zeroed k)) places ≡ set ram f (Some zero_page)
-  seen_zeroed k = shown_kind kinds places f (zeroed k) ∙ ap (λ (o : Option (List ℕ)). set (shown kinds places) f o) (zeroed_shows k (page_at places f)) ∙ ap (λ (q : List (Option (List ℕ))). set q f (Some zero_page)) s.view
+  pub seen_zeroed : (k : Contents) → shown (set contents f (zeroed k)) places ≡ set ram f (Some zero_page)
+  seen_zeroed k = shown_contents contents places f (zeroed k) ∙ ap (λ (o : Option (List ℕ)). set (shown contents places) f o) (zeroed_shows k (page_at places f)) ∙ ap (λ (q : List (Option (List ℕ))). set q f (Some zero_page)) s.view
 
-pub seen_whole : {places : List (Option (List ℕ))} {kinds : List Kind} {ram : List (Option (List ℕ))} → Seen places kinds ram → ((f : ℕ) (page : List ℕ) → page_at places f ≡ Some page → length page ≡ page_size) → (f : ℕ) (page : List ℕ) → page_at ram f ≡ Some page → length page ≡ page_size
-seen_whole {places} {kinds} {ram} s whole f page e = shows_whole (kind_at kinds f) (page_at places f) (whole f) page (sym (frame_is s f) ∙ e)
+pub seen_whole : {places : List (Option (List ℕ))} {contents : List Contents} {ram : List (Option (List ℕ))} → Seen places contents ram → ((f : ℕ) (page : List ℕ) → page_at places f ≡ Some page → length page ≡ page_size) → (f : ℕ) (page : List ℕ) → page_at ram f ≡ Some page → length page ≡ page_size
+seen_whole {places} {contents} {ram} s whole f page e = shows_whole (contents_at contents f) (page_at places f) (whole f) page (sym (frame_is s f) ∙ e)
 
 module _ (slots : List (Option (List ℕ))) (f : ℕ) (x : List ℕ) (whole : (j : ℕ) (page : List ℕ) → page_at slots j ≡ Some page → length page ≡ page_size) (there : f < length slots) (long : length x ≡ page_size) where
   whole_after : (j : ℕ) (page : List ℕ) → page_at (set slots f (Some x)) j ≡ Some page → length page ≡ page_size
@@ -191,39 +191,39 @@ module _ (slots : List (Option (List ℕ))) (f : ℕ) (x : List ℕ) (whole : (j
 
 -- the places, once that of a frame has bytes of its own, once these change, and once the frame
 -- shows something else over its place
-module _ (places : List (Option (List ℕ))) (kinds : List Kind) (r : ArePlaces places kinds) (f : ℕ) where
-  places_filled : (k : Kind) (x : List ℕ) → has_bytes k ≡ true → f < length places → length x ≡ page_size → ArePlaces (set places f (Some x)) (set kinds f k)
+module _ (places : List (Option (List ℕ))) (contents : List Contents) (r : ArePlaces places contents) (f : ℕ) where
+  places_filled : (k : Contents) (x : List ℕ) → has_bytes k ≡ true → f < length places → length x ≡ page_size → ArePlaces (set places f (Some x)) (set contents f k)
   places_filled k x e there long = record {
-    filled = map-set has_bytes kinds f k ∙ ap (λ (b : Bool). set (map has_bytes kinds) f b) e ∙ ap (λ (w : List Bool). set w f true) r.filled ∙ sym (map-set is_filled places f (Some x));
+    filled = map-set has_bytes contents f k ∙ ap (λ (b : Bool). set (map has_bytes contents) f b) e ∙ ap (λ (w : List Bool). set w f true) r.filled ∙ sym (map-set is_filled places f (Some x));
     whole = whole_after places f x r.whole there long;
   }
 
-  places_rewritten : (x y : List ℕ) → f < length places → length x ≡ page_size → page_at places f ≡ Some y → ArePlaces (set places f (Some x)) kinds
+  places_rewritten : (x y : List ℕ) → f < length places → length x ≡ page_size → page_at places f ≡ Some y → ArePlaces (set places f (Some x)) contents
   places_rewritten x y there long e = record {
     filled = r.filled ∙ sym (map-set_same is_filled places f (Some x) None (sym (ap is_filled e)));
     whole = whole_after places f x r.whole there long;
   }
 
-  places_zeroed : ArePlaces places (set kinds f (zeroed (kind_at kinds f)))
+  places_zeroed : ArePlaces places (set contents f (zeroed (contents_at contents f)))
   places_zeroed = record {
-    filled = map-set_same has_bytes kinds f (zeroed (kind_at kinds f)) kind.Unwritten (zeroed_has (kind_at kinds f)) ∙ r.filled;
+    filled = map-set_same has_bytes contents f (zeroed (contents_at contents f)) contains.Unwritten (zeroed_has (contents_at contents f)) ∙ r.filled;
     whole = r.whole;
   }
 
   -- an empty place is given zeros
-  pub places_backed : f < length places → ArePlaces (set places f (Some zero_page)) (set kinds f (backed (kind_at kinds f)))
-  places_backed there = places_filled (backed (kind_at kinds f)) zero_page (backed_has (kind_at kinds f)) there zeros_long
+  pub places_backed : f < length places → ArePlaces (set places f (Some zero_page)) (set contents f (backed (contents_at contents f)))
+  places_backed there = places_filled (backed (contents_at contents f)) zero_page (backed_has (contents_at contents f)) there zeros_long
 
-  pub shown_backed : has_bytes (kind_at kinds f) ≡ false → shown (set kinds f (backed (kind_at kinds f))) (set places f (Some zero_page)) ≡ shown kinds places
+  pub shown_backed : has_bytes (contents_at contents f) ≡ false → shown (set contents f (backed (contents_at contents f))) (set places f (Some zero_page)) ≡ shown contents places
   shown_backed e =
-      let long = as_long places kinds r.filled in
-      let shows_same = backed_shows (kind_at kinds f) e (Some zero_page) ∙ ap (shows (kind_at kinds f)) (sym (empty_at places kinds r.filled f e)) ∙ sym (shown_at kinds places f long) in
-      shown_both kinds places f (backed (kind_at kinds f)) (Some zero_page) ∙ ap (λ (o : Option (List ℕ)). set (shown kinds places) f o) shows_same ∙ set-get_or (shown kinds places) f None
+      let long = as_long places contents r.filled in
+      let shows_same = backed_shows (contents_at contents f) e (Some zero_page) ∙ ap (shows (contents_at contents f)) (sym (empty_at places contents r.filled f e)) ∙ sym (shown_at contents places f long) in
+      shown_both contents places f (backed (contents_at contents f)) (Some zero_page) ∙ ap (λ (o : Option (List ℕ)). set (shown contents places) f o) shows_same ∙ set-get_or (shown contents places) f None
 
-module _ {P A : Type 0} {base begins deed_begins : P} {held : ℕ} {owner alloc : A} {places : List (Option (List ℕ))} {kinds : List Kind} (r : IsRam base begins deed_begins held owner alloc places kinds) where
+module _ {P A : Type 0} {base begins deed_begins : P} {held : ℕ} {owner alloc : A} {places : List (Option (List ℕ))} {contents : List Contents} (r : IsRam base begins deed_begins held owner alloc places contents) where
   -- the fields, over places that are as many
-  pub ram_over : (begins' : P) (places' : List (Option (List ℕ))) (kinds' : List Kind) → begins' ≡ begins → length places' ≡ length places → ArePlaces places' kinds' → IsRam base begins' deed_begins held owner alloc places' kinds'
-  ram_over begins' places' kinds' e long kept = record {
+  pub ram_over : (begins' : P) (places' : List (Option (List ℕ))) (contents' : List Contents) → begins' ≡ begins → length places' ≡ length places → ArePlaces places' contents' → IsRam base begins' deed_begins held owner alloc places' contents'
+  ram_over begins' places' contents' e long kept = record {
     at = e ∙ r.at;
     deed_at = r.deed_at;
     deed_len = r.deed_len ∙ sym long;
@@ -231,26 +231,26 @@ module _ {P A : Type 0} {base begins deed_begins : P} {held : ℕ} {owner alloc 
     kept = kept;
   }
 
-  pub ram_put : (f : ℕ) (x : List ℕ) → f < length places → length x ≡ page_size → (begins' : P) (places' : List (Option (List ℕ))) (kinds' : List Kind) → begins' ≡ begins → places' ≡ set places f (Some x) → kinds' ≡ set kinds f kind.Bytes → IsRam base begins' deed_begins held owner alloc places' kinds'
-  ram_put f x there long begins' places' kinds' e p k =
-      ram_over begins' places' kinds' e (ap length p ∙ length-set places f (Some x))
-      (subst (λ (q : List (Option (List ℕ))). ArePlaces q kinds') (sym p)
-      (subst (λ (q : List Kind). ArePlaces (set places f (Some x)) q) (sym k) (places_filled places kinds r.kept f kind.Bytes x refl there long)))
+  pub ram_put : (f : ℕ) (x : List ℕ) → f < length places → length x ≡ page_size → (begins' : P) (places' : List (Option (List ℕ))) (contents' : List Contents) → begins' ≡ begins → places' ≡ set places f (Some x) → contents' ≡ set contents f contains.Bytes → IsRam base begins' deed_begins held owner alloc places' contents'
+  ram_put f x there long begins' places' contents' e p k =
+      ram_over begins' places' contents' e (ap length p ∙ length-set places f (Some x))
+      (subst (λ (q : List (Option (List ℕ))). ArePlaces q contents') (sym p)
+      (subst (λ (q : List Contents). ArePlaces (set places f (Some x)) q) (sym k) (places_filled places contents r.kept f contains.Bytes x refl there long)))
 
-  pub ram_rewritten : (f : ℕ) (x y : List ℕ) → length x ≡ page_size → page_at places f ≡ Some y → IsRam base begins deed_begins held owner alloc (set places f (Some x)) kinds
-  ram_rewritten f x y long e = ram_over begins (set places f (Some x)) kinds refl (length-set places f (Some x)) (places_rewritten places kinds r.kept f x y (filled_low places f y e) long e)
+  pub ram_rewritten : (f : ℕ) (x y : List ℕ) → length x ≡ page_size → page_at places f ≡ Some y → IsRam base begins deed_begins held owner alloc (set places f (Some x)) contents
+  ram_rewritten f x y long e = ram_over begins (set places f (Some x)) contents refl (length-set places f (Some x)) (places_rewritten places contents r.kept f x y (filled_low places f y e) long e)
 
-  pub ram_zeroed : (f : ℕ) → IsRam base begins deed_begins held owner alloc places (set kinds f (zeroed (kind_at kinds f)))
-  ram_zeroed f = ram_over begins places (set kinds f (zeroed (kind_at kinds f))) refl refl (places_zeroed places kinds r.kept f)
+  pub ram_zeroed : (f : ℕ) → IsRam base begins deed_begins held owner alloc places (set contents f (zeroed (contents_at contents f)))
+  ram_zeroed f = ram_over begins places (set contents f (zeroed (contents_at contents f))) refl refl (places_zeroed places contents r.kept f)
 
-pub seen : {P A : Type 0} {base begins deed_begins : P} {held : ℕ} {owner alloc : A} {places : List (Option (List ℕ))} {kinds : List Kind} → IsRam base begins deed_begins held owner alloc places kinds → {ram : List (Option (List ℕ))} → shown kinds places ≡ ram → Seen places kinds ram
+pub seen : {P A : Type 0} {base begins deed_begins : P} {held : ℕ} {owner alloc : A} {places : List (Option (List ℕ))} {contents : List Contents} → IsRam base begins deed_begins held owner alloc places contents → {ram : List (Option (List ℕ))} → shown contents places ≡ ram → Seen places contents ram
 seen r e = record { filled = r.kept.filled; view = e }
 
-none_filled : (n : ℕ) → map has_bytes (replicate n kind.Unwritten) ≡ map is_filled (replicate n None)
+none_filled : (n : ℕ) → map has_bytes (replicate n contains.Unwritten) ≡ map is_filled (replicate n None)
 none_filled zero = refl
 none_filled (suc n) = ap (λ (w : List Bool). false ∷ w) (none_filled n)
 
-pub none_shown : (n : ℕ) → shown (replicate n kind.Unwritten) (replicate n None) ≡ replicate n None
+pub none_shown : (n : ℕ) → shown (replicate n contains.Unwritten) (replicate n None) ≡ replicate n None
 none_shown zero = refl
 none_shown (suc n) = ap (λ (s : List (Option (List ℕ))). None ∷ s) (none_shown n)
 
@@ -294,14 +294,14 @@ module _ (old slots : List (Option (List ℕ))) (i : ℕ) (s : Emptied old slots
     kept = λ k h. s.kept k (omega (arith, h));
   }
 
-pub ram_new : {P A : Type 0} (base begins deed_begins : P) (held : ℕ) (owner alloc : A) (places : List (Option (List ℕ))) (kinds : List Kind) (n : ℕ) → begins ≡ base → places ≡ replicate n None → deed_begins ≡ base → held ≡ n → owner ≡ alloc → kinds ≡ replicate n kind.Unwritten → IsRam base begins deed_begins held owner alloc places kinds
-ram_new base begins deed_begins held owner alloc places kinds n e f g h i j = record {
+pub ram_new : {P A : Type 0} (base begins deed_begins : P) (held : ℕ) (owner alloc : A) (places : List (Option (List ℕ))) (contents : List Contents) (n : ℕ) → begins ≡ base → places ≡ replicate n None → deed_begins ≡ base → held ≡ n → owner ≡ alloc → contents ≡ replicate n contains.Unwritten → IsRam base begins deed_begins held owner alloc places contents
+ram_new base begins deed_begins held owner alloc places contents n e f g h i j = record {
   at = e;
   deed_at = g;
   deed_len = h ∙ sym (ap length f ∙ long_nones n None);
   deed_alloc = i;
   kept = record {
-    filled = ap (λ (k : List Kind). map has_bytes k) j ∙ none_filled n ∙ sym (ap (λ (s : List (Option (List ℕ))). map is_filled s) f);
+    filled = ap (λ (k : List Contents). map has_bytes k) j ∙ none_filled n ∙ sym (ap (λ (s : List (Option (List ℕ))). map is_filled s) f);
     whole = λ k page p. let bad : None ≡ Some page = sym (ap (λ (s : List (Option (List ℕ))). page_at s k) f ∙ page_of_none n k) ∙ p in cc;
   };
 }

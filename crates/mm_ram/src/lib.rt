@@ -4,12 +4,12 @@
 #![tactic(auto)]
 
 mod cells;
-mod kinds;
+mod contents;
 mod ram;
 
 // A crate can name `Ram` in a contract only if the types of its fields are exported.
 #[doc(hidden)]
 pub use cells::{Base, Cells, Deed};
 #[doc(hidden)]
-pub use kinds::Kind;
+pub use contents::Contents;
 pub use ram::Ram;

@@ -1,12 +1,12 @@
 ghost use Rattle.std.specs.Prelude.{◌≡◌, ◌≢◌, ℕ, List, ◌+◌, ◌<◌, ◌≤◌, length, replicate, Some, None, IfOk, OnOk, OnErr, IsSome, is_ok, map, slice_get, slice_set};
-ghost use Rattle.mm_ram.specs.declared.kinds.Kind.TheVariants as kind;
+ghost use Rattle.mm_ram.specs.declared.contents.Contents.TheVariants as contains;
 ghost use Rattle.mm_blocks.specs.Reads.{WasRead};
 ghost use Rattle.mm_ram.specs.Frames.{ArePlaces, has_bytes, is_filled, shown};
 ghost use Rattle.mm_ram.specs.Places.{IsFilled};
 ghost use Rattle.mm_ram.specs.Ram.{page_at, bytes_of, bytes_from, overwritten, with_page, zero_page};
 ghost use Rattle.mm_types.specs.Address.{page_size};
 
-use crate::Kind;
+use crate::Contents;
 use crate::cells::{Base, Cells, Deed, allocate, deallocate};
 use mm_blocks::Inject;
 use mm_types::{Failed, Frame, NoMemory};
@@ -24,7 +24,7 @@ pub struct Ram {
     base: Base<[u8; 4096]>,
     cells: Cells<[u8; 4096]>,
     deed: Deed<[u8; 4096], Global>,
-    kinds: Vec<Kind>,
+    contents: Vec<Contents>,
     alloc: Global,
 }
 
@@ -34,16 +34,16 @@ impl Model for Ram {
 
     ghost Value = { List (Option (List ℕ)) };
 
-    ghost view = { λ r. shown r.kinds.items r.cells.slots };
+    ghost view = { λ r. shown r.contents.items r.cells.slots };
 
     ghost invariant = { λ r. IsRam r.base.ptr r.cells.at r.deed.at r.deed.len r.deed.alloc
-        r.alloc r.cells.slots r.kinds.items };
+        r.alloc r.cells.slots r.contents.items };
 }
 
-fn unwritten(alloc: Global, n: usize) -> Result<Vec<Kind>, NoMemory>
-    ensures { IfOk result (λ v. v.items ≡ replicate n kind.Unwritten) }
+fn unwritten(alloc: Global, n: usize) -> Result<Vec<Contents>, NoMemory>
+    ensures { IfOk result (λ v. v.items ≡ replicate n contains.Unwritten) }
 {
-    Ok(vec![in alloc; Kind::Unwritten; n]?)
+    Ok(vec![in alloc; Contents::Unwritten; n]?)
 }
 
 /// Reads bytes from a place on.
@@ -68,40 +68,45 @@ fn put_bytes(page: &mut [u8], at: usize, new: &[u8])
 fn put_page(
     base: Base<[u8; 4096]>,
     cells: &mut Cells<[u8; 4096]>,
-    kinds: &mut Vec<Kind>,
+    contents: &mut Vec<Contents>,
     i: usize,
     bytes: &[u8; 4096],
 )
     requires at { base.ptr ≡ cells.old.at }
     requires there { i < length cells.old.slots }
-    requires filled { map has_bytes kinds.old.items ≡ map is_filled cells.old.slots }
+    requires filled { map has_bytes contents.old.items ≡ map is_filled cells.old.slots }
     ensures at { cells.new.at ≡ cells.old.at }
     ensures slots { cells.new.slots ≡ slice_set cells.old.slots i (Some bytes.now) }
-    ensures kinds { kinds.new.items ≡ slice_set kinds.old.items i kind.Bytes }
+    ensures contents { contents.new.items ≡ slice_set contents.old.items i contains.Bytes }
 {
-    if kinds[i].has_bytes() {
+    if contents[i].has_bytes() {
         *cells.get_mut(base, i) = *bytes;
     } else {
         cells.write(base, i, *bytes);
     }
-    kinds[i] = Kind::Bytes;
+    contents[i] = Contents::Bytes;
 }
 
 /// A frame's place has bytes that can be lent, and all frames show the same as before.
-fn back(base: Base<[u8; 4096]>, cells: &mut Cells<[u8; 4096]>, kinds: &mut Vec<Kind>, i: usize)
+fn fill_place(
+    base: Base<[u8; 4096]>,
+    cells: &mut Cells<[u8; 4096]>,
+    contents: &mut Vec<Contents>,
+    i: usize,
+)
     requires at { base.ptr ≡ cells.old.at }
     requires low { i < length cells.old.slots }
-    requires kept { ArePlaces cells.old.slots kinds.old.items }
+    requires kept { ArePlaces cells.old.slots contents.old.items }
     ensures at { cells.new.at ≡ cells.old.at }
     ensures long { length cells.new.slots ≡ length cells.old.slots }
-    ensures kept { ArePlaces cells.new.slots kinds.new.items }
-    ensures same { shown kinds.new.items cells.new.slots ≡ shown kinds.old.items cells.old.slots }
+    ensures kept { ArePlaces cells.new.slots contents.new.items }
+    ensures same { shown contents.new.items cells.new.slots ≡ shown contents.old.items cells.old.slots }
     ensures there { IsFilled cells.new.slots i }
 {
-    let kind = kinds[i];
-    if !kind.has_bytes() {
+    let was = contents[i];
+    if !was.has_bytes() {
         cells.write(base, i, ZEROS_FIRST[0]);
-        kinds[i] = kind.backed();
+        contents[i] = was.backed();
     }
 }
 
@@ -122,13 +127,13 @@ impl Ram {
         ensures { IfOk result (λ r. r ≡ replicate frames None) }
     {
         let frames = frames as usize;
-        let kinds = unwritten(alloc, frames)?;
+        let contents = unwritten(alloc, frames)?;
         let (base, cells, deed) = allocate(&alloc, frames)?;
         Ok(Ram {
             base,
             cells,
             deed,
-            kinds,
+            contents,
             alloc,
         })
     }
@@ -139,7 +144,7 @@ impl Ram {
         ensures { self.new ≡ with_page self.old f.0 zero_page }
     {
         let i = f.0 as usize;
-        self.kinds[i] = self.kinds[i].zeroed();
+        self.contents[i] = self.contents[i].zeroed();
     }
 
     /// The frame holds these bytes.
@@ -150,7 +155,7 @@ impl Ram {
         put_page(
             self.base,
             &mut self.cells,
-            &mut self.kinds,
+            &mut self.contents,
             f.0 as usize,
             bytes,
         );
@@ -172,9 +177,9 @@ impl Ram {
         ensures read { WasRead D.Inject block (is_ok result) device.old device.new }
     {
         let i = f.0 as usize;
-        back(self.base, &mut self.cells, &mut self.kinds, i);
+        fill_place(self.base, &mut self.cells, &mut self.contents, i);
         read_page(device, block, self.cells.get_mut(self.base, i))?;
-        self.kinds[i] = Kind::Bytes;
+        self.contents[i] = Contents::Bytes;
         Ok(())
     }
 
@@ -186,7 +191,7 @@ impl Ram {
         ensures { self.new ≡ with_page self.old to.0 (bytes_of self.old from.0) }
     {
         let i = from.0 as usize;
-        if let Kind::Bytes = self.kinds[i] {
+        if let Contents::Bytes = self.contents[i] {
             let page = *self.cells.get(self.base, i);
             self.fill(to, &page);
         } else {
@@ -213,13 +218,13 @@ impl Ram {
     {
         let i = f.0 as usize;
         let off = off as usize;
-        if let Kind::Bytes = self.kinds[i] {
+        if let Contents::Bytes = self.contents[i] {
             put_bytes(self.cells.get_mut(self.base, i), off, bytes);
         } else {
             put_page(
                 self.base,
                 &mut self.cells,
-                &mut self.kinds,
+                &mut self.contents,
                 i,
                 &ZEROS_FIRST[0],
             );
@@ -233,7 +238,7 @@ impl Ram {
         ensures { result.now ≡ bytes_of self.now f.0 }
     {
         let i = f.0 as usize;
-        if let Kind::Bytes = self.kinds[i] {
+        if let Contents::Bytes = self.contents[i] {
             self.cells.get(self.base, i)
         } else {
             &ZEROS_FIRST[0]
@@ -245,19 +250,19 @@ impl Ram {
         ensures { (f : ℕ) (page : List ℕ) → page_at self.now f ≡ Some page →
             length page ≡ page_size }
     {
-        let _ = &self.kinds;
+        let _ = &self.contents;
     }
 }
 
 /// Empties each place that has bytes, so that the block may be given back.
-fn empty(base: Base<[u8; 4096]>, cells: &mut Cells<[u8; 4096]>, kinds: &[Kind])
+fn empty(base: Base<[u8; 4096]>, cells: &mut Cells<[u8; 4096]>, contents: &[Contents])
     requires at { base.ptr ≡ cells.old.at }
-    requires filled { map has_bytes kinds.now ≡ map is_filled cells.old.slots }
+    requires filled { map has_bytes contents.now ≡ map is_filled cells.old.slots }
     ensures at { cells.new.at ≡ cells.old.at }
-    ensures slots { cells.new.slots ≡ replicate (length kinds.now) None }
+    ensures slots { cells.new.slots ≡ replicate (length contents.now) None }
 {
-    for i in 0..kinds.len() {
-        if kinds[i].has_bytes() {
+    for i in 0..contents.len() {
+        if contents[i].has_bytes() {
             let _ = cells.read(base, i);
         }
     }
@@ -269,10 +274,10 @@ impl Drop for Ram {
             base,
             mut cells,
             deed,
-            kinds,
+            contents,
             alloc,
         } = self;
-        empty(base, &mut cells, &kinds);
-        deallocate(&alloc, base, kinds.len(), cells, deed);
+        empty(base, &mut cells, &contents);
+        deallocate(&alloc, base, contents.len(), cells, deed);
     }
 }

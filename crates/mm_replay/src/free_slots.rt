@@ -4,6 +4,7 @@ ghost use Rattle.mm_life.specs.Effect.{freed};
 ghost use Rattle.mm_slots.specs.Slots.{free_count};
 ghost use Rattle.mm_replay.specs.Slotted.{no_slots, IsLowestIn, without_slot};
 
+use crate::values::put;
 use mm_slots::Slots;
 use mm_types::{NoMemory, Slot};
 use std::alloc::Global;
@@ -87,9 +88,8 @@ impl SlotTree {
         match &mut self.slots {
             Some(slots) => slots.reserve(n),
             None => {
-                let mut slots = Slots::new(alloc, 0)?;
-                slots.reserve(n)?;
-                self.slots = Some(slots);
+                let slots = with_room(alloc, n)?;
+                put(&mut self.slots, Some(slots));
                 Ok(())
             }
         }
@@ -106,6 +106,16 @@ impl SlotTree {
             None => {}
         }
     }
+}
+
+/// No slot, and the memory for `n` further ones.
+fn with_room(alloc: Global, n: u32) -> Result<Slots, NoMemory>
+    ensures none { IfOk result (λ s. s.free ≡ []) }
+    ensures room { IfOk result (λ s. n ≤ s.spare) }
+{
+    let mut slots = Slots::new(alloc, 0)?;
+    slots.reserve(n)?;
+    Ok(slots)
 }
 
 /// For each slot whether it is free.

@@ -9,7 +9,7 @@ use std::alloc::Global;
 use std::marker::Model;
 
 /// What is known of a live key: its frame or its home, and whether it was added with `zero`.
-#[derive(Clone, Copy, PartialEq, Eq, Debug)]
+#[derive(Clone, Copy)]
 pub(crate) struct Alive {
     pub(crate) held: Held,
     pub(crate) paging: bool,

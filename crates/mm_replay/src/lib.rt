@@ -17,6 +17,7 @@ mod readings;
 mod records;
 mod states;
 mod tables;
+mod values;
 
 pub use four_lists::FrameList;
 pub use lives::{ApplyFault, Life};

@@ -13,16 +13,10 @@ use crate::holdings::{BlockSet, Keys, Places};
 use crate::in_flight::InFlight;
 use crate::records::{is_read, slot_after_read, slot_after_soil, slot_after_wrote, slot_of};
 use crate::tables::Table;
+use crate::values::put;
 use mm_life::ResidentSet;
 use mm_types::{Backing, Block, Frame, Held, Key, LineKind, Move, NoMemory, Pid, Place, Stored};
 use std::alloc::Global;
-
-/// A place has this value from now on.
-fn put<T: Drop>(place: &mut T, value: T)
-    ensures { place.new ≡ value }
-{
-    *place = value;
-}
 
 /// The state of a replay.
 #[derive(Drop)]

@@ -2,8 +2,10 @@ ghost use Rattle.std.specs.Prelude.{◌≡◌, length, bytes_eq, codes};
 ghost use Rattle.mm_script.specs.Keywords.{keyword_of, keyword_among};
 ghost use Rattle.mm_script.specs.Sorted.{keywords_of_length, four_letter_keywords, five_letter_keywords, six_letter_keywords, other_keywords};
 
+use crate::values::is_text;
+
 /// The first word of a line.
-#[derive(Clone, Copy, PartialEq, Eq, Debug)]
+#[derive(Clone, Copy)]
 pub enum Keyword {
     Machine,
     Process,
@@ -94,31 +96,31 @@ fn by_length(word: &[u8]) -> Option<Keyword>
 fn four_letters(word: &[u8]) -> Option<Keyword>
     ensures { result ≡ keyword_among four_letter_keywords word.now }
 {
-    if word == b"read".as_slice() {
+    if is_text(word, b"read") {
         return Some(Keyword::Read);
     }
-    if word == b"exit".as_slice() {
+    if is_text(word, b"exit") {
         return Some(Keyword::Exit);
     }
-    if word == b"file".as_slice() {
+    if is_text(word, b"file") {
         return Some(Keyword::File);
     }
-    if word == b"free".as_slice() {
+    if is_text(word, b"free") {
         return Some(Keyword::Free);
     }
-    if word == b"open".as_slice() {
+    if is_text(word, b"open") {
         return Some(Keyword::Open);
     }
-    if word == b"exec".as_slice() {
+    if is_text(word, b"exec") {
         return Some(Keyword::Exec);
     }
-    if word == b"trim".as_slice() {
+    if is_text(word, b"trim") {
         return Some(Keyword::Trim);
     }
-    if word == b"fail".as_slice() {
+    if is_text(word, b"fail") {
         return Some(Keyword::Fail);
     }
-    if word == b"grow".as_slice() {
+    if is_text(word, b"grow") {
         return Some(Keyword::Grow);
     }
     None
@@ -128,34 +130,34 @@ fn four_letters(word: &[u8]) -> Option<Keyword>
 fn five_letters(word: &[u8]) -> Option<Keyword>
     ensures { result ≡ keyword_among five_letter_keywords word.now }
 {
-    if word == b"write".as_slice() {
+    if is_text(word, b"write") {
         return Some(Keyword::Write);
     }
-    if word == b"alloc".as_slice() {
+    if is_text(word, b"alloc") {
         return Some(Keyword::Alloc);
     }
-    if word == b"query".as_slice() {
+    if is_text(word, b"query") {
         return Some(Keyword::Query);
     }
-    if word == b"close".as_slice() {
+    if is_text(word, b"close") {
         return Some(Keyword::Close);
     }
-    if word == b"unmap".as_slice() {
+    if is_text(word, b"unmap") {
         return Some(Keyword::Unmap);
     }
-    if word == b"flush".as_slice() {
+    if is_text(word, b"flush") {
         return Some(Keyword::Flush);
     }
-    if word == b"begin".as_slice() {
+    if is_text(word, b"begin") {
         return Some(Keyword::Begin);
     }
-    if word == b"watch".as_slice() {
+    if is_text(word, b"watch") {
         return Some(Keyword::Watch);
     }
-    if word == b"stack".as_slice() {
+    if is_text(word, b"stack") {
         return Some(Keyword::Stack);
     }
-    if word == b"probe".as_slice() {
+    if is_text(word, b"probe") {
         return Some(Keyword::Probe);
     }
     None
@@ -165,22 +167,22 @@ fn five_letters(word: &[u8]) -> Option<Keyword>
 fn six_letters(word: &[u8]) -> Option<Keyword>
     ensures { result ≡ keyword_among six_letter_keywords word.now }
 {
-    if word == b"writer".as_slice() {
+    if is_text(word, b"writer") {
         return Some(Keyword::Writer);
     }
-    if word == b"create".as_slice() {
+    if is_text(word, b"create") {
         return Some(Keyword::Create);
     }
-    if word == b"resume".as_slice() {
+    if is_text(word, b"resume") {
         return Some(Keyword::Resume);
     }
-    if word == b"zeroer".as_slice() {
+    if is_text(word, b"zeroer") {
         return Some(Keyword::Zeroer);
     }
-    if word == b"charge".as_slice() {
+    if is_text(word, b"charge") {
         return Some(Keyword::Charge);
     }
-    if word == b"counts".as_slice() {
+    if is_text(word, b"counts") {
         return Some(Keyword::Counts);
     }
     None
@@ -190,28 +192,28 @@ fn six_letters(word: &[u8]) -> Option<Keyword>
 fn other(word: &[u8]) -> Option<Keyword>
     ensures { result ≡ keyword_among other_keywords word.now }
 {
-    if word == b"io".as_slice() {
+    if is_text(word, b"io") {
         return Some(Keyword::Io);
     }
-    if word == b"map".as_slice() {
+    if is_text(word, b"map") {
         return Some(Keyword::Map);
     }
-    if word == b"age".as_slice() {
+    if is_text(word, b"age") {
         return Some(Keyword::Age);
     }
-    if word == b"machine".as_slice() {
+    if is_text(word, b"machine") {
         return Some(Keyword::Machine);
     }
-    if word == b"process".as_slice() {
+    if is_text(word, b"process") {
         return Some(Keyword::Process);
     }
-    if word == b"protect".as_slice() {
+    if is_text(word, b"protect") {
         return Some(Keyword::Protect);
     }
-    if word == b"createfile".as_slice() {
+    if is_text(word, b"createfile") {
         return Some(Keyword::CreateFile);
     }
-    if word == b"resetwatch".as_slice() {
+    if is_text(word, b"resetwatch") {
         return Some(Keyword::ResetWatch);
     }
     None

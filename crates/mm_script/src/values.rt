@@ -1,8 +1,17 @@
-ghost use Rattle.std.specs.Prelude.{◌≡◌, ◌≤◌, IfSome};
+ghost use Rattle.std.specs.Prelude.{◌≡◌, ◌≤◌, IfSome, bytes_eq};
 ghost use Rattle.mm_script.specs.Shape.{read, Number, TidNumber, FlagNumber, NameOrDash, DeviceWord, DirectionWord};
 
 use mm_text::{name, number};
 use mm_types::{Device, Direction, Name, Tid};
+
+/// Whether a word is a text. A comparison in place of the call makes each chain of tests dear to
+/// prove.
+#[inline(always)]
+pub fn is_text(word: &[u8], text: &[u8]) -> bool
+    ensures { result ≡ bytes_eq word.now text.now }
+{
+    word == text
+}
 
 /// The number of a word, where it is from `least` to `most`.
 #[inline(always)]
@@ -56,7 +65,7 @@ pub fn flag(word: &[u8]) -> Option<bool>
 pub fn name_or_dash(word: &[u8]) -> Option<Option<Name>>
     ensures { result ≡ read NameOrDash word.now }
 {
-    if word == b"-".as_slice() {
+    if is_text(word, b"-") {
         return Some(None);
     }
     Some(Some(name(word)?))
@@ -67,10 +76,10 @@ pub fn name_or_dash(word: &[u8]) -> Option<Option<Name>>
 pub fn device(word: &[u8]) -> Option<Device>
     ensures { result ≡ read DeviceWord word.now }
 {
-    if word == b"paging".as_slice() {
+    if is_text(word, b"paging") {
         return Some(Device::Paging);
     }
-    if word == b"file".as_slice() {
+    if is_text(word, b"file") {
         return Some(Device::File);
     }
     None
@@ -81,10 +90,10 @@ pub fn device(word: &[u8]) -> Option<Device>
 pub fn direction(word: &[u8]) -> Option<Direction>
     ensures { result ≡ read DirectionWord word.now }
 {
-    if word == b"read".as_slice() {
+    if is_text(word, b"read") {
         return Some(Direction::Read);
     }
-    if word == b"write".as_slice() {
+    if is_text(word, b"write") {
         return Some(Direction::Write);
     }
     None

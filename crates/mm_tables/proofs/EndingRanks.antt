@@ -1,5 +1,5 @@
 -- With what the pages of a section go that a process gives up, as its handles are closed and its regions dropped.
-use Rattle.std.proofs.Common.{◌≡◌, ℕ, zero, suc, ◌+◌, ◌-◌, ◌≤◌, ◌<◌, Bool, true, false, Option, Some, None, List, [], ◌∷◌, refl, sym, ap, ◌∙◌, subst, cond, arith, set, slice_get, count_by, is_some, option_map, unwrap_or, length, nat_lt}
+use Rattle.std.proofs.Common.{◌≡◌, ℕ, zero, suc, ◌+◌, ◌≤◌, ◌<◌, Bool, true, false, Option, Some, None, List, [], ◌∷◌, refl, sym, ap, ◌∙◌, subst, cond, arith, set, slice_get, count_by, is_some, option_map, unwrap_or, length, nat_lt}
 use Rattle.std.specs.Prelude.{◌||◌, remove, position}
 use Rattle.std.specs.List.{position_or_len}
 use Rattle.std.specs.Cmp.{unsigned_Decides}

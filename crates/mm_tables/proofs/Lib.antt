@@ -1,6 +1,7 @@
 pub mod Regions
 pub mod Rows
 pub mod PageByPage
+pub mod Added
 pub mod KeptAccesses
 pub mod StackTables
 pub mod Turning

@@ -22,7 +22,7 @@ use Rattle.mm_pages.specs.Leaving.{Leaving, leaving, page_rank}
 use Rattle.mm_pages.specs.Passing.{PassesIn}
 use Rattle.mm_tables.specs.declared.tables.Process.{Process}
 use Rattle.mm_tables.specs.Shown.{shown_process}
-use Rattle.mm_tables.specs.Effects.{Effect, Makes, Ends, Leaves, RangeStored, Roomier}
+use Rattle.mm_tables.specs.Effects.{Effect, Ends, RangeStored, Roomier}
 use Rattle.mm_tables.specs.Endings.{Less, Toward, CanRelease}
 use Rattle.mm_tables.specs.Fits.{FitsTables, Settled, before_process, is_uncommitted, new_marks}
 use Rattle.mm_tables.specs.Ranges.{CanAdd, CanRemove, passing, is_page_live}
@@ -201,20 +201,9 @@ module _ {G : Type 0} (p : PagesGhosts G) where
     pub room : (p.store h).room ≡ (p.store g).room
 
   -- one in which the places of the range are bound, with room for `total` keys
-  pub record Binds (pid : Pid) (range : Range) (total : ℕ) (g h : G) : Type 0 where
-    pub stored : RangeStored pid range Leaves Makes true (p.contents g) (p.contents h) (p.store g)
-        (p.store h)
-    pub room : total ≤ (p.store h).room
-
-  -- the same, said of the places alone
   pub record BindsPlaces (pid : Pid) (range : Range) (total : ℕ) (g h : G) : Type 0 where
     pub bound : NewPlaces pid range (p.store g) (p.store h)
     pub room : total ≤ (p.store h).room
-
-  -- one with as many keys, and perhaps more room
-  pub record KeepsCount (g h : G) : Type 0 where
-    pub counted : (p.store h).paging_keys ≡ (p.store g).paging_keys
-    pub later : (p.store g).room ≤ (p.store h).room
 
   -- memory ran out: a process keeps its regions, and there may be more room
   pub record KeepsRegions (old new : Option Process) (g h : G) : Type 0 where

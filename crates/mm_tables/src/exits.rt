@@ -24,6 +24,13 @@ use mm_pages::Pages;
 use mm_spaces::RegionInfo;
 use mm_types::{Kind, PAGE_SIZE, Pid};
 
+/// The place of a process is empty from now on.
+fn empty_place(process: &mut Option<Process>)
+    ensures { process.new ≡ None }
+{
+    *process = None;
+}
+
 impl Tables {
     /// A living process.
     fn process(&self, pid: Pid) -> &Process
@@ -135,7 +142,7 @@ impl Tables {
         ensures passes { (turn : Turn) → PassesAs G.Pages turn g.old g.new }
     {
         g.close_process(pid);
-        self.processes[pid.0 as usize - 1] = None;
+        empty_place(&mut self.processes[pid.0 as usize - 1]);
     }
 
     /// Ends a living process: what threads keep of it and its stacks are gone, its handles are

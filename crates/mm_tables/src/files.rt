@@ -30,9 +30,8 @@ fn grow_for_file(
     ensures space { OnOk result (vec_len areas.new + 1 ≤ vec_capacity areas.new) }
 {
     directory.reserve()?;
-    let made = SectionPages::of_file(alloc, first, pages)?;
     areas.reserve(1)?;
-    Ok(made)
+    SectionPages::of_file(alloc, first, pages)
 }
 
 /// Lists a file of the next area. There is room for both.
@@ -54,10 +53,7 @@ fn list_file(
     ensures areas { areas.new.items ≡ areas.old.items ++ made ∷ [] }
 {
     directory.add_file(name, area);
-    match areas.push(made) {
-        Ok(()) => {}
-        Err(_) => unreachable!(),
-    }
+    areas.push_reserved(made);
 }
 
 impl Tables {
@@ -88,9 +84,13 @@ impl Tables {
             Ok(made) => made,
             Err(NoMemory) => return Err(MakeFault::Memory),
         };
-        g.make_file(area, first, pages, byte)?;
-        list_file(&mut self.directory, &mut self.areas, area, made, name);
-        self.blocks_used += pages;
-        Ok(())
+        match g.make_file(area, first, pages, byte) {
+            Ok(()) => {
+                list_file(&mut self.directory, &mut self.areas, area, made, name);
+                self.blocks_used += pages;
+                Ok(())
+            }
+            Err(fault) => Err(fault),
+        }
     }
 }

@@ -19,8 +19,8 @@ ghost use Rattle.mm_tables.specs.Fits.{FitsTables, Settled};
 ghost use Rattle.mm_types.specs.declared.moves.LineKind.TheVariants as line_kind;
 
 use crate::Tables;
+use crate::steps::take;
 use crate::tables::Process;
-use mm_commit::Commit;
 use mm_pages::Pages;
 use mm_sections::{Directory, SectionPages};
 use mm_types::{Area, Key, Name, NoMemory, Pid, Prot, SectionId};
@@ -152,9 +152,8 @@ fn grow_for_paging(
     ensures space { OnOk result (vec_len areas.new + 1 ≤ vec_capacity areas.new) }
 {
     grow_for_section(directory, processes, pid)?;
-    let made = SectionPages::of_paging_file(alloc, pages, committed)?;
     areas.reserve(1)?;
-    Ok(made)
+    SectionPages::of_paging_file(alloc, pages, committed)
 }
 
 /// Adds the keys of the first `n` pages of an open area.
@@ -210,21 +209,7 @@ fn push_area(areas: &mut Vec<SectionPages>, area: SectionPages)
     requires room { vec_len areas.old + 1 ≤ vec_capacity areas.old }
     ensures { areas.new.items ≡ areas.old.items ++ area ∷ [] }
 {
-    match areas.push(area) {
-        Ok(()) => {}
-        Err(_) => unreachable!(),
-    }
-}
-
-/// Charges pages for which there is room.
-fn take(commit: &mut Commit, n: u32)
-    requires { commit.old.charge + n ≤ commit.old.limit }
-    ensures { commit.new ≡ record commit.old { charge = commit.old.charge + n } }
-{
-    match commit.charge(n) {
-        Ok(()) => {}
-        Err(_) => unreachable!(),
-    }
+    areas.push_reserved(area);
 }
 
 impl Tables {

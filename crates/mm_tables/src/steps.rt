@@ -1,4 +1,4 @@
-ghost use Rattle.std.specs.Prelude.{◌≡◌, ◌≤◌, ◌+◌, ◌-◌, ◌==◌, ◌++◌, [], ◌∷◌, ℕ, true, false, is_some, Some, IsOk, OnOk, OnErr, slice_set, remove};
+ghost use Rattle.std.specs.Prelude.{◌≡◌, ◌≤◌, ◌+◌, ◌-◌, ◌==◌, ◌++◌, [], ◌∷◌, ℕ, true, false, is_some, Some, IsOk, OnOk, OnErr, slice_set, remove, vec_len, vec_capacity};
 ghost use Rattle.mm_types.specs.Address.{end_of, end_of_user_pages, are_user_pages, holds_page};
 ghost use Rattle.mm_types.specs.Machine.{limit_of};
 ghost use Rattle.mm_world.specs.World.{RowOf, RegionOf};
@@ -15,10 +15,11 @@ ghost use Rattle.std.specs.Prelude.{Bool};
 ghost use Rattle.mm_spaces.specs.Tables.{owned_in};
 ghost use Rattle.mm_tables.specs.Effects.{Makes, Ends, Leaves, RangeStored, Roomier, CanMake, keys_of};
 ghost use Rattle.mm_tables.specs.Fits.{new_pages};
-ghost use Rattle.mm_tables.specs.Promises.{LiesInPrivate, BeginsAt, IsNewRange, CanAddUpTo, CanRemoveIn, CanBind, PassesAs, StaysIdle, IdlesOver, EndsPages, MakesWithin, AddsKeys, RemovesKeys, Binds, KeepsCount, KeepsRegions};
+ghost use Rattle.mm_tables.specs.Promises.{LiesInPrivate, BeginsAt, IsNewRange, CanAddUpTo, CanRemoveIn, CanBind, PassesAs, StaysIdle, IdlesOver, EndsPages, MakesWithin, AddsKeys, RemovesKeys, BindsPlaces, KeepsRegions};
 ghost use Rattle.mm_tables.specs.Ranges.{CanAdd, StandsFrom, passing, is_page_dead, is_page_live};
 ghost use Rattle.mm_tables.specs.Shown.{shown_processes};
 ghost use Rattle.mm_tables.specs.Spaces.{process_regions, RegionsBecame};
+ghost use Rattle.mm_tables.specs.ViewChanges.{MoreRoom};
 ghost use Rattle.mm_types.specs.declared.moves.LineKind.TheVariants as line_kind;
 ghost use Rattle.mm_pages.specs.Store.{changed};
 ghost use Rattle.mm_world.specs.Processes.{no_regions, with_slots, most_slots};
@@ -165,9 +166,10 @@ pub(crate) fn release_pages<G: Pages>(
     owned
 }
 
-/// What a new region takes: room for it and its keys, and its places.
+/// What a new region takes of an address space and of the store: room for it and for all keys, and
+/// its places. After `NoMemory` there may be more room.
 #[tactic(auto, using(mm_pages::proofs::Passed::turns_same))]
-fn grow_for_region<G: Pages>(
+pub(crate) fn grow_for_region<G: Pages>(
     space: &mut AddressSpace,
     g: &mut G,
     pid: Pid,
@@ -178,16 +180,13 @@ fn grow_for_region<G: Pages>(
     requires bind { CanBind G.Pages pid range total g.old }
     ensures regions { space.new.regions ≡ space.old.regions }
     ensures spare { OnOk result (1 ≤ space.new.spare) }
-    ensures binds { OnOk result (Binds G.Pages pid range total g.old g.new) }
-    ensures keeps { KeepsCount G.Pages g.old g.new }
-    ensures err { OnErr result
-        (Roomier (G.contents g.old) (G.contents g.new) (G.store g.old) (G.store g.new)) }
-    ensures idles { StaysIdle G.Pages g.old g.new }
+    ensures binds { OnOk result (BindsPlaces G.Pages pid range total g.old g.new) }
+    ensures err { OnErr result (MoreRoom (G.store g.old) (G.store g.new)) }
+    ensures idles { IdlesOver G.Pages g.old g.new }
 {
     space.reserve()?;
     g.reserve(total)?;
-    g.bind(pid, Vpn(range.first), range.count)?;
-    Ok(())
+    g.bind(pid, Vpn(range.first), range.count)
 }
 
 /// Adds the keys of a new region's pages, where its pages are committed.
@@ -244,10 +243,14 @@ pub(crate) fn make_region<G: Pages>(
         unreachable!()
     };
     let region = NewRegion::private(alloc, watched, kind, prot, range)?;
-    grow_for_region(&mut process.space, g, pid, range, total)?;
-    fill_region(&process.space, g, pid, range, kind);
-    process.space.add(region);
-    Ok(())
+    match grow_for_region(&mut process.space, g, pid, range, total) {
+        Ok(()) => {
+            fill_region(&process.space, g, pid, range, kind);
+            process.space.add(region);
+            Ok(())
+        }
+        Err(NoMemory) => Err(NoMemory),
+    }
 }
 
 /// Sees that there is room for `total` keys, as there was where `n` is 0. After `NoMemory`, which
@@ -291,6 +294,18 @@ pub(crate) fn protect_pages(process: &mut Option<Process>, range: PageRange, pro
     }
 }
 
+/// Puts a process without regions and handles at the end, for which there is room.
+fn push_empty(processes: &mut Vec<Option<Process>>, allocator: Global)
+    requires room { vec_len processes.old + 1 ≤ vec_capacity processes.old }
+    ensures { shown_processes processes.new.items ≡
+        shown_processes processes.old.items ++ Some no_regions ∷ [] }
+{
+    processes.push_reserved(Some(Process {
+        space: AddressSpace::new(allocator),
+        handles: Handles::new(allocator),
+    }));
+}
+
 /// Makes a process without regions in the store, at the end of those that there are. After
 /// `NoMemory` nothing has changed.
 #[tactic(auto, using(mm_pages::proofs::Passed::turns_same))]
@@ -313,17 +328,10 @@ pub(crate) fn push_process<G: Pages>(
     ensures kept { OnErr result (G.store g.new ≡ G.store g.old) }
     ensures idles { IdlesOver G.Pages g.old g.new }
 {
-    processes.push(Some(Process {
-        space: AddressSpace::new(allocator),
-        handles: Handles::new(allocator),
-    }))?;
-    match g.open_process(pid, min, max) {
-        Ok(()) => Ok(()),
-        Err(e) => {
-            let _ = processes.pop();
-            Err(e)
-        }
-    }
+    processes.reserve(1)?;
+    g.open_process(pid, min, max)?;
+    push_empty(processes, allocator);
+    Ok(())
 }
 
 /// Charges pages for which there is room.

@@ -78,6 +78,9 @@ impl Tables {
         }
     }
 
+    /// Lets all of it go.
+    pub fn end(self) {}
+
     /// The machine, with the page-file slots that there are now.
     pub fn machine(&self) -> Machine
         ensures { result ≡ self.now.machine }

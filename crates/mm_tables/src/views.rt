@@ -2,7 +2,6 @@ ghost use Rattle.std.specs.Prelude.{◌≡◌, ◌≤◌, ◌<◌, ◌+◌, ◌-
 ghost use Rattle.mm_types.specs.declared.moves.LineKind.TheVariants as line_kind;
 ghost use Rattle.mm_types.specs.declared.views.View.{View};
 ghost use Rattle.mm_types.specs.declared.views.Kind.TheVariants as kind;
-ghost use Rattle.mm_types.specs.Address.{are_user_pages};
 ghost use Rattle.mm_world.specs.World.{RegionOf, ProcessOf, SectionOf};
 ghost use Rattle.mm_world.specs.Find.{Found, process_of, section_of, region_around, add_region, set_region, set_regions, set_area, area_at, is_private};
 ghost use Rattle.mm_world.specs.Alloc.{commit_shared};
@@ -17,24 +16,13 @@ ghost use Rattle.mm_tables.specs.Shown.{shown_processes};
 ghost use Rattle.mm_tables.specs.ViewChanges.{region_of_view, living, listed_area, MoreRoom, CanShare, Shares, CanProtect};
 
 use crate::Tables;
+use crate::steps::{grow_for_region, take};
 use crate::tables::Process;
-use mm_commit::Commit;
 use mm_pages::Pages;
 use mm_sections::SectionPages;
 use mm_spaces::{AddressSpace, NewRegion, PageRange};
-use mm_types::{Area, Key, Kind, NoMemory, Pid, View, ViewAccess, Vpn};
+use mm_types::{Area, Key, Kind, NoMemory, Pid, View, ViewAccess};
 use std::alloc::Global;
-
-/// Charges pages for which there is room.
-fn take(commit: &mut Commit, n: u32)
-    requires { commit.old.charge + n ≤ commit.old.limit }
-    ensures { commit.new ≡ record commit.old { charge = commit.old.charge + n } }
-{
-    match commit.charge(n) {
-        Ok(()) => {}
-        Err(_) => unreachable!(),
-    }
-}
 
 /// How many pages of a new view are charged: all of a copy view, each of which has a mark.
 fn marked_pages(view: View, range: PageRange) -> u32
@@ -46,31 +34,6 @@ fn marked_pages(view: View, range: PageRange) -> u32
         ViewAccess::Copy => pages,
         ViewAccess::Read | ViewAccess::Write => 0,
     }
-}
-
-/// What a new view takes of an address space and of the store: room for it and for all keys, and
-/// its places.
-#[tactic(auto, using(mm_pages::proofs::Passed::turns_same))]
-fn grow_for_view<G: Pages>(
-    space: &mut AddressSpace,
-    g: &mut G,
-    pid: Pid,
-    range: PageRange,
-    total: u32,
-) -> Result<(), NoMemory>
-    requires user { are_user_pages range ≡ true }
-    requires bind { CanBind G.Pages pid range total g.old }
-    ensures regions { space.new.regions ≡ space.old.regions }
-    ensures spare { OnOk result (1 ≤ space.new.spare) }
-    ensures binds { OnOk result (BindsPlaces G.Pages pid range total g.old g.new) }
-    ensures contents { G.contents g.new ≡ G.contents g.old }
-    ensures err { OnErr result (MoreRoom (G.store g.old) (G.store g.new)) }
-    ensures idles { StaysIdle G.Pages g.old g.new }
-{
-    space.reserve()?;
-    g.reserve(total)?;
-    g.bind(pid, Vpn(range.first), range.count)?;
-    Ok(())
 }
 
 /// Makes a view of free pages in an address space. `total` is what all keys come to at most. After
@@ -95,9 +58,13 @@ fn make_view<G: Pages>(
     ensures err { OnErr result (MoreRoom (G.store g.old) (G.store g.new)) }
 {
     let region = NewRegion::view(alloc, view, range)?;
-    grow_for_view(space, g, pid, range, total)?;
-    space.add(region);
-    Ok(())
+    match grow_for_region(space, g, pid, range, total) {
+        Ok(()) => {
+            space.add(region);
+            Ok(())
+        }
+        Err(NoMemory) => Err(NoMemory),
+    }
 }
 
 /// Makes a view in the address space of a living process.

@@ -1,21 +1,21 @@
 -- What the changes of a `Space` make of its regions.
-use Rattle.std.proofs.Common.{◌≡◌, ◌≢◌, ℕ, ◌+◌, ◌-◌, ◌<◌, ◌≤◌, Bool, false, List, [], ◌∷◌, length, map, Option, Some, None, refl, sym, ap, ◌∙◌, subst}
-use Rattle.std.specs.Prelude.{find, IsTrue, IsSome, IfSome, is_some, not, nat_eq, min, option_map}
+use Rattle.std.proofs.Common.{◌≡◌, ◌≢◌, ℕ, ◌+◌, ◌-◌, ◌<◌, ◌≤◌, Bool, false, List, [], ◌∷◌, length, map, Option, Some, None, refl, sym, ap, ◌∙◌, subst, arith}
+use Rattle.std.specs.Prelude.{IsTrue, IsSome, IsSomeAnd, IfSome, is_some, not, nat_eq, min, option_map}
 use Rattle.std.specs.List.{list_any}
 use Rattle.std.specs.HashMap.{HashMap, get, spare, Updates, UpdatesBy, WritesThrough}
 use Rattle.std.proofs.lemmas.Bool.{ne_eqb, and_parts, not-true}
 use Rattle.std.proofs.lemmas.List.{length-set}
-use Rattle.mm_types.specs.Address.{Range, meets, is_free, are_user_pages, holds_page, page_of, first_user_page}
-use Rattle.mm_vad.specs.Ranges.{LieApart, add_range, remove_range}
+use Rattle.mm_types.specs.Address.{Range, meets, is_free, are_user_pages, page_of, first_user_page}
+use Rattle.mm_vad.specs.Ranges.{GapsOf, LieApart, add_range, remove_range}
 use Rattle.mm_vad.specs.declared.pages.Row.{Row}
 use Rattle.mm_vad.specs.declared.regions.Region.{Region}
 use Rattle.mm_world.specs.Find.{change_range}
 use Rattle.mm_world.specs.Watch.{unwritten}
 use Rattle.mm_vad.proofs.FlagLemmas.{length-change}
-use Rattle.mm_vad.specs.Regions.{SpaceOf, HasFlags, pages_of, add_region, remove_region, change_region, with_row, with_equal_rows, with_marks, with_unwritten}
-use Rattle.mm_vad.specs.Index.{regions_of, AllHeld, IsIndex}
-use Rattle.mm_vad.proofs.Held.{Adds, Keeps, Rewrites, add_held, remove_held, change_held}
-use Rattle.mm_vad.proofs.Lookups.{Told}
+use Rattle.mm_vad.specs.Regions.{SpaceOf, IsSpace, HasFlags, HasPages, LieInRegion, LieAmong, LieWithPage, pages_of, region_at, add_region, remove_region, change_region, with_row, with_equal_rows, with_marks, with_unwritten}
+use Rattle.mm_vad.specs.Index.{regions_of, space_of, AllHeld, IsIndex}
+use Rattle.mm_vad.proofs.Held.{Adds, Keeps, Rewrites, is_space, add_held, remove_held, change_held}
+use Rattle.mm_vad.proofs.Lookups.{Found, found_by}
 use Rattle.mm_vad.proofs.Joined.{length-filled}
 
 -- the index after a change, and the regions that it shows
@@ -61,36 +61,63 @@ after_remove m n ranges after base i u e apart =
 
 -- ---- one region changed
 
--- what a space shows after a change of the region found at the page
-pub record Changed (found other : ℕ → Option Region) (ranges : List Range) (page : ℕ) (change : Region → Region) (before after : SpaceOf) : Type 0 where
-  pub index : IsIndex other ranges
-  pub shown : after ≡ record before { regions = change_region change before.regions page }
+-- what a space keeps, shows and tells after a change of the region of the page
+pub record Changed {S : Type 0} (n : HashMap ℕ Region S) (taken : GapsOf) (page : ℕ) (change : Region → Region) (before : SpaceOf) : Type 0 where
+  pub index : IsIndex (get nat_eq n) taken.ranges
+  pub shown : space_of (get nat_eq n) taken (spare n) ≡ record before { regions = change_region change before.regions page }
+  pub sound : IsSpace (regions_of (get nat_eq n) taken.ranges)
 
-space_of : List Region → ℕ → SpaceOf
-space_of regions n = record { regions = regions; spare = n }
+shown_as : List Region → ℕ → SpaceOf
+shown_as regions n = record { regions = regions; spare = n }
 
-module _ {S : Type 0} (m n : HashMap ℕ Region S) (ranges : List Range) (spare_ranges page base : ℕ) (now : SpaceOf) where
-  abbrev seen : HashMap ℕ Region S → SpaceOf
-  seen h = record { regions = regions_of (get nat_eq h) ranges; spare = min spare_ranges (spare h) }
+-- the region of the page, whose base `base_at` of a space tells
+module _ {S : Type 0} (m : HashMap ℕ Region S) (taken : GapsOf) (page base : ℕ) (now : SpaceOf) (i : IsIndex (get nat_eq m) taken.ranges) (view : space_of (get nat_eq m) taken (spare m) ≡ now) (lies : IsSomeAnd (region_at now.regions page) (λ r. r.base.0 ≡ base)) where
+  found : Found (get nat_eq m) taken.ranges page base now.regions
+  found = found_by (get nat_eq m) taken.ranges page base now.regions i (ap (λ (v : SpaceOf). v.regions) view) lies
 
-  pub after_change : (change : Region → Region) (region written : Region) → IsIndex (get nat_eq m) ranges → seen m ≡ now → Told (find (λ r. holds_page r page) ranges) base → get nat_eq m base ≡ Some region → written ≡ change region → Keeps change region → WritesThrough nat_eq (nat_eq base) m written n → Changed (get nat_eq m) (get nat_eq n) ranges page change now (seen n)
-  unfolding space_of
-  after_change change region written i view told there is keeps writes =
-      let some : IsSome (get nat_eq m base) = ap is_some there in
+  pub none_missing : None ≡ get nat_eq m base → ⊥
+  none_missing e = (let bad : None ≡ Some found.region = e ∙ found.there in cc)
+
+  pub has_page : (region : Region) → Some region ≡ get nat_eq m base → HasPages region page 1
+  has_page region e =
+      let both : Some region ≡ Some found.region = e ∙ found.there in
+      let same : found.region ≡ region = cc in
+      subst (λ (g : Region). HasPages g page 1) same found.has
+
+  -- pages that lie in one region are its own
+  pub has_pages : (n : ℕ) (region : Region) → LieInRegion now.regions page n → Some region ≡ get nat_eq m base → HasPages region page n
+  has_pages n region lie e = record {
+    low = (has_page region e).low;
+    within = subst (λ (o : Option Region). IsSomeAnd o (λ r. page - r.base.0 + n ≤ r.pages)) (found.at ∙ sym found.there ∙ sym e) lie;
+    whole = (has_page region e).whole;
+    flags = (has_page region e).flags;
+  }
+
+  pub has_addresses : (addresses : List ℕ) (region : Region) → LieWithPage now.regions page addresses → Some region ≡ get nat_eq m base → LieAmong region.base.0 region.pages addresses
+  has_addresses addresses region lie e =
+      subst (λ (o : Option Region). IsSomeAnd o (λ r. LieAmong r.base.0 r.pages addresses)) (found.at ∙ sym found.there ∙ sym e) lie
+
+  -- one change for all: it leaves the region what the index keeps of it
+  pub after_change : (n : HashMap ℕ Region S) (change : Region → Region) (region written : Region) → Some region ≡ get nat_eq m base → written ≡ change region → Keeps change region → WritesThrough nat_eq (nat_eq base) m written n → Changed n taken page change now
+  unfolding shown_as
+  after_change n change region written there is keeps writes =
+      let some : IsSome (get nat_eq m base) = ap is_some (sym there) in
       let updates = writes.3 some in
-      let first = sym told.first in
-      let rewrites : Rewrites (get nat_eq m) (get nat_eq n) change told.range.first region = record {
-        there = ap (get nat_eq m) told.first ∙ there;
-        after = ap (get nat_eq n) told.first ∙ updates.1 ∙ ap (λ (g : Region). Some g) is;
+      let first = sym found.told.first in
+      let rewrites : Rewrites (get nat_eq m) (get nat_eq n) change found.told.range.first region = record {
+        there = ap (get nat_eq m) found.told.first ∙ sym there;
+        after = ap (get nat_eq n) found.told.first ∙ updates.1 ∙ ap (λ (g : Region). Some g) is;
         keeps = keeps;
         kept = λ q ne. updates.2 q (not_at base q (λ e. ne (e ∙ first)));
       } in
-      let b = change_held first_user_page page (get nat_eq m) (get nat_eq n) change region told.range ranges rewrites i.apart i.held told.is in
+      let b = change_held first_user_page page (get nat_eq m) (get nat_eq n) change region found.told.range taken.ranges rewrites i.apart i.held found.told.is in
+      let index : IsIndex (get nat_eq n) taken.ranges = record { apart = i.apart; held = b.held } in
       record {
-        index = record { apart = i.apart; held = b.held };
-        shown = ap (λ (gs : List Region). space_of gs (min spare_ranges (spare n))) b.shown
-            ∙ ap (λ (k : ℕ). space_of (change_region change (regions_of (get nat_eq m) ranges) page) (min spare_ranges k)) writes.6
+        index = index;
+        shown = ap (λ (gs : List Region). shown_as gs (min taken.spare (spare n))) b.shown
+            ∙ ap (λ (k : ℕ). shown_as (change_region change (regions_of (get nat_eq m) taken.ranges) page) (min taken.spare k)) writes.6
             ∙ ap (λ (v : SpaceOf). record v { regions = change_region change v.regions page }) view;
+        sound = is_space (get nat_eq n) taken.ranges index;
       }
 
 -- ---- the changes that there are
@@ -98,8 +125,12 @@ module _ {S : Type 0} (m n : HashMap ℕ Region S) (ranges : List Range) (spare_
 pub row_keeps : (page : ℕ) (row : Row) (g : Region) → Keeps (with_row page row) g
 row_keeps page row g = record { pages = refl; rows = length-set g.rows (page - g.base.0) row; flags = λ n h. h }
 
-pub filling_keeps : (page n : ℕ) (row : Row) (g : Region) → page - g.base.0 + n ≤ length g.rows → Keeps (with_equal_rows page n row) g
-filling_keeps page n row g inside = record { pages = refl; rows = length-filled g.rows (page - g.base.0) n row inside; flags = λ n h. h }
+pub filling_keeps : (page n : ℕ) (row : Row) (g : Region) → HasPages g page n → Keeps (with_equal_rows page n row) g
+filling_keeps page n row g has = record {
+  pages = refl;
+  rows = length-filled g.rows (page - g.base.0) n row (omega (arith, has.within, has.whole));
+  flags = λ n h. h;
+}
 
 pub marks_keep : (b : Bool) (page n : ℕ) (g : Region) → Keeps (with_marks b page n) g
 marks_keep b page n g = record { pages = refl; rows = refl; flags = by_flags g.watched }

@@ -5,7 +5,7 @@ use Rattle.std.proofs.lemmas.List.{ext_get_or, length-map, length-replicate, get
 use Rattle.mm_vad.specs.declared.pages.Row.{Row}
 use Rattle.mm_vad.specs.declared.chunks.Chunk.{Chunk}
 use Rattle.mm_vad.specs.declared.chunks.Chunk.TheVariants as chunk
-use Rattle.mm_vad.specs.Chunks.{rows_in, chunks_of, own_place, owned, place_of_chunk, unplaced, AreWritten, place_after, places_after}
+use Rattle.mm_vad.specs.Chunks.{ChunksOf, rows_in, chunks_of, own_place, owned, place_of_chunk, unplaced, AreWritten, place_after, places_after}
 use Rattle.std.specs.Prelude.{slice_get}
 use Rattle.std.proofs.lemmas.Option.{slice_get-get_or}
 use Rattle.mm_types.proofs.Cells.{same_or_not}
@@ -192,8 +192,48 @@ pub chunks_made : (chunks : List Chunk) (places : List (List Row)) (n room : ℕ
 chunks_made chunks places n room row e f wide few =
     subst (λ (cs : List Chunk). AreWritten cs places room) (sym e) (subst (λ (ps : List (List Row)). AreWritten (replicate n (chunk.Equal row None)) ps room) (sym f) (new_chunks n room row wide few))
 
+none_placed : (i k : ℕ) → place_of_chunk [] i ≢ Some k
+unfolding owned
+none_placed i k e = (let bad : None ≡ Some k = e in cc)
+
+none_written : (room : ℕ) → AreWritten [] [] room
+unfolding owned
+none_written room = record {
+  below = λ i k e. absurd (none_placed i k e);
+  apart = λ i j k e f. absurd (none_placed i k e);
+  counted = refl;
+  roomy = omega arith;
+  few = omega arith;
+}
+
+pub no_chunks : (chunks : List Chunk) (places : List (List Row)) (room : ℕ) → chunks ≡ [] → places ≡ [] → AreWritten chunks places room
+no_chunks chunks places room e f =
+    subst (λ (cs : List Chunk). AreWritten cs places room) (sym e) (subst (λ (ps : List (List Row)). AreWritten [] ps room) (sym f) (none_written room))
+
 pub rows_made : (chunks : List Chunk) (places : List (List Row)) (n : ℕ) (row : Row) → chunks ≡ replicate n (chunk.Equal row None) → chunks_of chunks places ≡ replicate n (replicate 512 row)
 rows_made chunks places n row e = ap (λ (cs : List Chunk). chunks_of cs places) e ∙ new_rows n row places
+
+-- chunks as they are seen, and once their rows changed
+pub rows_seen : {seen now : ChunksOf} → seen ≡ now → seen.rows ≡ now.rows
+rows_seen e = ap (λ (v : ChunksOf). v.rows) e
+
+pub room_seen : {seen now : ChunksOf} → seen ≡ now → seen.room ≡ now.room
+room_seen e = ap (λ (v : ChunksOf). v.room) e
+
+seen_as : List (List Row) → ℕ → ChunksOf
+seen_as rows room = record { rows = rows; room = room }
+
+pub chunks_become : (seen now : ChunksOf) (rows rows' : List (List Row)) (room : ℕ) → seen ≡ now → rows ≡ rows' → room ≡ seen.room → record { rows = rows; room = room } ≡ record now { rows = rows' }
+unfolding seen_as
+chunks_become seen now rows rows' room e f g =
+    ap (λ (rs : List (List Row)). seen_as rs room) f ∙ ap (seen_as rows') (g ∙ room_seen e)
+
+with_rows : ChunksOf → List (List Row) → ChunksOf
+with_rows v rows = record v { rows = rows }
+
+pub rows_same : (v : ChunksOf) (rows rows' : List (List Row)) → rows ≡ rows' → record v { rows = rows } ≡ record v { rows = rows' }
+unfolding with_rows
+rows_same v rows rows' e = ap (with_rows v) e
 
 -- a chunk as it is read
 pub inside : (chunks : List Chunk) (places shown : List (List Row)) (i : ℕ) → chunks_of chunks places ≡ shown → i < length shown → i < length chunks
@@ -209,11 +249,11 @@ rows_read chunks places shown i x c e h read is =
 pub place_read : (chunks : List Chunk) (places shown : List (List Row)) (i : ℕ) (x c : Chunk) → chunks_of chunks places ≡ shown → i < length shown → x ≡ get_or chunks i x → x ≡ c → place_of_chunk chunks i ≡ own_place c
 place_read chunks places shown i x c e h read is = chunk_place chunks i c (inside chunks places shown i e h) (stands chunks i x c read is)
 
-pub equal_read : (rows : List Row) (at : ℕ) (row : Row) → rows ≡ replicate 512 row → at < 512 → slice_get rows at ≡ Some row
-equal_read rows at row e h =
+pub equal_read : (rows : List Row) (long at : ℕ) (row : Row) → rows ≡ replicate long row → at < long → slice_get rows at ≡ Some row
+equal_read rows long at row e h =
     ap (λ (rs : List Row). slice_get rs at) e
-    ∙ slice_get-get_or (replicate 512 row) at row (omega (arith, h, length-replicate 512 row))
-    ∙ ap (λ (r : Row). Some r) (get_or-replicate 512 at row row h)
+    ∙ slice_get-get_or (replicate long row) at row (omega (arith, h, length-replicate long row))
+    ∙ ap (λ (r : Row). Some r) (get_or-replicate long at row row h)
 
 pub each_read : (places : List (List Row)) (rows x : List Row) (k at : ℕ) (d : Row) → rows ≡ get_or places k [] → k < length places → x ≡ get_or places k x → at < length rows → slice_get rows at ≡ Some (get_or x at d)
 each_read places rows x k at d e there read h =

@@ -1,5 +1,5 @@
 -- The nodes that one way down a balanced tree visits are few.
-use Rattle.std.proofs.Common.{◌≡◌, ℕ, ◌+◌, ◌*◌, ◌^◌, ◌≤◌, ◌<◌, suc, length, ap, ◌∙◌, arith}
+use Rattle.std.proofs.Common.{◌≡◌, ℕ, ◌+◌, ◌*◌, ◌^◌, ◌≤◌, ◌<◌, zero, suc, length, refl, sym, ap, ◌∙◌, arith}
 use Rattle.std.proofs.Math.Nat.{pow-zero}
 use Rattle.std.proofs.Math.Pow.{pow_mono}
 use Rattle.std.proofs.lemmas.Grind.{pow_more}
@@ -23,10 +23,14 @@ visits_few stepped before after t shaped v = record {
       rw cube (omega (arith, up, shaped.full, square_below (length t.ranges)));
 }
 
--- one more node is visited before
-pub visits_more : {A : Type 0} (stepped : A → A) (before next after : A) (k h : ℕ) → next ≡ stepped before → k < h → VisitsAtMost stepped next after k → VisitsAtMost stepped before after h
-visits_more stepped before next after k h is less v = record {
+repeated_after : {A : Type 0} (f : A → A) (k : ℕ) (x : A) → repeated f k (f x) ≡ f (repeated f k x)
+repeated_after f zero x = refl
+repeated_after f (suc k) x = repeated_after f k (f x)
+
+-- one more node is visited
+pub visits_more : {A : Type 0} (stepped : A → A) (before after next : A) (k h : ℕ) → next ≡ stepped after → k < h → VisitsAtMost stepped before after k → VisitsAtMost stepped before next h
+visits_more stepped before after next k h is less v = record {
   visited = suc v.visited;
-  counted = v.counted ∙ ap (repeated stepped v.visited) is;
+  counted = is ∙ ap stepped v.counted ∙ sym (repeated_after stepped v.visited before);
   few = omega (arith, v.few, less);
 }

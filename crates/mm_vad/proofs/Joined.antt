@@ -114,10 +114,10 @@ run_at rows o n j row e m =
     ∙ ap (λ (rs : List Row). get_or rs j row) e
     ∙ get_or-replicate n j row row m
 
-pub equal_part : (rows : List Row) (at n : ℕ) (row : Row) → rows ≡ replicate 512 row → at + n ≤ 512 → take n (drop at rows) ≡ replicate n row
-equal_part rows at n row e h =
+pub equal_part : (rows : List Row) (long at n : ℕ) (row : Row) → rows ≡ replicate long row → at + n ≤ long → take n (drop at rows) ≡ replicate n row
+equal_part rows long at n row e h =
     ap (λ (rs : List Row). take n (drop at rs)) e
-    ∙ equal_run (replicate 512 row) at n row (omega (arith, h, length-replicate 512 row)) (λ k l. get_or-replicate 512 (at + k) row row (omega (arith, h)))
+    ∙ equal_run (replicate long row) at n row (omega (arith, h, length-replicate long row)) (λ k l. get_or-replicate long (at + k) row row (omega (arith, h)))
 
 -- what is equal in a chunk, and behind the chunks, is equal in all rows
 pub equal_within : (chunks : List (List Row)) (rest shown : List Row) (i n : ℕ) (row : Row) → AreWhole chunks → rows_joined chunks rest ≡ shown → i / 512 < length chunks → i % 512 + n ≤ 512 → take n (drop (i % 512) (get_or chunks (i / 512) [])) ≡ replicate n row → take n (drop i shown) ≡ replicate n row
@@ -266,13 +266,13 @@ filled_same rows first n m row h l e =
     ∙ get_or-replicate m (k - first) row d (omega arith))
     (λ k d high. refl)
 
--- a whole chunk
-pub filled_whole : (rows : List Row) (at n : ℕ) (row : Row) → length rows ≡ 512 → n ≡ 512 → at ≡ 0 → replicate 512 row ≡ filled_rows rows at n row
-filled_whole rows at n row long all first =
-    filled_is rows (replicate 512 row) at n row (omega (arith, long, all, first)) (length-replicate 512 row ∙ sym long)
+-- all of them
+pub filled_whole : (rows : List Row) (all at n : ℕ) (row : Row) → length rows ≡ all → n ≡ all → at ≡ 0 → replicate all row ≡ filled_rows rows at n row
+filled_whole rows all at n row long whole first =
+    filled_is rows (replicate all row) at n row (omega (arith, long, whole, first)) (length-replicate all row ∙ sym long)
     (λ k d low. absurd (omega (arith, first)))
-    (λ k d low high. get_or-replicate 512 k row d (omega (arith, all, first)))
-    (λ k d high. get_or_past (replicate 512 row) k d (omega (arith, all, first, length-replicate 512 row)) ∙ sym (get_or_past rows k d (omega (arith, all, first, long))))
+    (λ k d low high. get_or-replicate all k row d (omega (arith, whole, first)))
+    (λ k d high. get_or_past (replicate all row) k d (omega (arith, whole, first, length-replicate all row)) ∙ sym (get_or_past rows k d (omega (arith, whole, first, long))))
 
 -- rows of a chunk, one after another, and rows behind the chunks
 filled_part : (chunks : List (List Row)) (rest : List Row) (k o n : ℕ) (row : Row) → AreWhole chunks → k < length chunks → o + n ≤ 512 → rows_joined (set chunks k (filled_rows (get_or chunks k []) o n row)) rest ≡ filled_rows (rows_joined chunks rest) (k * 512 + o) n row

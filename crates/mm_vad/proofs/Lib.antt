@@ -7,6 +7,7 @@ pub mod Runs
 pub mod Unwritten
 pub mod Chunked
 pub mod Joined
+pub mod OneRow
 pub mod Apart
 pub mod RangeChanges
 pub mod Counted

@@ -1,5 +1,5 @@
 -- What a look-up by a range tells of the list of regions.
-use Rattle.std.proofs.Common.{◌≡◌, ℕ, ◌+◌, ◌-◌, ◌<◌, ◌≤◌, Bool, true, false, cond, List, [], ◌∷◌, length, Option, Some, None, refl, sym, ap, ◌∙◌, subst, arith}
+use Rattle.std.proofs.Common.{◌≡◌, ℕ, ◌-◌, ◌<◌, ◌≤◌, Bool, true, false, cond, List, [], ◌∷◌, length, Option, Some, None, refl, sym, ap, ◌∙◌, subst, arith}
 use Rattle.std.specs.List.{list_any}
 use Rattle.std.specs.Prelude.{◌||◌, find, option_map, option_and_then, ◌==◌, nat_le, nat_lt, All, IsSome, IsSomeAnd}
 use Rattle.std.proofs.lemmas.Bool.{eqb-true, leb-true, ltb-true, and_parts, or_parts}
@@ -10,7 +10,7 @@ use Rattle.mm_types.specs.Address.{Range, end_of, holds_page}
 use Rattle.mm_vad.specs.Ranges.{page_number, is_begun_at}
 use Rattle.mm_vad.specs.Ranges.{first_and_count as told_of}
 use Rattle.mm_vad.specs.declared.regions.Region.{Region}
-use Rattle.mm_vad.specs.Regions.{HasFlags, LieInRegion, LieAmong, LieWithPage, pages_of, region_holds, region_at, region_with_base}
+use Rattle.mm_vad.specs.Regions.{HasFlags, HasPages, pages_of, region_holds, region_at, region_with_base}
 use Rattle.mm_vad.specs.Index.{regions_of, IsHeld, AllHeld, IsIndex}
 use Rattle.mm_vad.proofs.Held.{pair_of, find_held}
 
@@ -28,14 +28,6 @@ told_some (Some r) base n e =
 pub told_none : (o : Option Range) → None ≡ option_map told_of o → o ≡ None
 told_none None e = refl
 told_none (Some r) e = cc
-
--- the page is one of the region's
-pub record HasPage (g : Region) (page : ℕ) : Type 0 where
-  pub low : g.base.0 ≤ page
-  pub high : page - g.base.0 < g.pages
-  pub row : page - g.base.0 < length g.rows
-  pub whole : length g.rows ≡ g.pages
-  pub flags : HasFlags g.pages g
 
 -- what a search among regions finds passes its test, and has as many rows as pages
 found_region : (t : Region → Bool) (gs : List Region) (g : Region) → All (λ r. length r.rows ≡ r.pages) gs → find t gs ≡ Some g → (t g ≡ true) × (length g.rows ≡ g.pages)
@@ -120,7 +112,7 @@ module _ (found : ℕ → Option Region) (ranges : List Range) (index : IsIndex 
       ] refl
 
   -- the region that is found at the first page of the range of the page
-  pub region_there : (page base : ℕ) (region : Region) → Told (find (λ r. holds_page r page) ranges) base → found base ≡ Some region → HasPage region page
+  pub region_there : (page base : ℕ) (region : Region) → Told (find (λ r. holds_page r page) ranges) base → found base ≡ Some region → HasPages region page 1
   region_there page base region told e =
       let f = found_range found (λ r. holds_page r page) ranges told.range index.held told.is in
       let p = pair_of found told.range f.1 in
@@ -129,18 +121,54 @@ module _ (found : ℕ → Option Region) (ranges : List Range) (index : IsIndex 
       let sides = and_parts (nat_le told.range.first page) (nat_lt page (end_of told.range)) f.0 in
       let low = leb-true told.range.first page sides.0 in
       let high = ltb-true page (end_of told.range) sides.1 in
-      subst (λ (g : Region). HasPage g page) same
+      subst (λ (g : Region). HasPages g page 1) same
       (record {
         low = omega (arith, low, ap (λ (r : Range). r.first) p.pages);
-        high = omega (arith, high, ap (λ (r : Range). r.first) p.pages, ap (λ (r : Range). r.count) p.pages);
-        row = omega (arith, high, ap (λ (r : Range). r.first) p.pages, p.whole);
+        within = omega (arith, high, ap (λ (r : Range). r.first) p.pages, ap (λ (r : Range). r.count) p.pages);
         whole = p.whole ∙ sym (ap (λ (r : Range). r.count) p.pages);
         flags = subst (λ (n : ℕ). HasFlags n p.region) (sym (ap (λ (r : Range). r.count) p.pages)) p.flags;
       })
 
--- pages that lie in one region lie in the one that is found at the first of them
-pub lie_in : (gs : List Region) (page n : ℕ) (o : Option Region) → region_at gs page ≡ o → LieInRegion gs page n → IsSomeAnd o (λ r. page - r.base.0 + n ≤ r.pages)
-lie_in gs page n o e lie = subst (λ (x : Option Region). IsSomeAnd x (λ r. page - r.base.0 + n ≤ r.pages)) e lie
+  -- a range that begins there holds the page: its region has that base
+  pub lies_at : (page base : ℕ) → Told (find (λ r. holds_page r page) ranges) base → IsSomeAnd (region_at (regions_of found ranges) page) (λ r. r.base.0 ≡ base)
+  lies_at page base told =
+      let p = pair_of found told.range (found_range found (λ r. holds_page r page) ranges told.range index.held told.is).1 in
+      subst (λ (o : Option Region). IsSomeAnd o (λ r. r.base.0 ≡ base))
+      (sym p.there ∙ ap found told.first ∙ found_there (λ r. holds_page r page) base told)
+      (ap (λ (r : Range). r.first) p.pages ∙ told.first)
 
-pub lie_with : (gs : List Region) (page : ℕ) (addresses : List ℕ) (o : Option Region) → region_at gs page ≡ o → LieWithPage gs page addresses → IsSomeAnd o (λ r. LieAmong r.base.0 r.pages addresses)
-lie_with gs page addresses o e lie = subst (λ (x : Option Region). IsSomeAnd x (λ r. LieAmong r.base.0 r.pages addresses)) e lie
+-- the region in which a page lies, as it is found by its base
+pub record Found (found : ℕ → Option Region) (ranges : List Range) (page base : ℕ) (regions : List Region) : Type 0 where
+  pub region : Region
+  pub told : Told (find (λ r. holds_page r page) ranges) base
+  pub there : found base ≡ Some region
+  pub at : region_at regions page ≡ Some region
+  pub has : HasPages region page 1
+
+pub found_by : (found : ℕ → Option Region) (ranges : List Range) (page base : ℕ) (regions : List Region) → IsIndex found ranges → regions_of found ranges ≡ regions → IsSomeAnd (region_at regions page) (λ r. r.base.0 ≡ base) → Found found ranges page base regions
+found_by found ranges page base regions index view lies =
+    let here = find (λ r. holds_page r page) ranges in
+    let seen : region_at regions page ≡ option_and_then (λ r. found r.first) here =
+    ap (λ (gs : List Region). region_at gs page) (sym view) ∙ find_held found (λ r. holds_page r page) ranges index.held in
+    elim here as (λ o. here ≡ o → Found found ranges page base regions) [
+      | None ↦ λ e. absurd (subst (λ (o : Option Region). IsSomeAnd o (λ r. r.base.0 ≡ base)) (seen ∙ ap (option_and_then (λ (r : Range). found r.first)) e) lies)
+      | Some r ↦ λ e. (
+          let p = pair_of found r (found_range found (λ x. holds_page x page) ranges r index.held e).1 in
+          let at : region_at regions page ≡ Some p.region = seen ∙ ap (option_and_then (λ (x : Range). found x.first)) e ∙ p.there in
+          let base_is : p.region.base.0 ≡ base = subst (λ (o : Option Region). IsSomeAnd o (λ g. g.base.0 ≡ base)) at lies in
+          let first : r.first ≡ base = sym (ap (λ (x : Range). x.first) p.pages) ∙ base_is in
+          let told : Told here base = record { range = r; is = e; first = first } in
+          let there = sym (ap found first) ∙ p.there in
+          record {
+            region = p.region;
+            told = told;
+            there = there;
+            at = at;
+            has = region_there found ranges index page base p.region told there;
+          })
+    ] refl
+
+-- a page of which this holds lies in a region
+pub lies_in_one : (P : Region → Type 0) (o : Option Region) → IsSomeAnd o P → IsSome o
+lies_in_one P None h = absurd h
+lies_in_one P (Some g) h = refl

@@ -1,15 +1,22 @@
 -- How a `Space` holds its regions: by their bases, in the order of the ranges that they take.
-use Rattle.std.specs.Prelude.{◌≡◌, ℕ, List, [], ◌∷◌, length, Option, IsSomeAnd}
+use Rattle.std.specs.Prelude.{◌≡◌, ℕ, min, List, [], ◌∷◌, length, Option, IsSomeAnd}
 use Rattle.std.specs.List.{cons_option}
 use Rattle.mm_types.specs.Address.{Range, first_user_page}
-use Rattle.mm_vad.specs.Ranges.{LieApart}
+use Rattle.mm_vad.specs.Ranges.{GapsOf, LieApart}
 use Rattle.mm_vad.specs.declared.regions.Region.{Region}
-use Rattle.mm_vad.specs.Regions.{pages_of, HasFlags}
+use Rattle.mm_vad.specs.Regions.{SpaceOf, pages_of, HasFlags}
 
 -- the regions that are found at the first pages of the ranges
 abbrev pub regions_of : (ℕ → Option Region) → List Range → List Region
 regions_of found [] = []
 regions_of found (r ∷ rs) = cons_option (found r.first) (regions_of found rs)
+
+-- what is seen of a space: its regions, and how many more there is room for
+abbrev pub space_of : (ℕ → Option Region) → GapsOf → ℕ → SpaceOf
+space_of found taken more = record {
+  regions = regions_of found taken.ranges;
+  spare = min taken.spare more;
+}
 
 -- a region of just these pages is found at the first of them, with a row for each and, where it is
 -- watched, a flag

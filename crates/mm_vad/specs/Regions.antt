@@ -25,6 +25,14 @@ ranges_of regions = map pages_of regions
 abbrev pub HasFlags : ℕ → Region → Type 0
 HasFlags n r = IfSome r.watched (λ flags. length flags ≡ n)
 
+-- so many pages from this one on are the region's, which has a row for each of its pages and, where
+-- it is watched, a flag
+pub record HasPages (r : Region) (page n : ℕ) : Type 0 where
+  pub low : r.base.0 ≤ page
+  pub within : page - r.base.0 + n ≤ r.pages
+  pub whole : length r.rows ≡ r.pages
+  pub flags : HasFlags r.pages r
+
 -- each region has a page, all are user pages, no page lies in two regions, and the bases rise; a
 -- region has as many rows as pages, and a watched one as many flags
 pub record IsSpace (regions : List Region) : Type 0 where

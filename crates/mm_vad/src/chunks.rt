@@ -1,5 +1,5 @@
-ghost use Rattle.std.specs.Prelude.{◌≡◌, ◌+◌, ◌<◌, ◌≤◌, ◌^◌, [], Some, None, IfOk, IfSome, length, replicate, take, drop, slice_get, slice_set, slice_index_or, vec_len, vec_capacity};
-ghost use Rattle.mm_vad.specs.Chunks.{own_place, place_after, places_after, filled_rows};
+ghost use Rattle.std.specs.Prelude.{◌≡◌, ◌+◌, ◌<◌, ◌≤◌, ◌^◌, [], Some, None, IfOk, IfSome, length, replicate, slice_get, slice_set, slice_index_or, vec_len, vec_capacity};
+ghost use Rattle.mm_vad.specs.Chunks.{own_place, place_after, places_after, filled_rows, StartsRun};
 
 use crate::Row;
 use mm_types::NoMemory;
@@ -31,9 +31,9 @@ impl Chunk {
 
 /// Rows in chunks, of which only those whose rows differ are written out.
 ///
-/// Contracts see the list of all chunks' rows. There is room to write out every chunk, which is
-/// taken ahead and left unwritten, so the system maps it as it is first touched, and no write needs
-/// memory.
+/// Contracts see the list of all chunks' rows, and for how many chunks there is room. The room to
+/// write out every chunk is taken ahead and left unwritten, so the system maps it as it is first
+/// touched, and no write needs memory.
 #[derive(Drop)]
 pub(crate) struct Chunks {
     chunks: Vec<Chunk>,
@@ -41,42 +41,51 @@ pub(crate) struct Chunks {
 }
 
 impl Model for Chunks {
-    ghost use Rattle.std.specs.Prelude.{List, vec_capacity};
-    ghost use Rattle.mm_vad.specs.declared.pages.Row.{Row};
-    ghost use Rattle.mm_vad.specs.Chunks.{chunks_of, AreWritten};
+    ghost use Rattle.std.specs.Prelude.{vec_capacity};
+    ghost use Rattle.mm_vad.specs.Chunks.{ChunksOf, chunks_seen, AreWritten};
 
-    ghost Value = { List (List Row) };
+    ghost Value = { ChunksOf };
 
-    ghost view = { λ c. chunks_of c.chunks.items c.places.items };
+    ghost view = { λ c. chunks_seen c.chunks c.places };
 
     ghost invariant = { λ c. AreWritten c.chunks.items c.places.items (vec_capacity c.places) };
 }
 
 impl Chunks {
-    /// `count` chunks of rows equal to `row`. `NoMemory` where a request for memory was refused.
-    pub(crate) fn new(alloc: Global, count: usize, row: Row) -> Result<Chunks, NoMemory>
-        requires { count < 2 ^ 32 }
-        ensures { IfOk result (λ chunks. chunks ≡ replicate count (replicate 512 row)) }
+    /// No chunk, and room for `count`. `NoMemory` where a request for memory was refused.
+    pub(crate) fn new(alloc: Global, count: usize) -> Result<Chunks, NoMemory>
+        ensures rows { IfOk result (λ chunks. chunks.rows ≡ []) }
+        ensures room { IfOk result (λ chunks. count ≤ chunks.room) }
     {
-        let mut chunks = Vec::new(alloc);
-        chunks.resize(count, Chunk::Equal(row, None))?;
+        let chunks = Vec::with_capacity(alloc, count)?;
         let places = Vec::with_capacity(alloc, count)?;
         Ok(Chunks { chunks, places })
     }
 
+    /// There are `count` chunks of rows equal to `row` from now on, within the room.
+    pub(crate) fn renew(&mut self, count: usize, row: Row)
+        requires few { count < 2 ^ 32 }
+        requires room { count ≤ self.old.room }
+        ensures rows { self.new.rows ≡ replicate count (replicate 512 row) }
+        ensures room { self.old.room ≤ self.new.room }
+    {
+        self.places.clear();
+        refill(&mut self.chunks, count, Chunk::Equal(row, None));
+    }
+
     /// How many chunks there are.
     pub(crate) fn count(&self) -> usize
-        ensures { result ≡ length self.now }
+        ensures { result ≡ length self.now.rows }
     {
         self.chunks.len()
     }
 
     /// Row `at` of chunk `index`, both counted from 0.
     pub(crate) fn get(&self, index: usize, at: usize) -> Row
-        requires there { index < length self.now }
+        requires there { index < length self.now.rows }
         requires inside { at < 512 }
-        requires whole { length (slice_index_or self.now index []) ≡ 512 }
-        ensures { slice_get (slice_index_or self.now index []) at ≡ Some result }
+        requires whole { length (slice_index_or self.now.rows index []) ≡ 512 }
+        ensures { slice_get (slice_index_or self.now.rows index []) at ≡ Some result }
     {
         match self.chunks[index] {
             Chunk::Equal(row, _) => row,
@@ -87,14 +96,11 @@ impl Chunks {
     /// Row `at` of chunk `index`, and how many rows from it on are known to be equal to it: at
     /// least one, at most `most`.
     pub(crate) fn equal_from(&self, index: usize, at: usize, most: usize) -> (Row, usize)
-        requires there { index < length self.now }
+        requires there { index < length self.now.rows }
         requires inside { at + most ≤ 512 }
         requires asked { 0 < most }
-        requires whole { length (slice_index_or self.now index []) ≡ 512 }
-        ensures some { 0 < result.1 }
-        ensures within { result.1 ≤ most }
-        ensures equal { take result.1 (drop at (slice_index_or self.now index []))
-            ≡ replicate result.1 result.0 }
+        requires whole { length (slice_index_or self.now.rows index []) ≡ 512 }
+        ensures { StartsRun (slice_index_or self.now.rows index []) at most result.0 result.1 }
     {
         match self.chunks[index] {
             Chunk::Equal(row, _) => (row, most),
@@ -104,8 +110,10 @@ impl Chunks {
 
     // All rows of chunk `index` become `row`.
     fn fill_whole(&mut self, index: usize, row: Row)
-        requires { index < length self.old }
-        ensures { self.new ≡ slice_set self.old index (replicate 512 row) }
+        requires { index < length self.old.rows }
+        ensures { self.new ≡ record self.old {
+          rows = slice_set self.old.rows index (replicate 512 row);
+        } }
     {
         let place = self.chunks[index].own_place();
         self.chunks[index] = Chunk::Equal(row, place);
@@ -113,11 +121,13 @@ impl Chunks {
 
     /// The `n` rows of chunk `index` from row `at` on become `row`.
     pub(crate) fn fill(&mut self, index: usize, at: usize, n: usize, row: Row)
-        requires there { index < length self.old }
+        requires there { index < length self.old.rows }
         requires inside { at + n ≤ 512 }
-        requires whole { length (slice_index_or self.old index []) ≡ 512 }
-        ensures { self.new ≡ slice_set self.old index
-            (filled_rows (slice_index_or self.old index []) at n row) }
+        requires whole { length (slice_index_or self.old.rows index []) ≡ 512 }
+        ensures { self.new ≡ record self.old {
+          rows = slice_set self.old.rows index
+              (filled_rows (slice_index_or self.old.rows index []) at n row);
+        } }
     {
         if n == CHUNK {
             self.fill_whole(index, row);
@@ -140,9 +150,7 @@ impl Chunks {
 pub(crate) fn equal_in(rows: &[Row], at: usize, most: usize) -> (Row, usize)
     requires inside { at + most ≤ length rows.now }
     requires asked { 0 < most }
-    ensures some { 0 < result.1 }
-    ensures within { result.1 ≤ most }
-    ensures equal { take result.1 (drop at rows.now) ≡ replicate result.1 result.0 }
+    ensures { StartsRun rows.now at most result.0 result.1 }
 {
     let row = rows[at];
     let mut n = 1;
@@ -158,6 +166,19 @@ pub(crate) fn fill_in(rows: &mut [Row], at: usize, n: usize, row: Row)
     ensures { rows.new ≡ filled_rows rows.old at n row }
 {
     rows[at..at + n].fill(row);
+}
+
+/// The list has `n` things equal to `value` from now on, within its room.
+pub(crate) fn refill<T: Copy>(list: &mut Vec<T>, n: usize, value: T)
+    requires { n ≤ vec_capacity list.old }
+    ensures items { list.new.items ≡ replicate n value }
+    ensures capacity { vec_capacity list.old ≤ vec_capacity list.new }
+{
+    list.clear();
+    match list.resize(n, value) {
+        Ok(()) => {}
+        Err(_) => unreachable!(),
+    }
 }
 
 // Writes a chunk's rows to its place, or to the next where it has none, and gives its place: rows

@@ -146,7 +146,8 @@ impl Gaps {
     pub fn lowest_gap<L: Ledger>(&self, n: u32, steps: &mut Steps<L>) -> Option<Vpn>
         requires { 0 < n }
         ensures found { result ≡ option_map page_number (lowest_gap self.now.ranges n) }
-        ensures few { VisitsFew L.stepped steps.old.ledger steps.new.ledger (length self.now.ranges) }
+        ensures few { VisitsFew L.stepped steps.old.ledger steps.new.ledger
+            (length self.now.ranges) }
         ensures apart { LieApart first_user_page self.now.ranges }
     {
         match self

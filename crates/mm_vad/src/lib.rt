@@ -10,6 +10,7 @@ mod pages;
 mod regions;
 mod spaces;
 mod trees;
+mod written;
 
 pub use bits::Bits;
 pub use gaps::Gaps;

@@ -1,6 +1,6 @@
-ghost use Rattle.std.specs.Prelude.{◌≡◌, ◌+◌, ◌-◌, ◌<◌, ◌≤◌, ◌^◌, length, replicate, slice_get, slice_set, Some, IfOk, IsTrue, ◌↔◌, take, drop};
+ghost use Rattle.std.specs.Prelude.{◌≡◌, ◌+◌, ◌-◌, ◌<◌, ◌≤◌, length, replicate, slice_get, slice_set, Some, IfOk, IsTrue, ◌↔◌, take, drop};
 
-use crate::chunks::{CHUNK, Chunks, equal_in, fill_in};
+use crate::written::WrittenRows;
 use mm_types::{NoMemory, Prot};
 use std::alloc::Global;
 use std::marker::Model;
@@ -39,41 +39,44 @@ impl Row {
 /// The rows of a region, one for each page, in the order of its pages.
 #[derive(Drop)]
 pub struct Rows {
-    chunks: Chunks,
-    // The rows behind the last whole chunk.
-    rest: Vec<Row>,
+    // The row that all are equal to, where they are not written out.
+    equal: Option<Row>,
+    // The rows once they are written out; room for all of them is there from the beginning.
+    written: WrittenRows,
 }
 
 impl Model for Rows {
     ghost use Rattle.std.specs.Prelude.{List};
     ghost use Rattle.mm_vad.specs.declared.pages.Row.{Row};
-    ghost use Rattle.mm_vad.specs.Chunks.{rows_joined, AreRows};
+    ghost use Rattle.mm_vad.specs.Chunks.{rows_of, AreAll};
 
     ghost Value = { List Row };
 
-    ghost view = { λ r. rows_joined r.chunks r.rest.items };
+    ghost view = { λ r. rows_of r.equal r.written };
 
-    ghost invariant = { λ r. AreRows r.chunks r.rest.items };
+    ghost invariant = { λ r. AreAll r.equal r.written };
 }
 
 impl Rows {
     ghost use Rattle.mm_vad.specs.Looks.{run_from};
-    ghost use Rattle.mm_vad.specs.Chunks.{filled_rows};
+    ghost use Rattle.mm_vad.specs.Chunks.{filled_rows, FilledSome};
 
     /// `n` rows, each equal to `row`. `NoMemory` where a request for memory was refused.
     pub fn new(alloc: Global, n: u32, row: Row) -> Result<Rows, NoMemory>
         ensures { IfOk result (λ rows. rows ≡ replicate n row) }
     {
-        let chunks = Chunks::new(alloc, n as usize / CHUNK, row)?;
-        let rest = vec![in alloc; row; n as usize % CHUNK]?;
-        Ok(Rows { chunks, rest })
+        let written = WrittenRows::new(alloc, n)?;
+        Ok(Rows {
+            equal: Some(row),
+            written,
+        })
     }
 
     /// How many rows there are.
     pub fn len(&self) -> u32
         ensures { result ≡ length self.now }
     {
-        (self.chunks.count() * CHUNK + self.rest.len()) as u32
+        self.written.room()
     }
 
     /// Whether there is no row.
@@ -88,12 +91,9 @@ impl Rows {
         requires { i < length self.now }
         ensures { slice_get self.now i ≡ Some result }
     {
-        let (index, at) = (i as usize / CHUNK, i as usize % CHUNK);
-        let whole = self.chunks.count();
-        if index < whole {
-            self.chunks.get(index, at)
-        } else {
-            self.rest[i as usize - whole * CHUNK]
+        match self.equal {
+            Some(row) => row,
+            None => self.written.get(i),
         }
     }
 
@@ -106,7 +106,7 @@ impl Rows {
     }
 
     /// Row `i`, and how many rows from it on are known to be equal to it: at least one, at most
-    /// `most`, and none behind the end of its chunk.
+    /// `most`, and none behind the end of its chunk where the rows are written out.
     pub fn equal_from(&self, i: u32, most: u32) -> (Row, u32)
         requires inside { i + most ≤ length self.now }
         requires asked { 0 < most }
@@ -114,16 +114,10 @@ impl Rows {
         ensures within { result.1 ≤ most }
         ensures equal { take result.1 (drop i self.now) ≡ replicate result.1 result.0 }
     {
-        let (index, at) = (i as usize / CHUNK, i as usize % CHUNK);
-        let whole = self.chunks.count();
-        if index < whole {
-            let (row, n) = self
-                .chunks
-                .equal_from(index, at, (most as usize).min(CHUNK - at));
-            return (row, n as u32);
+        match self.equal {
+            Some(row) => (row, most),
+            None => self.written.equal_from(i, most),
         }
-        let (row, n) = equal_in(&self.rest, i as usize - whole * CHUNK, most as usize);
-        (row, n as u32)
     }
 
     /// The `n` rows from row `first` on become `row`.
@@ -137,29 +131,27 @@ impl Rows {
         }
     }
 
-    // The rows from row `first` on become `row`, up to the end of its chunk, at most `n`; how many.
+    // The rows from row `first` on become `row`, at most `n` of them; how many. Rows that come to
+    // differ are written out, and of those that are, one call changes none behind a chunk's end.
     fn fill_some(&mut self, first: u32, n: u32, row: Row) -> u32
         requires inside { first + n ≤ length self.old }
         requires some { 0 < n }
-        ensures some { 0 < result }
-        ensures within { result ≤ n }
-        ensures fits { first + result < 2 ^ 32 }
-        ensures after { self.new ≡ filled_rows self.old first result row }
+        ensures { FilledSome self.old self.new first n row result }
     {
-        let (index, at) = (first as usize / CHUNK, first as usize % CHUNK);
-        let whole = self.chunks.count();
-        if index >= whole {
-            fill_in(
-                &mut self.rest,
-                first as usize - whole * CHUNK,
-                n as usize,
-                row,
-            );
+        if n == self.len() {
+            self.equal = Some(row);
             return n;
         }
-        let some = (n as usize).min(CHUNK - at);
-        self.chunks.fill(index, at, some, row);
-        some as u32
+        match self.equal {
+            None => self.written.fill_some(first, n, row),
+            Some(before) => {
+                if before == row {
+                    return n;
+                }
+                self.equal = None;
+                self.written.write_out(before, first, n, row)
+            }
+        }
     }
 
     /// How many rows from row `i` on are alike in state, protection and guard; at least one. A page

@@ -1,7 +1,7 @@
-ghost use Rattle.std.specs.Prelude.{◌≡◌, ◌+◌, ◌-◌, ◌<◌, ◌≤◌, true, false, map, length};
+ghost use Rattle.std.specs.Prelude.{◌≡◌, true, false, map, length};
 ghost use Rattle.mm_types.specs.Address.{page_of};
 ghost use Rattle.mm_world.specs.Watch.{unwritten};
-ghost use Rattle.mm_vad.specs.Regions.{HasFlags, LieAmong, with_row, with_equal_rows, with_marks, with_unwritten};
+ghost use Rattle.mm_vad.specs.Regions.{HasFlags, HasPages, LieAmong, with_row, with_equal_rows, with_marks, with_unwritten};
 
 use crate::{Bits, Row, Rows};
 use mm_types::{Kind, PAGE_SIZE, PageList, Prot, Vpn};
@@ -36,8 +36,7 @@ fn clear_pages(flags: &mut Bits, base: u32, addresses: &[u32])
 impl Region {
     // Writes the row of page `v`, one of the region's.
     pub(crate) fn set_row(&mut self, v: Vpn, row: Row)
-        requires low { self.old.base.0 ≤ v.0 }
-        requires high { v.0 - self.old.base.0 < length self.old.rows }
+        requires { HasPages self.old v.0 1 }
         ensures { self.new ≡ with_row v.0 row self.old }
     {
         self.rows.set(v.0 - self.base.0, row);
@@ -45,8 +44,7 @@ impl Region {
 
     // The rows of the `n` pages from `first` on, all of them the region's, become `row`.
     pub(crate) fn fill_rows(&mut self, first: Vpn, n: u32, row: Row)
-        requires low { self.old.base.0 ≤ first.0 }
-        requires high { first.0 - self.old.base.0 + n ≤ length self.old.rows }
+        requires { HasPages self.old first.0 n }
         ensures { self.new ≡ with_equal_rows first.0 n row self.old }
     {
         self.rows.fill(first.0 - self.base.0, n, row);
@@ -54,9 +52,7 @@ impl Region {
 
     // Page `v`, one of the region's, is written from now on, where the region is watched.
     pub(crate) fn mark(&mut self, v: Vpn)
-        requires low { self.old.base.0 ≤ v.0 }
-        requires high { v.0 - self.old.base.0 < self.old.pages }
-        requires flags { HasFlags self.old.pages self.old }
+        requires { HasPages self.old v.0 1 }
         ensures { self.new ≡ with_marks true v.0 1 self.old }
     {
         if let Some(flags) = &mut self.watched {
@@ -67,9 +63,7 @@ impl Region {
     // The `n` pages from `first` on, all of them the region's, are unwritten from now on, where it
     // is watched.
     pub(crate) fn clear_marks(&mut self, first: Vpn, n: u32)
-        requires low { self.old.base.0 ≤ first.0 }
-        requires high { first.0 - self.old.base.0 + n ≤ self.old.pages }
-        requires flags { HasFlags self.old.pages self.old }
+        requires { HasPages self.old first.0 n }
         ensures { self.new ≡ with_marks false first.0 n self.old }
     {
         if let Some(flags) = &mut self.watched {

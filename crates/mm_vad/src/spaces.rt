@@ -1,4 +1,4 @@
-ghost use Rattle.std.specs.Prelude.{◌≡◌, ◌+◌, ◌-◌, ◌<◌, ◌≤◌, true, false, [], length, IsTrue, IsSome, OnOk, OnErr, option_map};
+ghost use Rattle.std.specs.Prelude.{◌≡◌, ◌+◌, ◌-◌, ◌<◌, ◌≤◌, true, false, [], length, IsTrue, IsSome, IsSomeAnd, OnOk, OnErr, option_map};
 ghost use Rattle.std.specs.Option.{option_copied};
 ghost use Rattle.mm_types.specs.Address.{is_free, lowest_gap};
 ghost use Rattle.mm_vad.specs.Ranges.{page_number};
@@ -19,14 +19,14 @@ pub struct Space {
 }
 
 impl Model for Space {
-    ghost use Rattle.std.specs.Prelude.{min, nat_eq};
+    ghost use Rattle.std.specs.Prelude.{nat_eq};
     ghost use Rattle.std.specs.HashMap.{get, spare};
     ghost use Rattle.mm_vad.specs.Regions.{SpaceOf};
-    ghost use Rattle.mm_vad.specs.Index.{regions_of, IsIndex};
+    ghost use Rattle.mm_vad.specs.Index.{space_of, IsIndex};
 
     ghost Value = { SpaceOf };
 
-    ghost view = { λ s. record { regions = regions_of (get nat_eq s.regions) s.taken.ranges; spare = min s.taken.spare (spare s.regions) } };
+    ghost view = { λ s. space_of (get nat_eq s.regions) s.taken (spare s.regions) };
 
     ghost invariant = { λ s. IsIndex (get nat_eq s.regions) s.taken.ranges };
 }
@@ -62,16 +62,25 @@ impl Space {
         self.regions.get(&base.0)
     }
 
+    // The base of the region in which page `v` lies.
+    fn base_at(&self, v: Vpn) -> u32
+        requires { IsSome (region_at self.now.regions v.0) }
+        ensures { IsSomeAnd (region_at self.now.regions v.0) (λ r. r.base.0 ≡ result) }
+    {
+        let Some((base, _)) = self.taken.at(v) else {
+            unreachable!()
+        };
+        base.0
+    }
+
     /// Writes the row of page `v`, which lies in a region.
     pub fn set_row(&mut self, v: Vpn, row: Row)
         requires { IsSome (region_at self.old.regions v.0) }
         ensures after { self.new ≡ record self.old { regions = set_row self.old.regions v.0 row } }
         ensures sound { IsSpace self.new.regions }
     {
-        let Some((base, _)) = self.taken.at(v) else {
-            unreachable!()
-        };
-        let Some(region) = self.regions.get_mut(&base.0) else {
+        let base = self.base_at(v);
+        let Some(region) = self.regions.get_mut(&base) else {
             unreachable!()
         };
         region.set_row(v, row);
@@ -85,10 +94,8 @@ impl Space {
         } }
         ensures sound { IsSpace self.new.regions }
     {
-        let Some((base, _)) = self.taken.at(first) else {
-            unreachable!()
-        };
-        let Some(region) = self.regions.get_mut(&base.0) else {
+        let base = self.base_at(first);
+        let Some(region) = self.regions.get_mut(&base) else {
             unreachable!()
         };
         region.fill_rows(first, n, row);
@@ -103,10 +110,8 @@ impl Space {
         } }
         ensures sound { IsSpace self.new.regions }
     {
-        let Some((base, _)) = self.taken.at(v) else {
-            unreachable!()
-        };
-        let Some(region) = self.regions.get_mut(&base.0) else {
+        let base = self.base_at(v);
+        let Some(region) = self.regions.get_mut(&base) else {
             unreachable!()
         };
         region.mark(v);
@@ -121,10 +126,8 @@ impl Space {
         } }
         ensures sound { IsSpace self.new.regions }
     {
-        let Some((base, _)) = self.taken.at(first) else {
-            unreachable!()
-        };
-        let Some(region) = self.regions.get_mut(&base.0) else {
+        let base = self.base_at(first);
+        let Some(region) = self.regions.get_mut(&base) else {
             unreachable!()
         };
         region.clear_marks(first, n);
@@ -139,10 +142,8 @@ impl Space {
         } }
         ensures sound { IsSpace self.new.regions }
     {
-        let Some((base, _)) = self.taken.at(first) else {
-            unreachable!()
-        };
-        let Some(region) = self.regions.get_mut(&base.0) else {
+        let base = self.base_at(first);
+        let Some(region) = self.regions.get_mut(&base) else {
             unreachable!()
         };
         region.unwrite(pages);
@@ -151,7 +152,8 @@ impl Space {
     /// The lowest granule from which `n` user pages are free, as its first page. None exactly where
     /// there is none.
     pub fn lowest_gap(&self, n: u32) -> Option<Vpn>
-        ensures found { result ≡ option_map page_number (lowest_gap (ranges_of self.now.regions) n) }
+        ensures found { result ≡ option_map page_number
+            (lowest_gap (ranges_of self.now.regions) n) }
         ensures sound { IsSpace self.now.regions }
     {
         let taken = &self.taken;

@@ -259,7 +259,8 @@ impl Tree {
     /// The first range that begins at page `v` or above it.
     pub fn first_from(&self, v: u32) -> Option<(Vpn, u32)>
         requires { LieApart 0 self.now.ranges }
-        ensures { result ≡ option_map first_and_count (find (λ r. nat_le v r.first) self.now.ranges) }
+        ensures { result ≡ option_map first_and_count
+            (find (λ r. nat_le v r.first) self.now.ranges) }
     {
         let mut tree = self;
         let mut above = None;
@@ -288,23 +289,24 @@ impl Tree {
         ensures few { VisitsAtMost L.stepped steps.old.ledger steps.new.ledger self.now.height }
         ensures shaped { IsShaped self.now }
     {
-        match self.visit(steps) {
-            None => {
-                if n <= room_between(low, high) {
-                    Some(align_up(low))
-                } else {
-                    None
-                }
+        let mut tree = self;
+        let (mut from, mut to) = (low, high);
+        while let Some(node) = tree.visit(steps) {
+            if n <= room_between(from, node.span.lowest) {
+                return Some(align_up(from));
             }
-            Some(node) => {
-                if n <= room_between(low, node.span.lowest) {
-                    Some(align_up(low))
-                } else if n <= node.left_gap {
-                    node.left.lowest_gap(low, node.pages.first, n, steps)
-                } else {
-                    node.right.lowest_gap(node.pages.end(), high, n, steps)
-                }
+            if n <= node.left_gap {
+                to = node.pages.first;
+                tree = &node.left;
+            } else {
+                from = node.pages.end();
+                tree = &node.right;
             }
+        }
+        if n <= room_between(from, to) {
+            Some(align_up(from))
+        } else {
+            None
         }
     }
 }

@@ -1,13 +1,13 @@
 -- A process is one again after each change.
 use Rattle.std.proofs.Common.{◌≡◌, ◌≢◌, ℕ, ◌+◌, ◌<◌, ◌≤◌, Bool, true, false, cond, Option, Some, None, refl, sym, ap, ◌∙◌, subst, inl, inr, arith}
-use Rattle.std.specs.Prelude.{is_some, nat_le, nat_lt, option_map}
+use Rattle.std.specs.Prelude.{is_some, nat_le, nat_lt, option_map, Result, Ok, Err, OnOk, OnErr}
 use Rattle.std.specs.Ordering.{nat_cmp}
 use Rattle.std.specs.FinMap as finite
 use Rattle.std.specs.FinMap.{FinMap}
 use Rattle.std.proofs.lemmas.Bool.{and_parts, leb-true, ltb-true}
 use Rattle.mm_types.proofs.Cells.{same_or_not}
 use Rattle.mm_types.proofs.Finite.{same, len_more, len_less}
-use Rattle.mm_types.specs.Address.{holds_page}
+use Rattle.mm_types.specs.Address.{holds_page, end_of_user_pages}
 use Rattle.mm_types.specs.declared.numbers.Frame.{Frame}
 use Rattle.mm_wset.specs.Ages.{WorkingSetOf, AgesBy, older}
 use Rattle.mm_words.specs.Layout.{IsEntry, entry_word}
@@ -15,7 +15,7 @@ use Rattle.mm_words.specs.declared.layout.Entry.{Entry}
 use Rattle.mm_words.specs.declared.layout.Entry.TheVariants as entry
 use Rattle.mm_words.specs.Entries.{entry_or}
 use Rattle.mm_words.proofs.EntryLemmas.{entry_again}
-use Rattle.mm_words.specs.Pages.{pages, Releases}
+use Rattle.mm_words.specs.Pages.{pages, Reserves, Releases, reserved_word}
 use Rattle.mm_words.specs.Words.{bare, is_valid_entry}
 use Rattle.mm_words.specs.Processes.{IsKeptProcess, place_in_set, set_place}
 use Rattle.mm_words.proofs.ReadWords.{no_set_place, plain_place}
@@ -26,6 +26,27 @@ place_here t v e is = ap (λ o. set_place (entry_or o)) (here t v (entry_word e)
 
 place_elsewhere : (t : FinMap nat_cmp ℕ) (v w q : ℕ) → q ≢ v → place_in_set (finite.insert t v w) q ≡ place_in_set t q
 place_elsewhere t v w q other = ap (λ o. set_place (entry_or o)) (elsewhere t v w q other)
+
+-- only user pages have a word
+abbrev OnlyUser : FinMap nat_cmp ℕ → Type 0
+OnlyUser t = (page : ℕ) → is_some (finite.get t page) ≡ true → page < end_of_user_pages
+
+user_set : (t : FinMap nat_cmp ℕ) (v w : ℕ) → OnlyUser t → is_some (finite.get t v) ≡ true → OnlyUser (finite.insert t v w)
+user_set t v w user bound page some = elim (same_or_not page v) [
+  | inl here ↦ omega (arith, user v bound, here)
+  | inr differs ↦ user page (ap is_some (sym (elsewhere t v w page differs)) ∙ some)
+]
+
+range_parts : (first n q : ℕ) → holds_page (pages first n) q ≡ true → (first ≤ q) × (q < first + n)
+range_parts first n q h = let b = and_parts (nat_le first q) (nat_lt q (first + n)) h in (leb-true first q b.0, ltb-true q (first + n) b.1)
+
+-- after user pages were bound, or where memory was refused
+pub user_bound : {T E : Type 0} (res : Result T E) (t u : FinMap nat_cmp ℕ) (first n : ℕ) → OnOk res (Reserves t u (pages first n)) → OnErr res (u ≡ t) → first + n ≤ end_of_user_pages → OnlyUser t → OnlyUser u
+user_bound (Err e) t u first n good bad high user page some = user page (ap (λ (m : FinMap nat_cmp ℕ). is_some (finite.get m page)) (sym bad) ∙ some)
+user_bound (Ok x) t u first n good bad high user page some = elim (holds_page (pages first n) page) as (λ b. holds_page (pages first n) page ≡ b → page < end_of_user_pages) [
+  | true ↦ λ h. (let w = range_parts first n page h in omega (arith, w.1, high))
+  | false ↦ λ h. user page (ap is_some (sym (good page ∙ ap (λ b. cond b (reserved_word (finite.get t page)) (finite.get t page)) h)) ∙ some)
+] refl
 
 module _ (t : FinMap nat_cmp ℕ) (s : WorkingSetOf) (o : Bool) (is : IsKeptProcess t s o) where
   never_closed : {A : Type 0} (v : ℕ) → is_some (finite.get t v) ≡ true → o ≡ false → A
@@ -40,8 +61,8 @@ module _ (t : FinMap nat_cmp ℕ) (s : WorkingSetOf) (o : Bool) (is : IsKeptProc
       by_flag false e = never_closed v bound e
 
   -- each page names the place that it named
-  pub same_places_kept : (u : FinMap nat_cmp ℕ) → ((page : ℕ) → place_in_set u page ≡ place_in_set t page) → (o ≡ false → (page : ℕ) → finite.get u page ≡ None) → IsKeptProcess u s o
-  same_places_kept u stays closed = record {
+  pub same_places_kept : (u : FinMap nat_cmp ℕ) → ((page : ℕ) → place_in_set u page ≡ place_in_set t page) → (o ≡ false → (page : ℕ) → finite.get u page ≡ None) → OnlyUser u → IsKeptProcess u s o
+  same_places_kept u stays closed user = record {
     named = λ page n h. is.named page n (sym (stays page) ∙ h);
     held = λ n page h. stays page ∙ is.held n page h;
     aged = λ page. is.aged page ∙ ap is_some (sym (stays page));
@@ -49,13 +70,14 @@ module _ (t : FinMap nat_cmp ℕ) (s : WorkingSetOf) (o : Bool) (is : IsKeptProc
     within = is.within;
     room = is.room;
     closed = closed;
+    user = user;
   }
 
   -- ---- an entry that is not valid becomes another that is not
 
   pub set_kept : (u : FinMap nat_cmp ℕ) (v w : ℕ) (e : Entry) → u ≡ finite.insert t v w → w ≡ entry_word e
       → is_some (finite.get t v) ≡ true → is_valid_entry (bare (entry_or (finite.get t v))) ≡ false → is_valid_entry e ≡ false → IsEntry e → IsKeptProcess u s o
-  set_kept u v w e ue we bound invalid other fits = subst (λ (x : FinMap nat_cmp ℕ). IsKeptProcess x s o) (sym (ue ∙ ap (finite.insert t v) we)) (same_places_kept (finite.insert t v (entry_word e)) stays (never_closed v bound))
+  set_kept u v w e ue we bound invalid other fits = subst (λ (x : FinMap nat_cmp ℕ). IsKeptProcess x s o) (sym (ue ∙ ap (finite.insert t v) we)) (same_places_kept (finite.insert t v (entry_word e)) stays (never_closed v bound) (user_set t v (entry_word e) is.user bound))
     where
       stays : (page : ℕ) → place_in_set (finite.insert t v (entry_word e)) page ≡ place_in_set t page
       stays page = elim (same_or_not page v) [
@@ -65,11 +87,8 @@ module _ (t : FinMap nat_cmp ℕ) (s : WorkingSetOf) (o : Bool) (is : IsKeptProc
 
   -- ---- pages are bound or given up
 
-  pub bind_kept : (u : FinMap nat_cmp ℕ) → ((q : ℕ) → entry_or (finite.get u q) ≡ entry_or (finite.get t q)) → o ≡ true → IsKeptProcess u s o
-  bind_kept u stays opened = same_places_kept u (λ page. ap set_place (stays page)) (λ nay. (let bad : true ≡ false = sym opened ∙ nay in cc))
-
-  range_parts : (first n q : ℕ) → holds_page (pages first n) q ≡ true → (first ≤ q) × (q < first + n)
-  range_parts first n q h = let b = and_parts (nat_le first q) (nat_lt q (first + n)) h in (leb-true first q b.0, ltb-true q (first + n) b.1)
+  pub bind_kept : (u : FinMap nat_cmp ℕ) → ((q : ℕ) → entry_or (finite.get u q) ≡ entry_or (finite.get t q)) → o ≡ true → OnlyUser u → IsKeptProcess u s o
+  bind_kept u stays opened user = same_places_kept u (λ page. ap set_place (stays page)) (λ nay. (let bad : true ≡ false = sym opened ∙ nay in cc)) user
 
   -- no page of the range is valid
   abbrev NoneValid : ℕ → ℕ → Type 0
@@ -86,8 +105,13 @@ module _ (t : FinMap nat_cmp ℕ) (s : WorkingSetOf) (o : Bool) (is : IsKeptProc
   gone_none true r h = refl
   gone_none false r h = h
 
+  was_bound : (b : Bool) (r : Option ℕ) → is_some (cond b None r) ≡ true → is_some r ≡ true
+  was_bound true r h = let bad : false ≡ true = h in cc
+  was_bound false r h = h
+
   pub unbind_kept : (u : FinMap nat_cmp ℕ) (first n : ℕ) → Releases t u (pages first n) → NoneValid first n → IsKeptProcess u s o
   unbind_kept u first n rel invalid = same_places_kept u (unbind_place u first n rel invalid) (λ nay page. rel page ∙ gone_none (holds_page (pages first n) page) (finite.get t page) (is.closed nay page))
+      (λ page some. is.user page (was_bound (holds_page (pages first n) page) (finite.get t page) (ap is_some (sym (rel page)) ∙ some)))
 
   -- ---- a page becomes valid, at a vacant place
 
@@ -157,6 +181,7 @@ module _ (t : FinMap nat_cmp ℕ) (s : WorkingSetOf) (o : Bool) (is : IsKeptProc
       within = omega (arith, few, len_more s.places m v vacant);
       room = is.room;
       closed = never_closed v bound;
+      user = user_set t v (entry_word (entry.Valid f m)) is.user bound;
     }
 
   -- ---- a valid page is valid no more
@@ -212,6 +237,7 @@ module _ (t : FinMap nat_cmp ℕ) (s : WorkingSetOf) (o : Bool) (is : IsKeptProc
       within = omega (arith, is.within, len_less s.places m v (is.named v m valid));
       room = is.room;
       closed = never_closed v bound;
+      user = user_set t v (entry_word e) is.user bound;
     }
 
   -- ---- ages alone change
@@ -228,6 +254,7 @@ module _ (t : FinMap nat_cmp ℕ) (s : WorkingSetOf) (o : Bool) (is : IsKeptProc
     within = is.within;
     room = is.room;
     closed = is.closed;
+    user = is.user;
   })
 
   same_kind : (a : Option ℕ) → is_some (option_map older a) ≡ is_some a
@@ -247,6 +274,7 @@ module _ (t : FinMap nat_cmp ℕ) (s : WorkingSetOf) (o : Bool) (is : IsKeptProc
     within = is.within;
     room = is.room;
     closed = is.closed;
+    user = is.user;
   })
 
   -- ---- a process is opened or closed
@@ -279,6 +307,7 @@ module _ (t : FinMap nat_cmp ℕ) (s : WorkingSetOf) (o : Bool) (is : IsKeptProc
       within = is.within;
       room = refl;
       closed = λ _. no_word;
+      user = is.user;
     })
 
 -- ---- as the calls below say it
@@ -326,4 +355,5 @@ begin_kept t s min max te se = subst (λ (x : FinMap nat_cmp ℕ). IsKeptProcess
   within = omega (arith, finite.len-empty nat_cmp ℕ);
   room = refl;
   closed = λ _ page. finite.get-empty nat_cmp page;
+  user = λ page some. (let bad : false ≡ true = sym (ap is_some (finite.get-empty nat_cmp page)) ∙ some in cc);
 }))

@@ -14,8 +14,8 @@ use Rattle.mm_types.proofs.Finite.{same}
 use Rattle.std.specs.Prelude.{replicate, ◌-◌}
 use Rattle.mm_types.specs.Address.{holds_page}
 use Rattle.mm_words.specs.Pages.{pages, Reserves, Releases, AreReserved, reserved_word}
-use Rattle.mm_words.specs.LeafWords.{leaf_word, no_word}
-use Rattle.mm_words.specs.Directory.{LeavesOf, leaf_of, word_in, numbers_from, end_of_pages, directory_words, IsWholeLeaf, IsDirectory, IsInLeaf, with_leaf, with_leaf_word, SameWords, Changes, PlacesMore}
+use Rattle.mm_words.specs.LeafWords.{leaf_pages, leaf_word, no_word}
+use Rattle.mm_words.specs.Directory.{LeavesOf, leaf_of, word_in, numbers_from, end_of_pages, most_leaves, directory_words, IsWholeLeaf, IsDirectory, IsInLeaf, with_leaf, with_leaf_word, SameWords, Changes, PlacesMore}
 use Rattle.mm_words.proofs.WordLemmas.{none_after}
 use Rattle.std.proofs.lemmas.List.{length-replicate}
 
@@ -32,10 +32,10 @@ numbers_past start (suc count) zero h = absurd (omega arith)
 numbers_past start (suc count) (suc i) h = numbers_past (start + 1) count i (omega arith)
 
 -- no leaf has words past the end of pages
-word_past : (leaves : LeavesOf) (page : ℕ) → length leaves ≤ 512 → end_of_pages ≤ page → word_in leaves page ≡ None
+word_past : (leaves : LeavesOf) (page : ℕ) → length leaves ≤ most_leaves → end_of_pages ≤ page → word_in leaves page ≡ None
 word_past leaves page few far =
-    let past : length leaves ≤ page / 1024 = omega arith in
-    ap (λ (leaf : List (Option ℕ)). get_or leaf (page % 1024) None) (get_or_past leaves (page / 1024) [] past)
+    let past : length leaves ≤ page / leaf_pages = omega arith in
+    ap (λ (leaf : List (Option ℕ)). get_or leaf (page % leaf_pages) None) (get_or_past leaves (page / leaf_pages) [] past)
 
 -- what the map answers is what stands in the leaves
 pub get-words_of : (leaves : LeavesOf) → IsDirectory leaves → (page : ℕ) → finite.get (directory_words leaves) page ≡ word_in leaves page
@@ -48,71 +48,71 @@ get-words_of leaves directory page =
 
 -- a page with a word has a place
 pub place_of_some : (leaves : LeavesOf) (page : ℕ) → IsSome (word_in leaves page) → IsInLeaf leaves page
-place_of_some leaves page some = elim (cases_lt (page % 1024) (length (leaf_of leaves page))) [
+place_of_some leaves page some = elim (cases_lt (page % leaf_pages) (length (leaf_of leaves page))) [
   | inl near ↦ near
   | inr far ↦
-      let none : word_in leaves page ≡ None = get_or_past (leaf_of leaves page) (page % 1024) None far in
+      let none : word_in leaves page ≡ None = get_or_past (leaf_of leaves page) (page % leaf_pages) None far in
       let bad : false ≡ true = sym (ap is_some none) ∙ some in
       cc
 ]
 
-pub leaf_of_place : (leaves : LeavesOf) (page : ℕ) → IsInLeaf leaves page → page / 1024 < length leaves
-leaf_of_place leaves page place = elim (cases_lt (page / 1024) (length leaves)) [
+pub leaf_of_place : (leaves : LeavesOf) (page : ℕ) → IsInLeaf leaves page → page / leaf_pages < length leaves
+leaf_of_place leaves page place = elim (cases_lt (page / leaf_pages) (length leaves)) [
   | inl near ↦ near
   | inr far ↦
-      let none : leaf_of leaves page ≡ [] = get_or_past leaves (page / 1024) [] far in
+      let none : leaf_of leaves page ≡ [] = get_or_past leaves (page / leaf_pages) [] far in
       absurd (omega (arith, ap length none))
 ]
 
 -- a leaf is put in another's place
-pub leaf_of-same : (leaves : LeavesOf) (page q : ℕ) (leaf : List (Option ℕ)) → page / 1024 < length leaves → q / 1024 ≡ page / 1024 → leaf_of (with_leaf leaves page leaf) q ≡ leaf
+pub leaf_of-same : (leaves : LeavesOf) (page q : ℕ) (leaf : List (Option ℕ)) → page / leaf_pages < length leaves → q / leaf_pages ≡ page / leaf_pages → leaf_of (with_leaf leaves page leaf) q ≡ leaf
 leaf_of-same leaves page q leaf within e =
-    ap (λ (i : ℕ). get_or (set leaves (page / 1024) leaf) i []) e ∙ get_or-set_same leaves (page / 1024) leaf [] within
+    ap (λ (i : ℕ). get_or (set leaves (page / leaf_pages) leaf) i []) e ∙ get_or-set_same leaves (page / leaf_pages) leaf [] within
 
-pub leaf_of-other : (leaves : LeavesOf) (page q : ℕ) (leaf : List (Option ℕ)) → q / 1024 ≢ page / 1024 → leaf_of (with_leaf leaves page leaf) q ≡ leaf_of leaves q
-leaf_of-other leaves page q leaf other = get_or-set_other leaves (page / 1024) (q / 1024) leaf [] other
+pub leaf_of-other : (leaves : LeavesOf) (page q : ℕ) (leaf : List (Option ℕ)) → q / leaf_pages ≢ page / leaf_pages → leaf_of (with_leaf leaves page leaf) q ≡ leaf_of leaves q
+leaf_of-other leaves page q leaf other = get_or-set_other leaves (page / leaf_pages) (q / leaf_pages) leaf [] other
 
 module _ (leaves : LeavesOf) (page : ℕ) (word : Option ℕ) (place : IsInLeaf leaves page) where
   pub word_in-same : word_in (with_leaf_word leaves page word) page ≡ word
   word_in-same =
-      ap (λ (leaf : List (Option ℕ)). get_or leaf (page % 1024) None) (leaf_of-same leaves page page (set (leaf_of leaves page) (page % 1024) word) (leaf_of_place leaves page place) refl)
-      ∙ get_or-set_same (leaf_of leaves page) (page % 1024) word None place
+      ap (λ (leaf : List (Option ℕ)). get_or leaf (page % leaf_pages) None) (leaf_of-same leaves page page (set (leaf_of leaves page) (page % leaf_pages) word) (leaf_of_place leaves page place) refl)
+      ∙ get_or-set_same (leaf_of leaves page) (page % leaf_pages) word None place
 
   pub word_in-other : (q : ℕ) → q ≢ page → word_in (with_leaf_word leaves page word) q ≡ word_in leaves q
-  word_in-other q other = elim (cases_eq (q / 1024) (page / 1024)) [
+  word_in-other q other = elim (cases_eq (q / leaf_pages) (page / leaf_pages)) [
     | inl same_leaf ↦
-        let apart : q % 1024 ≢ page % 1024 = λ e. other (omega (arith, e, same_leaf)) in
-        ap (λ (leaf : List (Option ℕ)). get_or leaf (q % 1024) None) (leaf_of-same leaves page q (set (leaf_of leaves page) (page % 1024) word) (leaf_of_place leaves page place) same_leaf)
-        ∙ get_or-set_other (leaf_of leaves page) (page % 1024) (q % 1024) word None apart
-        ∙ ap (λ (i : ℕ). get_or (get_or leaves i []) (q % 1024) None) (sym same_leaf)
+        let apart : q % leaf_pages ≢ page % leaf_pages = λ e. other (omega (arith, e, same_leaf)) in
+        ap (λ (leaf : List (Option ℕ)). get_or leaf (q % leaf_pages) None) (leaf_of-same leaves page q (set (leaf_of leaves page) (page % leaf_pages) word) (leaf_of_place leaves page place) same_leaf)
+        ∙ get_or-set_other (leaf_of leaves page) (page % leaf_pages) (q % leaf_pages) word None apart
+        ∙ ap (λ (i : ℕ). get_or (get_or leaves i []) (q % leaf_pages) None) (sym same_leaf)
     | inr other_leaf ↦
-        ap (λ (leaf : List (Option ℕ)). get_or leaf (q % 1024) None) (leaf_of-other leaves page q (set (leaf_of leaves page) (page % 1024) word) other_leaf)
+        ap (λ (leaf : List (Option ℕ)). get_or leaf (q % leaf_pages) None) (leaf_of-other leaves page q (set (leaf_of leaves page) (page % leaf_pages) word) other_leaf)
   ]
 
 -- where a leaf is put in another's place, the directory keeps its form
 pub is_directory-with_leaf : (leaves : LeavesOf) (page : ℕ) (leaf : List (Option ℕ)) → IsWholeLeaf leaf → IsDirectory leaves → IsDirectory (with_leaf leaves page leaf)
 is_directory-with_leaf leaves page leaf whole directory = record {
-  few = omega (arith, length-set leaves (page / 1024) leaf, directory.few);
-  full = λ i. elim (cases_eq i (page / 1024)) [
-    | inl e ↦ elim (cases_lt (page / 1024) (length leaves)) [
+  few = omega (arith, length-set leaves (page / leaf_pages) leaf, directory.few);
+  full = λ i. elim (cases_eq i (page / leaf_pages)) [
+    | inl e ↦ elim (cases_lt (page / leaf_pages) (length leaves)) [
       | inl within ↦
-          let here : get_or (set leaves (page / 1024) leaf) i [] ≡ leaf = ap (λ (k : ℕ). get_or (set leaves (page / 1024) leaf) k []) e ∙ get_or-set_same leaves (page / 1024) leaf [] within in
+          let here : get_or (set leaves (page / leaf_pages) leaf) i [] ≡ leaf = ap (λ (k : ℕ). get_or (set leaves (page / leaf_pages) leaf) k []) e ∙ get_or-set_same leaves (page / leaf_pages) leaf [] within in
           λ some. ap length here ∙ whole (omega (arith, ap length here))
       | inr past ↦
-          let none : get_or (set leaves (page / 1024) leaf) i [] ≡ [] = get_or_past (set leaves (page / 1024) leaf) i [] (omega (arith, length-set leaves (page / 1024) leaf, e)) in
+          let none : get_or (set leaves (page / leaf_pages) leaf) i [] ≡ [] = get_or_past (set leaves (page / leaf_pages) leaf) i [] (omega (arith, length-set leaves (page / leaf_pages) leaf, e)) in
           λ some. absurd (omega (arith, ap length none))
     ]
     | inr other ↦
-        let there : get_or (set leaves (page / 1024) leaf) i [] ≡ get_or leaves i [] = get_or-set_other leaves (page / 1024) i leaf [] other in
+        let there : get_or (set leaves (page / leaf_pages) leaf) i [] ≡ get_or leaves i [] = get_or-set_other leaves (page / leaf_pages) i leaf [] other in
         λ some. ap length there ∙ directory.full i (omega (arith, ap length there))
   ];
 }
 
 pub is_directory-with_word : (leaves : LeavesOf) (page : ℕ) (word : Option ℕ) → IsInLeaf leaves page → IsDirectory leaves → IsDirectory (with_leaf_word leaves page word)
 is_directory-with_word leaves page word place directory =
-    let same_length : length (set (leaf_of leaves page) (page % 1024) word) ≡ length (leaf_of leaves page) = length-set (leaf_of leaves page) (page % 1024) word in
-    is_directory-with_leaf leaves page (set (leaf_of leaves page) (page % 1024) word)
-    (λ some. same_length ∙ directory.full (page / 1024) (omega (arith, same_length)))
+    let same_length : length (set (leaf_of leaves page) (page % leaf_pages) word) ≡ length (leaf_of leaves page) = length-set (leaf_of leaves page) (page % leaf_pages) word in
+    is_directory-with_leaf leaves page (set (leaf_of leaves page) (page % leaf_pages) word)
+    (λ some. same_length ∙ directory.full (page / leaf_pages) (omega (arith, same_length)))
     directory
 
 -- the map where one word is set
@@ -141,27 +141,27 @@ outside q first n v u h = grind (arith, nat_tests)
 -- ---- a part of one leaf is changed
 
 -- a leaf with room comes where none was
-pub placed_leaf : (leaves : LeavesOf) (page : ℕ) (old leaf : List (Option ℕ)) → IsDirectory leaves → page / 1024 < length leaves → old ≡ get_or leaves (page / 1024) old → (0 < length old → ⊥) → leaf ≡ replicate 1024 None →
+pub placed_leaf : (leaves : LeavesOf) (page : ℕ) (old leaf : List (Option ℕ)) → IsDirectory leaves → page / leaf_pages < length leaves → old ≡ get_or leaves (page / leaf_pages) old → (0 < length old → ⊥) → leaf ≡ replicate leaf_pages None →
     PlacesMore leaves (with_leaf leaves page leaf)
 placed_leaf leaves page old leaf directory present is absent fresh =
     let none : length (leaf_of leaves page) ≤ 0 = elim (cases_lt 0 (length old)) [
       | inl some ↦ absurd (absent some)
-      | inr none ↦ omega (arith, none, ap length (is ∙ get_or_default leaves (page / 1024) old [] present))
+      | inr none ↦ omega (arith, none, ap length (is ∙ get_or_default leaves (page / leaf_pages) old [] present))
     ] in
-    let old_leaf : (q : ℕ) → q / 1024 ≡ page / 1024 → leaf_of leaves q ≡ leaf_of leaves page = λ q e. ap (λ (i : ℕ). get_or leaves i []) e in
+    let old_leaf : (q : ℕ) → q / leaf_pages ≡ page / leaf_pages → leaf_of leaves q ≡ leaf_of leaves page = λ q e. ap (λ (i : ℕ). get_or leaves i []) e in
     record {
-      words = λ q. elim (cases_eq (q / 1024) (page / 1024)) [
+      words = λ q. elim (cases_eq (q / leaf_pages) (page / leaf_pages)) [
         | inl e ↦
-            ap (λ (l : List (Option ℕ)). leaf_word l (q % 1024)) (leaf_of-same leaves page q leaf present e ∙ fresh) ∙ none_after 1024 (q % 1024)
-            ∙ sym (get_or_past (leaf_of leaves q) (q % 1024) None (omega (arith, none, ap length (old_leaf q e))))
-        | inr other ↦ ap (λ (l : List (Option ℕ)). leaf_word l (q % 1024)) (leaf_of-other leaves page q leaf other)
+            ap (λ (l : List (Option ℕ)). leaf_word l (q % leaf_pages)) (leaf_of-same leaves page q leaf present e ∙ fresh) ∙ none_after leaf_pages (q % leaf_pages)
+            ∙ sym (get_or_past (leaf_of leaves q) (q % leaf_pages) None (omega (arith, none, ap length (old_leaf q e))))
+        | inr other ↦ ap (λ (l : List (Option ℕ)). leaf_word l (q % leaf_pages)) (leaf_of-other leaves page q leaf other)
       ];
-      directory = is_directory-with_leaf leaves page leaf (λ some. ap length fresh ∙ length-replicate {A = Option ℕ} 1024 None) directory;
-      places = λ q place. elim (cases_eq (q / 1024) (page / 1024)) [
+      directory = is_directory-with_leaf leaves page leaf (λ some. ap length fresh ∙ length-replicate {A = Option ℕ} leaf_pages None) directory;
+      places = λ q place. elim (cases_eq (q / leaf_pages) (page / leaf_pages)) [
         | inl e ↦ absurd (omega (arith, place, none, ap length (old_leaf q e)))
         | inr other ↦ omega (arith, place, ap length (leaf_of-other leaves page q leaf other))
       ];
-      count = omega (arith, length-set leaves (page / 1024) leaf);
+      count = omega (arith, length-set leaves (page / leaf_pages) leaf);
     }
 
 -- ---- one directory after another

@@ -1,51 +1,55 @@
--- A page table as its leaves, each with the words of 1,024 pages in a row.
+-- A page table as its leaves, each with the words of `leaf_pages` pages in a row.
 use Rattle.std.specs.Prelude.{◌≡◌, ℕ, zero, suc, ◌+◌, ◌*◌, ◌/◌, ◌%◌, ◌<◌, ◌≤◌, List, [], ◌∷◌, length, Option, IsSome, slice_index_or, slice_set}
 use Rattle.mm_types.specs.Table.{table}
 use Rattle.mm_words.specs.Pages.{Words}
-use Rattle.mm_words.specs.LeafWords.{leaf_word, Changed}
+use Rattle.mm_words.specs.LeafWords.{leaf_pages, leaf_word, Changed}
 
 abbrev pub LeavesOf : Type 0
 LeavesOf = List (List (Option ℕ))
 
 abbrev pub leaf_of : LeavesOf → ℕ → List (Option ℕ)
-leaf_of leaves page = slice_index_or leaves (page / 1024) []
+leaf_of leaves page = slice_index_or leaves (page / leaf_pages) []
 
 -- the word at a page, if it is reserved
 abbrev pub word_in : LeavesOf → ℕ → Option ℕ
-word_in leaves page = leaf_word (leaf_of leaves page) (page % 1024)
+word_in leaves page = leaf_word (leaf_of leaves page) (page % leaf_pages)
 
 -- the numbers from `start` on
 unfoldable pub numbers_from : ℕ → ℕ → List ℕ
 numbers_from start zero = []
 numbers_from start (suc count) = start ∷ numbers_from (start + 1) count
 
--- how many pages 512 leaves have words for
+-- a directory has words for the pages below this one
 abbrev pub end_of_pages : ℕ
 end_of_pages = 524288
+
+-- with so many leaves at most
+abbrev pub most_leaves : ℕ
+most_leaves = end_of_pages / leaf_pages
 
 unfoldable pub directory_words : LeavesOf → Words
 directory_words leaves = table (word_in leaves) (numbers_from 0 end_of_pages)
 
 -- a leaf is there with room for all its words, or not at all
 abbrev pub IsWholeLeaf : List (Option ℕ) → Type 0
-IsWholeLeaf leaf = 0 < length leaf → length leaf ≡ 1024
+IsWholeLeaf leaf = 0 < length leaf → length leaf ≡ leaf_pages
 
--- there are at most 512 leaves, and each that is there has room for all its words
+-- there are at most `most_leaves` leaves, and each that is there has room for all its words
 pub record IsDirectory (leaves : LeavesOf) : Type 0 where
-  pub few : length leaves ≤ 512
+  pub few : length leaves ≤ most_leaves
   pub full : (i : ℕ) → IsWholeLeaf (slice_index_or leaves i [])
 
 -- the page has a place in its leaf
 abbrev pub IsInLeaf : LeavesOf → ℕ → Type 0
-IsInLeaf leaves page = page % 1024 < length (leaf_of leaves page)
+IsInLeaf leaves page = page % leaf_pages < length (leaf_of leaves page)
 
 abbrev pub with_leaf : LeavesOf → ℕ → List (Option ℕ) → LeavesOf
-with_leaf leaves page leaf = slice_set leaves (page / 1024) leaf
+with_leaf leaves page leaf = slice_set leaves (page / leaf_pages) leaf
 
 -- one word is put in or taken away
 abbrev pub with_leaf_word : LeavesOf → ℕ → Option ℕ → LeavesOf
 with_leaf_word leaves page word =
-    with_leaf leaves page (slice_set (leaf_of leaves page) (page % 1024) word)
+    with_leaf leaves page (slice_set (leaf_of leaves page) (page % leaf_pages) word)
 
 abbrev pub SameWords : LeavesOf → LeavesOf → Type 0
 SameWords old new = (page : ℕ) → word_in new page ≡ word_in old page
@@ -61,7 +65,7 @@ pub record Changes (f : Option ℕ → Option ℕ) (old new : LeavesOf) (first e
 -- some pages, the last of them in the leaf of the first
 pub record IsPart (first end : ℕ) : Type 0 where
   pub some : first < end
-  pub same_leaf : end ≤ 1024 * (first / 1024 + 1)
+  pub same_leaf : end ≤ leaf_pages * (first / leaf_pages + 1)
 
 -- each page from `first` on and below `end` has a place
 abbrev pub HavePlaces : LeavesOf → ℕ → ℕ → Type 0

@@ -1,7 +1,19 @@
 -- The words of one leaf, and what it is that words from one place up to another are changed.
-use Rattle.std.specs.Prelude.{◌≡◌, ℕ, ◌+◌, ◌<◌, ◌≤◌, false, List, [], ◌∷◌, length, Option, Some, None, if◌then◌else◌, map, slice_index, slice_index_or}
+use Rattle.std.specs.Prelude.{◌≡◌, ℕ, ◌+◌, ◌/◌, ◌<◌, ◌≤◌, false, List, [], ◌∷◌, length, Option, Some, None, if◌then◌else◌, map, slice_index, slice_index_or}
 use Rattle.std.specs.List.{range_with_len}
 use Rattle.mm_bits.specs.Bits.{have_bit}
+
+-- how many pages a leaf has words for
+abbrev pub leaf_pages : ℕ
+leaf_pages = 4096
+
+-- how many numbers it takes to have a bit for each of them
+abbrev pub bit_numbers : ℕ
+bit_numbers = leaf_pages / 64
+
+-- the bits and the words
+abbrev pub leaf_numbers : ℕ
+leaf_numbers = bit_numbers + leaf_pages
 
 abbrev pub leaf_word : List (Option ℕ) → ℕ → Option ℕ
 leaf_word words i = slice_index_or words i None
@@ -9,11 +21,12 @@ leaf_word words i = slice_index_or words i None
 -- for how many pages there is a place beside these numbers
 abbrev pub place_count : List ℕ → ℕ
 place_count [] = 0
-place_count (n ∷ numbers) = 1024
+place_count (n ∷ numbers) = leaf_pages
 
--- sixteen numbers have the bits of 1,024 pages; behind them stand the words
+-- the first numbers have the bits of all pages; behind them stand the words
 abbrev pub stored_word : List ℕ → ℕ → Option ℕ
-stored_word numbers i = if have_bit numbers i then Some (slice_index numbers (16 + i)) else None
+stored_word numbers i =
+    if have_bit numbers i then Some (slice_index numbers (bit_numbers + i)) else None
 
 -- the words that these numbers are
 unfoldable pub shown_leaf : List ℕ → List (Option ℕ)
@@ -22,10 +35,11 @@ shown_leaf numbers = map (stored_word numbers) (range_with_len 0 (place_count nu
 -- where there are numbers, the bits are there and there is room for all words; a page that is not
 -- reserved has no word but 0
 pub record IsLeaf (capacity : ℕ) (numbers : List ℕ) : Type 0 where
-  pub bits : 0 < length numbers → 16 ≤ length numbers
-  pub room : 0 < length numbers → 1040 ≤ capacity
-  pub within : length numbers ≤ 1040
-  pub blank : (i : ℕ) → i < 1024 → have_bit numbers i ≡ false → slice_index numbers (16 + i) ≡ 0
+  pub bits : 0 < length numbers → bit_numbers ≤ length numbers
+  pub room : 0 < length numbers → leaf_numbers ≤ capacity
+  pub within : length numbers ≤ leaf_numbers
+  pub blank : (i : ℕ) → i < leaf_pages → have_bit numbers i ≡ false →
+      slice_index numbers (bit_numbers + i) ≡ 0
 
 -- the words from `first` on and below `end` are changed by f, and all others stay
 pub record Changed {A : Type 0} (f : A → A) (old new : ℕ → A) (first end : ℕ) : Type 0 where

@@ -1,8 +1,9 @@
 -- A process: its page table and its working set.
-use Rattle.std.specs.Prelude.{◌≡◌, ℕ, ◌≤◌, Bool, false, is_some, Option, Some, None}
+use Rattle.std.specs.Prelude.{◌≡◌, ℕ, ◌<◌, ◌≤◌, Bool, true, false, is_some, Option, Some, None}
 use Rattle.std.specs.Ordering.{nat_cmp}
 use Rattle.std.specs.FinMap as finite
 use Rattle.std.specs.FinMap.{FinMap}
+use Rattle.mm_types.specs.Address.{end_of_user_pages}
 use Rattle.mm_words.specs.Entries.{entry_or}
 use Rattle.mm_words.specs.declared.layout.Entry.{Entry}
 use Rattle.mm_words.specs.declared.layout.Entry.TheVariants as entry
@@ -34,3 +35,5 @@ pub record IsKeptProcess (table : FinMap nat_cmp ℕ) (set : WorkingSetOf) (open
   -- an open process has the room of its working set, a closed one has no word
   pub room : set.reserved ≡ open_now
   pub closed : open_now ≡ false → (page : ℕ) → finite.get table page ≡ None
+  -- only user pages have a word
+  pub user : (page : ℕ) → is_some (finite.get table page) ≡ true → page < end_of_user_pages

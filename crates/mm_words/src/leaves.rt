@@ -1,6 +1,6 @@
 ghost use Rattle.std.specs.Prelude.{◌≡◌, ◌+◌, ◌-◌, ◌<◌, ◌≤◌, ◌++◌, ◌↔◌, ℕ, List, [], length, IsTrue, Option, Some, None, IfOk, IsSome, replicate, slice_index, slice_set, vec_len, vec_capacity};
 ghost use Rattle.mm_bits.specs.Bits.{have_bit, Becomes, SameWordsFrom};
-ghost use Rattle.mm_words.specs.LeafWords.{leaf_word, Changed, no_word, zero_word};
+ghost use Rattle.mm_words.specs.LeafWords.{leaf_pages, bit_numbers, leaf_numbers, leaf_word, Changed, no_word, zero_word};
 ghost use Rattle.mm_words.specs.Pages.{reserved_word};
 
 use mm_bits::put_bits;
@@ -9,12 +9,13 @@ use std::alloc::Global;
 use std::marker::Model;
 
 /// How many pages a leaf has words for.
-pub const LEAF_PAGES: usize = 1024;
+pub const LEAF_PAGES: usize = 4096;
 
 /// How many numbers it takes to have a bit for each page.
 const BIT_NUMBERS: usize = LEAF_PAGES / 64;
 
-/// The words of 1,024 pages in a row, each there while its page is reserved; or nothing at all.
+/// The words of `LEAF_PAGES` pages in a row, each there while its page is reserved; or nothing at
+/// all.
 ///
 /// Which pages are reserved are bits. Their words are written as far as one of them was ever set;
 /// behind these each is 0. So no word is written where pages are reserved, and none that was never
@@ -56,13 +57,13 @@ fn extend_to(numbers: &mut Vec<u64>, n: usize)
 /// Adds zeros at the end, if need be, so that there is a number at this index.
 #[inline(always)] // nearly always it is there
 fn reach(numbers: &mut Vec<u64>, i: usize)
-    requires within { i < 1040 }
-    requires room { 1040 ≤ vec_capacity numbers.old }
-    requires few { length numbers.old.items ≤ 1040 }
+    requires within { i < leaf_numbers }
+    requires room { leaf_numbers ≤ vec_capacity numbers.old }
+    requires few { length numbers.old.items ≤ leaf_numbers }
     ensures items { numbers.new.items
         ≡ numbers.old.items ++ replicate (vec_len numbers.new - vec_len numbers.old) 0 }
     ensures there { i < length numbers.new.items }
-    ensures few { length numbers.new.items ≤ 1040 }
+    ensures few { length numbers.new.items ≤ leaf_numbers }
     ensures capacity { vec_capacity numbers.old ≤ vec_capacity numbers.new }
 {
     if i >= numbers.len() {
@@ -70,27 +71,40 @@ fn reach(numbers: &mut Vec<u64>, i: usize)
     }
 }
 
-/// The bits of all pages are like this from now on.
-fn put_all(numbers: &mut Vec<u64>, on: bool)
-    requires { 16 ≤ length numbers.old.items }
-    ensures put { Becomes on (have_bit numbers.old.items) (have_bit numbers.new.items) 0 1024 }
-    ensures rest { SameWordsFrom 1024 numbers.old.items numbers.new.items }
-    ensures kept { length numbers.new.items ≡ length numbers.old.items }
-    ensures capacity { vec_capacity numbers.new ≡ vec_capacity numbers.old }
+/// The bits of all pages stand like this from now on, in a slice, so that no address is read again
+/// for each number.
+fn fill_bits(numbers: &mut [u64], bits: u64)
+    requires { bit_numbers ≤ length numbers.old }
+    ensures done { (k : ℕ) → k < bit_numbers → slice_index numbers.new k ≡ bits }
+    ensures rest { (k : ℕ) → bit_numbers ≤ k →
+        slice_index numbers.new k ≡ slice_index numbers.old k }
+    ensures kept { length numbers.new ≡ length numbers.old }
 {
-    let bits = if on { u64::MAX } else { 0 };
     for i in 0..BIT_NUMBERS {
         numbers[i] = bits;
     }
 }
 
+/// The bits of all pages are like this from now on.
+fn put_all(numbers: &mut Vec<u64>, on: bool)
+    requires { bit_numbers ≤ length numbers.old.items }
+    ensures put { Becomes on (have_bit numbers.old.items) (have_bit numbers.new.items)
+        0 leaf_pages }
+    ensures rest { SameWordsFrom leaf_pages numbers.old.items numbers.new.items }
+    ensures kept { length numbers.new.items ≡ length numbers.old.items }
+    ensures capacity { vec_capacity numbers.new ≡ vec_capacity numbers.old }
+{
+    let bits = if on { u64::MAX } else { 0 };
+    fill_bits(numbers.as_mut_slice(), bits);
+}
+
 /// The bits of the pages from index `from` up to `to` are like this from now on.
 fn mark(numbers: &mut Vec<u64>, from: usize, to: usize, on: bool)
     requires some { from < to }
-    requires within { to ≤ 1024 }
-    requires there { 16 ≤ length numbers.old.items }
+    requires within { to ≤ leaf_pages }
+    requires there { bit_numbers ≤ length numbers.old.items }
     ensures put { Becomes on (have_bit numbers.old.items) (have_bit numbers.new.items) from to }
-    ensures rest { SameWordsFrom 1024 numbers.old.items numbers.new.items }
+    ensures rest { SameWordsFrom leaf_pages numbers.old.items numbers.new.items }
     ensures kept { length numbers.new.items ≡ length numbers.old.items }
     ensures capacity { vec_capacity numbers.new ≡ vec_capacity numbers.old }
 {
@@ -127,7 +141,7 @@ impl Leaf {
 
     /// A leaf with room for its words, none of whose pages is reserved.
     pub fn unreserved(alloc: Global) -> Result<Leaf, NoMemory>
-        ensures { IfOk result (λ l. l ≡ replicate 1024 None) }
+        ensures { IfOk result (λ l. l ≡ replicate leaf_pages None) }
     {
         let mut numbers = Vec::with_capacity(alloc, BIT_NUMBERS + LEAF_PAGES)?;
         extend_to(&mut numbers, BIT_NUMBERS);

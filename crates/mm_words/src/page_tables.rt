@@ -4,18 +4,19 @@ ghost use Rattle.std.specs.FinMap as finite;
 ghost use Rattle.mm_types.specs.Address.{first_user_page, end_of_user_pages};
 ghost use Rattle.mm_words.specs.Pages.{pages, Reserves, Releases, AreReserved, reserved_word};
 ghost use Rattle.mm_words.specs.LeafWords.{no_word};
-ghost use Rattle.mm_words.specs.Directory.{word_in, IsInLeaf, HavePlaces, HaveWords, KeepsPlaces, PlacesMore, Changes, IsPart, with_leaf_word, IsDirectory, end_of_pages};
+ghost use Rattle.mm_words.specs.Directory.{word_in, IsInLeaf, HavePlaces, HaveWords, KeepsPlaces, PlacesMore, Changes, IsPart, with_leaf_word, IsDirectory, end_of_pages, most_leaves};
 
 use crate::leaves::{LEAF_PAGES, Leaf};
 use mm_types::{NoMemory, Vpn};
 use std::alloc::Global;
 use std::marker::Model;
 
-const LEAVES: usize = 512;
+/// How many leaves have words for all pages below 2^19.
+const LEAVES: usize = (1 << 19) / LEAF_PAGES;
 
 /// The page-table words of one address space: a word for each reserved user page.
 ///
-/// The directory is taken with the first reservation, a leaf of 1,024 words with the first of one
+/// The directory is taken with the first reservation, a leaf with the first of one
 /// of its pages. Leaves keep their room until `give_back`.
 #[derive(Drop)]
 pub struct Table {
@@ -127,7 +128,7 @@ fn release_words(leaves: &mut Vec<Leaf>, first: u32, end: u32)
 fn place_leaf(alloc: Global, leaves: &mut Vec<Leaf>, page: u32) -> Result<(), NoMemory>
     requires within { page < end_of_pages }
     requires directory { IsDirectory leaves.old.items }
-    requires whole { length leaves.old.items ≡ 512 }
+    requires whole { length leaves.old.items ≡ most_leaves }
     ensures placed { PlacesMore leaves.old.items leaves.new.items }
     ensures place { OnOk result (IsInLeaf leaves.new.items page) }
     ensures count { length leaves.new.items ≡ length leaves.old.items }
@@ -144,7 +145,7 @@ fn place_leaves(alloc: Global, leaves: &mut Vec<Leaf>, first: u32, end: u32) -> 
     requires order { first ≤ end }
     requires end { end ≤ end_of_pages }
     requires directory { IsDirectory leaves.old.items }
-    requires whole { length leaves.old.items ≡ 512 }
+    requires whole { length leaves.old.items ≡ most_leaves }
     ensures placed { PlacesMore leaves.old.items leaves.new.items }
     ensures places { OnOk result (HavePlaces leaves.new.items first end) }
 {
@@ -160,7 +161,7 @@ fn place_leaves(alloc: Global, leaves: &mut Vec<Leaf>, first: u32, end: u32) -> 
 fn take_directory(alloc: Global, leaves: &mut Vec<Leaf>) -> Result<(), NoMemory>
     requires { IsDirectory leaves.old.items }
     ensures placed { PlacesMore leaves.old.items leaves.new.items }
-    ensures whole { OnOk result (length leaves.new.items ≡ 512) }
+    ensures whole { OnOk result (length leaves.new.items ≡ most_leaves) }
 {
     for _ in leaves.len()..LEAVES {
         leaves.push(Leaf::absent(alloc))?;

@@ -212,6 +212,7 @@ impl Words {
 
     /// The entry of a key that has a word; the number of a valid entry is its place in the working
     /// set.
+    #[inline(always)]
     pub fn word(&self, key: Key) -> Entry
         requires { has_word (words self.now) key ≡ true }
         ensures { bare result ≡ key_entry (words self.now) key }
@@ -250,6 +251,7 @@ impl Words {
     }
 
     /// Whether the key beside the tables is that of the place.
+    #[inline(always)]
     fn is_beside(&self, place: Place) -> bool
         ensures { result ≡ is_aside (words self.now).aside place }
     {
@@ -260,6 +262,7 @@ impl Words {
     }
 
     /// The entry of a bound place that is not valid becomes another that is not.
+    #[inline(always)]
     fn set_at(&mut self, place: Place, e: Entry)
         requires bound { (words self.old).bound place ≡ true }
         requires invalid { is_valid_entry ((words self.old).at place) ≡ false }
@@ -275,6 +278,7 @@ impl Words {
     }
 
     /// The entry of a private key becomes another; neither is valid.
+    #[inline(always)]
     fn set_own(&mut self, place: Place, e: Entry)
         requires bound { (words self.old).bound place ≡ true }
         requires invalid { is_valid_entry (own_word (words self.old) place) ≡ false }
@@ -292,6 +296,7 @@ impl Words {
     }
 
     /// The entry at an index of an open area, within its words, becomes another.
+    #[inline(always)]
     fn set_proto(&mut self, a: Area, i: u32, e: Entry)
         requires has { has_word (words self.old) (Shared a i) ≡ true }
         requires plain { bare e ≡ e }
@@ -305,6 +310,7 @@ impl Words {
     }
 
     /// The entry of a key changes; no place comes to be valid or ceases to be.
+    #[inline(always)] // where it is called the kind of the key is known, or of the entry
     pub fn set_word(&mut self, key: Key, e: Entry)
         requires has { has_word (words self.old) key ≡ true }
         requires fits { IsEntry e }

@@ -1,11 +1,8 @@
 pub mod RingLemmas
-pub mod PageLemmas
-pub mod FirstLemmas
-pub mod InOrder
-pub mod ForkLemmas
-pub mod Turned
+pub mod RowLemmas
+pub mod GroupLemmas
+pub mod OrderLemmas
 pub mod UserLemmas
-pub mod AgeLemmas
 pub mod MapLemmas
+pub mod YoungLemmas
 pub mod SetLemmas
-pub mod OldestLemmas

@@ -25,7 +25,7 @@ number : (v w : ℕ) → Some v ≡ Some w → v ≡ w
 number v w e = cc
 
 -- what stands at a key afterwards was put there, or stood there before
-put : (m : Map) (k x q y : ℕ) → finite.get (finite.insert m k x) q ≡ Some y → ((q ≡ k) × (x ≡ y)) ⊎ ((q ≢ k) × (finite.get m q ≡ Some y))
+pub put : (m : Map) (k x q y : ℕ) → finite.get (finite.insert m k x) q ≡ Some y → ((q ≡ k) × (x ≡ y)) ⊎ ((q ≢ k) × (finite.get m q ≡ Some y))
 put m k x q y e = elim (cases_eq q k) [
   | inl same ↦ inl (same, number x y (sym (here m k x) ∙ ap (finite.get (finite.insert m k x)) (sym same) ∙ e))
   | inr other ↦ inr (other, sym (elsewhere m k x q other) ∙ e)

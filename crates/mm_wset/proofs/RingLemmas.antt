@@ -45,13 +45,6 @@ module _ (newest : ℕ) (turning : newest < 7) where
     ]
   ]
 
-  -- where the age is one of the eight, so is the group
-  pub known_turned : (n : ℕ) → turned newest n ≤ 7 → n ≤ 7
-  known_turned n h = elim (kinds newest n) [
-    | inl recent ↦ omega (arith, recent, turning)
-    | inr others ↦ elim others [ inl before ↦ omega (arith, before.1) | inr last ↦ omega (arith, turned_last newest n turning last, h) ]
-  ]
-
   pub next_turns : next_newest newest < 7
   next_turns = elim (cases_eq newest 6) [
     | inl last ↦ omega (arith, ap (λ b. cond b 0 (newest + 1)) (eq-eqb newest 6 last))

@@ -1,8 +1,8 @@
 -- What each call leaves of a working set.
-use Rattle.std.proofs.Common.{◌≡◌, ℕ, zero, suc, ◌+◌, ◌-◌, ◌^◌, ◌<◌, ◌≤◌, min, Bool, true, false, List, [], ◌∷◌, length, set, map, replicate, get_or, Option, Some, None, refl, sym, ap, ◌∙◌, subst, inl, inr, arith}
+use Rattle.std.proofs.Common.{◌≡◌, ℕ, zero, suc, ◌+◌, ◌-◌, ◌^◌, ◌<◌, ◌≤◌, min, Bool, true, false, List, [], ◌∷◌, length, set, replicate, get_or, Option, Some, None, refl, sym, ap, ◌∙◌, subst, inl, inr, arith}
 use Rattle.std.proofs.lemmas.Bool.{cases_lt, cases_eq}
-use Rattle.std.proofs.lemmas.List.{get_or_default, get_or_past, get_or-replicate, length-replicate, length-map, length-set, nil_from_length}
-use Rattle.std.specs.Prelude.{slice_get, IsSome, is_some}
+use Rattle.std.proofs.lemmas.List.{get_or_default, get_or_past, get_or-replicate, length-replicate, length-set}
+use Rattle.std.specs.Prelude.{slice_get, IsSome}
 use Rattle.std.specs.Ordering.{nat_cmp}
 use Rattle.std.specs.FinMap as finite
 use Rattle.std.specs.FinMap.{FinMap}
@@ -11,20 +11,14 @@ use Rattle.mm_types.proofs.Tables.{get_table, is_insert, is_remove}
 use Rattle.mm_types.proofs.Finite.{same, len_more, len_less}
 use Rattle.slab.specs.Slab as slabs
 use Rattle.slab.specs.Slab.{Slab, slab_len, Updates}
-use Rattle.mm_wset.specs.declared.trees.Grouped.{Grouped}
 use Rattle.mm_wset.specs.Ages.{WorkingSetOf, EachAtOnePlace, AgesBy, older}
-use Rattle.mm_wset.specs.GroupedPages.{IsSorted, group_in, age_of_page, add_page, remove_page, regrouped, retired}
-use Rattle.mm_wset.specs.Ring.{next_newest}
-use Rattle.mm_wset.specs.Held.{ages_by_group, places_of, room_of, maps, last_round, KnowsUses, IsWorkingSet}
-use Rattle.mm_wset.proofs.PageLemmas.{length-add}
-use Rattle.mm_wset.proofs.AgeLemmas.{get-ages, ages_none, no_group, some_group, known_group, ages_add, sorted_add, ages_removed, sorted_removed, length-removed, ages_used, ages_older, sorted_map}
-use Rattle.mm_wset.proofs.RingLemmas.{turned_newest, next_turns}
+use Rattle.mm_wset.specs.Held.{places_of, room_of, maps, last_round, KnowsUses, IsWorkingSet}
 use Rattle.mm_wset.proofs.MapLemmas.{kept, each_add, each_remove, each_used, each_older, uses_add, uses_remove, uses_used, uses_older}
 
-abbrev pub set_of : ℕ → ℕ → Bool → ℕ → List Grouped → Slab ℕ → WorkingSetOf
-set_of min max reserved newest pages places = record { min = min; max = max; reserved = reserved; ages = ages_by_group newest pages; places = places_of places }
+abbrev Map : Type 0
+Map = FinMap nat_cmp ℕ
 
-abbrev made : ℕ → ℕ → Bool → FinMap nat_cmp ℕ → FinMap nat_cmp ℕ → WorkingSetOf
+abbrev pub made : ℕ → ℕ → Bool → Map → Map → WorkingSetOf
 made min max reserved ages places = record { min = min; max = max; reserved = reserved; ages = ages; places = places }
 
 -- ---- the places
@@ -37,13 +31,13 @@ found_at (w ∷ rest) (suc p) = found_at rest p
 pub get-places : (places : Slab ℕ) (p : ℕ) → finite.get (places_of places) p ≡ slabs.get places p
 get-places places p = get_table (λ page. page) places.slots p ∙ found_at places.slots p
 
-pub places_put : (old new : Slab ℕ) (p v : ℕ) → Updates old new p (Some v) → places_of new ≡ finite.insert (places_of old) p v
+places_put : (old new : Slab ℕ) (p v : ℕ) → Updates old new p (Some v) → places_of new ≡ finite.insert (places_of old) p v
 places_put old new p v updates =
     is_insert (places_of old) (places_of new) p v
     (get-places new p ∙ updates.changed)
     (λ q other. get-places new q ∙ updates.others q other ∙ sym (get-places old q))
 
-pub places_gone : (old new : Slab ℕ) (p : ℕ) → Updates old new p None → places_of new ≡ finite.remove (places_of old) p
+places_gone : (old new : Slab ℕ) (p : ℕ) → Updates old new p None → places_of new ≡ finite.remove (places_of old) p
 places_gone old new p updates =
     is_remove (places_of old) (places_of new) p
     (get-places new p ∙ updates.changed)
@@ -69,34 +63,23 @@ less_one n k m e f = omega (arith, e, f)
 
 -- ---- a page is taken in
 
-module _ (most : ℕ) (old new : Slab ℕ) (newest : ℕ) (pages : List Grouped) (spare spare_room rounds : ℕ) (used_in : List ℕ) (place v : ℕ)
-    (is : IsWorkingSet most old newest pages spare spare_room rounds used_in) (vacant : slabs.get old place ≡ None) (updates : Updates old new place (Some v)) (absent : finite.get (ages_by_group newest pages) v ≡ None) where
-  abbrev fresh_page : Grouped
-  fresh_page = record { page = v; group = newest }
-
-  not_there : group_in pages v ≡ None
-  not_there = no_group newest pages v absent
-
+module _ (most : ℕ) (old new : Slab ℕ) (ages : Map) (has_sets : Bool) (rounds : ℕ) (used_in : List ℕ) (place v : ℕ)
+    (is : IsWorkingSet most old ages has_sets rounds used_in) (vacant : slabs.get old place ≡ None) (updates : Updates old new place (Some v)) (absent : finite.get ages v ≡ None) where
   pub insert_vacant : finite.get (places_of old) place ≡ None
   insert_vacant = get-places old place ∙ vacant
-
-  ages_is : ages_by_group newest (add_page fresh_page pages) ≡ finite.insert (ages_by_group newest pages) v 0
-  ages_is = ages_add newest fresh_page pages not_there ∙ ap (finite.insert (ages_by_group newest pages) v) (turned_newest newest)
 
   places_is : places_of new ≡ finite.insert (places_of old) place v
   places_is = places_put old new place v updates
 
-  pub insert_keeps : (after : List Grouped) (spare' spare_room' stamp : ℕ) → slab_len new ≡ slab_len old + 1 → new.capacity ≡ old.capacity → place < new.capacity →
-      after ≡ add_page fresh_page pages → spare' + 1 ≡ spare → spare_room' ≡ spare_room → stamp ≡ min rounds (last_round - 1) → IsWorkingSet most new newest after spare' spare_room' rounds (set used_in place stamp)
-  insert_keeps after spare' spare_room' stamp more capacity range is_after fewer same_room is_stamp =
+  pub insert_keeps : (later : Map) (sets_now : Bool) (stamp : ℕ) → slab_len old < most → slab_len new ≡ slab_len old + 1 → new.capacity ≡ old.capacity → place < new.capacity →
+      later ≡ finite.insert ages v 0 → sets_now ≡ has_sets → stamp ≡ min rounds (last_round - 1) → IsWorkingSet most new later sets_now rounds (set used_in place stamp)
+  insert_keeps later sets_now stamp free more capacity range is_later still is_stamp =
       let within : place < length used_in = omega (arith, range, capacity, is.enough) in
-      let P : FinMap nat_cmp ℕ → FinMap nat_cmp ℕ → Type 0 = λ a m. EachAtOnePlace (maps a m) in
-      let Q : FinMap nat_cmp ℕ → FinMap nat_cmp ℕ → Type 0 = λ a m. KnowsUses a m rounds (set used_in place stamp) in
-      subst (λ (a : List Grouped). IsWorkingSet most new newest a spare' spare_room' rounds (set used_in place stamp)) (sym is_after) (record {
+      let P : Map → Map → Type 0 = λ a m. EachAtOnePlace (maps a m) in
+      let Q : Map → Map → Type 0 = λ a m. KnowsUses a m rounds (set used_in place stamp) in
+      record {
         counted = ap finite.len places_is ∙ len_more (places_of old) place v insert_vacant ∙ ap (λ n. n + 1) is.counted ∙ sym more;
-        as_many = length-add fresh_page pages ∙ ap (λ n. n + 1) is.as_many ∙ sym more;
-        stocked = omega (arith, is.stocked, more, fewer);
-        room_for_spare = omega (arith, is.room_for_spare, same_room);
+        few = omega (arith, more, free);
         room = omega (arith, is.room, capacity);
         fits = omega (arith, is.fits, capacity);
         enough = omega (arith, is.enough, capacity, length-set used_in place stamp);
@@ -104,129 +87,94 @@ module _ (most : ℕ) (old new : Slab ℕ) (newest : ℕ) (pages : List Grouped)
           | inl here ↦ omega (arith, here, range)
           | inr other ↦ omega (arith, capacity, is.in_range p w (get-places old p ∙ sym (updates.others p other) ∙ sym (get-places new p) ∙ e))
         ];
-        turning = is.turning;
-        sorted = sorted_add fresh_page 0 pages is.sorted (omega arith) not_there;
-        each = subst (λ a. P a (places_of new)) (sym ages_is) (subst (P (finite.insert (ages_by_group newest pages) v 0)) (sym places_is) (each_add (ages_by_group newest pages) (places_of old) is.each place v absent insert_vacant));
-        uses = subst (λ a. Q a (places_of new)) (sym ages_is) (subst (Q (finite.insert (ages_by_group newest pages) v 0)) (sym places_is) (uses_add (ages_by_group newest pages) (places_of old) rounds used_in is.uses place v stamp within is_stamp));
-      })
+        roomy = λ some. still ∙ is.roomy some;
+        each = subst (λ a. P a (places_of new)) (sym is_later) (subst (P (finite.insert ages v 0)) (sym places_is) (each_add ages (places_of old) is.each place v absent insert_vacant));
+        uses = subst (λ a. Q a (places_of new)) (sym is_later) (subst (Q (finite.insert ages v 0)) (sym places_is) (uses_add ages (places_of old) rounds used_in is.uses place v stamp within is_stamp));
+      }
 
-  pub insert_view : (min max : ℕ) (reserved : Bool) (after : List Grouped) → after ≡ add_page fresh_page pages →
-      set_of min max reserved newest after new ≡ record (set_of min max reserved newest pages old) { ages = finite.insert (ages_by_group newest pages) v 0; places = finite.insert (places_of old) place v }
-  insert_view min max reserved after is_after =
-      ap (λ a. made min max reserved a (places_of new)) (ap (ages_by_group newest) is_after ∙ ages_is) ∙ ap (made min max reserved (finite.insert (ages_by_group newest pages) v 0)) places_is
+  pub insert_view : (min max : ℕ) (reserved : Bool) (later : Map) → later ≡ finite.insert ages v 0 →
+      made min max reserved later (places_of new) ≡ record (made min max reserved ages (places_of old)) { ages = finite.insert ages v 0; places = finite.insert (places_of old) place v }
+  insert_view min max reserved later is_later =
+      ap (λ a. made min max reserved a (places_of new)) is_later ∙ ap (made min max reserved (finite.insert ages v 0)) places_is
 
 -- ---- a page goes
 
-module _ (most : ℕ) (old new : Slab ℕ) (newest : ℕ) (pages : List Grouped) (spare spare_room rounds : ℕ) (used_in : List ℕ) (place v : ℕ)
-    (is : IsWorkingSet most old newest pages spare spare_room rounds used_in) (there : slabs.get old place ≡ Some v) (updates : Updates old new place None) where
+module _ (most : ℕ) (old new : Slab ℕ) (ages : Map) (has_sets : Bool) (rounds : ℕ) (used_in : List ℕ) (place v : ℕ)
+    (is : IsWorkingSet most old ages has_sets rounds used_in) (there : slabs.get old place ≡ Some v) (updates : Updates old new place None) where
   pub remove_page_at : finite.get (places_of old) place ≡ Some v
   remove_page_at = get-places old place ∙ there
 
-  pub remove_held : IsSome (group_in pages v)
-  remove_held = some_group newest pages v (is.each.aged place v remove_page_at)
-
-  ages_left : ages_by_group newest (remove_page v pages) ≡ finite.remove (ages_by_group newest pages) v
-  ages_left = ages_removed newest v pages is.sorted
+  pub remove_held : IsSome (finite.get ages v)
+  remove_held = is.each.aged place v remove_page_at
 
   places_left : places_of new ≡ finite.remove (places_of old) place
   places_left = places_gone old new place updates
 
-  pub remove_keeps : (after : List Grouped) (spare' spare_room' : ℕ) → slab_len new + 1 ≡ slab_len old → new.capacity ≡ old.capacity →
-      after ≡ remove_page v pages → spare' ≡ spare + 1 → spare_room' ≡ spare_room → IsWorkingSet most new newest after spare' spare_room' rounds used_in
-  remove_keeps after spare' spare_room' fewer capacity is_after more same_room =
-      let P : FinMap nat_cmp ℕ → FinMap nat_cmp ℕ → Type 0 = λ a m. EachAtOnePlace (maps a m) in
-      let Q : FinMap nat_cmp ℕ → FinMap nat_cmp ℕ → Type 0 = λ a m. KnowsUses a m rounds used_in in
-      subst (λ (a : List Grouped). IsWorkingSet most new newest a spare' spare_room' rounds used_in) (sym is_after) (record {
+  pub remove_keeps : (later : Map) (sets_now : Bool) → slab_len new + 1 ≡ slab_len old → new.capacity ≡ old.capacity →
+      later ≡ finite.remove ages v → sets_now ≡ has_sets → IsWorkingSet most new later sets_now rounds used_in
+  remove_keeps later sets_now fewer capacity is_later still =
+      let P : Map → Map → Type 0 = λ a m. EachAtOnePlace (maps a m) in
+      let Q : Map → Map → Type 0 = λ a m. KnowsUses a m rounds used_in in
+      record {
         counted = less_one (finite.len (places_of new)) (finite.len (places_of old)) (slab_len new) (ap finite.len places_left ∙ len_less (places_of old) place v remove_page_at) (is.counted ∙ sym fewer);
-        as_many = omega (arith, length-removed v pages remove_held, is.as_many, fewer);
-        stocked = omega (arith, is.stocked, more, fewer);
-        room_for_spare = omega (arith, is.room_for_spare, same_room);
+        few = omega (arith, is.few, fewer);
         room = omega (arith, is.room, capacity);
         fits = omega (arith, is.fits, capacity);
         enough = omega (arith, is.enough, capacity);
-        in_range = λ p w e. omega (arith, capacity, is.in_range p w (kept (places_of old) place p w (ap (λ (m : FinMap nat_cmp ℕ). finite.get m p) (sym places_left) ∙ e)).1);
-        turning = is.turning;
-        sorted = sorted_removed v 0 pages is.sorted;
-        each = subst (λ a. P a (places_of new)) (sym ages_left) (subst (P (finite.remove (ages_by_group newest pages) v)) (sym places_left) (each_remove (ages_by_group newest pages) (places_of old) is.each place v remove_page_at));
-        uses = subst (λ a. Q a (places_of new)) (sym ages_left) (subst (Q (finite.remove (ages_by_group newest pages) v)) (sym places_left) (uses_remove (ages_by_group newest pages) (places_of old) rounds used_in is.uses place v is.each remove_page_at));
-      })
+        in_range = λ p w e. omega (arith, capacity, is.in_range p w (kept (places_of old) place p w (ap (λ (m : Map). finite.get m p) (sym places_left) ∙ e)).1);
+        roomy = λ some. still ∙ is.roomy some;
+        each = subst (λ a. P a (places_of new)) (sym is_later) (subst (P (finite.remove ages v)) (sym places_left) (each_remove ages (places_of old) is.each place v remove_page_at));
+        uses = subst (λ a. Q a (places_of new)) (sym is_later) (subst (Q (finite.remove ages v)) (sym places_left) (uses_remove ages (places_of old) rounds used_in is.uses place v is.each remove_page_at));
+      }
 
-  pub remove_view : (min max : ℕ) (reserved : Bool) (after : List Grouped) → after ≡ remove_page v pages →
-      set_of min max reserved newest after new ≡ record (set_of min max reserved newest pages old) { ages = finite.remove (ages_by_group newest pages) v; places = finite.remove (places_of old) place }
-  remove_view min max reserved after is_after =
-      ap (λ a. made min max reserved a (places_of new)) (ap (ages_by_group newest) is_after ∙ ages_left) ∙ ap (made min max reserved (finite.remove (ages_by_group newest pages) v)) places_left
+  pub remove_view : (min max : ℕ) (reserved : Bool) (later : Map) → later ≡ finite.remove ages v →
+      made min max reserved later (places_of new) ≡ record (made min max reserved ages (places_of old)) { ages = finite.remove ages v; places = finite.remove (places_of old) place }
+  remove_view min max reserved later is_later =
+      ap (λ a. made min max reserved a (places_of new)) is_later ∙ ap (made min max reserved (finite.remove ages v)) places_left
 
 -- ---- a page is used
 
-module _ (most : ℕ) (places : Slab ℕ) (newest : ℕ) (pages : List Grouped) (spare spare_room rounds : ℕ) (used_in : List ℕ) (place v : ℕ)
-    (is : IsWorkingSet most places newest pages spare spare_room rounds used_in) (there : finite.get (places_of places) place ≡ Some v) where
-  ages_now : ages_by_group newest (map (regrouped v newest) pages) ≡ finite.insert (ages_by_group newest pages) v 0
-  ages_now = ages_used newest v pages (some_group newest pages v (is.each.aged place v there))
-
-  pub touch_keeps : (after : List Grouped) (stamp : ℕ) → after ≡ map (regrouped v newest) pages → stamp ≡ min rounds (last_round - 1) → IsWorkingSet most places newest after spare spare_room rounds (set used_in place stamp)
-  touch_keeps after stamp is_after is_stamp =
+module _ (most : ℕ) (places : Slab ℕ) (ages : Map) (has_sets : Bool) (rounds : ℕ) (used_in : List ℕ) (place v : ℕ)
+    (is : IsWorkingSet most places ages has_sets rounds used_in) (there : finite.get (places_of places) place ≡ Some v) where
+  pub touch_keeps : (later : Map) (sets_now : Bool) (stamp : ℕ) → later ≡ finite.insert ages v 0 → sets_now ≡ has_sets → stamp ≡ min rounds (last_round - 1) → IsWorkingSet most places later sets_now rounds (set used_in place stamp)
+  touch_keeps later sets_now stamp is_later still is_stamp =
       let within : place < length used_in = omega (arith, is.in_range place v there, is.enough) in
-      let P : FinMap nat_cmp ℕ → Type 0 = λ a. EachAtOnePlace (maps a (places_of places)) in
-      let Q : FinMap nat_cmp ℕ → Type 0 = λ a. KnowsUses a (places_of places) rounds (set used_in place stamp) in
-      subst (λ (a : List Grouped). IsWorkingSet most places newest a spare spare_room rounds (set used_in place stamp)) (sym is_after) (record {
+      let P : Map → Type 0 = λ a. EachAtOnePlace (maps a (places_of places)) in
+      let Q : Map → Type 0 = λ a. KnowsUses a (places_of places) rounds (set used_in place stamp) in
+      record {
         counted = is.counted;
-        as_many = length-map pages (regrouped v newest) ∙ is.as_many;
-        stocked = is.stocked;
-        room_for_spare = is.room_for_spare;
+        few = is.few;
         room = is.room;
         fits = is.fits;
         enough = omega (arith, is.enough, length-set used_in place stamp);
         in_range = is.in_range;
-        turning = is.turning;
-        sorted = sorted_map (regrouped v newest) 0 pages (λ x. refl) is.sorted;
-        each = subst P (sym ages_now) (each_used (ages_by_group newest pages) (places_of places) is.each place v there);
-        uses = subst Q (sym ages_now) (uses_used (ages_by_group newest pages) (places_of places) rounds used_in is.uses place v stamp within there is_stamp);
-      })
-
-  pub touch_view : (min max : ℕ) (reserved : Bool) (after : List Grouped) → after ≡ map (regrouped v newest) pages → set_of min max reserved newest after places ≡ record (set_of min max reserved newest pages places) { ages = finite.insert (ages_by_group newest pages) v 0 }
-  touch_view min max reserved after is_after = ap (λ a. made min max reserved a (places_of places)) (ap (ages_by_group newest) is_after ∙ ages_now)
+        roomy = λ some. still ∙ is.roomy some;
+        each = subst P (sym is_later) (each_used ages (places_of places) is.each place v there);
+        uses = subst Q (sym is_later) (uses_used ages (places_of places) rounds used_in is.uses place v stamp within there is_stamp);
+      }
 
   -- a page that was used in this round has age 0 already
-  pub used_already : (min max : ℕ) (reserved : Bool) (read : ℕ) → read ≡ get_or used_in place read → read ≡ rounds → set_of min max reserved newest pages places ≡ record (set_of min max reserved newest pages places) { ages = finite.insert (ages_by_group newest pages) v 0 }
-  used_already min max reserved read is_read now =
+  pub used_already : (read : ℕ) → read ≡ get_or used_in place read → read ≡ rounds → ages ≡ finite.insert ages v 0
+  used_already read is_read now =
       let within : place < length used_in = omega (arith, is.in_range place v there, is.enough) in
       let same_round : get_or used_in place 0 ≡ rounds = get_or_default used_in place 0 read within ∙ sym is_read ∙ now in
-      ap (λ a. made min max reserved a (places_of places)) (is_insert (ages_by_group newest pages) (ages_by_group newest pages) v 0 (is.uses.fresh place v there same_round) (λ q other. refl))
+      is_insert ages ages v 0 (is.uses.fresh place v there same_round) (λ q other. refl)
 
 -- ---- all pages become older
 
-module _ (most : ℕ) (places : Slab ℕ) (newest : ℕ) (pages : List Grouped) (spare spare_room rounds : ℕ) (used_in : List ℕ)
-    (is : IsWorkingSet most places newest pages spare spare_room rounds used_in) where
-  pub ages_later : AgesBy older (ages_by_group newest pages) (ages_by_group (next_newest newest) (map (retired (next_newest newest)) pages))
-  ages_later = ages_older newest is.turning pages (known_group newest is.turning pages is.each.young)
-
-  pub older_keeps : (then : ℕ) (after : List Grouped) (next : ℕ) → then ≡ next_newest newest → after ≡ map (retired then) pages → next ≡ min (rounds + 1) last_round
-      → IsWorkingSet most places then after spare spare_room next used_in
-  older_keeps then after next is_then is_after is_next =
-      let group = next_newest newest in
-      let later = map (retired group) pages in
-      let P : ℕ → List Grouped → Type 0 = λ n xs. IsWorkingSet most places n xs spare spare_room next used_in in
-      let later_is : after ≡ later = is_after ∙ ap (λ n. map (retired n) pages) is_then in
-      subst (λ n. P n after) (sym is_then) (subst (P group) (sym later_is) (record {
-        counted = is.counted;
-        as_many = length-map pages (retired group) ∙ is.as_many;
-        stocked = is.stocked;
-        room_for_spare = is.room_for_spare;
-        room = is.room;
-        fits = is.fits;
-        enough = is.enough;
-        in_range = is.in_range;
-        turning = next_turns newest is.turning;
-        sorted = sorted_map (retired group) 0 pages (λ x. refl) is.sorted;
-        each = each_older (ages_by_group newest pages) (places_of places) is.each (ages_by_group group later) ages_later;
-        uses = uses_older (ages_by_group newest pages) (places_of places) rounds used_in is.uses (ages_by_group group later) next is_next;
-      }))
-
-  pub older_ages : (then : ℕ) (after : List Grouped) → then ≡ next_newest newest → after ≡ map (retired then) pages → AgesBy older (ages_by_group newest pages) (ages_by_group then after)
-  older_ages then after is_then is_after =
-      let later_is : after ≡ map (retired (next_newest newest)) pages = is_after ∙ ap (λ n. map (retired n) pages) is_then in
-      subst (λ n. AgesBy older (ages_by_group newest pages) (ages_by_group n after)) (sym is_then)
-      (subst (λ xs. AgesBy older (ages_by_group newest pages) (ages_by_group (next_newest newest) xs)) (sym later_is) ages_later)
+pub older_keeps : (most : ℕ) (places : Slab ℕ) (ages : Map) (has_sets : Bool) (rounds : ℕ) (used_in : List ℕ) → IsWorkingSet most places ages has_sets rounds used_in →
+    (later : Map) (sets_now : Bool) (next : ℕ) → AgesBy older ages later → sets_now ≡ has_sets → next ≡ min (rounds + 1) last_round → IsWorkingSet most places later sets_now next used_in
+older_keeps most places ages has_sets rounds used_in is later sets_now next by still is_next = record {
+  counted = is.counted;
+  few = is.few;
+  room = is.room;
+  fits = is.fits;
+  enough = is.enough;
+  in_range = is.in_range;
+  roomy = λ some. still ∙ is.roomy some;
+  each = each_older ages (places_of places) is.each later by;
+  uses = uses_older ages (places_of places) rounds used_in is.uses later next is_next;
+}
 
 -- ---- a set without a page
 
@@ -236,24 +184,21 @@ zeros_at n p = elim (cases_lt p n) [
   | inr far ↦ get_or_past (replicate n 0) p 0 (omega (arith, far, length-replicate {A = ℕ} n 0))
 ]
 
-pub empty_keeps : (most spare spare_room rounds n newest : ℕ) (places : Slab ℕ) (pages : List Grouped) (used_in : List ℕ) → places.slots ≡ [] → length pages ≡ 0 → spare ≡ most → most ≤ spare_room → most ≤ places.capacity →
-    places.capacity < 2 ^ 32 → used_in ≡ replicate n 0 → places.capacity ≤ n → newest < 7 → IsWorkingSet most places newest pages spare spare_room rounds used_in
-empty_keeps most spare spare_room rounds n newest places pages used_in empty bare stocked room_for_spare room fits zeros enough turning =
+pub empty_keeps : (most rounds n : ℕ) (places : Slab ℕ) (ages : Map) (has_sets : Bool) (used_in : List ℕ) → places.slots ≡ [] → ages ≡ finite.empty → (0 < most → has_sets ≡ true) → most ≤ places.capacity →
+    places.capacity < 2 ^ 32 → used_in ≡ replicate n 0 → places.capacity ≤ n → IsWorkingSet most places ages has_sets rounds used_in
+empty_keeps most rounds n places ages has_sets used_in empty bare roomy room fits zeros enough =
     let none : (p v : ℕ) → finite.get (places_of places) p ≡ Some v → ⊥ = λ p v e. (let bad : None ≡ Some v = sym (get-places places p ∙ none_at places p empty) ∙ e in cc) in
-    let no_age : (v age : ℕ) → finite.get (ages_by_group newest pages) v ≡ Some age → ⊥ =
-    λ v age e. (let bad : None ≡ Some age = sym (get-ages newest pages v ∙ ap (λ (xs : List Grouped). age_of_page newest xs v) (nil_from_length pages bare)) ∙ e in cc) in
+    let no_age : (v age : ℕ) → finite.get ages v ≡ Some age → ⊥ =
+    λ v age e. (let bad : None ≡ Some age = sym (ap (λ (m : Map). finite.get m v) bare ∙ finite.get-empty nat_cmp v) ∙ e in cc) in
     let zero_at : (p : ℕ) → get_or used_in p 0 ≡ 0 = λ p. ap (λ (xs : List ℕ). get_or xs p 0) zeros ∙ zeros_at n p in
     record {
       counted = ap finite.len (no_places places empty) ∙ finite.len-empty nat_cmp ℕ ∙ sym (no_slots places empty);
-      as_many = bare ∙ sym (no_slots places empty);
-      stocked = omega (arith, no_slots places empty, stocked);
-      room_for_spare = room_for_spare;
+      few = omega (arith, no_slots places empty);
       room = room;
       fits = fits;
       enough = omega (arith, enough, ap length zeros, length-replicate {A = ℕ} n 0);
       in_range = λ p v e. absurd (none p v e);
-      turning = turning;
-      sorted = subst (IsSorted 0) (sym (nil_from_length pages bare)) tt;
+      roomy = roomy;
       each = record {
         aged = λ p v e. absurd (none p v e);
         placed = λ v age e. absurd (no_age v age e);
@@ -267,28 +212,24 @@ empty_keeps most spare spare_room rounds n newest places pages used_in empty bar
       };
     }
 
--- a set without a page, seen by its maps
-pub empty_view : (min max : ℕ) (reserved : Bool) (newest : ℕ) (pages : List Grouped) (places : Slab ℕ) → length pages ≡ 0 → places.slots ≡ [] → set_of min max reserved newest pages places ≡ record { min = min; max = max; reserved = reserved; ages = finite.empty; places = finite.empty }
-empty_view min max reserved newest pages places bare empty =
-    ap (λ a. made min max reserved a (places_of places)) (ap (ages_by_group newest) (nil_from_length pages bare) ∙ ages_none newest) ∙ ap (made min max reserved finite.empty) (no_places places empty)
+-- where no place is in use both maps are empty
+module _ (most : ℕ) (places : Slab ℕ) (ages : Map) (has_sets : Bool) (rounds : ℕ) (used_in : List ℕ) (is : IsWorkingSet most places ages has_sets rounds used_in) (none : finite.len (places_of places) ≡ 0) where
+  none_in_use : places_of places ≡ finite.empty
+  none_in_use = finite.empty_of_len (places_of places) none
 
--- where no place is in use the places are the empty map
-pub none_in_use : (most : ℕ) (places : Slab ℕ) (newest : ℕ) (pages : List Grouped) (spare spare_room rounds : ℕ) (used_in : List ℕ) → IsWorkingSet most places newest pages spare spare_room rounds used_in → length pages ≡ 0 → places_of places ≡ finite.empty
-none_in_use most places newest pages spare spare_room rounds used_in is bare = same (places_of places) finite.empty (λ p. nothing p (finite.get (places_of places) p) refl ∙ sym (finite.get-empty nat_cmp p)) where
-  nothing : (p : ℕ) (o : Option ℕ) → finite.get (places_of places) p ≡ o → finite.get (places_of places) p ≡ None
-  nothing p None e = e
-  nothing p (Some v) e =
-      let held : IsSome (finite.get (ages_by_group newest pages) v) = is.each.aged p v e in
-      let bad : false ≡ true = ap is_some (sym (get-ages newest pages v ∙ ap (λ (xs : List Grouped). age_of_page newest xs v) (nil_from_length pages bare))) ∙ held in
-      cc
+  none_aged : ages ≡ finite.empty
+  none_aged = same ages finite.empty (λ v. nothing v (finite.get ages v) refl ∙ sym (finite.get-empty nat_cmp v)) where
+    nothing : (v : ℕ) (o : Option ℕ) → finite.get ages v ≡ o → finite.get ages v ≡ None
+    nothing v None e = e
+    nothing v (Some age) e =
+        let at = is.each.placed v age e in
+        let bad : None ≡ Some v = sym (ap (λ (m : Map). finite.get m at.0) none_in_use ∙ finite.get-empty nat_cmp at.0) ∙ at.1 in
+        cc
 
--- other places that show the same, and room taken or given back
-pub same_places : (min max : ℕ) (reserved now : Bool) (newest : ℕ) (pages : List Grouped) (old new : Slab ℕ) → places_of new ≡ places_of old → set_of min max now newest pages new ≡ record (set_of min max reserved newest pages old) { reserved = now }
-same_places min max reserved now newest pages old new e = ap (made min max now (ages_by_group newest pages)) e
+  -- other places and pages, of which there are none, and room taken or given back
+  pub same_maps : (min max : ℕ) (reserved now : Bool) (later : Map) (new : Slab ℕ) → later ≡ finite.empty → new.slots ≡ [] → made min max now later (places_of new) ≡ record (made min max reserved ages (places_of places)) { reserved = now }
+  same_maps min max reserved now later new bare empty =
+      ap (λ a. made min max now a (places_of new)) (bare ∙ sym none_aged) ∙ ap (made min max now ages) (no_places new empty ∙ sym none_in_use)
 
--- a set without a page has none in its tree
-pub no_pages : (most : ℕ) (places : Slab ℕ) (newest : ℕ) (pages : List Grouped) (spare spare_room rounds : ℕ) (used_in : List ℕ) → IsWorkingSet most places newest pages spare spare_room rounds used_in → finite.len (places_of places) ≡ 0 → length pages ≡ 0
-no_pages most places newest pages spare spare_room rounds used_in is none = is.as_many ∙ sym is.counted ∙ none
-
-pub no_room : (max : ℕ) (reserved : Bool) (places : Slab ℕ) (newest : ℕ) (pages : List Grouped) (spare spare_room rounds : ℕ) (used_in : List ℕ) → IsWorkingSet (room_of reserved max) places newest pages spare spare_room rounds used_in → reserved ≡ false → finite.len (places_of places) ≡ 0
-no_room max reserved places newest pages spare spare_room rounds used_in is none = omega (arith, is.counted, is.stocked, ap (λ b. room_of b max) none)
+pub no_room : (max : ℕ) (reserved : Bool) (places : Slab ℕ) (ages : Map) (has_sets : Bool) (rounds : ℕ) (used_in : List ℕ) → IsWorkingSet (room_of reserved max) places ages has_sets rounds used_in → reserved ≡ false → finite.len (places_of places) ≡ 0
+no_room max reserved places ages has_sets rounds used_in is none = omega (arith, is.counted, is.few, ap (λ b. room_of b max) none)

@@ -1,21 +1,25 @@
--- A working set as its places and its tree of pages.
-use Rattle.std.specs.Prelude.{◌≡◌, ℕ, ◌+◌, ◌-◌, ◌^◌, ◌<◌, ◌≤◌, Bool, false, if◌then◌else◌, List, length, map, Some, slice_index}
+-- A working set as its places and its pages by their ages.
+use Rattle.std.specs.Prelude.{◌≡◌, ℕ, ◌-◌, ◌^◌, ◌<◌, ◌≤◌, Bool, true, false, if◌then◌else◌, List, length, Option, Some, nat_lt, slice_index}
 use Rattle.std.specs.Ordering.{nat_cmp}
 use Rattle.std.specs.FinMap as finite
 use Rattle.std.specs.FinMap.{FinMap}
 use Rattle.mm_types.specs.Table.{table}
 use Rattle.slab.specs.Slab.{Slab, slab_len}
-use Rattle.mm_wset.specs.declared.trees.Grouped.{Grouped}
+use Rattle.mm_wset.specs.declared.groups.AgeGroups.{AgeGroups}
 use Rattle.mm_wset.specs.Ages.{WorkingSetOf, EachAtOnePlace}
-use Rattle.mm_wset.specs.GroupedPages.{IsSorted}
-use Rattle.mm_wset.specs.Ring.{turned}
+use Rattle.mm_wset.specs.AgeGroups.{age_in, ages_by_group}
 
-abbrev pub entry_of : ℕ → Grouped → ℕ × ℕ
-entry_of newest x = (x.page, turned newest x.group)
+-- from each page its age
+abbrev pub ages_of : AgeGroups → FinMap nat_cmp ℕ
+ages_of g = ages_by_group g.newest g.sets.items
 
--- from each page its age, which its group has
-unfoldable pub ages_by_group : ℕ → List Grouped → FinMap nat_cmp ℕ
-ages_by_group newest pages = finite.from_entries (map (entry_of newest) pages)
+-- the same of one page
+abbrev pub age_of : AgeGroups → ℕ → Option ℕ
+age_of g = age_in g.newest g.sets.items
+
+-- whether pages may come
+abbrev pub has_room : AgeGroups → Bool
+has_room g = nat_lt 0 (length g.sets.items)
 
 -- from each place in use its page
 abbrev pub places_of : Slab ℕ → FinMap nat_cmp ℕ
@@ -40,18 +44,15 @@ pub record KnowsUses (ages places : FinMap nat_cmp ℕ) (rounds : ℕ) (used_in 
   pub fresh : (p v : ℕ) → finite.get places p ≡ Some v → slice_index used_in p ≡ rounds →
       finite.get ages v ≡ Some 0
 
--- there are as many places in use as pages, and a spare node for each page that may yet come
-pub record IsWorkingSet (most : ℕ) (places : Slab ℕ) (newest : ℕ) (pages : List Grouped)
-    (spare spare_room rounds : ℕ) (used_in : List ℕ) : Type 0 where
+-- no more places are in use than there is room for, and where there is room pages may come
+pub record IsWorkingSet (most : ℕ) (places : Slab ℕ) (ages : FinMap nat_cmp ℕ) (has_sets : Bool)
+    (rounds : ℕ) (used_in : List ℕ) : Type 0 where
   pub counted : finite.len (places_of places) ≡ slab_len places
-  pub as_many : length pages ≡ slab_len places
-  pub stocked : slab_len places + spare ≡ most
-  pub room_for_spare : most ≤ spare_room
+  pub few : slab_len places ≤ most
   pub room : most ≤ places.capacity
   pub fits : places.capacity < 2 ^ 32
   pub enough : places.capacity ≤ length used_in
   pub in_range : (p v : ℕ) → finite.get (places_of places) p ≡ Some v → p < places.capacity
-  pub turning : newest < 7
-  pub sorted : IsSorted 0 pages
-  pub each : EachAtOnePlace (maps (ages_by_group newest pages) (places_of places))
-  pub uses : KnowsUses (ages_by_group newest pages) (places_of places) rounds used_in
+  pub roomy : 0 < most → has_sets ≡ true
+  pub each : EachAtOnePlace (maps ages (places_of places))
+  pub uses : KnowsUses ages (places_of places) rounds used_in

@@ -1,7 +1,6 @@
 pub mod Ages
 pub mod InOrder
 pub mod Ring
-pub mod GroupedPages
-pub mod Shape
-pub mod Nodes
+pub mod Rows
+pub mod AgeGroups
 pub mod Held

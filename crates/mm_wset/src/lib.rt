@@ -2,7 +2,8 @@
 //! used.
 #![tactic(auto)]
 
+mod groups;
+mod page_sets;
 mod sets;
-mod trees;
 
 pub use sets::WorkingSet;

@@ -1,17 +1,18 @@
-ghost use Rattle.std.specs.Prelude.{◌≡◌, ◌==◌, ◌+◌, ◌-◌, ◌^◌, ◌<◌, ◌≤◌, ℕ, true, false, min, length, Some, None, IfOk, OnOk, OnErr, MatchOption, IsSome, is_some, option_map, vec_len, vec_capacity};
+ghost use Rattle.std.specs.Prelude.{◌≡◌, ◌==◌, ◌-◌, ◌^◌, ◌<◌, ◌≤◌, ℕ, true, false, min, Some, None, IfOk, OnOk, OnErr, MatchOption, IsSome, is_some, option_map};
 ghost use Rattle.std.specs.Option.{ForSome};
 ghost use Rattle.std.specs.FinMap as finite;
 ghost use Rattle.mm_wset.specs.Ages.{EachAtOnePlace, AgesBy, older, IsOldestInSet, NoneFollowsInSet};
 ghost use Rattle.mm_wset.specs.InOrder.{IsNextFrom};
-ghost use Rattle.mm_wset.specs.GroupedPages.{IsSorted, group_in, add_page, remove_page};
 ghost use Rattle.mm_wset.specs.Held.{last_round};
-ghost use Rattle.mm_wset.specs.Ring.{next_newest};
 
-use crate::trees::{AGES, Grouped, Node, Tree};
+use crate::groups::AgeGroups;
 use mm_types::{NoMemory, Vpn};
 use slab::Slab;
 use std::alloc::Global;
 use std::marker::Model;
+
+/// The greatest age.
+const GREATEST_AGE: u64 = 7;
 
 /// A process's working set: its valid pages, each at a place of its own and with an age.
 ///
@@ -26,11 +27,7 @@ pub struct WorkingSet {
     is_reserved: bool,
     /// The page at each place in use.
     places: Slab<u32>,
-    pages: Tree,
-    /// Nodes for pages to come.
-    stock: Vec<Box<Node>>,
-    /// The group of the pages of age 0.
-    newest: u8,
+    pages: AgeGroups,
     /// How often all pages became older.
     rounds: u64,
     /// For each place the round in which its page was last used.
@@ -38,9 +35,8 @@ pub struct WorkingSet {
 }
 
 impl Model for WorkingSet {
-    ghost use Rattle.std.specs.Prelude.{vec_len, vec_capacity};
     ghost use Rattle.mm_wset.specs.Ages.{WorkingSetOf, working_set_code};
-    ghost use Rattle.mm_wset.specs.Held.{ages_by_group, places_of, room_of, IsWorkingSet};
+    ghost use Rattle.mm_wset.specs.Held.{ages_of, has_room, places_of, room_of, IsWorkingSet};
 
     ghost Value = { WorkingSetOf };
 
@@ -50,57 +46,12 @@ impl Model for WorkingSet {
       min = s.min;
       max = s.max;
       reserved = s.is_reserved;
-      ages = ages_by_group s.newest s.pages.pages;
+      ages = ages_of s.pages;
       places = places_of s.places;
     } };
 
-    ghost invariant = { λ s. IsWorkingSet (room_of s.is_reserved s.max) s.places s.newest
-        s.pages.pages (vec_len s.stock) (vec_capacity s.stock) s.rounds s.used_in.items };
-}
-
-/// So many nodes that hold no page yet.
-fn take_nodes(alloc: Global, n: u32) -> Result<Vec<Box<Node>>, NoMemory>
-    ensures count { IfOk result (λ s. vec_len s ≡ n) }
-    ensures room { IfOk result (λ s. n ≤ vec_capacity s) }
-{
-    let mut nodes = Vec::with_capacity(alloc, n as usize)?;
-    for _ in 0..n {
-        let node = Box::new(alloc, Node::blank())?;
-        nodes.push_reserved(node);
-    }
-    Ok(nodes)
-}
-
-/// Takes a page into a group, with one of the spare nodes.
-fn put_in(pages: &mut Tree, stock: &mut Vec<Box<Node>>, page: u32, group: u8)
-    requires known { group ≤ 7 }
-    requires stocked { 0 < vec_len stock.old }
-    requires sorted { IsSorted 0 pages.old.pages }
-    requires few { length pages.old.pages + 1 < 2 ^ 32 }
-    ensures pages { pages.new.pages ≡ add_page (record {
-      page = page;
-      group = group;
-    }) pages.old.pages }
-    ensures spare { vec_len stock.new + 1 ≡ vec_len stock.old }
-    ensures room { vec_capacity stock.new ≡ vec_capacity stock.old }
-{
-    let mut node = stock.take_last();
-    node.member = Grouped { page, group };
-    pages.insert(node);
-}
-
-/// Takes a page out; its node is spare from now on.
-fn take_out(pages: &mut Tree, stock: &mut Vec<Box<Node>>, page: u32)
-    requires room { vec_len stock.old < vec_capacity stock.old }
-    requires sorted { IsSorted 0 pages.old.pages }
-    requires held { IsSome (group_in pages.old.pages page) }
-    requires few { length pages.old.pages < 2 ^ 32 }
-    ensures pages { pages.new.pages ≡ remove_page page pages.old.pages }
-    ensures spare { vec_len stock.new ≡ vec_len stock.old + 1 }
-    ensures room { vec_capacity stock.new ≡ vec_capacity stock.old }
-{
-    let (node, _) = pages.remove(page);
-    stock.push_reserved(node);
+    ghost invariant = { λ s. IsWorkingSet (room_of s.is_reserved s.max) s.places (ages_of s.pages)
+        (has_room s.pages) s.rounds s.used_in.items };
 }
 
 /// What is kept for a place whose page is used in a round; in the last round it is an earlier one.
@@ -110,13 +61,11 @@ fn use_in(round: u64) -> u64
     round.min(u64::MAX - 1)
 }
 
-/// The group that becomes the newest after another.
-fn next_newest(newest: u8) -> u8
-    requires { newest < 7 }
-    ensures is { result ≡ next_newest newest }
-    ensures turning { result < 7 }
+/// How many rounds ago another was, up to 7: the age of a page that was used in it.
+fn age_since(rounds: u64, used_in: u64) -> u8
+    ensures { result ≤ 7 }
 {
-    if newest + 2 < AGES { newest + 1 } else { 0 }
+    rounds.saturating_sub(used_in).min(GREATEST_AGE) as u8
 }
 
 impl WorkingSet {
@@ -136,9 +85,7 @@ impl WorkingSet {
             max,
             is_reserved: false,
             places: Slab::new(alloc),
-            pages: Tree::new(),
-            stock: Vec::new(alloc),
-            newest: 0,
+            pages: AgeGroups::unreserved(alloc),
             rounds: 0,
             used_in: Vec::new(alloc),
         }
@@ -175,9 +122,9 @@ impl WorkingSet {
             return Err(NoMemory);
         }
         let used_in = vec![in self.alloc; 0; room]?;
-        let stock = take_nodes(self.alloc, self.max)?;
+        let pages = AgeGroups::new(self.alloc)?;
         self.places = places;
-        self.stock = stock;
+        self.pages = pages;
         self.used_in = used_in;
         self.is_reserved = true;
         Ok(())
@@ -189,16 +136,17 @@ impl WorkingSet {
         ensures { self.new ≡ record self.old { reserved = false } }
     {
         self.places = Slab::new(self.alloc);
-        self.stock = Vec::new(self.alloc);
+        self.pages = AgeGroups::unreserved(self.alloc);
         self.used_in = Vec::new(self.alloc);
         self.is_reserved = false;
     }
 
-    /// Takes a page in that is not in the set, which has room and fewer than `max` pages, and
-    /// answers its place.
+    /// Takes a page below 2 GiB in that is not in the set, which has room and fewer than `max`
+    /// pages, and answers its place.
     pub fn insert(&mut self, v: Vpn) -> u32
         requires reserved { self.old.reserved ≡ true }
         requires room { finite.len self.old.places < self.old.max }
+        requires user { v.0 < 2 ^ 19 }
         requires absent { finite.get self.old.ages v.0 ≡ None }
         ensures vacant { finite.get self.old.places result ≡ None }
         ensures set { self.new ≡ record self.old {
@@ -207,7 +155,7 @@ impl WorkingSet {
         } }
     {
         let place = self.places.insert_reserved(v.0);
-        put_in(&mut self.pages, &mut self.stock, v.0, self.newest);
+        self.pages.insert(v.0);
         self.used_in[place] = use_in(self.rounds);
         place as u32
     }
@@ -221,8 +169,10 @@ impl WorkingSet {
           places = finite.remove self.old.places place;
         } }
     {
-        let page = self.places.remove(place as usize);
-        take_out(&mut self.pages, &mut self.stock, page);
+        let place = place as usize;
+        let page = self.places.remove(place);
+        self.pages
+            .remove(page, age_since(self.rounds, self.used_in[place]));
         Vpn(page)
     }
 
@@ -234,13 +184,14 @@ impl WorkingSet {
         } }
     {
         let place = place as usize;
-        if self.used_in[place] == self.rounds {
+        let used_in = self.used_in[place];
+        if used_in == self.rounds {
             return;
         }
         let Some(page) = self.places.get(place).copied() else {
             unreachable!()
         };
-        self.pages.regroup(page, self.newest);
+        self.pages.renew(page, age_since(self.rounds, used_in));
         self.used_in[place] = use_in(self.rounds);
     }
 
@@ -249,10 +200,7 @@ impl WorkingSet {
         ensures ages { AgesBy older self.old.ages self.new.ages }
         ensures rest { self.new ≡ record self.old { ages = self.new.ages } }
     {
-        // the group of age 6 joins that of age 7, and is the one of age 0 from now on
-        let newest = next_newest(self.newest);
-        self.pages.retire(newest);
-        self.newest = newest;
+        self.pages.age_all();
         self.rounds = self.rounds.saturating_add(1);
     }
 
@@ -263,13 +211,9 @@ impl WorkingSet {
         ensures { MatchOption result (NoneFollowsInSet self.now.ages (option_map (λ w. w.0) after))
             (λ v. IsOldestInSet self.now.ages (option_map (λ w. w.0) after) v.0) }
     {
-        let found = match after {
-            None => self.pages.oldest_below(self.newest, AGES),
-            Some(v) => self.pages.next_after(self.newest, v.0),
-        };
-        match found {
-            Some(first) => Some(Vpn(first.page)),
-            None => None,
+        match after {
+            None => self.pages.oldest(),
+            Some(v) => self.pages.next_after(v.0),
         }
     }
 
@@ -277,7 +221,7 @@ impl WorkingSet {
     pub fn next_from(&self, from: Vpn) -> Option<Vpn>
         ensures { IsNextFrom (λ v. is_some (finite.get self.now.ages v)) from.0 result }
     {
-        self.pages.lowest_from(from.0)
+        self.pages.next_from(from.0)
     }
 
     /// Each page is at one place, no age is above 7, and a set without room has no page.

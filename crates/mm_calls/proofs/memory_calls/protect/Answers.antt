@@ -6,6 +6,7 @@ use Rattle.mm_world.specs.Charge.{charge}
 use Rattle.mm_world.specs.Find.{process_of}
 use Rattle.mm_world.specs.Protect.{are_protect_parameters}
 use Rattle.mm_calls.specs.Marking.{protect_pages}
+use Rattle.mm_pages.proofs.Passed.{turns_same}
 use Rattle.mm_calls.proofs.Marks.{marks_there}
 use Rattle.mm_calls.proofs.memory_calls.protect.Goals as goal
 
@@ -23,3 +24,15 @@ returns-clause-no_memory g c none =
           subst (λ (range : Range). charge t < charge (protect_pages t c.args.pid.0 p.0 range c.args.prot).world) c.of.ensures more in
           absurd (marks_there t c.args.pid.0 c.args.addr c.args.size c.args.prot p.0 p.1 right here none)
     ] refl
+
+pub returns-then-not-has-clause-idles : goal.returns-then-not-has-clause-idles
+returns-then-not-has-clause-idles g c = record {
+  passes = λ turn. turns_same g.G.Pages.unpaged turn (g.G.Pages.store c.args.g.now) (g.G.Pages.behind c.args.g.now);
+  loans = refl;
+}
+
+pub returns-then-not-are_protect_parameters-clause-idles : goal.returns-then-not-are_protect_parameters-clause-idles
+returns-then-not-are_protect_parameters-clause-idles g c = record {
+  passes = λ turn. turns_same g.G.Pages.unpaged turn (g.G.Pages.store c.args.g.now) (g.G.Pages.behind c.args.g.now);
+  loans = refl;
+}

@@ -6,6 +6,8 @@ use Rattle.mm_world.specs.Charge.{charge}
 use Rattle.mm_world.specs.Find.{process_of}
 use Rattle.mm_world.specs.Alloc.{commit_pages, are_alloc_parameters}
 use Rattle.mm_world.specs.Contents.{blank}
+use Rattle.mm_pages.proofs.Passed.{turns_same}
+use Rattle.mm_pages.specs.Housekeeping.{Makes}
 use Rattle.mm_calls.proofs.Allocated.{alloc_reserves, alloc_commits, reserves_anew, commits_anew}
 use Rattle.mm_calls.proofs.CallsDone.{answers-by}
 use Rattle.mm_calls.proofs.memory_calls.valloc.Goals as goal
@@ -57,3 +59,17 @@ returns-else-is_reserving-clause-no_memory g c none =
           absurd (commits_anew t c.args.pid.0 c.args.addr c.args.size c.args.kind c.args.prot p.0 c.plain_type-plain.result p.1 c.plain_type-plain.ensures right
           (sym c.is_reserving.ensures ∙ c.if-is_reserving.false) here none)
     ] refl
+
+pub returns-then-not-has-clause-makes : goal.returns-then-not-has-clause-makes
+returns-then-not-has-clause-makes g c = record {
+  passes = turns_same g.G.Pages.unpaged Makes (g.G.Pages.store c.args.g.now) (g.G.Pages.behind c.args.g.now);
+  idle = tt;
+  loans = refl;
+}
+
+pub returns-then-not-are_alloc_parameters-clause-makes : goal.returns-then-not-are_alloc_parameters-clause-makes
+returns-then-not-are_alloc_parameters-clause-makes g c = record {
+  passes = turns_same g.G.Pages.unpaged Makes (g.G.Pages.store c.args.g.now) (g.G.Pages.behind c.args.g.now);
+  idle = tt;
+  loans = refl;
+}

@@ -8,9 +8,11 @@ use Rattle.mm_world.specs.Keys.{committed_at, guard_off}
 use Rattle.mm_world.specs.World.{StackOf}
 use Rattle.mm_tables.specs.Fits.{FitsTables}
 use Rattle.mm_tables.proofs.ViewCommitted.{roomier_fits}
+use Rattle.mm_pages.proofs.Passed.{idle_before}
+use Rattle.mm_pages.specs.Housekeeping.{Makes}
 use Rattle.mm_calls.proofs.Growing.{past_first, room_there, grown_is}
 use Rattle.mm_calls.proofs.probes.grow.Goals as goal
-use Rattle.mm_types.proofs.Options.{some_found}
+use Rattle.mm_types.proofs.Options.{some_found, on_err}
 
 pub take_guard_off-requires-clause-committed : goal.take_guard_off-requires-clause-committed
 take_guard_off-requires-clause-committed g c p lives =
@@ -64,3 +66,17 @@ returns-clause-ok g c p k lives there =
     let first : 16 ≤ s.guard_page = past_first t s.pid s.guard_page p k lives there c.sound.ensures.sound in
     grown_is t s.pid s.guard_page p k lives there v off c.of-next.result next c.commit.new.t _ (omega (arith, first))
     (λ q now. (λ i. commit_pages blank v (sym ns i) q c.of-next.result 0x104) ∙ c.in-Ok.ensures.done.outcome q (ap (λ n. process_of v n) ns ∙ now))
+
+pub returns-in_err-reserve-clause-makes : goal.returns-in_err-reserve-clause-makes
+returns-in_err-reserve-clause-makes g c = record {
+  passes = c.reserve.ensures.passes Makes;
+  idle = on_err c.from_residual.result c.reserve.ensures.passes;
+  loans = c.reserve.ensures.loans;
+}
+
+pub returns-clause-makes : goal.returns-clause-makes
+returns-clause-makes g c = record {
+  passes = idle_before g.G.Pages.unpaged Makes (g.G.Pages.store c.args.g.now) (g.G.Pages.store c.reserve.new.self) (g.G.Pages.store c.commit.new.g) (g.G.Pages.behind c.args.g.now) (g.G.Pages.behind c.reserve.new.self) (g.G.Pages.behind c.commit.new.g) c.reserve.ensures.passes c.commit.ensures.makes.passes;
+  idle = tt;
+  loans = c.commit.ensures.makes.loans ∙ c.reserve.ensures.loans;
+}

@@ -3,11 +3,13 @@ use Rattle.mm_types.specs.Address.{page_of}
 use Rattle.mm_world.specs.World.{StackOf}
 use Rattle.mm_world.specs.Find.{process_of, stack_by}
 use Rattle.mm_tables.specs.Looks.{committed_row}
+use Rattle.mm_pages.proofs.Passed.{turns_same}
+use Rattle.mm_pages.specs.Housekeeping.{Makes}
 use Rattle.mm_calls.proofs.Growths.{not_next}
 use Rattle.mm_calls.proofs.Probed.{settled_off, settled_then, takes_off, of_other, of_overflow, of_growth, grows_here}
 use Rattle.mm_calls.proofs.CallsDone.{answers}
 use Rattle.mm_calls.proofs.probes.probe.Goals as goal
-use Rattle.mm_types.proofs.Options.{some_found}
+use Rattle.mm_types.proofs.Options.{some_found, on_err}
 use Rattle.mm_types.proofs.Booleans.{not_false}
 
 pub returns-then-page-stack-clause-done : goal.returns-then-page-stack-clause-done
@@ -90,3 +92,66 @@ returns-clause-done g c =
     answers g.G.Pages _ t c.args.g.now c.requires.begins.fits _ c.lower.new.t c.grow.new.g (settled_then _ _ _ _ _ _ c.lower.ensures.fits c.grow.ensures.settles.settled)
     (of_growth t c.args.tid.0 c.args.addr s has row at on here (λ p lives. sym (c.is_overflow.ensures p lives) ∙ c.if-is_overflow.false)
     c.grow.new.t c.lower.new.t c.in_ok-grow.ensures.ok c.lower.ensures.lowered c.lower.result c.lower.ensures.answer)
+
+pub returns-in-None-clause-makes : goal.returns-in-None-clause-makes
+returns-in-None-clause-makes g c = record {
+  passes = turns_same g.G.Pages.unpaged Makes (g.G.Pages.store c.args.g.now) (g.G.Pages.behind c.args.g.now);
+  idle = tt;
+  loans = refl;
+}
+
+pub returns-then-not-has-clause-makes : goal.returns-then-not-has-clause-makes
+returns-then-not-has-clause-makes g c = record {
+  passes = turns_same g.G.Pages.unpaged Makes (g.G.Pages.store c.args.g.now) (g.G.Pages.behind c.args.g.now);
+  idle = tt;
+  loans = refl;
+}
+
+pub returns-in-None-committed_row-clause-makes : goal.returns-in-None-committed_row-clause-makes
+returns-in-None-committed_row-clause-makes g c = record {
+  passes = turns_same g.G.Pages.unpaged Makes (g.G.Pages.store c.args.g.now) (g.G.Pages.behind c.args.g.now);
+  idle = tt;
+  loans = refl;
+}
+
+pub returns-then-not-permits-clause-makes : goal.returns-then-not-permits-clause-makes
+returns-then-not-permits-clause-makes g c = record {
+  passes = turns_same g.G.Pages.unpaged Makes (g.G.Pages.store c.args.g.now) (g.G.Pages.behind c.args.g.now);
+  idle = tt;
+  loans = refl;
+}
+
+pub returns-then-not-row-clause-makes : goal.returns-then-not-row-clause-makes
+returns-then-not-row-clause-makes g c = record {
+  passes = turns_same g.G.Pages.unpaged Makes (g.G.Pages.store c.args.g.now) (g.G.Pages.behind c.args.g.now);
+  idle = tt;
+  loans = refl;
+}
+
+pub returns-then-page-stack-clause-makes : goal.returns-then-page-stack-clause-makes
+returns-then-page-stack-clause-makes g c = record {
+  passes = turns_same g.G.Pages.unpaged Makes (g.G.Pages.store c.args.g.now) (g.G.Pages.behind c.args.g.now);
+  idle = tt;
+  loans = refl;
+}
+
+pub returns-then-is_overflow-clause-makes : goal.returns-then-is_overflow-clause-makes
+returns-then-is_overflow-clause-makes g c = record {
+  passes = turns_same g.G.Pages.unpaged Makes (g.G.Pages.store c.args.g.now) (g.G.Pages.behind c.args.g.now);
+  idle = tt;
+  loans = refl;
+}
+
+pub returns-in_err-grow-clause-makes : goal.returns-in_err-grow-clause-makes
+returns-in_err-grow-clause-makes g c = record {
+  passes = c.grow.ensures.makes.passes;
+  idle = on_err c.from_residual.result c.in_err-grow.ensures.makes.idle;
+  loans = c.grow.ensures.makes.loans;
+}
+
+pub returns-clause-makes : goal.returns-clause-makes
+returns-clause-makes g c = record {
+  passes = c.grow.ensures.makes.passes;
+  idle = tt;
+  loans = c.grow.ensures.makes.loans;
+}

@@ -1,9 +1,11 @@
-use Rattle.std.proofs.Common.{◌∙◌, sym}
+use Rattle.std.proofs.Common.{◌∙◌, sym, refl}
 use Rattle.mm_world.specs.Find.{process_of}
+use Rattle.mm_pages.proofs.Passed.{turns_same}
+use Rattle.mm_pages.specs.Housekeeping.{Makes}
 use Rattle.mm_calls.proofs.Named.{maybe_lives, maybe_told, created_existing}
 use Rattle.mm_calls.proofs.CallsDone.{answers-if}
 use Rattle.mm_calls.proofs.sections.create.Goals as goal
-use Rattle.mm_types.proofs.Options.{some_found}
+use Rattle.mm_types.proofs.Options.{some_found, on_err}
 
 pub add_existing-requires-clause-section : goal.add_existing-requires-clause-section
 add_existing-requires-clause-section g c = maybe_lives c.args.t.now c.args.name c.in-Some.id (sym c.section_with.ensures ∙ c.in-Some.is)
@@ -19,3 +21,24 @@ returns-in-Some-clause-done g c =
     (created_existing t c.add_existing.new.t old s c.args.pid.0 c.args.size c.args.flags c.in-Some.id.0 c.args.name p.0 c.add_existing.result p.1
     (sym c.are_section_parameters.ensures ∙ c.if-not-are_section_parameters.false) (maybe_told t c.args.name c.in-Some.id (sym c.section_with.ensures ∙ c.in-Some.is))
     c.add_existing.ensures.ok c.requires.begins.fits settled)
+
+pub returns-then-not-has-clause-makes : goal.returns-then-not-has-clause-makes
+returns-then-not-has-clause-makes g c = record {
+  passes = turns_same g.G.Pages.unpaged Makes (g.G.Pages.store c.args.g.now) (g.G.Pages.behind c.args.g.now);
+  idle = tt;
+  loans = refl;
+}
+
+pub returns-then-not-are_section_parameters-clause-makes : goal.returns-then-not-are_section_parameters-clause-makes
+returns-then-not-are_section_parameters-clause-makes g c = record {
+  passes = turns_same g.G.Pages.unpaged Makes (g.G.Pages.store c.args.g.now) (g.G.Pages.behind c.args.g.now);
+  idle = tt;
+  loans = refl;
+}
+
+pub returns-in-Some-clause-makes : goal.returns-in-Some-clause-makes
+returns-in-Some-clause-makes g c = record {
+  passes = turns_same g.G.Pages.unpaged Makes (g.G.Pages.store c.args.g.now) (g.G.Pages.behind c.args.g.now);
+  idle = on_err c.add_existing.result (λ turn. turns_same g.G.Pages.unpaged turn (g.G.Pages.store c.args.g.now) (g.G.Pages.behind c.args.g.now));
+  loans = refl;
+}

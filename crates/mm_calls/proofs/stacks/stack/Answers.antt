@@ -9,6 +9,7 @@ use Rattle.mm_world.specs.Outcome.{OutcomeOf}
 use Rattle.mm_world.specs.Find.{process_of, stack_by}
 use Rattle.mm_world.specs.Charge.{charge, limit}
 use Rattle.mm_tables.proofs.Carried.{settled_same}
+use Rattle.mm_pages.proofs.Passed.{turns_same}
 use Rattle.mm_calls.proofs.Created.{refused_past, made}
 use Rattle.mm_calls.proofs.Probed.{settled_then}
 use Rattle.mm_calls.proofs.CallsDone.{answers}
@@ -58,3 +59,18 @@ returns-in_err-make_region-clause-no_memory g c refused =
     _ _ refl refl _ refl in
     let bad : true ≡ false = sym (ap (λ (o : OutcomeOf (Unit {0})). is_success o.answer) succeeds) ∙ refused in
     cc
+
+pub returns-then-not-has-clause-passes : goal.returns-then-not-has-clause-passes
+returns-then-not-has-clause-passes g c = turns_same g.G.Pages.unpaged _ (g.G.Pages.store c.args.g.now) (g.G.Pages.behind c.args.g.now)
+
+pub returns-then-is_some-clause-passes : goal.returns-then-is_some-clause-passes
+returns-then-is_some-clause-passes g c = turns_same g.G.Pages.unpaged _ (g.G.Pages.store c.args.g.now) (g.G.Pages.behind c.args.g.now)
+
+pub returns-then-reserve-eq0-clause-passes : goal.returns-then-reserve-eq0-clause-passes
+returns-then-reserve-eq0-clause-passes g c = turns_same g.G.Pages.unpaged _ (g.G.Pages.store c.args.g.now) (g.G.Pages.behind c.args.g.now)
+
+pub returns-in-None-clause-passes : goal.returns-in-None-clause-passes
+returns-in-None-clause-passes g c = turns_same g.G.Pages.unpaged _ (g.G.Pages.store c.args.g.now) (g.G.Pages.behind c.args.g.now)
+
+pub returns-then-not-can_charge-clause-passes : goal.returns-then-not-can_charge-clause-passes
+returns-then-not-can_charge-clause-passes g c = turns_same g.G.Pages.unpaged _ (g.G.Pages.store c.args.g.now) (g.G.Pages.behind c.args.g.now)

@@ -1,11 +1,20 @@
-use Rattle.mm_pages.proofs.Passed.{makes_then, makes_wider}
-use Rattle.std.proofs.Common.{◌≡◌, ℕ, ◌+◌, ◌<◌, ◌∙◌, sym, ap, subst, arith}
+use Rattle.mm_pages.specs.Housekeeping.{MakesFrom}
+use Rattle.mm_pages.proofs.Passed.{makes_then, makes_wider, turns_same}
+use Rattle.std.proofs.Common.{◌≡◌, ℕ, ◌+◌, ◌<◌, ◌∙◌, refl, sym, ap, subst, arith}
 use Rattle.mm_types.specs.Address.{Range}
-use Rattle.mm_tables.specs.Ranges.{CanAdd, Adds, one_page_range}
+use Rattle.mm_tables.specs.Ranges.{CanAdd, Adds, first_pages, one_page_range}
 use Rattle.mm_tables.specs.Known.{KnownAt}
 use Rattle.mm_tables.proofs.Known.{known_at}
+use Rattle.mm_tables.proofs.Added.{adds_nothing}
 use Rattle.mm_tables.proofs.PageByPage.{can_add_next, adds_then}
 use Rattle.mm_tables.proofs.keys.add_pages.Goals as goal
+
+pub loop-i-init : goal.loop-i-init
+loop-i-init g c = record {
+  adds = adds_nothing c.args.pid c.args.range (g.G.Pages.contents c.args.g.now) (g.G.Pages.store c.args.g.now);
+  passes = turns_same g.G.Pages.unpaged (MakesFrom c.args.range.first (c.args.range.first + 0)) (g.G.Pages.store c.args.g.now) (g.G.Pages.behind c.args.g.now);
+  loans = refl;
+}
 
 pub add_page-requires : goal.add_page-requires
 add_page-requires g c =
@@ -35,3 +44,8 @@ returns-clause-passes g c from to stands =
     let count : c.range.inside.count ≡ c.args.range.count = ap (λ (r : Range). r.count) c.range.view_is in
     makes_wider g.G.Pages.unpaged c.args.range.first (c.args.range.first + c.loop-i.i) from to (g.G.Pages.store c.args.g.now) (g.G.Pages.store c.loop-i.g)
     (g.G.Pages.behind c.args.g.now) (g.G.Pages.behind c.loop-i.g) stands.0 (omega (arith, stands.1, count, c.loop-i.auto.i-end)) c.loop-i.invariant.passes
+
+pub returns-clause-adds : goal.returns-clause-adds
+returns-clause-adds g c =
+    let count : c.loop-i.i ≡ c.args.range.count = omega (arith, c.loop-i-test.false, c.loop-i.auto.i-end, ap (λ (r : Range). r.count) c.range.view_is) in
+    subst (λ (k : ℕ). Adds c.args.pid (first_pages c.args.range k) (g.G.Pages.contents c.args.g.now) (g.G.Pages.contents c.loop-i.g) (g.G.Pages.store c.args.g.now) (g.G.Pages.store c.loop-i.g)) count c.loop-i.invariant.adds

@@ -1,9 +1,21 @@
-use Rattle.std.proofs.Common.{◌∙◌, ap, refl}
+use Rattle.std.proofs.Common.{◌∙◌, ap, refl, arith}
+use Rattle.mm_types.proofs.Options.{on_err}
+use Rattle.mm_pages.proofs.Passed.{turns_same}
 use Rattle.mm_world.specs.Find.{add_region}
 use Rattle.mm_tables.specs.ViewChanges.{section_of_view}
 use Rattle.mm_tables.proofs.views.make_view.Goals as goal
 
-pub returns-clause-regions : goal.returns-clause-regions
-returns-clause-regions g c =
-    c.add.ensures.added ∙ ap (λ rs. add_region c.in_ok-region.region rs) c.in_ok-grow_for_view.ensures.regions
+pub returns-in_err-region-clause-idles : goal.returns-in_err-region-clause-idles
+returns-in_err-region-clause-idles g c = record {
+  contents = refl;
+  passes = λ turn. turns_same g.G.Pages.unpaged turn (g.G.Pages.store c.args.g.now) (g.G.Pages.behind c.args.g.now);
+  loans = refl;
+}
+
+pub returns-in_err-region-clause-err : goal.returns-in_err-region-clause-err
+returns-in_err-region-clause-err g c = on_err c.from_residual.result (record { store = refl; later = omega arith })
+
+pub returns-in-Ok-clause-regions : goal.returns-in-Ok-clause-regions
+returns-in-Ok-clause-regions g c =
+    c.add.ensures.added ∙ ap (λ rs. add_region c.in_ok-region.region rs) c.grow_for_region.ensures.regions
     ∙ ap (λ r. add_region r c.args.space.now.regions) (c.in_ok-region.ensures.ok (section_of_view c.args.view) refl refl)

@@ -9,8 +9,12 @@ loop-n-preserved c = (
   equal_more c.args.rows.now c.args.at c.loop-n.n _ _ (omega (arith, c.requires.inside, c.loop-n-test.true)) c.loop-n.invariant.2 (equal_if_eq _ _ (sym c.eq.ensures ∙ c.if-eq.true)),
 )
 
-pub returns-else-eq-clause-equal : goal.returns-else-eq-clause-equal
-returns-else-eq-clause-equal c = equal_run c.args.rows.now c.args.at c.loop-n.n _ (omega (arith, c.requires.inside, c.loop-n.invariant.1)) c.loop-n.invariant.2
+pub returns-else-eq : goal.returns-else-eq
+returns-else-eq c =
+    let v = c.loop-n.invariant in
+    record { some = v.0; within = v.1; equal = equal_run c.args.rows.now c.args.at c.loop-n.n _ (omega (arith, c.requires.inside, v.1)) v.2 }
 
-pub returns-after-loop-n-clause-equal : goal.returns-after-loop-n-clause-equal
-returns-after-loop-n-clause-equal c = equal_run c.args.rows.now c.args.at c.loop-n.n _ (omega (arith, c.requires.inside, c.loop-n.invariant.1)) c.loop-n.invariant.2
+pub returns-after-loop-n : goal.returns-after-loop-n
+returns-after-loop-n c =
+    let v = c.loop-n.invariant in
+    record { some = v.0; within = v.1; equal = equal_run c.args.rows.now c.args.at c.loop-n.n _ (omega (arith, c.requires.inside, v.1)) v.2 }

@@ -1,5 +1,8 @@
-use Rattle.std.proofs.Common.{◌≡◌, ℕ, Bool, cond, sym, ap, ◌∙◌, arith}
-use Rattle.mm_words.proofs.WordLemmas.{all_put}
+use Rattle.std.proofs.Common.{◌≡◌, ℕ, Bool, List, length, cond, sym, ap, ◌∙◌, subst, arith}
+use Rattle.std.specs.Prelude.{slice_index}
+use Rattle.mm_bits.specs.Bits.{have_bit, Becomes}
+use Rattle.mm_words.specs.LeafWords.{leaf_pages}
+use Rattle.mm_words.proofs.WordLemmas.{all_put, whole_again}
 use Rattle.mm_words.proofs.leaves.put_all.Goals as goal
 use Rattle.mm_words.proofs.leaves.put_all.Goals.{then-on, else-on}
 
@@ -9,6 +12,10 @@ returns-clause-put c =
       | then-on w ↦ w.bits-is ∙ sym (ap (λ (b : Bool). cond {A = ℕ} b 18446744073709551615 0) w.if-on.true)
       | else-on w ↦ w.bits-is ∙ sym (ap (λ (b : Bool). cond {A = ℕ} b 18446744073709551615 0) w.if-on.false)
     ] in
-    all_put c.args.on c.if-on.bits c.args.numbers.now.items c.loop-i.numbers.items bits
-    (λ k h. c.loop-i.invariant.done k (omega (arith, c.loop-i-test.false)))
-    (λ k h. c.loop-i.invariant.rest k (omega (arith, c.loop-i.auto.i-end)))
+    let old = c.args.numbers.now.items in
+    let same : c.as_mut_slice.result.now ≡ old = c.as_mut_slice.ensures.value in
+    let put = all_put c.args.on c.if-on.bits old c.fill_bits.new.numbers bits c.fill_bits.ensures.done
+    (λ k h. c.fill_bits.ensures.rest k h ∙ ap (λ (ns : List ℕ). slice_index ns k) same) in
+    subst (λ (ns : List ℕ). Becomes c.args.on (have_bit old) (have_bit ns) 0 leaf_pages)
+    (sym (whole_again c.args.numbers.now.len c.fill_bits.new.numbers old (omega (arith, c.args.numbers.now.ok.0, c.fill_bits.ensures.kept, ap length same))))
+    put

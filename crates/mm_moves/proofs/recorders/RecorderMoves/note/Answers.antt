@@ -1,5 +1,4 @@
 use Rattle.std.proofs.Common.{rules, ◌≡◌, false}
-use Rattle.mm_life.specs.MoveText.{spelling_of_move}
 use Rattle.mm_moves.proofs.Growing.{grew_whole, grew_cut}
 use Rattle.mm_moves.proofs.recorders.RecorderMoves.note.Goals as goal
 
@@ -7,12 +6,12 @@ pub returns-in-Ok-clause-grew : goal.returns-in-Ok-clause-grew
 returns-in-Ok-clause-grew g c =
     let w = c.in-Ok.ensures in
     let fresh : c.args.self.now.failed ≡ false = search rules in
-    let line : c.as_slice.result.now ≡ spelling_of_move c.args.m = search rules in
+    let line = c.put_line-end.ensures.line in
     grew_whole _ _ _ _ _ _ _ _ line w.given w.cause.later _ fresh w.wrote w.cause.same
 
 pub returns-in-Err-clause-grew : goal.returns-in-Err-clause-grew
 returns-in-Err-clause-grew g c =
     let w = c.in-Err.ensures in
     let fresh : c.args.self.now.failed ≡ false = search rules in
-    let line : c.as_slice.result.now ≡ spelling_of_move c.args.m = search rules in
+    let line = c.put_line-end.ensures.line in
     grew_cut _ _ _ _ _ _ _ _ line w.given w.cause.later _ fresh w.wrote w.cause.failed

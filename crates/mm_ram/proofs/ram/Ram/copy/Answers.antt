@@ -1,26 +1,26 @@
 use Rattle.std.proofs.Common.{ℕ, List, set, Some, arith, sym, ap, ◌∙◌}
-use Rattle.mm_ram.proofs.Slots.{seen, kind_low, some_low, kind_read, own_filled, own_is, zeros_are}
+use Rattle.mm_ram.proofs.Slots.{seen, contents_low, some_low, contents_read, own_filled, own_is, zeros_are}
 use Rattle.mm_ram.proofs.ram.Ram.copy.Goals as goal
 
 pub index-requires : goal.index-requires
 index-requires c =
     let s = seen c.self.invariant c.self.view_is in
-    omega (arith, kind_low s c.args.from.0 (some_low s c.args.from.0 c.requires.written), c.self.inside.kinds.ok.0)
+    omega (arith, contents_low s c.args.from.0 (some_low s c.args.from.0 c.requires.written), c.self.inside.contents.ok.0)
 
 pub get-requires : goal.get-requires
 get-requires c =
     let s = seen c.self.invariant c.self.view_is in
-    let is = sym (kind_read s c.args.from.0 (some_low s c.args.from.0 c.requires.written) c.index.result.now c.index.ensures) ∙ c.in-Bytes.is in
+    let is = sym (contents_read s c.args.from.0 (some_low s c.args.from.0 c.requires.written) c.index.result.now c.index.ensures) ∙ c.in-Bytes.is in
     (sym c.self.invariant.at, own_filled s c.args.from.0 is)
 
 pub returns-in-Bytes : goal.returns-in-Bytes
 returns-in-Bytes c =
     let s = seen c.self.invariant c.self.view_is in
-    let is = sym (kind_read s c.args.from.0 (some_low s c.args.from.0 c.requires.written) c.index.result.now c.index.ensures) ∙ c.in-Bytes.is in
+    let is = sym (contents_read s c.args.from.0 (some_low s c.args.from.0 c.requires.written) c.index.result.now c.index.ensures) ∙ c.in-Bytes.is in
     c.fill.ensures ∙ ap (λ (page : List ℕ). set c.args.self.now c.args.to.0 (Some page)) (sym (own_is s c.args.from.0 is c.get.result.now c.get.ensures))
 
 pub returns-in_default : goal.returns-in_default
 returns-in_default c =
     let s = seen c.self.invariant c.self.view_is in
-    let is = kind_read s c.args.from.0 (some_low s c.args.from.0 c.requires.written) c.index.result.now c.index.ensures in
+    let is = contents_read s c.args.from.0 (some_low s c.args.from.0 c.requires.written) c.index.result.now c.index.ensures in
     c.zero.ensures ∙ ap (λ (page : List ℕ). set c.args.self.now c.args.to.0 (Some page)) (sym (zeros_are s c.args.from.0 c.requires.written (λ e. c.in_default.not-Bytes (is ∙ e))))

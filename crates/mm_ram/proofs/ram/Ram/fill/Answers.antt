@@ -9,9 +9,9 @@ invariant_of-self c =
     let there = frame_low (seen c.self.invariant c.self.view_is) c.args.f.0 c.requires in
     let e = c.put_page.ensures in
     let n = c.put_page.new in
-    ram_put c.self.invariant c.args.f.0 c.args.bytes.now there c.told-bytes n.cells.at n.cells.slots n.kinds.items e.at e.slots e.kinds
+    ram_put c.self.invariant c.args.f.0 c.args.bytes.now there c.told-bytes n.cells.at n.cells.slots n.contents.items e.at e.slots e.contents
 
 pub returns : goal.returns
 returns c =
     let e = c.put_page.ensures in
-    seen_filled (seen c.self.invariant c.self.view_is) c.args.f.0 c.args.bytes.now c.put_page.new.cells.slots c.put_page.new.kinds.items e.slots e.kinds
+    seen_filled (seen c.self.invariant c.self.view_is) c.args.f.0 c.args.bytes.now c.put_page.new.cells.slots c.put_page.new.contents.items e.slots e.contents

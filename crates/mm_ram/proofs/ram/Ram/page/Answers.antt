@@ -1,28 +1,28 @@
 use Rattle.std.proofs.Common.{arith, sym, ◌∙◌}
 use Rattle.mm_ram.specs.Ram.{zero_page}
-use Rattle.mm_ram.proofs.Slots.{seen, kind_low, some_low, kind_read, own_filled, own_is, zeros_are}
+use Rattle.mm_ram.proofs.Slots.{seen, contents_low, some_low, contents_read, own_filled, own_is, zeros_are}
 use Rattle.mm_ram.proofs.ram.Ram.page.Goals as goal
 
 pub index-requires : goal.index-requires
 index-requires c =
     let s = seen c.self.invariant c.self.view_is in
-    omega (arith, kind_low s c.args.f.0 (some_low s c.args.f.0 c.requires), c.self.inside.kinds.ok.0)
+    omega (arith, contents_low s c.args.f.0 (some_low s c.args.f.0 c.requires), c.self.inside.contents.ok.0)
 
 pub get-requires : goal.get-requires
 get-requires c =
     let s = seen c.self.invariant c.self.view_is in
-    let is = sym (kind_read s c.args.f.0 (some_low s c.args.f.0 c.requires) c.index.result.now c.index.ensures) ∙ c.in-Bytes.is in
+    let is = sym (contents_read s c.args.f.0 (some_low s c.args.f.0 c.requires) c.index.result.now c.index.ensures) ∙ c.in-Bytes.is in
     (sym c.self.invariant.at, own_filled s c.args.f.0 is)
 
 pub returns-in-Bytes : goal.returns-in-Bytes
 returns-in-Bytes c =
     let s = seen c.self.invariant c.self.view_is in
-    let is = sym (kind_read s c.args.f.0 (some_low s c.args.f.0 c.requires) c.index.result.now c.index.ensures) ∙ c.in-Bytes.is in
+    let is = sym (contents_read s c.args.f.0 (some_low s c.args.f.0 c.requires) c.index.result.now c.index.ensures) ∙ c.in-Bytes.is in
     sym (own_is s c.args.f.0 is c.get.result.now c.get.ensures)
 
 pub returns-in_default : goal.returns-in_default
 unfolding zero_page
 returns-in_default c =
     let s = seen c.self.invariant c.self.view_is in
-    let is = kind_read s c.args.f.0 (some_low s c.args.f.0 c.requires) c.index.result.now c.index.ensures in
+    let is = contents_read s c.args.f.0 (some_low s c.args.f.0 c.requires) c.index.result.now c.index.ensures in
     sym (zeros_are s c.args.f.0 c.requires (λ e. c.in_default.not-Bytes (is ∙ e)))

@@ -11,6 +11,8 @@ use Rattle.mm_tables.proofs.Holding.{can_hold}
 use Rattle.mm_tables.proofs.SectionPaging.{ListsSection, paging_pages, committed_pages, area_free, key_free, lists, paging_kept, paging_now, paging_settled, same_kept, same_tables}
 use Rattle.mm_tables.proofs.SectionFits.{as_kept}
 use Rattle.mm_tables.proofs.Settled.{paging_few, roomier_settled}
+use Rattle.mm_pages.specs.Housekeeping.{Makes}
+use Rattle.mm_pages.proofs.Passed.{turns_same}
 use Rattle.mm_types.proofs.Options.{some_found, on_err}
 use Rattle.mm_tables.proofs.tables.Tables.add_paging_section.Given as given
 use Rattle.mm_tables.proofs.tables.Tables.add_paging_section.Goals as goal
@@ -44,6 +46,13 @@ returns-in_err-made-clause-settles g c =
       settled = roomier_settled c.requires.ready.fits same (record { contents = refl; store = refl; later = omega arith });
     }
 
+pub returns-in_err-made-clause-makes : goal.returns-in_err-made-clause-makes
+returns-in_err-made-clause-makes g c = record {
+  passes = turns_same g.G.Pages.unpaged Makes (g.G.Pages.store c.args.g.now) (g.G.Pages.behind c.args.g.now);
+  idle = on_err c.from_residual.result (λ turn. turns_same g.G.Pages.unpaged turn (g.G.Pages.store c.args.g.now) (g.G.Pages.behind c.args.g.now));
+  loans = refl;
+}
+
 pub open_paging_area-requires-clause-new : goal.open_paging_area-requires-clause-new
 open_paging_area-requires-clause-new g c =
     let at : c.len.result ≡ length c.args.self.now.areas = omega (arith, c.len.ensures, c.self.inside.areas.ok.0, ap (λ (t : Tables). length t.areas) c.self.view_is) in
@@ -71,6 +80,13 @@ returns-in_err-open_paging_area-clause-settles g c =
       err = on_err c.from_residual-in_err-open_paging_area.result (same, c.in_err-open_paging_area.ensures.err.contents);
       settled = roomier_settled c.requires.ready.fits same c.in_err-open_paging_area.ensures.err;
     }
+
+pub returns-in_err-open_paging_area-clause-makes : goal.returns-in_err-open_paging_area-clause-makes
+returns-in_err-open_paging_area-clause-makes g c = record {
+  passes = c.open_paging_area.ensures.makes.passes;
+  idle = on_err c.from_residual-in_err-open_paging_area.result c.in_err-open_paging_area.ensures.makes.idle;
+  loans = c.open_paging_area.ensures.makes.loans;
+}
 
 pub list_section-handle-requires-clause-holds : goal.list_section-handle-requires-clause-holds
 list_section-handle-requires-clause-holds g c =
@@ -101,3 +117,10 @@ returns-clause-settles g c =
           (record { 0 = c.len.result }) c.pages_if-n.result (g.G.Pages.contents c.args.g.now) (g.G.Pages.contents c.open_paging_area.new.g) (g.G.Pages.store c.args.g.now) z refl
           c.requires.ready.fits c.pages_if-n.ensures c.in_ok-open_paging_area.ensures.ok room;
     }
+
+pub returns-clause-makes : goal.returns-clause-makes
+returns-clause-makes g c = record {
+  passes = c.open_paging_area.ensures.makes.passes;
+  idle = tt;
+  loans = c.open_paging_area.ensures.makes.loans;
+}

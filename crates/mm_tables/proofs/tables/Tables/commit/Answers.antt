@@ -83,3 +83,19 @@ returns-in_err-commit_pages-clause-among g c = stands g (goal.at.returns-in_err-
 
 pub returns-clause-among : goal.returns-clause-among
 returns-clause-among g c = stands g (goal.at.returns-clause-among g c).After-index_mut
+
+pub returns-in_err-commit_pages-clause-makes : goal.returns-in_err-commit_pages-clause-makes
+returns-in_err-commit_pages-clause-makes g c = record {
+  later = c.commit_pages.ensures.makes.later;
+  passes = c.commit_pages.ensures.makes.passes;
+  idle = on_err c.from_residual.result c.in_err-commit_pages.ensures.makes.idle;
+  loans = c.commit_pages.ensures.makes.loans;
+}
+
+pub returns-clause-makes : goal.returns-clause-makes
+returns-clause-makes g c = record {
+  later = c.commit_pages.ensures.makes.later;
+  passes = c.commit_pages.ensures.makes.passes;
+  idle = tt;
+  loans = c.commit_pages.ensures.makes.loans;
+}

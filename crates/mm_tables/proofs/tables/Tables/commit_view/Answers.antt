@@ -72,3 +72,10 @@ returns-clause-makes g c = record {
   idle = tt;
   loans = c.share_pages.ensures.loans ∙ c.reserve.ensures.loans;
 }
+
+pub returns-in_err-reserve-clause-makes : goal.returns-in_err-reserve-clause-makes
+returns-in_err-reserve-clause-makes g c = record {
+  passes = c.reserve.ensures.passes Makes;
+  idle = on_err c.from_residual.result c.reserve.ensures.passes;
+  loans = c.reserve.ensures.loans;
+}

@@ -18,3 +18,9 @@ invariant_of-result c =
     let same : tables_with c.args.machine (shown_processes c.new.result.items) c.new-2.result.entries c.new-3.result.items c.new-2.result.files 0 0 (shown_accesses c.no_accesses.result) c.new-5.result ≡ first_world c.args.machine =
     λ i. tables_with c.args.machine (shown_processes (c.new.ensures.items i)) (entries i) (c.new-3.ensures.items i) (files i) 0 0 (c.no_accesses.ensures i) (c.new-5.ensures i) in
     subst (λ (t : Tables). AreKeptTables t c.new-2.result.entries c.new-4.result) (sym same) (subst (λ (es : Numbered CountedSection). AreKeptTables (first_world c.args.machine) es c.new-4.result) (sym entries) first)
+
+pub returns : goal.returns
+returns c =
+    let entries : c.new-2.result.entries ≡ [] = ap (λ (d : DirectoryOf). d.entries) c.new-2.ensures in
+    let files : c.new-2.result.files ≡ [] = ap (λ (d : DirectoryOf). d.files) c.new-2.ensures in
+    λ i. tables_with c.args.machine (shown_processes (c.new.ensures.items i)) (entries i) (c.new-3.ensures.items i) (files i) 0 0 (c.no_accesses.ensures i) (c.new-5.ensures i)

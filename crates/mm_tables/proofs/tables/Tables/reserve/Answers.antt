@@ -86,3 +86,19 @@ returns-in_err-make_region-clause-among g c = stands g (goal.at.returns-in_err-m
 
 pub returns-clause-among : goal.returns-clause-among
 returns-clause-among g c = stands g (goal.at.returns-clause-among g c).After-index_mut-process
+
+pub returns-in_err-make_region-clause-makes : goal.returns-in_err-make_region-clause-makes
+returns-in_err-make_region-clause-makes g c = record {
+  later = c.make_region.ensures.makes.later;
+  passes = c.make_region.ensures.makes.passes;
+  idle = on_err c.from_residual.result c.in_err-make_region.ensures.makes.idle;
+  loans = c.make_region.ensures.makes.loans;
+}
+
+pub returns-clause-makes : goal.returns-clause-makes
+returns-clause-makes g c = record {
+  later = c.make_region.ensures.makes.later;
+  passes = c.make_region.ensures.makes.passes;
+  idle = tt;
+  loans = c.make_region.ensures.makes.loans;
+}

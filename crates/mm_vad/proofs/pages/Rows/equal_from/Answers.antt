@@ -1,28 +1,22 @@
-use Rattle.std.proofs.Common.{◌<◌, ◌≤◌, ◌-◌, ◌*◌, ◌/◌, ℕ, List, length, sym, ap, ◌∙◌, arith, take, drop}
-use Rattle.std.proofs.lemmas.Nat.{div-add-mod', mod_below}
+use Rattle.std.proofs.Common.{List, length, take, drop, ap, ◌∙◌, arith}
 use Rattle.mm_vad.specs.declared.pages.Row.{Row}
-use Rattle.mm_vad.proofs.Joined.{length-joined, equal_within, equal_behind}
+use Rattle.mm_vad.proofs.Joined.{equal_part}
+use Rattle.mm_vad.proofs.OneRow.{as_one, as_written, length-rows}
 use Rattle.mm_vad.proofs.pages.Rows.equal_from.Goals as goal
 
-pub returns-then-index-whole-clause-equal : goal.returns-then-index-whole-clause-equal
-returns-then-index-whole-clause-equal c =
+pub returns-in-Some-clause-equal : goal.returns-in-Some-clause-equal
+returns-in-Some-clause-equal c =
     let s = c.self.inside in
-    let low : c.args.i / 512 < length s.chunks = omega (arith, c.count-whole.ensures, c.if-index-whole.true) in
-    equal_within s.chunks s.rest.items c.args.self.now c.args.i c.equal_from-n.result.1 c.equal_from-n.result.0 c.self.invariant.whole c.self.view_is low
-    (omega (arith, c.equal_from-n.ensures.within, c.min.ensures, mod_below c.args.i 512 (omega arith)))
-    c.equal_from-n.ensures.equal
+    equal_part c.args.self.now s.written.room c.args.i c.args.most c.in-Some.row
+    (as_one s.equal s.written c.args.self.now c.in-Some.row c.self.view_is c.in-Some.is)
+    (omega (arith, c.requires.inside, length-rows s.equal s.written c.args.self.now c.self.invariant c.self.view_is))
 
-pub equal_in-n-requires-clause-inside : goal.equal_in-n-requires-clause-inside
-equal_in-n-requires-clause-inside c =
+pub equal_from-requires-clause-inside : goal.equal_from-requires-clause-inside
+equal_from-requires-clause-inside c =
     let s = c.self.inside in
-    omega (arith, c.requires.inside, c.count-whole.ensures, c.if-index-whole.false, c.deref.ensures.value, c.deref.ensures.len, s.rest.ok.0, div-add-mod' c.args.i 512, length-joined s.chunks s.rest.items c.self.invariant.whole, ap length c.self.view_is, ap length c.deref.ensures.value)
+    omega (arith, c.requires.inside, ap length (as_written s.equal s.written c.args.self.now c.self.view_is c.in-None.is))
 
-pub returns-clause-equal : goal.returns-clause-equal
-returns-clause-equal c =
+pub returns-in-None-clause-equal : goal.returns-in-None-clause-equal
+returns-in-None-clause-equal c =
     let s = c.self.inside in
-    let high : length s.chunks ≤ c.args.i / 512 = omega (arith, c.count-whole.ensures, c.if-index-whole.false) in
-    equal_behind s.chunks s.rest.items c.args.self.now c.args.i c.equal_in-n.result.1 c.equal_in-n.result.0 c.self.invariant.whole c.self.view_is high
-    (omega (arith, c.requires.inside, c.equal_in-n.ensures.within))
-    (ap (λ (n : ℕ). take c.equal_in-n.result.1 (drop (c.args.i - n * 512) s.rest.items)) (sym c.count-whole.ensures)
-    ∙ ap (λ (rs : List Row). take c.equal_in-n.result.1 (drop (c.args.i - c.count-whole.result * 512) rs)) (sym c.deref.ensures.value)
-    ∙ c.equal_in-n.ensures.equal)
+    ap (λ (rs : List Row). take c.equal_from.result.1 (drop c.args.i rs)) (as_written s.equal s.written c.args.self.now c.self.view_is c.in-None.is) ∙ c.equal_from.ensures.equal

@@ -1,67 +1,12 @@
-use Rattle.std.proofs.Common.{◌≡◌, ◌<◌, ◌≤◌, ◌+◌, ◌-◌, ◌*◌, ◌/◌, ◌%◌, ℕ, List, [], ◌++◌, length, get_or, take, drop, ap, ◌∙◌, arith}
-use Rattle.std.proofs.lemmas.Nat.{div-add-mod', mod_below}
-use Rattle.std.proofs.lemmas.List.{take_all, take-append-le}
-use Rattle.mm_vad.specs.declared.pages.Row.{Row}
-use Rattle.mm_vad.specs.Chunks.{rows_joined, filled_rows}
-use Rattle.mm_vad.proofs.Joined.{length-joined, kept_within, kept_behind, length-filled, filled_within_chunk, filled_behind_chunks}
+use Rattle.std.proofs.Common.{sym, ◌∙◌, arith}
+use Rattle.mm_vad.proofs.Joined.{equal_if_eq}
+use Rattle.mm_vad.proofs.OneRow.{as_one, length-rows, filled_equal}
 use Rattle.mm_vad.proofs.pages.Rows.fill_some.Goals as goal
 
--- what a slice of all rows gives back
-given_back : (new behind : List Row) (n : ℕ) → n ≡ length new → take n (new ++ behind) ≡ new
-given_back new behind n e = take-append-le n new behind (omega (arith, e)) ∙ take_all n new (omega (arith, e))
-
-pub fill_in-requires : goal.fill_in-requires
-fill_in-requires c =
+pub returns-then-eq : goal.returns-then-eq
+returns-then-eq c =
     let s = c.self.inside in
-    omega (arith, c.requires.inside, c.count-whole.ensures, c.if-index-whole.true, c.deref_mut.ensures.len, s.rest.ok.0, div-add-mod' c.args.first 512, length-joined s.chunks s.rest.items c.self.invariant.whole, ap length c.self.view_is)
-
--- the rows behind the chunks, once some of them are filled
-rest_filled : (c : goal.After-self-1) → (length c.fill_in.new.rows ≡ length c.self.inside.rest.items) × (take c.self.inside.rest.len (c.fill_in.new.rows ++ drop (length c.fill_in.new.rows) c.self.inside.rest.items) ≡ c.fill_in.new.rows)
-rest_filled c =
-    let s = c.self.inside in
-    let at = c.args.first - c.count-whole.result * 512 in
-    let room : at + c.args.n ≤ length c.deref_mut.result.now = omega (arith, c.requires.inside, c.count-whole.ensures, c.if-index-whole.true, c.deref_mut.ensures.len, s.rest.ok.0, div-add-mod' c.args.first 512, length-joined s.chunks s.rest.items c.self.invariant.whole, ap length c.self.view_is) in
-    let long : length c.fill_in.new.rows ≡ length s.rest.items =
-    ap length c.fill_in.ensures ∙ length-filled c.deref_mut.result.now at c.args.n c.args.row room ∙ ap length c.deref_mut.ensures.value in
-    (long, given_back c.fill_in.new.rows _ s.rest.len (omega (arith, long, s.rest.ok.0)))
-
-pub invariant_of-self : goal.invariant_of-self
-invariant_of-self c =
-    let s = c.self.inside in
-    let back = rest_filled c in
-    kept_behind s.chunks s.rest.items _ c.self.invariant (ap length back.1 ∙ back.0)
-
-pub returns-then-index-whole-clause-fits : goal.returns-then-index-whole-clause-fits
-returns-then-index-whole-clause-fits c = omega (arith, c.requires.inside, c.self.invariant.few, ap length c.self.view_is)
-
-pub returns-clause-fits : goal.returns-clause-fits
-returns-clause-fits c = omega (arith, c.requires.inside, c.min-some.ensures, c.self.invariant.few, ap length c.self.view_is)
-
-pub returns-then-index-whole-clause-after : goal.returns-then-index-whole-clause-after
-returns-then-index-whole-clause-after c =
-    let s = c.self.inside in
-    let at = c.args.first - c.count-whole.result * 512 in
-    let high : length s.chunks ≤ c.args.first / 512 = omega (arith, c.count-whole.ensures, c.if-index-whole.true) in
-    ap (rows_joined s.chunks) ((rest_filled c).1 ∙ c.fill_in.ensures)
-    ∙ ap (λ (rs : List Row). rows_joined s.chunks (filled_rows rs at c.args.n c.args.row)) c.deref_mut.ensures.value
-    ∙ ap (λ (n : ℕ). rows_joined s.chunks (filled_rows s.rest.items (c.args.first - n * 512) c.args.n c.args.row)) c.count-whole.ensures
-    ∙ filled_behind_chunks s.chunks s.rest.items c.args.self.now c.args.first c.args.n c.args.row c.self.invariant.whole c.self.view_is high
-    (omega (arith, c.requires.inside, high, div-add-mod' c.args.first 512, length-joined s.chunks s.rest.items c.self.invariant.whole, ap length c.self.view_is))
-
-pub invariant_of-self-2 : goal.invariant_of-self-2
-invariant_of-self-2 c =
-    let s = c.self.inside in
-    let low : c.args.first / 512 < length s.chunks = omega (arith, c.count-whole.ensures, c.if-index-whole.false) in
-    kept_within s.chunks c.fill.new.self s.rest.items (c.args.first / 512) _ c.self.invariant
-    (length-filled (get_or s.chunks (c.args.first / 512) []) (c.args.first % 512) c.min-some.result c.args.row
-    (omega (arith, c.self.invariant.whole (c.args.first / 512) [] low, c.min-some.ensures, mod_below c.args.first 512 (omega arith)))
-    ∙ c.self.invariant.whole (c.args.first / 512) [] low)
-    c.fill.ensures
-
-pub returns-clause-after : goal.returns-clause-after
-returns-clause-after c =
-    let s = c.self.inside in
-    let low : c.args.first / 512 < length s.chunks = omega (arith, c.count-whole.ensures, c.if-index-whole.false) in
-    ap (λ (cs : List (List Row)). rows_joined cs s.rest.items) c.fill.ensures
-    ∙ filled_within_chunk s.chunks s.rest.items c.args.self.now c.args.first c.min-some.result c.args.row c.self.invariant.whole c.self.view_is low
-    (omega (arith, c.min-some.ensures, mod_below c.args.first 512 (omega arith)))
+    filled_equal c.args.self.now c.args.first c.args.n s.written.room c.in-Some.before c.args.row
+    (as_one s.equal s.written c.args.self.now c.in-Some.before c.self.view_is c.in-Some.is)
+    (equal_if_eq c.in-Some.before c.args.row (sym c.eq.ensures ∙ c.if-eq.true))
+    (omega (arith, c.len.ensures, length-rows s.equal s.written c.args.self.now c.self.invariant c.self.view_is)) c.requires.some c.requires.inside

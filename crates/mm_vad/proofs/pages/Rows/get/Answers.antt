@@ -1,22 +1,23 @@
-use Rattle.std.proofs.Common.{ℕ, ◌-◌, ◌*◌, get_or, ◌∙◌, arith, length, ap}
-use Rattle.std.proofs.lemmas.Nat.{div-add-mod'}
-use Rattle.mm_vad.proofs.Joined.{length-joined, read_within, read_behind}
+use Rattle.std.proofs.Common.{List, length, ap, ◌∙◌, arith}
+use Rattle.std.specs.Prelude.{slice_get}
+use Rattle.mm_vad.specs.declared.pages.Row.{Row}
+use Rattle.mm_vad.proofs.Chunked.{equal_read}
+use Rattle.mm_vad.proofs.OneRow.{as_one, as_written, length-rows}
 use Rattle.mm_vad.proofs.pages.Rows.get.Goals as goal
 
-pub index-requires : goal.index-requires
-index-requires c =
+pub returns-in-Some : goal.returns-in-Some
+returns-in-Some c =
     let s = c.self.inside in
-    omega (arith, c.requires, c.count-whole.ensures, c.if-index-whole.false, s.rest.ok.0, div-add-mod' c.args.i 512, length-joined s.chunks s.rest.items c.self.invariant.whole, ap length c.self.view_is)
+    equal_read c.args.self.now s.written.room c.args.i c.in-Some.row
+    (as_one s.equal s.written c.args.self.now c.in-Some.row c.self.view_is c.in-Some.is)
+    (omega (arith, c.requires, length-rows s.equal s.written c.args.self.now c.self.invariant c.self.view_is))
 
-pub returns-then-index-whole : goal.returns-then-index-whole
-returns-then-index-whole c =
+pub get-requires : goal.get-requires
+get-requires c =
     let s = c.self.inside in
-    read_within s.chunks s.rest.items c.args.self.now c.args.i c.get.result c.self.invariant.whole c.self.view_is c.requires
-    (omega (arith, c.count-whole.ensures, c.if-index-whole.true)) c.get.ensures
+    omega (arith, c.requires, ap length (as_written s.equal s.written c.args.self.now c.self.view_is c.in-None.is))
 
-pub returns-else-index-whole : goal.returns-else-index-whole
-returns-else-index-whole c =
+pub returns-in-None : goal.returns-in-None
+returns-in-None c =
     let s = c.self.inside in
-    read_behind s.chunks s.rest.items c.args.self.now c.args.i _ c.self.invariant.whole c.self.view_is c.requires
-    (omega (arith, c.count-whole.ensures, c.if-index-whole.false))
-    (c.index.ensures ∙ ap (λ (n : ℕ). get_or s.rest.items (c.args.i - n * 512) c.index.result.now) c.count-whole.ensures)
+    ap (λ (rs : List Row). slice_get rs c.args.i) (as_written s.equal s.written c.args.self.now c.self.view_is c.in-None.is) ∙ c.get.ensures

@@ -1,78 +1,29 @@
-use Rattle.std.proofs.Common.{◌∙◌, Some, None, false, sym, ap}
-use Rattle.std.specs.Prelude.{find, nat_eq}
-use Rattle.std.specs.HashMap.{get}
-use Rattle.mm_types.specs.Address.{holds_page}
-use Rattle.mm_vad.specs.Regions.{SpaceOf, region_at, with_marks}
-use Rattle.mm_vad.proofs.Held.{is_space}
-use Rattle.mm_vad.proofs.Changes.{after_change, marks_keep}
-use Rattle.mm_vad.proofs.Lookups.{told_some, told_none, found_there, none_there, region_there, lie_in}
+use Rattle.std.proofs.Common.{false}
+use Rattle.mm_vad.specs.Regions.{with_marks}
+use Rattle.mm_vad.proofs.Lookups.{lies_in_one}
+use Rattle.mm_vad.proofs.Changes.{Changed, none_missing, has_pages, after_change, marks_keep}
 use Rattle.mm_vad.proofs.spaces.Space.clear_marks.Goals as goal
+use Rattle.mm_vad.proofs.spaces.Space.clear_marks.Goals.{After-clear_marks}
+
+pub base_at-base-requires : goal.base_at-base-requires
+base_at-base-requires c = lies_in_one _ _ c.requires
 
 pub unreachable-requires : goal.unreachable-requires
-unreachable-requires c =
-    let s = c.self.inside in
-    let page = c.args.first.0 in
-    let none = none_there (get nat_eq s.regions) s.taken.ranges c.self.invariant (λ r. holds_page r page) (told_none _ c.in_default.ensures.found) in
-    lie_in c.args.self.now.regions page c.args.n None (sym (ap (λ (v : SpaceOf). region_at v.regions page) c.self.view_is) ∙ none) c.requires
+unreachable-requires c = none_missing c.self.inside.regions _ _ _ _ c.self.invariant c.self.view_is c.base_at-base.ensures c.in_default.ensures.value
 
-pub unreachable-requires-in_default-get_mut : goal.unreachable-requires-in_default-get_mut
-unreachable-requires-in_default-get_mut c =
-    let s = c.self.inside in
-    let page = c.args.first.0 in
-    let told = told_some (find (λ r. holds_page r page) s.taken.ranges) c.in-Some.base c.in-Some.field-0-1 c.in-Some.ensures.found in
-    let there = found_there (get nat_eq s.regions) s.taken.ranges c.self.invariant (λ r. holds_page r page) c.in-Some.base.0 told in
-    lie_in c.args.self.now.regions page c.args.n None (sym (ap (λ (v : SpaceOf). region_at v.regions page) c.self.view_is) ∙ sym there ∙ sym c.in_default-get_mut.ensures.value) c.requires
+pub clear_marks-requires : goal.clear_marks-requires
+clear_marks-requires c = has_pages c.self.inside.regions _ _ _ _ c.self.invariant c.self.view_is c.base_at-base.ensures c.args.n c.in-Some.region.now c.requires c.in-Some.ensures.value
 
-pub clear_marks-requires-clause-low : goal.clear_marks-requires-clause-low
-clear_marks-requires-clause-low c =
-    let s = c.self.inside in
-    let page = c.args.first.0 in
-    let told = told_some (find (λ r. holds_page r page) s.taken.ranges) c.in-Some.base c.in-Some.field-0-1 c.in-Some.ensures.found in
-    (region_there (get nat_eq s.regions) s.taken.ranges c.self.invariant page c.in-Some.base.0 c.in-Some-get_mut.region.now told (sym c.in-Some-get_mut.ensures.value)).low
-
-pub clear_marks-requires-clause-high : goal.clear_marks-requires-clause-high
-clear_marks-requires-clause-high c =
-    let s = c.self.inside in
-    let page = c.args.first.0 in
-    let told = told_some (find (λ r. holds_page r page) s.taken.ranges) c.in-Some.base c.in-Some.field-0-1 c.in-Some.ensures.found in
-    let there = found_there (get nat_eq s.regions) s.taken.ranges c.self.invariant (λ r. holds_page r page) c.in-Some.base.0 told in
-    lie_in c.args.self.now.regions page c.args.n (Some c.in-Some-get_mut.region.now)
-    (sym (ap (λ (v : SpaceOf). region_at v.regions page) c.self.view_is) ∙ sym there ∙ sym c.in-Some-get_mut.ensures.value) c.requires
-
-pub clear_marks-requires-clause-flags : goal.clear_marks-requires-clause-flags
-clear_marks-requires-clause-flags c =
-    let s = c.self.inside in
-    let page = c.args.first.0 in
-    let told = told_some (find (λ r. holds_page r page) s.taken.ranges) c.in-Some.base c.in-Some.field-0-1 c.in-Some.ensures.found in
-    (region_there (get nat_eq s.regions) s.taken.ranges c.self.invariant page c.in-Some.base.0 c.in-Some-get_mut.region.now told (sym c.in-Some-get_mut.ensures.value)).flags
+changed : (c : After-clear_marks) → Changed (c.get_mut.follows.lender c.clear_marks.new.self) c.self.inside.taken c.args.first.0 (with_marks false c.args.first.0 c.args.n) c.args.self.now
+changed c =
+    after_change c.self.inside.regions _ _ _ _ c.self.invariant c.self.view_is c.base_at-base.ensures _ (with_marks false c.args.first.0 c.args.n) _ _ c.in-Some.ensures.value c.clear_marks.ensures
+    (marks_keep false c.args.first.0 c.args.n _) (c.get_mut.follows.holds c.clear_marks.new.self)
 
 pub invariant_of-self : goal.invariant_of-self
-invariant_of-self c =
-    let s = c.self.inside in
-    let page = c.args.first.0 in
-    let told = told_some (find (λ r. holds_page r page) s.taken.ranges) c.in-Some.base c.in-Some.field-0-1 c.in-Some.ensures.found in
-    let region = c.in-Some-get_mut.region.now in
-    let written = c.clear_marks.new.self in
-    (after_change s.regions (c.get_mut.follows.lender written) s.taken.ranges s.taken.spare page c.in-Some.base.0 c.args.self.now
-    (with_marks false page c.args.n) region written c.self.invariant c.self.view_is told (sym c.in-Some-get_mut.ensures.value) c.clear_marks.ensures (marks_keep false page c.args.n region) (c.get_mut.follows.holds written)).index
+invariant_of-self c = (changed (goal.at.invariant_of-self c).After-clear_marks).index
 
 pub returns-clause-after : goal.returns-clause-after
-returns-clause-after c =
-    let s = c.self.inside in
-    let page = c.args.first.0 in
-    let told = told_some (find (λ r. holds_page r page) s.taken.ranges) c.in-Some.base c.in-Some.field-0-1 c.in-Some.ensures.found in
-    let region = c.in-Some-get_mut.region.now in
-    let written = c.clear_marks.new.self in
-    (after_change s.regions (c.get_mut.follows.lender written) s.taken.ranges s.taken.spare page c.in-Some.base.0 c.args.self.now
-    (with_marks false page c.args.n) region written c.self.invariant c.self.view_is told (sym c.in-Some-get_mut.ensures.value) c.clear_marks.ensures (marks_keep false page c.args.n region) (c.get_mut.follows.holds written)).shown
+returns-clause-after c = (changed (goal.at.returns-clause-after c).After-clear_marks).shown
 
 pub returns-clause-sound : goal.returns-clause-sound
-returns-clause-sound c =
-    let s = c.self.inside in
-    let page = c.args.first.0 in
-    let told = told_some (find (λ r. holds_page r page) s.taken.ranges) c.in-Some.base c.in-Some.field-0-1 c.in-Some.ensures.found in
-    let region = c.in-Some-get_mut.region.now in
-    let written = c.clear_marks.new.self in
-    is_space (get nat_eq (c.get_mut.follows.lender written)) s.taken.ranges
-    (after_change s.regions (c.get_mut.follows.lender written) s.taken.ranges s.taken.spare page c.in-Some.base.0 c.args.self.now
-    (with_marks false page c.args.n) region written c.self.invariant c.self.view_is told (sym c.in-Some-get_mut.ensures.value) c.clear_marks.ensures (marks_keep false page c.args.n region) (c.get_mut.follows.holds written)).index
+returns-clause-sound c = (changed (goal.at.returns-clause-sound c).After-clear_marks).sound

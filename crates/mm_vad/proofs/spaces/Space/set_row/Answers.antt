@@ -1,71 +1,24 @@
-use Rattle.std.proofs.Common.{◌≡◌, ◌∙◌, false, true, sym, ap, subst}
-use Rattle.std.specs.Prelude.{find, nat_eq, IsSome}
-use Rattle.std.specs.HashMap.{get}
-use Rattle.mm_types.specs.Address.{holds_page}
-use Rattle.mm_vad.specs.Regions.{SpaceOf, region_at, with_row}
-use Rattle.mm_vad.proofs.Held.{is_space}
-use Rattle.mm_vad.proofs.Changes.{after_change, row_keeps}
-use Rattle.mm_vad.proofs.Lookups.{told_some, told_none, found_there, none_there, region_there}
+use Rattle.mm_vad.specs.Regions.{with_row}
+use Rattle.mm_vad.proofs.Changes.{Changed, none_missing, has_page, after_change, row_keeps}
 use Rattle.mm_vad.proofs.spaces.Space.set_row.Goals as goal
+use Rattle.mm_vad.proofs.spaces.Space.set_row.Goals.{After-set_row}
 
 pub unreachable-requires : goal.unreachable-requires
-unreachable-requires c =
-    let s = c.self.inside in
-    let page = c.args.v.0 in
-    let none = none_there (get nat_eq s.regions) s.taken.ranges c.self.invariant (λ r. holds_page r page) (told_none _ c.in_default.ensures.found) in
-    let bad : false ≡ true = subst IsSome (sym (ap (λ (v : SpaceOf). region_at v.regions page) c.self.view_is) ∙ none) c.requires in
-    cc
+unreachable-requires c = none_missing c.self.inside.regions _ _ _ _ c.self.invariant c.self.view_is c.base_at-base.ensures c.in_default.ensures.value
 
-pub unreachable-requires-in_default-get_mut : goal.unreachable-requires-in_default-get_mut
-unreachable-requires-in_default-get_mut c =
-    let s = c.self.inside in
-    let page = c.args.v.0 in
-    let told = told_some (find (λ r. holds_page r page) s.taken.ranges) c.in-Some.base c.in-Some.field-0-1 c.in-Some.ensures.found in
-    let there = found_there (get nat_eq s.regions) s.taken.ranges c.self.invariant (λ r. holds_page r page) c.in-Some.base.0 told in
-    let bad : false ≡ true = subst IsSome (sym (ap (λ (v : SpaceOf). region_at v.regions page) c.self.view_is) ∙ sym there ∙ sym c.in_default-get_mut.ensures.value) c.requires in
-    cc
+pub set_row-requires : goal.set_row-requires
+set_row-requires c = has_page c.self.inside.regions _ _ _ _ c.self.invariant c.self.view_is c.base_at-base.ensures c.in-Some.region.now c.in-Some.ensures.value
 
-pub set_row-requires-clause-low : goal.set_row-requires-clause-low
-set_row-requires-clause-low c =
-    let s = c.self.inside in
-    let page = c.args.v.0 in
-    let told = told_some (find (λ r. holds_page r page) s.taken.ranges) c.in-Some.base c.in-Some.field-0-1 c.in-Some.ensures.found in
-    (region_there (get nat_eq s.regions) s.taken.ranges c.self.invariant page c.in-Some.base.0 c.in-Some-get_mut.region.now told (sym c.in-Some-get_mut.ensures.value)).low
-
-pub set_row-requires-clause-high : goal.set_row-requires-clause-high
-set_row-requires-clause-high c =
-    let s = c.self.inside in
-    let page = c.args.v.0 in
-    let told = told_some (find (λ r. holds_page r page) s.taken.ranges) c.in-Some.base c.in-Some.field-0-1 c.in-Some.ensures.found in
-    (region_there (get nat_eq s.regions) s.taken.ranges c.self.invariant page c.in-Some.base.0 c.in-Some-get_mut.region.now told (sym c.in-Some-get_mut.ensures.value)).row
+changed : (c : After-set_row) → Changed (c.get_mut.follows.lender c.set_row.new.self) c.self.inside.taken c.args.v.0 (with_row c.args.v.0 c.args.row) c.args.self.now
+changed c =
+    after_change c.self.inside.regions _ _ _ _ c.self.invariant c.self.view_is c.base_at-base.ensures _ (with_row c.args.v.0 c.args.row) _ _ c.in-Some.ensures.value c.set_row.ensures
+    (row_keeps _ _ _) (c.get_mut.follows.holds c.set_row.new.self)
 
 pub invariant_of-self : goal.invariant_of-self
-invariant_of-self c =
-    let s = c.self.inside in
-    let page = c.args.v.0 in
-    let told = told_some (find (λ r. holds_page r page) s.taken.ranges) c.in-Some.base c.in-Some.field-0-1 c.in-Some.ensures.found in
-    let region = c.in-Some-get_mut.region.now in
-    let written = c.set_row.new.self in
-    (after_change s.regions (c.get_mut.follows.lender written) s.taken.ranges s.taken.spare page c.in-Some.base.0 c.args.self.now
-    (with_row page c.args.row) region written c.self.invariant c.self.view_is told (sym c.in-Some-get_mut.ensures.value) c.set_row.ensures (row_keeps page c.args.row region) (c.get_mut.follows.holds written)).index
+invariant_of-self c = (changed (goal.at.invariant_of-self c).After-set_row).index
 
 pub returns-clause-after : goal.returns-clause-after
-returns-clause-after c =
-    let s = c.self.inside in
-    let page = c.args.v.0 in
-    let told = told_some (find (λ r. holds_page r page) s.taken.ranges) c.in-Some.base c.in-Some.field-0-1 c.in-Some.ensures.found in
-    let region = c.in-Some-get_mut.region.now in
-    let written = c.set_row.new.self in
-    (after_change s.regions (c.get_mut.follows.lender written) s.taken.ranges s.taken.spare page c.in-Some.base.0 c.args.self.now
-    (with_row page c.args.row) region written c.self.invariant c.self.view_is told (sym c.in-Some-get_mut.ensures.value) c.set_row.ensures (row_keeps page c.args.row region) (c.get_mut.follows.holds written)).shown
+returns-clause-after c = (changed (goal.at.returns-clause-after c).After-set_row).shown
 
 pub returns-clause-sound : goal.returns-clause-sound
-returns-clause-sound c =
-    let s = c.self.inside in
-    let page = c.args.v.0 in
-    let told = told_some (find (λ r. holds_page r page) s.taken.ranges) c.in-Some.base c.in-Some.field-0-1 c.in-Some.ensures.found in
-    let region = c.in-Some-get_mut.region.now in
-    let written = c.set_row.new.self in
-    is_space (get nat_eq (c.get_mut.follows.lender written)) s.taken.ranges
-    (after_change s.regions (c.get_mut.follows.lender written) s.taken.ranges s.taken.spare page c.in-Some.base.0 c.args.self.now
-    (with_row page c.args.row) region written c.self.invariant c.self.view_is told (sym c.in-Some-get_mut.ensures.value) c.set_row.ensures (row_keeps page c.args.row region) (c.get_mut.follows.holds written)).index
+returns-clause-sound c = (changed (goal.at.returns-clause-sound c).After-set_row).sound

@@ -1,4 +1,5 @@
 use Rattle.std.proofs.Common.{◌-◌, ◌++◌, ℕ, List, ap, ◌∙◌, replicate, vec_len}
+use Rattle.mm_words.specs.LeafWords.{bit_numbers}
 use Rattle.mm_words.proofs.WordLemmas.{shown_zero}
 use Rattle.mm_words.proofs.leaves.Leaf.unreserved.Goals as goal
 
@@ -7,5 +8,5 @@ returns c =
     let made = c.in_ok-numbers.numbers in
     shown_zero c.extend_to.new.numbers.items
     (c.extend_to.ensures.items
-    ∙ ap (λ (ns : List ℕ). ns ++ replicate (16 - vec_len made) 0) c.in_ok-numbers.ensures.items
-    ∙ ap (λ (n : ℕ). replicate {A = ℕ} (16 - n) 0) c.in_ok-numbers.ensures.len)
+    ∙ ap (λ (ns : List ℕ). ns ++ replicate (bit_numbers - vec_len made) 0) c.in_ok-numbers.ensures.items
+    ∙ ap (λ (n : ℕ). replicate {A = ℕ} (bit_numbers - n) 0) c.in_ok-numbers.ensures.len)

@@ -8,6 +8,9 @@ use Rattle.mm_words.proofs.processes.Process.make_valid.Goals as goal
 pub insert-place-requires-clause-reserved : goal.insert-place-requires-clause-reserved
 insert-place-requires-clause-reserved c = reserved_of_bound c.args.self.now.table c.args.self.now.set c.args.self.now.is_open c.args.self.now.kept c.args.v.0 c.requires.bound
 
+pub insert-place-requires-clause-user : goal.insert-place-requires-clause-user
+insert-place-requires-clause-user c = omega (arith, c.args.self.now.kept.user c.args.v.0 c.requires.bound)
+
 pub insert-place-requires-clause-absent : goal.insert-place-requires-clause-absent
 insert-place-requires-clause-absent c = no_age c.args.self.now.table c.args.self.now.set c.args.self.now.is_open c.args.self.now.kept c.args.v.0 c.requires.invalid
 

@@ -1,18 +1,13 @@
 use Rattle.std.proofs.Common.{subst}
 use Rattle.mm_wset.specs.Ages.{WorkingSetOf, AgesBy, older}
-use Rattle.mm_wset.specs.Held.{ages_by_group}
-use Rattle.mm_wset.proofs.SetLemmas.{older_keeps, older_ages}
+use Rattle.mm_wset.specs.Held.{ages_of}
+use Rattle.mm_wset.proofs.SetLemmas.{older_keeps}
 use Rattle.mm_wset.proofs.sets.WorkingSet.age_all.Goals as goal
 
 pub invariant_of-self : goal.invariant_of-self
 invariant_of-self c =
     let s = c.self.inside in
-    older_keeps _ s.places s.newest s.pages.pages _ _ s.rounds s.used_in.items c.self.invariant c.next_newest-newest.result c.retire.new.self.pages c.saturating_add-self-inside.result
-    c.next_newest-newest.ensures.is c.retire.ensures.pages c.saturating_add-self-inside.ensures
+    older_keeps _ s.places (ages_of s.pages) _ s.rounds s.used_in.items c.self.invariant _ _ c.saturating_add-self-inside.result c.age_all.ensures.ages c.age_all.ensures.room c.saturating_add-self-inside.ensures
 
 pub returns-clause-ages : goal.returns-clause-ages
-returns-clause-ages c =
-    let s = c.self.inside in
-    subst (λ (w : WorkingSetOf). AgesBy older w.ages (ages_by_group c.next_newest-newest.result c.retire.new.self.pages)) c.self.view_is
-    (older_ages _ s.places s.newest s.pages.pages _ _ s.rounds s.used_in.items c.self.invariant c.next_newest-newest.result c.retire.new.self.pages
-    c.next_newest-newest.ensures.is c.retire.ensures.pages)
+returns-clause-ages c = subst (λ (w : WorkingSetOf). AgesBy older w.ages (ages_of c.age_all.new.self)) c.self.view_is c.age_all.ensures.ages

@@ -1,19 +1,18 @@
-use Rattle.std.proofs.Common.{◌≡◌, true, length, sym, ap, ◌∙◌, arith}
+use Rattle.std.proofs.Common.{true, ap, ◌∙◌, arith}
 use Rattle.mm_wset.specs.Ages.{WorkingSetOf}
-use Rattle.mm_wset.proofs.SetLemmas.{empty_keeps, no_pages, no_room, none_in_use, no_places, same_places}
+use Rattle.mm_wset.specs.Held.{ages_of}
+use Rattle.mm_wset.proofs.SetLemmas.{empty_keeps, no_room, same_maps}
 use Rattle.mm_wset.proofs.sets.WorkingSet.reserve.Goals as goal
 
 pub invariant_of-self : goal.invariant_of-self
 invariant_of-self c =
     let s = c.self.inside in
-    let bare : length s.pages.pages ≡ 0 = no_pages _ s.places s.newest s.pages.pages _ _ _ _ c.self.invariant (no_room s.max s.is_reserved s.places s.newest s.pages.pages _ _ _ _ c.self.invariant c.if-self.false) in
-    empty_keeps s.max _ _ s.rounds c.capacity-room.result s.newest c.in_ok-places.places s.pages.pages c.in_ok-used_in.used_in.items c.in_ok-places.ensures.empty bare c.in_ok-stock.ensures.count c.in_ok-stock.ensures.room
-    c.in_ok-places.ensures.capacity (omega (arith, c.capacity-room.ensures.value, c.if-room.false)) (c.in_ok-used_in.ensures.items_if_clones_equal (λ y e. e)) (omega (arith, c.capacity-room.ensures.value)) c.self.invariant.turning
+    empty_keeps s.max s.rounds c.capacity-room.result c.in_ok-places.places _ _ c.in_ok-used_in.used_in.items c.in_ok-places.ensures.empty c.in_ok-pages.ensures.ages (λ some. c.in_ok-pages.ensures.room)
+    c.in_ok-places.ensures.capacity (omega (arith, c.capacity-room.ensures.value, c.if-room.false)) (c.in_ok-used_in.ensures.items_if_clones_equal (λ y e. e)) (omega (arith, c.capacity-room.ensures.value))
 
 pub returns-clause-ok : goal.returns-clause-ok
 returns-clause-ok c =
     let s = c.self.inside in
-    let bare : length s.pages.pages ≡ 0 = no_pages _ s.places s.newest s.pages.pages _ _ _ _ c.self.invariant (no_room s.max s.is_reserved s.places s.newest s.pages.pages _ _ _ _ c.self.invariant c.if-self.false) in
-    same_places s.min s.max s.is_reserved true s.newest s.pages.pages s.places c.in_ok-places.places
-    (no_places c.in_ok-places.places c.in_ok-places.ensures.empty ∙ sym (none_in_use _ s.places s.newest s.pages.pages _ _ _ _ c.self.invariant bare))
+    same_maps _ s.places (ages_of s.pages) _ s.rounds s.used_in.items c.self.invariant (no_room s.max s.is_reserved s.places (ages_of s.pages) _ s.rounds s.used_in.items c.self.invariant c.if-self.false)
+    s.min s.max s.is_reserved true _ c.in_ok-places.places c.in_ok-pages.ensures.ages c.in_ok-places.ensures.empty
     ∙ ap (λ (w : WorkingSetOf). record w { reserved = true }) c.self.view_is

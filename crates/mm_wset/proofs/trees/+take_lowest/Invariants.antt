@@ -1,5 +1,0 @@
-use Rattle.std.proofs.Common.{length}
-use Rattle.mm_wset.proofs.trees.+take_lowest.Given as goal
-
-abbrev pub decreases-take_lowest : goal.decreases-take_lowest
-decreases-take_lowest l = length l.left.pages

@@ -1,5 +1,0 @@
-use Rattle.std.proofs.Common.{length}
-use Rattle.mm_wset.proofs.trees.Tree.+remove.Given as goal
-
-abbrev pub decreases-remove : goal.decreases-remove
-decreases-remove l = length l.self.now.pages
