@@ -5,7 +5,7 @@ use Rattle.std.specs.Int.{bit_at, w64}
 use Rattle.std.proofs.lemmas.Nat.Bits.{bit_at_and, bit_at_or, bit_at_ones, bit_at_ones_above, bit_at_mask_inside, bit_at_mask_below, ones_shl, ones_shr, bit_at_not, bit_at-zero, bit_at-lt}
 use Rattle.std.proofs.lemmas.List.{get_or_read}
 use Rattle.std.proofs.lemmas.Bool.{cases_lt, cases_eq}
-use Rattle.mm_bits.specs.Bits.{have_bit, Becomes, WordBecomes}
+use Rattle.mm_bits.specs.{have_bit, Becomes, WordBecomes}
 
 -- ---- masks
 

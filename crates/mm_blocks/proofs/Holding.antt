@@ -4,9 +4,8 @@ use Rattle.std.specs.Prelude.{◌||◌, ◌==◌, slice_get, slice_set}
 use Rattle.std.specs.List.{list_any}
 use Rattle.std.specs.Cmp.{unsigned_Decides}
 use Rattle.mm_types.specs.declared.devices.Direction.TheVariants as way
-use Rattle.mm_types.proofs.Cells.{get_set_other}
-use Rattle.mm_blocks.specs.declared.device_calls.DeviceCall.{DeviceCall}
-use Rattle.mm_blocks.specs.Devices.{wrote_block, KeepsOthers}
+use Rattle.mm_types.proofs.{get_set_other}
+use Rattle.mm_blocks.specs.{DeviceCall, wrote_block, KeepsOthers}
 
 any_append : {A : Type 0} (t : A → Bool) (xs ys : List A) → list_any t (xs ++ ys) ≡ (list_any t xs || list_any t ys)
 any_append t [] ys = refl

@@ -3,11 +3,10 @@ use Rattle.std.proofs.Common.{◌≡◌, ◌≤◌, ◌<◌, inl, inr, ℕ, zero
 use Rattle.std.proofs.lemmas.List.{length-map}
 use Rattle.std.specs.Prelude.{map, ◌||◌, ◌&&◌, ◌==◌, not, if◌then◌else◌}
 use Rattle.std.specs.List.{list_any}
-use Rattle.mm_types.proofs.Bytes.{rose_then, rose_later}
-use Rattle.mm_types.specs.declared.devices.Direction.{Direction}
-use Rattle.mm_blocks.specs.declared.device_calls.NamedCalls.{NamedCalls}
-use Rattle.mm_blocks.specs.Traffic.{same_direction, is_due, is_named, one_further, after_call}
-use Rattle.mm_blocks.specs.Devices.{DeviceOf, Call, logged_call, Serves, AllServed, left_to_fail, CallFailed, IsLater}
+use Rattle.mm_types.proofs.{rose_then, rose_later}
+use Rattle.mm_types.specs.{Direction}
+use Rattle.mm_blocks.specs.{NamedCalls, same_direction, is_due, is_named, one_further, after_call, DeviceOf, Call, logged_call, Serves, AllServed}
+use Rattle.mm_blocks.specs.{left_to_fail, CallFailed, IsLater}
 
 pub all_served_then : (cs ds : List Call) (a b c : DeviceOf) → AllServed cs a b → AllServed ds b c → AllServed (cs ++ ds) a c
 all_served_then [] ds a b c p q = rw (sym p) q

@@ -5,9 +5,8 @@ use Rattle.std.proofs.Math.Seq.{get_or-append_seam}
 use Rattle.std.proofs.lemmas.List.{ext_get_or, length-map, map-append, length-replicate, get_or_append_left, get_or-append_right, take_all}
 use Rattle.std.specs.Prelude.{slice_get}
 use Rattle.std.proofs.lemmas.Option.{slice_get-get_or}
-use Rattle.mm_types.proofs.Cells.{same_or_not}
-use Rattle.mm_blocks.specs.Traffic.{empty_block}
-use Rattle.mm_blocks.specs.Stores.{block_at, blocks_of, place_of, unplaced, IsStore}
+use Rattle.mm_types.proofs.{same_or_not}
+use Rattle.mm_blocks.specs.{empty_block, block_at, blocks_of, place_of, unplaced, IsStore}
 
 pub length-blocks : (places : List (Option ℕ)) (pages : List (List ℕ)) → length (blocks_of places pages) ≡ length places
 unfolding blocks_of

@@ -1,12 +1,9 @@
 -- The reads and writes of a device, as its log tells them, and those that were named to fail.
 use Rattle.std.specs.Prelude.{◌≡◌, ℕ, ◌-◌, ◌==◌, ◌≤◌, Bool, true, false, not, ◌&&◌, if◌then◌else◌, List, [], ◌++◌, map, replicate, Option, Some, None, Result, is_ok, IsErrOf, OnOk, OnErr}
 use Rattle.std.specs.List.{list_any}
-use Rattle.mm_types.specs.Outside.{Rose}
-use Rattle.mm_types.specs.declared.devices.Direction.{Direction}
+use Rattle.mm_types.specs.{Rose, Direction, OpenFault, page_size}
 use Rattle.mm_types.specs.declared.devices.Direction.TheVariants as direction
-use Rattle.mm_types.specs.declared.faults.OpenFault.{OpenFault}
 use Rattle.mm_types.specs.declared.faults.OpenFault.TheVariants as fault
-use Rattle.mm_types.specs.Address.{page_size}
 use Rattle.mm_blocks.specs.declared.device_calls.DeviceCall.{DeviceCall}
 use Rattle.mm_blocks.specs.declared.device_calls.NamedCalls.{NamedCalls}
 

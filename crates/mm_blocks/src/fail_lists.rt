@@ -1,6 +1,6 @@
 ghost use Rattle.std.specs.Prelude.{◌≡◌, ◌≤◌, ◌↔◌, true};
 ghost use Rattle.std.specs.Bool.{OnTrue, OnFalse};
-ghost use Rattle.mm_types.specs.Outside.{Rose};
+ghost use Rattle.mm_types.specs.{Rose};
 ghost use Rattle.mm_blocks.specs.Numbered.{NextFails, next_call};
 
 /// Counts calls from 1. Those in the list are to fail.

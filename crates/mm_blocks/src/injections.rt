@@ -1,5 +1,5 @@
 ghost use Rattle.std.specs.Prelude.{◌≡◌, []};
-ghost use Rattle.mm_types.specs.Outside.{Loan};
+ghost use Rattle.mm_types.specs.{Loan};
 
 use crate::plans::Plan;
 use crate::{Blocks, Inject};

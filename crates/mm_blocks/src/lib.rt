@@ -11,7 +11,7 @@ mod plans;
 mod stores;
 
 ghost use Rattle.std.specs.Prelude.{◌≡◌, ◌≤◌, ◌<◌, ◌+◌, ◌-◌, ◌++◌, [], ◌∷◌, List, ℕ, Option, Some, OnOk, OnErr, is_ok, length, replicate, slice_get, slice_set};
-ghost use Rattle.mm_types.specs.Outside.{Loans};
+ghost use Rattle.mm_types.specs.{Loans};
 ghost use Rattle.mm_types.specs.declared.devices.Direction.TheVariants as way;
 ghost use Rattle.mm_blocks.specs.Traffic.{Logged, NoneLogged, HasCallCause, HasOpenCause, made_call, is_named, empty_block};
 ghost use Rattle.mm_blocks.specs.Devices.{Serves, device_with};

@@ -1,5 +1,5 @@
 ghost use Rattle.std.specs.Prelude.{◌≡◌, ◌≤◌, ◌<◌, ◌+◌, ◌++◌, ◌↔◌, [], ◌∷◌, Some, None, OnOk, OnErr, IfOk, IfSome, IfNone, IsErr, IsErrOf, length, replicate, slice_get, slice_set, vec_len, vec_capacity};
-ghost use Rattle.mm_types.specs.Outside.{Loans, NoLoan};
+ghost use Rattle.mm_types.specs.{Loans, NoLoan};
 ghost use Rattle.mm_types.specs.declared.devices.Direction.TheVariants as way;
 ghost use Rattle.mm_types.specs.declared.faults.OpenFault.TheVariants as fault;
 ghost use Rattle.mm_blocks.specs.Numbered.{NextFails, next_call, told};

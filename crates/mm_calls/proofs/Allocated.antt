@@ -2,19 +2,13 @@
 use Rattle.std.proofs.Common.{◌≡◌, ◌<◌, ℕ, Bool, true, false, Some, refl, sym, ap, ◌∙◌, cond, nat_lt, arith}
 use Rattle.std.proofs.lemmas.Bool.{ltb-false}
 use Rattle.mm_types.specs.declared.codes.Code.TheVariants as code
-use Rattle.mm_types.specs.declared.numbers.Key.{Key}
-use Rattle.mm_types.specs.Address.{range_of}
-use Rattle.mm_world.specs.World.{Page, ProcessOf, filled}
-use Rattle.mm_world.specs.Find.{process_of}
-use Rattle.mm_world.specs.Alloc.{alloc, reserve, commit_pages, are_alloc_parameters, is_reserving, is_watched_type, plain_type}
-use Rattle.mm_world.specs.Charge.{charge}
-use Rattle.mm_world.specs.Contents.{Tables, blank, no_bytes, world_with}
-use Rattle.mm_world.specs.Laws.{is_success}
-use Rattle.mm_world.specs.Outcome.{OutcomeOf, need}
-use Rattle.mm_world.proofs.Natural.{in_alloc, same_charge}
-use Rattle.mm_world.proofs.Outcomes.{at_alive, at_met}
-use Rattle.mm_world.proofs.Reconstruct.{tables_back}
-use Rattle.mm_calls.specs.Allocating.{allocates_anew}
+use Rattle.mm_types.specs.{Key, range_of}
+use Rattle.mm_world.specs.{Page, ProcessOf, filled, process_of, alloc, reserve, are_alloc_parameters, is_reserving, is_watched_type, plain_type}
+use Rattle.mm_world.specs.{charge, Tables, blank, no_bytes, world_with, is_success, OutcomeOf, need}
+use Rattle.mm_world.specs.Alloc.{commit_pages}
+use Rattle.mm_world.proofs.{same_charge, at_alive, at_met, tables_back}
+use Rattle.mm_world.proofs.Natural.{in_alloc}
+use Rattle.mm_calls.specs.{allocates_anew}
 
 module _ (t : Tables) (pid addr size type prot : ℕ) (p : ProcessOf (Unit {0})) (plain : ℕ) (lives : process_of t pid ≡ Some p) (is_plain : plain ≡ plain_type type) (right : are_alloc_parameters size plain prot ≡ true) where
   -- by the type without the flag, and whether it had it

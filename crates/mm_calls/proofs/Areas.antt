@@ -1,16 +1,13 @@
 -- Views lie within their sections, and their areas are there.
 use Rattle.std.proofs.Common.{◌≡◌, ◌≤◌, ◌<◌, ◌+◌, ◌-◌, ℕ, zero, suc, Some, option_map, List, [], ◌∷◌, refl, ap, arith, length, slice_get, unwrap_or, false, None, is_some, Option}
-use Rattle.mm_types.specs.declared.views.View.{View}
+use Rattle.mm_types.specs.{View, Range}
 use Rattle.mm_types.specs.declared.views.Kind.TheVariants as kind
-use Rattle.mm_types.specs.Address.{Range}
-use Rattle.mm_world.specs.World.{WorldOf, ProcessOf, RegionOf, AreaOf}
-use Rattle.mm_world.specs.Find.{Found, process_of, region_around, area_at, no_area}
-use Rattle.mm_world.specs.Contents.{Tables}
-use Rattle.mm_world.specs.WellFormed.{WellFormed, RegionRefers, ViewFits}
-use Rattle.mm_world.proofs.Each.{each-at}
-use Rattle.mm_spaces.specs.Tables.{found_info}
+use Rattle.mm_world.specs.{WorldOf, ProcessOf, RegionOf, AreaOf, Found, process_of, region_around, area_at, no_area, Tables, RegionRefers, ViewFits}
+use Rattle.mm_world.specs.WellFormed.{WellFormed}
+use Rattle.mm_world.proofs.{each-at}
+use Rattle.mm_spaces.specs.{found_info}
 use Rattle.mm_calls.proofs.Around.{around, told_is}
-use Rattle.mm_sections.specs.Pages.{number_of_block}
+use Rattle.mm_sections.specs.{number_of_block}
 
 module _ {B : Type 0} where
   area_there : (areas : List (AreaOf B)) (area : ℕ) → area < length areas → slice_get areas area ≡ Some (unwrap_or (slice_get areas area) no_area)

@@ -2,18 +2,12 @@
 use Rattle.std.proofs.Common.{◌≡◌, ◌≤◌, ◌-◌, ℕ, zero, suc, Bool, true, false, Option, Some, None, List, [], ◌∷◌, refl, sym, ◌∙◌, ap, subst, cond, arith, slice_get, is_some, nat_le, ◌&&◌, option_map, take, drop, count_by}
 use Rattle.std.specs.Prelude.{◌==◌}
 use Rattle.std.proofs.lemmas.Bool.{leb-true}
-use Rattle.mm_types.specs.declared.views.Kind.{Kind}
-use Rattle.mm_types.specs.Address.{Range, address_of, end_of, end_of_user_pages, first_user_page, lies_within}
-use Rattle.mm_world.specs.World.{WorldOf, ProcessOf, RegionOf, RowOf, pages_of}
-use Rattle.mm_world.specs.Find.{Found, first_where, one_later, process_of, region_around, is_private}
-use Rattle.mm_world.specs.Free.{private_at, private_around}
+use Rattle.mm_types.specs.{Kind, Range, address_of, end_of, end_of_user_pages, first_user_page, lies_within}
+use Rattle.mm_world.specs.{WorldOf, ProcessOf, RegionOf, RowOf, pages_of, Found, first_where, one_later, process_of, region_around, is_private}
+use Rattle.mm_world.specs.{private_at, private_around}
 use Rattle.mm_world.specs.WellFormed.{WellFormed}
-use Rattle.mm_world.proofs.Disjoint.{same_place, is_placed}
-use Rattle.mm_world.proofs.Finding.{found_stands}
-use Rattle.mm_world.proofs.LaidOut.{and-true, laid_at}
-use Rattle.mm_spaces.specs.declared.spaces.RegionInfo.{RegionInfo}
-use Rattle.mm_spaces.specs.Tables.{found_info, owned_in, rows_of}
-use Rattle.mm_world.proofs.Ranges.{inside, holds_first, Inside, lies}
+use Rattle.mm_world.proofs.{same_place, is_placed, found_stands, and-true, laid_at, inside, holds_first, Inside, lies}
+use Rattle.mm_spaces.specs.{RegionInfo, found_info, owned_in, rows_of}
 
 module _ {B : Type 0} where
   abbrev pub has_own : RowOf B → Bool

@@ -1,17 +1,12 @@
 -- A call's promise, from its parts.
 use Rattle.std.proofs.Common.{◌≡◌, Some, Result, Ok, Err, ◌∙◌}
 use Rattle.std.specs.Prelude.{IfOk}
-use Rattle.mm_types.specs.declared.answers.Answer.{Answer}
-use Rattle.mm_types.specs.declared.faults.NoMemory.{NoMemory}
-use Rattle.mm_types.specs.declared.numbers.Pid.{Pid}
-use Rattle.mm_world.specs.World.{ProcessOf}
-use Rattle.mm_world.specs.Contents.{Tables}
-use Rattle.mm_world.specs.Find.{process_of}
-use Rattle.mm_world.specs.Outcome.{OutcomeOf}
-use Rattle.mm_pages.specs.declared.pages.Pages.{Ghosts as PagesGhosts}
-use Rattle.mm_tables.specs.Fits.{FitsTables, Called, Settled}
-use Rattle.mm_tables.proofs.Carried.{called_by}
-use Rattle.mm_calls.specs.CallPromises.{AnswersCall, DecidesIn}
+use Rattle.mm_types.specs.{Answer, NoMemory, Pid}
+use Rattle.mm_world.specs.{ProcessOf, Tables, process_of, OutcomeOf}
+use Rattle.mm_pages.specs.{Ghosts as PagesGhosts}
+use Rattle.mm_tables.specs.{FitsTables, Called, Settled}
+use Rattle.mm_tables.proofs.{called_by}
+use Rattle.mm_calls.specs.{AnswersCall, DecidesIn}
 
 module _ {G : Type 0} (p : PagesGhosts G) (o : OutcomeOf (Unit {0})) (t : Tables) (g : G) (fits : FitsTables t (p.contents g) (p.store g)) where
   -- by what was decided

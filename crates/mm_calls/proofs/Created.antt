@@ -1,15 +1,11 @@
 -- What a `stack` line comes to, from what the tables told.
 use Rattle.std.proofs.Common.{◌≡◌, ◌≤◌, ◌<◌, ◌+◌, ◌-◌, ℕ, false, Option, Some, sym, ◌∙◌, ap, arith, is_some, option_map, List}
-use Rattle.mm_types.specs.declared.answers.Answer.{Answer}
+use Rattle.mm_types.specs.{Answer, Range, address_of, lowest_gap}
 use Rattle.mm_types.specs.declared.answers.Answer.TheVariants as answer
 use Rattle.mm_types.specs.declared.codes.Code.TheVariants as code
-use Rattle.mm_types.specs.Address.{Range, address_of, lowest_gap}
-use Rattle.mm_world.specs.World.{ProcessOf, RegionOf}
-use Rattle.mm_world.specs.Find.{process_of, ranges_of, add_region, set_regions, stack_by, set_stack}
-use Rattle.mm_world.specs.Charge.{charge, limit}
-use Rattle.mm_world.specs.Contents.{Tables, blank}
-use Rattle.mm_world.specs.Outcome.{OutcomeOf, done, refused}
-use Rattle.mm_world.specs.Stack.{stack, stack_region, reserve_pages, commit_pages}
+use Rattle.mm_world.specs.{ProcessOf, RegionOf, process_of, ranges_of, add_region, set_regions, stack_by, set_stack, charge, limit, Tables, blank}
+use Rattle.mm_world.specs.{OutcomeOf, done, refused, stack, stack_region, reserve_pages}
+use Rattle.mm_world.specs.Stack.{commit_pages}
 use Rattle.mm_calls.proofs.Making.{at_past, at_made, a_gap}
 
 -- a gap was found among the regions

@@ -1,17 +1,11 @@
 -- The keys that a flush means.
 use Rattle.std.proofs.Common.{◌≡◌, ◌≤◌, ◌+◌, ◌-◌, ℕ, zero, suc, Bool, true, false, Option, Some, None, [], ◌∷◌, refl, sym, ◌∙◌, ap, cond, arith, length, is_some, map, option_map, unwrap_or}
 use Rattle.std.specs.Prelude.{◌==◌, option_and_then}
-use Rattle.mm_types.specs.declared.views.Kind.{Kind}
+use Rattle.mm_types.specs.{Kind, View, Range, page_of, range_of, end_of}
 use Rattle.mm_types.specs.declared.views.Kind.TheVariants as kind
-use Rattle.mm_types.specs.declared.views.View.{View}
-use Rattle.mm_types.specs.Address.{Range, page_of, range_of, end_of}
-use Rattle.mm_life.specs.Life.{numbers_from}
-use Rattle.mm_world.specs.World.{RegionOf, ProcessOf, pages_of}
-use Rattle.mm_world.specs.Find.{Found, process_of, area_at}
-use Rattle.mm_world.specs.Contents.{Tables}
-use Rattle.mm_world.specs.Keys.{shared_key}
-use Rattle.mm_world.specs.Views.{flushed_view, flushed_range}
-use Rattle.mm_calls.specs.Stages.{keys_from, keys_of_region, flushed_keys}
+use Rattle.mm_life.specs.{numbers_from}
+use Rattle.mm_world.specs.{RegionOf, ProcessOf, pages_of, Found, process_of, area_at, Tables, shared_key, flushed_view, flushed_range}
+use Rattle.mm_calls.specs.{keys_from, keys_of_region, flushed_keys}
 
 mapped : (area vfirst base first n : ℕ) → base ≤ first → map (λ page. shared_key area (vfirst + (page - base))) (numbers_from first n) ≡ keys_from area (vfirst + (first - base)) n
 mapped area vfirst base first zero low = refl

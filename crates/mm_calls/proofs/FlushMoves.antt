@@ -1,21 +1,16 @@
 -- The moves of pages that are flushed one after another.
 use Rattle.std.proofs.Common.{◌≡◌, ℕ, zero, suc, ◌+◌, ◌-◌, ◌<◌, Bool, true, false, List, [], ◌∷◌, ◌++◌, refl, sym, ◌∙◌, ap, subst, arith, append_assoc}
 use Rattle.std.proofs.lemmas.List.{append-nil}
-use Rattle.mm_types.specs.declared.moves.Move.{Move}
-use Rattle.mm_types.specs.declared.numbers.Key.{Key}
-use Rattle.mm_blocks.proofs.Holding.{keeps_same}
-use Rattle.mm_life.specs.Life.{FrameLife}
-use Rattle.mm_life.specs.Effect.{after_move}
-use Rattle.mm_life.proofs.Noting.{grew_nothing}
-use Rattle.mm_life.specs.Replay.{Replays}
-use Rattle.mm_world.specs.Keys.{shared_key}
+use Rattle.mm_types.specs.{Move, Key}
+use Rattle.mm_blocks.proofs.{keeps_same}
+use Rattle.mm_life.specs.{FrameLife, after_move, Replays}
+use Rattle.mm_life.proofs.{grew_nothing}
+use Rattle.mm_world.specs.{shared_key}
 use Rattle.mm_pages.specs.Behind.{Behind}
-use Rattle.mm_pages.specs.Flushing.{FlushedAt, Flushing, ends_lost, life_through}
-use Rattle.mm_pages.specs.Housekeeping.{ByMoves, FlushesPage, Flushes}
-use Rattle.mm_pages.specs.Passing.{PassesIn}
-use Rattle.mm_pages.specs.Store.{StoreOf}
-use Rattle.mm_pages.proofs.Passed.{Joins, passes_then, moved_then}
-use Rattle.mm_calls.specs.Stages.{keys_from}
+use Rattle.mm_pages.specs.{FlushedAt, ends_lost, life_through, ByMoves, FlushesPage, Flushes, PassesIn, StoreOf}
+use Rattle.mm_pages.specs.Flushing.{Flushing}
+use Rattle.mm_pages.proofs.{Joins, passes_then, moved_then}
+use Rattle.mm_calls.specs.{keys_from}
 
 -- ---- pages one after another
 

@@ -1,24 +1,18 @@
 -- Pages of a file are flushed one after another.
-use Rattle.std.proofs.Common.{◌≡◌, ◌≢◌, ◌≤◌, ◌<◌, ◌+◌, ℕ, zero, suc, Bool, true, false, Option, Some, None, List, [], ◌∷◌, refl, sym, ◌∙◌, ap, arith, length, slice_get, is_some, option_map, count_by, get_or, cond}
+use Rattle.std.proofs.Common.{◌≡◌, ◌≢◌, ◌≤◌, ◌<◌, ◌+◌, ℕ, zero, suc, true, false, Option, Some, None, List, [], ◌∷◌, refl, sym, ◌∙◌, ap, arith, length, slice_get, is_some, option_map, count_by, get_or, cond}
 use Rattle.std.proofs.Math.Decide.{dec_le}
 use Rattle.std.proofs.lemmas.List.Sums.{sum_by-cons, count_by-le-length}
-use Rattle.mm_types.specs.declared.numbers.Key.{Key}
-use Rattle.mm_types.specs.declared.numbers.Block.{Block}
-use Rattle.mm_blocks.specs.Devices.{CallFailed}
-use Rattle.mm_world.specs.World.{Page}
-use Rattle.mm_world.specs.Find.{area_at}
-use Rattle.mm_world.specs.Contents.{Tables}
-use Rattle.mm_world.specs.Keys.{shared_key}
-use Rattle.mm_pages.specs.Reports.{Served, wrote}
-use Rattle.mm_pages.specs.Store.{StoreOf}
-use Rattle.mm_sections.specs.Pages.{number_of_block}
-use Rattle.mm_tables.specs.Fits.{FitsTables}
-use Rattle.mm_tables.specs.References.{IsTidy}
-use Rattle.mm_calls.specs.Stages.{AreHeld, InBlocks}
-use Rattle.mm_blocks.proofs.Serving.{all_served_later, failed_later, named_as_before}
-use Rattle.mm_pages.proofs.Served.{served_none, served_then}
-
--- ---- faults
+use Rattle.mm_types.specs.{Answer, Key, Block}
+use Rattle.mm_types.specs.declared.answers.Answer.TheVariants as answer
+use Rattle.mm_blocks.specs.{CallFailed}
+use Rattle.mm_world.specs.{Page, area_at, Tables, shared_key}
+use Rattle.mm_pages.specs.{Ghosts as PagesGhosts, Served, wrote, StoreOf}
+use Rattle.mm_sections.specs.{number_of_block}
+use Rattle.mm_tables.proofs.{one_if}
+use Rattle.mm_tables.specs.{FitsTables, IsTidy}
+use Rattle.mm_calls.specs.{AnswersFlush, FlushesBlocks, AreHeld, InBlocks}
+use Rattle.mm_blocks.proofs.{all_served_later, failed_later, named_as_before}
+use Rattle.mm_pages.proofs.{served_none, served_then}
 
 -- ---- one page after another
 
@@ -113,10 +107,12 @@ fits_written t c d s z f e same served stored =
       named_file = omega (arith, f.named_file, named_as_before served.file_calls s.file_device z.file_device served.files);
     }
 
--- ---- a file's pages have blocks in a row
+-- a flush is answered, with the failure that it is blamed on
+pub answers_flushed : {G : Type 0} (p : PagesGhosts G) {t : Tables} {g h : G} → FitsTables t (p.contents g) (p.store g) → FlushesBlocks p g h → (a : Answer) → (a ≡ answer.Fault → CallFailed (p.store g).file_device (p.store h).file_device) → AnswersFlush p t a g h
+answers_flushed p {t = t} {g = g} {h = h} fits e a blamed =
+    assumption (fits_written t (p.contents g) (p.contents h) (p.store g) (p.store h) fits e.store e.contents e.served e.stored, blamed, e)
 
-abbrev one_if : Bool → ℕ
-one_if b = cond b 1 0
+-- ---- a file's pages have blocks in a row
 
 all_there : (pages : List (Option (Unit {0}))) (index : ℕ) → count_by is_some pages ≡ length pages → index < length pages → is_some (get_or pages index None) ≡ true
 all_there [] index all h = absurd (omega (arith, h))

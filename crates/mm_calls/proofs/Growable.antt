@@ -1,22 +1,16 @@
 -- Where a probe makes a stack grow.
 use Rattle.std.proofs.Common.{◌≡◌, ◌<◌, ◌-◌, ℕ, Bool, true, false, Option, Some, None, refl, sym, ◌∙◌, ap, not, arith, set}
 use Rattle.std.specs.Prelude.{◌==◌}
-use Rattle.mm_types.specs.declared.numbers.Key.{Key}
+use Rattle.mm_types.specs.{Key, address_of, page_of, commit_type, permits}
 use Rattle.mm_types.specs.declared.protections.Access.TheVariants as access_kind
-use Rattle.mm_types.specs.Address.{address_of, page_of}
-use Rattle.mm_types.specs.Allocation.{commit_type}
-use Rattle.mm_types.specs.Protection.{permits}
-use Rattle.mm_types.proofs.Booleans.{not_true}
-use Rattle.mm_world.specs.World.{World, WorldOf, Page, ProcessOf, StackOf, Numbered, numbered, filled}
-use Rattle.mm_world.specs.Find.{process_of, stack_by}
-use Rattle.mm_world.specs.Contents.{Tables, world_with, no_bytes, blank}
-use Rattle.mm_world.specs.Keys.{Committed, committed_at, guard_off}
-use Rattle.mm_world.specs.Outcome.{OutcomeOf}
-use Rattle.mm_world.specs.Stack.{stack, probe, grown, is_overflow}
-use Rattle.mm_world.proofs.NaturalSections.{in_stack, in_probe}
-use Rattle.mm_world.proofs.Reconstruct.{tables_back}
-use Rattle.mm_calls.specs.Growth.{has_grown, grows, guard_lowered, StackGrows}
-use Rattle.mm_calls.proofs.Growths.{same_number, is_same, put_here}
+use Rattle.mm_types.proofs.{not_true}
+use Rattle.mm_world.specs.{WorldOf, Page, ProcessOf, StackOf, Numbered, numbered, filled, process_of, stack_by, Tables, world_with, no_bytes, blank}
+use Rattle.mm_world.specs.{Committed, committed_at, guard_off, OutcomeOf, stack, probe, grown, is_overflow}
+use Rattle.mm_world.specs.World.{World}
+use Rattle.mm_world.proofs.{in_probe, tables_back, same_page as same_number, equal as is_same}
+use Rattle.mm_world.proofs.NaturalSections.{in_stack}
+use Rattle.mm_calls.specs.{has_grown, grows, guard_lowered, StackGrows}
+use Rattle.mm_calls.proofs.Growths.{put_here}
 use Rattle.mm_calls.proofs.StacksKept.{alloc_stacks}
 use Rattle.mm_calls.proofs.Touching.{at_ended, at_bare, chosen, reached, at_growth}
 

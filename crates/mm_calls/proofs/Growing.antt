@@ -2,22 +2,13 @@
 use Rattle.std.proofs.Common.{◌≡◌, ◌≤◌, ◌+◌, ◌-◌, ℕ, false, Some, sym, ◌∙◌, ap, arith, set, nat_le, nat_lt}
 use Rattle.std.specs.Prelude.{min}
 use Rattle.std.proofs.lemmas.Bool.{leb-true}
-use Rattle.mm_types.specs.declared.answers.Answer.{Answer}
-use Rattle.mm_types.specs.Address.{Range, address_of, range_of, holds_page, end_of, first_user_page, end_of_user_pages}
-use Rattle.mm_world.specs.World.{ProcessOf, RegionOf, pages_of}
-use Rattle.mm_world.specs.Find.{process_of}
-use Rattle.mm_types.specs.Allocation.{commit_type}
-use Rattle.mm_world.specs.Alloc.{alloc, commit_pages}
-use Rattle.mm_world.specs.Charge.{charge, limit}
-use Rattle.mm_world.specs.Contents.{Tables, blank}
-use Rattle.mm_world.specs.Keys.{Committed, committed_at, guard_off}
-use Rattle.mm_world.specs.Outcome.{OutcomeOf}
+use Rattle.mm_types.specs.{Answer, Range, address_of, range_of, holds_page, end_of, first_user_page, end_of_user_pages, commit_type}
+use Rattle.mm_world.specs.{ProcessOf, RegionOf, pages_of, process_of, alloc, charge, limit, Tables, blank, Committed, committed_at, guard_off}
+use Rattle.mm_world.specs.{OutcomeOf}
+use Rattle.mm_world.specs.Alloc.{commit_pages}
 use Rattle.mm_world.specs.WellFormed.{WellFormed}
-use Rattle.mm_world.proofs.AccessCharge.{charge-guard_off}
-use Rattle.mm_world.proofs.Disjoint.{is_placed}
-use Rattle.mm_world.proofs.Finding.{found_stands, committed_is}
-use Rattle.mm_world.proofs.LaidOut.{and-true}
-use Rattle.mm_tables.proofs.OneProcess.{process_set_same}
+use Rattle.mm_world.proofs.{charge-guard_off, is_placed, found_stands, committed_is, and-true}
+use Rattle.mm_tables.proofs.{process_set_same}
 use Rattle.mm_calls.proofs.Touching.{alloc_commits}
 
 module _ (t : Tables) (pid page : ℕ) (p : ProcessOf (Unit {0})) (c : Committed (Unit {0})) (lives : process_of t pid ≡ Some p) (there : committed_at t p.regions page ≡ Some c) where

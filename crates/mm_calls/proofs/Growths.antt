@@ -1,37 +1,23 @@
 -- How often a stack grows, and when it cannot.
-use Rattle.std.proofs.Common.{◌≡◌, ◌≢◌, ◌⊎◌, inl, inr, ◌≤◌, ◌<◌, ◌+◌, ◌-◌, ◌*◌, ℕ, Bool, true, false, Option, Some, None, List, [], ◌∷◌, refl, sym, ◌∙◌, ap, subst, cond, not, arith, leb, is_some, is_none, ◌&&◌, ◌||◌, set, zero, suc, get_or}
+use Rattle.std.proofs.Common.{◌≡◌, ◌≢◌, ◌⊎◌, inl, inr, ◌≤◌, ◌<◌, ◌+◌, ◌-◌, ◌*◌, ℕ, Bool, true, false, Option, Some, None, List, [], ◌∷◌, refl, sym, ◌∙◌, ap, subst, not, arith, leb, is_some, is_none, ◌&&◌, ◌||◌, set, zero, suc, get_or}
 use Rattle.std.specs.Prelude.{◌==◌, IsSomeAnd}
-use Rattle.std.specs.Cmp.{unsigned_Decides}
 use Rattle.std.proofs.lemmas.Bool.{leb-true, leb-false}
 use Rattle.std.proofs.lemmas.List.{get_or-set_same}
-use Rattle.mm_types.specs.declared.answers.Answer.{Answer}
+use Rattle.mm_types.specs.{Answer, Raise, address_of, page_of, lowest_gap, commit_type, permits}
 use Rattle.mm_types.specs.declared.answers.Answer.TheVariants as answer
-use Rattle.mm_types.specs.declared.codes.Raise.{Raise}
 use Rattle.mm_types.specs.declared.codes.Raise.TheVariants as raise
 use Rattle.mm_types.specs.declared.protections.Access.TheVariants as access_kind
-use Rattle.mm_types.specs.Address.{address_of, page_of, lowest_gap}
-use Rattle.mm_types.specs.Allocation.{commit_type}
-use Rattle.mm_types.specs.Protection.{permits}
-use Rattle.mm_world.specs.World.{World, WorldOf, Page, ProcessOf, StackOf, Numbered, numbered, filled}
-use Rattle.mm_world.specs.Find.{process_of, ranges_of, stack_by}
-use Rattle.mm_world.specs.Charge.{charge, limit}
-use Rattle.mm_world.specs.Keys.{Committed, committed_at}
-use Rattle.mm_world.specs.Outcome.{OutcomeOf}
-use Rattle.mm_world.specs.Stack.{stack, probe, is_overflow, reserve_pages, commit_pages}
-use Rattle.mm_world.proofs.Finding.{numbered_inside}
-use Rattle.mm_world.proofs.LaidOut.{and-true, or-false}
-use Rattle.mm_calls.specs.Growth.{ProbeIn, probed, has_grown, growths, guard_lowered, NothingLeft, Overflows}
+use Rattle.mm_world.specs.{WorldOf, Page, ProcessOf, StackOf, Numbered, numbered, filled, process_of, ranges_of, stack_by, charge, limit, Committed}
+use Rattle.mm_world.specs.{committed_at, OutcomeOf, stack, probe, is_overflow, reserve_pages}
+use Rattle.mm_world.specs.World.{World}
+use Rattle.mm_world.specs.Stack.{commit_pages}
+use Rattle.mm_world.proofs.{numbered_inside, equal as is_same, same_page as same_number, and-true, or-false}
+use Rattle.mm_calls.specs.{ProbeIn, probed, has_grown, growths, guard_lowered, NothingLeft, Overflows}
 use Rattle.mm_calls.proofs.Making.{at_dead, at_busy, at_few, at_no_gap, at_past, at_made}
 use Rattle.mm_calls.proofs.StacksKept.{alloc_stacks}
 use Rattle.mm_calls.proofs.Touching.{at_nobody, at_ended, at_bare, chosen, reached, at_overflow, off}
-use Rattle.mm_types.proofs.Options.{none_is}
-use Rattle.mm_types.proofs.Booleans.{one_at_most}
-
-pub same_number : (a b : ℕ) → (a == b) ≡ true → a ≡ b
-same_number a b e = (unsigned_Decides a b).0 e
-
-pub is_same : (a b : ℕ) → a ≡ b → (a == b) ≡ true
-is_same a b e = (unsigned_Decides a b).1 e
+use Rattle.mm_types.proofs.{none_is, one_at_most, or_true}
+use Rattle.mm_tables.proofs.{one_if}
 
 -- what a list has where something was put
 pub put_here : (stacks : Numbered StackOf) (tid : ℕ) (s z : StackOf) → numbered stacks tid ≡ Some s → numbered (set stacks tid (Some z)) tid ≡ Some z
@@ -128,9 +114,6 @@ told w tid addr guard e = by_stack (stack_by w tid) refl
     by_stack (Some s) has = told_in w tid guard s (probe filled w tid addr) has (cases w tid addr s has) e
 
 -- ---- how often it grows
-
-abbrev one_if : Bool → ℕ
-one_if b = cond b 1 0
 
 same_guard : (s : StackOf) → has_grown (Some s) (Some s) ≡ false
 same_guard s = ap not (is_same s.guard_page s.guard_page refl)
@@ -259,10 +242,6 @@ module _ (w : World) (p : ProcessOf Page) (s : StackOf) where
   pub overflows : NothingLeft w p s → is_overflow w p s ≡ true
   overflows (inl e) = ap (λ b. b || (bare && full)) (is_same (s.guard_page - 1) s.base e)
   overflows (inr h) = (λ i. last || (is_none (h.0 i) && is_same (charge w) (limit w) h.1 i)) ∙ or_true last
-    where
-      or_true : (b : Bool) → (b || true) ≡ true
-      or_true true = refl
-      or_true false = refl
 
 module _ (w : World) (tid addr : ℕ) (e : (probe filled w tid addr).answer ≡ answer.Raised raise.StackOverflow) where
   raised : (a : Answer) → (probe filled w tid addr).answer ≡ a → a ≡ answer.Raised raise.StackOverflow

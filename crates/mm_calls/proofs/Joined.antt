@@ -1,16 +1,12 @@
 -- Two steps of which no key goes in the first.
 use Rattle.std.proofs.Common.{◌≡◌, inl, inr, ℕ, true, false, Option, Some, None, List, refl, sym, ◌∙◌, ap, is_some}
-use Rattle.mm_types.specs.declared.numbers.Key.{Key}
+use Rattle.mm_types.specs.{Key}
 use Rattle.mm_types.specs.declared.numbers.Key.TheVariants as key
-use Rattle.mm_types.proofs.Cells.{same_or_not}
-use Rattle.mm_world.specs.World.{Page, ProcessOf, RegionOf}
-use Rattle.mm_world.specs.Find.{process_of, set_regions}
-use Rattle.mm_world.specs.Contents.{Tables}
-use Rattle.mm_world.specs.Keys.{content_of, own_page}
-use Rattle.mm_pages.specs.Store.{StoreOf}
-use Rattle.mm_tables.specs.Fits.{FitsTables, Settled, Carried}
-use Rattle.mm_tables.proofs.EndingFits.{beside_then}
-use Rattle.mm_tables.proofs.OneProcess.{regions_in, content_is, regions_of_process, regions_set_same, regions_set_other}
+use Rattle.mm_types.proofs.{same_or_not}
+use Rattle.mm_world.specs.{Page, ProcessOf, RegionOf, process_of, set_regions, Tables, content_of, own_page}
+use Rattle.mm_pages.specs.{StoreOf}
+use Rattle.mm_tables.specs.{FitsTables, Settled, Carried}
+use Rattle.mm_tables.proofs.{beside_then, regions_in, content_is, regions_of_process, regions_set_same, regions_set_other}
 
 -- each key that lives in the first tables lives in the others
 abbrev pub Lasts : Tables → Tables → Type 0

@@ -6,18 +6,14 @@ use Rattle.std.proofs.lemmas.Bool.{leb-true, le-leb}
 use Rattle.std.proofs.lemmas.List.Sums.{sum_by-append, sum_by-cons, sum_by-insert}
 use Rattle.mm_types.specs.declared.answers.Answer.TheVariants as answer
 use Rattle.mm_types.specs.declared.codes.Code.TheVariants as code
-use Rattle.mm_types.specs.Address.{Range, address_of, lowest_gap, are_user_pages, first_user_page, end_of, end_of_user_pages}
-use Rattle.mm_world.specs.World.{WorldOf, RegionOf, RowOf, ProcessOf, StackOf}
-use Rattle.mm_world.specs.Find.{process_of, ranges_of, add_region, set_regions, stack_by, set_stack}
-use Rattle.mm_world.specs.Charge.{charge, limit, region_charge}
-use Rattle.mm_world.specs.Outcome.{OutcomeOf, done, refused, need, find_or, within_limit}
-use Rattle.mm_world.specs.Rows.{reserved_row, commit}
-use Rattle.mm_world.specs.Stack.{stack, made, stack_region, reserve_pages, commit_pages}
-use Rattle.mm_world.proofs.Charges.{charge-set_regions}
-use Rattle.mm_world.proofs.LaidOut.{and-true}
-use Rattle.mm_tables.proofs.Lists.{count-replicate}
-use Rattle.mm_world.proofs.Outcomes.{at_alive, at_met, at_unmet, at_found, at_missing, at_room, at_limit}
-use Rattle.mm_types.proofs.Booleans.{not_true}
+use Rattle.mm_types.specs.{Range, address_of, lowest_gap, are_user_pages, first_user_page, end_of, end_of_user_pages}
+use Rattle.mm_world.specs.{WorldOf, RegionOf, RowOf, ProcessOf, StackOf, process_of, ranges_of, add_region, set_regions, stack_by, set_stack, charge}
+use Rattle.mm_world.specs.{limit, region_charge, OutcomeOf, done, refused, need, find_or, within_limit, reserved_row, commit, stack, made}
+use Rattle.mm_world.specs.{stack_region, reserve_pages}
+use Rattle.mm_world.specs.Stack.{commit_pages}
+use Rattle.mm_world.proofs.{charge-set_regions, and-true, at_alive, at_met, at_unmet, at_found, at_missing, at_room, at_limit}
+use Rattle.mm_tables.proofs.{count-replicate}
+use Rattle.mm_types.proofs.{not_true}
 
 module _ {B : Type 0} (fill : ℕ → B) where
   -- the pages that are committed, and the guard page

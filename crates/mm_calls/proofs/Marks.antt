@@ -2,18 +2,11 @@
 use Rattle.std.proofs.Common.{◌≡◌, ◌<◌, ℕ, true, false, Some, sym, ◌∙◌, ap, nat_lt, arith}
 use Rattle.std.proofs.lemmas.Bool.{ltb-false}
 use Rattle.mm_types.specs.declared.codes.Code.TheVariants as code
-use Rattle.mm_types.specs.declared.numbers.Key.{Key}
-use Rattle.mm_types.specs.Address.{range_of}
-use Rattle.mm_world.specs.World.{Page, ProcessOf}
-use Rattle.mm_world.specs.Charge.{charge}
-use Rattle.mm_world.specs.Find.{process_of}
-use Rattle.mm_world.specs.Contents.{Tables, no_bytes, world_with}
-use Rattle.mm_world.specs.Outcome.{OutcomeOf}
-use Rattle.mm_world.specs.Protect.{protect, are_protect_parameters}
-use Rattle.mm_world.proofs.Natural.{in_protect, same_charge}
-use Rattle.mm_world.proofs.Outcomes.{at_found, at_met}
-use Rattle.mm_world.proofs.Reconstruct.{tables_back}
-use Rattle.mm_calls.specs.Marking.{protect_pages, marks_anew}
+use Rattle.mm_types.specs.{Key, range_of}
+use Rattle.mm_world.specs.{Page, ProcessOf, charge, process_of, Tables, no_bytes, world_with, OutcomeOf, protect, are_protect_parameters}
+use Rattle.mm_world.proofs.{same_charge, at_found, at_met, tables_back}
+use Rattle.mm_world.proofs.Natural.{in_protect}
+use Rattle.mm_calls.specs.{protect_pages, marks_anew}
 
 -- once its parameters were found right, where the charge rises
 pub marks_there : (t : Tables) (pid addr size prot : ℕ) (p : ProcessOf (Unit {0}))

@@ -2,25 +2,16 @@
 use Rattle.std.proofs.Common.{◌≡◌, ℕ, ◌++◌, length, Bool, true, false, Option, Some, None, List, [], ◌∷◌, refl, ◌∙◌, ap, subst, cond, is_some, option_map, not, nat_le, ◌&&◌}
 use Rattle.std.specs.Prelude.{option_and_then, find, bytes_eq, Result, Ok, Err, IfOk, ◌==◌}
 use Rattle.std.proofs.lemmas.List.Quantifiers.{position-Some}
-use Rattle.mm_types.specs.declared.answers.Answer.{Answer}
+use Rattle.mm_types.specs.{Answer, NoMemory, Area, Key, SectionId, Text}
 use Rattle.mm_types.specs.declared.answers.Answer.TheVariants as answer
 use Rattle.mm_types.specs.declared.codes.Code.TheVariants as code
-use Rattle.mm_types.specs.declared.faults.NoMemory.{NoMemory}
-use Rattle.mm_types.specs.declared.numbers.Area.{Area}
-use Rattle.mm_types.specs.declared.numbers.Key.{Key}
-use Rattle.mm_types.specs.declared.numbers.SectionId.{SectionId}
-use Rattle.mm_types.specs.Spelling.{Text}
-use Rattle.mm_world.specs.World.{Page, ProcessOf, SectionOf, FileOf, filled}
-use Rattle.mm_world.specs.Find.{process_of, section_of, section_named, is_named, area_at}
-use Rattle.mm_world.specs.Contents.{Tables, blank, BytesAfter}
-use Rattle.mm_world.specs.Outcome.{done, within_limit}
-use Rattle.mm_world.specs.Sections.{create, handle_or, next_handle, with_handle, file_named, new_section, paging_area, section_prot, are_section_flags, largest_section}
-use Rattle.mm_world.specs.WellFormed.{Each}
-use Rattle.mm_pages.specs.Store.{StoreOf}
-use Rattle.mm_sections.specs.Directories.{id_of, area_of}
-use Rattle.mm_tables.specs.Fits.{FitsTables, Called, Settled, CarriesPages, key_bytes}
-use Rattle.mm_tables.specs.References.{IsTidy}
-use Rattle.mm_world.proofs.Outcomes.{at_alive, at_met}
+use Rattle.mm_world.specs.{Page, ProcessOf, SectionOf, FileOf, filled, process_of, section_of, section_named, is_named, area_at, Tables, blank}
+use Rattle.mm_world.specs.{BytesAfter, done, within_limit, create, handle_or, next_handle, with_handle, file_named, new_section, paging_area}
+use Rattle.mm_world.specs.{section_prot, are_section_flags, largest_section, Each}
+use Rattle.mm_pages.specs.{StoreOf}
+use Rattle.mm_sections.specs.{id_of, area_of}
+use Rattle.mm_tables.specs.{FitsTables, Called, Settled, CarriesPages, key_bytes, IsTidy}
+use Rattle.mm_world.proofs.{at_alive, at_met}
 
 named_lives : (t : Tables) (name : Text) (n : ℕ) → section_named t name ≡ Some n → is_some (section_of t n) ≡ true
 named_lives t name n e = by_section (section_of t n) (position-Some (is_named name) t.sections n None e).1

@@ -2,15 +2,12 @@
 use Rattle.std.proofs.Common.{◌≡◌, ℕ, ◌+◌, Bool, true, false, Option, Some, None, List, [], ◌∷◌, zero, suc, refl, sym, ◌∙◌, ap, cond, arith, length, slice_get, is_some, nat_lt, ◌&&◌, unwrap_or}
 use Rattle.std.specs.Prelude.{◌==◌, ◌%◌}
 use Rattle.std.specs.Cmp.{unsigned_Decides}
-use Rattle.mm_types.specs.declared.numbers.Area.{Area}
-use Rattle.mm_types.specs.declared.numbers.Key.{Key}
+use Rattle.mm_types.specs.{Area, Key}
 use Rattle.mm_types.specs.declared.numbers.Key.TheVariants as key
-use Rattle.mm_world.specs.World.{Page, AreaOf, filled, numbered}
-use Rattle.mm_world.specs.Find.{no_area}
-use Rattle.mm_world.specs.Contents.{Tables, BytesAfterFile, file_bytes}
-use Rattle.mm_world.proofs.LaidOut.{and-true}
-use Rattle.mm_pages.specs.Store.{StoreOf, with_file}
-use Rattle.mm_tables.specs.Fits.{FitsTables, key_bytes}
+use Rattle.mm_world.specs.{Page, AreaOf, filled, numbered, no_area, Tables, BytesAfterFile, file_bytes}
+use Rattle.mm_world.proofs.{and-true}
+use Rattle.mm_pages.specs.{StoreOf, with_file}
+use Rattle.mm_tables.specs.{FitsTables, key_bytes}
 
 abbrev AfterFile : Option Page → Option Page → Page → Type 0
 AfterFile o q x = unwrap_or q (filled 0) ≡ cond (is_some o && is_some q) (unwrap_or o (filled 0)) (cond (is_some q) x (filled 0))

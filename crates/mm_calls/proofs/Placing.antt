@@ -1,50 +1,25 @@
 -- Views that are made, found and flushed.
-use Rattle.std.proofs.Common.{◌≡◌, ◌≤◌, ◌<◌, ◌+◌, ◌-◌, ℕ, zero, suc, Bool, true, false, Option, Some, None, List, refl, sym, ◌∙◌, ap, cond, arith, length, not, nat_lt, nat_le, ◌&&◌, replicate, count_by, option_map, is_some}
+use Rattle.std.proofs.Common.{◌≡◌, ◌≤◌, ◌<◌, ◌+◌, ◌-◌, ℕ, Bool, true, false, Option, Some, None, List, refl, sym, ◌∙◌, ap, cond, arith, length, not, nat_lt, nat_le, ◌&&◌, count_by, option_map, is_some}
 use Rattle.std.proofs.lemmas.Bool.{leb-true}
-use Rattle.std.proofs.lemmas.List.Sums.{sum_by-cons, sum_by-insert}
+use Rattle.std.proofs.lemmas.List.Sums.{sum_by-insert}
 use Rattle.mm_types.specs.declared.answers.Answer.TheVariants as answer
 use Rattle.mm_types.specs.declared.codes.Code.TheVariants as code
 use Rattle.mm_types.specs.declared.views.Kind.TheVariants as kind
-use Rattle.mm_types.specs.declared.views.View.{View}
-use Rattle.mm_types.specs.declared.views.ViewAccess.{ViewAccess}
-use Rattle.mm_types.specs.Address.{Range, address_of, page_of, end_of, lies_within}
-use Rattle.mm_world.specs.World.{RowOf, RegionOf, ProcessOf, SectionOf, pages_of}
-use Rattle.mm_world.specs.Find.{Found, first_where, process_of, add_region, ranges_of, set_regions, placed, area_at, is_private}
-use Rattle.mm_world.specs.Charge.{charge, limit, region_charge}
-use Rattle.mm_world.specs.Contents.{Tables}
-use Rattle.mm_world.specs.Outcome.{done, refused}
-use Rattle.mm_world.specs.Views.{view_region, is_copy, first_protection, view_around}
-use Rattle.mm_world.specs.WellFormed.{WellFormed, RegionRefers, ViewFits}
-use Rattle.mm_world.proofs.Charges.{charge-set_regions}
-use Rattle.mm_world.proofs.Each.{each-at}
-use Rattle.mm_world.proofs.Finding.{Stands, found_stands}
-use Rattle.mm_world.proofs.LaidOut.{and-true}
-use Rattle.mm_spaces.specs.declared.spaces.RegionInfo.{RegionInfo}
-use Rattle.mm_spaces.specs.Tables.{found_info}
-use Rattle.mm_calls.specs.Stages.{place_view}
-use Rattle.mm_world.proofs.Outcomes.{at_found, at_missing, at_room, at_limit}
+use Rattle.mm_types.specs.{View, ViewAccess, Range, address_of, page_of, end_of, lies_within}
+use Rattle.mm_world.specs.{RowOf, RegionOf, ProcessOf, SectionOf, pages_of, Found, first_where, process_of, add_region, ranges_of, set_regions}
+use Rattle.mm_world.specs.{placed, area_at, is_private, charge, region_charge, Tables, refused, view_region, is_copy, first_protection, view_around}
+use Rattle.mm_world.specs.{RegionRefers, ViewFits}
+use Rattle.mm_world.specs.WellFormed.{WellFormed}
+use Rattle.mm_world.proofs.{charge-set_regions, each-at, Stands, found_stands, and-true, at_found, at_missing}
+use Rattle.mm_spaces.specs.{RegionInfo, found_info}
+use Rattle.mm_tables.proofs.{count-replicate, not-true}
+use Rattle.mm_calls.specs.{place_view}
+use Rattle.mm_calls.proofs.Around.{told_is}
+use Rattle.mm_calls.proofs.Exits.{ChangesWithin}
 
 -- ---- a new view
 
-abbrev one_if : Bool → ℕ
-one_if b = cond b 1 0
-
-count-replicate : {A : Type 0} (test : A → Bool) (n : ℕ) (x : A) → count_by test (replicate n x) ≡ cond (test x) n 0
-count-replicate test zero x = by_test (test x)
-  where
-    by_test : (b : Bool) → ◌≡◌ {A = ℕ} 0 (cond b 0 0)
-    by_test true = refl
-    by_test false = refl
-count-replicate test (suc n) x = omega (arith, sum_by-cons (λ (x : _). one_if (test x)) x (replicate n x), count-replicate test n x, by_test (test x))
-  where
-    by_test : (b : Bool) → one_if b + cond b n 0 ≡ cond b (suc n) 0
-    by_test true = omega arith
-    by_test false = refl
-
 module _ (t : Tables) (pid : ℕ) (p : ProcessOf (Unit {0})) (s : Found SectionOf) (access : ViewAccess) (first : ℕ) (range : Range) (lives : process_of t pid ≡ Some p) where
-  abbrev new : RegionOf (Unit {0})
-  new = view_region s access first range
-
   view_charge : charge (set_regions t pid p (add_region (view_region s access first range) p.regions)) ≡ charge t + cond (is_copy access) range.count 0
   view_charge =
       let i = count_by (λ (r : RegionOf (Unit {0})). nat_lt r.base range.first) p.regions in
@@ -52,15 +27,9 @@ module _ (t : Tables) (pid : ℕ) (p : ProcessOf (Unit {0})) (s : Found SectionO
       let rows : region_charge (view_region s access first range) ≡ cond (is_copy access) range.count 0 = count-replicate (λ (row : RowOf (Unit {0})). row.marked) range.count row in
       omega (arith, charge-set_regions t pid p (add_region (view_region s access first range) p.regions) lives, sum_by-insert region_charge p.regions i (view_region s access first range), rows)
 
-  pub place_made : (count addr : ℕ) → placed (ranges_of p.regions) addr (record { first = page_of addr; count = count }) count ≡ Some range → charge t + cond (is_copy access) range.count 0 ≤ limit t → place_view t pid p s access first count addr ≡ done (answer.At (address_of range.first)) (set_regions t pid p (add_region (view_region s access first range) p.regions))
-  place_made count addr found room =
-      at_found t code.InvalidAddress (placed (ranges_of p.regions) addr (record { first = page_of addr; count = count }) count) range _ found
-      ∙ at_room t (done (answer.At (address_of range.first)) (set_regions t pid p (add_region (view_region s access first range) p.regions))) (omega (arith, view_charge, room))
-
-  pub place_refused : (count addr : ℕ) → placed (ranges_of p.regions) addr (record { first = page_of addr; count = count }) count ≡ Some range → limit t < charge t + cond (is_copy access) range.count 0 → place_view t pid p s access first count addr ≡ refused t code.CommitmentLimit
-  place_refused count addr found past =
-      at_found t code.InvalidAddress (placed (ranges_of p.regions) addr (record { first = page_of addr; count = count }) count) range _ found
-      ∙ at_limit t (done (answer.At (address_of range.first)) (set_regions t pid p (add_region (view_region s access first range) p.regions))) (omega (arith, view_charge, past))
+  pub place_within : (count addr : ℕ) → placed (ranges_of p.regions) addr (record { first = page_of addr; count = count }) count ≡ Some range → ChangesWithin (place_view t pid p s access first count addr) t (cond (is_copy access) range.count 0) (answer.At (address_of range.first)) (set_regions t pid p (add_region (view_region s access first range) p.regions))
+  place_within count addr found =
+      record { is = at_found t code.InvalidAddress (placed (ranges_of p.regions) addr (record { first = page_of addr; count = count }) count) range _ found; total = view_charge; same_limit = refl }
 
 -- no range was found
 pub place_missing : (t : Tables) (pid : ℕ) (p : ProcessOf (Unit {0})) (s : Found SectionOf) (access : ViewAccess) (first count addr : ℕ) → placed (ranges_of p.regions) addr (record { first = page_of addr; count = count }) count ≡ None → place_view t pid p s access first count addr ≡ refused t code.InvalidAddress
@@ -72,17 +41,6 @@ placed_there rs qs addr count told range same e is = ap (λ rs. placed (ranges_o
 
 -- ---- what is told of a view
 
-pub record IsTold (o : Option (Found (RegionOf (Unit {0})))) (told : RegionInfo) : Type 0 where
-  pub region : Found (RegionOf (Unit {0}))
-  pub found : o ≡ Some region
-  pub is : found_info region ≡ told
-
-told_is : (o : Option (Found (RegionOf (Unit {0})))) (told : RegionInfo) → option_map found_info o ≡ Some told → IsTold o told
-told_is None told e = cc
-told_is (Some r) told e =
-    let same : found_info r ≡ told = cc in
-    record { region = r; found = refl; is = same }
-
 pub told_none : (o : Option (Found (RegionOf (Unit {0})))) → option_map found_info o ≡ None → o ≡ None
 told_none None e = refl
 told_none (Some r) e = cc
@@ -92,17 +50,14 @@ pub told_view : (test : RegionOf (Unit {0}) → Bool) (rs : List (RegionOf (Unit
 told_view test rs told e =
     let r = told_is (first_where (λ (r : RegionOf (Unit {0})). not (is_private r.kind) && test r) rs) told e in
     let stands = found_stands (λ (r : RegionOf (Unit {0})). not (is_private r.kind) && test r) rs r.region r.found in
-    ap (λ (i : RegionInfo). is_private i.kind) (sym r.is) ∙ not-true (is_private r.region.thing.kind) (and-true (not (is_private r.region.thing.kind)) (test r.region.thing) stands.passes).0
-  where
-    not-true : (b : Bool) → not b ≡ true → b ≡ false
-    not-true true e = cc
-    not-true false e = refl
+    ap is_private (sym r.kind) ∙ not-true (is_private r.region.thing.kind) (and-true (not (is_private r.region.thing.kind)) (test r.region.thing) stands.passes).0
 
 -- a range lies in a view, which lies in its section
 pub record TellsView (t : Tables) (rs : List (RegionOf (Unit {0}))) (range : Range) (told : RegionInfo) (v : View) : Type 0 where
   pub region : Found (RegionOf (Unit {0}))
   pub found : view_around rs range ≡ Some region
-  pub is : found_info region ≡ told
+  pub pages : pages_of region.thing ≡ told.pages
+  pub kind : region.thing.kind ≡ kind.View v
   pub low : told.pages.first ≤ range.first
   pub high : end_of range ≤ end_of told.pages
   pub made : v.area.0 < length t.areas
@@ -115,14 +70,15 @@ tells_view t pid p range told v lives h e is =
     found_stands (λ (r : RegionOf (Unit {0})). not (is_private r.kind) && lies_within range (pages_of r)) p.regions r.region r.found in
     let inside = (and-true (not (is_private r.region.thing.kind)) (lies_within range (pages_of r.region.thing)) stands.passes).1 in
     let ends = and-true (nat_le r.region.thing.base range.first) (nat_le (end_of range) (end_of (pages_of r.region.thing))) inside in
-    let first : r.region.thing.base ≡ told.pages.first = ap (λ (i : RegionInfo). i.pages.first) r.is in
-    let count : length r.region.thing.rows ≡ told.pages.count = ap (λ (i : RegionInfo). i.pages.count) r.is in
-    let view : r.region.thing.kind ≡ kind.View v = ap (λ (i : RegionInfo). i.kind) r.is ∙ is in
+    let first : r.region.thing.base ≡ told.pages.first = ap (λ (q : Range). q.first) r.pages in
+    let count : length r.region.thing.rows ≡ told.pages.count = ap (λ (q : Range). q.count) r.pages in
+    let view : r.region.thing.kind ≡ kind.View v = r.kind ∙ is in
     let fits : ViewFits t v (length r.region.thing.rows) = each-at (RegionRefers t) p.regions r.region.place r.region.thing (h.references.processes pid p lives).views stands.there v view in
     record {
       region = r.region;
       found = r.found;
-      is = r.is;
+      pages = r.pages;
+      kind = r.kind ∙ is;
       low = omega (arith, leb-true _ _ ends.0, first);
       high = omega (arith, leb-true _ _ ends.1, first, count);
       made = omega (arith, h.references.sections v.section.0 fits.section fits.lives, fits.same_area);

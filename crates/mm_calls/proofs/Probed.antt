@@ -1,33 +1,18 @@
 -- What a `probe` line comes to, from what the tables told of the page.
 use Rattle.std.proofs.Common.{◌≡◌, ◌≢◌, ◌<◌, ◌-◌, ℕ, true, false, Option, Some, refl, sym, ◌∙◌, ap}
 use Rattle.std.specs.Prelude.{◌==◌}
-use Rattle.mm_types.specs.declared.answers.Answer.{Answer}
+use Rattle.mm_types.specs.{Answer, Key, address_of, page_of, commit_type}
 use Rattle.mm_types.specs.declared.answers.Answer.TheVariants as answer
 use Rattle.mm_types.specs.declared.codes.Raise.TheVariants as raise
-use Rattle.mm_types.specs.declared.numbers.Key.{Key}
-use Rattle.mm_types.specs.Address.{address_of, page_of}
-use Rattle.mm_types.specs.Allocation.{commit_type}
-use Rattle.mm_world.specs.World.{Page, ProcessOf, StackOf}
-use Rattle.mm_world.specs.Find.{process_of, stack_by, set_stack}
-use Rattle.mm_world.specs.Contents.{Tables, blank}
-use Rattle.mm_world.specs.Keys.{Committed, committed_at, guard_off}
-use Rattle.mm_world.specs.Outcome.{done}
-use Rattle.mm_world.specs.Stack.{probe, grown, is_overflow}
-use Rattle.mm_world.specs.Alloc.{alloc}
-use Rattle.mm_pages.specs.Store.{StoreOf}
-use Rattle.mm_tables.specs.declared.looks.CommittedRow.{CommittedRow}
-use Rattle.mm_tables.specs.Fits.{FitsTables, Settled}
-use Rattle.mm_tables.specs.Looks.{committed_row}
-use Rattle.mm_tables.proofs.Carried.{carries_same}
-use Rattle.mm_calls.specs.Growth.{grows, guard_lowered}
+use Rattle.mm_world.specs.{Page, ProcessOf, StackOf, process_of, stack_by, set_stack, Tables, blank, Committed, committed_at, guard_off, done, probe}
+use Rattle.mm_world.specs.{grown, is_overflow, alloc}
+use Rattle.mm_pages.specs.{StoreOf}
+use Rattle.mm_tables.specs.{CommittedRow, FitsTables, Settled, committed_row}
+use Rattle.mm_calls.specs.{grows, guard_lowered}
 use Rattle.mm_calls.proofs.Growable.{grows_by}
-use Rattle.mm_calls.proofs.Growths.{is_same, same_number}
+use Rattle.mm_world.proofs.{equal as is_same, same_page as same_number}
 use Rattle.mm_calls.proofs.Touching.{IsTold, told, at_other, at_overflow, at_growth}
-use Rattle.mm_types.proofs.Booleans.{not_true}
-
--- a guard is off, and the store is as before
-pub settled_off : (v : Tables) (c : Key → Option Page) (s : StoreOf) → FitsTables v c s → Settled v c c s s
-settled_off v c s f = record { fits = f; carries = carries_same c c refl; rest = refl }
+use Rattle.mm_types.proofs.{not_true}
 
 -- other tables, which any store fits that fits these
 pub settled_then : (u v : Tables) (c d : Key → Option Page) (s z : StoreOf) → ((c : Key → Option Page) (s : StoreOf) → FitsTables u c s → FitsTables v c s) → Settled u c d s z → Settled v c d s z
@@ -41,15 +26,24 @@ pub takes_off : (t : Tables) (pid n page m : ℕ) (v : Tables) → n ≡ pid →
 takes_off t pid n page m v ns ms h p c lives there =
     h p c (ap (λ (n : ℕ). process_of t n) ns ∙ lives) (ap (λ (m : ℕ). committed_at t p.regions m) ms ∙ there) ∙ (λ i. guard_off t (ns i) p c (ms i))
 
-module _ (t : Tables) (tid addr : ℕ) (s : StackOf) (has : stack_by t tid ≡ Some s) (row : CommittedRow) (at : committed_row t s.pid (page_of addr) ≡ Some row) (on : row.guard ≡ true) where
+-- the thread has this stack, and the page of the address has this row, with its guard on
+pub record MeetsGuard (t : Tables) (tid addr : ℕ) (s : StackOf) (row : CommittedRow) : Type 0 where
+  pub has : stack_by t tid ≡ Some s
+  pub at : committed_row t s.pid (page_of addr) ≡ Some row
+  pub on : row.guard ≡ true
+
+module _ (t : Tables) (tid addr : ℕ) (s : StackOf) (row : CommittedRow) (meets : MeetsGuard t tid addr s row) where
   abbrev page : ℕ
   page = page_of addr
 
+  has : stack_by t tid ≡ Some s
+  has = meets.has
+
   is : IsTold t s.pid page row
-  is = told t s.pid page row at
+  is = told t s.pid page row meets.at
 
   guarded : is.committed.row.guard ≡ true
-  guarded = is.guard ∙ on
+  guarded = is.guard ∙ meets.on
 
   pub of_other : page ≢ s.guard_page → (v : Tables) → TakesOff t s.pid page v → probe blank t tid addr ≡ record { answer = answer.Raised raise.GuardPage; world = v }
   of_other other v off =

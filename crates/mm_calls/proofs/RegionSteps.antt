@@ -2,30 +2,23 @@
 use Rattle.std.proofs.Common.{◌≡◌, ◌≤◌, ◌+◌, ◌-◌, ℕ, true, false, Some, Bool, List, ◌∷◌, ◌++◌, refl, ◌∙◌, ap, arith, cond, length, replicate, take, drop, set, slice_get, count_by, nat_lt}
 use Rattle.std.proofs.lemmas.List.{set-set, length-replicate}
 use Rattle.std.proofs.lemmas.List.Sums.{count_by-le-length}
-use Rattle.mm_types.proofs.Cells.{get_set_same, get_within}
+use Rattle.mm_types.proofs.{get_set_same, get_within}
 use Rattle.mm_types.specs.declared.views.Kind.TheVariants as kind
-use Rattle.mm_types.specs.Address.{Range, is_free, end_of, end_of_user_pages}
-use Rattle.mm_world.specs.World.{RegionOf, RowOf, ProcessOf, pages_of}
-use Rattle.mm_world.specs.Find.{Found, process_of, region_around, ranges_of, change_range, set_regions, set_region, add_region, is_private}
-use Rattle.mm_types.specs.Allocation.{reserve_type}
-use Rattle.mm_world.specs.Charge.{charge}
-use Rattle.mm_world.specs.Contents.{Tables, blank}
-use Rattle.mm_world.specs.Rows.{reserved_row, commit, change_rows}
-use Rattle.mm_world.specs.Stack.{stack_region}
+use Rattle.mm_types.specs.{Range, is_free, end_of, end_of_user_pages, reserve_type}
+use Rattle.mm_world.specs.{RegionOf, RowOf, ProcessOf, pages_of, Found, process_of, region_around, ranges_of, change_range, set_regions, set_region}
+use Rattle.mm_world.specs.{add_region, is_private, charge, Tables, blank, reserved_row, commit, change_rows, stack_region}
 use Rattle.mm_world.specs.WellFormed.{WellFormed}
-use Rattle.mm_world.proofs.Disjoint.{is_placed}
-use Rattle.mm_world.proofs.RowsFit.{length-change_range}
-use Rattle.mm_spaces.specs.Tables.{owned_in}
-use Rattle.mm_tables.proofs.OneProcess.{process_set_same, process_is}
+use Rattle.mm_world.proofs.{is_placed, length-change_range, Inside}
+use Rattle.mm_spaces.specs.{owned_in}
+use Rattle.mm_tables.proofs.{process_set_same, process_is}
 use Rattle.mm_tables.proofs.Regional as regional
 use Rattle.mm_tables.proofs.Rows as rows
 use Rattle.mm_calls.proofs.Around.{around, around_is, has_own}
 use Rattle.mm_calls.proofs.Counts.{commit_charge}
-use Rattle.mm_calls.specs.Regions.{IsReserved, IsUncommitted, reserved_region}
+use Rattle.mm_calls.specs.{IsReserved, IsUncommitted, reserved_region}
 use Rattle.mm_calls.proofs.Making.{user_end}
 use Rattle.mm_calls.proofs.Joined.{Lasts, lasts_regions}
 use Rattle.mm_calls.proofs.RowLists.{top_changed, one_changed, one_there, none_of_equal, set-insert, get-insert}
-use Rattle.mm_world.proofs.Ranges.{Inside}
 
 abbrev Row : Type 0
 Row = RowOf (Unit {0})
@@ -182,7 +175,7 @@ module _ (t : Tables) (pid : ℕ) (p : ProcessOf (Unit {0})) (range : Range) (li
   pub lasts_reserve : (t' : Tables) → t' ≡ set_regions t pid p regions' → Lasts t t'
   lasts_reserve t' is =
       lasts_regions t t' pid p regions' lives is (λ at own.
-      (regional.reserve_moves t pid p false reserve_type 0x04 range lives free (record { 0 = pid }) refl).owned at ∙ own)
+      (regional.reserve_moves t pid p false reserve_type 0x04 range lives free (record { 0 = pid })).owned at ∙ own)
 
   -- the region has become the stack
   pub stack_made : (top : ℕ) (t' u : Tables) → t' ≡ set_regions t pid p regions' → u ≡ set_region t' pid (record p { regions = regions' }) place (stack_region blank range.first range.count top) → u ≡ set_regions t pid p (add_region (stack_region blank range.first range.count top) p.regions)

@@ -1,9 +1,9 @@
 -- Lists of which some last elements are changed.
 use Rattle.std.proofs.Common.{◌≡◌, ◌≤◌, ◌+◌, ℕ, zero, suc, Bool, false, List, [], ◌∷◌, ◌++◌, refl, ◌∙◌, ap, arith, cond, length, replicate, take, drop, map, set, slice_get, Some, count_by}
 use Rattle.std.specs.Prelude.{insert}
-use Rattle.mm_world.specs.Find.{change_range}
-use Rattle.mm_world.proofs.Charges.{sum_by-split}
-use Rattle.mm_tables.proofs.Lists.{count-replicate}
+use Rattle.mm_world.specs.{change_range}
+use Rattle.mm_world.proofs.{sum_by-split}
+use Rattle.mm_tables.proofs.{count-replicate}
 
 module _ {A : Type 0} where
   all_changed : (f : A → A) (c : ℕ) (x : A) → map f (take c (replicate c x)) ++ drop c (replicate c x) ≡ replicate c (f x)

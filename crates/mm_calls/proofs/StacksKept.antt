@@ -1,15 +1,9 @@
 -- `alloc` leaves the stacks of all threads.
 use Rattle.std.proofs.Common.{◌≡◌, ℕ, Bool, List, refl}
-use Rattle.mm_types.specs.declared.answers.Answer.{Answer}
-use Rattle.mm_types.specs.declared.codes.Code.{Code}
-use Rattle.mm_types.specs.declared.views.Kind.{Kind}
+use Rattle.mm_types.specs.{Answer, Code, Kind, Range}
 use Rattle.mm_types.specs.declared.views.Kind.TheVariants as kind
-use Rattle.mm_types.specs.Address.{Range}
-use Rattle.mm_world.specs.World.{WorldOf, RegionOf, ProcessOf, AreaOf}
-use Rattle.mm_world.specs.Find.{Found, set_regions, set_area}
-use Rattle.mm_world.specs.Outcome.{OutcomeOf, done, refused}
-use Rattle.mm_world.specs.Alloc.{alloc, reserve, commit_in}
-use Rattle.mm_world.proofs.Tables.{Holds, tables}
+use Rattle.mm_world.specs.{WorldOf, RegionOf, ProcessOf, AreaOf, Found, set_regions, set_area, OutcomeOf, done, refused, alloc, reserve, commit_in}
+use Rattle.mm_world.proofs.{Holds, tables}
 
 pub record LeavesStacks {B : Type 0} (w : WorldOf B) (o : OutcomeOf B) : Type 0 where
   pub same : o.world.stacks ≡ w.stacks

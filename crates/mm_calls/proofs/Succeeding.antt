@@ -4,52 +4,33 @@ use Rattle.std.specs.Prelude.{◌==◌}
 use Rattle.std.proofs.lemmas.Bool.{leb-true, leb-false}
 use Rattle.std.proofs.lemmas.List.{length-set}
 use Rattle.std.proofs.lemmas.Option.{get_or_from_slice_get}
-use Rattle.mm_types.proofs.Cells.{get_set_same, get_set_other, get_within}
+use Rattle.mm_types.proofs.{get_set_same, get_set_other, get_within}
 use Rattle.mm_types.specs.declared.answers.Answer.TheVariants as answer
 use Rattle.mm_types.specs.declared.codes.Code.TheVariants as code
-use Rattle.mm_types.specs.declared.views.Kind.{Kind}
+use Rattle.mm_types.specs.{Kind, Range, address_of, range_of, holds_page, commit_type}
 use Rattle.mm_types.specs.declared.views.Kind.TheVariants as kind
-use Rattle.mm_types.specs.Address.{Range, address_of, range_of, holds_page}
-use Rattle.mm_world.specs.World.{World, StackOf, Page, ProcessOf, RegionOf, filled, pages_of}
-use Rattle.mm_world.specs.Find.{Found, process_of, region_around, set_region, is_private}
-use Rattle.mm_types.specs.Allocation.{commit_type}
-use Rattle.mm_world.specs.Alloc.{alloc, commit_in}
-use Rattle.mm_world.specs.Charge.{charge, limit}
-use Rattle.mm_world.specs.Keys.{Home, Committed, committed_at, home_in, guard_off}
-use Rattle.mm_world.specs.Outcome.{OutcomeOf, done, within_limit}
-use Rattle.mm_world.specs.Rows.{row_at, commit, change_rows}
-use Rattle.mm_world.specs.Stack.{is_overflow}
+use Rattle.mm_world.specs.{StackOf, Page, ProcessOf, RegionOf, filled, pages_of, Found, process_of, region_around, set_region, is_private, alloc}
+use Rattle.mm_world.specs.{commit_in, charge, limit, Home, Committed, committed_at, home_in, guard_off, OutcomeOf, done, within_limit, row_at, commit}
+use Rattle.mm_world.specs.{change_rows, is_overflow, most_processes}
+use Rattle.mm_world.specs.World.{World}
 use Rattle.mm_world.specs.WellFormed.{WellFormed}
-use Rattle.mm_world.proofs.AccessCharge.{charge-guard_off}
-use Rattle.mm_world.proofs.Charges.{charge-set_region}
-use Rattle.mm_world.proofs.Disjoint.{same_place}
-use Rattle.mm_world.proofs.Finding.{found_stands, committed_is}
-use Rattle.mm_world.proofs.LaidOut.{or-false}
+use Rattle.mm_world.proofs.{charge-guard_off, charge-set_region, same_place, found_stands, committed_is, or-false, equal as is_same, at_found}
+use Rattle.mm_world.proofs.{at_room, Inside}
 use Rattle.mm_world.proofs.References as references
 use Rattle.mm_world.proofs.WellFormed as lines
-use Rattle.mm_tables.proofs.Lists.{count-next}
-use Rattle.mm_tables.proofs.OneProcess.{process_set_same}
-use Rattle.mm_tables.proofs.Regions.{holds}
+use Rattle.mm_tables.proofs.{count-next, process_set_same, holds}
 use Rattle.mm_tables.proofs.Rows as rows
 use Rattle.mm_calls.proofs.Around.{around_is, has_own, in_range}
-use Rattle.mm_calls.specs.Growth.{StackStandsIn}
-use Rattle.mm_calls.proofs.Growths.{is_same, not_next}
+use Rattle.mm_calls.specs.{StackStandsIn}
+use Rattle.mm_calls.proofs.Growths.{not_next}
 use Rattle.mm_calls.proofs.Touching.{alloc_commits}
-use Rattle.mm_world.proofs.Outcomes.{at_found, at_room}
-use Rattle.mm_world.proofs.Ranges.{Inside}
 
 -- a world in which a guard is off is well formed
 guard_keeps : (w : World) (pid : ℕ) (p : ProcessOf Page) (c : Committed Page) (page : ℕ) → process_of w pid ≡ Some p → committed_at w p.regions page ≡ Some c → WellFormed w → WellFormed (guard_off w pid p c page)
 guard_keeps w pid p c page lives there h =
     record {
-      numbers = record {
-        processes = omega (arith, h.numbers.processes, length-set w.processes pid (Some q));
-        no_process = by_pid pid lives;
-        kept = h.numbers.kept;
-        fails = h.numbers.fails;
-        blocks = h.numbers.blocks;
-        slots = h.numbers.slots;
-      };
+      numbers = (let processes : length (set w.processes pid (Some q)) ≤ most_processes + 1 = omega (arith, h.numbers.processes, length-set w.processes pid (Some q)) in
+          assumption (processes, by_pid pid lives, h.numbers));
       spaces = (lines.by_guard w pid p c page answer.Ok lives there).it.kept h.spaces;
       references = (references.by_guard w pid p c page answer.Ok lives there).it.kept h.references;
       charged = omega (arith, h.charged, charge-guard_off w pid p c page lives there);

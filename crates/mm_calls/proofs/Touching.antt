@@ -5,19 +5,12 @@ use Rattle.std.specs.Cmp.{unsigned_Decides}
 use Rattle.mm_types.specs.declared.answers.Answer.TheVariants as answer
 use Rattle.mm_types.specs.declared.codes.Raise.TheVariants as raise
 use Rattle.mm_types.specs.declared.protections.Access.TheVariants as access_kind
-use Rattle.mm_types.specs.Address.{address_of, page_of, range_of}
-use Rattle.mm_types.specs.Protection.{permits}
-use Rattle.mm_world.specs.World.{WorldOf, ProcessOf, StackOf}
-use Rattle.mm_world.specs.Find.{process_of, stack_by}
-use Rattle.mm_world.specs.Keys.{Committed, committed_at, guard_off}
-use Rattle.mm_world.specs.Outcome.{OutcomeOf, done}
-use Rattle.mm_types.specs.Allocation.{commit_type}
-use Rattle.mm_world.specs.Alloc.{alloc, reserve, commit_pages}
-use Rattle.mm_world.specs.Contents.{Tables}
-use Rattle.mm_world.specs.Stack.{probe, probe_of, probe_in, probe_at, grown, is_overflow}
-use Rattle.mm_tables.specs.declared.looks.CommittedRow.{CommittedRow}
-use Rattle.mm_tables.specs.Looks.{committed_row, told_committed}
-use Rattle.mm_world.proofs.Outcomes.{at_alive}
+use Rattle.mm_types.specs.{address_of, page_of, range_of, permits, commit_type}
+use Rattle.mm_world.specs.{WorldOf, ProcessOf, StackOf, process_of, stack_by, Committed, committed_at, guard_off, OutcomeOf, done, alloc, reserve}
+use Rattle.mm_world.specs.{Tables, probe, probe_of, probe_in, probe_at, grown, is_overflow}
+use Rattle.mm_world.specs.Alloc.{commit_pages}
+use Rattle.mm_tables.specs.{CommittedRow, committed_row, told_committed}
+use Rattle.mm_world.proofs.{at_alive}
 
 module _ {B : Type 0} (fill : ℕ → B) (w : WorldOf B) (tid addr : ℕ) where
   pub at_nobody : stack_by w tid ≡ None → probe fill w tid addr ≡ done answer.Nothing w

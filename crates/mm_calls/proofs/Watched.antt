@@ -1,23 +1,17 @@
 -- What `watch` and `resetwatch` come to, and that they leave a store alone.
 use Rattle.std.proofs.Common.{◌≡◌, ℕ, Bool, true, false, Option, Some, None, List, refl, sym, ap, subst, ◌∙◌, is_some, not, map, option_map}
 use Rattle.std.specs.Prelude.{◌==◌}
-use Rattle.mm_types.specs.declared.answers.Answer.{Answer}
+use Rattle.mm_types.specs.{Answer, Key, Range, range_of, address_of}
 use Rattle.mm_types.specs.declared.answers.Answer.TheVariants as answer
 use Rattle.mm_types.specs.declared.codes.Code.TheVariants as code
-use Rattle.mm_types.specs.declared.numbers.Key.{Key}
-use Rattle.mm_types.specs.Address.{Range, range_of, address_of}
-use Rattle.mm_types.proofs.Options.{none_of}
-use Rattle.mm_world.specs.World.{Page, ProcessOf, RegionOf}
-use Rattle.mm_world.specs.Find.{Found, process_of, set_region}
-use Rattle.mm_world.specs.Rows.{mark_written, change_flags}
-use Rattle.mm_world.specs.Contents.{Tables}
-use Rattle.mm_world.specs.Outcome.{OutcomeOf, refused}
-use Rattle.mm_world.specs.Watch.{watched_around, written_in, unwritten, with_watched, watch, reset_watch}
-use Rattle.mm_world.proofs.Outcomes.{at_alive, at_met, at_found, at_missing}
-use Rattle.mm_pages.specs.Store.{StoreOf}
-use Rattle.mm_tables.specs.Fits.{FitsTables, Called}
-use Rattle.mm_calls.specs.Watching.{after_watch}
-use Rattle.mm_tables.proofs.Carried.{called_by, carries_same}
+use Rattle.mm_types.proofs.{none_of}
+use Rattle.mm_world.specs.{Page, ProcessOf, RegionOf, Found, process_of, set_region, mark_written, change_flags, Tables, OutcomeOf, refused}
+use Rattle.mm_world.specs.{watched_around, written_in, unwritten, with_watched, watch, reset_watch}
+use Rattle.mm_world.proofs.{at_alive, at_met, at_found, at_missing}
+use Rattle.mm_pages.specs.{StoreOf}
+use Rattle.mm_tables.specs.{FitsTables, Called}
+use Rattle.mm_calls.specs.{after_watch}
+use Rattle.mm_tables.proofs.{called_by, carries_same}
 
 -- nothing but tables was changed, and the store fits them as it did
 pub called_beside : (q : OutcomeOf (Unit {0})) (t after : Tables) (contents : Key → Option Page) (s : StoreOf) (a : Answer) → q ≡ record { answer = a; world = after } → FitsTables t contents s → FitsTables after contents s → Called q t contents a after contents

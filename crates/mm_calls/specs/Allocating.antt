@@ -1,10 +1,7 @@
 -- Where an `alloc` takes memory.
 -- Profile, "Calls".
 use Rattle.std.specs.Prelude.{ℕ, Bool, nat_lt, if◌then◌else◌}
-use Rattle.mm_world.specs.World.{WorldOf}
-use Rattle.mm_world.specs.Alloc.{alloc, is_reserving, plain_type}
-use Rattle.mm_world.specs.Charge.{charge}
-use Rattle.mm_world.specs.Laws.{is_success}
+use Rattle.mm_world.specs.{WorldOf, alloc, is_reserving, plain_type, charge, is_success}
 
 -- a region comes to be, or pages are committed that were not, which are charged; of pages that are
 -- committed already, and where it is refused, an `alloc` makes nothing

@@ -1,26 +1,13 @@
 -- What the calls ask and promise of tables and store together.
 -- Profile, "Calls".
 use Rattle.std.specs.Prelude.{◌≡◌, ◌≤◌, ◌<◌, ◌+◌, ◌^◌, ℕ, true, is_some, length, min, nat_le, Option, Some, Result, IfOk, IsOk, OnErr}
-use Rattle.mm_types.specs.declared.answers.Answer.{Answer}
-use Rattle.mm_types.specs.declared.faults.NoMemory.{NoMemory}
+use Rattle.mm_types.specs.{Answer, NoMemory, Key, Pid, Range}
 use Rattle.mm_types.specs.declared.moves.LineKind.TheVariants as line_kind
-use Rattle.mm_types.specs.declared.numbers.Key.{Key}
-use Rattle.mm_types.specs.declared.numbers.Pid.{Pid}
-use Rattle.mm_types.specs.Address.{Range}
-use Rattle.mm_world.specs.World.{Page, ProcessOf}
+use Rattle.mm_world.specs.{Page, ProcessOf, charge, limit, Tables, blank, process_of, OutcomeOf, new_process, most_processes}
 use Rattle.mm_world.specs.Alloc.{commit_pages}
-use Rattle.mm_world.specs.Charge.{charge, limit}
-use Rattle.mm_world.specs.Contents.{Tables, blank}
-use Rattle.mm_world.specs.Find.{process_of}
-use Rattle.mm_world.specs.Outcome.{OutcomeOf}
-use Rattle.mm_world.specs.Processes.{new_process, most_processes}
-use Rattle.mm_pages.specs.declared.pages.Pages.{Ghosts as PagesGhosts}
-use Rattle.mm_pages.specs.Housekeeping.{Turn, Goes, MakesFrom, MakesStack}
-use Rattle.mm_pages.specs.Leaving.{leaving}
-use Rattle.mm_pages.specs.Store.{StoreOf}
-use Rattle.mm_tables.specs.Fits.{FitsTables, Called, Settled, before_process, is_uncommitted, store_beside}
-use Rattle.mm_tables.specs.Promises.{PassesAs, MakesPages}
-use Rattle.mm_tables.specs.Ranges.{StandsFrom}
+use Rattle.mm_pages.specs.{Ghosts as PagesGhosts, Turn, MakesFrom, MakesStack, leaving, StoreOf}
+use Rattle.mm_pages.specs.Housekeeping.{Goes}
+use Rattle.mm_tables.specs.{FitsTables, Called, Settled, before_process, is_uncommitted, store_beside, PassesAs, MakesPages, StandsFrom}
 
 -- a stack of these pages has room for its top pages, its guard page and one page more
 pub record IsTallEnough (top : ℕ) (range : Range) : Type 0 where

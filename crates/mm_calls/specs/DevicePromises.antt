@@ -1,16 +1,12 @@
 -- What the calls that call devices promise: a paging file that grows, new files and flushes.
 -- Profile, "Calls".
 use Rattle.std.specs.Prelude.{◌≡◌, ◌≤◌, ◌<◌, ℕ, true, false, length}
-use Rattle.mm_types.specs.declared.answers.Answer.{Answer}
+use Rattle.mm_types.specs.{Answer, Rose, Text}
 use Rattle.mm_types.specs.declared.answers.Answer.TheVariants as answer
-use Rattle.mm_types.specs.Outside.{Rose}
-use Rattle.mm_types.specs.Spelling.{Text}
-use Rattle.mm_blocks.specs.Devices.{CallFailed}
-use Rattle.mm_world.specs.Contents.{Tables, BytesAfterFile}
-use Rattle.mm_world.specs.Step.{is_failed_extension}
-use Rattle.mm_pages.specs.declared.pages.Pages.{Ghosts as PagesGhosts}
-use Rattle.mm_pages.specs.Reports.{Served, begun, wrote}
-use Rattle.mm_tables.specs.Fits.{FitsTables, beside_file, extended, file_told, grow_told, key_bytes}
+use Rattle.mm_blocks.specs.{CallFailed}
+use Rattle.mm_world.specs.{Tables, BytesAfterFile, is_failed_extension}
+use Rattle.mm_pages.specs.{Ghosts as PagesGhosts, Served, begun, wrote}
+use Rattle.mm_tables.specs.{FitsTables, beside_file, extended, file_told, grow_told, key_bytes}
 use Rattle.mm_calls.specs.Stages.{AreHeld, NewFileMade}
 
 module _ {G : Type 0} (p : PagesGhosts G) where

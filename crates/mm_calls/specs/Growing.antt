@@ -1,13 +1,12 @@
 -- The moves of a `grow` line, by what it answers.
 -- Profile, "Logs of moves".
 use Rattle.std.specs.Prelude.{ℕ, List, Result, Ok, Err}
-use Rattle.mm_types.specs.declared.answers.Answer.{Answer}
+use Rattle.mm_types.specs.{Answer, Move}
 use Rattle.mm_types.specs.declared.answers.Answer.TheVariants as answer
 use Rattle.mm_types.specs.declared.moves.LineKind.TheVariants as kind
-use Rattle.mm_types.specs.declared.moves.Move.{Move}
 use Rattle.mm_types.specs.declared.moves.Move.TheVariants as move
 use Rattle.mm_pages.specs.Behind.{Behind}
-use Rattle.mm_pages.specs.Housekeeping.{Grows, OneMove, NoMove}
+use Rattle.mm_pages.specs.{Grows, OneMove, NoMove}
 
 -- the paging file has grown, or it is the line of a call that changed nothing; without memory no
 -- line has begun

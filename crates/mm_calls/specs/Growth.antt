@@ -2,11 +2,9 @@
 -- Profile, "Watched regions and stacks".
 use Rattle.std.specs.Prelude.{◌≡◌, ◌⊎◌, ◌<◌, ℕ, ◌+◌, ◌-◌, Bool, true, false, not, ◌==◌, if◌then◌else◌, List, [], ◌∷◌, Option, Some, None, length, slice_get}
 use Rattle.mm_types.specs.declared.views.Kind.TheVariants as kind
-use Rattle.mm_world.specs.World.{World, WorldOf, ProcessOf, RegionOf, StackOf, Page, Numbered, filled}
-use Rattle.mm_world.specs.Find.{process_of, stack_by}
-use Rattle.mm_world.specs.Charge.{charge, limit}
-use Rattle.mm_world.specs.Keys.{Committed, committed_at}
-use Rattle.mm_world.specs.Stack.{probe, is_overflow}
+use Rattle.mm_world.specs.{WorldOf, ProcessOf, RegionOf, StackOf, Page, Numbered, filled, process_of, stack_by, charge, limit, Committed}
+use Rattle.mm_world.specs.{committed_at, probe, is_overflow}
+use Rattle.mm_world.specs.World.{World}
 
 -- the guard page is one page lower
 abbrev pub guard_lowered : StackOf → StackOf

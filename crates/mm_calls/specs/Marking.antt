@@ -3,13 +3,9 @@
 use Rattle.std.specs.Prelude.{ℕ, Bool, nat_lt}
 use Rattle.mm_types.specs.declared.answers.Answer.TheVariants as answer
 use Rattle.mm_types.specs.declared.codes.Code.TheVariants as code
-use Rattle.mm_types.specs.Address.{Range}
-use Rattle.mm_world.specs.World.{ProcessOf, WorldOf}
-use Rattle.mm_world.specs.Charge.{charge}
-use Rattle.mm_world.specs.Find.{region_around, set_region}
-use Rattle.mm_world.specs.Outcome.{OutcomeOf, done, need, find_or, within_limit}
-use Rattle.mm_world.specs.Protect.{protect, protection_at}
-use Rattle.mm_world.specs.Rows.{accepts, is_committed_at, every_page, protected, change_rows}
+use Rattle.mm_types.specs.{Range}
+use Rattle.mm_world.specs.{ProcessOf, WorldOf, charge, region_around, set_region, OutcomeOf, done, need, find_or, within_limit, protect}
+use Rattle.mm_world.specs.{protection_at, accepts, is_committed_at, every_page, protected, change_rows}
 
 module _ {B : Type 0} where
   -- what is left of a `protect` once its parameters were found right

@@ -2,14 +2,9 @@
 -- Profile, "Watched regions and stacks".
 use Rattle.std.specs.Prelude.{◌≡◌, ℕ, false, Some, slice_get}
 use Rattle.mm_types.specs.declared.views.Kind.TheVariants as kind
-use Rattle.mm_types.specs.Address.{Range}
-use Rattle.mm_world.specs.World.{RegionOf, ProcessOf}
-use Rattle.mm_world.specs.Find.{Found, process_of, region_around}
-use Rattle.mm_types.specs.Allocation.{reserve_type}
-use Rattle.mm_world.specs.Alloc.{private_region}
-use Rattle.mm_world.specs.Contents.{Tables, blank}
-use Rattle.mm_spaces.specs.Tables.{owned_in}
-use Rattle.mm_types.specs.Protection.{readwrite}
+use Rattle.mm_types.specs.{Range, reserve_type, readwrite}
+use Rattle.mm_world.specs.{RegionOf, ProcessOf, Found, process_of, region_around, private_region, Tables, blank}
+use Rattle.mm_spaces.specs.{owned_in}
 
 -- a region of which no page is committed
 abbrev pub reserved_region : Range → RegionOf (Unit {0})

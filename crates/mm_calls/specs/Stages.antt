@@ -1,26 +1,15 @@
 -- What is left of a call once its first tests were passed.
 -- Profile, "Calls".
 use Rattle.std.specs.Prelude.{ℕ, true, false, zero, suc, [], ◌∷◌, ◌++◌, map, is_some, unwrap_or, option_map, option_and_then, ◌-◌, ◌+◌, ◌≡◌, ◌≤◌, ◌<◌, ◌&&◌, ◌==◌, nat_lt, nat_le, if◌then◌else◌, Option, Some, None, slice_get, List, length}
-use Rattle.mm_types.specs.declared.answers.Answer.{Answer}
+use Rattle.mm_types.specs.{Answer, Key, Kind, View, ViewAccess, Range, page_of, pages_for, address_of, is_granule_address, Text}
 use Rattle.mm_types.specs.declared.answers.Answer.TheVariants as answer
 use Rattle.mm_types.specs.declared.codes.Code.TheVariants as code
-use Rattle.mm_types.specs.declared.numbers.Key.{Key}
-use Rattle.mm_types.specs.declared.views.Kind.{Kind}
 use Rattle.mm_types.specs.declared.views.Kind.TheVariants as kind
-use Rattle.mm_types.specs.declared.views.View.{View}
-use Rattle.mm_types.specs.declared.views.ViewAccess.{ViewAccess}
-use Rattle.mm_types.specs.Address.{Range, page_of, pages_for, address_of, is_granule_address}
-use Rattle.mm_types.specs.Spelling.{Text}
-use Rattle.mm_pages.specs.Passing.{WritesFile}
-use Rattle.mm_pages.specs.Store.{StoreOf}
-use Rattle.mm_world.specs.World.{Page, ProcessOf, RegionOf, SectionOf}
-use Rattle.mm_world.specs.Find.{Found, process_of, add_region, ranges_of, set_regions, area_at, placed}
-use Rattle.mm_world.specs.Contents.{Tables, blank}
-use Rattle.mm_world.specs.Keys.{shared_key}
-use Rattle.mm_world.specs.Outcome.{OutcomeOf, done, need, find_or, within_limit}
-use Rattle.mm_world.specs.Sections.{new_section, paging_area, section_prot}
-use Rattle.mm_world.specs.Views.{may_view, view_region, flushed_view, flushed_range}
-use Rattle.mm_life.specs.Life.{numbers_from}
+use Rattle.mm_pages.specs.{WritesFile, StoreOf}
+use Rattle.mm_world.specs.{Page, ProcessOf, RegionOf, SectionOf, Found, process_of, add_region, ranges_of, set_regions, area_at, placed, Tables}
+use Rattle.mm_world.specs.{blank, shared_key, OutcomeOf, done, need, find_or, within_limit, new_section, paging_area, section_prot, may_view}
+use Rattle.mm_world.specs.{view_region, flushed_view, flushed_range}
+use Rattle.mm_life.specs.{numbers_from}
 
 -- the pages of a view of a section of `total` pages, from the page `first` on; length 0 means to
 -- the section's end

@@ -1,11 +1,8 @@
 -- What a `watch` leaves of the tables, once its region was found.
 -- Profile, "Calls".
 use Rattle.std.specs.Prelude.{ℕ, Bool, if◌then◌else◌}
-use Rattle.mm_types.specs.Address.{Range}
-use Rattle.mm_world.specs.World.{RegionOf, ProcessOf, WorldOf}
-use Rattle.mm_world.specs.Find.{Found, set_region}
-use Rattle.mm_world.specs.Rows.{change_flags}
-use Rattle.mm_world.specs.Watch.{written_in, unwritten}
+use Rattle.mm_types.specs.{Range}
+use Rattle.mm_world.specs.{RegionOf, ProcessOf, WorldOf, Found, set_region, change_flags, written_in, unwritten}
 
 abbrev pub after_watch : {B : Type 0} → WorldOf B → ℕ → ProcessOf B → Found (RegionOf B) → Bool →
     Range → ℕ → WorldOf B

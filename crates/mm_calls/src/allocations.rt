@@ -1,14 +1,9 @@
 ghost use Rattle.std.specs.Prelude.{◌≡◌, ◌≤◌, true, Some, IfOk, OnErr, option_map};
 ghost use Rattle.mm_types.specs.declared.moves.LineKind.TheVariants as line_kind;
 ghost use Rattle.mm_types.specs.declared.views.Kind.TheVariants as kind;
-ghost use Rattle.mm_world.specs.World.{ProcessOf};
-ghost use Rattle.mm_world.specs.Find.{process_of, region_around};
-ghost use Rattle.mm_world.specs.Alloc.{reserve};
-ghost use Rattle.mm_world.specs.Contents.{blank};
-ghost use Rattle.mm_world.specs.Laws.{is_success};
-ghost use Rattle.mm_world.specs.Rows.{is_protection_among, private_protections};
-ghost use Rattle.mm_spaces.specs.Tables.{found_info};
-ghost use Rattle.mm_tables.specs.Promises.{IsReadyFor, MakesPages};
+ghost use Rattle.mm_world.specs.{ProcessOf, process_of, region_around, reserve, blank, is_success, is_protection_among, private_protections};
+ghost use Rattle.mm_spaces.specs.{found_info};
+ghost use Rattle.mm_tables.specs.{IsReadyFor, MakesPages};
 ghost use Rattle.mm_calls.specs.CallPromises.{DecidesIn, LacksMemory, CommitsRange};
 
 use crate::parameters::new_pages;

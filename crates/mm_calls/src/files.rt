@@ -1,14 +1,9 @@
 ghost use Rattle.std.specs.Prelude.{[], false, is_some, ◌≡◌, ◌==◌, ◌≤◌, ◌<◌, ◌+◌, nat_lt, if◌then◌else◌, length, IfOk, IsOk, OnErr};
 ghost use Rattle.mm_types.specs.declared.answers.Answer.TheVariants as answer;
-ghost use Rattle.mm_types.specs.Address.{range_of};
-ghost use Rattle.mm_world.specs.Find.{area_at};
-ghost use Rattle.mm_world.specs.Contents.{blank};
-ghost use Rattle.mm_world.specs.Laws.{is_success};
-ghost use Rattle.mm_world.specs.Processes.{new_file};
-ghost use Rattle.mm_pages.specs.Housekeeping.{Turns, Makes, Flushes};
-ghost use Rattle.mm_pages.specs.Passing.{PassesIn, NotesIn};
-ghost use Rattle.mm_tables.specs.References.{IsFew};
-ghost use Rattle.mm_tables.specs.Fits.{BlocksHold, flush_told, file_block_in};
+ghost use Rattle.mm_types.specs.{range_of};
+ghost use Rattle.mm_world.specs.{area_at, blank, is_success, new_file};
+ghost use Rattle.mm_pages.specs.{Turns, Makes, Flushes, PassesIn, NotesIn};
+ghost use Rattle.mm_tables.specs.{IsFew, BlocksHold, flush_told, file_block_in};
 ghost use Rattle.mm_calls.specs.Stages.{AreHeld, keys_from, flushed_keys};
 ghost use Rattle.mm_calls.specs.CallPromises.{BeginsWrites, ChangesNothing};
 ghost use Rattle.mm_calls.specs.DevicePromises.{AnswersFile, AnswersFlush};

@@ -1,7 +1,6 @@
 ghost use Rattle.std.specs.Prelude.{◌≡◌, ◌<◌, ◌+◌, ◌^◌, OnOk, OnErr};
 ghost use Rattle.mm_types.specs.declared.moves.LineKind.TheVariants as line_kind;
-ghost use Rattle.mm_pages.specs.Housekeeping.{Flushes};
-ghost use Rattle.mm_pages.specs.Passing.{PassesIn};
+ghost use Rattle.mm_pages.specs.{Flushes, PassesIn};
 ghost use Rattle.mm_calls.specs.Stages.{InBlocks, keys_from};
 ghost use Rattle.mm_calls.specs.DevicePromises.{FlushesBlocks, HoldsPages, FailsWrite};
 

@@ -2,11 +2,8 @@ ghost use Rattle.std.specs.Prelude.{◌≤◌, Some, remove};
 ghost use Rattle.mm_types.specs.declared.answers.Answer.TheVariants as answer;
 ghost use Rattle.mm_types.specs.declared.codes.Code.TheVariants as code;
 ghost use Rattle.mm_types.specs.declared.moves.LineKind.TheVariants as line_kind;
-ghost use Rattle.mm_world.specs.World.{pages_of};
-ghost use Rattle.mm_world.specs.Find.{set_regions, end_stacks};
-ghost use Rattle.mm_world.specs.Free.{decommit, private_at, private_around, is_stack_at};
-ghost use Rattle.mm_world.specs.Outcome.{done, find_or};
-ghost use Rattle.mm_tables.specs.Promises.{IsReadyFor};
+ghost use Rattle.mm_world.specs.{pages_of, set_regions, end_stacks, decommit, private_at, private_around, is_stack_at, done, find_or};
+ghost use Rattle.mm_tables.specs.{IsReadyFor};
 ghost use Rattle.mm_calls.specs.CallPromises.{DecidesIn, LosesPages};
 
 use mm_pages::Pages;

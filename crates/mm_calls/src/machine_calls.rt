@@ -1,11 +1,8 @@
 ghost use Rattle.std.specs.Prelude.{◌≡◌, ◌≤◌, ◌+◌, ◌-◌, false, length, nat_le, IfOk, IsOk, OnErr};
-ghost use Rattle.mm_world.specs.Laws.{is_success};
-ghost use Rattle.mm_world.specs.Processes.{grow, new_process, most_processes};
-ghost use Rattle.mm_pages.specs.Reports.{begun};
-ghost use Rattle.mm_pages.specs.Passing.{NotesIn};
+ghost use Rattle.mm_world.specs.{is_success, grow, new_process, most_processes};
+ghost use Rattle.mm_pages.specs.{begun, NotesIn};
 ghost use Rattle.mm_calls.specs.Growing.{GrowsBy};
-ghost use Rattle.mm_tables.specs.Fits.{FitsTables};
-ghost use Rattle.mm_tables.specs.Promises.{StaysIdle};
+ghost use Rattle.mm_tables.specs.{FitsTables, StaysIdle};
 ghost use Rattle.mm_calls.specs.CallPromises.{BeginsProcess, AnswersCall, ChangesNothing};
 ghost use Rattle.mm_calls.specs.DevicePromises.{AnswersGrow};
 

@@ -1,16 +1,10 @@
 ghost use Rattle.std.specs.Prelude.{◌≡◌, ◌≤◌, ◌+◌, true, Some, if◌then◌else◌, IfOk, IfSome, OnErr};
 ghost use Rattle.mm_types.specs.declared.codes.Code.TheVariants as code;
 ghost use Rattle.mm_types.specs.declared.moves.LineKind.TheVariants as line_kind;
-ghost use Rattle.mm_types.specs.Address.{is_granule_address};
-ghost use Rattle.mm_world.specs.World.{ProcessOf, SectionOf};
-ghost use Rattle.mm_world.specs.Find.{Found, process_of, section_of};
-ghost use Rattle.mm_world.specs.Laws.{is_success};
-ghost use Rattle.mm_world.specs.Outcome.{find_or};
-ghost use Rattle.mm_world.specs.Sections.{handle_section};
-ghost use Rattle.mm_world.specs.Views.{is_copy};
-ghost use Rattle.mm_world.specs.WellFormed.{ViewFits};
+ghost use Rattle.mm_types.specs.{is_granule_address};
+ghost use Rattle.mm_world.specs.{ProcessOf, SectionOf, Found, process_of, section_of, is_success, find_or, handle_section, is_copy, ViewFits};
 ghost use Rattle.mm_calls.specs.Stages.{are_viewed, place_view, map_section};
-ghost use Rattle.mm_tables.specs.Promises.{IsReadyFor, SettlesTables, StaysIdle};
+ghost use Rattle.mm_tables.specs.{IsReadyFor, SettlesTables, StaysIdle};
 ghost use Rattle.mm_calls.specs.CallPromises.{DecidesIn, LacksMemory};
 
 use crate::section_parameters::{is_granule_address, may_view};

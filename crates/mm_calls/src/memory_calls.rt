@@ -1,11 +1,8 @@
 ghost use Rattle.std.specs.Prelude.{◌≡◌, false, IsOk, IfOk, OnErr};
-ghost use Rattle.mm_world.specs.Alloc.{alloc};
-ghost use Rattle.mm_world.specs.Contents.{blank};
-ghost use Rattle.mm_world.specs.Free.{free};
-ghost use Rattle.mm_world.specs.Protect.{protect};
+ghost use Rattle.mm_world.specs.{alloc, blank, free, protect};
 ghost use Rattle.mm_calls.specs.Allocating.{allocates_anew};
 ghost use Rattle.mm_calls.specs.Marking.{marks_anew};
-ghost use Rattle.mm_tables.specs.Promises.{MakesPages, StaysIdle};
+ghost use Rattle.mm_tables.specs.{MakesPages, StaysIdle};
 ghost use Rattle.mm_calls.specs.CallPromises.{BeginsCall, BeginsRelease, AnswersCall, LacksMemory, LosesPages};
 
 use crate::allocations::{commit, reserve};

@@ -1,15 +1,11 @@
 ghost use Rattle.std.specs.Prelude.{◌≡◌, ◌≤◌, true, is_some, Option, Some, None, IfOk, OnErr, option_map, option_and_then};
 ghost use Rattle.mm_types.specs.declared.answers.Answer.TheVariants as answer;
 ghost use Rattle.mm_types.specs.declared.moves.LineKind.TheVariants as line_kind;
-ghost use Rattle.mm_world.specs.World.{ProcessOf};
-ghost use Rattle.mm_world.specs.Find.{process_of, section_of, section_named, area_at};
-ghost use Rattle.mm_world.specs.Laws.{is_success};
-ghost use Rattle.mm_world.specs.Outcome.{done};
-ghost use Rattle.mm_world.specs.Sections.{next_handle, with_handle, new_section, section_prot};
-ghost use Rattle.mm_sections.specs.Directories.{id_of};
-ghost use Rattle.mm_tables.specs.References.{IsFew};
+ghost use Rattle.mm_world.specs.{ProcessOf, process_of, section_of, section_named, area_at, is_success, done, next_handle, with_handle, new_section};
+ghost use Rattle.mm_world.specs.{section_prot};
+ghost use Rattle.mm_sections.specs.{id_of};
+ghost use Rattle.mm_tables.specs.{IsFew, IsReadyFor, MakesPages};
 ghost use Rattle.mm_calls.specs.Stages.{make_section};
-ghost use Rattle.mm_tables.specs.Promises.{IsReadyFor, MakesPages};
 ghost use Rattle.mm_calls.specs.CallPromises.{DecidesIn, LacksMemory, StaysSettled};
 
 use crate::section_parameters::{is_reserve, section_prot};

@@ -1,10 +1,8 @@
 ghost use Rattle.std.specs.Prelude.{◌≡◌};
-ghost use Rattle.mm_types.specs.Address.{is_user_page};
-ghost use Rattle.mm_world.specs.Alloc.{are_alloc_parameters, is_reserving, is_watched_type, plain_type};
-ghost use Rattle.mm_world.specs.Free.{are_free_parameters};
-ghost use Rattle.mm_world.specs.Protect.{are_protect_parameters};
-ghost use Rattle.mm_world.specs.Rows.{is_protection_among, private_protections, all_protections};
-ghost use Rattle.mm_tables.specs.Fits.{new_pages};
+ghost use Rattle.mm_types.specs.{is_user_page};
+ghost use Rattle.mm_world.specs.{are_alloc_parameters, is_reserving, is_watched_type, plain_type, are_free_parameters, are_protect_parameters};
+ghost use Rattle.mm_world.specs.{is_protection_among, private_protections, all_protections};
+ghost use Rattle.mm_tables.specs.{new_pages};
 
 use mm_spaces::PageRange;
 use mm_types::{AllocFlags, END_OF_USER_PAGES, FIRST_USER_PAGE, Prot};

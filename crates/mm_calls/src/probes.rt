@@ -1,17 +1,11 @@
 ghost use Rattle.std.specs.Prelude.{◌≡◌, ◌≤◌, ◌<◌, ◌+◌, ◌-◌, true, false, is_some, min, Some, IsOk, IfOk, OnOk, OnErr};
-ghost use Rattle.mm_types.specs.Address.{address_of};
-ghost use Rattle.mm_types.specs.Allocation.{commit_type};
+ghost use Rattle.mm_types.specs.{address_of, commit_type};
 ghost use Rattle.mm_types.specs.declared.answers.Answer.TheVariants as answer;
 ghost use Rattle.mm_types.specs.declared.moves.LineKind.TheVariants as line_kind;
-ghost use Rattle.mm_world.specs.World.{ProcessOf};
-ghost use Rattle.mm_world.specs.Find.{process_of, set_stack};
-ghost use Rattle.mm_world.specs.Alloc.{alloc};
-ghost use Rattle.mm_world.specs.Charge.{charge, limit};
-ghost use Rattle.mm_world.specs.Keys.{Committed, committed_at, guard_off};
-ghost use Rattle.mm_world.specs.Contents.{blank};
-ghost use Rattle.mm_world.specs.Stack.{probe, is_overflow};
+ghost use Rattle.mm_world.specs.{ProcessOf, process_of, set_stack, alloc, charge, limit, Committed, committed_at, guard_off, blank, probe};
+ghost use Rattle.mm_world.specs.{is_overflow};
 ghost use Rattle.mm_calls.specs.Growth.{grows, guard_lowered};
-ghost use Rattle.mm_tables.specs.Promises.{IsReadyFor, MakesPages, SettlesTables};
+ghost use Rattle.mm_tables.specs.{IsReadyFor, MakesPages, SettlesTables};
 ghost use Rattle.mm_calls.specs.CallPromises.{BeginsCall, AnswersCall, LacksMemory, StaysFit};
 
 use crate::commit;

@@ -1,4 +1,4 @@
-ghost use Rattle.mm_world.specs.Processes.{exit};
+ghost use Rattle.mm_world.specs.{exit};
 ghost use Rattle.mm_calls.specs.CallPromises.{BeginsRelease, AnswersCall, LosesPages};
 
 use mm_pages::Pages;

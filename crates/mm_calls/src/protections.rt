@@ -1,13 +1,10 @@
 ghost use Rattle.std.specs.Prelude.{◌≡◌, ◌<◌, true, is_some, Some, IfOk, OnErr, option_map};
 ghost use Rattle.mm_types.specs.declared.moves.LineKind.TheVariants as line_kind;
-ghost use Rattle.mm_world.specs.World.{RegionOf, ProcessOf};
-ghost use Rattle.mm_world.specs.Charge.{charge};
-ghost use Rattle.mm_world.specs.Find.{Found, process_of, region_around};
-ghost use Rattle.mm_world.specs.Rows.{is_protection_among, all_protections, is_committed_at, every_page};
-ghost use Rattle.mm_spaces.specs.Asked.{IsAsked};
-ghost use Rattle.mm_tables.specs.Fits.{new_marks};
+ghost use Rattle.mm_world.specs.{RegionOf, ProcessOf, charge, Found, process_of, region_around, is_protection_among, all_protections};
+ghost use Rattle.mm_world.specs.{is_committed_at, every_page};
+ghost use Rattle.mm_spaces.specs.{IsAsked};
+ghost use Rattle.mm_tables.specs.{new_marks, IsReadyFor, StaysIdle};
 ghost use Rattle.mm_calls.specs.Marking.{protect_pages};
-ghost use Rattle.mm_tables.specs.Promises.{IsReadyFor, StaysIdle};
 ghost use Rattle.mm_calls.specs.CallPromises.{DecidesIn, LacksMemory};
 
 use mm_pages::Pages;

@@ -1,8 +1,6 @@
 ghost use Rattle.std.specs.Prelude.{◌≡◌, true, is_some, Some};
-ghost use Rattle.mm_types.specs.Address.{is_user_page};
-ghost use Rattle.mm_world.specs.World.{ProcessOf};
-ghost use Rattle.mm_world.specs.Find.{process_of, region_with};
-ghost use Rattle.mm_world.specs.Query.{query, page_info};
+ghost use Rattle.mm_types.specs.{is_user_page};
+ghost use Rattle.mm_world.specs.{ProcessOf, process_of, region_with, query, page_info};
 
 use crate::parameters::is_user_page;
 use mm_spaces::PageInfo;

@@ -1,7 +1,6 @@
 ghost use Rattle.std.specs.Prelude.{◌≡◌, ◌==◌, ◌&&◌, not, nat_le};
-ghost use Rattle.mm_types.specs.Address.{is_granule_address};
-ghost use Rattle.mm_world.specs.Sections.{are_section_flags, section_prot, is_reserve, largest_section};
-ghost use Rattle.mm_world.specs.Views.{view_access, may_view};
+ghost use Rattle.mm_types.specs.{is_granule_address};
+ghost use Rattle.mm_world.specs.{are_section_flags, section_prot, is_reserve, largest_section, view_access, may_view};
 
 use mm_types::{GRANULE_SIZE, Prot, ViewAccess};
 

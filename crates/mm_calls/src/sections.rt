@@ -1,12 +1,9 @@
 ghost use Rattle.std.specs.Prelude.{◌≡◌, Bool, false, Option, IfOk, IsOk, OnErr};
-ghost use Rattle.mm_world.specs.Contents.{blank};
-ghost use Rattle.mm_world.specs.Laws.{is_success};
-ghost use Rattle.mm_world.specs.Sections.{create, create_file, open_section, close};
-ghost use Rattle.mm_types.specs.declared.numbers.Place.{Place};
+ghost use Rattle.mm_world.specs.{blank, is_success, create, create_file, open_section, close};
+ghost use Rattle.mm_types.specs.{Place};
 ghost use Rattle.mm_pages.specs.Housekeeping.{Goes};
-ghost use Rattle.mm_pages.specs.Leaving.{leaving};
-ghost use Rattle.mm_tables.specs.References.{IsFew};
-ghost use Rattle.mm_tables.specs.Promises.{MakesPages, PassesAs};
+ghost use Rattle.mm_pages.specs.{leaving};
+ghost use Rattle.mm_tables.specs.{IsFew, MakesPages, PassesAs};
 ghost use Rattle.mm_calls.specs.CallPromises.{BeginsCall, AnswersCall, LacksMemory, StaysSettled};
 
 use crate::new_sections::{add_existing, add_file_section, add_paging_section, section_with};

@@ -1,13 +1,11 @@
 ghost use Rattle.std.specs.Prelude.{◌≡◌, ◌≢◌, ◌↔◌, ◌<◌, ◌≤◌, ℕ, ◌+◌, ◌-◌, true, false, List, Some, IsSomeAnd};
 ghost use Rattle.mm_types.specs.declared.answers.Answer.TheVariants as answer;
 ghost use Rattle.mm_types.specs.declared.codes.Raise.TheVariants as raise;
-ghost use Rattle.mm_types.specs.Address.{address_of, page_of};
-ghost use Rattle.mm_world.specs.World.{World, ProcessOf, StackOf, Page, Numbered, numbered, filled};
-ghost use Rattle.mm_types.specs.Allocation.{commit_type};
-ghost use Rattle.mm_world.specs.Alloc.{alloc};
-ghost use Rattle.mm_world.specs.Find.{stack_by};
-ghost use Rattle.mm_world.specs.Keys.{Committed, committed_at, guard_off};
-ghost use Rattle.mm_world.specs.Stack.{stack, probe, is_overflow, reserve_pages, commit_pages};
+ghost use Rattle.mm_types.specs.{address_of, page_of, commit_type};
+ghost use Rattle.mm_world.specs.{ProcessOf, StackOf, Page, Numbered, numbered, filled, alloc, stack_by, Committed, committed_at, guard_off, stack};
+ghost use Rattle.mm_world.specs.{probe, is_overflow, reserve_pages};
+ghost use Rattle.mm_world.specs.World.{World};
+ghost use Rattle.mm_world.specs.Stack.{commit_pages};
 ghost use Rattle.mm_world.specs.WellFormed.{WellFormed};
 ghost use Rattle.mm_calls.specs.Growth.{ProbeIn, grows, growths, Overflows, StackGrows, StackStandsIn};
 

@@ -1,16 +1,11 @@
 ghost use Rattle.std.specs.Prelude.{◌≡◌, ◌≤◌, ◌+◌, ◌-◌, true, Some, OnOk};
-ghost use Rattle.mm_types.specs.Address.{end_of, end_of_user_pages};
+ghost use Rattle.mm_types.specs.{end_of, end_of_user_pages};
 ghost use Rattle.mm_types.specs.declared.moves.LineKind.TheVariants as line_kind;
-ghost use Rattle.mm_world.specs.World.{ProcessOf};
-ghost use Rattle.mm_world.specs.Find.{process_of, add_region, set_regions, set_region};
-ghost use Rattle.mm_world.specs.Charge.{charge, limit};
-ghost use Rattle.mm_world.specs.Contents.{blank};
-ghost use Rattle.mm_world.specs.Rows.{is_protection_among, private_protections, commit, change_rows};
-ghost use Rattle.mm_world.specs.Stack.{stack_region};
-ghost use Rattle.mm_pages.specs.Housekeeping.{MakesStack};
-ghost use Rattle.mm_tables.specs.Fits.{Settled};
+ghost use Rattle.mm_world.specs.{ProcessOf, process_of, add_region, set_regions, set_region, charge, limit, blank, is_protection_among};
+ghost use Rattle.mm_world.specs.{private_protections, commit, change_rows, stack_region};
+ghost use Rattle.mm_pages.specs.{MakesStack};
+ghost use Rattle.mm_tables.specs.{Settled, IsNewPlace, IsNewRange, IsReadyFor, PassesAs, SettlesTables, StaysIdle};
 ghost use Rattle.mm_calls.specs.Regions.{IsUncommitted, IsReserved, reserved_region};
-ghost use Rattle.mm_tables.specs.Promises.{IsNewPlace, IsNewRange, IsReadyFor, PassesAs, SettlesTables, StaysIdle};
 ghost use Rattle.mm_calls.specs.CallPromises.{IsTallEnough, BeginsCall, HasRoomFor, MakesInRange, MakesStackPages};
 
 use mm_pages::Pages;

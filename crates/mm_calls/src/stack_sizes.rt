@@ -1,5 +1,6 @@
 ghost use Rattle.std.specs.Prelude.{◌≡◌, ◌≤◌, ◌+◌, ◌/◌};
-ghost use Rattle.mm_world.specs.Stack.{reserve_pages, commit_pages};
+ghost use Rattle.mm_world.specs.{reserve_pages};
+ghost use Rattle.mm_world.specs.Stack.{commit_pages};
 
 use mm_spaces::pages_for;
 use mm_types::GRANULE_PAGES;

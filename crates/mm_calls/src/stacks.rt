@@ -1,12 +1,9 @@
 ghost use Rattle.std.specs.Prelude.{◌≡◌, ◌≤◌, ◌+◌, ◌-◌, false, IfOk, IsOk, OnErr};
-ghost use Rattle.mm_types.specs.Address.{address_of, end_of, end_of_user_pages};
+ghost use Rattle.mm_types.specs.{address_of, end_of, end_of_user_pages};
 ghost use Rattle.mm_types.specs.declared.answers.Answer.TheVariants as answer;
-ghost use Rattle.mm_world.specs.Find.{set_stack};
-ghost use Rattle.mm_world.specs.Contents.{blank};
-ghost use Rattle.mm_world.specs.Stack.{stack};
-ghost use Rattle.mm_world.specs.Laws.{is_success};
-ghost use Rattle.mm_pages.specs.Housekeeping.{Turn, MakesStack, guard_told};
-ghost use Rattle.mm_tables.specs.Promises.{PassesAs};
+ghost use Rattle.mm_world.specs.{set_stack, blank, stack, is_success};
+ghost use Rattle.mm_pages.specs.{Turn, MakesStack, guard_told};
+ghost use Rattle.mm_tables.specs.{PassesAs};
 ghost use Rattle.mm_calls.specs.CallPromises.{IsTallEnough, BeginsCall, AnswersCall, LacksMemory, StaysFit};
 
 use crate::stack_regions::make_region;

@@ -1,9 +1,7 @@
 ghost use Rattle.std.specs.Prelude.{◌≡◌, false, IfOk, IsOk, OnErr};
 ghost use Rattle.mm_types.specs.declared.views.Kind.TheVariants as view_kind;
-ghost use Rattle.mm_world.specs.Find.{is_private};
-ghost use Rattle.mm_world.specs.Laws.{is_success};
-ghost use Rattle.mm_world.specs.Views.{map_view, unmap};
-ghost use Rattle.mm_tables.specs.Promises.{StaysIdle};
+ghost use Rattle.mm_world.specs.{is_private, is_success, map_view, unmap};
+ghost use Rattle.mm_tables.specs.{StaysIdle};
 ghost use Rattle.mm_calls.specs.CallPromises.{BeginsCall, BeginsRelease, AnswersCall, LacksMemory, LosesPages};
 
 use crate::mappings::map_handle;

@@ -1,11 +1,8 @@
 ghost use Rattle.std.specs.Prelude.{◌≡◌, ◌≤◌, true, is_some, map, Option, Some, None, option_map};
-ghost use Rattle.mm_types.specs.declared.numbers.Key.{Key};
-ghost use Rattle.mm_types.specs.Address.{address_of};
-ghost use Rattle.mm_world.specs.World.{Page, RegionOf, ProcessOf};
-ghost use Rattle.mm_world.specs.Find.{Found, process_of};
-ghost use Rattle.mm_world.specs.Watch.{watch, reset_watch, watched_around, written_in};
-ghost use Rattle.mm_pages.specs.Store.{StoreOf};
-ghost use Rattle.mm_tables.specs.Fits.{FitsTables, Called};
+ghost use Rattle.mm_types.specs.{Key, address_of};
+ghost use Rattle.mm_world.specs.{Page, RegionOf, ProcessOf, Found, process_of, watch, reset_watch, watched_around, written_in};
+ghost use Rattle.mm_pages.specs.{StoreOf};
+ghost use Rattle.mm_tables.specs.{FitsTables, Called};
 ghost use Rattle.mm_calls.specs.Watching.{after_watch};
 ghost use Rattle.mm_calls.specs.CallPromises.{StaysFit};
 

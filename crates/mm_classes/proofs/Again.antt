@@ -2,19 +2,13 @@
 use Rattle.std.proofs.Common.{◌≡◌, ◌⊎◌, ℕ, zero, suc, ◌+◌, ◌*◌, ◌/◌, ◌%◌, ◌≤◌, ◌<◌, List, [], ◌∷◌, ◌++◌, length, Option, Some, None, refl, sym, ap, ◌∙◌, inl, inr, arith, append_assoc}
 use Rattle.std.specs.Prelude.{◌^◌}
 use Rattle.std.proofs.lemmas.Bool.{cases_lt}
-use Rattle.mm_types.specs.Spelling.{Text}
-use Rattle.mm_types.specs.declared.numbers.Block.{Block}
-use Rattle.mm_types.specs.declared.numbers.Key.{Key}
+use Rattle.mm_types.specs.{Text, Block, Key, Place, LineKind, Move, Stored}
 use Rattle.mm_types.specs.declared.numbers.Key.TheVariants.{Private, Shared}
-use Rattle.mm_types.specs.declared.numbers.Place.{Place}
-use Rattle.mm_types.specs.declared.moves.LineKind.{LineKind}
 use Rattle.mm_types.specs.declared.moves.LineKind.TheVariants as kind
-use Rattle.mm_types.specs.declared.moves.Move.{Move}
 use Rattle.mm_types.specs.declared.moves.Move.TheVariants as move
-use Rattle.mm_types.specs.declared.moves.Stored.{Stored}
 use Rattle.mm_types.specs.declared.moves.Stored.TheVariants as stored
-use Rattle.mm_life.specs.MoveText.{IsKey, IsPlace, IsKind, IsStored, IsBlock, IsMove}
-use Rattle.mm_classes.specs.Encoding.{digits_of, number_text, numbers_text, key_numbers, block_numbers, stored_number, kind_numbers, move_numbers}
+use Rattle.mm_life.specs.{IsKey, IsPlace, IsKind, IsStored, IsBlock, IsMove}
+use Rattle.mm_classes.specs.{digits_of, number_text, numbers_text, key_numbers, block_numbers, stored_number, kind_numbers, move_numbers}
 use Rattle.mm_classes.proofs.Digits.{last_at, more_at}
 
 pub heads : {A : Type 0} (a b : A) (x y : List A) → a ∷ x ≡ b ∷ y → (a ≡ b) × (x ≡ y)
@@ -139,15 +133,11 @@ unfolding AreSmall
 small_kind (kind.Machine f s d b) h =
     let p = h.0 in let q = h.1 in let r = h.2 in let t = h.3 in (omega (arith, p), (omega (arith, q), (omega (arith, r), (omega (arith, t), tt))))
 small_kind (kind.Process p a b) h = let q = h.0 in let r = h.1 in let t = h.2 in (omega (arith, q), (omega (arith, r), (omega (arith, t), tt)))
-small_kind (kind.Unbind p) h = (omega (arith, h), tt)
-small_kind (kind.Access p) h = (omega (arith, h), tt)
-small_kind (kind.Thread p) h = (omega (arith, h), tt)
-small_kind (kind.Trim p) h = (omega (arith, h), tt)
 small_kind kind.Writer h = tt
 small_kind kind.Zeroer h = tt
 small_kind kind.Io h = tt
 small_kind kind.Call h = tt
-small_kind (kind.Grow n) h = (omega (arith, h), tt)
+small_kind x h = (omega (arith, h), tt)
 
 small_one : (n : ℕ) → n < 2 ^ 32 → AreSmall (n ∷ [])
 unfolding AreSmall

@@ -3,32 +3,15 @@ use Rattle.std.proofs.Common.{◌≡◌, ◌⊎◌, ℕ, ◌+◌, ◌*◌, ◌/�
 use Rattle.std.specs.Prelude.{◌==◌, nat_le, option_map}
 use Rattle.std.specs.Cmp.{unsigned_Decides}
 use Rattle.std.proofs.lemmas.Bool.{and_parts}
-use Rattle.mm_types.specs.Spelling.{Text}
-use Rattle.mm_types.specs.declared.numbers.Area.{Area}
-use Rattle.mm_types.specs.declared.numbers.Frame.{Frame}
-use Rattle.mm_types.specs.declared.numbers.Key.{Key}
+use Rattle.mm_types.specs.{Text, Area, Frame, Key, Pid, Place, Vpn, LineKind, Move, Stored}
 use Rattle.mm_types.specs.declared.numbers.Key.TheVariants.{Private, Shared}
-use Rattle.mm_types.specs.declared.numbers.Pid.{Pid}
-use Rattle.mm_types.specs.declared.numbers.Place.{Place}
-use Rattle.mm_types.specs.declared.numbers.Vpn.{Vpn}
-use Rattle.mm_types.specs.declared.moves.LineKind.{LineKind}
 use Rattle.mm_types.specs.declared.moves.LineKind.TheVariants as kind
-use Rattle.mm_types.specs.declared.moves.Move.{Move}
 use Rattle.mm_types.specs.declared.moves.Move.TheVariants as move
-use Rattle.mm_types.specs.declared.moves.Stored.{Stored}
 use Rattle.mm_types.specs.declared.moves.Stored.TheVariants as stored
-use Rattle.mm_life.specs.Life.{FrameLife, unstarted, counts_of}
-use Rattle.mm_life.specs.Legal.{IsLegal, is_touch}
-use Rattle.mm_life.specs.Effect.{after_move}
-use Rattle.mm_life.specs.MoveText.{IsMove, AreMoves}
-use Rattle.mm_life.specs.Replay.{Replays}
-use Rattle.mm_classes.specs.Marks.{MarksOf, no_marks, marks_after}
-use Rattle.mm_classes.specs.Classes.{class_of, next_of}
-use Rattle.mm_classes.specs.Words.{code_of}
-use Rattle.mm_classes.specs.Encoding.{numbers_text, key_numbers, stored_number, kind_numbers, kind_code, move_numbers, head_text, move_data, mark_data}
-use Rattle.mm_classes.specs.Data.{is_marked, mark_before, last_mark, data_from, log_data, IsLog}
-use Rattle.mm_classes.specs.Fitting.{Word, Add, Drop, Clear, Steal, Give, Read, Got, Bad, Map, Unmap, Soil, Write, Wrote, Lost, word_of, word_of_move}
-use Rattle.mm_classes.specs.declared.classes.Class.{Class}
+use Rattle.mm_life.specs.{FrameLife, unstarted, counts_of, IsLegal, is_touch, after_move, IsMove, AreMoves, Replays}
+use Rattle.mm_classes.specs.{MarksOf, no_marks, marks_after, class_of, next_of, code_of, numbers_text, key_numbers, stored_number, kind_numbers}
+use Rattle.mm_classes.specs.{kind_code, move_numbers, head_text, move_data, mark_data, is_marked, mark_before, last_mark, data_from, log_data, IsLog}
+use Rattle.mm_classes.specs.{Word, Add, Drop, Clear, Steal, Give, Read, Got, Bad, Map, Unmap, Soil, Write, Wrote, Lost, word_of, word_of_move, Class}
 use Rattle.mm_classes.specs.declared.classes.Class.TheVariants as class
 use Rattle.mm_classes.proofs.Again.{heads, cancel, small_move, numbers_again}
 use Rattle.mm_classes.proofs.Codes.{codes_tell}
@@ -101,7 +84,6 @@ stored_by (stored.Block n) =
 
 -- its word, where it is no `at`
 abbrev word : Move → Word
-word (move.Add k b) = Add
 word (move.Drop k) = Drop
 word (move.Clear f) = Clear
 word (move.Steal f) = Steal
@@ -115,14 +97,13 @@ word (move.Soil f) = Soil
 word (move.Write f s) = Write
 word (move.Wrote f) = Wrote
 word (move.Lost f) = Lost
-word (move.At n k) = Add
+word _ = Add
 
 one_word : (a b : Word) → Some a ≡ Some b → a ≡ b
 one_word a b e = cc
 
 spelled : (m : Move) (w : Word) → word_of_move m ≡ Some w → Some (word m) ≡ Some w
 spelled (move.At n k) w e = cc
-spelled (move.Drop k) w e = e
 spelled _ w e = e
 
 back : (m : Move) (w : Word) → word_of_move m ≡ Some w → move_of (word m) (move_numbers m) ≡ Some m
@@ -134,20 +115,12 @@ back (move.Add (Shared a i) None) w e = ap (λ (k : Key). Some (move.Add k None)
 back (move.Add (Shared a i) (Some b)) w e = ap (λ (k : Key). Some (move.Add k (Some b))) (shared_by a i)
 back (move.Drop (Private p v)) w e = ap (λ (k : Key). Some (move.Drop k)) (private_by p v)
 back (move.Drop (Shared a i)) w e = ap (λ (k : Key). Some (move.Drop k)) (shared_by a i)
-back (move.Clear f) w e = refl
-back (move.Steal f) w e = refl
 back (move.Give f (Private p v)) w e = ap (λ (k : Key). Some (move.Give f k)) (private_by p v)
 back (move.Give f (Shared a i)) w e = ap (λ (k : Key). Some (move.Give f k)) (shared_by a i)
 back (move.Read f (Private p v)) w e = ap (λ (k : Key). Some (move.Read f k)) (private_by p v)
 back (move.Read f (Shared a i)) w e = ap (λ (k : Key). Some (move.Read f k)) (shared_by a i)
-back (move.Got f) w e = refl
-back (move.Bad f) w e = refl
-back (move.Map f p) w e = refl
-back (move.Unmap p) w e = refl
-back (move.Soil f) w e = refl
 back (move.Write f s) w e = ap (λ (x : Stored). Some (move.Write f x)) (stored_by s)
-back (move.Wrote f) w e = refl
-back (move.Lost f) w e = refl
+back m w e = refl
 
 again : (w : Word) (m : Move) → word_of_move m ≡ Some w → move_of w (move_numbers m) ≡ Some m
 again w m e = subst (λ (v : Word). move_of v (move_numbers m) ≡ Some m) (one_word (word m) w (spelled m w e)) (back m w e)
@@ -161,18 +134,12 @@ move_again w x y p q e =
 abbrev size_by : Word → ℕ
 size_by Add = 2
 size_by Drop = 2
-size_by Clear = 1
-size_by Steal = 1
 size_by Give = 3
 size_by Read = 3
-size_by Got = 1
-size_by Bad = 1
 size_by Map = 3
 size_by Unmap = 2
-size_by Soil = 1
 size_by Write = 2
-size_by Wrote = 1
-size_by Lost = 1
+size_by x = 1
 
 abbrev size_of : Class → ℕ
 size_of class.FilePageAdded = 3
@@ -188,7 +155,6 @@ is_add _ = false
 
 size_word : (c : Class) (w : Word) → word_of c ≡ w → is_add w ≡ false → size_of c ≡ size_by w
 size_word class.FilePageAdded w e n = let bad : true ≡ false = ap is_add e ∙ n in cc
-size_word class.Deleted w e n = ap size_by e
 size_word _ w e n = ap size_by e
 
 same_word : (c : Class) (o : Option Class) (w : Word) → o ≡ Some c → option_map word_of o ≡ Some w → word_of c ≡ w
@@ -210,21 +176,9 @@ module _ (l : FrameLife) (v : MarksOf) (before : Option Move) (after : Option Mo
   sized (move.Add k None) e = let s = size_key k [] in s ∙ added (is_touch l.kind) e
   sized (move.Add k (Some b)) e = let s = size_key k (b.0 ∷ []) in s ∙ added_block e
   sized (move.Drop (Private p q)) e = sym (by_word (move.Drop (Private p q)) Drop e refl refl)
-  sized (move.Drop (Shared a i)) e = sym (by_word (move.Drop (Shared a i)) Drop e refl refl)
-  sized (move.Clear f) e = sym (by_word (move.Clear f) Clear e refl refl)
-  sized (move.Steal f) e = sym (by_word (move.Steal f) Steal e refl refl)
   sized (move.Give f (Private p q)) e = sym (by_word (move.Give f (Private p q)) Give e refl refl)
-  sized (move.Give f (Shared a i)) e = sym (by_word (move.Give f (Shared a i)) Give e refl refl)
   sized (move.Read f (Private p q)) e = sym (by_word (move.Read f (Private p q)) Read e refl refl)
-  sized (move.Read f (Shared a i)) e = sym (by_word (move.Read f (Shared a i)) Read e refl refl)
-  sized (move.Got f) e = sym (by_word (move.Got f) Got e refl refl)
-  sized (move.Bad f) e = sym (by_word (move.Bad f) Bad e refl refl)
-  sized (move.Map f p) e = sym (by_word (move.Map f p) Map e refl refl)
-  sized (move.Unmap p) e = sym (by_word (move.Unmap p) Unmap e refl refl)
-  sized (move.Soil f) e = sym (by_word (move.Soil f) Soil e refl refl)
-  sized (move.Write f s) e = sym (by_word (move.Write f s) Write e refl refl)
-  sized (move.Wrote f) e = sym (by_word (move.Wrote f) Wrote e refl refl)
-  sized (move.Lost f) e = sym (by_word (move.Lost f) Lost e refl refl)
+  sized m e = sym (by_word m (word m) e refl refl)
 
 -- ---- kinds of lines
 
@@ -257,16 +211,7 @@ kind_of c ns =
 kind_back : (k : LineKind) → kind_of (kind_code k) (kind_numbers k) ≡ Some k
 unfolding kind_of machine_of process_of one_of
 kind_back (kind.Machine f s d b) = refl
-kind_back (kind.Process p a b) = refl
-kind_back (kind.Unbind p) = refl
-kind_back (kind.Access p) = refl
-kind_back (kind.Thread p) = refl
-kind_back (kind.Trim p) = refl
-kind_back kind.Writer = refl
-kind_back kind.Zeroer = refl
-kind_back kind.Io = refl
-kind_back kind.Call = refl
-kind_back (kind.Grow n) = refl
+kind_back k = refl
 
 kind_size : ℕ → ℕ
 kind_size c =
@@ -275,16 +220,7 @@ kind_size c =
 kind_sized : (k : LineKind) → length (kind_numbers k) ≡ kind_size (kind_code k)
 unfolding kind_size
 kind_sized (kind.Machine f s d b) = refl
-kind_sized (kind.Process p a b) = refl
-kind_sized (kind.Unbind p) = refl
-kind_sized (kind.Access p) = refl
-kind_sized (kind.Thread p) = refl
-kind_sized (kind.Trim p) = refl
-kind_sized kind.Writer = refl
-kind_sized kind.Zeroer = refl
-kind_sized kind.Io = refl
-kind_sized kind.Call = refl
-kind_sized (kind.Grow n) = refl
+kind_sized k = refl
 
 kind_again : (j k : LineKind) → kind_code j ≡ kind_code k → kind_numbers j ≡ kind_numbers k → j ≡ k
 kind_again j k c n =

@@ -1,8 +1,7 @@
 -- The classes by their codes.
 use Rattle.std.proofs.Common.{◌≡◌, ℕ, cond, Option, Some, None, refl, sym, ap, ◌∙◌}
 use Rattle.std.specs.Prelude.{◌==◌}
-use Rattle.mm_classes.specs.Words.{code_of}
-use Rattle.mm_classes.specs.declared.classes.Class.{Class}
+use Rattle.mm_classes.specs.{code_of, Class}
 use Rattle.mm_classes.specs.declared.classes.Class.TheVariants as class
 
 -- the class that has a code

@@ -2,17 +2,12 @@
 use Rattle.std.proofs.Common.{◌≡◌, ℕ, ◌+◌, Bool, true, false, cond, List, [], ◌∷◌, Option, Some, None, refl, ap, ◌∙◌, arith}
 use Rattle.std.proofs.lemmas.List.Sums.{sum_by-cons}
 use Rattle.std.specs.Prelude.{◌&&◌, ◌||◌, ◌==◌, not, count_by, option_map}
-use Rattle.mm_types.specs.declared.moves.Move.{Move}
+use Rattle.mm_types.specs.{Move}
 use Rattle.mm_types.specs.declared.moves.Move.TheVariants as move
-use Rattle.mm_life.specs.Frames.{record_at, is_on}
-use Rattle.mm_life.specs.Life.{FrameLife, unstarted}
-use Rattle.mm_life.specs.Effect.{after_move}
-use Rattle.mm_life.specs.LogCounts.{is_give, is_read_in, is_steal, is_wrote, brought_in, soft_fault, soft_faults_from, counts_of_log}
-use Rattle.mm_classes.specs.Marks.{MarksOf, marks_after, no_marks}
-use Rattle.mm_classes.specs.Classes.{class_of, classes_from, classes, class_of_soft, next_of}
-use Rattle.mm_classes.specs.Fitting.{Word, Give, Read, Map, Steal, Wrote, word_of, word_of_move}
-use Rattle.mm_classes.specs.Counting.{is_class, number_of, Agrees}
-use Rattle.mm_classes.specs.declared.classes.Class.{Class}
+use Rattle.mm_life.specs.{record_at, is_on, FrameLife, unstarted, after_move, is_give, is_read_in, is_steal, is_wrote, brought_in, soft_fault}
+use Rattle.mm_life.specs.{soft_faults_from, counts_of_log}
+use Rattle.mm_classes.specs.{MarksOf, marks_after, no_marks, class_of, classes_from, classes, class_of_soft, next_of, Word, Give, Read, Map, Steal}
+use Rattle.mm_classes.specs.{Wrote, word_of, word_of_move, is_class, number_of, Agrees, Class}
 use Rattle.mm_classes.specs.declared.classes.Class.TheVariants as class
 use Rattle.mm_classes.proofs.Fits.{word_fits, of_two, of_soft}
 
@@ -42,32 +37,27 @@ maps _ = false
 -- ---- each class counts in one sum, or in none
 
 given : (o : Option Class) → one (is_class class.DemandZeroFault o) + one (is_class class.FrameForCopy o) ≡ one (gives (option_map word_of o))
-given None = refl
 given (Some class.DemandZeroFault) = refl
-given (Some _) = refl
+given o = refl
 
 was_read : (o : Option Class) → one (is_class class.HardFaultFromPagingFile o) + one (is_class class.HardFaultFromFile o) ≡ one (reads (option_map word_of o))
-was_read None = refl
 was_read (Some class.HardFaultFromFile) = refl
-was_read (Some _) = refl
+was_read o = refl
 
 stolen : (o : Option Class) → one (is_class class.StandbyRepurposed o) ≡ one (steals (option_map word_of o))
-stolen None = refl
 stolen (Some class.StandbyRepurposed) = refl
-stolen (Some _) = refl
+stolen o = refl
 
 written : (o : Option Class) → one (is_class class.WriteDone o) + one (is_class class.WriteDoneChanged o) + one (is_class class.WriteDoneDeleted o) ≡ one (writes (option_map word_of o))
-written None = refl
 written (Some class.WriteDone) = refl
-written (Some _) = refl
+written o = refl
 
 abbrev is_found : Option Class → Bool
 is_found o = maps (option_map word_of o) && not (is_class class.MadeValid o)
 
 was_found : (o : Option Class) → one (is_class class.FirstUse o) + one (is_class class.SoftFaultFromStandby o) + one (is_class class.SoftFaultFromModified o) + one (is_class class.SoftFaultInTransition o) + one (is_class class.SoftFaultShared o) ≡ one (is_found o)
-was_found None = refl
 was_found (Some class.FirstUse) = refl
-was_found (Some _) = refl
+was_found o = refl
 
 -- ---- by the words of the moves
 

@@ -3,8 +3,8 @@ use Rattle.std.proofs.Common.{◌≡◌, ℕ, zero, suc, ◌+◌, ◌-◌, ◌/�
 use Rattle.std.proofs.lemmas.Bool.{lt-ltb, le-ltb}
 use Rattle.std.proofs.lemmas.List.{append-nil, drop_more, drop_all}
 use Rattle.std.proofs.lemmas.List.Concat.{flat_map-append}
-use Rattle.mm_types.specs.Spelling.{Text}
-use Rattle.mm_classes.specs.Encoding.{digits_of, number_text, numbers_text}
+use Rattle.mm_types.specs.{Text}
+use Rattle.mm_classes.specs.{digits_of, number_text, numbers_text}
 
 abbrev either : Bool → Text → Text → Text
 either b last more = cond b last more

@@ -1,22 +1,14 @@
 -- Each class is of a move with its own word.
 use Rattle.std.proofs.Common.{◌≡◌, ℕ, Bool, true, false, cond, Option, Some, None, refl, ap}
 use Rattle.std.specs.Prelude.{◌&&◌, not, nat_lt, is_none, option_map}
-use Rattle.mm_types.specs.declared.numbers.Block.{Block}
-use Rattle.mm_types.specs.declared.numbers.Place.{Place}
-use Rattle.mm_types.specs.declared.frames.Record.{Record}
-use Rattle.mm_types.specs.declared.frames.Held.{Held}
+use Rattle.mm_types.specs.{Block, Place, Record, Held, LineKind, Move}
 use Rattle.mm_types.specs.declared.frames.Held.TheVariants as held
-use Rattle.mm_types.specs.declared.moves.LineKind.{LineKind}
-use Rattle.mm_types.specs.declared.moves.Move.{Move}
 use Rattle.mm_types.specs.declared.moves.Move.TheVariants as move
-use Rattle.mm_life.specs.Frames.{record_at, is_on, has_request, is_again}
-use Rattle.mm_life.specs.Legal.{is_access, is_touch, is_unbind, is_writer, is_zeroer, is_short}
-use Rattle.mm_life.specs.Life.{FrameLife}
-use Rattle.mm_classes.specs.Marks.{MarksOf}
-use Rattle.mm_classes.specs.Classes.{class_of, class_of_add, class_of_read, class_of_soft, class_of_map, class_of_unmap, class_of_got, class_of_write, class_of_wrote, is_busy, is_copy, is_trim, makes_way, makes_room, reads_into}
-use Rattle.mm_classes.specs.declared.classes.Class.{Class}
+use Rattle.mm_life.specs.{record_at, is_on, has_request, is_again, is_access, is_touch, is_unbind, is_writer, is_zeroer, is_short, FrameLife}
+use Rattle.mm_classes.specs.{MarksOf, class_of, class_of_add, class_of_read, class_of_soft, class_of_map, class_of_unmap, class_of_got}
+use Rattle.mm_classes.specs.{class_of_write, class_of_wrote, is_busy, is_copy, is_trim, makes_way, makes_room, reads_into, Class, Word, Add, Drop}
+use Rattle.mm_classes.specs.{Clear, Give, Read, Got, Bad, Map, Unmap, Soil, Write, Wrote, Lost, word_of, word_of_move}
 use Rattle.mm_classes.specs.declared.classes.Class.TheVariants as class
-use Rattle.mm_classes.specs.Fitting.{Word, Add, Drop, Clear, Give, Read, Got, Bad, Map, Unmap, Soil, Write, Wrote, Lost, word_of, word_of_move}
 
 -- what is so of two classes is so of either
 pub of_two : {A : Type 0} (f : Class → A) (a : A) (test : Bool) (x y : Class) → f x ≡ a → f y ≡ a → f (cond test x y) ≡ a
@@ -35,10 +27,7 @@ word_of_add k (Some b) = refl
 
 word_of_read : (h : Held) → word_of (class_of_read h) ≡ Read
 word_of_read (held.Slot s) = refl
-word_of_read (held.Block b) = refl
-word_of_read (held.Frame f) = refl
-word_of_read held.Zero = refl
-word_of_read held.Dead = refl
+word_of_read h = refl
 
 word_of_got : (k : LineKind) (r : Record) (own : Bool) → word_of (class_of_got k r own) ≡ Got
 word_of_got k r own =

@@ -7,3 +7,8 @@ pub mod Tells
 pub mod Plain
 pub mod Again
 pub mod Back
+pub use Digits.{digits_none}
+pub use Counted.{agrees}
+pub use Tells.{says}
+pub use Plain.{plain_data}
+pub use Back.{data_back}

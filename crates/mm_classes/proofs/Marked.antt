@@ -1,8 +1,7 @@
 -- The marks of frames, as they are set one by one.
 use Rattle.std.proofs.Common.{◌≡◌, ℕ, zero, suc, ◌+◌, ◌≤◌, ◌<◌, false, List, [], ◌∷◌, ◌++◌, replicate, refl, ◌∙◌, arith}
 use Rattle.std.specs.Prelude.{◌==◌}
-use Rattle.mm_classes.specs.declared.marks.FrameMark.{FrameMark}
-use Rattle.mm_classes.specs.Marks.{AreEarlier, marks_in, mark_at, unmarked, no_marks}
+use Rattle.mm_classes.specs.{FrameMark, AreEarlier, marks_in, mark_at, unmarked, no_marks}
 
 -- room behind the marks shows no mark
 unmarked_behind : (n f : ℕ) → mark_at (replicate n unmarked) f ≡ unmarked

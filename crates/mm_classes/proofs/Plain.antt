@@ -2,22 +2,13 @@
 use Rattle.std.proofs.Common.{◌≡◌, ℕ, zero, suc, ◌+◌, ◌/◌, ◌%◌, ◌≤◌, Bool, true, false, cond, List, [], ◌∷◌, ◌++◌, Option, Some, None, refl, ap, arith}
 use Rattle.std.specs.Prelude.{◌==◌, not, nat_lt, nat_le}
 use Rattle.std.specs.List.{list_all}
-use Rattle.mm_types.specs.Spelling.{Text}
-use Rattle.mm_types.proofs.Booleans.{both, parts}
-use Rattle.mm_types.proofs.Tables.{differ}
-use Rattle.mm_types.specs.declared.answers.Counts.{Counts}
-use Rattle.mm_types.specs.declared.moves.LineKind.{LineKind}
+use Rattle.mm_types.specs.{Text, Counts, LineKind, Move}
+use Rattle.mm_types.proofs.{both, parts, differ}
 use Rattle.mm_types.specs.declared.moves.LineKind.TheVariants as kind
-use Rattle.mm_types.specs.declared.moves.Move.{Move}
 use Rattle.mm_types.specs.declared.moves.Move.TheVariants as move
-use Rattle.mm_life.specs.Life.{FrameLife, unstarted, counts_of}
-use Rattle.mm_life.specs.Effect.{after_move}
-use Rattle.mm_classes.specs.Marks.{MarksOf, no_marks, marks_after}
-use Rattle.mm_classes.specs.Classes.{class_of, next_of}
-use Rattle.mm_classes.specs.Words.{code_of}
-use Rattle.mm_classes.specs.Encoding.{digits_of, number_text, numbers_text, move_numbers, kind_code, head_text, move_data, mark_data}
-use Rattle.mm_classes.specs.Data.{is_plain, is_marked, mark_before, last_mark, data_from, log_data}
-use Rattle.mm_classes.specs.declared.classes.Class.{Class}
+use Rattle.mm_life.specs.{FrameLife, unstarted, counts_of, after_move}
+use Rattle.mm_classes.specs.{MarksOf, no_marks, marks_after, class_of, next_of, code_of, digits_of, number_text, numbers_text, move_numbers}
+use Rattle.mm_classes.specs.{kind_code, head_text, move_data, mark_data, is_plain, is_marked, mark_before, last_mark, data_from, log_data, Class}
 use Rattle.mm_classes.specs.declared.classes.Class.TheVariants as class
 
 abbrev Plain : Text → Type 0

@@ -2,25 +2,16 @@
 use Rattle.std.proofs.Common.{◌≡◌, ℕ, zero, suc, ◌+◌, ◌≤◌, Bool, true, false, cond, List, [], ◌∷◌, Option, Some, None, refl, sym, ap, ◌∙◌, arith}
 use Rattle.std.specs.Prelude.{◌&&◌, ◌||◌, ◌==◌, not, nat_lt, is_some, option_map, unwrap_or}
 use Rattle.std.proofs.lemmas.Bool.{and_parts, lt-ltb}
-use Rattle.mm_types.specs.declared.numbers.Block.{Block}
-use Rattle.mm_types.specs.declared.numbers.Frame.{Frame}
-use Rattle.mm_types.specs.declared.numbers.Place.{Place}
-use Rattle.mm_types.specs.declared.numbers.Slot.{Slot}
-use Rattle.mm_types.specs.declared.frames.Held.{Held}
+use Rattle.mm_types.specs.{Block, Frame, Place, Slot, Held, LineKind, Move}
 use Rattle.mm_types.specs.declared.frames.Held.TheVariants as held
-use Rattle.mm_types.specs.declared.moves.LineKind.{LineKind}
 use Rattle.mm_types.specs.declared.moves.LineKind.TheVariants as kind
-use Rattle.mm_types.specs.declared.moves.Move.{Move}
 use Rattle.mm_types.specs.declared.moves.Move.TheVariants as move
-use Rattle.mm_life.specs.Frames.{record_at, is_on, is_idle, has_request}
-use Rattle.mm_life.specs.Life.{FrameLife, set_of, is_shared, key_of_place, is_live}
-use Rattle.mm_life.specs.Legal.{is_access, is_at_max, is_above_min, is_short, is_stored, is_unbind, unbinds, trims, touches, owner_is, fits_place, may_unmap, is_legal_map}
+use Rattle.mm_life.specs.{record_at, is_on, is_idle, has_request, FrameLife, set_of, is_shared, key_of_place, is_live, is_access, is_at_max}
+use Rattle.mm_life.specs.{is_above_min, is_short, is_stored, is_unbind, unbinds, trims, touches, owner_is, fits_place, may_unmap, is_legal_map}
 use Rattle.mm_laws.specs.Sound.{Sound}
-use Rattle.mm_laws.specs.Tally.{one_if, times}
-use Rattle.mm_laws.proofs.Sound.{owner_passes}
-use Rattle.mm_classes.specs.Classes.{class_of_read, class_of_soft, class_of_map, class_of_unmap, is_trim, makes_way, makes_room}
-use Rattle.mm_classes.specs.Laws.{Told, SaysTheState}
-use Rattle.mm_classes.specs.declared.classes.Class.{Class}
+use Rattle.mm_laws.specs.{one_if, times}
+use Rattle.mm_laws.proofs.{owner_passes}
+use Rattle.mm_classes.specs.{class_of_read, class_of_soft, class_of_map, class_of_unmap, is_trim, makes_way, makes_room, Told, SaysTheState, Class}
 use Rattle.mm_classes.specs.declared.classes.Class.TheVariants as class
 
 some_class : (a b : Class) → Some a ≡ Some b → a ≡ b
@@ -30,17 +21,11 @@ some_class a b e = cc
 
 from_slot : (h : Held) → class_of_read h ≡ class.HardFaultFromPagingFile → (s : Slot) × (h ≡ held.Slot s)
 from_slot (held.Slot s) e = (s, refl)
-from_slot (held.Block b) e = cc
-from_slot (held.Frame f) e = cc
-from_slot held.Zero e = cc
-from_slot held.Dead e = cc
+from_slot h e = cc
 
 from_block : (h : Held) → is_stored h ≡ true → class_of_read h ≡ class.HardFaultFromFile → (b : Block) × (h ≡ held.Block b)
-from_block (held.Slot s) i e = cc
 from_block (held.Block b) i e = (b, refl)
-from_block (held.Frame f) i e = cc
-from_block held.Zero i e = cc
-from_block held.Dead i e = cc
+from_block h i e = cc
 
 -- ---- maps
 
@@ -61,16 +46,12 @@ record Quiet (a b c : Bool) : Type 0 where
   off : c ≡ false
 
 on_standby : (a b c : Bool) → cond a class.SoftFaultShared (cond b class.SoftFaultInTransition (cond c class.SoftFaultFromModified class.SoftFaultFromStandby)) ≡ class.SoftFaultFromStandby → Quiet a b c
-on_standby true b c e = cc
-on_standby false true c e = cc
-on_standby false false true e = cc
 on_standby false false false e = record { unshared = refl; quiet = refl; off = refl }
+on_standby a b c e = cc
 
 on_modified : (a b c : Bool) → cond a class.SoftFaultShared (cond b class.SoftFaultInTransition (cond c class.SoftFaultFromModified class.SoftFaultFromStandby)) ≡ class.SoftFaultFromModified → c ≡ true
-on_modified true b c e = cc
-on_modified false true c e = cc
 on_modified false false true e = refl
-on_modified false false false e = cc
+on_modified a b c e = cc
 
 -- a frame that is not on a list stands there no times, and one that is not there is not on it
 on_times : (f : ℕ) (xs : List ℕ) → 1 ≤ times f xs → is_on f xs ≡ true
@@ -99,9 +80,7 @@ one_true false e = refl
 
 stands_there : (owned idle changed : Bool) → owned ≡ true → idle ≡ true → (owned && (idle && changed)) ≡ false → one_if (owned && (idle && not changed)) ≡ 1
 stands_there true true false a b c = refl
-stands_there true true true a b c = cc
-stands_there true false x a b c = cc
-stands_there false i x a b c = cc
+stands_there o i x a b c = cc
 
 module _ (l : FrameLife) (s : Sound l) where
   standby_there : (f : ℕ) → is_some (record_at l.frames f).owner ≡ true → is_idle (record_at l.frames f) ≡ true → is_on f l.frames.modified ≡ false → is_on f l.frames.standby ≡ true
@@ -145,19 +124,13 @@ by_tests a b c d = cond a class.PlaceEnds (cond b class.Trimmed (cond c class.Ma
 
 replaced_by : (a b c d : Bool) → by_tests a b c d ≡ class.Replaced → Others a b c d
 unfolding by_tests
-replaced_by true b c d e = cc
-replaced_by false true c d e = cc
-replaced_by false false true d e = cc
-replaced_by false false false true e = cc
 replaced_by false false false false e = record { no_end = refl; no_trim = refl; no_copy = refl; no_want = refl }
+replaced_by a b c d e = cc
 
 wanted_by : (a b c d : Bool) → by_tests a b c d ≡ class.TrimmedForWantOfFrames → d ≡ true
 unfolding by_tests
-wanted_by true b c d e = cc
-wanted_by false true c d e = cc
-wanted_by false false true d e = cc
 wanted_by false false false true e = refl
-wanted_by false false false false e = cc
+wanted_by a b c d e = cc
 
 unbinds_is : (pid : ℕ) (k : LineKind) → unbinds pid k ≡ true → is_unbind k ≡ true
 unbinds_is pid (kind.Unbind p) e = refl

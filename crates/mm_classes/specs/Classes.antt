@@ -4,22 +4,13 @@
 -- Profile, "Logs of moves".
 use Rattle.std.specs.Prelude.{ℕ, Bool, true, false, not, ◌&&◌, nat_lt, ◌==◌, if◌then◌else◌, is_some}
 use Rattle.std.specs.Prelude.{is_none, List, [], ◌∷◌, Option, Some, None}
-use Rattle.mm_types.specs.declared.numbers.Block.{Block}
-use Rattle.mm_types.specs.declared.numbers.Key.{Key}
+use Rattle.mm_types.specs.{Block, Key, Place, Record, Held, LineKind, Move}
 use Rattle.mm_types.specs.declared.numbers.Key.TheVariants.{Private, Shared}
-use Rattle.mm_types.specs.declared.numbers.Place.{Place}
-use Rattle.mm_types.specs.declared.frames.Record.{Record}
-use Rattle.mm_types.specs.declared.frames.Held.{Held}
 use Rattle.mm_types.specs.declared.frames.Held.TheVariants as held
-use Rattle.mm_types.specs.declared.moves.LineKind.{LineKind}
 use Rattle.mm_types.specs.declared.moves.LineKind.TheVariants as kind
-use Rattle.mm_types.specs.declared.moves.Move.{Move}
 use Rattle.mm_types.specs.declared.moves.Move.TheVariants as move
-use Rattle.mm_life.specs.Frames.{record_at, is_on, has_request, is_again}
-use Rattle.mm_life.specs.Life.{FrameLife, unstarted, set_of, key_of_place, is_live}
-use Rattle.mm_life.specs.Legal.{is_access, is_touch, is_unbind, is_writer, is_zeroer, touches}
-use Rattle.mm_life.specs.Legal.{shows_shared, is_at_max, is_short}
-use Rattle.mm_life.specs.Effect.{after_move}
+use Rattle.mm_life.specs.{record_at, is_on, has_request, is_again, FrameLife, unstarted, set_of, key_of_place, is_live, is_access, is_touch}
+use Rattle.mm_life.specs.{is_unbind, is_writer, is_zeroer, touches, shows_shared, is_at_max, is_short, after_move}
 use Rattle.mm_classes.specs.Marks.{MarksOf, no_marks, marks_after}
 use Rattle.mm_classes.specs.declared.classes.Class.{Class}
 use Rattle.mm_classes.specs.declared.classes.Class.TheVariants as class

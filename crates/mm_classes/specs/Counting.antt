@@ -1,6 +1,6 @@
 -- How many moves of a log are of a class.
 use Rattle.std.specs.Prelude.{◌≡◌, ℕ, ◌+◌, Bool, false, ◌==◌, List, count_by, Option, Some, None}
-use Rattle.mm_life.specs.LogCounts.{CountsOfLog}
+use Rattle.mm_life.specs.{CountsOfLog}
 use Rattle.mm_classes.specs.Words.{code_of}
 use Rattle.mm_classes.specs.declared.classes.Class.{Class}
 use Rattle.mm_classes.specs.declared.classes.Class.TheVariants as class

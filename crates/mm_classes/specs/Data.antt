@@ -2,13 +2,9 @@
 -- their classes, and the counts of the state after each line 64, 128, .. and after the last.
 use Rattle.std.specs.Prelude.{ℕ, ◌%◌, Bool, not, ◌&&◌, ◌==◌, nat_le, if◌then◌else◌, List, [], ◌∷◌}
 use Rattle.std.specs.Prelude.{◌++◌, Option, Some, None}
-use Rattle.mm_types.specs.Spelling.{Text}
-use Rattle.mm_types.specs.declared.moves.Move.{Move}
+use Rattle.mm_types.specs.{Text, Move}
 use Rattle.mm_types.specs.declared.moves.Move.TheVariants as move
-use Rattle.mm_life.specs.Life.{FrameLife, unstarted, counts_of}
-use Rattle.mm_life.specs.Effect.{after_move}
-use Rattle.mm_life.specs.MoveText.{AreMoves}
-use Rattle.mm_life.specs.Replay.{Replays}
+use Rattle.mm_life.specs.{FrameLife, unstarted, counts_of, after_move, AreMoves, Replays}
 use Rattle.mm_classes.specs.Marks.{MarksOf, no_marks, marks_after}
 use Rattle.mm_classes.specs.Classes.{class_of, next_of}
 use Rattle.mm_classes.specs.Encoding.{move_data, mark_data}

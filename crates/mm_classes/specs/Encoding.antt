@@ -2,16 +2,10 @@
 -- HTML.
 use Rattle.std.specs.Prelude.{ℕ, zero, suc, ◌+◌, ◌*◌, ◌/◌, ◌%◌, nat_lt, if◌then◌else◌, List, []}
 use Rattle.std.specs.Prelude.{◌∷◌, ◌++◌, flat_map, Option, Some, None}
-use Rattle.mm_types.specs.Spelling.{Text}
-use Rattle.mm_types.specs.declared.answers.Counts.{Counts}
-use Rattle.mm_types.specs.declared.numbers.Block.{Block}
-use Rattle.mm_types.specs.declared.numbers.Key.{Key}
+use Rattle.mm_types.specs.{Text, Counts, Block, Key, LineKind, Stored, Move}
 use Rattle.mm_types.specs.declared.numbers.Key.TheVariants.{Private, Shared}
-use Rattle.mm_types.specs.declared.moves.LineKind.{LineKind}
 use Rattle.mm_types.specs.declared.moves.LineKind.TheVariants as kind
-use Rattle.mm_types.specs.declared.moves.Stored.{Stored}
 use Rattle.mm_types.specs.declared.moves.Stored.TheVariants as stored
-use Rattle.mm_types.specs.declared.moves.Move.{Move}
 use Rattle.mm_types.specs.declared.moves.Move.TheVariants as move
 use Rattle.mm_classes.specs.declared.classes.Class.{Class}
 use Rattle.mm_classes.specs.Words.{code_of}
@@ -102,17 +96,12 @@ head_text None m = []
 abbrev pub move_data : Option Class → Move → Text
 move_data c m = head_text c m ++ numbers_text (move_numbers m)
 
+-- the eight counts
+abbrev pub numbers_of : Counts → List ℕ
+numbers_of c =
+    c.zeroed ∷ c.free ∷ c.standby ∷ c.modified ∷ c.active ∷ c.transition ∷ c.free_slots ∷ c.requests
+    ∷ []
+
 -- `=` and the eight counts
 abbrev pub mark_data : Counts → Text
-mark_data c =
-    0x3D
-    ∷ numbers_text
-    (c.zeroed
-    ∷ c.free
-    ∷ c.standby
-    ∷ c.modified
-    ∷ c.active
-    ∷ c.transition
-    ∷ c.free_slots
-    ∷ c.requests
-    ∷ [])
+mark_data c = 0x3D ∷ numbers_text (numbers_of c)

@@ -1,6 +1,6 @@
 -- The word that a move begins with, and that of the moves of a class.
 use Rattle.std.specs.Prelude.{Option, Some, None}
-use Rattle.mm_types.specs.declared.moves.Move.{Move}
+use Rattle.mm_types.specs.{Move}
 use Rattle.mm_types.specs.declared.moves.Move.TheVariants as move
 use Rattle.mm_classes.specs.declared.classes.Class.{Class}
 use Rattle.mm_classes.specs.declared.classes.Class.TheVariants as class

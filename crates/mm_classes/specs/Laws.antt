@@ -1,17 +1,10 @@
 -- What a class says of the state in which its move is legal.
 -- Profile, "Logs of moves".
 use Rattle.std.specs.Prelude.{◌≡◌, true, Option, Some}
-use Rattle.mm_types.specs.declared.numbers.Block.{Block}
-use Rattle.mm_types.specs.declared.numbers.Frame.{Frame}
-use Rattle.mm_types.specs.declared.numbers.Key.{Key}
-use Rattle.mm_types.specs.declared.numbers.Place.{Place}
-use Rattle.mm_types.specs.declared.numbers.Slot.{Slot}
+use Rattle.mm_types.specs.{Block, Frame, Key, Place, Slot, Move}
 use Rattle.mm_types.specs.declared.frames.Held.TheVariants as held
-use Rattle.mm_types.specs.declared.moves.Move.{Move}
 use Rattle.mm_types.specs.declared.moves.Move.TheVariants as move
-use Rattle.mm_life.specs.Frames.{is_on}
-use Rattle.mm_life.specs.Life.{FrameLife, set_of}
-use Rattle.mm_life.specs.Legal.{IsLegal, is_at_max, is_short}
+use Rattle.mm_life.specs.{is_on, FrameLife, set_of, IsLegal, is_at_max, is_short}
 use Rattle.mm_classes.specs.Marks.{MarksOf}
 use Rattle.mm_classes.specs.Classes.{class_of}
 use Rattle.mm_classes.specs.declared.classes.Class.{Class}

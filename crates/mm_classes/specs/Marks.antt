@@ -1,7 +1,7 @@
 -- What a class has to know of the moves before it, beside the state.
 -- Profile, "Logs of moves".
 use Rattle.std.specs.Prelude.{ℕ, ◌≤◌, Bool, true, false, ◌==◌, if◌then◌else◌, List, slice_index_or}
-use Rattle.mm_types.specs.declared.moves.Move.{Move}
+use Rattle.mm_types.specs.{Move}
 use Rattle.mm_types.specs.declared.moves.Move.TheVariants as move
 use Rattle.mm_classes.specs.declared.marks.FrameMark.{FrameMark}
 

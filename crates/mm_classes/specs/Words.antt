@@ -1,6 +1,6 @@
 -- The words, the code and the group of each class.
 use Rattle.std.specs.Prelude.{ℕ, Option, Some, None, codes}
-use Rattle.mm_types.specs.Spelling.{Text}
+use Rattle.mm_types.specs.{Text}
 use Rattle.mm_classes.specs.declared.classes.Class.{Class}
 use Rattle.mm_classes.specs.declared.classes.Class.TheVariants as class
 use Rattle.mm_classes.specs.declared.classes.Group.{Group}

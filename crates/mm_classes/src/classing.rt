@@ -1,72 +1,23 @@
-ghost use Rattle.std.specs.Prelude.{◌≡◌, option_map};
-ghost use Rattle.mm_life.specs.Frames.{has_request, is_again};
-ghost use Rattle.mm_life.specs.Legal.{is_access, is_touch, is_unbind, is_writer, is_zeroer};
-ghost use Rattle.mm_life.specs.Legal.{touches, is_at_max, shows_shared, is_short, owner_is};
-ghost use Rattle.mm_life.specs.Life.{is_shared};
+ghost use Rattle.std.specs.Prelude.{◌≡◌, if◌then◌else◌, is_none, option_map};
+ghost use Rattle.mm_life.specs.{is_at_max, shows_shared, is_short, owner_is, is_shared};
 ghost use Rattle.mm_replay.specs.Standing.{life};
 ghost use Rattle.mm_classes.specs.Classes.{class_of_add, class_of_drop, class_of_clear};
 ghost use Rattle.mm_classes.specs.Classes.{class_of_give, class_of_read, class_of_got};
-ghost use Rattle.mm_classes.specs.Classes.{class_of_bad, class_of_soft, class_of_map};
+ghost use Rattle.mm_classes.specs.Classes.{class_of_soft, class_of_map};
 ghost use Rattle.mm_classes.specs.Classes.{class_of_unmap, class_of_soil, class_of_write};
-ghost use Rattle.mm_classes.specs.Classes.{class_of_wrote, class_of_lost, class_of, is_busy};
-ghost use Rattle.mm_classes.specs.Classes.{is_copy, is_trim, makes_way, maps_into, makes_room};
+ghost use Rattle.mm_classes.specs.Classes.{class_of_wrote, class_of, is_busy};
+ghost use Rattle.mm_classes.specs.Classes.{is_copy, makes_way, maps_into, makes_room};
 ghost use Rattle.mm_classes.specs.Classes.{reads_into};
 ghost use Rattle.mm_classes.specs.Marking.{marks_of};
 
 use crate::classes::Class;
+use crate::looks::{has_request, is_access, is_again, is_touch, touches};
 use crate::marks::Marks;
 use mm_life::ResidentSet;
 use mm_replay::{FrameList, Life};
-use mm_types::{Block, Frame, Held, Key, LineKind, Move, Pid, Place, Record, Request};
-
-// ---- kinds of lines
-
-fn is_access(kind: LineKind) -> bool
-    ensures { result ≡ is_access kind }
-{
-    match kind {
-        LineKind::Access(_) => true,
-        _ => false,
-    }
-}
-
-fn is_touch(kind: LineKind) -> bool
-    ensures { result ≡ is_touch kind }
-{
-    match kind {
-        LineKind::Access(_) | LineKind::Thread(_) => true,
-        _ => false,
-    }
-}
-
-fn touches(pid: Pid, kind: LineKind) -> bool
-    ensures { result ≡ touches pid.0 kind }
-{
-    match kind {
-        LineKind::Access(p) | LineKind::Thread(p) => p.0 == pid.0,
-        _ => false,
-    }
-}
+use mm_types::{Block, Frame, Held, Key, LineKind, Move, Pid, Place, Record};
 
 // ---- records, sets and moves
-
-fn has_request(r: &Record) -> bool
-    ensures { result ≡ has_request r.now.request }
-{
-    match r.request {
-        Request::None => false,
-        Request::Read | Request::Write | Request::WriteAgain => true,
-    }
-}
-
-fn is_again(r: &Record) -> bool
-    ensures { result ≡ is_again r.now.request }
-{
-    match r.request {
-        Request::WriteAgain => true,
-        Request::None | Request::Read | Request::Write => false,
-    }
-}
 
 fn is_at_max(set: Option<ResidentSet>) -> bool
     ensures { result ≡ is_at_max set }
@@ -128,7 +79,7 @@ fn is_busy(replay: &Life, held: Held) -> bool
     ensures { result ≡ is_busy (life replay.now) held }
 {
     match held {
-        Held::Frame(frame) => has_request(&replay.record(frame)),
+        Held::Frame(frame) => has_request(replay.record(frame).request),
         Held::Slot(_) | Held::Block(_) | Held::Zero | Held::Dead => false,
     }
 }
@@ -193,14 +144,11 @@ fn class_of_got(kind: LineKind, r: &Record, own: bool) -> Class
     }
 }
 
-fn class_of_bad(r: &Record) -> Class
-    ensures { result ≡ class_of_bad r.now }
+/// One of two classes, by whether the page of a frame was deleted.
+fn by_owner(r: &Record, deleted: Class, owned: Class) -> Class
+    ensures { result ≡ (if is_none r.now.owner then deleted else owned) }
 {
-    if r.owner.is_none() {
-        Class::PageInFailedDeleted
-    } else {
-        Class::PageInFailed
-    }
+    if r.owner.is_none() { deleted } else { owned }
 }
 
 /// A page is found in a frame: valid elsewhere, being written, or on one of two lists.
@@ -209,7 +157,7 @@ fn class_of_soft(replay: &Life, frame: Frame, r: &Record) -> Class
 {
     if r.shares > 0 {
         Class::SoftFaultShared
-    } else if has_request(r) {
+    } else if has_request(r.request) {
         Class::SoftFaultInTransition
     } else if replay.is_on_modified(frame) {
         Class::SoftFaultFromModified
@@ -287,7 +235,7 @@ fn class_of_unmap(replay: &Life, place: Place, next: Option<&Move>) -> Class
 fn class_of_soil(r: &Record) -> Class
     ensures { result ≡ class_of_soil r.now }
 {
-    if has_request(r) {
+    if has_request(r.request) {
         Class::FirstWriteInFlight
     } else {
         Class::FirstWrite
@@ -309,20 +257,10 @@ fn class_of_wrote(r: &Record) -> Class
 {
     if r.owner.is_none() {
         Class::WriteDoneDeleted
-    } else if is_again(r) {
+    } else if is_again(r.request) {
         Class::WriteDoneChanged
     } else {
         Class::WriteDone
-    }
-}
-
-fn class_of_lost(r: &Record) -> Class
-    ensures { result ≡ class_of_lost r.now }
-{
-    if r.owner.is_none() {
-        Class::WriteFailedDeleted
-    } else {
-        Class::WriteFailed
     }
 }
 
@@ -352,13 +290,21 @@ pub fn class_of(
             &replay.record(frame),
             reads_into(frame, previous),
         ),
-        Move::Bad(frame) => class_of_bad(&replay.record(frame)),
+        Move::Bad(frame) => by_owner(
+            &replay.record(frame),
+            Class::PageInFailedDeleted,
+            Class::PageInFailed,
+        ),
         Move::Map(frame, _) => class_of_map(replay, marks, frame),
         Move::Unmap(place) => class_of_unmap(replay, place, next),
         Move::Soil(frame) => class_of_soil(&replay.record(frame)),
         Move::Write(_, _) => class_of_write(replay.kind()),
         Move::Wrote(frame) => class_of_wrote(&replay.record(frame)),
-        Move::Lost(frame) => class_of_lost(&replay.record(frame)),
+        Move::Lost(frame) => by_owner(
+            &replay.record(frame),
+            Class::WriteFailedDeleted,
+            Class::WriteFailed,
+        ),
     };
     Some(class)
 }

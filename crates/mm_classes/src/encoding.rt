@@ -2,6 +2,7 @@ ghost use Rattle.std.specs.Prelude.{◌≡◌, ◌+◌, ◌-◌, ◌*◌, ◌<�
 ghost use Rattle.mm_classes.specs.Encoding.{digits_of, number_text, numbers_text, key_numbers};
 ghost use Rattle.mm_classes.specs.Encoding.{block_numbers, stored_number, kind_numbers, kind_code};
 ghost use Rattle.mm_classes.specs.Encoding.{move_numbers, head_text, move_data, mark_data};
+ghost use Rattle.mm_classes.specs.Encoding.{numbers_of};
 ghost use Rattle.mm_classes.specs.Words.{code_of};
 
 use crate::classes::Class;
@@ -202,6 +203,22 @@ pub fn put_move(out: &mut LineBuf, class: Option<Class>, m: &Move)
     put_move_numbers(out, m);
 }
 
+/// The eight counts of a state.
+pub fn counts_in(counts: Counts) -> [u64; 8]
+    ensures { result ≡ numbers_of counts }
+{
+    [
+        u64::from(counts.zeroed),
+        u64::from(counts.free),
+        u64::from(counts.standby),
+        u64::from(counts.modified),
+        u64::from(counts.active),
+        u64::from(counts.transition),
+        u64::from(counts.free_slots),
+        u64::from(counts.requests),
+    ]
+}
+
 /// Writes a mark at the end of a line, in at most 105 bytes: `=` and the eight counts of a state.
 #[tactic(auto, using(crate::proofs::Digits::digits))]
 pub fn put_mark(out: &mut LineBuf, counts: Counts)
@@ -210,17 +227,5 @@ pub fn put_mark(out: &mut LineBuf, counts: Counts)
     ensures few { length out.new ≤ length out.old + 105 }
 {
     out.push(b'=');
-    put_numbers(
-        out,
-        &[
-            u64::from(counts.zeroed),
-            u64::from(counts.free),
-            u64::from(counts.standby),
-            u64::from(counts.modified),
-            u64::from(counts.active),
-            u64::from(counts.transition),
-            u64::from(counts.free_slots),
-            u64::from(counts.requests),
-        ],
-    );
+    put_numbers(out, &counts_in(counts));
 }

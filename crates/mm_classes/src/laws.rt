@@ -1,8 +1,7 @@
 ghost use Rattle.std.specs.Prelude.{◌≡◌, true, Option, List, option_map};
 ghost use Rattle.std.specs.List.{list_all};
-ghost use Rattle.mm_types.specs.declared.moves.Move.{Move};
-ghost use Rattle.mm_life.specs.Life.{FrameLife};
-ghost use Rattle.mm_life.specs.LogCounts.{counts_of_log};
+ghost use Rattle.mm_types.specs.{Move};
+ghost use Rattle.mm_life.specs.{FrameLife, counts_of_log};
 ghost use Rattle.mm_classes.specs.declared.classes.Class.{Class};
 ghost use Rattle.mm_classes.specs.Marks.{MarksOf};
 ghost use Rattle.mm_classes.specs.Classes.{class_of, classes};

@@ -1,5 +1,5 @@
 ghost use Rattle.std.specs.Prelude.{◌≡◌, ◌++◌, codes};
-ghost use Rattle.mm_life.specs.WorkedLogs.{rewritten_log, smallest_set_log};
+ghost use Rattle.mm_life.specs.{rewritten_log, smallest_set_log};
 ghost use Rattle.mm_classes.specs.Classes.{classes};
 ghost use Rattle.mm_classes.specs.Worked.{rewritten_classes, smallest_set_classes};
 

@@ -1,1 +1,2 @@
 pub mod Charge
+pub use Charge.{CommitOf}

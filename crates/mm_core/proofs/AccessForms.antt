@@ -1,36 +1,20 @@
 -- An access, plain or of a thread, by the moves that its calls of the store passed.
 use Rattle.std.proofs.Common.{◌≡◌, ◌≤◌, ℕ, List, ◌++◌, Bool, true, false, Option, Some, None, refl, sym, ap, ◌∙◌, subst, cond, option_map, unwrap_or, is_some, arith}
 use Rattle.std.specs.Prelude.{count_by, Result, Ok, Err}
-use Rattle.mm_types.specs.declared.answers.Answer.{Answer}
+use Rattle.mm_types.specs.{Answer, PageFault, Move, Key, Pid, Place, page_of}
 use Rattle.mm_types.specs.declared.answers.Answer.TheVariants as answer
 use Rattle.mm_types.specs.declared.codes.Raise.TheVariants as raise
-use Rattle.mm_types.specs.declared.faults.PageFault.{PageFault}
 use Rattle.mm_types.specs.declared.faults.PageFault.TheVariants as fault
-use Rattle.mm_types.specs.declared.moves.Move.{Move}
-use Rattle.mm_types.specs.declared.numbers.Key.{Key}
-use Rattle.mm_types.specs.declared.numbers.Pid.{Pid}
-use Rattle.mm_types.specs.declared.numbers.Place.{Place}
-use Rattle.mm_types.specs.Address.{page_of}
-use Rattle.mm_life.specs.Life.{FrameLife}
-use Rattle.mm_life.specs.Replay.{Replays}
-use Rattle.mm_world.specs.World.{WorldOf}
-use Rattle.mm_world.specs.Access.{Attempt}
-use Rattle.mm_world.specs.Failure.{Need, same_key}
+use Rattle.mm_life.specs.{FrameLife, Replays, walked_all, waits_through, ages_through, is_read_move, is_wrote_move, takes_frame}
+use Rattle.mm_world.specs.{WorldOf, Attempt, Need, same_key, need_at}
 use Rattle.mm_world.specs.Report.{Report}
-use Rattle.mm_world.specs.Step.{need_at}
-use Rattle.mm_life.specs.Walks.{walked_all, waits_through, ages_through, is_read_move, is_wrote_move, takes_frame}
-use Rattle.mm_pages.specs.Store.{StoreOf, changed, same_place}
+use Rattle.mm_pages.specs.{StoreOf, changed, same_place, place_at, PassesIn, Aim, AccessEnds, ReadyMoves, Had, Failed, Touches, Copies, walk_from}
 use Rattle.mm_pages.specs.Behind.{Behind}
-use Rattle.mm_pages.specs.Conditions.{place_at}
 use Rattle.mm_pages.specs.Reports.{Ends}
-use Rattle.mm_pages.specs.Passing.{PassesIn}
-use Rattle.mm_pages.specs.Accesses.{Aim, AccessEnds, ReadyMoves, Had, Failed, Touches, Copies, walk_from}
-use Rattle.mm_pages.proofs.Passed.{Joins, passes_then, waits_then, ages_then}
-use Rattle.mm_pages.proofs.Walking.{accesses_then}
-use Rattle.mm_paging.specs.Kinds.{aim_at, is_write}
-use Rattle.mm_paging.specs.Lines.{is_had, is_failed, is_pending_read}
-use Rattle.mm_paging.proofs.Threads.{ready_moves}
-use Rattle.mm_core.specs.Answering.{AnswersAccess, Answered}
+use Rattle.mm_pages.proofs.{Joins, passes_then, waits_then, ages_then, accesses_then}
+use Rattle.mm_paging.specs.{aim_at, is_write, is_had, is_failed, is_pending_read}
+use Rattle.mm_paging.proofs.{ready_moves}
+use Rattle.mm_core.specs.{AnswersAccess, Answered}
 use Rattle.mm_core.proofs.Pieces.{passes_as}
 use Rattle.mm_core.proofs.AccessPieces.{count-then, walked_life, ready-reads, ready-wrote, ready-ages, twice}
 
@@ -84,45 +68,36 @@ module _ (a : Aim) (after : Report) (b : Behind) (ms : List Move) (c : Behind) w
     settled = refl;
   }
 
-module _ {T : Type 0} (u : Bool) (aim : Option Aim) (a : Aim) (is : aim ≡ Some a) (Ready : Type 0) (result : Result T PageFault) (s z : StoreOf) (b c : Behind) where
-  pub touched_had : (x : T) (r : Answer) → result ≡ Ok x → Gives r → PassesIn u (Touches a Ready result) s z b c → PassesIn u (Answered aim Ready r z.report) s z b c
-  touched_had x r e g p =
-      passes_as u (Touches a Ready result) (Answered aim Ready r z.report) s z b c
+-- what the moves of an access tell of it, whether bytes were reached where they are or copied
+pub record Tells {T : Type 0} (a : Aim) (Ready : Type 0) (result : Result T PageFault) (Moved : Behind → List Move → Behind → Type 0) : Type 0 where
+  pub ends : (b : Behind) (ms : List Move) (c : Behind) → Moved b ms c → AccessEnds a result b ms c
+  pub calm : (b : Behind) (ms : List Move) (c : Behind) → Moved b ms c → Ready → count_by is_read_move ms ≡ 0
+
+pub touches_tell : {T : Type 0} (a : Aim) (Ready : Type 0) (result : Result T PageFault) → Tells a Ready result (Touches a Ready result)
+touches_tell a Ready result = record { ends = λ b ms c t. t.ends; calm = λ b ms c t ready. ready-reads a ms b (t.calm ready) }
+
+pub copies_tell : {T : Type 0} (a : Aim) (Ready : Type 0) (result : Result T PageFault) → Tells a Ready result (Copies a Ready result)
+copies_tell a Ready result = record { ends = λ b ms c t. t.ends; calm = λ b ms c t. t.calm }
+
+module _ {T : Type 0} (u : Bool) (aim : Option Aim) (a : Aim) (is : aim ≡ Some a) (Ready : Type 0) (result : Result T PageFault) (Moved : Behind → List Move → Behind → Type 0) (tells : Tells a Ready result Moved) (s z : StoreOf) (b c : Behind) where
+  pub answered_had : (x : T) (r : Answer) → result ≡ Ok x → Gives r → PassesIn u Moved s z b c → PassesIn u (Answered aim Ready r z.report) s z b c
+  answered_had x r e g p =
+      passes_as u Moved (Answered aim Ready r z.report) s z b c
       (λ ms rep t. record {
         aimed = a;
         is = is;
-        answers = answers_had a z.report b ms c r g (subst (λ (o : Result T PageFault). AccessEnds a o b ms c) e t.ends);
-        calm = λ y. ready-reads a ms b (t.calm y);
+        answers = answers_had a z.report b ms c r g (subst (λ (o : Result T PageFault). AccessEnds a o b ms c) e (tells.ends b ms c t));
+        calm = tells.calm b ms c t;
       }) p
 
-  pub touched_lost : (why : PageFault) → result ≡ Err why → Ends a.need z.report result → PassesIn u (Touches a Ready result) s z b c → PassesIn u (Answered aim Ready (answer.Raised raise.InPageError) z.report) s z b c
-  touched_lost why e ends p =
-      passes_as u (Touches a Ready result) (Answered aim Ready (answer.Raised raise.InPageError) z.report) s z b c
+  pub answered_lost : (why : PageFault) → result ≡ Err why → Ends a.need z.report result → PassesIn u Moved s z b c → PassesIn u (Answered aim Ready (answer.Raised raise.InPageError) z.report) s z b c
+  answered_lost why e ends p =
+      passes_as u Moved (Answered aim Ready (answer.Raised raise.InPageError) z.report) s z b c
       (λ ms rep t. record {
         aimed = a;
         is = is;
-        answers = answers_lost a z.report b ms c why (subst (λ (o : Result T PageFault). Ends a.need z.report o) e ends) (subst (λ (o : Result T PageFault). AccessEnds a o b ms c) e t.ends);
-        calm = λ y. ready-reads a ms b (t.calm y);
-      }) p
-
-  pub copied_had : (x : T) (r : Answer) → result ≡ Ok x → Gives r → PassesIn u (Copies a Ready result) s z b c → PassesIn u (Answered aim Ready r z.report) s z b c
-  copied_had x r e g p =
-      passes_as u (Copies a Ready result) (Answered aim Ready r z.report) s z b c
-      (λ ms rep t. record {
-        aimed = a;
-        is = is;
-        answers = answers_had a z.report b ms c r g (subst (λ (o : Result T PageFault). AccessEnds a o b ms c) e t.ends);
-        calm = t.calm;
-      }) p
-
-  pub copied_lost : (why : PageFault) → result ≡ Err why → Ends a.need z.report result → PassesIn u (Copies a Ready result) s z b c → PassesIn u (Answered aim Ready (answer.Raised raise.InPageError) z.report) s z b c
-  copied_lost why e ends p =
-      passes_as u (Copies a Ready result) (Answered aim Ready (answer.Raised raise.InPageError) z.report) s z b c
-      (λ ms rep t. record {
-        aimed = a;
-        is = is;
-        answers = answers_lost a z.report b ms c why (subst (λ (o : Result T PageFault). Ends a.need z.report o) e ends) (subst (λ (o : Result T PageFault). AccessEnds a o b ms c) e t.ends);
-        calm = t.calm;
+        answers = answers_lost a z.report b ms c why (subst (λ (o : Result T PageFault). Ends a.need z.report o) e ends) (subst (λ (o : Result T PageFault). AccessEnds a o b ms c) e (tells.ends b ms c t));
+        calm = tells.calm b ms c t;
       }) p
 
 -- an access told with another value

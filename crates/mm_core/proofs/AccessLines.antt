@@ -1,31 +1,21 @@
 -- The lines `read`, `write` and `exec`, by what the tables have and by how the store answered.
 use Rattle.std.proofs.Common.{◌≡◌, ℕ, ◌+◌, Bool, true, false, Option, Some, None, refl, sym, ◌∙◌, ap, subst, cond, unwrap_or, arith}
 use Rattle.std.specs.Prelude.{Result, Ok, Err, IsOk, OnOk, OnErr}
-use Rattle.mm_types.proofs.Booleans.{or_left, or_right}
-use Rattle.mm_types.specs.declared.answers.Answer.{Answer}
+use Rattle.mm_types.proofs.{or_left, or_right}
+use Rattle.mm_types.specs.{Answer, Code, Event, PageFault, Key}
 use Rattle.mm_types.specs.declared.answers.Answer.TheVariants as answer
-use Rattle.mm_types.specs.declared.codes.Code.{Code}
 use Rattle.mm_types.specs.declared.codes.Raise.TheVariants as raise
-use Rattle.mm_types.specs.declared.events.Event.{Event}
-use Rattle.mm_types.specs.declared.faults.PageFault.{PageFault}
 use Rattle.mm_types.specs.declared.faults.PageFault.TheVariants as fault
-use Rattle.mm_types.specs.declared.numbers.Key.{Key}
-use Rattle.mm_world.specs.World.{Page, World, ProcessOf, filled}
-use Rattle.mm_world.specs.Access.{Attempt, ReadOf, WriteOf, Execute, access, access_at, perform}
-use Rattle.mm_world.specs.Failure.{Need, access_fails, read_failed, search_failed, same_key}
-use Rattle.mm_world.specs.Keys.{Committed}
-use Rattle.mm_world.specs.Outcome.{OutcomeOf, done, refused}
+use Rattle.mm_world.specs.{Page, ProcessOf, filled, Attempt, ReadOf, WriteOf, Execute, access, access_at, perform, Need, access_fails, read_failed}
+use Rattle.mm_world.specs.{search_failed, same_key, Committed, OutcomeOf, done, refused, stepped, unpaged, told, failing, need_at, when, world_told}
+use Rattle.mm_world.specs.{Tables, world_with}
+use Rattle.mm_world.specs.World.{World}
 use Rattle.mm_world.specs.Report.{Report}
-use Rattle.mm_world.specs.Step.{stepped, unpaged, told, failing, need_at, when, world_told}
-use Rattle.mm_world.specs.Contents.{Tables, world_with}
-use Rattle.mm_world.proofs.Tables.{Holds, tables}
-use Rattle.mm_pages.specs.Store.{StoreOf, changed}
-use Rattle.mm_pages.specs.Reports.{Ends, Served, SomeFailed}
-use Rattle.mm_tables.specs.Fits.{FitsTables, key_bytes}
-use Rattle.mm_core.specs.Serving.{IsFailure, Named, FlushServed}
-use Rattle.mm_core.specs.Accessing.{Refuses, Accessed}
-use Rattle.mm_core.specs.Stepping.{Stepped}
-use Rattle.mm_core.specs.Deciding.{KeepsTables, LineBegins, Decided}
+use Rattle.mm_world.proofs.{Holds, tables}
+use Rattle.mm_pages.specs.{StoreOf, changed, Served, SomeFailed, Ghosts as PagesGhosts}
+use Rattle.mm_pages.specs.Reports.{Ends}
+use Rattle.mm_tables.specs.{FitsTables, key_bytes}
+use Rattle.mm_core.specs.{IsFailure, Named, FlushServed, Refuses, Accessed, Stepped, KeepsTables, LineBegins, Decided, IsNext, FitsOver, KeepsOver}
 use Rattle.mm_core.proofs.Serving.{devices-served, served-quiet, quiet-same}
 use Rattle.mm_core.proofs.Lines.{stepped-plain, never-fails}
 
@@ -92,6 +82,9 @@ keeps-begun n t old mid s m keeps next b fits =
         handles = λ pid p lives. omega (arith, is, keeps.few.handles pid p lives);
       };
     }
+
+pub keeps-next : {G : Type 0} (p : PagesGhosts G) {n : ℕ} {t : Tables} {g m : G} → IsNext p n t g → LineBegins n (p.store g) (p.store m) → FitsOver p t m → KeepsOver p t m
+keeps-next p {n = n} {t} {g} {m} next begins fits = keeps-begun n t (p.contents g) (p.contents m) (p.store g) (p.store m) next.keeps next.line_is begins fits
 
 module _ (u : Bool) (e : Event) (n : ℕ) (t : Tables) (old mid : Key → Option Page) (s m : StoreOf) (a : Answer) (after : Tables) (new : Key → Option Page) (z : StoreOf) (pid addr : ℕ) (what : Attempt) (same : mid ≡ old) (b : LineBegins n s m) where
   abbrev w : World

@@ -1,30 +1,17 @@
 -- The piece of the log of a line that accesses a page is what is noted of a line: no key goes in an access.
-use Rattle.std.proofs.Common.{◌≡◌, ℕ, List, [], ◌∷◌, Bool, false, Option, Some, None, refl, sym, ap, ◌∙◌, subst, inl}
-use Rattle.mm_types.specs.declared.answers.Answer.{Answer}
-use Rattle.mm_types.specs.declared.events.Event.{Event}
-use Rattle.mm_types.specs.declared.moves.Move.{Move}
+use Rattle.std.proofs.Common.{◌≡◌, ℕ, List, [], ◌∷◌, Bool, false, Option, Some, None, refl, sym, subst, inl}
+use Rattle.mm_types.specs.{Answer, Event, Move}
 use Rattle.mm_types.specs.declared.moves.Move.TheVariants as move
-use Rattle.mm_life.specs.Logs.{Grew}
-use Rattle.mm_life.specs.MoveText.{AreMoves, spelled_moves}
-use Rattle.mm_life.specs.Replay.{Replays}
 use Rattle.mm_world.specs.World.{World}
 use Rattle.mm_world.specs.Report.{Report}
-use Rattle.mm_blocks.specs.Devices.{KeepsOthers}
-use Rattle.mm_life.specs.Walks.{Walk, Through, walked}
-use Rattle.mm_pages.specs.Store.{StoreOf}
+use Rattle.mm_life.specs.{Walk, Through, walked}
+use Rattle.mm_pages.specs.{StoreOf, PassesIn, Aim, AccessMove, walk_from, Ghosts as PagesGhosts}
 use Rattle.mm_pages.specs.Behind.{Behind}
-use Rattle.mm_pages.specs.Told.{told_of, told_through, paging_traffic, file_traffic}
-use Rattle.mm_pages.specs.Passing.{PassesIn}
-use Rattle.mm_pages.specs.Accesses.{Aim, AccessMove, walk_from}
-use Rattle.mm_paging.specs.Kinds.{kind_of_line, aim_of}
-use Rattle.mm_paging.specs.Lines.{AccessesBy, Does, asks_beside, with_line}
-use Rattle.mm_pages.specs.declared.pages.Pages.{Ghosts as PagesGhosts}
-use Rattle.mm_world.specs.Contents.{Tables}
-use Rattle.mm_core.specs.Lining.{Lined}
-use Rattle.mm_core.specs.LinePromises.{AnswersLine}
-use Rattle.mm_core.specs.Over.{DecidedOver, MarkedOver, PassesOver, world_over}
-use Rattle.mm_core.specs.Noting.{keeps_keys, EachMove, LineWent, TellsLine}
-use Rattle.mm_core.proofs.Begun.{paged}
+use Rattle.mm_paging.specs.{kind_of_line, aim_of, AccessesBy, Does, asks_beside, with_line}
+use Rattle.mm_world.specs.{Tables}
+use Rattle.mm_core.specs.{Lined, AnswersLine, DecidedOver, MarkedOver, PassesOver, world_over, keeps_keys, EachMove, LineWent, TellsLine}
+use Rattle.mm_core.proofs.Pieces.{passes_with}
+use Rattle.mm_core.proofs.Begun.{Opens, paged, went_from}
 
 through_keeps : (a : Aim) (w : Walk) (ms : List Move) → Through (AccessMove a) w ms → EachMove keeps_keys ms
 through_keeps a w [] h = tt
@@ -32,18 +19,7 @@ through_keeps a w (move.At n k ∷ ms) h = absurd h.0
 through_keeps a w (move.Add k None ∷ ms) h = (refl, through_keeps a (walked w (move.Add k None)) ms h.1)
 through_keeps a w (move.Add k (Some b) ∷ ms) h = absurd h.0
 through_keeps a w (move.Drop k ∷ ms) h = absurd h.0
-through_keeps a w (move.Clear f ∷ ms) h = (refl, through_keeps a (walked w (move.Clear f)) ms h.1)
-through_keeps a w (move.Steal f ∷ ms) h = (refl, through_keeps a (walked w (move.Steal f)) ms h.1)
-through_keeps a w (move.Give f k ∷ ms) h = (refl, through_keeps a (walked w (move.Give f k)) ms h.1)
-through_keeps a w (move.Read f k ∷ ms) h = (refl, through_keeps a (walked w (move.Read f k)) ms h.1)
-through_keeps a w (move.Got f ∷ ms) h = (refl, through_keeps a (walked w (move.Got f)) ms h.1)
-through_keeps a w (move.Bad f ∷ ms) h = (refl, through_keeps a (walked w (move.Bad f)) ms h.1)
-through_keeps a w (move.Map f p ∷ ms) h = (refl, through_keeps a (walked w (move.Map f p)) ms h.1)
-through_keeps a w (move.Unmap p ∷ ms) h = (refl, through_keeps a (walked w (move.Unmap p)) ms h.1)
-through_keeps a w (move.Soil f ∷ ms) h = (refl, through_keeps a (walked w (move.Soil f)) ms h.1)
-through_keeps a w (move.Write f s ∷ ms) h = (refl, through_keeps a (walked w (move.Write f s)) ms h.1)
-through_keeps a w (move.Wrote f ∷ ms) h = (refl, through_keeps a (walked w (move.Wrote f)) ms h.1)
-through_keeps a w (move.Lost f ∷ ms) h = (refl, through_keeps a (walked w (move.Lost f)) ms h.1)
+through_keeps a w (m ∷ ms) h = (refl, through_keeps a (walked w m) ms h.1)
 
 access_keeps : (plain : Bool) (o : Option Aim) (r : Answer) (after : Report) (b : Behind) (ms : List Move) (c : Behind) → AccessesBy plain o r after b ms c → EachMove keeps_keys ms
 access_keeps plain None r after b ms c h = subst (EachMove keeps_keys) (sym h) tt
@@ -56,29 +32,19 @@ marked_lined plain w e n a v u s z b c accesses p paging =
     let q = paged u (Lined w e n a v z.report) s z b c paging p in
     let is = q.that.begins in
     let begun = with_line (move.At n (kind_of_line w e a)) b in
-    record {
-      moves = q.that.moves;
-      in_range = subst AreMoves is q.in_range;
-      grew = subst (λ (t : List Move). Grew b.log c.log (spelled_moves t)) is q.grew;
-      replays = subst (λ (t : List Move). Replays t b.life c.life) is q.replays;
+    let tells = λ (ms : List Move). TellsLine n (kind_of_line w e a) e w a v z.report b ms c in
+    went_from n (kind_of_line w e a) (λ x ms y. tells ms) s z b c tells (λ log ms h. h)
+    (passes_with (Lined w e n a v z.report) (Opens n (kind_of_line w e a) (λ x ms y. tells ms)) s z b c q (record {
+      rest = q.that.moves;
+      is = is;
+      log = c.log;
       that = record {
         one_way = inl (access_keeps plain (aim_of w begun.life e) a z.report begun q.that.moves c (accesses begun q.that.moves q.that.does));
         does = q.that.does;
         ages = q.that.ages;
         waits = q.that.waits;
       };
-      told = λ bare. q.report ∙ ap (λ t. told_through b.life t (told_of s.report)) is;
-      traffic = λ bare. record {
-        paging_calls = q.paging_calls;
-        paging_served = q.paging;
-        paging_are = q.paging_are ∙ ap (paging_traffic b.life) is;
-        file_calls = q.file_calls;
-        files_served = q.files;
-        files_are = q.files_are ∙ ap (file_traffic b.life) is;
-        slots_kept = subst (λ (t : List Move). KeepsOthers (paging_traffic b.life t) b.slots c.slots) is q.slots_kept;
-        blocks_kept = subst (λ (t : List Move). KeepsOthers (file_traffic b.life t) s.file_blocks z.file_blocks) is q.blocks_kept;
-      };
-    }
+    }))
 
 -- such a line over a store, told of the line that it is
 module _ {G : Type 0} (p : PagesGhosts G) where

@@ -1,31 +1,25 @@
--- The lines `read`, `write` and `exec`: their pieces of the log, from what begins them and what the access made.
-use Rattle.std.proofs.Common.{◌≡◌, ℕ, List, [], Bool, true, Option, Some, None, refl, sym, ap, ◌∙◌, subst, cond, is_some, option_map}
-use Rattle.mm_types.specs.declared.answers.Answer.{Answer}
-use Rattle.mm_types.specs.declared.events.Event.{Event}
-use Rattle.mm_types.specs.declared.events.Event.TheVariants as line
-use Rattle.mm_types.specs.declared.moves.LineKind.{LineKind}
+-- The lines `read`, `write` and `exec`: decided and noted, from what begins them and what the access made.
+use Rattle.std.proofs.Common.{rules, ◌≡◌, ℕ, List, [], Bool, true, false, Option, Some, None, refl, sym, ap, ◌∙◌, subst, cond, is_some, option_map}
+use Rattle.mm_types.specs.{Answer, Event, LineKind, Move, Key, Pid, page_of}
+use Rattle.mm_types.specs.declared.answers.Answer.TheVariants as answer
+use Rattle.mm_types.specs.declared.codes.Raise.TheVariants as raise
 use Rattle.mm_types.specs.declared.moves.LineKind.TheVariants as kind
 use Rattle.mm_types.specs.declared.moves.Move.TheVariants as move
-use Rattle.mm_types.specs.declared.numbers.Key.{Key}
-use Rattle.mm_types.specs.declared.numbers.Pid.{Pid}
-use Rattle.mm_world.specs.World.{Page, World}
-use Rattle.mm_world.specs.Access.{Attempt, ReadOf, WriteOf, Execute}
-use Rattle.mm_world.specs.Contents.{Tables, world_with, process_with}
-use Rattle.mm_world.specs.Find.{process_of}
+use Rattle.mm_world.specs.{Page, Attempt, ReadOf, WriteOf, Execute, access, Tables, world_with, process_with, Need, process_of, need_at, told}
+use Rattle.mm_world.specs.{unpaged, failing, world_told}
+use Rattle.mm_world.specs.World.{World}
 use Rattle.mm_world.specs.Report.{Report}
-use Rattle.mm_world.specs.Step.{need_at}
-use Rattle.mm_life.specs.Waits.{Waiting}
-use Rattle.mm_life.specs.Life.{FrameLife}
-use Rattle.mm_pages.specs.Store.{StoreOf}
+use Rattle.mm_life.specs.{Waiting, FrameLife}
+use Rattle.mm_blocks.specs.{DeviceOf}
+use Rattle.mm_pages.specs.{Aim, place_at, IsReady, OneMove, Ghosts as PagesGhosts}
 use Rattle.mm_pages.specs.Behind.{Behind}
-use Rattle.mm_pages.specs.Housekeeping.{OneMove}
-use Rattle.mm_pages.specs.Passing.{PassesIn}
-use Rattle.mm_paging.specs.Kinds.{kind_of_line, if_lives}
-use Rattle.mm_paging.specs.Lines.{waits_of_line}
-use Rattle.mm_tables.specs.Fits.{key_bytes}
-use Rattle.mm_core.specs.Answering.{Answered, aim_in}
-use Rattle.mm_core.specs.Lining.{Lined}
+use Rattle.mm_paging.specs.{kind_of_line, if_lives, aim_of, Does, AccessesBy, waits_of_line, asks_beside}
+use Rattle.mm_tables.specs.{key_bytes}
+use Rattle.mm_core.specs.{Refuses, Accessed, AccessDone, access_line, Answered, aim_in, AnswersLine, StartsLine, Lined, DecidedOver, KeepsOver}
+use Rattle.mm_core.specs.{PassesOver, world_over, Named, FlushServed}
 use Rattle.mm_core.proofs.AccessForms.{aim-needless}
+use Rattle.mm_core.proofs.AccessLines.{decided-refused, decided-access}
+use Rattle.mm_core.proofs.AccessMarks.{access_answers}
 use Rattle.mm_core.proofs.LineForms.{IsAccess, plain_line, none_line}
 use Rattle.mm_core.proofs.With.{process-with}
 
@@ -41,40 +35,59 @@ kind-lives t b pid k lived e =
 
 -- ---- a plain access
 
-pub record IsPlain (w : World) (e : Event) (pid : Pid) (addr : ℕ) (what : Attempt) : Type 0 where
-  pub form : (r : Answer) (v : World) (after : Report) → IsAccess true w e r v after pid addr what
-  pub kind_is : (r : Answer) → kind_of_line w e r ≡ if_lives w pid (kind.Access pid)
-  pub waits : (r : Answer) (b : Behind) (f : ℕ → Waiting) (l : FrameLife) → waits_of_line w e r b f l ≡ f
+-- what the definitions say of its line
+record IsPlain (pid : Pid) (addr : ℕ) (what : Attempt) : Type 0 where
+  form : (w : World) (r : Answer) (v : World) (after : Report) → IsAccess true w (access_line pid addr what) r v after pid addr what
+  accesses : (w : World) (r : Answer) (v : World) (after : Report) (b : Behind) (ms : List Move) (c : Behind) → Does w (access_line pid addr what) r v after b ms c → AccessesBy true (aim_of w b.life (access_line pid addr what)) r after b ms c
+  kind_is : (w : World) (r : Answer) → kind_of_line w (access_line pid addr what) r ≡ if_lives w pid (kind.Access pid)
+  waits : (w : World) (r : Answer) (b : Behind) (f : ℕ → Waiting) (l : FrameLife) → waits_of_line w (access_line pid addr what) r b f l ≡ f
+  bare : asks_beside (access_line pid addr what) ≡ false
+  told_is : (w : World) (before after : Report) → told w (access_line pid addr what) before after ≡ failing (need_at w pid.0 addr what) after
+  unpaged_is : (w : World) → unpaged w (access_line pid addr what) ≡ access w pid.0 addr what
+  named : (u : Bool) (a : Answer) (paging paging' files files' : DeviceOf) → Named u (access_line pid addr what) a paging paging' files files'
+  flushed : (w : World) (blocks : List Page) (a : Answer) → FlushServed w blocks (access_line pid addr what) a
+  raises : (w : World) → world_told w (access_line pid addr what) (answer.Raised raise.InPageError) ≡ w
 
-pub plain-read : (w : World) (pid : Pid) (addr len : ℕ) → IsPlain w (line.Read pid addr len) pid addr (ReadOf len)
-plain-read w pid addr len =
-    record { form = λ r v after. record { aim = λ l. refl; does = λ b ms c h. h; ages = λ b ms. refl }; kind_is = λ r. refl; waits = λ r b f l. refl }
+is-plain : (pid : Pid) (addr : ℕ) (what : Attempt) → IsPlain pid addr what
+is-plain pid addr (ReadOf len) = search rules
+is-plain pid addr (WriteOf bytes) = search rules
+is-plain pid addr Execute = search rules
 
-pub plain-write : (w : World) (pid : Pid) (addr : ℕ) (bytes : List ℕ) → IsPlain w (line.Write pid addr bytes) pid addr (WriteOf bytes)
-plain-write w pid addr bytes =
-    record { form = λ r v after. record { aim = λ l. refl; does = λ b ms c h. h; ages = λ b ms. refl }; kind_is = λ r. refl; waits = λ r b f l. refl }
+module _ {G : Type 0} (p : PagesGhosts G) (pid : Pid) (addr : ℕ) (what : Attempt) (n : ℕ) (t : Tables) (g m : G) (starts : StartsLine p n g m) (lived : Bool) (lives : lived ≡ is_some (process_of t pid.0)) (began : PassesOver p (OneMove (move.At n (cond lived (kind.Access pid) kind.Call))) g m) where
+  abbrev e : Event
+  e = access_line pid addr what
 
-pub plain-exec : (w : World) (pid : Pid) (addr : ℕ) → IsPlain w (line.Exec pid addr) pid addr Execute
-plain-exec w pid addr =
-    record { form = λ r v after. record { aim = λ l. refl; does = λ b ms c h. h; ages = λ b ms. refl }; kind_is = λ r. refl; waits = λ r b f l. refl }
-
-module _ (u : Bool) (e : Event) (n : ℕ) (t : Tables) (old mid : Key → Option Page) (same : mid ≡ old) (s m : StoreOf) (b y : Behind) (pid : Pid) (addr : ℕ) (what : Attempt) (plain : IsPlain (world_with t (key_bytes old)) e pid addr what) (lived : Bool) (lives : lived ≡ is_some (process_of t pid.0)) (began : PassesIn u (OneMove (move.At n (cond lived (kind.Access pid) kind.Call))) s m b y) where
   abbrev w : World
-  w = world_with t (key_bytes old)
+  w = world_over p t g
 
-  begins : (r : Answer) → PassesIn u (OneMove (move.At n (kind_of_line w e r))) s m b y
-  begins r = subst (λ (k : LineKind). PassesIn u (OneMove (move.At n k)) s m b y) (kind-lives t (key_bytes old) pid (kind.Access pid) lived lives ∙ sym (plain.kind_is r)) began
+  plain : IsPlain pid addr what
+  plain = is-plain pid addr what
+
+  begins : (r : Answer) → PassesOver p (OneMove (move.At n (kind_of_line w e r))) g m
+  begins r = subst (λ (k : LineKind). PassesOver p (OneMove (move.At n k)) g m) (kind-lives t (key_bytes (p.contents g)) pid (kind.Access pid) lived lives ∙ sym (plain.kind_is w r)) began
+
+  answered : (r : Answer) (after : Tables) (h : G) → DecidedOver p e n t g r after h → PassesOver p (Lined w e n r (world_over p after h) (p.store h).report) g h → AnswersLine p e n t g r after h
+  answered r after h decided passes =
+      access_answers p true e e refl plain.bare n t g r after h (λ b ms. plain.accesses w r (world_over p after h) (p.store h).report b ms (p.behind h)) decided passes
 
   -- the access is refused, or there is no process
-  pub refused-passes : (r : Answer) (v : World) → need_at (world_with t (key_bytes mid)) pid.0 addr what ≡ None → PassesIn u (Lined w e n r v m.report) s m b y
-  refused-passes r v needless =
-      let form = plain.form r v m.report in
-      let none : need_at w pid.0 addr what ≡ None = ap (λ (c : Key → Option Page). need_at (world_with t (key_bytes c)) pid.0 addr what) (sym same) ∙ needless in
-      none_line u true w e n r v s m b y (λ b c. form.does b [] c) (λ b. form.ages b []) (λ l. form.aim l ∙ aim-needless w l pid addr what none) (plain.waits r) (begins r)
+  pub line-refused : (r : Answer) (after : Tables) → KeepsOver p after m → Refuses (world_over p t m) pid.0 addr what r (world_over p after m) → AnswersLine p e n t g r after m
+  line-refused r after keeps h =
+      let v = world_over p after m in
+      let form = plain.form w r v (p.store m).report in
+      let none : need_at w pid.0 addr what ≡ None = ap (λ (c : Key → Option Page). need_at (world_with t (key_bytes c)) pid.0 addr what) (sym starts.contents) ∙ h.needless in
+      answered r after m
+      (decided-refused p.unpaged e n t (p.contents g) (p.contents m) (p.store g) (p.store m) r after (p.contents m) (p.store m) pid.0 addr what starts.contents starts.begins keeps refl
+      (plain.told_is (world_over p t m) _ _) (plain.unpaged_is (world_over p t m)) (plain.named _ r _ _ _ _) (plain.flushed v _ r) refl h)
+      (none_line p.unpaged true w e n r v (p.store g) (p.store m) (p.behind g) (p.behind m) (λ b c. form.does b [] c) (λ b. form.ages b []) (λ l. form.aim l ∙ aim-needless w l pid addr what none) (plain.waits w r) (begins r))
 
   -- it is made, whether it fails or not
-  pub access-passes : (Ready : Type 0) (r : Answer) (v : World) (x : Tables) (z : StoreOf) (c : Behind) → x ≡ t → PassesIn u (Answered (aim_in x mid y pid addr what) Ready r z.report) m z y c → PassesIn u (Lined w e n r v z.report) s z b c
-  access-passes Ready r v x z c unchanged p =
-      plain_line u w e n v s m z b y c r pid addr what (plain.form r v z.report) (plain.waits r) Ready (begins r)
-      (subst (λ (c' : Key → Option Page). PassesIn u (Answered (aim_in t c' y pid addr what) Ready r z.report) m z y c) same
-      (subst (λ (x : Tables). PassesIn u (Answered (aim_in x mid y pid addr what) Ready r z.report) m z y c) unchanged p))
+  pub line-made : (mid : Tables) → mid ≡ t → (need : Need) (r : Answer) (after : Tables) (h : G) → AccessDone p what pid addr need mid m r after h → AnswersLine p e n t g r after h
+  line-made mid same need r after h d =
+      let v = world_over p after h in
+      answered r after h
+      (decided-access p.unpaged e n t (p.contents g) (p.contents m) (p.store g) (p.store m) r after (p.contents h) (p.store h) pid.0 addr what starts.contents starts.begins d.keeps d.line
+      (plain.told_is (world_over p t m) _ _) (plain.unpaged_is (world_over p t m)) (plain.named _ r _ _ _ _) (plain.flushed v _ r) (plain.raises (world_over p t m))
+      (subst (λ (x : Tables). Accessed p.unpaged (world_over p x m) pid.0 addr what (p.store m) (p.store h) r v) same d.accessed))
+      (plain_line p.unpaged w e n v (p.store g) (p.store m) (p.store h) (p.behind g) (p.behind m) (p.behind h) r pid addr what (plain.form w r v (p.store h).report) (plain.waits w r) (IsReady (p.store m) (place_at pid (page_of addr)) need) (begins r)
+      (subst (λ (o : Option Aim). PassesOver p (Answered o (IsReady (p.store m) (place_at pid (page_of addr)) need) r (p.store h).report) m h) (λ i. aim_in (same i) (starts.contents i) (p.behind m) pid addr what) d.passes))

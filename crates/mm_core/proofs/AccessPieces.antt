@@ -2,24 +2,16 @@
 use Rattle.std.proofs.Common.{◌≡◌, ℕ, ◌+◌, List, [], ◌∷◌, ◌++◌, Bool, true, false, Option, Some, None, refl, sym, ap, ◌∙◌, cond, arith}
 use Rattle.std.specs.Prelude.{count_by, ◌==◌, ◌&&◌, ◌||◌, IsTrue}
 use Rattle.std.proofs.lemmas.List.Sums.{sum_by-append}
-use Rattle.mm_types.specs.declared.moves.LineKind.{LineKind}
+use Rattle.mm_types.specs.{LineKind, Move, Stored, Place, Frame}
 use Rattle.mm_types.specs.declared.moves.LineKind.TheVariants as kind
-use Rattle.mm_types.specs.declared.moves.Move.{Move}
 use Rattle.mm_types.specs.declared.moves.Move.TheVariants as move
-use Rattle.mm_types.specs.declared.moves.Stored.{Stored}
 use Rattle.mm_types.specs.declared.moves.Stored.TheVariants as stored
-use Rattle.mm_types.specs.declared.numbers.Place.{Place}
-use Rattle.mm_life.specs.Life.{FrameLife}
-use Rattle.mm_types.specs.declared.numbers.Frame.{Frame}
-use Rattle.mm_life.specs.Frames.{record_at, is_write}
-use Rattle.mm_life.specs.Legal.{IsLegal, is_thread, is_access, is_io, is_call}
-use Rattle.mm_life.specs.Effect.{after_move, after_unmap_at, after_write_to}
-use Rattle.mm_life.specs.Replay.{Replays}
-use Rattle.mm_pages.specs.Store.{changed}
+use Rattle.mm_life.specs.{FrameLife, record_at, is_write, IsLegal, is_thread, is_access, is_io, is_call, after_move, after_unmap_at, after_write_to}
+use Rattle.mm_life.specs.{Replays, Waiting, Idle, ended_by, waits_after, Walk, walked, walked_all, Through, waits_through, ages_through, tried_after}
+use Rattle.mm_life.specs.{is_read_move, is_wrote_move}
+use Rattle.mm_pages.specs.{changed, Aim, AccessMove, ReadyMoves, ByCopy, FromFull, InShortage, walk_from}
 use Rattle.mm_pages.specs.Behind.{Behind}
-use Rattle.mm_pages.specs.Accesses.{Aim, AccessMove, ReadyMoves, Goes, ByCopy, FromFull, InShortage, walk_from}
-use Rattle.mm_life.specs.Waits.{Waiting, Idle, ended_by, waits_after}
-use Rattle.mm_life.specs.Walks.{Walk, walked, walked_all, Through, waits_through, ages_through, tried_after, is_read_move, is_wrote_move}
+use Rattle.mm_pages.specs.Accesses.{Goes}
 
 -- ---- counts
 
@@ -118,18 +110,11 @@ start-move a l w (move.At n k) rest th legal e h = absurd h
 start-move a l w (move.Add k None) rest th legal e h = h
 start-move a l w (move.Add k (Some b)) rest th legal e h = absurd h
 start-move a l w (move.Drop k) rest th legal e h = absurd h
-start-move a l w (move.Clear f) rest th legal e h = h
-start-move a l w (move.Steal f) rest th legal e h = h
-start-move a l w (move.Give f k) rest th legal e h = h
 start-move a l w (move.Read f k) rest th legal e h = cc
-start-move a l w (move.Got f) rest th legal e h = h
-start-move a l w (move.Bad f) rest th legal e h = h
-start-move a l w (move.Map f p) rest th legal e h = h
 start-move a l w (move.Unmap p) rest th legal e h = goes-start a l w p rest h
-start-move a l w (move.Soil f) rest th legal e h = h
-start-move a l w (move.Write f s) rest th legal e h = h
 start-move a l w (move.Wrote f) rest th legal e h = absurd (never_ends (is_write (record_at w.life.frames f.0).request) w.life.kind th legal)
 start-move a l w (move.Lost f) rest th legal e h = absurd (never_ends (is_write (record_at w.life.frames f.0).request) w.life.kind th legal)
+start-move a l w _ rest th legal e h = h
 
 pub record None_read (m : Move) (ms : List Move) : Type 0 where
   pub first : is_read_move m ≡ false

@@ -5,32 +5,21 @@ use Rattle.std.proofs.lemmas.Bool.{leb-true}
 use Rattle.mm_types.specs.declared.answers.Answer.TheVariants as answer
 use Rattle.mm_types.specs.declared.codes.Code.TheVariants as code
 use Rattle.mm_types.specs.declared.codes.Raise.TheVariants as raise
-use Rattle.mm_types.specs.declared.protections.Access.{Access}
-use Rattle.mm_types.specs.declared.numbers.Key.{Key}
-use Rattle.mm_types.specs.declared.views.View.{View}
+use Rattle.mm_types.specs.{Access, Key, View, page_of, page_size, end_of, permits}
 use Rattle.mm_types.specs.declared.views.Kind.TheVariants as kind
-use Rattle.mm_types.specs.Address.{page_of, page_size, end_of}
-use Rattle.mm_types.specs.Protection.{permits}
-use Rattle.mm_world.specs.World.{Page, World, RowOf, RegionOf, ProcessOf, pages_of, filled}
-use Rattle.mm_world.specs.Find.{process_of, shared_page, set_region, change_range}
-use Rattle.mm_world.specs.Rows.{mark_written, one_page}
-use Rattle.mm_world.specs.Keys.{Home, Own, InSection, Committed, committed_at, key_of, private_key, shared_key, with_row, set_row, set_shared, guard_off}
-use Rattle.mm_world.specs.Access.{Attempt, ReadOf, WriteOf, Execute, access, access_at, access_of, is_permitted, perform, write_to, written, bytes_of}
-use Rattle.mm_world.specs.Failure.{Need, need_of, copies, same_key}
-use Rattle.mm_world.specs.Outcome.{OutcomeOf, done, find_or}
-use Rattle.mm_world.specs.Step.{need_at, store_line}
-use Rattle.mm_world.specs.Contents.{Tables, row_with, process_with, world_with}
-use Rattle.mm_world.specs.WellFormed.{Spaces}
-use Rattle.mm_pages.specs.Conditions.{touch}
-use Rattle.mm_tables.specs.declared.looks.CommittedRow.{CommittedRow}
-use Rattle.mm_tables.specs.Looks.{is_own}
-use Rattle.mm_tables.specs.References.{MadeAtMost}
-use Rattle.mm_core.specs.Accessing.{Refuses, Admits, Marks}
-use Rattle.mm_world.proofs.Finding.{found_stands, IsCommitted, committed_is, HomeCases, IsOwn, IsShared, home_cases}
-use Rattle.mm_types.proofs.Booleans.{parts}
+use Rattle.mm_world.specs.{Page, RowOf, RegionOf, ProcessOf, pages_of, filled, process_of, shared_page, set_region, change_range, mark_written}
+use Rattle.mm_world.specs.{one_page, Home, Own, InSection, Committed, committed_at, key_of, private_key, shared_key, with_row, set_row, set_shared}
+use Rattle.mm_world.specs.{guard_off, Attempt, ReadOf, WriteOf, Execute, access, access_at, access_of, is_permitted, perform, write_to, written}
+use Rattle.mm_world.specs.{bytes_of, Need, need_of, copies, same_key, OutcomeOf, done, find_or, need_at, store_line, Tables, row_with, process_with}
+use Rattle.mm_world.specs.{world_with, Spaces}
+use Rattle.mm_world.specs.World.{World}
+use Rattle.mm_pages.specs.{touch}
+use Rattle.mm_tables.specs.{CommittedRow, is_own, MadeAtMost}
+use Rattle.mm_core.specs.{Refuses, Admits, Marks}
+use Rattle.mm_world.proofs.{found_stands, IsCommitted, committed_is, HomeCases, IsOwn, IsShared, home_cases}
+use Rattle.mm_types.proofs.{parts, none_of}
 use Rattle.mm_core.proofs.Rows.{Lives}
 use Rattle.mm_core.proofs.With.{committed_with, home_with, process-with, committed-with, guard_off-with, shared-with}
-use Rattle.mm_types.proofs.Options.{none_of}
 use Rattle.mm_core.proofs.Making.{made-set_region}
 use Rattle.mm_core.proofs.Writing.{written-with, marked-with, copied-with, shared-written}
 

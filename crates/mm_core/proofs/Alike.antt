@@ -2,30 +2,20 @@
 use Rattle.std.proofs.Common.{◌≡◌, ℕ, ◌+◌, ◌-◌, Option, Some, None, List, [], ◌∷◌, refl, sym, ◌∙◌, ap, cond, is_some, not, ◌&&◌, map, slice_get, option_map, unwrap_or}
 use Rattle.std.specs.Prelude.{Bool, option_and_then, position, ◌==◌}
 use Rattle.std.proofs.Math.Path.{fun_ext}
-use Rattle.mm_types.specs.declared.moves.LineKind.{LineKind}
+use Rattle.mm_types.specs.{LineKind, Key, Pid, Place, Kind, Range, page_of, range_of, end_of, lies_within}
 use Rattle.mm_types.specs.declared.moves.LineKind.TheVariants as line_kind
-use Rattle.mm_types.specs.declared.numbers.Key.{Key}
 use Rattle.mm_types.specs.declared.numbers.Key.TheVariants as key_of_page
-use Rattle.mm_types.specs.declared.numbers.Pid.{Pid}
-use Rattle.mm_types.specs.declared.numbers.Place.{Place}
-use Rattle.mm_types.specs.declared.views.Kind.{Kind}
 use Rattle.mm_types.specs.declared.views.Kind.TheVariants as kind
-use Rattle.mm_types.specs.Address.{Range, page_of, range_of, end_of, lies_within}
-use Rattle.mm_life.specs.Life.{numbers_from}
-use Rattle.mm_world.specs.World.{Page, World, RegionOf, ProcessOf, AreaOf, pages_of}
-use Rattle.mm_world.specs.Find.{Found, first_where, process_of, area_at, no_area, is_private}
-use Rattle.mm_world.specs.Keys.{Home, Own, InSection, Committed, committed_at, key_of, content_of, shared_key}
-use Rattle.mm_world.specs.Views.{view_around, flushed_view, flushed_range}
-use Rattle.mm_world.specs.Contents.{Tables, no_bytes, region_with_bytes, process_with, area_with, world_with}
-use Rattle.mm_world.proofs.Across.{live_back}
-use Rattle.mm_world.proofs.Natural.{first-map, some-map}
-use Rattle.mm_world.proofs.Reconstruct.{tables_back}
-use Rattle.mm_world.specs.Sections.{is_view_of, uses}
-use Rattle.mm_pages.specs.Leaving.{page_rank, or_else, last_rank, rank_behind, handle_rank, section_rank, goes_with, leaving}
-use Rattle.mm_paging.specs.Kinds.{lives, row_key, if_lives, file_block_of}
-use Rattle.mm_paging.specs.Lines.{is_uncommitted, flushed_in, flushed_keys}
-use Rattle.mm_tables.specs.Fits.{key_at, file_block_in, is_uncommitted as is_free}
-use Rattle.mm_calls.specs.Stages.{keys_of_region, flushed_keys as keys_flushed}
+use Rattle.mm_life.specs.{numbers_from}
+use Rattle.mm_world.specs.{Page, RegionOf, ProcessOf, AreaOf, pages_of, Found, first_where, process_of, area_at, no_area, is_private, Home, Own}
+use Rattle.mm_world.specs.{InSection, Committed, committed_at, key_of, content_of, shared_key, view_around, flushed_view, flushed_range, Tables}
+use Rattle.mm_world.specs.{no_bytes, region_with_bytes, process_with, area_with, world_with, is_view_of, uses}
+use Rattle.mm_world.specs.World.{World}
+use Rattle.mm_world.proofs.{live_back, first-map, some-map, tables_back}
+use Rattle.mm_pages.specs.{page_rank, or_else, last_rank, rank_behind, handle_rank, section_rank, goes_with, leaving}
+use Rattle.mm_paging.specs.{lives, row_key, if_lives, file_block_of, is_uncommitted, flushed_in, flushed_keys}
+use Rattle.mm_tables.specs.{key_at, file_block_in, is_uncommitted as is_free}
+use Rattle.mm_calls.specs.{keys_of_region, flushed_keys as keys_flushed}
 use Rattle.mm_core.proofs.With.{found_with, home_with, committed_with, pages-with, get-areas, process-with, committed-with}
 
 module _ (t : Tables) (b : Key → Page) where

@@ -1,24 +1,16 @@
 -- A line's `at`, and then the moves of a call.
 use Rattle.std.proofs.Common.{◌≡◌, ℕ, List, [], ◌∷◌, ◌++◌, Bool, true, false, refl, sym, ap, ◌∙◌, subst}
-use Rattle.mm_types.specs.declared.moves.LineKind.{LineKind}
-use Rattle.mm_types.specs.declared.moves.Move.{Move}
+use Rattle.mm_types.specs.{LineKind, Move}
 use Rattle.mm_types.specs.declared.moves.Move.TheVariants as move
-use Rattle.mm_life.specs.Effect.{after_move}
-use Rattle.mm_life.specs.Logs.{Log, Grew}
-use Rattle.mm_life.specs.MoveText.{AreMoves, spelled_moves}
-use Rattle.mm_life.specs.Replay.{Replays}
-use Rattle.mm_life.proofs.Noting.{grew_then}
-use Rattle.mm_life.proofs.Replays.{replays_then, spelled-append, moves-append}
-use Rattle.mm_blocks.specs.Devices.{KeepsOthers}
-use Rattle.mm_life.specs.Walks.{waits_through, ages_through}
-use Rattle.mm_pages.specs.Store.{StoreOf}
+use Rattle.mm_life.specs.{after_move, Log, Grew, AreMoves, spelled_moves, Replays, waits_through, ages_through}
+use Rattle.mm_life.proofs.{grew_then, replays_then, spelled-append, moves-append}
+use Rattle.mm_blocks.specs.{KeepsOthers}
+use Rattle.mm_pages.specs.{StoreOf, told_of, told_through, paging_traffic, file_traffic, OneMove, Passes, PassesIn, Notes, NotesIn}
 use Rattle.mm_pages.specs.Behind.{Behind}
-use Rattle.mm_pages.specs.Told.{told_of, told_through, paging_traffic, file_traffic}
-use Rattle.mm_pages.specs.Housekeeping.{OneMove}
-use Rattle.mm_pages.specs.Passing.{Passes, PassesIn, Notes, NotesIn}
-use Rattle.mm_pages.proofs.Passed.{Joins, passes_then}
-use Rattle.mm_paging.specs.Lines.{with_line}
-use Rattle.mm_core.specs.Noting.{LineWent}
+use Rattle.mm_pages.proofs.{Joins, passes_then}
+use Rattle.mm_paging.specs.{with_line}
+use Rattle.mm_core.specs.{LineWent}
+use Rattle.mm_core.proofs.Pieces.{passes_with}
 
 -- of a store that pages
 pub paged : (u : Bool) (P : Behind → List Move → Behind → Type 0) (s z : StoreOf) (b c : Behind) → u ≡ false → PassesIn u P s z b c → Passes P s z b c
@@ -123,22 +115,9 @@ module _ (n : ℕ) (k : LineKind) where
 
   -- an `at` alone
   alone : (s z : StoreOf) (b c : Behind) → Passes (OneMove at) s z b c → Passes (Opens n k (λ x ms y. (ms ≡ []) × (y ≡ x))) s z b c
-  alone s z b c p = record {
-    moves = p.moves;
-    in_range = p.in_range;
-    grew = p.grew;
-    replays = p.replays;
-    that = record { rest = []; is = p.that.one; log = c.log; that = (refl, behind_begun p.moves b c p.replays p.that) };
-    report = p.report;
-    paging_calls = p.paging_calls;
-    paging = p.paging;
-    paging_are = p.paging_are;
-    file_calls = p.file_calls;
-    files = p.files;
-    files_are = p.files_are;
-    slots_kept = p.slots_kept;
-    blocks_kept = p.blocks_kept;
-  }
+  alone s z b c p =
+      passes_with (OneMove at) (Opens n k (λ x ms y. (ms ≡ []) × (y ≡ x))) s z b c p
+      (record { rest = []; is = p.that.one; log = c.log; that = (refl, behind_begun p.moves b c p.replays p.that) })
 
   pub went_alone : (u : Bool) (s z : StoreOf) (b c : Behind) (Q : List Move → Type 0) → u ≡ false → ((log : Log) → c ≡ begun_with n k log b → Q []) → PassesIn u (OneMove at) s z b c → LineWent false at Q s z b c
   went_alone u s z b c Q e to p =

@@ -1,25 +1,17 @@
 -- What a `file`, a `grow` and a `fail` line ask of devices beside their moves, and what slots and blocks hold then.
 use Rattle.std.proofs.Common.{◌≡◌, ℕ, Bool, true, false, refl, ◌∙◌, ap, subst}
 use Rattle.std.specs.Prelude.{Result, Ok, Err, IfOk}
-use Rattle.mm_types.specs.declared.answers.Answer.{Answer}
+use Rattle.mm_types.specs.{Answer, Device, Direction, Move, Name}
 use Rattle.mm_types.specs.declared.answers.Answer.TheVariants as answer
-use Rattle.mm_types.specs.declared.devices.Device.{Device}
-use Rattle.mm_types.specs.declared.devices.Direction.{Direction}
 use Rattle.mm_types.specs.declared.events.Event.TheVariants as line
-use Rattle.mm_types.specs.declared.moves.Move.{Move}
-use Rattle.mm_types.specs.declared.texts.Name.{Name}
-use Rattle.mm_blocks.specs.Devices.{DeviceOf}
+use Rattle.mm_blocks.specs.{DeviceOf}
 use Rattle.mm_world.specs.World.{World}
 use Rattle.mm_pages.specs.Behind.{Behind}
-use Rattle.mm_pages.specs.Housekeeping.{Makes, Turns, OneMove}
-use Rattle.mm_pages.specs.Passing.{PassesIn, NotesIn, WritesFile}
-use Rattle.mm_pages.specs.Store.{StoreOf}
-use Rattle.mm_paging.specs.Lines.{HoldsBeside}
-use Rattle.mm_tables.specs.Fits.{beside_file, extended}
-use Rattle.mm_calls.specs.Growing.{GrowsBy}
-use Rattle.mm_calls.specs.Stages.{NewFileMade}
-use Rattle.mm_core.specs.Serving.{WritesBlocks, FileWrites, AskedBeside}
-use Rattle.mm_core.specs.Deciding.{LineBegins}
+use Rattle.mm_pages.specs.{Makes, Turns, OneMove, PassesIn, NotesIn, WritesFile, StoreOf}
+use Rattle.mm_paging.specs.{HoldsBeside}
+use Rattle.mm_tables.specs.{beside_file, extended}
+use Rattle.mm_calls.specs.{GrowsBy, NewFileMade}
+use Rattle.mm_core.specs.{WritesBlocks, FileWrites, AskedBeside, LineBegins}
 use Rattle.mm_core.proofs.Begun.{paged, noted}
 
 -- ---- the blocks of a file

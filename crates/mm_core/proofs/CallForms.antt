@@ -2,66 +2,33 @@
 use Rattle.std.proofs.Common.{◌≡◌, ℕ, List, [], ◌∷◌, ◌++◌, Bool, true, false, Option, Some, None, refl, sym, ap, ◌∙◌, subst, cond, inl, inr, arith, is_some, length, nat_lt, ◌&&◌, nat_le}
 use Rattle.std.specs.Prelude.{Result, Ok, Err, IfOk, OnErr}
 use Rattle.std.proofs.lemmas.Bool.{lt-ltb}
-use Rattle.mm_types.specs.declared.answers.Answer.{Answer}
+use Rattle.mm_types.specs.{Answer, Event, LineKind, Move, Key, Pid, Place, end_of_user_pages}
 use Rattle.mm_types.specs.declared.answers.Answer.TheVariants as answer
-use Rattle.mm_types.specs.declared.events.Event.{Event}
 use Rattle.mm_types.specs.declared.events.Event.TheVariants as event
-use Rattle.mm_types.specs.declared.moves.LineKind.{LineKind}
 use Rattle.mm_types.specs.declared.moves.LineKind.TheVariants as kind
-use Rattle.mm_types.specs.declared.moves.Move.{Move}
 use Rattle.mm_types.specs.declared.moves.Move.TheVariants as move
-use Rattle.mm_types.specs.declared.numbers.Key.{Key}
-use Rattle.mm_types.specs.declared.numbers.Pid.{Pid}
-use Rattle.mm_types.specs.declared.numbers.Place.{Place}
-use Rattle.mm_types.specs.Address.{end_of_user_pages}
-use Rattle.mm_life.specs.Logs.{Log}
-use Rattle.mm_world.specs.World.{Page, World, KeptOf}
-use Rattle.mm_world.specs.Find.{process_of}
-use Rattle.mm_world.specs.Outcome.{OutcomeOf, done as outcome}
-use Rattle.mm_world.specs.Processes.{new_process, no_regions, most_processes}
-use Rattle.mm_world.specs.Step.{kept_by, threads}
-use Rattle.mm_world.specs.Contents.{Tables, world_with}
-use Rattle.mm_world.proofs.Finding.{numbered_inside}
-use Rattle.mm_life.specs.Waits.{Waiting, Idle}
-use Rattle.mm_life.specs.Walks.{waits_through, ages_through}
-use Rattle.mm_life.specs.Chores.{all_aged}
-use Rattle.mm_pages.specs.Store.{StoreOf}
+use Rattle.mm_life.specs.{Log, Waiting, Idle, waits_through, ages_through, all_aged}
+use Rattle.mm_world.specs.{Page, KeptOf, process_of, OutcomeOf, done as outcome, new_process, no_regions, most_processes, kept_by, threads, unpaged}
+use Rattle.mm_world.specs.{Tables, AcrossBytes, world_with}
+use Rattle.mm_world.specs.World.{World}
+use Rattle.mm_world.proofs.{numbered_inside, Holds}
+use Rattle.mm_pages.specs.{StoreOf, leaving, page_rank, Makes, Turned, Turns, OneMove, Trims, Ages, Flushes, PassesIn, Notes, NotesIn}
+use Rattle.mm_pages.specs.{Ghosts as PagesGhosts}
 use Rattle.mm_pages.specs.Behind.{Behind}
 use Rattle.mm_pages.specs.Flushing.{Flushing}
-use Rattle.mm_pages.specs.Leaving.{Leaving, leaving, page_rank}
-use Rattle.mm_pages.specs.Housekeeping.{Makes, Goes, Turned, Turns, OneMove, Trims, Ages, Flushes}
-use Rattle.mm_pages.specs.Passing.{PassesIn, Notes, NotesIn}
-use Rattle.mm_paging.specs.Kinds.{lives, if_lives, made_process, kind_of_growth}
-use Rattle.mm_paging.specs.Lines.{Does, GivesUp, Trimming, keeps_for, with_line}
-use Rattle.mm_tables.specs.Fits.{Called, key_bytes, is_uncommitted as is_free}
-use Rattle.mm_calls.specs.Growing.{GrowsBy}
-use Rattle.mm_calls.specs.Stages.{flushed_keys as keys_flushed}
-use Rattle.mm_core.specs.Forgetting.{is_of_process, waited}
-use Rattle.mm_core.specs.Noting.{keeps_keys, takes_away, EachMove, LineWent, TellsLine, IdlesIn, idle_left, Halted}
+use Rattle.mm_pages.specs.Leaving.{Leaving}
+use Rattle.mm_pages.specs.Housekeeping.{Goes}
+use Rattle.mm_paging.specs.{lives, if_lives, made_process, kind_of_growth, Does, GivesUp, Trimming, keeps_for, with_line}
+use Rattle.mm_tables.specs.{Called, key_bytes, is_uncommitted as is_free}
+use Rattle.mm_calls.specs.{AnswersCall, LosesPages, GrowsBy, flushed_keys as keys_flushed}
+use Rattle.mm_core.specs.{is_of_process, waited, AnswersLine, IsNext, StartsLine, keeps_keys, takes_away, EachMove, LineWent, TellsLine, IdlesIn}
+use Rattle.mm_core.specs.{idle_left, Halted, PassesOver, world_over}
 use Rattle.mm_core.proofs.Alike.{lives-with, kind-with, leaving-with, gives-with, flushed-with}
 use Rattle.mm_core.proofs.Begun.{noted, begun_with, went_then, noted_from, noted_then, went_alone}
 use Rattle.mm_core.proofs.Turned.{makes_keep, ends_take}
+use Rattle.mm_core.proofs.CallLines.{IsCall, decided, noted as marks}
+use Rattle.mm_core.proofs.Making.{Makes as MakesFew}
 use Rattle.mm_core.proofs.Marking.{Plain, marked_ends, marked_trims, marked_flushes, marked_alone, halted_none}
-
--- what a call passes is weakened
-pub passes_to : (u : Bool) (P Q : Behind → List Move → Behind → Type 0) (s z : StoreOf) (b c : Behind) → ((ms : List Move) → P b ms c → Q b ms c) → PassesIn u P s z b c → PassesIn u Q s z b c
-passes_to true P Q s z b c to p = p
-passes_to false P Q s z b c to p = record {
-  moves = p.moves;
-  in_range = p.in_range;
-  grew = p.grew;
-  replays = p.replays;
-  that = to p.moves p.that;
-  report = p.report;
-  paging_calls = p.paging_calls;
-  paging = p.paging;
-  paging_are = p.paging_are;
-  file_calls = p.file_calls;
-  files = p.files;
-  files_are = p.files_are;
-  slots_kept = p.slots_kept;
-  blocks_kept = p.blocks_kept;
-}
 
 -- of a line that asks devices for what is no move, nothing is told of devices
 pub unasked : (x : Move) (That : List Move → Type 0) (s z s' z' : StoreOf) (b c : Behind) → LineWent false x That s z b c → LineWent true x That s' z' b c
@@ -82,7 +49,7 @@ module _ (t : Tables) (old : Key → Option Page) (after : Tables) (new : Key �
   abbrev now : LineKind
   now = cond (is_some (process_of t pid.0)) (kind.Unbind pid) kind.Call
 
-  pub marked_release : (u : Bool) (s m z : StoreOf) (b y c : Behind) → Plain e w a b → ((k : LineKind) (ms : List Move) → GivesUp w pid v (with_line (move.At n k) b).life ms → Does w e a v z.report (with_line (move.At n k) b) ms c)
+  marked_release : (u : Bool) (s m z : StoreOf) (b y c : Behind) → Plain e w a b → ((k : LineKind) (ms : List Move) → GivesUp w pid v (with_line (move.At n k) b).life ms → Does w e a v z.report (with_line (move.At n k) b) ms c)
       → PassesIn u (OneMove (move.At n now)) s m b y → PassesIn u (Turns (Goes (leaving t pid.0 (is_free after)))) m z y c → u ≡ false
       → LineWent false (move.At n (if_lives w pid (kind.Unbind pid))) (λ ms. TellsLine n (if_lives w pid (kind.Unbind pid)) e w a v z.report b ms c) s z b c
   marked_release u s m z b y c plain does p q paging =
@@ -91,12 +58,33 @@ module _ (t : Tables) (old : Key → Option Page) (after : Tables) (new : Key �
       (λ ms log h. does now ms (subst (λ (held : Leaving). Turned (Goes held) (with_line (move.At n now) b).life ms) (gives-with t (key_bytes old) pid.0 after (key_bytes new)) h.turned)) p q paging)
 
   -- a handle is closed: of pages of the process none goes
-  pub marked_close : (u : Bool) (s m z : StoreOf) (b y c : Behind) → Plain e w a b → ((ms : List Move) → Turned (Goes (leaving w pid.0 none)) (with_line (move.At n kind.Call) b).life ms → Does w e a v z.report (with_line (move.At n kind.Call) b) ms c)
+  marked_close : (u : Bool) (s m z : StoreOf) (b y c : Behind) → Plain e w a b → ((ms : List Move) → Turned (Goes (leaving w pid.0 none)) (with_line (move.At n kind.Call) b).life ms → Does w e a v z.report (with_line (move.At n kind.Call) b) ms c)
       → PassesIn u (OneMove (move.At n kind.Call)) s m b y → PassesIn u (Turns (Goes (leaving t pid.0 none))) m z y c → u ≡ false
       → LineWent false (move.At n kind.Call) (λ ms. TellsLine n kind.Call e w a v z.report b ms c) s z b c
   marked_close u s m z b y c plain does p q paging =
       marked_ends n kind.Call e w a v u s m z b y c plain (leaving t pid.0 none) 1 (page_rank end_of_user_pages)
       (λ ms log h. does ms (subst (λ (held : Leaving). Turned (Goes held) (with_line (move.At n kind.Call) b).life ms) (leaving-with t (key_bytes old) pid.0 none) h.turned)) p q paging
+
+-- ---- such lines over a store
+
+module _ {G : Type 0} (p : PagesGhosts G) {n : ℕ} (t : Tables) (pid : Pid) {e : Event} {g m : G} where
+  pub releases-call : IsCall (if_lives (world_over p t g) pid (kind.Unbind pid)) (world_over p t g) e → IsNext p n t g → StartsLine p n g m → {q : OutcomeOf (Unit {0})} → AcrossBytes t (key_bytes (p.contents g)) q (unpaged (world_over p t g) e) → Holds (MakesFew t) q
+      → PassesOver p (OneMove (move.At n (cond (is_some (process_of t pid.0)) (kind.Unbind pid) kind.Call))) g m → {a : Answer} {after : Tables} {h : G}
+      → ((k : LineKind) (ms : List Move) → GivesUp (world_over p t g) pid (world_over p after h) (with_line (move.At n k) (p.behind g)).life ms → Does (world_over p t g) e a (world_over p after h) (p.store h).report (with_line (move.At n k) (p.behind g)) ms (p.behind h))
+      → AnswersCall p q t m a after h → LosesPages p pid t after m h → AnswersLine p e n t g a after h
+  releases-call is next starts across makes first {a} {after} {h} does d loses = record {
+    decided = decided p is next starts across makes d;
+    marked = marks p is next starts a after h (marked_release t (p.contents g) after (p.contents h) n pid e a p.unpaged (p.store g) (p.store m) (p.store h) (p.behind g) (p.behind m) (p.behind h) (is.plain a (p.behind g)) does first loses.passes);
+  }
+
+  pub closes-call : IsCall kind.Call (world_over p t g) e → IsNext p n t g → StartsLine p n g m → {q : OutcomeOf (Unit {0})} → AcrossBytes t (key_bytes (p.contents g)) q (unpaged (world_over p t g) e) → Holds (MakesFew t) q
+      → PassesOver p (OneMove (move.At n kind.Call)) g m → {a : Answer} {after : Tables} {h : G}
+      → ((ms : List Move) → Turned (Goes (leaving (world_over p t g) pid.0 none)) (with_line (move.At n kind.Call) (p.behind g)).life ms → Does (world_over p t g) e a (world_over p after h) (p.store h).report (with_line (move.At n kind.Call) (p.behind g)) ms (p.behind h))
+      → AnswersCall p q t m a after h → PassesOver p (Turns (Goes (leaving t pid.0 none))) m h → AnswersLine p e n t g a after h
+  closes-call is next starts across makes first {a} {after} {h} does d passes = record {
+    decided = decided p is next starts across makes d;
+    marked = marks p is next starts a after h (marked_close t (p.contents g) after (p.contents h) n pid e a p.unpaged (p.store g) (p.store m) (p.store h) (p.behind g) (p.behind m) (p.behind h) (is.plain a (p.behind g)) does first passes);
+  }
 
 -- ---- a process
 

@@ -4,43 +4,23 @@ use Rattle.std.proofs.Math.Path.{fun_ext}
 use Rattle.std.proofs.lemmas.Bool.{leb-true, lt-ltb}
 use Rattle.std.proofs.lemmas.List.{length-append}
 use Rattle.std.proofs.lemmas.List.Sums.{sum_by-cons}
-use Rattle.mm_types.specs.declared.answers.Answer.{Answer}
+use Rattle.mm_types.specs.{Answer, Device, Direction, Key, Pid, View, Range, holds_page, lies_within, range_of, page_of, end_of, Text}
 use Rattle.mm_types.specs.declared.answers.Answer.TheVariants as answer
-use Rattle.mm_types.specs.declared.devices.Device.{Device}
 use Rattle.mm_types.specs.declared.devices.Device.TheVariants as device_of
-use Rattle.mm_types.specs.declared.devices.Direction.{Direction}
 use Rattle.mm_types.specs.declared.events.Event.TheVariants as line
-use Rattle.mm_types.specs.declared.numbers.Key.{Key}
-use Rattle.mm_types.specs.declared.numbers.Pid.{Pid}
-use Rattle.mm_types.specs.declared.views.View.{View}
 use Rattle.mm_types.specs.declared.views.Kind.TheVariants as kind
-use Rattle.mm_types.specs.Address.{Range, holds_page, lies_within, range_of, page_of, end_of}
-use Rattle.mm_types.specs.Spelling.{Text}
-use Rattle.mm_blocks.specs.declared.device_calls.NamedCalls.{NamedCalls}
-use Rattle.mm_world.specs.World.{Page, World, RegionOf, ProcessOf, AreaOf, filled, pages_of}
-use Rattle.mm_world.specs.Find.{Found, first_where, process_of, area_at, no_area, shared_page, is_private}
-use Rattle.mm_world.specs.Keys.{content_of, shared_key}
-use Rattle.mm_world.specs.Outcome.{OutcomeOf, done}
-use Rattle.mm_world.specs.Processes.{new_file, take_fail, most_fails}
-use Rattle.mm_world.specs.Views.{flush, view_around, flushed_view, flushed_range}
-use Rattle.mm_world.specs.Step.{unpaged, when, is_ok}
-use Rattle.mm_world.specs.Contents.{Tables, BytesAfter, BytesAfterFile, file_bytes, blank, world_with, region_with_bytes, process_with, area_with}
-use Rattle.mm_world.specs.WellFormed.{WellFormed, Spaces, RegionRefers}
-use Rattle.mm_world.proofs.Across.{flush_across}
-use Rattle.mm_world.proofs.AcrossFile.{new_file_across}
-use Rattle.mm_world.proofs.Each.{each-at}
-use Rattle.mm_world.proofs.Finding.{found_stands}
-use Rattle.mm_types.proofs.Booleans.{parts}
-use Rattle.mm_types.proofs.Naturals.{less}
-use Rattle.mm_world.proofs.Natural.{first-map}
-use Rattle.mm_blocks.specs.Devices.{DeviceOf}
-use Rattle.mm_pages.specs.Store.{StoreOf}
-use Rattle.mm_pages.specs.Reports.{with_named, with_named_paging}
-use Rattle.mm_tables.specs.Fits.{key_bytes, file_block_in, BlocksHold, NamesAtMostOne, file_told, flush_told}
-use Rattle.mm_tables.specs.References.{IsTidy}
-use Rattle.mm_core.specs.Serving.{FlushHolds, FlushServed}
-use Rattle.mm_core.specs.Stepping.{Stepped}
-use Rattle.mm_core.specs.Deciding.{LineBegins, Devices}
+use Rattle.mm_blocks.specs.{NamedCalls, DeviceOf}
+use Rattle.mm_world.specs.{Page, RegionOf, ProcessOf, AreaOf, filled, pages_of, Found, first_where, process_of, area_at, no_area, shared_page}
+use Rattle.mm_world.specs.{is_private, content_of, shared_key, OutcomeOf, done, new_file, take_fail, most_fails, flush, view_around, flushed_view}
+use Rattle.mm_world.specs.{flushed_range, unpaged, when, is_ok, Tables, BytesAfter, BytesAfterFile, file_bytes, blank, world_with, region_with_bytes}
+use Rattle.mm_world.specs.{process_with, area_with, Spaces, RegionRefers}
+use Rattle.mm_world.specs.World.{World}
+use Rattle.mm_world.specs.WellFormed.{WellFormed}
+use Rattle.mm_world.proofs.{flush_across, new_file_across, each-at, found_stands, first-map}
+use Rattle.mm_types.proofs.{parts, less}
+use Rattle.mm_pages.specs.{StoreOf, with_named, with_named_paging}
+use Rattle.mm_tables.specs.{key_bytes, file_block_in, BlocksHold, NamesAtMostOne, file_told, flush_told, IsTidy}
+use Rattle.mm_core.specs.{FlushHolds, FlushServed, Stepped, LineBegins, Devices}
 use Rattle.mm_core.proofs.Lines.{stepped-faulted, bytes-kept}
 use Rattle.mm_core.proofs.With.{found_with, process-with, pages-with, get-areas, shared-with}
 

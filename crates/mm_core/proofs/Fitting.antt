@@ -1,18 +1,14 @@
 -- A store goes on fitting the tables.
-use Rattle.std.proofs.Common.{◌≡◌, ◌⊎◌, ◌+◌, Bool, true, false, Option, Some, refl, sym, ◌∙◌, ap, subst, cond, arith, length, is_some, ◌&&◌, inl, inr}
+use Rattle.std.proofs.Common.{◌≡◌, ◌≤◌, ◌⊎◌, ◌+◌, Bool, true, false, Option, Some, refl, sym, ◌∙◌, ap, subst, cond, arith, length, is_some, ◌&&◌, inl, inr}
 use Rattle.std.specs.Prelude.{Result, Ok, Err, OnOk, OnErr}
 use Rattle.std.specs.Cmp.{unsigned_Decides}
-use Rattle.mm_types.specs.declared.numbers.Key.{Key}
+use Rattle.mm_types.specs.{Key, Place}
 use Rattle.mm_types.specs.declared.numbers.Key.TheVariants as key
-use Rattle.mm_types.specs.declared.numbers.Place.{Place}
-use Rattle.mm_world.specs.World.{Page}
-use Rattle.mm_world.specs.Failure.{same_key}
-use Rattle.mm_world.specs.Keys.{content_of}
-use Rattle.mm_world.specs.Contents.{Tables}
-use Rattle.mm_pages.specs.Store.{StoreOf, changed, same_place, own_key}
-use Rattle.mm_pages.specs.Reports.{fetched, rearranged, Served}
-use Rattle.mm_tables.specs.Fits.{FitsTables, key_at, copied}
-use Rattle.mm_types.proofs.Booleans.{parts}
+use Rattle.mm_world.specs.{Page, same_key, content_of, Tables}
+use Rattle.mm_world.specs.Report.{Report}
+use Rattle.mm_pages.specs.{Ready, StoreOf, changed, same_place, own_key, fetched, rearranged, Served}
+use Rattle.mm_tables.specs.{FitsTables, key_at, copied}
+use Rattle.mm_types.proofs.{parts}
 use Rattle.mm_core.proofs.Serving.{all-named}
 
 -- ---- keys and places
@@ -58,24 +54,13 @@ module _ (t : Tables) (c : Key → Option Page) (s : StoreOf) (f : FitsTables t 
 
   pub fits_fetched : (names : Place → Option Key) (z : StoreOf) → Served s z → length z.file_blocks ≡ length s.file_blocks → z ≡ around names z → ((place : Place) (k : Key) → names place ≡ Some k → key_at t place ≡ Some k) → FitsTables t c z
   fits_fetched names z served stored e named =
-      subst (λ (z : StoreOf). FitsTables t c z) (sym e)
-      (record {
-        machine = f.machine;
-        opened = f.opened;
-        last_pid = f.last_pid;
-        areas = f.areas;
-        bound = f.bound;
-        live = f.live;
-        paging = f.paging;
-        counted = f.counted;
-        room = f.room;
-        named = named;
-        blocks = f.blocks;
-        used = f.used;
-        stored = stored ∙ f.stored;
-        named_paging = omega (arith, f.named_paging, all-named served.paging_calls s.paging_device z.paging_device served.paging);
-        named_file = omega (arith, f.named_file, all-named served.file_calls s.file_device z.file_device served.files);
-      })
+      let paging : length z.paging_device.named ≤ t.fails_taken = omega (arith, f.named_paging, all-named served.paging_calls s.paging_device z.paging_device served.paging) in
+      let files : length z.file_device.named ≤ t.fails_taken = omega (arith, f.named_file, all-named served.file_calls s.file_device z.file_device served.files) in
+      subst (λ (z : StoreOf). FitsTables t c z) (sym e) (assumption (named, stored ∙ f.stored, paging, files, f))
+
+  -- the tables know nothing of a report, nor of what is ready
+  pub fits_beside : (names : Place → Option Key) (ready : Option Ready) (report : Report) → ((place : Place) (k : Key) → names place ≡ Some k → key_at t place ≡ Some k) → FitsTables t c (record s { names = names; ready = ready; report = report })
+  fits_beside names ready report named = assumption (named, f)
 
   pub names_one : (place : Place) (k : Key) → key_at t place ≡ Some k → (q : Place) (j : Key) → changed same_place s.names place (Some k) q ≡ Some j → key_at t q ≡ Some j
   names_one place k at q j e = by_test (same_place q place) refl e
@@ -87,23 +72,8 @@ module _ (t : Tables) (c : Key → Option Page) (s : StoreOf) (f : FitsTables t 
   -- the bytes of a live key are others
   pub fits_bytes : (k : Key) (x : Page) → is_some (c k) ≡ true → FitsTables t (changed same_key c k (Some x)) s
   fits_bytes k x there =
-      record {
-        machine = f.machine;
-        opened = f.opened;
-        last_pid = f.last_pid;
-        areas = f.areas;
-        bound = f.bound;
-        live = λ j. by_test j (same_key j k) refl;
-        paging = f.paging;
-        counted = f.counted;
-        room = f.room;
-        named = f.named;
-        blocks = f.blocks;
-        used = f.used;
-        stored = f.stored;
-        named_paging = f.named_paging;
-        named_file = f.named_file;
-      }
+      let live : (j : Key) → is_some (changed same_key c k (Some x) j) ≡ is_some (content_of t j) = λ j. by_test j (same_key j k) refl in
+      assumption (live, f)
     where
       by_test : (j : Key) (b : Bool) → same_key j k ≡ b → is_some (cond b (Some x) (c j)) ≡ is_some (content_of t j)
       by_test j true same = sym there ∙ ap (λ (k : Key). is_some (c k)) (sym (same_key-is j k same)) ∙ f.live j
@@ -152,21 +122,4 @@ fits-same t c s c' z f contents store =
 pub fits-rearranged : (t : Tables) (c : Key → Option Page) (s : StoreOf) (c' : Key → Option Page) (z : StoreOf) → FitsTables t c s → c' ≡ c → z ≡ record s { report = rearranged s.report z.report } → FitsTables t c' z
 fits-rearranged t c s c' z f contents store =
     subst (λ (c : Key → Option Page). FitsTables t c z) (sym contents)
-    (subst (λ (s : StoreOf). FitsTables t c s) (sym store)
-    (record {
-      machine = f.machine;
-      opened = f.opened;
-      last_pid = f.last_pid;
-      areas = f.areas;
-      bound = f.bound;
-      live = f.live;
-      paging = f.paging;
-      counted = f.counted;
-      room = f.room;
-      named = f.named;
-      blocks = f.blocks;
-      used = f.used;
-      stored = f.stored;
-      named_paging = f.named_paging;
-      named_file = f.named_file;
-    }))
+    (subst (λ (s : StoreOf). FitsTables t c s) (sym store) (fits_beside t c s f s.names s.ready (rearranged s.report z.report) f.named))

@@ -3,25 +3,17 @@ use Rattle.std.proofs.Common.{◌≡◌, ◌≢◌, ◌<◌, ℕ, ◌+◌, Bool,
 use Rattle.std.specs.Prelude.{◌==◌}
 use Rattle.std.specs.Cmp.{unsigned_Decides}
 use Rattle.std.proofs.lemmas.Bool.{lt-ltb, ltb-true, le-ltb, ltb-false}
-use Rattle.mm_types.proofs.Cells.{same_or_not}
-use Rattle.mm_types.specs.declared.answers.Answer.{Answer}
-use Rattle.mm_types.specs.declared.answers.Wait.{Wait}
+use Rattle.mm_types.proofs.{same_or_not}
+use Rattle.mm_types.specs.{Answer, Wait, Key, Pid}
 use Rattle.mm_types.specs.declared.answers.Wait.TheVariants as wait
 use Rattle.mm_types.specs.declared.events.Event.TheVariants as event
-use Rattle.mm_types.specs.declared.numbers.Key.{Key}
-use Rattle.mm_types.specs.declared.numbers.Pid.{Pid}
-use Rattle.mm_world.specs.World.{Page}
-use Rattle.mm_world.specs.Step.{kept_by, threads}
-use Rattle.mm_world.specs.Contents.{Tables}
-use Rattle.mm_world.proofs.Finding.{numbered_inside}
-use Rattle.mm_life.specs.Waits.{Idle}
-use Rattle.mm_pages.specs.Store.{StoreOf, changed}
+use Rattle.mm_world.specs.{Page, kept_by, threads, Tables}
+use Rattle.mm_world.proofs.{numbered_inside}
+use Rattle.mm_life.specs.{Idle}
+use Rattle.mm_pages.specs.{StoreOf, changed, Forgets, PassesIn}
 use Rattle.mm_pages.specs.Behind.{Behind}
-use Rattle.mm_pages.specs.Accesses.{Forgets}
-use Rattle.mm_pages.specs.Passing.{PassesIn}
-use Rattle.mm_core.specs.Forgetting.{is_of_process, waits_but, waited, Forgot, EndsWaits}
-use Rattle.mm_core.specs.Deciding.{KeepsTables, Decided}
-use Rattle.mm_core.specs.Noting.{idle_but, IdlesBut, Idles}
+use Rattle.mm_core.specs.{is_of_process, waits_but, waited, Forgot, EndsWaits, KeepsTables, Decided, idle_but, IdlesBut, Idles}
+use Rattle.mm_core.proofs.Fitting.{fits_beside}
 
 -- ---- one thread more
 
@@ -103,29 +95,8 @@ module _ (t : Tables) (pid : ℕ) (b : Behind) where
 
 pub keeps-forgot : (t : Tables) (c d : Key → Option Page) (s z : StoreOf) → KeepsTables t c s → d ≡ c → z ≡ waited s z → KeepsTables t d z
 keeps-forgot t c d s z keeps same rest =
-    let f = keeps.fits in
     subst (λ (c : Key → Option Page). KeepsTables t c z) (sym same)
-    (subst (λ (z : StoreOf). KeepsTables t c z) (sym rest)
-    (record {
-      fits = record {
-        machine = f.machine;
-        opened = f.opened;
-        last_pid = f.last_pid;
-        areas = f.areas;
-        bound = f.bound;
-        live = f.live;
-        paging = f.paging;
-        counted = f.counted;
-        room = f.room;
-        named = f.named;
-        blocks = f.blocks;
-        used = f.used;
-        stored = f.stored;
-        named_paging = f.named_paging;
-        named_file = f.named_file;
-      };
-      few = keeps.few;
-    }))
+    (subst (λ (z : StoreOf). KeepsTables t c z) (sym rest) (record { fits = fits_beside t c s keeps.fits s.names s.ready (waited s z).report keeps.fits.named; few = keeps.few }))
 
 -- ---- the line
 
@@ -136,20 +107,7 @@ module _ (u : Bool) (pid : Pid) (n : ℕ) (t : Tables) (c d : Key → Option Pag
       from (subst (λ (m : StoreOf). Decided u (event.Exit pid) n t c m a after new z) rest (subst (λ (c : Key → Option Page). Decided u (event.Exit pid) n t c m a after new z) same h))
     where
       from : Decided u (event.Exit pid) n t c (waited s m) a after new z → Decided u (event.Exit pid) n t c s a after new z
-      from h = record {
-        stepped = record { decided = h.stepped.decided; told = h.stepped.told };
-        devices = record {
-          asked_files = h.devices.asked_files;
-          asked_paging = h.devices.asked_paging;
-          named = h.devices.named;
-          failed = h.devices.failed;
-          paging_later = h.devices.paging_later;
-          files_later = h.devices.files_later;
-        };
-        flushed = h.flushed;
-        keeps = h.keeps;
-        line_is = h.line_is;
-      }
+      from h = assumption h
 
 -- no thread waits any more whose access was of the process
 pub ends-waits : (t : Tables) (pid : Pid) (a : Answer) (s y m z : StoreOf) → length t.kept ≡ threads → Forgot t pid.0 threads s y → m.report.wait ≡ y.report.wait → z.report.wait ≡ m.report.wait → EndsWaits t (event.Exit pid) a z.report

@@ -1,25 +1,14 @@
 -- A `grow` line: the paging file grows, or the paging device fails.
 use Rattle.std.proofs.Common.{◌≡◌, ◌≤◌, ◌+◌, inl, inr, ℕ, [], Bool, true, false, Option, refl, sym, ◌∙◌, ap, cond, nat_le, ◌&&◌, arith}
-use Rattle.mm_types.specs.declared.answers.Answer.{Answer}
+use Rattle.mm_types.specs.{Answer, Event, Key, limit_of, Rose}
 use Rattle.mm_types.specs.declared.answers.Answer.TheVariants as answer
-use Rattle.mm_types.specs.declared.events.Event.{Event}
 use Rattle.mm_types.specs.declared.events.Event.TheVariants as line
-use Rattle.mm_types.specs.declared.numbers.Key.{Key}
-use Rattle.mm_types.specs.Machine.{limit_of}
-use Rattle.mm_types.specs.Outside.{Rose}
-use Rattle.mm_blocks.specs.Devices.{DeviceOf}
-use Rattle.mm_world.specs.World.{Page}
-use Rattle.mm_world.specs.Contents.{Tables, world_with}
-use Rattle.mm_world.specs.Outcome.{OutcomeOf, done}
-use Rattle.mm_world.specs.Processes.{grow, with_slots, most_slots}
+use Rattle.mm_blocks.specs.{DeviceOf}
+use Rattle.mm_world.specs.{Page, Tables, world_with, OutcomeOf, done, grow, with_slots, most_slots, is_failed_extension}
 use Rattle.mm_world.specs.Report.{Report}
-use Rattle.mm_world.specs.Step.{is_failed_extension}
-use Rattle.mm_pages.specs.Store.{StoreOf}
-use Rattle.mm_pages.specs.Reports.{begun}
-use Rattle.mm_tables.specs.Fits.{FitsTables, key_bytes, extended, grow_told}
-use Rattle.mm_tables.specs.References.{MadeAtMost}
-use Rattle.mm_core.specs.Deciding.{KeepsTables, Decided}
-use Rattle.mm_core.specs.Serving.{IsFailure}
+use Rattle.mm_pages.specs.{StoreOf, begun}
+use Rattle.mm_tables.specs.{FitsTables, key_bytes, extended, grow_told, MadeAtMost}
+use Rattle.mm_core.specs.{KeepsTables, Decided, IsFailure}
 use Rattle.mm_core.proofs.Lines.{stepped-faulted, faulted-answer, faulted-made, keeps-made, one-later}
 
 module _ (t : Tables) (n : ℕ) where

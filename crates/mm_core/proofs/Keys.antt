@@ -1,17 +1,11 @@
 -- The key of a place, and what it holds.
 use Rattle.std.proofs.Common.{◌≡◌, ℕ, true, Option, Some, None, refl, sym, ◌∙◌, ap, is_some, option_map}
 use Rattle.std.specs.Prelude.{option_and_then}
-use Rattle.mm_types.specs.declared.numbers.Key.{Key}
-use Rattle.mm_types.specs.declared.numbers.Pid.{Pid}
-use Rattle.mm_types.specs.declared.numbers.Place.{Place}
-use Rattle.mm_world.specs.World.{Page, ProcessOf}
-use Rattle.mm_world.specs.Find.{process_of}
-use Rattle.mm_world.specs.Keys.{Committed, committed_at, key_of, content_of}
-use Rattle.mm_world.specs.Contents.{Tables}
-use Rattle.mm_pages.specs.Store.{StoreOf}
-use Rattle.mm_pages.specs.Conditions.{place_at}
-use Rattle.mm_tables.specs.Fits.{FitsTables, key_at}
-use Rattle.mm_world.proofs.Finding.{row_has_live_key}
+use Rattle.mm_types.specs.{Key, Pid, Place}
+use Rattle.mm_world.specs.{Page, ProcessOf, process_of, Committed, committed_at, key_of, content_of, Tables}
+use Rattle.mm_pages.specs.{StoreOf, place_at}
+use Rattle.mm_tables.specs.{FitsTables, key_at}
+use Rattle.mm_world.proofs.{row_has_live_key}
 
 -- the key of a committed row's place
 pub key-row : (t : Tables) (pid : Pid) (page : ℕ) (p : ProcessOf (Unit {0})) (c : Committed (Unit {0})) → process_of t pid.0 ≡ Some p → committed_at t p.regions page ≡ Some c → key_at t (place_at pid page) ≡ Some (key_of pid.0 page c.home)

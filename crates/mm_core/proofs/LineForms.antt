@@ -2,43 +2,24 @@
 use Rattle.std.proofs.Common.{◌≡◌, ℕ, List, [], ◌∷◌, ◌++◌, Bool, true, false, Option, Some, None, refl, sym, ap, ◌∙◌, subst, cond, option_map, is_some, arith}
 use Rattle.std.specs.Prelude.{◌==◌}
 use Rattle.std.proofs.lemmas.List.{append-nil}
-use Rattle.mm_types.specs.declared.answers.Answer.{Answer}
+use Rattle.mm_types.specs.{Answer, Why, Event, Held, Move, Pid, Place, page_of}
 use Rattle.mm_types.specs.declared.answers.Answer.TheVariants as answer
-use Rattle.mm_types.specs.declared.answers.Why.{Why}
 use Rattle.mm_types.specs.declared.answers.Why.TheVariants as why
-use Rattle.mm_types.specs.declared.events.Event.{Event}
-use Rattle.mm_types.specs.declared.frames.Held.{Held}
 use Rattle.mm_types.specs.declared.frames.Held.TheVariants as held
-use Rattle.mm_types.specs.declared.moves.Move.{Move}
 use Rattle.mm_types.specs.declared.moves.Move.TheVariants as move
-use Rattle.mm_types.specs.declared.numbers.Pid.{Pid}
-use Rattle.mm_types.specs.declared.numbers.Place.{Place}
-use Rattle.mm_types.specs.Address.{page_of}
-use Rattle.mm_types.proofs.Options.{some_found}
-use Rattle.mm_life.specs.Life.{FrameLife}
-use Rattle.mm_life.specs.Effect.{after_move}
-use Rattle.mm_life.specs.Replay.{Replays}
+use Rattle.mm_types.proofs.{some_found}
+use Rattle.mm_life.specs.{FrameLife, after_move, Replays, is_valid, Starved, Waiting, Idle, Walk, walked_all, waits_through, ages_through}
 use Rattle.mm_world.specs.World.{World}
-use Rattle.mm_world.specs.Access.{Attempt}
-use Rattle.mm_world.specs.Failure.{Need}
-use Rattle.mm_world.specs.Report.{Report, BeingRead}
-use Rattle.mm_world.specs.Step.{need_at}
-use Rattle.mm_life.specs.Searches.{is_valid, Starved}
-use Rattle.mm_life.specs.Waits.{Waiting, Idle}
-use Rattle.mm_life.specs.Walks.{Walk, walked_all, waits_through, ages_through}
-use Rattle.mm_pages.specs.Store.{StoreOf, changed, same_place}
+use Rattle.mm_world.specs.{Attempt, Need, BeingRead, need_at}
+use Rattle.mm_world.specs.Report.{Report}
+use Rattle.mm_pages.specs.{StoreOf, changed, same_place, place_at, PassesIn, Aim, AccessMoves, Forgets, wait_begun, walk_from, OneMove, NoMove}
 use Rattle.mm_pages.specs.Behind.{Behind}
-use Rattle.mm_pages.specs.Conditions.{place_at}
-use Rattle.mm_pages.specs.Passing.{PassesIn}
-use Rattle.mm_pages.specs.Accesses.{Aim, AccessMoves, Forgets, wait_begun, walk_from}
-use Rattle.mm_pages.specs.Housekeeping.{OneMove, NoMove}
 use Rattle.mm_pages.specs.declared.outcomes.Start.TheVariants as start
-use Rattle.mm_pages.proofs.Passed.{Joins, passes_then}
-use Rattle.mm_paging.specs.Kinds.{aim_at, aim_of, is_write, kind_of_line}
-use Rattle.mm_paging.specs.Lines.{Accesses, AccessesBy, Does, ages_of_line, waits_of_line, awaited, is_had, is_failed, is_pending_read, place_had, with_line}
-use Rattle.mm_paging.proofs.AccessLines.{moves_from}
-use Rattle.mm_core.specs.Answering.{Answered, MadeBy, WaitsBy}
-use Rattle.mm_core.specs.Lining.{Lined}
+use Rattle.mm_pages.proofs.{Joins, passes_then}
+use Rattle.mm_paging.specs.{aim_at, aim_of, is_write, kind_of_line, Accesses, AccessesBy, Does, ages_of_line, waits_of_line, awaited, is_had}
+use Rattle.mm_paging.specs.{is_failed, is_pending_read, place_had, with_line}
+use Rattle.mm_paging.proofs.{moves_from}
+use Rattle.mm_core.specs.{Answered, MadeBy, WaitsBy, Lined}
 use Rattle.mm_core.proofs.Pieces.{passes_as}
 use Rattle.mm_core.proofs.AccessPieces.{twice}
 
@@ -161,12 +142,8 @@ module _ (plain : Bool) (w : World) (e : Event) (n : ℕ) (r : Answer) (v : Worl
 -- what a thread that has to wait waits for
 begun-awaits : (y : Why) (a : Aim) (l : FrameLife) (h : Held) → wait_begun (start.Pending y) h ≡ cond (is_pending_read (answer.Pending y)) (awaited (Some a) (record l { stands = λ _. h })) Idle
 begun-awaits why.Read a l (held.Frame f) = refl
-begun-awaits why.Read a l (held.Slot s) = refl
-begun-awaits why.Read a l (held.Block b) = refl
-begun-awaits why.Read a l held.Zero = refl
-begun-awaits why.Read a l held.Dead = refl
-begun-awaits why.Full a l h = refl
-begun-awaits why.Frame a l h = refl
+begun-awaits why.Read a l _ = refl
+begun-awaits _ a l h = refl
 
 reads : (x : Why) → is_pending_read (answer.Pending x) ≡ true → x ≡ why.Read
 reads why.Read e = refl

@@ -1,27 +1,17 @@
 -- From what a call did to the tables and to the bytes to what its line did to the world.
 use Rattle.std.proofs.Common.{◌≡◌, ℕ, ◌+◌, Bool, true, false, Option, Some, None, Result, Ok, Err, refl, sym, ◌∙◌, ap, subst, cond, is_some, unwrap_or, ◌&&◌, nat_le, length, [], ◌∷◌, ◌++◌, arith}
 use Rattle.std.specs.Prelude.{IsOk, IfOk, OnErr}
-use Rattle.mm_types.specs.declared.answers.Answer.{Answer}
+use Rattle.mm_types.specs.{Answer, Event, Key, LineKind}
 use Rattle.mm_types.specs.declared.answers.Answer.TheVariants as answer
-use Rattle.mm_types.specs.declared.events.Event.{Event}
-use Rattle.mm_types.specs.declared.numbers.Key.{Key}
-use Rattle.mm_types.specs.declared.moves.LineKind.{LineKind}
-use Rattle.mm_world.specs.Processes.{new_process, no_regions, most_processes}
-use Rattle.mm_pages.specs.Conditions.{pid_after}
-use Rattle.mm_world.specs.World.{Page, World, filled}
-use Rattle.mm_world.specs.Keys.{content_of}
-use Rattle.mm_world.specs.Outcome.{OutcomeOf, done}
+use Rattle.mm_world.specs.{new_process, no_regions, most_processes, Page, filled, content_of, OutcomeOf, done, step, stepped, unpaged, told, when}
+use Rattle.mm_world.specs.{world_told, Tables, BytesAfter, AcrossBytes, world_with}
+use Rattle.mm_pages.specs.{pid_after, StoreOf, Served, SomeFailed, begun, Ghosts as PagesGhosts}
+use Rattle.mm_world.specs.World.{World}
 use Rattle.mm_world.specs.Report.{Report}
-use Rattle.mm_world.specs.Step.{step, stepped, unpaged, told, when, world_told}
-use Rattle.mm_world.specs.Contents.{Tables, BytesAfter, AcrossBytes, world_with}
-use Rattle.mm_world.proofs.Tables.{Holds}
-use Rattle.mm_pages.specs.Store.{StoreOf}
-use Rattle.mm_pages.specs.Reports.{Served, SomeFailed, begun}
-use Rattle.mm_tables.specs.Fits.{FitsTables, key_bytes, Called}
-use Rattle.mm_tables.specs.References.{MadeAtMost}
-use Rattle.mm_core.specs.Serving.{IsFailure, Named, FlushServed}
-use Rattle.mm_core.specs.Stepping.{Stepped}
-use Rattle.mm_core.specs.Deciding.{KeepsTables, LineBegins, Decided}
+use Rattle.mm_world.proofs.{Holds}
+use Rattle.mm_tables.specs.{FitsTables, key_bytes, Called, MadeAtMost}
+use Rattle.mm_core.specs.{IsFailure, Named, FlushServed, Stepped, KeepsTables, LineBegins, Decided, IsNext, StartsLine, DecidedOver, FitsOver}
+use Rattle.mm_core.specs.{world_over}
 use Rattle.mm_core.proofs.Serving.{Quiet, devices-served, devices-quiet}
 use Rattle.mm_core.proofs.Making.{Makes}
 
@@ -69,18 +59,15 @@ module _ (u : Bool) (e : Event) (n : ℕ) (t : Tables) (old : Key → Option Pag
       record { fits = fits; few = subst (λ (k : ℕ). MadeAtMost k after) (sym (is ∙ next)) few }
 
   -- a line that called no device
-  decided-still : n ≡ s.line + 1 → LineBegins n s m → Quiet m z → Stepped u w e s.report z.report a v → (IsFailure a → ⊥) → NamedHere → FlushServed v z.file_blocks e a → MadeAtMost (s.line + 1) after → FitsTables after new z → Decided u e n t old s a after new z
-  decided-still next b quiet step fine named flushed few fits =
+  pub decided-quiet : n ≡ s.line + 1 → LineBegins n s m → Quiet m z → told w e s.report z.report ≡ None → unpaged w e ≡ done a v → (IsFailure a → ⊥) → NamedHere → FlushServed v z.file_blocks e a → MadeAtMost (s.line + 1) after → FitsTables after new z → Decided u e n t old s a after new z
+  decided-quiet next b quiet none outcome fine named flushed few fits =
       record {
-        stepped = step;
+        stepped = stepped-plain u w e s.report z.report a v none outcome;
         devices = devices-quiet u e n s m z a b quiet named fine;
         flushed = flushed;
         keeps = keeps-made next (quiet.line_is ∙ b.line_is) few fits;
         line_is = quiet.line_is ∙ b.line_is;
       }
-
-  pub decided-quiet : n ≡ s.line + 1 → LineBegins n s m → Quiet m z → told w e s.report z.report ≡ None → unpaged w e ≡ done a v → (IsFailure a → ⊥) → NamedHere → FlushServed v z.file_blocks e a → MadeAtMost (s.line + 1) after → FitsTables after new z → Decided u e n t old s a after new z
-  decided-quiet next b quiet none outcome = decided-still next b quiet (stepped-plain u w e s.report z.report a v none outcome)
 
   -- one whose call on the world has the outcome of its call on the tables
   pub decided-call : (q : OutcomeOf (Unit {0})) → KeepsTables t old s → n ≡ s.line + 1 → LineBegins n s m → Quiet m z → AcrossBytes t (key_bytes old) q (unpaged w e) → Holds (Makes t) q → told w e s.report z.report ≡ None → NamedHere → FlushServed v z.file_blocks e a → Called q t old a after new → FitsTables after new z → Decided u e n t old s a after new z
@@ -125,11 +112,11 @@ pub one-later : (t : Tables) (n : ℕ) → MadeAtMost n t → MadeAtMost (n + 1)
 one-later t n h = record { sections = omega (arith, h.sections); areas = omega (arith, h.areas); handles = λ pid p lives. omega (arith, h.handles pid p lives) }
 
 -- a line after which tables and bytes are those before
-pub decided-same : (u : Bool) (e : Event) (n : ℕ) (t : Tables) (old : Key → Option Page) (s m : StoreOf) (a : Answer) (after : Tables) (new : Key → Option Page) (z : StoreOf) → KeepsTables t old s → n ≡ s.line + 1 → LineBegins n s m → Quiet m z → after ≡ t → new ≡ old → told (world_with t (key_bytes old)) e s.report z.report ≡ None → unpaged (world_with t (key_bytes old)) e ≡ done a (world_with t (key_bytes old)) → (IsFailure a → ⊥) → Named u e a s.paging_device z.paging_device s.file_device z.file_device → FlushServed (world_with after (key_bytes new)) z.file_blocks e a → FitsTables after new z → Decided u e n t old s a after new z
-decided-same u e n t old s m a after new z keeps next b quiet tables contents none outcome fine named flushed fits =
-    decided-quiet u e n t old s m a after new z next b quiet none
-    (outcome ∙ (λ i. done a (world_with (sym tables i) (key_bytes (sym contents i))))) fine named flushed
-    (subst (λ (t : Tables). MadeAtMost (s.line + 1) t) (sym tables) (one-later t s.line keeps.few)) fits
+pub decided-same : {G : Type 0} (p : PagesGhosts G) {n : ℕ} {t : Tables} {g x y : G} → IsNext p n t g → StartsLine p n g x → (e : Event) (a : Answer) → Quiet (p.store x) (p.store y) → p.contents y ≡ p.contents x → told (world_over p t g) e (p.store g).report (p.store y).report ≡ None → unpaged (world_over p t g) e ≡ done a (world_over p t g) → (IsFailure a → ⊥)
+    → Named p.unpaged e a (p.store g).paging_device (p.store y).paging_device (p.store g).file_device (p.store y).file_device → FlushServed (world_over p t y) (p.store y).file_blocks e a → FitsOver p t y → DecidedOver p e n t g a t y
+decided-same p {n = n} {t} {g} {x} {y} next starts e a quiet same none outcome fine named flushed fits =
+    decided-quiet p.unpaged e n t (p.contents g) (p.store g) (p.store x) a t (p.contents y) (p.store y) next.line_is starts.begins quiet none
+    (outcome ∙ (λ i. done a (world_with t (key_bytes (sym (same ∙ starts.contents) i))))) fine named flushed (one-later t (p.store g).line next.keeps.few) fits
 
 -- a line that the store began by itself
 pub begins-line : (n : ℕ) (k : LineKind) (s m : StoreOf) → m ≡ record s { line = n; kind = k; last_pid = pid_after s.last_pid k; ready = None; report = begun s.report } → LineBegins n s m
@@ -167,5 +154,3 @@ not-ok (Err y) x is ok = cc
 
 pub never-fails : {T E : Type 0} (u : Bool) (r : Result T E) (x : E) → r ≡ Err x → (u ≡ true → IsOk r) → u ≡ true → ⊥
 never-fails u r x is fine e = not-ok r x is (fine e)
-
--- ---- what an answer other than `ok` leaves

@@ -1,30 +1,13 @@
 -- A line's promise, from its parts.
-use Rattle.std.proofs.Common.{◌≡◌, ℕ, Option, Result, Ok, Err, ap, ◌∙◌}
+use Rattle.std.proofs.Common.{◌≡◌, ℕ, Option, Result, Ok, Err, refl, sym, ap, subst, ◌∙◌}
 use Rattle.std.specs.Prelude.{IfOk, OnErr}
-use Rattle.mm_types.specs.declared.answers.Answer.{Answer}
-use Rattle.mm_types.specs.declared.events.Event.{Event}
-use Rattle.mm_types.specs.declared.faults.NoMemory.{NoMemory}
-use Rattle.mm_types.specs.declared.numbers.Key.{Key}
-use Rattle.mm_world.specs.World.{Page}
-use Rattle.mm_world.specs.Contents.{Tables}
-use Rattle.mm_pages.specs.Store.{StoreOf}
-use Rattle.mm_pages.specs.declared.pages.Pages.{Ghosts as PagesGhosts}
-use Rattle.mm_tables.specs.Fits.{store_beside}
-use Rattle.mm_core.specs.Deciding.{Idle, LineBegins}
-use Rattle.mm_core.specs.Over.{DecidedOver, HaltedOver, IdleOver, MarkedOver}
-use Rattle.mm_core.specs.LinePromises.{AnswersLine, HaltsLine}
+use Rattle.mm_types.specs.{Answer, Event, NoMemory, Key}
+use Rattle.mm_world.specs.{Page, Tables}
+use Rattle.mm_pages.specs.{StoreOf, Ghosts as PagesGhosts}
+use Rattle.mm_tables.specs.{store_beside}
+use Rattle.mm_core.specs.{Idle, LineBegins, DecidedOver, HaltedOver, IdleOver, MarkedOver, AnswersLine, HaltsLine}
 
 -- ---- a line that ran out of memory, by the store after its begin and after its call
-
-pub idle-still : {n : ℕ} {t after : Tables} {old mid new : Key → Option Page} {s m z : StoreOf} → LineBegins n s m → mid ≡ old → z ≡ m → after ≡ t → new ≡ mid → Idle t old s after new z
-idle-still b same e tables contents =
-    record {
-      tables = tables;
-      contents = contents ∙ same;
-      paging = ap (λ (s : StoreOf). s.paging_device) e ∙ b.paging;
-      files = ap (λ (s : StoreOf). s.file_device) e ∙ b.files;
-      blocks = ap (λ (s : StoreOf). s.file_blocks) e ∙ b.blocks;
-    }
 
 pub idle-beside : {n : ℕ} {t after : Tables} {old mid new : Key → Option Page} {s m z : StoreOf} → LineBegins n s m → mid ≡ old → z ≡ store_beside m z → after ≡ t → new ≡ mid → Idle t old s after new z
 idle-beside b same e tables contents =
@@ -35,6 +18,9 @@ idle-beside b same e tables contents =
       files = ap (λ (s : StoreOf). s.file_device) e ∙ b.files;
       blocks = ap (λ (s : StoreOf). s.file_blocks) e ∙ b.blocks;
     }
+
+pub idle-still : {n : ℕ} {t after : Tables} {old mid new : Key → Option Page} {s m z : StoreOf} → LineBegins n s m → mid ≡ old → z ≡ m → after ≡ t → new ≡ mid → Idle t old s after new z
+idle-still {m = m} b same e tables contents = idle-beside b same (subst (λ (z : StoreOf). z ≡ store_beside m z) (sym e) refl) tables contents
 
 pub idle-grown : {t after : Tables} {old new : Key → Option Page} {s z : StoreOf} → new ≡ old → z ≡ s → after ≡ t → Idle t old s after new z
 idle-grown contents e tables =

@@ -1,31 +1,18 @@
 -- Each line makes at most one of each thing that is numbered, and no call answers that a device failed.
 use Rattle.std.proofs.Common.{◌≡◌, ◌≤◌, ℕ, zero, suc, ◌+◌, ◌-◌, Bool, false, Option, Some, None, List, [], ◌∷◌, ◌++◌, refl, sym, ◌∙◌, ap, arith, length, set, map, inl, inr}
 use Rattle.std.proofs.lemmas.List.{length-set, length-append, get_or-set_same, get_or-set_other}
-use Rattle.mm_types.proofs.Cells.{same_or_not}
-use Rattle.mm_types.specs.declared.answers.Answer.{Answer}
-use Rattle.mm_types.specs.declared.codes.Code.{Code}
-use Rattle.mm_types.specs.declared.views.Kind.{Kind}
+use Rattle.mm_types.proofs.{same_or_not}
+use Rattle.mm_types.specs.{Answer, Code, Kind, Range, address_of, page_of, Text, commit_type}
 use Rattle.mm_types.specs.declared.views.Kind.TheVariants as kind
-use Rattle.mm_types.specs.Address.{Range, address_of, page_of}
-use Rattle.mm_types.specs.Spelling.{Text}
-use Rattle.mm_world.specs.World.{WorldOf, ProcessOf, RegionOf, AreaOf, SectionOf, FileOf, StackOf, RowOf, Numbered, numbered}
-use Rattle.mm_world.specs.Find.{Found, process_of, set_process, set_region, set_regions, set_area, stack_by, set_stack, end_stacks}
-use Rattle.mm_world.specs.Keys.{Committed, committed_at, with_row, set_row, guard_off}
-use Rattle.mm_world.specs.Outcome.{OutcomeOf, done, refused}
-use Rattle.mm_types.specs.Allocation.{commit_type}
-use Rattle.mm_world.specs.Alloc.{alloc, commit_in}
-use Rattle.mm_world.specs.Free.{free}
-use Rattle.mm_world.specs.Protect.{protect}
-use Rattle.mm_world.specs.Query.{query}
-use Rattle.mm_world.specs.Sections.{create, create_file, open_section, close, handle_or, new_section, settle, settled_sections, settled_areas, with_handle}
-use Rattle.mm_world.specs.Views.{map_view, unmap, flush}
-use Rattle.mm_world.specs.Processes.{new_process, exit, new_file, take_fail, no_regions, kept_of_others}
-use Rattle.mm_world.specs.Watch.{watch, reset_watch}
-use Rattle.mm_world.specs.Stack.{stack, made, probe, probe_at, probe_in, probe_of, grown}
-use Rattle.mm_tables.specs.References.{MadeAtMost}
-use Rattle.mm_core.specs.Serving.{IsFailure}
-use Rattle.mm_world.proofs.Tables.{Holds, tables}
-use Rattle.mm_world.proofs.Finding.{numbered_inside}
+use Rattle.mm_world.specs.{WorldOf, ProcessOf, RegionOf, AreaOf, SectionOf, FileOf, StackOf, RowOf, Numbered, numbered, Found, process_of}
+use Rattle.mm_world.specs.{set_process, set_region, set_regions, set_area, stack_by, set_stack, end_stacks, Committed, committed_at, with_row}
+use Rattle.mm_world.specs.{set_row, guard_off, OutcomeOf, done, refused, alloc, commit_in, free, protect, query, create, create_file, open_section}
+use Rattle.mm_world.specs.{close, handle_or, new_section, settle, settled_sections, settled_areas, with_handle, map_view, unmap, flush, new_process}
+use Rattle.mm_world.specs.{exit, new_file, take_fail, no_regions, kept_of_others, watch, reset_watch, stack, made, probe, probe_at, probe_in}
+use Rattle.mm_world.specs.{probe_of, grown}
+use Rattle.mm_tables.specs.{MadeAtMost}
+use Rattle.mm_core.specs.{IsFailure}
+use Rattle.mm_world.proofs.{Holds, tables, numbered_inside}
 
 -- a process that has at most one handle more than another
 abbrev OneMore : {B : Type 0} → ProcessOf B → Option (ProcessOf B) → Type 0

@@ -1,36 +1,22 @@
 -- What is noted of a line, by what the calls that it makes pass.
 use Rattle.std.proofs.Common.{◌≡◌, ℕ, ◌-◌, List, [], ◌∷◌, ◌++◌, Bool, true, false, refl, sym, ap, ◌∙◌, subst, cond, inl, inr, map, take}
 use Rattle.std.specs.Prelude.{Result, Ok, Err, IfOk, OnErr}
-use Rattle.mm_types.specs.declared.answers.Answer.{Answer}
-use Rattle.mm_types.specs.declared.events.Event.{Event}
-use Rattle.mm_types.specs.declared.frames.Held.{Held}
+use Rattle.mm_types.specs.{Answer, Event, Held, Record, Request, LineKind, Move, Frame, Key, Pid}
 use Rattle.mm_types.specs.declared.frames.Held.TheVariants as held
-use Rattle.mm_types.specs.declared.frames.Record.{Record}
-use Rattle.mm_types.specs.declared.frames.Request.{Request}
 use Rattle.mm_types.specs.declared.frames.Request.TheVariants as request
-use Rattle.mm_types.specs.declared.moves.LineKind.{LineKind}
-use Rattle.mm_types.specs.declared.moves.Move.{Move}
 use Rattle.mm_types.specs.declared.moves.Move.TheVariants as move
-use Rattle.mm_types.specs.declared.numbers.Frame.{Frame}
-use Rattle.mm_types.specs.declared.numbers.Key.{Key}
-use Rattle.mm_types.specs.declared.numbers.Pid.{Pid}
-use Rattle.mm_life.specs.Frames.{record_at, is_read}
-use Rattle.mm_life.specs.Life.{FrameLife}
-use Rattle.mm_life.specs.Effect.{after_move}
-use Rattle.mm_life.specs.Logs.{Log}
-use Rattle.mm_life.specs.Victims.{can_be_written}
+use Rattle.mm_life.specs.{record_at, is_read, FrameLife, after_move, Log, can_be_written, Waiting, Walk, Through, walked, waits_through, ages_through}
+use Rattle.mm_life.specs.{TrimMove, frame_of, clearings, writes_begun, target, ending}
 use Rattle.mm_world.specs.World.{World}
-use Rattle.mm_life.specs.Waits.{Waiting}
-use Rattle.mm_life.specs.Walks.{Walk, Through, walked, waits_through, ages_through}
-use Rattle.mm_life.specs.Chores.{TrimMove, frame_of, clearings, writes_begun, target, ending}
-use Rattle.mm_pages.specs.Flushing.{IsEndOf, IsWriteOf, IsWrittenNow, IsWrittenIf, IsEndedFirst, FlushesBy, FlushedAt, ends_lost, life_through, Flushing}
-use Rattle.mm_pages.specs.Store.{StoreOf}
+use Rattle.mm_pages.specs.{IsEndOf, IsWriteOf, IsWrittenNow, IsWrittenIf, IsEndedFirst, FlushesBy, FlushedAt, ends_lost, life_through, StoreOf, Turn}
+use Rattle.mm_pages.specs.{Makes, AllTurn, Turned, Turns, OneMove, NoMove, Exactly, Trims, Completes, Flushes, Passes, PassesIn, Notes, NotesIn}
+use Rattle.mm_pages.specs.{nothing}
+use Rattle.mm_pages.specs.Flushing.{Flushing}
 use Rattle.mm_pages.specs.Behind.{Behind}
-use Rattle.mm_pages.specs.Housekeeping.{Turn, Makes, Ends, AllTurn, Turned, Turns, OneMove, NoMove, Exactly, Trims, Completes, Flushes}
-use Rattle.mm_pages.specs.Passing.{Passes, PassesIn, Notes, NotesIn}
-use Rattle.mm_pages.specs.Leaving.{Leaving, nothing}
-use Rattle.mm_paging.specs.Lines.{Does, with_line, ages_of_line, waits_of_line}
-use Rattle.mm_core.specs.Noting.{keeps_keys, EachMove, IsOneWay, LineWent, TellsLine, is_later, Halted}
+use Rattle.mm_pages.specs.Housekeeping.{Ends}
+use Rattle.mm_pages.specs.Leaving.{Leaving}
+use Rattle.mm_paging.specs.{Does, with_line, ages_of_line, waits_of_line}
+use Rattle.mm_core.specs.{keeps_keys, EachMove, IsOneWay, LineWent, TellsLine, is_later, Halted}
 use Rattle.mm_core.proofs.Begun.{paged, begun_with, went_then, noted_then, went_alone}
 use Rattle.mm_core.proofs.Turned.{makes_keep, ends_take, still}
 
@@ -119,10 +105,7 @@ flush_keeps request.WriteAgain changed f ms h = ended_first_keep true f ms h
 
 flushed_keep : (l : FrameLife) (h : Held) (ms : List Move) → FlushedAt l h ms → EachMove keeps_keys ms
 flushed_keep l (held.Frame f) ms p = let r = record_at l.frames f.0 in flush_keeps r.request r.changed f ms p
-flushed_keep l (held.Slot s) ms p = none_keep ms p
-flushed_keep l (held.Block b) ms p = none_keep ms p
-flushed_keep l held.Zero ms p = none_keep ms p
-flushed_keep l held.Dead ms p = none_keep ms p
+flushed_keep l _ ms p = none_keep ms p
 
 flushing_keep : (l : FrameLife) (ks : List Key) (ms : List Move) → Flushing l ks ms → EachMove keeps_keys ms
 flushing_keep l [] ms h = none_keep ms h
@@ -166,9 +149,6 @@ module _ (n : ℕ) (k : LineKind) (e : Event) (w : World) (a : Answer) (v : Worl
     marked_turn t makes done p q paging =
         went_then n k (Turns t) u s m z b y c There paging
         (λ log ms h. tells ms (inl (makes_keep ms (makes ms h.turned.all))) (done ms h.turned) h.moved.ages h.moved.waits) p q
-
-    pub marked_makes : ((ms : List Move) → Turned Makes (with_line at b).life ms → Done ms) → PassesIn u (OneMove at) s m b y → PassesIn u (Turns Makes) m z y c → Noted
-    marked_makes done p q = marked_turn Makes (λ ms a. a) done p q
 
     -- pages and keys go
     pub marked_ends : (held : Leaving) (from to : ℕ) → ((ms : List Move) (log : Log) → Turns (Ends held from to) (begun_with n k log b) ms c → Done ms) → PassesIn u (OneMove at) s m b y → PassesIn u (Turns (Ends held from to)) m z y c → Noted
@@ -237,12 +217,9 @@ halted : (beside : Bool) (n : ℕ) (k : LineKind) (s z : StoreOf) (b c : Behind)
 halted beside n k s z b c later h =
     record { piece = move.At n k ∷ h.moves; in_range = h.in_range; grew = h.grew; replays = h.replays; slots = h.that.1; cut = inr (k, (h.moves, (later, refl, h.that.0))) }
 
-pub halted_turn : (n : ℕ) (k : LineKind) → is_later k ≡ true → (t : Turn) → ((ms : List Move) → AllTurn t ms → AllTurn Makes ms) → (u : Bool) (s m z : StoreOf) (b y c : Behind) → PassesIn u (OneMove (move.At n k)) s m b y → PassesIn u (Turns t) m z y c → u ≡ false → Halted n b c
-halted_turn n k later t makes u s m z b y c p q paging =
-    halted false n k s z b c later (went_then n k (Turns t) u s m z b y c (Adds b c) paging (λ log ms h. (makes ms h.turned.all, h.slots)) p q)
-
 pub halted_makes : (n : ℕ) (k : LineKind) → is_later k ≡ true → (u : Bool) (s m z : StoreOf) (b y c : Behind) → PassesIn u (OneMove (move.At n k)) s m b y → PassesIn u (Turns Makes) m z y c → u ≡ false → Halted n b c
-halted_makes n k later u s m z b y c p q = halted_turn n k later Makes (λ ms a. a) u s m z b y c p q
+halted_makes n k later u s m z b y c p q paging =
+    halted false n k s z b c later (went_then n k (Turns Makes) u s m z b y c (Adds b c) paging (λ log ms h. (h.turned.all, h.slots)) p q)
 
 pub halted_notes : (n : ℕ) (k : LineKind) → is_later k ≡ true → (u : Bool) (s m z : StoreOf) (b y c : Behind) → PassesIn u (OneMove (move.At n k)) s m b y → NotesIn u (Turns Makes) y c → u ≡ false → Halted n b c
 halted_notes n k later u s m z b y c p q paging =

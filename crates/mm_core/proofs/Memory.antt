@@ -1,22 +1,14 @@
 -- Which lines may take memory is the same of a world and of its tables.
 use Rattle.std.proofs.Common.{◌≡◌, ℕ, suc, ◌+◌, false, [], ◌∷◌, length, nat_le, refl, sym, ap, ◌∙◌}
 use Rattle.std.specs.Prelude.{Result, IsOk}
-use Rattle.mm_types.specs.declared.events.Event.{Event}
+use Rattle.mm_types.specs.{Event, Key}
 use Rattle.mm_types.specs.declared.events.Event.TheVariants as line
-use Rattle.mm_types.specs.declared.numbers.Key.{Key}
-use Rattle.mm_world.specs.World.{Page, ProcessOf, Numbered, filled}
-use Rattle.mm_world.specs.Laws.{is_success}
-use Rattle.mm_world.specs.Outcome.{OutcomeOf}
-use Rattle.mm_world.specs.Processes.{grow, most_processes, new_file}
-use Rattle.mm_world.specs.Sections.{create, create_file, open_section}
-use Rattle.mm_world.specs.Views.{map_view}
-use Rattle.mm_world.specs.Contents.{Tables, blank, map_outcome, no_bytes, processes_with, tables_of, world_with}
-use Rattle.mm_world.proofs.NaturalSections.{in_create, in_create_file, in_grow, in_map, in_new_file, in_open}
-use Rattle.mm_world.proofs.Reconstruct.{tables_back}
-use Rattle.mm_calls.proofs.Allocated.{allocates_with}
-use Rattle.mm_calls.proofs.Marks.{marks_with}
-use Rattle.mm_calls.proofs.Growable.{grows_with, stack_with}
-use Rattle.mm_core.specs.Built.{takes_memory}
+use Rattle.mm_world.specs.{Page, ProcessOf, Numbered, filled, is_success, OutcomeOf, grow, most_processes, new_file, create, create_file}
+use Rattle.mm_world.specs.{open_section, map_view, Tables, blank, map_outcome, no_bytes, processes_with, tables_of, world_with}
+use Rattle.mm_world.proofs.{in_create_file, in_grow, in_new_file, in_open, tables_back}
+use Rattle.mm_world.proofs.NaturalSections.{in_create, in_map}
+use Rattle.mm_calls.proofs.{allocates_with, marks_with, grows_with, stack_with}
+use Rattle.mm_core.specs.{takes_memory}
 
 processes-length : (bytes : Key → Page) (n : ℕ) (ps : Numbered (ProcessOf (Unit {0}))) → length (processes_with bytes n ps) ≡ length ps
 processes-length bytes n [] = refl

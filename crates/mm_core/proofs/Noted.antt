@@ -1,66 +1,31 @@
 -- What a line noted, beside what its store keeps at all times, is what is told of a line's moves.
 use Rattle.std.proofs.Common.{◌≡◌, ℕ, ◌+◌, List, [], ◌∷◌, Bool, true, false, Option, Some, None, refl, sym, ap, ◌∙◌, subst, cond, is_some, not, inl, inr}
 use Rattle.std.specs.Prelude.{◌⊎◌}
-use Rattle.mm_types.specs.declared.answers.Answer.{Answer}
+use Rattle.mm_types.specs.{Answer, Event, LineKind, Move, Key, MachineOf}
 use Rattle.mm_types.specs.declared.answers.Answer.TheVariants as answer
-use Rattle.mm_types.specs.declared.events.Event.{Event}
 use Rattle.mm_types.specs.declared.events.Event.TheVariants as event
-use Rattle.mm_types.specs.declared.moves.LineKind.{LineKind}
 use Rattle.mm_types.specs.declared.moves.LineKind.TheVariants as kind
-use Rattle.mm_types.specs.declared.moves.Move.{Move}
 use Rattle.mm_types.specs.declared.moves.Move.TheVariants as move
-use Rattle.mm_types.specs.declared.numbers.Key.{Key}
-use Rattle.mm_types.specs.Machine.{MachineOf}
-use Rattle.mm_life.specs.Life.{FrameLife, is_live, is_dead}
-use Rattle.mm_life.specs.Effect.{after_at}
-use Rattle.mm_life.specs.Replay.{Replays}
-use Rattle.mm_world.specs.World.{Page, World, KeptOf}
-use Rattle.mm_world.specs.Keys.{content_of, is_file_key}
-use Rattle.mm_world.specs.Step.{kept_by}
-use Rattle.mm_world.specs.Contents.{Tables, world_with}
-use Rattle.mm_types.proofs.Booleans.{parts}
-use Rattle.mm_pages.specs.Store.{StoreOf}
+use Rattle.mm_life.specs.{FrameLife, is_live, is_dead, after_at, Replays}
+use Rattle.mm_world.specs.{Page, KeptOf, content_of, is_file_key, kept_by, Tables, world_with}
+use Rattle.mm_world.specs.World.{World}
+use Rattle.mm_types.proofs.{parts, some_found}
+use Rattle.mm_pages.specs.{StoreOf, Stands, StandsIn}
 use Rattle.mm_pages.specs.Behind.{Behind}
-use Rattle.mm_pages.specs.Standing.{Stands, StandsIn}
-use Rattle.mm_paging.specs.Kinds.{kind_of_line, made_process, kind_of_growth, kept_kind, lives}
-use Rattle.mm_paging.specs.Lines.{Agrees, TurnsKeys, HoldsBeside, Noted, Broken}
-use Rattle.mm_tables.specs.Fits.{FitsTables, key_bytes, is_paging}
-use Rattle.mm_core.specs.Deciding.{KeepsTables}
-use Rattle.mm_core.specs.Noting.{is_later, IsOneWay, IsCutLine, Marked, MarkedIn, Halted, HaltedIn}
+use Rattle.mm_paging.specs.{kind_of_line, made_process, kind_of_growth, kept_kind, lives, Agrees, TurnsKeys, HoldsBeside, Noted, Broken}
+use Rattle.mm_tables.specs.{FitsTables, key_bytes, is_paging}
+use Rattle.mm_core.specs.{KeepsTables, is_later, IsOneWay, IsCutLine, Marked, MarkedIn, Halted, HaltedIn}
 use Rattle.mm_core.proofs.Alike.{live-with, row_key-with, block_of-with}
-use Rattle.mm_types.proofs.Options.{some_found}
 use Rattle.mm_core.proofs.Turned.{keys_made, keys_gone, none_made}
 
 -- ---- an `at` leaves keys as they are
 
-at_stands : (l : FrameLife) (n : ℕ) (k : LineKind) → is_later k ≡ true → (after_at l n k).stands ≡ l.stands
-at_stands l n (kind.Machine frames slots depth blocks) e = cc
-at_stands l n (kind.Process pid min max) e = refl
-at_stands l n (kind.Unbind pid) e = refl
-at_stands l n (kind.Access pid) e = refl
-at_stands l n (kind.Thread pid) e = refl
-at_stands l n (kind.Trim pid) e = refl
-at_stands l n kind.Writer e = refl
-at_stands l n kind.Zeroer e = refl
-at_stands l n kind.Io e = refl
-at_stands l n kind.Call e = refl
-at_stands l n (kind.Grow count) e = refl
-
-at_paging : (l : FrameLife) (n : ℕ) (k : LineKind) → is_later k ≡ true → (after_at l n k).paging ≡ l.paging
-at_paging l n (kind.Machine frames slots depth blocks) e = cc
-at_paging l n (kind.Process pid min max) e = refl
-at_paging l n (kind.Unbind pid) e = refl
-at_paging l n (kind.Access pid) e = refl
-at_paging l n (kind.Thread pid) e = refl
-at_paging l n (kind.Trim pid) e = refl
-at_paging l n kind.Writer e = refl
-at_paging l n kind.Zeroer e = refl
-at_paging l n kind.Io e = refl
-at_paging l n kind.Call e = refl
-at_paging l n (kind.Grow count) e = refl
+at_keeps : (l : FrameLife) (n : ℕ) (k : LineKind) → is_later k ≡ true → ((after_at l n k).stands ≡ l.stands) × ((after_at l n k).paging ≡ l.paging)
+at_keeps l n (kind.Machine frames slots depth blocks) e = cc
+at_keeps l n _ e = (refl, refl)
 
 at_live : (l : FrameLife) (n : ℕ) (k : LineKind) → is_later k ≡ true → (q : Key) → is_live (after_at l n k) q ≡ is_live l q
-at_live l n k e q = ap (λ f. not (is_dead (f q))) (at_stands l n k e)
+at_live l n k e q = ap (λ f. not (is_dead (f q))) ((at_keeps l n k e).0)
 
 either_later : (b : Bool) (k : LineKind) → is_later k ≡ true → is_later (cond b k kind.Call) ≡ true
 either_later true k e = e
@@ -93,9 +58,6 @@ kind_later w (event.Exec pid addr) a = either_later (lives w pid) (kind.Access p
 kind_later w (event.Begin tid pid what) a = call_or_later (is_some (kept_by w tid.0)) (cond (lives w pid) (kind.Thread pid) kind.Call) (either_later (lives w pid) (kind.Thread pid) refl)
 kind_later w (event.Resume tid) a = kept_later (kept_by w tid.0)
 kind_later w (event.Trim pid n) a = either_later (lives w pid) (kind.Trim pid) refl
-kind_later w (event.Writer n) a = refl
-kind_later w (event.Zeroer n) a = refl
-kind_later w (event.Io i) a = refl
 kind_later w (event.Grow n) a = grown_later a n
 kind_later w _ a = refl
 
@@ -150,7 +112,7 @@ module _ (e : Event) (a : Answer) (t : Tables) (old : Key → Option Page) (s : 
   turned n k ms later (inl keep) r =
       keys_made x v (after_at b.life n k) c.life (λ q. at_live b.life n k later q ∙ lives_in t old s b fits h q) (lives_in after new z c fits' h') ms r keep
   turned n k ms later (inr take) r =
-      keys_gone x v (after_at b.life n k) c.life (λ q on. listed_in t old s b fits h q (ap (λ f. f q) (sym (at_paging b.life n k later)) ∙ on)) (lives_in after new z c fits' h') ms r take
+      keys_gone x v (after_at b.life n k) c.life (λ q on. listed_in t old s b fits h q (ap (λ f. f q) (sym ((at_keeps b.life n k later).1)) ∙ on)) (lives_in after new z c fits' h') ms r take
 
   noted_at : Held → Marked e (b.life.line + 1) x s b a v z c → Here
   noted_at beside m = record {

@@ -1,22 +1,20 @@
 -- A call's piece of moves: told in other words, or none.
 use Rattle.std.proofs.Common.{List, [], Bool, true, false, refl}
-use Rattle.mm_types.specs.declared.moves.Move.{Move}
-use Rattle.mm_life.specs.Replay.{Replays}
-use Rattle.mm_life.proofs.Noting.{grew_nothing}
-use Rattle.mm_blocks.proofs.Holding.{keeps_same}
-use Rattle.mm_pages.specs.Store.{StoreOf}
+use Rattle.mm_types.specs.{Move}
+use Rattle.mm_life.specs.{Replays}
+use Rattle.mm_life.proofs.{grew_nothing}
+use Rattle.mm_blocks.proofs.{keeps_same}
+use Rattle.mm_pages.specs.{StoreOf, Passes, PassesIn}
 use Rattle.mm_pages.specs.Behind.{Behind}
-use Rattle.mm_pages.specs.Passing.{PassesIn}
 
 -- what holds of the moves may be told in other words
-pub passes_as : (u : Bool) (P Q : Behind → List Move → Behind → Type 0) (s z : StoreOf) (b c : Behind) → ((ms : List Move) → Replays ms b.life c.life → P b ms c → Q b ms c) → PassesIn u P s z b c → PassesIn u Q s z b c
-passes_as true P Q s z b c h p = p
-passes_as false P Q s z b c h p = record {
+pub passes_with : (P Q : Behind → List Move → Behind → Type 0) (s z : StoreOf) (b c : Behind) (p : Passes P s z b c) → Q b p.moves c → Passes Q s z b c
+passes_with P Q s z b c p that = record {
   moves = p.moves;
   in_range = p.in_range;
   grew = p.grew;
   replays = p.replays;
-  that = h p.moves p.replays p.that;
+  that = that;
   report = p.report;
   paging_calls = p.paging_calls;
   paging = p.paging;
@@ -27,6 +25,10 @@ passes_as false P Q s z b c h p = record {
   slots_kept = p.slots_kept;
   blocks_kept = p.blocks_kept;
 }
+
+pub passes_as : (u : Bool) (P Q : Behind → List Move → Behind → Type 0) (s z : StoreOf) (b c : Behind) → ((ms : List Move) → Replays ms b.life c.life → P b ms c → Q b ms c) → PassesIn u P s z b c → PassesIn u Q s z b c
+passes_as true P Q s z b c h p = p
+passes_as false P Q s z b c h p = passes_with P Q s z b c p (h p.moves p.replays p.that)
 
 -- no move, and the store is as before
 pub passes_still : (u : Bool) (Q : Behind → List Move → Behind → Type 0) (s : StoreOf) (b : Behind) → Q b [] b → PassesIn u Q s s b b

@@ -1,27 +1,16 @@
 -- What a line's function ensures of tables and store is the promise of a world over them.
 use Rattle.std.proofs.Common.{◌≡◌, ◌≤◌, ◌+◌, ℕ, Bool, true, false, Option, List, [], refl, sym, subst, arith}
 use Rattle.std.specs.Prelude.{Result, Ok, Err, OnOk, OnErr}
-use Rattle.mm_types.specs.declared.answers.Answer.{Answer}
-use Rattle.mm_types.specs.declared.events.Event.{Event}
+use Rattle.mm_types.specs.{Answer, Event, Move, Key}
 use Rattle.mm_types.specs.declared.events.Event.TheVariants as event
-use Rattle.mm_types.specs.declared.moves.Move.{Move}
-use Rattle.mm_types.specs.declared.numbers.Key.{Key}
-use Rattle.mm_world.specs.World.{Page}
-use Rattle.mm_world.specs.Charge.{charge, limit}
-use Rattle.mm_world.specs.Contents.{Tables, world_with}
+use Rattle.mm_world.specs.{Page, charge, limit, Tables, world_with}
 use Rattle.mm_world.specs.Report.{Report}
-use Rattle.mm_world.proofs.Reconstruct.{tables_back}
+use Rattle.mm_world.proofs.{tables_back}
 use Rattle.mm_pages.specs.Behind.{Behind}
-use Rattle.mm_pages.specs.Standing.{StandsIn}
-use Rattle.mm_pages.specs.Store.{StoreOf}
-use Rattle.mm_paging.specs.Lines.{Line, HoldsBeside, Noted}
-use Rattle.mm_tables.specs.Fits.{FitsTables, key_bytes}
-use Rattle.mm_tables.specs.References.{IsTidy}
-use Rattle.mm_core.specs.Deciding.{Decided, Idle}
-use Rattle.mm_core.specs.Forgetting.{EndsWaits}
-use Rattle.mm_core.specs.Noting.{MarkedIn, HaltedIn}
-use Rattle.mm_core.specs.Promise.{Scene, StaysSound, NotesMoves, Decides, Breaks, scene_of}
-use Rattle.mm_core.specs.Serving.{AskedBeside}
+use Rattle.mm_pages.specs.{StandsIn, StoreOf}
+use Rattle.mm_paging.specs.{Line, HoldsBeside, Noted}
+use Rattle.mm_tables.specs.{FitsTables, key_bytes, IsTidy}
+use Rattle.mm_core.specs.{Decided, Idle, EndsWaits, MarkedIn, HaltedIn, Scene, StaysSound, NotesMoves, Decides, Breaks, scene_of, AskedBeside}
 use Rattle.mm_core.proofs.Charged.{charge-with}
 use Rattle.mm_core.proofs.Noted.{line-noted, line-broken}
 use Rattle.mm_core.proofs.Readiness.{idle_in}
@@ -88,21 +77,15 @@ module _ (u : Bool) (n : ℕ) (t : Tables) (old : Key → Option Page) (s : Stor
         stepped = d.stepped;
         moves = p.moves;
         notes = p.notes;
-        told = record {
-          sound = sound h;
-          asked_paging = d.devices.asked_paging;
-          asked_files = d.devices.asked_files;
-          beside = λ paging. (beside paging).0;
-          named = d.devices.named;
-          few_paging = d.keeps.fits.named_paging;
-          few_files = d.keeps.fits.named_file;
-          failed = d.devices.failed;
-          paging_later = d.devices.paging_later;
-          files_later = d.devices.files_later;
-          flushed = d.flushed;
-          waits = waits_with t (key_bytes old) e a z.report waits;
-          line = p.line;
-        };
+        told = assumption (
+          sound h,
+          λ (paging : u ≡ false). (beside paging).0,
+          d.devices,
+          d.keeps.fits,
+          d.flushed,
+          waits_with t (key_bytes old) e a z.report waits,
+          p.line,
+        );
       }
 
   pub breaks : Standing → Idle t old s after new z → HaltedIn u n b c → Breaks u before behind

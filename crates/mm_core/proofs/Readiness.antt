@@ -1,19 +1,14 @@
 -- An access at a place that is ready has what it needs.
 use Rattle.std.proofs.Common.{◌≡◌, ◌∙◌, ℕ, Bool, true, false, Option, inl, inr}
 use Rattle.mm_types.specs.declared.answers.Wait.TheVariants as wait
-use Rattle.mm_types.specs.declared.numbers.Key.{Key}
-use Rattle.mm_world.specs.World.{Page}
+use Rattle.mm_types.specs.{Key, PageFault, Place}
+use Rattle.mm_world.specs.{Page, Need}
 use Rattle.mm_pages.specs.Behind.{Behind}
-use Rattle.mm_pages.specs.Standing.{StandsIn}
+use Rattle.mm_pages.specs.{StandsIn, StoreOf, MayAccess, IsReady}
 use Rattle.std.specs.Prelude.{Result, Ok, Err, IsOk}
-use Rattle.mm_types.specs.declared.faults.PageFault.{PageFault}
-use Rattle.mm_types.specs.declared.numbers.Place.{Place}
-use Rattle.mm_world.specs.Failure.{Need}
 use Rattle.mm_world.specs.Report.{Report}
-use Rattle.mm_pages.specs.Store.{StoreOf}
 use Rattle.mm_pages.specs.Reports.{Ends}
-use Rattle.mm_pages.specs.Conditions.{MayAccess, IsReady}
-use Rattle.mm_core.specs.Accessing.{IsHad}
+use Rattle.mm_core.specs.{IsHad}
 
 pub had_ready : {T : Type 0} (need : Need) (after : Report) (r : Result T PageFault) → Ends need after r → IsOk r → IsHad need after
 had_ready need after (Ok x) e ok = record { fine = e.ok; framed = e.had }

@@ -1,18 +1,12 @@
 -- A marked page that was not copied is charged, so there is room for its copy.
 use Rattle.std.proofs.Common.{◌≡◌, ◌≤◌, ◌<◌, ℕ, zero, suc, ◌-◌, Bool, true, false, Option, Some, None, List, [], ◌∷◌, refl, sym, ap, subst, cond, arith, slice_get, is_some, sum_by, count_by}
 use Rattle.std.proofs.lemmas.List.Sums.{sum_by-cons}
-use Rattle.mm_types.specs.declared.views.Kind.{Kind}
+use Rattle.mm_types.specs.{Kind, View}
 use Rattle.mm_types.specs.declared.views.Kind.TheVariants as kind
-use Rattle.mm_types.specs.declared.views.View.{View}
-use Rattle.mm_world.specs.World.{RowOf, RegionOf, ProcessOf, Numbered, numbered}
-use Rattle.mm_world.specs.Find.{process_of}
-use Rattle.mm_world.specs.Charge.{charge, is_charged, region_charge, process_charge}
-use Rattle.mm_world.specs.Keys.{Committed, committed_at}
-use Rattle.mm_world.specs.Contents.{Tables}
-use Rattle.mm_world.specs.WellFormed.{RowFits, RowsFit, Spaces}
-use Rattle.mm_world.proofs.Each.{each-at}
-use Rattle.mm_world.proofs.Finding.{found_stands, numbered_there, committed_is}
-use Rattle.mm_tables.specs.Fits.{owned_keys, paging_count}
+use Rattle.mm_world.specs.{RowOf, RegionOf, ProcessOf, Numbered, numbered, process_of, charge, is_charged, region_charge, process_charge, Committed}
+use Rattle.mm_world.specs.{committed_at, Tables, RowFits, RowsFit, Spaces}
+use Rattle.mm_world.proofs.{each-at, found_stands, numbered_there, committed_is}
+use Rattle.mm_tables.specs.{owned_keys, paging_count}
 
 module _ {A : Type 0} (f g : A → ℕ) where
   sum-most : (xs : List A) → ((i : ℕ) (x : A) → slice_get xs i ≡ Some x → f x ≤ g x) → sum_by f xs ≤ sum_by g xs

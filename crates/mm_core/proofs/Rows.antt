@@ -1,12 +1,8 @@
 -- What the tables tell of a process and of a page's row.
 use Rattle.std.proofs.Common.{◌≡◌, ℕ, true, false, Option, Some, None, refl, sym, ◌∙◌, ap, is_some, option_map}
 use Rattle.std.specs.Prelude.{option_and_then}
-use Rattle.mm_tables.specs.declared.looks.CommittedRow.{CommittedRow}
-use Rattle.mm_tables.specs.Looks.{told_committed, committed_row}
-use Rattle.mm_world.specs.World.{ProcessOf}
-use Rattle.mm_world.specs.Find.{process_of}
-use Rattle.mm_world.specs.Keys.{Committed, committed_at}
-use Rattle.mm_world.specs.Contents.{Tables}
+use Rattle.mm_tables.specs.{CommittedRow, told_committed, committed_row}
+use Rattle.mm_world.specs.{ProcessOf, process_of, Committed, committed_at, Tables}
 
 -- a living process
 pub record Lives (t : Tables) (pid : ℕ) : Type 0 where

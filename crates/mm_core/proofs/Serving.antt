@@ -1,18 +1,13 @@
 -- What a line did to the devices, from the calls that its store made.
 use Rattle.std.proofs.Common.{◌≡◌, ◌≤◌, ◌⊎◌, inl, inr, ℕ, Bool, List, [], ◌∷◌, sym, ◌∙◌, ap, subst, arith, length}
 use Rattle.std.proofs.lemmas.List.{length-map}
-use Rattle.mm_types.specs.declared.answers.Answer.{Answer}
+use Rattle.mm_types.specs.{Answer, Event}
 use Rattle.mm_types.specs.declared.devices.Direction.TheVariants as way
-use Rattle.mm_types.specs.declared.events.Event.{Event}
-use Rattle.mm_blocks.specs.Traffic.{one_further}
+use Rattle.mm_blocks.specs.{one_further, DeviceOf, Call, AllServed}
 use Rattle.mm_world.specs.Report.{Report}
-use Rattle.mm_blocks.specs.Devices.{DeviceOf, Call, AllServed}
-use Rattle.mm_pages.specs.Tallies.{tallied}
-use Rattle.mm_pages.specs.Store.{StoreOf}
-use Rattle.mm_pages.specs.Reports.{Served, SomeFailed, rearranged}
-use Rattle.mm_tables.specs.Fits.{store_beside}
-use Rattle.mm_core.specs.Serving.{IsFailure, FailedBefore, Named, OneFailed}
-use Rattle.mm_core.specs.Deciding.{LineBegins, Devices}
+use Rattle.mm_pages.specs.{tallied, StoreOf, Served, SomeFailed, rearranged}
+use Rattle.mm_tables.specs.{store_beside}
+use Rattle.mm_core.specs.{IsFailure, FailedBefore, Named, OneFailed, LineBegins, Devices}
 
 -- ---- calls behind calls
 

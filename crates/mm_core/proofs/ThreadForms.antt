@@ -1,31 +1,19 @@
 -- An access of a thread: begun by one call of the store, and made by another, or not.
 use Rattle.std.proofs.Common.{◌≡◌, ◌≤◌, ℕ, List, ◌++◌, Bool, true, false, Option, Some, None, refl, sym, ap, ◌∙◌, subst, arith}
 use Rattle.std.specs.Prelude.{count_by, ◌==◌}
-use Rattle.mm_types.specs.declared.answers.Answer.{Answer}
-use Rattle.mm_types.specs.declared.answers.Why.{Why}
+use Rattle.mm_types.specs.{Answer, Why, Move, Key, Pid, Place}
 use Rattle.mm_types.specs.declared.answers.Why.TheVariants as why_of
 use Rattle.mm_types.specs.declared.moves.LineKind.TheVariants as kind
-use Rattle.mm_types.specs.declared.moves.Move.{Move}
-use Rattle.mm_types.specs.declared.numbers.Key.{Key}
-use Rattle.mm_types.specs.declared.numbers.Pid.{Pid}
-use Rattle.mm_types.specs.declared.numbers.Place.{Place}
-use Rattle.mm_life.specs.Life.{FrameLife}
-use Rattle.mm_life.specs.Legal.{is_thread}
-use Rattle.mm_life.specs.Replay.{Replays}
-use Rattle.mm_world.specs.World.{Page}
-use Rattle.mm_world.specs.Report.{Report, BeingRead}
-use Rattle.mm_life.specs.Waits.{Waiting, Idle}
-use Rattle.mm_life.specs.Walks.{Walk, walked_all, Through, waits_through, ages_through, is_read_move, is_wrote_move, takes_frame}
-use Rattle.mm_pages.specs.Store.{StoreOf, changed}
+use Rattle.mm_life.specs.{FrameLife, is_thread, Replays, Waiting, Idle, Walk, walked_all, Through, waits_through, ages_through, is_read_move}
+use Rattle.mm_life.specs.{is_wrote_move, takes_frame}
+use Rattle.mm_world.specs.{Page, BeingRead}
+use Rattle.mm_world.specs.Report.{Report}
+use Rattle.mm_pages.specs.{StoreOf, changed, PassesIn, StandsIn, Aim, AccessMove, Starts, walk_from}
 use Rattle.mm_pages.specs.Behind.{Behind}
-use Rattle.mm_pages.specs.Passing.{PassesIn}
-use Rattle.mm_pages.specs.Standing.{StandsIn}
-use Rattle.mm_pages.specs.Accesses.{Aim, AccessMove, Starts, walk_from}
 use Rattle.mm_pages.specs.declared.outcomes.Start.TheVariants as start
-use Rattle.mm_pages.proofs.Passed.{passes_then, waits_then, ages_then}
-use Rattle.mm_pages.proofs.Walking.{accesses_then}
-use Rattle.mm_paging.specs.Lines.{place_had}
-use Rattle.mm_core.specs.Answering.{AnswersAccess, Answered, MadeBy, WaitsBy}
+use Rattle.mm_pages.proofs.{passes_then, waits_then, ages_then, accesses_then}
+use Rattle.mm_paging.specs.{place_had}
+use Rattle.mm_core.specs.{AnswersAccess, Answered, MadeBy, WaitsBy}
 use Rattle.mm_core.proofs.Pieces.{passes_as}
 use Rattle.mm_core.proofs.AccessPieces.{count-then, idle_through, kind-through, restarted, thread-walk}
 

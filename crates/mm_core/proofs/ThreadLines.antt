@@ -1,34 +1,21 @@
 -- The lines `begin` and `resume`, by what the thread keeps and by how its access went.
 use Rattle.std.proofs.Common.{◌≡◌, ◌⊎◌, inl, ℕ, Bool, true, false, Option, Some, None, refl, sym, ◌∙◌, ap, subst, cond, is_some}
 use Rattle.std.specs.Prelude.{option_map, ◌&&◌}
-use Rattle.mm_types.specs.declared.answers.Answer.{Answer}
+use Rattle.mm_types.specs.{Answer, Why, AccessSpec, Event, Key, Pid, Tid}
 use Rattle.mm_types.specs.declared.answers.Answer.TheVariants as answer
-use Rattle.mm_types.specs.declared.answers.Why.{Why}
 use Rattle.mm_types.specs.declared.codes.Code.TheVariants as code
 use Rattle.mm_types.specs.declared.codes.Raise.TheVariants as raise
-use Rattle.mm_types.specs.declared.events.AccessSpec.{AccessSpec}
-use Rattle.mm_types.specs.declared.events.Event.{Event}
 use Rattle.mm_types.specs.declared.events.Event.TheVariants as line
-use Rattle.mm_types.specs.declared.numbers.Key.{Key}
-use Rattle.mm_types.specs.declared.numbers.Pid.{Pid}
-use Rattle.mm_types.specs.declared.numbers.Tid.{Tid}
-use Rattle.mm_world.specs.World.{Page, World, ProcessOf, KeptOf}
-use Rattle.mm_world.specs.Access.{Attempt, access, address_in, attempt_in}
-use Rattle.mm_world.specs.Failure.{Need, pending, wait_failed}
-use Rattle.mm_world.specs.Find.{process_of}
-use Rattle.mm_world.specs.Outcome.{OutcomeOf, done, find_or}
+use Rattle.mm_world.specs.{Page, ProcessOf, KeptOf, Attempt, access, address_in, attempt_in, Need, pending, wait_failed, process_of, OutcomeOf, done}
+use Rattle.mm_world.specs.{find_or, step, stepped, unpaged, told, need_at, kept_by, keep, waiting, resume, resume_told, Tables, world_with}
+use Rattle.mm_world.specs.{process_with}
+use Rattle.mm_world.specs.World.{World}
 use Rattle.mm_world.specs.Report.{Report}
-use Rattle.mm_world.specs.Step.{step, stepped, unpaged, told, need_at, kept_by, keep, waiting, resume, resume_told}
-use Rattle.mm_world.specs.Contents.{Tables, world_with, process_with}
 use Rattle.mm_core.proofs.With.{process-with}
-use Rattle.mm_pages.specs.Store.{StoreOf}
-use Rattle.mm_pages.specs.Reports.{Served, SomeFailed}
-use Rattle.mm_tables.specs.Fits.{key_bytes}
-use Rattle.mm_core.specs.Serving.{IsFailure, Named, FlushServed, FailedBefore}
-use Rattle.mm_core.specs.Accessing.{Refuses}
-use Rattle.mm_core.specs.Pending.{Waits, AccessMade, Permitted}
-use Rattle.mm_core.specs.Stepping.{Stepped}
-use Rattle.mm_core.specs.Deciding.{KeepsTables, LineBegins, Decided}
+use Rattle.mm_pages.specs.{StoreOf, Served, SomeFailed}
+use Rattle.mm_tables.specs.{key_bytes}
+use Rattle.mm_core.specs.{IsFailure, Named, FlushServed, FailedBefore, Refuses, Waits, AccessMade, Permitted, Stepped, KeepsTables, LineBegins}
+use Rattle.mm_core.specs.{Decided}
 use Rattle.mm_core.proofs.Serving.{devices-told}
 use Rattle.mm_core.proofs.Lines.{stepped-plain}
 use Rattle.mm_core.proofs.AccessLines.{fine_access}

@@ -1,47 +1,35 @@
--- The lines `begin` and `resume`: their pieces of the log, from what begins them and how the thread's access went.
-use Rattle.std.proofs.Common.{◌≡◌, ℕ, List, Bool, true, false, Option, Some, None, refl, sym, ap, ◌∙◌, subst, cond, is_some, Result}
+-- The lines `begin` and `resume`: decided and noted, from what begins them and how the thread's access went.
+use Rattle.std.proofs.Common.{◌≡◌, ℕ, Bool, true, false, Option, Some, None, refl, sym, ap, ◌∙◌, subst, cond, is_some}
 use Rattle.std.specs.Prelude.{◌==◌}
-use Rattle.mm_types.specs.declared.answers.Answer.{Answer}
+use Rattle.mm_types.specs.{Answer, Why, AccessSpec, Event, LineKind, Key, Pid, Tid}
 use Rattle.mm_types.specs.declared.answers.Answer.TheVariants as answer
-use Rattle.mm_types.specs.declared.answers.Why.{Why}
+use Rattle.mm_types.specs.declared.answers.Wait.TheVariants as wait
+use Rattle.mm_types.specs.declared.codes.Code.TheVariants as code
 use Rattle.mm_types.specs.declared.codes.Raise.TheVariants as raise
-use Rattle.mm_types.specs.declared.events.AccessSpec.{AccessSpec}
-use Rattle.mm_types.specs.declared.events.Event.{Event}
 use Rattle.mm_types.specs.declared.events.Event.TheVariants as line
-use Rattle.mm_types.specs.declared.moves.LineKind.{LineKind}
 use Rattle.mm_types.specs.declared.moves.LineKind.TheVariants as kind
-use Rattle.mm_types.specs.declared.moves.Move.{Move}
 use Rattle.mm_types.specs.declared.moves.Move.TheVariants as move
-use Rattle.mm_types.specs.declared.numbers.Key.{Key}
-use Rattle.mm_types.specs.declared.numbers.Pid.{Pid}
-use Rattle.mm_types.specs.declared.numbers.Tid.{Tid}
-use Rattle.mm_life.specs.Life.{FrameLife}
-use Rattle.mm_world.specs.World.{Page, World, KeptOf}
-use Rattle.mm_world.specs.Access.{Attempt, address_in, attempt_in}
-use Rattle.mm_world.specs.Contents.{Tables, world_with}
-use Rattle.mm_world.specs.Find.{process_of}
+use Rattle.mm_life.specs.{FrameLife, Waiting, Idle}
+use Rattle.mm_world.specs.{Page, KeptOf, Attempt, address_in, attempt_in, Tables, world_with, Need, wait_failed, need_at, keep, kept_by}
+use Rattle.mm_world.specs.World.{World}
 use Rattle.mm_world.specs.Report.{Report}
-use Rattle.mm_world.specs.Step.{need_at, kept_by}
-use Rattle.mm_life.specs.Waits.{Waiting, Idle}
-use Rattle.mm_pages.specs.Store.{StoreOf, changed}
-use Rattle.mm_pages.specs.Behind.{Behind}
-use Rattle.mm_pages.specs.Accesses.{Aim, Forgets}
-use Rattle.mm_pages.specs.Housekeeping.{OneMove}
-use Rattle.mm_pages.specs.Passing.{PassesIn}
-use Rattle.mm_pages.proofs.Passed.{passes_then}
-use Rattle.mm_paging.specs.Kinds.{kind_of_line, aim_of, aim_at, aim_kept, kept_kind}
-use Rattle.mm_paging.specs.Lines.{awaited, is_pending_read, wait_of_begin}
-use Rattle.mm_tables.specs.Fits.{key_bytes}
-use Rattle.mm_core.specs.Answering.{MadeBy, WaitsBy, WentBy, RefusedBy, FailedBy, TurnedBy, aim_in}
-use Rattle.mm_core.specs.Over.{PassesOver, aim_over}
-use Rattle.mm_pages.specs.declared.pages.Pages.{Ghosts as PagesGhosts}
-use Rattle.mm_core.specs.Lining.{Lined}
+use Rattle.mm_pages.specs.{StoreOf, changed, Aim, Forgets, OneMove, Served, Ghosts as PagesGhosts}
+use Rattle.mm_pages.proofs.{passes_then}
+use Rattle.mm_paging.specs.{kind_of_line, aim_of, aim_at, aim_kept, kept_kind, awaited, is_pending_read, wait_of_begin}
+use Rattle.mm_tables.specs.{key_bytes}
+use Rattle.mm_core.specs.{BeginsThread, EndsAccess, TurnsAccess, MadeBy, WaitsBy, RefusedBy, FailedBy, aim_in, waited, AnswersLine, StartsLine}
+use Rattle.mm_core.specs.{DecidedOver, FitsOver, KeepsOver, PassesOver, aim_over, world_over, Lined, Threaded}
 use Rattle.mm_core.specs.declared.threads.Threaded.TheVariants as threaded
-use Rattle.mm_core.specs.Pending.{Permitted}
 use Rattle.mm_core.proofs.AccessForms.{aim-needs, aim-needless}
+use Rattle.mm_core.proofs.AccessMarks.{access_answers}
 use Rattle.mm_core.proofs.AccessPassed.{kind-lives}
-use Rattle.mm_core.proofs.Pieces.{passes_still}
+use Rattle.mm_core.proofs.Accesses.{no_process}
+use Rattle.mm_core.proofs.Forgotten.{keeps-forgot}
 use Rattle.mm_core.proofs.LineForms.{IsAccess, Waited, begun_still, failed_line, idle_line, made_joins, made_line, none_line, waits_line}
+use Rattle.mm_core.proofs.Rows.{Lives, gone-by, lives-by}
+use Rattle.mm_core.proofs.Serving.{served-quiet, quiet-same}
+use Rattle.mm_core.proofs.ThreadLines.{begin-nobody, begin-busy, begin-refused, begin-made, begin-waits, resume-nothing, resume-refused, resume-made, resume-failed, resume-waits}
+use Rattle.mm_core.proofs.Waiting.{keeps_kept, none_failed, served_forgot, went_forgot}
 
 idle_either : (b : Bool) → cond b Idle Idle ≡ Idle
 idle_either true = refl
@@ -49,9 +37,9 @@ idle_either false = refl
 
 -- ---- `begin`
 
-module _ (u : Bool) (tid : Tid) (pid : Pid) (what : AccessSpec) (n : ℕ) (t : Tables) (old mid : Key → Option Page) (same : mid ≡ old) (s m : StoreOf) (b y : Behind) (busy lived : Bool) (kept : busy ≡ is_some (kept_by t tid.0)) (lives : lived ≡ is_some (process_of t pid.0)) (began : PassesIn u (OneMove (move.At n (cond busy kind.Call (cond lived (kind.Thread pid) kind.Call)))) s m b y) where
+module _ {G : Type 0} (p : PagesGhosts G) {n : ℕ} {tid : Tid} {pid : Pid} {busy lived : Bool} {t : Tables} {g x : G} (what : AccessSpec) (begun : BeginsThread p n tid pid busy lived t g x) where
   abbrev w : World
-  w = world_with t (key_bytes old)
+  w = world_over p t g
 
   abbrev e : Event
   e = line.Begin tid pid what
@@ -62,82 +50,124 @@ module _ (u : Bool) (tid : Tid) (pid : Pid) (what : AccessSpec) (n : ℕ) (t : T
   abbrev does : Attempt
   does = attempt_in what
 
-  begins : (r : Answer) → PassesIn u (OneMove (move.At n (kind_of_line w e r))) s m b y
-  begins r = subst (λ (k : LineKind). PassesIn u (OneMove (move.At n k)) s m b y) (λ i. cond (kept i) kind.Call (kind-lives t (key_bytes old) pid (kind.Thread pid) lived lives i)) began
+  begins : (r : Answer) → PassesOver p (OneMove (move.At n (kind_of_line w e r))) g x
+  begins r = subst (λ (k : LineKind). PassesOver p (OneMove (move.At n k)) g x) (λ i. cond (begun.busy_is i) kind.Call (kind-lives t (key_bytes (p.contents g)) pid (kind.Thread pid) lived begun.lives i)) begun.passes
 
-  begin-none : (r : Answer) (v : World) → ((l : FrameLife) → aim_of w l e ≡ None) → PassesIn u (Lined w e n r v m.report) s m b y
-  begin-none r v needless =
-      none_line u false w e n r v s m b y (λ b c h. h) (λ b. refl) needless
-      (λ b f l. ap (λ (o : Option Aim). λ x. wait_of_begin o tid.0 r f l x) (needless b.life)) (begins r)
+  answered : (r : Answer) (after : Tables) (y : G) → DecidedOver p e n t g r after y → PassesOver p (Lined w e n r (world_over p after y) (p.store y).report) g y → AnswersLine p e n t g r after y
+  answered r after y decided passes = access_answers p false e e refl refl n t g r after y (λ b ms h. h) decided passes
+
+  begin-none : (r : Answer) → ((l : FrameLife) → aim_of w l e ≡ None) → PassesOver p (Lined w e n r (world_over p t x) (p.store x).report) g x
+  begin-none r needless =
+      none_line p.unpaged false w e n r (world_over p t x) (p.store g) (p.store x) (p.behind g) (p.behind x) (λ b c h. h) (λ b. refl) needless
+      (λ b f l. ap (λ (o : Option Aim). λ t. wait_of_begin o tid.0 r f l t) (needless b.life)) (begins r)
 
   either_none : (k : Bool) (o : Option Aim) → o ≡ None → cond k None o ≡ None
   either_none true o h = refl
   either_none false o h = h
 
-  -- the access is refused, or there is no process
-  pub begin-refused-passes : (r : Answer) (v : World) → need_at (world_with t (key_bytes mid)) pid.0 addr does ≡ None → PassesIn u (Lined w e n r v m.report) s m b y
-  begin-refused-passes r v needless =
-      let none : need_at w pid.0 addr does ≡ None = ap (λ (c : Key → Option Page). need_at (world_with t (key_bytes c)) pid.0 addr does) (sym same) ∙ needless in
-      begin-none r v (λ l. either_none (is_some (kept_by t tid.0)) (aim_at w l pid addr does) (aim-needless w l pid addr does none))
+  -- no access is permitted, as after the line began
+  needless : need_at (world_over p t x) pid.0 addr does ≡ None → (l : FrameLife) → aim_of w l e ≡ None
+  needless none l =
+      either_none (is_some (kept_by t tid.0)) (aim_at w l pid addr does)
+      (aim-needless w l pid addr does (ap (λ (c : Key → Option Page). need_at (world_with t (key_bytes c)) pid.0 addr does) (sym begun.starts.contents) ∙ none))
 
-  -- the access is refused by its row
-  pub begin-turned-passes : (r : Answer) (v : World) (z : StoreOf) (c : Behind) → need_at (world_with t (key_bytes mid)) pid.0 addr does ≡ None → PassesIn u (RefusedBy (aim_in t mid y pid addr does)) m z y c → PassesIn u (Lined w e n r v z.report) s z b c
-  begin-turned-passes r v z c needless p =
-      let none : need_at w pid.0 addr does ≡ None = ap (λ (c : Key → Option Page). need_at (world_with t (key_bytes c)) pid.0 addr does) (sym same) ∙ needless in
-      let aims : (l : FrameLife) → aim_of w l e ≡ None = λ l. either_none (is_some (kept_by t tid.0)) (aim_at w l pid addr does) (aim-needless w l pid addr does none) in
-      none_line u false w e n r v s z b c (λ b c h. h) (λ b. refl) aims
-      (λ b f l. ap (λ (o : Option Aim). λ x. wait_of_begin o tid.0 r f l x) (aims b.life))
-      (begun_still u (move.At n (kind_of_line w e r)) (RefusedBy (aim_in t mid y pid addr does)) s m z b y c (λ b ms c h. h.still) (begins r) p)
+  quiet : Served (p.store x) (p.store x)
+  quiet = served-quiet (p.store x) (p.store x) (quiet-same (p.store x) (p.store x) refl)
 
-  -- the thread keeps an access
-  pub begin-busy-passes : (r : Answer) (v : World) → busy ≡ true → PassesIn u (Lined w e n r v m.report) s m b y
-  begin-busy-passes r v is = begin-none r v (λ l. ap (λ k. cond k None (aim_at w l pid addr does)) (sym kept ∙ is))
+  -- there is no process
+  pub begin-alone : lived ≡ false → AnswersLine p e n t g (answer.Error code.InvalidHandle) t x
+  begin-alone dead =
+      let gone = gone-by t pid.0 (sym begun.lives ∙ dead) in
+      let h = no_process t (key_bytes (p.contents x)) pid.0 addr does gone in
+      answered (answer.Error code.InvalidHandle) t x
+      (begin-nobody p.unpaged n t (p.contents g) (p.contents x) (p.store g) (p.store x) begun.starts.contents begun.starts.begins tid pid what begun.keeps quiet gone h)
+      (begin-none (answer.Error code.InvalidHandle) (needless h.needless))
 
-  module _ (free : busy ≡ false) where
-    form : (r : Answer) (v : World) (after : Report) → IsAccess false w e r v after pid addr does
-    form r v after = record { aim = λ l. ap (λ k. cond k None (aim_at w l pid addr does)) (sym kept ∙ free); does = λ b ms c h. h; ages = λ b ms. refl }
+  module _ (on : lived ≡ true) where
+    alive : Lives t pid.0
+    alive = lives-by t pid.0 (sym begun.lives ∙ on)
 
-    waited : (r : Answer) → Waited w e r tid.0
-    waited r = record { some = λ a b f l is. ap (λ (o : Option Aim). λ x. wait_of_begin o tid.0 r f l x) is }
+    -- the thread keeps an access
+    pub begin-kept : busy ≡ true → AnswersLine p e n t g answer.Busy t x
+    begin-kept is =
+        answered answer.Busy t x
+        (begin-busy p.unpaged n t (p.contents g) (p.contents x) (p.store g) (p.store x) begun.starts.contents begun.starts.begins tid pid what begun.keeps quiet alive (sym begun.busy_is ∙ is))
+        (begin-none answer.Busy (λ l. ap (λ k. cond k None (aim_at w l pid addr does)) (sym begun.busy_is ∙ is)))
 
-    -- it is made
-    pub begin-made-passes : (r : Answer) (v : World) (z : StoreOf) (c : Behind) → PassesIn u (MadeBy (aim_in t mid y pid addr does) tid.0 r) m z y c → PassesIn u (Lined w e n r v z.report) s z b c
-    begin-made-passes r v z c p =
-        made_line u w e n v s m z b y c r pid addr does tid.0 (form r v z.report) (waited r) (begins r)
-        (subst (λ (c' : Key → Option Page). PassesIn u (MadeBy (aim_in t c' y pid addr does) tid.0 r) m z y c) same p)
+    module _ (free : busy ≡ false) (y : G) where
+      form : (r : Answer) (v : World) (after : Report) → IsAccess false w e r v after pid addr does
+      form r v after = record { aim = λ l. ap (λ k. cond k None (aim_at w l pid addr does)) (sym begun.busy_is ∙ free); does = λ b ms c h. h; ages = λ b ms. refl }
 
-    -- it has to wait
-    pub begin-waits-passes : (why : Why) (v : World) (z : StoreOf) (c : Behind) → PassesIn u (WaitsBy (aim_in t mid y pid addr does) tid.0 why z.report) m z y c → PassesIn u (Lined w e n (answer.Pending why) v z.report) s z b c
-    begin-waits-passes why v z c p =
-        waits_line u w e n v s m z b y c why pid addr does tid.0 (form (answer.Pending why) v z.report) (waited (answer.Pending why)) (begins (answer.Pending why))
-        (subst (λ (c' : Key → Option Page). PassesIn u (WaitsBy (aim_in t c' y pid addr does) tid.0 why z.report) m z y c) same p)
+      awaits : (r : Answer) → Waited w e r tid.0
+      awaits r = record { some = λ a b f l is. ap (λ (o : Option Aim). λ t. wait_of_begin o tid.0 r f l t) is }
+
+      aims : aim_over p t x pid addr does ≡ aim_in t (p.contents g) (p.behind x) pid addr does
+      aims = ap (λ (c : Key → Option Page). aim_in t c (p.behind x) pid addr does) begun.starts.contents
+
+      -- the access is refused by its row
+      pub begin-refuses : (r : Answer) (after : Tables) → TurnsAccess p does tid.0 pid addr false t x (threaded.Refused r) after y → AnswersLine p e n t g r after y
+      begin-refuses r after h =
+          let none = needless h.turned.0.needless in
+          answered r after y
+          (begin-refused p.unpaged n t (p.contents g) (p.contents x) (p.store g) (p.store x) begun.starts.contents begun.starts.begins tid pid what alive (sym begun.busy_is ∙ free) after (p.contents y) (p.store y) h.keeps h.rest.line r
+          (served-quiet (p.store x) (p.store y) (quiet-same (p.store x) (p.store y) h.turned.1)) h.turned.0)
+          (none_line p.unpaged false w e n r (world_over p after y) (p.store g) (p.store y) (p.behind g) (p.behind y) (λ b c h. h) (λ b. refl) none
+          (λ b f l. ap (λ (o : Option Aim). λ t. wait_of_begin o tid.0 r f l t) (none b.life))
+          (begun_still p.unpaged (move.At n (kind_of_line w e r)) (RefusedBy (aim_over p t x pid addr does)) (p.store g) (p.store x) (p.store y) (p.behind g) (p.behind x) (p.behind y) (λ b ms c h. h.still) (begins r) h.passes))
+
+      -- it is made
+      pub begin-makes : (r : Answer) (after : Tables) → TurnsAccess p does tid.0 pid addr false t x (threaded.Made r) after y → AnswersLine p e n t g r after y
+      begin-makes r after h =
+          let v = world_over p after y in
+          answered r after y
+          (begin-made p.unpaged n t (p.contents g) (p.contents x) (p.store g) (p.store x) begun.starts.contents begun.starts.begins tid pid what alive (sym begun.busy_is ∙ free) after (p.contents y) (p.store y) h.keeps h.rest.line r h.turned.1)
+          (made_line p.unpaged w e n v (p.store g) (p.store x) (p.store y) (p.behind g) (p.behind x) (p.behind y) r pid addr does tid.0 (form r v (p.store y).report) (awaits r) (begins r)
+          (subst (λ (o : Option Aim). PassesOver p (MadeBy o tid.0 r) x y) aims h.passes))
+
+      -- it has to wait, and the thread keeps it
+      pub begin-awaits : (why : Why) (mid after : Tables) → TurnsAccess p does tid.0 pid addr false t x (threaded.Waiting why) mid y → after ≡ keep mid tid.0 (Some (record { pid = pid.0; access = what })) → FitsOver p after y → AnswersLine p e n t g (answer.Pending why) after y
+      begin-awaits why mid after h kept fits =
+          let r = answer.Pending why in
+          let v = world_over p after y in
+          answered r after y
+          (begin-waits p.unpaged n t (p.contents g) (p.contents x) (p.store g) (p.store x) begun.starts.contents begun.starts.begins tid pid what alive (sym begun.busy_is ∙ free) after (p.contents y) (p.store y)
+          (keeps_kept mid after (p.contents y) (p.store y) tid.0 _ h.keeps kept fits) h.rest.line why (λ never. h.rest.unpaged never why refl) h.turned.1
+          (ap (λ (t : Tables). world_over p t y) kept ∙ ap (λ (w : World). keep w tid.0 (Some (record { pid = pid.0; access = what }))) h.turned.2))
+          (waits_line p.unpaged w e n v (p.store g) (p.store x) (p.store y) (p.behind g) (p.behind x) (p.behind y) why pid addr does tid.0 (form r v (p.store y).report) (awaits r) (begins r)
+          (subst (λ (o : Option Aim). PassesOver p (WaitsBy o tid.0 why (p.store y).report) x y) aims h.passes))
 
 -- ---- `resume`
 
-module _ (u : Bool) (tid : Tid) (n : ℕ) (t : Tables) (old mid : Key → Option Page) (same : mid ≡ old) (s m : StoreOf) (b y : Behind) where
-  abbrev x : World
-  x = world_with t (key_bytes old)
+module _ {G : Type 0} (p : PagesGhosts G) {n : ℕ} (tid : Tid) (t : Tables) {g x : G} (starts : StartsLine p n g x) where
+  abbrev before : World
+  before = world_over p t g
 
   abbrev f : Event
   f = line.Resume tid
 
+  resumed : (r : Answer) (after : Tables) (z : G) → DecidedOver p f n t g r after z → PassesOver p (Lined before f n r (world_over p after z) (p.store z).report) g z → AnswersLine p f n t g r after z
+  resumed r after z decided passes = access_answers p false f f refl refl n t g r after z (λ b ms h. h) decided passes
+
   -- a line with no access, after which the thread waits for nothing
-  resume-still : (r : Answer) (v : World) (m' z : StoreOf) (y' c : Behind) → ((l : FrameLife) → aim_of x l f ≡ None) → PassesIn u (OneMove (move.At n (kind_of_line x f r))) s m' b y' → PassesIn u (Forgets tid.0) m' z y' c → PassesIn u (Lined x f n r v z.report) s z b c
-  resume-still r v m' z y' c needless p q =
-      idle_line u x f n v s m' z b y' c r tid.0 (λ b c h. h) (λ b. refl) needless
+  resume-still : (r : Answer) (v : World) (y z : G) → ((l : FrameLife) → aim_of before l f ≡ None) → PassesOver p (OneMove (move.At n (kind_of_line before f r))) g y → PassesOver p (Forgets tid.0) y z → PassesOver p (Lined before f n r v (p.store z).report) g z
+  resume-still r v y z needless first forgot =
+      idle_line p.unpaged before f n v (p.store g) (p.store y) (p.store z) (p.behind g) (p.behind y) (p.behind z) r tid.0 (λ b c h. h) (λ b. refl) needless
       (λ b g l.
       ap (λ (o : Option Aim). changed ◌==◌ g tid.0 (cond (is_pending_read r) (awaited o l) Idle)) (needless b.life)
-      ∙ ap (λ (i : Waiting). changed ◌==◌ g tid.0 i) (idle_either (is_pending_read r))) p q
+      ∙ ap (λ (i : Waiting). changed ◌==◌ g tid.0 i) (idle_either (is_pending_read r))) first forgot
 
   -- the thread keeps nothing
-  pub resume-nothing-passes : (r : Answer) (v : World) (z : StoreOf) (c : Behind) → kept_by t tid.0 ≡ None → PassesIn u (OneMove (move.At n kind.Call)) s m b y → PassesIn u (Forgets tid.0) m z y c → PassesIn u (Lined x f n r v z.report) s z b c
-  resume-nothing-passes r v z c none p q =
-      resume-still r v m z y c (λ l. ap (λ (k : Option KeptOf). aim_kept x l k) none)
-      (subst (λ (k : LineKind). PassesIn u (OneMove (move.At n k)) s m b y) (sym (ap kept_kind none)) p) q
+  pub resume-none : (z : G) → KeepsOver p t x → kept_by t tid.0 ≡ None → p.contents z ≡ p.contents x → p.store z ≡ waited (p.store x) (p.store z) → PassesOver p (OneMove (move.At n kind.Call)) g x → PassesOver p (Forgets tid.0) x z → AnswersLine p f n t g answer.Nothing t z
+  resume-none z keeps none contents rest first forgot =
+      resumed answer.Nothing t z
+      (resume-nothing p.unpaged n t (p.contents g) (p.contents x) (p.store g) (p.store x) starts.contents starts.begins tid (p.contents z) (p.store z) (keeps-forgot t (p.contents x) (p.contents z) (p.store x) (p.store z) keeps contents rest)
+      (ap (λ (s : StoreOf). s.line) rest) (served_forgot (p.store x) (p.store x) (p.store z) rest (served-quiet (p.store x) (p.store x) (quiet-same (p.store x) (p.store x) refl))) contents none)
+      (resume-still answer.Nothing (world_over p t z) x z (λ l. ap (λ (k : Option KeptOf). aim_kept before l k) none)
+      (subst (λ (k : LineKind). PassesOver p (OneMove (move.At n k)) g x) (sym (ap kept_kind none)) first) forgot)
 
-  module _ (k : KeptOf) (kept : kept_by t tid.0 ≡ Some k) (began : PassesIn u (OneMove (move.At n (kind.Thread (record { 0 = k.pid })))) s m b y) where
-    abbrev pid : Pid
-    pid = record { 0 = k.pid }
+  module _ (k : KeptOf) (kept : kept_by t tid.0 ≡ Some k) (began : PassesOver p (OneMove (move.At n (kind.Thread (record { 0 = k.pid })))) g x) (failed : Bool) (fails : failed ≡ wait_failed ((p.store x).report.wait tid.0)) where
+    abbrev owner : Pid
+    owner = record { 0 = k.pid }
 
     abbrev at : ℕ
     at = address_in k.access
@@ -145,69 +175,77 @@ module _ (u : Bool) (tid : Tid) (n : ℕ) (t : Tables) (old mid : Key → Option
     abbrev tries : Attempt
     tries = attempt_in k.access
 
-    begun : (r : Answer) → PassesIn u (OneMove (move.At n (kind_of_line x f r))) s m b y
-    begun r = subst (λ (k : LineKind). PassesIn u (OneMove (move.At n k)) s m b y) (sym (ap kept_kind kept)) began
+    begun : (r : Answer) → PassesOver p (OneMove (move.At n (kind_of_line before f r))) g x
+    begun r = subst (λ (k : LineKind). PassesOver p (OneMove (move.At n k)) g x) (sym (ap kept_kind kept)) began
 
-    aims : (l : FrameLife) → aim_of x l f ≡ aim_at x l pid at tries
-    aims l = ap (λ (k : Option KeptOf). aim_kept x l k) kept
+    aimed : (l : FrameLife) → aim_of before l f ≡ aim_at before l owner at tries
+    aimed l = ap (λ (k : Option KeptOf). aim_kept before l k) kept
 
-    access : (r : Answer) (v : World) (after : Report) → IsAccess false x f r v after pid at tries
-    access r v after = record { aim = aims; does = λ b ms c h. h; ages = λ b ms. refl }
+    access : (r : Answer) (v : World) (after : Report) → IsAccess false before f r v after owner at tries
+    access r v after = record { aim = aimed; does = λ b ms c h. h; ages = λ b ms. refl }
 
-    awaits : (r : Answer) → Waited x f r tid.0
-    awaits r = record { some = λ a b g l is. ap (λ (o : Option Aim). changed ◌==◌ g tid.0 (cond (is_pending_read r) (awaited o l) Idle)) is }
+    waits : (r : Answer) → Waited before f r tid.0
+    waits r = record { some = λ a b g l is. ap (λ (o : Option Aim). changed ◌==◌ g tid.0 (cond (is_pending_read r) (awaited o l) Idle)) is }
 
-    moved : (P : Option Aim → Behind → List Move → Behind → Type 0) (z : StoreOf) (c : Behind) → PassesIn u (P (aim_in t mid y pid at tries)) m z y c → PassesIn u (P (aim_in t old y pid at tries)) m z y c
-    moved P z c p = subst (λ (c' : Key → Option Page). PassesIn u (P (aim_in t c' y pid at tries)) m z y c) same p
+    same : aim_over p t x owner at tries ≡ aim_in t (p.contents g) (p.behind x) owner at tries
+    same = ap (λ (c : Key → Option Page). aim_in t c (p.behind x) owner at tries) starts.contents
+
+    needed : (o : Option Need) → need_at (world_over p t x) k.pid at tries ≡ o → need_at before k.pid at tries ≡ o
+    needed o is = ap (λ (c : Key → Option Page). need_at (world_with t (key_bytes c)) k.pid at tries) (sym starts.contents) ∙ is
 
     -- the kept access has to wait still
-    pub resume-waits-passes : (why : Why) (v : World) (z : StoreOf) (c : Behind) → PassesIn u (WaitsBy (aim_in t mid y pid at tries) tid.0 why z.report) m z y c → PassesIn u (Lined x f n (answer.Pending why) v z.report) s z b c
-    resume-waits-passes why v z c p =
-        waits_line u x f n v s m z b y c why pid at tries tid.0 (access (answer.Pending why) v z.report) (awaits (answer.Pending why)) (begun (answer.Pending why))
-        (moved (λ aim. WaitsBy aim tid.0 why z.report) z c p)
+    pub resume-awaits : (why : Why) (after : Tables) (y : G) → TurnsAccess p tries tid.0 owner at failed t x (threaded.Waiting why) after y → AnswersLine p f n t g (answer.Pending why) after y
+    resume-awaits why after y h =
+        let r = answer.Pending why in
+        let v = world_over p after y in
+        resumed r after y
+        (resume-waits p.unpaged n t (p.contents g) (p.contents x) (p.store g) (p.store x) starts.contents starts.begins tid k kept after (p.contents y) (p.store y) h.keeps h.rest.line
+        why (λ never. h.rest.unpaged never why refl) (sym fails ∙ h.turned.0) h.turned.1 h.turned.2)
+        (waits_line p.unpaged before f n v (p.store g) (p.store x) (p.store y) (p.behind g) (p.behind x) (p.behind y) why owner at tries tid.0 (access r v (p.store y).report) (waits r) (begun r)
+        (subst (λ (o : Option Aim). PassesOver p (WaitsBy o tid.0 why (p.store y).report) x y) same h.passes))
 
-    module _ (v : World) (z' z : StoreOf) (c' c : Behind) (forgot : PassesIn u (Forgets tid.0) z' z c' c) where
+    module _ (mid : Tables) (y : G) (after : Tables) (z : G) (ends : EndsAccess p tid.0 mid y after z) where
+      abbrev v : World
+      v = world_over p after z
+
+      line_is : (r : Threaded) → TurnsAccess p tries tid.0 owner at failed t x r mid y → (p.store z).line ≡ (p.store x).line
+      line_is r h = ap (λ (s : StoreOf). s.line) ends.rest ∙ h.rest.line
+
+      ended : v ≡ keep (world_over p mid y) tid.0 None
+      ended = λ i. world_with (ends.ended i) (key_bytes (ends.contents i))
+
+      stood : p.store y ≡ p.store x → Served (p.store x) (p.store z)
+      stood same = served_forgot (p.store x) (p.store y) (p.store z) ends.rest (served-quiet (p.store x) (p.store y) (quiet-same (p.store x) (p.store y) same))
+
       -- it is made
-      pub resume-made-passes : (r : Answer) → PassesIn u (MadeBy (aim_in t mid y pid at tries) tid.0 r) m z' y c' → PassesIn u (Lined x f n r v z.report) s z b c
-      resume-made-passes r p =
-          made_line u x f n v s m z b y c r pid at tries tid.0 (access r v z.report) (awaits r) (begun r)
-          (passes_then u (MadeBy (aim_in t old y pid at tries) tid.0 r) (Forgets tid.0) (MadeBy (aim_in t old y pid at tries) tid.0 r) m z' z y c' c (made_joins (aim_in t old y pid at tries) tid.0 r)
-          (moved (λ aim. MadeBy aim tid.0 r) z' c' p) forgot)
+      pub resume-makes : (r : Answer) → TurnsAccess p tries tid.0 owner at failed t x (threaded.Made r) mid y → AnswersLine p f n t g r after z
+      resume-makes r h =
+          resumed r after z
+          (resume-made p.unpaged n t (p.contents g) (p.contents x) (p.store g) (p.store x) starts.contents starts.begins tid k kept after (p.contents z) (p.store z) ends.keeps (line_is (threaded.Made r) h)
+          r (world_over p mid y) (sym fails ∙ h.turned.0) (went_forgot (p.store x) (p.store y) (p.store z) ends.rest t.machine.depth (world_over p t x) k.pid at tries r (world_over p mid y) h.turned.1) ended)
+          (made_line p.unpaged before f n v (p.store g) (p.store x) (p.store z) (p.behind g) (p.behind x) (p.behind z) r owner at tries tid.0 (access r v (p.store z).report) (waits r) (begun r)
+          (subst (λ (o : Option Aim). PassesOver p (MadeBy o tid.0 r) x z) same
+          (passes_then p.unpaged (MadeBy (aim_over p t x owner at tries) tid.0 r) (Forgets tid.0) (MadeBy (aim_over p t x owner at tries) tid.0 r) (p.store x) (p.store y) (p.store z) (p.behind x) (p.behind y) (p.behind z) (made_joins (aim_over p t x owner at tries) tid.0 r) h.passes ends.passes)))
 
       -- it is refused
-      pub resume-refused-passes : (r : Answer) → need_at (world_with t (key_bytes mid)) k.pid at tries ≡ None → PassesIn u (RefusedBy (aim_in t mid y pid at tries)) m z' y c' → PassesIn u (Lined x f n r v z.report) s z b c
-      resume-refused-passes r needless p =
-          let none : need_at x k.pid at tries ≡ None = ap (λ (c : Key → Option Page). need_at (world_with t (key_bytes c)) k.pid at tries) (sym same) ∙ needless in
-          resume-still r v z' z c' c (λ l. aims l ∙ aim-needless x l pid at tries none)
-          (begun_still u (move.At n (kind_of_line x f r)) (RefusedBy (aim_in t mid y pid at tries)) s m z' b y c' (λ b ms c h. h.still) (begun r) p) forgot
+      pub resume-refuses : (r : Answer) → TurnsAccess p tries tid.0 owner at failed t x (threaded.Refused r) mid y → AnswersLine p f n t g r after z
+      resume-refuses r h =
+          let none = needed None h.turned.0.needless in
+          resumed r after z
+          (resume-refused p.unpaged n t (p.contents g) (p.contents x) (p.store g) (p.store x) starts.contents starts.begins tid k kept after (p.contents z) (p.store z) ends.keeps (line_is (threaded.Refused r) h)
+          r (world_over p mid y) (stood h.turned.1) h.turned.0 ended)
+          (resume-still r v y z (λ l. aimed l ∙ aim-needless before l owner at tries none)
+          (begun_still p.unpaged (move.At n (kind_of_line before f r)) (RefusedBy (aim_over p t x owner at tries)) (p.store g) (p.store x) (p.store y) (p.behind g) (p.behind x) (p.behind y) (λ b ms c h. h.still) (begun r) h.passes) ends.passes)
 
       -- the read that its thread waited for has failed
-      pub resume-failed-passes : Permitted (world_with t (key_bytes mid)) k.pid at tries → PassesIn u (FailedBy (aim_in t mid y pid at tries)) m z' y c' → PassesIn u (Lined x f n (answer.Raised raise.InPageError) v z.report) s z b c
-      resume-failed-passes h p =
-          let r : Answer = answer.Raised raise.InPageError in
-          let needs : need_at x k.pid at tries ≡ Some h.need = ap (λ (c : Key → Option Page). need_at (world_with t (key_bytes c)) k.pid at tries) (sym same) ∙ h.needs in
-          failed_line u x f n v s z' z b c' c r pid at tries tid.0 (access r v z.report) (awaits r) refl refl (λ l. ap is_some (aim-needs x l pid at tries h.need needs))
-          (begun_still u (move.At n (kind_of_line x f r)) (FailedBy (aim_in t mid y pid at tries)) s m z' b y c' (λ b ms c h. h.still) (begun r) p) forgot
-
--- ---- an access of a thread that asks the store for nothing
-
-module _ (u : Bool) (w : World) (pid : Pid) (addr : ℕ) (what : Attempt) (tid : ℕ) where
-  pub turned_refused : (r : Answer) (s : StoreOf) (b : Behind) → need_at w pid.0 addr what ≡ None → PassesIn u (TurnedBy (aim_at w b.life pid addr what) tid (threaded.Refused r) s.report) s s b b
-  turned_refused r s b needless =
-      passes_still u (TurnedBy (aim_at w b.life pid addr what) tid (threaded.Refused r) s.report) s b (record { none = aim-needless w b.life pid addr what needless; still = record { none = refl; same = refl } })
-
-  pub turned_failed : (s : StoreOf) (b : Behind) → Permitted w pid.0 addr what → PassesIn u (TurnedBy (aim_at w b.life pid addr what) tid threaded.Failed s.report) s s b b
-  turned_failed s b h =
-      passes_still u (TurnedBy (aim_at w b.life pid addr what) tid threaded.Failed s.report) s b (record { aimed = _; is = aim-needs w b.life pid addr what h.need h.needs; still = record { none = refl; same = refl } })
-
--- ---- an access that one of two calls made
-
-module _ {G : Type 0} (p : PagesGhosts G) where
-  pub went_joined : (t v : Tables) (x y z : G) (pid : Pid) (addr : ℕ) (what : Attempt) (tid : ℕ) (r o : Result Answer Why)
-      → v ≡ t → z ≡ y → r ≡ o
-      → PassesOver p (WentBy (aim_over p v x pid addr what) tid r (p.store y).report) x y
-      → PassesOver p (WentBy (aim_over p t x pid addr what) tid o (p.store z).report) x z
-  went_joined t v x y z pid addr what tid r o same is ends h =
-      subst (λ (z : G). PassesOver p (WentBy (aim_over p t x pid addr what) tid o (p.store z).report) x z) (sym is)
-      (subst (λ (r : Result Answer Why). PassesOver p (WentBy (aim_over p t x pid addr what) tid r (p.store y).report) x y) ends
-      (subst (λ (t : Tables). PassesOver p (WentBy (aim_over p t x pid addr what) tid r (p.store y).report) x y) same h))
+      pub resume-fails : (p.unpaged ≡ true → (p.store g).report.wait tid.0 ≡ wait.None) → TurnsAccess p tries tid.0 owner at failed t x threaded.Failed mid y → AnswersLine p f n t g (answer.Raised raise.InPageError) after z
+      resume-fails idle h =
+          let r = answer.Raised raise.InPageError in
+          let is = sym fails ∙ h.turned.0 in
+          let permitted = h.turned.1 in
+          resumed r after z
+          (resume-failed p.unpaged n t (p.contents g) (p.contents x) (p.store g) (p.store x) starts.contents starts.begins tid k kept after (p.contents z) (p.store z) ends.keeps (line_is threaded.Failed h)
+          (λ never. none_failed (p.store g) (p.store x) tid.0 starts.begins.report_is (idle never) is) is permitted (stood h.turned.2) (ended ∙ ap (λ (w : World). keep w tid.0 None) h.turned.3))
+          (failed_line p.unpaged before f n v (p.store g) (p.store y) (p.store z) (p.behind g) (p.behind y) (p.behind z) r owner at tries tid.0 (access r v (p.store z).report) (waits r) refl refl
+          (λ l. ap is_some (aim-needs before l owner at tries permitted.need (needed (Some permitted.need) permitted.needs)))
+          (begun_still p.unpaged (move.At n (kind_of_line before f r)) (FailedBy (aim_over p t x owner at tries)) (p.store g) (p.store x) (p.store y) (p.behind g) (p.behind x) (p.behind y) (λ b ms c h. h.still) (begun r) h.passes) ends.passes)

@@ -1,34 +1,24 @@
 -- Keys that come to be in a line, and keys that go.
 use Rattle.std.proofs.Common.{◌≡◌, ℕ, List, [], ◌∷◌, Bool, true, false, Option, Some, None, refl, sym, ap, ◌∙◌, cond, is_some, arith}
 use Rattle.std.specs.Prelude.{IsTrue, not, ◌&&◌, ◌||◌}
-use Rattle.mm_types.specs.declared.frames.Backing.{Backing}
-use Rattle.mm_types.specs.declared.frames.Held.{Held}
+use Rattle.mm_types.specs.{Backing, Held, Move, Stored, Block, Frame, Key, Place}
 use Rattle.mm_types.specs.declared.frames.Held.TheVariants as held
-use Rattle.mm_types.specs.declared.moves.Move.{Move}
 use Rattle.mm_types.specs.declared.moves.Move.TheVariants as move
-use Rattle.mm_types.specs.declared.moves.Stored.{Stored}
 use Rattle.mm_types.specs.declared.moves.Stored.TheVariants as stored
-use Rattle.mm_types.specs.declared.numbers.Block.{Block}
-use Rattle.mm_types.specs.declared.numbers.Frame.{Frame}
-use Rattle.mm_types.specs.declared.numbers.Key.{Key}
 use Rattle.mm_types.specs.declared.numbers.Key.TheVariants as key
-use Rattle.mm_types.specs.declared.numbers.Place.{Place}
-use Rattle.mm_types.proofs.Booleans.{not_then, not_left, not_third}
-use Rattle.mm_types.proofs.Options.{none_of}
-use Rattle.mm_life.specs.Life.{FrameLife, is_live, is_dead, same_key, is_shared}
-use Rattle.mm_life.specs.Legal.{is_call, is_unbind, is_unmapped}
-use Rattle.mm_life.specs.Effect.{after_move, after_add, dropped_at, homed, home_at, after_unmap_at}
-use Rattle.mm_life.specs.Replay.{Replays}
+use Rattle.mm_types.proofs.{not_then, not_left, not_third, none_of}
+use Rattle.mm_life.specs.{FrameLife, is_live, is_dead, same_key, is_shared, is_call, is_unbind, is_unmapped, after_move, after_add, dropped_at, homed}
+use Rattle.mm_life.specs.{home_at, after_unmap_at, Replays}
 use Rattle.mm_world.specs.World.{World}
-use Rattle.mm_world.specs.Keys.{content_of}
+use Rattle.mm_world.specs.{content_of}
 use Rattle.mm_pages.specs.Behind.{Behind}
-use Rattle.mm_pages.specs.Store.{StoreOf}
-use Rattle.mm_pages.specs.Housekeeping.{Makes, MakesStack, Ends, AllTurn, Turns, Exactly}
-use Rattle.mm_pages.specs.Leaving.{Leaving, nothing}
-use Rattle.mm_pages.specs.Passing.{Passes}
-use Rattle.mm_paging.specs.Lines.{TurnsOne, TurnsKeys}
-use Rattle.mm_core.specs.Noting.{keeps_keys, takes_away, EachMove}
-use Rattle.mm_life.proofs.Held.{home_lives}
+use Rattle.mm_pages.specs.{StoreOf, Makes, MakesStack, AllTurn, Turns, Exactly, nothing, Passes}
+use Rattle.mm_pages.specs.Housekeeping.{Ends}
+use Rattle.mm_pages.specs.Leaving.{Leaving}
+use Rattle.mm_paging.specs.{TurnsOne, TurnsKeys}
+use Rattle.mm_core.specs.{keeps_keys, takes_away, EachMove}
+use Rattle.mm_life.proofs.{home_lives}
+use Rattle.mm_core.proofs.Pieces.{passes_with}
 
 same_again : (k : Key) → same_key k k ≡ true
 same_again (key.Private p v) = grind arith
@@ -98,18 +88,7 @@ module _ (w v : World) (o : FrameLife) (m : FrameLife) (before : (k : Key) → i
     sym (after k) ∙ lives_on ms (after_add l k b) m r.1 a.1 k (added_lives l k b),
   )
   made_one (move.Drop k) ms l h r a = let bad = a.0 in cc
-  made_one (move.Clear f) ms l h r a = tt
-  made_one (move.Steal f) ms l h r a = tt
-  made_one (move.Give f k) ms l h r a = tt
-  made_one (move.Read f k) ms l h r a = tt
-  made_one (move.Got f) ms l h r a = tt
-  made_one (move.Bad f) ms l h r a = tt
-  made_one (move.Map f p) ms l h r a = tt
-  made_one (move.Unmap p) ms l h r a = tt
-  made_one (move.Soil f) ms l h r a = tt
-  made_one (move.Write f s) ms l h r a = tt
-  made_one (move.Wrote f) ms l h r a = tt
-  made_one (move.Lost f) ms l h r a = tt
+  made_one _ ms l h r a = tt
 
   all_made : (ms : List Move) (l : FrameLife) → ((q : Key) → is_live o q ≡ true → is_live l q ≡ true) → Replays ms l m → EachMove keeps_keys ms → TurnsKeys w v ms
   all_made [] l h r a = tt
@@ -127,17 +106,11 @@ dead_if false h e = e
 
 dropped_stays : (h : Held) (l : FrameLife) (k q : Key) → is_live l q ≡ false → is_live (dropped_at h l k) q ≡ false
 dropped_stays (held.Frame f) l k q e = dead_if (same_key q k) (l.stands q) e
-dropped_stays (held.Slot s) l k q e = dead_if (same_key q k) (l.stands q) e
-dropped_stays (held.Block b) l k q e = dead_if (same_key q k) (l.stands q) e
-dropped_stays held.Zero l k q e = dead_if (same_key q k) (l.stands q) e
-dropped_stays held.Dead l k q e = dead_if (same_key q k) (l.stands q) e
+dropped_stays _ l k q e = dead_if (same_key q k) (l.stands q) e
 
 dropped_dies : (h : Held) (l : FrameLife) (k : Key) → is_live (dropped_at h l k) k ≡ false
 dropped_dies (held.Frame f) l k = ap (λ c. not (is_dead (cond c held.Dead (l.stands k)))) (same_again k)
-dropped_dies (held.Slot s) l k = ap (λ c. not (is_dead (cond c held.Dead (l.stands k)))) (same_again k)
-dropped_dies (held.Block b) l k = ap (λ c. not (is_dead (cond c held.Dead (l.stands k)))) (same_again k)
-dropped_dies held.Zero l k = ap (λ c. not (is_dead (cond c held.Dead (l.stands k)))) (same_again k)
-dropped_dies held.Dead l k = ap (λ c. not (is_dead (cond c held.Dead (l.stands k)))) (same_again k)
+dropped_dies _ l k = ap (λ c. not (is_dead (cond c held.Dead (l.stands k)))) (same_again k)
 
 none_if : (c b : Bool) → cond c false b ≡ true → b ≡ true
 none_if true b e = cc
@@ -145,10 +118,7 @@ none_if false b e = e
 
 dropped_paging : (h : Held) (l : FrameLife) (k q : Key) → (dropped_at h l k).paging q ≡ true → l.paging q ≡ true
 dropped_paging (held.Frame f) l k q e = none_if (same_key q k) (l.paging q) e
-dropped_paging (held.Slot s) l k q e = none_if (same_key q k) (l.paging q) e
-dropped_paging (held.Block b) l k q e = none_if (same_key q k) (l.paging q) e
-dropped_paging held.Zero l k q e = none_if (same_key q k) (l.paging q) e
-dropped_paging held.Dead l k q e = none_if (same_key q k) (l.paging q) e
+dropped_paging _ l k q e = none_if (same_key q k) (l.paging q) e
 
 unmap_paging : (o : Option Frame) (l : FrameLife) (p : Place) (q : Key) → (after_unmap_at o l p).paging q ≡ l.paging q
 unmap_paging None l p q = refl
@@ -226,25 +196,10 @@ same_bool false b f g = g refl
 
 -- a call of which each turn is told made no move
 pub still : (s z : StoreOf) (b c : Behind) → Passes (Turns Makes) s z b c → Passes (Turns (Ends nothing 0 0)) s z b c → Passes (Exactly []) s z b c
-still s z b c p q = record {
-  moves = p.moves;
-  in_range = p.in_range;
-  grew = p.grew;
-  replays = p.replays;
-  that = record {
-    are = none_made p.moves b.life c.life p.replays p.that.turned.all (λ k. same_bool (is_live b.life k) (is_live c.life k)
-        (lives_on p.moves b.life c.life p.replays (makes_keep p.moves p.that.turned.all) k)
-        (stays_dead q.moves b.life c.life q.replays (ends_take nothing 0 0 q.moves q.that.turned.all) k));
-    moved = p.that.moved;
-    slots = p.that.slots;
-  };
-  report = p.report;
-  paging_calls = p.paging_calls;
-  paging = p.paging;
-  paging_are = p.paging_are;
-  file_calls = p.file_calls;
-  files = p.files;
-  files_are = p.files_are;
-  slots_kept = p.slots_kept;
-  blocks_kept = p.blocks_kept;
-}
+still s z b c p q = passes_with (Turns Makes) (Exactly []) s z b c p (record {
+  are = none_made p.moves b.life c.life p.replays p.that.turned.all (λ k. same_bool (is_live b.life k) (is_live c.life k)
+      (lives_on p.moves b.life c.life p.replays (makes_keep p.moves p.that.turned.all) k)
+      (stays_dead q.moves b.life c.life q.replays (ends_take nothing 0 0 q.moves q.that.turned.all) k));
+  moved = p.that.moved;
+  slots = p.that.slots;
+})

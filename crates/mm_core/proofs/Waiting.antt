@@ -1,43 +1,19 @@
 -- Accesses of threads: ready, or waiting.
-use Rattle.mm_types.specs.Machine.{MachineOf}
-use Rattle.std.proofs.Common.{◌≡◌, ◌⊎◌, ℕ, List, Bool, true, false, Option, Some, None, refl, sym, ◌∙◌, ap, subst, inl, inr, is_some, option_map, cond}
+use Rattle.std.proofs.Common.{◌≡◌, ◌⊎◌, ℕ, Bool, true, false, Option, Some, None, refl, sym, ◌∙◌, ap, subst, inl, inr, is_some, option_map, cond}
 use Rattle.std.specs.Prelude.{◌==◌}
 use Rattle.std.specs.Cmp.{unsigned_Decides}
-use Rattle.mm_types.specs.declared.answers.Answer.{Answer}
-use Rattle.mm_types.specs.declared.answers.Why.{Why}
-use Rattle.mm_types.specs.declared.numbers.Key.{Key}
-use Rattle.mm_types.specs.declared.numbers.Place.{Place}
-use Rattle.mm_world.specs.World.{Page, World}
-use Rattle.mm_world.specs.Access.{Attempt}
-use Rattle.mm_world.specs.Contents.{Tables}
-use Rattle.mm_world.specs.Failure.{Need, pending, access_fails}
+use Rattle.mm_types.specs.{Answer, Key, Place, Wait}
+use Rattle.mm_world.specs.{Page, Attempt, Tables, Need, pending, access_fails, need_at, wait_failed, KeptOf, keep, tables_of, world_with}
+use Rattle.mm_world.specs.World.{World}
 use Rattle.mm_world.specs.Report.{Report}
-use Rattle.mm_world.specs.Step.{need_at}
-use Rattle.mm_pages.specs.Store.{StoreOf, changed, same_place}
-use Rattle.mm_pages.specs.Reports.{Served, started, begun}
-use Rattle.mm_types.specs.declared.answers.Wait.{Wait}
+use Rattle.mm_pages.specs.{StoreOf, changed, same_place, Served, started, begun, waits_at_once}
 use Rattle.mm_types.specs.declared.answers.Wait.TheVariants as wait
-use Rattle.mm_world.specs.Failure.{wait_failed}
-use Rattle.mm_world.specs.World.{KeptOf}
-use Rattle.mm_world.specs.Step.{keep}
-use Rattle.mm_world.specs.Contents.{tables_of}
-use Rattle.mm_world.proofs.Reconstruct.{tables_back}
-use Rattle.mm_tables.specs.References.{MadeAtMost}
-use Rattle.mm_core.specs.Forgetting.{waited}
-use Rattle.mm_pages.specs.Conditions.{waits_at_once}
-use Rattle.mm_pages.proofs.Served.{served_nothing, served_then}
-use Rattle.mm_paging.proofs.Pending.{not_pending}
-use Rattle.mm_tables.specs.Fits.{FitsTables, key_at, key_bytes}
-use Rattle.mm_core.specs.Accessing.{Accessed, IsHad}
-use Rattle.mm_core.specs.Pending.{Waits, AccessMade, Permitted}
-use Rattle.mm_world.specs.Access.{WriteOf}
-use Rattle.mm_world.specs.Contents.{world_with}
-use Rattle.mm_types.specs.declared.protections.Access.TheVariants as access_kind
-use Rattle.mm_tables.specs.declared.looks.CommittedRow.{CommittedRow}
-use Rattle.mm_core.specs.Accessing.{Admits}
-use Rattle.mm_core.proofs.Accesses.{write-needs, copy-needs}
-use Rattle.mm_core.specs.Deciding.{KeepsTables}
-use Rattle.mm_core.proofs.Fitting.{names_one}
+use Rattle.mm_world.proofs.{tables_back}
+use Rattle.mm_tables.specs.{MadeAtMost, FitsTables, key_at}
+use Rattle.mm_core.specs.{waited, Accessed, IsHad, AccessMade, KeepsTables}
+use Rattle.mm_pages.proofs.{served_nothing, served_then}
+use Rattle.mm_paging.proofs.{not_pending}
+use Rattle.mm_core.proofs.Fitting.{fits_beside, names_one}
 
 module _ (s z : StoreOf) (e : z ≡ started s z) where
   pub served_started : Served s z
@@ -51,26 +27,10 @@ module _ (s z : StoreOf) (e : z ≡ started s z) where
       let f = keeps.fits in
       subst (λ (z : StoreOf). KeepsTables t c z) (sym e)
       (record {
-        fits = record {
-          machine = f.machine;
-          opened = f.opened;
-          last_pid = f.last_pid;
-          areas = f.areas;
-          bound = f.bound;
-          live = f.live;
-          paging = f.paging;
-          counted = f.counted;
-          room = f.room;
-          named = λ q j is. elim names [
-            | inl none ↦ f.named q j (ap (λ (n : Place → Option Key). n q) (sym none) ∙ is)
-            | inr one ↦ names_one t c s f place k at q j (ap (λ (n : Place → Option Key). n q) (sym one) ∙ is)
-          ];
-          blocks = f.blocks;
-          used = f.used;
-          stored = f.stored;
-          named_paging = f.named_paging;
-          named_file = f.named_file;
-        };
+        fits = fits_beside t c s f z.names z.ready (started s z).report (λ q j is. elim names [
+          | inl none ↦ f.named q j (ap (λ (n : Place → Option Key). n q) (sym none) ∙ is)
+          | inr one ↦ names_one t c s f place k at q j (ap (λ (n : Place → Option Key). n q) (sym one) ∙ is)
+        ]);
         few = keeps.few;
       })
 
@@ -97,25 +57,6 @@ module _ (t : Tables) (c d : Key → Option Page) (s z : StoreOf) (same : d ≡ 
   pub keeps_start : (place at : Place) (k : Key) → place ≡ at → KeepsTables t c s → key_at t at ≡ Some k → (z.names ≡ s.names) ⊎ (z.names ≡ changed same_place s.names place (Some k)) → KeepsTables t d z
   keeps_start place at k is keeps there names =
       subst (λ (c : Key → Option Page). KeepsTables t c z) (sym same) (keeps_started s z e t c place k keeps (ap (key_at t) is ∙ there) names)
-
-  module _ (machine : s.machine ≡ t.machine) (pid addr : ℕ) (what : Attempt) (need : Need) (needs : need_at (world_with t (key_bytes c)) pid addr what ≡ Some need) where
-    pub waits_start : (why : Why) → pending s.machine.depth need s.report z.report ≡ Some why → Waits t.machine.depth (world_with t (key_bytes c)) pid addr what s z why
-    waits_start why pends =
-        record { need = need; needs = needs; pends = ap (λ (m : MachineOf). pending m.depth need s.report z.report) (sym machine) ∙ pends; served = served_started s z e }
-
-    pub went_start : (u : Bool) (y : StoreOf) (a : Answer) (v : World) → waits_at_once s.machine.depth need.key s.report ≡ None → IsHad need y.report → Accessed u (world_with t (key_bytes d)) pid addr what z y a v → AccessMade t.machine.depth (world_with t (key_bytes c)) pid addr what s y a v
-    went_start u y a v at_once had h =
-        went u t.machine.depth (world_with t (key_bytes c)) pid addr what need s z y a v needs
-        (ap (λ (m : MachineOf). waits_at_once m.depth need.key s.report) (sym machine) ∙ at_once) e had
-        (subst (λ (c : Key → Option Page). Accessed u (world_with t (key_bytes c)) pid addr what z y a v) same h)
-
--- a permitted write needs its page, or a copy of it
-pub write_permitted : (t : Tables) (b : Key → Page) (pid addr : ℕ) (bytes : List ℕ) (row : CommittedRow) → Admits t pid addr access_kind.Write row → Permitted (world_with t b) pid addr (WriteOf bytes)
-write_permitted t b pid addr bytes row h = by_test row.copies refl
-  where
-    by_test : (x : Bool) → row.copies ≡ x → Permitted (world_with t b) pid addr (WriteOf bytes)
-    by_test true is = record { need = _; needs = copy-needs t b pid addr bytes row h is }
-    by_test false is = record { need = _; needs = write-needs t b pid addr bytes row h is }
 
 -- ---- what a thread keeps
 

@@ -3,18 +3,14 @@ use Rattle.std.proofs.Common.{◌≡◌, ℕ, zero, suc, ◌+◌, ◌-◌, ◌�
 use Rattle.std.specs.Prelude.{option_and_then}
 use Rattle.std.proofs.Math.Path.{fun_ext}
 use Rattle.std.proofs.lemmas.Bool.{leb-true}
-use Rattle.mm_types.specs.declared.numbers.Key.{Key}
-use Rattle.mm_types.specs.declared.views.Kind.{Kind}
+use Rattle.mm_types.specs.{Key, Kind, Range, end_of, holds_page}
 use Rattle.mm_types.specs.declared.views.Kind.TheVariants as kind
-use Rattle.mm_types.specs.Address.{Range, end_of, holds_page}
-use Rattle.mm_world.specs.World.{Page, RowOf, RegionOf, ProcessOf, AreaOf, Numbered, pages_of}
-use Rattle.mm_world.specs.Find.{Found, first_where, region_with, process_of, no_area, shared_page}
-use Rattle.mm_world.specs.Rows.{row_at}
-use Rattle.mm_world.specs.Keys.{Home, Own, InSection, Committed, home_in, committed_in, committed_at, private_key, shared_key, set_row, guard_off}
-use Rattle.mm_world.specs.Contents.{Tables, row_with, rows_with, region_with_bytes, process_with, processes_with, pages_with, area_with, areas_with, world_with}
-use Rattle.mm_world.proofs.Natural.{first-map}
-use Rattle.mm_world.proofs.Finding.{found_stands}
-use Rattle.mm_types.proofs.Booleans.{parts}
+use Rattle.mm_world.specs.{Page, RowOf, RegionOf, ProcessOf, AreaOf, Numbered, pages_of, Found, first_where, region_with, process_of, no_area}
+use Rattle.mm_world.specs.{shared_page, row_at, Home, Own, InSection, Committed, home_in, committed_in, committed_at, private_key, shared_key}
+use Rattle.mm_world.specs.{set_row, guard_off, Tables, row_with, rows_with, region_with_bytes, process_with, processes_with, pages_with, area_with}
+use Rattle.mm_world.specs.{areas_with, world_with}
+use Rattle.mm_world.proofs.{first-map, found_stands}
+use Rattle.mm_types.proofs.{parts}
 
 module _ (b : Key → Page) where
   abbrev pub found_with : ℕ → Found (RegionOf (Unit {0})) → Found (RegionOf Page)

@@ -2,21 +2,14 @@
 use Rattle.std.proofs.Common.{◌≡◌, ◌≢◌, ◌⊎◌, inl, inr, ℕ, zero, suc, ◌+◌, ◌-◌, ◌≤◌, ◌<◌, Bool, true, false, Option, Some, None, List, [], ◌∷◌, refl, ◌∙◌, ap, arith, length, map, set, slice_get, option_map, ◌&&◌, nat_le, nat_lt, ◌==◌, get_or, unwrap_or, sym}
 use Rattle.std.proofs.lemmas.Bool.{leb-true}
 use Rattle.std.specs.Cmp.{unsigned_Decides}
-use Rattle.mm_types.proofs.Tables.{differ}
-use Rattle.mm_types.specs.declared.numbers.Key.{Key}
+use Rattle.mm_types.proofs.{differ, parts, less}
+use Rattle.mm_types.specs.{Key, end_of, first_user_page}
 use Rattle.mm_types.specs.declared.numbers.Key.TheVariants as key
-use Rattle.mm_types.specs.Address.{end_of, first_user_page}
-use Rattle.mm_world.specs.World.{Page, RowOf, RegionOf, ProcessOf, AreaOf, Numbered, pages_of}
-use Rattle.mm_world.specs.Find.{process_of, area_at, no_area, shared_page, set_region}
-use Rattle.mm_world.specs.Rows.{mark_written, one_page}
-use Rattle.mm_world.specs.Failure.{same_key}
-use Rattle.mm_world.specs.Keys.{Committed, committed_at, private_key, shared_key, with_row, set_row, set_shared}
-use Rattle.mm_world.specs.Contents.{Tables, row_with, rows_with, region_with_bytes, process_with, processes_with, pages_with, area_with, areas_with, world_with}
-use Rattle.mm_world.specs.WellFormed.{LaidOut, Spaces}
-use Rattle.mm_world.proofs.Finding.{found_stands, numbered_there, committed_is}
-use Rattle.mm_types.proofs.Booleans.{parts}
-use Rattle.mm_types.proofs.Naturals.{less}
-use Rattle.mm_world.proofs.LaidOut.{laid_at}
+use Rattle.mm_world.specs.{Page, RowOf, RegionOf, ProcessOf, AreaOf, Numbered, pages_of, process_of, area_at, no_area, shared_page, set_region}
+use Rattle.mm_world.specs.{mark_written, one_page, same_key, Committed, committed_at, private_key, shared_key, with_row, set_row, set_shared, Tables}
+use Rattle.mm_world.specs.{row_with, rows_with, region_with_bytes, process_with, processes_with, pages_with, area_with, areas_with, world_with}
+use Rattle.mm_world.specs.{LaidOut, Spaces}
+use Rattle.mm_world.proofs.{found_stands, numbered_there, committed_is, laid_at}
 use Rattle.mm_core.proofs.With.{found_with, get-areas}
 
 pub shared_itself : (area index : ℕ) → same_key (shared_key area index) (shared_key area index) ≡ true

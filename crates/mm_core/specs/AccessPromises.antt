@@ -1,38 +1,44 @@
 -- What the functions of an access ask and promise of tables, store and moves together.
-use Rattle.std.specs.Prelude.{◌≡◌, ◌≤◌, ℕ, ◌+◌, ◌%◌, Bool, true, List, Some, Result, IsOk, OnErr}
-use Rattle.mm_types.specs.declared.answers.Answer.{Answer}
-use Rattle.mm_types.specs.declared.answers.Why.{Why}
-use Rattle.mm_types.specs.declared.faults.PageFault.{PageFault}
+use Rattle.std.specs.Prelude.{◌≡◌, ◌≤◌, ℕ, ◌+◌, ◌%◌, Bool, true, false, List, Some, None, is_some, Result, IsOk, OnErr, if◌then◌else◌}
+use Rattle.mm_types.specs.{Answer, Why, Event, PageFault, Move, Key, Pid, Place, Tid, Access, page_of}
+use Rattle.mm_types.specs.declared.answers.Wait.TheVariants as wait
+use Rattle.mm_types.specs.declared.events.Event.TheVariants as event
 use Rattle.mm_types.specs.declared.moves.LineKind.TheVariants as line_kind
-use Rattle.mm_types.specs.declared.moves.Move.{Move}
-use Rattle.mm_types.specs.declared.numbers.Key.{Key}
-use Rattle.mm_types.specs.declared.numbers.Pid.{Pid}
-use Rattle.mm_types.specs.declared.numbers.Place.{Place}
-use Rattle.mm_types.specs.declared.protections.Access.{Access}
+use Rattle.mm_types.specs.declared.moves.Move.TheVariants as move
 use Rattle.mm_types.specs.declared.protections.Access.TheVariants as access_kind
-use Rattle.mm_types.specs.Address.{page_of}
-use Rattle.mm_world.specs.Access.{Attempt}
-use Rattle.mm_world.specs.Contents.{Tables}
-use Rattle.mm_world.specs.Failure.{Need}
-use Rattle.mm_world.specs.Keys.{private_key}
-use Rattle.mm_world.specs.WellFormed.{Spaces}
-use Rattle.mm_pages.specs.Accesses.{Aim, Touches, Copies}
+use Rattle.mm_life.specs.{is_thread}
+use Rattle.mm_world.specs.{Attempt, ReadOf, WriteOf, Execute, Tables, Need, process_of, private_key, keep, kept_by, Spaces}
+use Rattle.mm_pages.specs.{Aim, Touches, Copies, Starts, Forgets, place_at, touch, copying, IsReady, MayAccess, waits_at_once, OneMove, IsBegun}
+use Rattle.mm_pages.specs.{Served, SomeFailed, started, Ghosts as PagesGhosts}
 use Rattle.mm_pages.specs.Behind.{Behind}
-use Rattle.mm_pages.specs.Conditions.{place_at, touch, copying, IsReady, MayAccess}
-use Rattle.mm_pages.specs.Reports.{IsBegun, Served, SomeFailed}
-use Rattle.mm_pages.specs.declared.pages.Pages.{Ghosts as PagesGhosts}
-use Rattle.mm_tables.specs.declared.looks.CommittedRow.{CommittedRow}
-use Rattle.mm_tables.specs.Fits.{key_at}
+use Rattle.mm_pages.specs.declared.outcomes.Start.TheVariants as start
+use Rattle.mm_tables.specs.{CommittedRow, key_at}
 use Rattle.mm_core.specs.declared.threads.Threaded.{Threaded}
 use Rattle.mm_core.specs.declared.threads.Threaded.TheVariants as threaded
 use Rattle.mm_core.specs.Accessing.{Admits, Accessed, IsHad}
-use Rattle.mm_core.specs.Answering.{Answered}
+use Rattle.mm_core.specs.Answering.{Answered, TurnedBy}
+use Rattle.mm_core.specs.Forgetting.{waited}
+use Rattle.mm_core.specs.LinePromises.{StartsLine}
 use Rattle.mm_core.specs.Over.{FitsOver, KeepsOver, PassesOver, aim_over, world_over}
+use Rattle.mm_core.specs.Pending.{ThreadWent}
 
 -- at most 64 bytes from an address on, in one page
 pub record LieInPage (addr len : ℕ) : Type 0 where
   pub few : len ≤ 64
   pub inside : addr % 4096 + len ≤ 4096
+
+-- the line of a plain access
+abbrev pub access_line : Pid → ℕ → Attempt → Event
+access_line pid addr (ReadOf len) = event.Read pid addr len
+access_line pid addr (WriteOf bytes) = event.Write pid addr bytes
+access_line pid addr Execute = event.Exec pid addr
+
+-- what an access of this kind needs of the page of a row
+abbrev pub row_need : Access → CommittedRow → Place → Need
+row_need access_kind.Write row place =
+    if row.copies then copying row.key place else touch row.key
+row_need access_kind.Read row place = touch row.key
+row_need access_kind.Execute row place = touch row.key
 
 module _ {G : Type 0} (p : PagesGhosts G) where
   -- ---- at a place
@@ -120,26 +126,16 @@ module _ {G : Type 0} (p : PagesGhosts G) where
     pub passes : PassesOver p (Answered (aim_over p t g pid addr what)
         (IsReady (p.store g) (place_at pid (page_of addr)) need) a (p.store h).report) g h
 
+  -- the line of an access of this kind has begun, and the row of its address permits it
+  pub record EntersLine (kind : Access) (n : ℕ) (pid : Pid) (addr : ℕ) (row : CommittedRow)
+      (t : Tables) (g : G) (after : Tables) (h : G) : Type 0 where
+    pub can : (need : Need) → CanAccess kind after pid addr row need h
+    pub same : after ≡ t
+    pub lives : is_some (process_of t pid.0) ≡ true
+    pub starts : StartsLine p n g h
+    pub passes : PassesOver p (OneMove (move.At n (line_kind.Access pid))) g h
+
   -- ---- of a thread
-
-  -- the row of the address permits this access of a thread, whose line has begun
-  pub record CanStart (kind : Access) (t : Tables) (pid : Pid) (addr : ℕ) (row : CommittedRow)
-      (g : G) : Type 0 where
-    pub keeps : KeepsOver p t g
-    pub spaces : Spaces t
-    pub admitted : Admits t pid.0 addr kind row
-    pub at : key_at t (place_at pid (page_of addr)) ≡ Some row.key
-    pub form : (p.store g).kind ≡ line_kind.Thread pid
-    pub begun : IsBegun (p.store g).report
-
-  -- what is told beside how it went: one that has to wait changes no table and no byte, and over
-  -- a store that pages nothing none has to
-  pub record StartKeeps (result : Result Answer Why) (t : Tables) (g : G) (after : Tables) (h : G) :
-      Type 0 where
-    pub same : OnErr result ((after ≡ t) × (p.contents h ≡ p.contents g))
-    pub line : (p.store h).line ≡ (p.store g).line
-    pub unpaged : p.unpaged ≡ true → IsOk result
-    pub loans : p.loans h ≡ p.loans g
 
   -- the line of a thread's access to the process has begun
   pub record CanTurn (t : Tables) (pid : Pid) (g : G) : Type 0 where
@@ -151,4 +147,52 @@ module _ {G : Type 0} (p : PagesGhosts G) where
   pub record TurnKeeps (result : Threaded) (g h : G) : Type 0 where
     pub line : (p.store h).line ≡ (p.store g).line
     pub unpaged : p.unpaged ≡ true → (why : Why) → result ≡ threaded.Waiting why → ⊥
+    pub loans : p.loans h ≡ p.loans g
+
+  -- how it went, whose wait failed or not
+  pub record TurnsAccess (what : Attempt) (tid : ℕ) (pid : Pid) (addr : ℕ) (failed : Bool)
+      (t : Tables) (g : G) (result : Threaded) (after : Tables) (h : G) : Type 0 where
+    pub turned : ThreadWent result failed t.machine.depth (world_over p t g) pid.0 addr what
+        (p.store g) (p.store h) (world_over p after h)
+    pub keeps : KeepsOver p after h
+    pub rest : TurnKeeps result g h
+    pub passes : PassesOver p
+        (TurnedBy (aim_over p t g pid addr what) tid result (p.store h).report) g h
+
+  -- the row of the address permits an access of this kind, and the store has what it needs
+  pub record ReadyFor (kind : Access) (tid : ℕ) (pid : Pid) (addr : ℕ) (row : CommittedRow)
+      (failed : Bool) (t : Tables) (g : G) (after : Tables) (h : G) : Type 0 where
+    pub can : CanAccess kind after pid addr row (row_need kind row (place_at pid (page_of addr))) h
+    pub admitted : Admits t pid.0 addr kind row
+    pub same : after ≡ t
+    pub fine : failed ≡ false
+    pub contents : p.contents h ≡ p.contents g
+    pub store : p.store h ≡ started (p.store g) (p.store h)
+    pub ready : IsReady (p.store h) (place_at pid (page_of addr))
+        (row_need kind row (place_at pid (page_of addr)))
+    pub at_once : waits_at_once t.machine.depth row.key (p.store g).report ≡ None
+    pub thread : p.unpaged ≡ false → is_thread (p.behind g).life.kind ≡ true
+    pub passes : (writes : Bool) → PassesOver p (Starts (aim_for (place_at pid (page_of addr))
+        (row_need kind row (place_at pid (page_of addr))) writes g) tid start.Ready) g h
+    pub loans : p.loans h ≡ p.loans g
+
+  -- the line of a thread's access to a process has begun; one that is busy accesses nothing
+  pub record BeginsThread (n : ℕ) (tid : Tid) (pid : Pid) (busy lived : Bool) (t : Tables)
+      (g h : G) : Type 0 where
+    pub busy_is : busy ≡ is_some (kept_by t tid.0)
+    pub lives : lived ≡ is_some (process_of t pid.0)
+    pub keeps : KeepsOver p t h
+    pub starts : StartsLine p n g h
+    pub form : lived ≡ true → busy ≡ false → (p.store h).kind ≡ line_kind.Thread pid
+    pub passes : PassesOver p (OneMove (move.At n (if busy then line_kind.Call
+        else if lived then line_kind.Thread pid else line_kind.Call))) g h
+
+  -- a thread's access has ended: it keeps none, and waits for nothing
+  pub record EndsAccess (tid : ℕ) (t : Tables) (g : G) (after : Tables) (h : G) : Type 0 where
+    pub keeps : KeepsOver p after h
+    pub ended : after ≡ keep t tid None
+    pub idle : (p.store h).report.wait tid ≡ wait.None
+    pub rest : p.store h ≡ waited (p.store g) (p.store h)
+    pub contents : p.contents h ≡ p.contents g
+    pub passes : PassesOver p (Forgets tid) g h
     pub loans : p.loans h ≡ p.loans g

@@ -1,25 +1,15 @@
 -- How an access of one line stands in the tables.
 -- Profile, "Accesses".
 use Rattle.std.specs.Prelude.{◌≡◌, ℕ, Bool, true, false, Some, None}
-use Rattle.mm_types.specs.declared.answers.Answer.{Answer}
+use Rattle.mm_types.specs.{Answer, Access, page_of, permits}
 use Rattle.mm_types.specs.declared.answers.Answer.TheVariants as answer
 use Rattle.mm_types.specs.declared.codes.Raise.TheVariants as raise
-use Rattle.mm_types.specs.declared.protections.Access.{Access}
-use Rattle.mm_types.specs.Address.{page_of}
-use Rattle.mm_types.specs.Protection.{permits}
-use Rattle.mm_world.specs.World.{World, ProcessOf}
-use Rattle.mm_world.specs.Find.{process_of, set_region}
-use Rattle.mm_world.specs.Rows.{mark_written, one_page}
-use Rattle.mm_world.specs.Keys.{Committed, committed_at}
-use Rattle.mm_world.specs.Access.{Attempt, access}
-use Rattle.mm_world.specs.Failure.{Need, access_fails, still_needs_frame}
+use Rattle.mm_world.specs.{ProcessOf, process_of, set_region, mark_written, one_page, Committed, committed_at, Attempt, access, Need, access_fails}
+use Rattle.mm_world.specs.{still_needs_frame, need_at, Tables}
+use Rattle.mm_world.specs.World.{World}
 use Rattle.mm_world.specs.Report.{Report}
-use Rattle.mm_world.specs.Step.{need_at}
-use Rattle.mm_world.specs.Contents.{Tables}
-use Rattle.mm_pages.specs.Store.{StoreOf}
-use Rattle.mm_pages.specs.Reports.{Served, SomeFailed}
-use Rattle.mm_tables.specs.declared.looks.CommittedRow.{CommittedRow}
-use Rattle.mm_tables.specs.Looks.{told_committed}
+use Rattle.mm_pages.specs.{StoreOf, Served, SomeFailed}
+use Rattle.mm_tables.specs.{CommittedRow, told_committed}
 
 -- an access that is refused, or that met a guard: it needs no page
 pub record Refuses (w : World) (pid addr : ℕ) (what : Attempt) (a : Answer) (v : World) :

@@ -1,27 +1,16 @@
 -- The moves of an access, over a store that pages, as the definitions of a line ask for them.
 -- Profile, "Logs of moves".
-use Rattle.std.specs.Prelude.{◌≡◌, ℕ, true, false, List, Option, Some, None, count_by, ◌==◌, Result, Ok, Err}
-use Rattle.mm_types.specs.declared.answers.Answer.{Answer}
-use Rattle.mm_types.specs.declared.answers.Why.{Why}
+use Rattle.std.specs.Prelude.{◌≡◌, ℕ, true, false, List, Option, Some, None, count_by, ◌==◌}
+use Rattle.mm_types.specs.{Answer, Why, Move, Key, Pid}
 use Rattle.mm_types.specs.declared.answers.Why.TheVariants as why_of
-use Rattle.mm_types.specs.declared.moves.Move.{Move}
-use Rattle.mm_types.specs.declared.numbers.Key.{Key}
-use Rattle.mm_types.specs.declared.numbers.Pid.{Pid}
-use Rattle.mm_world.specs.World.{Page}
-use Rattle.mm_world.specs.Access.{Attempt}
-use Rattle.mm_world.specs.Contents.{Tables, world_with}
-use Rattle.mm_world.specs.Report.{Report, BeingRead}
-use Rattle.mm_life.specs.Searches.{is_valid, Starved}
-use Rattle.mm_life.specs.Waits.{Idle}
-use Rattle.mm_life.specs.Walks.{waits_through, ages_through, walked_all, is_read_move}
-use Rattle.mm_pages.specs.Store.{changed}
+use Rattle.mm_world.specs.{Page, Attempt, Tables, world_with, BeingRead}
+use Rattle.mm_world.specs.Report.{Report}
+use Rattle.mm_life.specs.{is_valid, Starved, Idle, waits_through, ages_through, walked_all, is_read_move}
+use Rattle.mm_pages.specs.{changed, Aim, AccessMoves, Starts, walk_from, NoMove}
 use Rattle.mm_pages.specs.Behind.{Behind}
-use Rattle.mm_pages.specs.Accesses.{Aim, AccessMoves, Starts, walk_from}
-use Rattle.mm_pages.specs.Housekeeping.{NoMove}
 use Rattle.mm_pages.specs.declared.outcomes.Start.TheVariants as start
-use Rattle.mm_paging.specs.Kinds.{aim_at}
-use Rattle.mm_paging.specs.Lines.{is_had, is_failed, is_pending_read, place_had}
-use Rattle.mm_tables.specs.Fits.{key_bytes}
+use Rattle.mm_paging.specs.{aim_at, is_had, is_failed, is_pending_read, place_had}
+use Rattle.mm_tables.specs.{key_bytes}
 use Rattle.mm_core.specs.declared.threads.Threaded.{Threaded}
 use Rattle.mm_core.specs.declared.threads.Threaded.TheVariants as threaded
 
@@ -88,9 +77,3 @@ TurnedBy aim tid (threaded.Refused a) after b moves c = RefusedBy aim b moves c
 TurnedBy aim tid threaded.Failed after b moves c = FailedBy aim b moves c
 TurnedBy aim tid (threaded.Made a) after b moves c = MadeBy aim tid a b moves c
 TurnedBy aim tid (threaded.Waiting why) after b moves c = WaitsBy aim tid why after b moves c
-
--- it was permitted, and went on or has to wait
-abbrev pub WentBy : Option Aim → ℕ → Result Answer Why → Report → Behind → List Move → Behind →
-    Type 0
-WentBy aim tid (Ok a) after b moves c = MadeBy aim tid a b moves c
-WentBy aim tid (Err why) after b moves c = WaitsBy aim tid why after b moves c

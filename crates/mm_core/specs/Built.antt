@@ -1,17 +1,10 @@
 -- Which line makes a world, and which lines may take memory.
 -- Profile, "Script".
 use Rattle.std.specs.Prelude.{ℕ, Bool, true, false, nat_le, length}
-use Rattle.mm_types.specs.declared.events.Event.{Event}
+use Rattle.mm_types.specs.{Event}
 use Rattle.mm_types.specs.declared.events.Event.TheVariants as line
-use Rattle.mm_world.specs.World.{WorldOf}
-use Rattle.mm_world.specs.Processes.{grow, most_processes, new_file}
-use Rattle.mm_world.specs.Sections.{create, create_file, open_section}
-use Rattle.mm_world.specs.Stack.{stack}
-use Rattle.mm_world.specs.Views.{map_view}
-use Rattle.mm_world.specs.Laws.{is_success}
-use Rattle.mm_calls.specs.Allocating.{allocates_anew}
-use Rattle.mm_calls.specs.Marking.{marks_anew}
-use Rattle.mm_calls.specs.Growth.{grows}
+use Rattle.mm_world.specs.{WorldOf, grow, most_processes, new_file, create, create_file, open_section, stack, map_view, is_success}
+use Rattle.mm_calls.specs.{allocates_anew, marks_anew, grows}
 
 -- the line that tells the machine, which comes first and never again
 abbrev pub is_machine : Event → Bool

@@ -1,17 +1,11 @@
 -- What one line does to the tables, to the bytes and to the store.
 -- Profile, "A run".
 use Rattle.std.specs.Prelude.{◌≡◌, ◌≤◌, ◌⊎◌, ℕ, Bool, true, false, Option}
-use Rattle.mm_types.specs.declared.answers.Answer.{Answer}
-use Rattle.mm_types.specs.declared.events.Event.{Event}
-use Rattle.mm_types.specs.declared.moves.LineKind.{LineKind}
+use Rattle.mm_types.specs.{Answer, Event, LineKind, Key}
 use Rattle.mm_types.specs.declared.moves.LineKind.TheVariants as kind_of
-use Rattle.mm_types.specs.declared.numbers.Key.{Key}
-use Rattle.mm_world.specs.World.{Page}
-use Rattle.mm_world.specs.Contents.{Tables, world_with}
-use Rattle.mm_pages.specs.Store.{StoreOf}
-use Rattle.mm_pages.specs.Reports.{begun}
-use Rattle.mm_tables.specs.Fits.{FitsTables, key_bytes}
-use Rattle.mm_tables.specs.References.{MadeAtMost}
+use Rattle.mm_world.specs.{Page, Tables, world_with}
+use Rattle.mm_pages.specs.{StoreOf, begun}
+use Rattle.mm_tables.specs.{FitsTables, key_bytes, MadeAtMost}
 use Rattle.mm_core.specs.Serving.{AskedFiles, AskedPaging, IsFailure, OneFailed, FlushServed, Named, is_grow, is_fail, FailedBefore}
 use Rattle.mm_core.specs.Stepping.{Stepped}
 

@@ -1,17 +1,12 @@
 -- Threads whose access is of a process that ends wait for nothing any more.
 -- Profile, "Accesses".
 use Rattle.std.specs.Prelude.{◌≡◌, ℕ, Bool, false, ◌==◌, ◌&&◌, nat_lt, if◌then◌else◌, Option, Some, None}
-use Rattle.mm_types.specs.declared.answers.Answer.{Answer}
-use Rattle.mm_types.specs.declared.answers.Wait.{Wait}
+use Rattle.mm_types.specs.{Answer, Wait, Event}
 use Rattle.mm_types.specs.declared.answers.Wait.TheVariants as wait
-use Rattle.mm_types.specs.declared.events.Event.{Event}
 use Rattle.mm_types.specs.declared.events.Event.TheVariants as event
-use Rattle.mm_world.specs.World.{WorldOf, KeptOf}
+use Rattle.mm_world.specs.{WorldOf, KeptOf, kept_by, ends_none, Tables}
 use Rattle.mm_world.specs.Report.{Report}
-use Rattle.mm_world.specs.Step.{kept_by}
-use Rattle.mm_world.specs.Writes.{ends_none}
-use Rattle.mm_world.specs.Contents.{Tables}
-use Rattle.mm_pages.specs.Store.{StoreOf, changed}
+use Rattle.mm_pages.specs.{StoreOf, changed}
 
 -- the access is of this process
 abbrev pub is_of_process : ℕ → Option KeptOf → Bool

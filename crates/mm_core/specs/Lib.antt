@@ -13,3 +13,25 @@ pub mod Over
 pub mod Promise
 pub mod LinePromises
 pub mod AccessPromises
+pub use Accessing.{Accessed, Admits, IsHad, Marks, Refuses}
+pub use Stepping.{Stepped, asks_frames}
+pub use Deciding.{Decided, Devices, Idle, KeepsTables, LineBegins}
+pub use Built.{is_machine, takes_memory}
+pub use Shown.{line_number, loans, report, world, world_behind}
+pub use Serving.{AskedBeside, FailedBefore, FileWrites, FlushHolds, FlushServed, HasFailed}
+pub use Serving.{IsFailure, Named, OneFailed, WritesBlocks, resumed_thread}
+pub use Pending.{AccessMade, Permitted, Waits}
+pub use Forgetting.{EndsWaits, Forgot, is_of_process, waited, waits_but}
+pub use Answering.{Answered, AnswersAccess, FailedBy, MadeBy, RefusedBy, TurnedBy, WaitsBy, aim_in}
+pub use Lining.{Lined}
+pub use Noting.{EachMove, Halted, HaltedIn, Idles, IdlesBut, IdlesIn, IsCutLine, IsOneWay, LineWent}
+pub use Noting.{Marked, MarkedAs, MarkedIn, TellsLine, idle_but, idle_left, is_later, keeps_keys}
+pub use Noting.{takes_away}
+pub use Over.{AskedBesideOver, DecidedOver, FitsOver, HaltedOver, IdleOver, KeepsOver, MarkedOver}
+pub use Over.{PassesOver, aim_over, world_over}
+pub use Promise.{Breaks, Decides, NotesMoves, Scene, StaysSound, ToldBeside, scene, scene_of}
+pub use LinePromises.{AnswersLine, HaltsLine, IsNext, MakesLine, StartsLine, TakesLine}
+pub use AccessPromises.{AccessDone, AccessEnded, BeginsThread, CanAccess, CanTurn, EndsAccess}
+pub use AccessPromises.{ReadyFor, TurnsAccess, access_line, aim_for, row_need}
+pub use declared.threads.Threaded.{Threaded}
+pub use declared.worlds.World.{World}

@@ -1,12 +1,10 @@
 -- What the lines ask and promise of tables and store together.
 use Rattle.std.specs.Prelude.{◌≡◌, ◌≤◌, ℕ, ◌+◌, true, false, Result, IfOk, OnErr, IsOk}
-use Rattle.mm_types.specs.declared.answers.Answer.{Answer}
+use Rattle.mm_types.specs.{Answer, Event, NoMemory}
 use Rattle.mm_types.specs.declared.answers.Wait.TheVariants as wait
-use Rattle.mm_types.specs.declared.events.Event.{Event}
-use Rattle.mm_types.specs.declared.faults.NoMemory.{NoMemory}
-use Rattle.mm_script.specs.Printed.{IsWellFormed}
-use Rattle.mm_world.specs.Contents.{Tables, blank}
-use Rattle.mm_pages.specs.declared.pages.Pages.{Ghosts as PagesGhosts}
+use Rattle.mm_script.specs.{IsWellFormed}
+use Rattle.mm_world.specs.{Tables, blank}
+use Rattle.mm_pages.specs.{Ghosts as PagesGhosts}
 use Rattle.mm_core.specs.Built.{is_machine, takes_memory}
 use Rattle.mm_core.specs.Deciding.{LineBegins}
 use Rattle.mm_core.specs.Forgetting.{EndsWaits}
@@ -44,6 +42,14 @@ module _ {G : Type 0} (p : PagesGhosts G) where
     pub halted : HaltedOver p line g h
 
   -- it was decided, which gave this answer, or it ran out of memory, as only lines do that take it
+  pub record MakesLine (e : Event) (line : ℕ) (t : Tables) (g : G) (result : Result Answer NoMemory)
+      (after : Tables) (h : G) : Type 0 where
+    pub done : IfOk result (λ a. AnswersLine e line t g a after h)
+    pub broke : OnErr result (HaltsLine line t g after h)
+    pub no_memory : takes_memory blank t e ≡ false → IsOk result
+    pub loans : p.loans h ≡ p.loans g
+
+  -- the same with all else that is told of a line
   pub record TakesLine {T : Type 0} (e : Event) (line : ℕ) (t : Tables) (g : G) (given : T → Answer)
       (result : Result T NoMemory) (after : Tables) (h : G) : Type 0 where
     pub done : IfOk result (λ v. AnswersLine e line t g (given v) after h)

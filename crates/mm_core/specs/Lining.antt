@@ -1,16 +1,13 @@
 -- A line's piece of the log, over a store that pages.
 -- Profile, "Logs of moves".
 use Rattle.std.specs.Prelude.{◌≡◌, ℕ, List, ◌∷◌}
-use Rattle.mm_types.specs.declared.answers.Answer.{Answer}
-use Rattle.mm_types.specs.declared.events.Event.{Event}
-use Rattle.mm_types.specs.declared.moves.Move.{Move}
+use Rattle.mm_types.specs.{Answer, Event, Move}
 use Rattle.mm_types.specs.declared.moves.Move.TheVariants as move
 use Rattle.mm_world.specs.World.{World}
 use Rattle.mm_world.specs.Report.{Report}
-use Rattle.mm_life.specs.Walks.{waits_through}
+use Rattle.mm_life.specs.{waits_through}
 use Rattle.mm_pages.specs.Behind.{Behind}
-use Rattle.mm_paging.specs.Kinds.{kind_of_line}
-use Rattle.mm_paging.specs.Lines.{Does, ages_of_line, waits_of_line, with_line}
+use Rattle.mm_paging.specs.{kind_of_line, Does, ages_of_line, waits_of_line, with_line}
 
 -- Its `at`, which numbers it, and after it the moves that the definitions ask of it, with ages and
 -- waits (what `Line` of mm_paging says beside what follows from any piece that a store's calls

@@ -1,29 +1,17 @@
 -- What a line notes: its `at` and the moves after it, before what its store keeps at all times is
 -- put beside them. Profile, "Logs of moves".
 use Rattle.std.specs.Prelude.{◌≡◌, ◌⊎◌, ℕ, Bool, true, false, List, [], ◌∷◌, Option, if◌then◌else◌, nat_lt, ◌==◌, ◌&&◌}
-use Rattle.mm_types.specs.declared.answers.Answer.{Answer}
-use Rattle.mm_types.specs.declared.events.Event.{Event}
-use Rattle.mm_types.specs.declared.moves.LineKind.{LineKind}
+use Rattle.mm_types.specs.{Answer, Event, LineKind, Move, Key}
 use Rattle.mm_types.specs.declared.moves.LineKind.TheVariants as kind
-use Rattle.mm_types.specs.declared.moves.Move.{Move}
 use Rattle.mm_types.specs.declared.moves.Move.TheVariants as move
-use Rattle.mm_types.specs.declared.numbers.Key.{Key}
-use Rattle.mm_life.specs.Logs.{Grew}
-use Rattle.mm_life.specs.MoveText.{AreMoves, spelled_moves}
-use Rattle.mm_life.specs.Replay.{Replays}
-use Rattle.mm_world.specs.World.{Page, World}
+use Rattle.mm_life.specs.{Grew, AreMoves, spelled_moves, Replays, Waiting, Idle, waits_through}
+use Rattle.mm_world.specs.{Page, kept_by, Tables, world_with}
+use Rattle.mm_world.specs.World.{World}
 use Rattle.mm_world.specs.Report.{Report}
-use Rattle.mm_world.specs.Step.{kept_by}
-use Rattle.mm_world.specs.Contents.{Tables, world_with}
-use Rattle.mm_life.specs.Waits.{Waiting, Idle}
-use Rattle.mm_life.specs.Walks.{waits_through}
-use Rattle.mm_pages.specs.Store.{StoreOf, changed}
+use Rattle.mm_pages.specs.{StoreOf, changed, told_of, told_through, Makes, AllTurn}
 use Rattle.mm_pages.specs.Behind.{Behind}
-use Rattle.mm_pages.specs.Told.{told_of, told_through}
-use Rattle.mm_pages.specs.Housekeeping.{Makes, AllTurn}
-use Rattle.mm_paging.specs.Kinds.{kind_of_line}
-use Rattle.mm_paging.specs.Lines.{Does, Traffic, asks_beside, with_line, ages_of_line, waits_of_line}
-use Rattle.mm_tables.specs.Fits.{key_bytes}
+use Rattle.mm_paging.specs.{kind_of_line, Does, Traffic, asks_beside, with_line, ages_of_line, waits_of_line}
+use Rattle.mm_tables.specs.{key_bytes}
 use Rattle.mm_core.specs.Forgetting.{is_of_process}
 
 -- ---- keys come to be, or go

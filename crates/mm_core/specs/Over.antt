@@ -1,19 +1,13 @@
 -- The words of lines, said of tables and of the store beside them.
 -- Profile, "A run".
 use Rattle.std.specs.Prelude.{ℕ, List, Option}
-use Rattle.mm_types.specs.declared.answers.Answer.{Answer}
-use Rattle.mm_types.specs.declared.events.Event.{Event}
-use Rattle.mm_types.specs.declared.moves.Move.{Move}
-use Rattle.mm_types.specs.declared.numbers.Pid.{Pid}
+use Rattle.mm_types.specs.{Answer, Event, Move, Pid}
 use Rattle.mm_world.specs.World.{World}
-use Rattle.mm_world.specs.Contents.{Tables, world_with}
-use Rattle.mm_world.specs.Access.{Attempt}
-use Rattle.mm_pages.specs.Accesses.{Aim}
+use Rattle.mm_world.specs.{Tables, world_with, Attempt}
+use Rattle.mm_pages.specs.{Aim, PassesIn, Ghosts as PagesGhosts}
 use Rattle.mm_pages.specs.Behind.{Behind}
-use Rattle.mm_pages.specs.Passing.{PassesIn}
-use Rattle.mm_pages.specs.declared.pages.Pages.{Ghosts as PagesGhosts}
-use Rattle.mm_paging.specs.Lines.{HoldsBeside}
-use Rattle.mm_tables.specs.Fits.{FitsTables, key_bytes}
+use Rattle.mm_paging.specs.{HoldsBeside}
+use Rattle.mm_tables.specs.{FitsTables, key_bytes}
 use Rattle.mm_core.specs.Serving.{AskedBeside}
 use Rattle.mm_core.specs.Deciding.{KeepsTables, Decided, Idle}
 use Rattle.mm_core.specs.Noting.{MarkedIn, HaltedIn}

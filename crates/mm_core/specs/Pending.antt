@@ -1,14 +1,10 @@
 -- Accesses of threads, which may have to wait.
 -- Profile, "Accesses".
 use Rattle.std.specs.Prelude.{◌≡◌, ℕ, Bool, true, false, Some, None}
-use Rattle.mm_types.specs.declared.answers.Answer.{Answer}
-use Rattle.mm_types.specs.declared.answers.Why.{Why}
+use Rattle.mm_types.specs.{Answer, Why}
 use Rattle.mm_world.specs.World.{World}
-use Rattle.mm_world.specs.Access.{Attempt, access}
-use Rattle.mm_world.specs.Failure.{Need, pending}
-use Rattle.mm_world.specs.Step.{need_at}
-use Rattle.mm_pages.specs.Store.{StoreOf}
-use Rattle.mm_pages.specs.Reports.{Served}
+use Rattle.mm_world.specs.{Attempt, access, Need, pending, need_at}
+use Rattle.mm_pages.specs.{StoreOf, Served}
 use Rattle.mm_core.specs.declared.threads.Threaded.{Threaded}
 use Rattle.mm_core.specs.declared.threads.Threaded.TheVariants as threaded
 use Rattle.mm_core.specs.Accessing.{Refuses}

@@ -1,25 +1,17 @@
 -- The promise of a world over a store: what it shows, and what one line does to that.
 -- Profile, "A run".
 use Rattle.std.specs.Prelude.{◌≡◌, ◌≤◌, ◌⊎◌, ℕ, Bool, false, true, List, Option, length}
-use Rattle.mm_types.specs.declared.answers.Answer.{Answer}
+use Rattle.mm_types.specs.{Answer, Event, Move, Key}
 use Rattle.mm_types.specs.declared.answers.Wait.TheVariants as wait
-use Rattle.mm_types.specs.declared.events.Event.{Event}
-use Rattle.mm_types.specs.declared.moves.Move.{Move}
-use Rattle.mm_types.specs.declared.numbers.Key.{Key}
-use Rattle.mm_life.specs.Logs.{Grew}
-use Rattle.mm_life.specs.MoveText.{AreMoves, spelled_moves}
-use Rattle.mm_life.specs.Replay.{Replays}
-use Rattle.mm_world.specs.World.{Page, World}
-use Rattle.mm_world.specs.Charge.{charge, limit}
-use Rattle.mm_world.specs.Contents.{Tables, tables_of, world_with}
+use Rattle.mm_life.specs.{Grew, AreMoves, spelled_moves, Replays}
+use Rattle.mm_world.specs.{Page, charge, limit, Tables, tables_of, world_with}
+use Rattle.mm_world.specs.World.{World}
 use Rattle.mm_world.specs.Report.{Report}
-use Rattle.mm_blocks.specs.Devices.{DeviceOf}
+use Rattle.mm_blocks.specs.{DeviceOf}
 use Rattle.mm_pages.specs.Behind.{Behind}
-use Rattle.mm_pages.specs.Store.{StoreOf}
-use Rattle.mm_pages.specs.declared.pages.Pages.{Ghosts as PagesGhosts}
-use Rattle.mm_paging.specs.Lines.{Line, Broken}
-use Rattle.mm_tables.specs.Fits.{key_bytes}
-use Rattle.mm_tables.specs.References.{IsTidy}
+use Rattle.mm_pages.specs.{StoreOf, Ghosts as PagesGhosts}
+use Rattle.mm_paging.specs.{Line, Broken}
+use Rattle.mm_tables.specs.{key_bytes, IsTidy}
 use Rattle.mm_core.specs.declared.worlds.World.{World as Kept}
 use Rattle.mm_core.specs.Forgetting.{EndsWaits}
 use Rattle.mm_core.specs.Serving.{AskedBeside, AskedFiles, AskedPaging, Named}

@@ -1,26 +1,17 @@
 -- What a line does to devices, and what it leaves in blocks.
 -- Profile, "A run".
 use Rattle.std.specs.Prelude.{◌≡◌, ◌<◌, ◌⊎◌, ℕ, ◌+◌, ◌-◌, Bool, true, false, List, ◌++◌, map, Option, Some, None, slice_get}
-use Rattle.mm_types.specs.declared.answers.Answer.{Answer}
+use Rattle.mm_types.specs.{Answer, Event, View, holds_page, Device}
 use Rattle.mm_types.specs.declared.answers.Answer.TheVariants as answer
 use Rattle.mm_types.specs.declared.codes.Raise.TheVariants as raise
 use Rattle.mm_types.specs.declared.devices.Direction.TheVariants as way
-use Rattle.mm_types.specs.declared.events.Event.{Event}
 use Rattle.mm_types.specs.declared.events.Event.TheVariants as line
-use Rattle.mm_types.specs.declared.views.View.{View}
 use Rattle.mm_types.specs.declared.views.Kind.TheVariants as kind
-use Rattle.mm_types.specs.Address.{holds_page}
-use Rattle.mm_world.specs.World.{Page, World, RegionOf, ProcessOf}
-use Rattle.mm_world.specs.Find.{Found, process_of, area_at, shared_page}
-use Rattle.mm_world.specs.Failure.{wait_failed}
-use Rattle.mm_world.specs.Report.{Report, Tally}
-use Rattle.mm_world.specs.Views.{flushed_view, flushed_range}
-use Rattle.mm_blocks.specs.Devices.{DeviceOf, Call, AllServed, CallFailed, KeepsOthers, logged_call}
-use Rattle.mm_pages.specs.Passing.{writes_from, last_write}
-use Rattle.mm_pages.specs.Tallies.{tallied}
-use Rattle.mm_pages.specs.Reports.{no_calls, called, with_named, with_named_paging}
-use Rattle.mm_blocks.specs.declared.device_calls.NamedCalls.{NamedCalls}
-use Rattle.mm_types.specs.declared.devices.Device.{Device}
+use Rattle.mm_world.specs.{Page, RegionOf, ProcessOf, Found, process_of, area_at, shared_page, wait_failed, Tally, flushed_view, flushed_range}
+use Rattle.mm_world.specs.World.{World}
+use Rattle.mm_world.specs.Report.{Report}
+use Rattle.mm_blocks.specs.{DeviceOf, Call, AllServed, CallFailed, KeepsOthers, logged_call, NamedCalls}
+use Rattle.mm_pages.specs.{writes_from, last_write, tallied, no_calls, called, with_named, with_named_paging}
 use Rattle.mm_types.specs.declared.devices.Device.TheVariants as device_of
 
 -- the reads and writes that a line asked of a device: those not named stand in its log, where that

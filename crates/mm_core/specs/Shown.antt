@@ -1,14 +1,14 @@
 -- What a world over a store shows: the world of the definitions, and what its store shows beside.
 -- Profile, "A run".
 use Rattle.std.specs.Prelude.{ℕ, List}
-use Rattle.mm_types.specs.Outside.{Loans}
-use Rattle.mm_world.specs.World.{Page, World}
-use Rattle.mm_world.specs.Contents.{world_with}
+use Rattle.mm_types.specs.{Loans}
+use Rattle.mm_world.specs.{Page, world_with}
+use Rattle.mm_world.specs.World.{World}
 use Rattle.mm_world.specs.Report.{Report}
 use Rattle.mm_pages.specs.Behind.{Behind}
-use Rattle.mm_pages.specs.declared.pages.Pages.{Ghosts as PagesGhosts}
-use Rattle.mm_blocks.specs.Devices.{DeviceOf}
-use Rattle.mm_tables.specs.Fits.{key_bytes}
+use Rattle.mm_pages.specs.{Ghosts as PagesGhosts}
+use Rattle.mm_blocks.specs.{DeviceOf}
+use Rattle.mm_tables.specs.{key_bytes}
 use Rattle.mm_core.specs.declared.worlds.World.{World as Kept}
 
 module _ {G : Type 0} {g : PagesGhosts G} where

@@ -1,13 +1,12 @@
 -- A line was decided as the definition of worlds says.
 -- Profile, "A run".
 use Rattle.std.specs.Prelude.{◌≡◌, ◌≢◌, Bool, true, false}
-use Rattle.mm_types.specs.declared.answers.Answer.{Answer}
+use Rattle.mm_types.specs.{Answer, Event}
 use Rattle.mm_types.specs.declared.answers.Answer.TheVariants as answer
-use Rattle.mm_types.specs.declared.events.Event.{Event}
 use Rattle.mm_types.specs.declared.events.Event.TheVariants as line
 use Rattle.mm_world.specs.World.{World}
 use Rattle.mm_world.specs.Report.{Report}
-use Rattle.mm_world.specs.Step.{step, unpaged}
+use Rattle.mm_world.specs.{step, unpaged}
 
 -- lines that ask for requests and for counts of frames, of which unpaged memory has none
 abbrev pub asks_frames : Event → Bool

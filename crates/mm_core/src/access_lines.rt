@@ -1,18 +1,13 @@
-ghost use Rattle.std.specs.Prelude.{◌≡◌, ◌≤◌, ◌+◌, ◌%◌, true, false, Option, length};
+ghost use Rattle.std.specs.Prelude.{◌≡◌, ◌≤◌, ◌+◌, ◌%◌, true, false, Option, IfSome, IfNone, length};
 ghost use Rattle.mm_types.specs.declared.events.Event.TheVariants as event;
 ghost use Rattle.mm_types.specs.declared.protections.Access.TheVariants as access_kind;
-ghost use Rattle.mm_types.specs.declared.numbers.Key.{Key};
-ghost use Rattle.mm_types.specs.Address.{page_of};
-ghost use Rattle.mm_world.specs.World.{Page};
-ghost use Rattle.mm_world.specs.Access.{ReadOf, WriteOf, Execute};
-ghost use Rattle.mm_pages.specs.Conditions.{place_at, touch, copying};
-ghost use Rattle.mm_pages.specs.Store.{StoreOf};
-ghost use Rattle.mm_tables.specs.Fits.{FitsTables};
+ghost use Rattle.mm_types.specs.{Key, page_of};
+ghost use Rattle.mm_world.specs.{Page, Attempt, ReadOf, WriteOf, Execute, access_of};
+ghost use Rattle.mm_pages.specs.{place_at, touch, copying, StoreOf};
+ghost use Rattle.mm_tables.specs.{FitsTables};
 ghost use Rattle.mm_core.specs.Accessing.{Admits, Marks};
-ghost use Rattle.mm_core.specs.Lining.{Lined};
-ghost use Rattle.mm_core.specs.Over.{DecidedOver, PassesOver, world_over};
-ghost use Rattle.mm_core.specs.LinePromises.{IsNext};
-ghost use Rattle.mm_core.specs.AccessPromises.{LieInPage, CanAccess, AccessDone};
+ghost use Rattle.mm_core.specs.LinePromises.{AnswersLine, IsNext};
+ghost use Rattle.mm_core.specs.AccessPromises.{LieInPage, CanAccess, AccessDone, EntersLine, access_line, row_need};
 
 use crate::beginning::begin_access;
 use crate::fetching::{fetch, put, put_copy, read_bytes};
@@ -130,6 +125,63 @@ pub(crate) fn write_to_copy<G: Pages>(
     }
 }
 
+/// Writes bytes, which the row of their page permits, where they are or to a copy.
+pub(crate) fn write_row<G: Pages>(
+    t: &mut Tables,
+    g: &mut G,
+    pid: Pid,
+    addr: u32,
+    row: CommittedRow,
+    bytes: &ByteBuf,
+    answer: &mut Answer,
+)
+    requires can { CanAccess G.Pages access_kind.Write t.old pid addr row
+        (row_need access_kind.Write row (place_at pid (page_of addr))) g.old }
+    requires inside { addr % 4096 + length bytes.now ≤ 4096 }
+    ensures done { AccessDone G.Pages (WriteOf bytes.now) pid addr
+        (row_need access_kind.Write row (place_at pid (page_of addr))) t.old g.old answer.new
+        t.new g.new }
+    ensures loans { G.loans g.new ≡ G.loans g.old }
+{
+    if row.copies {
+        write_to_copy(t, g, pid, addr, row, bytes, answer)
+    } else {
+        write_at(t, g, pid, addr, row, bytes, answer)
+    }
+}
+
+/// Begins the line of an access, and tells the row of its page that permits it. Of one that is
+/// refused the answer is written.
+fn enter<G: Pages>(
+    t: &mut Tables,
+    g: &mut G,
+    line: u32,
+    pid: Pid,
+    addr: u32,
+    wanted: Access,
+    answer: &mut Answer,
+) -> Option<CommittedRow>
+    requires next { IsNext G.Pages line t.old g.old }
+    ensures refused { IfNone result ((what : Attempt) → access_of what ≡ wanted →
+        AnswersLine G.Pages (access_line pid addr what) line t.old g.old answer.new t.new g.new) }
+    ensures entered { IfSome result
+        (λ row. EntersLine G.Pages wanted line pid addr row t.old g.old t.new g.new) }
+    ensures loans { G.loans g.new ≡ G.loans g.old }
+{
+    t.sound();
+    if !begin_access(t, g, line, pid) {
+        *answer = Answer::Error(Code::InvalidHandle);
+        return None;
+    }
+    match admit(t, pid, addr, wanted) {
+        Ok(row) => Some(row),
+        Err(why) => {
+            *answer = Answer::Raised(why);
+            None
+        }
+    }
+}
+
 /// Decides a `read` line.
 pub(crate) fn read_line<G: Pages>(
     t: &mut Tables,
@@ -144,24 +196,13 @@ pub(crate) fn read_line<G: Pages>(
     requires some { 1 ≤ len }
     requires few { len ≤ 64 }
     requires inside { addr % 4096 + len ≤ 4096 }
-    ensures decided { DecidedOver G.Pages (event.Read pid addr len) line t.old g.old answer.new
+    ensures done { AnswersLine G.Pages (event.Read pid addr len) line t.old g.old answer.new
         t.new g.new }
-    ensures passes { PassesOver G.Pages
-        (Lined (world_over G.Pages t.old g.old) (event.Read pid addr len) line answer.new
-        (world_over G.Pages t.new g.new) (G.store g.new).report) g.old g.new }
     ensures loans { G.loans g.new ≡ G.loans g.old }
 {
-    t.sound();
-    if !begin_access(t, g, line, pid) {
-        *answer = Answer::Error(Code::InvalidHandle);
-        return;
-    }
-    let row = match admit(t, pid, addr, Access::Read) {
-        Ok(row) => row,
-        Err(why) => {
-            *answer = Answer::Raised(why);
-            return;
-        }
+    let row = match enter(t, g, line, pid, addr, Access::Read, answer) {
+        Some(row) => row,
+        None => return,
     };
     read_at(t, g, pid, addr, row, len, answer);
 }
@@ -178,30 +219,15 @@ pub(crate) fn write_line<G: Pages>(
 )
     requires next { IsNext G.Pages line t.old g.old }
     requires inside { addr % 4096 + length bytes.now ≤ 4096 }
-    ensures decided { DecidedOver G.Pages (event.Write pid addr bytes.now) line t.old g.old
+    ensures done { AnswersLine G.Pages (event.Write pid addr bytes.now) line t.old g.old
         answer.new t.new g.new }
-    ensures passes { PassesOver G.Pages
-        (Lined (world_over G.Pages t.old g.old) (event.Write pid addr bytes.now) line answer.new
-        (world_over G.Pages t.new g.new) (G.store g.new).report) g.old g.new }
     ensures loans { G.loans g.new ≡ G.loans g.old }
 {
-    t.sound();
-    if !begin_access(t, g, line, pid) {
-        *answer = Answer::Error(Code::InvalidHandle);
-        return;
-    }
-    let row = match admit(t, pid, addr, Access::Write) {
-        Ok(row) => row,
-        Err(why) => {
-            *answer = Answer::Raised(why);
-            return;
-        }
+    let row = match enter(t, g, line, pid, addr, Access::Write, answer) {
+        Some(row) => row,
+        None => return,
     };
-    if row.copies {
-        write_to_copy(t, g, pid, addr, row, bytes, answer)
-    } else {
-        write_at(t, g, pid, addr, row, bytes, answer)
-    }
+    write_row(t, g, pid, addr, row, bytes, answer);
 }
 
 /// Decides an `exec` line.
@@ -214,24 +240,13 @@ pub(crate) fn exec_line<G: Pages>(
     answer: &mut Answer,
 )
     requires next { IsNext G.Pages line t.old g.old }
-    ensures decided { DecidedOver G.Pages (event.Exec pid addr) line t.old g.old answer.new
-        t.new g.new }
-    ensures passes { PassesOver G.Pages
-        (Lined (world_over G.Pages t.old g.old) (event.Exec pid addr) line answer.new
-        (world_over G.Pages t.new g.new) (G.store g.new).report) g.old g.new }
+    ensures done { AnswersLine G.Pages (event.Exec pid addr) line t.old g.old answer.new t.new
+        g.new }
     ensures loans { G.loans g.new ≡ G.loans g.old }
 {
-    t.sound();
-    if !begin_access(t, g, line, pid) {
-        *answer = Answer::Error(Code::InvalidHandle);
-        return;
-    }
-    let row = match admit(t, pid, addr, Access::Execute) {
-        Ok(row) => row,
-        Err(why) => {
-            *answer = Answer::Raised(why);
-            return;
-        }
+    let row = match enter(t, g, line, pid, addr, Access::Execute, answer) {
+        Some(row) => row,
+        None => return,
     };
     execute_at(t, g, pid, addr, row, answer);
 }

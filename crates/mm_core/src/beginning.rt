@@ -1,9 +1,8 @@
 ghost use Rattle.std.specs.Prelude.{◌≡◌, ◌+◌, true, is_some, if◌then◌else◌};
 ghost use Rattle.mm_types.specs.declared.moves.LineKind.TheVariants as line_kind;
 ghost use Rattle.mm_types.specs.declared.moves.Move.TheVariants as move;
-ghost use Rattle.mm_pages.specs.Housekeeping.{OneMove};
-ghost use Rattle.mm_world.specs.Find.{process_of};
-ghost use Rattle.mm_world.specs.Contents.{Tables};
+ghost use Rattle.mm_pages.specs.{OneMove};
+ghost use Rattle.mm_world.specs.{process_of, Tables};
 ghost use Rattle.mm_core.specs.Deciding.{is_plain_kind};
 ghost use Rattle.mm_core.specs.LinePromises.{StartsLine};
 ghost use Rattle.mm_core.specs.Over.{FitsOver, PassesOver};

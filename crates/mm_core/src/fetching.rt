@@ -1,15 +1,9 @@
 ghost use Rattle.std.specs.Prelude.{◌≡◌, ◌≤◌, ◌%◌, true, false, Some, None, IfOk, OnOk, OnErr, length, take, drop};
-ghost use Rattle.mm_types.specs.Address.{page_of, page_size};
-ghost use Rattle.mm_types.specs.Protection.{readwrite};
-ghost use Rattle.mm_world.specs.World.{ProcessOf};
-ghost use Rattle.mm_world.specs.Find.{process_of};
-ghost use Rattle.mm_world.specs.Failure.{same_key};
-ghost use Rattle.mm_world.specs.Keys.{Committed, committed_at, private_key, set_row};
-ghost use Rattle.mm_world.specs.Access.{written};
-ghost use Rattle.mm_pages.specs.Store.{changed};
-ghost use Rattle.mm_pages.specs.Reports.{IsBegun, Ends, eased};
-ghost use Rattle.mm_pages.specs.Conditions.{place_at, touch, copying, IsReady};
-ghost use Rattle.mm_tables.specs.Fits.{key_bytes};
+ghost use Rattle.mm_types.specs.{page_of, page_size, readwrite};
+ghost use Rattle.mm_world.specs.{ProcessOf, process_of, same_key, Committed, committed_at, private_key, set_row, written};
+ghost use Rattle.mm_pages.specs.{changed, IsBegun, eased, place_at, touch, copying, IsReady};
+ghost use Rattle.mm_pages.specs.Reports.{Ends};
+ghost use Rattle.mm_tables.specs.{key_bytes};
 ghost use Rattle.mm_core.specs.AccessPromises.{LieInPage, CanReach, CanCopy, HasOwn, Touched, Copied};
 
 use mm_pages::Pages;

@@ -1,5 +1,5 @@
 ghost use Rattle.std.specs.Prelude.{◌≡◌};
-ghost use Rattle.mm_life.specs.Logs.{Flushed};
+ghost use Rattle.mm_life.specs.{Flushed};
 
 use crate::worlds::World;
 use mm_pages::FlushesMoves;

@@ -1,5 +1,5 @@
 ghost use Rattle.std.specs.Prelude.{◌≡◌, false};
-ghost use Rattle.mm_world.specs.Step.{kept_by};
+ghost use Rattle.mm_world.specs.{kept_by};
 ghost use Rattle.mm_core.specs.Forgetting.{Forgot, is_of_process, waits_but, waited};
 ghost use Rattle.mm_core.specs.Noting.{IdlesIn, IdlesBut};
 

@@ -1,13 +1,8 @@
-ghost use Rattle.std.specs.Prelude.{◌≡◌, ◌≤◌, false, length, nat_le, IfOk, OnErr, IsOk};
+ghost use Rattle.std.specs.Prelude.{◌≡◌, ◌≤◌, false, IfOk};
 ghost use Rattle.mm_types.specs.declared.events.Event.TheVariants as event;
-ghost use Rattle.mm_world.specs.Contents.{blank};
-ghost use Rattle.mm_world.specs.Laws.{is_success};
-ghost use Rattle.mm_world.specs.Processes.{grow, most_processes};
-ghost use Rattle.mm_calls.specs.Allocating.{allocates_anew};
-ghost use Rattle.mm_calls.specs.Marking.{marks_anew};
 ghost use Rattle.mm_core.specs.Forgetting.{EndsWaits};
 ghost use Rattle.mm_core.specs.Over.{AskedBesideOver};
-ghost use Rattle.mm_core.specs.LinePromises.{AnswersLine, HaltsLine, IsNext};
+ghost use Rattle.mm_core.specs.LinePromises.{AnswersLine, IsNext, MakesLine};
 
 use crate::beginning::{begin, begin_release};
 use crate::forgetting::forget_waits;
@@ -30,11 +25,7 @@ pub(crate) fn process_line<G: Pages>(
     requires ordered { min ≤ max }
     requires some { 1 ≤ max }
     requires most { max ≤ 65536 }
-    ensures done { IfOk result (λ a. AnswersLine G.Pages (event.Process min max) line t.old g.old
-        a t.new g.new) }
-    ensures broke { OnErr result (HaltsLine G.Pages line t.old g.old t.new g.new) }
-    ensures no_memory { nat_le (length t.old.processes) most_processes ≡ false → IsOk result }
-    ensures loans { G.loans g.new ≡ G.loans g.old }
+    ensures { MakesLine G.Pages (event.Process min max) line t.old g.old result t.new g.new }
 {
     t.sound();
     let pid = match t.next_pid() {
@@ -75,11 +66,8 @@ pub(crate) fn alloc_line<G: Pages>(
     prot: u32,
 ) -> Result<Answer, NoMemory>
     requires next { IsNext G.Pages line t.old g.old }
-    ensures done { IfOk result (λ a. AnswersLine G.Pages (event.Alloc pid addr size form prot)
-        line t.old g.old a t.new g.new) }
-    ensures broke { OnErr result (HaltsLine G.Pages line t.old g.old t.new g.new) }
-    ensures no_memory { allocates_anew blank t.old pid.0 addr size form prot ≡ false → IsOk result }
-    ensures loans { G.loans g.new ≡ G.loans g.old }
+    ensures { MakesLine G.Pages (event.Alloc pid addr size form prot) line t.old g.old result t.new
+        g.new }
 {
     t.sound();
     begin(g, line, LineKind::Call);
@@ -117,11 +105,8 @@ pub(crate) fn protect_line<G: Pages>(
     prot: u32,
 ) -> Result<Answer, NoMemory>
     requires next { IsNext G.Pages line t.old g.old }
-    ensures done { IfOk result (λ a. AnswersLine G.Pages (event.Protect pid addr size prot) line
-        t.old g.old a t.new g.new) }
-    ensures broke { OnErr result (HaltsLine G.Pages line t.old g.old t.new g.new) }
-    ensures no_memory { marks_anew t.old pid.0 addr size prot ≡ false → IsOk result }
-    ensures loans { G.loans g.new ≡ G.loans g.old }
+    ensures { MakesLine G.Pages (event.Protect pid addr size prot) line t.old g.old result t.new
+        g.new }
 {
     t.sound();
     begin(g, line, LineKind::Call);
@@ -165,13 +150,9 @@ pub(crate) fn grow_line<G: Pages>(
 ) -> Result<Answer, NoMemory>
     requires next { IsNext G.Pages line t.old g.old }
     requires some { 1 ≤ n }
-    ensures done { IfOk result (λ a. AnswersLine G.Pages (event.Grow n) line t.old g.old a t.new
-        g.new) }
-    ensures broke { OnErr result (HaltsLine G.Pages line t.old g.old t.new g.new) }
-    ensures no_memory { is_success (grow t.old n).answer ≡ false → IsOk result }
+    ensures made { MakesLine G.Pages (event.Grow n) line t.old g.old result t.new g.new }
     ensures beside { G.unpaged ≡ false →
         IfOk result (λ a. AskedBesideOver G.Pages t.old (event.Grow n) a g.old g.new) }
-    ensures loans { G.loans g.new ≡ G.loans g.old }
 {
     grow_paging(t, g, line, n)
 }

@@ -1,16 +1,10 @@
 ghost use Rattle.std.specs.Prelude.{◌≡◌, true, is_some, Option, Some, IfOk, OnOk, IfErr};
-ghost use Rattle.mm_types.specs.declared.numbers.Key.{Key};
+ghost use Rattle.mm_types.specs.{Key, page_of};
 ghost use Rattle.mm_types.specs.declared.answers.Answer.TheVariants as answer;
 ghost use Rattle.mm_types.specs.declared.codes.Raise.TheVariants as raise;
-ghost use Rattle.mm_types.specs.Address.{page_of};
-ghost use Rattle.mm_world.specs.World.{Page, ProcessOf};
-ghost use Rattle.mm_world.specs.Find.{process_of};
-ghost use Rattle.mm_world.specs.Access.{Attempt, access_of};
-ghost use Rattle.mm_world.specs.Contents.{world_with};
-ghost use Rattle.mm_world.specs.Keys.{Committed, committed_at, guard_off};
-ghost use Rattle.mm_pages.specs.Store.{StoreOf};
-ghost use Rattle.mm_pages.specs.Conditions.{place_at};
-ghost use Rattle.mm_tables.specs.Fits.{FitsTables, key_at};
+ghost use Rattle.mm_world.specs.{Page, ProcessOf, process_of, Attempt, access_of, world_with, Committed, committed_at, guard_off};
+ghost use Rattle.mm_pages.specs.{StoreOf, place_at};
+ghost use Rattle.mm_tables.specs.{FitsTables, key_at};
 ghost use Rattle.mm_core.specs.Accessing.{Refuses, Admits};
 ghost use Rattle.mm_core.specs.Deciding.{KeepsTables};
 

@@ -1,12 +1,7 @@
-ghost use Rattle.std.specs.Prelude.{◌≡◌, ◌≤◌, false, IfOk, IsOk, OnErr};
+ghost use Rattle.std.specs.Prelude.{◌≡◌, ◌≤◌, false, IfOk};
 ghost use Rattle.mm_types.specs.declared.events.Event.TheVariants as event;
-ghost use Rattle.mm_world.specs.Contents.{blank};
-ghost use Rattle.mm_world.specs.Laws.{is_success};
-ghost use Rattle.mm_world.specs.Processes.{new_file};
-ghost use Rattle.mm_world.specs.Sections.{create, create_file, open_section};
-ghost use Rattle.mm_world.specs.Views.{map_view};
 ghost use Rattle.mm_core.specs.Over.{AskedBesideOver};
-ghost use Rattle.mm_core.specs.LinePromises.{AnswersLine, HaltsLine, IsNext};
+ghost use Rattle.mm_core.specs.LinePromises.{AnswersLine, IsNext, MakesLine};
 
 use crate::beginning::{begin, begin_release};
 use mm_calls::{close, create, create_file, flush_view, map, new_file, open_section, unmap};
@@ -28,15 +23,11 @@ pub(crate) fn file_line<G: Pages>(
     requires next { IsNext G.Pages line t.old g.old }
     requires few { line ≤ 1000000 }
     requires some { 1 ≤ pages }
-    ensures done { IfOk result (λ a. AnswersLine G.Pages (event.File name.now pages byte) line
-        t.old g.old a t.new g.new) }
-    ensures broke { OnErr result (HaltsLine G.Pages line t.old g.old t.new g.new) }
-    ensures no_memory { is_success (new_file blank t.old name.now pages byte).answer ≡ false
-        → IsOk result }
+    ensures made { MakesLine G.Pages (event.File name.now pages byte) line t.old g.old result t.new
+        g.new }
     ensures beside { G.unpaged ≡ false →
         IfOk result (λ a. AskedBesideOver G.Pages t.old (event.File name.now pages byte) a g.old
         g.new) }
-    ensures loans { G.loans g.new ≡ G.loans g.old }
 {
     t.sound();
     begin(g, line, LineKind::Call);
@@ -56,12 +47,8 @@ pub(crate) fn create_line<G: Pages>(
 ) -> Result<Answer, NoMemory>
     requires next { IsNext G.Pages line t.old g.old }
     requires few { line ≤ 1000000 }
-    ensures done { IfOk result (λ a. AnswersLine G.Pages (event.Create pid size flags name) line
-        t.old g.old a t.new g.new) }
-    ensures broke { OnErr result (HaltsLine G.Pages line t.old g.old t.new g.new) }
-    ensures no_memory { is_success (create blank t.old pid.0 size flags name).answer ≡ false
-        → IsOk result }
-    ensures loans { G.loans g.new ≡ G.loans g.old }
+    ensures { MakesLine G.Pages (event.Create pid size flags name) line t.old g.old result t.new
+        g.new }
 {
     t.sound();
     begin(g, line, LineKind::Call);
@@ -80,12 +67,8 @@ pub(crate) fn create_file_line<G: Pages>(
 ) -> Result<Answer, NoMemory>
     requires next { IsNext G.Pages line t.old g.old }
     requires few { line ≤ 1000000 }
-    ensures done { IfOk result (λ a. AnswersLine G.Pages (event.CreateFile pid file.now flags
-        name) line t.old g.old a t.new g.new) }
-    ensures broke { OnErr result (HaltsLine G.Pages line t.old g.old t.new g.new) }
-    ensures no_memory { is_success (create_file t.old pid.0 file.now flags name).answer ≡ false
-        → IsOk result }
-    ensures loans { G.loans g.new ≡ G.loans g.old }
+    ensures { MakesLine G.Pages (event.CreateFile pid file.now flags name) line t.old g.old result
+        t.new g.new }
 {
     t.sound();
     begin(g, line, LineKind::Call);
@@ -102,12 +85,7 @@ pub(crate) fn open_line<G: Pages>(
 ) -> Result<Answer, NoMemory>
     requires next { IsNext G.Pages line t.old g.old }
     requires few { line ≤ 1000000 }
-    ensures done { IfOk result (λ a. AnswersLine G.Pages (event.Open pid name.now) line t.old
-        g.old a t.new g.new) }
-    ensures broke { OnErr result (HaltsLine G.Pages line t.old g.old t.new g.new) }
-    ensures no_memory { is_success (open_section t.old pid.0 name.now).answer ≡ false
-        → IsOk result }
-    ensures loans { G.loans g.new ≡ G.loans g.old }
+    ensures { MakesLine G.Pages (event.Open pid name.now) line t.old g.old result t.new g.new }
 {
     t.sound();
     begin(g, line, LineKind::Call);
@@ -146,13 +124,8 @@ pub(crate) fn map_line<G: Pages>(
     addr: u32,
 ) -> Result<Answer, NoMemory>
     requires next { IsNext G.Pages line t.old g.old }
-    ensures done { IfOk result (λ a. AnswersLine G.Pages (event.Map pid handle access offset
-        view_length addr) line t.old g.old a t.new g.new) }
-    ensures broke { OnErr result (HaltsLine G.Pages line t.old g.old t.new g.new) }
-    ensures no_memory { is_success (map_view t.old pid.0 handle access offset view_length
-        addr).answer ≡ false
-        → IsOk result }
-    ensures loans { G.loans g.new ≡ G.loans g.old }
+    ensures { MakesLine G.Pages (event.Map pid handle access offset view_length addr) line t.old
+        g.old result t.new g.new }
 {
     t.sound();
     begin(g, line, LineKind::Call);

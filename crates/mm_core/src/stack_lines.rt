@@ -1,10 +1,5 @@
-ghost use Rattle.std.specs.Prelude.{◌≡◌, false, IfOk, IsOk, OnErr};
 ghost use Rattle.mm_types.specs.declared.events.Event.TheVariants as event;
-ghost use Rattle.mm_world.specs.Contents.{blank};
-ghost use Rattle.mm_world.specs.Laws.{is_success};
-ghost use Rattle.mm_world.specs.Stack.{stack};
-ghost use Rattle.mm_calls.specs.Growth.{grows};
-ghost use Rattle.mm_core.specs.LinePromises.{AnswersLine, HaltsLine, IsNext};
+ghost use Rattle.mm_core.specs.LinePromises.{IsNext, MakesLine};
 
 use crate::beginning::begin;
 use mm_calls::{probe, stack};
@@ -25,12 +20,8 @@ pub(crate) fn stack_line<G: Pages>(
     commit: u32,
 ) -> Result<Answer, NoMemory>
     requires next { IsNext G.Pages line t.old g.old }
-    ensures done { IfOk result (λ a. AnswersLine G.Pages (event.Stack tid pid reserve commit)
-        line t.old g.old a t.new g.new) }
-    ensures broke { OnErr result (HaltsLine G.Pages line t.old g.old t.new g.new) }
-    ensures no_memory { is_success (stack blank t.old tid.0 pid.0 reserve commit).answer ≡ false →
-        IsOk result }
-    ensures loans { G.loans g.new ≡ G.loans g.old }
+    ensures { MakesLine G.Pages (event.Stack tid pid reserve commit) line t.old g.old result t.new
+        g.new }
 {
     t.sound();
     begin(g, line, LineKind::Call);
@@ -46,11 +37,7 @@ pub(crate) fn probe_line<G: Pages>(
     addr: u32,
 ) -> Result<Answer, NoMemory>
     requires next { IsNext G.Pages line t.old g.old }
-    ensures done { IfOk result (λ a. AnswersLine G.Pages (event.Probe tid addr) line t.old g.old
-        a t.new g.new) }
-    ensures broke { OnErr result (HaltsLine G.Pages line t.old g.old t.new g.new) }
-    ensures no_memory { grows blank t.old tid.0 addr ≡ false → IsOk result }
-    ensures loans { G.loans g.new ≡ G.loans g.old }
+    ensures { MakesLine G.Pages (event.Probe tid addr) line t.old g.old result t.new g.new }
 {
     t.sound();
     begin(g, line, LineKind::Call);

@@ -1,22 +1,15 @@
-ghost use Rattle.std.specs.Prelude.{◌≡◌, ◌+◌, ℕ, ◌&&◌, true, false, is_some, Some, None, if◌then◌else◌};
+ghost use Rattle.std.specs.Prelude.{◌≡◌, ◌+◌, ℕ, ◌&&◌, true, false, is_some, if◌then◌else◌};
 ghost use Rattle.mm_types.specs.declared.answers.Wait.TheVariants as wait;
 ghost use Rattle.mm_types.specs.declared.events.Event.TheVariants as event;
 ghost use Rattle.mm_types.specs.declared.moves.LineKind.TheVariants as line_kind;
-ghost use Rattle.mm_world.specs.Access.{address_in, attempt_in};
-ghost use Rattle.mm_world.specs.Failure.{wait_failed};
-ghost use Rattle.mm_world.specs.Find.{process_of};
-ghost use Rattle.mm_tables.specs.Threads.{FitsPage};
-ghost use Rattle.mm_core.specs.Pending.{ThreadWent};
-ghost use Rattle.mm_core.specs.Forgetting.{waited, EndsWaits};
 ghost use Rattle.mm_types.specs.declared.moves.Move.TheVariants as move;
-ghost use Rattle.mm_pages.specs.Accesses.{Forgets};
-ghost use Rattle.mm_pages.specs.Housekeeping.{OneMove};
-ghost use Rattle.mm_core.specs.Answering.{TurnedBy};
-ghost use Rattle.mm_core.specs.Lining.{Lined};
-ghost use Rattle.mm_world.specs.Step.{keep};
-ghost use Rattle.mm_core.specs.Over.{DecidedOver, FitsOver, KeepsOver, PassesOver, aim_over, world_over};
-ghost use Rattle.mm_core.specs.LinePromises.{IsNext, StartsLine};
-ghost use Rattle.mm_core.specs.AccessPromises.{CanTurn, TurnKeeps};
+ghost use Rattle.mm_world.specs.{address_in, attempt_in, wait_failed, process_of};
+ghost use Rattle.mm_pages.specs.{OneMove};
+ghost use Rattle.mm_tables.specs.{FitsPage};
+ghost use Rattle.mm_core.specs.Forgetting.{EndsWaits};
+ghost use Rattle.mm_core.specs.Over.{FitsOver, KeepsOver, PassesOver};
+ghost use Rattle.mm_core.specs.LinePromises.{AnswersLine, IsNext, StartsLine};
+ghost use Rattle.mm_core.specs.AccessPromises.{CanTurn, TurnsAccess, EndsAccess};
 
 use crate::beginning::begin;
 use crate::threads::{Threaded, read_access, write_access};
@@ -36,15 +29,8 @@ fn access_on<G: Pages>(
     requires lives { is_some (process_of t.old pid.0) ≡ true }
     requires can { CanTurn G.Pages t.old pid g.old }
     requires fits { FitsPage what.now }
-    ensures turned { ThreadWent result failed t.old.machine.depth (world_over G.Pages t.old g.old)
-        pid.0
-        (address_in what.now) (attempt_in what.now) (G.store g.old) (G.store g.new)
-        (world_over G.Pages t.new g.new) }
-    ensures keeps { KeepsOver G.Pages t.new g.new }
-    ensures rest { TurnKeeps G.Pages result g.old g.new }
-    ensures passes { PassesOver G.Pages
-        (TurnedBy (aim_over G.Pages t.old g.old pid (address_in what.now) (attempt_in what.now))
-        tid.0 result (G.store g.new).report) g.old g.new }
+    ensures { TurnsAccess G.Pages (attempt_in what.now) tid.0 pid (address_in what.now) failed
+        t.old g.old result t.new g.new }
 {
     match what {
         AccessSpec::Read { addr, len } => read_access(t, g, tid, pid, *addr, *len, failed),
@@ -87,11 +73,8 @@ pub(crate) fn begin_line<G: Pages>(
 ) -> Answer
     requires next { IsNext G.Pages line t.old g.old }
     requires fits { FitsPage what.now }
-    ensures decided { DecidedOver G.Pages (event.Begin tid pid what.now) line t.old g.old result
+    ensures done { AnswersLine G.Pages (event.Begin tid pid what.now) line t.old g.old result
         t.new g.new }
-    ensures passes { PassesOver G.Pages
-        (Lined (world_over G.Pages t.old g.old) (event.Begin tid pid what.now) line result
-        (world_over G.Pages t.new g.new) (G.store g.new).report) g.old g.new }
     ensures loans { G.loans g.new ≡ G.loans g.old }
 {
     let busy = t.kept(tid).is_some();
@@ -125,13 +108,7 @@ fn has_failed<G: Pages>(g: &G, tid: Tid) -> bool
 /// A thread's access has ended: it keeps none, and waits for nothing.
 fn end_access<G: Pages>(t: &mut Tables, g: &mut G, tid: Tid)
     requires keeps { KeepsOver G.Pages t.old g.old }
-    ensures keeps { KeepsOver G.Pages t.new g.new }
-    ensures ended { t.new ≡ keep t.old tid.0 None }
-    ensures idle { (G.store g.new).report.wait tid.0 ≡ wait.None }
-    ensures rest { G.store g.new ≡ waited (G.store g.old) (G.store g.new) }
-    ensures contents { G.contents g.new ≡ G.contents g.old }
-    ensures passes { PassesOver G.Pages (Forgets tid.0) g.old g.new }
-    ensures loans { G.loans g.new ≡ G.loans g.old }
+    ensures { EndsAccess G.Pages tid.0 t.old g.old t.new g.new }
 {
     g.forget(tid);
     t.end_kept(tid);
@@ -142,11 +119,8 @@ fn end_access<G: Pages>(t: &mut Tables, g: &mut G, tid: Tid)
 pub(crate) fn resume_line<G: Pages>(t: &mut Tables, g: &mut G, line: u32, tid: Tid) -> Answer
     requires next { IsNext G.Pages line t.old g.old }
     requires idle { G.unpaged ≡ true → (n : ℕ) → (G.store g.old).report.wait n ≡ wait.None }
-    ensures decided { DecidedOver G.Pages (event.Resume tid) line t.old g.old result t.new g.new }
+    ensures done { AnswersLine G.Pages (event.Resume tid) line t.old g.old result t.new g.new }
     ensures waits { EndsWaits t.old (event.Resume tid) result (G.store g.new).report }
-    ensures passes { PassesOver G.Pages
-        (Lined (world_over G.Pages t.old g.old) (event.Resume tid) line result
-        (world_over G.Pages t.new g.new) (G.store g.new).report) g.old g.new }
     ensures loans { G.loans g.new ≡ G.loans g.old }
 {
     let kept = match t.kept(tid) {

@@ -1,14 +1,12 @@
-ghost use Rattle.std.specs.Prelude.{◌≡◌, ◌≤◌, ◌+◌, ◌%◌, true, false, is_some, IfOk, IfErr, length};
+ghost use Rattle.std.specs.Prelude.{◌≡◌, ◌≤◌, ◌+◌, ◌%◌, true, is_some, IfOk, IfErr, length};
+ghost use Rattle.mm_types.specs.{Place};
 ghost use Rattle.mm_types.specs.declared.protections.Access.TheVariants as access_kind;
-ghost use Rattle.mm_world.specs.Access.{ReadOf, WriteOf};
-ghost use Rattle.mm_world.specs.Find.{process_of};
-ghost use Rattle.mm_types.specs.declared.answers.Why.{Why};
-ghost use Rattle.mm_core.specs.Pending.{Waits, AccessMade, ThreadWent};
-ghost use Rattle.mm_core.specs.Answering.{WentBy, TurnedBy};
-ghost use Rattle.mm_core.specs.Over.{KeepsOver, PassesOver, aim_over, world_over};
-ghost use Rattle.mm_core.specs.AccessPromises.{LieInPage, CanStart, CanTurn, StartKeeps, TurnKeeps};
+ghost use Rattle.mm_world.specs.{Attempt, ReadOf, WriteOf, access_of, process_of};
+ghost use Rattle.mm_pages.specs.declared.outcomes.Need.TheVariants as at_hand;
+ghost use Rattle.mm_pages.specs.{need_for};
+ghost use Rattle.mm_core.specs.AccessPromises.{LieInPage, CanTurn, ReadyFor, TurnsAccess, row_need};
 
-use crate::access_lines::{read_at, write_at, write_to_copy};
+use crate::access_lines::{read_at, write_row};
 use crate::fetching::place_of;
 use crate::refusals::admit;
 use mm_pages::{Need, Pages, Start};
@@ -27,118 +25,53 @@ pub(crate) enum Threaded {
     Waiting(Why),
 }
 
-/// A thread reads 1 to 64 bytes, which the row of their page permits, or has to wait for the page.
-pub(crate) fn read_on<G: Pages>(
-    t: &Tables,
-    g: &mut G,
-    tid: Tid,
-    pid: Pid,
-    addr: u32,
-    row: CommittedRow,
-    len: u32,
-) -> Result<Answer, Why>
-    requires can { CanStart G.Pages access_kind.Read t.now pid addr row g.old }
-    requires some { 1 ≤ len }
-    requires lie { LieInPage addr len }
-    ensures went { IfOk result (λ a. AccessMade t.now.machine.depth (world_over G.Pages t.now g.old)
-        pid.0 addr (ReadOf len) (G.store g.old) (G.store g.new) a
-        (world_over G.Pages t.now g.new)) }
-    ensures waits { IfErr result
-        (λ why. Waits t.now.machine.depth (world_over G.Pages t.now g.old) pid.0 addr (ReadOf len)
-        (G.store g.old) (G.store g.new) why) }
-    ensures keeps { KeepsOver G.Pages t.now g.new }
-    ensures rest { StartKeeps G.Pages result t.now g.old t.now g.new }
-    ensures passes { PassesOver G.Pages
-        (WentBy (aim_over G.Pages t.now g.old pid addr (ReadOf len)) tid.0 result
-        (G.store g.new).report) g.old g.new }
+/// What an access of this kind of a page with this row is to find at hand.
+fn needed(row: CommittedRow, wanted: Access) -> Need
+    ensures told { (place : Place) → need_for result row.key place ≡ row_need wanted row place }
+    ensures copies { result ≡ at_hand.Copy → row.copies ≡ true }
+    ensures writes { result ≡ at_hand.Copy → wanted ≡ access_kind.Write }
 {
-    g.sound();
-    match g.start(tid, place_of(pid, addr), row.key, Need::Touch) {
-        Start::Pending(why) => Err(why),
-        Start::Ready => {
-            let mut answer = Answer::Ok;
-            read_at(t, g, pid, addr, row, len, &mut answer);
-            Ok(answer)
-        }
+    match wanted {
+        Access::Write => { if row.copies { Need::Copy } else { Need::Touch } }
+        Access::Read => Need::Touch,
+        Access::Execute => Need::Touch,
     }
 }
 
-/// A thread writes bytes where they are, which the row of their page permits, or has to wait for
-/// the page.
-pub(crate) fn write_on<G: Pages>(
+/// The row at which an access of a thread is made now, or how the access went that is not: it is
+/// refused, its wait has failed, and the store is not asked, or it has to wait.
+fn ready_row<G: Pages>(
     t: &mut Tables,
     g: &mut G,
     tid: Tid,
     pid: Pid,
     addr: u32,
-    row: CommittedRow,
-    bytes: &ByteBuf,
-) -> Result<Answer, Why>
-    requires can { CanStart G.Pages access_kind.Write t.old pid addr row g.old }
-    requires stays { row.copies ≡ false }
-    requires inside { addr % 4096 + length bytes.now ≤ 4096 }
-    ensures went { IfOk result (λ a. AccessMade t.old.machine.depth (world_over G.Pages t.old g.old)
-        pid.0 addr (WriteOf bytes.now) (G.store g.old) (G.store g.new) a
-        (world_over G.Pages t.new g.new)) }
-    ensures waits { IfErr result
-        (λ why. Waits t.old.machine.depth (world_over G.Pages t.old g.old) pid.0 addr
-        (WriteOf bytes.now) (G.store g.old) (G.store g.new) why) }
-    ensures keeps { KeepsOver G.Pages t.new g.new }
-    ensures rest { StartKeeps G.Pages result t.old g.old t.new g.new }
-    ensures passes { PassesOver G.Pages
-        (WentBy (aim_over G.Pages t.old g.old pid addr (WriteOf bytes.now)) tid.0 result
-        (G.store g.new).report) g.old g.new }
+    wanted: Access,
+    failed: bool,
+) -> Result<CommittedRow, Threaded>
+    requires lives { is_some (process_of t.old pid.0) ≡ true }
+    requires can { CanTurn G.Pages t.old pid g.old }
+    ensures ready { IfOk result
+        (λ row. ReadyFor G.Pages wanted tid.0 pid addr row failed t.old g.old t.new g.new) }
+    ensures turned { IfErr result (λ how. (what : Attempt) → access_of what ≡ wanted →
+        TurnsAccess G.Pages what tid.0 pid addr failed t.old g.old how t.new g.new) }
 {
+    t.sound();
+    let row = match admit(t, pid, addr, wanted) {
+        Ok(row) => row,
+        Err(why) => return Err(Threaded::Refused(Answer::Raised(why))),
+    };
+    if failed {
+        return Err(Threaded::Failed);
+    }
     g.sound();
-    match g.start(tid, place_of(pid, addr), row.key, Need::Touch) {
-        Start::Pending(why) => Err(why),
-        Start::Ready => {
-            let mut answer = Answer::Ok;
-            write_at(t, g, pid, addr, row, bytes, &mut answer);
-            Ok(answer)
-        }
+    match g.start(tid, place_of(pid, addr), row.key, needed(row, wanted)) {
+        Start::Pending(why) => Err(Threaded::Waiting(why)),
+        Start::Ready => Ok(row),
     }
 }
 
-/// A thread writes bytes, which the row of their page permits, to a copy that is the page's own
-/// from then on, or has to wait for the page or for a frame of the copy.
-pub(crate) fn write_to_copy_on<G: Pages>(
-    t: &mut Tables,
-    g: &mut G,
-    tid: Tid,
-    pid: Pid,
-    addr: u32,
-    row: CommittedRow,
-    bytes: &ByteBuf,
-) -> Result<Answer, Why>
-    requires can { CanStart G.Pages access_kind.Write t.old pid addr row g.old }
-    requires copies { row.copies ≡ true }
-    requires inside { addr % 4096 + length bytes.now ≤ 4096 }
-    ensures went { IfOk result (λ a. AccessMade t.old.machine.depth (world_over G.Pages t.old g.old)
-        pid.0 addr (WriteOf bytes.now) (G.store g.old) (G.store g.new) a
-        (world_over G.Pages t.new g.new)) }
-    ensures waits { IfErr result
-        (λ why. Waits t.old.machine.depth (world_over G.Pages t.old g.old) pid.0 addr
-        (WriteOf bytes.now) (G.store g.old) (G.store g.new) why) }
-    ensures keeps { KeepsOver G.Pages t.new g.new }
-    ensures rest { StartKeeps G.Pages result t.old g.old t.new g.new }
-    ensures passes { PassesOver G.Pages
-        (WentBy (aim_over G.Pages t.old g.old pid addr (WriteOf bytes.now)) tid.0 result
-        (G.store g.new).report) g.old g.new }
-{
-    g.sound();
-    match g.start(tid, place_of(pid, addr), row.key, Need::Copy) {
-        Start::Pending(why) => Err(why),
-        Start::Ready => {
-            let mut answer = Answer::Ok;
-            write_to_copy(t, g, pid, addr, row, bytes, &mut answer);
-            Ok(answer)
-        }
-    }
-}
-
-/// A thread reads 1 to 64 bytes. Where it is permitted and the wait has failed, the store is not
-/// asked.
+/// A thread reads 1 to 64 bytes.
 pub(crate) fn read_access<G: Pages>(
     t: &mut Tables,
     g: &mut G,
@@ -152,29 +85,19 @@ pub(crate) fn read_access<G: Pages>(
     requires can { CanTurn G.Pages t.old pid g.old }
     requires some { 1 ≤ len }
     requires lie { LieInPage addr len }
-    ensures turned { ThreadWent result failed t.old.machine.depth (world_over G.Pages t.old g.old)
-        pid.0 addr (ReadOf len) (G.store g.old) (G.store g.new) (world_over G.Pages t.new g.new) }
-    ensures keeps { KeepsOver G.Pages t.new g.new }
-    ensures rest { TurnKeeps G.Pages result g.old g.new }
-    ensures passes { PassesOver G.Pages
-        (TurnedBy (aim_over G.Pages t.old g.old pid addr (ReadOf len)) tid.0 result
-        (G.store g.new).report) g.old g.new }
+    ensures { TurnsAccess G.Pages (ReadOf len) tid.0 pid addr failed t.old g.old result t.new
+        g.new }
 {
-    t.sound();
-    let row = match admit(t, pid, addr, Access::Read) {
+    let row = match ready_row(t, g, tid, pid, addr, Access::Read, failed) {
         Ok(row) => row,
-        Err(why) => return Threaded::Refused(Answer::Raised(why)),
+        Err(how) => return how,
     };
-    if failed {
-        return Threaded::Failed;
-    }
-    match read_on(t, g, tid, pid, addr, row, len) {
-        Ok(answer) => Threaded::Made(answer),
-        Err(why) => Threaded::Waiting(why),
-    }
+    let mut answer = Answer::Ok;
+    read_at(t, g, pid, addr, row, len, &mut answer);
+    Threaded::Made(answer)
 }
 
-/// A thread writes bytes. Where it is permitted and the wait has failed, the store is not asked.
+/// A thread writes bytes.
 pub(crate) fn write_access<G: Pages>(
     t: &mut Tables,
     g: &mut G,
@@ -187,30 +110,14 @@ pub(crate) fn write_access<G: Pages>(
     requires lives { is_some (process_of t.old pid.0) ≡ true }
     requires can { CanTurn G.Pages t.old pid g.old }
     requires inside { addr % 4096 + length bytes.now ≤ 4096 }
-    ensures turned { ThreadWent result failed t.old.machine.depth (world_over G.Pages t.old g.old)
-        pid.0 addr (WriteOf bytes.now) (G.store g.old) (G.store g.new)
-        (world_over G.Pages t.new g.new) }
-    ensures keeps { KeepsOver G.Pages t.new g.new }
-    ensures rest { TurnKeeps G.Pages result g.old g.new }
-    ensures passes { PassesOver G.Pages
-        (TurnedBy (aim_over G.Pages t.old g.old pid addr (WriteOf bytes.now)) tid.0 result
-        (G.store g.new).report) g.old g.new }
+    ensures { TurnsAccess G.Pages (WriteOf bytes.now) tid.0 pid addr failed t.old g.old result
+        t.new g.new }
 {
-    t.sound();
-    let row = match admit(t, pid, addr, Access::Write) {
+    let row = match ready_row(t, g, tid, pid, addr, Access::Write, failed) {
         Ok(row) => row,
-        Err(why) => return Threaded::Refused(Answer::Raised(why)),
+        Err(how) => return how,
     };
-    if failed {
-        return Threaded::Failed;
-    }
-    let written = if row.copies {
-        write_to_copy_on(t, g, tid, pid, addr, row, bytes)
-    } else {
-        write_on(t, g, tid, pid, addr, row, bytes)
-    };
-    match written {
-        Ok(answer) => Threaded::Made(answer),
-        Err(why) => Threaded::Waiting(why),
-    }
+    let mut answer = Answer::Ok;
+    write_row(t, g, pid, addr, row, bytes, &mut answer);
+    Threaded::Made(answer)
 }

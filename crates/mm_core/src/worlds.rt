@@ -1,11 +1,8 @@
 ghost use Rattle.std.specs.Prelude.{◌≡◌, ◌≤◌, ◌+◌, true, false, OnOk, OnErr, IsOk};
-ghost use Rattle.mm_world.specs.World.{filled};
-ghost use Rattle.mm_world.specs.Step.{first_world};
-ghost use Rattle.mm_world.specs.Charge.{charge, limit};
-ghost use Rattle.mm_pages.specs.Conditions.{IsNew};
-ghost use Rattle.mm_script.specs.Printed.{IsWellFormed};
-ghost use Rattle.mm_tables.specs.Fits.{FitsTables};
-ghost use Rattle.mm_tables.specs.References.{MadeAtMost};
+ghost use Rattle.mm_world.specs.{filled, first_world, charge, limit};
+ghost use Rattle.mm_pages.specs.{IsNew};
+ghost use Rattle.mm_script.specs.{IsWellFormed};
+ghost use Rattle.mm_tables.specs.{FitsTables, MadeAtMost};
 ghost use Rattle.mm_core.specs.Built.{is_machine, takes_memory};
 
 use crate::deciding::decide;
@@ -29,7 +26,7 @@ pub struct World<G: Pages> {
 
 impl<G: Pages> World<G> {
     ghost use Rattle.mm_core.specs.Promise.{Decides, Breaks, scene};
-    ghost use Rattle.mm_paging.specs.Lines.{Agrees};
+    ghost use Rattle.mm_paging.specs.{Agrees};
     ghost use Rattle.mm_core.specs.Shown.{world, report, world_behind, line_number, loans};
 
     /// The world after the `machine` line, over a new store of that machine. Over one that pages

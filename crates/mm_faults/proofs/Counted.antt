@@ -10,8 +10,7 @@ use Rattle.std.specs.BTreeMap.{insert_entry, is_at}
 use Rattle.std.specs.Map.{keys_of, lookup}
 use Rattle.std.proofs.lemmas.Map.{lookup-none}
 use Rattle.std.proofs.lemmas.Map.Entries.{none_below_head}
-use Rattle.mm_faults.specs.Tallies.{Table, one_more, none_counted, counted}
-use Rattle.mm_faults.specs.Kept.{counts_at}
+use Rattle.mm_faults.specs.{Table, one_more, none_counted, counted, counts_at}
 
 module _ {K : Type 0} {R : K → K → Ordering} (total : IsTotalOrder R) where
   tail_sorted : (e : K × List ℕ) (es : Table K) → IsStrictlySortedBy R (keys_of (e ∷ es)) → IsStrictlySortedBy R (keys_of es)

@@ -1,18 +1,12 @@
 -- What is counted of a move does not depend on the move after it.
 use Rattle.std.proofs.Common.{◌≡◌, Bool, true, false, List, ◌∷◌, Option, Some, None, refl, sym, ap, ◌∙◌}
 use Rattle.std.specs.Prelude.{not, ◌&&◌, if◌then◌else◌}
-use Rattle.mm_types.specs.declared.numbers.Place.{Place}
-use Rattle.mm_types.specs.declared.moves.Move.{Move}
+use Rattle.mm_types.specs.{Place, Move}
 use Rattle.mm_types.specs.declared.moves.Move.TheVariants as move
-use Rattle.mm_life.specs.Life.{FrameLife, unstarted}
-use Rattle.mm_life.specs.Legal.{is_access, is_unbind, is_short}
-use Rattle.mm_life.specs.Effect.{after_move}
-use Rattle.mm_classes.specs.Classes.{class_of, is_trim, makes_way, makes_room, next_of}
-use Rattle.mm_classes.specs.Marks.{MarksOf, marks_after, no_marks}
+use Rattle.mm_life.specs.{FrameLife, unstarted, is_access, is_unbind, is_short, after_move}
+use Rattle.mm_classes.specs.{class_of, is_trim, makes_way, makes_room, next_of, MarksOf, marks_after, no_marks}
 use Rattle.mm_classes.specs.declared.classes.Class.TheVariants as class
-use Rattle.mm_faults.specs.Tallies.{Tally, no_tally, with_class, tallied, tally_from, tally}
-use Rattle.mm_faults.specs.Rows.{fault_rows}
-use Rattle.mm_faults.specs.Rest.{said_of}
+use Rattle.mm_faults.specs.{Tally, no_tally, with_class, tallied, tally_from, tally, fault_rows, said_of}
 
 -- no end of a place is a fault
 plain : (t : Tally) (ends trimmed way short : Bool)

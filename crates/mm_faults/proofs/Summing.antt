@@ -7,23 +7,16 @@ use Rattle.std.specs.Ordering.{nat_cmp, match_ordering}
 use Rattle.std.proofs.lemmas.Bool.{eqb-true, eqb-false}
 use Rattle.std.proofs.lemmas.List.Sums.{sum_by-cons}
 use Rattle.std.proofs.lemmas.Option.{same_Some, none-some}
-use Rattle.mm_types.specs.declared.numbers.Key.{Key}
-use Rattle.mm_types.specs.declared.numbers.Place.{Place}
-use Rattle.mm_types.specs.declared.frames.Record.{Record}
-use Rattle.mm_types.specs.declared.moves.Move.{Move}
+use Rattle.mm_types.specs.{Key, Place, Record, Move}
 use Rattle.mm_types.specs.declared.moves.Move.TheVariants as move
-use Rattle.mm_life.specs.Effect.{after_move}
-use Rattle.mm_life.specs.Frames.{record_at, has_request, is_again, is_read}
-use Rattle.mm_life.specs.Legal.{fits_place, is_access, is_below_max, is_short, is_unbind, is_writer, is_zeroer, IsLegal, touches}
-use Rattle.mm_life.specs.Life.{FrameLife, set_of, unstarted}
-use Rattle.mm_life.specs.Replay.{Replays}
-use Rattle.mm_classes.specs.Classes.{class_of, class_of_got, classes, classes_from, is_busy, is_trim, makes_room, makes_way, next_of, reads_into}
-use Rattle.mm_classes.specs.Marks.{MarksOf, marks_after, no_marks}
-use Rattle.mm_classes.specs.declared.classes.Class.{Class}
+use Rattle.mm_life.specs.{after_move, record_at, has_request, is_again, is_read, fits_place, is_access, is_below_max, is_short, is_unbind, is_writer}
+use Rattle.mm_life.specs.{is_zeroer, IsLegal, touches, FrameLife, set_of, unstarted, Replays}
+use Rattle.mm_classes.specs.{class_of, class_of_got, classes, classes_from, is_busy, is_trim, makes_room, makes_way, next_of, reads_into, MarksOf}
+use Rattle.mm_classes.specs.{marks_after, no_marks, Class}
 use Rattle.mm_classes.specs.declared.classes.Class.TheVariants as class
-use Rattle.mm_faults.specs.Faults.{column_of, end_of, is_first_use, is_hard, is_on_paging_file, is_soft, is_zero_fill, page_of, place_of, process_of}
-use Rattle.mm_faults.specs.Sums.{number_in, one_at, sum_in, SumsToClasses}
-use Rattle.mm_faults.specs.Tallies.{Table, Tally, column_in, counted, no_tally, none_counted, one_more, place_cmp, plus_one, tallied, tally, tally_from, with_class, with_end, with_fault}
+use Rattle.mm_faults.specs.{column_of, end_of, is_first_use, is_hard, is_on_paging_file, is_soft, is_zero_fill, page_of, place_of, process_of}
+use Rattle.mm_faults.specs.{number_in, one_at, sum_in, SumsToClasses, Table, Tally, column_in, counted, no_tally, none_counted, one_more, place_cmp}
+use Rattle.mm_faults.specs.{plus_one, tallied, tally, tally_from, with_class, with_end, with_fault}
 
 -- ---- a table
 

@@ -1,18 +1,13 @@
 -- Which moves are faults, of which kind, of which process, and on which page.
 -- Profile, "What a log shows".
 use Rattle.std.specs.Prelude.{ℕ, Bool, true, false, ◌||◌, Option, Some, None}
-use Rattle.mm_types.specs.declared.frames.Backing.{Backing}
+use Rattle.mm_types.specs.{Backing, LineKind, Move, Key}
 use Rattle.mm_types.specs.declared.frames.Backing.TheVariants as backing
-use Rattle.mm_types.specs.declared.moves.LineKind.{LineKind}
 use Rattle.mm_types.specs.declared.moves.LineKind.TheVariants as kind
-use Rattle.mm_types.specs.declared.moves.Move.{Move}
 use Rattle.mm_types.specs.declared.moves.Move.TheVariants as move
-use Rattle.mm_types.specs.declared.numbers.Key.{Key}
 use Rattle.mm_types.specs.declared.numbers.Key.TheVariants.{Private, Shared}
-use Rattle.mm_life.specs.Frames.{record_at}
-use Rattle.mm_life.specs.Life.{FrameLife}
-use Rattle.mm_classes.specs.Counting.{is_class}
-use Rattle.mm_classes.specs.declared.classes.Class.{Class}
+use Rattle.mm_life.specs.{record_at, FrameLife}
+use Rattle.mm_classes.specs.{is_class, Class}
 use Rattle.mm_classes.specs.declared.classes.Class.TheVariants as class
 
 -- the column in which a class is counted: hard; soft, by where the page was found: standby,

@@ -1,10 +1,9 @@
 -- The table of faults, where some moves were counted and some are to come.
 -- Profile, "What a log shows".
 use Rattle.std.specs.Prelude.{Bool, true, false, List, []}
-use Rattle.mm_types.specs.Spelling.{Text}
-use Rattle.mm_types.specs.declared.moves.Move.{Move}
-use Rattle.mm_life.specs.Life.{FrameLife}
-use Rattle.mm_classes.specs.Marking.{marks_of}
+use Rattle.mm_types.specs.{Text, Move}
+use Rattle.mm_life.specs.{FrameLife}
+use Rattle.mm_classes.specs.{marks_of}
 use Rattle.mm_faults.specs.Tallies.{Tally, tally_from}
 use Rattle.mm_faults.specs.Rows.{tally_text}
 use Rattle.mm_faults.specs.declared.counters.Counters.{Counters}

@@ -2,10 +2,9 @@
 -- Profile, "What a log shows".
 use Rattle.std.specs.Prelude.{ℕ, ◌+◌, ◌*◌, ◌/◌, Bool, true, false, ◌==◌, if◌then◌else◌, List, [], ◌∷◌, ◌++◌}
 use Rattle.std.specs.Prelude.{flat_map, slice_index, codes}
-use Rattle.mm_types.specs.Spelling.{Text, decimal}
-use Rattle.mm_types.specs.declared.moves.Move.{Move}
-use Rattle.mm_life.specs.MoveText.{numbered}
-use Rattle.mm_text.specs.Columns.{left_in, right_in, numbers_in}
+use Rattle.mm_types.specs.{Text, decimal, Move}
+use Rattle.mm_life.specs.{numbered}
+use Rattle.mm_text.specs.{left_in, right_in, numbers_in}
 use Rattle.mm_faults.specs.Faults.{FaultPlace}
 use Rattle.mm_faults.specs.Tallies.{Table, Tally, tally}
 

@@ -4,13 +4,9 @@ use Rattle.std.specs.Prelude.{ℕ, ◌+◌, Bool, true, false, List, [], ◌∷�
 use Rattle.std.specs.Prelude.{None, slice_index, slice_set}
 use Rattle.std.specs.declared.cmp.Ordering.{Ordering}
 use Rattle.std.specs.Ordering.{nat_cmp, bool_cmp, match_ordering, ordering_then}
-use Rattle.mm_types.specs.declared.moves.Move.{Move}
-use Rattle.mm_types.specs.declared.numbers.Key.{Key}
-use Rattle.mm_life.specs.Effect.{after_move}
-use Rattle.mm_life.specs.Life.{FrameLife, unstarted}
-use Rattle.mm_classes.specs.Classes.{class_of, next_of}
-use Rattle.mm_classes.specs.Marks.{MarksOf, marks_after, no_marks}
-use Rattle.mm_classes.specs.declared.classes.Class.{Class}
+use Rattle.mm_types.specs.{Move, Key}
+use Rattle.mm_life.specs.{after_move, FrameLife, unstarted}
+use Rattle.mm_classes.specs.{class_of, next_of, MarksOf, marks_after, no_marks, Class}
 use Rattle.mm_faults.specs.Faults.{column_of, process_of, page_of, FaultPlace, place_of, is_zero_fill}
 use Rattle.mm_faults.specs.Faults.{is_hard, is_first_use, is_soft, end_of, is_on_paging_file}
 

@@ -1,11 +1,11 @@
-ghost use Rattle.std.specs.Prelude.{◌≡◌, ◌++◌, ◌∷◌, [], ℕ, Bool, List, Option, OnOk, None};
-ghost use Rattle.mm_types.specs.declared.moves.Move.{Move};
-ghost use Rattle.mm_life.specs.Effect.{after_move};
-ghost use Rattle.mm_life.specs.Life.{unstarted};
-ghost use Rattle.mm_classes.specs.Classes.{class_of};
-ghost use Rattle.mm_classes.specs.Marking.{marks_of};
+ghost use Rattle.std.specs.Prelude.{◌≡◌, Bool, List, Option, None};
+ghost use Rattle.mm_types.specs.{Move};
+ghost use Rattle.mm_life.specs.{unstarted};
+ghost use Rattle.mm_classes.specs.{class_of, marks_of};
 ghost use Rattle.mm_replay.specs.Standing.{life as life_of};
 ghost use Rattle.mm_faults.specs.Rows.{fault_rows};
+ghost use Rattle.mm_faults.specs.Rest.{fault_rest};
+ghost use Rattle.mm_sentences.specs.{why_text};
 
 use crate::counters::Counters;
 use crate::rows::put_tally;
@@ -36,8 +36,6 @@ pub struct FaultTeller {
 }
 
 impl FaultTeller {
-    ghost use Rattle.mm_faults.specs.Rest.{fault_rest};
-
     /// Nothing was counted.
     pub fn new(alloc: Global) -> FaultTeller
         ensures { (whole : Bool) (moves : List Move)
@@ -49,25 +47,9 @@ impl FaultTeller {
             counters: Counters::new(alloc),
         }
     }
-
-    /// Counts a move.
-    fn take_move(&mut self, life: &Life, m: &Move) -> Result<(), NoMemory>
-        ensures { OnOk result ((whole : Bool) (ms : List Move)
-            → fault_rest self.new whole (after_move (life_of life.now) m.now) ms
-            ≡ fault_rest self.old whole (life_of life.now) (m.now ∷ ms)) }
-    {
-        let class = class_so_far(life, &self.marks, self.before, m);
-        self.counters.count_move(life, m, class)?;
-        self.marks.follow(m)?;
-        self.before = Some(*m);
-        Ok(())
-    }
 }
 
 impl Teller for FaultTeller {
-    ghost use Rattle.mm_faults.specs.Rest.{fault_rest};
-    ghost use Rattle.mm_sentences.specs.Refusals.{why_text};
-
     ghost rest = { fault_rest };
 
     ghost counted = { λ t. 0 };
@@ -75,7 +57,11 @@ impl Teller for FaultTeller {
     ghost why = { why_text };
 
     fn take(&mut self, life: &Life, m: &Move, _text: &mut Vec<u8>) -> Result<(), NoMemory> {
-        self.take_move(life, m)
+        let class = class_so_far(life, &self.marks, self.before, m);
+        self.counters.count_move(life, m, class)?;
+        self.marks.follow(m)?;
+        self.before = Some(*m);
+        Ok(())
     }
 
     fn finish(&mut self, whole: bool, _life: &Life, text: &mut Vec<u8>) -> Result<(), NoMemory> {

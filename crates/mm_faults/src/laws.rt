@@ -1,8 +1,7 @@
 ghost use Rattle.std.specs.Prelude.{List};
-ghost use Rattle.mm_types.specs.declared.moves.Move.{Move};
-ghost use Rattle.mm_life.specs.Life.{FrameLife, unstarted};
-ghost use Rattle.mm_life.specs.Replay.{Replays};
-ghost use Rattle.mm_classes.specs.Classes.{classes};
+ghost use Rattle.mm_types.specs.{Move};
+ghost use Rattle.mm_life.specs.{FrameLife, unstarted, Replays};
+ghost use Rattle.mm_classes.specs.{classes};
 ghost use Rattle.mm_faults.specs.Sums.{SumsToClasses};
 ghost use Rattle.mm_faults.specs.Tallies.{tally};
 

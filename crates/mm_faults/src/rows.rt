@@ -1,16 +1,14 @@
 ghost use Rattle.std.specs.Prelude.{◌≡◌, ◌<◌, ◌≤◌, ◌+◌, ◌*◌, ◌/◌, ◌^◌, ◌++◌, OnOk, flat_map};
 ghost use Rattle.std.specs.Prelude.{length};
-ghost use Rattle.mm_types.specs.Spelling.{decimal};
 ghost use Rattle.mm_faults.specs.Rest.{tally_of};
 ghost use Rattle.mm_faults.specs.Rows.{head, soft_in, share, fault_row, letter, page_text};
 ghost use Rattle.mm_faults.specs.Rows.{page_row};
 ghost use Rattle.mm_faults.specs.Rows.{process_rows, device_row, check_row, tally_text};
 ghost use Rattle.mm_faults.specs.Rows.{reads_text, writes_text, hard_text, soft_text};
-ghost use Rattle.mm_life.specs.MoveText.{numbered};
 
 use crate::counters::Counters;
 use crate::kinds::FaultPlace;
-use mm_sentences::{put_number, put_words};
+use mm_sentences::{put_pair, put_words};
 use mm_text::{LineBuf, put_decimal, put_left, put_numbers, put_right_number};
 use mm_types::NoMemory;
 use std::collections::BTreeMap;
@@ -27,33 +25,6 @@ fn put_head(text: &mut Vec<u8>) -> Result<(), NoMemory>
         b"    active  demand-0      copy  collided  hard of hard+soft\n",
         text,
     )
-}
-
-/// Writes words and a number.
-#[tactic(auto, using(mm_text::proofs::DigitCounts::joined))]
-fn put_numbered(words: &[u8], n: u64, text: &mut Vec<u8>) -> Result<(), NoMemory>
-    ensures { OnOk result (text.new.items ≡ text.old.items ++ (words.now ++ decimal n)) }
-{
-    put_words(words, text)?;
-    put_number(n, text)
-}
-
-/// Writes two numbers, each behind words, and words behind them.
-#[tactic(auto, using(mm_text::proofs::DigitCounts::joined))]
-fn put_pair(
-    words: &[u8],
-    first: u64,
-    between: &[u8],
-    second: u64,
-    behind: &[u8],
-    text: &mut Vec<u8>,
-) -> Result<(), NoMemory>
-    ensures { OnOk result (text.new.items ≡ text.old.items
-        ++ numbered words.now first (numbered between.now second behind.now)) }
-{
-    put_numbered(words, first, text)?;
-    put_numbered(between, second, text)?;
-    put_words(behind, text)
 }
 
 /// All that is found in a frame.

@@ -4,13 +4,10 @@ use Rattle.std.specs.Prelude.{◌==◌, ◌||◌, slice_get, slice_set, option_m
 use Rattle.std.specs.Cmp.{unsigned_Decides}
 use Rattle.std.proofs.lemmas.Option.{slice_get-map}
 use Rattle.std.proofs.lemmas.List.Folds.{list_any-append}
-use Rattle.mm_types.specs.declared.numbers.Frame.{Frame}
-use Rattle.mm_types.proofs.Cells.{set_cases}
-use Rattle.mm_types.proofs.Tables.{differ}
-use Rattle.mm_flight.specs.declared.flights.Waiting.{Waiting}
+use Rattle.mm_types.specs.{Frame}
+use Rattle.mm_types.proofs.{set_cases, differ, or_true}
+use Rattle.mm_flight.specs.{Waiting, FlightOf, Holds, IsKept, AreDistinct, NoneWaitsFrom, is_for, is_in, without, nth_oldest, ended, number_of}
 use Rattle.mm_flight.specs.declared.flights.Waiting.TheVariants as waiting
-use Rattle.mm_flight.specs.Requests.{FlightOf, Holds, IsKept, AreDistinct, NoneWaitsFrom, is_for, is_in, without, nth_oldest, ended, number_of}
-use Rattle.mm_types.proofs.Booleans.{or_true}
 
 -- ---- membership
 

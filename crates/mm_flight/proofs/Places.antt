@@ -5,11 +5,10 @@ use Rattle.std.proofs.lemmas.Bool.Decides.{nat_tests}
 use Rattle.std.proofs.lemmas.List.Sums.{position_or_len_is}
 use Rattle.std.specs.Prelude.{◌==◌, nat_lt, filter, option_map}
 use Rattle.std.specs.List.{position_or_len}
-use Rattle.mm_types.specs.declared.numbers.Frame.{Frame}
-use Rattle.mm_types.proofs.Tables.{differ}
+use Rattle.mm_types.specs.{Frame}
+use Rattle.mm_types.proofs.{differ}
 use Rattle.std.proofs.Common.{subst}
-use Rattle.mm_flight.specs.declared.flights.Waiting.{Waiting}
-use Rattle.mm_flight.specs.Requests.{FlightOf, number_of, place_in, without, ended}
+use Rattle.mm_flight.specs.{Waiting, FlightOf, number_of, place_in, without, ended}
 
 pub read_number : (xs : List Frame) (i : ℕ) → get_or (map number_of xs) i 0 ≡ (get_or xs i (record { 0 = 0 })).0
 read_number xs i = get_or-map number_of xs i (record { 0 = 0 })

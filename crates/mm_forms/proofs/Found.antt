@@ -13,10 +13,7 @@ use Rattle.clap.specs.declared.parser.matches.ArgMatches.TheViews.{out-ArgMatche
 use Rattle.clap.specs.declared.parser.matches.SubCommand.{SubCommand}
 use Rattle.clap.specs.Faults.{is_free_app}
 use Rattle.clap.proofs.WalkLemmas.{raw_values-rows}
-use Rattle.mm_forms.specs.declared.forms.Form.{Form}
-use Rattle.mm_forms.specs.declared.forms.Said.{Said}
-use Rattle.mm_forms.specs.Forms.{AreForms, IsNamed, Says, SaysNone, is_dashed, texts}
-use Rattle.mm_forms.specs.Shapes.{Gives, values_of, words_app}
+use Rattle.mm_forms.specs.{Form, Said, AreForms, IsNamed, Says, SaysNone, is_dashed, texts, Gives, values_of, words_app}
 use Rattle.mm_forms.proofs.Whole.{Read, apart_from, first_found, form_named, later_found, reads, simple, takes}
 
 -- an error that is not for memory is a fault of the words

@@ -13,8 +13,7 @@ use Rattle.clap.specs.Faults.{check_fault, defaults_fault, level_fault, settle_f
 use Rattle.clap.specs.declared.error.ErrorKind.TheVariants.{InvalidValue, MissingRequiredArgument, TooFewValues, TooManyValues, WrongNumberOfValues}
 use Rattle.clap.specs.declared.builder.ValueParser.TheVariants as vp
 use Rattle.clap.proofs.OnLiterals.{clap_on_literals}
-use Rattle.mm_forms.specs.Forms.{is_dashed}
-use Rattle.mm_forms.specs.Shapes.{top_shape, values_of, values_rule}
+use Rattle.mm_forms.specs.{is_dashed, top_shape, values_of, values_rule}
 use Rattle.mm_forms.proofs.Walks.{at, first_fault, placed}
 
 -- a subcommand with these arguments, built

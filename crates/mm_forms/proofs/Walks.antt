@@ -12,7 +12,7 @@ use Rattle.clap.specs.Kinds.{Kinds, or_else}
 use Rattle.clap.specs.Faults.{bundle_fault, flag_word_fault, other_fault, step_fault, turn_fault, walk_fault, word_fault}
 use Rattle.clap.specs.declared.error.ErrorKind.TheVariants.{DisplayHelp, InvalidSubcommand}
 use Rattle.clap.proofs.FaultLemmas.{stopped_fault}
-use Rattle.mm_forms.specs.Forms.{is_dashed}
+use Rattle.mm_forms.specs.{is_dashed}
 
 not_long : (w : Text) → is_dashed w ≡ false → long_of w ≡ None
 not_long [] e = refl

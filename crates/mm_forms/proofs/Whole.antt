@@ -13,9 +13,8 @@ use Rattle.clap.specs.Simple.{built, built_leaf, entered, inherited, is_ready, i
 use Rattle.clap.specs.Kinds.{Kinds, or_else}
 use Rattle.clap.specs.Faults.{built_fault, check_fault, defaults_fault, entered_fault, has_free_rules, settle_fault}
 use Rattle.clap.proofs.OnLiterals.{clap_on_literals}
-use Rattle.mm_forms.specs.declared.forms.Form.{Form}
-use Rattle.mm_forms.specs.Forms.{AreForms, IsNamed, NoneHas, is_dashed}
-use Rattle.mm_forms.specs.Shapes.{form_rules, form_shape, top_shape, values_of, values_rule, with_form, words_app}
+use Rattle.mm_forms.specs.{Form, AreForms, IsNamed, NoneHas, is_dashed, form_rules, form_shape, top_shape, values_of, values_rule, with_form}
+use Rattle.mm_forms.specs.{words_app}
 use Rattle.mm_forms.proofs.Walks.{first_fault, no_stop_fault, stops}
 use Rattle.mm_forms.proofs.Taken.{Takes, bare_reads, bare_shape, bare_takes, both_plain, built_shape, leaf, no_kinds, some_kind, the_rule, valued_reads, valued_takes}
 

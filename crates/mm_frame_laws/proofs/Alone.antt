@@ -1,19 +1,13 @@
 -- One frame has another record, and no key another place.
 use Rattle.std.proofs.Common.{◌≡◌, ◌≢◌, ℕ, ◌<◌, Bool, true, false, List, [], ◌∷◌, ◌++◌, refl, sym, ap, ◌∙◌, length, get_or-set_same, get_or-set_other}
 use Rattle.std.specs.Prelude.{is_some, not, if◌then◌else◌, slice_set, slice_index_or}
-use Rattle.mm_types.specs.Machine.{MachineOf}
-use Rattle.mm_types.specs.declared.numbers.Frame.{Frame}
-use Rattle.mm_types.specs.declared.numbers.Key.{Key}
-use Rattle.mm_types.specs.declared.frames.Record.{Record}
-use Rattle.mm_types.specs.declared.frames.Held.{Held}
+use Rattle.mm_types.specs.{MachineOf, Frame, Key, Record, Held}
 use Rattle.mm_types.specs.declared.frames.Held.TheVariants as held
-use Rattle.mm_life.specs.Frames.{FrameTable, blank, record_at, is_read, is_on, is_idle, with_record, settled, settled_by, to_free}
-use Rattle.mm_life.specs.Life.{FrameLife, is_dead}
-use Rattle.mm_life.specs.Effect.{home_at}
-use Rattle.mm_life.specs.Located.{FrameBytes, BlockBytes, page_at, bytes_at, held_in, located, contents_of, BytesLocated}
-use Rattle.mm_frame_laws.specs.Carried.{Carries}
+use Rattle.mm_life.specs.{FrameTable, blank, record_at, is_read, is_on, is_idle, with_record, settled, settled_by, to_free, FrameLife, is_dead}
+use Rattle.mm_life.specs.{home_at, FrameBytes, BlockBytes, page_at, bytes_at, held_in, located, contents_of, BytesLocated}
+use Rattle.mm_frame_laws.specs.{Carries}
 use Rattle.mm_frame_laws.proofs.Moving.{calm_in, still, clean_by}
-use Rattle.mm_life.proofs.Records.{records_settled}
+use Rattle.mm_life.proofs.{records_settled}
 
 -- ---- tables
 

@@ -1,100 +1,29 @@
 -- What each move leaves of the bytes of keys.
-use Rattle.std.proofs.Common.{◌≡◌, ◌≤◌, ◌<◌, ℕ, true, false, List, ◌++◌, Option, Some, None, length, refl, sym, ap, ◌∙◌, arith}
-use Rattle.std.specs.Prelude.{is_some, replicate, slice_get, slice_set}
+use Rattle.std.proofs.Common.{◌≡◌, ◌<◌, ℕ, true, false, List, Option, Some, None, length, refl, sym, ap, ◌∙◌, arith}
+use Rattle.std.specs.Prelude.{is_some, replicate}
 use Rattle.std.proofs.lemmas.Bool.{or_right}
-use Rattle.mm_types.specs.declared.frames.Held.{Held}
-use Rattle.mm_types.specs.Machine.{MachineOf}
-use Rattle.mm_types.specs.declared.numbers.Block.{Block}
-use Rattle.mm_types.specs.declared.numbers.Frame.{Frame}
-use Rattle.mm_types.specs.declared.numbers.Key.{Key}
-use Rattle.mm_types.specs.declared.numbers.Place.{Place}
-use Rattle.mm_types.specs.declared.moves.LineKind.{LineKind}
+use Rattle.mm_types.specs.{Held, MachineOf, Frame, Key}
 use Rattle.mm_types.specs.declared.moves.LineKind.TheVariants as kind
 use Rattle.mm_types.specs.declared.moves.Move.TheVariants as move
-use Rattle.mm_types.specs.declared.moves.Stored.{Stored}
-use Rattle.mm_life.specs.Frames.{record_at, has_request, is_read, is_write, slot_of}
-use Rattle.mm_life.specs.Life.{FrameLife, changed, same_key, unstarted}
-use Rattle.mm_life.specs.Legal.{IsLegal}
-use Rattle.mm_life.specs.Effect.{after_move, home_at}
-use Rattle.mm_life.specs.Located.{FrameBytes, BlockBytes, zero_page, page_at, bytes_at, located, contents_of, BytesLocated}
+use Rattle.mm_life.specs.{record_at, has_request, is_read, is_write, slot_of, FrameLife, unstarted, IsLegal, after_move, FrameBytes, BlockBytes}
+use Rattle.mm_life.specs.{page_at, bytes_at, located, contents_of, BytesLocated}
 use Rattle.mm_laws.specs.Reached.{Reached}
-use Rattle.mm_laws.specs.Fits.{is_backed}
-use Rattle.mm_laws.specs.FileBlocks.{block_of, block_in}
-use Rattle.mm_ram.specs.Ram.{with_page}
-use Rattle.mm_laws.proofs.Facts.{facts_of}
+use Rattle.mm_laws.specs.{is_backed, block_of, block_in}
+use Rattle.mm_laws.proofs.{facts_of}
 use Rattle.mm_frame_laws.proofs.Moving.{calm_in}
-use Rattle.mm_frame_laws.proofs.FrameMoves.{map_carries, unmap_carries, soil_carries, write_carries, lost_carries}
-use Rattle.mm_frame_laws.proofs.KeyMoves.{give_carries, read_carries, steal_carries, bad_carries, add_zero_carries, add_block_carries, drop_carries}
-use Rattle.mm_frame_laws.proofs.PageMoves.{clear_carries, got_carries, written_carries}
 use Rattle.mm_frame_laws.proofs.Written.{wrote_carries}
-use Rattle.mm_frame_laws.proofs.Lines.{at_carries, at_plain_carries, block_carries}
-use Rattle.mm_frame_laws.specs.Carried.{Carries, slots_written, blocks_written, IsSoiled, slots_grown}
-use Rattle.mm_life.proofs.Requests.{read_has}
-use Rattle.mm_life.proofs.Start.{located_at_start}
+use Rattle.mm_frame_laws.specs.{Carries, slots_written, blocks_written}
+use Rattle.mm_life.proofs.{read_has, located_at_start}
 use Rattle.std.proofs.lemmas.List.{length-replicate}
+pub use Rattle.mm_frame_laws.proofs.FrameMoves.{carries_map, carries_unmap, carries_soil, carries_write, carries_lost}
+pub use Rattle.mm_frame_laws.proofs.PageMoves.{carries_clear, carries_got, carries_written}
+pub use Rattle.mm_frame_laws.proofs.KeyMoves.{carries_give, carries_read, carries_steal, carries_bad, carries_add_zero, carries_add_block, carries_drop}
+pub use Rattle.mm_frame_laws.proofs.Lines.{carries_at_plain, carries_at, carries_block}
 
 module _ (l : FrameLife) (reached : ∥ Reached l ∥₁) (ram : FrameBytes) (slots blocks : BlockBytes) (kept : BytesLocated l ram slots blocks) where
-  pub carries_at : (n : ℕ) (k : LineKind) → 1 ≤ l.line → IsLegal (move.At n k) l
-      → Carries (after_move l (move.At n k)) ram (slots ++ replicate (slots_grown k) zero_page) blocks (contents_of l ram slots blocks)
-  carries_at n k begun legal = at_carries l (facts_of l reached) ram slots blocks kept n k begun legal
-
-  pub carries_at_plain : (n : ℕ) (k : LineKind) → 1 ≤ l.line → slots_grown k ≡ 0 → IsLegal (move.At n k) l
-      → Carries (after_move l (move.At n k)) ram slots blocks (contents_of l ram slots blocks)
-  carries_at_plain n k begun same legal = at_plain_carries l (facts_of l reached) ram slots blocks kept n k begun same legal
-
-  pub carries_add_zero : (k : Key) → IsLegal (move.Add k None) l → Carries (after_move l (move.Add k None)) ram slots blocks (changed same_key (contents_of l ram slots blocks) k (Some zero_page))
-  carries_add_zero k legal = add_zero_carries l (facts_of l reached) ram slots blocks kept k
-
-  pub carries_add_block : (k : Key) (b : Block) → IsLegal (move.Add k (Some b)) l → Carries (after_move l (move.Add k (Some b))) ram slots blocks (changed same_key (contents_of l ram slots blocks) k (slice_get blocks b.0))
-  carries_add_block k b legal = add_block_carries l (facts_of l reached) ram slots blocks kept k b legal
-
-  pub carries_drop : (k : Key) → IsLegal (move.Drop k) l → Carries (after_move l (move.Drop k)) ram slots blocks (changed same_key (contents_of l ram slots blocks) k None)
-  carries_drop k legal = drop_carries l (facts_of l reached) ram slots blocks kept k
-
-  pub carries_clear : (f : Frame) → IsLegal (move.Clear f) l → Carries (after_move l (move.Clear f)) (with_page ram f.0 zero_page) slots blocks (contents_of l ram slots blocks)
-  carries_clear f legal = clear_carries l (facts_of l reached) ram slots blocks kept f legal
-
-  pub carries_steal : (f : Frame) → IsLegal (move.Steal f) l → Carries (after_move l (move.Steal f)) ram slots blocks (contents_of l ram slots blocks)
-  carries_steal f legal = steal_carries l (facts_of l reached) ram slots blocks kept f legal
-
-  pub carries_give : (f : Frame) (k : Key) → IsLegal (move.Give f k) l → Carries (after_move l (move.Give f k)) ram slots blocks (contents_of l ram slots blocks)
-  carries_give f k legal = give_carries l (facts_of l reached) ram slots blocks kept f k legal
-
-  pub carries_read : (f : Frame) (k : Key) → IsLegal (move.Read f k) l → Carries (after_move l (move.Read f k)) ram slots blocks (contents_of l ram slots blocks)
-  carries_read f k legal = read_carries l (facts_of l reached) ram slots blocks kept f k legal
-
-  pub carries_map : (f : Frame) (p : Place) → IsLegal (move.Map f p) l → Carries (after_move l (move.Map f p)) ram slots blocks (contents_of l ram slots blocks)
-  carries_map f p legal = map_carries l (facts_of l reached) ram slots blocks kept f p legal
-
-  pub carries_unmap : (p : Place) → IsLegal (move.Unmap p) l → Carries (after_move l (move.Unmap p)) ram slots blocks (contents_of l ram slots blocks)
-  carries_unmap p legal = unmap_carries l (facts_of l reached) ram slots blocks kept p legal
-
-  pub carries_soil : (f : Frame) → IsLegal (move.Soil f) l → Carries (after_move l (move.Soil f)) ram slots blocks (contents_of l ram slots blocks)
-  carries_soil f legal = soil_carries l (facts_of l reached) ram slots blocks kept f legal
-
-  pub carries_write : (f : Frame) (s : Stored) → IsLegal (move.Write f s) l → Carries (after_move l (move.Write f s)) ram slots blocks (contents_of l ram slots blocks)
-  carries_write f s legal = write_carries l (facts_of l reached) ram slots blocks kept f s legal
-
-  pub carries_got : (f : Frame) (page : List ℕ) → IsLegal (move.Got f) l → bytes_at ram slots blocks (home_at (record_at l.frames f.0).backing) ≡ Some page
-      → Carries (after_move l (move.Got f)) (with_page ram f.0 page) slots blocks (contents_of l ram slots blocks)
-  carries_got f page legal there = got_carries l (facts_of l reached) ram slots blocks kept f page legal there
-
-  pub carries_bad : (f : Frame) → IsLegal (move.Bad f) l → Carries (after_move l (move.Bad f)) ram slots blocks (contents_of l ram slots blocks)
-  carries_bad f legal = bad_carries l (facts_of l reached) ram slots blocks kept f legal
-
   pub carries_wrote : (f : Frame) (page : List ℕ) → IsLegal (move.Wrote f) l → page_at ram f.0 ≡ Some page
       → Carries (after_move l (move.Wrote f)) ram (slots_written (record_at l.frames f.0).backing page slots) (blocks_written (record_at l.frames f.0).backing page blocks) (contents_of l ram slots blocks)
   carries_wrote f page legal there = wrote_carries l (facts_of l reached) f ram slots blocks page legal kept there
-
-  pub carries_lost : (f : Frame) → IsLegal (move.Lost f) l → Carries (after_move l (move.Lost f)) ram slots blocks (contents_of l ram slots blocks)
-  carries_lost f legal = lost_carries l (facts_of l reached) ram slots blocks kept f legal
-
-  pub carries_written : (f : Frame) (k : Key) (page : List ℕ) → (record_at l.frames f.0).owner ≡ Some k → IsSoiled (record_at l.frames f.0)
-      → Carries l (with_page ram f.0 page) slots blocks (changed same_key (contents_of l ram slots blocks) k (Some page))
-  carries_written f k page owner soiled = written_carries l (facts_of l reached) ram slots blocks kept f k page owner soiled
-
-  pub carries_block : (b : ℕ) (page : List ℕ) → l.added b ≡ false → Carries l ram slots (slice_set blocks b page) (contents_of l ram slots blocks)
-  carries_block b page new = block_carries l (facts_of l reached) ram slots blocks kept b page new
 
   pub read_backed : (f : Frame) → is_read (record_at l.frames f.0).request ≡ true → is_backed (record_at l.frames f.0).backing ≡ true
   read_backed f h =

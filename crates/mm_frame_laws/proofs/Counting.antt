@@ -2,35 +2,17 @@
 use Rattle.std.proofs.Common.{◌≡◌, ◌⊎◌, ℕ, ◌+◌, ◌<◌, ◌≤◌, Bool, true, false, cond, not, List, [], ◌∷◌, length, Option, Some, None, refl, sym, ap, ◌∙◌, inl, inr, arith}
 use Rattle.std.specs.Prelude.{◌==◌, ◌&&◌, ◌||◌, nat_lt, is_some, option_map, unwrap_or}
 use Rattle.std.specs.List.{list_any}
-use Rattle.std.proofs.lemmas.Bool.{and_parts, or_right, or_cases, lt-ltb}
+use Rattle.std.proofs.lemmas.Bool.{or_right, or_cases, lt-ltb}
 use Rattle.std.specs.Cmp.{unsigned_Decides}
-use Rattle.mm_types.specs.Machine.{IsMachine}
-use Rattle.mm_types.specs.declared.numbers.Frame.{Frame}
-use Rattle.mm_types.specs.declared.numbers.Key.{Key}
-use Rattle.mm_types.specs.declared.numbers.Place.{Place}
-use Rattle.mm_types.specs.declared.frames.Record.{Record}
-use Rattle.mm_types.specs.declared.frames.Backing.{Backing}
+use Rattle.mm_types.specs.{IsMachine, Frame, Key, Place, Record, Backing}
 use Rattle.mm_types.specs.declared.frames.Backing.TheVariants as backing
-use Rattle.mm_life.specs.Frames.{record_at, blank, has_request, slot_of, is_idle, is_on, is_empty}
-use Rattle.mm_life.specs.Life.{FrameLife}
-use Rattle.mm_life.specs.Legal.{is_short, owner_is}
-use Rattle.mm_life.specs.Victims.{can_be_written}
-use Rattle.mm_laws.specs.Tally.{one_if, tally, times}
-use Rattle.mm_laws.specs.Places.{is_frame}
-use Rattle.mm_laws.specs.PagingKeys.{is_backing_for}
-use Rattle.mm_laws.specs.Fits.{is_kept}
-use Rattle.mm_laws.specs.Sights.{sight, Stand}
+use Rattle.mm_life.specs.{record_at, blank, has_request, slot_of, is_idle, is_on, is_empty, FrameLife, is_short, owner_is, can_be_written}
+use Rattle.mm_life.specs.{is_unpinned, may_go}
+use Rattle.mm_laws.specs.{one_if, tally, times, is_frame, is_backing_for, is_kept, sight, Stand, sum_to, has_paged, has_slot}
 use Rattle.mm_laws.specs.Sound.{Sound}
-use Rattle.mm_laws.proofs.Tallies.{tally-more}
-use Rattle.mm_laws.specs.Sums.{sum_to}
-use Rattle.mm_laws.proofs.Sound.{some_owner}
-use Rattle.mm_life.specs.Order.{is_unpinned, may_go}
-use Rattle.mm_frame_laws.specs.Room.{NoneWritable, IsWithinDepth}
-use Rattle.mm_laws.specs.Homes.{has_paged, has_slot}
-use Rattle.mm_laws.proofs.Sums.{one_most, one_within, sum-most, sum-plus, sum-ones, sum-frame, sum-cells}
-use Rattle.mm_laws.proofs.Lowest.{none_counted, free_and_taken}
-use Rattle.mm_laws.proofs.Homes.{counts_homes}
-use Rattle.mm_laws.proofs.FromSound.{requests_counted, three_hold}
+use Rattle.mm_laws.proofs.{tally-more, some_owner, one_most, one_within, sum-most, sum-plus, sum-ones, sum-frame, sum-cells, none_counted}
+use Rattle.mm_laws.proofs.{free_and_taken, counts_homes, requests_counted, three_hold, three_parts}
+use Rattle.mm_frame_laws.specs.{NoneWritable, IsWithinDepth}
 
 -- ---- lists
 
@@ -63,9 +45,8 @@ data Kept (f : ℕ) (l : FrameLife) (pinned : Option Frame) : Type 0 where
   unwritten : is_on f l.frames.modified ≡ true → is_some (record_at l.frames f).owner ≡ true → slot_of (record_at l.frames f).backing ≡ None → Kept f l pinned
 
 backing_pages : (b : Bool) (x : Backing) → is_backing_for b x ≡ true → is_some (slot_of x) ≡ true → b ≡ true
-backing_pages b backing.None i e = cc
 backing_pages b (backing.Slot s) i e = i
-backing_pages b (backing.Block c) i e = cc
+backing_pages b _ i e = cc
 
 module _ (l : FrameLife) (s : Sound l) (pinned : Option Frame) (short : is_short l ≡ true) where
   abbrev r : ℕ → Record
@@ -73,9 +54,8 @@ module _ (l : FrameLife) (s : Sound l) (pinned : Option Frame) (short : is_short
 
   lists : (is_empty l.frames.zeroed ≡ true) × ((is_empty l.frames.free ≡ true) × (is_empty l.frames.standby ≡ true))
   lists =
-      let p = and_parts (is_empty l.frames.zeroed && is_empty l.frames.free) (is_empty l.frames.standby) short in
-      let q = and_parts (is_empty l.frames.zeroed) (is_empty l.frames.free) p.0 in
-      (q.0, (q.1, p.1))
+      let p = three_parts _ _ _ short in
+      (p.0, (p.1, p.2))
 
   -- no place may go: only the pinned frame has shares
   unshared : tally (may_go l pinned) s.shown.places ≡ 0 → (f : ℕ) → is_frame f pinned ≡ false → (r f).shares ≡ 0

@@ -1,29 +1,21 @@
 -- The moves that change the record of a frame, and no key's place: map, unmap, soil, write, lost.
 use Rattle.std.proofs.Common.{◌≡◌, ℕ, ◌<◌, ◌≤◌, Bool, true, false, Option, Some, None, refl, sym, ap, ◌∙◌, arith, length}
-use Rattle.std.specs.Prelude.{◌&&◌, ◌||◌, not, is_some, is_none, nat_lt, if◌then◌else◌, option_map, unwrap_or}
+use Rattle.std.specs.Prelude.{◌||◌, is_some, if◌then◌else◌, option_map, unwrap_or}
 use Rattle.std.proofs.lemmas.Bool.{and_parts, or_left, or_right, not-true, lt-ltb, ltb-true}
-use Rattle.mm_types.specs.declared.numbers.Frame.{Frame}
-use Rattle.mm_types.specs.declared.numbers.Place.{Place}
-use Rattle.mm_types.specs.declared.frames.Record.{Record}
-use Rattle.mm_types.specs.declared.frames.Backing.{Backing}
+use Rattle.mm_types.specs.{Frame, Place, Record, Backing, Request, Stored}
 use Rattle.mm_types.specs.declared.frames.Backing.TheVariants as backing
-use Rattle.mm_types.specs.declared.frames.Request.{Request}
 use Rattle.mm_types.specs.declared.frames.Request.TheVariants as request
 use Rattle.mm_types.specs.declared.moves.Move.TheVariants as move
-use Rattle.mm_types.specs.declared.moves.Stored.{Stored}
 use Rattle.mm_types.specs.declared.moves.Stored.TheVariants as stored
-use Rattle.mm_life.specs.Frames.{FrameTable, blank, record_at, is_read, is_write, is_again, is_on, has_request, shared, unshared, soiled, being_written, write_lost, without_slot}
-use Rattle.mm_life.specs.Life.{FrameLife, set_of}
-use Rattle.mm_life.specs.Legal.{IsLegal, owner_is, fits_place, touches, is_touch, is_below_max, is_access, is_writer, is_call, is_io, has_depth, is_lowest, is_block, may_write_block, may_unmap}
-use Rattle.mm_life.specs.Effect.{after_move, after_unmap_at}
-use Rattle.mm_life.specs.Located.{FrameBytes, BlockBytes, contents_of, BytesLocated}
-use Rattle.mm_laws.proofs.Requests.{write_has}
-use Rattle.mm_laws.proofs.Sights.{kept_inside}
-use Rattle.mm_laws.proofs.Sound.{owner_passes}
-use Rattle.mm_frame_laws.specs.Carried.{Carries}
+use Rattle.mm_life.specs.{FrameTable, blank, record_at, is_read, is_write, has_request, shared, unshared, soiled, being_written, write_lost}
+use Rattle.mm_life.specs.{without_slot, FrameLife, IsLegal, fits_place, is_access, is_call, is_io, may_unmap, after_move, after_unmap_at, FrameBytes}
+use Rattle.mm_life.specs.{BlockBytes, contents_of, BytesLocated}
+use Rattle.mm_laws.proofs.{write_has, kept_inside, owner_passes, facts_of, five_parts, four_parts, three_parts}
+use Rattle.mm_frame_laws.specs.{Carries}
 use Rattle.mm_laws.proofs.Facts.{Facts}
 use Rattle.mm_frame_laws.proofs.Alone.{Alone, alone_set, records_ended, zeroed_ended, carries_alone}
-use Rattle.mm_life.proofs.Requests.{write_not_read, calm}
+use Rattle.mm_life.proofs.{write_not_read, calm}
+use Rattle.mm_laws.specs.Reached.{Reached}
 
 pub owned_low : (d : FrameTable) (f : ℕ) → is_some (record_at d f).owner ≡ true → f < length d.records
 owned_low d f o = kept_inside d f (or_left (is_some (record_at d f).owner) (has_request (record_at d f).request) o)
@@ -39,17 +31,16 @@ shown_calm l facts f some = by (is_read (record_at l.frames f).request) refl
     by false e = refl
     by true e = let none = ((facts.standing f).fit.reading e).0 in absurd (omega (arith, some, none))
 
-module _ (l : FrameLife) (facts : Facts l) (ram : FrameBytes) (slots blocks : BlockBytes) (kept : BytesLocated l ram slots blocks) where
+module _ (l : FrameLife) (reached : ∥ Reached l ∥₁) (ram : FrameBytes) (slots blocks : BlockBytes) (kept : BytesLocated l ram slots blocks) where
+  facts : Facts l
+  facts = facts_of l reached
+
   -- ---- map
 
-  pub map_carries : (f : Frame) (p : Place) → IsLegal (move.Map f p) l → Carries (after_move l (move.Map f p)) ram slots blocks (contents_of l ram slots blocks)
-  map_carries f p legal =
+  pub carries_map : (f : Frame) (p : Place) → IsLegal (move.Map f p) l → Carries (after_move l (move.Map f p)) ram slots blocks (contents_of l ram slots blocks)
+  carries_map f p legal =
       let r = record_at l.frames f.0 in
-      let a = owner_is (fits_place p) r in
-      let b = not (is_read r.request) in
-      let v = is_none (l.valid p) in
-      let t = touches p.pid.0 l.kind in
-      let front = and_parts a b (and_parts (a && b) v (and_parts (a && b && v) t (and_parts (a && b && v && t) (is_below_max (set_of l p.pid.0)) legal).0).0).0 in
+      let front = five_parts _ _ _ _ _ legal in
       let owner = owner_passes (fits_place p) r front.0 in
       let calm : is_read r.request ≡ false = not-true (is_read r.request) front.1 in
       let low = owned_low l.frames f.0 (ap is_some owner.is) in
@@ -59,8 +50,8 @@ module _ (l : FrameLife) (facts : Facts l) (ram : FrameBytes) (slots blocks : Bl
 
   -- ---- unmap
 
-  pub unmap_carries : (p : Place) → IsLegal (move.Unmap p) l → Carries (after_move l (move.Unmap p)) ram slots blocks (contents_of l ram slots blocks)
-  unmap_carries p legal = by (l.valid p) refl legal
+  pub carries_unmap : (p : Place) → IsLegal (move.Unmap p) l → Carries (after_move l (move.Unmap p)) ram slots blocks (contents_of l ram slots blocks)
+  carries_unmap p legal = by (l.valid p) refl legal
     where
       by : (o : Option Frame) → l.valid p ≡ o → unwrap_or (option_map (λ f. may_unmap l p (record_at l.frames f.0)) o) false ≡ true → Carries (after_unmap_at o l p) ram slots blocks (contents_of l ram slots blocks)
       by None e h = cc
@@ -78,16 +69,14 @@ module _ (l : FrameLife) (facts : Facts l) (ram : FrameBytes) (slots blocks : Bl
   -- ---- soil
 
   asked_calm : (q : Request) → has_request q ≡ true → is_read q ≡ false → is_write q ≡ true
-  asked_calm request.None h c = cc
-  asked_calm request.Read h c = cc
   asked_calm request.Write h c = refl
   asked_calm request.WriteAgain h c = refl
+  asked_calm _ h c = cc
 
-  pub soil_carries : (f : Frame) → IsLegal (move.Soil f) l → Carries (after_move l (move.Soil f)) ram slots blocks (contents_of l ram slots blocks)
-  soil_carries f legal =
+  pub carries_soil : (f : Frame) → IsLegal (move.Soil f) l → Carries (after_move l (move.Soil f)) ram slots blocks (contents_of l ram slots blocks)
+  carries_soil f legal =
       let r = record_at l.frames f.0 in
-      let test = (not r.changed && not (has_request r.request)) || (is_write r.request && not (is_again r.request)) in
-      let some = ltb-true 0 r.shares (and_parts (nat_lt 0 r.shares) test (and_parts (nat_lt 0 r.shares && test) (is_touch l.kind) legal).0).0 in
+      let some = ltb-true 0 r.shares (three_parts _ _ _ legal).0 in
       let calm = shown_calm l facts f.0 (omega (arith, some)) in
       let owned = (facts.standing f.0).fit.shown (lt-ltb 0 r.shares some) in
       let low = owned_low l.frames f.0 owned in
@@ -112,31 +101,24 @@ module _ (l : FrameLife) (facts : Facts l) (ram : FrameBytes) (slots blocks : Bl
   begun f home m owned dirty idle a =
       carries_alone l m ram slots blocks kept f.0 (being_written home (record_at l.frames f.0)) a (calm (record_at l.frames f.0).request idle) refl (λ o c. let bad : true ≡ false = sym dirty ∙ c in cc)
 
-  pub write_carries : (f : Frame) (s : Stored) → IsLegal (move.Write f s) l → Carries (after_move l (move.Write f s)) ram slots blocks (contents_of l ram slots blocks)
-  write_carries f (stored.Slot s) legal =
+  pub carries_write : (f : Frame) (s : Stored) → IsLegal (move.Write f s) l → Carries (after_move l (move.Write f s)) ram slots blocks (contents_of l ram slots blocks)
+  carries_write f (stored.Slot s) legal =
       let r = record_at l.frames f.0 in
-      let on = is_on f.0 l.frames.modified in
-      let paged = owner_is l.paging r in
-      let lowest = is_lowest s.0 l.free_slots in
-      let is = facts.modified f.0 (and_parts on paged (and_parts (on && paged) lowest (and_parts (on && paged && lowest) (is_access l.kind || (is_writer l.kind && has_depth l)) legal).0).0).0 in
+      let is = facts.modified f.0 (four_parts _ _ _ _ legal).0 in
       let new = being_written (backing.Slot s) r in
       begun f (backing.Slot s) (after_move l (move.Write f (stored.Slot s))) is.owned is.changed is.quiet
       (alone_set l (after_move l (move.Write f (stored.Slot s))) f.0 new refl (owned_low l.frames f.0 is.owned) refl refl refl)
-  write_carries f (stored.Block b) legal =
+  carries_write f (stored.Block b) legal =
       let r = record_at l.frames f.0 in
-      let o = is_some r.owner in
-      let q = not (has_request r.request) in
-      let k = is_block b.0 r.backing in
-      let all = and_parts (r.changed && o) q (and_parts (r.changed && o && q) k (and_parts (r.changed && o && q && k) (may_write_block l f.0) legal).0).0 in
-      let both = and_parts r.changed o all.0 in
+      let parts = five_parts _ _ _ _ _ legal in
       let new = being_written (backing.Block b) r in
-      begun f (backing.Block b) (after_move l (move.Write f (stored.Block b))) both.1 both.0 (not-true (has_request r.request) all.1)
-      (alone_set l (after_move l (move.Write f (stored.Block b))) f.0 new refl (owned_low l.frames f.0 both.1) refl refl refl)
+      begun f (backing.Block b) (after_move l (move.Write f (stored.Block b))) parts.1 parts.0 (not-true (has_request r.request) parts.2)
+      (alone_set l (after_move l (move.Write f (stored.Block b))) f.0 new refl (owned_low l.frames f.0 parts.1) refl refl refl)
 
   -- ---- lost
 
-  pub lost_carries : (f : Frame) → IsLegal (move.Lost f) l → Carries (after_move l (move.Lost f)) ram slots blocks (contents_of l ram slots blocks)
-  lost_carries f legal =
+  pub carries_lost : (f : Frame) → IsLegal (move.Lost f) l → Carries (after_move l (move.Lost f)) ram slots blocks (contents_of l ram slots blocks)
+  carries_lost f legal =
       let r = record_at l.frames f.0 in
       let writing = (and_parts (is_write r.request) (is_io l.kind || is_access l.kind || is_call l.kind) legal).0 in
       let new = if is_some r.owner then write_lost r else blank in

@@ -2,22 +2,15 @@
 use Rattle.std.proofs.Common.{◌≡◌, ◌⊎◌, ℕ, zero, suc, ◌+◌, ◌<◌, ◌≤◌, Bool, true, false, cond, not, List, [], ◌∷◌, length, Option, Some, None, refl, sym, ap, ◌∙◌, subst, inl, inr, arith}
 use Rattle.std.specs.Prelude.{◌&&◌, is_some, slice_get}
 use Rattle.std.proofs.lemmas.Bool.{cases_lt, eqb-true}
-use Rattle.std.specs.Cmp.{unsigned_Decides}
-use Rattle.mm_types.proofs.Cells.{get_within}
-use Rattle.mm_types.specs.declared.numbers.Frame.{Frame}
-use Rattle.mm_types.specs.declared.numbers.Place.{Place}
-use Rattle.mm_life.specs.Life.{FrameLife, same_place, set_of}
-use Rattle.mm_life.specs.Legal.{is_above_min}
-use Rattle.mm_life.specs.declared.sets.ResidentSet.{ResidentSet}
-use Rattle.mm_laws.specs.Tally.{one_if, tally}
-use Rattle.mm_laws.specs.Places.{is_of, residents}
+use Rattle.mm_types.proofs.{get_within}
+use Rattle.mm_types.specs.{Frame, Place}
+use Rattle.mm_life.specs.{FrameLife, same_place, set_of, is_above_min, ResidentSet, is_unpinned, may_go, Ages, turn_of, process_first, IsOldest}
+use Rattle.mm_life.specs.{IsVictim}
+use Rattle.mm_laws.specs.{one_if, tally, is_of, residents}
 use Rattle.mm_laws.specs.Sound.{Sound}
-use Rattle.mm_laws.proofs.Tallies.{tally-more}
-use Rattle.mm_laws.proofs.PlaceCounts.{same_place-true, same_place-self}
-use Rattle.mm_life.specs.Order.{is_unpinned, may_go}
-use Rattle.mm_life.specs.Order.{Ages, turn_of, process_first, IsOldest, IsVictim}
-use Rattle.mm_frame_laws.specs.Order.{Sooner, IsNextPage, PassedTo, NoPageFollows, IsBest, BestBelow, takes_over}
-use Rattle.mm_frame_laws.proofs.Ordering.{NotBefore, page_from, process_not, process_from, some_oldest, all_shown}
+use Rattle.mm_laws.proofs.{same_place-self, resident_there}
+use Rattle.mm_frame_laws.specs.{Sooner, IsNextPage, PassedTo, NoPageFollows, IsBest, BestBelow, takes_over}
+use Rattle.mm_frame_laws.proofs.Ordering.{NotBefore, page_from, process_not, process_from, some_oldest}
 
 -- ---- the pages of a set in turn
 
@@ -132,15 +125,8 @@ module _ (l : FrameLife) (ages : Ages) (pinned : Option Frame) where
 
 -- the process of a valid place was made, and its set is not empty
 module _ (l : FrameLife) (s : Sound l) (q : Place) (there : is_some (l.valid q) ≡ true) where
-  some_resident : 1 ≤ residents (set_of l q.pid.0)
-  some_resident =
-      let one = all_shown l s q there in
-      let more = tally-more (same_place q) (is_of q.pid.0) s.shown.places (λ p e. ap (λ (y : Place). is_of q.pid.0 y) (sym (same_place-true q p e)) ∙ (unsigned_Decides q.pid.0 q.pid.0).1 refl) in
-      let sizes = s.shown.resident q.pid.0 in
-      omega (arith, one, more, sizes)
-
   pub has_process : (1 ≤ q.pid.0) × (q.pid.0 ≤ length l.sets)
-  has_process = at q.pid.0 refl some_resident
+  has_process = at q.pid.0 refl (resident_there l s q there)
     where
       at : (n : ℕ) → q.pid.0 ≡ n → 1 ≤ residents (set_of l n) → (1 ≤ n) × (n ≤ length l.sets)
       at zero e h = absurd (omega (arith, h))

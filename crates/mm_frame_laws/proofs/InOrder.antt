@@ -4,31 +4,18 @@ use Rattle.std.specs.Prelude.{◌==◌, ◌&&◌, ◌||◌}
 use Rattle.std.specs.Cmp.{unsigned_Decides}
 use Rattle.std.proofs.lemmas.Bool.{or_left, or_right}
 use Rattle.std.proofs.lemmas.List.{append-nil}
-use Rattle.mm_types.specs.declared.numbers.Frame.{Frame}
-use Rattle.mm_types.specs.declared.numbers.Place.{Place}
-use Rattle.mm_types.specs.declared.moves.Stored.{Stored}
-use Rattle.mm_types.specs.declared.moves.Move.{Move}
+use Rattle.mm_types.specs.{Frame, Place, Stored, Move}
 use Rattle.mm_types.specs.declared.moves.Move.TheVariants as move
-use Rattle.mm_life.specs.Frames.{record_at, is_on, without}
-use Rattle.mm_life.specs.Life.{FrameLife}
-use Rattle.mm_life.specs.Legal.{IsLegal}
-use Rattle.mm_life.specs.Effect.{after_move}
-use Rattle.mm_life.specs.Replay.{Replays}
-use Rattle.mm_life.specs.Victims.{can_be_written}
-use Rattle.mm_laws.specs.Tally.{one_if, times}
+use Rattle.mm_life.specs.{record_at, is_on, without, FrameLife, IsLegal, after_move, Replays, can_be_written, Ages, IsVictim}
+use Rattle.mm_laws.specs.{one_if, times, at_end_if}
 use Rattle.mm_laws.specs.Sound.{Sound}
-use Rattle.mm_laws.proofs.Tallies.{tally-append, times_on}
-use Rattle.mm_laws.proofs.Kept.{kept_along}
-use Rattle.mm_laws.proofs.PlaceCounts.{has_shares}
-use Rattle.mm_life.specs.Order.{Ages, IsVictim}
-use Rattle.mm_frame_laws.specs.Steps.{is_last, Unmapped, after_failed, put_last, list_in_search}
-use Rattle.mm_frame_laws.specs.Searches.{is_lost_of, lost_in, failed_write, Walking, Emptying, first_passing, is_untried, next_try, written_by, open_write, IsUnmap, AreSteps, InOrder, InWalk}
+use Rattle.mm_laws.proofs.{tally-append, times_on, kept_along, has_shares, modified_frame}
+use Rattle.mm_frame_laws.specs.{is_last, Unmapped, after_failed, put_last, list_in_search, is_lost_of, lost_in, failed_write, Walking, Emptying}
+use Rattle.mm_frame_laws.specs.{first_passing, is_untried, next_try, written_by, open_write, IsUnmap, AreSteps, InOrder, InWalk}
 use Rattle.mm_frame_laws.proofs.Unmapping.{unmapped}
-use Rattle.mm_laws.specs.Settling.{at_end_if}
-use Rattle.mm_laws.proofs.FromSound.{modified_frame}
 use Rattle.mm_frame_laws.proofs.Writing.{failed}
 use Rattle.mm_frame_laws.proofs.Walks.{any_append, or_none, on_append, on_last, on_left, lost_still, walk_on, writes_same, writers_same}
-use Rattle.mm_types.proofs.Booleans.{untried_not, not_true}
+use Rattle.mm_types.proofs.{untried_not, not_true}
 
 -- ---- the first that passes
 
@@ -52,9 +39,8 @@ steps_then l m ages pinned made (x ∷ xs) ys a r b =
 
 -- the last move
 open_push : (made : List Move) (x : Move) → open_write (made ++ x ∷ []) ≡ written_by x
-open_push [] x = refl
-open_push (y ∷ []) x = refl
 open_push (y ∷ z ∷ rest) x = open_push (z ∷ rest) x
+open_push _ x = refl
 
 open_failed : (made : List Move) (f : Frame) (home : Stored) → open_write (made ++ failed_write f home) ≡ None
 open_failed made f home = ap open_write (sym (append_assoc made (move.Write f home ∷ []) (move.Lost f ∷ []))) ∙ open_push (made ++ move.Write f home ∷ []) (move.Lost f)

@@ -1,36 +1,26 @@
 -- The moves that change one key's place: give, read, steal, bad, drop, add.
 use Rattle.std.proofs.Common.{◌≡◌, ◌≢◌, ℕ, zero, suc, ◌<◌, Bool, true, false, List, [], ◌∷◌, Option, Some, None, refl, sym, ap, ◌∙◌, arith, length}
-use Rattle.std.specs.Prelude.{◌&&◌, ◌||◌, not, is_some, nat_lt, if◌then◌else◌, slice_get, slice_set}
+use Rattle.std.specs.Prelude.{◌||◌, not, is_some, if◌then◌else◌, slice_get, slice_set}
 use Rattle.std.proofs.lemmas.Bool.{and_parts, ltb-true}
-use Rattle.mm_types.specs.Machine.{MachineOf}
-use Rattle.mm_types.specs.declared.numbers.Block.{Block}
-use Rattle.mm_types.specs.declared.numbers.Frame.{Frame}
-use Rattle.mm_types.specs.declared.numbers.Key.{Key}
-use Rattle.mm_types.specs.declared.frames.Record.{Record}
-use Rattle.mm_types.specs.declared.frames.Backing.{Backing}
+use Rattle.mm_types.specs.{MachineOf, Block, Frame, Key, Record, Backing, Held}
 use Rattle.mm_types.specs.declared.frames.Backing.TheVariants as backing
-use Rattle.mm_types.specs.declared.frames.Held.{Held}
 use Rattle.mm_types.specs.declared.frames.Held.TheVariants as held
 use Rattle.mm_types.specs.declared.moves.Move.TheVariants as move
-use Rattle.mm_life.specs.Frames.{FrameTable, blank, record_at, is_read, is_on, is_first, is_empty, rest, has_request, given, being_read, disowned, taken_for_read, to_free, off_lists, with_record}
-use Rattle.mm_life.specs.Life.{FrameLife, changed, same_key, is_live, is_dead, is_shared}
-use Rattle.mm_life.specs.Legal.{IsLegal, is_zero, is_stored, is_touch, is_access, is_thread, is_call, is_io, has_depth}
-use Rattle.mm_life.specs.Effect.{after_move, home_at, backing_of, homed, dropped_at}
-use Rattle.mm_life.specs.Located.{FrameBytes, BlockBytes, zero_page, page_at, bytes_at, held_in, located, contents_of, BytesLocated}
-use Rattle.mm_laws.proofs.FreshMoves.{zero_is, stored_backed}
-use Rattle.mm_laws.specs.Sights.{Sight}
-use Rattle.mm_laws.proofs.Changes.{changes_give}
-use Rattle.mm_laws.proofs.Taking.{fresh_read, changes_read, changes_steal}
-use Rattle.mm_laws.proofs.Sound.{some_owner}
-use Rattle.mm_laws.proofs.Requests.{read_has}
-use Rattle.mm_frame_laws.specs.Carried.{Carries}
+use Rattle.mm_life.specs.{FrameTable, blank, record_at, is_read, is_on, is_empty, rest, has_request, given, being_read, disowned, taken_for_read}
+use Rattle.mm_life.specs.{to_free, off_lists, with_record, FrameLife, changed, same_key, is_dead, IsLegal, is_stored, is_access, is_io, after_move}
+use Rattle.mm_life.specs.{home_at, backing_of, homed, dropped_at, FrameBytes, BlockBytes, zero_page, page_at, bytes_at, held_in, located, contents_of}
+use Rattle.mm_life.specs.{BytesLocated}
+use Rattle.mm_laws.proofs.{zero_is, stored_backed, changes_give, fresh_read, changes_read, changes_steal, some_owner, read_has, facts_of, four_parts}
+use Rattle.mm_laws.proofs.{three_parts}
+use Rattle.mm_laws.specs.{Sight}
+use Rattle.mm_frame_laws.specs.{Carries}
 use Rattle.mm_laws.proofs.Facts.{Facts}
 use Rattle.mm_frame_laws.proofs.Moving.{calm_in, read_in, one_moves, clean_by, same_live, same_contents}
 use Rattle.mm_frame_laws.proofs.Alone.{alone_set, others_set, here_set, carries_kept}
 use Rattle.mm_frame_laws.proofs.FrameMoves.{owned_low, asked_low}
 use Rattle.mm_frame_laws.proofs.Lists.{first_on, rest_on}
-use Rattle.mm_life.proofs.Held.{home_lives, stored_lives}
-use Rattle.mm_life.proofs.Requests.{calm}
+use Rattle.mm_life.proofs.{home_lives, stored_lives, calm}
+use Rattle.mm_laws.specs.Reached.{Reached}
 
 -- one frame has this record now, and one key stands there
 pub record Moves (l m : FrameLife) (f : ℕ) (r : Record) (k : Key) (h : Held) : Type 0 where
@@ -84,17 +74,17 @@ module _ (l m : FrameLife) (ram : FrameBytes) (slots blocks : BlockBytes) (kept 
 
 located_home : (m : FrameLife) (b : Backing) → located m (home_at b) ≡ home_at b
 located_home m backing.None = refl
-located_home m (backing.Slot s) = refl
-located_home m (backing.Block c) = refl
+located_home m _ = refl
 
 stored_home : (l : FrameLife) (h : Held) → is_stored h ≡ true → home_at (backing_of h) ≡ located l h
-stored_home l (held.Frame f) e = cc
 stored_home l (held.Slot s) e = refl
 stored_home l (held.Block b) e = refl
-stored_home l held.Zero e = cc
-stored_home l held.Dead e = cc
+stored_home l _ e = cc
 
-module _ (l : FrameLife) (facts : Facts l) (ram : FrameBytes) (slots blocks : BlockBytes) (kept : BytesLocated l ram slots blocks) where
+module _ (l : FrameLife) (reached : ∥ Reached l ∥₁) (ram : FrameBytes) (slots blocks : BlockBytes) (kept : BytesLocated l ram slots blocks) where
+  facts : Facts l
+  facts = facts_of l reached
+
   -- a frame that nobody owns is no key's
   nobody : (f : ℕ) (k : Key) → (record_at l.frames f).owner ≡ None → (q : Key) (g : Frame) → l.stands q ≡ held.Frame g → g.0 ≡ f → q ≡ k
   nobody f k none q g at e = let bad : Some q ≡ None = sym (facts.owner q g at) ∙ ap (λ (x : ℕ). (record_at l.frames x).owner) e ∙ none in cc
@@ -104,11 +94,9 @@ module _ (l : FrameLife) (facts : Facts l) (ram : FrameBytes) (slots blocks : Bl
 
   -- ---- give
 
-  pub give_carries : (f : Frame) (k : Key) → IsLegal (move.Give f k) l → Carries (after_move l (move.Give f k)) ram slots blocks (contents_of l ram slots blocks)
-  give_carries f k legal =
-      let first = is_first f.0 l.frames.zeroed in
-      let zero = is_zero (l.stands k) in
-      let parts = and_parts first zero (and_parts (first && zero) (is_touch l.kind) legal).0 in
+  pub carries_give : (f : Frame) (k : Key) → IsLegal (move.Give f k) l → Carries (after_move l (move.Give f k)) ram slots blocks (contents_of l ram slots blocks)
+  carries_give f k legal =
+      let parts = three_parts _ _ _ legal in
       let on = first_on f.0 l.frames.zeroed parts.0 in
       let bare = facts.zeroed f.0 on in
       let c = changes_give l.frames l.flight f.0 facts.standing k parts.0 in
@@ -136,11 +124,9 @@ module _ (l : FrameLife) (facts : Facts l) (ram : FrameBytes) (slots blocks : Bl
       by true h = rest_on g d.zeroed h
       by false h = h
 
-  pub read_carries : (f : Frame) (k : Key) → IsLegal (move.Read f k) l → Carries (after_move l (move.Read f k)) ram slots blocks (contents_of l ram slots blocks)
-  read_carries f k legal =
-      let there = is_first f.0 l.frames.free || (is_empty l.frames.free && is_first f.0 l.frames.zeroed) in
-      let stored = is_stored (l.stands k) in
-      let parts = and_parts there stored (and_parts (there && stored) (is_access l.kind || (is_thread l.kind && has_depth l)) legal).0 in
+  pub carries_read : (f : Frame) (k : Key) → IsLegal (move.Read f k) l → Carries (after_move l (move.Read f k)) ram slots blocks (contents_of l ram slots blocks)
+  carries_read f k legal =
+      let parts = three_parts _ _ _ legal in
       let home = backing_of (l.stands k) in
       let fresh = fresh_read l.frames l.flight f.0 facts.standing parts.0 in
       let c = changes_read l.frames l.flight f.0 facts.standing k home (stored_backed (l.stands k) parts.1) parts.0 in
@@ -160,13 +146,10 @@ module _ (l : FrameLife) (facts : Facts l) (ram : FrameBytes) (slots blocks : Bl
 
   -- ---- steal
 
-  pub steal_carries : (f : Frame) → IsLegal (move.Steal f) l → Carries (after_move l (move.Steal f)) ram slots blocks (contents_of l ram slots blocks)
-  steal_carries f legal =
+  pub carries_steal : (f : Frame) → IsLegal (move.Steal f) l → Carries (after_move l (move.Steal f)) ram slots blocks (contents_of l ram slots blocks)
+  carries_steal f legal =
       let r = record_at l.frames f.0 in
-      let first = is_first f.0 l.frames.standby in
-      let z = is_empty l.frames.zeroed in
-      let e = is_empty l.frames.free in
-      let head = (and_parts first z (and_parts (first && z) e (and_parts (first && z && e) (is_touch l.kind) legal).0).0).0 in
+      let head = (four_parts _ _ _ _ legal).0 in
       let is = facts.standby f.0 (first_on f.0 l.frames.standby head) in
       let owner = some_owner r is.owned in
       let k = owner.0 in
@@ -190,8 +173,8 @@ module _ (l : FrameLife) (facts : Facts l) (ram : FrameBytes) (slots blocks : Bl
 
   -- ---- bad
 
-  pub bad_carries : (f : Frame) → IsLegal (move.Bad f) l → Carries (after_move l (move.Bad f)) ram slots blocks (contents_of l ram slots blocks)
-  bad_carries f legal = by (record_at l.frames f.0).owner refl
+  pub carries_bad : (f : Frame) → IsLegal (move.Bad f) l → Carries (after_move l (move.Bad f)) ram slots blocks (contents_of l ram slots blocks)
+  carries_bad f legal = by (record_at l.frames f.0).owner refl
     where
       r : Record
       r = record_at l.frames f.0
@@ -244,21 +227,17 @@ module _ (l : FrameLife) (facts : Facts l) (ram : FrameBytes) (slots blocks : Bl
   comes m k h v frames stands machine is lives =
       carries_change l m ram slots blocks kept l.machine.frames (record_at l.frames l.machine.frames) k h (unframed m k h frames stands machine) (λ o c n. kept.clean l.machine.frames o c n) v is lives
 
-  pub add_zero_carries : (k : Key) → Carries (after_move l (move.Add k None)) ram slots blocks (changed same_key (contents_of l ram slots blocks) k (Some zero_page))
-  add_zero_carries k = comes (after_move l (move.Add k None)) k held.Zero (Some zero_page) refl refl refl refl refl
+  pub carries_add_zero : (k : Key) → IsLegal (move.Add k None) l → Carries (after_move l (move.Add k None)) ram slots blocks (changed same_key (contents_of l ram slots blocks) k (Some zero_page))
+  carries_add_zero k legal = comes (after_move l (move.Add k None)) k held.Zero (Some zero_page) refl refl refl refl refl
 
   there_is : (xs : BlockBytes) (i : ℕ) → i < length xs → is_some (slice_get xs i) ≡ true
   there_is [] i h = absurd (omega arith)
   there_is (x ∷ xs) zero h = refl
   there_is (x ∷ xs) (suc i) h = there_is xs i (omega arith)
 
-  pub add_block_carries : (k : Key) (b : Block) → IsLegal (move.Add k (Some b)) l → Carries (after_move l (move.Add k (Some b))) ram slots blocks (changed same_key (contents_of l ram slots blocks) k (slice_get blocks b.0))
-  add_block_carries k b legal =
-      let p = is_call l.kind in
-      let q = is_shared k in
-      let r = not (is_live l k) in
-      let s = nat_lt b.0 l.machine.blocks in
-      let low = ltb-true b.0 l.machine.blocks (and_parts (p && q && r) s (and_parts (p && q && r && s) (not (l.added b.0)) legal).0).1 in
+  pub carries_add_block : (k : Key) (b : Block) → IsLegal (move.Add k (Some b)) l → Carries (after_move l (move.Add k (Some b))) ram slots blocks (changed same_key (contents_of l ram slots blocks) k (slice_get blocks b.0))
+  carries_add_block k b legal =
+      let low = ltb-true b.0 l.machine.blocks (and_parts _ _ (and_parts _ _ legal).0).1 in
       let size = kept.file_room in
       comes (after_move l (move.Add k (Some b))) k (held.Block b) (slice_get blocks b.0) refl refl refl refl (there_is blocks b.0 (omega (arith, low, size)))
 
@@ -274,8 +253,8 @@ module _ (l : FrameLife) (facts : Facts l) (ram : FrameBytes) (slots blocks : Bl
   unowned r true = refl
   unowned r false = refl
 
-  pub drop_carries : (k : Key) → Carries (after_move l (move.Drop k)) ram slots blocks (changed same_key (contents_of l ram slots blocks) k None)
-  drop_carries k = by (l.stands k) refl
+  pub carries_drop : (k : Key) → IsLegal (move.Drop k) l → Carries (after_move l (move.Drop k)) ram slots blocks (changed same_key (contents_of l ram slots blocks) k None)
+  carries_drop k legal = by (l.stands k) refl
     where
       by : (h : Held) → l.stands k ≡ h → Carries (dropped_at h l k) ram slots blocks (changed same_key (contents_of l ram slots blocks) k None)
       by (held.Frame f) at =

@@ -2,7 +2,7 @@
 use Rattle.std.proofs.Common.{◌≡◌, ◌⊎◌, ℕ, Bool, true, false, List, [], ◌∷◌, ◌++◌, refl, sym, inl, inr}
 use Rattle.std.specs.Prelude.{◌==◌, ◌||◌}
 use Rattle.std.proofs.lemmas.Bool.{eqb-true, or_right, or_left}
-use Rattle.mm_life.specs.Frames.{is_on, is_first, rest}
+use Rattle.mm_life.specs.{is_on, is_first, rest}
 
 pub first_on : (f : ℕ) (xs : List ℕ) → is_first f xs ≡ true → is_on f xs ≡ true
 first_on f [] h = cc

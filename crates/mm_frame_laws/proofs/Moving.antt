@@ -1,25 +1,18 @@
 -- One frame changes, its record or its bytes, and at most one key's place: what that leaves of the bytes of keys.
 use Rattle.std.proofs.Common.{◌≡◌, ◌≢◌, ℕ, Bool, true, false, refl, sym, ap, ◌∙◌, inl, inr}
 use Rattle.std.specs.Prelude.{is_some, if◌then◌else◌}
-use Rattle.mm_types.proofs.Cells.{same_or_not}
-use Rattle.mm_types.specs.declared.numbers.Frame.{Frame}
-use Rattle.mm_types.specs.declared.numbers.Key.{Key}
-use Rattle.mm_types.specs.declared.frames.Record.{Record}
-use Rattle.mm_types.specs.declared.frames.Backing.{Backing}
+use Rattle.mm_types.proofs.{same_or_not}
+use Rattle.mm_types.specs.{Frame, Key, Record, Backing, Held}
 use Rattle.mm_types.specs.declared.frames.Backing.TheVariants as backing
-use Rattle.mm_types.specs.declared.frames.Held.{Held}
 use Rattle.mm_types.specs.declared.frames.Held.TheVariants as held
-use Rattle.mm_life.specs.Frames.{record_at, is_read}
-use Rattle.mm_life.specs.Life.{FrameLife, changed, same_key, is_dead}
-use Rattle.mm_life.specs.Effect.{home_at}
-use Rattle.mm_life.specs.Located.{FrameBytes, BlockBytes, page_at, bytes_at, held_in, located, contents_of, BytesLocated}
-use Rattle.mm_laws.proofs.Owners.{key_or_not}
+use Rattle.mm_life.specs.{record_at, is_read, FrameLife, changed, same_key, is_dead, home_at, FrameBytes, BlockBytes, page_at, bytes_at, held_in}
+use Rattle.mm_life.specs.{located, contents_of, BytesLocated}
+use Rattle.mm_laws.proofs.{key_or_not}
 
 -- a home is on a device, or zero
 pub home_bytes : (ram ram' : FrameBytes) (slots blocks : BlockBytes) (b : Backing) → bytes_at ram' slots blocks (home_at b) ≡ bytes_at ram slots blocks (home_at b)
 home_bytes ram ram' slots blocks backing.None = refl
-home_bytes ram ram' slots blocks (backing.Slot s) = refl
-home_bytes ram ram' slots blocks (backing.Block c) = refl
+home_bytes ram ram' slots blocks _ = refl
 
 in_frame : (ram ram' : FrameBytes) (slots blocks : BlockBytes) (b : Bool) (home : Backing) (g : Frame) → page_at ram' g.0 ≡ page_at ram g.0
     → bytes_at ram' slots blocks (if b then home_at home else held.Frame g) ≡ bytes_at ram slots blocks (if b then home_at home else held.Frame g)
@@ -42,28 +35,16 @@ module _ (l m : FrameLife) (ram ram' : FrameBytes) (slots blocks : BlockBytes) (
       let n = other g refl in
       ap (λ r. bytes_at ram' slots blocks (held_in g r)) (others g.0 n) ∙ in_frame ram ram' slots blocks (is_read (record_at l.frames g.0).request) (record_at l.frames g.0).backing g (pages g.0 n)
   elsewhere (held.Slot s) other = refl
-  elsewhere (held.Block b) other = refl
-  elsewhere held.Zero other = refl
-  elsewhere held.Dead other = refl
+  elsewhere _ other = refl
 
   -- no key's place changes, and what stands in the frame has the bytes that it had
   pub still : (h : Held) → ((g : Frame) → h ≡ held.Frame g → g.0 ≡ f → bytes_at ram' slots blocks (held_in g (record_at m.frames f)) ≡ bytes_at ram slots blocks (held_in g (record_at l.frames f)))
       → bytes_at ram' slots blocks (located m h) ≡ bytes_at ram slots blocks (located l h)
   still (held.Frame g) own = elim (same_or_not g.0 f) [
     | inl e ↦ ap (λ (x : ℕ). bytes_at ram' slots blocks (held_in g (record_at m.frames x))) e ∙ own g refl e ∙ sym (ap (λ (x : ℕ). bytes_at ram slots blocks (held_in g (record_at l.frames x))) e)
-    | inr n ↦ elsewhere (held.Frame g) (λ x e y. let same : held.Frame g ≡ held.Frame x = e in n (ap number same ∙ y))
+    | inr n ↦ elsewhere (held.Frame g) (λ x e y. let same : g ≡ x = cc in n (ap (λ (z : Frame). z.0) same ∙ y))
   ]
-    where
-      number : Held → ℕ
-      number (held.Frame x) = x.0
-      number (held.Slot x) = 0
-      number (held.Block x) = 0
-      number held.Zero = 0
-      number held.Dead = 0
-  still (held.Slot s) own = refl
-  still (held.Block b) own = refl
-  still held.Zero own = refl
-  still held.Dead own = refl
+  still _ own = refl
 
   -- one key's place changes, and no other stands in the frame
   pub one_moves : (k : Key) (h : Held) → ((q : Key) (g : Frame) → l.stands q ≡ held.Frame g → g.0 ≡ f → q ≡ k)

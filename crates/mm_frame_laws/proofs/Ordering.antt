@@ -3,17 +3,13 @@ use Rattle.std.proofs.Common.{◌≡◌, ◌≢◌, ◌⊎◌, ℕ, ◌+◌, ◌
 use Rattle.std.specs.Prelude.{◌==◌, ◌&&◌, ◌||◌, nat_lt, is_some}
 use Rattle.std.specs.Cmp.{unsigned_Decides}
 use Rattle.std.proofs.lemmas.Bool.{cases_lt, lt-ltb, le-ltb, ltb-false, ltb-true, eqb-true, or_cases, and_parts, and_from}
-use Rattle.mm_types.proofs.Cells.{same_or_not}
-use Rattle.mm_types.proofs.Tables.{differ}
-use Rattle.mm_types.specs.declared.numbers.Frame.{Frame}
-use Rattle.mm_types.specs.declared.numbers.Place.{Place}
-use Rattle.mm_life.specs.Life.{FrameLife, same_place}
-use Rattle.mm_laws.specs.Tally.{one_if, tally}
+use Rattle.mm_types.proofs.{same_or_not, differ, not_true}
+use Rattle.mm_types.specs.{Frame, Place}
+use Rattle.mm_life.specs.{FrameLife, same_place, is_unpinned, may_go, Ages, page_first, turn_of, process_first, IsOldest, IsVictim}
+use Rattle.mm_laws.specs.{one_if, tally}
 use Rattle.mm_laws.specs.Sound.{Sound}
-use Rattle.mm_laws.proofs.PlaceCounts.{same_place-true}
-use Rattle.mm_life.specs.Order.{is_unpinned, may_go}
-use Rattle.mm_life.specs.Order.{Ages, page_first, turn_of, process_first, IsOldest, IsVictim}
-use Rattle.mm_frame_laws.specs.Order.{place_first, earlier, first_that, first_to_go, may_go_in, first_to_go_in}
+use Rattle.mm_laws.proofs.{same_place-true}
+use Rattle.mm_frame_laws.specs.{place_first, earlier, first_that, first_to_go, may_go_in, first_to_go_in}
 
 -- ---- one number before another, or the same and then a second one
 
@@ -221,6 +217,20 @@ module _ (l : FrameLife) (ages : Ages) (test : Place → Bool) where
       step p rest o f true e = with_first p rest o e f
       step p rest o f false e = without_first p rest o e f
 
+  pub found_is : (places : List Place) (v : Place) → first_that l ages test places ≡ Some v → FirstOf places v
+  found_is places v e = at (first_that l ages test places) e (found places)
+    where
+      at : (o : Option Place) → o ≡ Some v → Found places o → FirstOf places v
+      at None s h = cc
+      at (Some u) s (one w f) = let same : w ≡ v = cc in subst (FirstOf places) same f
+
+  pub found_none : (places : List Place) → first_that l ages test places ≡ None → (q : Place) → 1 ≤ tally (same_place q) places → test q ≡ false
+  found_none places e = at (first_that l ages test places) e (found places)
+    where
+      at : (o : Option Place) → o ≡ None → Found places o → (q : Place) → 1 ≤ tally (same_place q) places → test q ≡ false
+      at None s (none h) = h
+      at (Some w) s h = cc
+
 -- ---- one page is the first
 
 module _ (l : FrameLife) (ages : Ages) (pinned : Option Frame) where
@@ -257,19 +267,10 @@ module _ (l : FrameLife) (ages : Ages) (pinned : Option Frame) where
     }
 
     pub victim_found : (v : Place) → first_to_go l ages pinned places ≡ Some v → IsVictim l ages pinned v
-    victim_found v e = at (first_to_go l ages pinned places) e (found l ages (may_go l pinned) places)
-      where
-        at : (o : Option Place) → o ≡ Some v → Found l ages (may_go l pinned) places o → IsVictim l ages pinned v
-        at None s h = cc
-        at (Some u) s (one w f) = let same : w ≡ v = cc in subst (IsVictim l ages pinned) same (victim_of w f)
+    victim_found v e = victim_of v (found_is l ages (may_go l pinned) places v e)
 
     pub none_found : first_to_go l ages pinned places ≡ None → (q : Place) → may_go l pinned q ≡ false
-    none_found e q = at (first_to_go l ages pinned places) e (found l ages (may_go l pinned) places) (may_go l pinned q) refl
-      where
-        at : (o : Option Place) → o ≡ None → Found l ages (may_go l pinned) places o → (b : Bool) → may_go l pinned q ≡ b → b ≡ false
-        at None s (none h) true g = sym g ∙ h q (all q (shown q g))
-        at None s (none h) false g = refl
-        at (Some w) s h b g = cc
+    none_found e q = not_true (may_go l pinned q) (λ g. let bad : true ≡ false = sym g ∙ found_none l ages (may_go l pinned) places e q (all q (shown q g)) in cc)
 
     pub victim_there : (p : Place) → may_go l pinned p ≡ true → (v : Place) × IsVictim l ages pinned v
     victim_there p g = at (first_to_go l ages pinned places) refl
@@ -287,19 +288,12 @@ module _ (l : FrameLife) (ages : Ages) (pinned : Option Frame) where
           (mine, record { goes = h.1; first = λ q e g. page_from ages q v ((f.first q (all q (shown q g)) (and_from (q.pid.0 == pid) (may_go l pinned q) ((unsigned_Decides q.pid.0 pid).1 (e ∙ mine)) g)).page e) })
 
       pub oldest_found : (v : Place) → first_to_go_in l ages pinned pid places ≡ Some v → (v.pid.0 ≡ pid) × IsOldest l ages pinned v
-      oldest_found v e = at (first_to_go_in l ages pinned pid places) e (found l ages (may_go_in l pinned pid) places)
-        where
-          at : (o : Option Place) → o ≡ Some v → Found l ages (may_go_in l pinned pid) places o → (v.pid.0 ≡ pid) × IsOldest l ages pinned v
-          at None s h = cc
-          at (Some u) s (one w f) = let same : w ≡ v = cc in subst (λ (x : Place). (x.pid.0 ≡ pid) × IsOldest l ages pinned x) same (oldest_of w f)
+      oldest_found v e = oldest_of v (found_is l ages (may_go_in l pinned pid) places v e)
 
       pub none_in : first_to_go_in l ages pinned pid places ≡ None → (q : Place) → q.pid.0 ≡ pid → may_go l pinned q ≡ false
-      none_in e q i = at (first_to_go_in l ages pinned pid places) e (found l ages (may_go_in l pinned pid) places) (may_go l pinned q) refl
-        where
-          at : (o : Option Place) → o ≡ None → Found l ages (may_go_in l pinned pid) places o → (b : Bool) → may_go l pinned q ≡ b → b ≡ false
-          at None s (none h) true g = let t = and_from (q.pid.0 == pid) (may_go l pinned q) ((unsigned_Decides q.pid.0 pid).1 i) g in let bad : true ≡ false = sym t ∙ h q (all q (shown q g)) in cc
-          at None s (none h) false g = refl
-          at (Some w) s h b g = cc
+      none_in e q i = not_true (may_go l pinned q) (λ g.
+          let t = and_from (q.pid.0 == pid) (may_go l pinned q) ((unsigned_Decides q.pid.0 pid).1 i) g in
+          let bad : true ≡ false = sym t ∙ found_none l ages (may_go_in l pinned pid) places e q (all q (shown q g)) in cc)
 
       pub oldest_there : (p : Place) → p.pid.0 ≡ pid → may_go l pinned p ≡ true → (v : Place) × ((v.pid.0 ≡ pid) × IsOldest l ages pinned v)
       oldest_there p i g = at (first_to_go_in l ages pinned pid places) refl

@@ -2,31 +2,23 @@
 use Rattle.std.proofs.Common.{◌≡◌, ◌≢◌, ◌⊎◌, ℕ, ◌<◌, Bool, true, false, List, Some, None, refl, sym, ap, ◌∙◌, inl, inr, arith, length, length-set, get_or-set_same, get_or-set_other}
 use Rattle.std.specs.Prelude.{◌&&◌, ◌||◌, not, is_some, if◌then◌else◌}
 use Rattle.std.proofs.lemmas.Bool.{and_parts, or_left}
-use Rattle.mm_types.proofs.Cells.{same_or_not}
-use Rattle.mm_types.specs.declared.numbers.Frame.{Frame}
-use Rattle.mm_types.specs.declared.numbers.Key.{Key}
-use Rattle.mm_types.specs.declared.frames.Record.{Record}
-use Rattle.mm_types.specs.declared.frames.Backing.{Backing}
-use Rattle.mm_types.specs.declared.frames.Request.{Request}
+use Rattle.mm_types.proofs.{same_or_not}
+use Rattle.mm_types.specs.{Frame, Key, Record, Backing, Request, Held}
 use Rattle.mm_types.specs.declared.frames.Request.TheVariants as request
-use Rattle.mm_types.specs.declared.frames.Held.{Held}
 use Rattle.mm_types.specs.declared.frames.Held.TheVariants as held
 use Rattle.mm_types.specs.declared.moves.Move.TheVariants as move
-use Rattle.mm_life.specs.Frames.{blank, record_at, is_read, is_on, is_first, is_empty, read_done}
-use Rattle.mm_life.specs.Life.{FrameLife, changed, same_key, is_live, is_dead}
-use Rattle.mm_life.specs.Legal.{IsLegal, is_zeroer, is_touch, is_io, is_access}
-use Rattle.mm_life.specs.Effect.{after_move, home_at}
-use Rattle.mm_life.specs.Located.{FrameBytes, BlockBytes, zero_page, page_at, bytes_at, located, contents_of, BytesLocated}
-use Rattle.mm_laws.proofs.Owners.{key_or_not}
-use Rattle.mm_laws.proofs.Requests.{read_has}
-use Rattle.mm_laws.proofs.Taking.{fresh_read}
-use Rattle.mm_ram.specs.Ram.{with_page}
-use Rattle.mm_frame_laws.specs.Carried.{Carries, IsSoiled, is_calm}
+use Rattle.mm_life.specs.{blank, record_at, is_read, is_on, is_first, is_empty, read_done, FrameLife, changed, same_key, is_live, is_dead, IsLegal}
+use Rattle.mm_life.specs.{is_zeroer, is_touch, is_io, is_access, after_move, home_at, FrameBytes, BlockBytes, zero_page, page_at, bytes_at, located}
+use Rattle.mm_life.specs.{contents_of, BytesLocated}
+use Rattle.mm_laws.proofs.{key_or_not, read_has, fresh_read, facts_of}
+use Rattle.mm_ram.specs.{with_page}
+use Rattle.mm_frame_laws.specs.{Carries, IsSoiled, is_calm}
 use Rattle.mm_laws.proofs.Facts.{Facts}
 use Rattle.mm_frame_laws.proofs.Lists.{first_on, push_on}
 use Rattle.mm_frame_laws.proofs.Moving.{home_bytes, calm_in, read_in, elsewhere, clean_by}
 use Rattle.mm_frame_laws.proofs.Alone.{alone_set, records_ended, zeroed_ended, carries_kept}
 use Rattle.mm_frame_laws.proofs.FrameMoves.{owned_low, asked_low}
+use Rattle.mm_laws.specs.Reached.{Reached}
 
 pub page_here : (ram : FrameBytes) (f : ℕ) (page : List ℕ) → f < length ram → page_at (with_page ram f page) f ≡ Some page
 page_here ram f page low = get_or-set_same ram f (Some page) None low
@@ -35,16 +27,18 @@ pub page_else : (ram : FrameBytes) (f : ℕ) (page : List ℕ) (g : ℕ) → g �
 page_else ram f page g n = get_or-set_other ram f g (Some page) None n
 
 pub calm_is : (q : Request) → is_calm q ≡ true → is_read q ≡ false
-calm_is request.None e = refl
 calm_is request.Read e = cc
 calm_is request.Write e = cc
-calm_is request.WriteAgain e = refl
+calm_is _ e = refl
 
-module _ (l : FrameLife) (facts : Facts l) (ram : FrameBytes) (slots blocks : BlockBytes) (kept : BytesLocated l ram slots blocks) where
+module _ (l : FrameLife) (reached : ∥ Reached l ∥₁) (ram : FrameBytes) (slots blocks : BlockBytes) (kept : BytesLocated l ram slots blocks) where
+  facts : Facts l
+  facts = facts_of l reached
+
   -- ---- clear
 
-  pub clear_carries : (f : Frame) → IsLegal (move.Clear f) l → Carries (after_move l (move.Clear f)) (with_page ram f.0 zero_page) slots blocks (contents_of l ram slots blocks)
-  clear_carries f legal = record {
+  pub carries_clear : (f : Frame) → IsLegal (move.Clear f) l → Carries (after_move l (move.Clear f)) (with_page ram f.0 zero_page) slots blocks (contents_of l ram slots blocks)
+  carries_clear f legal = record {
     located = record {
       clean = clean_by l m ram ram' slots blocks f.0 (λ g n. refl) (page_else ram f.0 zero_page) kept (λ o c n. let bad : false ≡ true = sym (ap (λ (x : Record). is_some x.owner) bare) ∙ o in cc);
       zeroed = λ g on. elim (push_on g f.0 l.frames.zeroed on) [ inl e ↦ ap (page_at ram') e ∙ here | inr was ↦ at g was (same_or_not g f.0) ];
@@ -86,9 +80,9 @@ module _ (l : FrameLife) (facts : Facts l) (ram : FrameBytes) (slots blocks : Bl
 
   -- ---- got
 
-  pub got_carries : (f : Frame) (page : List ℕ) → IsLegal (move.Got f) l → bytes_at ram slots blocks (home_at (record_at l.frames f.0).backing) ≡ Some page
+  pub carries_got : (f : Frame) (page : List ℕ) → IsLegal (move.Got f) l → bytes_at ram slots blocks (home_at (record_at l.frames f.0).backing) ≡ Some page
       → Carries (after_move l (move.Got f)) (with_page ram f.0 page) slots blocks (contents_of l ram slots blocks)
-  got_carries f page legal there =
+  carries_got f page legal there =
       let r = record_at l.frames f.0 in
       let o = is_some r.owner in
       let new = if o then read_done r else blank in
@@ -114,9 +108,9 @@ module _ (l : FrameLife) (facts : Facts l) (ram : FrameBytes) (slots blocks : Bl
 
   -- ---- a page at hand is written
 
-  pub written_carries : (f : Frame) (k : Key) (page : List ℕ) → (record_at l.frames f.0).owner ≡ Some k → IsSoiled (record_at l.frames f.0)
+  pub carries_written : (f : Frame) (k : Key) (page : List ℕ) → (record_at l.frames f.0).owner ≡ Some k → IsSoiled (record_at l.frames f.0)
       → Carries l (with_page ram f.0 page) slots blocks (changed same_key (contents_of l ram slots blocks) k (Some page))
-  written_carries f k page owner soiled = record {
+  carries_written f k page owner soiled = record {
     located = record {
       clean = clean_by l l ram ram' slots blocks f.0 (λ g n. refl) (page_else ram f.0 page) kept (λ o c n. let bad : true ≡ false = sym soiled.changed ∙ c in cc);
       zeroed = λ g on. page_else ram f.0 page g (λ e.

@@ -4,15 +4,10 @@ use Rattle.std.specs.Prelude.{option_map, is_some}
 use Rattle.std.specs.Ordering.{nat_cmp}
 use Rattle.std.specs.FinMap as finite
 use Rattle.std.specs.FinMap.{FinMap}
-use Rattle.mm_types.specs.declared.numbers.Frame.{Frame}
-use Rattle.mm_types.specs.declared.numbers.Pid.{Pid}
-use Rattle.mm_types.specs.declared.numbers.Place.{Place}
-use Rattle.mm_life.specs.Life.{FrameLife}
-use Rattle.mm_wset.specs.Ages.{IsOldestInSet, NoneFollowsInSet, GoesAfter, GoesBefore}
-use Rattle.mm_life.specs.Order.{Ages}
-use Rattle.mm_frame_laws.specs.Order.{FollowsPage, IsNextPage}
-use Rattle.mm_frame_laws.specs.Sets.{SetShows, place_of_page, IsInSet, page_of_place}
-use Rattle.mm_frame_laws.specs.Order.{NoPageFollows as NoneNext}
+use Rattle.mm_types.specs.{Frame, Pid, Place}
+use Rattle.mm_life.specs.{FrameLife, Ages}
+use Rattle.mm_wset.specs.{IsOldestInSet, NoneFollowsInSet, GoesAfter, GoesBefore}
+use Rattle.mm_frame_laws.specs.{FollowsPage, IsNextPage, SetShows, place_of_page, IsInSet, page_of_place, NoPageFollows as NoneNext}
 
 module _ (l : FrameLife) (ages : Ages) (pid : Pid) (set : FinMap nat_cmp ℕ) (agrees : SetShows l ages pid set) where
   -- a page of the set is valid

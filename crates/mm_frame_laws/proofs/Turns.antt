@@ -1,38 +1,20 @@
 -- The turns of a search: a place is unmapped, and its frame written where it can be.
 use Rattle.std.proofs.Common.{◌≡◌, ℕ, ◌+◌, ◌≤◌, true, false, List, [], ◌∷◌, ◌++◌, length, Option, Some, refl, sym, ap, ◌∙◌, subst, append_assoc, arith}
-use Rattle.mm_types.specs.Machine.{MachineOf, IsMachine}
-use Rattle.mm_types.specs.declared.numbers.Frame.{Frame}
-use Rattle.mm_types.specs.declared.numbers.Place.{Place}
-use Rattle.mm_types.specs.declared.moves.Stored.{Stored}
-use Rattle.mm_types.specs.declared.moves.Move.{Move}
+use Rattle.mm_types.specs.{MachineOf, IsMachine, Frame, Place, Stored, Move}
 use Rattle.mm_types.specs.declared.moves.Move.TheVariants as move
-use Rattle.mm_life.specs.Frames.{is_on}
-use Rattle.mm_life.specs.Life.{FrameLife}
-use Rattle.mm_life.specs.Legal.{IsLegal, is_access, is_short}
-use Rattle.mm_life.specs.Effect.{after_move}
-use Rattle.mm_life.specs.Replay.{Replays}
-use Rattle.mm_life.specs.Victims.{can_be_written}
-use Rattle.mm_life.proofs.Replays.{replays_then}
+use Rattle.mm_life.specs.{is_on, FrameLife, IsLegal, is_access, is_short, after_move, Replays, can_be_written}
+use Rattle.mm_life.proofs.{replays_then}
 use Rattle.mm_laws.specs.Sound.{Sound}
-use Rattle.mm_laws.proofs.Kept.{keeps, kept_along}
-use Rattle.mm_frame_laws.specs.Room.{NoneMayGo, IsWithinDepth}
-use Rattle.mm_laws.specs.Places.{valid_places}
-use Rattle.mm_frame_laws.specs.Steps.{Unmapped, after_failed}
-use Rattle.mm_frame_laws.specs.Searches.{failed_write, lost_in, AllWritesFailed, Walking, Emptying}
+use Rattle.mm_laws.proofs.{keeps, kept_along}
+use Rattle.mm_frame_laws.specs.{NoneMayGo, IsWithinDepth, Unmapped, after_failed, failed_write, lost_in, AllWritesFailed, Walking, Emptying}
+use Rattle.mm_laws.specs.{valid_places}
 use Rattle.mm_frame_laws.proofs.Unmapping.{unmapped}
 use Rattle.mm_frame_laws.proofs.Writing.{unmap_legal, lost_legal, failed}
 use Rattle.mm_frame_laws.proofs.Walks.{walk_ends, unmap_but, but_none, but_failed, ends_with_lost}
 
 -- after the walk
 pub walk_then : (start l : FrameLife) (passed lost : List ℕ) (moves : List Move) → Walking start l passed [] lost moves → Replays moves start l → IsMachine l.machine → is_access l.kind ≡ true → is_short l ≡ true → IsWithinDepth l → Emptying start l moves
-walk_then start l passed lost moves w r machine access short few = record {
-  replays = r;
-  machine = machine;
-  access = access;
-  short = short;
-  few = few;
-  missed = walk_ends start l passed lost moves w;
-}
+walk_then start l passed lost moves w r machine access short few = assumption (walk_ends start l passed lost moves w)
 
 module _ (start l : FrameLife) (begun : Sound start) (moves : List Move) (e : Emptying start l moves) where
   sound : Sound l

@@ -1,29 +1,16 @@
 -- What the unmap of a place leaves.
-use Rattle.std.proofs.Common.{◌≡◌, ◌≢◌, ℕ, zero, suc, ◌+◌, ◌-◌, ◌≤◌, Bool, true, false, cond, not, [], ◌∷◌, ◌++◌, Option, Some, None, refl, sym, ap, ◌∙◌, subst, inl, inr, arith}
+use Rattle.std.proofs.Common.{◌≡◌, ◌≢◌, ℕ, zero, suc, ◌+◌, ◌-◌, ◌≤◌, Bool, true, false, cond, not, [], ◌∷◌, ◌++◌, Option, Some, None, sym, ap, ◌∙◌, subst, inl, inr, arith}
 use Rattle.std.specs.Prelude.{◌==◌, ◌&&◌, is_some}
 use Rattle.std.proofs.lemmas.Bool.{lt-ltb}
 use Rattle.std.specs.Cmp.{unsigned_Decides}
-use Rattle.mm_types.proofs.Cells.{same_or_not}
-use Rattle.mm_types.proofs.Tables.{differ}
-use Rattle.mm_types.specs.declared.numbers.Frame.{Frame}
-use Rattle.mm_types.specs.declared.numbers.Place.{Place}
-use Rattle.mm_types.specs.declared.frames.Record.{Record}
+use Rattle.mm_types.proofs.{same_or_not, differ}
+use Rattle.mm_types.specs.{Frame, Place, Record}
 use Rattle.mm_types.specs.declared.moves.Move.TheVariants as move
-use Rattle.mm_life.specs.Frames.{record_at, has_request, is_idle, unshared}
-use Rattle.mm_life.specs.Life.{FrameLife, same_place, set_in, set_of}
-use Rattle.mm_life.specs.Effect.{after_move, after_unmap_at}
-use Rattle.mm_life.specs.declared.sets.ResidentSet.{ResidentSet}
-use Rattle.mm_laws.proofs.ResidentSets.{set_here, set_else}
-use Rattle.mm_laws.specs.Tally.{one_if, tally}
-use Rattle.mm_laws.specs.Places.{is_of, residents}
+use Rattle.mm_life.specs.{record_at, has_request, is_idle, unshared, FrameLife, set_of, after_move, after_unmap_at, ResidentSet}
+use Rattle.mm_laws.proofs.{set_here, set_else, has_shares, place_or_not, same_place-self, sets_fewer, resident_there, unmap_settles}
 use Rattle.mm_laws.specs.Sound.{Sound}
-use Rattle.mm_laws.proofs.Tallies.{tally-more}
-use Rattle.mm_laws.proofs.PlaceCounts.{has_shares, place_or_not, same_place-true, same_place-self}
-use Rattle.mm_laws.specs.Places.{valid_places}
-use Rattle.mm_laws.specs.Settling.{ListsAre, at_end_if, Settles}
-use Rattle.mm_laws.proofs.SetSizes.{sets_fewer}
-use Rattle.mm_laws.proofs.Settling.{unmap_settles}
-use Rattle.mm_frame_laws.specs.Steps.{is_last, Unmapped}
+use Rattle.mm_laws.specs.{valid_places, ListsAre, at_end_if, Settles}
+use Rattle.mm_frame_laws.specs.{is_last, Unmapped}
 
 -- without one of n shares there are none exactly where n is one
 one_less : (n : ℕ) → 1 ≤ n → (n - 1 == 0) ≡ (n == 1)
@@ -65,13 +52,6 @@ module _ (l : FrameLife) (s : Sound l) (place : Place) (f : Frame) (there : l.va
       = subst (λ (i : Bool). ListsAre now.frames l.frames.zeroed (at_end_if (not (is_some r.owner)) f.0 l.frames.free) (at_end_if (i && not r.changed) f.0 l.frames.standby) (at_end_if (i && r.changed) f.0 l.frames.modified)) idle_last a in
       subst (λ (o : Bool). ListsAre now.frames l.frames.zeroed (at_end_if (not o) f.0 l.frames.free) (at_end_if (is_last r && not r.changed) f.0 l.frames.standby) (at_end_if (is_last r && r.changed) f.0 l.frames.modified)) owned b
 
-  some_resident : 1 ≤ residents (set_in l.sets place.pid.0)
-  some_resident =
-      let one : tally (same_place place) s.shown.places ≡ 1 = s.shown.once place ∙ ap (λ o. one_if (is_some o)) there in
-      let more = tally-more (same_place place) (is_of place.pid.0) s.shown.places (λ q e. ap (λ (y : Place). is_of place.pid.0 y) (sym (same_place-true place q e)) ∙ (unsigned_Decides place.pid.0 place.pid.0).1 refl) in
-      let sizes = s.shown.resident place.pid.0 in
-      omega (arith, one, more, sizes)
-
   pub unmapped : Unmapped l (after_move l (move.Unmap place)) place f.0
   unmapped = record {
     lists = lists_now;
@@ -85,7 +65,7 @@ module _ (l : FrameLife) (s : Sound l) (place : Place) (f : Frame) (there : l.va
       free_slots = ap (λ (m : FrameLife). m.free_slots) now_is;
       paging = ap (λ (m : FrameLife). m.paging) now_is;
     };
-    fewer = ap (λ (m : FrameLife). valid_places m + 1) now_is ∙ sets_fewer l.sets place.pid.0 some_resident;
+    fewer = ap (λ (m : FrameLife). valid_places m + 1) now_is ∙ sets_fewer l.sets place.pid.0 (resident_there l s place (ap is_some there));
     gone = ap (λ (m : FrameLife). m.valid place) now_is ∙ ap (λ b. cond b None (l.valid place)) (same_place-self place);
     stays = λ q n. ap (λ (m : FrameLife). m.valid q) now_is ∙ elim (place_or_not q place) [
       | inl e ↦ absurd (n e.0)
@@ -99,25 +79,21 @@ module _ (l : FrameLife) (s : Sound l) (place : Place) (f : Frame) (there : l.va
   last_is : r.shares ≡ 1 → has_request r.request ≡ false → is_last r ≡ true
   last_is one quiet = ap (λ (n : ℕ). (n == 1) && not (has_request r.request)) one ∙ ap not quiet
 
-  pub unmapped_clean : r.shares ≡ 1 → has_request r.request ≡ false → r.changed ≡ false → ListsAre (after_move l (move.Unmap place)).frames l.frames.zeroed l.frames.free (l.frames.standby ++ f.0 ∷ []) l.frames.modified
-  unmapped_clean one quiet clean =
+  unmapped_last : r.shares ≡ 1 → has_request r.request ≡ false → (c : Bool) → r.changed ≡ c → ListsAre (after_move l (move.Unmap place)).frames l.frames.zeroed l.frames.free (at_end_if (not c) f.0 l.frames.standby) (at_end_if c f.0 l.frames.modified)
+  unmapped_last one quiet c is =
       let last = last_is one quiet in
       record {
         zeroed = unmapped.lists.zeroed;
         free = unmapped.lists.free;
-        standby = unmapped.lists.standby ∙ (ap (λ b. at_end_if (b && not r.changed) f.0 l.frames.standby) last ∙ ap (λ b. at_end_if (not b) f.0 l.frames.standby) clean);
-        modified = unmapped.lists.modified ∙ (ap (λ b. at_end_if (b && r.changed) f.0 l.frames.modified) last ∙ ap (λ b. at_end_if b f.0 l.frames.modified) clean);
+        standby = unmapped.lists.standby ∙ (ap (λ b. at_end_if (b && not r.changed) f.0 l.frames.standby) last ∙ ap (λ b. at_end_if (not b) f.0 l.frames.standby) is);
+        modified = unmapped.lists.modified ∙ (ap (λ b. at_end_if (b && r.changed) f.0 l.frames.modified) last ∙ ap (λ b. at_end_if b f.0 l.frames.modified) is);
       }
 
+  pub unmapped_clean : r.shares ≡ 1 → has_request r.request ≡ false → r.changed ≡ false → ListsAre (after_move l (move.Unmap place)).frames l.frames.zeroed l.frames.free (l.frames.standby ++ f.0 ∷ []) l.frames.modified
+  unmapped_clean one quiet clean = unmapped_last one quiet false clean
+
   pub unmapped_changed : r.shares ≡ 1 → has_request r.request ≡ false → r.changed ≡ true → ListsAre (after_move l (move.Unmap place)).frames l.frames.zeroed l.frames.free l.frames.standby (l.frames.modified ++ f.0 ∷ [])
-  unmapped_changed one quiet dirty =
-      let last = last_is one quiet in
-      record {
-        zeroed = unmapped.lists.zeroed;
-        free = unmapped.lists.free;
-        standby = unmapped.lists.standby ∙ (ap (λ b. at_end_if (b && not r.changed) f.0 l.frames.standby) last ∙ ap (λ b. at_end_if (not b) f.0 l.frames.standby) dirty);
-        modified = unmapped.lists.modified ∙ (ap (λ b. at_end_if (b && r.changed) f.0 l.frames.modified) last ∙ ap (λ b. at_end_if b f.0 l.frames.modified) dirty);
-      }
+  unmapped_changed one quiet dirty = unmapped_last one quiet true dirty
 
 -- ---- working sets
 

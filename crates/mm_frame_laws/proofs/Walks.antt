@@ -5,29 +5,16 @@ use Rattle.std.specs.List.{list_any}
 use Rattle.std.specs.Cmp.{unsigned_Decides}
 use Rattle.std.proofs.lemmas.Bool.{or_left, or_right, or_cases, eqb-true}
 use Rattle.std.proofs.lemmas.List.{append-nil}
-use Rattle.mm_types.proofs.Cells.{same_or_not}
-use Rattle.mm_types.specs.Machine.{IsMachine}
-use Rattle.mm_types.specs.declared.numbers.Frame.{Frame}
-use Rattle.mm_types.specs.declared.numbers.Key.{Key}
-use Rattle.mm_types.specs.declared.numbers.Place.{Place}
-use Rattle.mm_types.specs.declared.moves.Stored.{Stored}
-use Rattle.mm_types.specs.declared.moves.Move.{Move}
+use Rattle.mm_types.proofs.{same_or_not}
+use Rattle.mm_types.specs.{IsMachine, Frame, Key, Place, Stored, Move}
 use Rattle.mm_types.specs.declared.moves.Move.TheVariants as move
-use Rattle.mm_life.specs.Frames.{record_at, is_on, without}
-use Rattle.mm_life.specs.Life.{FrameLife}
-use Rattle.mm_life.specs.Legal.{IsLegal, is_short, owner_is}
-use Rattle.mm_life.specs.Victims.{can_be_written}
-use Rattle.mm_laws.specs.Tally.{one_if, times}
+use Rattle.mm_life.specs.{record_at, is_on, without, FrameLife, IsLegal, is_short, owner_is, can_be_written, may_go}
+use Rattle.mm_laws.specs.{one_if, times, at_end_if}
 use Rattle.mm_laws.specs.Sound.{Sound}
-use Rattle.mm_life.specs.Order.{may_go}
-use Rattle.mm_frame_laws.specs.Room.{NoneMayGo, Writable, IsWithinDepth}
-use Rattle.mm_frame_laws.specs.Steps.{is_last, SameWriters, Unmapped, after_failed, list_in_search}
-use Rattle.mm_frame_laws.specs.Searches.{is_lost_of, lost_in, failed_write, AllWritesFailed, MissedBut, with_modified, Walking}
+use Rattle.mm_frame_laws.specs.{NoneMayGo, Writable, IsWithinDepth, is_last, SameWriters, Unmapped, after_failed, list_in_search, is_lost_of, lost_in}
+use Rattle.mm_frame_laws.specs.{failed_write, AllWritesFailed, MissedBut, with_modified, Walking}
 use Rattle.mm_frame_laws.proofs.Counting.{room}
-use Rattle.mm_laws.specs.Settling.{at_end_if}
-use Rattle.mm_laws.proofs.Tallies.{tally-append}
-use Rattle.mm_laws.proofs.Lists.{without_none, without_append, without_self}
-use Rattle.mm_laws.proofs.FromSound.{modified_frame}
+use Rattle.mm_laws.proofs.{tally-append, without_none, without_append, without_self, modified_frame}
 use Rattle.mm_frame_laws.proofs.Writing.{failed}
 
 -- ---- the list in the walk
@@ -47,14 +34,6 @@ walk_lost passed left lost f once =
 
 -- ---- lists and moves
 
-pub on_append : (g : ℕ) (xs ys : List ℕ) → is_on g (xs ++ ys) ≡ is_on g xs || is_on g ys
-on_append g [] ys = refl
-on_append g (x ∷ xs) ys = ap (λ b. (x == g) || b) (on_append g xs ys) ∙ sym (assoc (x == g) (is_on g xs) (is_on g ys))
-  where
-    assoc : (a b c : Bool) → ((a || b) || c) ≡ (a || (b || c))
-    assoc true b c = refl
-    assoc false b c = refl
-
 pub any_append : {A : Type 0} (p : A → Bool) (xs ys : List A) → list_any p (xs ++ ys) ≡ list_any p xs || list_any p ys
 any_append p [] ys = refl
 any_append p (x ∷ xs) ys = ap (λ b. p x || b) (any_append p xs ys) ∙ sym (assoc (p x) (list_any p xs) (list_any p ys))
@@ -62,6 +41,9 @@ any_append p (x ∷ xs) ys = ap (λ b. p x || b) (any_append p xs ys) ∙ sym (a
     assoc : (a b c : Bool) → ((a || b) || c) ≡ (a || (b || c))
     assoc true b c = refl
     assoc false b c = refl
+
+pub on_append : (g : ℕ) (xs ys : List ℕ) → is_on g (xs ++ ys) ≡ is_on g xs || is_on g ys
+on_append g xs ys = any_append (λ x. x == g) xs ys
 
 pub or_none : (a : Bool) → (a || false) ≡ a
 or_none true = refl

@@ -4,56 +4,39 @@ use Rattle.std.specs.Prelude.{◌==◌, ◌&&◌, ◌||◌, is_some, option_map,
 use Rattle.std.specs.List.{list_any}
 use Rattle.std.specs.Cmp.{unsigned_Decides}
 use Rattle.std.proofs.lemmas.Bool.{and_parts, and_from, or_left, or_right, eqb-true}
-use Rattle.mm_types.specs.declared.numbers.Frame.{Frame}
-use Rattle.mm_types.specs.declared.numbers.Slot.{Slot}
-use Rattle.mm_types.specs.declared.numbers.Block.{Block}
-use Rattle.mm_types.specs.declared.numbers.Key.{Key}
-use Rattle.mm_types.specs.declared.numbers.Place.{Place}
-use Rattle.mm_types.specs.declared.frames.Record.{Record}
-use Rattle.mm_types.specs.declared.frames.Backing.{Backing}
+use Rattle.mm_types.specs.{Frame, Slot, Block, Key, Place, Record, Backing, Request, Stored}
 use Rattle.mm_types.specs.declared.frames.Backing.TheVariants as backing
-use Rattle.mm_types.specs.declared.frames.Request.{Request}
 use Rattle.mm_types.specs.declared.frames.Request.TheVariants as request
-use Rattle.mm_types.specs.declared.moves.Stored.{Stored}
 use Rattle.mm_types.specs.declared.moves.Stored.TheVariants as stored
 use Rattle.mm_types.specs.declared.moves.Move.TheVariants as move
-use Rattle.mm_life.specs.Frames.{FrameTable, record_at, blank, has_request, is_idle, is_on, is_empty, slot_of, without, without_slot, with_record, being_written, write_done, write_lost, settled, settled_by, after_write, after_wrote, after_lost, is_write}
-use Rattle.mm_life.specs.Life.{FrameLife, set_of, is_shared, is_live, key_of_place}
-use Rattle.mm_life.specs.Legal.{IsLegal, owner_is, is_access, is_io, is_call, is_writer, has_depth, is_lowest, is_block, may_write_block, is_short, may_unmap, unbinds, trims, touches, is_above_min, is_at_max}
-use Rattle.mm_life.specs.Effect.{after_move, freed}
-use Rattle.mm_life.specs.Victims.{can_be_written}
-use Rattle.mm_laws.specs.PagingKeys.{is_backing_for}
+use Rattle.mm_life.specs.{FrameTable, record_at, blank, has_request, is_idle, is_on, is_empty, slot_of, without, without_slot, with_record}
+use Rattle.mm_life.specs.{being_written, write_done, write_lost, settled, settled_by, after_write, after_wrote, after_lost, is_write, FrameLife}
+use Rattle.mm_life.specs.{set_of, is_shared, is_live, key_of_place, IsLegal, owner_is, is_access, is_io, is_call, is_writer, has_depth, is_lowest}
+use Rattle.mm_life.specs.{is_block, may_write_block, is_short, may_unmap, unbinds, trims, touches, is_above_min, is_at_max, after_move, freed}
+use Rattle.mm_life.specs.{can_be_written}
+use Rattle.mm_laws.specs.{is_backing_for, ListsAre, block_of}
 use Rattle.mm_laws.specs.Sound.{Sound}
-use Rattle.mm_laws.proofs.Sound.{owner_passes}
-use Rattle.mm_laws.specs.Settling.{ListsAre}
-use Rattle.mm_laws.proofs.Lists.{without_none, begun_ended, set_back, set_back_or}
-use Rattle.mm_laws.proofs.Lowest.{lowest_free, lowest_there}
-use Rattle.mm_laws.proofs.FromSound.{ModifiedFrame, modified_frame}
-use Rattle.mm_laws.specs.FileBlocks.{block_of}
-use Rattle.mm_frame_laws.specs.Steps.{backing_to, after_written, after_failed, put_last}
+use Rattle.mm_laws.proofs.{owner_passes, without_none, begun_ended, set_back, set_back_or, lowest_free, lowest_there, ModifiedFrame, modified_frame}
+use Rattle.mm_laws.proofs.{four_parts}
+use Rattle.mm_frame_laws.specs.{backing_to, after_written, after_failed, put_last}
 
 -- ---- small facts
 
 no_request : (q : Request) → has_request q ≡ false → q ≡ request.None
 no_request request.None e = refl
-no_request request.Read e = cc
-no_request request.Write e = cc
-no_request request.WriteAgain e = cc
+no_request _ e = cc
 
 paged_backing : (x : Backing) → is_backing_for true x ≡ true → slot_of x ≡ None → x ≡ backing.None
 paged_backing backing.None i e = refl
-paged_backing (backing.Slot t) i e = cc
-paged_backing (backing.Block b) i e = cc
+paged_backing _ i e = cc
 
 pub file_backing : (x : Backing) → is_backing_for false x ≡ true → (b : Block) × (x ≡ backing.Block b)
-file_backing backing.None i = cc
-file_backing (backing.Slot t) i = cc
 file_backing (backing.Block b) i = (b, refl)
+file_backing _ i = cc
 
 same_block : (b : Block) (x : Backing) → is_block b.0 x ≡ true → x ≡ backing.Block b
-same_block b backing.None e = cc
-same_block b (backing.Slot t) e = cc
 same_block b (backing.Block c) e = let n : c.0 ≡ b.0 = eqb-true c.0 b.0 e in λ i. backing.Block (record { 0 = n i })
+same_block b _ e = cc
 
 -- ---- a modified frame
 
@@ -128,12 +111,8 @@ module _ (l : FrameLife) (s : Sound l) (f : Frame) (on : is_on f.0 l.frames.modi
   module _ (t : Slot) (legal : IsLegal (move.Write f (stored.Slot t)) l) where
     pub slot_parts : (owner_is l.paging (record_at l.frames f.0) ≡ true) × (is_lowest t.0 l.free_slots ≡ true)
     slot_parts =
-        let on_it = is_on f.0 l.frames.modified in
-        let paging = owner_is l.paging (record_at l.frames f.0) in
-        let lowest = is_lowest t.0 l.free_slots in
-        let p3 = and_parts (on_it && paging && lowest) (is_access l.kind || (is_writer l.kind && has_depth l)) legal in
-        let p2 = and_parts (on_it && paging) lowest p3.0 in
-        ((and_parts on_it paging p2.0).1, p2.1)
+        let parts = four_parts _ _ _ _ legal in
+        (parts.1, parts.2)
 
     pub slot_backing : (record_at l.frames f.0).backing ≡ backing.None
     slot_backing =
@@ -155,13 +134,7 @@ module _ (l : FrameLife) (s : Sound l) (f : Frame) (on : is_on f.0 l.frames.modi
 
   module _ (b : Block) (legal : IsLegal (move.Write f (stored.Block b)) l) where
     pub block_is : (record_at l.frames f.0).backing ≡ backing.Block b
-    block_is =
-        let changed = (record_at l.frames f.0).changed in
-        let owned = is_some (record_at l.frames f.0).owner in
-        let quiet = not (has_request (record_at l.frames f.0).request) in
-        let block = is_block b.0 (record_at l.frames f.0).backing in
-        let p4 = and_parts (changed && owned && quiet && block) (may_write_block l f.0) legal in
-        same_block b (record_at l.frames f.0).backing (and_parts (changed && owned && quiet) block p4.0).1
+    block_is = same_block b (record_at l.frames f.0).backing (and_parts _ _ (and_parts _ _ legal).0).1
 
     block_failed : after_failed l f (stored.Block b) ≡ put_last l f.0
     block_failed =

@@ -2,65 +2,38 @@
 use Rattle.std.proofs.Common.{◌≡◌, ◌≢◌, ◌⊎◌, ℕ, ◌<◌, Bool, true, false, List, Option, Some, None, refl, sym, ap, ◌∙◌, inl, inr, arith, length, length-set}
 use Rattle.std.specs.Prelude.{◌||◌, is_some, if◌then◌else◌}
 use Rattle.std.proofs.lemmas.Bool.{and_parts}
-use Rattle.mm_types.proofs.Cells.{same_or_not, get_set_same, get_set_other}
-use Rattle.mm_types.specs.declared.numbers.Frame.{Frame}
-use Rattle.mm_types.specs.declared.numbers.Key.{Key}
-use Rattle.mm_types.specs.declared.frames.Record.{Record}
-use Rattle.mm_types.specs.declared.frames.Backing.{Backing}
+use Rattle.mm_types.proofs.{same_or_not, get_set_same, get_set_other}
+use Rattle.mm_types.specs.{Frame, Key, Record, Backing, Held}
 use Rattle.mm_types.specs.declared.frames.Backing.TheVariants as backing
-use Rattle.mm_types.specs.declared.frames.Request.{Request}
 use Rattle.mm_types.specs.declared.frames.Request.TheVariants as request
-use Rattle.mm_types.specs.declared.frames.Held.{Held}
 use Rattle.mm_types.specs.declared.frames.Held.TheVariants as held
 use Rattle.mm_types.specs.declared.moves.Move.TheVariants as move
-use Rattle.mm_life.specs.Frames.{FrameTable, blank, record_at, is_read, is_write, is_again, is_on, slot_of, without_slot, write_done, after_wrote}
-use Rattle.mm_life.specs.Life.{FrameLife}
-use Rattle.mm_life.specs.Legal.{IsLegal, is_io, is_access, is_call}
-use Rattle.mm_life.specs.Effect.{after_move, home_at, slot_at}
-use Rattle.mm_life.specs.Located.{FrameBytes, BlockBytes, page_at, bytes_at, held_in, located, contents_of, BytesLocated}
-use Rattle.mm_laws.specs.Fits.{is_backed}
-use Rattle.mm_laws.specs.FileBlocks.{block_of, block_in, block_held}
-use Rattle.mm_laws.proofs.Owners.{same_key-true}
-use Rattle.mm_laws.proofs.Requests.{write_has}
-use Rattle.mm_frame_laws.specs.Carried.{Carries, slots_written, blocks_written}
+use Rattle.mm_life.specs.{FrameTable, blank, record_at, is_read, is_write, is_again, is_on, slot_of, without_slot, write_done, after_wrote, FrameLife}
+use Rattle.mm_life.specs.{IsLegal, is_io, is_access, is_call, after_move, home_at, slot_at, FrameBytes, BlockBytes, page_at, bytes_at, held_in}
+use Rattle.mm_life.specs.{located, contents_of, BytesLocated}
+use Rattle.mm_laws.specs.{is_backed, block_of, block_in, block_held}
+use Rattle.mm_laws.proofs.{same_key-true, write_has}
+use Rattle.mm_frame_laws.specs.{Carries, slots_written, blocks_written}
 use Rattle.mm_laws.proofs.Facts.{Facts}
 use Rattle.mm_frame_laws.proofs.Alone.{others_set, here_set, records_ended, zeroed_ended}
 use Rattle.mm_frame_laws.proofs.FrameMoves.{asked_low}
-use Rattle.mm_life.proofs.Requests.{write_not_read}
+use Rattle.mm_life.proofs.{write_not_read}
 
 abbrev slot_held : Held → Option ℕ
-slot_held (held.Frame f) = None
 slot_held (held.Slot s) = Some s.0
-slot_held (held.Block b) = None
-slot_held held.Zero = None
-slot_held held.Dead = None
+slot_held _ = None
 
 abbrev block_here : Held → Option ℕ
-block_here (held.Frame f) = None
-block_here (held.Slot s) = None
 block_here (held.Block b) = Some b.0
-block_here held.Zero = None
-block_here held.Dead = None
+block_here _ = None
 
 -- what stands elsewhere is not written over
 bytes_elsewhere : (ram : FrameBytes) (slots blocks : BlockBytes) (b : Backing) (page : List ℕ) (h : Held)
     → ((s : ℕ) → slot_of b ≡ Some s → slot_held h ≢ Some s) → ((c : ℕ) → block_of b ≡ Some c → block_here h ≢ Some c)
     → bytes_at ram (slots_written b page slots) (blocks_written b page blocks) h ≡ bytes_at ram slots blocks h
-bytes_elsewhere ram slots blocks backing.None page (held.Frame f) x y = refl
-bytes_elsewhere ram slots blocks backing.None page (held.Slot s) x y = refl
-bytes_elsewhere ram slots blocks backing.None page (held.Block c) x y = refl
-bytes_elsewhere ram slots blocks backing.None page held.Zero x y = refl
-bytes_elsewhere ram slots blocks backing.None page held.Dead x y = refl
-bytes_elsewhere ram slots blocks (backing.Slot t) page (held.Frame f) x y = refl
 bytes_elsewhere ram slots blocks (backing.Slot t) page (held.Slot s) x y = get_set_other slots t.0 s.0 page (λ e. x t.0 refl (ap Some e))
-bytes_elsewhere ram slots blocks (backing.Slot t) page (held.Block c) x y = refl
-bytes_elsewhere ram slots blocks (backing.Slot t) page held.Zero x y = refl
-bytes_elsewhere ram slots blocks (backing.Slot t) page held.Dead x y = refl
-bytes_elsewhere ram slots blocks (backing.Block t) page (held.Frame f) x y = refl
-bytes_elsewhere ram slots blocks (backing.Block t) page (held.Slot s) x y = refl
 bytes_elsewhere ram slots blocks (backing.Block t) page (held.Block c) x y = get_set_other blocks t.0 c.0 page (λ e. y t.0 refl (ap Some e))
-bytes_elsewhere ram slots blocks (backing.Block t) page held.Zero x y = refl
-bytes_elsewhere ram slots blocks (backing.Block t) page held.Dead x y = refl
+bytes_elsewhere ram slots blocks _ page _ x y = refl
 
 -- and what is written stands there
 bytes_there : (ram : FrameBytes) (slots blocks : BlockBytes) (b : Backing) (page : List ℕ) → is_backed b ≡ true
@@ -72,13 +45,11 @@ bytes_there ram slots blocks (backing.Block c) page i x y = get_set_same blocks 
 
 slot_home : (b : Backing) → slot_held (home_at b) ≡ slot_of b
 slot_home backing.None = refl
-slot_home (backing.Slot s) = refl
-slot_home (backing.Block c) = refl
+slot_home _ = refl
 
 block_home : (b : Backing) → block_here (home_at b) ≡ block_of b
 block_home backing.None = refl
-block_home (backing.Slot s) = refl
-block_home (backing.Block c) = refl
+block_home _ = refl
 
 module _ (l : FrameLife) (facts : Facts l) (f : Frame) (ram : FrameBytes) (slots blocks : BlockBytes) (page : List ℕ) (legal : IsLegal (move.Wrote f) l) where
   abbrev d : FrameTable
@@ -123,14 +94,7 @@ module _ (l : FrameLife) (facts : Facts l) (f : Frame) (ram : FrameBytes) (slots
       let there = facts.owned g.0 k o in
       let mine : l.stands k ≡ held.Frame f = owner_block c e k (ap (λ (x : Held). block_in l.frames x) there ∙ sym (block_home (record_at l.frames g.0).backing) ∙ h) in
       let both : held.Frame (record { 0 = g.0 }) ≡ held.Frame f = sym there ∙ mine in
-      n (ap number both))
-    where
-      number : Held → ℕ
-      number (held.Frame x) = x.0
-      number (held.Slot x) = 0
-      number (held.Block x) = 0
-      number held.Zero = 0
-      number held.Dead = 0
+      n (let same : record { 0 = g.0 } ≡ f = cc in ap (λ (z : Frame). z.0) same))
 
   quiet_after : (o : Bool) → is_read (if o then write_done (record_at l.frames f.0) else blank).request ≡ false
   quiet_after false = refl
@@ -162,20 +126,17 @@ module _ (l : FrameLife) (facts : Facts l) (f : Frame) (ram : FrameBytes) (slots
       by (held.Block c) e = bytes_elsewhere ram slots blocks b page (held.Block c)
           (λ t g h. cc)
           (λ x g h. let mine : l.stands q ≡ held.Frame f = owner_block x g q (ap (λ (y : Held). block_in l.frames y) e ∙ h) in let bad : held.Frame f ≡ held.Block c = sym mine ∙ e in cc)
-      by held.Zero e = bytes_elsewhere ram slots blocks b page held.Zero (λ t g h. cc) (λ c g h. cc)
-      by held.Dead e = bytes_elsewhere ram slots blocks b page held.Dead (λ t g h. cc) (λ c g h. cc)
+      by x e = bytes_elsewhere ram slots blocks b page x (λ t g h. cc) (λ c g h. cc)
 
   -- ---- and what is located
 
   length_slots : (x : Backing) → length (slots_written x page slots) ≡ length slots
-  length_slots backing.None = refl
   length_slots (backing.Slot s) = length-set slots s.0 page
-  length_slots (backing.Block c) = refl
+  length_slots _ = refl
 
   length_blocks : (x : Backing) → length (blocks_written x page blocks) ≡ length blocks
-  length_blocks backing.None = refl
-  length_blocks (backing.Slot s) = refl
   length_blocks (backing.Block c) = length-set blocks c.0 page
+  length_blocks _ = refl
 
   pub block_there : (c : ℕ) → block_of b ≡ Some c → c < l.machine.blocks
   block_there c e = at (record_at l.frames f.0).owner refl

@@ -1,17 +1,12 @@
 -- The bytes of keys in a state, and what changes of them.
 -- Profile, "Logs of moves".
 use Rattle.std.specs.Prelude.{◌≡◌, ℕ, Bool, true, false, List, Option, slice_set}
-use Rattle.mm_types.specs.declared.numbers.Key.{Key}
-use Rattle.mm_types.specs.declared.frames.Backing.{Backing}
+use Rattle.mm_types.specs.{Key, Backing, Record, Request, LineKind}
 use Rattle.mm_types.specs.declared.frames.Backing.TheVariants as backing
-use Rattle.mm_types.specs.declared.frames.Record.{Record}
-use Rattle.mm_types.specs.declared.frames.Request.{Request}
 use Rattle.mm_types.specs.declared.frames.Request.TheVariants as request
-use Rattle.mm_types.specs.declared.moves.LineKind.{LineKind}
 use Rattle.mm_types.specs.declared.moves.LineKind.TheVariants as kind
-use Rattle.mm_life.specs.Life.{FrameLife, changed, same_key}
+use Rattle.mm_life.specs.{FrameLife, changed, same_key, FrameBytes, BlockBytes, contents_of, BytesLocated}
 use Rattle.mm_laws.specs.Reached.{Reached}
-use Rattle.mm_life.specs.Located.{FrameBytes, BlockBytes, contents_of, BytesLocated}
 
 -- the bytes are located in this state, and the keys have these contents
 pub record Carries (l : FrameLife) (ram : FrameBytes) (slots blocks : BlockBytes)

@@ -1,11 +1,8 @@
 -- Which page goes first, as functions of a list of places, and as code goes through sets and
 -- processes. Profile, "Which frame moves, and when".
-use Rattle.std.specs.Prelude.{◌≡◌, ◌⊎◌, ◌<◌, ℕ, Bool, true, false, is_some, ◌||◌, ◌&&◌, not, nat_lt, ◌==◌, if◌then◌else◌, List, [], ◌∷◌, Option, Some, None}
-use Rattle.mm_types.specs.declared.numbers.Frame.{Frame}
-use Rattle.mm_types.specs.declared.numbers.Place.{Place}
-use Rattle.mm_life.specs.Life.{FrameLife, set_of}
-use Rattle.mm_life.specs.Legal.{is_above_min}
-use Rattle.mm_life.specs.Order.{Ages, page_first, process_first, may_go, IsOldest}
+use Rattle.std.specs.Prelude.{◌≡◌, ◌⊎◌, ◌<◌, ℕ, Bool, true, false, is_some, ◌||◌, ◌&&◌, not, ◌==◌, if◌then◌else◌, List, [], ◌∷◌, Option, Some, None}
+use Rattle.mm_types.specs.{Frame, Place}
+use Rattle.mm_life.specs.{FrameLife, set_of, is_above_min, Ages, page_first, process_first, may_go, IsOldest}
 
 -- of two pages of any processes
 abbrev pub place_first : FrameLife → Ages → Place → Place → Bool

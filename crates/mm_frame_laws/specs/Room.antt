@@ -1,12 +1,8 @@
 -- What a search for a frame can empty: modified frames that can be written, and places whose frame
 -- is not pinned. Profile, "Which frame moves, and when".
-use Rattle.std.specs.Prelude.{◌≡◌, ◌≤◌, ℕ, Bool, true, false, not, length, Option, Some, None}
-use Rattle.mm_types.specs.declared.numbers.Frame.{Frame}
-use Rattle.mm_types.specs.declared.numbers.Place.{Place}
-use Rattle.mm_life.specs.Frames.{is_on}
-use Rattle.mm_life.specs.Life.{FrameLife}
-use Rattle.mm_life.specs.Victims.{can_be_written}
-use Rattle.mm_life.specs.Order.{may_go}
+use Rattle.std.specs.Prelude.{◌≡◌, ◌≤◌, ℕ, true, false, length, Option}
+use Rattle.mm_types.specs.{Frame, Place}
+use Rattle.mm_life.specs.{is_on, FrameLife, can_be_written, may_go}
 
 -- at most depth requests are in flight
 abbrev pub IsWithinDepth : FrameLife → Type 0

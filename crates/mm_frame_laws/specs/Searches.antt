@@ -2,20 +2,10 @@
 -- Profile, "Which frame moves, and when".
 use Rattle.std.specs.Prelude.{◌≡◌, ◌≢◌, ℕ, Bool, true, false, not, ◌&&◌, ◌==◌, if◌then◌else◌, Option, Some, None, List, [], ◌∷◌, ◌++◌}
 use Rattle.std.specs.List.{list_any}
-use Rattle.mm_types.specs.Machine.{IsMachine}
-use Rattle.mm_types.specs.declared.numbers.Frame.{Frame}
-use Rattle.mm_types.specs.declared.numbers.Place.{Place}
-use Rattle.mm_types.specs.declared.moves.Stored.{Stored}
-use Rattle.mm_types.specs.declared.moves.Move.{Move}
+use Rattle.mm_types.specs.{IsMachine, Frame, Place, Stored, Move}
 use Rattle.mm_types.specs.declared.moves.Move.TheVariants as move
-use Rattle.mm_life.specs.Frames.{is_on}
-use Rattle.mm_life.specs.Life.{FrameLife}
-use Rattle.mm_life.specs.Legal.{is_access, is_short}
-use Rattle.mm_life.specs.Effect.{after_move}
-use Rattle.mm_life.specs.Replay.{Replays}
-use Rattle.mm_life.specs.Victims.{can_be_written}
+use Rattle.mm_life.specs.{is_on, FrameLife, is_access, is_short, after_move, Replays, can_be_written, Ages, IsVictim}
 use Rattle.mm_frame_laws.specs.Room.{IsWithinDepth}
-use Rattle.mm_life.specs.Order.{Ages, IsVictim}
 use Rattle.mm_frame_laws.specs.Steps.{list_in_search}
 
 abbrev pub is_lost_of : ℕ → Move → Bool

@@ -4,10 +4,8 @@ use Rattle.std.specs.Prelude.{◌≡◌, ℕ, true, is_some, Option, Some, optio
 use Rattle.std.specs.Ordering.{nat_cmp}
 use Rattle.std.specs.FinMap as finite
 use Rattle.std.specs.FinMap.{FinMap}
-use Rattle.mm_types.specs.declared.numbers.Pid.{Pid}
-use Rattle.mm_types.specs.declared.numbers.Place.{Place}
-use Rattle.mm_life.specs.Life.{FrameLife}
-use Rattle.mm_life.specs.Order.{Ages}
+use Rattle.mm_types.specs.{Pid, Place}
+use Rattle.mm_life.specs.{FrameLife, Ages}
 
 -- the working set has the valid pages of the process, each with its age, and no others
 pub record SetShows (l : FrameLife) (ages : Ages) (pid : Pid) (set : FinMap nat_cmp ℕ) :

@@ -1,19 +1,12 @@
 -- What the steps of a search leave.
 -- Profile, "Which frame moves, and when".
 use Rattle.std.specs.Prelude.{◌≡◌, ◌≢◌, ℕ, ◌+◌, Bool, not, ◌&&◌, ◌==◌, List, [], ◌∷◌, ◌++◌, None}
-use Rattle.mm_types.specs.declared.numbers.Frame.{Frame}
-use Rattle.mm_types.specs.declared.numbers.Place.{Place}
-use Rattle.mm_types.specs.declared.frames.Record.{Record}
-use Rattle.mm_types.specs.declared.frames.Backing.{Backing}
+use Rattle.mm_types.specs.{Frame, Place, Record, Backing, Stored}
 use Rattle.mm_types.specs.declared.frames.Backing.TheVariants as backing
-use Rattle.mm_types.specs.declared.moves.Stored.{Stored}
 use Rattle.mm_types.specs.declared.moves.Stored.TheVariants as stored
 use Rattle.mm_types.specs.declared.moves.Move.TheVariants as move
-use Rattle.mm_life.specs.Frames.{record_at, without, has_request, unshared}
-use Rattle.mm_life.specs.Life.{FrameLife}
-use Rattle.mm_life.specs.Effect.{after_move}
-use Rattle.mm_laws.specs.Places.{valid_places}
-use Rattle.mm_laws.specs.Settling.{at_end_if, ListsAre}
+use Rattle.mm_life.specs.{record_at, without, has_request, unshared, FrameLife, after_move}
+use Rattle.mm_laws.specs.{valid_places, at_end_if, ListsAre}
 
 -- a frame that one place alone shows, and that has no request: without that place it is on a list
 abbrev pub is_last : Record → Bool

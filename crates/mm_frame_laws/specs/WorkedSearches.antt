@@ -1,14 +1,12 @@
 -- Worked logs of searches.
 -- Profile, "Which frame moves, and when".
 use Rattle.std.specs.Prelude.{ℕ, zero, suc, ◌+◌, List, [], ◌∷◌, ◌++◌, Some, None}
-use Rattle.mm_types.specs.declared.numbers.Key.{Key}
+use Rattle.mm_types.specs.{Key, Place, Move}
 use Rattle.mm_types.specs.declared.numbers.Key.TheVariants.{Shared}
-use Rattle.mm_types.specs.declared.numbers.Place.{Place}
 use Rattle.mm_types.specs.declared.moves.LineKind.TheVariants as kind
 use Rattle.mm_types.specs.declared.moves.Stored.TheVariants as stored
-use Rattle.mm_types.specs.declared.moves.Move.{Move}
 use Rattle.mm_types.specs.declared.moves.Move.TheVariants as move
-use Rattle.mm_life.specs.WorkedLogs.{pid, frame, slot, private, place}
+use Rattle.mm_life.specs.{pid, frame, slot, private, place}
 use Rattle.mm_frame_laws.specs.Searches.{failed_write}
 
 -- ---- eight frames that hold eight valid pages

@@ -1,19 +1,9 @@
 ghost use Rattle.std.specs.Prelude.{◌≡◌, ◌≤◌, ◌++◌, ℕ, List, Some, None, false, length, replicate, slice_get, slice_set};
-ghost use Rattle.mm_types.specs.Machine.{MachineOf};
-ghost use Rattle.mm_types.specs.declared.numbers.Block.{Block};
-ghost use Rattle.mm_types.specs.declared.numbers.Frame.{Frame};
-ghost use Rattle.mm_types.specs.declared.numbers.Key.{Key};
-ghost use Rattle.mm_types.specs.declared.numbers.Place.{Place};
-ghost use Rattle.mm_types.specs.declared.moves.LineKind.{LineKind};
+ghost use Rattle.mm_types.specs.{MachineOf, Block, Frame, Key, Place, LineKind, Stored};
 ghost use Rattle.mm_types.specs.declared.moves.LineKind.TheVariants as kind;
 ghost use Rattle.mm_types.specs.declared.moves.Move.TheVariants as move;
-ghost use Rattle.mm_types.specs.declared.moves.Stored.{Stored};
-ghost use Rattle.mm_life.specs.Frames.{record_at};
-ghost use Rattle.mm_life.specs.Life.{FrameLife, unstarted};
-ghost use Rattle.mm_life.specs.Legal.{IsLegal};
-ghost use Rattle.mm_life.specs.Effect.{after_move, home_at};
-ghost use Rattle.mm_life.specs.Located.{FrameBytes, BlockBytes, zero_page, page_at, bytes_at};
-ghost use Rattle.mm_ram.specs.Ram.{with_page};
+ghost use Rattle.mm_life.specs.{record_at, FrameLife, unstarted, IsLegal, after_move, home_at, FrameBytes, BlockBytes, zero_page, page_at, bytes_at};
+ghost use Rattle.mm_ram.specs.{with_page};
 ghost use Rattle.mm_frame_laws.specs.Carried.{HoldsBytes, Carries, KeepsBytes, SetsBytes, IsSoiled, slots_grown, slots_written, blocks_written};
 
 /// A line leaves the bytes of every key. One in which the paging file grows has further slots,

@@ -1,11 +1,7 @@
 ghost use Rattle.std.specs.Prelude.{◌≡◌, ◌⊎◌, ℕ, Option, true};
-ghost use Rattle.mm_types.specs.Machine.{IsMachine};
-ghost use Rattle.mm_types.specs.declared.numbers.Frame.{Frame};
-ghost use Rattle.mm_types.specs.declared.numbers.Place.{Place};
-ghost use Rattle.mm_life.specs.Life.{FrameLife};
-ghost use Rattle.mm_life.specs.Legal.{is_short};
+ghost use Rattle.mm_types.specs.{IsMachine, Frame, Place};
+ghost use Rattle.mm_life.specs.{FrameLife, is_short, may_go};
 ghost use Rattle.mm_laws.specs.Sound.{Sound};
-ghost use Rattle.mm_life.specs.Order.{may_go};
 ghost use Rattle.mm_frame_laws.specs.Room.{NoneMayGo, NoneWritable, Writable, IsWithinDepth};
 
 /// Where zeroed, free and standby are empty and at most depth requests are in flight, a modified

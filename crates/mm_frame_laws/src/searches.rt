@@ -1,20 +1,10 @@
 ghost use Rattle.std.specs.Prelude.{◌≡◌, ◌+◌, ℕ, List, Option, Some, true, false, ◌++◌, ◌∷◌, []};
-ghost use Rattle.mm_types.specs.Machine.{IsMachine};
-ghost use Rattle.mm_types.specs.declared.numbers.Frame.{Frame};
-ghost use Rattle.mm_types.specs.declared.numbers.Place.{Place};
-ghost use Rattle.mm_types.specs.declared.moves.Stored.{Stored};
-ghost use Rattle.mm_types.specs.declared.moves.Move.{Move};
+ghost use Rattle.mm_types.specs.{IsMachine, Frame, Place, Stored, Move};
 ghost use Rattle.mm_types.specs.declared.moves.Move.TheVariants as move;
-ghost use Rattle.mm_life.specs.Frames.{is_on};
-ghost use Rattle.mm_life.specs.Life.{FrameLife};
-ghost use Rattle.mm_life.specs.Legal.{IsLegal, is_access, is_short};
-ghost use Rattle.mm_life.specs.Effect.{after_move};
-ghost use Rattle.mm_life.specs.Replay.{Replays};
-ghost use Rattle.mm_life.specs.Victims.{can_be_written};
+ghost use Rattle.mm_life.specs.{is_on, FrameLife, IsLegal, is_access, is_short, after_move, Replays, can_be_written, Ages, IsVictim};
 ghost use Rattle.mm_laws.specs.Sound.{Sound};
 ghost use Rattle.mm_frame_laws.specs.Room.{NoneMayGo, IsWithinDepth};
-ghost use Rattle.mm_life.specs.Order.{Ages, IsVictim};
-ghost use Rattle.mm_laws.specs.Places.{valid_places};
+ghost use Rattle.mm_laws.specs.{valid_places};
 ghost use Rattle.mm_frame_laws.specs.Steps.{after_failed};
 ghost use Rattle.mm_frame_laws.specs.Searches.{failed_write, lost_in, Walking, Emptying, AreSteps, InOrder, InWalk};
 

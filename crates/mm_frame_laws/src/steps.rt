@@ -1,21 +1,12 @@
 ghost use Rattle.std.specs.Prelude.{◌≡◌, ◌≢◌, ◌-◌, ℕ, Some, true, false, ◌||◌, is_some, ◌++◌, ◌∷◌, []};
 ghost use Rattle.std.specs.List.{list_any};
-ghost use Rattle.mm_types.specs.declared.numbers.Frame.{Frame};
-ghost use Rattle.mm_types.specs.declared.numbers.Key.{Key};
-ghost use Rattle.mm_types.specs.declared.numbers.Place.{Place};
-ghost use Rattle.mm_types.specs.declared.moves.Stored.{Stored};
+ghost use Rattle.mm_types.specs.{Frame, Key, Place, Stored};
 ghost use Rattle.mm_types.specs.declared.moves.Move.TheVariants as move;
-ghost use Rattle.mm_life.specs.Frames.{record_at, has_request, is_on, without, being_written};
-ghost use Rattle.mm_life.specs.Life.{FrameLife, set_of};
-ghost use Rattle.mm_life.specs.declared.sets.ResidentSet.{ResidentSet};
-ghost use Rattle.mm_life.specs.Legal.{IsLegal, is_access, is_writer, has_depth, is_short, trims, touches, is_above_min, is_at_max};
-ghost use Rattle.mm_life.specs.Effect.{after_move};
-ghost use Rattle.mm_life.specs.Victims.{can_be_written};
+ghost use Rattle.mm_life.specs.{record_at, has_request, is_on, without, being_written, FrameLife, set_of, ResidentSet, IsLegal, is_access, is_writer};
+ghost use Rattle.mm_life.specs.{has_depth, is_short, trims, touches, is_above_min, is_at_max, after_move, can_be_written};
 ghost use Rattle.mm_laws.specs.Sound.{Sound};
-ghost use Rattle.mm_laws.specs.Tally.{times};
-ghost use Rattle.mm_laws.specs.FileBlocks.{block_of};
+ghost use Rattle.mm_laws.specs.{times, block_of, ListsAre};
 ghost use Rattle.mm_frame_laws.specs.Room.{Writable};
-ghost use Rattle.mm_laws.specs.Settling.{ListsAre};
 ghost use Rattle.mm_frame_laws.specs.Steps.{Unmapped, backing_to, after_written, after_failed, put_last};
 
 /// What the unmap of a place leaves. A frame that the place alone showed, without a request, joins

@@ -1,17 +1,12 @@
 ghost use Rattle.std.specs.Prelude.{◌≡◌, ◌≤◌, ◌<◌, ◌+◌, ℕ, List, length, Option, Some, None, true, false, is_some};
-ghost use Rattle.mm_types.specs.declared.numbers.Frame.{Frame};
+ghost use Rattle.mm_types.specs.{Frame, Pid, Place};
 ghost use Rattle.std.specs.Ordering.{nat_cmp};
 ghost use Rattle.std.specs.FinMap.{FinMap};
-ghost use Rattle.mm_types.specs.declared.numbers.Pid.{Pid};
-ghost use Rattle.mm_types.specs.declared.numbers.Place.{Place};
-ghost use Rattle.mm_life.specs.Life.{FrameLife, same_place, set_of};
+ghost use Rattle.mm_life.specs.{FrameLife, same_place, set_of, may_go, Ages, IsOldest, IsVictim};
 ghost use Rattle.mm_laws.specs.Sound.{Sound};
-ghost use Rattle.mm_laws.specs.Tally.{tally};
-ghost use Rattle.mm_laws.specs.Places.{residents};
-ghost use Rattle.mm_life.specs.Order.{may_go};
-ghost use Rattle.mm_wset.specs.Ages.{IsOldestInSet, NoneFollowsInSet};
+ghost use Rattle.mm_laws.specs.{tally, residents};
+ghost use Rattle.mm_wset.specs.{IsOldestInSet, NoneFollowsInSet};
 ghost use Rattle.mm_frame_laws.specs.Sets.{SetShows, place_of_page, page_of_place, IsInSet};
-ghost use Rattle.mm_life.specs.Order.{Ages, IsOldest, IsVictim};
 ghost use Rattle.mm_frame_laws.specs.Order.{first_to_go, first_to_go_in, IsNextPage, PassedTo, NoPageFollows, IsBest, BestBelow, takes_over};
 
 /// Where a place may go, one page goes first of all, and one of that place's process; and no two

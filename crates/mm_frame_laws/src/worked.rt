@@ -1,9 +1,6 @@
 ghost use Rattle.std.specs.Prelude.{◌≡◌, option_map, Some, None, [], ◌∷◌, ◌++◌, true, false, length};
 ghost use Rattle.std.specs.List.{list_any};
-ghost use Rattle.mm_life.specs.Legal.{is_short};
-ghost use Rattle.mm_life.specs.Replay.{replay_log};
-ghost use Rattle.mm_life.specs.Victims.{can_be_written};
-ghost use Rattle.mm_life.specs.WorkedLogs.{frame, place};
+ghost use Rattle.mm_life.specs.{is_short, replay_log, can_be_written, frame, place};
 ghost use Rattle.mm_frame_laws.specs.Order.{first_to_go};
 ghost use Rattle.mm_frame_laws.specs.WorkedSearches.{eight_pages, eight_places, first_emptied, second_emptied, first_fails, one_too_many};
 

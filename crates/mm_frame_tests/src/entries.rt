@@ -1,5 +1,5 @@
 ghost use Rattle.std.specs.Prelude.{◌≡◌, ◌^◌, ◌<◌, Some, OnSome, IfSome};
-ghost use Rattle.mm_words.specs.Layout.{first_number};
+ghost use Rattle.mm_words.specs.{first_number};
 
 use mm_types::{Area, Block, Frame, Slot};
 use mm_words::{Entry, decode, encode};

@@ -1,17 +1,14 @@
 -- All frames are free.
-use Rattle.std.proofs.Common.{◌≡◌, ℕ, zero, suc, ◌+◌, ◌<◌, ◌^◌, List, [], ◌∷◌, ◌++◌, length, get_or, replicate, Some, None, refl, sym, ap, ◌∙◌, subst, arith}
+use Rattle.std.proofs.Common.{◌≡◌, ℕ, zero, suc, ◌+◌, ◌<◌, ◌^◌, List, length, get_or, replicate, Some, None, refl, sym, ap, ◌∙◌, subst, arith}
 use Rattle.std.specs.Prelude.{slice_get}
 use Rattle.std.proofs.lemmas.List.{get_or-replicate, length-replicate}
-use Rattle.mm_types.specs.declared.frames.Record.{Record}
-use Rattle.mm_life.specs.Frames.{blank}
-use Rattle.mm_life.specs.Life.{numbers_from}
-use Rattle.mm_lists.specs.Lists.{ListsOf, AreApart, IsOnNone, number_at}
-use Rattle.mm_frames.specs.declared.standing.Standing.{Standing}
+use Rattle.mm_types.specs.{Record}
+use Rattle.mm_life.specs.{blank, numbers_from}
+use Rattle.mm_lists.specs.{ListsOf, AreApart, IsOnNone, number_at}
+use Rattle.mm_frames.specs.{Standing, standing_at, list_for, Listed, AreFrames, free_only}
 use Rattle.mm_frames.specs.declared.standing.Standing.TheVariants.{Free}
-use Rattle.mm_frames.specs.Base.{standing_at}
-use Rattle.mm_frames.specs.Placing.{list_for, Listed, AreFrames, none_but, free_only}
 use Rattle.mm_frames.proofs.Placings.{as_empty}
-use Rattle.mm_life.proofs.Numbers.{numbers_in, numbers_at}
+use Rattle.mm_life.proofs.{numbers_in, numbers_at}
 
 pub only_free : (xs : List ℕ) (j k g : ℕ) → number_at (free_only xs) j k ≡ Some g → (j ≡ 1) × (slice_get xs k ≡ Some g)
 only_free xs zero k g e = let bad : None ≡ Some g = e in cc
@@ -36,12 +33,12 @@ all_free n lists small e apart =
       numbers = ap (λ (v : ListsOf). v.numbers) e ∙ sym many;
       four = ap (λ (v : ListsOf). length v.lists) e;
       apart = apart;
-      listed = subst (λ (v : ListsOf). Listed none_but (replicate n blank) (replicate n Free) v.lists) (sym e) (record {
+      listed = subst (λ (v : ListsOf). Listed (replicate n blank) (replicate n Free) v.lists) (sym e) (record {
         held = λ j k f at.
             let h = only_free (numbers_from 0 n) j k f at in
             let low : f < n = omega (arith, numbers_in 0 n k f h.1) in
-            (refl, free_list n f low ∙ ap (λ (q : ℕ). Some q) (sym h.0));
-        there = λ f j low b at.
+            free_list n f low ∙ ap (λ (q : ℕ). Some q) (sym h.0);
+        there = λ f j low at.
             let inside : f < n = omega (arith, low, many) in
             let one : Some 1 ≡ Some j = sym (free_list n f inside) ∙ at in
             let j_is : 1 ≡ j = cc in

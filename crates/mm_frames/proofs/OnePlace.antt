@@ -3,17 +3,13 @@ use Rattle.std.proofs.Common.{◌≡◌, ◌≢◌, ℕ, zero, suc, ◌+◌, ◌
 use Rattle.std.proofs.lemmas.Bool.Decides.{nat_tests}
 use Rattle.std.specs.Prelude.{slice_get, nat_lt, ◌==◌, ◌||◌, ◌&&◌, not, if◌then◌else◌}
 use Rattle.std.specs.Cmp.{unsigned_Decides}
-use Rattle.mm_types.specs.declared.frames.Record.{Record}
-use Rattle.mm_types.proofs.Tables.{differ}
-use Rattle.mm_life.specs.Frames.{blank, has_request, is_on}
-use Rattle.mm_life.specs.Life.{is_active, is_in_transition}
-use Rattle.mm_lists.specs.Lists.{ListsOf, list_at}
-use Rattle.mm_lists.proofs.Cuts.{same, place_of}
-use Rattle.mm_frames.specs.declared.standing.Standing.{Standing}
+use Rattle.mm_types.specs.{Record}
+use Rattle.mm_types.proofs.{differ, or_right}
+use Rattle.mm_life.specs.{blank, has_request, is_on, is_active, is_in_transition}
+use Rattle.mm_lists.specs.{ListsOf, list_at}
+use Rattle.mm_lists.proofs.{same, place_of}
+use Rattle.mm_frames.specs.{Standing, standing_at, list_for, AreFrames, table_of, one_if, is_in_hand, places}
 use Rattle.mm_frames.specs.declared.standing.Standing.TheVariants.{Zeroed, Free, Bound, Cleared, Taken}
-use Rattle.mm_frames.specs.Base.{standing_at}
-use Rattle.mm_frames.specs.Placing.{list_for, AreFrames, table_of, one_if, is_in_hand, places}
-use Rattle.mm_types.proofs.Booleans.{or_right}
 
 pub on_if : (f : ℕ) (xs : List ℕ) (k : ℕ) → slice_get xs k ≡ Some f → is_on f xs ≡ true
 on_if f [] k e = let bad : None ≡ Some f = e in cc
@@ -62,13 +58,13 @@ one_by Bound r e = bound_one r
 one_by Cleared r e = ap (λ (q : Record). places_by None q Cleared) (e (λ d. cc))
 one_by Taken r e = ap (λ (q : Record). places_by None q Taken) (e (λ d. cc))
 
-module _ (records : List Record) (standing : List Standing) (lists : ListsOf) (bytes : List (Option (List ℕ))) (a : AreFrames records standing lists bytes) (f : ℕ) (low : f < length records) where
+module _ {records : List Record} {standing : List Standing} {lists : ListsOf} {bytes : List (Option (List ℕ))} (a : AreFrames records standing lists bytes) (f : ℕ) (low : f < length records) where
   on_by : (j : ℕ) → is_on f (list_at lists.lists j) ≡ on_list j (list_for (standing_at standing f) (get_or records f blank))
   on_by j = elim (place_of f (list_at lists.lists j)) [
-    | inl h ↦ on_if f (list_at lists.lists j) h.0 h.1 ∙ sym (ap (on_list j) (a.listed.held j h.0 f h.1).1 ∙ (unsigned_Decides j j).1 refl)
+    | inl h ↦ on_if f (list_at lists.lists j) h.0 h.1 ∙ sym (ap (on_list j) (a.listed.held j h.0 f h.1) ∙ (unsigned_Decides j j).1 refl)
     | inr none ↦
         off_if f (list_at lists.lists j) none
-        ∙ sym (on_list_none j (list_for (standing_at standing f) (get_or records f blank)) (λ e. let h = a.listed.there f j low refl e in none h.0 h.1))
+        ∙ sym (on_list_none j (list_for (standing_at standing f) (get_or records f blank)) (λ e. let h = a.listed.there f j low e in none h.0 h.1))
   ]
 
   pub one_place : places (record { table = table_of records lists.lists; bytes = bytes; standing = standing }) f ≡ 1

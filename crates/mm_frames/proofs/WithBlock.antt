@@ -1,37 +1,24 @@
 -- The second list: the modified frames with a block, in the order of modified.
-use Rattle.std.proofs.Common.{◌≡◌, ℕ, zero, suc, ◌<◌, Bool, true, false, cond, List, [], ◌∷◌, ◌++◌, Option, length, map, get_or, set, replicate, Some, None, refl, sym, ap, ◌∙◌, subst, inl, inr, arith, get_or-set_same, get_or-set_other, length-set}
-use Rattle.std.specs.Prelude.{slice_get, ◌==◌, ◌&&◌, not}
+use Rattle.std.proofs.Common.{◌≡◌, ◌≢◌, ◌⊎◌, ℕ, zero, suc, ◌<◌, Bool, true, false, cond, List, [], ◌∷◌, ◌++◌, Option, length, map, get_or, set, replicate, Some, None, refl, sym, ap, ◌∙◌, inl, inr, arith, get_or-set_same, get_or-set_other, length-set}
+use Rattle.std.specs.Prelude.{slice_get, ◌==◌, ◌&&◌, not, is_some}
 use Rattle.std.specs.Cmp.{unsigned_Decides}
+use Rattle.std.proofs.lemmas.List.{length-map, length-replicate}
 use Rattle.std.proofs.lemmas.List.Elements.{filter-append}
-use Rattle.mm_types.specs.declared.frames.Record.{Record}
-use Rattle.std.proofs.lemmas.List.{length-replicate}
-use Rattle.mm_types.proofs.Bytes.{append_nil}
-use Rattle.mm_types.proofs.Cells.{same_or_not}
-use Rattle.mm_types.proofs.Tables.{differ}
-use Rattle.mm_life.specs.Frames.{blank, is_idle}
-use Rattle.mm_life.specs.Life.{numbers_from}
-use Rattle.mm_lists.specs.Lists.{ListsOf, AreApart, IsOnOne, IsOnNone, list_at, number_at, with_list, without}
-use Rattle.mm_lists.proofs.Cuts.{same}
-use Rattle.mm_frames.specs.Base.{has_block, is_modified_with_block}
-use Rattle.mm_frames.specs.Placing.{free_only, backed_in, backed_list, AreBacked}
-use Rattle.mm_frames.specs.declared.standing.Standing.{Standing}
-use Rattle.mm_frames.specs.Base.{standing_at}
-use Rattle.mm_frames.specs.Placing.{AreFrames, IsAtRest, is_kept, list_for}
-use Rattle.mm_lists.proofs.Members.{list-without}
-use Rattle.mm_frames.proofs.Placings.{frame_low, frame_bound, idle_list}
+use Rattle.mm_types.specs.{Record}
+use Rattle.mm_types.proofs.{append_nil, same_or_not, differ}
+use Rattle.mm_life.specs.{blank, is_idle, numbers_from}
+use Rattle.mm_lists.specs.{ListsOf, AreApart, IsOnOne, IsOnNone, list_at, number_at, without}
+use Rattle.mm_lists.proofs.{same, list-without}
+use Rattle.mm_frames.specs.{Standing, standing_at, has_block, is_modified_with_block, free_only, backed_in, backed_list, AreFrames, AreBacked}
+use Rattle.mm_frames.specs.{IsAtRest, list_for, pushed_on, relisted, second_for}
+use Rattle.mm_frames.specs.declared.standing.Standing.TheVariants.{Zeroed, Free, Bound, Cleared, Taken}
+use Rattle.mm_frames.proofs.Placings.{used_if, used_low, used_bound}
 use Rattle.mm_frames.proofs.AtRest.{listed_rests, idle_if, on_low}
 
 -- ---- what a filter keeps
 
 abbrev backs : List Record → ℕ → Bool
 backs records f = has_block (get_or records f blank).backing
-
--- the record of a frame that is not on the list is no matter
-agree : (records : List Record) (f : ℕ) (r : Record) (xs : List ℕ) → ((k : ℕ) → slice_get xs k ≡ Some f → ⊥) → backed_in (set records f r) xs ≡ backed_in records xs
-agree records f r [] none = refl
-agree records f r (x ∷ xs) none =
-    ap (λ (b : Bool). cond b (x ∷ backed_in (set records f r) xs) (backed_in (set records f r) xs)) (ap (λ (q : Record). has_block q.backing) (get_or-set_other records f x r blank (λ e. none 0 (ap (λ (y : ℕ). Some y) e))))
-    ∙ ap (λ (ys : List ℕ). cond (backs records x) (x ∷ ys) ys) (agree records f r xs (λ k. none (suc k)))
 
 -- a number that is taken off both lists
 taken_out : (records : List Record) (f : ℕ) (r : Record) (xs : List ℕ) → backed_in (set records f r) (without f xs) ≡ without f (backed_in records xs)
@@ -57,13 +44,6 @@ taken_out records f r (x ∷ xs) = elim (same_or_not x f) [
     kept x true ys t = ap (λ (b : Bool). cond (not b) (x ∷ without f ys) (without f ys)) t
     kept x false ys t = refl
 
--- a number that is put at the end: it is on the second list where it has a block
-put_behind : (records : List Record) (f : ℕ) (r : Record) (xs : List ℕ) → f < length records → ((k : ℕ) → slice_get xs k ≡ Some f → ⊥) → backed_in (set records f r) (xs ++ f ∷ []) ≡ backed_in records xs ++ cond (has_block r.backing) (f ∷ []) []
-put_behind records f r xs low none =
-    filter-append (backs (set records f r)) xs (f ∷ [])
-    ∙ ap (λ (ys : List ℕ). ys ++ backed_in (set records f r) (f ∷ [])) (agree records f r xs none)
-    ∙ ap (λ (q : Record). backed_in records xs ++ cond (has_block q.backing) (f ∷ []) []) (get_or-set_same records f r blank low)
-
 -- what is on the second list is on modified and has a block, and the other way round
 pub backed_found : (records : List Record) (xs : List ℕ) (k f : ℕ) → slice_get (backed_in records xs) k ≡ Some f → (has_block (get_or records f blank).backing ≡ true) × ((m : ℕ) × (slice_get xs m ≡ Some f))
 backed_found records [] k f e = let bad : None ≡ Some f = e in cc
@@ -88,53 +68,6 @@ backed_there records (x ∷ xs) (suc m) f e h =
     at true k e = (suc k, e)
     at false k e = (k, e)
 
--- ---- the second list, as a frame moves
-
-module _ (records : List Record) (lists : List (List ℕ)) (b : ListsOf) (a : AreBacked records lists b) where
-  -- other lists change
-  pub backed_same : (lists' : List (List ℕ)) → list_at lists' 3 ≡ list_at lists 3 → AreBacked records lists' b
-  backed_same lists' e = record { apart = a.apart; same = a.same ∙ ap (λ (xs : List ℕ). backed_list records xs) (sym e) }
-
-  pub backed_elsewhere : (i : ℕ) (xs : List ℕ) → i < 3 → AreBacked records (set lists i xs) b
-  backed_elsewhere i xs low = backed_same (set lists i xs) (get_or-set_other lists i 3 xs [] (λ e. omega (arith, low, e)))
-
-  module _ (f : ℕ) (r : Record) where
-    length_same : length (set records f r) ≡ length records
-    length_same = length-set records f r
-
-    -- the record of a frame that is not on modified
-    pub backed_record : ((k : ℕ) → number_at lists 3 k ≡ Some f → ⊥) → AreBacked (set records f r) lists b
-    backed_record none = record {
-      apart = a.apart;
-      same = a.same ∙ sym (ap (λ (n : ℕ). record { numbers = n; lists = backed_in (set records f r) (list_at lists 3) ∷ [] }) length_same ∙ ap (λ (xs : List ℕ). record { numbers = length records; lists = xs ∷ [] }) (agree records f r (list_at lists 3) none));
-    }
-
-    -- a frame leaves
-    pub backed_left : AreApart (record b { lists = map (without f) b.lists }) → AreBacked (set records f r) (map (without f) lists) (record b { lists = map (without f) b.lists })
-    backed_left apart = record {
-      apart = apart;
-      same =
-          ap (λ (w : ListsOf). record w { lists = map (without f) w.lists }) a.same
-          ∙ sym (ap (λ (n : ℕ). record { numbers = n; lists = backed_in (set records f r) (list_at (map (without f) lists) 3) ∷ [] }) length_same
-          ∙ ap (λ (xs : List ℕ). record { numbers = length records; lists = backed_in (set records f r) xs ∷ [] }) (list-without f lists 3)
-          ∙ ap (λ (xs : List ℕ). record { numbers = length records; lists = xs ∷ [] }) (taken_out records f r (list_at lists 3)));
-    }
-
-    -- a frame comes to modified
-    pub backed_pushed : f < length records → 3 < length lists → ((k : ℕ) → number_at lists 3 k ≡ Some f → ⊥) → (b' : ListsOf) → AreApart b' → (has_block r.backing ≡ true → b' ≡ with_list b 0 (list_at b.lists 0 ++ f ∷ [])) → (has_block r.backing ≡ false → b' ≡ b) → AreBacked (set records f r) (set lists 3 (list_at lists 3 ++ f ∷ [])) b'
-    backed_pushed low four none b' apart pushes stays = record {
-      apart = apart;
-      same =
-          at (has_block r.backing) pushes stays
-          ∙ sym (ap (λ (n : ℕ). record { numbers = n; lists = backed_in (set records f r) (list_at (set lists 3 (list_at lists 3 ++ f ∷ [])) 3) ∷ [] }) length_same
-          ∙ ap (λ (xs : List ℕ). record { numbers = length records; lists = backed_in (set records f r) xs ∷ [] }) (get_or-set_same lists 3 (list_at lists 3 ++ f ∷ []) [] four)
-          ∙ ap (λ (xs : List ℕ). record { numbers = length records; lists = xs ∷ [] }) (put_behind records f r (list_at lists 3) low none));
-    }
-      where
-        at : (h : Bool) → (h ≡ true → b' ≡ with_list b 0 (list_at b.lists 0 ++ f ∷ [])) → (h ≡ false → b' ≡ b) → b' ≡ record { numbers = length records; lists = (backed_in records (list_at lists 3) ++ cond h (f ∷ []) []) ∷ [] }
-        at true pushes stays = pushes refl ∙ ap (λ (w : ListsOf). with_list w 0 (list_at w.lists 0 ++ f ∷ [])) a.same
-        at false pushes stays = stays refl ∙ a.same ∙ ap (λ (xs : List ℕ). record { numbers = length records; lists = xs ∷ [] }) (sym (append_nil (backed_in records (list_at lists 3))))
-
 -- ---- which frames are on the second list
 
 and_left : (a b c : Bool) → (a && (b && c)) ≡ true → (a ≡ true) × ((b ≡ true) × (c ≡ true))
@@ -143,15 +76,20 @@ and_left true true false e = let bad : false ≡ true = e in cc
 and_left true false c e = let bad : false ≡ true = e in cc
 and_left false b c e = let bad : false ≡ true = e in cc
 
-module _ (records : List Record) (standing : List Standing) (lists b : ListsOf) (bytes : List (Option (List ℕ))) (a : AreFrames records standing lists bytes) (s : AreBacked records lists.lists b) (f : ℕ) where
-  pub with_block_on : is_kept (get_or records f blank) ≡ true → is_modified_with_block (get_or records f blank) ≡ true → IsOnOne b.lists f
-  with_block_on kept e =
+some_if : (b : Bool) → is_some {T = ℕ} (cond b (Some 0) None) ≡ true → b ≡ true
+some_if true e = refl
+some_if false e = let bad : false ≡ true = e in cc
+
+module _ {records : List Record} {standing : List Standing} {lists b : ListsOf} {bytes : List (Option (List ℕ))} (a : AreFrames records standing lists bytes) (s : AreBacked records lists.lists b) (f : ℕ) where
+  pub second_on : is_some (second_for (get_or records f blank)) ≡ true → IsOnOne b.lists f
+  second_on e =
       let r = get_or records f blank in
-      let parts = and_left (is_idle r) r.changed (has_block r.backing) e in
+      let used = used_if (λ (q : Record). is_some (second_for q)) r refl e in
+      let parts = and_left (is_idle r) r.changed (has_block r.backing) (some_if (is_modified_with_block r) e) in
       let at : list_for (standing_at standing f) r ≡ Some 3 =
-      ap (λ (t : Standing). list_for t r) (frame_bound records standing lists bytes a f kept)
-      ∙ idle_list r true parts.0 ∙ ap (λ (c : Bool). Some (cond c 3 2)) parts.1.0 in
-      let there = a.listed.there f 3 (frame_low records standing lists bytes a f kept) refl at in
+      ap (λ (t : Standing). list_for t r) (used_bound a f used)
+      ∙ ap (λ (x : Bool). cond x (Some (cond r.changed 3 2)) None) parts.0 ∙ ap (λ (c : Bool). Some (cond c 3 2)) parts.1.0 in
+      let there = a.listed.there f 3 (used_low a f used) at in
       let k = backed_there records (list_at lists.lists 3) there.0 f there.1 parts.1.1 in
       (0, k.0, ap (λ (w : ListsOf). number_at w.lists 0 k.0) s.same ∙ k.1)
 
@@ -159,79 +97,96 @@ module _ (records : List Record) (standing : List Standing) (lists b : ListsOf) 
   pub with_block_found : (k : ℕ) → slice_get (backed_in records (list_at lists.lists 3)) k ≡ Some f → (f < length records) × (IsAtRest true (get_or records f blank) × (has_block (get_or records f blank).backing ≡ true))
   with_block_found k e =
       let h = backed_found records (list_at lists.lists 3) k f e in
-      (on_low records standing lists bytes a f 3 h.1.0 h.1.1, (listed_rests records standing lists bytes a f true h.1.0 h.1.1, h.0))
+      (on_low a f 3 h.1.0 h.1.1, (listed_rests a f true h.1.0 h.1.1, h.0))
 
   only_list : (j k : ℕ) → number_at b.lists j k ≡ Some f → slice_get (backed_in records (list_at lists.lists 3)) k ≡ Some f
   only_list zero k e = ap (λ (w : ListsOf). number_at w.lists 0 k) (sym s.same) ∙ e
   only_list (suc j) k e = let bad : None ≡ Some f = ap (λ (w : ListsOf). number_at w.lists (suc j) k) (sym s.same) ∙ e in cc
 
-  pub without_block_off : is_modified_with_block (get_or records f blank) ≡ false → IsOnNone b.lists f
-  without_block_off other j k e =
+  pub second_off : is_some (second_for (get_or records f blank)) ≡ false → IsOnNone b.lists f
+  second_off other j k e =
       let r = get_or records f blank in
       let h = with_block_found k (only_list j k e) in
       let rest = h.1.0 in
       let is : is_modified_with_block r ≡ true =
       ap (λ (x : Bool). x && (r.changed && has_block r.backing)) (idle_if r rest.unshared rest.no_request)
       ∙ ap (λ (x : Bool). x && has_block r.backing) rest.same ∙ h.1.1 in
-      let bad : true ≡ false = sym is ∙ other in
+      let bad : true ≡ false = sym (ap (λ (x : Bool). is_some {T = ℕ} (cond x (Some 0) None)) is) ∙ other in
       cc
 
-  pub busy_off_second : is_idle (get_or records f blank) ≡ false → IsOnNone b.lists f
-  busy_off_second e = without_block_off (ap (λ (x : Bool). x && ((get_or records f blank).changed && has_block (get_or records f blank).backing)) e)
+pub one_list : {records : List Record} {lists : List (List ℕ)} {b : ListsOf} → AreBacked records lists b → length b.lists ≡ 1
+one_list s = ap (λ (w : ListsOf). length w.lists) s.same
 
-pub one_list : (records : List Record) (lists : List (List ℕ)) (b : ListsOf) → AreBacked records lists b → length b.lists ≡ 1
-one_list records lists b s = ap (λ (w : ListsOf). length w.lists) s.same
+-- ---- the second list, as a frame comes to stand elsewhere
 
--- a frame on standby is not on modified
-pub standby_off : (lists : ListsOf) (f : ℕ) → AreApart lists → number_at lists.lists 2 0 ≡ Some f → (k : ℕ) → number_at lists.lists 3 k ≡ Some f → ⊥
-standby_off lists f a e k h = let bad : 2 ≡ 3 = (a.once 2 3 0 k f e h).0 in omega (arith, bad)
+abbrev idle_list : Bool → Bool → Option ℕ
+idle_list idle c = cond idle (Some (cond c 3 2)) None
 
--- ---- the same, of what the calls leave
+abbrev second_if : Bool → Option ℕ
+second_if b = cond b (Some 0) None
 
-module _ (records : List Record) (lists b : ListsOf) (a : AreBacked records lists.lists b) (f : ℕ) (r : Record) (records' : List Record) (now : records' ≡ set records f r) (lists' b' : ListsOf) (apart : AreApart b') where
-  pub left_now : lists' ≡ record lists { lists = map (without f) lists.lists } → b' ≡ record b { lists = map (without f) b.lists } → AreBacked records' lists'.lists b'
-  left_now to to_b =
-      subst (λ (w : ListsOf). AreBacked records' lists'.lists w) (sym to_b)
-      (subst (λ (w : ListsOf). AreBacked records' w.lists (record b { lists = map (without f) b.lists })) (sym to)
-      (subst (λ (rs : List Record). AreBacked rs (map (without f) lists.lists) (record b { lists = map (without f) b.lists })) (sym now)
-      (backed_left records lists.lists b a f r (subst (λ (w : ListsOf). AreApart w) to_b apart))))
+-- a frame goes to the end of the second list exactly where it goes to the end of modified, with a
+-- block
+goes_by : (x c h : Bool) → ((idle_list x c ≡ Some 3) × (second_if (x && (c && h)) ≡ second_if h)) ⊎ ((idle_list x c ≢ Some 3) × (second_if (x && (c && h)) ≡ None))
+goes_by true true h = inl (refl, refl)
+goes_by true false h = inr (λ e. absurd (omega (arith, same 2 3 e)), refl)
+goes_by false c h = inr (λ e. cc, refl)
 
-  pub settled_now : f < length records → length lists.lists ≡ 4 → IsOnNone lists.lists f
-      → (is_idle r ≡ true → lists' ≡ with_list lists (cond r.changed 3 2) (list_at lists.lists (cond r.changed 3 2) ++ f ∷ []))
-      → (is_idle r ≡ false → lists' ≡ lists)
-      → (is_modified_with_block r ≡ true → b' ≡ with_list b 0 (list_at b.lists 0 ++ f ∷ []))
-      → (is_modified_with_block r ≡ false → b' ≡ b)
-      → AreBacked records' lists'.lists b'
-  settled_now low four none idle busy pushes stays =
-      subst (λ (rs : List Record). AreBacked rs lists'.lists b') (sym now) (at (is_idle r) r.changed refl refl)
+goes : (s : Standing) (r : Record) → (s ≢ Bound → r ≡ blank) → ((list_for s r ≡ Some 3) × (second_for r ≡ second_if (has_block r.backing))) ⊎ ((list_for s r ≢ Some 3) × (second_for r ≡ None))
+goes Zeroed r empty = inr (λ e. absurd (omega (arith, same 0 3 e)), ap second_for (empty (λ e. cc)))
+goes Free r empty = inr (λ e. absurd (omega (arith, same 1 3 e)), ap second_for (empty (λ e. cc)))
+goes Bound r empty = goes_by (is_idle r) r.changed (has_block r.backing)
+goes Cleared r empty = inr (λ e. cc, ap second_for (empty (λ e. cc)))
+goes Taken r empty = inr (λ e. cc, ap second_for (empty (λ e. cc)))
+
+third : (o : Option ℕ) (v : ListsOf) (f : ℕ) → o ≢ Some 3 → list_at (pushed_on o v f).lists 3 ≡ list_at v.lists 3
+third None v f d = refl
+third (Some i) v f d = get_or-set_other v.lists i 3 (list_at v.lists i ++ f ∷ []) [] (λ e. d (ap (λ (x : ℕ). Some x) (sym e)))
+
+module _ {records : List Record} {standing : List Standing} {lists b : ListsOf} {bytes : List (Option (List ℕ))} (a : AreFrames records standing lists bytes) (k : AreBacked records lists.lists b) (f : ℕ) (low : f < length records) (r : Record) (s : Standing) (empty : s ≢ Bound → r ≡ blank) where
+  abbrev off : ListsOf
+  off = record lists { lists = map (without f) lists.lists }
+
+  -- the second list of the frames that are on modified then, with the frame's record
+  left : backed_in (set records f r) (list_at off.lists 3) ≡ without f (backed_in records (list_at lists.lists 3))
+  left = ap (λ (xs : List ℕ). backed_in (set records f r) xs) (list-without f lists.lists 3) ∙ taken_out records f r (list_at lists.lists 3)
+
+  put : (h : Bool) → has_block r.backing ≡ h → backed_in (set records f r) (list_at off.lists 3 ++ f ∷ []) ≡ list_at (pushed_on (second_if h) (record { numbers = 0; lists = without f (backed_in records (list_at lists.lists 3)) ∷ [] }) f).lists 0
+  put h e =
+      filter-append (backs (set records f r)) (list_at off.lists 3) (f ∷ [])
+      ∙ ap (λ (ys : List ℕ). ys ++ backed_in (set records f r) (f ∷ [])) left
+      ∙ ap (λ (x : Bool). without f (backed_in records (list_at lists.lists 3)) ++ cond x (f ∷ []) []) (ap (λ (q : Record). has_block q.backing) (get_or-set_same records f r blank low) ∙ e)
+      ∙ at h
     where
-      kept : lists' ≡ lists → b' ≡ b → AreBacked (set records f r) lists'.lists b'
-      kept e h =
-          subst (λ (w : ListsOf). AreBacked (set records f r) lists'.lists w) (sym h)
-          (subst (λ (w : ListsOf). AreBacked (set records f r) w.lists b) (sym e) (backed_record records lists.lists b a f r (none 3)))
+      at : (h : Bool) → without f (backed_in records (list_at lists.lists 3)) ++ cond h (f ∷ []) [] ≡ list_at (pushed_on (second_if h) (record { numbers = 0; lists = without f (backed_in records (list_at lists.lists 3)) ∷ [] }) f).lists 0
+      at true = refl
+      at false = append_nil (without f (backed_in records (list_at lists.lists 3)))
 
-      standby : lists' ≡ with_list lists 2 (list_at lists.lists 2 ++ f ∷ []) → b' ≡ b → AreBacked (set records f r) lists'.lists b'
-      standby e h =
-          subst (λ (w : ListsOf). AreBacked (set records f r) lists'.lists w) (sym h)
-          (subst (λ (w : ListsOf). AreBacked (set records f r) w.lists b) (sym e)
-          (backed_elsewhere (set records f r) lists.lists b (backed_record records lists.lists b a f r (none 3)) 2 (list_at lists.lists 2 ++ f ∷ []) (omega arith)))
+  second_now : relisted (second_for r) (backed_list records (list_at lists.lists 3)) f ≡ record { numbers = length records; lists = backed_in (set records f r) (list_at (relisted (list_for s r) lists f).lists 3) ∷ [] }
+  second_now = elim (goes s r empty) [
+    | inl g ↦
+        ap (λ (o : Option ℕ). relisted o (backed_list records (list_at lists.lists 3)) f) g.1
+        ∙ one (has_block r.backing)
+        ∙ ap (λ (xs : List ℕ). record { numbers = length records; lists = xs ∷ [] }) (sym (put (has_block r.backing) refl)
+        ∙ ap (λ (xs : List ℕ). backed_in (set records f r) xs) (sym (ap (λ (o : Option ℕ). list_at (relisted o lists f).lists 3) g.0 ∙ get_or-set_same off.lists 3 (list_at off.lists 3 ++ f ∷ []) [] (omega (arith, a.four, length-map lists.lists (without f))))))
+    | inr g ↦
+        ap (λ (o : Option ℕ). relisted o (backed_list records (list_at lists.lists 3)) f) g.1
+        ∙ ap (λ (xs : List ℕ). record { numbers = length records; lists = xs ∷ [] }) (sym left
+        ∙ ap (λ (xs : List ℕ). backed_in (set records f r) xs) (sym (third (list_for s r) off f g.0)))
+  ]
+    where
+      one : (h : Bool) → relisted (second_if h) (backed_list records (list_at lists.lists 3)) f ≡ record { numbers = length records; lists = list_at (pushed_on (second_if h) (record { numbers = 0; lists = without f (backed_in records (list_at lists.lists 3)) ∷ [] }) f).lists 0 ∷ [] }
+      one true = refl
+      one false = refl
 
-      modified : lists' ≡ with_list lists 3 (list_at lists.lists 3 ++ f ∷ []) → (has_block r.backing ≡ true → b' ≡ with_list b 0 (list_at b.lists 0 ++ f ∷ [])) → (has_block r.backing ≡ false → b' ≡ b) → AreBacked (set records f r) lists'.lists b'
-      modified e y n =
-          subst (λ (w : ListsOf). AreBacked (set records f r) w.lists b') (sym e)
-          (backed_pushed records lists.lists b a f r low (omega (arith, four)) (none 3) b' apart y n)
-
-      second : (x c h : Bool) → is_idle r ≡ x → r.changed ≡ c → has_block r.backing ≡ h → is_modified_with_block r ≡ (x && (c && h))
-      second x c h e d g = ap (λ (q : Bool). q && (r.changed && has_block r.backing)) e ∙ ap (λ (q : Bool). x && (q && has_block r.backing)) d ∙ ap (λ (q : Bool). x && (c && q)) g
-
-      at : (x c : Bool) → is_idle r ≡ x → r.changed ≡ c → AreBacked (set records f r) lists'.lists b'
-      at false c e d = kept (busy e) (stays (ap (λ (q : Bool). q && (r.changed && has_block r.backing)) e))
-      at true false e d =
-          standby (idle e ∙ ap (λ (q : Bool). with_list lists (cond q 3 2) (list_at lists.lists (cond q 3 2) ++ f ∷ [])) d)
-          (stays (second true false (has_block r.backing) e d refl))
-      at true true e d =
-          modified (idle e ∙ ap (λ (q : Bool). with_list lists (cond q 3 2) (list_at lists.lists (cond q 3 2) ++ f ∷ [])) d)
-          (λ h. pushes (second true true true e d h)) (λ h. stays (second true true false e d h))
+  pub backed_stood : (lists' b' : ListsOf) → lists' ≡ relisted (list_for s r) lists f → b' ≡ relisted (second_for r) b f → AreApart b' → AreBacked (set records f r) lists'.lists b'
+  backed_stood lists' b' to to_b apart = record {
+    apart = apart;
+    same =
+        to_b ∙ ap (λ (w : ListsOf). relisted (second_for r) w f) k.same ∙ second_now
+        ∙ ap (λ (w : ListsOf). record { numbers = length records; lists = backed_in (set records f r) (list_at w.lists 3) ∷ [] }) (sym to)
+        ∙ ap (λ (n : ℕ). record { numbers = n; lists = backed_in (set records f r) (list_at lists'.lists 3) ∷ [] }) (sym (length-set records f r));
+  }
 
 -- all frames are free
 pub none_backed : (n : ℕ) (lists b : ListsOf) → lists ≡ record { numbers = n; lists = free_only (numbers_from 0 n) } → b ≡ record { numbers = n; lists = replicate 1 [] } → AreApart b → AreBacked (replicate n blank) lists.lists b

@@ -1,13 +1,12 @@
 -- What contracts see of the frame database.
 -- Profile, "Logs of moves".
 use Rattle.std.specs.Prelude.{◌≡◌, ℕ, Bool, true, false, not, ◌&&◌, ◌||◌, ◌==◌, if◌then◌else◌, is_some, filter, List, [], ◌∷◌, ◌++◌, Option, Some, None, slice_get, slice_set, slice_index_or}
-use Rattle.mm_types.specs.declared.frames.Record.{Record}
-use Rattle.mm_types.specs.declared.numbers.Key.{Key}
-use Rattle.mm_types.specs.declared.frames.Backing.{Backing}
+use Rattle.mm_types.specs.{Record, Key, Backing}
 use Rattle.mm_types.specs.declared.frames.Backing.TheVariants as backing
-use Rattle.mm_life.specs.Frames.{FrameTable, blank, record_at, is_idle, has_request, is_write, is_again, rest, with_record, bound, being_read, off_lists, to_free, settled, after_got, after_bad, after_wrote, after_lost, after_drop, slot_after_wrote, slot_after_lost, write_done, write_lost}
-use Rattle.mm_life.specs.Legal.{is_block}
-use Rattle.mm_ram.specs.Ram.{with_page, zero_page}
+use Rattle.mm_life.specs.{FrameTable, blank, record_at, is_idle, has_request, is_write, is_again, rest, with_record, bound, being_read, off_lists}
+use Rattle.mm_life.specs.{to_free, settled, after_got, after_bad, after_wrote, after_lost, after_drop, slot_after_wrote, slot_after_lost, write_done}
+use Rattle.mm_life.specs.{write_lost, is_block}
+use Rattle.mm_ram.specs.{with_page, zero_page}
 use Rattle.mm_frames.specs.declared.standing.Standing.{Standing}
 use Rattle.mm_frames.specs.declared.standing.Standing.TheVariants.{Zeroed, Free, Bound, Cleared, Taken}
 

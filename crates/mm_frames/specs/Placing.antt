@@ -1,14 +1,13 @@
 -- Each frame is on one list, active, in transition or in one token in hand.
 -- Profile, "Logs of moves".
-use Rattle.std.specs.Prelude.{cond, ◌≡◌, ◌≢◌, ℕ, ◌+◌, ◌<◌, ◌^◌, Bool, true, false, ◌&&◌, ◌||◌, ◌==◌, if◌then◌else◌, is_some, filter, List, [], ◌∷◌, length, Option, Some, None, slice_index_or}
-use Rattle.mm_types.specs.declared.frames.Record.{Record}
-use Rattle.mm_life.specs.Frames.{FrameTable, blank, record_at, is_idle, has_request, is_read, is_on}
-use Rattle.mm_life.specs.Life.{is_active, is_in_transition}
-use Rattle.mm_lists.specs.Lists.{ListsOf, AreApart, list_at, number_at}
-use Rattle.mm_ram.specs.Ram.{page_at, zero_page}
+use Rattle.std.specs.Prelude.{cond, ◌≡◌, ◌≢◌, ℕ, ◌+◌, ◌<◌, ◌^◌, Bool, true, false, ◌&&◌, ◌||◌, ◌==◌, if◌then◌else◌, is_some, filter, map, List, [], ◌∷◌, ◌++◌, length, Option, Some, None, slice_index_or, slice_set}
+use Rattle.mm_types.specs.{Record}
+use Rattle.mm_life.specs.{FrameTable, blank, record_at, is_idle, has_request, is_read, is_on, settled_by, with_record, is_active, is_in_transition}
+use Rattle.mm_lists.specs.{ListsOf, AreApart, list_at, number_at, with_list, without}
+use Rattle.mm_ram.specs.{page_at, zero_page}
 use Rattle.mm_frames.specs.declared.standing.Standing.{Standing}
 use Rattle.mm_frames.specs.declared.standing.Standing.TheVariants.{Zeroed, Free, Bound, Cleared, Taken}
-use Rattle.mm_frames.specs.Base.{FramesOf, standing_at, has_block}
+use Rattle.mm_frames.specs.Base.{FramesOf, standing_at, has_block, is_modified_with_block}
 
 -- the list that a frame is on: zeroed, free, standby, modified are lists 0 to 3
 abbrev pub list_for : Standing → Record → Option ℕ
@@ -42,12 +41,12 @@ is_zero Bound = false
 is_zero Cleared = true
 is_zero Taken = false
 
--- each frame but these is on the list that it stands on, and on no other
-pub record Listed (but : ℕ → Bool) (records : List Record) (standing : List Standing)
-    (lists : List (List ℕ)) : Type 0 where
-  pub held : (j k f : ℕ) → number_at lists j k ≡ Some f → (but f ≡ false) ×
-      (list_for (standing_at standing f) (slice_index_or records f blank) ≡ Some j)
-  pub there : (f j : ℕ) → f < length records → but f ≡ false →
+-- each frame is on the list that it stands on, and on no other
+pub record Listed (records : List Record) (standing : List Standing) (lists : List (List ℕ)) :
+    Type 0 where
+  pub held : (j k f : ℕ) → number_at lists j k ≡ Some f →
+      list_for (standing_at standing f) (slice_index_or records f blank) ≡ Some j
+  pub there : (f j : ℕ) → f < length records →
       list_for (standing_at standing f) (slice_index_or records f blank) ≡ Some j → (k : ℕ) ×
       (number_at lists j k ≡ Some f)
 
@@ -58,9 +57,6 @@ pub record Holds (standing : Standing) (r : Record) (page : Option (List ℕ)) :
   pub zero : is_zero standing ≡ true → page ≡ Some zero_page
   pub written : standing ≡ Bound → is_read r.request ≡ false → is_some page ≡ true
 
-abbrev pub none_but : ℕ → Bool
-none_but f = false
-
 pub record AreFrames (records : List Record) (standing : List Standing) (lists : ListsOf)
     (bytes : List (Option (List ℕ))) : Type 0 where
   pub small : length records < 2 ^ 32
@@ -69,7 +65,7 @@ pub record AreFrames (records : List Record) (standing : List Standing) (lists :
   pub numbers : lists.numbers ≡ length records
   pub four : length lists.lists ≡ 4
   pub apart : AreApart lists
-  pub listed : Listed none_but records standing lists.lists
+  pub listed : Listed records standing lists.lists
   pub holds : (f : ℕ) → f < length records →
       Holds (standing_at standing f) (slice_index_or records f blank) (page_at bytes f)
 
@@ -105,6 +101,47 @@ ArePlaced v = AreFrames v.table.records v.standing (record {
   numbers = length v.table.records;
   lists = lists_of v.table;
 }) v.bytes
+
+-- ---- a frame comes to stand elsewhere
+
+-- a number leaves its list, and goes to the end of this one, if any
+abbrev pub pushed_on : Option ℕ → ListsOf → ℕ → ListsOf
+pushed_on None v f = v
+pushed_on (Some i) v f = with_list v i (list_at v.lists i ++ f ∷ [])
+
+abbrev pub relisted : Option ℕ → ListsOf → ℕ → ListsOf
+relisted to v f = pushed_on to (record v { lists = map (without f) v.lists }) f
+
+-- the second list that a frame with this record is on
+abbrev pub second_for : Record → Option ℕ
+second_for r = if is_modified_with_block r then Some 0 else None
+
+abbrev pub off_all : FrameTable → ℕ → FrameTable
+off_all d f = record d {
+  zeroed = without f d.zeroed;
+  free = without f d.free;
+  standby = without f d.standby;
+  modified = without f d.modified;
+}
+
+-- a frame with this record goes to the end of the list that it stands on now, if any
+abbrev pub joined : Standing → Record → FrameTable → ℕ → FrameTable
+joined Zeroed r d f = record d { zeroed = d.zeroed ++ f ∷ [] }
+joined Free r d f = record d { free = d.free ++ f ∷ [] }
+joined Bound r d f = settled_by r d f
+joined Cleared r d f = d
+joined Taken r d f = d
+
+abbrev pub stood : FramesOf → ℕ → Record → Standing → FramesOf
+stood v f r s = record v {
+  table = joined s r (with_record (off_all v.table f) f r) f;
+  standing = slice_set v.standing f s;
+}
+
+-- what the type keeps lets this frame stand there with this record
+pub record CanStand (v : FramesOf) (f : ℕ) (r : Record) (s : Standing) : Type 0 where
+  pub there : f < length v.table.records
+  pub holds : Holds s r (page_at v.bytes f)
 
 abbrev pub is_in_hand : Standing → Bool
 is_in_hand Zeroed = false

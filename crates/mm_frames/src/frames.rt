@@ -1,17 +1,17 @@
 ghost use Rattle.std.specs.Prelude.{◌≡◌, ◌≢◌, ℕ, List, ◌≤◌, ◌^◌, true, false, Some, IsSome, IfSome, ◌<◌, ◌+◌, ◌++◌, ◌∷◌, [], length, replicate, count_by, None, IfOk, OnOk, OnErr, is_ok, option_map, slice_get, slice_set, slice_index};
-ghost use Rattle.mm_life.specs.Frames.{blank, record_at, is_idle, is_on, is_read, is_write, has_request, with_record, off_lists, settled, after_map, after_unmap, after_soil, after_write, after_got, after_bad, after_wrote, after_lost, slot_after_soil, slot_after_read, slot_after_drop};
-ghost use Rattle.mm_life.specs.Life.{free_table, is_active, is_in_transition, numbers_from};
-ghost use Rattle.mm_lists.specs.Lists.{AreApart};
-ghost use Rattle.mm_frames.specs.Placing.{free_only, is_kept, is_bound, ArePlaced, IsAtRest, places};
-ghost use Rattle.mm_ram.specs.Ram.{bytes_of, bytes_from, overwritten, page_at, with_page, zero_page};
-ghost use Rattle.mm_types.specs.Address.{page_size};
-ghost use Rattle.mm_blocks.specs.Reads.{WasRead};
+ghost use Rattle.mm_life.specs.{blank, record_at, is_idle, is_on, is_read, is_write, has_request, with_record, off_lists, settled, after_map};
+ghost use Rattle.mm_life.specs.{after_unmap, after_soil, after_write, after_got, after_bad, after_wrote, after_lost, slot_after_soil};
+ghost use Rattle.mm_life.specs.{slot_after_read, slot_after_drop, free_table, is_active, is_in_transition, numbers_from};
+ghost use Rattle.mm_lists.specs.{AreApart};
+ghost use Rattle.mm_frames.specs.Placing.{free_only, is_kept, is_bound, ArePlaced, CanStand, IsAtRest, places, stood};
+ghost use Rattle.mm_ram.specs.{bytes_of, bytes_from, overwritten, page_at, with_page, zero_page};
+ghost use Rattle.mm_types.specs.{page_size};
+ghost use Rattle.mm_blocks.specs.{WasRead};
 ghost use Rattle.mm_frames.specs.Base.{FramesOf, has_block, modified_with_block, zeroed_taken, free_taken, standby_taken, zeroed_put, free_put, now_cleared, given_to, reading_into, IsBlank, IsDirty, can_be_soiled, can_go_to, read_ended, write_ended, slot_after_write, forgotten, stands_with, gone_free, ended_with};
 
 use crate::placing::{
-    FREE, MODIFIED, STANDBY, WITH_BLOCK, ZEROED, has_request, is_idle, is_modified,
-    is_modified_with_block, leave, settle, settle_with_block, slot_after_read, slot_after_soil,
-    slot_after_write, slot_of, soiled, written,
+    FREE, MODIFIED, STANDBY, WITH_BLOCK, ZEROED, has_request, is_modified, list_for, relist,
+    second_list_for, slot_after_read, slot_after_soil, slot_after_write, slot_of, soiled, written,
 };
 use crate::records::{BLANK, Records};
 use crate::{Blank, Dirty, Ended, Standing, Stolen};
@@ -174,9 +174,9 @@ impl Frames {
         ensures in_hand { IfSome result (λ f. IsBlank self.new f) }
         ensures taken { self.new ≡ zeroed_taken self.old }
     {
-        let f = self.lists.pop_front(ZEROED)?;
-        self.standing[f as usize] = Standing::Cleared;
-        Some(Blank { frame: Frame(f) })
+        let frame = self.front_zeroed()?;
+        self.stand(frame, BLANK, Standing::Cleared);
+        Some(Blank { frame })
     }
 
     /// Takes the first free frame, `None` exactly where none is free.
@@ -187,9 +187,9 @@ impl Frames {
         ensures in_hand { IfSome result (λ f. IsDirty self.new f) }
         ensures taken { self.new ≡ free_taken self.old }
     {
-        let f = self.lists.pop_front(FREE)?;
-        self.standing[f as usize] = Standing::Taken;
-        Some(Dirty { frame: Frame(f) })
+        let frame = self.front_free()?;
+        self.stand(frame, BLANK, Standing::Taken);
+        Some(Dirty { frame })
     }
 
     /// Takes the first frame on standby from its page (the move `steal`, with the frame in hand in
@@ -205,13 +205,12 @@ impl Frames {
         ensures in_hand { IfSome result (λ s. IsDirty self.new s.dirty) }
         ensures taken { self.new ≡ standby_taken self.old }
     {
-        let f = self.lists.pop_front(STANDBY)?;
-        let r = self.records.get(f);
+        let frame = Frame(self.lists.front(STANDBY)?);
+        let r = self.records.get(frame.0);
         let key = r.owner.unwrap();
-        self.records.set(f, BLANK);
-        self.standing[f as usize] = Standing::Taken;
+        self.stand(frame, BLANK, Standing::Taken);
         Some(Stolen {
-            dirty: Dirty { frame: Frame(f) },
+            dirty: Dirty { frame },
             key,
             backing: r.backing,
         })
@@ -223,8 +222,7 @@ impl Frames {
         ensures { self.new ≡ zeroed_put self.old b }
     {
         let Blank { frame } = b;
-        self.lists.push_back(ZEROED, frame.0);
-        self.standing[frame.0 as usize] = Standing::Zeroed;
+        self.stand(frame, BLANK, Standing::Zeroed);
     }
 
     /// Spends a dirty frame: it goes to the end of the free list.
@@ -233,8 +231,7 @@ impl Frames {
         ensures { self.new ≡ free_put self.old d }
     {
         let Dirty { frame } = d;
-        self.lists.push_back(FREE, frame.0);
-        self.standing[frame.0 as usize] = Standing::Free;
+        self.stand(frame, BLANK, Standing::Free);
     }
 
     /// Writes zeros over a frame in hand.
@@ -246,7 +243,7 @@ impl Frames {
     {
         let Dirty { frame } = d;
         self.ram.zero(frame);
-        self.standing[frame.0 as usize] = Standing::Cleared;
+        self.stand(frame, BLANK, Standing::Cleared);
         Blank { frame }
     }
 
@@ -259,7 +256,7 @@ impl Frames {
             ≡ record self.old { standing = slice_set self.old.standing b Standing.Taken } }
     {
         let Blank { frame } = b;
-        self.standing[frame.0 as usize] = Standing::Taken;
+        self.stand(frame, BLANK, Standing::Taken);
         Dirty { frame }
     }
 
@@ -272,18 +269,12 @@ impl Frames {
         ensures zero { page_at self.new.bytes b ≡ Some zero_page }
     {
         let Blank { frame } = b;
-        self.records.set(
-            frame.0,
-            Record {
-                owner: Some(key),
-                changed: true,
-                backing: Backing::None,
-                shares: 0,
-                request: Request::None,
-            },
-        );
-        self.lists.push_back(MODIFIED, frame.0);
-        self.standing[frame.0 as usize] = Standing::Bound;
+        let given = Record {
+            owner: Some(key),
+            changed: true,
+            ..BLANK
+        };
+        self.stand(frame, given, Standing::Bound);
         frame
     }
 
@@ -294,19 +285,16 @@ impl Frames {
         ensures bound { self.new ≡ reading_into self.old d key backing }
     {
         let Dirty { frame } = d;
-        self.records.set(
-            frame.0,
-            Record {
-                owner: Some(key),
-                changed: false,
-                backing,
-                shares: 0,
-                request: Request::Read,
-            },
-        );
-        self.standing[frame.0 as usize] = Standing::Bound;
+        let being_read = Record {
+            owner: Some(key),
+            backing,
+            request: Request::Read,
+            ..BLANK
+        };
+        self.stand(frame, being_read, Standing::Bound);
         frame
     }
+
     /// `n` frames, all free, in rising order.
     pub fn new(alloc: Global, n: u32) -> Result<Frames, NoMemory>
         ensures { IfOk result (λ v. v
@@ -397,14 +385,12 @@ impl Frames {
         requires room { (record_at self.old.table f.0).shares + 1 < 2 ^ 32 }
         ensures { self.new ≡ record self.old { table = after_map self.old.table f.0 } }
     {
-        let r = self.records.get(f.0);
-        leave(&mut self.lists, f.0, is_idle(&r));
-        leave(&mut self.with_block, f.0, is_modified_with_block(&r));
+        let r = self.look(f);
         let shared = Record {
             shares: r.shares + 1,
             ..r
         };
-        self.records.set(f.0, shared);
+        self.rebind(f, shared);
     }
 
     /// A valid entry names the frame no more: without shares and request it settles (the move
@@ -413,14 +399,12 @@ impl Frames {
         requires { 1 ≤ (record_at self.old.table f.0).shares }
         ensures { self.new ≡ record self.old { table = after_unmap self.old.table f.0 } }
     {
-        let r = self.records.get(f.0);
+        let r = self.look(f);
         let unshared = Record {
             shares: r.shares - 1,
             ..r
         };
-        self.records.set(f.0, unshared);
-        settle(&mut self.lists, f.0, &unshared);
-        settle_with_block(&mut self.with_block, f.0, &unshared);
+        self.rebind(f, unshared);
     }
 
     /// The page of a frame with shares is changed (the move `soil`): a slot that backed it is given
@@ -432,8 +416,8 @@ impl Frames {
             ≡ slot_after_soil (record_at self.old.table f.0) }
         ensures soiled { self.new ≡ record self.old { table = after_soil self.old.table f.0 } }
     {
-        let r = self.records.get(f.0);
-        self.records.set(f.0, soiled(&r));
+        let r = self.look(f);
+        self.rebind(f, soiled(&r));
         slot_after_soil(&r)
     }
 
@@ -447,49 +431,66 @@ impl Frames {
         requires no_request { has_request (record_at self.old.table f.0).request ≡ false }
         ensures { self.new ≡ record self.old { table = after_write self.old.table f.0 backing } }
     {
-        let r = self.records.get(f.0);
-        leave(&mut self.lists, f.0, is_idle(&r));
-        leave(&mut self.with_block, f.0, is_modified_with_block(&r));
+        let r = self.look(f);
         let written = Record {
             backing,
             request: Request::Write,
             ..r
         };
-        self.records.set(f.0, written);
+        self.rebind(f, written);
+    }
+
+    /// The frame leaves its list, if it is on one. From now on it has this record and stands there,
+    /// at the end of the list that these two say, if any.
+    fn stand(&mut self, f: Frame, r: Record, standing: Standing)
+        requires { ArePlaced self.old → CanStand self.old f.0 r standing }
+        ensures stood { self.new ≡ stood self.old f.0 r standing }
+        ensures placed { ArePlaced self.old }
+    {
+        let old = self.records.get(f.0);
+        let listed = list_for(self.standing[f.0 as usize], &old);
+        relist(&mut self.lists, f.0, listed, list_for(standing, &r));
+        relist(
+            &mut self.with_block,
+            f.0,
+            second_list_for(&old),
+            second_list_for(&r),
+        );
+        self.records.set(f.0, r);
+        self.standing[f.0 as usize] = standing;
+    }
+
+    /// A bound frame has this record now, and settles.
+    fn rebind(&mut self, f: Frame, r: Record)
+        requires bound { record_at self.old.table f.0 ≢ blank }
+        requires kept { is_kept (record_at self.old.table f.0) ≡ true → is_kept r ≡ true }
+        requires written { is_read r.request ≡ false
+            → is_read (record_at self.old.table f.0).request ≡ true
+            → IsSome (page_at self.old.bytes f.0) }
+        ensures left { is_idle r ≡ false → self.new ≡ record self.old {
+          table = with_record (off_lists self.old.table f.0) f.0 r;
+        } }
+        ensures settled { is_idle (record_at self.old.table f.0) ≡ false
+            → self.new ≡ record self.old { table = settled (with_record self.old.table f.0 r) f.0 } }
+        ensures stays { is_idle (record_at self.old.table f.0) ≡ false → is_idle r ≡ false
+            → self.new ≡ record self.old { table = with_record self.old.table f.0 r } }
+    {
+        self.stand(f, r, Standing::Bound);
     }
 
     /// A bound frame leaves its list, if it is on one, and goes to free with an empty record.
     fn free(&mut self, f: Frame)
-        requires kept { is_kept (record_at self.old.table f.0) ≡ true }
+        requires { record_at self.old.table f.0 ≢ blank }
         ensures freed { self.new ≡ gone_free self.old f.0 }
         ensures busy { is_idle (record_at self.old.table f.0) ≡ false
             → off_lists self.old.table f.0 ≡ self.old.table }
     {
-        let r = self.records.get(f.0);
-        leave(&mut self.lists, f.0, is_idle(&r));
-        leave(&mut self.with_block, f.0, is_modified_with_block(&r));
-        self.records.set(f.0, BLANK);
-        self.lists.push_back(FREE, f.0);
-        self.standing[f.0 as usize] = Standing::Free;
-    }
-
-    /// A bound frame that is on no list has this record now, and settles.
-    fn settle_as(&mut self, f: Frame, r: Record)
-        requires kept { is_kept (record_at self.old.table f.0) ≡ true }
-        requires busy { is_idle (record_at self.old.table f.0) ≡ false }
-        requires owned { IsSome r.owner }
-        requires bytes { IsSome (page_at self.old.bytes f.0) }
-        ensures { self.new
-            ≡ record self.old { table = settled (with_record self.old.table f.0 r) f.0 } }
-    {
-        self.records.set(f.0, r);
-        settle(&mut self.lists, f.0, &r);
-        settle_with_block(&mut self.with_block, f.0, &r);
+        self.stand(f, BLANK, Standing::Free);
     }
 
     /// The request of a frame ends and leaves this record: without an owner the frame goes to free.
     fn end_request(&mut self, f: Frame, r: Record)
-        requires kept { is_kept (record_at self.old.table f.0) ≡ true }
+        requires bound { record_at self.old.table f.0 ≢ blank }
         requires busy { is_idle (record_at self.old.table f.0) ≡ false }
         requires bytes { IsSome (page_at self.old.bytes f.0) }
         ensures { self.new ≡ record self.old {
@@ -498,7 +499,7 @@ impl Frames {
         } }
     {
         if r.owner.is_some() {
-            self.settle_as(f, r);
+            self.rebind(f, r);
         } else {
             self.free(f);
         }
@@ -592,9 +593,9 @@ impl Frames {
             ≡ slot_after_drop (record_at self.old.table f.0) }
         ensures forgotten { self.new ≡ forgotten self.old f.0 }
     {
-        let r = self.records.get(f.0);
+        let r = self.look(f);
         if has_request(&r) {
-            self.records.set(f.0, Record { owner: None, ..r });
+            self.rebind(f, Record { owner: None, ..r });
             return None;
         }
         self.free(f);

@@ -1,8 +1,12 @@
-ghost use Rattle.std.specs.Prelude.{◌≡◌, ◌≢◌, ◌+◌, ◌<◌, ◌++◌, ◌∷◌, [], true, false, length, map, if◌then◌else◌, ◌&&◌, option_map};
-ghost use Rattle.mm_lists.specs.Lists.{IsOnOne, IsOnNone, AreApart, list_at, with_list, without};
-ghost use Rattle.mm_life.specs.Frames.{is_idle, has_request, is_write, soiled, write_done, write_lost, without_slot, slot_of, slot_after_soil, slot_after_read};
+ghost use Rattle.std.specs.Prelude.{◌≡◌, ℕ, ◌<◌, true, false, length, map, ◌&&◌, Some, is_some, option_map};
+ghost use Rattle.mm_lists.specs.{IsOnOne, IsOnNone, AreApart, without};
+ghost use Rattle.mm_life.specs.{is_idle, has_request, is_write, soiled, write_done, write_lost, without_slot, slot_of, slot_after_soil};
+ghost use Rattle.mm_life.specs.{slot_after_read};
 ghost use Rattle.mm_frames.specs.Base.{has_block, is_modified_with_block, record_written, slot_after_write};
+ghost use Rattle.mm_frames.specs.Placing.{list_for, relisted, second_for};
+ghost use Rattle.mm_frames.specs.declared.standing.Standing.TheVariants.{Bound};
 
+use crate::Standing;
 use mm_lists::Lists;
 use mm_types::{Backing, Record, Request, Slot};
 
@@ -19,7 +23,7 @@ pub const MODIFIED: u32 = 3;
 pub const WITH_BLOCK: u32 = 0;
 
 /// Whether a frame has neither shares nor a request.
-pub fn is_idle(r: &Record) -> bool
+fn is_idle(r: &Record) -> bool
     ensures { result ≡ is_idle r.now }
 {
     match r.request {
@@ -61,8 +65,41 @@ pub fn is_modified_with_block(r: &Record) -> bool
     is_idle(r) && r.changed && has_block(r.backing)
 }
 
+/// The list that a frame is on which stands there with this record.
+pub fn list_for(standing: Standing, r: &Record) -> Option<u32>
+    ensures { result ≡ list_for standing r.now }
+{
+    match standing {
+        Standing::Zeroed => Some(ZEROED),
+        Standing::Free => Some(FREE),
+        Standing::Bound => idle_list_for(r),
+        Standing::Cleared | Standing::Taken => None,
+    }
+}
+
+/// An idle frame is on modified where it is changed, else on standby.
+fn idle_list_for(r: &Record) -> Option<u32>
+    ensures { result ≡ list_for Bound r.now }
+{
+    if !is_idle(r) {
+        return None;
+    }
+    Some(if r.changed { MODIFIED } else { STANDBY })
+}
+
+/// The second list that a frame with this record is on.
+pub fn second_list_for(r: &Record) -> Option<u32>
+    ensures { result ≡ second_for r.now }
+{
+    if is_modified_with_block(r) {
+        Some(WITH_BLOCK)
+    } else {
+        None
+    }
+}
+
 /// The frame leaves its list, if it is on one.
-pub fn leave(lists: &mut Lists, f: u32, listed: bool)
+fn leave(lists: &mut Lists, f: u32, listed: bool)
     requires on_one { listed ≡ true → IsOnOne lists.old.lists f }
     requires on_none { listed ≡ false → IsOnNone lists.old.lists f }
     requires apart { AreApart lists.old }
@@ -74,38 +111,19 @@ pub fn leave(lists: &mut Lists, f: u32, listed: bool)
     }
 }
 
-/// An idle frame goes to modified where it is changed, else to standby.
-pub fn settle(lists: &mut Lists, f: u32, r: &Record)
-    requires four { length lists.old.lists ≡ 4 }
-    requires below { f < lists.old.numbers }
-    requires on_none { IsOnNone lists.old.lists f }
+/// The frame leaves its list, if it is on one, and goes to the end of another, if any.
+pub fn relist(lists: &mut Lists, f: u32, from: Option<u32>, to: Option<u32>)
+    requires on_one { is_some from ≡ true → IsOnOne lists.old.lists f }
+    requires on_none { is_some from ≡ false → IsOnNone lists.old.lists f }
     requires apart { AreApart lists.old }
+    requires below { f < lists.old.numbers }
+    requires there { (i : ℕ) → to ≡ Some i → i < length lists.old.lists }
+    ensures relisted { lists.new ≡ relisted to lists.old f }
     ensures apart { AreApart lists.new }
-    ensures idle { is_idle r.now ≡ true → lists.new
-        ≡ with_list lists.old (if r.now.changed then 3 else 2)
-        (list_at lists.old.lists (if r.now.changed then 3 else 2) ++ f ∷ []) }
-    ensures other { is_idle r.now ≡ false → lists.new ≡ lists.old }
 {
-    if is_idle(r) {
-        let list = if r.changed { MODIFIED } else { STANDBY };
+    leave(lists, f, from.is_some());
+    if let Some(list) = to {
         lists.push_back(list, f);
-    }
-}
-
-/// A frame that goes to modified goes to the end of the second list too, where its page has a
-/// block.
-pub fn settle_with_block(with_block: &mut Lists, f: u32, r: &Record)
-    requires one { length with_block.old.lists ≡ 1 }
-    requires below { f < with_block.old.numbers }
-    requires on_none { IsOnNone with_block.old.lists f }
-    requires apart { AreApart with_block.old }
-    ensures apart { AreApart with_block.new }
-    ensures pushed { is_modified_with_block r.now ≡ true
-        → with_block.new ≡ with_list with_block.old 0 (list_at with_block.old.lists 0 ++ f ∷ []) }
-    ensures other { is_modified_with_block r.now ≡ false → with_block.new ≡ with_block.old }
-{
-    if is_modified_with_block(r) {
-        with_block.push_back(WITH_BLOCK, f);
     }
 }
 

@@ -1,6 +1,5 @@
 ghost use Rattle.std.specs.Prelude.{◌≡◌, ◌+◌, ◌<◌, ◌^◌, length, replicate, count_by, cond, IfOk, slice_set, slice_index_or};
-ghost use Rattle.mm_life.specs.Frames.{blank};
-ghost use Rattle.mm_life.specs.Life.{is_active, is_in_transition};
+ghost use Rattle.mm_life.specs.{blank, is_active, is_in_transition};
 
 use mm_types::{Backing, NoMemory, Record, Request};
 use std::alloc::Global;
@@ -16,8 +15,8 @@ pub struct Records {
 
 impl Model for Records {
     ghost use Rattle.std.specs.Prelude.{◌≡◌, ◌<◌, ◌^◌, List, length, count_by};
-    ghost use Rattle.mm_types.specs.declared.frames.Record.{Record};
-    ghost use Rattle.mm_life.specs.Life.{is_active, is_in_transition};
+    ghost use Rattle.mm_types.specs.{Record};
+    ghost use Rattle.mm_life.specs.{is_active, is_in_transition};
 
     ghost Value = { List Record };
 

@@ -1,19 +1,11 @@
 -- What was told of a history, and what is still to come.
 use Rattle.std.proofs.Common.{◌≡◌, Bool, List, ◌∷◌, ◌++◌, Option, Some, None, ap, ◌∙◌, append_assoc}
-use Rattle.mm_types.specs.Spelling.{Text}
-use Rattle.mm_types.specs.declared.moves.Move.{Move}
-use Rattle.mm_life.specs.Life.{FrameLife, unstarted}
-use Rattle.mm_life.specs.Effect.{after_move}
-use Rattle.mm_classes.specs.Classes.{class_of, next_of}
-use Rattle.mm_classes.specs.Marks.{MarksOf, marks_after, no_marks}
-use Rattle.mm_classes.specs.declared.classes.Class.{Class}
-use Rattle.mm_tell.specs.Classing.{pending, class_then, move_of}
-use Rattle.mm_tell.specs.declared.classifiers.Pending.{Pending}
-use Rattle.mm_tell.proofs.ClassKnown.{class_known}
-use Rattle.mm_histories.specs.Histories.{head, history, move_row, row_of, rows_from}
-use Rattle.mm_histories.specs.Rest.{head_left, noted, waiting_row}
-use Rattle.mm_histories.specs.declared.rows.Noted.{Noted}
-use Rattle.mm_histories.specs.declared.subjects.Subject.{Subject}
+use Rattle.mm_types.specs.{Text, Move}
+use Rattle.mm_life.specs.{FrameLife, unstarted, after_move}
+use Rattle.mm_classes.specs.{class_of, next_of, MarksOf, marks_after, no_marks, Class}
+use Rattle.mm_tell.specs.{pending, class_then, move_of, Pending}
+use Rattle.mm_tell.proofs.{class_known}
+use Rattle.mm_histories.specs.{head, history, move_row, row_of, rows_from, head_left, noted, waiting_row, Noted, Subject}
 
 -- the row of a move that waited is the row of the move
 row_known : (s : Subject) (l : FrameLife) (v : MarksOf) (before : Option Move) (m : Move) (next : Option Move)

@@ -2,28 +2,15 @@
 -- Profile, "What a log shows".
 use Rattle.std.specs.Prelude.{ℕ, Bool, false, ◌==◌, nat_lt, if◌then◌else◌, List, [], ◌∷◌, ◌++◌, codes}
 use Rattle.std.specs.Prelude.{Option, Some, None}
-use Rattle.mm_types.specs.Spelling.{Text, decimal}
-use Rattle.mm_types.specs.declared.frames.Held.{Held}
+use Rattle.mm_types.specs.{Text, decimal, Held, Move, Frame, Key}
 use Rattle.mm_types.specs.declared.frames.Held.TheVariants as held
 use Rattle.mm_types.specs.declared.moves.LineKind.TheVariants as kind
-use Rattle.mm_types.specs.declared.moves.Move.{Move}
 use Rattle.mm_types.specs.declared.moves.Move.TheVariants as move
-use Rattle.mm_types.specs.declared.numbers.Frame.{Frame}
-use Rattle.mm_types.specs.declared.numbers.Key.{Key}
-use Rattle.mm_life.specs.Effect.{after_move}
-use Rattle.mm_life.specs.Life.{FrameLife, same_key, unstarted}
-use Rattle.mm_life.specs.Located.{held_at}
-use Rattle.mm_life.specs.MoveText.{numbered}
-use Rattle.mm_classes.specs.Classes.{class_of, next_of}
-use Rattle.mm_classes.specs.Marks.{MarksOf, marks_after, no_marks}
-use Rattle.mm_classes.specs.declared.classes.Class.{Class}
-use Rattle.mm_sentences.specs.Facts.{facts_of}
-use Rattle.mm_sentences.specs.Sentences.{sentence_text}
-use Rattle.mm_sentences.specs.States.{frame_row, state_of, state_text}
-use Rattle.mm_sentences.specs.Words.{key_text}
+use Rattle.mm_life.specs.{after_move, FrameLife, same_key, unstarted, held_at, numbered}
+use Rattle.mm_classes.specs.{class_of, next_of, MarksOf, marks_after, no_marks, Class}
+use Rattle.mm_sentences.specs.{facts_of, sentence_text, frame_row, state_of, state_text, key_text, FrameState}
 use Rattle.mm_sentences.specs.declared.facts.Facts.{Facts}
-use Rattle.mm_sentences.specs.declared.states.FrameState.{FrameState}
-use Rattle.mm_text.specs.Columns.{left_in}
+use Rattle.mm_text.specs.{left_in}
 use Rattle.mm_histories.specs.declared.subjects.Subject.{Subject}
 use Rattle.mm_histories.specs.declared.subjects.Subject.TheVariants as subject
 

@@ -1,14 +1,11 @@
 -- The rest of a history, where the row of the last move is still to come.
 -- Profile, "What a log shows".
 use Rattle.std.specs.Prelude.{Bool, if◌then◌else◌, List, [], ◌++◌, Option, Some, None}
-use Rattle.mm_types.specs.Spelling.{Text}
-use Rattle.mm_types.specs.declared.moves.Move.{Move}
-use Rattle.mm_life.specs.Life.{FrameLife}
-use Rattle.mm_classes.specs.Classes.{next_of}
-use Rattle.mm_classes.specs.Marking.{marks_of}
-use Rattle.mm_sentences.specs.Facts.{facts_of}
-use Rattle.mm_tell.specs.Classing.{class_then, move_of}
-use Rattle.mm_tell.specs.declared.classifiers.Classed.{Classed}
+use Rattle.mm_types.specs.{Text, Move}
+use Rattle.mm_life.specs.{FrameLife}
+use Rattle.mm_classes.specs.{next_of, marks_of}
+use Rattle.mm_sentences.specs.{facts_of}
+use Rattle.mm_tell.specs.{class_then, move_of, Classed}
 use Rattle.mm_histories.specs.Histories.{head, row_of, rows_from, state_before}
 use Rattle.mm_histories.specs.declared.histories.HistoryTeller.{HistoryTeller}
 use Rattle.mm_histories.specs.declared.rows.Noted.{Noted}

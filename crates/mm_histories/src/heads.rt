@@ -1,13 +1,12 @@
-ghost use Rattle.std.specs.Prelude.{◌≡◌, ◌++◌, ◌∷◌, [], ℕ, List, OnOk, codes};
-ghost use Rattle.mm_types.specs.declared.moves.Move.{Move};
-ghost use Rattle.mm_life.specs.MoveText.{numbered};
+ghost use Rattle.std.specs.Prelude.{◌≡◌, ◌++◌, ◌∷◌, [], List, OnOk, codes};
+ghost use Rattle.mm_types.specs.{Move};
 ghost use Rattle.mm_replay.specs.Standing.{life as life_of};
-ghost use Rattle.mm_sentences.specs.States.{frame_row};
+ghost use Rattle.mm_sentences.specs.{frame_row};
 ghost use Rattle.mm_histories.specs.Histories.{frames_in, head, held_text, end_text};
 
 use crate::subjects::Subject;
 use mm_replay::Life;
-use mm_sentences::{put_frame_row, put_key, put_number, put_words};
+use mm_sentences::{put_counted, put_frame_row, put_key, put_numbered, put_words};
 use mm_types::{Frame, Held, Key, LineKind, Move, NoMemory};
 
 /// The frames of the machine that a log with this first move has.
@@ -20,16 +19,6 @@ fn frames_in(m: &Move) -> u32
     }
 }
 
-/// Writes words, a number and a line feed.
-#[tactic(auto, using(mm_text::proofs::DigitCounts::joined))]
-fn put_numbered(words: &[u8], n: u32, text: &mut Vec<u8>) -> Result<(), NoMemory>
-    ensures { OnOk result (text.new.items ≡ text.old.items ++ numbered words.now n (10 ∷ [])) }
-{
-    put_words(words, text)?;
-    put_number(u64::from(n), text)?;
-    put_words(b"\n", text)
-}
-
 /// Writes what stands above the rows of a log with this first move.
 #[tactic(auto, using(mm_text::proofs::DigitCounts::joined))]
 pub(crate) fn put_head(subject: Subject, m: &Move, text: &mut Vec<u8>) -> Result<(), NoMemory>
@@ -39,7 +28,7 @@ pub(crate) fn put_head(subject: Subject, m: &Move, text: &mut Vec<u8>) -> Result
     match subject {
         Subject::Frame(n) => {
             if n < frames_in(m) {
-                put_numbered(b"frame ", n, text)
+                put_numbered(b"frame ", u64::from(n), b"\n", text)
             } else {
                 Ok(())
             }
@@ -72,18 +61,9 @@ fn put_held(held: Held, text: &mut Vec<u8>) -> Result<(), NoMemory>
     ensures { OnOk result (text.new.items ≡ text.old.items ++ held_text held) }
 {
     match held {
-        Held::Frame(frame) => {
-            put_words(b"frame ", text)?;
-            put_number(u64::from(frame.0), text)
-        }
-        Held::Slot(slot) => {
-            put_words(b"slot ", text)?;
-            put_number(u64::from(slot.0), text)
-        }
-        Held::Block(block) => {
-            put_words(b"block ", text)?;
-            put_number(u64::from(block.0), text)
-        }
+        Held::Frame(frame) => put_counted(b"frame ", u64::from(frame.0), text),
+        Held::Slot(slot) => put_counted(b"slot ", u64::from(slot.0), text),
+        Held::Block(block) => put_counted(b"block ", u64::from(block.0), text),
         Held::Zero => put_words(b"zero", text),
         Held::Dead => put_words(b"dead", text),
     }

@@ -1,10 +1,10 @@
-ghost use Rattle.std.specs.Prelude.{◌≡◌, ◌++◌, ◌∷◌, [], ℕ, Bool, List, OnOk, true, if◌then◌else◌};
-ghost use Rattle.mm_types.specs.declared.moves.Move.{Move};
-ghost use Rattle.mm_life.specs.Effect.{after_move};
-ghost use Rattle.mm_life.specs.Life.{unstarted};
+ghost use Rattle.std.specs.Prelude.{◌≡◌, ◌++◌, ◌∷◌, [], Bool, List, OnOk, true, if◌then◌else◌};
+ghost use Rattle.mm_types.specs.{Move};
+ghost use Rattle.mm_life.specs.{unstarted};
 ghost use Rattle.mm_replay.specs.Standing.{life as life_of};
 ghost use Rattle.mm_histories.specs.Histories.{history, frame_history, key_history, end_text};
-ghost use Rattle.mm_histories.specs.Rest.{head_left};
+ghost use Rattle.mm_histories.specs.Rest.{head_left, history_rest};
+ghost use Rattle.mm_sentences.specs.{why_text};
 
 use crate::heads::{put_end, put_head, put_head_alone};
 use crate::rows::{Noted, note, put_waiting};
@@ -56,8 +56,6 @@ pub struct HistoryTeller {
 }
 
 impl HistoryTeller {
-    ghost use Rattle.mm_histories.specs.Rest.{history_rest};
-
     /// Nothing was told.
     pub fn new(alloc: Global, subject: Subject) -> HistoryTeller
         ensures { (whole : Bool) (moves : List Move)
@@ -87,32 +85,6 @@ impl HistoryTeller {
     {
         HistoryTeller::new(alloc, Subject::Page(key))
     }
-
-    /// Takes the next move.
-    fn take_move(&mut self, life: &Life, m: &Move, text: &mut Vec<u8>) -> Result<(), NoMemory>
-        ensures { OnOk result ((whole : Bool) (ms : List Move) → text.new.items
-            ++ history_rest self.new whole (after_move (life_of life.now) m.now) ms
-            ≡ text.old.items ++ history_rest self.old whole (life_of life.now) (m.now ∷ ms)) }
-    {
-        put_head_left(self.begun, self.subject, m, text)?;
-        self.begun = true;
-        let classed = self.classifier.next(life, m)?;
-        put_waiting(self.alloc, self.subject, &self.waiting, classed, life, text)?;
-        self.waiting = Some(note(life, m));
-        Ok(())
-    }
-
-    /// Writes the row of the last move, and at the end of a whole log how the subject stands.
-    #[tactic(auto, using(mm_text::proofs::DigitCounts::joined))]
-    fn put_last(&self, whole: bool, life: &Life, text: &mut Vec<u8>) -> Result<(), NoMemory>
-        ensures { OnOk result (text.new.items ≡ text.old.items
-            ++ history_rest self.now whole (life_of life.now) []) }
-    {
-        put_empty_head_left(self.begun, self.subject, text)?;
-        let last = self.classifier.last();
-        put_waiting(self.alloc, self.subject, &self.waiting, last, life, text)?;
-        put_end_of(self.subject, whole, life, text)
-    }
 }
 
 /// Writes how the subject stands at the end, if the log is whole.
@@ -133,9 +105,6 @@ fn put_end_of(
 }
 
 impl Teller for HistoryTeller {
-    ghost use Rattle.mm_histories.specs.Rest.{history_rest};
-    ghost use Rattle.mm_sentences.specs.Refusals.{why_text};
-
     ghost rest = { history_rest };
 
     ghost counted = { λ t. 0 };
@@ -143,11 +112,20 @@ impl Teller for HistoryTeller {
     ghost why = { why_text };
 
     fn take(&mut self, life: &Life, m: &Move, text: &mut Vec<u8>) -> Result<(), NoMemory> {
-        self.take_move(life, m, text)
+        put_head_left(self.begun, self.subject, m, text)?;
+        self.begun = true;
+        let classed = self.classifier.next(life, m)?;
+        put_waiting(self.alloc, self.subject, &self.waiting, classed, life, text)?;
+        self.waiting = Some(note(life, m));
+        Ok(())
     }
 
+    #[tactic(auto, using(mm_text::proofs::DigitCounts::joined))]
     fn finish(&mut self, whole: bool, life: &Life, text: &mut Vec<u8>) -> Result<(), NoMemory> {
-        self.put_last(whole, life, text)
+        put_empty_head_left(self.begun, self.subject, text)?;
+        let last = self.classifier.last();
+        put_waiting(self.alloc, self.subject, &self.waiting, last, life, text)?;
+        put_end_of(self.subject, whole, life, text)
     }
 
     fn tell_why(&self, life: &Life, m: &Move, text: &mut Vec<u8>) -> Result<(), NoMemory> {

@@ -1,7 +1,7 @@
 ghost use Rattle.std.specs.Prelude.{◌≡◌, ◌++◌, ◌∷◌, [], OnOk, IfOk, codes};
-ghost use Rattle.mm_types.specs.Spelling.{decimal};
+ghost use Rattle.mm_types.specs.{decimal};
 ghost use Rattle.mm_replay.specs.Standing.{life as life_of};
-ghost use Rattle.mm_text.specs.Columns.{left_in};
+ghost use Rattle.mm_text.specs.{left_in};
 ghost use Rattle.mm_histories.specs.Histories.{state_before, change_text, row_text, row_of};
 ghost use Rattle.mm_histories.specs.Rest.{noted, waiting_row};
 

@@ -3,8 +3,7 @@ use Rattle.std.proofs.Common.{Option, Some, None, ◌≡◌, ◌≢◌, ℕ, zer
 use Rattle.std.specs.Cmp.{unsigned_Decides}
 use Rattle.std.proofs.lemmas.Bool.{eqb-true}
 use Rattle.std.proofs.lemmas.List.{take-append-drop}
-use Rattle.mm_io.specs.Lines.{NoFeed, IsLine}
-use Rattle.mm_io.specs.Looking.{IsFeedAt, FeedAt, HasLine, IsLong}
+use Rattle.mm_io.specs.{NoFeed, IsLine, IsFeedAt, FeedAt, HasLine, IsLong}
 use Rattle.memchr.specs.Find.{IsFirstByte, Passes, is_byte}
 
 no_feed_below : (xs : List ℕ) (n : ℕ) → ((k : ℕ) → k < n → ¬ Passes (is_byte 10) xs k) → NoFeed (take n xs)
@@ -44,9 +43,6 @@ feed_after (x ∷ xs) (suc k) (suc n) u h e =
 pub feed_further : (xs : List ℕ) (k n : ℕ) → IsFeedAt (take k xs) n → IsFeedAt xs n
 feed_further xs k n f = go xs k n f.within f.whole f.first
   where
-    tail_cons : (x : ℕ) (xs ys : List ℕ) → xs ≡ ys → x ∷ xs ≡ x ∷ ys
-    tail_cons x xs ys e = ap (λ zs. x ∷ zs) e
-
     go : (xs : List ℕ) (k n : ℕ) → n < length (take k xs) → take k xs ≡ take n (take k xs) ++ 10 ∷ drop (suc n) (take k xs) → NoFeed (take n (take k xs)) → IsFeedAt xs n
     go [] zero n h e u = absurd (omega arith)
     go [] (suc k) n h e u = absurd (omega arith)

@@ -1,8 +1,7 @@
 -- One reading after another.
 use Rattle.std.proofs.Common.{ℕ, List, [], ◌++◌, sym, ap, ◌∙◌, Option, append_assoc}
-use Rattle.mm_types.proofs.Bytes.{append_nil, took_none, took_then}
-use Rattle.mm_io.specs.Lines.{IsLine}
-use Rattle.mm_io.specs.Filling.{Filled, HasRead}
+use Rattle.mm_types.proofs.{append_nil, took_none, took_then}
+use Rattle.mm_io.specs.{IsLine, Filled, HasRead}
 use Rattle.mm_io.proofs.Feeds.{Recent, recent_next}
 
 pub filled_none : (a : Option (List ℕ)) (xs : List ℕ) → Filled a a xs xs

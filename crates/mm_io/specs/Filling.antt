@@ -2,7 +2,7 @@
 -- Profile, "Script".
 use Rattle.std.specs.Prelude.{◌≡◌, ℕ, ◌+◌, ◌<◌, ◌≤◌, List, [], ◌++◌, length, Option, Result, Ok, Err, Bool, true, false}
 use Rattle.mm_types.specs.declared.Failed.{Failed}
-use Rattle.mm_types.specs.Outside.{Took, IsEnd}
+use Rattle.mm_types.specs.{Took, IsEnd}
 use Rattle.mm_io.specs.Lines.{IsLine}
 use Rattle.mm_io.specs.Looking.{HasLine, IsLong}
 use Rattle.mm_io.specs.declared.buffers.Found.{Found}

@@ -2,7 +2,7 @@
 -- Profile, "A run".
 use Rattle.std.specs.Prelude.{◌≡◌, ℕ, ◌-◌, ◌<◌, ◌≤◌, List, ◌++◌, length, take, Option, Result, Ok, Err, MatchResult, OnOk, OnErr, Bool, false}
 use Rattle.mm_types.specs.declared.faults.Failed.{Failed}
-use Rattle.mm_types.specs.Outside.{Took, IsEnd, Appended, Rose}
+use Rattle.mm_types.specs.{Took, IsEnd, Appended, Rose}
 
 -- A count of faults never falls: it rose where the call failed, and is as it was where it did not.
 pub record CountsFaults {T E : Type 0} (before now : ℕ) (result : Result T E) : Type 0 where

@@ -3,3 +3,8 @@ pub mod Io
 pub mod Lines
 pub mod Looking
 pub mod Filling
+pub use Io.{CountsFaults, GivesOn, IsFrontOf, ReadsFront, Wrote}
+pub use Lines.{IsLine, NoFeed, text_of_lines, with_line_feed}
+pub use Looking.{FeedAt, HasLine, IsFeedAt, IsLong}
+pub use Filling.{Filled, Finds, HasRead}
+pub use declared.buffers.Found.{Found}

@@ -1,5 +1,5 @@
 ghost use Rattle.std.specs.Prelude.{None, length};
-ghost use Rattle.mm_types.specs.Outside.{NoLoan};
+ghost use Rattle.mm_types.specs.{NoLoan};
 
 use crate::{Sink, Source};
 use mm_types::Failed;

@@ -11,10 +11,11 @@ mod buffers;
 mod looks;
 mod mem_sink;
 mod mem_source;
+mod programs;
 mod write;
 
 ghost use Rattle.std.specs.Prelude.{◌≡◌, ◌≤◌, ◌+◌, List, ℕ, Option, OnOk};
-ghost use Rattle.mm_types.specs.Outside.{Loans};
+ghost use Rattle.mm_types.specs.{Loans};
 ghost use Rattle.mm_io.specs.Io.{CountsFaults, Reads, Takes, GivesOn, spare_read};
 
 pub use adapters::{StdSink, StdSource};
@@ -23,6 +24,7 @@ pub use looks::Look;
 pub use mem_sink::MemSink;
 pub use mem_source::MemSource;
 use mm_types::Failed;
+pub use programs::{buffered, exit_code, words};
 pub use write::write_all;
 
 /// Gives bytes from the front to the end.

@@ -1,5 +1,5 @@
 ghost use Rattle.std.specs.Prelude.{◌≡◌, ◌≤◌, ◌<◌, ◌+◌, ◌↔◌, ◌⊎◌, [], List, ℕ, Option, Some, length, vec_len, vec_capacity, Ok, IfOk, OnOk, IsErr};
-ghost use Rattle.mm_types.specs.Outside.{Loans, NoLoan};
+ghost use Rattle.mm_types.specs.{Loans, NoLoan};
 ghost use Rattle.mm_io.specs.Io.{CountsFaults, Takes, GivesOn};
 ghost use Rattle.mm_io.specs.Calls.{NextFails, next_call};
 

@@ -1,5 +1,5 @@
 ghost use Rattle.std.specs.Prelude.{◌≡◌, ◌≤◌, ◌<◌, ◌+◌, ◌↔◌, List, ℕ, Option, Some, drop, take, length, IsErr};
-ghost use Rattle.mm_types.specs.Outside.{Loans, NoLoan};
+ghost use Rattle.mm_types.specs.{Loans, NoLoan};
 ghost use Rattle.mm_io.specs.Io.{CountsFaults, Reads, spare_read};
 ghost use Rattle.mm_io.specs.Calls.{NextFails, next_call};
 

@@ -1,33 +1,23 @@
 -- Keys keep their blocks, and no two have one.
 use Rattle.std.proofs.Common.{◌≡◌, ◌≢◌, ◌⊎◌, ℕ, ◌<◌, Bool, true, false, cond, not, List, [], ◌∷◌, ◌++◌, length, Option, Some, None, refl, sym, ap, ◌∙◌, subst, inl, inr, arith, get_or-set_same, get_or-set_other, length-set}
-use Rattle.std.specs.Prelude.{◌&&◌, ◌||◌, nat_lt, is_some, slice_set}
+use Rattle.std.specs.Prelude.{is_some, slice_set}
 use Rattle.std.proofs.lemmas.Bool.{and_parts, eqb-true, cases_lt}
 use Rattle.std.proofs.lemmas.List.{get_or_past}
 use Rattle.mm_types.proofs.Cells.{same_or_not}
-use Rattle.mm_types.specs.Machine.{limit_of}
-use Rattle.mm_types.specs.declared.numbers.Frame.{Frame}
-use Rattle.mm_types.specs.declared.numbers.Key.{Key}
-use Rattle.mm_types.specs.declared.numbers.Slot.{Slot}
-use Rattle.mm_types.specs.declared.numbers.Block.{Block}
-use Rattle.mm_types.specs.declared.numbers.Place.{Place}
-use Rattle.mm_types.specs.declared.frames.Record.{Record}
-use Rattle.mm_types.specs.declared.frames.Backing.{Backing}
+use Rattle.mm_types.specs.{Frame, Key, Slot, Block, Place, Record, Backing, Held, LineKind, Move}
 use Rattle.mm_types.specs.declared.frames.Backing.TheVariants as backing
 use Rattle.mm_types.specs.declared.frames.Request.TheVariants as request
-use Rattle.mm_types.specs.declared.frames.Held.{Held}
 use Rattle.mm_types.specs.declared.frames.Held.TheVariants as held
-use Rattle.mm_types.specs.declared.moves.LineKind.{LineKind}
 use Rattle.mm_types.specs.declared.moves.LineKind.TheVariants as kind
 use Rattle.mm_types.specs.declared.moves.Stored.TheVariants as stored
-use Rattle.mm_types.specs.declared.moves.Move.{Move}
 use Rattle.mm_types.specs.declared.moves.Move.TheVariants as move
-use Rattle.mm_life.specs.Frames.{FrameTable, blank, record_at, without_slot, with_record, off_lists, to_free, settled, has_request, is_again, is_idle, is_on, is_first, is_empty, taken_for_read, given, being_read, being_written, shared, unshared, disowned, soiled, read_done, write_done, write_lost, after_clear, after_steal, after_give, after_read, after_bad, after_map, after_unmap, after_soil, after_write, after_drop}
-use Rattle.mm_life.specs.Life.{FrameLife, same_key, changed, is_dead, is_live}
-use Rattle.mm_life.specs.Legal.{IsLegal, is_call, is_unbind, is_unmapped, is_access, is_thread, is_writer, is_touch, has_depth, is_zero, is_stored, is_block, is_lowest, owner_is, may_write_block, may_copy}
-use Rattle.mm_life.specs.Effect.{after_move, after_at, after_add, dropped_at, after_unmap_at, homed, home_at, backing_of}
-use Rattle.mm_laws.specs.PagingKeys.{is_home_for, is_backing_for}
-use Rattle.mm_laws.specs.FileBlocks.{block_of, block_in, block_held}
-use Rattle.mm_laws.specs.Sound.{Sound, frame, owner_at}
+use Rattle.mm_life.specs.{FrameTable, blank, record_at, without_slot, with_record, off_lists, to_free, settled, has_request, is_again, is_idle}
+use Rattle.mm_life.specs.{taken_for_read, given, being_read, being_written, shared, unshared, disowned, soiled, read_done, write_done, write_lost}
+use Rattle.mm_life.specs.{after_clear, after_steal, after_give, after_read, after_bad, after_map, after_unmap, after_soil, after_write, after_drop}
+use Rattle.mm_life.specs.{FrameLife, same_key, changed, is_dead, IsLegal, is_stored, is_block, after_move, after_at, after_add, dropped_at}
+use Rattle.mm_life.specs.{after_unmap_at, homed, home_at, backing_of}
+use Rattle.mm_laws.specs.{is_home_for, is_backing_for, block_of, block_in, block_held, frame, owner_at}
+use Rattle.mm_laws.specs.Sound.{Sound}
 use Rattle.mm_laws.proofs.Changes.{first_zeroed}
 use Rattle.mm_laws.proofs.Taking.{fresh_read}
 use Rattle.mm_laws.proofs.Owners.{key_or_not, changed_here, changed_else}
@@ -35,35 +25,30 @@ use Rattle.mm_laws.proofs.FreshMoves.{zero_is}
 use Rattle.mm_laws.proofs.KeyMoves.{dead_is}
 use Rattle.mm_laws.proofs.Sound.{owner_passes}
 use Rattle.mm_life.proofs.Records.{records_taken}
+use Rattle.mm_laws.proofs.Parts.{four_parts, three_parts}
 
 -- ---- blocks of backings
 
 without_slot_block : (b : Backing) → block_of (without_slot b) ≡ block_of b
 without_slot_block backing.None = refl
-without_slot_block (backing.Slot s) = refl
-without_slot_block (backing.Block b) = refl
+without_slot_block _ = refl
 
 home_block : (d : FrameTable) (b : Backing) → block_in d (home_at b) ≡ block_of b
 home_block d backing.None = refl
-home_block d (backing.Slot s) = refl
-home_block d (backing.Block b) = refl
+home_block d _ = refl
 
 stored_block : (d : FrameTable) (h : Held) → is_stored h ≡ true → block_of (backing_of h) ≡ block_in d h
-stored_block d (held.Frame f) e = cc
 stored_block d (held.Slot s) e = refl
 stored_block d (held.Block b) e = refl
-stored_block d held.Zero e = cc
-stored_block d held.Dead e = cc
+stored_block d _ e = cc
 
 is_block_is : (b : Block) (x : Backing) → is_block b.0 x ≡ true → Some b.0 ≡ block_of x
-is_block_is b backing.None e = cc
-is_block_is b (backing.Slot s) e = cc
 is_block_is b (backing.Block c) e = ap (λ (n : ℕ). Some n) (sym (eqb-true c.0 b.0 e))
+is_block_is b _ e = cc
 
 paging_backing : (p : Bool) (x : Backing) → p ≡ true → is_backing_for p x ≡ true → block_of x ≡ None
-paging_backing p backing.None e i = refl
-paging_backing p (backing.Slot s) e i = refl
 paging_backing p (backing.Block b) e i = let bad : false ≡ true = sym (ap not e) ∙ i in cc
+paging_backing p _ e i = refl
 
 soiled_block : (r : Record) → block_of (soiled r).backing ≡ block_of r.backing
 soiled_block r = at (has_request r.request)
@@ -116,24 +101,15 @@ free_else d f g n = get_or-set_other d.records f g blank blank n
 
 in_same : (d d' : FrameTable) → ((g : ℕ) → block_of (record_at d' g).backing ≡ block_of (record_at d g).backing) → (h : Held) → block_in d' h ≡ block_in d h
 in_same d d' e (held.Frame f) = e f.0
-in_same d d' e (held.Slot s) = refl
-in_same d d' e (held.Block b) = refl
-in_same d d' e held.Zero = refl
-in_same d d' e held.Dead = refl
+in_same d d' e _ = refl
 
 in_other : (d d' : FrameTable) (f : ℕ) → ((g : ℕ) → g ≢ f → record_at d' g ≡ record_at d g) → (h : Held) → ((g : Frame) → h ≡ held.Frame g → g.0 ≢ f) → block_in d' h ≡ block_in d h
 in_other d d' f e (held.Frame g) n = ap (λ (x : Record). block_of x.backing) (e g.0 (n g refl))
-in_other d d' f e (held.Slot s) n = refl
-in_other d d' f e (held.Block b) n = refl
-in_other d d' f e held.Zero n = refl
-in_other d d' f e held.Dead n = refl
+in_other d d' f e _ n = refl
 
 dead_block : (d : FrameTable) (h : Held) → is_dead h ≡ true → block_in d h ≡ None
-dead_block d (held.Frame f) e = cc
-dead_block d (held.Slot s) e = cc
-dead_block d (held.Block b) e = cc
-dead_block d held.Zero e = cc
 dead_block d held.Dead e = refl
+dead_block d _ e = cc
 
 module _ (l : FrameLife) (s : Sound l) where
   -- a key that is not in a frame without an owner, or of another
@@ -200,10 +176,7 @@ module _ (l : FrameLife) (s : Sound l) where
       dropped_else : (b : Bool) → (g : ℕ) → g ≢ f.0 → record_at (cond b (with_record l.frames f.0 (disowned (record_at l.frames f.0))) (to_free (off_lists l.frames f.0) f.0)) g ≡ record_at l.frames g
       dropped_else true g n = get_or-set_other l.frames.records f.0 g (disowned (record_at l.frames f.0)) blank n
       dropped_else false g n = get_or-set_other l.frames.records f.0 g blank blank n
-  drops j k (held.Slot t) p e = without_block l.frames j k held.Dead (paging_block j p) refl (λ n. refl)
-  drops j k (held.Block b) p e = without_block l.frames j k held.Dead (paging_block j p) refl (λ n. refl)
-  drops j k held.Zero p e = without_block l.frames j k held.Dead (paging_block j p) refl (λ n. refl)
-  drops j k held.Dead p e = without_block l.frames j k held.Dead (paging_block j p) refl (λ n. refl)
+  drops j k _ p e = without_block l.frames j k held.Dead (paging_block j p) refl (λ n. refl)
 
   unmaps : (o : Option Frame) (place : Place) (k : Key) → block_held (after_unmap_at o l place) k ≡ block_held l k
   unmaps None place k = refl
@@ -211,8 +184,7 @@ module _ (l : FrameLife) (s : Sound l) where
 
   gives : (f : Frame) (j k : Key) → IsLegal (move.Give f j) l → block_held (after_move l (move.Give f j)) k ≡ block_held l k
   gives f j k h =
-      let both = (and_parts (is_first f.0 l.frames.zeroed && is_zero (l.stands j)) (is_touch l.kind) h).0 in
-      let parts = and_parts (is_first f.0 l.frames.zeroed) (is_zero (l.stands j)) both in
+      let parts = three_parts _ _ _ h in
       let bare = first_zeroed l.frames l.flight f.0 s.standing parts.0 in
       let was : block_held l j ≡ None = ap (block_in l.frames) (zero_is (l.stands j) parts.1) in
       let here : block_of (record_at (after_give l.frames f.0 j) f.0).backing ≡ None = elim (record_set l.frames f.0 f.0 (given j)) [
@@ -224,40 +196,29 @@ module _ (l : FrameLife) (s : Sound l) where
 
   reads : (f : Frame) (j k : Key) → IsLegal (move.Read f j) l → block_held (after_move l (move.Read f j)) k ≡ block_held l k
   reads f j k h =
-      let first = is_first f.0 l.frames.free || (is_empty l.frames.free && is_first f.0 l.frames.zeroed) in
-      let both = and_parts first (is_stored (l.stands j)) (and_parts (first && is_stored (l.stands j)) (is_access l.kind || (is_thread l.kind && has_depth l)) h).0 in
-      let known = fresh_read l.frames l.flight f.0 s.standing both.0 in
+      let parts = three_parts _ _ _ h in
+      let known = fresh_read l.frames l.flight f.0 s.standing parts.0 in
       let same = records_taken l.frames in
       comes_in (after_read l.frames f.0 j (backing_of (l.stands j))) f.0 k j (being_read j (backing_of (l.stands j))) (ap (λ (r : Record). r.owner) known.bare)
       (get_or-set_same (taken_for_read l.frames).records f.0 (being_read j (backing_of (l.stands j))) blank (subst (λ (rs : List Record). f.0 < length rs) (sym same) known.low))
-      (stored_block l.frames (l.stands j) both.1)
+      (stored_block l.frames (l.stands j) parts.1)
       (λ g n. get_or-set_other (taken_for_read l.frames).records f.0 g (being_read j (backing_of (l.stands j))) blank n ∙ ap (λ (rs : List Record). record_at (record l.frames { records = rs }) g) same)
 
   writes_slot : (f : Frame) (t : Slot) (k : Key) → IsLegal (move.Write f (stored.Slot t)) l → block_held (after_move l (move.Write f (stored.Slot t))) k ≡ block_held l k
   writes_slot f t k h =
-      let on = is_on f.0 l.frames.modified in
-      let paging = owner_is l.paging (record_at l.frames f.0) in
-      let lowest = is_lowest t.0 l.free_slots in
-      let p3 = and_parts (on && paging && lowest) (is_access l.kind || (is_writer l.kind && has_depth l)) h in
-      let p2 = and_parts (on && paging) lowest p3.0 in
-      let owner = owner_passes l.paging (record_at l.frames f.0) (and_parts on paging p2.0).1 in
+      let parts = four_parts _ _ _ _ h in
+      let owner = owner_passes l.paging (record_at l.frames f.0) parts.1 in
       let was = paging_backing (l.paging owner.key) (record_at l.frames f.0).backing owner.passes (s.homed.backing f.0 owner.key owner.is) in
       in_same l.frames (after_write l.frames f.0 (backing.Slot t)) (with_block (off_lists l.frames f.0) f.0 (being_written (backing.Slot t) (record_at l.frames f.0)) (sym was)) (l.stands k)
 
   writes_block : (f : Frame) (b : Block) (k : Key) → IsLegal (move.Write f (stored.Block b)) l → block_held (after_move l (move.Write f (stored.Block b))) k ≡ block_held l k
   writes_block f b k h =
-      let changed = (record_at l.frames f.0).changed in
-      let owned = is_some (record_at l.frames f.0).owner in
-      let quiet = not (has_request (record_at l.frames f.0).request) in
-      let block = is_block b.0 (record_at l.frames f.0).backing in
-      let p = (and_parts (changed && owned && quiet && block) (may_write_block l f.0) h).0 in
-      let same = is_block_is b (record_at l.frames f.0).backing (and_parts (changed && owned && quiet) block p).1 in
+      let same = is_block_is b (record_at l.frames f.0).backing (and_parts _ _ (and_parts _ _ h).0).1 in
       in_same l.frames (after_write l.frames f.0 (backing.Block b)) (with_block (off_lists l.frames f.0) f.0 (being_written (backing.Block b) (record_at l.frames f.0)) same) (l.stands k)
 
   adds_zero : (j k : Key) → IsLegal (move.Add j None) l → block_held (after_add l j None) k ≡ block_held l k
   adds_zero j k h =
-      let p = (and_parts (not (is_live l j) && nat_lt l.paging_keys (limit_of l.machine)) (is_call l.kind || may_copy l j) h).0 in
-      let dead = dead_is (l.stands j) (and_parts (not (is_live l j)) (nat_lt l.paging_keys (limit_of l.machine)) p).0 in
+      let dead = dead_is (l.stands j) (three_parts _ _ _ h).0 in
       without_block l.frames j k held.Zero (dead_block l.frames (l.stands j) dead) refl (λ n. refl)
 
 -- ---- a move that adds no block, and is no line of a machine
@@ -272,24 +233,14 @@ makes_machine _ = false
 
 lines : (l : FrameLife) (n : ℕ) (kd : LineKind) (k : Key) → makes_machine (move.At n kd) ≡ false → block_held (after_at l n kd) k ≡ block_held l k
 lines l n (kind.Machine frames slots depth blocks) k e = cc
-lines l n (kind.Process pid min max) k e = refl
-lines l n (kind.Unbind pid) k e = refl
-lines l n (kind.Access pid) k e = refl
-lines l n (kind.Thread pid) k e = refl
-lines l n (kind.Trim pid) k e = refl
-lines l n kind.Writer k e = refl
-lines l n kind.Zeroer k e = refl
-lines l n kind.Io k e = refl
-lines l n kind.Call k e = refl
-lines l n (kind.Grow count) k e = refl
+lines l n _ k e = refl
 
 pub block_stays : (x : Move) (l : FrameLife) → Sound l → IsLegal x l → adds_block x ≡ false → makes_machine x ≡ false → (k : Key) → block_held (after_move l x) k ≡ block_held l k
 block_stays (move.At n kd) l s h a m k = lines l n kd k m
 block_stays (move.Add j None) l s h a m k = adds_zero l s j k h
 block_stays (move.Add j (Some b)) l s h a m k = cc
 block_stays (move.Drop j) l s h a m k =
-    let p = (and_parts ((is_call l.kind || is_unbind l.kind) && l.paging j) (is_unmapped l (l.stands j)) h).0 in
-    drops l s j k (l.stands j) (and_parts (is_call l.kind || is_unbind l.kind) (l.paging j) p).1 refl
+    drops l s j k (l.stands j) (three_parts _ _ _ h).1 refl
 block_stays (move.Clear f) l s h a m k = in_same l.frames (after_clear l.frames f.0) (λ g. refl) (l.stands k)
 block_stays (move.Steal f) l s h a m k = goes_home l s (after_steal l.frames f.0) f.0 k (record_at l.frames f.0).owner refl (λ g n. get_or-set_other l.frames.records f.0 g blank blank n)
 block_stays (move.Give f j) l s h a m k = gives l s f j k h

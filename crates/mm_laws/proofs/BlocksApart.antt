@@ -1,29 +1,19 @@
 -- No two keys have one block, and a file key keeps its block along a replay.
-use Rattle.std.proofs.Common.{◌≡◌, ◌≢◌, ℕ, ◌+◌, ◌≤◌, Bool, true, false, cond, not, List, [], ◌∷◌, length, Option, Some, None, refl, sym, ap, ◌∙◌, subst, inl, inr, arith}
-use Rattle.std.specs.Prelude.{◌==◌, ◌&&◌, nat_lt, nat_le, is_some}
+use Rattle.std.proofs.Common.{◌≡◌, ◌≢◌, ℕ, ◌+◌, ◌≤◌, Bool, true, false, cond, not, List, [], ◌∷◌, length, Some, None, refl, sym, ap, ◌∙◌, inl, inr, arith}
+use Rattle.std.specs.Prelude.{◌==◌, ◌&&◌, nat_le, is_some}
 use Rattle.std.specs.Cmp.{unsigned_Decides}
 use Rattle.std.proofs.lemmas.Bool.{and_parts, eqb-true, ltb-true, not-true}
-use Rattle.mm_types.specs.declared.numbers.Frame.{Frame}
-use Rattle.mm_types.specs.declared.numbers.Key.{Key}
-use Rattle.mm_types.specs.declared.numbers.Block.{Block}
-use Rattle.mm_types.specs.declared.numbers.Place.{Place}
-use Rattle.mm_types.specs.declared.frames.Backing.{Backing}
+use Rattle.mm_types.specs.{Key, Block, Backing, Held, LineKind, Move}
 use Rattle.mm_types.specs.declared.frames.Backing.TheVariants as backing
-use Rattle.mm_types.specs.declared.frames.Held.{Held}
 use Rattle.mm_types.specs.declared.frames.Held.TheVariants as held
-use Rattle.mm_types.specs.declared.moves.LineKind.{LineKind}
 use Rattle.mm_types.specs.declared.moves.LineKind.TheVariants as kind
 use Rattle.mm_types.specs.declared.moves.Stored.TheVariants as stored
-use Rattle.mm_types.specs.declared.moves.Move.{Move}
 use Rattle.mm_types.specs.declared.moves.Move.TheVariants as move
-use Rattle.mm_life.specs.Frames.{record_at}
-use Rattle.mm_life.specs.Life.{FrameLife, unstarted, same_key, changed, is_dead, is_live, is_shared}
-use Rattle.mm_life.specs.Legal.{IsLegal, is_call, is_legal_kind, is_machine}
-use Rattle.mm_life.specs.Effect.{after_move, dropped_at, after_unmap_at}
-use Rattle.mm_life.specs.Replay.{Replays}
-use Rattle.mm_laws.specs.PagingKeys.{is_home_for, is_backing_for, is_file_key}
-use Rattle.mm_laws.specs.FileBlocks.{block_of, block_in, block_held, IsAdded}
+use Rattle.mm_life.specs.{record_at, FrameLife, unstarted, same_key, changed, is_dead, is_live, IsLegal, is_legal_kind, is_machine, after_move}
+use Rattle.mm_life.specs.{Replays}
+use Rattle.mm_laws.specs.{is_home_for, is_backing_for, is_file_key, block_of, block_in, block_held, IsAdded}
 use Rattle.mm_laws.specs.Sound.{Sound}
+use Rattle.mm_laws.proofs.Moved.{dropped_as, unmapped_as, along}
 use Rattle.mm_laws.proofs.Owners.{key_or_not, changed_here, changed_else}
 use Rattle.mm_laws.proofs.KeyMoves.{dead_is}
 use Rattle.mm_laws.proofs.LineMoves.{sound_unstarted}
@@ -58,10 +48,8 @@ same_apart l m same blocks added a = record {
 -- a key comes to be on a block that no key ever had
 added_apart : (l : FrameLife) (j : Key) (b : Block) → IsLegal (move.Add j (Some b)) l → Apart l → Apart (after_move l (move.Add j (Some b)))
 added_apart l j b h a =
-    let p4 = and_parts (is_call l.kind && is_shared j && not (is_live l j) && nat_lt b.0 l.machine.blocks) (not (l.added b.0)) h in
-    let p3 = and_parts (is_call l.kind && is_shared j && not (is_live l j)) (nat_lt b.0 l.machine.blocks) p4.0 in
-    let low = ltb-true b.0 l.machine.blocks p3.1 in
-    let new = not-true (l.added b.0) p4.1 in
+    let low = ltb-true b.0 l.machine.blocks (and_parts _ _ (and_parts _ _ h).0).1 in
+    let new = not-true (l.added b.0) (and_parts _ _ h).1 in
     let at_j : block_in l.frames (changed same_key l.stands j (held.Block b) j) ≡ Some b.0 = ap (block_in l.frames) (changed_here l.stands j (held.Block b)) in
     let else_is : (k : Key) → k ≢ j → block_in l.frames (changed same_key l.stands j (held.Block b) k) ≡ block_held l k = λ k n. ap (block_in l.frames) (changed_else l.stands j k (held.Block b) n) in
     let clash : (k : Key) (n : ℕ) → n ≡ b.0 → block_held l k ≡ Some n → ⊥ = λ k n e g.
@@ -99,63 +87,16 @@ added_apart l j b h a =
     either true x e = refl
     either false x e = e
 
-drop_added : (h : Held) (l : FrameLife) (k : Key) → (dropped_at h l k).added ≡ l.added
-drop_added (held.Frame f) l k = refl
-drop_added (held.Slot t) l k = refl
-drop_added (held.Block b) l k = refl
-drop_added held.Zero l k = refl
-drop_added held.Dead l k = refl
-
-drop_blocks : (h : Held) (l : FrameLife) (k : Key) → (dropped_at h l k).machine.blocks ≡ l.machine.blocks
-drop_blocks (held.Frame f) l k = refl
-drop_blocks (held.Slot t) l k = refl
-drop_blocks (held.Block b) l k = refl
-drop_blocks held.Zero l k = refl
-drop_blocks held.Dead l k = refl
-
-unmap_added : (o : Option Frame) (l : FrameLife) (p : Place) → (after_unmap_at o l p).added ≡ l.added
-unmap_added None l p = refl
-unmap_added (Some f) l p = refl
-
-unmap_blocks : (o : Option Frame) (l : FrameLife) (p : Place) → (after_unmap_at o l p).machine.blocks ≡ l.machine.blocks
-unmap_blocks None l p = refl
-unmap_blocks (Some f) l p = refl
-
 pub apart_step : (x : Move) (l : FrameLife) → Sound l → IsLegal x l → Apart l → Apart (after_move l x)
 apart_step (move.At n (kind.Machine frames slots depth blocks)) l s h a = none_apart (after_move l (move.At n (kind.Machine frames slots depth blocks))) (λ k. refl)
-apart_step (move.At n (kind.Process pid min max)) l s h a = same_apart l (after_move l (move.At n (kind.Process pid min max))) (block_stays (move.At n (kind.Process pid min max)) l s h refl refl) refl refl a
-apart_step (move.At n (kind.Unbind pid)) l s h a = same_apart l (after_move l (move.At n (kind.Unbind pid))) (block_stays (move.At n (kind.Unbind pid)) l s h refl refl) refl refl a
-apart_step (move.At n (kind.Access pid)) l s h a = same_apart l (after_move l (move.At n (kind.Access pid))) (block_stays (move.At n (kind.Access pid)) l s h refl refl) refl refl a
-apart_step (move.At n (kind.Thread pid)) l s h a = same_apart l (after_move l (move.At n (kind.Thread pid))) (block_stays (move.At n (kind.Thread pid)) l s h refl refl) refl refl a
-apart_step (move.At n (kind.Trim pid)) l s h a = same_apart l (after_move l (move.At n (kind.Trim pid))) (block_stays (move.At n (kind.Trim pid)) l s h refl refl) refl refl a
-apart_step (move.At n kind.Writer) l s h a = same_apart l (after_move l (move.At n kind.Writer)) (block_stays (move.At n kind.Writer) l s h refl refl) refl refl a
-apart_step (move.At n kind.Zeroer) l s h a = same_apart l (after_move l (move.At n kind.Zeroer)) (block_stays (move.At n kind.Zeroer) l s h refl refl) refl refl a
-apart_step (move.At n kind.Io) l s h a = same_apart l (after_move l (move.At n kind.Io)) (block_stays (move.At n kind.Io) l s h refl refl) refl refl a
-apart_step (move.At n kind.Call) l s h a = same_apart l (after_move l (move.At n kind.Call)) (block_stays (move.At n kind.Call) l s h refl refl) refl refl a
-apart_step (move.At n (kind.Grow count)) l s h a = same_apart l (after_move l (move.At n (kind.Grow count))) (block_stays (move.At n (kind.Grow count)) l s h refl refl) refl refl a
-apart_step (move.Add k None) l s h a = same_apart l (after_move l (move.Add k None)) (block_stays (move.Add k None) l s h refl refl) refl refl a
 apart_step (move.Add k (Some b)) l s h a = added_apart l k b h a
-apart_step (move.Drop k) l s h a = same_apart l (after_move l (move.Drop k)) (block_stays (move.Drop k) l s h refl refl) (drop_blocks (l.stands k) l k) (drop_added (l.stands k) l k) a
-apart_step (move.Clear f) l s h a = same_apart l (after_move l (move.Clear f)) (block_stays (move.Clear f) l s h refl refl) refl refl a
-apart_step (move.Steal f) l s h a = same_apart l (after_move l (move.Steal f)) (block_stays (move.Steal f) l s h refl refl) refl refl a
-apart_step (move.Give f k) l s h a = same_apart l (after_move l (move.Give f k)) (block_stays (move.Give f k) l s h refl refl) refl refl a
-apart_step (move.Read f k) l s h a = same_apart l (after_move l (move.Read f k)) (block_stays (move.Read f k) l s h refl refl) refl refl a
-apart_step (move.Got f) l s h a = same_apart l (after_move l (move.Got f)) (block_stays (move.Got f) l s h refl refl) refl refl a
-apart_step (move.Bad f) l s h a = same_apart l (after_move l (move.Bad f)) (block_stays (move.Bad f) l s h refl refl) refl refl a
-apart_step (move.Map f place) l s h a = same_apart l (after_move l (move.Map f place)) (block_stays (move.Map f place) l s h refl refl) refl refl a
-apart_step (move.Unmap place) l s h a = same_apart l (after_move l (move.Unmap place)) (block_stays (move.Unmap place) l s h refl refl) (unmap_blocks (l.valid place) l place) (unmap_added (l.valid place) l place) a
-apart_step (move.Soil f) l s h a = same_apart l (after_move l (move.Soil f)) (block_stays (move.Soil f) l s h refl refl) refl refl a
+apart_step (move.Drop k) l s h a = same_apart l (after_move l (move.Drop k)) (block_stays (move.Drop k) l s h refl refl) (ap (λ (m : FrameLife). m.machine.blocks) (dropped_as (l.stands k) l k)) (ap (λ (m : FrameLife). m.added) (dropped_as (l.stands k) l k)) a
+apart_step (move.Unmap place) l s h a = same_apart l (after_move l (move.Unmap place)) (block_stays (move.Unmap place) l s h refl refl) (ap (λ (m : FrameLife). m.machine.blocks) (unmapped_as (l.valid place) l place)) (ap (λ (m : FrameLife). m.added) (unmapped_as (l.valid place) l place)) a
 apart_step (move.Write f (stored.Slot t)) l s h a = same_apart l (after_move l (move.Write f (stored.Slot t))) (block_stays (move.Write f (stored.Slot t)) l s h refl refl) refl refl a
-apart_step (move.Write f (stored.Block b)) l s h a = same_apart l (after_move l (move.Write f (stored.Block b))) (block_stays (move.Write f (stored.Block b)) l s h refl refl) refl refl a
-apart_step (move.Wrote f) l s h a = same_apart l (after_move l (move.Wrote f)) (block_stays (move.Wrote f) l s h refl refl) refl refl a
-apart_step (move.Lost f) l s h a = same_apart l (after_move l (move.Lost f)) (block_stays (move.Lost f) l s h refl refl) refl refl a
-
-pub apart_along : (xs : List Move) (l m : FrameLife) → Sound l → Apart l → Replays xs l m → Apart m
-apart_along [] l m s a e = subst Apart (sym e) a
-apart_along (x ∷ xs) l m s a r = apart_along xs (after_move l x) m (keeps x l s r.0) (apart_step x l s r.0 a) r.1
+apart_step x l s h a = same_apart l (after_move l x) (block_stays x l s h refl refl) refl refl a
 
 pub replay_apart : (xs : List Move) (l : FrameLife) → Replays xs unstarted l → Apart l
-replay_apart xs l r = apart_along xs unstarted l sound_unstarted apart_unstarted r
+replay_apart xs l r = (along (λ m. Sound m × Apart m) (λ x m p h. (keeps x m p.0 h, apart_step x m p.0 h p.1)) xs unstarted l (sound_unstarted, apart_unstarted) r).1
 
 -- ---- a file key and its block
 
@@ -166,16 +107,14 @@ file_has_block l s k file = at (l.stands k) refl
     parts = let p = and_parts (is_live l k) (not (l.paging k)) file in (p.0, not-true (l.paging k) p.1)
 
     on_block : (b : Backing) → is_backing_for (l.paging k) b ≡ true → is_some (block_of b) ≡ true
-    on_block backing.None e = let bad : false ≡ true = sym parts.1 ∙ e in cc
-    on_block (backing.Slot t) e = let bad : false ≡ true = sym parts.1 ∙ e in cc
     on_block (backing.Block b) e = refl
+    on_block _ e = let bad : false ≡ true = sym parts.1 ∙ e in cc
 
     at : (h : Held) → l.stands k ≡ h → is_some (block_in l.frames h) ≡ true
     at (held.Frame f) e = on_block (record_at l.frames f.0).backing (s.homed.backing f.0 k (s.owned.owner k f e))
-    at (held.Slot t) e = let bad : false ≡ true = sym parts.1 ∙ (ap (is_home_for (l.paging k)) (sym e) ∙ s.homed.home k) in cc
     at (held.Block b) e = refl
-    at held.Zero e = let bad : false ≡ true = sym parts.1 ∙ (ap (is_home_for (l.paging k)) (sym e) ∙ s.homed.home k) in cc
     at held.Dead e = let bad : false ≡ true = ap (λ (h : Held). not (is_dead h)) (sym e) ∙ parts.0 in cc
+    at _ e = let bad : false ≡ true = sym parts.1 ∙ (ap (is_home_for (l.paging k)) (sym e) ∙ s.homed.home k) in cc
 
 -- a move of a line that is not the first
 file_block_step : (x : Move) (l : FrameLife) → Sound l → 1 ≤ l.line → IsLegal x l → (k : Key) → is_file_key l k ≡ true → block_held (after_move l x) k ≡ block_held l k
@@ -197,24 +136,11 @@ file_block_step (move.At n kd) l s on h k file = block_stays (move.At n kd) l s 
     no_machine (kind.Grow count) e = refl
 file_block_step (move.Add j None) l s on h k file = block_stays (move.Add j None) l s h refl refl k
 file_block_step (move.Add j (Some b)) l s on h k file =
-    let p4 = and_parts (is_call l.kind && is_shared j && not (is_live l j) && nat_lt b.0 l.machine.blocks) (not (l.added b.0)) h in
-    let p3 = and_parts (is_call l.kind && is_shared j && not (is_live l j)) (nat_lt b.0 l.machine.blocks) p4.0 in
-    let dead = dead_is (l.stands j) (and_parts (is_call l.kind && is_shared j) (not (is_live l j)) p3.0).1 in
+    let dead = dead_is (l.stands j) (and_parts _ _ (and_parts _ _ (and_parts _ _ h).0).0).1 in
     let lives = (and_parts (is_live l k) (not (l.paging k)) file).0 in
     ap (block_in l.frames) (changed_else l.stands j k (held.Block b) (λ e. let bad : false ≡ true = sym (ap not dead) ∙ (ap (is_live l) (sym e) ∙ lives) in cc))
 file_block_step (move.Drop j) l s on h k file = block_stays (move.Drop j) l s h refl refl k
-file_block_step (move.Clear f) l s on h k file = block_stays (move.Clear f) l s h refl refl k
-file_block_step (move.Steal f) l s on h k file = block_stays (move.Steal f) l s h refl refl k
-file_block_step (move.Give f j) l s on h k file = block_stays (move.Give f j) l s h refl refl k
-file_block_step (move.Read f j) l s on h k file = block_stays (move.Read f j) l s h refl refl k
-file_block_step (move.Got f) l s on h k file = block_stays (move.Got f) l s h refl refl k
-file_block_step (move.Bad f) l s on h k file = block_stays (move.Bad f) l s h refl refl k
-file_block_step (move.Map f place) l s on h k file = block_stays (move.Map f place) l s h refl refl k
-file_block_step (move.Unmap place) l s on h k file = block_stays (move.Unmap place) l s h refl refl k
-file_block_step (move.Soil f) l s on h k file = block_stays (move.Soil f) l s h refl refl k
-file_block_step (move.Write f t) l s on h k file = block_stays (move.Write f t) l s h refl refl k
-file_block_step (move.Wrote f) l s on h k file = block_stays (move.Wrote f) l s h refl refl k
-file_block_step (move.Lost f) l s on h k file = block_stays (move.Lost f) l s h refl refl k
+file_block_step x l s on h k file = block_stays x l s h refl refl k
 
 pub file_block_along : (xs : List Move) (l m : FrameLife) → Sound l → 1 ≤ l.line → Replays xs l m → (k : Key) → is_file_key l k ≡ true → block_held m k ≡ block_held l k
 file_block_along [] l m s on e k file = ap (λ (x : FrameLife). block_held x k) e

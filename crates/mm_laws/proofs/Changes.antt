@@ -1,17 +1,17 @@
 -- Moves change the record of one frame, and where that frame stands.
-use Rattle.std.proofs.Common.{◌≡◌, ◌≢◌, ℕ, ◌+◌, ◌<◌, ◌≤◌, Bool, true, false, cond, not, List, [], ◌∷◌, ◌++◌, length, refl, sym, ap, ◌∙◌, subst, inl, inr, arith, get_or-set_same, get_or-set_other, length-set}
+use Rattle.std.proofs.Common.{◌≡◌, ◌≢◌, ℕ, ◌+◌, ◌<◌, ◌≤◌, true, false, not, List, [], ◌∷◌, ◌++◌, length, refl, sym, ap, ◌∙◌, subst, inl, inr, arith, get_or-set_same, get_or-set_other, length-set}
 use Rattle.std.specs.Prelude.{◌&&◌, nat_lt, is_some, slice_set}
 use Rattle.std.proofs.lemmas.Bool.{lt-ltb}
 use Rattle.mm_types.proofs.Cells.{same_or_not}
-use Rattle.mm_types.specs.declared.numbers.Key.{Key}
-use Rattle.mm_types.specs.declared.frames.Record.{Record}
-use Rattle.mm_life.specs.Frames.{FrameTable, blank, record_at, has_request, is_idle, is_first, rest, without, with_record, off_lists, to_free, settled, settled_by, given, after_clear, after_give}
-use Rattle.mm_laws.specs.Tally.{one_if, times}
-use Rattle.mm_laws.specs.Fits.{Fit}
-use Rattle.mm_laws.specs.Sights.{sight, Stand, Stands}
+use Rattle.mm_types.proofs.Booleans.{one_at_most}
+use Rattle.mm_types.specs.{Key, Record}
+use Rattle.mm_life.specs.{FrameTable, blank, record_at, has_request, is_idle, is_first, rest, without, with_record, off_lists, to_free, settled}
+use Rattle.mm_life.specs.{settled_by, given, after_clear, after_give}
+use Rattle.mm_laws.specs.{one_if, times, Fit, sight, Stand, Stands}
 use Rattle.mm_laws.proofs.Tallies.{times-push_same, times-push_other, times-without_same, times-without_other, times-rest_same, times-rest_other}
 use Rattle.mm_laws.proofs.Fits.{fit_given}
 use Rattle.mm_laws.proofs.Sights.{same_sight, is_inside, on_fresh, stand_owned, stand_blank, other-record, other-off, other-free, other-settled, own-record, own-free, own-settled}
+use Rattle.mm_life.proofs.Records.{records_settled}
 
 -- this frame has this record now, and all others are seen as before
 pub record Changes (d d' : FrameTable) (q q' : List ℕ) (f : ℕ) (r : Record) : Type 0 where
@@ -52,31 +52,15 @@ module _ (d : FrameTable) (q q' : List ℕ) (f n : ℕ) (r : Record) (flights : 
   inside_same : (s : Record) → one_if (nat_lt f (length (slice_set d.records f s))) ≡ one_if (nat_lt f (length d.records))
   inside_same s = ap (λ (k : ℕ). one_if (nat_lt f k)) (length-set d.records f s)
 
-  size_settled : (t : Record) (x : FrameTable) → length (settled_by t x f).records ≡ length x.records
-  size_settled t x = at (is_idle t) t.changed
-    where
-      at : (i c : Bool) → length (cond i (cond c (record x { modified = x.modified ++ f ∷ [] }) (record x { standby = x.standby ++ f ∷ [] })) x).records ≡ length x.records
-      at true true = refl
-      at true false = refl
-      at false c = refl
-
-  record_settled : (t : Record) (x : FrameTable) → record_at (settled_by t x f) f ≡ record_at x f
-  record_settled t x = at (is_idle t) t.changed
-    where
-      at : (i c : Bool) → record_at (cond i (cond c (record x { modified = x.modified ++ f ∷ [] }) (record x { standby = x.standby ++ f ∷ [] })) x) f ≡ record_at x f
-      at true true = refl
-      at true false = refl
-      at false c = refl
-
   -- the frame was on no list, has an owner, and settles
   pub changes_settled : is_some r.owner ≡ true → Fit r → times f d.zeroed + times f d.free ≡ 0 → times f d.standby ≡ 0 → times f d.modified ≡ 0 → n ≡ one_if (has_request r.request) → Changes d (settled (with_record d f r) f) q q' f r
   changes_settled o fit z a b k = record {
     elsewhere = λ g m. ap (λ (t : FrameTable). sight t q' g) settled_is ∙ other-settled (with_record d f r) q' f g m r ∙ other-record d q' f g m r ∙ other_flight d q q' f n g flights m;
-    here = ap (λ (t : FrameTable). record_at t f) settled_is ∙ record_settled r (with_record d f r) ∙ get_or-set_same d.records f r blank low;
+    here = ap (λ (t : FrameTable). record_at t f) settled_is ∙ ap (λ (rs : List Record). record_at (record d { records = rs }) f) (records_settled r (with_record d f r) f) ∙ get_or-set_same d.records f r blank low;
     stand =
         let seen = ap (λ (t : FrameTable). sight t q' f) settled_is ∙ own-settled (with_record d f r) q' f r ∙ same_sight (get_or-set_same d.records f r blank low) (inside_same r) refl refl refl refl flights.own in
         subst Stand (sym seen) (stand_owned _ o fit z (omega (arith, a)) (omega (arith, b)) k);
-    size = ap (λ (t : FrameTable). length t.records) settled_is ∙ size_settled r (with_record d f r) ∙ length-set d.records f r;
+    size = ap (λ (t : FrameTable). length t.records) settled_is ∙ ap (λ (rs : List Record). length rs) (records_settled r (with_record d f r) f) ∙ length-set d.records f r;
   }
 
   -- the frame has an owner, and is not idle
@@ -155,12 +139,8 @@ module _ (d : FrameTable) (q : List ℕ) (f : ℕ) (stands : Stands d q) where
         stand =
             let own : sight (after_give d f k) q f ≡ record { what = given k; inside = one_if (nat_lt f (length d.records)); zeroed = times f (rest d.zeroed); free = times f d.free; standby = times f d.standby; modified = times f d.modified + 1; flight = times f q }
             = same_sight (get_or-set_same d.records f (given k) blank low) (ap (λ (m : ℕ). one_if (nat_lt f m)) (length-set d.records f (given k))) refl refl refl (times-push_same f d.modified) refl in
-            let most = at_most (nat_lt f (length d.records)) in
+            let most = one_at_most (nat_lt f (length d.records)) in
             let m = off.1.0 in
             subst Stand (sym own) (stand_owned _ refl (fit_given k) (omega (arith, e, more, most)) off.0 (omega (arith, m)) off.1.1);
         size = length-set d.records f (given k);
       }
-    where
-      at_most : (b : Bool) → one_if b ≤ 1
-      at_most true = omega arith
-      at_most false = omega arith

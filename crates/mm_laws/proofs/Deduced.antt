@@ -1,34 +1,23 @@
 -- What follows of states that a log reaches.
-use Rattle.std.proofs.Common.{◌≡◌, ℕ, ◌+◌, ◌<◌, ◌≤◌, Bool, true, false, not, List, [], ◌∷◌, ◌++◌, length, Option, Some, None, refl, sym, ap, ◌∙◌, inl, inr, arith}
+use Rattle.std.proofs.Common.{◌≡◌, ℕ, ◌+◌, ◌≤◌, Bool, true, false, not, List, [], ◌∷◌, ◌++◌, length, Some, None, refl, sym, ap, ◌∙◌, inl, inr, arith}
 use Rattle.std.specs.Prelude.{◌&&◌, ◌||◌, is_some}
 use Rattle.std.proofs.lemmas.Bool.{and_parts, and_from, or_cases, or_left, or_right}
-use Rattle.mm_types.specs.declared.numbers.Frame.{Frame}
-use Rattle.mm_types.specs.declared.numbers.Key.{Key}
-use Rattle.mm_types.specs.declared.numbers.Place.{Place}
-use Rattle.mm_types.specs.declared.frames.Held.{Held}
-use Rattle.mm_types.specs.declared.frames.Held.TheVariants as held
-use Rattle.mm_types.specs.declared.moves.LineKind.{LineKind}
+use Rattle.mm_types.specs.{Key, LineKind, Move}
 use Rattle.mm_types.specs.declared.moves.LineKind.TheVariants as kind
 use Rattle.mm_types.specs.declared.moves.Stored.TheVariants as stored
-use Rattle.mm_types.specs.declared.moves.Move.{Move}
 use Rattle.mm_types.specs.declared.moves.Move.TheVariants as move
-use Rattle.mm_life.specs.Frames.{record_at, has_request, is_on, is_first, is_empty, without}
-use Rattle.mm_life.specs.Life.{FrameLife, set_of, unstarted}
-use Rattle.mm_life.specs.Legal.{IsLegal, is_access, is_call, is_thread, is_writer, has_depth, is_stored, owner_is, is_lowest, is_block, may_write_block}
-use Rattle.mm_life.specs.Effect.{after_move, after_at, dropped_at, after_unmap_at}
-use Rattle.mm_life.specs.Replay.{Replays}
-use Rattle.mm_laws.specs.Tally.{one_if}
+use Rattle.mm_life.specs.{record_at, has_request, is_on, is_first, is_empty, without, FrameLife, set_of, unstarted, IsLegal, is_access, is_call}
+use Rattle.mm_life.specs.{is_thread, is_writer, has_depth, is_stored, owner_is, is_lowest, is_block, may_write_block, after_move, after_at}
+use Rattle.mm_life.specs.{dropped_at, after_unmap_at, Replays, ResidentSet}
+use Rattle.mm_laws.specs.{one_if, is_file_key, block_held, may_begin}
 use Rattle.mm_laws.specs.Reached.{Reached}
-use Rattle.mm_laws.specs.PagingKeys.{is_file_key}
-use Rattle.mm_laws.specs.FileBlocks.{block_held}
-use Rattle.mm_laws.specs.Requests.{may_begin}
 use Rattle.mm_laws.specs.Sound.{Sound}
 use Rattle.mm_laws.proofs.Sound.{ended_few, begun_long}
 use Rattle.mm_laws.proofs.LineMoves.{at_depth}
 use Rattle.mm_laws.proofs.Kept.{replay_sound}
+use Rattle.mm_laws.proofs.Moved.{dropped_as, unmapped_as}
 use Rattle.mm_laws.proofs.Machines.{in_range}
 use Rattle.mm_laws.proofs.SetSizes.{share_within, places_most}
-use Rattle.mm_life.specs.declared.sets.ResidentSet.{ResidentSet}
 use Rattle.mm_life.proofs.Replays.{replays_then}
 use Rattle.mm_laws.proofs.FileKeys.{in_line, file_along}
 use Rattle.mm_laws.proofs.BlocksApart.{Apart, replay_apart, file_block_along}
@@ -57,16 +46,7 @@ share_most l reached small f =
 -- right after a line has begun
 begun_flight : (l : FrameLife) (n : ℕ) (k : LineKind) → length l.flight ≤ l.machine.depth → length (after_at l n k).flight ≤ (after_at l n k).machine.depth
 begun_flight l n (kind.Machine frames slots depth blocks) h = omega arith
-begun_flight l n (kind.Process pid min max) h = h
-begun_flight l n (kind.Unbind pid) h = h
-begun_flight l n (kind.Access pid) h = h
-begun_flight l n (kind.Thread pid) h = h
-begun_flight l n (kind.Trim pid) h = h
-begun_flight l n kind.Writer h = h
-begun_flight l n kind.Zeroer h = h
-begun_flight l n kind.Io h = h
-begun_flight l n kind.Call h = h
-begun_flight l n (kind.Grow count) h = h
+begun_flight l n _ h = h
 
 pub line_flight : (l : FrameLife) → Sound l → (n : ℕ) (k : LineKind) → IsLegal (move.At n k) l → length (after_move l (move.At n k)).flight ≤ (after_move l (move.At n k)).machine.depth
 line_flight l s n k h = begun_flight l n k (at_depth l s n k h)
@@ -74,27 +54,7 @@ line_flight l s n k h = begun_flight l n k (at_depth l s n k h)
 -- a move and the requests in flight
 at_flight : (l : FrameLife) (n : ℕ) (k : LineKind) → length (after_at l n k).flight ≤ length l.flight
 at_flight l n (kind.Machine frames slots depth blocks) = omega arith
-at_flight l n (kind.Process pid min max) = omega arith
-at_flight l n (kind.Unbind pid) = omega arith
-at_flight l n (kind.Access pid) = omega arith
-at_flight l n (kind.Thread pid) = omega arith
-at_flight l n (kind.Trim pid) = omega arith
-at_flight l n kind.Writer = omega arith
-at_flight l n kind.Zeroer = omega arith
-at_flight l n kind.Io = omega arith
-at_flight l n kind.Call = omega arith
-at_flight l n (kind.Grow count) = omega arith
-
-drop_flight : (h : Held) (l : FrameLife) (k : Key) → (dropped_at h l k).flight ≡ l.flight
-drop_flight (held.Frame f) l k = refl
-drop_flight (held.Slot t) l k = refl
-drop_flight (held.Block b) l k = refl
-drop_flight held.Zero l k = refl
-drop_flight held.Dead l k = refl
-
-unmap_flight : (o : Option Frame) (l : FrameLife) (p : Place) → (after_unmap_at o l p).flight ≡ l.flight
-unmap_flight None l p = refl
-unmap_flight (Some f) l p = refl
+at_flight l n _ = omega arith
 
 no_more : (l : FrameLife) (q : List ℕ) → length q ≤ length l.flight → length q ≤ length l.flight + one_if (may_begin l)
 no_more l q h = omega (arith, h)
@@ -142,22 +102,17 @@ module _ (l : FrameLife) where
 
 pub move_flight : (l : FrameLife) (x : Move) → IsLegal x l → length (after_move l x).flight ≤ length l.flight + one_if (may_begin l)
 move_flight l (move.At n k) h = no_more l (after_at l n k).flight (at_flight l n k)
-move_flight l (move.Add k None) h = no_more l l.flight (omega arith)
-move_flight l (move.Add k (Some b)) h = no_more l l.flight (omega arith)
-move_flight l (move.Drop k) h = no_more l (dropped_at (l.stands k) l k).flight (let e = ap (λ (q : List ℕ). length q) (drop_flight (l.stands k) l k) in omega (arith, e))
-move_flight l (move.Clear f) h = no_more l l.flight (omega arith)
-move_flight l (move.Steal f) h = no_more l l.flight (omega arith)
-move_flight l (move.Give f k) h = no_more l l.flight (omega arith)
+move_flight l (move.Drop k) h = no_more l (dropped_at (l.stands k) l k).flight (let e = ap (λ (m : FrameLife). length m.flight) (dropped_as (l.stands k) l k) in omega (arith, e))
 move_flight l (move.Read f k) h = one_more l f.0 (begins_read l f.0 k h)
 move_flight l (move.Got f) h = no_more l (without f.0 l.flight) (ended_few l.flight f.0)
 move_flight l (move.Bad f) h = no_more l (without f.0 l.flight) (ended_few l.flight f.0)
-move_flight l (move.Map f place) h = no_more l l.flight (omega arith)
-move_flight l (move.Unmap place) h = no_more l (after_unmap_at (l.valid place) l place).flight (let e = ap (λ (q : List ℕ). length q) (unmap_flight (l.valid place) l place) in omega (arith, e))
-move_flight l (move.Soil f) h = no_more l l.flight (omega arith)
+move_flight l (move.Unmap place) h = no_more l (after_unmap_at (l.valid place) l place).flight (let e = ap (λ (m : FrameLife). length m.flight) (unmapped_as (l.valid place) l place) in omega (arith, e))
 move_flight l (move.Write f (stored.Slot t)) h = one_more l f.0 (begins_slot l (is_on f.0 l.frames.modified && owner_is l.paging (record_at l.frames f.0) && is_lowest t.0 l.free_slots) h)
 move_flight l (move.Write f (stored.Block b)) h = one_more l f.0 (begins_block l ((record_at l.frames f.0).changed && is_some (record_at l.frames f.0).owner && not (has_request (record_at l.frames f.0).request) && is_block b.0 (record_at l.frames f.0).backing) f.0 h)
 move_flight l (move.Wrote f) h = no_more l (without f.0 l.flight) (ended_few l.flight f.0)
 move_flight l (move.Lost f) h = no_more l (without f.0 l.flight) (ended_few l.flight f.0)
+move_flight l (move.Add k None) h = no_more l l.flight (omega arith)
+move_flight l _ h = no_more l l.flight (omega arith)
 
 -- a file key stays
 pub file_key_stays : (l m : FrameLife) → Reached l → (moves : List Move) → Replays moves l m → (k : Key) → is_file_key l k ≡ true → is_file_key m k ≡ true

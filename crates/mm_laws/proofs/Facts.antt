@@ -3,27 +3,14 @@ use Rattle.std.proofs.Common.{◌≡◌, ◌≢◌, ℕ, ◌<◌, ◌≤◌, tru
 use Rattle.std.specs.Prelude.{slice_get}
 use Rattle.std.proofs.Math.Logic.{∥∥₁_elim, ∥∥₁_map}
 use Rattle.std.proofs.Props.{props}
-use Rattle.mm_types.specs.Machine.{limit_of}
-use Rattle.mm_types.specs.declared.numbers.Frame.{Frame}
-use Rattle.mm_types.specs.declared.numbers.Key.{Key}
+use Rattle.mm_types.specs.{limit_of, Frame, Key, Pid, Place, Vpn, Move}
 use Rattle.mm_types.specs.declared.numbers.Key.TheVariants.{Private}
-use Rattle.mm_types.specs.declared.numbers.Pid.{Pid}
-use Rattle.mm_types.specs.declared.numbers.Place.{Place}
-use Rattle.mm_types.specs.declared.numbers.Vpn.{Vpn}
 use Rattle.mm_types.specs.declared.frames.Held.TheVariants as held
-use Rattle.mm_types.specs.declared.moves.Move.{Move}
-use Rattle.mm_life.specs.declared.sets.ResidentSet.{ResidentSet}
-use Rattle.mm_life.specs.Frames.{record_at, slot_of, is_on, blank}
-use Rattle.mm_life.specs.Life.{FrameLife, set_of, same_key, is_shared, is_live}
-use Rattle.mm_life.specs.Legal.{IsLegal, is_access, is_call, fits_place}
-use Rattle.mm_life.specs.Effect.{after_move, slot_at}
+use Rattle.mm_life.specs.{ResidentSet, record_at, slot_of, is_on, blank, FrameLife, set_of, same_key, is_shared, is_live, IsLegal, is_access, is_call}
+use Rattle.mm_life.specs.{fits_place, after_move, slot_at}
 use Rattle.mm_laws.specs.Reached.{Reached}
 use Rattle.mm_laws.specs.Sound.{Sound}
-use Rattle.mm_laws.specs.Sights.{Stands}
-use Rattle.mm_laws.specs.Standing.{IsStandby, IsModified}
-use Rattle.mm_laws.specs.Holders.{Home, Behind}
-use Rattle.mm_laws.specs.PagingKeys.{is_home_for, is_backing_for}
-use Rattle.mm_laws.specs.FileBlocks.{block_held}
+use Rattle.mm_laws.specs.{Stands, IsStandby, IsModified, Home, Behind, is_home_for, is_backing_for, block_held}
 use Rattle.mm_laws.proofs.BlocksApart.{Apart}
 use Rattle.mm_laws.proofs.Deduced.{reached_sound, reached_next, share_most, blocks_apart}
 use Rattle.mm_laws.proofs.FromSound.{slot_there, slot_taken, some_keys, behind_one, behind_no_home, zeroed_bare, free_bare, standby_is, modified_is, place_shares, frame_there}

@@ -1,37 +1,23 @@
 -- What follows of one state from `Sound` alone.
-use Rattle.std.proofs.Common.{◌≡◌, ◌≢◌, ℕ, ◌<◌, ◌≤◌, Bool, true, false, not, List, [], ◌∷◌, length, Option, Some, None, refl, sym, ap, ◌∙◌, arith}
+use Rattle.std.proofs.Common.{◌≡◌, ◌≢◌, ℕ, ◌<◌, ◌≤◌, Bool, true, false, not, length, Option, Some, None, refl, sym, ap, ◌∙◌, arith}
 use Rattle.std.specs.Prelude.{◌&&◌, ◌==◌, is_some, slice_get, count_by}
 use Rattle.std.proofs.lemmas.Bool.{and_parts, or_left, not-true, lt-ltb, le-ltb, eqb-true}
-use Rattle.mm_types.proofs.Cells.{get_within}
-use Rattle.mm_types.specs.declared.numbers.Frame.{Frame}
-use Rattle.mm_types.specs.declared.numbers.Key.{Key}
+use Rattle.mm_types.specs.{Frame, Key, Pid, Vpn, Place, Block, Backing, Held}
 use Rattle.mm_types.specs.declared.numbers.Key.TheVariants.{Private}
-use Rattle.mm_types.specs.declared.numbers.Pid.{Pid}
-use Rattle.mm_types.specs.declared.numbers.Vpn.{Vpn}
-use Rattle.mm_types.specs.declared.numbers.Place.{Place}
-use Rattle.mm_types.specs.declared.numbers.Block.{Block}
-use Rattle.mm_types.specs.declared.frames.Backing.{Backing}
 use Rattle.mm_types.specs.declared.frames.Backing.TheVariants as backing
-use Rattle.mm_types.specs.declared.frames.Held.{Held}
 use Rattle.mm_types.specs.declared.frames.Held.TheVariants as held
-use Rattle.mm_life.specs.Frames.{blank, record_at, has_request, is_on, slot_of, is_idle}
-use Rattle.mm_life.specs.Life.{FrameLife, counts_of, is_live, is_dead, key_of_place, same_key}
-use Rattle.mm_laws.specs.Tally.{one_if, tally, times}
-use Rattle.mm_laws.specs.Standing.{standings, counted_frames, IsStandby, IsModified}
-use Rattle.mm_life.specs.Effect.{slot_at}
-use Rattle.mm_laws.specs.Holders.{Holder, Home, Behind, slot_held}
-use Rattle.mm_laws.specs.Places.{CountsPlaces}
-use Rattle.mm_laws.specs.PagingKeys.{CountsKeys, is_home_for, is_backing_for}
-use Rattle.mm_laws.specs.FileBlocks.{block_of}
-use Rattle.mm_laws.specs.Sights.{sight}
-use Rattle.mm_laws.specs.Sound.{Sound, frame}
-use Rattle.mm_laws.proofs.Tallies.{times_on}
+use Rattle.mm_life.specs.{blank, record_at, has_request, is_on, slot_of, is_idle, FrameLife, counts_of, is_live, is_dead, key_of_place, same_key}
+use Rattle.mm_life.specs.{slot_at}
+use Rattle.mm_laws.specs.{one_if, tally, times, standings, counted_frames, IsStandby, IsModified, Holder, Home, Behind, slot_held, holding}
+use Rattle.mm_laws.specs.{CountsPlaces, CountsKeys, is_home_for, is_backing_for, block_of, sight, frame}
+use Rattle.mm_laws.specs.Sound.{Sound}
+use Rattle.mm_laws.proofs.Tallies.{times_on, length-left}
 use Rattle.mm_laws.proofs.Sound.{some_owner}
-use Rattle.mm_laws.proofs.Sums.{one_most}
-use Rattle.mm_laws.proofs.Sights.{on_fresh, on_standby, on_modified, kept_inside}
+use Rattle.mm_laws.proofs.Sights.{on_fresh, on_standby, on_modified, kept_inside, three_fail}
 use Rattle.mm_laws.proofs.Taking.{idle_is}
 use Rattle.mm_laws.proofs.PlaceCounts.{has_shares}
 use Rattle.mm_laws.proofs.Totals.{stands_once, total, requests_total}
+use Rattle.mm_laws.proofs.SlotHolders.{held_low}
 
 module _ (l : FrameLife) (s : Sound l) where
   -- ---- frames
@@ -85,11 +71,7 @@ module _ (l : FrameLife) (s : Sound l) where
   slot_one t g h a b = let both : Some g ≡ Some h = sym (s.held.found g t a) ∙ s.held.found h t b in cc
 
   pub slot_there : (t : ℕ) (h : Holder) → slot_held l h ≡ Some t → t < l.machine.slots
-  slot_there t h e = at (slice_get l.free_slots t) refl
-    where
-      at : (o : Option Bool) → slice_get l.free_slots t ≡ o → t < l.machine.slots
-      at None g = let bad : None ≡ Some h = sym (s.held.past t g) ∙ s.held.found h t e in cc
-      at (Some b) g = let low = get_within l.free_slots t b g in let size = s.slotted in omega (arith, low, size)
+  slot_there t h e = let low = held_low l.free_slots (holding l.frames l.stands) s.held t h e in let size = s.slotted in omega (arith, low, size)
 
   -- a held slot is there and is not free
   pub slot_taken : (t : ℕ) (h : Holder) → slot_held l h ≡ Some t → slice_get l.free_slots t ≡ Some false
@@ -112,14 +94,8 @@ module _ (l : FrameLife) (s : Sound l) where
   pub one_frame : (k : Key) (f g : ℕ) → (record_at l.frames f).owner ≡ Some k → (record_at l.frames g).owner ≡ Some k → f ≡ g
   one_frame k f g a b =
       let both : held.Frame (frame f) ≡ held.Frame (frame g) = sym (s.owned.owned f k a) ∙ s.owned.owned g k b in
-      ap number both
-    where
-      number : Held → ℕ
-      number (held.Frame f) = f.0
-      number (held.Slot t) = 0
-      number (held.Block b) = 0
-      number held.Zero = 0
-      number held.Dead = 0
+      let same : frame f ≡ frame g = cc in
+      ap (λ (x : Frame). x.0) same
 
   pub owner_lives : (k : Key) (f : ℕ) → (record_at l.frames f).owner ≡ Some k → is_live l k ≡ true
   owner_lives k f e = ap (λ (h : Held). not (is_dead h)) (s.owned.owned f k e)
@@ -159,34 +135,26 @@ module _ (l : FrameLife) (s : Sound l) where
   keys_counted = record { keys = s.paged.keys; once = s.paged.once; count = s.paged.long }
 
   paged_lives : (b : Bool) (h : Held) → b ≡ true → is_home_for b h ≡ true → not (is_dead h) ≡ true
-  paged_lives b (held.Frame f) p e = refl
-  paged_lives b (held.Slot t) p e = refl
-  paged_lives b (held.Block c) p e = refl
-  paged_lives b held.Zero p e = refl
   paged_lives b held.Dead p e = let bad : not b ≡ false = ap not p in cc
+  paged_lives b _ p e = refl
 
   -- a page-file key lives
   pub paging_lives : (k : Key) → l.paging k ≡ true → is_live l k ≡ true
   paging_lives k e = paged_lives (l.paging k) (l.stands k) e (s.homed.home k)
 
-  tally_long : (test : Key → Bool) (xs : List Key) → tally test xs ≤ length xs
-  tally_long test [] = omega arith
-  tally_long test (x ∷ xs) = let a = tally_long test xs in let b = one_most (test x) in omega (arith, a, b)
-
   -- where there is a page-file key there is at least one
   pub some_keys : (k : Key) → l.paging k ≡ true → 1 ≤ l.paging_keys
   some_keys k e =
       let one : tally (same_key k) s.paged.keys ≡ 1 = s.paged.once k ∙ ap one_if e in
-      let most = tally_long (same_key k) s.paged.keys in
+      let most = length-left (same_key k) s.paged.keys in
       let long = s.paged.long in
       omega (arith, one, most, long)
 
   -- ---- backings
 
   file_on : (b : Bool) (x : Backing) → b ≡ false → is_backing_for b x ≡ true → (c : Block) × (x ≡ backing.Block c)
-  file_on b backing.None p e = let bad : false ≡ true = sym p ∙ e in cc
-  file_on b (backing.Slot t) p e = let bad : false ≡ true = sym p ∙ e in cc
   file_on b (backing.Block c) p e = (c, refl)
+  file_on b _ p e = let bad : false ≡ true = sym p ∙ e in cc
 
   paged_on : (b : Bool) (x : Backing) → b ≡ true → is_backing_for b x ≡ true → slot_of x ≡ None → x ≡ backing.None
   paged_on b backing.None p e n = refl
@@ -206,11 +174,6 @@ module _ (l : FrameLife) (s : Sound l) where
   ownerless_unblocked f o b e = let bad : None ≡ Some b.0 = sym ((s.standing f).fit.ownerless (ap is_some o)) ∙ ap block_of e in cc
 
 -- ---- a frame on the modified list
-
-three_fail : (a b c : Bool) → c ≡ false → one_if (a && (b && c)) ≡ 0
-three_fail true true c e = ap one_if e
-three_fail true false c e = refl
-three_fail false b c e = refl
 
 pub three_hold : (a b c : Bool) → a ≡ true → b ≡ true → c ≡ true → one_if (a && (b && c)) ≡ 1
 three_hold a b c x y z = ap (λ t. one_if (t && (b && c))) x ∙ (ap (λ t. one_if (t && c)) y ∙ ap one_if z)

@@ -3,26 +3,17 @@ use Rattle.std.proofs.Common.{◌≡◌, ◌≢◌, ℕ, zero, suc, ◌+◌, ◌
 use Rattle.std.specs.Prelude.{◌==◌, is_some, slice_get, slice_index_or, count_by, option_map, unwrap_or}
 use Rattle.std.specs.Cmp.{unsigned_Decides}
 use Rattle.std.proofs.lemmas.Bool.{eqb-true, or_left}
-use Rattle.mm_types.proofs.Cells.{get_within}
-use Rattle.mm_types.specs.declared.numbers.Key.{Key}
-use Rattle.mm_types.specs.declared.frames.Record.{Record}
-use Rattle.mm_types.specs.declared.frames.Held.{Held}
+use Rattle.mm_types.specs.{Key, Record, Held}
 use Rattle.mm_types.specs.declared.frames.Held.TheVariants as held
-use Rattle.mm_life.specs.Frames.{record_at, blank, slot_of, has_request}
-use Rattle.mm_life.specs.Life.{FrameLife, same_key}
-use Rattle.mm_life.specs.Legal.{is_zero}
-use Rattle.mm_life.specs.Effect.{slot_at}
-use Rattle.mm_laws.specs.Tally.{one_if, tally}
-use Rattle.mm_laws.specs.Sums.{sum_to}
-use Rattle.mm_laws.specs.Holders.{Holder, Home, Behind, slot_held}
-use Rattle.mm_laws.specs.PagingKeys.{is_home_for}
-use Rattle.mm_laws.specs.Fits.{is_kept}
-use Rattle.mm_laws.specs.Homes.{is_framed, is_slotted, has_paged, has_slot, CountsHomes}
+use Rattle.mm_life.specs.{record_at, blank, slot_of, has_request, FrameLife, same_key, is_zero, slot_at}
+use Rattle.mm_laws.specs.{one_if, tally, sum_to, Holder, Home, Behind, slot_held, holding, is_home_for, is_kept, is_framed, is_slotted, has_paged}
+use Rattle.mm_laws.specs.{has_slot, CountsHomes}
 use Rattle.mm_laws.specs.Sound.{Sound}
 use Rattle.mm_laws.proofs.Sums.{sum-same, sum-plus, sum-zeros, sum-swap, sum-inside, sum-cells, sum-tally, total-same, total-listed, total-plus, total-ones, total-tally}
 use Rattle.mm_laws.proofs.Sights.{kept_inside}
 use Rattle.mm_laws.proofs.Owners.{same_key-true, same_key-self}
-use Rattle.mm_types.proofs.Booleans.{not_true, one_only_if}
+use Rattle.mm_types.proofs.{not_true, one_only_if}
+use Rattle.mm_laws.proofs.SlotHolders.{held_low}
 
 -- ---- tallies of tests that agree
 
@@ -38,17 +29,11 @@ tally-none p (x ∷ xs) h = let a = tally-none p xs h in let b : one_if (p x) �
 
 abbrev pub in_frame : ℕ → Held → Bool
 in_frame f (held.Frame g) = g.0 == f
-in_frame f (held.Slot s) = false
-in_frame f (held.Block b) = false
-in_frame f held.Zero = false
-in_frame f held.Dead = false
+in_frame f _ = false
 
 abbrev pub in_slot : ℕ → Held → Bool
-in_slot s (held.Frame g) = false
 in_slot s (held.Slot t) = t.0 == s
-in_slot s (held.Block b) = false
-in_slot s held.Zero = false
-in_slot s held.Dead = false
+in_slot s _ = false
 
 abbrev pub is_slot : ℕ → Option ℕ → Bool
 is_slot s None = false
@@ -56,17 +41,11 @@ is_slot s (Some t) = t == s
 
 in_frame_is : (f : ℕ) (h : Held) → in_frame f h ≡ true → h ≡ held.Frame (record { 0 = f })
 in_frame_is f (held.Frame g) e = let n : g.0 ≡ f = eqb-true g.0 f e in λ i. held.Frame (record { 0 = n i })
-in_frame_is f (held.Slot s) e = cc
-in_frame_is f (held.Block b) e = cc
-in_frame_is f held.Zero e = cc
-in_frame_is f held.Dead e = cc
+in_frame_is f _ e = cc
 
 in_slot_at : (s : ℕ) (h : Held) → in_slot s h ≡ is_slot s (slot_at h)
 in_slot_at s (held.Frame g) = refl
-in_slot_at s (held.Slot t) = refl
-in_slot_at s (held.Block b) = refl
-in_slot_at s held.Zero = refl
-in_slot_at s held.Dead = refl
+in_slot_at s _ = refl
 
 is_slot_is : (s : ℕ) (o : Option ℕ) → is_slot s o ≡ true → o ≡ Some s
 is_slot_is s None e = cc
@@ -76,21 +55,16 @@ is_slot_self : (s : ℕ) (o : Option ℕ) → o ≡ Some s → is_slot s o ≡ t
 is_slot_self s o e = ap (is_slot s) e ∙ (unsigned_Decides s s).1 refl
 
 slot_paging : (b : Bool) (h : Held) (s : ℕ) → is_home_for b h ≡ true → slot_at h ≡ Some s → b ≡ true
-slot_paging b (held.Frame f) s i e = cc
 slot_paging b (held.Slot t) s i e = i
-slot_paging b (held.Block c) s i e = cc
-slot_paging b held.Zero s i e = cc
-slot_paging b held.Dead s i e = cc
+slot_paging b _ s i e = cc
 
 -- a page-file key stands in one of three ways
 three_ways : (b : Bool) (h : Held) → b ≡ true → is_home_for b h ≡ true → one_if (is_framed h) + one_if (is_slotted h) + one_if (is_zero h) ≡ 1
-three_ways b (held.Frame f) p i = refl
-three_ways b (held.Slot s) p i = refl
 three_ways true (held.Block c) p i = cc
 three_ways false (held.Block c) p i = cc
-three_ways b held.Zero p i = refl
 three_ways true held.Dead p i = cc
 three_ways false held.Dead p i = cc
+three_ways b _ p i = refl
 
 by_case : (p q : Bool) → (p ≡ true → q ≡ true) → (q ≡ true → p ≡ true) → p ≡ q
 by_case true q a b = sym (a refl)
@@ -142,10 +116,7 @@ module _ (l : FrameLife) (s : Sound l) where
     where
       at : (h : Held) → l.stands k ≡ h → sum_to (λ f. one_if (in_frame f h)) (length l.frames.records) ≡ one_if (is_framed h)
       at (held.Frame g) e = sum-inside g.0 (length l.frames.records) (kept_inside l.frames g.0 (or_left (is_some (record_at l.frames g.0).owner) (has_request (record_at l.frames g.0).request) (ap is_some (s.owned.owner k g e))))
-      at (held.Slot t) e = sum-zeros (length l.frames.records)
-      at (held.Block b) e = sum-zeros (length l.frames.records)
-      at held.Zero e = sum-zeros (length l.frames.records)
-      at held.Dead e = sum-zeros (length l.frames.records)
+      at _ e = sum-zeros (length l.frames.records)
 
   pub frames_counted : tally (λ k. is_framed (l.stands k)) s.paged.keys ≡ count_by (has_paged l) l.frames.records
   frames_counted =
@@ -210,21 +181,14 @@ module _ (l : FrameLife) (s : Sound l) where
 
   -- what is held is a slot that is there
   slot_low : (h : Holder) (t : ℕ) → slot_held l h ≡ Some t → t < length l.free_slots
-  slot_low h t e = at (slice_get l.free_slots t) refl
-    where
-      at : (o : Option Bool) → slice_get l.free_slots t ≡ o → t < length l.free_slots
-      at None g = let bad : None ≡ Some h = sym (s.held.past t g) ∙ s.held.found h t e in cc
-      at (Some b) g = get_within l.free_slots t b g
+  slot_low h t e = held_low l.free_slots (holding l.frames l.stands) s.held t h e
 
   keys_of : (k : Key) → sum_to (λ t. one_if (in_slot t (l.stands k))) (length l.free_slots) ≡ one_if (is_slotted (l.stands k))
   keys_of k = at (l.stands k) refl
     where
       at : (h : Held) → l.stands k ≡ h → sum_to (λ t. one_if (in_slot t h)) (length l.free_slots) ≡ one_if (is_slotted h)
-      at (held.Frame g) e = sum-zeros (length l.free_slots)
       at (held.Slot t) e = sum-inside t.0 (length l.free_slots) (slot_low (Home k) t.0 (ap slot_at e))
-      at (held.Block b) e = sum-zeros (length l.free_slots)
-      at held.Zero e = sum-zeros (length l.free_slots)
-      at held.Dead e = sum-zeros (length l.free_slots)
+      at _ e = sum-zeros (length l.free_slots)
 
   backs : (f : ℕ) → sum_to (λ t. one_if (is_slot t (slot_of (record_at l.frames f).backing))) (length l.free_slots) ≡ one_if (has_slot (record_at l.frames f))
   backs f = at (slot_of (record_at l.frames f).backing) refl

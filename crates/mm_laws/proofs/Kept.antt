@@ -1,18 +1,16 @@
 -- Each legal move keeps what holds, so that it holds of each state that a replay reaches.
-use Rattle.std.proofs.Common.{List, [], ◌∷◌, sym, subst}
-use Rattle.mm_types.specs.declared.moves.Move.{Move}
+use Rattle.std.proofs.Common.{List}
+use Rattle.mm_types.specs.{Move}
 use Rattle.mm_types.specs.declared.moves.Move.TheVariants as move
 use Rattle.mm_types.specs.declared.moves.Stored.TheVariants as stored
-use Rattle.mm_life.specs.Life.{FrameLife, unstarted}
-use Rattle.mm_life.specs.Legal.{IsLegal}
-use Rattle.mm_life.specs.Effect.{after_move}
-use Rattle.mm_life.specs.Replay.{Replays}
+use Rattle.mm_life.specs.{FrameLife, unstarted, IsLegal, after_move, Replays}
 use Rattle.mm_laws.specs.Sound.{Sound}
 use Rattle.mm_laws.proofs.LineMoves.{sound_unstarted, keeps_at}
 use Rattle.mm_laws.proofs.KeyMoves.{keeps_add, keeps_drop}
 use Rattle.mm_laws.proofs.FreshMoves.{keeps_clear, keeps_steal, keeps_give, keeps_read}
 use Rattle.mm_laws.proofs.Requests.{keeps_got, keeps_bad, keeps_wrote, keeps_lost}
 use Rattle.mm_laws.proofs.PlaceMoves.{keeps_map, keeps_unmap, keeps_soil, keeps_write_slot, keeps_write_block}
+use Rattle.mm_laws.proofs.Moved.{along}
 
 pub keeps : (x : Move) (l : FrameLife) → Sound l → IsLegal x l → Sound (after_move l x)
 keeps (move.At n k) l s h = keeps_at l s n k h
@@ -33,8 +31,7 @@ keeps (move.Wrote f) l s h = keeps_wrote l s f h
 keeps (move.Lost f) l s h = keeps_lost l s f h
 
 pub kept_along : (xs : List Move) (l m : FrameLife) → Sound l → Replays xs l m → Sound m
-kept_along [] l m s e = subst Sound (sym e) s
-kept_along (x ∷ xs) l m s r = kept_along xs (after_move l x) m (keeps x l s r.0) r.1
+kept_along xs l m s r = along Sound keeps xs l m s r
 
 pub replay_sound : (xs : List Move) (l : FrameLife) → Replays xs unstarted l → Sound l
 replay_sound xs l r = kept_along xs unstarted l sound_unstarted r

@@ -2,20 +2,11 @@
 use Rattle.std.proofs.Common.{◌≡◌, ◌≢◌, ℕ, ◌+◌, ◌-◌, Bool, true, false, not, List, ◌∷◌, Some, None, refl, sym, ap, ◌∙◌, inl, inr, arith}
 use Rattle.std.specs.Prelude.{filter}
 use Rattle.mm_types.proofs.Cells.{same_or_not}
-use Rattle.mm_types.specs.declared.numbers.Key.{Key}
-use Rattle.mm_types.specs.declared.frames.Record.{Record}
-use Rattle.mm_types.specs.declared.frames.Backing.{Backing}
+use Rattle.mm_types.specs.{Key, Record, Backing, Held}
 use Rattle.mm_types.specs.declared.frames.Backing.TheVariants as backing
-use Rattle.mm_types.specs.declared.frames.Held.{Held}
 use Rattle.mm_types.specs.declared.frames.Held.TheVariants as held
-use Rattle.mm_life.specs.Frames.{FrameTable, record_at, without_slot}
-use Rattle.mm_life.specs.Life.{same_key, changed, is_dead}
-use Rattle.mm_life.specs.Effect.{home_at}
-use Rattle.mm_laws.specs.Tally.{one_if, tally}
-use Rattle.mm_laws.specs.PagingKeys.{is_home_for, is_backing_for}
-use Rattle.mm_laws.specs.FileBlocks.{block_of}
-use Rattle.mm_laws.specs.Sights.{Sight}
-use Rattle.mm_laws.specs.Sound.{owner_at, Paged, Homed}
+use Rattle.mm_life.specs.{FrameTable, record_at, without_slot, same_key, changed, is_dead, home_at}
+use Rattle.mm_laws.specs.{one_if, tally, is_home_for, is_backing_for, block_of, Sight, owner_at, Paged, Homed}
 use Rattle.mm_laws.proofs.Tallies.{tally-without, length-left}
 use Rattle.mm_laws.proofs.Changes.{Changes}
 use Rattle.mm_laws.proofs.Owners.{same_key-true, key_or_not, changed_here, changed_else}
@@ -102,32 +93,26 @@ homed_flag paging d stands k b v h none m = record {
 
 -- a dead key is no page-file key
 pub dead_not_paging : (b : Bool) (h : Held) → is_dead h ≡ true → is_home_for b h ≡ true → b ≡ false
-dead_not_paging true (held.Frame f) e i = cc
-dead_not_paging true (held.Slot s) e i = cc
-dead_not_paging true (held.Block c) e i = cc
-dead_not_paging true held.Zero e i = cc
 dead_not_paging true held.Dead e i = sym i
 dead_not_paging false h e i = refl
+dead_not_paging true _ e i = cc
 
 pub backing_is_home : (b : Bool) (x : Backing) → is_backing_for b x ≡ true → is_home_for b (home_at x) ≡ true
-backing_is_home true backing.None e = refl
-backing_is_home true (backing.Slot s) e = refl
 backing_is_home true (backing.Block c) e = e
 backing_is_home false backing.None e = e
 backing_is_home false (backing.Slot s) e = e
 backing_is_home false (backing.Block c) e = refl
+backing_is_home true _ e = refl
 
 pub backing_kept : (b : Bool) (x : Backing) → is_backing_for b x ≡ true → is_backing_for b (without_slot x) ≡ true
-backing_kept true backing.None e = refl
-backing_kept true (backing.Slot s) e = refl
 backing_kept true (backing.Block c) e = e
 backing_kept false backing.None e = e
 backing_kept false (backing.Slot s) e = e
 backing_kept false (backing.Block c) e = refl
+backing_kept true _ e = refl
 
 -- a page-file page is on no block
 pub paged_unblocked : (b : Bool) (x : Backing) → b ≡ true → is_backing_for b x ≡ true → block_of x ≡ None
-paged_unblocked b backing.None p e = refl
-paged_unblocked b (backing.Slot s) p e = refl
 paged_unblocked true (backing.Block c) p e = cc
 paged_unblocked false (backing.Block c) p e = cc
+paged_unblocked b _ p e = refl

@@ -1,23 +1,14 @@
 -- `add` and `drop` keep what holds.
-use Rattle.std.proofs.Common.{◌≡◌, ◌≢◌, ℕ, Bool, true, false, cond, not, List, length, Option, Some, None, refl, sym, ap, ◌∙◌, subst, inr, arith, get_or-set_same, length-set}
-use Rattle.std.specs.Prelude.{◌&&◌, ◌||◌, is_some, nat_lt}
+use Rattle.std.proofs.Common.{◌≡◌, ◌≢◌, ℕ, Bool, true, false, cond, not, List, length, Option, Some, None, refl, sym, ap, ◌∙◌, subst, inr, arith, get_or-set_same, length-set, ◌+◌, ◌-◌, ◌≤◌}
+use Rattle.std.specs.Prelude.{is_some}
 use Rattle.std.proofs.lemmas.Bool.{and_parts, or_left, ltb-true, eqb-true}
-use Rattle.mm_types.specs.Machine.{limit_of}
-use Rattle.mm_types.specs.declared.numbers.Key.{Key}
-use Rattle.mm_types.specs.declared.numbers.Block.{Block}
-use Rattle.mm_types.specs.declared.frames.Record.{Record}
-use Rattle.mm_types.specs.declared.frames.Held.{Held}
+use Rattle.mm_types.specs.{limit_of, Key, Block, Record, Held}
 use Rattle.mm_types.specs.declared.frames.Held.TheVariants as held
 use Rattle.mm_types.specs.declared.moves.Move.TheVariants as move
-use Rattle.mm_life.specs.Frames.{FrameTable, record_at, blank, slot_of, with_record, off_lists, to_free, has_request, disowned}
-use Rattle.mm_life.specs.Life.{FrameLife, same_key, changed, is_dead, is_live, is_shared}
-use Rattle.mm_life.specs.Legal.{IsLegal, is_call, is_unbind, is_unmapped, may_copy}
-use Rattle.mm_life.specs.Effect.{after_move, after_add, dropped_at, unlisted, slot_at, freed}
-use Rattle.mm_laws.specs.Tally.{one_if, times}
-use Rattle.mm_laws.specs.Holders.{holding}
-use Rattle.mm_laws.specs.Fits.{is_kept}
-use Rattle.mm_laws.specs.Sights.{sight, Stand}
-use Rattle.mm_laws.specs.Sound.{frame, owner_at, Owned, SlotsHeld, Sound}
+use Rattle.mm_life.specs.{FrameTable, record_at, blank, slot_of, with_record, off_lists, to_free, has_request, disowned, FrameLife, same_key, changed}
+use Rattle.mm_life.specs.{is_dead, IsLegal, is_unmapped, after_move, after_add, dropped_at, unlisted, slot_at, freed}
+use Rattle.mm_laws.specs.{one_if, times, holding, is_kept, sight, Stand, frame, owner_at, Owned, SlotsHeld}
+use Rattle.mm_laws.specs.Sound.{Sound}
 use Rattle.mm_laws.proofs.Tallies.{times-without_same}
 use Rattle.mm_laws.proofs.Fits.{fit_disowned}
 use Rattle.mm_laws.proofs.Sights.{kept_inside, kept_not_fresh, stand_orphan, other-record, other-off, own-record}
@@ -27,20 +18,15 @@ use Rattle.mm_laws.proofs.SlotHolders.{slots_moved, slots_dropped, slots_rehomed
 use Rattle.mm_laws.proofs.PlaceCounts.{shown_same}
 use Rattle.mm_laws.proofs.KeyCounts.{homed_frame, homed_key, homed_flag, dead_not_paging, paged_add, paged_drop, paged_unblocked}
 use Rattle.mm_laws.proofs.Requests.{requested, length-freed}
+use Rattle.mm_laws.proofs.Parts.{three_parts}
 
 dead_no_frame : (h : Held) → is_dead h ≡ true → is_frame_of h ≡ false
 dead_no_frame (held.Frame f) e = cc
-dead_no_frame (held.Slot s) e = refl
-dead_no_frame (held.Block b) e = refl
-dead_no_frame held.Zero e = refl
-dead_no_frame held.Dead e = refl
+dead_no_frame _ e = refl
 
 dead_no_slot : (h : Held) → is_dead h ≡ true → slot_at h ≡ None
-dead_no_slot (held.Frame f) e = refl
 dead_no_slot (held.Slot s) e = cc
-dead_no_slot (held.Block b) e = refl
-dead_no_slot held.Zero e = refl
-dead_no_slot held.Dead e = refl
+dead_no_slot _ e = refl
 
 pub dead_is : (h : Held) → not (not (is_dead h)) ≡ true → is_dead h ≡ true
 dead_is h e = at (is_dead h) e
@@ -57,43 +43,28 @@ module _ (l : FrameLife) (s : Sound l) where
   -- ---- `add`
   keeps_add_zero : (k : Key) → IsLegal (move.Add k None) l → Sound (after_add l k None)
   keeps_add_zero k h =
-      let p2 = and_parts (not (is_live l k) && nat_lt l.paging_keys (limit_of l.machine)) (is_call l.kind || may_copy l k) h in
-      let p1 = and_parts (not (is_live l k)) (nat_lt l.paging_keys (limit_of l.machine)) p2.0 in
-      let dead = dead_is (l.stands k) p1.0 in
-      let room = ltb-true l.paging_keys (limit_of l.machine) p1.1 in
+      let parts = three_parts _ _ _ h in
+      let dead = dead_is (l.stands k) parts.0 in
+      let room = ltb-true l.paging_keys (limit_of l.machine) parts.1 in
       let out = dead_no_frame (l.stands k) dead in
-      record {
-        standing = s.standing;
-        owned = owned_rehomed l.frames l.stands k held.Zero out refl s.owned;
-        held = slots_rehomed l.frames l.free_slots l.stands k held.Zero (sym (dead_no_slot (l.stands k) dead)) s.held;
-        shown = s.shown;
-        paged = paged_add l.paging l.paging_keys k (dead_not_paging (l.paging k) (l.stands k) dead (s.homed.home k)) s.paged;
-        homed = homed_flag l.paging l.frames l.stands k true held.Zero refl (no_frame_owns l.frames l.stands k s.owned out) s.homed;
-        limited = omega (arith, room);
-        few = s.few;
-        framed = s.framed;
-        slotted = s.slotted;
-      }
+      let limited : l.paging_keys + 1 ≤ limit_of l.machine = omega (arith, room) in
+      assumption (
+        owned_rehomed l.frames l.stands k held.Zero out refl s.owned,
+        slots_rehomed l.frames l.free_slots l.stands k held.Zero (sym (dead_no_slot (l.stands k) dead)) s.held,
+        paged_add l.paging l.paging_keys k (dead_not_paging (l.paging k) (l.stands k) dead (s.homed.home k)) s.paged,
+        homed_flag l.paging l.frames l.stands k true held.Zero refl (no_frame_owns l.frames l.stands k s.owned out) s.homed,
+        limited,
+      )
 
   keeps_add_block : (k : Key) (b : Block) → IsLegal (move.Add k (Some b)) l → Sound (after_add l k (Some b))
   keeps_add_block k b h =
-      let p4 = and_parts (is_call l.kind && is_shared k && not (is_live l k) && nat_lt b.0 l.machine.blocks) (not (l.added b.0)) h in
-      let p3 = and_parts (is_call l.kind && is_shared k && not (is_live l k)) (nat_lt b.0 l.machine.blocks) p4.0 in
-      let p2 = and_parts (is_call l.kind && is_shared k) (not (is_live l k)) p3.0 in
-      let dead = dead_is (l.stands k) p2.1 in
+      let dead = dead_is (l.stands k) (and_parts _ _ (and_parts _ _ (and_parts _ _ h).0).0).1 in
       let out = dead_no_frame (l.stands k) dead in
-      record {
-        standing = s.standing;
-        owned = owned_rehomed l.frames l.stands k (held.Block b) out refl s.owned;
-        held = slots_rehomed l.frames l.free_slots l.stands k (held.Block b) (sym (dead_no_slot (l.stands k) dead)) s.held;
-        shown = s.shown;
-        paged = s.paged;
-        homed = homed_key l.paging l.frames l.stands k (held.Block b) (ap not (dead_not_paging (l.paging k) (l.stands k) dead (s.homed.home k))) s.homed;
-        limited = s.limited;
-        few = s.few;
-        framed = s.framed;
-        slotted = s.slotted;
-      }
+      assumption (
+        owned_rehomed l.frames l.stands k (held.Block b) out refl s.owned,
+        slots_rehomed l.frames l.free_slots l.stands k (held.Block b) (sym (dead_no_slot (l.stands k) dead)) s.held,
+        homed_key l.paging l.frames l.stands k (held.Block b) (ap not (dead_not_paging (l.paging k) (l.stands k) dead (s.homed.home k))) s.homed,
+      )
 
   pub keeps_add : (k : Key) (b : Option Block) → IsLegal (move.Add k b) l → Sound (after_move l (move.Add k b))
   keeps_add k None h = keeps_add_zero k h
@@ -102,18 +73,16 @@ module _ (l : FrameLife) (s : Sound l) where
   -- ---- `drop`
   -- a key without a frame
   drops_home : (k : Key) → l.paging k ≡ true → is_frame_of (l.stands k) ≡ false → Sound (record (unlisted l k) { free_slots = freed l.free_slots (slot_at (l.stands k)) })
-  drops_home k paging out = record {
-    standing = s.standing;
-    owned = owned_rehomed l.frames l.stands k held.Dead out refl s.owned;
-    held = slots_homeless l.frames l.free_slots l.stands k held.Dead refl s.held;
-    shown = s.shown;
-    paged = paged_drop l.paging l.paging_keys k paging s.paged;
-    homed = homed_flag l.paging l.frames l.stands k false held.Dead refl (no_frame_owns l.frames l.stands k s.owned out) s.homed;
-    limited = let h = s.limited in omega (arith, h);
-    few = s.few;
-    framed = s.framed;
-    slotted = length-freed l.free_slots (slot_at (l.stands k)) ∙ s.slotted;
-  }
+  drops_home k paging out =
+      let limited : l.paging_keys - 1 ≤ limit_of l.machine = let h = s.limited in omega (arith, h) in
+      assumption (
+        owned_rehomed l.frames l.stands k held.Dead out refl s.owned,
+        slots_homeless l.frames l.free_slots l.stands k held.Dead refl s.held,
+        paged_drop l.paging l.paging_keys k paging s.paged,
+        homed_flag l.paging l.frames l.stands k false held.Dead refl (no_frame_owns l.frames l.stands k s.owned out) s.homed,
+        limited,
+        length-freed l.free_slots (slot_at (l.stands k)) ∙ s.slotted,
+      )
 
   -- what is left of a frame whose key is dropped
   module _ (k : Key) (f : ℕ) (paging : l.paging k ≡ true) (at : l.stands k ≡ held.Frame (frame f)) (unshared : (record_at l.frames f).shares ≡ 0) where
@@ -185,12 +154,8 @@ module _ (l : FrameLife) (s : Sound l) where
 
   pub keeps_drop : (k : Key) → IsLegal (move.Drop k) l → Sound (after_move l (move.Drop k))
   keeps_drop k h =
-      let p2 = and_parts ((is_call l.kind || is_unbind l.kind) && l.paging k) (is_unmapped l (l.stands k)) h in
-      let p1 = and_parts (is_call l.kind || is_unbind l.kind) (l.paging k) p2.0 in
+      let parts = three_parts _ _ _ h in
       elim (l.stands k) as (λ x. l.stands k ≡ x → is_unmapped l x ≡ true → Sound (dropped_at x l k)) [
-        | held.Frame f ↦ λ e u. drops_at k f.0 p1.1 e (eqb-true (record_at l.frames f.0).shares 0 u)
-        | held.Slot t ↦ λ e u. subst (λ (o : Option ℕ). Sound (record (unlisted l k) { free_slots = freed l.free_slots o })) (ap slot_at e) (drops_home k p1.1 (ap is_frame_of e))
-        | held.Block b ↦ λ e u. subst (λ (o : Option ℕ). Sound (record (unlisted l k) { free_slots = freed l.free_slots o })) (ap slot_at e) (drops_home k p1.1 (ap is_frame_of e))
-        | held.Zero ↦ λ e u. subst (λ (o : Option ℕ). Sound (record (unlisted l k) { free_slots = freed l.free_slots o })) (ap slot_at e) (drops_home k p1.1 (ap is_frame_of e))
-        | held.Dead ↦ λ e u. subst (λ (o : Option ℕ). Sound (record (unlisted l k) { free_slots = freed l.free_slots o })) (ap slot_at e) (drops_home k p1.1 (ap is_frame_of e))
-      ] refl p2.1
+        | held.Frame f ↦ λ e u. drops_at k f.0 parts.1 e (eqb-true (record_at l.frames f.0).shares 0 u)
+        | _ ↦ λ e u. subst (λ (o : Option ℕ). Sound (record (unlisted l k) { free_slots = freed l.free_slots o })) (ap slot_at e) (drops_home k parts.1 (ap is_frame_of e))
+      ] refl parts.2

@@ -1,27 +1,20 @@
 -- `at` keeps what holds, and it holds right after the line of the machine.
 use Rattle.std.proofs.Common.{◌≡◌, ◌⊎◌, ℕ, zero, suc, ◌+◌, ◌≤◌, Bool, true, not, List, [], ◌∷◌, ◌++◌, length, Option, Some, None, refl, sym, ap, ◌∙◌, inl, inr, arith, length-append}
-use Rattle.std.specs.Prelude.{◌==◌, ◌&&◌, is_some, nat_lt, nat_le, replicate, slice_get}
-use Rattle.std.proofs.lemmas.Bool.{and_parts, leb-true, le-ltb}
+use Rattle.std.specs.Prelude.{is_some, nat_lt, replicate, slice_get}
+use Rattle.std.proofs.lemmas.Bool.{leb-true, le-ltb}
 use Rattle.std.proofs.lemmas.List.{length-replicate}
-use Rattle.mm_types.specs.Machine.{MachineOf}
-use Rattle.mm_types.specs.declared.frames.Record.{Record}
+use Rattle.mm_types.specs.{MachineOf, limit_of, Record, LineKind}
 use Rattle.mm_types.specs.declared.frames.Held.TheVariants as held
-use Rattle.mm_types.specs.declared.moves.LineKind.{LineKind}
 use Rattle.mm_types.specs.declared.moves.LineKind.TheVariants as kind
 use Rattle.mm_types.specs.declared.moves.Move.TheVariants as move
-use Rattle.mm_life.specs.Frames.{blank, slot_of}
-use Rattle.mm_life.specs.Life.{FrameLife, life_at, free_table, set_in, unstarted, no_machine}
-use Rattle.mm_life.specs.Legal.{IsLegal, is_legal_kind}
-use Rattle.mm_life.specs.Effect.{after_move, after_at}
-use Rattle.mm_laws.specs.Tally.{one_if}
-use Rattle.mm_laws.specs.Holders.{Holder, Home, Behind, holding}
-use Rattle.mm_laws.specs.Places.{residents}
-use Rattle.mm_laws.specs.Sights.{sight, Stands}
-use Rattle.mm_laws.specs.Sound.{SlotsHeld, Sound}
+use Rattle.mm_life.specs.{blank, slot_of, FrameLife, life_at, free_table, set_in, unstarted, no_machine, IsLegal, after_move, after_at}
+use Rattle.mm_laws.specs.{one_if, Holder, Home, Behind, holding, residents, sight, Stands, SlotsHeld}
+use Rattle.mm_laws.specs.Sound.{Sound}
 use Rattle.mm_laws.proofs.Tallies.{times-numbers}
 use Rattle.mm_laws.proofs.Sights.{stand_blank}
 use Rattle.mm_laws.proofs.PlaceCounts.{shown_process}
 use Rattle.mm_life.proofs.Start.{record_at_start}
+use Rattle.mm_laws.proofs.Parts.{three_parts}
 
 -- ---- right after line 1
 
@@ -110,58 +103,19 @@ slots_grown free n held_by s = record {
 module _ (l : FrameLife) (s : Sound l) where
   -- a line that changes nothing but the line
   lines : (n : ℕ) (k : LineKind) → length l.flight ≤ l.machine.depth → Sound (record l { line = n; kind = k })
-  lines n k depth = record {
-    standing = s.standing;
-    owned = s.owned;
-    held = s.held;
-    shown = s.shown;
-    paged = s.paged;
-    homed = s.homed;
-    limited = s.limited;
-    few = λ a b. depth;
-    framed = s.framed;
-    slotted = s.slotted;
-  }
+  lines n k depth = assumption
 
   starts : (n : ℕ) (k : LineKind) → length l.flight ≤ l.machine.depth → Sound (after_at l n k)
   starts n (kind.Machine frames slots depth blocks) h = sound_at (record { frames = frames; slots = slots; depth = depth; blocks = blocks }) n (kind.Machine frames slots depth blocks)
-  starts n (kind.Process pid min max) h = record {
-    standing = s.standing;
-    owned = s.owned;
-    held = s.held;
-    shown = shown_process l.valid l.frames l.sets (record { min = min; max = max; resident = 0 }) refl s.shown;
-    paged = s.paged;
-    homed = s.homed;
-    limited = s.limited;
-    few = λ a b. h;
-    framed = s.framed;
-    slotted = s.slotted;
-  }
-  starts n (kind.Unbind pid) h = lines n (kind.Unbind pid) h
-  starts n (kind.Access pid) h = lines n (kind.Access pid) h
-  starts n (kind.Thread pid) h = lines n (kind.Thread pid) h
-  starts n (kind.Trim pid) h = lines n (kind.Trim pid) h
-  starts n kind.Writer h = lines n kind.Writer h
-  starts n kind.Zeroer h = lines n kind.Zeroer h
-  starts n kind.Io h = lines n kind.Io h
-  starts n kind.Call h = lines n kind.Call h
-  starts n (kind.Grow count) h = record {
-    standing = s.standing;
-    owned = s.owned;
-    held = slots_grown l.free_slots count (holding l.frames l.stands) s.held;
-    shown = s.shown;
-    paged = s.paged;
-    homed = s.homed;
-    limited = let e = s.limited in omega (arith, e);
-    few = λ a b. h;
-    framed = s.framed;
-    slotted = let e = s.slotted in omega (arith, e, length-append l.free_slots (replicate count true), length-replicate {A = Bool} count true);
-  }
+  starts n (kind.Process pid min max) h = assumption (shown_process l.valid l.frames l.sets (record { min = min; max = max; resident = 0 }) refl s.shown)
+  starts n (kind.Grow count) h =
+      let limited : l.paging_keys ≤ limit_of (record l.machine { slots = l.machine.slots + count }) = let e = s.limited in omega (arith, e) in
+      let slotted : length (l.free_slots ++ replicate count true) ≡ l.machine.slots + count = let e = s.slotted in omega (arith, e, length-append l.free_slots (replicate count true), length-replicate {A = Bool} count true) in
+      assumption (slots_grown l.free_slots count (holding l.frames l.stands) s.held, limited, slotted)
+  starts n kd h = lines n kd h
 
   pub at_depth : (n : ℕ) (k : LineKind) → IsLegal (move.At n k) l → length l.flight ≤ l.machine.depth
-  at_depth n k h =
-      let p = and_parts ((n == l.line + 1) && nat_le (length l.flight) l.machine.depth) (is_legal_kind l k) h in
-      leb-true (length l.flight) l.machine.depth (and_parts (n == l.line + 1) (nat_le (length l.flight) l.machine.depth) p.0).1
+  at_depth n k h = leb-true (length l.flight) l.machine.depth (three_parts _ _ _ h).1
 
   pub keeps_at : (n : ℕ) (k : LineKind) → IsLegal (move.At n k) l → Sound (after_move l (move.At n k))
   keeps_at n k h = starts n k (at_depth n k h)

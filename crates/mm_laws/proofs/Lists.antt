@@ -2,8 +2,8 @@
 use Rattle.std.proofs.Common.{◌≡◌, ℕ, zero, suc, ◌+◌, Bool, true, false, cond, not, List, [], ◌∷◌, ◌++◌, Some, refl, sym, ap, ◌∙◌, arith}
 use Rattle.std.specs.Prelude.{◌==◌, slice_get, slice_set, slice_index_or}
 use Rattle.std.specs.Cmp.{unsigned_Decides}
-use Rattle.mm_life.specs.Frames.{without}
-use Rattle.mm_laws.specs.Tally.{one_if, times}
+use Rattle.mm_life.specs.{without}
+use Rattle.mm_laws.specs.{one_if, times}
 
 -- a number that is not on the list
 pub without_none : (f : ℕ) (xs : List ℕ) → times f xs ≡ 0 → without f xs ≡ xs

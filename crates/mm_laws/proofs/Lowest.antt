@@ -4,9 +4,8 @@ use Rattle.std.specs.Prelude.{nat_lt, slice_get, slice_set, count_by}
 use Rattle.std.specs.List.{list_any}
 use Rattle.std.proofs.lemmas.List.Sums.{sum_by-cons}
 use Rattle.std.proofs.lemmas.Bool.{and_parts, and_from, lt-ltb, ltb-false}
-use Rattle.mm_life.specs.Legal.{is_lowest}
-use Rattle.mm_laws.specs.Tally.{one_if}
-use Rattle.mm_laws.specs.Lowest.{IsLowest}
+use Rattle.mm_life.specs.{is_lowest}
+use Rattle.mm_laws.specs.{one_if, IsLowest}
 
 pub lowest_free : (s : ℕ) (free : List Bool) → is_lowest s free ≡ true → slice_get free s ≡ Some true
 lowest_free s [] e = cc

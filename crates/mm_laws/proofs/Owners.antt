@@ -3,18 +3,11 @@ use Rattle.std.proofs.Common.{◌≡◌, ◌≢◌, ◌⊎◌, ℕ, Bool, true, 
 use Rattle.std.specs.Prelude.{◌==◌}
 use Rattle.std.proofs.lemmas.Bool.{eqb-true, eq-eqb, and_parts, and_from}
 use Rattle.mm_types.proofs.Cells.{same_or_not}
-use Rattle.mm_types.specs.declared.numbers.Pid.{Pid}
-use Rattle.mm_types.specs.declared.numbers.Vpn.{Vpn}
-use Rattle.mm_types.specs.declared.numbers.Area.{Area}
-use Rattle.mm_types.specs.declared.numbers.Key.{Key}
+use Rattle.mm_types.specs.{Pid, Vpn, Area, Key, Record, Held, Frame}
 use Rattle.mm_types.specs.declared.numbers.Key.TheVariants.{Private, Shared}
-use Rattle.mm_types.specs.declared.frames.Record.{Record}
-use Rattle.mm_types.specs.declared.frames.Held.{Held}
 use Rattle.mm_types.specs.declared.frames.Held.TheVariants as held
-use Rattle.mm_life.specs.Frames.{FrameTable}
-use Rattle.mm_life.specs.Life.{same_key, changed}
-use Rattle.mm_laws.specs.Sights.{Sight}
-use Rattle.mm_laws.specs.Sound.{frame, owner_at, Owned}
+use Rattle.mm_life.specs.{FrameTable, same_key, changed}
+use Rattle.mm_laws.specs.{Sight, frame, owner_at, Owned}
 use Rattle.mm_laws.proofs.Changes.{Changes}
 
 -- ---- keys
@@ -65,10 +58,7 @@ changed_else f k q v n = elim (key_or_not q k) [
 
 abbrev pub is_frame_of : Held → Bool
 is_frame_of (held.Frame f) = true
-is_frame_of (held.Slot s) = false
-is_frame_of (held.Block b) = false
-is_frame_of held.Zero = false
-is_frame_of held.Dead = false
+is_frame_of _ = false
 
 module _ (d d' : FrameTable) (q q' : List ℕ) (f : ℕ) (r : Record) (c : Changes d d' q q' f r) (stands : Key → Held) (o : Owned d stands) where
   owner_else : (g : ℕ) → g ≢ f → owner_at d' g ≡ owner_at d g
@@ -101,7 +91,7 @@ module _ (d d' : FrameTable) (q q' : List ℕ) (f : ℕ) (r : Record) (c : Chang
     owner = λ x g h. elim (key_or_not x k) [
       | inl s ↦
           let at : held.Frame (frame f) ≡ held.Frame g = sym (changed_here stands k _) ∙ (ap (changed same_key stands k (held.Frame (frame f))) (sym s.0) ∙ h) in
-          let there : f ≡ g.0 = ap number_of at in
+          let there : f ≡ g.0 = cc in
           subst (λ (m : ℕ). owner_at d' m ≡ Some x) there (owner_here ∙ (e ∙ ap (λ (y : Key). Some y) (sym s.0)))
       | inr n ↦
           let old = o.owner x g (sym (changed_else stands k x _ n.0) ∙ h) in
@@ -111,13 +101,6 @@ module _ (d d' : FrameTable) (q q' : List ℕ) (f : ℕ) (r : Record) (c : Chang
           ]
     ];
   }
-    where
-      number_of : Held → ℕ
-      number_of (held.Frame f) = f.0
-      number_of (held.Slot s) = 0
-      number_of (held.Block b) = 0
-      number_of held.Zero = 0
-      number_of held.Dead = 0
 
   -- a key leaves its frame
   pub owned_leave : (k : Key) (h : Held) → r.owner ≡ None → owner_at d f ≡ Some k → is_frame_of h ≡ false → Owned d' (changed same_key stands k h)
@@ -129,7 +112,7 @@ module _ (d d' : FrameTable) (q q' : List ℕ) (f : ℕ) (r : Record) (c : Chang
           changed_else stands k x _ (λ s.
           let mine = o.owned f k was in
           let both : held.Frame (frame f) ≡ held.Frame (frame g) = sym mine ∙ (ap stands (sym s) ∙ old) in
-          n (let there : f ≡ g = ap (λ (z : Held). number_of z) both in sym there)) ∙ old
+          n (let there : frame f ≡ frame g = cc in sym (ap (λ (x : Frame). x.0) there))) ∙ old
     ];
     owner = λ x g h. elim (key_or_not x k) [
       | inl s ↦
@@ -143,13 +126,6 @@ module _ (d d' : FrameTable) (q q' : List ℕ) (f : ℕ) (r : Record) (c : Chang
           ]
     ];
   }
-    where
-      number_of : Held → ℕ
-      number_of (held.Frame f) = f.0
-      number_of (held.Slot s) = 0
-      number_of (held.Block b) = 0
-      number_of held.Zero = 0
-      number_of held.Dead = 0
 
 -- a key without a frame stands elsewhere
 pub owned_rehomed : (d : FrameTable) (stands : Key → Held) (k : Key) (h : Held) → is_frame_of (stands k) ≡ false → is_frame_of h ≡ false → Owned d stands → Owned d (changed same_key stands k h)

@@ -5,18 +5,9 @@ use Rattle.std.specs.Cmp.{unsigned_Decides}
 use Rattle.std.proofs.lemmas.Bool.{eqb-true, eq-eqb, and_parts, and_from}
 use Rattle.mm_types.proofs.Cells.{same_or_not}
 use Rattle.mm_types.proofs.Tables.{differ}
-use Rattle.mm_types.specs.declared.numbers.Frame.{Frame}
-use Rattle.mm_types.specs.declared.numbers.Key.{Key}
-use Rattle.mm_types.specs.declared.numbers.Place.{Place}
-use Rattle.mm_types.specs.declared.frames.Record.{Record}
-use Rattle.mm_life.specs.declared.sets.ResidentSet.{ResidentSet}
-use Rattle.mm_life.specs.Frames.{FrameTable, record_at}
-use Rattle.mm_life.specs.Life.{same_place, changed, set_in, with_resident}
-use Rattle.mm_life.specs.Legal.{fits_place}
-use Rattle.mm_laws.specs.Tally.{one_if, tally}
-use Rattle.mm_laws.specs.Places.{is_frame, is_of, residents}
-use Rattle.mm_laws.specs.Sights.{Sight}
-use Rattle.mm_laws.specs.Sound.{Shown}
+use Rattle.mm_types.specs.{Frame, Key, Place, Record}
+use Rattle.mm_life.specs.{ResidentSet, FrameTable, record_at, same_place, changed, set_in, with_resident, fits_place}
+use Rattle.mm_laws.specs.{one_if, tally, is_frame, is_of, residents, Sight, Shown}
 use Rattle.mm_laws.proofs.Tallies.{tally-but, tally-without, tally-more}
 use Rattle.mm_laws.proofs.Changes.{Changes}
 use Rattle.mm_laws.proofs.Owners.{pid}
@@ -51,6 +42,13 @@ place_else f p q v n = ap (λ b. cond b v (f q)) (place_differs q p n)
 
 -- ---- what is kept of them
 
+-- numbers that change at one place
+at_one : (change : ℕ → ℕ → ℕ) → ((n : ℕ) → n ≡ change 0 n) → (f : ℕ) (old new : ℕ → ℕ) → new f ≡ change 1 (old f) → ((g : ℕ) → g ≢ f → new g ≡ old g) → (g : ℕ) → new g ≡ change (one_if (f == g)) (old g)
+at_one change none f old new here else g = elim (same_or_not g f) [
+  | inl z ↦ subst (λ (k : ℕ). new k ≡ change (one_if (f == k)) (old k)) (sym z) (here ∙ ap (λ b. change (one_if b) (old f)) (sym ((unsigned_Decides f f).1 refl)))
+  | inr n ↦ else g n ∙ none (old g) ∙ ap (λ b. change (one_if b) (old g)) (sym (differ f g (λ z. n (sym z))))
+]
+
 -- a valid place's frame has shares
 pub has_shares : (valid : Place → Option Frame) (d : FrameTable) (sets : List ResidentSet) → Shown valid d sets → (p : Place) (f : Frame) → valid p ≡ Some f → 1 ≤ (record_at d f.0).shares
 has_shares valid d sets s p f e =
@@ -73,6 +71,12 @@ module _ (d d' : FrameTable) (q q' : List ℕ) (f : ℕ) (r : Record) (c : Chang
 
   owner_here : (record_at d' f).owner ≡ r.owner
   owner_here = ap (λ (x : Record). x.owner) c.here
+
+  owner_as : r.owner ≡ (record_at d f).owner → (g : ℕ) → (record_at d' g).owner ≡ (record_at d g).owner
+  owner_as same g = elim (same_or_not g f) [
+    | inl z ↦ ap (λ (m : ℕ). (record_at d' m).owner) z ∙ (owner_here ∙ (same ∙ ap (λ (m : ℕ). (record_at d m).owner) (sym z)))
+    | inr n ↦ owner_else g n
+  ]
 
   -- the shares stay, and the owner where there are any
   pub shown_same : r.shares ≡ (record_at d f).shares → (r.owner ≡ (record_at d f).owner) ⊎ ((record_at d f).shares ≡ 0) → Shown valid d' sets
@@ -106,12 +110,6 @@ module _ (d d' : FrameTable) (q q' : List ℕ) (f : ℕ) (r : Record) (c : Chang
     abbrev sets_now : List ResidentSet
     sets_now = with_resident sets p.pid.0 (λ n. n + 1)
 
-    owner_same : (g : ℕ) → (record_at d' g).owner ≡ (record_at d g).owner
-    owner_same g = elim (same_or_not g f) [
-      | inl z ↦ ap (λ (m : ℕ). (record_at d' m).owner) z ∙ (owner_here ∙ (owner ∙ ap (λ (m : ℕ). (record_at d m).owner) (sym z)))
-      | inr n ↦ owner_else g n
-    ]
-
     absent : tally (same_place p) s.places ≡ 0
     absent = s.once p ∙ ap (λ o. one_if (is_some o)) out
 
@@ -119,30 +117,13 @@ module _ (d d' : FrameTable) (q q' : List ℕ) (f : ℕ) (r : Record) (c : Chang
     counted g = tally-but (same_place p) (λ x. is_frame g (valid_now x)) (λ x. is_frame g (valid x)) s.places absent
         (λ x n. ap (is_frame g) (place_else valid p x _ (λ z. let t : same_place p x ≡ true = ap (same_place p) z ∙ same_place-self p in cc)))
 
-    shares_now : (g : ℕ) → one_if (f == g) + (record_at d g).shares ≡ (record_at d' g).shares
-    shares_now g = elim (same_or_not g f) [
-      | inl z ↦
-          let one : one_if (f == g) ≡ 1 = ap one_if ((unsigned_Decides f g).1 (sym z)) in
-          let now : (record_at d' g).shares ≡ (record_at d g).shares + 1 = ap (λ (m : ℕ). (record_at d' m).shares) z ∙ (shares_here ∙ (grown ∙ ap (λ (m : ℕ). (record_at d m).shares + 1) (sym z))) in
-          omega (arith, one, now)
-      | inr n ↦
-          let none : one_if (f == g) ≡ 0 = ap one_if (differ f g (λ z. n (sym z))) in
-          let now = shares_else g n in
-          omega (arith, none, now)
-    ]
+    shares_now : (g : ℕ) → (record_at d' g).shares ≡ one_if (f == g) + (record_at d g).shares
+    shares_now g = at_one (λ n m. n + m) (λ n. omega arith) f (λ m. (record_at d m).shares) (λ m. (record_at d' m).shares) (shares_here ∙ grown ∙ omega arith) shares_else g
 
-    resident_now : (pid : ℕ) → one_if (p.pid.0 == pid) + residents (set_in sets pid) ≡ residents (set_in sets_now pid)
-    resident_now pid = elim (same_or_not pid p.pid.0) [
-      | inl z ↦
-          let one : one_if (p.pid.0 == pid) ≡ 1 = ap one_if ((unsigned_Decides p.pid.0 pid).1 (sym z)) in
-          let now : residents (set_in sets_now pid) ≡ set.resident + 1 = ap (λ (m : ℕ). residents (set_in sets_now m)) z ∙ ap residents (set_here sets p.pid.0 (λ n. n + 1) set known) in
-          let was : residents (set_in sets pid) ≡ set.resident = ap (λ (m : ℕ). residents (set_in sets m)) z ∙ ap residents known in
-          omega (arith, one, now, was)
-      | inr n ↦
-          let none : one_if (p.pid.0 == pid) ≡ 0 = ap one_if (differ p.pid.0 pid (λ z. n (sym z))) in
-          let now : residents (set_in sets_now pid) ≡ residents (set_in sets pid) = ap residents (set_else sets p.pid.0 pid (λ n. n + 1) n) in
-          omega (arith, none, now)
-    ]
+    resident_now : (pid : ℕ) → residents (set_in sets_now pid) ≡ one_if (p.pid.0 == pid) + residents (set_in sets pid)
+    resident_now pid = at_one (λ n m. n + m) (λ n. omega arith) p.pid.0 (λ m. residents (set_in sets m)) (λ m. residents (set_in sets_now m))
+        (let was = ap residents known in let now = ap residents (set_here sets p.pid.0 (λ n. n + 1) set known) in omega (arith, was, now))
+        (λ q n. ap residents (set_else sets p.pid.0 q (λ n. n + 1) n)) pid
 
     pub shown_map : Shown valid_now d' sets_now
     shown_map = record {
@@ -173,8 +154,8 @@ module _ (d d' : FrameTable) (q q' : List ℕ) (f : ℕ) (r : Record) (c : Chang
         | inl z ↦
             let both : Some (record { 0 = f }) ≡ Some g = sym (place_here valid p _) ∙ (ap valid_now (sym z.0) ∙ v) in
             let same : f ≡ g.0 = ap index both in
-            ap (λ (y : Place). fits_place y k) z.0 ∙ fit k (owner ∙ (ap (λ (m : ℕ). (record_at d m).owner) same ∙ (sym (owner_same g.0) ∙ w)))
-        | inr z ↦ s.fits x g k (sym (place_else valid p x _ z.0) ∙ v) (sym (owner_same g.0) ∙ w)
+            ap (λ (y : Place). fits_place y k) z.0 ∙ fit k (owner ∙ (ap (λ (m : ℕ). (record_at d m).owner) same ∙ (sym (owner_as owner g.0) ∙ w)))
+        | inr z ↦ s.fits x g k (sym (place_else valid p x _ z.0) ∙ v) (sym (owner_as owner g.0) ∙ w)
       ];
       below = λ pid t e. elim (same_or_not pid p.pid.0) [
         | inl z ↦
@@ -200,12 +181,6 @@ module _ (d d' : FrameTable) (q q' : List ℕ) (f : ℕ) (r : Record) (c : Chang
     abbrev left : List Place
     left = filter (λ x. not (same_place p x)) s.places
 
-    owner_stays : (g : ℕ) → (record_at d' g).owner ≡ (record_at d g).owner
-    owner_stays g = elim (same_or_not g f) [
-      | inl z ↦ ap (λ (m : ℕ). (record_at d' m).owner) z ∙ (owner_here ∙ (owner ∙ ap (λ (m : ℕ). (record_at d m).owner) (sym z)))
-      | inr n ↦ owner_else g n
-    ]
-
     present : tally (same_place p) s.places ≡ 1
     present = s.once p ∙ ap (λ o. one_if (is_some o)) there
 
@@ -230,16 +205,7 @@ module _ (d d' : FrameTable) (q q' : List ℕ) (f : ℕ) (r : Record) (c : Chang
         omega (arith, less, one, was)
 
     shares_less : (g : ℕ) → (record_at d' g).shares ≡ (record_at d g).shares - one_if (f == g)
-    shares_less g = elim (same_or_not g f) [
-      | inl z ↦
-          let one : one_if (f == g) ≡ 1 = ap one_if ((unsigned_Decides f g).1 (sym z)) in
-          let now : (record_at d' g).shares ≡ (record_at d g).shares - 1 = ap (λ (m : ℕ). (record_at d' m).shares) z ∙ (shares_here ∙ (shrunk ∙ ap (λ (m : ℕ). (record_at d m).shares - 1) (sym z))) in
-          omega (arith, one, now)
-      | inr n ↦
-          let none : one_if (f == g) ≡ 0 = ap one_if (differ f g (λ z. n (sym z))) in
-          let now = shares_else g n in
-          omega (arith, none, now)
-    ]
+    shares_less g = at_one (λ n m. m - n) (λ n. omega arith) f (λ m. (record_at d m).shares) (λ m. (record_at d' m).shares) (shares_here ∙ shrunk) shares_else g
 
     -- the process has a working set
     known_set : (o : Option ResidentSet) → 1 ≤ residents o → (t : ResidentSet) × (o ≡ Some t)
@@ -253,17 +219,9 @@ module _ (d d' : FrameTable) (q q' : List ℕ) (f : ℕ) (r : Record) (c : Chang
         known_set (set_in sets p.pid.0) (omega (arith, one, here))
 
     resident_left : (pid : ℕ) → residents (set_in sets_left pid) ≡ residents (set_in sets pid) - one_if (p.pid.0 == pid)
-    resident_left pid = elim (same_or_not pid p.pid.0) [
-      | inl z ↦
-          let one : one_if (p.pid.0 == pid) ≡ 1 = ap one_if ((unsigned_Decides p.pid.0 pid).1 (sym z)) in
-          let now : residents (set_in sets_left pid) ≡ set_left.0.resident - 1 = ap (λ (m : ℕ). residents (set_in sets_left m)) z ∙ ap residents (set_here sets p.pid.0 (λ n. n - 1) set_left.0 set_left.1) in
-          let was : residents (set_in sets pid) ≡ set_left.0.resident = ap (λ (m : ℕ). residents (set_in sets m)) z ∙ ap residents set_left.1 in
-          omega (arith, one, now, was)
-      | inr n ↦
-          let none : one_if (p.pid.0 == pid) ≡ 0 = ap one_if (differ p.pid.0 pid (λ z. n (sym z))) in
-          let now : residents (set_in sets_left pid) ≡ residents (set_in sets pid) = ap residents (set_else sets p.pid.0 pid (λ n. n - 1) n) in
-          omega (arith, none, now)
-    ]
+    resident_left pid = at_one (λ n m. m - n) (λ n. omega arith) p.pid.0 (λ m. residents (set_in sets m)) (λ m. residents (set_in sets_left m))
+        (let was = ap residents set_left.1 in let now = ap residents (set_here sets p.pid.0 (λ n. n - 1) set_left.0 set_left.1) in omega (arith, was, now))
+        (λ q n. ap residents (set_else sets p.pid.0 q (λ n. n - 1) n)) pid
 
     pub shown_unmap : Shown valid_left d' sets_left
     shown_unmap = record {
@@ -289,7 +247,7 @@ module _ (d d' : FrameTable) (q q' : List ℕ) (f : ℕ) (r : Record) (c : Chang
           omega (arith, was, now);
       fits = λ x g k v w. elim (place_or_not x p) [
         | inl z ↦ let bad : None ≡ Some g = sym (place_here valid p _) ∙ (ap valid_left (sym z.0) ∙ v) in cc
-        | inr z ↦ s.fits x g k (sym (place_else valid p x _ z.0) ∙ v) (sym (owner_stays g.0) ∙ w)
+        | inr z ↦ s.fits x g k (sym (place_else valid p x _ z.0) ∙ v) (sym (owner_as owner g.0) ∙ w)
       ];
       below = λ pid t e. elim (same_or_not pid p.pid.0) [
         | inl z ↦

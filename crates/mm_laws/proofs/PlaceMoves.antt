@@ -1,30 +1,19 @@
 -- `map`, `unmap`, `soil` and `write` keep what holds.
 use Rattle.std.proofs.Common.{◌≡◌, ℕ, ◌+◌, ◌<◌, ◌≤◌, Bool, true, false, cond, not, List, [], ◌∷◌, ◌++◌, length, Option, Some, None, refl, sym, ap, ◌∙◌, subst, inl, inr, arith, length-set}
-use Rattle.std.specs.Prelude.{◌==◌, ◌&&◌, ◌||◌, is_some, is_none, nat_lt, slice_set, option_map, unwrap_or}
+use Rattle.std.specs.Prelude.{◌==◌, ◌&&◌, ◌||◌, is_some, slice_set, option_map, unwrap_or}
 use Rattle.std.proofs.lemmas.Bool.{and_parts, or_cases, or_left, ltb-true, lt-ltb, not-true, and_left, and_right}
 use Rattle.mm_types.proofs.Tables.{differ}
-use Rattle.mm_types.specs.declared.numbers.Frame.{Frame}
-use Rattle.mm_types.specs.declared.numbers.Key.{Key}
-use Rattle.mm_types.specs.declared.numbers.Slot.{Slot}
-use Rattle.mm_types.specs.declared.numbers.Block.{Block}
-use Rattle.mm_types.specs.declared.numbers.Place.{Place}
-use Rattle.mm_types.specs.declared.frames.Record.{Record}
-use Rattle.mm_types.specs.declared.frames.Backing.{Backing}
+use Rattle.mm_types.proofs.Options.{none_is}
+use Rattle.mm_types.specs.{Frame, Key, Slot, Block, Place, Record, Backing}
 use Rattle.mm_types.specs.declared.frames.Backing.TheVariants as backing
 use Rattle.mm_types.specs.declared.frames.Request.TheVariants as request
 use Rattle.mm_types.specs.declared.moves.Move.TheVariants as move
 use Rattle.mm_types.specs.declared.moves.Stored.TheVariants as stored
-use Rattle.mm_life.specs.declared.sets.ResidentSet.{ResidentSet}
-use Rattle.mm_life.specs.Frames.{record_at, slot_of, without_slot, with_record, has_request, is_read, is_write, is_again, is_idle, is_on, shared, unshared, being_written, after_map, after_unmap, after_write}
-use Rattle.mm_life.specs.Life.{FrameLife, changed, set_of}
-use Rattle.mm_life.specs.Legal.{IsLegal, owner_is, fits_place, touches, is_below_max, may_unmap, is_touch, is_access, is_writer, is_call, has_depth, is_lowest, is_block, may_write_block}
-use Rattle.mm_life.specs.Effect.{after_move, after_unmap_at, freed}
-use Rattle.mm_laws.specs.Tally.{one_if, times}
-use Rattle.mm_laws.specs.Holders.{holding}
-use Rattle.mm_laws.specs.PagingKeys.{is_backing_for}
-use Rattle.mm_laws.specs.Fits.{is_kept, Fit}
-use Rattle.mm_laws.specs.Sights.{sight}
-use Rattle.mm_laws.specs.Sound.{SlotsHeld, Sound}
+use Rattle.mm_life.specs.{ResidentSet, record_at, slot_of, without_slot, with_record, has_request, is_read, is_write, is_again, is_idle, is_on}
+use Rattle.mm_life.specs.{shared, unshared, being_written, after_map, after_unmap, after_write, FrameLife, changed, set_of, IsLegal, fits_place}
+use Rattle.mm_life.specs.{is_below_max, may_unmap, is_access, is_writer, is_call, has_depth, is_block, after_move, after_unmap_at, freed}
+use Rattle.mm_laws.specs.{one_if, times, holding, is_backing_for, is_kept, Fit, sight, SlotsHeld}
+use Rattle.mm_laws.specs.Sound.{Sound}
 use Rattle.mm_laws.proofs.Tallies.{times_on}
 use Rattle.mm_laws.proofs.Fits.{fit_shared, fit_unshared, fit_dirtied, fit_again, fit_being_written, slot_without}
 use Rattle.mm_laws.proofs.Sights.{kept_inside, kept_not_fresh, busy_off, on_modified}
@@ -37,7 +26,7 @@ use Rattle.mm_laws.proofs.KeyCounts.{homed_frame, backing_kept}
 use Rattle.mm_laws.proofs.Requests.{length-freed, write_has}
 use Rattle.mm_laws.proofs.Lowest.{lowest_free}
 use Rattle.mm_laws.proofs.Sound.{sound_frame, owner_passes, begun_long}
-use Rattle.mm_types.proofs.Options.{none_is}
+use Rattle.mm_laws.proofs.Parts.{five_parts, four_parts, three_parts}
 
 -- ---- small readings of conditions
 
@@ -61,48 +50,36 @@ not_zero : (n : ℕ) → 1 ≤ n → (n == 0) ≡ false
 not_zero n h = differ n 0 (λ e. absurd (omega (arith, h, e)))
 
 block_slot : (b : ℕ) (x : Backing) → is_block b x ≡ true → slot_of x ≡ None
-block_slot b backing.None e = cc
-block_slot b (backing.Slot s) e = cc
 block_slot b (backing.Block c) e = refl
+block_slot b _ e = cc
 
 block_backing : (p : Bool) (b : ℕ) (c : Block) (x : Backing) → is_block b x ≡ true → is_backing_for p x ≡ true → is_backing_for p (backing.Block c) ≡ true
-block_backing p b c backing.None e i = cc
-block_backing p b c (backing.Slot s) e i = cc
 block_backing p b c (backing.Block x) e i = i
+block_backing p b c _ e i = cc
 
 module _ (l : FrameLife) (s : Sound l) where
   -- ---- `map`
   pub keeps_map : (f : Frame) (place : Place) → IsLegal (move.Map f place) l → Sound (after_move l (move.Map f place))
   keeps_map f place h =
-      let fits = owner_is (fits_place place) (record_at l.frames f.0) in
-      let unread = not (is_read (record_at l.frames f.0).request) in
-      let new = is_none (l.valid place) in
-      let p4 = and_parts (fits && unread && new && touches place.pid.0 l.kind) (is_below_max (set_of l place.pid.0)) h in
-      let p3 = and_parts (fits && unread && new) (touches place.pid.0 l.kind) p4.0 in
-      let p2 = and_parts (fits && unread) new p3.0 in
-      let p1 = and_parts fits unread p2.0 in
-      let owner = owner_passes (fits_place place) (record_at l.frames f.0) p1.0 in
+      let parts = five_parts _ _ _ _ _ h in
+      let owner = owner_passes (fits_place place) (record_at l.frames f.0) parts.0 in
       let owned : is_some (record_at l.frames f.0).owner ≡ true = ap is_some owner.is in
       let kept : is_kept (record_at l.frames f.0) ≡ true = or_left (is_some (record_at l.frames f.0).owner) (has_request (record_at l.frames f.0).request) owned in
-      let room = room_in (set_of l place.pid.0) p4.1 in
+      let room = room_in (set_of l place.pid.0) parts.4 in
       let busy : is_idle (shared (record_at l.frames f.0)) ≡ false = and_left ((record_at l.frames f.0).shares + 1 == 0) (not (has_request (record_at l.frames f.0).request)) (not_zero ((record_at l.frames f.0).shares + 1) (omega arith)) in
       let c = changes_busy l.frames l.flight l.flight f.0 (times f.0 l.flight) (shared (record_at l.frames f.0)) (flights_same l.flight f.0) (kept_inside l.frames f.0 kept) owned
-      (fit_shared (record_at l.frames f.0) (s.standing f.0).fit owned (not-true (is_read (record_at l.frames f.0).request) p1.1)) busy
+      (fit_shared (record_at l.frames f.0) (s.standing f.0).fit owned (not-true (is_read (record_at l.frames f.0).request) parts.1)) busy
       (kept_not_fresh (sight l.frames l.flight f.0) (s.standing f.0) kept) (s.standing f.0).flight in
       let d' = after_map l.frames f.0 in
-      record {
-        standing = stands_kept l.frames d' l.flight l.flight f.0 (shared (record_at l.frames f.0)) c s.standing;
-        owned = owned_same l.frames d' l.flight l.flight f.0 (shared (record_at l.frames f.0)) c l.stands s.owned refl;
-        held = slots_still l.frames d' l.flight l.flight f.0 (shared (record_at l.frames f.0)) c l.free_slots l.stands refl s.held;
-        shown = shown_map l.frames d' l.flight l.flight f.0 (shared (record_at l.frames f.0)) c l.valid l.sets s.shown place room.set (none_is (l.valid place) p2.1) room.is room.room refl refl
-            (λ k e. let both : Some owner.key ≡ Some k = sym owner.is ∙ e in let same : owner.key ≡ k = cc in ap (fits_place place) (sym same) ∙ owner.passes);
-        paged = s.paged;
-        homed = homed_frame l.frames d' l.flight l.flight f.0 (shared (record_at l.frames f.0)) c l.paging l.stands (λ k e. s.homed.backing f.0 k e) s.homed;
-        limited = s.limited;
-        few = s.few;
-        framed = c.size ∙ s.framed;
-        slotted = s.slotted;
-      }
+      assumption (
+        stands_kept l.frames d' l.flight l.flight f.0 (shared (record_at l.frames f.0)) c s.standing,
+        owned_same l.frames d' l.flight l.flight f.0 (shared (record_at l.frames f.0)) c l.stands s.owned refl,
+        slots_still l.frames d' l.flight l.flight f.0 (shared (record_at l.frames f.0)) c l.free_slots l.stands refl s.held,
+        shown_map l.frames d' l.flight l.flight f.0 (shared (record_at l.frames f.0)) c l.valid l.sets s.shown place room.set (none_is (l.valid place) parts.2) room.is room.room refl refl
+            (λ k e. let both : Some owner.key ≡ Some k = sym owner.is ∙ e in let same : owner.key ≡ k = cc in ap (fits_place place) (sym same) ∙ owner.passes),
+        homed_frame l.frames d' l.flight l.flight f.0 (shared (record_at l.frames f.0)) c l.paging l.stands (λ k e. s.homed.backing f.0 k e) s.homed,
+        c.size ∙ s.framed,
+      )
 
   -- ---- `unmap`
   unmaps : (place : Place) (f : Frame) → l.valid place ≡ Some f → Sound (after_unmap_at (Some f) l place)
@@ -117,18 +94,14 @@ module _ (l : FrameLife) (s : Sound l) where
       (fit_unshared (record_at l.frames f.0) fit owned (unread (record_at l.frames f.0) fit some))
       (kept_not_fresh (sight l.frames l.flight f.0) (s.standing f.0) kept) off.0 off.1 (s.standing f.0).flight in
       let d' = after_unmap l.frames f.0 in
-      record {
-        standing = stands_kept l.frames d' l.flight l.flight f.0 (unshared (record_at l.frames f.0)) c s.standing;
-        owned = owned_same l.frames d' l.flight l.flight f.0 (unshared (record_at l.frames f.0)) c l.stands s.owned refl;
-        held = slots_still l.frames d' l.flight l.flight f.0 (unshared (record_at l.frames f.0)) c l.free_slots l.stands refl s.held;
-        shown = shown_unmap l.frames d' l.flight l.flight f.0 (unshared (record_at l.frames f.0)) c l.valid l.sets s.shown place there refl refl;
-        paged = s.paged;
-        homed = homed_frame l.frames d' l.flight l.flight f.0 (unshared (record_at l.frames f.0)) c l.paging l.stands (λ k e. s.homed.backing f.0 k e) s.homed;
-        limited = s.limited;
-        few = s.few;
-        framed = c.size ∙ s.framed;
-        slotted = s.slotted;
-      }
+      assumption (
+        stands_kept l.frames d' l.flight l.flight f.0 (unshared (record_at l.frames f.0)) c s.standing,
+        owned_same l.frames d' l.flight l.flight f.0 (unshared (record_at l.frames f.0)) c l.stands s.owned refl,
+        slots_still l.frames d' l.flight l.flight f.0 (unshared (record_at l.frames f.0)) c l.free_slots l.stands refl s.held,
+        shown_unmap l.frames d' l.flight l.flight f.0 (unshared (record_at l.frames f.0)) c l.valid l.sets s.shown place there refl refl,
+        homed_frame l.frames d' l.flight l.flight f.0 (unshared (record_at l.frames f.0)) c l.paging l.stands (λ k e. s.homed.backing f.0 k e) s.homed,
+        c.size ∙ s.framed,
+      )
 
   pub keeps_unmap : (place : Place) → IsLegal (move.Unmap place) l → Sound (after_move l (move.Unmap place))
   keeps_unmap place h = elim (l.valid place) as (λ o. l.valid place ≡ o → unwrap_or (option_map (λ f. may_unmap l place (record_at l.frames f.0)) o) false ≡ true → Sound (after_unmap_at o l place)) [
@@ -141,11 +114,10 @@ module _ (l : FrameLife) (s : Sound l) where
   keeps_soil f h =
       let clean = not (record_at l.frames f.0).changed && not (has_request (record_at l.frames f.0).request) in
       let writing = is_write (record_at l.frames f.0).request && not (is_again (record_at l.frames f.0).request) in
-      let p2 = and_parts (nat_lt 0 (record_at l.frames f.0).shares && (clean || writing)) (is_touch l.kind) h in
-      let p1 = and_parts (nat_lt 0 (record_at l.frames f.0).shares) (clean || writing) p2.0 in
-      let some = ltb-true 0 (record_at l.frames f.0).shares p1.0 in
+      let parts = three_parts _ _ _ h in
+      let some = ltb-true 0 (record_at l.frames f.0).shares parts.0 in
       let fit = (s.standing f.0).fit in
-      let owned = fit.shown p1.0 in
+      let owned = fit.shown parts.0 in
       let kept : is_kept (record_at l.frames f.0) ≡ true = or_left (is_some (record_at l.frames f.0).owner) (has_request (record_at l.frames f.0).request) owned in
       let shares = not_zero (record_at l.frames f.0).shares (omega (arith, some)) in
       let busy : is_idle (record_at l.frames f.0) ≡ false = and_left ((record_at l.frames f.0).shares == 0) (not (has_request (record_at l.frames f.0).request)) shares in
@@ -154,7 +126,7 @@ module _ (l : FrameLife) (s : Sound l) where
       let fresh = kept_not_fresh (sight l.frames l.flight f.0) (s.standing f.0) kept in
       let dirtied = record (record_at l.frames f.0) { changed = true; backing = without_slot (record_at l.frames f.0).backing } in
       let again = record (record_at l.frames f.0) { request = request.WriteAgain } in
-      elim (or_cases clean writing p1.1) [
+      elim (or_cases clean writing parts.1) [
         | inl e ↦
             let quiet = not-true (has_request (record_at l.frames f.0).request) (and_parts (not (record_at l.frames f.0).changed) (not (has_request (record_at l.frames f.0).request)) e).1 in
             let c = changes_written l.frames l.flight l.flight f.0 (times f.0 l.flight) dirtied (flights_same l.flight f.0) low owned (fit_dirtied (record_at l.frames f.0) fit owned quiet) busy fresh off.0 off.1 (s.standing f.0).flight in
@@ -194,24 +166,18 @@ module _ (l : FrameLife) (s : Sound l) where
 
   pub keeps_write_slot : (f : Frame) (t : Slot) → IsLegal (move.Write f (stored.Slot t)) l → Sound (after_move l (move.Write f (stored.Slot t)))
   keeps_write_slot f t h =
-      let on = is_on f.0 l.frames.modified in
-      let paging = owner_is l.paging (record_at l.frames f.0) in
-      let lowest = is_lowest t.0 l.free_slots in
-      let when = is_access l.kind || (is_writer l.kind && has_depth l) in
-      let p3 = and_parts (on && paging && lowest) when h in
-      let p2 = and_parts (on && paging) lowest p3.0 in
-      let p1 = and_parts on paging p2.0 in
-      let known = on_modified (sight l.frames l.flight f.0) (s.standing f.0) (times_on f.0 l.frames.modified p1.0) in
+      let parts = four_parts _ _ _ _ h in
+      let known = on_modified (sight l.frames l.flight f.0) (s.standing f.0) (times_on f.0 l.frames.modified parts.0) in
       let idle = idle_is (record_at l.frames f.0) known.0 known.1.0 in
       let fit = (s.standing f.0).fit in
-      let owner = owner_passes l.paging (record_at l.frames f.0) p1.1 in
+      let owner = owner_passes l.paging (record_at l.frames f.0) parts.1 in
       writes f.0 (backing.Slot t) (slice_set l.free_slots t.0 false) known.0 known.1.1 idle.quiet
       (fit_being_written (backing.Slot t) (record_at l.frames f.0) fit known.0 known.1.1 refl)
       (λ k e b. let both : Some owner.key ≡ Some k = sym owner.is ∙ e in let same : owner.key ≡ k = cc in ap l.paging (sym same) ∙ owner.passes)
       (λ c. slots_taken l.frames (after_write l.frames f.0 (backing.Slot t)) l.flight (l.flight ++ f.0 ∷ []) f.0 (being_written (backing.Slot t) (record_at l.frames f.0)) c l.free_slots l.stands t.0
-      (lowest_free t.0 l.free_slots p2.1) (fit.dirty known.1.1 idle.quiet) refl s.held)
+      (lowest_free t.0 l.free_slots parts.2) (fit.dirty known.1.1 idle.quiet) refl s.held)
       (length-set l.free_slots t.0 false)
-      (λ a b. elim (or_cases (is_access l.kind) (is_writer l.kind && has_depth l) p3.1) [
+      (λ a b. elim (or_cases (is_access l.kind) (is_writer l.kind && has_depth l) parts.3) [
         | inl e ↦ let bad : true ≡ false = sym e ∙ a in cc
         | inr e ↦
             let room = ltb-true (length l.flight) l.machine.depth (and_parts (is_writer l.kind) (has_depth l) e).1 in
@@ -221,22 +187,15 @@ module _ (l : FrameLife) (s : Sound l) where
 
   pub keeps_write_block : (f : Frame) (b : Block) → IsLegal (move.Write f (stored.Block b)) l → Sound (after_move l (move.Write f (stored.Block b)))
   keeps_write_block f b h =
-      let changed = (record_at l.frames f.0).changed in
-      let owned = is_some (record_at l.frames f.0).owner in
-      let quiet = not (has_request (record_at l.frames f.0).request) in
-      let block = is_block b.0 (record_at l.frames f.0).backing in
+      let parts = five_parts _ _ _ _ _ h in
       let on = is_on f.0 l.frames.modified in
-      let p4 = and_parts (changed && owned && quiet && block) (may_write_block l f.0) h in
-      let p3 = and_parts (changed && owned && quiet) block p4.0 in
-      let p2 = and_parts (changed && owned) quiet p3.0 in
-      let p1 = and_parts changed owned p2.0 in
-      writes f.0 (backing.Block b) l.free_slots p1.1 p1.0 (not-true (has_request (record_at l.frames f.0).request) p2.1)
-      (fit_being_written (backing.Block b) (record_at l.frames f.0) (s.standing f.0).fit p1.1 p1.0 refl)
-      (λ k e i. block_backing (l.paging k) b.0 b (record_at l.frames f.0).backing p3.1 i)
+      writes f.0 (backing.Block b) l.free_slots parts.1 parts.0 (not-true (has_request (record_at l.frames f.0).request) parts.2)
+      (fit_being_written (backing.Block b) (record_at l.frames f.0) (s.standing f.0).fit parts.1 parts.0 refl)
+      (λ k e i. block_backing (l.paging k) b.0 b (record_at l.frames f.0).backing parts.3 i)
       (λ c. slots_still l.frames (after_write l.frames f.0 (backing.Block b)) l.flight (l.flight ++ f.0 ∷ []) f.0 (being_written (backing.Block b) (record_at l.frames f.0)) c l.free_slots l.stands
-      (sym (block_slot b.0 (record_at l.frames f.0).backing p3.1)) s.held)
+      (sym (block_slot b.0 (record_at l.frames f.0).backing parts.3)) s.held)
       refl
-      (λ a n. elim (or_cases ((on && is_access l.kind) || (on && is_writer l.kind && has_depth l)) (is_call l.kind) p4.1) [
+      (λ a n. elim (or_cases ((on && is_access l.kind) || (on && is_writer l.kind && has_depth l)) (is_call l.kind) parts.4) [
         | inl e ↦ elim (or_cases (on && is_access l.kind) (on && is_writer l.kind && has_depth l) e) [
           | inl i ↦ let bad : true ≡ false = sym (and_parts on (is_access l.kind) i).1 ∙ a in cc
           | inr i ↦

@@ -2,23 +2,15 @@
 use Rattle.std.proofs.Common.{◌≡◌, ℕ, ◌+◌, ◌<◌, ◌≤◌, Bool, true, false, cond, not, List, length, Option, Some, None, refl, sym, ap, ◌∙◌, subst, arith, length-set}
 use Rattle.std.specs.Prelude.{◌==◌, ◌&&◌, ◌||◌, is_some}
 use Rattle.std.proofs.lemmas.Bool.{and_parts, or_right, not_from_true, and_right}
-use Rattle.mm_types.specs.declared.numbers.Frame.{Frame}
-use Rattle.mm_types.specs.declared.numbers.Key.{Key}
-use Rattle.mm_types.specs.declared.frames.Record.{Record}
-use Rattle.mm_types.specs.declared.frames.Request.{Request}
+use Rattle.mm_types.specs.{Frame, Key, Record}
 use Rattle.mm_types.specs.declared.frames.Request.TheVariants as request
 use Rattle.mm_types.specs.declared.frames.Held.TheVariants as held
 use Rattle.mm_types.specs.declared.moves.Move.TheVariants as move
-use Rattle.mm_life.specs.Frames.{FrameTable, record_at, blank, slot_of, without_slot, without, with_record, settled, to_free, has_request, is_read, is_write, is_again, read_done, write_done, write_lost}
-use Rattle.mm_life.specs.Life.{FrameLife, same_key, changed}
-use Rattle.mm_life.specs.Legal.{IsLegal, is_io, is_access, is_call}
-use Rattle.mm_life.specs.Effect.{after_move, homed, home_at, slot_at, freed}
-use Rattle.mm_laws.specs.Tally.{times}
-use Rattle.mm_laws.specs.Holders.{holding}
-use Rattle.mm_laws.specs.PagingKeys.{is_backing_for}
-use Rattle.mm_laws.specs.Fits.{is_kept, Fit}
-use Rattle.mm_laws.specs.Sights.{sight, Stands}
-use Rattle.mm_laws.specs.Sound.{SlotsHeld, Sound}
+use Rattle.mm_life.specs.{FrameTable, record_at, blank, slot_of, without_slot, without, with_record, settled, to_free, has_request, is_read, is_write}
+use Rattle.mm_life.specs.{is_again, read_done, write_done, write_lost, FrameLife, same_key, changed, IsLegal, is_io, is_access, is_call, after_move}
+use Rattle.mm_life.specs.{homed, home_at, slot_at, freed}
+use Rattle.mm_laws.specs.{times, holding, is_backing_for, is_kept, Fit, sight, Stands, SlotsHeld}
+use Rattle.mm_laws.specs.Sound.{Sound}
 use Rattle.mm_laws.proofs.Fits.{fit_read_done, fit_write_done, fit_write_lost, slot_without}
 use Rattle.mm_laws.proofs.Sights.{kept_inside, kept_not_fresh, busy_off}
 use Rattle.mm_laws.proofs.Changes.{Changes, flights_ended, changes_settled, changes_freed}
@@ -27,6 +19,7 @@ use Rattle.mm_laws.proofs.SlotHolders.{slots_still, slots_given_up, slots_sent_h
 use Rattle.mm_laws.proofs.KeyCounts.{homed_frame, homed_key, backing_is_home, backing_kept}
 use Rattle.mm_laws.proofs.Sound.{sound_frame, sound_key, no_owner, ended_few, orphan_unshared}
 use Rattle.mm_laws.proofs.FreshMoves.{home_is_no_frame, slot_of_home}
+pub use Rattle.mm_life.proofs.Requests.{read_has, write_has}
 
 pub length-freed : (free : List Bool) (o : Option ℕ) → length (freed free o) ≡ length free
 length-freed free None = refl
@@ -44,18 +37,6 @@ requested d q f s h =
     let kept : is_kept (record_at d f) ≡ true = or_right (is_some (record_at d f).owner) (has_request (record_at d f).request) h in
     let off = busy_off (sight d q f) (s f) (and_right ((record_at d f).shares == 0) (not (has_request (record_at d f).request)) (not_from_true (has_request (record_at d f).request) h)) in
     record { low = kept_inside d f kept; fresh = kept_not_fresh (sight d q f) (s f) kept; standby = off.0; modified = off.1 }
-
-pub read_has : (q : Request) → is_read q ≡ true → has_request q ≡ true
-read_has request.None e = cc
-read_has request.Read e = refl
-read_has request.Write e = refl
-read_has request.WriteAgain e = refl
-
-pub write_has : (q : Request) → is_write q ≡ true → has_request q ≡ true
-write_has request.None e = cc
-write_has request.Read e = refl
-write_has request.Write e = refl
-write_has request.WriteAgain e = refl
 
 module _ (l : FrameLife) (s : Sound l) (f : ℕ) (busy : has_request (record_at l.frames f).request ≡ true) where
   abbrev d : FrameTable

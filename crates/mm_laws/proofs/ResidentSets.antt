@@ -2,9 +2,8 @@
 use Rattle.std.proofs.Common.{◌≡◌, ◌≢◌, ◌⊎◌, ℕ, zero, suc, List, [], ◌∷◌, ◌++◌, Option, Some, None, refl, ap, ◌∙◌, inl, inr}
 use Rattle.std.specs.Prelude.{slice_get}
 use Rattle.mm_types.proofs.Cells.{get_set_same, get_set_other, get_within}
-use Rattle.mm_life.specs.declared.sets.ResidentSet.{ResidentSet}
-use Rattle.mm_life.specs.Life.{set_in, with_resident, resident_by}
-use Rattle.mm_laws.specs.Places.{residents}
+use Rattle.mm_life.specs.{ResidentSet, set_in, with_resident, resident_by}
+use Rattle.mm_laws.specs.{residents}
 
 abbrev pub resized : ResidentSet → (ℕ → ℕ) → ResidentSet
 resized s change = record s { resident = change s.resident }

@@ -1,23 +1,16 @@
 -- The valid places are as many as the sizes of the working sets add up to, and as the shares of all frames.
-use Rattle.std.proofs.Common.{◌≡◌, ℕ, zero, suc, ◌+◌, ◌-◌, ◌*◌, ◌<◌, ◌≤◌, Bool, true, List, [], ◌∷◌, length, Option, Some, None, refl, sym, ap, ◌∙◌, inl, inr, arith}
+use Rattle.std.proofs.Common.{◌≡◌, ℕ, zero, suc, ◌+◌, ◌-◌, ◌*◌, ◌<◌, ◌≤◌, true, List, [], ◌∷◌, length, Option, Some, None, refl, sym, ap, ◌∙◌, inl, inr, arith}
 use Rattle.std.specs.Prelude.{◌==◌, is_some, slice_get, slice_set}
 use Rattle.std.specs.Cmp.{unsigned_Decides}
 use Rattle.std.proofs.lemmas.Bool.{cases_lt, lt-ltb, or_left, eqb-true}
 use Rattle.mm_types.proofs.Cells.{get_within}
-use Rattle.mm_types.specs.declared.numbers.Frame.{Frame}
+use Rattle.mm_types.specs.{Frame, Pid, Vpn, Place}
 use Rattle.mm_types.specs.declared.numbers.Key.TheVariants.{Private}
-use Rattle.mm_types.specs.declared.numbers.Pid.{Pid}
-use Rattle.mm_types.specs.declared.numbers.Vpn.{Vpn}
-use Rattle.mm_types.specs.declared.numbers.Place.{Place}
-use Rattle.mm_life.specs.declared.sets.ResidentSet.{ResidentSet}
-use Rattle.mm_life.specs.Frames.{record_at, has_request}
-use Rattle.mm_life.specs.Life.{FrameLife, same_place, set_in, set_of, with_resident, resident_by}
-use Rattle.mm_laws.specs.Tally.{one_if, tally}
-use Rattle.mm_laws.specs.Sums.{sum_to}
-use Rattle.mm_laws.specs.Places.{is_frame, is_of, residents, residents_in, valid_places, maxima_in, CountsPlaces}
+use Rattle.mm_life.specs.{ResidentSet, record_at, has_request, FrameLife, same_place, set_in, set_of, with_resident, resident_by}
+use Rattle.mm_laws.specs.{one_if, tally, sum_to, is_frame, is_of, residents, residents_in, valid_places, maxima_in, CountsPlaces}
 use Rattle.mm_laws.specs.Sound.{Sound}
 use Rattle.mm_laws.proofs.Sums.{one_most, sum-same, sum-plus, sum-zeros, sum-front, sum-inside, sum-tally, total-listed, total-ones}
-use Rattle.mm_laws.proofs.Tallies.{tally-more}
+use Rattle.mm_laws.proofs.Tallies.{tally-more, length-left}
 use Rattle.mm_laws.proofs.Sights.{kept_inside}
 use Rattle.mm_laws.proofs.PlaceCounts.{has_shares, same_place-true, same_place-self}
 
@@ -102,14 +95,10 @@ module _ (l : FrameLife) (s : Sound l) where
   abbrev pub counts_places : CountsPlaces l
   counts_places = record { places = s.shown.places; once = s.shown.once; shares = s.shown.shares; resident = s.shown.resident }
 
-  tally_length : (test : Place → Bool) (xs : List Place) → tally test xs ≤ length xs
-  tally_length test [] = omega arith
-  tally_length test (x ∷ xs) = let a = tally_length test xs in let b = one_most (test x) in omega (arith, a, b)
-
   pub share_within : (f : ℕ) → (record_at l.frames f).shares ≤ valid_places l
   share_within f =
       let a = s.shown.shares f in
-      let b = tally_length (λ p. is_frame f (l.valid p)) s.shown.places in
+      let b = length-left (λ p. is_frame f (l.valid p)) s.shown.places in
       let c = places_are counts_places in
       omega (arith, a, b, c)
 
@@ -151,17 +140,21 @@ module _ (l : FrameLife) (s : Sound l) where
       let b = maxima_below l.sets n (λ k t e. h (suc k) t e) in
       omega (arith, a, b)
 
+  -- the process of a valid place has places
+  pub resident_there : (p : Place) → is_some (l.valid p) ≡ true → 1 ≤ residents (set_of l p.pid.0)
+  resident_there p there =
+      let one : tally (same_place p) s.shown.places ≡ 1 = s.shown.once p ∙ ap one_if there in
+      let more = tally-more (same_place p) (is_of p.pid.0) s.shown.places (λ q h. ap (λ (x : Place). is_of p.pid.0 x) (sym (same_place-true p q h)) ∙ (unsigned_Decides p.pid.0 p.pid.0).1 refl) in
+      let size = s.shown.resident p.pid.0 in
+      omega (arith, one, more, size)
+
   -- where a pid has no process none of its places is valid
   pub nowhere : (p : Place) → set_of l p.pid.0 ≡ None → l.valid p ≡ None
   nowhere p none = at (l.valid p) refl
     where
       at : (o : Option Frame) → l.valid p ≡ o → o ≡ None
       at None e = refl
-      at (Some f) e =
-          let one : tally (same_place p) s.shown.places ≡ 1 = s.shown.once p ∙ ap (λ (o : Option Frame). one_if (is_some o)) e in
-          let more = tally-more (same_place p) (is_of p.pid.0) s.shown.places (λ q h. ap (λ (x : Place). is_of p.pid.0 x) (sym (same_place-true p q h)) ∙ (unsigned_Decides p.pid.0 p.pid.0).1 refl) in
-          let size = s.shown.resident p.pid.0 ∙ ap residents none in
-          absurd (omega (arith, one, more, size))
+      at (Some f) e = let some = resident_there p (ap is_some e) in let size = ap residents none in absurd (omega (arith, some, size))
 
   -- a private page has one place
   shows_own : (f : ℕ) (p : Pid) (v : Vpn) → (record_at l.frames f).owner ≡ Some (Private p v) → (x : Place) → is_frame f (l.valid x) ≡ true → same_place (record { pid = p; vpn = v }) x ≡ true

@@ -2,32 +2,23 @@
 use Rattle.std.proofs.Common.{◌≡◌, ℕ, ◌<◌, Bool, true, false, cond, not, List, [], ◌∷◌, ◌++◌, length, Option, Some, refl, sym, ap, ◌∙◌, subst, arith, get_or-set_same, get_or-set_other, length-set}
 use Rattle.std.specs.Prelude.{◌&&◌, ◌||◌, is_some}
 use Rattle.std.proofs.lemmas.Bool.{and_parts}
-use Rattle.mm_types.specs.declared.numbers.Frame.{Frame}
-use Rattle.mm_types.specs.declared.numbers.Place.{Place}
-use Rattle.mm_types.specs.declared.frames.Record.{Record}
+use Rattle.mm_types.specs.{Frame, Place, Record}
 use Rattle.mm_types.specs.declared.moves.Move.TheVariants as move
-use Rattle.mm_life.specs.Frames.{FrameTable, record_at, blank, has_request, is_read, is_write, is_idle, with_record, settled, settled_by, to_free, read_done, write_done, write_lost, unshared}
-use Rattle.mm_life.specs.Life.{FrameLife}
-use Rattle.mm_life.specs.Legal.{IsLegal, is_io, is_access, is_call}
-use Rattle.mm_life.specs.Effect.{after_move, after_unmap_at}
-use Rattle.mm_laws.specs.Settling.{at_end_if, ListsAre, ended_as, Settles}
+use Rattle.mm_life.specs.{FrameTable, record_at, blank, has_request, is_read, is_write, is_idle, with_record, settled, settled_by, to_free, read_done}
+use Rattle.mm_life.specs.{write_done, write_lost, unshared, FrameLife, IsLegal, is_io, is_access, is_call, after_move, after_unmap_at}
+use Rattle.mm_laws.specs.{at_end_if, ListsAre, ended_as, Settles}
 use Rattle.mm_laws.specs.Sound.{Sound}
 use Rattle.mm_laws.proofs.Requests.{requested, read_has, write_has}
 use Rattle.mm_laws.proofs.SetSizes.{frame_low}
 use Rattle.mm_laws.proofs.PlaceCounts.{has_shares}
 use Rattle.std.proofs.lemmas.Bool.{lt-ltb}
-use Rattle.mm_life.proofs.Records.{done_owner}
+use Rattle.mm_life.proofs.{done_owner, records_settled}
 
 -- the lists after a frame settles
 lists_settle : (x : FrameTable) (f : ℕ) (i c : Bool) → ListsAre (cond i (cond c (record x { modified = x.modified ++ f ∷ [] }) (record x { standby = x.standby ++ f ∷ [] })) x) x.zeroed x.free (at_end_if (i && not c) f x.standby) (at_end_if (i && c) f x.modified)
 lists_settle x f true true = record { zeroed = refl; free = refl; standby = refl; modified = refl }
 lists_settle x f true false = record { zeroed = refl; free = refl; standby = refl; modified = refl }
 lists_settle x f false c = record { zeroed = refl; free = refl; standby = refl; modified = refl }
-
-records_settle : (x : FrameTable) (f : ℕ) (i c : Bool) → (cond i (cond c (record x { modified = x.modified ++ f ∷ [] }) (record x { standby = x.standby ++ f ∷ [] })) x).records ≡ x.records
-records_settle x f true true = refl
-records_settle x f true false = refl
-records_settle x f false c = refl
 
 module _ (d : FrameTable) (f : ℕ) (low : f < length d.records) where
   -- a frame with an owner, that is on no list
@@ -36,7 +27,7 @@ module _ (d : FrameTable) (f : ℕ) (low : f < length d.records) where
     settled_is = ap (λ (k : Record). settled_by k (with_record d f r) f) (get_or-set_same d.records f r blank low)
 
     records_are : (settled (with_record d f r) f).records ≡ (with_record d f r).records
-    records_are = ap (λ (t : FrameTable). t.records) settled_is ∙ records_settle (with_record d f r) f (is_idle r) r.changed
+    records_are = ap (λ (t : FrameTable). t.records) settled_is ∙ records_settled r (with_record d f r) f
 
     record_is : (g : ℕ) → record_at (settled (with_record d f r) f) g ≡ record_at (with_record d f r) g
     record_is g = ap (λ (rs : List Record). record_at (record d { records = rs }) g) records_are

@@ -3,11 +3,9 @@ use Rattle.std.proofs.Common.{◌≡◌, ◌≢◌, ℕ, ◌+◌, ◌<◌, ◌�
 use Rattle.std.specs.Prelude.{◌&&◌, nat_lt, is_some}
 use Rattle.std.proofs.lemmas.List.{get_or_past}
 use Rattle.std.proofs.lemmas.Bool.{ltb-true, or_left, or_right, cases_lt}
-use Rattle.mm_types.specs.declared.frames.Record.{Record}
-use Rattle.mm_life.specs.Frames.{FrameTable, blank, record_at, has_request, is_idle, without, with_record, off_lists, to_free, settled_by}
-use Rattle.mm_laws.specs.Tally.{one_if, times}
-use Rattle.mm_laws.specs.Fits.{is_kept, Fit}
-use Rattle.mm_laws.specs.Sights.{Sight, sight, Stand}
+use Rattle.mm_types.specs.{Record}
+use Rattle.mm_life.specs.{FrameTable, blank, record_at, has_request, is_idle, with_record, off_lists, to_free, settled_by}
+use Rattle.mm_laws.specs.{one_if, times, is_kept, Fit, Sight, sight, Stand}
 use Rattle.mm_laws.proofs.Tallies.{times-push_same, times-push_other, times-without_other}
 use Rattle.mm_laws.proofs.Fits.{fit_blank}
 
@@ -53,6 +51,11 @@ on_fresh s h l = let k = fresh_only (is_kept s.what) (s.zeroed + s.free) s.insid
 
 pub kept_not_fresh : (s : Sight) → Stand s → is_kept s.what ≡ true → s.zeroed + s.free ≡ 0
 kept_not_fresh s h k = h.fresh ∙ ap (λ b. cond b 0 s.inside) k
+
+pub three_fail : (a b c : Bool) → c ≡ false → one_if (a && (b && c)) ≡ 0
+three_fail true true c e = ap one_if e
+three_fail true false c e = refl
+three_fail false b c e = refl
 
 none_if : (a b c : Bool) → b ≡ false → one_if (a && (b && c)) ≡ 0
 none_if true true c e = cc

@@ -4,15 +4,9 @@ use Rattle.std.specs.Prelude.{◌==◌, is_some, slice_get, slice_set}
 use Rattle.mm_types.proofs.Cells.{same_or_not, get_set_same, get_set_other, get_within}
 use Rattle.mm_types.proofs.Tables.{differ}
 use Rattle.std.specs.Cmp.{unsigned_Decides}
-use Rattle.mm_types.specs.declared.numbers.Key.{Key}
-use Rattle.mm_types.specs.declared.frames.Record.{Record}
-use Rattle.mm_types.specs.declared.frames.Held.{Held}
-use Rattle.mm_life.specs.Frames.{FrameTable, record_at, slot_of}
-use Rattle.mm_life.specs.Life.{same_key, changed}
-use Rattle.mm_life.specs.Effect.{slot_at, freed}
-use Rattle.mm_laws.specs.Holders.{Holder, Home, Behind, holding}
-use Rattle.mm_laws.specs.Sights.{Sight}
-use Rattle.mm_laws.specs.Sound.{SlotsHeld}
+use Rattle.mm_types.specs.{Key, Record, Held}
+use Rattle.mm_life.specs.{FrameTable, record_at, slot_of, same_key, changed, slot_at, freed}
+use Rattle.mm_laws.specs.{Holder, Home, Behind, holding, Sight, SlotsHeld}
 use Rattle.mm_laws.proofs.Changes.{Changes}
 use Rattle.mm_laws.proofs.Owners.{key_or_not, changed_here, changed_else}
 
@@ -41,123 +35,102 @@ sent_here f s n o e = ap (λ b. cond b o (f n)) ((unsigned_Decides n s).1 e)
 sent_else : (f : ℕ → Option Holder) (s n : ℕ) (o : Option Holder) → n ≢ s → sent f s o n ≡ f n
 sent_else f s n o e = ap (λ b. cond b o (f n)) (differ n s e)
 
+module _ (free : List Bool) (held : Holder → Option ℕ) (m : SlotsHeld free held) (s : ℕ) where
+  -- a slot with a holder has no other
+  apart_from : (h g : Holder) (n : ℕ) → held h ≡ Some s → g ≢ h → held g ≡ Some n → n ≢ s
+  apart_from h g n had d old z =
+      let both : Some g ≡ Some h = sym (m.found g n old) ∙ ap m.holder z ∙ m.found h s had in
+      d (let same : g ≡ h = cc in same)
+
+  -- a slot with a holder is there
+  pub held_low : (h : Holder) → held h ≡ Some s → s < length free
+  held_low h had = at (slice_get free s) refl
+    where
+      at : (x : Option Bool) → slice_get free s ≡ x → s < length free
+      at None g = let bad : None ≡ Some h = sym (m.past s g) ∙ m.found h s had in cc
+      at (Some b) g = get_within free s b g
+
+-- one slot has another holder, or none, and is free or not as the holder says
+module _ (free free' : List Bool) (held held' : Holder → Option ℕ) (m : SlotsHeld free held) (s : ℕ) (o : Option Holder) where
+  handed :
+      ((h : Holder) (n : ℕ) → held' h ≡ Some n → ((n ≡ s) × (o ≡ Some h)) ⊎ ((n ≢ s) × (held h ≡ Some n)))
+      → ((h : Holder) → o ≡ Some h → held' h ≡ Some s)
+      → ((h : Holder) (n : ℕ) → n ≢ s → held h ≡ Some n → held' h ≡ Some n)
+      → ((b : Bool) → slice_get free' s ≡ Some b → is_some o ≡ not b)
+      → (slice_get free' s ≡ None → o ≡ None)
+      → ((n : ℕ) → n ≢ s → slice_get free' n ≡ slice_get free n)
+      → SlotsHeld free' held'
+  handed found here others taken past rest = record {
+    holder = sent m.holder s o;
+    found = λ h n e. elim (found h n e) [
+      | inl z ↦ sent_here m.holder s n o z.0 ∙ z.1
+      | inr z ↦ sent_else m.holder s n o z.0 ∙ m.found h n z.1
+    ];
+    held = λ n h e. elim (same_or_not n s) [
+      | inl z ↦ here h (sym (sent_here m.holder s n o z) ∙ e) ∙ ap (λ (k : ℕ). Some k) (sym z)
+      | inr d ↦ others h n d (m.held n h (sym (sent_else m.holder s n o d) ∙ e))
+    ];
+    taken = λ n b e. elim (same_or_not n s) [
+      | inl z ↦ ap is_some (sent_here m.holder s n o z) ∙ taken b (ap (slice_get free') (sym z) ∙ e)
+      | inr d ↦ ap is_some (sent_else m.holder s n o d) ∙ m.taken n b (sym (rest n d) ∙ e)
+    ];
+    past = λ n e. elim (same_or_not n s) [
+      | inl z ↦ sent_here m.holder s n o z ∙ past (ap (slice_get free') (sym z) ∙ e)
+      | inr d ↦ sent_else m.holder s n o d ∙ m.past n (sym (rest n d) ∙ e)
+    ];
+  }
+
 -- a holder gives up its slot
 release : (free : List Bool) (held held' : Holder → Option ℕ) (h : Holder) (s : ℕ) → held h ≡ Some s → held' h ≡ None → ((g : Holder) → g ≢ h → held' g ≡ held g) → SlotsHeld free held → SlotsHeld (slice_set free s true) held'
-release free held held' h s had none others m = record {
-  holder = sent m.holder s None;
-  found = λ g n e. elim (holder_or_not g h) [
-    | inl z ↦ let bad : None ≡ Some n = sym none ∙ (ap held' (sym z) ∙ e) in cc
-    | inr d ↦
-        let old = sym (others g d) ∙ e in
-        sent_else m.holder s n None (λ z.
-        let mine : m.holder s ≡ Some h = m.found h s had in
-        let its : m.holder s ≡ Some g = ap m.holder (sym z) ∙ m.found g n old in
-        d (let both : Some g ≡ Some h = sym its ∙ mine in let same : g ≡ h = cc in same)) ∙ m.found g n old
-  ];
-  held = λ n g e. elim (same_or_not n s) [
-    | inl z ↦ let bad : None ≡ Some g = sym (sent_here m.holder s n None z) ∙ e in cc
-    | inr d ↦
-        let old = sym (sent_else m.holder s n None d) ∙ e in
-        let was = m.held n g old in
-        others g (λ z. d (let both : Some n ≡ Some s = sym was ∙ (ap held z ∙ had) in let same : n ≡ s = cc in same)) ∙ was
-  ];
-  taken = λ n b e. elim (same_or_not n s) [
-    | inl z ↦
-        let there : is_some (m.holder s) ≡ true = ap is_some (m.found h s had) in
-        let low : s < length free = inside s there in
-        let now : Some true ≡ Some b = sym (get_set_same free s true low) ∙ (ap (slice_get (slice_set free s true)) (sym z) ∙ e) in
-        let is : true ≡ b = cc in
-        ap is_some (sent_here m.holder s n None z) ∙ ap not is
-    | inr d ↦ ap is_some (sent_else m.holder s n None d) ∙ m.taken n b (sym (get_set_other free s n true d) ∙ e)
-  ];
-  past = λ n e. elim (same_or_not n s) [
-    | inl z ↦ sent_here m.holder s n None z
-    | inr d ↦ sent_else m.holder s n None d ∙ m.past n (sym (get_set_other free s n true d) ∙ e)
-  ];
-}
+release free held held' h s had none others m = handed free (slice_set free s true) held held' m s None
+    (λ g n e. elim (holder_or_not g h) [
+      | inl z ↦ let bad : None ≡ Some n = sym none ∙ (ap held' (sym z) ∙ e) in cc
+      | inr d ↦ let old = sym (others g d) ∙ e in inr (apart_from free held m s h g n had d old, old)
+    ])
+    (λ g e. cc)
+    (λ g n d was. others g (λ z. d (let both : Some n ≡ Some s = sym was ∙ (ap held z ∙ had) in let same : n ≡ s = cc in same)) ∙ was)
+    (λ b e. let now : Some true ≡ Some b = sym set ∙ e in let is : true ≡ b = cc in ap not is)
+    (λ e. refl)
+    (λ n d. get_set_other free s n true d)
   where
-    inside : (n : ℕ) → is_some (m.holder n) ≡ true → n < length free
-    inside n e = at (slice_get free n) refl
-      where
-        at : (o : Option Bool) → slice_get free n ≡ o → n < length free
-        at None g = let bad : false ≡ true = sym (ap is_some (m.past n g)) ∙ e in cc
-        at (Some b) g = get_within free n b g
+    set : slice_get (slice_set free s true) s ≡ Some true
+    set = get_set_same free s true (held_low free held m s h had)
 
 -- a holder without a slot takes a free one
 pub slots_take : (free : List Bool) (held held' : Holder → Option ℕ) (h : Holder) (s : ℕ) → slice_get free s ≡ Some true → held h ≡ None → held' h ≡ Some s → ((g : Holder) → g ≢ h → held' g ≡ held g) → SlotsHeld free held → SlotsHeld (slice_set free s false) held'
-slots_take free held held' h s unused had none others m = record {
-  holder = sent m.holder s (Some h);
-  found = λ g n e. elim (holder_or_not g h) [
-    | inl z ↦
-        let both : Some s ≡ Some n = sym none ∙ (ap held' (sym z) ∙ e) in
-        let same : n ≡ s = cc in
-        sent_here m.holder s n (Some h) same ∙ ap Some (sym z)
-    | inr d ↦
-        let old = m.found g n (sym (others g d) ∙ e) in
-        sent_else m.holder s n (Some h) (λ z. let bad : true ≡ false = sym (ap is_some old) ∙ (ap (λ k. is_some (m.holder k)) z ∙ m.taken s true unused) in cc) ∙ old
-  ];
-  held = λ n g e. elim (same_or_not n s) [
-    | inl z ↦
-        let both : Some h ≡ Some g = sym (sent_here m.holder s n (Some h) z) ∙ e in
-        let same : h ≡ g = cc in
-        ap held' (sym same) ∙ (none ∙ ap (λ (k : ℕ). Some k) (sym z))
-    | inr d ↦
-        let was = m.held n g (sym (sent_else m.holder s n (Some h) d) ∙ e) in
-        others g (λ z. let bad : None ≡ Some n = sym had ∙ (ap held (sym z) ∙ was) in cc) ∙ was
-  ];
-  taken = λ n b e. elim (same_or_not n s) [
-    | inl z ↦
-        let now : Some false ≡ Some b = sym (get_set_same free s false (get_within free s true unused)) ∙ (ap (slice_get (slice_set free s false)) (sym z) ∙ e) in
-        let is : false ≡ b = cc in
-        ap is_some (sent_here m.holder s n (Some h) z) ∙ ap not is
-    | inr d ↦ ap is_some (sent_else m.holder s n (Some h) d) ∙ m.taken n b (sym (get_set_other free s n false d) ∙ e)
-  ];
-  past = λ n e. elim (same_or_not n s) [
-    | inl z ↦
-        let bad : Some false ≡ None = sym (get_set_same free s false (get_within free s true unused)) ∙ (ap (slice_get (slice_set free s false)) (sym z) ∙ e) in cc
-    | inr d ↦ sent_else m.holder s n (Some h) d ∙ m.past n (sym (get_set_other free s n false d) ∙ e)
-  ];
-}
+slots_take free held held' h s unused had now others m = handed free (slice_set free s false) held held' m s (Some h)
+    (λ g n e. elim (holder_or_not g h) [
+      | inl z ↦ let both : Some s ≡ Some n = sym now ∙ (ap held' (sym z) ∙ e) in let same : n ≡ s = cc in inl (same, ap Some (sym z))
+      | inr d ↦
+          let old = sym (others g d) ∙ e in
+          inr (λ z. let bad : true ≡ false = sym (ap is_some (m.found g n old)) ∙ (ap (λ k. is_some (m.holder k)) z ∙ m.taken s true unused) in cc, old)
+    ])
+    (λ g e. let same : h ≡ g = cc in ap held' (sym same) ∙ now)
+    (λ g n d was. others g (λ z. let bad : None ≡ Some n = sym had ∙ (ap held (sym z) ∙ was) in cc) ∙ was)
+    (λ b e. let set_is : Some false ≡ Some b = sym set ∙ e in let is : false ≡ b = cc in ap not is)
+    (λ e. let bad : Some false ≡ None = sym set ∙ e in cc)
+    (λ n d. get_set_other free s n false d)
+  where
+    set : slice_get (slice_set free s false) s ≡ Some false
+    set = get_set_same free s false (get_within free s true unused)
 
 -- a slot goes from one holder to another
 hand : (free : List Bool) (held held' : Holder → Option ℕ) (a h : Holder) (s : ℕ) → a ≢ h → held a ≡ Some s → held h ≡ None → held' a ≡ None → held' h ≡ Some s → ((g : Holder) → g ≢ a → g ≢ h → held' g ≡ held g) → SlotsHeld free held → SlotsHeld free held'
-hand free held held' a h s apart had was none now others m = record {
-  holder = sent m.holder s (Some h);
-  found = λ g n e. elim (holder_or_not g h) [
-    | inl z ↦
-        let both : Some s ≡ Some n = sym now ∙ (ap held' (sym z) ∙ e) in
-        let same : n ≡ s = cc in
-        sent_here m.holder s n (Some h) same ∙ ap Some (sym z)
-    | inr d ↦ elim (holder_or_not g a) [
-      | inl z ↦ let bad : None ≡ Some n = sym none ∙ (ap held' (sym z) ∙ e) in cc
-      | inr c ↦
-          let old = m.found g n (sym (others g c d) ∙ e) in
-          sent_else m.holder s n (Some h) (λ z.
-          let both : Some g ≡ Some a = sym old ∙ (ap m.holder z ∙ m.found a s had) in
-          c (let same : g ≡ a = cc in same)) ∙ old
-    ]
-  ];
-  held = λ n g e. elim (same_or_not n s) [
-    | inl z ↦
-        let both : Some h ≡ Some g = sym (sent_here m.holder s n (Some h) z) ∙ e in
-        let same : h ≡ g = cc in
-        ap held' (sym same) ∙ (now ∙ ap (λ (k : ℕ). Some k) (sym z))
-    | inr d ↦
-        let it = m.held n g (sym (sent_else m.holder s n (Some h) d) ∙ e) in
-        others g
-        (λ z. d (let both : Some n ≡ Some s = sym it ∙ (ap held z ∙ had) in let same : n ≡ s = cc in same))
-        (λ z. let bad : None ≡ Some n = sym was ∙ (ap held (sym z) ∙ it) in cc) ∙ it
-  ];
-  taken = λ n b e. elim (same_or_not n s) [
-    | inl z ↦
-        ap is_some (sent_here m.holder s n (Some h) z) ∙ (sym (ap is_some (ap m.holder z ∙ m.found a s had)) ∙ m.taken n b e)
-    | inr d ↦ ap is_some (sent_else m.holder s n (Some h) d) ∙ m.taken n b e
-  ];
-  past = λ n e. elim (same_or_not n s) [
-    | inl z ↦ let bad : Some a ≡ None = sym (ap m.holder z ∙ m.found a s had) ∙ m.past n e in cc
-    | inr d ↦ sent_else m.holder s n (Some h) d ∙ m.past n e
-  ];
-}
+hand free held held' a h s apart had was none now others m = handed free free held held' m s (Some h)
+    (λ g n e. elim (holder_or_not g h) [
+      | inl z ↦ let both : Some s ≡ Some n = sym now ∙ (ap held' (sym z) ∙ e) in let same : n ≡ s = cc in inl (same, ap Some (sym z))
+      | inr d ↦ elim (holder_or_not g a) [
+        | inl z ↦ let bad : None ≡ Some n = sym none ∙ (ap held' (sym z) ∙ e) in cc
+        | inr c ↦ let old = sym (others g c d) ∙ e in inr (apart_from free held m s a g n had c old, old)
+      ]
+    ])
+    (λ g e. let same : h ≡ g = cc in ap held' (sym same) ∙ now)
+    (λ g n d it. others g
+    (λ z. d (let both : Some n ≡ Some s = sym it ∙ (ap held z ∙ had) in let same : n ≡ s = cc in same))
+    (λ z. let bad : None ≡ Some n = sym was ∙ (ap held (sym z) ∙ it) in cc) ∙ it)
+    (λ b e. sym (ap is_some (m.found a s had)) ∙ m.taken s b e)
+    (λ e. let bad : Some a ≡ None = sym (m.found a s had) ∙ m.past s e in cc)
+    (λ n d. refl)
 
 -- the slot of a holder, if any, is free
 pub slots_freed : (free : List Bool) (held held' : Holder → Option ℕ) (h : Holder) (o : Option ℕ) → held h ≡ o → held' h ≡ None → ((g : Holder) → g ≢ h → held' g ≡ held g) → SlotsHeld free held → SlotsHeld (freed free o) held'

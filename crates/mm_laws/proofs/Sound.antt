@@ -2,16 +2,10 @@
 use Rattle.std.proofs.Common.{◌≡◌, ℕ, ◌+◌, ◌≤◌, Bool, true, false, List, [], ◌∷◌, ◌++◌, length, Option, Some, None, refl, sym, ap, ◌∙◌, inl, inr, arith, length-append}
 use Rattle.std.specs.Prelude.{is_some, nat_lt, option_map, unwrap_or}
 use Rattle.std.proofs.lemmas.Bool.{ltb-false}
-use Rattle.mm_types.specs.declared.numbers.Key.{Key}
-use Rattle.mm_types.specs.declared.frames.Record.{Record}
-use Rattle.mm_types.specs.declared.frames.Held.{Held}
-use Rattle.mm_life.specs.Frames.{FrameTable, record_at, without}
-use Rattle.mm_life.specs.Life.{FrameLife, same_key, changed}
-use Rattle.mm_life.specs.Legal.{is_access, is_call, owner_is}
-use Rattle.mm_laws.specs.Holders.{holding}
-use Rattle.mm_laws.specs.PagingKeys.{is_backing_for}
-use Rattle.mm_laws.specs.Fits.{Fit}
-use Rattle.mm_laws.specs.Sound.{owner_at, Owned, SlotsHeld, Homed, Sound}
+use Rattle.mm_types.specs.{Key, Record, Held}
+use Rattle.mm_life.specs.{FrameTable, record_at, without, FrameLife, same_key, changed, is_access, is_call, owner_is}
+use Rattle.mm_laws.specs.{holding, is_backing_for, Fit, owner_at, Owned, SlotsHeld, Homed}
+use Rattle.mm_laws.specs.Sound.{Sound}
 use Rattle.mm_laws.proofs.Tallies.{length-without}
 use Rattle.mm_laws.proofs.Changes.{Changes, stands_kept}
 use Rattle.mm_laws.proofs.Owners.{owned_same}
@@ -68,18 +62,14 @@ module _ (l : FrameLife) (s : Sound l) (d' : FrameTable) (q' : List ℕ) (free' 
       → SlotsHeld free' (holding d' l.stands) → length free' ≡ length l.free_slots
       → (is_access l.kind ≡ false → is_call l.kind ≡ false → length q' ≤ l.machine.depth)
       → Sound (record l { frames = d'; free_slots = free'; flight = q' })
-  sound_frame owner shares backing slots size few = record {
-    standing = stands_kept l.frames d' l.flight q' f r c s.standing;
-    owned = owned_same l.frames d' l.flight q' f r c l.stands s.owned owner;
-    held = slots;
-    shown = shown_same l.frames d' l.flight q' f r c l.valid l.sets s.shown shares (inl owner);
-    paged = s.paged;
-    homed = homed_frame l.frames d' l.flight q' f r c l.paging l.stands (λ k e. backing k e (s.homed.backing f k (sym owner ∙ e))) s.homed;
-    limited = s.limited;
-    few = few;
-    framed = c.size ∙ s.framed;
-    slotted = size ∙ s.slotted;
-  }
+  sound_frame owner shares backing slots size few = assumption (
+    stands_kept l.frames d' l.flight q' f r c s.standing,
+    owned_same l.frames d' l.flight q' f r c l.stands s.owned owner,
+    shown_same l.frames d' l.flight q' f r c l.valid l.sets s.shown shares (inl owner),
+    homed_frame l.frames d' l.flight q' f r c l.paging l.stands (λ k e. backing k e (s.homed.backing f k (sym owner ∙ e))) s.homed,
+    c.size ∙ s.framed,
+    size ∙ s.slotted,
+  )
 
   -- the same, where the frame had no shares and a key stands elsewhere now
   pub sound_key :
@@ -88,15 +78,9 @@ module _ (l : FrameLife) (s : Sound l) (d' : FrameTable) (q' : List ℕ) (free' 
       → SlotsHeld free' (holding d' (changed same_key l.stands k v)) → length free' ≡ length l.free_slots
       → (is_access l.kind ≡ false → is_call l.kind ≡ false → length q' ≤ l.machine.depth)
       → Sound (record l { frames = d'; free_slots = free'; flight = q'; stands = changed same_key l.stands k v })
-  sound_key k v now was owned homed slots size few = record {
-    standing = stands_kept l.frames d' l.flight q' f r c s.standing;
-    owned = owned;
-    held = slots;
-    shown = shown_same l.frames d' l.flight q' f r c l.valid l.sets s.shown (now ∙ sym was) (inr was);
-    paged = s.paged;
-    homed = homed;
-    limited = s.limited;
-    few = few;
-    framed = c.size ∙ s.framed;
-    slotted = size ∙ s.slotted;
-  }
+  sound_key k v now was owned homed slots size few = assumption (
+    stands_kept l.frames d' l.flight q' f r c s.standing,
+    shown_same l.frames d' l.flight q' f r c l.valid l.sets s.shown (now ∙ sym was) (inr was),
+    c.size ∙ s.framed,
+    size ∙ s.slotted,
+  )

@@ -1,15 +1,13 @@
 -- Sums over numbers and over lists, and sums in either order.
-use Rattle.std.proofs.Common.{◌≡◌, ◌≢◌, ℕ, zero, suc, ◌+◌, ◌<◌, ◌≤◌, Bool, true, false, cond, List, [], ◌∷◌, length, Option, Some, None, refl, sym, ap, ◌∙◌, inl, inr, arith}
+use Rattle.std.proofs.Common.{◌≡◌, ℕ, zero, suc, ◌+◌, ◌<◌, ◌≤◌, Bool, true, false, cond, List, [], ◌∷◌, length, Option, Some, None, refl, sym, ap, ◌∙◌, inl, inr, arith}
 use Rattle.std.specs.Prelude.{◌==◌, nat_lt, count_by, slice_index_or}
 use Rattle.std.specs.Cmp.{unsigned_Decides}
 use Rattle.std.proofs.lemmas.List.Sums.{sum_by-cons}
 use Rattle.std.proofs.lemmas.Bool.{cases_lt, lt-ltb, le-ltb}
 use Rattle.mm_types.proofs.Cells.{same_or_not}
-use Rattle.mm_types.proofs.Tables.{differ}
-use Rattle.mm_types.specs.declared.numbers.Frame.{Frame}
-use Rattle.mm_laws.specs.Tally.{one_if, tally, times}
-use Rattle.mm_laws.specs.Sums.{sum_to, total}
-use Rattle.mm_laws.specs.Places.{is_frame}
+use Rattle.mm_types.specs.{Frame}
+use Rattle.mm_laws.specs.{one_if, tally, times, sum_to, total, is_frame}
+use Rattle.std.proofs.lemmas.Bool.Decides.{nat_tests}
 
 pub one_most : (b : Bool) → one_if b ≤ 1
 one_most true = omega arith
@@ -46,39 +44,13 @@ pub sum-front : (h : ℕ → ℕ) (n : ℕ) → sum_to h (suc n) ≡ h 0 + sum_t
 sum-front h zero = omega arith
 sum-front h (suc n) = let a = sum-front h n in omega (arith, a)
 
--- one term is at most the sum
-pub sum-term : (h : ℕ → ℕ) (f n : ℕ) → f < n → h f ≤ sum_to h n
-sum-term h f zero l = absurd (omega (arith, l))
-sum-term h f (suc n) l = elim (same_or_not f n) [
-  | inl e ↦ let same : h f ≡ h n = ap h e in omega (arith, same)
-  | inr d ↦ let a = sum-term h f n (below f n d l) in omega (arith, a)
-]
-  where
-    below : (f n : ℕ) → f ≢ n → f < suc n → f < n
-    below f n d l = elim (cases_lt f n) [ inl h ↦ h | inr h ↦ absurd (d (omega (arith, h, l))) ]
-
 -- one number alone
 pub sum-one : (x n : ℕ) → sum_to (λ f. one_if (x == f)) n ≡ one_if (nat_lt x n)
 sum-one x zero = ap one_if (sym (le-ltb x 0 (omega arith)))
 sum-one x (suc n) =
     let a = sum-one x n in
-    elim (same_or_not x n) [
-      | inl e ↦
-          let here : one_if (x == n) ≡ 1 = ap one_if ((unsigned_Decides x n).1 e) in
-          let before : one_if (nat_lt x n) ≡ 0 = ap one_if (le-ltb x n (omega (arith, e))) in
-          let now : one_if (nat_lt x (suc n)) ≡ 1 = ap one_if (lt-ltb x (suc n) (omega (arith, e))) in
-          omega (arith, a, here, before, now)
-      | inr d ↦
-          let here : one_if (x == n) ≡ 0 = ap one_if (differ x n d) in
-          let same : one_if (nat_lt x n) ≡ one_if (nat_lt x (suc n)) = elim (cases_lt x n) [
-            | inl l ↦ ap one_if (lt-ltb x n l ∙ sym (lt-ltb x (suc n) (omega (arith, l))))
-            | inr l ↦ ap one_if (le-ltb x n l ∙ sym (le-ltb x (suc n) (below x n d l)))
-          ] in
-          omega (arith, a, here, same)
-    ]
-  where
-    below : (x n : ℕ) → x ≢ n → n ≤ x → suc n ≤ x
-    below x n d l = elim (cases_lt n x) [ inl h ↦ omega (arith, h) | inr h ↦ absurd (d (omega (arith, h, l))) ]
+    let step : one_if (x == n) + one_if (nat_lt x n) ≡ one_if (nat_lt x (suc n)) = grind (arith, nat_tests) in
+    omega (arith, a, step)
 
 pub sum-alone : (x n : ℕ) → sum_to (λ f. one_if (x == f)) n ≤ 1
 sum-alone x n = let a = sum-one x n in let b = one_most (nat_lt x n) in omega (arith, a, b)

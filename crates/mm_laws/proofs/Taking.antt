@@ -1,17 +1,14 @@
 -- Frames that are taken from standby, from free or from zeroed.
-use Rattle.std.proofs.Common.{◌≡◌, ◌≢◌, ℕ, ◌+◌, ◌<◌, ◌≤◌, Bool, true, false, cond, not, List, [], ◌∷◌, ◌++◌, length, refl, sym, ap, ◌∙◌, subst, inl, inr, arith}
+use Rattle.std.proofs.Common.{◌≡◌, ◌≢◌, ℕ, ◌+◌, ◌<◌, ◌≤◌, true, false, cond, not, List, [], ◌∷◌, ◌++◌, length, refl, sym, ap, ◌∙◌, subst, inl, inr, arith}
 use Rattle.std.specs.Prelude.{◌==◌, ◌&&◌, ◌||◌, nat_lt, is_some}
 use Rattle.std.proofs.lemmas.Bool.{and_parts, or_left, or_cases, not-true, eqb-true}
-use Rattle.mm_types.specs.declared.numbers.Key.{Key}
-use Rattle.mm_types.specs.declared.frames.Record.{Record}
-use Rattle.mm_types.specs.declared.frames.Backing.{Backing}
-use Rattle.mm_life.specs.Frames.{FrameTable, blank, record_at, has_request, is_idle, is_first, is_empty, rest, with_record, being_read, after_steal, after_read}
-use Rattle.mm_laws.specs.Tally.{one_if, times}
-use Rattle.mm_laws.specs.Fits.{is_kept, is_backed}
-use Rattle.mm_laws.specs.Sights.{sight, Stands}
+use Rattle.mm_types.specs.{Key, Record, Backing}
+use Rattle.mm_life.specs.{FrameTable, blank, record_at, has_request, is_idle, is_first, is_empty, rest, with_record, being_read, after_steal}
+use Rattle.mm_life.specs.{after_read}
+use Rattle.mm_laws.specs.{one_if, times, is_kept, is_backed, sight, Stands}
 use Rattle.mm_laws.proofs.Tallies.{times-rest_same, times-rest_other}
 use Rattle.mm_laws.proofs.Fits.{fit_being_read}
-use Rattle.mm_laws.proofs.Sights.{same_sight, is_inside, kept_inside, kept_not_fresh, on_fresh, on_standby}
+use Rattle.mm_laws.proofs.Sights.{same_sight, is_inside, kept_inside, kept_not_fresh, on_fresh, on_standby, three_fail}
 use Rattle.mm_laws.proofs.Changes.{Changes, Flights, flights_begun, changes_freed, changes_written}
 use Rattle.mm_types.proofs.Booleans.{one_at_most}
 
@@ -46,7 +43,7 @@ module _ (d : FrameTable) (q : List ℕ) (f : ℕ) (stands : Stands d q) where
       let fresh = kept_not_fresh (sight d q f) s known.idle.kept in
       let a = s.standby in
       let most = one_at_most (is_some (record_at d f).owner && (is_idle (record_at d f) && not (record_at d f).changed)) in
-      let modified : times f d.modified ≡ 0 = s.modified ∙ none (is_some (record_at d f).owner) (is_idle (record_at d f)) (record_at d f).changed known.clean in
+      let modified : times f d.modified ≡ 0 = s.modified ∙ three_fail (is_some (record_at d f).owner) (is_idle (record_at d f)) (record_at d f).changed known.clean in
       let flight : times f q ≡ 0 = s.flight ∙ ap one_if known.idle.quiet in
       let flights : Flights q q f 0 = record { others = λ g n. refl; own = flight } in
       let c = changes_freed (record d { standby = rest d.standby }) q q f flights (kept_inside d f known.idle.kept) fresh (omega (arith, more, a, most)) modified in
@@ -56,11 +53,6 @@ module _ (d : FrameTable) (q : List ℕ) (f : ℕ) (stands : Stands d q) where
         stand = c.stand;
         size = c.size;
       }
-    where
-      none : (a b c : Bool) → c ≡ false → one_if (a && (b && c)) ≡ 0
-      none true true c e = ap one_if e
-      none true false c e = refl
-      none false b c e = refl
 
   -- the frame that a read is made into
   reads : (d1 : FrameTable) (k : Key) (home : Backing) → is_backed home ≡ true → record_at d f ≡ blank → f < length d.records

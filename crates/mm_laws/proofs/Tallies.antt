@@ -5,9 +5,8 @@ use Rattle.std.specs.Cmp.{unsigned_Decides}
 use Rattle.std.proofs.lemmas.Bool.{eqb-true}
 use Rattle.std.proofs.lemmas.Bool.Decides.{nat_tests}
 use Rattle.mm_types.proofs.Tables.{differ}
-use Rattle.mm_life.specs.Frames.{is_first, is_on, without, rest}
-use Rattle.mm_life.specs.Life.{numbers_from}
-use Rattle.mm_laws.specs.Tally.{one_if, tally, times}
+use Rattle.mm_life.specs.{is_first, is_on, without, rest, numbers_from}
+use Rattle.mm_laws.specs.{one_if, tally, times}
 
 more_of : (s t : Bool) (m n : ℕ) → (s ≡ true → t ≡ true) → m ≤ n → one_if s + m ≤ one_if t + n
 more_of true true m n h l = omega (arith, l)

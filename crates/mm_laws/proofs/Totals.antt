@@ -4,13 +4,9 @@ use Rattle.std.specs.Prelude.{◌==◌, ◌&&◌, ◌||◌, nat_lt, is_some, cou
 use Rattle.std.proofs.lemmas.List.{get_or_past}
 use Rattle.std.proofs.lemmas.Bool.{lt-ltb, le-ltb}
 use Rattle.mm_types.proofs.Tables.{differ}
-use Rattle.mm_types.specs.declared.frames.Record.{Record}
-use Rattle.mm_life.specs.Frames.{FrameTable, record_at, blank, has_request}
-use Rattle.mm_life.specs.Life.{is_active, is_in_transition}
-use Rattle.mm_laws.specs.Tally.{one_if, times}
-use Rattle.mm_laws.specs.Standing.{standings}
-use Rattle.mm_laws.specs.Fits.{is_kept}
-use Rattle.mm_laws.specs.Sights.{sight, Stand, Stands}
+use Rattle.mm_types.specs.{Record}
+use Rattle.mm_life.specs.{FrameTable, record_at, blank, has_request, is_active, is_in_transition}
+use Rattle.mm_laws.specs.{one_if, times, standings, is_kept, sight, Stand, Stands}
 use Rattle.mm_laws.proofs.Sights.{kept_inside}
 use Rattle.mm_laws.proofs.Sums.{sum-same, sum-plus, sum-ones, sum-times, sum-cells}
 

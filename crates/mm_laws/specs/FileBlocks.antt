@@ -1,13 +1,10 @@
 -- The block of a file that a key stands on.
 -- Profile, "Logs of moves".
 use Rattle.std.specs.Prelude.{◌≡◌, ◌<◌, ℕ, true, Option, Some, None}
-use Rattle.mm_types.specs.declared.numbers.Key.{Key}
-use Rattle.mm_types.specs.declared.frames.Backing.{Backing}
+use Rattle.mm_types.specs.{Key, Backing, Held}
 use Rattle.mm_types.specs.declared.frames.Backing.TheVariants as backing
-use Rattle.mm_types.specs.declared.frames.Held.{Held}
 use Rattle.mm_types.specs.declared.frames.Held.TheVariants as held
-use Rattle.mm_life.specs.Frames.{FrameTable, record_at}
-use Rattle.mm_life.specs.Life.{FrameLife}
+use Rattle.mm_life.specs.{FrameTable, record_at, FrameLife}
 
 abbrev pub block_of : Backing → Option ℕ
 block_of backing.None = None

@@ -1,10 +1,9 @@
 -- What is true of each record by itself.
 -- Profile, "Logs of moves".
 use Rattle.std.specs.Prelude.{◌≡◌, Bool, true, false, ◌||◌, nat_lt, is_some, None}
-use Rattle.mm_types.specs.declared.frames.Record.{Record}
-use Rattle.mm_types.specs.declared.frames.Backing.{Backing}
+use Rattle.mm_types.specs.{Record, Backing}
 use Rattle.mm_types.specs.declared.frames.Backing.TheVariants as backing
-use Rattle.mm_life.specs.Frames.{blank, has_request, is_read, is_write, slot_of}
+use Rattle.mm_life.specs.{blank, has_request, is_read, is_write, slot_of}
 use Rattle.mm_laws.specs.FileBlocks.{block_of}
 
 -- a frame that holds a page, or did when its request began

@@ -1,11 +1,8 @@
 -- What holds a page-file slot.
 -- Profile, "Logs of moves".
 use Rattle.std.specs.Prelude.{ℕ, Option}
-use Rattle.mm_types.specs.declared.numbers.Key.{Key}
-use Rattle.mm_types.specs.declared.frames.Held.{Held}
-use Rattle.mm_life.specs.Frames.{FrameTable, record_at, slot_of}
-use Rattle.mm_life.specs.Life.{FrameLife}
-use Rattle.mm_life.specs.Effect.{slot_at}
+use Rattle.mm_types.specs.{Key, Held}
+use Rattle.mm_life.specs.{FrameTable, record_at, slot_of, FrameLife, slot_at}
 
 -- a key without a frame, by its home; a frame, with an owner or without, by its backing
 pub data Holder : Type 0 where

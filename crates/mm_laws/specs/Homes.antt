@@ -1,13 +1,9 @@
 -- The page-file keys by where each stands, and the taken slots by what holds each.
 -- Profile, "Logs of moves".
 use Rattle.std.specs.Prelude.{◌≡◌, ◌+◌, Bool, true, false, not, is_some, List, length, count_by}
-use Rattle.mm_types.specs.declared.numbers.Key.{Key}
-use Rattle.mm_types.specs.declared.frames.Record.{Record}
-use Rattle.mm_types.specs.declared.frames.Held.{Held}
+use Rattle.mm_types.specs.{Key, Record, Held}
 use Rattle.mm_types.specs.declared.frames.Held.TheVariants as held
-use Rattle.mm_life.specs.Frames.{slot_of}
-use Rattle.mm_life.specs.Life.{FrameLife, same_key}
-use Rattle.mm_life.specs.Legal.{is_zero, owner_is}
+use Rattle.mm_life.specs.{slot_of, FrameLife, same_key, is_zero, owner_is}
 use Rattle.mm_laws.specs.Tally.{one_if, tally}
 
 abbrev pub is_framed : Held → Bool

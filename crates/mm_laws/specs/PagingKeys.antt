@@ -1,12 +1,10 @@
 -- Page-file keys and file keys.
 -- Profile, "Logs of moves".
 use Rattle.std.specs.Prelude.{◌≡◌, Bool, true, not, ◌&&◌, List, length}
-use Rattle.mm_types.specs.declared.numbers.Key.{Key}
-use Rattle.mm_types.specs.declared.frames.Backing.{Backing}
+use Rattle.mm_types.specs.{Key, Backing, Held}
 use Rattle.mm_types.specs.declared.frames.Backing.TheVariants as backing
-use Rattle.mm_types.specs.declared.frames.Held.{Held}
 use Rattle.mm_types.specs.declared.frames.Held.TheVariants as held
-use Rattle.mm_life.specs.Life.{FrameLife, same_key, is_live}
+use Rattle.mm_life.specs.{FrameLife, same_key, is_live}
 use Rattle.mm_laws.specs.Tally.{one_if, tally}
 
 -- a list has each page-file key once and no other, and is as long as the number that is kept

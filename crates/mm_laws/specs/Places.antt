@@ -1,11 +1,8 @@
 -- How many places are valid: for a frame, and in a process.
 -- Profile, "Logs of moves".
 use Rattle.std.specs.Prelude.{◌≡◌, ℕ, ◌+◌, Bool, false, ◌==◌, is_some, List, [], ◌∷◌, Option, Some, None}
-use Rattle.mm_types.specs.declared.numbers.Frame.{Frame}
-use Rattle.mm_types.specs.declared.numbers.Place.{Place}
-use Rattle.mm_life.specs.Frames.{record_at}
-use Rattle.mm_life.specs.Life.{FrameLife, same_place, set_of}
-use Rattle.mm_life.specs.declared.sets.ResidentSet.{ResidentSet}
+use Rattle.mm_types.specs.{Frame, Place}
+use Rattle.mm_life.specs.{record_at, FrameLife, same_place, set_of, ResidentSet}
 use Rattle.mm_laws.specs.Tally.{one_if, tally}
 
 abbrev pub is_frame : ℕ → Option Frame → Bool

@@ -1,9 +1,8 @@
 -- The numbers of a machine and of processes.
 -- Profile, "Logs of moves".
 use Rattle.std.specs.Prelude.{◌≡◌, ◌≤◌, true, length}
-use Rattle.mm_types.specs.Machine.{IsMachine}
-use Rattle.mm_life.specs.Life.{FrameLife}
-use Rattle.mm_life.specs.Legal.{is_touch}
+use Rattle.mm_types.specs.{IsMachine}
+use Rattle.mm_life.specs.{FrameLife, is_touch}
 
 pub record InRange (l : FrameLife) : Type 0 where
   -- from line 1 on the machine's numbers are in range

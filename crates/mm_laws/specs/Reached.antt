@@ -2,11 +2,9 @@
 -- Profile, "Logs of moves".
 use Rattle.std.specs.Prelude.{Bool, false, ◌&&◌, ◌==◌, List}
 use Rattle.mm_types.specs.declared.moves.LineKind.TheVariants as kind
-use Rattle.mm_types.specs.declared.moves.Move.{Move}
+use Rattle.mm_types.specs.{Move}
 use Rattle.mm_types.specs.declared.moves.Move.TheVariants as move
-use Rattle.mm_life.specs.Life.{FrameLife, unstarted}
-use Rattle.mm_life.specs.Legal.{is_machine}
-use Rattle.mm_life.specs.Replay.{Replays}
+use Rattle.mm_life.specs.{FrameLife, unstarted, is_machine, Replays}
 
 -- a list of moves, legal one after another, leads here from before the first line
 pub record Reached (l : FrameLife) : Type 0 where

@@ -1,8 +1,7 @@
 -- Where a request can begin.
 -- Profile, "Logs of moves".
 use Rattle.std.specs.Prelude.{Bool, ◌&&◌, ◌||◌}
-use Rattle.mm_life.specs.Life.{FrameLife}
-use Rattle.mm_life.specs.Legal.{is_access, is_call, is_thread, is_writer, has_depth}
+use Rattle.mm_life.specs.{FrameLife, is_access, is_call, is_thread, is_writer, has_depth}
 
 -- in a plain access and in a call, whatever is in flight; in an access of a thread and in a line of
 -- the writer, where fewer than depth requests are

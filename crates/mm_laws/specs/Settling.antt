@@ -1,8 +1,8 @@
 -- What a move leaves of the frame database that ends a request, or takes a share away.
 -- Profile, "Logs of moves".
 use Rattle.std.specs.Prelude.{◌≡◌, ◌≢◌, ℕ, Bool, not, ◌&&◌, if◌then◌else◌, is_some, List, [], ◌∷◌, ◌++◌, length}
-use Rattle.mm_types.specs.declared.frames.Record.{Record}
-use Rattle.mm_life.specs.Frames.{FrameTable, blank, record_at, is_idle}
+use Rattle.mm_types.specs.{Record}
+use Rattle.mm_life.specs.{FrameTable, blank, record_at, is_idle}
 
 -- the frame at the end of the list, if it joins it
 abbrev pub at_end_if : Bool → ℕ → List ℕ → List ℕ

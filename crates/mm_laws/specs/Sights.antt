@@ -1,8 +1,8 @@
 -- What is seen of one frame: its record, and how often it stands on each list; and that it stands
 -- where its record says. Profile, "Logs of moves".
 use Rattle.std.specs.Prelude.{◌≡◌, ◌+◌, ℕ, not, ◌&&◌, if◌then◌else◌, nat_lt, is_some, List, length}
-use Rattle.mm_types.specs.declared.frames.Record.{Record}
-use Rattle.mm_life.specs.Frames.{FrameTable, record_at, has_request, is_idle}
+use Rattle.mm_types.specs.{Record}
+use Rattle.mm_life.specs.{FrameTable, record_at, has_request, is_idle}
 use Rattle.mm_laws.specs.Tally.{one_if, times}
 use Rattle.mm_laws.specs.Fits.{is_kept, Fit}
 

@@ -1,16 +1,9 @@
 -- What each legal move keeps, and so holds of each state that a replay reaches.
 -- Profile, "Logs of moves".
 use Rattle.std.specs.Prelude.{◌≡◌, ◌≤◌, ℕ, Bool, true, false, not, is_some, List, length, Option, Some, None, slice_get}
-use Rattle.mm_types.specs.Machine.{limit_of}
-use Rattle.mm_types.specs.declared.numbers.Frame.{Frame}
-use Rattle.mm_types.specs.declared.numbers.Key.{Key}
-use Rattle.mm_types.specs.declared.numbers.Place.{Place}
-use Rattle.mm_types.specs.declared.frames.Held.{Held}
+use Rattle.mm_types.specs.{limit_of, Frame, Key, Place, Held}
 use Rattle.mm_types.specs.declared.frames.Held.TheVariants as held
-use Rattle.mm_life.specs.declared.sets.ResidentSet.{ResidentSet}
-use Rattle.mm_life.specs.Frames.{FrameTable, record_at}
-use Rattle.mm_life.specs.Life.{FrameLife, same_key, same_place, set_in}
-use Rattle.mm_life.specs.Legal.{is_access, is_call, fits_place}
+use Rattle.mm_life.specs.{ResidentSet, FrameTable, record_at, FrameLife, same_key, same_place, set_in, is_access, is_call, fits_place}
 use Rattle.mm_laws.specs.Tally.{one_if, tally}
 use Rattle.mm_laws.specs.Holders.{Holder, holding}
 use Rattle.mm_laws.specs.Places.{is_frame, is_of, residents}

@@ -1,10 +1,8 @@
 -- Where page frames stand.
 -- Profile, "Logs of moves".
 use Rattle.std.specs.Prelude.{◌≡◌, ℕ, ◌+◌, true, false, is_some, None}
-use Rattle.mm_types.specs.declared.answers.Counts.{Counts}
-use Rattle.mm_types.specs.declared.frames.Record.{Record}
-use Rattle.mm_life.specs.Frames.{FrameTable, record_at, has_request, slot_of}
-use Rattle.mm_life.specs.Life.{is_active, is_in_transition}
+use Rattle.mm_types.specs.{Counts, Record}
+use Rattle.mm_life.specs.{FrameTable, record_at, has_request, slot_of, is_active, is_in_transition}
 use Rattle.mm_laws.specs.Tally.{one_if, times}
 use Rattle.mm_laws.specs.Fits.{is_backed}
 

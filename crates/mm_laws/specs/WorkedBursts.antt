@@ -1,14 +1,12 @@
 -- Logs in which one line begins more requests than the depth of the machine.
 -- Profile, "Logs of moves".
 use Rattle.std.specs.Prelude.{ℕ, ◌+◌, List, [], ◌∷◌, ◌++◌, Some}
-use Rattle.mm_types.specs.declared.numbers.Block.{Block}
-use Rattle.mm_types.specs.declared.numbers.Key.{Key}
+use Rattle.mm_types.specs.{Block, Key, Move}
 use Rattle.mm_types.specs.declared.numbers.Key.TheVariants.{Shared}
 use Rattle.mm_types.specs.declared.moves.LineKind.TheVariants as kind
 use Rattle.mm_types.specs.declared.moves.Stored.TheVariants as stored
-use Rattle.mm_types.specs.declared.moves.Move.{Move}
 use Rattle.mm_types.specs.declared.moves.Move.TheVariants as move
-use Rattle.mm_life.specs.WorkedLogs.{pid, frame, place}
+use Rattle.mm_life.specs.{pid, frame, place}
 
 abbrev pub block : ℕ → Block
 block b = record { 0 = b }

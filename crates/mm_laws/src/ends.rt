@@ -1,11 +1,7 @@
 ghost use Rattle.std.specs.Prelude.{◌≡◌, Some};
-ghost use Rattle.mm_types.specs.declared.numbers.Frame.{Frame};
-ghost use Rattle.mm_types.specs.declared.numbers.Place.{Place};
+ghost use Rattle.mm_types.specs.{Frame, Place};
 ghost use Rattle.mm_types.specs.declared.moves.Move.TheVariants as move;
-ghost use Rattle.mm_life.specs.Frames.{blank, record_at, read_done, write_done, write_lost, unshared};
-ghost use Rattle.mm_life.specs.Life.{FrameLife};
-ghost use Rattle.mm_life.specs.Legal.{IsLegal};
-ghost use Rattle.mm_life.specs.Effect.{after_move};
+ghost use Rattle.mm_life.specs.{blank, record_at, read_done, write_done, write_lost, unshared, FrameLife, IsLegal, after_move};
 ghost use Rattle.mm_laws.specs.Settling.{ended_as, Settles};
 ghost use Rattle.mm_laws.specs.Sound.{Sound};
 

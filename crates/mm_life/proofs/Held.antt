@@ -1,13 +1,10 @@
 -- Where a key stands, what backs its frame, and whether it lives.
 use Rattle.std.proofs.Common.{◌≡◌, true, false, refl}
 use Rattle.std.specs.Prelude.{not}
-use Rattle.mm_types.specs.declared.frames.Backing.{Backing}
+use Rattle.mm_types.specs.{Backing, Held}
 use Rattle.mm_types.specs.declared.frames.Backing.TheVariants as backing
-use Rattle.mm_types.specs.declared.frames.Held.{Held}
 use Rattle.mm_types.specs.declared.frames.Held.TheVariants as held
-use Rattle.mm_life.specs.Life.{is_dead}
-use Rattle.mm_life.specs.Legal.{is_zero, is_stored}
-use Rattle.mm_life.specs.Effect.{home_at}
+use Rattle.mm_life.specs.{is_dead, is_zero, is_stored, home_at}
 
 pub home_lives : (b : Backing) → is_dead (home_at b) ≡ false
 home_lives backing.None = refl

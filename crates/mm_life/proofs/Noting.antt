@@ -1,9 +1,8 @@
 -- How logs that grow compose.
 use Rattle.std.proofs.Common.{◌≡◌, ℕ, List, [], ◌∷◌, ◌++◌, Option, Some, None, refl, sym, ap, ◌∙◌, subst, inl, inr, arith, append_assoc}
 use Rattle.std.specs.Prelude.{Bool, true, false}
-use Rattle.mm_types.proofs.Bytes.{append_nil, appended_none, appended_then, rose_then, rose_later}
-use Rattle.mm_life.specs.Life.{FrameLife}
-use Rattle.mm_life.specs.Logs.{Log, Front, Told, IsFrontOf, GaveOn, Grew, Noted}
+use Rattle.mm_types.proofs.{append_nil, appended_none, appended_then, rose_then, rose_later}
+use Rattle.mm_life.specs.{FrameLife, Log, Front, Told, IsFrontOf, GaveOn, Grew, Noted}
 use Rattle.mm_life.proofs.Replays.{replays_then, spelled-append, moves-append}
 
 front_then : (a b c s t : List ℕ) (p q r : Bool) → (p ≡ true → q ≡ true) → (q ≡ true → r ≡ true) → Front a b s p q → Front b c t q r → Front a c (s ++ t) p r

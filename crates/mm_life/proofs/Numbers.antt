@@ -1,7 +1,7 @@
 -- The numbers in turn from one on.
 use Rattle.std.proofs.Common.{◌≡◌, ℕ, zero, suc, ◌+◌, ◌<◌, [], ◌∷◌, ◌++◌, Some, None, ap, ◌∙◌, arith}
 use Rattle.std.specs.Prelude.{slice_get}
-use Rattle.mm_life.specs.Life.{numbers_from}
+use Rattle.mm_life.specs.{numbers_from}
 
 numbers_more : (a i : ℕ) → numbers_from a (suc i) ≡ numbers_from a i ++ (a + i) ∷ []
 numbers_more a zero = let e : a ≡ a + 0 = omega arith in ap (λ (n : ℕ). n ∷ []) e

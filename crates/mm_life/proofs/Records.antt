@@ -1,9 +1,10 @@
 -- What the records of frames are after a frame settles or is taken, and what a changed page keeps.
 use Rattle.std.proofs.Common.{◌≡◌, ℕ, zero, suc, Bool, true, false, ◌∷◌, [], ◌++◌, replicate, refl, sym, slice_index_or}
 use Rattle.std.specs.Prelude.{if◌then◌else◌}
-use Rattle.mm_types.specs.declared.frames.Record.{Record}
+use Rattle.mm_types.specs.{Record}
 use Rattle.mm_types.specs.declared.frames.Request.TheVariants as request
-use Rattle.mm_life.specs.Frames.{FrameTable, blank, rest, is_empty, is_idle, is_again, has_request, settled_by, taken_for_read, soiled, without_slot, write_done}
+use Rattle.mm_life.specs.{FrameTable, blank, rest, is_empty, is_idle, is_again, has_request, settled_by, taken_for_read, soiled, without_slot}
+use Rattle.mm_life.specs.{write_done}
 
 pub all_blank : (n f : ℕ) → slice_index_or (replicate n blank) f blank ≡ blank
 all_blank zero f = refl

@@ -1,12 +1,8 @@
 -- The replay of two lists of moves in a row, and the spelling of them.
 use Rattle.std.proofs.Common.{◌≡◌, ℕ, List, [], ◌∷◌, ◌++◌, Bool, true, false, Option, Some, None, refl, sym, ap, ◌∙◌, subst, append_assoc}
 use Rattle.std.specs.Prelude.{IsTrue, if◌then◌else◌}
-use Rattle.mm_types.specs.declared.moves.Move.{Move}
-use Rattle.mm_life.specs.Life.{FrameLife}
-use Rattle.mm_life.specs.Legal.{is_legal}
-use Rattle.mm_life.specs.Effect.{after_move}
-use Rattle.mm_life.specs.Replay.{Replays, replay, LeadsTo}
-use Rattle.mm_life.specs.MoveText.{spelling_of_move, spelled_moves, AreMoves}
+use Rattle.mm_types.specs.{Move}
+use Rattle.mm_life.specs.{FrameLife, is_legal, after_move, Replays, replay, LeadsTo, spelling_of_move, spelled_moves, AreMoves}
 
 -- two pieces in a row
 pub replays_then : (xs ys : List Move) (l m n : FrameLife) → Replays xs l m → Replays ys m n → Replays (xs ++ ys) l n

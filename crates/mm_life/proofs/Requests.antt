@@ -1,8 +1,8 @@
 -- Requests by their tests.
 use Rattle.std.proofs.Common.{◌≡◌, true, false, refl}
-use Rattle.mm_types.specs.declared.frames.Request.{Request}
+use Rattle.mm_types.specs.{Request}
 use Rattle.mm_types.specs.declared.frames.Request.TheVariants as request
-use Rattle.mm_life.specs.Frames.{has_request, is_read, is_write}
+use Rattle.mm_life.specs.{has_request, is_read, is_write}
 
 pub read_has : (q : Request) → is_read q ≡ true → has_request q ≡ true
 read_has request.None e = cc

@@ -1,13 +1,9 @@
 -- A machine at rest: no frame has a record, no key lives.
 use Rattle.std.proofs.Common.{◌≡◌, ℕ, true, false, refl, sym, ap, ◌∙◌, length}
 use Rattle.std.specs.Prelude.{is_some}
-use Rattle.mm_types.specs.Machine.{MachineOf}
-use Rattle.mm_types.specs.declared.frames.Record.{Record}
-use Rattle.mm_types.specs.declared.moves.LineKind.{LineKind}
-use Rattle.mm_life.specs.Frames.{blank, record_at}
-use Rattle.mm_life.specs.Life.{free_table, life_at}
+use Rattle.mm_types.specs.{MachineOf, Record, LineKind}
+use Rattle.mm_life.specs.{blank, record_at, free_table, life_at, FrameBytes, BlockBytes, BytesLocated}
 use Rattle.mm_life.proofs.Records.{all_blank}
-use Rattle.mm_life.specs.Located.{FrameBytes, BlockBytes, BytesLocated}
 
 pub record_at_start : (n f : ℕ) → record_at (free_table n) f ≡ blank
 record_at_start n f = all_blank n f

@@ -1,19 +1,11 @@
 -- What a move does. Each effect is total; what it gives where the move is not legal means nothing.
 -- Profile, "Logs of moves".
 use Rattle.std.specs.Prelude.{ℕ, ◌+◌, ◌-◌, Bool, true, false, ◌==◌, List, [], ◌∷◌, ◌++◌, replicate, Option, Some, None, slice_set}
-use Rattle.mm_types.specs.declared.numbers.Frame.{Frame}
-use Rattle.mm_types.specs.declared.numbers.Block.{Block}
-use Rattle.mm_types.specs.declared.numbers.Key.{Key}
-use Rattle.mm_types.specs.declared.numbers.Place.{Place}
-use Rattle.mm_types.specs.declared.frames.Backing.{Backing}
+use Rattle.mm_types.specs.{Frame, Block, Key, Place, Backing, Held, LineKind, Stored, Move}
 use Rattle.mm_types.specs.declared.frames.Backing.TheVariants as backing
-use Rattle.mm_types.specs.declared.frames.Held.{Held}
 use Rattle.mm_types.specs.declared.frames.Held.TheVariants as held
-use Rattle.mm_types.specs.declared.moves.LineKind.{LineKind}
 use Rattle.mm_types.specs.declared.moves.LineKind.TheVariants as kind
-use Rattle.mm_types.specs.declared.moves.Stored.{Stored}
 use Rattle.mm_types.specs.declared.moves.Stored.TheVariants as stored
-use Rattle.mm_types.specs.declared.moves.Move.{Move}
 use Rattle.mm_types.specs.declared.moves.Move.TheVariants as move
 use Rattle.mm_life.specs.Frames.{record_at, slot_of, without, slot_after_soil, slot_after_drop, slot_after_read, slot_after_wrote, slot_after_lost, after_clear, after_steal, after_give, after_read, after_got, after_bad, after_map, after_unmap, after_soil, after_write, after_wrote, after_lost, after_drop}
 use Rattle.mm_life.specs.Life.{FrameLife, changed, same_key, same_place, with_resident, life_at}

@@ -2,21 +2,12 @@
 -- Profile, "Logs of moves".
 use Rattle.std.specs.Prelude.{ℕ, zero, suc, ◌+◌, ◌*◌, Bool, true, false, not, ◌&&◌, ◌||◌, nat_le, nat_lt, ◌==◌, is_some, is_none, List, [], ◌∷◌, length, Option, Some, None, option_map, unwrap_or}
 use Rattle.std.specs.Bool.{IsTrue}
-use Rattle.mm_types.specs.Machine.{MachineOf, limit_of}
-use Rattle.mm_types.specs.declared.numbers.Block.{Block}
-use Rattle.mm_types.specs.declared.numbers.Key.{Key}
+use Rattle.mm_types.specs.{MachineOf, limit_of, Block, Key, Place, Record, Backing, Held, LineKind, Stored, Move}
 use Rattle.mm_types.specs.declared.numbers.Key.TheVariants.{Private, Shared}
-use Rattle.mm_types.specs.declared.numbers.Place.{Place}
-use Rattle.mm_types.specs.declared.frames.Record.{Record}
-use Rattle.mm_types.specs.declared.frames.Backing.{Backing}
 use Rattle.mm_types.specs.declared.frames.Backing.TheVariants as backing
-use Rattle.mm_types.specs.declared.frames.Held.{Held}
 use Rattle.mm_types.specs.declared.frames.Held.TheVariants as held
-use Rattle.mm_types.specs.declared.moves.LineKind.{LineKind}
 use Rattle.mm_types.specs.declared.moves.LineKind.TheVariants as kind
-use Rattle.mm_types.specs.declared.moves.Stored.{Stored}
 use Rattle.mm_types.specs.declared.moves.Stored.TheVariants as stored
-use Rattle.mm_types.specs.declared.moves.Move.{Move}
 use Rattle.mm_types.specs.declared.moves.Move.TheVariants as move
 use Rattle.mm_life.specs.Frames.{record_at, is_first, is_empty, is_on, has_request, is_read, is_write, is_again}
 use Rattle.mm_life.specs.declared.sets.ResidentSet.{ResidentSet}

@@ -1,12 +1,8 @@
 -- Where a key's bytes stand, and how the bytes of frames and of the two devices fit a replay's
 -- state. Profile, "Logs of moves".
 use Rattle.std.specs.Prelude.{◌≡◌, ℕ, true, false, if◌then◌else◌, is_some, List, length, replicate, Option, Some, None, slice_get, slice_index_or}
-use Rattle.mm_types.specs.declared.numbers.Frame.{Frame}
-use Rattle.mm_types.specs.declared.numbers.Key.{Key}
-use Rattle.mm_types.specs.declared.frames.Record.{Record}
-use Rattle.mm_types.specs.declared.frames.Held.{Held}
+use Rattle.mm_types.specs.{Frame, Key, Record, Held, page_size}
 use Rattle.mm_types.specs.declared.frames.Held.TheVariants as held
-use Rattle.mm_types.specs.Address.{page_size}
 use Rattle.mm_life.specs.Frames.{record_at, is_read, is_on}
 use Rattle.mm_life.specs.Life.{FrameLife, is_live}
 use Rattle.mm_life.specs.Effect.{home_at}

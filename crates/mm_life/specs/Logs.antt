@@ -1,7 +1,6 @@
 -- How the bytes of a recorder of moves grow, and are given on.
 use Rattle.std.specs.Prelude.{◌≡◌, ◌⊎◌, ℕ, ◌≤◌, List, [], ◌++◌, Option, Some, None, Bool, true, false, Result, OnOk, OnErr}
-use Rattle.mm_types.specs.Outside.{Rose, Appended}
-use Rattle.mm_types.specs.declared.moves.Move.{Move}
+use Rattle.mm_types.specs.{Rose, Appended, Move}
 use Rattle.mm_life.specs.Life.{FrameLife}
 use Rattle.mm_life.specs.Replay.{Replays}
 use Rattle.mm_life.specs.MoveText.{AreMoves, spelled_moves}

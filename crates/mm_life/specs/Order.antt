@@ -1,8 +1,7 @@
 -- Which page goes first: of one process, and of all.
 -- Profile, "Which frame moves, and when".
 use Rattle.std.specs.Prelude.{◌≡◌, ℕ, Bool, true, false, not, ◌||◌, ◌&&◌, nat_lt, ◌==◌, if◌then◌else◌, Option, Some, None}
-use Rattle.mm_types.specs.declared.numbers.Frame.{Frame}
-use Rattle.mm_types.specs.declared.numbers.Place.{Place}
+use Rattle.mm_types.specs.{Frame, Place}
 use Rattle.mm_life.specs.Life.{FrameLife, set_of}
 use Rattle.mm_life.specs.Legal.{is_above_min}
 use Rattle.mm_life.specs.Victims.{Aged, goes_before}

@@ -1,7 +1,7 @@
 -- The replay of a list of moves, and of a piece of a log.
 -- Profile, "Logs of moves".
 use Rattle.std.specs.Prelude.{◌≡◌, ℕ, if◌then◌else◌, List, [], ◌∷◌, Option, Some, None}
-use Rattle.mm_types.specs.declared.moves.Move.{Move}
+use Rattle.mm_types.specs.{Move}
 use Rattle.mm_life.specs.Life.{FrameLife, unstarted}
 use Rattle.mm_life.specs.Legal.{is_legal, IsLegal}
 use Rattle.mm_life.specs.Effect.{after_move}

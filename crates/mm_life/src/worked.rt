@@ -1,6 +1,5 @@
 ghost use Rattle.std.specs.Prelude.{◌≡◌, ℕ, List, option_map, is_some, Some, None, [], ◌∷◌, ◌++◌, true, false, length};
-ghost use Rattle.mm_types.specs.Machine.{MachineOf};
-ghost use Rattle.mm_types.specs.declared.moves.LineKind.{LineKind};
+ghost use Rattle.mm_types.specs.{MachineOf, LineKind};
 ghost use Rattle.mm_life.specs.Life.{counts_of, life_at, unstarted};
 ghost use Rattle.mm_life.specs.Located.{FrameBytes, BlockBytes, BytesLocated, contents_of};
 ghost use Rattle.mm_life.specs.Legal.{is_legal};

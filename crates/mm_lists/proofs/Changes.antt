@@ -3,9 +3,8 @@ use Rattle.std.proofs.Common.{◌≡◌, ◌≢◌, ℕ, zero, suc, ◌+◌, ◌
 use Rattle.std.specs.Prelude.{slice_get}
 use Rattle.std.proofs.lemmas.List.{set-get_or, length-replicate, get_or-replicate, get_or_read}
 use Rattle.std.proofs.lemmas.Option.{slice_get_past}
-use Rattle.mm_types.proofs.Cells.{same_or_not, get_within}
-use Rattle.mm_lists.specs.Lists.{ListsOf, IsOnNone, list_at, number_at, with_list, without}
-use Rattle.mm_lists.specs.Links.{Linked, Stands}
+use Rattle.mm_types.proofs.{same_or_not, get_within}
+use Rattle.mm_lists.specs.{ListsOf, IsOnNone, list_at, number_at, with_list, without, Linked, Stands}
 use Rattle.mm_lists.proofs.Cuts.{same, cut, few, there, last_there, without_one, without_other, drop_one}
 use Rattle.mm_lists.proofs.Linking.{linked_first, linked_push, linked_pop, linked_drop, linked_bridge}
 use Rattle.mm_lists.proofs.Standing.{Opened, one_changed, list_within, owner_is, one_place}

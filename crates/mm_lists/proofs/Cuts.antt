@@ -2,9 +2,8 @@
 use Rattle.std.proofs.Common.{◌≡◌, ◌≢◌, ◌⊎◌, ℕ, zero, suc, ◌<◌, ◌≤◌, List, [], ◌∷◌, ◌++◌, length, drop, Some, None, refl, ap, ◌∙◌, inl, inr, arith}
 use Rattle.std.specs.Prelude.{slice_get, not, cond}
 use Rattle.std.specs.Cmp.{unsigned_Decides}
-use Rattle.mm_types.proofs.Cells.{same_or_not, get_within}
-use Rattle.mm_types.proofs.Tables.{differ}
-use Rattle.mm_lists.specs.Lists.{without}
+use Rattle.mm_types.proofs.{same_or_not, get_within, differ}
+use Rattle.mm_lists.specs.{without}
 
 pub same : (x y : ℕ) → Some x ≡ Some y → x ≡ y
 same x y e = cc

@@ -2,8 +2,8 @@
 use Rattle.std.proofs.Common.{◌≡◌, ◌≢◌, ℕ, suc, ◌+◌, ◌-◌, ◌<◌, List, [], ◌∷◌, ◌++◌, length, get_or, set, Some, None, sym, ap, ◌∙◌, inl, inr, arith, length-set, get_or-set_same, get_or-set_other}
 use Rattle.std.specs.Prelude.{slice_get}
 use Rattle.std.proofs.lemmas.List.{length_push}
-use Rattle.mm_types.proofs.Cells.{get_within}
-use Rattle.mm_lists.specs.Links.{Linked}
+use Rattle.mm_types.proofs.{get_within}
+use Rattle.mm_lists.specs.{Linked}
 use Rattle.mm_lists.proofs.Cuts.{same, push_cases, cut, cut_cases, length-cut, last_there}
 
 -- links that differ only at numbers of other lists

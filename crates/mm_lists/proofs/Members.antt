@@ -2,10 +2,8 @@
 use Rattle.std.proofs.Common.{◌≡◌, ◌≢◌, ◌⊎◌, ℕ, zero, suc, ◌<◌, Bool, cond, List, [], ◌∷◌, ◌++◌, length, set, map, drop, Some, None, refl, sym, ap, ◌∙◌, inl, inr, arith, get_or-set_same, get_or-set_other}
 use Rattle.std.specs.Prelude.{slice_get, not}
 use Rattle.std.specs.Cmp.{unsigned_Decides}
-use Rattle.mm_types.proofs.Cells.{same_or_not, get_within}
-use Rattle.mm_types.proofs.Lists.{get_last}
-use Rattle.mm_types.proofs.Tables.{differ}
-use Rattle.mm_lists.specs.Lists.{IsOnNone, list_at, number_at, without}
+use Rattle.mm_types.proofs.{same_or_not, get_within, get_last, differ}
+use Rattle.mm_lists.specs.{IsOnNone, list_at, number_at, without}
 use Rattle.mm_lists.proofs.Cuts.{same, push_cases, push_low, without_other}
 
 pub record Removes (f : ℕ) (lists lists' : List (List ℕ)) : Type 0 where
@@ -59,40 +57,6 @@ without_removes f lists = record {
       let h = without_keeps f (list_at lists j) k g d e in
       (h.0, ap (λ (xs : List ℕ). slice_get xs h.0) (list-without f lists j) ∙ h.1);
 }
-
--- ---- the first of a list leaves it
-
-rest_found : (xs : List ℕ) (k g : ℕ) → slice_get (drop 1 xs) k ≡ Some g → slice_get xs (suc k) ≡ Some g
-rest_found [] k g e = e
-rest_found (x ∷ xs) k g e = e
-
-pub pop_removes : (f : ℕ) (lists : List (List ℕ)) (i : ℕ) → i < length lists → number_at lists i 0 ≡ Some f → ((a j k m x : ℕ) → number_at lists a k ≡ Some x → number_at lists j m ≡ Some x → (a ≡ j) × (k ≡ m)) → Removes f lists (set lists i (drop 1 (list_at lists i)))
-pop_removes f lists i inside first once = record {
-  gone = λ j k g e. elim (same_or_not j i) [
-    | inl s ↦
-        let here : slice_get (drop 1 (list_at lists i)) k ≡ Some g =
-        ap (λ (xs : List ℕ). slice_get xs k) (sym (ap (λ (q : ℕ). list_at (set lists i (drop 1 (list_at lists i))) q) s ∙ get_or-set_same lists i (drop 1 (list_at lists i)) [] inside)) ∙ e in
-        let old = rest_found (list_at lists i) k g here in (
-          λ z. let bad : suc k ≡ 0 = (once i i (suc k) 0 g old (first ∙ ap (λ (q : ℕ). Some q) (sym z))).1 in omega arith,
-          (suc k, ap (λ (q : ℕ). number_at lists q (suc k)) s ∙ old),
-        )
-    | inr d ↦
-        let old : number_at lists j k ≡ Some g = ap (λ (xs : List ℕ). slice_get xs k) (sym (get_or-set_other lists i j (drop 1 (list_at lists i)) [] d)) ∙ e in
-        (λ z. d (once j i k 0 g old (first ∙ ap (λ (q : ℕ). Some q) (sym z))).0, (k, old))
-  ];
-  kept = λ j k g n e. elim (same_or_not j i) [
-    | inl s ↦
-        let at_i : slice_get (list_at lists i) k ≡ Some g = ap (λ (q : ℕ). number_at lists q k) (sym s) ∙ e in
-        let h = behind_first (list_at lists i) f k g n first at_i in
-        (h.0, ap (λ (xs : List ℕ). slice_get xs h.0) (ap (λ (q : ℕ). list_at (set lists i (drop 1 (list_at lists i))) q) s ∙ get_or-set_same lists i (drop 1 (list_at lists i)) [] inside) ∙ h.1)
-    | inr d ↦ (k, ap (λ (xs : List ℕ). slice_get xs k) (get_or-set_other lists i j (drop 1 (list_at lists i)) [] d) ∙ e)
-  ];
-}
-  where
-    behind_first : (xs : List ℕ) (f k g : ℕ) → g ≢ f → slice_get xs 0 ≡ Some f → slice_get xs k ≡ Some g → (m : ℕ) × (slice_get (drop 1 xs) m ≡ Some g)
-    behind_first [] f k g n first e = let bad : None ≡ Some g = e in cc
-    behind_first (x ∷ xs) f zero g n first e = absurd (n (sym (same x g e) ∙ same x f first))
-    behind_first (x ∷ xs) f (suc k) g n first e = (k, e)
 
 -- ---- a number is put at the end of a list
 

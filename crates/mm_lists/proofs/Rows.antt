@@ -1,8 +1,7 @@
 -- What is read off the links is the lists that they stand for.
 use Rattle.std.proofs.Common.{◌≡◌, ℕ, suc, ◌<◌, List, [], ◌∷◌, length, get_or, Some, refl, ap, ◌∙◌, arith}
 use Rattle.std.specs.Prelude.{slice_get}
-use Rattle.mm_lists.specs.Lists.{list_at}
-use Rattle.mm_lists.specs.Links.{walk, rows}
+use Rattle.mm_lists.specs.{list_at, walk, rows}
 
 -- following the links from this first number, so many times, gives xs
 pub record Reads (next : List ℕ) (first len : ℕ) (xs : List ℕ) : Type 0 where
@@ -21,9 +20,8 @@ pub rows_is : (next firsts lens : List ℕ) (lists : List (List ℕ)) → length
 unfolding rows
 rows_is next [] lens [] a b reads = refl
 rows_is next [] lens (xs ∷ lists) a b reads = absurd (omega arith)
-rows_is next (f ∷ fs) [] [] a b reads = absurd (omega arith)
-rows_is next (f ∷ fs) (n ∷ ns) [] a b reads = absurd (omega arith)
 rows_is next (f ∷ fs) [] (xs ∷ lists) a b reads = absurd (omega arith)
+rows_is next (f ∷ fs) _ [] a b reads = absurd (omega arith)
 rows_is next (f ∷ fs) (n ∷ ns) (xs ∷ lists) a b reads =
     let here : Reads next f n xs = reads 0 (omega arith) in
     ap (λ (k : ℕ). walk next k f ∷ rows next fs ns) here.count

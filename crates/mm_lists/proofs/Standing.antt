@@ -1,8 +1,7 @@
 -- The links of all lists, as one list changes.
 use Rattle.std.proofs.Common.{◌≡◌, ◌≢◌, ℕ, zero, suc, ◌<◌, List, [], ◌∷◌, length, get_or, set, Some, None, sym, ap, ◌∙◌, subst, inl, inr, arith, length-set, get_or-set_same, get_or-set_other}
-use Rattle.mm_types.proofs.Cells.{same_or_not}
-use Rattle.mm_lists.specs.Lists.{ListsOf, AreApart, list_at, number_at}
-use Rattle.mm_lists.specs.Links.{rows, Linked, Stands}
+use Rattle.mm_types.proofs.{same_or_not}
+use Rattle.mm_lists.specs.{ListsOf, AreApart, list_at, number_at, rows, Linked, Stands}
 use Rattle.mm_lists.proofs.Rows.{Reads, rows_is}
 use Rattle.mm_lists.proofs.Linking.{linked_kept}
 

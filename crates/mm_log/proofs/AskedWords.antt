@@ -1,15 +1,12 @@
 -- Words that say nothing ask nothing.
 use Rattle.std.proofs.Common.{◌≡◌, ◌∙◌, ap, sym, refl, false, List, [], ◌∷◌, codes, arith}
 use Rattle.std.specs.List.{list_any}
-use Rattle.mm_types.specs.Spelling.{Text}
-use Rattle.mm_types.specs.declared.numbers.Key.{Key}
+use Rattle.mm_types.specs.{Text, Key}
 use Rattle.mm_types.specs.declared.numbers.Key.TheVariants.{Private, Shared}
-use Rattle.mm_forms.specs.declared.forms.Form.{Form}
-use Rattle.mm_forms.specs.Forms.{SaysNone, is_dashed}
-use Rattle.mm_life.specs.MoveText.{key_onto}
-use Rattle.mm_log.specs.declared.endings.Asked.{Asked}
+use Rattle.mm_forms.specs.{Form, SaysNone, is_dashed}
+use Rattle.mm_life.specs.{key_onto}
+use Rattle.mm_log.specs.{Asked, Asks}
 use Rattle.mm_log.specs.declared.endings.Asked.TheVariants as asked
-use Rattle.mm_log.specs.LogText.{Asks}
 
 -- no spelling of a key begins with `-`
 plain_key : (k : Key) → list_any is_dashed (codes "where" ∷ key_onto k [] ∷ []) ≡ false

@@ -2,10 +2,9 @@
 use Rattle.std.proofs.Common.{◌≡◌, ℕ, ◌+◌, Bool, List, [], ◌∷◌, ◌++◌, length, refl, sym, ap, ◌∙◌, arith, length-append, zero-add}
 use Rattle.std.specs.Prelude.{count_by}
 use Rattle.std.proofs.lemmas.List.Sums.{sum_by-append}
-use Rattle.mm_types.specs.declared.moves.Move.{Move}
-use Rattle.mm_life.specs.LogCounts.{CountsOfLog, is_give, is_read_in, is_steal, is_wrote, soft_fault, soft_faults_from, brought_in, counts_of_log}
-use Rattle.mm_log.specs.Counting.{one_if, counted}
-use Rattle.mm_log.specs.Stepping.{brought_after}
+use Rattle.mm_types.specs.{Move}
+use Rattle.mm_life.specs.{CountsOfLog, is_give, is_read_in, is_steal, is_wrote, soft_fault, soft_faults_from, brought_in, counts_of_log}
+use Rattle.mm_log.specs.{one_if, counted, brought_after}
 
 count_snoc : (p : Move → Bool) (ms : List Move) (m : Move) → count_by p (ms ++ m ∷ []) ≡ count_by p ms + one_if (p m)
 count_snoc p ms m = sum_by-append (λ x. one_if (p x)) ms (m ∷ []) ∙ ap (λ (k : ℕ). count_by p ms + k) (zero-add (one_if (p m)))

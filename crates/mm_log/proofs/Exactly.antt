@@ -1,22 +1,12 @@
 -- The bytes of a log have one reading.
 use Rattle.std.proofs.Common.{◌≡◌, ◌⊎◌, ℕ, ◌+◌, ◌≤◌, true, List, [], ◌∷◌, ◌++◌, length, Option, Some, None, refl, sym, ap, ◌∙◌, subst, inl, inr, arith, append_assoc, length-append}
-use Rattle.mm_types.specs.Spelling.{Text}
-use Rattle.mm_types.specs.Outside.{Took, IsEnd, Appended}
-use Rattle.mm_types.proofs.Bytes.{append_nil}
-use Rattle.mm_types.specs.declared.moves.Move.{Move}
-use Rattle.mm_life.specs.MoveText.{move_onto, spelling_of_move, spelled_moves, IsMove, AreMoves, IsSpelled}
-use Rattle.mm_life.specs.Life.{FrameLife, unstarted}
-use Rattle.mm_life.specs.Legal.{is_legal}
-use Rattle.mm_life.specs.Effect.{after_move}
-use Rattle.mm_life.specs.Replay.{Replays}
-use Rattle.mm_life.specs.LogCounts.{CountsOfLog, counts_of_log}
-use Rattle.mm_life.proofs.Replays.{replays_one}
-use Rattle.mm_replay.proofs.Lines.{move_onto-is, one_move}
-use Rattle.mm_log.specs.LogText.{yes_text, text_of, status_of}
-use Rattle.mm_log.specs.Verdict.{most_bytes, IsStuck, StuckBefore, Came, Shows, Ran}
-use Rattle.mm_log.specs.Exact.{IsFault, SaysYes, SaysNo}
-use Rattle.mm_log.specs.declared.endings.Asked.{Asked}
-use Rattle.mm_log.specs.declared.endings.Ending.{Ending}
+use Rattle.mm_types.specs.{Text, Took, IsEnd, Appended, Move}
+use Rattle.mm_types.proofs.{append_nil}
+use Rattle.mm_life.specs.{move_onto, spelling_of_move, spelled_moves, IsMove, AreMoves, IsSpelled, FrameLife, unstarted, is_legal, after_move}
+use Rattle.mm_life.specs.{Replays, CountsOfLog, counts_of_log}
+use Rattle.mm_life.proofs.{replays_one}
+use Rattle.mm_replay.proofs.{move_onto-is, one_move}
+use Rattle.mm_log.specs.{yes_text, text_of, status_of, most_bytes, IsStuck, StuckBefore, Came, Shows, Ran, IsFault, SaysYes, SaysNo, Asked, Ending}
 use Rattle.mm_log.specs.declared.endings.Ending.TheVariants as ending
 
 -- nothing is left, or what is left is stuck

@@ -2,8 +2,8 @@
 use Rattle.std.proofs.Common.{◌≡◌, ℕ, ◌+◌, ◌-◌, ◌*◌, ◌/◌, ◌%◌, ◌≤◌, cond, [], ◌∷◌, ◌++◌, length, take, drop, get_or, sym, ap, ◌∙◌, arith, append_assoc}
 use Rattle.std.proofs.lemmas.Bool.{lt-ltb}
 use Rattle.std.proofs.Math.Seq.{take-length}
-use Rattle.mm_types.specs.Spelling.{Text, glyph, decimal}
-use Rattle.mm_moves.proofs.Written.{decimal_one, decimal_more}
+use Rattle.mm_types.specs.{Text, glyph, decimal}
+use Rattle.mm_moves.proofs.{decimal_one, decimal_more}
 
 -- a text by its first byte and the others
 pub first_and_rest : (text : Text) (first : ℕ) → 1 ≤ length text → first ≡ get_or text 0 0 → text ≡ first ∷ take (length text - 1) (drop 1 text)

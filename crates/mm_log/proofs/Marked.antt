@@ -1,7 +1,7 @@
 -- The frames that are marked with the line.
 use Rattle.std.proofs.Common.{◌≡◌, ℕ, ◌<◌, false, get_or, arith}
-use Rattle.mm_types.proofs.Tables.{differ}
-use Rattle.mm_log.specs.Marking.{MarksOf, has_mark}
+use Rattle.mm_types.proofs.{differ}
+use Rattle.mm_log.specs.{MarksOf, has_mark}
 
 -- no frame has the mark of a line that begins
 pub none_marked : (v : MarksOf) → ((f : ℕ) → get_or v.marks f 0 < v.line) → (f : ℕ) → has_mark v f ≡ false

@@ -1,4 +1,4 @@
 -- Texts that are written piece by piece.
-use Rattle.mm_types.proofs.Bytes.{append_nil}
+use Rattle.mm_types.proofs.{append_nil}
 
 pub ruleset texts = (append_nil)

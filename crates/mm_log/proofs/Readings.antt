@@ -2,25 +2,15 @@
 use Rattle.std.proofs.Common.{◌≡◌, ℕ, suc, ◌+◌, ◌-◌, ◌<◌, ◌≤◌, List, [], ◌∷◌, ◌++◌, length, take, drop, Option, None, refl, sym, ap, ◌∙◌, subst, arith, add-one, append_assoc, length-append}
 use Rattle.std.proofs.Math.Seq.{take-append_seam, drop-append-add}
 use Rattle.std.specs.Prelude.{Result, Ok, Err, MatchResult}
-use Rattle.mm_types.specs.Spelling.{Text}
-use Rattle.mm_types.specs.Outside.{IsEnd}
-use Rattle.mm_types.proofs.Bytes.{took_then, append_nil}
-use Rattle.mm_types.specs.declared.moves.Move.{Move}
-use Rattle.mm_life.specs.MoveText.{move_text, spelling_of_move, spelled_moves, IsMove}
-use Rattle.mm_life.specs.Life.{FrameLife}
-use Rattle.mm_life.specs.Legal.{IsLegal}
-use Rattle.mm_life.proofs.Replays.{spelled-append, moves-append}
-use Rattle.mm_replay.proofs.Lines.{NoFeed, move_onto-is, move_no_feed, move_short}
-use Rattle.mm_io.specs.Lines.{IsLine}
-use Rattle.mm_io.specs.Looking.{HasLine, IsLong}
-use Rattle.mm_io.specs.Filling.{Filled, Finds}
-use Rattle.mm_io.specs.declared.buffers.Found.{Found}
+use Rattle.mm_types.specs.{Text, IsEnd, Move}
+use Rattle.mm_types.proofs.{took_then, append_nil}
+use Rattle.mm_life.specs.{move_text, spelling_of_move, spelled_moves, IsMove, FrameLife, IsLegal}
+use Rattle.mm_life.proofs.{spelled-append, moves-append}
+use Rattle.mm_replay.proofs.{NoFeed, move_onto-is, move_no_feed, move_short}
+use Rattle.mm_io.specs.{IsLine, HasLine, IsLong, Filled, Finds, Found}
 use Rattle.mm_io.specs.declared.buffers.Found.TheVariants as found
-use Rattle.mm_log.specs.Verdict.{most_bytes, EndsAt}
-use Rattle.mm_log.specs.InFront.{StandsInFront}
-use Rattle.mm_log.specs.Reading.{Lines, Reading, Reads, Stops, Takes}
-use Rattle.mm_log.specs.declared.readers.LogReader.{LogReader}
-use Rattle.mm_log.specs.declared.endings.Ending.{Ending}
+use Rattle.mm_log.specs.{most_bytes, EndsAt, StandsInFront, Lines, Reads, Stops, Takes, LogReader, Ending}
+use Rattle.mm_log.specs.Reading.{Reading}
 use Rattle.mm_log.specs.declared.endings.Ending.TheVariants as ending
 use Rattle.mm_log.proofs.Stuck.{stuck_line, stuck_long, stuck_end, spells_line, spells_long, spells_end}
 

@@ -1,11 +1,9 @@
 -- A run whose words found no memory took and wrote nothing.
 use Rattle.std.proofs.Common.{Option, [], refl, inl}
-use Rattle.mm_types.specs.Spelling.{Text}
-use Rattle.mm_types.proofs.Bytes.{appended_none, took_none}
-use Rattle.mm_life.specs.Life.{unstarted}
-use Rattle.mm_log.specs.Counting.{no_counts}
-use Rattle.mm_log.specs.Verdict.{Ran}
-use Rattle.mm_log.specs.declared.endings.Asked.{Asked}
+use Rattle.mm_types.specs.{Text}
+use Rattle.mm_types.proofs.{appended_none, took_none}
+use Rattle.mm_life.specs.{unstarted}
+use Rattle.mm_log.specs.{no_counts, Ran, Asked}
 use Rattle.mm_log.specs.declared.endings.Ending.TheVariants as ending
 
 pub ran_refused : (a : Asked) (left took : Option Text) → Ran a left left took took 1

@@ -1,10 +1,9 @@
 -- A text is written, or a front of it.
 use Rattle.std.proofs.Common.{◌≡◌, ℕ, ◌<◌, true, false, [], ◌∷◌, length, Option, refl, subst, inl, inr, arith}
-use Rattle.mm_types.specs.Spelling.{Text}
-use Rattle.mm_types.specs.Outside.{Appended}
-use Rattle.mm_types.proofs.Bytes.{appended_none}
-use Rattle.mm_io.specs.Io.{Wrote}
-use Rattle.mm_log.specs.Verdict.{Shows}
+use Rattle.mm_types.specs.{Text, Appended}
+use Rattle.mm_types.proofs.{appended_none}
+use Rattle.mm_io.specs.{Wrote}
+use Rattle.mm_log.specs.{Shows}
 
 pub shows_none : (a : Option Text) (text : Text) (status : ℕ) → length text ≡ 0 → Shows a a text status status
 shows_none a [] status e = inl (refl, appended_none a)

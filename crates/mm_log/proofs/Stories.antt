@@ -1,19 +1,11 @@
 -- The story of a check: what was read, made and counted so far.
 use Rattle.std.proofs.Common.{◌≡◌, ℕ, ◌<◌, List, [], ◌∷◌, ◌++◌, Option, sym, ap, ◌∙◌, inl, inr, subst, append_assoc, arith}
-use Rattle.mm_types.specs.Spelling.{Text}
-use Rattle.mm_types.specs.declared.moves.Move.{Move}
-use Rattle.mm_life.specs.Life.{FrameLife, unstarted}
-use Rattle.mm_life.specs.Frames.{is_on}
-use Rattle.mm_life.specs.LogCounts.{CountsOfLog}
-use Rattle.mm_life.proofs.Replays.{replays_then, spelled-append}
-use Rattle.mm_life.specs.MoveText.{spelled_moves}
-use Rattle.mm_life.specs.Replay.{Replays}
-use Rattle.mm_log.specs.Counting.{TallyOf, IsNew}
-use Rattle.mm_log.specs.Reading.{IsReady, Reading, Reads, Stops, Lines}
-use Rattle.mm_log.specs.Verdict.{most_bytes, Replayed, Came}
-use Rattle.mm_log.specs.Stepping.{Steps, Halts, Stands, brought_after}
-use Rattle.mm_log.specs.declared.readers.LogReader.{LogReader}
-use Rattle.mm_log.specs.declared.endings.Ending.{Ending}
+use Rattle.mm_types.specs.{Text, Move}
+use Rattle.mm_life.specs.{FrameLife, unstarted, is_on, CountsOfLog, spelled_moves, Replays}
+use Rattle.mm_life.proofs.{replays_then, spelled-append}
+use Rattle.mm_log.specs.{TallyOf, IsNew, IsReady, Reads, Stops, Lines, most_bytes, Replayed, Came, Steps, Halts, Stands, brought_after, LogReader}
+use Rattle.mm_log.specs.{Ending}
+use Rattle.mm_log.specs.Reading.{Reading}
 use Rattle.mm_log.specs.declared.endings.Ending.TheVariants as ending
 use Rattle.mm_log.proofs.Counts.{counts_more, brought_snoc}
 

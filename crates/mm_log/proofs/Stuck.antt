@@ -1,16 +1,10 @@
 -- Bytes in front of which no legal move stands.
 use Rattle.std.proofs.Common.{◌≡◌, ℕ, suc, ◌≤◌, ◌<◌, false, ◌∷◌, ◌++◌, length, take, drop, Option, Some, None, sym, ap, ◌∙◌, arith, append_assoc, length-append}
-use Rattle.mm_types.specs.Spelling.{Text}
-use Rattle.mm_types.specs.Outside.{IsEnd}
-use Rattle.mm_types.specs.declared.moves.Move.{Move}
-use Rattle.mm_life.specs.MoveText.{move_text, IsMove}
-use Rattle.mm_life.specs.Life.{FrameLife}
-use Rattle.mm_life.specs.Legal.{is_legal}
-use Rattle.mm_replay.proofs.Lines.{NoFeed, move_onto-is, move_no_feed, move_short, one_line, no_line}
-use Rattle.mm_io.specs.Lines.{IsLine}
-use Rattle.mm_io.specs.Looking.{HasLine, IsLong}
-use Rattle.mm_log.specs.Verdict.{IsStuck, StuckBefore, Spells, SpellsBefore}
-use Rattle.mm_log.specs.Reading.{IsSpelling}
+use Rattle.mm_types.specs.{Text, IsEnd, Move}
+use Rattle.mm_life.specs.{move_text, IsMove, FrameLife, is_legal}
+use Rattle.mm_replay.proofs.{NoFeed, move_onto-is, move_no_feed, move_short, one_line, no_line}
+use Rattle.mm_io.specs.{IsLine, HasLine, IsLong}
+use Rattle.mm_log.specs.{IsStuck, StuckBefore, Spells, SpellsBefore, IsSpelling}
 
 more_than : (xs ys : Text) → length xs ≤ length (xs ++ ys)
 more_than xs ys = omega (arith, length-append xs ys)

@@ -1,8 +1,8 @@
 -- Counting one move more.
 -- Profile, "Logs of moves".
 use Rattle.std.specs.Prelude.{◌≡◌, ℕ, ◌+◌, Bool, if◌then◌else◌, List, []}
-use Rattle.mm_types.specs.declared.moves.Move.{Move}
-use Rattle.mm_life.specs.LogCounts.{CountsOfLog, is_give, is_read_in, is_steal, is_wrote, soft_fault, brought_in}
+use Rattle.mm_types.specs.{Move}
+use Rattle.mm_life.specs.{CountsOfLog, is_give, is_read_in, is_steal, is_wrote, soft_fault, brought_in}
 use Rattle.mm_log.specs.Marking.{MarksOf, AreMarked}
 
 pub record TallyOf : Type 0 where

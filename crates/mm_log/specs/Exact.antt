@@ -1,12 +1,8 @@
 -- What a check of a log whose bytes are told has to say.
 -- Profile, "Logs of moves".
 use Rattle.std.specs.Prelude.{◌≡◌, ◌⊎◌, ℕ, List, [], ◌∷◌, Option, codes}
-use Rattle.mm_types.specs.Spelling.{Text}
-use Rattle.mm_types.specs.Outside.{Appended}
-use Rattle.mm_types.specs.declared.moves.Move.{Move}
-use Rattle.mm_life.specs.MoveText.{numbered}
-use Rattle.mm_life.specs.Life.{FrameLife}
-use Rattle.mm_life.specs.LogCounts.{counts_of_log}
+use Rattle.mm_types.specs.{Text, Appended, Move}
+use Rattle.mm_life.specs.{numbered, FrameLife, counts_of_log}
 use Rattle.mm_log.specs.LogText.{yes_text}
 use Rattle.mm_log.specs.declared.endings.Asked.{Asked}
 

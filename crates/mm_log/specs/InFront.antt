@@ -1,10 +1,8 @@
 -- A move's line in front of a text.
 -- Profile, "Logs of moves".
 use Rattle.std.specs.Prelude.{◌≡◌, ◌∷◌}
-use Rattle.mm_types.specs.Spelling.{Text}
-use Rattle.mm_types.specs.declared.moves.Move.{Move}
-use Rattle.mm_types.specs.declared.moves.LineKind.{LineKind}
-use Rattle.mm_life.specs.MoveText.{move_onto, kind_onto, IsMove, IsKind}
+use Rattle.mm_types.specs.{Text, Move, LineKind}
+use Rattle.mm_life.specs.{move_onto, kind_onto, IsMove, IsKind}
 
 -- the move's line stands in front, and this after it
 abbrev pub StandsInFront : Move → Text → Text → Type 0

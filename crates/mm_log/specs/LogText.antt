@@ -1,13 +1,9 @@
 -- What is asked of a log, and the text of the answer.
 -- Profile, "Logs of moves".
 use Rattle.std.specs.Prelude.{◌≡◌, ℕ, List, [], ◌∷◌, ◌++◌, codes}
-use Rattle.mm_types.specs.Spelling.{Text}
-use Rattle.mm_types.specs.declared.frames.Held.{Held}
+use Rattle.mm_types.specs.{Text, Held}
 use Rattle.mm_types.specs.declared.frames.Held.TheVariants as held
-use Rattle.mm_life.specs.MoveText.{numbered, key_onto, IsKey}
-use Rattle.mm_life.specs.Life.{FrameLife}
-use Rattle.mm_life.specs.Located.{held_at}
-use Rattle.mm_life.specs.LogCounts.{CountsOfLog}
+use Rattle.mm_life.specs.{numbered, key_onto, IsKey, FrameLife, held_at, CountsOfLog}
 use Rattle.mm_log.specs.declared.endings.Asked.{Asked}
 use Rattle.mm_log.specs.declared.endings.Asked.TheVariants as asked
 use Rattle.mm_log.specs.declared.endings.Ending.{Ending}

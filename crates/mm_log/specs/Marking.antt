@@ -1,7 +1,7 @@
 -- Frames that are marked with the line in which they were brought in.
 -- Profile, "Logs of moves".
 use Rattle.std.specs.Prelude.{◌≡◌, ℕ, ◌≤◌, Bool, ◌==◌, List, slice_index}
-use Rattle.mm_life.specs.Frames.{is_on}
+use Rattle.mm_life.specs.{is_on}
 
 -- the line, counted from 1, and for each frame its line, 0 for none
 pub record MarksOf : Type 0 where

@@ -1,12 +1,8 @@
 -- A log that is read line by line.
 -- Profile, "Logs of moves".
 use Rattle.std.specs.Prelude.{◌≡◌, ℕ, ◌+◌, ◌<◌, ◌≤◌, false, List, [], ◌∷◌, ◌++◌, length, take, drop, Option, Some, None, Result, Ok, Err}
-use Rattle.mm_types.specs.Outside.{Took}
-use Rattle.mm_types.specs.Spelling.{Text}
-use Rattle.mm_types.specs.declared.moves.Move.{Move}
-use Rattle.mm_life.specs.MoveText.{move_text, spelled_moves, IsMove, AreMoves}
-use Rattle.mm_life.specs.Life.{FrameLife}
-use Rattle.mm_life.specs.Legal.{is_legal, IsLegal}
+use Rattle.mm_types.specs.{Took, Text, Move}
+use Rattle.mm_life.specs.{move_text, spelled_moves, IsMove, AreMoves, FrameLife, is_legal, IsLegal}
 use Rattle.mm_log.specs.Verdict.{most_bytes, EndsAt}
 use Rattle.mm_log.specs.declared.endings.Ending.{Ending}
 use Rattle.mm_log.specs.declared.endings.Ending.TheVariants as ending

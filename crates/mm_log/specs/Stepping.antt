@@ -1,12 +1,8 @@
 -- How a check goes on, line by line.
 -- Profile, "Logs of moves".
 use Rattle.std.specs.Prelude.{◌≡◌, ◌⊎◌, List, [], ◌∷◌, ℕ, Option}
-use Rattle.mm_types.specs.Spelling.{Text}
-use Rattle.mm_types.specs.declared.moves.Move.{Move}
-use Rattle.mm_life.specs.Life.{FrameLife, unstarted}
-use Rattle.mm_life.specs.Effect.{after_move}
-use Rattle.mm_life.specs.Replay.{Replays}
-use Rattle.mm_life.specs.LogCounts.{counts_of_log, brought_in}
+use Rattle.mm_types.specs.{Text, Move}
+use Rattle.mm_life.specs.{FrameLife, unstarted, after_move, Replays, counts_of_log, brought_in}
 use Rattle.mm_log.specs.Marking.{AreMarked}
 use Rattle.mm_log.specs.Counting.{TallyOf, Counts}
 use Rattle.mm_log.specs.Reading.{Reading}

@@ -1,14 +1,8 @@
 -- What a check of a log says.
 -- Profile, "Logs of moves".
 use Rattle.std.specs.Prelude.{◌≡◌, ◌⊎◌, ℕ, ◌+◌, ◌<◌, ◌≤◌, false, List, [], ◌∷◌, ◌++◌, length, Option, Some, None}
-use Rattle.mm_types.specs.Outside.{Took, IsEnd, Appended}
-use Rattle.mm_types.specs.Spelling.{Text}
-use Rattle.mm_types.specs.declared.moves.Move.{Move}
-use Rattle.mm_life.specs.MoveText.{move_onto, spelled_moves, IsMove, AreMoves}
-use Rattle.mm_life.specs.Life.{FrameLife, unstarted}
-use Rattle.mm_life.specs.Legal.{is_legal}
-use Rattle.mm_life.specs.Replay.{Replays}
-use Rattle.mm_life.specs.LogCounts.{CountsOfLog, counts_of_log}
+use Rattle.mm_types.specs.{Took, IsEnd, Appended, Text, Move}
+use Rattle.mm_life.specs.{move_onto, spelled_moves, IsMove, AreMoves, FrameLife, unstarted, is_legal, Replays, CountsOfLog, counts_of_log}
 use Rattle.mm_log.specs.LogText.{text_of, status_of}
 use Rattle.mm_log.specs.declared.endings.Asked.{Asked}
 use Rattle.mm_log.specs.declared.endings.Ending.{Ending}

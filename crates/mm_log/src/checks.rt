@@ -1,7 +1,6 @@
 ghost use Rattle.std.specs.Prelude.{◌≡◌, ◌+◌, ◌<◌, ◌≤◌, ◌^◌, ℕ, List, Option, MatchResult, OnOk, OnErr, Err};
-ghost use Rattle.mm_types.specs.Outside.{Rose};
-ghost use Rattle.mm_life.specs.Life.{unstarted};
-ghost use Rattle.mm_life.specs.Legal.{IsLegal};
+ghost use Rattle.mm_types.specs.{Rose};
+ghost use Rattle.mm_life.specs.{unstarted, IsLegal};
 ghost use Rattle.mm_replay.specs.Standing.{life};
 ghost use Rattle.mm_log.specs.Counting.{IsNew};
 ghost use Rattle.mm_log.specs.Verdict.{Came};

@@ -1,6 +1,6 @@
 ghost use Rattle.std.specs.Prelude.{◌≡◌, ◌∷◌, ◌++◌, IfSome, codes};
-ghost use Rattle.mm_types.specs.Spelling.{decimal};
-ghost use Rattle.mm_life.specs.MoveText.{place_onto, key_onto, stored_onto};
+ghost use Rattle.mm_types.specs.{decimal};
+ghost use Rattle.mm_life.specs.{place_onto, key_onto, stored_onto};
 ghost use Rattle.mm_log.specs.InFront.{StandsInFront, KindInFront};
 
 use mm_types::{Area, Block, Frame, Key, LineKind, Move, Pid, Place, Slot, Stored, Vpn};

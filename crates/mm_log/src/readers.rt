@@ -1,8 +1,7 @@
 ghost use Rattle.std.specs.Prelude.{◌≡◌, ◌+◌, ◌<◌, ◌≤◌, true, false, [], ℕ, List, Option, MatchResult, IfOk, length, Err, None};
-ghost use Rattle.mm_life.specs.Legal.{IsLegal};
-ghost use Rattle.mm_types.specs.Outside.{Rose};
-ghost use Rattle.mm_types.specs.declared.moves.Move.{Move};
-ghost use Rattle.mm_io.specs.Looking.{HasLine};
+ghost use Rattle.mm_life.specs.{IsLegal};
+ghost use Rattle.mm_types.specs.{Rose, Move};
+ghost use Rattle.mm_io.specs.{HasLine};
 ghost use Rattle.mm_replay.specs.Standing.{life as life_of};
 ghost use Rattle.mm_log.specs.Verdict.{most_bytes};
 ghost use Rattle.mm_log.specs.Reading.{IsReady, Reading, Reads, Stops, Takes};

@@ -1,11 +1,7 @@
 ghost use Rattle.std.specs.Prelude.{◌≡◌, ◌≢◌, ◌⊎◌, ◌≤◌, ◌+◌, ◌++◌, ℕ, List, Option, Some, map, length, IfOk, IfSome, string_bytes, is_err};
-ghost use Rattle.mm_types.specs.Outside.{Rose, Appended, HasCause};
-ghost use Rattle.mm_io.specs.Io.{Wrote};
-ghost use Rattle.mm_types.specs.declared.moves.Move.{Move};
-ghost use Rattle.mm_life.specs.Life.{FrameLife, unstarted};
-ghost use Rattle.mm_life.specs.MoveText.{IsSpelled, AreMoves, spelled_moves};
-ghost use Rattle.mm_life.specs.Replay.{Replays};
-ghost use Rattle.mm_life.specs.LogCounts.{counts_of_log};
+ghost use Rattle.mm_types.specs.{Rose, Appended, HasCause, Move};
+ghost use Rattle.mm_io.specs.{Wrote};
+ghost use Rattle.mm_life.specs.{FrameLife, unstarted, IsSpelled, AreMoves, spelled_moves, Replays, counts_of_log};
 ghost use Rattle.mm_log.specs.declared.endings.Asked.{Asked};
 ghost use Rattle.mm_log.specs.LogText.{Asks, IsForm, usage_text, yes_text};
 ghost use Rattle.mm_log.specs.Verdict.{most_bytes, Shows, Ran, IsRefused, IsStuck};

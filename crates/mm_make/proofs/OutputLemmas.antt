@@ -2,9 +2,8 @@
 use Rattle.std.proofs.Common.{◌≡◌, ℕ, zero, suc, ◌+◌, ◌-◌, ◌%◌, ◌<◌, ◌≤◌, List, [], ◌∷◌, ◌++◌, refl, sym, ap, ◌∙◌, arith, append_assoc, append-nil, zero-add}
 use Rattle.rand_pcg.specs.Lcg.{Lcg, next, advance, state_after}
 use Rattle.rand_pcg.specs.Pcg.{multiplier_64, pcg32}
-use Rattle.mm_types.specs.declared.events.Event.{Event}
-use Rattle.mm_make.specs.Outputs.{outputs, outputs_from}
-use Rattle.mm_make.specs.Generated.{drawn, drawn_by, drawn_of_kind, drawn_events, read_drawn, write_drawn}
+use Rattle.mm_types.specs.{Event}
+use Rattle.mm_make.specs.{outputs, outputs_from, drawn, drawn_by, drawn_of_kind, drawn_events, read_drawn, write_drawn}
 
 -- the first output is that of the next step
 pub first_output : (g : Lcg) → (pcg32 g).0 ≡ outputs g 0

@@ -1,11 +1,8 @@
 -- The events of a generated script: eleven fixed ones, and so many drawn ones.
 -- Profile, "A run".
 use Rattle.std.specs.Prelude.{ℕ, zero, suc, ◌+◌, ◌*◌, ◌%◌, nat_le, ◌==◌, if◌then◌else◌, List, [], ◌∷◌, ◌++◌, Some, None, codes}
-use Rattle.mm_types.specs.declared.events.Event.{Event}
+use Rattle.mm_types.specs.{Event, page_size, reserve_and_commit_type, readwrite}
 use Rattle.mm_types.specs.declared.events.Event.TheVariants as line
-use Rattle.mm_types.specs.Address.{page_size}
-use Rattle.mm_types.specs.Allocation.{reserve_and_commit_type}
-use Rattle.mm_types.specs.Protection.{readwrite}
 use Rattle.mm_make.specs.Outputs.{outputs, seeded, outputs_from}
 
 -- two processes on a small machine, that share a section and the pages of a file

@@ -1,7 +1,6 @@
 ghost use Rattle.std.specs.Prelude.{◌≡◌, ◌+◌, ◌*◌, ◌%◌, ◌<◌, ◌≤◌, ◌++◌, ◌∷◌, [], length, codes, IfOk, vec_len, vec_capacity};
 ghost use Rattle.mm_types.specs.declared.events.Event.TheVariants as line;
-ghost use Rattle.mm_types.specs.Allocation.{reserve_and_commit_type};
-ghost use Rattle.mm_types.specs.Protection.{readwrite};
+ghost use Rattle.mm_types.specs.{reserve_and_commit_type, readwrite};
 ghost use Rattle.rand_pcg.specs.Lcg.{advance};
 ghost use Rattle.rand_pcg.specs.Pcg.{multiplier_64};
 ghost use Rattle.mm_make.specs.Outputs.{outputs};

@@ -3,8 +3,8 @@ use Rattle.std.proofs.Common.{◌≡◌, ℕ, ◌+◌, ◌^◌, ◌≤◌, ◌<�
 use Rattle.std.specs.Prelude.{take}
 use Rattle.std.proofs.lemmas.List.{take-take, length-take-le, take_more, take_more_set, take_all}
 use Rattle.std.proofs.Math.Seq.{take-append-add}
-use Rattle.mm_types.specs.Spelling.{Text, decimal}
-use Rattle.mm_text.proofs.Spelled.{length-decimal-32}
+use Rattle.mm_types.specs.{Text, decimal}
+use Rattle.mm_text.proofs.{length-decimal-32}
 
 -- a text follows in front of a later index, and so does each front of it
 pub shorter : (old new : Text) (more : Text) (at n k : ℕ) → at ≤ length old → take (at + n) new ≡ take at old ++ more → k ≤ n → take (at + k) new ≡ take at old ++ take k more

@@ -2,12 +2,12 @@
 use Rattle.std.proofs.Common.{◌≡◌, ℕ, ◌-◌, ◌≤◌, ◌<◌, Bool, true, false, List, [], ◌∷◌, ◌++◌, Option, Some, None, length, take, drop, refl, sym, ap, subst, ◌∙◌, inl, inr, arith, append_assoc, length-append, length-drop}
 use Rattle.std.proofs.Math.Seq.{take-length}
 use Rattle.std.proofs.lemmas.List.{take-append-drop}
-use Rattle.mm_types.specs.Outside.{Rose, Appended}
-use Rattle.mm_types.proofs.Bytes.{appended_then}
-use Rattle.mm_io.specs.Io.{Wrote, GivesOn}
-use Rattle.mm_life.specs.Logs.{Log, Told, Grew}
-use Rattle.mm_life.proofs.Noting.{gave_nothing}
-use Rattle.mm_moves.specs.Recorded.{IsCut, FailsExactly, WroteOrCut}
+use Rattle.mm_types.specs.{Rose, Appended}
+use Rattle.mm_types.proofs.{appended_then}
+use Rattle.mm_io.specs.{Wrote, GivesOn}
+use Rattle.mm_life.specs.{Log, Told, Grew}
+use Rattle.mm_life.proofs.{gave_nothing}
+use Rattle.mm_moves.specs.{IsCut, FailsExactly, WroteOrCut}
 
 no_more : (xs ys : List ℕ) → xs ≡ xs ++ ys → ys ≡ []
 no_more xs [] e = refl

@@ -3,8 +3,8 @@ use Rattle.std.proofs.Common.{◌≡◌, ℕ, zero, suc, ◌+◌, ◌-◌, ◌*�
 use Rattle.std.specs.Prelude.{nat_lt}
 use Rattle.std.proofs.lemmas.Bool.{lt-ltb, le-ltb, cases_lt}
 use Rattle.std.proofs.lemmas.List.{get_or_append_left, get_or-append_right}
-use Rattle.mm_types.specs.Spelling.{decimal, glyph}
-use Rattle.mm_moves.specs.Few.{few_entry}
+use Rattle.mm_types.specs.{decimal, glyph}
+use Rattle.mm_moves.specs.{few_entry}
 use Rattle.mm_moves.proofs.Written.{decimal_one, decimal_two, three_by_pair}
 
 -- the entries of `count` numbers from `start` on

@@ -4,7 +4,7 @@ use Rattle.std.proofs.lemmas.Bool.{lt-ltb, le-ltb, cases_lt}
 use Rattle.std.proofs.lemmas.Nat.{div_below}
 use Rattle.std.proofs.lemmas.Grind.{pow_more}
 use Rattle.std.proofs.Math.Nat.{mod-eq_of_lt}
-use Rattle.mm_types.specs.Spelling.{Text, glyph, decimal, decimal_onto}
+use Rattle.mm_types.specs.{Text, glyph, decimal, decimal_onto}
 
 -- ---- one digit after another, the last first
 

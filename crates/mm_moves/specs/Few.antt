@@ -1,6 +1,6 @@
 -- The digits of a number below 1,000, as a table has them.
 use Rattle.std.specs.Prelude.{ℕ, ◌/◌, ◌%◌, nat_lt, List, [], ◌∷◌, if◌then◌else◌}
-use Rattle.mm_types.specs.Spelling.{glyph}
+use Rattle.mm_types.specs.{glyph}
 
 -- its digits, filled up to three, and how many they are, as a digit
 abbrev pub few_entry : ℕ → List ℕ

@@ -1,2 +1,5 @@
 pub mod Few
 pub mod Recorded
+pub use Few.{few_entry}
+pub use Recorded.{FailsExactly, IsCut, WroteOrCut}
+pub use declared.recorders.Moves.{Ghosts}

@@ -1,10 +1,9 @@
 -- When a recorder of moves has failed.
 -- Profile, "Logs of moves".
 use Rattle.std.specs.Prelude.{◌≡◌, ◌+◌, ◌<◌, Bool, true, false, length, Option, Some, None}
-use Rattle.mm_types.specs.Spelling.{Text}
-use Rattle.mm_types.specs.Outside.{Appended}
-use Rattle.mm_io.specs.Io.{Wrote}
-use Rattle.mm_life.specs.Logs.{Log}
+use Rattle.mm_types.specs.{Text, Appended}
+use Rattle.mm_io.specs.{Wrote}
+use Rattle.mm_life.specs.{Log}
 
 -- Not all of the text was taken, where the bytes are told.
 abbrev pub IsCut : Option Text → Option Text → Text → Type 0

@@ -1,8 +1,7 @@
 ghost use Rattle.std.specs.Prelude.{◌≡◌, false, is_err};
-ghost use Rattle.mm_types.specs.Outside.{Loans, Loan};
-ghost use Rattle.mm_io.specs.Io.{CountsFaults, GivesOn};
-ghost use Rattle.mm_life.specs.Logs.{Log, Grew, Flushed};
-ghost use Rattle.mm_life.specs.MoveText.{spelling_of_move, IsMove};
+ghost use Rattle.mm_types.specs.{Loans, Loan};
+ghost use Rattle.mm_io.specs.{CountsFaults, GivesOn};
+ghost use Rattle.mm_life.specs.{Log, Grew, Flushed, spelling_of_move, IsMove};
 ghost use Rattle.mm_moves.specs.Recorded.{FailsExactly, WroteOrCut};
 
 use crate::spellings::{EMPTY, Line, put_line};

@@ -1,7 +1,8 @@
 ghost use Rattle.std.specs.Prelude.{◌≡◌, ◌≤◌, ◌<◌, ◌+◌, ◌^◌, ◌∷◌, ◌++◌, [], List, ℕ, length, take};
 ghost use Rattle.std.specs.Prelude.{◌/◌, ◌%◌, slice_index};
-ghost use Rattle.mm_types.specs.Spelling.{glyph, decimal};
-ghost use Rattle.mm_life.specs.MoveText.{numbered, place_onto, key_onto, kind_onto, stored_onto, home_onto, move_onto, spelling_of_move, IsKey, IsPlace, IsKind, IsStored, IsBlock, IsMove};
+ghost use Rattle.mm_types.specs.{glyph, decimal};
+ghost use Rattle.mm_life.specs.{numbered, place_onto, key_onto, kind_onto, stored_onto, home_onto, move_onto, spelling_of_move, IsKey, IsPlace};
+ghost use Rattle.mm_life.specs.{IsKind, IsStored, IsBlock, IsMove};
 ghost use Rattle.mm_moves.specs.Few.{few_entry};
 
 use mm_text::LineBuf;

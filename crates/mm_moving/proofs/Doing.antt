@@ -2,31 +2,18 @@
 use Rattle.std.proofs.Common.{◌≡◌, ℕ, ◌+◌, Bool, true, false, List, [], ◌∷◌, ◌++◌, refl, sym, ap, ◌∙◌, subst, append_assoc, cond}
 use Rattle.std.proofs.lemmas.List.Sums.{sum_by-append}
 use Rattle.std.specs.Prelude.{count_by}
-use Rattle.mm_types.specs.declared.devices.Direction.{Direction}
+use Rattle.mm_types.specs.{Direction, Backing, Move, Place}
 use Rattle.mm_types.specs.declared.devices.Direction.TheVariants as way
-use Rattle.mm_types.specs.declared.frames.Backing.{Backing}
 use Rattle.mm_types.specs.declared.frames.Backing.TheVariants as backing
-use Rattle.mm_types.specs.declared.moves.Move.{Move}
 use Rattle.mm_types.specs.declared.moves.Move.TheVariants as move
-use Rattle.mm_types.specs.declared.numbers.Place.{Place}
-use Rattle.mm_blocks.specs.declared.device_calls.DeviceCall.{DeviceCall}
-use Rattle.mm_blocks.specs.Traffic.{is_named}
-use Rattle.mm_blocks.specs.Devices.{Call, KeepsOthers}
-use Rattle.mm_blocks.proofs.Serving.{all_served_then, all_served_one, map-logged}
-use Rattle.mm_blocks.proofs.Holding.{keeps_same, keeps_then}
-use Rattle.mm_life.specs.Life.{FrameLife}
-use Rattle.mm_life.specs.Effect.{after_move}
-use Rattle.mm_life.specs.Logs.{Grew}
-use Rattle.mm_life.specs.Replay.{Replays}
-use Rattle.mm_life.proofs.Replays.{replays_then, spelled-append, moves-append}
-use Rattle.mm_life.proofs.Noting.{grew_then, grew_nothing}
-use Rattle.mm_pages.specs.Told.{told_through, call_of, calls_of, in_slot, in_block, paging_traffic, file_traffic}
-use Rattle.mm_pages.proofs.Passed.{waits_then, ages_then}
-use Rattle.mm_life.specs.Walks.{Walk, walked, walked_all, waits_through, ages_through}
-use Rattle.mm_moving.specs.Shown.{StateOf, CalledFor, backing_of_frame, Made}
-use Rattle.mm_moving.specs.Doing.{DoesMoves, walk_of}
-use Rattle.mm_types.proofs.Bytes.{append_nil}
-use Rattle.mm_pages.proofs.Passed.{told_then}
+use Rattle.mm_blocks.specs.{DeviceCall, is_named, Call, KeepsOthers}
+use Rattle.mm_blocks.proofs.{all_served_then, all_served_one, map-logged, keeps_same, keeps_then}
+use Rattle.mm_life.specs.{FrameLife, after_move, Grew, Replays, Walk, walked, walked_all, waits_through, ages_through}
+use Rattle.mm_life.proofs.{replays_then, spelled-append, moves-append, grew_then, grew_nothing}
+use Rattle.mm_pages.specs.{told_through, call_of, calls_of, in_slot, in_block, paging_traffic, file_traffic}
+use Rattle.mm_pages.proofs.{waits_then, ages_then, told_then}
+use Rattle.mm_moving.specs.{StateOf, CalledFor, backing_of_frame, Made, DoesMoves, walk_of}
+use Rattle.mm_types.proofs.{append_nil}
 
 -- ---- moves, one list behind another
 

@@ -1,18 +1,11 @@
 -- Moves of the joined state, one after another; and a search for a frame.
 -- Profile, "Which frame moves, and when".
 use Rattle.std.specs.Prelude.{◌≡◌, ◌≤◌, ◌<◌, ◌⊎◌, ℕ, Bool, true, false, List, [], map, count_by, Option, Some}
-use Rattle.mm_types.specs.declared.moves.Move.{Move}
-use Rattle.mm_types.specs.declared.numbers.Frame.{Frame}
-use Rattle.mm_life.specs.Frames.{is_on}
-use Rattle.mm_life.specs.Life.{FrameLife}
-use Rattle.mm_life.specs.Legal.{is_short}
-use Rattle.mm_life.specs.Logs.{Grew}
-use Rattle.mm_life.specs.MoveText.{AreMoves, spelled_moves}
-use Rattle.mm_life.specs.Replay.{Replays}
-use Rattle.mm_blocks.specs.Devices.{Call, AllServed, logged_call, KeepsOthers}
-use Rattle.mm_life.specs.Walks.{Walk, Through, walked_all, waits_through, ages_through, is_wrote_move, is_read_move}
-use Rattle.mm_life.specs.Searches.{SearchMove, Starved}
-use Rattle.mm_pages.specs.Told.{told_through, paging_traffic, file_traffic}
+use Rattle.mm_types.specs.{Move, Frame}
+use Rattle.mm_life.specs.{is_on, FrameLife, is_short, Grew, AreMoves, spelled_moves, Replays, Walk, Through, walked_all, waits_through, ages_through}
+use Rattle.mm_life.specs.{is_wrote_move, is_read_move, SearchMove, Starved}
+use Rattle.mm_blocks.specs.{Call, AllServed, logged_call, KeepsOthers}
+use Rattle.mm_pages.specs.{told_through, paging_traffic, file_traffic}
 use Rattle.mm_moving.specs.Shown.{StateOf, moved_with_call, SomeFault}
 
 -- these moves were made, noted and counted; each device's calls are those that they stand for, and

@@ -1,23 +1,13 @@
 -- What the joined state keeps at all times: of lines, of pages, of what is on devices, and of the
 -- line's device calls.
 use Rattle.std.specs.Prelude.{◌≡◌, ◌≤◌, ◌<◌, ℕ, ◌+◌, true, false, length, Some, None, is_some}
-use Rattle.mm_types.specs.Address.{end_of_user_pages}
-use Rattle.mm_types.specs.Machine.{IsMachine}
-use Rattle.mm_types.specs.declared.numbers.Frame.{Frame}
-use Rattle.mm_types.specs.declared.numbers.Key.{Key}
-use Rattle.mm_types.specs.declared.numbers.Place.{Place}
+use Rattle.mm_types.specs.{end_of_user_pages, IsMachine, Frame, Key, Place}
 use Rattle.mm_types.specs.declared.frames.Held.TheVariants as held
-use Rattle.mm_life.specs.Frames.{record_at, is_read, is_write}
-use Rattle.mm_life.specs.Life.{is_live}
-use Rattle.mm_life.specs.Legal.{is_touch, fits_place}
+use Rattle.mm_life.specs.{record_at, is_read, is_write, is_live, is_touch, fits_place, ForFrame}
 use Rattle.mm_laws.specs.Reached.{Reached}
-use Rattle.mm_laws.specs.Fits.{is_backed}
-use Rattle.mm_laws.specs.FileBlocks.{block_held, IsAdded}
-use Rattle.mm_laws.specs.PagingKeys.{is_home_for, is_backing_for}
-use Rattle.mm_life.specs.Waits.{ForFrame}
-use Rattle.mm_pages.specs.Standing.{stored_of, is_on_device, bytes_at}
-use Rattle.mm_parts.specs.Shown.{is_own_line, own_is}
-use Rattle.mm_parts.specs.Holds.{HasSet}
+use Rattle.mm_laws.specs.{is_backed, block_held, IsAdded, is_home_for, is_backing_for}
+use Rattle.mm_pages.specs.{stored_of, is_on_device, bytes_at}
+use Rattle.mm_parts.specs.{is_own_line, own_is, HasSet}
 use Rattle.mm_moving.specs.Shown.{StateOf, HasHome}
 
 pub record StateHolds (s : StateOf) : Type 0 where

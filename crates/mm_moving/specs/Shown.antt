@@ -1,30 +1,18 @@
 -- What a machine's joined state shows to the store of pages above it, and what its calls make of
 -- that. Profile, "Which frame moves, and when".
 use Rattle.std.specs.Prelude.{◌≡◌, ◌<◌, ◌⊎◌, ℕ, Bool, true, false, List, [], ◌∷◌, Option, Some, None}
-use Rattle.mm_types.specs.declared.devices.Direction.{Direction}
+use Rattle.mm_types.specs.{Direction, Frame, Key, Place, Backing, Move}
 use Rattle.mm_types.specs.declared.devices.Direction.TheVariants as way
-use Rattle.mm_types.specs.declared.numbers.Frame.{Frame}
-use Rattle.mm_types.specs.declared.numbers.Key.{Key}
 use Rattle.mm_types.specs.declared.numbers.Key.TheVariants.{Private, Shared}
-use Rattle.mm_types.specs.declared.numbers.Place.{Place}
-use Rattle.mm_types.specs.declared.frames.Backing.{Backing}
 use Rattle.mm_types.specs.declared.frames.Backing.TheVariants as backing
-use Rattle.mm_types.specs.declared.moves.Move.{Move}
 use Rattle.mm_types.specs.declared.moves.Move.TheVariants as move
-use Rattle.mm_life.specs.Frames.{record_at}
-use Rattle.mm_life.specs.Life.{FrameLife, changed, same_place, key_of_place, is_shared, is_dead}
-use Rattle.mm_life.specs.Legal.{IsLegal, is_touch, owner_is}
-use Rattle.mm_life.specs.Effect.{after_move}
-use Rattle.mm_life.specs.Logs.{Log, Grew}
-use Rattle.mm_life.specs.MoveText.{AreMoves, spelled_moves}
-use Rattle.mm_blocks.specs.Traffic.{is_named}
-use Rattle.mm_blocks.specs.Devices.{DeviceOf, Serves, CallFailed, KeepsOthers}
-use Rattle.mm_life.specs.Waits.{Waiting, waits_after, ages_after}
-use Rattle.mm_frame_laws.specs.Carried.{slots_written, blocks_written}
-use Rattle.mm_life.specs.Located.{BlockBytes}
-use Rattle.mm_pages.specs.Told.{Told, told_after, none_told, paging_traffic, file_traffic}
-use Rattle.mm_parts.specs.Shown.{is_own_line}
-use Rattle.mm_parts.specs.Moves.{aside_added, names_given}
+use Rattle.mm_life.specs.{record_at, FrameLife, changed, same_place, key_of_place, is_shared, is_dead, IsLegal, is_touch, owner_is, after_move, Log}
+use Rattle.mm_life.specs.{Grew, AreMoves, spelled_moves, Waiting, waits_after, ages_after, BlockBytes}
+use Rattle.mm_blocks.specs.{is_named, DeviceOf, Serves, CallFailed, KeepsOthers}
+use Rattle.mm_frame_laws.specs.{slots_written, blocks_written}
+use Rattle.mm_pages.specs.{told_after, none_told, paging_traffic, file_traffic}
+use Rattle.mm_pages.specs.Told.{Told}
+use Rattle.mm_parts.specs.{is_own_line, aside_added, names_given}
 
 pub record StateOf : Type 0 where
   -- the state of the replay, and the log

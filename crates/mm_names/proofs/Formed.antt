@@ -1,23 +1,15 @@
 -- What a line says is in the grammar.
 use Rattle.std.proofs.Common.{◌≡◌, ℕ, IfOk, subst, Bool, true, false, nat_le, bytes_eq, is_some, if◌then◌else◌, List, [], ◌∷◌, length, Option, Some, None, Result, Ok, Err, codes, sym, refl}
-use Rattle.mm_types.specs.Spelling.{Text}
-use Rattle.mm_types.specs.declared.faults.NoMemory.{NoMemory}
-use Rattle.mm_types.specs.declared.events.Event.{Event}
-use Rattle.mm_text.specs.Field.{name_of}
-use Rattle.mm_text.specs.Word.{Word, words_of}
-use Rattle.mm_script.specs.declared.faults.LineFault.{LineFault}
-use Rattle.mm_script.specs.Place.{without_return}
-use Rattle.mm_script.specs.Reading.{parse}
-use Rattle.mm_script.proofs.Laws.{parse_ok}
-use Rattle.mm_script.proofs.Ranges.{line_fits}
+use Rattle.mm_types.specs.{Text, NoMemory, Event}
+use Rattle.mm_text.specs.{name_of, words_of}
+use Rattle.mm_text.specs.Word.{Word}
+use Rattle.mm_script.specs.{LineFault, without_return, parse}
+use Rattle.mm_script.proofs.{parse_ok, line_fits}
 use Rattle.mm_names.specs.declared.names.Given.{Given}
 use Rattle.mm_names.specs.declared.meanings.Meaning.{Meaning}
 use Rattle.mm_names.specs.declared.meanings.Meaning.TheVariants as meaning
-use Rattle.mm_names.specs.Tidy.{tidy_of}
-use Rattle.mm_names.specs.Numbers.{value_of, windows_value}
-use Rattle.mm_names.specs.Words.{lowered, keyword_for}
-use Rattle.mm_names.specs.Meaning.{said_by, said_in, given_as, given_to, let_of, sentence, phrase, most_line, meant_by, or_else, meant, plain_of, FormedIn}
-use Rattle.mm_names.specs.Scripts.{may_stand, placed}
+use Rattle.mm_names.specs.{tidy_of, value_of, windows_value, lowered, keyword_for, said_by, said_in, given_as, given_to, let_of, sentence, phrase}
+use Rattle.mm_names.specs.{most_line, meant_by, or_else, meant, plain_of, FormedIn, may_stand, placed}
 
 pub formed_choice : (b : Bool) (m n : Meaning) → FormedIn m → FormedIn n → FormedIn (if b then m else n)
 formed_choice true m n g h = g

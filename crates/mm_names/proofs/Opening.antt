@@ -1,17 +1,13 @@
 -- The events of a file are a script, and a plain file is its own.
 use Rattle.std.proofs.Common.{◌≡◌, ℕ, ◌≤◌, Bool, true, false, not, nat_le, if◌then◌else◌, List, [], ◌∷◌, ◌++◌, length, Option, Some, None, Result, Ok, Err, option_map, unwrap_or, sym, refl, ap, subst, ◌∙◌, arith}
 use Rattle.std.specs.List.{AllByRecursion}
-use Rattle.mm_types.specs.Spelling.{Text}
-use Rattle.mm_types.specs.declared.events.Event.{Event}
-use Rattle.mm_script.specs.declared.faults.LineFault.{LineFault}
-use Rattle.mm_script.specs.Place.{without_return}
-use Rattle.mm_script.specs.Reading.{parse}
+use Rattle.mm_types.specs.{Text, Event}
+use Rattle.mm_script.specs.{LineFault, without_return, parse}
 use Rattle.mm_names.specs.declared.names.Given.{Given}
 use Rattle.mm_names.specs.declared.meanings.Meaning.{Meaning}
 use Rattle.mm_names.specs.declared.meanings.Meaning.TheVariants as meaning
-use Rattle.mm_names.specs.Tidy.{tidy_of}
-use Rattle.mm_names.specs.Meaning.{most_line, meant_by, or_else, meant}
-use Rattle.mm_names.specs.Scripts.{is_machine, may_stand, placed, goes_on, events_of, lines_of, script_of, IsScript, ArePlain}
+use Rattle.mm_names.specs.{tidy_of, most_line, meant_by, or_else, meant, is_machine, may_stand, placed, goes_on, events_of, lines_of, script_of}
+use Rattle.mm_names.specs.{IsScript, ArePlain}
 
 -- what may follow: no machine once a script has begun
 abbrev pub Starts : Bool → List Event → Type 0

@@ -1,9 +1,8 @@
 -- All that a source gives was read.
 use Rattle.std.proofs.Common.{◌≡◌, ◌+◌, ◌<◌, ◌≤◌, [], ◌∷◌, ◌++◌, length, Option, sym, subst, ◌∙◌}
-use Rattle.mm_types.specs.Spelling.{Text}
-use Rattle.mm_types.specs.Outside.{Took}
-use Rattle.mm_types.proofs.Bytes.{took_none, took_then}
-use Rattle.mm_names.specs.Runs.{IsManyBytes, most_bytes}
+use Rattle.mm_types.specs.{Text, Took}
+use Rattle.mm_types.proofs.{took_none, took_then}
+use Rattle.mm_names.specs.{IsManyBytes, most_bytes}
 
 -- more bytes were read than a written file may have
 pub many_read : (left mid left' : Option Text) (old new bytes : Text) → Took left mid old → Took mid left' bytes

@@ -1,17 +1,14 @@
 -- A script that is written line by line is the one that the file means.
 use Rattle.std.proofs.Common.{◌≡◌, ℕ, ◌+◌, Bool, true, false, ◌&&◌, if◌then◌else◌, List, [], ◌∷◌, ◌++◌, length, Option, Some, None, option_map, Result, Ok, Err, IfOk, sym, refl, ap, subst, ◌∙◌, append_assoc, arith}
 use Rattle.std.specs.List.{AllByRecursion}
-use Rattle.mm_types.specs.Spelling.{Text}
-use Rattle.mm_types.specs.declared.faults.NoMemory.{NoMemory}
-use Rattle.mm_types.specs.declared.events.Event.{Event}
-use Rattle.mm_types.proofs.Bytes.{append_nil}
-use Rattle.mm_script.specs.Printed.{printed, IsWellFormed}
+use Rattle.mm_types.specs.{Text, NoMemory, Event}
+use Rattle.mm_types.proofs.{append_nil}
+use Rattle.mm_script.specs.{printed, IsWellFormed}
 use Rattle.mm_names.specs.declared.names.Given.{Given}
 use Rattle.mm_names.specs.declared.meanings.Meaning.{Meaning}
 use Rattle.mm_names.specs.declared.meanings.Meaning.TheVariants as meaning
-use Rattle.mm_names.specs.Meaning.{meant, FormedIn}
-use Rattle.mm_names.specs.Scripts.{placed, goes_on, events_of, lines_from, without_mark, script_of, spelled}
-use Rattle.mm_names.specs.Stages.{ScriptOf, unread, with_event, with_meaning, with_line, with_lines, is_whole, Spells, Ends}
+use Rattle.mm_names.specs.{meant, FormedIn, placed, goes_on, events_of, lines_from, without_mark, script_of, spelled, ScriptOf, unread, with_event}
+use Rattle.mm_names.specs.{with_meaning, with_line, with_lines, is_whole, Spells, Ends}
 use Rattle.mm_names.proofs.Formed.{formed_meant, formed_placed}
 
 -- a script was spelled behind a text of some lines

@@ -1,15 +1,10 @@
 -- What a written line means.
 -- docs/WRITTEN.md
 use Rattle.std.specs.Prelude.{ℕ, ◌+◌, ◌==◌, ◌&&◌, nat_le, bytes_eq, is_some, if◌then◌else◌, List, [], ◌∷◌, ◌++◌, length, Option, Some, None, Result, Ok, Err, option_map, option_and_then, codes}
-use Rattle.mm_types.specs.Spelling.{Text}
-use Rattle.mm_types.specs.declared.events.Event.{Event}
-use Rattle.mm_text.specs.Field.{name_of}
-use Rattle.mm_text.specs.Word.{Word, words_of}
-use Rattle.mm_text.specs.Shortest.{hex_short}
-use Rattle.mm_script.specs.declared.faults.LineFault.{LineFault}
-use Rattle.mm_script.specs.Place.{without_return}
-use Rattle.mm_script.specs.Printed.{IsWellFormed}
-use Rattle.mm_script.specs.Reading.{parse}
+use Rattle.mm_types.specs.{Text, Event}
+use Rattle.mm_text.specs.{name_of, words_of, hex_short}
+use Rattle.mm_text.specs.Word.{Word}
+use Rattle.mm_script.specs.{LineFault, without_return, IsWellFormed, parse}
 use Rattle.mm_names.specs.declared.names.Given.{Given}
 use Rattle.mm_names.specs.declared.words.Verb.{Verb}
 use Rattle.mm_names.specs.declared.words.Kind.{Kind}

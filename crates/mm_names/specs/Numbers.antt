@@ -1,8 +1,8 @@
 -- The numbers that words stand for.
 -- docs/WRITTEN.md
 use Rattle.std.specs.Prelude.{ℕ, ◌+◌, ◌-◌, ◌*◌, ◌^◌, ◌==◌, ◌||◌, bit_or, bytes_eq, if◌then◌else◌, List, [], ◌∷◌, ◌++◌, length, take, slice_index, Option, Some, None, option_and_then, codes}
-use Rattle.mm_types.specs.Spelling.{Text}
-use Rattle.mm_text.specs.Field.{number_of, below_limit}
+use Rattle.mm_types.specs.{Text}
+use Rattle.mm_text.specs.{number_of, below_limit}
 use Rattle.mm_names.specs.declared.names.Given.{Given}
 use Rattle.mm_names.specs.declared.numbers.Operator.{Operator}
 use Rattle.mm_names.specs.declared.numbers.Operator.TheVariants as operator

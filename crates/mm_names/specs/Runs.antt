@@ -2,10 +2,8 @@
 -- docs/WRITTEN.md
 use Rattle.std.specs.Prelude.{◌≡◌, ◌⊎◌, ℕ, ◌≤◌, ◌<◌, List, [], ◌∷◌, ◌++◌, length, Option, Some, None, codes}
 use Rattle.std.specs.List.{AllByRecursion}
-use Rattle.mm_types.specs.Spelling.{Text}
-use Rattle.mm_types.specs.Outside.{Took, IsEnd, Appended}
-use Rattle.mm_types.specs.declared.events.Event.{Event}
-use Rattle.mm_script.specs.Printed.{IsWellFormed}
+use Rattle.mm_types.specs.{Text, Took, IsEnd, Appended, Event}
+use Rattle.mm_script.specs.{IsWellFormed}
 use Rattle.mm_names.specs.declared.endings.Ending.{Ending}
 use Rattle.mm_names.specs.declared.endings.Ending.TheVariants as ending
 use Rattle.mm_names.specs.Scripts.{script_of, spelled, IsScript}

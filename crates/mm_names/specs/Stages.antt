@@ -1,9 +1,8 @@
 -- A script as it is written, line by line: a tool of proof.
 use Rattle.std.specs.Prelude.{◌≡◌, ℕ, ◌+◌, ◌==◌, Bool, true, false, ◌&&◌, List, [], ◌∷◌, ◌++◌, length, Option, Some, None}
 use Rattle.std.specs.List.{AllByRecursion}
-use Rattle.mm_types.specs.Spelling.{Text}
-use Rattle.mm_types.specs.declared.events.Event.{Event}
-use Rattle.mm_script.specs.Printed.{printed, IsWellFormed}
+use Rattle.mm_types.specs.{Text, Event}
+use Rattle.mm_script.specs.{printed, IsWellFormed}
 use Rattle.mm_names.specs.declared.names.Given.{Given}
 use Rattle.mm_names.specs.declared.meanings.Meaning.{Meaning}
 use Rattle.mm_names.specs.declared.meanings.Meaning.TheVariants as meaning

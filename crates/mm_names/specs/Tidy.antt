@@ -1,7 +1,7 @@
 -- A written line with one space between each word and the next.
 -- docs/WRITTEN.md
 use Rattle.std.specs.Prelude.{ℕ, ◌==◌, ◌||◌, if◌then◌else◌, List, [], ◌∷◌, ◌++◌, Option, Some, None}
-use Rattle.mm_types.specs.Spelling.{Text, byte_pairs}
+use Rattle.mm_types.specs.{Text, byte_pairs}
 use Rattle.mm_names.specs.declared.tidy.Sign.{Sign}
 use Rattle.mm_names.specs.declared.tidy.Sign.TheVariants as sign
 use Rattle.mm_names.specs.declared.tidy.Last.{Last}

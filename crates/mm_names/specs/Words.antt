@@ -1,7 +1,7 @@
 -- Keywords as people write them, and what stands behind each.
 -- docs/WRITTEN.md
 use Rattle.std.specs.Prelude.{ℕ, ◌+◌, ◌==◌, ◌&&◌, ◌||◌, nat_le, nat_lt, bytes_eq, if◌then◌else◌, List, [], ◌∷◌, map, Option, Some, None, unwrap_or, codes}
-use Rattle.mm_types.specs.Spelling.{Text}
+use Rattle.mm_types.specs.{Text}
 use Rattle.mm_names.specs.declared.words.Verb.{Verb}
 use Rattle.mm_names.specs.declared.words.Verb.TheVariants as verb
 use Rattle.mm_names.specs.declared.words.Kind.{Kind}

@@ -1,7 +1,6 @@
 ghost use Rattle.std.specs.Prelude.{◌≡◌, ◌<◌, ◌+◌, ◌^◌, ◌∷◌, length, IfOk, Option, None, Some};
-ghost use Rattle.mm_text.specs.Word.{WordsOf, words_of};
-ghost use Rattle.mm_text.specs.Field.{name_of};
-ghost use Rattle.mm_script.specs.Place.{without_return};
+ghost use Rattle.mm_text.specs.{WordsOf, words_of, name_of};
+ghost use Rattle.mm_script.specs.{without_return};
 ghost use Rattle.mm_names.specs.Meaning.{meant, meant_by, phrase, sentence, let_of, given_to, said_in, FormedIn};
 ghost use Rattle.mm_names.specs.Tidy.{tidy_of};
 

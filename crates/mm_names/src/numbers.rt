@@ -1,5 +1,5 @@
 ghost use Rattle.std.specs.Prelude.{◌≡◌, ◌^◌, ◌<◌, ◌≤◌, None, Some, OnOk, IfOk};
-ghost use Rattle.mm_text.specs.Field.{below_limit};
+ghost use Rattle.mm_text.specs.{below_limit};
 ghost use Rattle.mm_names.specs.Numbers.{scale_of, scaled, term_value, operator_of, joined, nothing_yet, total_of, sum_with, sum_with_all, value_of};
 
 use crate::names::{Given, given_value, windows_value};

@@ -1,6 +1,5 @@
 ghost use Rattle.std.specs.Prelude.{◌≡◌, ◌<◌, ◌+◌, ◌^◌, ◌++◌, ◌∷◌, length, IfOk, OnOk, Option, None, Some, option_map, if◌then◌else◌};
-ghost use Rattle.mm_text.specs.Shortest.{hex_short};
-ghost use Rattle.mm_text.specs.Word.{WordsOf, words_of};
+ghost use Rattle.mm_text.specs.{hex_short, WordsOf, words_of};
 ghost use Rattle.mm_names.specs.Meaning.{unquoted, plain_word, plain_from, plain_of, with_word};
 
 use crate::names::Given;

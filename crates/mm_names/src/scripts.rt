@@ -1,6 +1,5 @@
 ghost use Rattle.std.specs.Prelude.{◌≡◌, ◌∷◌, [], List, Some, length, IfOk, OnOk};
-ghost use Rattle.mm_types.specs.declared.events.Event.{Event};
-ghost use Rattle.mm_types.specs.Spelling.{Text};
+ghost use Rattle.mm_types.specs.{Event, Text};
 ghost use Rattle.mm_names.specs.Scripts.{is_machine, may_stand, placed, lines_from, lines_of, without_mark, script_of, IsScript, ArePlain};
 ghost use Rattle.mm_names.specs.Stages.{unread, with_event, with_meaning, with_line, with_lines, is_whole, Ends};
 

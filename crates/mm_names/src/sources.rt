@@ -1,6 +1,5 @@
 ghost use Rattle.std.specs.Prelude.{◌≤◌, Option, length, IfOk, IfErr, IsErrOf};
-ghost use Rattle.mm_types.specs.Outside.{Rose};
-ghost use Rattle.mm_types.specs.Spelling.{Text};
+ghost use Rattle.mm_types.specs.{Rose, Text};
 ghost use Rattle.mm_names.specs.Runs.{WasRead, Came, most_bytes};
 
 use crate::endings::Ending;

@@ -1,5 +1,5 @@
 ghost use Rattle.std.specs.Prelude.{◌≡◌, ◌∷◌, ◌++◌, [], OnOk, IfOk, if◌then◌else◌};
-ghost use Rattle.mm_types.specs.Spelling.{byte_pairs};
+ghost use Rattle.mm_types.specs.{byte_pairs};
 ghost use Rattle.mm_names.specs.Tidy.{sign_of, added, last_after, with_byte, untouched, with_bytes};
 
 use mm_text::{LineBuf, put_bytes};

@@ -1,19 +1,13 @@
 -- How a page gets its frame: a search, and then a frame that is taken.
 use Rattle.std.proofs.Common.{◌≡◌, ℕ, ◌≤◌, true, false, List, refl, sym, ap, ◌∙◌, arith, inl, inr}
-use Rattle.mm_types.specs.declared.faults.PageFault.{PageFault}
+use Rattle.mm_types.specs.{PageFault, Held, Move, Key}
 use Rattle.mm_types.specs.declared.faults.PageFault.TheVariants as fault
-use Rattle.mm_types.specs.declared.frames.Held.{Held}
 use Rattle.mm_types.specs.declared.frames.Held.TheVariants as held
-use Rattle.mm_types.specs.declared.moves.Move.{Move}
-use Rattle.mm_types.specs.declared.numbers.Frame.{Frame}
-use Rattle.mm_types.specs.declared.numbers.Key.{Key}
-use Rattle.mm_life.specs.Life.{FrameLife}
-use Rattle.mm_life.specs.Legal.{is_stored}
-use Rattle.mm_pages.specs.Accesses.{Aim, is_had}
-use Rattle.mm_moving.specs.Shown.{StateOf, SomeFault, moved_with_call}
-use Rattle.mm_moving.specs.Doing.{DoesMoves}
-use Rattle.mm_paged.specs.Pieces.{Went, Stuck, AccessBegins, ReadsFor, Fails, Later}
-use Rattle.mm_blocks.proofs.Serving.{all_served_later, failed_later}
+use Rattle.mm_life.specs.{FrameLife, is_stored}
+use Rattle.mm_pages.specs.{Aim, is_had}
+use Rattle.mm_moving.specs.{StateOf, SomeFault, moved_with_call, DoesMoves}
+use Rattle.mm_paged.specs.{Went, Stuck, AccessBegins, ReadsFor, Fails, Later}
+use Rattle.mm_blocks.proofs.{all_served_later, failed_later}
 
 pub went_more : (a : Aim) (m n : ℕ) (s z : StateOf) → m ≤ n → Went a m s z → Went a n s z
 went_more a m n s z h w = record {
@@ -47,26 +41,22 @@ fault_later s t z l (inr h) = inr (failed_later s.files t.files z.files l.files 
 -- ---- a page that is read
 
 pub absent : (l : FrameLife) (h : Held) → is_stored h ≡ true → is_had l h ≡ false
-absent l (held.Frame f) e = cc
 absent l (held.Slot t) e = refl
 absent l (held.Block b) e = refl
-absent l held.Zero e = cc
-absent l held.Dead e = cc
+absent l h e = cc
 
 pub reads_for : (a : Aim) (k : Key) (s : StateOf) → AccessBegins a k s → is_stored (s.life.stands k) ≡ true → ReadsFor a k
 reads_for a k s b h = record { needs = b.needs; absent = absent a.start (a.start.stands k) (ap (λ (l : FrameLife). is_stored (l.stands k)) b.from ∙ h) }
 
-called_both : (s t z : StateOf) → t ≡ moved_with_call s t → z ≡ moved_with_call t z → z ≡ moved_with_call s z
-called_both s t z p q = q ∙ ap (λ (x : StateOf). moved_with_call x z) p
-
-pub fails_both : (e : PageFault) (k : Key) (s t z : StateOf) → e ≡ fault.Read → Later s t → t ≡ moved_with_call s t → Fails e k t z → Fails e k s z
-fails_both e k s t z w l c f = record {
+-- a read failed, and what came before it did not
+pub fails_read : (e : PageFault) (k : Key) (s t z : StateOf) → e ≡ fault.Read → SomeFault s z → z ≡ moved_with_call s z → Fails e k t z → Fails e k s z
+fails_read e k s t z w failed same f = record {
   read = f.read;
   kept = λ h. let bad = sym w ∙ h in cc;
   short = f.short;
   failed = f.failed;
   none = λ h. let bad = sym w ∙ h in cc;
   unframed = f.unframed;
-  fault = fault_later s t z l f.fault;
-  same = called_both s t z c f.same;
+  fault = failed;
+  same = same;
 }

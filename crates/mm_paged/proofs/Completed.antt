@@ -4,51 +4,32 @@ use Rattle.std.proofs.lemmas.Bool.{lt-ltb}
 use Rattle.std.proofs.Math.Logic.{∥∥₁_elim}
 use Rattle.std.proofs.Props.{props}
 use Rattle.std.specs.Cmp.{unsigned_Decides}
-use Rattle.std.specs.Prelude.{◌&&◌, ◌||◌, ◌==◌, nat_lt, if◌then◌else◌, length, option_map, min, slice_get, slice_index_or, ◌^◌}
-use Rattle.mm_types.specs.Machine.{MachineOf}
-use Rattle.mm_types.specs.declared.devices.Direction.{Direction}
+use Rattle.std.specs.Prelude.{◌==◌, nat_lt, if◌then◌else◌, length, option_map, min, slice_get, slice_index_or, ◌^◌}
+use Rattle.mm_types.specs.{MachineOf, Backing, Record, Request, Move, Frame, Key, Place}
 use Rattle.mm_types.specs.declared.devices.Direction.TheVariants as way
-use Rattle.mm_types.specs.declared.frames.Backing.{Backing}
 use Rattle.mm_types.specs.declared.frames.Backing.TheVariants as backing
-use Rattle.mm_types.specs.declared.frames.Record.{Record}
-use Rattle.mm_types.specs.declared.frames.Request.{Request}
 use Rattle.mm_types.specs.declared.frames.Request.TheVariants as request
 use Rattle.mm_types.specs.declared.moves.LineKind.TheVariants as kind
-use Rattle.mm_types.specs.declared.moves.Move.{Move}
 use Rattle.mm_types.specs.declared.moves.Move.TheVariants as move
-use Rattle.mm_types.specs.declared.numbers.Frame.{Frame}
-use Rattle.mm_types.specs.declared.numbers.Key.{Key}
-use Rattle.mm_types.specs.declared.numbers.Place.{Place}
-use Rattle.mm_life.specs.Frames.{record_at, blank, is_read, is_write, has_request}
-use Rattle.mm_life.specs.Life.{FrameLife}
-use Rattle.mm_life.specs.Legal.{is_touch, is_thread}
-use Rattle.mm_life.specs.Effect.{after_move}
-use Rattle.mm_laws.specs.Fits.{is_backed}
-use Rattle.mm_laws.specs.Tally.{one_if, times}
-use Rattle.mm_laws.proofs.Deduced.{reached_sound}
-use Rattle.mm_flight.specs.Requests.{nth_oldest}
-use Rattle.mm_life.specs.Chores.{ending}
-use Rattle.mm_world.specs.Report.{failed_calls}
-use Rattle.mm_pages.specs.declared.outcomes.Done.{Done}
+use Rattle.mm_life.specs.{record_at, blank, is_read, is_write, has_request, FrameLife, is_touch, after_move, ending}
+use Rattle.mm_laws.specs.{is_backed, one_if, times}
+use Rattle.mm_laws.proofs.{reached_sound}
+use Rattle.mm_flight.specs.{nth_oldest}
+use Rattle.mm_world.specs.{failed_calls}
+use Rattle.mm_pages.specs.{Done, CompletesAs, Completes, Passes, completed, fetched, Served, with_read, with_write}
 use Rattle.mm_pages.specs.declared.outcomes.Done.TheVariants as done
-use Rattle.mm_pages.specs.Housekeeping.{CompletesAs, Completes}
-use Rattle.mm_pages.specs.Passing.{Passes}
-use Rattle.mm_pages.specs.Reports.{completed, fetched, Served}
-use Rattle.mm_pages.specs.Store.{Ready}
-use Rattle.mm_pages.specs.Told.{Told, with_read, with_write}
-use Rattle.mm_pages.proofs.Served.{served_nothing}
-use Rattle.mm_parts.specs.Moves.{end_of_read, write_end, own_ended}
-use Rattle.mm_moving.specs.Shown.{StateOf, Made, DeviceCalled, SomeFault, moved_with_call}
-use Rattle.mm_moving.specs.Holds.{StateHolds}
-use Rattle.mm_moving.proofs.Doing.{does_one}
-use Rattle.mm_paged.specs.Pieces.{LifeKept, EndsOne, EndsAs}
-use Rattle.mm_paged.specs.Shown.{OwnOf, StoreKept, store_of, report_of, behind_of}
-use Rattle.mm_paged.proofs.Keeping.{blocks_kept, fetched_by}
+use Rattle.mm_pages.specs.Told.{Told}
+use Rattle.mm_pages.proofs.{served_nothing}
+use Rattle.mm_parts.specs.{end_of_read, write_end, own_ended}
+use Rattle.mm_moving.specs.{StateOf, Made, SomeFault, moved_with_call, StateHolds}
+use Rattle.mm_moving.proofs.{does_one}
+use Rattle.mm_paged.specs.{LifeKept, EndsOne, EndsAs, OwnOf, StoreKept, store_of, report_of, behind_of}
+use Rattle.mm_paged.proofs.Keeping.{blocks_kept, fetched_by, kept_within}
 use Rattle.mm_paged.proofs.Serving.{InLine, served_by}
-use Rattle.mm_paged.proofs.Shows.{passes_of}
-use Rattle.mm_blocks.proofs.Serving.{serves_failed}
-use Rattle.mm_paged.proofs.Unmoved.{none_passes}
-use Rattle.mm_types.proofs.Naturals.{less}
+use Rattle.mm_paged.proofs.Shows.{passes_of, none_passes}
+use Rattle.mm_types.proofs.{less}
+use Rattle.mm_paged.proofs.Quiet.{kept_untouched}
+use Rattle.mm_reclaim.proofs.{one_some, fault_by}
 
 -- ---- the move with which a request ends
 
@@ -127,29 +108,26 @@ nth_none i xs r h e q = let a = get_past xs (i - 1) (nth_back i 0 xs None h (sym
 
 -- ---- what an ended request leaves
 
+-- what holds of the end of a read and of a write holds of it
+ending_by : (P : Move → Type 0) (r : Record) (f : Frame) (ok : Bool) → P (end_of_read ok f) → P (write_end ok f) → P (ending r f ok)
+ending_by P r f true p q = at (is_read r.request)
+  where
+    at : (b : Bool) → P (if b then move.Got f else move.Wrote f)
+    at true = p
+    at false = q
+ending_by P r f false p q = at (is_read r.request)
+  where
+    at : (b : Bool) → P (if b then move.Bad f else move.Lost f)
+    at true = p
+    at false = q
+
 kept_ending : (r : Record) (f : Frame) (ok : Bool) (l : FrameLife) → LifeKept l (after_move l (ending r f ok))
-kept_ending r f true l = at (is_read r.request)
-  where
-    at : (b : Bool) → LifeKept l (after_move l (if b then move.Got f else move.Wrote f))
-    at true = record { machine = refl; line = refl; kind = refl; paging = refl; keys = refl; pids = refl; added = refl }
-    at false = record { machine = refl; line = refl; kind = refl; paging = refl; keys = refl; pids = refl; added = refl }
-kept_ending r f false l = at (is_read r.request)
-  where
-    at : (b : Bool) → LifeKept l (after_move l (if b then move.Bad f else move.Lost f))
-    at true = record { machine = refl; line = refl; kind = refl; paging = refl; keys = refl; pids = refl; added = refl }
-    at false = record { machine = refl; line = refl; kind = refl; paging = refl; keys = refl; pids = refl; added = refl }
+kept_ending r f true l = ending_by (λ (m : Move). LifeKept l (after_move l m)) r f true (kept_within l (move.Got f) tt) (kept_within l (move.Wrote f) tt)
+kept_ending r f false l = ending_by (λ (m : Move). LifeKept l (after_move l m)) r f false (kept_within l (move.Bad f) tt) (kept_within l (move.Lost f) tt)
 
 in_ending : (r : Record) (f : Frame) (ok : Bool) → InLine (ending r f ok ∷ [])
-in_ending r f true = at (is_read r.request)
-  where
-    at : (b : Bool) → InLine ((if b then move.Got f else move.Wrote f) ∷ [])
-    at true = tt
-    at false = tt
-in_ending r f false = at (is_read r.request)
-  where
-    at : (b : Bool) → InLine ((if b then move.Bad f else move.Lost f) ∷ [])
-    at true = tt
-    at false = tt
+in_ending r f true = ending_by (λ (m : Move). InLine (m ∷ [])) r f true tt tt
+in_ending r f false = ending_by (λ (m : Move). InLine (m ∷ [])) r f false tt tt
 
 life_one : (i : ℕ) (ok : Bool) (s z : StateOf) → EndsOne i ok s z → LifeKept s.life z.life
 life_one i ok s z e = subst (λ (l : FrameLife). LifeKept s.life l) (sym e.made.life) (kept_ending (record_at s.life.frames e.frame.0) e.frame ok s.life)
@@ -195,16 +173,11 @@ failed_told t = t.paging_reads.failed + t.paging_writes.failed + t.file_reads.fa
 
 good_read : (b : Backing) (t : Told) → failed_told (with_read true b t) ≡ failed_told t
 good_read backing.None t = refl
-good_read (backing.Slot s) t = refl
-good_read (backing.Block s) t = refl
+good_read b t = refl
 
 good_write : (b : Backing) (t : Told) → failed_told (with_write true b t) ≡ failed_told t
 good_write backing.None t = refl
-good_write (backing.Slot s) t = refl
-good_write (backing.Block s) t = refl
-
-one_more_some : (n : ℕ) → 0 < min (n + 1) (2 ^ 64 - 1)
-one_more_some n = grind arith
+good_write b t = refl
 
 some_in : (a b c d n : ℕ) → (a ≡ n) ⊎ ((b ≡ n) ⊎ ((c ≡ n) ⊎ (d ≡ n))) → 0 < n → 0 < a + b + c + d
 some_in a b c d n (inl e) h = omega (arith, e, h)
@@ -214,22 +187,17 @@ some_in a b c d n (inr (inr (inr e))) h = omega (arith, e, h)
 
 bad_read : (b : Backing) (t : Told) (k : Option Key) → is_backed b ≡ true → 0 < failed_told (record (with_read false b t) { last_failed_read = k })
 bad_read backing.None t k h = cc
-bad_read (backing.Slot s) t k h = some_in (min (t.paging_reads.failed + 1) (2 ^ 64 - 1)) t.paging_writes.failed t.file_reads.failed t.file_writes.failed _ (inl refl) (one_more_some t.paging_reads.failed)
-bad_read (backing.Block s) t k h = some_in t.paging_reads.failed t.paging_writes.failed (min (t.file_reads.failed + 1) (2 ^ 64 - 1)) t.file_writes.failed _ (inr (inr (inl refl))) (one_more_some t.file_reads.failed)
+bad_read (backing.Slot s) t k h = some_in (min (t.paging_reads.failed + 1) (2 ^ 64 - 1)) t.paging_writes.failed t.file_reads.failed t.file_writes.failed _ (inl refl) (one_some t.paging_reads.failed)
+bad_read (backing.Block s) t k h = some_in t.paging_reads.failed t.paging_writes.failed (min (t.file_reads.failed + 1) (2 ^ 64 - 1)) t.file_writes.failed _ (inr (inr (inl refl))) (one_some t.file_reads.failed)
 
 bad_write : (b : Backing) (t : Told) → is_backed b ≡ true → 0 < failed_told (with_write false b t)
 bad_write backing.None t h = cc
-bad_write (backing.Slot s) t h = some_in t.paging_reads.failed (min (t.paging_writes.failed + 1) (2 ^ 64 - 1)) t.file_reads.failed t.file_writes.failed _ (inr (inl refl)) (one_more_some t.paging_writes.failed)
-bad_write (backing.Block s) t h = some_in t.paging_reads.failed t.paging_writes.failed t.file_reads.failed (min (t.file_writes.failed + 1) (2 ^ 64 - 1)) _ (inr (inr (inr refl))) (one_more_some t.file_writes.failed)
+bad_write (backing.Slot s) t h = some_in t.paging_reads.failed (min (t.paging_writes.failed + 1) (2 ^ 64 - 1)) t.file_reads.failed t.file_writes.failed _ (inr (inl refl)) (one_some t.paging_writes.failed)
+bad_write (backing.Block s) t h = some_in t.paging_reads.failed t.paging_writes.failed t.file_reads.failed (min (t.file_writes.failed + 1) (2 ^ 64 - 1)) _ (inr (inr (inr refl))) (one_some t.file_writes.failed)
 
 -- a page that is being written has a home to go to
 backed_write : (s : StateOf) (f : ℕ) → StateHolds s → is_write (record_at s.life.frames f).request ≡ true → is_backed (record_at s.life.frames f).backing ≡ true
 backed_write s f h w = ∥∥₁_elim h.reached (hlevel props) (λ r. (((reached_sound s.life r).standing f).fit.writing w).1)
-
-fault_by : (w : Direction) (b : Backing) (s z : StateOf) → is_backed b ≡ true → DeviceCalled w b false s z → SomeFault s z
-fault_by w backing.None s z h c = cc
-fault_by w (backing.Slot t) s z h c = inl (serves_failed _ s.paging z.paging c.0 refl)
-fault_by w (backing.Block t) s z h c = inr (serves_failed _ s.files z.files c.0 refl)
 
 -- what one end tells, where the call succeeded and where it failed
 pub ok_told : (s z : StateOf) (f : Frame) → Made (ending (record_at s.life.frames f.0) f true) s z → failed_told z.told ≡ failed_told s.told
@@ -284,25 +252,14 @@ passes_one i ok s z o e = passes_of (Completes i ok) (ending (record_at s.life.f
     (record { frame = e.frame.0; found = e.found; one = refl; moved = record { waits = e.made.waits; ages = e.made.ages } })
 
 pub ended_passes : (i : ℕ) (r : Done) (s z : StateOf) (o : OwnOf) → EndsAs i r s z → Passes (CompletesAs i r) (store_of s o) (store_of z o) (behind_of s) (behind_of z)
-ended_passes i done.None s z o e = none_passes (CompletesAs i done.None) s z o o (e.0, record { none = refl; same = ap behind_of e.1 }) (ap (λ (x : StateOf). x.log) e.1) (ap (λ (x : StateOf). x.life) e.1) (ap (λ (x : StateOf). x.told) e.1) (ap (λ (x : StateOf). x.paging) e.1) (ap (λ (x : StateOf). x.files) e.1) (ap (λ (x : StateOf). x.slots) e.1) (ap (λ (x : StateOf). x.blocks) e.1)
+ended_passes i done.None s z o e = none_passes (CompletesAs i done.None) s z o o s.contents s.ages s.waits e.1 (e.0, record { none = refl; same = refl })
 ended_passes i done.Ok s z o e = passes_one i true s z o e
 ended_passes i done.Failed s z o e = passes_one i false s z o e
 
 -- ---- what the store keeps
 
 kept_one : (i : ℕ) (ok : Bool) (s z : StateOf) (o : OwnOf) → StoreKept s o → s.life.kind ≡ kind.Io → EndsOne i ok s z → StoreKept z o
-kept_one i ok s z o k io e = record {
-  own = ap (λ (x : StateOf). x.own) e.same ∙ k.own;
-  aside = ap (λ (x : StateOf). x.aside) e.same ∙ k.aside;
-  ready = λ r t. absurd (none_ready r t);
-  touching = λ r t. absurd (none_ready r t);
-  room = λ r t c. absurd (none_ready r t);
-  fresh = λ b l. ap (λ (f : ℕ → Bool). f b) (life_one i ok s z e).added ∙ k.fresh b l;
-  calm = λ t. let bad : false ≡ true = sym (ap is_thread ((life_one i ok s z e).kind ∙ io)) ∙ t in cc;
-}
-  where
-    none_ready : (r : Ready) → o.ready ≡ Some r → ⊥
-    none_ready r t = let bad : false ≡ true = sym (ap is_touch io) ∙ k.touching r t in cc
+kept_one i ok s z o k io e = kept_untouched s z o k (ap is_touch io) (life_one i ok s z e) e.same
 
 pub ended_kept : (i : ℕ) (r : Done) (s z : StateOf) (o : OwnOf) → StoreKept s o → s.life.kind ≡ kind.Io → EndsAs i r s z → StoreKept z o
 ended_kept i done.None s z o k io e = subst (λ (x : StateOf). StoreKept x o) (sym e.1) k

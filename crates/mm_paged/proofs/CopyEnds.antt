@@ -1,37 +1,20 @@
 -- What a copy leaves of the store, and how it ends.
 use Rattle.std.proofs.Common.{◌≡◌, ℕ, ◌≤◌, ◌+◌, Bool, true, false, List, Option, Some, None, refl, sym, ap, ◌∙◌, subst, arith, inl, inr, ◌⊎◌}
 use Rattle.std.specs.Prelude.{not, is_some, is_none, IsSome, ◌==◌, ◌||◌, option_map, unwrap_or, Ok, Err}
-use Rattle.mm_types.specs.Machine.{limit_of}
-use Rattle.mm_types.specs.declared.faults.PageFault.{PageFault}
+use Rattle.mm_types.specs.{limit_of, PageFault, Held, Move, Frame, Key, Place}
 use Rattle.mm_types.specs.declared.faults.PageFault.TheVariants as fault
-use Rattle.mm_types.specs.declared.frames.Held.{Held}
 use Rattle.mm_types.specs.declared.frames.Held.TheVariants as held
 use Rattle.mm_types.specs.declared.moves.LineKind.TheVariants as kind
-use Rattle.mm_types.specs.declared.moves.Move.{Move}
-use Rattle.mm_types.specs.declared.numbers.Frame.{Frame}
-use Rattle.mm_types.specs.declared.numbers.Key.{Key}
-use Rattle.mm_types.specs.declared.numbers.Place.{Place}
-use Rattle.mm_life.specs.Life.{FrameLife, changed, same_place, key_of_place, is_live, is_dead}
-use Rattle.mm_life.specs.Legal.{is_short, is_touch}
-use Rattle.mm_life.specs.Replay.{Replays}
-use Rattle.mm_laws.proofs.Owners.{key_or_not, changed_here, changed_else, same_key-self}
-use Rattle.mm_world.specs.World.{Page}
-use Rattle.mm_world.specs.Failure.{same_key as same_in_world, still_needs_frame, search_failed}
-use Rattle.mm_world.specs.Report.{is_short as report_is_short}
-use Rattle.mm_pages.specs.Accesses.{Aim, Copies}
-use Rattle.mm_pages.specs.Conditions.{MayAccess, IsReady, copying}
-use Rattle.mm_pages.specs.Passing.{Passes}
+use Rattle.mm_life.specs.{FrameLife, changed, same_place, key_of_place, is_live, is_dead, is_short, is_touch, Replays}
+use Rattle.mm_laws.proofs.{key_or_not, changed_here, changed_else, same_key-self}
+use Rattle.mm_world.specs.{Page, same_key as same_in_world, still_needs_frame, search_failed, is_short as report_is_short}
+use Rattle.mm_pages.specs.{Aim, Copies, MayAccess, IsReady, copying, Passes, IsBegun, HasCauses, Served, fetched, where_of, block_at, backed_by}
+use Rattle.mm_pages.specs.{StoreOf, Ready, own_key}
 use Rattle.mm_paged.proofs.Giving.{young_still}
-use Rattle.mm_pages.specs.Reports.{Ends, IsBegun, HasCauses, Served, fetched}
-use Rattle.mm_pages.specs.Standing.{where_of, block_at, backed_by}
-use Rattle.mm_pages.specs.Store.{StoreOf, Ready, own_key}
-use Rattle.mm_moving.specs.Shown.{StateOf, moved_with_call}
-use Rattle.mm_moving.specs.Doing.{walk_of}
-use Rattle.mm_moving.specs.Holds.{StateHolds}
-use Rattle.mm_paged.specs.Pieces.{Went, Stuck, LifeKept}
-use Rattle.mm_paged.specs.Copies.{CopiesFrom, Copied, FailsToCopy, most_reads}
-use Rattle.mm_paged.specs.Shown.{OwnOf, StoreKept, store_of, report_of, behind_of}
-use Rattle.mm_paged.proofs.Quiet.{calm_through}
+use Rattle.mm_pages.specs.Reports.{Ends}
+use Rattle.mm_moving.specs.{StateOf, moved_with_call, walk_of, StateHolds}
+use Rattle.mm_paged.specs.{Went, Stuck, LifeKept, CopiesFrom, Copied, FailsToCopy, most_reads, OwnOf, StoreKept, store_of, report_of, behind_of}
+use Rattle.mm_paged.proofs.Quiet.{calm_through, kept_by, none_ready}
 use Rattle.mm_paged.proofs.Ending.{in_line}
 use Rattle.mm_paged.proofs.Keeping.{block_same, blocks_kept, paging_has_none, dead_has_none, fetched_by}
 use Rattle.mm_paged.proofs.Reading.{framed_has, nothing_read, fails_not, short_counts, search_failed_by}
@@ -96,18 +79,8 @@ copied_kept n k place s z o u now h may went c ready at none used = record {
 -- nothing is ready
 pub failed_kept : (e : PageFault) (k : Key) (place : Place) (s z : StateOf) (o u : OwnOf) → StoreKept s o → ((a : Aim) → CopiesFrom a k place s → Stuck a e 1 s z) → LifeKept s.life z.life → z ≡ record (moved_with_call s z) { names = z.names }
     → u.ready ≡ None → u.blocks_used ≡ o.blocks_used → StoreKept z u
-failed_kept e k place s z o u h stuck life same none used = record {
-  own = ap (λ (x : StateOf). x.own) same ∙ h.own;
-  aside = ap (λ (x : StateOf). x.aside) same ∙ h.aside;
-  ready = λ r t. absurd (none_ready r t);
-  touching = λ r t. absurd (none_ready r t);
-  room = λ r t copies. absurd (none_ready r t);
-  fresh = λ b low. ap (λ (f : ℕ → Bool). f b) life.added ∙ h.fresh b (subst (λ (a : ℕ). a ≤ b) used low);
-  calm = λ t. let w = stuck (copy_aim k place s) (aims k place s) in calm_through (copy_aim k place s) w.moves s z w.does w.each h.calm t;
-}
-  where
-    none_ready : (r : Ready) → u.ready ≡ Some r → ⊥
-    none_ready r t = let bad : None ≡ Some r = sym none ∙ t in cc
+failed_kept e k place s z o u h stuck life same none used = kept_by s z o u (none_ready u none) h (ap (λ (x : StateOf). x.own) same) (ap (λ (x : StateOf). x.aside) same) life.added used
+    (λ t. let w = stuck (copy_aim k place s) (aims k place s) in calm_through (copy_aim k place s) w.moves s z w.does w.each h.calm t)
 
 few_of : (o : Option Frame) (n : ℕ) → n ≤ most_reads o → n ≤ 1
 few_of None n h = h
@@ -206,18 +179,12 @@ failed_store e k place s z o u h g stuck l c x b =
 -- ---- how it ends, by the report
 
 live_where : (l : FrameLife) (h : Held) → not (is_dead h) ≡ true → not (is_none (where_of l h)) ≡ true
-live_where l (held.Frame f) e = refl
-live_where l (held.Slot s) e = refl
-live_where l (held.Block b) e = refl
-live_where l held.Zero e = refl
 live_where l held.Dead e = cc
+live_where l h e = refl
 
 dead_where : (l : FrameLife) (h : Held) → not (is_dead h) ≡ false → not (is_none (where_of l h)) ≡ false
-dead_where l (held.Frame f) e = cc
-dead_where l (held.Slot s) e = cc
-dead_where l (held.Block b) e = cc
-dead_where l held.Zero e = cc
 dead_where l held.Dead e = refl
+dead_where l h e = cc
 
 either_none : (a b : Bool) → a ≡ true → b ≡ true → (not a || not b) ≡ false
 either_none a b p q = grind (arith, p, q)

@@ -1,27 +1,20 @@
 -- A page is copied: it becomes valid at the place first, where it is not.
-use Rattle.std.proofs.Common.{◌≡◌, ℕ, ◌≤◌, ◌+◌, Bool, true, false, Option, Some, None, refl, sym, ap, ◌∙◌, subst, arith, inl, inr, ◌⊎◌}
+use Rattle.std.proofs.Common.{◌≡◌, ◌≤◌, ◌+◌, true, false, Option, Some, None, refl, sym, ap, ◌∙◌, subst, arith, inl, inr, ◌⊎◌}
 use Rattle.std.specs.Prelude.{is_some, Result, Ok, Err, IfErr, OnOk, OnErr}
-use Rattle.mm_types.specs.declared.faults.PageFault.{PageFault}
+use Rattle.mm_types.specs.{PageFault, Frame, Key, Place}
 use Rattle.mm_types.specs.declared.faults.PageFault.TheVariants as fault
 use Rattle.mm_types.specs.declared.moves.LineKind.TheVariants as kind
-use Rattle.mm_types.specs.declared.numbers.Frame.{Frame}
-use Rattle.mm_types.specs.declared.numbers.Key.{Key}
-use Rattle.mm_types.specs.declared.numbers.Place.{Place}
-use Rattle.mm_life.specs.Life.{FrameLife, changed, same_key, same_place, key_of_place}
-use Rattle.mm_life.specs.Legal.{is_access, is_short}
-use Rattle.mm_pages.specs.Accesses.{Aim}
-use Rattle.mm_pages.specs.Conditions.{touch}
-use Rattle.mm_world.specs.Report.{Tally}
-use Rattle.mm_moving.specs.Shown.{StateOf, moved_with_call}
-use Rattle.mm_moving.specs.Doing.{IsFlightOf}
-use Rattle.mm_moving.specs.Holds.{StateHolds}
-use Rattle.mm_paged.specs.Pieces.{Went, Stuck, Fails, LifeKept, Later}
-use Rattle.mm_paged.specs.Copies.{Reaches, NoneBeside, CopiesPage, FailsToCopyPage, CopiesFrom, Readied, Pins, Spares, Lacks, Copied, FailsToCopy, most_reads}
+use Rattle.mm_life.specs.{FrameLife, changed, same_key, same_place, key_of_place, is_access, is_short}
+use Rattle.mm_pages.specs.{Aim, touch}
+use Rattle.mm_world.specs.{Tally}
+use Rattle.mm_moving.specs.{StateOf, moved_with_call, IsFlightOf, StateHolds}
+use Rattle.mm_paged.specs.{Went, Stuck, Fails, LifeKept, Later, Reaches, NoneBeside, CopiesPage, FailsToCopyPage, CopiesFrom, Readied, Pins, Spares}
+use Rattle.mm_paged.specs.{Lacks, Copied, FailsToCopy, most_reads}
 use Rattle.mm_paged.proofs.Doing.{went_then, went_stuck}
 use Rattle.mm_paged.proofs.Bringing.{went_more, stuck_more, does_later, fault_later}
-use Rattle.mm_paged.proofs.Giving.{place_twice}
+use Rattle.mm_paged.proofs.Giving.{changed_twice}
 use Rattle.mm_paged.proofs.HeldShared.{went_life, stuck_life}
-use Rattle.mm_paged.proofs.Keeping.{kept_then}
+use Rattle.mm_paged.proofs.Keeping.{kept_then, added_behind}
 
 -- ---- by the result
 
@@ -60,19 +53,11 @@ module _ (k : Key) (f : Frame) (place : Place) (s t : StateOf) (r : Readied k f 
 
   named_own : (n : Place → Option Key) → (n ≡ s.names) ⊎ (n ≡ changed same_place s.names place (Some k)) → changed same_place n place (Some (key_of_place place)) ≡ changed same_place s.names place (Some (key_of_place place))
   named_own n (inl e) = ap (λ (x : Place → Option Key). changed same_place x place (Some (key_of_place place))) e
-  named_own n (inr e) = ap (λ (x : Place → Option Key). changed same_place x place (Some (key_of_place place))) e ∙ place_twice s.names place (Some k) (Some (key_of_place place))
+  named_own n (inr e) = ap (λ (x : Place → Option Key). changed same_place x place (Some (key_of_place place))) e ∙ changed_twice same_place s.names place (Some k) (Some (key_of_place place))
 
   pub page_copied : (z : StateOf) → Copied k place t z → Copied k place s z
   page_copied z c = record {
-    life = record {
-      machine = c.life.machine ∙ readied_life.machine;
-      line = c.life.line ∙ readied_life.line;
-      kind = c.life.kind ∙ readied_life.kind;
-      paging = c.life.paging ∙ ap (λ (p : Key → Bool). changed same_key p (key_of_place place) true) readied_life.paging;
-      keys = c.life.keys ∙ ap (λ (n : ℕ). n + 1) readied_life.keys;
-      pids = c.life.pids ∙ readied_life.pids;
-      added = c.life.added ∙ readied_life.added;
-    };
+    life = added_behind (key_of_place place) s.life t.life z.life readied_life c.life;
     valid = c.valid;
     young = c.young;
     names = c.names ∙ named_own t.names r.names;

@@ -1,15 +1,13 @@
 -- The pieces of an access, one behind another.
 use Rattle.std.proofs.Common.{◌≡◌, ℕ, ◌+◌, List, [], ◌++◌, refl, sym, ap, ◌∙◌, subst, arith}
-use Rattle.mm_types.specs.declared.faults.PageFault.{PageFault}
+use Rattle.mm_types.specs.{PageFault, Move}
 use Rattle.mm_types.specs.declared.faults.PageFault.TheVariants as fault
-use Rattle.mm_types.specs.declared.moves.Move.{Move}
-use Rattle.mm_pages.specs.Accesses.{Aim, AccessMove}
-use Rattle.mm_pages.proofs.Walking.{accesses_then, walked_then}
-use Rattle.mm_life.specs.Walks.{Walk, Through, walked_all, is_read_move, takes_frame, is_wrote_move}
-use Rattle.mm_moving.specs.Shown.{StateOf}
-use Rattle.mm_moving.specs.Doing.{DoesMoves, walk_of}
-use Rattle.mm_moving.proofs.Doing.{does_nothing, does_then, count-append, walked_here}
-use Rattle.mm_paged.specs.Pieces.{Went, Stuck, Sought, TookFrame, Missed, walk_at}
+use Rattle.mm_pages.specs.{Aim, AccessMove}
+use Rattle.mm_pages.proofs.{accesses_then, walked_then}
+use Rattle.mm_life.specs.{Walk, Through, walked_all, is_read_move, takes_frame, is_wrote_move}
+use Rattle.mm_moving.specs.{StateOf, DoesMoves, walk_of}
+use Rattle.mm_moving.proofs.{does_nothing, does_then, count-append, walked_here}
+use Rattle.mm_paged.specs.{Went, Stuck, Sought, TookFrame, Missed, walk_at}
 
 -- ---- pieces
 

@@ -1,54 +1,27 @@
 -- What an access that faulted leaves, out of what its fault did.
-use Rattle.std.proofs.Common.{◌≡◌, ◌≤◌, ℕ, Bool, true, false, List, [], ◌∷◌, Option, Some, None, refl, sym, ap, ◌∙◌, subst, length}
+use Rattle.std.proofs.Common.{◌≡◌, ℕ, Bool, true, false, List, [], ◌∷◌, Option, Some, None, refl, sym, ap, ◌∙◌, subst, length}
 use Rattle.std.specs.Prelude.{is_some, if◌then◌else◌, IsSome, Ok}
-use Rattle.mm_types.specs.declared.faults.PageFault.{PageFault}
-use Rattle.mm_types.specs.Machine.{MachineOf}
-use Rattle.mm_types.specs.declared.moves.Move.{Move}
+use Rattle.mm_types.specs.{PageFault, MachineOf, Move, Key, Place, Frame}
 use Rattle.mm_types.specs.declared.moves.Move.TheVariants as move
-use Rattle.mm_types.specs.declared.numbers.Key.{Key}
-use Rattle.mm_types.specs.declared.numbers.Place.{Place}
-use Rattle.mm_life.specs.Life.{FrameLife, changed, same_place}
-use Rattle.mm_pages.specs.Accesses.{Aim, AccessMove}
-use Rattle.mm_pages.specs.Conditions.{touch}
-use Rattle.mm_pages.specs.Reports.{Served, fetched, Ends, IsBegun}
-use Rattle.mm_pages.specs.Shortage.{is_framed}
-use Rattle.mm_laws.proofs.PlaceCounts.{same_place-self}
+use Rattle.mm_life.specs.{FrameLife, changed, same_place, Walk, Through, is_thread}
+use Rattle.mm_pages.specs.{Aim, AccessMove, touch, Served, fetched, IsBegun, is_framed, StoreOf}
+use Rattle.mm_pages.specs.Reports.{Ends}
+use Rattle.mm_laws.proofs.{same_place-self}
 use Rattle.mm_paged.proofs.Reading.{had_ends}
-use Rattle.mm_pages.specs.Store.{StoreOf, Ready}
-use Rattle.mm_life.specs.Walks.{Walk, Through}
-use Rattle.mm_moving.specs.Shown.{StateOf, moved_with_call}
-use Rattle.mm_moving.specs.Doing.{DoesMoves, walk_of}
-use Rattle.mm_moving.specs.Holds.{StateHolds}
-use Rattle.mm_types.specs.declared.numbers.Frame.{Frame}
+use Rattle.mm_moving.specs.{StateOf, moved_with_call, DoesMoves, walk_of, StateHolds}
 use Rattle.std.proofs.Common.{arith}
-use Rattle.mm_moving.proofs.Doing.{does_one}
+use Rattle.mm_moving.proofs.{does_one}
 use Rattle.mm_paged.proofs.Doing.{went_nothing}
-use Rattle.mm_paged.specs.Pieces.{Went, Stuck, AccessBegins, Soils, Was, Is}
-use Rattle.mm_paged.specs.Shown.{OwnOf, StoreKept, store_of, report_of}
-use Rattle.mm_paged.specs.Pieces.{LifeKept}
+use Rattle.mm_paged.specs.{Went, Stuck, AccessBegins, Soils, Was, Is, OwnOf, StoreKept, store_of, report_of, LifeKept}
 use Rattle.mm_paged.proofs.Keeping.{kept_all, blocks_kept, fetched_by}
 use Rattle.mm_paged.proofs.Serving.{InLine, served_by}
-use Rattle.mm_life.specs.Legal.{is_thread}
 use Rattle.mm_pages.specs.Told.{Told}
-use Rattle.mm_paged.proofs.Quiet.{calm_through}
+use Rattle.mm_paged.proofs.Quiet.{calm_through, kept_by, none_ready}
 
 pub in_line : (a : Aim) (ms : List Move) (w : Walk) → Through (AccessMove a) w ms → InLine ms
 in_line a [] w h = tt
 in_line a (move.At n k ∷ ms) w h = h.0
-in_line a (move.Add k b ∷ ms) w h = in_line a ms _ h.1
-in_line a (move.Drop k ∷ ms) w h = in_line a ms _ h.1
-in_line a (move.Clear f ∷ ms) w h = in_line a ms _ h.1
-in_line a (move.Steal f ∷ ms) w h = in_line a ms _ h.1
-in_line a (move.Give f k ∷ ms) w h = in_line a ms _ h.1
-in_line a (move.Read f k ∷ ms) w h = in_line a ms _ h.1
-in_line a (move.Got f ∷ ms) w h = in_line a ms _ h.1
-in_line a (move.Bad f ∷ ms) w h = in_line a ms _ h.1
-in_line a (move.Map f p ∷ ms) w h = in_line a ms _ h.1
-in_line a (move.Unmap p ∷ ms) w h = in_line a ms _ h.1
-in_line a (move.Soil f ∷ ms) w h = in_line a ms _ h.1
-in_line a (move.Write f b ∷ ms) w h = in_line a ms _ h.1
-in_line a (move.Wrote f ∷ ms) w h = in_line a ms _ h.1
-in_line a (move.Lost f ∷ ms) w h = in_line a ms _ h.1
+in_line a (m ∷ ms) w h = in_line a ms _ h.1
 
 -- what an access of a page is about that makes no copy
 abbrev pub aim_at : Bool → Key → Place → StateOf → Aim
@@ -106,14 +79,6 @@ err_store w k place s y o u m h g e x b =
 pub ok_served : (w : Bool) (k : Key) (place : Place) (s y z : StateOf) (o u : OwnOf) (c : Key → Option (List ℕ)) → Moves w k place s y → z ≡ record y { ages = changed same_place y.ages place 0; contents = c } → Served (store_of s o) (store_of z u)
 ok_served w k place s y z o u c m r = subst (λ (t : StoreOf). Served (store_of s o) t) (sym (ap (λ (t : StateOf). store_of t u) r)) (served_in w k place s y o u m)
 
-pub read_store : (k : Key) (place : Place) (s y z : StateOf) (o u : OwnOf) → Moves false k place s y → StateHolds s → StateHolds y → y ≡ record (moved_with_call s y) { names = y.names } → y.names ≡ changed same_place s.names place (Some k)
-    → z ≡ record y { ages = changed same_place y.ages place 0 } → u.extended ≡ o.extended → u.blocks_used ≡ o.blocks_used
-    → store_of z u ≡ record (fetched (store_of s o) (store_of z u)) { names = changed same_place s.names place (Some k) }
-read_store k place s y z o u m h g e n r x b = ok_store false k place s y z o u y.contents m h g e n r x b
-
-pub read_served : (k : Key) (place : Place) (s y z : StateOf) (o u : OwnOf) → Moves false k place s y → z ≡ record y { ages = changed same_place y.ages place 0 } → Served (store_of s o) (store_of z u)
-read_served k place s y z o u m r = ok_served false k place s y z o u y.contents m r
-
 pub some_is : {A : Type 0} (o : Option A) → IsSome o → is_some o ≡ true
 some_is (Some v) h = refl
 some_is None h = cc
@@ -136,24 +101,10 @@ went_soil a f s z w v (Is m e) = record {
 
 -- ---- what the store keeps
 
--- blocks that no file uses were never a key's, still
-pub fresh_in : (w : Bool) (k : Key) (place : Place) (s y : StateOf) (used : ℕ) → Moves w k place s y → ((b : ℕ) → used ≤ b → s.life.added b ≡ false) → (b : ℕ) → used ≤ b → y.life.added b ≡ false
-fresh_in w k place s y used m h b l = ap (λ (f : ℕ → Bool). f b) (kept_in w k place s y m).added ∙ h b l
-
 -- nothing is ready once an access faulted
 pub faulted_kept : (w : Bool) (k : Key) (place : Place) (s y z : StateOf) (o u : OwnOf) → Moves w k place s y → StoreKept s o → y ≡ record (moved_with_call s y) { names = y.names } → z.life ≡ y.life → z.own ≡ y.own → z.aside ≡ y.aside → z.told ≡ y.told → u.ready ≡ None → u.blocks_used ≡ o.blocks_used → StoreKept z u
-faulted_kept w k place s y z o u m h e l a b t r q = record {
-  own = a ∙ ap (λ (x : StateOf). x.own) e ∙ h.own;
-  aside = b ∙ ap (λ (x : StateOf). x.aside) e ∙ h.aside;
-  ready = λ x n. absurd (none_ready u x r n);
-  touching = λ x n. absurd (none_ready u x r n);
-  room = λ x n c. absurd (none_ready u x r n);
-  fresh = λ n low. ap (λ (f : FrameLife). f.added n) l ∙ fresh_in w k place s y o.blocks_used m h.fresh n (subst (λ (used : ℕ). used ≤ n) q low);
-  calm = λ th. ap (λ (x : Told). x.search_writes) t ∙ calm_through (aim_at w k place s) m.moves s y m.does m.each h.calm (sym (ap (λ (f : FrameLife). is_thread f.kind) l) ∙ th);
-}
-  where
-    none_ready : (u : OwnOf) (x : Ready) → u.ready ≡ None → u.ready ≡ Some x → ⊥
-    none_ready u x r t = let bad : None ≡ Some x = sym r ∙ t in cc
+faulted_kept w k place s y z o u m h e l a b t r q = kept_by s z o u (none_ready u r) h (a ∙ ap (λ (x : StateOf). x.own) e) (b ∙ ap (λ (x : StateOf). x.aside) e) (ap (λ (f : FrameLife). f.added) l ∙ (kept_in w k place s y m).added) q
+    (λ th. ap (λ (x : Told). x.search_writes) t ∙ calm_through (aim_at w k place s) m.moves s y m.does m.each h.calm (sym (ap (λ (f : FrameLife). is_thread f.kind) l) ∙ th))
 
 -- how an access that faulted and was had ends
 pub faulted_ends : (k : Key) (s y z : StateOf) (o : OwnOf) (x : Option Bool) (a : Place → ℕ) (c : Key → Option (List ℕ)) → z ≡ record y { ages = a; contents = c } → y.told.last_failed_read ≡ s.told.last_failed_read → is_framed (y.life.stands k) ≡ true → IsBegun (report_of s o)

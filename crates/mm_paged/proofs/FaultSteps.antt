@@ -1,31 +1,24 @@
 -- The promises of the steps of a fault, from what their pieces promise.
-use Rattle.std.proofs.Common.{◌≡◌, ℕ, true, false, Option, Some, None, refl, sym, ap, ◌∙◌, subst, arith, inl, inr}
-use Rattle.std.specs.Prelude.{Result, Ok, Err, IfOk, IfErr, List}
-use Rattle.mm_types.specs.declared.faults.PageFault.{PageFault}
+use Rattle.std.proofs.Common.{◌≡◌, true, false, Option, Some, None, refl, sym, ap, ◌∙◌, subst, arith, inl}
+use Rattle.std.specs.Prelude.{Result, Ok, Err, IfOk, IfErr}
+use Rattle.mm_types.specs.{PageFault, Held, Frame, Key, Place, Move}
 use Rattle.mm_types.specs.declared.faults.PageFault.TheVariants as fault
-use Rattle.mm_types.specs.declared.frames.Held.{Held}
 use Rattle.mm_types.specs.declared.frames.Held.TheVariants as held
 use Rattle.mm_types.specs.declared.moves.Move.TheVariants as move
-use Rattle.mm_types.specs.declared.numbers.Frame.{Frame}
-use Rattle.mm_types.specs.declared.numbers.Key.{Key}
-use Rattle.mm_types.specs.declared.numbers.Place.{Place}
-use Rattle.mm_life.specs.Frames.{record_at, is_read, is_empty}
-use Rattle.mm_life.specs.Life.{FrameLife, changed, same_place, key_of_place}
-use Rattle.mm_life.specs.Legal.{is_access, is_stored}
-use Rattle.mm_laws.proofs.Owners.{changed_here}
-use Rattle.mm_blocks.specs.Devices.{DeviceOf, CallFailed}
-use Rattle.mm_pages.specs.Accesses.{Aim}
-use Rattle.mm_pages.specs.Reports.{no_calls}
+use Rattle.mm_life.specs.{record_at, is_read, is_empty, FrameLife, changed, same_place, key_of_place, is_access, is_stored, after_move}
+use Rattle.mm_laws.proofs.{changed_here}
+use Rattle.mm_pages.specs.{Aim, no_calls, told_after}
 use Rattle.mm_pages.specs.Told.{Told}
-use Rattle.mm_parts.specs.Moves.{front, front_for_read}
-use Rattle.mm_moving.specs.Shown.{StateOf, Made, SomeFault, moved, moved_with_call, names_after_give}
-use Rattle.mm_paged.specs.Pieces.{Stuck, TookFrame, IsFor, KeepsButNames, Calm, Placed, Fails}
-use Rattle.mm_paged.specs.Faults.{MayReadIn, MayUse, GivesFrame, KeepsNames, ReadsWell, ReadsBadly, TakesIn, MissesIn, SettlesRead, FailsToSettle, SearchKeeps, FindsFrame, Brings, FailsToBring, IsCalledOn}
+use Rattle.mm_parts.specs.{front, front_for_read}
+use Rattle.mm_moving.specs.{StateOf, Made, moved, moved_with_call, names_after_give}
+use Rattle.mm_paged.specs.{Stuck, TookFrame, IsFor, KeepsButNames, Calm, Placed, Fails, MayReadIn, MayUse, GivesFrame, KeepsNames, ReadsWell}
+use Rattle.mm_paged.specs.{ReadsBadly, TakesIn, MissesIn, SettlesRead, FailsToSettle, SearchKeeps, FindsFrame, Brings, FailsToBring, IsCalledOn}
 use Rattle.mm_paged.proofs.Doing.{sought_took, sought_missed}
-use Rattle.mm_paged.proofs.Bringing.{went_more, stuck_more, reads_for, fails_both}
+use Rattle.mm_paged.proofs.Bringing.{went_more, stuck_more, reads_for, fails_read, fault_later}
 use Rattle.mm_paged.proofs.Taking.{went_read, stuck_read, went_steal_read, stuck_steal_read}
 use Rattle.mm_paged.proofs.InFlight.{flight_then, flight_same}
 use Rattle.mm_paged.proofs.Giving.{given_names, given_beside, given_soiled}
+use Rattle.mm_reclaim.proofs.{called_then, fault_from, moved_called}
 
 -- ---- a frame is given
 
@@ -49,32 +42,32 @@ ready_then s x y a b = record {
   told = b.told ∙ a.told;
 }
 
-pub ready_cleared : (s y : StateOf) → Made (move.Clear (front s.life.frames.free)) s y → y ≡ moved s y → Ready s y
-ready_cleared s y m e = record {
+-- by one move
+pub ready_made : (x : Move) (s y : StateOf) → (after_move s.life x).kind ≡ s.life.kind → (after_move s.life x).valid ≡ s.life.valid → (after_move s.life x).flight ≡ s.life.flight → told_after s.life x s.told ≡ s.told → Made x s y → y ≡ moved s y → Ready s y
+ready_made x s y k v f t m e = record {
   rest = e;
-  kind = ap (λ (l : FrameLife). l.kind) m.life;
-  valid = ap (λ (l : FrameLife). l.valid) m.life;
-  flight = ap (λ (l : FrameLife). l.flight) m.life;
-  told = m.told;
+  kind = ap (λ (l : FrameLife). l.kind) m.life ∙ k;
+  valid = ap (λ (l : FrameLife). l.valid) m.life ∙ v;
+  flight = ap (λ (l : FrameLife). l.flight) m.life ∙ f;
+  told = m.told ∙ t;
 }
+
+pub ready_cleared : (s y : StateOf) → Made (move.Clear (front s.life.frames.free)) s y → y ≡ moved s y → Ready s y
+ready_cleared s y m e = ready_made (move.Clear (front s.life.frames.free)) s y refl refl refl refl m e
 
 pub ready_stolen : (s y : StateOf) → Made (move.Steal (front s.life.frames.standby)) s y → y ≡ moved s y → Ready s y
-ready_stolen s y m e = record {
-  rest = e;
-  kind = ap (λ (l : FrameLife). l.kind) m.life;
-  valid = ap (λ (l : FrameLife). l.valid) m.life;
-  flight = ap (λ (l : FrameLife). l.flight) m.life;
-  told = m.told;
-}
+ready_stolen s y m e = ready_made (move.Steal (front s.life.frames.standby)) s y refl refl refl refl m e
 
 -- no device was called
-moved_called : (s z : StateOf) → z ≡ record (moved s z) { names = z.names } → z ≡ record (moved_with_call s z) { names = z.names }
-moved_called s z e =
-    e
-    ∙ ap (λ (d : DeviceOf). record (moved s z) { names = z.names; paging = d }) (sym (ap (λ (x : StateOf). x.paging) e))
-    ∙ ap (λ (d : DeviceOf). record (moved s z) { names = z.names; paging = z.paging; files = d }) (sym (ap (λ (x : StateOf). x.files) e))
-    ∙ ap (λ (b : List (List ℕ)). record (moved s z) { names = z.names; paging = z.paging; files = z.files; slots = b }) (sym (ap (λ (x : StateOf). x.slots) e))
-    ∙ ap (λ (b : List (List ℕ)). record (moved s z) { names = z.names; paging = z.paging; files = z.files; slots = z.slots; blocks = b }) (sym (ap (λ (x : StateOf). x.blocks) e))
+pub moved_on : (s z : StateOf) (n : Place → Option Key) (a : Option Place) → z ≡ record (moved s z) { names = n; aside = a } → z ≡ record (moved_with_call s z) { names = n; aside = a }
+moved_on s z n a e = e ∙ (λ i. record (moved s z) {
+  names = n;
+  aside = a;
+  paging = ap (λ (t : StateOf). t.paging) (sym e) i;
+  files = ap (λ (t : StateOf). t.files) (sym e) i;
+  slots = ap (λ (t : StateOf). t.slots) (sym e) i;
+  blocks = ap (λ (t : StateOf). t.blocks) (sym e) i;
+})
 
 given_moved : (k : Key) (s y z : StateOf) → y ≡ moved s y → z ≡ record (moved y z) { names = names_after_give y k } → z ≡ record (moved s z) { names = z.names }
 given_moved k s y z r e =
@@ -92,7 +85,7 @@ gives k f s y z r m e quiet went =
       keeps = record {
         kind = ap (λ (l : FrameLife). l.kind) m.life ∙ r.kind;
         unmapped = λ p h. ap (λ (l : FrameLife). l.valid p) m.life ∙ ap (λ (v : Place → Option Frame). v p) r.valid ∙ h;
-        same = moved_called s z w;
+        same = moved_on s z z.names s.aside w;
       };
       stored = (ap (λ (x : StateOf). x.slots) w, ap (λ (x : StateOf). x.blocks) w);
       calm = m.told ∙ ap (λ (t : Told). record t { search_writes = no_calls }) r.told;
@@ -119,18 +112,14 @@ keeps_then s y z a b = record {
   same = b.same ∙ ap (λ (x : StateOf). record (moved_with_call x z) { names = z.names }) a.same;
 }
 
+pub called_on : (s z : StateOf) → z ≡ moved_with_call s z → IsCalledOn s z
+called_on s z e = e ∙ ap (λ (n : Place → Option Key). record (moved_with_call s z) { names = n }) (sym (ap (λ (x : StateOf). x.names) e))
+
 ready_keeps : (s y z : StateOf) → Ready s y → KeepsButNames y z → KeepsButNames s z
-ready_keeps s y z r k = record {
-  kind = k.kind ∙ r.kind;
-  unmapped = λ p h. k.unmapped p (ap (λ (v : Place → Option Frame). v p) r.valid ∙ h);
-  same = k.same ∙ ap (λ (x : StateOf). record (moved_with_call x z) { names = z.names }) r.rest;
-}
+ready_keeps s y z r k = keeps_then s y z (record { kind = r.kind; unmapped = λ p h. ap (λ (v : Place → Option Frame). v p) r.valid ∙ h; same = called_on s y (moved_called s y r.rest) }) k
 
 pub ready_keeps_names : (s y z : StateOf) → Ready s y → KeepsNames y z → KeepsNames s z
 ready_keeps_names s y z r n = record { keeps = ready_keeps s y z r n.keeps; names = n.names ∙ ap (λ (x : StateOf). x.names) r.rest }
-
-pub called_on : (s z : StateOf) → z ≡ moved_with_call s z → IsCalledOn s z
-called_on s z e = e ∙ ap (λ (n : Place → Option Key). record (moved_with_call s z) { names = n }) (sym (ap (λ (x : StateOf). x.names) e))
 
 pub may_use_then : (k : Key) (place : Place) (s z : StateOf) → IsCalledOn s z → MayUse k place s → MayUse k place z
 may_use_then k place s z e m = record {
@@ -141,12 +130,7 @@ may_use_then k place s z e m = record {
 }
 
 pub may_use_moved : (k : Key) (place : Place) (s z : StateOf) → z ≡ moved s z → MayUse k place s → MayUse k place z
-may_use_moved k place s z e m = record {
-  bound = ap (λ (x : StateOf). x.bound place) e ∙ m.bound;
-  fits = m.fits;
-  alone = λ h. ap (λ (x : StateOf). x.contents (key_of_place place)) e ∙ m.alone h;
-  aside = ap (λ (x : StateOf). x.aside) e ∙ m.aside;
-}
+may_use_moved k place s z e m = may_use_then k place s z (called_on s z (moved_called s z e)) m
 
 -- ---- a page is read in
 
@@ -168,29 +152,13 @@ ok_steals_in (Ok f) k s y z none m e w = record {
 }
 ok_steals_in (Err e) k s y z none m r w = tt
 
-fault_on : (s y z : StateOf) → y.paging ≡ s.paging → y.files ≡ s.files → SomeFault y z → SomeFault s z
-fault_on s y z p q (inl h) = inl (subst (λ (d : DeviceOf). CallFailed d z.paging) p h)
-fault_on s y z p q (inr h) = inr (subst (λ (d : DeviceOf). CallFailed d z.files) q h)
-
-fails_stolen : (e : PageFault) (k : Key) (s y z : StateOf) → e ≡ fault.Read → y ≡ moved s y → Fails e k y z → Fails e k s z
-fails_stolen e k s y z w r f = record {
-  read = f.read;
-  kept = λ h. let bad = sym w ∙ h in cc;
-  short = f.short;
-  failed = f.failed;
-  none = λ h. let bad = sym w ∙ h in cc;
-  unframed = f.unframed;
-  fault = fault_on s y z (ap (λ (x : StateOf). x.paging) r) (ap (λ (x : StateOf). x.files) r) f.fault;
-  same = f.same ∙ ap (λ (x : StateOf). moved_with_call x z) r;
-}
-
 pub err_steals_in : (r : Result Frame PageFault) (k : Key) (s y z : StateOf) → is_empty s.life.frames.free ≡ true → Made (move.Steal (front s.life.frames.standby)) s y → y ≡ moved s y
     → IfErr r (λ e. ReadsBadly k e y z) → IfErr r (λ e. MissesIn k e s z)
 err_steals_in (Ok f) k s y z none m r w = tt
 err_steals_in (Err e) k s y z none m r w = record {
   stuck = λ a h. stuck_steal_read a (front_for_read y.life) k s y z none m refl w.bad h;
   why = w.why;
-  fails = fails_stolen e k s y z w.why r w.fails;
+  fails = fails_read e k s y z w.why (fault_from s y z (ap (λ (x : StateOf). x.paging) r) (ap (λ (x : StateOf). x.files) r) w.fails.fault) (w.fails.same ∙ ap (λ (x : StateOf). moved_with_call x z) r) w.fails;
 }
 
 -- ---- a page gets its frame
@@ -246,7 +214,7 @@ pub err_brings_read : (r : Result Frame PageFault) (k : Key) (s t z : StateOf) �
 err_brings_read (Ok f) k s t z st p q w = tt
 err_brings_read (Err e) k s t z st p q w = record {
   stuck = λ a b. subst (λ (x : PageFault). Stuck a x 1 s z) (sym w.why) (sought_missed a s t z (p.went a b) (w.stuck a (reads_for a k s b st)));
-  fails = fails_both e k s t z w.why q.later q.same w.fails;
+  fails = fails_read e k s t z w.why (fault_later s t z q.later w.fails.fault) (called_then s t z q.same w.fails.same) w.fails;
 }
 
 -- ---- it becomes valid

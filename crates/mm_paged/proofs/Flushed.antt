@@ -1,60 +1,38 @@
 -- A page of a file that is written to its block.
-use Rattle.std.proofs.Common.{◌≡◌, ◌≢◌, ℕ, zero, suc, ◌+◌, ◌-◌, ◌<◌, Bool, true, false, List, [], ◌∷◌, ◌++◌, Option, Some, None, refl, sym, ap, ◌∙◌, subst, arith, inl, inr, ◌⊎◌}
+use Rattle.std.proofs.Common.{◌≡◌, ◌≢◌, ℕ, ◌<◌, Bool, true, false, List, [], ◌∷◌, ◌++◌, Option, Some, None, refl, sym, ap, ◌∙◌, subst, inl, inr, ◌⊎◌}
 use Rattle.std.proofs.Math.Logic.{∥∥₁_elim}
 use Rattle.std.proofs.Props.{props}
-use Rattle.std.specs.Prelude.{not, ◌&&◌, ◌||◌, if◌then◌else◌, is_some, IsSome, length, min, slice_get, slice_set, slice_index_or, ◌^◌, Result, Ok, Err, OnOk, OnErr, is_ok}
-use Rattle.mm_types.specs.Machine.{MachineOf, limit_of}
+use Rattle.std.specs.Prelude.{not, ◌&&◌, ◌||◌, if◌then◌else◌, is_some, IsSome, length, slice_get, Result, Ok, Err, OnOk, OnErr, is_ok}
+use Rattle.mm_types.specs.{MachineOf, Backing, Held, Record, Request, LineKind, Move, Stored, Block, Frame, Key}
 use Rattle.mm_types.specs.declared.devices.Direction.TheVariants as way
-use Rattle.mm_types.specs.declared.frames.Backing.{Backing}
 use Rattle.mm_types.specs.declared.frames.Backing.TheVariants as backing
-use Rattle.mm_types.specs.declared.frames.Held.{Held}
 use Rattle.mm_types.specs.declared.frames.Held.TheVariants as held
-use Rattle.mm_types.specs.declared.frames.Record.{Record}
-use Rattle.mm_types.specs.declared.frames.Request.{Request}
 use Rattle.mm_types.specs.declared.frames.Request.TheVariants as request
-use Rattle.mm_types.specs.declared.moves.LineKind.{LineKind}
 use Rattle.mm_types.specs.declared.moves.LineKind.TheVariants as kind
-use Rattle.mm_types.specs.declared.moves.Move.{Move}
 use Rattle.mm_types.specs.declared.moves.Move.TheVariants as move
-use Rattle.mm_types.specs.declared.moves.Stored.{Stored}
 use Rattle.mm_types.specs.declared.moves.Stored.TheVariants as stored
-use Rattle.mm_types.specs.declared.numbers.Block.{Block}
-use Rattle.mm_types.specs.declared.numbers.Frame.{Frame}
-use Rattle.mm_types.specs.declared.numbers.Key.{Key}
-use Rattle.mm_blocks.proofs.Serving.{later_same, later_then, serves_later, serves_failed, failed_later}
-use Rattle.mm_types.proofs.Cells.{get_set_other}
-use Rattle.mm_life.specs.Frames.{record_at, blank, is_read, is_write, is_again, has_request, write_done, without_slot, being_written}
-use Rattle.mm_life.specs.Life.{FrameLife, is_live, is_dead}
-use Rattle.mm_life.specs.Legal.{IsLegal, is_touch, is_access, is_writer, is_call, is_block, has_depth}
-use Rattle.mm_life.specs.Effect.{after_move}
-use Rattle.mm_life.specs.Frames.{is_on}
-use Rattle.mm_laws.specs.Settling.{ended_as}
-use Rattle.mm_laws.proofs.Deduced.{reached_sound}
-use Rattle.mm_laws.proofs.Settling.{wrote_settles}
-use Rattle.mm_pages.specs.Flushing.{IsEndOf, IsWrittenNow, IsWrittenIf, IsEndedFirst, FlushesBy, FlushedAt, ends_lost}
-use Rattle.mm_pages.specs.Housekeeping.{FlushesPage as Flushes}
-use Rattle.mm_pages.specs.Passing.{Passes}
-use Rattle.mm_pages.specs.Reports.{wrote, Served}
-use Rattle.mm_pages.specs.Standing.{stored_of, backed_by, block_at, in_backing, is_on_device, bytes_at}
-use Rattle.mm_pages.specs.Shortage.{is_framed}
-use Rattle.mm_pages.specs.Store.{Ready}
-use Rattle.mm_pages.specs.Told.{Told, with_write}
-use Rattle.mm_parts.specs.Moves.{write_end, write_target, goes_to, lowest_free, own_after, own_ended}
-use Rattle.mm_life.specs.Waits.{wait_of}
-use Rattle.mm_moving.specs.Shown.{StateOf, CalledFor, Made, WrotePage, backing_of_frame, moved, moved_with_call, written_if}
-use Rattle.mm_moving.specs.Doing.{DoesMoves}
-use Rattle.mm_moving.specs.Holds.{StateHolds}
-use Rattle.mm_moving.proofs.Doing.{does_one, does_two, does_then, does_nothing}
-use Rattle.mm_frame_laws.specs.Carried.{blocks_written, slots_written}
-use Rattle.mm_paged.specs.Flushed.{HoldsFilePage, WritesTo, WritesBack, EndedIf, WrittenIf, is_changed_then, EndsFlight, WritesChanged, FlushesFrame, FlushesPage}
-use Rattle.mm_paged.specs.Pieces.{LifeKept}
-use Rattle.mm_paged.specs.Shown.{OwnOf, StoreKept, store_of, report_of, behind_of}
-use Rattle.mm_paged.proofs.Quiet.{no_thread}
+use Rattle.mm_blocks.proofs.{later_same, later_then, serves_later, serves_failed, failed_later}
+use Rattle.mm_types.proofs.{get_set_other, same_number, some_found}
+use Rattle.mm_life.specs.{record_at, blank, is_read, is_write, is_again, has_request, write_done, without_slot, being_written, FrameLife, is_live}
+use Rattle.mm_life.specs.{is_dead, IsLegal, is_touch, is_access, is_writer, is_call, is_block, has_depth, after_move, is_on, wait_of}
+use Rattle.mm_laws.specs.{ended_as}
+use Rattle.mm_laws.proofs.{reached_sound, wrote_settles}
+use Rattle.mm_pages.specs.{IsEndOf, IsWrittenNow, IsWrittenIf, IsEndedFirst, FlushesBy, FlushedAt, ends_lost, FlushesPage as Flushes, Passes, wrote}
+use Rattle.mm_pages.specs.{Served, fetched, stored_of, backed_by, block_at, in_backing, is_on_device, bytes_at, is_framed, with_write}
+use Rattle.mm_pages.specs.Told.{Told}
+use Rattle.mm_parts.specs.{write_end, write_target, goes_to, lowest_free, own_after, own_ended}
+use Rattle.mm_moving.specs.{StateOf, CalledFor, Made, WrotePage, backing_of_frame, moved, moved_with_call, written_if, DoesMoves, StateHolds}
+use Rattle.mm_moving.proofs.{does_one, does_two, does_then, does_nothing}
+use Rattle.mm_frame_laws.specs.{blocks_written, slots_written}
+use Rattle.mm_paged.specs.{HoldsFilePage, WritesTo, WritesBack, EndedIf, WrittenIf, is_changed_then, EndsFlight, WritesChanged, FlushesFrame}
+use Rattle.mm_paged.specs.{FlushesPage, LifeKept, OwnOf, StoreKept, store_of, report_of, behind_of}
+use Rattle.mm_paged.proofs.Quiet.{kept_untouched}
 use Rattle.mm_paged.proofs.Completed.{called_by_write}
-use Rattle.mm_paged.proofs.Keeping.{kept_same, kept_then, blocks_kept}
+use Rattle.mm_paged.proofs.Keeping.{kept_same, kept_then, blocks_kept, fetched_by, with_told}
 use Rattle.mm_paged.proofs.Serving.{InLine, served_by}
 use Rattle.mm_paged.proofs.Shows.{passes_of}
-use Rattle.mm_types.proofs.Naturals.{same_number}
+use Rattle.mm_reclaim.proofs.{one_some}
+use Rattle.mm_paged.proofs.Records.{set_there}
 
 -- ---- blocks
 
@@ -67,10 +45,6 @@ block_is (backing.Block c) n e = let same : c.0 ≡ n = cc in ap (λ (k : ℕ). 
 pub block_of_frame : (s : StateOf) (k : Key) (f : Frame) (n : ℕ) → s.life.stands k ≡ held.Frame f → block_at (backed_by s.life (s.life.stands k)) ≡ Some n → backing_of_frame s f ≡ backing.Block (record { 0 = n })
 block_of_frame s k f n e b = block_is (backing_of_frame s f) n (sym (ap (λ (h : Held). block_at (backed_by s.life h)) e) ∙ b)
 
-some_in : {A : Type 0} (o : Option A) → is_some o ≡ true → (v : A) × (o ≡ Some v)
-some_in None h = cc
-some_in (Some v) h = (v, refl)
-
 pub some_there : {A : Type 0} (o : Option A) → IsSome o → (v : A) × (o ≡ Some v)
 some_there None h = cc
 some_there (Some v) h = (v, refl)
@@ -79,7 +53,7 @@ live_frame : (s : StateOf) (k : Key) (f : Frame) → s.life.stands k ≡ held.Fr
 live_frame s k f e = ap (λ (h : Held). not (is_dead h)) e
 
 page_of : (s : StateOf) (k : Key) (f : Frame) → StateHolds s → s.life.stands k ≡ held.Frame f → (page : List ℕ) × (s.contents k ≡ Some page)
-page_of s k f h e = some_in (s.contents k) (sym (h.live k) ∙ live_frame s k f e)
+page_of s k f h e = some_found (s.contents k) (sym (h.live k) ∙ live_frame s k f e)
 
 -- ---- device calls
 
@@ -123,10 +97,7 @@ none_failed t b false e = cc
 
 one_failed : (t : Told) (b : Block) (ok : Bool) → ok ≡ false → 0 < (with_write ok (backing.Block b) t).file_writes.failed
 one_failed t b true e = cc
-one_failed t b false e = some_more t.file_writes.failed
-  where
-    some_more : (n : ℕ) → 0 < min (n + 1) (2 ^ 64 - 1)
-    some_more n = grind arith
+one_failed t b false e = one_some t.file_writes.failed
 
 by_call : (b : Block) (page : List ℕ) (ok : Bool) (s z : StateOf) → z.told ≡ with_write ok (backing.Block b) s.told → z.waits ≡ s.waits → CalledFor way.Write (backing.Block b) ok s.paging s.files z.paging z.files → WrotePage (backing.Block b) page ok s z → WritesTo b ok s z
 by_call b page ok s z t w c p = record {
@@ -300,15 +271,10 @@ start_legal s f h i k w c = subst (λ (t : Stored). IsLegal (move.Write f t) s.l
 
 -- the record of the frame that is being written
 begun_record : (b : Block) (f : Frame) (s y : StateOf) → Made (move.Write f (stored.Block b)) s y → (record_at y.life.frames f.0 ≡ being_written (backing.Block b) (record_at s.life.frames f.0)) ⊎ ((record_at y.life.frames f.0 ≡ blank) × (record_at s.life.frames f.0 ≡ blank))
-begun_record b f s y m = elim (set_here s.life.frames.records f.0 (being_written (backing.Block b) (record_at s.life.frames f.0))) [
+begun_record b f s y m = elim (set_there s.life.frames.records f.0 (being_written (backing.Block b) (record_at s.life.frames f.0))) [
   | inl h ↦ inl (ap (λ (l : FrameLife). record_at l.frames f.0) m.life ∙ h)
   | inr h ↦ inr (ap (λ (l : FrameLife). record_at l.frames f.0) m.life ∙ h.0, h.1)
 ]
-  where
-    set_here : (xs : List Record) (n : ℕ) (r : Record) → (slice_index_or (slice_set xs n r) n blank ≡ r) ⊎ ((slice_index_or (slice_set xs n r) n blank ≡ blank) × (slice_index_or xs n blank ≡ blank))
-    set_here [] n r = inr (refl, refl)
-    set_here (x ∷ xs) zero r = inl refl
-    set_here (x ∷ xs) (suc n) r = set_here xs n r
 
 begun_once : (b : Block) (f : Frame) (s y : StateOf) → Made (move.Write f (stored.Block b)) s y → is_again (record_at y.life.frames f.0).request ≡ false
 begun_once b f s y m = elim (begun_record b f s y m) [
@@ -439,11 +405,8 @@ page_framed k b f ok s z e p = record {
 
 -- without a frame it is in its block
 home_is : (l : FrameLife) (h : Held) (b : Block) → is_framed h ≡ false → block_at (backed_by l h) ≡ Some b.0 → h ≡ held.Block b
-home_is l (held.Frame f) b n e = cc
-home_is l (held.Slot s) b n e = cc
 home_is l (held.Block c) b n e = let same : c.0 ≡ b.0 = cc in ap (λ (x : ℕ). held.Block (record { 0 = x })) same
-home_is l held.Zero b n e = cc
-home_is l held.Dead b n e = cc
+home_is l h b n e = cc
 
 pub page_home : (k : Key) (b : Block) (s : StateOf) → is_framed (s.life.stands k) ≡ false → block_at (backed_by s.life (s.life.stands k)) ≡ Some b.0 → FlushesPage k b true s s
 page_home k b s n e =
@@ -453,59 +416,15 @@ page_home k b s n e =
 -- ---- what the store shows then
 
 pub flushed_store : (k : Key) (b : Block) (ok : Bool) (s z : StateOf) (o : OwnOf) → StateHolds s → StateHolds z → FlushesPage k b ok s z → store_of z o ≡ wrote (store_of s o) (store_of z o)
-flushed_store k b ok s z o h g p = λ i. record {
-  machine = life.machine i;
-  is_open = opened i;
-  areas = areas i;
-  bound = bound i;
-  names = names i;
-  paging = life.paging i;
-  paging_keys = life.keys i;
-  room = limit_of (life.machine i);
-  block_of = λ key. blocks key i;
-  blocks_used = o.blocks_used;
-  file_blocks = z.blocks;
-  line = life.line i;
-  kind = life.kind i;
-  last_pid = life.pids i;
-  ready = o.ready;
-  report = record (report_of z o) {
-    paging_reads = (told i).paging_reads;
-    paging_writes = (told i).paging_writes;
-    file_reads = (told i).file_reads;
-    last_failed_read = (told i).last_failed_read;
-    wait = λ tid. wait_of (waits i tid);
-  };
-  paging_device = device i;
-  file_device = z.files;
-}
-  where
-    life : LifeKept s.life z.life
-    life = p.writes.life
-
-    opened : z.is_open ≡ s.is_open
-    opened = ap (λ (x : StateOf). x.is_open) p.writes.same
-
-    areas : z.areas ≡ s.areas
-    areas = ap (λ (x : StateOf). x.areas) p.writes.same
-
-    bound : z.bound ≡ s.bound
-    bound = ap (λ (x : StateOf). x.bound) p.writes.same
-
-    names : z.names ≡ s.names
-    names = ap (λ (x : StateOf). x.names) p.writes.same
-
-    told : z.told ≡ record s.told { file_writes = z.told.file_writes; search_writes = z.told.search_writes }
-    told = p.writes.device.told
-
-    waits : z.waits ≡ s.waits
-    waits = p.writes.device.waits
-
-    device : z.paging ≡ s.paging
-    device = p.writes.device.paging
-
-    blocks : (key : Key) → block_at (backed_by z.life (z.life.stands key)) ≡ block_at (backed_by s.life (s.life.stands key))
-    blocks = blocks_kept s z p.moves h g p.writes.does.replays p.writes.life.paging (ap (λ (x : StateOf). x.contents) p.writes.same)
+flushed_store k b ok s z o h g p =
+    let same = p.writes.same in
+    fetched_by s z o o p.writes.life (blocks_kept s z p.moves h g p.writes.does.replays p.writes.life.paging (ap (λ (x : StateOf). x.contents) same))
+    (ap (λ (x : StateOf). x.is_open) same) (ap (λ (x : StateOf). x.areas) same) (ap (λ (x : StateOf). x.bound) same) refl refl
+    ∙ (λ i. record (fetched (store_of s o) (store_of z o)) {
+      names = ap (λ (x : StateOf). x.names) same i;
+      report = with_told (record (report_of z o) { wait = λ tid. wait_of (p.writes.device.waits i tid) }) (p.writes.device.told i);
+      paging_device = p.writes.device.paging i;
+    })
 
 pub on_ok_if : {T E : Type 0} {P : Type 0} (r : Result T E) → (is_ok r ≡ true → P) → OnOk r P
 on_ok_if (Ok v) f = f refl
@@ -527,10 +446,8 @@ end_in_line f m (inr e) = subst (λ (x : Move). InLine (x ∷ [])) (sym e) tt
 
 written_in_line : (c : Bool) (f : Frame) (ms : List Move) → IsWrittenIf c f ms → InLine ms
 written_in_line false f ms h = subst InLine (sym h) tt
-written_in_line true f [] h = absurd h
-written_in_line true f (x ∷ []) h = absurd h
 written_in_line true f (x ∷ y ∷ []) h = subst (λ (m : Move). InLine (m ∷ y ∷ [])) (sym h.0.1) (end_in_line f y h.1)
-written_in_line true f (x ∷ y ∷ z ∷ ms) h = absurd h
+written_in_line true f ms h = absurd h
 
 ended_in_line : (again : Bool) (f : Frame) (ms : List Move) → IsEndedFirst again f ms → InLine ms
 ended_in_line again f [] h = absurd h
@@ -545,10 +462,7 @@ flush_in_line request.WriteAgain c f ms h = ended_in_line true f ms h
 
 flushed_in_line : (l : FrameLife) (h : Held) (ms : List Move) → FlushedAt l h ms → InLine ms
 flushed_in_line l (held.Frame f) ms p = flush_in_line (record_at l.frames f.0).request (record_at l.frames f.0).changed f ms p
-flushed_in_line l (held.Slot s) ms p = subst InLine (sym p) tt
-flushed_in_line l (held.Block b) ms p = subst InLine (sym p) tt
-flushed_in_line l held.Zero ms p = subst InLine (sym p) tt
-flushed_in_line l held.Dead ms p = subst InLine (sym p) tt
+flushed_in_line l h ms p = subst InLine (sym p) tt
 
 pub flushed_served : (k : Key) (b : Block) (ok : Bool) (s z : StateOf) (o : OwnOf) → FlushesPage k b ok s z → Served (store_of s o) (store_of z o)
 flushed_served k b ok s z o p = served_by p.moves s z o o (flushed_in_line s.life (s.life.stands k) p.moves p.page) p.writes.does
@@ -565,26 +479,12 @@ flushed_passes k b ok s z o p = passes_of (Flushes k ok) p.moves s z o o p.write
 })
 
 pub flushed_kept : (k : Key) (b : Block) (ok : Bool) (s z : StateOf) (o : OwnOf) → StoreKept s o → s.life.kind ≡ kind.Call → FlushesPage k b ok s z → StoreKept z o
-flushed_kept k b ok s z o h c p = record {
-  own = ap (λ (x : StateOf). x.own) p.writes.same ∙ h.own;
-  aside = ap (λ (x : StateOf). x.aside) p.writes.same ∙ h.aside;
-  ready = λ r t. absurd (none_ready r t);
-  touching = λ r t. absurd (none_ready r t);
-  room = λ r t q. absurd (none_ready r t);
-  fresh = λ n l. ap (λ (f : ℕ → Bool). f n) p.writes.life.added ∙ h.fresh n l;
-  calm = λ th. absurd (no_thread s.life.kind z.life.kind p.writes.life.kind (ap is_touch c) th);
-}
-  where
-    none_ready : (r : Ready) → o.ready ≡ Some r → ⊥
-    none_ready r t = let bad : false ≡ true = sym (ap is_touch c) ∙ h.touching r t in cc
+flushed_kept k b ok s z o h c p = kept_untouched s z o h (ap is_touch c) p.writes.life p.writes.same
 
 -- not in a frame
 pub not_framed : (h : Held) → ((f : Frame) → h ≡ held.Frame f → ⊥) → is_framed h ≡ false
 not_framed (held.Frame f) n = absurd (n f refl)
-not_framed (held.Slot s) n = refl
-not_framed (held.Block b) n = refl
-not_framed held.Zero n = refl
-not_framed held.Dead n = refl
+not_framed h n = refl
 
 -- the block of a page, and how it was flushed
 pub record Flushing (k : Key) (ok : Bool) (s z : StateOf) : Type 0 where

@@ -1,32 +1,24 @@
 -- What a page that is given a frame leaves, where its key may stand beside the tables.
 use Rattle.std.proofs.Common.{◌≡◌, Bool, true, false, Option, Some, None, refl, sym, ap, ◌∙◌, inl, inr}
 use Rattle.std.specs.Prelude.{if◌then◌else◌}
-use Rattle.mm_types.specs.declared.frames.Record.{Record}
+use Rattle.mm_types.specs.{Record, Frame, Key, Place}
 use Rattle.mm_types.specs.declared.moves.Move.TheVariants as move
-use Rattle.mm_types.specs.declared.numbers.Frame.{Frame}
-use Rattle.mm_types.specs.declared.numbers.Key.{Key}
 use Rattle.mm_types.specs.declared.numbers.Key.TheVariants.{Private, Shared}
-use Rattle.mm_types.specs.declared.numbers.Place.{Place}
-use Rattle.mm_life.specs.Frames.{record_at, given}
-use Rattle.mm_life.specs.Life.{FrameLife, changed, same_place, key_of_place}
-use Rattle.mm_life.specs.Effect.{after_move}
-use Rattle.mm_laws.proofs.PlaceCounts.{same_place-true, same_place-self}
-use Rattle.mm_frame_laws.specs.Carried.{IsSoiled, is_calm}
-use Rattle.mm_parts.specs.Moves.{names_given}
-use Rattle.mm_moving.specs.Shown.{StateOf, names_after_give}
-use Rattle.mm_paged.specs.Pieces.{NamesFor}
+use Rattle.mm_life.specs.{record_at, given, FrameLife, changed, same_place, key_of_place, after_move}
+use Rattle.mm_laws.proofs.{same_place-true, same_place-self}
+use Rattle.mm_frame_laws.specs.{IsSoiled, is_calm}
+use Rattle.mm_parts.specs.{names_given}
+use Rattle.mm_moving.specs.{StateOf, names_after_give}
+use Rattle.mm_paged.specs.{NamesFor}
 use Rattle.mm_paged.proofs.Records.{set_there}
 
 -- changed twice
-pub place_twice : {V : Type 0} (f : Place → V) (p : Place) (x v : V) → changed same_place (changed same_place f p x) p v ≡ changed same_place f p v
-place_twice {V} f p x v = λ i. λ q. at q i
+pub changed_twice : {K V : Type 0} (same : K → K → Bool) (f : K → V) (k : K) (x v : V) → changed same (changed same f k x) k v ≡ changed same f k v
+changed_twice {K} {V} same f k x v = λ i. λ q. by (same q k) (f q) i
   where
     by : (b : Bool) (y : V) → (if b then v else (if b then x else y)) ≡ (if b then v else y)
     by true y = refl
     by false y = refl
-
-    at : (q : Place) → changed same_place (changed same_place f p x) p v q ≡ changed same_place f p v q
-    at q = by (same_place q p) (f q)
 
 -- changed to what it was
 pub young_still : {V : Type 0} (g : Place → V) (p : Place) (v : V) → g p ≡ v → g ≡ changed same_place g p v
@@ -40,7 +32,7 @@ young_still {V} g p v e = λ i. λ q. at q i
     at q = by q (same_place q p) refl
 
 named_at : (n : Place → Option Key) (p place : Place) (v : Option Key) → p ≡ place → changed same_place (changed same_place n p (Some (key_of_place p))) place v ≡ changed same_place n place v
-named_at n p place v e = ap (λ (q : Place). changed same_place (changed same_place n q (Some (key_of_place q))) place v) e ∙ place_twice n place (Some (key_of_place place)) v
+named_at n p place v e = ap (λ (q : Place). changed same_place (changed same_place n q (Some (key_of_place q))) place v) e ∙ changed_twice same_place n place (Some (key_of_place place)) v
 
 given_at : (o : Option Place) (n : Place → Option Key) (p place : Place) (v : Option Key) → p ≡ place → changed same_place (names_given o n p) place v ≡ changed same_place n place v
 given_at None n p place v e = named_at n p place v e

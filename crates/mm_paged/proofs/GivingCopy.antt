@@ -1,25 +1,17 @@
 -- A copy comes to be beside the tables, and gets a frame.
-use Rattle.std.proofs.Common.{◌≡◌, ℕ, ◌+◌, Bool, true, false, [], ◌∷◌, Option, Some, None, refl, sym, ap, ◌∙◌, subst, arith, inl, inr}
-use Rattle.std.specs.Prelude.{length, is_some, option_map, unwrap_or, ◌<◌}
-use Rattle.mm_types.specs.Machine.{limit_of}
+use Rattle.std.proofs.Common.{◌≡◌, true, false, [], ◌∷◌, Option, Some, None, refl, sym, ap, ◌∙◌, subst, arith, inl, inr}
+use Rattle.std.specs.Prelude.{is_some, option_map, unwrap_or, ◌<◌}
+use Rattle.mm_types.specs.{limit_of, Frame, Key, Place}
 use Rattle.mm_types.specs.declared.moves.Move.TheVariants as move
-use Rattle.mm_types.specs.declared.numbers.Frame.{Frame}
-use Rattle.mm_types.specs.declared.numbers.Key.{Key}
-use Rattle.mm_types.specs.declared.numbers.Place.{Place}
-use Rattle.mm_life.specs.Frames.{is_empty, record_at}
-use Rattle.mm_life.specs.Life.{FrameLife, changed, same_key, is_live, is_shared, key_of_place}
-use Rattle.mm_life.specs.Legal.{IsLegal, touches, shows_shared, owner_is}
-use Rattle.mm_pages.specs.Accesses.{Aim}
-use Rattle.mm_pages.specs.Conditions.{touch}
-use Rattle.mm_moving.specs.Shown.{StateOf, Made, moved}
-use Rattle.mm_moving.specs.Holds.{StateHolds}
-use Rattle.mm_moving.proofs.Doing.{does_one, does_two, does_then}
-use Rattle.mm_parts.specs.Moves.{front}
-use Rattle.mm_paged.specs.Pieces.{TookFrame, IsFor, LifeKept, walk_at}
-use Rattle.mm_paged.specs.Copies.{KeyAdded, Readies, Zeroed, Cleared, Taken}
+use Rattle.mm_life.specs.{is_empty, record_at, FrameLife, is_live, is_shared, key_of_place, IsLegal, touches, shows_shared, owner_is}
+use Rattle.mm_pages.specs.{Aim, touch}
+use Rattle.mm_moving.specs.{StateOf, Made, moved, StateHolds}
+use Rattle.mm_moving.proofs.{does_two}
+use Rattle.mm_parts.specs.{front}
+use Rattle.mm_paged.specs.{TookFrame, IsFor, LifeKept, walk_at, KeyAdded, Readies, Zeroed, Cleared, Taken}
 use Rattle.mm_paged.proofs.HeldCopy.{room_then}
-use Rattle.mm_paged.proofs.Keeping.{kept_all, kept_same}
-use Rattle.mm_paged.proofs.Taking.{cleared_first, stolen_first}
+use Rattle.mm_paged.proofs.Keeping.{kept_all, kept_same, kept_then, kept_made, added_then, added_behind}
+use Rattle.mm_paged.proofs.Taking.{cleared_first, stolen_first, took_front}
 
 -- ---- it is taken a frame
 
@@ -36,32 +28,20 @@ took_added a k f x y z m c g = record {
 
 -- a frame is zeroed first
 pub took_ready : (a : Aim) (k : Key) (f : Frame) (s x y z : StateOf) → Readies s x → Made (move.Add k None) x y → a.need.copy ≡ Some k → f ≡ front y.life.frames.zeroed → Made (move.Give f k) y z → TookFrame a 0 s z
+unfolding took_added took_front
 took_ready a k f s x y z (Zeroed e) m c q g = subst (λ (w : StateOf). TookFrame a 0 w z) e (took_added a k f x y z m c g)
 took_ready a k f s x y z (Cleared none p) m c q g =
     let first = front s.life.frames.free in
-    let taken : f ≡ first = q ∙ ap (λ (l : FrameLife). front l.frames.zeroed) m.life ∙ cleared_first s.life x.life first p.life none in
-    record {
-      moves = move.Clear first ∷ move.Add k None ∷ move.Give f k ∷ [];
-      does = does_then (move.Clear first ∷ []) (move.Add k None ∷ move.Give f k ∷ []) s x z (does_one (move.Clear first) s x p) (does_two (move.Add k None) (move.Give f k) x y z m g);
-      each = λ t. (inl taken, ((c, (f, refl)), (inr c, tt)));
-      fresh = λ t. refl;
-      few_reads = omega arith;
-      paid = omega arith;
-    }
+    took_front a (move.Clear first) s x z p (λ t. refl) refl refl 0 (took_added a k f x y z m c g)
+    (λ t. inl (q ∙ ap (λ (l : FrameLife). front l.frames.zeroed) m.life ∙ cleared_first s.life x.life first p.life none))
 took_ready a k f s x y z (Taken u none none_free st p) m c q g =
     let d = front s.life.frames.standby in
     let first = front u.life.frames.free in
     let taken : f ≡ first =
     q ∙ ap (λ (l : FrameLife). front l.frames.zeroed) m.life ∙ cleared_first u.life x.life first p.life (ap (λ (l : FrameLife). is_empty l.frames.zeroed) st.life ∙ none) in
-    record {
-      moves = move.Steal d ∷ move.Clear first ∷ move.Add k None ∷ move.Give f k ∷ [];
-      does = does_then (move.Steal d ∷ []) (move.Clear first ∷ move.Add k None ∷ move.Give f k ∷ []) s u z (does_one (move.Steal d) s u st)
-          (does_then (move.Clear first ∷ []) (move.Add k None ∷ move.Give f k ∷ []) u x z (does_one (move.Clear first) u x p) (does_two (move.Add k None) (move.Give f k) x y z m g));
-      each = λ t. (inl (taken ∙ stolen_first s.life u.life d st.life none_free), (inl taken, ((c, (f, refl)), (inr c, tt))));
-      fresh = λ t. refl;
-      few_reads = omega arith;
-      paid = omega arith;
-    }
+    took_front a (move.Steal d) s u z st (λ t. refl) refl refl 0
+    (took_front a (move.Clear first) u x z p (λ t. refl) refl refl 0 (took_added a k f x y z m c g) (λ t. inl taken))
+    (λ t. inl (taken ∙ stolen_first s.life u.life d st.life none_free))
 
 -- ---- what changes
 
@@ -73,30 +53,13 @@ took_kept k y z h =
 
 pub given_life : (k : Key) (s y z : StateOf) → Made (move.Add k None) s y → ((a : Aim) → IsFor a k → TookFrame a 0 y z) → KeyAdded k s.life z.life
 given_life k s y z m h =
-    let w = took_kept k y z h in
-    let e = m.life in
-    record {
-      machine = w.machine ∙ ap (λ (l : FrameLife). l.machine) e;
-      line = w.line ∙ ap (λ (l : FrameLife). l.line) e;
-      kind = w.kind ∙ ap (λ (l : FrameLife). l.kind) e;
-      paging = w.paging ∙ ap (λ (l : FrameLife). l.paging) e;
-      keys = w.keys ∙ ap (λ (l : FrameLife). l.paging_keys) e;
-      pids = w.pids ∙ ap (λ (l : FrameLife). length l.sets) e;
-      added = w.added ∙ ap (λ (l : FrameLife). l.added) e;
-    }
+    let a = subst (λ (l : FrameLife). KeyAdded k s.life l) (sym m.life) (record { machine = refl; line = refl; kind = refl; paging = refl; keys = refl; pids = refl; added = refl }) in
+    added_then k s.life y.life z.life a (took_kept k y z h)
 
 ready_kept : (s x : StateOf) → Readies s x → LifeKept s.life x.life
 ready_kept s x (Zeroed e) = subst (λ (w : StateOf). LifeKept s.life w.life) (sym e) (kept_same s.life)
-ready_kept s x (Cleared none p) = subst (λ (l : FrameLife). LifeKept s.life l) (sym p.life) (record { machine = refl; line = refl; kind = refl; paging = refl; keys = refl; pids = refl; added = refl })
-ready_kept s x (Taken u none none_free st p) = record {
-  machine = ap (λ (l : FrameLife). l.machine) p.life ∙ ap (λ (l : FrameLife). l.machine) st.life;
-  line = ap (λ (l : FrameLife). l.line) p.life ∙ ap (λ (l : FrameLife). l.line) st.life;
-  kind = ap (λ (l : FrameLife). l.kind) p.life ∙ ap (λ (l : FrameLife). l.kind) st.life;
-  paging = ap (λ (l : FrameLife). l.paging) p.life ∙ ap (λ (l : FrameLife). l.paging) st.life;
-  keys = ap (λ (l : FrameLife). l.paging_keys) p.life ∙ ap (λ (l : FrameLife). l.paging_keys) st.life;
-  pids = ap (λ (l : FrameLife). length l.sets) p.life ∙ ap (λ (l : FrameLife). length l.sets) st.life;
-  added = ap (λ (l : FrameLife). l.added) p.life ∙ ap (λ (l : FrameLife). l.added) st.life;
-}
+ready_kept s x (Cleared none p) = kept_made (move.Clear (front s.life.frames.free)) s x p tt
+ready_kept s x (Taken u none none_free st p) = kept_then s.life u.life x.life (kept_made (move.Steal (front s.life.frames.standby)) s u st tt) (kept_made (move.Clear (front u.life.frames.free)) u x p tt)
 
 ready_valid : (s x : StateOf) → Readies s x → x.life.valid ≡ s.life.valid
 ready_valid s x (Zeroed e) = ap (λ (w : StateOf). w.life.valid) e
@@ -104,18 +67,7 @@ ready_valid s x (Cleared none p) = ap (λ (l : FrameLife). l.valid) p.life
 ready_valid s x (Taken u none none_free st p) = ap (λ (l : FrameLife). l.valid) p.life ∙ ap (λ (l : FrameLife). l.valid) st.life
 
 pub copy_life : (k : Key) (s x y z : StateOf) → Readies s x → Made (move.Add k None) x y → ((a : Aim) → IsFor a k → TookFrame a 0 y z) → KeyAdded k s.life z.life
-copy_life k s x y z r m h =
-    let w = given_life k x y z m h in
-    let e = ready_kept s x r in
-    record {
-      machine = w.machine ∙ e.machine;
-      line = w.line ∙ e.line;
-      kind = w.kind ∙ e.kind;
-      paging = w.paging ∙ ap (λ (p : Key → Bool). changed same_key p k true) e.paging;
-      keys = w.keys ∙ ap (λ (n : ℕ). n + 1) e.keys;
-      pids = w.pids ∙ e.pids;
-      added = w.added ∙ e.added;
-    }
+copy_life k s x y z r m h = added_behind k s.life x.life z.life (ready_kept s x r) (given_life k x y z m h)
 
 -- ---- the own page may come to be still
 

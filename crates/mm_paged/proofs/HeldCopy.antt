@@ -1,33 +1,28 @@
 -- A page that is valid at a place is copied to the place's own page.
-use Rattle.std.proofs.Common.{◌≡◌, ◌≢◌, ◌<◌, ℕ, ◌+◌, Bool, true, false, List, Option, Some, None, refl, sym, ap, ◌∙◌, subst}
-use Rattle.std.specs.Prelude.{length, is_some, IsSome, if◌then◌else◌, option_map, unwrap_or}
-use Rattle.mm_types.specs.Machine.{MachineOf, limit_of}
-use Rattle.mm_types.specs.declared.frames.Held.{Held}
+use Rattle.std.proofs.Common.{◌≡◌, ◌≢◌, ◌<◌, ℕ, true, false, List, Option, Some, None, sym, ap, ◌∙◌, subst}
+use Rattle.std.specs.Prelude.{is_some, IsSome, option_map, unwrap_or}
+use Rattle.mm_types.specs.{MachineOf, limit_of, Held, Frame, Key, Place}
 use Rattle.mm_types.specs.declared.frames.Held.TheVariants as held
-use Rattle.mm_types.specs.declared.numbers.Frame.{Frame}
-use Rattle.mm_types.specs.declared.numbers.Key.{Key}
-use Rattle.mm_types.specs.declared.numbers.Place.{Place}
-use Rattle.mm_life.specs.Frames.{record_at}
-use Rattle.mm_life.specs.Life.{FrameLife, changed, same_key, same_place, is_shared, key_of_place}
-use Rattle.mm_life.specs.Legal.{owner_is, shows_shared}
-use Rattle.mm_life.specs.Located.{zero_page}
-use Rattle.mm_laws.proofs.Owners.{changed_else}
-use Rattle.mm_pages.specs.Accesses.{Aim}
-use Rattle.mm_pages.specs.Shortage.{is_framed}
+use Rattle.mm_life.specs.{record_at, FrameLife, changed, same_key, same_place, is_shared, key_of_place, owner_is, shows_shared, zero_page}
+use Rattle.mm_laws.proofs.{changed_else}
+use Rattle.mm_pages.specs.{Aim, is_framed}
 use Rattle.mm_pages.specs.Told.{Told}
-use Rattle.mm_moving.specs.Shown.{StateOf, moved_with_call}
-use Rattle.mm_moving.specs.Holds.{StateHolds}
-use Rattle.mm_paged.specs.Pieces.{Went, Sought, TookFrame, LifeKept}
-use Rattle.mm_paged.specs.Copies.{HeldAt, Spares, KeyAdded, Copied, MayCopy, MayCopyHeld}
+use Rattle.mm_moving.specs.{StateOf, moved_with_call, StateHolds}
+use Rattle.mm_paged.specs.{Went, Sought, TookFrame, LifeKept, HeldAt, Spares, KeyAdded, Copied, MayCopy, MayCopyHeld, CopyGiven, CopyPut}
 use Rattle.mm_paged.proofs.Doing.{went_then, sought_took}
+use Rattle.mm_paged.proofs.Giving.{changed_twice}
+use Rattle.mm_paged.proofs.Keeping.{added_then, added_behind}
 
 -- ---- the page copied from stays where it is
 
-pub held_then : (k : Key) (f : Frame) (place : Place) (s t : StateOf) → HeldAt k f place s → Spares f s t → HeldAt k f place t
+held_then : (k : Key) (f : Frame) (place : Place) (s t : StateOf) → HeldAt k f place s → Spares f s t → HeldAt k f place t
 held_then k f place s t h p = record { valid = p.valid place h.valid; named = ap (λ (x : StateOf). x.names place) p.same ∙ h.named }
 
-pub held_still : (k : Key) (f : Frame) (place : Place) (t u : StateOf) → HeldAt k f place t → u.life.valid ≡ t.life.valid → u.names ≡ t.names → HeldAt k f place u
-held_still k f place t u h v n = record { valid = ap (λ (x : Place → Option Frame). x place) v ∙ h.valid; named = ap (λ (x : Place → Option Key). x place) n ∙ h.named }
+-- and where the place's own page came to be beside the tables
+pub held_given : (k : Key) (f g : Frame) (place : Place) (s t u : StateOf) → MayCopyHeld k f place s → Spares f s t → CopyGiven place g t u → HeldAt k f place u
+held_given k f g place s t u may p gave =
+    let held = held_then k f place s t may.held p in
+    record { valid = ap (λ (x : Place → Option Frame). x place) gave.valid ∙ held.valid; named = ap (λ (x : Place → Option Key). x place) gave.names ∙ held.named }
 
 stands_held : (k : Key) (f : Frame) (place : Place) (u : StateOf) → StateHolds u → HeldAt k f place u → u.life.stands k ≡ held.Frame f
 stands_held k f place u h at = h.of_frame k f (h.named place f at.valid ∙ at.named)
@@ -38,11 +33,15 @@ not_own k place e = λ q. let bad : true ≡ false = sym e ∙ ap is_shared q in
 
 -- ---- the bytes can be copied
 
-pub owner_then : (k : Key) (f : Frame) (u v : StateOf) → StateHolds v → v.life.stands ≡ u.life.stands → u.life.stands k ≡ held.Frame f → (record_at v.life.frames f.0).owner ≡ Some k
+owner_then : (k : Key) (f : Frame) (u v : StateOf) → StateHolds v → v.life.stands ≡ u.life.stands → u.life.stands k ≡ held.Frame f → (record_at v.life.frames f.0).owner ≡ Some k
 owner_then k f u v h s e = h.owner k f (ap (λ (x : Key → Held). x k) s ∙ e)
 
-pub from_owner : (k : Key) (f : Frame) (place : Place) (u v : StateOf) → StateHolds u → StateHolds v → HeldAt k f place u → v.life.stands ≡ u.life.stands → (record_at v.life.frames f.0).owner ≡ Some k
-from_owner k f place u v g h at s = owner_then k f u v h s (stands_held k f place u g at)
+-- once the copy is valid the page copied from is in its frame still, and the copy in its own
+pub copied_from : (k : Key) (f g : Frame) (place : Place) (s t u v : StateOf) → StateHolds u → StateHolds v → MayCopyHeld k f place s → Spares f s t → CopyGiven place g t u → CopyPut place g u v → (record_at v.life.frames f.0).owner ≡ Some k
+copied_from k f g place s t u v hu hv may p gave put = owner_then k f u v hv put.stands (stands_held k f place u hu (held_given k f g place s t u may p gave))
+
+pub copied_to : (g : Frame) (place : Place) (t u v : StateOf) → StateHolds v → CopyGiven place g t u → CopyPut place g u v → (record_at v.life.frames g.0).owner ≡ Some (key_of_place place)
+copied_to g place t u v hv gave put = owner_then (key_of_place place) g u v hv put.stands gave.frame.stands
 
 pub some_of : {A : Type 0} (o : Option A) (x : A) → o ≡ Some x → IsSome o
 some_of o x e = ap is_some e
@@ -86,84 +85,51 @@ went_held a s t u v z p q r e = subst (λ (x : StateOf). Went a 0 s x) (sym e) (
 
 -- ---- what is there then
 
--- a key's page, changed twice
-key_twice : {V : Type 0} (f : Key → V) (k : Key) (x v : V) → changed same_key (changed same_key f k x) k v ≡ changed same_key f k v
-key_twice {V} f k x v = λ i. λ q. at q i
-  where
-    by : (b : Bool) (y : V) → (if b then v else (if b then x else y)) ≡ (if b then v else y)
-    by true y = refl
-    by false y = refl
-
-    at : (q : Key) → changed same_key (changed same_key f k x) k v q ≡ changed same_key f k v q
-    at q = by (same_key q k) (f q)
-
 -- the steps of it: a search, the key's frame, the place, the bytes
 pub record Makes (k : Key) (place : Place) (f g : Frame) (s t u v z : StateOf) : Type 0 where
-  pub at : HeldAt k f place s
-  pub shared : is_shared k ≡ true
-  pub aside : s.aside ≡ None
+  pub may : MayCopyHeld k f place s
   pub spares : Spares f s t
-  pub added : KeyAdded (key_of_place place) t.life u.life
-  pub valid_given : u.life.valid ≡ t.life.valid
-  pub names_given : u.names ≡ t.names
-  pub contents_given : u.contents ≡ changed same_key t.contents (key_of_place place) (Some zero_page)
-  pub read_given : u.told.last_failed_read ≡ t.told.last_failed_read
-  pub given : u ≡ record (moved_with_call t u) { names = u.names; aside = u.aside; contents = u.contents }
+  pub gave : CopyGiven place g t u
   pub holds : StateHolds u
-  pub kept : LifeKept u.life v.life
-  pub valid_put : v.life.valid place ≡ Some g
-  pub young : v.ages place ≡ 0
-  pub stands : v.life.stands ≡ u.life.stands
-  pub names_put : v.names ≡ changed same_place u.names place (Some (key_of_place place))
-  pub told : v.told ≡ u.told
-  pub put : v ≡ record (moved_with_call u v) { names = v.names; aside = None }
+  pub put : CopyPut place g u v
   pub bytes : z.contents ≡ changed same_key v.contents (key_of_place place) (v.contents k)
   pub rest : z ≡ record v { contents = z.contents }
 
 module _ (k : Key) (place : Place) (f g : Frame) (s t u v z : StateOf) (m : Makes k place f g s t u v z) where
   made_life : KeyAdded (key_of_place place) s.life z.life
-  made_life =
-      let e : z.life ≡ v.life = ap (λ (x : StateOf). x.life) m.rest in
-      record {
-        machine = ap (λ (l : FrameLife). l.machine) e ∙ m.kept.machine ∙ m.added.machine ∙ m.spares.life.machine;
-        line = ap (λ (l : FrameLife). l.line) e ∙ m.kept.line ∙ m.added.line ∙ m.spares.life.line;
-        kind = ap (λ (l : FrameLife). l.kind) e ∙ m.kept.kind ∙ m.added.kind ∙ m.spares.life.kind;
-        paging = ap (λ (l : FrameLife). l.paging) e ∙ m.kept.paging ∙ m.added.paging ∙ ap (λ (p : Key → Bool). changed same_key p (key_of_place place) true) m.spares.life.paging;
-        keys = ap (λ (l : FrameLife). l.paging_keys) e ∙ m.kept.keys ∙ m.added.keys ∙ ap (λ (n : ℕ). n + 1) m.spares.life.keys;
-        pids = ap (λ (l : FrameLife). length l.sets) e ∙ m.kept.pids ∙ m.added.pids ∙ m.spares.life.pids;
-        added = ap (λ (l : FrameLife). l.added) e ∙ m.kept.added ∙ m.added.added ∙ m.spares.life.added;
-      }
+  made_life = subst (λ (x : StateOf). KeyAdded (key_of_place place) s.life x.life) (sym m.rest)
+      (added_then (key_of_place place) s.life u.life v.life (added_behind (key_of_place place) s.life t.life u.life m.spares.life m.gave.life) m.put.life)
 
   zeroed_first : v.contents ≡ changed same_key s.contents (key_of_place place) (Some zero_page)
-  zeroed_first = ap (λ (x : StateOf). x.contents) m.put ∙ m.contents_given ∙ ap (λ (x : StateOf). changed same_key x.contents (key_of_place place) (Some zero_page)) m.spares.same
+  zeroed_first = ap (λ (x : StateOf). x.contents) m.put.same ∙ m.gave.contents ∙ ap (λ (x : StateOf). changed same_key x.contents (key_of_place place) (Some zero_page)) m.spares.same
 
   made_contents : z.contents ≡ changed same_key s.contents (key_of_place place) (s.contents k)
   made_contents =
       m.bytes ∙ ap (λ (c : Key → Option (List ℕ)). changed same_key c (key_of_place place) (c k)) zeroed_first
-      ∙ ap (λ (x : Option (List ℕ)). changed same_key (changed same_key s.contents (key_of_place place) (Some zero_page)) (key_of_place place) x) (changed_else s.contents (key_of_place place) k (Some zero_page) (not_own k place m.shared))
-      ∙ key_twice s.contents (key_of_place place) (Some zero_page) (s.contents k)
+      ∙ ap (λ (x : Option (List ℕ)). changed same_key (changed same_key s.contents (key_of_place place) (Some zero_page)) (key_of_place place) x) (changed_else s.contents (key_of_place place) k (Some zero_page) (not_own k place m.may.shared))
+      ∙ changed_twice same_key s.contents (key_of_place place) (Some zero_page) (s.contents k)
 
   made_held : HeldAt k f place u
-  made_held = held_still k f place t u (held_then k f place s t m.at m.spares) m.valid_given m.names_given
+  made_held = held_given k f g place s t u m.may m.spares m.gave
 
   made_same : z ≡ record (moved_with_call s z) { names = z.names; contents = z.contents }
   made_same =
       m.rest
-      ∙ ap (λ (x : StateOf). record x { contents = z.contents }) m.put
-      ∙ ap (λ (x : StateOf). record (moved_with_call x v) { names = v.names; aside = None; contents = z.contents }) m.given
+      ∙ ap (λ (x : StateOf). record x { contents = z.contents }) m.put.same
+      ∙ ap (λ (x : StateOf). record (moved_with_call x v) { names = v.names; aside = None; contents = z.contents }) m.gave.same
       ∙ ap (λ (x : StateOf). record (moved_with_call x v) { names = v.names; aside = None; contents = z.contents }) m.spares.same
       ∙ sym (ap (λ (x : StateOf). record (moved_with_call s x) { names = x.names; aside = None; contents = z.contents }) m.rest)
-      ∙ ap (λ (o : Option Place). record (moved_with_call s z) { names = z.names; aside = o; contents = z.contents }) (sym m.aside)
+      ∙ ap (λ (o : Option Place). record (moved_with_call s z) { names = z.names; aside = o; contents = z.contents }) (sym m.may.aside)
 
   pub made_copied : Copied k place s z
   made_copied = record {
     life = made_life;
-    valid = ap (λ (x : StateOf). is_some (x.life.valid place)) m.rest ∙ ap is_some m.valid_put;
-    young = ap (λ (x : StateOf). x.ages place) m.rest ∙ m.young;
-    names = ap (λ (x : StateOf). x.names) m.rest ∙ m.names_put ∙ ap (λ (n : Place → Option Key). changed same_place n place (Some (key_of_place place))) (m.names_given ∙ ap (λ (x : StateOf). x.names) m.spares.same);
+    valid = ap (λ (x : StateOf). is_some (x.life.valid place)) m.rest ∙ ap is_some m.put.valid;
+    young = ap (λ (x : StateOf). x.ages place) m.rest ∙ m.put.young;
+    names = ap (λ (x : StateOf). x.names) m.rest ∙ m.put.names ∙ ap (λ (n : Place → Option Key). changed same_place n place (Some (key_of_place place))) (m.gave.names ∙ ap (λ (x : StateOf). x.names) m.spares.same);
     contents = made_contents;
-    framed = ap (λ (x : StateOf). is_framed (x.life.stands k)) m.rest ∙ ap (λ (x : Key → Held). is_framed (x k)) m.stands ∙ ap is_framed (stands_held k f place u m.holds made_held);
-    read = ap (λ (x : StateOf). x.told.last_failed_read) m.rest ∙ ap (λ (x : Told). x.last_failed_read) m.told ∙ m.read_given ∙ m.spares.read;
+    framed = ap (λ (x : StateOf). is_framed (x.life.stands k)) m.rest ∙ ap (λ (x : Key → Held). is_framed (x k)) m.put.stands ∙ ap is_framed (stands_held k f place u m.holds made_held);
+    read = ap (λ (x : StateOf). x.told.last_failed_read) m.rest ∙ ap (λ (x : Told). x.last_failed_read) m.put.told ∙ m.gave.read ∙ m.spares.read;
     same = made_same;
   }
 

@@ -1,18 +1,11 @@
 -- The page to be copied becomes valid at its place, in an access that makes a copy.
 use Rattle.std.proofs.Common.{◌≡◌, ℕ, true, false, Option, Some, None, refl, sym, ap, ◌∙◌, subst, inl, inr}
-use Rattle.mm_types.specs.declared.faults.PageFault.{PageFault}
-use Rattle.mm_types.specs.declared.numbers.Frame.{Frame}
-use Rattle.mm_types.specs.declared.numbers.Key.{Key}
+use Rattle.mm_types.specs.{PageFault, Frame, Key, Place}
 use Rattle.mm_types.specs.declared.numbers.Key.TheVariants.{Private, Shared}
-use Rattle.mm_types.specs.declared.numbers.Place.{Place}
-use Rattle.mm_life.specs.Life.{changed, same_place, is_shared}
-use Rattle.mm_life.specs.Legal.{fits_place}
-use Rattle.mm_pages.specs.Accesses.{Aim}
-use Rattle.mm_pages.specs.Conditions.{touch}
-use Rattle.mm_moving.specs.Shown.{StateOf, moved_with_call}
-use Rattle.mm_moving.specs.Doing.{walk_of, IsFlightOf}
-use Rattle.mm_paged.specs.Pieces.{Went, Stuck, AccessBegins, Calm, LifeKept}
-use Rattle.mm_paged.specs.Copies.{Reaches, Readied, most_reads}
+use Rattle.mm_life.specs.{changed, same_place, is_shared, fits_place}
+use Rattle.mm_pages.specs.{Aim, touch}
+use Rattle.mm_moving.specs.{StateOf, moved_with_call, walk_of, IsFlightOf}
+use Rattle.mm_paged.specs.{Went, Stuck, AccessBegins, Calm, LifeKept, Reaches, Readied, most_reads}
 use Rattle.mm_paged.proofs.Doing.{went_nothing}
 use Rattle.mm_paged.proofs.Ending.{named_then, not_here}
 use Rattle.mm_paged.proofs.InFlight.{flight_same}

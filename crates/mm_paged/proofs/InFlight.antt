@@ -1,22 +1,13 @@
 -- What was in flight when an access began is so still, but the page's own read.
 use Rattle.std.proofs.Common.{◌≡◌, ◌≢◌, ℕ, Bool, true, false, List, [], ◌∷◌, ◌++◌, Option, Some, None, refl, sym, ap, ◌∙◌, inl, inr}
 use Rattle.std.proofs.lemmas.Bool.{or_left}
-use Rattle.mm_types.proofs.Cells.{same_or_not}
-use Rattle.mm_types.specs.declared.moves.Move.{Move}
+use Rattle.mm_types.proofs.{same_or_not}
+use Rattle.mm_types.specs.{Move, Frame, Key, Place}
 use Rattle.mm_types.specs.declared.moves.Move.TheVariants as move
 use Rattle.mm_types.specs.declared.moves.Stored.TheVariants as stored
-use Rattle.mm_types.specs.declared.numbers.Frame.{Frame}
-use Rattle.mm_types.specs.declared.numbers.Key.{Key}
-use Rattle.mm_types.specs.declared.numbers.Place.{Place}
-use Rattle.mm_life.specs.Frames.{is_on}
-use Rattle.mm_life.specs.Life.{FrameLife}
-use Rattle.mm_life.specs.Effect.{after_move, after_unmap_at}
-use Rattle.mm_life.specs.Replay.{Replays}
-use Rattle.mm_frame_laws.proofs.Walks.{on_append, on_left}
-use Rattle.mm_life.specs.Walks.{Walk, Through, walked}
-use Rattle.mm_life.specs.Searches.{SearchMove}
-use Rattle.mm_moving.specs.Shown.{StateOf, Made}
-use Rattle.mm_moving.specs.Doing.{IsFlightOf, Searched, walk_of}
+use Rattle.mm_life.specs.{is_on, FrameLife, after_move, after_unmap_at, Replays, Walk, Through, walked, SearchMove}
+use Rattle.mm_frame_laws.proofs.{on_append, on_left}
+use Rattle.mm_moving.specs.{StateOf, Made, IsFlightOf, Searched, walk_of}
 
 -- ---- lists
 
@@ -75,17 +66,7 @@ flight_one pin flight w (move.Write f (stored.Block b)) ms h p = λ g o. elim (p
 flight_one pin flight w (move.Wrote f) ms h p = ended_flight flight pin f w.life (after_move w.life (move.Wrote f)) (λ g n e. on_left g f.0 w.life.flight n e) h p
 flight_one pin flight w (move.Lost f) ms h p = ended_flight flight pin f w.life (after_move w.life (move.Lost f)) (λ g n e. on_left g f.0 w.life.flight n e) h p
 flight_one pin flight w (move.Unmap q) ms h p = flight_on flight pin w.life (after_move w.life (move.Unmap q)) p (unmapped_flight w.life _ q refl)
-flight_one pin flight w (move.At n k) ms h p = absurd h
-flight_one pin flight w (move.Add k b) ms h p = absurd h
-flight_one pin flight w (move.Drop k) ms h p = absurd h
-flight_one pin flight w (move.Clear f) ms h p = absurd h
-flight_one pin flight w (move.Steal f) ms h p = absurd h
-flight_one pin flight w (move.Give f k) ms h p = absurd h
-flight_one pin flight w (move.Read f k) ms h p = absurd h
-flight_one pin flight w (move.Got f) ms h p = absurd h
-flight_one pin flight w (move.Bad f) ms h p = absurd h
-flight_one pin flight w (move.Map f q) ms h p = absurd h
-flight_one pin flight w (move.Soil f) ms h p = absurd h
+flight_one pin flight w m ms h p = absurd h
 
 flight_all : (pin : Option Frame) (flight : List ℕ) (ms : List Move) (w : Walk) (m : FrameLife) → Through (SearchMove pin flight) w ms → Replays ms w.life m → IsFlightOf flight pin w.life → IsFlightOf flight pin m
 flight_all pin flight [] w m h r p = flight_on flight pin w.life m p (ap (λ (l : FrameLife). l.flight) r)

@@ -3,40 +3,42 @@ use Rattle.std.proofs.Common.{◌≡◌, ℕ, zero, suc, ◌+◌, ◌-◌, Bool,
 use Rattle.std.specs.Prelude.{not, is_some, slice_get}
 use Rattle.std.proofs.Math.Logic.{∥∥₁_elim}
 use Rattle.std.proofs.Props.{props}
-use Rattle.mm_types.specs.Machine.{limit_of}
-use Rattle.mm_types.specs.declared.frames.Backing.{Backing}
+use Rattle.mm_types.specs.{limit_of, Backing, Held, Move, Frame, Key, Place}
 use Rattle.mm_types.specs.declared.frames.Backing.TheVariants as backing
-use Rattle.mm_types.specs.declared.frames.Held.{Held}
 use Rattle.mm_types.specs.declared.frames.Held.TheVariants as held
-use Rattle.mm_types.specs.declared.moves.Move.{Move}
 use Rattle.mm_types.specs.declared.moves.Move.TheVariants as move
 use Rattle.mm_types.specs.declared.moves.Stored.TheVariants as stored
-use Rattle.mm_types.specs.declared.numbers.Frame.{Frame}
-use Rattle.mm_types.specs.declared.numbers.Key.{Key}
-use Rattle.mm_types.specs.declared.numbers.Place.{Place}
-use Rattle.mm_life.specs.declared.sets.ResidentSet.{ResidentSet}
-use Rattle.mm_life.specs.Frames.{record_at}
-use Rattle.mm_life.specs.Life.{FrameLife, with_resident, resident_by, is_live, is_dead}
-use Rattle.mm_life.specs.Effect.{after_move, after_unmap_at}
-use Rattle.mm_life.specs.Replay.{Replays}
+use Rattle.mm_life.specs.{ResidentSet, record_at, FrameLife, with_resident, resident_by, is_live, is_dead, changed, same_key, after_move}
+use Rattle.mm_life.specs.{after_unmap_at, Replays, Walk, Through, walked}
 use Rattle.mm_laws.specs.Reached.{Reached}
-use Rattle.mm_laws.specs.FileBlocks.{block_held, block_in, block_of}
-use Rattle.mm_laws.proofs.Blocks.{paging_block}
-use Rattle.mm_laws.proofs.Deduced.{reached_sound, block_kept}
-use Rattle.mm_pages.specs.Accesses.{Aim, AccessMove}
-use Rattle.mm_pages.specs.Standing.{block_at, backed_by, in_backing}
-use Rattle.mm_pages.specs.Reports.{fetched}
-use Rattle.mm_life.specs.Walks.{Walk, Through, walked}
-use Rattle.mm_moving.specs.Shown.{StateOf}
-use Rattle.mm_moving.specs.Holds.{StateHolds}
-use Rattle.mm_paged.specs.Pieces.{LifeKept}
-use Rattle.mm_paged.specs.Shown.{OwnOf, store_of, report_of}
+use Rattle.mm_laws.specs.{block_held, block_in, block_of}
+use Rattle.mm_laws.proofs.{paging_block, reached_sound, block_kept}
+use Rattle.mm_pages.specs.{Aim, AccessMove, block_at, backed_by, in_backing, fetched}
+use Rattle.mm_moving.specs.{StateOf, Made, StateHolds}
+use Rattle.mm_paged.specs.{LifeKept, OwnOf, store_of, report_of, KeyAdded}
+use Rattle.mm_pages.specs.Told.{Told}
+use Rattle.mm_world.specs.Report.{Report}
 
 pub kept_same : (l : FrameLife) → LifeKept l l
 kept_same l = record { machine = refl; line = refl; kind = refl; paging = refl; keys = refl; pids = refl; added = refl }
 
 pub kept_then : (l m n : FrameLife) → LifeKept l m → LifeKept m n → LifeKept l n
 kept_then l m n p q = record { machine = q.machine ∙ p.machine; line = q.line ∙ p.line; kind = q.kind ∙ p.kind; paging = q.paging ∙ p.paging; keys = q.keys ∙ p.keys; pids = q.pids ∙ p.pids; added = q.added ∙ p.added }
+
+-- a key comes to be, behind and before what moves within a line leave
+pub added_then : (k : Key) (l m n : FrameLife) → KeyAdded k l m → LifeKept m n → KeyAdded k l n
+added_then k l m n a w = record { machine = w.machine ∙ a.machine; line = w.line ∙ a.line; kind = w.kind ∙ a.kind; paging = w.paging ∙ a.paging; keys = w.keys ∙ a.keys; pids = w.pids ∙ a.pids; added = w.added ∙ a.added }
+
+pub added_behind : (k : Key) (l m n : FrameLife) → LifeKept l m → KeyAdded k m n → KeyAdded k l n
+added_behind k l m n w a = record {
+  machine = a.machine ∙ w.machine;
+  line = a.line ∙ w.line;
+  kind = a.kind ∙ w.kind;
+  paging = a.paging ∙ ap (λ (p : Key → Bool). changed same_key p k true) w.paging;
+  keys = a.keys ∙ ap (λ (n : ℕ). n + 1) w.keys;
+  pids = a.pids ∙ w.pids;
+  added = a.added ∙ w.added;
+}
 
 resident_length : (o : Option ResidentSet) (sets : List ResidentSet) (k : ℕ) (f : ℕ → ℕ) → length (resident_by o sets k f) ≡ length sets
 resident_length None sets k f = refl
@@ -50,27 +52,31 @@ pub kept_unmap : (l : FrameLife) (p : Place) (o : Option Frame) → LifeKept l (
 kept_unmap l p None = kept_same l
 kept_unmap l p (Some f) = record { machine = refl; line = refl; kind = refl; paging = refl; keys = refl; pids = with_length l.sets p.pid.0 (λ n. n - 1); added = refl }
 
-pub kept_map : (l : FrameLife) (f : Frame) (p : Place) → LifeKept l (after_move l (move.Map f p))
-kept_map l f p = record { machine = refl; line = refl; kind = refl; paging = refl; keys = refl; pids = with_length l.sets p.pid.0 (λ n. n + 1); added = refl }
+-- moves that neither begin a line nor add or drop a key
+abbrev pub IsWithin : Move → Type 0
+IsWithin (move.At n k) = ⊥
+IsWithin (move.Add k b) = ⊥
+IsWithin (move.Drop k) = ⊥
+IsWithin m = Unit {0}
+
+pub kept_within : (l : FrameLife) (m : Move) → IsWithin m → LifeKept l (after_move l m)
+kept_within l (move.At n k) h = absurd h
+kept_within l (move.Add k b) h = absurd h
+kept_within l (move.Drop k) h = absurd h
+kept_within l (move.Map f p) h = record { machine = refl; line = refl; kind = refl; paging = refl; keys = refl; pids = with_length l.sets p.pid.0 (λ n. n + 1); added = refl }
+kept_within l (move.Unmap p) h = kept_unmap l p (l.valid p)
+kept_within l (move.Write f (stored.Slot s)) h = record { machine = refl; line = refl; kind = refl; paging = refl; keys = refl; pids = refl; added = refl }
+kept_within l m h = record { machine = refl; line = refl; kind = refl; paging = refl; keys = refl; pids = refl; added = refl }
+
+pub kept_made : (m : Move) (s z : StateOf) → Made m s z → IsWithin m → LifeKept s.life z.life
+kept_made m s z made h = subst (λ (l : FrameLife). LifeKept s.life l) (sym made.life) (kept_within s.life m h)
 
 kept_one : (a : Aim) (w : Walk) (m : Move) (ms : List Move) → a.need.copy ≡ None → AccessMove a w m ms → LifeKept w.life (after_move w.life m)
 kept_one a w (move.At n k) ms c h = absurd h
 kept_one a w (move.Add k None) ms c h = let bad : None ≡ Some k = sym c ∙ h.0 in cc
 kept_one a w (move.Add k (Some b)) ms c h = absurd h
 kept_one a w (move.Drop k) ms c h = absurd h
-kept_one a w (move.Clear f) ms c h = record { machine = refl; line = refl; kind = refl; paging = refl; keys = refl; pids = refl; added = refl }
-kept_one a w (move.Steal f) ms c h = record { machine = refl; line = refl; kind = refl; paging = refl; keys = refl; pids = refl; added = refl }
-kept_one a w (move.Give f k) ms c h = record { machine = refl; line = refl; kind = refl; paging = refl; keys = refl; pids = refl; added = refl }
-kept_one a w (move.Read f k) ms c h = record { machine = refl; line = refl; kind = refl; paging = refl; keys = refl; pids = refl; added = refl }
-kept_one a w (move.Got f) ms c h = record { machine = refl; line = refl; kind = refl; paging = refl; keys = refl; pids = refl; added = refl }
-kept_one a w (move.Bad f) ms c h = record { machine = refl; line = refl; kind = refl; paging = refl; keys = refl; pids = refl; added = refl }
-kept_one a w (move.Map f p) ms c h = kept_map w.life f p
-kept_one a w (move.Unmap p) ms c h = kept_unmap w.life p (w.life.valid p)
-kept_one a w (move.Soil f) ms c h = record { machine = refl; line = refl; kind = refl; paging = refl; keys = refl; pids = refl; added = refl }
-kept_one a w (move.Write f (stored.Slot s)) ms c h = record { machine = refl; line = refl; kind = refl; paging = refl; keys = refl; pids = refl; added = refl }
-kept_one a w (move.Write f (stored.Block b)) ms c h = record { machine = refl; line = refl; kind = refl; paging = refl; keys = refl; pids = refl; added = refl }
-kept_one a w (move.Wrote f) ms c h = record { machine = refl; line = refl; kind = refl; paging = refl; keys = refl; pids = refl; added = refl }
-kept_one a w (move.Lost f) ms c h = record { machine = refl; line = refl; kind = refl; paging = refl; keys = refl; pids = refl; added = refl }
+kept_one a w m ms c h = kept_within w.life m tt
 
 pub kept_all : (a : Aim) (ms : List Move) (w : Walk) (m : FrameLife) → a.need.copy ≡ None → Through (AccessMove a) w ms → Replays ms w.life m → LifeKept w.life m
 kept_all a [] w m c h r = subst (λ (l : FrameLife). LifeKept w.life l) (sym r) (kept_same w.life)
@@ -80,22 +86,15 @@ kept_all a (x ∷ xs) w m c h r = kept_then w.life (after_move w.life x) m (kept
 
 same_block : (b : Backing) → block_at (in_backing b) ≡ block_of b
 same_block backing.None = refl
-same_block (backing.Slot s) = refl
-same_block (backing.Block b) = refl
+same_block b = refl
 
 shown_block : (l : FrameLife) (h : Held) → block_at (backed_by l h) ≡ block_in l.frames h
 shown_block l (held.Frame f) = same_block (record_at l.frames f.0).backing
-shown_block l (held.Slot s) = refl
-shown_block l (held.Block b) = refl
-shown_block l held.Zero = refl
-shown_block l held.Dead = refl
+shown_block l h = refl
 
 dead_block : (l : FrameLife) (h : Held) → not (is_dead h) ≡ false → block_in l.frames h ≡ None
-dead_block l (held.Frame f) e = cc
-dead_block l (held.Slot s) e = cc
-dead_block l (held.Block b) e = cc
-dead_block l held.Zero e = cc
 dead_block l held.Dead e = refl
+dead_block l h e = cc
 
 blocks_by : (l m : FrameLife) (ms : List Move) (k : Key) → Reached l → Reached m → Replays ms l m → m.paging k ≡ l.paging k → is_live m k ≡ is_live l k → (x y : Bool) → is_live l k ≡ x → l.paging k ≡ y → block_held m k ≡ block_held l k
 blocks_by l m ms k p q r pg lv true true e f = paging_block m (reached_sound m q) k (pg ∙ f) ∙ sym (paging_block l (reached_sound l p) k f)
@@ -122,6 +121,17 @@ pub blocks_kept : (s z : StateOf) (ms : List Move) → StateHolds s → StateHol
 blocks_kept s z ms h g r pg c k = block_same s z ms h g r k (ap (λ (f : Key → Bool). f k) pg) (ap (λ (f : Key → Option (List ℕ)). is_some (f k)) c)
 
 -- ---- the store after it
+
+-- a report with the counts of these calls
+abbrev pub with_told : Report → Told → Report
+with_told r t = record r {
+  paging_reads = t.paging_reads;
+  paging_writes = t.paging_writes;
+  file_reads = t.file_reads;
+  file_writes = t.file_writes;
+  last_failed_read = t.last_failed_read;
+  search_writes = t.search_writes;
+}
 
 pub fetched_by : (s z : StateOf) (o u : OwnOf) → LifeKept s.life z.life → ((k : Key) → block_at (backed_by z.life (z.life.stands k)) ≡ block_at (backed_by s.life (s.life.stands k)))
     → z.is_open ≡ s.is_open → z.areas ≡ s.areas → z.bound ≡ s.bound → u.extended ≡ o.extended → u.blocks_used ≡ o.blocks_used

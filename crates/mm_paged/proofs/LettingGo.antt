@@ -5,53 +5,34 @@ use Rattle.std.proofs.Math.Logic.{∥∥₁_elim}
 use Rattle.std.proofs.Props.{props}
 use Rattle.std.specs.Cmp.{unsigned_Decides}
 use Rattle.std.specs.Prelude.{not, is_some, ◌&&◌, ◌||◌, ◌==◌, if◌then◌else◌, option_map, unwrap_or, length}
-use Rattle.mm_types.specs.Address.{Range, holds_page}
-use Rattle.mm_types.specs.Machine.{limit_of}
-use Rattle.mm_types.specs.declared.frames.Held.{Held}
+use Rattle.mm_types.specs.{Range, holds_page, limit_of, Held, LineKind, Frame, Key, Pid, Vpn, Place}
 use Rattle.mm_types.specs.declared.frames.Held.TheVariants as held
-use Rattle.mm_types.specs.declared.moves.LineKind.{LineKind}
 use Rattle.mm_types.specs.declared.moves.LineKind.TheVariants as kind
 use Rattle.mm_types.specs.declared.moves.Move.TheVariants as move
-use Rattle.mm_types.specs.declared.numbers.Frame.{Frame}
-use Rattle.mm_types.specs.declared.numbers.Key.{Key}
 use Rattle.mm_types.specs.declared.numbers.Key.TheVariants.{Private, Shared}
-use Rattle.mm_types.specs.declared.numbers.Pid.{Pid}
-use Rattle.mm_types.specs.declared.numbers.Vpn.{Vpn}
-use Rattle.mm_types.specs.declared.numbers.Place.{Place}
-use Rattle.mm_types.proofs.Booleans.{not_true}
-use Rattle.mm_types.proofs.Options.{none_of, some_found}
-use Rattle.mm_wset.specs.InOrder.{IsNextFrom, IsLowestFrom}
-use Rattle.mm_life.specs.Frames.{record_at}
-use Rattle.mm_life.specs.Life.{FrameLife, changed, same_key, same_place, set_of, key_of_place, is_shared, is_live, is_dead}
-use Rattle.mm_life.specs.Legal.{IsLegal, may_unmap, unbinds, trims, touches, is_above_min, is_at_max, is_access, is_short, is_call, is_unbind, is_unmapped, owner_is, fits_place}
-use Rattle.mm_life.specs.Effect.{after_unmap_at, dropped_at}
+use Rattle.mm_types.proofs.{not_true, none_of, some_found}
+use Rattle.mm_wset.specs.{IsNextFrom, IsLowestFrom}
+use Rattle.mm_life.specs.{record_at, FrameLife, changed, same_key, same_place, set_of, key_of_place, is_shared, is_live, is_dead, IsLegal, may_unmap}
+use Rattle.mm_life.specs.{unbinds, trims, touches, is_above_min, is_at_max, is_access, is_short, is_call, is_unbind, is_unmapped, owner_is}
+use Rattle.mm_life.specs.{fits_place, after_unmap_at, dropped_at, wait_of}
 use Rattle.mm_laws.specs.Sound.{Sound}
-use Rattle.mm_laws.specs.Places.{is_frame}
-use Rattle.mm_laws.specs.PagingKeys.{is_home_for}
-use Rattle.mm_laws.specs.Tally.{one_if, tally}
-use Rattle.mm_laws.proofs.Deduced.{reached_sound}
-use Rattle.mm_laws.proofs.Owners.{changed_here, changed_else, key_or_not}
-use Rattle.mm_laws.proofs.PlaceCounts.{same_place-self}
-use Rattle.mm_world.specs.Failure.{same_key as same_in_world}
-use Rattle.mm_life.specs.Waits.{wait_of}
-use Rattle.mm_pages.specs.Conditions.{AllBound, AreAmong, IsAmong, MayUnbind, MayRemove, IsReleasing, place_at}
-use Rattle.mm_pages.specs.Housekeeping.{Turns, Ends}
-use Rattle.mm_pages.specs.Leaving.{Leaving, page_rank}
-use Rattle.mm_pages.specs.Passing.{Passes, PassesIn}
-use Rattle.mm_pages.specs.Reports.{rearranged}
-use Rattle.mm_pages.specs.Standing.{block_at, backed_by}
-use Rattle.mm_pages.specs.Store.{StoreOf, changed_in, unnamed}
-use Rattle.mm_pages.proofs.Passed.{ends_then, ends_wider}
-use Rattle.mm_moving.specs.Shown.{StateOf, Made, moved, names_after_drop}
-use Rattle.mm_moving.specs.Holds.{StateHolds}
-use Rattle.mm_moving.proofs.Doing.{does_one, does_two}
-use Rattle.mm_paged.specs.Pieces.{LifeKept, Thins, LetsGo, LetGo, Still, Gone, OwnLetGo, MayLetGo, MayLetOwnGo, NextGone}
-use Rattle.mm_paged.specs.Shown.{OwnOf, store_of, report_of, behind_of}
+use Rattle.mm_laws.specs.{is_frame, is_home_for}
+use Rattle.mm_laws.proofs.{reached_sound, changed_here, changed_else, key_or_not, same_place-self, tally-none}
+use Rattle.mm_world.specs.{same_key as same_in_world}
+use Rattle.mm_pages.specs.{AllBound, AreAmong, IsAmong, MayUnbind, MayRemove, IsReleasing, place_at, Turns, page_rank, Passes, PassesIn, rearranged}
+use Rattle.mm_pages.specs.{block_at, backed_by, StoreOf, changed_in, unnamed}
+use Rattle.mm_pages.specs.Housekeeping.{Ends}
+use Rattle.mm_pages.specs.Leaving.{Leaving}
+use Rattle.mm_pages.proofs.{ends_then, ends_wider}
+use Rattle.mm_moving.specs.{StateOf, Made, moved, names_after_drop, StateHolds}
+use Rattle.mm_moving.proofs.{does_one, does_two}
+use Rattle.mm_paged.specs.{LifeKept, Thins, LetsGo, LetGo, Still, Gone, OwnLetGo, MayLetGo, MayLetOwnGo, NextGone, OwnOf, store_of, report_of}
+use Rattle.mm_paged.specs.{behind_of}
 use Rattle.mm_paged.proofs.Unmoved.{turns_still}
-use Rattle.mm_paged.proofs.Keeping.{kept_same, kept_then, kept_unmap, blocks_kept, block_same, paging_has_none, dead_has_none}
+use Rattle.mm_paged.proofs.Keeping.{kept_same, kept_then, blocks_kept, block_same, paging_has_none, dead_has_none, fetched_by, with_told, kept_made}
 use Rattle.mm_paged.proofs.Placing.{unmapped_stands, unmapped_still}
 use Rattle.mm_paged.proofs.Shows.{passes_of, changed_keys}
-use Rattle.mm_reclaim.proofs.Chained.{moved_then}
+use Rattle.mm_reclaim.proofs.{moved_then}
 
 -- ---- one place
 
@@ -81,7 +62,7 @@ gone_then s z p m = ap (λ (l : FrameLife). l.valid p) m.life ∙ unmapped_gone 
 
 pub thins_unmap : (s z : StateOf) (p : Place) → Made (move.Unmap p) s z → z ≡ moved s z → Thins s z
 thins_unmap s z p m e = record {
-  life = subst (λ (l : FrameLife). LifeKept s.life l) (sym m.life) (kept_unmap s.life p (s.life.valid p));
+  life = kept_made (move.Unmap p) s z m tt;
   stands = ap (λ (l : FrameLife). l.stands) m.life ∙ unmapped_stands s.life p (s.life.valid p);
   valid = λ q f v. unmapped_less s.life p q f (s.life.valid p) (sym (ap (λ (l : FrameLife). l.valid q) m.life) ∙ v);
   unmapped = λ q v. ap (λ (l : FrameLife). l.valid q) m.life ∙ unmapped_still s.life p q (s.life.valid p) v;
@@ -201,25 +182,15 @@ gone_more pid first from next y z t g e page l h = elim (cases_lt page from) [
 
 pub rearranged_by : (s z : StateOf) (o : OwnOf) → LifeKept s.life z.life → ((k : Key) → block_at (backed_by z.life (z.life.stands k)) ≡ block_at (backed_by s.life (s.life.stands k))) → z.told ≡ s.told → z.waits ≡ s.waits → z ≡ moved s z
     → store_of z o ≡ record (store_of s o) { report = rearranged (report_of s o) (report_of z o) }
-rearranged_by s z o k b told waits e = subst (λ (x : StateOf). store_of x o ≡ record (store_of s o) { report = rearranged (report_of s o) (report_of z o) }) (sym e) (λ i. record (store_of s o) {
-  machine = k.machine i;
-  room = limit_of (k.machine i);
-  paging = k.paging i;
-  paging_keys = k.keys i;
-  block_of = λ key. b key i;
-  line = k.line i;
-  kind = k.kind i;
-  last_pid = k.pids i;
-  report = record (rearranged (report_of s o) (report_of z o)) {
-    paging_reads = (told i).paging_reads;
-    paging_writes = (told i).paging_writes;
-    file_reads = (told i).file_reads;
-    file_writes = (told i).file_writes;
-    last_failed_read = (told i).last_failed_read;
-    search_writes = (told i).search_writes;
-    wait = λ tid. wait_of (waits i tid);
-  };
-})
+rearranged_by s z o k b told waits e =
+    fetched_by s z o o k b (ap (λ (x : StateOf). x.is_open) e) (ap (λ (x : StateOf). x.areas) e) (ap (λ (x : StateOf). x.bound) e) refl refl
+    ∙ (λ i. record (store_of s o) {
+      names = ap (λ (x : StateOf). x.names) e i;
+      file_blocks = ap (λ (x : StateOf). x.blocks) e i;
+      report = with_told (record (report_of z o) { wait = λ tid. wait_of (waits i tid) }) (told i);
+      paging_device = ap (λ (x : StateOf). x.paging) e i;
+      file_device = ap (λ (x : StateOf). x.files) e i;
+    })
 
 -- ---- a key is no more
 
@@ -242,16 +213,9 @@ may_let_own (Private pid vpn) s o h g l (inl e) = (h.home (Private pid vpn) l, �
 may_let_own (Private pid vpn) s o h g l (inr e) = (h.home (Private pid vpn) l, λ f v. absurd (unnamed_invalid s (record { pid = pid; vpn = vpn }) f h e.1 v))
 may_let_own (Shared area index) s o h g l e = tt
 
-tally_zero : {A : Type 0} (test : A → Bool) (xs : List A) → ((x : A) → test x ≡ false) → tally test xs ≡ 0
-tally_zero test [] h = refl
-tally_zero test (x ∷ xs) h =
-    let a : one_if (test x) ≡ 0 = ap one_if (h x) in
-    let b : tally test xs ≡ 0 = tally_zero test xs h in
-    omega (arith, a, b)
-
 -- a frame that no place shows has no shares
 no_shares : (l : FrameLife) → Sound l → (f : ℕ) → ((p : Place) → is_frame f (l.valid p) ≡ false) → (record_at l.frames f).shares ≡ 0
-no_shares l s f h = sym (s.shown.shares f) ∙ tally_zero (λ p. is_frame f (l.valid p)) s.shown.places h
+no_shares l s f h = sym (s.shown.shares f) ∙ tally-none (λ p. is_frame f (l.valid p)) s.shown.places h
 
 -- no place is valid for a page that no valid place names
 unmapped_by : (s : StateOf) (k : Key) → StateHolds s → ((p : Place) (f : Frame) → s.names p ≡ Some k → s.life.valid p ≡ Some f → ⊥) → is_unmapped s.life (s.life.stands k) ≡ true
@@ -266,10 +230,7 @@ unmapped_by s k h none = at (s.life.stands k) refl
 
     at : (w : Held) → s.life.stands k ≡ w → is_unmapped s.life w ≡ true
     at (held.Frame f) e = ap (λ (n : ℕ). n == 0) (∥∥₁_elim h.reached (hlevel props) (λ r. no_shares s.life (reached_sound s.life r) f.0 (λ p. shows f p e (s.life.valid p) refl)))
-    at (held.Slot t) e = refl
-    at (held.Block b) e = refl
-    at held.Zero e = refl
-    at held.Dead e = refl
+    at w e = refl
 
 own_place : (pid : Pid) (vpn : Vpn) (p : Place) → fits_place p (Private pid vpn) ≡ true → p ≡ record { pid = pid; vpn = vpn }
 own_place pid vpn p h = both (pid.0 == p.pid.0) (vpn.0 == p.vpn.0) refl refl h
@@ -311,10 +272,7 @@ record Drops (k : Key) (l m : FrameLife) : Type 0 where
 
 drops_at : (k : Key) (l : FrameLife) (h : Held) → Drops k l (dropped_at h l k)
 drops_at k l (held.Frame f) = record { machine = refl; line = refl; kind = refl; paging = refl; keys = refl; pids = refl; added = refl; valid = refl }
-drops_at k l (held.Slot s) = record { machine = refl; line = refl; kind = refl; paging = refl; keys = refl; pids = refl; added = refl; valid = refl }
-drops_at k l (held.Block b) = record { machine = refl; line = refl; kind = refl; paging = refl; keys = refl; pids = refl; added = refl; valid = refl }
-drops_at k l held.Zero = record { machine = refl; line = refl; kind = refl; paging = refl; keys = refl; pids = refl; added = refl; valid = refl }
-drops_at k l held.Dead = record { machine = refl; line = refl; kind = refl; paging = refl; keys = refl; pids = refl; added = refl; valid = refl }
+drops_at k l h = record { machine = refl; line = refl; kind = refl; paging = refl; keys = refl; pids = refl; added = refl; valid = refl }
 
 drops_by : (k : Key) (s z : StateOf) → Made (move.Drop k) s z → Drops k s.life z.life
 drops_by k s z m = subst (λ (l : FrameLife). Drops k s.life l) (sym m.life) (drops_at k s.life (s.life.stands k))
@@ -348,15 +306,7 @@ dropped_shape k s z o n d b told waits = λ i. record (store_of s o) {
   line = d.line i;
   kind = d.kind i;
   last_pid = d.pids i;
-  report = record (rearranged (report_of s o) (report_of z o)) {
-    paging_reads = (told i).paging_reads;
-    paging_writes = (told i).paging_writes;
-    file_reads = (told i).file_reads;
-    file_writes = (told i).file_writes;
-    last_failed_read = (told i).last_failed_read;
-    search_writes = (told i).search_writes;
-    wait = λ tid. wait_of (waits i tid);
-  };
+  report = with_told (record (report_of z o) { wait = λ tid. wait_of (waits i tid) }) (told i);
 }
 
 dropped_store : (k : Key) (s z : StateOf) (o : OwnOf) → StateHolds s → StateHolds z → Made (move.Drop k) s z → s.life.paging k ≡ true → IsDropped k s z

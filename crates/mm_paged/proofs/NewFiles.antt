@@ -2,41 +2,28 @@
 use Rattle.std.proofs.Common.{◌≡◌, ◌≢◌, ℕ, zero, suc, ◌+◌, ◌%◌, ◌≤◌, ◌<◌, Bool, true, false, List, [], ◌∷◌, ◌++◌, length, length-set, replicate, Option, Some, refl, sym, ap, ◌∙◌, subst, arith, inl, inr, ◌⊎◌}
 use Rattle.std.proofs.lemmas.Bool.{eqb-true}
 use Rattle.std.specs.Cmp.{unsigned_Decides}
-use Rattle.std.specs.Prelude.{◌&&◌, ◌==◌, ◌-◌, ◌^◌, nat_lt, if◌then◌else◌, map, min, slice_get, slice_set}
+use Rattle.std.specs.Prelude.{◌&&◌, ◌==◌, ◌^◌, nat_lt, if◌then◌else◌, map, slice_get, slice_set}
 use Rattle.mm_types.specs.declared.devices.Direction.TheVariants as way
-use Rattle.mm_types.specs.declared.faults.MakeFault.{MakeFault}
+use Rattle.mm_types.specs.{MakeFault, Held, Move, Area, Key}
 use Rattle.mm_types.specs.declared.faults.MakeFault.TheVariants as make_fault
-use Rattle.mm_types.specs.declared.frames.Held.{Held}
 use Rattle.mm_types.specs.declared.frames.Held.TheVariants as held
 use Rattle.mm_types.specs.declared.frames.Backing.TheVariants as backing
-use Rattle.mm_types.specs.declared.moves.Move.{Move}
 use Rattle.mm_types.specs.declared.moves.Move.TheVariants as move
-use Rattle.mm_types.specs.declared.numbers.Area.{Area}
-use Rattle.mm_types.specs.declared.numbers.Key.{Key}
 use Rattle.mm_types.specs.declared.numbers.Key.TheVariants.{Private, Shared}
-use Rattle.mm_types.proofs.Bytes.{append_nil}
-use Rattle.mm_types.proofs.Cells.{same_or_not, get_set_same, get_set_other}
-use Rattle.mm_blocks.specs.declared.device_calls.DeviceCall.{DeviceCall}
-use Rattle.mm_blocks.specs.Devices.{DeviceOf, Call, AllServed, logged_call, KeepsOthers}
-use Rattle.mm_blocks.specs.Traffic.{is_named}
-use Rattle.mm_blocks.proofs.Serving.{all_served_then, all_served_one, map-logged, later_same, later_then, serves_later, serves_failed, failed_later}
-use Rattle.mm_blocks.proofs.Holding.{keeps_same, keeps_then, keeps_written}
-use Rattle.mm_life.specs.Life.{FrameLife, changed, same_key}
-use Rattle.mm_world.specs.Report.{Tally}
-use Rattle.mm_world.specs.World.{filled}
+use Rattle.mm_types.proofs.{append_nil, same_or_not, get_set_same, get_set_other, none_below}
+use Rattle.mm_blocks.specs.{DeviceCall, DeviceOf, Call, AllServed, logged_call, KeepsOthers, is_named}
+use Rattle.mm_blocks.proofs.{all_served_then, all_served_one, map-logged, later_same, later_then, serves_later, serves_failed, failed_later}
+use Rattle.mm_blocks.proofs.{keeps_same, keeps_then, keeps_written}
+use Rattle.mm_life.specs.{FrameLife, changed, same_key}
+use Rattle.mm_world.specs.{Tally, filled}
 use Rattle.mm_pages.specs.Behind.{Behind}
-use Rattle.mm_pages.specs.Housekeeping.{Turns, Makes}
-use Rattle.mm_pages.specs.Passing.{Notes, writes_from}
-use Rattle.mm_pages.specs.Reports.{Served}
-use Rattle.mm_pages.specs.Tallies.{tallied}
-use Rattle.mm_pages.specs.Told.{Told, with_write}
-use Rattle.mm_pages.proofs.Passed.{made_behind, made_wider, turned_none}
-use Rattle.mm_pages.proofs.Served.{tallied_then, served_nothing, served_writes}
-use Rattle.mm_moving.specs.Shown.{StateOf, Made, DeviceCalled, moved, written_if}
-use Rattle.mm_moving.proofs.Doing.{does_one, does_then, does_nothing}
-use Rattle.mm_paged.specs.NewFiles.{BlocksWritten, PagesAdded, with_pages, with_area, FileBuilt, UnmadeAs}
-use Rattle.mm_paged.specs.Shown.{OwnOf, store_of, behind_of}
-use Rattle.mm_types.proofs.Naturals.{none_below}
+use Rattle.mm_pages.specs.{Turns, Makes, Notes, writes_from, Served, tallied, with_write}
+use Rattle.mm_pages.specs.Told.{Told}
+use Rattle.mm_pages.proofs.{made_behind, made_wider, turned_none, tallied_then, served_nothing, served_writes}
+use Rattle.mm_moving.specs.{StateOf, Made, DeviceCalled, moved, written_if}
+use Rattle.mm_moving.proofs.{does_one, does_then, does_nothing}
+use Rattle.mm_paged.specs.{BlocksWritten, PagesAdded, with_pages, with_area, FileBuilt, UnmadeAs, OwnOf, store_of, behind_of}
+use Rattle.mm_reclaim.proofs.{one_some}
 
 -- ---- blocks are written
 
@@ -183,13 +170,10 @@ module _ (first i byte : ℕ) (s y z : StateOf) (p : BlocksWritten first i byte 
     long = ap (λ (bs : List (List ℕ)). length bs) q.written ∙ p.long;
     later = later_then s.files y.files z.files p.later (serves_later _ y.files z.files q.called.0);
     quiet = λ e. cc;
-    failed = λ e. subst (λ (t : Told). 0 < t.file_writes.failed) (sym q.told) (some_more y.told.file_writes.failed);
+    failed = λ e. subst (λ (t : Told). 0 < t.file_writes.failed) (sym q.told) (one_some y.told.file_writes.failed);
     blamed = λ e. failed_later s.files y.files z.files p.later (serves_failed _ y.files z.files q.called.0 refl);
     kept = more_kept false q;
   }
-    where
-      some_more : (k : ℕ) → 0 < min (k + 1) (2 ^ 64 - 1)
-      some_more k = grind arith
 
 -- ---- pages come to be
 

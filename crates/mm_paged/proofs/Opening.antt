@@ -4,24 +4,15 @@ use Rattle.std.proofs.Math.Logic.{∥∥₁_elim}
 use Rattle.std.proofs.Props.{props}
 use Rattle.std.specs.Bool.{IsTrue}
 use Rattle.std.specs.Prelude.{is_some, ◌&&◌, ◌==◌, nat_le, nat_lt, slice_get}
-use Rattle.mm_types.proofs.Cells.{same_or_not}
-use Rattle.mm_types.specs.declared.frames.Held.{Held}
+use Rattle.mm_types.proofs.{same_or_not}
+use Rattle.mm_types.specs.{Held, LineKind, Move, Frame, Pid}
 use Rattle.mm_types.specs.declared.frames.Held.TheVariants as held
-use Rattle.mm_types.specs.declared.moves.LineKind.{LineKind}
 use Rattle.mm_types.specs.declared.moves.LineKind.TheVariants as kind
-use Rattle.mm_types.specs.declared.moves.Move.{Move}
 use Rattle.mm_types.specs.declared.moves.Move.TheVariants as move
 use Rattle.mm_types.specs.declared.moves.Stored.TheVariants as stored
-use Rattle.mm_types.specs.declared.numbers.Frame.{Frame}
-use Rattle.mm_types.specs.declared.numbers.Pid.{Pid}
-use Rattle.mm_life.specs.declared.sets.ResidentSet.{ResidentSet}
-use Rattle.mm_life.specs.Life.{FrameLife, set_in, set_of, with_resident}
-use Rattle.mm_life.specs.Legal.{IsLegal}
-use Rattle.mm_life.specs.Effect.{after_move, after_unmap_at, dropped_at}
-use Rattle.mm_life.specs.Replay.{Replays}
-use Rattle.mm_laws.proofs.ResidentSets.{set_here, set_else}
-use Rattle.mm_moving.specs.Shown.{StateOf}
-use Rattle.mm_moving.specs.Holds.{StateHolds}
+use Rattle.mm_life.specs.{ResidentSet, FrameLife, set_in, set_of, with_resident, IsLegal, after_move, after_unmap_at, dropped_at, Replays}
+use Rattle.mm_laws.proofs.{set_here, set_else}
+use Rattle.mm_moving.specs.{StateOf, StateHolds}
 
 -- the process of the line has a set
 abbrev has_own : LineKind → List ResidentSet → Bool
@@ -29,17 +20,8 @@ has_own (kind.Process pid min max) sets = is_some (set_in sets pid.0)
 has_own _ sets = true
 
 own_kept : (k : LineKind) (sets then : List ResidentSet) → ((p : ℕ) → is_some (set_in sets p) ≡ true → is_some (set_in then p) ≡ true) → has_own k sets ≡ true → has_own k then ≡ true
-own_kept (kind.Machine a b c d) sets then f h = refl
 own_kept (kind.Process pid min max) sets then f h = f pid.0 h
-own_kept (kind.Unbind pid) sets then f h = refl
-own_kept (kind.Access pid) sets then f h = refl
-own_kept (kind.Thread pid) sets then f h = refl
-own_kept (kind.Trim pid) sets then f h = refl
-own_kept kind.Writer sets then f h = refl
-own_kept kind.Zeroer sets then f h = refl
-own_kept kind.Io sets then f h = refl
-own_kept kind.Call sets then f h = refl
-own_kept (kind.Grow n) sets then f h = refl
+own_kept k sets then f h = refl
 
 resized_has : (sets : List ResidentSet) (q : ℕ) (change : ℕ → ℕ) (p : ℕ) → is_some (set_in sets p) ≡ true → is_some (set_in (with_resident sets q change) p) ≡ true
 resized_has sets q change p h = elim (same_or_not p q) [
@@ -65,44 +47,22 @@ next_pid : (n m : ℕ) (a b c d : Bool) → IsTrue (a && b && (c && (n == m) && 
 next_pid n m a b c d h = grind (arith, h)
 
 own_step : (x : Move) (l : FrameLife) → IsLegal x l → has_own l.kind l.sets ≡ true → has_own (after_move l x).kind (after_move l x).sets ≡ true
-own_step (move.At n (kind.Machine a b c d)) l g h = refl
 own_step (move.At n (kind.Process pid min max)) l g h = last_has l.sets _ pid.0 (next_pid pid.0 (length l.sets + 1) (n == l.line + 1) (nat_le (length l.flight) l.machine.depth) (nat_lt 0 l.line) (nat_le pid.0 64) g)
-own_step (move.At n (kind.Unbind pid)) l g h = refl
-own_step (move.At n (kind.Access pid)) l g h = refl
-own_step (move.At n (kind.Thread pid)) l g h = refl
-own_step (move.At n (kind.Trim pid)) l g h = refl
-own_step (move.At n kind.Writer) l g h = refl
-own_step (move.At n kind.Zeroer) l g h = refl
-own_step (move.At n kind.Io) l g h = refl
-own_step (move.At n kind.Call) l g h = refl
-own_step (move.At n (kind.Grow count)) l g h = refl
+own_step (move.At n k) l g h = refl
 own_step (move.Add k None) l g h = h
-own_step (move.Add k (Some b)) l g h = h
 own_step (move.Drop k) l g h = at (l.stands k)
   where
     at : (o : Held) → has_own (dropped_at o l k).kind (dropped_at o l k).sets ≡ true
     at (held.Frame f) = h
-    at (held.Slot s) = h
-    at (held.Block b) = h
-    at held.Zero = h
-    at held.Dead = h
-own_step (move.Clear f) l g h = h
-own_step (move.Steal f) l g h = h
-own_step (move.Give f k) l g h = h
-own_step (move.Read f k) l g h = h
-own_step (move.Got f) l g h = h
-own_step (move.Bad f) l g h = h
+    at o = h
 own_step (move.Map f p) l g h = own_kept l.kind l.sets _ (resized_has l.sets p.pid.0 (λ n. n + 1)) h
 own_step (move.Unmap p) l g h = at (l.valid p)
   where
     at : (o : Option Frame) → has_own (after_unmap_at o l p).kind (after_unmap_at o l p).sets ≡ true
     at None = h
     at (Some f) = own_kept l.kind l.sets _ (resized_has l.sets p.pid.0 (λ n. n - 1)) h
-own_step (move.Soil f) l g h = h
 own_step (move.Write f (stored.Slot s)) l g h = h
-own_step (move.Write f (stored.Block b)) l g h = h
-own_step (move.Wrote f) l g h = h
-own_step (move.Lost f) l g h = h
+own_step x l g h = h
 
 own_along : (xs : List Move) (l m : FrameLife) → Replays xs l m → has_own l.kind l.sets ≡ true → has_own m.kind m.sets ≡ true
 own_along [] l m r h = ap (λ (x : FrameLife). has_own x.kind x.sets) r ∙ h

@@ -3,34 +3,22 @@ use Rattle.std.proofs.Common.{◌≡◌, ℕ, ◌≤◌, Bool, true, false, [], 
 use Rattle.std.specs.Prelude.{is_none, is_some, ◌-◌, option_map, unwrap_or, if◌then◌else◌}
 use Rattle.std.proofs.Math.Logic.{∥∥₁_elim}
 use Rattle.std.proofs.Props.{props}
-use Rattle.mm_types.specs.declared.frames.Record.{Record}
-use Rattle.mm_types.specs.declared.frames.Held.{Held}
+use Rattle.mm_types.specs.{Record, Held, Frame, Key, Pid, Place}
 use Rattle.mm_types.specs.declared.moves.Move.TheVariants as move
-use Rattle.mm_types.specs.declared.numbers.Frame.{Frame}
-use Rattle.mm_types.specs.declared.numbers.Key.{Key}
-use Rattle.mm_types.specs.declared.numbers.Pid.{Pid}
-use Rattle.mm_types.specs.declared.numbers.Place.{Place}
-use Rattle.mm_life.specs.declared.sets.ResidentSet.{ResidentSet}
-use Rattle.mm_life.specs.Frames.{record_at, is_read}
-use Rattle.mm_life.specs.Life.{FrameLife, changed, same_place, is_shared, is_dead, set_of, key_of_place}
-use Rattle.mm_life.specs.Legal.{IsLegal, touches, fits_place, is_below_max, is_at_max, owner_is}
-use Rattle.mm_life.specs.Effect.{after_move, after_unmap_at}
-use Rattle.mm_laws.specs.Places.{residents}
-use Rattle.mm_laws.proofs.Deduced.{reached_sound}
-use Rattle.mm_frame_laws.specs.Order.{IsNextPage, NoPageFollows}
-use Rattle.mm_frame_laws.proofs.Going.{all_go, next_oldest, set_oldest}
-use Rattle.mm_frame_laws.proofs.Unmapping.{sized}
-use Rattle.mm_pages.specs.Accesses.{Aim, FromFull}
-use Rattle.mm_life.specs.Order.{IsOldest}
-use Rattle.mm_moving.specs.Shown.{StateOf, Made, MayMap, moved_with_call, moved, names_after_map}
-use Rattle.mm_moving.specs.Holds.{StateHolds}
-use Rattle.mm_parts.specs.Holds.{HasSet}
-use Rattle.mm_parts.specs.Moves.{left_by}
-use Rattle.mm_paged.specs.Pieces.{Went, InQuietFrame, Placed}
+use Rattle.mm_life.specs.{ResidentSet, record_at, is_read, FrameLife, changed, same_place, is_shared, is_dead, set_of, key_of_place, IsLegal, touches}
+use Rattle.mm_life.specs.{fits_place, is_below_max, is_at_max, owner_is, after_move, after_unmap_at, IsOldest}
+use Rattle.mm_laws.specs.{residents}
+use Rattle.mm_laws.proofs.{reached_sound, same_place-self}
+use Rattle.mm_frame_laws.specs.{IsNextPage, NoPageFollows}
+use Rattle.mm_frame_laws.proofs.{all_go, next_oldest, set_oldest, sized}
+use Rattle.mm_pages.specs.{Aim, FromFull}
+use Rattle.mm_moving.specs.{StateOf, Made, MayMap, moved_with_call, moved, names_after_map, StateHolds}
+use Rattle.mm_parts.specs.{HasSet, left_by}
+use Rattle.mm_paged.specs.{Went, InQuietFrame, Placed}
 use Rattle.mm_paged.proofs.Records.{mapped_quiet, unmap_requests}
-use Rattle.mm_moving.proofs.Doing.{does_one, does_two}
-use Rattle.mm_laws.proofs.PlaceCounts.{same_place-self}
-use Rattle.mm_types.proofs.Booleans.{not_false}
+use Rattle.mm_moving.proofs.{does_one, does_two}
+use Rattle.mm_types.proofs.{not_false, some_found}
+use Rattle.mm_paged.proofs.FaultSteps.{moved_on}
 
 pub own_test : (test : Key → Bool) (r : Record) (k : Key) → r.owner ≡ Some k → owner_is test r ≡ test k
 own_test test r k e = ap (λ (o : Option Key). unwrap_or (option_map test o) false) e
@@ -51,12 +39,8 @@ may_map k f place s h i alone = λ e. dead_of (key_of_place place) s h (alone (s
 
 placed_same : (s z : StateOf) (place : Place) (n : Place → Option Key) → s.aside ≡ None → z ≡ record (moved s z) { names = n; aside = left_by s.aside place } → z ≡ record (moved_with_call s z) { names = z.names }
 placed_same s z place n a e =
-    e ∙ ap (λ (x : Option Place). record (moved s z) { names = n; aside = x }) (ap (λ (x : Option Place). left_by x place) a ∙ sym a)
-    ∙ ap (λ (x : Place → Option Key). record (moved s z) { names = x }) (sym (ap (λ (x : StateOf). x.names) e))
-    ∙ ap (λ (x : StateOf). record (moved s z) { names = z.names; paging = x.paging; files = x.files; slots = x.slots; blocks = x.blocks }) (sym flat)
-  where
-    flat : record z { life = s.life; log = s.log; told = s.told; ages = s.ages; waits = s.waits; names = s.names; aside = s.aside } ≡ s
-    flat = ap (λ (x : StateOf). record x { life = s.life; log = s.log; told = s.told; ages = s.ages; waits = s.waits; names = s.names; aside = s.aside }) e
+    moved_on s z n s.aside (e ∙ ap (λ (x : Option Place). record (moved s z) { names = n; aside = x }) (ap (λ (x : Option Place). left_by x place) a ∙ sym a))
+    ∙ ap (λ (x : Place → Option Key). record (moved_with_call s z) { names = x }) (sym (ap (λ (x : StateOf). x.names) e))
 
 pub placed_by : (k : Key) (f : Frame) (place : Place) (s z : StateOf) → StateHolds s → InQuietFrame k f s → s.aside ≡ None → Made (move.Map f place) s z → z ≡ record (moved s z) { names = names_after_map s f place; aside = left_by s.aside place } → Placed k f place s z
 placed_by k f place s z h i a m e = record {
@@ -101,8 +85,6 @@ went_unmap_map a f place p s y z e q full old u m = record {
   few_writes = omega arith;
 }
 
--- ---- sets
-
 -- ---- the oldest page of a full set
 
 resident_full : (t : ResidentSet) → 1 ≤ t.max → is_at_max (Some t) ≡ true → 1 ≤ t.resident
@@ -122,17 +104,13 @@ some_page s pid h t full none = ∥∥₁_elim h.reached (hlevel props) (λ r.
 pub full_oldest : (s : StateOf) (p : Place) → IsNextPage s.life s.ages None p → IsOldest s.life s.ages None p
 full_oldest s p h = next_oldest s.life s.ages None None p (λ q e g. tt) h (all_go s.life p ∙ h.valid)
 
-some_frame : {A : Type 0} (o : Option A) → is_some o ≡ true → (f : A) × (o ≡ Some f)
-some_frame None e = cc
-some_frame (Some f) e = (f, refl)
-
 below_fewer : (t : ResidentSet) → 1 ≤ t.max → is_at_max (Some t) ≡ true → is_below_max (Some (record t { resident = t.resident - 1 })) ≡ true
 below_fewer t m e = grind (arith, m, e)
 
 -- it has room once a page has gone
 pub below_then : (l m : FrameLife) (p : Place) → HasSet l p.pid.0 → is_some (l.valid p) ≡ true → is_at_max (set_of l p.pid.0) ≡ true → m ≡ after_move l (move.Unmap p) → is_below_max (set_of m p.pid.0) ≡ true
 below_then l m p h v full e =
-    let f = some_frame (l.valid p) v in
+    let f = some_found (l.valid p) v in
     ap (λ (x : FrameLife). is_below_max (set_of x p.pid.0)) e ∙ ap is_below_max (sized l p f.0 h.set f.1 h.found) ∙ below_fewer h.set h.some (ap is_at_max (sym h.found) ∙ full)
 
 pub unmapped_stands : (l : FrameLife) (p : Place) (o : Option Frame) → (after_unmap_at o l p).stands ≡ l.stands

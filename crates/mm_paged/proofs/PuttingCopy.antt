@@ -1,42 +1,28 @@
 -- A copy becomes valid at its place, where the page that it is a copy of goes.
-use Rattle.std.proofs.Common.{subst, ◌≡◌, ℕ, ◌≤◌, Bool, true, false, List, [], ◌∷◌, Option, Some, None, refl, sym, ap, ◌∙◌, arith}
+use Rattle.std.proofs.Common.{◌≡◌, ℕ, ◌≤◌, Bool, true, false, [], ◌∷◌, Option, Some, None, refl, sym, ap, ◌∙◌, arith}
 use Rattle.std.specs.Prelude.{not, ◌-◌, if◌then◌else◌, option_map, unwrap_or}
-use Rattle.mm_types.specs.declared.frames.Held.{Held}
-use Rattle.mm_types.specs.declared.frames.Record.{Record}
+use Rattle.mm_types.specs.{Held, Record, Frame, Key, Place}
 use Rattle.mm_types.specs.declared.moves.Move.TheVariants as move
-use Rattle.mm_types.specs.declared.numbers.Frame.{Frame}
-use Rattle.mm_types.specs.declared.numbers.Key.{Key}
-use Rattle.mm_types.specs.declared.numbers.Place.{Place}
-use Rattle.mm_life.specs.declared.sets.ResidentSet.{ResidentSet}
-use Rattle.mm_life.specs.Frames.{record_at, with_record, unshared, shared}
-use Rattle.mm_life.specs.Life.{FrameLife, changed, same_place, key_of_place, is_live, is_dead, is_shared, set_of}
-use Rattle.mm_life.specs.Legal.{IsLegal, touches, is_below_max, shows_shared, owner_is}
-use Rattle.mm_life.specs.Effect.{after_unmap_at}
-use Rattle.mm_laws.proofs.PlaceCounts.{same_place-self}
-use Rattle.mm_frame_laws.proofs.Unmapping.{sized}
-use Rattle.mm_parts.specs.Holds.{HasSet}
-use Rattle.mm_pages.specs.Accesses.{Aim, ByCopy}
-use Rattle.mm_pages.specs.Conditions.{touch}
-use Rattle.mm_blocks.specs.Devices.{DeviceOf}
-use Rattle.mm_parts.specs.Moves.{left_by}
-use Rattle.mm_moving.specs.Shown.{StateOf, Made, MayMap, names_after_map, moved, moved_with_call}
-use Rattle.mm_moving.specs.Holds.{StateHolds}
-use Rattle.mm_moving.proofs.Doing.{does_one}
-use Rattle.mm_paged.specs.Pieces.{Went, InQuietFrame, LifeKept}
-use Rattle.mm_paged.proofs.Keeping.{kept_then, kept_unmap, kept_map}
+use Rattle.mm_life.specs.{ResidentSet, record_at, with_record, unshared, shared, FrameLife, changed, same_place, key_of_place, is_live, is_dead}
+use Rattle.mm_life.specs.{is_shared, set_of, IsLegal, touches, is_below_max, shows_shared, owner_is, after_unmap_at}
+use Rattle.mm_laws.proofs.{same_place-self}
+use Rattle.mm_frame_laws.proofs.{sized}
+use Rattle.mm_parts.specs.{HasSet, left_by}
+use Rattle.mm_pages.specs.{Aim, ByCopy, touch}
+use Rattle.mm_moving.specs.{StateOf, Made, MayMap, names_after_map, moved, moved_with_call, StateHolds}
+use Rattle.mm_moving.proofs.{does_one}
+use Rattle.mm_paged.specs.{Went, InQuietFrame, LifeKept}
+use Rattle.mm_paged.proofs.Keeping.{kept_then, kept_made}
 use Rattle.mm_paged.proofs.Doing.{went_then}
 use Rattle.mm_paged.proofs.Placing.{own_test, map_legal, in_frame_then, kind_then, went_map}
-use Rattle.mm_paged.proofs.Records.{settled_record}
-use Rattle.mm_paged.proofs.Writing.{look_set}
-use Rattle.mm_paged.proofs.LettingGo.{unmapped_gone}
+use Rattle.mm_paged.proofs.Records.{settled_record, look_set}
+use Rattle.mm_paged.proofs.LettingGo.{gone_then}
+use Rattle.mm_paged.proofs.FaultSteps.{moved_on}
 
 -- ---- the page that was copied goes
 
 in_frame_live : (k : Key) (f : Frame) (s : StateOf) → InQuietFrame k f s → is_live s.life k ≡ true
 in_frame_live k f s i = ap (λ (h : Held). not (is_dead h)) i.stands
-
-pub unmapped_here : (s y : StateOf) (p : Place) → Made (move.Unmap p) s y → y.life.valid p ≡ None
-unmapped_here s y p m = ap (λ (l : FrameLife). l.valid p) m.life ∙ unmapped_gone s.life p (s.life.valid p) refl
 
 -- ---- the copy comes
 
@@ -54,7 +40,7 @@ below_copied place s y h shows m =
 
 pub map_copy : (place : Place) (f : Frame) (s y : StateOf) → StateHolds s → StateHolds y → InQuietFrame (key_of_place place) f s → s.bound place ≡ true → shows_shared s.life place ≡ true → touches place.pid.0 s.life.kind ≡ true → Made (move.Unmap place) s y → IsLegal (move.Map f place) y.life
 map_copy place f s y h g i bound shows touch m =
-    map_legal (key_of_place place) f place y g (in_frame_then (key_of_place place) f s y place i m.life) (same_place-self place) (unmapped_here s y place m)
+    map_legal (key_of_place place) f place y g (in_frame_then (key_of_place place) f s y place i m.life) (same_place-self place) (gone_then s y place m)
     (ap (touches place.pid.0) (kind_then s y place m.life) ∙ touch)
     (below_copied place s y (h.sets place.pid.0 (h.open_process place bound)) shows m)
 
@@ -95,9 +81,7 @@ put_names place f s y z g i n e =
     e ∙ ap (λ (o : Option Key). changed same_place y.names place o) (g.owner (key_of_place place) f i.stands) ∙ ap (λ (h : Place → Option Key). changed same_place h place (Some (key_of_place place))) n
 
 pub put_kept : (place : Place) (f : Frame) (s y z : StateOf) → Made (move.Unmap place) s y → Made (move.Map f place) y z → LifeKept s.life z.life
-put_kept place f s y z u m =
-    kept_then s.life y.life z.life (subst (λ (l : FrameLife). LifeKept s.life l) (sym u.life) (kept_unmap s.life place (s.life.valid place)))
-    (subst (λ (l : FrameLife). LifeKept y.life l) (sym m.life) (kept_map y.life f place))
+put_kept place f s y z u m = kept_then s.life y.life z.life (kept_made (move.Unmap place) s y u tt) (kept_made (move.Map f place) y z m tt)
 
 pub put_valid : (place : Place) (f : Frame) (y z : StateOf) → Made (move.Map f place) y z → z.life.valid place ≡ Some f
 put_valid place f y z m = ap (λ (l : FrameLife). l.valid place) m.life ∙ ap (λ (b : Bool). if b then Some f else y.life.valid place) (same_place-self place)
@@ -120,10 +104,4 @@ put_moved place n s y z a r e =
     ∙ ap (λ (o : Option Place). record (moved s z) { names = z.names; aside = o }) (left_here y.aside place (ap (λ (x : StateOf). x.aside) r ∙ a))
 
 pub put_same : (place : Place) (n : Place → Option Key) (s y z : StateOf) → s.aside ≡ Some place → y ≡ moved s y → z ≡ record (moved y z) { names = n; aside = left_by y.aside place } → z ≡ record (moved_with_call s z) { names = z.names; aside = None }
-put_same place n s y z a r e =
-    let w = put_moved place n s y z a r e in
-    w
-    ∙ ap (λ (d : DeviceOf). record (moved s z) { names = z.names; aside = None; paging = d }) (sym (ap (λ (x : StateOf). x.paging) w))
-    ∙ ap (λ (d : DeviceOf). record (moved s z) { names = z.names; aside = None; paging = z.paging; files = d }) (sym (ap (λ (x : StateOf). x.files) w))
-    ∙ ap (λ (b : List (List ℕ)). record (moved s z) { names = z.names; aside = None; paging = z.paging; files = z.files; slots = b }) (sym (ap (λ (x : StateOf). x.slots) w))
-    ∙ ap (λ (b : List (List ℕ)). record (moved s z) { names = z.names; aside = None; paging = z.paging; files = z.files; slots = z.slots; blocks = b }) (sym (ap (λ (x : StateOf). x.blocks) w))
+put_same place n s y z a r e = moved_on s z z.names None (put_moved place n s y z a r e)

@@ -1,49 +1,30 @@
 -- What the moves of an access leave alone in a thread's line: no device is called there, and no read ends.
-use Rattle.std.proofs.Common.{◌≡◌, ℕ, Bool, true, false, List, [], ◌∷◌, ◌++◌, None, Some, refl, sym, ap, ◌∙◌}
+use Rattle.std.proofs.Common.{◌≡◌, ℕ, Bool, true, false, List, [], ◌∷◌, ◌++◌, None, Some, refl, sym, ap, ◌∙◌, Option, ◌≤◌, subst}
 use Rattle.std.specs.Bool.{IsTrue}
 use Rattle.std.specs.Prelude.{◌&&◌, ◌||◌, map}
-use Rattle.mm_types.specs.declared.moves.LineKind.{LineKind}
+use Rattle.mm_types.specs.{LineKind, Move}
 use Rattle.mm_types.specs.declared.moves.LineKind.TheVariants as kind
-use Rattle.mm_types.specs.declared.moves.Move.{Move}
 use Rattle.mm_types.specs.declared.moves.Move.TheVariants as move
 use Rattle.mm_types.specs.declared.moves.Stored.TheVariants as stored
-use Rattle.mm_blocks.specs.declared.device_calls.DeviceCall.{DeviceCall}
-use Rattle.mm_blocks.specs.Devices.{DeviceOf, Call, AllServed, logged_call}
-use Rattle.mm_life.specs.Frames.{record_at, is_read, is_write}
-use Rattle.mm_life.specs.Life.{FrameLife}
-use Rattle.mm_life.specs.Legal.{IsLegal, is_thread, is_touch, is_io, is_access, is_call}
-use Rattle.mm_life.specs.Effect.{after_move}
-use Rattle.mm_life.specs.Replay.{Replays}
-use Rattle.mm_pages.specs.Accesses.{Aim, AccessMove}
-use Rattle.mm_pages.specs.Reports.{no_calls}
-use Rattle.mm_pages.specs.Told.{Told, told_after, told_through, in_slot, in_block, call_of, calls_of}
-use Rattle.mm_life.specs.Waits.{Waiting, waits_after}
-use Rattle.mm_life.specs.Walks.{Walk, Through, walked, waits_through}
-use Rattle.mm_world.specs.Report.{Tally}
-use Rattle.mm_moving.specs.Shown.{StateOf}
-use Rattle.mm_moving.specs.Doing.{DoesMoves, walk_of}
+use Rattle.mm_blocks.specs.{DeviceCall, DeviceOf, Call, AllServed, logged_call}
+use Rattle.mm_life.specs.{record_at, is_read, is_write, FrameLife, IsLegal, is_thread, is_touch, is_io, is_access, is_call, after_move, Replays}
+use Rattle.mm_life.specs.{Waiting, waits_after, Walk, Through, walked, waits_through}
+use Rattle.mm_pages.specs.{Aim, AccessMove, no_calls, told_after, told_through, in_slot, in_block, call_of, calls_of, Ready}
+use Rattle.mm_pages.specs.Told.{Told}
+use Rattle.mm_world.specs.{Tally}
+use Rattle.mm_moving.specs.{StateOf, moved_with_call, DoesMoves, walk_of}
 use Rattle.mm_paged.proofs.Placing.{unmapped_kind}
+use Rattle.mm_paged.specs.{OwnOf, StoreKept, LifeKept}
 
 -- ---- the line goes on
 
 kind_after : (a : Aim) (w : Walk) (m : Move) (ms : List Move) → AccessMove a w m ms → (after_move w.life m).kind ≡ w.life.kind
 kind_after a w (move.At n k) ms h = absurd h
-kind_after a w (move.Add k None) ms h = refl
 kind_after a w (move.Add k (Some b)) ms h = absurd h
 kind_after a w (move.Drop k) ms h = absurd h
-kind_after a w (move.Clear f) ms h = refl
-kind_after a w (move.Steal f) ms h = refl
-kind_after a w (move.Give f k) ms h = refl
-kind_after a w (move.Read f k) ms h = refl
-kind_after a w (move.Got f) ms h = refl
-kind_after a w (move.Bad f) ms h = refl
-kind_after a w (move.Map f p) ms h = refl
 kind_after a w (move.Unmap p) ms h = unmapped_kind w.life p (w.life.valid p)
-kind_after a w (move.Soil f) ms h = refl
 kind_after a w (move.Write f (stored.Slot s)) ms h = refl
-kind_after a w (move.Write f (stored.Block b)) ms h = refl
-kind_after a w (move.Wrote f) ms h = refl
-kind_after a w (move.Lost f) ms h = refl
+kind_after a w m ms h = refl
 
 pub kind_through : (a : Aim) (ms : List Move) (w : Walk) (m : FrameLife) → Through (AccessMove a) w ms → Replays ms w.life m → m.kind ≡ w.life.kind
 kind_through a [] w m h r = ap (λ (l : FrameLife). l.kind) r
@@ -52,32 +33,12 @@ kind_through a (x ∷ xs) w m h r = kind_through a xs (walked w x) m h.1 r.1 ∙
 -- ---- one move
 
 no_end : (r : Bool) (k : LineKind) → is_thread k ≡ true → IsTrue (r && (is_io k || is_access k)) → ⊥
-no_end r (kind.Machine a b c d) t h = cc
-no_end r (kind.Process pid min max) t h = cc
-no_end r (kind.Unbind pid) t h = cc
-no_end r (kind.Access pid) t h = cc
 no_end true (kind.Thread pid) t h = cc
-no_end false (kind.Thread pid) t h = cc
-no_end r (kind.Trim pid) t h = cc
-no_end r kind.Writer t h = cc
-no_end r kind.Zeroer t h = cc
-no_end r kind.Io t h = cc
-no_end r kind.Call t h = cc
-no_end r (kind.Grow n) t h = cc
+no_end r k t h = cc
 
 no_write_end : (r : Bool) (k : LineKind) → is_thread k ≡ true → IsTrue (r && (is_io k || is_access k || is_call k)) → ⊥
-no_write_end r (kind.Machine a b c d) t h = cc
-no_write_end r (kind.Process pid min max) t h = cc
-no_write_end r (kind.Unbind pid) t h = cc
-no_write_end r (kind.Access pid) t h = cc
 no_write_end true (kind.Thread pid) t h = cc
-no_write_end false (kind.Thread pid) t h = cc
-no_write_end r (kind.Trim pid) t h = cc
-no_write_end r kind.Writer t h = cc
-no_write_end r kind.Zeroer t h = cc
-no_write_end r kind.Io t h = cc
-no_write_end r kind.Call t h = cc
-no_write_end r (kind.Grow n) t h = cc
+no_write_end r k t h = cc
 
 record QuietOne (m : Move) (l : FrameLife) : Type 0 where
   pub told : (t : Told) → t.search_writes ≡ no_calls → told_after l m t ≡ t
@@ -90,39 +51,47 @@ reset t e = ap (λ (x : Tally). record t { search_writes = x }) (sym e)
 
 quiet_one : (a : Aim) (w : Walk) (m : Move) (ms : List Move) → is_thread w.life.kind ≡ true → AccessMove a w m ms → IsLegal m w.life → QuietOne m w.life
 quiet_one a w (move.At n k) ms t h i = absurd h
-quiet_one a w (move.Add k b) ms t h i = record { told = λ x e. refl; slots = refl; blocks = refl; waits = λ v. refl }
 quiet_one a w (move.Drop k) ms t h i = absurd h
-quiet_one a w (move.Clear f) ms t h i = record { told = λ x e. refl; slots = refl; blocks = refl; waits = λ v. refl }
-quiet_one a w (move.Steal f) ms t h i = record { told = λ x e. refl; slots = refl; blocks = refl; waits = λ v. refl }
 quiet_one a w (move.Give f k) ms t h i = record { told = reset; slots = refl; blocks = refl; waits = λ v. refl }
 quiet_one a w (move.Read f k) ms t h i = record { told = reset; slots = refl; blocks = refl; waits = λ v. refl }
 quiet_one a w (move.Got f) ms t h i = absurd (no_end (is_read (record_at w.life.frames f.0).request) w.life.kind t i)
 quiet_one a w (move.Bad f) ms t h i = absurd (no_end (is_read (record_at w.life.frames f.0).request) w.life.kind t i)
-quiet_one a w (move.Map f p) ms t h i = record { told = λ x e. refl; slots = refl; blocks = refl; waits = λ v. refl }
-quiet_one a w (move.Unmap p) ms t h i = record { told = λ x e. refl; slots = refl; blocks = refl; waits = λ v. refl }
-quiet_one a w (move.Soil f) ms t h i = record { told = λ x e. refl; slots = refl; blocks = refl; waits = λ v. refl }
-quiet_one a w (move.Write f s) ms t h i = record { told = λ x e. refl; slots = refl; blocks = refl; waits = λ v. refl }
 quiet_one a w (move.Wrote f) ms t h i = absurd (no_write_end (is_write (record_at w.life.frames f.0).request) w.life.kind t i)
 quiet_one a w (move.Lost f) ms t h i = absurd (no_write_end (is_write (record_at w.life.frames f.0).request) w.life.kind t i)
+quiet_one a w m ms t h i = record { told = λ x e. refl; slots = refl; blocks = refl; waits = λ v. refl }
 
 -- ---- lines that access no page
 
 pub thread_touches : (k : LineKind) → is_thread k ≡ true → is_touch k ≡ true
-thread_touches (kind.Machine a b c d) t = cc
-thread_touches (kind.Process pid min max) t = cc
-thread_touches (kind.Unbind pid) t = cc
 thread_touches (kind.Access pid) t = refl
 thread_touches (kind.Thread pid) t = refl
-thread_touches (kind.Trim pid) t = cc
-thread_touches kind.Writer t = cc
-thread_touches kind.Zeroer t = cc
-thread_touches kind.Io t = cc
-thread_touches kind.Call t = cc
-thread_touches (kind.Grow n) t = cc
+thread_touches k t = cc
 
 -- such a line is no thread's
-pub no_thread : (k l : LineKind) → l ≡ k → is_touch k ≡ false → is_thread l ≡ true → ⊥
+no_thread : (k l : LineKind) → l ≡ k → is_touch k ≡ false → is_thread l ≡ true → ⊥
 no_thread k l e n t = let bad : false ≡ true = sym n ∙ ap is_touch (sym e) ∙ thread_touches l t in cc
+
+-- ---- what the store keeps
+
+-- where nothing is ready
+pub kept_by : (s z : StateOf) (o u : OwnOf) → ((r : Ready) → u.ready ≡ Some r → ⊥) → StoreKept s o → z.own ≡ s.own → z.aside ≡ s.aside → z.life.added ≡ s.life.added → u.blocks_used ≡ o.blocks_used → (is_thread z.life.kind ≡ true → z.told.search_writes ≡ no_calls) → StoreKept z u
+kept_by s z o u none k own aside added used calm = record {
+  own = own ∙ k.own;
+  aside = aside ∙ k.aside;
+  ready = λ r e. absurd (none r e);
+  touching = λ r e. absurd (none r e);
+  room = λ r e c. absurd (none r e);
+  fresh = λ b low. ap (λ (f : ℕ → Bool). f b) added ∙ k.fresh b (subst (λ (n : ℕ). n ≤ b) used low);
+  calm = calm;
+}
+
+pub none_ready : (u : OwnOf) → u.ready ≡ None → (r : Ready) → u.ready ≡ Some r → ⊥
+none_ready u e r h = let bad : None ≡ Some r = sym e ∙ h in cc
+
+-- nothing is ready in a line that accesses no page
+pub kept_untouched : (s z : StateOf) (o : OwnOf) → StoreKept s o → is_touch s.life.kind ≡ false → LifeKept s.life z.life → z ≡ moved_with_call s z → StoreKept z o
+kept_untouched s z o k still life same = kept_by s z o o (λ r e. let bad : false ≡ true = sym still ∙ k.touching r e in cc) k (ap (λ (x : StateOf). x.own) same) (ap (λ (x : StateOf). x.aside) same) life.added refl
+    (λ th. absurd (no_thread s.life.kind z.life.kind life.kind still th))
 
 -- ---- all of them
 

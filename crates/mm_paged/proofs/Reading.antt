@@ -1,29 +1,16 @@
 -- How an access ends, by the report, and what it did.
-use Rattle.std.proofs.Common.{◌≡◌, ℕ, ◌≤◌, Bool, true, false, List, [], ◌∷◌, Option, Some, None, refl, sym, ap, ◌∙◌, subst, arith, inl, inr, ◌⊎◌}
+use Rattle.std.proofs.Common.{◌≡◌, ℕ, ◌≤◌, Bool, true, false, List, [], ◌∷◌, Option, Some, None, refl, sym, ap, ◌∙◌, arith, inl, inr, ◌⊎◌}
 use Rattle.std.specs.Prelude.{not, is_some, length, ◌&&◌, ◌||◌, nat_lt, ◌==◌, option_map, unwrap_or, if◌then◌else◌, Ok, Err}
-use Rattle.mm_types.specs.declared.faults.PageFault.{PageFault}
-use Rattle.mm_types.specs.declared.frames.Held.{Held}
+use Rattle.mm_types.specs.{PageFault, Held, Frame, Key, Place}
 use Rattle.mm_types.specs.declared.frames.Held.TheVariants as held
-use Rattle.mm_types.specs.declared.numbers.Frame.{Frame}
-use Rattle.mm_types.specs.declared.numbers.Key.{Key}
-use Rattle.mm_types.specs.declared.numbers.Place.{Place}
-use Rattle.mm_life.specs.Frames.{record_at, is_read, is_empty}
-use Rattle.mm_life.specs.Life.{FrameLife, changed, same_place}
-use Rattle.mm_world.specs.Failure.{same_key, has_frame, still_needs_frame, read_failed, search_failed}
-use Rattle.mm_world.specs.Report.{is_short as report_is_short, Report, BeingRead, InFrame}
-use Rattle.mm_pages.specs.Accesses.{Aim, Touches}
-use Rattle.mm_pages.specs.Conditions.{touch, IsReady}
-use Rattle.mm_blocks.proofs.Holding.{keeps_same}
-use Rattle.mm_pages.specs.Reports.{Ends, IsBegun}
-use Rattle.mm_pages.specs.Shortage.{is_framed}
-use Rattle.mm_pages.specs.Standing.{where_of, framed_where}
-use Rattle.mm_pages.specs.Passing.{Passes}
-use Rattle.mm_moving.specs.Shown.{StateOf}
-use Rattle.mm_moving.specs.Holds.{StateHolds}
-use Rattle.mm_paged.specs.Pieces.{Went, Stuck, AccessBegins}
-use Rattle.mm_paged.specs.Shown.{OwnOf, report_of, store_of, behind_of}
-use Rattle.mm_moving.proofs.Doing.{does_nothing}
-use Rattle.mm_paged.proofs.Shows.{passes_of}
+use Rattle.mm_life.specs.{record_at, is_read, is_empty, FrameLife, changed, same_place}
+use Rattle.mm_world.specs.{same_key, has_frame, still_needs_frame, read_failed, search_failed, is_short as report_is_short, BeingRead, InFrame}
+use Rattle.mm_world.specs.Report.{Report}
+use Rattle.mm_pages.specs.{Aim, Touches, touch, IsReady, IsBegun, is_framed, where_of, framed_where, Passes}
+use Rattle.mm_pages.specs.Reports.{Ends}
+use Rattle.mm_moving.specs.{StateOf, StateHolds}
+use Rattle.mm_paged.specs.{Went, Stuck, AccessBegins, OwnOf, report_of, store_of, behind_of}
+use Rattle.mm_paged.proofs.Shows.{passes_of, none_passes, passes_beside}
 
 pub framed_has : (l : FrameLife) (h : Held) → is_framed h ≡ true → has_frame (where_of l h) ≡ true
 framed_has l (held.Frame f) e = at (is_read (record_at l.frames f.0).request) refl
@@ -31,17 +18,11 @@ framed_has l (held.Frame f) e = at (is_read (record_at l.frames f.0).request) re
     at : (b : Bool) → is_read (record_at l.frames f.0).request ≡ b → has_frame (Some (framed_where (record_at l.frames f.0))) ≡ true
     at true q = ap (λ (c : Bool). has_frame (Some (if c then BeingRead else InFrame))) q
     at false q = ap (λ (c : Bool). has_frame (Some (if c then BeingRead else InFrame))) q
-framed_has l (held.Slot t) e = cc
-framed_has l (held.Block b) e = cc
-framed_has l held.Zero e = cc
-framed_has l held.Dead e = cc
+framed_has l h e = cc
 
 pub unframed_has : (l : FrameLife) (h : Held) → is_framed h ≡ false → has_frame (where_of l h) ≡ false
 unframed_has l (held.Frame f) e = cc
-unframed_has l (held.Slot t) e = refl
-unframed_has l (held.Block b) e = refl
-unframed_has l held.Zero e = refl
-unframed_has l held.Dead e = refl
+unframed_has l h e = refl
 
 pub nothing_read : (k : Key) (r : Report) → r.last_failed_read ≡ None → read_failed (touch k) r ≡ false
 nothing_read k r e = ap (λ (o : Option Key). unwrap_or (option_map (same_key k) o) false) e
@@ -73,30 +54,10 @@ search_failed_by f s still short a b c d = grind (arith, a, b, c, d)
 
 pub valid_passes : (w : Bool) (k : Key) (place : Place) (s z : StateOf) (o : OwnOf) (c : Key → Option (List ℕ)) → is_some (s.life.valid place) ≡ true → z ≡ record s { ages = changed same_place s.ages place 0; contents = c }
     → Passes (Touches {T = Unit {0}} (record { place = place; need = touch k; writes = w; start = s.life }) (IsReady (store_of s o) place (touch k)) (Ok tt)) (store_of s o) (store_of z o) (behind_of s) (behind_of z)
-valid_passes w k place s z o c v e = subst (λ (x : StateOf). Passes (Touches {T = Unit {0}} (record { place = place; need = touch k; writes = w; start = s.life }) (IsReady (store_of s o) place (touch k)) (Ok tt)) (store_of s o) (store_of x o) (behind_of s) (behind_of x)) (sym e)
-    (record {
-      moves = [];
-      in_range = tt;
-      grew = (does_nothing s).grew;
-      replays = refl;
-      that = record {
-        ends = record { made = record { each = tt; one_read = omega arith; few_writes = omega arith }; waits = refl; valid = v; ages = refl };
-        calm = λ r. tt;
-      };
-      report = refl;
-      paging_calls = [];
-      paging = refl;
-      paging_are = refl;
-      file_calls = [];
-      files = refl;
-      files_are = refl;
-      slots_kept = keeps_same [] s.slots s.slots refl;
-      blocks_kept = keeps_same [] s.blocks s.blocks refl;
-    })
-
-pub read_valid_passes : (k : Key) (place : Place) (s z : StateOf) (o : OwnOf) → is_some (s.life.valid place) ≡ true → z ≡ record s { ages = changed same_place s.ages place 0 }
-    → Passes (Touches {T = Unit {0}} (record { place = place; need = touch k; writes = false; start = s.life }) (IsReady (store_of s o) place (touch k)) (Ok tt)) (store_of s o) (store_of z o) (behind_of s) (behind_of z)
-read_valid_passes k place s z o v e = valid_passes false k place s z o s.contents v e
+valid_passes w k place s z o c v e = none_passes _ s z o o c (changed same_place s.ages place 0) s.waits e (record {
+  ends = record { made = record { each = tt; one_read = omega arith; few_writes = omega arith }; waits = refl; valid = v; ages = refl };
+  calm = λ r. tt;
+})
 
 -- ---- a page that is valid has a frame
 
@@ -120,36 +81,15 @@ pub went_passes : (w : Bool) (k : Key) (place : Place) (s y z : StateOf) (o u : 
     → Passes (Touches {T = Unit {0}} (record { place = place; need = touch k; writes = w; start = s.life }) IsNow (Ok tt)) (store_of s o) (store_of z u) (behind_of s) (behind_of z)
 went_passes w k place s y z o u c IsNow none now went v e =
     let p : Went (record { place = place; need = touch k; writes = w; start = s.life }) 1 s y = went (record { place = place; need = touch k; writes = w; start = s.life }) refl refl (record { needs = refl; from = refl; at = none }) in
-    subst (λ (x : StateOf). Passes (Touches {T = Unit {0}} (record { place = place; need = touch k; writes = w; start = s.life }) IsNow (Ok tt)) (store_of s o) (store_of x u) (behind_of s) (behind_of x)) (sym e)
-    (record {
-      moves = p.moves;
-      in_range = p.does.in_range;
-      grew = p.does.grew;
-      replays = p.does.replays;
-      that = record {
-        ends = record {
-          made = record { each = p.each; one_read = p.few_reads; few_writes = p.few_writes };
-          waits = p.does.waits;
-          valid = v;
-          ages = ap (λ (g : Place → ℕ). changed same_place g place 0) p.does.ages;
-        };
-        calm = λ r. let bad : false ≡ true = sym (ap is_some none) ∙ now r in cc;
+    passes_beside _ p.moves s y z o u y.bound y.names c (changed same_place y.ages place 0) y.waits p.does e (record {
+      ends = record {
+        made = record { each = p.each; one_read = p.few_reads; few_writes = p.few_writes };
+        waits = p.does.waits;
+        valid = v;
+        ages = ap (λ (g : Place → ℕ). changed same_place g place 0) p.does.ages;
       };
-      report = p.does.told;
-      paging_calls = p.does.paging_calls;
-      paging = p.does.paging;
-      paging_are = p.does.paging_are;
-      file_calls = p.does.file_calls;
-      files = p.does.files;
-      files_are = p.does.files_are;
-      slots_kept = p.does.slots_kept;
-      blocks_kept = p.does.blocks_kept;
+      calm = λ r. let bad : false ≡ true = sym (ap is_some none) ∙ now r in cc;
     })
-
-pub read_went_passes : (k : Key) (place : Place) (s y z : StateOf) (o u : OwnOf) (IsNow : Type 0) → s.life.valid place ≡ None → (IsNow → is_some (s.life.valid place) ≡ true)
-    → ((a : Aim) → a.place ≡ place → AccessBegins a k s → Went a 1 s y) → is_some (y.life.valid place) ≡ true → z ≡ record y { ages = changed same_place y.ages place 0 }
-    → Passes (Touches {T = Unit {0}} (record { place = place; need = touch k; writes = false; start = s.life }) IsNow (Ok tt)) (store_of s o) (store_of z u) (behind_of s) (behind_of z)
-read_went_passes k place s y z o u IsNow none now went v e = went_passes false k place s y z o u y.contents IsNow none now (λ a p w b. went a p b) v e
 
 pub stuck_passes : (w : Bool) (why : PageFault) (k : Key) (place : Place) (s z : StateOf) (o u : OwnOf) (IsNow : Type 0) → s.life.valid place ≡ None → (IsNow → is_some (s.life.valid place) ≡ true)
     → ((a : Aim) → AccessBegins a k s → Stuck a why 1 s z)

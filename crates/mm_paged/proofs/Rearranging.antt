@@ -1,47 +1,30 @@
 -- Chores: places are unmapped, frames cleared, writes begun. Frames go from list to list, and no device is called.
-use Rattle.std.proofs.Common.{◌≡◌, ℕ, ◌-◌, Bool, true, false, List, [], ◌∷◌, Some, refl, sym, ap, ◌∙◌, subst}
+use Rattle.std.proofs.Common.{◌≡◌, ℕ, ◌-◌, Bool, true, false, List, [], ◌∷◌, refl, sym, ap, ◌∙◌, subst}
 use Rattle.std.specs.Prelude.{◌&&◌, nat_lt, if◌then◌else◌, map, take}
-use Rattle.mm_types.specs.declared.moves.LineKind.TheVariants as kind
-use Rattle.mm_types.specs.declared.moves.Move.{Move}
+use Rattle.mm_types.specs.{Move, Stored, Frame, Pid, Place}
 use Rattle.mm_types.specs.declared.moves.Move.TheVariants as move
-use Rattle.mm_types.specs.declared.moves.Stored.{Stored}
 use Rattle.mm_types.specs.declared.moves.Stored.TheVariants as stored
-use Rattle.mm_types.specs.declared.numbers.Frame.{Frame}
-use Rattle.mm_types.specs.declared.numbers.Pid.{Pid}
-use Rattle.mm_types.specs.declared.numbers.Place.{Place}
-use Rattle.mm_life.specs.Frames.{record_at}
-use Rattle.mm_life.specs.Life.{FrameLife}
-use Rattle.mm_life.specs.Legal.{is_touch, has_depth}
-use Rattle.mm_life.specs.Effect.{after_move}
-use Rattle.mm_life.specs.Replay.{Replays}
-use Rattle.mm_life.specs.Victims.{can_be_written}
-use Rattle.mm_pages.specs.Housekeeping.{Trims, Clears, WritesOut}
-use Rattle.mm_pages.specs.Passing.{Passes}
-use Rattle.mm_pages.specs.Reports.{rearranged}
-use Rattle.mm_pages.specs.Store.{Ready}
-use Rattle.mm_pages.specs.Told.{Told, told_after, told_through}
-use Rattle.mm_life.specs.Chores.{TrimMove, frame_of, clearings, target, writes_begun}
-use Rattle.mm_life.specs.Waits.{Waiting, waits_after}
-use Rattle.mm_life.specs.Walks.{Walk, Through, walked, waits_through}
-use Rattle.mm_moving.specs.Shown.{StateOf, moved}
-use Rattle.mm_moving.specs.Doing.{DoesMoves, walk_of}
-use Rattle.mm_moving.specs.Holds.{StateHolds}
-use Rattle.mm_reclaim.specs.Chores.{Trimmed}
-use Rattle.mm_paged.specs.Pieces.{LifeKept}
-use Rattle.mm_paged.specs.Shown.{OwnOf, StoreKept, store_of, report_of, behind_of}
-use Rattle.mm_paged.proofs.Quiet.{no_thread}
+use Rattle.mm_life.specs.{record_at, FrameLife, is_touch, has_depth, after_move, Replays, can_be_written, TrimMove, frame_of, clearings, target}
+use Rattle.mm_life.specs.{writes_begun, Waiting, waits_after, Walk, Through, walked, waits_through}
+use Rattle.mm_pages.specs.{Trims, Clears, WritesOut, Passes, rearranged, told_after, told_through}
+use Rattle.mm_pages.specs.Told.{Told}
+use Rattle.mm_moving.specs.{StateOf, moved, DoesMoves, walk_of, StateHolds}
+use Rattle.mm_reclaim.specs.{Trimmed}
+use Rattle.mm_paged.specs.{LifeKept, OwnOf, StoreKept, store_of, report_of, behind_of}
+use Rattle.mm_paged.proofs.Quiet.{kept_untouched}
 use Rattle.mm_paged.proofs.Keeping.{kept_same, kept_then, kept_unmap, blocks_kept}
 use Rattle.mm_paged.proofs.LettingGo.{rearranged_by}
 use Rattle.mm_paged.proofs.Shows.{passes_of}
+use Rattle.mm_reclaim.proofs.{moved_called}
 
 -- ---- moves of chores
 
-data Chore (m : Move) : Type 0 where
+pub data Chore (m : Move) : Type 0 where
   Unmaps : (p : Place) → m ≡ move.Unmap p → Chore m
   Cleans : (f : Frame) → m ≡ move.Clear f → Chore m
   Begins : (f : Frame) (home : Stored) → m ≡ move.Write f home → Chore m
 
-abbrev AllChores : List Move → Type 0
+abbrev pub AllChores : List Move → Type 0
 AllChores [] = Unit {0}
 AllChores (m ∷ ms) = Chore m × AllChores ms
 
@@ -81,21 +64,8 @@ waits_kept (x ∷ xs) l w a = ap (waits_through xs) ((quiet l x a.0).waits w) �
 -- ---- which moves they are
 
 of_trim : (pid : Pid) (w : Walk) (m : Move) (ms : List Move) → TrimMove pid w m ms → Chore m
-of_trim pid w (move.At n k) ms h = absurd h
-of_trim pid w (move.Add k b) ms h = absurd h
-of_trim pid w (move.Drop k) ms h = absurd h
-of_trim pid w (move.Clear f) ms h = absurd h
-of_trim pid w (move.Steal f) ms h = absurd h
-of_trim pid w (move.Give f k) ms h = absurd h
-of_trim pid w (move.Read f k) ms h = absurd h
-of_trim pid w (move.Got f) ms h = absurd h
-of_trim pid w (move.Bad f) ms h = absurd h
-of_trim pid w (move.Map f p) ms h = absurd h
 of_trim pid w (move.Unmap p) ms h = Unmaps p refl
-of_trim pid w (move.Soil f) ms h = absurd h
-of_trim pid w (move.Write f b) ms h = absurd h
-of_trim pid w (move.Wrote f) ms h = absurd h
-of_trim pid w (move.Lost f) ms h = absurd h
+of_trim pid w m ms h = absurd h
 
 all_of_trim : (pid : Pid) (w : Walk) (ms : List Move) → Through (TrimMove pid) w ms → AllChores ms
 all_of_trim pid w [] t = tt
@@ -119,69 +89,39 @@ all_begun n l (f ∷ fs) = at (nat_lt 0 n && has_depth l) (can_be_written l f) (
 
 -- ---- what a chore leaves
 
-record Tidied (ms : List Move) (s z : StateOf) : Type 0 where
-  does : DoesMoves ms s z
-  all : AllChores ms
-  same : z ≡ moved s z
+pub record Tidied (ms : List Move) (s z : StateOf) : Type 0 where
+  pub does : DoesMoves ms s z
+  pub all : AllChores ms
+  pub same : z ≡ moved s z
 
 module _ (ms : List Move) (s z : StateOf) (o : OwnOf) (t : Tidied ms s z) where
   life_now : LifeKept s.life z.life
   life_now = life_kept ms s.life z.life t.all t.does.replays
 
-  store_now : StateHolds s → StateHolds z → store_of z o ≡ record (store_of s o) { report = rearranged (report_of s o) (report_of z o) }
-  store_now h g =
+  pub tidied_store : StateHolds s → StateHolds z → store_of z o ≡ record (store_of s o) { report = rearranged (report_of s o) (report_of z o) }
+  tidied_store h g =
       rearranged_by s z o life_now (blocks_kept s z ms h g t.does.replays life_now.paging (ap (λ (x : StateOf). x.contents) t.same))
       (t.does.told ∙ told_kept ms s.life s.told t.all) (t.does.waits ∙ waits_kept ms s.life s.waits t.all) t.same
 
-  -- nothing is ready in a line that accesses no page
-  kept_now : StoreKept s o → is_touch s.life.kind ≡ false → StoreKept z o
-  kept_now k still = record {
-    own = ap (λ (x : StateOf). x.own) t.same ∙ k.own;
-    aside = ap (λ (x : StateOf). x.aside) t.same ∙ k.aside;
-    ready = λ r e. absurd (none_ready r e);
-    touching = λ r e. absurd (none_ready r e);
-    room = λ r e c. absurd (none_ready r e);
-    fresh = λ b low. ap (λ (f : ℕ → Bool). f b) life_now.added ∙ k.fresh b low;
-    calm = λ th. absurd (no_thread s.life.kind z.life.kind life_now.kind still th);
-  }
-    where
-      none_ready : (r : Ready) → o.ready ≡ Some r → ⊥
-      none_ready r e = let bad : false ≡ true = sym still ∙ k.touching r e in cc
+  pub tidied_kept : StoreKept s o → is_touch s.life.kind ≡ false → StoreKept z o
+  tidied_kept k still = kept_untouched s z o k still life_now (moved_called s z t.same)
 
 -- ---- each chore
 
-by_trim : (pid : Pid) (n : ℕ) (s z : StateOf) (t : Trimmed pid n s z) → Tidied t.moves s z
+pub by_trim : (pid : Pid) (n : ℕ) (s z : StateOf) (t : Trimmed pid n s z) → Tidied t.moves s z
 by_trim pid n s z t = record { does = t.does; all = all_of_trim pid (walk_of s) t.moves t.each; same = t.same }
 
-by_clears : (n : ℕ) (s z : StateOf) → DoesMoves (clearings n s.life) s z → z ≡ moved s z → Tidied (clearings n s.life) s z
+pub by_clears : (n : ℕ) (s z : StateOf) → DoesMoves (clearings n s.life) s z → z ≡ moved s z → Tidied (clearings n s.life) s z
 by_clears n s z d e = record { does = d; all = all_cleared (take n s.life.frames.free); same = e }
 
-by_writes : (n : ℕ) (s z : StateOf) → DoesMoves (writes_begun n s.life s.life.frames.modified) s z → z ≡ moved s z → Tidied (writes_begun n s.life s.life.frames.modified) s z
+pub by_writes : (n : ℕ) (s z : StateOf) → DoesMoves (writes_begun n s.life s.life.frames.modified) s z → z ≡ moved s z → Tidied (writes_begun n s.life s.life.frames.modified) s z
 by_writes n s z d e = record { does = d; all = all_begun n s.life s.life.frames.modified; same = e }
-
-pub trim_store : (pid : Pid) (n : ℕ) (s z : StateOf) (o : OwnOf) → StateHolds s → StateHolds z → Trimmed pid n s z → store_of z o ≡ record (store_of s o) { report = rearranged (report_of s o) (report_of z o) }
-trim_store pid n s z o h g t = store_now t.moves s z o (by_trim pid n s z t) h g
-
-pub trim_kept : (pid : Pid) (n : ℕ) (s z : StateOf) (o : OwnOf) → StoreKept s o → s.life.kind ≡ kind.Trim pid → Trimmed pid n s z → StoreKept z o
-trim_kept pid n s z o k e t = kept_now t.moves s z o (by_trim pid n s z t) k (ap is_touch e)
 
 pub trim_passes : (pid : Pid) (n : ℕ) (s z : StateOf) (o u : OwnOf) → Trimmed pid n s z → Passes (Trims pid n) (store_of s o) (store_of z u) (behind_of s) (behind_of z)
 trim_passes pid n s z o u t = passes_of (Trims pid n) t.moves s z o u t.does (record { each = t.each; count = t.count; moved = record { waits = t.does.waits; ages = t.does.ages }; slots = ap (λ (x : StateOf). x.slots) t.same })
 
-pub zero_store : (n : ℕ) (s z : StateOf) (o : OwnOf) → StateHolds s → StateHolds z → DoesMoves (clearings n s.life) s z → z ≡ moved s z → store_of z o ≡ record (store_of s o) { report = rearranged (report_of s o) (report_of z o) }
-zero_store n s z o h g d e = store_now (clearings n s.life) s z o (by_clears n s z d e) h g
-
-pub zero_kept : (n : ℕ) (s z : StateOf) (o : OwnOf) → StoreKept s o → s.life.kind ≡ kind.Zeroer → DoesMoves (clearings n s.life) s z → z ≡ moved s z → StoreKept z o
-zero_kept n s z o k i d e = kept_now (clearings n s.life) s z o (by_clears n s z d e) k (ap is_touch i)
-
 pub zero_passes : (n : ℕ) (s z : StateOf) (o u : OwnOf) → DoesMoves (clearings n s.life) s z → z ≡ moved s z → Passes (Clears n) (store_of s o) (store_of z u) (behind_of s) (behind_of z)
 zero_passes n s z o u d e = passes_of (Clears n) (clearings n s.life) s z o u d (record { are = refl; moved = record { waits = d.waits; ages = d.ages }; slots = ap (λ (x : StateOf). x.slots) e })
-
-pub write_store : (n : ℕ) (s z : StateOf) (o : OwnOf) → StateHolds s → StateHolds z → DoesMoves (writes_begun n s.life s.life.frames.modified) s z → z ≡ moved s z → store_of z o ≡ record (store_of s o) { report = rearranged (report_of s o) (report_of z o) }
-write_store n s z o h g d e = store_now (writes_begun n s.life s.life.frames.modified) s z o (by_writes n s z d e) h g
-
-pub write_kept : (n : ℕ) (s z : StateOf) (o : OwnOf) → StoreKept s o → s.life.kind ≡ kind.Writer → DoesMoves (writes_begun n s.life s.life.frames.modified) s z → z ≡ moved s z → StoreKept z o
-write_kept n s z o k i d e = kept_now (writes_begun n s.life s.life.frames.modified) s z o (by_writes n s z d e) k (ap is_touch i)
 
 pub write_passes : (n : ℕ) (s z : StateOf) (o u : OwnOf) → DoesMoves (writes_begun n s.life s.life.frames.modified) s z → z ≡ moved s z → Passes (WritesOut n) (store_of s o) (store_of z u) (behind_of s) (behind_of z)
 write_passes n s z o u d e = passes_of (WritesOut n) (writes_begun n s.life s.life.frames.modified) s z o u d (record { are = refl; moved = record { waits = d.waits; ages = d.ages }; slots = ap (λ (x : StateOf). x.slots) e })

@@ -1,15 +1,10 @@
 -- The record of a frame after a move.
-use Rattle.std.proofs.Common.{◌≡◌, ℕ, zero, suc, ◌≤◌, Bool, true, false, cond, List, [], ◌∷◌, ◌++◌, Option, Some, None, refl, sym, ap, ◌∙◌, inl, inr, ◌⊎◌}
-use Rattle.std.specs.Prelude.{◌&&◌, ◌||◌, if◌then◌else◌, is_some, slice_set, slice_index_or}
-use Rattle.mm_types.specs.declared.frames.Record.{Record}
-use Rattle.mm_types.specs.declared.frames.Request.TheVariants as request
+use Rattle.std.proofs.Common.{◌≡◌, ℕ, zero, suc, Bool, true, false, cond, List, [], ◌∷◌, ◌++◌, Option, Some, None, refl, sym, ap, ◌∙◌, inl, inr, ◌⊎◌}
+use Rattle.std.specs.Prelude.{if◌then◌else◌, is_some, slice_set, slice_index_or}
+use Rattle.mm_types.specs.{Record, Frame, Key, Place}
 use Rattle.mm_types.specs.declared.moves.Move.TheVariants as move
-use Rattle.mm_types.specs.declared.numbers.Frame.{Frame}
-use Rattle.mm_types.specs.declared.numbers.Key.{Key}
-use Rattle.mm_types.specs.declared.numbers.Place.{Place}
-use Rattle.mm_life.specs.Frames.{FrameTable, blank, record_at, is_read, is_idle, being_read, shared, unshared, soiled, settled, settled_by, with_record, taken_for_read, read_done, to_free}
-use Rattle.mm_life.specs.Life.{FrameLife}
-use Rattle.mm_life.specs.Effect.{after_move, after_unmap_at, backing_of}
+use Rattle.mm_life.specs.{FrameTable, blank, record_at, is_read, is_idle, being_read, shared, unshared, settled, settled_by, with_record}
+use Rattle.mm_life.specs.{taken_for_read, read_done, to_free, FrameLife, after_move, after_unmap_at, backing_of}
 
 -- the record is the new one, or no frame has this number
 pub set_there : (xs : List Record) (f : ℕ) (r : Record) → (slice_index_or (slice_set xs f r) f blank ≡ r) ⊎ ((slice_index_or (slice_set xs f r) f blank ≡ blank) × (slice_index_or xs f blank ≡ blank))
@@ -31,16 +26,15 @@ read_begun l m f k j e o = elim (set_there (taken_for_read l.frames).records f.0
   | inr h ↦ let bad : None ≡ Some j = sym (ap (λ (r : Record). r.owner) h.0) ∙ sym (ap (λ (x : FrameLife). (record_at x.frames f.0).owner) e) ∙ o in cc
 ]
 
--- ---- a page that is soiled
-
 -- ---- a place that is valid no more
 
-request_set : (xs : List Record) (f g : ℕ) (r : Record) → r.request ≡ (slice_index_or xs f blank).request → (slice_index_or (slice_set xs f r) g blank).request ≡ (slice_index_or xs g blank).request
-request_set [] f g r e = refl
-request_set (x ∷ xs) zero zero r e = e
-request_set (x ∷ xs) zero (suc g) r e = refl
-request_set (x ∷ xs) (suc f) zero r e = refl
-request_set (x ∷ xs) (suc f) (suc g) r e = request_set xs f g r e
+-- what is looked at in the records, where one changes
+pub look_set : {A : Type 0} (look : Record → A) (xs : List Record) (f g : ℕ) (r : Record) → look r ≡ look (slice_index_or xs f blank) → look (slice_index_or (slice_set xs f r) g blank) ≡ look (slice_index_or xs g blank)
+look_set look [] f g r e = refl
+look_set look (x ∷ xs) zero zero r e = e
+look_set look (x ∷ xs) zero (suc g) r e = refl
+look_set look (x ∷ xs) (suc f) zero r e = refl
+look_set look (x ∷ xs) (suc f) (suc g) r e = look_set look xs f g r e
 
 pub settled_record : (t : Record) (d : FrameTable) (f g : ℕ) → record_at (settled_by t d f) g ≡ record_at d g
 settled_record t d f g = at (is_idle t) t.changed
@@ -57,7 +51,7 @@ unmap_requests l m p g e = ap (λ (x : FrameLife). (record_at x.frames g).reques
     at None = refl
     at (Some f) =
         let d = with_record l.frames f.0 (unshared (record_at l.frames f.0)) in
-        ap (λ (r : Record). r.request) (settled_record (record_at d f.0) d f.0 g) ∙ request_set l.frames.records f.0 g (unshared (record_at l.frames f.0)) refl
+        ap (λ (r : Record). r.request) (settled_record (record_at d f.0) d f.0 g) ∙ look_set (λ (x : Record). x.request) l.frames.records f.0 g (unshared (record_at l.frames f.0)) refl
 
 -- ---- a read that has ended
 

@@ -1,25 +1,18 @@
 -- The report's counts, by the device calls that moves stand for.
 use Rattle.std.proofs.Common.{◌≡◌, Bool, true, false, List, [], ◌∷◌, ◌++◌, refl, sym, ap, ◌∙◌}
 use Rattle.std.specs.Prelude.{map, if◌then◌else◌}
-use Rattle.mm_types.specs.declared.devices.Direction.{Direction}
+use Rattle.mm_types.specs.{Direction, Backing, Move}
 use Rattle.mm_types.specs.declared.devices.Direction.TheVariants as way
-use Rattle.mm_types.specs.declared.frames.Backing.{Backing}
 use Rattle.mm_types.specs.declared.frames.Backing.TheVariants as backing
-use Rattle.mm_types.specs.declared.moves.Move.{Move}
 use Rattle.mm_types.specs.declared.moves.Move.TheVariants as move
-use Rattle.mm_blocks.specs.declared.device_calls.DeviceCall.{DeviceCall}
-use Rattle.mm_blocks.specs.Traffic.{same_direction}
-use Rattle.mm_life.specs.Frames.{record_at}
-use Rattle.mm_life.specs.Life.{FrameLife}
-use Rattle.mm_life.specs.Effect.{after_move}
-use Rattle.mm_world.specs.Report.{Tally}
-use Rattle.mm_blocks.specs.Devices.{Call, logged_call}
-use Rattle.mm_pages.specs.Tallies.{with_outcome, with_call, tallied}
-use Rattle.mm_pages.specs.Reports.{Served}
-use Rattle.mm_pages.specs.Told.{Told, told_after, told_through, with_read, with_write, in_slot, in_block, call_of, calls_of}
-use Rattle.mm_moving.specs.Shown.{StateOf}
-use Rattle.mm_moving.specs.Doing.{DoesMoves}
-use Rattle.mm_paged.specs.Shown.{OwnOf, store_of}
+use Rattle.mm_blocks.specs.{DeviceCall, same_direction, Call, logged_call}
+use Rattle.mm_life.specs.{record_at, FrameLife, after_move}
+use Rattle.mm_world.specs.{Tally}
+use Rattle.mm_pages.specs.{with_outcome, with_call, tallied, Served, told_after, told_through, with_read, with_write, in_slot, in_block, call_of}
+use Rattle.mm_pages.specs.{calls_of}
+use Rattle.mm_pages.specs.Told.{Told}
+use Rattle.mm_moving.specs.{StateOf, DoesMoves}
+use Rattle.mm_paged.specs.{OwnOf, store_of}
 
 abbrev pub counted : Direction → List DeviceCall → Tally → Tally
 counted d [] t = t
@@ -66,13 +59,11 @@ pub record One (w : Direction) (ok : Bool) (b : Backing) (t v : Told) : Type 0 w
 
 one_read : (ok : Bool) (b : Backing) (t : Told) → One way.Read ok b t (with_read ok b t)
 one_read ok backing.None t = record { paging_reads = refl; paging_writes = refl; file_reads = refl; file_writes = refl }
-one_read ok (backing.Slot s) t = record { paging_reads = refl; paging_writes = refl; file_reads = refl; file_writes = refl }
-one_read ok (backing.Block s) t = record { paging_reads = refl; paging_writes = refl; file_reads = refl; file_writes = refl }
+one_read ok b t = record { paging_reads = refl; paging_writes = refl; file_reads = refl; file_writes = refl }
 
 one_write : (ok : Bool) (b : Backing) (t : Told) → One way.Write ok b t (with_write ok b t)
 one_write ok backing.None t = record { paging_reads = refl; paging_writes = refl; file_reads = refl; file_writes = refl }
-one_write ok (backing.Slot s) t = record { paging_reads = refl; paging_writes = refl; file_reads = refl; file_writes = refl }
-one_write ok (backing.Block s) t = record { paging_reads = refl; paging_writes = refl; file_reads = refl; file_writes = refl }
+one_write ok b t = record { paging_reads = refl; paging_writes = refl; file_reads = refl; file_writes = refl }
 
 pub counts_all : (ms : List Move) (l : FrameLife) (t : Told) → InLine ms → Counts l ms t (told_through l ms t)
 counts_all [] l t h = record { paging_reads = refl; paging_writes = refl; file_reads = refl; file_writes = refl }

@@ -1,37 +1,27 @@
 -- What is told of moves, of the store's report and of what stands behind it.
 use Rattle.std.proofs.Common.{◌≡◌, ℕ, ◌+◌, ◌≤◌, ◌<◌, inl, inr, Bool, true, List, [], ◌∷◌, ◌++◌, None, refl, sym, ap, ◌∙◌, subst, arith}
 use Rattle.std.specs.Prelude.{length, Option}
-use Rattle.mm_types.specs.Machine.{limit_of}
-use Rattle.mm_types.specs.declared.frames.Held.{Held}
+use Rattle.mm_types.specs.{limit_of, Held, Move, LineKind, Key, Place}
 use Rattle.mm_types.specs.declared.frames.Held.TheVariants as held
-use Rattle.mm_laws.proofs.Owners.{key_or_not, changed_here, changed_else}
-use Rattle.mm_types.specs.declared.moves.Move.{Move}
+use Rattle.mm_laws.proofs.{key_or_not, changed_here, changed_else}
 use Rattle.mm_types.specs.declared.moves.Move.TheVariants as move
-use Rattle.mm_types.specs.declared.moves.LineKind.{LineKind}
 use Rattle.mm_types.specs.declared.moves.LineKind.TheVariants as kind
-use Rattle.mm_types.specs.declared.numbers.Key.{Key}
 use Rattle.mm_types.specs.declared.numbers.Key.TheVariants.{Private, Shared}
-use Rattle.mm_life.specs.Life.{FrameLife, same_key}
-use Rattle.mm_life.specs.Logs.{Log}
-use Rattle.mm_life.specs.Effect.{after_move}
-use Rattle.mm_world.specs.Failure.{same_key as same_in_world}
-use Rattle.mm_life.specs.Waits.{Waiting, waits_after, ages_after, wait_of}
-use Rattle.mm_types.specs.declared.numbers.Place.{Place}
+use Rattle.mm_life.specs.{FrameLife, same_key, Log, after_move, Waiting, waits_after, ages_after, wait_of}
+use Rattle.mm_world.specs.{same_key as same_in_world}
 use Rattle.mm_pages.specs.Behind.{Behind}
-use Rattle.mm_pages.specs.Conditions.{IsLineKind, pid_after}
-use Rattle.mm_pages.specs.Housekeeping.{OneMove, Turns, MakesFrom, number_of}
-use Rattle.mm_pages.specs.Passing.{Passes}
-use Rattle.mm_pages.specs.Reports.{begun, rearranged}
-use Rattle.mm_pages.specs.Standing.{block_at, backed_by}
-use Rattle.mm_pages.specs.Store.{changed}
-use Rattle.mm_pages.specs.Told.{Told, none_told}
-use Rattle.mm_moving.specs.Shown.{StateOf, Made, moved}
-use Rattle.mm_moving.specs.Doing.{DoesMoves}
-use Rattle.mm_paged.specs.Shown.{OwnOf, report_of, store_of, behind_of}
-use Rattle.mm_moving.proofs.Doing.{does_one}
+use Rattle.mm_pages.specs.{IsLineKind, pid_after, OneMove, Turns, MakesFrom, number_of, Passes, begun, rearranged, block_at, backed_by, changed}
+use Rattle.mm_pages.specs.{none_told}
+use Rattle.mm_pages.specs.Told.{Told}
+use Rattle.mm_moving.specs.{StateOf, Made, moved, DoesMoves}
+use Rattle.mm_paged.specs.{OwnOf, report_of, store_of, behind_of}
+use Rattle.mm_moving.proofs.{does_one, does_nothing}
+use Rattle.mm_paged.proofs.Keeping.{with_told}
 
-pub passes_of : (That : Behind → List Move → Behind → Type 0) (moves : List Move) (s z : StateOf) (o u : OwnOf) → DoesMoves moves s z → That (behind_of s) moves (behind_of z) → Passes That (store_of s o) (store_of z u) (behind_of s) (behind_of z)
-passes_of That moves s z o u d t = record {
+-- moves, and then a change of what no move tells of: places, names, bytes, ages and waits
+pub passes_beside : (That : Behind → List Move → Behind → Type 0) (moves : List Move) (s y z : StateOf) (o u : OwnOf) (b : Place → Bool) (n : Place → Option Key) (c : Key → Option (List ℕ)) (a : Place → ℕ) (w : ℕ → Waiting) → DoesMoves moves s y
+    → z ≡ record y { bound = b; names = n; contents = c; ages = a; waits = w } → That (behind_of s) moves (behind_of (record y { ages = a; waits = w })) → Passes That (store_of s o) (store_of z u) (behind_of s) (behind_of z)
+passes_beside That moves s y z o u b n c a w d e t = subst (λ (x : StateOf). Passes That (store_of s o) (store_of x u) (behind_of s) (behind_of x)) (sym e) (record {
   moves = moves;
   in_range = d.in_range;
   grew = d.grew;
@@ -46,7 +36,15 @@ passes_of That moves s z o u d t = record {
   files_are = d.files_are;
   slots_kept = d.slots_kept;
   blocks_kept = d.blocks_kept;
-}
+})
+
+pub passes_of : (That : Behind → List Move → Behind → Type 0) (moves : List Move) (s z : StateOf) (o u : OwnOf) → DoesMoves moves s z → That (behind_of s) moves (behind_of z) → Passes That (store_of s o) (store_of z u) (behind_of s) (behind_of z)
+passes_of That moves s z o u d t = passes_beside That moves s z z o u z.bound z.names z.contents z.ages z.waits d refl t
+
+-- no move
+pub none_passes : (That : Behind → List Move → Behind → Type 0) (s z : StateOf) (o u : OwnOf) (c : Key → Option (List ℕ)) (a : Place → ℕ) (w : ℕ → Waiting) → z ≡ record s { contents = c; ages = a; waits = w }
+    → That (behind_of s) [] (behind_of (record s { ages = a; waits = w })) → Passes That (store_of s o) (store_of z u) (behind_of s) (behind_of z)
+none_passes That s z o u c a w e t = passes_beside That [] s s z o u s.bound s.names c a w (does_nothing s) e t
 
 -- one move that the store's call is
 pub one_passes : (x : Move) (s z : StateOf) (o u : OwnOf) → Made x s z → z.slots ≡ s.slots → Passes (OneMove x) (store_of s o) (store_of z u) (behind_of s) (behind_of z)
@@ -93,21 +91,13 @@ added_store s z o k c a dead m e =
       line = l.line;
       kind = l.kind;
       last_pid = length l.sets;
-      report = record (report_of z o) { counts = (report_of z o).counts; whereabouts = (report_of z o).whereabouts };
+      report = report_of z o;
     }) m.life
     ∙ (λ i. record (store_of s o) {
       paging = changed_keys s.life.paging k true i;
       paging_keys = s.life.paging_keys + 1;
       block_of = λ q. added_block s k q dead i;
-      report = record (rearranged (report_of s o) (report_of z o)) {
-        paging_reads = (m.told i).paging_reads;
-        paging_writes = (m.told i).paging_writes;
-        file_reads = (m.told i).file_reads;
-        file_writes = (m.told i).file_writes;
-        last_failed_read = (m.told i).last_failed_read;
-        search_writes = (m.told i).search_writes;
-        wait = λ tid. wait_of (m.waits i tid);
-      };
+      report = with_told (record (report_of z o) { wait = λ tid. wait_of (m.waits i tid) }) (m.told i);
     })
 
 -- ---- a line
@@ -128,15 +118,8 @@ IsBegunAs s o n k z = store_of z (begun_own o) ≡ record (store_of s o) { line 
 line_begun : (s : StateOf) (o : OwnOf) (log : Log) (n : ℕ) (k : LineKind) → IsLineKind (store_of s o) k → IsBegunAs s o n k (line_at s log n k)
 line_begun s o log n (kind.Machine a b c d) h = absurd h
 line_begun s o log n (kind.Process pid min max) h = let e = h.next in ap (λ (p : ℕ). record (store_of s o) { line = n; kind = kind.Process pid min max; last_pid = p; ready = None; report = begun (store_of s o).report }) (length-snoc _ _ ∙ sym e)
-line_begun s o log n (kind.Unbind pid) h = refl
-line_begun s o log n (kind.Access pid) h = refl
-line_begun s o log n (kind.Thread pid) h = refl
-line_begun s o log n (kind.Trim pid) h = refl
-line_begun s o log n kind.Writer h = refl
-line_begun s o log n kind.Zeroer h = refl
-line_begun s o log n kind.Io h = refl
-line_begun s o log n kind.Call h = refl
 line_begun s o log n (kind.Grow count) h = absurd h
+line_begun s o log n k h = refl
 
 pub line_store : (s z : StateOf) (o : OwnOf) (n : ℕ) (k : LineKind) → IsLineKind (store_of s o) k → Made (move.At n k) s z → z ≡ moved s z → IsBegunAs s o n k z
 line_store s z o n k h m e = subst (λ (x : StateOf). IsBegunAs s o n k x) (sym whole) (line_begun s o z.log n k h)

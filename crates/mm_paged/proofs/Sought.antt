@@ -1,72 +1,117 @@
--- A search, as a piece of an access whose place is not valid, and whose page has no frame.
-use Rattle.std.proofs.Common.{◌≡◌, ℕ, Bool, true, false, List, [], ◌∷◌, Option, Some, None, refl, sym, ap, ◌∙◌, subst, arith, inl, ◌⊎◌}
-use Rattle.std.specs.Prelude.{◌&&◌, ◌||◌, not, if◌then◌else◌}
-use Rattle.mm_life.specs.Frames.{is_on}
+-- A search, as a piece of an access: without a pinned frame where its place is not valid and its page has no frame, and while the frame of its place is pinned where it makes a copy.
+use Rattle.std.proofs.Common.{◌≡◌, ℕ, Bool, true, false, List, [], ◌∷◌, Option, Some, None, refl, sym, ap, ◌∙◌, subst, arith, inl}
+use Rattle.std.specs.Prelude.{◌&&◌, ◌||◌, not, if◌then◌else◌, ◌==◌, option_map, unwrap_or}
+use Rattle.mm_life.specs.{is_on, FrameLife, same_place, is_live, is_dead, key_of_place, is_short, after_move, after_unmap_at, Replays, Walk, Through}
+use Rattle.mm_life.specs.{walked, walked_all, SearchMove, Starved, IsVictim, may_go, is_unpinned}
 use Rattle.mm_types.specs.declared.faults.PageFault.TheVariants as fault
-use Rattle.mm_types.specs.declared.frames.Held.{Held}
-use Rattle.mm_types.specs.declared.moves.Move.{Move}
+use Rattle.mm_types.specs.{Held, Move, Frame, Key, Place}
 use Rattle.mm_types.specs.declared.moves.Move.TheVariants as move
 use Rattle.mm_types.specs.declared.moves.Stored.TheVariants as stored
-use Rattle.mm_types.specs.declared.numbers.Frame.{Frame}
-use Rattle.mm_types.specs.declared.numbers.Key.{Key}
-use Rattle.mm_types.specs.declared.numbers.Place.{Place}
-use Rattle.mm_life.specs.Life.{FrameLife, same_place}
-use Rattle.mm_life.specs.Legal.{is_short}
-use Rattle.mm_life.specs.Effect.{after_move, after_unmap_at}
-use Rattle.mm_life.specs.Replay.{Replays}
-use Rattle.mm_world.specs.Failure.{Need}
-use Rattle.mm_pages.specs.Accesses.{Aim, AccessMove, InShortage}
-use Rattle.mm_pages.specs.Shortage.{is_framed, is_shortage}
-use Rattle.mm_life.specs.Walks.{Walk, Through, walked, walked_all}
-use Rattle.mm_life.specs.Searches.{SearchMove, Starved}
-use Rattle.mm_life.specs.Order.{IsVictim}
-use Rattle.mm_moving.specs.Shown.{StateOf, moved_with_call}
-use Rattle.mm_moving.specs.Doing.{Searched, walk_of}
-use Rattle.mm_paged.specs.Pieces.{Sought, Stuck, AccessBegins, KeepsButNames, Fails}
+use Rattle.mm_world.specs.{Need}
+use Rattle.mm_pages.specs.{Aim, AccessMove, InShortage, is_framed, is_shortage}
+use Rattle.mm_moving.specs.{StateOf, Searched, walk_of, IsFlightOf}
+use Rattle.mm_paged.specs.{Sought, Stuck, AccessBegins, KeepsButNames, Fails, LifeKept, Pins, Spares}
+use Rattle.std.specs.Cmp.{unsigned_Decides}
+use Rattle.mm_laws.proofs.{same_place-true}
+use Rattle.mm_paged.proofs.InFlight.{flight_same}
+use Rattle.mm_paged.proofs.Keeping.{kept_same, kept_then, kept_unmap, kept_within}
+use Rattle.mm_paged.proofs.Placing.{unmapped_stands}
+use Rattle.mm_paged.proofs.FaultSteps.{called_on}
 
--- what a search leaves
-pub record Leaves (l m : FrameLife) : Type 0 where
+-- ---- what it leaves
+
+-- a place that is valid in the pinned frame stays so, as does one that is not valid where none is pinned
+record Left (pin : Option Frame) (l m : FrameLife) : Type 0 where
+  pub life : LifeKept l m
   pub stands : m.stands ≡ l.stands
-  pub kind : m.kind ≡ l.kind
-  pub unmapped : (p : Place) → l.valid p ≡ None → m.valid p ≡ None
+  pub valid : (p : Place) → l.valid p ≡ pin → m.valid p ≡ pin
 
-leaves_same : (l : FrameLife) → Leaves l l
-leaves_same l = record { stands = refl; kind = refl; unmapped = λ p e. e }
+left_same : (pin : Option Frame) (l : FrameLife) → Left pin l l
+left_same pin l = record { life = kept_same l; stands = refl; valid = λ p e. e }
 
-leaves_then : (l m n : FrameLife) → Leaves l m → Leaves m n → Leaves l n
-leaves_then l m n p q = record { stands = q.stands ∙ p.stands; kind = q.kind ∙ p.kind; unmapped = λ x e. q.unmapped x (p.unmapped x e) }
+left_then : (pin : Option Frame) (l m n : FrameLife) → Left pin l m → Left pin m n → Left pin l n
+left_then pin l m n p q = record { life = kept_then l m n p.life q.life; stands = q.stands ∙ p.stands; valid = λ x e. q.valid x (p.valid x e) }
 
-gone : (b : Bool) (o : Option Frame) → o ≡ None → (if b then None else o) ≡ None
-gone true o e = refl
-gone false o e = e
+-- a page that may go is in no pinned frame
+none_pinned : (pin o : Option Frame) → is_unpinned pin o ≡ true → o ≡ pin → pin ≡ None
+none_pinned None o u e = refl
+none_pinned (Some f) o u e =
+    let same : (f.0 == f.0) ≡ true = (unsigned_Decides f.0 f.0).1 refl in
+    let bad : false ≡ true = ap not (sym same) ∙ sym (ap (is_unpinned (Some f)) e) ∙ u in
+    cc
 
-leaves_unmap : (l : FrameLife) (p : Place) (o : Option Frame) → Leaves l (after_unmap_at o l p)
-leaves_unmap l p None = leaves_same l
-leaves_unmap l p (Some f) = record { stands = refl; kind = refl; unmapped = λ x e. gone (same_place x p) (l.valid x) e }
+unmap_stays : (pin : Option Frame) (l : FrameLife) (p q : Place) (o : Option Frame) → (same_place q p ≡ true → pin ≡ None) → l.valid q ≡ pin → (after_unmap_at o l p).valid q ≡ pin
+unmap_stays pin l p q None n v = v
+unmap_stays pin l p q (Some f) n v = at (same_place q p) n
+  where
+    at : (b : Bool) → (b ≡ true → pin ≡ None) → (if b then None else l.valid q) ≡ pin
+    at true none = sym (none refl)
+    at false none = v
 
-leaves_one : (pin : Option Frame) (flight : List ℕ) (w : Walk) (m : Move) (ms : List Move) → SearchMove pin flight w m ms → Leaves w.life (after_move w.life m)
-leaves_one pin flight w (move.Write f (stored.Slot s)) ms h = record { stands = refl; kind = refl; unmapped = λ p e. e }
-leaves_one pin flight w (move.Write f (stored.Block b)) ms h = record { stands = refl; kind = refl; unmapped = λ p e. e }
-leaves_one pin flight w (move.Wrote f) ms h = record { stands = refl; kind = refl; unmapped = λ p e. e }
-leaves_one pin flight w (move.Lost f) ms h = record { stands = refl; kind = refl; unmapped = λ p e. e }
-leaves_one pin flight w (move.Unmap p) ms h = leaves_unmap w.life p (w.life.valid p)
-leaves_one pin flight w (move.At n k) ms h = absurd h
-leaves_one pin flight w (move.Add k b) ms h = absurd h
-leaves_one pin flight w (move.Drop k) ms h = absurd h
-leaves_one pin flight w (move.Clear f) ms h = absurd h
-leaves_one pin flight w (move.Steal f) ms h = absurd h
-leaves_one pin flight w (move.Give f k) ms h = absurd h
-leaves_one pin flight w (move.Read f k) ms h = absurd h
-leaves_one pin flight w (move.Got f) ms h = absurd h
-leaves_one pin flight w (move.Bad f) ms h = absurd h
-leaves_one pin flight w (move.Map f p) ms h = absurd h
-leaves_one pin flight w (move.Soil f) ms h = absurd h
+left_unmap : (pin : Option Frame) (l : FrameLife) (p : Place) → may_go l pin p ≡ true → Left pin l (after_move l (move.Unmap p))
+left_unmap pin l p g = record {
+  life = kept_unmap l p (l.valid p);
+  stands = unmapped_stands l p (l.valid p);
+  valid = λ q v. unmap_stays pin l p q (l.valid p) (λ e. none_pinned pin (l.valid p) g (ap l.valid (sym (same_place-true q p e)) ∙ v)) v;
+}
 
-leaves_all : (pin : Option Frame) (flight : List ℕ) (ms : List Move) (w : Walk) (m : FrameLife) → Through (SearchMove pin flight) w ms → Replays ms w.life m → Leaves w.life m
-leaves_all pin flight [] w m h r = subst (λ (l : FrameLife). Leaves w.life l) (sym r) (leaves_same w.life)
-leaves_all pin flight (x ∷ xs) w m h r = leaves_then w.life (after_move w.life x) m (leaves_one pin flight w x xs h.0) (leaves_all pin flight xs (walked w x) m h.1 r.1)
+left_one : (pin : Option Frame) (flight : List ℕ) (w : Walk) (m : Move) (ms : List Move) → SearchMove pin flight w m ms → Left pin w.life (after_move w.life m)
+left_one pin flight w (move.Write f (stored.Slot s)) ms h = record { life = kept_within w.life (move.Write f (stored.Slot s)) tt; stands = refl; valid = λ p e. e }
+left_one pin flight w (move.Write f (stored.Block b)) ms h = record { life = kept_within w.life (move.Write f (stored.Block b)) tt; stands = refl; valid = λ p e. e }
+left_one pin flight w (move.Wrote f) ms h = record { life = kept_within w.life (move.Wrote f) tt; stands = refl; valid = λ p e. e }
+left_one pin flight w (move.Lost f) ms h = record { life = kept_within w.life (move.Lost f) tt; stands = refl; valid = λ p e. e }
+left_one pin flight w (move.Unmap p) ms h = left_unmap pin w.life p h.2.oldest.goes
+left_one pin flight w m ms h = absurd h
+
+left_all : (pin : Option Frame) (flight : List ℕ) (ms : List Move) (w : Walk) (m : FrameLife) → Through (SearchMove pin flight) w ms → Replays ms w.life m → Left pin w.life m
+left_all pin flight [] w m h r = subst (λ (l : FrameLife). Left pin w.life l) (sym r) (left_same pin w.life)
+left_all pin flight (x ∷ xs) w m h r = left_then pin w.life (after_move w.life x) m (left_one pin flight w x xs h.0) (left_all pin flight xs (walked w x) m h.1 r.1)
+
+search_left : (pin : Option Frame) (found : Bool) (s z : StateOf) → Searched pin found s z → Left pin s.life z.life
+search_left pin found s z h = left_all pin s.life.flight h.moves (walk_of s) z.life (h.each s.life.flight (flight_same s.life.flight pin s.life refl)) h.does.replays
 
 -- ---- each move is one of the access
+
+module _ (pin : Option Frame) (a : Aim) (stands : Key → Held) (wants : (l : FrameLife) → l.stands ≡ stands → is_short l ≡ true → is_shortage a.need l ≡ true) where
+  access_one : (w : Walk) (m : Move) (ms : List Move) → w.life.stands ≡ stands → w.life.valid a.place ≡ pin → SearchMove pin a.start.flight w m ms → AccessMove a w m ms
+  access_one w (move.Write f s) ms e v h = (wants w.life e h.0, h.1, h.2)
+  access_one w (move.Wrote f) ms e v h = h
+  access_one w (move.Lost f) ms e v h = h
+  access_one w (move.Unmap p) ms e v h = InShortage (wants w.life e h.0) h.1 (subst (λ (o : Option Frame). IsVictim w.life w.ages o p) (sym v) h.2)
+  access_one w m ms e v h = absurd h
+
+  access_all : (ms : List Move) (w : Walk) → w.life.stands ≡ stands → w.life.valid a.place ≡ pin → Through (SearchMove pin a.start.flight) w ms → Through (AccessMove a) w ms
+  access_all [] w e v h = tt
+  access_all (x ∷ xs) w e v h =
+      let left = left_one pin a.start.flight w x xs h.0 in
+      (access_one w x xs e v h.0, access_all xs (walked w x) (left.stands ∙ e) (left.valid a.place v) h.1)
+
+-- a search that an access makes, of a page that wants a frame
+record Seeks (pin : Option Frame) (a : Aim) (s : StateOf) : Type 0 where
+  wants : (l : FrameLife) → l.stands ≡ s.life.stands → is_short l ≡ true → is_shortage a.need l ≡ true
+  at : s.life.valid a.place ≡ pin
+  flight : IsFlightOf a.start.flight pin s.life
+
+search_each : (pin : Option Frame) (a : Aim) (found : Bool) (s z : StateOf) → Seeks pin a s → (h : Searched pin found s z) → Through (AccessMove a) (walk_of s) h.moves
+search_each pin a found s z k h = access_all pin a s.life.stands k.wants h.moves (walk_of s) refl k.at (h.each a.start.flight k.flight)
+
+sought_in : (pin : Option Frame) (a : Aim) (s z : StateOf) → Seeks pin a s → Searched pin true s z → Sought a s z
+sought_in pin a s z k h = record { moves = h.moves; does = h.does; each = search_each pin a true s z k h; none = h.no_read; one = h.one }
+
+stuck_in : (pin : Option Frame) (a : Aim) (s z : StateOf) → Seeks pin a s → Searched pin false s z → Stuck a fault.NoFrame 0 s z
+stuck_in pin a s z k h = record {
+  moves = h.moves;
+  does = h.does;
+  each = search_each pin a false s z k h;
+  few_reads = let e = h.no_read in omega (arith, e);
+  few_writes = let e = h.lost refl in omega (arith, e);
+  starved = λ e. subst (λ (o : Option Frame). Starved o (walked_all (walk_of s) h.moves)) (sym ((search_left pin false s z h).valid a.place k.at)) (h.starved refl);
+}
+
+pub search_as : (pin : Option Frame) (r b : Bool) (s z : StateOf) → r ≡ b → Searched pin r s z → Searched pin b s z
+search_as pin r b s z e h = subst (λ (x : Bool). Searched pin x s z) e h
+
+-- ---- without a pinned frame
 
 short_of : (n : Need) (l : FrameLife) → is_short l ≡ true → is_framed (l.stands n.key) ≡ false → is_shortage n l ≡ true
 short_of n l s f = at (is_short l) (is_framed (l.stands n.key)) _ s f
@@ -76,58 +121,21 @@ short_of n l s f = at (is_short l) (is_framed (l.stands n.key)) _ s f
     at true true d p q = cc
     at false c d p q = cc
 
-access_one : (a : Aim) (w : Walk) (m : Move) (ms : List Move) → is_framed (w.life.stands a.need.key) ≡ false → w.life.valid a.place ≡ None → SearchMove None a.start.flight w m ms → AccessMove a w m ms
-access_one a w (move.Write f s) ms u v h = (short_of a.need w.life h.0 u, h.1, h.2)
-access_one a w (move.Wrote f) ms u v h = h
-access_one a w (move.Lost f) ms u v h = h
-access_one a w (move.Unmap p) ms u v h = InShortage (short_of a.need w.life h.0 u) h.1 (subst (λ (o : Option Frame). IsVictim w.life w.ages o p) (sym v) h.2)
-access_one a w (move.At n k) ms u v h = absurd h
-access_one a w (move.Add k b) ms u v h = absurd h
-access_one a w (move.Drop k) ms u v h = absurd h
-access_one a w (move.Clear f) ms u v h = absurd h
-access_one a w (move.Steal f) ms u v h = absurd h
-access_one a w (move.Give f k) ms u v h = absurd h
-access_one a w (move.Read f k) ms u v h = absurd h
-access_one a w (move.Got f) ms u v h = absurd h
-access_one a w (move.Bad f) ms u v h = absurd h
-access_one a w (move.Map f p) ms u v h = absurd h
-access_one a w (move.Soil f) ms u v h = absurd h
-
-access_all : (a : Aim) (ms : List Move) (w : Walk) → is_framed (w.life.stands a.need.key) ≡ false → w.life.valid a.place ≡ None → Through (SearchMove None a.start.flight) w ms → Through (AccessMove a) w ms
-access_all a [] w u v h = tt
-access_all a (x ∷ xs) w u v h =
-    let k = leaves_one None a.start.flight w x xs h.0 in
-    (access_one a w x xs u v h.0, access_all a xs (walked w x) (ap (λ (s : Key → Held). is_framed (s a.need.key)) k.stands ∙ u) (k.unmapped a.place v) h.1)
-
--- ---- of a search of the joined state
-
-pub search_leaves : (found : Bool) (s z : StateOf) → Searched None found s z → Leaves s.life z.life
-search_leaves found s z h = leaves_all None [] h.moves (walk_of s) z.life (h.each [] (λ f e. cc)) h.does.replays
-
-flight_of : (a : Aim) (l : FrameLife) → a.start ≡ l → (f : Frame) → is_on f.0 a.start.flight ≡ true → (is_on f.0 l.flight ≡ true) ⊎ (None ≡ Some f)
-flight_of a l e f h = inl (ap (λ (x : FrameLife). is_on f.0 x.flight) (sym e) ∙ h)
-
-search_each : (a : Aim) (k : Key) (found : Bool) (s z : StateOf) → is_framed (s.life.stands k) ≡ false → AccessBegins a k s → (h : Searched None found s z) → Through (AccessMove a) (walk_of s) h.moves
-search_each a k found s z u b h = access_all a h.moves (walk_of s) (ap (λ (j : Key). is_framed (s.life.stands j)) b.needs ∙ u) b.at (h.each a.start.flight (flight_of a s.life b.from))
+seeks_by : (a : Aim) (k : Key) (s : StateOf) → is_framed (s.life.stands k) ≡ false → AccessBegins a k s → Seeks None a s
+seeks_by a k s u b = record {
+  wants = λ l e h. short_of a.need l h (ap (λ (x : Key → Held). is_framed (x a.need.key)) e ∙ ap (λ (j : Key). is_framed (s.life.stands j)) b.needs ∙ u);
+  at = b.at;
+  flight = λ f h. inl (ap (λ (x : FrameLife). is_on f.0 x.flight) (sym b.from) ∙ h);
+}
 
 pub sought_by : (a : Aim) (k : Key) (s z : StateOf) → is_framed (s.life.stands k) ≡ false → AccessBegins a k s → Searched None true s z → Sought a s z
-sought_by a k s z u b h = record {
-  moves = h.moves;
-  does = h.does;
-  each = search_each a k true s z u b h;
-  none = h.no_read;
-  one = h.one;
-}
+sought_by a k s z u b h = sought_in None a s z (seeks_by a k s u b) h
 
 pub stuck_by : (a : Aim) (k : Key) (s z : StateOf) → is_framed (s.life.stands k) ≡ false → AccessBegins a k s → Searched None false s z → Stuck a fault.NoFrame 0 s z
-stuck_by a k s z u b h = record {
-  moves = h.moves;
-  does = h.does;
-  each = search_each a k false s z u b h;
-  few_reads = let e = h.no_read in omega (arith, e);
-  few_writes = let e = h.lost refl in omega (arith, e);
-  starved = λ e. subst (λ (o : Option Frame). Starved o (walked_all (walk_of s) h.moves)) (sym ((search_leaves false s z h).unmapped a.place b.at)) (h.starved refl);
-}
+stuck_by a k s z u b h = stuck_in None a s z (seeks_by a k s u b) h
+
+pub search_stands : (found : Bool) (s z : StateOf) → Searched None found s z → z.life.stands ≡ s.life.stands
+search_stands found s z h = (search_left None found s z h).stands
 
 pub search_fails : (k : Key) (s z : StateOf) → is_framed (s.life.stands k) ≡ false → Searched None false s z → Fails fault.NoFrame k s z
 search_fails k s z u h = record {
@@ -136,20 +144,45 @@ search_fails k s z u h = record {
   short = λ e. h.short refl;
   failed = λ e. h.fails refl;
   none = λ e n. h.none refl ∙ n;
-  unframed = λ e. ap (λ (x : Key → Held). is_framed (x k)) (search_leaves false s z h).stands ∙ u;
+  unframed = λ e. ap (λ (x : Key → Held). is_framed (x k)) (search_stands false s z h) ∙ u;
   fault = h.fault refl;
   same = h.same;
 }
 
-pub search_stands : (found : Bool) (s z : StateOf) → Searched None found s z → z.life.stands ≡ s.life.stands
-search_stands found s z h = (search_leaves found s z h).stands
-
-pub search_as : (r b : Bool) (s z : StateOf) → r ≡ b → Searched None r s z → Searched None b s z
-search_as r b s z e h = subst (λ (x : Bool). Searched None x s z) e h
-
 pub search_keeps : (found : Bool) (s z : StateOf) → Searched None found s z → KeepsButNames s z
-search_keeps found s z h = let l = search_leaves found s z h in record {
-  kind = l.kind;
-  unmapped = l.unmapped;
-  same = h.same ∙ ap (λ (n : Place → Option Key). record (moved_with_call s z) { names = n }) (sym (ap (λ (x : StateOf). x.names) h.same));
+search_keeps found s z h = let l = search_left None found s z h in record {
+  kind = l.life.kind;
+  unmapped = l.valid;
+  same = called_on s z h.same;
 }
+
+-- ---- while the frame of the access's own place is pinned
+
+copy_wanted : (o : Option Key) (k : Key) (l : FrameLife) → o ≡ Some k → is_live l k ≡ false → unwrap_or (option_map (λ k. not (is_live l k)) o) false ≡ true
+copy_wanted o k l e d = ap (λ (x : Option Key). unwrap_or (option_map (λ k. not (is_live l k)) x) false) e ∙ ap not d
+
+short_copy : (n : Need) (k : Key) (l : FrameLife) → is_short l ≡ true → n.copy ≡ Some k → is_live l k ≡ false → is_shortage n l ≡ true
+short_copy n k l s e d = at (is_short l) (is_framed (l.stands n.key)) _ s (copy_wanted n.copy k l e d)
+  where
+    at : (b c x : Bool) → b ≡ true → x ≡ true → (b && (not c || x)) ≡ true
+    at true true x p q = q
+    at true false x p q = refl
+    at false c x p q = cc
+
+seeks_pinned : (a : Aim) (place : Place) (f : Frame) (s : StateOf) → Pins a place f s → Seeks (Some f) a s
+seeks_pinned a place f s p = record {
+  wants = λ l e h. short_copy a.need (key_of_place place) l h p.copy (ap (λ (x : Key → Held). not (is_dead (x (key_of_place place)))) e ∙ p.dead);
+  at = ap s.life.valid p.at ∙ p.valid;
+  flight = p.flight;
+}
+
+pub search_spares : (pinned : Frame) (found : Bool) (s z : StateOf) → Searched (Some pinned) found s z → Spares pinned s z
+search_spares pinned found s z h =
+    let left = search_left (Some pinned) found s z h in
+    record { life = left.life; stands = left.stands; valid = left.valid; read = h.read; same = h.same }
+
+pub sought_pinned : (a : Aim) (place : Place) (f : Frame) (s z : StateOf) → Pins a place f s → Searched (Some f) true s z → Sought a s z
+sought_pinned a place f s z p h = sought_in (Some f) a s z (seeks_pinned a place f s p) h
+
+pub stuck_pinned : (a : Aim) (place : Place) (f : Frame) (s z : StateOf) → Pins a place f s → Searched (Some f) false s z → Stuck a fault.NoFrame 0 s z
+stuck_pinned a place f s z p h = stuck_in (Some f) a s z (seeks_pinned a place f s p) h

@@ -1,42 +1,30 @@
 -- How an access of a thread begins: its pieces, and why it waits.
 use Rattle.std.proofs.Common.{◌≡◌, ℕ, Bool, true, false, List, [], ◌∷◌, Option, Some, None, refl, sym, ap, ◌∙◌, arith, inl, inr, ◌⊎◌, length}
 use Rattle.std.specs.Prelude.{not, is_some, ◌&&◌, ◌==◌, nat_le, nat_lt, if◌then◌else◌}
-use Rattle.mm_types.specs.declared.answers.Why.{Why}
+use Rattle.mm_types.specs.{Why, Held, LineKind, Frame, Key, Place}
 use Rattle.mm_types.specs.declared.answers.Why.TheVariants as why
-use Rattle.mm_types.specs.declared.frames.Held.{Held}
 use Rattle.mm_types.specs.declared.frames.Held.TheVariants as held
-use Rattle.mm_types.specs.declared.moves.LineKind.{LineKind}
 use Rattle.mm_types.specs.declared.moves.LineKind.TheVariants as kind
 use Rattle.mm_types.specs.declared.moves.Move.TheVariants as move
-use Rattle.mm_types.specs.declared.numbers.Frame.{Frame}
-use Rattle.mm_types.specs.declared.numbers.Key.{Key}
-use Rattle.mm_types.specs.declared.numbers.Place.{Place}
-use Rattle.mm_life.specs.Frames.{record_at, is_read, is_empty}
-use Rattle.mm_life.specs.Life.{FrameLife}
-use Rattle.mm_life.specs.Legal.{is_zero, is_stored, is_short, is_thread, is_access, has_depth, fits_place}
-use Rattle.mm_laws.proofs.Owners.{changed_here}
-use Rattle.mm_world.specs.Report.{Whereabouts, InFrame, BeingRead, AtZero, InStore, is_short as report_is_short}
-use Rattle.mm_world.specs.Failure.{is_being_read, is_in_store}
-use Rattle.mm_pages.specs.Accesses.{Aim}
-use Rattle.mm_pages.specs.Conditions.{waits_at_once}
-use Rattle.mm_pages.specs.Shortage.{is_framed}
-use Rattle.mm_pages.specs.Standing.{where_of}
-use Rattle.mm_pages.specs.declared.outcomes.Need.{Need}
+use Rattle.mm_life.specs.{record_at, is_read, is_empty, FrameLife, changed, same_place, is_zero, is_stored, is_short, is_thread, is_access, has_depth}
+use Rattle.mm_life.specs.{fits_place}
+use Rattle.mm_laws.proofs.{changed_here}
+use Rattle.mm_world.specs.{Whereabouts, InFrame, BeingRead, AtZero, InStore, is_short as report_is_short, is_being_read, is_in_store}
+use Rattle.mm_pages.specs.{Aim, waits_at_once, is_framed, where_of, Need, Start}
 use Rattle.mm_pages.specs.declared.outcomes.Need.TheVariants as need
-use Rattle.mm_pages.specs.declared.outcomes.Start.{Start}
 use Rattle.mm_pages.specs.declared.outcomes.Start.TheVariants as start
-use Rattle.mm_parts.specs.Moves.{front, front_for_read}
-use Rattle.mm_moving.specs.Shown.{StateOf, Made, moved, moved_with_call}
-use Rattle.mm_moving.specs.Holds.{StateHolds}
-use Rattle.mm_moving.proofs.Doing.{does_one, does_two}
-use Rattle.mm_paged.specs.Pieces.{Went, TookFrame, ReadsFor, IsFor, KeepsButNames, NamesFor, Placed}
-use Rattle.mm_paged.specs.Shown.{OwnOf, report_of}
-use Rattle.mm_paged.specs.Started.{AimsAt, AccessBegun, IsBeingRead, ReadBegins, answered}
+use Rattle.mm_parts.specs.{front, front_for_read}
+use Rattle.mm_moving.specs.{StateOf, Made, moved, moved_with_call, StateHolds}
+use Rattle.mm_moving.proofs.{does_one}
+use Rattle.mm_paged.specs.{Went, TookFrame, ReadsFor, IsFor, KeepsButNames, NamesFor, Placed, OwnOf, report_of, AimsAt, AccessBegun, IsBeingRead}
+use Rattle.mm_paged.specs.{ReadBegins, answered, reason_at_once, needs_copy}
 use Rattle.mm_paged.proofs.Doing.{went_then, went_nothing, sought_took, sought_nothing}
 use Rattle.mm_paged.proofs.Bringing.{went_more, absent}
 use Rattle.mm_paged.proofs.Reading.{named_by}
 use Rattle.mm_paged.proofs.Records.{read_begun}
-use Rattle.mm_paged.proofs.Taking.{front_read}
+use Rattle.mm_paged.proofs.Taking.{front_read, took_front}
+use Rattle.mm_paged.proofs.FaultSteps.{called_on}
+use Rattle.mm_reclaim.proofs.{moved_called}
 
 -- ---- why it waits at once
 
@@ -58,18 +46,13 @@ where_framed : (k : Key) (f : Frame) (b : Bool) (s : StateOf) → s.life.stands 
 where_framed k f b s e q = ap (where_of s.life) e ∙ ap (λ (c : Bool). Some (if c then BeingRead else InFrame)) q
 
 where_zero : (l : FrameLife) (h : Held) → is_zero h ≡ true → where_of l h ≡ Some AtZero
-where_zero l (held.Frame f) e = cc
-where_zero l (held.Slot s) e = cc
-where_zero l (held.Block b) e = cc
 where_zero l held.Zero e = refl
-where_zero l held.Dead e = cc
+where_zero l h e = cc
 
 where_stored : (l : FrameLife) (h : Held) → is_stored h ≡ true → where_of l h ≡ Some InStore
-where_stored l (held.Frame f) e = cc
 where_stored l (held.Slot s) e = refl
 where_stored l (held.Block b) e = refl
-where_stored l held.Zero e = cc
-where_stored l held.Dead e = cc
+where_stored l h e = cc
 
 none_long : (xs : List ℕ) → (length xs == 0) ≡ is_empty xs
 none_long [] = refl
@@ -96,144 +79,98 @@ once_stored k s o short e d h = once_where (Some InStore) k s o (where_stored s.
 
 -- ---- pages that have a frame
 
--- its page is valid already
-pub begun_here : (k : Key) (f : Frame) (place : Place) (s : StateOf) → StateHolds s → s.life.valid place ≡ Some f → (s.names place ≡ None) ⊎ (s.names place ≡ Some k) → AccessBegun need.Touch k place start.Ready s s
-begun_here k f place s h v n = record {
-  went = λ a e. went_nothing a 1 s;
-  names = inl refl;
-  slots = refl;
-  blocks = refl;
-  same = refl;
-  valid = λ e. ap is_some v;
-  room = λ e c. cc;
-  at_once = λ o. once_where (Some InFrame) k s o (where_framed k f false s (h.of_frame k f (h.named place f v ∙ named_by (s.names place) k (h.owned place f v) n)) (h.unread place f v));
+-- what it did, whatever it answers
+record Came (k : Key) (place : Place) (s z : StateOf) : Type 0 where
+  went : (a : Aim) → AimsAt a k place s → Went a 1 s z
+  names : (z.names ≡ s.names) ⊎ (z.names ≡ changed same_place s.names place (Some k))
+  slots : z.slots ≡ s.slots
+  blocks : z.blocks ≡ s.blocks
+  same : z ≡ record (moved_with_call s z) { names = z.names }
+
+came_nowhere : (k : Key) (place : Place) (s : StateOf) → Came k place s s
+came_nowhere k place s = record { went = λ a e. went_nothing a 1 s; names = inl refl; slots = refl; blocks = refl; same = refl }
+
+begun_ready : (n : Need) (k : Key) (place : Place) (s z : StateOf) → Came k place s z → is_some (z.life.valid place) ≡ true → (needs_copy n ≡ true → is_short z.life ≡ false) → ((o : OwnOf) → waits_at_once s.life.machine.depth k (report_of s o) ≡ None) → AccessBegun n k place start.Ready s z
+begun_ready n k place s z m valid room once = record {
+  went = m.went;
+  names = m.names;
+  slots = m.slots;
+  blocks = m.blocks;
+  same = m.same;
+  valid = λ e. valid;
+  room = λ e. room;
+  at_once = once;
   reading = λ e. cc;
   short = λ e. cc;
   wanting = λ e. cc;
 }
 
-pub begun_reading : (k : Key) (f : Frame) (place : Place) (s : StateOf) → s.life.stands k ≡ held.Frame f → is_read (record_at s.life.frames f.0).request ≡ true → AccessBegun need.Touch k place (start.Pending why.Read) s s
-begun_reading k f place s t r = record {
-  went = λ a e. went_nothing a 1 s;
-  names = inl refl;
-  slots = refl;
-  blocks = refl;
-  same = refl;
+begun_pending : (n : Need) (k : Key) (place : Place) (w : Why) (s z : StateOf) → Came k place s z → ((o : OwnOf) → waits_at_once s.life.machine.depth k (report_of s o) ≡ reason_at_once (start.Pending w))
+    → (start.Pending w ≡ start.Pending why.Read → IsBeingRead k z) → (start.Pending w ≡ start.Pending why.Frame → is_short z.life ≡ true) → (start.Pending w ≡ start.Pending why.Frame → (is_framed (z.life.stands k) ≡ false) ⊎ (needs_copy n ≡ true)) → AccessBegun n k place (start.Pending w) s z
+begun_pending n k place w s z m once reading short wanting = record {
+  went = m.went;
+  names = m.names;
+  slots = m.slots;
+  blocks = m.blocks;
+  same = m.same;
   valid = λ e. cc;
   room = λ e c. cc;
-  at_once = λ o. once_where (Some BeingRead) k s o (where_framed k f true s t r);
-  reading = λ e. (f, t, r);
-  short = λ e. cc;
-  wanting = λ e. cc;
+  at_once = once;
+  reading = reading;
+  short = short;
+  wanting = wanting;
 }
+
+-- its page is valid already
+pub begun_here : (k : Key) (f : Frame) (place : Place) (s : StateOf) → StateHolds s → s.life.valid place ≡ Some f → (s.names place ≡ None) ⊎ (s.names place ≡ Some k) → AccessBegun need.Touch k place start.Ready s s
+begun_here k f place s h v n = begun_ready need.Touch k place s s (came_nowhere k place s) (ap is_some v) (λ c. cc)
+    (λ o. once_where (Some InFrame) k s o (where_framed k f false s (h.of_frame k f (h.named place f v ∙ named_by (s.names place) k (h.owned place f v) n)) (h.unread place f v)))
+
+pub begun_reading : (k : Key) (f : Frame) (place : Place) (s : StateOf) → s.life.stands k ≡ held.Frame f → is_read (record_at s.life.frames f.0).request ≡ true → AccessBegun need.Touch k place (start.Pending why.Read) s s
+begun_reading k f place s t r = begun_pending need.Touch k place why.Read s s (came_nowhere k place s) (λ o. once_where (Some BeingRead) k s o (where_framed k f true s t r)) (λ e. (f, t, r)) (λ e. cc) (λ e. cc)
 
 pub begun_put : (k : Key) (f : Frame) (place : Place) (s z : StateOf) → s.life.stands k ≡ held.Frame f → is_read (record_at s.life.frames f.0).request ≡ false → ((a : Aim) → a.place ≡ place → Went a 0 s z) → Placed k f place s z
     → (z.slots ≡ s.slots) × (z.blocks ≡ s.blocks) → AccessBegun need.Touch k place start.Ready s z
-begun_put k f place s z t r w p b = record {
-  went = λ a e. went_more a 0 1 s z (omega arith) (w a e.at);
-  names = inr p.names;
-  slots = b.0;
-  blocks = b.1;
-  same = p.same;
-  valid = λ e. ap is_some p.valid;
-  room = λ e c. cc;
-  at_once = λ o. once_where (Some InFrame) k s o (where_framed k f false s t r);
-  reading = λ e. cc;
-  short = λ e. cc;
-  wanting = λ e. cc;
-}
+begun_put k f place s z t r w p b = begun_ready need.Touch k place s z
+    (record { went = λ a e. went_more a 0 1 s z (omega arith) (w a e.at); names = inr p.names; slots = b.0; blocks = b.1; same = p.same })
+    (ap is_some p.valid) (λ c. cc) (λ o. once_where (Some InFrame) k s o (where_framed k f false s t r))
 
 -- ---- demand-zero pages
 
 pub begun_given : (k : Key) (g : Frame) (place : Place) (s y z : StateOf) → is_zero (s.life.stands k) ≡ true → ((a : Aim) → IsFor a k → TookFrame a 0 s y) → ((a : Aim) → a.place ≡ place → Went a 0 y z) → KeepsButNames s y → NamesFor k s y → fits_place place k ≡ true
     → Placed k g place y z → (y.slots ≡ s.slots) × (y.blocks ≡ s.blocks) → (z.slots ≡ y.slots) × (z.blocks ≡ y.blocks) → AccessBegun need.Touch k place start.Ready s z
-begun_given k g place s y z t took w keeps n fits p b c = record {
-  went = λ a e. went_more a 0 1 s z (omega arith) (went_then a 0 0 s y z (sought_took a 0 s s y (sought_nothing a s) (took a (inl (sym e.needs)))) (w a e.at));
-  names = inr (p.names ∙ n place (Some k) fits);
-  slots = c.0 ∙ b.0;
-  blocks = c.1 ∙ b.1;
-  same = p.same ∙ ap (λ (x : StateOf). record (moved_with_call x z) { names = z.names }) keeps.same;
-  valid = λ e. ap is_some p.valid;
-  room = λ e c. cc;
-  at_once = λ o. once_where (Some AtZero) k s o (where_zero s.life (s.life.stands k) t);
-  reading = λ e. cc;
-  short = λ e. cc;
-  wanting = λ e. cc;
-}
+begun_given k g place s y z t took w keeps n fits p b c = begun_ready need.Touch k place s z
+    (record {
+      went = λ a e. went_more a 0 1 s z (omega arith) (went_then a 0 0 s y z (sought_took a 0 s s y (sought_nothing a s) (took a (inl (sym e.needs)))) (w a e.at));
+      names = inr (p.names ∙ n place (Some k) fits);
+      slots = c.0 ∙ b.0;
+      blocks = c.1 ∙ b.1;
+      same = p.same ∙ ap (λ (x : StateOf). record (moved_with_call x z) { names = z.names }) keeps.same;
+    })
+    (ap is_some p.valid) (λ c. cc) (λ o. once_where (Some AtZero) k s o (where_zero s.life (s.life.stands k) t))
 
 zero_unframed : (h : Held) → is_zero h ≡ true → is_framed h ≡ false
 zero_unframed (held.Frame f) e = cc
-zero_unframed (held.Slot s) e = refl
-zero_unframed (held.Block b) e = refl
-zero_unframed held.Zero e = refl
-zero_unframed held.Dead e = refl
+zero_unframed h e = refl
 
 pub begun_starved : (k : Key) (place : Place) (s : StateOf) → is_zero (s.life.stands k) ≡ true → is_short s.life ≡ true → AccessBegun need.Touch k place (start.Pending why.Frame) s s
-begun_starved k place s t h = record {
-  went = λ a e. went_nothing a 1 s;
-  names = inl refl;
-  slots = refl;
-  blocks = refl;
-  same = refl;
-  valid = λ e. cc;
-  room = λ e c. cc;
-  at_once = λ o. once_where (Some AtZero) k s o (where_zero s.life (s.life.stands k) t);
-  reading = λ e. cc;
-  short = λ e. h;
-  wanting = λ e. inl (zero_unframed (s.life.stands k) t);
-}
+begun_starved k place s t h = begun_pending need.Touch k place why.Frame s s (came_nowhere k place s) (λ o. once_where (Some AtZero) k s o (where_zero s.life (s.life.stands k) t)) (λ e. cc) (λ e. h) (λ e. inl (zero_unframed (s.life.stands k) t))
 
 -- ---- pages on a device
 
 stored_unframed : (h : Held) → is_stored h ≡ true → is_framed h ≡ false
 stored_unframed (held.Frame f) e = cc
-stored_unframed (held.Slot s) e = refl
-stored_unframed (held.Block b) e = refl
-stored_unframed held.Zero e = refl
-stored_unframed held.Dead e = refl
+stored_unframed h e = refl
 
 pub begun_full : (k : Key) (place : Place) (s : StateOf) → is_stored (s.life.stands k) ≡ true → has_depth s.life ≡ false → AccessBegun need.Touch k place (start.Pending why.Full) s s
-begun_full k place s t d = record {
-  went = λ a e. went_nothing a 1 s;
-  names = inl refl;
-  slots = refl;
-  blocks = refl;
-  same = refl;
-  valid = λ e. cc;
-  room = λ e c. cc;
-  at_once = λ o. once_full k s o t d;
-  reading = λ e. cc;
-  short = λ e. cc;
-  wanting = λ e. cc;
-}
+begun_full k place s t d = begun_pending need.Touch k place why.Full s s (came_nowhere k place s) (λ o. once_full k s o t d) (λ e. cc) (λ e. cc) (λ e. cc)
 
 pub begun_short : (k : Key) (place : Place) (s : StateOf) → is_stored (s.life.stands k) ≡ true → has_depth s.life ≡ true → is_short s.life ≡ true → AccessBegun need.Touch k place (start.Pending why.Frame) s s
-begun_short k place s t d h = record {
-  went = λ a e. went_nothing a 1 s;
-  names = inl refl;
-  slots = refl;
-  blocks = refl;
-  same = refl;
-  valid = λ e. cc;
-  room = λ e c. cc;
-  at_once = λ o. once_stored k s o true t d h;
-  reading = λ e. cc;
-  short = λ e. h;
-  wanting = λ e. inl (stored_unframed (s.life.stands k) t);
-}
+begun_short k place s t d h = begun_pending need.Touch k place why.Frame s s (came_nowhere k place s) (λ o. once_stored k s o true t d h) (λ e. cc) (λ e. h) (λ e. inl (stored_unframed (s.life.stands k) t))
 
 no_access : (k : LineKind) → is_thread k ≡ true → is_access k ≡ true → ⊥
 no_access (kind.Machine a b c d) t e = cc
-no_access (kind.Process pid min max) t e = cc
-no_access (kind.Unbind pid) t e = cc
-no_access (kind.Access pid) t e = cc
-no_access (kind.Thread pid) t e = cc
-no_access (kind.Trim pid) t e = cc
-no_access kind.Writer t e = cc
-no_access kind.Zeroer t e = cc
-no_access kind.Io t e = cc
-no_access kind.Call t e = cc
-no_access (kind.Grow n) t e = cc
+no_access k t e = cc
 
 -- a read begins in a thread's line, and stays in flight
 took_read : (a : Aim) (f : Frame) (k : Key) (s z : StateOf) → is_thread s.life.kind ≡ true → Made (move.Read f k) s z → ReadsFor a k → TookFrame a 1 s z
@@ -247,16 +184,11 @@ took_read a f k s z t m h = record {
 }
 
 took_steal_read : (a : Aim) (f : Frame) (k : Key) (s y z : StateOf) → is_thread s.life.kind ≡ true → is_empty s.life.frames.free ≡ true → Made (move.Steal (front s.life.frames.standby)) s y → f ≡ front_for_read y.life → Made (move.Read f k) y z → ReadsFor a k → TookFrame a 1 s z
+unfolding took_read
 took_steal_read a f k s y z t none p e m h =
     let d = front s.life.frames.standby in
-    record {
-      moves = move.Steal d ∷ move.Read f k ∷ [];
-      does = does_two (move.Steal d) (move.Read f k) s y z p m;
-      each = λ w. (inl (e ∙ front_read s.life y.life d p.life none), ((sym h.needs, h.absent, λ x. absurd (no_access s.life.kind t x)), tt));
-      fresh = λ w. refl;
-      few_reads = omega arith;
-      paid = omega arith;
-    }
+    let read = took_read a f k y z (ap (λ (l : FrameLife). is_thread l.kind) p.life ∙ t) m h in
+    took_front a (move.Steal d) s y z p (λ w. refl) refl refl 1 read (λ w. inl (e ∙ front_read s.life y.life d p.life none))
 
 pub reads_free : (k : Key) (s z : StateOf) → is_thread s.life.kind ≡ true → Made (move.Read (front_for_read s.life) k) s z → z ≡ moved s z → ReadBegins k s z
 reads_free k s z t m e = record { frame = front_for_read s.life; mid = s; made = m; took = λ a h. took_read a (front_for_read s.life) k s z t m h; same = e }
@@ -279,63 +211,26 @@ being_read k s z h r =
     (r.frame, t, read_begun r.mid.life z.life r.frame k k r.made.life (h.owner k r.frame t))
 
 pub begun_read : (k : Key) (place : Place) (s z : StateOf) → StateHolds z → is_stored (s.life.stands k) ≡ true → has_depth s.life ≡ true → is_short s.life ≡ false → ReadBegins k s z → AccessBegun need.Touch k place (start.Pending why.Read) s z
-begun_read k place s z h t d n r = record {
-  went = λ a e. sought_took a 1 s s z (sought_nothing a s) (r.took a (reads_for a k place s e t));
-  names = inl (ap (λ (x : StateOf). x.names) r.same);
-  slots = ap (λ (x : StateOf). x.slots) r.same;
-  blocks = ap (λ (x : StateOf). x.blocks) r.same;
-  same = r.same ∙ ap (λ (x : StateOf). record (moved s z) { names = x.names; paging = x.paging; files = x.files; slots = x.slots; blocks = x.blocks }) (sym r.same);
-  valid = λ e. cc;
-  room = λ e c. cc;
-  at_once = λ o. once_stored k s o false t d n;
-  reading = λ e. being_read k s z h r;
-  short = λ e. cc;
-  wanting = λ e. cc;
-}
+begun_read k place s z h t d n r = begun_pending need.Touch k place why.Read s z
+    (record {
+      went = λ a e. sought_took a 1 s s z (sought_nothing a s) (r.took a (reads_for a k place s e t));
+      names = inl (ap (λ (x : StateOf). x.names) r.same);
+      slots = ap (λ (x : StateOf). x.slots) r.same;
+      blocks = ap (λ (x : StateOf). x.blocks) r.same;
+      same = called_on s z (moved_called s z r.same);
+    })
+    (λ o. once_stored k s o false t d n) (λ e. being_read k s z h r) (λ e. cc) (λ e. cc)
 
 -- ---- a frame for a copy
+
+came_of : (n : Need) (k : Key) (place : Place) (r : Start) (s z : StateOf) → AccessBegun n k place r s z → Came k place s z
+came_of n k place r s z h = record { went = h.went; names = h.names; slots = h.slots; blocks = h.blocks; same = h.same }
 
 pub begun_with_frame : (n : Need) (k : Key) (place : Place) (r : Start) (s z : StateOf) → AccessBegun need.Touch k place r s z → AccessBegun n k place (answered n r (is_short z.life)) s z
 begun_with_frame need.Touch k place r s z h = h
 begun_with_frame need.Copy k place start.Ready s z h = at (is_short z.life) refl
   where
     at : (b : Bool) → is_short z.life ≡ b → AccessBegun need.Copy k place (answered need.Copy start.Ready b) s z
-    at true e = record {
-      went = h.went;
-      names = h.names;
-      slots = h.slots;
-      blocks = h.blocks;
-      same = h.same;
-      valid = λ q. cc;
-      room = λ q c. cc;
-      at_once = h.at_once;
-      reading = λ q. cc;
-      short = λ q. e;
-      wanting = λ q. inr refl;
-    }
-    at false e = record {
-      went = h.went;
-      names = h.names;
-      slots = h.slots;
-      blocks = h.blocks;
-      same = h.same;
-      valid = h.valid;
-      room = λ q c. e;
-      at_once = h.at_once;
-      reading = λ q. cc;
-      short = λ q. cc;
-      wanting = λ q. cc;
-    }
-begun_with_frame need.Copy k place (start.Pending w) s z h = record {
-  went = h.went;
-  names = h.names;
-  slots = h.slots;
-  blocks = h.blocks;
-  same = h.same;
-  valid = h.valid;
-  room = λ q c. cc;
-  at_once = h.at_once;
-  reading = h.reading;
-  short = h.short;
-  wanting = λ q. inr refl;
-}
+    at true e = begun_pending need.Copy k place why.Frame s z (came_of need.Touch k place start.Ready s z h) h.at_once (λ q. cc) (λ q. e) (λ q. inr refl)
+    at false e = begun_ready need.Copy k place s z (came_of need.Touch k place start.Ready s z h) (h.valid refl) (λ c. e) h.at_once
+begun_with_frame need.Copy k place (start.Pending w) s z h = begun_pending need.Copy k place w s z (came_of need.Touch k place (start.Pending w) s z h) h.at_once h.reading h.short (λ q. inr refl)

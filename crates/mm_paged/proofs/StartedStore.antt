@@ -1,44 +1,25 @@
 -- What the store shows once an access of a thread has begun.
 use Rattle.std.proofs.Common.{◌≡◌, ℕ, ◌≤◌, Bool, true, false, Option, Some, None, refl, sym, ap, ◌∙◌, subst, inl, inr, ◌⊎◌}
 use Rattle.std.specs.Prelude.{not, is_some, is_none, ◌||◌, ◌==◌, if◌then◌else◌}
-use Rattle.mm_types.specs.Machine.{limit_of}
-use Rattle.mm_types.specs.declared.answers.Wait.{Wait}
-use Rattle.mm_types.specs.declared.answers.Why.{Why}
+use Rattle.mm_types.specs.{Wait, Why, Held, LineKind, Key, Place}
 use Rattle.mm_types.specs.declared.answers.Why.TheVariants as why
-use Rattle.mm_types.specs.declared.frames.Held.{Held}
-use Rattle.mm_types.specs.declared.moves.LineKind.{LineKind}
-use Rattle.mm_types.specs.declared.numbers.Key.{Key}
-use Rattle.mm_types.specs.declared.numbers.Place.{Place}
-use Rattle.mm_life.specs.Life.{counts_of}
-use Rattle.mm_life.specs.Legal.{is_thread, is_touch}
-use Rattle.mm_world.specs.Report.{Whereabouts, BeingRead, InFrame}
-use Rattle.mm_world.specs.Failure.{pending, still_needs_frame, has_frame}
-use Rattle.mm_pages.specs.Accesses.{Aim, Starts, wait_begun}
-use Rattle.mm_pages.specs.Conditions.{touch, copying, need_for, wait_after}
-use Rattle.mm_pages.specs.Passing.{Passes}
-use Rattle.mm_pages.specs.Reports.{started, no_calls}
-use Rattle.mm_pages.specs.Shortage.{is_framed}
-use Rattle.mm_pages.specs.Standing.{where_of}
-use Rattle.mm_pages.specs.Store.{Ready, changed, own_key}
+use Rattle.mm_life.specs.{is_thread, is_touch, Waiting, wait_of}
+use Rattle.mm_world.specs.{Whereabouts, BeingRead, InFrame, pending, still_needs_frame, has_frame}
+use Rattle.mm_pages.specs.{Aim, Starts, wait_begun, touch, copying, need_for, wait_after, Passes, started, no_calls, fetched, is_framed, where_of}
+use Rattle.mm_pages.specs.{Ready, changed, own_key, Need, Start}
 use Rattle.mm_pages.specs.Told.{Told}
-use Rattle.mm_pages.specs.declared.outcomes.Need.{Need}
 use Rattle.mm_pages.specs.declared.outcomes.Need.TheVariants as need
-use Rattle.mm_pages.specs.declared.outcomes.Start.{Start}
 use Rattle.mm_pages.specs.declared.outcomes.Start.TheVariants as start
-use Rattle.mm_life.specs.Waits.{Waiting, wait_of}
-use Rattle.mm_moving.specs.Shown.{StateOf}
-use Rattle.mm_moving.specs.Holds.{StateHolds}
-use Rattle.mm_moving.specs.Doing.{walk_of}
-use Rattle.mm_paged.specs.Pieces.{Went, LifeKept}
-use Rattle.mm_paged.specs.Shown.{OwnOf, StoreKept, report_of, store_of, behind_of}
-use Rattle.mm_paged.specs.Started.{AccessBegun, IsBeingRead, needs_copy, ready_after}
+use Rattle.mm_moving.specs.{StateOf, StateHolds, walk_of}
+use Rattle.mm_paged.specs.{Went, LifeKept, OwnOf, StoreKept, report_of, store_of, behind_of, AccessBegun, IsBeingRead, needs_copy, ready_after}
 use Rattle.mm_paged.proofs.Ending.{aim_at}
-use Rattle.mm_paged.proofs.Keeping.{kept_all, blocks_kept}
+use Rattle.mm_paged.proofs.Keeping.{kept_all, blocks_kept, fetched_by, with_told}
 use Rattle.mm_paged.proofs.Quiet.{Rests, rests_through, thread_touches}
 use Rattle.mm_paged.proofs.Reading.{unframed_has}
 use Rattle.mm_paged.proofs.Started.{shown_short}
 use Rattle.mm_paged.proofs.Unmoved.{stands_nowhere}
-use Rattle.mm_types.proofs.Booleans.{or_true, both}
+use Rattle.mm_types.proofs.{or_true, both}
+use Rattle.mm_paged.proofs.Shows.{passes_beside}
 
 -- ---- what stays
 
@@ -59,46 +40,19 @@ waiting y w = record y { waits = w }
 
 shown_started : (n : Need) (k : Key) (place : Place) (r : Start) (s y : StateOf) (w : ℕ → Waiting) (o u : OwnOf) → AccessBegun n k place r s y → is_thread s.life.kind ≡ true → s.told.search_writes ≡ no_calls → StateHolds s → StateHolds (waiting y w)
     → u.extended ≡ o.extended → u.blocks_used ≡ o.blocks_used → store_of (waiting y w) u ≡ started (store_of s o) (store_of (waiting y w) u)
-shown_started n k place r s y w o u h t e hs hz ext used = λ i. record {
-  machine = life.machine i;
-  is_open = ap (λ (x : StateOf). x.is_open) h.same i;
-  areas = ap (λ (x : StateOf). x.areas) h.same i;
-  bound = ap (λ (x : StateOf). x.bound) h.same i;
-  names = y.names;
-  paging = life.paging i;
-  paging_keys = life.keys i;
-  room = limit_of (life.machine i);
-  block_of = λ q. blocks_kept s (waiting y w) moves.moves hs hz moves.does.replays life.paging (ap (λ (x : StateOf). x.contents) h.same) q i;
-  blocks_used = used i;
-  file_blocks = h.blocks i;
-  line = life.line i;
-  kind = life.kind i;
-  last_pid = life.pids i;
-  ready = u.ready;
-  report = record {
-    paging_reads = (rests.told i).paging_reads;
-    paging_writes = (rests.told i).paging_writes;
-    file_reads = (rests.told i).file_reads;
-    file_writes = (rests.told i).file_writes;
-    last_failed_read = (rests.told i).last_failed_read;
-    search_writes = (rests.told i).search_writes;
-    counts = counts_of y.life;
-    whereabouts = λ q. where_of y.life (y.life.stands q);
-    wait = λ tid. wait_of (w tid);
-    extended = ext i;
-  };
-  paging_device = rests.paging i;
-  file_device = rests.files i;
-}
-  where
-    life : LifeKept s.life y.life
-    life = begun_life n k place r s y h
-
-    rests : Rests s y
-    rests = begun_rests n k place r s y h t e
-
-    moves : Went (aim_at false k place s) 1 s y
-    moves = went_plain n k place r s y h
+shown_started n k place r s y w o u h t e hs hz ext used =
+    let life = begun_life n k place r s y h in
+    let rests = begun_rests n k place r s y h t e in
+    let moves = went_plain n k place r s y h in
+    fetched_by s (waiting y w) o u life (blocks_kept s (waiting y w) moves.moves hs hz moves.does.replays life.paging (ap (λ (x : StateOf). x.contents) h.same))
+    (ap (λ (x : StateOf). x.is_open) h.same) (ap (λ (x : StateOf). x.areas) h.same) (ap (λ (x : StateOf). x.bound) h.same) ext used
+    ∙ (λ i. record (fetched (store_of s o) (store_of (waiting y w) u)) {
+      names = y.names;
+      file_blocks = h.blocks i;
+      report = with_told (record (report_of (waiting y w) u) { extended = o.extended }) (rests.told i);
+      paging_device = rests.paging i;
+      file_device = rests.files i;
+    })
 
 pub started_store : (n : Need) (k : Key) (place : Place) (r : Start) (s y z : StateOf) (w : ℕ → Waiting) (o u : OwnOf) → AccessBegun n k place r s y → z ≡ waiting y w → is_thread s.life.kind ≡ true → s.told.search_writes ≡ no_calls → StateHolds s → StateHolds z
     → u.extended ≡ o.extended → u.blocks_used ≡ o.blocks_used → store_of z u ≡ started (store_of s o) (store_of z u)
@@ -160,10 +114,8 @@ started_pends need.Copy k place r w s y z v o u h q hz d e = subst (λ (x : Stat
 -- ---- the wait
 
 wait_is : (k : Key) (r : Start) (y : StateOf) → (r ≡ start.Pending why.Read → IsBeingRead k y) → wait_of (wait_begun r (y.life.stands k)) ≡ wait_after r
-wait_is k start.Ready y h = refl
 wait_is k (start.Pending why.Read) y h = ap (λ (d : Held). wait_of (wait_begun (start.Pending why.Read) d)) (h refl).1
-wait_is k (start.Pending why.Frame) y h = refl
-wait_is k (start.Pending why.Full) y h = refl
+wait_is k r y h = refl
 
 -- a page that is waited for is being read
 pub started_awaited : (n : Need) (k : Key) (place : Place) (r : Start) (s y z : StateOf) (w : ℕ → Waiting) (u : OwnOf) → AccessBegun n k place r s y → z ≡ waiting y w → r ≡ start.Pending why.Read → (report_of z u).whereabouts k ≡ Some BeingRead
@@ -195,28 +147,12 @@ pub started_passes : (writes : Bool) (n : Need) (k : Key) (place : Place) (r : S
     → Passes (Starts (record { place = place; need = need_for n k place; writes = writes; start = s.life }) tid r) (store_of s o) (store_of z u) (behind_of s) (behind_of z)
 started_passes writes n k place r tid s y z o u h q =
     let p : Went (aim_for writes n k place s) 1 s y = h.went (aim_for writes n k place s) (record { at = refl; needs = need_key n k place; from = refl }) in
-    subst (λ (x : StateOf). Passes (Starts (aim_for writes n k place s) tid r) (store_of s o) (store_of x u) (behind_of s) (behind_of x)) (sym q)
-    (record {
-      moves = p.moves;
-      in_range = p.does.in_range;
-      grew = p.does.grew;
-      replays = p.does.replays;
-      that = record {
-        made = record { each = p.each; one_read = p.few_reads; few_writes = p.few_writes };
-        waits = λ i. changed ◌==◌ (p.does.waits i) tid (wait_begun r (y.life.stands (sym (need_key n k place) i)));
-        ages = p.does.ages;
-        slots = h.slots;
-        valid = h.valid;
-      };
-      report = p.does.told;
-      paging_calls = p.does.paging_calls;
-      paging = p.does.paging;
-      paging_are = p.does.paging_are;
-      file_calls = p.does.file_calls;
-      files = p.does.files;
-      files_are = p.does.files_are;
-      slots_kept = p.does.slots_kept;
-      blocks_kept = p.does.blocks_kept;
+    passes_beside (Starts (aim_for writes n k place s) tid r) p.moves s y z o u y.bound y.names y.contents y.ages (changed ◌==◌ y.waits tid (wait_begun r (y.life.stands k))) p.does q (record {
+      made = record { each = p.each; one_read = p.few_reads; few_writes = p.few_writes };
+      waits = λ i. changed ◌==◌ (p.does.waits i) tid (wait_begun r (y.life.stands (sym (need_key n k place) i)));
+      ages = p.does.ages;
+      slots = h.slots;
+      valid = h.valid;
     })
 
 -- ---- what the store keeps

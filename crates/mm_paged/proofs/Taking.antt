@@ -2,35 +2,54 @@
 use Rattle.std.proofs.Common.{◌≡◌, ℕ, Bool, true, false, List, [], ◌∷◌, ◌++◌, Option, Some, None, refl, sym, ap, ◌∙◌, subst, arith, inl, inr}
 use Rattle.std.specs.Bool.{IsTrue}
 use Rattle.std.specs.Cmp.{unsigned_Decides}
-use Rattle.mm_blocks.proofs.Serving.{serves_failed}
-use Rattle.mm_blocks.specs.Devices.{DeviceOf, CallFailed}
-use Rattle.std.specs.Prelude.{◌&&◌, ◌||◌, if◌then◌else◌}
+use Rattle.std.specs.Prelude.{◌&&◌, ◌||◌, if◌then◌else◌, count_by}
 use Rattle.mm_types.specs.declared.devices.Direction.TheVariants as way
-use Rattle.mm_types.specs.declared.frames.Backing.{Backing}
-use Rattle.mm_types.specs.declared.frames.Backing.TheVariants as backing
-use Rattle.mm_laws.specs.Fits.{is_backed}
+use Rattle.mm_laws.specs.{is_backed}
 use Rattle.mm_pages.specs.Told.{Told}
+use Rattle.mm_types.specs.{Move, Frame, Key, Held}
 use Rattle.mm_types.specs.declared.moves.Move.TheVariants as move
-use Rattle.mm_types.specs.declared.numbers.Frame.{Frame}
-use Rattle.mm_types.specs.declared.numbers.Key.{Key}
 use Rattle.mm_types.specs.declared.faults.PageFault.TheVariants as fault
-use Rattle.mm_types.specs.declared.frames.Held.{Held}
 use Rattle.mm_types.specs.declared.frames.Held.TheVariants as held
-use Rattle.mm_life.specs.Life.{FrameLife, changed, same_key}
-use Rattle.mm_laws.proofs.Owners.{changed_else, changed_here}
-use Rattle.mm_life.specs.Frames.{is_empty, is_first, is_read, record_at}
-use Rattle.mm_life.specs.Legal.{IsLegal, is_touch, is_access, is_io, is_zero}
-use Rattle.mm_life.specs.Effect.{after_move, homed}
-use Rattle.mm_pages.specs.Accesses.{Aim, AccessMove}
-use Rattle.mm_life.specs.Walks.{Walk, Through, walked}
-use Rattle.mm_moving.specs.Shown.{StateOf, Made, DeviceCalled, SomeFault, moved_with_call, moved}
-use Rattle.mm_moving.specs.Holds.{StateHolds}
-use Rattle.mm_parts.specs.Moves.{end_of_read, own_after, own_ended, front, front_for_read}
-use Rattle.mm_parts.specs.Shown.{is_own_line}
-use Rattle.mm_paged.specs.Pieces.{Went, Stuck, TookFrame, Missed, walk_at, IsFor, ReadsIn, ReadsFor, Fails, InQuietFrame}
+use Rattle.mm_life.specs.{FrameLife, changed, same_key, is_empty, is_first, is_read, record_at, IsLegal, is_touch, is_access, is_io, is_zero}
+use Rattle.mm_life.specs.{after_move, homed, Walk, Through, walked, walked_all, is_read_move, takes_frame, is_wrote_move}
+use Rattle.mm_laws.proofs.{changed_else, changed_here}
+use Rattle.mm_pages.specs.{Aim, AccessMove}
+use Rattle.mm_moving.specs.{StateOf, Made, moved_with_call, moved, StateHolds, walk_of}
+use Rattle.mm_parts.specs.{end_of_read, own_after, own_ended, front, front_for_read, is_own_line}
+use Rattle.mm_paged.specs.{Went, Stuck, TookFrame, Missed, walk_at, IsFor, ReadsIn, ReadsFor, Fails, InQuietFrame}
 use Rattle.mm_paged.proofs.Records.{got_quiet, read_begun}
-use Rattle.mm_moving.proofs.Doing.{does_one, does_two, does_then}
+use Rattle.mm_moving.proofs.{does_one, does_two, does_then, count-append}
 use Rattle.mm_paged.proofs.Doing.{walked_to}
+use Rattle.mm_reclaim.proofs.{fault_by, fault_from}
+
+-- ---- one move in front, of which a search learns nothing
+
+module _ (a : Aim) (x : Move) (s y z : StateOf) (p : Made x s y) (same : (t : List ℕ) → walked (walk_at t s) x ≡ record (walked (walk_of s) x) { tried = t }) where
+  pub front_walk : (t : List ℕ) → walked (walk_at t s) x ≡ walk_at t y
+  front_walk t = same t ∙ ap (λ (w : Walk). record w { tried = t }) (walked_to (x ∷ []) s y (does_one x s y p) (ap (λ (w : Walk). w.tried) (same [])))
+
+  pub front_each : (t : List ℕ) (ms : List Move) → AccessMove a (walk_at t s) x ms → Through (AccessMove a) (walk_at t y) ms → Through (AccessMove a) (walk_at t s) (x ∷ ms)
+  front_each t ms h e = (h, subst (λ (w : Walk). Through (AccessMove a) w ms) (sym (front_walk t)) e)
+
+  module _ (reads : count_by is_read_move (x ∷ []) ≡ 0) (wrote : count_by is_wrote_move (x ∷ []) ≡ 0) where
+    unfoldable pub took_front : (n : ℕ) (q : TookFrame a n y z) → ((t : List ℕ) → AccessMove a (walk_at t s) x q.moves) → TookFrame a n s z
+    took_front n q h = record {
+      moves = x ∷ q.moves;
+      does = does_then (x ∷ []) q.moves s y z (does_one x s y p) q.does;
+      each = λ t. front_each t q.moves (h t) (q.each t);
+      fresh = λ t. ap (λ (w : Walk). (walked_all w q.moves).tried) (front_walk t) ∙ q.fresh t;
+      few_reads = let e = q.few_reads in omega (arith, e, reads, count-append is_read_move (x ∷ []) q.moves);
+      paid = let e = q.paid in omega (arith, e, wrote, count-append is_wrote_move (x ∷ []) q.moves, count-append takes_frame (x ∷ []) q.moves);
+    }
+
+    missed_front : (q : Missed a y z) → ((t : List ℕ) → AccessMove a (walk_at t s) x q.moves) → Missed a s z
+    missed_front q h = record {
+      moves = x ∷ q.moves;
+      does = does_then (x ∷ []) q.moves s y z (does_one x s y p) q.does;
+      each = λ t. front_each t q.moves (h t) (q.each t);
+      few_reads = let e = q.few_reads in omega (arith, e, reads, count-append is_read_move (x ∷ []) q.moves);
+      paid = let e = q.paid in omega (arith, e, wrote, count-append is_wrote_move (x ∷ []) q.moves, count-append takes_frame (x ∷ []) q.moves);
+    }
 
 pub went_give : (a : Aim) (f : Frame) (k : Key) (s z : StateOf) → Made (move.Give f k) s z → IsFor a k → TookFrame a 0 s z
 went_give a f k s z m h = record {
@@ -57,32 +76,19 @@ pub stolen_first : (l m : FrameLife) (f : Frame) → m ≡ after_move l (move.St
 stolen_first l m f e h = ap (λ (x : FrameLife). front x.frames.free) e ∙ ap (λ (xs : List ℕ). front (xs ++ f.0 ∷ [])) (nothing_in l.frames.free h)
 
 pub went_clear_give : (a : Aim) (g : Frame) (k : Key) (s y z : StateOf) → is_empty s.life.frames.zeroed ≡ true → Made (move.Clear (front s.life.frames.free)) s y → g ≡ front y.life.frames.zeroed → Made (move.Give g k) y z → IsFor a k → TookFrame a 0 s z
-went_clear_give a g k s y z none c e m h = record {
-  moves = move.Clear (front s.life.frames.free) ∷ move.Give g k ∷ [];
-  does = does_two (move.Clear (front s.life.frames.free)) (move.Give g k) s y z c m;
-  each = λ t. (inl (e ∙ cleared_first s.life y.life (front s.life.frames.free) c.life none), (h, tt));
-  fresh = λ t. refl;
-  few_reads = omega arith;
-  paid = omega arith;
-}
-
-stolen_walk : (t : List ℕ) (s y : StateOf) → Made (move.Steal (front s.life.frames.standby)) s y → walked (walk_at t s) (move.Steal (front s.life.frames.standby)) ≡ walk_at t y
-stolen_walk t s y p = ap (λ (w : Walk). record { life = w.life; ages = w.ages; tried = t }) (walked_to (move.Steal (front s.life.frames.standby) ∷ []) s y (does_one (move.Steal (front s.life.frames.standby)) s y p) refl)
+unfolding went_give
+went_clear_give a g k s y z none c e m h =
+    let f = front s.life.frames.free in
+    took_front a (move.Clear f) s y z c (λ t. refl) refl refl 0 (went_give a g k y z m h) (λ t. inl (e ∙ cleared_first s.life y.life f c.life none))
 
 pub went_steal_give : (a : Aim) (g : Frame) (k : Key) (s x y z : StateOf) → is_empty s.life.frames.zeroed ≡ true → is_empty s.life.frames.free ≡ true
     → Made (move.Steal (front s.life.frames.standby)) s x → Made (move.Clear (front x.life.frames.free)) x y → g ≡ front y.life.frames.zeroed → Made (move.Give g k) y z → IsFor a k → TookFrame a 0 s z
+unfolding went_give went_clear_give took_front
 went_steal_give a g k s x y z none none_free p c e m h =
     let d = front s.life.frames.standby in
-    let f = front x.life.frames.free in
-    let same : g ≡ f = e ∙ cleared_first x.life y.life f c.life (ap (λ (l : FrameLife). is_empty l.frames.zeroed) p.life ∙ none) in
-    record {
-      moves = move.Steal d ∷ move.Clear f ∷ move.Give g k ∷ [];
-      does = does_then (move.Steal d ∷ []) (move.Clear f ∷ move.Give g k ∷ []) s x z (does_one (move.Steal d) s x p) (does_two (move.Clear f) (move.Give g k) x y z c m);
-      each = λ t. (inl (same ∙ stolen_first s.life x.life d p.life none_free), (inl same, (h, tt)));
-      fresh = λ t. refl;
-      few_reads = omega arith;
-      paid = omega arith;
-    }
+    let zeroed = ap (λ (l : FrameLife). is_empty l.frames.zeroed) p.life ∙ none in
+    took_front a (move.Steal d) s x z p (λ t. refl) refl refl 0 (went_clear_give a g k x y z zeroed c e m h)
+    (λ t. inl (e ∙ cleared_first x.life y.life (front x.life.frames.free) c.life zeroed ∙ stolen_first s.life x.life d p.life none_free))
 
 -- ---- where a page stands once another's frame is stolen
 
@@ -152,30 +158,13 @@ pub went_steal_read : (a : Aim) (f : Frame) (k : Key) (s y z : StateOf) → is_e
 unfolding went_read
 went_steal_read a f k s y z none p e r h =
     let d = front s.life.frames.standby in
-    let w = went_read a f k y z r h in
-    record {
-      moves = move.Steal d ∷ move.Read f k ∷ move.Got f ∷ [];
-      does = does_then (move.Steal d ∷ []) (move.Read f k ∷ move.Got f ∷ []) s y z (does_one (move.Steal d) s y p) w.does;
-      each = λ t. (inl (e ∙ front_read s.life y.life d p.life none), subst (λ (v : Walk). Through (AccessMove a) v (move.Read f k ∷ move.Got f ∷ [])) (sym (stolen_walk t s y p)) (w.each t));
-      fresh = λ t. refl;
-      few_reads = omega arith;
-      paid = omega arith;
-    }
+    took_front a (move.Steal d) s y z p (λ t. refl) refl refl 1 (went_read a f k y z r h) (λ t. inl (e ∙ front_read s.life y.life d p.life none))
 
 pub stuck_steal_read : (a : Aim) (f : Frame) (k : Key) (s y z : StateOf) → is_empty s.life.frames.free ≡ true → Made (move.Steal (front s.life.frames.standby)) s y → f ≡ front_for_read y.life → ReadsIn k f false y z → ReadsFor a k → Missed a s z
 unfolding stuck_read
 stuck_steal_read a f k s y z none p e r h =
     let d = front s.life.frames.standby in
-    let w = stuck_read a f k y z r h in
-    record {
-      moves = move.Steal d ∷ move.Read f k ∷ move.Bad f ∷ [];
-      does = does_then (move.Steal d ∷ []) (move.Read f k ∷ move.Bad f ∷ []) s y z (does_one (move.Steal d) s y p) w.does;
-      each = λ t. (inl (e ∙ front_read s.life y.life d p.life none), subst (λ (v : Walk). Through (AccessMove a) v (move.Read f k ∷ move.Bad f ∷ [])) (sym (stolen_walk t s y p)) (w.each t));
-      few_reads = omega arith;
-      paid = omega arith;
-    }
-
--- ---- by the result
+    missed_front a (move.Steal d) s y z p (λ t. refl) refl refl (stuck_read a f k y z r h) (λ t. inl (e ∙ front_read s.life y.life d p.life none))
 
 -- ---- a read in flight is completed
 
@@ -199,11 +188,6 @@ stuck_bad a f k s z m o h = record {
   starved = λ e. cc;
 }
 
-fault_of : (b : Backing) (s z : StateOf) → is_backed b ≡ true → DeviceCalled way.Read b false s z → SomeFault s z
-fault_of backing.None s z h c = cc
-fault_of (backing.Slot t) s z h c = inl (serves_failed _ s.paging z.paging c.0 refl)
-fault_of (backing.Block t) s z h c = inr (serves_failed _ s.files z.files c.0 refl)
-
 read_by : (a b : Bool) → IsTrue (a && b) → a ≡ true
 read_by true b h = refl
 read_by false b h = cc
@@ -216,7 +200,7 @@ bad_fails f k s z m o b e = record {
   failed = λ h. cc;
   none = λ h. cc;
   unframed = λ h. cc;
-  fault = fault_of (record_at s.life.frames f.0).backing s z (b (read_by _ _ m.legal)) m.calls;
+  fault = fault_by way.Read (record_at s.life.frames f.0).backing s z (b (read_by _ _ m.legal)) m.calls;
   same = e;
 }
 
@@ -273,10 +257,6 @@ read_fails k f s y z h o m b n e = record {
   failed = λ q. cc;
   none = λ q. cc;
   unframed = λ q. cc;
-  fault = fault_from s y z m.calls.0 m.calls.1 (fault_of (record_at y.life.frames f.0).backing y z (h.reading f (read_by _ _ n.legal)) n.calls);
+  fault = fault_from s y z m.calls.0 m.calls.1 (fault_by way.Read (record_at y.life.frames f.0).backing y z (h.reading f (read_by _ _ n.legal)) n.calls);
   same = read_called s y z f o b e;
 }
-  where
-    fault_from : (s y z : StateOf) → y.paging ≡ s.paging → y.files ≡ s.files → SomeFault y z → SomeFault s z
-    fault_from s y z p q (inl r) = inl (subst (λ (d : DeviceOf). CallFailed d z.paging) p r)
-    fault_from s y z p q (inr r) = inr (subst (λ (d : DeviceOf). CallFailed d z.files) q r)

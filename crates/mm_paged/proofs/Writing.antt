@@ -2,52 +2,27 @@
 use Rattle.std.proofs.Common.{◌≡◌, ℕ, zero, suc, ◌+◌, Bool, true, false, cond, List, [], ◌∷◌, Option, Some, None, refl, sym, ap, ◌∙◌, subst, arith, append_assoc, inl, inr, ◌⊎◌}
 use Rattle.std.proofs.lemmas.List.Sums.{sum_by-append}
 use Rattle.std.specs.Prelude.{◌&&◌, ◌==◌, nat_lt, if◌then◌else◌, is_some, count_by, length, take, drop, slice_set, slice_index_or, unwrap_or, Ok}
-use Rattle.mm_types.specs.declared.frames.Backing.{Backing}
+use Rattle.mm_types.specs.{Backing, Held, Record, Frame, Key, Place}
 use Rattle.mm_types.specs.declared.frames.Backing.TheVariants as backing
-use Rattle.mm_types.specs.declared.frames.Held.{Held}
 use Rattle.mm_types.specs.declared.frames.Held.TheVariants as held
-use Rattle.mm_types.specs.declared.frames.Record.{Record}
 use Rattle.mm_types.specs.declared.frames.Request.TheVariants as request
 use Rattle.mm_types.specs.declared.moves.Move.TheVariants as move
-use Rattle.mm_types.specs.declared.numbers.Frame.{Frame}
-use Rattle.mm_types.specs.declared.numbers.Key.{Key}
-use Rattle.mm_types.specs.declared.numbers.Place.{Place}
-use Rattle.mm_life.specs.Frames.{record_at, blank, is_read, has_request, soiled, without_slot}
-use Rattle.mm_life.specs.Life.{FrameLife, changed, same_key, same_place, counts_of, is_active, is_in_transition}
-use Rattle.mm_life.specs.Effect.{after_move}
-use Rattle.mm_life.specs.Located.{zero_page}
-use Rattle.mm_ram.specs.Ram.{overwritten}
-use Rattle.mm_world.specs.World.{filled}
-use Rattle.mm_world.specs.Access.{written}
-use Rattle.mm_world.specs.Failure.{same_key as same_in_world}
-use Rattle.mm_world.specs.Report.{Report, BeingRead, InFrame}
-use Rattle.mm_pages.specs.Accesses.{Touches}
-use Rattle.mm_pages.specs.Conditions.{touch, IsReady}
-use Rattle.mm_pages.specs.Passing.{Passes}
+use Rattle.mm_life.specs.{record_at, blank, is_read, has_request, soiled, without_slot, FrameLife, changed, same_key, same_place, counts_of}
+use Rattle.mm_life.specs.{is_active, is_in_transition, after_move, zero_page, Waiting}
+use Rattle.mm_ram.specs.{overwritten}
+use Rattle.mm_world.specs.{filled, written, same_key as same_in_world, BeingRead, InFrame}
+use Rattle.mm_world.specs.Report.{Report}
+use Rattle.mm_pages.specs.{Touches, touch, IsReady, Passes, StoreOf, fetched, eased, IsBegun, is_framed, where_of, block_at, backed_by, in_backing}
 use Rattle.mm_paged.proofs.Giving.{young_still}
-use Rattle.mm_pages.specs.Store.{StoreOf}
-use Rattle.mm_pages.specs.Reports.{fetched, eased, IsBegun, Ends}
-use Rattle.mm_pages.specs.Shortage.{is_framed}
-use Rattle.mm_pages.specs.Standing.{where_of, block_at, backed_by, in_backing}
+use Rattle.mm_pages.specs.Reports.{Ends}
 use Rattle.mm_pages.specs.Told.{Told}
-use Rattle.mm_life.specs.Waits.{Waiting}
-use Rattle.mm_moving.specs.Shown.{StateOf, moved, moved_with_call}
-use Rattle.mm_moving.specs.Holds.{StateHolds}
-use Rattle.mm_moving.proofs.Doing.{does_one}
-use Rattle.mm_paged.specs.Pieces.{Soils, Was, Is}
-use Rattle.mm_paged.specs.Shown.{OwnOf, store_of, report_of, behind_of}
+use Rattle.mm_moving.specs.{StateOf, moved, moved_with_call, StateHolds}
+use Rattle.mm_moving.proofs.{does_one}
+use Rattle.mm_paged.specs.{Soils, Was, Is, OwnOf, store_of, report_of, behind_of}
 use Rattle.mm_paged.proofs.Reading.{valid_passes, had_ends, framed_at, named_by}
-use Rattle.mm_paged.proofs.Shows.{changed_keys}
-use Rattle.mm_life.proofs.Records.{soiled_shares}
-use Rattle.mm_life.proofs.Records.{soiled_request}
-
--- what is looked at in the records, where one changes
-pub look_set : {A : Type 0} (look : Record → A) (xs : List Record) (f g : ℕ) (r : Record) → look r ≡ look (slice_index_or xs f blank) → look (slice_index_or (slice_set xs f r) g blank) ≡ look (slice_index_or xs g blank)
-look_set look [] f g r e = refl
-look_set look (x ∷ xs) zero zero r e = e
-look_set look (x ∷ xs) zero (suc g) r e = refl
-look_set look (x ∷ xs) (suc f) zero r e = refl
-look_set look (x ∷ xs) (suc f) (suc g) r e = look_set look xs f g r e
+use Rattle.mm_paged.proofs.Shows.{changed_keys, passes_beside}
+use Rattle.mm_life.proofs.{soiled_shares, soiled_request}
+use Rattle.mm_paged.proofs.Records.{look_set}
 
 count_cons : (test : Record → Bool) (x : Record) (xs : List Record) → count_by test (x ∷ xs) ≡ (0 + cond (test x) 1 0) + count_by test xs
 count_cons test x xs = sum_by-append (λ (r : Record). cond (test r) 1 0) (x ∷ []) xs
@@ -76,10 +51,7 @@ soiled_life l f = after_move l (move.Soil f)
 
 soiled_where : (l : FrameLife) (f : Frame) → is_read (record_at l.frames f.0).request ≡ false → (h : Held) → where_of (soiled_life l f) h ≡ where_of l h
 soiled_where l f u (held.Frame g) = ap (λ (b : Bool). Some (if b then BeingRead else InFrame)) (look_set (λ r. is_read r.request) l.frames.records f.0 g.0 (soiled (record_at l.frames f.0)) (soiled_unread (record_at l.frames f.0) u))
-soiled_where l f u (held.Slot s) = refl
-soiled_where l f u (held.Block b) = refl
-soiled_where l f u held.Zero = refl
-soiled_where l f u held.Dead = refl
+soiled_where l f u h = refl
 
 -- how the report changes where a page is soiled: a slot may be free again
 soiled_report : (s : StateOf) (o : OwnOf) (f : Frame) → is_read (record_at s.life.frames f.0).request ≡ false
@@ -95,8 +67,7 @@ soiled_report s o f u = λ i. record (report_of s o) {
 
 without_block : (b : Backing) → block_at (in_backing (without_slot b)) ≡ block_at (in_backing b)
 without_block backing.None = refl
-without_block (backing.Slot s) = refl
-without_block (backing.Block b) = refl
+without_block b = refl
 
 soiled_backing : (r : Record) → block_at (in_backing (soiled r).backing) ≡ block_at (in_backing r.backing)
 soiled_backing r = at (has_request r.request)
@@ -107,10 +78,7 @@ soiled_backing r = at (has_request r.request)
 
 soiled_block : (l : FrameLife) (f : Frame) (h : Held) → block_at (backed_by (soiled_life l f) h) ≡ block_at (backed_by l h)
 soiled_block l f (held.Frame g) = look_set (λ r. block_at (in_backing r.backing)) l.frames.records f.0 g.0 (soiled (record_at l.frames f.0)) (soiled_backing (record_at l.frames f.0))
-soiled_block l f (held.Slot s) = refl
-soiled_block l f (held.Block b) = refl
-soiled_block l f held.Zero = refl
-soiled_block l f held.Dead = refl
+soiled_block l f h = refl
 
 -- what the store shows then
 abbrev pub Eases : StateOf → OwnOf → StateOf → Type 0
@@ -158,30 +126,14 @@ wrote_passes k f place s y z o c v (Was e) q =
     valid_passes true k place s z o c (ap is_some v) (q ∙ ap (λ (x : StateOf). record x { ages = changed same_place x.ages place 0; contents = c }) e)
 wrote_passes k f place s y z o c v (Is m e) q =
     let d = does_one (move.Soil f) s y m in
-    subst (λ (x : StateOf). Passes (Touches {T = Unit {0}} (record { place = place; need = touch k; writes = true; start = s.life }) (IsReady (store_of s o) place (touch k)) (Ok tt)) (store_of s o) (store_of x o) (behind_of s) (behind_of x)) (sym q)
-    (record {
-      moves = move.Soil f ∷ [];
-      in_range = d.in_range;
-      grew = d.grew;
-      replays = d.replays;
-      that = record {
-        ends = record {
-          made = record { each = ((refl, v), tt); one_read = omega arith; few_writes = omega arith };
-          waits = d.waits;
-          valid = ap (λ (l : FrameLife). is_some (l.valid place)) m.life ∙ ap is_some v;
-          ages = ap (λ (g : Place → ℕ). changed same_place g place 0) d.ages;
-        };
-        calm = λ r. (f, refl, refl, v);
+    passes_beside _ (move.Soil f ∷ []) s y z o o y.bound y.names c (changed same_place y.ages place 0) y.waits d q (record {
+      ends = record {
+        made = record { each = ((refl, v), tt); one_read = omega arith; few_writes = omega arith };
+        waits = d.waits;
+        valid = ap (λ (l : FrameLife). is_some (l.valid place)) m.life ∙ ap is_some v;
+        ages = ap (λ (g : Place → ℕ). changed same_place g place 0) d.ages;
       };
-      report = d.told;
-      paging_calls = d.paging_calls;
-      paging = d.paging;
-      paging_are = d.paging_are;
-      file_calls = d.file_calls;
-      files = d.files;
-      files_are = d.files_are;
-      slots_kept = d.slots_kept;
-      blocks_kept = d.blocks_kept;
+      calm = λ r. (f, refl, refl, v);
     })
 
 soils_stands : (f : Frame) (s y : StateOf) → Soils f s y → y.life.stands ≡ s.life.stands

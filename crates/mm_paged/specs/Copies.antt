@@ -1,25 +1,16 @@
 -- Pieces of an access that makes a copy.
 -- Profile, "Accesses".
 use Rattle.std.specs.Prelude.{◌≡◌, ◌≤◌, ◌<◌, ◌+◌, ◌⊎◌, ℕ, true, false, length, Option, Some, None, is_some}
-use Rattle.mm_types.specs.declared.faults.PageFault.{PageFault}
+use Rattle.mm_types.specs.{PageFault, limit_of, Frame, Key, Place}
 use Rattle.mm_types.specs.declared.faults.PageFault.TheVariants as fault
-use Rattle.mm_types.specs.Machine.{limit_of}
 use Rattle.mm_types.specs.declared.moves.LineKind.TheVariants as kind
 use Rattle.mm_types.specs.declared.moves.Move.TheVariants as move
-use Rattle.mm_types.specs.declared.numbers.Frame.{Frame}
-use Rattle.mm_types.specs.declared.numbers.Key.{Key}
-use Rattle.mm_types.specs.declared.numbers.Place.{Place}
-use Rattle.mm_life.specs.Frames.{is_empty, record_at}
-use Rattle.mm_life.specs.Life.{FrameLife, changed, same_key, same_place, is_live, is_shared, key_of_place}
-use Rattle.mm_life.specs.Legal.{is_short, shows_shared}
-use Rattle.mm_life.specs.Located.{zero_page}
-use Rattle.mm_frame_laws.specs.Carried.{IsSoiled}
-use Rattle.mm_pages.specs.Accesses.{Aim}
-use Rattle.mm_pages.specs.Reports.{no_calls}
-use Rattle.mm_pages.specs.Shortage.{is_framed}
-use Rattle.mm_parts.specs.Moves.{front}
-use Rattle.mm_moving.specs.Shown.{StateOf, Made, moved_with_call, SomeFault}
-use Rattle.mm_moving.specs.Doing.{IsFlightOf}
+use Rattle.mm_life.specs.{is_empty, record_at, FrameLife, changed, same_key, same_place, is_live, is_shared, key_of_place, is_short, shows_shared}
+use Rattle.mm_life.specs.{zero_page}
+use Rattle.mm_frame_laws.specs.{IsSoiled}
+use Rattle.mm_pages.specs.{Aim, no_calls, is_framed}
+use Rattle.mm_parts.specs.{front}
+use Rattle.mm_moving.specs.{StateOf, Made, moved_with_call, SomeFault, IsFlightOf}
 use Rattle.mm_paged.specs.Pieces.{Went, Stuck, Sought, TookFrame, Calm, InQuietFrame, LifeKept}
 
 -- the access begins here, at this place, for this page

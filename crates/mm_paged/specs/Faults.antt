@@ -1,23 +1,15 @@
 -- What the steps of a fault ask and promise, once for each family of steps.
 -- Profile, "Which frame moves, and when".
 use Rattle.std.specs.Prelude.{◌≡◌, ℕ, true, false, Some, None, IsSome}
-use Rattle.mm_types.specs.declared.faults.PageFault.{PageFault}
+use Rattle.mm_types.specs.{PageFault, Frame, Key, Place}
 use Rattle.mm_types.specs.declared.faults.PageFault.TheVariants as fault
 use Rattle.mm_types.specs.declared.moves.LineKind.TheVariants as kind
-use Rattle.mm_types.specs.declared.numbers.Frame.{Frame}
-use Rattle.mm_types.specs.declared.numbers.Key.{Key}
-use Rattle.mm_types.specs.declared.numbers.Place.{Place}
-use Rattle.mm_life.specs.Frames.{FrameTable, record_at, is_empty}
-use Rattle.mm_life.specs.Life.{FrameLife, changed, same_place, is_live, is_shared, key_of_place, set_of}
-use Rattle.mm_life.specs.Legal.{is_access, is_stored, is_short, is_at_max, fits_place}
-use Rattle.mm_frame_laws.specs.Carried.{IsSoiled}
-use Rattle.mm_pages.specs.Accesses.{Aim}
-use Rattle.mm_pages.specs.Reports.{no_calls}
-use Rattle.mm_pages.specs.Shortage.{is_framed}
-use Rattle.mm_parts.specs.Holds.{HasSet}
-use Rattle.mm_parts.specs.Moves.{front_for_read}
-use Rattle.mm_moving.specs.Shown.{StateOf, moved_with_call}
-use Rattle.mm_moving.specs.Doing.{IsFlightOf}
+use Rattle.mm_life.specs.{FrameTable, record_at, is_empty, FrameLife, changed, same_place, is_live, is_shared, key_of_place, set_of, is_access}
+use Rattle.mm_life.specs.{is_stored, is_short, is_at_max, fits_place}
+use Rattle.mm_frame_laws.specs.{IsSoiled}
+use Rattle.mm_pages.specs.{Aim, no_calls, is_framed}
+use Rattle.mm_parts.specs.{HasSet, front_for_read}
+use Rattle.mm_moving.specs.{StateOf, moved_with_call, IsFlightOf}
 use Rattle.mm_paged.specs.Pieces.{Went, Stuck, Sought, TookFrame, Missed, ReadsFor, IsFor, AccessBegins, KeepsButNames, Calm, NamesFor, Later, Placed, Fails, InQuietFrame, ReadsIn}
 
 -- ---- what is asked

@@ -1,22 +1,15 @@
 -- A page of a file that is written to its block.
 -- Profile, "Calls".
 use Rattle.std.specs.Prelude.{◌≡◌, ◌≢◌, ◌<◌, if◌then◌else◌, not, ℕ, Bool, true, false, List, [], ◌∷◌, slice_get}
-use Rattle.mm_blocks.specs.Devices.{CallFailed, IsLater}
+use Rattle.mm_blocks.specs.{CallFailed, IsLater}
 use Rattle.mm_types.specs.declared.frames.Backing.TheVariants as backing
 use Rattle.mm_types.specs.declared.frames.Held.TheVariants as held
-use Rattle.mm_types.specs.declared.frames.Request.{Request}
-use Rattle.mm_types.specs.declared.moves.Move.{Move}
+use Rattle.mm_types.specs.{Request, Move, Stored, Block, Frame, Key}
 use Rattle.mm_types.specs.declared.moves.Move.TheVariants as move
-use Rattle.mm_types.specs.declared.moves.Stored.{Stored}
-use Rattle.mm_types.specs.declared.numbers.Block.{Block}
-use Rattle.mm_types.specs.declared.numbers.Frame.{Frame}
-use Rattle.mm_types.specs.declared.numbers.Key.{Key}
-use Rattle.mm_life.specs.Frames.{record_at, is_write, is_again}
-use Rattle.mm_pages.specs.Flushing.{FlushMoves, FlushedAt, ends_lost}
-use Rattle.mm_pages.specs.Standing.{stored_of}
-use Rattle.mm_parts.specs.Moves.{write_end}
-use Rattle.mm_moving.specs.Shown.{StateOf, backing_of_frame, moved_with_call}
-use Rattle.mm_moving.specs.Doing.{DoesMoves}
+use Rattle.mm_life.specs.{record_at, is_write, is_again}
+use Rattle.mm_pages.specs.{FlushMoves, FlushedAt, ends_lost, stored_of}
+use Rattle.mm_parts.specs.{write_end}
+use Rattle.mm_moving.specs.{StateOf, backing_of_frame, moved_with_call, DoesMoves}
 use Rattle.mm_paged.specs.Pieces.{LifeKept}
 
 -- a page of a file is in this frame

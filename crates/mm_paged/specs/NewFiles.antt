@@ -2,21 +2,14 @@
 -- Profile, "Calls".
 use Rattle.std.specs.Prelude.{◌≡◌, ◌≤◌, ◌<◌, ◌⊎◌, ◌+◌, ◌%◌, ℕ, Bool, true, false, ◌==◌, ◌&&◌, nat_lt, if◌then◌else◌, List, ◌++◌, map, length, slice_get, Some, Result, Ok, Err}
 use Rattle.mm_types.specs.declared.devices.Direction.TheVariants as way
-use Rattle.mm_types.specs.declared.faults.MakeFault.{MakeFault}
+use Rattle.mm_types.specs.{MakeFault, Move, Key}
 use Rattle.mm_types.specs.declared.faults.MakeFault.TheVariants as make_fault
 use Rattle.mm_types.specs.declared.frames.Held.TheVariants as held
-use Rattle.mm_types.specs.declared.moves.Move.{Move}
-use Rattle.mm_types.specs.declared.numbers.Key.{Key}
 use Rattle.mm_types.specs.declared.numbers.Key.TheVariants.{Private, Shared}
-use Rattle.mm_blocks.specs.Devices.{Call, AllServed, logged_call, CallFailed, IsLater, KeepsOthers}
-use Rattle.mm_world.specs.World.{filled}
-use Rattle.mm_world.specs.Report.{Tally}
-use Rattle.mm_pages.specs.Housekeeping.{MakesFrom, Turned}
-use Rattle.mm_pages.specs.Passing.{writes_from, last_write}
-use Rattle.mm_pages.specs.Store.{changed}
-use Rattle.mm_pages.specs.Tallies.{tallied}
-use Rattle.mm_moving.specs.Shown.{StateOf, moved}
-use Rattle.mm_moving.specs.Doing.{DoesMoves}
+use Rattle.mm_blocks.specs.{Call, AllServed, logged_call, CallFailed, IsLater, KeepsOthers}
+use Rattle.mm_world.specs.{filled, Tally}
+use Rattle.mm_pages.specs.{MakesFrom, Turned, writes_from, last_write, changed, tallied}
+use Rattle.mm_moving.specs.{StateOf, moved, DoesMoves}
 
 -- The first n blocks of a new file were written in order, block `first + i` with the byte `byte +
 -- i` throughout; or they were up to a write that failed. Nothing but the file device was changed,

@@ -1,38 +1,22 @@
 -- Pieces of an access: moves that end where a search could begin, and those with which it fails.
 -- Profile, "Which frame moves, and when".
 use Rattle.std.specs.Prelude.{length, ◌≡◌, ◌≤◌, ◌+◌, ◌⊎◌, ℕ, Bool, true, false, List, [], count_by, Option, Some, None, ◌<◌, ◌-◌, slice_get}
-use Rattle.mm_types.specs.declared.faults.PageFault.{PageFault}
+use Rattle.mm_types.specs.{PageFault, Move, Frame, Key, Place, Pid}
 use Rattle.mm_types.specs.declared.faults.PageFault.TheVariants as fault
 use Rattle.mm_types.specs.declared.frames.Held.TheVariants as held
 use Rattle.mm_types.specs.declared.moves.LineKind.TheVariants as kind
-use Rattle.mm_types.specs.declared.moves.Move.{Move}
 use Rattle.mm_types.specs.declared.moves.Move.TheVariants as move
-use Rattle.mm_types.specs.declared.numbers.Frame.{Frame}
-use Rattle.mm_types.specs.declared.numbers.Key.{Key}
 use Rattle.mm_types.specs.declared.numbers.Key.TheVariants.{Private, Shared}
-use Rattle.mm_types.specs.declared.numbers.Place.{Place}
-use Rattle.mm_types.specs.declared.numbers.Pid.{Pid}
-use Rattle.mm_life.specs.Frames.{record_at, is_read}
-use Rattle.mm_life.specs.Legal.{is_short}
-use Rattle.mm_life.specs.Walks.{Walk, Through, walked_all, is_read_move, takes_frame, is_wrote_move}
-use Rattle.mm_life.specs.Searches.{Starved}
-use Rattle.mm_life.specs.Chores.{ending}
-use Rattle.mm_blocks.specs.Devices.{IsLater}
-use Rattle.mm_pages.specs.declared.outcomes.Done.{Done}
+use Rattle.mm_life.specs.{record_at, is_read, is_short, Walk, Through, walked_all, is_read_move, takes_frame, is_wrote_move, Starved, ending}
+use Rattle.mm_life.specs.{FrameLife, changed, same_place, fits_place}
+use Rattle.mm_blocks.specs.{IsLater}
+use Rattle.mm_pages.specs.{Done, Aim, AccessMove, is_had, place_at, Turns, page_rank, PassesIn, no_calls, is_framed}
 use Rattle.mm_pages.specs.declared.outcomes.Done.TheVariants as done
-use Rattle.mm_pages.specs.Accesses.{Aim, AccessMove, is_had}
-use Rattle.mm_life.specs.Life.{FrameLife, changed, same_place}
-use Rattle.mm_pages.specs.Conditions.{place_at}
-use Rattle.mm_pages.specs.Housekeeping.{Turns, Ends}
-use Rattle.mm_pages.specs.Leaving.{Leaving, page_rank}
-use Rattle.mm_pages.specs.Passing.{PassesIn}
+use Rattle.mm_pages.specs.Housekeeping.{Ends}
+use Rattle.mm_pages.specs.Leaving.{Leaving}
 use Rattle.mm_paged.specs.Shown.{OwnOf, store_of, behind_of}
-use Rattle.mm_life.specs.Legal.{fits_place}
-use Rattle.mm_pages.specs.Reports.{no_calls}
-use Rattle.mm_pages.specs.Shortage.{is_framed}
-use Rattle.mm_moving.specs.Shown.{StateOf, Made, moved, moved_with_call, SomeFault}
-use Rattle.mm_moving.specs.Doing.{DoesMoves, walk_of}
-use Rattle.mm_parts.specs.Moves.{end_of_read}
+use Rattle.mm_moving.specs.{StateOf, Made, moved, moved_with_call, SomeFault, DoesMoves, walk_of}
+use Rattle.mm_parts.specs.{end_of_read}
 
 -- moves of an access, with at most so many reads, after which a new search would begin
 pub record Went (a : Aim) (reads : ℕ) (s z : StateOf) : Type 0 where

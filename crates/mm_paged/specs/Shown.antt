@@ -1,16 +1,11 @@
 -- What the store shows, out of the joined state and its own few fields.
 use Rattle.std.specs.Prelude.{◌≡◌, ◌≤◌, ℕ, Bool, true, false, length, Option, Some, None, is_some}
-use Rattle.mm_types.specs.Machine.{limit_of}
-use Rattle.mm_life.specs.Life.{counts_of}
-use Rattle.mm_life.specs.Legal.{is_touch, is_short, is_thread}
-use Rattle.mm_life.specs.Waits.{wait_of}
+use Rattle.mm_types.specs.{limit_of}
+use Rattle.mm_life.specs.{counts_of, is_touch, is_short, is_thread, wait_of}
 use Rattle.mm_world.specs.Report.{Report}
 use Rattle.mm_pages.specs.Behind.{Behind}
-use Rattle.mm_pages.specs.Store.{StoreOf, Ready}
-use Rattle.mm_pages.specs.Conditions.{need_for}
-use Rattle.mm_pages.specs.Standing.{where_of, block_at, backed_by}
-use Rattle.mm_pages.specs.Reports.{no_calls}
-use Rattle.mm_moving.specs.Shown.{StateOf}
+use Rattle.mm_pages.specs.{StoreOf, Ready, need_for, where_of, block_at, backed_by, no_calls}
+use Rattle.mm_moving.specs.{StateOf}
 use Rattle.mm_paged.specs.declared.paged.Wanted.{Wanted}
 
 -- what the store keeps beside the state

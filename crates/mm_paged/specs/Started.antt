@@ -1,25 +1,15 @@
 -- How an access of a thread begins: what became of its page, and what it waits for.
 -- Profile, "Accesses".
 use Rattle.std.specs.Prelude.{◌≡◌, ◌⊎◌, Bool, true, false, Option, Some, None, is_some}
-use Rattle.mm_types.specs.declared.answers.Why.{Why}
+use Rattle.mm_types.specs.{Why, Frame, Key, Place}
 use Rattle.mm_types.specs.declared.answers.Why.TheVariants as why
 use Rattle.mm_types.specs.declared.frames.Held.TheVariants as held
-use Rattle.mm_types.specs.declared.numbers.Frame.{Frame}
-use Rattle.mm_types.specs.declared.numbers.Key.{Key}
-use Rattle.mm_types.specs.declared.numbers.Place.{Place}
-use Rattle.mm_life.specs.Frames.{record_at, is_read}
-use Rattle.mm_life.specs.Life.{changed, same_place}
-use Rattle.mm_life.specs.Legal.{is_short}
-use Rattle.mm_pages.specs.Accesses.{Aim}
-use Rattle.mm_pages.specs.Conditions.{need_for, waits_at_once}
-use Rattle.mm_pages.specs.Shortage.{is_framed}
-use Rattle.mm_pages.specs.Store.{Ready}
-use Rattle.mm_pages.specs.declared.outcomes.Need.{Need}
+use Rattle.mm_life.specs.{record_at, is_read, changed, same_place, is_short}
+use Rattle.mm_pages.specs.{Aim, need_for, waits_at_once, is_framed, Ready, Need, Start}
 use Rattle.mm_pages.specs.declared.outcomes.Need.TheVariants as need
-use Rattle.mm_pages.specs.declared.outcomes.Start.{Start}
 use Rattle.mm_pages.specs.declared.outcomes.Start.TheVariants as start
 use Rattle.mm_types.specs.declared.moves.Move.TheVariants as move
-use Rattle.mm_moving.specs.Shown.{StateOf, Made, moved, moved_with_call}
+use Rattle.mm_moving.specs.{StateOf, Made, moved, moved_with_call}
 use Rattle.mm_paged.specs.Pieces.{Went, TookFrame, ReadsFor}
 use Rattle.mm_paged.specs.Shown.{OwnOf, report_of}
 

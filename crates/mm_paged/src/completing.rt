@@ -1,8 +1,7 @@
 ghost use Rattle.std.specs.Prelude.{◌≡◌, ◌≤◌, ◌<◌, true, false, None};
 ghost use Rattle.mm_types.specs.declared.moves.LineKind.TheVariants as kind;
-ghost use Rattle.mm_life.specs.Frames.{record_at, is_read, has_request};
-ghost use Rattle.mm_life.specs.Chores.{ending};
-ghost use Rattle.mm_moving.specs.Shown.{Made, moved_with_call};
+ghost use Rattle.mm_life.specs.{record_at, is_read, has_request, ending};
+ghost use Rattle.mm_moving.specs.{Made, moved_with_call};
 ghost use Rattle.mm_paged.specs.Pieces.{EndsAs};
 
 use mm_moving::Moving;

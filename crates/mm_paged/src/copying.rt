@@ -1,13 +1,9 @@
 ghost use Rattle.std.specs.Prelude.{◌≡◌, ◌≤◌, ◌<◌, ◌⊎◌, true, false, None, Some, Ok, OnOk, OnErr, IfOk, IfErr};
-ghost use Rattle.mm_types.specs.Machine.{limit_of};
+ghost use Rattle.mm_types.specs.{limit_of, Frame};
 ghost use Rattle.mm_types.specs.declared.moves.LineKind.TheVariants as kind;
-ghost use Rattle.mm_types.specs.declared.numbers.Frame.{Frame};
-ghost use Rattle.mm_life.specs.Frames.{is_empty, record_at};
-ghost use Rattle.mm_life.specs.Life.{key_of_place};
-ghost use Rattle.mm_life.specs.Legal.{is_access, is_touch, touches, shows_shared, is_short};
-ghost use Rattle.mm_pages.specs.Accesses.{Aim};
-ghost use Rattle.mm_pages.specs.Conditions.{touch};
-ghost use Rattle.mm_moving.specs.Shown.{moved};
+ghost use Rattle.mm_life.specs.{is_empty, record_at, key_of_place, is_access, is_touch, touches, shows_shared, is_short};
+ghost use Rattle.mm_pages.specs.{Aim, touch};
+ghost use Rattle.mm_moving.specs.{moved};
 ghost use Rattle.mm_paged.specs.Pieces.{Went, Stuck, Fails, InQuietFrame};
 ghost use Rattle.mm_paged.specs.Faults.{StandbyAlone};
 ghost use Rattle.mm_paged.specs.Copies.{Reaches, Readied, Pins, Spares, Copied, Readies, MayHold, NeedsAccess, MayCopyHeld, MayCopy, FindsBeside, NoneBeside, CopyGiven, CopyPut, CopiesPage, FailsToCopyPage};

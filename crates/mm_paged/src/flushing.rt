@@ -1,11 +1,10 @@
 ghost use Rattle.std.specs.Prelude.{◌≡◌, ◌<◌, false, Some, None, IsSome, is_ok};
 ghost use Rattle.mm_types.specs.declared.frames.Backing.TheVariants as backing;
 ghost use Rattle.mm_types.specs.declared.moves.LineKind.TheVariants as kind;
-ghost use Rattle.mm_types.specs.declared.numbers.Block.{Block};
-ghost use Rattle.mm_life.specs.Frames.{record_at, is_write};
-ghost use Rattle.mm_pages.specs.Reports.{wrote};
-ghost use Rattle.mm_pages.specs.Standing.{backed_by, block_at};
-ghost use Rattle.mm_moving.specs.Shown.{backing_of_frame};
+ghost use Rattle.mm_types.specs.{Block};
+ghost use Rattle.mm_life.specs.{record_at, is_write};
+ghost use Rattle.mm_pages.specs.{wrote, backed_by, block_at};
+ghost use Rattle.mm_moving.specs.{backing_of_frame};
 ghost use Rattle.mm_paged.specs.Flushed.{HoldsFilePage, EndsFlight, WritesChanged, FlushesFrame, FlushesPage};
 
 use mm_moving::Moving;

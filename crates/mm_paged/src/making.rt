@@ -2,7 +2,7 @@ ghost use Rattle.std.specs.Prelude.{◌≡◌, ◌≤◌, ◌<◌, ◌+◌, ◌%
 ghost use Rattle.mm_types.specs.declared.frames.Held.TheVariants as held;
 ghost use Rattle.mm_types.specs.declared.moves.LineKind.TheVariants as kind;
 ghost use Rattle.mm_types.specs.declared.numbers.Key.TheVariants.{Shared};
-ghost use Rattle.mm_pages.specs.Housekeeping.{Makes};
+ghost use Rattle.mm_pages.specs.{Makes};
 ghost use Rattle.mm_paged.specs.NewFiles.{BlocksWritten, PagesAdded, BuiltAs};
 
 use mm_moving::Moving;

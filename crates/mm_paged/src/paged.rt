@@ -1,6 +1,6 @@
 ghost use Rattle.std.specs.Prelude.{◌≡◌, ◌<◌, ℕ, true, false, None};
-ghost use Rattle.mm_life.specs.Legal.{is_thread};
-ghost use Rattle.mm_pages.specs.Reports.{no_calls};
+ghost use Rattle.mm_life.specs.{is_thread};
+ghost use Rattle.mm_pages.specs.{no_calls};
 ghost use Rattle.mm_paged.specs.Shown.{StoreKept, own_of, store_of, behind_of};
 
 use mm_moving::Moving;

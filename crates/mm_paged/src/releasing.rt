@@ -1,7 +1,7 @@
 ghost use Rattle.std.specs.Prelude.{◌≡◌, ◌≤◌, ◌<◌, ◌+◌, ◌-◌, ◌^◌, ℕ, Bool, true, None, Some};
 ghost use Rattle.mm_types.specs.declared.numbers.Key.TheVariants.{Private};
-ghost use Rattle.mm_types.specs.declared.numbers.Place.{Place};
-ghost use Rattle.mm_pages.specs.Conditions.{AreAmong, place_at};
+ghost use Rattle.mm_types.specs.{Place};
+ghost use Rattle.mm_pages.specs.{AreAmong, place_at};
 ghost use Rattle.mm_pages.specs.Leaving.{Leaving};
 ghost use Rattle.mm_paged.specs.Pieces.{LetGo, LetsGo, MayLetGo, MayLetOwnGo, NextGone, OwnLetGo, Thins};
 

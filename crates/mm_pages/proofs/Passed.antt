@@ -1,29 +1,19 @@
 -- What two calls of a store did, one after another.
-use Rattle.std.proofs.Common.{append-nil, ◌+◌, ◌≡◌, ℕ, ◌≤◌, ◌<◌, List, [], ◌∷◌, ◌++◌, Bool, true, false, Option, Some, None, refl, sym, ap, ◌∙◌, subst, append_assoc, arith, ◌^◌}
-use Rattle.mm_types.specs.declared.devices.Direction.{Direction}
-use Rattle.mm_types.specs.declared.frames.Backing.{Backing}
-use Rattle.mm_types.specs.declared.moves.Move.{Move}
+use Rattle.std.proofs.Common.{◌+◌, ◌≡◌, ℕ, ◌≤◌, ◌<◌, List, [], ◌∷◌, ◌++◌, Bool, true, false, Option, Some, None, refl, sym, ap, ◌∙◌, subst, append_assoc, arith, ◌^◌}
+use Rattle.mm_types.specs.{Direction, Backing, Move, Place}
 use Rattle.mm_types.specs.declared.moves.Move.TheVariants as move
 use Rattle.mm_types.specs.declared.numbers.Key.TheVariants as key
-use Rattle.mm_types.specs.declared.numbers.Place.{Place}
-use Rattle.mm_blocks.specs.declared.device_calls.DeviceCall.{DeviceCall}
-use Rattle.mm_life.specs.Life.{FrameLife}
-use Rattle.mm_life.specs.Effect.{after_move}
-use Rattle.mm_life.specs.Logs.{Grew}
-use Rattle.mm_life.specs.Replay.{Replays}
-use Rattle.mm_life.proofs.Replays.{replays_then, spelled-append, moves-append}
-use Rattle.mm_life.proofs.Noting.{grew_then, grew_nothing}
-use Rattle.mm_pages.specs.Store.{StoreOf}
+use Rattle.mm_blocks.specs.{DeviceCall, KeepsOthers}
+use Rattle.mm_life.specs.{FrameLife, after_move, Grew, Replays, Waiting, waits_after, ages_after, waits_through, ages_through}
+use Rattle.mm_life.proofs.{replays_then, spelled-append, moves-append, grew_then, grew_nothing}
+use Rattle.mm_pages.specs.{StoreOf, told_of, told_after, told_through, call_of, calls_of, in_slot, in_block, Turn, MakesFrom, MakesStack, is_turn}
+use Rattle.mm_pages.specs.{AllTurn, with_some, number_made, numbers_made, Climbs, rank_gone, ranks_gone, Rises, LowestFirst, IsInOrder, Turned}
+use Rattle.mm_pages.specs.{ByMoves, Turns, Passes, PassesIn}
 use Rattle.mm_pages.specs.Behind.{Behind}
 use Rattle.mm_pages.specs.Leaving.{Leaving}
-use Rattle.mm_life.specs.Waits.{Waiting, waits_after, ages_after}
-use Rattle.mm_life.specs.Walks.{waits_through, ages_through}
-use Rattle.mm_pages.specs.Told.{Told, told_of, told_after, told_through, call_of, calls_of, in_slot, in_block}
-use Rattle.mm_pages.specs.Housekeeping.{Turn, MakesFrom, MakesStack, Ends, is_turn, AllTurn, with_some, number_made, numbers_made, Climbs, rank_gone, ranks_gone, Rises, LowestFirst, IsInOrder, Turned, ByMoves, Turns}
-use Rattle.mm_pages.specs.Passing.{Passes, PassesIn}
-use Rattle.mm_blocks.proofs.Serving.{all_served_then, map-logged}
-use Rattle.mm_blocks.specs.Devices.{KeepsOthers}
-use Rattle.mm_blocks.proofs.Holding.{keeps_same, keeps_then}
+use Rattle.mm_pages.specs.Told.{Told}
+use Rattle.mm_pages.specs.Housekeeping.{Ends}
+use Rattle.mm_blocks.proofs.{all_served_then, map-logged, keeps_same, keeps_then}
 
 -- ---- moves, one list behind another
 
@@ -76,22 +66,9 @@ passes_then false P Q R s y z b c d j p q = passes_both P Q R s y z b c d j p q
 -- ---- more places, in a wider range
 
 is_turn_more : (held more : Leaving) (from to low high : ℕ) → ((p : Place) → held.places p ≡ true → more.places p ≡ true) → (m : Move) → is_turn (Ends held from to) m ≡ true → is_turn (Ends more low high) m ≡ true
-is_turn_more held more from to low high h (move.At n k) e = e
-is_turn_more held more from to low high h (move.Add k b) e = e
 is_turn_more held more from to low high h (move.Drop (key.Private pid vpn)) e = h (record { pid = pid; vpn = vpn }) e
-is_turn_more held more from to low high h (move.Drop (key.Shared area index)) e = e
-is_turn_more held more from to low high h (move.Clear f) e = e
-is_turn_more held more from to low high h (move.Steal f) e = e
-is_turn_more held more from to low high h (move.Give f k) e = e
-is_turn_more held more from to low high h (move.Read f k) e = e
-is_turn_more held more from to low high h (move.Got f) e = e
-is_turn_more held more from to low high h (move.Bad f) e = e
-is_turn_more held more from to low high h (move.Map f p) e = e
 is_turn_more held more from to low high h (move.Unmap p) e = h p e
-is_turn_more held more from to low high h (move.Soil f) e = e
-is_turn_more held more from to low high h (move.Write f s) e = e
-is_turn_more held more from to low high h (move.Wrote f) e = e
-is_turn_more held more from to low high h (move.Lost f) e = e
+is_turn_more held more from to low high h _ e = e
 
 all_turn_more : (held more : Leaving) (from to low high : ℕ) → ((p : Place) → held.places p ≡ true → more.places p ≡ true) → (ms : List Move) → AllTurn (Ends held from to) ms → AllTurn (Ends more low high) ms
 all_turn_more held more from to low high h [] a = tt
@@ -135,9 +112,10 @@ pub rises_wider : (from low to high : ℕ) (ps : List ℕ) → low ≤ from → 
 rises_wider from low to high [] l h r = tt
 rises_wider from low to high (p ∷ ps) l h r = (omega (arith, l, r.0), omega (arith, h, r.1), rises_wider p p to high ps (omega arith) h r.2)
 
-pub rises_then : (from mid to : ℕ) (ps qs : List ℕ) → from ≤ mid → mid ≤ to → Rises from mid ps → Rises mid to qs → Rises from to (ps ++ qs)
-rises_then from mid to [] qs l h p q = rises_wider mid from to to qs l (omega arith) q
-rises_then from mid to (x ∷ ps) qs l h p q = (p.0, omega (arith, h, p.1), rises_then x mid to ps qs (omega (arith, p.1)) h p.2 q)
+-- the last rank of one list may be the first of the next
+rises_join : (from mid low to : ℕ) (ps qs : List ℕ) → from ≤ low → mid ≤ low + 1 → mid ≤ to → Rises from mid ps → Rises low to qs → Rises from to (ps ++ qs)
+rises_join from mid low to [] qs l m h p q = rises_wider low from to to qs l (omega arith) q
+rises_join from mid low to (x ∷ ps) qs l m h p q = (p.0, omega (arith, h, p.1), rises_join x mid low to ps qs (omega (arith, m, p.1)) m h p.2 q)
 
 pub lowest_then : (xs ys : List Move) (l m : FrameLife) → Replays xs l m → LowestFirst l xs → LowestFirst m ys → LowestFirst l (xs ++ ys)
 lowest_then [] ys l m r p q = subst (λ (k : FrameLife). LowestFirst k ys) r q
@@ -194,12 +172,21 @@ stack_then u guard s y z b c d p q =
     (λ xs ys v w. record { pages = numbers_made xs; last = numbers_made ys; whole = made_then xs ys; above = v; below = w }))) p q
 
 -- pages go in both calls
+ends_join : (u : Bool) (held : Leaving) (from mid low to : ℕ) (s y z : StoreOf) (b c d : Behind) → from ≤ low → mid ≤ low + 1 → mid ≤ to → PassesIn u (Turns (Ends held from mid)) s y b c → PassesIn u (Turns (Ends held low to)) y z c d → PassesIn u (Turns (Ends held from to)) s z b d
+ends_join u held from mid low to s y z b c d l m h p q =
+    passes_then u (Turns (Ends held from mid)) (Turns (Ends held low to)) (Turns (Ends held from to)) s y z b c d
+    (turns_join (Ends held from mid) (Ends held low to) (Ends held from to)
+    (turned_then (Ends held from mid) (Ends held low to) (Ends held from to) (all_ends held from mid from to) (all_ends held low to from to)
+    (λ xs ys v w. subst (Rises from to) (sym (gone_then held.rank xs ys)) (rises_join from mid low to (ranks_gone held.rank xs) (ranks_gone held.rank ys) l m h v w)))) p q
+
 pub ends_then : (u : Bool) (held : Leaving) (from mid to : ℕ) (s y z : StoreOf) (b c d : Behind) → from ≤ mid → mid ≤ to → PassesIn u (Turns (Ends held from mid)) s y b c → PassesIn u (Turns (Ends held mid to)) y z c d → PassesIn u (Turns (Ends held from to)) s z b d
-ends_then u held from mid to s y z b c d l h p q =
-    passes_then u (Turns (Ends held from mid)) (Turns (Ends held mid to)) (Turns (Ends held from to)) s y z b c d
-    (turns_join (Ends held from mid) (Ends held mid to) (Ends held from to)
-    (turned_then (Ends held from mid) (Ends held mid to) (Ends held from to) (all_ends held from mid from to) (all_ends held mid to from to)
-    (λ xs ys v w. subst (Rises from to) (sym (gone_then held.rank xs ys)) (rises_then from mid to (ranks_gone held.rank xs) (ranks_gone held.rank ys) l h v w)))) p q
+ends_then u held from mid to s y z b c d l h = ends_join u held from mid mid to s y z b c d l (omega arith) h
+
+-- the last rank of one call is the first of the next
+pub ends_meet : (u : Bool) (held : Leaving) (from rank to : ℕ) (s y z : StoreOf) (b c d : Behind)
+    → from ≤ rank → rank < to → PassesIn u (Turns (Ends held from (rank + 1))) s y b c
+    → PassesIn u (Turns (Ends held rank to)) y z c d → PassesIn u (Turns (Ends held from to)) s z b d
+ends_meet u held from rank to s y z b c d l h = ends_join u held from (rank + 1) rank to s y z b c d l (omega arith) (omega (arith, h))
 
 -- what is told of the moves, told otherwise
 turned_as : (u : Bool) (t v : Turn) (s z : StoreOf) (b c : Behind) → ((ms : List Move) → Turned t b.life ms → Turned v b.life ms) → PassesIn u (Turns t) s z b c → PassesIn u (Turns v) s z b c
@@ -269,17 +256,6 @@ idle_before u t s y z b c d p q =
           };
     }) (p (MakesFrom 0 0)) q
 
-pub idle_behind : (u : Bool) (t : Turn) (s y z : StoreOf) (b c d : Behind) → PassesIn u (Turns t) s y b c → ((turn : Turn) → PassesIn u (Turns turn) y z c d) → PassesIn u (Turns t) s z b d
-idle_behind u t s y z b c d p q =
-    passes_then u (Turns t) (Turns (MakesFrom 0 0)) (Turns t) s y z b c d
-    (record {
-      join = λ b c d xs ys r v w. record {
-        turned = subst (Turned t b.life) (sym (ap (λ (zs : List Move). xs ++ zs) (none_made c.life ys w.turned) ∙ append-nil xs)) v.turned;
-        moved = moved_then b c d xs ys v.moved w.moved;
-        slots = w.slots ∙ v.slots;
-      };
-    }) p (q (MakesFrom 0 0))
-
 -- no call
 pub turns_nothing : (u : Bool) (t : Turn) (s z : StoreOf) (b c : Behind) → c ≡ b → told_of z.report ≡ told_of s.report → z.paging_device ≡ s.paging_device → z.file_device ≡ s.file_device → z.file_blocks ≡ s.file_blocks → PassesIn u (Turns t) s z b c
 turns_nothing true t s z b c e r p f k = e
@@ -316,21 +292,3 @@ ends_wider u held from to low high s z b c l e p =
       order = rises_wider from low to high (ranks_gone held.rank ms) l e t.order;
       lowest = t.lowest;
     }) p
-
--- the last rank of one call is the first of the next
-rises_meet : (from rank to : ℕ) (ps qs : List ℕ) → from ≤ rank → rank < to
-    → Rises from (rank + 1) ps → Rises rank to qs → Rises from to (ps ++ qs)
-rises_meet from rank to [] qs l h p q = rises_wider rank from to to qs l (omega arith) q
-rises_meet from rank to (x ∷ ps) qs l h p q =
-    (p.0, omega (arith, h, p.1), rises_meet x rank to ps qs (omega (arith, p.1)) h p.2 q)
-
-pub ends_meet : (u : Bool) (held : Leaving) (from rank to : ℕ) (s y z : StoreOf) (b c d : Behind)
-    → from ≤ rank → rank < to → PassesIn u (Turns (Ends held from (rank + 1))) s y b c
-    → PassesIn u (Turns (Ends held rank to)) y z c d → PassesIn u (Turns (Ends held from to)) s z b d
-ends_meet u held from rank to s y z b c d l h p q =
-    passes_then u (Turns (Ends held from (rank + 1))) (Turns (Ends held rank to)) (Turns (Ends held from to)) s y z b c d
-    (turns_join (Ends held from (rank + 1)) (Ends held rank to) (Ends held from to)
-    (turned_then (Ends held from (rank + 1)) (Ends held rank to) (Ends held from to)
-    (all_ends held from (rank + 1) from to) (all_ends held rank to from to)
-    (λ xs ys v w. subst (Rises from to) (sym (gone_then held.rank xs ys))
-    (rises_meet from rank to (ranks_gone held.rank xs) (ranks_gone held.rank ys) l h v w)))) p q

@@ -1,28 +1,19 @@
 -- The moves that an access makes.
 -- Profile, "Which frame moves, and when".
 use Rattle.std.specs.Prelude.{◌≡◌, ◌⊎◌, ◌≤◌, ℕ, Bool, true, false, not, is_some, List, [], ◌∷◌, count_by, Some, None, option_map, unwrap_or, ◌==◌, Result, Ok, Err}
-use Rattle.mm_types.specs.declared.faults.PageFault.{PageFault}
+use Rattle.mm_types.specs.{PageFault, Held, Move, Frame, Key, Place}
 use Rattle.mm_types.specs.declared.faults.PageFault.TheVariants as fault
-use Rattle.mm_types.specs.declared.frames.Held.{Held}
 use Rattle.mm_types.specs.declared.frames.Held.TheVariants as held
-use Rattle.mm_types.specs.declared.moves.Move.{Move}
 use Rattle.mm_types.specs.declared.moves.Move.TheVariants as move
-use Rattle.mm_types.specs.declared.numbers.Frame.{Frame}
-use Rattle.mm_types.specs.declared.numbers.Key.{Key}
-use Rattle.mm_types.specs.declared.numbers.Place.{Place}
-use Rattle.mm_life.specs.Frames.{record_at, is_on, is_read}
-use Rattle.mm_life.specs.Life.{FrameLife, set_of, is_live}
-use Rattle.mm_life.specs.Legal.{is_access, is_at_max}
-use Rattle.mm_world.specs.Failure.{Need}
+use Rattle.mm_life.specs.{record_at, is_on, is_read, FrameLife, set_of, is_live, is_access, is_at_max, Waiting, Idle, ForFrame, Walk, Through}
+use Rattle.mm_life.specs.{walked_all, waits_through, ages_through, is_read_move, takes_frame, is_wrote_move, IsOldest, IsVictim, IsWriteEnded}
+use Rattle.mm_life.specs.{Starved, next_writable}
+use Rattle.mm_world.specs.{Need}
 use Rattle.mm_pages.specs.Store.{changed, same_place}
 use Rattle.mm_types.specs.declared.answers.Why.TheVariants as why
 use Rattle.mm_pages.specs.declared.outcomes.Start.{Start}
 use Rattle.mm_pages.specs.declared.outcomes.Start.TheVariants as start
 use Rattle.mm_pages.specs.Behind.{Behind}
-use Rattle.mm_life.specs.Waits.{Waiting, Idle, ForFrame}
-use Rattle.mm_life.specs.Walks.{Walk, Through, walked_all, waits_through, ages_through, is_read_move, takes_frame, is_wrote_move}
-use Rattle.mm_life.specs.Order.{IsOldest, IsVictim}
-use Rattle.mm_life.specs.Searches.{IsWriteEnded, Starved, next_writable}
 use Rattle.mm_pages.specs.Shortage.{is_shortage}
 
 -- what an access is about: its place, what it needs, whether it writes, and how the frames stood

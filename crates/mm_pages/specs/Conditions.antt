@@ -1,24 +1,15 @@
 -- When a call of a store may be made: which lines make it, and what its keys and places must be.
 use Rattle.std.specs.Prelude.{◌≡◌, ◌≤◌, ◌<◌, ℕ, ◌+◌, Bool, true, false, ◌⊎◌, length, [], Option, None, Some, IsSome, not, ◌&&◌, nat_le, if◌then◌else◌}
-use Rattle.mm_types.specs.declared.numbers.Key.{Key}
+use Rattle.mm_types.specs.{Key, Pid, Place, LineKind, Range, holds_page, MachineOf, Wait, Why}
 use Rattle.mm_types.specs.declared.numbers.Key.TheVariants as key
-use Rattle.mm_types.specs.declared.numbers.Pid.{Pid}
-use Rattle.mm_types.specs.declared.numbers.Place.{Place}
-use Rattle.mm_types.specs.declared.moves.LineKind.{LineKind}
 use Rattle.mm_types.specs.declared.moves.LineKind.TheVariants as kind
-use Rattle.mm_types.specs.Address.{Range, holds_page}
-use Rattle.mm_types.specs.Machine.{MachineOf}
-use Rattle.mm_world.specs.World.{Page}
-use Rattle.mm_world.specs.Failure.{Need}
+use Rattle.mm_world.specs.{Page, Need, is_short, is_being_read, is_in_store}
 use Rattle.mm_pages.specs.Store.{StoreOf, own_key, kind_of_machine}
 use Rattle.mm_pages.specs.Leaving.{Leaving, page_rank}
 use Rattle.mm_pages.specs.Reports.{IsBegun}
-use Rattle.mm_types.specs.declared.answers.Wait.{Wait}
 use Rattle.mm_types.specs.declared.answers.Wait.TheVariants as wait
-use Rattle.mm_types.specs.declared.answers.Why.{Why}
 use Rattle.mm_types.specs.declared.answers.Why.TheVariants as why
-use Rattle.mm_world.specs.Report.{Report, is_short}
-use Rattle.mm_world.specs.Failure.{is_being_read, is_in_store}
+use Rattle.mm_world.specs.Report.{Report}
 use Rattle.mm_pages.specs.declared.outcomes.Start.{Start}
 use Rattle.mm_pages.specs.declared.outcomes.Start.TheVariants as start
 use Rattle.mm_pages.specs.declared.outcomes.Need.{Need as Wanted}

@@ -2,27 +2,18 @@
 -- Profile, "Which frame moves, and when".
 use Rattle.std.specs.Prelude.{◌≡◌, ◌≤◌, ◌<◌, ℕ, Option, None, ◌-◌, Bool, true, false, not, List, [], ◌∷◌, ◌+◌, ◌^◌, ◌++◌, length, min, replicate, slice_get, Some, Result, Ok, Err}
 use Rattle.mm_types.specs.declared.moves.LineKind.TheVariants as kind
-use Rattle.mm_types.specs.declared.faults.GrowFault.{GrowFault}
+use Rattle.mm_types.specs.{GrowFault, Answer, page_of, end_of_user_pages, Move, Key, Pid, Place}
 use Rattle.mm_types.specs.declared.faults.GrowFault.TheVariants as grow_fault
-use Rattle.mm_types.specs.declared.answers.Answer.{Answer}
 use Rattle.mm_types.specs.declared.answers.Answer.TheVariants as answer
-use Rattle.mm_types.specs.Address.{page_of, end_of_user_pages}
-use Rattle.mm_world.specs.World.{filled}
+use Rattle.mm_world.specs.{filled}
 use Rattle.mm_pages.specs.declared.outcomes.Done.{Done}
 use Rattle.mm_pages.specs.declared.outcomes.Done.TheVariants as done
-use Rattle.mm_types.specs.declared.moves.Move.{Move}
 use Rattle.mm_types.specs.declared.moves.Move.TheVariants as move
-use Rattle.mm_types.specs.declared.numbers.Key.{Key}
 use Rattle.mm_types.specs.declared.numbers.Key.TheVariants as key
-use Rattle.mm_types.specs.declared.numbers.Pid.{Pid}
-use Rattle.mm_types.specs.declared.numbers.Place.{Place}
-use Rattle.mm_life.specs.Frames.{record_at}
-use Rattle.mm_life.specs.Effect.{after_move}
-use Rattle.mm_life.specs.Life.{FrameLife, set_of, is_live}
+use Rattle.mm_life.specs.{record_at, after_move, FrameLife, set_of, is_live, Through, waits_through, ages_through, TrimMove, spare_of, all_aged}
+use Rattle.mm_life.specs.{frame_of, clearings, writes_begun, ending}
 use Rattle.mm_pages.specs.Behind.{Behind}
 use Rattle.mm_pages.specs.Leaving.{Leaving, page_rank}
-use Rattle.mm_life.specs.Walks.{Through, waits_through, ages_through}
-use Rattle.mm_life.specs.Chores.{TrimMove, spare_of, all_aged, frame_of, clearings, writes_begun, ending}
 use Rattle.mm_pages.specs.Accesses.{walk_from}
 use Rattle.mm_pages.specs.Flushing.{FlushedAt, ends_lost, Flushing}
 

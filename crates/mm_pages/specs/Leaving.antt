@@ -1,11 +1,8 @@
 -- The order in which pages go that a line takes away.
 -- Profile, "Which frame moves, and when".
 use Rattle.std.specs.Prelude.{ℕ, zero, suc, ◌+◌, ◌*◌, ◌-◌, ◌^◌, Bool, false, ◌&&◌, ◌==◌, if◌then◌else◌, List, [], ◌∷◌, Option, Some, None, option_map, unwrap_or, position}
-use Rattle.mm_types.specs.declared.numbers.Place.{Place}
-use Rattle.mm_types.specs.Address.{end_of}
-use Rattle.mm_world.specs.World.{Numbered, RegionOf, ProcessOf, WorldOf, pages_of}
-use Rattle.mm_world.specs.Find.{process_of}
-use Rattle.mm_world.specs.Sections.{is_handle_to, is_view_of, uses}
+use Rattle.mm_types.specs.{Place, end_of}
+use Rattle.mm_world.specs.{Numbered, RegionOf, ProcessOf, WorldOf, pages_of, process_of, is_handle_to, is_view_of, uses}
 
 -- the pages that go: those of places among these, and of each area where it has its rank
 pub record Leaving : Type 0 where

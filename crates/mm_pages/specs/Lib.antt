@@ -11,3 +11,34 @@ pub mod Flushing
 pub mod Housekeeping
 pub mod Standing
 pub mod Passing
+pub use Tallies.{one_more, tallied, with_call, with_outcome}
+pub use Store.{Ready, StoreOf, changed, changed_in, is_place_in, kind_of_machine, own_key}
+pub use Store.{same_place, unnamed, with_blocks, with_file}
+pub use Leaving.{goes_with, handle_rank, last_rank, leaving, nothing, or_else, page_rank}
+pub use Leaving.{rank_behind, section_rank, view_rank}
+pub use Reports.{HasCauses, IsBegun, Served, SomeFailed, begun, called, completed, eased, fetched}
+pub use Reports.{no_calls, rearranged, started, with_named, with_named_paging, wrote}
+pub use Conditions.{AllBound, AreAmong, HasHome, IsAmong, IsLineKind, IsNew, IsReady, IsReleasing}
+pub use Conditions.{MayAccess, MayRemove, MayUnbind, copying, need_for, pid_after, place_at, touch}
+pub use Conditions.{wait_after, waits_at_once}
+pub use Behind.{nothing_behind}
+pub use Told.{call_of, calls_of, file_traffic, in_block, in_slot, none_told, paging_traffic}
+pub use Told.{told_after, told_of, told_through, with_read, with_write}
+pub use Shortage.{is_framed, is_shortage}
+pub use Accesses.{AccessEnds, AccessMove, AccessMoves, Aim, ByCopy, Copies, Failed, Forgets}
+pub use Accesses.{FromFull, Had, InShortage, IsGiven, IsMapped, IsReadEnded, IsTaken, ReadyMoves}
+pub use Accesses.{Starts, Touches, is_had, wait_begun, walk_from}
+pub use Flushing.{FlushMoves, FlushedAt, FlushesBy, IsEndOf, IsEndedFirst, IsWriteOf, IsWrittenIf}
+pub use Flushing.{IsWrittenNow, ends_lost, life_through}
+pub use Housekeeping.{Ages, AllTurn, ByMoves, Clears, Climbs, Completes, CompletesAs, Exactly}
+pub use Housekeeping.{Flushes, FlushesPage, Grows, GrowsAs, IsInOrder, IsLowest, IsStack}
+pub use Housekeeping.{LowestFirst, Makes, MakesFrom, MakesStack, NoMove, OneMove, Rises, Trims}
+pub use Housekeeping.{Turn, Turned, Turns, WritesOut, guard_told, is_turn, number_made, number_of}
+pub use Housekeeping.{numbers_made, rank_gone, ranks_gone, with_some}
+pub use Standing.{Stands, StandsIn, backed_by, block_at, bytes_at, framed_where, in_backing}
+pub use Standing.{is_on_device, stored_of, where_of}
+pub use Passing.{FileMade, Notes, NotesIn, Passes, PassesIn, WritesFile, last_write, writes_from}
+pub use declared.outcomes.Done.{Done}
+pub use declared.outcomes.Need.{Need}
+pub use declared.outcomes.Start.{Start}
+pub use declared.pages.Pages.{Ghosts}

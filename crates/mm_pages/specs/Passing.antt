@@ -2,14 +2,10 @@
 -- stand for.
 use Rattle.std.specs.Prelude.{◌≡◌, ◌<◌, ℕ, zero, suc, ◌+◌, Bool, true, false, List, [], ◌∷◌, ◌++◌, map, Result, Ok, Err}
 use Rattle.mm_types.specs.declared.devices.Direction.TheVariants as way
-use Rattle.mm_types.specs.declared.faults.MakeFault.{MakeFault}
+use Rattle.mm_types.specs.{MakeFault, Move}
 use Rattle.mm_types.specs.declared.faults.MakeFault.TheVariants as make_fault
-use Rattle.mm_blocks.specs.declared.device_calls.DeviceCall.{DeviceCall}
-use Rattle.mm_types.specs.declared.moves.Move.{Move}
-use Rattle.mm_life.specs.Logs.{Grew}
-use Rattle.mm_life.specs.MoveText.{AreMoves, spelled_moves}
-use Rattle.mm_life.specs.Replay.{Replays}
-use Rattle.mm_blocks.specs.Devices.{Call, AllServed, logged_call, KeepsOthers}
+use Rattle.mm_blocks.specs.{DeviceCall, Call, AllServed, logged_call, KeepsOthers}
+use Rattle.mm_life.specs.{Grew, AreMoves, spelled_moves, Replays}
 use Rattle.mm_pages.specs.Tallies.{tallied}
 use Rattle.mm_pages.specs.Store.{StoreOf}
 use Rattle.mm_pages.specs.Behind.{Behind}

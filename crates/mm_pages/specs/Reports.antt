@@ -1,12 +1,11 @@
 -- How a store's report and its devices change in a call.
 use Rattle.std.specs.Prelude.{◌≡◌, ◌⊎◌, ◌<◌, Bool, true, false, ◌++◌, List, [], ◌∷◌, None, Result, IsErrOf, OnOk}
-use Rattle.mm_blocks.specs.declared.device_calls.NamedCalls.{NamedCalls}
+use Rattle.mm_blocks.specs.{NamedCalls, DeviceOf, Call, AllServed, CallFailed}
 use Rattle.mm_types.specs.declared.devices.Direction.TheVariants as way
-use Rattle.mm_types.specs.declared.faults.PageFault.{PageFault}
+use Rattle.mm_types.specs.{PageFault}
 use Rattle.mm_types.specs.declared.faults.PageFault.TheVariants as fault
-use Rattle.mm_world.specs.Report.{Report, Tally, is_short}
-use Rattle.mm_world.specs.Failure.{Need, access_fails, read_failed, search_failed, still_needs_frame}
-use Rattle.mm_blocks.specs.Devices.{DeviceOf, Call, AllServed, CallFailed}
+use Rattle.mm_world.specs.{Tally, is_short, Need, access_fails, read_failed, search_failed, still_needs_frame}
+use Rattle.mm_world.specs.Report.{Report}
 use Rattle.mm_pages.specs.Tallies.{tallied}
 use Rattle.mm_pages.specs.Store.{StoreOf}
 

@@ -1,22 +1,14 @@
 -- How what a store shows stands to what is behind it: live keys, counts, where pages are, what is
 -- valid, where bytes stand.
 use Rattle.std.specs.Prelude.{◌≡◌, ◌<◌, ℕ, ◌+◌, Bool, true, false, if◌then◌else◌, is_some, List, length, slice_get, Option, Some, None}
-use Rattle.mm_types.specs.declared.frames.Backing.{Backing}
+use Rattle.mm_types.specs.{Backing, Held, Record, Frame, Key, Place}
 use Rattle.mm_types.specs.declared.frames.Backing.TheVariants as backing
-use Rattle.mm_types.specs.declared.frames.Held.{Held}
 use Rattle.mm_types.specs.declared.frames.Held.TheVariants as held
-use Rattle.mm_types.specs.declared.frames.Record.{Record}
-use Rattle.mm_types.specs.declared.numbers.Frame.{Frame}
-use Rattle.mm_types.specs.declared.numbers.Key.{Key}
-use Rattle.mm_types.specs.declared.numbers.Place.{Place}
 use Rattle.mm_types.specs.declared.answers.Wait.TheVariants as wait
-use Rattle.mm_life.specs.Frames.{record_at, is_read}
-use Rattle.mm_life.specs.Life.{FrameLife, is_live, counts_of}
-use Rattle.mm_world.specs.World.{Page, filled}
-use Rattle.mm_world.specs.Report.{Whereabouts, InFrame, BeingRead, AtZero, InStore}
+use Rattle.mm_life.specs.{record_at, is_read, FrameLife, is_live, counts_of, wait_of}
+use Rattle.mm_world.specs.{Page, filled, Whereabouts, InFrame, BeingRead, AtZero, InStore}
 use Rattle.mm_pages.specs.Store.{StoreOf}
 use Rattle.mm_pages.specs.Behind.{Behind, nothing_behind}
-use Rattle.mm_life.specs.Waits.{wait_of}
 
 -- where a key's page is
 abbrev pub framed_where : Record → Whereabouts

@@ -1,9 +1,8 @@
 -- How many calls of a device there were, as a report counts them.
 use Rattle.std.specs.Prelude.{ℕ, ◌+◌, ◌-◌, ◌^◌, min, Bool, true, false, if◌then◌else◌, List, [], ◌∷◌}
-use Rattle.mm_types.specs.declared.devices.Direction.{Direction}
-use Rattle.mm_blocks.specs.Devices.{Call}
-use Rattle.mm_blocks.specs.Traffic.{same_direction}
-use Rattle.mm_world.specs.Report.{Tally}
+use Rattle.mm_types.specs.{Direction}
+use Rattle.mm_blocks.specs.{Call, same_direction}
+use Rattle.mm_world.specs.{Tally}
 
 -- a count that stands still at its type's end
 abbrev pub one_more : ℕ → ℕ

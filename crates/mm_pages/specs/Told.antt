@@ -1,17 +1,13 @@
 -- What moves tell of devices: the report's counts, and the calls of each device.
 use Rattle.std.specs.Prelude.{Bool, true, false, List, [], ◌∷◌, ◌++◌, Option, None}
-use Rattle.mm_types.specs.declared.devices.Direction.{Direction}
+use Rattle.mm_types.specs.{Direction, Backing, Move, Key}
 use Rattle.mm_types.specs.declared.devices.Direction.TheVariants as way
-use Rattle.mm_types.specs.declared.frames.Backing.{Backing}
 use Rattle.mm_types.specs.declared.frames.Backing.TheVariants as backing
-use Rattle.mm_types.specs.declared.moves.Move.{Move}
 use Rattle.mm_types.specs.declared.moves.Move.TheVariants as move
-use Rattle.mm_blocks.specs.declared.device_calls.DeviceCall.{DeviceCall}
-use Rattle.mm_life.specs.Frames.{record_at}
-use Rattle.mm_life.specs.Life.{FrameLife}
-use Rattle.mm_life.specs.Effect.{after_move}
-use Rattle.mm_types.specs.declared.numbers.Key.{Key}
-use Rattle.mm_world.specs.Report.{Report, Tally}
+use Rattle.mm_blocks.specs.{DeviceCall}
+use Rattle.mm_life.specs.{record_at, FrameLife, after_move}
+use Rattle.mm_world.specs.{Tally}
+use Rattle.mm_world.specs.Report.{Report}
 use Rattle.mm_pages.specs.Tallies.{with_outcome}
 use Rattle.mm_pages.specs.Reports.{no_calls}
 

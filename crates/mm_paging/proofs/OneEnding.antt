@@ -3,32 +3,21 @@ use Rattle.std.proofs.Common.{◌≡◌, ◌≢◌, ◌≤◌, ◌<◌, ◌^◌,
 use Rattle.std.proofs.lemmas.Bool.{eqb-true, cases_lt}
 use Rattle.std.proofs.lemmas.List.Quantifiers.{position-Some}
 use Rattle.std.specs.Prelude.{◌==◌, ◌&&◌, ◌||◌, position}
-use Rattle.mm_types.proofs.Booleans.{parts}
-use Rattle.mm_types.specs.Address.{end_of, end_of_user_pages}
-use Rattle.mm_types.specs.declared.frames.Held.{Held}
+use Rattle.mm_types.proofs.{parts}
+use Rattle.mm_types.specs.{end_of, end_of_user_pages, Held, Move, Area, Frame, Key, Place, Kind, first_user_page}
 use Rattle.mm_types.specs.declared.frames.Held.TheVariants as held
-use Rattle.mm_types.specs.declared.moves.Move.{Move}
 use Rattle.mm_types.specs.declared.moves.Move.TheVariants as move
-use Rattle.mm_types.specs.declared.numbers.Area.{Area}
-use Rattle.mm_types.specs.declared.numbers.Frame.{Frame}
-use Rattle.mm_types.specs.declared.numbers.Key.{Key}
 use Rattle.mm_types.specs.declared.numbers.Key.TheVariants as key
-use Rattle.mm_types.specs.declared.numbers.Place.{Place}
-use Rattle.mm_types.specs.declared.views.Kind.{Kind}
 use Rattle.mm_types.specs.declared.views.Kind.TheVariants as kind
-use Rattle.mm_life.specs.Frames.{record_at}
-use Rattle.mm_life.specs.Life.{FrameLife, is_live, is_dead, same_key, same_place}
-use Rattle.mm_life.specs.Legal.{IsLegal, is_call, is_unbind, is_unmapped, may_unmap}
-use Rattle.mm_life.specs.Effect.{after_move, after_unmap_at, dropped_at}
-use Rattle.mm_life.specs.Replay.{Replays}
-use Rattle.mm_world.specs.World.{World, Page, RegionOf, ProcessOf, SectionOf, numbered, pages_of}
-use Rattle.mm_world.specs.Find.{process_of}
-use Rattle.mm_world.specs.Sections.{is_handle_to, is_view_of, uses}
-use Rattle.mm_world.specs.WellFormed.{LaidOut}
-use Rattle.mm_types.specs.Address.{first_user_page}
-use Rattle.mm_pages.specs.Leaving.{Leaving, page_rank, or_else, last_rank, rank_behind, view_rank, handle_rank, section_rank, goes_with, leaving}
-use Rattle.mm_pages.specs.Housekeeping.{Ends, Goes, Turned, AllTurn, is_turn, rank_gone, ranks_gone, Rises, IsLowest, LowestFirst}
-use Rattle.mm_paging.specs.OneLog.{Stands}
+use Rattle.mm_life.specs.{record_at, FrameLife, is_live, is_dead, same_key, same_place, IsLegal, is_call, is_unbind, is_unmapped, may_unmap}
+use Rattle.mm_life.specs.{after_move, after_unmap_at, dropped_at, Replays}
+use Rattle.mm_world.specs.{Page, RegionOf, ProcessOf, SectionOf, numbered, pages_of, process_of, is_handle_to, is_view_of, uses, LaidOut}
+use Rattle.mm_world.specs.World.{World}
+use Rattle.mm_pages.specs.{page_rank, or_else, last_rank, rank_behind, view_rank, handle_rank, section_rank, goes_with, leaving, Turned, AllTurn}
+use Rattle.mm_pages.specs.{is_turn, rank_gone, ranks_gone, Rises, IsLowest, LowestFirst}
+use Rattle.mm_pages.specs.Leaving.{Leaving}
+use Rattle.mm_pages.specs.Housekeeping.{Ends, Goes}
+use Rattle.mm_paging.specs.{Stands}
 
 -- ---- what moves leave
 

@@ -2,28 +2,18 @@
 use Rattle.std.proofs.Common.{◌≡◌, ℕ, Bool, true, false, List, [], ◌∷◌, ◌++◌, Some, None, refl, sym, ap, ◌∙◌, subst, inl, inr, arith}
 use Rattle.std.proofs.lemmas.Bool.{eqb-true}
 use Rattle.std.specs.Prelude.{IsTrue, not, is_some, ◌&&◌, ◌||◌, ◌==◌}
-use Rattle.mm_types.specs.declared.frames.Backing.{Backing}
+use Rattle.mm_types.specs.{Backing, Held, Record, Request, LineKind, Move, Stored, Frame, Key}
 use Rattle.mm_types.specs.declared.frames.Backing.TheVariants as backing
-use Rattle.mm_types.specs.declared.frames.Held.{Held}
 use Rattle.mm_types.specs.declared.frames.Held.TheVariants as held
-use Rattle.mm_types.specs.declared.frames.Record.{Record}
-use Rattle.mm_types.specs.declared.frames.Request.{Request}
 use Rattle.mm_types.specs.declared.frames.Request.TheVariants as request
-use Rattle.mm_types.specs.declared.moves.LineKind.{LineKind}
 use Rattle.mm_types.specs.declared.moves.LineKind.TheVariants as kind
-use Rattle.mm_types.specs.declared.moves.Move.{Move}
 use Rattle.mm_types.specs.declared.moves.Move.TheVariants as move
-use Rattle.mm_types.specs.declared.moves.Stored.{Stored}
 use Rattle.mm_types.specs.declared.moves.Stored.TheVariants as stored
-use Rattle.mm_types.specs.declared.numbers.Frame.{Frame}
-use Rattle.mm_types.specs.declared.numbers.Key.{Key}
-use Rattle.mm_life.specs.Frames.{record_at, is_on, has_request}
-use Rattle.mm_life.specs.Life.{FrameLife}
-use Rattle.mm_life.specs.Legal.{is_access, is_writer, is_block, is_lowest, owner_is, has_depth, may_write_block, is_legal_write}
-use Rattle.mm_life.specs.Effect.{after_move}
-use Rattle.mm_life.specs.Replay.{Replays}
-use Rattle.mm_pages.specs.Flushing.{IsWriteOf, IsEndOf, IsWrittenNow, IsWrittenIf, IsEndedFirst, FlushesBy, FlushedAt, Flushing, ends_lost, life_through}
-use Rattle.mm_paging.specs.OneLog.{outcomes, AnswerAlike}
+use Rattle.mm_life.specs.{record_at, is_on, has_request, FrameLife, is_access, is_writer, is_block, is_lowest, owner_is, has_depth, may_write_block}
+use Rattle.mm_life.specs.{is_legal_write, after_move, Replays}
+use Rattle.mm_pages.specs.{IsWriteOf, IsEndOf, IsWrittenNow, IsWrittenIf, IsEndedFirst, FlushesBy, FlushedAt, ends_lost, life_through}
+use Rattle.mm_pages.specs.Flushing.{Flushing}
+use Rattle.mm_paging.specs.{outcomes, AnswerAlike}
 
 -- ---- where a page is written to
 

@@ -2,37 +2,21 @@
 use Rattle.std.proofs.Common.{◌≡◌, ◌≤◌, ◌<◌, ◌^◌, ℕ, ◌+◌, ◌-◌, Bool, true, false, cond, List, [], ◌∷◌, ◌++◌, map, Option, Some, None, refl, sym, ap, ◌∙◌, subst, inl, inr, ◌⊎◌, arith}
 use Rattle.std.proofs.lemmas.Bool.{eqb-true, and_parts, cases_lt}
 use Rattle.std.specs.Prelude.{IsTrue, not, ◌&&◌, ◌||◌, ◌==◌, nat_lt, if◌then◌else◌, is_some, length, min, slice_get}
-use Rattle.mm_types.proofs.Booleans.{not_left, not_third}
-use Rattle.mm_types.specs.declared.answers.Answer.{Answer}
+use Rattle.mm_types.proofs.{not_left, not_third}
+use Rattle.mm_types.specs.{Answer, Event, Held, Move, Block, Key, Pid, Place, Frame}
 use Rattle.mm_types.specs.declared.answers.Answer.TheVariants as answer
-use Rattle.mm_types.specs.declared.events.Event.{Event}
 use Rattle.mm_types.specs.declared.events.Event.TheVariants as line
-use Rattle.mm_types.specs.declared.frames.Held.{Held}
 use Rattle.mm_types.specs.declared.frames.Held.TheVariants as held
-use Rattle.mm_types.specs.declared.moves.Move.{Move}
 use Rattle.mm_types.specs.declared.moves.Move.TheVariants as move
-use Rattle.mm_types.specs.declared.numbers.Block.{Block}
-use Rattle.mm_types.specs.declared.numbers.Key.{Key}
 use Rattle.mm_types.specs.declared.numbers.Key.TheVariants as key
-use Rattle.mm_types.specs.declared.numbers.Pid.{Pid}
-use Rattle.mm_types.specs.declared.numbers.Place.{Place}
-use Rattle.mm_life.specs.Frames.{record_at}
-use Rattle.mm_life.specs.Life.{FrameLife, is_live, is_dead, same_key, is_shared, set_of}
-use Rattle.mm_life.specs.Legal.{is_call, is_legal_add}
-use Rattle.mm_life.specs.Effect.{after_move, after_add}
-use Rattle.mm_life.specs.Replay.{Replays}
-use Rattle.mm_life.specs.Victims.{Aged, goes_before}
+use Rattle.mm_life.specs.{record_at, FrameLife, is_live, is_dead, same_key, is_shared, set_of, is_call, is_legal_add, after_move, after_add, Replays}
+use Rattle.mm_life.specs.{Aged, goes_before, TrimMove, spare_of, ending, frame_of, IsOldest, page_first, may_go, Walk, walked, Through}
 use Rattle.mm_world.specs.World.{World}
-use Rattle.mm_life.specs.Chores.{TrimMove, spare_of, ending, frame_of}
-use Rattle.mm_life.specs.Order.{IsOldest, page_first, may_go}
-use Rattle.mm_life.specs.Walks.{Walk, walked, Through}
 use Rattle.mm_pages.specs.Behind.{Behind}
-use Rattle.mm_pages.specs.Housekeeping.{Makes, MakesFrom, MakesStack, Turned, AllTurn, number_of, numbers_made, Climbs, IsStack, guard_told, Trims, Completes}
-use Rattle.mm_pages.specs.Standing.{backed_by, block_at}
-use Rattle.mm_paging.specs.Kinds.{lives}
-use Rattle.mm_types.specs.declared.numbers.Frame.{Frame}
-use Rattle.mm_paging.specs.Lines.{Does, Agrees, GivesUp, Trimming, Completing, flushed_keys, is_uncommitted}
-use Rattle.mm_paging.specs.OneLog.{has_one_log, AnsweredAlike, Did, Stands, StandsBefore}
+use Rattle.mm_pages.specs.{Makes, MakesFrom, MakesStack, Turned, AllTurn, number_of, numbers_made, Climbs, IsStack, guard_told, Trims, Completes}
+use Rattle.mm_pages.specs.{backed_by, block_at}
+use Rattle.mm_paging.specs.{lives, Does, Agrees, GivesUp, Trimming, Completing, flushed_keys, is_uncommitted, has_one_log, AnsweredAlike, Did, Stands}
+use Rattle.mm_paging.specs.{StandsBefore}
 use Rattle.mm_paging.proofs.OneEnding.{one_end_log}
 use Rattle.mm_paging.proofs.OneFlush.{flushed}
 

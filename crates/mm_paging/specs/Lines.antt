@@ -1,50 +1,26 @@
 -- What a line does to the life of the frames, by the worlds and the reports before and after it.
 -- Profile, "Which frame moves, and when".
 use Rattle.std.specs.Prelude.{◌≡◌, ◌≤◌, ◌<◌, ◌⊎◌, ℕ, ◌+◌, ◌-◌, ◌==◌, Bool, true, false, not, if◌then◌else◌, is_some, List, [], ◌∷◌, ◌++◌, length, map, replicate, slice_get, Option, Some, None, option_map, option_and_then, unwrap_or}
-use Rattle.mm_types.specs.declared.answers.Answer.{Answer}
+use Rattle.mm_types.specs.{Answer, Event, Held, Move, Frame, Key, Pid, Place, View, Kind, Range, LineKind}
 use Rattle.mm_types.specs.declared.answers.Answer.TheVariants as answer
 use Rattle.mm_types.specs.declared.answers.Why.TheVariants as why
 use Rattle.mm_types.specs.declared.codes.Raise.TheVariants as raise
-use Rattle.mm_types.specs.declared.events.Event.{Event}
 use Rattle.mm_types.specs.declared.events.Event.TheVariants as line
-use Rattle.mm_types.specs.declared.frames.Held.{Held}
 use Rattle.mm_types.specs.declared.frames.Held.TheVariants as held
-use Rattle.mm_types.specs.declared.moves.Move.{Move}
 use Rattle.mm_types.specs.declared.moves.Move.TheVariants as move
-use Rattle.mm_types.specs.declared.numbers.Frame.{Frame}
-use Rattle.mm_types.specs.declared.numbers.Key.{Key}
-use Rattle.mm_types.specs.declared.numbers.Pid.{Pid}
-use Rattle.mm_types.specs.declared.numbers.Place.{Place}
-use Rattle.mm_types.specs.declared.views.View.{View}
-use Rattle.mm_types.specs.declared.views.Kind.{Kind}
 use Rattle.mm_types.specs.declared.views.Kind.TheVariants as view_kind
-use Rattle.mm_types.specs.Address.{Range}
-use Rattle.mm_life.specs.Frames.{record_at}
-use Rattle.mm_life.specs.Life.{FrameLife, is_live, numbers_from, counts_of}
-use Rattle.mm_life.specs.Effect.{after_move}
-use Rattle.mm_life.specs.Logs.{Grew}
-use Rattle.mm_life.specs.MoveText.{AreMoves, spelled_moves}
-use Rattle.mm_life.specs.Replay.{Replays}
-use Rattle.mm_types.specs.declared.moves.LineKind.{LineKind}
-use Rattle.mm_world.specs.World.{Page, filled, World, KeptOf, RegionOf}
-use Rattle.mm_world.specs.Find.{Found, process_of, area_at}
-use Rattle.mm_world.specs.Keys.{content_of, shared_key}
-use Rattle.mm_world.specs.Views.{flushed_view, flushed_range}
-use Rattle.mm_world.specs.Report.{Report, BeingRead}
-use Rattle.mm_world.specs.Step.{kept_by}
-use Rattle.mm_blocks.specs.Devices.{DeviceOf, Call, AllServed, logged_call, KeepsOthers}
-use Rattle.mm_pages.specs.Store.{changed, same_place}
+use Rattle.mm_life.specs.{record_at, FrameLife, is_live, numbers_from, counts_of, after_move, Grew, AreMoves, spelled_moves, Replays, Waiting, Idle}
+use Rattle.mm_life.specs.{ForFrame, wait_of, waits_through, ages_through, walked_all, is_valid, Starved, all_aged, clearings, writes_begun}
+use Rattle.mm_world.specs.{Page, filled, KeptOf, RegionOf, Found, process_of, area_at, content_of, shared_key, flushed_view, flushed_range, BeingRead}
+use Rattle.mm_world.specs.{kept_by}
+use Rattle.mm_world.specs.World.{World}
+use Rattle.mm_world.specs.Report.{Report}
+use Rattle.mm_blocks.specs.{DeviceOf, Call, AllServed, logged_call, KeepsOthers}
+use Rattle.mm_pages.specs.{changed, same_place, told_of, told_through, paging_traffic, file_traffic, Aim, AccessMoves, walk_from, Makes, MakesStack}
+use Rattle.mm_pages.specs.{Turned, guard_told, Trims, Completes, leaving, where_of, block_at, backed_by}
 use Rattle.mm_pages.specs.Behind.{Behind}
-use Rattle.mm_life.specs.Waits.{Waiting, Idle, ForFrame, wait_of}
-use Rattle.mm_life.specs.Walks.{waits_through, ages_through, walked_all}
-use Rattle.mm_pages.specs.Told.{told_of, told_through, paging_traffic, file_traffic}
-use Rattle.mm_life.specs.Searches.{is_valid, Starved}
-use Rattle.mm_pages.specs.Accesses.{Aim, AccessMoves, walk_from}
-use Rattle.mm_life.specs.Chores.{all_aged, clearings, writes_begun}
 use Rattle.mm_pages.specs.Flushing.{Flushing}
-use Rattle.mm_pages.specs.Housekeeping.{Makes, MakesStack, Goes, Turned, guard_told, Trims, Completes}
-use Rattle.mm_pages.specs.Leaving.{leaving}
-use Rattle.mm_pages.specs.Standing.{where_of, block_at, backed_by}
+use Rattle.mm_pages.specs.Housekeeping.{Goes}
 use Rattle.mm_paging.specs.Kinds.{row_key, file_block_of, kind_of_line, aim_of, lives}
 
 -- ---- the state after a line

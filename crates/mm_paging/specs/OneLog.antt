@@ -1,17 +1,12 @@
 -- Lines that have one log: each of their moves is determined by the world, what stands behind the
 -- store, and the answer. Profile, "Which frame moves, and when".
 use Rattle.std.specs.Prelude.{◌≡◌, ◌<◌, ◌^◌, ℕ, Bool, true, false, List, [], ◌∷◌, length, Option, Some, None}
-use Rattle.mm_types.specs.declared.answers.Answer.{Answer}
-use Rattle.mm_types.specs.declared.events.Event.{Event}
+use Rattle.mm_types.specs.{Answer, Event, Move, Key}
 use Rattle.mm_types.specs.declared.events.Event.TheVariants as line
-use Rattle.mm_types.specs.declared.moves.Move.{Move}
 use Rattle.mm_types.specs.declared.moves.Move.TheVariants as move
-use Rattle.mm_types.specs.declared.numbers.Key.{Key}
-use Rattle.mm_life.specs.Life.{FrameLife, is_live}
-use Rattle.mm_life.specs.Replay.{Replays}
-use Rattle.mm_world.specs.World.{World, Page, ProcessOf}
-use Rattle.mm_world.specs.Find.{process_of}
-use Rattle.mm_world.specs.WellFormed.{Spaces}
+use Rattle.mm_life.specs.{FrameLife, is_live, Replays}
+use Rattle.mm_world.specs.{Page, ProcessOf, process_of, Spaces}
+use Rattle.mm_world.specs.World.{World}
 use Rattle.mm_world.specs.Report.{Report}
 use Rattle.mm_pages.specs.Behind.{Behind}
 use Rattle.mm_paging.specs.Kinds.{kind_of_line}

@@ -1,25 +1,18 @@
 -- Worked lines.
 -- Profile, "Logs of moves".
 use Rattle.std.specs.Prelude.{ℕ, true, false, List, [], ◌∷◌, take, replicate, unwrap_or, Some, None}
-use Rattle.mm_types.specs.declared.numbers.Area.{Area}
-use Rattle.mm_types.specs.declared.numbers.Key.{Key}
+use Rattle.mm_types.specs.{Area, Key, Record, Move}
 use Rattle.mm_types.specs.declared.numbers.Key.TheVariants.{Shared}
-use Rattle.mm_types.specs.declared.frames.Record.{Record}
 use Rattle.mm_types.specs.declared.frames.Request.TheVariants as request
 use Rattle.mm_types.specs.declared.moves.LineKind.TheVariants as kind
-use Rattle.mm_types.specs.declared.moves.Move.{Move}
 use Rattle.mm_types.specs.declared.moves.Move.TheVariants as move
 use Rattle.mm_types.specs.declared.views.Kind.TheVariants.{View}
 use Rattle.mm_types.specs.declared.views.ViewAccess.TheVariants.{Write}
-use Rattle.mm_life.specs.Frames.{given}
-use Rattle.mm_life.specs.Life.{FrameLife, unstarted}
-use Rattle.mm_life.specs.Replay.{replay_log}
-use Rattle.mm_life.specs.WorkedLogs.{rewritten_log, smallest_set_log, pid, place, private}
-use Rattle.mm_pages.specs.Conditions.{touch}
-use Rattle.mm_pages.specs.Behind.{Behind, nothing_behind}
-use Rattle.mm_pages.specs.Accesses.{Aim}
+use Rattle.mm_life.specs.{given, FrameLife, unstarted, replay_log, rewritten_log, smallest_set_log, pid, place, private}
+use Rattle.mm_pages.specs.{touch, nothing_behind, Aim}
+use Rattle.mm_pages.specs.Behind.{Behind}
 use Rattle.mm_pages.specs.Leaving.{Leaving}
-use Rattle.mm_world.specs.World.{RegionOf, ProcessOf}
+use Rattle.mm_world.specs.{RegionOf, ProcessOf}
 
 abbrev pub area : ℕ → Area
 area a = record { 0 = a }

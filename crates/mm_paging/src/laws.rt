@@ -1,7 +1,5 @@
 ghost use Rattle.std.specs.Prelude.{◌≡◌, true, List};
-ghost use Rattle.mm_types.specs.declared.answers.Answer.{Answer};
-ghost use Rattle.mm_types.specs.declared.events.Event.{Event};
-ghost use Rattle.mm_types.specs.declared.moves.Move.{Move};
+ghost use Rattle.mm_types.specs.{Answer, Event, Move};
 ghost use Rattle.mm_world.specs.World.{World};
 ghost use Rattle.mm_pages.specs.Behind.{Behind};
 ghost use Rattle.mm_paging.specs.OneLog.{has_one_log, AnsweredAlike, Did, StandsBefore};

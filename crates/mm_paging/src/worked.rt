@@ -2,13 +2,10 @@ ghost use Rattle.std.specs.Prelude.{◌≡◌, ◌-◌, [], ◌∷◌, true, fal
 ghost use Rattle.mm_types.specs.declared.devices.Direction.TheVariants as way;
 ghost use Rattle.mm_types.specs.declared.moves.Move.TheVariants as move;
 ghost use Rattle.mm_types.specs.declared.moves.Stored.TheVariants as stored;
-ghost use Rattle.mm_life.specs.WorkedLogs.{rewritten_log, smallest_set_log, frame, slot, place, private};
-ghost use Rattle.mm_pages.specs.Accesses.{AccessMoves};
-ghost use Rattle.mm_life.specs.Chores.{writes_begun, clearings};
-ghost use Rattle.mm_pages.specs.Told.{none_told, told_through, paging_traffic};
-ghost use Rattle.mm_pages.specs.Leaving.{page_rank, section_rank};
-ghost use Rattle.mm_pages.specs.Flushing.{FlushMoves};
-ghost use Rattle.mm_pages.specs.Housekeeping.{Makes, MakesStack, Goes, Turned, LowestFirst};
+ghost use Rattle.mm_life.specs.{rewritten_log, smallest_set_log, frame, slot, place, private, writes_begun, clearings};
+ghost use Rattle.mm_pages.specs.{AccessMoves, none_told, told_through, paging_traffic, page_rank, section_rank, FlushMoves, Makes, MakesStack};
+ghost use Rattle.mm_pages.specs.{Turned, LowestFirst};
+ghost use Rattle.mm_pages.specs.Housekeeping.{Goes};
 ghost use Rattle.mm_paging.specs.Worked.{changed_page, page_written_to, shared, section_log, life_after, behind_after, second_write, next_page, going, behind_page, before_all, with_sections};
 
 /// The page that was trimmed is written to the lowest slot; its write, completed, is a call of the

@@ -2,18 +2,13 @@
 use Rattle.std.proofs.Common.{◌≡◌, ℕ, Bool, true, Option, Some, None, refl, sym, ap, ◌∙◌, subst, inl, inr}
 use Rattle.std.specs.Prelude.{is_some, option_map, unwrap_or, MatchOption, IfSome}
 use Rattle.std.specs.Option.{ForSome}
-use Rattle.mm_types.specs.declared.numbers.Pid.{Pid}
-use Rattle.mm_types.specs.declared.numbers.Vpn.{Vpn}
-use Rattle.mm_types.specs.declared.numbers.Place.{Place}
-use Rattle.mm_wset.specs.Ages.{GoesBefore}
-use Rattle.mm_wset.specs.InOrder.{IsNextFrom}
-use Rattle.mm_words.specs.Words.{place_from, is_valid_entry}
-use Rattle.mm_words.specs.Oldest.{ages_in, GoesBehind, IsOldestOf, NoneBehind}
-use Rattle.mm_life.specs.Order.{IsOldest}
-use Rattle.mm_frame_laws.specs.Order.{FollowsPage, IsNextPage, NoPageFollows}
-use Rattle.mm_frame_laws.proofs.Going.{next_oldest, all_go}
-use Rattle.mm_parts.specs.Shown.{JoinedParts, life_in, shown_of}
-use Rattle.mm_parts.specs.Moves.{after_page}
+use Rattle.mm_types.specs.{Pid, Vpn, Place}
+use Rattle.mm_wset.specs.{GoesBefore, IsNextFrom}
+use Rattle.mm_words.specs.{place_from, is_valid_entry, ages_in, GoesBehind, IsOldestOf, NoneBehind}
+use Rattle.mm_life.specs.{IsOldest}
+use Rattle.mm_frame_laws.specs.{FollowsPage, IsNextPage, NoPageFollows}
+use Rattle.mm_frame_laws.proofs.{next_oldest, all_go}
+use Rattle.mm_parts.specs.{JoinedParts, life_in, shown_of, after_page}
 use Rattle.mm_parts.proofs.WordSteps.{valid_is}
 
 aged_some : (o : Option ℕ) → is_some o ≡ true → o ≡ Some (unwrap_or o 0)

@@ -4,29 +4,16 @@ use Rattle.std.specs.Prelude.{is_some, option_map, unwrap_or}
 use Rattle.std.proofs.Math.Logic.{∥∥₁_elim, ∥∥₁_map}
 use Rattle.std.proofs.Props.{props}
 use Rattle.std.proofs.lemmas.Bool.{lt-ltb}
-use Rattle.mm_types.specs.declared.numbers.Area.{Area}
-use Rattle.mm_types.specs.declared.numbers.Block.{Block}
-use Rattle.mm_types.specs.declared.numbers.Frame.{Frame}
-use Rattle.mm_types.specs.declared.numbers.Key.{Key}
+use Rattle.mm_types.specs.{Area, Block, Frame, Key, Place}
 use Rattle.mm_types.specs.declared.numbers.Key.TheVariants.{Private, Shared}
-use Rattle.mm_types.specs.declared.numbers.Place.{Place}
 use Rattle.mm_types.specs.declared.frames.Held.TheVariants as held
-use Rattle.mm_life.specs.declared.sets.ResidentSet.{ResidentSet}
-use Rattle.mm_life.specs.Frames.{record_at}
-use Rattle.mm_life.specs.Life.{FrameLife, key_of_place, is_shared, set_in}
-use Rattle.mm_life.specs.Legal.{owner_is}
+use Rattle.mm_life.specs.{ResidentSet, record_at, FrameLife, key_of_place, is_shared, set_in, owner_is}
 use Rattle.mm_laws.specs.Reached.{Reached}
-use Rattle.mm_laws.proofs.Deduced.{reached_sound}
-use Rattle.mm_laws.proofs.FromSound.{slot_free, slot_has, slot_one, slot_there, places_counted}
-use Rattle.mm_laws.proofs.PlaceCounts.{same_place-true}
-use Rattle.mm_words.specs.declared.layout.Entry.{Entry}
+use Rattle.mm_laws.proofs.{reached_sound, slot_free, slot_has, slot_one, slot_there, places_counted, same_place-true}
+use Rattle.mm_words.specs.{Entry, Aside, key_entry, own_word, place_from, is_aside, aside_or, is_valid_entry}
 use Rattle.mm_words.specs.declared.layout.Entry.TheVariants as entry
-use Rattle.mm_words.specs.declared.aside.Aside.{Aside}
-use Rattle.mm_words.specs.Words.{key_entry, own_word, place_from, is_aside, aside_or, is_valid_entry}
-use Rattle.mm_parts.specs.Shown.{JoinedParts, owners, owned_by, held_by, life_in, requests}
-use Rattle.mm_parts.specs.Words.{is_aside_entry}
-use Rattle.mm_parts.specs.Agree.{EntriesAgree, SlotsAgree, RequestsAgree, SetsAgree, InFrame, IsValidFor, EntrySays}
-use Rattle.mm_parts.specs.Kept.{PartsKept}
+use Rattle.mm_parts.specs.{JoinedParts, owners, owned_by, held_by, life_in, requests, is_aside_entry, EntriesAgree, SlotsAgree, RequestsAgree}
+use Rattle.mm_parts.specs.{SetsAgree, InFrame, IsValidFor, EntrySays, PartsKept}
 use Rattle.mm_parts.proofs.Keeping.{known}
 use Rattle.mm_parts.proofs.Stands.{at_place}
 use Rattle.mm_parts.proofs.StandingWords.{in_frame, beside_word, beside_shared}
@@ -79,9 +66,6 @@ module _ (t : JoinedParts) (kept : PartsKept t) where
   in_its_frame k f stands = record { stands = stands; owner = (known t kept).owner k f stands }
 
   pub says_by : (k : Key) (e : Entry) → key_entry t.words k ≡ e → EntrySays (life_in t) k e
-  says_by k entry.Empty h = ap (held_by (owned_by (owners t.table) k)) h
-  says_by k entry.Zero h = ap (held_by (owned_by (owners t.table) k)) h
-  says_by k (entry.Paged s) h = ap (held_by (owned_by (owners t.table) k)) h
   says_by (Private p v) (entry.InFile b) h = own_no_file (place_from p v) b h
   says_by (Shared a i) (entry.InFile b) h = ap (held_by (owned_by (owners t.table) (Shared a i))) h
   says_by k (entry.Transition f) h = (in_its_frame k f (ap (held_by (owned_by (owners t.table) k)) h), kept.words.transition k f h)
@@ -89,6 +73,7 @@ module _ (t : JoinedParts) (kept : PartsKept t) where
   says_by (Shared a i) (entry.Valid f n) h = (in_its_frame (Shared a i) f (ap (held_by (λ _. true)) h), (kept.words.valid_shared a i f n h).0)
   says_by (Private p v) (entry.Proto a i) h = ap (held_by (owned_by (owners t.table) (Private p v))) h
   says_by (Shared a i) (entry.Proto b j) h = kept.words.no_proto a.0 i b j h
+  says_by k _ h = ap (held_by (owned_by (owners t.table) k)) h
 
   -- the prototype word of a shared page that is valid somewhere
   prototype_by : (p : Place) (f : Frame) (a : Area) (i : ℕ) → (life_in t).valid p ≡ Some f → (record_at t.table f.0).owner ≡ Some (Shared a i) → t.words.proto a.0 i ≡ entry.Valid f 0

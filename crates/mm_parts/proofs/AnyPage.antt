@@ -2,19 +2,13 @@
 use Rattle.std.proofs.Common.{◌≡◌, ◌≢◌, ◌⊎◌, ℕ, ◌≤◌, Bool, true, false, Option, Some, None, refl, sym, ap, ◌∙◌, inl, inr, arith}
 use Rattle.std.specs.Prelude.{◌==◌}
 use Rattle.std.proofs.lemmas.Bool.{eqb-true, eq-eqb}
-use Rattle.mm_types.specs.declared.numbers.Frame.{Frame}
-use Rattle.mm_types.specs.declared.numbers.Key.{Key}
+use Rattle.mm_types.specs.{Frame, Key, Place}
 use Rattle.mm_types.specs.declared.numbers.Key.TheVariants.{Private, Shared}
-use Rattle.mm_types.specs.declared.numbers.Place.{Place}
 use Rattle.mm_types.specs.declared.moves.Move.TheVariants as move
-use Rattle.mm_life.specs.Frames.{record_at, after_map, after_unmap}
-use Rattle.mm_life.specs.Life.{changed, same_place, key_of_place}
-use Rattle.mm_life.specs.Legal.{IsLegal}
-use Rattle.mm_laws.proofs.PlaceCounts.{same_place-true}
-use Rattle.mm_words.specs.Words.{made_valid, place_from}
-use Rattle.mm_parts.specs.Shown.{JoinedParts, life_in, shown_of}
-use Rattle.mm_parts.specs.Kept.{PartsKept}
-use Rattle.mm_parts.specs.Moves.{parts_after, left_by, names_after_map, MayMap, words_named, words_left}
+use Rattle.mm_life.specs.{record_at, after_map, after_unmap, changed, same_place, key_of_place, IsLegal}
+use Rattle.mm_laws.proofs.{same_place-true}
+use Rattle.mm_words.specs.{made_valid, place_from}
+use Rattle.mm_parts.specs.{JoinedParts, life_in, shown_of, PartsKept, parts_after, left_by, names_after_map, MayMap, words_named, words_left}
 use Rattle.mm_parts.proofs.Keeping.{Step, known}
 use Rattle.mm_parts.proofs.Conditions.{Mappable, mappable, own_place, Leaving}
 use Rattle.mm_parts.proofs.PlaceSteps.{map_own_step, map_shared_step, unmap_own_step, unmap_shared_step, unmap_last_step}

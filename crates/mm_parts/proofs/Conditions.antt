@@ -2,33 +2,20 @@
 use Rattle.std.proofs.Common.{◌≡◌, ℕ, ◌+◌, ◌<◌, ◌≤◌, ◌^◌, true, false, Option, Some, None, refl, sym, ap, ◌∙◌, inl, inr, arith, length}
 use Rattle.std.specs.Prelude.{◌&&◌, ◌||◌, not, is_some, is_none, option_map, unwrap_or, nat_lt, slice_get}
 use Rattle.std.proofs.lemmas.Bool.{and_parts, or_left, not-true, lt-ltb}
-use Rattle.mm_types.proofs.Cells.{get_within}
-use Rattle.mm_types.specs.declared.numbers.Frame.{Frame}
-use Rattle.mm_types.specs.declared.numbers.Area.{Area}
-use Rattle.mm_types.specs.declared.numbers.Pid.{Pid}
-use Rattle.mm_types.specs.declared.numbers.Vpn.{Vpn}
-use Rattle.mm_types.specs.declared.numbers.Key.{Key}
+use Rattle.mm_types.proofs.{get_within}
+use Rattle.mm_types.specs.{Frame, Area, Pid, Vpn, Key, Place, Backing}
 use Rattle.mm_types.specs.declared.numbers.Key.TheVariants.{Private, Shared}
-use Rattle.mm_types.specs.declared.numbers.Place.{Place}
-use Rattle.mm_types.specs.declared.frames.Backing.{Backing}
 use Rattle.mm_types.specs.declared.frames.Backing.TheVariants as backing
 use Rattle.mm_types.specs.declared.moves.Move.TheVariants as move
-use Rattle.mm_life.specs.Frames.{record_at, is_first, is_empty, slot_of, is_read, has_request}
-use Rattle.mm_life.specs.Life.{set_in, set_of, same_place, key_of_place}
-use Rattle.mm_life.specs.Legal.{IsLegal, owner_is, fits_place, is_below_max, touches, is_touch}
-use Rattle.mm_laws.specs.FileBlocks.{block_of, block_in, block_held}
-use Rattle.mm_laws.proofs.Sights.{kept_inside}
-use Rattle.mm_laws.proofs.Taking.{Standby, first_standby}
-use Rattle.mm_laws.proofs.Sound.{owner_passes}
-use Rattle.mm_laws.proofs.PlaceCounts.{same_place-true}
-use Rattle.mm_words.specs.Layout.{IsEntry}
-use Rattle.mm_words.specs.declared.layout.Entry.{Entry}
+use Rattle.mm_life.specs.{record_at, is_first, is_empty, slot_of, is_read, has_request, set_in, set_of, same_place, key_of_place, IsLegal, owner_is}
+use Rattle.mm_life.specs.{fits_place, is_below_max, touches, is_touch, backing_of}
+use Rattle.mm_laws.specs.{block_of, block_in, block_held}
+use Rattle.mm_laws.proofs.{kept_inside, Standby, first_standby, owner_passes, same_place-true}
+use Rattle.mm_words.specs.{IsEntry, Entry, WordsOf, key_entry, is_valid_entry, is_there, keeps_places, has_word, valid_frame, made_valid, place_from}
+use Rattle.mm_words.specs.{bare}
 use Rattle.mm_words.specs.declared.layout.Entry.TheVariants as entry
-use Rattle.mm_words.specs.Words.{WordsOf, key_entry, is_valid_entry, is_there, keeps_places, has_word, valid_frame, made_valid, place_from, bare}
-use Rattle.mm_parts.specs.Shown.{JoinedParts, valid_of, owners, owned_by, life_in, requests_in}
-use Rattle.mm_parts.specs.Kept.{PartsKept}
-use Rattle.mm_life.specs.Effect.{backing_of}
-use Rattle.mm_parts.specs.Moves.{front, home_entry, entry_backing, CanLeave, CanName}
+use Rattle.mm_parts.specs.{JoinedParts, valid_of, owners, owned_by, life_in, requests_in, PartsKept, front, home_entry, entry_backing, CanLeave}
+use Rattle.mm_parts.specs.{CanName}
 use Rattle.mm_parts.proofs.Tokens.{front_is}
 use Rattle.mm_parts.proofs.Keeping.{known}
 use Rattle.mm_parts.proofs.KeyChanges.{places_kept}
@@ -69,9 +56,8 @@ pub record CanSet (t : JoinedParts) (k : Key) (e : Entry) : Type 0 where
   pub places : keeps_places t.words k e ≡ true
 
 home_calm : (b : Backing) → is_valid_entry (home_entry b) ≡ false
-home_calm backing.None = refl
 home_calm (backing.Slot s) = refl
-home_calm (backing.Block b) = refl
+home_calm _ = refl
 
 -- a page that has a frame and is valid nowhere goes home
 pub home_can : (t : JoinedParts) → PartsKept t → (f : Frame) (k : Key) → (record_at t.table f.0).owner ≡ Some k → (record_at t.table f.0).shares ≡ 0 → CanSet t k (home_entry (record_at t.table f.0).backing)
@@ -136,13 +122,8 @@ mappable t f place legal =
     }
 
 pub invalid_entry : (e : Entry) → valid_frame e ≡ None → is_valid_entry e ≡ false
-invalid_entry entry.Empty h = refl
-invalid_entry entry.Zero h = refl
-invalid_entry (entry.Paged s) h = refl
-invalid_entry (entry.InFile b) h = refl
-invalid_entry (entry.Transition f) h = refl
 invalid_entry (entry.Valid f n) h = cc
-invalid_entry (entry.Proto a i) h = refl
+invalid_entry _ h = refl
 
 pub shares_room : (t : JoinedParts) → PartsKept t → (f : ℕ) → (record_at t.table f).shares + 1 < 2 ^ 32
 shares_room t kept f = let most = (known t kept).most (λ pid s e. (kept.ranges.sets pid s e).1) f in omega (arith, most)

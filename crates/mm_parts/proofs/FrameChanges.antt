@@ -2,18 +2,14 @@
 use Rattle.std.proofs.Common.{◌≡◌, ◌≢◌, ℕ, ◌<◌, Bool, true, false, List, Some, None, [], ◌∷◌, ◌++◌, refl, sym, ap, ◌∙◌, inl, inr, arith, length, get_or-set_same, get_or-set_other}
 use Rattle.std.specs.Prelude.{is_some, if◌then◌else◌, slice_set, slice_index_or}
 use Rattle.mm_types.proofs.Cells.{same_or_not}
-use Rattle.mm_types.specs.declared.numbers.Key.{Key}
-use Rattle.mm_types.specs.declared.numbers.Place.{Place}
-use Rattle.mm_types.specs.declared.frames.Record.{Record}
-use Rattle.mm_life.specs.Frames.{FrameTable, blank, record_at, is_idle, is_read, with_record, settled, settled_by}
-use Rattle.mm_laws.specs.Fits.{Fit}
+use Rattle.mm_types.specs.{Key, Place, Record}
+use Rattle.mm_life.specs.{FrameTable, blank, record_at, is_idle, is_read, with_record, settled, settled_by}
+use Rattle.mm_laws.specs.{Fit}
 use Rattle.mm_laws.proofs.Sound.{no_owner, orphan_unshared}
-use Rattle.mm_frames.specs.Base.{has_block}
-use Rattle.mm_flight.specs.Requests.{FlightOf}
-use Rattle.mm_words.specs.Words.{WordsOf}
-use Rattle.mm_parts.specs.Shown.{owners, stands_of, valid_of, names_of, is_paging, paging_of, LineOf, life_of}
-use Rattle.mm_parts.specs.Words.{WordsKept}
-use Rattle.mm_parts.specs.Kept.{AreWaits}
+use Rattle.mm_frames.specs.{has_block}
+use Rattle.mm_flight.specs.{FlightOf}
+use Rattle.mm_words.specs.{WordsOf}
+use Rattle.mm_parts.specs.{owners, stands_of, valid_of, names_of, is_paging, paging_of, LineOf, life_of, WordsKept, AreWaits}
 use Rattle.mm_laws.proofs.Facts.{Facts}
 use Rattle.mm_parts.proofs.Stands.{paging_at, same_life}
 use Rattle.mm_life.proofs.Records.{records_settled}

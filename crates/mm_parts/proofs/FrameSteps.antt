@@ -1,40 +1,28 @@
 -- The moves that change one frame's record and no word: clear, soil, got, write, wrote, lost.
 use Rattle.std.proofs.Common.{◌≡◌, ℕ, ◌<◌, Bool, true, false, List, [], ◌∷◌, ◌++◌, Option, Some, None, refl, sym, ap, ◌∙◌, arith, length}
-use Rattle.std.specs.Prelude.{◌&&◌, ◌||◌, not, is_some, nat_lt, map, if◌then◌else◌, slice_set, slice_get}
+use Rattle.std.specs.Prelude.{◌==◌, ◌&&◌, ◌||◌, not, is_some, nat_lt, map, if◌then◌else◌, slice_set, slice_get}
 use Rattle.std.proofs.lemmas.Bool.{and_parts, or_left, or_right, not-true, ltb-true}
-use Rattle.mm_types.specs.declared.numbers.Frame.{Frame}
-use Rattle.mm_types.specs.declared.numbers.Block.{Block}
-use Rattle.mm_types.specs.declared.numbers.Slot.{Slot}
-use Rattle.mm_types.specs.declared.frames.Record.{Record}
-use Rattle.mm_types.specs.declared.frames.Backing.{Backing}
+use Rattle.mm_types.specs.{Frame, Block, Slot, Record, Backing, Move, Stored}
 use Rattle.mm_types.specs.declared.frames.Backing.TheVariants as backing
 use Rattle.mm_types.specs.declared.frames.Request.TheVariants as request
-use Rattle.mm_types.specs.declared.moves.Move.{Move}
 use Rattle.mm_types.specs.declared.moves.Move.TheVariants as move
-use Rattle.mm_types.specs.declared.moves.Stored.{Stored}
 use Rattle.mm_types.specs.declared.moves.Stored.TheVariants as stored
-use Rattle.mm_life.specs.Frames.{FrameTable, blank, record_at, has_request, is_read, is_write, is_again, is_on, slot_of, without, without_slot, soiled, read_done, write_done, write_lost, being_written, with_record, settled, to_free, slot_after_soil, slot_after_read, slot_after_wrote, slot_after_lost, after_clear, after_soil, after_got, after_write, after_wrote, after_lost}
-use Rattle.mm_life.specs.Legal.{IsLegal, is_touch, is_io, is_access, is_call, is_writer, is_block, is_lowest, owner_is, has_depth, may_write_block}
-use Rattle.mm_life.specs.Effect.{after_move, freed}
-use Rattle.mm_laws.specs.Tally.{one_if, times}
-use Rattle.mm_laws.specs.PagingKeys.{is_backing_for}
-use Rattle.mm_laws.proofs.Requests.{read_has, write_has}
-use Rattle.mm_laws.proofs.Sights.{kept_inside, on_modified}
-use Rattle.mm_laws.proofs.Sound.{owner_passes}
-use Rattle.mm_laws.proofs.Tallies.{times_on}
-use Rattle.mm_laws.proofs.Taking.{idle_is}
-use Rattle.mm_frames.specs.Base.{FramesOf, has_block, slot_after_write, write_ended}
-use Rattle.mm_flight.specs.Requests.{ended}
-use Rattle.mm_parts.specs.Shown.{JoinedParts, life_in, shown_of, requests_in, own_is, is_own_line}
-use Rattle.mm_parts.specs.Kept.{PartsKept}
-use Rattle.mm_frame_laws.specs.Steps.{backing_to}
-use Rattle.mm_parts.specs.Moves.{parts_after, own_after, own_ended, flight_begun, flight_ended, write_end, slots_to}
+use Rattle.mm_life.specs.{FrameTable, blank, record_at, has_request, is_read, is_write, is_again, slot_of, without, without_slot, soiled, read_done}
+use Rattle.mm_life.specs.{write_done, write_lost, being_written, with_record, settled, to_free, slot_after_soil, slot_after_read, slot_after_wrote}
+use Rattle.mm_life.specs.{slot_after_lost, after_clear, after_soil, after_got, after_write, after_wrote, after_lost, IsLegal, is_touch, is_io}
+use Rattle.mm_life.specs.{is_access, is_call, is_block, after_move, freed}
+use Rattle.mm_laws.specs.{one_if, times}
+use Rattle.mm_laws.proofs.{read_has, write_has, kept_inside}
+use Rattle.mm_frames.specs.{FramesOf, has_block, slot_after_write, write_ended}
+use Rattle.mm_flight.specs.{ended}
+use Rattle.mm_parts.specs.{JoinedParts, life_in, shown_of, requests_in, own_is, is_own_line, PartsKept, parts_after, own_after, own_ended}
+use Rattle.mm_parts.specs.{flight_begun, flight_ended, write_end, slots_to}
+use Rattle.mm_frame_laws.specs.{backing_to}
 use Rattle.mm_parts.proofs.FrameChanges.{Rewrites, rewrites_by, rewrites_none, settled_records, waits_frame, Quiet, quiet_by}
 use Rattle.mm_parts.proofs.Keeping.{Step, known, quiet_step}
 use Rattle.mm_parts.proofs.RequestLists.{ended_requests, ended_waits, ended_depth, ended_within, waits_ended, unread_waits, begun_requests, begun_within, begun_depth, begun_waits, waits_begun}
-use Rattle.mm_life.proofs.Requests.{write_not_read}
-use Rattle.mm_life.proofs.Records.{soiled_part}
-use Rattle.mm_life.proofs.Records.{done_part}
+use Rattle.mm_parts.proofs.Requesting.{CanWrite, write_can}
+use Rattle.mm_life.proofs.{write_not_read, soiled_part, done_part}
 
 -- ---- clear
 
@@ -47,9 +35,8 @@ clear_step t kept f bytes' legal =
 -- ---- soil
 
 pub block_without : (b : Backing) → has_block (without_slot b) ≡ has_block b
-block_without backing.None = refl
 block_without (backing.Slot s) = refl
-block_without (backing.Block b) = refl
+block_without _ = refl
 
 pub soil_step : (t : JoinedParts) → PartsKept t → (f : Frame) → IsLegal (move.Soil f) (life_in t)
     → Step (record t { table = after_soil t.table f.0; free = freed t.free (slot_after_soil (record_at t.table f.0)) }) (parts_after (shown_of t) (move.Soil f))
@@ -186,47 +173,22 @@ write_begins t kept f home free' s legal able can moves =
       shown = step.shown ∙ ap (λ ws. record (parts_after (shown_of t) (move.Write f s)) { waits = ws; own = own_after t.line.kind t.own f }) (begun_waits (is_own_line t.line.kind) t.flight f);
     }
 
-pub no_block : (b : Bool) (x : Backing) → b ≡ true → is_backing_for b x ≡ true → has_block x ≡ false
-no_block b backing.None e h = refl
-no_block b (backing.Slot s) e h = refl
-no_block b (backing.Block c) e h = let bad : false ≡ true = sym (ap not e) ∙ h in cc
-
-write_slot_able : (t : JoinedParts) → PartsKept t → (f : Frame) (s : Slot) → IsLegal (move.Write f (stored.Slot s)) (life_in t) → Writable t.table f.0 (backing.Slot s)
-write_slot_able t kept f s legal =
-    let facts = known t kept in
-    let r = record_at t.table f.0 in
-    let l = life_in t in
-    let a = (and_parts (is_on f.0 t.table.modified && owner_is l.paging r && is_lowest s.0 t.free) (is_access t.line.kind || (is_writer t.line.kind && has_depth l)) legal).0 in
-    let b = (and_parts (is_on f.0 t.table.modified && owner_is l.paging r) (is_lowest s.0 t.free) a).0 in
-    let c = and_parts (is_on f.0 t.table.modified) (owner_is l.paging r) b in
-    let on = on_modified _ (facts.standing f.0) (times_on f.0 t.table.modified c.0) in
-    let passes = owner_passes l.paging r c.1 in
-    let idle = idle_is r on.0 on.1.0 in
-    record {
-      owned = on.0;
-      quiet = idle.quiet;
-      blocks = sym (no_block (l.paging passes.key) r.backing passes.passes (facts.backing f.0 passes.key passes.is));
-    }
-
 is_that_block : (b : Block) (x : Backing) → is_block b.0 x ≡ true → has_block (backing.Block b) ≡ has_block x
 is_that_block b backing.None h = cc
 is_that_block b (backing.Slot s) h = cc
 is_that_block b (backing.Block c) h = refl
 
-write_block_able : (t : JoinedParts) → PartsKept t → (f : Frame) (b : Block) → IsLegal (move.Write f (stored.Block b)) (life_in t) → Writable t.table f.0 (backing.Block b)
-write_block_able t kept f b legal =
+writable : (t : JoinedParts) (f : Frame) (s : Stored) → CanWrite t f s → Writable t.table f.0 (backing_to s)
+writable t f (stored.Slot s) can =
     let r = record_at t.table f.0 in
-    let l = life_in t in
-    let a = (and_parts (r.changed && is_some r.owner && not (has_request r.request) && is_block b.0 r.backing) (may_write_block l f.0) legal).0 in
-    let c = and_parts (r.changed && is_some r.owner && not (has_request r.request)) (is_block b.0 r.backing) a in
-    let e = and_parts (r.changed && is_some r.owner) (not (has_request r.request)) c.0 in
-    record { owned = (and_parts r.changed (is_some r.owner) e.0).1; quiet = not-true (has_request r.request) e.1; blocks = is_that_block b r.backing c.1 }
+    record { owned = can.owned; quiet = can.quiet; blocks = sym (not-true (has_block r.backing) (and_parts (r.shares == 0) (not (has_block r.backing)) can.goes).1) }
+writable t f (stored.Block b) can = record { owned = can.owned; quiet = can.quiet; blocks = is_that_block b (record_at t.table f.0).backing can.goes }
 
 pub write_step : (t : JoinedParts) → PartsKept t → (f : Frame) (s : Stored) → IsLegal (move.Write f s) (life_in t) → (is_own_line t.line.kind ≡ true → t.own ≡ None)
     → Step (record t { table = after_write t.table f.0 (backing_to s); free = slots_to s t.free; flight = flight_begun (is_own_line t.line.kind) t.flight f; own = own_after t.line.kind t.own f })
     (record (parts_after (shown_of t) (move.Write f s)) { own = own_after t.line.kind t.own f })
-write_step t kept f (stored.Slot s) legal can = write_begins t kept f (backing.Slot s) (slice_set t.free s.0 false) (stored.Slot s) legal (write_slot_able t kept f s legal) can refl
-write_step t kept f (stored.Block b) legal can = write_begins t kept f (backing.Block b) t.free (stored.Block b) legal (write_block_able t kept f b legal) can refl
+write_step t kept f (stored.Slot s) legal can = write_begins t kept f (backing.Slot s) (slice_set t.free s.0 false) (stored.Slot s) legal (writable t f (stored.Slot s) (write_can t kept f (stored.Slot s) legal)) can refl
+write_step t kept f (stored.Block b) legal can = write_begins t kept f (backing.Block b) t.free (stored.Block b) legal (writable t f (stored.Block b) (write_can t kept f (stored.Block b) legal)) can refl
 
 -- ---- what the ends of writes say to the calls that they are made of
 

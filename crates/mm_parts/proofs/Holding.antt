@@ -4,24 +4,17 @@ use Rattle.std.specs.Prelude.{not, is_some, option_map}
 use Rattle.std.proofs.Math.Logic.{∥∥₁_elim}
 use Rattle.std.proofs.Props.{props}
 use Rattle.std.proofs.lemmas.Bool.{or_left, or_right}
-use Rattle.mm_types.specs.declared.numbers.Frame.{Frame}
-use Rattle.mm_types.specs.declared.numbers.Key.{Key}
-use Rattle.mm_types.specs.declared.numbers.Place.{Place}
-use Rattle.mm_life.specs.declared.sets.ResidentSet.{ResidentSet}
-use Rattle.mm_life.specs.Frames.{record_at, has_request, is_read}
-use Rattle.mm_life.specs.Life.{is_dead, set_in}
-use Rattle.mm_laws.specs.Tally.{one_if, times}
+use Rattle.mm_types.specs.{Frame, Key, Place}
+use Rattle.mm_life.specs.{ResidentSet, record_at, has_request, is_read, is_dead, set_in}
+use Rattle.mm_laws.specs.{one_if, times}
 use Rattle.mm_laws.proofs.Requests.{read_has}
 use Rattle.mm_laws.proofs.Sights.{kept_inside}
 use Rattle.mm_laws.proofs.Deduced.{blocks_apart}
-use Rattle.mm_words.specs.declared.layout.Entry.{Entry}
+use Rattle.mm_words.specs.{Entry, Aside, key_entry, has_word, is_there, valid_frame}
 use Rattle.mm_words.specs.declared.layout.Entry.TheVariants as entry
-use Rattle.mm_flight.specs.Requests.{is_in}
-use Rattle.mm_words.specs.declared.aside.Aside.{Aside}
-use Rattle.mm_words.specs.Words.{key_entry, has_word, is_there, valid_frame}
-use Rattle.mm_parts.specs.Shown.{JoinedParts, Owners, owners, owned_by, held_by, named_by, life_in, shown_of, requests, requests_in, own_is}
-use Rattle.mm_parts.specs.Holds.{HasSet, LinesHold, PagesHold, StorageHolds}
-use Rattle.mm_parts.specs.Kept.{PartsKept}
+use Rattle.mm_flight.specs.{is_in}
+use Rattle.mm_parts.specs.{JoinedParts, Owners, owners, owned_by, held_by, named_by, life_in, shown_of, requests, requests_in, own_is, HasSet}
+use Rattle.mm_parts.specs.{LinesHold, PagesHold, StorageHolds, PartsKept}
 use Rattle.mm_laws.proofs.Facts.{Facts}
 use Rattle.mm_parts.proofs.Keeping.{known}
 use Rattle.mm_parts.proofs.RequestLists.{own_apart}
@@ -66,30 +59,17 @@ lines_hold t kept few threads = record {
 
 live_there : (own : Frame → Bool) (e : Entry) → not (is_dead (held_by own e)) ≡ true → is_there e ≡ true
 live_there own entry.Empty h = cc
-live_there own entry.Zero h = refl
-live_there own (entry.Paged s) h = refl
-live_there own (entry.InFile b) h = refl
-live_there own (entry.Transition f) h = refl
-live_there own (entry.Valid f n) h = refl
-live_there own (entry.Proto a i) h = refl
+live_there own _ h = refl
 
 named_frame : (o : Owners) (p : Place) (e : Entry) (f : Frame) → valid_frame e ≡ Some f → o f.0 ≡ named_by o p e
-named_frame o p entry.Empty f h = cc
-named_frame o p entry.Zero f h = cc
-named_frame o p (entry.Paged s) f h = cc
-named_frame o p (entry.InFile b) f h = cc
-named_frame o p (entry.Transition g) f h = cc
 named_frame o p (entry.Valid g n) f h = let same : f ≡ g = cc in ap (λ (x : Frame). o x.0) same
-named_frame o p (entry.Proto a i) f h = cc
+named_frame o p _ f h = cc
 
 unnamed_at : (o : Owners) (p : Place) (e : Entry) → (is_there e ≡ true → ⊥) → named_by o p e ≡ None
 unnamed_at o p entry.Empty none = refl
 unnamed_at o p entry.Zero none = refl
-unnamed_at o p (entry.Paged s) none = absurd (none refl)
 unnamed_at o p (entry.InFile b) none = refl
-unnamed_at o p (entry.Transition f) none = absurd (none refl)
-unnamed_at o p (entry.Valid f n) none = absurd (none refl)
-unnamed_at o p (entry.Proto a i) none = absurd (none refl)
+unnamed_at o p _ none = absurd (none refl)
 
 owned_low : (t : JoinedParts) → PartsKept t → (f : ℕ) → is_some (record_at t.table f).owner ≡ true → f < t.line.machine.frames
 owned_low t kept f some =

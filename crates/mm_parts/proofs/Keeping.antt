@@ -1,17 +1,12 @@
 -- One legal move keeps what the parts keep.
 use Rattle.std.proofs.Common.{◌≡◌, ℕ, Bool, true, List, Option, sym, ap, ◌∙◌, subst}
 use Rattle.std.specs.Prelude.{is_some}
-use Rattle.mm_types.specs.declared.numbers.Frame.{Frame}
-use Rattle.mm_types.specs.declared.moves.Move.{Move}
-use Rattle.mm_types.specs.declared.frames.Record.{Record}
-use Rattle.mm_life.specs.Frames.{FrameTable}
-use Rattle.mm_life.specs.Legal.{IsLegal}
-use Rattle.mm_life.specs.Effect.{after_move}
-use Rattle.mm_flight.specs.Requests.{FlightOf}
-use Rattle.mm_parts.specs.Shown.{JoinedParts, PartsOf, life_of, life_in, shown_of, requests, requests_in, is_own_line}
-use Rattle.mm_parts.specs.Kept.{PartsKept, AreWaits}
-use Rattle.mm_parts.specs.Moves.{parts_after}
-use Rattle.mm_laws.proofs.Facts.{Facts, facts_of, reached_by}
+use Rattle.mm_types.specs.{Frame, Move, Record}
+use Rattle.mm_life.specs.{FrameTable, IsLegal, after_move}
+use Rattle.mm_flight.specs.{FlightOf}
+use Rattle.mm_parts.specs.{JoinedParts, PartsOf, life_of, life_in, shown_of, requests, requests_in, is_own_line, PartsKept, AreWaits, parts_after}
+use Rattle.mm_laws.proofs.Facts.{facts_of, reached_by}
+use Rattle.mm_laws.proofs.Facts.{Facts}
 use Rattle.mm_parts.proofs.FrameChanges.{Rewrites, Quiet, life_quiet, words_frame, names_frame}
 
 -- what the parts are after a call: they keep what they keep, and show this
@@ -36,14 +31,6 @@ module _ (t : JoinedParts) (kept : PartsKept t) (x : Move) (legal : IsLegal x (l
   pub quiet_step : Step (record t { table = d'; bytes = bytes'; free = free'; flight = flight'; own = own' })
       (record (parts_after (shown_of t) x) { bytes = bytes'; waits = flight'.waits; own = own' })
   quiet_step = record {
-    kept = record {
-      reached = reached_by (life_in t) _ x legal quiet_life kept.reached;
-      line = kept.line;
-      words = words_frame t.table d' f r t.words change quiet.owner quiet.shares kept.words;
-      within = record { requesting = own; copying = kept.within.copying };
-      ranges = kept.ranges;
-      depth = depth ∙ kept.depth;
-      waits = waits;
-    };
+    kept = assumption (reached_by (life_in t) _ x legal quiet_life kept.reached, words_frame t.table d' f r t.words change quiet.owner quiet.shares kept.words, depth ∙ kept.depth);
     shown = λ i. record (shown_of t) { life = quiet_life i; bytes = bytes'; waits = flight'.waits; own = own'; names = λ p. names_frame t.table d' f r t.words change quiet.owner p i };
   }

@@ -2,37 +2,21 @@
 use Rattle.std.proofs.Common.{◌≡◌, ◌≢◌, ◌⊎◌, ℕ, ◌+◌, ◌<◌, ◌^◌, Bool, true, false, cond, List, Option, Some, None, refl, sym, ap, ◌∙◌, subst, inl, inr, arith, length, length-set, get_or-set_same, get_or-set_other}
 use Rattle.std.specs.Prelude.{◌==◌, ◌&&◌, ◌||◌, not, is_some, nat_lt, option_map, unwrap_or, if◌then◌else◌, slice_set, slice_index_or}
 use Rattle.std.proofs.lemmas.Bool.{and_parts, ltb-true, lt-ltb, eqb-true, eq-eqb}
-use Rattle.mm_types.proofs.Cells.{same_or_not}
-use Rattle.mm_types.specs.Machine.{limit_of}
-use Rattle.mm_types.specs.declared.numbers.Frame.{Frame}
-use Rattle.mm_types.specs.declared.numbers.Area.{Area}
-use Rattle.mm_types.specs.declared.numbers.Block.{Block}
-use Rattle.mm_types.specs.declared.numbers.Pid.{Pid}
-use Rattle.mm_types.specs.declared.numbers.Vpn.{Vpn}
-use Rattle.mm_types.specs.declared.numbers.Key.{Key}
+use Rattle.mm_types.proofs.{same_or_not}
+use Rattle.mm_types.specs.{limit_of, Frame, Area, Block, Pid, Vpn, Key, Place, Held, LineKind}
 use Rattle.mm_types.specs.declared.numbers.Key.TheVariants.{Private, Shared}
-use Rattle.mm_types.specs.declared.numbers.Place.{Place}
-use Rattle.mm_types.specs.declared.frames.Held.{Held}
 use Rattle.mm_types.specs.declared.frames.Held.TheVariants as held
-use Rattle.mm_types.specs.declared.moves.LineKind.{LineKind}
 use Rattle.mm_types.specs.declared.moves.LineKind.TheVariants as kind
 use Rattle.mm_types.specs.declared.moves.Move.TheVariants as move
-use Rattle.mm_life.specs.Frames.{FrameTable, blank, record_at}
-use Rattle.mm_life.specs.Life.{FrameLife, changed, same_key, same_place, is_shared, is_live, is_dead}
-use Rattle.mm_life.specs.Legal.{IsLegal, is_touch, is_call, may_copy, touches, shows_shared, owner_is}
-use Rattle.mm_life.specs.Effect.{after_move}
-use Rattle.mm_laws.proofs.KeyMoves.{dead_is}
-use Rattle.mm_laws.proofs.Sound.{owner_passes}
-use Rattle.mm_words.specs.declared.layout.Entry.{Entry}
+use Rattle.mm_life.specs.{FrameTable, blank, record_at, FrameLife, changed, same_key, same_place, is_shared, is_live, is_dead, IsLegal, is_touch}
+use Rattle.mm_life.specs.{is_call, may_copy, touches, shows_shared, owner_is, after_move}
+use Rattle.mm_laws.proofs.{dead_is, owner_passes, reached_by}
+use Rattle.mm_words.specs.{Entry, Aside, key_entry, aside_or, with_entry, with_aside, is_valid_entry, is_aside, keeps_places, place_from, valid_frame}
 use Rattle.mm_words.specs.declared.layout.Entry.TheVariants as entry
-use Rattle.mm_words.specs.declared.aside.Aside.{Aside}
-use Rattle.mm_words.specs.Words.{key_entry, aside_or, with_entry, with_aside, is_valid_entry, is_aside, keeps_places, place_from, valid_frame}
-use Rattle.mm_parts.specs.Shown.{JoinedParts, LineOf, owners, owned_by, held_by, stands_of, valid_of, named_by, names_of, is_paging, paging_of, life_of, life_in, shown_of, requests_in}
-use Rattle.mm_parts.specs.Words.{WordsKept, is_aside_entry, names_other}
-use Rattle.mm_parts.specs.Kept.{PartsKept}
-use Rattle.mm_parts.specs.Moves.{parts_after, aside_added, aside_after_add, IsClear, HasHome, copy_place}
-use Rattle.mm_laws.proofs.Facts.{reached_by}
-use Rattle.mm_parts.proofs.Stands.{same_life, sets_set}
+use Rattle.mm_parts.specs.{JoinedParts, LineOf, owners, owned_by, held_by, stands_of, valid_of, named_by, names_of, is_paging, paging_of, life_of}
+use Rattle.mm_parts.specs.{life_in, shown_of, requests_in, WordsKept, is_aside_entry, names_other, PartsKept, parts_after, aside_added}
+use Rattle.mm_parts.specs.{aside_after_add, IsClear, HasHome, copy_place}
+use Rattle.mm_parts.proofs.Stands.{same_life, at_if, if_either, sets_set}
 use Rattle.mm_parts.proofs.NameChanges.{names_none}
 use Rattle.mm_parts.proofs.Keeping.{Step, known}
 use Rattle.mm_parts.proofs.KeyChanges.{is_resting, is_beside, beyond, key_step, key_life, key_stands, key_paging, key_valid, places_kept}
@@ -43,16 +27,13 @@ use Rattle.mm_parts.proofs.LineSteps.{no_place}
 
 dead_held : (own : Frame → Bool) (e : Entry) → is_dead (held_by own e) ≡ true → (e ≡ entry.Empty) ⊎ (((f : Frame) × ((n : ℕ) × ((e ≡ entry.Valid f n) × (own f ≡ false)))) ⊎ ((a : Area) × ((i : ℕ) × (e ≡ entry.Proto a i))))
 dead_held own entry.Empty h = inl refl
-dead_held own entry.Zero h = cc
-dead_held own (entry.Paged s) h = cc
-dead_held own (entry.InFile b) h = cc
-dead_held own (entry.Transition f) h = cc
 dead_held own (entry.Valid f n) h = inr (inl (f, (n, (refl, by (own f) refl h))))
   where
     by : (b : Bool) → own f ≡ b → is_dead (if b then held.Frame f else held.Dead) ≡ true → b ≡ false
     by true e h = cc
     by false e h = refl
 dead_held own (entry.Proto a i) h = inr (inr (a, (i, refl)))
+dead_held own _ h = cc
 
 -- a key whose place names nothing has no entry while it is dead
 clear_word : (t : JoinedParts) → PartsKept t → (k : Key) → is_dead ((life_in t).stands k) ≡ true → ((p : Pid) (v : Vpn) → k ≡ Private p v → names_of (owners t.table) t.words (place_from p v) ≡ None) → key_entry t.words k ≡ entry.Empty
@@ -86,13 +67,8 @@ clear_word t kept (Private p v) dead clear = by t.words.aside refl (is_aside t.w
     ]
 
     lives : (e : Entry) → is_aside_entry e ≡ true → is_dead (held_by (owned_by (owners t.table) (Private p v)) e) ≡ true → ⊥
-    lives entry.Empty x y = cc
-    lives entry.Zero x y = cc
     lives (entry.Paged s) x y = cc
-    lives (entry.InFile b) x y = cc
-    lives (entry.Transition f) x y = cc
-    lives (entry.Valid f n) x y = cc
-    lives (entry.Proto a i) x y = cc
+    lives _ x y = cc
 
     by : (a : Option Aside) → t.words.aside ≡ a → (b : Bool) → is_aside a (place_from p v) ≡ b → aside_or t.words.aside (place_from p v) (t.words.at (place_from p v)) ≡ entry.Empty
     by None g b h = ap (λ x. aside_or x (place_from p v) (t.words.at (place_from p v))) g ∙ at_table (sym (ap (λ x. is_dead (held_by (owned_by (owners t.table) (Private p v)) (aside_or x (place_from p v) (t.words.at (place_from p v))))) g) ∙ dead)
@@ -196,36 +172,19 @@ add_block_step t kept k b legal =
     refl refl kept.within.requesting refl kept.waits
   where
     dead_unpaged : (d : FrameTable) (h : Held) → is_dead h ≡ true → is_paging d h ≡ false
-    dead_unpaged d (held.Frame f) x = cc
-    dead_unpaged d (held.Slot s) x = cc
-    dead_unpaged d (held.Block c) x = cc
-    dead_unpaged d held.Zero x = cc
     dead_unpaged d held.Dead x = refl
+    dead_unpaged d _ x = cc
 
 -- ---- the key of a copy comes to be, beside the tables
 
 other_shown : (test : Frame → Bool) (e : Entry) → unwrap_or (option_map test (valid_frame e)) false ≡ true → names_other e ≡ true
-other_shown test entry.Empty h = cc
-other_shown test entry.Zero h = cc
-other_shown test (entry.Paged s) h = cc
-other_shown test (entry.InFile b) h = cc
-other_shown test (entry.Transition f) h = cc
 other_shown test (entry.Valid f n) h = refl
-other_shown test (entry.Proto a i) h = cc
+other_shown test _ h = cc
 
 module _ (t : JoinedParts) (p : Pid) (v : Vpn) (legal : IsLegal (move.Add (Private p v) None) (life_in t)) (touch : is_touch t.line.kind ≡ true) where
   touch_no_call : (k : LineKind) → is_touch k ≡ true → is_call k ≡ false
-  touch_no_call (kind.Machine a b c d) h = refl
-  touch_no_call (kind.Process q a b) h = refl
-  touch_no_call (kind.Unbind q) h = refl
-  touch_no_call (kind.Access q) h = refl
-  touch_no_call (kind.Thread q) h = refl
-  touch_no_call (kind.Trim q) h = refl
-  touch_no_call kind.Writer h = refl
-  touch_no_call kind.Zeroer h = refl
-  touch_no_call kind.Io h = refl
   touch_no_call kind.Call h = cc
-  touch_no_call (kind.Grow n) h = refl
+  touch_no_call _ h = refl
 
   -- the place names the page that is copied
   shows : unwrap_or (option_map (λ f. owner_is is_shared (record_at t.table f.0)) (valid_of t.words (place_from p v))) false ≡ true
@@ -248,12 +207,7 @@ module _ (t : JoinedParts) (p : Pid) (v : Vpn) (legal : IsLegal (move.Add (Priva
       at (entry.Valid f n) e =
           let owns = owner_passes is_shared (record_at t.table f.0) (sym (ap (λ x. unwrap_or (option_map (λ g. owner_is is_shared (record_at t.table g.0)) (valid_frame x)) false) e) ∙ shows) in
           (owns.key, ap (named_by (owners t.table) (place_from p v)) e ∙ owns.is)
-      at entry.Empty e = let bad : false ≡ true = sym (ap (λ x. unwrap_or (option_map (λ g. owner_is is_shared (record_at t.table g.0)) (valid_frame x)) false) e) ∙ shows in cc
-      at entry.Zero e = let bad : false ≡ true = sym (ap (λ x. unwrap_or (option_map (λ g. owner_is is_shared (record_at t.table g.0)) (valid_frame x)) false) e) ∙ shows in cc
-      at (entry.Paged s) e = let bad : false ≡ true = sym (ap (λ x. unwrap_or (option_map (λ g. owner_is is_shared (record_at t.table g.0)) (valid_frame x)) false) e) ∙ shows in cc
-      at (entry.InFile b) e = let bad : false ≡ true = sym (ap (λ x. unwrap_or (option_map (λ g. owner_is is_shared (record_at t.table g.0)) (valid_frame x)) false) e) ∙ shows in cc
-      at (entry.Transition f) e = let bad : false ≡ true = sym (ap (λ x. unwrap_or (option_map (λ g. owner_is is_shared (record_at t.table g.0)) (valid_frame x)) false) e) ∙ shows in cc
-      at (entry.Proto a i) e = let bad : false ≡ true = sym (ap (λ x. unwrap_or (option_map (λ g. owner_is is_shared (record_at t.table g.0)) (valid_frame x)) false) e) ∙ shows in cc
+      at _ e = let bad : false ≡ true = sym (ap (λ x. unwrap_or (option_map (λ g. owner_is is_shared (record_at t.table g.0)) (valid_frame x)) false) e) ∙ shows in cc
 
 module _ (t : JoinedParts) (kept : PartsKept t) (p : Pid) (v : Vpn) (legal : IsLegal (move.Add (Private p v) None) (life_in t)) (touch : is_touch t.line.kind ≡ true)
     (free : t.words.aside ≡ None) (bound : t.words.bound (place_from p v) ≡ true) where
@@ -262,25 +216,13 @@ module _ (t : JoinedParts) (kept : PartsKept t) (p : Pid) (v : Vpn) (legal : IsL
   word_aside (Shared a i) = refl
 
   aside_stands : (q : Key) → stands_of (owners t.table) (with_aside t.words (place_from p v) entry.Zero) q ≡ changed same_key (stands_of (owners t.table) t.words) (Private p v) held.Zero q
-  aside_stands q = ap (held_by (owned_by (owners t.table) q)) (word_aside q) ∙ by (same_key q (Private p v))
-    where
-      by : (b : Bool) → held_by (owned_by (owners t.table) q) (if b then entry.Zero else key_entry t.words q) ≡ (if b then held.Zero else stands_of (owners t.table) t.words q)
-      by true = refl
-      by false = refl
+  aside_stands q = ap (held_by (owned_by (owners t.table) q)) (word_aside q) ∙ at_if (held_by (owned_by (owners t.table) q)) (same_key q (Private p v)) entry.Zero (key_entry t.words q)
 
   aside_paging : (q : Key) → paging_of t.table (stands_of (owners t.table) (with_aside t.words (place_from p v) entry.Zero)) q ≡ changed same_key (paging_of t.table (stands_of (owners t.table) t.words)) (Private p v) true q
-  aside_paging q = ap (is_paging t.table) (aside_stands q) ∙ by (same_key q (Private p v))
-    where
-      by : (b : Bool) → is_paging t.table (if b then held.Zero else stands_of (owners t.table) t.words q) ≡ (if b then true else paging_of t.table (stands_of (owners t.table) t.words) q)
-      by true = refl
-      by false = refl
+  aside_paging q = ap (is_paging t.table) (aside_stands q) ∙ at_if (is_paging t.table) (same_key q (Private p v)) held.Zero (stands_of (owners t.table) t.words q)
 
   word_before : (q : Key) (e : Entry) → key_entry (with_aside t.words (place_from p v) entry.Zero) q ≡ e → (entry.Zero ≡ e) ⊎ (key_entry t.words q ≡ e)
-  word_before q e h = by (same_key q (Private p v)) (sym (word_aside q) ∙ h)
-    where
-      by : (b : Bool) → (if b then entry.Zero else key_entry t.words q) ≡ e → (entry.Zero ≡ e) ⊎ (key_entry t.words q ≡ e)
-      by true x = inl x
-      by false x = inr x
+  word_before q e h = if_either (same_key q (Private p v)) entry.Zero (key_entry t.words q) e (sym (word_aside q) ∙ h)
 
   aside_words : WordsKept t.table (with_aside t.words (place_from p v) entry.Zero)
   aside_words = record {
@@ -302,15 +244,7 @@ module _ (t : JoinedParts) (kept : PartsKept t) (p : Pid) (v : Vpn) (legal : IsL
   pub add_aside_step : Step (record t { line = record t.line { paging_keys = t.line.paging_keys + 1 }; words = with_aside t.words (place_from p v) entry.Zero })
       (record (parts_after (shown_of t) (move.Add (Private p v) None)) { aside = aside_after_add (shown_of t) (Private p v) })
   add_aside_step = record {
-    kept = record {
-      reached = reached_by (life_in t) _ (move.Add (Private p v) None) legal aside_life kept.reached;
-      line = record { machine = kept.line.machine; begun = kept.line.begun; blocks = kept.line.blocks };
-      words = aside_words;
-      within = record { requesting = kept.within.requesting; copying = λ h. touch };
-      ranges = record { sets = kept.ranges.sets; areas = kept.ranges.areas; user = kept.ranges.user };
-      depth = kept.depth;
-      waits = kept.waits;
-    };
+    kept = assumption (reached_by (life_in t) _ (move.Add (Private p v) None) legal aside_life kept.reached, aside_words, touch);
     shown = λ i. record (shown_of t) { life = aside_life i; aside = beside_now i };
   }
 

@@ -4,34 +4,21 @@ use Rattle.std.specs.Prelude.{◌==◌, ◌&&◌, not, is_some, option_map, if�
 use Rattle.std.proofs.lemmas.Bool.{and_parts, not-true}
 use Rattle.std.proofs.lemmas.List.{get_or_past}
 use Rattle.mm_types.proofs.Cells.{same_or_not}
-use Rattle.mm_types.specs.declared.numbers.Frame.{Frame}
-use Rattle.mm_types.specs.declared.numbers.Area.{Area}
-use Rattle.mm_types.specs.declared.numbers.Block.{Block}
-use Rattle.mm_types.specs.declared.numbers.Key.{Key}
+use Rattle.mm_types.specs.{Frame, Area, Block, Key, Place, Record, Move, MachineOf}
 use Rattle.mm_types.specs.declared.numbers.Key.TheVariants.{Private, Shared}
-use Rattle.mm_types.specs.declared.numbers.Place.{Place}
-use Rattle.mm_types.specs.declared.frames.Record.{Record}
 use Rattle.mm_types.specs.declared.frames.Held.TheVariants as held
-use Rattle.mm_types.specs.declared.moves.Move.{Move}
-use Rattle.mm_life.specs.Frames.{FrameTable, blank, record_at}
-use Rattle.mm_life.specs.Life.{changed, same_key, same_place, set_in}
-use Rattle.mm_life.specs.Legal.{IsLegal, is_touch}
-use Rattle.mm_types.specs.Machine.{MachineOf}
-use Rattle.mm_life.specs.Effect.{after_move}
+use Rattle.mm_life.specs.{FrameTable, blank, record_at, changed, same_key, same_place, set_in, IsLegal, is_touch, after_move}
 use Rattle.mm_laws.proofs.Owners.{key_or_not}
 use Rattle.mm_laws.proofs.PlaceCounts.{place_or_not, same_place-true, same_place-self}
-use Rattle.mm_frames.specs.Base.{has_block}
-use Rattle.mm_flight.specs.Requests.{FlightOf}
-use Rattle.mm_words.specs.declared.layout.Entry.{Entry}
+use Rattle.mm_laws.proofs.Facts.{reached_by}
+use Rattle.mm_frames.specs.{has_block}
+use Rattle.mm_flight.specs.{FlightOf}
+use Rattle.mm_words.specs.{Entry, Aside, WordsOf, key_entry, with_entry, with_own, keeps_places, is_valid_entry, is_aside, place_from}
 use Rattle.mm_words.specs.declared.layout.Entry.TheVariants as entry
-use Rattle.mm_words.specs.declared.aside.Aside.{Aside}
-use Rattle.mm_words.specs.Words.{WordsOf, key_entry, with_entry, with_own, keeps_places, is_valid_entry, is_aside, place_from}
-use Rattle.mm_parts.specs.Shown.{JoinedParts, LineOf, owners, owned_by, held_by, stands_of, valid_of, names_of, is_paging, paging_of, life_of, life_in, shown_of, requests, is_own_line}
-use Rattle.mm_parts.specs.Words.{WordsKept, is_aside_entry, names_other}
-use Rattle.mm_parts.specs.Kept.{PartsKept, LineKept, AreWaits}
-use Rattle.mm_parts.specs.Moves.{parts_after}
-use Rattle.mm_laws.proofs.Facts.{Facts, reached_by}
-use Rattle.mm_parts.proofs.Stands.{paging_at, same_life, stands_set, stands_owner, sets_set, valid_set, word_set}
+use Rattle.mm_parts.specs.{JoinedParts, LineOf, owners, owned_by, held_by, stands_of, valid_of, names_of, is_paging, paging_of, life_of, life_in}
+use Rattle.mm_parts.specs.{shown_of, requests, is_own_line, WordsKept, is_aside_entry, names_other, PartsKept, LineKept, AreWaits, parts_after}
+use Rattle.mm_laws.proofs.Facts.{Facts}
+use Rattle.mm_parts.proofs.Stands.{paging_at, same_life, if_either, stands_set, stands_owner, proto_by, left_set, sets_set, valid_set, word_set}
 use Rattle.mm_parts.proofs.FrameChanges.{Rewrites}
 use Rattle.mm_parts.proofs.Keeping.{Step, known}
 use Rattle.mm_parts.proofs.NameChanges.{names_owner}
@@ -39,22 +26,12 @@ use Rattle.mm_parts.proofs.NameChanges.{names_owner}
 -- ---- entries
 
 abbrev pub is_proto : Entry → Bool
-is_proto entry.Empty = false
-is_proto entry.Zero = false
-is_proto (entry.Paged s) = false
-is_proto (entry.InFile b) = false
-is_proto (entry.Transition f) = false
-is_proto (entry.Valid f n) = false
 is_proto (entry.Proto a i) = true
+is_proto _ = false
 
 abbrev pub is_file : Entry → Bool
-is_file entry.Empty = false
-is_file entry.Zero = false
-is_file (entry.Paged s) = false
 is_file (entry.InFile b) = true
-is_file (entry.Transition f) = false
-is_file (entry.Valid f n) = false
-is_file (entry.Proto a i) = false
+is_file _ = false
 
 -- an entry that a key's word can be where no place is valid for its page
 abbrev pub is_resting : Key → Entry → Bool
@@ -72,29 +49,14 @@ is_beside w (Shared a i) = false
 
 -- ---- what a change of a word leaves
 
-bound_by : (b : Bool) (w : WordsOf) (place : Place) (e : Entry) → (with_own b w place e).bound ≡ w.bound
-bound_by true w place e = refl
-bound_by false w place e = refl
-
 pub bound_set : (w : WordsOf) (k : Key) (e : Entry) → (with_entry w k e).bound ≡ w.bound
-bound_set w (Private p v) e = bound_by (is_aside w.aside (place_from p v)) w (place_from p v) e
-bound_set w (Shared a i) e = refl
-
-open_by : (b : Bool) (w : WordsOf) (place : Place) (e : Entry) → (with_own b w place e).is_open ≡ w.is_open
-open_by true w place e = refl
-open_by false w place e = refl
+bound_set w k e = ap (λ (x : WordsOf). x.bound) (left_set w k e)
 
 pub open_set : (w : WordsOf) (k : Key) (e : Entry) → (with_entry w k e).is_open ≡ w.is_open
-open_set w (Private p v) e = open_by (is_aside w.aside (place_from p v)) w (place_from p v) e
-open_set w (Shared a i) e = refl
-
-sizes_by : (b : Bool) (w : WordsOf) (place : Place) (e : Entry) → (with_own b w place e).sizes ≡ w.sizes
-sizes_by true w place e = refl
-sizes_by false w place e = refl
+open_set w k e = ap (λ (x : WordsOf). x.is_open) (left_set w k e)
 
 pub sizes_set : (w : WordsOf) (k : Key) (e : Entry) → (with_entry w k e).sizes ≡ w.sizes
-sizes_set w (Private p v) e = sizes_by (is_aside w.aside (place_from p v)) w (place_from p v) e
-sizes_set w (Shared a i) e = refl
+sizes_set w k e = ap (λ (x : WordsOf). x.sizes) (left_set w k e)
 
 pub aside_set : (w : WordsOf) (k : Key) (e : Entry) → option_map (λ x. x.place) (with_entry w k e).aside ≡ option_map (λ x. x.place) w.aside
 aside_set w (Private p v) e = by (is_aside w.aside (place_from p v)) refl
@@ -110,15 +72,7 @@ aside_set w (Shared a i) e = refl
 
 at_by : (b : Bool) (w : WordsOf) (place : Place) (e : Entry) (p : Place) (x : Entry) → (with_own b w place e).at p ≡ x → (e ≡ x) ⊎ (w.at p ≡ x)
 at_by true w place e p x h = inr h
-at_by false w place e p x h = go (same_place p place) h
-  where
-    go : (b : Bool) → (if b then e else w.at p) ≡ x → (e ≡ x) ⊎ (w.at p ≡ x)
-    go true h = inl h
-    go false h = inr h
-
-proto_by : (b : Bool) (w : WordsOf) (place : Place) (e : Entry) (a i : ℕ) → (with_own b w place e).proto a i ≡ w.proto a i
-proto_by true w place e a i = refl
-proto_by false w place e a i = refl
+at_by false w place e p x h = if_either (same_place p place) e (w.at p) x h
 
 no_file_set : (w : WordsOf) (k : Key) (e : Entry) → is_resting k e ≡ true → ((p : Place) (b : Block) → w.at p ≢ entry.InFile b) → (p : Place) (b : Block) → (with_entry w k e).at p ≢ entry.InFile b
 no_file_set w (Private q v) e h kept p b at = elim (at_by (is_aside w.aside (place_from q v)) w (place_from q v) e p (entry.InFile b) at) [

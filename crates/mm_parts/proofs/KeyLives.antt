@@ -2,31 +2,19 @@
 use Rattle.std.proofs.Common.{◌≡◌, ◌≢◌, ℕ, ◌-◌, ◌≤◌, Bool, true, false, List, Option, Some, None, refl, sym, ap, ◌∙◌, arith}
 use Rattle.std.specs.Prelude.{◌&&◌, ◌||◌, is_some, if◌then◌else◌, slice_get, slice_set, slice_index_or}
 use Rattle.std.proofs.lemmas.Bool.{and_parts, or_left, eqb-true}
-use Rattle.mm_types.specs.declared.numbers.Frame.{Frame}
-use Rattle.mm_types.specs.declared.numbers.Key.{Key}
+use Rattle.mm_types.specs.{Frame, Key, Place, Record, Held, LineKind, Backing}
 use Rattle.mm_types.specs.declared.numbers.Key.TheVariants.{Private, Shared}
-use Rattle.mm_types.specs.declared.numbers.Place.{Place}
-use Rattle.mm_types.specs.declared.frames.Record.{Record}
-use Rattle.mm_types.specs.declared.frames.Held.{Held}
 use Rattle.mm_types.specs.declared.frames.Held.TheVariants as held
-use Rattle.mm_types.specs.declared.moves.LineKind.{LineKind}
 use Rattle.mm_types.specs.declared.moves.LineKind.TheVariants as kind
 use Rattle.mm_types.specs.declared.moves.Move.TheVariants as move
-use Rattle.mm_types.specs.declared.frames.Backing.{Backing}
-use Rattle.mm_life.specs.Frames.{FrameTable, slot_of, blank, record_at, has_request, is_read, disowned, off_lists, to_free, with_record, after_drop, slot_after_drop}
-use Rattle.mm_life.specs.Legal.{IsLegal, is_touch, is_call, is_unbind, is_unmapped}
-use Rattle.mm_life.specs.Effect.{after_move, freed, dropped_at, unlisted, slot_at}
-use Rattle.mm_laws.specs.PagingKeys.{is_home_for}
-use Rattle.mm_laws.proofs.Requests.{read_has}
-use Rattle.mm_laws.proofs.Sights.{kept_inside}
-use Rattle.mm_words.specs.declared.layout.Entry.{Entry}
+use Rattle.mm_life.specs.{FrameTable, slot_of, blank, record_at, has_request, is_read, disowned, off_lists, to_free, with_record, after_drop}
+use Rattle.mm_life.specs.{slot_after_drop, IsLegal, is_touch, is_call, is_unbind, is_unmapped, after_move, freed, dropped_at, unlisted, slot_at}
+use Rattle.mm_laws.specs.{is_home_for}
+use Rattle.mm_laws.proofs.{read_has, kept_inside}
+use Rattle.mm_words.specs.{Entry, Aside, key_entry, with_entry, is_valid_entry, is_there, is_aside, keeps_places, place_from, bare}
 use Rattle.mm_words.specs.declared.layout.Entry.TheVariants as entry
-use Rattle.mm_words.specs.declared.aside.Aside.{Aside}
-use Rattle.mm_words.specs.Words.{key_entry, with_entry, is_valid_entry, is_there, is_aside, keeps_places, place_from, bare}
-use Rattle.mm_parts.specs.Shown.{JoinedParts, LineOf, owners, owned_by, held_by, names_of, life_in, shown_of, requests_in}
-use Rattle.mm_parts.specs.Words.{is_aside_entry}
-use Rattle.mm_parts.specs.Kept.{PartsKept}
-use Rattle.mm_parts.specs.Moves.{parts_after, names_after_drop, table_released, slot_released, IsReleased}
+use Rattle.mm_parts.specs.{JoinedParts, LineOf, owners, owned_by, held_by, names_of, life_in, shown_of, requests_in, is_aside_entry, PartsKept}
+use Rattle.mm_parts.specs.{parts_after, names_after_drop, table_released, slot_released, IsReleased}
 use Rattle.mm_parts.proofs.Stands.{same_life, sets_set}
 use Rattle.mm_parts.proofs.FrameChanges.{Rewrites, rewrites_by, waits_frame}
 use Rattle.mm_parts.proofs.NameChanges.{names_gone}
@@ -56,17 +44,9 @@ word_only t kept k e resting beside still calm = record {
 -- ---- drop
 
 not_touching : (k : LineKind) → (is_call k || is_unbind k) ≡ true → is_touch k ≡ false
-not_touching (kind.Machine a b c d) h = refl
-not_touching (kind.Process p a b) h = refl
-not_touching (kind.Unbind p) h = refl
 not_touching (kind.Access p) h = cc
 not_touching (kind.Thread p) h = cc
-not_touching (kind.Trim p) h = refl
-not_touching kind.Writer h = refl
-not_touching kind.Zeroer h = refl
-not_touching kind.Io h = refl
-not_touching kind.Call h = refl
-not_touching (kind.Grow n) h = refl
+not_touching _ h = refl
 
 not_beside : (a : Option Aside) (place : Place) → is_some a ≡ false → is_aside a place ≡ false
 not_beside None place h = refl
@@ -207,13 +187,8 @@ module _ (t : JoinedParts) (kept : PartsKept t) (k : Key) (legal : IsLegal (move
 -- ---- what the move's condition says to the calls that drop is made of
 
 released_bare : (e : Entry) (d : FrameTable) → (table_released (bare e) d ≡ table_released e d) × (slot_released (bare e) d ≡ slot_released e d)
-released_bare entry.Empty d = (refl, refl)
-released_bare entry.Zero d = (refl, refl)
 released_bare (entry.Paged s) d = (refl, refl)
-released_bare (entry.InFile b) d = (refl, refl)
-released_bare (entry.Transition f) d = (refl, refl)
-released_bare (entry.Valid f n) d = (refl, refl)
-released_bare (entry.Proto a i) d = (refl, refl)
+released_bare _ d = (refl, refl)
 
 -- the entry as it is told, with its number
 pub drop_told_step : (t : JoinedParts) (kept : PartsKept t) (k : Key) (legal : IsLegal (move.Drop k) (life_in t)) (e : Entry) → bare e ≡ key_entry t.words k
@@ -224,44 +199,30 @@ drop_told_step t kept k legal e is =
     (drop_step t kept k legal (bare e) (sym is))
 
 entry_free : (t : JoinedParts) → PartsKept t → (k : Key) (e : Entry) → key_entry t.words k ≡ bare e → (s : ℕ) → slot_released e t.table ≡ Some s → slice_get t.free s ≡ Some false
-entry_free t kept k entry.Empty w s h = cc
-entry_free t kept k entry.Zero w s h = cc
 entry_free t kept k (entry.Paged x) w s h = (known t kept).homed k s (ap (λ z. slot_at (held_by (owned_by (owners t.table) k) z)) w ∙ h)
-entry_free t kept k (entry.InFile b) w s h = cc
 entry_free t kept k (entry.Transition f) w s h = (known t kept).backed f.0 s (if_slot (has_request (record_at t.table f.0).request) (record_at t.table f.0).backing s h)
   where
     if_slot : (b : Bool) (x : Backing) (s : ℕ) → (if b then None else slot_of x) ≡ Some s → slot_of x ≡ Some s
     if_slot true x s e = cc
     if_slot false x s e = e
-entry_free t kept k (entry.Valid f n) w s h = cc
-entry_free t kept k (entry.Proto a i) w s h = cc
+entry_free t kept k _ w s h = cc
 
 pub drop_frees : (t : JoinedParts) → PartsKept t → (k : Key) (e : Entry) → bare e ≡ key_entry t.words k → (s : ℕ) → slot_released e t.table ≡ Some s → slice_get t.free s ≡ Some false
 drop_frees t kept k e is s h = entry_free t kept k e (sym is) s h
 
 pub drop_released : (t : JoinedParts) → PartsKept t → (k : Key) (e : Entry) → bare e ≡ key_entry t.words k → IsReleased e t.table
-drop_released t kept k entry.Empty is = tt
-drop_released t kept k entry.Zero is = tt
-drop_released t kept k (entry.Paged s) is = tt
-drop_released t kept k (entry.InFile b) is = tt
 drop_released t kept k (entry.Transition f) is =
     let owner = (known t kept).owner k f (ap (held_by (owned_by (owners t.table) k)) (sym is)) in
     (ap is_some owner, kept.words.transition k f (sym is))
-drop_released t kept k (entry.Valid f n) is = tt
-drop_released t kept k (entry.Proto a i) is = tt
+drop_released t kept k _ is = tt
 
 -- the key is at rest, and there is one
 pub drop_calm : (t : JoinedParts) (kept : PartsKept t) (k : Key) → IsLegal (move.Drop k) (life_in t) → keeps_places t.words k entry.Empty ≡ true
 drop_calm t kept k legal = places_kept t.words k entry.Empty refl (calm (key_entry t.words k) refl)
   where
     calm : (e : Entry) → key_entry t.words k ≡ e → is_valid_entry (key_entry t.words k) ≡ false
-    calm entry.Empty w = ap is_valid_entry w
-    calm entry.Zero w = ap is_valid_entry w
-    calm (entry.Paged s) w = ap is_valid_entry w
-    calm (entry.InFile b) w = ap is_valid_entry w
-    calm (entry.Transition f) w = ap is_valid_entry w
     calm (entry.Valid f n) w = absurd (no_valid t kept k legal f n w)
-    calm (entry.Proto a i) w = ap is_valid_entry w
+    calm _ w = ap is_valid_entry w
 
 pub drop_some : (t : JoinedParts) (kept : PartsKept t) (k : Key) → IsLegal (move.Drop k) (life_in t) → 1 ≤ t.line.paging_keys
 drop_some t kept k legal = (known t kept).keyed k (can_drop t k legal).paging
@@ -272,9 +233,4 @@ drop_there t kept k legal = by (key_entry t.words k) refl
   where
     by : (e : Entry) → key_entry t.words k ≡ e → is_there (key_entry t.words k) ≡ true
     by entry.Empty w = absurd (not_dead t kept k legal (standing t kept k legal entry.Empty w))
-    by entry.Zero w = ap is_there w
-    by (entry.Paged s) w = ap is_there w
-    by (entry.InFile b) w = ap is_there w
-    by (entry.Transition f) w = ap is_there w
-    by (entry.Valid f n) w = ap is_there w
-    by (entry.Proto a i) w = ap is_there w
+    by _ w = ap is_there w

@@ -2,32 +2,22 @@
 use Rattle.std.proofs.Common.{◌≡◌, ℕ, ◌<◌, Bool, true, false, List, Option, Some, None, refl, sym, ap, ◌∙◌, length}
 use Rattle.std.specs.Prelude.{◌&&◌, ◌||◌, not, is_some, map, if◌then◌else◌, slice_set}
 use Rattle.std.proofs.lemmas.Bool.{and_parts, or_right}
-use Rattle.mm_types.specs.declared.numbers.Frame.{Frame}
-use Rattle.mm_types.specs.declared.numbers.Key.{Key}
+use Rattle.mm_types.specs.{Frame, Key, Place, Record, Backing}
 use Rattle.mm_types.specs.declared.numbers.Key.TheVariants.{Private, Shared}
-use Rattle.mm_types.specs.declared.numbers.Place.{Place}
-use Rattle.mm_types.specs.declared.frames.Record.{Record}
-use Rattle.mm_types.specs.declared.frames.Backing.{Backing}
 use Rattle.mm_types.specs.declared.frames.Held.TheVariants as held
 use Rattle.mm_types.specs.declared.moves.Move.TheVariants as move
-use Rattle.mm_life.specs.Frames.{FrameTable, blank, record_at, has_request, is_read, is_first, is_empty, rest, without, given, being_read, taken_for_read, after_give, after_read, after_steal, after_bad, slot_after_read}
-use Rattle.mm_life.specs.Life.{changed, same_key}
-use Rattle.mm_life.specs.Legal.{IsLegal, is_touch, is_access, is_thread, is_io, is_zero, is_stored, has_depth}
-use Rattle.mm_life.specs.Effect.{freed, backing_of, homed}
-use Rattle.mm_laws.specs.Fits.{is_backed}
-use Rattle.mm_laws.proofs.Requests.{read_has}
-use Rattle.mm_laws.proofs.Sights.{kept_inside}
-use Rattle.mm_laws.proofs.Changes.{changes_give, first_zeroed}
-use Rattle.mm_laws.proofs.Taking.{Standby, first_standby, Fresh, fresh_read}
-use Rattle.mm_laws.specs.Sights.{Sight}
-use Rattle.mm_frames.specs.Base.{has_block}
-use Rattle.mm_flight.specs.Requests.{ended}
+use Rattle.mm_life.specs.{FrameTable, blank, record_at, has_request, is_read, is_first, is_empty, rest, without, given, being_read, taken_for_read}
+use Rattle.mm_life.specs.{after_give, after_read, after_steal, after_bad, slot_after_read, changed, same_key, IsLegal, is_touch, is_access, is_thread}
+use Rattle.mm_life.specs.{is_io, is_zero, is_stored, has_depth, freed, backing_of, homed}
+use Rattle.mm_laws.specs.{is_backed, Sight}
+use Rattle.mm_laws.proofs.{read_has, kept_inside, changes_give, first_zeroed, Standby, first_standby, Fresh, fresh_read}
+use Rattle.mm_frames.specs.{has_block}
+use Rattle.mm_flight.specs.{ended}
 use Rattle.mm_words.specs.declared.layout.Entry.TheVariants as entry
-use Rattle.mm_words.specs.Words.{WordsOf, key_entry, with_entry, is_there, has_word, is_valid_entry}
-use Rattle.mm_parts.specs.Shown.{JoinedParts, owners, owned_by, held_by, stands_of, names_of, is_paging, life_of, life_in, shown_of, requests, requests_in, own_is, is_own_line}
-use Rattle.mm_parts.specs.Words.{is_aside_entry}
-use Rattle.mm_parts.specs.Kept.{PartsKept}
-use Rattle.mm_parts.specs.Moves.{parts_after, own_after, own_ended, flight_begun, flight_ended, names_after_give, home_entry, words_sent, CanSend, end_of_read}
+use Rattle.mm_words.specs.{WordsOf, key_entry, with_entry, is_there, has_word, is_valid_entry}
+use Rattle.mm_parts.specs.{JoinedParts, owners, owned_by, held_by, stands_of, names_of, is_paging, life_of, life_in, shown_of, requests, requests_in}
+use Rattle.mm_parts.specs.{own_is, is_own_line, is_aside_entry, PartsKept, parts_after, own_after, own_ended, flight_begun, flight_ended}
+use Rattle.mm_parts.specs.{names_after_give, home_entry, words_sent, CanSend, end_of_read}
 use Rattle.mm_parts.proofs.FrameChanges.{Rewrites, rewrites_by, waits_frame}
 use Rattle.mm_parts.proofs.NameChanges.{is_used, names_moved, names_used}
 use Rattle.mm_parts.proofs.Keeping.{Step, known}
@@ -36,7 +26,7 @@ use Rattle.mm_parts.proofs.FrameSteps.{Holding, held_by_request, end_step}
 use Rattle.mm_parts.proofs.Conditions.{home_can}
 use Rattle.mm_parts.proofs.KeyChanges.{Rewords, is_resting, is_beside, key_step, key_life}
 use Rattle.mm_parts.proofs.StandingWords.{resting_word, zero_word, stored_word, away_calm, home_held, home_paging, home_lands, home_resting, home_used, home_aside, stored_paging, own_backing, stored_used}
-use Rattle.mm_life.proofs.Records.{records_taken}
+use Rattle.mm_life.proofs.{records_taken}
 
 -- a frame that nobody owns is no key's
 pub none_in : (t : JoinedParts) → PartsKept t → (f : Frame) (k : Key) → (record_at t.table f.0).owner ≡ None → (q : Key) → stands_of (owners t.table) t.words q ≡ held.Frame f → q ≡ k
@@ -51,6 +41,20 @@ resting_transition (Shared a i) f = refl
 
 lands_here : (f g : Frame) → entry.Transition f ≡ entry.Transition g → g.0 ≡ f.0
 lands_here f g e = let same : f ≡ g = cc in ap (λ (x : Frame). x.0) (sym same)
+
+-- a key comes to stand in a frame that showed nothing
+comes_in : (t : JoinedParts) → PartsKept t → (d' : FrameTable) (f : Frame) (r : Record) (k : Key) → Rewrites t.table d' f.0 r → r.shares ≡ 0 → record_at t.table f.0 ≡ blank → is_valid_entry (key_entry t.words k) ≡ false
+    → Rewords t d' f r k (entry.Transition f)
+comes_in t kept d' f r k change none bare calm = record {
+  change = change;
+  unshared = ap (λ (x : Record). x.shares) bare;
+  bare = none;
+  only = none_in t kept f k (ap (λ (x : Record). x.owner) bare);
+  resting = resting_transition k f;
+  beside = λ h. refl;
+  lands = lands_here f;
+  calm = calm;
+}
 
 -- ---- give
 
@@ -68,16 +72,7 @@ give_step t kept f k legal =
     let word : key_entry t.words k ≡ entry.Zero = zero_word (owned_by (owners d) k) (key_entry t.words k) parts.1 in
     let c = changes_give d (requests_in t) f.0 facts.standing k parts.0 in
     let change : Rewrites d (after_give d f.0 k) f.0 (given k) = record { elsewhere = λ g m. ap (λ (s : Sight). s.what) (c.elsewhere g m); here = c.here } in
-    let re : Rewords t (after_give d f.0 k) f (given k) k (entry.Transition f) = record {
-      change = change;
-      unshared = ap (λ (x : Record). x.shares) bare;
-      bare = refl;
-      only = none_in t kept f k (ap (λ (x : Record). x.owner) bare);
-      resting = resting_transition k f;
-      beside = λ h. refl;
-      lands = lands_here f;
-      calm = ap is_valid_entry word;
-    } in
+    let re = comes_in t kept (after_give d f.0 k) f (given k) k change refl bare (ap is_valid_entry word) in
     key_step t kept (after_give d f.0 k) f (given k) k (entry.Transition f) re (move.Give f k) legal t.line t.bytes t.free t.flight t.own (names_after_give (shown_of t) k)
     (key_life t kept (after_give d f.0 k) f (given k) k (entry.Transition f) re t.free (requests_in t)
     (ap (λ (x : Record). not (has_block x.backing)) c.here ∙ sym (ap (λ e. is_paging d (held_by (owned_by (owners d) k) e)) word)))
@@ -100,16 +95,7 @@ read_step t kept f k legal can =
     let fresh : Fresh d (requests_in t) f.0 facts.standing = fresh_read d (requests_in t) f.0 facts.standing parts.0 in
     let bare = fresh.bare in
     let change = rewrites_by d (after_read d f.0 k home) f.0 (being_read k home) fresh.low (ap (λ (xs : List Record). slice_set xs f.0 (being_read k home)) (records_taken d)) in
-    let re : Rewords t (after_read d f.0 k home) f (being_read k home) k (entry.Transition f) = record {
-      change = change;
-      unshared = ap (λ (x : Record). x.shares) bare;
-      bare = refl;
-      only = none_in t kept f k (ap (λ (x : Record). x.owner) bare);
-      resting = resting_transition k f;
-      beside = λ h. refl;
-      lands = lands_here f;
-      calm = away_calm (key_entry t.words k) (stored_word (owned_by (owners d) k) (key_entry t.words k) parts.1);
-    } in
+    let re = comes_in t kept (after_read d f.0 k home) f (being_read k home) k change refl bare (away_calm (key_entry t.words k) (stored_word (owned_by (owners d) k) (key_entry t.words k) parts.1)) in
     let flight' = flight_begun (is_own_line t.line.kind) t.flight f in
     let own' = own_after t.line.kind t.own f in
     let step = key_step t kept (after_read d f.0 k home) f (being_read k home) k (entry.Transition f) re (move.Read f k) legal t.line t.bytes t.free flight' own' (names_of (owners d) t.words)

@@ -2,24 +2,14 @@
 use Rattle.std.proofs.Common.{◌≡◌, ℕ, ◌+◌, ◌<◌, ◌≤◌, true, false, [], ◌∷◌, ◌++◌, Option, Some, None, refl, sym, ap, ◌∙◌, inl, inr, arith, length, replicate}
 use Rattle.std.specs.Prelude.{◌==◌, ◌&&◌, nat_le, nat_lt, is_some, option_map}
 use Rattle.std.proofs.lemmas.Bool.{and_parts, eqb-true, leb-true}
-use Rattle.mm_types.specs.Machine.{IsMachine}
-use Rattle.mm_types.specs.declared.numbers.Frame.{Frame}
-use Rattle.mm_types.specs.declared.numbers.Pid.{Pid}
-use Rattle.mm_types.specs.declared.moves.LineKind.{LineKind}
+use Rattle.mm_types.specs.{IsMachine, Frame, Pid, LineKind}
 use Rattle.mm_types.specs.declared.moves.LineKind.TheVariants as kind
 use Rattle.mm_types.specs.declared.moves.Move.TheVariants as move
-use Rattle.mm_life.specs.declared.sets.ResidentSet.{ResidentSet}
-use Rattle.mm_life.specs.Life.{FrameLife, set_in}
-use Rattle.mm_life.specs.Legal.{IsLegal, is_legal_kind}
-use Rattle.mm_life.specs.Effect.{after_at}
-use Rattle.mm_laws.proofs.ResidentSets.{set_more}
-use Rattle.mm_words.specs.declared.aside.Aside.{Aside}
-use Rattle.mm_words.specs.Words.{WordsOf}
-use Rattle.mm_parts.specs.Shown.{JoinedParts, life_in, shown_of, requests_in}
-use Rattle.mm_parts.specs.Kept.{PartsKept, WithinLine}
-use Rattle.mm_parts.specs.Moves.{parts_after, IsPlainLine, words_begun, CanBeginSet}
-use Rattle.mm_parts.specs.Start.{more_slots}
-use Rattle.mm_laws.proofs.Facts.{reached_by}
+use Rattle.mm_life.specs.{ResidentSet, FrameLife, set_in, IsLegal, is_legal_kind, after_at}
+use Rattle.mm_laws.proofs.{set_more, reached_by}
+use Rattle.mm_words.specs.{Aside, WordsOf}
+use Rattle.mm_parts.specs.{JoinedParts, life_in, shown_of, requests_in, PartsKept, WithinLine, parts_after, IsPlainLine, words_begun, CanBeginSet}
+use Rattle.mm_parts.specs.{more_slots}
 use Rattle.mm_parts.proofs.Keeping.{Step, known}
 
 -- the line after
@@ -46,16 +36,9 @@ same_words : (t : JoinedParts) → PartsKept t → (n : ℕ) (k : LineKind) → 
 same_words t kept n k legal own aside e =
     let next = next_line t n k legal in
     let number = next.number in
+    let begun : 1 ≤ n = omega (arith, number) in
     record {
-      kept = record {
-        reached = reached_by (life_in t) _ (move.At n k) legal (sym e) kept.reached;
-        line = record { machine = kept.line.machine; begun = omega (arith, number); blocks = kept.line.blocks };
-        words = kept.words;
-        within = within_line k t.own t.words own aside;
-        ranges = kept.ranges;
-        depth = kept.depth;
-        waits = kept.waits;
-      };
+      kept = assumption (reached_by (life_in t) _ (move.At n k) legal (sym e) kept.reached, begun, within_line k t.own t.words own aside);
       shown = ap (λ (l : FrameLife). record (shown_of t) { life = l }) (sym e);
     }
 
@@ -64,16 +47,14 @@ process_line : (t : JoinedParts) → PartsKept t → (n : ℕ) (pid : Pid) (min 
 process_line t kept n pid min max legal low high own aside =
     let next = next_line t n (kind.Process pid min max) legal in
     let number = next.number in
+    let begun : 1 ≤ n = omega (arith, number) in
     record {
-      kept = record {
-        reached = reached_by (life_in t) _ (move.At n (kind.Process pid min max)) legal refl kept.reached;
-        line = record { machine = kept.line.machine; begun = omega (arith, number); blocks = kept.line.blocks };
-        words = record { transition = kept.words.transition; valid_shared = kept.words.valid_shared; no_file = kept.words.no_file; no_proto = kept.words.no_proto; beside = kept.words.beside; beside_bound = kept.words.beside_bound; beside_other = kept.words.beside_other };
-        within = within_line (kind.Process pid min max) t.own (words_begun (kind.Process pid min max) t.words) own aside;
-        ranges = record { areas = kept.ranges.areas; sets = sets; user = kept.ranges.user };
-        depth = kept.depth;
-        waits = kept.waits;
-      };
+      kept = assumption (
+        reached_by (life_in t) _ (move.At n (kind.Process pid min max)) legal refl kept.reached,
+        begun,
+        within_line (kind.Process pid min max) t.own (words_begun (kind.Process pid min max) t.words) own aside,
+        sets,
+      );
       shown = refl;
     }
   where
@@ -108,43 +89,32 @@ grow_machine t kept n count legal =
     let m = kept.line.machine in
     let k = (next_line t n (kind.Grow count) legal).kind_is in
     let most = leb-true (t.line.machine.slots + count) 262144 (and_parts (nat_lt 0 t.line.line && nat_le 1 count) (nat_le (t.line.machine.slots + count) 262144) k).1 in
-    record { least_frames = m.least_frames; most_frames = m.most_frames; most_slots = most; least_depth = m.least_depth; most_depth = m.most_depth; most_blocks = m.most_blocks; enough_frames = m.enough_frames }
+    assumption (most, m)
 
 pub grow_step : (t : JoinedParts) → PartsKept t → (n count : ℕ) → IsLegal (move.At n (kind.Grow count)) (life_in t) → t.own ≡ None → t.words.aside ≡ None
     → Step (record t { line = record t.line { machine = more_slots t.line.machine count; line = n; kind = kind.Grow count }; free = t.free ++ replicate count true }) (parts_after (shown_of t) (move.At n (kind.Grow count)))
 grow_step t kept n count legal own aside =
     let number = (next_line t n (kind.Grow count) legal).number in
+    let begun : 1 ≤ n = omega (arith, number) in
     record {
-      kept = record {
-        reached = reached_by (life_in t) _ (move.At n (kind.Grow count)) legal refl kept.reached;
-        line = record { machine = grow_machine t kept n count legal; begun = omega (arith, number); blocks = kept.line.blocks };
-        words = kept.words;
-        within = within_line (kind.Grow count) t.own t.words own aside;
-        ranges = kept.ranges;
-        depth = kept.depth;
-        waits = kept.waits;
-      };
+      kept = assumption (
+        reached_by (life_in t) _ (move.At n (kind.Grow count)) legal refl kept.reached,
+        grow_machine t kept n count legal,
+        begun,
+        within_line (kind.Grow count) t.own t.words own aside,
+      );
       shown = refl;
     }
 
 -- there are fewer than 64 processes before one more
 pub set_room : (t : JoinedParts) (n : ℕ) (k : LineKind) → IsLegal (move.At n k) (life_in t) → CanBeginSet k t.words
-set_room t n (kind.Machine a b c d) legal = tt
 set_room t n (kind.Process pid min max) legal =
     let k = (next_line t n (kind.Process pid min max) legal).kind_is in
     let a = and_parts (nat_lt 0 t.line.line && (pid.0 == length t.words.sets + 1)) (nat_le pid.0 64) k in
     let same = eqb-true pid.0 (length t.words.sets + 1) (and_parts (nat_lt 0 t.line.line) (pid.0 == length t.words.sets + 1) a.0).1 in
     let most = leb-true pid.0 64 a.1 in
     omega (arith, same, most)
-set_room t n (kind.Unbind pid) legal = tt
-set_room t n (kind.Access pid) legal = tt
-set_room t n (kind.Thread pid) legal = tt
-set_room t n (kind.Trim pid) legal = tt
-set_room t n kind.Writer legal = tt
-set_room t n kind.Zeroer legal = tt
-set_room t n kind.Io legal = tt
-set_room t n kind.Call legal = tt
-set_room t n (kind.Grow count) legal = tt
+set_room t n _ legal = tt
 
 pub no_place : (a : Option Aside) → option_map (λ x. x.place) a ≡ None → a ≡ None
 no_place None e = refl

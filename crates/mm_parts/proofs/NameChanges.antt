@@ -1,31 +1,19 @@
 -- Which key each place names, after a change of a word or of the frames' owners.
 use Rattle.std.proofs.Common.{◌≡◌, ℕ, Bool, true, false, cond, Option, Some, None, refl, sym, ap, ◌∙◌, inl, inr}
 use Rattle.std.specs.Prelude.{if◌then◌else◌, option_map}
-use Rattle.mm_types.specs.declared.numbers.Frame.{Frame}
-use Rattle.mm_types.specs.declared.numbers.Key.{Key}
+use Rattle.mm_types.specs.{Frame, Key, Pid, Vpn, Place}
 use Rattle.mm_types.specs.declared.numbers.Key.TheVariants.{Private, Shared}
-use Rattle.mm_types.specs.declared.numbers.Pid.{Pid}
-use Rattle.mm_types.specs.declared.numbers.Vpn.{Vpn}
-use Rattle.mm_types.specs.declared.numbers.Place.{Place}
-use Rattle.mm_life.specs.Life.{changed, same_place, key_of_place, is_shared}
+use Rattle.mm_life.specs.{changed, same_place, key_of_place, is_shared}
 use Rattle.mm_laws.proofs.PlaceCounts.{place_or_not}
-use Rattle.mm_words.specs.declared.layout.Entry.{Entry}
+use Rattle.mm_words.specs.{Entry, Aside, WordsOf, place_from, is_aside, aside_or, key_entry, with_own, with_entry, valid_frame}
 use Rattle.mm_words.specs.declared.layout.Entry.TheVariants as entry
-use Rattle.mm_words.specs.declared.aside.Aside.{Aside}
-use Rattle.mm_words.specs.Words.{WordsOf, place_from, is_aside, aside_or, key_entry, with_own, with_entry, valid_frame}
-use Rattle.mm_parts.specs.Shown.{Owners, named_by, names_of, valid_of}
-use Rattle.mm_parts.specs.Moves.{names_given}
+use Rattle.mm_parts.specs.{Owners, named_by, names_of, valid_of, names_given}
 
 -- ---- owners
 
 named_same : (o p : Owners) (place : Place) (e : Entry) → ((f : Frame) (n : ℕ) → e ≡ entry.Valid f n → p f.0 ≡ o f.0) → named_by p place e ≡ named_by o place e
-named_same o p place entry.Empty h = refl
-named_same o p place entry.Zero h = refl
-named_same o p place (entry.Paged s) h = refl
-named_same o p place (entry.InFile b) h = refl
-named_same o p place (entry.Transition f) h = refl
 named_same o p place (entry.Valid f n) h = h f n refl
-named_same o p place (entry.Proto a i) h = refl
+named_same o p place _ h = refl
 
 pub names_owner : (o p : Owners) (w : WordsOf) → ((place : Place) (f : Frame) → valid_of w place ≡ Some f → p f.0 ≡ o f.0) → (place : Place) → names_of p w place ≡ names_of o w place
 names_owner o p w same place = named_same o p place (w.at place) (λ f n e. same place f (valid_here (w.at place) e))
@@ -37,22 +25,14 @@ names_owner o p w same place = named_same o p place (w.at place) (λ f n e. same
 
 -- an entry of a private page that had a frame before
 abbrev pub is_used : Entry → Bool
-is_used entry.Empty = false
-is_used entry.Zero = false
 is_used (entry.Paged s) = true
-is_used (entry.InFile b) = false
 is_used (entry.Transition f) = true
-is_used (entry.Valid f n) = false
-is_used (entry.Proto a i) = false
+is_used _ = false
 
 used_names : (o : Owners) (place : Place) (e : Entry) → is_used e ≡ true → named_by o place e ≡ Some (key_of_place place)
-used_names o place entry.Empty h = cc
-used_names o place entry.Zero h = cc
 used_names o place (entry.Paged s) h = refl
-used_names o place (entry.InFile b) h = cc
 used_names o place (entry.Transition f) h = refl
-used_names o place (entry.Valid f n) h = cc
-used_names o place (entry.Proto a i) h = cc
+used_names o place _ h = cc
 
 in_table : (a : Option Aside) (place : Place) (e : Entry) → is_aside a place ≡ false → aside_or a place e ≡ e
 in_table None place e h = refl

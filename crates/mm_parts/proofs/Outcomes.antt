@@ -1,8 +1,7 @@
 -- A call that may be refused memory: what the parts are after it.
 use Rattle.std.proofs.Common.{◌≡◌, sym, ap, ◌∙◌, subst}
 use Rattle.std.specs.Prelude.{Result, Ok, Err, OnOk, OnErr}
-use Rattle.mm_parts.specs.Shown.{JoinedParts, PartsOf, shown_of}
-use Rattle.mm_parts.specs.Kept.{PartsKept}
+use Rattle.mm_parts.specs.{JoinedParts, PartsOf, shown_of, PartsKept}
 use Rattle.mm_parts.proofs.Keeping.{Step}
 
 pub on_ok : {A E : Type 0} (r : Result A E) {P Q : Type 0} → OnOk r P → (P → Q) → OnOk r Q

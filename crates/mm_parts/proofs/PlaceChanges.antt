@@ -2,41 +2,23 @@
 use Rattle.std.proofs.Common.{◌≡◌, ◌≢◌, ◌⊎◌, ℕ, zero, suc, ◌+◌, ◌-◌, ◌≤◌, Bool, true, false, cond, List, Option, Some, None, refl, sym, ap, ◌∙◌, inl, inr, arith}
 use Rattle.std.specs.Prelude.{is_some, option_map, unwrap_or, if◌then◌else◌, slice_index_or}
 use Rattle.std.proofs.lemmas.Bool.{or_left, lt-ltb}
-use Rattle.mm_types.proofs.Cells.{same_or_not}
-use Rattle.mm_types.specs.declared.numbers.Frame.{Frame}
-use Rattle.mm_types.specs.declared.numbers.Area.{Area}
-use Rattle.mm_types.specs.declared.numbers.Block.{Block}
-use Rattle.mm_types.specs.declared.numbers.Key.{Key}
+use Rattle.mm_types.proofs.{same_or_not}
+use Rattle.mm_types.specs.{Frame, Area, Block, Key, Place, Record}
 use Rattle.mm_types.specs.declared.numbers.Key.TheVariants.{Private, Shared}
-use Rattle.mm_types.specs.declared.numbers.Place.{Place}
-use Rattle.mm_types.specs.declared.frames.Record.{Record}
 use Rattle.mm_types.specs.declared.moves.Move.TheVariants as move
-use Rattle.mm_life.specs.Frames.{record_at, shared, unshared, after_map, after_unmap}
-use Rattle.mm_life.specs.declared.sets.ResidentSet.{ResidentSet}
-use Rattle.mm_life.specs.Life.{changed, same_key, same_place, key_of_place, set_in, with_resident, resident_by}
-use Rattle.mm_laws.proofs.ResidentSets.{set_here, set_else}
-use Rattle.mm_life.specs.Legal.{IsLegal}
-use Rattle.mm_life.specs.Effect.{after_move, after_unmap_at}
-use Rattle.mm_laws.proofs.PlaceCounts.{place_or_not, same_place-true}
-use Rattle.mm_laws.proofs.Sights.{kept_inside}
-use Rattle.mm_words.specs.declared.layout.Entry.{Entry}
+use Rattle.mm_life.specs.{record_at, shared, unshared, after_map, after_unmap, ResidentSet, changed, same_key, same_place, key_of_place, set_in}
+use Rattle.mm_life.specs.{with_resident, resident_by, IsLegal, after_move, after_unmap_at}
+use Rattle.mm_laws.proofs.{set_here, set_else, place_or_not, same_place-true, kept_inside, reached_by}
+use Rattle.mm_words.specs.{Entry, Aside, WordsOf, key_entry, own_word, aside_or, is_aside, without_aside, made_valid, made_invalid, place_from}
+use Rattle.mm_words.specs.{valid_frame, is_valid_entry}
 use Rattle.mm_words.specs.declared.layout.Entry.TheVariants as entry
-use Rattle.mm_words.specs.declared.aside.Aside.{Aside}
-use Rattle.mm_words.specs.Words.{WordsOf, key_entry, own_word, aside_or, is_aside, without_aside, made_valid, made_invalid, place_from, valid_frame, is_valid_entry}
-use Rattle.mm_parts.specs.Shown.{JoinedParts, Owners, owners, owned_by, held_by, stands_of, valid_of, named_by, names_of, is_paging, life_of, life_in, shown_of, requests_in}
-use Rattle.mm_parts.specs.Words.{WordsKept, names_other}
-use Rattle.mm_parts.specs.Kept.{PartsKept}
-use Rattle.mm_parts.specs.Moves.{parts_after, left_by, names_after_map}
-use Rattle.mm_laws.proofs.Facts.{reached_by}
-use Rattle.mm_parts.proofs.Stands.{same_life, own_by, not_valid}
+use Rattle.mm_parts.specs.{JoinedParts, Owners, owners, owned_by, held_by, stands_of, valid_of, named_by, names_of, is_paging, life_of, life_in}
+use Rattle.mm_parts.specs.{shown_of, requests_in, WordsKept, names_other, PartsKept, parts_after, left_by, names_after_map}
+use Rattle.mm_parts.proofs.Stands.{same_life, at_if, own_by, not_valid}
 use Rattle.mm_parts.proofs.FrameChanges.{Rewrites, rewrites_by, settled_records, same_owners, stands_frame, paging_frame, waits_frame}
 use Rattle.mm_parts.proofs.NameChanges.{names_at, same_there}
 use Rattle.mm_parts.proofs.Keeping.{Step, known}
 use Rattle.mm_parts.proofs.StandingWords.{beside_shared}
-
-valid_cond : (b : Bool) (x y : Entry) → valid_frame (cond b x y) ≡ cond b (valid_frame x) (valid_frame y)
-valid_cond true x y = refl
-valid_cond false x y = refl
 
 age_cond : (b : Bool) (a c : Option ℕ) (n : ℕ) → unwrap_or a 0 ≡ n → unwrap_or (cond b a c) 0 ≡ cond b n (unwrap_or c 0)
 age_cond true a c n e = e
@@ -102,11 +84,7 @@ beside_made (Some a) place x h = by (same_place place a.place) h
 
 left_made : (a : Option Aside) (place : Place) → option_map (λ x. x.place) (without_aside a place) ≡ left_by (option_map (λ x. x.place) a) place
 left_made None place = refl
-left_made (Some a) place = by (same_place place a.place)
-  where
-    by : (b : Bool) → option_map (λ x. x.place) (if b then None else Some a) ≡ (if b then None else Some a.place)
-    by true = refl
-    by false = refl
+left_made (Some a) place = at_if (option_map (λ (x : Aside). x.place)) (same_place place a.place) None (Some a)
 
 other_made : (b : Bool) (f : Frame) (e : Entry) → names_other e ≡ true → names_other (cond b (entry.Valid f 0) e) ≡ true
 other_made true f e h = refl
@@ -132,7 +110,7 @@ module _ (t : JoinedParts) (kept : PartsKept t) (f : Frame) (place : Place) (leg
   map_stands q = stands_frame t.table (after_map t.table f.0) f.0 (shared (record_at t.table f.0)) (record (made_valid t.words place f) { proto = proto' }) map_change refl q ∙ maps.stands q
 
   map_valid : (p : Place) → valid_of (record (made_valid t.words place f) { proto = proto' }) p ≡ changed same_place (valid_of t.words) place (Some f) p
-  map_valid p = valid_cond (same_place p place) (entry.Valid f 0) (t.words.at p)
+  map_valid p = at_if valid_frame (same_place p place) (entry.Valid f 0) (t.words.at p)
 
   map_life : life_of t.line (after_map t.table f.0) t.free (record (made_valid t.words place f) { proto = proto' }) (requests_in t) ≡ after_move (life_in t) (move.Map f place)
   map_life = same_life t.line (after_map t.table f.0) t.free (requests_in t) _ _ _ _ _ _ _ _ (λ b. slice_index_or t.line.added b false)
@@ -190,19 +168,13 @@ module _ (t : JoinedParts) (kept : PartsKept t) (f : Frame) (place : Place) (leg
         names = names_after_map (shown_of t) f place;
       })
   map_step = record {
-    kept = record {
-      reached = reached_by (life_in t) _ (move.Map f place) legal map_life kept.reached;
-      line = kept.line;
-      words = map_words;
-      within = record { requesting = kept.within.requesting; copying = λ h. kept.within.copying (some_made t.words.aside place h) };
-      ranges = record {
-        sets = sets_kept t.words.sets place.pid.0 (λ n. n + 1) kept.ranges.sets;
-        areas = kept.ranges.areas;
-        user = kept.ranges.user;
-      };
-      depth = kept.depth;
-      waits = waits_frame t.table (after_map t.table f.0) f.0 (shared (record_at t.table f.0)) t.flight map_change (λ read. read) kept.waits;
-    };
+    kept = assumption (
+      reached_by (life_in t) _ (move.Map f place) legal map_life kept.reached,
+      map_words,
+      λ (h : is_some (without_aside t.words.aside place) ≡ true). kept.within.copying (some_made t.words.aside place h),
+      sets_kept t.words.sets place.pid.0 (λ n. n + 1) kept.ranges.sets,
+      waits_frame t.table (after_map t.table f.0) f.0 (shared (record_at t.table f.0)) t.flight map_change (λ read. read) kept.waits,
+    );
     shown = λ i. record (shown_of t) {
       life = map_life i;
       ages = λ p. age_cond (same_place p place) (Some 0) (t.ages p) 0 refl i;
@@ -234,13 +206,9 @@ word_beside w place e a g h (Shared b i) = refl
 
 -- an entry that is not valid, and names a shared page, is a prototype's
 named_shared : (o : Owners) (p : Place) (e : Entry) (a : Area) (i : ℕ) → is_valid_entry e ≡ false → named_by o p e ≡ Some (Shared a i) → names_other e ≡ true
-named_shared o p entry.Empty a i v h = cc
-named_shared o p entry.Zero a i v h = cc
-named_shared o p (entry.Paged s) a i v h = cc
-named_shared o p (entry.InFile b) a i v h = cc
-named_shared o p (entry.Transition f) a i v h = cc
 named_shared o p (entry.Valid f n) a i v h = refl
 named_shared o p (entry.Proto b j) a i v h = refl
+named_shared o p _ a i v h = cc
 
 -- The place has this entry now, and prototype words may change. What is needed of the words then.
 pub record Unmaps (t : JoinedParts) (f : Frame) (place : Place) (e : Entry) (proto' : ℕ → ℕ → Entry) : Type 0 where
@@ -265,7 +233,7 @@ module _ (t : JoinedParts) (kept : PartsKept t) (f : Frame) (place : Place) (leg
       (settled_records t.table f.0 (unshared (record_at t.table f.0)))
 
   unmap_valid : (p : Place) → valid_of (record (made_invalid t.words place e) { proto = proto' }) p ≡ changed same_place (valid_of t.words) place None p
-  unmap_valid p = valid_cond (same_place p place) e (t.words.at p) ∙ ap (λ x. cond (same_place p place) x (valid_of t.words p)) (not_valid e unmaps.calm)
+  unmap_valid p = at_if valid_frame (same_place p place) e (t.words.at p) ∙ ap (λ x. cond (same_place p place) x (valid_of t.words p)) (not_valid e unmaps.calm)
 
   unmap_life : life_of t.line (after_unmap t.table f.0) t.free (record (made_invalid t.words place e) { proto = proto' }) (requests_in t) ≡ after_move (life_in t) (move.Unmap place)
   unmap_life =
@@ -335,29 +303,17 @@ module _ (t : JoinedParts) (kept : PartsKept t) (f : Frame) (place : Place) (leg
     where
       named_valid : (x : Entry) → t.words.at place ≡ x → named_by (owners t.table) place (t.words.at place) ≡ (record_at t.table f.0).owner
       named_valid (entry.Valid g n) h = ap (named_by (owners t.table) place) h ∙ (let same : Some g ≡ Some f = sym (ap valid_frame h) ∙ unmaps.there in let is : g ≡ f = cc in ap (λ (x : Frame). (record_at t.table x.0).owner) is)
-      named_valid entry.Empty h = let bad : None ≡ Some f = sym (ap valid_frame h) ∙ unmaps.there in cc
-      named_valid entry.Zero h = let bad : None ≡ Some f = sym (ap valid_frame h) ∙ unmaps.there in cc
-      named_valid (entry.Paged s) h = let bad : None ≡ Some f = sym (ap valid_frame h) ∙ unmaps.there in cc
-      named_valid (entry.InFile b) h = let bad : None ≡ Some f = sym (ap valid_frame h) ∙ unmaps.there in cc
-      named_valid (entry.Transition g) h = let bad : None ≡ Some f = sym (ap valid_frame h) ∙ unmaps.there in cc
-      named_valid (entry.Proto a i) h = let bad : None ≡ Some f = sym (ap valid_frame h) ∙ unmaps.there in cc
+      named_valid _ h = let bad : None ≡ Some f = sym (ap valid_frame h) ∙ unmaps.there in cc
 
   pub unmap_step : Step (record t { table = after_unmap t.table f.0; words = record (made_invalid t.words place e) { proto = proto' }; ages = changed same_place t.ages place None })
       (record (parts_after (shown_of t) (move.Unmap place)) { ages = changed same_place (shown_of t).ages place 0 })
   unmap_step = record {
-    kept = record {
-      reached = reached_by (life_in t) _ (move.Unmap place) legal unmap_life kept.reached;
-      line = kept.line;
-      words = unmap_words;
-      within = record { requesting = kept.within.requesting; copying = kept.within.copying };
-      ranges = record {
-        sets = sets_kept t.words.sets place.pid.0 (λ n. n - 1) kept.ranges.sets;
-        areas = kept.ranges.areas;
-        user = kept.ranges.user;
-      };
-      depth = kept.depth;
-      waits = waits_frame t.table (after_unmap t.table f.0) f.0 (unshared (record_at t.table f.0)) t.flight unmap_change (λ read. read) kept.waits;
-    };
+    kept = assumption (
+      reached_by (life_in t) _ (move.Unmap place) legal unmap_life kept.reached,
+      unmap_words,
+      sets_kept t.words.sets place.pid.0 (λ n. n - 1) kept.ranges.sets,
+      waits_frame t.table (after_unmap t.table f.0) f.0 (unshared (record_at t.table f.0)) t.flight unmap_change (λ read. read) kept.waits,
+    );
     shown = λ i. record (shown_of t) {
       life = unmap_life i;
       ages = λ p. age_cond (same_place p place) None (t.ages p) 0 refl i;

@@ -2,29 +2,18 @@
 use Rattle.std.proofs.Common.{◌≡◌, ◌⊎◌, ℕ, ◌≤◌, Bool, true, false, cond, Option, Some, None, refl, sym, ap, ◌∙◌, inl, inr, arith}
 use Rattle.std.specs.Prelude.{◌==◌, ◌&&◌, is_some, if◌then◌else◌}
 use Rattle.std.proofs.lemmas.Bool.{and_parts, eqb-true, eq-eqb}
-use Rattle.mm_types.specs.declared.numbers.Frame.{Frame}
-use Rattle.mm_types.specs.declared.numbers.Area.{Area}
-use Rattle.mm_types.specs.declared.numbers.Pid.{Pid}
-use Rattle.mm_types.specs.declared.numbers.Vpn.{Vpn}
-use Rattle.mm_types.specs.declared.numbers.Key.{Key}
+use Rattle.mm_types.proofs.{both}
+use Rattle.mm_types.specs.{Frame, Area, Pid, Vpn, Key, Place, Held}
 use Rattle.mm_types.specs.declared.numbers.Key.TheVariants.{Private, Shared}
-use Rattle.mm_types.specs.declared.numbers.Place.{Place}
-use Rattle.mm_types.specs.declared.frames.Held.{Held}
 use Rattle.mm_types.specs.declared.frames.Held.TheVariants as held
 use Rattle.mm_types.specs.declared.moves.Move.TheVariants as move
-use Rattle.mm_life.specs.Frames.{record_at, after_map, after_unmap}
-use Rattle.mm_life.specs.Life.{changed, same_key, same_place, key_of_place, is_dead}
-use Rattle.mm_life.specs.Legal.{IsLegal}
-use Rattle.mm_laws.proofs.Owners.{key_or_not, same_key-self}
-use Rattle.mm_laws.proofs.PlaceCounts.{place_or_not, same_place-self}
-use Rattle.mm_words.specs.declared.layout.Entry.{Entry}
+use Rattle.mm_life.specs.{record_at, after_map, after_unmap, changed, same_key, same_place, key_of_place, is_dead, IsLegal}
+use Rattle.mm_laws.proofs.{key_or_not, same_key-self, place_or_not, same_place-self}
+use Rattle.mm_words.specs.{Entry, Aside, WordsOf, key_entry, own_word, aside_or, is_aside, made_valid, made_invalid, changed_at, place_from}
+use Rattle.mm_words.specs.{valid_frame}
 use Rattle.mm_words.specs.declared.layout.Entry.TheVariants as entry
-use Rattle.mm_words.specs.declared.aside.Aside.{Aside}
-use Rattle.mm_words.specs.Words.{WordsOf, key_entry, own_word, aside_or, is_aside, made_valid, made_invalid, changed_at, place_from, valid_frame}
-use Rattle.mm_parts.specs.Shown.{JoinedParts, owners, owned_by, has_owner, held_by, stands_of, valid_of, life_in, shown_of}
-use Rattle.mm_parts.specs.Words.{is_aside_entry}
-use Rattle.mm_parts.specs.Kept.{PartsKept}
-use Rattle.mm_parts.specs.Moves.{parts_after, left_by, names_after_map}
+use Rattle.mm_parts.specs.{JoinedParts, owners, owned_by, has_owner, held_by, stands_of, valid_of, life_in, shown_of, is_aside_entry, PartsKept}
+use Rattle.mm_parts.specs.{parts_after, left_by, names_after_map}
 use Rattle.mm_parts.proofs.Keeping.{Step, known}
 use Rattle.mm_parts.proofs.StandingWords.{in_frame}
 use Rattle.mm_parts.proofs.PlaceChanges.{own_made, map_step, unmap_step, word_unmade, word_beside}
@@ -33,11 +22,6 @@ use Rattle.mm_parts.proofs.PlaceChanges.{own_made, map_step, unmap_step, word_un
 
 at_pair : (f : ℕ → ℕ → Entry) (a i : ℕ) (e : Entry) → changed_at f a i e a i ≡ e
 at_pair f a i e = ap (λ b. cond b e (f a i)) (both (a == a) (i == i) (eq-eqb a a refl) (eq-eqb i i refl))
-  where
-    both : (x y : Bool) → x ≡ true → y ≡ true → (x && y) ≡ true
-    both true true g h = refl
-    both true false g h = h
-    both false y g h = g
 
 record IsPair (a i b j : ℕ) : Type 0 where
   first : b ≡ a
@@ -53,11 +37,6 @@ pair_or_not f a i b j e x h = by ((b == a) && (j == i)) refl h
       where
         pair_true : IsPair a i b j → ((b == a) && (j == i)) ≡ true
         pair_true p = both (b == a) (j == i) (eq-eqb b a p.first) (eq-eqb j i p.second)
-          where
-            both : (x y : Bool) → x ≡ true → y ≡ true → (x && y) ≡ true
-            both true true g h = refl
-            both true false g h = h
-            both false y g h = g
 
 -- ---- map
 
@@ -100,11 +79,8 @@ map_own_step t kept f place legal is =
     })
 
 dead_is_dead : (h : Held) → is_dead h ≡ true → h ≡ held.Dead
-dead_is_dead (held.Frame f) e = cc
-dead_is_dead (held.Slot s) e = cc
-dead_is_dead (held.Block b) e = cc
-dead_is_dead held.Zero e = cc
 dead_is_dead held.Dead e = refl
+dead_is_dead _ e = cc
 
 pub map_shared_step : (t : JoinedParts) → PartsKept t → (f : Frame) (place : Place) (a : Area) (i : ℕ) → IsLegal (move.Map f place) (life_in t) → (record_at t.table f.0).owner ≡ Some (Shared a i)
     → is_dead ((life_in t).stands (key_of_place place)) ≡ true
@@ -233,12 +209,7 @@ module _ (t : JoinedParts) (kept : PartsKept t) (f : Frame) (place : Place) (a :
           ap (held_by (owned_by (owners t.table) (key_of_place place))) e
           ∙ ap (λ (x : Frame). if owned_by (owners t.table) (key_of_place place) x then held.Frame x else held.Dead) is
           ∙ ap (λ b. if b then held.Frame f else held.Dead) (has_shared (record_at t.table f.0).owner a i place.pid place.vpn owner)
-      by entry.Empty e = let bad : None ≡ Some f = sym (ap valid_frame e) ∙ there in cc
-      by entry.Zero e = let bad : None ≡ Some f = sym (ap valid_frame e) ∙ there in cc
-      by (entry.Paged s) e = let bad : None ≡ Some f = sym (ap valid_frame e) ∙ there in cc
-      by (entry.InFile b) e = let bad : None ≡ Some f = sym (ap valid_frame e) ∙ there in cc
-      by (entry.Transition g) e = let bad : None ≡ Some f = sym (ap valid_frame e) ∙ there in cc
-      by (entry.Proto b j) e = let bad : None ≡ Some f = sym (ap valid_frame e) ∙ there in cc
+      by _ e = let bad : None ≡ Some f = sym (ap valid_frame e) ∙ there in cc
 
   shared_stands : (q : Key) → stands_of (owners t.table) (made_invalid t.words place (entry.Proto a i)) q ≡ stands_of (owners t.table) t.words q
   shared_stands = unmade_stands t place (entry.Proto a i)

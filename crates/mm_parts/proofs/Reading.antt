@@ -2,20 +2,14 @@
 use Rattle.std.proofs.Common.{◌≡◌, ℕ, ◌<◌, ◌≤◌, Bool, true, false, List, [], ◌∷◌, Option, Some, None, refl, sym, ap, ◌∙◌, arith, length}
 use Rattle.std.specs.Prelude.{is_some, is_none, option_map, unwrap_or, nat_lt, slice_get}
 use Rattle.std.proofs.lemmas.Bool.{ltb-true, lt-ltb, or_left}
-use Rattle.mm_types.specs.declared.numbers.Frame.{Frame}
-use Rattle.mm_types.specs.declared.numbers.Pid.{Pid}
-use Rattle.mm_types.specs.declared.numbers.Vpn.{Vpn}
-use Rattle.mm_types.specs.declared.numbers.Key.{Key}
+use Rattle.mm_types.specs.{Frame, Pid, Vpn, Key}
 use Rattle.mm_types.specs.declared.numbers.Key.TheVariants.{Private, Shared}
-use Rattle.mm_life.specs.Frames.{record_at, is_empty, has_request}
+use Rattle.mm_life.specs.{record_at, is_empty, has_request}
 use Rattle.mm_laws.proofs.Sights.{kept_inside}
-use Rattle.mm_words.specs.declared.layout.Entry.{Entry}
+use Rattle.mm_words.specs.{Entry, key_entry, has_word, place_from, valid_frame, bare}
 use Rattle.mm_words.specs.declared.layout.Entry.TheVariants as entry
-use Rattle.mm_words.specs.Words.{key_entry, has_word, place_from, valid_frame, bare}
-use Rattle.mm_parts.specs.Shown.{JoinedParts, owners, owned_by, held_by, has_owner, valid_of, life_in, shown_of}
-use Rattle.mm_parts.specs.Kept.{PartsKept}
-use Rattle.mm_parts.specs.Moves.{HasHome}
-use Rattle.mm_parts.specs.Reading.{first_frame, is_private, is_own_page}
+use Rattle.mm_parts.specs.{JoinedParts, owners, owned_by, held_by, has_owner, valid_of, life_in, shown_of, PartsKept, HasHome, first_frame}
+use Rattle.mm_parts.specs.{is_private, is_own_page}
 use Rattle.mm_parts.proofs.Keeping.{known}
 use Rattle.mm_parts.proofs.Stands.{held_same, at_place}
 use Rattle.mm_parts.proofs.StandingWords.{shared_by}
@@ -35,13 +29,8 @@ none_first (x ∷ xs) = refl
 -- ---- where a key stands
 
 bare_held : (own : Frame → Bool) (e : Entry) → held_by own (bare e) ≡ held_by own e
-bare_held own entry.Empty = refl
-bare_held own entry.Zero = refl
 bare_held own (entry.Paged s) = refl
-bare_held own (entry.InFile b) = refl
-bare_held own (entry.Transition f) = refl
-bare_held own (entry.Valid f n) = refl
-bare_held own (entry.Proto a i) = refl
+bare_held own _ = refl
 
 bare_valid : (e w : Entry) (f : Frame) (n : ℕ) → bare e ≡ w → e ≡ entry.Valid f n → w ≡ entry.Valid f 0
 bare_valid e w f n told is = sym told ∙ ap bare is
@@ -83,15 +72,10 @@ told_low t kept k e told f v = by e refl v
         (((known t kept).standing f.0).fit.shown (lt-ltb 0 (record_at t.table f.0).shares (omega (arith, some)))))
 
     by : (x : Entry) → e ≡ x → valid_frame x ≡ Some f → f.0 < length t.table.records
-    by entry.Empty g h = cc
-    by entry.Zero g h = cc
-    by (entry.Paged s) g h = cc
-    by (entry.InFile b) g h = cc
-    by (entry.Transition c) g h = cc
     by (entry.Valid c n) g h =
         let same : c ≡ f = cc in
         kept_low (shared_by t kept k f 0 (bare_valid e (key_entry t.words k) f n told (g ∙ ap (λ (y : Frame). entry.Valid y n) same)))
-    by (entry.Proto a i) g h = cc
+    by _ g h = cc
 
 -- ---- keys that have a word
 

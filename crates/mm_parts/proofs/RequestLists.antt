@@ -2,20 +2,15 @@
 use Rattle.std.proofs.Common.{◌≡◌, ◌≢◌, ℕ, zero, suc, ◌+◌, ◌≤◌, Bool, true, false, not, List, [], ◌∷◌, ◌++◌, Option, Some, None, refl, sym, ap, ◌∙◌, arith}
 use Rattle.std.specs.Prelude.{◌==◌, map, is_some, if◌then◌else◌, slice_get}
 use Rattle.std.proofs.lemmas.Bool.{eqb-true, eq-eqb}
-use Rattle.mm_types.specs.declared.numbers.Frame.{Frame}
-use Rattle.mm_types.specs.declared.moves.LineKind.{LineKind}
-use Rattle.mm_life.specs.Frames.{FrameTable, record_at, is_read, without}
-use Rattle.mm_laws.specs.Tally.{one_if, times}
+use Rattle.mm_types.specs.{Frame, LineKind, Record}
+use Rattle.mm_life.specs.{FrameTable, record_at, is_read, without}
+use Rattle.mm_laws.specs.{one_if, times}
 use Rattle.mm_laws.proofs.Tallies.{times_on, times-without_other}
-use Rattle.mm_flight.specs.Requests.{FlightOf, is_in, ended}
-use Rattle.mm_flight.specs.declared.flights.Waiting.{Waiting}
-use Rattle.mm_flight.specs.declared.flights.Waiting.TheVariants as waiting
-use Rattle.mm_types.specs.declared.frames.Record.{Record}
-use Rattle.mm_parts.specs.Shown.{requests, own_request, own_is, is_own_line}
-use Rattle.mm_parts.specs.Kept.{AreWaits}
-use Rattle.mm_parts.specs.Moves.{own_after, own_ended, flight_begun, flight_ended}
-use Rattle.mm_parts.proofs.FrameChanges.{Rewrites}
 use Rattle.mm_laws.proofs.Lists.{without_append, without_none}
+use Rattle.mm_flight.specs.{FlightOf, is_in, ended, Waiting}
+use Rattle.mm_flight.specs.declared.flights.Waiting.TheVariants as waiting
+use Rattle.mm_parts.specs.{requests, own_request, own_is, is_own_line, AreWaits, own_after, own_ended, flight_begun, flight_ended}
+use Rattle.mm_parts.proofs.FrameChanges.{Rewrites}
 
 pub times-append : (f : ℕ) (xs ys : List ℕ) → times f (xs ++ ys) ≡ times f xs + times f ys
 times-append f [] ys = omega arith
@@ -165,10 +160,8 @@ still_by f ok false h g e x =
     record { was = x; other = λ s. let is = eq-eqb h.0 f (ap (λ (y : Frame). y.0) same ∙ s) in let bad : true ≡ false = sym is ∙ e in cc }
 
 still_for : (f : ℕ) (ok : Bool) (w : Waiting) (g : Frame) → ended f ok w ≡ waiting.For g → StillFor f w g
-still_for f ok waiting.Nothing g x = cc
 still_for f ok (waiting.For h) g x = still_by f ok (h.0 == f) h g refl x
-still_for f ok waiting.Done g x = cc
-still_for f ok waiting.Failed g x = cc
+still_for f ok _ g x = cc
 
 record StillAt (f : ℕ) (ws : List Waiting) (t : ℕ) (g : Frame) : Type 0 where
   was : slice_get ws t ≡ Some (waiting.For g)

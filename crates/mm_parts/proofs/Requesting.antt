@@ -2,37 +2,26 @@
 use Rattle.std.proofs.Common.{◌≡◌, ◌≢◌, ℕ, zero, suc, ◌<◌, Bool, true, false, List, [], ◌∷◌, Some, None, refl, sym, ap, ◌∙◌, subst, arith, length, length-append}
 use Rattle.std.specs.Prelude.{◌==◌, ◌&&◌, ◌||◌, not, is_some}
 use Rattle.std.proofs.lemmas.Bool.{and_parts, or_left, not-true, ltb-true}
-use Rattle.mm_types.specs.declared.numbers.Frame.{Frame}
-use Rattle.mm_types.specs.declared.numbers.Slot.{Slot}
-use Rattle.mm_types.specs.declared.numbers.Block.{Block}
-use Rattle.mm_types.specs.declared.numbers.Key.{Key}
-use Rattle.mm_types.specs.declared.frames.Record.{Record}
-use Rattle.mm_types.specs.declared.frames.Backing.{Backing}
+use Rattle.mm_types.specs.{Frame, Slot, Block, Key, Record, Backing, LineKind, Stored}
 use Rattle.mm_types.specs.declared.frames.Backing.TheVariants as backing
-use Rattle.mm_types.specs.declared.moves.LineKind.{LineKind}
 use Rattle.mm_types.specs.declared.moves.LineKind.TheVariants as kind
 use Rattle.mm_types.specs.declared.moves.Move.TheVariants as move
-use Rattle.mm_types.specs.declared.moves.Stored.{Stored}
 use Rattle.mm_types.specs.declared.moves.Stored.TheVariants as stored
-use Rattle.mm_life.specs.Frames.{record_at, has_request, is_first, is_empty, is_on}
-use Rattle.mm_life.specs.Legal.{IsLegal, is_access, is_thread, is_writer, is_call, is_stored, is_lowest, is_block, owner_is, has_depth, may_write_block}
-use Rattle.mm_laws.specs.Tally.{one_if}
-use Rattle.mm_laws.specs.PagingKeys.{is_backing_for}
+use Rattle.mm_life.specs.{record_at, has_request, is_first, is_empty, is_on, IsLegal, is_access, is_thread, is_writer, is_call, is_stored, is_lowest}
+use Rattle.mm_life.specs.{is_block, owner_is, has_depth, may_write_block}
+use Rattle.mm_laws.specs.{one_if, is_backing_for}
 use Rattle.mm_laws.proofs.Sights.{on_modified, kept_inside}
 use Rattle.mm_laws.proofs.Sound.{owner_passes}
 use Rattle.mm_laws.proofs.Taking.{idle_is, Fresh, fresh_read}
 use Rattle.mm_laws.proofs.Tallies.{times_on}
 use Rattle.mm_laws.proofs.Lowest.{lowest_taken}
-use Rattle.mm_slots.specs.Slots.{free_count, IsLowest}
-use Rattle.mm_frames.specs.Base.{has_block, can_go_to}
-use Rattle.mm_flight.specs.Requests.{is_in}
-use Rattle.mm_parts.specs.Shown.{JoinedParts, life_in, requests_in, own_request, is_own_line}
-use Rattle.mm_parts.specs.Kept.{PartsKept}
-use Rattle.mm_frame_laws.specs.Steps.{backing_to}
-use Rattle.mm_parts.specs.Moves.{lowest_free, goes_to, write_target}
+use Rattle.mm_slots.specs.{free_count, IsLowest}
+use Rattle.mm_frames.specs.{has_block, can_go_to}
+use Rattle.mm_flight.specs.{is_in}
+use Rattle.mm_parts.specs.{JoinedParts, life_in, requests_in, own_request, is_own_line, PartsKept, lowest_free, goes_to, write_target}
+use Rattle.mm_frame_laws.specs.{backing_to}
 use Rattle.mm_parts.proofs.Keeping.{known}
 use Rattle.mm_parts.proofs.RequestLists.{not_in_flight}
-use Rattle.mm_parts.proofs.FrameSteps.{no_block}
 
 or_split : (a b c : Bool) → a ≡ false → (a || (b && c)) ≡ true → c ≡ true
 or_split true b c e h = cc
@@ -47,17 +36,9 @@ room_in t kept h =
     omega (arith, below, sum, depth)
 
 not_own : (k : LineKind) → is_own_line k ≡ false → (is_access k ≡ false) × (is_call k ≡ false)
-not_own (kind.Machine a b c d) h = (refl, refl)
-not_own (kind.Process p a b) h = (refl, refl)
-not_own (kind.Unbind p) h = (refl, refl)
 not_own (kind.Access p) h = cc
-not_own (kind.Thread p) h = (refl, refl)
-not_own (kind.Trim p) h = (refl, refl)
-not_own kind.Writer h = (refl, refl)
-not_own kind.Zeroer h = (refl, refl)
-not_own kind.Io h = (refl, refl)
 not_own kind.Call h = cc
-not_own (kind.Grow n) h = (refl, refl)
+not_own _ h = (refl, refl)
 
 -- a frame without a request is not in flight
 pub new_in : (t : JoinedParts) → PartsKept t → (f : ℕ) → has_request (record_at t.table f).request ≡ false → is_in f t.flight.frames ≡ false
@@ -106,6 +87,11 @@ pub record CanWrite (t : JoinedParts) (f : Frame) (s : Stored) : Type 0 where
   pub goes : can_go_to (backing_to s) (record_at t.table f.0) ≡ true
   pub fewer : is_own_line t.line.kind ≡ false → length t.flight.frames < t.flight.depth
 
+pub no_block : (b : Bool) (x : Backing) → b ≡ true → is_backing_for b x ≡ true → has_block x ≡ false
+no_block b backing.None e h = refl
+no_block b (backing.Slot s) e h = refl
+no_block b (backing.Block c) e h = let bad : false ≡ true = sym (ap not e) ∙ h in cc
+
 can_slot : (n : ℕ) (b : Bool) → n ≡ 0 → b ≡ false → ((n == 0) && not b) ≡ true
 can_slot n b e f = rw (e, f) refl
 
@@ -130,14 +116,9 @@ write_slot t kept f s legal =
     }
 
 block_room : (a b c d e : Bool) → b ≡ false → e ≡ false → ((a && b) || (a && c && d) || e) ≡ true → d ≡ true
-block_room true true c d e x y h = cc
-block_room true false true d true x y h = cc
 block_room true false true true false x y h = refl
 block_room true false true false false x y h = h
-block_room true false false d true x y h = cc
-block_room true false false d false x y h = cc
-block_room false b c d true x y h = cc
-block_room false b c d false x y h = cc
+block_room _ _ _ _ _ x y h = cc
 
 write_block : (t : JoinedParts) → PartsKept t → (f : Frame) (b : Block) → IsLegal (move.Write f (stored.Block b)) (life_in t) → CanWrite t f (stored.Block b)
 write_block t kept f b legal =

@@ -1,52 +1,35 @@
 -- The entry of a key, by where the key stands.
 use Rattle.std.proofs.Common.{◌≡◌, ◌⊎◌, ℕ, ◌≤◌, Bool, true, false, cond, Option, Some, refl, sym, ap, ◌∙◌, inl, inr, arith}
 use Rattle.std.specs.Prelude.{not, if◌then◌else◌}
-use Rattle.mm_types.specs.declared.numbers.Frame.{Frame}
-use Rattle.mm_types.specs.declared.numbers.Slot.{Slot}
-use Rattle.mm_types.specs.declared.numbers.Key.{Key}
+use Rattle.mm_types.specs.{Frame, Slot, Key, Place, Backing, Held}
 use Rattle.mm_types.specs.declared.numbers.Key.TheVariants.{Private, Shared}
-use Rattle.mm_types.specs.declared.numbers.Place.{Place}
-use Rattle.mm_types.specs.declared.frames.Backing.{Backing}
 use Rattle.mm_types.specs.declared.frames.Backing.TheVariants as backing
-use Rattle.mm_types.specs.declared.frames.Held.{Held}
 use Rattle.mm_types.specs.declared.frames.Held.TheVariants as held
-use Rattle.mm_life.specs.Frames.{FrameTable, record_at}
-use Rattle.mm_life.specs.Life.{is_shared, is_live, is_dead, key_of_place}
-use Rattle.mm_life.specs.Legal.{is_zero, is_stored}
-use Rattle.mm_life.specs.Effect.{home_at, backing_of}
-use Rattle.mm_laws.specs.Fits.{is_backed}
+use Rattle.mm_life.specs.{FrameTable, record_at, is_shared, is_live, is_dead, key_of_place, is_zero, is_stored, home_at, backing_of}
+use Rattle.mm_laws.specs.{is_backed, is_home_for}
 use Rattle.mm_laws.proofs.PlaceCounts.{same_place-true, same_place-self}
-use Rattle.mm_laws.specs.PagingKeys.{is_home_for}
-use Rattle.mm_frames.specs.Base.{has_block}
-use Rattle.mm_words.specs.declared.layout.Entry.{Entry}
+use Rattle.mm_frames.specs.{has_block}
+use Rattle.mm_words.specs.{Entry, Aside, key_entry, is_valid_entry, place_from, bare, aside_or}
 use Rattle.mm_words.specs.declared.layout.Entry.TheVariants as entry
-use Rattle.mm_words.specs.declared.aside.Aside.{Aside}
-use Rattle.mm_words.specs.Words.{key_entry, is_valid_entry, place_from, bare, aside_or}
-use Rattle.mm_parts.specs.Shown.{JoinedParts, owners, owned_by, held_by, stands_of, valid_of, is_paging, life_in}
-use Rattle.mm_parts.specs.Words.{is_aside_entry}
-use Rattle.mm_parts.specs.Kept.{PartsKept}
-use Rattle.mm_parts.specs.Moves.{home_entry, entry_backing}
+use Rattle.mm_parts.specs.{JoinedParts, owners, owned_by, held_by, stands_of, valid_of, is_paging, life_in, is_aside_entry, PartsKept, home_entry}
+use Rattle.mm_parts.specs.{entry_backing}
 use Rattle.mm_parts.proofs.Keeping.{known}
 use Rattle.mm_parts.proofs.Stands.{at_place}
 use Rattle.mm_parts.proofs.NameChanges.{is_used}
 use Rattle.mm_parts.proofs.KeyChanges.{is_resting}
-use Rattle.mm_parts.proofs.FrameSteps.{no_block}
+use Rattle.mm_parts.proofs.Requesting.{no_block}
 use Rattle.mm_life.proofs.Held.{stored_live}
 
 -- ---- a key in a frame
 
 pub in_frame : (own : Frame → Bool) (e : Entry) (f : Frame) → held_by own e ≡ held.Frame f → (e ≡ entry.Transition f) ⊎ ((n : ℕ) × (e ≡ entry.Valid f n))
-in_frame own entry.Empty f h = cc
-in_frame own entry.Zero f h = cc
-in_frame own (entry.Paged s) f h = cc
-in_frame own (entry.InFile b) f h = cc
 in_frame own (entry.Transition g) f h = inl (let same : g ≡ f = cc in ap entry.Transition same)
 in_frame own (entry.Valid g n) f h = by (own g) h
   where
     by : (b : Bool) → (if b then held.Frame g else held.Dead) ≡ held.Frame f → (entry.Valid g n ≡ entry.Transition f) ⊎ ((m : ℕ) × (entry.Valid g n ≡ entry.Valid f m))
     by true h = inr (n, (let same : g ≡ f = cc in ap (λ (x : Frame). entry.Valid x n) same))
     by false h = cc
-in_frame own (entry.Proto a i) f h = cc
+in_frame own _ f h = cc
 
 -- a key that is valid in some place has a share
 pub shared_by : (t : JoinedParts) → PartsKept t → (k : Key) (f : Frame) (n : ℕ) → key_entry t.words k ≡ entry.Valid f n → 1 ≤ (record_at t.table f.0).shares
@@ -80,66 +63,47 @@ beside_shared t kept x at f v (Private q u) e =
 -- ---- a key in no frame
 
 pub zero_word : (own : Frame → Bool) (e : Entry) → is_zero (held_by own e) ≡ true → e ≡ entry.Zero
-zero_word own entry.Empty h = cc
 zero_word own entry.Zero h = refl
-zero_word own (entry.Paged s) h = cc
-zero_word own (entry.InFile b) h = cc
-zero_word own (entry.Transition f) h = cc
 zero_word own (entry.Valid f n) h = by (own f) h
   where
     by : (b : Bool) → is_zero (if b then held.Frame f else held.Dead) ≡ true → entry.Valid f n ≡ entry.Zero
     by true h = cc
     by false h = cc
-zero_word own (entry.Proto a i) h = cc
+zero_word own _ h = cc
 
 -- an entry of a page on a device
 abbrev pub is_away : Entry → Bool
-is_away entry.Empty = false
-is_away entry.Zero = false
 is_away (entry.Paged s) = true
 is_away (entry.InFile b) = true
-is_away (entry.Transition f) = false
-is_away (entry.Valid f n) = false
-is_away (entry.Proto a i) = false
+is_away _ = false
 
 pub stored_word : (own : Frame → Bool) (e : Entry) → is_stored (held_by own e) ≡ true → is_away e ≡ true
-stored_word own entry.Empty h = cc
-stored_word own entry.Zero h = cc
 stored_word own (entry.Paged s) h = refl
 stored_word own (entry.InFile b) h = refl
-stored_word own (entry.Transition f) h = cc
 stored_word own (entry.Valid f n) h = by (own f) h
   where
     by : (b : Bool) → is_stored (if b then held.Frame f else held.Dead) ≡ true → false ≡ true
     by true h = cc
     by false h = cc
-stored_word own (entry.Proto a i) h = cc
+stored_word own _ h = cc
 
 pub away_calm : (e : Entry) → is_away e ≡ true → is_valid_entry e ≡ false
-away_calm entry.Empty h = refl
-away_calm entry.Zero h = refl
-away_calm (entry.Paged s) h = refl
-away_calm (entry.InFile b) h = refl
-away_calm (entry.Transition f) h = refl
 away_calm (entry.Valid f n) h = cc
-away_calm (entry.Proto a i) h = refl
+away_calm _ h = refl
 
 -- ---- where a page without a frame stands
 
 pub home_held : (own : Frame → Bool) (b : Backing) → held_by own (home_entry b) ≡ home_at b
-home_held own backing.None = refl
 home_held own (backing.Slot s) = refl
-home_held own (backing.Block b) = refl
+home_held own _ = refl
 
 pub home_paging : (d : FrameTable) (own : Frame → Bool) (b : Backing) → is_paging d (held_by own (home_entry b)) ≡ not (has_block b)
-home_paging d own backing.None = refl
 home_paging d own (backing.Slot s) = refl
-home_paging d own (backing.Block b) = refl
+home_paging d own _ = refl
 
 pub home_lands : (b : Backing) (g f : Frame) → home_entry b ≡ entry.Transition g → g.0 ≡ f.0
-home_lands backing.None g f e = cc
 home_lands (backing.Slot s) g f e = cc
-home_lands (backing.Block b) g f e = cc
+home_lands _ g f e = cc
 
 home_own : (b : Backing) → has_block b ≡ false → is_aside_entry (home_entry b) ≡ true
 home_own backing.None h = refl
@@ -147,12 +111,9 @@ home_own (backing.Slot s) h = refl
 home_own (backing.Block b) h = cc
 
 pub home_resting : (k : Key) (b : Backing) → (is_shared k ≡ false → has_block b ≡ false) → is_resting k (home_entry b) ≡ true
-home_resting (Private p v) backing.None h = refl
-home_resting (Private p v) (backing.Slot s) h = refl
 home_resting (Private p v) (backing.Block b) h = let bad : true ≡ false = h refl in cc
 home_resting (Shared a i) backing.None h = refl
-home_resting (Shared a i) (backing.Slot s) h = refl
-home_resting (Shared a i) (backing.Block b) h = refl
+home_resting _ _ h = refl
 
 pub home_used : (b : Backing) → has_block b ≡ false → is_backed b ≡ true → is_used (home_entry b) ≡ true
 home_used backing.None h k = cc
@@ -160,33 +121,21 @@ home_used (backing.Slot s) h k = refl
 home_used (backing.Block b) h k = cc
 
 pub backing_bare : (e : Entry) → entry_backing (bare e) ≡ entry_backing e
-backing_bare entry.Empty = refl
-backing_bare entry.Zero = refl
 backing_bare (entry.Paged s) = refl
-backing_bare (entry.InFile b) = refl
-backing_bare (entry.Transition f) = refl
-backing_bare (entry.Valid f n) = refl
-backing_bare (entry.Proto a i) = refl
+backing_bare _ = refl
 
 pub backing_held : (own : Frame → Bool) (e : Entry) → backing_of (held_by own e) ≡ entry_backing e
-backing_held own entry.Empty = refl
-backing_held own entry.Zero = refl
-backing_held own (entry.Paged s) = refl
-backing_held own (entry.InFile b) = refl
-backing_held own (entry.Transition f) = refl
 backing_held own (entry.Valid f n) = by (own f)
   where
     by : (b : Bool) → backing_of (if b then held.Frame f else held.Dead) ≡ backing.None
     by true = refl
     by false = refl
-backing_held own (entry.Proto a i) = refl
+backing_held own _ = refl
 
 pub stored_paging : (d d' : FrameTable) (h : Held) (f : Frame) → is_stored h ≡ true → (record_at d' f.0).backing ≡ backing_of h → is_paging d' (held.Frame f) ≡ is_paging d h
-stored_paging d d' (held.Frame g) f e b = cc
 stored_paging d d' (held.Slot s) f e b = ap (λ x. not (has_block x)) b
 stored_paging d d' (held.Block c) f e b = ap (λ x. not (has_block x)) b
-stored_paging d d' held.Zero f e b = cc
-stored_paging d d' held.Dead f e b = cc
+stored_paging d d' _ f e b = cc
 
 -- ---- private pages are on no block
 
@@ -200,13 +149,8 @@ pub home_aside : (t : JoinedParts) → PartsKept t → (k : Key) (f : Frame) →
 home_aside t kept k f owner own = home_own (record_at t.table f.0).backing (own_backing t kept k f owner own)
 
 away_used : (d : FrameTable) (own : Frame → Bool) (e : Entry) → is_away e ≡ true → is_home_for (is_paging d (held_by own e)) (held_by own e) ≡ true → is_paging d (held_by own e) ≡ true → is_used e ≡ true
-away_used d own entry.Empty h k p = cc
-away_used d own entry.Zero h k p = cc
 away_used d own (entry.Paged s) h k p = refl
-away_used d own (entry.InFile b) h k p = cc
-away_used d own (entry.Transition f) h k p = cc
-away_used d own (entry.Valid f n) h k p = cc
-away_used d own (entry.Proto a i) h k p = cc
+away_used d own _ h k p = cc
 
 -- a private page on a device is in a slot
 pub stored_used : (t : JoinedParts) → PartsKept t → (k : Key) → is_stored (stands_of (owners t.table) t.words k) ≡ true → is_shared k ≡ false → is_used (key_entry t.words k) ≡ true

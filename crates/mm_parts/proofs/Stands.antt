@@ -1,27 +1,29 @@
 -- What a change of one key's word, or of one frame's record, makes of where keys stand.
-use Rattle.std.proofs.Common.{◌≡◌, ℕ, Bool, true, false, cond, List, Option, Some, None, refl, sym, ap, ◌∙◌, inl, inr}
+use Rattle.std.proofs.Common.{◌≡◌, ◌⊎◌, ℕ, Bool, true, false, cond, List, Option, Some, None, refl, sym, ap, ◌∙◌, inl, inr}
 use Rattle.std.specs.Prelude.{not, if◌then◌else◌}
 use Rattle.std.proofs.lemmas.Bool.{and_parts, not-true}
-use Rattle.mm_types.specs.declared.numbers.Frame.{Frame}
-use Rattle.mm_types.specs.declared.numbers.Key.{Key}
+use Rattle.mm_types.specs.{Frame, Key, Place, Held}
 use Rattle.mm_types.specs.declared.numbers.Key.TheVariants.{Private, Shared}
-use Rattle.mm_types.specs.declared.numbers.Place.{Place}
-use Rattle.mm_types.specs.declared.frames.Held.{Held}
 use Rattle.mm_types.specs.declared.frames.Held.TheVariants as held
-use Rattle.mm_life.specs.declared.sets.ResidentSet.{ResidentSet}
-use Rattle.mm_life.specs.Frames.{FrameTable, record_at}
-use Rattle.mm_life.specs.Life.{FrameLife, changed, same_key, same_place}
+use Rattle.mm_life.specs.{ResidentSet, FrameTable, record_at, FrameLife, changed, same_key, same_place}
 use Rattle.mm_laws.proofs.Owners.{key_or_not}
 use Rattle.mm_laws.proofs.PlaceCounts.{place_or_not, same_place-true}
-use Rattle.mm_frames.specs.Base.{has_block}
-use Rattle.mm_words.specs.declared.layout.Entry.{Entry}
+use Rattle.mm_frames.specs.{has_block}
+use Rattle.mm_words.specs.{Entry, Aside, WordsOf, place_from, is_aside, aside_or, own_word, key_entry, is_valid_entry, valid_frame, with_own}
+use Rattle.mm_words.specs.{with_entry, keeps_places}
 use Rattle.mm_words.specs.declared.layout.Entry.TheVariants as entry
-use Rattle.mm_words.specs.declared.aside.Aside.{Aside}
-use Rattle.mm_words.specs.Words.{WordsOf, place_from, is_aside, aside_or, own_word, key_entry, is_valid_entry, valid_frame, with_own, with_entry, keeps_places}
-use Rattle.mm_parts.specs.Shown.{Owners, has_owner, held_by, owned_by, stands_of, valid_of, is_paging, LineOf}
-use Rattle.mm_parts.specs.Words.{is_aside_entry}
+use Rattle.mm_parts.specs.{Owners, has_owner, held_by, owned_by, stands_of, valid_of, is_paging, LineOf, is_aside_entry}
 
 -- ---- one key's word
+
+-- a function goes into both branches
+pub at_if : {A B : Type 0} (f : A → B) (b : Bool) (x y : A) → f (if b then x else y) ≡ (if b then f x else f y)
+at_if f true x y = refl
+at_if f false x y = refl
+
+pub if_either : {A : Type 0} (b : Bool) (x y e : A) → (if b then x else y) ≡ e → (x ≡ e) ⊎ (y ≡ e)
+if_either true x y e h = inl h
+if_either false x y e h = inr h
 
 own_set : (a : Option Aside) (at : Place → Entry) (pl q : Place) (e : Entry) → is_aside a pl ≡ true
     → aside_or (Some (record { place = pl; entry = e })) q (at q) ≡ (if same_place q pl then e else aside_or a q (at q))
@@ -46,7 +48,7 @@ pub own_by : (b : Bool) (w : WordsOf) (pl q : Place) (e : Entry) → is_aside w.
 own_by true w pl q e h = own_set w.aside w.at pl q e h
 own_by false w pl q e h = own_unset w.aside w.at pl q e h
 
-proto_by : (b : Bool) (w : WordsOf) (pl : Place) (e : Entry) (a i : ℕ) → (with_own b w pl e).proto a i ≡ w.proto a i
+pub proto_by : (b : Bool) (w : WordsOf) (pl : Place) (e : Entry) (a i : ℕ) → (with_own b w pl e).proto a i ≡ w.proto a i
 proto_by true w pl e a i = refl
 proto_by false w pl e a i = refl
 
@@ -56,22 +58,21 @@ word_set w (Private p v) e (Shared a i) = proto_by (is_aside w.aside (place_from
 word_set w (Shared b j) e (Private q u) = refl
 word_set w (Shared b j) e (Shared a i) = refl
 
-sets_by : (b : Bool) (w : WordsOf) (pl : Place) (e : Entry) → (with_own b w pl e).sets ≡ w.sets
-sets_by true w pl e = refl
-sets_by false w pl e = refl
+left_by : (b : Bool) (w : WordsOf) (pl : Place) (e : Entry) → with_own b w pl e ≡ record w { aside = (with_own b w pl e).aside; at = (with_own b w pl e).at; proto = (with_own b w pl e).proto }
+left_by true w pl e = refl
+left_by false w pl e = refl
+
+-- all but the entries stays
+pub left_set : (w : WordsOf) (k : Key) (e : Entry) → with_entry w k e ≡ record w { aside = (with_entry w k e).aside; at = (with_entry w k e).at; proto = (with_entry w k e).proto }
+left_set w (Private p v) e = left_by (is_aside w.aside (place_from p v)) w (place_from p v) e
+left_set w (Shared a i) e = refl
 
 pub sets_set : (w : WordsOf) (k : Key) (e : Entry) → (with_entry w k e).sets ≡ w.sets
-sets_set w (Private p v) e = sets_by (is_aside w.aside (place_from p v)) w (place_from p v) e
-sets_set w (Shared a i) e = refl
+sets_set w k e = ap (λ (x : WordsOf). x.sets) (left_set w k e)
 
 pub not_valid : (e : Entry) → is_valid_entry e ≡ false → valid_frame e ≡ None
-not_valid entry.Empty h = refl
-not_valid entry.Zero h = refl
-not_valid (entry.Paged s) h = refl
-not_valid (entry.InFile b) h = refl
-not_valid (entry.Transition f) h = refl
 not_valid (entry.Valid f n) h = cc
-not_valid (entry.Proto a i) h = refl
+not_valid _ h = refl
 
 in_table : (a : Option Aside) (pl : Place) (e : Entry) → is_aside a pl ≡ false → aside_or a pl e ≡ e
 in_table None pl e h = refl
@@ -113,13 +114,8 @@ at_place w pl f n beside e = from w.aside refl (is_aside w.aside pl) refl e
         let bad : true ≡ false = sym (beside a g) ∙ ap is_aside_entry is in cc
 
 pub held_same : (x y : Frame → Bool) (e : Entry) → ((g : Frame) (n : ℕ) → e ≡ entry.Valid g n → x g ≡ y g) → held_by x e ≡ held_by y e
-held_same x y entry.Empty h = refl
-held_same x y entry.Zero h = refl
-held_same x y (entry.Paged s) h = refl
-held_same x y (entry.InFile b) h = refl
-held_same x y (entry.Transition g) h = refl
 held_same x y (entry.Valid g n) h = ap (λ b. if b then held.Frame g else held.Dead) (h g n refl)
-held_same x y (entry.Proto a i) h = refl
+held_same x y _ h = refl
 
 -- the owners of all frames that are valid somewhere stay
 pub stands_owner : (o p : Owners) (w : WordsOf) → ((x : Aside) → w.aside ≡ Some x → is_aside_entry x.entry ≡ true)
@@ -132,10 +128,7 @@ stands_owner o p w beside same (Shared a i) = held_same (λ _. true) (λ _. true
 
 pub paging_at : (d d' : FrameTable) (h : Held) → ((f : Frame) → h ≡ held.Frame f → has_block (record_at d' f.0).backing ≡ has_block (record_at d f.0).backing) → is_paging d' h ≡ is_paging d h
 paging_at d d' (held.Frame f) same = ap not (same f refl)
-paging_at d d' (held.Slot s) same = refl
-paging_at d d' (held.Block b) same = refl
-paging_at d d' held.Zero same = refl
-paging_at d d' held.Dead same = refl
+paging_at d d' _ same = refl
 
 -- ---- two states of a replay are the same part by part
 

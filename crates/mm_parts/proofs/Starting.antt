@@ -1,27 +1,21 @@
 -- The parts of a machine at rest.
-use Rattle.std.proofs.Common.{◌≡◌, ℕ, zero, suc, ◌+◌, ◌*◌, ◌≤◌, Bool, true, false, [], Some, refl, sym, ap, ◌∙◌, subst, arith, length, replicate}
+use Rattle.std.proofs.Common.{◌≡◌, ℕ, zero, suc, ◌+◌, ◌*◌, ◌≤◌, Bool, true, false, [], Some, refl, sym, ap, ◌∙◌, subst, arith, replicate}
 use Rattle.std.specs.Prelude.{◌&&◌, nat_le, slice_get, slice_index_or}
 use Rattle.std.proofs.lemmas.Bool.{le-leb}
-use Rattle.mm_types.specs.Machine.{MachineOf, IsMachine}
-use Rattle.mm_types.specs.declared.numbers.Frame.{Frame}
-use Rattle.mm_types.specs.declared.numbers.Key.{Key}
+use Rattle.std.proofs.lemmas.List.{length-replicate}
+use Rattle.mm_types.specs.{MachineOf, IsMachine, Frame, Key}
 use Rattle.mm_types.specs.declared.numbers.Key.TheVariants.{Private, Shared}
 use Rattle.mm_types.specs.declared.frames.Held.TheVariants as held
-use Rattle.mm_life.specs.declared.sets.ResidentSet.{ResidentSet}
-use Rattle.mm_life.specs.Life.{free_table, unstarted, set_in}
-use Rattle.mm_life.specs.Legal.{IsLegal, is_machine}
-use Rattle.mm_life.specs.Effect.{after_move}
+use Rattle.mm_life.specs.{ResidentSet, free_table, unstarted, set_in, IsLegal, is_machine, after_move}
 use Rattle.mm_laws.specs.Reached.{Reached}
-use Rattle.mm_laws.proofs.Deduced.{reached_start, reached_next}
+use Rattle.mm_laws.proofs.{reached_start, reached_next}
 use Rattle.mm_flight.specs.declared.flights.Waiting.TheVariants as waiting
 use Rattle.mm_words.specs.declared.layout.Entry.TheVariants as entry
-use Rattle.mm_words.specs.Words.{key_entry}
-use Rattle.mm_words.specs.Shown.{no_words}
-use Rattle.mm_parts.specs.Shown.{owners, stands_of, is_paging, life_in}
-use Rattle.mm_parts.specs.Start.{first_parts, started_parts, first_kind, first_move}
+use Rattle.mm_words.specs.{key_entry, no_words}
+use Rattle.mm_parts.specs.{owners, stands_of, is_paging, life_in, first_parts, started_parts, first_kind, first_move}
 use Rattle.mm_parts.proofs.Stands.{same_life}
 use Rattle.mm_parts.proofs.Keeping.{Step}
-use Rattle.mm_types.proofs.Booleans.{both}
+use Rattle.mm_types.proofs.{both}
 
 machine_passes : (m : MachineOf) → IsMachine m → is_machine m ≡ true
 machine_passes m h =
@@ -64,15 +58,11 @@ nobody_waits zero t f e = cc
 nobody_waits (suc n) zero f e = cc
 nobody_waits (suc n) (suc t) f e = nobody_waits n t f e
 
-length_repeat : {A : Type 0} (n : ℕ) (x : A) → length (replicate n x) ≡ n
-length_repeat zero x = refl
-length_repeat (suc n) x = let e = length_repeat n x in omega (arith, e)
-
 pub start_step : (m : MachineOf) → IsMachine m → Step (started_parts m) (first_parts m)
 start_step m h = record {
   kept = record {
     reached = ∣ subst Reached (sym (life_at_start m)) (reached_next (first_move m) unstarted reached_start (first_legal m h)) ∣₁;
-    line = record { machine = h; begun = omega arith; blocks = length_repeat m.blocks false };
+    line = record { machine = h; begun = omega arith; blocks = length-replicate {A = Bool} m.blocks false };
     words = record {
       transition = λ k f e. let bad = by k f e in absurd bad;
       valid_shared = λ a i f n e. cc;

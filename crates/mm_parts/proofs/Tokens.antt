@@ -1,10 +1,10 @@
 -- The first frames of lists.
 use Rattle.std.proofs.Common.{◌≡◌, ℕ, Bool, true, false, Some, None, List, [], ◌∷◌, ◌++◌, refl, sym, ap, ◌∙◌}
 use Rattle.std.specs.Prelude.{slice_get, if◌then◌else◌}
-use Rattle.mm_types.specs.declared.numbers.Frame.{Frame}
-use Rattle.mm_life.specs.Frames.{FrameTable, is_empty, rest, after_steal, taken_for_read}
-use Rattle.mm_frames.specs.Base.{FramesOf, standby_taken, free_put, emptied}
-use Rattle.mm_parts.specs.Moves.{front}
+use Rattle.mm_types.specs.{Frame}
+use Rattle.mm_life.specs.{FrameTable, is_empty, rest, after_steal, taken_for_read}
+use Rattle.mm_frames.specs.{FramesOf, standby_taken, free_put, emptied}
+use Rattle.mm_parts.specs.{front}
 
 pub front_is : (xs : List ℕ) (b : ℕ) (f : Frame) → slice_get xs 0 ≡ Some b → f.0 ≡ b → f ≡ front xs
 front_is [] b f e h = cc

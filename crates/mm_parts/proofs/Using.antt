@@ -2,36 +2,23 @@
 use Rattle.std.proofs.Common.{◌≡◌, ◌≢◌, ℕ, Bool, true, false, Some, refl, sym, ap, ◌∙◌, arith}
 use Rattle.std.specs.Prelude.{is_some}
 use Rattle.std.proofs.lemmas.Bool.{lt-ltb}
-use Rattle.mm_types.specs.declared.numbers.Frame.{Frame}
-use Rattle.mm_types.specs.declared.numbers.Place.{Place}
-use Rattle.mm_life.specs.Frames.{record_at, is_read}
-use Rattle.mm_words.specs.declared.layout.Entry.{Entry}
+use Rattle.mm_types.specs.{Frame, Place}
+use Rattle.mm_life.specs.{record_at, is_read}
+use Rattle.mm_words.specs.{Entry, is_valid_entry, is_there, valid_frame, bare}
 use Rattle.mm_words.specs.declared.layout.Entry.TheVariants as entry
-use Rattle.mm_words.specs.Words.{is_valid_entry, is_there, valid_frame, bare}
-use Rattle.mm_parts.specs.Shown.{JoinedParts, valid_of}
-use Rattle.mm_parts.specs.Kept.{PartsKept}
+use Rattle.mm_parts.specs.{JoinedParts, valid_of, PartsKept}
 use Rattle.mm_parts.proofs.Keeping.{known}
 
 some_there : (e : Entry) → is_some (valid_frame e) ≡ true → is_there e ≡ true
 some_there entry.Empty h = cc
-some_there entry.Zero h = refl
-some_there (entry.Paged s) h = refl
-some_there (entry.InFile b) h = refl
-some_there (entry.Transition f) h = refl
-some_there (entry.Valid f n) h = refl
-some_there (entry.Proto a i) h = refl
+some_there _ h = refl
 
 pub valid_there : (t : JoinedParts) (place : Place) → is_some (valid_of t.words place) ≡ true → is_there (t.words.at place) ≡ true
 valid_there t place h = some_there (t.words.at place) h
 
 frame_of_bare : (e : Entry) → valid_frame (bare e) ≡ valid_frame e
-frame_of_bare entry.Empty = refl
-frame_of_bare entry.Zero = refl
 frame_of_bare (entry.Paged s) = refl
-frame_of_bare (entry.InFile b) = refl
-frame_of_bare (entry.Transition f) = refl
-frame_of_bare (entry.Valid f n) = refl
-frame_of_bare (entry.Proto a i) = refl
+frame_of_bare _ = refl
 
 -- the entry as it is told
 pub frame_told : (t : JoinedParts) (place : Place) (e : Entry) → bare e ≡ t.words.at place → valid_of t.words place ≡ valid_frame e
@@ -41,13 +28,8 @@ pub valid_told : (t : JoinedParts) (place : Place) (f : Frame) (n : ℕ) (e : En
 valid_told t place f n e told is = frame_told t place e told ∙ ap valid_frame is
 
 some_valid : (e : Entry) → is_some (valid_frame e) ≡ true → ((f : Frame) (n : ℕ) → e ≢ entry.Valid f n) → ⊥
-some_valid entry.Empty h never = cc
-some_valid entry.Zero h never = cc
-some_valid (entry.Paged s) h never = cc
-some_valid (entry.InFile b) h never = cc
-some_valid (entry.Transition f) h never = cc
 some_valid (entry.Valid f n) h never = never f n refl
-some_valid (entry.Proto a i) h never = cc
+some_valid _ h never = cc
 
 pub not_valid_told : (t : JoinedParts) (place : Place) (e : Entry) → bare e ≡ t.words.at place → is_some (valid_of t.words place) ≡ true → ((f : Frame) (n : ℕ) → e ≢ entry.Valid f n) → ⊥
 not_valid_told t place e told h never = some_valid e (sym (ap is_some (frame_told t place e told)) ∙ h) never
@@ -66,13 +48,8 @@ pub one_frame : (t : JoinedParts) (place : Place) (f g : Frame) → valid_of t.w
 one_frame t place f g e h = let both : Some f ≡ Some g = sym e ∙ h in cc
 
 some_entry : (e : Entry) (f : Frame) → valid_frame e ≡ Some f → is_valid_entry e ≡ true
-some_entry entry.Empty f h = cc
-some_entry entry.Zero f h = cc
-some_entry (entry.Paged s) f h = cc
-some_entry (entry.InFile b) f h = cc
-some_entry (entry.Transition g) f h = cc
 some_entry (entry.Valid g n) f h = refl
-some_entry (entry.Proto a i) f h = cc
+some_entry _ f h = cc
 
 pub valid_entry : (t : JoinedParts) (place : Place) (f : Frame) → valid_of t.words place ≡ Some f → is_valid_entry (t.words.at place) ≡ true
 valid_entry t place f v = some_entry (t.words.at place) f v

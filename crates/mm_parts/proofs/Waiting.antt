@@ -5,26 +5,17 @@ use Rattle.std.specs.List.{list_any, position_from}
 use Rattle.std.proofs.lemmas.Iterator.Adapters.{position_from-zero}
 use Rattle.std.proofs.lemmas.Option.{slice_get-map}
 use Rattle.std.proofs.lemmas.Bool.{eqb-true, eq-eqb}
-use Rattle.mm_types.proofs.Bytes.{append_nil}
-use Rattle.mm_types.proofs.Cells.{same_or_not, set_cases, get_set_same, get_set_other}
-use Rattle.mm_types.proofs.Tables.{differ}
-use Rattle.mm_types.specs.declared.numbers.Frame.{Frame}
-use Rattle.mm_types.specs.declared.answers.Wait.{Wait}
-use Rattle.mm_life.specs.Frames.{record_at, is_read, has_request}
-use Rattle.mm_life.specs.Life.{changed}
-use Rattle.mm_laws.specs.Tally.{one_if, times}
-use Rattle.mm_flight.specs.Requests.{is_in, place_in, ended, wait_of}
-use Rattle.mm_flight.specs.declared.flights.Waiting.{Waiting}
+use Rattle.mm_types.proofs.{append_nil, same_or_not, set_cases, get_set_same, get_set_other, differ}
+use Rattle.mm_types.specs.{Frame, Wait}
+use Rattle.mm_life.specs.{record_at, is_read, has_request, changed, ForFrame, Ended, ended_by, wait_of as walked_wait}
+use Rattle.mm_laws.specs.{one_if, times}
+use Rattle.mm_flight.specs.{is_in, place_in, ended, wait_of, Waiting}
 use Rattle.mm_flight.specs.declared.flights.Waiting.TheVariants as waiting
-use Rattle.mm_life.specs.Waits.{ForFrame, Ended, ended_by}
-use Rattle.mm_life.specs.Waits.{wait_of as walked_wait}
-use Rattle.mm_parts.specs.Shown.{JoinedParts, shown_of, requests, own_request, own_is}
-use Rattle.mm_parts.specs.Kept.{PartsKept, AreWaits}
-use Rattle.mm_parts.specs.Reading.{wait_as_walked, walked_or, waits_of}
+use Rattle.mm_parts.specs.{JoinedParts, shown_of, requests, own_request, own_is, PartsKept, AreWaits, wait_as_walked, walked_or, waits_of}
 use Rattle.mm_parts.proofs.Keeping.{Step, known}
 use Rattle.mm_parts.proofs.RequestLists.{in_flight, own_apart, times-append}
 use Rattle.mm_parts.proofs.Holding.{read_once}
-use Rattle.mm_laws.proofs.Sums.{one_most}
+use Rattle.mm_laws.proofs.{one_most}
 
 -- ---- how many
 
@@ -93,18 +84,7 @@ set_waits t kept n x within new u f e = elim (set_cases t.flight.waits n u x (wa
 pub wait_step : (t : JoinedParts) → PartsKept t → (n : ℕ) (x : Waiting) → n < length t.flight.waits
     → ((f : Frame) → x ≡ waiting.For f → (is_in f.0 t.flight.frames ≡ true) × (is_read (record_at t.table f.0).request ≡ true))
     → Step (record t { flight = record t.flight { waits = slice_set t.flight.waits n x } }) (record (shown_of t) { waits = slice_set t.flight.waits n x })
-wait_step t kept n x within new = record {
-  kept = record {
-    reached = kept.reached;
-    line = kept.line;
-    words = kept.words;
-    within = record { requesting = kept.within.requesting; copying = kept.within.copying };
-    ranges = kept.ranges;
-    depth = kept.depth;
-    waits = set_waits t kept n x within new;
-  };
-  shown = refl;
-}
+wait_step t kept n x within new = record { kept = assumption (set_waits t kept n x within new); shown = refl }
 
 -- what a wait for a read is
 pub new_wait : (t : JoinedParts) → PartsKept t → (f g : Frame) → is_read (record_at t.table f.0).request ≡ true → own_is t.own f.0 ≡ false → waiting.For f ≡ waiting.For g
@@ -123,10 +103,8 @@ waits_set ws n x within u = elim (same_or_not u n) [
 ]
 
 wait_told : (x : Waiting) → wait_of x ≡ walked_wait (wait_as_walked x)
-wait_told waiting.Nothing = refl
 wait_told (waiting.For f) = refl
-wait_told waiting.Done = refl
-wait_told waiting.Failed = refl
+wait_told _ = refl
 
 pub outcome_told : (ws : List Waiting) (n : ℕ) (r : Wait) → slice_get (map wait_of ws) n ≡ Some r → r ≡ walked_wait (waits_of ws n)
 outcome_told ws n r e = by (slice_get ws n) (sym (slice_get-map wait_of ws n) ∙ e)

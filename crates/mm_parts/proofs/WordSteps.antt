@@ -2,30 +2,20 @@
 use Rattle.std.proofs.Common.{◌≡◌, ◌⊎◌, ℕ, ◌+◌, ◌<◌, ◌≤◌, ◌^◌, Bool, true, false, cond, List, Option, Some, None, refl, sym, ap, ◌∙◌, subst, inl, inr, arith}
 use Rattle.std.specs.Prelude.{◌==◌, ◌&&◌, nat_le, nat_lt, is_some, option_map, unwrap_or, if◌then◌else◌, slice_index_or}
 use Rattle.std.proofs.lemmas.Bool.{and_parts, eqb-true, leb-true, ltb-true}
-use Rattle.mm_types.specs.Address.{Range, holds_page, end_of_user_pages}
-use Rattle.mm_types.specs.declared.numbers.Area.{Area}
-use Rattle.mm_types.specs.declared.numbers.Pid.{Pid}
-use Rattle.mm_types.specs.declared.numbers.Key.{Key}
+use Rattle.mm_types.specs.{Range, holds_page, end_of_user_pages, Area, Pid, Key, Place}
 use Rattle.mm_types.specs.declared.numbers.Key.TheVariants.{Private, Shared}
-use Rattle.mm_types.specs.declared.numbers.Place.{Place}
 use Rattle.mm_types.specs.declared.frames.Held.TheVariants as held
-use Rattle.mm_life.specs.Life.{FrameLife, changed, same_place}
+use Rattle.mm_life.specs.{FrameLife, changed, same_place, aged}
 use Rattle.mm_laws.specs.Reached.{Reached}
-use Rattle.mm_words.specs.declared.layout.Entry.{Entry}
+use Rattle.mm_words.specs.{Entry, Aside, WordsOf, key_entry, own_word, aside_or, place_from, valid_frame, changed_in, is_valid_entry, pages}
 use Rattle.mm_words.specs.declared.layout.Entry.TheVariants as entry
-use Rattle.mm_words.specs.declared.aside.Aside.{Aside}
-use Rattle.mm_words.specs.Words.{WordsOf, key_entry, own_word, aside_or, place_from, valid_frame, changed_in, is_valid_entry}
-use Rattle.mm_parts.specs.Shown.{JoinedParts, owners, owned_by, held_by, stands_of, valid_of, named_by, names_of, is_paging, life_of, life_in, shown_of, requests_in}
-use Rattle.mm_parts.specs.Words.{WordsKept}
-use Rattle.mm_parts.specs.Kept.{PartsKept}
-use Rattle.mm_life.specs.Victims.{aged}
-use Rattle.mm_wset.specs.Ages.{older}
-use Rattle.mm_parts.specs.Moves.{ages_older}
+use Rattle.mm_parts.specs.{JoinedParts, owners, owned_by, held_by, stands_of, valid_of, named_by, names_of, is_paging, life_of, life_in, shown_of}
+use Rattle.mm_parts.specs.{requests_in, WordsKept, PartsKept, ages_older}
+use Rattle.mm_wset.specs.{older}
 use Rattle.mm_parts.proofs.Keeping.{Step}
-use Rattle.mm_words.specs.Pages.{pages}
 use Rattle.mm_parts.proofs.Conditions.{invalid_entry}
 use Rattle.mm_parts.proofs.LineSteps.{no_place}
-use Rattle.mm_parts.proofs.Stands.{same_life}
+use Rattle.mm_parts.proofs.Stands.{same_life, at_if}
 
 -- ---- words that say the same
 
@@ -36,18 +26,7 @@ with_homes w open_now bound sizes = record w { is_open = open_now; bound = bound
 pub homes_step : (t : JoinedParts) → PartsKept t → (open_now : ℕ → Bool) (bound : Place → Bool) (sizes : ℕ → Option ℕ) → ((x : Aside) → t.words.aside ≡ Some x → bound x.place ≡ true) → ((a : ℕ) → is_some (sizes a) ≡ true → a < 2 ^ 28)
     → ((p : Place) → bound p ≡ true → p.vpn.0 < end_of_user_pages)
     → Step (record t { words = with_homes t.words open_now bound sizes }) (record (shown_of t) { is_open = open_now; bound = bound; areas = sizes })
-homes_step t kept open_now bound sizes beside areas user = record {
-  kept = record {
-    reached = kept.reached;
-    line = kept.line;
-    words = record { transition = kept.words.transition; valid_shared = kept.words.valid_shared; no_file = kept.words.no_file; no_proto = kept.words.no_proto; beside = kept.words.beside; beside_bound = beside; beside_other = kept.words.beside_other };
-    within = record { requesting = kept.within.requesting; copying = kept.within.copying };
-    ranges = record { areas = areas; sets = kept.ranges.sets; user = user };
-    depth = kept.depth;
-    waits = kept.waits;
-  };
-  shown = refl;
-}
+homes_step t kept open_now bound sizes beside areas user = record { kept = assumption (beside, areas, user, kept); shown = refl }
 
 pub open_step : (t : JoinedParts) → PartsKept t → (open_now : ℕ → Bool) → Step (record t { words = record t.words { is_open = open_now } }) (record (shown_of t) { is_open = open_now })
 open_step t kept open_now = homes_step t kept open_now t.words.bound t.words.sizes kept.words.beside_bound kept.ranges.areas kept.ranges.user
@@ -95,12 +74,8 @@ area_clear t kept a i dead = by (t.words.proto a.0 i) refl dead
   where
     by : (e : Entry) → t.words.proto a.0 i ≡ e → held_by (λ _. true) e ≡ held.Dead → t.words.proto a.0 i ≡ entry.Empty
     by entry.Empty g h = g
-    by entry.Zero g h = cc
-    by (entry.Paged s) g h = cc
-    by (entry.InFile b) g h = cc
-    by (entry.Transition f) g h = cc
-    by (entry.Valid f n) g h = cc
     by (entry.Proto b j) g h = absurd (kept.words.no_proto a.0 i b j g)
+    by _ g h = cc
 
 -- ---- places are given up
 
@@ -161,34 +136,23 @@ module _ (t : JoinedParts) (kept : PartsKept t) (pid : ℕ) (r : Range) (g : Giv
   }
 
   given_names : (x : Place) → names_of (owners t.table) (record t.words { bound = changed_in t.words.bound pid r false; at = changed_in t.words.at pid r entry.Empty }) x ≡ changed_in (names_of (owners t.table) t.words) pid r None x
-  given_names x = by ((x.pid.0 == pid) && holds_page r x.vpn.0)
-    where
-      by : (b : Bool) → named_by (owners t.table) x (if b then entry.Empty else t.words.at x) ≡ (if b then None else names_of (owners t.table) t.words x)
-      by true = refl
-      by false = refl
+  given_names x = at_if (named_by (owners t.table) x) ((x.pid.0 == pid) && holds_page r x.vpn.0) entry.Empty (t.words.at x)
 
   pub unbind_step : Step (record t { words = record t.words { bound = changed_in t.words.bound pid r false; at = changed_in t.words.at pid r entry.Empty } })
       (record (shown_of t) { bound = changed_in t.words.bound pid r false; names = changed_in (names_of (owners t.table) t.words) pid r None })
   unbind_step = record {
-    kept = record {
-      reached = subst (λ (l : FrameLife). ∥ Reached l ∥₁) (sym given_life) kept.reached;
-      line = kept.line;
-      words = given_kept;
-      within = record { requesting = kept.within.requesting; copying = kept.within.copying };
-      ranges = record { areas = kept.ranges.areas; sets = kept.ranges.sets; user = λ x h. kept.ranges.user x (bound_less t.words.bound pid r x h) };
-      depth = kept.depth;
-      waits = kept.waits;
-    };
+    kept = assumption (
+      subst (λ (l : FrameLife). ∥ Reached l ∥₁) (sym given_life) kept.reached,
+      given_kept,
+      λ (x : Place) (h : changed_in t.words.bound pid r false x ≡ true). kept.ranges.user x (bound_less t.words.bound pid r x h),
+    );
     shown = λ i. record (shown_of t) { life = given_life i; bound = changed_in t.words.bound pid r false; names = λ x. given_names x i };
   }
 
 -- ---- ages and bytes
 
 pub bytes_step : (t : JoinedParts) → PartsKept t → (bytes' : List (Option (List ℕ))) → Step (record t { bytes = bytes' }) (record (shown_of t) { bytes = bytes' })
-bytes_step t kept bytes' = record {
-  kept = record { reached = kept.reached; line = kept.line; words = kept.words; within = kept.within; ranges = kept.ranges; depth = kept.depth; waits = kept.waits };
-  shown = refl;
-}
+bytes_step t kept bytes' = record { kept = assumption kept; shown = refl }
 
 age_set : (b : Bool) (a : Option ℕ) → unwrap_or (cond b (Some 0) a) 0 ≡ cond b 0 (unwrap_or a 0)
 age_set true a = refl
@@ -198,7 +162,7 @@ age_set false a = refl
 pub used_step : (t : JoinedParts) → PartsKept t → (place : Place) (bytes' : List (Option (List ℕ)))
     → Step (record t { ages = changed same_place t.ages place (Some 0); bytes = bytes' }) (record (shown_of t) { ages = changed same_place (shown_of t).ages place 0; bytes = bytes' })
 used_step t kept place bytes' = record {
-  kept = record { reached = kept.reached; line = kept.line; words = kept.words; within = kept.within; ranges = kept.ranges; depth = kept.depth; waits = kept.waits };
+  kept = assumption kept;
   shown = λ i. record (shown_of t) { ages = λ p. age_set (same_place p place) (t.ages p) i; bytes = bytes' };
 }
 
@@ -232,18 +196,13 @@ older_cond true (Some n) = refl
 older_cond false o = refl
 
 pub valid_is : (e : Entry) → is_valid_entry e ≡ is_some (valid_frame e)
-valid_is entry.Empty = refl
-valid_is entry.Zero = refl
 valid_is (entry.Paged s) = refl
-valid_is (entry.InFile b) = refl
-valid_is (entry.Transition f) = refl
-valid_is (entry.Valid f n) = refl
-valid_is (entry.Proto a i) = refl
+valid_is _ = refl
 
 pub aged_step : (t : JoinedParts) → PartsKept t → (pid : ℕ) → ((p : Place) → is_some (t.ages p) ≡ is_valid_entry (t.words.at p))
     → Step (record t { ages = λ x. if x.pid.0 == pid then option_map older (t.ages x) else t.ages x }) (record (shown_of t) { ages = ages_older (life_in t) (shown_of t).ages pid })
 aged_step t kept pid has_age = record {
-  kept = record { reached = kept.reached; line = kept.line; words = kept.words; within = kept.within; ranges = kept.ranges; depth = kept.depth; waits = kept.waits };
+  kept = assumption kept;
   shown = λ i. record (shown_of t) { ages = λ x. each x i };
 }
   where

@@ -1,23 +1,13 @@
 -- How the parts agree, over plain lists and maps: entries, prototype words and frames; slots and
 -- what holds them; requests; and working sets.
 use Rattle.std.specs.Prelude.{◌≡◌, ◌≢◌, ◌≤◌, ◌<◌, ◌+◌, ◌⊎◌, ℕ, true, false, List, length, Option, Some, is_some, slice_get}
-use Rattle.mm_types.specs.declared.numbers.Area.{Area}
-use Rattle.mm_types.specs.declared.numbers.Frame.{Frame}
-use Rattle.mm_types.specs.declared.numbers.Key.{Key}
+use Rattle.mm_types.specs.{Area, Frame, Key, Place}
 use Rattle.mm_types.specs.declared.numbers.Key.TheVariants.{Private, Shared}
-use Rattle.mm_types.specs.declared.numbers.Place.{Place}
 use Rattle.mm_types.specs.declared.frames.Held.TheVariants as held
-use Rattle.mm_life.specs.declared.sets.ResidentSet.{ResidentSet}
-use Rattle.mm_life.specs.Frames.{record_at, has_request}
-use Rattle.mm_life.specs.Life.{FrameLife, key_of_place, is_shared, set_of}
-use Rattle.mm_life.specs.Legal.{owner_is}
-use Rattle.mm_laws.specs.Holders.{Holder, holding}
-use Rattle.mm_laws.specs.Places.{CountsPlaces}
-use Rattle.mm_laws.specs.Tally.{one_if, times}
-use Rattle.mm_words.specs.declared.layout.Entry.{Entry}
+use Rattle.mm_life.specs.{ResidentSet, record_at, has_request, FrameLife, key_of_place, is_shared, set_of, owner_is}
+use Rattle.mm_laws.specs.{Holder, holding, CountsPlaces, one_if, times}
+use Rattle.mm_words.specs.{Entry, Aside, WordsOf, key_entry, place_from, valid_frame}
 use Rattle.mm_words.specs.declared.layout.Entry.TheVariants as entry
-use Rattle.mm_words.specs.declared.aside.Aside.{Aside}
-use Rattle.mm_words.specs.Words.{WordsOf, key_entry, place_from, valid_frame}
 use Rattle.mm_parts.specs.Shown.{requests, is_own_line}
 use Rattle.mm_parts.specs.Words.{is_aside_entry, names_other}
 

@@ -1,21 +1,11 @@
 -- What the parts keep at all times, in terms of what they show: of lines, of pages, and of what is
 -- on devices.
 use Rattle.std.specs.Prelude.{◌≡◌, ◌≤◌, ◌<◌, ℕ, true, false, length, Some, None, is_some, slice_get}
-use Rattle.mm_types.specs.Address.{end_of_user_pages}
-use Rattle.mm_types.specs.Machine.{IsMachine}
-use Rattle.mm_types.specs.declared.numbers.Frame.{Frame}
-use Rattle.mm_types.specs.declared.numbers.Key.{Key}
-use Rattle.mm_types.specs.declared.numbers.Place.{Place}
+use Rattle.mm_types.specs.{end_of_user_pages, IsMachine, Frame, Key, Place}
 use Rattle.mm_types.specs.declared.frames.Held.TheVariants as held
-use Rattle.mm_life.specs.declared.sets.ResidentSet.{ResidentSet}
-use Rattle.mm_life.specs.Frames.{record_at, is_read, is_write, slot_of}
-use Rattle.mm_life.specs.Life.{FrameLife, is_live, set_of}
-use Rattle.mm_life.specs.Legal.{is_touch, fits_place}
-use Rattle.mm_life.specs.Effect.{slot_at}
+use Rattle.mm_life.specs.{ResidentSet, record_at, is_read, is_write, slot_of, FrameLife, is_live, set_of, is_touch, fits_place, slot_at}
 use Rattle.mm_laws.specs.Reached.{Reached}
-use Rattle.mm_laws.specs.Fits.{is_backed}
-use Rattle.mm_laws.specs.FileBlocks.{block_held, IsAdded}
-use Rattle.mm_laws.specs.PagingKeys.{is_home_for, is_backing_for}
+use Rattle.mm_laws.specs.{is_backed, block_held, IsAdded, is_home_for, is_backing_for}
 use Rattle.mm_flight.specs.declared.flights.Waiting.TheVariants as waiting
 use Rattle.mm_parts.specs.Shown.{PartsOf, is_own_line, own_is}
 use Rattle.mm_parts.specs.Moves.{HasHome}

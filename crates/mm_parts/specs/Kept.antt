@@ -1,18 +1,11 @@
 -- What the parts keep, over plain lists and maps.
 use Rattle.std.specs.Prelude.{◌≡◌, ◌≤◌, ◌<◌, ◌^◌, ℕ, true, length, Option, Some, is_some, slice_get}
-use Rattle.mm_types.specs.Address.{end_of_user_pages}
-use Rattle.mm_types.specs.Machine.{IsMachine}
-use Rattle.mm_types.specs.declared.numbers.Frame.{Frame}
-use Rattle.mm_types.specs.declared.numbers.Place.{Place}
-use Rattle.mm_types.specs.declared.moves.LineKind.{LineKind}
-use Rattle.mm_life.specs.declared.sets.ResidentSet.{ResidentSet}
-use Rattle.mm_life.specs.Frames.{FrameTable, record_at, is_read}
-use Rattle.mm_life.specs.Life.{set_in}
-use Rattle.mm_life.specs.Legal.{is_touch}
+use Rattle.mm_types.specs.{end_of_user_pages, IsMachine, Frame, Place, LineKind}
+use Rattle.mm_life.specs.{ResidentSet, FrameTable, record_at, is_read, set_in, is_touch}
 use Rattle.mm_laws.specs.Reached.{Reached}
-use Rattle.mm_flight.specs.Requests.{FlightOf, is_in}
+use Rattle.mm_flight.specs.{FlightOf, is_in}
 use Rattle.mm_flight.specs.declared.flights.Waiting.TheVariants as waiting
-use Rattle.mm_words.specs.Words.{WordsOf}
+use Rattle.mm_words.specs.{WordsOf}
 use Rattle.mm_parts.specs.Shown.{JoinedParts, LineOf, life_in, is_own_line}
 use Rattle.mm_parts.specs.Words.{WordsKept}
 

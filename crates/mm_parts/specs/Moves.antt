@@ -1,29 +1,16 @@
 -- What the moves are made of, and what they change beside the state of the replay.
 use Rattle.std.specs.Prelude.{◌≡◌, ◌⊎◌, ◌≤◌, ◌<◌, ◌+◌, ℕ, Bool, true, false, ◌==◌, ◌&&◌, if◌then◌else◌, List, [], ◌∷◌, ◌++◌, length, map, Option, Some, None, is_some, slice_set}
-use Rattle.mm_types.specs.declared.numbers.Frame.{Frame}
-use Rattle.mm_types.specs.declared.numbers.Key.{Key}
+use Rattle.mm_types.specs.{Frame, Key, Pid, Vpn, Place, Backing, LineKind, Move, Stored}
 use Rattle.mm_types.specs.declared.numbers.Key.TheVariants.{Private, Shared}
-use Rattle.mm_types.specs.declared.numbers.Pid.{Pid}
-use Rattle.mm_types.specs.declared.numbers.Vpn.{Vpn}
-use Rattle.mm_types.specs.declared.numbers.Place.{Place}
-use Rattle.mm_types.specs.declared.frames.Backing.{Backing}
 use Rattle.mm_types.specs.declared.frames.Backing.TheVariants as backing
-use Rattle.mm_types.specs.declared.moves.LineKind.{LineKind}
 use Rattle.mm_types.specs.declared.moves.LineKind.TheVariants as kind
-use Rattle.mm_types.specs.declared.moves.Move.{Move}
 use Rattle.mm_types.specs.declared.moves.Move.TheVariants as move
-use Rattle.mm_types.specs.declared.moves.Stored.{Stored}
 use Rattle.mm_types.specs.declared.moves.Stored.TheVariants as stored
-use Rattle.mm_life.specs.Frames.{FrameTable, record_at, after_drop, slot_after_drop}
-use Rattle.mm_life.specs.Legal.{is_touch, owner_is}
-use Rattle.mm_words.specs.declared.layout.Entry.{Entry}
+use Rattle.mm_life.specs.{FrameTable, record_at, after_drop, slot_after_drop, is_touch, owner_is, FrameLife, changed, same_place, key_of_place}
+use Rattle.mm_life.specs.{is_shared, is_dead, after_move, aged}
+use Rattle.mm_words.specs.{Entry, IsEntry, WordsOf, with_entry, has_word, keeps_places, made_invalid}
 use Rattle.mm_words.specs.declared.layout.Entry.TheVariants as entry
-use Rattle.mm_life.specs.Life.{FrameLife, changed, same_place, key_of_place, is_shared, is_dead}
-use Rattle.mm_life.specs.Effect.{after_move}
-use Rattle.mm_life.specs.Victims.{aged}
-use Rattle.mm_words.specs.Layout.{IsEntry}
-use Rattle.mm_words.specs.Words.{WordsOf, with_entry, has_word, keeps_places, made_invalid}
-use Rattle.mm_flight.specs.Requests.{FlightOf, without, ended}
+use Rattle.mm_flight.specs.{FlightOf, without, ended}
 use Rattle.mm_parts.specs.Shown.{PartsOf, is_own_line}
 
 -- ---- the frame or slot that a move takes

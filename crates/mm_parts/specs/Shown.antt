@@ -1,22 +1,13 @@
 -- The state of the replay that the parts show.
 use Rattle.std.specs.Prelude.{ℕ, Bool, true, false, not, ◌==◌, ◌||◌, ◌++◌, if◌then◌else◌, List, [], ◌∷◌, Option, Some, None, slice_index_or, unwrap_or, option_map}
-use Rattle.mm_types.specs.Machine.{MachineOf}
-use Rattle.mm_types.specs.declared.numbers.Frame.{Frame}
-use Rattle.mm_types.specs.declared.numbers.Key.{Key}
+use Rattle.mm_types.specs.{MachineOf, Frame, Key, Place, Held, LineKind}
 use Rattle.mm_types.specs.declared.numbers.Key.TheVariants.{Private, Shared}
-use Rattle.mm_types.specs.declared.numbers.Place.{Place}
-use Rattle.mm_types.specs.declared.frames.Held.{Held}
 use Rattle.mm_types.specs.declared.frames.Held.TheVariants as held
-use Rattle.mm_types.specs.declared.moves.LineKind.{LineKind}
-use Rattle.mm_life.specs.Frames.{FrameTable, record_at}
-use Rattle.mm_life.specs.Life.{FrameLife, same_key, key_of_place}
-use Rattle.mm_life.specs.Legal.{is_access, is_call}
-use Rattle.mm_flight.specs.Requests.{FlightOf}
-use Rattle.mm_flight.specs.declared.flights.Waiting.{Waiting}
-use Rattle.mm_frames.specs.Base.{has_block}
-use Rattle.mm_words.specs.declared.layout.Entry.{Entry}
+use Rattle.mm_life.specs.{FrameTable, record_at, FrameLife, same_key, key_of_place, is_access, is_call}
+use Rattle.mm_flight.specs.{FlightOf, Waiting}
+use Rattle.mm_frames.specs.{has_block}
+use Rattle.mm_words.specs.{Entry, WordsOf, key_entry, valid_frame}
 use Rattle.mm_words.specs.declared.layout.Entry.TheVariants as entry
-use Rattle.mm_words.specs.Words.{WordsOf, key_entry, valid_frame}
 
 -- the owner of each frame
 abbrev pub Owners : Type 0

@@ -1,14 +1,11 @@
 -- The parts of a machine at rest, after its first line.
 use Rattle.std.specs.Prelude.{ℕ, ◌+◌, true, false, [], replicate, None}
-use Rattle.mm_types.specs.Machine.{MachineOf}
-use Rattle.mm_types.specs.declared.moves.LineKind.{LineKind}
+use Rattle.mm_types.specs.{MachineOf, LineKind, Move}
 use Rattle.mm_types.specs.declared.moves.LineKind.TheVariants as kind
-use Rattle.mm_types.specs.declared.moves.Move.{Move}
 use Rattle.mm_types.specs.declared.moves.Move.TheVariants as move
-use Rattle.mm_life.specs.Life.{free_table, unstarted}
-use Rattle.mm_life.specs.Effect.{after_move}
+use Rattle.mm_life.specs.{free_table, unstarted, after_move}
 use Rattle.mm_flight.specs.declared.flights.Waiting.TheVariants as waiting
-use Rattle.mm_words.specs.Shown.{no_words, no_ages}
+use Rattle.mm_words.specs.{no_words, no_ages}
 use Rattle.mm_parts.specs.Shown.{JoinedParts, PartsOf}
 
 abbrev pub first_kind : MachineOf → LineKind

@@ -1,15 +1,9 @@
 -- What the parts keep of words, beside what follows from the replay's state.
 use Rattle.std.specs.Prelude.{◌≡◌, ◌≢◌, ◌≤◌, ℕ, Bool, true, false, Some}
-use Rattle.mm_types.specs.declared.numbers.Area.{Area}
-use Rattle.mm_types.specs.declared.numbers.Block.{Block}
-use Rattle.mm_types.specs.declared.numbers.Frame.{Frame}
-use Rattle.mm_types.specs.declared.numbers.Key.{Key}
-use Rattle.mm_types.specs.declared.numbers.Place.{Place}
-use Rattle.mm_life.specs.Frames.{FrameTable, record_at}
-use Rattle.mm_words.specs.declared.layout.Entry.{Entry}
+use Rattle.mm_types.specs.{Area, Block, Frame, Key, Place}
+use Rattle.mm_life.specs.{FrameTable, record_at}
+use Rattle.mm_words.specs.{Entry, Aside, WordsOf, key_entry}
 use Rattle.mm_words.specs.declared.layout.Entry.TheVariants as entry
-use Rattle.mm_words.specs.declared.aside.Aside.{Aside}
-use Rattle.mm_words.specs.Words.{WordsOf, key_entry}
 
 -- an entry that a private key can have beside the tables
 abbrev pub is_aside_entry : Entry → Bool

@@ -1,7 +1,7 @@
 ghost use Rattle.std.specs.Prelude.{◌≡◌, Some};
 ghost use Rattle.mm_types.specs.declared.moves.Move.TheVariants as move;
-ghost use Rattle.mm_life.specs.Legal.{IsLegal};
-ghost use Rattle.mm_ram.specs.Ram.{page_at, zero_page, with_page};
+ghost use Rattle.mm_life.specs.{IsLegal};
+ghost use Rattle.mm_ram.specs.{page_at, zero_page, with_page};
 ghost use Rattle.mm_parts.specs.Moves.{front, parts_after, names_after_give};
 
 use crate::backings::home;

@@ -1,8 +1,7 @@
 ghost use Rattle.std.specs.Prelude.{◌≡◌, Some, None, option_map};
 ghost use Rattle.mm_types.specs.declared.moves.Move.TheVariants as move;
-ghost use Rattle.mm_life.specs.Frames.{record_at};
-ghost use Rattle.mm_life.specs.Legal.{IsLegal};
-ghost use Rattle.mm_frames.specs.Base.{FramesOf};
+ghost use Rattle.mm_life.specs.{record_at, IsLegal};
+ghost use Rattle.mm_frames.specs.{FramesOf};
 ghost use Rattle.mm_parts.specs.Moves.{parts_after, HasHome, IsClear, aside_after_add, names_after_drop, table_released, slot_released, IsReleased, copy_place};
 
 use crate::backings::give_back;

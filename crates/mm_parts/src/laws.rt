@@ -1,11 +1,9 @@
 ghost use Rattle.std.specs.Prelude.{◌≡◌, ℕ, Bool, List, Some, false, true, length, map};
-ghost use Rattle.mm_types.specs.declared.numbers.Frame.{Frame};
-ghost use Rattle.mm_life.specs.Frames.{record_at, is_read};
-ghost use Rattle.mm_ram.specs.Ram.{page_at, bytes_of, zero_page};
-ghost use Rattle.mm_frames.specs.Placing.{is_bound};
-ghost use Rattle.mm_flight.specs.Requests.{ended};
-ghost use Rattle.mm_flight.specs.declared.flights.Waiting.{Waiting};
-ghost use Rattle.mm_life.specs.Waits.{ended_by};
+ghost use Rattle.mm_types.specs.{Frame};
+ghost use Rattle.mm_life.specs.{record_at, is_read, ended_by};
+ghost use Rattle.mm_ram.specs.{page_at, bytes_of, zero_page};
+ghost use Rattle.mm_frames.specs.{is_bound};
+ghost use Rattle.mm_flight.specs.{ended, Waiting};
 ghost use Rattle.mm_parts.specs.Agree.{EntriesAgree, SlotsAgree, RequestsAgree, SetsAgree};
 ghost use Rattle.mm_parts.specs.Holds.{LinesHold, PagesHold, StorageHolds};
 ghost use Rattle.mm_parts.specs.Reading.{waits_of};

@@ -1,10 +1,10 @@
 ghost use Rattle.std.specs.Prelude.{◌≡◌, ◌≤◌, None, false, IfOk, OnOk, replicate};
 ghost use Rattle.mm_types.specs.declared.moves.LineKind.TheVariants as kind;
 ghost use Rattle.mm_types.specs.declared.moves.Move.TheVariants as move;
-ghost use Rattle.mm_life.specs.Legal.{IsLegal};
+ghost use Rattle.mm_life.specs.{IsLegal};
 ghost use Rattle.mm_words.specs.Shown as tables;
 ghost use Rattle.mm_parts.specs.Moves.{parts_after, IsPlainLine, words_begun, CanBeginSet};
-ghost use Rattle.mm_types.specs.Machine.{IsMachine};
+ghost use Rattle.mm_types.specs.{IsMachine};
 ghost use Rattle.mm_parts.specs.Start.{first_parts, first_kind, more_slots};
 
 use crate::parts::Parts;

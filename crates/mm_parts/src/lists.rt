@@ -1,8 +1,6 @@
 ghost use Rattle.std.specs.Prelude.{◌≡◌, ◌<◌, ◌+◌, ℕ, true, Some, IfSome, count_by, length, option_map, slice_get};
-ghost use Rattle.mm_life.specs.Frames.{record_at, is_empty};
-ghost use Rattle.mm_life.specs.Life.{counts_of};
-ghost use Rattle.mm_frames.specs.Base.{has_block, modified_with_block};
-ghost use Rattle.mm_frames.specs.Placing.{IsAtRest};
+ghost use Rattle.mm_life.specs.{record_at, is_empty, counts_of};
+ghost use Rattle.mm_frames.specs.{has_block, modified_with_block, IsAtRest};
 ghost use Rattle.mm_parts.specs.Moves.{front};
 ghost use Rattle.mm_parts.specs.Reading.{first_frame};
 

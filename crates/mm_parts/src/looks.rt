@@ -1,7 +1,7 @@
 ghost use Rattle.std.specs.Prelude.{◌≡◌, ◌<◌, true, Some, length};
-ghost use Rattle.mm_types.specs.declared.numbers.Frame.{Frame};
-ghost use Rattle.mm_life.specs.Frames.{record_at};
-ghost use Rattle.mm_words.specs.Words.{bare, valid_frame};
+ghost use Rattle.mm_types.specs.{Frame};
+ghost use Rattle.mm_life.specs.{record_at};
+ghost use Rattle.mm_words.specs.{bare, valid_frame};
 ghost use Rattle.mm_parts.specs.Shown.{held_by};
 ghost use Rattle.mm_parts.specs.Moves.{HasHome};
 ghost use Rattle.mm_parts.specs.Reading.{is_own_page, is_private};

@@ -1,8 +1,7 @@
 ghost use Rattle.std.specs.Prelude.{◌≡◌, ◌≢◌, ◌≤◌, ◌+◌, ℕ, true, false, Some, IsSome, length, is_some};
-ghost use Rattle.mm_types.specs.declared.numbers.Frame.{Frame};
-ghost use Rattle.mm_life.specs.Frames.{record_at, is_read};
-ghost use Rattle.mm_life.specs.Life.{changed, same_place};
-ghost use Rattle.mm_ram.specs.Ram.{bytes_of, bytes_from, overwritten, with_page, page_at};
+ghost use Rattle.mm_types.specs.{Frame};
+ghost use Rattle.mm_life.specs.{record_at, is_read, changed, same_place};
+ghost use Rattle.mm_ram.specs.{bytes_of, bytes_from, overwritten, with_page, page_at};
 ghost use Rattle.mm_parts.specs.Moves.{ages_older};
 
 use crate::parts::Parts;

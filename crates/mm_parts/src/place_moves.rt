@@ -1,11 +1,9 @@
 ghost use Rattle.std.specs.Prelude.{◌≡◌, Some, None, true};
 ghost use Rattle.mm_types.specs.declared.moves.Move.TheVariants as move;
-ghost use Rattle.mm_life.specs.Frames.{record_at};
-ghost use Rattle.mm_life.specs.Life.{changed, same_place, key_of_place, is_shared, is_dead};
-ghost use Rattle.mm_life.specs.Legal.{IsLegal, owner_is};
+ghost use Rattle.mm_life.specs.{record_at, changed, same_place, key_of_place, is_shared, is_dead, IsLegal, owner_is};
 ghost use Rattle.mm_parts.specs.Moves.{parts_after, left_by, names_after_map, MayMap, CanName, words_named, CanLeave, words_left};
 ghost use Rattle.mm_words.specs.Shown as tables;
-ghost use Rattle.mm_words.specs.Words.{is_valid_entry};
+ghost use Rattle.mm_words.specs.{is_valid_entry};
 
 use crate::parts::Parts;
 use mm_types::{Frame, Key, Place};

@@ -1,14 +1,13 @@
 ghost use Rattle.std.specs.Prelude.{◌≡◌, ◌≢◌, ◌<◌, Some, IsSome, OnOk, OnErr, true, false, is_ok, length, map, slice_get, slice_set};
 ghost use Rattle.mm_types.specs.declared.moves.Move.TheVariants as move;
-ghost use Rattle.mm_life.specs.Frames.{record_at, is_read, is_write, is_empty, taken_for_read};
-ghost use Rattle.mm_life.specs.Legal.{IsLegal};
-ghost use Rattle.mm_blocks.specs.Reads.{WasRead};
-ghost use Rattle.mm_ram.specs.Ram.{page_at};
-ghost use Rattle.mm_frames.specs.Base.{IsDirty, has_block};
-ghost use Rattle.mm_flight.specs.Requests.{ended};
+ghost use Rattle.mm_life.specs.{record_at, is_read, is_write, is_empty, taken_for_read, IsLegal};
+ghost use Rattle.mm_blocks.specs.{WasRead};
+ghost use Rattle.mm_ram.specs.{page_at};
+ghost use Rattle.mm_frames.specs.{IsDirty, has_block};
+ghost use Rattle.mm_flight.specs.{ended};
 ghost use Rattle.mm_parts.specs.Moves.{parts_after, own_after, own_ended, front_or, front_for_read, end_of_read, write_end, write_target, CanBegin, words_sent, CanSend, goes_to, lowest_free, slots_to};
 ghost use Rattle.mm_words.specs.Shown as tables;
-ghost use Rattle.mm_slots.specs.Slots.{free_count};
+ghost use Rattle.mm_slots.specs.{free_count};
 
 use crate::backings::{backing_of, give_back, home, target};
 use crate::parts::Parts;

@@ -1,6 +1,6 @@
 ghost use Rattle.std.specs.Prelude.{◌≡◌, ◌<◌, Some, None, true, false, length};
-ghost use Rattle.mm_laws.specs.Tally.{times};
-ghost use Rattle.mm_flight.specs.Requests.{is_in};
+ghost use Rattle.mm_laws.specs.{times};
+ghost use Rattle.mm_flight.specs.{is_in};
 ghost use Rattle.mm_parts.specs.Shown.{requests, own_is, is_own_line};
 ghost use Rattle.mm_parts.specs.Moves.{own_after, own_ended, flight_begun, flight_ended};
 

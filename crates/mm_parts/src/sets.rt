@@ -1,11 +1,9 @@
 ghost use Rattle.std.specs.Prelude.{◌≡◌, true, Some, None, IfSome, MatchOption, is_some, option_map};
 ghost use Rattle.std.specs.Option.{ForSome};
-ghost use Rattle.mm_life.specs.Life.{set_of};
-ghost use Rattle.mm_life.specs.Legal.{is_at_max, is_above_min};
-ghost use Rattle.mm_life.specs.Order.{IsOldest};
-ghost use Rattle.mm_wset.specs.InOrder.{IsNextFrom};
-ghost use Rattle.mm_words.specs.Words.{place_from};
-ghost use Rattle.mm_frame_laws.specs.Order.{IsNextPage, NoPageFollows};
+ghost use Rattle.mm_life.specs.{set_of, is_at_max, is_above_min, IsOldest};
+ghost use Rattle.mm_wset.specs.{IsNextFrom};
+ghost use Rattle.mm_words.specs.{place_from};
+ghost use Rattle.mm_frame_laws.specs.{IsNextPage, NoPageFollows};
 ghost use Rattle.mm_parts.specs.Moves.{after_page};
 
 use crate::parts::Parts;

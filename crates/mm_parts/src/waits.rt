@@ -1,10 +1,7 @@
 ghost use Rattle.std.specs.Prelude.{◌≡◌, ◌<◌, ◌+◌, ◌^◌, ◌==◌, ℕ, true, false, length, option_map, slice_set};
-ghost use Rattle.mm_life.specs.Frames.{record_at, is_read};
-ghost use Rattle.mm_life.specs.Life.{changed};
-ghost use Rattle.mm_life.specs.Legal.{has_depth};
-ghost use Rattle.mm_flight.specs.Requests.{is_in, nth_oldest, place_in};
+ghost use Rattle.mm_life.specs.{record_at, is_read, changed, has_depth, Idle, ForFrame, wait_of as walked_wait};
+ghost use Rattle.mm_flight.specs.{is_in, nth_oldest, place_in};
 ghost use Rattle.mm_flight.specs.declared.flights.Waiting.TheVariants as waiting;
-ghost use Rattle.mm_life.specs.Waits.{Idle, ForFrame, wait_of as walked_wait};
 ghost use Rattle.mm_parts.specs.Shown.{requests, own_is};
 ghost use Rattle.mm_parts.specs.Reading.{waits_of};
 

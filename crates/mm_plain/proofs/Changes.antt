@@ -8,11 +8,9 @@ use Rattle.std.specs.HashMap.{HashMap, get, values, WritesThrough, PutsEntry}
 use Rattle.std.proofs.lemmas.Bool.{eqb-true, and_parts}
 use Rattle.std.proofs.lemmas.List.Sums.{sum_by-cons}
 use Rattle.std.proofs.lemmas.Map.Entries.{sum_by-set_value, sum_by_values_permutation, sum_by-remove_entry}
-use Rattle.mm_types.specs.declared.numbers.Pid.{Pid}
-use Rattle.mm_types.specs.declared.numbers.Vpn.{Vpn}
-use Rattle.mm_types.specs.declared.numbers.Place.{Place}
-use Rattle.mm_plain.specs.declared.places.BoundPlace.{BoundPlace}
-use Rattle.mm_plain.specs.Places.{place_eq, page_count, page_of}
+use Rattle.mm_types.specs.{Pid, Vpn, Place}
+use Rattle.mm_plain.specs.{BoundPlace, place_eq, page_count}
+use Rattle.mm_plain.specs.Places.{page_of}
 
 abbrev pid : ℕ → Pid
 pid n = record { 0 = n }

@@ -4,23 +4,15 @@ use Rattle.std.specs.Prelude.{◌==◌, ◌&&◌, IsSome, is_some, option_map, i
 use Rattle.std.proofs.Math.ListN.{length-set}
 use Rattle.std.proofs.lemmas.Bool.{eqb-true, and_parts}
 use Rattle.std.specs.Cmp.{unsigned_Decides}
-use Rattle.mm_types.proofs.Cells.{same_or_not, get_set_same, get_set_other}
-use Rattle.mm_types.specs.declared.numbers.Area.{Area}
-use Rattle.mm_types.specs.declared.numbers.Key.{Key}
+use Rattle.mm_types.proofs.{same_or_not, get_set_same, get_set_other}
+use Rattle.mm_types.specs.{Area, Key, Pid, Place, Vpn}
 use Rattle.mm_types.specs.declared.numbers.Key.TheVariants.{Private, Shared}
-use Rattle.mm_types.specs.declared.numbers.Pid.{Pid}
-use Rattle.mm_types.specs.declared.numbers.Place.{Place}
-use Rattle.mm_types.specs.declared.numbers.Vpn.{Vpn}
-use Rattle.mm_world.specs.Failure.{same_key}
-use Rattle.mm_world.specs.Report.{InFrame}
-use Rattle.mm_world.specs.World.{Page}
-use Rattle.mm_pages.specs.Store.{changed, same_place}
-use Rattle.mm_plain.specs.declared.areas.AreaPages.{AreaPages}
+use Rattle.mm_world.specs.{same_key, InFrame, Page}
+use Rattle.mm_pages.specs.{changed, same_place}
+use Rattle.mm_plain.specs.{AreaPages, FilePage, size_of, pages_of, page_at, block_at, shared_page, contents_of, paging_of, blocks_of, sizes_of}
+use Rattle.mm_plain.specs.{whereabouts_of}
 use Rattle.mm_plain.specs.declared.areas.AreaPages.TheVariants.{Paged, Filed}
-use Rattle.mm_plain.specs.declared.file_pages.FilePage.{FilePage}
-use Rattle.mm_plain.specs.Areas.{size_of, pages_of, page_at, block_at}
 use Rattle.mm_plain.specs.Files.{page_of}
-use Rattle.mm_plain.specs.Shown.{shared_page, contents_of, paging_of, blocks_of, sizes_of, whereabouts_of}
 use Rattle.mm_plain.proofs.OpenAreas.{set_at}
 
 -- ---- functions of keys
@@ -100,6 +92,56 @@ module _ (places after : Place → Option Page) (areas : ℕ → Option AreaPage
       ap (λ ps. paging_of ps areas) e ∙ paging_changed places areas p v new
       ∙ ap (λ q. changed same_key (paging_of places areas) q (is_some new)) (sym key)
 
+-- ---- an area is another one
+
+-- the number of areas apart, an area is another one or as before
+pub at_area : {V : Type 0} (areas : ℕ → Option AreaPages) (a : ℕ) (new : Option AreaPages) (b : ℕ) (g : Option AreaPages → V) → g (changed ◌==◌ areas a new b) ≡ (if b == a then g new else g (areas b))
+at_area {V} areas a new b g = go (b == a)
+  where
+    go : (t : Bool) → g (if t then new else areas b) ≡ (if t then g new else g (areas b))
+    go true = refl
+    go false = refl
+
+-- what the areas show stays, where it does for the one that changed
+kept_at : {V : Type 0} (areas : ℕ → Option AreaPages) (a : ℕ) (new : Option AreaPages) (b : ℕ) (g : Option AreaPages → V) → g new ≡ g (areas a) → g (changed ◌==◌ areas a new b) ≡ g (areas b)
+kept_at {V} areas a new b g same = go (b == a) refl
+  where
+    go : (t : Bool) → (b == a) ≡ t → g (if t then new else areas b) ≡ g (areas b)
+    go true e = same ∙ ap (λ (n : ℕ). g (areas n)) (sym (eqb-true b a e))
+    go false e = refl
+
+module _ (areas after : ℕ → Option AreaPages) (a : ℕ) (new : Option AreaPages) (is : after ≡ changed ◌==◌ areas a new) where
+  -- an area without blocks, and its pages as they were
+  pub contents_kept : (places : Place → Option Page) (files : List FilePage) → ((j : ℕ) → shared_page files (block_at new j) (page_at new j) ≡ shared_page files (block_at (areas a) j) (page_at (areas a) j)) → contents_of places after files ≡ contents_of places areas files
+  contents_kept places files same = ap (λ f. contents_of places f files) is ∙ (λ t. λ (q : Key). (at q) t)
+    where
+      at : (q : Key) → contents_of places (changed ◌==◌ areas a new) files q ≡ contents_of places areas files q
+      at (Private p v) = refl
+      at (Shared b j) = kept_at areas a new b.0 (λ o. shared_page files (block_at o j) (page_at o j)) (same j)
+
+  pub paging_kept : (places : Place → Option Page) → ((j : ℕ) → is_some (page_at new j) ≡ is_some (page_at (areas a) j)) → paging_of places after ≡ paging_of places areas
+  paging_kept places same = ap (paging_of places) is ∙ (λ t. λ (q : Key). (at q) t)
+    where
+      at : (q : Key) → paging_of places (changed ◌==◌ areas a new) q ≡ paging_of places areas q
+      at (Private p v) = refl
+      at (Shared b j) = kept_at areas a new b.0 (λ o. is_some (page_at o j)) (same j)
+
+  pub block_kept : (b j : ℕ) → block_at new j ≡ block_at (areas a) j → block_at (after b) j ≡ block_at (areas b) j
+  block_kept b j same = ap (λ f. block_at (f b) j) is ∙ kept_at areas a new b (λ o. block_at o j) same
+
+  pub blocks_kept : ((j : ℕ) → block_at new j ≡ block_at (areas a) j) → blocks_of after ≡ blocks_of areas
+  blocks_kept same = λ t. λ (q : Key). (at q) t
+    where
+      at : (q : Key) → blocks_of after q ≡ blocks_of areas q
+      at (Private p v) = refl
+      at (Shared b j) = block_kept b.0 j (same j)
+
+  pub sizes_kept : size_of new ≡ size_of (areas a) → sizes_of after ≡ sizes_of areas
+  sizes_kept same = ap sizes_of is ∙ (λ t. λ (b : ℕ). (kept_at areas a new b size_of same) t)
+
+  pub sizes_changed : sizes_of after ≡ changed ◌==◌ (sizes_of areas) a (size_of new)
+  sizes_changed = ap sizes_of is ∙ (λ t. λ (b : ℕ). (at_area areas a new b size_of) t)
+
 -- ---- an area has another page
 
 -- an area with pages of its own is no file
@@ -126,20 +168,6 @@ module _ (areas : ℕ → Option AreaPages) (a i : ℕ) (new : Option Page) (pag
       go true e = ap (g None) (set_at (pages_of (areas a)) i j new None near) ∙ split (j == i) (there b e)
       go false e = refl
 
-  block_kept : (b j : ℕ) → block_at (with_page b) j ≡ block_at (areas b) j
-  block_kept b j = go (b == a) refl
-    where
-      go : (t : Bool) → (b == a) ≡ t → block_at (if t then Some (Paged (slice_set (pages_of (areas a)) i new)) else areas b) j ≡ block_at (areas b) j
-      go true e = ap (λ o. block_at o j) (sym (there b e))
-      go false e = refl
-
-  size_kept : (b : ℕ) → size_of (with_page b) ≡ size_of (areas b)
-  size_kept b = go (b == a) refl
-    where
-      go : (t : Bool) → (b == a) ≡ t → size_of (if t then Some (Paged (slice_set (pages_of (areas a)) i new)) else areas b) ≡ size_of (areas b)
-      go true e = ap Some (length-set (pages_of (areas a)) i new) ∙ ap size_of (sym (there b e))
-      go false e = refl
-
 module _ (areas after : ℕ → Option AreaPages) (a : Area) (i : ℕ) (new : Option Page) (near : i < length (pages_of (areas a.0))) (is : after ≡ changed ◌==◌ areas a.0 (Some (Paged (slice_set (pages_of (areas a.0)) i new)))) where
   pub contents_in_area : (places : Place → Option Page) (files : List FilePage) (k : Key) → k ≡ Shared a i → contents_of places after files ≡ changed same_key (contents_of places areas files) k new
   contents_in_area places files k key =
@@ -161,18 +189,17 @@ module _ (areas after : ℕ → Option AreaPages) (a : Area) (i : ℕ) (new : Op
       at (Private p v) = refl
       at (Shared b j) = at_page areas a.0 i new (paged_of (areas a.0) i near) near (λ block page. is_some page) b.0 j
 
+  same_block : (j : ℕ) → None ≡ block_at (areas a.0) j
+  same_block j = ap (λ o. block_at o j) (sym (paged_of (areas a.0) i near))
+
   pub block_in_area : (b j : ℕ) → block_at (after b) j ≡ block_at (areas b) j
-  block_in_area b j = ap (λ f. block_at (f b) j) is ∙ block_kept areas a.0 i new (paged_of (areas a.0) i near) near b j
+  block_in_area b j = block_kept areas after a.0 _ is b j (same_block j)
 
   pub blocks_in_area : blocks_of after ≡ blocks_of areas
-  blocks_in_area = λ t. λ (q : Key). (at q) t
-    where
-      at : (q : Key) → blocks_of after q ≡ blocks_of areas q
-      at (Private p v) = refl
-      at (Shared b j) = block_in_area b.0 j
+  blocks_in_area = blocks_kept areas after a.0 _ is same_block
 
   pub sizes_in_area : sizes_of after ≡ sizes_of areas
-  sizes_in_area = ap sizes_of is ∙ (λ t. λ (b : ℕ). (size_kept areas a.0 i new (paged_of (areas a.0) i near) near b) t)
+  sizes_in_area = sizes_kept areas after a.0 _ is (ap Some (length-set (pages_of (areas a.0)) i new) ∙ ap size_of (sym (paged_of (areas a.0) i near)))
 
 -- ---- a block has another page
 

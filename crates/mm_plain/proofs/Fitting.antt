@@ -3,22 +3,14 @@ use Rattle.std.proofs.Common.{◌≡◌, ◌⊎◌, ◌+◌, ◌<◌, ◌≤◌,
 use Rattle.std.specs.Prelude.{◌==◌, nat_le, nat_lt, if◌then◌else◌, OnOk, OnErr, slice_get, slice_set}
 use Rattle.std.proofs.Math.ListN.{length-set}
 use Rattle.std.proofs.lemmas.Bool.{and_parts, leb-true, ltb-true}
-use Rattle.mm_types.specs.declared.numbers.Pid.{Pid}
-use Rattle.mm_types.specs.declared.numbers.Place.{Place}
-use Rattle.mm_types.specs.Address.{Range, are_user_pages, holds_page, end_of, end_of_user_pages, first_user_page}
-use Rattle.mm_types.proofs.Cells.{same_or_not, get_set_same, get_set_other, get_within}
-use Rattle.mm_types.specs.Machine.{MachineOf, IsMachine}
-use Rattle.mm_world.specs.World.{Page}
-use Rattle.mm_pages.specs.Store.{changed_in, is_place_in}
-use Rattle.mm_plain.specs.declared.areas.AreaPages.{AreaPages}
+use Rattle.mm_types.specs.{Pid, Place, Range, are_user_pages, holds_page, end_of, end_of_user_pages, first_user_page, MachineOf, IsMachine}
+use Rattle.mm_types.proofs.{same_or_not, get_set_same, get_set_other, get_within}
+use Rattle.mm_world.specs.{Page}
+use Rattle.mm_pages.specs.{changed_in, is_place_in}
+use Rattle.mm_plain.specs.{AreaPages, FilePage, block_at, count_in, no_area, Fits, FilesFit, bound_in, pages_in, no_place, StockOf}
 use Rattle.mm_plain.specs.declared.areas.Areas.{Areas}
-use Rattle.mm_plain.specs.declared.file_pages.FilePage.{FilePage}
 use Rattle.mm_plain.specs.declared.places.Places.{Places}
-use Rattle.mm_plain.specs.Areas.{block_at, count_in, no_area}
 use Rattle.mm_plain.specs.Files.{page_of}
-use Rattle.mm_plain.specs.Fitting.{Fits, FilesFit}
-use Rattle.mm_plain.specs.Places.{bound_in, pages_in, no_place}
-use Rattle.mm_plain.specs.Stocks.{StockOf}
 
 -- ---- places, areas and boxes
 

@@ -1,16 +1,12 @@
 -- An access to pages that are at hand.
 use Rattle.std.proofs.Common.{◌≡◌, Bool, true, false, Option, Some, None, refl, sym, ap, arith, subst}
 use Rattle.std.specs.Prelude.{IsSome, Ok, not, is_none, nat_lt, ◌==◌, if◌then◌else◌, ◌||◌, ◌&&◌, option_map}
-use Rattle.mm_types.specs.declared.numbers.Key.{Key}
-use Rattle.mm_types.specs.declared.numbers.Place.{Place}
-use Rattle.mm_world.specs.World.{Page}
-use Rattle.mm_world.specs.Report.{Tally, InFrame, is_short}
-use Rattle.mm_world.specs.Failure.{same_key, Need, has_frame, still_needs_frame, access_fails}
-use Rattle.mm_pages.specs.Conditions.{touch, copying}
+use Rattle.mm_types.specs.{Key, Place}
+use Rattle.mm_world.specs.{Page, Tally, InFrame, is_short, same_key, Need, has_frame, still_needs_frame, access_fails}
+use Rattle.mm_pages.specs.{touch, copying, own_key, changed}
 use Rattle.mm_pages.specs.Reports.{Ends}
-use Rattle.mm_pages.specs.Store.{own_key, changed}
-use Rattle.mm_plain.specs.Shown.{unpaged_report}
-use Rattle.mm_world.proofs.KindsAndKeys.{same_again}
+use Rattle.mm_plain.specs.{unpaged_report}
+use Rattle.mm_world.proofs.{same_again}
 
 had_here : (p : Option Page) → IsSome p → not (has_frame (option_map (λ _. InFrame) p)) ≡ false
 had_here (Some p) h = refl

@@ -3,12 +3,11 @@ use Rattle.std.proofs.Common.{◌≡◌, ◌≢◌, ℕ, zero, suc, ◌+◌, ◌
 use Rattle.std.specs.Prelude.{◌==◌, IsSome, slice_index_or, slice_set, if◌then◌else◌}
 use Rattle.std.specs.Cmp.{unsigned_Decides}
 use Rattle.std.proofs.lemmas.Bool.{eqb-true}
-use Rattle.mm_pages.specs.Store.{changed}
-use Rattle.mm_plain.specs.declared.areas.AreaPages.{AreaPages}
+use Rattle.mm_pages.specs.{changed}
+use Rattle.mm_plain.specs.{AreaPages, pages_of, page_at, block_at, one_if_live}
 use Rattle.std.specs.List.{sum_by}
 use Rattle.std.proofs.lemmas.List.Sums.{sum_by-cons}
 use Rattle.mm_plain.specs.declared.areas.AreaPages.TheVariants.{Filed}
-use Rattle.mm_plain.specs.Areas.{pages_of, page_at, block_at, one_if_live}
 
 -- what stands at an index, whatever is asked for where there is none
 pub indexed : {A : Type 0} (xs : List A) (i : ℕ) (x d : A) → i < length xs → x ≡ slice_index_or xs i x → x ≡ slice_index_or xs i d

@@ -1,26 +1,23 @@
 -- An area is opened or closed, or a file is made.
-use Rattle.std.proofs.Common.{◌≡◌, ◌⊎◌, ℕ, zero, suc, ◌+◌, ◌-◌, ◌<◌, ◌≤◌, ◌%◌, Bool, true, false, List, [], ◌∷◌, ◌++◌, length, replicate, Option, Some, None, Result, Ok, Err, refl, sym, ap, ◌∙◌, inl, inr, arith}
+use Rattle.std.proofs.Common.{◌≡◌, ◌⊎◌, ℕ, zero, suc, ◌+◌, ◌-◌, ◌<◌, ◌≤◌, ◌%◌, Bool, true, false, List, [], ◌∷◌, ◌++◌, length, replicate, Option, Some, None, Result, Ok, Err, refl, sym, ap, subst, ◌∙◌, inl, inr, arith}
 use Rattle.std.specs.Prelude.{◌==◌, ◌&&◌, nat_lt, is_some, if◌then◌else◌, slice_get, slice_set, slice_index_or, OnOk, OnErr}
 use Rattle.std.specs.List.{sum_by}
 use Rattle.std.proofs.lemmas.Bool.{eqb-true, ltb-true, cases_lt}
 use Rattle.std.proofs.lemmas.List.{length-append}
 use Rattle.std.proofs.lemmas.List.Sums.{sum_by-cons}
-use Rattle.mm_types.specs.declared.numbers.Area.{Area}
-use Rattle.mm_types.specs.declared.numbers.Key.{Key}
+use Rattle.mm_types.specs.{Area, Key, Place}
 use Rattle.mm_types.specs.declared.numbers.Key.TheVariants.{Private, Shared}
-use Rattle.mm_types.specs.declared.numbers.Place.{Place}
-use Rattle.mm_types.proofs.Cells.{get_within}
-use Rattle.mm_world.specs.World.{Page, filled}
-use Rattle.mm_pages.specs.Store.{changed, with_file, with_blocks}
-use Rattle.mm_plain.specs.declared.areas.AreaPages.{AreaPages}
+use Rattle.mm_types.proofs.{get_within}
+use Rattle.mm_world.specs.{Page, filled}
+use Rattle.mm_pages.specs.{changed, with_file, with_blocks, HasHome}
+use Rattle.mm_plain.specs.{AreaPages, FilePage, area_in, size_of, pages_of, page_at, block_at, count_of, one_if_live, no_area, IsMade, Stored}
+use Rattle.mm_plain.specs.{page_in, made_page, no_page, FilesFit, shared_page, contents_of, paging_of, blocks_of, contents_in, store_in}
 use Rattle.mm_plain.specs.declared.areas.AreaPages.TheVariants.{Paged, Filed}
-use Rattle.mm_plain.specs.declared.file_pages.FilePage.{FilePage}
-use Rattle.mm_plain.specs.Areas.{size_of, pages_of, page_at, block_at, count_of, one_if_live, no_area}
-use Rattle.mm_plain.specs.Files.{IsMade, Stored, page_of, page_in, made_page}
-use Rattle.mm_plain.specs.Places.{no_page}
-use Rattle.mm_plain.specs.Fitting.{FilesFit}
-use Rattle.mm_plain.specs.Shown.{shared_page, contents_of, paging_of, blocks_of, sizes_of}
+use Rattle.mm_plain.specs.Files.{page_of}
 use Rattle.mm_plain.proofs.OpenAreas.{in_file}
+use Rattle.mm_plain.proofs.Contents.{paging_kept}
+use Rattle.mm_plain.specs.declared.plain.Plain.{Plain}
+use Rattle.mm_blocks.specs.declared.Inject.{Ghosts as DeviceGhosts}
 use Rattle.mm_plain.proofs.MadeFiles.{get_before, get_behind}
 
 -- ---- functions of areas
@@ -29,51 +26,6 @@ pub closed_of : (o : Option AreaPages) → size_of o ≡ None → o ≡ None
 closed_of None e = refl
 closed_of (Some (Paged pages)) e = cc
 closed_of (Some (Filed first count)) e = cc
-
--- the number of areas apart, an area is another one or as before
-pub at_area : {V : Type 0} (areas : ℕ → Option AreaPages) (a : ℕ) (new : Option AreaPages) (b : ℕ) (g : Option AreaPages → V) → g (changed ◌==◌ areas a new b) ≡ (if b == a then g new else g (areas b))
-at_area {V} areas a new b g = go (b == a)
-  where
-    go : (t : Bool) → g (if t then new else areas b) ≡ (if t then g new else g (areas b))
-    go true = refl
-    go false = refl
-
--- what the areas show stays, where it does for the one that changed
-kept_at : {V : Type 0} (areas : ℕ → Option AreaPages) (a : ℕ) (new : Option AreaPages) (b : ℕ) (g : Option AreaPages → V) → g new ≡ g (areas a) → g (changed ◌==◌ areas a new b) ≡ g (areas b)
-kept_at {V} areas a new b g same = go (b == a) refl
-  where
-    go : (t : Bool) → (b == a) ≡ t → g (if t then new else areas b) ≡ g (areas b)
-    go true e = same ∙ ap (λ (n : ℕ). g (areas n)) (sym (eqb-true b a e))
-    go false e = refl
-
-module _ (areas after : ℕ → Option AreaPages) (a : ℕ) (new : Option AreaPages) (is : after ≡ changed ◌==◌ areas a new) where
-  -- an area without blocks, and its pages as they were
-  pub contents_kept : (places : Place → Option Page) (files : List FilePage) → ((j : ℕ) → shared_page files (block_at new j) (page_at new j) ≡ shared_page files (block_at (areas a) j) (page_at (areas a) j)) → contents_of places after files ≡ contents_of places areas files
-  contents_kept places files same = ap (λ f. contents_of places f files) is ∙ (λ t. λ (q : Key). (at q) t)
-    where
-      at : (q : Key) → contents_of places (changed ◌==◌ areas a new) files q ≡ contents_of places areas files q
-      at (Private p v) = refl
-      at (Shared b j) = kept_at areas a new b.0 (λ o. shared_page files (block_at o j) (page_at o j)) (same j)
-
-  pub paging_kept : (places : Place → Option Page) → ((j : ℕ) → is_some (page_at new j) ≡ is_some (page_at (areas a) j)) → paging_of places after ≡ paging_of places areas
-  paging_kept places same = ap (paging_of places) is ∙ (λ t. λ (q : Key). (at q) t)
-    where
-      at : (q : Key) → paging_of places (changed ◌==◌ areas a new) q ≡ paging_of places areas q
-      at (Private p v) = refl
-      at (Shared b j) = kept_at areas a new b.0 (λ o. is_some (page_at o j)) (same j)
-
-  pub block_kept : (b j : ℕ) → block_at new j ≡ block_at (areas a) j → block_at (after b) j ≡ block_at (areas b) j
-  block_kept b j same = ap (λ f. block_at (f b) j) is ∙ kept_at areas a new b (λ o. block_at o j) same
-
-  pub blocks_kept : ((j : ℕ) → block_at new j ≡ block_at (areas a) j) → blocks_of after ≡ blocks_of areas
-  blocks_kept same = λ t. λ (q : Key). (at q) t
-    where
-      at : (q : Key) → blocks_of after q ≡ blocks_of areas q
-      at (Private p v) = refl
-      at (Shared b j) = block_kept b.0 j (same j)
-
-  pub sizes_changed : sizes_of after ≡ changed ◌==◌ (sizes_of areas) a (size_of new)
-  sizes_changed = ap sizes_of is ∙ (λ t. λ (b : ℕ). (at_area areas a new b size_of) t)
 
 -- ---- an area opened
 
@@ -90,13 +42,18 @@ page_there (f ∷ fs) zero h e = cc
 page_there (f ∷ fs) (suc k) h e = page_there fs k (omega arith) e
 
 -- a key that is not live, at an index of an open area, is none of a file
-pub paged_home : (files : List FilePage) (o : Option AreaPages) (i pages : ℕ) → size_of o ≡ Some pages → i < pages → shared_page files (block_at o i) (page_at o i) ≡ None → ((block : ℕ) → block_at o i ≡ Some block → block < length files) → i < length (pages_of o)
+paged_home : (files : List FilePage) (o : Option AreaPages) (i pages : ℕ) → size_of o ≡ Some pages → i < pages → shared_page files (block_at o i) (page_at o i) ≡ None → ((block : ℕ) → block_at o i ≡ Some block → block < length files) → i < length (pages_of o)
 paged_home files None i pages size near dead within = cc
 paged_home files (Some (Paged ps)) i pages size near dead within = let same : length ps ≡ pages = cc in omega (arith, near, same)
 paged_home files (Some (Filed first count)) i pages size near dead within =
     let same : count ≡ pages = cc in
     let there = in_file first count i (omega (arith, near, same)) in
     absurd (page_there files (first + i) (within (first + i) there) (sym (ap (λ b. shared_page files b None) there) ∙ dead))
+
+pub home_near : {F : Type 0} {d : DeviceGhosts F} (s : Plain F d) (blocks : List Page) (count : ℕ) (k : Key) (a : Area) (i : ℕ) → k ≡ Shared a i → HasHome (store_in s) k → contents_in s k ≡ None → FilesFit (area_in s.areas) s.file_pages.pages.items blocks count → i < length (pages_of (area_in s.areas a.0))
+home_near s blocks count k a i is home dead fit =
+    let own : HasHome (store_in s) (Shared a i) = subst (λ (q : Key). HasHome (store_in s) q) is home in
+    paged_home s.file_pages.pages.items (area_in s.areas a.0) i own.0 own.1.0 own.1.1 (sym (ap (contents_in s) is) ∙ dead) (fit.near a.0 i)
 
 module _ (files : List FilePage) (o : Option AreaPages) (dead : (j : ℕ) → shared_page files (block_at o j) (page_at o j) ≡ None) where
   pub dead_page : (j : ℕ) → page_at o j ≡ None

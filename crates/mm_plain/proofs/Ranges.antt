@@ -1,11 +1,8 @@
 -- Functions of places, changed page by page.
 use Rattle.std.proofs.Common.{◌≡◌, ◌<◌, ℕ, ◌+◌, Bool, true, false, refl, sym, ap, ◌∙◌, arith}
 use Rattle.std.specs.Prelude.{◌&&◌, ◌||◌, ◌==◌, if◌then◌else◌}
-use Rattle.mm_types.specs.Address.{Range, holds_page}
-use Rattle.mm_types.specs.declared.numbers.Pid.{Pid}
-use Rattle.mm_types.specs.declared.numbers.Place.{Place}
-use Rattle.mm_pages.specs.Store.{changed, changed_in, same_place}
-use Rattle.mm_pages.specs.Conditions.{place_at}
+use Rattle.mm_types.specs.{Range, holds_page, Pid, Place}
+use Rattle.mm_pages.specs.{changed, changed_in, same_place, place_at}
 
 abbrev pages : ℕ → ℕ → Range
 pages first count = record { first = first; count = count }

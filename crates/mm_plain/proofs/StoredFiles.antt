@@ -3,17 +3,14 @@ use Rattle.std.proofs.Common.{◌≡◌, ◌≢◌, ◌≤◌, ◌⊎◌, ℕ, �
 use Rattle.std.specs.Prelude.{slice_get, slice_set}
 use Rattle.std.proofs.Math.ListN.{length-set}
 use Rattle.mm_types.specs.declared.devices.Direction.TheVariants as way
-use Rattle.mm_types.proofs.Cells.{same_or_not, get_set_same, get_set_other}
-use Rattle.mm_world.specs.Report.{Tally}
-use Rattle.mm_world.specs.World.{Page}
+use Rattle.mm_types.proofs.{same_or_not, get_set_same, get_set_other}
+use Rattle.mm_world.specs.{Tally, Page}
 use Rattle.std.specs.Prelude.{Result, Ok, Err, OnErr, is_ok}
-use Rattle.mm_blocks.specs.Devices.{DeviceOf, Serves, CallFailed}
-use Rattle.mm_blocks.proofs.Serving.{serves_failed}
-use Rattle.mm_pages.specs.Tallies.{with_outcome, tallied}
-use Rattle.mm_blocks.proofs.Serving.{all_served_then, all_served_one}
-use Rattle.mm_pages.proofs.Served.{tallied_then}
-use Rattle.mm_plain.specs.declared.file_pages.FilePage.{FilePage}
-use Rattle.mm_plain.specs.Files.{Wrote, Stored}
+use Rattle.mm_blocks.specs.{DeviceOf, Serves, CallFailed}
+use Rattle.mm_blocks.proofs.{serves_failed, all_served_then, all_served_one}
+use Rattle.mm_pages.specs.{with_outcome, tallied}
+use Rattle.mm_pages.proofs.{tallied_then}
+use Rattle.mm_plain.specs.{FilePage, Wrote, Stored}
 
 -- ---- what stands in the blocks
 

@@ -1,16 +1,12 @@
 -- Stores that differ in some parts, and what an access that called no device shows.
 use Rattle.std.proofs.Common.{◌≡◌, ℕ, Bool, List, Option, Some, None, refl, sym, ap, ◌∙◌, subst}
-use Rattle.mm_types.specs.declared.moves.LineKind.{LineKind}
-use Rattle.mm_types.specs.declared.numbers.Key.{Key}
-use Rattle.mm_types.specs.declared.numbers.Place.{Place}
-use Rattle.mm_types.specs.Machine.{MachineOf}
-use Rattle.mm_world.specs.Report.{Report, Tally}
-use Rattle.mm_world.specs.World.{Page}
-use Rattle.mm_blocks.specs.Devices.{DeviceOf}
-use Rattle.mm_pages.specs.Reports.{Served, begun, called, fetched, eased}
-use Rattle.mm_pages.specs.Store.{StoreOf, Ready, changed, same_place}
-use Rattle.mm_pages.proofs.Served.{served_nothing}
-use Rattle.mm_plain.specs.Shown.{whereabouts_of, unpaged_report}
+use Rattle.mm_types.specs.{LineKind, Key, Place, MachineOf}
+use Rattle.mm_world.specs.{Tally, Page}
+use Rattle.mm_world.specs.Report.{Report}
+use Rattle.mm_blocks.specs.{DeviceOf}
+use Rattle.mm_pages.specs.{Served, begun, called, fetched, eased, StoreOf, Ready, changed, same_place}
+use Rattle.mm_pages.proofs.{served_nothing}
+use Rattle.mm_plain.specs.{whereabouts_of, unpaged_report}
 
 module _ (machine : MachineOf) (is_open : ℕ → Bool) (file_blocks : List Page) (line : ℕ) (kind : LineKind) (last_pid : ℕ) (ready : Option Ready) (paging_device file_device : DeviceOf) where
   abbrev store_parts : (ℕ → Option ℕ) → (Place → Bool) → (Place → Option Key) → (Key → Bool) → ℕ → ℕ → (Key → Option ℕ) → ℕ → Report → StoreOf
@@ -35,8 +31,8 @@ module _ (machine : MachineOf) (is_open : ℕ → Bool) (file_blocks : List Page
     file_device = file_device;
   }
 
-  pub same_parts : (a a' : ℕ → Option ℕ) (b b' : Place → Bool) (n n' : Place → Option Key) (p p' : Key → Bool) (k k' r r' : ℕ) (o o' : Key → Option ℕ) (u u' : ℕ) (t t' : Report) → a ≡ a' → b ≡ b' → n ≡ n' → p ≡ p' → k ≡ k' → r ≡ r' → o ≡ o' → u ≡ u' → t ≡ t' → store_parts a b n p k r o u t ≡ store_parts a' b' n' p' k' r' o' u' t'
-  same_parts a a' b b' n n' p p' k k' r r' o o' u u' t t' ea eb en ep ek er eo eu et = λ i. store_parts (ea i) (eb i) (en i) (ep i) (ek i) (er i) (eo i) (eu i) (et i)
+  pub same_parts : {a a' : ℕ → Option ℕ} {b b' : Place → Bool} {n n' : Place → Option Key} {p p' : Key → Bool} {k k' r r' : ℕ} {o o' : Key → Option ℕ} {u u' : ℕ} {t t' : Report} → a ≡ a' → b ≡ b' → n ≡ n' → p ≡ p' → k ≡ k' → r ≡ r' → o ≡ o' → u ≡ u' → t ≡ t' → store_parts a b n p k r o u t ≡ store_parts a' b' n' p' k' r' o' u' t'
+  same_parts ea eb en ep ek er eo eu et = λ i. store_parts (ea i) (eb i) (en i) (ep i) (ek i) (er i) (eo i) (eu i) (et i)
 
 -- the report tells of a key only whether it is live
 pub report_kept : (writes : Tally) (contents after : Key → Option Page) → whereabouts_of after ≡ whereabouts_of contents → unpaged_report writes after ≡ unpaged_report writes contents

@@ -1,7 +1,7 @@
 -- What the open areas show, each as a function of the area's number and of an index.
 use Rattle.std.specs.Prelude.{ℕ, ◌+◌, nat_lt, if◌then◌else◌, is_some, List, [], length, Option, Some, None, slice_index_or}
 use Rattle.std.specs.List.{sum_by}
-use Rattle.mm_world.specs.World.{Page}
+use Rattle.mm_world.specs.{Page}
 use Rattle.mm_plain.specs.declared.areas.AreaPages.{AreaPages}
 use Rattle.mm_plain.specs.declared.areas.AreaPages.TheVariants.{Paged, Filed}
 use Rattle.mm_plain.specs.declared.areas.Areas.{Areas}

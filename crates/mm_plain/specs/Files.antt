@@ -1,10 +1,9 @@
 -- The pages of files in memory, and the writes of their blocks.
 use Rattle.std.specs.Prelude.{◌≡◌, ◌<◌, ◌≤◌, ◌⊎◌, ℕ, ◌+◌, ◌%◌, Bool, false, List, length, slice_get, Option, Some, None, unwrap_or}
 use Rattle.mm_types.specs.declared.devices.Direction.TheVariants as way
-use Rattle.mm_world.specs.Report.{Tally}
-use Rattle.mm_world.specs.World.{Page, filled}
-use Rattle.mm_blocks.specs.Devices.{DeviceOf, Call, AllServed}
-use Rattle.mm_pages.specs.Tallies.{tallied}
+use Rattle.mm_world.specs.{Tally, Page, filled}
+use Rattle.mm_blocks.specs.{DeviceOf, Call, AllServed}
+use Rattle.mm_pages.specs.{tallied}
 use Rattle.mm_plain.specs.declared.file_pages.FilePage.{FilePage}
 
 -- a page of which each byte is this one, as its block has it

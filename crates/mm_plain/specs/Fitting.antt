@@ -1,8 +1,7 @@
 -- What holds of what a store keeps.
 use Rattle.std.specs.Prelude.{◌≡◌, ◌<◌, ◌≤◌, ◌+◌, ◌^◌, ℕ, true, false, Some, List, length, slice_get, Option}
-use Rattle.mm_types.specs.declared.numbers.Place.{Place}
-use Rattle.mm_types.specs.Address.{end_of_user_pages}
-use Rattle.mm_world.specs.World.{Page}
+use Rattle.mm_types.specs.{Place, end_of_user_pages}
+use Rattle.mm_world.specs.{Page}
 use Rattle.mm_plain.specs.declared.areas.AreaPages.{AreaPages}
 use Rattle.mm_plain.specs.declared.areas.Areas.{Areas}
 use Rattle.mm_plain.specs.declared.file_pages.FilePage.{FilePage}

@@ -2,10 +2,9 @@
 use Rattle.std.specs.Prelude.{ℕ, Bool, false, if◌then◌else◌, is_some, Option, Some, None}
 use Rattle.std.specs.List.{sum_by}
 use Rattle.std.specs.HashMap.{get, values}
-use Rattle.mm_types.specs.declared.numbers.Key.{Key}
-use Rattle.mm_types.specs.declared.numbers.Place.{Place}
+use Rattle.mm_types.specs.{Key, Place}
 use Rattle.mm_types.specs.contracts.numbers.PlacePartialEq.TheImpl as place_equality
-use Rattle.mm_world.specs.World.{Page}
+use Rattle.mm_world.specs.{Page}
 use Rattle.mm_plain.specs.declared.places.BoundPlace.{BoundPlace}
 use Rattle.mm_plain.specs.declared.places.Places.{Places}
 

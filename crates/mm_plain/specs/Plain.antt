@@ -1,10 +1,10 @@
 -- What an unpaged store shows, out of what it holds.
 use Rattle.std.specs.Prelude.{◌+◌, length, Option}
-use Rattle.mm_types.specs.declared.numbers.Key.{Key}
+use Rattle.mm_types.specs.{Key}
 use Rattle.mm_blocks.specs.declared.Inject.{Ghosts as DeviceGhosts}
-use Rattle.mm_world.specs.World.{Page}
-use Rattle.mm_blocks.specs.Devices.{no_device, device_with}
-use Rattle.mm_pages.specs.Store.{StoreOf}
+use Rattle.mm_world.specs.{Page}
+use Rattle.mm_blocks.specs.{no_device, device_with}
+use Rattle.mm_pages.specs.{StoreOf}
 use Rattle.mm_plain.specs.declared.plain.Plain.{Plain}
 use Rattle.mm_plain.specs.Areas.{area_in, count_in}
 use Rattle.mm_plain.specs.Places.{bound_in, names_in, pages_at, pages_in}

@@ -1,16 +1,12 @@
 -- The parts of what an unpaged store shows.
 use Rattle.std.specs.Prelude.{ℕ, Bool, is_some, List, Option, None, Some, slice_get, option_map}
-use Rattle.mm_types.specs.declared.answers.Counts.{Counts}
+use Rattle.mm_types.specs.{Counts, Key, Place}
 use Rattle.mm_types.specs.declared.answers.Wait.TheVariants as wait
-use Rattle.mm_types.specs.declared.numbers.Key.{Key}
 use Rattle.mm_types.specs.declared.numbers.Key.TheVariants as key
-use Rattle.mm_types.specs.declared.numbers.Place.{Place}
-use Rattle.mm_world.specs.World.{Page}
-use Rattle.mm_world.specs.Report.{Report, Tally, Whereabouts, InFrame}
-use Rattle.mm_pages.specs.Conditions.{need_for}
+use Rattle.mm_world.specs.{Page, Tally, Whereabouts, InFrame}
+use Rattle.mm_world.specs.Report.{Report}
+use Rattle.mm_pages.specs.{need_for, no_calls, Ready}
 use Rattle.mm_plain.specs.declared.plain.Wanted.{Wanted}
-use Rattle.mm_pages.specs.Reports.{no_calls}
-use Rattle.mm_pages.specs.Store.{Ready}
 use Rattle.mm_plain.specs.declared.areas.AreaPages.{AreaPages}
 use Rattle.mm_plain.specs.declared.file_pages.FilePage.{FilePage}
 use Rattle.mm_plain.specs.Areas.{size_of, page_at, block_at}

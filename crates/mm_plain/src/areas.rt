@@ -1,7 +1,6 @@
 ghost use Rattle.std.specs.Prelude.{◌≡◌, ◌+◌, ◌-◌, ◌<◌, ◌≤◌, ◌^◌, ◌==◌, ℕ, Some, None, IsSome, OnOk, OnErr, length, replicate, slice_set, unwrap_or, vec_len};
-ghost use Rattle.mm_world.specs.World.{filled};
-ghost use Rattle.mm_world.specs.Access.{written};
-ghost use Rattle.mm_pages.specs.Store.{changed};
+ghost use Rattle.mm_world.specs.{filled, written};
+ghost use Rattle.mm_pages.specs.{changed};
 ghost use Rattle.mm_plain.specs.declared.areas.AreaPages.TheVariants.{Paged, Filed};
 
 use crate::boxes::PageBox;

@@ -1,6 +1,5 @@
 ghost use Rattle.std.specs.Prelude.{◌≡◌, ◌+◌, ◌≤◌, length, replicate, take, drop, IfOk};
-ghost use Rattle.mm_world.specs.World.{filled};
-ghost use Rattle.mm_world.specs.Access.{written};
+ghost use Rattle.mm_world.specs.{filled, written};
 
 use mm_types::NoMemory;
 use std::alloc::Global;

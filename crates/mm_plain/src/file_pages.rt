@@ -1,6 +1,5 @@
 ghost use Rattle.std.specs.Prelude.{◌≡◌, ◌+◌, ◌<◌, ◌≤◌, ◌%◌, ◌++◌, [], Some, true, false, OnOk, IfOk, length, slice_get, slice_set, vec_len, vec_capacity};
-ghost use Rattle.mm_world.specs.World.{filled};
-ghost use Rattle.mm_world.specs.Access.{written};
+ghost use Rattle.mm_world.specs.{filled, written};
 ghost use Rattle.mm_plain.specs.Files.{IsMade, page_of, changed_of, page_in};
 
 use crate::boxes::PageBox;

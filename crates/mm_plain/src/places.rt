@@ -1,10 +1,8 @@
 ghost use Rattle.std.specs.Prelude.{◌≡◌, ◌+◌, ◌<◌, ◌≤◌, ◌^◌, ℕ, Option, Some, None, true, false, IsSome, OnOk, OnErr, length, unwrap_or};
 ghost use Rattle.std.specs.HashMap.{spare};
-ghost use Rattle.mm_world.specs.World.{filled};
-ghost use Rattle.mm_world.specs.Access.{written};
-ghost use Rattle.mm_types.specs.Address.{holds_page};
-ghost use Rattle.mm_pages.specs.Store.{changed, changed_in, same_place};
-ghost use Rattle.mm_pages.specs.Conditions.{place_at};
+ghost use Rattle.mm_world.specs.{filled, written};
+ghost use Rattle.mm_types.specs.{holds_page};
+ghost use Rattle.mm_pages.specs.{changed, changed_in, same_place, place_at};
 
 use crate::boxes::PageBox;
 use mm_types::{Key, NoMemory, Pid, Place, Vpn};

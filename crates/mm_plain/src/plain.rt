@@ -1,14 +1,9 @@
 ghost use Rattle.std.specs.Prelude.{◌≡◌, ◌+◌, ◌≤◌, ◌<◌, ◌^◌, ℕ, [], true, false, None, Some, IsOk, IsSome, IfOk, IfErr, OnOk, length, unwrap_or, vec_len, vec_capacity};
 ghost use Rattle.mm_types.specs.declared.numbers.Key.TheVariants.{Private, Shared};
-ghost use Rattle.mm_types.specs.Machine.{IsMachine};
-ghost use Rattle.mm_world.specs.World.{filled};
-ghost use Rattle.mm_world.specs.Access.{written};
-ghost use Rattle.mm_world.specs.Failure.{same_key};
-ghost use Rattle.mm_pages.specs.Conditions.{IsNew, pid_after};
-ghost use Rattle.mm_blocks.specs.Devices.{no_device};
-ghost use Rattle.mm_pages.specs.Behind.{nothing_behind};
-ghost use Rattle.mm_pages.specs.Reports.{begun};
-ghost use Rattle.mm_pages.specs.Store.{changed, same_place};
+ghost use Rattle.mm_types.specs.{IsMachine};
+ghost use Rattle.mm_world.specs.{filled, written, same_key};
+ghost use Rattle.mm_pages.specs.{IsNew, pid_after, nothing_behind, begun, changed, same_place};
+ghost use Rattle.mm_blocks.specs.{no_device};
 ghost use Rattle.mm_plain.specs.Areas.{area_in, block_at, page_at, count_in};
 ghost use Rattle.mm_plain.specs.Files.{IsMade};
 ghost use Rattle.mm_plain.specs.Fitting.{Fits, FilesFit};

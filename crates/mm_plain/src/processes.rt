@@ -1,5 +1,5 @@
 ghost use Rattle.std.specs.Prelude.{◌≡◌, ◌==◌};
-ghost use Rattle.mm_pages.specs.Store.{changed};
+ghost use Rattle.mm_pages.specs.{changed};
 
 use mm_types::Pid;
 

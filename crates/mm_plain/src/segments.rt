@@ -1,6 +1,5 @@
 ghost use Rattle.std.specs.Prelude.{◌≡◌, ◌+◌, ◌<◌, ◌≤◌, ◌++◌, Some, None, IsSome, IfOk, OnOk, length, replicate, slice_index_or, slice_set, unwrap_or};
-ghost use Rattle.mm_world.specs.World.{filled};
-ghost use Rattle.mm_world.specs.Access.{written};
+ghost use Rattle.mm_world.specs.{filled, written};
 
 use crate::boxes::PageBox;
 use mm_types::NoMemory;

@@ -1,5 +1,5 @@
 ghost use Rattle.std.specs.Prelude.{◌≡◌, ◌+◌, ◌-◌, ◌<◌, ◌≤◌, IsOk, OnOk};
-ghost use Rattle.mm_world.specs.World.{filled};
+ghost use Rattle.mm_world.specs.{filled};
 ghost use Rattle.mm_plain.specs.Stocks.{StockOf};
 
 use crate::boxes::PageBox;

@@ -1,9 +1,7 @@
 ghost use Rattle.std.specs.Prelude.{◌≡◌, ◌<◌, ◌≤◌, ◌+◌, ◌^◌, ◌⊎◌, ℕ, OnOk, OnErr, is_ok, length, slice_get, slice_set};
 ghost use Rattle.mm_types.specs.declared.devices.Direction.TheVariants as way;
-ghost use Rattle.mm_blocks.specs.Traffic.{is_named};
-ghost use Rattle.mm_blocks.specs.Devices.{Serves, CallFailed, device_with};
-ghost use Rattle.mm_pages.specs.Tallies.{with_outcome};
-ghost use Rattle.mm_pages.specs.Reports.{no_calls};
+ghost use Rattle.mm_blocks.specs.{is_named, Serves, CallFailed, device_with};
+ghost use Rattle.mm_pages.specs.{with_outcome, no_calls};
 ghost use Rattle.mm_plain.specs.Files.{Wrote, Stored};
 
 use crate::boxes::PageBox;
@@ -21,7 +19,7 @@ pub(crate) struct Writes {
 }
 
 impl Model for Writes {
-    ghost use Rattle.mm_world.specs.Report.{Tally};
+    ghost use Rattle.mm_world.specs.{Tally};
 
     ghost Value = { Tally };
 

@@ -35,7 +35,7 @@ use Rattle.std.specs.Prelude.{Option, Some, None}
 use Rattle.std.specs.Mem.{type_size}
 use Rattle.core.proofs.mem.Param.{El, R, el_x, elτ}
 use Rattle.std_alloc.proofs.RcSteps.{Good, word}
-use Rattle.mm_ram.specs.Ownership.{slot, slots, slot_lent, slots_lent}
+use Rattle.mm_ram.specs.{slot, slots, slot_lent, slots_lent}
 use Rattle.mm_ram.specs.contracts.cells.Cells as C-type
 use Rattle.mm_ram.specs.contracts.cells.Base as B-type
 

@@ -4,13 +4,11 @@ use Rattle.std.specs.Prelude.{IsSome, unwrap_or}
 use Rattle.std.proofs.Math.ListN.{get_or-map}
 use Rattle.std.proofs.Math.Seq.{map-set_same}
 use Rattle.std.proofs.lemmas.List.{ext_get_or, get_or_read, set-get_or, length-map, map-set, length-replicate, get_or_past, length-take-le}
-use Rattle.mm_types.proofs.Cells.{same_or_not}
-use Rattle.mm_ram.specs.Ram.{page_at, bytes_of, overwritten, zero_page}
-use Rattle.mm_ram.specs.declared.contents.Contents.{Contents}
+use Rattle.mm_types.proofs.{same_or_not}
+use Rattle.mm_ram.specs.{page_at, bytes_of, overwritten, zero_page, Contents, IsFilled, is_filled, has_bytes, zeroed, backed, shows, shown, ArePlaces}
+use Rattle.mm_ram.specs.{IsRam}
 use Rattle.mm_ram.specs.declared.contents.Contents.TheVariants as contains
-use Rattle.mm_ram.specs.Places.{IsFilled}
-use Rattle.mm_ram.specs.Frames.{is_filled, has_bytes, zeroed, backed, shows, shown, ArePlaces, IsRam}
-use Rattle.mm_types.specs.Address.{page_size}
+use Rattle.mm_types.specs.{page_size}
 
 filled_if : (o : Option (List ℕ)) → is_filled o ≡ true → (x : List ℕ) × (o ≡ Some x)
 filled_if None e = cc
@@ -43,10 +41,10 @@ module _ (places : List (Option (List ℕ))) (contents : List Contents) (filled 
 
 -- what the frames show
 length-shown : (contents : List Contents) (places : List (Option (List ℕ))) → length contents ≡ length places → length (shown contents places) ≡ length places
-length-shown [] [] e = refl
 length-shown [] (p ∷ places) e = absurd (omega arith)
-length-shown (k ∷ contents) [] e = refl
 length-shown (k ∷ contents) (p ∷ places) e = ap suc (length-shown contents places (omega arith))
+length-shown [] [] e = refl
+length-shown (k ∷ contents) [] e = refl
 
 shown_at : (contents : List Contents) (places : List (Option (List ℕ))) (i : ℕ) → length contents ≡ length places → page_at (shown contents places) i ≡ shows (contents_at contents i) (page_at places i)
 shown_at [] places i e = refl
@@ -56,17 +54,17 @@ shown_at (k ∷ contents) (p ∷ places) (suc i) e = shown_at contents places i 
 
 shown_both : (contents : List Contents) (places : List (Option (List ℕ))) (i : ℕ) (k : Contents) (p : Option (List ℕ)) → shown (set contents i k) (set places i p) ≡ set (shown contents places) i (shows k p)
 shown_both [] places i k p = refl
-shown_both (l ∷ contents) [] zero k p = refl
 shown_both (l ∷ contents) [] (suc i) k p = refl
-shown_both (l ∷ contents) (q ∷ places) zero k p = refl
 shown_both (l ∷ contents) (q ∷ places) (suc i) k p = ap (λ (s : List (Option (List ℕ))). shows l q ∷ s) (shown_both contents places i k p)
+shown_both (l ∷ contents) [] zero k p = refl
+shown_both (l ∷ contents) (q ∷ places) zero k p = refl
 
 shown_contents : (contents : List Contents) (places : List (Option (List ℕ))) (i : ℕ) (k : Contents) → shown (set contents i k) places ≡ set (shown contents places) i (shows k (page_at places i))
 shown_contents [] places i k = refl
-shown_contents (l ∷ contents) [] zero k = refl
 shown_contents (l ∷ contents) [] (suc i) k = refl
-shown_contents (l ∷ contents) (q ∷ places) zero k = refl
 shown_contents (l ∷ contents) (q ∷ places) (suc i) k = ap (λ (s : List (Option (List ℕ))). shows l q ∷ s) (shown_contents contents places i k)
+shown_contents (l ∷ contents) [] zero k = refl
+shown_contents (l ∷ contents) (q ∷ places) zero k = refl
 
 shown_place : (contents : List Contents) (places : List (Option (List ℕ))) (i : ℕ) (p : Option (List ℕ)) → contents_at contents i ≡ contains.Bytes → shown contents (set places i p) ≡ set (shown contents places) i p
 shown_place [] places i p e = refl
@@ -76,40 +74,28 @@ shown_place (k ∷ contents) (q ∷ places) (suc i) p e = ap (λ (s : List (Opti
 
 zeroed_shows : (k : Contents) (p : Option (List ℕ)) → shows (zeroed k) p ≡ Some zero_page
 zeroed_shows contains.Unwritten p = refl
-zeroed_shows contains.Zeros p = refl
-zeroed_shows contains.ZerosOver p = refl
-zeroed_shows contains.Bytes p = refl
-zeroed_shows contains.Hidden p = refl
+zeroed_shows _ p = refl
 
 zeroed_has : (k : Contents) → has_bytes (zeroed k) ≡ has_bytes k
 zeroed_has contains.Unwritten = refl
-zeroed_has contains.Zeros = refl
-zeroed_has contains.ZerosOver = refl
-zeroed_has contains.Bytes = refl
-zeroed_has contains.Hidden = refl
+zeroed_has _ = refl
 
 -- a frame that shows something, and not what its place holds, shows zeros
 shows_zeros : (k : Contents) (p : Option (List ℕ)) → IsSome (shows k p) → (k ≡ contains.Bytes → ⊥) → shows k p ≡ Some zero_page
-shows_zeros contains.Unwritten p s n = let bad : false ≡ true = s in cc
 shows_zeros contains.Zeros p s n = refl
 shows_zeros contains.ZerosOver p s n = refl
 shows_zeros contains.Bytes p s n = absurd (n refl)
-shows_zeros contains.Hidden p s n = let bad : false ≡ true = s in cc
+shows_zeros _ p s n = let bad : false ≡ true = s in cc
 
 backed_has : (k : Contents) → has_bytes (backed k) ≡ true
 backed_has contains.Unwritten = refl
-backed_has contains.Zeros = refl
-backed_has contains.ZerosOver = refl
-backed_has contains.Bytes = refl
-backed_has contains.Hidden = refl
+backed_has _ = refl
 
 -- over a place that was empty and has zeros now, the frame shows the same
 backed_shows : (k : Contents) → has_bytes k ≡ false → (p : Option (List ℕ)) → shows (backed k) p ≡ shows k None
 backed_shows contains.Unwritten e p = refl
 backed_shows contains.Zeros e p = refl
-backed_shows contains.ZerosOver e p = cc
-backed_shows contains.Bytes e p = cc
-backed_shows contains.Hidden e p = cc
+backed_shows _ e p = cc
 
 -- a place that holds a page is one of the row's
 filled_low : (slots : List (Option (List ℕ))) (i : ℕ) (x : List ℕ) → page_at slots i ≡ Some x → i < length slots
@@ -128,11 +114,10 @@ zero_long : (page : List ℕ) → Some zero_page ≡ Some page → length page �
 zero_long page e = let is : zero_page ≡ page = cc in ap length (sym is) ∙ zeros_long
 
 shows_whole : (k : Contents) (place : Option (List ℕ)) → ((page : List ℕ) → place ≡ Some page → length page ≡ page_size) → (page : List ℕ) → shows k place ≡ Some page → length page ≡ page_size
-shows_whole contains.Unwritten place whole page e = cc
 shows_whole contains.Zeros place whole page e = zero_long page e
 shows_whole contains.ZerosOver place whole page e = zero_long page e
 shows_whole contains.Bytes place whole page e = whole page e
-shows_whole contains.Hidden place whole page e = cc
+shows_whole _ place whole page e = cc
 
 -- what contracts see: the pages that the contents show over the places
 pub record Seen (places : List (Option (List ℕ))) (contents : List Contents) (ram : List (Option (List ℕ))) : Type 0 where

@@ -4,7 +4,7 @@ use Rattle.std.specs.Prelude.{◌≡◌, ℕ, Bool, true, false, List, [], ◌�
 use Rattle.mm_ram.specs.declared.contents.Contents.{Contents}
 use Rattle.mm_ram.specs.declared.contents.Contents.TheVariants as contains
 use Rattle.mm_ram.specs.Ram.{page_at, zero_page}
-use Rattle.mm_types.specs.Address.{page_size}
+use Rattle.mm_types.specs.{page_size}
 
 abbrev pub is_filled : Option (List ℕ) → Bool
 is_filled None = false

@@ -1,6 +1,6 @@
 -- The bytes of page frames: for each frame its 4,096 bytes, or nothing where it was never written.
 use Rattle.std.specs.Prelude.{ℕ, ◌+◌, List, [], ◌++◌, length, take, drop, replicate, Option, Some, None, slice_index_or, slice_set, unwrap_or}
-use Rattle.mm_types.specs.Address.{page_size}
+use Rattle.mm_types.specs.{page_size}
 
 -- a page of zeros
 unfoldable pub zero_page : List ℕ

@@ -1,11 +1,10 @@
 -- What is blamed, as counts of faults go on.
 use Rattle.std.proofs.Common.{◌≡◌, ◌⊎◌, inl, inr, ℕ, ◌≤◌, Result, Ok, Err, IfErr, sym, subst, ◌∙◌, arith}
-use Rattle.mm_types.specs.Outside.{Rose}
-use Rattle.mm_types.proofs.Bytes.{rose_later, rose_then}
-use Rattle.mm_names.specs.declared.endings.Ending.{Ending}
+use Rattle.mm_types.specs.{Rose}
+use Rattle.mm_types.proofs.{rose_later, rose_then}
+use Rattle.mm_names.specs.{Ending, status_of}
 use Rattle.mm_names.specs.declared.endings.Ending.TheVariants as ending
-use Rattle.mm_names.specs.Runs.{status_of}
-use Rattle.mm_reasons.specs.Forms.{WriteBlamed, Blamed}
+use Rattle.mm_reasons.specs.{WriteBlamed, Blamed}
 
 -- one of the two sinks wrote before
 pub blamed_later : (e : Ending) (a b c x y z : ℕ) → a ≤ b → x ≤ y → WriteBlamed e b c y z → WriteBlamed e a c x z

@@ -1,19 +1,14 @@
 -- How a run ends whose file was read.
 use Rattle.std.proofs.Common.{◌≡◌, ◌⊎◌, inl, inr, ℕ, ◌≤◌, ◌<◌, true, false, List, [], Option, Some, None, sym, refl, subst, ◌∙◌}
-use Rattle.mm_types.specs.Spelling.{Text}
-use Rattle.mm_types.specs.Outside.{Appended, Rose}
-use Rattle.mm_types.specs.declared.events.Event.{Event}
-use Rattle.mm_types.proofs.Bytes.{appended_none}
-use Rattle.mm_io.specs.Io.{Wrote}
-use Rattle.mm_names.specs.declared.endings.Ending.{Ending}
+use Rattle.mm_types.specs.{Text, Appended, Rose, Event}
+use Rattle.mm_types.proofs.{appended_none}
+use Rattle.mm_io.specs.{Wrote}
+use Rattle.mm_names.specs.{Ending, script_of, ScriptOf, is_whole, Ends, most_lines, WasRead, IsWritten, IsRefused, IsManyBytes, IsManyLines, IsTorn}
+use Rattle.mm_names.specs.{Came, status_of}
 use Rattle.mm_names.specs.declared.endings.Ending.TheVariants as ending
-use Rattle.mm_names.specs.Scripts.{script_of}
-use Rattle.mm_names.specs.Stages.{ScriptOf, is_whole, Ends}
-use Rattle.mm_names.specs.Runs.{most_lines, WasRead, IsWritten, IsRefused, IsManyBytes, IsManyLines, IsTorn, Came, status_of}
-use Rattle.mm_names.proofs.Opening.{opens}
-use Rattle.mm_reasons.specs.declared.forms.Form.{Form}
+use Rattle.mm_names.proofs.{opens}
+use Rattle.mm_reasons.specs.{Form, Talked, Ran, RanTalk, RanAs}
 use Rattle.mm_reasons.specs.declared.forms.Form.TheVariants as form
-use Rattle.mm_reasons.specs.Forms.{Talked, Ran, RanTalk, RanAs}
 use Rattle.mm_reasons.proofs.Sayings.{said_none}
 
 -- a script is not both whole and not

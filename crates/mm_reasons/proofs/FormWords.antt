@@ -3,11 +3,10 @@ use Rattle.std.proofs.Common.{◌≡◌, ◌==◌, ◌∙◌, ap, sym, refl, Boo
 use Rattle.std.specs.List.{list_any}
 use Rattle.std.specs.Str.{bytes_eq}
 use Rattle.std.proofs.lemmas.Slice.Eq.{bytes_eq-Decides}
-use Rattle.mm_types.specs.Spelling.{Text}
-use Rattle.mm_forms.specs.declared.forms.Form.{Form}
-use Rattle.mm_forms.specs.Forms.{IsNamed, SaysNone, is_dashed}
+use Rattle.mm_types.specs.{Text}
+use Rattle.mm_forms.specs.{Form, IsNamed, SaysNone, is_dashed}
 use Rattle.mm_reasons.specs.declared.forms.Form.TheVariants as form
-use Rattle.mm_reasons.specs.Forms.{form_named, form_of}
+use Rattle.mm_reasons.specs.{form_named, form_of}
 
 -- The forms `lines` and `talk`, without values.
 pub record AreForms (f g : Form) : Type 0 where

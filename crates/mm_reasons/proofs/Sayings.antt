@@ -1,17 +1,13 @@
 -- Lines of events, one piece after another.
 use Rattle.std.proofs.Common.{◌≡◌, true, false, List, [], ◌∷◌, ◌++◌, Option, Result, Ok, Err, MatchResult, sym, refl, ap, subst, ◌∙◌, append_assoc}
 use Rattle.std.specs.List.{AllByRecursion}
-use Rattle.mm_types.specs.Spelling.{Text}
-use Rattle.mm_types.specs.Outside.{Appended}
-use Rattle.mm_types.specs.declared.events.Event.{Event}
-use Rattle.mm_types.proofs.Bytes.{appended_none, appended_then}
-use Rattle.mm_io.specs.Io.{Wrote}
-use Rattle.mm_script.specs.Printed.{printed, IsWellFormed}
-use Rattle.mm_names.specs.declared.endings.Ending.{Ending}
+use Rattle.mm_types.specs.{Text, Appended, Event}
+use Rattle.mm_types.proofs.{appended_none, appended_then}
+use Rattle.mm_io.specs.{Wrote}
+use Rattle.mm_script.specs.{printed, IsWellFormed}
+use Rattle.mm_names.specs.{Ending, spelled, IsTorn}
 use Rattle.mm_names.specs.declared.endings.Ending.TheVariants as ending
-use Rattle.mm_names.specs.Scripts.{spelled}
-use Rattle.mm_names.specs.Runs.{IsTorn}
-use Rattle.mm_reasons.specs.Forms.{Said, Talked}
+use Rattle.mm_reasons.specs.{Said, Talked}
 
 pub said_none : (a : Option Text) → Said a a
 said_none a = record { events = []; formed = tt; written = appended_none a }

@@ -2,14 +2,10 @@
 -- docs/WRITTEN.md
 use Rattle.std.specs.Prelude.{◌≡◌, ◌⊎◌, ℕ, List, [], ◌∷◌, bytes_eq, if◌then◌else◌, Option, Some, None, codes}
 use Rattle.std.specs.List.{AllByRecursion}
-use Rattle.mm_types.specs.Spelling.{Text}
-use Rattle.mm_types.specs.Outside.{Appended, Rose}
-use Rattle.mm_types.specs.declared.events.Event.{Event}
-use Rattle.mm_script.specs.Printed.{IsWellFormed}
-use Rattle.mm_names.specs.declared.endings.Ending.{Ending}
+use Rattle.mm_types.specs.{Text, Appended, Rose, Event}
+use Rattle.mm_script.specs.{IsWellFormed}
+use Rattle.mm_names.specs.{Ending, spelled, Came, IsTorn, status_of}
 use Rattle.mm_names.specs.declared.endings.Ending.TheVariants as ending
-use Rattle.mm_names.specs.Scripts.{spelled}
-use Rattle.mm_names.specs.Runs.{Came, IsTorn, status_of}
 use Rattle.mm_reasons.specs.declared.forms.Form.{Form}
 use Rattle.mm_reasons.specs.declared.forms.Form.TheVariants as form
 

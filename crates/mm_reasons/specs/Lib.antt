@@ -1,1 +1,3 @@
 pub mod Forms
+pub use Forms.{Blamed, Ran, RanAs, RanTalk, Said, Talked, WriteBlamed, form_named, form_of}
+pub use declared.forms.Form.{Form}

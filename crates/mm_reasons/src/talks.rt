@@ -1,6 +1,6 @@
 ghost use Rattle.std.specs.Prelude.{◌≡◌, ◌≤◌, ℕ, ◌∷◌, ◌++◌, [], IfOk, IfErr, MatchResult};
-ghost use Rattle.mm_script.specs.Printed.{printed, IsWellFormed};
-ghost use Rattle.mm_names.specs.Meaning.{FormedIn};
+ghost use Rattle.mm_script.specs.{printed, IsWellFormed};
+ghost use Rattle.mm_names.specs.{FormedIn};
 ghost use Rattle.mm_reasons.specs.Forms.{Said, Talked, WriteBlamed, Blamed};
 
 use crate::explainers::Explainer;

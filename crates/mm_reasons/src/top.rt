@@ -1,10 +1,7 @@
 ghost use Rattle.std.specs.Prelude.{◌≡◌, ◌⊎◌, ◌≤◌, Option, true, map, string_bytes, is_err};
-ghost use Rattle.mm_types.specs.Spelling.{Text};
-ghost use Rattle.mm_types.specs.Outside.{HasCause, Rose};
-ghost use Rattle.mm_io.specs.Io.{Wrote};
-ghost use Rattle.mm_names.specs.Scripts.{script_of};
-ghost use Rattle.mm_names.specs.Stages.{is_whole, Ends};
-ghost use Rattle.mm_names.specs.Runs.{WasRead, Came, most_lines, status_of};
+ghost use Rattle.mm_types.specs.{Text, HasCause, Rose};
+ghost use Rattle.mm_io.specs.{Wrote};
+ghost use Rattle.mm_names.specs.{script_of, is_whole, Ends, WasRead, Came, most_lines, status_of};
 ghost use Rattle.mm_reasons.specs.Forms.{form_of, RanAs, WriteBlamed, Blamed};
 
 use crate::explainers::explained;

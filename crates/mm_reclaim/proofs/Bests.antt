@@ -3,20 +3,14 @@ use Rattle.std.proofs.Common.{◌≡◌, ℕ, zero, suc, ◌+◌, ◌<◌, Bool,
 use Rattle.std.specs.Prelude.{MatchOption, is_some, ◌&&◌, not}
 use Rattle.std.proofs.Math.Logic.{∥∥₁_elim}
 use Rattle.std.proofs.Props.{props}
-use Rattle.mm_types.specs.declared.numbers.Frame.{Frame}
-use Rattle.mm_types.specs.declared.numbers.Place.{Place}
-use Rattle.mm_life.specs.Life.{FrameLife, set_of}
-use Rattle.mm_life.specs.Legal.{is_above_min}
-use Rattle.mm_words.specs.Words.{place_from}
-use Rattle.mm_laws.proofs.Deduced.{reached_sound}
-use Rattle.mm_laws.proofs.Machines.{in_range}
-use Rattle.mm_life.specs.Order.{Ages, may_go, IsOldest, IsVictim}
-use Rattle.mm_frame_laws.specs.Room.{NoneMayGo}
-use Rattle.mm_frame_laws.specs.Order.{BestBelow, takes_over}
-use Rattle.mm_frame_laws.proofs.Going.{best_kept, best_victim, best_none, best_begins, best_same, best_now, goes_valid}
-use Rattle.mm_moving.specs.Shown.{StateOf}
-use Rattle.mm_moving.specs.Holds.{StateHolds}
-use Rattle.mm_reclaim.specs.Choosing.{NoneIn}
+use Rattle.mm_types.specs.{Frame, Place}
+use Rattle.mm_life.specs.{FrameLife, set_of, is_above_min, Ages, may_go, IsOldest, IsVictim}
+use Rattle.mm_words.specs.{place_from}
+use Rattle.mm_laws.proofs.{reached_sound, in_range}
+use Rattle.mm_frame_laws.specs.{NoneMayGo, BestBelow, takes_over}
+use Rattle.mm_frame_laws.proofs.{best_kept, best_victim, best_none, best_begins, best_same, best_now, goes_valid}
+use Rattle.mm_moving.specs.{StateOf, StateHolds}
+use Rattle.mm_reclaim.specs.{NoneIn}
 
 -- a page that may go is of an open process
 pub goes_open : (s : StateOf) → StateHolds s → (pinned : Option Frame) (q : Place) → may_go s.life pinned q ≡ true → s.is_open q.pid.0 ≡ true

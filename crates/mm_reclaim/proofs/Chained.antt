@@ -1,12 +1,11 @@
 -- The moves of a chore, one after another.
 use Rattle.std.proofs.Common.{◌≡◌, ℕ, suc, ◌+◌, ◌-◌, ◌<◌, ◌≤◌, true, false, List, [], ◌∷◌, ◌++◌, refl, sym, ap, ◌∙◌, subst, append_assoc, arith}
 use Rattle.std.proofs.lemmas.List.{append-nil}
-use Rattle.mm_types.specs.declared.moves.Move.{Move}
-use Rattle.mm_life.specs.Life.{FrameLife}
-use Rattle.mm_moving.specs.Shown.{StateOf, moved}
-use Rattle.mm_moving.specs.Doing.{DoesMoves}
-use Rattle.mm_moving.proofs.Doing.{does_nothing, does_then, does_one}
-use Rattle.mm_reclaim.specs.Chores.{Rounds, RoundsTo}
+use Rattle.mm_types.specs.{Move}
+use Rattle.mm_life.specs.{FrameLife}
+use Rattle.mm_moving.specs.{StateOf, moved, DoesMoves}
+use Rattle.mm_moving.proofs.{does_nothing, does_then, does_one}
+use Rattle.mm_reclaim.specs.{Rounds, RoundsTo}
 
 -- what a move can change, changed twice
 pub moved_then : (s y z : StateOf) → y ≡ moved s y → z ≡ moved y z → z ≡ moved s z

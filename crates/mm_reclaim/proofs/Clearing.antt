@@ -5,13 +5,10 @@ use Rattle.std.specs.Cmp.{unsigned_Decides}
 use Rattle.std.proofs.lemmas.Bool.{and_from, or_left}
 use Rattle.mm_types.specs.declared.moves.LineKind.TheVariants as kind
 use Rattle.mm_types.specs.declared.moves.Move.TheVariants as move
-use Rattle.mm_life.specs.Frames.{is_empty, is_first, rest}
-use Rattle.mm_life.specs.Life.{FrameLife}
-use Rattle.mm_life.specs.Legal.{IsLegal, is_zeroer, is_touch}
-use Rattle.mm_life.specs.Chores.{frame_of, clearings}
-use Rattle.mm_parts.specs.Moves.{front}
-use Rattle.mm_moving.specs.Shown.{StateOf, Made, moved}
-use Rattle.mm_reclaim.specs.Chores.{Rounds}
+use Rattle.mm_life.specs.{is_empty, is_first, rest, FrameLife, IsLegal, is_zeroer, is_touch, frame_of, clearings}
+use Rattle.mm_parts.specs.{front}
+use Rattle.mm_moving.specs.{StateOf, Made, moved}
+use Rattle.mm_reclaim.specs.{Rounds}
 
 front_first : (xs : List ℕ) → is_empty xs ≡ false → is_first (front xs).0 xs ≡ true
 front_first [] e = cc

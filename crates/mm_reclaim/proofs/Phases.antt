@@ -3,40 +3,20 @@ use Rattle.std.proofs.Common.{◌≡◌, ◌⊎◌, ℕ, ◌+◌, ◌<◌, ◌�
 use Rattle.std.specs.Prelude.{◌==◌, ◌&&◌, not, filter, slice_get}
 use Rattle.std.specs.Cmp.{unsigned_Decides}
 use Rattle.std.proofs.lemmas.Bool.{or_left, or_right}
-use Rattle.mm_types.specs.Machine.{IsMachine}
-use Rattle.mm_types.specs.declared.numbers.Frame.{Frame}
-use Rattle.mm_types.specs.declared.numbers.Place.{Place}
-use Rattle.mm_types.specs.declared.moves.Stored.{Stored}
-use Rattle.mm_types.specs.declared.moves.Move.{Move}
+use Rattle.mm_types.specs.{IsMachine, Frame, Place, Stored, Move}
 use Rattle.mm_types.specs.declared.moves.Move.TheVariants as move
-use Rattle.mm_life.specs.Frames.{record_at, is_on, without}
-use Rattle.mm_life.specs.Life.{FrameLife}
-use Rattle.mm_life.specs.Legal.{IsLegal, is_access, is_thread, is_short}
-use Rattle.mm_life.specs.Effect.{after_move}
-use Rattle.mm_life.specs.Replay.{Replays}
-use Rattle.mm_life.specs.Victims.{can_be_written}
-use Rattle.mm_laws.specs.Tally.{one_if, times}
+use Rattle.mm_life.specs.{record_at, is_on, without, FrameLife, IsLegal, is_access, is_thread, is_short, after_move, Replays, can_be_written}
+use Rattle.mm_laws.specs.{one_if, times, at_end_if}
 use Rattle.mm_laws.specs.Reached.{Reached}
 use Rattle.mm_laws.specs.Sound.{Sound}
-use Rattle.mm_laws.specs.Settling.{at_end_if}
-use Rattle.mm_laws.proofs.Tallies.{tally-append, times_on}
-use Rattle.mm_laws.proofs.Deduced.{reached_sound}
-use Rattle.mm_laws.proofs.Kept.{kept_along}
-use Rattle.mm_laws.proofs.Machines.{in_range}
-use Rattle.mm_laws.proofs.PlaceCounts.{has_shares}
-use Rattle.mm_laws.proofs.FromSound.{modified_frame}
-use Rattle.mm_frame_laws.specs.Room.{IsWithinDepth}
-use Rattle.mm_frame_laws.specs.Steps.{list_in_search, is_last, Unmapped, after_failed, put_last}
-use Rattle.mm_frame_laws.specs.Searches.{failed_write, lost_in, Walking, first_passing, is_untried, next_try}
-use Rattle.mm_frame_laws.proofs.Unmapping.{unmapped}
-use Rattle.mm_frame_laws.proofs.Writing.{failed}
-use Rattle.mm_frame_laws.proofs.Walks.{walk_begins, walk_on, walk_passes_all, walk_fails, writes_same, writers_same, on_append, on_last, on_left, lost_still}
-use Rattle.mm_frame_laws.proofs.Turns.{walk_then, turn_kept, turn_failed}
-use Rattle.mm_types.proofs.Bytes.{append_nil}
-use Rattle.mm_reclaim.specs.Seeking.{writable_modified, WalkedTo, SoughtTo}
+use Rattle.mm_laws.proofs.{tally-append, times_on, reached_sound, kept_along, in_range, has_shares, modified_frame}
+use Rattle.mm_frame_laws.specs.{IsWithinDepth, list_in_search, is_last, Unmapped, after_failed, put_last, failed_write, lost_in, Walking}
+use Rattle.mm_frame_laws.specs.{first_passing, is_untried, next_try}
+use Rattle.mm_frame_laws.proofs.{unmapped, failed, walk_begins, walk_on, walk_passes_all, walk_fails, writes_same, writers_same, on_append, on_last}
+use Rattle.mm_frame_laws.proofs.{on_left, lost_still, walk_then, turn_kept, turn_failed, passes_first, passes_none, lost_more, not_lost}
+use Rattle.mm_types.proofs.{append_nil, untried_not, not_true}
+use Rattle.mm_reclaim.specs.{writable_modified, WalkedTo, SoughtTo}
 use Rattle.mm_reclaim.proofs.Writables.{FirstOf, first_of, front_behind, none_passes}
-use Rattle.mm_types.proofs.Booleans.{untried_not, not_true}
-use Rattle.mm_frame_laws.proofs.InOrder.{passes_first, passes_none, lost_more, not_lost}
 
 -- ---- the walk
 

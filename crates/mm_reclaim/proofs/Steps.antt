@@ -1,46 +1,31 @@
 -- The steps of a search: what each adds to its moves.
 use Rattle.std.proofs.Common.{◌≡◌, ◌≢◌, ℕ, ◌+◌, ◌<◌, ◌≤◌, Bool, true, false, List, [], ◌∷◌, ◌++◌, length, Option, Some, None, refl, sym, ap, ◌∙◌, subst, inl, inr, arith}
-use Rattle.std.specs.Prelude.{◌&&◌, ◌||◌, ◌==◌, not, if◌then◌else◌}
+use Rattle.std.specs.Prelude.{◌&&◌, ◌||◌, ◌==◌, not, if◌then◌else◌, count_by}
 use Rattle.std.proofs.lemmas.Bool.{eqb-true}
-use Rattle.mm_types.specs.declared.frames.Backing.{Backing}
+use Rattle.mm_types.specs.{Backing, Frame, Place, Stored, Move, LineKind, MachineOf, Record, Direction}
 use Rattle.mm_types.specs.declared.frames.Backing.TheVariants as backing
-use Rattle.mm_types.specs.declared.numbers.Frame.{Frame}
-use Rattle.mm_types.specs.declared.numbers.Place.{Place}
-use Rattle.mm_types.specs.declared.moves.Stored.{Stored}
-use Rattle.mm_types.specs.declared.moves.Move.{Move}
 use Rattle.mm_types.specs.declared.moves.Move.TheVariants as move
-use Rattle.mm_life.specs.Frames.{record_at, is_on}
-use Rattle.mm_life.specs.Life.{FrameLife}
-use Rattle.mm_types.specs.declared.moves.LineKind.{LineKind}
-use Rattle.mm_types.proofs.Naturals.{same_number}
-use Rattle.mm_life.specs.Legal.{is_short, is_access, is_call}
-use Rattle.mm_types.specs.Machine.{MachineOf}
-use Rattle.mm_life.specs.Victims.{can_be_written}
-use Rattle.mm_life.specs.Walks.{Walk, Through, walked_all, is_wrote_move, is_read_move}
-use Rattle.mm_life.specs.Searches.{SearchMove, writable_in, next_writable, Starved}
-use Rattle.mm_life.specs.Order.{IsVictim, is_frame, is_unpinned}
-use Rattle.mm_pages.proofs.Walking.{through_then, walked_then}
+use Rattle.mm_life.specs.{record_at, is_on, FrameLife, is_short, is_access, is_call, can_be_written, Walk, Through, walked_all, is_wrote_move}
+use Rattle.mm_life.specs.{is_read_move, SearchMove, writable_in, next_writable, Starved, IsVictim, is_frame, is_unpinned}
+use Rattle.mm_types.proofs.{same_number}
+use Rattle.mm_pages.proofs.{through_then, walked_then}
 use Rattle.mm_pages.specs.Told.{Told}
-use Rattle.mm_frame_laws.specs.Room.{NoneMayGo}
-use Rattle.mm_frame_laws.specs.Searches.{lost_in, is_lost_of, failed_write, first_passing, is_untried, next_try}
-use Rattle.mm_frame_laws.proofs.Walks.{any_append, or_none}
-use Rattle.mm_parts.specs.Moves.{write_end, own_after, own_ended}
-use Rattle.mm_moving.specs.Shown.{StateOf, Made, DeviceCalled, moved_with_call, moved, backing_of_frame, SomeFault}
-use Rattle.mm_moving.specs.Holds.{StateHolds}
-use Rattle.mm_moving.specs.Doing.{DoesMoves, walk_of, IsFlightOf, Searched}
-use Rattle.mm_moving.proofs.Doing.{does_nothing, does_one, does_two, does_then, count-append, walked_here}
-use Rattle.mm_reclaim.specs.Seeking.{IsUnderWay, Tries, Seeks}
+use Rattle.mm_frame_laws.specs.{NoneMayGo, lost_in, is_lost_of, failed_write, first_passing, is_untried, next_try, backing_to}
+use Rattle.mm_frame_laws.proofs.{any_append, or_none, write_record}
+use Rattle.mm_parts.specs.{write_end, own_after, own_ended}
+use Rattle.mm_moving.specs.{StateOf, Made, DeviceCalled, moved_with_call, moved, backing_of_frame, SomeFault, StateHolds, DoesMoves, walk_of}
+use Rattle.mm_moving.specs.{IsFlightOf, Searched}
+use Rattle.mm_moving.proofs.{does_nothing, does_one, does_two, does_then, count-append, walked_here}
+use Rattle.mm_reclaim.specs.{IsUnderWay, Tries, Seeks}
 use Rattle.std.proofs.Math.Logic.{∥∥₁_elim}
 use Rattle.std.proofs.Props.{props}
 use Rattle.mm_types.specs.declared.devices.Direction.TheVariants as way
-use Rattle.mm_types.specs.declared.frames.Record.{Record}
 use Rattle.mm_types.specs.declared.moves.Stored.TheVariants as stored
-use Rattle.mm_blocks.specs.Devices.{DeviceOf, CallFailed}
+use Rattle.mm_blocks.specs.{DeviceOf, CallFailed}
 use Rattle.mm_laws.specs.Reached.{Reached}
-use Rattle.mm_laws.proofs.Deduced.{reached_sound}
-use Rattle.mm_frame_laws.specs.Steps.{backing_to}
-use Rattle.mm_frame_laws.proofs.Writing.{write_record}
-use Rattle.mm_blocks.proofs.Serving.{serves_failed, failed_later, all_served_later}
+use Rattle.mm_laws.proofs.{reached_sound}
+use Rattle.mm_blocks.proofs.{serves_failed, failed_later, all_served_later}
+use Rattle.mm_laws.specs.{is_backed}
 
 -- ---- which frame is next
 
@@ -53,21 +38,7 @@ next_is l tried moves same (x ∷ xs) = (λ i. if can_be_written l x && not (sam
 
 search_more : (pin : Option Frame) (flight : List ℕ) (w : Walk) (m : Move) (ms ys : List Move) → SearchMove pin flight w m ms → SearchMove pin flight w m (ms ++ ys)
 search_more pin flight w (move.Write f s) [] ys (a, b, c) = absurd c
-search_more pin flight w (move.Write f s) (x ∷ ms) ys p = p
-search_more pin flight w (move.Wrote f) ms ys p = p
-search_more pin flight w (move.Lost f) ms ys p = p
-search_more pin flight w (move.Unmap q) ms ys p = p
-search_more pin flight w (move.At n k) ms ys p = p
-search_more pin flight w (move.Add k b) ms ys p = p
-search_more pin flight w (move.Drop k) ms ys p = p
-search_more pin flight w (move.Clear f) ms ys p = p
-search_more pin flight w (move.Steal f) ms ys p = p
-search_more pin flight w (move.Give f k) ms ys p = p
-search_more pin flight w (move.Read f k) ms ys p = p
-search_more pin flight w (move.Got f) ms ys p = p
-search_more pin flight w (move.Bad f) ms ys p = p
-search_more pin flight w (move.Map f q) ms ys p = p
-search_more pin flight w (move.Soil f) ms ys p = p
+search_more pin flight w m ms ys p = p
 
 pub searches_then : (pin : Option Frame) (flight : List ℕ) (xs ys : List Move) (w : Walk) → Through (SearchMove pin flight) w xs → Through (SearchMove pin flight) (walked_all w xs) ys → Through (SearchMove pin flight) w (xs ++ ys)
 searches_then pin flight xs ys w p q = through_then (SearchMove pin flight) (search_more pin flight) xs ys w p q
@@ -77,32 +48,22 @@ lost_then xs ys g = any_append (λ m. is_lost_of g m) xs ys
 
 -- ---- one write
 
--- what a write of a modified frame leaves of its record
-pub record Backed (s mid : StateOf) (f : Frame) : Type 0 where
-  pub backed : (record_at mid.life.frames f.0).backing ≢ backing.None
-
-pub backed_mid : (s mid : StateOf) (f : Frame) (home : Stored) → ∥ Reached s.life ∥₁ → is_on f.0 s.life.frames.modified ≡ true → Made (move.Write f home) s mid → Backed s mid f
-backed_mid s mid f home r on m = record { backed = λ none. ∥∥₁_elim r empty_prop (λ h. to (backing_at home h ∙ none)) }
+-- a modified frame that is being written has a home
+pub backed_mid : (s mid : StateOf) (f : Frame) (home : Stored) → ∥ Reached s.life ∥₁ → is_on f.0 s.life.frames.modified ≡ true → Made (move.Write f home) s mid → is_backed (record_at mid.life.frames f.0).backing ≡ true
+backed_mid s mid f home r on m = ∥∥₁_elim r (hlevel props) (λ h.
+    ap (λ (k : FrameLife). is_backed (record_at k.frames f.0).backing) m.life ∙ ap (λ (t : Record). is_backed t.backing) (write_record s.life (reached_sound s.life h) f on home) ∙ at home)
   where
-    empty_prop : IsProp ⊥
-    empty_prop = hlevel props
+    at : (x : Stored) → is_backed (backing_to x) ≡ true
+    at (stored.Slot t) = refl
+    at (stored.Block t) = refl
 
-    backing_at : (x : Stored) → Reached s.life → backing_to home ≡ (record_at mid.life.frames f.0).backing
-    backing_at x h = sym (ap (λ (k : FrameLife). (record_at k.frames f.0).backing) m.life ∙ ap (λ (t : Record). t.backing) (write_record s.life (reached_sound s.life h) f on home))
+-- a device call of a page with a home, where it failed, is a device's failure
+pub fault_by : (w : Direction) (b : Backing) (s z : StateOf) → is_backed b ≡ true → DeviceCalled w b false s z → SomeFault s z
+fault_by w backing.None s z h c = cc
+fault_by w (backing.Slot t) s z h c = inl (serves_failed _ s.paging z.paging c.0 refl)
+fault_by w (backing.Block t) s z h c = inr (serves_failed _ s.files z.files c.0 refl)
 
-    to : backing_to home ≡ backing.None → ⊥
-    to e = by home e
-      where
-        by : (x : Stored) → backing_to x ≡ backing.None → ⊥
-        by (stored.Slot t) e = cc
-        by (stored.Block t) e = cc
-
-called_failed : (b : Backing) (s z : StateOf) → b ≢ backing.None → DeviceCalled way.Write b false s z → SomeFault s z
-called_failed backing.None s z n c = absurd (n refl)
-called_failed (backing.Slot t) s z n c = inl (serves_failed _ s.paging z.paging c.0 refl)
-called_failed (backing.Block t) s z n c = inr (serves_failed _ s.files z.files c.0 refl)
-
-fault_from : (s mid z : StateOf) → mid.paging ≡ s.paging → mid.files ≡ s.files → SomeFault mid z → SomeFault s z
+pub fault_from : (s mid z : StateOf) → mid.paging ≡ s.paging → mid.files ≡ s.files → SomeFault mid z → SomeFault s z
 fault_from s mid z p q (inl x) = inl (subst (λ (d : DeviceOf). CallFailed d z.paging) p x)
 fault_from s mid z p q (inr x) = inr (subst (λ (d : DeviceOf). CallFailed d z.files) q x)
 
@@ -110,7 +71,7 @@ fault_from s mid z p q (inr x) = inr (subst (λ (d : DeviceOf). CallFailed d z.f
 pub write_fault : (f : Frame) (home : Stored) (ok : Bool) (s mid z : StateOf) → StateHolds s → is_on f.0 s.life.frames.modified ≡ true → Made (move.Write f home) s mid → Made (write_end ok f) mid z → ok ≡ false → SomeFault s z
 write_fault f home true s mid z h on b e lost = let bad : true ≡ false = lost in cc
 write_fault f home false s mid z h on b e lost =
-    fault_from s mid z b.calls.0 b.calls.1 (called_failed (backing_of_frame mid f) mid z (backed_mid s mid f home h.reached on b).backed e.calls)
+    fault_from s mid z b.calls.0 b.calls.1 (fault_by way.Write (backing_of_frame mid f) mid z (backed_mid s mid f home h.reached on b) e.calls)
 
 -- the line's own request is over with the write
 own_back : (k : LineKind) (o : Option Frame) (f : Frame) → is_access k ≡ true → o ≡ None → own_ended (own_after k o f) f.0 ≡ o
@@ -136,7 +97,7 @@ begun_then s z b k q m same = record {
   done = ap (λ (t : StateOf). t.own) same ∙ b.done;
 }
 
-called_then : (s y z : StateOf) → y ≡ moved_with_call s y → z ≡ moved_with_call y z → z ≡ moved_with_call s z
+pub called_then : (s y z : StateOf) → y ≡ moved_with_call s y → z ≡ moved_with_call y z → z ≡ moved_with_call s z
 called_then s y z p q = q ∙ (λ i. moved_with_call (p i) z)
 
 pub moved_called : (s z : StateOf) → z ≡ moved s z → z ≡ moved_with_call s z
@@ -146,6 +107,29 @@ moved_called s z e = e ∙ (λ i. record (moved s z) {
   slots = ap (λ (t : StateOf). t.slots) (sym e) i;
   blocks = ap (λ (t : StateOf). t.blocks) (sym e) i;
 })
+
+-- ---- a frame is found
+
+found_by : (pin : Option Frame) (s z : StateOf) (moves : List Move) → DoesMoves moves s z → ((flight : List ℕ) → IsFlightOf flight pin s.life → Through (SearchMove pin flight) (walk_of s) moves) → count_by is_wrote_move moves ≤ 1
+    → count_by is_read_move moves ≡ 0 → is_short z.life ≡ false → z.told.last_failed_read ≡ s.told.last_failed_read → z ≡ moved_with_call s z → Searched pin true s z
+found_by pin s z moves does each one reads found read same = record {
+  moves = moves;
+  does = does;
+  each = each;
+  one = one;
+  no_read = reads;
+  got = λ e. found;
+  short = λ e. cc;
+  lost = λ e. cc;
+  starved = λ e. cc;
+  fails = λ e. cc;
+  fault = λ e. cc;
+  none = λ e. cc;
+  read = read;
+  same = same;
+}
+
+-- ---- a frame is written
 
 -- what is known of the modified frame that is written
 pub record Target (pin : Option Frame) (z : StateOf) (moves : List Move) (f : Frame) : Type 0 where
@@ -237,23 +221,11 @@ module _ (pin : Option Frame) (s z : StateOf) (moves : List Move) (k : Seeks pin
   pub wrote_found : (y : StateOf) → (tries : Tries f true z y) → is_short y.life ≡ false → y.told.last_failed_read ≡ z.told.last_failed_read → Searched pin true s y
   wrote_found y tries found read =
       let more = move.Write f tries.home ∷ move.Wrote f ∷ [] in
-      let two = does_two (move.Write f tries.home) (move.Wrote f) z tries.mid y tries.begins tries.ends in
-      record {
-        moves = moves ++ more;
-        does = does_then moves more s z y k.does two;
-        each = λ flight of. searches_then pin flight moves more (walk_of s) (k.each flight of) (writes_on true tries.home flight of);
-        one = let n = count-append is_wrote_move moves more in let w = k.wrote in omega (arith, n, w);
-        no_read = count-append is_read_move moves more ∙ ap (λ n. n + 0) k.reads;
-        got = λ e. found;
-        short = λ e. cc;
-        lost = λ e. cc;
-        starved = λ e. cc;
-        fails = λ e. cc;
-        fault = λ e. cc;
-        none = λ e. cc;
-        read = read ∙ k.read;
-        same = called_then s z y k.same tries.same;
-      }
+      let n = count-append is_wrote_move moves more in
+      let w = k.wrote in
+      found_by pin s y (moves ++ more) (does_then moves more s z y k.does (does_two (move.Write f tries.home) (move.Wrote f) z tries.mid y tries.begins tries.ends))
+      (λ flight of. searches_then pin flight moves more (walk_of s) (k.each flight of) (writes_on true tries.home flight of))
+      (omega (arith, n, w)) (count-append is_read_move moves more ∙ ap (λ n. n + 0) k.reads) found (read ∙ k.read) (called_then s z y k.same tries.same)
 
 -- ---- an unmap
 
@@ -294,45 +266,18 @@ module _ (pin : Option Frame) (s z y : StateOf) (moves : List Move) (k : Seeks p
 
   -- a frame came of it
   pub unmapped_found : is_short y.life ≡ false → Searched pin true s y
-  unmapped_found found = record {
-    moves = moves ++ move.Unmap p ∷ [];
-    does = does_then moves (move.Unmap p ∷ []) s z y k.does (does_one (move.Unmap p) z y made);
-    each = λ flight of. searches_then pin flight moves (move.Unmap p ∷ []) (walk_of s) (k.each flight of) (unmaps_on flight);
-    one = let n = count-append is_wrote_move moves (move.Unmap p ∷ []) in let w = k.wrote in omega (arith, n, w);
-    no_read = count-append is_read_move moves (move.Unmap p ∷ []) ∙ ap (λ n. n + 0) k.reads;
-    got = λ e. found;
-    short = λ e. cc;
-    lost = λ e. cc;
-    starved = λ e. cc;
-    fails = λ e. cc;
-    fault = λ e. cc;
-    none = λ e. cc;
-    read = ap (λ (t : Told). t.last_failed_read) made.told ∙ k.read;
-    same = called_then s z y k.same (moved_called z y rest);
-  }
+  unmapped_found found =
+      let more = move.Unmap p ∷ [] in
+      let n = count-append is_wrote_move moves more in
+      let w = k.wrote in
+      found_by pin s y (moves ++ more) (does_then moves more s z y k.does (does_one (move.Unmap p) z y made))
+      (λ flight of. searches_then pin flight moves more (walk_of s) (k.each flight of) (unmaps_on flight))
+      (omega (arith, n, w)) (count-append is_read_move moves more ∙ ap (λ n. n + 0) k.reads) found (ap (λ (t : Told). t.last_failed_read) made.told ∙ k.read) (called_then s z y k.same (moved_called z y rest))
 
 -- ---- the ends
 
-same_called : (s : StateOf) → s ≡ moved_with_call s s
-same_called s = refl
-
 pub found_at_once : (pin : Option Frame) (s : StateOf) → is_short s.life ≡ false → Searched pin true s s
-found_at_once pin s found = record {
-  moves = [];
-  does = does_nothing s;
-  each = λ flight of. tt;
-  one = omega arith;
-  no_read = refl;
-  got = λ e. found;
-  short = λ e. cc;
-  lost = λ e. cc;
-  starved = λ e. cc;
-  fails = λ e. cc;
-  fault = λ e. cc;
-  none = λ e. cc;
-  read = refl;
-  same = same_called s;
-}
+found_at_once pin s found = found_by pin s s [] (does_nothing s) (λ flight of. tt) (omega arith) refl found refl refl
 
 -- the pinned frame is the only one that a place may be valid for
 only_pinned : (l : FrameLife) (pin : Option Frame) → NoneMayGo l pin → (p : Place) (f : Frame) → l.valid p ≡ Some f → pin ≡ Some f

@@ -5,39 +5,24 @@ use Rattle.std.proofs.lemmas.Bool.{eqb-true, lt-ltb}
 use Rattle.std.proofs.Math.Logic.{∥∥₁_elim}
 use Rattle.std.proofs.Math.Bool.{Bool-set}
 use Rattle.std.proofs.Props.{props}
-use Rattle.mm_types.specs.declared.frames.Backing.{Backing}
+use Rattle.mm_types.specs.{Backing, Frame, Stored}
 use Rattle.mm_types.specs.declared.frames.Backing.TheVariants as backing
-use Rattle.mm_types.specs.declared.numbers.Frame.{Frame}
-use Rattle.mm_types.specs.declared.moves.Stored.{Stored}
 use Rattle.mm_types.specs.declared.moves.Stored.TheVariants as stored
 use Rattle.mm_types.specs.declared.moves.Move.TheVariants as move
-use Rattle.mm_life.specs.Frames.{record_at, is_on, is_idle, has_request}
-use Rattle.mm_life.specs.Life.{FrameLife}
-use Rattle.mm_life.specs.Legal.{IsLegal}
-use Rattle.mm_life.specs.Victims.{can_be_written}
-use Rattle.mm_laws.specs.FileBlocks.{block_of}
+use Rattle.mm_life.specs.{record_at, is_on, is_idle, has_request, FrameLife, IsLegal, can_be_written}
+use Rattle.mm_laws.specs.{block_of, one_if, times, IsLowest}
 use Rattle.mm_laws.specs.Sound.{Sound}
-use Rattle.mm_laws.specs.Tally.{one_if, times}
-use Rattle.mm_laws.proofs.Deduced.{reached_sound}
-use Rattle.mm_laws.proofs.FromSound.{modified_frame}
-use Rattle.mm_laws.proofs.Lowest.{lowest_is, free_counted}
-use Rattle.mm_laws.proofs.Tallies.{times_on}
-use Rattle.mm_laws.specs.Lowest.{IsLowest}
-use Rattle.mm_slots.specs.Slots.{IsLowest as LowestSlot}
-use Rattle.mm_frame_laws.specs.Room.{Writable}
-use Rattle.mm_frame_laws.proofs.Counting.{on_times}
-use Rattle.mm_frame_laws.proofs.Writing.{which_writes, store_there, wrote_legal, slot_parts, slot_backing, block_is}
-use Rattle.mm_parts.specs.Moves.{goes_to, lowest_free, write_target}
-use Rattle.mm_parts.proofs.Requesting.{lowest_is as lowest_number}
-use Rattle.mm_moving.specs.Shown.{StateOf, Made}
-use Rattle.mm_moving.specs.Holds.{StateHolds}
-use Rattle.mm_reclaim.specs.Seeking.{IsUnderWay}
-
-lt_prop : (a b : ℕ) → IsProp (a < b)
-lt_prop a b = hlevel props
+use Rattle.mm_laws.proofs.{reached_sound, modified_frame, lowest_is, free_counted, times_on}
+use Rattle.mm_slots.specs.{IsLowest as LowestSlot}
+use Rattle.mm_frame_laws.specs.{Writable}
+use Rattle.mm_frame_laws.proofs.{on_times, which_writes, store_there, wrote_legal, slot_parts, slot_backing, block_is}
+use Rattle.mm_parts.specs.{goes_to, lowest_free, write_target}
+use Rattle.mm_parts.proofs.{lowest_is as lowest_number}
+use Rattle.mm_moving.specs.{StateOf, Made, StateHolds}
+use Rattle.mm_reclaim.specs.{IsUnderWay}
 
 pub modified_low : (s : StateOf) → StateHolds s → (f : ℕ) → is_on f s.life.frames.modified ≡ true → f < s.life.machine.frames
-modified_low s h f on = ∥∥₁_elim h.reached (lt_prop f s.life.machine.frames) (λ r.
+modified_low s h f on = ∥∥₁_elim h.reached (hlevel props) (λ r.
     let low = (modified_frame s.life (reached_sound s.life r) f on).low in
     let size = (reached_sound s.life r).framed in
     omega (arith, low, size))

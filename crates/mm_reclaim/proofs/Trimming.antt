@@ -4,39 +4,23 @@ use Rattle.std.specs.Prelude.{◌==◌, ◌&&◌, ◌||◌, is_some, option_map,
 use Rattle.std.specs.Cmp.{unsigned_Decides}
 use Rattle.std.proofs.lemmas.Bool.{and_from, ltb-true, ltb-false}
 use Rattle.std.proofs.Math.Logic.{∥∥₁_elim}
-use Rattle.mm_types.specs.declared.frames.Record.{Record}
+use Rattle.mm_types.specs.{Record, Move, Frame, Pid, Place, Vpn}
 use Rattle.mm_types.specs.declared.moves.LineKind.TheVariants as kind
-use Rattle.mm_types.specs.declared.moves.Move.{Move}
 use Rattle.mm_types.specs.declared.moves.Move.TheVariants as move
-use Rattle.mm_types.specs.declared.numbers.Frame.{Frame}
-use Rattle.mm_types.specs.declared.numbers.Pid.{Pid}
-use Rattle.mm_types.specs.declared.numbers.Place.{Place}
-use Rattle.mm_types.specs.declared.numbers.Vpn.{Vpn}
-use Rattle.mm_life.specs.declared.sets.ResidentSet.{ResidentSet}
-use Rattle.mm_life.specs.Frames.{record_at}
-use Rattle.mm_life.specs.Life.{FrameLife, set_of, same_place}
-use Rattle.mm_life.specs.Legal.{IsLegal, is_above_min, trims, may_unmap}
-use Rattle.mm_life.specs.Effect.{after_move, after_unmap_at}
-use Rattle.mm_laws.specs.Places.{is_of, residents}
+use Rattle.mm_life.specs.{ResidentSet, record_at, FrameLife, set_of, same_place, IsLegal, is_above_min, trims, may_unmap, after_move, after_unmap_at}
+use Rattle.mm_life.specs.{TrimMove, spare_of, Ages, IsOldest, Walk, Through, walked, walked_all}
+use Rattle.mm_laws.specs.{is_of, residents, one_if, tally}
 use Rattle.mm_laws.specs.Sound.{Sound}
-use Rattle.mm_laws.specs.Tally.{one_if, tally}
-use Rattle.mm_laws.proofs.Deduced.{reached_sound}
-use Rattle.mm_laws.proofs.PlaceCounts.{same_place-self}
-use Rattle.mm_life.specs.Chores.{TrimMove, spare_of}
-use Rattle.mm_life.specs.Order.{Ages, IsOldest}
-use Rattle.mm_life.specs.Walks.{Walk, Through, walked, walked_all}
-use Rattle.mm_frame_laws.specs.Order.{IsNextPage, NoPageFollows}
-use Rattle.mm_frame_laws.proofs.Going.{next_oldest, all_go}
-use Rattle.mm_frame_laws.proofs.Unmapping.{sized}
-use Rattle.mm_words.specs.Words.{place_from}
-use Rattle.mm_moving.specs.Shown.{StateOf, Made, moved}
-use Rattle.mm_moving.specs.Doing.{DoesMoves, walk_of}
-use Rattle.mm_moving.specs.Holds.{StateHolds}
-use Rattle.mm_moving.proofs.Doing.{does_nothing, does_then, does_one, walked_here}
-use Rattle.mm_reclaim.specs.Chores.{TrimsOne, UnmapsOldest, Trimmed, TrimsTo}
+use Rattle.mm_laws.proofs.{reached_sound, same_place-self}
+use Rattle.mm_frame_laws.specs.{IsNextPage, NoPageFollows}
+use Rattle.mm_frame_laws.proofs.{next_oldest, all_go, sized}
+use Rattle.mm_words.specs.{place_from}
+use Rattle.mm_moving.specs.{StateOf, Made, moved, DoesMoves, walk_of, StateHolds}
+use Rattle.mm_moving.proofs.{does_nothing, does_then, does_one, walked_here}
+use Rattle.mm_reclaim.specs.{TrimsOne, UnmapsOldest, Trimmed, TrimsTo}
 use Rattle.mm_reclaim.proofs.Chained.{moved_then}
-use Rattle.mm_types.proofs.Booleans.{one_only_if}
-use Rattle.mm_reclaim.proofs.Props.{empty_prop}
+use Rattle.mm_types.proofs.{one_only_if}
+use Rattle.std.proofs.Props.{props}
 
 -- ---- one place
 
@@ -86,7 +70,7 @@ none_of pid valid (x ∷ xs) once none = at (x.pid.0 == pid) refl (none_of pid v
     at false e rest = omega (arith, rest)
 
 pub some_page : (s : StateOf) (pid : Pid) → StateHolds s → is_above_min (set_of s.life pid.0) ≡ true → NoPageFollows s.life s.ages pid.0 None → ⊥
-some_page s pid h above none = ∥∥₁_elim h.reached empty_prop (λ r. by (reached_sound s.life r))
+some_page s pid h above none = ∥∥₁_elim h.reached (hlevel props) (λ r. by (reached_sound s.life r))
   where
     by : Sound s.life → ⊥
     by sound =
@@ -126,21 +110,8 @@ kind_unmapped l place = at (l.valid place)
 
 -- a trim's move says nothing of those after it
 alone : (pid : Pid) (w : Walk) (x : Move) (ms ns : List Move) → TrimMove pid w x ms → TrimMove pid w x ns
-alone pid w (move.At n k) ms ns h = absurd h
-alone pid w (move.Add k b) ms ns h = absurd h
-alone pid w (move.Drop k) ms ns h = absurd h
-alone pid w (move.Clear f) ms ns h = absurd h
-alone pid w (move.Steal f) ms ns h = absurd h
-alone pid w (move.Give f k) ms ns h = absurd h
-alone pid w (move.Read f k) ms ns h = absurd h
-alone pid w (move.Got f) ms ns h = absurd h
-alone pid w (move.Bad f) ms ns h = absurd h
-alone pid w (move.Map f p) ms ns h = absurd h
 alone pid w (move.Unmap p) ms ns h = h
-alone pid w (move.Soil f) ms ns h = absurd h
-alone pid w (move.Write f b) ms ns h = absurd h
-alone pid w (move.Wrote f) ms ns h = absurd h
-alone pid w (move.Lost f) ms ns h = absurd h
+alone pid w x ms ns h = absurd h
 
 through_more : (pid : Pid) (ms : List Move) (w : Walk) (x : Move) → Through (TrimMove pid) w ms → TrimMove pid (walked_all w ms) x [] → Through (TrimMove pid) w (ms ++ x ∷ [])
 through_more pid [] w x t h = (h, tt)

@@ -1,54 +1,42 @@
 -- One frame of the walk, or of a turn, is tried.
-use Rattle.std.proofs.Common.{◌≡◌, ◌≢◌, ℕ, ◌+◌, ◌<◌, ◌≤◌, Bool, true, false, List, [], ◌∷◌, ◌++◌, Option, Some, refl, sym, ap, ◌∙◌, subst, arith}
+use Rattle.std.proofs.Common.{◌≡◌, ℕ, ◌+◌, ◌<◌, ◌≤◌, Bool, true, false, List, [], ◌∷◌, ◌++◌, Option, Some, refl, sym, ap, ◌∙◌, subst, arith}
 use Rattle.std.specs.Prelude.{◌-◌, ◌^◌, min}
 use Rattle.std.proofs.Math.Logic.{∥∥₁_elim}
 use Rattle.std.proofs.Props.{props}
 use Rattle.std.proofs.Math.Bool.{Bool-set}
-use Rattle.mm_types.specs.declared.frames.Backing.{Backing}
+use Rattle.mm_types.specs.{Backing, Frame, Stored, Move}
 use Rattle.mm_types.specs.declared.frames.Backing.TheVariants as backing
-use Rattle.mm_types.specs.declared.numbers.Frame.{Frame}
-use Rattle.mm_types.specs.declared.moves.Stored.{Stored}
 use Rattle.mm_types.specs.declared.moves.Stored.TheVariants as stored
-use Rattle.mm_types.specs.declared.moves.Move.{Move}
 use Rattle.mm_types.specs.declared.moves.Move.TheVariants as move
-use Rattle.mm_life.specs.Frames.{record_at, is_on, without}
-use Rattle.mm_life.specs.Life.{FrameLife}
-use Rattle.mm_life.specs.Legal.{is_short}
-use Rattle.mm_life.specs.Effect.{after_move}
+use Rattle.mm_life.specs.{record_at, is_on, without, FrameLife, is_short, after_move}
 use Rattle.mm_laws.specs.Reached.{Reached}
-use Rattle.mm_laws.specs.Tally.{times}
-use Rattle.mm_laws.proofs.Deduced.{reached_sound}
-use Rattle.mm_laws.proofs.FromSound.{modified_frame}
-use Rattle.mm_laws.proofs.Lists.{begun_ended}
-use Rattle.mm_laws.proofs.Tallies.{times_on}
-use Rattle.mm_frame_laws.specs.Steps.{after_written, after_failed, put_last}
-use Rattle.mm_frame_laws.specs.Searches.{failed_write, next_try}
-use Rattle.mm_frame_laws.proofs.Writing.{failed, written_found}
-use Rattle.mm_pages.specs.Told.{Told, with_write}
-use Rattle.mm_moving.specs.Shown.{StateOf}
-use Rattle.mm_moving.specs.Doing.{Searched}
-use Rattle.mm_reclaim.specs.Seeking.{Tries, Seeks}
+use Rattle.mm_laws.specs.{times, is_backed}
+use Rattle.mm_laws.proofs.{reached_sound, modified_frame, begun_ended, times_on}
+use Rattle.mm_frame_laws.specs.{after_written, after_failed, put_last, failed_write, next_try}
+use Rattle.mm_frame_laws.proofs.{failed, written_found}
+use Rattle.mm_pages.specs.{with_write}
+use Rattle.mm_pages.specs.Told.{Told}
+use Rattle.mm_moving.specs.{StateOf, Searched}
+use Rattle.mm_reclaim.specs.{Tries, Seeks}
 use Rattle.mm_reclaim.proofs.Steps.{Target, Stays, seeks_failed, wrote_found, backed_mid}
+use Rattle.mm_types.proofs.{not_true}
 
 -- ---- what a write tells
 
 pub one_some : (n : ℕ) → 0 < min (n + 1) (2 ^ 64 - 1)
 one_some n = omega arith
 
-told_failed : (b : Backing) (t : Told) → b ≢ backing.None → 0 < (with_write false b t).search_writes.failed
-told_failed backing.None t n = absurd (n refl)
-told_failed (backing.Slot s) t n = one_some t.search_writes.failed
-told_failed (backing.Block c) t n = one_some t.search_writes.failed
+told_failed : (b : Backing) (t : Told) → is_backed b ≡ true → 0 < (with_write false b t).search_writes.failed
+told_failed backing.None t h = cc
+told_failed b t h = one_some t.search_writes.failed
 
 told_none : (b : Backing) (t : Told) → (with_write false b t).search_writes.succeeded ≡ t.search_writes.succeeded
 told_none backing.None t = refl
-told_none (backing.Slot s) t = refl
-told_none (backing.Block c) t = refl
+told_none b t = refl
 
 told_read : (ok : Bool) (b : Backing) (t : Told) → (with_write ok b t).last_failed_read ≡ t.last_failed_read
 told_read ok backing.None t = refl
-told_read ok (backing.Slot s) t = refl
-told_read ok (backing.Block c) t = refl
+told_read ok b t = refl
 
 -- ---- what a write leaves
 
@@ -75,14 +63,8 @@ module _ (f : Frame) (s z : StateOf) (t : Tries f false s z) (reached : ∥ Reac
   same_life : Reached s.life → z.life ≡ put_last s.life f.0
   same_life r = two_life f s z t ∙ failed s.life (reached_sound s.life r) f on t.home t.begins.legal
 
-  nat_set : (a b : ℕ) → IsProp (a ≡ b)
-  nat_set a b = hlevel props
-
-  le_prop : (a b : ℕ) → IsProp (a ≤ b)
-  le_prop a b = hlevel props
-
   off_flight : times f.0 s.life.flight ≡ 0
-  off_flight = ∥∥₁_elim reached (nat_set (times f.0 s.life.flight) 0) (λ r. (modified_frame s.life (reached_sound s.life r) f.0 on).off_flight)
+  off_flight = ∥∥₁_elim reached (hlevel props) (λ r. (modified_frame s.life (reached_sound s.life r) f.0 on).off_flight)
 
   pub stays : Stays s z
   stays = record {
@@ -93,7 +75,7 @@ module _ (f : Frame) (s z : StateOf) (t : Tries f false s z) (reached : ∥ Reac
   }
 
   pub shares_stay : (pin : Option Frame) → ((g : Frame) → pin ≡ Some g → 1 ≤ (record_at s.life.frames g.0).shares) → (g : Frame) → pin ≡ Some g → 1 ≤ (record_at z.life.frames g.0).shares
-  shares_stay pin was g e = ∥∥₁_elim reached (le_prop 1 (record_at z.life.frames g.0).shares) (λ r. subst (λ (l : FrameLife). 1 ≤ (record_at l.frames g.0).shares) (sym (same_life r)) (was g e))
+  shares_stay pin was g e = ∥∥₁_elim reached (hlevel props) (λ r. subst (λ (l : FrameLife). 1 ≤ (record_at l.frames g.0).shares) (sym (same_life r)) (was g e))
 
   pub short_stays : is_short s.life ≡ true → is_short z.life ≡ true
   short_stays e = ∥∥₁_elim reached (Bool-set _ _) (λ r. ap is_short (same_life r) ∙ e)
@@ -102,7 +84,7 @@ module _ (f : Frame) (s z : StateOf) (t : Tries f false s z) (reached : ∥ Reac
   told_is = t.ends.told
 
   pub told_rose : 0 < z.told.search_writes.failed
-  told_rose = subst (λ (x : Told). 0 < x.search_writes.failed) (sym told_is) (told_failed (record_at t.mid.life.frames f.0).backing t.mid.told (backed_mid s t.mid f t.home reached on t.begins).backed)
+  told_rose = subst (λ (x : Told). 0 < x.search_writes.failed) (sym told_is) (told_failed (record_at t.mid.life.frames f.0).backing t.mid.told (backed_mid s t.mid f t.home reached on t.begins))
 
   pub told_kept : z.told.search_writes.succeeded ≡ s.told.search_writes.succeeded
   told_kept = ap (λ (x : Told). x.search_writes.succeeded) told_is ∙ told_none (record_at t.mid.life.frames f.0).backing t.mid.told ∙ ap (λ (x : Told). x.search_writes.succeeded) t.begins.told
@@ -113,11 +95,7 @@ module _ (f : Frame) (s z : StateOf) (t : Tries f false s z) (reached : ∥ Reac
 -- ---- the frame that is tried
 
 on_false : (f : ℕ) (xs : List ℕ) → times f xs ≡ 0 → is_on f xs ≡ false
-on_false f xs none = by (is_on f xs) refl
-  where
-    by : (b : Bool) → is_on f xs ≡ b → b ≡ false
-    by false e = refl
-    by true e = let some = times_on f xs e in absurd (omega (arith, none, some))
+on_false f xs none = not_true (is_on f xs) (λ e. let some = times_on f xs e in absurd (omega (arith, none, some)))
 
 pub target_of : (pin : Option Frame) (z : StateOf) (moves : List Move) (f : Frame) → ∥ Reached z.life ∥₁ → is_on f.0 z.life.frames.modified ≡ true → next_try z.life moves ≡ Some f.0
     → ((g : Frame) → pin ≡ Some g → 1 ≤ (record_at z.life.frames g.0).shares) → Target pin z moves f
@@ -125,11 +103,8 @@ target_of pin z moves f reached on next pinned = record {
   on = on;
   next = next;
   off = ∥∥₁_elim reached (Bool-set _ _) (λ r. on_false f.0 z.life.flight (modified_frame z.life (reached_sound z.life r) f.0 on).off_flight);
-  unpinned = λ e. ∥∥₁_elim reached empty_prop (λ r. let none = (modified_frame z.life (reached_sound z.life r) f.0 on).unshared in let some = pinned f e in absurd (omega (arith, none, some)));
+  unpinned = λ e. ∥∥₁_elim reached (hlevel props) (λ r. let none = (modified_frame z.life (reached_sound z.life r) f.0 on).unshared in let some = pinned f e in absurd (omega (arith, none, some)));
 }
-  where
-    empty_prop : IsProp ⊥
-    empty_prop = hlevel props
 
 -- a write of it that failed, and one that succeeded
 pub failed_on : (pin : Option Frame) (s z y : StateOf) (moves : List Move) (k : Seeks pin s z moves) (f : Frame) → ∥ Reached z.life ∥₁ → Target pin z moves f → (t : Tries f false z y) → Seeks pin s y (moves ++ failed_write f t.home)

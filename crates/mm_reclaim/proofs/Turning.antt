@@ -5,40 +5,21 @@ use Rattle.std.specs.Cmp.{unsigned_Decides}
 use Rattle.std.proofs.lemmas.Bool.{or_left}
 use Rattle.std.proofs.Math.Logic.{∥∥₁_elim, ∥∥₁_map}
 use Rattle.std.proofs.Props.{props}
-use Rattle.mm_types.specs.Machine.{MachineOf}
-use Rattle.mm_types.specs.declared.numbers.Frame.{Frame}
-use Rattle.mm_types.specs.declared.numbers.Place.{Place}
-use Rattle.mm_types.specs.declared.frames.Record.{Record}
-use Rattle.mm_types.specs.declared.moves.Move.{Move}
+use Rattle.mm_types.specs.{MachineOf, Frame, Place, Record, Move}
 use Rattle.mm_types.specs.declared.moves.Move.TheVariants as move
-use Rattle.mm_life.specs.Frames.{record_at, is_on}
-use Rattle.mm_life.specs.Life.{FrameLife}
-use Rattle.mm_life.specs.Legal.{IsLegal, is_short}
-use Rattle.mm_life.specs.Effect.{after_move, after_unmap_at}
-use Rattle.mm_life.specs.Victims.{can_be_written}
+use Rattle.mm_life.specs.{record_at, is_on, FrameLife, IsLegal, is_short, after_move, after_unmap_at, can_be_written, walked_all, IsVictim, may_go}
+use Rattle.mm_life.specs.{is_unpinned, is_frame}
 use Rattle.mm_laws.specs.Reached.{Reached}
-use Rattle.mm_laws.specs.Places.{valid_places}
-use Rattle.mm_laws.proofs.Deduced.{reached_sound, reached_along, reached_next}
-use Rattle.mm_life.specs.Walks.{walked_all}
-use Rattle.mm_life.specs.Order.{IsVictim, may_go, is_unpinned, is_frame}
-use Rattle.mm_frame_laws.specs.Room.{NoneMayGo}
-use Rattle.mm_frame_laws.specs.Steps.{after_failed, Unmapped}
-use Rattle.mm_frame_laws.specs.Searches.{failed_write, lost_in, next_try}
-use Rattle.mm_frame_laws.proofs.Unmapping.{unmapped}
-use Rattle.mm_frame_laws.proofs.Writing.{unmap_legal, failed}
-use Rattle.mm_frame_laws.proofs.Turns.{turns_end}
-use Rattle.mm_moving.specs.Shown.{StateOf, Made, moved}
-use Rattle.mm_moving.specs.Holds.{StateHolds}
-use Rattle.mm_moving.specs.Doing.{Searched, walk_of}
-use Rattle.mm_reclaim.specs.Seeking.{IsUnderWay, Tries, Over, Wrote, Seeks, Seeking, SoughtTo}
-use Rattle.mm_reclaim.specs.Searching.{AfterUnmap, Freed, Unchanged, Changed, TookVictim}
+use Rattle.mm_laws.specs.{valid_places}
+use Rattle.mm_laws.proofs.{reached_sound, reached_along, reached_next}
+use Rattle.mm_frame_laws.specs.{NoneMayGo, after_failed, Unmapped, failed_write, lost_in, next_try}
+use Rattle.mm_frame_laws.proofs.{unmapped, unmap_legal, failed, turns_end}
+use Rattle.mm_moving.specs.{StateOf, Made, moved, StateHolds, Searched, walk_of}
+use Rattle.mm_reclaim.specs.{IsUnderWay, Tries, Over, Wrote, Seeks, SoughtTo, AfterUnmap, Freed, Unchanged, Changed, TookVictim}
+use Rattle.mm_reclaim.specs.Seeking.{Seeking}
 use Rattle.mm_reclaim.proofs.Steps.{Target, Stays, begun_then, moved_called, seeks_unmapped, unmapped_found, starves}
 use Rattle.mm_reclaim.proofs.Trying.{target_of, failed_on, wrote_on, two_life}
 use Rattle.mm_reclaim.proofs.Phases.{none_left, turn_over, tries_now, turn_lost}
-use Rattle.mm_reclaim.proofs.Props.{empty_prop, next_set, nat_set}
-
-le_prop : (a b : ℕ) → IsProp (a ≤ b)
-le_prop a b = hlevel props
 
 pub may_unmap : (s : StateOf) (place : Place) (f : Frame) → IsUnderWay s → is_short s.life ≡ true → s.life.valid place ≡ Some f → IsLegal (move.Unmap place) s.life
 may_unmap s place f begun short there = unmap_legal s.life place f begun.access short there
@@ -82,7 +63,7 @@ module _ (s m : StateOf) (place : Place) (f : Frame) (there : s.life.valid place
 
     -- the pinned frame loses no share
     pub pinned_after : (pin : Option Frame) → may_go s.life pin place ≡ true → ((g : Frame) → pin ≡ Some g → 1 ≤ (record_at s.life.frames g.0).shares) → (g : Frame) → pin ≡ Some g → 1 ≤ (record_at m.life.frames g.0).shares
-    pinned_after pin goes was g e = ∥∥₁_elim h.reached (le_prop 1 (record_at m.life.frames g.0).shares)
+    pinned_after pin goes was g e = ∥∥₁_elim h.reached (hlevel props)
         (λ r. subst (λ (t : Record). 1 ≤ t.shares) (sym ((unmapped_here r).others g.0 other)) (was g e))
       where
         unpinned : not (g.0 == f.0) ≡ true
@@ -92,7 +73,7 @@ module _ (s m : StateOf) (place : Place) (f : Frame) (there : s.life.valid place
         other same = let bad : false ≡ true = sym (ap not ((unsigned_Decides g.0 f.0).1 same)) ∙ unpinned in cc
 
     fewer_after : valid_places m.life + 1 ≡ valid_places s.life
-    fewer_after = ∥∥₁_elim h.reached (nat_set (valid_places m.life + 1) (valid_places s.life)) (λ r. (unmapped_here r).fewer)
+    fewer_after = ∥∥₁_elim h.reached (hlevel props) (λ r. (unmapped_here r).fewer)
 
 -- ---- one turn
 
@@ -108,13 +89,13 @@ module _ (s z : StateOf) (place : Place) (f : Frame) (h : StateHolds s) (there :
       at (Freed long got same) = cc
       at (Unchanged short off miss same) = ap (λ (k : StateOf). valid_places k.life + 1) same ∙ fewer
       at (Changed short on (Over bars miss same)) = ap (λ (k : StateOf). valid_places k.life + 1) same ∙ fewer
-      at (Changed short on (Wrote can w)) = ∥∥₁_elim (reached_after s t.mid place f there t.unmaps h) (nat_set (valid_places z.life + 1) (valid_places s.life))
+      at (Changed short on (Wrote can w)) = ∥∥₁_elim (reached_after s t.mid place f there t.unmaps h) (hlevel props)
           (λ r. ap (λ (k : FrameLife). valid_places k + 1) (two_life f t.mid z w ∙ failed t.mid.life (reached_sound t.mid.life r) f on w.home w.begins.legal) ∙ fewer)
 
 -- a turn of a search that has made these moves
 module _ (pin : Option Frame) (s z y : StateOf) (place : Place) (f : Frame) (start : StateHolds s) (h : StateHolds z) (k : Seeking pin s z) (victim : IsVictim z.life z.ages pin place) (there : z.life.valid place ≡ Some f) where
   none_to_try : next_try z.life k.moves ≡ None
-  none_to_try = ∥∥₁_elim start.reached (next_set (next_try z.life k.moves) None) (λ r. none_left s.life z.life k.moves (reached_sound s.life r) (k.to r))
+  none_to_try = ∥∥₁_elim start.reached (hlevel props) (λ r. none_left s.life z.life k.moves (reached_sound s.life r) (k.to r))
 
   module _ (m : StateOf) (made : Made (move.Unmap place) z m) (rest : m ≡ moved z m) where
     abbrev more : List Move
@@ -138,7 +119,7 @@ module _ (pin : Option Frame) (s z y : StateOf) (place : Place) (f : Frame) (sta
 
     target : is_short m.life ≡ true → is_on f.0 m.life.frames.modified ≡ true → can_be_written m.life f.0 ≡ true → Target pin m more f
     target short on can = target_of pin m more f (reached_after z m place f there made h) on
-        (∥∥₁_elim start.reached (next_set (next_try m.life more) (Some f.0)) (λ r.
+        (∥∥₁_elim start.reached (hlevel props) (λ r.
         ap (λ (l : FrameLife). next_try l more) made.life
         ∙ tries_now s.life z.life k.moves (reached_sound s.life r) (k.to r) place f there (sym (ap (λ (l : FrameLife). is_on f.0 l.frames.modified) made.life) ∙ on) (sym (ap (λ (l : FrameLife). can_be_written l f.0) made.life) ∙ can)))
         pinned_now
@@ -183,7 +164,7 @@ module _ (pin : Option Frame) (s z : StateOf) (start : StateHolds s) (k : Seekin
   tried = (walked_all (walk_of s) k.moves).tried
 
   not_empty : tried ≡ [] → ⊥
-  not_empty e = ∥∥₁_elim start.reached empty_prop (λ r.
+  not_empty e = ∥∥₁_elim start.reached (hlevel props) (λ r.
       let t = turns_end s.life z.life (reached_sound s.life r) k.moves (k.to r).emptying pin none in
       let bad : true ≡ false = sym t.1 ∙ (sym (k.seeks.tried t.0) ∙ ap (is_on t.0) e) in
       cc)
@@ -193,7 +174,7 @@ module _ (pin : Option Frame) (s z : StateOf) (start : StateHolds s) (k : Seekin
   some_lost (x ∷ xs) e = (x, sym (k.seeks.tried x) ∙ (ap (is_on x) e ∙ or_left (x == x) (is_on x xs) ((unsigned_Decides x x).1 refl)))
 
   left : next_try z.life k.moves ≡ None
-  left = ∥∥₁_elim start.reached (next_set (next_try z.life k.moves) None) (λ r. none_left s.life z.life k.moves (reached_sound s.life r) (k.to r))
+  left = ∥∥₁_elim start.reached (hlevel props) (λ r. none_left s.life z.life k.moves (reached_sound s.life r) (k.to r))
 
   pub search_starves : Searched pin false s z
   search_starves =

@@ -3,20 +3,17 @@ use Rattle.std.proofs.Common.{◌≡◌, ℕ, ◌+◌, ◌<◌, ◌≤◌, true,
 use Rattle.std.specs.Prelude.{slice_get}
 use Rattle.std.proofs.Math.Logic.{∥∥₁_elim}
 use Rattle.std.proofs.Math.Bool.{Bool-set}
-use Rattle.mm_types.specs.declared.numbers.Frame.{Frame}
-use Rattle.mm_life.specs.Frames.{record_at, is_on}
-use Rattle.mm_life.specs.Legal.{is_short}
-use Rattle.mm_frame_laws.specs.Room.{Writable}
-use Rattle.mm_frame_laws.specs.Searches.{failed_write, next_try}
-use Rattle.mm_moving.specs.Shown.{StateOf}
-use Rattle.mm_moving.specs.Holds.{StateHolds}
-use Rattle.mm_moving.specs.Doing.{Searched}
-use Rattle.mm_moving.proofs.Doing.{does_nothing}
-use Rattle.mm_reclaim.specs.Seeking.{IsUnderWay, Tries, Seeks, Walks, Seeking, writable_modified}
+use Rattle.mm_types.specs.{Frame}
+use Rattle.mm_life.specs.{record_at, is_on, is_short}
+use Rattle.mm_frame_laws.specs.{Writable, failed_write}
+use Rattle.mm_moving.specs.{StateOf, StateHolds, Searched}
+use Rattle.mm_moving.proofs.{does_nothing}
+use Rattle.mm_reclaim.specs.{IsUnderWay, Tries, Seeks, Walks, writable_modified}
+use Rattle.mm_reclaim.specs.Seeking.{Seeking}
 use Rattle.mm_reclaim.proofs.Steps.{Target}
 use Rattle.mm_reclaim.proofs.Trying.{target_of, failed_on, wrote_on, two_life}
 use Rattle.mm_reclaim.proofs.Phases.{walk_start, walk_done, not_none, on_list, can, tries, walk_lost}
-use Rattle.mm_reclaim.proofs.Props.{empty_prop, next_set}
+use Rattle.std.proofs.Props.{props}
 
 -- a search that has made no move
 seeks_begins : (pin : Option Frame) (s : StateOf) → IsUnderWay s → ((f : Frame) → pin ≡ Some f → 1 ≤ (record_at s.life.frames f.0).shares) → is_short s.life ≡ true → Seeks pin s s []
@@ -56,7 +53,7 @@ walk_ends pin s z n i begun short end w = record {
 module _ (pin : Option Frame) (s z : StateOf) (n i : ℕ) (start : StateHolds s) (w : Walks pin s z n i) (low : i < n) where
   -- there is one while the walk goes on
   pub some_front : None ≡ slice_get (writable_modified z.life) 0 → ⊥
-  some_front e = ∥∥₁_elim start.reached empty_prop (λ r. not_none s.life z.life w.moves n i (w.to r) r w.seeks.does.replays low e)
+  some_front e = ∥∥₁_elim start.reached (hlevel props) (λ r. not_none s.life z.life w.moves n i (w.to r) r w.seeks.does.replays low e)
 
   module _ (f : Frame) (is_front : Some f.0 ≡ slice_get (writable_modified z.life) 0) where
     modified_here : is_on f.0 z.life.frames.modified ≡ true
@@ -71,7 +68,7 @@ module _ (pin : Option Frame) (s z : StateOf) (n i : ℕ) (start : StateHolds s)
     module _ (here : StateHolds z) (y : StateOf) where
       target : Target pin z w.moves f
       target = target_of pin z w.moves f here.reached modified_here
-          (∥∥₁_elim start.reached (next_set (next_try z.life w.moves) (Some f.0)) (λ r. tries s.life z.life w.moves n i (w.to r) r w.seeks.does.replays low f is_front))
+          (∥∥₁_elim start.reached (hlevel props) (λ r. tries s.life z.life w.moves n i (w.to r) r w.seeks.does.replays low f is_front))
           w.seeks.pinned
 
       -- its write succeeded, and failed

@@ -3,15 +3,13 @@ use Rattle.std.proofs.Common.{◌≡◌, ℕ, ◌+◌, ◌≤◌, Bool, true, fa
 use Rattle.std.specs.Prelude.{◌==◌, ◌||◌, not, is_some, filter, slice_get, count_by}
 use Rattle.std.specs.Cmp.{unsigned_Decides}
 use Rattle.std.proofs.lemmas.Bool.{or_left, or_right}
-use Rattle.mm_types.specs.declared.frames.Backing.{Backing}
+use Rattle.mm_types.specs.{Backing}
 use Rattle.mm_types.specs.declared.frames.Backing.TheVariants as backing
-use Rattle.mm_life.specs.Frames.{record_at, is_on}
-use Rattle.mm_life.specs.Victims.{can_be_written}
-use Rattle.mm_laws.specs.FileBlocks.{block_of}
-use Rattle.mm_frames.specs.Base.{has_block, modified_with_block}
-use Rattle.mm_moving.specs.Shown.{StateOf}
-use Rattle.mm_moving.specs.Holds.{StateHolds}
-use Rattle.mm_reclaim.specs.Seeking.{writable_modified}
+use Rattle.mm_life.specs.{record_at, is_on, can_be_written}
+use Rattle.mm_laws.specs.{block_of}
+use Rattle.mm_frames.specs.{has_block, modified_with_block}
+use Rattle.mm_moving.specs.{StateOf, StateHolds}
+use Rattle.mm_reclaim.specs.{writable_modified}
 use Rattle.mm_reclaim.proofs.Targets.{writable_is}
 
 -- ---- lists that a test goes through
@@ -98,8 +96,7 @@ front_behind p (x ∷ xs) ys none =
 
 pub block_is : (b : Backing) → is_some (block_of b) ≡ has_block b
 block_is backing.None = refl
-block_is (backing.Slot t) = refl
-block_is (backing.Block c) = refl
+block_is b = refl
 
 or_false : (a b : Bool) → b ≡ false → (a || b) ≡ a
 or_false true b e = refl

@@ -6,42 +6,27 @@ use Rattle.std.specs.Cmp.{unsigned_Decides}
 use Rattle.std.proofs.lemmas.Bool.{or_left, or_right, lt-ltb}
 use Rattle.std.proofs.Math.Logic.{∥∥₁_elim}
 use Rattle.std.proofs.Math.Bool.{Bool-set}
-use Rattle.mm_types.specs.declared.frames.Backing.{Backing}
+use Rattle.mm_types.specs.{Backing, Record, LineKind, Move, Stored, Frame}
 use Rattle.mm_types.specs.declared.frames.Backing.TheVariants as backing
-use Rattle.mm_types.specs.declared.frames.Record.{Record}
-use Rattle.mm_types.specs.declared.moves.LineKind.{LineKind}
 use Rattle.mm_types.specs.declared.moves.LineKind.TheVariants as kind
-use Rattle.mm_types.specs.declared.moves.Move.{Move}
 use Rattle.mm_types.specs.declared.moves.Move.TheVariants as move
-use Rattle.mm_types.specs.declared.moves.Stored.{Stored}
 use Rattle.mm_types.specs.declared.moves.Stored.TheVariants as stored
-use Rattle.mm_types.specs.declared.numbers.Frame.{Frame}
-use Rattle.mm_life.specs.Frames.{record_at, is_on, without}
-use Rattle.mm_life.specs.Life.{FrameLife}
-use Rattle.mm_life.specs.Legal.{IsLegal, owner_is, is_writer, has_depth}
-use Rattle.mm_life.specs.Effect.{after_move}
-use Rattle.mm_life.specs.Victims.{can_be_written}
-use Rattle.mm_frames.specs.Base.{has_block, modified_with_block}
-use Rattle.mm_laws.specs.FileBlocks.{block_of}
-use Rattle.mm_laws.specs.Tally.{one_if, times}
-use Rattle.mm_laws.proofs.Deduced.{reached_sound}
-use Rattle.mm_laws.proofs.FromSound.{modified_frame}
-use Rattle.mm_laws.proofs.Lists.{without_none, without_append, without_self}
-use Rattle.mm_laws.proofs.Lowest.{free_counted}
-use Rattle.mm_laws.proofs.Tallies.{tally-append}
-use Rattle.mm_life.specs.Chores.{frame_of, lowest_free as lowest_from, target, writes_begun}
-use Rattle.mm_frame_laws.specs.Searches.{first_passing}
-use Rattle.mm_frame_laws.proofs.Writing.{which_writes, store_in_writer, write_others}
-use Rattle.mm_parts.specs.Moves.{goes_to, lowest_free, write_target, own_after}
-use Rattle.mm_moving.specs.Shown.{StateOf, Made, moved}
-use Rattle.mm_moving.specs.Holds.{StateHolds}
-use Rattle.mm_reclaim.specs.Chores.{Rounds, writings}
+use Rattle.mm_life.specs.{record_at, is_on, without, FrameLife, IsLegal, owner_is, is_writer, has_depth, after_move, can_be_written, frame_of}
+use Rattle.mm_life.specs.{lowest_free as lowest_from, target, writes_begun}
+use Rattle.mm_frames.specs.{has_block, modified_with_block}
+use Rattle.mm_laws.specs.{block_of, one_if, times}
+use Rattle.mm_laws.proofs.{reached_sound, modified_frame, without_none, without_append, without_self, free_counted, tally-append}
+use Rattle.mm_frame_laws.specs.{first_passing}
+use Rattle.mm_frame_laws.proofs.{which_writes, store_in_writer, write_others}
+use Rattle.mm_parts.specs.{goes_to, lowest_free, write_target, own_after}
+use Rattle.mm_moving.specs.{StateOf, Made, moved, StateHolds}
+use Rattle.mm_reclaim.specs.{Rounds, writings}
 use Rattle.mm_reclaim.proofs.Targets.{target_is}
-use Rattle.mm_types.proofs.Booleans.{or_false}
+use Rattle.mm_types.proofs.{or_false, and_false}
 use Rattle.mm_reclaim.proofs.Writables.{block_is}
 use Rattle.mm_reclaim.proofs.Trying.{kind_write}
-use Rattle.mm_reclaim.proofs.Props.{nat_set}
-use Rattle.mm_world.proofs.LaidOut.{or-false}
+use Rattle.mm_world.proofs.{or-false}
+use Rattle.std.proofs.Props.{props}
 
 -- ---- the first that passes a test
 
@@ -233,7 +218,7 @@ module _ (s z : StateOf) (f : Frame) (home : Stored) (h : StateHolds s) (depth :
   parts = split (can_be_written s.life) s.life.frames.modified f.0 first
 
   once : times f.0 s.life.frames.modified ≡ 1
-  once = ∥∥₁_elim h.reached (nat_set (times f.0 s.life.frames.modified) 1) (λ r. (modified_frame s.life (reached_sound s.life r) f.0 (passing_on (can_be_written s.life) s.life.frames.modified f.0 first)).once)
+  once = ∥∥₁_elim h.reached (hlevel props) (λ r. (modified_frame s.life (reached_sound s.life r) f.0 (passing_on (can_be_written s.life) s.life.frames.modified f.0 first)).once)
 
   goes : home ≡ target (record_at s.life.frames f.0).backing s.life
   goes = to ∙ target_same (record_at s.life.frames f.0).backing s.life
@@ -267,11 +252,7 @@ pub writes_none : (s : StateOf) → first_passing (can_be_written s.life) s.life
 writes_none s e = (λ n. none_begun n s.life s.life.frames.modified e, refl)
 
 pub writes_full : (s : StateOf) → has_depth s.life ≡ false → Rounds writings false s s
-writes_full s e = (λ n. stopped n s.life s.life.frames.modified (ap (λ b. nat_lt 0 n && b) e ∙ and_nothing (nat_lt 0 n)), refl)
-  where
-    and_nothing : (b : Bool) → (b && false) ≡ false
-    and_nothing true = refl
-    and_nothing false = refl
+writes_full s e = (λ n. stopped n s.life s.life.frames.modified (ap (λ b. nat_lt 0 n && b) e ∙ and_false (nat_lt 0 n)), refl)
 
 pub no_writing : (l : FrameLife) → writings 0 l ≡ []
 no_writing l = stopped 0 l l.frames.modified refl

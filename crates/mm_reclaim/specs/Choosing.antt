@@ -1,13 +1,9 @@
 -- Which place a search unmaps, as the code finds it.
 -- Profile, "Which frame moves, and when".
 use Rattle.std.specs.Prelude.{◌≡◌, ◌<◌, ◌-◌, ◌+◌, ◌*◌, ℕ, true, false, is_some, Option, Some, None}
-use Rattle.mm_types.specs.declared.numbers.Frame.{Frame}
-use Rattle.mm_types.specs.declared.numbers.Pid.{Pid}
-use Rattle.mm_types.specs.declared.numbers.Vpn.{Vpn}
-use Rattle.mm_types.specs.declared.numbers.Place.{Place}
-use Rattle.mm_life.specs.Life.{FrameLife}
-use Rattle.mm_life.specs.Order.{Ages, may_go}
-use Rattle.mm_words.specs.Words.{place_from}
+use Rattle.mm_types.specs.{Frame, Pid, Vpn, Place}
+use Rattle.mm_life.specs.{FrameLife, Ages, may_go}
+use Rattle.mm_words.specs.{place_from}
 
 -- no page of the process may go
 abbrev pub NoneIn : FrameLife → Option Frame → ℕ → Type 0

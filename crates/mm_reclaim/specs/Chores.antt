@@ -1,17 +1,10 @@
 -- What chores do to the joined state: places are unmapped, frames cleared, writes begun.
 -- Profile, "Which frame moves, and when".
 use Rattle.std.specs.Prelude.{◌≡◌, ◌+◌, ◌-◌, ℕ, suc, Bool, true, false, List, [], ◌∷◌, ◌++◌, length, min, None}
-use Rattle.mm_types.specs.declared.moves.Move.{Move}
+use Rattle.mm_types.specs.{Move, Pid, Place}
 use Rattle.mm_types.specs.declared.moves.Move.TheVariants as move
-use Rattle.mm_types.specs.declared.numbers.Pid.{Pid}
-use Rattle.mm_types.specs.declared.numbers.Place.{Place}
-use Rattle.mm_life.specs.Life.{FrameLife, set_of}
-use Rattle.mm_life.specs.Legal.{is_above_min}
-use Rattle.mm_life.specs.Chores.{TrimMove, spare_of, writes_begun}
-use Rattle.mm_life.specs.Order.{IsOldest}
-use Rattle.mm_life.specs.Walks.{Through}
-use Rattle.mm_moving.specs.Shown.{StateOf, Made, moved}
-use Rattle.mm_moving.specs.Doing.{DoesMoves, walk_of}
+use Rattle.mm_life.specs.{FrameLife, set_of, is_above_min, TrimMove, spare_of, writes_begun, IsOldest, Through}
+use Rattle.mm_moving.specs.{StateOf, Made, moved, DoesMoves, walk_of}
 
 -- ---- places of a process are unmapped
 

@@ -1,13 +1,10 @@
 -- One turn of a search: a place is unmapped, and its frame written where it can be.
 -- Profile, "Which frame moves, and when".
 use Rattle.std.specs.Prelude.{◌≡◌, Bool, true, false}
-use Rattle.mm_types.specs.declared.numbers.Frame.{Frame}
-use Rattle.mm_types.specs.declared.numbers.Place.{Place}
+use Rattle.mm_types.specs.{Frame, Place}
 use Rattle.mm_types.specs.declared.moves.Move.TheVariants as move
-use Rattle.mm_life.specs.Frames.{is_on, is_empty}
-use Rattle.mm_life.specs.Life.{FrameLife}
-use Rattle.mm_life.specs.Legal.{is_short}
-use Rattle.mm_moving.specs.Shown.{StateOf, Made, moved}
+use Rattle.mm_life.specs.{is_on, is_empty, FrameLife, is_short}
+use Rattle.mm_moving.specs.{StateOf, Made, moved}
 use Rattle.mm_reclaim.specs.declared.searching.Found.{Found}
 use Rattle.mm_reclaim.specs.declared.searching.Found.TheVariants as found
 use Rattle.mm_reclaim.specs.Seeking.{Tried}

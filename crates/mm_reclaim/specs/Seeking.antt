@@ -1,21 +1,14 @@
 -- What a search has come to.
 -- Profile, "Which frame moves, and when".
 use Rattle.std.specs.Prelude.{◌≡◌, ◌≤◌, ◌<◌, ◌+◌, ℕ, Bool, true, false, List, length, count_by, filter, Option, Some, None}
-use Rattle.mm_types.specs.declared.numbers.Frame.{Frame}
-use Rattle.mm_types.specs.declared.moves.Stored.{Stored}
-use Rattle.mm_types.specs.declared.moves.Move.{Move}
+use Rattle.mm_types.specs.{Frame, Stored, Move}
 use Rattle.mm_types.specs.declared.moves.Move.TheVariants as move
-use Rattle.mm_life.specs.Frames.{record_at, is_on}
-use Rattle.mm_life.specs.Life.{FrameLife}
-use Rattle.mm_life.specs.Legal.{is_access, is_short}
-use Rattle.mm_life.specs.Victims.{can_be_written}
-use Rattle.mm_life.specs.Walks.{Through, walked_all, is_wrote_move, is_read_move}
-use Rattle.mm_life.specs.Searches.{SearchMove}
+use Rattle.mm_life.specs.{record_at, is_on, FrameLife, is_access, is_short, can_be_written, Through, walked_all, is_wrote_move, is_read_move}
+use Rattle.mm_life.specs.{SearchMove}
 use Rattle.mm_laws.specs.Reached.{Reached}
-use Rattle.mm_frame_laws.specs.Searches.{lost_in, Walking, Emptying}
-use Rattle.mm_parts.specs.Moves.{write_end}
-use Rattle.mm_moving.specs.Shown.{StateOf, Made, moved_with_call, SomeFault}
-use Rattle.mm_moving.specs.Doing.{DoesMoves, walk_of, IsFlightOf}
+use Rattle.mm_frame_laws.specs.{lost_in, Walking, Emptying}
+use Rattle.mm_parts.specs.{write_end}
+use Rattle.mm_moving.specs.{StateOf, Made, moved_with_call, SomeFault, DoesMoves, walk_of, IsFlightOf}
 
 -- a plain access is under way, without a request of its own, and at most depth requests are in
 -- flight

@@ -1,9 +1,8 @@
 ghost use Rattle.std.specs.Prelude.{◌≡◌, ◌+◌, ℕ, true, false, Some, None, MatchOption};
 ghost use Rattle.std.specs.Option.{ForSome};
-ghost use Rattle.mm_types.specs.declared.numbers.Place.{Place};
-ghost use Rattle.mm_life.specs.Order.{may_go as goes, IsOldest, IsVictim};
-ghost use Rattle.mm_frame_laws.specs.Room.{NoneMayGo};
-ghost use Rattle.mm_frame_laws.specs.Order.{takes_over as takes, BestBelow};
+ghost use Rattle.mm_types.specs.{Place};
+ghost use Rattle.mm_life.specs.{may_go as goes, IsOldest, IsVictim};
+ghost use Rattle.mm_frame_laws.specs.{NoneMayGo, takes_over as takes, BestBelow};
 ghost use Rattle.mm_reclaim.specs.Choosing.{NoneIn};
 
 use mm_moving::Moving;

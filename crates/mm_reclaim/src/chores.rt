@@ -1,10 +1,8 @@
 ghost use Rattle.std.specs.Prelude.{◌≡◌, true, option_map};
 ghost use Rattle.mm_types.specs.declared.moves.LineKind.TheVariants as kind;
-ghost use Rattle.mm_life.specs.Victims.{can_be_written as writable};
-ghost use Rattle.mm_life.specs.Chores.{clearings, writes_begun};
-ghost use Rattle.mm_frame_laws.specs.Searches.{first_passing};
-ghost use Rattle.mm_moving.specs.Shown.{moved};
-ghost use Rattle.mm_moving.specs.Doing.{DoesMoves};
+ghost use Rattle.mm_life.specs.{can_be_written as writable, clearings, writes_begun};
+ghost use Rattle.mm_frame_laws.specs.{first_passing};
+ghost use Rattle.mm_moving.specs.{moved, DoesMoves};
 ghost use Rattle.mm_reclaim.specs.Chores.{TrimsOne, Trimmed, Rounds, writings};
 
 use mm_moving::Moving;

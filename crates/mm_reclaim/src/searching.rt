@@ -1,10 +1,8 @@
 ghost use Rattle.std.specs.Prelude.{◌≡◌, ◌≤◌, ◌<◌, ◌&&◌, ◌==◌, not, is_some, is_ok, IfOk, length, option_map, slice_get, true, false, Some, None};
 ghost use Rattle.std.specs.Bool.{OnTrue, OnFalse};
-ghost use Rattle.mm_types.specs.declared.numbers.Frame.{Frame};
-ghost use Rattle.mm_life.specs.Frames.{record_at, is_on, has_request};
-ghost use Rattle.mm_life.specs.Legal.{is_access, is_short as lists_are_empty};
-ghost use Rattle.mm_life.specs.Order.{may_go as goes};
-ghost use Rattle.mm_moving.specs.Doing.{Searched};
+ghost use Rattle.mm_types.specs.{Frame};
+ghost use Rattle.mm_life.specs.{record_at, is_on, has_request, is_access, is_short as lists_are_empty, may_go as goes};
+ghost use Rattle.mm_moving.specs.{Searched};
 ghost use Rattle.mm_reclaim.specs.Seeking.{IsUnderWay, Seeking, writable_modified};
 ghost use Rattle.mm_reclaim.specs.Searching.{IsFirstList, TookVictim};
 

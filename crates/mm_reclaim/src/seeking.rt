@@ -1,8 +1,7 @@
 ghost use Rattle.std.specs.Prelude.{◌≡◌, ◌||◌, ◌==◌, not, is_some, true};
-ghost use Rattle.mm_life.specs.Frames.{is_on};
-ghost use Rattle.mm_life.specs.Victims.{can_be_written as writable};
-ghost use Rattle.mm_laws.specs.FileBlocks.{block_of};
-ghost use Rattle.mm_frame_laws.specs.Room.{Writable};
+ghost use Rattle.mm_life.specs.{is_on, can_be_written as writable};
+ghost use Rattle.mm_laws.specs.{block_of};
+ghost use Rattle.mm_frame_laws.specs.{Writable};
 ghost use Rattle.mm_reclaim.specs.Seeking.{IsUnderWay, Tries, Tried};
 
 use mm_moving::Moving;

@@ -3,19 +3,11 @@ use Rattle.std.proofs.Common.{◌≡◌, ℕ, zero, suc, ◌<◌, Bool, true, fa
 use Rattle.std.specs.Prelude.{replicate, slice_set, slice_index_or, ◌==◌}
 use Rattle.std.proofs.lemmas.List.{get_or-set_same, get_or-set_other}
 use Rattle.std.specs.Cmp.{unsigned_Decides}
-use Rattle.mm_types.proofs.Cells.{same_or_not}
-use Rattle.mm_types.proofs.Tables.{differ}
-use Rattle.mm_types.specs.Machine.{MachineOf}
-use Rattle.mm_types.specs.declared.numbers.Frame.{Frame}
-use Rattle.mm_types.specs.declared.numbers.Key.{Key}
-use Rattle.mm_types.specs.declared.numbers.Place.{Place}
-use Rattle.mm_types.specs.declared.frames.Held.{Held}
+use Rattle.mm_types.proofs.{same_or_not, differ}
+use Rattle.mm_types.specs.{MachineOf, Frame, Key, Place, Held, LineKind}
 use Rattle.mm_types.specs.declared.frames.Held.TheVariants as held
-use Rattle.mm_types.specs.declared.moves.LineKind.{LineKind}
-use Rattle.mm_life.specs.declared.sets.ResidentSet.{ResidentSet}
-use Rattle.mm_life.specs.Frames.{FrameTable}
-use Rattle.mm_life.specs.Life.{changed, free_table, life_at}
-use Rattle.mm_replay.specs.Replaying.{flagged}
+use Rattle.mm_life.specs.{ResidentSet, FrameTable, changed, free_table, life_at}
+use Rattle.mm_replay.specs.{flagged}
 
 none_at : (n k : ℕ) → slice_index_or (replicate n false) k false ≡ false
 none_at zero k = refl

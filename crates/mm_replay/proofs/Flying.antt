@@ -1,12 +1,10 @@
 -- The list of the frames with a request, and their flags.
 use Rattle.std.proofs.Common.{◌≡◌, ℕ, zero, suc, ◌<◌, Bool, true, false, List, [], ◌∷◌, ◌++◌, length, get_or, set, map, Some, None, refl, sym, ap, ◌∙◌, inl, inr, arith, length-set, get_or-set_same, get_or-set_other}
 use Rattle.std.specs.Prelude.{slice_get}
-use Rattle.mm_types.proofs.Cells.{same_or_not}
-use Rattle.mm_lists.specs.Lists.{ListsOf, IsOnNone, IsOnOne, list_at, number_at, with_list, without}
-use Rattle.mm_lists.proofs.Cuts.{without_other}
-use Rattle.mm_lists.proofs.Standing.{list_within}
-use Rattle.mm_replay.specs.Flying.{no_requests, flight_of, IsOne, AreFlagged}
-use Rattle.mm_lists.proofs.Members.{without_removes, push_found, push_keeps, push_new}
+use Rattle.mm_types.proofs.{same_or_not}
+use Rattle.mm_lists.specs.{ListsOf, IsOnNone, IsOnOne, list_at, number_at, with_list, without}
+use Rattle.mm_lists.proofs.{without_other, list_within, without_removes, push_found, push_keeps, push_new}
+use Rattle.mm_replay.specs.{no_requests, flight_of, IsOne, AreFlagged}
 
 none_requested : (j k g : ℕ) → number_at no_requests.lists j k ≡ Some g → ⊥
 none_requested zero k g e = let bad : None ≡ Some g = e in cc

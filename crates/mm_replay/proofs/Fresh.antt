@@ -2,13 +2,11 @@
 use Rattle.std.proofs.Common.{◌≡◌, ℕ, zero, suc, ◌+◌, ◌<◌, List, [], drop, replicate, Some, None, refl, sym, ap, ◌∙◌, arith}
 use Rattle.std.specs.Prelude.{slice_get}
 use Rattle.std.proofs.lemmas.List.{length-replicate}
-use Rattle.mm_types.specs.declared.frames.Record.{Record}
-use Rattle.mm_life.specs.Frames.{blank}
-use Rattle.mm_life.specs.Life.{numbers_from}
-use Rattle.mm_life.proofs.Numbers.{numbers_in, numbers_at}
-use Rattle.mm_life.proofs.Records.{all_blank}
-use Rattle.mm_lists.specs.Lists.{ListsOf, IsOnNone, IsOnOne, list_at, number_at, with_list}
-use Rattle.mm_replay.specs.Listed.{free_alone, no_lists, AreFour, belongs, is_owned, Kept}
+use Rattle.mm_types.specs.{Record}
+use Rattle.mm_life.specs.{blank, numbers_from}
+use Rattle.mm_life.proofs.{numbers_in, numbers_at, all_blank}
+use Rattle.mm_lists.specs.{ListsOf, IsOnNone, IsOnOne, list_at, number_at, with_list}
+use Rattle.mm_replay.specs.{free_alone, no_lists, AreFour, belongs, is_owned, Kept}
 
 pub alone : (xs : List ℕ) (j k g : ℕ) → number_at (free_alone xs) j k ≡ Some g → (j ≡ 1) × (slice_get xs k ≡ Some g)
 alone xs zero k g e = let bad : None ≡ Some g = e in cc

@@ -2,22 +2,12 @@
 use Rattle.std.proofs.Common.{◌≡◌, ℕ, Bool, true, false, cond, Option, Some, None, refl, sym, ap, ◌∙◌, subst}
 use Rattle.std.specs.Prelude.{◌&&◌, ◌==◌, is_some}
 use Rattle.std.proofs.lemmas.Bool.{eqb-true, and_parts}
-use Rattle.mm_types.specs.declared.numbers.Frame.{Frame}
-use Rattle.mm_types.specs.declared.numbers.Key.{Key}
+use Rattle.mm_types.specs.{Frame, Key, Place, Pid, Vpn, Area, Held}
 use Rattle.mm_types.specs.declared.numbers.Key.TheVariants.{Private, Shared}
-use Rattle.mm_types.specs.declared.numbers.Place.{Place}
-use Rattle.mm_types.specs.declared.numbers.Pid.{Pid}
-use Rattle.mm_types.specs.declared.numbers.Vpn.{Vpn}
-use Rattle.mm_types.specs.declared.numbers.Area.{Area}
-use Rattle.mm_life.specs.Life.{changed, same_key, same_place, is_dead}
-use Rattle.mm_replay.specs.declared.holdings.Alive.{Alive}
+use Rattle.mm_life.specs.{changed, same_key, same_place, is_dead}
+use Rattle.mm_replay.specs.{Alive, pid, vpn, area, Writes, Keeps, found, alive_at, Written, Stays, held_of, paging_of, no_keys, no_paging, no_places}
 use Rattle.mm_replay.specs.declared.pairs.Pairs.{Pairs}
 use Rattle.mm_replay.proofs.Outcomes.{kept_at}
-use Rattle.mm_replay.specs.Reading.{pid, vpn, area}
-use Rattle.mm_replay.specs.OrderedPairs.{Writes, Keeps}
-use Rattle.mm_replay.specs.Pairs.{found}
-use Rattle.mm_replay.specs.Holdings.{alive_at, Written, Stays, held_of, paging_of, no_keys, no_paging, no_places}
-use Rattle.mm_types.specs.declared.frames.Held.{Held}
 
 -- ---- two tables of keys as one
 

@@ -6,9 +6,9 @@ use Rattle.std.specs.declared.vec.Vec.{Vec}
 use Rattle.std.proofs.lemmas.Bool.{cases_lt, cases_eq, ltb-true, lt-ltb, eqb-true, eq-eqb, ne_eqb, cond-true, cond-false}
 use Rattle.std.proofs.lemmas.List.{get_or_past, get_or_append_left, get_or-append_right, get_or-replicate, get_or_read, length-replicate, take_all}
 use Rattle.std.proofs.lemmas.Option.{slice_get_read, slice_get_past}
-use Rattle.mm_types.proofs.Cells.{get_set_same, get_set_other}
+use Rattle.mm_types.proofs.{get_set_same, get_set_other}
 use Rattle.mm_replay.proofs.Outcomes.{kept_at}
-use Rattle.mm_replay.specs.Grids.{in_leaf, leaf_len, in_leaves, HasPlace, Sets, Same}
+use Rattle.mm_replay.specs.{in_leaf, leaf_len, in_leaves, HasPlace, Sets, Same}
 
 -- ---- functions of numbers
 

@@ -4,22 +4,14 @@ use Rattle.std.specs.Prelude.{◌==◌, not, codes}
 use Rattle.std.specs.List.{AllByRecursion, list_all}
 use Rattle.std.proofs.lemmas.Bool.{and_parts}
 use Rattle.std.specs.Cmp.{unsigned_Decides}
-use Rattle.mm_types.specs.Spelling.{Text, decimal}
-use Rattle.mm_types.specs.declared.numbers.Block.{Block}
-use Rattle.mm_types.specs.declared.numbers.Key.{Key}
+use Rattle.mm_types.specs.{Text, decimal, Block, Key, Place, LineKind, Stored, Move}
 use Rattle.mm_types.specs.declared.numbers.Key.TheVariants.{Private, Shared}
-use Rattle.mm_types.specs.declared.numbers.Place.{Place}
-use Rattle.mm_types.specs.declared.moves.LineKind.{LineKind}
 use Rattle.mm_types.specs.declared.moves.LineKind.TheVariants as kind
-use Rattle.mm_types.specs.declared.moves.Stored.{Stored}
 use Rattle.mm_types.specs.declared.moves.Stored.TheVariants as stored
-use Rattle.mm_types.specs.declared.moves.Move.{Move}
 use Rattle.mm_types.specs.declared.moves.Move.TheVariants as move
-use Rattle.mm_text.proofs.Digits.{decimal_is}
-use Rattle.mm_text.proofs.Spelled.{IsPlain, plain-digits}
-use Rattle.mm_life.specs.MoveText.{numbered, place_onto, key_onto, kind_onto, stored_onto, home_onto, move_onto, move_text, IsMove}
-use Rattle.mm_replay.specs.Reading.{read_text}
-use Rattle.mm_text.proofs.DigitCounts.{length-decimal}
+use Rattle.mm_text.proofs.{decimal_is, IsPlain, plain-digits, length-decimal}
+use Rattle.mm_life.specs.{numbered, place_onto, key_onto, kind_onto, stored_onto, home_onto, move_onto, move_text, IsMove}
+use Rattle.mm_replay.specs.{read_text}
 use Rattle.mm_replay.proofs.ReadAgain.{read_text-onto, value_of}
 
 abbrev pub NoFeed : Text → Type 0

@@ -2,17 +2,14 @@
 use Rattle.std.proofs.Common.{◌≡◌, ℕ, zero, suc, ◌+◌, ◌<◌, Bool, true, false, List, length, Option, Some, None, ap, subst, arith, length-set}
 use Rattle.std.specs.Prelude.{option_map, slice_get, slice_set}
 use Rattle.std.proofs.lemmas.List.Sums.{count_by-le-length}
-use Rattle.mm_types.specs.declared.frames.Record.{Record}
-use Rattle.mm_life.specs.Frames.{is_idle}
-use Rattle.mm_lists.specs.Lists.{ListsOf, number_at}
-use Rattle.mm_lists.proofs.Standing.{list_within}
-use Rattle.mm_slots.specs.Slots.{free_count}
-use Rattle.mm_slots.proofs.FlagLemmas.{count_changed}
-use Rattle.mm_replay.specs.Listed.{Kept, table_of, record_of}
-use Rattle.mm_replay.specs.Looking.{frames_on, IsBehind}
-use Rattle.mm_replay.specs.Slotted.{AreApartFrom}
+use Rattle.mm_types.specs.{Record}
+use Rattle.mm_life.specs.{is_idle}
+use Rattle.mm_lists.specs.{ListsOf, number_at}
+use Rattle.mm_lists.proofs.{list_within}
+use Rattle.mm_slots.specs.{free_count}
+use Rattle.mm_slots.proofs.{count_changed}
+use Rattle.mm_replay.specs.{Kept, table_of, record_of, frames_on, IsBehind, AreApartFrom, FrameList}
 use Rattle.mm_replay.specs.Sound.{frame}
-use Rattle.mm_replay.specs.declared.four_lists.FrameList.{FrameList}
 use Rattle.mm_replay.specs.declared.four_lists.FrameList.TheVariants as list
 use Rattle.mm_replay.proofs.Placing.{belongs_idle}
 

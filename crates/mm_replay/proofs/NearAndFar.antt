@@ -3,10 +3,8 @@ use Rattle.std.proofs.Common.{◌≡◌, ℕ, ◌+◌, ◌*◌, ◌<◌, Bool, t
 use Rattle.std.specs.Prelude.{◌&&◌, ◌==◌, nat_lt}
 use Rattle.std.proofs.lemmas.Bool.{eqb-true, eq-eqb, ltb-true, and_parts, and_from, cond-false}
 use Rattle.std.proofs.lemmas.Option.{cond_some, none-some}
-use Rattle.mm_types.proofs.Booleans.{same_tests, not_true}
-use Rattle.mm_replay.specs.Grids.{Sets, Same}
-use Rattle.mm_replay.specs.OrderedPairs.{Writes, Keeps}
-use Rattle.mm_replay.specs.Pairs.{near_number, at_number, near_part, first_of, either_way}
+use Rattle.mm_types.proofs.{same_tests, not_true}
+use Rattle.mm_replay.specs.{Sets, Same, Writes, Keeps, near_number, at_number, near_part, first_of, either_way}
 
 -- what two small numbers are as one
 near_is : (a b n : ℕ) → near_number a b ≡ Some n → (b < 524288) × (a * 524288 + b ≡ n)

@@ -4,9 +4,9 @@ use Rattle.std.specs.Prelude.{nat_le}
 use Rattle.std.proofs.lemmas.Bool.{lt-ltb, le-ltb, cases_lt, le-leb, and_from}
 use Rattle.std.proofs.lemmas.Nat.{mod_below}
 use Rattle.std.proofs.Math.Nat.{mod-eq_of_lt, pow-zero}
-use Rattle.mm_types.specs.Spelling.{Text, glyph, decimal, decimal_onto}
-use Rattle.mm_moves.proofs.Written.{step_last, step_more, step_none, below_power, onto_append}
-use Rattle.mm_replay.specs.Reading.{is_digit, number_from, below, led_by, read_number}
+use Rattle.mm_types.specs.{Text, glyph, decimal, decimal_onto}
+use Rattle.mm_moves.proofs.{step_last, step_more, step_none, below_power, onto_append}
+use Rattle.mm_replay.specs.{is_digit, number_from, below, led_by, read_number}
 
 abbrev next : Bool → (ℕ × Text) → (ℕ × Text) → ℕ × Text
 next b more last = cond b more last

@@ -6,8 +6,8 @@ use Rattle.std.specs.Map.{lookup}
 use Rattle.std.specs.Ordering.{nat_cmp, is_eq}
 use Rattle.std.specs.Cmp.{unsigned_tied}
 use Rattle.std.proofs.lemmas.Bool.{eqb-true, eq-eqb, ne_eqb, and_parts, and_from, and_right, lt-ltb, le-ltb, cases_lt, cond-true, cond-false}
-use Rattle.mm_types.proofs.Booleans.{same_tests}
-use Rattle.mm_replay.specs.OrderedPairs.{one_number, under, mapped, Writes}
+use Rattle.mm_types.proofs.{same_tests}
+use Rattle.mm_replay.specs.{one_number, under, mapped, Writes}
 
 pub same_number : (a b c d : ℕ) → b < 4294967296 → d < 4294967296 → (one_number a b == one_number c d) ≡ ((c == a) && (d == b))
 same_number a b c d low high =

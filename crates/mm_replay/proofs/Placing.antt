@@ -4,17 +4,13 @@ use Rattle.std.specs.Prelude.{◌-◌, slice_get, ◌==◌, ◌&&◌, ◌||◌, 
 use Rattle.std.specs.Cmp.{unsigned_Decides}
 use Rattle.std.proofs.lemmas.Bool.{and_parts, not-true}
 use Rattle.std.proofs.lemmas.List.{get_or_past}
-use Rattle.mm_types.specs.declared.numbers.Key.{Key}
-use Rattle.mm_types.specs.declared.frames.Record.{Record}
-use Rattle.mm_types.proofs.Booleans.{not_true, or_right}
-use Rattle.mm_types.proofs.Cells.{same_or_not}
-use Rattle.mm_types.proofs.Tables.{differ}
-use Rattle.mm_life.specs.Frames.{blank, is_idle, has_request, is_read, is_first, is_empty, is_on, off_lists}
-use Rattle.mm_lists.specs.Lists.{ListsOf, IsOnOne, list_at, number_at, with_list, without}
-use Rattle.mm_lists.proofs.Cuts.{without_other}
-use Rattle.mm_replay.specs.Listed.{AreFour, table_of, record_of, belongs, is_owned, is_changed_page, Kept, Off}
-use Rattle.mm_replay.specs.Sound.{Listed, IsEmptyFrame}
-use Rattle.mm_lists.proofs.Members.{Removes, without_removes, list-without, push_found, push_keeps, push_new}
+use Rattle.mm_types.specs.{Key, Record}
+use Rattle.mm_types.proofs.{not_true, or_right, same_or_not, differ}
+use Rattle.mm_life.specs.{blank, is_idle, has_request, is_read, is_first, is_empty, is_on, off_lists}
+use Rattle.mm_lists.specs.{ListsOf, IsOnOne, list_at, number_at, with_list, without}
+use Rattle.mm_lists.proofs.{without_other, Removes, without_removes, list-without, push_found, push_keeps, push_new}
+use Rattle.mm_replay.specs.{AreFour, table_of, record_of, belongs, is_owned, is_changed_page, Kept, Off, IsEmptyFrame}
+use Rattle.mm_replay.specs.Sound.{Listed}
 
 -- ---- where a record belongs
 

@@ -1,21 +1,14 @@
 -- What is spelled is read as the same again.
 use Rattle.std.proofs.Common.{◌≡◌, ℕ, ◌^◌, ◌<◌, Bool, true, cond, [], ◌∷◌, ◌++◌, Option, Some, None, refl, ap, ◌∙◌, arith}
 use Rattle.std.proofs.lemmas.Bool.{lt-ltb}
-use Rattle.mm_types.specs.Spelling.{Text, decimal}
-use Rattle.mm_types.specs.declared.numbers.Pid.{Pid}
-use Rattle.mm_types.specs.declared.numbers.Frame.{Frame}
-use Rattle.mm_types.specs.declared.numbers.Block.{Block}
-use Rattle.mm_types.specs.declared.numbers.Key.{Key}
+use Rattle.mm_types.specs.{Text, decimal, Pid, Frame, Block, Key, Place, LineKind, Stored, Move}
 use Rattle.mm_types.specs.declared.numbers.Key.TheVariants.{Private, Shared}
-use Rattle.mm_types.specs.declared.numbers.Place.{Place}
-use Rattle.mm_types.specs.declared.moves.LineKind.{LineKind}
 use Rattle.mm_types.specs.declared.moves.LineKind.TheVariants as kind
-use Rattle.mm_types.specs.declared.moves.Stored.{Stored}
 use Rattle.mm_types.specs.declared.moves.Stored.TheVariants as stored
-use Rattle.mm_types.specs.declared.moves.Move.{Move}
 use Rattle.mm_types.specs.declared.moves.Move.TheVariants as move
-use Rattle.mm_life.specs.MoveText.{place_onto, key_onto, kind_onto, stored_onto, home_onto, move_onto, move_text, IsKey, IsPlace, IsKind, IsStored, IsBlock, IsMove}
-use Rattle.mm_replay.specs.Reading.{pid, read_pid, read_place, read_key, read_kind, home_behind, stored_behind, read_text}
+use Rattle.mm_life.specs.{place_onto, key_onto, kind_onto, stored_onto, home_onto, move_onto, move_text, IsKey, IsPlace, IsKind, IsStored, IsBlock}
+use Rattle.mm_life.specs.{IsMove}
+use Rattle.mm_replay.specs.{pid, read_pid, read_place, read_key, read_kind, home_behind, stored_behind, read_text}
 use Rattle.mm_replay.proofs.Numbers.{ends_number, read_number-decimal}
 
 abbrev small_or : Bool → ℕ → Text → Option (Pid × Text)

@@ -2,12 +2,11 @@
 use Rattle.std.proofs.Common.{◌≡◌, ◌≢◌, ℕ, zero, suc, ◌<◌, ◌≤◌, Bool, true, false, List, [], ◌∷◌, ◌++◌, length, Option, Some, None, refl, sym, ap, ◌∙◌, subst, inl, inr, arith}
 use Rattle.std.specs.Prelude.{not, ◌&&◌, ◌==◌, slice_get, slice_set}
 use Rattle.std.specs.Cmp.{unsigned_Decides}
-use Rattle.mm_types.proofs.Cells.{same_or_not, get_set_same, get_set_other, get_within}
-use Rattle.mm_types.proofs.Tables.{differ}
-use Rattle.mm_life.specs.Legal.{is_lowest}
-use Rattle.mm_slots.specs.Slots.{free_count, IsLowest}
-use Rattle.mm_slots.proofs.FlagLemmas.{counted_some}
-use Rattle.mm_replay.specs.Slotted.{IsLowestIn, without_slot, AreApartFrom}
+use Rattle.mm_types.proofs.{same_or_not, get_set_same, get_set_other, get_within, differ}
+use Rattle.mm_life.specs.{is_lowest}
+use Rattle.mm_slots.specs.{free_count, IsLowest}
+use Rattle.mm_slots.proofs.{counted_some}
+use Rattle.mm_replay.specs.{IsLowestIn, without_slot, AreApartFrom}
 
 -- where none is free each slot is taken
 pub none_free : (xs : List Bool) (k : ℕ) (b : Bool) → free_count xs ≡ 0 → slice_get xs k ≡ Some b → b ≡ false

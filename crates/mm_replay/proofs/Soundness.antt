@@ -2,21 +2,16 @@
 use Rattle.std.proofs.Common.{◌≡◌, ℕ, ◌<◌, ◌≤◌, Bool, true, false, length, Some, sym, ap, ◌∙◌, subst, inl, inr, arith, refl}
 use Rattle.std.specs.Prelude.{◌||◌, ◌&&◌, is_some, slice_get, Result, Ok, Err, OnOk, OnErr}
 use Rattle.std.proofs.lemmas.Bool.{and_parts, or_cases, not-true}
-use Rattle.mm_types.specs.declared.moves.Move.{Move}
-use Rattle.mm_types.specs.declared.moves.Stored.{Stored}
+use Rattle.mm_types.specs.{Move, Stored}
 use Rattle.mm_types.specs.declared.moves.Stored.TheVariants as stored
-use Rattle.mm_types.proofs.Booleans.{or_left}
-use Rattle.mm_life.specs.Frames.{FrameTable, record_at, is_first, is_empty, has_request}
-use Rattle.mm_life.specs.Life.{FrameLife}
-use Rattle.mm_life.specs.Legal.{IsLegal, is_legal_write}
-use Rattle.mm_life.specs.Effect.{after_move}
-use Rattle.mm_laws.specs.Tally.{one_if, times}
+use Rattle.mm_types.proofs.{or_left}
+use Rattle.mm_life.specs.{FrameTable, record_at, is_first, is_empty, has_request, FrameLife, IsLegal, is_legal_write, after_move}
+use Rattle.mm_laws.specs.{one_if, times}
 use Rattle.mm_laws.specs.Reached.{Reached}
-use Rattle.mm_laws.proofs.Facts.{Facts, reached_by}
-use Rattle.mm_laws.proofs.Sights.{kept_inside}
-use Rattle.mm_laws.proofs.Sound.{owner_passes}
-use Rattle.mm_laws.proofs.Tallies.{times_on}
-use Rattle.mm_replay.specs.Sound.{Listed, IsEmptyFrame, Sound}
+use Rattle.mm_laws.proofs.{reached_by, kept_inside, owner_passes, times_on}
+use Rattle.mm_laws.proofs.Facts.{Facts}
+use Rattle.mm_replay.specs.{IsEmptyFrame}
+use Rattle.mm_replay.specs.Sound.{Listed, Sound}
 use Rattle.mm_replay.proofs.Placing.{idle_quiet, on_there}
 
 asked : (b : Bool) (n : ℕ) → 1 ≤ n → n ≡ one_if b → b ≡ true

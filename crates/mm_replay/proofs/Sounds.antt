@@ -1,21 +1,21 @@
 -- What is read stands in the text: its spelling, in front of the text that is given after it.
 use Rattle.std.proofs.Common.{◌≡◌, ◌==◌, ◌⊎◌, length, ℕ, ◌+◌, ◌-◌, ◌*◌, ◌%◌, ◌^◌, ◌≤◌, ◌<◌, Bool, true, false, cond, [], ◌∷◌, ◌++◌, codes, Option, Some, None, refl, sym, ap, ◌∙◌, subst, inl, inr, arith, append_assoc, nat_le, nat_lt}
 use Rattle.std.proofs.lemmas.Bool.{lt-ltb, le-ltb, cases_lt, lt-leb, and_left, and_right, eqb-true, ltb-true}
-use Rattle.mm_types.specs.Spelling.{Text, glyph, decimal}
-use Rattle.mm_types.specs.declared.numbers.Pid.{Pid}
-use Rattle.mm_types.specs.declared.numbers.Frame.{Frame}
-use Rattle.mm_types.specs.declared.numbers.Key.{Key}
+use Rattle.mm_types.specs.{Text, glyph, decimal, Pid, Frame, Key, Place, LineKind, Move}
 use Rattle.mm_types.specs.declared.numbers.Key.TheVariants.{Private, Shared}
-use Rattle.mm_types.specs.declared.numbers.Place.{Place}
-use Rattle.mm_types.specs.declared.moves.LineKind.{LineKind}
 use Rattle.mm_types.specs.declared.moves.LineKind.TheVariants as kind
 use Rattle.mm_types.specs.declared.moves.Stored.TheVariants as stored
-use Rattle.mm_types.specs.declared.moves.Move.{Move}
 use Rattle.mm_types.specs.declared.moves.Move.TheVariants as move
-use Rattle.mm_life.specs.MoveText.{numbered, place_onto, key_onto, kind_onto, move_onto, IsKey, IsPlace, IsKind, IsMove}
-use Rattle.mm_replay.specs.Reading.{pid, vpn, area, frame, slot, block, place, reading, past, past_or, strip, number_from, below, is_digit, led_by, read_number, small, read_pid, number_behind, read_place, read_private, read_shared, read_key, read_frame, read_machine, read_process, read_unbind, read_access, read_thread, read_trim, read_grow, read_plain_kind, read_kind, kind_behind, read_at, home_behind, read_add, read_drop, key_behind, read_give, read_read, place_behind, read_map, read_unmap, stored_behind, read_write, read_clear, read_steal, read_got, read_bad, read_soil, read_wrote, read_lost, read_end, read_taking, read_text}
+use Rattle.mm_life.specs.{numbered, place_onto, key_onto, kind_onto, move_onto, IsKey, IsPlace, IsKind, IsMove}
+use Rattle.mm_replay.specs.{pid, vpn, area, slot, block, place, reading, past, past_or, strip, number_from, below, is_digit, led_by, read_number}
+use Rattle.mm_replay.specs.{small, read_pid, number_behind, read_place, read_private, read_shared, read_key, read_frame, read_machine, read_process}
+use Rattle.mm_replay.specs.{read_unbind, read_access, read_thread, read_trim, read_grow, read_plain_kind, read_kind, kind_behind, read_at}
+use Rattle.mm_replay.specs.{home_behind, read_add, read_drop, key_behind, read_give, read_read, place_behind, read_map, read_unmap, stored_behind}
+use Rattle.mm_replay.specs.{read_write, read_clear, read_steal, read_got, read_bad, read_soil, read_wrote, read_lost, read_end, read_taking}
+use Rattle.mm_replay.specs.{read_text}
+use Rattle.mm_replay.specs.Reading.{frame}
 use Rattle.mm_replay.proofs.Numbers.{number_digit, number_grows, is_digit-true}
-use Rattle.mm_moves.proofs.Written.{decimal_one, decimal_more}
+use Rattle.mm_moves.proofs.{decimal_one, decimal_more}
 
 -- a value that was read is spelled in front of the text after it, and is one of those that are asked for
 abbrev pub Sounds : {A : Type 0} → (A → Text → Text) → (A → Type 0) → Text → Option (A × Text) → Type 0

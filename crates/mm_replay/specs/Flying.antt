@@ -1,6 +1,6 @@
 -- The frames with a request, as a list over the frames.
 use Rattle.std.specs.Prelude.{◌≡◌, ℕ, Bool, true, false, List, [], ◌∷◌, length, Option, Some, None, slice_get, slice_index_or}
-use Rattle.mm_lists.specs.Lists.{ListsOf, AreApart, IsOnOne, list_at}
+use Rattle.mm_lists.specs.{ListsOf, AreApart, IsOnOne, list_at}
 
 -- the number of frames, and those with a request, oldest first
 pub record FlightOf : Type 0 where

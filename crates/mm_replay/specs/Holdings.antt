@@ -1,12 +1,9 @@
 -- What the tables of the running check mean.
 use Rattle.std.specs.Prelude.{◌≡◌, Bool, false, Option, Some, None}
-use Rattle.mm_types.specs.declared.numbers.Frame.{Frame}
-use Rattle.mm_types.specs.declared.numbers.Key.{Key}
+use Rattle.mm_types.specs.{Frame, Key, Place, Held}
 use Rattle.mm_types.specs.declared.numbers.Key.TheVariants.{Private, Shared}
-use Rattle.mm_types.specs.declared.numbers.Place.{Place}
-use Rattle.mm_types.specs.declared.frames.Held.{Held}
 use Rattle.mm_types.specs.declared.frames.Held.TheVariants as held
-use Rattle.mm_life.specs.Life.{changed, same_key}
+use Rattle.mm_life.specs.{changed, same_key}
 use Rattle.mm_replay.specs.declared.pairs.Pairs.{Pairs}
 use Rattle.mm_replay.specs.declared.holdings.Alive.{Alive}
 use Rattle.mm_replay.specs.declared.holdings.Keys.{Keys}

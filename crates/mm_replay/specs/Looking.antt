@@ -1,8 +1,8 @@
 -- What the readers of a running check tell of its lists.
 -- Profile, "Logs of moves".
 use Rattle.std.specs.Prelude.{◌≡◌, ℕ, ◌+◌, List, Option, Some, None, option_map, slice_get}
-use Rattle.mm_types.specs.declared.numbers.Frame.{Frame}
-use Rattle.mm_life.specs.Frames.{FrameTable}
+use Rattle.mm_types.specs.{Frame}
+use Rattle.mm_life.specs.{FrameTable}
 use Rattle.mm_replay.specs.declared.four_lists.FrameList.{FrameList}
 use Rattle.mm_replay.specs.declared.four_lists.FrameList.TheVariants as list
 use Rattle.mm_replay.specs.Sound.{frame}

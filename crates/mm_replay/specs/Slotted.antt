@@ -1,6 +1,6 @@
 -- The free slots of a running check: the lowest is kept apart from the others.
 use Rattle.std.specs.Prelude.{◌≡◌, ℕ, Bool, false, List, [], Option, Some, None, slice_set}
-use Rattle.mm_slots.specs.Slots.{SlotsOf, free_count, IsLowest}
+use Rattle.mm_slots.specs.{SlotsOf, free_count, IsLowest}
 
 abbrev pub no_slots : SlotsOf
 no_slots = record { free = []; spare = 0 }

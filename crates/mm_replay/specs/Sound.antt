@@ -1,14 +1,9 @@
 -- What a move has to know of the state before it: frames and keys agree on who is where, a frame
 -- with a valid place has a share, and the frames in flight have a request.
 use Rattle.std.specs.Prelude.{◌≡◌, ℕ, ◌<◌, ◌≤◌, true, false, List, length, Option, Some, None, slice_get}
-use Rattle.mm_types.specs.declared.numbers.Frame.{Frame}
-use Rattle.mm_types.specs.declared.numbers.Key.{Key}
-use Rattle.mm_types.specs.declared.numbers.Place.{Place}
-use Rattle.mm_types.specs.declared.frames.Record.{Record}
-use Rattle.mm_types.specs.declared.frames.Held.{Held}
+use Rattle.mm_types.specs.{Frame, Key, Place, Record, Held}
 use Rattle.mm_types.specs.declared.frames.Held.TheVariants as held
-use Rattle.mm_life.specs.Frames.{FrameTable, record_at, is_first, is_on, is_idle, has_request}
-use Rattle.mm_life.specs.Life.{FrameLife}
+use Rattle.mm_life.specs.{FrameTable, record_at, is_first, is_on, is_idle, has_request, FrameLife}
 use Rattle.mm_replay.specs.Listed.{record_of, is_owned}
 
 abbrev pub frame : ℕ → Frame

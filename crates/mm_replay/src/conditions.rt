@@ -1,6 +1,8 @@
 ghost use Rattle.std.specs.Prelude.{◌≡◌, ◌+◌, ◌-◌, ◌*◌, ◌<◌, ◌≤◌, true, false, length};
-ghost use Rattle.mm_life.specs.Legal.{is_call, is_io, is_access, is_thread, is_unbind, is_writer, is_zeroer, is_touch, touches, unbinds, trims, is_machine, is_legal_kind, has_depth, is_zero, is_stored, owner_is, shows_shared, may_copy, is_unmapped, fits_place, is_below_max, is_above_min, is_at_max, is_short, may_unmap, is_block, may_write_block, is_legal_add, is_legal_map, is_legal_soil, is_legal_write, is_legal};
-ghost use Rattle.mm_life.specs.Life.{is_shared, key_of_place, is_live, is_dead, set_of, set_in};
+ghost use Rattle.mm_life.specs.{is_call, is_io, is_access, is_thread, is_unbind, is_writer, is_zeroer, is_touch, touches, unbinds, trims, is_machine};
+ghost use Rattle.mm_life.specs.{is_legal_kind, has_depth, is_zero, is_stored, owner_is, shows_shared, may_copy, is_unmapped, fits_place};
+ghost use Rattle.mm_life.specs.{is_below_max, is_above_min, is_at_max, is_short, may_unmap, is_block, may_write_block, is_legal_add, is_legal_map};
+ghost use Rattle.mm_life.specs.{is_legal_soil, is_legal_write, is_legal, is_shared, key_of_place, is_live, is_dead, set_of, set_in};
 ghost use Rattle.mm_types.specs.declared.moves.Move.TheVariants as move;
 
 use crate::records::{has_request, is_again, is_read, is_write};

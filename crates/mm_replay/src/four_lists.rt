@@ -1,5 +1,5 @@
 ghost use Rattle.std.specs.Prelude.{◌≡◌, ℕ, ◌+◌, ◌++◌, ◌<◌, ◌∷◌, [], IfOk, Some, drop, length, map};
-ghost use Rattle.mm_lists.specs.Lists.{IsOnOne, IsOnNone, list_at, number_at, with_list, without};
+ghost use Rattle.mm_lists.specs.{IsOnOne, IsOnNone, list_at, number_at, with_list, without};
 ghost use Rattle.mm_replay.specs.Listed.{AreFour, free_alone, no_lists};
 
 use mm_lists::Lists;
@@ -36,7 +36,7 @@ pub(crate) struct FourLists {
 }
 
 impl Model for FourLists {
-    ghost use Rattle.mm_lists.specs.Lists.{ListsOf};
+    ghost use Rattle.mm_lists.specs.{ListsOf};
     ghost use Rattle.mm_replay.specs.Listed.{AreFour, lists_of};
 
     ghost Value = { ListsOf };

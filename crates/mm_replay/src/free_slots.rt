@@ -1,7 +1,6 @@
 ghost use Rattle.std.specs.Prelude.{◌≡◌, ◌+◌, ◌-◌, ◌<◌, ◌≤◌, ◌^◌, true, false, [], ◌++◌, length, replicate, OnOk, OnErr, IfOk, Some, slice_get, slice_index_or, slice_set};
-ghost use Rattle.mm_life.specs.Legal.{is_lowest};
-ghost use Rattle.mm_life.specs.Effect.{freed};
-ghost use Rattle.mm_slots.specs.Slots.{free_count};
+ghost use Rattle.mm_life.specs.{is_lowest, freed};
+ghost use Rattle.mm_slots.specs.{free_count};
 ghost use Rattle.mm_replay.specs.Slotted.{no_slots, IsLowestIn, without_slot};
 
 use crate::values::put;
@@ -17,7 +16,7 @@ pub(crate) struct SlotTree {
 }
 
 impl Model for SlotTree {
-    ghost use Rattle.mm_slots.specs.Slots.{SlotsOf};
+    ghost use Rattle.mm_slots.specs.{SlotsOf};
     ghost use Rattle.mm_replay.specs.Slotted.{slots_of};
 
     ghost Value = { SlotsOf };

@@ -1,6 +1,6 @@
 ghost use Rattle.std.specs.Prelude.{◌≡◌, IsSome, ◌+◌, ◌-◌, ◌<◌, ◌≤◌, ◌==◌, true, false, [], ◌∷◌, ◌++◌, replicate, length, OnOk, OnErr, IfOk, IfNone, Some, None, slice_set, slice_index_or};
 ghost use Rattle.mm_types.specs.declared.frames.Held.TheVariants as held;
-ghost use Rattle.mm_life.specs.Life.{changed, same_key, same_place, is_dead};
+ghost use Rattle.mm_life.specs.{changed, same_key, same_place, is_dead};
 
 use crate::free_slots::{flag_at, set_flag};
 use crate::pairs::Pairs;

@@ -1,6 +1,6 @@
 ghost use Rattle.std.specs.Prelude.{◌≡◌, ℕ, ◌+◌, ◌++◌, ◌<◌, ◌∷◌, [], IfOk, Some, None, length, map, replicate, false, slice_get};
-ghost use Rattle.mm_life.specs.Frames.{without};
-ghost use Rattle.mm_lists.specs.Lists.{IsOnOne, IsOnNone, list_at, with_list, without as without_number};
+ghost use Rattle.mm_life.specs.{without};
+ghost use Rattle.mm_lists.specs.{IsOnOne, IsOnNone, list_at, with_list, without as without_number};
 ghost use Rattle.mm_replay.specs.Flying.{IsOne, no_requests};
 
 use crate::free_slots::{flag_at, set_flag};
@@ -16,7 +16,7 @@ pub(crate) struct RequestList {
 }
 
 impl Model for RequestList {
-    ghost use Rattle.mm_lists.specs.Lists.{ListsOf};
+    ghost use Rattle.mm_lists.specs.{ListsOf};
     ghost use Rattle.mm_replay.specs.Flying.{IsOne, one_of};
 
     ghost Value = { ListsOf };

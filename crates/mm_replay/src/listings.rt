@@ -1,7 +1,6 @@
 ghost use Rattle.std.specs.Prelude.{◌≡◌, ℕ, ◌+◌, ◌++◌, ◌<◌, ◌∷◌, [], true, false, is_some, length, replicate, IfOk, Some, None, slice_set, slice_index_or};
-ghost use Rattle.mm_life.specs.Frames.{FrameTable, blank, record_at, is_idle, is_on, off_lists, with_record, settled, to_free};
-ghost use Rattle.mm_life.specs.Life.{free_table, numbers_from};
-ghost use Rattle.mm_lists.specs.Lists.{IsOnNone, list_at, number_at};
+ghost use Rattle.mm_life.specs.{FrameTable, blank, record_at, is_idle, is_on, off_lists, with_record, settled, to_free, free_table, numbers_from};
+ghost use Rattle.mm_lists.specs.{IsOnNone, list_at, number_at};
 ghost use Rattle.mm_replay.specs.Listed.{AreFour, free_alone, belongs, is_owned, first_taken, put_behind};
 
 use crate::four_lists::{FREE, FourLists, MODIFIED, STANDBY};

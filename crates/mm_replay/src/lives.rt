@@ -1,8 +1,5 @@
 ghost use Rattle.std.specs.Prelude.{◌≡◌, ◌↔◌, true, false, OnOk, OnErr, Err};
-ghost use Rattle.mm_life.specs.Life.{unstarted};
-ghost use Rattle.mm_life.specs.Legal.{is_legal, IsLegal};
-ghost use Rattle.mm_life.specs.Effect.{after_move};
-ghost use Rattle.mm_life.specs.Located.{held_at};
+ghost use Rattle.mm_life.specs.{unstarted, is_legal, IsLegal, after_move, held_at};
 ghost use Rattle.mm_replay.specs.Replaying.{life as life_of};
 ghost use Rattle.mm_laws.specs.Reached.{Reached};
 

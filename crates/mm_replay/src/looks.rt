@@ -1,8 +1,7 @@
 ghost use Rattle.std.specs.Prelude.{◌≡◌, ◌<◌, ◌^◌, false, count_by, length, slice_index_or};
-ghost use Rattle.mm_life.specs.Frames.{record_at, is_empty, is_on};
-ghost use Rattle.mm_life.specs.Life.{counts_of, is_active, is_in_transition, is_live, set_of};
+ghost use Rattle.mm_life.specs.{record_at, is_empty, is_on, counts_of, is_active, is_in_transition, is_live, set_of};
 ghost use Rattle.mm_replay.specs.Looking.{frames_on, frame_at, IsBehind};
-ghost use Rattle.mm_laws.specs.Standing.{counted_frames};
+ghost use Rattle.mm_laws.specs.{counted_frames};
 
 use crate::conditions::{is_dead, set_of};
 use crate::four_lists::FrameList;

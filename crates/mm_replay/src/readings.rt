@@ -1,7 +1,6 @@
 ghost use Rattle.std.specs.Prelude.{◌≡◌, ◌^◌, ℕ, List, Option, IfSome, Some, [], option_map};
-ghost use Rattle.mm_types.specs.declared.moves.Move.{Move};
-ghost use Rattle.mm_life.specs.MoveText.{move_text, key_onto, IsMove, IsKey};
-ghost use Rattle.mm_types.specs.declared.numbers.Key.{Key};
+ghost use Rattle.mm_types.specs.{Move, Key};
+ghost use Rattle.mm_life.specs.{move_text, key_onto, IsMove, IsKey, move_onto};
 ghost use Rattle.mm_replay.specs.Reading.{strip, number_from, below, read_number, number_behind, read_pid, read_place, read_key, read_private, read_shared, read_frame, read_machine, read_process, read_plain_kind, read_kind, read_at, read_add, read_give, read_read, read_map, read_write, key_behind, place_behind, home_behind, stored_behind, read_end, read_taking, read_text};
 
 use mm_types::{Area, Block, Frame, Key, LineKind, Move, Pid, Place, Slot, Stored, Vpn};
@@ -350,7 +349,6 @@ pub fn read_key(word: &[u8]) -> Option<Key>
 }
 
 ghost use Rattle.std.specs.Prelude.{◌∷◌};
-ghost use Rattle.mm_life.specs.MoveText.{move_onto};
 
 /// The lines of a log determine its moves: two lines in front of two texts that are equal are the
 /// same move's.

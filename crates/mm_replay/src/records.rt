@@ -1,5 +1,7 @@
 ghost use Rattle.std.specs.Prelude.{◌≡◌, ◌+◌, ◌-◌, ◌<◌, ◌^◌, true, false, is_some};
-ghost use Rattle.mm_life.specs.Frames.{blank, given, being_read, shared, unshared, being_written, read_done, disowned, soiled, write_done, write_lost, is_again, has_request, is_read, is_write, without_slot, slot_of, slot_after_soil, slot_after_drop, slot_after_read, slot_after_wrote, is_idle};
+ghost use Rattle.mm_life.specs.{blank, given, being_read, shared, unshared, being_written, read_done, disowned, soiled, write_done, write_lost};
+ghost use Rattle.mm_life.specs.{is_again, has_request, is_read, is_write, without_slot, slot_of, slot_after_soil, slot_after_drop, slot_after_read};
+ghost use Rattle.mm_life.specs.{slot_after_wrote, is_idle};
 ghost use Rattle.mm_replay.specs.Listed.{is_changed_page};
 
 use mm_types::{Backing, Key, Record, Request};

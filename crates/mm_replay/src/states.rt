@@ -1,11 +1,9 @@
 ghost use Rattle.std.specs.Prelude.{◌≡◌, ◌+◌, ◌-◌, ◌<◌, ◌≤◌, ◌↔◌, true, false, IsTrue, OnOk, OnErr, IfSome, Some, None, Err, length};
-ghost use Rattle.mm_types.specs.Machine.{MachineOf, IsMachine};
+ghost use Rattle.mm_types.specs.{MachineOf, IsMachine};
 ghost use Rattle.mm_types.specs.declared.moves.Move.TheVariants as move;
 ghost use Rattle.mm_types.specs.declared.moves.LineKind.TheVariants as kind;
-ghost use Rattle.mm_life.specs.Life.{unstarted, set_in, with_resident, is_dead};
-ghost use Rattle.mm_life.specs.Legal.{is_legal, IsLegal, is_below_max};
-ghost use Rattle.mm_life.specs.Effect.{after_move, after_at, after_add, unlisted, home_at, backing_of, homed};
-ghost use Rattle.mm_life.specs.Located.{held_at};
+ghost use Rattle.mm_life.specs.{unstarted, set_in, with_resident, is_dead, is_legal, IsLegal, is_below_max, after_move, after_at, after_add};
+ghost use Rattle.mm_life.specs.{unlisted, home_at, backing_of, homed, held_at};
 ghost use Rattle.mm_replay.specs.Sound.{Listed, Sound};
 
 use crate::free_slots::SlotMap;

@@ -1,7 +1,8 @@
 ghost use Rattle.std.specs.Prelude.{◌≡◌, ◌+◌, ◌<◌, ◌≤◌, ◌^◌, ◌&&◌, ◌||◌, true, false, is_some, length, IfOk, slice_get};
 ghost use Rattle.mm_replay.specs.Looking.{frames_on, IsBehind};
-ghost use Rattle.mm_life.specs.Frames.{record_at, is_first, is_empty, is_on, is_read, is_write, has_request, taken_for_read, after_clear, after_steal, after_give, after_read, after_got, after_bad, after_map, after_unmap, after_soil, after_write, after_wrote, after_lost, after_drop};
-ghost use Rattle.mm_life.specs.Life.{free_table};
+ghost use Rattle.mm_life.specs.{record_at, is_first, is_empty, is_on, is_read, is_write, has_request, taken_for_read, after_clear, after_steal};
+ghost use Rattle.mm_life.specs.{after_give, after_read, after_got, after_bad, after_map, after_unmap, after_soil, after_write, after_wrote};
+ghost use Rattle.mm_life.specs.{after_lost, after_drop, free_table};
 ghost use Rattle.mm_replay.specs.Sound.{Listed};
 
 use crate::four_lists::{FREE, FrameList, MODIFIED, STANDBY, ZEROED};
@@ -22,7 +23,7 @@ pub(crate) struct Table {
 }
 
 impl Model for Table {
-    ghost use Rattle.mm_life.specs.Frames.{FrameTable};
+    ghost use Rattle.mm_life.specs.{FrameTable};
     ghost use Rattle.mm_replay.specs.Listings.{table, IsKept};
 
     ghost Value = { FrameTable };

@@ -1,25 +1,17 @@
 -- Events decided one after another.
-use Rattle.std.proofs.Common.{◌≡◌, ◌⊎◌, ℕ, ◌+◌, take, drop, get_or, length-drop, ◌<◌, ◌≤◌, Bool, true, cond, List, [], ◌∷◌, ◌++◌, length, refl, sym, ap, ◌∙◌, subst, inl, inr, arith}
+use Rattle.std.proofs.Common.{◌≡◌, ◌⊎◌, ℕ, ◌+◌, take, drop, get_or, length-drop, ◌<◌, Bool, true, cond, List, [], ◌∷◌, ◌++◌, length, refl, sym, ap, ◌∙◌, subst, inl, inr, arith}
 use Rattle.std.specs.Prelude.{count_by, Result, Ok, Err, MatchResult}
 use Rattle.std.proofs.lemmas.List.{take_more, take-append-drop}
 use Rattle.std.proofs.lemmas.List.Sums.{sum_by_push, sum_by-cons}
-use Rattle.mm_types.specs.Machine.{MachineOf, limit_of}
-use Rattle.mm_types.specs.declared.answers.Answer.{Answer}
+use Rattle.mm_types.specs.{MachineOf, limit_of, Answer, Event, Move}
 use Rattle.mm_types.specs.declared.answers.Answer.TheVariants as answer
-use Rattle.mm_types.specs.declared.events.Event.{Event}
 use Rattle.mm_types.specs.declared.events.Event.TheVariants as line
-use Rattle.mm_types.specs.declared.moves.Move.{Move}
-use Rattle.mm_paging.specs.Runs.{first_move}
-use Rattle.mm_run.specs.declared.endings.Ending.{Ending}
+use Rattle.mm_paging.specs.{first_move}
+use Rattle.mm_run.specs.{Ending, Outset, Stage, NotBegun, Running, Follows, HasNoted, log_of, MachineIsMade, Moved, BreaksLine, DecidedLine}
+use Rattle.mm_run.specs.{last_stage, answers_in, BreaksOff, AreDecided, IsEventNext, ClosesEvents, BulkStops, events_in, begins_ok, is_none}
+use Rattle.mm_run.specs.{FaultCounts, IsBlamed, Handled, Stopped}
 use Rattle.mm_run.specs.declared.endings.Ending.TheVariants as ending
-use Rattle.mm_core.specs.Promise.{Scene}
-use Rattle.mm_run.specs.Scenes.{Outset, Stage, NotBegun, Running, Follows, HasNoted, log_of}
-use Rattle.mm_run.specs.Steps.{MachineIsMade, Moved, BreaksLine}
-use Rattle.mm_run.specs.Answered.{DecidedLine, last_stage, answers_in}
-use Rattle.mm_run.specs.Ends.{BreaksOff}
-use Rattle.mm_run.specs.Bulk.{AreDecided, IsEventNext, ClosesEvents, BulkStops, events_in, begins_ok, is_none}
-use Rattle.mm_run.specs.Story.{FaultCounts, IsBlamed}
-use Rattle.mm_run.specs.Batch.{Handled, Stopped}
+use Rattle.mm_core.specs.{Scene}
 use Rattle.mm_run.proofs.Stories.{follows_here, last-append, line_answers-append}
 use Rattle.mm_run.proofs.Firsts.{first_answered}
 use Rattle.mm_run.proofs.Ends.{blamed_beside}

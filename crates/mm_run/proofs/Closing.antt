@@ -1,37 +1,21 @@
 -- What a run did, from what it came to and how it was closed.
 use Rattle.std.proofs.Common.{◌≡◌, ◌≢◌, ◌≤◌, ℕ, ◌+◌, true, false, List, [], ◌++◌, length, Option, refl, sym, ap, ◌∙◌, subst, inl, inr, arith, append_assoc}
-use Rattle.mm_types.specs.Outside.{Appended}
-use Rattle.mm_types.specs.Spelling.{Text}
-use Rattle.mm_types.specs.AnswerText.{spelled}
-use Rattle.mm_types.proofs.Bytes.{append_nil, appended_then, rose_later}
-use Rattle.mm_life.specs.Logs.{Log, IsFrontOf}
-use Rattle.mm_life.proofs.Noting.{front_of_then, gave_nothing}
-use Rattle.mm_run.specs.declared.endings.Ending.{Ending}
+use Rattle.mm_types.specs.{Appended, Text, spelled}
+use Rattle.mm_types.proofs.{append_nil, appended_then, rose_later}
+use Rattle.mm_life.specs.{Log, IsFrontOf}
+use Rattle.mm_life.proofs.{front_of_then, gave_nothing}
+use Rattle.mm_run.specs.{Ending, Stage, NotBegun, Running, outset, log_of, DecidedLine, HoldMovesOf, last_stage, answers_in, moves_of, last_text}
+use Rattle.mm_run.specs.{status_of, CameFrom, Comes, FaultCounts, IsBlamed, SettlesRun, StandsAt, fault_counts_with, outside, stand, ClosesRun}
+use Rattle.mm_run.specs.{DeviceLeft, Left, StageLeaves, IsLeft, IsLogLeft, SinkSeen, GaveMoves, Drops, Closed, is_over, IsAccounted, Around}
+use Rattle.mm_run.specs.{EndsTelling, begun_at}
 use Rattle.mm_run.specs.declared.endings.Ending.TheVariants as ending
-use Rattle.mm_run.specs.Scenes.{Stage, NotBegun, Running, Follows, outset, log_of}
-use Rattle.mm_run.specs.Answered.{DecidedLine, HoldMovesOf, last_stage, answers_in, moves_of}
-use Rattle.mm_run.specs.Texts.{last_text, status_of}
-use Rattle.mm_run.specs.Story.{CameFrom, Comes, FaultCounts, IsBlamed, SettlesRun, StandsAt, fault_counts_with, outside, stand}
-use Rattle.mm_run.specs.Ends.{ClosesRun, DeviceLeft, Left, StageLeaves, IsLeft, IsLogLeft}
-use Rattle.mm_run.specs.Closing.{SinkSeen, GaveMoves, Drops, Closed, is_over}
-use Rattle.mm_run.specs.Faults.{IsAccounted}
-use Rattle.mm_run.specs.Ran.{Around, Ran, EndsTelling, begun_at}
+use Rattle.mm_run.specs.Ran.{Ran}
 use Rattle.mm_run.proofs.Stories.{held_both, held_by_more, spelled_lines}
 use Rattle.mm_run.proofs.Ends.{stands_whole, out_stands, moves_stand, accounted_behind, accounted_out, accounted_moves, blamed_later}
 use Rattle.mm_run.proofs.Logs.{all_logged, bytes_left, log_ran, log_left, holds_at_end}
 use Rattle.mm_run.proofs.Failures.{faultless}
 use Rattle.mm_run.proofs.WatchesTold.{watches_told}
-
-follows_done : (e : Ending) (n : ℕ) (front : Text) (last end : Stage) → e ≡ ending.Done → ClosesRun e n front last end → Follows last end
-follows_done ending.Done n front last end q h = h
-follows_done ending.NoMemory n front last end q h = cc
-follows_done ending.Usage n front last end q h = cc
-follows_done (ending.Script l c) n front last end q h = cc
-follows_done ending.ReadFault n front last end q h = cc
-follows_done ending.OutFault n front last end q h = cc
-follows_done ending.MovesFault n front last end q h = cc
-follows_done ending.SetupFault n front last end q h = cc
-follows_done (ending.TooLong l) n front last end q h = cc
+use Rattle.mm_run.proofs.Events.{follows_done, closed_of}
 
 -- ---- the sink of moves, as the run is closed
 
@@ -102,7 +86,7 @@ module _ (a b : Around) (e : Ending) (form : Type 0) (yes_form : form → e ≢ 
           leaves = leaves;
           log = log_left a.beside.moves a.beside.moves_faults (moves_of d.lines) e (last_stage (begun_at a.beside) d.lines) h.end b.beside leaves
               (log_ran (begun_at a.beside) (last_stage (begun_at a.beside) d.lines) (moves_of d.lines) (all_logged 0 (begun_at a.beside) d.lines d.answered) refl refl e (length d.lines) d.front h.end closes);
-          holds = λ q. holds_at_end 0 (begun_at a.beside) d.lines h.end b.beside tt d.answered (follows_done e (length d.lines) d.front (last_stage (begun_at a.beside) d.lines) h.end q closes) leaves;
+          holds = λ q. holds_at_end 0 (begun_at a.beside) d.lines h.end b.beside tt d.answered (follows_done e (last_stage (begun_at a.beside) d.lines) h.end q (closed_of e (length d.lines) d.front (last_stage (begun_at a.beside) d.lines) h.end closes)) leaves;
           faultless = λ calm. faultless a.beside b.beside e h.end leaves calm (length d.lines) d.front d.lines d.answered closes;
         }
 
@@ -140,13 +124,7 @@ module _ (a b : Around) (e : Ending) (form : Type 0) (yes_form : form → e ≢ 
         text = record { back = stands.1.back; whole = append_nil (spelled (answers_in told)) ∙ stands.1.whole };
       }))
   ends_over ending.MovesFault told still written q s stands = inr (inr (record { status_is = s; out_stands = λ same. cc; text = stands }))
-  ends_over ending.Done told still written q s stands = cc
-  ends_over ending.NoMemory told still written q s stands = cc
-  ends_over ending.Usage told still written q s stands = cc
-  ends_over (ending.Script l c) told still written q s stands = cc
-  ends_over ending.ReadFault told still written q s stands = cc
-  ends_over ending.SetupFault told still written q s stands = cc
-  ends_over (ending.TooLong l) told still written q s stands = cc
+  ends_over x told still written q s stands = cc
 
 abbrev sink_of_moves : Left → SinkSeen
 sink_of_moves x = record { took = x.moves; gave = x.gave; faults = x.moves_faults }

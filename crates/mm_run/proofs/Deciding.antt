@@ -1,17 +1,14 @@
 -- A line of a world over a store that pages is decided as a run tells it.
 use Rattle.std.proofs.Common.{◌≡◌, Option, Some, None, refl, sym, ap, ◌∙◌}
 use Rattle.std.specs.Prelude.{is_some, unwrap_or}
-use Rattle.mm_types.specs.declared.numbers.Key.{Key}
-use Rattle.mm_life.specs.Life.{is_live}
-use Rattle.mm_world.specs.World.{Page, filled}
-use Rattle.mm_world.specs.Keys.{content_of}
-use Rattle.mm_world.specs.Contents.{Tables, world_with}
-use Rattle.mm_world.proofs.Across.{holds_bytes}
-use Rattle.mm_pages.specs.Store.{StoreOf}
+use Rattle.mm_types.specs.{Key}
+use Rattle.mm_life.specs.{is_live}
+use Rattle.mm_world.specs.{Page, filled, content_of, Tables, world_with}
+use Rattle.mm_world.proofs.{holds_bytes}
+use Rattle.mm_pages.specs.{StoreOf, Stands}
 use Rattle.mm_pages.specs.Behind.{Behind}
-use Rattle.mm_pages.specs.Standing.{Stands}
-use Rattle.mm_paging.specs.Runs.{DevicesHold}
-use Rattle.mm_tables.specs.Fits.{key_bytes}
+use Rattle.mm_paging.specs.{DevicesHold}
+use Rattle.mm_tables.specs.{key_bytes}
 
 one_content : (o p : Option Page) → is_some p ≡ is_some o → ((x : Page) → o ≡ Some x → x ≡ unwrap_or p (filled 0)) → o ≡ p
 one_content None None e h = refl

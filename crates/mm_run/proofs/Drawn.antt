@@ -1,19 +1,16 @@
 -- The events of a generated script: a machine first, and then other lines alone.
-use Rattle.std.proofs.Common.{◌≡◌, ℕ, zero, suc, ◌+◌, ◌%◌, ◌-◌, ◌<◌, ◌≤◌, ◌^◌, Bool, true, false, List, [], ◌∷◌, ◌++◌, length, take, drop, length-drop, Some, None, codes, refl, sym, ap, ◌∙◌, subst, arith}
+use Rattle.std.proofs.Common.{◌≡◌, ℕ, zero, suc, ◌+◌, ◌%◌, ◌-◌, ◌<◌, ◌≤◌, ◌^◌, Bool, true, false, List, [], ◌∷◌, ◌++◌, length, take, drop, length-drop, Some, None, codes, refl, sym, ap, subst, arith}
 use Rattle.std.specs.Prelude.{if◌then◌else◌, IsTrue, nat_le, ◌==◌}
 use Rattle.std.specs.List.{AllByRecursion}
 use Rattle.std.proofs.lemmas.Nat.{mod_below}
 use Rattle.std.proofs.lemmas.Bool.{le-leb}
 use Rattle.std.proofs.lemmas.List.{take_all}
-use Rattle.mm_types.specs.Machine.{MachineOf}
-use Rattle.mm_types.specs.declared.events.Event.{Event}
+use Rattle.mm_types.specs.{MachineOf, Event}
 use Rattle.mm_types.specs.declared.events.Event.TheVariants as line
-use Rattle.mm_script.specs.Printed.{IsInRange}
-use Rattle.mm_script.specs.Grammar.{fields_of, are_joined}
-use Rattle.mm_make.specs.Outputs.{outputs, seeded, outputs_from}
-use Rattle.mm_make.specs.Generated.{Drawn, drawn, drawn_events, drawn_of_kind, write_drawn, read_drawn, address_drawn, script_of}
-use Rattle.mm_core.specs.Built.{is_machine}
-use Rattle.mm_run.specs.Batch.{IsLaterEvent, AreLater}
+use Rattle.mm_script.specs.{IsInRange, fields_of, are_joined}
+use Rattle.mm_make.specs.{outputs, seeded, outputs_from, Drawn, drawn, drawn_events, drawn_of_kind, write_drawn, read_drawn, address_drawn, script_of}
+use Rattle.mm_core.specs.{is_machine}
+use Rattle.mm_run.specs.{IsLaterEvent, AreLater}
 
 abbrev small_machine : MachineOf
 small_machine = record { frames = 64; slots = 256; depth = 4; blocks = 32 }

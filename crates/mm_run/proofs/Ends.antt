@@ -1,18 +1,10 @@
 -- How a run ends.
 use Rattle.std.proofs.Common.{◌≡◌, ◌≢◌, ◌≤◌, ◌⊎◌, ℕ, true, false, List, [], Option, refl, sym, ap, ◌∙◌, subst, inl, inr, arith}
-use Rattle.mm_types.specs.Outside.{Rose}
-use Rattle.mm_types.specs.Spelling.{Text}
-use Rattle.mm_types.specs.AnswerText.{spelled}
-use Rattle.mm_io.proofs.Fillings.{filled_none}
-use Rattle.mm_run.specs.declared.endings.Ending.{Ending}
+use Rattle.mm_types.specs.{Rose, Text, spelled}
+use Rattle.mm_io.proofs.{filled_none}
+use Rattle.mm_run.specs.{Ending, Stage, DecidedLine, answers_in, status_of, is_over, IsFault, IsAccounted, CameToEnd, FaultCounts, IsBlamed}
+use Rattle.mm_run.specs.{InputEndsAt, StandsAt, outside, stand}
 use Rattle.mm_run.specs.declared.endings.Ending.TheVariants as ending
-use Rattle.mm_run.specs.Scenes.{Stage}
-use Rattle.mm_run.specs.Answered.{DecidedLine, answers_in}
-use Rattle.mm_run.specs.Texts.{status_of}
-use Rattle.mm_run.specs.Closing.{is_over}
-use Rattle.mm_run.specs.Script.{IsFault}
-use Rattle.mm_run.specs.Faults.{IsAccounted}
-use Rattle.mm_run.specs.Story.{CameToEnd, FaultCounts, IsBlamed, InputEndsAt, StandsAt, outside, stand}
 use Rattle.mm_run.proofs.Stories.{follows_here, grows_here}
 use Rattle.mm_run.proofs.Stops.{came_here}
 
@@ -21,15 +13,9 @@ came_usage a t kept w = came_here a a t kept [] [] 0 w w ending.Usage [] [] (fil
 
 -- what stands is what was told, unless a sink has failed
 pub stands_whole : (e : Ending) (told still : List DecidedLine) (written : Text) → is_over e ≡ false → StandsAt e told still written → written ≡ spelled (answers_in told)
-stands_whole ending.Done told still written q s = s
-stands_whole ending.NoMemory told still written q s = s
-stands_whole ending.Usage told still written q s = s
-stands_whole (ending.Script l c) told still written q s = s
-stands_whole ending.ReadFault told still written q s = s
 stands_whole ending.OutFault told still written q s = cc
 stands_whole ending.MovesFault told still written q s = cc
-stands_whole ending.SetupFault told still written q s = s
-stands_whole (ending.TooLong l) told still written q s = s
+stands_whole e told still written q s = s
 
 pub out_stands : (e : Ending) → is_over e ≡ false → e ≢ ending.OutFault
 out_stands e q same = let bad : true ≡ false = ap is_over (sym same) ∙ q in cc
@@ -44,84 +30,43 @@ module _ (opening : Type 0) (c d : FaultCounts) where
   same_later e = (let o = ap (λ (k : FaultCounts). k.out) e in omega (arith, o), let m = ap (λ (k : FaultCounts). k.moves) e in omega (arith, m))
 
   pub blamed_source : (e : Ending) → status_of e ≡ 4 → IsBlamed e opening c d → Rose c.source d.source
-  blamed_source ending.Done q b = absurd (omega arith)
-  blamed_source ending.NoMemory q b = absurd (omega arith)
-  blamed_source ending.Usage q b = absurd (omega arith)
-  blamed_source (ending.Script l k) q b = absurd (omega arith)
   blamed_source ending.ReadFault q b = b.0
-  blamed_source ending.OutFault q b = absurd (omega arith)
-  blamed_source ending.MovesFault q b = absurd (omega arith)
-  blamed_source ending.SetupFault q b = absurd (omega arith)
-  blamed_source (ending.TooLong l) q b = absurd (omega arith)
+  blamed_source e q b = absurd (omega arith)
 
   pub blamed_out : (e : Ending) → status_of e ≡ 5 → IsBlamed e opening c d → Rose c.out d.out
-  blamed_out ending.Done q b = absurd (omega arith)
-  blamed_out ending.NoMemory q b = absurd (omega arith)
-  blamed_out ending.Usage q b = absurd (omega arith)
-  blamed_out (ending.Script l k) q b = absurd (omega arith)
-  blamed_out ending.ReadFault q b = absurd (omega arith)
   blamed_out ending.OutFault q b = b.0
-  blamed_out ending.MovesFault q b = absurd (omega arith)
-  blamed_out ending.SetupFault q b = absurd (omega arith)
-  blamed_out (ending.TooLong l) q b = absurd (omega arith)
+  blamed_out e q b = absurd (omega arith)
 
   pub blamed_moves : (e : Ending) → status_of e ≡ 6 → IsBlamed e opening c d → Rose c.moves d.moves
-  blamed_moves ending.Done q b = absurd (omega arith)
-  blamed_moves ending.NoMemory q b = absurd (omega arith)
-  blamed_moves ending.Usage q b = absurd (omega arith)
-  blamed_moves (ending.Script l k) q b = absurd (omega arith)
-  blamed_moves ending.ReadFault q b = absurd (omega arith)
-  blamed_moves ending.OutFault q b = absurd (omega arith)
   blamed_moves ending.MovesFault q b = b.0
-  blamed_moves ending.SetupFault q b = absurd (omega arith)
-  blamed_moves (ending.TooLong l) q b = absurd (omega arith)
+  blamed_moves e q b = absurd (omega arith)
 
   pub blamed_opening : (e : Ending) → status_of e ≡ 7 → IsBlamed e opening c d → opening
-  blamed_opening ending.Done q b = absurd (omega arith)
-  blamed_opening ending.NoMemory q b = absurd (omega arith)
-  blamed_opening ending.Usage q b = absurd (omega arith)
-  blamed_opening (ending.Script l k) q b = absurd (omega arith)
-  blamed_opening ending.ReadFault q b = absurd (omega arith)
-  blamed_opening ending.OutFault q b = absurd (omega arith)
-  blamed_opening ending.MovesFault q b = absurd (omega arith)
   blamed_opening ending.SetupFault q b = b.0
-  blamed_opening (ending.TooLong l) q b = absurd (omega arith)
+  blamed_opening e q b = absurd (omega arith)
 
   -- memory was refused
   pub blamed_memory : (e : Ending) → status_of e ≡ 1 → IsBlamed e opening c d → (c.moves ≤ d.moves) × (d ≡ record c { moves = d.moves })
-  blamed_memory ending.Done q b = absurd (omega arith)
   blamed_memory ending.NoMemory q b = b
-  blamed_memory ending.Usage q b = absurd (omega arith)
-  blamed_memory (ending.Script l k) q b = absurd (omega arith)
-  blamed_memory ending.ReadFault q b = absurd (omega arith)
-  blamed_memory ending.OutFault q b = absurd (omega arith)
-  blamed_memory ending.MovesFault q b = absurd (omega arith)
-  blamed_memory ending.SetupFault q b = absurd (omega arith)
-  blamed_memory (ending.TooLong l) q b = absurd (omega arith)
+  blamed_memory e q b = absurd (omega arith)
 
   -- the status blames nothing
   pub blamed_none : (e : Ending) → (IsFault (status_of e) → ⊥) → IsBlamed e opening c d → d ≡ c
-  blamed_none ending.Done q b = b
   blamed_none ending.NoMemory q b = absurd (q (inl refl))
-  blamed_none ending.Usage q b = b
-  blamed_none (ending.Script l k) q b = b
   blamed_none ending.ReadFault q b = absurd (q (inr (inl refl)))
   blamed_none ending.OutFault q b = absurd (q (inr (inr (inl refl))))
   blamed_none ending.MovesFault q b = absurd (q (inr (inr (inr (inl refl)))))
   blamed_none ending.SetupFault q b = absurd (q (inr (inr (inr (inr refl)))))
-  blamed_none (ending.TooLong l) q b = b
+  blamed_none e q b = b
 
   -- no count fell
   pub blamed_later : (e : Ending) → is_over e ≡ false → IsBlamed e opening c d → (c.out ≤ d.out) × (c.moves ≤ d.moves)
-  blamed_later ending.Done q b = same_later b
   blamed_later ending.NoMemory q b = (let e = ap (λ (k : FaultCounts). k.out) b.1 in omega (arith, e), b.0)
-  blamed_later ending.Usage q b = same_later b
-  blamed_later (ending.Script l k) q b = same_later b
   blamed_later ending.ReadFault q b = (let e = ap (λ (k : FaultCounts). k.out) b.1 in omega (arith, e), let e = ap (λ (k : FaultCounts). k.moves) b.1 in omega (arith, e))
   blamed_later ending.OutFault q b = cc
   blamed_later ending.MovesFault q b = cc
   blamed_later ending.SetupFault q b = same_later b.1
-  blamed_later (ending.TooLong l) q b = same_later b
+  blamed_later e q b = same_later b
 
 pub accounted : (e : Ending) (opening : Type 0) (c d : FaultCounts) (status : ℕ) → status ≡ status_of e → IsBlamed e opening c d → IsAccounted status opening c d
 accounted e opening c d status q b = record {
@@ -173,12 +118,5 @@ blamed_open e opening c (inr setup) h = subst (λ (f : Ending). IsBlamed f openi
 
 -- nothing is to be blamed on a device that was opened
 pub blamed_beside : (e : Ending) (opening : Type 0) (c d : FaultCounts) → IsBlamed e ⊥ c d → IsBlamed e opening c d
-blamed_beside ending.Done opening c d b = b
-blamed_beside ending.NoMemory opening c d b = b
-blamed_beside ending.Usage opening c d b = b
-blamed_beside (ending.Script l k) opening c d b = b
-blamed_beside ending.ReadFault opening c d b = b
-blamed_beside ending.OutFault opening c d b = b
-blamed_beside ending.MovesFault opening c d b = b
 blamed_beside ending.SetupFault opening c d b = absurd b.0
-blamed_beside (ending.TooLong l) opening c d b = b
+blamed_beside e opening c d b = b

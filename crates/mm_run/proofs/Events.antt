@@ -1,12 +1,8 @@
 -- Lines that were answered were decided, each from what the one before it left.
-use Rattle.std.proofs.Common.{ℕ, suc, List, [], ◌∷◌, inl, inr, ap, ◌∙◌}
-use Rattle.mm_types.specs.Spelling.{Text}
-use Rattle.mm_run.specs.declared.endings.Ending.{Ending}
+use Rattle.std.proofs.Common.{ℕ, suc, List, [], ◌∷◌, inl, inr, ap, ◌∙◌, ◌≡◌}
+use Rattle.mm_types.specs.{Text}
+use Rattle.mm_run.specs.{Ending, Stage, log_of, Follows, DecidedLine, AreAnswered, ClosesRun, AreDecided, ClosesEvents}
 use Rattle.mm_run.specs.declared.endings.Ending.TheVariants as ending
-use Rattle.mm_run.specs.Scenes.{Stage, log_of}
-use Rattle.mm_run.specs.Answered.{DecidedLine, AreAnswered}
-use Rattle.mm_run.specs.Ends.{ClosesRun}
-use Rattle.mm_run.specs.Bulk.{AreDecided, ClosesEvents}
 
 pub decided_of : (n : ℕ) (old : Stage) (lines : List DecidedLine) → AreAnswered n old lines → AreDecided old lines
 decided_of n old [] u = tt
@@ -25,9 +21,9 @@ closed_of ending.MovesFault n front last end (inr m) = inr (record {
   after = m.after;
 })
 closed_of ending.Done n front last end h = h
-closed_of ending.Usage n front last end h = h
-closed_of (ending.Script l c) n front last end h = h
-closed_of ending.ReadFault n front last end h = h
-closed_of ending.OutFault n front last end h = h
-closed_of ending.SetupFault n front last end h = h
-closed_of (ending.TooLong l) n front last end h = h
+closed_of x n front last end h = h
+
+-- with status 0 nothing changed behind the last of them
+pub follows_done : (e : Ending) (last end : Stage) → e ≡ ending.Done → ClosesEvents e last end → Follows last end
+follows_done ending.Done last end q h = h
+follows_done e last end q h = cc

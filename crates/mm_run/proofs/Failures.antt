@@ -1,28 +1,16 @@
 -- Unless a count of faults rose, an answer tells of a failure only behind a call that a `fail` line named.
 use Rattle.std.proofs.Common.{◌≡◌, ◌⊎◌, ◌≤◌, ℕ, true, false, List, [], ◌∷◌, Option, Some, None, refl, sym, ap, ◌∙◌, subst, inl, inr, arith}
-use Rattle.mm_types.specs.Outside.{Rose}
-use Rattle.mm_types.specs.Spelling.{Text}
-use Rattle.mm_types.proofs.Bytes.{rose_then, rose_later}
-use Rattle.mm_types.specs.declared.answers.Answer.{Answer}
-use Rattle.mm_types.specs.declared.events.Event.{Event}
-use Rattle.mm_types.specs.declared.moves.Move.{Move}
-use Rattle.mm_life.specs.Life.{unstarted}
-use Rattle.mm_life.specs.Replay.{Replays}
+use Rattle.mm_types.specs.{Rose, Text, Answer, Event, Move}
+use Rattle.mm_types.proofs.{rose_then, rose_later}
+use Rattle.mm_life.specs.{unstarted, Replays, wait_of}
 use Rattle.mm_laws.specs.Sound.{Sound}
-use Rattle.mm_laws.proofs.Kept.{kept_along, replay_sound}
-use Rattle.mm_blocks.specs.Devices.{DeviceOf}
-use Rattle.mm_world.specs.Failure.{wait_failed}
-use Rattle.mm_life.specs.Waits.{wait_of}
-use Rattle.mm_core.specs.Serving.{IsFailure, OneFailed, HasFailed, resumed_thread}
-use Rattle.mm_run.specs.declared.endings.Ending.{Ending}
+use Rattle.mm_laws.proofs.{kept_along, replay_sound}
+use Rattle.mm_blocks.specs.{DeviceOf}
+use Rattle.mm_world.specs.{wait_failed}
+use Rattle.mm_core.specs.{IsFailure, OneFailed, HasFailed, resumed_thread, Scene}
+use Rattle.mm_run.specs.{Ending, Outset, Stage, NotBegun, Running, Follows, MachineBegins, DecidesLine, IsDecided, DecidedLine, AreAnswered}
+use Rattle.mm_run.specs.{last_stage, MadeNamed, AreFaultless, Left, StageLeaves, ClosesRun, BreaksAt, SomeRose, begun_at, AreDecided, ClosesEvents}
 use Rattle.mm_run.specs.declared.endings.Ending.TheVariants as ending
-use Rattle.mm_core.specs.Promise.{Scene}
-use Rattle.mm_run.specs.Scenes.{Outset, Stage, NotBegun, Running, Follows}
-use Rattle.mm_run.specs.Steps.{MachineBegins, DecidesLine, IsDecided}
-use Rattle.mm_run.specs.Answered.{DecidedLine, AreAnswered, last_stage, MadeNamed, AreFaultless}
-use Rattle.mm_run.specs.Ends.{Left, StageLeaves, ClosesRun, BreaksAt}
-use Rattle.mm_run.specs.Ran.{SomeRose, begun_at}
-use Rattle.mm_run.specs.Bulk.{AreDecided, ClosesEvents}
 use Rattle.mm_run.proofs.Events.{decided_of, closed_of}
 use Rattle.mm_run.proofs.Lost.{is_lost, lost_line}
 
@@ -145,13 +133,7 @@ calm_follows : (o : Outset) (s z : Scene) → Follows (Running s) (Running z) �
 calm_follows o s z h c =
     let k = z.behind.log.faults in
     let given = z.behind.log.given in
-    let calm : Calm o (record s { behind = record (s.behind) { log = record (s.behind.log) { given = given; faults = k } } }) = record {
-      paging_later = c.paging_later;
-      files_later = c.files_later;
-      sound = c.sound;
-      waits_are = c.waits_are;
-      lost = c.lost;
-    } in
+    let calm : Calm o (record s { behind = record (s.behind) { log = record (s.behind.log) { given = given; faults = k } } }) = assumption c in
     subst (λ (x : Scene). Calm o x) (sym (ap (scene_in s) h.same)) calm
 
 -- ---- the lines after the first, where no count rises up to this stage
@@ -202,13 +184,7 @@ closes_later s ending.NoMemory end (inr b) = breaks_later s b.before end b.follo
 closes_later s ending.MovesFault end (inl h) = follows_later s end h
 closes_later s ending.MovesFault end (inr m) =
     subst (λ (x : Stage). LaterAt s x) (sym m.after) (decided_later s m.line.before m.line.after m.line.event m.line.answer m.line.moves m.next.follows m.next.decided)
-closes_later s ending.Done end h = follows_later s end h
-closes_later s ending.Usage end h = follows_later s end h
-closes_later s (ending.Script l k) end h = follows_later s end h
-closes_later s ending.ReadFault end h = follows_later s end h
-closes_later s ending.OutFault end h = follows_later s end h
-closes_later s ending.SetupFault end h = follows_later s end h
-closes_later s (ending.TooLong l) end h = follows_later s end h
+closes_later s e end h = follows_later s end h
 
 abbrev outset_in : Outset → Stage → Outset
 outset_in o (NotBegun q) = q

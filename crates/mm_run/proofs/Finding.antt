@@ -1,10 +1,8 @@
 -- Steps of a run, one after another.
 use Rattle.std.specs.Prelude.{Result, Ok, Err, Some, None}
 use Rattle.std.proofs.Common.{◌≡◌, ℕ, Option, refl, subst, ◌∙◌, arith}
-use Rattle.mm_types.specs.Spelling.{Text}
-use Rattle.mm_run.specs.declared.endings.Ending.{Ending}
-use Rattle.mm_run.specs.Story.{FaultCounts, IsBlamed, stand}
-use Rattle.mm_run.specs.Moments.{Moment, GoesOn, EndsRun, GoesOnOrEnds, FindsLine, outside_of, fault_counts_of}
+use Rattle.mm_types.specs.{Text}
+use Rattle.mm_run.specs.{Ending, FaultCounts, IsBlamed, stand, Moment, GoesOn, EndsRun, GoesOnOrEnds, FindsLine, outside_of, fault_counts_of}
 use Rattle.mm_run.proofs.Stories.{went_none, went_then, went_came}
 
 -- ---- counts of faults that stayed before

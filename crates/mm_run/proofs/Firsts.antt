@@ -1,27 +1,18 @@
 -- The first line, and lines after it.
-use Rattle.std.proofs.Common.{◌≡◌, ◌<◌, ◌≤◌, ℕ, ◌+◌, List, [], ◌∷◌, ◌++◌, take, drop, length, refl, sym, ap, ◌∙◌, subst, arith}
+use Rattle.std.proofs.Common.{◌≡◌, ◌<◌, ◌≤◌, ℕ, ◌+◌, List, [], ◌∷◌, ◌++◌, take, drop, length, refl, sym, ap, subst, arith}
 use Rattle.std.specs.Prelude.{Option, Ok, true}
-use Rattle.mm_types.specs.Spelling.{Text}
-use Rattle.mm_types.specs.AnswerText.{spelling}
-use Rattle.mm_io.specs.Looking.{HasLine}
-use Rattle.mm_script.specs.Grammar.{IsLine as IsLineFor}
-use Rattle.mm_types.specs.declared.events.Event.{Event}
-use Rattle.mm_types.specs.declared.answers.Answer.{Answer}
+use Rattle.mm_types.specs.{Text, spelling, Event, Answer, MachineOf, limit_of, Move}
+use Rattle.mm_io.specs.{HasLine}
+use Rattle.mm_script.specs.{IsLine as IsLineFor}
 use Rattle.mm_types.specs.declared.answers.Answer.TheVariants as answer
 use Rattle.mm_types.specs.declared.events.Event.TheVariants as line
-use Rattle.mm_types.specs.Machine.{MachineOf, limit_of}
-use Rattle.mm_world.specs.Charge.{charge, limit}
+use Rattle.mm_world.specs.{charge, limit, first_world}
 use Rattle.mm_world.specs.World.{World}
-use Rattle.mm_world.specs.Step.{first_world}
-use Rattle.mm_paging.specs.Runs.{first_move}
-use Rattle.mm_types.specs.declared.moves.Move.{Move}
+use Rattle.mm_paging.specs.{first_move}
 use Rattle.mm_run.specs.declared.endings.Ending.TheVariants as ending
-use Rattle.mm_run.specs.Reading.{reading_of}
-use Rattle.mm_core.specs.Promise.{Scene}
-use Rattle.mm_run.specs.Scenes.{Outset, Stage, NotBegun, Running, HasNoted, log_of}
-use Rattle.mm_run.specs.Steps.{IsDecided, MachineIsMade}
-use Rattle.mm_run.specs.Answered.{DecidedLine, IsNext}
-use Rattle.mm_run.specs.Story.{WentOn, CameToEnd, outside, stand}
+use Rattle.mm_run.specs.{reading_of, Outset, Stage, NotBegun, Running, HasNoted, log_of, IsDecided, MachineIsMade, DecidedLine, IsNext, WentOn}
+use Rattle.mm_run.specs.{CameToEnd, outside, stand}
+use Rattle.mm_core.specs.{Scene}
 use Rattle.mm_run.proofs.Stories.{follows_here}
 use Rattle.mm_run.proofs.Stops.{is_line, went_to, came_muted}
 

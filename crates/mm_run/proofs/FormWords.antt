@@ -4,18 +4,13 @@ use Rattle.std.specs.Prelude.{◌==◌, ◌||◌, ◌&&◌, nat_le, option_and_t
 use Rattle.std.specs.List.{list_any}
 use Rattle.std.specs.declared.alloc.Global.{Global}
 use Rattle.std.proofs.lemmas.Bool.{and_right}
-use Rattle.mm_types.specs.Spelling.{Text}
-use Rattle.mm_text.specs.Field.{are_digits, value_in}
-use Rattle.mm_make.specs.Generated.{script_of}
-use Rattle.mm_forms.specs.declared.forms.Form.{Form}
-use Rattle.mm_forms.specs.declared.forms.Said.{Said}
-use Rattle.mm_forms.specs.Forms.{Says, SaysNone, is_dashed, texts}
-use Rattle.mm_run.specs.declared.forms.WordsForm.{WordsForm}
+use Rattle.mm_types.specs.{Text}
+use Rattle.mm_text.specs.{are_digits, value_in}
+use Rattle.mm_make.specs.{script_of}
+use Rattle.mm_forms.specs.{Form, Said, Says, SaysNone, is_dashed, texts}
+use Rattle.mm_run.specs.{WordsForm, IsBulk, IsNoBulk, BulkRan, below_64, word_value, Around, RanOrRefused, IsRunForm, SaysForm}
 use Rattle.mm_run.specs.declared.forms.WordsForm.TheVariants as form
-use Rattle.mm_run.specs.Bulk.{IsBulk, IsNoBulk, BulkRan, below_64, word_value}
-use Rattle.mm_run.specs.Ran.{Around, Ran, RanOrRefused}
-use Rattle.mm_run.specs.Story.{IsRunForm}
-use Rattle.mm_run.specs.WordForms.{SaysForm}
+use Rattle.mm_run.specs.Ran.{Ran}
 
 -- ---- numbers do not begin with `-`
 
@@ -74,10 +69,8 @@ no_numbers f g ws said (inr (inl (name, h))) are s t e none (form.Bulk a b) says
 no_numbers f g ws said (inr (inr h)) are s t e none x says = h
 
 pub two_items : {X : Type 0} (xs : List X) (d e : X) → 2 ≤ length xs → length xs < 3 → xs ≡ get_or xs 0 d ∷ get_or xs 1 e ∷ []
-two_items [] d e some few = absurd (omega arith)
-two_items (x ∷ []) d e some few = absurd (omega arith)
 two_items (x ∷ y ∷ []) d e some few = refl
-two_items (x ∷ y ∷ z ∷ xs) d e some few = absurd (omega arith)
+two_items x d e some few = absurd (omega arith)
 
 -- ---- the words are one form alone
 

@@ -1,10 +1,8 @@
 -- How a line after the first is read.
 use Rattle.std.proofs.Common.{◌≡◌, ◌<◌, ℕ, zero, suc, refl, sym, ◌∙◌, arith}
 use Rattle.std.proofs.lemmas.Bool.{lt-ltb}
-use Rattle.mm_types.specs.Spelling.{Text}
-use Rattle.mm_types.specs.declared.events.Event.{Event}
-use Rattle.mm_run.specs.Reading.{reading_of}
-use Rattle.mm_run.specs.Story.{IsMisplaced}
+use Rattle.mm_types.specs.{Text, Event}
+use Rattle.mm_run.specs.{reading_of, IsMisplaced}
 
 -- All later lines are read alike.
 pub later_reading : (n : ℕ) (text : Text) → 0 < n → reading_of n text ≡ reading_of 1 text

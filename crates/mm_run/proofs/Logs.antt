@@ -1,26 +1,16 @@
 -- What the sink of moves took in a run, and what its devices hold at the end.
 use Rattle.std.proofs.Common.{◌≡◌, ◌≢◌, ◌≤◌, ℕ, arith, List, [], ◌∷◌, ◌++◌, Option, Some, None, refl, sym, ap, ◌∙◌, subst, inl, inr, append_assoc}
 use Rattle.std.specs.Prelude.{Bool, true, false}
-use Rattle.mm_types.specs.Outside.{Appended}
-use Rattle.mm_types.specs.Spelling.{Text}
-use Rattle.mm_types.specs.declared.moves.Move.{Move}
-use Rattle.mm_types.proofs.Bytes.{append_nil, appended_none, appended_then, rose_later, rose_then}
-use Rattle.mm_life.specs.Life.{FrameLife, unstarted}
-use Rattle.mm_life.specs.Logs.{Told}
-use Rattle.mm_life.specs.MoveText.{AreMoves, spelled_moves}
-use Rattle.mm_life.specs.Replay.{Replays}
-use Rattle.mm_life.proofs.Replays.{replays_then, spelled-append, moves-append}
-use Rattle.mm_world.specs.World.{Page}
-use Rattle.mm_paging.specs.Runs.{DevicesHold}
-use Rattle.mm_run.specs.declared.endings.Ending.{Ending}
+use Rattle.mm_types.specs.{Appended, Text, Move}
+use Rattle.mm_types.proofs.{append_nil, appended_none, appended_then, rose_later, rose_then}
+use Rattle.mm_life.specs.{FrameLife, unstarted, Told, AreMoves, spelled_moves, Replays}
+use Rattle.mm_life.proofs.{replays_then, spelled-append, moves-append}
+use Rattle.mm_world.specs.{Page}
+use Rattle.mm_paging.specs.{DevicesHold}
+use Rattle.mm_run.specs.{Ending, Stage, NotBegun, Running, Follows, HasNoted, with_flush, log_of, replay_of, StageNotes, HoldsUnchanged, DecidedLine}
+use Rattle.mm_run.specs.{AreAnswered, last_stage, moves_of, TornText, ClosesRun, BreaksAt, Left, StageLeaves, LogRan, EndsHolding, AreDecided}
+use Rattle.mm_run.specs.{ClosesEvents}
 use Rattle.mm_run.specs.declared.endings.Ending.TheVariants as ending
-use Rattle.mm_run.specs.Scenes.{Stage, NotBegun, Running, Follows, HasNoted, with_flush, log_of, replay_of}
-use Rattle.mm_run.specs.Steps.{StageNotes, HoldsUnchanged}
-use Rattle.mm_run.specs.Answered.{DecidedLine, AreAnswered, last_stage, moves_of}
-use Rattle.mm_run.specs.Texts.{TornText}
-use Rattle.mm_run.specs.Ends.{ClosesRun, BreaksAt, Left, StageLeaves}
-use Rattle.mm_run.specs.Ran.{LogRan, EndsHolding}
-use Rattle.mm_run.specs.Bulk.{AreDecided, ClosesEvents}
 use Rattle.mm_run.proofs.Stories.{life_follows, bytes_follow, failed_follows}
 use Rattle.mm_run.proofs.Events.{decided_of, closed_of}
 
@@ -173,13 +163,7 @@ module _ (old last : Stage) (moves : List Move) (l : Logged old moves last) (sta
   log_closed ending.MovesFault end (inr m) =
       subst (λ (z : Stage). LogRan (log_of old).bytes (log_of z).bytes (log_of old).faults (log_of z).faults moves ending.MovesFault last z) (sym m.after)
       (log_more ending.MovesFault m.line.before m.line.after m.line.moves m.next.follows m.next.decided.notes (λ a b. b refl))
-  log_closed ending.Done end h = log_whole ending.Done end h
-  log_closed ending.Usage end h = log_whole ending.Usage end h
-  log_closed (ending.Script l c) end h = log_whole (ending.Script l c) end h
-  log_closed ending.ReadFault end h = log_whole ending.ReadFault end h
-  log_closed ending.OutFault end h = log_whole ending.OutFault end h
-  log_closed ending.SetupFault end h = log_whole ending.SetupFault end h
-  log_closed (ending.TooLong l) end h = log_whole (ending.TooLong l) end h
+  log_closed e end h = log_whole e end h
 
   pub log_ran : (e : Ending) (n : ℕ) (front : Text) (end : Stage) → ClosesRun e n front last end → LogRan (log_of old).bytes (log_of end).bytes (log_of old).faults (log_of end).faults moves e last end
   log_ran e n front end h = log_closed e end (closed_of e n front last end h)

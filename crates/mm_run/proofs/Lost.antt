@@ -2,42 +2,27 @@
 use Rattle.std.proofs.Common.{◌≡◌, ◌⊎◌, ℕ, Bool, true, false, List, [], ◌∷◌, ◌++◌, Option, Some, None, refl, sym, ap, ◌∙◌, inl, inr}
 use Rattle.std.specs.List.{list_any}
 use Rattle.std.specs.Prelude.{map, if◌then◌else◌, is_some, ◌&&◌, ◌||◌, ◌==◌, not, unwrap_or, option_map}
-use Rattle.mm_types.proofs.Booleans.{or_left, or_right}
-use Rattle.mm_types.specs.declared.answers.Answer.{Answer}
-use Rattle.mm_types.specs.declared.events.Event.{Event}
+use Rattle.mm_types.proofs.{or_left, or_right}
+use Rattle.mm_types.specs.{Answer, Event, Backing, Record, Request, Move}
 use Rattle.mm_types.specs.declared.events.Event.TheVariants as line
 use Rattle.mm_types.specs.declared.devices.Direction.TheVariants as way
-use Rattle.mm_types.specs.declared.frames.Backing.{Backing}
 use Rattle.mm_types.specs.declared.frames.Backing.TheVariants as backing
-use Rattle.mm_types.specs.declared.frames.Record.{Record}
-use Rattle.mm_types.specs.declared.frames.Request.{Request}
 use Rattle.mm_types.specs.declared.frames.Request.TheVariants as request
-use Rattle.mm_types.specs.declared.moves.Move.{Move}
 use Rattle.mm_types.specs.declared.moves.Move.TheVariants as move
-use Rattle.mm_life.specs.Frames.{record_at, is_read, has_request}
-use Rattle.mm_life.specs.Life.{FrameLife}
-use Rattle.mm_life.specs.Legal.{is_io, is_access}
-use Rattle.mm_life.specs.Effect.{after_move}
-use Rattle.mm_life.specs.Replay.{Replays}
-use Rattle.mm_laws.specs.Fits.{Fit, is_backed}
+use Rattle.mm_life.specs.{record_at, is_read, has_request, FrameLife, is_io, is_access, after_move, Replays, Waiting, Idle, ForFrame, Ended, wait_of}
+use Rattle.mm_life.specs.{ended_by, waits_after, waits_through}
+use Rattle.mm_laws.specs.{Fit, is_backed}
 use Rattle.mm_laws.specs.Sound.{Sound}
-use Rattle.mm_laws.proofs.Kept.{keeps}
-use Rattle.mm_world.specs.Failure.{wait_failed}
-use Rattle.mm_blocks.specs.declared.device_calls.DeviceCall.{DeviceCall}
-use Rattle.mm_blocks.specs.Devices.{DeviceOf, Call, AllServed, logged_call, CallFailed}
-use Rattle.mm_blocks.proofs.Serving.{all_served_failed}
-use Rattle.mm_life.specs.Waits.{Waiting, Idle, ForFrame, Ended, wait_of, ended_by, waits_after}
-use Rattle.mm_life.specs.Walks.{waits_through}
-use Rattle.mm_pages.specs.Told.{in_slot, in_block, call_of, calls_of, paging_traffic, file_traffic}
-use Rattle.mm_pages.specs.Housekeeping.{AllTurn, Makes}
+use Rattle.mm_laws.proofs.{keeps}
+use Rattle.mm_world.specs.{wait_failed, Page, kept_by}
+use Rattle.mm_blocks.specs.{DeviceCall, DeviceOf, Call, AllServed, logged_call, CallFailed}
+use Rattle.mm_blocks.proofs.{all_served_failed}
+use Rattle.mm_pages.specs.{in_slot, in_block, call_of, calls_of, paging_traffic, file_traffic, AllTurn, Makes, Aim}
 use Rattle.mm_pages.specs.Behind.{Behind}
-use Rattle.mm_pages.specs.Accesses.{Aim}
-use Rattle.mm_world.specs.World.{Page, World}
+use Rattle.mm_world.specs.World.{World}
 use Rattle.mm_world.specs.Report.{Report}
-use Rattle.mm_world.specs.Step.{kept_by}
-use Rattle.mm_paging.specs.Kinds.{aim_of}
-use Rattle.mm_paging.specs.Lines.{Line, Does, awaited, is_pending_read, keeps_for, wait_of_begin, waits_of_line, asks_beside}
-use Rattle.mm_core.specs.Serving.{OneFailed}
+use Rattle.mm_paging.specs.{aim_of, Line, Does, awaited, is_pending_read, keeps_for, wait_of_begin, waits_of_line, asks_beside}
+use Rattle.mm_core.specs.{OneFailed}
 
 -- ---- the read of a thread has failed
 
@@ -89,10 +74,8 @@ and_first true b e = refl
 and_first false b e = e
 
 read_has : (r : Request) → is_read r ≡ true → has_request r ≡ true
-read_has request.Read e = refl
 read_has request.None e = cc
-read_has request.Write e = refl
-read_has request.WriteAgain e = refl
+read_has r e = refl
 
 backed_read : (r : Record) → Fit r → is_read r.request ≡ true → is_backed r.backing ≡ true
 backed_read r fit read = fit.clean (or_right (is_some r.owner) (has_request r.request) (read_has r.request read)) (fit.reading read).1

@@ -3,9 +3,9 @@ use Rattle.std.proofs.Common.{◌≡◌, ℕ, ◌+◌, ◌*◌, ◌^◌, ◌≤�
 use Rattle.std.specs.Prelude.{nat_lt, nat_le, ◌&&◌, option_and_then}
 use Rattle.std.proofs.lemmas.List.{drop_more, drop_all}
 use Rattle.std.proofs.lemmas.Bool.{and_right, lt-ltb, le-ltb, le-leb, lt-leb}
-use Rattle.mm_types.specs.Spelling.{Text}
-use Rattle.mm_text.specs.Field.{digit_value, value_in, are_digits}
-use Rattle.mm_run.specs.Bulk.{below_64, word_value}
+use Rattle.mm_types.specs.{Text}
+use Rattle.mm_text.specs.{digit_value, value_in, are_digits}
+use Rattle.mm_run.specs.{below_64, word_value}
 
 -- the value of digits after others of the value n, where all are digits and the value stays below the limit
 abbrev pub scan : ℕ → Text → Option ℕ

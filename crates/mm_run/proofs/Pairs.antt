@@ -2,8 +2,7 @@
 use Rattle.std.proofs.Common.{◌≡◌, ℕ, List, [], ◌∷◌, ◌++◌, ap, ◌∙◌, append_assoc}
 use Rattle.std.specs.Prelude.{codes}
 use Rattle.mm_types.specs.declared.answers.Answer.TheVariants as answer
-use Rattle.mm_types.specs.AnswerText.{spelling}
-use Rattle.mm_types.specs.Spelling.{byte_pairs}
+use Rattle.mm_types.specs.{spelling, byte_pairs}
 
 pub bytes_kept : (old pairs bytes : List ℕ) → pairs ≡ byte_pairs bytes → ((old ++ codes "ok ") ++ pairs) ++ (0x0A ∷ []) ≡ old ++ spelling (answer.Bytes bytes)
 bytes_kept old pairs bytes e =

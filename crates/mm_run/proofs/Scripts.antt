@@ -1,21 +1,13 @@
 -- A script comes to one thing.
 use Rattle.std.proofs.Common.{◌≡◌, ◌≢◌, ◌⊎◌, ℕ, ◌+◌, ◌<◌, ◌≤◌, suc, List, [], ◌∷◌, ◌++◌, length, Option, Some, None, refl, sym, ap, ◌∙◌, subst, inl, inr, arith, append_assoc, length-append}
 use Rattle.std.specs.Prelude.{Ok, Err, map}
-use Rattle.mm_types.specs.Outside.{Appended, Took}
-use Rattle.mm_types.specs.Spelling.{Text}
-use Rattle.mm_types.specs.AnswerText.{spelled}
-use Rattle.mm_types.proofs.Bytes.{append_nil}
-use Rattle.mm_io.specs.Lines.{NoFeed, IsLine, with_line_feed, text_of_lines}
-use Rattle.mm_types.specs.declared.events.Event.{Event}
-use Rattle.mm_run.specs.declared.endings.Ending.{Ending}
+use Rattle.mm_types.specs.{Appended, Took, Text, spelled, Event}
+use Rattle.mm_types.proofs.{append_nil}
+use Rattle.mm_io.specs.{NoFeed, IsLine, with_line_feed, text_of_lines}
+use Rattle.mm_run.specs.{Ending, reading_of, Stage, DecidedLine, AreAnswered, texts_of, answers_in, status_of, last_text, SettlesRun, IsBad, IsOpen}
+use Rattle.mm_run.specs.{Around, RanOrRefused, begun_at, EachSays, IsVerdict, IsScriptOf, IsFault, IsComplete}
 use Rattle.mm_run.specs.declared.endings.Ending.TheVariants as ending
-use Rattle.mm_run.specs.Reading.{reading_of}
-use Rattle.mm_run.specs.Scenes.{Stage}
-use Rattle.mm_run.specs.Answered.{DecidedLine, AreAnswered, texts_of, answers_in}
-use Rattle.mm_run.specs.Texts.{status_of, last_text}
-use Rattle.mm_run.specs.Story.{SettlesRun, IsBad, IsOpen}
-use Rattle.mm_run.specs.Ran.{Around, Ran, RanOrRefused, begun_at}
-use Rattle.mm_run.specs.Script.{EachSays, IsVerdict, IsScriptOf, IsFault, IsComplete}
+use Rattle.mm_run.specs.Ran.{Ran}
 
 -- Bytes without a line feed are no longer than the line in front.
 front_short : (l front r more : Text) → NoFeed front → l ++ 10 ∷ r ≡ front ++ more → length front ≤ length l
@@ -62,11 +54,7 @@ goes_on n l r front more (ending.TooLong number) event few line p v s q = elim s
   | inr full ↦ (let all = full.0 in omega arith)
 ]
 goes_on n l r front more ending.NoMemory event few line p v s q = v
-goes_on n l r front more ending.Usage event few line p v s q = v
-goes_on n l r front more ending.ReadFault event few line p v s q = v
-goes_on n l r front more ending.OutFault event few line p v s q = v
-goes_on n l r front more ending.MovesFault event few line p v s q = v
-goes_on n l r front more ending.SetupFault event few line p v s q = v
+goes_on n l r front more x event few line p v s q = v
 
 bad_and_long : (n : ℕ) (front more front' more' : Text) (column : ℕ) → front ++ more ≡ front' ++ more' → n < 1000000 → IsBad n front column ⊎ IsOpen n front more (Some []) column
     → ((length front' ≡ 257) × NoFeed front') ⊎ ((n ≡ 1000000) × (length front' ≡ 1)) → ⊥
@@ -123,18 +111,10 @@ one_ending n x y x' y' (ending.Script l c) (ending.TooLong k) q v w s t = absurd
 one_ending n x y x' y' (ending.TooLong l) ending.Done q v w s t = absurd (done_and_long n x' y' x y t.1 t.2 (sym q) s.1)
 one_ending n x y x' y' (ending.TooLong l) (ending.Script k d) q v w s t = absurd (bad_and_long n x' y' x y d (sym q) t.1 t.2 s.1)
 one_ending n x y x' y' (ending.TooLong l) (ending.TooLong k) q v w s t = ap (λ m. ending.TooLong m) (s.0 ∙ sym t.0)
-one_ending n x y x' y' ending.NoMemory f q v w s t = absurd v
-one_ending n x y x' y' ending.Usage f q v w s t = absurd v
-one_ending n x y x' y' ending.ReadFault f q v w s t = absurd v
-one_ending n x y x' y' ending.OutFault f q v w s t = absurd v
-one_ending n x y x' y' ending.MovesFault f q v w s t = absurd v
-one_ending n x y x' y' ending.SetupFault f q v w s t = absurd v
-one_ending n x y x' y' e ending.NoMemory q v w s t = absurd w
-one_ending n x y x' y' e ending.Usage q v w s t = absurd w
-one_ending n x y x' y' e ending.ReadFault q v w s t = absurd w
-one_ending n x y x' y' e ending.OutFault q v w s t = absurd w
-one_ending n x y x' y' e ending.MovesFault q v w s t = absurd w
-one_ending n x y x' y' e ending.SetupFault q v w s t = absurd w
+one_ending n x y x' y' ending.Done f q v w s t = absurd w
+one_ending n x y x' y' (ending.Script l c) f q v w s t = absurd w
+one_ending n x y x' y' (ending.TooLong l) f q v w s t = absurd w
+one_ending n x y x' y' e f q v w s t = absurd v
 
 -- From n decided lines on there is one reading.
 one_from : (n : ℕ) (ls ks : List Text) (es gs : List Event) (x y x' y' : Text) (e f : Ending)
@@ -176,12 +156,7 @@ settles_all n x y rest (ending.Script l c) v s = (
   ],
 )
 settles_all n x y rest (ending.TooLong l) v s = s
-settles_all n x y rest ending.NoMemory v s = absurd v
-settles_all n x y rest ending.Usage v s = absurd v
-settles_all n x y rest ending.ReadFault v s = absurd v
-settles_all n x y rest ending.OutFault v s = absurd v
-settles_all n x y rest ending.MovesFault v s = absurd v
-settles_all n x y rest ending.SetupFault v s = absurd v
+settles_all n x y rest other v s = absurd v
 
 abbrev events_of : List DecidedLine → List Event
 events_of lines = map (λ l. l.event) lines
@@ -195,26 +170,17 @@ texts_many [] = refl
 texts_many (l ∷ ls) = ap suc (texts_many ls)
 
 verdict_or : (e : Ending) → e ≢ ending.Usage → IsVerdict e ⊎ IsFault (status_of e)
-verdict_or ending.Done u = inl tt
-verdict_or (ending.Script l c) u = inl tt
-verdict_or (ending.TooLong l) u = inl tt
 verdict_or ending.NoMemory u = inr (inl refl)
 verdict_or ending.Usage u = absurd (u refl)
 verdict_or ending.ReadFault u = inr (inr (inl refl))
 verdict_or ending.OutFault u = inr (inr (inr (inl refl)))
 verdict_or ending.MovesFault u = inr (inr (inr (inr (inl refl))))
 verdict_or ending.SetupFault u = inr (inr (inr (inr (inr refl))))
+verdict_or e u = inl tt
 
 usage_only : (e : Ending) → status_of e ≡ 2 → e ≡ ending.Usage
 usage_only ending.Usage q = refl
-usage_only ending.Done q = absurd (omega arith)
-usage_only (ending.Script l c) q = absurd (omega arith)
-usage_only (ending.TooLong l) q = absurd (omega arith)
-usage_only ending.NoMemory q = absurd (omega arith)
-usage_only ending.ReadFault q = absurd (omega arith)
-usage_only ending.OutFault q = absurd (omega arith)
-usage_only ending.MovesFault q = absurd (omega arith)
-usage_only ending.SetupFault q = absurd (omega arith)
+usage_only e q = absurd (omega arith)
 
 -- a run that is a verdict is over the script
 module _ (a b : Around) (form : Type 0) (status : ℕ) (ran : Ran a b form status) where

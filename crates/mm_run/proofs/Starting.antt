@@ -1,35 +1,21 @@
 -- A machine begins over a new store of pages, as a run tells it.
 use Rattle.std.proofs.Common.{◌≡◌, ◌≤◌, ℕ, zero, suc, List, [], ◌∷◌, Option, None, true, false, length, replicate, slice_get, refl, sym, ap, ◌∙◌, subst}
-use Rattle.mm_types.specs.Machine.{MachineOf}
-use Rattle.mm_life.specs.Legal.{IsLegal}
-use Rattle.mm_types.specs.declared.numbers.Key.{Key}
-use Rattle.mm_life.specs.Life.{unstarted}
-use Rattle.mm_life.specs.Logs.{Log, Grew}
-use Rattle.mm_life.specs.MoveText.{AreMoves, spelled_moves}
+use Rattle.mm_types.specs.{MachineOf, Key, Loan, Both}
+use Rattle.mm_life.specs.{IsLegal, unstarted, Log, Grew, AreMoves, spelled_moves, Idle, wait_of}
 use Rattle.std.specs.Borrow.{GName}
-use Rattle.mm_types.specs.Outside.{Loan, Both}
-use Rattle.mm_blocks.specs.declared.device_calls.DeviceCall.{DeviceCall}
-use Rattle.mm_blocks.specs.declared.device_calls.NamedCalls.{NamedCalls}
-use Rattle.mm_blocks.specs.Devices.{DeviceOf, device_with}
-use Rattle.mm_blocks.specs.Traffic.{NoneLogged, empty_block}
-use Rattle.mm_world.specs.World.{Page, World}
-use Rattle.mm_world.specs.Step.{first_world}
-use Rattle.mm_life.specs.Waits.{Idle, wait_of}
+use Rattle.mm_blocks.specs.{DeviceOf, NoneLogged, empty_block}
+use Rattle.mm_world.specs.{Page, first_world}
+use Rattle.mm_world.specs.World.{World}
 use Rattle.mm_flight.specs.declared.flights.Waiting.TheVariants as waiting
-use Rattle.mm_parts.specs.Reading.{walked_or}
-use Rattle.mm_parts.specs.Start.{first_parts}
-use Rattle.mm_pages.specs.Store.{StoreOf}
+use Rattle.mm_parts.specs.{walked_or, first_parts}
+use Rattle.mm_pages.specs.{StoreOf, none_told, IsNew}
 use Rattle.mm_pages.specs.Behind.{Behind}
-use Rattle.mm_pages.specs.Told.{none_told}
-use Rattle.mm_pages.specs.Conditions.{IsNew}
-use Rattle.mm_moving.specs.Shown.{StateOf}
-use Rattle.mm_state.specs.Shown.{MachineStarts, joined_state}
-use Rattle.mm_paged.specs.Shown.{OwnOf, own_of, store_of, behind_of}
-use Rattle.mm_paging.specs.Lines.{Agrees}
-use Rattle.mm_paging.specs.Runs.{first_move}
-use Rattle.mm_core.specs.Promise.{Scene}
-use Rattle.mm_run.specs.Scenes.{Outset}
-use Rattle.mm_run.specs.Steps.{MachineIsMade}
+use Rattle.mm_moving.specs.{StateOf}
+use Rattle.mm_state.specs.{MachineStarts, joined_state}
+use Rattle.mm_paged.specs.{OwnOf, own_of, store_of, behind_of}
+use Rattle.mm_paging.specs.{Agrees, first_move}
+use Rattle.mm_core.specs.{Scene}
+use Rattle.mm_run.specs.{Outset, MachineIsMade}
 
 nobody_waits : (n t : ℕ) → walked_or (slice_get (replicate n waiting.Nothing) t) ≡ Idle
 nobody_waits zero t = refl
@@ -121,21 +107,6 @@ module _ (m : MachineOf) (o : Outset) (paging files : DeviceOf) (slots blocks : 
       subst (λ (x : World). MachineIsMade m o (scene_of x s b)) (sym ey)
       (subst (λ (x : StoreOf). MachineIsMade m o (scene_of (first_world m) x b)) (sym es)
       (subst (λ (x : Behind). MachineIsMade m o (scene_of (first_world m) (store_of z own) x)) (sym eb) here))
-
--- two devices that were opened, under injections that name nothing
-pub opened_of : (m : MachineOf) (o : Outset) (pp fp : List NamedCalls) (pl fl : Option (List DeviceCall)) (pf ff : ℕ) (slots blocks : List Page)
-    → slots ≡ replicate m.slots empty_block → blocks ≡ replicate m.blocks empty_block → NoneLogged pl → NoneLogged fl → pp ≡ [] → fp ≡ [] → o.paging ≤ pf → o.files ≤ ff
-    → Opened m o (device_with pl pp pf) (device_with fl fp ff) slots blocks
-opened_of m o pp fp pl fl pf ff slots blocks s b lp lf ep ef kp kf = record {
-  slots_are = s;
-  blocks_are = b;
-  paging_logged = lp;
-  files_logged = lf;
-  paging_named = ep;
-  files_named = ef;
-  paging_later = kp;
-  files_later = kf;
-}
 
 -- three loans of references
 pub three_names : (a b c x y z : GName) → Both (Both (Loan a) (Loan b)) (Loan c) ≡ Both (Both (Loan x) (Loan y)) (Loan z) → (a ≡ x) × (b ≡ y) × (c ≡ z)

@@ -2,28 +2,17 @@
 use Rattle.std.proofs.Common.{◌≡◌, ◌⊎◌, ℕ, List, suc, ◌+◌, ◌<◌, ◌≤◌, [], ◌∷◌, ◌++◌, length, take, drop, Option, refl, sym, ap, ◌∙◌, subst, inl, inr, arith, append_assoc, length-append, add-zero, add-one, length-drop}
 use Rattle.std.proofs.lemmas.List.{length-take}
 use Rattle.std.specs.Prelude.{Ok, Err, true}
-use Rattle.mm_types.specs.Outside.{Appended, IsEnd}
-use Rattle.mm_life.specs.MoveText.{spelled_moves}
-use Rattle.mm_types.specs.Spelling.{Text}
-use Rattle.mm_types.specs.AnswerText.{spelling}
-use Rattle.mm_types.proofs.Bytes.{append_nil, took_none, appended_none}
-use Rattle.mm_io.specs.Lines.{IsLine, with_line_feed, text_of_lines}
-use Rattle.mm_io.specs.Looking.{HasLine, IsLong}
-use Rattle.mm_io.specs.Filling.{Filled}
-use Rattle.mm_io.proofs.Fillings.{filled_none}
-use Rattle.mm_types.specs.declared.events.Event.{Event}
-use Rattle.mm_core.specs.Promise.{Scene}
-use Rattle.mm_run.specs.Scenes.{Stage, Running, HasNoted, Follows, log_of}
-use Rattle.mm_run.specs.declared.endings.Ending.{Ending}
+use Rattle.mm_types.specs.{Appended, IsEnd, Text, spelling, Event}
+use Rattle.mm_life.specs.{spelled_moves}
+use Rattle.mm_types.proofs.{append_nil, took_none, appended_none}
+use Rattle.mm_io.specs.{IsLine, with_line_feed, text_of_lines, HasLine, IsLong, Filled}
+use Rattle.mm_io.proofs.{filled_none}
+use Rattle.mm_core.specs.{Scene, is_machine}
+use Rattle.mm_run.specs.{Stage, Running, HasNoted, Follows, log_of, Ending, reading_of, BreaksLine, DecidedLine, HoldMovesOf, IsNext, TornText}
+use Rattle.mm_run.specs.{ClosesRun, BreaksOff, TakesMemory, KeepsAnswers, IsMisplaced, WentOn, CameToEnd, SettlesRun, StandsAt, InputEndsAt, outside}
+use Rattle.mm_run.specs.{stand}
 use Rattle.mm_run.specs.declared.endings.Ending.TheVariants as ending
-use Rattle.mm_core.specs.Built.{is_machine}
-use Rattle.mm_run.specs.Reading.{reading_of}
-use Rattle.mm_run.specs.Steps.{BreaksLine}
-use Rattle.mm_run.specs.Answered.{DecidedLine, HoldMovesOf, IsNext}
-use Rattle.mm_script.specs.Grammar.{IsLine as IsLineFor}
-use Rattle.mm_run.specs.Texts.{TornText}
-use Rattle.mm_run.specs.Ends.{ClosesRun, BreaksOff, TakesMemory}
-use Rattle.mm_run.specs.Story.{KeepsAnswers, IsMisplaced, WentOn, CameToEnd, SettlesRun, StandsAt, InputEndsAt, outside, stand}
+use Rattle.mm_script.specs.{IsLine as IsLineFor}
 use Rattle.mm_run.proofs.Stories.{LogGrows, follows_here, grows_here, grows_follows, grows_grew, grows_next, kept_more, kept_on}
 
 -- No line more is decided, and none is told.

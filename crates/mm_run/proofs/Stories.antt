@@ -1,26 +1,17 @@
 -- Lines decided one after another.
 use Rattle.std.specs.Prelude.{Result}
 use Rattle.std.proofs.Common.{◌≡◌, ℕ, suc, ◌+◌, Bool, List, [], ◌∷◌, ◌++◌, length, Option, Some, None, refl, sym, ap, ◌∙◌, subst, inl, inr, arith, append_assoc, length-append, add-zero}
-use Rattle.mm_types.specs.Outside.{Appended}
-use Rattle.mm_types.specs.Spelling.{Text}
-use Rattle.mm_types.specs.AnswerText.{spelling, spelled}
-use Rattle.mm_types.proofs.Bytes.{append_nil, took_then, appended_none, appended_then}
-use Rattle.mm_io.specs.Lines.{with_line_feed, text_of_lines}
-use Rattle.mm_io.specs.Filling.{Filled}
-use Rattle.mm_io.proofs.Fillings.{filled_none}
-use Rattle.mm_types.specs.declared.answers.Answer.{Answer}
-use Rattle.mm_types.specs.declared.events.Event.{Event}
-use Rattle.mm_run.specs.declared.endings.Ending.{Ending}
+use Rattle.mm_types.specs.{Appended, Text, spelling, spelled, Answer, Event}
+use Rattle.mm_types.proofs.{append_nil, took_then, appended_none, appended_then}
+use Rattle.mm_io.specs.{with_line_feed, text_of_lines, Filled}
+use Rattle.mm_io.proofs.{filled_none}
+use Rattle.mm_run.specs.{Ending, Outset, Stage, NotBegun, Running, Follows, with_flush, log_of, replay_of, DecidedLine, IsNext, AreAnswered}
+use Rattle.mm_run.specs.{HoldMovesOf, last_stage, texts_of, answers_in, IsFront, ClosesRun, Left, IsLogLeft, TakesMemory, KeepsAnswers, WentOn}
+use Rattle.mm_run.specs.{CameToEnd, Comes, SettlesRun, StandsAt, Outside, RunStand, outside, stand}
 use Rattle.mm_run.specs.declared.endings.Ending.TheVariants as ending
-use Rattle.mm_core.specs.Promise.{Scene}
-use Rattle.mm_run.specs.Scenes.{Outset, Stage, NotBegun, Running, Follows, with_flush, log_of, replay_of}
-use Rattle.mm_run.specs.Answered.{DecidedLine, IsNext, AreAnswered, HoldMovesOf, last_stage, texts_of, answers_in}
-use Rattle.mm_run.specs.Texts.{IsFront}
-use Rattle.mm_life.specs.Logs.{Log, IsFrontOf, Told, Grew, Flushed}
-use Rattle.mm_life.specs.MoveText.{spelled_moves}
-use Rattle.mm_life.proofs.Noting.{front_of_then, gave_nothing, gave_then}
-use Rattle.mm_run.specs.Ends.{ClosesRun, Left, IsLogLeft, TakesMemory}
-use Rattle.mm_run.specs.Story.{KeepsAnswers, WentOn, CameToEnd, Comes, SettlesRun, StandsAt, Outside, RunStand, outside, stand}
+use Rattle.mm_core.specs.{Scene}
+use Rattle.mm_life.specs.{Log, IsFrontOf, Told, Grew, Flushed, spelled_moves}
+use Rattle.mm_life.proofs.{front_of_then, gave_nothing, gave_then}
 
 pub joined-append : (xs ys : List Text) → text_of_lines (xs ++ ys) ≡ text_of_lines xs ++ text_of_lines ys
 joined-append [] ys = refl
@@ -121,13 +112,7 @@ closes_from ending.NoMemory n front a b end h c = record {
 closes_from ending.MovesFault n front a b end h (inl c) = inl (follows_then a b end h c)
 closes_from ending.MovesFault n front a b end h (inr c) =
     inr (record { line = c.line; whole = c.whole; muted = record { next = next_from n a b c.line h c.muted.next; failed = c.muted.failed }; after = c.after })
-closes_from ending.Done n front a b end h c = follows_then a b end h c
-closes_from ending.Usage n front a b end h c = follows_then a b end h c
-closes_from (ending.Script l k) n front a b end h c = follows_then a b end h c
-closes_from ending.ReadFault n front a b end h c = follows_then a b end h c
-closes_from ending.OutFault n front a b end h c = follows_then a b end h c
-closes_from ending.SetupFault n front a b end h c = follows_then a b end h c
-closes_from (ending.TooLong l) n front a b end h c = follows_then a b end h c
+closes_from x n front a b end h c = follows_then a b end h c
 
 -- the second lines begin at a number that is equal, and at a stage that follows
 answered_at : (n m : ℕ) (old mid : Stage) (xs ys : List DecidedLine) → AreAnswered n old xs → m ≡ n + length xs → Follows (last_stage old xs) mid → AreAnswered m mid ys → AreAnswered n old (xs ++ ys)
@@ -218,14 +203,7 @@ front_more xs ys written f = record {
 
 stands_more : (e : Ending) (xs ys still : List DecidedLine) (written : Text) → StandsAt e ys still written → StandsAt e (xs ++ ys) still (spelled (answers_in xs) ++ written)
 stands_more ending.OutFault xs ys still written s = (s.0, front_more xs ys written s.1)
-stands_more ending.Done xs ys still written s = whole_more xs ys written s
-stands_more ending.NoMemory xs ys still written s = whole_more xs ys written s
-stands_more ending.Usage xs ys still written s = whole_more xs ys written s
-stands_more (ending.Script l c) xs ys still written s = whole_more xs ys written s
-stands_more ending.ReadFault xs ys still written s = whole_more xs ys written s
-stands_more (ending.TooLong l) xs ys still written s = whole_more xs ys written s
-stands_more ending.MovesFault xs ys still written s = whole_more xs ys written s
-stands_more ending.SetupFault xs ys still written s = whole_more xs ys written s
+stands_more e xs ys still written s = whole_more xs ys written s
 
 -- the text of some lines, and then of others
 chain : (x t u y z : Text) (ls ks : List DecidedLine) → x ++ t ≡ text_of_lines (texts_of ls) ++ y → y ++ u ≡ text_of_lines (texts_of ks) ++ z → x ++ (t ++ u) ≡ text_of_lines (texts_of (ls ++ ks)) ++ z

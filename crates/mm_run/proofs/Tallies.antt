@@ -1,39 +1,19 @@
 -- What a run of a generated script did, from how far its events were decided.
 use Rattle.std.proofs.Common.{◌≡◌, ◌≢◌, ◌⊎◌, ℕ, ◌<◌, List, [], ◌++◌, length, Option, refl, sym, ap, ◌∙◌, subst, inl, inr, arith}
 use Rattle.std.specs.Prelude.{Result, Ok, Err, MatchResult}
-use Rattle.mm_types.specs.Outside.{Appended, Rose}
-use Rattle.mm_types.specs.Spelling.{Text}
-use Rattle.mm_types.proofs.Bytes.{append_nil, appended_none, rose_later}
-use Rattle.mm_types.specs.declared.events.Event.{Event}
-use Rattle.mm_run.specs.declared.bulk.Tally.{Tally}
-use Rattle.mm_run.specs.declared.endings.Ending.{Ending}
+use Rattle.mm_types.specs.{Appended, Rose, Text, Event}
+use Rattle.mm_types.proofs.{append_nil, appended_none, rose_later}
+use Rattle.mm_run.specs.{Tally, Ending, Stage, Follows, DecidedLine, last_stage, answers_in, moves_of, TornText, status_of, Left, StageLeaves}
+use Rattle.mm_run.specs.{FaultCounts, IsBlamed, IsAccounted, Around, GaveAll, begun_at, AreDecided, ClosesEvents, BulkStops, BulkEnds, BulkRan}
+use Rattle.mm_run.specs.{events_in, bulk_text, four_lines, Stopped, Tallied, BatchRan}
 use Rattle.mm_run.specs.declared.endings.Ending.TheVariants as ending
-use Rattle.mm_run.specs.Scenes.{Stage, Follows}
-use Rattle.mm_run.specs.Answered.{DecidedLine, last_stage, answers_in, moves_of}
-use Rattle.mm_run.specs.Texts.{TornText, status_of}
-use Rattle.mm_run.specs.Ends.{Left, StageLeaves}
-use Rattle.mm_run.specs.Story.{FaultCounts, IsBlamed}
-use Rattle.mm_run.specs.Faults.{IsAccounted}
-use Rattle.mm_run.specs.Ran.{Around, GaveAll, begun_at}
-use Rattle.mm_run.specs.Bulk.{AreDecided, ClosesEvents, BulkStops, BulkEnds, BulkRan, events_in, bulk_text, four_lines}
-use Rattle.mm_run.specs.Batch.{Stopped, Tallied, BatchRan}
 use Rattle.mm_run.proofs.Stories.{follows_here}
 use Rattle.mm_run.proofs.Batches.{answers_many, events_many}
 use Rattle.mm_run.proofs.Closing.{MovesAfter, leaves_after}
 use Rattle.mm_run.proofs.Ends.{accounted_moves}
 use Rattle.mm_run.proofs.Logs.{events_logged, log_closed, log_left, events_hold}
 use Rattle.mm_run.proofs.Failures.{events_faultless}
-
-follows_done : (e : Ending) (last end : Stage) → e ≡ ending.Done → ClosesEvents e last end → Follows last end
-follows_done ending.Done last end q h = h
-follows_done ending.NoMemory last end q h = cc
-follows_done ending.Usage last end q h = cc
-follows_done (ending.Script l c) last end q h = cc
-follows_done ending.ReadFault last end q h = cc
-follows_done ending.OutFault last end q h = cc
-follows_done ending.MovesFault last end q h = cc
-follows_done ending.SetupFault last end q h = cc
-follows_done (ending.TooLong l) last end q h = cc
+use Rattle.mm_run.proofs.Events.{follows_done}
 
 module _ (a b : Around) (events : List Event) (status : ℕ) where
   ran_by : (lines : List DecidedLine) (left : List Event) (e : Ending) (end : Stage) (written : Text) → events ≡ events_in lines ++ left → AreDecided (begun_at a.beside) lines → BulkStops e left → ClosesEvents e (last_stage (begun_at a.beside) lines) end
@@ -118,15 +98,12 @@ rose_twice a b c h k = omega arith
 
 -- the sink of moves failed at last, whatever came before
 rose_then_moves : (e : Ending) (opening : Type 0) (c m : FaultCounts) (k : ℕ) → IsBlamed e opening c m → Rose m.moves k → Rose c.moves k
-rose_then_moves ending.Done opening c m k b r = subst (λ (x : FaultCounts). Rose x.moves k) b r
 rose_then_moves ending.NoMemory opening c m k b r = rose_later c.moves m.moves k b.0 r
-rose_then_moves ending.Usage opening c m k b r = subst (λ (x : FaultCounts). Rose x.moves k) b r
-rose_then_moves (ending.Script l n) opening c m k b r = subst (λ (x : FaultCounts). Rose x.moves k) b r
 rose_then_moves ending.ReadFault opening c m k b r = subst (λ (x : ℕ). Rose x k) (ap (λ (x : FaultCounts). x.moves) b.1) r
 rose_then_moves ending.OutFault opening c m k b r = subst (λ (x : ℕ). Rose x k) (ap (λ (x : FaultCounts). x.moves) b.1) r
 rose_then_moves ending.MovesFault opening c m k b r = rose_twice c.moves m.moves k b.0 r
 rose_then_moves ending.SetupFault opening c m k b r = subst (λ (x : FaultCounts). Rose x.moves k) b.1 r
-rose_then_moves (ending.TooLong l) opening c m k b r = subst (λ (x : FaultCounts). Rose x.moves k) b r
+rose_then_moves e opening c m k b r = subst (λ (x : FaultCounts). Rose x.moves k) b r
 
 module _ {A : Type 0} (r : Result A Ending) (opening : Type 0) (c m : FaultCounts) (h : MatchResult r (λ _. m ≡ c) (λ e. IsBlamed e opening c m)) where
   moves_rose : (q : Result A Ending) → MatchResult q (λ _. m ≡ c) (λ e. IsBlamed e opening c m) → (k : ℕ) → Rose m.moves k → Rose c.moves k

@@ -1,23 +1,18 @@
 -- Where an answer is that of unpaged address spaces.
 use Rattle.std.proofs.Common.{◌≡◌, ℕ, zero, suc, ◌+◌, ◌<◌, Bool, true, false, Option, Some, None, refl, sym, ap, ◌∙◌, arith}
 use Rattle.std.specs.Prelude.{if◌then◌else◌, is_some, ◌&&◌, nat_le, nat_lt, option_map}
-use Rattle.mm_types.specs.declared.answers.Answer.{Answer}
+use Rattle.mm_types.specs.{Answer, Why, Event}
 use Rattle.mm_types.specs.declared.answers.Answer.TheVariants as answer
-use Rattle.mm_types.specs.declared.answers.Why.{Why}
 use Rattle.mm_types.specs.declared.codes.Raise.TheVariants as raise
-use Rattle.mm_types.specs.declared.events.Event.{Event}
 use Rattle.mm_types.specs.declared.events.Event.TheVariants as line
-use Rattle.mm_world.specs.World.{Page, World, KeptOf, filled}
-use Rattle.mm_world.specs.Access.{ReadOf, WriteOf, Execute, address_in, attempt_in}
-use Rattle.mm_world.specs.Outcome.{OutcomeOf}
-use Rattle.mm_world.specs.Processes.{new_file, most_slots}
-use Rattle.mm_world.specs.Views.{flush}
+use Rattle.mm_world.specs.{Page, KeptOf, filled, ReadOf, WriteOf, Execute, address_in, attempt_in, OutcomeOf, new_file, most_slots, flush, Need}
+use Rattle.mm_world.specs.{access_fails, wait_failed, pending, step, stepped, unpaged, told, is_told, is_ok, when, failing, waiting, resume_told}
+use Rattle.mm_world.specs.{kept_by, need_at, is_failed_extension}
+use Rattle.mm_world.specs.World.{World}
 use Rattle.mm_world.specs.Report.{Report}
-use Rattle.mm_world.specs.Failure.{Need, access_fails, wait_failed, pending}
-use Rattle.mm_world.specs.Step.{step, stepped, unpaged, told, is_told, is_ok, when, failing, waiting, resume_told, kept_by, need_at, is_failed_extension}
-use Rattle.mm_paging.proofs.Quiet.{no_failure}
-use Rattle.mm_core.specs.Stepping.{asks_frames}
-use Rattle.mm_run.specs.Steps.{tells_paging, NoneFailed}
+use Rattle.mm_paging.proofs.{no_failure}
+use Rattle.mm_core.specs.{asks_frames}
+use Rattle.mm_run.specs.{tells_paging, NoneFailed}
 
 -- ---- what a store tells is a failed access, a pending one, a fault, or asked for by the line
 
@@ -56,20 +51,7 @@ resume_is_told w tid (Some k) before after t e =
 
 module _ (w : World) (before after : Report) (t : Answer) where
   told_tells : (e : Event) → asks_frames e ≡ false → told w e before after ≡ Some t → is_told t ≡ true
-  told_tells (line.Machine v0) q e = cc
-  told_tells (line.Process v0 v1) q e = cc
-  told_tells (line.Exit v0) q e = cc
   told_tells (line.File v0 v1 v2) q e = when_told (is_ok (new_file filled w v0 v1 v2).answer && nat_lt 0 after.file_writes.failed) answer.Fault t refl e
-  told_tells (line.Alloc v0 v1 v2 v3 v4) q e = cc
-  told_tells (line.Free v0 v1 v2 v3) q e = cc
-  told_tells (line.Protect v0 v1 v2 v3) q e = cc
-  told_tells (line.Query v0 v1) q e = cc
-  told_tells (line.Create v0 v1 v2 v3) q e = cc
-  told_tells (line.CreateFile v0 v1 v2 v3) q e = cc
-  told_tells (line.Open v0 v1) q e = cc
-  told_tells (line.Close v0 v1) q e = cc
-  told_tells (line.Map v0 v1 v2 v3 v4 v5) q e = cc
-  told_tells (line.Unmap v0 v1) q e = cc
   told_tells (line.Flush v0 v1 v2) q e = when_told (is_ok (flush w v0.0 v1 v2).answer && nat_lt 0 after.file_writes.failed) answer.Fault t refl e
   told_tells (line.Read v0 v1 v2) q e = failing_told (need_at w v0.0 v1 (ReadOf v2)) after t e
   told_tells (line.Write v0 v1 v2) q e = failing_told (need_at w v0.0 v1 (WriteOf v2)) after t e
@@ -79,18 +61,9 @@ module _ (w : World) (before after : Report) (t : Answer) where
       (waiting_told w (need_at w v1.0 (address_in v2) (attempt_in v2)) before after t) e
   told_tells (line.Resume v0) q e = resume_is_told w v0.0 (kept_by w v0.0) before after t e
   told_tells (line.Io v0) q e = (let no_way : true ≡ false = q in cc)
-  told_tells (line.Trim v0 v1) q e = cc
-  told_tells (line.Age v0) q e = cc
-  told_tells (line.Writer v0) q e = cc
-  told_tells (line.Zeroer v0) q e = cc
-  told_tells (line.Fail v0 v1 v2 v3) q e = cc
-  told_tells line.Charge q e = cc
   told_tells line.Counts q e = (let no_way : true ≡ false = q in cc)
   told_tells (line.Grow v0) q e = when_told (nat_le (w.machine.slots + v0) most_slots && is_failed_extension after.extended) answer.Fault t refl e
-  told_tells (line.Watch v0 v1 v2 v3 v4) q e = cc
-  told_tells (line.ResetWatch v0 v1 v2) q e = cc
-  told_tells (line.Stack v0 v1 v2 v3) q e = cc
-  told_tells (line.Probe v0 v1) q e = cc
+  told_tells x q e = cc
 
 answer_was : (w v : World) (e : Event) (t a : Answer) → stepped w e (Some t) ≡ record { answer = a; world = v } → t ≡ a
 answer_was w v e t a h = ap (λ (o : OutcomeOf Page). o.answer) h
@@ -126,20 +99,7 @@ module _ (w : World) (before after : Report) (none : NoneFailed after) (search :
   failing_none (Some n) = when_never (access_fails n after) (answer.Raised raise.InPageError) (no_failure after search read none.calls n)
 
   told_none : (e : Event) → tells_paging e ≡ false → told w e before after ≡ None
-  told_none (line.Machine v0) q = refl
-  told_none (line.Process v0 v1) q = refl
-  told_none (line.Exit v0) q = refl
   told_none (line.File v0 v1 v2) q = when_none (is_ok (new_file filled w v0 v1 v2).answer) (nat_lt 0 after.file_writes.failed) answer.Fault no_write
-  told_none (line.Alloc v0 v1 v2 v3 v4) q = refl
-  told_none (line.Free v0 v1 v2 v3) q = refl
-  told_none (line.Protect v0 v1 v2 v3) q = refl
-  told_none (line.Query v0 v1) q = refl
-  told_none (line.Create v0 v1 v2 v3) q = refl
-  told_none (line.CreateFile v0 v1 v2 v3) q = refl
-  told_none (line.Open v0 v1) q = refl
-  told_none (line.Close v0 v1) q = refl
-  told_none (line.Map v0 v1 v2 v3 v4 v5) q = refl
-  told_none (line.Unmap v0 v1) q = refl
   told_none (line.Flush v0 v1 v2) q = when_none (is_ok (flush w v0.0 v1 v2).answer) (nat_lt 0 after.file_writes.failed) answer.Fault no_write
   told_none (line.Read v0 v1 v2) q = failing_none (need_at w v0.0 v1 (ReadOf v2))
   told_none (line.Write v0 v1 v2) q = failing_none (need_at w v0.0 v1 (WriteOf v2))
@@ -147,18 +107,9 @@ module _ (w : World) (before after : Report) (none : NoneFailed after) (search :
   told_none (line.Begin v0 v1 v2) q = (let no_way : true ≡ false = q in cc)
   told_none (line.Resume v0) q = (let no_way : true ≡ false = q in cc)
   told_none (line.Io v0) q = (let no_way : true ≡ false = q in cc)
-  told_none (line.Trim v0 v1) q = refl
-  told_none (line.Age v0) q = refl
-  told_none (line.Writer v0) q = refl
-  told_none (line.Zeroer v0) q = refl
-  told_none (line.Fail v0 v1 v2 v3) q = refl
-  told_none line.Charge q = refl
   told_none line.Counts q = (let no_way : true ≡ false = q in cc)
   told_none (line.Grow v0) q = when_none (nat_le (w.machine.slots + v0) most_slots) (is_failed_extension after.extended) answer.Fault none.extended
-  told_none (line.Watch v0 v1 v2 v3 v4) q = refl
-  told_none (line.ResetWatch v0 v1 v2) q = refl
-  told_none (line.Stack v0 v1 v2 v3) q = refl
-  told_none (line.Probe v0 v1) q = refl
+  told_none e q = refl
 
   pub plain_answer : (v : World) (e : Event) (a : Answer) → step w e before after ≡ record { answer = a; world = v } → tells_paging e ≡ false → unpaged w e ≡ record { answer = a; world = v }
   plain_answer v e a h q = sym (ap (stepped w e) (told_none e q)) ∙ h

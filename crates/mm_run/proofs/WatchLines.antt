@@ -1,24 +1,15 @@
 -- What a line of a world and its answer tell of watched regions.
 use Rattle.std.proofs.Common.{◌≡◌, ℕ, zero, suc, ◌<◌, Option, Some, None, List, [], ◌∷◌, length, refl, sym, ap, ◌∙◌, subst, arith}
 use Rattle.std.specs.Prelude.{Bool, map, slice_index_or}
-use Rattle.mm_types.specs.declared.answers.Answer.{Answer}
+use Rattle.mm_types.specs.{Answer, Event, Place, Tid, range_of}
 use Rattle.mm_types.specs.declared.answers.Answer.TheVariants as answer
-use Rattle.mm_types.specs.declared.events.Event.{Event}
 use Rattle.mm_types.specs.declared.events.Event.TheVariants as line
-use Rattle.mm_types.specs.declared.numbers.Place.{Place}
-use Rattle.mm_types.specs.declared.numbers.Tid.{Tid}
-use Rattle.mm_types.specs.Address.{range_of}
-use Rattle.mm_world.specs.World.{World, KeptOf, Page}
-use Rattle.mm_world.specs.Outcome.{OutcomeOf, done}
+use Rattle.mm_world.specs.{KeptOf, Page, OutcomeOf, done, step, stepped, resume_told, resume, kept_by, Spaces, flag_of, FlagTold, write_of, writes_of}
+use Rattle.mm_world.specs.{writes_after}
+use Rattle.mm_world.specs.World.{World}
 use Rattle.mm_world.specs.Report.{Report}
-use Rattle.mm_world.specs.Step.{step, stepped, resume_told, resume, kept_by}
-use Rattle.mm_world.specs.WellFormed.{Spaces}
-use Rattle.mm_world.specs.Flags.{flag_of, FlagTold}
-use Rattle.mm_world.specs.Writes.{write_of, writes_of, writes_after}
-use Rattle.mm_world.proofs.FlagsTold.{flags_told}
-use Rattle.mm_world.proofs.WatchGives.{watch_gives_flagged}
-use Rattle.mm_world.proofs.KeptWrites.{kept_writes_follow}
-use Rattle.mm_run.specs.Written.{AnsweredLine, WriteMarks, write_marks_after, write_marks_over, no_write_marks, GivesWritten}
+use Rattle.mm_world.proofs.{flags_told, watch_gives_flagged, kept_writes_follow}
+use Rattle.mm_run.specs.{AnsweredLine, WriteMarks, write_marks_after, write_marks_over, no_write_marks, GivesWritten}
 use Rattle.mm_run.proofs.WrittenPages.{Agrees, WentOn, agrees_on, gives}
 
 -- a `resume` that was answered `ok` had an access

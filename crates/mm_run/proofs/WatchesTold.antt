@@ -1,23 +1,15 @@
 -- What each `watch` of a run gave is what the lines before it tell.
 use Rattle.std.proofs.Common.{◌≡◌, ℕ, zero, suc, Option, Some, None, List, [], ◌∷◌, ◌++◌, refl, sym, ap, ◌∙◌, subst}
 use Rattle.std.specs.Prelude.{map, replicate, slice_index_or}
-use Rattle.mm_types.specs.declared.answers.Answer.{Answer}
-use Rattle.mm_types.specs.declared.events.Event.{Event}
+use Rattle.mm_types.specs.{Answer, Event, Move, MachineOf}
 use Rattle.mm_types.specs.declared.events.Event.TheVariants as line
-use Rattle.mm_types.specs.declared.moves.Move.{Move}
-use Rattle.mm_types.specs.Machine.{MachineOf}
-use Rattle.mm_world.specs.World.{World, Page}
-use Rattle.mm_world.specs.Outcome.{OutcomeOf}
-use Rattle.mm_world.specs.Step.{first_world}
-use Rattle.mm_world.specs.WellFormed.{Spaces}
-use Rattle.mm_world.specs.Flags.{flag_of}
-use Rattle.mm_world.specs.Writes.{write_of}
-use Rattle.mm_world.proofs.Keeps.{spaces_keep, first_spaces}
-use Rattle.mm_core.specs.Promise.{Scene}
-use Rattle.mm_run.specs.Scenes.{Outset, Stage, NotBegun, Running, Follows, with_flush, log_of}
-use Rattle.mm_run.specs.Steps.{MachineBegins, DecidesLine, StageStepped}
-use Rattle.mm_run.specs.Written.{AnsweredLine, WriteMarks, write_marks_after, write_marks_over, no_write_marks, GivesWritten}
-use Rattle.mm_run.specs.Answered.{DecidedLine, IsNext, AreAnswered, last_stage, answered_lines}
+use Rattle.mm_world.specs.{Page, OutcomeOf, first_world, Spaces, flag_of, write_of}
+use Rattle.mm_world.specs.World.{World}
+use Rattle.mm_world.proofs.{spaces_keep, first_spaces}
+use Rattle.mm_core.specs.{Scene}
+use Rattle.mm_run.specs.{Outset, Stage, NotBegun, Running, Follows, with_flush, log_of, MachineBegins, DecidesLine, StageStepped, AnsweredLine}
+use Rattle.mm_run.specs.{WriteMarks, write_marks_after, write_marks_over, no_write_marks, GivesWritten, DecidedLine, IsNext, AreAnswered, last_stage}
+use Rattle.mm_run.specs.{answered_lines}
 use Rattle.mm_run.proofs.WrittenPages.{Agrees, writes_to}
 use Rattle.mm_run.proofs.WatchLines.{step_agrees, watch_gives}
 

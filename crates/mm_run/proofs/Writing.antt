@@ -1,11 +1,10 @@
 -- Texts that were written, one behind the other.
 use Rattle.std.specs.Prelude.{Result, Ok, Err, is_err, MatchResult, OnOk}
 use Rattle.std.proofs.Common.{◌≡◌, Bool, true, false, [], ◌++◌, Option, refl, sym, ap, subst, ◌∙◌, append_assoc}
-use Rattle.mm_types.specs.Outside.{Appended}
-use Rattle.mm_types.specs.Spelling.{Text}
-use Rattle.mm_types.proofs.Bytes.{append_nil, appended_then}
-use Rattle.mm_io.specs.Io.{Wrote}
-use Rattle.mm_run.specs.Texts.{TornText}
+use Rattle.mm_types.specs.{Appended, Text}
+use Rattle.mm_types.proofs.{append_nil, appended_then}
+use Rattle.mm_io.specs.{Wrote}
+use Rattle.mm_run.specs.{TornText}
 
 pub wrote_whole : (a b : Option Text) (text : Text) → Wrote a b text false → Appended a b text
 wrote_whole a b text w = subst (λ (t : Text). Appended a b t) (w.all refl) w.written

@@ -5,20 +5,14 @@ use Rattle.std.specs.List.{range_with_len}
 use Rattle.std.proofs.lemmas.Bool.{eqb-true}
 use Rattle.std.proofs.lemmas.Bool.Decides.{eqb_tells}
 use Rattle.std.proofs.lemmas.List.{get_or-set_same, get_or-set_other, get_or-map}
-use Rattle.mm_types.specs.declared.answers.Answer.{Answer}
+use Rattle.mm_types.specs.{Answer, AccessSpec, Event, Place, Range, address_of}
 use Rattle.mm_types.specs.declared.answers.Answer.TheVariants as answer
-use Rattle.mm_types.specs.declared.events.AccessSpec.{AccessSpec}
 use Rattle.mm_types.specs.declared.events.AccessSpec.TheVariants as spec
-use Rattle.mm_types.specs.declared.events.Event.{Event}
 use Rattle.mm_types.specs.declared.events.Event.TheVariants as line
-use Rattle.mm_types.specs.declared.numbers.Place.{Place}
-use Rattle.mm_types.specs.Address.{Range, address_of}
-use Rattle.mm_world.specs.World.{World, KeptOf}
-use Rattle.mm_world.specs.Step.{kept_by}
-use Rattle.mm_world.specs.Flags.{flag_of, is_flagged, FlagTold, Begun, Told, GivesFlagged}
-use Rattle.mm_world.specs.Written.{access_writes, kept_writes, line_begins, line_clears, line_wrote, written_after}
-use Rattle.mm_world.specs.Writes.{ends_none, page_written, write_of, writes_of, unless_in, writes_after}
-use Rattle.mm_run.specs.Written.{WriteMarks, keeps_after, write_marks_after}
+use Rattle.mm_world.specs.{KeptOf, kept_by, flag_of, is_flagged, FlagTold, Begun, Told, GivesFlagged, access_writes, kept_writes, line_begins}
+use Rattle.mm_world.specs.{line_clears, line_wrote, written_after, ends_none, page_written, write_of, writes_of, unless_in, writes_after}
+use Rattle.mm_world.specs.World.{World}
+use Rattle.mm_run.specs.{WriteMarks, keeps_after, write_marks_after}
 
 equal : (p q : ℕ) → p ≡ q → (p == q) ≡ true
 equal p q e = elim (eqb_tells p q) [ inl h ↦ h.0 | inr h ↦ absurd (h.1 e) ]

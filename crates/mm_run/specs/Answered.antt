@@ -2,15 +2,12 @@
 -- Profile, "A run".
 use Rattle.std.specs.Prelude.{◌≡◌, ◌⊎◌, ℕ, suc, true, List, [], ◌∷◌, Option, map, Ok}
 use Rattle.std.specs.List.{flat_map}
-use Rattle.mm_types.specs.Spelling.{Text}
-use Rattle.mm_types.specs.declared.answers.Answer.{Answer}
-use Rattle.mm_types.specs.declared.events.Event.{Event}
-use Rattle.mm_types.specs.declared.moves.Move.{Move}
-use Rattle.mm_life.specs.Logs.{IsFrontOf}
-use Rattle.mm_io.specs.Lines.{IsLine}
-use Rattle.mm_script.specs.Grammar.{IsLine as IsLineFor}
-use Rattle.mm_blocks.specs.Devices.{NamedMade}
-use Rattle.mm_core.specs.Serving.{IsFailure}
+use Rattle.mm_types.specs.{Text, Answer, Event, Move}
+use Rattle.mm_life.specs.{IsFrontOf}
+use Rattle.mm_io.specs.{IsLine}
+use Rattle.mm_script.specs.{IsLine as IsLineFor}
+use Rattle.mm_blocks.specs.{NamedMade}
+use Rattle.mm_core.specs.{IsFailure}
 use Rattle.mm_run.specs.Reading.{reading_of}
 use Rattle.mm_run.specs.Scenes.{Stage, Running, HasNoted, Follows, log_of}
 use Rattle.mm_run.specs.Steps.{IsDecided}

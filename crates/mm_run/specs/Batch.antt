@@ -2,14 +2,12 @@
 -- Profile, "A run".
 use Rattle.std.specs.Prelude.{◌≡◌, ◌⊎◌, ◌<◌, ℕ, true, false, List, ◌++◌, length, count_by, Result, Ok, Err, MatchResult}
 use Rattle.std.specs.List.{AllByRecursion}
-use Rattle.mm_types.specs.declared.answers.Answer.{Answer}
-use Rattle.mm_types.specs.declared.events.Event.{Event}
-use Rattle.mm_script.specs.Printed.{IsWellFormed}
+use Rattle.mm_types.specs.{Answer, Event}
+use Rattle.mm_script.specs.{IsWellFormed}
 use Rattle.mm_run.specs.declared.bulk.Tally.{Tally}
 use Rattle.mm_run.specs.declared.endings.Ending.{Ending}
 use Rattle.mm_run.specs.declared.endings.Ending.TheVariants as ending
-use Rattle.mm_core.specs.Built.{is_machine}
-use Rattle.mm_core.specs.Promise.{Scene}
+use Rattle.mm_core.specs.{is_machine, Scene}
 use Rattle.mm_run.specs.Scenes.{Stage, Running}
 use Rattle.mm_run.specs.Steps.{Moved, BreaksLine}
 use Rattle.mm_run.specs.Answered.{DecidedLine, last_stage, answers_in}

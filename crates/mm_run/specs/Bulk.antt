@@ -6,14 +6,10 @@
 -- the source is not asked. No answer is printed: four lines are, over all of them.
 use Rattle.std.specs.Prelude.{◌≡◌, ◌≢◌, ◌⊎◌, ℕ, ◌<◌, ◌≤◌, ◌^◌, Bool, true, false, List, [], ◌∷◌, ◌++◌, length, map, take, codes, bytes_eq, count_by, Option, Some, None, option_and_then, nat_lt, if◌then◌else◌, String, string_bytes}
 use Rattle.std.specs.declared.alloc.Global.{Global}
-use Rattle.mm_types.specs.Outside.{Appended}
-use Rattle.mm_types.specs.Spelling.{Text, decimal}
-use Rattle.mm_types.specs.AnswerText.{answer_text}
-use Rattle.mm_types.specs.declared.answers.Answer.{Answer}
+use Rattle.mm_types.specs.{Appended, Text, decimal, answer_text, Answer, Event}
 use Rattle.mm_types.specs.declared.answers.Answer.TheVariants as answer
-use Rattle.mm_types.specs.declared.events.Event.{Event}
-use Rattle.mm_text.specs.Field.{digits_in}
-use Rattle.mm_world.specs.Charge.{charge, limit}
+use Rattle.mm_text.specs.{digits_in}
+use Rattle.mm_world.specs.{charge, limit}
 use Rattle.mm_run.specs.declared.endings.Ending.{Ending}
 use Rattle.mm_run.specs.declared.endings.Ending.TheVariants as ending
 use Rattle.mm_run.specs.Scenes.{Stage, NotBegun, Running, Follows, HasNoted, log_of}

@@ -2,9 +2,8 @@
 -- written, and what both sinks give on.
 -- Profile, "A run".
 use Rattle.std.specs.Prelude.{◌≡◌, ◌⊎◌, ◌≤◌, ℕ, ◌++◌, Bool, true, false, Option}
-use Rattle.mm_types.specs.Outside.{Appended, Rose}
-use Rattle.mm_types.specs.Spelling.{Text}
-use Rattle.mm_life.specs.Logs.{IsFrontOf}
+use Rattle.mm_types.specs.{Appended, Rose, Text}
+use Rattle.mm_life.specs.{IsFrontOf}
 use Rattle.mm_run.specs.declared.endings.Ending.{Ending}
 use Rattle.mm_run.specs.declared.endings.Ending.TheVariants as ending
 use Rattle.mm_run.specs.Texts.{TornText, status_of, last_text}

@@ -2,14 +2,12 @@
 -- the log of moves.
 -- Profile, "A run".
 use Rattle.std.specs.Prelude.{◌≡◌, ◌⊎◌, ◌≤◌, ℕ, true, List, Option}
-use Rattle.mm_types.specs.Spelling.{Text}
-use Rattle.mm_types.specs.declared.events.Event.{Event}
-use Rattle.mm_io.specs.Lines.{with_line_feed}
-use Rattle.mm_life.specs.Logs.{Log, IsFrontOf}
-use Rattle.mm_world.specs.World.{Page, filled}
-use Rattle.mm_blocks.specs.declared.device_calls.DeviceCall.{DeviceCall}
-use Rattle.mm_blocks.specs.Devices.{DeviceOf}
-use Rattle.mm_core.specs.Built.{is_machine, takes_memory}
+use Rattle.mm_types.specs.{Text, Event}
+use Rattle.mm_io.specs.{with_line_feed}
+use Rattle.mm_life.specs.{Log, IsFrontOf}
+use Rattle.mm_world.specs.{Page, filled}
+use Rattle.mm_blocks.specs.{DeviceCall, DeviceOf}
+use Rattle.mm_core.specs.{is_machine, takes_memory}
 use Rattle.mm_run.specs.declared.endings.Ending.{Ending}
 use Rattle.mm_run.specs.declared.endings.Ending.TheVariants as ending
 use Rattle.mm_run.specs.Scenes.{Stage, NotBegun, Running, Follows}

@@ -1,8 +1,8 @@
 -- Which counts of faults a status is to blame on.
 -- Profile, "A run".
 use Rattle.std.specs.Prelude.{◌≡◌, ◌⊎◌, ◌≤◌, ℕ}
-use Rattle.mm_types.specs.Outside.{Rose}
-use Rattle.mm_blocks.specs.Traffic.{NoneLogged}
+use Rattle.mm_types.specs.{Rose}
+use Rattle.mm_blocks.specs.{NoneLogged}
 use Rattle.mm_run.specs.Ends.{DeviceLeft}
 use Rattle.mm_run.specs.Story.{FaultCounts}
 use Rattle.mm_run.specs.Script.{IsFault}

@@ -1,13 +1,10 @@
 -- What the steps of a run ask and promise, once for each family of steps.
 -- Profile, "A run".
 use Rattle.std.specs.Prelude.{◌≡◌, ◌≢◌, ℕ, ◌+◌, ◌<◌, ◌≤◌, Bool, true, false, length, Option, Result, Ok, MatchOption, MatchResult}
-use Rattle.mm_types.specs.Outside.{Loans, Rose}
-use Rattle.mm_types.specs.Spelling.{Text}
-use Rattle.mm_types.specs.declared.events.Event.{Event}
-use Rattle.mm_io.specs.Looking.{HasLine}
-use Rattle.mm_script.specs.Grammar.{IsLine as IsLineFor}
-use Rattle.mm_script.specs.Printed.{IsWellFormed}
-use Rattle.mm_core.specs.Promise.{Scene}
+use Rattle.mm_types.specs.{Loans, Rose, Text, Event}
+use Rattle.mm_io.specs.{HasLine}
+use Rattle.mm_script.specs.{IsLine as IsLineFor, IsWellFormed}
+use Rattle.mm_core.specs.{Scene}
 use Rattle.mm_run.specs.declared.endings.Ending.{Ending}
 use Rattle.mm_run.specs.declared.endings.Ending.TheVariants as ending
 use Rattle.mm_run.specs.Reading.{reading_of}

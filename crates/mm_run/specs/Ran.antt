@@ -5,16 +5,11 @@
 -- those that both sinks took and gave on, and both devices. What is not told of these has no bytes
 -- (`None`), and nothing is said of it.
 use Rattle.std.specs.Prelude.{◌≡◌, ◌≢◌, ◌⊎◌, ℕ, ◌<◌, ◌≤◌, List, ◌∷◌, ◌++◌, [], length, Option}
-use Rattle.mm_types.specs.Outside.{Took, Appended, Rose}
-use Rattle.mm_types.specs.Spelling.{Text}
-use Rattle.mm_types.specs.AnswerText.{spelled}
-use Rattle.mm_types.specs.declared.moves.Move.{Move}
-use Rattle.mm_life.specs.Life.{unstarted}
-use Rattle.mm_life.specs.MoveText.{AreMoves, spelled_moves}
-use Rattle.mm_life.specs.Replay.{Replays}
-use Rattle.mm_io.specs.Lines.{text_of_lines}
-use Rattle.mm_world.specs.World.{Page}
-use Rattle.mm_paging.specs.Runs.{DevicesHold}
+use Rattle.mm_types.specs.{Took, Appended, Rose, Text, spelled, Move}
+use Rattle.mm_life.specs.{unstarted, AreMoves, spelled_moves, Replays}
+use Rattle.mm_io.specs.{text_of_lines}
+use Rattle.mm_world.specs.{Page}
+use Rattle.mm_paging.specs.{DevicesHold}
 use Rattle.mm_run.specs.declared.endings.Ending.{Ending}
 use Rattle.mm_run.specs.declared.endings.Ending.TheVariants as ending
 use Rattle.mm_run.specs.Scenes.{Stage, NotBegun, Running, outset, replay_of}

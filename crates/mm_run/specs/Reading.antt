@@ -1,12 +1,9 @@
 -- The event of a line, by where the line stands.
 -- Profile, "Script".
 use Rattle.std.specs.Prelude.{ℕ, zero, suc, Bool, if◌then◌else◌, Result, Ok, Err, codes, bytes_eq, ◌==◌, ◌&&◌, ◌||◌, take, length, slice_index}
-use Rattle.mm_types.specs.Spelling.{Text}
-use Rattle.mm_types.specs.declared.events.Event.{Event}
-use Rattle.mm_script.specs.declared.faults.LineFault.{LineFault}
-use Rattle.mm_script.specs.Place.{without_return}
-use Rattle.mm_script.specs.Reading.{parse}
-use Rattle.mm_core.specs.Built.{is_machine}
+use Rattle.mm_types.specs.{Text, Event}
+use Rattle.mm_script.specs.{LineFault, without_return, parse}
+use Rattle.mm_core.specs.{is_machine}
 
 -- the first word is `machine`
 abbrev pub is_machine_word : Text → Bool

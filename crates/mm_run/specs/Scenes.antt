@@ -1,9 +1,8 @@
 -- What a run shows between two lines.
 -- Profile, "A run".
 use Rattle.std.specs.Prelude.{◌≡◌, ◌≤◌, ℕ, false, List, Option}
-use Rattle.mm_life.specs.Life.{FrameLife, unstarted}
-use Rattle.mm_life.specs.Logs.{Log, GaveOn}
-use Rattle.mm_core.specs.Promise.{Scene}
+use Rattle.mm_life.specs.{FrameLife, unstarted, Log, GaveOn}
+use Rattle.mm_core.specs.{Scene}
 
 -- Before its first line: the counts of faults of both devices, and how the sink of moves stands.
 pub record Outset : Type 0 where

@@ -1,12 +1,11 @@
 -- What a machine's run asks and promises from before its first line on.
 -- Profile, "A run".
 use Rattle.std.specs.Prelude.{◌≡◌, ℕ, ◌+◌, ◌<◌, ◌≤◌, length, take, replicate, Ok}
-use Rattle.mm_types.specs.Machine.{MachineOf}
-use Rattle.mm_types.specs.Spelling.{Text}
+use Rattle.mm_types.specs.{MachineOf, Text}
 use Rattle.mm_types.specs.declared.events.Event.TheVariants as event
-use Rattle.mm_io.specs.Looking.{HasLine}
-use Rattle.mm_script.specs.Grammar.{IsLine as IsLineFor}
-use Rattle.mm_blocks.specs.Traffic.{NoneLogged, empty_block}
+use Rattle.mm_io.specs.{HasLine}
+use Rattle.mm_script.specs.{IsLine as IsLineFor}
+use Rattle.mm_blocks.specs.{NoneLogged, empty_block}
 use Rattle.mm_run.specs.declared.endings.Ending.{Ending}
 use Rattle.mm_run.specs.Reading.{reading_of}
 use Rattle.mm_run.specs.Ends.{DeviceLeft, Left}

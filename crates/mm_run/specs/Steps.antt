@@ -1,29 +1,17 @@
 -- What one line does.
 -- Profile, "A run".
 use Rattle.std.specs.Prelude.{◌≡◌, ◌≤◌, ℕ, Bool, true, false, List, [], ◌∷◌, None, replicate}
-use Rattle.mm_types.specs.Machine.{MachineOf, limit_of}
-use Rattle.mm_types.specs.declared.answers.Answer.{Answer}
+use Rattle.mm_types.specs.{MachineOf, limit_of, Answer, Event, Move}
 use Rattle.mm_types.specs.declared.answers.Answer.TheVariants as answer
 use Rattle.mm_types.specs.declared.answers.Wait.TheVariants as wait
-use Rattle.mm_types.specs.declared.events.Event.{Event}
 use Rattle.mm_types.specs.declared.events.Event.TheVariants as line
-use Rattle.mm_types.specs.declared.moves.Move.{Move}
-use Rattle.mm_life.specs.Logs.{Grew}
-use Rattle.mm_life.specs.MoveText.{AreMoves, spelled_moves}
-use Rattle.mm_life.specs.Replay.{Replays}
-use Rattle.mm_world.specs.Charge.{charge, limit}
-use Rattle.mm_world.specs.Report.{Report, failed_calls}
-use Rattle.mm_world.specs.Outcome.{done}
-use Rattle.mm_world.specs.Step.{first_world, step, unpaged as unpaged_step, is_told, is_failed_extension}
-use Rattle.mm_blocks.specs.Traffic.{NoneLogged, empty_block}
-use Rattle.mm_blocks.specs.Devices.{DeviceOf}
-use Rattle.mm_life.specs.Waits.{Idle}
-use Rattle.mm_pages.specs.Told.{told_of, none_told}
-use Rattle.mm_paging.specs.Lines.{Agrees}
-use Rattle.mm_paging.specs.Runs.{DevicesHold, first_move}
-use Rattle.mm_core.specs.Stepping.{asks_frames}
-use Rattle.mm_core.specs.Promise.{Scene, ToldBeside, Breaks as WorldBreaks}
-use Rattle.mm_core.specs.Built.{is_machine}
+use Rattle.mm_life.specs.{Grew, AreMoves, spelled_moves, Replays, Idle}
+use Rattle.mm_world.specs.{charge, limit, failed_calls, done, first_world, step, unpaged as unpaged_step, is_told, is_failed_extension}
+use Rattle.mm_world.specs.Report.{Report}
+use Rattle.mm_blocks.specs.{NoneLogged, empty_block, DeviceOf}
+use Rattle.mm_pages.specs.{told_of, none_told}
+use Rattle.mm_paging.specs.{Agrees, DevicesHold, first_move}
+use Rattle.mm_core.specs.{asks_frames, Scene, ToldBeside, Breaks as WorldBreaks, is_machine}
 use Rattle.mm_run.specs.Scenes.{Outset, Stage, NotBegun, Running, replay_of, log_of}
 
 -- ---- the first line

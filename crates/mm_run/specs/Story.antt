@@ -1,17 +1,14 @@
 -- What stands at each moment of a run, and what makes it end.
 -- Profile, "A run".
 use Rattle.std.specs.Prelude.{◌≡◌, ◌⊎◌, ℕ, ◌+◌, ◌<◌, ◌≤◌, List, [], ◌∷◌, ◌++◌, length, Option, Ok, Err, map, codes, String, string_bytes, true, nat_lt}
-use Rattle.mm_life.specs.Logs.{IsFrontOf}
+use Rattle.mm_life.specs.{IsFrontOf}
 use Rattle.std.specs.declared.alloc.Global.{Global}
-use Rattle.mm_types.specs.Outside.{Took, IsEnd, Appended, Rose}
-use Rattle.mm_types.specs.Spelling.{Text}
-use Rattle.mm_types.specs.AnswerText.{spelled}
-use Rattle.mm_io.specs.Lines.{IsLine, NoFeed, with_line_feed, text_of_lines}
-use Rattle.mm_script.specs.Grammar.{IsLine as IsLineFor}
-use Rattle.mm_types.specs.declared.events.Event.{Event}
+use Rattle.mm_types.specs.{Took, IsEnd, Appended, Rose, Text, spelled, Event}
+use Rattle.mm_io.specs.{IsLine, NoFeed, with_line_feed, text_of_lines}
+use Rattle.mm_script.specs.{IsLine as IsLineFor}
 use Rattle.mm_run.specs.declared.endings.Ending.{Ending}
 use Rattle.mm_run.specs.declared.endings.Ending.TheVariants as ending
-use Rattle.mm_core.specs.Built.{is_machine}
+use Rattle.mm_core.specs.{is_machine}
 use Rattle.mm_run.specs.Reading.{reading_of}
 use Rattle.mm_run.specs.Scenes.{Stage, Follows, log_of}
 use Rattle.mm_run.specs.Answered.{DecidedLine, AreAnswered, HoldMovesOf, last_stage, texts_of, answers_in}

@@ -1,8 +1,7 @@
 -- The statuses of a run, and its text.
 -- Profile, "A run".
 use Rattle.std.specs.Prelude.{◌≡◌, ℕ, [], ◌∷◌, ◌++◌, codes, Option, Result, MatchResult}
-use Rattle.mm_types.specs.Outside.{Appended}
-use Rattle.mm_types.specs.Spelling.{Text, decimal}
+use Rattle.mm_types.specs.{Appended, Text, decimal}
 use Rattle.mm_run.specs.declared.endings.Ending.{Ending}
 use Rattle.mm_run.specs.declared.endings.Ending.TheVariants as ending
 

@@ -3,13 +3,10 @@
 -- Profile, "Watched regions and stacks".
 use Rattle.std.specs.Prelude.{◌≡◌, ℕ, Bool, false, not, ◌&&◌, ◌==◌, if◌then◌else◌, List, map, take, filter, fold}
 use Rattle.std.specs.List.{range_with_len}
-use Rattle.mm_types.specs.declared.answers.Answer.{Answer}
+use Rattle.mm_types.specs.{Answer, Event, Range, address_of, range_of}
 use Rattle.mm_types.specs.declared.answers.Answer.TheVariants as answer
-use Rattle.mm_types.specs.declared.events.Event.{Event}
 use Rattle.mm_types.specs.declared.events.Event.TheVariants as line
-use Rattle.mm_types.specs.Address.{Range, address_of, range_of}
-use Rattle.mm_world.specs.Written.{access_writes, written_after}
-use Rattle.mm_world.specs.Writes.{ends_none}
+use Rattle.mm_world.specs.{access_writes, written_after, ends_none}
 
 -- a line that was answered
 pub record AnsweredLine : Type 0 where

@@ -1,6 +1,6 @@
 ghost use Rattle.std.specs.Prelude.{◌≡◌, ◌≤◌, ◌+◌, ◌++◌, ℕ, List, [], true, length, vec_capacity, IfOk};
-ghost use Rattle.mm_types.specs.AnswerText.{spelling};
-ghost use Rattle.mm_io.specs.Io.{CountsFaults};
+ghost use Rattle.mm_types.specs.{spelling};
+ghost use Rattle.mm_io.specs.{CountsFaults};
 ghost use Rattle.mm_run.specs.Texts.{WroteText};
 
 use mm_io::{Sink, write_all};

@@ -1,9 +1,8 @@
 ghost use Rattle.std.specs.Prelude.{◌≡◌, ◌<◌, ◌≤◌, ◌+◌, ◌*◌, ℕ, false, ◌∷◌, List, Option, length, IfOk, OnOk, MatchResult, cond};
-ghost use Rattle.mm_io.specs.Io.{CountsFaults};
+ghost use Rattle.mm_io.specs.{CountsFaults};
 ghost use Rattle.mm_types.specs.declared.events.Event.TheVariants as event;
-ghost use Rattle.mm_make.specs.Generated.{script_of};
-ghost use Rattle.mm_core.specs.Shown.{line_number, loans, world_behind};
-ghost use Rattle.mm_core.specs.Promise.{scene};
+ghost use Rattle.mm_make.specs.{script_of};
+ghost use Rattle.mm_core.specs.{line_number, loans, world_behind, scene};
 ghost use Rattle.mm_run.specs.Scenes.{Outset, NotBegun, Running, outset};
 ghost use Rattle.mm_run.specs.Steps.{MachineIsMade, Moved};
 ghost use Rattle.mm_run.specs.Texts.{ToldText};

@@ -1,9 +1,8 @@
 ghost use Rattle.std.specs.Prelude.{◌≡◌, ◌<◌, ◌≤◌, ◌+◌, ◌++◌, ℕ, List, [], length, drop, take, IfNone, IfOk, OnOk, OnErr};
-ghost use Rattle.mm_types.specs.AnswerText.{spelling};
-ghost use Rattle.mm_life.specs.Logs.{Flushed};
-ghost use Rattle.mm_io.specs.Looking.{HasLine};
-ghost use Rattle.mm_core.specs.Shown.{line_number, loans, world_behind};
-ghost use Rattle.mm_core.specs.Promise.{Scene, scene};
+ghost use Rattle.mm_types.specs.{spelling};
+ghost use Rattle.mm_life.specs.{Flushed};
+ghost use Rattle.mm_io.specs.{HasLine};
+ghost use Rattle.mm_core.specs.{line_number, loans, world_behind, Scene, scene};
 ghost use Rattle.mm_run.specs.Scenes.{Stage, Running, Follows};
 ghost use Rattle.mm_run.specs.Steps.{Moved};
 ghost use Rattle.mm_run.specs.Story.{InputEndsAt};

@@ -1,5 +1,5 @@
 ghost use Rattle.std.specs.Prelude.{◌≡◌, ◌≤◌, ℕ, Some, IfOk, MatchOption};
-ghost use Rattle.mm_text.specs.Field.{digit_value};
+ghost use Rattle.mm_text.specs.{digit_value};
 ghost use Rattle.mm_run.specs.Bulk.{word_value};
 ghost use Rattle.mm_run.specs.WordForms.{SaysForm};
 

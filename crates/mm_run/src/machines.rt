@@ -1,6 +1,5 @@
 ghost use Rattle.std.specs.Prelude.{◌≡◌, ◌≢◌, ◌⊎◌, ◌≤◌, ◌+◌, ℕ, false, [], length, IfErr, OnOk};
-ghost use Rattle.mm_core.specs.Shown.{loans, world_behind};
-ghost use Rattle.mm_core.specs.Promise.{scene};
+ghost use Rattle.mm_core.specs.{loans, world_behind, scene};
 ghost use Rattle.mm_run.specs.Scenes.{Outset, NotBegun, Running, outset};
 ghost use Rattle.mm_run.specs.Steps.{MachineIsMade};
 ghost use Rattle.mm_run.specs.Story.{CameToEnd, Comes, IsBlamed, stand, fault_counts_with};

@@ -1,9 +1,8 @@
 ghost use Rattle.std.specs.Prelude.{◌≡◌, ◌≤◌, ◌<◌, ◌+◌, ◌^◌, length, Ok, Err, IfOk, IfErr, OnOk, OnErr, MatchResult};
-ghost use Rattle.mm_types.specs.declared.events.Event.{Event};
-ghost use Rattle.mm_script.specs.Grammar.{IsLine};
+ghost use Rattle.mm_types.specs.{Event};
+ghost use Rattle.mm_script.specs.{IsLine, IsWellFormed};
 ghost use Rattle.mm_run.specs.Story.{IsMisplaced};
-ghost use Rattle.mm_script.specs.Printed.{IsWellFormed};
-ghost use Rattle.mm_core.specs.Built.{is_machine};
+ghost use Rattle.mm_core.specs.{is_machine};
 ghost use Rattle.mm_run.specs.Reading.{reading_of, is_machine_word};
 
 use mm_core::is_machine;

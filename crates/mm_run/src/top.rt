@@ -1,13 +1,13 @@
 ghost use Rattle.std.specs.Prelude.{◌≡◌, ◌≢◌, ◌≤◌, ◌+◌, ◌⊎◌, true, ℕ, List, Some, [], length, ◌++◌};
-ghost use Rattle.mm_types.specs.Spelling.{decimal};
-ghost use Rattle.mm_io.specs.Io.{CountsFaults};
+ghost use Rattle.mm_types.specs.{decimal};
+ghost use Rattle.mm_io.specs.{CountsFaults};
 ghost use Rattle.mm_run.specs.Script.{IsScriptOf, IsComplete, IsFault};
 ghost use Rattle.mm_run.specs.Story.{IsRunForm};
 ghost use Rattle.mm_run.specs.Ran.{RanOrRefused};
 ghost use Rattle.mm_run.specs.Texts.{WroteText, ToldText, last_text};
 ghost use Rattle.mm_run.specs.Closing.{Closed, is_over};
 ghost use Rattle.mm_run.specs.Faults.{IsAccounted};
-ghost use Rattle.mm_make.specs.Generated.{script_of};
+ghost use Rattle.mm_make.specs.{script_of};
 ghost use Rattle.mm_run.specs.Bulk.{IsBulk, IsNoBulk, BulkRanOrRefused};
 ghost use Rattle.mm_run.specs.Settings.{ComesTo};
 ghost use Rattle.mm_run.specs.Seen.{counts_seen, open_failed, seen, setting, sink_seen};

@@ -3,18 +3,15 @@ use Rattle.std.proofs.Common.{◌≡◌, ◌^◌, List, [], ◌∷◌, ◌++◌,
 use Rattle.std.specs.Prelude.{nat_lt}
 use Rattle.std.specs.List.{AllByRecursion, list_all}
 use Rattle.std.proofs.lemmas.Bool.{ltb-true, and_parts}
-use Rattle.mm_types.specs.Spelling.{Text}
+use Rattle.mm_types.specs.{Text, Event}
 use Rattle.mm_types.specs.declared.events.AccessSpec.TheVariants as spec
 use Rattle.mm_types.specs.declared.devices.Device.TheVariants as device
 use Rattle.mm_types.specs.declared.devices.Direction.TheVariants as direction
-use Rattle.mm_types.specs.declared.events.Event.{Event}
 use Rattle.mm_types.specs.declared.events.Event.TheVariants as line
-use Rattle.mm_text.proofs.Spelled.{number_of-decimal, number_of-hex_short, bytes_of-byte_pairs}
-use Rattle.mm_script.specs.Field.{Field, Exactly, Decimal, Hex, Bytes, Named, NamedOrDash, Spells, EachSpells}
-use Rattle.mm_script.specs.Grammar.{fields_of, IsText, IsLine}
-use Rattle.mm_script.specs.Printed.{print, spaced_words, printed, IsInRange, IsWellFormed}
-use Rattle.mm_script.specs.Keywords.{text_of}
-use Rattle.mm_script.specs.Shape.{shape_of}
+use Rattle.mm_text.proofs.{number_of-decimal, number_of-hex_short, bytes_of-byte_pairs}
+use Rattle.mm_script.specs.{Exactly, Decimal, Hex, Bytes, Named, NamedOrDash, Spells, EachSpells, fields_of, IsText, IsLine, print, spaced_words}
+use Rattle.mm_script.specs.{printed, IsInRange, IsWellFormed, text_of, shape_of}
+use Rattle.mm_script.specs.Field.{Field}
 use Rattle.mm_script.proofs.Shapes.{fields_for}
 use Rattle.mm_script.proofs.EachForm.{fields_made, form_of}
 
@@ -24,43 +21,10 @@ is_low (Decimal least most n) = nat_lt most (2 ^ 32)
 is_low _ = true
 
 fields_low : (e : Event) → list_all is_low (fields_of e) ≡ true
-fields_low (line.Machine m) = refl
-fields_low (line.Process min max) = refl
-fields_low (line.Exit pid) = refl
-fields_low (line.File name pages byte) = refl
-fields_low (line.Alloc pid addr size kind prot) = refl
-fields_low (line.Free pid addr size kind) = refl
-fields_low (line.Protect pid addr size prot) = refl
-fields_low (line.Query pid addr) = refl
-fields_low (line.Create pid size flags name) = refl
-fields_low (line.CreateFile pid file flags name) = refl
-fields_low (line.Open pid name) = refl
-fields_low (line.Close pid handle) = refl
-fields_low (line.Map pid handle access offset len addr) = refl
-fields_low (line.Unmap pid addr) = refl
-fields_low (line.Flush pid addr size) = refl
-fields_low (line.Read pid addr len) = refl
-fields_low (line.Write pid addr bytes) = refl
-fields_low (line.Exec pid addr) = refl
 fields_low (line.Begin tid pid (spec.Read addr len)) = refl
-fields_low (line.Begin tid pid (spec.Write addr bytes)) = refl
-fields_low (line.Resume tid) = refl
-fields_low (line.Io i) = refl
-fields_low (line.Trim pid n) = refl
-fields_low (line.Age pid) = refl
-fields_low (line.Writer n) = refl
-fields_low (line.Zeroer n) = refl
 fields_low (line.Fail device.Paging direction.Read k n) = refl
-fields_low (line.Fail device.Paging direction.Write k n) = refl
 fields_low (line.Fail device.File direction.Read k n) = refl
-fields_low (line.Fail device.File direction.Write k n) = refl
-fields_low line.Charge = refl
-fields_low line.Counts = refl
-fields_low (line.Grow n) = refl
-fields_low (line.Watch pid flag addr size count) = refl
-fields_low (line.ResetWatch pid addr size) = refl
-fields_low (line.Stack tid pid reserve commit) = refl
-fields_low (line.Probe tid addr) = refl
+fields_low e = refl
 
 print_spells : (f : Field) → is_low f ≡ true → IsInRange f → Spells (print f) f
 print_spells (Exactly text) low h = refl

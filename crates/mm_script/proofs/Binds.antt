@@ -1,10 +1,8 @@
 -- Steps that may fail, one after another.
 use Rattle.std.proofs.Common.{◌≡◌, ◌⊎◌, List, [], ◌∷◌, Option, Some, None, Result, Ok, Err, refl, sym, ap, ◌∙◌, inl, inr}
-use Rattle.mm_types.specs.Spelling.{Text}
+use Rattle.mm_types.specs.{Text}
 use Rattle.mm_text.specs.Word.{Word}
-use Rattle.mm_script.specs.declared.faults.LineFault.{LineFault}
-use Rattle.mm_script.specs.Place.{fault_at}
-use Rattle.mm_script.specs.Reading.{◌>>=◌, Rest, rest_behind, word_read, first_read, word_as, ends_at, ended}
+use Rattle.mm_script.specs.{LineFault, fault_at, ◌>>=◌, Rest, rest_behind, word_read, first_read, word_as, ends_at, ended}
 
 pub bind_ok : {A B : Type 0} (r : Result A LineFault) (f : A → Result B LineFault) (y : B) → (r >>= f) ≡ Ok y → (x : A) × (r ≡ Ok x) × (f x ≡ Ok y)
 bind_ok (Ok x) f y h = (x, refl, h)

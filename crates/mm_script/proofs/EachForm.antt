@@ -1,18 +1,11 @@
 -- Each form of a line: its values are those of one event, and each event is of one form.
 use Rattle.std.proofs.Common.{◌≡◌, ℕ, ◌⊎◌, List, ◌∷◌, refl, inl, inr}
-use Rattle.mm_types.specs.declared.numbers.Pid.{Pid}
-use Rattle.mm_types.specs.declared.numbers.Tid.{Tid}
+use Rattle.mm_types.specs.{Pid, Tid, Event}
 use Rattle.mm_types.specs.declared.events.AccessSpec.TheVariants as spec
-use Rattle.mm_types.specs.declared.events.Event.{Event}
 use Rattle.mm_types.specs.declared.events.Event.TheVariants as line
-use Rattle.mm_text.specs.Field.{is_letter}
-use Rattle.mm_script.specs.declared.keywords.Keyword.{Keyword}
+use Rattle.mm_text.specs.{is_letter}
+use Rattle.mm_script.specs.{Keyword, Exactly, fields_of, text_of, shape_of, make_of}
 use Rattle.mm_script.specs.declared.keywords.Keyword.TheVariants as keyword
-use Rattle.mm_script.specs.Field.{Exactly}
-use Rattle.mm_script.specs.Grammar.{fields_of}
-use Rattle.mm_script.specs.Keywords.{text_of}
-use Rattle.mm_script.specs.Shape.{shape_of}
-use Rattle.mm_script.specs.Reading.{make_of}
 use Rattle.mm_script.proofs.Joined.{IsPlain}
 use Rattle.mm_script.proofs.Plain.{plain_all}
 use Rattle.mm_script.proofs.Shapes.{Values, made_of, fields_for}
@@ -23,39 +16,8 @@ begin_made tid pid (inr vs) = refl
 
 -- the fields of the event that is made after a keyword
 pub fields_made : (k : Keyword) (vs : Values (shape_of k)) → fields_of (made_of (shape_of k) (make_of k) vs) ≡ Exactly (text_of k) ∷ fields_for (shape_of k) vs
-fields_made keyword.Machine vs = refl
-fields_made keyword.Process vs = refl
-fields_made keyword.Exit vs = refl
-fields_made keyword.File vs = refl
-fields_made keyword.Alloc vs = refl
-fields_made keyword.Free vs = refl
-fields_made keyword.Protect vs = refl
-fields_made keyword.Query vs = refl
-fields_made keyword.Create vs = refl
-fields_made keyword.CreateFile vs = refl
-fields_made keyword.Open vs = refl
-fields_made keyword.Close vs = refl
-fields_made keyword.Map vs = refl
-fields_made keyword.Unmap vs = refl
-fields_made keyword.Flush vs = refl
-fields_made keyword.Read vs = refl
-fields_made keyword.Write vs = refl
-fields_made keyword.Exec vs = refl
 fields_made keyword.Begin vs = begin_made vs.0 vs.1.0 vs.1.1
-fields_made keyword.Resume vs = refl
-fields_made keyword.Io vs = refl
-fields_made keyword.Trim vs = refl
-fields_made keyword.Age vs = refl
-fields_made keyword.Writer vs = refl
-fields_made keyword.Zeroer vs = refl
-fields_made keyword.Fail vs = refl
-fields_made keyword.Charge vs = refl
-fields_made keyword.Counts vs = refl
-fields_made keyword.Grow vs = refl
-fields_made keyword.Watch vs = refl
-fields_made keyword.ResetWatch vs = refl
-fields_made keyword.Stack vs = refl
-fields_made keyword.Probe vs = refl
+fields_made k vs = refl
 
 -- the keyword of an event, and the values after it
 pub record IsOfForm (e : Event) : Type 0 where
@@ -101,35 +63,4 @@ form_of (line.Probe tid addr) = record { keyword = keyword.Probe; values = (tid,
 
 pub plain_keyword : (k : Keyword) → IsPlain (text_of k)
 plain_keyword keyword.Machine = plain_all is_letter refl refl (text_of keyword.Machine) refl
-plain_keyword keyword.Process = plain_all is_letter refl refl (text_of keyword.Process) refl
-plain_keyword keyword.Exit = plain_all is_letter refl refl (text_of keyword.Exit) refl
-plain_keyword keyword.File = plain_all is_letter refl refl (text_of keyword.File) refl
-plain_keyword keyword.Alloc = plain_all is_letter refl refl (text_of keyword.Alloc) refl
-plain_keyword keyword.Free = plain_all is_letter refl refl (text_of keyword.Free) refl
-plain_keyword keyword.Protect = plain_all is_letter refl refl (text_of keyword.Protect) refl
-plain_keyword keyword.Query = plain_all is_letter refl refl (text_of keyword.Query) refl
-plain_keyword keyword.Create = plain_all is_letter refl refl (text_of keyword.Create) refl
-plain_keyword keyword.CreateFile = plain_all is_letter refl refl (text_of keyword.CreateFile) refl
-plain_keyword keyword.Open = plain_all is_letter refl refl (text_of keyword.Open) refl
-plain_keyword keyword.Close = plain_all is_letter refl refl (text_of keyword.Close) refl
-plain_keyword keyword.Map = plain_all is_letter refl refl (text_of keyword.Map) refl
-plain_keyword keyword.Unmap = plain_all is_letter refl refl (text_of keyword.Unmap) refl
-plain_keyword keyword.Flush = plain_all is_letter refl refl (text_of keyword.Flush) refl
-plain_keyword keyword.Read = plain_all is_letter refl refl (text_of keyword.Read) refl
-plain_keyword keyword.Write = plain_all is_letter refl refl (text_of keyword.Write) refl
-plain_keyword keyword.Exec = plain_all is_letter refl refl (text_of keyword.Exec) refl
-plain_keyword keyword.Begin = plain_all is_letter refl refl (text_of keyword.Begin) refl
-plain_keyword keyword.Resume = plain_all is_letter refl refl (text_of keyword.Resume) refl
-plain_keyword keyword.Io = plain_all is_letter refl refl (text_of keyword.Io) refl
-plain_keyword keyword.Trim = plain_all is_letter refl refl (text_of keyword.Trim) refl
-plain_keyword keyword.Age = plain_all is_letter refl refl (text_of keyword.Age) refl
-plain_keyword keyword.Writer = plain_all is_letter refl refl (text_of keyword.Writer) refl
-plain_keyword keyword.Zeroer = plain_all is_letter refl refl (text_of keyword.Zeroer) refl
-plain_keyword keyword.Fail = plain_all is_letter refl refl (text_of keyword.Fail) refl
-plain_keyword keyword.Charge = plain_all is_letter refl refl (text_of keyword.Charge) refl
-plain_keyword keyword.Counts = plain_all is_letter refl refl (text_of keyword.Counts) refl
-plain_keyword keyword.Grow = plain_all is_letter refl refl (text_of keyword.Grow) refl
-plain_keyword keyword.Watch = plain_all is_letter refl refl (text_of keyword.Watch) refl
-plain_keyword keyword.ResetWatch = plain_all is_letter refl refl (text_of keyword.ResetWatch) refl
-plain_keyword keyword.Stack = plain_all is_letter refl refl (text_of keyword.Stack) refl
-plain_keyword keyword.Probe = plain_all is_letter refl refl (text_of keyword.Probe) refl
+plain_keyword k = plain_all is_letter refl refl (text_of k) refl

@@ -3,11 +3,9 @@ use Rattle.std.proofs.Common.{◌≡◌, List, [], ◌∷◌, length, Option, So
 use Rattle.std.specs.Prelude.{bytes_eq}
 use Rattle.std.proofs.lemmas.Option.{same_Some}
 use Rattle.std.proofs.lemmas.Slice.Eq.{bytes_eq-Decides}
-use Rattle.mm_types.specs.Spelling.{Text}
-use Rattle.mm_script.specs.declared.keywords.Keyword.{Keyword}
+use Rattle.mm_types.specs.{Text}
+use Rattle.mm_script.specs.{Keyword, text_of, keyword_among, keywords, keyword_of, keywords_of_length}
 use Rattle.mm_script.specs.declared.keywords.Keyword.TheVariants as keyword
-use Rattle.mm_script.specs.Keywords.{text_of, keyword_among, keywords, keyword_of}
-use Rattle.mm_script.specs.Sorted.{keywords_of_length}
 
 among_is : (ks : List Keyword) (word : Text) (k : Keyword) → keyword_among ks word ≡ Some k → word ≡ text_of k
 among_is [] word k h = cc
@@ -23,38 +21,7 @@ sought word = keyword_among (keywords_of_length (length word)) word
 -- each keyword is found by its text, both ways
 both_ways : (k : Keyword) → (keyword_among keywords (text_of k) ≡ Some k) × (sought (text_of k) ≡ Some k)
 both_ways keyword.Machine = (refl, refl)
-both_ways keyword.Process = (refl, refl)
-both_ways keyword.Exit = (refl, refl)
-both_ways keyword.File = (refl, refl)
-both_ways keyword.Alloc = (refl, refl)
-both_ways keyword.Free = (refl, refl)
-both_ways keyword.Protect = (refl, refl)
-both_ways keyword.Query = (refl, refl)
-both_ways keyword.Create = (refl, refl)
-both_ways keyword.CreateFile = (refl, refl)
-both_ways keyword.Open = (refl, refl)
-both_ways keyword.Close = (refl, refl)
-both_ways keyword.Map = (refl, refl)
-both_ways keyword.Unmap = (refl, refl)
-both_ways keyword.Flush = (refl, refl)
-both_ways keyword.Read = (refl, refl)
-both_ways keyword.Write = (refl, refl)
-both_ways keyword.Exec = (refl, refl)
-both_ways keyword.Begin = (refl, refl)
-both_ways keyword.Resume = (refl, refl)
-both_ways keyword.Io = (refl, refl)
-both_ways keyword.Trim = (refl, refl)
-both_ways keyword.Age = (refl, refl)
-both_ways keyword.Writer = (refl, refl)
-both_ways keyword.Zeroer = (refl, refl)
-both_ways keyword.Fail = (refl, refl)
-both_ways keyword.Charge = (refl, refl)
-both_ways keyword.Counts = (refl, refl)
-both_ways keyword.Grow = (refl, refl)
-both_ways keyword.Watch = (refl, refl)
-both_ways keyword.ResetWatch = (refl, refl)
-both_ways keyword.Stack = (refl, refl)
-both_ways keyword.Probe = (refl, refl)
+both_ways k = (refl, refl)
 
 same_ways : (word : Text) (a b : Option Keyword) → keyword_among keywords word ≡ a → sought word ≡ b → b ≡ a
 same_ways word (Some k) b p q = sym q ∙ ap sought (among_is keywords word k p) ∙ (both_ways k).1

@@ -1,11 +1,8 @@
 -- The value of the next word, or its fault.
 use Rattle.std.proofs.Common.{◌≡◌, ℕ, ◌-◌, [], Option, Some, None, Result, Ok, Err, refl, sym, ap, ◌∙◌, subst, arith}
 use Rattle.std.specs.Option.{ok_or}
-use Rattle.mm_types.specs.Spelling.{Text}
-use Rattle.mm_script.specs.declared.faults.LineFault.{LineFault}
-use Rattle.mm_script.specs.Place.{fault_at}
-use Rattle.mm_script.specs.Reading.{Rest, rest_behind, word_read, first_read, word_as, Gives}
-use Rattle.mm_script.specs.Cursor.{word_from, TakesWord}
+use Rattle.mm_types.specs.{Text}
+use Rattle.mm_script.specs.{LineFault, fault_at, Rest, rest_behind, word_read, first_read, word_as, Gives, word_from, TakesWord}
 
 -- what is left after the word
 taken_rest : (old new : Rest) (text : Text) → TakesWord old text new → rest_behind old (word_from new.last text) new.left ≡ new
@@ -22,9 +19,9 @@ given_at old new text f t e None =
 given_at old new text f t e (Some x) = ap (λ (r : Rest). Ok (x, r)) (taken_rest old new text t)
 
 -- a word's value, or the fault at it
-given_or : {A : Type 0} (reads : Text → Option A) (old new : Rest) (text : Text) (f : LineFault) (r : Result A LineFault) → TakesWord old text new → f ≡ fault_at new.last (new.number - 1) → r ≡ ok_or (reads text) f → Gives r new (word_as reads old)
-given_or reads old new text f r t e h =
-    subst (λ (q : Result _ LineFault). Gives q new (word_as reads old)) (sym h)
+pub given_or : {A : Type 0} (reads : Text → Option A) (old new : Rest) (text : Text) (o : Option A) (f : LineFault) (r : Result A LineFault) → TakesWord old text new → o ≡ reads text → f ≡ fault_at new.last (new.number - 1) → r ≡ ok_or o f → Gives r new (word_as reads old)
+given_or reads old new text o f r t is e h =
+    subst (λ (q : Result _ LineFault). Gives q new (word_as reads old)) (sym (h ∙ ap (λ o. ok_or o f) is))
     (subst (λ (w : _). Gives (ok_or (reads text) f) new w) (sym (read_taken reads old new text t)) (given_at old new text f t e (reads text)))
 
 -- no word is left
@@ -34,12 +31,6 @@ missing reads old f l e = ap (first_read reads old) l ∙ ap (λ (g : LineFault)
 
 -- the word has a value
 pub given_value : {A : Type 0} (reads : Text → Option A) (old new : Rest) (text : Text) (x : A) → TakesWord old text new → Some x ≡ reads text → word_as reads old ≡ Ok (x, new)
-given_value reads old new text x t e =
-    let f : LineFault = fault_at new.last (new.number - 1) in
-    given_or reads old new text f (Ok x) t refl (ap (λ o. ok_or o f) e)
+given_value reads old new text x t e = given_or reads old new text (Some x) (fault_at new.last (new.number - 1)) (Ok x) t e refl refl
 
--- the word has none
-pub given_fault : {A : Type 0} (reads : Text → Option A) (old new : Rest) (text : Text) (f : LineFault) → TakesWord old text new → None ≡ reads text → f ≡ fault_at new.last (new.number - 1) → word_as reads old ≡ Err f
-given_fault reads old new text f t e at = given_or reads old new text f (Err f) t at (ap (λ o. ok_or o f) e)
-
-pub ruleset given = (given_value, given_fault, missing)
+pub ruleset given = (given_or, missing)

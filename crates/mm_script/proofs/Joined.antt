@@ -2,12 +2,12 @@
 use Rattle.std.specs.List.{AllByRecursion}
 use Rattle.std.proofs.Common.{map, ◌≡◌, ◌≢◌, ℕ, ◌+◌, ◌⊎◌, List, [], ◌∷◌, ◌++◌, length, Bool, true, false, cond, eqb, refl, sym, ap, ◌∙◌, inl, inr, subst}
 use Rattle.std.proofs.lemmas.Bool.{eqb-true}
-use Rattle.mm_types.specs.Spelling.{Text, spaced}
-use Rattle.mm_types.proofs.Bytes.{append_nil}
-use Rattle.mm_text.specs.Word.{Word, words_of}
-use Rattle.mm_text.proofs.Spaces.{HasNoSpace, placed, words_of-spaced, joined, joined-words_of}
-use Rattle.mm_script.specs.Printed.{spaced_words}
-use Rattle.mm_script.specs.Place.{without_return}
+use Rattle.mm_types.specs.{Text, spaced}
+use Rattle.mm_types.proofs.{append_nil}
+use Rattle.mm_text.specs.{words_of}
+use Rattle.mm_text.specs.Word.{Word}
+use Rattle.mm_text.proofs.{HasNoSpace, placed, words_of-spaced, joined, joined-words_of}
+use Rattle.mm_script.specs.{spaced_words, without_return}
 
 -- what the words are
 abbrev pub texts : List Word → List Text

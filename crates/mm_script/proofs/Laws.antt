@@ -1,19 +1,14 @@
 -- A text is read as the event that it is a line for, and otherwise its first fault is told.
 use Rattle.std.proofs.Common.{◌≡◌, ◌≤◌, ◌⊎◌, arith, List, [], ◌∷◌, ◌++◌, length, Some, Result, Ok, Err, true, refl, sym, ap, ◌∙◌, subst, inl, inr}
 use Rattle.std.specs.Prelude.{IfOk, IfErr, OnOk, OnErr}
-use Rattle.mm_types.specs.Spelling.{Text, spaced}
-use Rattle.mm_types.specs.declared.events.Event.{Event}
-use Rattle.mm_text.specs.Word.{Word, words_of}
-use Rattle.mm_text.proofs.Spaces.{words_from-some}
-use Rattle.mm_script.specs.declared.faults.LineFault.{LineFault}
-use Rattle.mm_script.specs.declared.keywords.Keyword.{Keyword}
-use Rattle.mm_script.specs.Field.{Field, Exactly, EachSpells}
-use Rattle.mm_script.specs.Grammar.{fields_of, are_joined, IsText, IsLine}
-use Rattle.mm_script.specs.Printed.{spaced_words}
-use Rattle.mm_script.specs.Keywords.{text_of, keyword_of}
-use Rattle.mm_script.specs.Shape.{shape_of}
-use Rattle.mm_script.specs.Place.{without_return, first_fault, fault_behind, fault_among, fault_place}
-use Rattle.mm_script.specs.Reading.{◌>>=◌, Rest, rest_behind, word_as, make_of, line_of, whole_line, parse, IsPut}
+use Rattle.mm_types.specs.{Text, spaced, Event}
+use Rattle.mm_text.specs.{words_of}
+use Rattle.mm_text.specs.Word.{Word}
+use Rattle.mm_text.proofs.{words_from-some}
+use Rattle.mm_script.specs.{LineFault, Keyword, Exactly, EachSpells, fields_of, are_joined, IsText, IsLine, spaced_words, text_of, keyword_of}
+use Rattle.mm_script.specs.{shape_of, without_return, first_fault, fault_behind, fault_among, fault_place, ◌>>=◌, Rest, rest_behind, word_as, make_of}
+use Rattle.mm_script.specs.{line_of, whole_line, parse, IsPut}
+use Rattle.mm_script.specs.Field.{Field}
 use Rattle.mm_script.proofs.Binds.{bind_ok, bind_err, Missing, Bad, word_ok, word_err, word_again}
 use Rattle.mm_script.proofs.Joined.{texts, joined_words, split_words, return_cases, return_taken, plain_kept, IsPlain, ArePlain}
 use Rattle.mm_script.proofs.Shapes.{Values, made_of, fields_for, plain_words}

@@ -1,15 +1,12 @@
 -- A number that is a word, and what is made of it.
 use Rattle.std.proofs.Common.{◌≡◌, ℕ, ◌+◌, ◌-◌, ◌≤◌, ◌<◌, Bool, true, false, cond, List, [], ◌∷◌, Option, Some, None, Result, Ok, Err, refl, sym, ap, ◌∙◌, arith}
 use Rattle.std.specs.Prelude.{nat_le, ◌&&◌, option_map, option_and_then}
-use Rattle.std.proofs.lemmas.Bool.{and_right, le-leb, lt-leb}
-use Rattle.mm_types.specs.Spelling.{Text}
-use Rattle.mm_text.specs.Field.{number_of}
+use Rattle.std.proofs.lemmas.Bool.{le-leb, lt-leb}
+use Rattle.mm_types.specs.{Text}
+use Rattle.mm_text.specs.{number_of}
 use Rattle.mm_text.specs.Word.{Word}
-use Rattle.mm_script.specs.declared.faults.LineFault.{LineFault}
-use Rattle.mm_script.specs.Place.{fault_at}
-use Rattle.mm_script.specs.Shape.{read, Number, AnyNumber, PidNumber, within, number_in, pid_from}
-use Rattle.mm_script.specs.Reading.{Rest, rest_behind, word_read, first_read, word_as}
-use Rattle.mm_script.specs.Cursor.{word_from}
+use Rattle.mm_script.specs.{LineFault, fault_at, read, Number, AnyNumber, PidNumber, within, number_in, pid_from, Rest, rest_behind, word_read}
+use Rattle.mm_script.specs.{first_read, word_as, word_from}
 use Rattle.mm_script.proofs.Given.{given_value}
 
 abbrev or_fault : {B : Type 0} → Option B → Rest → Result (B × Rest) LineFault

@@ -4,8 +4,9 @@ use Rattle.std.specs.Prelude.{nat_le, nat_lt, option_and_then}
 use Rattle.std.specs.List.{list_all}
 use Rattle.std.proofs.lemmas.Bool.{eqb-true, and_parts, false≢true}
 use Rattle.std.proofs.lemmas.Option.{cond_some}
-use Rattle.mm_types.specs.Spelling.{Text}
-use Rattle.mm_text.specs.Field.{digit_value, digits_in, are_digits, hex_digits, limited, number_in, number_of, pair_of, byte_before, pairs_of, few_bytes, bytes_of, is_letter, is_name_byte, is_name, name_of}
+use Rattle.mm_types.specs.{Text}
+use Rattle.mm_text.specs.{digit_value, digits_in, are_digits, hex_digits, limited, number_in, number_of, pair_of, byte_before, pairs_of, few_bytes}
+use Rattle.mm_text.specs.{bytes_of, is_letter, is_name_byte, is_name, name_of}
 use Rattle.mm_script.proofs.Joined.{is_plain, IsPlain}
 
 -- a test that space and carriage return fail leaves plain bytes alone

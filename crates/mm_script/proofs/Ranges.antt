@@ -4,13 +4,11 @@ use Rattle.std.specs.Prelude.{nat_le, nat_lt, option_and_then, IfOk, OnOk}
 use Rattle.std.specs.List.{AllByRecursion}
 use Rattle.std.proofs.lemmas.Bool.{ltb-true, leb-true, and_parts}
 use Rattle.std.proofs.lemmas.Option.{cond_some}
-use Rattle.mm_types.specs.Spelling.{Text}
-use Rattle.mm_types.specs.declared.events.Event.{Event}
-use Rattle.mm_text.specs.Field.{digit_value, hex_digits, limited, number_in, number_of, pair_of, byte_before, pairs_of, few_bytes, is_name, name_of}
-use Rattle.mm_script.specs.declared.faults.LineFault.{LineFault}
-use Rattle.mm_script.specs.Field.{Field, Exactly, Decimal, Hex, Bytes, Named, NamedOrDash, Spells, EachSpells}
-use Rattle.mm_script.specs.Grammar.{fields_of, IsLine}
-use Rattle.mm_script.specs.Printed.{IsByte, IsInRange, IsWellFormed}
+use Rattle.mm_types.specs.{Text, Event}
+use Rattle.mm_text.specs.{digit_value, hex_digits, limited, number_in, number_of, pair_of, byte_before, pairs_of, few_bytes, is_name, name_of}
+use Rattle.mm_script.specs.{LineFault, Exactly, Decimal, Hex, Bytes, Named, NamedOrDash, Spells, EachSpells, fields_of, IsLine, IsByte, IsInRange}
+use Rattle.mm_script.specs.{IsWellFormed}
+use Rattle.mm_script.specs.Field.{Field}
 
 limited_below : (o : Option ℕ) (n : ℕ) → limited o ≡ Some n → n < 2 ^ 32
 limited_below None n h = cc

@@ -1,9 +1,8 @@
 -- How much room a word takes.
 use Rattle.std.proofs.Common.{◌≡◌, ℕ, ◌+◌, ◌^◌, ◌≤◌, ◌<◌, [], ◌∷◌, ◌++◌, length, arith, ap, length-append, lit≤}
-use Rattle.mm_types.specs.Spelling.{Text, decimal}
-use Rattle.mm_text.specs.Shortest.{hex_short}
-use Rattle.mm_text.proofs.Digits.{decimal_is}
-use Rattle.mm_text.proofs.Spelled.{length-digits, length-decimal-32, length-hex_short}
+use Rattle.mm_types.specs.{Text, decimal}
+use Rattle.mm_text.specs.{hex_short}
+use Rattle.mm_text.proofs.{decimal_is, length-digits, length-decimal-32, length-hex_short}
 
 -- a space and a word of at most so many bytes
 spaced_room : (most : ℕ) (old new word : Text) → new ≡ old ++ 0x20 ∷ [] → length word ≤ most → length old + most + 1 ≤ 256 → length new + length word ≤ 256

@@ -5,18 +5,16 @@ use Rattle.std.specs.List.{list_all}
 use Rattle.std.proofs.lemmas.Bool.{leb-true, le-leb, and_parts, and_from, cond-true}
 use Rattle.std.proofs.lemmas.Option.{cond_some, same_Some}
 use Rattle.std.proofs.lemmas.Slice.Eq.{bytes_eq-Decides}
-use Rattle.mm_types.specs.Spelling.{Text}
-use Rattle.mm_types.specs.declared.numbers.Pid.{Pid}
-use Rattle.mm_types.specs.declared.numbers.Tid.{Tid}
-use Rattle.mm_types.specs.declared.devices.Device.{Device}
+use Rattle.mm_types.specs.{Text, Pid, Tid, Device, Direction}
 use Rattle.mm_types.specs.declared.devices.Device.TheVariants as device
-use Rattle.mm_types.specs.declared.devices.Direction.{Direction}
 use Rattle.mm_types.specs.declared.devices.Direction.TheVariants as direction
-use Rattle.mm_text.specs.Field.{number_of, name_of, is_letter}
-use Rattle.mm_script.specs.Field.{Field, Exactly, Decimal, Hex, Bytes, Named, NamedOrDash, Spells, EachSpells}
-use Rattle.mm_script.specs.Grammar.{pid_field, tid_field, flag_field, device_field, direction_field}
-use Rattle.mm_script.specs.Shape.{Kind, Number, AnyNumber, PidNumber, TidNumber, FlagNumber, ByteWord, NameWord, NameOrDash, DeviceWord, DirectionWord, Value, within, number_in, pid_from, tid_from, flag_from, name_or_dash, device_of, direction_of, read, Shape, End, Then, ReadOrWrite}
-use Rattle.mm_script.specs.Reading.{Makes}
+use Rattle.mm_text.specs.{number_of, name_of, is_letter}
+use Rattle.mm_script.specs.{Exactly, Decimal, Hex, Bytes, Named, NamedOrDash, Spells, EachSpells, pid_field, tid_field, flag_field, device_field}
+use Rattle.mm_script.specs.{direction_field, Kind, Number, AnyNumber, PidNumber, TidNumber, FlagNumber, ByteWord, NameWord, NameOrDash, DeviceWord}
+use Rattle.mm_script.specs.{DirectionWord, Value, within, number_in, pid_from, tid_from, flag_from, name_or_dash, device_of, direction_of, read, End}
+use Rattle.mm_script.specs.{Then, ReadOrWrite, Makes}
+use Rattle.mm_script.specs.Field.{Field}
+use Rattle.mm_script.specs.Shape.{Shape}
 use Rattle.mm_script.proofs.Joined.{IsPlain, ArePlain}
 use Rattle.mm_script.proofs.Plain.{plain_all, plain_number, plain_bytes, plain_name}
 

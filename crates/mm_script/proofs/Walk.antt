@@ -2,18 +2,12 @@
 use Rattle.std.proofs.Common.{◌≡◌, ◌+◌, List, [], ◌∷◌, Some, None, Ok, Err, Bool, true, false, cond, refl, sym, ap, ◌∙◌, subst, inl, inr}
 use Rattle.std.specs.Prelude.{is_some, bytes_eq, codes}
 use Rattle.std.proofs.lemmas.Bool.{cond-true}
-use Rattle.mm_types.specs.Spelling.{Text}
-use Rattle.mm_types.specs.declared.devices.Direction.{Direction}
+use Rattle.mm_types.specs.{Text, Direction, Event}
 use Rattle.mm_types.specs.declared.devices.Direction.TheVariants as direction
-use Rattle.mm_types.specs.declared.events.Event.{Event}
 use Rattle.mm_text.specs.Word.{Word}
-use Rattle.mm_script.specs.declared.faults.LineFault.{LineFault}
-use Rattle.mm_script.specs.declared.keywords.Keyword.{Keyword}
-use Rattle.mm_script.specs.Field.{EachSpells}
-use Rattle.mm_script.specs.Grammar.{are_joined}
-use Rattle.mm_script.specs.Shape.{DirectionWord, read, Shape, End, Then, ReadOrWrite}
-use Rattle.mm_script.specs.Place.{fault_at, joint_fault, first_fault}
-use Rattle.mm_script.specs.Reading.{◌>>=◌, Rest, rest_behind, word_as, ended, Makes, by_direction, event_in}
+use Rattle.mm_script.specs.{LineFault, Keyword, EachSpells, are_joined, DirectionWord, read, End, Then, ReadOrWrite, fault_at, joint_fault}
+use Rattle.mm_script.specs.{first_fault, ◌>>=◌, Rest, rest_behind, word_as, ended, Makes, by_direction, event_in}
+use Rattle.mm_script.specs.Shape.{Shape}
 use Rattle.mm_script.proofs.Binds.{bind_ok, bind_err, IsRead, Missing, Bad, word_ok, word_err, word_again, ended_ok, More, ended_err, ended_again}
 use Rattle.mm_script.proofs.Joined.{texts}
 use Rattle.mm_script.proofs.Shapes.{Values, made_of, fields_for, spells_read, read_spells}

@@ -1,8 +1,9 @@
 -- A place between the words of a line: a tool of proof.
 use Rattle.std.specs.Prelude.{◌≡◌, ℕ, ◌+◌, ◌^◌, ◌≤◌, ◌<◌, [], ◌∷◌, length, Result, MatchResult}
 use Rattle.std.specs.Borrow.{Bor}
-use Rattle.mm_types.specs.Spelling.{Text}
-use Rattle.mm_text.specs.Word.{Word, WordsOf}
+use Rattle.mm_types.specs.{Text}
+use Rattle.mm_text.specs.{WordsOf}
+use Rattle.mm_text.specs.Word.{Word}
 use Rattle.mm_script.specs.declared.faults.LineFault.{LineFault}
 use Rattle.mm_script.specs.Place.{fault_at}
 use Rattle.mm_script.specs.Reading.{Rest}

@@ -1,8 +1,8 @@
 -- What a word of a line stands for.
 -- Profile, "Script".
 use Rattle.std.specs.Prelude.{◌≡◌, ℕ, ◌≤◌, List, [], ◌∷◌, Option, Some, None, codes}
-use Rattle.mm_types.specs.Spelling.{Text}
-use Rattle.mm_text.specs.Field.{number_of, bytes_of, name_of}
+use Rattle.mm_types.specs.{Text}
+use Rattle.mm_text.specs.{number_of, bytes_of, name_of}
 
 pub data Field : Type 0 where
   Exactly : (text : Text) → Field  -- this very word

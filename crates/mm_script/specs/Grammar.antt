@@ -1,17 +1,11 @@
 -- The grammar: which lines stand for which event, with one rule for each form of a line.
 -- Profile, "Script".
 use Rattle.std.specs.Prelude.{◌≡◌, ℕ, ◌+◌, ◌*◌, ◌%◌, Bool, true, nat_le, if◌then◌else◌, List, [], ◌∷◌, ◌++◌, length, codes, ◌⊎◌, IsTrue}
-use Rattle.mm_types.specs.Spelling.{Text, spaced}
-use Rattle.mm_types.specs.declared.numbers.Pid.{Pid}
-use Rattle.mm_types.specs.declared.numbers.Tid.{Tid}
-use Rattle.mm_types.specs.declared.devices.Device.{Device}
+use Rattle.mm_types.specs.{Text, spaced, Pid, Tid, Device, Direction, Event, page_size}
 use Rattle.mm_types.specs.declared.devices.Device.TheVariants as device
-use Rattle.mm_types.specs.declared.devices.Direction.{Direction}
 use Rattle.mm_types.specs.declared.devices.Direction.TheVariants as direction
 use Rattle.mm_types.specs.declared.events.AccessSpec.TheVariants as spec
-use Rattle.mm_types.specs.declared.events.Event.{Event}
 use Rattle.mm_types.specs.declared.events.Event.TheVariants as line
-use Rattle.mm_types.specs.Address.{page_size}
 use Rattle.mm_script.specs.Field.{Field, Exactly, Decimal, Hex, Bytes, Named, NamedOrDash, EachSpells}
 
 abbrev pub pid_field : Pid → Field

@@ -1,7 +1,7 @@
 -- The first words of lines.
 -- Profile, "Script".
 use Rattle.std.specs.Prelude.{List, [], ◌∷◌, Option, Some, None, bytes_eq, if◌then◌else◌, codes}
-use Rattle.mm_types.specs.Spelling.{Text}
+use Rattle.mm_types.specs.{Text}
 use Rattle.mm_script.specs.declared.keywords.Keyword.{Keyword}
 use Rattle.mm_script.specs.declared.keywords.Keyword.TheVariants as keyword
 

@@ -7,3 +7,22 @@ pub mod Shape
 pub mod Place
 pub mod Reading
 pub mod Cursor
+pub use Field.{Bytes, Decimal, EachSpells, Exactly, Hex, Named, NamedOrDash, Spells}
+pub use Grammar.{IsLine, IsText, are_joined, device_field, direction_field, fields_of, flag_field}
+pub use Grammar.{pid_field, tid_field}
+pub use Printed.{IsByte, IsInRange, IsWellFormed, print, printed, spaced_words}
+pub use Keywords.{keyword_among, keywords, text_of}
+unfoldable pub use Keywords.{keyword_of}
+pub use Sorted.{keywords_of_length}
+pub use Shape.{AnyNumber, ByteWord, DeviceWord, DirectionWord, End, FlagNumber, Kind, NameOrDash}
+pub use Shape.{NameWord, Number, PidNumber, ReadOrWrite, Then, TidNumber, Value, device_of}
+pub use Shape.{direction_of, flag_from, name_or_dash, pid_from, shape_of, tid_from, within}
+unfoldable pub use Shape.{number_in, read}
+pub use Place.{fault_among, fault_at, fault_behind, fault_place, first_fault, joint_fault}
+unfoldable pub use Place.{without_return}
+pub use Reading.{Gives, IsPut, Makes, Rest, by_direction, ends_at, event_in, first_read, make_of}
+pub use Reading.{rest_behind, whole_line, word_read, ◌>>=◌}
+unfoldable pub use Reading.{ended, line_of, parse, word_as}
+pub use Cursor.{TakesWord, rest_of, word_from}
+pub use declared.faults.LineFault.{LineFault}
+pub use declared.keywords.Keyword.{Keyword}

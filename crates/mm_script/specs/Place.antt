@@ -1,8 +1,9 @@
 -- The place of a line's first fault.
 -- Profile, "Script".
 use Rattle.std.specs.Prelude.{ℕ, ◌+◌, ◌-◌, ◌==◌, if◌then◌else◌, List, [], ◌∷◌, length, Option, Some, None, is_some, bytes_eq, codes}
-use Rattle.mm_types.specs.Spelling.{Text}
-use Rattle.mm_text.specs.Word.{Word, words_of}
+use Rattle.mm_types.specs.{Text}
+use Rattle.mm_text.specs.{words_of}
+use Rattle.mm_text.specs.Word.{Word}
 use Rattle.mm_script.specs.declared.faults.LineFault.{LineFault}
 use Rattle.mm_script.specs.declared.keywords.Keyword.{Keyword}
 use Rattle.mm_script.specs.declared.keywords.Keyword.TheVariants as keyword

@@ -2,10 +2,8 @@
 -- Profile, "Script".
 use Rattle.std.specs.Prelude.{◌≡◌, ℕ, ◌≤◌, ◌<◌, ◌^◌, List, [], ◌∷◌, length, map, Some, None, codes, IsTrue}
 use Rattle.std.specs.List.{AllByRecursion}
-use Rattle.mm_types.specs.Spelling.{Text, decimal, byte_pairs, spaced}
-use Rattle.mm_types.specs.declared.events.Event.{Event}
-use Rattle.mm_text.specs.Shortest.{hex_short}
-use Rattle.mm_text.specs.Field.{name_of}
+use Rattle.mm_types.specs.{Text, decimal, byte_pairs, spaced, Event}
+use Rattle.mm_text.specs.{hex_short, name_of}
 use Rattle.mm_script.specs.Field.{Field, Exactly, Decimal, Hex, Bytes, Named, NamedOrDash}
 use Rattle.mm_script.specs.Grammar.{fields_of, are_joined}
 

@@ -1,13 +1,12 @@
 -- Reading a line from left to right: its event, or its first fault.
 -- Profile, "Script".
 use Rattle.std.specs.Prelude.{◌≡◌, ℕ, ◌+◌, if◌then◌else◌, List, [], ◌∷◌, length, Option, Some, None, Result, Ok, Err}
-use Rattle.mm_types.specs.Spelling.{Text}
-use Rattle.mm_types.specs.declared.devices.Direction.{Direction}
+use Rattle.mm_types.specs.{Text, Direction, Event}
 use Rattle.mm_types.specs.declared.devices.Direction.TheVariants as direction
 use Rattle.mm_types.specs.declared.events.AccessSpec.TheVariants as spec
-use Rattle.mm_types.specs.declared.events.Event.{Event}
 use Rattle.mm_types.specs.declared.events.Event.TheVariants as line
-use Rattle.mm_text.specs.Word.{Word, words_of}
+use Rattle.mm_text.specs.{words_of}
+use Rattle.mm_text.specs.Word.{Word}
 use Rattle.mm_script.specs.declared.faults.LineFault.{LineFault}
 use Rattle.mm_script.specs.declared.keywords.Keyword.{Keyword}
 use Rattle.mm_script.specs.declared.keywords.Keyword.TheVariants as keyword

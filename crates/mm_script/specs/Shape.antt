@@ -1,14 +1,10 @@
 -- What the words of a line have to be, one after another.
 -- Profile, "Script".
 use Rattle.std.specs.Prelude.{ℕ, Bool, nat_le, ◌&&◌, ◌==◌, if◌then◌else◌, List, Option, Some, None, option_map, option_and_then, bytes_eq, codes}
-use Rattle.mm_types.specs.Spelling.{Text}
-use Rattle.mm_types.specs.declared.numbers.Pid.{Pid}
-use Rattle.mm_types.specs.declared.numbers.Tid.{Tid}
-use Rattle.mm_types.specs.declared.devices.Device.{Device}
+use Rattle.mm_types.specs.{Text, Pid, Tid, Device, Direction}
 use Rattle.mm_types.specs.declared.devices.Device.TheVariants as device
-use Rattle.mm_types.specs.declared.devices.Direction.{Direction}
 use Rattle.mm_types.specs.declared.devices.Direction.TheVariants as direction
-use Rattle.mm_text.specs.Field.{number_of, bytes_of, name_of}
+use Rattle.mm_text.specs.{number_of, bytes_of, name_of}
 use Rattle.mm_script.specs.declared.keywords.Keyword.{Keyword}
 use Rattle.mm_script.specs.declared.keywords.Keyword.TheVariants as keyword
 

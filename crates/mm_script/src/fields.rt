@@ -132,17 +132,14 @@ impl<'a> Fields<'a> {
 
     /// The same by the next word, which is taken whole.
     #[inline(never)]
-    #[tactic(auto, using(crate::proofs::Given::given))]
+    #[tactic(auto, using(crate::proofs::Given::given), unfolding(crate::specs::Shape::read))]
     fn number_word(&mut self) -> Result<u32, LineFault>
         requires few { self.old.number < MOST_WORDS }
         ensures value { Gives result self.new (word_as (read AnyNumber) self.old) }
         ensures counts { self.new.number ≡ self.old.number + 1 }
     {
         let word = self.next()?;
-        match number(word) {
-            Some(value) => Ok(value),
-            None => Err(self.fault()),
-        }
+        number(word).ok_or(self.fault())
     }
 
     /// A number that a byte holds.
@@ -153,10 +150,7 @@ impl<'a> Fields<'a> {
         ensures counts { self.new.number ≡ self.old.number + 1 }
     {
         let word = self.next()?;
-        match values::byte(word) {
-            Some(value) => Ok(value),
-            None => Err(self.fault()),
-        }
+        values::byte(word).ok_or(self.fault())
     }
 
     /// A process's number, 0 to 255.
@@ -179,10 +173,7 @@ impl<'a> Fields<'a> {
         ensures counts { self.new.number ≡ self.old.number + 1 }
     {
         let word = self.next()?;
-        match values::tid(word) {
-            Some(value) => Ok(value),
-            None => Err(self.fault()),
-        }
+        values::tid(word).ok_or(self.fault())
     }
 
     /// 0 or 1.
@@ -193,10 +184,7 @@ impl<'a> Fields<'a> {
         ensures counts { self.new.number ≡ self.old.number + 1 }
     {
         let word = self.next()?;
-        match values::flag(word) {
-            Some(value) => Ok(value),
-            None => Err(self.fault()),
-        }
+        values::flag(word).ok_or(self.fault())
     }
 
     /// 1 to 64 bytes, as pairs of hexadecimal digits.
@@ -208,24 +196,18 @@ impl<'a> Fields<'a> {
         ensures counts { self.new.number ≡ self.old.number + 1 }
     {
         let word = self.next()?;
-        match bytes(word) {
-            Some(value) => Ok(value),
-            None => Err(self.fault()),
-        }
+        bytes(word).ok_or(self.fault())
     }
 
     /// A name.
-    #[tactic(auto, using(crate::proofs::Given::given))]
+    #[tactic(auto, using(crate::proofs::Given::given), unfolding(crate::specs::Shape::read))]
     pub fn name(&mut self) -> Result<Name, LineFault>
         requires few { self.old.number < MOST_WORDS }
         ensures value { Gives result self.new (word_as (read NameWord) self.old) }
         ensures counts { self.new.number ≡ self.old.number + 1 }
     {
         let word = self.next()?;
-        match name(word) {
-            Some(value) => Ok(value),
-            None => Err(self.fault()),
-        }
+        name(word).ok_or(self.fault())
     }
 
     /// A name, or `-` for none.
@@ -236,10 +218,7 @@ impl<'a> Fields<'a> {
         ensures counts { self.new.number ≡ self.old.number + 1 }
     {
         let word = self.next()?;
-        match values::name_or_dash(word) {
-            Some(value) => Ok(value),
-            None => Err(self.fault()),
-        }
+        values::name_or_dash(word).ok_or(self.fault())
     }
 
     /// `paging` or `file`.
@@ -250,10 +229,7 @@ impl<'a> Fields<'a> {
         ensures counts { self.new.number ≡ self.old.number + 1 }
     {
         let word = self.next()?;
-        match values::device(word) {
-            Some(value) => Ok(value),
-            None => Err(self.fault()),
-        }
+        values::device(word).ok_or(self.fault())
     }
 
     /// `read` or `write`.
@@ -264,10 +240,7 @@ impl<'a> Fields<'a> {
         ensures counts { self.new.number ≡ self.old.number + 1 }
     {
         let word = self.next()?;
-        match values::direction(word) {
-            Some(value) => Ok(value),
-            None => Err(self.fault()),
-        }
+        values::direction(word).ok_or(self.fault())
     }
 
     /// The first word of a line.
@@ -279,9 +252,6 @@ impl<'a> Fields<'a> {
         ensures counts { self.new.number ≡ self.old.number + 1 }
     {
         let word = self.next()?;
-        match Keyword::of(word) {
-            Some(value) => Ok(value),
-            None => Err(self.fault()),
-        }
+        Keyword::of(word).ok_or(self.fault())
     }
 }

@@ -1,6 +1,6 @@
 ghost use Rattle.std.specs.Prelude.{◌≡◌, ◌≤◌, ◌+◌, ◌∷◌, ◌++◌, length};
-ghost use Rattle.mm_types.specs.Spelling.{decimal, byte_pairs};
-ghost use Rattle.mm_text.specs.Shortest.{hex_short};
+ghost use Rattle.mm_types.specs.{decimal, byte_pairs};
+ghost use Rattle.mm_text.specs.{hex_short};
 ghost use Rattle.mm_script.specs.Field.{NamedOrDash};
 ghost use Rattle.mm_script.specs.Grammar.{device_field, direction_field};
 ghost use Rattle.mm_script.specs.Printed.{print};

@@ -1,5 +1,5 @@
 ghost use Rattle.std.specs.Prelude.{◌≡◌, ◌+◌, ◌^◌, ◌<◌, ◌≤◌, ℕ, List, length, IfOk, IfErr, OnOk, OnErr, Ok};
-ghost use Rattle.mm_types.specs.declared.events.Event.{Event};
+ghost use Rattle.mm_types.specs.{Event};
 ghost use Rattle.mm_script.specs.Grammar.{IsLine};
 ghost use Rattle.mm_script.specs.Printed.{IsWellFormed};
 ghost use Rattle.mm_script.specs.Place.{without_return, fault_place};

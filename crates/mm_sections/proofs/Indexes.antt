@@ -6,12 +6,10 @@ use Rattle.std.specs.Cmp.Lexicographic.{bytes_decides}
 use Rattle.std.proofs.lemmas.Bool.{true≢false, ltb-true, ltb-false}
 use Rattle.std.proofs.lemmas.List.{get_or-set_same, get_or-set_other, get_or_append_left}
 use Rattle.std.proofs.lemmas.List.Sums.{fails_before_first, passes_at_first}
-use Rattle.mm_types.specs.Spelling.{Text}
-use Rattle.mm_types.proofs.Cells.{same_or_not}
-use Rattle.mm_world.specs.World.{Numbered, numbered, SectionOf}
-use Rattle.mm_world.specs.Find.{is_named}
-use Rattle.mm_sections.specs.Directories.{CountedSection, section_in, section_settled}
-use Rattle.mm_sections.specs.Names.{IsNameIndex, name_lost, without_name, with_name}
+use Rattle.mm_types.specs.{Text}
+use Rattle.mm_types.proofs.{same_or_not}
+use Rattle.mm_world.specs.{Numbered, numbered, SectionOf, is_named}
+use Rattle.mm_sections.specs.{CountedSection, section_in, section_settled, IsNameIndex, name_lost, without_name, with_name}
 
 -- ---- names
 

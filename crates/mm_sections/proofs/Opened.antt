@@ -7,11 +7,10 @@ use Rattle.std.proofs.lemmas.Bool.{true≢false, ltb-true, ltb-false}
 use Rattle.std.proofs.lemmas.List.{length-set, get_or-set_same, get_or-set_other, get_or_past}
 use Rattle.std.proofs.lemmas.List.Sums.{position_or_len_is}
 use Rattle.std.proofs.lemmas.List.FromFn.{length-map-range_with_len, get_or-map-range_with_len, map-range_with_len_more, fill_by_all}
-use Rattle.mm_types.specs.declared.numbers.SectionId.{SectionId}
-use Rattle.mm_types.proofs.Options.{none_of, some_map}
-use Rattle.mm_types.proofs.Cells.{same_or_not}
-use Rattle.mm_world.specs.World.{Numbered, numbered}
-use Rattle.mm_sections.specs.Handles.{held, handle_at, section_number, section_by_handle, AreOpen}
+use Rattle.mm_types.specs.{SectionId}
+use Rattle.mm_types.proofs.{none_of, some_map, same_or_not, differ}
+use Rattle.mm_world.specs.{Numbered, numbered}
+use Rattle.mm_sections.specs.{held, handle_at, section_number, section_by_handle, AreOpen}
 
 abbrev pub shown : (ℕ → Option SectionId) → ℕ → Numbered ℕ
 shown find next = map (section_by_handle find) (range_with_len 0 next)
@@ -26,20 +25,6 @@ shown_at find next i lt = get_or-map-range_with_len (section_by_handle find) 0 n
 same_shown : (find other : ℕ → Option SectionId) (next : ℕ) → ((i : ℕ) → i < next → section_by_handle find i ≡ section_by_handle other i) → shown find next ≡ shown other next
 same_shown find other next same =
     fill_by_all (section_by_handle other) (shown find next) next None (length_shown find next) (λ k lt. shown_at find next k lt ∙ same k lt)
-
-not_same : (a b : ℕ) → a ≢ b → (a == b) ≡ false
-not_same a b apart =
-    elim (a == b) as (λ t. (a == b) ≡ t → t ≡ false) [
-      | true ↦ λ e. absurd (apart ((unsigned_Decides a b).0 e))
-      | false ↦ λ e. refl
-    ] refl
-
-pub ge_ltb : (a b : ℕ) → b ≤ a → nat_lt a b ≡ false
-ge_ltb a b past =
-    elim (nat_lt a b) as (λ t. nat_lt a b ≡ t → t ≡ false) [
-      | true ↦ λ e. (let lt = ltb-true a b e in absurd (omega (arith, past, lt)))
-      | false ↦ λ e. refl
-    ] refl
 
 module _ (find : ℕ → Option SectionId) (lowest next : ℕ) (kept : AreOpen find lowest next) where
   numbered_at : (i : ℕ) → numbered (shown find next) i ≡ section_by_handle find i
@@ -101,7 +86,7 @@ module _ (find : ℕ → Option SectionId) (lowest next : ℕ) (kept : AreOpen f
 
   module _ (other : ℕ → Option SectionId) (id : SectionId) (is : (q : ℕ) → other q ≡ cond (4 * next == q) (Some id) (find q)) where
     same_at : (q : ℕ) → 4 * next ≢ q → other q ≡ find q
-    same_at q apart = is q ∙ ap (λ b. cond b (Some id) (find q)) (not_same (4 * next) q apart)
+    same_at q apart = is q ∙ ap (λ b. cond b (Some id) (find q)) (differ (4 * next) q apart)
 
     new_at : other (4 * next) ≡ Some id
     new_at = is (4 * next) ∙ ap (λ b. cond b (Some id) (find (4 * next))) ((unsigned_Decides (4 * next) (4 * next)).1 refl)
@@ -147,7 +132,7 @@ module _ (find : ℕ → Option SectionId) (lowest next : ℕ) (kept : AreOpen f
               ∙ sym (ap (option_map section_number) (is (4 * k) ∙ ap (λ b. cond b None (find (4 * k))) ((unsigned_Decides handle (4 * k)).1 here))))
           | inr apart ↦ (
               get_or-set_other (shown find next) (handle / 4) k None None apart ∙ shown_at find next k lt
-              ∙ sym (ap (option_map section_number) (is (4 * k) ∙ ap (λ b. cond b None (find (4 * k))) (not_same handle (4 * k) (λ e. apart (omega (arith, e)))))))
+              ∙ sym (ap (option_map section_number) (is (4 * k) ∙ ap (λ b. cond b None (find (4 * k))) (differ handle (4 * k) (λ e. apart (omega (arith, e)))))))
         ]
 
     module _ (first : ℕ) (from : lowest ≤ first) (within : first ≤ next) (before : (i : ℕ) → lowest ≤ i → i < first → other (4 * i) ≡ None) (opens : first < next → is_some (other (4 * first)) ≡ true) where

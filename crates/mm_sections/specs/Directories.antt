@@ -1,11 +1,11 @@
 -- The sections and the files of a machine.
 -- Profile, "Regions, rows, sections".
-use Rattle.std.specs.Prelude.{ℕ, ◌+◌, ◌-◌, nat_lt, if◌then◌else◌, List, map, Option, Some, None, option_map}
+use Rattle.std.specs.Prelude.{◌≤◌, ◌<◌, ℕ, ◌+◌, ◌-◌, ◌^◌, nat_lt, if◌then◌else◌, List, map, Option, Some, None, option_map}
 use Rattle.mm_sections.specs.declared.directories.Section.{Section}
-use Rattle.mm_types.specs.declared.numbers.SectionId.{SectionId}
-use Rattle.mm_types.specs.declared.numbers.Area.{Area}
-use Rattle.mm_types.specs.Spelling.{Text}
-use Rattle.mm_world.specs.World.{Numbered, SectionOf, FileOf}
+use Rattle.mm_sections.specs.declared.entries.ReferenceChange.{ReferenceChange}
+use Rattle.mm_sections.specs.declared.entries.ReferenceChange.TheVariants as change
+use Rattle.mm_types.specs.{SectionId, Area, Text}
+use Rattle.mm_world.specs.{Numbered, SectionOf, FileOf}
 
 -- a section that lives, and how many handles and views refer to it
 pub record CountedSection : Type 0 where
@@ -58,6 +58,19 @@ one_handle_less c = record c { handles = c.handles - 1 }
 
 abbrev pub one_view_less : CountedSection → CountedSection
 one_view_less c = record c { views = c.views - 1 }
+
+-- a section with one reference more or less, and where the counts allow it
+abbrev pub recounted : ReferenceChange → CountedSection → CountedSection
+recounted change.HandleMore = one_handle_more
+recounted change.ViewMore = one_view_more
+recounted change.HandleLess = one_handle_less
+recounted change.ViewLess = one_view_less
+
+abbrev pub CanRecount : ReferenceChange → CountedSection → Type 0
+CanRecount change.HandleMore c = c.handles < 2 ^ 60
+CanRecount change.ViewMore c = c.views < 2 ^ 60
+CanRecount change.HandleLess c = 1 ≤ c.handles
+CanRecount change.ViewLess c = 1 ≤ c.views
 
 abbrev pub id_of : ℕ → SectionId
 id_of number = record { 0 = number }

@@ -1,8 +1,8 @@
 -- The handles of one process.
 -- Profile, "Regions, rows, sections".
 use Rattle.std.specs.Prelude.{◌≡◌, ◌≤◌, ◌<◌, ◌^◌, ℕ, ◌*◌, ◌/◌, ◌%◌, ◌==◌, true, is_some, if◌then◌else◌, Option, None, option_map}
-use Rattle.mm_types.specs.declared.numbers.SectionId.{SectionId}
-use Rattle.mm_world.specs.World.{Numbered, numbered}
+use Rattle.mm_types.specs.{SectionId}
+use Rattle.mm_world.specs.{Numbered, numbered}
 
 -- the section of the handle 4 * i, none where it was closed; 0 is none from the start
 pub record HandlesOf : Type 0 where

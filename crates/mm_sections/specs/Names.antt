@@ -2,11 +2,8 @@
 -- Profile, "Regions, rows, sections".
 use Rattle.std.specs.Prelude.{◌≡◌, ◌≤◌, ℕ, true, Bool, if◌then◌else◌, nat_lt, Option, Some, None, option_map, bytes_eq}
 use Rattle.std.specs.HashMap.{HashMap, get}
-use Rattle.mm_types.specs.declared.numbers.SectionId.{SectionId}
-use Rattle.mm_types.specs.declared.numbers.Area.{Area}
-use Rattle.mm_types.specs.Spelling.{Text}
-use Rattle.mm_world.specs.World.{Numbered, numbered, SectionOf, FileOf}
-use Rattle.mm_world.specs.Find.{is_named}
+use Rattle.mm_types.specs.{SectionId, Area, Text}
+use Rattle.mm_world.specs.{Numbered, numbered, SectionOf, FileOf, is_named}
 use Rattle.mm_sections.specs.declared.entries.Entry.{Entry}
 use Rattle.mm_sections.specs.declared.name_keys.NameKey.{NameKey}
 use Rattle.mm_sections.specs.Directories.{CountedSection}

@@ -1,8 +1,8 @@
 -- The pages of a control area, without their bytes.
 -- Profile, "Regions, rows, sections".
 use Rattle.std.specs.Prelude.{ℕ, is_some, is_none, take, drop, count_by, Option, Some, None, if◌then◌else◌, Bool}
-use Rattle.mm_types.specs.declared.numbers.Block.{Block}
-use Rattle.mm_world.specs.World.{AreaOf}
+use Rattle.mm_types.specs.{Block}
+use Rattle.mm_world.specs.{AreaOf}
 
 abbrev pub block_number : Block → ℕ
 block_number b = b.0

@@ -1,11 +1,8 @@
 ghost use Rattle.std.specs.Prelude.{◌≡◌, ◌≤◌, ◌<◌, ◌+◌, ◌^◌, ◌++◌, [], ◌∷◌, true, is_none, is_some, length, Some, None, IfSome, OnOk, option_map, option_and_then, IsSomeAnd, slice_set, find, position, bytes_eq};
-ghost use Rattle.mm_world.specs.World.{numbered};
-ghost use Rattle.mm_world.specs.Find.{is_named};
-ghost use Rattle.mm_sections.specs.Directories.{CountedSection, sections_of, told_of_section, section_settled, new_entry, one_handle_more, one_view_more, one_handle_less, one_view_less, id_of, area_of};
+ghost use Rattle.mm_world.specs.{numbered, is_named};
+ghost use Rattle.mm_sections.specs.Directories.{CountedSection, sections_of, told_of_section, section_settled, new_entry, one_handle_more, one_view_more, one_handle_less, one_view_less, recounted, CanRecount, id_of, area_of};
 
-use crate::entries::{
-    Entry, add_handle_to, add_view_to, drop_handle_of, drop_view_of, forget, remember, settle,
-};
+use crate::entries::{Entry, ReferenceChange, forget, recount, remember, settle};
 use crate::name_keys::NameKey;
 use indexmap::IndexMap;
 use mm_types::{Area, Name, NoMemory, Prot, SectionId};
@@ -177,7 +174,7 @@ impl Directory {
               (option_map one_handle_more (numbered self.old.entries id.0));
         } }
     {
-        add_handle_to(&mut self.sections[id.0 as usize]);
+        self.recount(id, ReferenceChange::HandleMore);
     }
 
     /// One more view refers to a section that lives.
@@ -189,7 +186,7 @@ impl Directory {
               (option_map one_view_more (numbered self.old.entries id.0));
         } }
     {
-        add_view_to(&mut self.sections[id.0 as usize]);
+        self.recount(id, ReferenceChange::ViewMore);
     }
 
     /// One handle less refers to a section to which one does: where it was the last its name is
@@ -203,7 +200,7 @@ impl Directory {
         } }
         ensures ended { result ≡ is_none (numbered self.new.entries id.0) }
     {
-        drop_handle_of(&mut self.sections[id.0 as usize]);
+        self.recount(id, ReferenceChange::HandleLess);
         self.settle(id)
     }
 
@@ -218,8 +215,19 @@ impl Directory {
         } }
         ensures ended { result ≡ is_none (numbered self.new.entries id.0) }
     {
-        drop_view_of(&mut self.sections[id.0 as usize]);
+        self.recount(id, ReferenceChange::ViewLess);
         self.settle(id)
+    }
+
+    // One reference more or less to a section that lives.
+    fn recount(&mut self, id: SectionId, change: ReferenceChange)
+        requires counts { IsSomeAnd (numbered self.old.entries id.0) (CanRecount change) }
+        ensures { self.new ≡ record self.old {
+          entries = slice_set self.old.entries id.0
+              (option_map (recounted change) (numbered self.old.entries id.0));
+        } }
+    {
+        recount(&mut self.sections[id.0 as usize], change);
     }
 
     // The section with this number without the name and without the life to which nothing refers

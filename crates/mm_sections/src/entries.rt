@@ -1,8 +1,8 @@
 //! What a directory keeps of one section, and the names by which sections are found.
-ghost use Rattle.std.specs.Prelude.{◌≡◌, ◌≤◌, ◌<◌, ◌+◌, ◌^◌, true, is_none, is_some, IfSome, IsSomeAnd, option_map, option_and_then};
+ghost use Rattle.std.specs.Prelude.{◌≡◌, ◌≤◌, ◌+◌, true, is_some, IsSomeAnd, option_map, option_and_then};
 ghost use Rattle.indexmap.specs.IndexMap.{spare};
-ghost use Rattle.mm_types.specs.Spelling.{Text};
-ghost use Rattle.mm_sections.specs.Directories.{section_settled, one_handle_more, one_view_more, one_handle_less, one_view_less};
+ghost use Rattle.mm_types.specs.{Text};
+ghost use Rattle.mm_sections.specs.Directories.{section_settled, recounted, CanRecount};
 ghost use Rattle.mm_sections.specs.Names.{counted_section, found_by, name_lost, without_name, with_name};
 
 use crate::name_keys::NameKey;
@@ -19,46 +19,28 @@ pub(crate) struct Entry {
     pub(crate) views: u64,
 }
 
-/// One handle more refers to a section that lives.
-pub(crate) fn add_handle_to(section: &mut Option<Entry>)
-    requires lives { is_some section.old ≡ true }
-    requires few { IfSome section.old (λ e. e.handles < 2 ^ 60) }
-    ensures { option_map counted_section section.new ≡
-        option_map one_handle_more (option_map counted_section section.old) }
-{
-    let Some(entry) = section else { unreachable!() };
-    entry.handles += 1;
+/// One handle or one view more refers to a section, or one less.
+#[derive(Clone, Copy)]
+pub(crate) enum ReferenceChange {
+    HandleMore,
+    ViewMore,
+    HandleLess,
+    ViewLess,
 }
 
-/// One view more refers to a section that lives.
-pub(crate) fn add_view_to(section: &mut Option<Entry>)
-    requires lives { is_some section.old ≡ true }
-    requires few { IfSome section.old (λ e. e.views < 2 ^ 60) }
+/// One reference more or less to a section that lives.
+pub(crate) fn recount(section: &mut Option<Entry>, change: ReferenceChange)
+    requires counts { IsSomeAnd (option_map counted_section section.old) (CanRecount change) }
     ensures { option_map counted_section section.new ≡
-        option_map one_view_more (option_map counted_section section.old) }
+        option_map (recounted change) (option_map counted_section section.old) }
 {
     let Some(entry) = section else { unreachable!() };
-    entry.views += 1;
-}
-
-/// One handle less refers to a section to which one does.
-pub(crate) fn drop_handle_of(section: &mut Option<Entry>)
-    requires lives { IsSomeAnd section.old (λ e. 1 ≤ e.handles) }
-    ensures { option_map counted_section section.new ≡
-        option_map one_handle_less (option_map counted_section section.old) }
-{
-    let Some(entry) = section else { unreachable!() };
-    entry.handles -= 1;
-}
-
-/// One view less refers to a section to which one does.
-pub(crate) fn drop_view_of(section: &mut Option<Entry>)
-    requires lives { IsSomeAnd section.old (λ e. 1 ≤ e.views) }
-    ensures { option_map counted_section section.new ≡
-        option_map one_view_less (option_map counted_section section.old) }
-{
-    let Some(entry) = section else { unreachable!() };
-    entry.views -= 1;
+    match change {
+        ReferenceChange::HandleMore => entry.handles += 1,
+        ReferenceChange::ViewMore => entry.views += 1,
+        ReferenceChange::HandleLess => entry.handles -= 1,
+        ReferenceChange::ViewLess => entry.views -= 1,
+    }
 }
 
 /// A section that lives loses its name where no handle refers to it, and ends where no view does

@@ -1,8 +1,5 @@
 ghost use Rattle.std.specs.Prelude.{◌≡◌, ◌==◌, ◌≤◌, ◌+◌, [], length, replicate, true, is_some, Some, None, IfOk, option_map, not, count_by};
-ghost use Rattle.mm_world.specs.World.{numbered};
-ghost use Rattle.mm_world.specs.Alloc.{commit_shared};
-ghost use Rattle.mm_world.specs.Contents.{blank};
-ghost use Rattle.mm_world.specs.Find.{no_area};
+ghost use Rattle.mm_world.specs.{numbered, commit_shared, blank, no_area};
 ghost use Rattle.mm_sections.specs.Pages.{number_of_block, page_if, uncommitted_in, committed_count};
 
 use mm_types::{Block, NoMemory};
@@ -18,7 +15,7 @@ pub struct SectionPages {
 
 impl Model for SectionPages {
     ghost use Rattle.std.specs.Prelude.{length, map, option_map, ◌<◌, ◌^◌};
-    ghost use Rattle.mm_world.specs.World.{AreaOf};
+    ghost use Rattle.mm_world.specs.{AreaOf};
     ghost use Rattle.mm_sections.specs.Pages.{block_number, page_if};
 
     ghost Value = { AreaOf (Unit {0}) };

@@ -2,8 +2,8 @@
 use Rattle.std.proofs.Common.{◌≡◌, ℕ, zero, suc, ◌+◌, ◌/◌, ◌%◌, ◌^◌, ◌≤◌, ◌<◌, cond, [], ◌∷◌, ◌++◌, sym, ap, ◌∙◌, inl, inr, arith, append_assoc}
 use Rattle.std.proofs.lemmas.Bool.{lt-ltb, cases_lt}
 use Rattle.std.proofs.Math.Nat.{mod-eq_of_lt}
-use Rattle.mm_types.specs.Spelling.{Text, glyph, decimal, decimal_onto}
-use Rattle.mm_moves.proofs.Written.{step_last, step_more, below_power, onto_append}
+use Rattle.mm_types.specs.{Text, glyph, decimal, decimal_onto}
+use Rattle.mm_moves.proofs.{step_last, step_more, below_power, onto_append}
 
 -- room for one digit more changes nothing
 one_more : (k n : ℕ) (rest : Text) → n < 10 ^ suc k

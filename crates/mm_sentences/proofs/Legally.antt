@@ -4,17 +4,12 @@ use Rattle.std.specs.Prelude.{is_none, is_some, option_map, unwrap_or}
 use Rattle.std.proofs.lemmas.Bool.{false≢true}
 use Rattle.std.proofs.lemmas.Option.{none-some, same_Some}
 use Rattle.std.proofs.lemmas.List.{drop_more, drop_all}
-use Rattle.mm_types.specs.declared.numbers.Frame.{Frame}
+use Rattle.mm_types.specs.{Frame, Move}
 use Rattle.mm_types.specs.declared.moves.LineKind.TheVariants as kind
 use Rattle.mm_types.specs.declared.moves.Stored.TheVariants as stored
-use Rattle.mm_types.specs.declared.moves.Move.{Move}
 use Rattle.mm_types.specs.declared.moves.Move.TheVariants as move
-use Rattle.mm_life.specs.Life.{FrameLife}
-use Rattle.mm_life.specs.Frames.{record_at}
-use Rattle.mm_life.specs.Legal.{is_legal, may_unmap}
-use Rattle.mm_sentences.specs.Parts.{holds, parts_of, first_failing, refusal}
-use Rattle.mm_sentences.specs.Tested.{is_tested, are_tested, all_hold}
-use Rattle.mm_sentences.specs.declared.parts.Part.{Part}
+use Rattle.mm_life.specs.{FrameLife, record_at, is_legal, may_unmap}
+use Rattle.mm_sentences.specs.{holds, parts_of, first_failing, refusal, is_tested, are_tested, all_hold, Part}
 use Rattle.mm_sentences.specs.declared.parts.Part.TheVariants as part
 
 -- ---- the condition is its parts

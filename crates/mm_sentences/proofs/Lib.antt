@@ -4,4 +4,4 @@ pub mod Walking
 pub mod Lowest
 pub mod Legally
 pub mod Spelling
-pub mod Told
+pub use Walking.{next_there, passed}

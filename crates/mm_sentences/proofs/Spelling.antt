@@ -1,9 +1,8 @@
 -- A move's line without its line feed.
 use Rattle.std.proofs.Common.{◌≡◌, ◌+◌, ◌-◌, [], ◌∷◌, ◌++◌, length, take, refl, ap, ◌∙◌, arith, length-append}
-use Rattle.mm_types.specs.Spelling.{Text}
-use Rattle.mm_types.specs.declared.moves.Move.{Move}
-use Rattle.mm_life.specs.MoveText.{move_text, spelling_of_move}
-use Rattle.mm_replay.proofs.Lines.{move_onto-is}
+use Rattle.mm_types.specs.{Text, Move}
+use Rattle.mm_life.specs.{move_text, spelling_of_move}
+use Rattle.mm_replay.proofs.{move_onto-is}
 
 front : (a : Text) → take (length a) (a ++ 10 ∷ []) ≡ a
 front [] = refl

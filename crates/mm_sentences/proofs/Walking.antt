@@ -3,11 +3,10 @@ use Rattle.std.proofs.Common.{◌≡◌, ◌≢◌, ℕ, zero, suc, ◌+◌, tru
 use Rattle.std.specs.Prelude.{◌==◌, slice_get, codes}
 use Rattle.std.proofs.lemmas.Bool.{eq-eqb, ne_eqb}
 use Rattle.std.proofs.lemmas.Option.{same_Some, none-some}
-use Rattle.mm_types.specs.declared.numbers.Frame.{Frame}
-use Rattle.mm_life.specs.Frames.{FrameTable, is_on, is_first}
-use Rattle.mm_types.specs.Spelling.{Text}
-use Rattle.mm_sentences.specs.Refusals.{first_is, counted}
-use Rattle.mm_replay.specs.Looking.{frame_at, frames_on, IsBehind}
+use Rattle.mm_types.specs.{Frame, Text}
+use Rattle.mm_life.specs.{FrameTable, is_on, is_first}
+use Rattle.mm_sentences.specs.{first_is, counted}
+use Rattle.mm_replay.specs.{frame_at, frames_on, IsBehind}
 use Rattle.mm_replay.specs.declared.four_lists.FrameList.TheVariants as list
 use Rattle.mm_replay.specs.Sound.{frame}
 

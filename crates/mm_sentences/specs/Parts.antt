@@ -2,26 +2,13 @@
 use Rattle.std.specs.Prelude.{◌+◌, Bool, true, false, not, ◌&&◌, ◌||◌, nat_le, nat_lt, ◌==◌}
 use Rattle.std.specs.Prelude.{is_some, is_none, if◌then◌else◌, List, [], ◌∷◌, length, Option, Some}
 use Rattle.std.specs.Prelude.{None, option_map, unwrap_or}
-use Rattle.mm_types.specs.Machine.{limit_of}
-use Rattle.mm_types.specs.declared.numbers.Block.{Block}
-use Rattle.mm_types.specs.declared.numbers.Frame.{Frame}
-use Rattle.mm_types.specs.declared.numbers.Key.{Key}
-use Rattle.mm_types.specs.declared.numbers.Place.{Place}
-use Rattle.mm_types.specs.declared.frames.Record.{Record}
-use Rattle.mm_types.specs.declared.moves.LineKind.{LineKind}
+use Rattle.mm_types.specs.{limit_of, Block, Frame, Key, Place, Record, LineKind, Stored, Move}
 use Rattle.mm_types.specs.declared.moves.LineKind.TheVariants as kind
-use Rattle.mm_types.specs.declared.moves.Stored.{Stored}
 use Rattle.mm_types.specs.declared.moves.Stored.TheVariants as stored
-use Rattle.mm_types.specs.declared.moves.Move.{Move}
 use Rattle.mm_types.specs.declared.moves.Move.TheVariants as move
-use Rattle.mm_life.specs.Frames.{record_at, is_first, is_empty, is_on, has_request, is_read}
-use Rattle.mm_life.specs.Frames.{is_write, is_again}
-use Rattle.mm_life.specs.Life.{FrameLife, set_of, is_shared, is_live}
-use Rattle.mm_life.specs.Legal.{is_call, is_io, is_access, is_thread, is_unbind, is_writer}
-use Rattle.mm_life.specs.Legal.{is_zeroer, is_touch, touches}
-use Rattle.mm_life.specs.Legal.{is_machine, has_depth, is_zero, is_stored, owner_is, may_copy}
-use Rattle.mm_life.specs.Legal.{is_unmapped, fits_place}
-use Rattle.mm_life.specs.Legal.{is_below_max, may_unmap, is_block, is_lowest, may_write_block}
+use Rattle.mm_life.specs.{record_at, is_first, is_empty, is_on, has_request, is_read, is_write, is_again, FrameLife, set_of, is_shared, is_live}
+use Rattle.mm_life.specs.{is_call, is_io, is_access, is_thread, is_unbind, is_writer, is_zeroer, is_touch, touches, is_machine, has_depth, is_zero}
+use Rattle.mm_life.specs.{is_stored, owner_is, may_copy, is_unmapped, fits_place, is_below_max, may_unmap, is_block, is_lowest, may_write_block}
 use Rattle.mm_sentences.specs.declared.parts.Part.{Part}
 use Rattle.mm_sentences.specs.declared.parts.Part.TheVariants as part
 

@@ -2,21 +2,12 @@
 -- its place.
 use Rattle.std.specs.Prelude.{ℕ, ◌+◌, Bool, true, false, if◌then◌else◌, List, [], ◌∷◌, ◌++◌}
 use Rattle.std.specs.Prelude.{length, codes, Option, Some, None}
-use Rattle.mm_types.specs.Spelling.{Text, decimal}
-use Rattle.mm_types.specs.Machine.{limit_of}
-use Rattle.mm_types.specs.declared.numbers.Frame.{Frame}
-use Rattle.mm_types.specs.declared.numbers.Key.{Key}
-use Rattle.mm_types.specs.declared.numbers.Place.{Place}
-use Rattle.mm_types.specs.declared.frames.Held.{Held}
+use Rattle.mm_types.specs.{Text, decimal, limit_of, Frame, Key, Place, Held, Move}
 use Rattle.mm_types.specs.declared.frames.Held.TheVariants as held
-use Rattle.mm_types.specs.declared.moves.Move.{Move}
 use Rattle.std.specs.Prelude.{slice_index_or}
-use Rattle.mm_life.specs.declared.sets.ResidentSet.{ResidentSet}
-use Rattle.mm_life.specs.Frames.{record_at, is_empty, is_on, is_read}
-use Rattle.mm_life.specs.Life.{FrameLife, set_of, is_live}
-use Rattle.mm_life.specs.Legal.{is_access, is_thread, is_touch, is_writer, touches, trims}
-use Rattle.mm_life.specs.MoveText.{place_onto, move_text}
-use Rattle.mm_replay.specs.declared.four_lists.FrameList.{FrameList}
+use Rattle.mm_life.specs.{ResidentSet, record_at, is_empty, is_on, is_read, FrameLife, set_of, is_live, is_access, is_thread, is_touch, is_writer}
+use Rattle.mm_life.specs.{touches, trims, place_onto, move_text}
+use Rattle.mm_replay.specs.{FrameList}
 use Rattle.mm_replay.specs.declared.four_lists.FrameList.TheVariants as list
 use Rattle.mm_sentences.specs.Words.{key_text, kind_text}
 use Rattle.mm_sentences.specs.Parts.{refusal}

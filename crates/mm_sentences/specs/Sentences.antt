@@ -1,17 +1,10 @@
 -- A move in words: the sentence of its class, with its names filled in.
 use Rattle.std.specs.Prelude.{Bool, ◌==◌, bytes_eq, if◌then◌else◌, [], ◌∷◌, ◌++◌, codes, Option}
 use Rattle.std.specs.Prelude.{Some, None}
-use Rattle.mm_types.specs.Spelling.{Text, decimal}
-use Rattle.mm_types.specs.declared.numbers.Block.{Block}
-use Rattle.mm_types.specs.declared.numbers.Frame.{Frame}
-use Rattle.mm_types.specs.declared.numbers.Key.{Key}
-use Rattle.mm_types.specs.declared.numbers.Place.{Place}
-use Rattle.mm_types.specs.declared.numbers.Slot.{Slot}
-use Rattle.mm_types.specs.declared.frames.Held.{Held}
+use Rattle.mm_types.specs.{Text, decimal, Block, Frame, Key, Place, Slot, Held}
 use Rattle.mm_types.specs.declared.frames.Held.TheVariants as held
-use Rattle.mm_life.specs.Life.{FrameLife}
-use Rattle.mm_classes.specs.Words.{sentence_of}
-use Rattle.mm_classes.specs.declared.classes.Class.{Class}
+use Rattle.mm_life.specs.{FrameLife}
+use Rattle.mm_classes.specs.{sentence_of, Class}
 use Rattle.mm_sentences.specs.declared.facts.Facts.{Facts}
 use Rattle.mm_sentences.specs.declared.states.FrameState.{FrameState}
 use Rattle.mm_sentences.specs.declared.states.FrameState.TheVariants as state

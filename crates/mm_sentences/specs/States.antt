@@ -1,15 +1,10 @@
 -- What a page frame is, in words.
 use Rattle.std.specs.Prelude.{ℕ, Bool, true, false, nat_lt, if◌then◌else◌, is_some, ◌++◌, codes}
 use Rattle.std.specs.Prelude.{Option, Some, None}
-use Rattle.mm_types.specs.Spelling.{Text, decimal}
-use Rattle.mm_types.specs.declared.numbers.Key.{Key}
-use Rattle.mm_types.specs.declared.frames.Record.{Record}
-use Rattle.mm_types.specs.declared.frames.Backing.{Backing}
+use Rattle.mm_types.specs.{Text, decimal, Key, Record, Backing, Request}
 use Rattle.mm_types.specs.declared.frames.Backing.TheVariants as backing
-use Rattle.mm_types.specs.declared.frames.Request.{Request}
 use Rattle.mm_types.specs.declared.frames.Request.TheVariants as request
-use Rattle.mm_life.specs.Frames.{FrameTable, record_at, is_on, is_read, has_request}
-use Rattle.mm_life.specs.Life.{FrameLife}
+use Rattle.mm_life.specs.{FrameTable, record_at, is_on, is_read, has_request, FrameLife}
 use Rattle.mm_sentences.specs.declared.states.FrameState.{FrameState}
 use Rattle.mm_sentences.specs.declared.states.FrameState.TheVariants as state
 use Rattle.mm_sentences.specs.Words.{key_text}

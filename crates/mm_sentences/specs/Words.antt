@@ -1,12 +1,9 @@
 -- Keys and places as they are told.
 use Rattle.std.specs.Prelude.{ℕ, ◌*◌, ◌^◌, Bool, true, false, nat_lt, if◌then◌else◌, [], ◌++◌}
 use Rattle.std.specs.Prelude.{codes}
-use Rattle.mm_types.specs.Spelling.{Text}
-use Rattle.mm_types.specs.declared.numbers.Key.{Key}
-use Rattle.mm_types.specs.declared.numbers.Place.{Place}
-use Rattle.mm_text.specs.Shortest.{hex_short}
-use Rattle.mm_types.specs.declared.moves.LineKind.{LineKind}
-use Rattle.mm_life.specs.MoveText.{key_onto, place_onto, kind_onto}
+use Rattle.mm_types.specs.{Text, Key, Place, LineKind}
+use Rattle.mm_text.specs.{hex_short}
+use Rattle.mm_life.specs.{key_onto, place_onto, kind_onto}
 
 -- `p1.17`, `s0.3`
 abbrev pub key_text : Key → Text

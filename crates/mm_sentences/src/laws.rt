@@ -1,7 +1,6 @@
 ghost use Rattle.std.specs.Prelude.{◌≡◌, false, Some};
-ghost use Rattle.mm_types.specs.declared.moves.Move.{Move};
-ghost use Rattle.mm_life.specs.Legal.{is_legal};
-ghost use Rattle.mm_life.specs.Life.{FrameLife};
+ghost use Rattle.mm_types.specs.{Move};
+ghost use Rattle.mm_life.specs.{is_legal, FrameLife};
 ghost use Rattle.mm_sentences.specs.Parts.{holds, parts_of, refusal};
 ghost use Rattle.mm_sentences.specs.Tested.{all_hold};
 ghost use Rattle.mm_sentences.specs.declared.parts.Part.{Part};

@@ -3,7 +3,6 @@
 #![tactic(auto)]
 
 mod facts;
-mod kinds;
 mod laws;
 mod parts;
 mod reasons;
@@ -18,5 +17,7 @@ pub use parts::Part;
 pub use reasons::{put_refusal, put_why};
 pub use refusals::refusal;
 pub use sentences::put_sentence;
-pub use states::{FrameState, has_request, is_read, put_frame_row, put_row, put_state, state_of};
-pub use words::{put_key, put_kind, put_number, put_place, put_words};
+pub use states::{FrameState, put_frame_row, put_row, put_state, state_of};
+pub use words::{
+    put_counted, put_key, put_kind, put_number, put_numbered, put_pair, put_place, put_words,
+};

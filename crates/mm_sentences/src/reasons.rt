@@ -1,10 +1,8 @@
-ghost use Rattle.std.specs.Prelude.{◌≡◌, ◌+◌, ◌<◌, ◌^◌, ◌++◌, [], OnOk, codes, length};
-ghost use Rattle.mm_types.specs.Spelling.{decimal};
+ghost use Rattle.std.specs.Prelude.{◌≡◌, ◌+◌, ◌<◌, ◌^◌, ◌++◌, [], OnOk, codes, if◌then◌else◌, length};
+ghost use Rattle.mm_types.specs.{decimal};
 ghost use Rattle.mm_replay.specs.Standing.{life as life_of};
-ghost use Rattle.mm_replay.specs.Looking.{frames_on};
-ghost use Rattle.mm_life.specs.Frames.{is_read};
-ghost use Rattle.mm_life.specs.Life.{set_of};
-ghost use Rattle.mm_life.specs.MoveText.{move_text, place_onto};
+ghost use Rattle.mm_replay.specs.{frames_on};
+ghost use Rattle.mm_life.specs.{is_read, set_of, move_text, place_onto};
 ghost use Rattle.mm_sentences.specs.Refusals.{name_of, about, counted, line_is, frame_is, page_is};
 ghost use Rattle.mm_sentences.specs.Refusals.{place_is};
 ghost use Rattle.mm_sentences.specs.Refusals.{first_is, not_first, not_empty, depth_is, stands_in};
@@ -16,11 +14,13 @@ ghost use Rattle.mm_sentences.specs.Refusals.{not_modified, keeps_block, part_te
 ghost use Rattle.mm_sentences.specs.Refusals.{refusal_text, why_text};
 ghost use Rattle.mm_sentences.specs.declared.parts.Part.TheVariants as part;
 
-use crate::kinds::{is_access, is_thread, is_touch, is_writer, touches, trims};
 use crate::parts::Part;
 use crate::refusals::{limit, refusal};
-use crate::states::is_read;
-use crate::words::{put_key, put_kind, put_number, put_place, put_words};
+use crate::states::{FrameState, state_text};
+use crate::words::{
+    put_counted, put_key, put_kind, put_number, put_numbered, put_place, put_words,
+};
+use mm_classes::{is_access, is_read, is_thread, is_touch, is_writer, touches, trims};
 use mm_life::ResidentSet;
 use mm_moves::spell;
 use mm_replay::{FrameList, Life};
@@ -29,32 +29,13 @@ use mm_types::{Block, Frame, Held, Key, Move, NoMemory, Pid, Place, Request, Slo
 
 // ---- pieces
 
-/// Writes words, a number, and words.
-#[tactic(auto, using(crate::proofs::Joined::joined))]
-fn put_about(front: &[u8], n: u64, behind: &[u8], text: &mut Vec<u8>) -> Result<(), NoMemory>
-    ensures { OnOk result (text.new.items ≡ text.old.items ++ about front.now n behind.now) }
-{
-    put_words(front, text)?;
-    put_number(n, text)?;
-    put_words(behind, text)
-}
-
-/// Writes words and a number.
-#[tactic(auto, using(crate::proofs::Joined::joined))]
-fn put_counted(front: &[u8], n: u64, text: &mut Vec<u8>) -> Result<(), NoMemory>
-    ensures { OnOk result (text.new.items ≡ text.old.items ++ counted front.now n) }
-{
-    put_words(front, text)?;
-    put_number(n, text)
-}
-
 /// Writes the line, and what it is not.
 #[tactic(auto, using(crate::proofs::Joined::joined))]
 fn put_line_is(life: &Life, behind: &[u8], text: &mut Vec<u8>) -> Result<(), NoMemory>
     ensures { OnOk result (text.new.items ≡ text.old.items
         ++ line_is (life_of life.now) behind.now) }
 {
-    put_about(b"line ", u64::from(life.line()), b" (", text)?;
+    put_numbered(b"line ", u64::from(life.line()), b" (", text)?;
     put_kind(life.kind(), text)?;
     put_words(b")", text)?;
     put_words(behind, text)
@@ -73,7 +54,7 @@ fn put_line_of(life: &Life, words: &[u8], pid: Pid, text: &mut Vec<u8>) -> Resul
 fn put_frame_is(frame: Frame, behind: &[u8], text: &mut Vec<u8>) -> Result<(), NoMemory>
     ensures { OnOk result (text.new.items ≡ text.old.items ++ frame_is frame behind.now) }
 {
-    put_about(b"frame ", u64::from(frame.0), behind, text)
+    put_numbered(b"frame ", u64::from(frame.0), behind, text)
 }
 
 #[tactic(auto, using(crate::proofs::Joined::joined))]
@@ -82,23 +63,6 @@ fn put_page_is(key: Key, behind: &[u8], text: &mut Vec<u8>) -> Result<(), NoMemo
 {
     put_words(b"page ", text)?;
     put_key(key, text)?;
-    put_words(behind, text)
-}
-
-/// Writes a page, words, a number, and words.
-#[tactic(auto, using(crate::proofs::Joined::joined))]
-fn put_page_about(
-    key: Key,
-    words: &[u8],
-    n: u32,
-    behind: &[u8],
-    text: &mut Vec<u8>,
-) -> Result<(), NoMemory>
-    ensures { OnOk result (text.new.items ≡ text.old.items
-        ++ page_is key (about words.now n behind.now)) }
-{
-    put_page_is(key, words, text)?;
-    put_number(u64::from(n), text)?;
     put_words(behind, text)
 }
 
@@ -134,17 +98,11 @@ fn list_name(list: FrameList) -> &'static [u8]
     ensures { result.now ≡ name_of list }
 {
     match list {
-        FrameList::Zeroed => b"zeroed",
-        FrameList::Free => b"free",
-        FrameList::Standby => b"standby",
-        FrameList::Modified => b"modified",
+        FrameList::Zeroed => state_text(FrameState::Zeroed),
+        FrameList::Free => state_text(FrameState::Free),
+        FrameList::Standby => state_text(FrameState::Standby),
+        FrameList::Modified => state_text(FrameState::Modified),
     }
-}
-
-fn put_list_name(list: FrameList, text: &mut Vec<u8>) -> Result<(), NoMemory>
-    ensures { OnOk result (text.new.items ≡ text.old.items ++ name_of list) }
-{
-    put_words(list_name(list), text)
 }
 
 /// Writes that a list has no frame.
@@ -154,7 +112,7 @@ fn put_none(list: FrameList, text: &mut Vec<u8>) -> Result<(), NoMemory>
         ++ (codes "; " ++ (name_of list ++ codes ": none"))) }
 {
     put_words(b"; ", text)?;
-    put_list_name(list, text)?;
+    put_words(list_name(list), text)?;
     put_words(b": none", text)
 }
 
@@ -182,7 +140,7 @@ fn put_not_first(
         ++ not_first (name_of list) (frames_on (life_of life.now).frames list) frame) }
 {
     put_frame_is(frame, b" is not the first ", text)?;
-    put_list_name(list, text)?;
+    put_words(list_name(list), text)?;
     put_words(b" frame", text)?;
     put_first_is(life, list, text)
 }
@@ -198,7 +156,7 @@ fn put_list_is(
     ensures { OnOk result (text.new.items ≡ text.old.items ++ (name_of list ++ (words.now
         ++ first_is (name_of list) (frames_on (life_of life.now).frames list)))) }
 {
-    put_list_name(list, text)?;
+    put_words(list_name(list), text)?;
     put_words(words, text)?;
     put_first_is(life, list, text)
 }
@@ -254,8 +212,9 @@ fn put_mapped(life: &Life, key: Key, held: Held, text: &mut Vec<u8>) -> Result<(
 {
     match held {
         Held::Frame(frame) => {
-            let shares = life.record(frame).shares;
-            put_page_about(key, b" is valid at ", shares, b" places", text)
+            let shares = u64::from(life.record(frame).shares);
+            put_page_is(key, b" is valid at ", text)?;
+            put_numbered(b"", shares, b" places", text)
         }
         Held::Slot(_) | Held::Block(_) | Held::Zero | Held::Dead => Ok(()),
     }
@@ -470,14 +429,14 @@ fn put_not_lowest(life: &Life, slot: Slot, text: &mut Vec<u8>) -> Result<(), NoM
         ++ part_text (life_of life.now) (part.LowestSlot slot)) }
 {
     if life.is_slot_free(slot) {
-        put_about(
+        put_numbered(
             b"slot ",
             u64::from(slot.0),
             b" is not the lowest free slot",
             text,
         )
     } else {
-        put_about(b"slot ", u64::from(slot.0), b" is not free", text)
+        put_numbered(b"slot ", u64::from(slot.0), b" is not free", text)
     }
 }
 
@@ -502,6 +461,24 @@ fn put_keeps_block(life: &Life, frame: Frame, text: &mut Vec<u8>) -> Result<(), 
         put_depth_is(life, text)
     } else {
         put_not_modified(frame, text)
+    }
+}
+
+/// Writes how many requests are in flight, where the line may begin one, or else what it is not.
+fn put_depth_or(
+    life: &Life,
+    begins: bool,
+    behind: &[u8],
+    text: &mut Vec<u8>,
+) -> Result<(), NoMemory>
+    ensures { OnOk result (text.new.items ≡ text.old.items
+        ++ (if begins then depth_is (life_of life.now)
+        else line_is (life_of life.now) behind.now)) }
+{
+    if begins {
+        put_depth_is(life, text)
+    } else {
+        put_line_is(life, behind, text)
     }
 }
 
@@ -539,30 +516,6 @@ fn put_not_to_read(life: &Life, frame: Frame, text: &mut Vec<u8>) -> Result<(), 
     }
 }
 
-/// Writes why a read does not begin.
-fn put_no_reading(life: &Life, text: &mut Vec<u8>) -> Result<(), NoMemory>
-    ensures { OnOk result (text.new.items ≡ text.old.items
-        ++ part_text (life_of life.now) part.AccessReads) }
-{
-    if is_thread(life.kind()) {
-        put_depth_is(life, text)
-    } else {
-        put_line_is(life, b" is no access", text)
-    }
-}
-
-/// Writes why a write to a slot does not begin.
-fn put_no_writing(life: &Life, text: &mut Vec<u8>) -> Result<(), NoMemory>
-    ensures { OnOk result (text.new.items ≡ text.old.items
-        ++ part_text (life_of life.now) part.WritesSlot) }
-{
-    if is_writer(life.kind()) {
-        put_depth_is(life, text)
-    } else {
-        put_line_is(life, b" is no access and no writer", text)
-    }
-}
-
 /// Writes which process comes next.
 fn put_next_process(life: &Life, text: &mut Vec<u8>) -> Result<(), NoMemory>
     ensures { OnOk result (text.new.items ≡ text.old.items
@@ -597,7 +550,7 @@ fn put_part(life: &Life, part: Part, text: &mut Vec<u8>) -> Result<(), NoMemory>
         Part::SomeSlots(_) => put_words(b"it grows by no slot", text),
         Part::FewSlots(_) => put_words(b"there are at most 262144 slots", text),
         Part::NotLive(key) => put_page_is(key, b" is there already", text),
-        Part::Commit => put_about(
+        Part::Commit => put_numbered(
             b"the commit limit of ",
             limit(life),
             b" pages is reached",
@@ -609,7 +562,7 @@ fn put_part(life: &Life, part: Part, text: &mut Vec<u8>) -> Result<(), NoMemory>
         Part::Call => put_line_is(life, b" is no call", text),
         Part::OfSection(key) => put_page_is(key, b" is no page of a file", text),
         Part::BlockThere(_) => {
-            put_about(
+            put_numbered(
                 b"there are ",
                 u64::from(life.blocks()),
                 b" file blocks",
@@ -617,7 +570,7 @@ fn put_part(life: &Life, part: Part, text: &mut Vec<u8>) -> Result<(), NoMemory>
             )
         }
         Part::BlockNew(block) => {
-            put_about(
+            put_numbered(
                 b"file block ",
                 u64::from(block.0),
                 b" had a page before",
@@ -637,7 +590,7 @@ fn put_part(life: &Life, part: Part, text: &mut Vec<u8>) -> Result<(), NoMemory>
         Part::DemandZero(key) => put_stands(key, life.standing(key), text),
         Part::FirstToRead(frame) => put_not_to_read(life, frame, text),
         Part::OnDevice(key) => put_stands(key, life.standing(key), text),
-        Part::AccessReads => put_no_reading(life, text),
+        Part::AccessReads => put_depth_or(life, is_thread(life.kind()), b" is no access", text),
         Part::BeingRead(frame) => put_frame_is(frame, b" is not being read", text),
         Part::IoOrAccess => put_line_is(life, b" is no io and no access", text),
         Part::FitsPlace(frame, place) => put_holds(frame, place, life.record(frame).owner, text),
@@ -654,7 +607,10 @@ fn put_part(life: &Life, part: Part, text: &mut Vec<u8>) -> Result<(), NoMemory>
             put_frame_is(frame, b" holds no page of the paging file", text)
         }
         Part::LowestSlot(slot) => put_not_lowest(life, slot, text),
-        Part::WritesSlot => put_no_writing(life, text),
+        Part::WritesSlot => {
+            let writes = is_writer(life.kind());
+            put_depth_or(life, writes, b" is no access and no writer", text)
+        }
         Part::Changed(frame) => put_frame_is(frame, b" is not changed", text),
         Part::Owned(frame) => put_frame_is(frame, b" holds no page", text),
         Part::Quiet(frame) => put_request_is(frame, life.record(frame).request, text),

@@ -1,20 +1,15 @@
 ghost use Rattle.std.specs.Prelude.{◌≡◌, ◌∷◌, ◌++◌, [], true, false, Some, is_none};
 ghost use Rattle.mm_types.specs.declared.moves.Move.TheVariants as move;
-ghost use Rattle.mm_types.specs.Machine.{limit_of};
-ghost use Rattle.mm_life.specs.Frames.{is_first, is_write, is_again};
-ghost use Rattle.mm_life.specs.Legal.{is_zero, is_stored, owner_is, fits_place, is_block};
-ghost use Rattle.mm_life.specs.Legal.{is_lowest};
-ghost use Rattle.mm_life.specs.Legal.{is_legal};
-ghost use Rattle.mm_life.specs.Life.{is_shared};
-ghost use Rattle.mm_replay.specs.Looking.{frames_on};
+ghost use Rattle.mm_types.specs.{limit_of};
+ghost use Rattle.mm_life.specs.{is_first, is_zero, is_stored, owner_is, fits_place, is_block, is_lowest, is_legal, is_shared};
+ghost use Rattle.mm_replay.specs.{frames_on};
 ghost use Rattle.mm_replay.specs.Standing.{life as life_of};
 ghost use Rattle.mm_sentences.specs.Parts.{holds, parts_of, first_failing, is_clean, refusal};
 ghost use Rattle.mm_sentences.specs.Tested.{is_tested, are_tested, all_hold, none_free};
 ghost use Rattle.mm_sentences.specs.declared.parts.Part.TheVariants as part;
 
-use crate::kinds::{is_call, is_unbind, touches};
 use crate::parts::Part;
-use crate::states::{has_request, is_read};
+use mm_classes::{has_request, is_again, is_call, is_read, is_unbind, is_write, touches};
 use mm_replay::{FrameList, Life};
 use mm_types::{
     Backing, Block, Frame, Held, Key, LineKind, Move, Place, Record, Request, Slot, Stored,
@@ -35,28 +30,19 @@ fn is_first(life: &Life, list: FrameList, frame: Frame) -> bool
 fn is_zero(held: Held) -> bool
     ensures { result ≡ is_zero held }
 {
-    match held {
-        Held::Zero => true,
-        Held::Frame(_) | Held::Slot(_) | Held::Block(_) | Held::Dead => false,
-    }
+    matches!(held, Held::Zero)
 }
 
 fn is_stored(held: Held) -> bool
     ensures { result ≡ is_stored held }
 {
-    match held {
-        Held::Slot(_) | Held::Block(_) => true,
-        Held::Frame(_) | Held::Zero | Held::Dead => false,
-    }
+    matches!(held, Held::Slot(_) | Held::Block(_))
 }
 
 fn is_shared(key: Key) -> bool
     ensures { result ≡ is_shared key }
 {
-    match key {
-        Key::Private(_, _) => false,
-        Key::Shared(_, _) => true,
-    }
+    matches!(key, Key::Shared(_, _))
 }
 
 fn fits_place(place: Place, key: Key) -> bool
@@ -83,24 +69,6 @@ fn is_owner_paging(life: &Life, r: &Record) -> bool
     match r.owner {
         Some(key) => life.is_paging(key),
         None => false,
-    }
-}
-
-fn is_write(request: Request) -> bool
-    ensures { result ≡ is_write request }
-{
-    match request {
-        Request::Write | Request::WriteAgain => true,
-        Request::None | Request::Read => false,
-    }
-}
-
-fn is_again(request: Request) -> bool
-    ensures { result ≡ is_again request }
-{
-    match request {
-        Request::WriteAgain => true,
-        Request::None | Request::Read | Request::Write => false,
     }
 }
 

@@ -1,14 +1,15 @@
-ghost use Rattle.std.specs.Prelude.{◌≡◌, ◌++◌, [], OnOk, codes};
-ghost use Rattle.mm_types.specs.Spelling.{decimal};
+ghost use Rattle.std.specs.Prelude.{◌≡◌, ◌++◌, Bool, OnOk, codes, flat_map};
+ghost use Rattle.mm_life.specs.{FrameLife};
 ghost use Rattle.mm_replay.specs.Standing.{life as life_of};
 ghost use Rattle.mm_sentences.specs.Sentences.{page_text, frame_text, at_text, process_text};
 ghost use Rattle.mm_sentences.specs.Sentences.{block_text, home_text, unslot_text, freed_slot};
 ghost use Rattle.mm_sentences.specs.Sentences.{freed_text, stays_text, list_text, becomes_text};
 ghost use Rattle.mm_sentences.specs.Sentences.{goes_text, sentence_text};
+ghost use Rattle.mm_sentences.specs.Pieces.{name_text, piece_text};
 
 use crate::facts::Facts;
 use crate::states::{FrameState, put_state, state_of};
-use crate::words::{put_key, put_number, put_place, put_words};
+use crate::words::{put_counted, put_key, put_number, put_numbered, put_place, put_words};
 use mm_classes::Class;
 use mm_replay::Life;
 use mm_types::{Block, Frame, Held, Key, NoMemory, Place, Slot};
@@ -61,32 +62,12 @@ fn put_block(block: Option<Block>, text: &mut Vec<u8>) -> Result<(), NoMemory>
     }
 }
 
-/// Writes some words, and a number.
-#[tactic(auto, using(crate::proofs::Joined::joined))]
-fn put_number_behind(words: &[u8], n: u32, text: &mut Vec<u8>) -> Result<(), NoMemory>
-    ensures { OnOk result (text.new.items ≡ text.old.items ++ (words.now ++ decimal n)) }
-{
-    put_words(words, text)?;
-    put_number(u64::from(n), text)
-}
-
-/// Writes that something of this number is free.
-#[tactic(auto, using(crate::proofs::Joined::joined))]
-fn put_free(words: &[u8], n: u32, text: &mut Vec<u8>) -> Result<(), NoMemory>
-    ensures { OnOk result (text.new.items ≡ text.old.items
-        ++ (words.now ++ (decimal n ++ codes " is free"))) }
-{
-    put_words(words, text)?;
-    put_number(u64::from(n), text)?;
-    put_words(b" is free", text)
-}
-
 fn put_home(home: Held, text: &mut Vec<u8>) -> Result<(), NoMemory>
     ensures { OnOk result (text.new.items ≡ text.old.items ++ home_text home) }
 {
     match home {
-        Held::Slot(slot) => put_number_behind(b"slot ", slot.0, text),
-        Held::Block(block) => put_number_behind(b"block ", block.0, text),
+        Held::Slot(slot) => put_counted(b"slot ", u64::from(slot.0), text),
+        Held::Block(block) => put_counted(b"block ", u64::from(block.0), text),
         Held::Frame(_) | Held::Zero | Held::Dead => put_words(b"zeros", text),
     }
 }
@@ -95,7 +76,7 @@ fn put_unslot(slot: Option<Slot>, text: &mut Vec<u8>) -> Result<(), NoMemory>
     ensures { OnOk result (text.new.items ≡ text.old.items ++ unslot_text slot) }
 {
     match slot {
-        Some(slot) => put_free(b"; its slot ", slot.0, text),
+        Some(slot) => put_numbered(b"; its slot ", u64::from(slot.0), b" is free", text),
         None => Ok(()),
     }
 }
@@ -104,7 +85,7 @@ fn put_freed_slot(slot: Option<Slot>, text: &mut Vec<u8>) -> Result<(), NoMemory
     ensures { OnOk result (text.new.items ≡ text.old.items ++ freed_slot slot) }
 {
     match slot {
-        Some(slot) => put_free(b"; slot ", slot.0, text),
+        Some(slot) => put_numbered(b"; slot ", u64::from(slot.0), b" is free", text),
         None => Ok(()),
     }
 }
@@ -113,7 +94,7 @@ fn put_freed(frame: Option<Frame>, slot: Option<Slot>, text: &mut Vec<u8>) -> Re
     ensures { OnOk result (text.new.items ≡ text.old.items ++ freed_text frame slot) }
 {
     match frame {
-        Some(frame) => put_free(b"; frame ", frame.0, text),
+        Some(frame) => put_numbered(b"; frame ", u64::from(frame.0), b" is free", text),
         None => put_freed_slot(slot, text),
     }
 }
@@ -158,319 +139,304 @@ fn put_goes(after: &Life, facts: &Facts, text: &mut Vec<u8>) -> Result<(), NoMem
     }
 }
 
-// ---- words and names, as they come in sentences. Behind a name that ends a sentence its
-// definition has the empty text.
-
-/// Writes a page between words.
-#[tactic(auto, using(crate::proofs::Joined::joined))]
-fn put_page_between(
-    front: &[u8],
-    behind: &[u8],
-    facts: &Facts,
-    text: &mut Vec<u8>,
-) -> Result<(), NoMemory>
-    ensures { OnOk result (text.new.items ≡ text.old.items
-        ++ (front.now ++ (page_text facts.now.key ++ behind.now))) }
-{
-    put_words(front, text)?;
-    put_page(facts.key, text)?;
-    put_words(behind, text)
-}
-
-/// Writes a frame between words.
-#[tactic(auto, using(crate::proofs::Joined::joined))]
-fn put_frame_between(
-    front: &[u8],
-    behind: &[u8],
-    facts: &Facts,
-    text: &mut Vec<u8>,
-) -> Result<(), NoMemory>
-    ensures { OnOk result (text.new.items ≡ text.old.items
-        ++ (front.now ++ (frame_text facts.now.frame ++ behind.now))) }
-{
-    put_words(front, text)?;
-    put_frame(facts.frame, text)?;
-    put_words(behind, text)
-}
-
-/// Writes words, a page, words and a frame.
-#[tactic(auto, using(crate::proofs::Joined::joined))]
-fn put_page_and_frame(
-    front: &[u8],
-    between: &[u8],
-    facts: &Facts,
-    text: &mut Vec<u8>,
-) -> Result<(), NoMemory>
-    ensures { OnOk result (text.new.items ≡ text.old.items ++ (front.now
-        ++ (page_text facts.now.key ++ (between.now ++ (frame_text facts.now.frame ++ []))))) }
-{
-    put_page_between(front, between, facts, text)?;
-    put_frame(facts.frame, text)
-}
-
-/// Writes words, a page, words, a frame and words.
-#[tactic(auto, using(crate::proofs::Joined::joined))]
-fn put_page_in_frame(
-    front: &[u8],
-    between: &[u8],
-    behind: &[u8],
-    facts: &Facts,
-    text: &mut Vec<u8>,
-) -> Result<(), NoMemory>
-    ensures { OnOk result (text.new.items ≡ text.old.items ++ (front.now
-        ++ (page_text facts.now.key ++ (between.now
-        ++ (frame_text facts.now.frame ++ behind.now))))) }
-{
-    put_page_and_frame(front, between, facts, text)?;
-    put_words(behind, text)
-}
-
-/// Writes words, a frame, words and a page.
-#[tactic(auto, using(crate::proofs::Joined::joined))]
-fn put_frame_and_page(
-    front: &[u8],
-    between: &[u8],
-    facts: &Facts,
-    text: &mut Vec<u8>,
-) -> Result<(), NoMemory>
-    ensures { OnOk result (text.new.items ≡ text.old.items ++ (front.now
-        ++ (frame_text facts.now.frame ++ (between.now ++ (page_text facts.now.key ++ []))))) }
-{
-    put_frame_between(front, between, facts, text)?;
-    put_page(facts.key, text)
-}
-
-// ---- names behind words, as sentences have them
-
-/// Writes words, a page, words and a block.
-#[tactic(auto, using(crate::proofs::Joined::joined))]
-fn put_page_in_block(
-    front: &[u8],
-    between: &[u8],
-    facts: &Facts,
-    text: &mut Vec<u8>,
-) -> Result<(), NoMemory>
-    ensures { OnOk result (text.new.items ≡ text.old.items ++ (front.now
-        ++ (page_text facts.now.key ++ (between.now ++ (block_text facts.now.block ++ []))))) }
-{
-    put_page_between(front, between, facts, text)?;
-    put_block(facts.block, text)
-}
-
-/// Writes that a page is gone, and what is free then.
-#[tactic(auto, using(crate::proofs::Joined::joined))]
-fn put_page_freed(
-    front: &[u8],
-    behind: &[u8],
-    facts: &Facts,
-    text: &mut Vec<u8>,
-) -> Result<(), NoMemory>
-    ensures { OnOk result (text.new.items ≡ text.old.items ++ (front.now
-        ++ (page_text facts.now.key ++ (behind.now
-        ++ (freed_text facts.now.frame facts.now.slot ++ []))))) }
-{
-    put_page_between(front, behind, facts, text)?;
-    put_freed(facts.frame, facts.slot, text)
-}
-
-/// Writes words, a frame, words, the page that was in it, words and its home.
-#[tactic(auto, using(crate::proofs::Joined::joined))]
-fn put_frame_and_home(
-    front: &[u8],
-    between: &[u8],
-    behind: &[u8],
-    facts: &Facts,
-    text: &mut Vec<u8>,
-) -> Result<(), NoMemory>
-    ensures { OnOk result (text.new.items ≡ text.old.items ++ (front.now
-        ++ (frame_text facts.now.frame ++ (between.now ++ (page_text facts.now.key ++ (behind.now
-        ++ (home_text facts.now.home ++ []))))))) }
-{
-    put_frame_and_page(front, between, facts, text)?;
-    put_words(behind, text)?;
-    put_home(facts.home, text)
-}
-
-/// Writes words, a page, words, its home, words and a frame.
-#[tactic(auto, using(crate::proofs::Joined::joined))]
-fn put_page_from_home(
-    front: &[u8],
-    between: &[u8],
-    behind: &[u8],
-    facts: &Facts,
-    text: &mut Vec<u8>,
-) -> Result<(), NoMemory>
-    ensures { OnOk result (text.new.items ≡ text.old.items ++ (front.now
-        ++ (page_text facts.now.key ++ (between.now ++ (home_text facts.now.home ++ (behind.now
-        ++ (frame_text facts.now.frame ++ []))))))) }
-{
-    put_page_between(front, between, facts, text)?;
-    put_home(facts.home, text)?;
-    put_words(behind, text)?;
-    put_frame(facts.frame, text)
-}
-
-/// Writes a page, words, its place, words, its frame and words.
-#[tactic(auto, using(crate::proofs::Joined::joined))]
-fn put_page_at_place(
-    front: &[u8],
-    between: &[u8],
-    behind: &[u8],
-    addressed: bool,
-    facts: &Facts,
-    text: &mut Vec<u8>,
-) -> Result<(), NoMemory>
-    ensures { OnOk result (text.new.items ≡ text.old.items ++ (page_text facts.now.key
-        ++ (front.now ++ (at_text addressed facts.now.place ++ (between.now
-        ++ (frame_text facts.now.frame ++ behind.now)))))) }
-{
-    put_page(facts.key, text)?;
-    put_words(front, text)?;
-    put_at(addressed, facts.place, text)?;
-    put_frame_between(between, behind, facts, text)
-}
-
-/// Writes words, a page, words, its frame, words and its place.
-#[tactic(auto, using(crate::proofs::Joined::joined))]
-fn put_page_found(
-    front: &[u8],
-    between: &[u8],
-    behind: &[u8],
-    addressed: bool,
-    facts: &Facts,
-    text: &mut Vec<u8>,
-) -> Result<(), NoMemory>
-    ensures { OnOk result (text.new.items ≡ text.old.items ++ (front.now
-        ++ (page_text facts.now.key ++ (between.now ++ (frame_text facts.now.frame ++ (behind.now
-        ++ (at_text addressed facts.now.place ++ []))))))) }
-{
-    put_page_in_frame(front, between, behind, facts, text)?;
-    put_at(addressed, facts.place, text)
-}
-
-/// Writes a place, words, its frame, words, its process and what becomes of the frame.
-#[tactic(auto, using(crate::proofs::Joined::joined))]
-fn put_place_ends(
-    front: &[u8],
-    between: &[u8],
-    addressed: bool,
-    facts: &Facts,
-    after: &Life,
-    text: &mut Vec<u8>,
-) -> Result<(), NoMemory>
-    ensures { OnOk result (text.new.items ≡ text.old.items ++ (at_text addressed facts.now.place
-        ++ (front.now ++ (frame_text facts.now.frame ++ (between.now
-        ++ (process_text facts.now.place
-        ++ (goes_text (life_of after.now) facts.now.place facts.now.frame ++ []))))))) }
-{
-    put_at(addressed, facts.place, text)?;
-    put_frame_between(front, between, facts, text)?;
-    put_process(facts.place, text)?;
-    put_goes(after, facts, text)
-}
-
-/// Writes a place, words, its process, words, its frame and what becomes of that.
-#[tactic(auto, using(crate::proofs::Joined::joined))]
-fn put_place_leaves(
-    front: &[u8],
-    between: &[u8],
-    addressed: bool,
-    facts: &Facts,
-    after: &Life,
-    text: &mut Vec<u8>,
-) -> Result<(), NoMemory>
-    ensures { OnOk result (text.new.items ≡ text.old.items ++ (at_text addressed facts.now.place
-        ++ (front.now ++ (process_text facts.now.place ++ (between.now
-        ++ (frame_text facts.now.frame
-        ++ (goes_text (life_of after.now) facts.now.place facts.now.frame ++ []))))))) }
-{
-    put_at(addressed, facts.place, text)?;
-    put_words(front, text)?;
-    put_process(facts.place, text)?;
-    put_words(between, text)?;
-    put_frame(facts.frame, text)?;
-    put_goes(after, facts, text)
-}
-
-/// Writes words, a place, words, its page, words, its frame and what becomes of that.
-#[tactic(auto, using(crate::proofs::Joined::joined))]
-fn put_place_makes_way(
-    front: &[u8],
-    between: &[u8],
-    behind: &[u8],
-    addressed: bool,
-    facts: &Facts,
-    after: &Life,
-    text: &mut Vec<u8>,
-) -> Result<(), NoMemory>
-    ensures { OnOk result (text.new.items ≡ text.old.items ++ (front.now
-        ++ (at_text addressed facts.now.place ++ (between.now ++ (page_text facts.now.key
-        ++ (behind.now ++ (frame_text facts.now.frame
-        ++ (goes_text (life_of after.now) facts.now.place facts.now.frame ++ [])))))))) }
-{
-    put_words(front, text)?;
-    put_at(addressed, facts.place, text)?;
-    put_page_and_frame(between, behind, facts, text)?;
-    put_goes(after, facts, text)
-}
-
-/// Writes words, a page, words, its frame, words and the slot that it gives up.
-#[tactic(auto, using(crate::proofs::Joined::joined))]
-fn put_page_unslot(
-    front: &[u8],
-    between: &[u8],
-    behind: &[u8],
-    facts: &Facts,
-    text: &mut Vec<u8>,
-) -> Result<(), NoMemory>
-    ensures { OnOk result (text.new.items ≡ text.old.items ++ (front.now
-        ++ (page_text facts.now.key ++ (between.now ++ (frame_text facts.now.frame ++ (behind.now
-        ++ (unslot_text facts.now.slot ++ []))))))) }
-{
-    put_page_in_frame(front, between, behind, facts, text)?;
-    put_unslot(facts.slot, text)
-}
-
-/// Writes words, a page, words, its frame, words and where it is written to.
-#[tactic(auto, using(crate::proofs::Joined::joined))]
-fn put_page_to_home(
-    front: &[u8],
-    between: &[u8],
-    behind: &[u8],
-    facts: &Facts,
-    text: &mut Vec<u8>,
-) -> Result<(), NoMemory>
-    ensures { OnOk result (text.new.items ≡ text.old.items ++ (front.now
-        ++ (page_text facts.now.key ++ (between.now ++ (frame_text facts.now.frame ++ (behind.now
-        ++ (home_text facts.now.home ++ []))))))) }
-{
-    put_page_in_frame(front, between, behind, facts, text)?;
-    put_home(facts.home, text)
-}
-
-/// Writes words, a page, words, its frame, words and what becomes of the frame.
-#[tactic(auto, using(crate::proofs::Joined::joined))]
-fn put_page_written(
-    front: &[u8],
-    between: &[u8],
-    behind: &[u8],
-    facts: &Facts,
-    after: &Life,
-    text: &mut Vec<u8>,
-) -> Result<(), NoMemory>
-    ensures { OnOk result (text.new.items ≡ text.old.items ++ (front.now
-        ++ (page_text facts.now.key ++ (between.now ++ (frame_text facts.now.frame ++ (behind.now
-        ++ (goes_text (life_of after.now) facts.now.place facts.now.frame ++ []))))))) }
-{
-    put_page_in_frame(front, between, behind, facts, text)?;
-    put_goes(after, facts, text)
-}
-
 // ---- each sentence
+
+/// What stands for a name in braces; `End` is nothing.
+#[derive(Clone, Copy)]
+enum Name {
+    Page,
+    Frame,
+    Place,
+    Process,
+    Block,
+    Home,
+    Freed,
+    Unslot,
+    Goes,
+    End,
+}
+
+/// Words of a sentence, and the name behind them.
+#[derive(Clone, Copy)]
+struct Piece(&'static [u8], Name);
+
+/// Writes what stands for a name.
+#[tactic(auto, using(crate::proofs::Joined::joined))]
+fn put_name(
+    name: Name,
+    facts: &Facts,
+    addressed: bool,
+    after: &Life,
+    text: &mut Vec<u8>,
+) -> Result<(), NoMemory>
+    ensures { OnOk result (text.new.items ≡ text.old.items
+        ++ name_text addressed facts.now (life_of after.now) name) }
+{
+    match name {
+        Name::Page => put_page(facts.key, text),
+        Name::Frame => put_frame(facts.frame, text),
+        Name::Place => put_at(addressed, facts.place, text),
+        Name::Process => put_process(facts.place, text),
+        Name::Block => put_block(facts.block, text),
+        Name::Home => put_home(facts.home, text),
+        Name::Freed => put_freed(facts.frame, facts.slot, text),
+        Name::Unslot => put_unslot(facts.slot, text),
+        Name::Goes => put_goes(after, facts, text),
+        Name::End => Ok(()),
+    }
+}
+
+/// Writes words, and what stands for the name behind them.
+#[tactic(auto, using(crate::proofs::Joined::joined))]
+fn put_piece(
+    piece: Piece,
+    facts: &Facts,
+    addressed: bool,
+    after: &Life,
+    text: &mut Vec<u8>,
+) -> Result<(), NoMemory>
+    ensures { OnOk result (text.new.items ≡ text.old.items
+        ++ piece_text addressed facts.now (life_of after.now) piece) }
+{
+    put_words(piece.0, text)?;
+    put_name(piece.1, facts, addressed, after, text)
+}
+
+/// Writes pieces one after another.
+fn put_pieces(
+    pieces: &[Piece],
+    facts: &Facts,
+    addressed: bool,
+    after: &Life,
+    text: &mut Vec<u8>,
+) -> Result<(), NoMemory>
+    ensures { OnOk result (text.new.items ≡ text.old.items
+        ++ flat_map (piece_text addressed facts.now (life_of after.now)) pieces.now) }
+{
+    for piece in pieces {
+        put_piece(*piece, facts, addressed, after, text)?;
+    }
+    Ok(())
+}
+
+/// The sentence of a class, cut behind each of its names: no brace is sought while a log is told.
+fn pieces_of(class: Class) -> &'static [Piece]
+    ensures { (addressed : Bool) (x : Facts) (after : FrameLife)
+        → flat_map (piece_text addressed x after) result.now
+        ≡ sentence_text addressed class x after }
+{
+    match class {
+        Class::DemandZeroAdded => &[
+            Piece(b"page ", Name::Page),
+            Piece(b" comes to be, demand-zero: no frame yet", Name::End),
+        ],
+        Class::FilePageAdded => &[
+            Piece(b"file page ", Name::Page),
+            Piece(b" comes to be, its bytes in file block ", Name::Block),
+        ],
+        Class::CopyOnWriteFault => &[
+            Piece(b"copy-on-write fault: page ", Name::Page),
+            Piece(b" becomes private", Name::End),
+        ],
+        Class::Deleted => &[
+            Piece(b"page ", Name::Page),
+            Piece(b" is deleted", Name::Freed),
+        ],
+        Class::DeletedInFlight => &[
+            Piece(b"page ", Name::Page),
+            Piece(b" is deleted; its I/O keeps frame ", Name::Frame),
+            Piece(b" until it ends", Name::End),
+        ],
+        Class::ZeroedByThread => &[Piece(b"zero page thread clears free frame ", Name::Frame)],
+        Class::ZeroedOnDemand => &[
+            Piece(b"free frame ", Name::Frame),
+            Piece(b" is zeroed on demand", Name::End),
+        ],
+        Class::StandbyRepurposed => &[
+            Piece(b"standby frame ", Name::Frame),
+            Piece(b" is repurposed: ", Name::Page),
+            Piece(b" is now only in ", Name::Home),
+        ],
+        Class::DemandZeroFault => &[
+            Piece(b"demand-zero fault: ", Name::Page),
+            Piece(b" gets zeroed frame ", Name::Frame),
+        ],
+        Class::FrameForCopy => &[
+            Piece(b"zeroed frame ", Name::Frame),
+            Piece(b" is taken for the copy ", Name::Page),
+        ],
+        Class::HardFaultFromPagingFile => &[
+            Piece(b"hard fault: ", Name::Page),
+            Piece(b" is read from paging-file ", Name::Home),
+            Piece(b" into frame ", Name::Frame),
+        ],
+        Class::HardFaultFromFile => &[
+            Piece(b"hard fault: ", Name::Page),
+            Piece(b" is read from file ", Name::Home),
+            Piece(b" into frame ", Name::Frame),
+        ],
+        Class::PageInDone => &[
+            Piece(b"page-in of ", Name::Page),
+            Piece(b" into frame ", Name::Frame),
+            Piece(b" is complete", Name::End),
+        ],
+        Class::CollidedFault => &[
+            Piece(b"collided fault: the page-in of ", Name::Page),
+            Piece(b" that was in flight completes in frame ", Name::Frame),
+        ],
+        Class::PageInDoneDeleted => &[
+            Piece(b"page-in into frame ", Name::Frame),
+            Piece(
+                b" is complete; its page was deleted, so the frame is free",
+                Name::End,
+            ),
+        ],
+        Class::PageInFailed => &[
+            Piece(b"page-in of ", Name::Page),
+            Piece(b" FAILED: frame ", Name::Frame),
+            Piece(b" is free again", Name::End),
+        ],
+        Class::PageInFailedDeleted => &[
+            Piece(b"page-in into frame ", Name::Frame),
+            Piece(
+                b" FAILED; its page was deleted, so the frame is free",
+                Name::End,
+            ),
+        ],
+        Class::MadeValid => &[
+            Piece(b"", Name::Page),
+            Piece(b" is valid at ", Name::Place),
+            Piece(b": frame ", Name::Frame),
+            Piece(b" is active", Name::End),
+        ],
+        Class::FirstUse => &[
+            Piece(b"", Name::Page),
+            Piece(b", read in by an earlier line, is valid at ", Name::Place),
+            Piece(b": frame ", Name::Frame),
+            Piece(b" is active", Name::End),
+        ],
+        Class::SoftFaultFromStandby => &[
+            Piece(b"soft fault: ", Name::Page),
+            Piece(b" is found on the standby list, frame ", Name::Frame),
+            Piece(b", and valid at ", Name::Place),
+        ],
+        Class::SoftFaultFromModified => &[
+            Piece(b"soft fault: ", Name::Page),
+            Piece(b" is found on the modified list, frame ", Name::Frame),
+            Piece(b", and valid at ", Name::Place),
+        ],
+        Class::SoftFaultInTransition => &[
+            Piece(b"soft fault: ", Name::Page),
+            Piece(
+                b" is found in transition (being written), frame ",
+                Name::Frame,
+            ),
+            Piece(b", and valid at ", Name::Place),
+        ],
+        Class::SoftFaultShared => &[
+            Piece(b"soft fault: ", Name::Page),
+            Piece(b" is active already, frame ", Name::Frame),
+            Piece(b", and now shared at ", Name::Place),
+        ],
+        Class::PlaceEnds => &[
+            Piece(b"", Name::Place),
+            Piece(b" ends: frame ", Name::Frame),
+            Piece(b" leaves the working set of process ", Name::Process),
+            Piece(b"", Name::Goes),
+        ],
+        Class::Trimmed => &[
+            Piece(b"", Name::Place),
+            Piece(
+                b" is trimmed from the working set of process ",
+                Name::Process,
+            ),
+            Piece(b": frame ", Name::Frame),
+            Piece(b"", Name::Goes),
+        ],
+        Class::TrimmedForWantOfFrames => &[
+            Piece(b"", Name::Place),
+            Piece(
+                b" is trimmed from the working set of process ",
+                Name::Process,
+            ),
+            Piece(b" for want of frames: frame ", Name::Frame),
+            Piece(b"", Name::Goes),
+        ],
+        Class::Replaced => &[
+            Piece(b"", Name::Place),
+            Piece(b" is replaced: the working set of process ", Name::Process),
+            Piece(b" is full: frame ", Name::Frame),
+            Piece(b"", Name::Goes),
+        ],
+        Class::MakesWayForCopy => &[
+            Piece(b"at ", Name::Place),
+            Piece(b" the shared page ", Name::Page),
+            Piece(b" makes way for the copy: frame ", Name::Frame),
+            Piece(b"", Name::Goes),
+        ],
+        Class::FirstWrite => &[
+            Piece(b"first write to ", Name::Page),
+            Piece(b": frame ", Name::Frame),
+            Piece(b" is changed", Name::Unslot),
+        ],
+        Class::FirstWriteInFlight => &[
+            Piece(b"first write to ", Name::Page),
+            Piece(b" while it is being written: frame ", Name::Frame),
+            Piece(b" will stay changed", Name::End),
+        ],
+        Class::WriteByWriter => &[
+            Piece(b"modified page writer writes ", Name::Page),
+            Piece(b": frame ", Name::Frame),
+            Piece(b" to ", Name::Home),
+        ],
+        Class::WriteForWantOfFrames => &[
+            Piece(b"write-out for want of frames: ", Name::Page),
+            Piece(b", frame ", Name::Frame),
+            Piece(b" to ", Name::Home),
+        ],
+        Class::WriteByFlush => &[
+            Piece(b"flush writes ", Name::Page),
+            Piece(b": frame ", Name::Frame),
+            Piece(b" to ", Name::Home),
+        ],
+        Class::WriteDone => &[
+            Piece(b"write-out of ", Name::Page),
+            Piece(b" is complete: frame ", Name::Frame),
+            Piece(b" is clean", Name::Goes),
+        ],
+        Class::WriteDoneChanged => &[
+            Piece(b"write-out of ", Name::Page),
+            Piece(
+                b" is complete, but it was changed meanwhile: frame ",
+                Name::Frame,
+            ),
+            Piece(b" stays changed", Name::Goes),
+        ],
+        Class::WriteDoneDeleted => &[
+            Piece(b"write-out of frame ", Name::Frame),
+            Piece(
+                b" is complete; its page was deleted, so the frame is free",
+                Name::End,
+            ),
+        ],
+        Class::WriteFailed => &[
+            Piece(b"write-out of ", Name::Page),
+            Piece(b" FAILED: frame ", Name::Frame),
+            Piece(b" stays changed", Name::Goes),
+        ],
+        Class::WriteFailedDeleted => &[
+            Piece(b"write-out of frame ", Name::Frame),
+            Piece(
+                b" FAILED; its page was deleted, so the frame is free",
+                Name::End,
+            ),
+        ],
+    }
+}
 
 /// Writes a move in words, without a line feed: the sentence of its class, with the facts from the
 /// state before it. `after` is the state after it. With `addressed` an address stands behind each
-/// place. The words and names of each sentence are written one after another: no brace is sought.
+/// place.
 pub fn put_sentence(
     class: Class,
     facts: &Facts,
@@ -481,269 +447,5 @@ pub fn put_sentence(
     ensures { OnOk result (text.new.items ≡ text.old.items
         ++ sentence_text addressed class facts.now (life_of after.now)) }
 {
-    match class {
-        Class::DemandZeroAdded => put_page_between(
-            b"page ",
-            b" comes to be, demand-zero: no frame yet",
-            facts,
-            text,
-        ),
-        Class::FilePageAdded => put_page_in_block(
-            b"file page ",
-            b" comes to be, its bytes in file block ",
-            facts,
-            text,
-        ),
-        Class::CopyOnWriteFault => put_page_between(
-            b"copy-on-write fault: page ",
-            b" becomes private",
-            facts,
-            text,
-        ),
-        Class::Deleted => put_page_freed(b"page ", b" is deleted", facts, text),
-        Class::DeletedInFlight => put_page_in_frame(
-            b"page ",
-            b" is deleted; its I/O keeps frame ",
-            b" until it ends",
-            facts,
-            text,
-        ),
-        Class::ZeroedByThread => put_frame_between(
-            b"zero page thread clears free frame ",
-            b"",
-            facts,
-            text,
-        ),
-        Class::ZeroedOnDemand => put_frame_between(
-            b"free frame ",
-            b" is zeroed on demand",
-            facts,
-            text,
-        ),
-        Class::StandbyRepurposed => put_frame_and_home(
-            b"standby frame ",
-            b" is repurposed: ",
-            b" is now only in ",
-            facts,
-            text,
-        ),
-        Class::DemandZeroFault => put_page_and_frame(
-            b"demand-zero fault: ",
-            b" gets zeroed frame ",
-            facts,
-            text,
-        ),
-        Class::FrameForCopy => put_frame_and_page(
-            b"zeroed frame ",
-            b" is taken for the copy ",
-            facts,
-            text,
-        ),
-        Class::HardFaultFromPagingFile => put_page_from_home(
-            b"hard fault: ",
-            b" is read from paging-file ",
-            b" into frame ",
-            facts,
-            text,
-        ),
-        Class::HardFaultFromFile => put_page_from_home(
-            b"hard fault: ",
-            b" is read from file ",
-            b" into frame ",
-            facts,
-            text,
-        ),
-        Class::PageInDone => put_page_in_frame(
-            b"page-in of ",
-            b" into frame ",
-            b" is complete",
-            facts,
-            text,
-        ),
-        Class::CollidedFault => put_page_and_frame(
-            b"collided fault: the page-in of ",
-            b" that was in flight completes in frame ",
-            facts,
-            text,
-        ),
-        Class::PageInDoneDeleted => put_frame_between(
-            b"page-in into frame ",
-            b" is complete; its page was deleted, so the frame is free",
-            facts,
-            text,
-        ),
-        Class::PageInFailed => put_page_in_frame(
-            b"page-in of ",
-            b" FAILED: frame ",
-            b" is free again",
-            facts,
-            text,
-        ),
-        Class::PageInFailedDeleted => put_frame_between(
-            b"page-in into frame ",
-            b" FAILED; its page was deleted, so the frame is free",
-            facts,
-            text,
-        ),
-        Class::MadeValid => put_page_at_place(
-            b" is valid at ",
-            b": frame ",
-            b" is active",
-            addressed,
-            facts,
-            text,
-        ),
-        Class::FirstUse => put_page_at_place(
-            b", read in by an earlier line, is valid at ",
-            b": frame ",
-            b" is active",
-            addressed,
-            facts,
-            text,
-        ),
-        Class::SoftFaultFromStandby => put_page_found(
-            b"soft fault: ",
-            b" is found on the standby list, frame ",
-            b", and valid at ",
-            addressed,
-            facts,
-            text,
-        ),
-        Class::SoftFaultFromModified => put_page_found(
-            b"soft fault: ",
-            b" is found on the modified list, frame ",
-            b", and valid at ",
-            addressed,
-            facts,
-            text,
-        ),
-        Class::SoftFaultInTransition => put_page_found(
-            b"soft fault: ",
-            b" is found in transition (being written), frame ",
-            b", and valid at ",
-            addressed,
-            facts,
-            text,
-        ),
-        Class::SoftFaultShared => put_page_found(
-            b"soft fault: ",
-            b" is active already, frame ",
-            b", and now shared at ",
-            addressed,
-            facts,
-            text,
-        ),
-        Class::PlaceEnds => put_place_ends(
-            b" ends: frame ",
-            b" leaves the working set of process ",
-            addressed,
-            facts,
-            after,
-            text,
-        ),
-        Class::Trimmed => put_place_leaves(
-            b" is trimmed from the working set of process ",
-            b": frame ",
-            addressed,
-            facts,
-            after,
-            text,
-        ),
-        Class::TrimmedForWantOfFrames => put_place_leaves(
-            b" is trimmed from the working set of process ",
-            b" for want of frames: frame ",
-            addressed,
-            facts,
-            after,
-            text,
-        ),
-        Class::Replaced => put_place_leaves(
-            b" is replaced: the working set of process ",
-            b" is full: frame ",
-            addressed,
-            facts,
-            after,
-            text,
-        ),
-        Class::MakesWayForCopy => put_place_makes_way(
-            b"at ",
-            b" the shared page ",
-            b" makes way for the copy: frame ",
-            addressed,
-            facts,
-            after,
-            text,
-        ),
-        Class::FirstWrite => put_page_unslot(
-            b"first write to ",
-            b": frame ",
-            b" is changed",
-            facts,
-            text,
-        ),
-        Class::FirstWriteInFlight => put_page_in_frame(
-            b"first write to ",
-            b" while it is being written: frame ",
-            b" will stay changed",
-            facts,
-            text,
-        ),
-        Class::WriteByWriter => put_page_to_home(
-            b"modified page writer writes ",
-            b": frame ",
-            b" to ",
-            facts,
-            text,
-        ),
-        Class::WriteForWantOfFrames => put_page_to_home(
-            b"write-out for want of frames: ",
-            b", frame ",
-            b" to ",
-            facts,
-            text,
-        ),
-        Class::WriteByFlush => put_page_to_home(
-            b"flush writes ",
-            b": frame ",
-            b" to ",
-            facts,
-            text,
-        ),
-        Class::WriteDone => put_page_written(
-            b"write-out of ",
-            b" is complete: frame ",
-            b" is clean",
-            facts,
-            after,
-            text,
-        ),
-        Class::WriteDoneChanged => put_page_written(
-            b"write-out of ",
-            b" is complete, but it was changed meanwhile: frame ",
-            b" stays changed",
-            facts,
-            after,
-            text,
-        ),
-        Class::WriteDoneDeleted => put_frame_between(
-            b"write-out of frame ",
-            b" is complete; its page was deleted, so the frame is free",
-            facts,
-            text,
-        ),
-        Class::WriteFailed => put_page_written(
-            b"write-out of ",
-            b" FAILED: frame ",
-            b" stays changed",
-            facts,
-            after,
-            text,
-        ),
-        Class::WriteFailedDeleted => put_frame_between(
-            b"write-out of frame ",
-            b" FAILED; its page was deleted, so the frame is free",
-            facts,
-            text,
-        ),
-    }
+    put_pieces(pieces_of(class), facts, addressed, after, text)
 }

@@ -1,12 +1,13 @@
 ghost use Rattle.std.specs.Prelude.{◌≡◌, ◌++◌, OnOk, codes};
-ghost use Rattle.mm_types.specs.Spelling.{decimal};
-ghost use Rattle.mm_life.specs.Frames.{record_at, is_on, is_read, has_request};
+ghost use Rattle.mm_types.specs.{decimal};
+ghost use Rattle.mm_life.specs.{record_at, is_on};
 ghost use Rattle.mm_replay.specs.Standing.{life as life_of};
 ghost use Rattle.mm_sentences.specs.States.{list_of, state_by, state_of, state_text, owner_text};
 ghost use Rattle.mm_sentences.specs.States.{changed_text, copy_text, request_text, listed, row_of};
 ghost use Rattle.mm_sentences.specs.States.{frame_row};
 
-use crate::words::{put_key, put_number, put_words};
+use crate::words::{put_counted, put_key, put_numbered, put_words};
+use mm_classes::{has_request, is_read};
 use mm_replay::{FrameList, Life};
 use mm_types::{Backing, Frame, Key, NoMemory, Record, Request};
 
@@ -20,26 +21,6 @@ pub enum FrameState {
     Free,
     Standby,
     Modified,
-}
-
-/// Whether a frame is being read.
-pub fn is_read(request: Request) -> bool
-    ensures { result ≡ is_read request }
-{
-    match request {
-        Request::Read => true,
-        Request::None | Request::Write | Request::WriteAgain => false,
-    }
-}
-
-/// Whether a frame is being read or written.
-pub fn has_request(request: Request) -> bool
-    ensures { result ≡ has_request request }
-{
-    match request {
-        Request::None => false,
-        Request::Read | Request::Write | Request::WriteAgain => true,
-    }
 }
 
 /// Whether a frame is on the zeroed list. Takes time in proportion to the list.
@@ -100,7 +81,7 @@ pub fn state_of(life: &Life, frame: Frame) -> FrameState
     state_by(life, frame, &life.record(frame))
 }
 
-fn state_text(state: FrameState) -> &'static [u8]
+pub(crate) fn state_text(state: FrameState) -> &'static [u8]
     ensures { result.now ≡ state_text state }
 {
     match state {
@@ -141,26 +122,19 @@ fn request_text(request: Request) -> &'static [u8]
 {
     match request {
         Request::None => b"no I/O",
-        Request::Read => b"being read",
-        Request::Write => b"being written",
+        Request::Read => state_text(FrameState::BeingRead),
+        Request::Write => state_text(FrameState::BeingWritten),
         Request::WriteAgain => b"being written, changed since",
     }
 }
 
-#[tactic(auto, using(crate::proofs::Joined::joined))]
 fn put_copy(backing: Backing, text: &mut Vec<u8>) -> Result<(), NoMemory>
     ensures { OnOk result (text.new.items ≡ text.old.items ++ copy_text backing) }
 {
     match backing {
         Backing::None => put_words(b"no copy", text),
-        Backing::Slot(slot) => {
-            put_words(b"slot ", text)?;
-            put_number(u64::from(slot.0), text)
-        }
-        Backing::Block(block) => {
-            put_words(b"block ", text)?;
-            put_number(u64::from(block.0), text)
-        }
+        Backing::Slot(slot) => put_counted(b"slot ", u64::from(slot.0), text),
+        Backing::Block(block) => put_counted(b"block ", u64::from(block.0), text),
     }
 }
 
@@ -188,8 +162,7 @@ fn put_row_back(r: &Record, text: &mut Vec<u8>) -> Result<(), NoMemory>
 {
     put_copy(r.backing, text)?;
     put_words(b", ", text)?;
-    put_number(u64::from(r.shares), text)?;
-    put_words(b" places, ", text)?;
+    put_numbered(b"", u64::from(r.shares), b" places, ", text)?;
     put_words(request_text(r.request), text)
 }
 

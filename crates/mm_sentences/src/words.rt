@@ -1,8 +1,7 @@
 ghost use Rattle.std.specs.Prelude.{◌≡◌, ◌<◌, ◌^◌, ◌++◌, ◌∷◌, [], OnOk, codes};
-ghost use Rattle.mm_types.specs.Spelling.{decimal, glyph};
-ghost use Rattle.mm_life.specs.MoveText.{numbered, kind_onto};
-ghost use Rattle.mm_text.specs.Shortest.{hex_short};
-ghost use Rattle.mm_life.specs.MoveText.{place_onto};
+ghost use Rattle.mm_types.specs.{decimal, glyph};
+ghost use Rattle.mm_life.specs.{numbered, kind_onto, place_onto};
+ghost use Rattle.mm_text.specs.{hex_short};
 ghost use Rattle.mm_sentences.specs.Words.{key_text, kind_text, address_text, addressed};
 ghost use Rattle.mm_sentences.specs.Words.{place_text};
 ghost use Rattle.mm_types.specs.declared.moves.LineKind.TheVariants as kind_of;
@@ -43,9 +42,44 @@ pub fn put_number(n: u64, text: &mut Vec<u8>) -> Result<(), NoMemory>
     put_digit((n % 10) as u8, text)
 }
 
+/// Writes words and a number.
+#[tactic(auto, using(crate::proofs::Joined::joined))]
+pub fn put_counted(words: &[u8], n: u64, text: &mut Vec<u8>) -> Result<(), NoMemory>
+    ensures { OnOk result (text.new.items ≡ text.old.items ++ (words.now ++ decimal n)) }
+{
+    put_words(words, text)?;
+    put_number(n, text)
+}
+
+/// Writes words, a number, and words.
+#[tactic(auto, using(crate::proofs::Joined::joined))]
+pub fn put_numbered(words: &[u8], n: u64, behind: &[u8], text: &mut Vec<u8>) -> Result<(), NoMemory>
+    ensures { OnOk result (text.new.items ≡ text.old.items ++ numbered words.now n behind.now) }
+{
+    put_counted(words, n, text)?;
+    put_words(behind, text)
+}
+
+/// Writes two numbers, each behind words, and words behind them.
+#[tactic(auto, using(crate::proofs::Joined::joined))]
+pub fn put_pair(
+    words: &[u8],
+    first: u64,
+    between: &[u8],
+    second: u64,
+    behind: &[u8],
+    text: &mut Vec<u8>,
+) -> Result<(), NoMemory>
+    ensures { OnOk result (text.new.items ≡ text.old.items
+        ++ numbered words.now first (numbered between.now second behind.now)) }
+{
+    put_counted(words, first, text)?;
+    put_numbered(between, second, behind, text)
+}
+
 /// Writes two numbers, and a point between them.
 #[tactic(auto, using(crate::proofs::Joined::joined))]
-fn put_pair(first: u32, second: u32, text: &mut Vec<u8>) -> Result<(), NoMemory>
+fn put_pointed(first: u32, second: u32, text: &mut Vec<u8>) -> Result<(), NoMemory>
     ensures { OnOk result (text.new.items ≡ text.old.items
         ++ numbered [] first (numbered (codes ".") second [])) }
 {
@@ -62,11 +96,11 @@ pub fn put_key(key: Key, text: &mut Vec<u8>) -> Result<(), NoMemory>
     match key {
         Key::Private(pid, vpn) => {
             text.push(b'p')?;
-            put_pair(u32::from(pid.0), vpn.0, text)
+            put_pointed(u32::from(pid.0), vpn.0, text)
         }
         Key::Shared(area, index) => {
             text.push(b's')?;
-            put_pair(area.0, index, text)
+            put_pointed(area.0, index, text)
         }
     }
 }
@@ -106,7 +140,7 @@ fn put_addressed(vpn: Vpn, text: &mut Vec<u8>) -> Result<(), NoMemory>
 fn put_plain_place(place: Place, text: &mut Vec<u8>) -> Result<(), NoMemory>
     ensures { OnOk result (text.new.items ≡ text.old.items ++ place_onto place []) }
 {
-    put_pair(u32::from(place.pid.0), place.vpn.0, text)
+    put_pointed(u32::from(place.pid.0), place.vpn.0, text)
 }
 
 /// Writes a place as logs spell it, `1.17`, and where asked its address behind it: `1.17
@@ -124,12 +158,10 @@ pub fn put_place(address: bool, place: Place, text: &mut Vec<u8>) -> Result<(), 
 }
 
 /// Writes a word and a number.
-#[tactic(auto, using(crate::proofs::Joined::joined))]
 fn put_kind_number(word: &[u8], n: u32, text: &mut Vec<u8>) -> Result<(), NoMemory>
     ensures { OnOk result (text.new.items ≡ text.old.items ++ numbered word.now n []) }
 {
-    put_words(word, text)?;
-    put_number(u64::from(n), text)
+    put_numbered(word, u64::from(n), b"", text)
 }
 
 /// Writes the numbers of a machine.

@@ -1,18 +1,10 @@
 -- What is written of a form, each exactly.
 use Rattle.std.proofs.Common.{◌≡◌, ℕ, Bool, true, false, List, Option, Some, None, refl, sym, ap, ◌∙◌, subst}
 use Rattle.std.specs.Prelude.{Result, Ok}
-use Rattle.mm_types.specs.Spelling.{Text}
-use Rattle.mm_tell.specs.Answering.{Said, said_by, Answers}
-use Rattle.mm_tell.specs.Telling.{RestOf}
-use Rattle.mm_tell.specs.Files.{HasLines}
-use Rattle.mm_tell.specs.declared.files.FileFault.{FileFault}
-use Rattle.mm_types.specs.declared.moves.Move.{Move}
-use Rattle.mm_life.specs.Life.{unstarted}
-use Rattle.mm_show.specs.Showing.{PageOf, form_said, form_why, sums_said, FileIs}
-use Rattle.mm_show.specs.Sums.{sums_text}
-use Rattle.mm_show.specs.SumRest.{sum_rest}
-use Rattle.mm_show.specs.declared.sums.SumTeller.{SumTeller}
-use Rattle.mm_show.specs.declared.forms.Form.{Form}
+use Rattle.mm_types.specs.{Text, Move}
+use Rattle.mm_tell.specs.{Said, said_by, Answers, RestOf, HasLines, FileFault}
+use Rattle.mm_life.specs.{unstarted}
+use Rattle.mm_show.specs.{PageOf, form_said, form_why, sums_said, FileIs, sums_text, sum_rest, SumTeller, Form}
 
 abbrev read_as : Option (List Text) → Result (Option (List Text)) FileFault
 read_as lines = Ok lines

@@ -1,21 +1,11 @@
 -- The page that is still to come, where one more move was taken and where none comes.
 use Rattle.std.proofs.Common.{◌≡◌, Bool, true, false, List, [], ◌∷◌, ◌++◌, Option, Some, refl, sym, ap, ◌∙◌, append_assoc}
-use Rattle.mm_types.specs.Spelling.{Text}
-use Rattle.mm_types.specs.declared.moves.Move.{Move}
-use Rattle.mm_life.specs.Life.{FrameLife}
-use Rattle.mm_life.specs.Effect.{after_move}
-use Rattle.mm_classes.specs.Marks.{MarksOf, marks_after}
-use Rattle.mm_classes.specs.Marking.{marks_of}
-use Rattle.mm_classes.specs.Classes.{class_of, next_of}
-use Rattle.mm_classes.specs.declared.classes.Class.{Class}
-use Rattle.mm_classes.specs.Encoding.{move_data}
-use Rattle.mm_classes.specs.Data.{data_from, mark_before}
-use Rattle.mm_tell.specs.Classing.{pending, class_then, move_of}
-use Rattle.mm_show.specs.Data.{classed_data, data_rest}
-use Rattle.mm_show.specs.PageRest.{page_rest}
-use Rattle.mm_tell.specs.declared.classifiers.Pending.{Pending}
-use Rattle.mm_show.specs.declared.data.PageTeller.{PageTeller}
-use Rattle.mm_tell.proofs.ClassKnown.{class_known}
+use Rattle.mm_types.specs.{Text, Move}
+use Rattle.mm_life.specs.{FrameLife, after_move}
+use Rattle.mm_classes.specs.{MarksOf, marks_after, marks_of, class_of, next_of, Class, move_data, data_from, mark_before}
+use Rattle.mm_tell.specs.{pending, class_then, move_of, Pending}
+use Rattle.mm_show.specs.{classed_data, data_rest, page_rest, PageTeller}
+use Rattle.mm_tell.proofs.{class_known}
 
 -- the data that comes
 module _ (l : FrameLife) (v : MarksOf) (p : Option Pending) (m : Move) where

@@ -3,24 +3,13 @@ use Rattle.std.proofs.Common.{◌≡◌, ℕ, zero, suc, ◌+◌, ◌<◌, ◌�
 use Rattle.std.specs.Prelude.{◌==◌, slice_index, slice_set, count_by}
 use Rattle.std.proofs.lemmas.List.Sums.{sum_by-cons}
 use Rattle.std.proofs.lemmas.Bool.{eqb-true, eqb-false}
-use Rattle.mm_types.specs.Spelling.{Text}
-use Rattle.mm_types.specs.declared.moves.Move.{Move}
+use Rattle.mm_types.specs.{Text, Move, LineKind}
 use Rattle.mm_types.specs.declared.moves.Move.TheVariants as move
-use Rattle.mm_types.specs.declared.moves.LineKind.{LineKind}
-use Rattle.mm_life.specs.Life.{FrameLife, unstarted}
-use Rattle.mm_life.specs.Effect.{after_move}
-use Rattle.mm_classes.specs.Marks.{MarksOf, no_marks, marks_after}
-use Rattle.mm_classes.specs.Classes.{classes}
-use Rattle.mm_classes.specs.Counting.{is_class, number_of}
-use Rattle.mm_classes.specs.Encoding.{kind_code}
-use Rattle.mm_classes.specs.Words.{code_of}
-use Rattle.mm_classes.specs.declared.classes.Class.{Class}
-use Rattle.mm_tell.specs.Classing.{pending, class_then, move_of, class_list, classes_rest}
-use Rattle.mm_show.specs.Sums.{is_kind, class_sums, kind_sums, sums_text, number_in}
-use Rattle.mm_show.specs.SumRest.{sums_left}
-use Rattle.mm_show.specs.Counted.{of_class, of_kind, AreFew}
-use Rattle.mm_tell.specs.declared.classifiers.Pending.{Pending}
-use Rattle.mm_tell.proofs.ClassKnown.{classes_taken}
+use Rattle.mm_life.specs.{FrameLife, unstarted, after_move}
+use Rattle.mm_classes.specs.{MarksOf, no_marks, marks_after, classes, is_class, number_of, kind_code, code_of, Class}
+use Rattle.mm_tell.specs.{pending, class_then, move_of, class_list, classes_rest, Pending}
+use Rattle.mm_show.specs.{is_kind, class_sums, kind_sums, sums_text, number_in, sums_left, of_class, of_kind, AreFew}
+use Rattle.mm_tell.proofs.{classes_taken}
 
 bumped : (xs : List ℕ) (i k : ℕ) → i < length xs → get_or (set xs i (get_or xs i 0 + 1)) k 0 ≡ cond (i == k) 1 0 + get_or xs k 0
 bumped xs i k h = pick (i == k) refl

@@ -1,10 +1,8 @@
 -- Numbers of classes and of kinds of lines, some counted and some to come.
 -- Profile, "What a log shows".
 use Rattle.std.specs.Prelude.{ℕ, ◌+◌, ◌^◌, ◌<◌, ◌≤◌, List, Option, count_by, slice_index}
-use Rattle.mm_types.specs.declared.moves.Move.{Move}
-use Rattle.mm_classes.specs.Counting.{number_of}
-use Rattle.mm_classes.specs.Words.{code_of}
-use Rattle.mm_classes.specs.declared.classes.Class.{Class}
+use Rattle.mm_types.specs.{Move}
+use Rattle.mm_classes.specs.{number_of, code_of, Class}
 use Rattle.mm_show.specs.Sums.{is_kind}
 
 -- the numbers by code

@@ -1,16 +1,10 @@
 -- The data of a log, from where one move's class is still open.
 -- Profile, "What a log shows".
 use Rattle.std.specs.Prelude.{List, [], ◌++◌, Option, Some, None}
-use Rattle.mm_types.specs.Spelling.{Text}
-use Rattle.mm_types.specs.declared.moves.Move.{Move}
-use Rattle.mm_life.specs.Life.{FrameLife}
-use Rattle.mm_classes.specs.Marks.{MarksOf}
-use Rattle.mm_classes.specs.Classes.{next_of}
-use Rattle.mm_classes.specs.Data.{data_from}
-use Rattle.mm_classes.specs.Encoding.{move_data}
-use Rattle.mm_tell.specs.Classing.{class_then, move_of}
-use Rattle.mm_tell.specs.declared.classifiers.Pending.{Pending}
-use Rattle.mm_tell.specs.declared.classifiers.Classed.{Classed}
+use Rattle.mm_types.specs.{Text, Move}
+use Rattle.mm_life.specs.{FrameLife}
+use Rattle.mm_classes.specs.{MarksOf, next_of, data_from, move_data}
+use Rattle.mm_tell.specs.{class_then, move_of, Pending, Classed}
 
 abbrev pub classed_data : Option Classed → Text
 classed_data None = []

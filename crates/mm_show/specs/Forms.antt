@@ -6,11 +6,10 @@ use Rattle.std.specs.Prelude.{◌&&◌, nat_le}
 use Rattle.std.specs.Prelude.{◌+◌, ◌/◌, nat_lt, drop}
 use Rattle.std.specs.Prelude.{option_and_then}
 use Rattle.std.specs.List.{list_any}
-use Rattle.mm_types.specs.Spelling.{Text}
-use Rattle.mm_types.specs.declared.numbers.Key.{Key}
+use Rattle.mm_types.specs.{Text, Key}
 use Rattle.mm_types.specs.declared.numbers.Key.TheVariants.{Private, Shared}
-use Rattle.mm_text.specs.Field.{number_of}
-use Rattle.mm_forms.specs.Forms.{is_dashed}
+use Rattle.mm_text.specs.{number_of}
+use Rattle.mm_forms.specs.{is_dashed}
 use Rattle.mm_show.specs.declared.forms.Form.{Form}
 use Rattle.mm_show.specs.declared.forms.Form.TheVariants as form
 use Rattle.mm_show.specs.declared.forms.Files.{Files}

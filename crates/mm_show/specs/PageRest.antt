@@ -1,10 +1,9 @@
 -- The page that is still to come.
 -- Profile, "What a log shows".
 use Rattle.std.specs.Prelude.{Bool, true, false, List, [], ◌++◌}
-use Rattle.mm_types.specs.Spelling.{Text}
-use Rattle.mm_types.specs.declared.moves.Move.{Move}
-use Rattle.mm_life.specs.Life.{FrameLife}
-use Rattle.mm_classes.specs.Marking.{marks_of}
+use Rattle.mm_types.specs.{Text, Move}
+use Rattle.mm_life.specs.{FrameLife}
+use Rattle.mm_classes.specs.{marks_of}
 use Rattle.mm_show.specs.Data.{data_rest}
 use Rattle.mm_show.specs.declared.data.PageTeller.{PageTeller}
 

@@ -2,22 +2,15 @@
 -- Profile, "What a log shows".
 use Rattle.std.specs.Prelude.{◌≡◌, ◌⊎◌, ℕ, Bool, true, false, List, [], ◌∷◌, ◌++◌, Option, Some}
 use Rattle.std.specs.Prelude.{None, codes}
-use Rattle.mm_types.specs.Spelling.{Text}
-use Rattle.mm_types.specs.Outside.{Rose}
-use Rattle.mm_types.specs.declared.moves.Move.{Move}
-use Rattle.mm_classes.specs.Data.{log_data}
-use Rattle.mm_log.specs.Verdict.{Shows, IsRefused}
-use Rattle.mm_tell.specs.Lines.{lines_of}
-use Rattle.mm_tell.specs.Files.{total_of}
-use Rattle.mm_tell.specs.Shown.{shown_file, answer_file}
-use Rattle.mm_tell.specs.Answering.{Said, Why, no_why}
-use Rattle.mm_sentences.specs.Refusals.{why_text}
-use Rattle.mm_uses.specs.Counts.{counts_rows}
-use Rattle.mm_uses.specs.Uses.{use_rows}
-use Rattle.mm_uses.specs.States.{state_rows}
-use Rattle.mm_faults.specs.Rows.{fault_rows}
-use Rattle.mm_histories.specs.Histories.{frame_history, key_history}
-use Rattle.mm_transcripts.specs.Transcripts.{transcript}
+use Rattle.mm_types.specs.{Text, Rose, Move}
+use Rattle.mm_classes.specs.{log_data}
+use Rattle.mm_log.specs.{Shows, IsRefused}
+use Rattle.mm_tell.specs.{lines_of, total_of, shown_file, answer_file, Said, Why, no_why}
+use Rattle.mm_sentences.specs.{why_text}
+use Rattle.mm_uses.specs.{counts_rows, use_rows, state_rows}
+use Rattle.mm_faults.specs.{fault_rows}
+use Rattle.mm_histories.specs.{frame_history, key_history}
+use Rattle.mm_transcripts.specs.{transcript}
 use Rattle.mm_show.specs.Words.{class_rows}
 use Rattle.mm_show.specs.Sums.{sums_text}
 use Rattle.mm_show.specs.declared.forms.Form.{Form}

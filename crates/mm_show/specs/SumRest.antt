@@ -1,15 +1,12 @@
 -- The sums, where some moves were counted and some are to come.
 -- Profile, "What a log shows".
 use Rattle.std.specs.Prelude.{ℕ, Bool, true, false, List, [], ◌++◌, Option}
-use Rattle.mm_types.specs.Spelling.{Text}
-use Rattle.mm_types.specs.declared.moves.Move.{Move}
-use Rattle.mm_life.specs.Life.{FrameLife}
-use Rattle.mm_classes.specs.Marks.{MarksOf}
-use Rattle.mm_classes.specs.Marking.{marks_of}
-use Rattle.mm_tell.specs.Classing.{classes_rest}
+use Rattle.mm_types.specs.{Text, Move}
+use Rattle.mm_life.specs.{FrameLife}
+use Rattle.mm_classes.specs.{MarksOf, marks_of}
+use Rattle.mm_tell.specs.{classes_rest, Pending}
 use Rattle.mm_show.specs.Counted.{of_class, of_kind}
 use Rattle.mm_show.specs.Sums.{class_sums, kind_sums}
-use Rattle.mm_tell.specs.declared.classifiers.Pending.{Pending}
 use Rattle.mm_show.specs.declared.sums.SumTeller.{SumTeller}
 
 -- these numbers, and those of the moves that come; nothing where the log does not end well

@@ -3,14 +3,9 @@
 use Rattle.std.specs.Prelude.{slice_index, ℕ, Bool, false, ◌==◌, if◌then◌else◌, List, [], ◌∷◌}
 use Rattle.std.specs.Prelude.{◌++◌, flat_map}
 use Rattle.std.specs.Prelude.{count_by, codes}
-use Rattle.mm_types.specs.Spelling.{Text, decimal}
-use Rattle.mm_types.specs.declared.moves.Move.{Move}
+use Rattle.mm_types.specs.{Text, decimal, Move}
 use Rattle.mm_types.specs.declared.moves.Move.TheVariants as move
-use Rattle.mm_classes.specs.Classes.{classes}
-use Rattle.mm_classes.specs.Counting.{number_of}
-use Rattle.mm_classes.specs.Encoding.{kind_code}
-use Rattle.mm_classes.specs.Words.{code_of}
-use Rattle.mm_classes.specs.declared.classes.Class.{Class}
+use Rattle.mm_classes.specs.{classes, number_of, kind_code, code_of, Class}
 use Rattle.mm_show.specs.Words.{all_classes}
 use Rattle.mm_show.specs.declared.sums.KindName.{KindName}
 use Rattle.mm_show.specs.declared.sums.KindName.TheVariants as kind

@@ -1,12 +1,11 @@
-ghost use Rattle.std.specs.Prelude.{◌≡◌, ◌++◌, [], ◌∷◌, ℕ, Bool, List, OnOk, true, if◌then◌else◌};
-ghost use Rattle.mm_types.specs.declared.moves.Move.{Move};
-ghost use Rattle.mm_life.specs.Life.{unstarted, counts_of};
+ghost use Rattle.std.specs.Prelude.{◌≡◌, ◌++◌, [], ◌∷◌, List, OnOk, true, if◌then◌else◌};
+ghost use Rattle.mm_types.specs.{Move};
+ghost use Rattle.mm_life.specs.{unstarted, counts_of};
 ghost use Rattle.mm_replay.specs.Standing.{life as life_of};
-ghost use Rattle.mm_classes.specs.Data.{log_data, is_marked, mark_before, last_mark};
-ghost use Rattle.mm_classes.specs.Encoding.{mark_data};
-ghost use Rattle.mm_classes.specs.Marking.{marks_of};
-ghost use Rattle.mm_life.specs.Effect.{after_move};
+ghost use Rattle.mm_classes.specs.{log_data, is_marked, mark_before, last_mark, mark_data};
 ghost use Rattle.mm_show.specs.Data.{classed_data};
+ghost use Rattle.mm_show.specs.PageRest.{page_rest};
+ghost use Rattle.mm_tell.specs.{no_why};
 
 use mm_classes::{put_mark, put_move};
 use mm_replay::Life;
@@ -103,8 +102,6 @@ pub(crate) struct PageTeller {
 }
 
 impl PageTeller {
-    ghost use Rattle.mm_show.specs.PageRest.{page_rest};
-
     /// Nothing was told.
     pub(crate) fn new(alloc: Global, front: Vec<u8>, behind: Vec<u8>) -> PageTeller
         ensures { (moves : List Move) → page_rest result true unstarted moves ≡ front.items
@@ -117,18 +114,6 @@ impl PageTeller {
             written: Vec::new(alloc),
             behind,
         }
-    }
-
-    /// Takes the next move into the data.
-    fn take_data(&mut self, life: &Life, m: &Move) -> Result<(), NoMemory>
-        ensures { OnOk result ((whole : Bool) (ms : List Move)
-            → page_rest self.new whole (after_move (life_of life.now) m.now) ms
-            ≡ page_rest self.old whole (life_of life.now) (m.now ∷ ms)) }
-    {
-        let before = self.classifier.next(life, m)?;
-        put_classed(before, &mut self.line, &mut self.written)?;
-        put_mark_before(life, m, &mut self.written)?;
-        Ok(())
     }
 
     /// Writes the page.
@@ -146,9 +131,6 @@ impl PageTeller {
 }
 
 impl Teller for PageTeller {
-    ghost use Rattle.mm_show.specs.PageRest.{page_rest};
-    ghost use Rattle.mm_tell.specs.Answering.{no_why};
-
     ghost rest = { page_rest };
 
     ghost why = { no_why };
@@ -156,7 +138,10 @@ impl Teller for PageTeller {
     ghost counted = { λ t. 0 };
 
     fn take(&mut self, life: &Life, m: &Move, _text: &mut Vec<u8>) -> Result<(), NoMemory> {
-        self.take_data(life, m)
+        let before = self.classifier.next(life, m)?;
+        put_classed(before, &mut self.line, &mut self.written)?;
+        put_mark_before(life, m, &mut self.written)?;
+        Ok(())
     }
 
     fn finish(&mut self, whole: bool, life: &Life, text: &mut Vec<u8>) -> Result<(), NoMemory> {

@@ -1,6 +1,6 @@
 ghost use Rattle.std.specs.Prelude.{◌≡◌, map, option_map, string_bytes, IfOk};
-ghost use Rattle.mm_text.specs.Field.{number_of};
-ghost use Rattle.mm_forms.specs.Forms.{texts};
+ghost use Rattle.mm_text.specs.{number_of};
+ghost use Rattle.mm_forms.specs.{texts};
 ghost use Rattle.mm_show.specs.declared.forms.Form.TheVariants as form;
 ghost use Rattle.mm_show.specs.Forms.{word_at, files_beside, alone, form_in, form_of};
 ghost use Rattle.mm_show.specs.Forms.{with_one, counts_with, line_of};

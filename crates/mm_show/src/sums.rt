@@ -1,16 +1,16 @@
-ghost use Rattle.std.specs.Prelude.{◌≡◌, ◌≤◌, ◌<◌, ◌+◌, ◌^◌, ◌++◌, ◌∷◌, [], ℕ, Bool, List, Option};
+ghost use Rattle.std.specs.Prelude.{◌≡◌, ◌≤◌, ◌<◌, ◌+◌, ◌^◌, ◌++◌, ◌∷◌, [], ℕ, List, Option};
 ghost use Rattle.std.specs.Prelude.{OnOk, true, flat_map, replicate, slice_index, slice_set};
 ghost use Rattle.std.specs.Prelude.{length};
-ghost use Rattle.mm_types.specs.declared.moves.Move.{Move};
-ghost use Rattle.mm_life.specs.Life.{unstarted};
-ghost use Rattle.mm_life.specs.Effect.{after_move};
+ghost use Rattle.mm_types.specs.{Move};
+ghost use Rattle.mm_life.specs.{unstarted};
 ghost use Rattle.mm_replay.specs.Standing.{life as life_of};
-ghost use Rattle.mm_classes.specs.declared.classes.Class.{Class};
-ghost use Rattle.mm_tell.specs.Classing.{class_list};
+ghost use Rattle.mm_classes.specs.{Class};
+ghost use Rattle.mm_tell.specs.{class_list};
 ghost use Rattle.mm_show.specs.Sums.{sum_row, class_row, kind_row, class_sums, kind_sums};
 ghost use Rattle.mm_show.specs.Sums.{kind_text, kind_letter};
 ghost use Rattle.mm_show.specs.Sums.{sums_text, number_in};
 ghost use Rattle.mm_show.specs.Counted.{of_class, of_kind, AreFew};
+ghost use Rattle.mm_sentences.specs.{why_text};
 
 use crate::words::CLASSES;
 use mm_classes::{Class, code, kind_code};
@@ -230,21 +230,6 @@ impl SumTeller {
         }
     }
 
-    /// Counts a move, and the class of the one before it.
-    fn take_move(&mut self, life: &Life, m: &Move) -> Result<(), NoMemory>
-        requires few { self.old.counted + 1 < 2 ^ 63 }
-        ensures sums { OnOk result ((whole : Bool) (ms : List Move)
-            → sum_rest self.new whole (after_move (life_of life.now) m.now) ms
-            ≡ sum_rest self.old whole (life_of life.now) (m.now ∷ ms)) }
-        ensures counted { self.new.counted ≤ self.old.counted + 1 }
-    {
-        let before = self.classifier.next(life, m)?;
-        count_classed(&mut self.classes, before);
-        count_kind(&mut self.kinds, m);
-        self.counted += 1;
-        Ok(())
-    }
-
     /// Writes the sums.
     fn put_sums(&self, _life: &Life, text: &mut Vec<u8>) -> Result<(), NoMemory>
         ensures { OnOk result (text.new.items ≡ text.old.items
@@ -260,7 +245,6 @@ impl SumTeller {
 
 impl Teller for SumTeller {
     ghost use Rattle.mm_show.specs.SumRest.{sum_rest};
-    ghost use Rattle.mm_sentences.specs.Refusals.{why_text};
 
     ghost rest = { sum_rest };
 
@@ -269,7 +253,11 @@ impl Teller for SumTeller {
     ghost counted = { λ t. t.counted };
 
     fn take(&mut self, life: &Life, m: &Move, _text: &mut Vec<u8>) -> Result<(), NoMemory> {
-        self.take_move(life, m)
+        let before = self.classifier.next(life, m)?;
+        count_classed(&mut self.classes, before);
+        count_kind(&mut self.kinds, m);
+        self.counted += 1;
+        Ok(())
     }
 
     fn finish(&mut self, whole: bool, life: &Life, text: &mut Vec<u8>) -> Result<(), NoMemory> {

@@ -1,11 +1,8 @@
 ghost use Rattle.std.specs.Prelude.{◌≡◌, ◌≤◌, ◌⊎◌, ◌++◌, ◌∷◌, [], ℕ, List, Option, OnOk, true};
 ghost use Rattle.std.specs.Prelude.{Some, map, option_map, string_bytes, None};
-ghost use Rattle.mm_types.specs.Outside.{Rose};
-ghost use Rattle.mm_log.specs.Exact.{IsFault};
-ghost use Rattle.mm_log.specs.Verdict.{Shows, IsRefused};
-ghost use Rattle.mm_tell.specs.Answering.{Answers};
-ghost use Rattle.mm_tell.specs.Exact.{SaysExactly};
-ghost use Rattle.mm_tell.specs.Files.{total_of};
+ghost use Rattle.mm_types.specs.{Rose};
+ghost use Rattle.mm_log.specs.{IsFault, Shows, IsRefused};
+ghost use Rattle.mm_tell.specs.{Answers, SaysExactly, total_of};
 ghost use Rattle.mm_show.specs.declared.forms.Form.{Form};
 ghost use Rattle.mm_show.specs.Forms.{form_of, word_at, files_of, has_script, has_answers};
 ghost use Rattle.mm_show.specs.Showing.{form_said, form_why, FileIs, FileFailed, unread_text};

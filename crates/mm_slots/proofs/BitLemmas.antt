@@ -3,8 +3,8 @@ use Rattle.std.proofs.Common.{◌≡◌, ◌≢◌, ℕ, ◌-◌, ◌*◌, ◌%�
 use Rattle.std.specs.Prelude.{◌==◌, bit_or, bit_and, min}
 use Rattle.std.specs.Int.{bit_at, bit_not, trailing_zeros, w64}
 use Rattle.std.proofs.lemmas.Nat.Bits.{bit_at_set_same, bit_at_set_other, bit_at_clear_same, bit_at_clear_other, bit_at-trailing_zeros, bit_at-zero, bit_at_above, bit_at_and}
-use Rattle.mm_types.proofs.Cells.{same_or_not}
-use Rattle.mm_slots.specs.Bits.{has_bit, ChangesOne}
+use Rattle.mm_types.proofs.{same_or_not}
+use Rattle.mm_slots.specs.{has_bit, ChangesOne}
 
 pub set_same : (word i : ℕ) → i < 64 → has_bit (bit_or word (1 * 2 ^ i % 2 ^ 64)) i ≡ true
 unfolding has_bit

@@ -7,9 +7,8 @@ use Rattle.std.proofs.Common.{length-append}
 use Rattle.std.proofs.lemmas.List.FromFn.{length-map-range_with_len, get_or-map-range_with_len}
 use Rattle.std.proofs.lemmas.List.Sums.{sum_by-set, sum_by-append, count_by-le-length}
 use Rattle.std.proofs.lemmas.Option.{slice_get-get_or, get_or_from_slice_get}
-use Rattle.mm_types.proofs.Cells.{same_or_not, get_within}
-use Rattle.mm_slots.specs.Slots.{SlotsOf, free_count, IsLowest}
-use Rattle.mm_slots.specs.Bits.{flags, IsLeast, ChangesOne, AreSlots}
+use Rattle.mm_types.proofs.{same_or_not, get_within}
+use Rattle.mm_slots.specs.{SlotsOf, free_count, IsLowest, flags, IsLeast, ChangesOne, AreSlots}
 
 pub length-flags : (has : ℕ → Bool) (n : ℕ) → length (flags has n) ≡ n
 unfolding flags

@@ -3,9 +3,8 @@ use Rattle.std.proofs.Common.{◌≡◌, ◌≢◌, ℕ, ◌+◌, ◌-◌, ◌*�
 use Rattle.std.specs.Prelude.{◌==◌, not, bit_or, bit_and}
 use Rattle.std.proofs.lemmas.List.{get_or_past, get_or_read}
 use Rattle.std.specs.Int.{bit_not, trailing_zeros, w64}
-use Rattle.mm_types.proofs.Cells.{same_or_not}
-use Rattle.mm_types.proofs.Tables.{differ}
-use Rattle.mm_slots.specs.Bits.{has_bit, have_bit, IsLeast, ChangesOne}
+use Rattle.mm_types.proofs.{same_or_not, differ}
+use Rattle.mm_slots.specs.{has_bit, have_bit, IsLeast, ChangesOne}
 use Rattle.mm_slots.proofs.BitLemmas.{zero_has_none, none_above, lowest_bit, set_same, set_other, clear_same, clear_other}
 
 -- the word of a number, and its place there, are the number

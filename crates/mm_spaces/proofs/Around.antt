@@ -2,16 +2,12 @@
 use Rattle.std.proofs.Common.{◌≡◌, ℕ, zero, suc, ◌+◌, ◌≤◌, Bool, true, false, cond, List, [], ◌∷◌, length, Option, Some, None, refl, sym, ap, ◌∙◌, subst, arith, slice_get, slice_set, is_some, option_map}
 use Rattle.std.specs.Prelude.{All}
 use Rattle.std.proofs.lemmas.List.Elements.{All-head, All-tail}
-use Rattle.mm_types.specs.Address.{Range, end_of, holds_page, lies_within}
-use Rattle.mm_vad.specs.Ranges.{LieApart}
-use Rattle.mm_vad.specs.declared.regions.Region.{Region}
-use Rattle.mm_vad.specs.Regions.{ranges_of as kept_ranges}
-use Rattle.mm_world.specs.World.{RegionOf, pages_of}
-use Rattle.mm_world.specs.Find.{Found, one_later, region_with, region_around}
-use Rattle.mm_world.proofs.Finding.{found_stands}
-use Rattle.mm_spaces.specs.Shown.{region_of, shown_regions}
+use Rattle.mm_types.specs.{Range, end_of, holds_page, lies_within}
+use Rattle.mm_vad.specs.{LieApart, Region, ranges_of as kept_ranges}
+use Rattle.mm_world.specs.{RegionOf, pages_of, Found, one_later, region_with, region_around}
+use Rattle.mm_world.proofs.{found_stands, inside, Inside, Within, holds, holds_not}
+use Rattle.mm_spaces.specs.{region_of, shown_regions}
 use Rattle.mm_spaces.proofs.Shows.{later, shown_pages}
-use Rattle.mm_world.proofs.Ranges.{inside, Inside, Within, holds, holds_not}
 
 behind : (r : Range) (page : ℕ) → end_of r ≤ page → holds_page r page ≡ false
 behind r page low = holds_not r page (λ w. absurd (omega (arith, low, w.high)))

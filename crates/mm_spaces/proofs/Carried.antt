@@ -1,16 +1,16 @@
 -- What the regions of a `mm_vad::Space` say of the regions that are shown.
-use Rattle.std.proofs.Common.{◌≡◌, ℕ, zero, suc, ◌+◌, Bool, true, false, cond, List, [], ◌∷◌, ◌++◌, length, map, take, drop, Option, Some, None, option_map, refl, sym, ap, ◌∙◌, arith, count_by, nat_lt, not}
+use Rattle.std.proofs.Common.{◌≡◌, ℕ, suc, ◌+◌, Bool, true, false, cond, List, [], ◌∷◌, length, Option, Some, None, option_map, refl, sym, ap, ◌∙◌, arith, count_by, nat_lt, not}
 use Rattle.std.specs.Prelude.{find, insert, remove, All}
 use Rattle.std.specs.List.{position_or_len}
 use Rattle.std.proofs.lemmas.List.Sums.{sum_by-cons}
 use Rattle.std.proofs.lemmas.List.Elements.{All-head, All-tail}
-use Rattle.mm_types.specs.Address.{Range, holds_page}
-use Rattle.mm_vad.specs.declared.regions.Region.{Region}
+use Rattle.mm_types.specs.{Range, holds_page}
+use Rattle.mm_vad.specs.{Region}
 use Rattle.mm_vad.specs.Regions as vad
-use Rattle.mm_world.specs.World.{RegionOf, pages_of}
-use Rattle.mm_world.specs.Find.{Found, first_where, one_later, region_with, ranges_of, add_region}
-use Rattle.mm_spaces.specs.Shown.{region_of, shown_regions}
+use Rattle.mm_world.specs.{RegionOf, pages_of, Found, first_where, one_later, region_with, ranges_of, add_region}
+use Rattle.mm_spaces.specs.{region_of, shown_regions}
 use Rattle.mm_spaces.proofs.Shows.{shown_pages}
+use Rattle.mm_world.proofs.{map-insert, map-remove}
 
 abbrev pub Whole : List Region → Type 0
 Whole rs = All (λ r. length r.rows ≡ r.pages) rs
@@ -60,33 +60,6 @@ with_shown rs page w = first_shown (λ r. holds_page (pages_of r) page) (vad.reg
 
 -- ---- one region more, one less
 
-module _ {A C : Type 0} (f : A → C) where
-  map_append : (xs ys : List A) → map f (xs ++ ys) ≡ map f xs ++ map f ys
-  map_append [] ys = refl
-  map_append (x ∷ xs) ys = ap (λ (zs : List C). f x ∷ zs) (map_append xs ys)
-
-  pub map_take : (n : ℕ) (xs : List A) → map f (take n xs) ≡ take n (map f xs)
-  map_take zero xs = refl
-  map_take (suc n) [] = refl
-  map_take (suc n) (x ∷ xs) = ap (λ (zs : List C). f x ∷ zs) (map_take n xs)
-
-  pub map_drop : (n : ℕ) (xs : List A) → map f (drop n xs) ≡ drop n (map f xs)
-  map_drop zero xs = refl
-  map_drop (suc n) [] = refl
-  map_drop (suc n) (x ∷ xs) = map_drop n xs
-
-  pub map_insert : (xs : List A) (n : ℕ) (x : A) → map f (insert xs n x) ≡ insert (map f xs) n (f x)
-  map_insert xs n x =
-      map_append (take n xs) (x ∷ drop n xs)
-      ∙ ap (λ (ys : List C). ys ++ map f (x ∷ drop n xs)) (map_take n xs)
-      ∙ ap (λ (ys : List C). take n (map f xs) ++ f x ∷ ys) (map_drop n xs)
-
-  pub map_remove : (xs : List A) (n : ℕ) → map f (remove xs n) ≡ remove (map f xs) n
-  map_remove xs n =
-      map_append (take n xs) (drop (suc n) xs)
-      ∙ ap (λ (ys : List C). ys ++ map f (drop (suc n) xs)) (map_take n xs)
-      ∙ ap (λ (ys : List C). take n (map f xs) ++ ys) (map_drop (suc n) xs)
-
 below_shown : (base : ℕ) (rs : List Region) → count_by (λ r. nat_lt r.base base) (shown_regions rs) ≡ count_by (λ r. nat_lt r.base.0 base) rs
 below_shown base [] = refl
 below_shown base (r ∷ rs) =
@@ -96,8 +69,8 @@ below_shown base (r ∷ rs) =
 
 pub add_shown : (rs : List Region) (r : Region) → shown_regions (vad.add_region rs r) ≡ add_region (region_of r) (shown_regions rs)
 add_shown rs r =
-    map_insert region_of rs (count_by (λ (x : Region). nat_lt x.base.0 r.base.0) rs) r
+    map-insert region_of rs (count_by (λ (x : Region). nat_lt x.base.0 r.base.0) rs) r
     ∙ ap (λ (n : ℕ). insert (shown_regions rs) n (region_of r)) (sym (below_shown r.base.0 rs))
 
 pub remove_shown : (rs : List Region) (base : ℕ) → shown_regions (vad.remove_region rs base) ≡ remove (shown_regions rs) (position_or_len (vad.begins_at base) rs)
-remove_shown rs base = map_remove region_of rs (position_or_len (vad.begins_at base) rs)
+remove_shown rs base = map-remove region_of rs (position_or_len (vad.begins_at base) rs)

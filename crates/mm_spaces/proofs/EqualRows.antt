@@ -1,25 +1,17 @@
 -- Rows that are equal pass a test together, and are changed together.
-use Rattle.std.proofs.Common.{◌≡◌, ℕ, zero, suc, ◌+◌, ◌-◌, ◌≤◌, ◌<◌, Bool, true, false, List, ◌∷◌, ◌++◌, length, get_or, map, take, drop, replicate, Option, Some, refl, sym, subst, ap, ◌∙◌, arith, slice_get, slice_set, ◌&&◌, count_by}
+use Rattle.std.proofs.Common.{◌≡◌, ℕ, zero, suc, ◌+◌, ◌-◌, ◌≤◌, ◌<◌, Bool, true, false, List, ◌++◌, length, get_or, map, take, drop, replicate, Option, Some, sym, subst, ap, ◌∙◌, arith, slice_get, slice_set, ◌&&◌, count_by}
 use Rattle.std.specs.List.{list_all}
 use Rattle.std.specs.Prelude.{IsSomeAnd}
 use Rattle.std.proofs.lemmas.List.{get_or-drop, get_or-take, get_or-replicate, map-append, take-map, drop-map, drop-drop, take-take, take-replicate}
 use Rattle.std.proofs.lemmas.List.Folds.{list_all_more}
 use Rattle.std.proofs.lemmas.List.Sums.{count_by_more_yes, count_by_more_no}
 use Rattle.std.proofs.lemmas.Option.{slice_get-get_or}
-use Rattle.mm_types.specs.declared.views.Kind.{Kind}
-use Rattle.mm_vad.specs.declared.pages.Row.{Row}
-use Rattle.mm_vad.specs.declared.regions.Region.{Region}
-use Rattle.mm_vad.specs.Chunks.{filled_rows}
-use Rattle.mm_vad.specs.Regions.{region_at, with_equal_rows, fill_rows, LieInRegion}
-use Rattle.mm_vad.specs.Regions.{IsSpace as IsVad}
-use Rattle.mm_vad.proofs.Lookups.{rows_whole}
-use Rattle.mm_world.specs.World.{RowOf, RegionOf}
-use Rattle.mm_world.specs.Find.{Found, change_range}
-use Rattle.mm_world.specs.Rows.{reserved_row, change_rows}
-use Rattle.mm_spaces.specs.declared.rows.RowChange.{RowChange}
-use Rattle.mm_spaces.specs.Shown.{shown_row, region_of, shown_regions}
-use Rattle.mm_vad.specs.Ranges.{range_at}
-use Rattle.mm_spaces.specs.RowChanges.{changed_row}
+use Rattle.mm_types.specs.{Kind}
+use Rattle.mm_vad.specs.{Row, Region, filled_rows, region_at, with_equal_rows, fill_rows, LieInRegion, IsSpace as IsVad, range_at}
+use Rattle.mm_vad.proofs.{rows_whole}
+use Rattle.mm_world.proofs.{map-replicate}
+use Rattle.mm_world.specs.{RowOf, RegionOf, Found, change_range, reserved_row, change_rows}
+use Rattle.mm_spaces.specs.{RowChange, shown_row, region_of, shown_regions, changed_row}
 use Rattle.mm_spaces.proofs.Shows.{Here}
 use Rattle.mm_spaces.proofs.Owned.{read_row, shown_length, shown_rows}
 
@@ -76,10 +68,6 @@ module _ (p : RowOf (Unit {0}) → Bool) (k : Kind) (rows : List Row) (first don
 
 -- ---- rows that are equal are changed together
 
-map_replicate : {A B : Type 0} (f : A → B) (n : ℕ) (x : A) → map f (replicate n x) ≡ replicate n (f x)
-map_replicate f zero x = refl
-map_replicate f (suc n) x = ap (λ xs. f x ∷ xs) (map_replicate f n x)
-
 three : {A : Type 0} (xs ys zs xs' ys' zs' : List A) → xs ≡ xs' → ys ≡ ys' → zs ≡ zs' → xs ++ ys ++ zs ≡ xs' ++ ys' ++ zs'
 three xs ys zs xs' ys' zs' a b c = ap (λ v. v ++ ys ++ zs) a ∙ ap (λ v. xs' ++ v ++ zs) b ∙ ap (λ v. xs' ++ ys' ++ v) c
 
@@ -89,7 +77,7 @@ shown_filled g change rows first n old new equal made =
     ∙ ap (λ xs. xs ++ map g (drop (first + n) rows)) (map-append g (take first rows) (replicate n new))
     ∙ three (map g (take first rows)) (map g (replicate n new)) (map g (drop (first + n) rows)) (take first (map g rows)) (map change (take n (drop first (map g rows)))) (drop n (drop first (map g rows)))
     (sym (take-map g first rows))
-    (map_replicate g n new ∙ ap (replicate n) made ∙ sym (map_replicate change n (g old)) ∙ ap (map change) (sym (map_replicate g n old) ∙ ap (map g) (sym equal) ∙ sym (take-map g n (drop first rows)) ∙ ap (take n) (sym (drop-map g first rows))))
+    (map-replicate g n new ∙ ap (replicate n) made ∙ sym (map-replicate change n (g old)) ∙ ap (map change) (sym (map-replicate g n old) ∙ ap (map g) (sym equal) ∙ sym (take-map g n (drop first rows)) ∙ ap (take n) (sym (drop-map g first rows))))
     (sym (drop-map g (first + n) rows) ∙ sym (drop-drop n first (map g rows)))
 
 fewer : (rows : List Row) (n m : ℕ) (old : Row) → n ≤ m → take m rows ≡ replicate m old → take n rows ≡ replicate n old

@@ -2,23 +2,14 @@
 use Rattle.std.proofs.Common.{◌≡◌, ℕ, ◌+◌, ◌-◌, ◌≤◌, Bool, true, false, List, [], length, map, take, drop, Option, Some, None, is_some, refl, sym, ap, ◌∙◌, subst, arith, slice_set, ◌&&◌}
 use Rattle.std.specs.Prelude.{IsSomeAnd, IfSome, option_map, unwrap_or}
 use Rattle.std.proofs.lemmas.List.{length-map}
-use Rattle.mm_types.specs.Address.{Range, page_of, address_of, holds_page, lies_within, first_user_page}
-use Rattle.mm_types.proofs.Booleans.{parts}
-use Rattle.mm_vad.specs.declared.regions.Region.{Region}
+use Rattle.mm_types.specs.{Range, page_of, address_of, holds_page, lies_within, first_user_page}
+use Rattle.mm_types.proofs.{parts}
+use Rattle.mm_vad.specs.{Region}
 use Rattle.mm_vad.specs.Regions as vad
-use Rattle.mm_world.specs.World.{RegionOf, pages_of}
-use Rattle.mm_world.specs.Find.{Found, region_with, change_range}
-use Rattle.mm_world.specs.Rows.{change_flags, mark_written}
-use Rattle.mm_world.specs.Watch.{written_from, written_in, unwritten, watched_around}
-use Rattle.mm_world.specs.WellFormed.{IsSpace}
-use Rattle.mm_world.proofs.Finding.{found_stands}
-use Rattle.mm_world.proofs.LaidOut.{flags_changed}
-use Rattle.mm_world.proofs.Ranges.{inside, Inside}
-use Rattle.mm_world.proofs.RowsFit.{length-change_range}
-use Rattle.mm_world.proofs.Spaces.{space_set, length-unwritten}
-use Rattle.mm_spaces.specs.Shown.{shown_row, region_of, shown_regions}
-use Rattle.mm_spaces.specs.Finds.{IsKeptSpace}
-use Rattle.mm_spaces.specs.Kept.{IsAround, found_if, surrounds}
+use Rattle.mm_world.specs.{RegionOf, pages_of, Found, region_with, change_range, change_flags, mark_written, written_from, written_in, unwritten}
+use Rattle.mm_world.specs.{watched_around, IsSpace}
+use Rattle.mm_world.proofs.{found_stands, flags_changed, inside, Inside, length-change_range, space_set, length-unwritten}
+use Rattle.mm_spaces.specs.{shown_row, region_of, shown_regions, IsKeptSpace, IsAround, found_if, surrounds}
 use Rattle.mm_spaces.proofs.Shows.{there, here}
 use Rattle.mm_spaces.proofs.OfPage.{both_around}
 use Rattle.mm_spaces.proofs.Kept.{found_has}
@@ -70,8 +61,9 @@ pub flags_many : (r : Region) (flags : List Bool) → vad.HasFlags r.pages r →
 flags_many r flags h e = subst (λ (o : Option (List Bool)). IfSome o (λ fs. length fs ≡ r.pages)) e h
 
 -- the range is said in two ways
-pub watched_in : (vs : List Region) (inner : Range) (rs : Regions) (range : Range) → Same vs inner rs range → watched_around (shown_regions vs) inner ≡ watched_around rs range
-watched_in vs inner rs range same = ap (λ (x : Regions). watched_around x inner) same.regions ∙ ap (λ (x : Range). watched_around rs x) same.range_is
+pub watched_as : {vs : List Region} {inner range : Range} {rs : Regions} → Same vs inner rs range → (r : Place) → IsKeptSpace vs → 1 ≤ inner.count → watched_around rs range ≡ Some r → IsWatched (shown_regions vs) inner r
+watched_as {vs = vs} {inner = inner} {range = range} {rs = rs} same r k some e =
+    is_watched (shown_regions vs) inner r k.sound some (ap (λ (x : Regions). watched_around x inner) same.regions ∙ ap (λ (x : Range). watched_around rs x) same.range_is ∙ e)
 
 -- what was told was told of some region
 pub told_of : (f : Place → List ℕ) (o : Option Place) (pages : List ℕ) → Some pages ≡ option_map f o → is_some o ≡ true

@@ -3,14 +3,12 @@ use Rattle.std.proofs.Common.{◌≡◌, ℕ, ◌%◌, ◌≤◌, Bool, true, fa
 use Rattle.std.specs.Prelude.{IfSome}
 use Rattle.std.specs.List.{list_any}
 use Rattle.std.proofs.lemmas.Bool.{ne_eqb}
-use Rattle.mm_types.specs.declared.numbers.Vpn.{Vpn}
-use Rattle.mm_types.specs.Address.{Range, meets, is_free, are_user_pages, lowest_gap}
-use Rattle.mm_vad.specs.Ranges.{page_number}
-use Rattle.mm_vad.specs.declared.regions.Region.{Region}
+use Rattle.mm_types.specs.{Vpn, Range, meets, is_free, are_user_pages, lowest_gap}
+use Rattle.mm_vad.specs.{page_number, Region}
 use Rattle.mm_vad.specs.Regions as vad
-use Rattle.mm_world.specs.Find.{placed, ranges_of}
-use Rattle.mm_world.proofs.LaidOut.{placed_is}
-use Rattle.mm_spaces.specs.Shown.{shown_regions}
+use Rattle.mm_world.specs.{placed, ranges_of}
+use Rattle.mm_world.proofs.{placed_is}
+use Rattle.mm_spaces.specs.{shown_regions}
 use Rattle.mm_spaces.proofs.Carried.{Whole, ranges_shown}
 
 pub free_by : (taken : List Range) (r : Range) → are_user_pages r ≡ true → list_any (meets r) taken ≡ false → is_free taken r ≡ true

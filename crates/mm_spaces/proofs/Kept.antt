@@ -1,32 +1,20 @@
 -- What a look-up of a page finds in the regions that are kept.
 use Rattle.std.proofs.Common.{◌≡◌, ℕ, zero, suc, ◌+◌, ◌<◌, ◌≤◌, Bool, true, false, cond, List, [], ◌∷◌, length, map, Option, Some, None, option_map, is_some, refl, sym, ap, ◌∙◌, subst, arith, slice_get, nat_le, ◌&&◌, ◌||◌, not}
 use Rattle.std.specs.Prelude.{find, All, ◌==◌}
-use Rattle.std.proofs.lemmas.Bool.{leb-true, le-leb, eqb-true}
+use Rattle.std.proofs.lemmas.Bool.{leb-true, le-leb, eqb-true, and_right}
 use Rattle.std.proofs.lemmas.Option.{slice_get-map}
 use Rattle.std.proofs.lemmas.List.Elements.{All-head, All-tail}
-use Rattle.mm_types.specs.declared.views.Kind.{Kind}
+use Rattle.mm_types.specs.{Kind, ViewAccess, Range, holds_page, lies_within, end_of, page_of, first_user_page}
 use Rattle.mm_types.specs.declared.views.Kind.TheVariants as kind
-use Rattle.mm_types.specs.declared.views.ViewAccess.{ViewAccess}
 use Rattle.mm_types.specs.declared.views.ViewAccess.TheVariants as view
-use Rattle.mm_types.specs.Address.{Range, holds_page, lies_within, end_of, page_of, first_user_page}
-use Rattle.mm_vad.specs.Ranges.{FollowsFrom}
-use Rattle.mm_vad.specs.declared.pages.Row.{Row}
-use Rattle.mm_vad.specs.declared.regions.Region.{Region}
+use Rattle.mm_vad.specs.{FollowsFrom, Row, Region}
 use Rattle.mm_vad.specs.Regions as vad
-use Rattle.mm_vad.proofs.Lookups.{row_there}
-use Rattle.mm_vad.proofs.Places.{each_region}
-use Rattle.mm_world.specs.World.{RegionOf, RowOf, pages_of}
-use Rattle.mm_world.specs.Find.{Found, region_with, is_private}
-use Rattle.mm_world.specs.Free.{private_at, private_around}
-use Rattle.mm_world.specs.Views.{view_at, view_around}
-use Rattle.mm_world.specs.Rows.{is_one_of, private_protections}
-use Rattle.mm_world.specs.WellFormed.{IsSpace, RowsFit, RowFits, held_protections}
-use Rattle.mm_world.proofs.Finding.{found_stands}
-use Rattle.mm_world.proofs.Each.{each-at}
-use Rattle.mm_spaces.specs.Shown.{shown_row, region_of, shown_regions}
-use Rattle.mm_spaces.specs.Tables.{info_of, found_info}
-use Rattle.mm_spaces.specs.Finds.{IsKeptSpace}
-use Rattle.mm_spaces.specs.Kept.{IsRegionAt, IsAround, NoneAround, IsBased, NoneBased, found_if, surrounds, is_based}
+use Rattle.mm_vad.proofs.{row_there, each_region}
+use Rattle.mm_world.specs.{RegionOf, RowOf, pages_of, Found, region_with, is_private, private_at, private_around, view_at, view_around, is_one_of}
+use Rattle.mm_world.specs.{private_protections, IsSpace, RowsFit, RowFits, held_protections}
+use Rattle.mm_world.proofs.{found_stands, each-at}
+use Rattle.mm_spaces.specs.{shown_row, region_of, shown_regions, info_of, found_info, IsKeptSpace, IsRegionAt, IsAround, NoneAround, IsBased}
+use Rattle.mm_spaces.specs.{NoneBased, found_if, surrounds, is_based}
 use Rattle.mm_spaces.proofs.Shows.{shown_pages}
 use Rattle.mm_spaces.proofs.Carried.{place_of, with_shown}
 use Rattle.mm_spaces.proofs.OfPage.{kept_if, around_of_page, both_around, both_based}
@@ -116,10 +104,6 @@ row_low rs page i r row at e =
 
 -- ---- what lies around a range, and what has a base
 
-both-false : (a b : Bool) → b ≡ false → (a && b) ≡ false
-both-false true b e = e
-both-false false b e = refl
-
 pub long : (a b : ℕ) → b < a → nat_le a b ≡ false
 long a b h =
     elim (nat_le a b) as (λ z. nat_le a b ≡ z → z ≡ false) [
@@ -159,7 +143,7 @@ module _ (rs : Regions) (sound : IsSpace rs) where
         only = λ t.
             both_around t first_user_page rs range sound.laid_out some
             ∙ ap (kept_if (λ x. t x && surrounds range x)) at.there
-            ∙ ap (λ b. found_if b at.found) (both-false (t at.found.thing) (surrounds range at.found.thing) fails);
+            ∙ ap (λ b. found_if b at.found) (and_right (t at.found.thing) (surrounds range at.found.thing) fails);
       }
 
   pub around_none : (range : Range) → 1 ≤ range.count → region_with rs range.first ≡ None → NoneAround rs range
@@ -187,7 +171,7 @@ module _ (rs : Regions) (sound : IsSpace rs) where
         only = λ t.
             both_based t first_user_page rs addr sound.laid_out
             ∙ ap (kept_if (λ x. t x && is_based addr x)) at.there
-            ∙ ap (λ b. found_if b at.found) (both-false (t at.found.thing) (is_based addr at.found.thing) fails);
+            ∙ ap (λ b. found_if b at.found) (and_right (t at.found.thing) (is_based addr at.found.thing) fails);
       }
 
   pub based_none : (addr : ℕ) → region_with rs (page_of addr) ≡ None → NoneBased rs addr

@@ -1,35 +1,21 @@
 -- What a change makes of the regions that are kept.
-use Rattle.std.proofs.Common.{◌≡◌, ℕ, ◌+◌, ◌%◌, ◌≤◌, Bool, true, false, cond, List, [], ◌∷◌, length, map, replicate, Option, Some, None, option_map, is_some, refl, sym, ap, ◌∙◌, subst, arith, nat_le, ◌&&◌, not, slice_get}
+use Rattle.std.proofs.Common.{◌≡◌, ℕ, ◌%◌, ◌≤◌, Bool, true, false, cond, List, [], ◌∷◌, length, map, replicate, Option, Some, None, option_map, is_some, refl, sym, ap, ◌∙◌, subst, arith, nat_le, ◌&&◌, slice_get}
 use Rattle.std.specs.Prelude.{find, remove, ◌==◌}
 use Rattle.std.specs.List.{position_or_len}
 use Rattle.std.specs.Cmp.{unsigned_Decides}
 use Rattle.std.proofs.lemmas.Bool.{eqb-true, ne_eqb, eqb-false, le-leb}
 use Rattle.std.proofs.lemmas.List.{length-map}
 use Rattle.std.proofs.lemmas.Option.{slice_get-map, IfSome_then}
-use Rattle.mm_types.specs.declared.views.View.{View}
-use Rattle.mm_types.specs.declared.views.ViewAccess.{ViewAccess}
+use Rattle.mm_types.specs.{View, ViewAccess, Range, is_free, page_of, address_of, granule_pages, first_user_page, base_of, reserve_type}
 use Rattle.mm_types.specs.declared.views.Kind.TheVariants as kind
-use Rattle.mm_types.specs.Address.{Range, is_free, page_of, address_of, granule_pages, first_user_page}
-use Rattle.mm_types.specs.Protection.{base_of}
-use Rattle.mm_vad.specs.declared.pages.Row.{Row}
-use Rattle.mm_vad.specs.declared.regions.Region.{Region}
+use Rattle.mm_vad.specs.{Row, Region}
 use Rattle.mm_vad.specs.Regions as vad
-use Rattle.mm_world.specs.World.{RegionOf, RowOf, SectionOf, pages_of}
-use Rattle.mm_world.specs.Find.{Found, first_where, region_with, add_region, ranges_of, is_private}
-use Rattle.mm_types.specs.Allocation.{reserve_type}
-use Rattle.mm_world.specs.Alloc.{new_row, private_region}
-use Rattle.mm_world.specs.Contents.{blank}
-use Rattle.mm_world.specs.Rows.{is_one_of, is_protection_among, private_protections, reserved_row, commit}
-use Rattle.mm_world.specs.Views.{view_region, first_protection, is_copy}
-use Rattle.mm_world.specs.WellFormed.{Each, IsSpace, RowsFit, RowFits, PrivateRowFits, ViewRowFits}
-use Rattle.mm_world.proofs.Natural.{map-replicate}
-use Rattle.mm_world.proofs.Each.{each-remove, each-replicate}
-use Rattle.mm_world.proofs.LaidOut.{and-true, laid_remove, free_of}
-use Rattle.mm_world.proofs.RowsFit.{reserved_fits, commit_fits, new_view_fits}
-use Rattle.mm_world.proofs.Spaces.{space_add}
-use Rattle.mm_spaces.specs.Shown.{shown_row, region_of, new_flags, shown_regions}
-use Rattle.mm_spaces.specs.Finds.{IsKeptSpace, IsWholeRegion}
-use Rattle.mm_spaces.specs.Kept.{both_where, is_based}
+use Rattle.mm_world.specs.{RegionOf, RowOf, SectionOf, pages_of, Found, first_where, region_with, add_region, ranges_of, is_private, new_row}
+use Rattle.mm_world.specs.{private_region, blank, is_one_of, is_protection_among, private_protections, reserved_row, commit, view_region}
+use Rattle.mm_world.specs.{first_protection, is_copy, Each, IsSpace, RowsFit, RowFits, PrivateRowFits, ViewRowFits}
+use Rattle.mm_world.proofs.{map-replicate, each-remove, each-replicate, and-true, laid_remove, free_of, reserved_fits, commit_fits, new_view_fits}
+use Rattle.mm_world.proofs.{space_add}
+use Rattle.mm_spaces.specs.{shown_row, region_of, new_flags, shown_regions, IsKeptSpace, IsWholeRegion, both_where, is_based}
 use Rattle.mm_spaces.proofs.Shows.{shown_pages, there}
 use Rattle.mm_spaces.proofs.OfPage.{kept_if, both_based, based_of_page}
 use Rattle.mm_spaces.proofs.Carried.{Whole, place_of, first_shown, ranges_shown, add_shown, remove_shown}
@@ -166,27 +152,6 @@ always (x ∷ vs) = ap (λ b. cond b (Some x) (find (λ (r : Region). nat_le 0 r
 
 pub lowest_shown : (vs : List Region) (o : Option Region) → o ≡ vad.region_from vs 0 → slice_get (shown_regions vs) 0 ≡ option_map region_of o
 lowest_shown vs o e = slice_get-map region_of vs 0 ∙ ap (option_map region_of) (sym (e ∙ always vs))
-
-pub some_lowest : (vs : List Region) (rs : List (RegionOf (Unit {0}))) → shown_regions vs ≡ rs → 1 ≤ length rs → None ≡ vad.region_from vs 0 → ⊥
-some_lowest [] rs same some e = absurd (omega (arith, some, ap (λ (xs : List (RegionOf (Unit {0}))). length xs) same))
-some_lowest (x ∷ vs) rs same some e = let bad : None ≡ Some x = e ∙ always (x ∷ vs) in cc
-
-pub lowest_place : (vs : List Region) (r : Region) → Some r ≡ vad.region_from vs 0 → position_or_len (vad.begins_at r.base.0) vs ≡ 0
-lowest_place [] r e = cc
-lowest_place (x ∷ vs) r e =
-    let both : Some r ≡ Some x = e ∙ always (x ∷ vs) in
-    let same : x ≡ r = cc in
-    ap (λ b. cond (not b) (1 + position_or_len (vad.begins_at r.base.0) vs) 0) ((unsigned_Decides x.base.0 r.base.0).1 (ap (λ (g : Region). g.base.0) same))
-
-pub lowest_there : (vs : List Region) (r : Region) → Some r ≡ vad.region_from vs 0 → is_some (vad.region_with_base vs r.base.0) ≡ true
-lowest_there [] r e = cc
-lowest_there (x ∷ vs) r e =
-    let both : Some r ≡ Some x = e ∙ always (x ∷ vs) in
-    let same : x ≡ r = cc in
-    ap (λ b. is_some (cond b (Some x) (find (vad.begins_at r.base.0) vs))) ((unsigned_Decides x.base.0 r.base.0).1 (ap (λ (g : Region). g.base.0) same))
-
-pub removed_lowest : (vs after : List Region) (r : Region) → Some r ≡ vad.region_from vs 0 → after ≡ vad.remove_region vs r.base.0 → shown_regions after ≡ remove (shown_regions vs) 0
-removed_lowest vs after r first e = ap shown_regions e ∙ remove_shown vs r.base.0 ∙ ap (remove (shown_regions vs)) (lowest_place vs r first)
 
 -- ---- a new view
 

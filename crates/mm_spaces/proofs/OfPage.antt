@@ -1,13 +1,10 @@
 -- Searches in regions that are laid out: a test that only the region with one page can pass.
 use Rattle.std.proofs.Common.{◌≡◌, ℕ, ◌<◌, ◌≤◌, Bool, true, false, cond, List, [], ◌∷◌, length, Option, Some, None, option_map, refl, sym, ap, ◌∙◌, arith, nat_lt, nat_le, ◌&&◌}
 use Rattle.std.proofs.lemmas.Bool.{leb-true, eqb-true}
-use Rattle.mm_types.specs.Address.{Range, holds_page, lies_within, end_of, page_of, address_of}
-use Rattle.mm_world.specs.World.{RegionOf, pages_of}
-use Rattle.mm_world.specs.Find.{Found, first_where, one_later, region_with, region_around}
-use Rattle.mm_world.specs.WellFormed.{LaidOut}
-use Rattle.mm_world.proofs.LaidOut.{and-true, less}
-use Rattle.mm_spaces.specs.Kept.{both_where, surrounds, is_based}
-use Rattle.mm_world.proofs.Ranges.{holds}
+use Rattle.mm_types.specs.{Range, holds_page, lies_within, end_of, page_of, address_of}
+use Rattle.mm_world.specs.{RegionOf, pages_of, Found, first_where, one_later, region_with, region_around, LaidOut}
+use Rattle.mm_world.proofs.{and-true, less, holds}
+use Rattle.mm_spaces.specs.{both_where, surrounds, is_based}
 
 -- what was found, where it passes one more test
 abbrev pub kept_if : {A : Type 0} → (A → Bool) → Option (Found A) → Option (Found A)

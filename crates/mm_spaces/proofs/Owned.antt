@@ -5,17 +5,12 @@ use Rattle.std.proofs.lemmas.List.{get_or-drop, get_or-take, length-drop, length
 use Rattle.std.proofs.lemmas.List.Folds.{list_all_at}
 use Rattle.std.proofs.lemmas.Option.{slice_get-map, slice_get-get_or, get_or_from_slice_get}
 use Rattle.std.proofs.Math.Seq.{drop-cons}
-use Rattle.mm_types.specs.declared.views.Kind.{Kind}
+use Rattle.mm_types.specs.{Kind, Range}
 use Rattle.mm_types.specs.declared.views.Kind.TheVariants as kind
-use Rattle.mm_types.specs.Address.{Range}
-use Rattle.mm_vad.specs.declared.pages.Row.{Row}
-use Rattle.mm_vad.specs.declared.regions.Region.{Region}
-use Rattle.mm_world.specs.World.{RowOf, RegionOf, WorldOf}
-use Rattle.mm_world.specs.Find.{Found, region_around, is_private}
-use Rattle.mm_world.specs.Rows.{reserved_row, row_at, is_committed, is_committed_at, every_page, every_page_from}
-use Rattle.mm_spaces.specs.Shown.{shown_row, region_of}
-use Rattle.mm_spaces.specs.Tables.{rows_in_range, rows_of}
-use Rattle.mm_spaces.specs.Kept.{IsAround}
+use Rattle.mm_vad.specs.{Row, Region}
+use Rattle.mm_world.specs.{RowOf, RegionOf, WorldOf, Found, region_around, is_private, reserved_row, row_at, is_committed, is_committed_at}
+use Rattle.mm_world.specs.{every_page, every_page_from}
+use Rattle.mm_spaces.specs.{shown_row, region_of, rows_in_range, rows_of, IsAround}
 use Rattle.mm_spaces.proofs.Around.{is_around}
 
 -- ---- rows

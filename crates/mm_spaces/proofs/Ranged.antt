@@ -2,34 +2,23 @@
 use Rattle.std.proofs.Common.{◌≡◌, ℕ, zero, suc, ◌+◌, ◌-◌, ◌<◌, ◌≤◌, Bool, true, false, cond, List, [], ◌∷◌, ◌++◌, length, map, take, drop, Option, Some, None, refl, sym, ap, ◌∙◌, subst, arith, slice_get, slice_set, is_some, option_map}
 use Rattle.std.specs.Prelude.{All}
 use Rattle.std.proofs.lemmas.List.Elements.{All-head, All-tail}
-use Rattle.mm_types.specs.Address.{Range, end_of, holds_page, first_user_page, end_of_user_pages}
-use Rattle.mm_vad.specs.Ranges.{LieApart, range_at}
-use Rattle.mm_vad.specs.declared.regions.Region.{Region}
-use Rattle.mm_vad.specs.Regions.{SpaceOf}
-use Rattle.mm_vad.specs.Regions.{IsSpace as IsVad, pages_of as kept_pages, ranges_of as kept_ranges}
-use Rattle.mm_world.specs.World.{RowOf, RegionOf, pages_of}
-use Rattle.mm_world.specs.Find.{Found, one_later, change_range, region_with, region_around}
-use Rattle.mm_world.specs.Rows.{change_rows}
-use Rattle.mm_world.proofs.Finding.{found_stands}
-use Rattle.mm_world.proofs.RowsFit.{length-change_range}
-use Rattle.mm_spaces.specs.declared.rows.RowChange.{RowChange}
-use Rattle.mm_spaces.specs.Shown.{region_of, shown_regions}
-use Rattle.mm_spaces.specs.RowChanges.{changed_row, RunChanged, IsInRegion}
+use Rattle.mm_types.specs.{Range, end_of, holds_page, first_user_page, end_of_user_pages}
+use Rattle.mm_vad.specs.{LieApart, range_at, Region, SpaceOf, IsSpace as IsVad, pages_of as kept_pages, ranges_of as kept_ranges}
+use Rattle.mm_world.specs.{RowOf, RegionOf, pages_of, Found, one_later, change_range, region_with, region_around, change_rows}
+use Rattle.mm_world.proofs.{found_stands, length-change_range, within}
+use Rattle.mm_spaces.specs.{RowChange, region_of, shown_regions, changed_row, RunChanged, IsInRegion}
 use Rattle.mm_spaces.proofs.Shows.{shown_pages}
 use Rattle.mm_spaces.proofs.Around.{is_around, some_with, with_around, around_set, rising_shown}
-use Rattle.mm_world.proofs.Ranges.{within}
 
 -- ---- a range of a list
 
 pub set_set : {A : Type 0} (xs : List A) (i : ℕ) (x y : A) → slice_set (slice_set xs i x) i y ≡ slice_set xs i y
-set_set [] i x y = refl
-set_set (z ∷ xs) zero x y = refl
 set_set (z ∷ xs) (suc i) x y = ap (λ rest. z ∷ rest) (set_set xs i x y)
+set_set _ _ x y = refl
 
 pub change_none : {A : Type 0} (change : A → A) (first : ℕ) (xs : List A) → change_range change first 0 xs ≡ xs
-change_none change zero xs = refl
-change_none change (suc first) [] = refl
 change_none change (suc first) (x ∷ xs) = ap (λ rest. x ∷ rest) (change_none change first xs)
+change_none change _ _ = refl
 
 front_more : {A : Type 0} (change : A → A) (count : ℕ) (xs : List A) (x : A) → slice_get (map change (take count xs) ++ drop count xs) count ≡ Some x → map change (take (suc count) xs) ++ drop (suc count) xs ≡ slice_set (map change (take count xs) ++ drop count xs) count (change x)
 front_more change zero [] x e = cc

@@ -4,38 +4,21 @@ use Rattle.std.specs.Prelude.{◌==◌}
 use Rattle.std.specs.List.{list_all}
 use Rattle.std.proofs.lemmas.Bool.{and_parts}
 use Rattle.std.proofs.lemmas.List.{length-set}
-use Rattle.mm_types.specs.declared.views.Kind.{Kind}
+use Rattle.mm_types.specs.{Kind, View, Range, end_of, base_of}
 use Rattle.mm_types.specs.declared.views.Kind.TheVariants as kind
-use Rattle.mm_types.specs.declared.views.View.{View}
-use Rattle.mm_types.specs.Address.{Range, end_of}
-use Rattle.mm_types.specs.Protection.{base_of}
-use Rattle.mm_world.specs.World.{RowOf, RegionOf}
-use Rattle.mm_world.specs.Find.{Found, region_with, region_around, is_private}
-use Rattle.mm_world.specs.Rows.{is_one_of, is_protection_among, private_protections, protections_of, row_at, accepts, every_page, protected, change_rows}
-use Rattle.mm_world.specs.WellFormed.{IsSpace, PrivateRowFits, ViewRowFits, RowFits}
-use Rattle.mm_world.proofs.Each.{each-set, each-at, every_page-at}
-use Rattle.mm_world.proofs.Finding.{found_stands}
-use Rattle.mm_world.proofs.RowsFit.{length-change_range, reserved_fits, commit_fits, rows_change, view_rows_protected}
-use Rattle.mm_world.proofs.LaidOut.{flags_stay}
-use Rattle.mm_world.proofs.Spaces.{space_set}
-use Rattle.mm_spaces.specs.Tables.{rows_in_range, rows_of}
-use Rattle.mm_spaces.specs.declared.rows.RowChange.{RowChange}
+use Rattle.mm_types.proofs.{both}
+use Rattle.mm_world.specs.{RowOf, RegionOf, Found, region_with, region_around, is_private, is_one_of, is_protection_among, private_protections}
+use Rattle.mm_world.specs.{protections_of, row_at, accepts, every_page, protected, change_rows, IsSpace, PrivateRowFits, ViewRowFits, RowFits}
+use Rattle.mm_world.proofs.{each-set, each-at, every_page-at, found_stands, length-change_range, reserved_fits, commit_fits, rows_change}
+use Rattle.mm_world.proofs.{view_rows_protected, flags_stay, space_set}
+use Rattle.mm_spaces.specs.{rows_in_range, rows_of, RowChange, changed_row, owns, CanChange}
 use Rattle.mm_spaces.specs.declared.rows.RowChange.TheVariants as change
-use Rattle.mm_spaces.specs.RowChanges.{changed_row, owns}
 use Rattle.mm_spaces.proofs.Around.{is_around}
 
 abbrev pub Regions : Type 0
 Regions = List (RegionOf (Unit {0}))
 
 -- ---- one row
-
--- a row of a region of this kind can be changed so
-abbrev pub CanChange : RowChange → Kind → RowOf (Unit {0}) → Type 0
-CanChange (change.Commit prot) k row = (is_private k ≡ true) × (is_one_of private_protections (base_of prot) ≡ true)
-CanChange change.Decommit k row = is_private k ≡ true
-CanChange (change.Protect prot) k row = (is_one_of (protections_of k row) (base_of prot) ≡ true) × (is_private k ≡ true → owns row ≡ true)
-CanChange change.GuardOff k row = Unit {0}
-CanChange change.Copy k row = (is_private k ≡ false) × (row.marked ≡ true)
 
 unguarded : RowOf (Unit {0}) → RowOf (Unit {0})
 unguarded row = record row { guard = false }
@@ -52,14 +35,10 @@ private_protected prot row e there h =
 one_row : View → RowOf (Unit {0}) → RegionOf (Unit {0})
 one_row v row = record { base = 0; alloc_prot = 0; kind = kind.View v; rows = row ∷ []; watched = None }
 
-and_true : (a : Bool) → a ≡ true → (a && true) ≡ true
-and_true true e = refl
-and_true false e = cc
-
 view_protected : (v : View) (prot : ℕ) (row : RowOf (Unit {0})) → is_one_of (protections_of (kind.View v) row) (base_of prot) ≡ true → ViewRowFits v.access row → ViewRowFits v.access (protected (kind.View v) prot row)
 unfolding one_row
 view_protected v prot row e h =
-    (view_rows_protected (one_row v row) v prot (record { first = 0; count = 1 }) refl (h, tt) (omega arith) (and_true (accepts (one_row v row) prot 0) e)).0
+    (view_rows_protected (one_row v row) v prot (record { first = 0; count = 1 }) refl (h, tt) (omega arith) (both (accepts (one_row v row) prot 0) true e refl)).0
 
 pub fits_after : (c : RowChange) (k : Kind) (row : RowOf (Unit {0})) → CanChange c k row → RowFits k row → RowFits k (changed_row c k row)
 unfolding unguarded

@@ -4,18 +4,11 @@ use Rattle.std.specs.Prelude.{find, All}
 use Rattle.std.proofs.lemmas.List.{length-map, map-set}
 use Rattle.std.proofs.lemmas.List.Elements.{All-head, All-tail}
 use Rattle.std.proofs.lemmas.Option.{slice_get-map}
-use Rattle.mm_types.specs.Address.{Range, holds_page}
-use Rattle.mm_vad.specs.declared.pages.Row.{Row}
-use Rattle.mm_vad.specs.declared.regions.Region.{Region}
-use Rattle.mm_vad.specs.Regions.{region_holds, region_at, change_region, set_row, with_row}
-use Rattle.mm_vad.specs.Regions.{pages_of as kept_pages}
-use Rattle.mm_vad.proofs.Held.{change_here, change_later}
-use Rattle.mm_world.specs.World.{RowOf, RegionOf, pages_of}
-use Rattle.mm_world.specs.Find.{Found, one_later, region_with}
-use Rattle.mm_world.specs.Rows.{row_at}
-use Rattle.mm_spaces.specs.declared.rows.RowChange.{RowChange}
-use Rattle.mm_spaces.specs.Shown.{shown_row, region_of, shown_regions}
-use Rattle.mm_spaces.specs.RowChanges.{changed_row}
+use Rattle.mm_types.specs.{Range, holds_page}
+use Rattle.mm_vad.specs.{Row, Region, region_holds, region_at, change_region, set_row, with_row, pages_of as kept_pages}
+use Rattle.mm_vad.proofs.{change_here, change_later}
+use Rattle.mm_world.specs.{RowOf, RegionOf, pages_of, Found, one_later, region_with, row_at}
+use Rattle.mm_spaces.specs.{RowChange, shown_row, region_of, shown_regions, changed_row}
 
 pub record IsThere {A : Type 0} (o : Option A) : Type 0 where
   pub thing : A

@@ -4,27 +4,18 @@ use Rattle.std.specs.Prelude.{find, ◌==◌, take_while}
 use Rattle.std.specs.Cmp.{unsigned_Decides}
 use Rattle.std.proofs.lemmas.Bool.{leb-true, eqb-true, eqb-false, ne_eqb}
 use Rattle.std.proofs.lemmas.List.Sums.{take_while-cons}
-use Rattle.mm_types.specs.declared.answers.QueryInfo.{QueryInfo}
+use Rattle.mm_types.specs.{QueryInfo, address_of, first_user_page, end_of_user_pages}
 use Rattle.mm_types.specs.declared.views.Kind.TheVariants as kind
-use Rattle.mm_types.specs.Address.{address_of, first_user_page, end_of_user_pages}
-use Rattle.mm_vad.specs.Ranges.{FollowsFrom}
-use Rattle.mm_vad.specs.declared.pages.Row.{Row}
-use Rattle.mm_vad.specs.declared.regions.Region.{Region}
+use Rattle.mm_vad.specs.{FollowsFrom, Row, Region, Look, are_alike, same_look, run_from}
 use Rattle.mm_vad.specs.Regions as vad
 use Rattle.mm_vad.specs.Looks as looks
-use Rattle.mm_vad.specs.Looks.{Look, are_alike, same_look, same_flag, run_from}
-use Rattle.mm_vad.proofs.Places.{each_region}
-use Rattle.mm_world.specs.World.{RegionOf, WorldOf}
-use Rattle.mm_world.specs.Find.{Found, region_with, is_private}
-use Rattle.mm_world.specs.Rows.{is_committed}
-use Rattle.mm_world.specs.Query.{PageState, same_state, first_run, row_state, page_states, region_info, next_base, type_of}
-use Rattle.mm_world.specs.WellFormed.{Each, RowFits, PrivateRowFits}
-use Rattle.mm_spaces.specs.Shown.{shown_row, region_of, shown_regions}
-use Rattle.mm_spaces.specs.Finds.{IsKeptSpace}
-use Rattle.mm_spaces.proofs.Carried.{map_drop}
-use Rattle.mm_spaces.specs.Kept.{IsRegionAt}
+use Rattle.mm_vad.proofs.{each_region}
+use Rattle.mm_world.specs.{RegionOf, WorldOf, Found, region_with, is_private, is_committed, PageState, same_state, first_run, row_state, page_states}
+use Rattle.mm_world.specs.{region_info, next_base, type_of, Each, RowFits, PrivateRowFits}
+use Rattle.mm_spaces.specs.{shown_row, region_of, shown_regions, IsKeptSpace, IsRegionAt}
 use Rattle.mm_spaces.proofs.Kept.{found_has, private_low}
-use Rattle.mm_types.proofs.Booleans.{and_true, and_false}
+use Rattle.mm_types.proofs.{and_true, and_false}
+use Rattle.std.proofs.lemmas.List.{drop-map}
 
 -- ---- the next region
 
@@ -186,7 +177,7 @@ module _ (rs : List (RegionOf (Unit {0}))) (page : ℕ) (g : Region) (at : IsReg
 
     pub private_run : (w : WorldOf (Unit {0})) → (first_run (states w (region_of g))).1 ≡ run_from g.rows (page - g.base.0)
     private_run w =
-        ap (λ ss. (first_run ss).1) (private_states w ∙ sym (map_drop state_of (page - g.base.0) g.rows))
+        ap (λ ss. (first_run ss).1) (private_states w ∙ drop-map state_of (page - g.base.0) g.rows)
         ∙ run_states (drop (page - g.base.0) g.rows) (fit_drop (page - g.base.0) g.rows private_fit)
 
     pub private_state : (w : WorldOf (Unit {0})) (row : Row) → slice_get g.rows (page - g.base.0) ≡ Some row → (first_run (states w (region_of g))).0 ≡ state_of row

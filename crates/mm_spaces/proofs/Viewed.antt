@@ -5,23 +5,17 @@ use Rattle.std.specs.List.{prefix_len}
 use Rattle.std.proofs.lemmas.List.{length-map}
 use Rattle.std.proofs.lemmas.List.Folds.{length-prefix_len}
 use Rattle.std.proofs.lemmas.Option.{slice_get-map}
-use Rattle.mm_types.specs.declared.views.Kind.{Kind}
+use Rattle.std.proofs.lemmas.Bool.{and_right}
+use Rattle.mm_types.specs.{Kind, View, Range, address_of}
 use Rattle.mm_types.specs.declared.views.Kind.TheVariants as kind
-use Rattle.mm_types.specs.declared.views.View.{View}
-use Rattle.mm_types.specs.Address.{Range, address_of}
-use Rattle.mm_vad.specs.declared.pages.Row.{Row}
-use Rattle.mm_vad.specs.declared.regions.Region.{Region}
-use Rattle.mm_world.specs.World.{RowOf, RegionOf, AreaOf, WorldOf}
-use Rattle.mm_world.specs.Find.{Found, region_with, region_around, area_at, is_private}
-use Rattle.mm_world.specs.Rows.{row_at, is_committed, is_committed_at, every_page, every_page_from}
-use Rattle.mm_world.specs.Query.{PageState, same_state, first_run, row_state, page_states, page_info, type_of}
-use Rattle.mm_world.specs.WellFormed.{Each, RowFits, ViewRowFits}
-use Rattle.mm_spaces.specs.Shown.{shown_row, region_of}
-use Rattle.mm_spaces.specs.Kept.{IsRegionAt, IsAround}
-use Rattle.mm_spaces.specs.ViewStates.{is_area_page, view_state, view_states, states_in, state_told}
-use Rattle.mm_spaces.specs.declared.view_states.ToldState.{ToldState}
+use Rattle.mm_vad.specs.{Row, Region}
+use Rattle.mm_types.proofs.{both as both_true}
+use Rattle.mm_world.specs.{RowOf, RegionOf, AreaOf, WorldOf, Found, region_with, region_around, area_at, is_private, row_at, is_committed}
+use Rattle.mm_world.specs.{is_committed_at, every_page, every_page_from, PageState, same_state, first_run, row_state, page_states, page_info, type_of}
+use Rattle.mm_world.specs.{Each, RowFits, ViewRowFits}
+use Rattle.mm_spaces.specs.{shown_row, region_of, IsRegionAt, IsAround, is_area_page, view_state, view_states, states_in, state_told, ToldState}
 use Rattle.mm_spaces.proofs.Around.{is_around}
-use Rattle.mm_world.proofs.Each.{each-at}
+use Rattle.mm_world.proofs.{each-at}
 use Rattle.mm_spaces.proofs.Kept.{has_row, fit_low}
 use Rattle.mm_spaces.proofs.Owned.{every_alike, thing_is}
 use Rattle.mm_spaces.proofs.Told.{states, info_by, region_told, thing_at}
@@ -34,11 +28,7 @@ Area = AreaOf (Unit {0})
 pub every_more : (q : ℕ → Bool) (first n : ℕ) → every_page_from q first n ≡ true → q (first + n) ≡ true → every_page_from q first (suc n) ≡ true
 every_more q first zero e here =
     let same : first ≡ first + 0 = omega arith in
-    and_true (q first) (ap q same ∙ here)
-  where
-    and_true : (a : Bool) → a ≡ true → (a && true) ≡ true
-    and_true true e = refl
-    and_true false e = cc
+    both_true (q first) true (ap q same ∙ here) refl
 every_more q first (suc n) e here =
     let same : first + 1 + n ≡ first + suc n = omega arith in
     by_first (q first) e (λ rest. every_more q (first + 1) n rest (ap q same ∙ here))
@@ -47,10 +37,6 @@ every_more q first (suc n) e here =
     by_first true e later = later e
     by_first false e later = cc
 
-and_false : (a b : Bool) → b ≡ false → (a && b) ≡ false
-and_false true b e = e
-and_false false b e = refl
-
 pub every_fails : (q : ℕ → Bool) (first count i : ℕ) → i < count → q (first + i) ≡ false → every_page_from q first count ≡ false
 every_fails q first zero i low e = absurd (omega (arith, low))
 every_fails q first (suc count) zero low e =
@@ -58,7 +44,7 @@ every_fails q first (suc count) zero low e =
     ap (λ b. b && every_page_from q (first + 1) count) (ap q same ∙ e)
 every_fails q first (suc count) (suc i) low e =
     let same : first + 1 + i ≡ first + suc i = omega arith in
-    and_false (q first) (every_page_from q (first + 1) count) (every_fails q (first + 1) count i (omega (arith, low)) (ap q same ∙ e))
+    and_right (q first) (every_page_from q (first + 1) count) (every_fails q (first + 1) count i (omega (arith, low)) (ap q same ∙ e))
 
 -- pages counted from a base
 every_from : (q : ℕ → Bool) (base first count : ℕ) → base ≤ first → every_page_from (λ page. q (page - base)) first count ≡ every_page_from q (first - base) count

@@ -1,25 +1,17 @@
 -- The regions that are kept stay so when rows of them are written.
-use Rattle.std.proofs.Common.{◌≡◌, ℕ, zero, suc, ◌+◌, ◌≤◌, ◌<◌, Bool, true, false, cond, List, [], ◌∷◌, take, drop, ◌-◌, Option, Some, None, is_some, refl, sym, ap, ◌∙◌, subst, arith, ◌&&◌, count_by}
+use Rattle.std.proofs.Common.{◌≡◌, ℕ, suc, ◌+◌, ◌≤◌, Bool, true, false, cond, List, ◌∷◌, take, drop, ◌-◌, Option, Some, None, is_some, refl, sym, ap, ◌∙◌, subst, arith, ◌&&◌, count_by}
 use Rattle.std.specs.List.{list_all}
 use Rattle.std.proofs.lemmas.List.Sums.{sum_by-cons}
-use Rattle.mm_types.specs.Address.{Range, end_of, holds_page}
-use Rattle.mm_vad.specs.declared.regions.Region.{Region}
-use Rattle.mm_vad.specs.Regions.{IsSpace as IsVad}
-use Rattle.mm_world.specs.World.{RowOf, RegionOf, pages_of}
-use Rattle.mm_world.specs.Find.{Found, region_with, region_around}
-use Rattle.mm_world.specs.Rows.{row_at, accepts, every_page}
-use Rattle.mm_world.specs.WellFormed.{IsSpace}
-use Rattle.mm_world.proofs.Finding.{found_stands}
-use Rattle.mm_spaces.specs.Shown.{shown_regions}
-use Rattle.mm_spaces.specs.Finds.{IsKeptSpace}
-use Rattle.mm_spaces.specs.Tables.{owned_in, rows_in_range, rows_of}
-use Rattle.mm_spaces.specs.declared.rows.RowChange.{RowChange}
-use Rattle.mm_spaces.specs.RowChanges.{RowChanged, RowsChanged, owns}
+use Rattle.mm_types.specs.{Range, holds_page}
+use Rattle.mm_vad.specs.{Region, IsSpace as IsVad}
+use Rattle.mm_world.specs.{RowOf, RegionOf, pages_of, Found, region_with, region_around, row_at, IsSpace}
+use Rattle.mm_world.proofs.{found_stands, within}
+use Rattle.mm_spaces.specs.{shown_regions, IsKeptSpace, owned_in, rows_in_range, rows_of, RowChange, RowChanged, RowsChanged, CanChangeRow}
+use Rattle.mm_spaces.specs.{CanChangeRows, owns}
 use Rattle.mm_spaces.proofs.Shows.{there}
 use Rattle.mm_spaces.proofs.Kept.{has_row}
-use Rattle.mm_spaces.proofs.RowsKept.{Regions, CanChange, sound_rows, sound_row}
-use Rattle.mm_types.proofs.Booleans.{one_at_most}
-use Rattle.mm_world.proofs.Ranges.{within}
+use Rattle.mm_spaces.proofs.RowsKept.{Regions, sound_rows, sound_row}
+use Rattle.mm_types.proofs.{one_at_most}
 
 -- ---- a range
 
@@ -32,21 +24,8 @@ module _ (vs : List Region) (inner : Range) (rs : Regions) (range : Range) (same
   pub inside : is_some (region_around rs range) ≡ true → is_some (region_around (shown_regions vs) inner) ≡ true
   inside e = ap (λ (x : Regions). is_some (region_around x inner)) same.regions ∙ ap (λ (x : Range). is_some (region_around rs x)) same.range_is ∙ e
 
-  pub owned : owned_in rs range ≡ range.count → owned_in (shown_regions vs) inner ≡ inner.count
-  owned e =
-      ap (λ (x : Regions). owned_in x inner) same.regions ∙ ap (λ (x : Range). owned_in rs x) same.range_is ∙ e ∙ sym (ap (λ (x : Range). x.count) same.range_is)
-
-  -- what is known of the region around the range, said in the other way
-  pub around : {P : Found (RegionOf (Unit {0})) → Type 0} → ((r : Found (RegionOf (Unit {0}))) → region_around rs range ≡ Some r → P r) → (r : Found (RegionOf (Unit {0}))) → region_around (shown_regions vs) inner ≡ Some r → P r
-  around known r e = known r (sym (ap (λ (x : Regions). region_around x inner) same.regions ∙ ap (λ (x : Range). region_around rs x) same.range_is) ∙ e)
-
-  pub taken : (r : Found (RegionOf (Unit {0}))) (prot : ℕ) → every_page (accepts r.thing prot) range ≡ true → every_page (accepts r.thing prot) inner ≡ true
-  taken r prot e = ap (λ (x : Range). every_page (accepts r.thing prot) x) same.range_is ∙ e
-
--- what has to be known of the rows of a range
-abbrev pub CanChangeRows : RowChange → Regions → Range → Type 0
-CanChangeRows c rs range =
-    (r : Found (RegionOf (Unit {0}))) → region_around rs range ≡ Some r → (page : ℕ) (row : RowOf (Unit {0})) → range.first ≤ page → page < end_of range → row_at r.thing page ≡ Some row → CanChange c r.thing.kind row
+  pub can_inside : (c : RowChange) → CanChangeRows c rs range → CanChangeRows c (shown_regions vs) inner
+  can_inside c can = subst (λ (x : Regions). CanChangeRows c x inner) (sym same.regions) (subst (λ (x : Range). CanChangeRows c rs x) (sym same.range_is) can)
 
 pub kept_rows : (vs after : List Region) (c : RowChange) (range : Range) → IsKeptSpace vs → is_some (region_around (shown_regions vs) range) ≡ true → CanChangeRows c (shown_regions vs) range → RowsChanged c range (shown_regions vs) (shown_regions after) → IsVad after → IsKeptSpace after
 kept_rows vs after c range k some can changed whole =
@@ -59,18 +38,16 @@ one_more : (p : RowOf (Unit {0}) → Bool) (x : RowOf (Unit {0})) (xs : List (Ro
 one_more p x xs = sum_by-cons (λ (r : RowOf (Unit {0})). cond (p r) 1 0) x xs
 
 counted_below : (p : RowOf (Unit {0}) → Bool) (n : ℕ) (xs : List (RowOf (Unit {0}))) → count_by p (take n xs) ≤ n
-counted_below p zero xs = omega arith
-counted_below p (suc n) [] = omega arith
 counted_below p (suc n) (x ∷ xs) = omega (arith, one_more p x (take n xs), counted_below p n xs, one_at_most (p x))
+counted_below p _ _ = omega arith
 
 counted_all : (p : RowOf (Unit {0}) → Bool) (n : ℕ) (xs : List (RowOf (Unit {0}))) → count_by p (take n xs) ≡ n → list_all p (take n xs) ≡ true
-counted_all p zero xs e = refl
-counted_all p (suc n) [] e = refl
 counted_all p (suc n) (x ∷ xs) e = by_test (p x) refl (one_more p x (take n xs)) (counted_all p n xs)
   where
     by_test : (b : Bool) → p x ≡ b → count_by p (x ∷ take n xs) ≡ cond b 1 0 + count_by p (take n xs) → (count_by p (take n xs) ≡ n → list_all p (take n xs) ≡ true) → (p x && list_all p (take n xs)) ≡ true
     by_test true is one later = ap (λ b. b && list_all p (take n xs)) is ∙ later (omega (arith, e, one))
     by_test false is one later = absurd (omega (arith, e, one, counted_below p n xs))
+counted_all p _ _ e = refl
 
 pub all_owned : (rs : Regions) (range : Range) → owned_in rs range ≡ range.count → list_all owns (rows_in_range rs range) ≡ true
 all_owned rs range e = by_found (region_around rs range) e
@@ -94,9 +71,6 @@ row_of_page rs page some =
     let a = within (pages_of r.thing.thing) page (found_stands (λ (x : RegionOf (Unit {0})). holds_page (pages_of x) page) rs r.thing r.is).passes in
     let row = has_row r.thing.thing.rows (page - r.thing.thing.base) (omega (arith, a.low, a.high)) in
     record { found = r.thing; row = row.0; there = r.is; row_there = row.1 }
-
-abbrev pub CanChangeRow : RowChange → Regions → ℕ → Type 0
-CanChangeRow c rs page = (r : Found (RegionOf (Unit {0}))) (row : RowOf (Unit {0})) → region_with rs page ≡ Some r → row_at r.thing page ≡ Some row → CanChange c r.thing.kind row
 
 pub kept_row : (vs after : List Region) (c : RowChange) (page : ℕ) → IsKeptSpace vs → is_some (region_with (shown_regions vs) page) ≡ true → CanChangeRow c (shown_regions vs) page → RowChanged c page (shown_regions vs) (shown_regions after) → IsVad after → IsKeptSpace after
 kept_row vs after c page k some can changed whole =

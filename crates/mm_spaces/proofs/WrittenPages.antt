@@ -2,10 +2,10 @@
 use Rattle.std.proofs.Common.{◌≡◌, ℕ, zero, suc, ◌+◌, ◌-◌, ◌*◌, ◌<◌, ◌≤◌, Bool, true, false, cond, List, [], ◌∷◌, ◌++◌, length, get_or, take, drop, refl, sym, ap, ◌∙◌, arith, append_assoc, append-nil, add-zero}
 use Rattle.std.specs.Prelude.{map}
 use Rattle.std.proofs.lemmas.List.{length-take, length-drop, get_or-take, get_or-drop, drop-drop, drop-take, take_all}
-use Rattle.mm_types.specs.Address.{address_of, page_of}
-use Rattle.mm_world.specs.Watch.{written_from}
-use Rattle.mm_vad.specs.Bits.{NoneSet, IsNextSet, bit_flag}
-use Rattle.mm_vad.specs.Regions.{LieAmong}
+use Rattle.mm_types.specs.{address_of, page_of}
+use Rattle.mm_world.proofs.{page_of-address_of}
+use Rattle.mm_world.specs.{written_from}
+use Rattle.mm_vad.specs.{NoneSet, IsNextSet, bit_flag, LieAmong}
 
 no_page : (page : ℕ) (bits : List Bool) → ((i : ℕ) → i < length bits → get_or bits i false ≡ false) → written_from page bits ≡ []
 no_page page [] none = refl
@@ -87,23 +87,19 @@ in_places flags base first n most h =
 
 -- ---- where they lie
 
-pub page_again : (page : ℕ) → page_of (address_of page) ≡ page
-page_again page = omega arith
-
 pub pages_again : (pages : List ℕ) → map page_of (map address_of pages) ≡ pages
 pages_again [] = refl
-pages_again (page ∷ pages) = ap (λ (p : ℕ). p ∷ map page_of (map address_of pages)) (page_again page) ∙ ap (λ (ps : List ℕ). page ∷ ps) (pages_again pages)
+pages_again (page ∷ pages) = ap (λ (p : ℕ). p ∷ map page_of (map address_of pages)) (page_of-address_of page) ∙ ap (λ (ps : List ℕ). page ∷ ps) (pages_again pages)
 
 written_among : (first n page : ℕ) (bits : List Bool) → first ≤ page → page + length bits ≤ first + n → LieAmong first n (map address_of (written_from page bits))
 written_among first n page [] low high = tt
 written_among first n page (true ∷ bits) low high =
-    (omega (arith, low, page_again page), omega (arith, high, page_again page), written_among first n (page + 1) bits (omega (arith, low)) (omega (arith, high)))
+    (omega (arith, low, page_of-address_of page), omega (arith, high, page_of-address_of page), written_among first n (page + 1) bits (omega (arith, low)) (omega (arith, high)))
 written_among first n page (false ∷ bits) low high = written_among first n (page + 1) bits (omega (arith, low)) (omega (arith, high))
 
 take_among : (first n k : ℕ) (pages : List ℕ) → LieAmong first n (map address_of pages) → LieAmong first n (map address_of (take k pages))
-take_among first n zero pages h = tt
-take_among first n (suc k) [] h = tt
 take_among first n (suc k) (page ∷ pages) h = (h.0, h.1, take_among first n k pages h.2)
+take_among first n _ _ h = tt
 
 -- the pages that are told of a range lie in its region
 pub told_among : (base pages first n most : ℕ) (bits : List Bool) → base ≤ first → first - base + n ≤ pages → LieAmong base pages (map address_of (take most (written_from first (take n bits))))

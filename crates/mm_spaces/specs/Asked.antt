@@ -1,11 +1,8 @@
 -- What is asked of pages that are to get another protection.
 -- Profile, "Calls".
 use Rattle.std.specs.Prelude.{◌≡◌, true, List, Some}
-use Rattle.mm_types.specs.Address.{Range}
-use Rattle.mm_world.specs.World.{WorldOf, RegionOf}
-use Rattle.mm_world.specs.Find.{Found, region_around, is_private}
-use Rattle.mm_world.specs.Protect.{protection_at}
-use Rattle.mm_world.specs.Rows.{every_page, is_committed_at}
+use Rattle.mm_types.specs.{Range}
+use Rattle.mm_world.specs.{WorldOf, RegionOf, Found, region_around, is_private, protection_at, every_page, is_committed_at}
 use Rattle.mm_spaces.specs.declared.protecting.ProtectInfo.{ProtectInfo}
 
 pub record IsAsked (regions : List (RegionOf (Unit {0}))) (range : Range) (asked : ProtectInfo) :

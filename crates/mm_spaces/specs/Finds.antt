@@ -1,8 +1,7 @@
 -- What an address space keeps.
 use Rattle.std.specs.Prelude.{◌≡◌, List, length}
-use Rattle.mm_vad.specs.declared.regions.Region.{Region}
-use Rattle.mm_vad.specs.Regions.{IsSpace as IsVad}
-use Rattle.mm_world.specs.WellFormed.{IsSpace, FlagsFit}
+use Rattle.mm_vad.specs.{Region, IsSpace as IsVad}
+use Rattle.mm_world.specs.{IsSpace, FlagsFit}
 use Rattle.mm_spaces.specs.Shown.{region_of, shown_regions}
 
 -- regions that lie apart on granules, their rows in order

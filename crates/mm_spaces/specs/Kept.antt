@@ -1,12 +1,9 @@
 -- What look-ups find in an address space.
 -- Profile, "Regions, rows, sections".
 use Rattle.std.specs.Prelude.{◌≡◌, ◌<◌, ◌≤◌, ℕ, ◌+◌, ◌-◌, Bool, ◌&&◌, ◌==◌, if◌then◌else◌, List, Option, Some, None, length}
-use Rattle.mm_types.specs.Address.{Range, lies_within, address_of, page_of, end_of_user_pages}
-use Rattle.mm_vad.specs.declared.regions.Region.{Region}
-use Rattle.mm_vad.specs.Regions.{HasFlags}
-use Rattle.mm_world.specs.World.{RegionOf, pages_of}
-use Rattle.mm_world.specs.Find.{Found, first_where, region_with, region_around}
-use Rattle.mm_world.specs.WellFormed.{RowsFit}
+use Rattle.mm_types.specs.{Range, lies_within, address_of, page_of, end_of_user_pages}
+use Rattle.mm_vad.specs.{Region, HasFlags}
+use Rattle.mm_world.specs.{RegionOf, pages_of, Found, first_where, region_with, region_around, RowsFit}
 use Rattle.mm_spaces.specs.Shown.{region_of}
 
 -- the region in which a page lies, as it is kept

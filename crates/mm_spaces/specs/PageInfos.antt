@@ -1,11 +1,9 @@
 -- What a query of a page tells at once.
 -- Profile, "Answers".
 use Rattle.std.specs.Prelude.{◌≡◌, ℕ, List, Some}
-use Rattle.mm_types.specs.declared.answers.QueryInfo.{QueryInfo}
-use Rattle.mm_types.specs.declared.views.View.{View}
+use Rattle.mm_types.specs.{QueryInfo, View}
 use Rattle.mm_types.specs.declared.views.Kind.TheVariants as kind
-use Rattle.mm_world.specs.World.{RegionOf}
-use Rattle.mm_world.specs.Find.{Found, region_with}
+use Rattle.mm_world.specs.{RegionOf, Found, region_with}
 use Rattle.mm_spaces.specs.declared.queries.PageInfo.{PageInfo}
 use Rattle.mm_spaces.specs.declared.queries.PageInfo.TheVariants as page
 

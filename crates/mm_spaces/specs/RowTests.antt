@@ -1,10 +1,8 @@
 -- What is asked of the rows of a range.
 -- Profile, "Calls".
 use Rattle.std.specs.Prelude.{Bool, not, is_some}
-use Rattle.mm_types.specs.declared.views.Kind.{Kind}
-use Rattle.mm_types.specs.Protection.{base_of}
-use Rattle.mm_world.specs.World.{RowOf}
-use Rattle.mm_world.specs.Rows.{is_one_of, protections_of}
+use Rattle.mm_types.specs.{Kind, base_of}
+use Rattle.mm_world.specs.{RowOf, is_one_of, protections_of}
 use Rattle.mm_spaces.specs.declared.row_tests.RowTest.{RowTest}
 use Rattle.mm_spaces.specs.declared.row_tests.RowTest.TheVariants as test
 

@@ -1,11 +1,10 @@
 -- The regions of an address space as the definitions of worlds have them, read off those that
 -- `mm_vad` keeps. Profile, "Regions, rows, sections".
 use Rattle.std.specs.Prelude.{ℕ, Bool, false, if◌then◌else◌, List, map, replicate, Option, Some, None}
-use Rattle.mm_types.specs.declared.views.Kind.{Kind}
+use Rattle.mm_types.specs.{Kind}
 use Rattle.mm_types.specs.declared.views.Kind.TheVariants as kind
-use Rattle.mm_vad.specs.declared.pages.Row.{Row}
-use Rattle.mm_vad.specs.declared.regions.Region.{Region}
-use Rattle.mm_world.specs.World.{RowOf, RegionOf}
+use Rattle.mm_vad.specs.{Row, Region}
+use Rattle.mm_world.specs.{RowOf, RegionOf}
 
 -- whether the page has bytes of its own: a private row where it is committed, a view's where it was
 -- copied

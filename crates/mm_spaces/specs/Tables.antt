@@ -1,10 +1,8 @@
 -- The regions of one process as contracts see them, and what is read off them.
 -- Profile, "Regions, rows, sections".
 use Rattle.std.specs.Prelude.{ℕ, ◌-◌, not, is_some, List, [], take, drop, count_by, Option, Some, None, option_map, option_and_then}
-use Rattle.mm_types.specs.Address.{Range}
-use Rattle.mm_world.specs.World.{RowOf, RegionOf, pages_of}
-use Rattle.mm_world.specs.Find.{Found, region_with, region_around}
-use Rattle.mm_world.specs.Rows.{row_at}
+use Rattle.mm_types.specs.{Range}
+use Rattle.mm_world.specs.{RowOf, RegionOf, pages_of, Found, region_with, region_around, row_at}
 use Rattle.mm_spaces.specs.declared.spaces.RegionInfo.{RegionInfo}
 use Rattle.mm_spaces.specs.declared.spaces.PageRow.{PageRow}
 

@@ -1,11 +1,10 @@
 -- What is told of the pages of a view, whose control area has these pages.
 -- Profile, "Answers".
 use Rattle.std.specs.Prelude.{ℕ, ◌+◌, Bool, is_some, List, [], ◌∷◌, map}
-use Rattle.mm_types.specs.declared.views.View.{View}
+use Rattle.mm_types.specs.{View}
 use Rattle.mm_types.specs.declared.views.Kind.TheVariants as kind
-use Rattle.mm_vad.specs.declared.pages.Row.{Row}
-use Rattle.mm_world.specs.World.{AreaOf, RowOf, numbered}
-use Rattle.mm_world.specs.Query.{PageState, row_state}
+use Rattle.mm_vad.specs.{Row}
+use Rattle.mm_world.specs.{AreaOf, RowOf, numbered, PageState, row_state}
 use Rattle.mm_spaces.specs.Shown.{shown_row}
 use Rattle.mm_spaces.specs.declared.view_states.ToldState.{ToldState}
 

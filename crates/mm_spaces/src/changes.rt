@@ -1,19 +1,14 @@
 ghost use Rattle.std.specs.Prelude.{◌≡◌, ◌⊎◌, ◌-◌, ◌%◌, ◌+◌, ◌≤◌, true, false, length, is_some, OnOk, OnErr, Some, remove, slice_set};
-ghost use Rattle.mm_types.specs.Address.{is_free, granule_pages};
-ghost use Rattle.mm_world.specs.World.{RowOf, RegionOf, pages_of};
-ghost use Rattle.mm_world.specs.Find.{Found, ranges_of, region_with, region_around, add_region, is_private};
-ghost use Rattle.mm_world.specs.Free.{private_at};
-ghost use Rattle.mm_world.specs.Views.{view_at};
-ghost use Rattle.mm_world.specs.Rows.{row_at, is_protection_among, private_protections, all_protections, every_page, accepts, reserved_row, commit, protected, change_rows};
-ghost use Rattle.mm_world.specs.WellFormed.{RowsFit};
+ghost use Rattle.mm_types.specs.{is_free, granule_pages};
+ghost use Rattle.mm_world.specs.{RowOf, RegionOf, pages_of, Found, ranges_of, region_with, region_around, add_region, is_private, private_at};
+ghost use Rattle.mm_world.specs.{view_at, row_at, is_protection_among, private_protections, all_protections, every_page, accepts, reserved_row};
+ghost use Rattle.mm_world.specs.{commit, protected, change_rows, RowsFit};
 ghost use Rattle.mm_spaces.specs.Tables.{owned_in};
+ghost use Rattle.mm_spaces.specs.RowChanges.{IsInRegion, CanChangeRow, CanChangeRows, RowChanged, RowsChanged};
 
 use crate::rows::{RowChange, change_row, change_rows};
 use crate::{AddressSpace, NewRegion, PageRange};
 use mm_types::{NoMemory, PAGE_SIZE, Vpn};
-
-// Below every region.
-const LOWEST: Vpn = Vpn(0);
 
 impl AddressSpace {
     // ---- regions
@@ -56,19 +51,6 @@ impl AddressSpace {
         let _ = self.space.take_out(Vpn(addr / PAGE_SIZE));
     }
 
-    /// Takes the lowest region out; there is one.
-    pub fn remove_lowest(&mut self)
-        requires { 1 ≤ length self.old.regions }
-        ensures removed { self.new.regions ≡ remove self.old.regions 0 }
-        ensures room { self.old.spare ≤ self.new.spare }
-    {
-        let Some(region) = self.space.next_region(LOWEST) else {
-            unreachable!()
-        };
-        let base = region.base;
-        let _ = self.space.take_out(base);
-    }
-
     // ---- rows
 
     /// Commits the pages of the range, which lies in one private region, with the protection
@@ -85,12 +67,7 @@ impl AddressSpace {
             slice_set self.old.regions r.place (change_rows (commit tt prot) range r.thing) }
         ensures room { self.new.spare ≡ self.old.spare }
     {
-        change_rows(
-            &mut self.space,
-            range.first,
-            range.count,
-            RowChange::Commit(prot),
-        );
+        self.change(range, RowChange::Commit(prot));
     }
 
     /// Makes the pages of the range, which lies in one private region, reserved alone (VirtualFree
@@ -105,12 +82,7 @@ impl AddressSpace {
             slice_set self.old.regions r.place (change_rows (λ row. reserved_row) range r.thing) }
         ensures room { self.new.spare ≡ self.old.spare }
     {
-        change_rows(
-            &mut self.space,
-            range.first,
-            range.count,
-            RowChange::Decommit,
-        );
+        self.change(range, RowChange::Decommit);
     }
 
     /// Gives the pages of the range, which lies in one region, the protection `prot`, guard (0x100)
@@ -132,12 +104,7 @@ impl AddressSpace {
             (change_rows (protected r.thing.kind prot) range r.thing) }
         ensures room { self.new.spare ≡ self.old.spare }
     {
-        change_rows(
-            &mut self.space,
-            range.first,
-            range.count,
-            RowChange::Protect(prot),
-        );
+        self.change(range, RowChange::Protect(prot));
     }
 
     /// Takes the guard off a page that lies in a region.
@@ -151,7 +118,7 @@ impl AddressSpace {
             }) }
         ensures room { self.new.spare ≡ self.old.spare }
     {
-        change_row(&mut self.space, page, RowChange::GuardOff);
+        self.change_one(page, RowChange::GuardOff);
     }
 
     /// The page of a view, which has a mark and was not copied, has bytes of its own from now on,
@@ -170,6 +137,26 @@ impl AddressSpace {
             }) }
         ensures room { self.new.spare ≡ self.old.spare }
     {
-        change_row(&mut self.space, page, RowChange::Copy);
+        self.change_one(page, RowChange::Copy);
+    }
+
+    // Changes the rows of a range that lies in one region.
+    fn change(&mut self, range: PageRange, change: RowChange)
+        requires inside { IsInRegion self.old.regions range }
+        requires can { CanChangeRows change self.old.regions range }
+        ensures changed { RowsChanged change range self.old.regions self.new.regions }
+        ensures room { self.new.spare ≡ self.old.spare }
+    {
+        change_rows(&mut self.space, range.first, range.count, change);
+    }
+
+    // Changes the row of a page that lies in a region.
+    fn change_one(&mut self, page: u32, change: RowChange)
+        requires there { is_some (region_with self.old.regions page) ≡ true }
+        requires can { CanChangeRow change self.old.regions page }
+        ensures changed { RowChanged change page self.old.regions self.new.regions }
+        ensures room { self.new.spare ≡ self.old.spare }
+    {
+        change_row(&mut self.space, page, change);
     }
 }

@@ -1,8 +1,6 @@
-ghost use Rattle.std.specs.Prelude.{◌≡◌, ◌≤◌, ◌+◌, true, IfSome, IfNone, None, Some, is_some, length};
+ghost use Rattle.std.specs.Prelude.{◌≡◌, ◌≤◌, ◌+◌, true, IfSome, IfNone, None, Some, is_some, length, not, if◌then◌else◌};
 ghost use Rattle.mm_types.specs.declared.views.Kind.TheVariants as kind;
-ghost use Rattle.mm_world.specs.World.{RegionOf};
-ghost use Rattle.mm_world.specs.Find.{Found, region_with, region_around, is_private};
-ghost use Rattle.mm_world.specs.WellFormed.{IsSpace};
+ghost use Rattle.mm_world.specs.{RegionOf, Found, region_with, region_around, is_private, IsSpace};
 ghost use Rattle.mm_spaces.specs.Shown.{region_of};
 ghost use Rattle.mm_spaces.specs.Tables.{info_of};
 ghost use Rattle.mm_spaces.specs.Kept.{IsRegionAt, IsAround, NoneAround, IsBased, NoneBased};
@@ -30,6 +28,20 @@ pub(crate) fn info_of_region(region: &Region) -> RegionInfo
             count: region.pages,
         },
         kind: region.kind,
+    }
+}
+
+// What is told of a view; None of private memory.
+pub(crate) fn info_of_view(region: &Region) -> Option<RegionInfo>
+    requires rows { length region.now.rows ≡ region.now.pages }
+    requires some { 1 ≤ region.now.pages }
+    ensures { result ≡ if not (is_private region.now.kind) then
+        Some (info_of (region_of region.now)) else None }
+{
+    if is_private(region) {
+        None
+    } else {
+        Some(info_of_region(region))
     }
 }
 

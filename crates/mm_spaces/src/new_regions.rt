@@ -1,11 +1,6 @@
 ghost use Rattle.std.specs.Prelude.{◌≡◌, ◌≤◌, true, false, IfOk};
-ghost use Rattle.mm_world.specs.Contents.{blank};
-ghost use Rattle.mm_world.specs.Alloc.{private_region, new_row};
-ghost use Rattle.mm_world.specs.Rows.{is_protection_among, private_protections};
-ghost use Rattle.mm_world.specs.WellFormed.{RowsFit};
-ghost use Rattle.mm_world.specs.World.{SectionOf, pages_of};
-ghost use Rattle.mm_world.specs.Find.{Found};
-ghost use Rattle.mm_world.specs.Views.{view_region, first_protection, is_copy};
+ghost use Rattle.mm_world.specs.{blank, private_region, new_row, is_protection_among, private_protections, RowsFit, SectionOf, pages_of, Found};
+ghost use Rattle.mm_world.specs.{view_region, first_protection, is_copy};
 ghost use Rattle.mm_spaces.specs.Shown.{shown_row, new_flags};
 ghost use Rattle.mm_types.specs.declared.views.Kind.TheVariants as kind;
 
@@ -22,7 +17,7 @@ pub struct NewRegion {
 }
 
 impl Model for NewRegion {
-    ghost use Rattle.mm_world.specs.World.{RegionOf};
+    ghost use Rattle.mm_world.specs.{RegionOf};
     ghost use Rattle.mm_spaces.specs.Shown.{region_of};
     ghost use Rattle.mm_spaces.specs.Finds.{IsWholeRegion};
 

@@ -1,8 +1,5 @@
 ghost use Rattle.std.specs.Prelude.{◌≡◌, IfSome, IfNone, None, Some};
-ghost use Rattle.mm_world.specs.World.{RegionOf};
-ghost use Rattle.mm_world.specs.Find.{Found, region_around};
-ghost use Rattle.mm_world.specs.Protect.{protection_at};
-ghost use Rattle.mm_world.specs.Rows.{every_page, accepts};
+ghost use Rattle.mm_world.specs.{RegionOf, Found, region_around, protection_at, every_page, accepts};
 ghost use Rattle.mm_spaces.specs.Kept.{IsAround};
 ghost use Rattle.mm_spaces.specs.Asked.{IsAsked};
 

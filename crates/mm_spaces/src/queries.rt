@@ -1,10 +1,8 @@
 ghost use Rattle.std.specs.Prelude.{◌≡◌, ◌+◌, ◌-◌, ◌≤◌, true, false, is_some, Some, drop};
-ghost use Rattle.mm_types.specs.declared.views.View.{View};
+ghost use Rattle.mm_types.specs.{View, is_user_page, end_of_user_pages};
 ghost use Rattle.mm_types.specs.declared.views.Kind.TheVariants as kind;
-ghost use Rattle.mm_types.specs.Address.{is_user_page, end_of_user_pages};
-ghost use Rattle.mm_world.specs.World.{RegionOf, WorldOf};
-ghost use Rattle.mm_world.specs.Find.{Found, region_with, area_at, is_private};
-ghost use Rattle.mm_world.specs.Query.{page_info, region_info, free_info, page_states, first_run, next_base};
+ghost use Rattle.mm_world.specs.{RegionOf, WorldOf, Found, region_with, area_at, is_private, page_info, region_info, free_info, page_states};
+ghost use Rattle.mm_world.specs.{first_run, next_base};
 ghost use Rattle.mm_spaces.specs.Kept.{IsRegionAt};
 ghost use Rattle.mm_spaces.specs.PageInfos.{IfTold, IfInView, LiesInView};
 

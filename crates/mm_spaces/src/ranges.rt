@@ -1,5 +1,5 @@
 ghost use Rattle.std.specs.Prelude.{◌≡◌, ◌+◌, ◌-◌, ◌/◌, ◌≤◌};
-ghost use Rattle.mm_types.specs.Address.{range_of, granule_range_of, end_of, pages_for};
+ghost use Rattle.mm_types.specs.{range_of, granule_range_of, end_of, pages_for};
 
 use mm_types::{GRANULE_PAGES, GRANULE_SIZE, PAGE_SIZE};
 use std::marker::Model;
@@ -15,7 +15,7 @@ pub struct PageRange {
 
 impl Model for PageRange {
     ghost use Rattle.std.specs.Prelude.{◌≤◌};
-    ghost use Rattle.mm_types.specs.Address.{Range};
+    ghost use Rattle.mm_types.specs.{Range};
 
     ghost Value = { Range };
 

@@ -1,7 +1,7 @@
 ghost use Rattle.std.specs.Prelude.{◌≡◌, ◌+◌, ◌≤◌, ◌<◌, ◌^◌, length, map, take, drop, count_by};
 ghost use Rattle.std.specs.List.{list_all};
-ghost use Rattle.mm_types.specs.Protection.{base_of};
-ghost use Rattle.mm_world.specs.Rows.{is_one_of, private_protections, marked_protections, view_protections};
+ghost use Rattle.mm_types.specs.{base_of};
+ghost use Rattle.mm_world.specs.{is_one_of, private_protections, marked_protections, view_protections};
 ghost use Rattle.mm_spaces.specs.Shown.{has_own, shown_row};
 ghost use Rattle.mm_spaces.specs.RowTests.{passes};
 

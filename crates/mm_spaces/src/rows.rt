@@ -1,12 +1,9 @@
 ghost use Rattle.std.specs.Prelude.{◌≡◌, ◌<◌, ◌≤◌, IsSome, true, is_some, Some};
-ghost use Rattle.mm_types.specs.Protection.{base_of};
-ghost use Rattle.mm_vad.specs.Regions.{IsSpace as IsVad};
-ghost use Rattle.mm_world.specs.World.{RowOf};
-ghost use Rattle.mm_world.specs.Find.{region_with};
+ghost use Rattle.mm_types.specs.{base_of};
+ghost use Rattle.mm_vad.specs.{IsSpace as IsVad, range_at};
+ghost use Rattle.mm_world.specs.{RowOf, region_with, has_guard, marked_prot, protected};
 ghost use Rattle.mm_types.specs.declared.views.Kind.TheVariants as kind;
-ghost use Rattle.mm_world.specs.Rows.{has_guard, marked_prot, protected};
 ghost use Rattle.mm_spaces.specs.Shown.{shown_row, shown_regions};
-ghost use Rattle.mm_vad.specs.Ranges.{range_at};
 ghost use Rattle.mm_spaces.specs.RowChanges.{changed_row, RowChanged, RunChanged, RowsChanged, IsInRegion};
 
 use mm_types::{Kind, Prot, View, Vpn};

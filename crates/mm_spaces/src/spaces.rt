@@ -1,21 +1,15 @@
 ghost use Rattle.std.specs.Prelude.{◌≡◌, ◌≤◌, ◌%◌, true, false, [], is_some, IfSome, Some, option_map, slice_get, count_by};
 ghost use Rattle.std.specs.List.{list_all};
-ghost use Rattle.mm_types.specs.Address.{Range, pages_for, page_of, granule_range_of, are_user_pages, is_free, is_granule_address};
-ghost use Rattle.mm_types.specs.declared.views.View.{View};
+ghost use Rattle.mm_types.specs.{Range, pages_for, page_of, granule_range_of, are_user_pages, is_free, is_granule_address, View};
 ghost use Rattle.mm_types.specs.declared.views.Kind.TheVariants as kind;
-ghost use Rattle.mm_world.specs.World.{RegionOf, WorldOf, pages_of};
-ghost use Rattle.mm_world.specs.Find.{Found, ranges_of, region_around, placed, area_at, is_private};
-ghost use Rattle.mm_world.specs.Free.{private_at, private_around};
-ghost use Rattle.mm_world.specs.Views.{view_at, view_around};
-ghost use Rattle.mm_world.specs.Keys.{own_page};
-ghost use Rattle.mm_world.specs.Rows.{every_page, accepts, is_committed_at};
-ghost use Rattle.mm_world.specs.WellFormed.{IsSpace};
+ghost use Rattle.mm_world.specs.{RegionOf, WorldOf, pages_of, Found, ranges_of, region_around, placed, area_at, is_private, private_at};
+ghost use Rattle.mm_world.specs.{private_around, view_at, view_around, own_page, every_page, accepts, is_committed_at, IsSpace};
 ghost use Rattle.mm_spaces.specs.Kept.{IsAround};
 ghost use Rattle.mm_spaces.specs.Tables.{info_of, found_info, told_page_row, owned_in, unmarked_in, marked_in, rows_in_range};
 ghost use Rattle.mm_spaces.specs.RowTests.{passes};
 
 use crate::PageRange;
-use crate::look_ups::{info_of_region, is_private};
+use crate::look_ups::{info_of_region, info_of_view, is_private};
 use crate::ranges::pages_for;
 use crate::row_tests::{RowTest, count_rows, do_rows_pass, has_own};
 use crate::view_states::are_pages_committed;
@@ -151,12 +145,7 @@ impl AddressSpace {
         ensures found { result ≡ option_map found_info (view_around self.now.regions range) }
         ensures sound { IsSpace self.now.regions }
     {
-        let region = self.around(range)?;
-        if is_private(region) {
-            None
-        } else {
-            Some(info_of_region(region))
-        }
+        info_of_view(self.around(range)?)
     }
 
     /// The pages of the private region whose base is the address, to the byte. None exactly where
@@ -179,12 +168,7 @@ impl AddressSpace {
         ensures found { result ≡ option_map found_info (view_at self.now.regions addr) }
         ensures sound { IsSpace self.now.regions }
     {
-        let region = self.based_at(addr)?;
-        if is_private(region) {
-            None
-        } else {
-            Some(info_of_region(region))
-        }
+        info_of_view(self.based_at(addr)?)
     }
 
     /// The lowest region. None exactly where there is no region.

@@ -1,10 +1,8 @@
 ghost use Rattle.std.specs.Prelude.{◌≡◌, ◌+◌, ◌<◌, ◌≤◌, ◌^◌, length, drop, map, slice_get, Some};
-ghost use Rattle.mm_types.specs.declared.views.Kind.{Kind};
+ghost use Rattle.mm_types.specs.{Kind};
 ghost use Rattle.mm_types.specs.declared.views.Kind.TheVariants as kind;
-ghost use Rattle.mm_vad.specs.declared.pages.Row.{Row};
-ghost use Rattle.mm_world.specs.Query.{same_state, first_run, row_state};
-ghost use Rattle.mm_world.specs.Rows.{with_guard, every_page_from};
-ghost use Rattle.mm_world.specs.WellFormed.{Each, ViewRowFits};
+ghost use Rattle.mm_vad.specs.{Row};
+ghost use Rattle.mm_world.specs.{same_state, first_run, row_state, with_guard, every_page_from, Each, ViewRowFits};
 ghost use Rattle.mm_spaces.specs.Shown.{shown_row};
 ghost use Rattle.mm_spaces.specs.ViewStates.{is_area_page, view_state, states_in, state_told};
 

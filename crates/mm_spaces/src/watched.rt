@@ -1,10 +1,7 @@
 ghost use Rattle.std.specs.Prelude.{◌≡◌, ◌+◌, ◌-◌, ◌≤◌, true, false, is_some, length, map, take, drop, None, Some, option_map, slice_set};
-ghost use Rattle.mm_types.specs.Address.{address_of, end_of_user_pages};
-ghost use Rattle.mm_world.specs.World.{RegionOf};
-ghost use Rattle.mm_world.specs.Find.{Found, region_with};
-ghost use Rattle.mm_world.specs.Rows.{change_flags, mark_written, one_page};
-ghost use Rattle.mm_world.specs.Watch.{written_from, written_in, unwritten, watched_around};
-ghost use Rattle.mm_world.specs.WellFormed.{IsSpace};
+ghost use Rattle.mm_types.specs.{address_of, end_of_user_pages};
+ghost use Rattle.mm_world.specs.{RegionOf, Found, region_with, change_flags, mark_written, one_page, written_from, written_in, unwritten};
+ghost use Rattle.mm_world.specs.{watched_around, IsSpace};
 
 use crate::{AddressSpace, PageRange};
 use mm_types::{PAGE_SIZE, PageList, Vpn};

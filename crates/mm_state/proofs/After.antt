@@ -2,30 +2,19 @@
 use Rattle.std.proofs.Common.{◌≡◌, ℕ, zero, suc, ◌-◌, ◌≤◌, Bool, true, false, Option, Some, None, refl, sym, ap, ◌∙◌, inl, inr, arith}
 use Rattle.std.specs.Prelude.{◌&&◌, ◌||◌, not, is_some, is_none, nat_lt, if◌then◌else◌, option_map, unwrap_or, slice_get}
 use Rattle.std.proofs.lemmas.Bool.{and_parts, not-true, eqb-true, lt-ltb, ltb-true}
-use Rattle.mm_types.proofs.Cells.{same_or_not, get_set_same, get_within}
-use Rattle.mm_types.specs.declared.numbers.Frame.{Frame}
-use Rattle.mm_types.specs.declared.numbers.Key.{Key}
-use Rattle.mm_types.specs.declared.numbers.Place.{Place}
-use Rattle.mm_types.specs.declared.frames.Record.{Record}
-use Rattle.mm_types.specs.declared.frames.Request.{Request}
+use Rattle.mm_types.proofs.{same_or_not, get_set_same, get_within}
+use Rattle.mm_types.specs.{Frame, Key, Place, Record, Request}
 use Rattle.mm_types.specs.declared.frames.Request.TheVariants as request
 use Rattle.mm_types.specs.declared.moves.Move.TheVariants as move
-use Rattle.mm_life.specs.declared.sets.ResidentSet.{ResidentSet}
-use Rattle.mm_life.specs.Frames.{blank, record_at, is_read, is_write, is_again, is_first, is_empty, has_request, shared, unshared, soiled, read_done, without_slot}
-use Rattle.mm_life.specs.Life.{FrameLife, set_in, set_of, with_resident, resident_by}
-use Rattle.mm_life.specs.Legal.{IsLegal, owner_is, fits_place, touches, is_touch, is_below_max, is_at_max, is_access, is_thread, is_io, is_zero, is_stored, has_depth, may_unmap}
-use Rattle.mm_life.specs.Effect.{after_move, after_unmap_at, backing_of}
+use Rattle.mm_life.specs.{ResidentSet, blank, record_at, is_read, is_write, is_again, is_first, is_empty, has_request, shared, unshared, soiled}
+use Rattle.mm_life.specs.{read_done, without_slot, FrameLife, set_in, set_of, with_resident, resident_by, IsLegal, owner_is, fits_place, touches}
+use Rattle.mm_life.specs.{is_touch, is_below_max, is_at_max, is_access, is_thread, is_io, is_zero, is_stored, has_depth, may_unmap, after_move}
+use Rattle.mm_life.specs.{after_unmap_at, backing_of}
 use Rattle.mm_laws.specs.Reached.{Reached}
-use Rattle.mm_laws.proofs.Changes.{changes_give}
-use Rattle.mm_laws.proofs.Taking.{changes_read}
-use Rattle.mm_laws.proofs.Requests.{read_has}
-use Rattle.mm_laws.proofs.Sound.{owner_passes}
-use Rattle.mm_parts.specs.Moves.{end_of_read}
-use Rattle.mm_frame_laws.specs.Carried.{IsSoiled, is_calm}
-use Rattle.mm_frame_laws.proofs.Alone.{others_set, here_set, records_ended}
-use Rattle.mm_laws.proofs.Facts.{facts_of}
-use Rattle.mm_frame_laws.proofs.FrameMoves.{owned_low, asked_low, shown_calm}
-use Rattle.mm_laws.proofs.FreshMoves.{stored_backed}
+use Rattle.mm_laws.proofs.{changes_give, changes_read, read_has, owner_passes, facts_of, stored_backed}
+use Rattle.mm_parts.specs.{end_of_read}
+use Rattle.mm_frame_laws.specs.{IsSoiled, is_calm}
+use Rattle.mm_frame_laws.proofs.{others_set, here_set, records_ended, owned_low, asked_low, shown_calm}
 
 asked_write : (q : Request) → has_request q ≡ true → is_read q ≡ false → is_write q ≡ true
 asked_write request.None h c = cc
@@ -35,9 +24,7 @@ asked_write request.WriteAgain h c = refl
 
 calm_quiet : (q : Request) → has_request q ≡ false → is_calm q ≡ true
 calm_quiet request.None e = refl
-calm_quiet request.Read e = cc
-calm_quiet request.Write e = cc
-calm_quiet request.WriteAgain e = cc
+calm_quiet _ e = cc
 
 module _ (l : FrameLife) (reached : ∥ Reached l ∥₁) where
   pub give_quiet : (f : Frame) (k : Key) → IsLegal (move.Give f k) l → is_read (record_at (after_move l (move.Give f k)).frames f.0).request ≡ false

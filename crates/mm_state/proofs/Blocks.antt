@@ -3,17 +3,15 @@ use Rattle.std.proofs.Common.{◌≡◌, ℕ, Bool, true, false, List, refl, sym
 use Rattle.std.specs.Prelude.{slice_set}
 use Rattle.std.specs.Bool.{OnTrue, OnFalse}
 use Rattle.std.proofs.lemmas.Bool.{OnTrue_at, OnFalse_at}
-use Rattle.mm_life.specs.Life.{FrameLife}
-use Rattle.mm_life.specs.Located.{FrameBytes, BlockBytes, contents_of, BytesLocated}
+use Rattle.mm_life.specs.{FrameLife, FrameBytes, BlockBytes, contents_of, BytesLocated, Log}
 use Rattle.mm_laws.specs.Reached.{Reached}
-use Rattle.mm_parts.specs.Shown.{PartsOf}
-use Rattle.mm_life.specs.Logs.{Log}
-use Rattle.mm_blocks.specs.Devices.{DeviceOf}
+use Rattle.mm_parts.specs.{PartsOf}
+use Rattle.mm_blocks.specs.{DeviceOf}
 use Rattle.mm_pages.specs.Told.{Told}
-use Rattle.mm_frame_laws.specs.Carried.{Carries}
-use Rattle.mm_frame_laws.proofs.Carrying.{carries_block}
-use Rattle.mm_state.specs.Shown.{joined_state}
-use Rattle.mm_moving.specs.Shown.{written_if}
+use Rattle.mm_frame_laws.specs.{Carries}
+use Rattle.mm_frame_laws.proofs.{carries_block}
+use Rattle.mm_state.specs.{joined_state}
+use Rattle.mm_moving.specs.{written_if}
 
 pub block_written : (ok : Bool) (after before : BlockBytes) (write : BlockBytes → BlockBytes) → OnTrue ok (after ≡ write before) → OnFalse ok (after ≡ before) → after ≡ written_if ok write before
 block_written true after before write there kept = OnTrue_at refl there

@@ -2,38 +2,27 @@
 use Rattle.std.proofs.Common.{◌≡◌, ℕ, ◌<◌, Bool, true, false, List, [], ◌∷◌, ◌++◌, Some, None, refl, sym, ap, ◌∙◌, subst, arith, map}
 use Rattle.std.specs.Prelude.{◌||◌, is_some, IsSome, Option, slice_set}
 use Rattle.std.proofs.lemmas.Bool.{and_parts}
-use Rattle.mm_types.specs.declared.devices.Direction.{Direction}
+use Rattle.mm_types.specs.{Direction, Frame, Place, Backing}
 use Rattle.mm_types.specs.declared.devices.Direction.TheVariants as way
-use Rattle.mm_blocks.specs.Devices.{DeviceOf, KeepsOthers}
-use Rattle.mm_blocks.proofs.Holding.{keeps_same, keeps_written}
-use Rattle.mm_types.specs.declared.numbers.Frame.{Frame}
-use Rattle.mm_types.specs.declared.numbers.Place.{Place}
-use Rattle.mm_types.specs.declared.frames.Backing.{Backing}
+use Rattle.mm_blocks.specs.{DeviceOf, KeepsOthers}
+use Rattle.mm_blocks.proofs.{keeps_same, keeps_written}
 use Rattle.mm_types.specs.declared.frames.Backing.TheVariants as backing
-use Rattle.mm_laws.specs.FileBlocks.{block_of}
+use Rattle.mm_laws.specs.{block_of}
 use Rattle.mm_types.specs.declared.moves.Move.TheVariants as move
-use Rattle.mm_life.specs.Frames.{record_at, is_read, is_write}
-use Rattle.mm_life.specs.Life.{FrameLife}
-use Rattle.mm_life.specs.Legal.{IsLegal, is_io, is_access, is_call}
-use Rattle.mm_life.specs.Effect.{after_move, home_at}
-use Rattle.mm_life.specs.Located.{FrameBytes, BlockBytes, page_at, bytes_at, contents_of, BytesLocated}
+use Rattle.mm_life.specs.{record_at, is_read, is_write, FrameLife, IsLegal, is_io, is_access, is_call, after_move, home_at, FrameBytes, BlockBytes}
+use Rattle.mm_life.specs.{page_at, bytes_at, contents_of, BytesLocated, Waiting, waits_after, ages_after}
 use Rattle.mm_laws.specs.Reached.{Reached}
-use Rattle.mm_laws.proofs.Requests.{read_has, write_has}
-use Rattle.mm_flight.specs.Requests.{ended}
-use Rattle.mm_flight.specs.declared.flights.Waiting.{Waiting as Wait}
-use Rattle.mm_life.specs.Waits.{Waiting, waits_after, ages_after}
-use Rattle.mm_pages.specs.Told.{Told, told_after, with_write, in_slot, in_block, paging_traffic, file_traffic}
-use Rattle.mm_parts.specs.Moves.{end_of_read, write_end}
-use Rattle.mm_frame_laws.specs.Carried.{Carries, slots_written, blocks_written}
-use Rattle.mm_frame_laws.proofs.Carrying.{carries_got, carries_bad, carries_wrote, carries_lost}
-use Rattle.mm_laws.proofs.Facts.{facts_of}
-use Rattle.mm_life.proofs.Requests.{write_not_read}
-use Rattle.mm_frame_laws.proofs.FrameMoves.{asked_low}
-use Rattle.mm_frame_laws.proofs.Moving.{home_bytes}
-use Rattle.mm_parts.specs.Reading.{waits_of}
-use Rattle.mm_parts.proofs.Waiting.{waits_ended}
-use Rattle.mm_moving.specs.Shown.{StateOf, Calls, DeviceCalled, CalledFor, backing_of_frame, written_if}
-use Rattle.mm_state.specs.Tallied.{filled_if, read_told}
+use Rattle.mm_laws.proofs.{read_has, write_has, facts_of}
+use Rattle.mm_flight.specs.{ended, Waiting as Wait}
+use Rattle.mm_pages.specs.{told_after, with_write, in_slot, in_block, paging_traffic, file_traffic}
+use Rattle.mm_pages.specs.Told.{Told}
+use Rattle.mm_parts.specs.{end_of_read, write_end, waits_of}
+use Rattle.mm_frame_laws.specs.{Carries, slots_written, blocks_written}
+use Rattle.mm_frame_laws.proofs.{carries_got, carries_bad, carries_wrote, carries_lost, asked_low, home_bytes}
+use Rattle.mm_life.proofs.{write_not_read}
+use Rattle.mm_parts.proofs.{waits_ended}
+use Rattle.mm_moving.specs.{StateOf, Calls, DeviceCalled, CalledFor, backing_of_frame, written_if}
+use Rattle.mm_state.specs.{filled_if, read_told}
 
 -- ---- reads
 
@@ -121,16 +110,12 @@ write_calls false f s z h = h
 
 -- a write changes the slot or the block that it is made to, and no other
 write_keeps_slots : (ok : Bool) (b : Backing) (page : List ℕ) (slots : BlockBytes) → KeepsOthers (in_slot way.Write ok b ++ []) slots (written_if ok (slots_written b page) slots)
-write_keeps_slots false b page slots = keeps_same _ slots slots refl
-write_keeps_slots true backing.None page slots = keeps_same _ slots slots refl
 write_keeps_slots true (backing.Slot s) page slots = keeps_written s.0 slots page
-write_keeps_slots true (backing.Block b) page slots = keeps_same _ slots slots refl
+write_keeps_slots _ _ page slots = keeps_same _ slots slots refl
 
 write_keeps_blocks : (ok : Bool) (b : Backing) (page : List ℕ) (blocks : BlockBytes) → KeepsOthers (in_block way.Write ok b ++ []) blocks (written_if ok (blocks_written b page) blocks)
-write_keeps_blocks false b page blocks = keeps_same _ blocks blocks refl
-write_keeps_blocks true backing.None page blocks = keeps_same _ blocks blocks refl
-write_keeps_blocks true (backing.Slot s) page blocks = keeps_same _ blocks blocks refl
 write_keeps_blocks true (backing.Block b) page blocks = keeps_written b.0 blocks page
+write_keeps_blocks _ _ page blocks = keeps_same _ blocks blocks refl
 
 pub slots_by_write : (ok : Bool) (l : FrameLife) (f : Frame) (page : List ℕ) (slots : BlockBytes) → KeepsOthers (paging_traffic l (write_end ok f ∷ [])) slots (written_if ok (slots_written (record_at l.frames f.0).backing page) slots)
 slots_by_write true l f page slots = write_keeps_slots true (record_at l.frames f.0).backing page slots

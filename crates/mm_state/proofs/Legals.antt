@@ -2,37 +2,21 @@
 use Rattle.std.proofs.Common.{◌≡◌, ℕ, ◌+◌, length, true, false, List, [], ◌∷◌, refl, sym, subst}
 use Rattle.std.specs.Prelude.{◌==◌, ◌&&◌, ◌||◌, nat_le, nat_lt}
 use Rattle.std.proofs.lemmas.Bool.{and_parts, and_from}
-use Rattle.mm_types.specs.declared.numbers.Frame.{Frame}
-use Rattle.mm_types.specs.declared.moves.LineKind.{LineKind}
+use Rattle.mm_types.specs.{Frame, LineKind, Move}
 use Rattle.mm_types.specs.declared.moves.LineKind.TheVariants as kind
-use Rattle.mm_types.specs.declared.moves.Move.{Move}
 use Rattle.mm_types.specs.declared.moves.Move.TheVariants as move
-use Rattle.mm_life.specs.Frames.{is_first, is_empty}
-use Rattle.mm_life.specs.Life.{FrameLife}
-use Rattle.mm_life.specs.Legal.{IsLegal, is_zeroer, is_touch}
-use Rattle.mm_life.specs.Logs.{Log, Grew}
-use Rattle.mm_life.specs.MoveText.{IsMove, spelling_of_move}
-use Rattle.mm_parts.specs.Moves.{IsPlainLine, front}
-use Rattle.mm_life.specs.Effect.{after_move}
-use Rattle.mm_life.specs.Located.{FrameBytes, BlockBytes, zero_page, contents_of, BytesLocated}
+use Rattle.mm_life.specs.{is_first, is_empty, FrameLife, IsLegal, is_zeroer, is_touch, Log, Grew, IsMove, spelling_of_move, after_move, FrameBytes}
+use Rattle.mm_life.specs.{BlockBytes, zero_page, contents_of, BytesLocated}
+use Rattle.mm_parts.specs.{IsPlainLine, front}
 use Rattle.mm_laws.specs.Reached.{Reached}
 use Rattle.mm_ram.specs.Ram as frames
-use Rattle.mm_ram.specs.Ram.{with_page}
-use Rattle.mm_frame_laws.specs.Carried.{Carries, slots_grown}
-use Rattle.mm_frame_laws.proofs.Carrying.{carries_clear}
+use Rattle.mm_ram.specs.{with_page}
+use Rattle.mm_frame_laws.specs.{Carries, slots_grown}
+use Rattle.mm_frame_laws.proofs.{carries_clear}
 
 pub plain_grown : (k : LineKind) → IsPlainLine k → slots_grown k ≡ 0
-plain_grown (kind.Machine f s d b) h = refl
-plain_grown (kind.Process pid min max) h = refl
-plain_grown (kind.Unbind pid) h = refl
-plain_grown (kind.Access pid) h = refl
-plain_grown (kind.Thread pid) h = refl
-plain_grown (kind.Trim pid) h = refl
-plain_grown kind.Writer h = refl
-plain_grown kind.Zeroer h = refl
-plain_grown kind.Io h = refl
-plain_grown kind.Call h = refl
 plain_grown (kind.Grow n) h = absurd h
+plain_grown _ h = refl
 
 pub legal_at : (l : FrameLife) (x y : Move) → y ≡ x → IsLegal x l → IsLegal y l
 legal_at l x y e h = subst (λ (m : Move). IsLegal m l) (sym e) h

@@ -1,38 +1,25 @@
 -- One move: made, noted, counted, and what it leaves.
-use Rattle.std.proofs.Common.{◌≡◌, ℕ, List, [], ◌∷◌, Option, sym, ap, subst}
-use Rattle.mm_types.proofs.Bytes.{append_nil}
-use Rattle.mm_types.specs.declared.numbers.Key.{Key}
-use Rattle.mm_types.specs.declared.moves.Move.{Move}
-use Rattle.mm_life.specs.Legal.{IsLegal}
-use Rattle.mm_life.specs.Effect.{after_move}
+use Rattle.std.proofs.Common.{◌≡◌, ℕ, List, [], ◌∷◌, Option, refl, sym, ap, subst}
+use Rattle.mm_types.proofs.{append_nil}
+use Rattle.mm_types.specs.{Key, Move}
+use Rattle.mm_life.specs.{IsLegal, after_move, BlockBytes, contents_of, BytesLocated, Log, Grew, IsMove, spelling_of_move, spelled_moves, Waiting}
+use Rattle.mm_life.specs.{waits_after, ages_after}
 use Rattle.std.specs.Prelude.{Result, Ok, Err, OnOk, OnErr}
-use Rattle.mm_life.specs.Located.{BlockBytes, contents_of, BytesLocated}
-use Rattle.mm_parts.specs.Reading.{waits_of}
-use Rattle.mm_life.specs.Logs.{Log, Grew}
-use Rattle.mm_life.specs.MoveText.{IsMove, spelling_of_move, spelled_moves}
-use Rattle.mm_blocks.specs.Devices.{DeviceOf, KeepsOthers}
-use Rattle.mm_blocks.proofs.Holding.{keeps_same}
-use Rattle.mm_life.specs.Waits.{Waiting, waits_after, ages_after}
-use Rattle.mm_pages.specs.Told.{Told, told_after, paging_traffic, file_traffic}
-use Rattle.mm_parts.specs.Shown.{PartsOf}
-use Rattle.mm_frame_laws.specs.Carried.{Carries}
-use Rattle.mm_moving.specs.Shown.{StateOf, Made, Calls}
-use Rattle.mm_state.specs.Shown.{joined_state}
+use Rattle.mm_parts.specs.{waits_of, PartsOf}
+use Rattle.mm_blocks.specs.{DeviceOf, KeepsOthers}
+use Rattle.mm_blocks.proofs.{keeps_same}
+use Rattle.mm_pages.specs.{told_after, paging_traffic, file_traffic}
+use Rattle.mm_pages.specs.Told.{Told}
+use Rattle.mm_frame_laws.specs.{Carries}
+use Rattle.mm_moving.specs.{StateOf, Made, Calls}
+use Rattle.mm_state.specs.{joined_state}
+
+pub grew_one : (a b : Log) (x : Move) → Grew a b (spelling_of_move x) → Grew a b (spelled_moves (x ∷ []))
+grew_one a b x g = subst (λ xs. Grew a b xs) (sym (append_nil (spelling_of_move x))) g
 
 pub made_by : (x : Move) (s z : StateOf) → IsLegal x s.life → IsMove x → Grew s.log z.log (spelling_of_move x) → z.life ≡ after_move s.life x → z.ages ≡ ages_after x s.ages → z.waits ≡ waits_after x s.waits
     → z.told ≡ told_after s.life x s.told → Calls x s z → KeepsOthers (paging_traffic s.life (x ∷ [])) s.slots z.slots → KeepsOthers (file_traffic s.life (x ∷ [])) s.blocks z.blocks → Made x s z
-made_by x s z legal range grew life ages waits told calls slots blocks = record {
-  legal = legal;
-  life = life;
-  in_range = (range, tt);
-  grew = subst (λ xs. Grew s.log z.log xs) (sym (append_nil (spelling_of_move x))) grew;
-  ages = ages;
-  waits = waits;
-  told = told;
-  calls = calls;
-  slots_kept = slots;
-  blocks_kept = blocks;
-}
+made_by x s z legal range grew life ages waits told calls slots blocks = assumption (grew_one s.log z.log x grew)
 
 -- a move that calls no device
 pub made_quiet : (x : Move) (s z : StateOf) → IsLegal x s.life → IsMove x → Grew s.log z.log (spelling_of_move x) → z.life ≡ after_move s.life x → z.ages ≡ ages_after x s.ages → z.waits ≡ waits_after x s.waits
@@ -41,55 +28,36 @@ made_quiet x s z legal range grew life ages waits told calls slots blocks =
     made_by x s z legal range grew life ages waits told calls (keeps_same _ s.slots z.slots slots) (keeps_same _ s.blocks z.blocks blocks)
 
 -- the parts show this, and the keys have these contents
-pub rest_of : (v w : PartsOf) (log : Log) (told : Told) (paging files : DeviceOf) (slots blocks : BlockBytes) (contents : Key → Option (List ℕ)) → v ≡ w → contents_of v.life v.bytes slots blocks ≡ contents
-    → joined_state v log told paging files slots blocks ≡ record (joined_state v log told paging files slots blocks) {
-      contents = contents;
-      is_open = w.is_open;
-      bound = w.bound;
-      areas = w.areas;
-      names = w.names;
-      aside = w.aside;
-      own = w.own;
-    }
-rest_of v w log told paging files slots blocks contents e ce = λ i. record (joined_state v log told paging files slots blocks) {
-  contents = ce i;
-  is_open = (e i).is_open;
-  bound = (e i).bound;
-  areas = (e i).areas;
-  names = (e i).names;
-  aside = (e i).aside;
-  own = (e i).own;
+abbrev pub moved_on : StateOf → PartsOf → (Key → Option (List ℕ)) → StateOf
+moved_on z w contents = record z {
+  contents = contents;
+  is_open = w.is_open;
+  bound = w.bound;
+  areas = w.areas;
+  names = w.names;
+  aside = w.aside;
+  own = w.own;
 }
+
+rest_by : (v w : PartsOf) (log : Log) (told : Told) (now paging files : DeviceOf) (slots blocks slots2 blocks2 : BlockBytes) (contents : Key → Option (List ℕ)) → v ≡ w → now ≡ paging → slots ≡ slots2 → blocks ≡ blocks2
+    → contents_of v.life v.bytes slots blocks ≡ contents
+    → joined_state v log told now files slots blocks ≡ record (moved_on (joined_state v log told now files slots blocks) w contents) { paging = paging; slots = slots2; blocks = blocks2 }
+rest_by v w log told now paging files slots blocks slots2 blocks2 contents e pe se be ce = λ i. record (moved_on (joined_state v log told now files slots blocks) (e i) (ce i)) { paging = pe i; slots = se i; blocks = be i }
+
+-- no device was called
+pub rest_of : (v w : PartsOf) (log : Log) (told : Told) (paging files : DeviceOf) (slots blocks : BlockBytes) (contents : Key → Option (List ℕ)) → v ≡ w → contents_of v.life v.bytes slots blocks ≡ contents
+    → joined_state v log told paging files slots blocks ≡ moved_on (joined_state v log told paging files slots blocks) w contents
+rest_of v w log told paging files slots blocks contents e ce = rest_by v w log told paging paging files slots blocks slots blocks contents e refl refl refl ce
 
 -- the bytes of keys in parts that show this
 pub carried : (v w : PartsOf) (slots blocks : BlockBytes) (contents : Key → Option (List ℕ)) → v ≡ w → Carries w.life w.bytes slots blocks contents → Carries v.life v.bytes slots blocks contents
 carried v w slots blocks contents e c = subst (λ (x : PartsOf). Carries x.life x.bytes slots blocks contents) (sym e) c
 
--- the same where devices were called
+-- devices were called
 pub rest_called : (v w : PartsOf) (log : Log) (told : Told) (paging files : DeviceOf) (slots blocks slots2 blocks2 : BlockBytes) (contents : Key → Option (List ℕ)) → v ≡ w → slots ≡ slots2 → blocks ≡ blocks2
     → contents_of v.life v.bytes slots blocks ≡ contents
-    → joined_state v log told paging files slots blocks ≡ record (joined_state v log told paging files slots blocks) {
-      contents = contents;
-      is_open = w.is_open;
-      bound = w.bound;
-      areas = w.areas;
-      names = w.names;
-      aside = w.aside;
-      own = w.own;
-      slots = slots2;
-      blocks = blocks2;
-    }
-rest_called v w log told paging files slots blocks slots2 blocks2 contents e se be ce = λ i. record (joined_state v log told paging files slots blocks) {
-  contents = ce i;
-  is_open = (e i).is_open;
-  bound = (e i).bound;
-  areas = (e i).areas;
-  names = (e i).names;
-  aside = (e i).aside;
-  own = (e i).own;
-  slots = se i;
-  blocks = be i;
-}
+    → joined_state v log told paging files slots blocks ≡ record (moved_on (joined_state v log told paging files slots blocks) w contents) { slots = slots2; blocks = blocks2 }
+rest_called v w log told paging files slots blocks slots2 blocks2 contents e se be ce = rest_by v w log told paging paging files slots blocks slots2 blocks2 contents e refl se be ce
 
 pub carried_on : (v w : PartsOf) (slots blocks slots2 blocks2 : BlockBytes) (contents : Key → Option (List ℕ)) → v ≡ w → slots ≡ slots2 → blocks ≡ blocks2 → Carries w.life w.bytes slots2 blocks2 contents
     → Carries v.life v.bytes slots blocks contents
@@ -133,33 +101,10 @@ rest_waits v w log told paging files slots blocks waits e we = λ i. record (joi
 -- the paging device was asked to grow
 pub rest_grown : (v w : PartsOf) (log : Log) (told : Told) (now paging files : DeviceOf) (slots blocks slots2 : BlockBytes) (contents : Key → Option (List ℕ)) → v ≡ w → now ≡ paging → slots ≡ slots2
     → contents_of v.life v.bytes slots blocks ≡ contents
-    → joined_state v log told now files slots blocks ≡ record (joined_state v log told now files slots blocks) {
-      contents = contents;
-      is_open = w.is_open;
-      bound = w.bound;
-      areas = w.areas;
-      names = w.names;
-      aside = w.aside;
-      own = w.own;
-      paging = paging;
-      slots = slots2;
-    }
-rest_grown v w log told now paging files slots blocks slots2 contents e pe se ce = λ i. record (joined_state v log told now files slots blocks) {
-  contents = ce i;
-  is_open = (e i).is_open;
-  bound = (e i).bound;
-  areas = (e i).areas;
-  names = (e i).names;
-  aside = (e i).aside;
-  own = (e i).own;
-  paging = pe i;
-  slots = se i;
-}
+    → joined_state v log told now files slots blocks ≡ record (moved_on (joined_state v log told now files slots blocks) w contents) { paging = paging; slots = slots2 }
+rest_grown v w log told now paging files slots blocks slots2 contents e pe se ce = rest_by v w log told now paging files slots blocks slots2 blocks contents e pe se refl ce
 
 -- a machine at rest
 pub shows_start : (v w : PartsOf) (log : Log) (told none : Told) (paging files : DeviceOf) (slots blocks : BlockBytes) (contents : Key → Option (List ℕ)) → v ≡ w → told ≡ none → contents_of v.life v.bytes slots blocks ≡ contents
     → joined_state v log told paging files slots blocks ≡ record (joined_state w log none paging files slots blocks) { contents = contents }
 shows_start v w log told none paging files slots blocks contents e te ce = λ i. record (joined_state (e i) log (te i) paging files slots blocks) { contents = ce i }
-
-pub grew_one : (a b : Log) (x : Move) → Grew a b (spelling_of_move x) → Grew a b (spelled_moves (x ∷ []))
-grew_one a b x g = subst (λ xs. Grew a b xs) (sym (append_nil (spelling_of_move x))) g

@@ -2,39 +2,24 @@
 use Rattle.std.proofs.Common.{◌≡◌, ℕ, true, false, List, [], Option, Some, None, refl, sym, ap, ◌∙◌, arith}
 use Rattle.std.specs.Prelude.{IsSome, is_some, not, unwrap_or}
 use Rattle.std.proofs.lemmas.Bool.{lt-ltb}
-use Rattle.mm_types.specs.declared.numbers.Frame.{Frame}
-use Rattle.mm_types.specs.declared.numbers.Key.{Key}
-use Rattle.mm_types.specs.declared.numbers.Place.{Place}
-use Rattle.mm_types.specs.declared.frames.Record.{Record}
-use Rattle.mm_types.specs.declared.frames.Held.{Held}
-use Rattle.mm_frame_laws.specs.Carried.{IsSoiled}
-use Rattle.mm_life.specs.Frames.{record_at, is_read}
-use Rattle.mm_life.specs.Life.{FrameLife, is_dead}
-use Rattle.mm_life.specs.Located.{FrameBytes, BlockBytes, zero_page, page_at, contents_of, BytesLocated}
+use Rattle.mm_types.specs.{Frame, Key, Place, Record, Held}
+use Rattle.mm_frame_laws.specs.{IsSoiled}
+use Rattle.mm_life.specs.{record_at, is_read, FrameLife, is_dead, FrameBytes, BlockBytes, zero_page, page_at, contents_of, BytesLocated}
 use Rattle.mm_laws.specs.Reached.{Reached}
-use Rattle.mm_laws.proofs.Sound.{some_owner}
-use Rattle.mm_ram.specs.Ram.{bytes_of}
-use Rattle.mm_words.specs.declared.layout.Entry.{Entry}
+use Rattle.mm_laws.proofs.{some_owner, facts_of}
+use Rattle.mm_ram.specs.{bytes_of}
+use Rattle.mm_words.specs.{Entry, WordsOf, valid_frame}
 use Rattle.mm_words.specs.declared.layout.Entry.TheVariants as entry
-use Rattle.mm_words.specs.Words.{WordsOf, valid_frame}
-use Rattle.mm_parts.specs.Shown.{Owners, named_by, names_of, valid_of}
-use Rattle.mm_frame_laws.proofs.Carrying.{page_of_key}
-use Rattle.mm_laws.proofs.Facts.{facts_of}
-use Rattle.mm_frame_laws.proofs.FrameMoves.{shown_calm}
-use Rattle.mm_frame_laws.proofs.PageMoves.{calm_is}
+use Rattle.mm_parts.specs.{Owners, named_by, names_of, valid_of}
+use Rattle.mm_frame_laws.proofs.{page_of_key, shown_calm, calm_is}
 
 pub pick : {A : Type 0} (o : Option A) → IsSome o → (x : A) × (o ≡ Some x)
 pick None h = cc
 pick (Some x) h = (x, refl)
 
 named_frame : (o : Owners) (place : Place) (f : Frame) (e : Entry) → valid_frame e ≡ Some f → named_by o place e ≡ o f.0
-named_frame o place f entry.Empty h = cc
-named_frame o place f entry.Zero h = cc
-named_frame o place f (entry.Paged s) h = cc
-named_frame o place f (entry.InFile b) h = cc
-named_frame o place f (entry.Transition g) h = cc
 named_frame o place f (entry.Valid g n) h = let same : g ≡ f = cc in ap (λ (x : Frame). o x.0) same
-named_frame o place f (entry.Proto a i) h = cc
+named_frame o place f _ h = cc
 
 -- a valid place names the owner of its frame
 pub valid_names : (o : Owners) (w : WordsOf) (place : Place) (f : Frame) → valid_of w place ≡ Some f → names_of o w place ≡ o f.0

@@ -1,12 +1,11 @@
 -- What is kept of the counts of a line.
 use Rattle.std.proofs.Common.{◌≡◌, ℕ, ◌<◌, Bool, true, false, Option, arith}
-use Rattle.mm_types.specs.declared.numbers.Key.{Key}
-use Rattle.mm_types.specs.declared.frames.Backing.{Backing}
+use Rattle.mm_types.specs.{Key, Backing}
 use Rattle.mm_types.specs.declared.frames.Backing.TheVariants as backing
-use Rattle.mm_laws.specs.Fits.{is_backed}
-use Rattle.mm_pages.specs.Tallies.{one_more}
-use Rattle.mm_pages.specs.Told.{Told, none_told, with_write}
-use Rattle.mm_state.specs.Tallied.{searched_anew, read_told, IsTallied}
+use Rattle.mm_laws.specs.{is_backed}
+use Rattle.mm_pages.specs.{one_more, none_told, with_write}
+use Rattle.mm_pages.specs.Told.{Told}
+use Rattle.mm_state.specs.{searched_anew, read_told, IsTallied}
 
 more_some : (n : ℕ) → 0 < one_more n
 more_some n = omega arith

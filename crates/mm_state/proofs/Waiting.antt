@@ -2,9 +2,8 @@
 use Rattle.std.proofs.Common.{◌≡◌, ◌≢◌, ℕ, Bool, true, false, List, [], ◌∷◌, Option, Some, None, refl, ap}
 use Rattle.std.specs.Prelude.{◌==◌, option_map, slice_get}
 use Rattle.std.proofs.lemmas.Bool.{eqb-true}
-use Rattle.mm_types.specs.declared.numbers.Frame.{Frame}
-use Rattle.mm_parts.specs.Reading.{first_frame}
-use Rattle.mm_parts.specs.Shown.{own_is}
+use Rattle.mm_types.specs.{Frame}
+use Rattle.mm_parts.specs.{first_frame, own_is}
 
 -- a request that is not the line's own, by its frame
 pub other_request : (own : Option Frame) (f : Frame) → own ≢ Some f → own_is own f.0 ≡ false

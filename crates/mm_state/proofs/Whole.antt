@@ -2,17 +2,14 @@
 use Rattle.std.proofs.Common.{◌≡◌, ℕ, zero, suc, Bool, true, false, List, [], ◌∷◌, ◌++◌, length, replicate, Some, sym, ap, ◌∙◌, subst}
 use Rattle.std.specs.Prelude.{slice_set}
 use Rattle.std.proofs.lemmas.List.{length-replicate}
-use Rattle.mm_types.specs.declared.numbers.Key.{Key}
-use Rattle.mm_types.specs.declared.frames.Backing.{Backing}
+use Rattle.mm_types.specs.{Key, Backing, Held}
 use Rattle.mm_types.specs.declared.frames.Backing.TheVariants as backing
-use Rattle.mm_types.specs.declared.frames.Held.{Held}
 use Rattle.mm_types.specs.declared.frames.Held.TheVariants as held
-use Rattle.mm_life.specs.Life.{FrameLife}
-use Rattle.mm_life.specs.Located.{FrameBytes, BlockBytes, page_at, bytes_at, contents_of, held_at, zero_page}
-use Rattle.mm_blocks.specs.Traffic.{empty_block}
-use Rattle.mm_frame_laws.specs.Carried.{slots_written, blocks_written}
-use Rattle.mm_moving.specs.Shown.{written_if}
-use Rattle.mm_state.specs.Whole.{AreWhole}
+use Rattle.mm_life.specs.{FrameLife, FrameBytes, BlockBytes, page_at, bytes_at, contents_of, held_at, zero_page}
+use Rattle.mm_blocks.specs.{empty_block}
+use Rattle.mm_frame_laws.specs.{slots_written, blocks_written}
+use Rattle.mm_moving.specs.{written_if}
+use Rattle.mm_state.specs.{AreWhole}
 
 pub zeros_whole : length empty_block ≡ 4096
 zeros_whole = length-replicate {A = ℕ} 4096 0

@@ -6,37 +6,25 @@ use Rattle.std.specs.FinMap as finite
 use Rattle.std.proofs.lemmas.Bool.{lt-ltb}
 use Rattle.mm_types.proofs.Booleans.{not_true}
 use Rattle.mm_types.proofs.Cells.{get_within}
-use Rattle.mm_types.specs.declared.numbers.Key.{Key}
+use Rattle.mm_types.specs.{Key, Place}
 use Rattle.mm_types.specs.declared.numbers.Key.TheVariants.{Private, Shared}
-use Rattle.mm_types.specs.declared.numbers.Place.{Place}
 use Rattle.mm_blocks.specs.declared.Inject.{Ghosts as DeviceGhosts}
-use Rattle.mm_moves.specs.declared.recorders.Moves.{Ghosts as MovesGhosts}
-use Rattle.mm_life.specs.Frames.{record_at, is_read}
+use Rattle.mm_moves.specs.{Ghosts as MovesGhosts}
+use Rattle.mm_life.specs.{record_at, is_read, same_place, ForFrame}
 use Rattle.mm_laws.proofs.PlaceCounts.{same_place-true}
-use Rattle.mm_life.specs.Life.{same_place}
-use Rattle.mm_life.specs.Waits.{ForFrame}
-use Rattle.mm_flight.specs.Requests.{is_in}
-use Rattle.mm_flight.specs.declared.flights.Waiting.{Waiting}
+use Rattle.mm_flight.specs.{is_in, Waiting}
 use Rattle.mm_flight.specs.declared.flights.Waiting.TheVariants as waiting
-use Rattle.mm_words.specs.declared.aside.Aside.{Aside}
+use Rattle.mm_words.specs.{Aside, Process, entry_or, bound_of, at_of, process_in, read_or, bound_in, at_in, AsideBound, bare, is_there, has_word}
+use Rattle.mm_words.specs.{key_entry, aside_or}
 use Rattle.mm_words.specs.declared.layout.Entry.TheVariants as entry
-use Rattle.mm_words.specs.declared.processes.Process.{Process}
 use Rattle.mm_words.specs.declared.tables.Words.{Words}
-use Rattle.mm_words.specs.Entries.{entry_or}
 use Rattle.mm_words.specs.Shown as tables
-use Rattle.mm_words.specs.Changes.{bound_of, at_of}
-use Rattle.mm_words.specs.Tables.{process_in, read_or, bound_in, at_in, AsideBound}
-use Rattle.mm_words.specs.Words.{bare, is_there, has_word, key_entry, aside_or}
 use Rattle.mm_words.proofs.SetLaws.{young, bound_open, begun, within}
-use Rattle.mm_parts.specs.Holds.{PagesHold, StorageHolds}
-use Rattle.mm_parts.specs.Kept.{PartsKept}
+use Rattle.mm_parts.specs.{PagesHold, StorageHolds, PartsKept, walked_or, waits_of, JoinedParts, own_is, Parts}
 use Rattle.mm_parts.specs.PartsShown as parts_of
-use Rattle.mm_parts.specs.Reading.{walked_or, waits_of}
-use Rattle.mm_parts.specs.Shown.{JoinedParts, own_is}
-use Rattle.mm_parts.specs.declared.parts.Parts.{Parts}
 use Rattle.mm_parts.proofs.Holding.{pages_hold, storage_holds, read_once}
 use Rattle.mm_parts.proofs.RequestLists.{own_apart}
-use Rattle.mm_moving.specs.Holds.{StateHolds}
+use Rattle.mm_moving.specs.{StateHolds}
 use Rattle.mm_state.specs.declared.states.State.{State}
 use Rattle.mm_state.specs.StateShown.{shown_state}
 use Rattle.mm_state.specs.Storing.{stored_bytes}

@@ -4,3 +4,7 @@ pub mod Whole
 pub mod StateShown
 pub mod Storing
 pub mod Holding
+pub use Shown.{MachineStarts, joined_state}
+pub use Tallied.{IsTallied, filled_if, read_told, searched_anew}
+pub use Whole.{AreWhole}
+pub use StateShown.{shown_state}

@@ -1,18 +1,12 @@
 -- A key that is in no frame, or unchanged in one, has the bytes that stand on a device.
 use Rattle.std.proofs.Common.{◌≡◌, Bool, true, false, Some, refl, ap, ◌∙◌}
 use Rattle.std.specs.Prelude.{is_some, if◌then◌else◌}
-use Rattle.mm_types.specs.declared.numbers.Frame.{Frame}
-use Rattle.mm_types.specs.declared.numbers.Key.{Key}
-use Rattle.mm_types.specs.declared.frames.Backing.{Backing}
+use Rattle.mm_types.specs.{Frame, Key, Backing, Held}
 use Rattle.mm_types.specs.declared.frames.Backing.TheVariants as backing
-use Rattle.mm_types.specs.declared.frames.Held.{Held}
 use Rattle.mm_types.specs.declared.frames.Held.TheVariants as held
-use Rattle.mm_life.specs.Frames.{record_at, is_read}
-use Rattle.mm_life.specs.Life.{FrameLife}
-use Rattle.mm_life.specs.Effect.{home_at}
-use Rattle.mm_life.specs.Located.{FrameBytes, BlockBytes, zero_page, bytes_at, located, contents_of, BytesLocated}
+use Rattle.mm_life.specs.{record_at, is_read, FrameLife, home_at, FrameBytes, BlockBytes, zero_page, bytes_at, located, contents_of, BytesLocated}
 use Rattle.mm_laws.specs.Reached.{Reached}
-use Rattle.mm_world.specs.World.{filled}
+use Rattle.mm_world.specs.{filled}
 use Rattle.mm_pages.specs.Standing as pages
 use Rattle.mm_laws.proofs.Facts.{facts_of}
 

@@ -1,10 +1,9 @@
 -- What a call of a device leaves: the counts of a line.
 -- Profile, "Paging, as far as answers show it".
 use Rattle.std.specs.Prelude.{◌≡◌, ◌<◌, ◌+◌, ℕ, is_some, Bool, true, false, List, Option, slice_set}
-use Rattle.mm_types.specs.declared.frames.Backing.{Backing}
-use Rattle.mm_types.specs.declared.numbers.Key.{Key}
-use Rattle.mm_pages.specs.Reports.{no_calls}
-use Rattle.mm_pages.specs.Told.{Told, with_read}
+use Rattle.mm_types.specs.{Backing, Key}
+use Rattle.mm_pages.specs.{no_calls, with_read}
+use Rattle.mm_pages.specs.Told.{Told}
 
 -- a search begins anew
 abbrev pub searched_anew : Told → Told

@@ -2,19 +2,14 @@ ghost use Rattle.std.specs.Prelude.{◌≡◌, ◌<◌, ℕ, true, Some, IsSome,
 ghost use Rattle.std.specs.Bool.{OnTrue, OnFalse};
 ghost use Rattle.mm_types.specs.declared.devices.Direction.TheVariants as way;
 ghost use Rattle.mm_types.specs.declared.moves.Move.TheVariants as move;
-ghost use Rattle.mm_life.specs.Frames.{slot_of};
-ghost use Rattle.mm_life.specs.Effect.{home_at};
-ghost use Rattle.mm_life.specs.Located.{bytes_at};
-ghost use Rattle.mm_life.specs.Legal.{IsLegal};
-ghost use Rattle.mm_laws.specs.Fits.{is_backed};
-ghost use Rattle.mm_laws.specs.FileBlocks.{block_of};
-ghost use Rattle.mm_blocks.specs.Traffic.{is_named};
-ghost use Rattle.mm_blocks.specs.Devices.{Serves, device_with};
-ghost use Rattle.mm_frame_laws.specs.Carried.{slots_written, blocks_written};
-ghost use Rattle.mm_moving.specs.Shown.{CalledFor, written_if};
-ghost use Rattle.mm_flight.specs.Requests.{ended};
+ghost use Rattle.mm_life.specs.{slot_of, home_at, bytes_at, IsLegal};
+ghost use Rattle.mm_laws.specs.{is_backed, block_of};
+ghost use Rattle.mm_blocks.specs.{is_named, Serves, device_with};
+ghost use Rattle.mm_frame_laws.specs.{slots_written, blocks_written};
+ghost use Rattle.mm_moving.specs.{CalledFor, written_if};
+ghost use Rattle.mm_flight.specs.{ended};
 ghost use Rattle.mm_parts.specs.PartsShown as parts_of;
-ghost use Rattle.mm_parts.specs.Moves.{parts_after, own_ended, end_of_read};
+ghost use Rattle.mm_parts.specs.{parts_after, own_ended, end_of_read};
 ghost use Rattle.mm_state.specs.Tallied.{filled_if};
 ghost use Rattle.std.specs.Prelude.{[]};
 

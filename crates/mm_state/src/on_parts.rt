@@ -1,11 +1,10 @@
 ghost use Rattle.std.specs.Prelude.{◌≡◌, ◌≤◌, ◌<◌, false, length, map, slice_get};
 ghost use Rattle.std.specs.Bool.{OnTrue};
-ghost use Rattle.mm_life.specs.Frames.{is_empty};
-ghost use Rattle.mm_life.specs.Legal.{IsLegal};
-ghost use Rattle.mm_flight.specs.Requests.{ended};
+ghost use Rattle.mm_life.specs.{is_empty, IsLegal};
+ghost use Rattle.mm_flight.specs.{ended};
 ghost use Rattle.mm_parts.specs.PartsShown as parts_of;
-ghost use Rattle.mm_parts.specs.Moves.{parts_after, front, own_ended, end_of_read, write_end};
-ghost use Rattle.mm_blocks.specs.Reads.{WasRead};
+ghost use Rattle.mm_parts.specs.{parts_after, front, own_ended, end_of_read, write_end};
+ghost use Rattle.mm_blocks.specs.{WasRead};
 ghost use Rattle.mm_types.specs.declared.moves.Move.TheVariants as move;
 ghost use Rattle.mm_state.specs.Tallied.{filled_if};
 

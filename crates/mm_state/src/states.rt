@@ -1,9 +1,9 @@
 ghost use Rattle.std.specs.Prelude.{◌≡◌, IfOk, IfErr, length};
-ghost use Rattle.mm_types.specs.Outside.{Both};
-ghost use Rattle.mm_life.specs.Located.{BytesLocated};
+ghost use Rattle.mm_types.specs.{Both};
+ghost use Rattle.mm_life.specs.{BytesLocated};
 ghost use Rattle.mm_parts.specs.PartsShown as parts_of;
-ghost use Rattle.mm_parts.specs.Start.{first_move};
-ghost use Rattle.mm_blocks.specs.Devices.{device_with};
+ghost use Rattle.mm_parts.specs.{first_move};
+ghost use Rattle.mm_blocks.specs.{device_with};
 ghost use Rattle.mm_state.specs.Shown.{MachineStarts};
 ghost use Rattle.mm_state.specs.Tallied.{IsTallied};
 ghost use Rattle.mm_state.specs.Whole.{AreWhole};

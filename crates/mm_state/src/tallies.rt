@@ -1,7 +1,5 @@
 ghost use Rattle.std.specs.Prelude.{◌≡◌};
-ghost use Rattle.mm_pages.specs.Tallies.{with_outcome};
-ghost use Rattle.mm_pages.specs.Reports.{no_calls};
-ghost use Rattle.mm_pages.specs.Told.{none_told, with_write};
+ghost use Rattle.mm_pages.specs.{with_outcome, no_calls, none_told, with_write};
 ghost use Rattle.mm_state.specs.Tallied.{searched_anew, read_told};
 
 use mm_types::{Backing, Key};
@@ -16,7 +14,7 @@ pub(crate) struct Tally {
 }
 
 impl Model for Tally {
-    ghost use Rattle.mm_world.specs.Report.{Tally};
+    ghost use Rattle.mm_world.specs.{Tally};
 
     ghost Value = { Tally };
 

@@ -2,26 +2,20 @@
 use Rattle.std.proofs.Common.{◌≡◌, ◌<◌, ℕ, zero, suc, Bool, true, false, List, [], ◌∷◌, length, refl, sym, ap, ◌∙◌, subst}
 use Rattle.std.specs.Prelude.{is_some, slice_get, slice_set}
 use Rattle.std.proofs.lemmas.List.{length-set}
-use Rattle.mm_types.specs.declared.frames.Backing.{Backing}
+use Rattle.mm_types.specs.{Backing, Held, Key}
 use Rattle.mm_types.specs.declared.frames.Backing.TheVariants as backing
-use Rattle.mm_types.specs.declared.frames.Held.{Held}
 use Rattle.mm_types.specs.declared.frames.Held.TheVariants as held
-use Rattle.mm_types.specs.declared.numbers.Key.{Key}
-use Rattle.mm_life.specs.Effect.{home_at}
-use Rattle.mm_life.specs.Frames.{record_at}
-use Rattle.mm_life.specs.Life.{FrameLife, is_live}
-use Rattle.mm_life.specs.Located.{FrameBytes, BlockBytes, bytes_at, contents_of, held_at, BytesLocated}
-use Rattle.mm_life.specs.Logs.{Log}
+use Rattle.mm_life.specs.{home_at, record_at, FrameLife, is_live, FrameBytes, BlockBytes, bytes_at, contents_of, held_at, BytesLocated, Log}
 use Rattle.mm_laws.specs.Reached.{Reached}
-use Rattle.mm_laws.proofs.Facts.{facts_of}
-use Rattle.mm_frame_laws.proofs.FrameMoves.{owned_low}
-use Rattle.mm_blocks.specs.Devices.{DeviceOf, Call, Serves}
-use Rattle.mm_blocks.proofs.Serving.{named_as_before}
+use Rattle.mm_laws.proofs.{facts_of}
+use Rattle.mm_frame_laws.proofs.{owned_low}
+use Rattle.mm_blocks.specs.{DeviceOf, Call, Serves}
+use Rattle.mm_blocks.proofs.{named_as_before}
 use Rattle.mm_pages.specs.Told.{Told}
-use Rattle.mm_parts.specs.Shown.{PartsOf}
-use Rattle.mm_moving.specs.Shown.{StateOf, written_if}
-use Rattle.mm_state.specs.Shown.{joined_state}
-use Rattle.mm_state_tests.specs.Behind.{BytesChanged, NoneBacked}
+use Rattle.mm_parts.specs.{PartsOf}
+use Rattle.mm_moving.specs.{StateOf, written_if}
+use Rattle.mm_state.specs.{joined_state}
+use Rattle.mm_state_tests.specs.{BytesChanged, NoneBacked}
 
 some_set : {A : Type 0} (xs : List A) (i j : ℕ) (x : A) → is_some (slice_get (slice_set xs i x) j) ≡ is_some (slice_get xs j)
 some_set [] i j x = refl

@@ -1,10 +1,10 @@
 -- A store keeps what it keeps, and fits the tables as before, where bytes of pages alone changed.
 use Rattle.std.proofs.Common.{◌≡◌, ◌≤◌, ℕ, sym, ap, ◌∙◌, subst}
-use Rattle.mm_world.specs.Contents.{Tables}
-use Rattle.mm_tables.specs.Fits.{FitsTables}
-use Rattle.mm_moving.specs.Shown.{StateOf}
-use Rattle.mm_paged.specs.Shown.{OwnOf, StoreKept, store_of}
-use Rattle.mm_state_tests.specs.Behind.{BytesChanged}
+use Rattle.mm_world.specs.{Tables}
+use Rattle.mm_tables.specs.{FitsTables}
+use Rattle.mm_moving.specs.{StateOf}
+use Rattle.mm_paged.specs.{OwnOf, StoreKept, store_of}
+use Rattle.mm_state_tests.specs.{BytesChanged}
 
 -- the state with other bytes and devices
 abbrev with_bytes : StateOf → StateOf → StateOf

@@ -1,19 +1,15 @@
 -- A new state, and a store over it, is where each scene begins.
 use Rattle.std.proofs.Common.{◌≡◌, ℕ, List, [], Option, None, length, replicate, refl, sym, ap, subst}
-use Rattle.mm_types.specs.Machine.{MachineOf}
-use Rattle.mm_types.specs.declared.numbers.Key.{Key}
-use Rattle.mm_life.specs.Logs.{Log}
-use Rattle.mm_blocks.specs.Devices.{DeviceOf}
-use Rattle.mm_blocks.specs.Traffic.{empty_block}
-use Rattle.mm_world.specs.World.{Page}
-use Rattle.mm_pages.specs.Conditions.{IsNew}
-use Rattle.mm_pages.specs.Store.{StoreOf}
-use Rattle.mm_pages.specs.Told.{none_told}
-use Rattle.mm_parts.specs.Start.{first_parts}
-use Rattle.mm_moving.specs.Shown.{StateOf}
-use Rattle.mm_paged.specs.Shown.{OwnOf, own_of, store_of}
-use Rattle.mm_state.specs.Shown.{MachineStarts, joined_state}
-use Rattle.mm_state_tests.specs.Behind.{small_machine}
+use Rattle.mm_types.specs.{MachineOf, Key}
+use Rattle.mm_life.specs.{Log}
+use Rattle.mm_blocks.specs.{DeviceOf, empty_block}
+use Rattle.mm_world.specs.{Page}
+use Rattle.mm_pages.specs.{IsNew, StoreOf, none_told}
+use Rattle.mm_parts.specs.{first_parts}
+use Rattle.mm_moving.specs.{StateOf}
+use Rattle.mm_paged.specs.{OwnOf, own_of, store_of}
+use Rattle.mm_state.specs.{MachineStarts, joined_state}
+use Rattle.mm_state_tests.specs.{small_machine}
 
 abbrev first_own : OwnOf
 first_own = own_of None None 0

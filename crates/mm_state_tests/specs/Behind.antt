@@ -1,11 +1,9 @@
 -- What stays where bytes of pages were changed behind a state, and when a device can be changed so.
 use Rattle.std.specs.Prelude.{◌≡◌, ◌<◌, ℕ, is_some, length}
-use Rattle.mm_types.specs.Machine.{MachineOf}
+use Rattle.mm_types.specs.{MachineOf, Key}
 use Rattle.mm_types.specs.declared.frames.Backing.TheVariants as backing
-use Rattle.mm_types.specs.declared.numbers.Key.{Key}
-use Rattle.mm_life.specs.Frames.{record_at}
-use Rattle.mm_life.specs.Life.{FrameLife}
-use Rattle.mm_moving.specs.Shown.{StateOf}
+use Rattle.mm_life.specs.{record_at, FrameLife}
+use Rattle.mm_moving.specs.{StateOf}
 
 abbrev pub small_machine : MachineOf
 small_machine = record { frames = 6; slots = 8; depth = 1; blocks = 1 }

@@ -1,1 +1,2 @@
 pub mod Behind
+pub use Behind.{BytesChanged, NoneBacked, small_machine}

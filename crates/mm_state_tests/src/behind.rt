@@ -1,13 +1,12 @@
 ghost use Rattle.std.specs.Prelude.{◌≡◌, ◌≤◌, ◌<◌, false, length, IsSome, slice_set};
 ghost use Rattle.std.specs.Bool.{OnTrue, OnFalse};
 ghost use Rattle.mm_types.specs.declared.devices.Direction.TheVariants as way;
-ghost use Rattle.mm_blocks.specs.Traffic.{is_named};
-ghost use Rattle.mm_blocks.specs.Devices.{Serves, device_with};
-ghost use Rattle.mm_life.specs.Frames.{record_at, is_read};
-ghost use Rattle.mm_ram.specs.Ram.{bytes_of, overwritten, with_page};
-ghost use Rattle.mm_frame_laws.specs.Carried.{IsSoiled};
+ghost use Rattle.mm_blocks.specs.{is_named, Serves, device_with};
+ghost use Rattle.mm_life.specs.{record_at, is_read};
+ghost use Rattle.mm_ram.specs.{bytes_of, overwritten, with_page};
+ghost use Rattle.mm_frame_laws.specs.{IsSoiled};
 ghost use Rattle.mm_parts.specs.PartsShown as parts_of;
-ghost use Rattle.mm_state.specs.StateShown.{shown_state};
+ghost use Rattle.mm_state.specs.{shown_state};
 ghost use Rattle.mm_state_tests.specs.Behind.{BytesChanged, NoneBacked};
 
 use mm_blocks::Inject;

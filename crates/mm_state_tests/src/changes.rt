@@ -1,12 +1,12 @@
 ghost use Rattle.std.specs.Prelude.{◌≡◌, false, IsSome, IfSome};
 ghost use Rattle.std.specs.Bool.{OnTrue};
-ghost use Rattle.mm_life.specs.Frames.{record_at};
-ghost use Rattle.mm_world.specs.Contents.{Tables};
-ghost use Rattle.mm_frame_laws.specs.Carried.{IsSoiled};
-ghost use Rattle.mm_state.specs.StateShown.{shown_state};
+ghost use Rattle.mm_life.specs.{record_at};
+ghost use Rattle.mm_world.specs.{Tables};
+ghost use Rattle.mm_frame_laws.specs.{IsSoiled};
+ghost use Rattle.mm_state.specs.{shown_state};
 ghost use Rattle.mm_paged.specs.Store as paged;
-ghost use Rattle.mm_tables.specs.Fits.{FitsTables};
-ghost use Rattle.mm_core.specs.Shown.{line_number};
+ghost use Rattle.mm_tables.specs.{FitsTables};
+ghost use Rattle.mm_core.specs.{line_number};
 ghost use Rattle.mm_state_tests.specs.Behind.{BytesChanged, NoneBacked};
 
 use crate::behind::{write_block, write_frame, write_slot};

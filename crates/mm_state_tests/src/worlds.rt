@@ -1,9 +1,8 @@
 ghost use Rattle.std.specs.Prelude.{◌≡◌, ◌≤◌, ◌+◌, false, OnOk, IfOk, replicate};
-ghost use Rattle.mm_blocks.specs.Traffic.{empty_block};
-ghost use Rattle.mm_pages.specs.Conditions.{IsNew};
-ghost use Rattle.mm_script.specs.Printed.{IsWellFormed};
-ghost use Rattle.mm_core.specs.Built.{is_machine};
-ghost use Rattle.mm_core.specs.Shown.{line_number};
+ghost use Rattle.mm_blocks.specs.{empty_block};
+ghost use Rattle.mm_pages.specs.{IsNew};
+ghost use Rattle.mm_script.specs.{IsWellFormed};
+ghost use Rattle.mm_core.specs.{is_machine, line_number};
 ghost use Rattle.mm_state_tests.specs.Behind.{small_machine};
 
 use crate::changes::{Change, change_world};

@@ -1,15 +1,11 @@
 -- Keys that are added to a range: one, or none.
 use Rattle.std.proofs.Common.{◌≡◌, ◌+◌, ℕ, Bool, true, false, Option, Some, None, refl, sym, ◌∙◌, ap, cond, arith, not, unwrap_or}
 use Rattle.std.proofs.Math.Path.{fun_ext}
-use Rattle.mm_types.specs.declared.numbers.Key.{Key}
-use Rattle.mm_types.specs.declared.numbers.Pid.{Pid}
-use Rattle.mm_types.specs.Address.{Range}
-use Rattle.mm_world.specs.World.{Page, filled}
-use Rattle.mm_world.specs.Failure.{same_key}
-use Rattle.mm_world.proofs.KindsAndKeys.{same_again}
-use Rattle.mm_pages.specs.Store.{StoreOf, changed}
-use Rattle.mm_pages.specs.Reports.{rearranged}
-use Rattle.mm_tables.specs.Ranges.{passing, is_page_live, is_page_dead, one_page_range, first_pages, Adds}
+use Rattle.mm_types.specs.{Key, Pid, Range}
+use Rattle.mm_world.specs.{Page, filled, same_key}
+use Rattle.mm_world.proofs.{same_again}
+use Rattle.mm_pages.specs.{StoreOf, changed, rearranged}
+use Rattle.mm_tables.specs.{passing, is_page_live, is_page_dead, one_page_range, first_pages, Adds}
 use Rattle.mm_tables.proofs.PageByPage.{own, key_in_only, by_same, some_of, none_of, set_only, once, no_key_in}
 
 -- what is set at a test is set over what was set there

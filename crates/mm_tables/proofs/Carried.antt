@@ -2,26 +2,14 @@
 use Rattle.std.proofs.Common.{◌≡◌, Bool, true, false, Option, Some, None, refl, sym, ◌∙◌, subst, cond, ◌&&◌, unwrap_or, inl, inr, ℕ, ◌+◌, ◌≤◌, List, ap, arith, length, is_some, length-set}
 use Rattle.std.specs.Prelude.{◌==◌}
 use Rattle.std.specs.Cmp.{unsigned_Decides}
-use Rattle.mm_types.specs.declared.numbers.Key.{Key}
-use Rattle.mm_types.specs.declared.numbers.Pid.{Pid}
-use Rattle.mm_types.specs.Address.{Range, holds_page}
-use Rattle.mm_types.specs.declared.answers.Answer.{Answer}
+use Rattle.mm_types.specs.{Key, Pid, Range, holds_page, Answer, Place, Vpn}
 use Rattle.mm_types.specs.declared.numbers.Key.TheVariants as key
-use Rattle.mm_types.specs.declared.numbers.Place.{Place}
-use Rattle.mm_types.specs.declared.numbers.Vpn.{Vpn}
-use Rattle.mm_types.proofs.Cells.{same_or_not}
-use Rattle.mm_types.proofs.Booleans.{and_true}
-use Rattle.mm_types.proofs.Tables.{differ}
-use Rattle.mm_world.specs.World.{Page, filled, ProcessOf, RegionOf}
-use Rattle.mm_world.specs.Contents.{Tables}
-use Rattle.mm_world.specs.Outcome.{OutcomeOf}
-use Rattle.mm_world.specs.Find.{process_of, region_with, set_regions}
-use Rattle.mm_world.specs.Charge.{charge}
-use Rattle.mm_world.specs.Keys.{own_page, content_of}
-use Rattle.mm_pages.specs.Store.{StoreOf, is_place_in}
-use Rattle.mm_tables.specs.Fits.{FitsTables, Called, Settled, key_bytes, Carried, CarriesPages, is_paging, is_reserved, key_at, file_block_in, paging_count}
-use Rattle.mm_tables.specs.Ranges.{is_key_in}
-use Rattle.mm_tables.specs.Effects.{Effect, Makes, Ends, Leaves, after, contents_by, paging_by, bound_by, names_by, RangeStored, Moves, key_in}
+use Rattle.mm_types.proofs.{same_or_not, and_true, differ}
+use Rattle.mm_world.specs.{Page, filled, ProcessOf, RegionOf, Tables, OutcomeOf, process_of, region_with, set_regions, charge, own_page, content_of}
+use Rattle.mm_pages.specs.{StoreOf, is_place_in}
+use Rattle.mm_tables.specs.{FitsTables, Called, Settled, key_bytes, Carried, CarriesPages, is_paging, is_reserved, key_at, file_block_in}
+use Rattle.mm_tables.specs.{paging_count, is_key_in, Effect, Makes, Ends, Leaves, after, contents_by, paging_by, bound_by, names_by, RangeStored}
+use Rattle.mm_tables.specs.{Moves, key_in}
 use Rattle.mm_tables.proofs.Regions.{some_cond}
 use Rattle.mm_tables.proofs.OneProcess.{regions_in, reserved_is, content_is, regions_of_process, regions_set_same, regions_set_other, lives_set, key_in_same, key_at_is}
 
@@ -55,9 +43,6 @@ called_by q t after c d s z a e f h = record { outcome = e; bytes = λ k. h.carr
 pub settled_same : (t : Tables) (c : Key → Option Page) (s : StoreOf) → FitsTables t c s → Settled t c c s s
 settled_same t c s f = record { fits = f; carries = carries_same c c refl; rest = refl }
 
-pub called_same : (q : OutcomeOf (Unit {0})) (t : Tables) (c : Key → Option Page) (s : StoreOf) (a : Answer) → q ≡ record { answer = a; world = t } → FitsTables t c s → Called q t c a t c
-called_same q t c s a e f = called_by q t t c c s s a e f (settled_same t c s f)
-
 -- ---- effects
 
 some_by : (e : Effect) (pid : Pid) (range : Range) (c : Key → Option Page) (k : Key) → is_some (contents_by e pid range c k) ≡ after e (is_key_in pid range k) (is_some (c k))
@@ -67,8 +52,7 @@ some_by Leaves pid range c k = refl
 
 pub outside : (e : Effect) (before : Bool) → after e false before ≡ before
 outside Makes before = refl
-outside Ends before = refl
-outside Leaves before = refl
+outside _ before = refl
 
 -- of a private key
 pub private_paging : (t : Tables) (c : Key → Option Page) (s : StoreOf) (q : Pid) (v : Vpn) → FitsTables t c s → s.paging (key.Private q v) ≡ is_some (c (key.Private q v))

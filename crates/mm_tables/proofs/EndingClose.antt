@@ -1,83 +1,28 @@
 -- A handle is closed: the processes that are kept by pid, their handles, what the steps of the call are told, and what they come to.
-use Rattle.std.proofs.Common.{◌≡◌, ℕ, ◌-◌, ◌≤◌, Bool, true, false, Option, Some, None, List, refl, sym, ◌∙◌, ap, subst, cond, arith, length, set, get_or, is_some, option_map, ◌+◌}
+use Rattle.std.proofs.Common.{◌≡◌, ℕ, ◌-◌, ◌≤◌, Bool, true, false, Option, Some, None, refl, sym, ◌∙◌, ap, subst, cond, arith, set, is_some, option_map, ◌+◌}
 use Rattle.std.specs.Prelude.{◌==◌, ◌/◌, ◌%◌, IsSomeAnd, option_and_then}
 use Rattle.std.specs.Cmp.{unsigned_Decides}
 use Rattle.std.proofs.Math.ListN.{get_or-map}
-use Rattle.mm_types.specs.declared.codes.Code.TheVariants as code
-use Rattle.mm_types.specs.declared.answers.Answer.TheVariants as answer
-use Rattle.mm_types.specs.declared.numbers.Area.{Area}
-use Rattle.mm_types.specs.declared.numbers.Key.{Key}
-use Rattle.mm_types.proofs.Booleans.{not_true}
-use Rattle.mm_types.proofs.Options.{some_found, same_found, some_map}
-use Rattle.mm_world.specs.World.{ProcessOf, SectionOf, Numbered, numbered, Page}
-use Rattle.mm_world.specs.Find.{Found, process_of, section_of, set_process}
-use Rattle.mm_world.specs.Sections.{handle_section, settle}
-use Rattle.mm_world.specs.Contents.{Tables}
-use Rattle.mm_world.specs.Charge.{charge}
-use Rattle.mm_world.specs.Outcome.{find_or, done}
+use Rattle.mm_types.specs.{Area, Key}
+use Rattle.mm_types.proofs.{not_true, some_found, same_found, some_map}
+use Rattle.mm_world.specs.{ProcessOf, SectionOf, Numbered, numbered, Page, Found, process_of, section_of, set_process, handle_section, settle, Tables}
+use Rattle.mm_world.specs.{charge}
 use Rattle.mm_world.specs.WellFormed.{WellFormed}
-use Rattle.mm_world.proofs.Keeps.{close_keeps}
-use Rattle.mm_world.proofs.Charges.{charge-same_regions}
-use Rattle.mm_pages.specs.Store.{StoreOf}
-use Rattle.mm_sections.specs.Directories.{CountedSection, sections_of, section_in, DirectoryOf, section_settled, one_handle_less}
-use Rattle.mm_sections.specs.Handles.{held}
-use Rattle.mm_tables.specs.declared.tables.Process.{Process}
+use Rattle.mm_world.proofs.{charge-same_regions, charge-settle, Then, Nothing, HandleGoes, Settles}
+use Rattle.mm_pages.specs.{StoreOf}
+use Rattle.mm_sections.specs.{CountedSection, sections_of, section_in, DirectoryOf, section_settled, one_handle_less, held}
+use Rattle.mm_tables.specs.{Process, shown_process, shown_processes, handles_in, FitsTables}
 use Rattle.mm_tables.specs.declared.tables.Tables.TheInside.{Inside}
-use Rattle.mm_tables.specs.Shown.{shown_process, shown_processes}
-use Rattle.mm_tables.specs.References.{handles_in}
-use Rattle.mm_tables.specs.Fits.{FitsTables}
-use Rattle.mm_tables.specs.Sound.{AreKeptTables}
-use Rattle.mm_tables.proofs.Standing.{lives_where, shown_at, shown_set, shown_with}
+use Rattle.mm_tables.proofs.Standing.{shown_set, shown_with, Held}
 use Rattle.mm_tables.proofs.EndingSettles.{closed_count, handles_put}
 use Rattle.mm_tables.proofs.OneProcess.{paging-set_process}
 use Rattle.mm_tables.proofs.EndingRanks.{closed_rank}
-use Rattle.mm_tables.proofs.EndingSteps.{OneLess, Step, nothing_lost}
+use Rattle.mm_tables.proofs.EndingSteps.{OneLess, Step, nothing_lost, lives_as}
+use Rattle.mm_tables.proofs.SectionTidy.{sound_by}
 
--- ---- a living process among those that are kept
+-- ---- a process that lives in the tables
 
-pub record HasProcess (t : Tables) (items : List (Option Process)) (pid : ℕ) (x : Option Process) : Type 0 where
-  pub process : ProcessOf (Unit {0})
-  pub shown : option_map shown_process x ≡ Some process
-  pub lives : process_of t pid ≡ Some process
-  pub low : 1 ≤ pid
-  pub few : pid ≤ length items
-
-pub has_process : (t : Tables) (items : List (Option Process)) (pid : ℕ) (x : Option Process) → shown_processes items ≡ t.processes → is_some (process_of t pid) ≡ true → x ≡ get_or items (pid - 1) x → HasProcess t items pid x
-has_process t items pid x processes alive found =
-    let w = lives_where items pid (ap (λ (ps : List (Option (ProcessOf (Unit {0})))). is_some (numbered ps pid)) processes ∙ alive) in
-    let at : process_of t pid ≡ option_map shown_process x = ap (λ (ps : List (Option (ProcessOf (Unit {0})))). numbered ps pid) (sym processes) ∙ shown_at items pid x w.0 w.1 found in
-    let p = some_found (process_of t pid) alive in
-    record { process = p.0; shown = sym at ∙ p.1; lives = p.1; low = w.0; few = w.1 }
-
-pub alive_shown : (x : Option Process) (p : ProcessOf (Unit {0})) → option_map shown_process x ≡ Some p → is_some x ≡ true
-alive_shown None p e = cc
-alive_shown (Some x) p e = refl
-
--- ---- the tables as they are kept, and a process that lives in them
-
-pub record Known (i : Inside) (t : Tables) (pid : ℕ) (x : Option Process) : Type 0 where
-  pub view : shown_with i i.processes.items ≡ t
-  pub kept : AreKeptTables t i.directory.entries i.commit
-  pub process : ProcessOf (Unit {0})
-  pub shown : option_map shown_process x ≡ Some process
-  pub lives : process_of t pid ≡ Some process
-  pub low : 1 ≤ pid
-  pub there : is_some x ≡ true
-
-pub known : (i : Inside) (t : Tables) → shown_with i i.processes.items ≡ t → AreKeptTables (shown_with i i.processes.items) i.directory.entries i.commit → (pid : ℕ) (x : Option Process) → is_some (process_of t pid) ≡ true → x ≡ get_or i.processes.items (pid - 1) x → Known i t pid x
-known i t view kept pid x alive found =
-    let h = has_process t i.processes.items pid x (ap (λ (t : Tables). t.processes) view) alive found in
-    record {
-      view = view;
-      kept = subst (λ (t : Tables). AreKeptTables t i.directory.entries i.commit) view kept;
-      process = h.process;
-      shown = h.shown;
-      lives = h.lives;
-      low = h.low;
-      there = alive_shown x h.process h.shown;
-    }
-
-module _ {i : Inside} {t : Tables} {pid : ℕ} {x : Option Process} (k : Known i t pid x) where
+module _ {i : Inside} {t : Tables} {pid : ℕ} {x : Option Process} (k : Held i t pid x) where
   -- it has one name only
   pub by_shown : (P : ProcessOf (Unit {0}) → Type 0) → P k.process → (p : ProcessOf (Unit {0})) → option_map shown_process x ≡ Some p → P p
   by_shown P at p shown = subst P (same_found (option_map shown_process x) k.process p k.shown shown) at
@@ -124,7 +69,7 @@ has_entry entries ss n s sections there =
 abbrev pub closed : {B : Type 0} → ProcessOf B → ℕ → ProcessOf B
 closed p handle = record p { handles = set p.handles (handle / 4) None }
 
-module _ {i : Inside} {t : Tables} {pid : ℕ} {x : Option Process} (k : Known i t pid x) (handle : ℕ) (there : (p : ProcessOf (Unit {0})) → process_of t pid ≡ Some p → is_some (handle_section t p handle) ≡ true) where
+module _ {i : Inside} {t : Tables} {pid : ℕ} {x : Option Process} (k : Held i t pid x) (handle : ℕ) (there : (p : ProcessOf (Unit {0})) → process_of t pid ≡ Some p → is_some (handle_section t p handle) ≡ true) where
   abbrev q : ProcessOf (Unit {0})
   q = closed k.process handle
 
@@ -157,11 +102,8 @@ module _ {i : Inside} {t : Tables} {pid : ℕ} {x : Option Process} (k : Known i
 
   sound : WellFormed (settle (set_process t pid (Some q)))
   sound =
-      let s = some_found (handle_section t k.process handle) (there k.process k.lives) in
-      subst (λ (w : Tables). WellFormed w)
-      (ap (λ (o : Option (ProcessOf (Unit {0}))). (find_or t code.InvalidHandle o (λ p. find_or t code.InvalidHandle (handle_section t p handle) (λ s. done answer.Ok (settle (set_process t pid (Some (closed p handle))))))).world) k.lives
-      ∙ ap (λ (o : Option (Found SectionOf)). (find_or t code.InvalidHandle o (λ s. done answer.Ok (settle (set_process t pid (Some q))))).world) s.1)
-      (close_keeps t pid handle k.kept.sound)
+      let u = set_process t pid (Some q) in
+      sound_by t (settle u) (Then u (settle u) (Then t u Nothing (HandleGoes pid k.process (handle / 4) k.lives)) (Settles (λ old new fewer. tt))) (omega (arith, charge-settle u, same_charge, k.kept.sound.charged)) k.kept.sound
 
   close_one : OneLess t pid k.process q h.number e.0 (one_handle_less e.0) i.directory.entries i.commit
   close_one =
@@ -198,7 +140,7 @@ module _ {i : Inside} {t : Tables} {pid : ℕ} {x : Option Process} (k : Known i
         limited = refl;
         less = λ key some. refl;
         rest = refl;
-        fits = nothing_lost t pid k.process (Some q) k.lives refl (omega (arith, same_charge)) (omega (arith, paging-set_process t pid k.process (Some q) k.lives)) refl c s fits;
+        fits = nothing_lost t pid k.process (Some q) k.lives refl same_charge (omega (arith, paging-set_process t pid k.process (Some q) k.lives)) c s s refl (λ n. fits.opened n ∙ sym (lives_as t pid k.process (Some q) k.lives refl n)) refl refl refl fits;
         ranked = closed_rank h.number (handle / 4) k.process h.there;
         early = omega arith;
       }

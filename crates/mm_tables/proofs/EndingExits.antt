@@ -1,64 +1,38 @@
 -- Calls that give up pages, one after another: their moves, the pages of a range, the regions of a process, and its end.
 use Rattle.std.specs.Prelude.{position, remove, ◌==◌, ◌/◌, ◌%◌, option_and_then, IfSome}
-use Rattle.std.proofs.Common.{inl, inr, ◌≢◌, ◌^◌, option_map, slice_get, ◌≡◌, ℕ, ◌+◌, ◌≤◌, ◌<◌, Bool, true, false, List, [], ◌∷◌, Option, Some, None, refl, sym, ap, ◌∙◌, subst, arith, ◌-◌, cond, length, set, is_some, nat_lt, ◌&&◌, suc, ◌*◌, map, sum_by, count_by, not}
+use Rattle.std.proofs.Common.{inl, inr, ◌≢◌, ◌^◌, option_map, slice_get, ◌≡◌, ℕ, ◌+◌, ◌≤◌, ◌<◌, Bool, true, false, List, [], ◌∷◌, Option, Some, None, refl, sym, ap, ◌∙◌, subst, arith, ◌-◌, cond, length, set, is_some, nat_lt, ◌&&◌, suc, ◌*◌, sum_by, count_by, not}
 use Rattle.std.specs.Cmp.{unsigned_Decides}
 use Rattle.std.specs.List.{position_or_len}
 use Rattle.std.proofs.lemmas.Bool.{ltb-true, ltb-false, cases_lt}
 use Rattle.std.proofs.lemmas.List.{get_or_past, set-set, get_or-set_same, get_or-set_other}
 use Rattle.std.proofs.lemmas.List.Sums.{sum_by-cons, sum_by-set, passes_at_first, fails_before_first}
-use Rattle.mm_types.specs.declared.numbers.Pid.{Pid}
-use Rattle.mm_types.specs.Address.{Range, holds_page, end_of, end_of_user_pages, address_of}
-use Rattle.mm_types.specs.declared.answers.Answer.TheVariants as answer
-use Rattle.mm_types.specs.declared.codes.Code.TheVariants as code
-use Rattle.mm_types.specs.declared.moves.LineKind.TheVariants as line_kind
-use Rattle.mm_types.specs.declared.numbers.Key.{Key}
-use Rattle.mm_types.specs.declared.views.Kind.{Kind}
+use Rattle.mm_types.specs.{Pid, Range, holds_page, end_of, end_of_user_pages, address_of, Key, Kind, View}
 use Rattle.mm_types.specs.declared.views.Kind.TheVariants as kind
-use Rattle.mm_types.specs.declared.views.View.{View}
-use Rattle.mm_types.proofs.Booleans.{both, not_true}
-use Rattle.mm_types.proofs.Cells.{get_within}
-use Rattle.mm_types.proofs.Options.{none_of, some_found, same_found, some_map}
+use Rattle.mm_types.proofs.{both, not_true, get_within, none_of, some_found, same_found, some_map}
 use Rattle.std.proofs.lemmas.List.Edits.{length-remove}
-use Rattle.mm_world.specs.World.{RegionOf, ProcessOf, pages_of, Page, Numbered, SectionOf, StackOf, numbered}
-use Rattle.mm_world.specs.Find.{process_of, Found, first_where, one_later, set_regions, region_around, is_private, set_process, section_of, end_stacks}
-use Rattle.mm_world.specs.Contents.{Tables}
-use Rattle.mm_world.specs.WellFormed.{IsSpace, LaidOut, WellFormed}
-use Rattle.mm_world.specs.Charge.{charge, region_charge}
-use Rattle.mm_world.specs.Outcome.{find_or, done}
-use Rattle.mm_world.specs.Sections.{is_view_of, settle, handle_section, is_handle_to}
-use Rattle.mm_world.specs.Processes.{kept_of_others}
-use Rattle.mm_world.specs.Views.{view_at}
-use Rattle.mm_world.proofs.Keeps.{exit_keeps}
-use Rattle.mm_world.proofs.Charges.{charge-set_process}
+use Rattle.mm_world.specs.{RegionOf, ProcessOf, pages_of, Page, Numbered, SectionOf, numbered, process_of, Found, first_where, one_later, is_private}
+use Rattle.mm_world.specs.{set_process, section_of, Tables, IsSpace, LaidOut, charge, region_charge, is_view_of, settle, handle_section, is_handle_to}
+use Rattle.mm_world.specs.{view_at, private_at}
+use Rattle.mm_world.specs.WellFormed.{WellFormed}
+use Rattle.mm_world.proofs.{charge-set_process, ProcessGoes}
 use Rattle.mm_pages.specs.Behind.{Behind}
-use Rattle.mm_pages.specs.Conditions.{AreAmong, place_at}
-use Rattle.mm_pages.specs.Housekeeping.{Turn, Ends, Turns}
-use Rattle.mm_pages.specs.Leaving.{Leaving, page_rank}
-use Rattle.mm_pages.specs.Passing.{PassesIn}
-use Rattle.mm_pages.specs.Store.{StoreOf, changed}
-use Rattle.mm_pages.proofs.Passed.{ends_then, ends_meet, ends_wider}
-use Rattle.mm_commit.specs.Charge.{CommitOf}
-use Rattle.mm_sections.specs.Directories.{CountedSection}
-use Rattle.mm_sections.specs.Handles.{held, handle_at}
-use Rattle.mm_spaces.specs.Tables.{info_of, owned_in, found_info}
-use Rattle.mm_spaces.specs.declared.spaces.RegionInfo.{RegionInfo}
-use Rattle.mm_tables.specs.Endings.{Fewer, CanRelease, Released, Less, Toward, HasNoHandle, IsRankFor, nowhere}
-use Rattle.mm_tables.specs.declared.tables.Process.{Process}
-use Rattle.mm_tables.specs.declared.tables.Tables.TheInside.{Inside}
-use Rattle.mm_tables.specs.References.{IsTidy, handles_to, views_of, NobodyKeeps}
-use Rattle.mm_tables.specs.Shown.{shown_process}
-use Rattle.mm_tables.specs.Sound.{AreKeptTables}
-use Rattle.mm_tables.specs.Fits.{FitsTables, Settled, store_beside, paging_count}
-use Rattle.mm_tables.proofs.EndingFits.{regions_of, Loses, same_loses, process_same, at_each, less_then, beside_then}
+use Rattle.mm_pages.specs.{AreAmong, place_at, Turn, Turns, page_rank, PassesIn, StoreOf, changed}
+use Rattle.mm_pages.specs.Housekeeping.{Ends}
+use Rattle.mm_pages.specs.Leaving.{Leaving}
+use Rattle.mm_pages.proofs.{ends_then, ends_meet, ends_wider}
+use Rattle.mm_commit.specs.{CommitOf}
+use Rattle.mm_sections.specs.{CountedSection, held, handle_at}
+use Rattle.mm_spaces.specs.{info_of, found_info, RegionInfo}
+use Rattle.mm_tables.specs.{Fewer, Less, Toward, HasNoHandle, IsRankFor, IsTidy, handles_to, views_of, NobodyKeeps, AreKeptTables, FitsTables}
+use Rattle.mm_tables.specs.{Settled, store_beside, paging_count}
+use Rattle.mm_tables.proofs.EndingFits.{regions_of, process_same, at_each, less_then, beside_then}
 use Rattle.mm_tables.proofs.OneProcess.{regions_in, paging-set_process}
-use Rattle.mm_tables.proofs.StackTables.{sound_with}
-use Rattle.mm_tables.proofs.Keeping.{others_all, keepers_less, kept_after}
-use Rattle.mm_tables.proofs.Regional.{release_stands}
+use Rattle.mm_tables.proofs.Keeping.{keepers_less}
 use Rattle.mm_tables.proofs.EndingSettles.{handles_put, views_put, holds_count, views_count, settle_same, tidy_settled, ends_same}
-use Rattle.mm_tables.proofs.EndingSteps.{Landed, landed_by}
-use Rattle.mm_tables.proofs.EndingUnmap.{unmapped, ends_within, all_around, can_release, charge_removed, fits_removed, owned_charge}
-use Rattle.mm_tables.proofs.Standing.{shown_with}
-use Rattle.mm_tables.proofs.EndingClose.{closed, Known, by_shown, same_process, put_process}
+use Rattle.mm_tables.proofs.EndingSteps.{Landed, landed_by, nothing_lost}
+use Rattle.mm_tables.proofs.EndingUnmap.{unmapped}
+use Rattle.mm_tables.proofs.EndingClose.{closed}
+use Rattle.mm_tables.proofs.SectionTidy.{sound_edit}
 
 -- ---- the pages of a range, one after another
 
@@ -123,9 +97,8 @@ exit_then u held n s x y z b c d e h p q r =
     ends_then u held 1 n n s y z b d e (omega (arith, h)) (omega arith)
     (ends_then u held 1 (page_rank 0) n s x y b c d (omega arith) h p q) (r (Ends held n n))
 
--- ---- The lowest region of a process, which is private, is released: what the call's steps are told, and what they come to
+-- ---- the lowest region of a process
 
--- the lowest region
 pub record HasLowest (p : ProcessOf (Unit {0})) (range : Range) (k : Kind) : Type 0 where
   pub region : RegionOf (Unit {0})
   pub at : slice_get p.regions 0 ≡ Some region
@@ -147,48 +120,16 @@ lowest_passes test (x ∷ rs) r at passes =
     let same : x ≡ r = cc in
     ap (λ b. cond b (Some (record { place = 0; thing = x })) (option_map one_later (first_where test rs))) (ap test same ∙ passes) ∙ (λ i. Some (record { place = 0; thing = same i }))
 
-module _ {i : Inside} {t : Tables} {x : Option Process} (pid : Pid) (k : Known i t pid.0 x) {range : Range} (there : (p : ProcessOf (Unit {0})) → process_of t pid.0 ≡ Some p → option_map info_of (slice_get p.regions 0) ≡ Some (record { pages = range; kind = kind.Private })) where
-  v : HasLowest k.process range kind.Private
-  v = has_lowest k.process range kind.Private (there k.process k.lives)
+its_address : {p : ProcessOf (Unit {0})} {range : Range} {k : Kind} (lowest : HasLowest p range k) (first : ℕ) → first ≡ range.first → (address_of lowest.region.base == first * 4096) ≡ true
+its_address lowest first is =
+    let base : lowest.region.base ≡ first = ap (λ (range : Range). range.first) lowest.pages ∙ sym is in
+    (unsigned_Decides (address_of lowest.region.base) (first * 4096)).1 (ap address_of base)
 
-  pub lowest_there : (p : ProcessOf (Unit {0})) → option_map shown_process x ≡ Some p → 1 ≤ length p.regions
-  lowest_there = by_shown k (λ p. 1 ≤ length p.regions) (let few : 0 < length k.process.regions = get_within k.process.regions 0 v.region v.at in omega (arith, few))
-
-  pub lowest_around : (p : ProcessOf (Unit {0})) → option_map shown_process x ≡ Some p → is_some (region_around p.regions range) ≡ true
-  lowest_around = by_shown k (λ p. is_some (region_around p.regions range) ≡ true) (all_around t pid k.process 0 v.region range k.lives v.at v.pages k.kept.sound)
-
-  module _ {c : Key → Option Page} {s : StoreOf} (fits : FitsTables t c s) where
-    pub lowest_end : end_of range ≤ end_of_user_pages
-    lowest_end = ends_within t pid k.process 0 v.region range k.lives v.at v.pages k.kept.sound c s fits
-
-    pub lowest_can : s.kind ≡ line_kind.Unbind pid → (p : ProcessOf (Unit {0})) → option_map shown_process x ≡ Some p → CanRelease pid range p.regions c s
-    lowest_can unbinding = by_shown k (λ p. CanRelease pid range p.regions c s) (can_release t pid k.process 0 v.region range k.lives v.at v.pages k.kept.sound c s fits unbinding)
-
-    module _ {owned : ℕ} (counts : (p : ProcessOf (Unit {0})) → option_map shown_process x ≡ Some p → owned ≡ owned_in p.regions range) where
-      less_charge : charge (set_regions t pid.0 k.process (remove k.process.regions 0)) + owned ≡ charge t
-      less_charge =
-          omega (
-            arith,
-            counts k.process k.shown,
-            owned_charge t pid k.process 0 v.region range k.lives v.at v.pages k.kept.sound v.is,
-            charge_removed t pid k.process 0 v.region range k.lives v.at v.pages k.kept.sound,
-          )
-
-      pub lowest_charged : owned ≤ i.commit.charge
-      lowest_charged = omega (arith, less_charge, k.kept.charged)
-
-      pub lowest_landed : {commit : CommitOf} {d : Key → Option Page} {z : StoreOf} (y : Option Process) → ((p : ProcessOf (Unit {0})) → option_map shown_process x ≡ Some p → option_map shown_process y ≡ Some (unmapped p 0))
-          → ((p : ProcessOf (Unit {0})) → option_map shown_process x ≡ Some p → Released pid range p.regions c d s z) → commit ≡ record i.commit { charge = i.commit.charge - owned }
-          → (p : ProcessOf (Unit {0})) → process_of t pid.0 ≡ Some p → Landed (set_regions t pid.0 p (remove p.regions 0)) (shown_with i (set i.processes.items (pid.0 - 1) y)) i.directory.entries commit c d s z
-      lowest_landed {commit} {d} {z} y removed released refunded p lives =
-          let gone = released k.process k.shown in
-          let now = set_regions t pid.0 k.process (remove k.process.regions 0) in
-          let stands = release_stands t pid.0 k.process 0 v.region k.lives k.kept.sound v.at (ap is_private v.is) in
-          subst (λ (p : ProcessOf (Unit {0})). Landed (set_regions t pid.0 p (remove p.regions 0)) (shown_with i (set i.processes.items (pid.0 - 1) y)) i.directory.entries commit c d s z) (same_process k p lives)
-          (landed_by now (shown_with i (set i.processes.items (pid.0 - 1) y)) i.directory.entries commit c d s z (put_process k y (Some (unmapped k.process 0)) (removed k.process k.shown))
-          (kept_after t pid.0 k.process (remove k.process.regions 0) k.lives stands i.directory.entries i.commit commit k.kept
-          (omega (arith, ap (λ (k : CommitOf). k.charge) refunded, k.kept.charged, less_charge)) (ap (λ (k : CommitOf). k.limit) refunded ∙ k.kept.limited) (omega (arith, less_charge, k.kept.sound.charged)))
-          (fits_removed t pid k.process 0 v.region range k.lives v.at v.pages k.kept.sound c s fits d z gone) gone.lost.less gone.lost.rest)
+-- it is found at its address, a private one
+pub private_lowest : (p : ProcessOf (Unit {0})) (range : Range) (first : ℕ) (lowest : HasLowest p range kind.Private) → first ≡ range.first → private_at p.regions (first * 4096) ≡ Some (record { place = 0; thing = lowest.region })
+private_lowest p range first lowest is =
+    lowest_passes (λ r. is_private r.kind && (address_of r.base == first * 4096)) p.regions lowest.region lowest.at
+    (both (is_private lowest.region.kind) (address_of lowest.region.base == first * 4096) (ap is_private lowest.is) (its_address lowest first is))
 
 -- ---- steps towards the end
 
@@ -346,10 +287,8 @@ dropped pid t v p r lives at now toward =
 -- the lowest region, a view, is found at its address
 pub view_lowest : (p : ProcessOf (Unit {0})) (range : Range) (view : View) (first : ℕ) (lowest : HasLowest p range (kind.View view)) → first ≡ range.first → view_at p.regions (first * 4096) ≡ Some (record { place = 0; thing = lowest.region })
 view_lowest p range view first lowest is =
-    let base : lowest.region.base ≡ first = ap (λ (range : Range). range.first) lowest.pages ∙ sym is in
     lowest_passes (λ r. not (is_private r.kind) && (address_of r.base == first * 4096)) p.regions lowest.region lowest.at
-    (both (not (is_private lowest.region.kind)) (address_of lowest.region.base == first * 4096) (ap (λ (k : Kind). not (is_private k)) lowest.is)
-    ((unsigned_Decides (address_of lowest.region.base) (first * 4096)).1 (ap address_of base)))
+    (both (not (is_private lowest.region.kind)) (address_of lowest.region.base == first * 4096) (ap (λ (k : Kind). not (is_private k)) lowest.is) (its_address lowest first is))
 
 pub no_region : (rs : List (RegionOf (Unit {0}))) → option_map info_of (slice_get rs 0) ≡ None → rs ≡ []
 no_region [] e = refl
@@ -385,15 +324,7 @@ module _ (t : Tables) (pid : ℕ) (p : ProcessOf (Unit {0})) (lives : process_of
       ))
 
   sound_none : IsTidy t → WellFormed t → WellFormed (set_process t pid None)
-  sound_none tidy sound =
-      let ends : StackOf → Bool = λ s. s.pid == pid in
-      let ended : WellFormed (settle (set_process (end_stacks (record t { kept = map (kept_of_others pid) t.kept }) ends) pid None)) =
-      subst (λ (w : Tables). WellFormed w)
-      (ap (λ (o : Option (ProcessOf (Unit {0}))). (find_or t code.InvalidHandle o (λ p. done answer.Ok (settle (set_process (end_stacks (record t { kept = map (kept_of_others pid) t.kept }) ends) pid None)))).world) lives)
-      (exit_keeps t pid sound) in
-      subst (λ (w : Tables). WellFormed w)
-      ((λ i. settle (set_process (record t { kept = others_all pid t.kept nobody i }) pid None)) ∙ settled_none tidy)
-      (sound_with _ t.stacks ended)
+  sound_none tidy sound = sound_edit t (set_process t pid None) (ProcessGoes pid p lives (λ x here. refl) tt) (omega (arith, charge_none, sound.charged)) sound
 
   kept_none : (entries : Numbered CountedSection) (commit : CommitOf) → AreKeptTables t entries commit → AreKeptTables (set_process t pid None) entries commit
   kept_none entries commit kept =
@@ -407,27 +338,11 @@ module _ (t : Tables) (pid : ℕ) (p : ProcessOf (Unit {0})) (lives : process_of
 
   fits_none : (c : Key → Option Page) (s : StoreOf) → FitsTables t c s → FitsTables (set_process t pid None) c (record s { is_open = changed ◌==◌ s.is_open pid false })
   fits_none c s f =
-      let loses : Loses (λ k. false) nowhere 0 t (set_process t pid None) = same_loses t pid p None lives (sym empty) (omega (arith, charge_none)) count_none in
-      record {
-        machine = f.machine;
-        opened = λ n.
-            ap (cond (n == pid) false) (f.opened n)
-            ∙ at_each t pid p None lives (λ n o x. cond (n == pid) false (is_some o) ≡ is_some x) (ap (λ b. cond b false true) ((unsigned_Decides pid pid).1 refl))
-            (λ n o other. ap (λ b. cond b false (is_some o)) (not_true (n == pid) (λ e. other ((unsigned_Decides n pid).0 e)))) n;
-        last_pid = f.last_pid ∙ sym loses.made;
-        areas = f.areas;
-        bound = λ place. f.bound place ∙ sym (loses.reserved place);
-        live = λ k. f.live k ∙ sym (loses.content k);
-        paging = λ k. f.paging k ∙ (λ i. sym (loses.content k) i && not (sym (loses.files k refl) i));
-        counted = f.counted ∙ sym count_none;
-        room = omega (arith, f.room, charge_none);
-        named = λ place k e. loses.stays place k refl (f.named place k e);
-        blocks = λ k. f.blocks k ∙ sym (loses.block k);
-        used = f.used;
-        stored = f.stored;
-        named_paging = f.named_paging;
-        named_file = f.named_file;
-      }
+      nothing_lost t pid p None lives (sym empty) charge_none count_none c s (record s { is_open = changed ◌==◌ s.is_open pid false }) refl (λ n.
+      ap (cond (n == pid) false) (f.opened n)
+      ∙ at_each t pid p None lives (λ n o x. cond (n == pid) false (is_some o) ≡ is_some x) (ap (λ b. cond b false true) ((unsigned_Decides pid pid).1 refl))
+      (λ n o other. ap (λ b. cond b false (is_some o)) (not_true (n == pid) (λ e. other ((unsigned_Decides n pid).0 e)))) n)
+      refl refl refl f
 
   pub process_landed : {made : Tables} {entries : Numbered CountedSection} {commit : CommitOf} {c d : Key → Option Page} {s z : StoreOf} → made ≡ set_process t pid None → AreKeptTables t entries commit → FitsTables t c s → d ≡ c → z ≡ record s { is_open = changed ◌==◌ s.is_open pid false } → Landed (settle (set_process t pid None)) made entries commit c d s z
   process_landed {made} {entries} {commit} {c} {d} {s} {z} is kept f same after =

@@ -4,27 +4,17 @@ use Rattle.std.specs.Prelude.{◌==◌}
 use Rattle.std.specs.Cmp.{unsigned_Decides}
 use Rattle.std.proofs.Math.Path.{fun_ext}
 use Rattle.std.proofs.lemmas.List.Sums.{sum_by-cons}
-use Rattle.mm_types.specs.declared.numbers.Area.{Area}
-use Rattle.mm_types.specs.declared.numbers.Key.{Key}
+use Rattle.mm_types.specs.{Area, Key, Place, Range, holds_page, Pid}
 use Rattle.mm_types.specs.declared.numbers.Key.TheVariants as key
-use Rattle.mm_types.specs.declared.numbers.Place.{Place}
-use Rattle.mm_types.specs.Address.{Range, holds_page}
 use Rattle.mm_types.specs.declared.moves.LineKind.TheVariants as line_kind
-use Rattle.mm_types.specs.declared.numbers.Pid.{Pid}
-use Rattle.mm_types.proofs.Booleans.{both, and_false, or_left, or_right, cond_twice}
-use Rattle.mm_types.proofs.Cells.{same_or_not}
-use Rattle.mm_types.proofs.Options.{none_of, some_found}
-use Rattle.mm_world.specs.World.{Page, AreaOf, numbered, RegionOf}
-use Rattle.mm_world.specs.Failure.{same_key}
-use Rattle.mm_world.proofs.Finding.{numbered_inside}
-use Rattle.mm_world.proofs.KindsAndKeys.{same_again}
-use Rattle.mm_pages.specs.Store.{StoreOf, own_key, changed, changed_in, is_place_in}
-use Rattle.mm_pages.specs.Reports.{rearranged}
-use Rattle.mm_pages.specs.Conditions.{MayRemove, IsReleasing, AllBound, place_at}
-use Rattle.mm_tables.specs.Endings.{is_owned_among, owned_among, without_keys, without_paging, without_names, Gone, CanGo, CanGoAll, shared_at, is_committed_in, is_key_of_area, CanEnd, Emptied, is_owned_at, CanRelease, CanGiveUp, GivenUp, Released}
-use Rattle.mm_tables.specs.Effects.{Ends, RangeStored}
-use Rattle.mm_tables.specs.Ranges.{passing, is_page_live, CanRemove, one_page_range, first_pages, is_key_in}
-use Rattle.mm_tables.proofs.PageByPage.{key_in_more, not_yet, next_held, outside, only_is, no_key_in, no_place_in, own, key_in_only, place_in_only, by_same}
+use Rattle.mm_types.proofs.{both, and_false, or_left, or_right, cond_twice, same_or_not, none_of, some_found}
+use Rattle.mm_world.specs.{Page, AreaOf, numbered, RegionOf, same_key}
+use Rattle.mm_world.proofs.{numbered_inside, same_again}
+use Rattle.mm_pages.specs.{StoreOf, own_key, changed, changed_in, is_place_in, rearranged, MayRemove, IsReleasing, AllBound, place_at}
+use Rattle.mm_tables.specs.{is_owned_among, owned_among, without_keys, without_paging, without_names, Gone, CanGo, CanGoAll, shared_at}
+use Rattle.mm_tables.specs.{is_committed_in, is_key_of_area, CanEnd, Emptied, is_owned_at, CanRelease, CanGiveUp, GivenUp, Less, places_by, Ends}
+use Rattle.mm_tables.specs.{RangeStored, bound_by, passing, is_page_live, one_page_range, first_pages, is_key_in}
+use Rattle.mm_tables.proofs.PageByPage.{key_in_more, next_held, outside, only_is, no_key_in, no_place_in, own, key_in_only, place_in_only, by_same}
 
 -- ---- keys
 
@@ -104,11 +94,7 @@ can_go_next at owned n i {s = s} {z = z} can few g =
 
 -- ---- what is left
 
-some_gone : (b : Bool) (o : Option Page) → is_some (cond b None o) ≡ cond b false (is_some o)
-some_gone true o = refl
-some_gone false o = refl
-
-gone_same : (b : Bool) (o : Option Page) → is_some (cond b None o) ≡ true → cond b None o ≡ o
+pub gone_same : (b : Bool) (o : Option Page) → is_some (cond b None o) ≡ true → cond b None o ≡ o
 gone_same true o e = cc
 gone_same false o e = refl
 
@@ -145,29 +131,29 @@ among_out area owned (suc n) k out =
     by_kind (key.Private p v) out = refl
     by_kind (key.Shared b i) out = ap (λ t. t && (i == n)) out
 
--- of its keys, those that are removed are those that are committed
-shared_test : (area : Area) (a : AreaOf (Unit {0})) (f : Key → Bool) → ((i : ℕ) → f (shared_at area i) ≡ is_committed_in a i) → (k : Key) → cond (is_owned_among (shared_at area) (is_committed_in a) (length a.pages) k) false (f k) ≡ cond (is_key_of_area area.0 k) false (f k)
-shared_test area a f h (key.Private p v) = ap (λ t. cond t false (f (key.Private p v))) (among_out area (is_committed_in a) (length a.pages) (key.Private p v) refl)
-shared_test area a f h (key.Shared b i) = by_area (b.0 == area.0) refl
+-- of its keys, those that are removed are those that are committed; what the others have is this already
+shared_test : {V : Type 0} (area : Area) (a : AreaOf (Unit {0})) (f : Key → V) (x : V) → ((i : ℕ) → is_committed_in a i ≡ false → f (shared_at area i) ≡ x) → (k : Key) → cond (is_owned_among (shared_at area) (is_committed_in a) (length a.pages) k) x (f k) ≡ cond (is_key_of_area area.0 k) x (f k)
+shared_test {V} area a f x h (key.Private p v) = ap (λ t. cond t x (f (key.Private p v))) (among_out area (is_committed_in a) (length a.pages) (key.Private p v) refl)
+shared_test {V} area a f x h (key.Shared b i) = by_area (b.0 == area.0) refl
   where
-    none : (b x : Bool) → x ≡ false → cond b false x ≡ false
-    none true x e = refl
-    none false x e = e
+    none : (b : Bool) (y : V) → y ≡ x → cond b x y ≡ x
+    none true y e = refl
+    none false y e = e
 
-    by_index : key.Shared b i ≡ shared_at area i → (o : Bool) → is_committed_in a i ≡ o → cond (is_owned_among (shared_at area) (is_committed_in a) (length a.pages) (key.Shared b i)) false (f (key.Shared b i)) ≡ false
-    by_index is true o = ap (λ t. cond t false (f (key.Shared b i))) (among_one (shared_at area) (is_committed_in a) (length a.pages) i (key.Shared b i) (inside a.pages i o) o is)
-    by_index is false o = none (is_owned_among (shared_at area) (is_committed_in a) (length a.pages) (key.Shared b i)) (f (key.Shared b i)) (ap f is ∙ h i ∙ o)
+    by_index : key.Shared b i ≡ shared_at area i → (o : Bool) → is_committed_in a i ≡ o → cond (is_owned_among (shared_at area) (is_committed_in a) (length a.pages) (key.Shared b i)) x (f (key.Shared b i)) ≡ x
+    by_index is true o = ap (λ t. cond t x (f (key.Shared b i))) (among_one (shared_at area) (is_committed_in a) (length a.pages) i (key.Shared b i) (inside a.pages i o) o is)
+    by_index is false o = none (is_owned_among (shared_at area) (is_committed_in a) (length a.pages) (key.Shared b i)) (f (key.Shared b i)) (ap f is ∙ h i o)
 
-    by_area : (t : Bool) → (b.0 == area.0) ≡ t → cond (is_owned_among (shared_at area) (is_committed_in a) (length a.pages) (key.Shared b i)) false (f (key.Shared b i)) ≡ cond t false (f (key.Shared b i))
+    by_area : (t : Bool) → (b.0 == area.0) ≡ t → cond (is_owned_among (shared_at area) (is_committed_in a) (length a.pages) (key.Shared b i)) x (f (key.Shared b i)) ≡ cond t x (f (key.Shared b i))
     by_area true e = let same = (unsigned_Decides b.0 area.0).0 e in by_index (λ n. key.Shared (record { 0 = same n }) i) (is_committed_in a i) refl
-    by_area false e = ap (λ t. cond t false (f (key.Shared b i))) (among_out area (is_committed_in a) (length a.pages) (key.Shared b i) e)
+    by_area false e = ap (λ t. cond t x (f (key.Shared b i))) (among_out area (is_committed_in a) (length a.pages) (key.Shared b i) e)
+
+area_dead : (area : Area) (a : AreaOf (Unit {0})) {c d : Key → Option Page} {s z : StoreOf} → CanEnd area a c s → Gone (is_owned_among (shared_at area) (is_committed_in a) (length a.pages)) (owned_among (is_committed_in a) (length a.pages)) c d s z → d ≡ without_keys (is_key_of_area area.0) c
+area_dead area a {c = c} can g = g.contents ∙ fun_ext (shared_test area a c None (λ i none. none_of (c (shared_at area i)) (can.live i ∙ none)))
 
 pub shared_dead : (area : Area) (a : AreaOf (Unit {0})) {c d : Key → Option Page} {s z : StoreOf} → CanEnd area a c s → Gone (is_owned_among (shared_at area) (is_committed_in a) (length a.pages)) (owned_among (is_committed_in a) (length a.pages)) c d s z → (index : ℕ) → d (key.Shared area index) ≡ None
-shared_dead area a {c = c} {d = d} can g index =
-    let k = key.Shared area index in
-    none_of (d k) (
-    ap (λ (f : Key → Option Page). is_some (f k)) g.contents ∙ some_gone (is_owned_among (shared_at area) (is_committed_in a) (length a.pages) k) (c k)
-    ∙ shared_test area a (λ k. is_some (c k)) can.live k ∙ ap (λ b. cond b false (is_some (c k))) ((unsigned_Decides area.0 area.0).1 refl))
+shared_dead area a {c = c} can g index =
+    ap (λ (f : Key → Option Page). f (key.Shared area index)) (area_dead area a can g) ∙ ap (λ b. cond b None (c (key.Shared area index))) ((unsigned_Decides area.0 area.0).1 refl)
 
 pub owned_front : (f : ℕ → Bool) (n : ℕ) → owned_among f (suc n) ≡ cond (f 0) 1 0 + owned_among (λ i. f (suc i)) n
 owned_front f zero = omega arith
@@ -182,24 +168,19 @@ committed_count [] = refl
 committed_count (x ∷ xs) = omega (arith, owned_front (λ i. is_some (numbered (x ∷ xs) i)) (length xs), sum_by-cons (λ x. cond (is_some x) 1 0) x xs, committed_count xs)
 
 pub emptied : (area : Area) (a : AreaOf (Unit {0})) {c d e : Key → Option Page} {s y z : StoreOf} → CanEnd area a c s → Gone (is_owned_among (shared_at area) (is_committed_in a) (length a.pages)) (owned_among (is_committed_in a) (length a.pages)) c d s y → e ≡ d → z ≡ record y { areas = changed ◌==◌ y.areas area.0 None } → Emptied area a c e s z
-emptied area a {c = c} {s = s} {y = y} {z = z} can g same after =
-    let gone = is_owned_among (shared_at area) (is_committed_in a) (length a.pages) in
-    let made : StoreOf = record s { names = without_names gone s.names; paging = without_paging gone s.paging; paging_keys = s.paging_keys - owned_among (is_committed_in a) (length a.pages); report = rearranged s.report y.report; areas = changed ◌==◌ s.areas area.0 None } in
-    let is : z ≡ made = after ∙ (λ i. record (g.store i) { areas = changed ◌==◌ (g.store i).areas area.0 None }) in
-    subst (λ (e : Key → Option Page). Emptied area a c e s z) (sym (same ∙ g.contents)) (subst (λ (z : StoreOf). Emptied area a c (without_keys gone c) s z) (sym is) (record {
-      lost = record {
-        live = λ k. some_gone (gone k) (c k) ∙ shared_test area a (λ k. is_some (c k)) can.live k;
-        less = λ k some. gone_same (gone k) (c k) some;
-        paging = shared_test area a s.paging can.paging;
-        bound = λ place. refl;
-        names = λ place k e. ((named_still (gone (own_key place)) (s.names place) k e).0, refl);
-        count = ap (λ (n : ℕ). s.paging_keys - n) (committed_count a.pages);
-        open_same = refl;
-        room = refl;
-        rest = refl;
-      };
-      areas = refl;
-    }))
+emptied area a {s = s} {z = z} can g same after =
+    record {
+      contents = same ∙ area_dead area a can g;
+      store =
+          after ∙ (λ i. record (g.store i) { areas = changed ◌==◌ (g.store i).areas area.0 None })
+          ∙ (λ i. record s {
+            names = fun_ext (λ q. ap (λ b. cond b None (s.names q)) (among_out area (is_committed_in a) (length a.pages) (own_key q) refl)) i;
+            paging = fun_ext (shared_test area a s.paging false (λ j none. can.paging j ∙ none)) i;
+            paging_keys = s.paging_keys - committed_count a.pages i;
+            areas = changed ◌==◌ s.areas area.0 None;
+            report = rearranged s.report (ap (λ (x : StoreOf). x.report) (sym after) i);
+          });
+    }
 
 -- ---- one page
 
@@ -212,7 +193,12 @@ at_place : (owned held : Bool) (o : Option Key) → cond held None (cond (owned 
 at_place owned true o = refl
 at_place owned false o = ap (λ b. cond b None o) (and_false owned)
 
-module _ {pid : Pid} {page : ℕ} {owned : Bool} {c : Key → Option Page} {s : StoreOf} (can : CanGiveUp pid page owned c s) where
+-- of places, by their own keys
+abbrev pub by_key : (Place → Option Key) → Key → Option Key
+by_key names (key.Private pid vpn) = names (record { pid = pid; vpn = vpn })
+by_key names (key.Shared area index) = None
+
+module _ {goes : Bool} {pid : Pid} {page : ℕ} {owned : Bool} {c : Key → Option Page} {s : StoreOf} (can : CanGiveUp goes pid page owned c s) where
   pub page_can_go : CanGo (own pid page) owned s
   page_can_go = record { paging = λ o. can.paging ∙ o; may = λ o. inl can.unbinding }
 
@@ -221,8 +207,8 @@ module _ {pid : Pid} {page : ℕ} {owned : Bool} {c : Key → Option Page} {s : 
 
   -- its key has gone
   module _ {n : ℕ} {d : Key → Option Page} {y : StoreOf} (g : Gone (λ k. owned && same_key k (own pid page)) n c d s y) where
-    pub page_bound : AllBound y pid (one_page_range page) true
-    page_bound v e = ap (λ (v : ℕ). y.bound (place_at pid v)) (only_is page v e) ∙ ap (λ (x : StoreOf). x.bound (place_at pid page)) g.store ∙ can.bound
+    pub page_bound : goes ≡ true → AllBound y pid (one_page_range page) true
+    page_bound too v e = ap (λ (v : ℕ). y.bound (place_at pid v)) (only_is page v e) ∙ ap (λ (x : StoreOf). x.bound (place_at pid page)) g.store ∙ can.bound too
 
     pub page_dead : (v : ℕ) → page ≤ v → v < page + 1 → d (own pid v) ≡ None
     page_dead v low high =
@@ -234,22 +220,40 @@ module _ {pid : Pid} {page : ℕ} {owned : Bool} {c : Key → Option Page} {s : 
     pub page_unbinding : y.kind ≡ line_kind.Unbind pid
     page_unbinding = ap (λ (x : StoreOf). x.kind) g.store ∙ can.unbinding
 
-    -- and its place
-    pub given_up : {e : Key → Option Page} {z : StoreOf} → e ≡ d → z ≡ record y { bound = changed_in pid (one_page_range page) y.bound false; names = changed_in pid (one_page_range page) y.names None; report = rearranged y.report z.report } → GivenUp pid (one_page_range page) n c e s z
-    given_up {z = z} same after =
+    contents_now : d ≡ without_keys (is_key_in pid (one_page_range page)) c
+    contents_now = g.contents ∙ fun_ext (λ k. at_own owned pid page c None not_live k)
+
+    paging_now : without_paging (λ k. owned && same_key k (own pid page)) s.paging ≡ without_paging (is_key_in pid (one_page_range page)) s.paging
+    paging_now = fun_ext (λ k. at_own owned pid page s.paging false (λ e. can.paging ∙ e) k)
+
+    -- its place stays
+    pub key_given : goes ≡ false → GivenUp false pid (one_page_range page) n c d s y
+    key_given stays = record {
+      contents = contents_now;
+      store = g.store ∙ (λ i. record s {
+        names = fun_ext (λ q. at_own owned pid page (by_key s.names) None (can.named stays) (own_key q)) i;
+        paging = paging_now i;
+        paging_keys = s.paging_keys - n;
+        report = rearranged s.report y.report;
+      });
+    }
+
+    -- or goes too
+    pub place_given : {e : Key → Option Page} {z : StoreOf} → e ≡ d → z ≡ record y { bound = changed_in pid (one_page_range page) y.bound false; names = changed_in pid (one_page_range page) y.names None; report = rearranged y.report z.report } → GivenUp true pid (one_page_range page) n c e s z
+    place_given {z = z} same after =
         let names : changed_in pid (one_page_range page) (without_names (λ k. owned && same_key k (own pid page)) s.names) None ≡ changed_in pid (one_page_range page) s.names None =
         fun_ext (λ q. ap (λ b. cond b None (cond (owned && same_key (own_key q) (own pid page)) None (s.names q))) (place_in_only pid page q)
         ∙ at_place owned (same_key (own_key q) (own pid page)) (s.names q)
         ∙ ap (λ b. cond b None (s.names q)) (sym (place_in_only pid page q))) in
         record {
-          contents = same ∙ g.contents ∙ fun_ext (λ k. at_own owned pid page c None not_live k);
+          contents = same ∙ contents_now;
           store =
               after
               ∙ ap (λ (x : StoreOf). let made : StoreOf = record x { bound = changed_in pid (one_page_range page) x.bound false; names = changed_in pid (one_page_range page) x.names None; report = rearranged x.report z.report } in made) g.store
               ∙ (λ i. record s {
                 bound = changed_in pid (one_page_range page) s.bound false;
                 names = names i;
-                paging = fun_ext (λ k. at_own owned pid page s.paging false (λ e. can.paging ∙ e) k) i;
+                paging = paging_now i;
                 paging_keys = s.paging_keys - n;
                 report = rearranged s.report z.report;
               });
@@ -258,16 +262,16 @@ module _ {pid : Pid} {page : ℕ} {owned : Bool} {c : Key → Option Page} {s : 
 -- ---- one page more
 
 -- two parts, one behind the other
-pub given_two : {pid : Pid} {first second whole : Range} {n m k : ℕ} {c d e : Key → Option Page} {s z y : StoreOf} → ((j : Key) → is_key_in pid whole j ≡ (is_key_in pid second j || is_key_in pid first j)) → n + m ≡ k → GivenUp pid first n c d s z → GivenUp pid second m d e z y → GivenUp pid whole k c e s y
-given_two {pid = pid} {first = first} {second = second} {whole = whole} {n = n} {m = m} {k = k} {c = c} {s = s} {y = y} more sum a b =
+pub given_two : (goes : Bool) {pid : Pid} {first second whole : Range} {n m k : ℕ} {c d e : Key → Option Page} {s z y : StoreOf} → ((j : Key) → is_key_in pid whole j ≡ (is_key_in pid second j || is_key_in pid first j)) → n + m ≡ k → GivenUp goes pid first n c d s z → GivenUp goes pid second m d e z y → GivenUp goes pid whole k c e s y
+given_two goes {pid = pid} {first = first} {second = second} {whole = whole} {n = n} {m = m} {k = k} {c = c} {s = s} {y = y} more sum a b =
     let count : s.paging_keys - n - m ≡ s.paging_keys - k = omega (arith, sum) in
     record {
       contents = b.contents ∙ ap (without_keys (is_key_in pid second)) a.contents ∙ fun_ext (λ j. both_in None (c j) j);
       store =
           b.store
-          ∙ ap (λ (x : StoreOf). let made : StoreOf = record x { bound = changed_in pid second x.bound false; names = changed_in pid second x.names None; paging = without_paging (is_key_in pid second) x.paging; paging_keys = x.paging_keys - m; report = rearranged x.report y.report } in made) a.store
+          ∙ ap (λ (x : StoreOf). let made : StoreOf = record x { bound = bound_by (places_by goes) pid second x.bound; names = changed_in pid second x.names None; paging = without_paging (is_key_in pid second) x.paging; paging_keys = x.paging_keys - m; report = rearranged x.report y.report } in made) a.store
           ∙ (λ i. record s {
-            bound = fun_ext (λ q. both_in false (s.bound q) (own_key q)) i;
+            bound = bound goes i;
             names = fun_ext (λ q. both_in None (s.names q) (own_key q)) i;
             paging = fun_ext (λ j. both_in false (s.paging j) j) i;
             paging_keys = count i;
@@ -278,37 +282,51 @@ given_two {pid = pid} {first = first} {second = second} {whole = whole} {n = n} 
     both_in : {V : Type 0} (x o : V) (j : Key) → cond (is_key_in pid second j) x (cond (is_key_in pid first j) x o) ≡ cond (is_key_in pid whole j) x o
     both_in x o j = cond_twice (is_key_in pid second j) (is_key_in pid first j) x o ∙ ap (λ b. cond b x o) (sym (more j))
 
-pub given_then : (pid : Pid) (range : Range) (n : ℕ) (f : ℕ → Bool) {c d e : Key → Option Page} {s z y : StoreOf} → GivenUp pid (first_pages range n) (owned_among f n) c d s z → GivenUp pid (one_page_range (range.first + n)) (cond (f n) 1 0) d e z y → GivenUp pid (first_pages range (n + 1)) (owned_among f (n + 1)) c e s y
-given_then pid range n f {c = c} {e = e} {s = s} {y = y} a b =
+    bound : (b : Bool) → bound_by (places_by b) pid second (bound_by (places_by b) pid first s.bound) ≡ bound_by (places_by b) pid whole s.bound
+    bound true = fun_ext (λ q. both_in false (s.bound q) (own_key q))
+    bound false = refl
+
+pub given_then : (goes : Bool) (pid : Pid) (range : Range) (n : ℕ) (f : ℕ → Bool) {c d e : Key → Option Page} {s z y : StoreOf} → GivenUp goes pid (first_pages range n) (owned_among f n) c d s z → GivenUp goes pid (one_page_range (range.first + n)) (cond (f n) 1 0) d e z y → GivenUp goes pid (first_pages range (n + 1)) (owned_among f (n + 1)) c e s y
+given_then goes pid range n f {c = c} {e = e} {s = s} {y = y} a b =
     let more : suc n ≡ n + 1 = omega arith in
-    subst (λ (n : ℕ). GivenUp pid (first_pages range n) (owned_among f n) c e s y) more (given_two (key_in_more pid range n) refl a b)
+    subst (λ (n : ℕ). GivenUp goes pid (first_pages range n) (owned_among f n) c e s y) more (given_two goes (key_in_more pid range n) refl a b)
 
-pub given_all : (pid : Pid) (range : Range) (n : ℕ) (f : ℕ → Bool) {c d : Key → Option Page} {s z : StoreOf} → n ≡ range.count → GivenUp pid (first_pages range n) (owned_among f n) c d s z → GivenUp pid range (owned_among f range.count) c d s z
-given_all pid range n f {c = c} {d = d} {s = s} {z = z} all a = subst (λ (n : ℕ). GivenUp pid (first_pages range n) (owned_among f n) c d s z) all a
+pub given_all : (goes : Bool) (pid : Pid) (range : Range) (n : ℕ) (f : ℕ → Bool) {c d : Key → Option Page} {s z : StoreOf} → n ≡ range.count → GivenUp goes pid (first_pages range n) (owned_among f n) c d s z → GivenUp goes pid range (owned_among f range.count) c d s z
+given_all goes pid range n f {c = c} {d = d} {s = s} {z = z} all a = subst (λ (n : ℕ). GivenUp goes pid (first_pages range n) (owned_among f n) c d s z) all a
 
-pub given_none : (pid : Pid) (range : Range) (c : Key → Option Page) (s : StoreOf) → GivenUp pid (first_pages range 0) 0 c c s s
-given_none pid range c s =
+pub given_none : (goes : Bool) (pid : Pid) (range : Range) (c : Key → Option Page) (s : StoreOf) → GivenUp goes pid (first_pages range 0) 0 c c s s
+given_none goes pid range c s =
     let count : s.paging_keys ≡ s.paging_keys - 0 = omega arith in
     record {
       contents = fun_ext (λ k. ap (λ b. cond b None (c k)) (sym (no_key_in pid range k)));
       store = λ i. record s {
-        bound = fun_ext (λ q. ap (λ b. cond b false (s.bound q)) (sym (no_place_in pid range q))) i;
+        bound = bound goes i;
         names = fun_ext (λ q. ap (λ b. cond b None (s.names q)) (sym (no_place_in pid range q))) i;
         paging = fun_ext (λ k. ap (λ b. cond b false (s.paging k)) (sym (no_key_in pid range k))) i;
         paging_keys = count i;
         report = rearranged s.report s.report;
       };
     }
+  where
+    bound : (b : Bool) → s.bound ≡ bound_by (places_by b) pid (first_pages range 0) s.bound
+    bound true = fun_ext (λ q. ap (λ b. cond b false (s.bound q)) (sym (no_place_in pid range q)))
+    bound false = refl
 
-pub next_can : (pid : Pid) (range : Range) (n k : ℕ) (rs : List (RegionOf (Unit {0}))) {c d : Key → Option Page} {s z : StoreOf} → CanRelease pid range rs c s → n < range.count → GivenUp pid (first_pages range n) k c d s z → CanGiveUp pid (range.first + n) (is_owned_at rs range.first n) d z
-next_can pid range n k rs {c = c} {s = s} can few a =
+-- places as they were, where none of these went
+pub bound_out : (goes : Bool) (pid : Pid) (range : Range) (bound : Place → Bool) (q : Place) → is_place_in pid range q ≡ false → bound_by (places_by goes) pid range bound q ≡ bound q
+bound_out true pid range bound q out = ap (λ b. cond b false (bound q)) out
+bound_out false pid range bound q out = refl
+
+pub next_can : (goes : Bool) (pid : Pid) (range : Range) (n k : ℕ) (rs : List (RegionOf (Unit {0}))) {c d : Key → Option Page} {s z : StoreOf} → CanRelease goes pid range rs c s → n < range.count → GivenUp goes pid (first_pages range n) k c d s z → CanGiveUp goes pid (range.first + n) (is_owned_at rs range.first n) d z
+next_can goes pid range n k rs {c = c} {s = s} can few a =
     let page = range.first + n in
     let key = outside pid range n in
-    let place : is_place_in pid (first_pages range n) (place_at pid page) ≡ false = ap (λ b. (pid.0 == pid.0) && b) (not_yet range n) ∙ and_false (pid.0 == pid.0) in
+    let place : is_place_in pid (first_pages range n) (place_at pid page) ≡ false = key in
     record {
       live = ap (λ (f : Key → Option Page). is_some (f (own pid page))) a.contents ∙ ap (λ b. is_some (cond b None (c (own pid page)))) key ∙ can.live n few;
       paging = ap (λ (x : StoreOf). x.paging (own pid page)) a.store ∙ ap (λ b. cond b false (s.paging (own pid page))) key ∙ can.paging n few;
-      bound = ap (λ (x : StoreOf). x.bound (place_at pid page)) a.store ∙ ap (λ b. cond b false (s.bound (place_at pid page))) place ∙ can.bound page (next_held range n few);
+      bound = λ too. ap (λ (x : StoreOf). x.bound (place_at pid page)) a.store ∙ bound_out goes pid (first_pages range n) s.bound (place_at pid page) place ∙ can.bound too page (next_held range n few);
+      named = λ stays dead. ap (λ (x : StoreOf). x.names (place_at pid page)) a.store ∙ ap (λ b. cond b None (s.names (place_at pid page))) place ∙ can.named stays n few dead;
       unbinding = ap (λ (x : StoreOf). x.kind) a.store ∙ can.unbinding;
     }
 
@@ -319,40 +337,20 @@ owned_passing test first zero = refl
 owned_passing test first (suc n) = ap (λ k. k + cond (test (first + n)) 1 0) (owned_passing test first n)
 
 -- as many keys go as there are
-pub as_many : (pid : Pid) (range : Range) (rs : List (RegionOf (Unit {0}))) {c d : Key → Option Page} {s z : StoreOf} → CanRelease pid range rs c s → GivenUp pid range (owned_among (is_owned_at rs range.first) range.count) c d s z → GivenUp pid range (passing (is_page_live pid c) range.first range.count) c d s z
-as_many pid range rs {c = c} {d = d} {s = s} {z = z} can a =
-    subst (λ (n : ℕ). GivenUp pid range n c d s z)
+pub as_many : (goes : Bool) (pid : Pid) (range : Range) (rs : List (RegionOf (Unit {0}))) {c d : Key → Option Page} {s z : StoreOf} → CanRelease goes pid range rs c s → GivenUp goes pid range (owned_among (is_owned_at rs range.first) range.count) c d s z → GivenUp goes pid range (passing (is_page_live pid c) range.first range.count) c d s z
+as_many goes pid range rs {c = c} {d = d} {s = s} {z = z} can a =
+    subst (λ (n : ℕ). GivenUp goes pid range n c d s z)
     (owned_same (is_owned_at rs range.first) (λ i. is_page_live pid c (range.first + i)) range.count (λ i few. sym (can.live i few))
     ∙ owned_passing (is_page_live pid c) range.first range.count) a
 
-pub released : (pid : Pid) (range : Range) (rs : List (RegionOf (Unit {0}))) {c d : Key → Option Page} {s z : StoreOf} → GivenUp pid range (owned_among (is_owned_at rs range.first) range.count) c d s z → Released pid range rs c d s z
-released pid range rs {c = c} {s = s} {z = z} a =
-    subst (λ (d : Key → Option Page). Released pid range rs c d s z) (sym a.contents) (subst (λ (z : StoreOf). Released pid range rs c (without_keys (is_key_in pid range) c) s z) (sym a.store) (record {
-      lost = record {
-        live = λ k. some_gone (is_key_in pid range k) (c k);
-        less = λ k some. gone_same (is_key_in pid range k) (c k) some;
-        paging = λ k. refl;
-        bound = λ place. refl;
-        names = λ place k e. named_still (is_place_in pid range place) (s.names place) k e;
-        count = refl;
-        open_same = refl;
-        room = refl;
-        rest = refl;
-      };
-      areas = refl;
-    }))
+module _ {goes : Bool} {pid : Pid} {range : Range} {n : ℕ} {c d : Key → Option Page} {s z : StoreOf} (a : GivenUp goes pid range n c d s z) where
+  pub given_less : Less c d
+  given_less k some =
+      let gone = ap (λ (f : Key → Option Page). f k) a.contents in
+      gone ∙ gone_same (is_key_in pid range k) (c k) (sym (ap is_some gone) ∙ some)
 
--- ---- the same in the words of calls on private regions
-
-pub can_release : (pid : Pid) (range : Range) (rs : List (RegionOf (Unit {0}))) (c : Key → Option Page) (s : StoreOf) → CanRemove pid range rs c s → AllBound s pid range true → CanRelease pid range rs c s
-can_release pid range rs c s can bound =
-    record {
-      live = λ i few. can.live (range.first + i) (next_held range i few);
-      paging = λ i few. can.paging (range.first + i) (next_held range i few) ∙ can.live (range.first + i) (next_held range i few);
-      bound = bound;
-      unbinding = can.unbinding;
-    }
-
-pub stored : (pid : Pid) (range : Range) (n : ℕ) (c d : Key → Option Page) (s z : StoreOf) → GivenUp pid range n c d s z → RangeStored pid range Ends Ends true c d s z
-stored pid range n c d s z a =
-    subst (λ (z : StoreOf). RangeStored pid range Ends Ends true c d s z) (sym a.store) (record { contents = a.contents; paging = refl; bound = refl; names = refl; open_same = refl; areas_same = refl; same = refl })
+  -- the same in the words of calls on regions
+  pub stored : RangeStored pid range Ends (places_by goes) true c d s z
+  stored =
+      subst (λ (z : StoreOf). RangeStored pid range Ends (places_by goes) true c d s z) (sym a.store)
+      (record { contents = a.contents; paging = refl; bound = refl; names = refl; open_same = refl; areas_same = refl; same = refl })

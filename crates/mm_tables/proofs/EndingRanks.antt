@@ -5,16 +5,14 @@ use Rattle.std.specs.List.{position_or_len}
 use Rattle.std.specs.Cmp.{unsigned_Decides}
 use Rattle.std.proofs.lemmas.Bool.{ltb-true, ltb-false}
 use Rattle.std.proofs.lemmas.List.Sums.{sum_by-cons, passes_at_first, fails_before_first}
-use Rattle.mm_world.specs.World.{AreaOf, ProcessOf, RegionOf, SectionOf, Numbered, numbered}
-use Rattle.mm_world.specs.Find.{process_of, section_of, area_at, no_area, set_process}
-use Rattle.mm_world.specs.Sections.{is_handle_to, is_view_of, uses, settle, settled_area}
-use Rattle.mm_world.specs.Contents.{Tables}
-use Rattle.mm_world.proofs.Finding.{numbered_inside}
-use Rattle.mm_pages.specs.Leaving.{or_else, last_rank, handle_rank, view_rank, section_rank, rank_behind, goes_with}
-use Rattle.mm_tables.specs.References.{IsTidy, handles_in, views_in}
-use Rattle.mm_tables.specs.Endings.{IsRankFor}
+use Rattle.mm_world.specs.{AreaOf, ProcessOf, RegionOf, SectionOf, Numbered, numbered, process_of, section_of, area_at, no_area, set_process}
+use Rattle.mm_world.specs.{is_handle_to, is_view_of, uses, settle, settled_area, Tables}
+use Rattle.mm_world.proofs.{numbered_inside}
+use Rattle.mm_pages.specs.{or_else, last_rank, handle_rank, view_rank, section_rank, rank_behind, goes_with}
+use Rattle.mm_tables.specs.{IsTidy, handles_in, views_in, IsRankFor}
 use Rattle.mm_tables.proofs.EndingFits.{process_same}
-use Rattle.mm_tables.proofs.EndingSettles.{stood, at_area}
+use Rattle.mm_tables.proofs.EndingSettles.{stood}
+use Rattle.mm_tables.proofs.SectionTidy.{area_now}
 
 -- ---- the last of a list
 
@@ -160,8 +158,7 @@ for_settled rank pid t v p q lives is ranked for =
     let u = set_process t pid (Some q) in
     let now : process_of u pid ≡ Some q = process_same t pid p (Some q) lives in
     let x = stood u.processes t.sections n s there in
-    let zero : 0 + s.area ≡ s.area = omega arith in
-    let area : area_at (settle u) s.area ≡ settled_area (settle u).sections s.area (area_at t s.area) = at_area (settle u).sections 0 s.area t.areas ∙ ap (λ (n : ℕ). settled_area (settle u).sections n (area_at t s.area)) zero in
+    let area : area_at (settle u) s.area ≡ settled_area (settle u).sections s.area (area_at t s.area) = area_now (settle u).sections t.areas s.area in
     let file = file_stays (area_at t s.area) (is_some (area_at t s.area).file_block) _ refl (sym (ap (λ (a : AreaOf (Unit {0})). a.file_block) area) ∙ paging) in
     let mine : 1 ≤ section_rank n (Some q) = subst (λ (o : Option (ProcessOf (Unit {0}))). 1 ≤ section_rank n o) now some in
     let more : 1 ≤ section_rank n (process_of t pid) = subst (λ (o : Option (ProcessOf (Unit {0}))). 1 ≤ section_rank n o) (sym lives) (subst (λ (m : ℕ). 1 ≤ m) (sym (ranked n mine)) mine) in

@@ -4,32 +4,20 @@ use Rattle.std.specs.Prelude.{◌==◌}
 use Rattle.std.specs.Cmp.{unsigned_Decides}
 use Rattle.std.proofs.Math.Path.{fun_ext}
 use Rattle.std.proofs.lemmas.Bool.{le-leb, leb-true, leb-false}
-use Rattle.mm_types.specs.declared.numbers.Key.{Key}
+use Rattle.mm_types.specs.{Key, Pid, Range, end_of, holds_page, lies_within, first_user_page}
 use Rattle.mm_types.specs.declared.numbers.Key.TheVariants as key
-use Rattle.mm_types.specs.declared.numbers.Pid.{Pid}
-use Rattle.mm_types.specs.declared.numbers.Place.{Place}
-use Rattle.mm_types.specs.Address.{Range, end_of, holds_page, lies_within, first_user_page}
-use Rattle.mm_types.proofs.Cells.{same_or_not}
-use Rattle.mm_types.proofs.Booleans.{not_true, same_tests, both, and_false, spread, or_left, or_right, by_either, cond_twice}
-use Rattle.mm_types.proofs.Options.{none_of, some_found}
-use Rattle.mm_world.specs.World.{Page, RegionOf, pages_of}
-use Rattle.mm_world.specs.Find.{region_around}
-use Rattle.mm_world.specs.Keys.{own_page}
-use Rattle.mm_world.specs.WellFormed.{IsSpace}
-use Rattle.mm_world.proofs.LaidOut.{and-true}
+use Rattle.mm_types.proofs.{same_or_not, not_true, same_tests, both, and_false, spread, or_left, or_right, by_either, none_of, some_found}
+use Rattle.mm_world.specs.{Page, RegionOf, pages_of, region_around, own_page, IsSpace}
+use Rattle.mm_world.proofs.{and-true}
 use Rattle.mm_pages.specs.Behind.{Behind}
-use Rattle.mm_pages.specs.Conditions.{AreAmong, place_at}
-use Rattle.mm_pages.specs.Housekeeping.{Ends, Turns}
-use Rattle.mm_pages.specs.Leaving.{Leaving, page_rank}
-use Rattle.mm_pages.specs.Passing.{PassesIn}
-use Rattle.mm_pages.specs.Reports.{rearranged}
-use Rattle.mm_pages.specs.Store.{StoreOf, changed_in, own_key}
-use Rattle.mm_pages.proofs.Passed.{ends_then}
-use Rattle.mm_spaces.specs.Tables.{owned_in}
-use Rattle.mm_tables.specs.Endings.{owned_among, own_at, is_owned_at, CanRelease, GivenUp}
-use Rattle.mm_tables.specs.Ranges.{low_half, high_half, CanRemove, Removes, removed, passing, is_page_live, store_without_keys, is_key_in}
-use Rattle.mm_tables.proofs.EndingPages.{owned_passing, owned_same, given_two}
-use Rattle.mm_tables.proofs.PageByPage.{own, next_held}
+use Rattle.mm_pages.specs.{AreAmong, place_at, Turns, page_rank, PassesIn, rearranged, StoreOf, changed_in, own_key}
+use Rattle.mm_pages.specs.Housekeeping.{Ends}
+use Rattle.mm_pages.specs.Leaving.{Leaving}
+use Rattle.mm_pages.proofs.{ends_then}
+use Rattle.mm_spaces.specs.{owned_in}
+use Rattle.mm_tables.specs.{owned_among, own_at, is_owned_at, without_keys, without_paging, CanRelease, GivenUp, low_half, high_half, is_key_in}
+use Rattle.mm_tables.proofs.EndingPages.{owned_passing, owned_same, given_two, by_key, bound_out}
+use Rattle.mm_tables.proofs.PageByPage.{own}
 use Rattle.mm_tables.proofs.Settled.{around, found_there}
 use Rattle.mm_tables.proofs.Regions.{within, holds, holds_not}
 use Rattle.mm_tables.proofs.Rows.{Inside, holds_too, passing_owned}
@@ -62,52 +50,43 @@ keys_stay pid range f x h (key.Private p v) = by_test ((p.0 == pid.0) && holds_p
         let at : v.0 ≡ range.first + (v.0 - range.first) = omega (arith, w.low) in
         (λ i. f (key.Private (record { 0 = same i }) (record { 0 = at i }))) ∙ h (v.0 - range.first) (omega (arith, w.low, w.high))
 
--- of places, by their own keys
-abbrev by_key : (Place → Option Key) → Key → Option Key
-by_key names (key.Private pid vpn) = names (record { pid = pid; vpn = vpn })
-by_key names (key.Shared area index) = None
+module _ {goes : Bool} (pid : Pid) (range : Range) (rs : List (RegionOf (Unit {0}))) {c : Key → Option Page} {s : StoreOf} (can : CanRelease goes pid range rs c s) (none : owned_among (is_owned_at rs range.first) range.count ≡ 0) where
+  dead : (i : ℕ) → i < range.count → is_owned_at rs range.first i ≡ false
+  dead = none_owned (is_owned_at rs range.first) range.count none
 
-pub given_at_once : (pid : Pid) (range : Range) (rs : List (RegionOf (Unit {0}))) (c d : Key → Option Page) (s z : StoreOf) → CanRelease pid range rs c s → owned_among (is_owned_at rs range.first) range.count ≡ 0 → d ≡ c → z ≡ record s { bound = changed_in pid range s.bound false; names = changed_in pid range s.names None; report = rearranged s.report z.report } → GivenUp pid range (owned_among (is_owned_at rs range.first) range.count) c d s z
-given_at_once pid range rs c d s z can none same after =
-    let count : s.paging_keys ≡ s.paging_keys - owned rs range = omega (arith, none) in
-    record {
-      contents = same ∙ fun_ext (keys_stay pid range c None (λ i few. none_of (c (own_at pid range.first i)) (can.live i few ∙ none_owned (is_owned_at rs range.first) range.count none i few)));
-      store =
-          after
-          ∙ (λ i. record s {
-            bound = changed_in pid range s.bound false;
-            names = changed_in pid range s.names None;
-            paging = fun_ext (keys_stay pid range s.paging false (λ j few. can.paging j few ∙ none_owned (is_owned_at rs range.first) range.count none j few)) i;
-            paging_keys = count i;
-            report = rearranged s.report z.report;
-          });
-    }
+  contents_stay : c ≡ without_keys (is_key_in pid range) c
+  contents_stay = fun_ext (keys_stay pid range c None (λ i few. none_of (c (own_at pid range.first i)) (can.live i few ∙ dead i few)))
 
-pub dead_at_once : (pid : Pid) (range : Range) (rs : List (RegionOf (Unit {0}))) (c : Key → Option Page) (s : StoreOf) → CanRelease pid range rs c s → owned_among (is_owned_at rs range.first) range.count ≡ 0 → (page : ℕ) → range.first ≤ page → page < range.first + range.count → c (own pid page) ≡ None
-dead_at_once pid range rs c s can none page low high =
-    let at : range.first + (page - range.first) ≡ page = omega (arith, low) in
-    let few : page - range.first < range.count = omega (arith, low, high) in
-    none_of (c (own pid page)) (
-    ap (λ (page : ℕ). is_some (c (own pid page))) (sym at) ∙ can.live (page - range.first) few ∙ none_owned (is_owned_at rs range.first) range.count none (page - range.first) few)
+  paging_stays : s.paging ≡ without_paging (is_key_in pid range) s.paging
+  paging_stays = fun_ext (keys_stay pid range s.paging false (λ j few. can.paging j few ∙ dead j few))
 
-pub removes_nothing : (pid : Pid) (range : Range) (rs : List (RegionOf (Unit {0}))) (c : Key → Option Page) (s : StoreOf) → CanRemove pid range rs c s → owned_among (is_owned_at rs range.first) range.count ≡ 0 → Removes pid range c c s s
-removes_nothing pid range rs c s can none =
-    let zero : passing (is_page_live pid c) range.first range.count ≡ 0 =
-    sym (owned_passing (is_page_live pid c) range.first range.count)
-    ∙ owned_same (λ i. is_page_live pid c (range.first + i)) (is_owned_at rs range.first) range.count (λ i few. can.live (range.first + i) (next_held range i few)) ∙ none in
-    let count : s.paging_keys ≡ s.paging_keys - passing (is_page_live pid c) range.first range.count = omega (arith, zero) in
-    record {
-      contents = fun_ext (keys_stay pid range c None (λ i few. none_of (c (own_at pid range.first i)) (dead i few)));
-      store = λ i. record s {
-        names = fun_ext (λ q. keys_stay pid range (by_key s.names) None (λ j few. can.named (range.first + j) (next_held range j few) (dead j few)) (own_key q)) i;
-        paging = fun_ext (keys_stay pid range s.paging false (λ j few. can.paging (range.first + j) (next_held range j few) ∙ dead j few)) i;
-        paging_keys = count i;
-        report = rearranged s.report s.report;
-      };
-    }
-  where
-    dead : (i : ℕ) → i < range.count → is_page_live pid c (range.first + i) ≡ false
-    dead i few = can.live (range.first + i) (next_held range i few) ∙ none_owned (is_owned_at rs range.first) range.count none i few
+  count : s.paging_keys ≡ s.paging_keys - owned rs range
+  count = omega (arith, none)
+
+  pub given_at_once : {d : Key → Option Page} {z : StoreOf} → d ≡ c → z ≡ record s { bound = changed_in pid range s.bound false; names = changed_in pid range s.names None; report = rearranged s.report z.report } → GivenUp true pid range (owned_among (is_owned_at rs range.first) range.count) c d s z
+  given_at_once {z = z} same after =
+      record {
+        contents = same ∙ contents_stay;
+        store = after ∙ (λ i. record s { bound = changed_in pid range s.bound false; names = changed_in pid range s.names None; paging = paging_stays i; paging_keys = count i; report = rearranged s.report z.report });
+      }
+
+  pub given_nothing : goes ≡ false → GivenUp false pid range (owned_among (is_owned_at rs range.first) range.count) c c s s
+  given_nothing stays =
+      record {
+        contents = contents_stay;
+        store = λ i. record s {
+          names = fun_ext (λ q. keys_stay pid range (by_key s.names) None (λ j few. can.named stays j few (dead j few)) (own_key q)) i;
+          paging = paging_stays i;
+          paging_keys = count i;
+          report = rearranged s.report s.report;
+        };
+      }
+
+  pub dead_at_once : (page : ℕ) → range.first ≤ page → page < range.first + range.count → c (own pid page) ≡ None
+  dead_at_once page low high =
+      let at : range.first + (page - range.first) ≡ page = omega (arith, low) in
+      let few : page - range.first < range.count = omega (arith, low, high) in
+      none_of (c (own pid page)) (ap (λ (page : ℕ). is_some (c (own pid page))) (sym at) ∙ can.live (page - range.first) few ∙ dead (page - range.first) few)
 
 -- ---- parts of a range
 
@@ -119,12 +98,13 @@ around_part rs {range = range} {part = part} there inner =
     (both (nat_le r.0.thing.base part.first) (nat_le (end_of part) (end_of (pages_of r.0.thing)))
     (le-leb _ _ (omega (arith, a.inside.low, inner.low))) (le-leb _ _ (omega (arith, a.inside.high, inner.high))))
 
-pub can_part : {pid : Pid} {range part : Range} {rs : List (RegionOf (Unit {0}))} {c : Key → Option Page} {s : StoreOf} → CanRelease pid range rs c s → Inside part range → CanRelease pid part rs c s
+pub can_part : {goes : Bool} {pid : Pid} {range part : Range} {rs : List (RegionOf (Unit {0}))} {c : Key → Option Page} {s : StoreOf} → CanRelease goes pid range rs c s → Inside part range → CanRelease goes pid part rs c s
 can_part {pid = pid} {range = range} {part = part} {rs = rs} {c = c} {s = s} can inner =
     record {
       live = λ i few. subst (λ (page : ℕ). is_some (c (own pid page)) ≡ is_some (own_page rs page)) (at i) (can.live (part.first - range.first + i) (small i few));
       paging = λ i few. subst (λ (page : ℕ). s.paging (own pid page) ≡ is_some (own_page rs page)) (at i) (can.paging (part.first - range.first + i) (small i few));
-      bound = λ page e. can.bound page (holds_too part range page inner e);
+      bound = λ too page e. can.bound too page (holds_too part range page inner e);
+      named = λ stays i few. subst (λ (page : ℕ). is_some (own_page rs page) ≡ false → s.names (place_at pid page) ≡ None) (at i) (can.named stays (part.first - range.first + i) (small i few));
       unbinding = can.unbinding;
     }
   where
@@ -134,53 +114,26 @@ can_part {pid = pid} {range = range} {part = part} {rs = rs} {c = c} {s = s} can
     small : (i : ℕ) → i < part.count → part.first - range.first + i < range.count
     small i few = omega (arith, inner.low, inner.high, few)
 
-pub can_remove_part : {pid : Pid} {range part : Range} {rs : List (RegionOf (Unit {0}))} {c : Key → Option Page} {s : StoreOf} → CanRemove pid range rs c s → Inside part range → CanRemove pid part rs c s
-can_remove_part {range = range} {part = part} can inner =
-    record {
-      live = λ page e. can.live page (holds_too part range page inner e);
-      named = λ page e dead. can.named page (holds_too part range page inner e) dead;
-      paging = λ page e. can.paging page (holds_too part range page inner e);
-      unbinding = can.unbinding;
-    }
-
 -- a page behind the range is none of its pages
 out_of : (pid : Pid) (first : Range) (page : ℕ) → end_of first ≤ page → is_key_in pid first (own pid page) ≡ false
 out_of pid first page from = ap (λ b. (pid.0 == pid.0) && b) (holds_not first page (λ w. absurd (omega (arith, w.high, from)))) ∙ and_false (pid.0 == pid.0)
 
 -- the part behind one that was given up
-pub can_after : {pid : Pid} {first second : Range} {n : ℕ} {rs : List (RegionOf (Unit {0}))} {c d : Key → Option Page} {s z : StoreOf} → end_of first ≤ second.first → CanRelease pid second rs c s → GivenUp pid first n c d s z → CanRelease pid second rs d z
-can_after {pid = pid} {first = first} {second = second} {c = c} {s = s} behind can a =
+pub can_after : {goes : Bool} {pid : Pid} {first second : Range} {n : ℕ} {rs : List (RegionOf (Unit {0}))} {c d : Key → Option Page} {s z : StoreOf} → end_of first ≤ second.first → CanRelease goes pid second rs c s → GivenUp goes pid first n c d s z → CanRelease goes pid second rs d z
+can_after {goes = goes} {pid = pid} {first = first} {second = second} {c = c} {s = s} behind can a =
     record {
       live = λ i few. ap (λ (f : Key → Option Page). is_some (f (own_at pid second.first i))) a.contents ∙ ap (λ b. is_some (cond b None (c (own_at pid second.first i)))) (key i) ∙ can.live i few;
       paging = λ i few. ap (λ (x : StoreOf). x.paging (own_at pid second.first i)) a.store ∙ ap (λ b. cond b false (s.paging (own_at pid second.first i))) (key i) ∙ can.paging i few;
-      bound = λ page e.
+      bound = λ too page e.
           ap (λ (x : StoreOf). x.bound (place_at pid page)) a.store
-          ∙ ap (λ b. cond b false (s.bound (place_at pid page))) (out_of pid first page (let w = within second page e in omega (arith, w.low, behind))) ∙ can.bound page e;
+          ∙ bound_out goes pid first s.bound (place_at pid page) (out_of pid first page (let w = within second page e in omega (arith, w.low, behind))) ∙ can.bound too page e;
+      named = λ stays i few dead.
+          ap (λ (x : StoreOf). x.names (place_at pid (second.first + i))) a.store ∙ ap (λ b. cond b None (s.names (place_at pid (second.first + i)))) (key i) ∙ can.named stays i few dead;
       unbinding = ap (λ (x : StoreOf). x.kind) a.store ∙ can.unbinding;
     }
   where
     key : (i : ℕ) → is_key_in pid first (own_at pid second.first i) ≡ false
     key i = out_of pid first (second.first + i) (omega (arith, behind))
-
-module _ {pid : Pid} {first : Range} (second : Range) {c d : Key → Option Page} {s z : StoreOf} (behind : end_of first ≤ second.first) (a : Removes pid first c d s z) where
-  out : (page : ℕ) → holds_page second page ≡ true → is_key_in pid first (own pid page) ≡ false
-  out page e = let w = within second page e in out_of pid first page (omega (arith, w.low, behind))
-
-  still_live : (page : ℕ) → holds_page second page ≡ true → is_page_live pid d page ≡ is_page_live pid c page
-  still_live page e = ap (λ (f : Key → Option Page). is_page_live pid f page) a.contents ∙ ap (λ b. is_some (cond b None (c (own pid page)))) (out page e)
-
-  pub can_remove_after : {rs : List (RegionOf (Unit {0}))} → CanRemove pid second rs c s → CanRemove pid second rs d z
-  can_remove_after can =
-      record {
-        live = λ page e. still_live page e ∙ can.live page e;
-        named = λ page e dead.
-            ap (λ (x : StoreOf). x.names (place_at pid page)) a.store ∙ ap (λ b. cond b None (s.names (place_at pid page))) (out page e)
-            ∙ can.named page e (sym (still_live page e) ∙ dead);
-        paging = λ page e.
-            ap (λ (x : StoreOf). x.paging (own pid page)) a.store ∙ ap (λ b. cond b false (s.paging (own pid page))) (out page e)
-            ∙ can.paging page e ∙ sym (still_live page e);
-        unbinding = ap (λ (x : StoreOf). x.kind) a.store ∙ can.unbinding;
-      }
 
 -- ---- how many pages have a key
 
@@ -253,37 +206,8 @@ module _ {range low high : Range} (h : Halves range low high) where
   key_halves pid (key.Private p v) = ap (λ b. (p.0 == pid.0) && b) (holds_halves v.0) ∙ spread (p.0 == pid.0) (holds_page high v.0) (holds_page low v.0)
   key_halves pid (key.Shared area index) = refl
 
-  key_both : {V : Type 0} (pid : Pid) (x o : V) (k : Key) → cond (is_key_in pid high k) x (cond (is_key_in pid low k) x o) ≡ cond (is_key_in pid range k) x o
-  key_both pid x o k = cond_twice (is_key_in pid high k) (is_key_in pid low k) x o ∙ ap (λ b. cond b x o) (sym (key_halves pid k))
-
-  module _ {pid : Pid} {c d e : Key → Option Page} {s z y : StoreOf} where
-    pub given_halves : (rs : List (RegionOf (Unit {0}))) → GivenUp pid low (owned_among (is_owned_at rs low.first) low.count) c d s z → GivenUp pid high (owned_among (is_owned_at rs high.first) high.count) d e z y → GivenUp pid range (owned_among (is_owned_at rs range.first) range.count) c e s y
-    given_halves rs a b = given_two (key_halves pid) (sym (owned_halves rs)) a b
-
-    pub removes_halves : Removes pid low c d s z → Removes pid high d e z y → Removes pid range c e s y
-    removes_halves a b =
-        let n = passing (is_page_live pid c) low.first low.count in
-        let m = passing (is_page_live pid d) high.first high.count in
-        let live = λ (i : ℕ). is_page_live pid c (range.first + i) in
-        let whole = owned_passing (is_page_live pid c) range.first range.count in
-        let split : owned_among live range.count ≡ owned_among live low.count + owned_among (λ i. live (low.count + i)) high.count = ap (owned_among live) (sym h.count) ∙ owned_split live low.count high.count in
-        let front : owned_among live low.count ≡ n = owned_passing (is_page_live pid c) range.first low.count ∙ ap (λ (k : ℕ). passing (is_page_live pid c) k low.count) (sym h.first) in
-        let behind : owned_among (λ i. live (low.count + i)) high.count ≡ m =
-        owned_same (λ i. live (low.count + i)) (λ i. is_page_live pid d (high.first + i)) high.count (λ i few.
-        ap (is_page_live pid c) (let same : range.first + (low.count + i) ≡ high.first + i = omega (arith, h.second) in same) ∙ sym (still_live high apart a (high.first + i) (next_held high i few)))
-        ∙ owned_passing (is_page_live pid d) high.first high.count in
-        let count : s.paging_keys - n - m ≡ s.paging_keys - passing (is_page_live pid c) range.first range.count = omega (arith, whole, split, front, behind) in
-        record {
-          contents = b.contents ∙ ap (removed pid high) a.contents ∙ fun_ext (λ k. key_both pid None (c k) k);
-          store =
-              b.store ∙ ap (λ (x : StoreOf). store_without_keys pid high m x y) a.store
-              ∙ (λ i. record s {
-                names = fun_ext (λ q. key_both pid None (s.names q) (own_key q)) i;
-                paging = fun_ext (λ k. key_both pid false (s.paging k) k) i;
-                paging_keys = count i;
-                report = rearranged s.report y.report;
-              });
-        }
+  pub given_halves : (goes : Bool) {pid : Pid} {c d e : Key → Option Page} {s z y : StoreOf} (rs : List (RegionOf (Unit {0}))) → GivenUp goes pid low (owned_among (is_owned_at rs low.first) low.count) c d s z → GivenUp goes pid high (owned_among (is_owned_at rs high.first) high.count) d e z y → GivenUp goes pid range (owned_among (is_owned_at rs range.first) range.count) c e s y
+  given_halves goes {pid = pid} rs a b = given_two goes (key_halves pid) (sym (owned_halves rs)) a b
 
   pub halves_pass : (u : Bool) (held : Leaving) (from to : ℕ) (pid : Pid) (s y z : StoreOf) (b c d : Behind) → AreAmong held from to pid range
       → ((held : Leaving) (from to : ℕ) → AreAmong held from to pid low → PassesIn u (Turns (Ends held from to)) s y b c)

@@ -3,28 +3,23 @@ use Rattle.std.proofs.Common.{◌≡◌, ◌≢◌, inl, inr, ℕ, zero, suc, �
 use Rattle.std.specs.Prelude.{◌==◌, remove}
 use Rattle.std.specs.List.{list_any}
 use Rattle.std.specs.Cmp.{unsigned_Decides}
-use Rattle.std.proofs.lemmas.List.{get_or-set_same, get_or-set_other, set-set}
+use Rattle.std.proofs.lemmas.List.{get_or-set_same, get_or-set_other, length-set, set-set}
 use Rattle.std.proofs.lemmas.List.Folds.{list_any_at}
 use Rattle.std.proofs.lemmas.Option.{get_or_from_slice_get}
 use Rattle.std.proofs.Math.Path.{fun_ext}
 use Rattle.std.proofs.lemmas.Bool.{le-leb}
 use Rattle.std.proofs.lemmas.List.Sums.{sum_by-cons, sum_by-remove}
-use Rattle.mm_types.proofs.Cells.{get_within}
-use Rattle.mm_types.proofs.Options.{some_found, some_map}
-use Rattle.mm_types.proofs.Booleans.{not_true, or_left, or_right, or_both, either, and_true, and_false}
-use Rattle.mm_types.proofs.Lists.{some_get}
-use Rattle.mm_world.specs.World.{WorldOf, ProcessOf, SectionOf, AreaOf, FileOf, Numbered, numbered, RegionOf}
-use Rattle.mm_world.specs.Find.{section_of, area_at, no_area, set_process, process_of}
-use Rattle.mm_world.specs.Sections.{holds, views, uses, settle, settled_section, settled_sections, settled_area, settled_areas, is_handle_to, is_view_of}
-use Rattle.mm_world.specs.WellFormed.{Each}
-use Rattle.mm_world.specs.Charge.{area_charge}
-use Rattle.mm_world.proofs.Finding.{numbered_inside, numbered_there}
-use Rattle.mm_world.proofs.Charges.{sum_by-put, count_by-never}
-use Rattle.mm_sections.specs.Pages.{number_of_block}
-use Rattle.mm_tables.specs.References.{IsTidy, KeepersLive, handles_in, views_in, handles_to, views_of}
-use Rattle.mm_tables.specs.Endings.{ended_area}
+use Rattle.mm_types.proofs.{get_set_other, get_set_same, get_within, same_or_not, some_found, some_map, not_true, or_left, or_right, or_both, either}
+use Rattle.mm_types.proofs.{and_true, and_false}
+use Rattle.mm_world.specs.{WorldOf, ProcessOf, SectionOf, AreaOf, FileOf, Numbered, numbered, RegionOf, section_of, area_at, no_area, set_process}
+use Rattle.mm_world.specs.{process_of, holds, views, uses, settle, settled_section, settled_sections, settled_area, settled_areas, is_handle_to}
+use Rattle.mm_world.specs.{is_view_of, Each, area_charge}
+use Rattle.mm_world.proofs.{numbered_inside, numbered_there, sum_by-put, count_by-never}
+use Rattle.mm_sections.specs.{number_of_block}
+use Rattle.mm_tables.specs.{IsTidy, KeepersLive, handles_in, views_in, handles_to, views_of, ended_area}
 use Rattle.mm_tables.proofs.Keeping.{any_count, any_set}
-use Rattle.mm_tables.proofs.Lists.{counted}
+use Rattle.mm_tables.proofs.Lists.{area_in, counted, same_some}
+use Rattle.mm_tables.proofs.SectionTidy.{alike_same, area_more, area_now, area_settled, area_used, nothing_settles, section_more, section_now, section_settled, settle_as, settle_by}
 
 -- ---- lists
 
@@ -59,33 +54,6 @@ twice s false v true u gh uv by at none = absurd (let bad : false ≡ true = gh 
 twice s false false false true gh uv by at none = absurd (let bad : false ≡ true = uv refl in cc)
 twice s false false false false gh uv by at none = none
 
--- a list of which each element is changed by its place
-abbrev along : {A : Type 0} → (ℕ → A → A) → ℕ → List A → List A
-along f k [] = []
-along f k (x ∷ xs) = f k x ∷ along f (k + 1) xs
-
-along_same : {A : Type 0} (f g : ℕ → A → A) (k : ℕ) (xs : List A) → along f k xs ≡ xs → ((n : ℕ) (x : A) → k ≤ n → g n x ≡ f n x) → along g k xs ≡ xs
-along_same f g k [] e h = refl
-along_same f g k (x ∷ xs) e h =
-    let here : f k x ≡ x = cc in
-    let rest : along f (k + 1) xs ≡ xs = cc in
-    λ i. (h k x (omega arith) ∙ here) i ∷ along_same f g (k + 1) xs rest (λ n x more. h n x (omega (arith, more))) i
-
--- all but one stay
-along_put : {A : Type 0} (f g : ℕ → A → A) (k m : ℕ) (xs : List A) (a : A) → along f k xs ≡ xs → ((n : ℕ) (x : A) → n ≢ k + m → g n x ≡ f n x) → slice_get xs m ≡ Some a → along g k xs ≡ set xs m (g (k + m) a)
-along_put f g k m [] a e h there = cc
-along_put f g k zero (x ∷ xs) a e h there =
-    let at : k ≡ k + 0 = omega arith in
-    let same : x ≡ a = cc in
-    let rest : along f (k + 1) xs ≡ xs = cc in
-    λ i. g (at i) (same i) ∷ along_same f g (k + 1) xs rest (λ n x more. h n x (λ same. absurd (omega (arith, more, same)))) i
-along_put f g k (suc m) (x ∷ xs) a e h there =
-    let at : k + 1 + m ≡ k + suc m = omega arith in
-    let here : f k x ≡ x = cc in
-    let rest : along f (k + 1) xs ≡ xs = cc in
-    let later = along_put f g (k + 1) m xs a rest (λ n x other. h n x (λ same. other (same ∙ sym at))) there ∙ ap (λ (n : ℕ). set xs m (g n a)) at in
-    λ i. (h k x (λ same. absurd (omega (arith, same))) ∙ here) i ∷ later i
-
 each_still : (P Q : FileOf → Type 0) (fs : List FileOf) → ((f : FileOf) → P f → Q f) → Each P fs → Each Q fs
 each_still P Q [] h k = tt
 each_still P Q (f ∷ fs) h k = (h f k.0, each_still P Q fs h k.1)
@@ -107,20 +75,15 @@ module _ {B : Type 0} where
   sections_twice ps qs k [] t = refl
   sections_twice ps qs k (s ∷ ss) t = λ i. section_twice ps qs k s t i ∷ sections_twice ps qs (k + 1) ss t i
 
-  empty : (g : Bool) → cond g (no_area {B = B}) (no_area {B = B}) ≡ no_area
-  empty true = refl
-  empty false = refl
-
   area_twice : (a : AreaOf B) (f b g : Bool) → (g ≡ true → b ≡ true) → (by : AreaOf B → AreaOf B) → by a ≡ cond (f || g) a no_area → by no_area ≡ no_area → by (cond (f || b) a no_area) ≡ cond (f || g) a no_area
-  area_twice a true b g up by at none = at
-  area_twice a false true g up by at none = at
   area_twice a false false true up by at none = absurd (let bad : false ≡ true = up refl in cc)
   area_twice a false false false up by at none = none
+  area_twice a _ _ g up by at none = at
 
   areas_twice : (ss us : Numbered SectionOf) (k : ℕ) (areas : List (AreaOf B)) → ((a : ℕ) → list_any (uses a) us ≡ true → list_any (uses a) ss ≡ true) → settled_areas us k (settled_areas ss k areas) ≡ settled_areas us k areas
   areas_twice ss us k [] up = refl
   areas_twice ss us k (a ∷ rest) up =
-      λ i. area_twice a (is_some a.file_block) (list_any (uses k) ss) (list_any (uses k) us) (up k) (settled_area us k) refl (empty (list_any (uses k) us)) i
+      λ i. area_twice a (is_some a.file_block) (list_any (uses k) ss) (list_any (uses k) us) (up k) (settled_area us k) refl (nothing_settles (list_any (uses k) us)) i
       ∷ areas_twice ss us (k + 1) rest up i
 
   stayed : (ps : List (Option (ProcessOf B))) (n : ℕ) (s : Option SectionOf) (t : SectionOf) → settled_section ps n s ≡ Some t → (x : SectionOf) × (s ≡ Some x) × (t.area ≡ x.area)
@@ -132,19 +95,9 @@ module _ {B : Type 0} where
       by_tests false true e = (s, refl, (let same : record s { name = None } ≡ t = cc in ap (λ (s : SectionOf). s.area) (sym same)))
       by_tests false false e = cc
 
-  pub at_section : (ps : List (Option (ProcessOf B))) (k n : ℕ) (ss : Numbered SectionOf) → numbered (settled_sections ps k ss) n ≡ settled_section ps (k + n) (numbered ss n)
-  at_section ps k n [] = refl
-  at_section ps k zero (s ∷ ss) = ap (λ (n : ℕ). settled_section ps n s) (let same : k ≡ k + 0 = omega arith in same)
-  at_section ps k (suc n) (s ∷ ss) = at_section ps (k + 1) n ss ∙ ap (λ (m : ℕ). settled_section ps m (numbered ss n)) (let same : k + 1 + n ≡ k + suc n = omega arith in same)
-
-  pub at_area : (ss : Numbered SectionOf) (k m : ℕ) (areas : List (AreaOf B)) → unwrap_or (slice_get (settled_areas ss k areas) m) no_area ≡ settled_area ss (k + m) (unwrap_or (slice_get areas m) no_area)
-  at_area ss k m [] = sym (empty (is_some (no_area {B = B}).file_block || list_any (uses (k + m)) ss))
-  at_area ss k zero (a ∷ rest) = ap (λ (n : ℕ). settled_area ss n a) (let same : k ≡ k + 0 = omega arith in same)
-  at_area ss k (suc m) (a ∷ rest) = at_area ss (k + 1) m rest ∙ ap (λ (n : ℕ). settled_area ss n (unwrap_or (slice_get rest m) no_area)) (let same : k + 1 + m ≡ k + suc m = omega arith in same)
-
   -- the section that stands after settling stood before
   pub stood : (ps : List (Option (ProcessOf B))) (ss : Numbered SectionOf) (n : ℕ) (t : SectionOf) → numbered (settled_sections ps 0 ss) n ≡ Some t → (x : SectionOf) × (numbered ss n ≡ Some x) × (t.area ≡ x.area)
-  stood ps ss n t e = stayed ps n (numbered ss n) t (sym (at_section ps 0 n ss ∙ ap (λ (m : ℕ). settled_section ps m (numbered ss n)) (let same : 0 + n ≡ n = omega arith in same)) ∙ e)
+  stood ps ss n t e = stayed ps n (numbered ss n) t (sym (section_now ps ss n) ∙ e)
 
   uses_less : (ps : List (Option (ProcessOf B))) (ss : Numbered SectionOf) (a : ℕ) → list_any (uses a) (settled_sections ps 0 ss) ≡ true → list_any (uses a) ss ≡ true
   uses_less ps ss a e =
@@ -171,52 +124,6 @@ module _ {B : Type 0} where
 
   -- ---- one section less
 
-  abbrev SameBits : ℕ → List (Option (ProcessOf B)) → List (Option (ProcessOf B)) → Type 0
-  SameBits n ps qs = (list_any (holds n) qs ≡ list_any (holds n) ps) × (list_any (views n) qs ≡ list_any (views n) ps)
-
-  section_same : (ps qs : List (Option (ProcessOf B))) (n : ℕ) (s : Option SectionOf) → SameBits n ps qs → settled_section qs n s ≡ settled_section ps n s
-  section_same ps qs n None h = refl
-  section_same ps qs n (Some s) h = λ i. cond (h.0 i) (Some s) (cond (h.1 i) (Some (record s { name = None })) None)
-
-  area_same : (ss us : Numbered SectionOf) (n : ℕ) (a : AreaOf B) → list_any (uses n) us ≡ list_any (uses n) ss → settled_area us n a ≡ settled_area ss n a
-  area_same ss us n a h = λ i. cond (is_some a.file_block || h i) a no_area
-
-  sections_along : (ps : List (Option (ProcessOf B))) (k : ℕ) (ss : Numbered SectionOf) → settled_sections ps k ss ≡ along (settled_section ps) k ss
-  sections_along ps k [] = refl
-  sections_along ps k (s ∷ ss) = ap (λ xs. settled_section ps k s ∷ xs) (sections_along ps (k + 1) ss)
-
-  areas_along : (ss : Numbered SectionOf) (k : ℕ) (areas : List (AreaOf B)) → settled_areas ss k areas ≡ along (settled_area ss) k areas
-  areas_along ss k [] = refl
-  areas_along ss k (a ∷ areas) = ap (λ xs. settled_area ss k a ∷ xs) (areas_along ss (k + 1) areas)
-
-  sections_same : (ps qs : List (Option (ProcessOf B))) (ss : Numbered SectionOf) → settled_sections ps 0 ss ≡ ss → ((n : ℕ) → SameBits n ps qs) → settled_sections qs 0 ss ≡ ss
-  sections_same ps qs ss e h =
-      sections_along qs 0 ss ∙ along_same (settled_section ps) (settled_section qs) 0 ss (sym (sections_along ps 0 ss) ∙ e) (λ n s low. section_same ps qs n s (h n))
-
-  sections_put : (ps qs : List (Option (ProcessOf B))) (m : ℕ) (ss : Numbered SectionOf) (s : SectionOf) → settled_sections ps 0 ss ≡ ss → ((n : ℕ) → n ≢ m → SameBits n ps qs) → numbered ss m ≡ Some s → settled_sections qs 0 ss ≡ set ss m (settled_section qs m (Some s))
-  sections_put ps qs m ss s e h there =
-      let at : 0 + m ≡ m = omega arith in
-      sections_along qs 0 ss
-      ∙ along_put (settled_section ps) (settled_section qs) 0 m ss (Some s) (sym (sections_along ps 0 ss) ∙ e) (λ n s other. section_same ps qs n s (h n (λ same. other (same ∙ sym at)))) (numbered_there ss m s there)
-      ∙ ap (λ (n : ℕ). set ss m (settled_section qs n (Some s))) at
-
-  areas_same : (ss us : Numbered SectionOf) (areas : List (AreaOf B)) → settled_areas ss 0 areas ≡ areas → ((n : ℕ) → list_any (uses n) us ≡ list_any (uses n) ss) → settled_areas us 0 areas ≡ areas
-  areas_same ss us areas e h =
-      areas_along us 0 areas ∙ along_same (settled_area ss) (settled_area us) 0 areas (sym (areas_along ss 0 areas) ∙ e) (λ n a low. area_same ss us n a (h n))
-
-  areas_put : (ss us : Numbered SectionOf) (m : ℕ) (areas : List (AreaOf B)) (a : AreaOf B) → settled_areas ss 0 areas ≡ areas → ((n : ℕ) → n ≢ m → list_any (uses n) us ≡ list_any (uses n) ss) → slice_get areas m ≡ Some a → settled_areas us 0 areas ≡ set areas m (settled_area us m a)
-  areas_put ss us m areas a e h there =
-      let at : 0 + m ≡ m = omega arith in
-      areas_along us 0 areas
-      ∙ along_put (settled_area ss) (settled_area us) 0 m areas a (sym (areas_along ss 0 areas) ∙ e) (λ n a other. area_same ss us n a (h n (λ same. other (same ∙ sym at)))) there
-      ∙ ap (λ (n : ℕ). set areas m (settled_area us n a)) at
-
-  sections_of_tidy : (w : WorldOf B) → settle w ≡ w → settled_sections w.processes 0 w.sections ≡ w.sections
-  sections_of_tidy w e = ap (λ (w : WorldOf B). w.sections) e
-
-  areas_of_tidy : (w : WorldOf B) → settle w ≡ w → settled_areas w.sections 0 w.areas ≡ w.areas
-  areas_of_tidy w e = sym (ap (λ (ss : Numbered SectionOf). settled_areas ss 0 w.areas) (sections_of_tidy w e)) ∙ ap (λ (w : WorldOf B). w.areas) e
-
   -- the processes lost references to one section alone
   module _ (t : WorldOf B) (qs : List (Option (ProcessOf B))) (m : ℕ) (s : SectionOf) (tidy : IsTidy t) (there : section_of t m ≡ Some s) (inside : s.area < length t.areas) (others : (n : ℕ) → n ≢ m → (list_any (holds n) qs ≡ list_any (holds n) t.processes) × (list_any (views n) qs ≡ list_any (views n) t.processes)) where
     no_longer_used : (area_at t s.area).file_block ≡ None → list_any (uses s.area) (set t.sections m None) ≡ false
@@ -237,28 +144,43 @@ module _ {B : Type 0} where
     used_same : (n : ℕ) (o : Option SectionOf) → uses n o ≡ uses n (Some s) → list_any (uses n) (set t.sections m o) ≡ list_any (uses n) t.sections
     used_same n o e = any_set (uses n) t.sections m s o there e
 
-    areas_by : (o : Option SectionOf) → ((x : SectionOf) → o ≡ Some x → x.area ≡ s.area) → settled_areas (set t.sections m o) 0 t.areas ≡ cond (is_some o) t.areas (set t.areas s.area (ended_area (area_at t s.area)))
-    areas_by None same =
-        areas_put t.sections (set t.sections m None) s.area t.areas (area_at t s.area) (areas_of_tidy t tidy.settled)
-        (λ n other. used_same n None (sym (not_true (s.area == n) (λ e. other (sym ((unsigned_Decides s.area n).0 e)))))) (some_get t.areas s.area no_area inside)
-        ∙ ap (λ (a : AreaOf B). set t.areas s.area a) area_ends
-    areas_by (Some x) same =
-        areas_same t.sections (set t.sections m (Some x)) t.areas (areas_of_tidy t tidy.settled) (λ n. used_same n (Some x) (ap (λ (a : ℕ). a == n) (same x refl)))
+    areas_by : (o : Option SectionOf) → ((x : SectionOf) → o ≡ Some x → x.area ≡ s.area) → (k : ℕ) → settled_area (set t.sections m o) k (area_at t k) ≡ area_in (cond (is_some o) t.areas (set t.areas s.area (ended_area (area_at t s.area)))) k
+    areas_by None same k =
+        let ended = ended_area (area_at t s.area) in
+        elim (same_or_not k s.area) [
+          | inl e ↦
+              subst (λ (k : ℕ). settled_area (set t.sections m None) k (area_at t k) ≡ area_in (set t.areas s.area ended) k) (sym e)
+              (area_ends ∙ sym (ap (λ o. unwrap_or o no_area) (get_set_same t.areas s.area ended inside)))
+          | inr other ↦
+              area_more t.sections (set t.sections m None) k (area_at t k) (area_at t k) (alike_same (area_at t k))
+              (λ e. used_same k None (sym (not_true (s.area == k) (λ same. other (sym ((unsigned_Decides s.area k).0 same))))) ∙ e) (area_settled t tidy.settled k)
+              ∙ sym (ap (λ o. unwrap_or o no_area) (get_set_other t.areas s.area k ended other))
+        ]
+    areas_by (Some x) same k =
+        area_more t.sections (set t.sections m (Some x)) k (area_at t k) (area_at t k) (alike_same (area_at t k)) (λ e. used_same k (Some x) (ap (λ (a : ℕ). a == k) (same x refl)) ∙ e) (area_settled t tidy.settled k)
 
     pub settle_put : settle (record t { processes = qs }) ≡ record t { processes = qs; sections = set t.sections m (settled_section qs m (Some s)); areas = cond (is_some (settled_section qs m (Some s))) t.areas (set t.areas s.area (ended_area (area_at t s.area))) }
     settle_put =
-        let sections = sections_put t.processes qs m t.sections s (sections_of_tidy t tidy.settled) others there in
-        let areas : settled_areas (settled_sections qs 0 t.sections) 0 t.areas ≡ cond (is_some (settled_section qs m (Some s))) t.areas (set t.areas s.area (ended_area (area_at t s.area))) =
-        ap (λ (ss : Numbered SectionOf). settled_areas ss 0 t.areas) sections
-        ∙ areas_by (settled_section qs m (Some s)) (λ x e. let was = stayed qs m (Some s) x e in was.2 ∙ (let same : was.0 ≡ s = sym (let back : s ≡ was.0 = (let both : Some s ≡ Some was.0 = was.1 in cc) in back) in ap (λ (s : SectionOf). s.area) same)) in
-        λ i. record t { processes = qs; sections = sections i; areas = areas i }
+        let x = settled_section qs m (Some s) in
+        settle_as (record t { processes = qs }) (set t.sections m x) (cond (is_some x) t.areas (set t.areas s.area (ended_area (area_at t s.area)))) (length-set t.sections m x) (as_long (is_some x)) (λ n.
+        elim (same_or_not n m) [
+          | inl e ↦
+              subst (λ (n : ℕ). settled_section qs n (section_of t n) ≡ numbered (set t.sections m x) n) (sym e)
+              (ap (settled_section qs m) there ∙ sym (get_or-set_same t.sections m x None (numbered_inside t.sections m s there)))
+          | inr other ↦
+              section_more t.processes qs n (section_of t n) (λ e. (others n other).0 ∙ e) (λ e. (others n other).1 ∙ e) (section_settled t tidy.settled n)
+              ∙ sym (get_or-set_other t.sections m n x None other)
+        ])
+        (areas_by x (λ y e. let was = stayed qs m (Some s) y e in was.2 ∙ ap (λ (s : SectionOf). s.area) (sym (same_some s was.0 was.1))))
+      where
+        as_long : (b : Bool) → length (cond b t.areas (set t.areas s.area (ended_area (area_at t s.area)))) ≡ length t.areas
+        as_long true = refl
+        as_long false = length-set t.areas s.area (ended_area (area_at t s.area))
 
   -- no reference was lost
   pub settle_same : (t : WorldOf B) (qs : List (Option (ProcessOf B))) → settle t ≡ t → ((n : ℕ) → (list_any (holds n) qs ≡ list_any (holds n) t.processes) × (list_any (views n) qs ≡ list_any (views n) t.processes)) → settle (record t { processes = qs }) ≡ record t { processes = qs }
   settle_same t qs tidy same =
-      let sections : settled_sections qs 0 t.sections ≡ t.sections = sections_same t.processes qs t.sections (sections_of_tidy t tidy) same in
-      let areas : settled_areas (settled_sections qs 0 t.sections) 0 t.areas ≡ t.areas = ap (λ (ss : Numbered SectionOf). settled_areas ss 0 t.areas) sections ∙ areas_of_tidy t tidy in
-      λ i. record t { processes = qs; sections = sections i; areas = areas i }
+      settle_by (record t { processes = qs }) (λ n. section_more t.processes qs n (section_of t n) (λ e. (same n).0 ∙ e) (λ e. (same n).1 ∙ e) (section_settled t tidy n)) (area_settled t tidy)
 
   -- ---- tidy tables stay tidy
 
@@ -271,12 +193,13 @@ module _ {B : Type 0} where
 
   module _ (t : WorldOf B) (qs : List (Option (ProcessOf B))) (tidy : IsTidy t) where
     area_is : (a : ℕ) → area_at (settle (record t { processes = qs })) a ≡ settled_area (settled_sections qs 0 t.sections) a (area_at t a)
-    area_is a = at_area (settled_sections qs 0 t.sections) 0 a t.areas ∙ ap (λ (n : ℕ). settled_area (settled_sections qs 0 t.sections) n (area_at t a)) (let same : 0 + a ≡ a = omega arith in same)
+    area_is a = area_now (settled_sections qs 0 t.sections) t.areas a
 
     -- the area of a section that stands is as it was
     area_of_section : (n : ℕ) (s : SectionOf) → section_of (settle (record t { processes = qs })) n ≡ Some s → area_at (settle (record t { processes = qs })) s.area ≡ area_at t s.area
     area_of_section n s e =
-        area_is s.area ∙ ap (λ b. cond b (area_at t s.area) no_area) (or_right (is_some (area_at t s.area).file_block) (list_any (uses s.area) (settled_sections qs 0 t.sections)) (any_numbered (uses s.area) (settled_sections qs 0 t.sections) n s e ((unsigned_Decides s.area s.area).1 refl)))
+        let kept = settled_sections qs 0 t.sections in
+        area_is s.area ∙ area_used kept s.area (area_at t s.area) (any_numbered (uses s.area) kept n s e ((unsigned_Decides s.area s.area).1 refl))
 
     pub tidy_settled : KeepersLive (record t { processes = qs }) → IsTidy (settle (record t { processes = qs }))
     tidy_settled keepers =

@@ -1,5 +1,5 @@
 -- One reference less: what is left of the tables, and of a store that holds what they say.
-use Rattle.std.proofs.Common.{◌≡◌, ◌≢◌, inl, inr, ℕ, ◌+◌, ◌-◌, ◌≤◌, ◌<◌, Bool, true, false, Option, Some, None, List, refl, sym, ◌∙◌, ap, subst, cond, arith, length, set, slice_get, is_some, not, ◌&&◌, nat_lt, option_map, sum_by, count_by, get_or}
+use Rattle.std.proofs.Common.{◌≡◌, ◌≢◌, inl, inr, ℕ, ◌+◌, ◌-◌, ◌≤◌, ◌<◌, Bool, true, false, Option, Some, None, List, refl, sym, ◌∙◌, ap, subst, cond, arith, length, set, slice_get, is_some, not, ◌&&◌, nat_lt, option_map, sum_by, get_or, length-set}
 use Rattle.std.specs.Prelude.{◌==◌}
 use Rattle.std.specs.List.{list_any}
 use Rattle.std.specs.Cmp.{unsigned_Decides}
@@ -8,40 +8,27 @@ use Rattle.std.proofs.lemmas.List.{get_or-set_same, get_or-set_other, map-set, s
 use Rattle.std.proofs.lemmas.List.Folds.{list_any_at}
 use Rattle.std.proofs.lemmas.Option.{get_or_from_slice_get, unwrap_or-slice_get}
 use Rattle.std.proofs.Math.ListN.{get_or-map}
-use Rattle.mm_types.specs.declared.numbers.Area.{Area}
-use Rattle.mm_types.specs.declared.numbers.Key.{Key}
+use Rattle.mm_types.specs.{Area, Key, View, Place}
 use Rattle.mm_types.specs.declared.numbers.Key.TheVariants as key
 use Rattle.mm_types.specs.declared.views.Kind.TheVariants as kind
-use Rattle.mm_types.specs.declared.views.View.{View}
-use Rattle.mm_types.proofs.Cells.{same_or_not, get_within}
-use Rattle.mm_types.proofs.Booleans.{not_true, and_true}
-use Rattle.mm_types.proofs.Lists.{some_get}
-use Rattle.mm_types.proofs.Options.{some_map}
-use Rattle.mm_world.specs.World.{Page, ProcessOf, RegionOf, AreaOf, SectionOf, Numbered, numbered}
-use Rattle.mm_world.specs.Find.{process_of, section_of, set_process, area_at, no_area}
-use Rattle.mm_world.specs.Charge.{charge, area_charge}
-use Rattle.mm_world.specs.Sections.{holds, views, is_view_of, settle, settled_section}
-use Rattle.mm_world.specs.Keys.{content_of, is_file_key}
-use Rattle.mm_world.specs.Contents.{Tables}
-use Rattle.mm_world.specs.WellFormed.{WellFormed, ViewFits}
-use Rattle.mm_world.proofs.Each.{each-at}
-use Rattle.mm_world.proofs.Finding.{numbered_inside}
-use Rattle.mm_pages.specs.Store.{StoreOf, changed}
-use Rattle.mm_pages.specs.Conditions.{IsReleasing}
-use Rattle.mm_pages.specs.Leaving.{section_rank}
-use Rattle.mm_commit.specs.Charge.{CommitOf}
-use Rattle.mm_sections.specs.Directories.{CountedSection, DirectoryOf, section_in, sections_of, section_settled}
-use Rattle.mm_tables.specs.References.{handles_in, views_in, handles_to, views_of}
-use Rattle.mm_tables.specs.Sound.{IsCounted, AreKeptTables}
-use Rattle.mm_tables.specs.Fits.{FitsTables, Settled, store_beside, file_block_in, paging_count}
-use Rattle.mm_tables.specs.Endings.{Less, Lost, is_key_of_area, nowhere, ended_area, CanEnd, Emptied, IsRankFor}
-use Rattle.mm_tables.specs.declared.tables.Process.{Process}
+use Rattle.mm_types.proofs.{same_or_not, get_within, not_true, and_true, some_get, some_map}
+use Rattle.mm_world.specs.{Page, ProcessOf, RegionOf, AreaOf, SectionOf, Numbered, numbered, process_of, section_of, set_process, area_at, no_area}
+use Rattle.mm_world.specs.{charge, area_charge, holds, views, is_view_of, settle, settled_section, Tables, ViewFits}
+use Rattle.mm_world.specs.WellFormed.{WellFormed}
+use Rattle.mm_world.proofs.{each-at, numbered_inside}
+use Rattle.mm_pages.specs.{StoreOf, IsReleasing, section_rank}
+use Rattle.mm_commit.specs.{CommitOf}
+use Rattle.mm_sections.specs.{CountedSection, DirectoryOf, section_in, sections_of, section_settled}
+use Rattle.mm_tables.specs.{handles_in, views_in, handles_to, views_of, IsCounted, AreKeptTables, FitsTables, Settled, store_beside, paging_count}
+use Rattle.mm_tables.specs.{Less, is_key_of_area, ended_area, CanEnd, Emptied, IsRankFor, EndsArea, Process, shown_process, shown_processes}
+use Rattle.mm_tables.specs.{shown_accesses, tables_with}
 use Rattle.mm_tables.specs.declared.tables.Tables.TheInside.{Inside}
-use Rattle.mm_tables.specs.Shown.{shown_process, shown_processes, shown_accesses, tables_with}
 use Rattle.mm_tables.proofs.Keeping.{lives_put}
 use Rattle.mm_tables.proofs.Standing.{shown_set, shown_with}
-use Rattle.mm_tables.proofs.EndingSettles.{holds_count, views_count, handles_put, views_put, paging_charge, ended_charge, area_sum, any_numbered, settle_put, tidy_settled}
-use Rattle.mm_tables.proofs.EndingFits.{seen_by, fits_lost, lost_nothing, at_each, area_loses, areas_after, carries_less, less_then, beside_then, regions_of, same_loses}
+use Rattle.mm_tables.proofs.EndingSettles.{holds_count, views_count, handles_put, views_put, ended_charge, area_sum, any_numbered, settle_put, tidy_settled}
+use Rattle.mm_tables.proofs.EndingFits.{seen_by, at_each, carries_less, less_then, beside_then, regions_of, fits_ended}
+use Rattle.mm_tables.proofs.EndingPages.{gone_same}
+use Rattle.mm_tables.proofs.SectionFits.{fits_processes, with_open_of}
 
 -- ---- counted sections
 
@@ -54,17 +41,15 @@ settled_counts c x e = by_tests (nat_lt 0 c.handles) (nat_lt 0 c.views) e
     by_tests false false e = cc
 
 settled_section_is : (c : CountedSection) (a b : Bool) → option_map section_in (cond a (Some c) (cond b (Some (record c { section = record (c.section) { name = None } })) None)) ≡ cond a (Some c.section) (cond b (Some (record (c.section) { name = None })) None)
-settled_section_is c true b = refl
 settled_section_is c false true = refl
-settled_section_is c false false = refl
+settled_section_is c _ _ = refl
 
 ended_bits : (c : CountedSection) → is_some (section_settled c) ≡ false → nat_lt 0 c.views ≡ false
 ended_bits c e = by_tests (nat_lt 0 c.handles) (nat_lt 0 c.views) e
   where
     by_tests : (a b : Bool) → is_some (cond a (Some c) (cond b (Some (record c { section = record (c.section) { name = None } })) None)) ≡ false → b ≡ false
-    by_tests true b e = cc
-    by_tests false true e = cc
     by_tests false false e = refl
+    by_tests _ _ e = cc
 
 ended_counts : (c : CountedSection) → is_some (section_settled c) ≡ false → (c.handles ≡ 0) × (c.views ≡ 0)
 ended_counts c e = by_tests (nat_lt 0 c.handles) (nat_lt 0 c.views) refl refl e
@@ -73,9 +58,22 @@ ended_counts c e = by_tests (nat_lt 0 c.handles) (nat_lt 0 c.views) refl refl e
     none k e = let h = ltb-false 0 k e in omega (arith, h)
 
     by_tests : (a b : Bool) → nat_lt 0 c.handles ≡ a → nat_lt 0 c.views ≡ b → is_some (cond a (Some c) (cond b (Some (record c { section = record (c.section) { name = None } })) None)) ≡ false → (c.handles ≡ 0) × (c.views ≡ 0)
-    by_tests true b h v e = cc
-    by_tests false true h v e = cc
     by_tests false false h v e = (none c.handles h, none c.views v)
+    by_tests _ _ h v e = cc
+
+-- ---- an area that ends
+
+emptied_less : {area : Area} {a : AreaOf (Unit {0})} {c d : Key → Option Page} {s z : StoreOf} → Emptied area a c d s z → Less c d
+emptied_less {area} {c = c} e k some =
+    let gone = ap (λ (f : Key → Option Page). f k) e.contents in
+    gone ∙ gone_same (is_key_of_area area.0 k) (c k) (sym (ap is_some gone) ∙ some)
+
+pub ends_bound : {area : Area} {a : AreaOf (Unit {0})} {c d : Key → Option Page} {s z : StoreOf} → EndsArea area a c d s z → (place : Place) → z.bound place ≡ s.bound place
+ends_bound {a = a} {s = s} {z = z} e place =
+    elim a.file_block as (λ o. a.file_block ≡ o → z.bound place ≡ s.bound place) [
+      | None ↦ λ none. ap (λ (x : StoreOf). x.bound place) (e.emptied none).store
+      | Some first ↦ λ file. ap (λ (x : StoreOf). x.bound place) (e.file first file).1
+    ] refl
 
 -- ---- what a step leaves
 
@@ -97,24 +95,17 @@ landed_by v made entries commit c d s z is kept fits less rest =
 -- ---- a store does not see sections
 
 fits_sections : (t : Tables) (ss : Numbered SectionOf) (c : Key → Option Page) (s : StoreOf) → FitsTables t c s → FitsTables (record t { sections = ss }) c s
-fits_sections t ss c s f =
-    fits_lost (λ k. false) nowhere 0 t (record t { sections = ss }) c c s s
-    (record { rest = refl; content = λ k. (keys k).0; files = λ k out. (keys k).1; reserved = λ place. refl; stays = λ place k out e. e; block = λ k. (keys k).2; counted = omega arith; charged = omega arith; made = refl })
-    f (lost_nothing c s) f.opened f.areas
-  where
-    keys : (k : Key) → (is_some (content_of (record t { sections = ss }) k) ≡ is_some (content_of t k)) × (is_file_key (record t { sections = ss }) k ≡ is_file_key t k) × (file_block_in (record t { sections = ss }) k ≡ file_block_in t k)
-    keys (key.Private p v) = (refl, refl, refl)
-    keys (key.Shared a i) = (refl, refl, refl)
+fits_sections t ss c s f = fits_processes t t.processes ss t.files (λ q. refl) c s s refl f.opened f.last_pid refl refl refl refl f
 
 -- a living process is another
 pub lives_as : (t : Tables) (pid : ℕ) (p : ProcessOf (Unit {0})) (q : Option (ProcessOf (Unit {0}))) → process_of t pid ≡ Some p → is_some q ≡ true → (n : ℕ) → is_some (process_of (set_process t pid q) n) ≡ is_some (process_of t n)
 lives_as t pid p q lives alive = at_each t pid p q lives (λ n o x. is_some x ≡ is_some o) alive (λ n o other. refl)
 
 -- and keeps its regions
-pub nothing_lost : (t : Tables) (pid : ℕ) (p : ProcessOf (Unit {0})) (q : Option (ProcessOf (Unit {0}))) → process_of t pid ≡ Some p → regions_of q ≡ p.regions → charge (set_process t pid q) ≤ charge t → paging_count (set_process t pid q) ≡ paging_count t → is_some q ≡ true → (c : Key → Option Page) (s : StoreOf) → FitsTables t c s → FitsTables (set_process t pid q) c s
-nothing_lost t pid p q lives same charged counted alive c s f =
-    fits_lost (λ k. false) nowhere 0 t (set_process t pid q) c c s s (same_loses t pid p q lives same charged counted) f (lost_nothing c s)
-    (λ n. f.opened n ∙ sym (lives_as t pid p q lives alive n)) f.areas
+pub nothing_lost : (t : Tables) (pid : ℕ) (p : ProcessOf (Unit {0})) (q : Option (ProcessOf (Unit {0}))) → process_of t pid ≡ Some p → regions_of q ≡ p.regions → charge (set_process t pid q) ≡ charge t → paging_count (set_process t pid q) ≡ paging_count t → (c : Key → Option Page) (s z : StoreOf) → z ≡ with_open_of s z → ((n : ℕ) → z.is_open n ≡ is_some (process_of (set_process t pid q) n)) → z.last_pid ≡ s.last_pid → length z.file_blocks ≡ length s.file_blocks → length z.file_device.named ≡ length s.file_device.named → FitsTables t c s → FitsTables (set_process t pid q) c z
+nothing_lost t pid p q lives same charged counted c s z rest opened last stored named f =
+    fits_processes t (set t.processes pid q) t.sections t.files (at_each t pid p q lives (λ n o x. regions_of x ≡ regions_of o) same (λ n o other. refl)) c s z rest
+    opened (ap (λ (n : ℕ). n + 1) last ∙ f.last_pid ∙ sym (length-set t.processes pid q)) stored named counted charged f
 
 -- an area's charge is part of the whole
 pub area_charged : (t : Tables) (n : ℕ) → n < length t.areas → area_charge (area_at t n) ≤ charge t
@@ -307,17 +298,14 @@ module _ {t : Tables} {pid : ℕ} {p q : ProcessOf (Unit {0})} {m : ℕ} {old no
       after_area None e =
           let h = emptied e in
           let gone : ended_area a ≡ no_area = ap (λ (o : Option ℕ). cond (is_some o) a no_area) e in
-          let ss = sections_of es in
-          let n = count_by is_some a.pages in
-          let less_charge : charge (record u { sections = ss; areas = set u.areas area no_area }) ≤ charge u = omega (arith, freed no_area refl) in
-          let less_count : paging_count (record u { sections = ss; areas = set u.areas area no_area }) + n ≡ paging_count u = omega (arith, freed no_area refl, paging_charge a e) in
-          let now_fits : FitsTables (record u { sections = ss; areas = set u.areas area no_area }) d z =
-          fits_lost (is_key_of_area area) nowhere n u (record u { sections = ss; areas = set u.areas area no_area }) c1 d s1 z
-          (area_loses u ss area n inside e (unseen ended e) less_charge less_count)
-          fits (subst (λ (k : ℕ). Lost (is_key_of_area k) nowhere n c1 d s1 z) name_is h.lost)
-          (λ n. ap (λ (f : ℕ → Bool). f n) h.lost.open_same ∙ fits.opened n)
-          (areas_after u ss area n inside e (unseen ended e) less_charge less_count s1.areas z.areas fits.areas (h.areas ∙ ap (λ (n : ℕ). changed ◌==◌ s1.areas n None) name_is)) in
-          (subst (λ (b : AreaOf (Unit {0})). FitsTables (with_areas (set t.areas area b)) d z) (sym gone) now_fits, (h.lost.less, h.lost.rest))
+          let at : area_at u name.0 ≡ a = ap (λ (n : ℕ). area_at t n) name_is in
+          let now_fits : FitsTables (record u { areas = set u.areas name.0 no_area }) d z =
+          fits_ended u name c1 d s1 z (omega (arith, inside, name_is)) (ap (λ (x : AreaOf (Unit {0})). x.file_block) at ∙ e) (λ n j x r v alive there is same. unseen ended e n j x r v alive there is (same ∙ name_is))
+          (subst (λ (x : AreaOf (Unit {0})). Emptied name x c1 d s1 z) (sym at) h) fits in
+          let as_named : set u.areas name.0 no_area ≡ set t.areas area (ended_area a) = λ i. set t.areas (name_is i) (sym gone i) in (
+            subst (λ (areas : List (AreaOf (Unit {0}))). FitsTables (with_areas areas) d z) as_named (fits_sections (record u { areas = set u.areas name.0 no_area }) (sections_of es) d z now_fits),
+            (emptied_less h, h.store ∙ ap (store_beside s1) (sym h.store)),
+          )
 
 -- ---- What the tables keep, of the fields that they are kept in; and areas at their places
 

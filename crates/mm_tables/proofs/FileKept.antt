@@ -3,49 +3,29 @@ use Rattle.std.proofs.Common.{◌≡◌, inl, inr, ℕ, ◌+◌, ◌≤◌, ◌<
 use Rattle.std.specs.Prelude.{◌==◌}
 use Rattle.std.proofs.lemmas.Bool.{le-leb}
 use Rattle.std.proofs.Math.Path.{fun_ext}
-use Rattle.std.proofs.lemmas.List.{length-map, length-replicate}
+use Rattle.std.proofs.lemmas.List.{length-replicate}
 use Rattle.std.proofs.lemmas.List.Folds.{sum_by-replicate}
 use Rattle.std.proofs.lemmas.List.Sums.{sum_by_push}
-use Rattle.mm_types.specs.declared.numbers.Area.{Area}
-use Rattle.mm_types.specs.declared.numbers.Key.{Key}
+use Rattle.mm_types.specs.{Area, Key, Text}
 use Rattle.mm_types.specs.declared.numbers.Key.TheVariants as key
 use Rattle.mm_types.specs.declared.moves.LineKind.TheVariants as kind
 use Rattle.mm_types.specs.declared.answers.Answer.TheVariants as answer
 use Rattle.mm_types.specs.declared.codes.Code.TheVariants as code
-use Rattle.mm_types.specs.Spelling.{Text}
-use Rattle.mm_types.proofs.Cells.{same_or_not}
-use Rattle.mm_types.proofs.Booleans.{not_true, same_tests, and_false, spread, cond_twice}
-use Rattle.mm_types.proofs.Naturals.{is_below}
-use Rattle.mm_types.proofs.Tables.{differ}
-use Rattle.mm_blocks.specs.declared.device_calls.NamedCalls.{NamedCalls}
-use Rattle.mm_blocks.specs.Traffic.{one_further}
-use Rattle.mm_blocks.specs.Devices.{DeviceOf, Call, AllServed}
-use Rattle.mm_world.specs.World.{Page, filled, AreaOf, numbered, FileOf, Numbered}
-use Rattle.mm_world.specs.Failure.{same_key}
-use Rattle.mm_world.specs.Charge.{area_charge}
-use Rattle.mm_world.specs.Contents.{Tables, blank}
-use Rattle.mm_world.specs.Processes.{file_pages, new_file}
-use Rattle.mm_world.specs.Find.{area_at}
-use Rattle.mm_world.specs.Outcome.{OutcomeOf, done, need}
-use Rattle.mm_world.specs.Sections.{file_named, settled_area}
+use Rattle.mm_types.proofs.{same_or_not, not_true, same_tests, and_false, spread, cond_twice, is_below, differ}
+use Rattle.mm_blocks.specs.{Call}
+use Rattle.mm_world.specs.{Page, filled, AreaOf, numbered, FileOf, Numbered, same_key, area_charge, Tables, blank, file_pages, new_file, area_at}
+use Rattle.mm_world.specs.{OutcomeOf, done, need, file_named, settled_area}
 use Rattle.mm_world.specs.WellFormed.{WellFormed}
-use Rattle.mm_world.proofs.LaidOut.{less}
-use Rattle.mm_world.proofs.Charges.{count_by-never}
-use Rattle.mm_world.proofs.Each.{each-append}
-use Rattle.mm_world.proofs.Keeps.{new_file_keeps}
-use Rattle.mm_pages.specs.Store.{StoreOf, changed, with_file, with_blocks}
-use Rattle.mm_pages.specs.Reports.{rearranged, wrote, Served}
-use Rattle.mm_sections.specs.Directories.{CountedSection}
-use Rattle.mm_tables.specs.SectionSteps.{is_page_of, CanFill, Fills}
-use Rattle.mm_tables.specs.Fits.{FitsTables}
-use Rattle.mm_tables.specs.References.{IsTidy}
-use Rattle.mm_tables.specs.Sound.{AreKeptTables}
-use Rattle.mm_tables.specs.Shown.{shown_processes}
+use Rattle.mm_world.proofs.{less, count_by-never, each-append, new_file_keeps}
+use Rattle.mm_pages.specs.{StoreOf, changed, with_file, with_blocks, rearranged, wrote, Served}
+use Rattle.mm_sections.specs.{CountedSection}
+use Rattle.mm_tables.specs.{is_page_of, CanFill, Fills, FitsTables, IsTidy, AreKeptTables, shown_processes}
 use Rattle.mm_tables.specs.declared.tables.Tables.TheInside.{Inside}
 use Rattle.mm_tables.proofs.Lists.{same_number, area_at_end, area_before}
-use Rattle.mm_tables.proofs.SectionFits.{now, as_kept, IsOld, with_area_of, with_open_of, no_page, Grown, fits_area, fits_processes}
+use Rattle.mm_tables.proofs.SectionFits.{now, as_kept, IsOld, with_area_of, with_open_of, pages_before, opened_some, Grown, fits_area, fits_processes}
 use Rattle.mm_tables.proofs.SectionPaging.{replicated, key_free, free_key, some_if, kept_as}
 use Rattle.mm_tables.proofs.SectionTidy.{settle_by, section_settled, Rest, rest_of, MayAdd, with_areas, area_rest, area_settles, with_area_charge}
+use Rattle.mm_blocks.proofs.{named_as_before}
 
 below_more : (i n : ℕ) → nat_lt i (n + 1) ≡ ((i == n) || nat_lt i n)
 below_more i n =
@@ -130,33 +110,13 @@ no_charge first pages = count_by-never (λ (page : Option (Unit {0})). is_some p
     never None = refl
     never (Some x) = refl
 
--- ---- what the device was asked
-
-served_names : (calls : List Call) (old new : DeviceOf) → AllServed calls old new → length new.named ≡ length old.named
-served_names [] old new e = ap (λ (d : DeviceOf). length d.named) e
-served_names (c ∷ cs) old new h =
-    served_names cs h.0 new h.1.1 ∙ ap (λ (n : List NamedCalls). length n) h.1.0.after ∙ length-map old.named (one_further c.way)
-
-pub nothing_served : (s : StoreOf) → Served s s
-nothing_served s =
-    record {
-      paging_calls = [];
-      file_calls = [];
-      paging = refl;
-      files = refl;
-      paging_reads = refl;
-      paging_writes = refl;
-      file_reads = refl;
-      file_writes = refl;
-    }
-
 -- ---- no file was made
 
 pub fits_wrote : (t : Tables) (c d : Key → Option Page) (s z : StoreOf) → FitsTables t c s → d ≡ c → z ≡ wrote s z → length z.file_blocks ≡ length s.file_blocks → Served s z → FitsTables t d z
 fits_wrote t c d s z f same e stored served =
     subst (λ (d : Key → Option Page). FitsTables t d z) (sym same)
     (fits_processes t t.processes t.sections t.files (λ q. refl) c s z (e ∙ ap (with_open_of s) (sym e)) (λ q. ap (λ (x : StoreOf). x.is_open q) e ∙ f.opened q)
-    (ap (λ (x : StoreOf). x.last_pid + 1) e ∙ f.last_pid) stored (served_names served.file_calls s.file_device z.file_device served.files) refl refl f)
+    (ap (λ (x : StoreOf). x.last_pid + 1) e ∙ f.last_pid) stored (named_as_before served.file_calls s.file_device z.file_device served.files) refl refl f)
 
 -- ---- a file was made
 
@@ -190,8 +150,7 @@ module _ (t : Tables) (area pages byte first : ℕ) (c d : Key → Option Page) 
       record {
         here = area_at_end t.areas (file_area first pages) (length t.areas) refl;
         before = area_before t.areas (file_area first pages);
-        stays = λ i e. absurd (no_page t i e);
-        some = omega (arith, count, some);
+        stays = pages_before t (file_area first pages) (t.blocks_used + pages);
         live_new = λ b i new.
             ap (λ (d : Key → Option Page). is_some (d (key.Shared b i))) contents
             ∙ some_if ((b.0 == area) && nat_lt i pages) (filled ((byte + i) % 256)) (c (key.Shared b i)) (key_free t c s b i f new) ∙ page_here b i new;
@@ -206,14 +165,15 @@ module _ (t : Tables) (area pages byte first : ℕ) (c d : Key → Option Page) 
         block_old = λ k h. ap (λ (x : StoreOf). x.block_of k) e ∙ block_old k h;
         areas_new =
             ap (λ (x : StoreOf). x.areas (length t.areas)) e
-            ∙ ap (λ b. cond b (Some pages) (s.areas (length t.areas))) (same_number (length t.areas) area (sym at)) ∙ ap (λ (k : ℕ). Some k) (sym count);
+            ∙ ap (λ b. cond b (Some pages) (s.areas (length t.areas))) (same_number (length t.areas) area (sym at)) ∙ ap (λ (k : ℕ). Some k) (sym count)
+            ∙ opened_some (length (replicate pages whole)) (omega (arith, count, some));
         areas_old = λ q h. ap (λ (x : StoreOf). x.areas q) e ∙ ap (λ b. cond b (Some pages) (s.areas q)) (differ q area (λ same. h (same ∙ at)));
         counted = omega (arith, ap (λ (x : StoreOf). x.paging_keys) e, f.counted, no_charge first pages, sum_by_push area_charge t.areas (file_area first pages));
         room = omega (arith, f.room, ap (λ (x : StoreOf). x.room) e, no_charge first pages, with_area_charge t (file_area first pages));
         blocks_used = omega (arith, ap (λ (x : StoreOf). x.blocks_used) e, f.used);
         rest = e ∙ ap (with_area_of s) (sym e);
         stored = stored;
-        named_file = served_names served.file_calls s.file_device z.file_device served.files;
+        named_file = named_as_before served.file_calls s.file_device z.file_device served.files;
       }
 
 -- ---- What tables keep, where a file is made

@@ -2,19 +2,11 @@
 use Rattle.std.proofs.Common.{◌≡◌, ◌≤◌, ℕ, Bool, true, false, cond, Option, None, List, refl, sym, ◌∙◌, ap, arith, is_some, ◌&&◌}
 use Rattle.std.specs.Prelude.{◌==◌, Result, Ok, Err, OnErr}
 use Rattle.std.specs.Cmp.{unsigned_Decides}
-use Rattle.mm_types.specs.declared.numbers.Key.{Key}
-use Rattle.mm_types.specs.declared.numbers.Pid.{Pid}
-use Rattle.mm_types.specs.declared.numbers.Place.{Place}
-use Rattle.mm_types.specs.Address.{Range, holds_page}
-use Rattle.mm_world.specs.World.{Page, RegionOf}
-use Rattle.mm_world.specs.Keys.{own_page}
-use Rattle.mm_types.specs.Allocation.{reserve_type}
-use Rattle.mm_pages.specs.Store.{StoreOf, changed_in, is_place_in, own_key}
-use Rattle.mm_pages.specs.Conditions.{place_at}
-use Rattle.mm_tables.specs.Effects.{Effect, Makes, Leaves, RangeStored, CanMake, contents_by, paging_by}
-use Rattle.mm_tables.specs.Fits.{new_pages, store_beside}
-use Rattle.mm_tables.specs.Ranges.{is_page_dead, is_page_live, CanAdd}
-use Rattle.mm_tables.specs.ViewChanges.{NewPlaces, MoreRoom}
+use Rattle.mm_types.specs.{Key, Pid, Place, Range, holds_page, reserve_type}
+use Rattle.mm_world.specs.{Page, RegionOf, own_page}
+use Rattle.mm_pages.specs.{StoreOf, changed_in, is_place_in, own_key, place_at}
+use Rattle.mm_tables.specs.{Effect, Makes, Leaves, RangeStored, CanMake, contents_by, paging_by, new_pages, store_beside, is_page_dead, is_page_live}
+use Rattle.mm_tables.specs.{CanAdd, NewPlaces, MoreRoom}
 use Rattle.mm_tables.proofs.PageByPage.{passing_few}
 
 pub can_fill : (pid : Pid) (range : Range) (type total : ℕ) (rs ss : List (RegionOf (Unit {0}))) (c d : Key → Option Page) (s z : StoreOf) → CanMake pid range type total rs c s → RangeStored pid range Leaves Makes true c d s z → z.paging_keys ≡ s.paging_keys → total ≤ z.room → ss ≡ rs → (type == reserve_type) ≡ false → CanAdd pid range ss d z

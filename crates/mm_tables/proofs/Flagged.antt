@@ -1,28 +1,15 @@
 -- The flags of a region of a process are others.
 use Rattle.std.proofs.Common.{◌≡◌, ℕ, ◌-◌, Bool, false, is_some, Option, Some, None, List, refl, sym, ◌∙◌, ap, subst, arith, length, set, slice_get}
 use Rattle.std.proofs.lemmas.Bool.{cond_both}
-use Rattle.mm_types.specs.declared.numbers.Key.{Key}
-use Rattle.mm_types.specs.declared.numbers.Pid.{Pid}
-use Rattle.mm_types.specs.Address.{holds_page, first_user_page}
-use Rattle.mm_world.specs.World.{Page, ProcessOf, RegionOf, pages_of}
-use Rattle.mm_world.specs.Find.{Found, first_where, process_of, set_region}
-use Rattle.mm_world.specs.Charge.{charge}
-use Rattle.mm_world.specs.Keys.{own_page}
-use Rattle.mm_world.specs.Rows.{change_flags}
-use Rattle.mm_world.specs.Contents.{Tables}
+use Rattle.mm_types.specs.{Key, Pid, holds_page, first_user_page}
+use Rattle.mm_types.proofs.{some_map}
+use Rattle.mm_world.specs.{Page, ProcessOf, RegionOf, pages_of, Found, first_where, process_of, set_region, charge, own_page, change_flags, Tables}
 use Rattle.mm_world.specs.WellFormed.{WellFormed}
-use Rattle.mm_world.proofs.Charges.{charge-set_region}
-use Rattle.mm_world.proofs.Finding.{found_stands}
-use Rattle.mm_world.proofs.KeptPages.{own_in}
-use Rattle.mm_world.proofs.LaidOut.{flags_changed}
-use Rattle.mm_pages.specs.Store.{StoreOf}
-use Rattle.mm_tables.specs.Fits.{FitsTables}
-use Rattle.mm_tables.specs.Effects.{Leaves, Moves}
-use Rattle.mm_tables.specs.Sound.{AreKeptTables}
-use Rattle.mm_tables.specs.Spaces.{process_regions, RegionsBecame}
-use Rattle.mm_tables.specs.declared.tables.Process.{Process}
+use Rattle.mm_world.proofs.{charge-set_region, found_stands, own_in, flags_changed}
+use Rattle.mm_pages.specs.{StoreOf}
+use Rattle.mm_tables.specs.{FitsTables, Leaves, Moves, AreKeptTables, process_regions, RegionsBecame, Process}
 use Rattle.mm_tables.specs.declared.tables.Tables.TheInside.{Inside}
-use Rattle.mm_tables.proofs.Keeping.{StandIn}
+use Rattle.mm_tables.proofs.SectionTidy.{StandIn}
 use Rattle.mm_tables.proofs.Standing.{Held, regions_by, still_kept, same_tables, kept_same, shown_with}
 use Rattle.mm_tables.proofs.Carried.{moved}
 use Rattle.mm_tables.proofs.OneProcess.{paging-set_region}
@@ -38,7 +25,7 @@ module _ (t : Tables) (q : Pid) (p : ProcessOf (Unit {0})) (i : ℕ) (r : Region
   same = record { base = refl; rows = refl }
 
   flags_stand : StandIn t p.regions (set p.regions i new)
-  flags_stand = set_stands t p i r new at same refl (flags_changed change r long) (λ rows. rows)
+  flags_stand = set_stands t p i r new at same refl (flags_changed change r long) (some_map change r.watched) (λ rows. rows)
 
   flags_charge : charge (set_region t q.0 p i new) ≡ charge t
   flags_charge = omega (arith, charge-set_region t q.0 p i r new lives at)

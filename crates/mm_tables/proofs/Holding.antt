@@ -1,13 +1,8 @@
 -- A living process can be given a handle, where room was had for it.
 use Rattle.std.proofs.Common.{◌≡◌, ℕ, true, Option, List, sym, ◌∙◌, ap, arith, is_some}
-use Rattle.mm_world.specs.World.{numbered}
-use Rattle.mm_world.specs.Find.{process_of}
-use Rattle.mm_world.specs.Contents.{Tables}
-use Rattle.mm_tables.specs.declared.tables.Process.{Process}
+use Rattle.mm_world.specs.{numbered, process_of, Tables}
+use Rattle.mm_tables.specs.{Process, IsFew, has_room, CanHold, shown_processes}
 use Rattle.mm_tables.specs.declared.tables.Tables.TheInside.{Inside}
-use Rattle.mm_tables.specs.References.{IsFew}
-use Rattle.mm_tables.specs.SectionSteps.{has_room, CanHold}
-use Rattle.mm_tables.specs.Shown.{shown_processes}
 use Rattle.mm_tables.proofs.SectionFits.{as_kept}
 
 pub can_hold : (i : Inside) (t : Tables) (items : List (Option Process)) (pid : ℕ) → as_kept i ≡ t → shown_processes items ≡ shown_processes i.processes.items → is_some (process_of t pid) ≡ true → IsFew t → has_room items pid ≡ true → CanHold items pid

@@ -1,10 +1,9 @@
 -- What is known of the pages of a range, from how many of them have bytes of their own.
 use Rattle.std.proofs.Common.{◌≡◌, ◌<◌, ◌≤◌, ◌+◌, ℕ, zero, suc, Bool, true, false, List, Option, Some, None, cond, ap, ◌∙◌, arith, refl, inl, inr}
-use Rattle.mm_types.proofs.Cells.{same_or_not}
-use Rattle.mm_types.specs.Address.{Range}
-use Rattle.mm_world.specs.World.{RegionOf}
-use Rattle.mm_tables.specs.Endings.{owned_among}
-use Rattle.mm_tables.specs.Known.{KnownAt, KnownIn}
+use Rattle.mm_types.proofs.{same_or_not}
+use Rattle.mm_types.specs.{Range}
+use Rattle.mm_world.specs.{RegionOf}
+use Rattle.mm_tables.specs.{owned_among, KnownAt, KnownIn}
 
 pub known_at : (known : Option Bool) (rs : List (RegionOf (Unit {0}))) (range : Range) (i : ℕ) → KnownIn known rs range → i < range.count → KnownAt known rs (range.first + i)
 known_at None rs range i known few = tt

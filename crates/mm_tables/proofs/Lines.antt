@@ -5,38 +5,23 @@ use Rattle.std.specs.Cmp.{unsigned_Decides}
 use Rattle.std.proofs.lemmas.Bool.{le-leb}
 use Rattle.std.proofs.lemmas.List.{length-append}
 use Rattle.std.proofs.lemmas.List.Sums.{sum_by_push}
-use Rattle.mm_types.specs.declared.answers.Answer.TheVariants as answer
-use Rattle.mm_types.specs.declared.numbers.Key.{Key}
+use Rattle.mm_types.specs.{Key, MachineOf, limit_of}
 use Rattle.mm_types.specs.declared.numbers.Key.TheVariants as key
-use Rattle.mm_types.specs.Machine.{MachineOf, limit_of}
-use Rattle.mm_types.proofs.Cells.{same_or_not}
-use Rattle.mm_types.proofs.Lists.{push_other, push_at, none_at_end}
-use Rattle.mm_types.proofs.Tables.{differ}
-use Rattle.mm_blocks.specs.declared.device_calls.NamedCalls.{NamedCalls}
-use Rattle.mm_world.specs.World.{Page, ProcessOf, Numbered}
-use Rattle.mm_world.specs.Find.{process_of, section_of, region_with}
-use Rattle.mm_world.specs.Charge.{charge, process_charge}
-use Rattle.mm_world.specs.Contents.{Tables}
-use Rattle.mm_world.specs.Outcome.{OutcomeOf, done}
-use Rattle.mm_world.specs.Keys.{own_page, content_of}
-use Rattle.mm_world.specs.Sections.{holds, views}
-use Rattle.mm_world.specs.Processes.{new_process, grow, take_fail, no_regions, with_slots, most_processes, most_slots, most_fails}
-use Rattle.mm_world.specs.WellFormed.{WellFormed}
-use Rattle.mm_world.specs.Step.{first_world}
-use Rattle.mm_world.proofs.Keeps.{new_process_keeps, grow_keeps, take_fail_keeps}
-use Rattle.mm_pages.specs.Store.{StoreOf, changed}
-use Rattle.mm_pages.specs.Conditions.{IsNew}
-use Rattle.mm_commit.specs.Charge.{CommitOf}
-use Rattle.mm_sections.specs.Directories.{CountedSection}
-use Rattle.mm_tables.specs.Fits.{FitsTables, before_process, is_paging, file_block_in, paging_count, owned_keys}
-use Rattle.mm_tables.specs.References.{IsTidy, handles_in, views_in}
-use Rattle.mm_tables.specs.Shown.{tables_with, shown_accesses}
-use Rattle.mm_tables.specs.Sound.{AreKeptTables}
+use Rattle.mm_types.proofs.{same_or_not, push_other, push_at, none_at_end, differ}
+use Rattle.mm_blocks.specs.{NamedCalls}
+use Rattle.mm_world.specs.{Page, ProcessOf, Numbered, process_of, region_with, charge, process_charge, Tables, own_page, content_of, holds, views}
+use Rattle.mm_world.specs.{no_regions, with_slots, most_processes, most_slots, most_fails, first_world}
+use Rattle.mm_world.proofs.{ProcessComes}
+use Rattle.mm_pages.specs.{StoreOf, changed, IsNew}
+use Rattle.mm_commit.specs.{CommitOf}
+use Rattle.mm_sections.specs.{CountedSection}
+use Rattle.mm_tables.specs.{FitsTables, before_process, is_paging, file_block_in, paging_count, owned_keys, IsTidy, handles_in, views_in, tables_with}
+use Rattle.mm_tables.specs.{shown_accesses, AreKeptTables}
 use Rattle.mm_tables.specs.declared.tables.Tables.TheInside.{Inside}
 use Rattle.mm_tables.proofs.Keeping.{lives_push}
 use Rattle.mm_tables.proofs.Lists.{any_more}
 use Rattle.mm_tables.proofs.SectionFits.{read_push, with_open_of, fits_processes}
-use Rattle.mm_tables.proofs.SectionTidy.{section_more, section_settled, area_settled, settle_by, tidy_by}
+use Rattle.mm_tables.proofs.SectionTidy.{sound_edit, tidy_beside, beside_kept}
 use Rattle.mm_tables.proofs.OneProcess.{regions_in, reserved_is, content_is}
 
 -- ---- one process more
@@ -52,10 +37,6 @@ abbrev pub more : Tables → Tables
 more t = record t { processes = t.processes ++ Some no_regions ∷ [] }
 
 module _ (t : Tables) where
-  made_is : length t.processes ≤ most_processes → (new_process t).world ≡ record t { processes = t.processes ++ Some no_regions ∷ [] }
-  made_is few =
-      ap (λ b. let o : OutcomeOf (Unit {0}) = cond b (done (answer.NewProcess (record { 0 = length t.processes })) (record t { processes = t.processes ++ Some no_regions ∷ [] })) (done answer.Full t) in o.world) (le-leb (length t.processes) most_processes few)
-
   more_charge : charge (more t) ≡ charge t
   more_charge = omega (arith, sum_by_push process_charge t.processes (Some no_regions))
 
@@ -64,21 +45,13 @@ module _ (t : Tables) where
 
   more_tidy : IsTidy t → IsTidy (more t)
   more_tidy tidy =
-      tidy_by (more t)
-      (settle_by (more t)
-      (λ n. section_more t.processes (more t).processes n (section_of t n) (any_more (holds n) t.processes (Some no_regions)) (any_more (views n) t.processes (Some no_regions)) (section_settled t tidy.settled n))
-      (area_settled t tidy.settled)) (record {
-        own_area = tidy.own_area;
-        some = tidy.some;
-        files = λ area first e. let k = tidy.files area first e in record { blocks = k.blocks; some = k.some; committed = k.committed };
-        file_areas = tidy.file_areas;
-        keepers = λ tid k e. lives_push t.processes no_regions k.pid (tidy.keepers tid k e);
-      })
+      tidy_beside t t.machine (more t).processes t.fails_taken t.kept t.stacks (λ tid k e. lives_push t.processes no_regions k.pid (tidy.keepers tid k e))
+      (λ n. any_more (holds n) t.processes (Some no_regions)) (λ n. any_more (views n) t.processes (Some no_regions)) tidy
 
   pub more_kept : (entries : Numbered CountedSection) (commit : CommitOf) → AreKeptTables t entries commit → length t.processes ≤ most_processes → AreKeptTables (more t) entries commit
   more_kept entries commit kept few =
       record {
-        sound = subst (λ (t : Tables). WellFormed t) (made_is few) (new_process_keeps t kept.sound);
+        sound = sound_edit t (more t) (ProcessComes (le-leb (length t.processes) most_processes few)) (omega (arith, more_charge, kept.sound.charged)) kept.sound;
         tidy = more_tidy kept.tidy;
         counted = λ n c e.
             let k = kept.counted n c e in
@@ -116,44 +89,23 @@ module _ (t : Tables) where
 abbrev pub other : Tables → MachineOf → ℕ → Tables
 other t m n = record t { machine = m; fails_taken = n }
 
-module _ (t : Tables) (m : MachineOf) (n : ℕ) where
-  pub other_kept : (entries : Numbered CountedSection) (old new : CommitOf) → AreKeptTables t entries old → WellFormed (other t m n) → new.charge ≡ old.charge → new.limit ≡ limit_of m → AreKeptTables (other t m n) entries new
-  other_kept entries old new kept sound charged limited =
-      record {
-        sound = sound;
-        tidy = record {
-          settled = λ i. record (other t m n) { sections = ap (λ (w : Tables). w.sections) kept.tidy.settled i; areas = ap (λ (w : Tables). w.areas) kept.tidy.settled i };
-          own_area = kept.tidy.own_area;
-          some = kept.tidy.some;
-          files = λ area first e. let k = kept.tidy.files area first e in record { blocks = k.blocks; some = k.some; committed = k.committed };
-          file_areas = kept.tidy.file_areas;
-          keepers = kept.tidy.keepers;
-        };
-        counted = λ number c e. let k = kept.counted number c e in record { handles = k.handles; views = k.views };
-        charged = charged ∙ kept.charged;
-        limited = limited;
-      }
+other_kept : (t : Tables) (m : MachineOf) (n : ℕ) (entries : Numbered CountedSection) (old new : CommitOf) → AreKeptTables t entries old → n ≤ most_fails → m.slots ≤ most_slots → t.machine.blocks ≡ m.blocks → limit_of t.machine ≤ limit_of m → new.charge ≡ old.charge → new.limit ≡ limit_of m → AreKeptTables (other t m n) entries new
+other_kept t m n entries old new kept fails slots blocks more charged limited =
+    beside_kept t m n t.kept t.stacks entries old new
+    (record { processes = refl; sections = refl; areas = refl; files = refl; threads = refl; fails = λ h. fails; blocks = λ h. omega (arith, h, blocks); slots = λ h. slots; kept = λ e. refl; stacks = λ e. refl; limit = more })
+    kept.tidy.keepers charged limited kept
 
 -- ---- more slots
 
-grown_is : (t : Tables) (n : ℕ) → t.machine.slots + n ≤ most_slots → (grow t n).world ≡ other t (with_slots t.machine n) t.fails_taken
-grown_is t n h =
-    ap (λ b. let o : OutcomeOf (Unit {0}) = cond b (done (answer.Limit (limit_of (with_slots t.machine n))) (record t { machine = with_slots t.machine n })) (done answer.Full t) in o.world) (le-leb (t.machine.slots + n) most_slots h)
-
 pub slots_kept : (t : Tables) (n : ℕ) (entries : Numbered CountedSection) (commit new : CommitOf) → AreKeptTables t entries commit → t.machine.slots + n ≤ most_slots → limit_of (with_slots t.machine n) ≡ limit_of t.machine + n → new ≡ record commit { limit = commit.limit + n } → AreKeptTables (other t (with_slots t.machine n) t.fails_taken) entries new
 slots_kept t n entries commit new kept h limits e =
-    other_kept t (with_slots t.machine n) t.fails_taken entries commit new kept (subst (λ (t : Tables). WellFormed t) (grown_is t n h) (grow_keeps t n kept.sound))
+    other_kept t (with_slots t.machine n) t.fails_taken entries commit new kept kept.sound.numbers.fails h refl (omega (arith, limits))
     (ap (λ (c : CommitOf). c.charge) e) (ap (λ (c : CommitOf). c.limit) e ∙ ap (λ (k : ℕ). k + n) kept.limited ∙ sym limits)
 
 -- ---- one more `fail` line
 
-taken_is : (t : Tables) → t.fails_taken < most_fails → (take_fail t).world ≡ other t t.machine (t.fails_taken + 1)
-taken_is t h =
-    ap (λ b. let o : OutcomeOf (Unit {0}) = cond b (done answer.Ok (record t { fails_taken = t.fails_taken + 1 })) (done answer.Full t) in o.world) (le-leb _ _ (omega (arith, h)))
-
 pub fail_kept : (t : Tables) (entries : Numbered CountedSection) (commit : CommitOf) → AreKeptTables t entries commit → t.fails_taken < most_fails → AreKeptTables (other t t.machine (t.fails_taken + 1)) entries commit
-fail_kept t entries commit kept h =
-    other_kept t t.machine (t.fails_taken + 1) entries commit commit kept (subst (λ (t : Tables). WellFormed t) (taken_is t h) (take_fail_keeps t kept.sound)) refl kept.limited
+fail_kept t entries commit kept h = other_kept t t.machine (t.fails_taken + 1) entries commit commit kept (omega (arith, h)) kept.sound.numbers.slots refl (omega arith) refl kept.limited
 
 -- ---- a new store fits the tables of its machine
 

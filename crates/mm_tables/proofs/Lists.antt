@@ -1,26 +1,15 @@
 -- What is found in a list with one more, one less, or one changed; and ranges of a list that are changed.
 use Rattle.std.proofs.Common.{◌≡◌, ℕ, zero, suc, ◌+◌, ◌*◌, ◌≤◌, ◌<◌, Bool, true, false, Some, List, [], ◌∷◌, ◌++◌, refl, sym, ◌∙◌, ap, cond, arith, length, set, slice_get, map, take, drop, is_some, ◌&&◌, ◌||◌, nat_le, nat_lt, count_by, option_map, replicate, Option, None, ◌≢◌, get_or, unwrap_or}
-use Rattle.std.specs.Prelude.{insert, ◌==◌, IfSome}
+use Rattle.std.specs.Prelude.{◌==◌, IfSome}
 use Rattle.std.specs.List.{list_any}
 use Rattle.std.proofs.lemmas.Bool.{leb-true, le-leb}
 use Rattle.std.proofs.lemmas.List.{length-take, length-drop}
 use Rattle.std.proofs.lemmas.List.Folds.{list_any-append, sum_by-replicate}
 use Rattle.std.proofs.lemmas.List.Sums.{sum_by-cons, sum_by-append}
 use Rattle.std.specs.Cmp.{unsigned_Decides}
-use Rattle.mm_types.proofs.Booleans.{both, or_left, or_right, or_both, by_either}
-use Rattle.mm_world.specs.Find.{first_where, one_later, change_range, no_area}
-use Rattle.mm_world.specs.World.{AreaOf}
-use Rattle.mm_world.proofs.Natural.{some-map}
-use Rattle.mm_world.proofs.LaidOut.{and-true, less}
-use Rattle.mm_world.proofs.Charges.{sum_by-split}
-
--- ---- tests
-
-pub or_swap : (a b c : Bool) → (a || (b || c)) ≡ (b || (a || c))
-or_swap true true c = refl
-or_swap true false c = refl
-or_swap false true c = refl
-or_swap false false c = refl
+use Rattle.mm_types.proofs.{both, or_left, or_right}
+use Rattle.mm_world.specs.{first_where, one_later, change_range, no_area, AreaOf}
+use Rattle.mm_world.proofs.{some-map, and-true, less, sum_by-split}
 
 -- ---- what is found
 
@@ -30,13 +19,6 @@ found-cons test x xs = by_test (test x)
     by_test : (b : Bool) → is_some (cond b (Some (record { place = 0; thing = x })) (option_map one_later (first_where test xs))) ≡ (b || is_some (first_where test xs))
     by_test true = refl
     by_test false = some-map one_later (first_where test xs)
-
-pub found-insert : {A : Type 0} (test : A → Bool) (xs : List A) (i : ℕ) (x : A) → is_some (first_where test (insert xs i x)) ≡ (test x || is_some (first_where test xs))
-found-insert test xs zero x = found-cons test x xs
-found-insert test [] (suc i) x = found-cons test x []
-found-insert test (y ∷ ys) (suc i) x =
-    found-cons test y (insert ys i x) ∙ ap (λ b. test y || b) (found-insert test ys i x) ∙ or_swap (test y) (test x) (is_some (first_where test ys))
-    ∙ ap (λ b. test x || b) (sym (found-cons test y ys))
 
 pub found-set : {A : Type 0} (test : A → Bool) (xs : List A) (i : ℕ) (x y : A) → slice_get xs i ≡ Some x → test y ≡ test x → is_some (first_where test (set xs i y)) ≡ is_some (first_where test xs)
 found-set test [] i x y at same = cc
@@ -52,14 +34,12 @@ abbrev pub is_between : ℕ → ℕ → ℕ → Bool
 is_between first count k = nat_le first k && nat_lt k (first + count)
 
 pub get_in : {A : Type 0} (change : A → A) (first count : ℕ) (xs : List A) (k : ℕ) → first ≤ k → k < first + count → slice_get (change_range change first count xs) k ≡ option_map change (slice_get xs k)
-get_in change zero zero xs k low high = absurd (omega arith)
 get_in change zero (suc count) [] k low high = refl
 get_in change zero (suc count) (x ∷ xs) zero low high = refl
 get_in change zero (suc count) (x ∷ xs) (suc k) low high = get_in change zero count xs k (omega arith) (omega arith)
-get_in change (suc first) zero xs k low high = absurd (omega arith)
 get_in change (suc first) (suc count) [] k low high = refl
-get_in change (suc first) (suc count) (x ∷ xs) zero low high = absurd (omega arith)
 get_in change (suc first) (suc count) (x ∷ xs) (suc k) low high = get_in change first (suc count) xs k (omega arith) (omega arith)
+get_in change _ _ _ _ low high = absurd (omega arith)
 
 pub get_out : {A : Type 0} (change : A → A) (first count : ℕ) (xs : List A) (k : ℕ) → (first ≤ k → k < first + count → ⊥) → slice_get (change_range change first count xs) k ≡ slice_get xs k
 get_out change zero zero xs k out = refl
@@ -148,9 +128,8 @@ by_cell None = None
 by_cell (Some o) = o
 
 pub numbered_got : {A : Type 0} (xs : List (Option A)) (i : ℕ) → get_or xs i None ≡ by_cell (slice_get xs i)
-numbered_got [] i = refl
-numbered_got (y ∷ ys) zero = refl
 numbered_got (y ∷ ys) (suc i) = numbered_got ys i
+numbered_got _ _ = refl
 
 -- ---- tests
 
@@ -177,15 +156,13 @@ module _ {B : Type 0} where
 
   pub area_at_end : (areas : List (AreaOf B)) (a : AreaOf B) (q : ℕ) → q ≡ length areas → area_in (areas ++ a ∷ []) q ≡ a
   area_at_end [] a zero e = refl
-  area_at_end [] a (suc q) e = absurd (omega (arith, e))
-  area_at_end (b ∷ areas) a zero e = absurd (omega (arith, e))
   area_at_end (b ∷ areas) a (suc q) e = area_at_end areas a q (omega (arith, e))
+  area_at_end _ a _ e = absurd (omega (arith, e))
 
   pub area_before : (areas : List (AreaOf B)) (a : AreaOf B) (q : ℕ) → q ≢ length areas → area_in (areas ++ a ∷ []) q ≡ area_in areas q
   area_before [] a zero n = absurd (n refl)
-  area_before [] a (suc q) n = refl
-  area_before (b ∷ areas) a zero n = refl
   area_before (b ∷ areas) a (suc q) n = area_before areas a q (λ e. n (ap suc e))
+  area_before _ a _ n = refl
 
   pub no_area_past : (areas : List (AreaOf B)) (q : ℕ) → length areas ≤ q → area_in areas q ≡ no_area
   no_area_past [] q h = refl
@@ -200,16 +177,3 @@ module _ {A : Type 0} (test : A → Bool) where
 
   pub any_last : (xs : List A) (x : A) → test x ≡ true → list_any test (xs ++ x ∷ []) ≡ true
   any_last xs x e = list_any-append test xs (x ∷ []) ∙ or_right (list_any test xs) (list_any test (x ∷ [])) (or_left (test x) false e)
-
-  pub any_insert : (xs : List A) (i : ℕ) (x : A) → list_any test xs ≡ true → list_any test (insert xs i x) ≡ true
-  any_insert xs zero x e = or_right (test x) (list_any test xs) e
-  any_insert [] (suc i) x e = cc
-  any_insert (y ∷ xs) (suc i) x e = or_both (test y) (list_any test xs) (list_any test (insert xs i x)) (any_insert xs i x) e
-
-  pub any_set : (xs : List A) (i : ℕ) (x y : A) → slice_get xs i ≡ Some x → (test x ≡ true → test y ≡ true) → list_any test xs ≡ true → list_any test (set xs i y) ≡ true
-  any_set [] i x y at f e = cc
-  any_set (z ∷ xs) zero x y at f e =
-      let same : z ≡ x = cc in
-      by_either (test z) (list_any test xs) e ((test y || list_any test xs) ≡ true)
-      (λ h. or_left (test y) (list_any test xs) (f (ap test (sym same) ∙ h))) (or_right (test y) (list_any test xs))
-  any_set (z ∷ xs) (suc i) x y at f e = or_both (test z) (list_any test xs) (list_any test (set xs i y)) (any_set xs i x y at f) e

@@ -1,24 +1,17 @@
 -- One process has other regions: the regions of each, and how many page-file keys live.
-use Rattle.std.proofs.Common.{◌≡◌, ℕ, ◌+◌, Option, Some, None, List, ap, arith, set, slice_get, is_some, count_by, ◌≢◌, ◌⊎◌, inl, inr, false, [], refl, sym, ◌∙◌, subst, option_map, unwrap_or, ◌-◌, true}
+use Rattle.std.proofs.Common.{◌≡◌, ℕ, ◌+◌, Option, Some, None, List, ap, arith, set, slice_get, is_some, count_by, ◌≢◌, inl, inr, false, [], refl, sym, ◌∙◌, subst, option_map, unwrap_or, ◌-◌, true}
 use Rattle.std.specs.Prelude.{remove, insert, option_and_then}
 use Rattle.std.proofs.lemmas.List.Sums.{sum_by-set, sum_by-remove, sum_by-insert}
 use Rattle.std.proofs.lemmas.Option.{get_or_from_slice_get, slice_get_within}
 use Rattle.std.proofs.lemmas.List.{get_or-set_same, get_or-set_other}
-use Rattle.mm_types.specs.declared.numbers.Place.{Place}
-use Rattle.mm_types.specs.declared.numbers.Key.{Key}
-use Rattle.mm_types.specs.declared.views.Kind.{Kind}
+use Rattle.mm_types.specs.{Place, Key, Kind}
 use Rattle.mm_types.specs.declared.views.Kind.TheVariants as kind
-use Rattle.mm_types.proofs.Cells.{same_or_not}
-use Rattle.mm_types.proofs.Options.{same_found}
-use Rattle.mm_world.specs.World.{WorldOf, ProcessOf, RegionOf, numbered, RowOf, AreaOf}
-use Rattle.mm_world.specs.Find.{process_of, set_process, set_regions, set_region, region_with, Found, no_area, is_private}
-use Rattle.mm_world.specs.Keys.{content_of, private_key, own_page, Home, InSection, Committed, committed_in, home_in, key_of}
-use Rattle.mm_world.specs.Rows.{row_at}
-use Rattle.mm_world.specs.Contents.{Tables}
-use Rattle.mm_world.proofs.Charges.{sum_by-put}
-use Rattle.mm_world.proofs.Finding.{numbered_inside}
-use Rattle.mm_tables.specs.Fits.{owned_keys, paging_count, is_reserved, key_at}
-use Rattle.mm_tables.specs.Effects.{key_in}
+use Rattle.mm_types.proofs.{same_or_not, same_found}
+use Rattle.mm_world.specs.{WorldOf, ProcessOf, RegionOf, numbered, RowOf, AreaOf, process_of, set_process, set_regions, set_region, region_with}
+use Rattle.mm_world.specs.{Found, no_area, is_private, content_of, private_key, own_page, Home, InSection, Committed, committed_in, home_in, key_of}
+use Rattle.mm_world.specs.{row_at, Tables}
+use Rattle.mm_world.proofs.{sum_by-put, numbered_inside}
+use Rattle.mm_tables.specs.{owned_keys, paging_count, is_reserved, key_at, key_in}
 use Rattle.mm_tables.proofs.Regions.{has}
 
 module _ {B : Type 0} where
@@ -87,15 +80,6 @@ module _ {B : Type 0} where
         | inr other ↦ ap is_some (process_set_other w pid q p rs other)
       ]
 
-  -- a process of the new tables is the one with the new regions, or another
-  pub process_cases : (w : WorldOf B) (pid q : ℕ) (p x : ProcessOf B) (rs : List (RegionOf B)) → process_of w pid ≡ Some p → process_of (set_regions w pid p rs) q ≡ Some x → ((q ≡ pid) × (x ≡ record p { regions = rs })) ⊎ ((q ≢ pid) × (process_of w q ≡ Some x))
-  process_cases w pid q p x rs lives e =
-      elim (same_or_not q pid) [
-        | inl same ↦
-            inl (same, same_found (process_of (set_regions w pid p rs) pid) x (record p { regions = rs }) (ap (λ (k : ℕ). process_of (set_regions w pid p rs) k) (sym same) ∙ e) (process_set_same w pid p rs lives))
-        | inr other ↦ inr (other, sym (process_set_other w pid q p rs other) ∙ e)
-      ]
-
   pub process_is : (w : WorldOf B) (pid : ℕ) (p q : ProcessOf B) → process_of w pid ≡ Some p → process_of w pid ≡ Some q → p ≡ q
   process_is w pid p q a b = same_found (process_of w pid) p q a b
 
@@ -110,10 +94,9 @@ region_key t pid page r = option_and_then (λ row. home_key t pid page (page - r
 
 -- areas alone matter
 home_same : (t u : Tables) (pid page i : ℕ) (k : Kind) (own : Option (Unit {0})) → t.areas ≡ u.areas → home_key t pid page i k own ≡ home_key u pid page i k own
-home_same t u pid page i k (Some own) e = refl
-home_same t u pid page i kind.Private None e = refl
 home_same t u pid page i (kind.View v) None e =
     ap (λ (areas : List (AreaOf (Unit {0}))). option_map (λ (home : Home (Unit {0})). key_of pid page home) (option_map (λ (x : Unit {0}). InSection v.area.0 (v.first + i)) (numbered (unwrap_or (slice_get areas v.area.0) no_area).pages (v.first + i)))) e
+home_same t u pid page i _ _ e = refl
 
 region_key_same : (t u : Tables) (pid page : ℕ) (r : RegionOf (Unit {0})) → t.areas ≡ u.areas → region_key t pid page r ≡ region_key u pid page r
 region_key_same t u pid page r e = λ i. option_and_then (λ (row : RowOf (Unit {0})). home_same t u pid page (page - r.base) r.kind row.own e i) (row_at r page)

@@ -3,41 +3,21 @@ use Rattle.std.proofs.Common.{◌≡◌, ℕ, ◌+◌, ◌-◌, Bool, true, fals
 use Rattle.std.specs.Prelude.{option_and_then, IsSomeAnd}
 use Rattle.std.proofs.lemmas.List.{length-set}
 use Rattle.std.proofs.lemmas.Option.{option_and_then_some}
-use Rattle.mm_types.specs.declared.numbers.Key.{Key}
-use Rattle.mm_types.specs.declared.numbers.Pid.{Pid}
-use Rattle.mm_types.specs.declared.numbers.Place.{Place}
-use Rattle.mm_types.specs.declared.views.Kind.{Kind}
+use Rattle.mm_types.specs.{Key, Pid, Place, Kind, View, holds_page, first_user_page}
 use Rattle.mm_types.specs.declared.views.Kind.TheVariants as kind
-use Rattle.mm_types.specs.declared.views.View.{View}
-use Rattle.mm_types.specs.Address.{holds_page, first_user_page}
-use Rattle.mm_types.proofs.Cells.{get_set_same, get_within}
-use Rattle.mm_types.proofs.Options.{same_found}
-use Rattle.mm_world.specs.World.{Page, ProcessOf, RegionOf, RowOf, pages_of, filled}
-use Rattle.mm_world.specs.Find.{change_range, Found, process_of, region_with, is_private, area_at}
-use Rattle.mm_world.specs.Charge.{charge, is_charged}
-use Rattle.mm_world.specs.Failure.{same_key}
-use Rattle.mm_world.specs.Keys.{Committed, Home, home_in, committed_at, set_row, guard_off, private_key}
-use Rattle.mm_world.specs.Rows.{row_at, is_one_of}
-use Rattle.mm_world.specs.Contents.{Tables}
-use Rattle.mm_world.specs.WellFormed.{RowsFit, RowFits, WellFormed, held_protections, RegionRefers}
-use Rattle.mm_world.proofs.AccessCharge.{charge-set_row, charge-guard_off}
-use Rattle.mm_world.proofs.Charges.{sum_by-put}
-use Rattle.mm_world.proofs.Each.{each-at, each-set}
-use Rattle.mm_world.proofs.Finding.{Stands, found_stands, committed_is, IsCommitted}
-use Rattle.mm_world.proofs.LaidOut.{flags_stay}
-use Rattle.mm_world.proofs.Ranges.{Inside as Within}
-use Rattle.mm_pages.specs.Store.{StoreOf, changed, changed_in, same_place, own_key}
-use Rattle.mm_pages.specs.Conditions.{place_at}
-use Rattle.mm_spaces.specs.declared.spaces.PageRow.{PageRow}
-use Rattle.mm_spaces.specs.Tables.{told_page_row, told_row}
-use Rattle.mm_tables.specs.Fits.{FitsTables, CanCopy, copied, key_at, paging_count}
-use Rattle.mm_tables.specs.Effects.{Effect, Makes, Leaves, Moves, after, key_in}
-use Rattle.mm_tables.specs.Ranges.{one_page_range, with_range_keys, flags_set_in, is_key_in}
-use Rattle.mm_tables.specs.declared.tables.Process.{Process}
+use Rattle.mm_types.proofs.{get_set_same, get_within, same_found}
+use Rattle.mm_world.specs.{Page, ProcessOf, RegionOf, RowOf, pages_of, filled, change_range, Found, process_of, region_with, is_private, area_at}
+use Rattle.mm_world.specs.{charge, is_charged, same_key, Committed, Home, home_in, committed_at, set_row, guard_off, private_key, row_at, is_one_of}
+use Rattle.mm_world.specs.{Tables, RowsFit, RowFits, held_protections, RegionRefers}
+use Rattle.mm_world.specs.WellFormed.{WellFormed}
+use Rattle.mm_world.proofs.{charge-set_row, charge-guard_off, sum_by-put, each-at, each-set, Stands, found_stands, committed_is, IsCommitted}
+use Rattle.mm_world.proofs.{flags_stay, Inside as Within}
+use Rattle.mm_pages.specs.{StoreOf, changed, changed_in, same_place, own_key, place_at}
+use Rattle.mm_spaces.specs.{PageRow, told_page_row, told_row}
+use Rattle.mm_tables.specs.{FitsTables, CanCopy, copied, key_at, paging_count, Effect, Makes, Leaves, Moves, after, key_in, one_page_range}
+use Rattle.mm_tables.specs.{with_range_keys, flags_set_in, is_key_in, Process, AreKeptTables, process_regions, RegionsBecame}
 use Rattle.mm_tables.specs.declared.tables.Tables.TheInside.{Inside}
-use Rattle.mm_tables.specs.Sound.{AreKeptTables}
-use Rattle.mm_tables.specs.Spaces.{process_regions, RegionsBecame}
-use Rattle.mm_tables.proofs.Keeping.{StandIn}
+use Rattle.mm_tables.proofs.SectionTidy.{StandIn}
 use Rattle.mm_tables.proofs.Standing.{Held, regions_by, still_kept, shown_with}
 use Rattle.mm_tables.proofs.Carried.{moved}
 use Rattle.mm_tables.proofs.PageByPage.{set_only, own, key_in_only, place_in_only, same_place_is}
@@ -108,7 +88,7 @@ module _ (t : Tables) (q : Pid) (p : ProcessOf (Unit {0})) (page : ℕ) (c : Com
   pages row = record { base = refl; rows = length-set r.rows i row }
 
   row_stands : (row : RowOf (Unit {0})) → RowFits r.kind row → StandIn t p.regions (regions_with row)
-  row_stands row fit = set_stands t p c.region.place r (with_row row) stands.there (pages row) refl (flags_stay r (with_row row) refl (pages row).rows refl) (λ rows. each-set (RowFits r.kind) r.rows i row rows fit)
+  row_stands row fit = set_stands t p c.region.place r (with_row row) stands.there (pages row) refl (flags_stay r (with_row row) refl (pages row).rows refl) refl (λ rows. each-set (RowFits r.kind) r.rows i row rows fit)
 
   -- a row that is changed is the range of one page changed
   row_moves : (change : RowOf (Unit {0}) → RowOf (Unit {0})) (keys : Effect) (clears : Bool) → ((row : RowOf (Unit {0})) → is_some (change row).own ≡ after keys true (is_some row.own)) → ((v : ℕ) (k : Key) → (clears ≡ true → holds_page (one_page_range page) v ≡ false) → holds_page (one_page_range page) v ≡ true → KeepsKey t q.0 p c.region.place r (one_page_range page) lives h stands.there inner change q.0 v k) → Moves t q (one_page_range page) keys Leaves clears p.regions (regions_with (change c.row))
@@ -188,23 +168,12 @@ module _ (t : Tables) (q : Pid) (p : ProcessOf (Unit {0})) (page : ℕ) (c : Com
     pub copy_moved : (contents : Key → Option Page) (s : StoreOf) (bytes : Page) → FitsTables t contents s → FitsTables u (changed same_key contents (private_key q.0 page) (Some bytes)) (copied (place_at q page) s)
     copy_moved contents s bytes f =
         let g = copied_first contents s f in
-        record {
-          machine = g.machine;
-          opened = g.opened;
-          last_pid = g.last_pid;
-          areas = g.areas;
-          bound = g.bound;
-          live = λ k. live_too contents bytes k ∙ g.live k;
-          paging = λ k. ap (λ (h : Key → Bool). h k) (sym (set_only q page s.paging true)) ∙ g.paging k;
-          counted = g.counted;
-          room = g.room;
-          named = λ place k. named g place k (same_place place (place_at q page)) refl;
-          blocks = g.blocks;
-          used = g.used;
-          stored = g.stored;
-          named_paging = g.named_paging;
-          named_file = g.named_file;
-        }
+        assumption (
+          λ (k : Key). live_too contents bytes k ∙ g.live k,
+          λ (k : Key). ap (λ (h : Key → Bool). h k) (sym (set_only q page s.paging true)) ∙ g.paging k,
+          λ (place : Place) (k : Key). named g place k (same_place place (place_at q page)) refl,
+          g,
+        )
       where
         named : FitsTables u (with_range_keys q (one_page_range page) contents) (unnamed s) → (place : Place) (k : Key) (b : Bool) → same_place place (place_at q page) ≡ b → cond b (Some (own_key (place_at q page))) (s.names place) ≡ Some k → key_at u place ≡ Some k
         named g place k true same e = ap (λ (place : Place). key_at u place) (same_place_is q page place same) ∙ copy_key ∙ e

@@ -1,23 +1,16 @@
 -- Keys of a range, page by page.
-use Rattle.std.proofs.Common.{◌≡◌, ℕ, ◌+◌, ◌-◌, Bool, true, false, Option, Some, None, refl, sym, ◌∙◌, ap, cond, arith, is_some, not, ◌&&◌, unwrap_or, zero, suc, ◌≤◌, ◌<◌, List, subst, ◌||◌, inl, inr}
+use Rattle.std.proofs.Common.{◌≡◌, ℕ, ◌+◌, Bool, true, false, Option, Some, None, refl, sym, ◌∙◌, ap, cond, arith, is_some, not, ◌&&◌, unwrap_or, zero, suc, ◌≤◌, ◌<◌, List, subst, ◌||◌, inl, inr}
 use Rattle.std.specs.Prelude.{◌==◌}
 use Rattle.std.specs.Cmp.{unsigned_Decides}
 use Rattle.std.proofs.Math.Path.{fun_ext}
-use Rattle.mm_types.specs.declared.numbers.Key.{Key}
+use Rattle.mm_types.specs.{Key, Pid, Place, holds_page, Range}
 use Rattle.mm_types.specs.declared.numbers.Key.TheVariants as key
-use Rattle.mm_types.specs.declared.numbers.Pid.{Pid}
-use Rattle.mm_types.specs.declared.numbers.Place.{Place}
-use Rattle.mm_types.specs.Address.{holds_page, Range}
-use Rattle.mm_types.proofs.Cells.{same_or_not}
-use Rattle.mm_types.proofs.Booleans.{same_tests, and_false, spread, or_left, or_right, by_either, cond_twice}
-use Rattle.mm_world.specs.World.{Page, filled, RegionOf}
-use Rattle.mm_world.specs.Failure.{same_key}
-use Rattle.mm_world.specs.Keys.{own_page}
-use Rattle.mm_world.proofs.LaidOut.{and-true}
-use Rattle.mm_pages.specs.Store.{StoreOf, changed, changed_in, same_place, is_place_in}
-use Rattle.mm_pages.specs.Reports.{rearranged}
-use Rattle.mm_pages.specs.Conditions.{place_at}
-use Rattle.mm_tables.specs.Ranges.{is_key_in, with_range_keys, removed, flags_set_in, passing, is_page_live, is_page_dead, one_page_range, Adds, Removes, with_keys, store_without_keys, CanAdd, CanRemove, first_pages}
+use Rattle.mm_types.proofs.{same_or_not, same_tests, and_false, spread, or_left, or_right, by_either, cond_twice}
+use Rattle.mm_world.specs.{Page, filled, RegionOf, same_key, own_page}
+use Rattle.mm_world.proofs.{and-true}
+use Rattle.mm_pages.specs.{StoreOf, changed, same_place, is_place_in, rearranged, place_at}
+use Rattle.mm_tables.specs.{is_key_in, with_range_keys, flags_set_in, passing, is_page_live, is_page_dead, one_page_range, Adds, with_keys, CanAdd}
+use Rattle.mm_tables.specs.{first_pages}
 use Rattle.mm_tables.proofs.Regions.{within, holds, holds_not}
 
 abbrev pub own : Pid → ℕ → Key
@@ -98,15 +91,11 @@ pub key_in_more : (pid : Pid) (range : Range) (n : ℕ) (k : Key) → is_key_in 
 key_in_more pid range n (key.Private p v) = ap (λ b. (p.0 == pid.0) && b) (holds_more range n v.0) ∙ spread (p.0 == pid.0) (holds_page (one_page_range (range.first + n)) v.0) (holds_page (first_pages range n) v.0)
 key_in_more pid range n (key.Shared area index) = refl
 
-pub place_in_more : (pid : Pid) (range : Range) (n : ℕ) (q : Place) → is_place_in pid (first_pages range (suc n)) q ≡ (is_place_in pid (one_page_range (range.first + n)) q || is_place_in pid (first_pages range n) q)
-place_in_more pid range n q = ap (λ b. (q.pid.0 == pid.0) && b) (holds_more range n q.vpn.0) ∙ spread (q.pid.0 == pid.0) (holds_page (one_page_range (range.first + n)) q.vpn.0) (holds_page (first_pages range n) q.vpn.0)
-
 -- ---- functions changed in a range and then at its next page
 
 pub added_twice : (a b : Bool) (o : Option Page) → cond a (Some (unwrap_or (cond b (Some (unwrap_or o (filled 0))) o) (filled 0))) (cond b (Some (unwrap_or o (filled 0))) o) ≡ cond (a || b) (Some (unwrap_or o (filled 0))) o
 added_twice true true o = refl
-added_twice true false o = refl
-added_twice false b o = refl
+added_twice _ _ o = refl
 
 added_more : (pid : Pid) (range : Range) (n : ℕ) (c : Key → Option Page) → with_range_keys pid (one_page_range (range.first + n)) (with_range_keys pid (first_pages range n) c) ≡ with_range_keys pid (first_pages range (suc n)) c
 added_more pid range n c =
@@ -119,12 +108,6 @@ keys_more pid range n x f =
     fun_ext (λ k.
     cond_twice (is_key_in pid (one_page_range (range.first + n)) k) (is_key_in pid (first_pages range n) k) x (f k)
     ∙ ap (λ b. cond b x (f k)) (sym (key_in_more pid range n k)))
-
-names_more : (pid : Pid) (range : Range) (n : ℕ) (names : Place → Option Key) → changed_in pid (one_page_range (range.first + n)) (changed_in pid (first_pages range n) names None) None ≡ changed_in pid (first_pages range (suc n)) names None
-names_more pid range n names =
-    fun_ext (λ q.
-    cond_twice (is_place_in pid (one_page_range (range.first + n)) q) (is_place_in pid (first_pages range n) q) None (names q)
-    ∙ ap (λ b. cond b None (names q)) (sym (place_in_more pid range n q)))
 
 -- ---- the next page is not in the range yet
 
@@ -141,11 +124,6 @@ live_yet : (pid : Pid) (range : Range) (n : ℕ) (c d : Key → Option Page) →
 live_yet pid range n c d e =
     ap (λ (d : Key → Option Page). is_page_live pid d (range.first + n)) e
     ∙ ap (λ b. is_some (cond b (Some (unwrap_or (c (own pid (range.first + n))) (filled 0))) (c (own pid (range.first + n))))) (outside pid range n)
-
-live_still : (pid : Pid) (range : Range) (n : ℕ) (c d : Key → Option Page) → d ≡ removed pid (first_pages range n) c → is_page_live pid d (range.first + n) ≡ is_page_live pid c (range.first + n)
-live_still pid range n c d e =
-    ap (λ (d : Key → Option Page). is_page_live pid d (range.first + n)) e
-    ∙ ap (λ b. is_some (cond b None (c (own pid (range.first + n))))) (outside pid range n)
 
 pub only_is : (page v : ℕ) → holds_page (one_page_range page) v ≡ true → v ≡ page
 only_is page v e = (unsigned_Decides v page).0 (sym (holds_only page v) ∙ e)
@@ -217,7 +195,7 @@ adds_then pid range n c d e s z y a b =
           ∙ (λ i. record s { paging = keys_more pid range n true s.paging i; paging_keys = count i; report = rearranged s.report y.report });
     })
 
--- ---- the loop that removes
+-- ---- a range of no page
 
 pub no_key_in : (pid : Pid) (range : Range) (k : Key) → is_key_in pid (first_pages range 0) k ≡ false
 no_key_in pid range (key.Private p v) = ap (λ b. (p.0 == pid.0) && b) (holds_not (first_pages range 0) v.0 (λ w. absurd (omega (arith, w.low, w.high)))) ∙ and_false (p.0 == pid.0)
@@ -225,33 +203,3 @@ no_key_in pid range (key.Shared area index) = refl
 
 pub no_place_in : (pid : Pid) (range : Range) (q : Place) → is_place_in pid (first_pages range 0) q ≡ false
 no_place_in pid range q = ap (λ b. (q.pid.0 == pid.0) && b) (holds_not (first_pages range 0) q.vpn.0 (λ w. absurd (omega (arith, w.low, w.high)))) ∙ and_false (q.pid.0 == pid.0)
-
-pub can_remove_next : (pid : Pid) (range : Range) (n : ℕ) (rs : List (RegionOf (Unit {0}))) (c d : Key → Option Page) (s z : StoreOf) → CanRemove pid range rs c s → n < range.count → Removes pid (first_pages range n) c d s z → CanRemove pid (one_page_range (range.first + n)) rs d z
-can_remove_next pid range n rs c d s z can few a =
-    let page = range.first + n in
-    let held = next_held range n few in
-    let still = live_still pid range n c d a.contents in
-    let place : is_place_in pid (first_pages range n) (place_at pid page) ≡ false = ap (λ b. (pid.0 == pid.0) && b) (not_yet range n) ∙ and_false (pid.0 == pid.0) in
-    record {
-      live = λ v e. subst (λ (v : ℕ). is_page_live pid d v ≡ is_some (own_page rs v)) (sym (only_is page v e)) (still ∙ can.live page held);
-      named = λ v e. subst (λ (v : ℕ). is_page_live pid d v ≡ false → z.names (place_at pid v) ≡ None) (sym (only_is page v e)) (λ free.
-          ap (λ (x : StoreOf). x.names (place_at pid page)) a.store ∙ ap (λ b. cond b None (s.names (place_at pid page))) place ∙ can.named page held (sym still ∙ free));
-      paging = λ v e. subst (λ (v : ℕ). z.paging (own pid v) ≡ is_page_live pid d v) (sym (only_is page v e)) (
-          ap (λ (x : StoreOf). x.paging (own pid page)) a.store ∙ ap (λ b. cond b false (s.paging (own pid page))) (outside pid range n) ∙ can.paging page held ∙ sym still
-          );
-      unbinding = ap (λ (x : StoreOf). x.kind) a.store ∙ can.unbinding;
-    }
-
-pub removes_then : (pid : Pid) (range : Range) (n : ℕ) (c d e : Key → Option Page) (s z y : StoreOf) → Removes pid (first_pages range n) c d s z → Removes pid (one_page_range (range.first + n)) d e z y → Removes pid (first_pages range (n + 1)) c e s y
-removes_then pid range n c d e s z y a b =
-    let page = range.first + n in
-    let more : suc n ≡ n + 1 = omega arith in
-    let live = live_still pid range n c d a.contents in
-    let one : passing (is_page_live pid d) page 1 ≡ cond (is_page_live pid c page) 1 0 = once (is_page_live pid d) page ∙ ap (λ b. cond b 1 0) live in
-    let count : s.paging_keys - passing (is_page_live pid c) range.first n - passing (is_page_live pid d) page 1 ≡ s.paging_keys - passing (is_page_live pid c) range.first (suc n) = omega (arith, one) in
-    subst (λ (k : ℕ). Removes pid (first_pages range k) c e s y) more (record {
-      contents = b.contents ∙ ap (removed pid (one_page_range page)) a.contents ∙ keys_more pid range n None c;
-      store =
-          b.store ∙ ap (λ (x : StoreOf). store_without_keys pid (one_page_range page) (passing (is_page_live pid d) page 1) x y) a.store
-          ∙ (λ i. record s { names = names_more pid range n s.names i; paging = keys_more pid range n false s.paging i; paging_keys = count i; report = rearranged s.report y.report });
-    })

@@ -6,39 +6,25 @@ use Rattle.std.proofs.lemmas.Bool.{cond_both}
 use Rattle.std.proofs.lemmas.List.{length-replicate, get_or-replicate}
 use Rattle.std.proofs.lemmas.List.Sums.{sum_by-cons, sum_by-insert, sum_by-remove}
 use Rattle.std.proofs.lemmas.Option.{get_or_from_slice_get, slice_get_within, slice_get-get_or}
-use Rattle.mm_types.specs.declared.numbers.Key.{Key}
-use Rattle.mm_types.specs.declared.numbers.Pid.{Pid}
-use Rattle.mm_types.specs.declared.views.Kind.{Kind}
-use Rattle.mm_types.specs.declared.views.View.{View}
+use Rattle.mm_types.specs.{Key, Pid, Kind, View, Range, holds_page, meets, is_free, are_user_pages, first_user_page, base_of, reserve_type}
 use Rattle.mm_types.specs.declared.views.Kind.TheVariants as kind
-use Rattle.mm_types.specs.Address.{Range, holds_page, meets, is_free, are_user_pages, first_user_page}
-use Rattle.mm_types.specs.Protection.{base_of}
-use Rattle.mm_types.proofs.Booleans.{or_true, or_false}
-use Rattle.mm_world.specs.World.{ProcessOf, RegionOf, RowOf, pages_of}
-use Rattle.mm_world.specs.Find.{Found, change_range, process_of, region_with, region_around, ranges_of, set_region, set_regions, add_region, is_private}
-use Rattle.mm_world.specs.Charge.{charge, region_charge, is_charged}
-use Rattle.mm_world.specs.Keys.{own_page}
-use Rattle.mm_types.specs.Allocation.{reserve_type}
-use Rattle.mm_world.specs.Alloc.{private_region, new_row}
-use Rattle.mm_world.specs.Contents.{Tables, blank}
-use Rattle.mm_world.specs.Rows.{is_one_of, is_protection_among, private_protections, reserved_row, commit, protected, change_rows}
-use Rattle.mm_world.specs.Sections.{is_view_of}
-use Rattle.mm_world.specs.WellFormed.{LaidOut, FlagsFit, RowsFit, RowFits, RegionRefers, ViewFits, WellFormed}
-use Rattle.mm_world.proofs.Charges.{charge-set_region, charge-set_regions, charge-remove_region, count_by-none, sum_by-put}
-use Rattle.mm_world.proofs.Each.{each-at, each-insert, each-remove, each-replicate, each-set}
-use Rattle.mm_world.proofs.KeptPages.{own_in, own_free}
-use Rattle.mm_world.proofs.KindsAndKeys.{private_kind}
-use Rattle.mm_world.proofs.LaidOut.{flags_stay, and-true, laid_remove, free_of}
-use Rattle.mm_world.proofs.RowsFit.{reserved_fits, commit_fits}
-use Rattle.mm_world.proofs.Spaces.{private_flags, space_add, space_set}
-use Rattle.mm_spaces.specs.Tables.{rows_of}
-use Rattle.mm_tables.specs.Fits.{paging_count, new_pages, newly_marked, new_marks}
-use Rattle.mm_tables.specs.Effects.{Effect, Makes, Ends, Leaves, after, Moves, keys_of, key_in}
-use Rattle.mm_tables.proofs.Keeping.{StandIn}
+use Rattle.mm_types.proofs.{or_true, or_false}
+use Rattle.mm_world.specs.{ProcessOf, RegionOf, RowOf, pages_of, Found, change_range, process_of, region_with, region_around, ranges_of, set_region}
+use Rattle.mm_world.specs.{set_regions, add_region, is_private, charge, region_charge, is_charged, own_page, private_region, new_row, Tables, blank}
+use Rattle.mm_world.specs.{is_one_of, is_protection_among, private_protections, reserved_row, commit, protected, change_rows, is_view_of, LaidOut}
+use Rattle.mm_world.specs.{FlagsFit, RowsFit, RowFits}
+use Rattle.mm_world.specs.WellFormed.{WellFormed}
+use Rattle.mm_world.proofs.{charge-set_region, charge-set_regions, charge-remove_region, count_by-none, sum_by-put, each-replicate, own_in, own_free}
+use Rattle.mm_world.proofs.{private_kind, flags_stay, and-true, free_of, IsPlaced, reserved_fits, commit_fits, private_flags, RegionChanges}
+use Rattle.mm_world.proofs.{RegionGoes, RegionComes}
+use Rattle.mm_spaces.specs.{rows_of}
+use Rattle.mm_tables.specs.{paging_count, new_pages, newly_marked, new_marks, Effect, Makes, Ends, Leaves, after, Moves, keys_of, key_in}
+use Rattle.mm_tables.proofs.SectionTidy.{StandIn}
 use Rattle.mm_tables.proofs.Lists.{get-change_range, count-change_range, count-all, count-same, count-replicate, one_if}
 use Rattle.mm_tables.proofs.OneProcess.{own_rows, paging-set_region, paging-add_region, home_key, region_key, key_in_has}
 use Rattle.mm_tables.proofs.Regions.{has, within, some_cond, SamePages, reserved_set, found_cond, has_set, has_at, has_added, has_removed}
 use Rattle.mm_tables.proofs.Rows.{Inside, has_own, in_range, same_place, own_of_changed, same_pages, private_charge}
+use Rattle.mm_tables.proofs.Carried.{outside}
 
 pub allowed : (prot : ℕ) → is_protection_among private_protections prot ≡ true → is_one_of private_protections (base_of prot) ≡ true
 allowed prot e = (and-true (is_one_of private_protections (base_of prot)) (nat_lt prot 0x200) (and-true (is_one_of private_protections (base_of prot) && nat_lt prot 0x200) (not (prot == 0x101)) e).0).0
@@ -50,13 +36,10 @@ one_or_other false = refl
 -- ---- a region is another with the same pages
 
 module _ (t : Tables) (p : ProcessOf (Unit {0})) (i : ℕ) (r new : RegionOf (Unit {0})) (at : slice_get p.regions i ≡ Some r) (same : SamePages r new) (kinds : new.kind ≡ r.kind) where
-  pub set_stands : (FlagsFit r → FlagsFit new) → (RowsFit r → RowsFit new) → StandIn t p.regions (set p.regions i new)
-  set_stands flags fit =
+  pub set_stands : (FlagsFit r → FlagsFit new) → is_some new.watched ≡ is_some r.watched → (RowsFit r → RowsFit new) → StandIn t p.regions (set p.regions i new)
+  set_stands flags watched fit =
       record {
-        space = space_set p.regions i r new at same.base same.rows flags fit;
-        refers = λ k.
-            each-set (RegionRefers t) p.regions i new k (λ v is.
-            subst (λ (n : ℕ). ViewFits t v n) (sym same.rows) (each-at (RegionRefers t) p.regions i r k at v (sym kinds ∙ is)));
+        edit = λ pid. RegionChanges i r new at (record { base = same.base; kind = kinds; count = same.rows; rows = fit; flags = flags; watched = watched; plain = λ e. cc; charged = tt });
         views = λ n. omega (arith, sum_by-put (λ (r : RegionOf (Unit {0})). one_if (is_view_of n r.kind)) p.regions i r new at, ap (λ k. one_if (is_view_of n k)) kinds);
       }
 
@@ -115,7 +98,7 @@ protect_count rs range r prot found =
 
 module _ (t : Tables) (pid : ℕ) (p : ProcessOf (Unit {0})) (i : ℕ) (r : RegionOf (Unit {0})) (range : Range) (lives : process_of t pid ≡ Some p) (h : WellFormed t) (at : slice_get p.regions i ≡ Some r) (inside : Inside range (pages_of r)) where
   pub change_stands : (change : RowOf (Unit {0}) → RowOf (Unit {0})) → (RowsFit r → RowsFit (change_rows change range r)) → StandIn t p.regions (set p.regions i (change_rows change range r))
-  change_stands change fit = set_stands t p i r (change_rows change range r) at (same_pages change range r) refl (flags_stay r (change_rows change range r) refl (same_pages change range r).rows refl) fit
+  change_stands change fit = set_stands t p i r (change_rows change range r) at (same_pages change range r) refl (flags_stay r (change_rows change range r) refl (same_pages change range r).rows refl) refl fit
 
   -- a row that is changed keeps its key, of the process with this number
   abbrev pub KeepsKey : (RowOf (Unit {0}) → RowOf (Unit {0})) → ℕ → ℕ → Key → Type 0
@@ -212,8 +195,7 @@ module _ (t : Tables) (pid : ℕ) (p : ProcessOf (Unit {0})) (i : ℕ) (r : Regi
   pub release_stands : is_private r.kind ≡ true → StandIn t p.regions (remove p.regions i)
   release_stands private =
       record {
-        space = λ s. record { laid_out = laid_remove first_user_page p.regions i s.laid_out; rows = each-remove RowsFit p.regions i s.rows };
-        refers = λ k. each-remove (RegionRefers t) p.regions i k;
+        edit = λ pid. RegionGoes i r at (λ shared x here first. refl) tt;
         views = λ n.
             let f : RegionOf (Unit {0}) → ℕ = λ r. one_if (is_view_of n r.kind) in
             let none = ap (λ k. one_if (is_view_of n k)) (private_kind r.kind private) in
@@ -240,6 +222,34 @@ new_rows_fit watched type prot range e =
     (elim (type == reserve_type) as (λ b. RowFits kind.Private (cond b reserved_row (commit (blank 0) prot reserved_row)))
     [ true ↦ reserved_fits | false ↦ commit_fits (blank 0) prot reserved_row (allowed prot e) ])
 
+module _ (t : Tables) (p : ProcessOf (Unit {0})) (new : RegionOf (Unit {0})) (range : Range) (pages : pages_of new ≡ range) (free : is_free (ranges_of p.regions) range ≡ true) where
+  abbrev behind : ℕ
+  behind = count_by (λ (r : RegionOf (Unit {0})). nat_lt r.base new.base) p.regions
+
+  none_met : list_any (meets (pages_of new)) (ranges_of p.regions) ≡ false
+  none_met = ap (λ (r : Range). list_any (meets r) (ranges_of p.regions)) pages ∙ is_clear p.regions range free
+
+  -- its places are bound, and each of its pages has a key or none has
+  pub added_moves : (keys : Effect) (q : Pid) → ((v : ℕ) → holds_page range v ≡ true → is_some (own_in new v) ≡ after keys true false) → Moves t q range keys Makes true p.regions (add_region new p.regions)
+  added_moves keys q own =
+      record {
+        owned = λ v.
+            ap is_some (has_added (λ (r : RegionOf (Unit {0})). own_in r v) new p.regions behind v none_met
+            ∙ ap (λ (r : Range). cond (holds_page r v) (own_in new v) (own_page p.regions v)) pages)
+            ∙ by_held (holds_page range v) (own_page p.regions v) (own_in new v) (own v) (λ held. own_free v new p.regions none_met (ap (λ (r : Range). holds_page r v) pages ∙ held));
+        reserved = λ v.
+            found_cond p.regions (add_region new p.regions) v (holds_page (pages_of new) v) (Some new) (has_added (λ (r : RegionOf (Unit {0})). Some r) new p.regions behind v none_met)
+            ∙ ap (λ (r : Range). cond (holds_page r v) true (is_some (region_with p.regions v))) pages;
+        named = λ v k clears was.
+            key_in_has t q.0 (add_region new p.regions) v ∙ has_added (region_key t q.0 v) new p.regions behind v none_met
+            ∙ ap (λ b. cond b (region_key t q.0 v new) (has (region_key t q.0 v) p.regions v)) (ap (λ (r : Range). holds_page r v) pages ∙ clears refl)
+            ∙ sym (key_in_has t q.0 p.regions v) ∙ was;
+      }
+    where
+      by_held : (held : Bool) (was now : Option (Unit {0})) → (held ≡ true → is_some now ≡ after keys true false) → (held ≡ true → was ≡ None) → is_some (cond held now was) ≡ after keys held (is_some was)
+      by_held true was now made none = made refl ∙ ap (after keys true) (sym (ap is_some (none refl)))
+      by_held false was now made none = sym (outside keys (is_some was))
+
 module _ (t : Tables) (pid : ℕ) (p : ProcessOf (Unit {0})) (watched : Bool) (type prot : ℕ) (range : Range) (lives : process_of t pid ≡ Some p) (free : is_free (ranges_of p.regions) range ≡ true) where
   abbrev new : RegionOf (Unit {0})
   new = private_region blank watched type prot range
@@ -250,37 +260,16 @@ module _ (t : Tables) (pid : ℕ) (p : ProcessOf (Unit {0})) (watched : Bool) (t
   pages : pages_of new ≡ range
   pages i = record { first = range.first; count = length-replicate range.count (new_row blank type prot) i }
 
-  none_met : list_any (meets (pages_of new)) (ranges_of p.regions) ≡ false
-  none_met = ap (λ (r : Range). list_any (meets r) (ranges_of p.regions)) pages ∙ is_clear p.regions range free
-
   -- what a page of the region has
   new_own : (v : ℕ) → holds_page range v ≡ true → is_some (own_in new v) ≡ is_some (new_row blank type prot).own
   new_own v held =
       let w = within range v held in
       ap (λ o. is_some (option_and_then (λ (row : RowOf (Unit {0})). row.own) o)) (get-replicate range.count (new_row blank type prot) (v - range.first) (omega (arith, w.low, w.high)))
 
-  by_type : (b held : Bool) (was now : Option (Unit {0})) → (held ≡ true → is_some now ≡ is_some (cond b reserved_row (commit (blank 0) prot reserved_row)).own) → (held ≡ true → was ≡ None) → is_some (cond held now was) ≡ after (cond b Leaves Makes) held (is_some was)
-  by_type true true was now made none = made refl ∙ sym (ap is_some (none refl))
-  by_type true false was now made none = refl
-  by_type false true was now made none = made refl
-  by_type false false was now made none = refl
-
-  pub reserve_moves : (q : Pid) → q.0 ≡ pid → Moves t q range (keys_of type) Makes true p.regions (add_region new p.regions)
-  reserve_moves q same =
-      record {
-        owned = λ v.
-            ap is_some (has_added (λ (r : RegionOf (Unit {0})). own_in r v) new p.regions place v none_met
-            ∙ ap (λ (r : Range). cond (holds_page r v) (own_in new v) (own_page p.regions v)) pages)
-            ∙ by_type (type == reserve_type) (holds_page range v) (own_page p.regions v) (own_in new v) (new_own v)
-            (λ held. own_free v new p.regions none_met (ap (λ (r : Range). holds_page r v) pages ∙ held));
-        reserved = λ v.
-            found_cond p.regions (add_region new p.regions) v (holds_page (pages_of new) v) (Some new) (has_added (λ (r : RegionOf (Unit {0})). Some r) new p.regions place v none_met)
-            ∙ ap (λ (r : Range). cond (holds_page r v) true (is_some (region_with p.regions v))) pages;
-        named = λ v k clears was.
-            key_in_has t q.0 (add_region new p.regions) v ∙ has_added (region_key t q.0 v) new p.regions place v none_met
-            ∙ ap (λ b. cond b (region_key t q.0 v new) (has (region_key t q.0 v) p.regions v)) (ap (λ (r : Range). holds_page r v) pages ∙ clears refl)
-            ∙ sym (key_in_has t q.0 p.regions v) ∙ was;
-      }
+  pub reserve_moves : (q : Pid) → Moves t q range (keys_of type) Makes true p.regions (add_region new p.regions)
+  reserve_moves q =
+      added_moves t p new range pages free (keys_of type) q (λ v held. new_own v held
+      ∙ elim (type == reserve_type) as (λ b. is_some (cond b reserved_row (commit (blank 0) prot reserved_row)).own ≡ after (cond b Leaves Makes) true false) [ true ↦ refl | false ↦ refl ])
 
   new_rows : own_rows new ≡ new_pages type range
   new_rows =
@@ -303,7 +292,14 @@ module _ (t : Tables) (pid : ℕ) (p : ProcessOf (Unit {0})) (watched : Bool) (t
   pub reserve_stands : range.first % 16 ≡ 0 → 1 ≤ range.count → is_protection_among private_protections prot ≡ true → StandIn t p.regions (add_region new p.regions)
   reserve_stands granule some e =
       record {
-        space = space_add new p.regions range (free_of (ranges_of p.regions) range granule free) refl (length-replicate range.count (new_row blank type prot)) some (private_flags blank watched type prot range) (new_rows_fit watched type prot range e);
-        refers = λ k. each-insert (RegionRefers t) p.regions place new k (λ v is. cc);
+        edit = λ pid. RegionComes new (record {
+          placed = subst (λ (r : Range). IsPlaced (ranges_of p.regions) r) (sym pages) (free_of (ranges_of p.regions) range granule free);
+          some = omega (arith, some, length-replicate range.count (new_row blank type prot));
+          flags = private_flags blank watched type prot range;
+          rows = new_rows_fit watched type prot range e;
+          refers = λ v is. cc;
+          plain = λ e. cc;
+          charged = tt;
+        });
         views = λ n. omega (arith, sum_by-insert (λ (r : RegionOf (Unit {0})). one_if (is_view_of n r.kind)) p.regions place new);
       }

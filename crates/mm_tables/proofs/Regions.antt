@@ -2,20 +2,17 @@
 use Rattle.std.proofs.Common.{◌≡◌, ℕ, zero, suc, ◌<◌, Bool, true, false, Option, Some, None, List, [], ◌∷◌, refl, sym, ◌∙◌, ap, cond, arith, length, set, slice_get, is_some}
 use Rattle.std.specs.Prelude.{insert, remove, option_and_then, option_map}
 use Rattle.std.specs.List.{list_any}
-use Rattle.mm_types.specs.Address.{end_of, holds_page, meets}
-use Rattle.mm_types.proofs.Booleans.{not_true}
-use Rattle.mm_world.specs.World.{RegionOf, pages_of}
-use Rattle.mm_world.specs.Find.{Found, one_later, region_with, ranges_of}
-use Rattle.mm_world.specs.WellFormed.{LaidOut}
-use Rattle.mm_world.proofs.LaidOut.{or-false, laid_at}
+use Rattle.mm_types.specs.{end_of, holds_page, meets}
+use Rattle.mm_types.proofs.{not_true}
+use Rattle.mm_world.specs.{RegionOf, pages_of, Found, one_later, region_with, ranges_of, LaidOut}
+use Rattle.mm_world.proofs.{or-false, laid_at}
 pub use Rattle.mm_world.proofs.Ranges.{Within, within, holds, holds_not, apart}
 use Rattle.mm_tables.proofs.Lists.{found-set}
 
 -- two tests that do not both pass, in either order
 swap : {X : Type 0} (a b : Bool) (p q o : X) → (a ≡ true → b ≡ false) → cond a p (cond b q o) ≡ cond b q (cond a p o)
 swap true true p q o never = let bad : true ≡ false = never refl in cc
-swap true false p q o never = refl
-swap false b p q o never = refl
+swap _ _ p q o never = refl
 
 unless : {X : Type 0} (b : Bool) (p o : Option X) → (b ≡ true → o ≡ None) → o ≡ cond b None (cond b p o)
 unless true p o none = none refl
@@ -54,9 +51,8 @@ module _ {B X : Type 0} (f : RegionOf B → Option X) where
   has-cons r rs page = by_test (holds_page (pages_of r) page) (region_with rs page)
     where
       by_test : (b : Bool) (o : Option (Found (RegionOf B))) → option_and_then (λ (r : Found (RegionOf B)). f r.thing) (cond b (Some (record { place = 0; thing = r })) (option_map one_later o)) ≡ cond b (f r) (option_and_then (λ (r : Found (RegionOf B)). f r.thing) o)
-      by_test true o = refl
       by_test false None = refl
-      by_test false (Some x) = refl
+      by_test _ _ = refl
 
   later : (r : RegionOf B) (rs : List (RegionOf B)) (page : ℕ) → holds_page (pages_of r) page ≡ false → has f (r ∷ rs) page ≡ has f rs page
   later r rs page e = has-cons r rs page ∙ ap (λ b. cond b (f r) (has f rs page)) e

@@ -2,26 +2,15 @@
 use Rattle.std.proofs.Common.{◌≡◌, ℕ, zero, suc, ◌+◌, ◌-◌, ◌≤◌, Bool, true, false, Option, Some, None, List, refl, sym, ◌∙◌, ap, cond, arith, set, slice_get, is_some, nat_le, nat_lt, option_map, take, drop, count_by}
 use Rattle.std.specs.Prelude.{option_and_then}
 use Rattle.std.proofs.lemmas.Bool.{leb-true, le-leb, cond_both}
-use Rattle.mm_types.specs.Address.{Range, holds_page}
-use Rattle.mm_world.specs.World.{RegionOf, RowOf, pages_of}
-use Rattle.mm_world.specs.Find.{is_private}
-use Rattle.mm_world.specs.Charge.{is_charged, region_charge}
-use Rattle.mm_world.specs.Keys.{own_page}
-use Rattle.mm_world.specs.Rows.{change_rows}
-use Rattle.mm_world.specs.WellFormed.{LaidOut}
-use Rattle.mm_world.proofs.LaidOut.{and-true, less}
-use Rattle.mm_world.proofs.KeptPages.{own_in}
-use Rattle.mm_world.proofs.KindsAndKeys.{private_kind}
+use Rattle.mm_types.specs.{Range, holds_page}
+use Rattle.mm_world.specs.{RegionOf, RowOf, pages_of, is_private, is_charged, region_charge, own_page, change_rows, LaidOut}
+use Rattle.mm_world.proofs.{and-true, less, own_in, private_kind, length-change_range}
 pub use Rattle.mm_world.proofs.Ranges.{Inside, inside, holds_too}
-use Rattle.mm_world.proofs.RowsFit.{length-change_range}
-use Rattle.mm_tables.specs.Effects.{Effect, after}
-use Rattle.mm_tables.specs.Ranges.{passing}
+use Rattle.mm_tables.specs.{Effect, after, passing}
 use Rattle.mm_tables.proofs.Carried.{outside}
 use Rattle.mm_tables.proofs.Lists.{is_between, get-change_range, count-change_range, count-all, count-next, length-range, one_if}
 use Rattle.mm_tables.proofs.Regions.{within, holds, SamePages, has_set, has_at}
-use Rattle.mm_types.proofs.Booleans.{not_true, same_tests, both}
-use Rattle.mm_types.proofs.Lists.{is_there}
-use Rattle.mm_types.proofs.Options.{some_found}
+use Rattle.mm_types.proofs.{not_true, same_tests, both, is_there, some_found}
 
 pub same_place : (range : Range) (base page : ℕ) → base ≤ range.first → base ≤ page → is_between (range.first - base) range.count (page - base) ≡ holds_page range page
 same_place range base page low from =

@@ -1,41 +1,26 @@
 -- A handle, a section or an area more: references are counted, and the store fits.
-use Rattle.std.proofs.Common.{◌≡◌, ◌≢◌, ◌⊎◌, inl, inr, ℕ, zero, suc, ◌+◌, ◌*◌, ◌≤◌, ◌<◌, ◌^◌, Bool, true, false, Option, Some, None, List, [], ◌∷◌, ◌++◌, refl, sym, ◌∙◌, ap, subst, cond, arith, length, get_or, set, is_some, option_map, sum_by, count_by, unwrap_or, ◌&&◌, not, ◌-◌}
+use Rattle.std.proofs.Common.{◌≡◌, ◌≢◌, ◌⊎◌, inl, inr, ℕ, zero, suc, ◌+◌, ◌*◌, ◌≤◌, ◌<◌, ◌^◌, Bool, true, false, Option, Some, None, List, [], ◌∷◌, ◌++◌, refl, sym, ◌∙◌, ap, subst, cond, arith, length, get_or, set, is_some, option_map, sum_by, count_by, unwrap_or, ◌&&◌, not, ◌-◌, slice_get}
 use Rattle.std.specs.Prelude.{◌==◌, option_and_then}
-use Rattle.std.proofs.lemmas.List.{length-set, length-map, map_push}
+use Rattle.std.proofs.lemmas.List.{length-set, map_push}
 use Rattle.std.proofs.lemmas.List.Sums.{sum_by_push, sum_by-cons, count_by-le-length}
-use Rattle.mm_types.specs.declared.views.Kind.{Kind}
+use Rattle.mm_types.specs.{Kind, View, Area, Key, Place}
 use Rattle.mm_types.specs.declared.views.Kind.TheVariants as kind
-use Rattle.mm_types.specs.declared.views.View.{View}
-use Rattle.mm_types.specs.declared.numbers.Area.{Area}
-use Rattle.mm_types.specs.declared.numbers.Key.{Key}
 use Rattle.mm_types.specs.declared.numbers.Key.TheVariants as key
-use Rattle.mm_types.specs.declared.numbers.Place.{Place}
-use Rattle.mm_types.proofs.Cells.{same_or_not}
-use Rattle.mm_types.proofs.Lists.{push_other, push_at, none_at_end}
-use Rattle.mm_types.proofs.Options.{some_found}
-use Rattle.mm_types.proofs.Tables.{differ}
-use Rattle.mm_world.specs.World.{ProcessOf, RegionOf, SectionOf, FileOf, Numbered, numbered, Page, RowOf, AreaOf}
-use Rattle.mm_world.specs.Find.{process_of, section_of, Found, region_with, area_at, shared_page}
-use Rattle.mm_world.specs.Contents.{Tables}
-use Rattle.mm_world.specs.Sections.{with_handle, is_handle_to, is_view_of}
-use Rattle.mm_world.specs.WellFormed.{Each, ViewFits, RegionRefers, NumbersFit, References}
-use Rattle.mm_world.specs.Processes.{most_processes}
-use Rattle.mm_world.specs.Charge.{charge}
-use Rattle.mm_world.specs.Keys.{Home, InSection, Committed, committed_at, committed_in, home_in, key_of, content_of, own_page}
-use Rattle.mm_world.specs.Rows.{row_at}
-use Rattle.mm_world.proofs.Charges.{sum_by-put}
-use Rattle.mm_world.proofs.Finding.{numbered_there, committed_is, HomeCases, IsOwn, IsShared, home_cases}
-use Rattle.mm_pages.specs.Store.{StoreOf}
-use Rattle.mm_sections.specs.Directories.{CountedSection, section_in, sections_of, new_entry, one_handle_more}
-use Rattle.mm_tables.specs.Effects.{key_in}
-use Rattle.mm_tables.specs.References.{handles_in, views_in, handles_to, views_of, IsFew}
-use Rattle.mm_tables.specs.Shown.{tables_with, shown_processes, shown_accesses}
-use Rattle.mm_tables.specs.Sound.{IsCounted}
+use Rattle.mm_types.proofs.{same_or_not, push_other, push_at, none_at_end, some_found, differ}
+use Rattle.mm_world.specs.{ProcessOf, RegionOf, SectionOf, FileOf, Numbered, numbered, Page, RowOf, AreaOf, process_of, section_of, Found}
+use Rattle.mm_world.specs.{region_with, area_at, shared_page, Tables, with_handle, is_handle_to, is_view_of, Each, ViewFits, RegionRefers, NumbersFit}
+use Rattle.mm_world.specs.{References, most_processes, charge, Home, InSection, Committed, committed_at, committed_in, home_in, key_of, content_of}
+use Rattle.mm_world.specs.{own_page, row_at}
+use Rattle.mm_world.proofs.{sum_by-put, numbered_there, found_stands, committed_is, HomeCases, IsOwn, IsShared, home_cases}
+use Rattle.mm_pages.specs.{StoreOf}
+use Rattle.mm_sections.specs.{CountedSection, section_in, sections_of, new_entry, one_handle_more}
+use Rattle.mm_tables.specs.{key_in, handles_in, views_in, handles_to, views_of, IsFew, tables_with, shown_processes, shown_accesses, IsCounted}
+use Rattle.mm_tables.specs.{FitsTables, is_reserved, key_at, is_paging, open_pages, file_block_in, owned_keys, paging_count}
 use Rattle.mm_tables.specs.declared.tables.Tables.TheInside.{Inside}
-use Rattle.mm_tables.specs.Fits.{FitsTables, is_reserved, key_at, is_paging, open_pages, file_block_in, owned_keys, paging_count}
-use Rattle.mm_tables.proofs.Lists.{same_number, same_some, one_if, area_in, no_area_past}
+use Rattle.mm_tables.proofs.Lists.{same_number, same_some, one_if, area_in, area_at_end, area_before, no_area_past}
 use Rattle.mm_tables.proofs.OneProcess.{regions_in, reserved_is, content_is, key_in_same, key_at_is}
 use Rattle.mm_tables.proofs.SectionTidy.{with_section, with_areas, with_handle_charge}
+use Rattle.mm_sections.proofs.{length_sections}
 
 -- ---- the tables as they are kept, and with these parts
 
@@ -98,9 +83,6 @@ sections_kept entries new i e = ap sections_of e ∙ sections_set one_handle_mor
 pub sections_more : (entries new : Numbered CountedSection) (c : CountedSection) → new ≡ entries ++ Some c ∷ [] → sections_of new ≡ sections_of entries ++ Some c.section ∷ []
 sections_more entries new c e = ap sections_of e ∙ map_push (option_map section_in) entries (Some c)
 
-pub length_sections : (entries : Numbered CountedSection) → length (sections_of entries) ≡ length entries
-length_sections entries = length-map entries (option_map section_in)
-
 -- ---- counted
 
 abbrev pub Counts : Tables → Numbered CountedSection → Type 0
@@ -110,13 +92,12 @@ Counts w entries = (number : ℕ) (c : CountedSection) → numbered entries numb
 set_or : {A : Type 0} (xs : List (Option A)) (i j : ℕ) (x : Option A) (y : A) → get_or (set xs i x) j None ≡ Some y → ((j ≡ i) × (x ≡ Some y)) ⊎ ((j ≢ i) × (get_or xs j None ≡ Some y))
 set_or [] i j x y e = cc
 set_or (z ∷ xs) zero zero x y e = inl (refl, e)
-set_or (z ∷ xs) zero (suc j) x y e = inr ((λ same. absurd (omega (arith, same))), e)
-set_or (z ∷ xs) (suc i) zero x y e = inr ((λ same. absurd (omega (arith, same))), e)
 set_or (z ∷ xs) (suc i) (suc j) x y e =
     elim (set_or xs i j x y e) [
       | inl is ↦ inl (ap suc is.0, is.1)
       | inr is ↦ inr ((λ same. is.0 (omega (arith, same))), is.1)
     ]
+set_or (z ∷ xs) _ _ x y e = inr ((λ same. absurd (omega (arith, same))), e)
 
 -- one entry counts what its section has now, and the others what they had
 pub counts_set : (w v : Tables) (number : ℕ) (f : CountedSection → CountedSection) (entries new : Numbered CountedSection) → new ≡ set entries number (option_map f (numbered entries number)) → ((c : CountedSection) → IsCounted w number c → IsCounted v number (f c)) → ((n : ℕ) (c : CountedSection) → n ≢ number → IsCounted w n c → IsCounted v n c) → Counts w entries → Counts v new
@@ -269,17 +250,14 @@ module _ (w : Tables) (ps : List (Option (ProcessOf (Unit {0})))) (sections : Nu
 
 -- what is read of a thing stays where one is set, or more, of which the same is read
 read_set : {A V : Type 0} (read : Option A → V) (xs : List (Option A)) (i j : ℕ) (x : Option A) → read x ≡ read (get_or xs i None) → read (get_or (set xs i x) j None) ≡ read (get_or xs j None)
-read_set read [] i j x e = refl
 read_set read (y ∷ xs) zero zero x e = e
-read_set read (y ∷ xs) zero (suc j) x e = refl
-read_set read (y ∷ xs) (suc i) zero x e = refl
 read_set read (y ∷ xs) (suc i) (suc j) x e = read_set read xs i j x e
+read_set read _ _ _ x e = refl
 
 pub read_push : {A V : Type 0} (read : Option A → V) (xs : List (Option A)) (x : Option A) (j : ℕ) → read x ≡ read None → read (get_or (xs ++ x ∷ []) j None) ≡ read (get_or xs j None)
 read_push read [] x zero e = e
-read_push read [] x (suc j) e = refl
-read_push read (y ∷ xs) x zero e = refl
 read_push read (y ∷ xs) x (suc j) e = read_push read xs x j e
+read_push read _ x _ e = refl
 
 pub fits_handle : (w : Tables) (pid : ℕ) (p : ProcessOf (Unit {0})) (number : ℕ) (sections : Numbered SectionOf) → process_of w pid ≡ Some p → (c : Key → Option Page) (s : StoreOf) → FitsTables w c s → FitsTables (record (with_handle w pid p number) { sections = sections }) c s
 fits_handle w pid p number sections lives c s f =
@@ -289,37 +267,45 @@ fits_handle w pid p number sections lives c s f =
     (λ j. f.opened j ∙ sym (read_set is_some w.processes pid j q (ap is_some (sym lives)))) (f.last_pid ∙ sym (length-set w.processes pid q)) refl refl
     (omega (arith, sum_by-put owned_keys w.processes pid (Some p) q (numbered_there w.processes pid p lives))) (with_handle_charge w pid p number lives) f
 
--- ---- the key of a committed row, where committed pages of areas stay
+-- ---- the key of a committed row, where committed pages that views have stay
 
-pub record Stays (w v : Tables) : Type 0 where
-  pub all : (area i : ℕ) → is_some (shared_page w area i) ≡ true → is_some (shared_page v area i) ≡ true
-
-home_stays : (w v : Tables) → Stays w v → (i : ℕ) (k : Kind) (own : Option (Unit {0})) (home : Home (Unit {0})) → HomeCases w i k own home → home_in v i k own ≡ Some home
-home_stays w v h i k own home (IsOwn bytes at_own at_home) = ap (home_in v i k) at_own ∙ ap (λ (x : Home (Unit {0})). Some x) (sym at_home)
-home_stays w v h i k own home (IsShared x page at_kind at_own at_page at_home) =
-    let there = some_found (shared_page v x.area.0 (x.first + i)) (h.all x.area.0 (x.first + i) (ap is_some at_page)) in
+home_stays : (w v : Tables) (i : ℕ) (k : Kind) (own : Option (Unit {0})) (home : Home (Unit {0})) → ((x : View) → k ≡ kind.View x → is_some (shared_page w x.area.0 (x.first + i)) ≡ true → is_some (shared_page v x.area.0 (x.first + i)) ≡ true) → HomeCases w i k own home → home_in v i k own ≡ Some home
+home_stays w v i k own home h (IsOwn bytes at_own at_home) = ap (home_in v i k) at_own ∙ ap (λ (x : Home (Unit {0})). Some x) (sym at_home)
+home_stays w v i k own home h (IsShared x page at_kind at_own at_page at_home) =
+    let there = some_found (shared_page v x.area.0 (x.first + i)) (h x at_kind (ap is_some at_page)) in
     (λ j. home_in v i (at_kind j) (at_own j))
     ∙ ap (λ (o : Option (Unit {0})). option_map (λ (page : Unit {0}). InSection x.area.0 (x.first + i)) o) there.1
     ∙ ap (λ (x : Home (Unit {0})). Some x) (sym at_home)
 
-committed_stays : (w v : Tables) → Stays w v → (rs : List (RegionOf (Unit {0}))) (page : ℕ) (c : Committed (Unit {0})) → committed_at w rs page ≡ Some c → committed_at v rs page ≡ Some c
-committed_stays w v h rs page c e =
-    let is = committed_is w rs page c e in
+-- the pages of an area that a view of a process has
+abbrev pub PagesStay : Tables → Tables → Type 0
+PagesStay w v =
+    (q j : ℕ) (p : ProcessOf (Unit {0})) (r : RegionOf (Unit {0})) (x : View) (i : ℕ) → process_of w q ≡ Some p → slice_get p.regions j ≡ Some r → r.kind ≡ kind.View x
+    → is_some (shared_page w x.area.0 i) ≡ true → is_some (shared_page v x.area.0 i) ≡ true
+
+committed_stays : (w v : Tables) → PagesStay w v → (q : ℕ) (p : ProcessOf (Unit {0})) (page : ℕ) (c : Committed (Unit {0})) → process_of w q ≡ Some p → committed_at w p.regions page ≡ Some c → committed_at v p.regions page ≡ Some c
+committed_stays w v h q p page c lives e =
+    let is = committed_is w p.regions page c e in
     let i = page - c.region.thing.base in
-    let home = home_stays w v h i c.region.thing.kind c.row.own c.home (home_cases w i c.region.thing.kind c.row.own c.home is.home_there) in
+    let home = home_stays w v i c.region.thing.kind c.row.own c.home (λ x at_kind. h q c.region.place p c.region.thing x (x.first + i) lives (found_stands _ p.regions c.region is.region).there at_kind)
+    (home_cases w i c.region.thing.kind c.row.own c.home is.home_there) in
     ap (λ (r : Option (Found (RegionOf (Unit {0})))). option_and_then (λ (r : Found (RegionOf (Unit {0}))). committed_in v r (page - r.thing.base) (row_at r.thing page)) r) is.region
     ∙ ap (λ (row : Option (RowOf (Unit {0}))). committed_in v c.region i row) is.row_there
     ∙ ap (λ (o : Option (Home (Unit {0}))). option_map (λ (home : Home (Unit {0})). let made : Committed (Unit {0}) = record { region = c.region; row = c.row; home = home } in made) o) home
 
-key_stays : (w : Tables) (areas : List (AreaOf (Unit {0}))) (used : ℕ) → Stays w (with_areas w areas used) → (place : Place) (k : Key) → key_at w place ≡ Some k → key_at (with_areas w areas used) place ≡ Some k
-key_stays w areas used h place k e =
-    key_at_is (with_areas w areas used) place ∙ by_row (committed_at w (regions_in w place.pid.0) place.vpn.0) refl (sym (key_at_is w place) ∙ e)
+pub key_stays : (w : Tables) (areas : List (AreaOf (Unit {0}))) (used : ℕ) → PagesStay w (with_areas w areas used) → (place : Place) (k : Key) → key_at w place ≡ Some k → key_at (with_areas w areas used) place ≡ Some k
+key_stays w areas used h place k e = by_process (process_of w place.pid.0) refl e
   where
-    by_row : (o : Option (Committed (Unit {0}))) → committed_at w (regions_in w place.pid.0) place.vpn.0 ≡ o → option_map (λ (c : Committed (Unit {0})). key_of place.pid.0 place.vpn.0 c.home) o ≡ Some k → key_in (with_areas w areas used) place.pid.0 (regions_in w place.pid.0) place.vpn.0 ≡ Some k
-    by_row None at e = cc
-    by_row (Some c) at e =
-        ap (λ (o : Option (Committed (Unit {0}))). option_map (λ (c : Committed (Unit {0})). key_of place.pid.0 place.vpn.0 c.home) o)
-        (committed_stays w (with_areas w areas used) h (regions_in w place.pid.0) place.vpn.0 c at) ∙ e
+    of_row : Option (Committed (Unit {0})) → Option Key
+    of_row o = option_map (λ (c : Committed (Unit {0})). key_of place.pid.0 place.vpn.0 c.home) o
+
+    by_row : (p : ProcessOf (Unit {0})) → process_of w place.pid.0 ≡ Some p → (o : Option (Committed (Unit {0}))) → committed_at w p.regions place.vpn.0 ≡ o → of_row o ≡ Some k → of_row (committed_at (with_areas w areas used) p.regions place.vpn.0) ≡ Some k
+    by_row p lives None at e = cc
+    by_row p lives (Some c) at e = ap of_row (committed_stays w (with_areas w areas used) h place.pid.0 p place.vpn.0 c lives at) ∙ e
+
+    by_process : (o : Option (ProcessOf (Unit {0}))) → process_of w place.pid.0 ≡ o → option_and_then (λ (p : ProcessOf (Unit {0})). of_row (committed_at w p.regions place.vpn.0)) o ≡ Some k → option_and_then (λ (p : ProcessOf (Unit {0})). of_row (committed_at (with_areas w areas used) p.regions place.vpn.0)) o ≡ Some k
+    by_process None lives e = cc
+    by_process (Some p) lives e = by_row p lives (committed_at w p.regions place.vpn.0) refl e
 
 -- ---- one area is another
 
@@ -347,15 +333,14 @@ with_area_of s z =
 pub record Grown (w : Tables) (areas : List (AreaOf (Unit {0}))) (at : ℕ) (a : AreaOf (Unit {0})) (used : ℕ) (c d : Key → Option Page) (s z : StoreOf) : Type 0 where
   pub here : area_in areas at ≡ a
   pub before : (q : ℕ) → q ≢ at → area_in areas q ≡ area_at w q
-  pub stays : (i : ℕ) → is_some (shared_page w at i) ≡ true → is_some (numbered a.pages i) ≡ true
-  pub some : 1 ≤ length a.pages
+  pub stays : PagesStay w (with_areas w areas used)
   pub live_new : (area : Area) (i : ℕ) → area.0 ≡ at → is_some (d (key.Shared area i)) ≡ is_some (numbered a.pages i)
   pub live_old : (k : Key) → IsOld at k → is_some (d k) ≡ is_some (c k)
   pub paging_new : (area : Area) (i : ℕ) → area.0 ≡ at → z.paging (key.Shared area i) ≡ (is_some (numbered a.pages i) && not (is_some a.file_block))
   pub paging_old : (k : Key) → IsOld at k → z.paging k ≡ s.paging k
   pub block_new : (area : Area) (i : ℕ) → area.0 ≡ at → z.block_of (key.Shared area i) ≡ cond (is_some (numbered a.pages i)) (option_map (λ (first : ℕ). first + i) a.file_block) None
   pub block_old : (k : Key) → IsOld at k → z.block_of k ≡ s.block_of k
-  pub areas_new : z.areas at ≡ Some (length a.pages)
+  pub areas_new : z.areas at ≡ cond (length a.pages == 0) None (Some (length a.pages))
   pub areas_old : (q : ℕ) → q ≢ at → z.areas q ≡ s.areas q
   pub counted : z.paging_keys ≡ paging_count (with_areas w areas used)
   pub room : charge (with_areas w areas used) ≤ z.room
@@ -364,11 +349,22 @@ pub record Grown (w : Tables) (areas : List (AreaOf (Unit {0}))) (at : ℕ) (a :
   pub stored : length z.file_blocks ≡ length s.file_blocks
   pub named_file : length z.file_device.named ≡ length s.file_device.named
 
+-- committed pages of the area stay, if it was there
+pub pages_stay : (w : Tables) (areas : List (AreaOf (Unit {0}))) (at : ℕ) (a : AreaOf (Unit {0})) (used : ℕ) → area_in areas at ≡ a → ((q : ℕ) → q ≢ at → area_in areas q ≡ area_at w q) → ((i : ℕ) → is_some (shared_page w at i) ≡ true → is_some (numbered a.pages i) ≡ true) → PagesStay w (with_areas w areas used)
+pages_stay w areas at a used here before stays q j p r x i lives there is e =
+    elim (same_or_not x.area.0 at) [
+      | inl same ↦
+          ap (λ (k : ℕ). is_some (numbered (area_in areas k).pages i)) same ∙ ap (λ (b : AreaOf (Unit {0})). is_some (numbered b.pages i)) here
+          ∙ stays i (ap (λ (k : ℕ). is_some (shared_page w k i)) (sym same) ∙ e)
+      | inr other ↦ ap (λ (b : AreaOf (Unit {0})). is_some (numbered b.pages i)) (before x.area.0 other) ∙ e
+    ]
+
 -- an area that is not there yet has no page
-pub no_page : (w : Tables) (i : ℕ) → is_some (shared_page w (length w.areas) i) ≡ true → ⊥
-no_page w i e =
+pub pages_before : (w : Tables) (a : AreaOf (Unit {0})) (used : ℕ) → PagesStay w (with_areas w (w.areas ++ a ∷ []) used)
+pages_before w a used =
+    pages_stay w (w.areas ++ a ∷ []) (length w.areas) a used (area_at_end w.areas a (length w.areas) refl) (area_before w.areas a) (λ i e.
     let bad : false ≡ true = sym (ap (λ (a : AreaOf (Unit {0})). is_some (numbered a.pages i)) (no_area_past w.areas (length w.areas) (omega arith))) ∙ e in
-    cc
+    cc)
 
 -- a key of no file has no block
 pub no_block : (b : Bool) (i : ℕ) (o : Option ℕ) → o ≡ None → cond b (option_map (λ (first : ℕ). first + i) o) None ≡ None
@@ -385,12 +381,6 @@ module _ (w : Tables) (areas : List (AreaOf (Unit {0}))) (at : ℕ) (a : AreaOf 
         | inl same ↦ subst P (sym (ap (λ (k : ℕ). area_in areas k) same ∙ g.here)) (new same)
         | inr other ↦ subst P (sym (g.before q other)) (old other)
       ]
-
-  area_stays : Stays w (with_areas w areas used)
-  area_stays =
-      record {
-        all = λ q i e. by_area (λ b. is_some (numbered b.pages i) ≡ true) q (λ same. g.stays i (ap (λ (k : ℕ). is_some (shared_page w k i)) (sym same) ∙ e)) (λ other. e);
-      }
 
   live_at : FitsTables w c s → (k : Key) → is_some (d k) ≡ is_some (content_of (with_areas w areas used) k)
   live_at f (key.Private pid page) = g.live_old (key.Private pid page) tt ∙ f.live (key.Private pid page)
@@ -413,7 +403,7 @@ module _ (w : Tables) (areas : List (AreaOf (Unit {0}))) (at : ℕ) (a : AreaOf 
   area_open : FitsTables w c s → (q : ℕ) → z.areas q ≡ open_pages (with_areas w areas used) q
   area_open f q =
       by_area (λ b. z.areas q ≡ cond (length b.pages == 0) None (Some (length b.pages))) q
-      (λ same. ap (λ (k : ℕ). z.areas k) same ∙ g.areas_new ∙ opened_some (length a.pages) g.some) (λ other. g.areas_old q other ∙ f.areas q)
+      (λ same. ap (λ (k : ℕ). z.areas k) same ∙ g.areas_new) (λ other. g.areas_old q other ∙ f.areas q)
 
   pub fits_area : FitsTables w c s → FitsTables (with_areas w areas used) d z
   fits_area f =
@@ -427,7 +417,7 @@ module _ (w : Tables) (areas : List (AreaOf (Unit {0}))) (at : ℕ) (a : AreaOf 
         paging = paging_at f;
         counted = g.counted;
         room = g.room;
-        named = λ place k e. key_stays w areas used area_stays place k (f.named place k (sym (ap (λ (x : StoreOf). x.names place) g.rest) ∙ e));
+        named = λ place k e. key_stays w areas used g.stays place k (f.named place k (sym (ap (λ (x : StoreOf). x.names place) g.rest) ∙ e));
         blocks = block_at f;
         used = g.blocks_used;
         stored = g.stored ∙ f.stored;

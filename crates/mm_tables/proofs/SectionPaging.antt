@@ -6,36 +6,25 @@ use Rattle.std.proofs.lemmas.Bool.{le-leb}
 use Rattle.std.proofs.lemmas.List.{length-replicate, length-append}
 use Rattle.std.proofs.lemmas.List.Folds.{sum_by-replicate}
 use Rattle.std.proofs.lemmas.List.Sums.{sum_by_push}
-use Rattle.mm_types.specs.declared.numbers.Key.{Key}
-use Rattle.mm_types.specs.declared.numbers.Area.{Area}
+use Rattle.mm_types.specs.{Key, Area}
 use Rattle.mm_types.specs.declared.numbers.Key.TheVariants as key
-use Rattle.mm_types.proofs.Options.{some_found, none_of}
-use Rattle.mm_types.proofs.Booleans.{same_tests, and_true}
-use Rattle.mm_types.proofs.Naturals.{none_below}
-use Rattle.mm_types.proofs.Tables.{differ}
-use Rattle.mm_world.specs.World.{Page, ProcessOf, AreaOf, SectionOf, FileOf, Numbered, numbered, filled}
-use Rattle.mm_world.specs.Find.{process_of, section_of, area_at}
-use Rattle.mm_world.specs.Charge.{charge, limit, area_charge}
-use Rattle.mm_world.specs.Contents.{Tables}
-use Rattle.mm_world.specs.Sections.{with_handle, new_section}
-use Rattle.mm_world.specs.WellFormed.{WellFormed, References}
-use Rattle.mm_world.proofs.LaidOut.{less, and-true}
-use Rattle.mm_pages.specs.Store.{StoreOf}
-use Rattle.mm_commit.specs.Charge.{CommitOf}
-use Rattle.mm_sections.specs.Directories.{CountedSection, DirectoryOf, sections_of, new_entry, one_handle_more}
-use Rattle.mm_sections.specs.Pages.{page_if}
-use Rattle.mm_tables.specs.Fits.{FitsTables, Carried, CarriesPages, Settled, store_beside}
-use Rattle.mm_tables.specs.References.{IsFew}
-use Rattle.mm_tables.specs.Shown.{shown_processes}
-use Rattle.mm_tables.specs.Sound.{AreKeptTables}
-use Rattle.mm_tables.specs.SectionSteps.{is_page_of, Opens}
+use Rattle.mm_types.proofs.{some_found, none_of, same_tests, and_true, none_below, differ}
+use Rattle.mm_world.specs.{Page, ProcessOf, AreaOf, SectionOf, FileOf, Numbered, numbered, filled, process_of, section_of, area_at, charge, limit}
+use Rattle.mm_world.specs.{area_charge, Tables, with_handle, new_section, is_handle_to, References}
+use Rattle.mm_world.specs.WellFormed.{WellFormed}
+use Rattle.mm_world.proofs.{less, and-true, HandleComes, AreaComes}
+use Rattle.mm_pages.specs.{StoreOf}
+use Rattle.mm_commit.specs.{CommitOf}
+use Rattle.mm_sections.specs.{CountedSection, DirectoryOf, sections_of, new_entry, one_handle_more, page_if}
+use Rattle.mm_tables.specs.{FitsTables, Carried, CarriesPages, Settled, store_beside, IsFew, shown_processes, AreKeptTables, is_page_of, Opens}
 use Rattle.mm_tables.specs.declared.tables.Tables.TheInside.{Inside}
-use Rattle.mm_tables.proofs.SectionFits.{now, as_kept, fits_handle, no_page, no_block, IsOld, with_area_of, Grown, fits_area, Counts, handle_counts, section_counts, handles_few, sections_kept, sections_more, length_sections}
-use Rattle.mm_tables.proofs.SectionTidy.{Settles, settles_of, handle_settles, section_settles, Rest, rest_of, tidy_by, handle_rest, section_rest, MayList, area_rest, area_settles, with_section, handle_well, new_section_well, with_handle_charge, with_area, area_well, with_area_charge}
+use Rattle.mm_tables.proofs.SectionFits.{now, as_kept, fits_handle, pages_before, opened_some, no_block, IsOld, with_area_of, Grown, fits_area, Counts, handle_counts, section_counts, handles_few, sections_kept, sections_more}
+use Rattle.mm_tables.proofs.SectionTidy.{Settles, settles_of, section_settles, Rest, rest_of, tidy_by, handle_rest, section_rest, MayList, area_rest, area_settles, with_section, put_tidy, sound_edit, new_section_well, with_handle_charge, with_area, with_area_charge}
 use Rattle.mm_tables.proofs.Carried.{at_added, settled_same}
 use Rattle.mm_tables.proofs.PageByPage.{cond_at}
 use Rattle.mm_tables.proofs.Settled.{settled_as}
-use Rattle.mm_tables.proofs.Lists.{same_number, area_at_end, area_before, no_area_past, if_some}
+use Rattle.mm_tables.proofs.Lists.{same_number, area_at_end, area_before, no_area_past, if_some, any_more}
+use Rattle.mm_sections.proofs.{length_sections}
 
 pub kept_as : (t after : Tables) (entries : Numbered CountedSection) (commit : CommitOf) → after ≡ t → AreKeptTables t entries commit → AreKeptTables after entries commit
 kept_as t after entries commit same h = subst (λ (t : Tables). AreKeptTables t entries commit) (sym same) h
@@ -78,8 +67,8 @@ module _ (i : Inside) {t : Tables} (pid number : ℕ) {mid ps : List (Option (Pr
       let w = as_kept i in
       let there = ap (λ (t : Tables). is_some (section_of t number)) view ∙ known in
       kept_as (with_handle w pid p number) (now i ps d.entries i.areas.items d.files i.blocks_used) d.entries i.commit handle_is (record {
-        sound = handle_well w pid p number lives there k.sound;
-        tidy = tidy_by (with_handle w pid p number) (handle_settles w pid p number lives k.tidy.settled) (handle_rest w pid p number (rest_of w k.tidy));
+        sound = sound_edit w (with_handle w pid p number) (HandleComes pid p number lives there) (omega (arith, k.sound.charged, with_handle_charge w pid p number lives)) k.sound;
+        tidy = put_tidy w pid p (record p { handles = p.handles ++ Some number ∷ [] }) lives (λ n. any_more (is_handle_to n) p.handles (Some number)) (λ n h. h) k.tidy;
         counted = (handle_counts w pid p number i.directory.entries d.entries lives entries k.counted);
         charged = k.charged ∙ sym (with_handle_charge w pid p number lives);
         limited = k.limited;
@@ -190,9 +179,8 @@ replicated n i x = same_tests _ _ (λ e. le-leb _ _ (inside n i x e)) (λ e. the
     there (suc n) (suc i) x h = there n i x (omega (arith, h))
 
 nothing : (n i : ℕ) → is_some (numbered {A = Unit {0}} (replicate n None) i) ≡ false
-nothing zero i = refl
-nothing (suc n) zero = refl
 nothing (suc n) (suc i) = nothing n i
+nothing _ _ = refl
 
 pub page_there : (pages : ℕ) (committed : Bool) (i : ℕ) → is_some (numbered (paging_pages pages committed).pages i) ≡ nat_lt i (committed_pages pages committed)
 page_there pages true i = replicated pages i tt
@@ -243,8 +231,7 @@ module _ (t : Tables) (area : Area) (pages : ℕ) (committed : Bool) (c d : Key 
       record {
         here = area_at_end t.areas a (length t.areas) refl;
         before = area_before t.areas a;
-        stays = λ i e. absurd (no_page t i e);
-        some = omega (arith, count, some);
+        stays = pages_before t a t.blocks_used;
         live_new = λ b i e.
             ap (λ (d : Key → Option Page). is_some (d (key.Shared b i))) o.contents
             ∙ some_if (is_page_of area (committed_pages pages committed) (key.Shared b i)) (filled 0) (c (key.Shared b i)) (key_free t c s b i f e) ∙ page_new b i e;
@@ -259,7 +246,8 @@ module _ (t : Tables) (area : Area) (pages : ℕ) (committed : Bool) (c d : Key 
         block_old = λ k h. ap (λ (x : StoreOf). x.block_of k) o.store;
         areas_new =
             ap (λ (x : StoreOf). x.areas (length t.areas)) o.store
-            ∙ ap (λ b. cond b (Some pages) (s.areas (length t.areas))) (same_number (length t.areas) area.0 (sym at)) ∙ ap (λ (k : ℕ). Some k) (sym count);
+            ∙ ap (λ b. cond b (Some pages) (s.areas (length t.areas))) (same_number (length t.areas) area.0 (sym at)) ∙ ap (λ (k : ℕ). Some k) (sym count)
+            ∙ opened_some (length a.pages) (omega (arith, count, some));
         areas_old = λ q h. ap (λ (x : StoreOf). x.areas q) o.store ∙ ap (λ b. cond b (Some pages) (s.areas q)) (differ q area.0 (λ e. h (e ∙ at)));
         counted = omega (arith, ap (λ (x : StoreOf). x.paging_keys) o.store, f.counted, paging_charge pages committed, sum_by_push area_charge t.areas a);
         room = omega (arith, room, paging_charge pages committed, with_area_charge t a);
@@ -300,7 +288,7 @@ module _ {i : Inside} {t : Tables} {pid : ℕ} {s : SectionOf} {ps : List (Optio
       let count : area_charge a ≡ committed_pages pages committed = paging_charge pages committed in
       kept_as (new_section (with_area x a) pid p s).world (now i ps es areas files i.blocks_used) es new (section_is l p alive made)
       (section_kept (with_area x a) pid p s i.directory.entries es new (here l p alive) (omega (arith, at, length-append i.areas.items (a ∷ []))) refl l.entries
-      (area_well x a (omega (arith, room, ap (λ (t : Tables). charge t) l.view, ap (λ (t : Tables). limit t) l.view, count)) k.sound)
+      (sound_edit x (with_area x a) (AreaComes a tt) (omega (arith, room, ap (λ (t : Tables). charge t) l.view, ap (λ (t : Tables). limit t) l.view, count, with_area_charge x a)) k.sound)
       (subst (λ (n : ℕ). Settles n (with_area x a)) (sym at) (area_settles x a i.blocks_used k.tidy.settled))
       (area_rest x a i.blocks_used k.sound.references (record { later = omega arith; file = λ first e. cc }) (rest_of x k.tidy))
       (may_list k.sound.references)

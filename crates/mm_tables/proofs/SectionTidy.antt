@@ -1,33 +1,24 @@
 -- Tables in which one process is another, or an area or a section is more: they stay well formed and tidy.
-use Rattle.std.proofs.Common.{◌≡◌, ◌≢◌, inl, inr, ℕ, ◌+◌, ◌≤◌, ◌<◌, true, Option, Some, None, List, [], ◌∷◌, ◌++◌, refl, sym, ◌∙◌, ap, subst, arith, length, get_or, is_some, slice_get, ◌⊎◌, zero, suc, Bool, false, cond, ◌||◌, count_by, set}
-use Rattle.std.proofs.lemmas.List.{length-append, length-set, get_or-set_same}
+use Rattle.std.proofs.Common.{◌≡◌, ◌≢◌, inl, inr, ℕ, ◌+◌, ◌≤◌, ◌<◌, true, Option, Some, None, List, [], ◌∷◌, ◌++◌, refl, sym, ◌∙◌, ap, subst, arith, length, is_some, slice_get, ◌⊎◌, zero, suc, Bool, false, cond, ◌||◌, count_by, set, nat_lt}
+use Rattle.std.proofs.lemmas.List.{length-set, get_or-set_same}
 use Rattle.std.proofs.lemmas.List.Folds.{list_any_at}
 use Rattle.std.proofs.lemmas.List.Sums.{sum_by_push}
 use Rattle.std.specs.List.{list_any}
 use Rattle.mm_types.specs.declared.answers.Answer.TheVariants as answer
-use Rattle.mm_types.specs.declared.views.View.{View}
-use Rattle.mm_types.proofs.Booleans.{or_right}
-use Rattle.mm_types.proofs.Cells.{get_set_other, same_or_not}
-use Rattle.mm_types.proofs.Lists.{push_at, push_other}
-use Rattle.mm_types.proofs.Options.{some_found}
-use Rattle.mm_world.specs.World.{WorldOf, ProcessOf, AreaOf, SectionOf, FileOf, Numbered, numbered}
-use Rattle.mm_world.specs.Find.{process_of, section_of, area_at, no_area, set_process}
-use Rattle.mm_world.specs.Charge.{charge, limit, area_charge}
-use Rattle.mm_world.specs.Sections.{with_handle, new_section, settle, settled_section, settled_sections, settled_area, settled_areas, holds, views, is_handle_to, uses}
-use Rattle.mm_world.specs.WellFormed.{Each, IsSpace, ViewFits, RegionRefers, ProcessRefers, References, WellFormed}
-use Rattle.mm_world.specs.Contents.{Tables}
-use Rattle.mm_world.proofs.Charges.{charge-same_regions}
-use Rattle.mm_world.proofs.Finding.{numbered_inside, numbered_there}
-use Rattle.mm_world.proofs.References.{Grows}
-use Rattle.mm_world.proofs.Spaces as spaces
-use Rattle.mm_world.proofs.Spaces.{after_set, after_push}
-use Rattle.mm_tables.specs.References.{FileFits, IsTidy, KeepersLive}
-use Rattle.mm_tables.proofs.Lists.{same_some, pushed, area_before, no_area_past, same_number, area_in, area_at_end, any_more, any_last, any_set}
-use Rattle.mm_tables.proofs.Keeping.{lives_put}
-
-each_change : {A : Type 0} (P Q : A → Type 0) (xs : List A) → ((x : A) → P x → Q x) → Each P xs → Each Q xs
-each_change P Q [] f h = tt
-each_change P Q (x ∷ xs) f h = (f x h.0, each_change P Q xs f h.1)
+use Rattle.mm_types.proofs.{or_right, same_or_not, push_at, push_other}
+use Rattle.mm_types.specs.{MachineOf, limit_of}
+use Rattle.mm_world.specs.{WorldOf, ProcessOf, RegionOf, AreaOf, SectionOf, FileOf, KeptOf, StackOf, Numbered, numbered, process_of, section_of}
+use Rattle.mm_world.specs.{area_at, no_area, set_process, set_regions, charge, limit, area_charge, with_handle, new_section, settle, settled_section}
+use Rattle.mm_world.specs.{settled_sections, settled_area, settled_areas, holds, views, is_handle_to, is_view_of, uses, Each, References, Tables}
+use Rattle.mm_world.specs.WellFormed.{WellFormed}
+use Rattle.mm_world.proofs.{charge-same_regions, sum_by-put, numbered_inside, numbered_there, Edit, Nothing, Then, Beside, Rest as Others, RegionEdit}
+use Rattle.mm_world.proofs.{HandleComes, SectionComes, any_terms, numbers_kept, references_kept, spaces_kept, any_set}
+use Rattle.mm_world.proofs.Edits.{Edits, Regions}
+use Rattle.mm_commit.specs.{CommitOf}
+use Rattle.mm_sections.specs.{CountedSection}
+use Rattle.mm_tables.specs.{FileFits, IsTidy, KeepersLive, handles_in, views_in, AreKeptTables}
+use Rattle.mm_tables.proofs.Lists.{same_some, area_before, same_number, area_in, area_at_end, any_more, any_last}
+use Rattle.mm_tables.proofs.Keeping.{lives_put, any_count}
 
 module _ {B : Type 0} where
   abbrev pub with_area : WorldOf B → AreaOf B → WorldOf B
@@ -36,255 +27,145 @@ module _ {B : Type 0} where
   abbrev pub with_section : WorldOf B → SectionOf → WorldOf B
   with_section w s = record w { sections = w.sections ++ Some s ∷ [] }
 
-  -- ---- a world in which more is there
+  -- ---- what edits lead to, within the limit
 
-  view_grows : (w v : WorldOf B) (x : View) (count : ℕ) → Grows w v → ViewFits w x count → ViewFits v x count
-  view_grows w v x count g h =
-      let t = g.sections x.section.0 h.section h.lives in
-      record { section = t.0; lives = t.1; same_area = t.2 ∙ h.same_area; within = omega (arith, h.within, g.pages x.area.0) }
+  pub sound_by : (w v : WorldOf B) → Edits (any_terms answer.Ok) w v → charge v ≤ limit v → WellFormed w → WellFormed v
+  sound_by w v es room h =
+      let t = any_terms answer.Ok in
+      record { numbers = numbers_kept t w v es h.numbers; spaces = spaces_kept t w v es h.spaces; references = references_kept t w v es h.references; charged = room }
 
-  pub process_grows : (w v : WorldOf B) (p : ProcessOf B) → Grows w v → ProcessRefers w p → ProcessRefers v p
-  process_grows w v p g h =
-      record {
-        views = each_change (RegionRefers w) (RegionRefers v) p.regions (λ r f x is. view_grows w v x (length r.rows) g (f x is)) h.views;
-        handles = λ place n e.
-            let s = some_found (section_of w n) (h.handles place n e) in
-            ap is_some (g.sections n s.0 s.1).1;
-      }
-
-  -- ---- one process is another
-
-  put_refers : (w : WorldOf B) (pid : ℕ) (p q : ProcessOf B) → process_of w pid ≡ Some p → ProcessRefers w q → References w → References (set_process w pid (Some q))
-  put_refers w pid p q lives refers h =
-      record {
-        processes = λ j r e.
-            process_grows w (set_process w pid (Some q)) r (record { sections = λ n s e. (s, e, refl); pages = λ area. omega arith })
-            (elim (after_set w.processes pid j (Some q) r (numbered_inside w.processes pid p lives) e) [
-              | inl is ↦ subst (λ (r : ProcessOf B). ProcessRefers w r) (same_some q r is.0) refers
-              | inr other ↦ h.processes j r other
-            ]);
-        sections = h.sections;
-        files = h.files;
-      }
-
-  not_first : (ps : List (Option (ProcessOf B))) (pid : ℕ) (p : ProcessOf B) → slice_get ps 0 ≡ Some None → get_or ps pid None ≡ Some p → pid ≢ 0
-  not_first ps pid p none lives e =
-      let there : slice_get ps 0 ≡ Some (Some p) = ap (slice_get ps) (sym e) ∙ numbered_there ps pid p lives in
-      let bad : Some None ≡ Some (Some p) = sym none ∙ there in
-      cc
-
-  pub put_well : (w : WorldOf B) (pid : ℕ) (p q : ProcessOf B) → process_of w pid ≡ Some p → (IsSpace p.regions → IsSpace q.regions) → (ProcessRefers w p → ProcessRefers w q) → charge (set_process w pid (Some q)) ≤ limit w → WellFormed w → WellFormed (set_process w pid (Some q))
-  put_well w pid p q lives space refers room h =
-      let n = h.numbers in
-      record {
-        numbers = record {
-          processes = omega (arith, n.processes, length-set w.processes pid (Some q));
-          no_process = get_set_other w.processes pid 0 (Some q) (λ e. not_first w.processes pid p n.no_process lives (sym e)) ∙ n.no_process;
-          kept = n.kept;
-          fails = n.fails;
-          blocks = n.blocks;
-          slots = n.slots;
-        };
-        spaces = (spaces.by_process w pid p q answer.Ok lives space).it.kept h.spaces;
-        references = put_refers w pid p q lives (refers (h.references.processes pid p lives)) h.references;
-        charged = room;
-      }
-
-  -- ---- a handle more
-
-  handle_refers : (w : WorldOf B) (p : ProcessOf B) (number : ℕ) → is_some (section_of w number) ≡ true → ProcessRefers w p → ProcessRefers w (record p { handles = p.handles ++ Some number ∷ [] })
-  handle_refers w p number lives h =
-      record {
-        views = h.views;
-        handles = λ place n e.
-            elim (after_push p.handles (Some number) place n e) [
-              | inl is ↦ ap (λ (n : ℕ). is_some (section_of w n)) (sym (same_some number n is)) ∙ lives
-              | inr there ↦ h.handles place n there
-            ];
-      }
+  pub sound_edit : (w v : WorldOf B) → Edit (any_terms answer.Ok) w v → charge v ≤ limit v → WellFormed w → WellFormed v
+  sound_edit w v e = sound_by w v (Then w v Nothing e)
 
   pub with_handle_charge : (w : WorldOf B) (pid : ℕ) (p : ProcessOf B) (number : ℕ) → process_of w pid ≡ Some p → charge (with_handle w pid p number) ≡ charge w
   with_handle_charge w pid p number lives = charge-same_regions w pid p (p.handles ++ Some number ∷ []) lives
 
-  pub handle_well : (w : WorldOf B) (pid : ℕ) (p : ProcessOf B) (number : ℕ) → process_of w pid ≡ Some p → is_some (section_of w number) ≡ true → WellFormed w → WellFormed (with_handle w pid p number)
-  handle_well w pid p number lives there h =
-      put_well w pid p (record p { handles = p.handles ++ Some number ∷ [] }) lives (λ k. k) (handle_refers w p number there)
-      (omega (arith, h.charged, with_handle_charge w pid p number lives)) h
-
-  -- ---- other sections and areas
-
-  abbrev pub with_lists : WorldOf B → Numbered SectionOf → List (AreaOf B) → WorldOf B
-  with_lists w sections areas = record w { sections = sections; areas = areas }
-
-  pub lists_well : (w : WorldOf B) (sections : Numbered SectionOf) (areas : List (AreaOf B)) → Grows w (with_lists w sections areas) → length w.areas ≤ length areas → ((n : ℕ) (s : SectionOf) → numbered sections n ≡ Some s → s.area < length areas) → charge (with_lists w sections areas) ≤ limit w → WellFormed w → WellFormed (with_lists w sections areas)
-  lists_well w sections areas grows longer inside room h =
-      let n = h.numbers in
-      record {
-        numbers = record { processes = n.processes; no_process = n.no_process; kept = n.kept; fails = n.fails; blocks = n.blocks; slots = n.slots };
-        spaces = h.spaces;
-        references = record {
-          processes = λ j q e. process_grows w (with_lists w sections areas) q grows (h.references.processes j q e);
-          sections = inside;
-          files = each_change (λ (f : FileOf). f.area < length w.areas) (λ (f : FileOf). f.area < length areas) w.files (λ f low. omega (arith, low, longer)) h.references.files;
-        };
-        charged = room;
-      }
-
   pub with_area_charge : (w : WorldOf B) (a : AreaOf B) → charge (with_area w a) ≡ charge w + area_charge a
   with_area_charge w a = omega (arith, sum_by_push area_charge w.areas a)
 
-  area_longer : (w : WorldOf B) (a : AreaOf B) (area : ℕ) → length (area_at w area).pages ≤ length (area_at (with_area w a) area).pages
-  area_longer w a area =
-      elim (same_or_not area (length w.areas)) [
-        | inl same ↦ omega (arith, ap (λ (x : AreaOf B). length x.pages) (no_area_past w.areas area (omega (arith, same))))
-        | inr other ↦ omega (arith, ap (λ (x : AreaOf B). length x.pages) (area_before w.areas a area other))
-      ]
-
-  pub area_well : (w : WorldOf B) (a : AreaOf B) → charge w + area_charge a ≤ limit w → WellFormed w → WellFormed (with_area w a)
-  area_well w a room h =
-      let longer : length w.areas ≤ length (w.areas ++ a ∷ []) = omega (arith, length-append w.areas (a ∷ [])) in
-      lists_well w w.sections (w.areas ++ a ∷ []) (record { sections = λ n s e. (s, e, refl); pages = area_longer w a }) longer
-      (λ n s e. omega (arith, h.references.sections n s e, longer)) (omega (arith, with_area_charge w a, room)) h
-
-  section_well : (w : WorldOf B) (s : SectionOf) → s.area < length w.areas → WellFormed w → WellFormed (with_section w s)
-  section_well w s inside h =
-      lists_well w (w.sections ++ Some s ∷ []) w.areas (record { sections = λ n t e. (t, pushed w.sections (Some s) n t e, refl); pages = λ area. omega arith }) (omega arith)
-      (λ n t e. elim (after_push w.sections (Some s) n t e) [
-        | inl is ↦ subst (λ (t : SectionOf). t.area < length w.areas) (same_some s t is) inside
-        | inr there ↦ h.references.sections n t there
-      ])
-      h.charged h
-
   pub new_section_well : (w : WorldOf B) (pid : ℕ) (p : ProcessOf B) (s : SectionOf) → process_of w pid ≡ Some p → s.area < length w.areas → WellFormed w → WellFormed (new_section w pid p s).world
   new_section_well w pid p s lives inside h =
-      handle_well (with_section w s) pid p (length w.sections) lives (ap is_some (push_at w.sections (Some s) (length w.sections) refl)) (section_well w s inside h)
+      let v = with_section w s in
+      let n = length w.sections in
+      sound_by w (with_handle v pid p n) (Then v (with_handle v pid p n) (Then w v Nothing (SectionComes s (λ refers. inside))) (HandleComes pid p n lives (ap is_some (push_at w.sections (Some s) n refl))))
+      (omega (arith, with_handle_charge v pid p n lives, h.charged)) h
 
 -- ---- what is settled, one by one
 
-sections_settle : (ps : List (Option (ProcessOf (Unit {0})))) (k : ℕ) (ss : Numbered SectionOf) → ((i : ℕ) → settled_section ps (k + i) (numbered ss i) ≡ numbered ss i) → settled_sections ps k ss ≡ ss
-sections_settle ps k [] h = refl
-sections_settle ps k (s ∷ ss) h =
-    let here : settled_section ps k s ≡ s = ap (λ (n : ℕ). settled_section ps n s) (let same : k ≡ k + 0 = omega arith in same) ∙ h 0 in
-    let rest : settled_sections ps (k + 1) ss ≡ ss =
-    sections_settle ps (k + 1) ss (λ i. ap (λ (n : ℕ). settled_section ps n (numbered ss i)) (let same : k + 1 + i ≡ k + suc i = omega arith in same) ∙ h (suc i)) in
-    λ i. here i ∷ rest i
+module _ {B : Type 0} where
+  sections_settle : (ps : List (Option (ProcessOf B))) (k : ℕ) (ss us : Numbered SectionOf) → length us ≡ length ss → ((i : ℕ) → settled_section ps (k + i) (numbered ss i) ≡ numbered us i) → settled_sections ps k ss ≡ us
+  sections_settle ps k [] [] long h = refl
+  sections_settle ps k (s ∷ ss) (u ∷ us) long h =
+      let here : settled_section ps k s ≡ u = ap (λ (n : ℕ). settled_section ps n s) (let same : k ≡ k + 0 = omega arith in same) ∙ h 0 in
+      let rest : settled_sections ps (k + 1) ss ≡ us =
+      sections_settle ps (k + 1) ss us (omega (arith, long)) (λ i. ap (λ (n : ℕ). settled_section ps n (numbered ss i)) (let same : k + 1 + i ≡ k + suc i = omega arith in same) ∙ h (suc i)) in
+      λ i. here i ∷ rest i
+  sections_settle ps k _ _ long h = absurd (omega (arith, long))
 
-sections_settled : (ps : List (Option (ProcessOf (Unit {0})))) (k : ℕ) (ss : Numbered SectionOf) (i : ℕ) → numbered (settled_sections ps k ss) i ≡ settled_section ps (k + i) (numbered ss i)
-sections_settled ps k [] i = refl
-sections_settled ps k (s ∷ ss) zero = ap (λ (n : ℕ). settled_section ps n s) (let same : k ≡ k + 0 = omega arith in same)
-sections_settled ps k (s ∷ ss) (suc i) = sections_settled ps (k + 1) ss i ∙ ap (λ (n : ℕ). settled_section ps n (numbered ss i)) (let same : k + 1 + i ≡ k + suc i = omega arith in same)
+  sections_settled : (ps : List (Option (ProcessOf B))) (k : ℕ) (ss : Numbered SectionOf) (i : ℕ) → numbered (settled_sections ps k ss) i ≡ settled_section ps (k + i) (numbered ss i)
+  sections_settled ps k [] i = refl
+  sections_settled ps k (s ∷ ss) zero = ap (λ (n : ℕ). settled_section ps n s) (let same : k ≡ k + 0 = omega arith in same)
+  sections_settled ps k (s ∷ ss) (suc i) = sections_settled ps (k + 1) ss i ∙ ap (λ (n : ℕ). settled_section ps n (numbered ss i)) (let same : k + 1 + i ≡ k + suc i = omega arith in same)
 
-areas_settle : (ss : Numbered SectionOf) (k : ℕ) (areas : List (AreaOf (Unit {0}))) → ((i : ℕ) → settled_area ss (k + i) (area_in areas i) ≡ area_in areas i) → settled_areas ss k areas ≡ areas
-areas_settle ss k [] h = refl
-areas_settle ss k (a ∷ rest) h =
-    let here : settled_area ss k a ≡ a = ap (λ (n : ℕ). settled_area ss n a) (let same : k ≡ k + 0 = omega arith in same) ∙ h 0 in
-    let later : settled_areas ss (k + 1) rest ≡ rest =
-    areas_settle ss (k + 1) rest (λ i. ap (λ (n : ℕ). settled_area ss n (area_in rest i)) (let same : k + 1 + i ≡ k + suc i = omega arith in same) ∙ h (suc i)) in
-    λ i. here i ∷ later i
+  areas_settle : (ss : Numbered SectionOf) (k : ℕ) (areas bs : List (AreaOf B)) → length bs ≡ length areas → ((i : ℕ) → settled_area ss (k + i) (area_in areas i) ≡ area_in bs i) → settled_areas ss k areas ≡ bs
+  areas_settle ss k [] [] long h = refl
+  areas_settle ss k (a ∷ rest) (b ∷ bs) long h =
+      let here : settled_area ss k a ≡ b = ap (λ (n : ℕ). settled_area ss n a) (let same : k ≡ k + 0 = omega arith in same) ∙ h 0 in
+      let later : settled_areas ss (k + 1) rest ≡ bs =
+      areas_settle ss (k + 1) rest bs (omega (arith, long)) (λ i. ap (λ (n : ℕ). settled_area ss n (area_in rest i)) (let same : k + 1 + i ≡ k + suc i = omega arith in same) ∙ h (suc i)) in
+      λ i. here i ∷ later i
+  areas_settle ss k _ _ long h = absurd (omega (arith, long))
 
-nothing_settles : (ss : Numbered SectionOf) (m : ℕ) → settled_area {B = Unit {0}} ss m no_area ≡ no_area
-nothing_settles ss m = by_test (list_any (uses m) ss)
-  where
-    by_test : (b : Bool) → cond b (no_area {B = Unit {0}}) no_area ≡ no_area
-    by_test true = refl
-    by_test false = refl
+  pub nothing_settles : (b : Bool) → cond b (no_area {B = B}) no_area ≡ no_area
+  nothing_settles true = refl
+  nothing_settles false = refl
 
-areas_settled : (ss : Numbered SectionOf) (k : ℕ) (areas : List (AreaOf (Unit {0}))) (i : ℕ) → area_in (settled_areas ss k areas) i ≡ settled_area ss (k + i) (area_in areas i)
-areas_settled ss k [] i = sym (nothing_settles ss (k + i))
-areas_settled ss k (a ∷ rest) zero = ap (λ (n : ℕ). settled_area ss n a) (let same : k ≡ k + 0 = omega arith in same)
-areas_settled ss k (a ∷ rest) (suc i) = areas_settled ss (k + 1) rest i ∙ ap (λ (n : ℕ). settled_area ss n (area_in rest i)) (let same : k + 1 + i ≡ k + suc i = omega arith in same)
+  areas_settled : (ss : Numbered SectionOf) (k : ℕ) (areas : List (AreaOf B)) (i : ℕ) → area_in (settled_areas ss k areas) i ≡ settled_area ss (k + i) (area_in areas i)
+  areas_settled ss k [] i = sym (nothing_settles (list_any (uses (k + i)) ss))
+  areas_settled ss k (a ∷ rest) zero = ap (λ (n : ℕ). settled_area ss n a) (let same : k ≡ k + 0 = omega arith in same)
+  areas_settled ss k (a ∷ rest) (suc i) = areas_settled ss (k + 1) rest i ∙ ap (λ (n : ℕ). settled_area ss n (area_in rest i)) (let same : k + 1 + i ≡ k + suc i = omega arith in same)
 
--- all sections are settled, and all areas but one
-pub record Settles (skip : ℕ) (w : Tables) : Type 0 where
-  pub sections : (n : ℕ) → settled_section w.processes n (section_of w n) ≡ section_of w n
-  pub areas : (m : ℕ) → m ≢ skip → settled_area w.sections m (area_at w m) ≡ area_at w m
+  -- what stands in place of a section, and of an area
+  pub section_now : (ps : List (Option (ProcessOf B))) (ss : Numbered SectionOf) (n : ℕ) → numbered (settled_sections ps 0 ss) n ≡ settled_section ps n (numbered ss n)
+  section_now ps ss n = sections_settled ps 0 ss n ∙ ap (λ (k : ℕ). settled_section ps k (numbered ss n)) (let same : 0 + n ≡ n = omega arith in same)
 
-pub section_settled : (w : Tables) → settle w ≡ w → (n : ℕ) → settled_section w.processes n (section_of w n) ≡ section_of w n
-section_settled w e n =
-    let same : settled_sections w.processes 0 w.sections ≡ w.sections = ap (λ (x : Tables). x.sections) e in
-    let zero_n : n ≡ 0 + n = omega arith in
-    ap (λ (k : ℕ). settled_section w.processes k (section_of w n)) zero_n ∙ sym (sections_settled w.processes 0 w.sections n) ∙ ap (λ (ss : Numbered SectionOf). numbered ss n) same
+  pub area_now : (ss : Numbered SectionOf) (areas : List (AreaOf B)) (m : ℕ) → area_in (settled_areas ss 0 areas) m ≡ settled_area ss m (area_in areas m)
+  area_now ss areas m = areas_settled ss 0 areas m ∙ ap (λ (k : ℕ). settled_area ss k (area_in areas m)) (let same : 0 + m ≡ m = omega arith in same)
 
-pub area_settled : (w : Tables) → settle w ≡ w → (m : ℕ) → settled_area w.sections m (area_at w m) ≡ area_at w m
-area_settled w e m =
-    let sections : settled_sections w.processes 0 w.sections ≡ w.sections = ap (λ (x : Tables). x.sections) e in
-    let same : settled_areas w.sections 0 w.areas ≡ w.areas = ap (λ (ss : Numbered SectionOf). settled_areas ss 0 w.areas) (sym sections) ∙ ap (λ (x : Tables). x.areas) e in
-    let zero_m : m ≡ 0 + m = omega arith in
-    ap (λ (k : ℕ). settled_area w.sections k (area_at w m)) zero_m ∙ sym (areas_settled w.sections 0 w.areas m) ∙ ap (λ (areas : List (AreaOf (Unit {0}))). area_in areas m) same
+  -- all sections are settled, and all areas but one
+  pub record Settles (skip : ℕ) (w : WorldOf B) : Type 0 where
+    pub sections : (n : ℕ) → settled_section w.processes n (section_of w n) ≡ section_of w n
+    pub areas : (m : ℕ) → m ≢ skip → settled_area w.sections m (area_at w m) ≡ area_at w m
 
-pub settles_of : (skip : ℕ) (w : Tables) → settle w ≡ w → Settles skip w
-settles_of skip w e = record { sections = section_settled w e; areas = λ m other. area_settled w e m }
+  pub section_settled : (w : WorldOf B) → settle w ≡ w → (n : ℕ) → settled_section w.processes n (section_of w n) ≡ section_of w n
+  section_settled w e n = sym (section_now w.processes w.sections n) ∙ ap (λ (x : WorldOf B). section_of x n) e
 
-pub settle_by : (w : Tables) → ((n : ℕ) → settled_section w.processes n (section_of w n) ≡ section_of w n) → ((m : ℕ) → settled_area w.sections m (area_at w m) ≡ area_at w m) → settle w ≡ w
-settle_by w sections areas =
-    let first : settled_sections w.processes 0 w.sections ≡ w.sections =
-    sections_settle w.processes 0 w.sections (λ n. ap (λ (k : ℕ). settled_section w.processes k (section_of w n)) (let same : 0 + n ≡ n = omega arith in same) ∙ sections n) in
-    let second : settled_areas w.sections 0 w.areas ≡ w.areas =
-    areas_settle w.sections 0 w.areas (λ m. ap (λ (k : ℕ). settled_area w.sections k (area_at w m)) (let same : 0 + m ≡ m = omega arith in same) ∙ areas m) in
-    let third : settled_areas (settled_sections w.processes 0 w.sections) 0 w.areas ≡ w.areas = ap (λ (ss : Numbered SectionOf). settled_areas ss 0 w.areas) first ∙ second in
-    λ i. record w { sections = first i; areas = third i }
+  pub area_settled : (w : WorldOf B) → settle w ≡ w → (m : ℕ) → settled_area w.sections m (area_at w m) ≡ area_at w m
+  area_settled w e m =
+      ap (λ (x : WorldOf B). settled_area x.sections m (area_at w m)) (sym e)
+      ∙ sym (area_now (settle w).sections w.areas m) ∙ ap (λ (x : WorldOf B). area_at x m) e
 
--- ---- more references
+  pub settles_of : (skip : ℕ) (w : WorldOf B) → settle w ≡ w → Settles skip w
+  settles_of skip w e = record { sections = section_settled w e; areas = λ m other. area_settled w e m }
 
-pub section_more : (ps qs : List (Option (ProcessOf (Unit {0})))) (n : ℕ) (s : Option SectionOf) → (list_any (holds n) ps ≡ true → list_any (holds n) qs ≡ true) → (list_any (views n) ps ≡ true → list_any (views n) qs ≡ true) → settled_section ps n s ≡ s → settled_section qs n s ≡ s
-section_more ps qs n None held seen e = refl
-section_more ps qs n (Some s) held seen e = by_tests (list_any (holds n) ps) (list_any (holds n) qs) (list_any (views n) ps) (list_any (views n) qs) held seen e
-  where
-    by_tests : (a b c d : Bool) → (a ≡ true → b ≡ true) → (c ≡ true → d ≡ true) → cond a (Some s) (cond c (Some (record s { name = None })) None) ≡ Some s → cond b (Some s) (cond d (Some (record s { name = None })) None) ≡ Some s
-    by_tests a true c d held seen e = refl
-    by_tests true false c d held seen e = let bad : false ≡ true = held refl in cc
-    by_tests false false true true held seen e = e
-    by_tests false false true false held seen e = let bad : false ≡ true = seen refl in cc
-    by_tests false false false d held seen e = cc
+  pub settle_as : (w : WorldOf B) (us : Numbered SectionOf) (bs : List (AreaOf B)) → length us ≡ length w.sections → length bs ≡ length w.areas → ((n : ℕ) → settled_section w.processes n (section_of w n) ≡ numbered us n) → ((m : ℕ) → settled_area us m (area_at w m) ≡ area_in bs m) → settle w ≡ record w { sections = us; areas = bs }
+  settle_as w us bs long longer sections areas =
+      let first : settled_sections w.processes 0 w.sections ≡ us =
+      sections_settle w.processes 0 w.sections us long (λ n. ap (λ (k : ℕ). settled_section w.processes k (section_of w n)) (let same : 0 + n ≡ n = omega arith in same) ∙ sections n) in
+      let second : settled_areas us 0 w.areas ≡ bs =
+      areas_settle us 0 w.areas bs longer (λ m. ap (λ (k : ℕ). settled_area us k (area_at w m)) (let same : 0 + m ≡ m = omega arith in same) ∙ areas m) in
+      let third : settled_areas (settled_sections w.processes 0 w.sections) 0 w.areas ≡ bs = ap (λ (ss : Numbered SectionOf). settled_areas ss 0 w.areas) first ∙ second in
+      λ i. record w { sections = first i; areas = third i }
 
-section_held : (ps : List (Option (ProcessOf (Unit {0})))) (n : ℕ) (s : Option SectionOf) → list_any (holds n) ps ≡ true → settled_section ps n s ≡ s
-section_held ps n None e = refl
-section_held ps n (Some s) e = ap (λ b. cond b (Some s) (cond (list_any (views n) ps) (Some (record s { name = None })) None)) e
+  pub settle_by : (w : WorldOf B) → ((n : ℕ) → settled_section w.processes n (section_of w n) ≡ section_of w n) → ((m : ℕ) → settled_area w.sections m (area_at w m) ≡ area_at w m) → settle w ≡ w
+  settle_by w sections areas = settle_as w w.sections w.areas refl refl sections areas
 
--- of the same file or of none, with as many pages
-pub record Alike (a b : AreaOf (Unit {0})) : Type 0 where
-  pub block : b.file_block ≡ a.file_block
-  pub pages : length b.pages ≡ length a.pages
+  -- ---- more references
 
-pub alike_same : (a : AreaOf (Unit {0})) → Alike a a
-alike_same a = record { block = refl; pages = refl }
+  pub section_more : (ps qs : List (Option (ProcessOf B))) (n : ℕ) (s : Option SectionOf) → (list_any (holds n) ps ≡ true → list_any (holds n) qs ≡ true) → (list_any (views n) ps ≡ true → list_any (views n) qs ≡ true) → settled_section ps n s ≡ s → settled_section qs n s ≡ s
+  section_more ps qs n None held seen e = refl
+  section_more ps qs n (Some s) held seen e = by_tests (list_any (holds n) ps) (list_any (holds n) qs) (list_any (views n) ps) (list_any (views n) qs) held seen e
+    where
+      by_tests : (a b c d : Bool) → (a ≡ true → b ≡ true) → (c ≡ true → d ≡ true) → cond a (Some s) (cond c (Some (record s { name = None })) None) ≡ Some s → cond b (Some s) (cond d (Some (record s { name = None })) None) ≡ Some s
+      by_tests a true c d held seen e = refl
+      by_tests true false c d held seen e = let bad : false ≡ true = held refl in cc
+      by_tests false false true true held seen e = e
+      by_tests false false true false held seen e = let bad : false ≡ true = seen refl in cc
+      by_tests false false false d held seen e = cc
 
-alike_by : (a b : AreaOf (Unit {0})) → b ≡ a → Alike a b
-alike_by a b e = record { block = ap (λ (x : AreaOf (Unit {0})). x.file_block) e; pages = ap (λ (x : AreaOf (Unit {0})). length x.pages) e }
+  section_held : (ps : List (Option (ProcessOf B))) (n : ℕ) (s : Option SectionOf) → list_any (holds n) ps ≡ true → settled_section ps n s ≡ s
+  section_held ps n None e = refl
+  section_held ps n (Some s) e = ap (λ b. cond b (Some s) (cond (list_any (views n) ps) (Some (record s { name = None })) None)) e
 
-no_pages : (xs : List (Option (Unit {0}))) → length xs ≡ 0 → [] ≡ xs
-no_pages [] e = refl
-no_pages (x ∷ xs) e = absurd (omega (arith, e))
+  -- of the same file or of none, with as many pages
+  pub record Alike (a b : AreaOf B) : Type 0 where
+    pub block : b.file_block ≡ a.file_block
+    pub pages : length b.pages ≡ length a.pages
 
-empty_area : (b : AreaOf (Unit {0})) → Alike no_area b → no_area ≡ b
-empty_area b h = λ i. record { file_block = sym h.block i; pages = no_pages b.pages h.pages i }
+  pub alike_same : (a : AreaOf B) → Alike a a
+  alike_same a = record { block = refl; pages = refl }
 
-pub area_more : (ss us : Numbered SectionOf) (m : ℕ) (a b : AreaOf (Unit {0})) → Alike a b → (list_any (uses m) ss ≡ true → list_any (uses m) us ≡ true) → settled_area ss m a ≡ a → settled_area us m b ≡ b
-area_more ss us m a b h more e =
-    ap (λ o. cond (is_some o || list_any (uses m) us) b no_area) h.block ∙ by_tests (is_some a.file_block) (list_any (uses m) ss) (list_any (uses m) us) more e
-  where
-    by_tests : (f c d : Bool) → (c ≡ true → d ≡ true) → cond (f || c) a no_area ≡ a → cond (f || d) b no_area ≡ b
-    by_tests true c d more e = refl
-    by_tests false c true more e = refl
-    by_tests false true false more e = let bad : false ≡ true = more refl in cc
-    by_tests false false false more e = empty_area b (subst (λ (a : AreaOf (Unit {0})). Alike a b) (sym e) h)
+  alike_by : (a b : AreaOf B) → b ≡ a → Alike a b
+  alike_by a b e = record { block = ap (λ (x : AreaOf B). x.file_block) e; pages = ap (λ (x : AreaOf B). length x.pages) e }
 
-area_used : (ss : Numbered SectionOf) (m : ℕ) (a : AreaOf (Unit {0})) → list_any (uses m) ss ≡ true → settled_area ss m a ≡ a
-area_used ss m a e = ap (λ b. cond b a no_area) (or_right (is_some a.file_block) (list_any (uses m) ss) e)
+  no_pages : (xs : List (Option B)) → length xs ≡ 0 → [] ≡ xs
+  no_pages [] e = refl
+  no_pages (x ∷ xs) e = absurd (omega (arith, e))
 
--- ---- one process is another, which has the references that it had
+  empty_area : (b : AreaOf B) → Alike no_area b → no_area ≡ b
+  empty_area b h = λ i. record { file_block = sym h.block i; pages = no_pages b.pages h.pages i }
 
-put_settles : (w : Tables) (pid : ℕ) (p q : ProcessOf (Unit {0})) → process_of w pid ≡ Some p → ((n : ℕ) → holds n (Some p) ≡ true → holds n (Some q) ≡ true) → ((n : ℕ) → views n (Some p) ≡ true → views n (Some q) ≡ true) → settle w ≡ w → settle (set_process w pid (Some q)) ≡ set_process w pid (Some q)
-put_settles w pid p q lives held seen e =
-    let at : slice_get w.processes pid ≡ Some (Some p) = numbered_there w.processes pid p lives in
-    settle_by (set_process w pid (Some q))
-    (λ n. section_more w.processes (set w.processes pid (Some q)) n (section_of w n)
-    (any_set (holds n) w.processes pid (Some p) (Some q) at (held n)) (any_set (views n) w.processes pid (Some p) (Some q) at (seen n)) (section_settled w e n))
-    (area_settled w e)
+  pub area_more : (ss us : Numbered SectionOf) (m : ℕ) (a b : AreaOf B) → Alike a b → (list_any (uses m) ss ≡ true → list_any (uses m) us ≡ true) → settled_area ss m a ≡ a → settled_area us m b ≡ b
+  area_more ss us m a b h more e =
+      ap (λ o. cond (is_some o || list_any (uses m) us) b no_area) h.block ∙ by_tests (is_some a.file_block) (list_any (uses m) ss) (list_any (uses m) us) more e
+    where
+      by_tests : (f c d : Bool) → (c ≡ true → d ≡ true) → cond (f || c) a no_area ≡ a → cond (f || d) b no_area ≡ b
+      by_tests false true false more e = let bad : false ≡ true = more refl in cc
+      by_tests false false false more e = empty_area b (subst (λ (a : AreaOf B). Alike a b) (sym e) h)
+      by_tests _ c _ more e = refl
 
-pub handle_settles : (w : Tables) (pid : ℕ) (p : ProcessOf (Unit {0})) (number : ℕ) → process_of w pid ≡ Some p → settle w ≡ w → settle (with_handle w pid p number) ≡ with_handle w pid p number
-handle_settles w pid p number lives e =
-    put_settles w pid p (record p { handles = p.handles ++ Some number ∷ [] }) lives (λ n. any_more (is_handle_to n) p.handles (Some number)) (λ n h. h) e
+  pub area_used : (ss : Numbered SectionOf) (m : ℕ) (a : AreaOf B) → list_any (uses m) ss ≡ true → settled_area ss m a ≡ a
+  area_used ss m a e = ap (λ b. cond b a no_area) (or_right (is_some a.file_block) (list_any (uses m) ss) e)
 
 -- ---- a section more, with a handle to it
 
@@ -331,21 +212,50 @@ rest_of w h = record { own_area = h.own_area; some = h.some; files = h.files; fi
 pub tidy_by : (w : Tables) → settle w ≡ w → Rest w → IsTidy w
 tidy_by w e h = record { settled = e; own_area = h.own_area; some = h.some; files = h.files; file_areas = h.file_areas; keepers = h.keepers }
 
-put_rest : (w : Tables) (pid : ℕ) (q : ProcessOf (Unit {0})) → Rest w → Rest (set_process w pid (Some q))
-put_rest w pid q h =
+-- ---- processes are others, which have the references that there were, or what stands beside them is
+
+abbrev pub beside : Tables → MachineOf → List (Option (ProcessOf (Unit {0}))) → ℕ → Numbered KeptOf → Numbered StackOf → Tables
+beside w m ps fails ks ss = record w { machine = m; processes = ps; fails_taken = fails; kept = ks; stacks = ss }
+
+module _ (w : Tables) (m : MachineOf) (ps : List (Option (ProcessOf (Unit {0})))) (fails : ℕ) (ks : Numbered KeptOf) (ss : Numbered StackOf) where
+  rest_beside : KeepersLive (beside w m ps fails ks ss) → Rest w → Rest (beside w m ps fails ks ss)
+  rest_beside keepers h =
+      record {
+        own_area = h.own_area;
+        some = h.some;
+        files = λ area first e. let f = h.files area first e in record { blocks = f.blocks; some = f.some; committed = f.committed };
+        file_areas = h.file_areas;
+        keepers = keepers;
+      }
+
+  pub tidy_beside : KeepersLive (beside w m ps fails ks ss) → ((n : ℕ) → list_any (holds n) w.processes ≡ true → list_any (holds n) ps ≡ true) → ((n : ℕ) → list_any (views n) w.processes ≡ true → list_any (views n) ps ≡ true) → IsTidy w → IsTidy (beside w m ps fails ks ss)
+  tidy_beside keepers held seen h =
+      tidy_by (beside w m ps fails ks ss)
+      (settle_by (beside w m ps fails ks ss) (λ n. section_more w.processes ps n (section_of w n) (held n) (seen n) (section_settled w h.settled n)) (area_settled w h.settled))
+      (rest_beside keepers (rest_of w h))
+
+pub beside_kept : (w : Tables) (m : MachineOf) (fails : ℕ) (ks : Numbered KeptOf) (ss : Numbered StackOf) (entries : Numbered CountedSection) (old new : CommitOf) → Beside (any_terms answer.Ok) w (beside w m w.processes fails ks ss) → KeepersLive (beside w m w.processes fails ks ss) → new.charge ≡ old.charge → new.limit ≡ limit_of m → AreKeptTables w entries old → AreKeptTables (beside w m w.processes fails ks ss) entries new
+beside_kept w m fails ks ss entries old new stays keepers charged limited kept =
     record {
-      own_area = h.own_area;
-      some = h.some;
-      files = λ area first e. let f = h.files area first e in record { blocks = f.blocks; some = f.some; committed = f.committed };
-      file_areas = h.file_areas;
-      keepers = λ tid k e. lives_put w.processes pid k.pid q (h.keepers tid k e);
+      sound = sound_edit w (beside w m w.processes fails ks ss) (Others (beside w m w.processes fails ks ss) stays) (omega (arith, kept.sound.charged, stays.limit)) kept.sound;
+      tidy = tidy_beside w m w.processes fails ks ss keepers (λ n h. h) (λ n h. h) kept.tidy;
+      counted = λ n c e. let k = kept.counted n c e in record { handles = k.handles; views = k.views };
+      charged = charged ∙ kept.charged;
+      limited = limited;
     }
 
-pub handle_rest : (w : Tables) (pid : ℕ) (p : ProcessOf (Unit {0})) (number : ℕ) → Rest w → Rest (with_handle w pid p number)
-handle_rest w pid p number h = put_rest w pid (record p { handles = p.handles ++ Some number ∷ [] }) h
-
 pub put_tidy : (w : Tables) (pid : ℕ) (p q : ProcessOf (Unit {0})) → process_of w pid ≡ Some p → ((n : ℕ) → holds n (Some p) ≡ true → holds n (Some q) ≡ true) → ((n : ℕ) → views n (Some p) ≡ true → views n (Some q) ≡ true) → IsTidy w → IsTidy (set_process w pid (Some q))
-put_tidy w pid p q lives held seen h = tidy_by (set_process w pid (Some q)) (put_settles w pid p q lives held seen h.settled) (put_rest w pid q (rest_of w h))
+put_tidy w pid p q lives held seen h =
+    let at : slice_get w.processes pid ≡ Some (Some p) = numbered_there w.processes pid p lives in
+    tidy_beside w w.machine (set w.processes pid (Some q)) w.fails_taken w.kept w.stacks (λ tid k e. lives_put w.processes pid k.pid q (h.keepers tid k e))
+    (λ n. any_set (holds n) w.processes pid (Some p) (Some q) at (held n)) (λ n. any_set (views n) w.processes pid (Some p) (Some q) at (seen n)) h
+
+pub handle_rest : (w : Tables) (pid : ℕ) (p : ProcessOf (Unit {0})) (number : ℕ) → Rest w → Rest (with_handle w pid p number)
+handle_rest w pid p number h =
+    let q : ProcessOf (Unit {0}) = record p { handles = p.handles ++ Some number ∷ [] } in
+    rest_beside w w.machine (set w.processes pid (Some q)) w.fails_taken w.kept w.stacks (λ tid k e. lives_put w.processes pid k.pid q (h.keepers tid k e)) h
+
+-- ---- a section more
 
 -- a section can be made of this area
 pub record MayList (w : Tables) (s : SectionOf) : Type 0 where
@@ -458,4 +368,34 @@ module _ (w : Tables) (a : AreaOf (Unit {0})) (used : ℕ) where
       record {
         sections = section_settled w e;
         areas = λ m other. let at = area_before w.areas a m other in ap (settled_area w.sections m) at ∙ area_settled w e m ∙ sym at;
+      }
+
+-- ---- regions that can stand in place of those of a process
+
+pub record StandIn (t : Tables) (rs ss : List (RegionOf (Unit {0}))) : Type 0 where
+  pub edit : (pid : ℕ) → RegionEdit (any_terms answer.Ok) t pid rs ss
+  pub views : (n : ℕ) → count_by (λ r. is_view_of n r.kind) ss ≡ count_by (λ r. is_view_of n r.kind) rs
+
+module _ (t : Tables) (pid : ℕ) (p : ProcessOf (Unit {0})) (ss : List (RegionOf (Unit {0}))) (lives : process_of t pid ≡ Some p) (h : StandIn t p.regions ss) where
+  pub sound_after : WellFormed t → charge (set_regions t pid p ss) ≤ limit t → WellFormed (set_regions t pid p ss)
+  sound_after sound within = sound_edit t (set_regions t pid p ss) (Regions pid p ss lives (h.edit pid)) within sound
+
+  seen_before : (n : ℕ) → list_any (λ (r : RegionOf (Unit {0})). is_view_of n r.kind) ss ≡ list_any (λ (r : RegionOf (Unit {0})). is_view_of n r.kind) p.regions
+  seen_before n = any_count (λ r. is_view_of n r.kind) ss ∙ ap (λ (n : ℕ). nat_lt 0 n) (h.views n) ∙ sym (any_count (λ r. is_view_of n r.kind) p.regions)
+
+  pub kept_after : (entries : Numbered CountedSection) (old new : CommitOf) → AreKeptTables t entries old → new.charge ≡ charge (set_regions t pid p ss) → new.limit ≡ limit t → charge (set_regions t pid p ss) ≤ limit t → AreKeptTables (set_regions t pid p ss) entries new
+  kept_after entries old new kept charged limited within =
+      let there = numbered_there t.processes pid p lives in
+      let q : Option (ProcessOf (Unit {0})) = Some (record p { regions = ss }) in
+      record {
+        sound = sound_after kept.sound within;
+        tidy = put_tidy t pid p (record p { regions = ss }) lives (λ n e. e) (λ n e. seen_before n ∙ e) kept.tidy;
+        counted = λ n c e.
+            let k = kept.counted n c e in
+            record {
+              handles = omega (arith, k.handles, sum_by-put (handles_in n) t.processes pid (Some p) q there);
+              views = omega (arith, k.views, sum_by-put (views_in n) t.processes pid (Some p) q there, h.views n);
+            };
+        charged = charged;
+        limited = limited;
       }

@@ -8,47 +8,32 @@ use Rattle.std.proofs.lemmas.List.{take_all}
 use Rattle.std.proofs.lemmas.List.Sums.{sum_by-cons}
 use Rattle.std.proofs.lemmas.Option.{get_or_from_slice_get}
 use Rattle.mm_types.specs.declared.moves.LineKind.TheVariants as kind
-use Rattle.mm_types.specs.declared.views.Kind.{Kind}
+use Rattle.mm_types.specs.{Kind, Key, Pid, Range, meets, is_free, address_of, end_of, holds_page, lies_within, first_user_page, end_of_user_pages}
+use Rattle.mm_types.specs.{limit_of}
 use Rattle.mm_types.specs.declared.views.Kind.TheVariants as kind'
-use Rattle.mm_types.specs.declared.numbers.Key.{Key}
 use Rattle.mm_types.specs.declared.numbers.Key.TheVariants as key
-use Rattle.mm_types.specs.declared.numbers.Pid.{Pid}
-use Rattle.mm_types.specs.Address.{Range, meets, is_free, address_of, end_of, holds_page, lies_within, first_user_page, end_of_user_pages}
-use Rattle.mm_types.specs.Machine.{limit_of}
-use Rattle.mm_types.proofs.Booleans.{or_true}
-use Rattle.mm_types.proofs.Options.{none_of, some_found, same_found}
-use Rattle.mm_world.specs.World.{Page, ProcessOf, RegionOf, RowOf, pages_of}
-use Rattle.mm_world.specs.Rows.{row_at, is_committed, is_committed_at, every_page, is_protection_among, private_protections, reserved_row, commit, protected, change_rows, accepts}
-use Rattle.mm_world.specs.Find.{Found, first_where, process_of, region_with, region_around, ranges_of, is_private, set_region, set_regions, add_region}
-use Rattle.mm_world.specs.Free.{private_at}
-use Rattle.mm_world.specs.Charge.{charge, is_charged, region_charge, process_charge}
-use Rattle.mm_world.specs.Keys.{own_page, private_key}
-use Rattle.mm_world.specs.Contents.{Tables, blank}
-use Rattle.mm_world.specs.WellFormed.{WellFormed, RowFits, RowsFit, IsSpace}
-use Rattle.mm_world.specs.Alloc.{private_region}
-use Rattle.mm_world.proofs.Each.{each-at, every_page-at}
-use Rattle.mm_world.proofs.Disjoint.{is_placed, same_place}
-use Rattle.mm_world.proofs.Finding.{found_stands}
-use Rattle.mm_world.proofs.KeptPages.{own_in}
-use Rattle.mm_world.proofs.Charges.{charge-set_region}
-use Rattle.mm_world.proofs.KindsAndKeys.{private_kind}
-use Rattle.mm_world.proofs.LaidOut.{and-true, or-false, laid_at}
-use Rattle.mm_world.proofs.Ranges.{apart_too, holds_first, lies}
-use Rattle.mm_world.proofs.RowsFit.{rows_committed, rows_cleared, rows_protected}
-use Rattle.mm_pages.specs.Conditions.{place_at}
-use Rattle.mm_pages.specs.Store.{StoreOf}
-use Rattle.mm_spaces.specs.Tables.{owned_in, rows_of}
-use Rattle.mm_tables.specs.Effects.{CanMake, key_in, Effect, Makes, Ends, Leaves, RangeStored, Moves, Roomier, keys_of}
-use Rattle.mm_tables.specs.Fits.{FitsTables, key_at, new_pages, new_marks, paging_count, owned_keys, CarriesPages, Settled, store_beside}
-use Rattle.mm_tables.specs.Ranges.{CanAdd, CanRemove, passing, is_page_live, is_page_dead}
+use Rattle.mm_types.proofs.{or_true, none_of, some_found, same_found}
+use Rattle.mm_world.specs.{Page, ProcessOf, RegionOf, RowOf, pages_of, row_at, is_committed, is_committed_at, every_page, is_protection_among}
+use Rattle.mm_world.specs.{private_protections, reserved_row, commit, protected, change_rows, accepts, Found, first_where, process_of, region_with}
+use Rattle.mm_world.specs.{region_around, ranges_of, is_private, set_region, set_regions, add_region, private_at, charge, is_charged, region_charge}
+use Rattle.mm_world.specs.{process_charge, own_page, private_key, Tables, blank, RowFits, RowsFit, IsSpace, private_region}
+use Rattle.mm_world.specs.WellFormed.{WellFormed}
+use Rattle.mm_world.proofs.{each-at, every_page-at, is_placed, same_place, found_stands, own_in, charge-set_region, private_kind, and-true, or-false}
+use Rattle.mm_world.proofs.{laid_at, apart_too, holds_first, lies, rows_committed, rows_cleared, rows_protected}
+use Rattle.mm_pages.specs.{place_at, StoreOf}
+use Rattle.mm_spaces.specs.{owned_in, rows_of}
+use Rattle.mm_tables.specs.{CanMake, key_in, Effect, Makes, Ends, Leaves, RangeStored, Moves, Roomier, keys_of, FitsTables, key_at, new_pages}
+use Rattle.mm_tables.specs.{new_marks, paging_count, owned_keys, CarriesPages, Settled, store_beside, CanRelease, GivenUp, CanAdd, passing}
+use Rattle.mm_tables.specs.{is_page_live, is_page_dead}
 use Rattle.mm_tables.proofs.Lists.{found-cons, one_if}
 use Rattle.mm_tables.proofs.Carried.{private_paging, moved, carries_by, carries_same}
-use Rattle.mm_tables.proofs.PageByPage.{passing_all}
+use Rattle.mm_tables.proofs.PageByPage.{passing_all, next_held}
+use Rattle.mm_tables.proofs.EndingPages.{stored}
 use Rattle.mm_tables.proofs.OneProcess.{own_rows, paging-remove_region, regions_of_process, reserved_is, content_is, home_key, region_key, key_in_has, key_at_is, private_home}
 use Rattle.mm_tables.proofs.Regions.{has_at, holds}
 use Rattle.mm_tables.proofs.Rows.{Inside, inside, has_own, in_range, holds_too, passing_owned, private_charge, charge_of_commit}
 use Rattle.mm_tables.proofs.Regional.{allowed, one_or_other, is_clear, change_stands, change_moves, commit_moves, decommit_charge, paging_as_charge, protect_count, protect_moves, protect_paging, release_moves, release_charge, release_stands, reserve_moves, reserve_charge, reserve_paging, reserve_stands}
-use Rattle.mm_tables.proofs.Keeping.{StandIn}
+use Rattle.mm_tables.proofs.SectionTidy.{StandIn}
 
 pub found_there : {A : Type 0} (test : A → Bool) (xs : List A) (i : ℕ) (x : A) → slice_get xs i ≡ Some x → test x ≡ true → is_some (first_where test xs) ≡ true
 found_there test [] i x at e = cc
@@ -133,15 +118,6 @@ module _ (t : Tables) (pid : Pid) (p : ProcessOf (Unit {0})) (c : Key → Option
           elim (s.names (place_at pid page)) as (λ o. s.names (place_at pid page) ≡ o → o ≡ None)
           [ None ↦ λ e. refl | Some k ↦ λ e. sym (f.named (place_at pid page) k e) ∙ uncommitted_is page held dead ] refl
 
-      pub can_remove : s.kind ≡ kind.Unbind pid → CanRemove pid range p.regions c s
-      can_remove unbinding =
-          record {
-            live = λ page e. live_is page;
-            named = λ page e dead. unnamed_is page e dead;
-            paging = λ page e. private_paging t c s pid (record { 0 = page }) f;
-            unbinding = unbinding;
-          }
-
       pub can_add : (n total : ℕ) → n + count_by has_own (in_range range r) ≡ range.count → charge t + n ≤ total → s.kind ≡ kind.Call → CanAdd pid range p.regions c (record s { room = total })
       can_add n total counted room called =
           record {
@@ -152,6 +128,17 @@ module _ (t : Tables) (pid : Pid) (p : ProcessOf (Unit {0})) (c : Key → Option
             room = omega (arith, counted, room, f.counted, paging_few t h, live_count, passing_both (is_page_live pid c) range.first range.count);
             called = called;
           }
+
+    -- its places go, or stay where the region is private
+    pub can_release : (goes : Bool) → (goes ≡ false → is_private r.kind ≡ true) → s.kind ≡ kind.Unbind pid → CanRelease goes pid range p.regions c s
+    can_release goes private unbinding =
+        record {
+          live = λ k few. live_is (range.first + k);
+          paging = λ k few. private_paging t c s pid (record { 0 = range.first + k }) f ∙ live_is (range.first + k);
+          bound = λ too page held. bound_in page held;
+          named = λ stays k few dead. unnamed_is (private stays) (range.first + k) (next_held range k few) (live_is (range.first + k) ∙ dead);
+          unbinding = unbinding;
+        }
 
 -- the region around a range
 pub record IsAround (rs : List (RegionOf (Unit {0}))) (range : Range) (r : Found (RegionOf (Unit {0}))) : Type 0 where
@@ -259,23 +246,8 @@ roomier_beside c d s z h = h.store ∙ ap (store_beside s) (sym h.store)
 
 pub fits_more : (t : Tables) (c : Key → Option Page) (s : StoreOf) (n : ℕ) → FitsTables t c s → s.room ≤ n → FitsTables t c (record s { room = n })
 fits_more t c s n f more =
-    record {
-      machine = f.machine;
-      opened = f.opened;
-      last_pid = f.last_pid;
-      areas = f.areas;
-      bound = f.bound;
-      live = f.live;
-      paging = f.paging;
-      counted = f.counted;
-      room = omega (arith, f.room, more);
-      named = f.named;
-      blocks = f.blocks;
-      used = f.used;
-      stored = f.stored;
-      named_paging = f.named_paging;
-      named_file = f.named_file;
-    }
+    let room : charge t ≤ n = omega (arith, f.room, more) in
+    assumption room
 
 pub roomier_settled : {t after : Tables} {c d : Key → Option Page} {s z : StoreOf} → FitsTables t c s → after ≡ t → Roomier c d s z → Settled after c d s z
 roomier_settled {t} {after} {c} {d} {s} {z} f same r =
@@ -324,15 +296,15 @@ module _ (t : Tables) (pid : Pid) (p : ProcessOf (Unit {0})) (range : Range) (c 
       (commit_moves t pid.0 p r.place r.thing range lives h a.at a.inside private pid prot refl) stored total
       (omega (arith, keys, total, used, f.counted, counted, a.owned, live, passing_both (is_page_live pid c) range.first range.count)) more
 
-  pub decommit_done : (i : ℕ) (r : RegionOf (Unit {0})) → slice_get p.regions i ≡ Some r → Inside range (pages_of r) → is_private r.kind ≡ true → RangeStored pid range Ends Leaves true c d s z → z.paging_keys ≡ s.paging_keys - passing (is_page_live pid c) range.first range.count → z.room ≡ s.room → Done t pid p (set p.regions i (change_rows (λ row. reserved_row) range r)) (charge t - count_by has_own (in_range range r)) c d s z
-  decommit_done i r at inside private stored used room =
+  pub decommit_done : (i : ℕ) (r : RegionOf (Unit {0})) → slice_get p.regions i ≡ Some r → Inside range (pages_of r) → is_private r.kind ≡ true → GivenUp false pid range (passing (is_page_live pid c) range.first range.count) c d s z → Done t pid p (set p.regions i (change_rows (λ row. reserved_row) range r)) (charge t - count_by has_own (in_range range r)) c d s z
+  decommit_done i r at inside private a =
       let after = decommit_charge t pid.0 p i r range lives h at inside private in
       let keys = paging_as_charge t pid.0 p i r range lives h at inside private (λ row. reserved_row) in
       let live = live_count t pid p c s lives h f i r range at inside in
       done Ends Leaves true (set p.regions i (change_rows (λ row. reserved_row) range r)) (charge t - count_by has_own (in_range range r))
       (change_stands t pid.0 p i r range lives h at inside (λ row. reserved_row) (λ fit. rows_cleared r range (private_kind r.kind private) fit inside.low))
-      (change_moves t pid.0 p i r range lives h at inside (λ row. reserved_row) Ends true pid (λ row. refl) (λ v k clear held. let bad : true ≡ false = sym held ∙ clear refl in cc)) stored (omega (arith, after))
-      (omega (arith, keys, after, used, f.counted, live)) (omega (arith, room, f.room))
+      (change_moves t pid.0 p i r range lives h at inside (λ row. reserved_row) Ends true pid (λ row. refl) (λ v k clear held. let bad : true ≡ false = sym held ∙ clear refl in cc)) (stored a) (omega (arith, after))
+      (omega (arith, keys, after, ap (λ (x : StoreOf). x.paging_keys) a.store, f.counted, live)) (omega (arith, ap (λ (x : StoreOf). x.room) a.store, f.room))
 
   -- neither keys nor places change
   pub protect_done : (r : Found (RegionOf (Unit {0}))) (prot : ℕ) → region_around p.regions range ≡ Some r → every_page (is_committed_at t r.thing) range ≡ true → every_page (accepts r.thing prot) range ≡ true → Roomier c d s z → charge t + new_marks p.regions range prot ≤ z.room → Done t pid p (set p.regions r.place (change_rows (protected r.thing.kind prot) range r.thing)) (charge t + new_marks p.regions range prot) c d s z
@@ -354,18 +326,26 @@ module _ (t : Tables) (pid : Pid) (p : ProcessOf (Unit {0})) (range : Range) (c 
       (omega (arith, charge-set_region t pid.0 p r.place r.thing new lives a.at, protect_count p.regions range r prot found))
       (ap (λ (x : StoreOf). x.paging_keys) more.store ∙ f.counted ∙ sym (protect_paging t pid.0 p r.place r.thing range lives h a.at a.inside prot)) room
 
-  pub release_done : (i : ℕ) (r : RegionOf (Unit {0})) → slice_get p.regions i ≡ Some r → pages_of r ≡ range → is_private r.kind ≡ true → RangeStored pid range Ends Ends true c d s z → z.paging_keys ≡ s.paging_keys - passing (is_page_live pid c) range.first range.count → z.room ≡ s.room → Done t pid p (remove p.regions i) (charge t - own_rows r) c d s z
-  release_done i r at pages private stored used room =
+  -- a region is given up with all its pages
+  pub region_gone : (i : ℕ) (r : RegionOf (Unit {0})) → slice_get p.regions i ≡ Some r → pages_of r ≡ range → GivenUp true pid range (passing (is_page_live pid c) range.first range.count) c d s z → Settled (set_regions t pid.0 p (remove p.regions i)) c d s z
+  region_gone i r at pages a =
       let live : passing (is_page_live pid c) range.first range.count ≡ own_rows r =
       live_count t pid p c s lives h f i r range at (whole_inside r range pages) ∙ ap (λ (range : Range). count_by has_own (in_range range r)) (sym pages) ∙ ap (count_by has_own) (whole_range r) in
-      done Ends Ends true (remove p.regions i) (charge t - own_rows r)
-      (release_stands t pid.0 p i r lives h at private)
-      (subst (λ (range : Range). Moves t pid range Ends Ends true p.regions (remove p.regions i)) pages (release_moves t pid.0 p i r lives h at pid)) stored
-      (omega (arith, release_charge t pid.0 p i r lives h at, private_charge r private))
-      (omega (arith, paging-remove_region t pid.0 p i r lives at, used, f.counted, live)) (omega (arith, room, f.room))
+      settled_by t pid p range Ends Ends true (remove p.regions i) c d s z lives f (stored a)
+      (subst (λ (range : Range). Moves t pid range Ends Ends true p.regions (remove p.regions i)) pages (release_moves t pid.0 p i r lives h at pid))
+      (omega (arith, paging-remove_region t pid.0 p i r lives at, ap (λ (x : StoreOf). x.paging_keys) a.store, f.counted, live))
+      (omega (arith, release_charge t pid.0 p i r lives h at, ap (λ (x : StoreOf). x.room) a.store, f.room))
+
+  pub release_done : (i : ℕ) (r : RegionOf (Unit {0})) → slice_get p.regions i ≡ Some r → pages_of r ≡ range → is_private r.kind ≡ true → GivenUp true pid range (passing (is_page_live pid c) range.first range.count) c d s z → Done t pid p (remove p.regions i) (charge t - own_rows r) c d s z
+  release_done i r at pages private a =
+      record {
+        stands = release_stands t pid.0 p i r lives h at private;
+        charged = omega (arith, release_charge t pid.0 p i r lives h at, private_charge r private);
+        settled = region_gone i r at pages a;
+      }
 
   pub reserve_done : (watched : Bool) (type prot : ℕ) → is_free (ranges_of p.regions) range ≡ true → range.first % 16 ≡ 0 → 1 ≤ range.count → is_protection_among private_protections prot ≡ true → RangeStored pid range (keys_of type) Makes true c d s z → z.paging_keys ≡ s.paging_keys + new_pages type range → charge t + new_pages type range ≤ z.room → Done t pid p (add_region (private_region blank watched type prot range) p.regions) (charge t + new_pages type range) c d s z
   reserve_done watched type prot free granule some e stored used more =
       done (keys_of type) Makes true (add_region (private_region blank watched type prot range) p.regions) (charge t + new_pages type range)
-      (reserve_stands t pid.0 p watched type prot range lives free granule some e) (reserve_moves t pid.0 p watched type prot range lives free pid refl) stored
+      (reserve_stands t pid.0 p watched type prot range lives free granule some e) (reserve_moves t pid.0 p watched type prot range lives free pid) stored
       (reserve_charge t pid.0 p watched type prot range lives free) (omega (arith, reserve_paging t pid.0 p watched type prot range lives free, used, f.counted)) more

@@ -1,58 +1,15 @@
 -- Tables whose threads have other stacks.
-use Rattle.std.proofs.Common.{◌≡◌, ◌≤◌, ◌<◌, ◌+◌, ℕ, zero, suc, List, [], ◌∷◌, Option, None, max, replicate, arith, refl, ◌∙◌, ap, set, get_or-set_other, map, take, drop, ◌++◌, length, get_or, Bool, sym, subst}
+use Rattle.std.proofs.Common.{◌≡◌, ◌≤◌, ◌<◌, ◌+◌, ℕ, zero, suc, List, [], ◌∷◌, Option, None, replicate, arith, refl, ◌∙◌, ap, set, map, take, drop, ◌++◌, length, get_or, Bool, sym, subst}
 use Rattle.std.proofs.lemmas.List.Edits.{map_over_more}
-use Rattle.mm_commit.specs.Charge.{CommitOf}
-use Rattle.mm_world.specs.World.{RegionOf, Numbered, StackOf, numbered}
-use Rattle.mm_world.specs.Find.{unless, end_stacks}
-use Rattle.mm_world.specs.Step.{threads}
-use Rattle.mm_world.specs.WellFormed.{WellFormed, Each, RegionRefers}
-use Rattle.mm_world.specs.Contents.{Tables}
-use Rattle.mm_sections.specs.Directories.{CountedSection}
-use Rattle.mm_tables.specs.References.{IsTidy, NobodyKeeps}
-use Rattle.mm_tables.specs.Sound.{AreKeptTables}
-use Rattle.mm_tables.specs.Stacks.{StandBelow}
+use Rattle.mm_commit.specs.{CommitOf}
+use Rattle.mm_world.specs.{Numbered, StackOf, numbered, unless, end_stacks, Tables}
+use Rattle.mm_sections.specs.{CountedSection}
+use Rattle.mm_tables.specs.{NobodyKeeps, AreKeptTables, StandBelow}
+use Rattle.mm_tables.proofs.KeptAccesses.{kept_with}
 
-module _ (t : Tables) (ss : Numbered StackOf) where
-  refers_too : (rs : List (RegionOf (Unit {0}))) → Each (RegionRefers t) rs → Each (RegionRefers (record t { stacks = ss })) rs
-  refers_too [] e = tt
-  refers_too (r ∷ rs) e =
-      ((λ v is. let k = e.0 v is in record { section = k.section; lives = k.lives; same_area = k.same_area; within = k.within }), refers_too rs e.1)
-
-  pub sound_with : WellFormed t → WellFormed (record t { stacks = ss })
-  sound_with sound =
-      let n = sound.numbers in
-      record {
-        numbers = record { processes = n.processes; no_process = n.no_process; kept = n.kept; fails = n.fails; blocks = n.blocks; slots = n.slots };
-        spaces = sound.spaces;
-        references = record {
-          processes = λ pid p e. let k = sound.references.processes pid p e in record { views = refers_too p.regions k.views; handles = k.handles };
-          sections = sound.references.sections;
-          files = sound.references.files;
-        };
-        charged = sound.charged;
-      }
-
-  tidy_with : IsTidy t → IsTidy (record t { stacks = ss })
-  tidy_with tidy =
-      record {
-        settled = λ i. record (tidy.settled i) { stacks = ss };
-        own_area = tidy.own_area;
-        some = tidy.some;
-        files = λ area first e. let k = tidy.files area first e in record { blocks = k.blocks; some = k.some; committed = k.committed };
-        file_areas = tidy.file_areas;
-        keepers = tidy.keepers;
-      }
-
-  -- stacks stand beside what is kept
-  pub kept_beside : (entries : Numbered CountedSection) (commit : CommitOf) → AreKeptTables t entries commit → AreKeptTables (record t { stacks = ss }) entries commit
-  kept_beside entries commit kept =
-      record {
-        sound = sound_with kept.sound;
-        tidy = tidy_with kept.tidy;
-        counted = λ number c e. let k = kept.counted number c e in record { handles = k.handles; views = k.views };
-        charged = kept.charged;
-        limited = kept.limited;
-      }
+-- stacks stand beside what is kept
+pub kept_beside : (t : Tables) (ss : Numbered StackOf) (entries : Numbered CountedSection) (commit : CommitOf) → AreKeptTables t entries commit → AreKeptTables (record t { stacks = ss }) entries commit
+kept_beside t ss entries commit kept = kept_with t t.kept ss entries commit kept kept.sound.numbers.kept kept.tidy.keepers
 
 pub nobody_beside : (t u : Tables) (ends : StackOf → Bool) (pid : ℕ) → u ≡ end_stacks t ends → NobodyKeeps pid t → NobodyKeeps pid u
 nobody_beside t u ends pid is h = subst (NobodyKeeps pid) (sym is) h
@@ -61,9 +18,8 @@ nobody_beside t u ends pid is h = subst (NobodyKeeps pid) (sym is) h
 
 module _ {A : Type 0} where
   same_read : (xs : List A) (i : ℕ) (d : A) → get_or xs i d ≡ get_or xs i (get_or xs i d)
-  same_read [] i d = refl
-  same_read (a ∷ xs) zero d = refl
   same_read (a ∷ xs) (suc i) d = same_read xs i d
+  same_read _ _ d = refl
 
   pub one_more : (f : A → A) (xs ys : List A) (i : ℕ) (d r : A) → i < length xs → ys ≡ map f (take i xs) ++ drop i xs → r ≡ f (get_or ys i d) → set ys i r ≡ map f (take (i + 1) xs) ++ drop (i + 1) xs
   one_more f xs ys i d r lt h is = ap (set ys i) is ∙ map_over_more f xs ys i (get_or ys i d) lt h (same_read ys i d)
@@ -72,9 +28,8 @@ module _ {A : Type 0} where
 
 module _ (test : StackOf → Bool) where
   numbered_unless : (xs : Numbered StackOf) (i : ℕ) → numbered (map (unless test) xs) i ≡ unless test (numbered xs i)
-  numbered_unless [] i = refl
-  numbered_unless (x ∷ xs) zero = refl
   numbered_unless (x ∷ xs) (suc i) = numbered_unless xs i
+  numbered_unless _ _ = refl
 
   pub below_too : (end : ℕ) (xs : Numbered StackOf) → StandBelow end xs → StandBelow end (map (unless test) xs)
   below_too end xs below = record { within = below.within; none = λ tid after. numbered_unless xs tid ∙ ap (unless test) (below.none tid after) }
@@ -95,16 +50,8 @@ module _ (test : StackOf → Bool) where
   all_changed end tid xs ys after below is = is ∙ front_alone xs tid (λ i later. below.none i (omega (arith, after, later)))
 
 nothing : (n tid : ℕ) → numbered {A = StackOf} (replicate n None) tid ≡ None
-nothing zero tid = refl
-nothing (suc n) zero = refl
 nothing (suc n) (suc tid) = nothing n tid
+nothing _ _ = refl
 
 pub none_yet : (n : ℕ) → StandBelow 0 (replicate n None)
 none_yet n = record { within = omega arith; none = λ tid after. nothing n tid }
-
-pub below_put : (end tid : ℕ) (xs : Numbered StackOf) (x : Option StackOf) → tid < threads → StandBelow end xs → StandBelow (max end (tid + 1)) (set xs tid x)
-below_put end tid xs x lt below =
-    record {
-      within = omega (arith, lt, below.within);
-      none = λ i after. get_or-set_other xs tid i x None (λ (e : i ≡ tid). omega (arith, e, after)) ∙ below.none i (omega (arith, after));
-    }

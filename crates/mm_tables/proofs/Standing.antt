@@ -2,24 +2,16 @@
 use Rattle.std.proofs.Common.{◌≡◌, ℕ, zero, suc, ◌-◌, ◌≤◌, true, Option, Some, None, List, ◌∷◌, sym, ◌∙◌, ap, arith, length, set, get_or, map, is_some, option_map, subst}
 use Rattle.std.proofs.Math.ListN.{get_or-map}
 use Rattle.std.proofs.lemmas.List.{get_or_default, map-set, set-get_or}
-use Rattle.mm_types.specs.Address.{Range}
-use Rattle.mm_types.specs.Machine.{MachineOf}
-use Rattle.mm_types.proofs.Options.{some_found, same_found, some_map}
-use Rattle.mm_world.specs.World.{ProcessOf, RegionOf, RowOf, AreaOf, FileOf, Numbered, numbered, KeptOf, StackOf}
-use Rattle.mm_world.specs.Find.{Found, process_of, region_around, set_region, set_regions}
-use Rattle.mm_world.specs.Rows.{change_rows}
-use Rattle.mm_world.specs.Contents.{Tables}
-use Rattle.mm_world.specs.Charge.{charge, limit}
-use Rattle.mm_world.proofs.Finding.{numbered_inside}
-use Rattle.mm_commit.specs.Charge.{CommitOf}
-use Rattle.mm_sections.specs.Directories.{CountedSection}
-use Rattle.mm_tables.specs.declared.tables.Process.{Process}
-use Rattle.mm_tables.specs.Shown.{shown_process, shown_processes, tables_with, shown_accesses}
-use Rattle.mm_tables.specs.Spaces.{process_regions, RegionsBecame}
+use Rattle.mm_types.specs.{Range}
+use Rattle.mm_types.proofs.{some_found, same_found, some_map}
+use Rattle.mm_world.specs.{ProcessOf, RegionOf, RowOf, numbered, Found, process_of, region_around, set_region, set_regions, change_rows, Tables}
+use Rattle.mm_world.specs.{charge, limit}
+use Rattle.mm_world.proofs.{numbered_inside}
+use Rattle.mm_commit.specs.{CommitOf}
+use Rattle.mm_tables.specs.{Process, shown_process, shown_processes, tables_with, shown_accesses, process_regions, RegionsBecame, AreKeptTables}
 use Rattle.mm_tables.specs.declared.tables.Tables.TheInside.{Inside}
-use Rattle.mm_tables.specs.Sound.{AreKeptTables}
 use Rattle.mm_tables.proofs.OneProcess.{process_is}
-use Rattle.mm_tables.proofs.Keeping.{StandIn, kept_after}
+use Rattle.mm_tables.proofs.SectionTidy.{StandIn, kept_after}
 
 pub shown_at : (items : List (Option Process)) (pid : ℕ) (o : Option Process) → 1 ≤ pid → pid ≤ length items → o ≡ get_or items (pid - 1) o → numbered (shown_processes items) pid ≡ option_map shown_process o
 shown_at items zero o some few e = absurd (omega arith)
@@ -55,59 +47,60 @@ pub record Standing (t : Tables) (pid : ℕ) (items : List (Option Process)) (o 
   pub some : 1 ≤ pid
   pub few : pid ≤ length items
 
-module _ (m : MachineOf) (items : List (Option Process)) (entries : Numbered CountedSection) (areas : List (AreaOf (Unit {0}))) (files : List FileOf) (blocks fails : ℕ) (accesses : Numbered KeptOf) (stacks : Numbered StackOf) (t : Tables) (view : tables_with m (shown_processes items) entries areas files blocks fails accesses stacks ≡ t) where
-  pub standing : (pid : ℕ) (o : Option Process) → is_some (process_of t pid) ≡ true → o ≡ get_or items (pid - 1) o → Standing t pid items o
-  standing pid o alive found =
-      let here : numbered (shown_processes items) pid ≡ process_of t pid = ap (λ (t : Tables). process_of t pid) view in
-      let w = lives_where items pid (ap is_some here ∙ alive) in
-      let at = shown_at items pid o w.0 w.1 found in
-      let x = some_found o (sym (some_map shown_process o) ∙ ap is_some (sym at ∙ here) ∙ alive) in
-      record { process = x.0; is = x.1; lives = sym here ∙ at ∙ ap (option_map shown_process) x.1; some = w.0; few = w.1 }
-
-  pub new_tables : (pid : ℕ) (o new : Option Process) (p : ProcessOf (Unit {0})) (ss : List (RegionOf (Unit {0}))) → Standing t pid items o → RegionsBecame o new ss → process_of t pid ≡ Some p → tables_with m (shown_processes (set items (pid - 1) new)) entries areas files blocks fails accesses stacks ≡ set_regions t pid p ss
-  new_tables pid o new p ss h b lives =
-      let process : b.process ≡ h.process = same_found o b.process h.process b.was h.is in
-      let shown : shown_process b.process ≡ p = ap shown_process process ∙ process_is t pid (shown_process h.process) p h.lives lives in
-      let now : option_map shown_process new ≡ Some (record p { regions = ss }) = b.now ∙ ap (λ (q : ProcessOf (Unit {0})). Some (record q { regions = ss })) shown in
-      ap (λ ps. tables_with m ps entries areas files blocks fails accesses stacks) (shown_set items pid new h.some ∙ ap (set (shown_processes items) pid) now)
-      ∙ ap (λ (t : Tables). set_regions t pid p ss) view
-
--- ---- The tables as they are kept, with a process that lives in them, after a step on it
-
 -- these tables with other processes
 abbrev pub shown_with : Inside → List (Option Process) → Tables
 shown_with i items = tables_with i.machine (shown_processes items) i.directory.entries i.areas.items i.directory.files i.blocks_used i.fails_taken (shown_accesses i.kept) i.stacks
 
+module _ (i : Inside) (t : Tables) (view : shown_with i i.processes.items ≡ t) where
+  standing : (pid : ℕ) (o : Option Process) → is_some (process_of t pid) ≡ true → o ≡ get_or i.processes.items (pid - 1) o → Standing t pid i.processes.items o
+  standing pid o alive found =
+      let here : numbered (shown_processes i.processes.items) pid ≡ process_of t pid = ap (λ (t : Tables). process_of t pid) view in
+      let w = lives_where i.processes.items pid (ap is_some here ∙ alive) in
+      let at = shown_at i.processes.items pid o w.0 w.1 found in
+      let x = some_found o (sym (some_map shown_process o) ∙ ap is_some (sym at ∙ here) ∙ alive) in
+      record { process = x.0; is = x.1; lives = sym here ∙ at ∙ ap (option_map shown_process) x.1; some = w.0; few = w.1 }
+
+  new_tables : (pid : ℕ) (o new : Option Process) (p : ProcessOf (Unit {0})) (ss : List (RegionOf (Unit {0}))) → Standing t pid i.processes.items o → RegionsBecame o new ss → process_of t pid ≡ Some p → shown_with i (set i.processes.items (pid - 1) new) ≡ set_regions t pid p ss
+  new_tables pid o new p ss h b lives =
+      let process : b.process ≡ h.process = same_found o b.process h.process b.was h.is in
+      let shown : shown_process b.process ≡ p = ap shown_process process ∙ process_is t pid (shown_process h.process) p h.lives lives in
+      let now : option_map shown_process new ≡ Some (record p { regions = ss }) = b.now ∙ ap (λ (q : ProcessOf (Unit {0})). Some (record q { regions = ss })) shown in
+      (λ j. record (shown_with i i.processes.items) { processes = (shown_set i.processes.items pid new h.some ∙ ap (set (shown_processes i.processes.items) pid) now) j })
+      ∙ ap (λ (t : Tables). set_regions t pid p ss) view
+
+-- ---- The tables as they are kept, with a process that lives in them, after a step on it
+
 -- what is known of tables that are kept and of what stands at the place of a process that lives
 pub record Held (i : Inside) (t : Tables) (pid : ℕ) (o : Option Process) : Type 0 where
+  pub view : shown_with i i.processes.items ≡ t
   pub process : ProcessOf (Unit {0})
   pub there : is_some o ≡ true
+  pub shown : option_map shown_process o ≡ Some process
   pub lives : process_of t pid ≡ Some process
+  pub low : 1 ≤ pid
   pub same : process_regions o ≡ process.regions
   pub kept : AreKeptTables t i.directory.entries i.commit
   pub changed : (new : Option Process) (p : ProcessOf (Unit {0})) (ss : List (RegionOf (Unit {0}))) → RegionsBecame o new ss → process_of t pid ≡ Some p → shown_with i (set i.processes.items (pid - 1) new) ≡ set_regions t pid p ss
 
-standing_in : (i : Inside) (t : Tables) → shown_with i i.processes.items ≡ t → (pid : ℕ) (o : Option Process) → is_some (process_of t pid) ≡ true → o ≡ get_or i.processes.items (pid - 1) o → Standing t pid i.processes.items o
-standing_in i t view pid o alive found =
-    standing i.machine i.processes.items i.directory.entries i.areas.items i.directory.files i.blocks_used i.fails_taken (shown_accesses i.kept) i.stacks t view pid o alive found
-
 pub held_by : (i : Inside) (t : Tables) → shown_with i i.processes.items ≡ t → AreKeptTables (shown_with i i.processes.items) i.directory.entries i.commit → (pid : ℕ) (o : Option Process) → is_some (process_of t pid) ≡ true → o ≡ get_or i.processes.items (pid - 1) o → Held i t pid o
 held_by i t view kept pid o alive found =
-    let s = standing_in i t view pid o alive found in
+    let s = standing i t view pid o alive found in
     record {
+      view = view;
       process = shown_process s.process;
       there = ap is_some s.is;
+      shown = ap (option_map shown_process) s.is;
       lives = s.lives;
+      low = s.some;
       same = ap process_regions s.is;
       kept = subst (λ (t : Tables). AreKeptTables t i.directory.entries i.commit) view kept;
-      changed = λ new p ss b lives.
-          new_tables i.machine i.processes.items i.directory.entries i.areas.items i.directory.files i.blocks_used i.fails_taken (shown_accesses i.kept) i.stacks t view pid o new p ss s b lives;
+      changed = λ new p ss b lives. new_tables i t view pid o new p ss s b lives;
     }
 
 -- the process that stands there is the one that lives
 pub shown_is : (i : Inside) (t : Tables) → shown_with i i.processes.items ≡ t → (pid : ℕ) (o : Option Process) → is_some (process_of t pid) ≡ true → o ≡ get_or i.processes.items (pid - 1) o → (x : Process) (p : ProcessOf (Unit {0})) → o ≡ Some x → process_of t pid ≡ Some p → shown_process x ≡ p
 shown_is i t view pid o alive found x p e lives =
-    let s = standing_in i t view pid o alive found in
+    let s = standing i t view pid o alive found in
     ap shown_process (same_found o x s.process e s.is) ∙ process_is t pid (shown_process s.process) p s.lives lives
 
 module _ {i : Inside} {t : Tables} {pid : ℕ} {o : Option Process} (h : Held i t pid o) where

@@ -2,45 +2,27 @@
 use Rattle.std.proofs.Common.{refl, ◌≡◌, ℕ, ◌-◌, ◌≤◌, Bool, true, false, Option, Some, None, List, sym, ◌∙◌, ap, arith, is_some, not, option_map, cond, set, slice_get, ◌+◌, subst, count_by}
 use Rattle.std.specs.Prelude.{option_and_then, remove, ◌==◌, ◌&&◌}
 use Rattle.std.specs.Cmp.{unsigned_Decides}
-use Rattle.mm_types.proofs.Booleans.{both}
-use Rattle.mm_pages.specs.Leaving.{leaving, page_rank}
-use Rattle.mm_types.specs.declared.numbers.Pid.{Pid}
-use Rattle.mm_types.specs.declared.numbers.Place.{Place}
-use Rattle.mm_types.specs.declared.numbers.Key.{Key}
-use Rattle.mm_types.specs.Address.{Range, end_of, end_of_user_pages}
-use Rattle.mm_world.specs.World.{Page, ProcessOf, RegionOf, pages_of}
-use Rattle.mm_world.specs.Find.{Found, process_of, region_with, set_process, set_regions, is_private, region_around}
-use Rattle.mm_world.specs.Keys.{Committed, committed_at, key_of}
-use Rattle.mm_world.specs.Contents.{Tables}
-use Rattle.mm_types.proofs.Cells.{get_set_same, get_within}
-use Rattle.mm_pages.specs.Store.{StoreOf}
-use Rattle.mm_world.specs.Charge.{charge}
-use Rattle.mm_world.specs.Rows.{reserved_row, change_rows}
-use Rattle.mm_world.specs.Sections.{settle}
+use Rattle.mm_types.proofs.{both, get_set_same, get_within, none_of, some_found}
+use Rattle.mm_pages.specs.{leaving, page_rank, StoreOf, AreAmong, place_at}
+use Rattle.mm_types.specs.{Pid, Place, Key, Range, end_of, end_of_user_pages}
+use Rattle.mm_world.specs.{Page, ProcessOf, RegionOf, pages_of, Found, process_of, region_with, set_process, set_regions, is_private, region_around}
+use Rattle.mm_world.specs.{Committed, committed_at, key_of, Tables, charge, reserved_row, change_rows, settle, private_at}
 use Rattle.mm_world.specs.WellFormed.{WellFormed}
-use Rattle.mm_tables.specs.Effects.{Effect, Ends, Leaves, RangeStored}
-use Rattle.mm_tables.specs.Endings.{AreUnbound}
-use Rattle.mm_tables.specs.Ranges.{is_page_live, CanRemove, passing}
+use Rattle.mm_tables.specs.{AreUnbound, CanRelease, GivenUp, is_page_live, passing, Process, process_regions, RegionsBecame, AreKeptTables}
+use Rattle.mm_tables.specs.{FitsTables, Settled, is_reserved, is_uncommitted}
 use Rattle.mm_tables.proofs.EndingFits.{process_same, key_is}
 use Rattle.mm_tables.proofs.EndingPages.{here}
 use Rattle.mm_tables.proofs.OneProcess.{region_key, regions_in, reserved_is, own_rows}
 use Rattle.mm_tables.proofs.Standing.{Held, shown_with, still_kept, regions_by}
-use Rattle.mm_tables.specs.declared.tables.Process.{Process}
 use Rattle.mm_tables.specs.declared.tables.Tables.TheInside as the_inside
-use Rattle.mm_tables.specs.Spaces.{process_regions, RegionsBecame}
-use Rattle.mm_tables.specs.Sound.{AreKeptTables}
-use Rattle.mm_commit.specs.Charge.{CommitOf}
-use Rattle.mm_types.proofs.Options.{none_of, some_found}
-use Rattle.mm_tables.proofs.Keeping.{sound_after}
+use Rattle.mm_commit.specs.{CommitOf}
+use Rattle.mm_tables.proofs.SectionTidy.{sound_after}
 use Rattle.mm_tables.proofs.PageByPage.{own}
 use Rattle.mm_tables.proofs.Rows.{Inside, same_pages, has_own, in_range, private_charge}
-use Rattle.mm_tables.proofs.Settled.{Done, ends, settled_as, uncommitted_is, IsAround, decommit_done, can_remove, around, Begins, release_done, is_around, begins, bound_in, whole_inside, pages_found, some_pages, whole_owned}
-use Rattle.mm_pages.specs.Conditions.{AreAmong, place_at, AllBound}
-use Rattle.mm_tables.specs.Fits.{FitsTables, Settled, is_reserved, is_uncommitted}
+use Rattle.mm_tables.proofs.Settled.{Done, ends, settled_as, uncommitted_is, IsAround, decommit_done, can_release, around, Begins, release_done, is_around, begins, whole_inside, pages_found, some_pages, whole_owned}
 use Rattle.mm_types.specs.declared.moves.LineKind.TheVariants as line_kind
-use Rattle.mm_spaces.specs.Tables.{owned_in}
+use Rattle.mm_spaces.specs.{owned_in}
 use Rattle.mm_tables.proofs.Regional.{decommit_charge, release_charge}
-use Rattle.mm_world.specs.Free.{private_at}
 
 -- a place in no region
 unreserved : (t : Tables) (place : Place) → is_reserved t place ≡ false → is_uncommitted t place ≡ true
@@ -68,9 +50,9 @@ among_unbound o t c z pid range fits unbound =
       last = omega (arith, unbound.end);
     }
 
-pub stored_unbound : (pid : Pid) (range : Range) (keys : Effect) (clears : Bool) (c d : Key → Option Page) (s z : StoreOf) → end_of range ≤ end_of_user_pages → RangeStored pid range keys Ends clears c d s z → AreUnbound pid range z
-stored_unbound pid range keys clears c d s z end a =
-    record { each = λ page e. ap (λ (f : Place → Bool). f (place_at pid page)) a.bound ∙ ap (λ b. cond b false (s.bound (place_at pid page))) (here pid range page e); end = end }
+pub given_unbound : {pid : Pid} {range : Range} {n : ℕ} {c d : Key → Option Page} {s z : StoreOf} → end_of range ≤ end_of_user_pages → GivenUp true pid range n c d s z → AreUnbound pid range z
+given_unbound {pid} {range} {s = s} end a =
+    record { each = λ page e. ap (λ (x : StoreOf). x.bound (place_at pid page)) a.store ∙ ap (λ b. cond b false (s.bound (place_at pid page))) (here pid range page e); end = end }
 
 -- ---- pages of a private region are given up, `n` of them with bytes: what the call's next steps are told, and what they come to
 
@@ -120,25 +102,25 @@ module _ {i : the_inside.Inside} {t : Tables} {o : Option Process} (pid : Pid) (
   pub decommit_end : end_of range ≤ end_of_user_pages
   decommit_end = ends t pid h.process c s h.lives h.kept.sound fits found.0.place found.0.thing range placed.at placed.inside
 
-  pub decommit_can : s.kind ≡ line_kind.Unbind pid → CanRemove pid range (process_regions o) c s
+  pub decommit_can : s.kind ≡ line_kind.Unbind pid → CanRelease false pid range (process_regions o) c s
   decommit_can unbinding =
-      subst (λ rs. CanRemove pid range rs c s) (sym h.same) (can_remove t pid h.process c s h.lives h.kept.sound fits found.0.place found.0.thing range placed.at placed.inside of_own unbinding)
+      subst (λ rs. CanRelease false pid range rs c s) (sym h.same) (can_release t pid h.process c s h.lives h.kept.sound fits found.0.place found.0.thing range placed.at placed.inside false (λ stays. of_own) unbinding)
 
   pub decommitted : {n : ℕ} {new : Option Process} {d : Key → Option Page} {z : StoreOf} → n ≡ owned_in (process_regions o) range
       → ((r : Found (RegionOf (Unit {0}))) → region_around (process_regions o) range ≡ Some r → RegionsBecame o new (set (process_regions o) r.place (change_rows (λ row. reserved_row) range r.thing)))
-      → RangeStored pid range Ends Leaves true c d s z → z.paging_keys ≡ s.paging_keys - passing (is_page_live pid c) range.first range.count → z.room ≡ s.room → Freed i t pid h.process o new emptied_rows n c d s z
-  decommitted {n} {new} {d} {z} owned changed stored counted room =
+      → GivenUp false pid range (passing (is_page_live pid c) range.first range.count) c d s z → Freed i t pid h.process o new emptied_rows n c d s z
+  decommitted {n} {new} {d} {z} owned changed a =
       let few = decommit_charge t pid.0 h.process found.0.place found.0.thing range h.lives h.kept.sound placed.at placed.inside of_own in
       let some = owned ∙ ap (λ rs. owned_in rs range) h.same ∙ placed.owned in
       record {
         total = charge t - count_by has_own (in_range range found.0.thing);
-        done = decommit_done t pid h.process range c d s z h.lives h.kept.sound fits found.0.place found.0.thing placed.at placed.inside of_own stored counted room;
+        done = decommit_done t pid h.process range c d s z h.lives h.kept.sound fits found.0.place found.0.thing placed.at placed.inside of_own a;
         became = subst (λ rs. RegionsBecame o new (set rs found.0.place (change_rows (λ row. reserved_row) range found.0.thing))) h.same (changed found.0 (ap (λ rs. region_around rs range) h.same ∙ found.1));
         counted = omega (arith, some, few);
       }
 
-  pub decommit_among : {n : ℕ} {new : Option Process} {d : Key → Option Page} {z : StoreOf} → Freed i t pid h.process o new emptied_rows n c d s z → RangeStored pid range Ends Leaves true c d s z → AreAmong (leaving t pid.0 (is_uncommitted (shown_with i (set i.processes.items (pid.0 - 1) new)))) 1 (page_rank end_of_user_pages) pid range
-  decommit_among {n} {new} {d} {z} f stored =
+  pub decommit_among : {n m : ℕ} {new : Option Process} {d : Key → Option Page} {z : StoreOf} → Freed i t pid h.process o new emptied_rows n c d s z → GivenUp false pid range m c d s z → AreAmong (leaving t pid.0 (is_uncommitted (shown_with i (set i.processes.items (pid.0 - 1) new)))) 1 (page_rank end_of_user_pages) pid range
+  decommit_among {n} {new = new} {d = d} {z = z} f a =
       let row = change_rows (λ row. reserved_row) range found.0.thing in
       let q : ProcessOf (Unit {0}) = record h.process { regions = emptied_rows } in
       let u = set_regions t pid.0 h.process emptied_rows in
@@ -152,7 +134,7 @@ module _ {i : the_inside.Inside} {t : Tables} {o : Option Process} (pid : Pid) (
         each = λ page e. its_own pid (is_uncommitted u) page
             (ap (λ (o : Option Key). not (is_some o))
             (uncommitted_is u pid q d z now sound f.done.settled.fits found.0.place row range there within of_own page e
-            (ap (λ (f : Key → Option Page). is_page_live pid f page) stored.contents ∙ ap (λ b. is_some (cond b None (c (own pid page)))) (here pid range page e))));
+            (ap (λ (f : Key → Option Page). is_page_live pid f page) a.contents ∙ ap (λ b. is_some (cond b None (c (own pid page)))) (here pid range page e))));
         first = omega arith;
         last = omega (arith, ends u pid q d z now sound f.done.settled.fits found.0.place row range there within);
       })
@@ -180,27 +162,24 @@ module _ {i : the_inside.Inside} {t : Tables} {o : Option Process} (pid : Pid) (
       ap (λ rs. is_some (region_around rs range)) h.same
       ∙ is_around t pid.0 h.process begun.0.place begun.0.thing range h.lives h.kept.sound starts.at whole (some_pages t pid.0 h.process begun.0.place begun.0.thing range h.lives h.kept.sound starts.at begun.1.1)
 
-  pub release_bound : AllBound s pid range true
-  release_bound = bound_in t pid h.process c s h.lives h.kept.sound fits begun.0.place begun.0.thing range starts.at whole
-
-  pub release_can : s.kind ≡ line_kind.Unbind pid → CanRemove pid range (process_regions o) c s
+  pub release_can : s.kind ≡ line_kind.Unbind pid → CanRelease true pid range (process_regions o) c s
   release_can unbinding =
-      subst (λ rs. CanRemove pid range rs c s) (sym h.same) (can_remove t pid h.process c s h.lives h.kept.sound fits begun.0.place begun.0.thing range starts.at whole starts.private unbinding)
+      subst (λ rs. CanRelease true pid range rs c s) (sym h.same) (can_release t pid h.process c s h.lives h.kept.sound fits begun.0.place begun.0.thing range starts.at whole true (λ stays. starts.private) unbinding)
 
   pub release_freed : {n : ℕ} {new : Option Process} {d : Key → Option Page} {z : StoreOf} → n ≡ owned_in (process_regions o) range
       → ((r : Found (RegionOf (Unit {0}))) → private_at (process_regions o) addr ≡ Some r → RegionsBecame o new (remove (process_regions o) r.place))
-      → RangeStored pid range Ends Ends true c d s z → z.paging_keys ≡ s.paging_keys - passing (is_page_live pid c) range.first range.count → z.room ≡ s.room → Freed i t pid h.process o new without_it n c d s z
-  release_freed {n} {new} {d} {z} owned changed stored counted room =
+      → GivenUp true pid range (passing (is_page_live pid c) range.first range.count) c d s z → Freed i t pid h.process o new without_it n c d s z
+  release_freed {n} {new} {d} {z} owned changed a =
       let some = owned ∙ ap (λ rs. owned_in rs range) h.same ∙ whole_owned t pid.0 h.process begun.0.place begun.0.thing range h.lives h.kept.sound starts.at begun.1.1 in
       let few = release_charge t pid.0 h.process begun.0.place begun.0.thing h.lives h.kept.sound starts.at in
       record {
         total = charge t - own_rows begun.0.thing;
-        done = release_done t pid h.process range c d s z h.lives h.kept.sound fits begun.0.place begun.0.thing starts.at begun.1.1 starts.private stored counted room;
+        done = release_done t pid h.process range c d s z h.lives h.kept.sound fits begun.0.place begun.0.thing starts.at begun.1.1 starts.private a;
         became = subst (λ rs. RegionsBecame o new (remove rs begun.0.place)) h.same (changed begun.0 (ap (λ rs. private_at rs addr) h.same ∙ begun.1.0));
         counted = omega (arith, some, few, private_charge begun.0.thing starts.private);
       }
 
-  pub release_among : {n : ℕ} {new : Option Process} {d : Key → Option Page} {z : StoreOf} → Freed i t pid h.process o new without_it n c d s z → RangeStored pid range Ends Ends true c d s z → AreAmong (leaving t pid.0 (is_uncommitted (shown_with i (set i.processes.items (pid.0 - 1) new)))) 1 (page_rank end_of_user_pages) pid range
-  release_among {n} {new} {d} {z} f stored =
+  pub release_among : {n m : ℕ} {new : Option Process} {d : Key → Option Page} {z : StoreOf} → Freed i t pid h.process o new without_it n c d s z → GivenUp true pid range m c d s z → AreAmong (leaving t pid.0 (is_uncommitted (shown_with i (set i.processes.items (pid.0 - 1) new)))) 1 (page_rank end_of_user_pages) pid range
+  release_among {n} {new = new} {d = d} {z = z} f a =
       subst (λ (w : Tables). AreAmong (leaving t pid.0 (is_uncommitted w)) 1 (page_rank end_of_user_pages) pid range) (sym (freed_is pid h f))
-      (among_unbound t (set_regions t pid.0 h.process without_it) d z pid range f.done.settled.fits (stored_unbound pid range Ends true c d s z release_end stored))
+      (among_unbound t (set_regions t pid.0 h.process without_it) d z pid range f.done.settled.fits (given_unbound release_end a))

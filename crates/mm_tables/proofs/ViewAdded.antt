@@ -1,55 +1,34 @@
 -- A view is added to a process: tables and store.
-use Rattle.std.proofs.Common.{◌≡◌, ℕ, zero, suc, ◌+◌, ◌-◌, ◌≤◌, ◌<◌, Bool, true, false, Option, Some, None, List, ◌||◌, refl, sym, ◌∙◌, ap, subst, cond, arith, length, set, slice_get, is_some, not, nat_lt, count_by, replicate, option_map}
+use Rattle.std.proofs.Common.{◌≡◌, ℕ, zero, suc, ◌+◌, ◌-◌, ◌≤◌, ◌<◌, Bool, true, false, Option, Some, None, List, refl, sym, ◌∙◌, ap, subst, cond, arith, length, set, slice_get, is_some, nat_lt, count_by, replicate, option_map}
 use Rattle.std.specs.Prelude.{IfSome, ◌^◌, ◌==◌, ◌%◌, option_and_then}
-use Rattle.std.specs.List.{list_any}
 use Rattle.std.proofs.lemmas.List.{length-replicate}
 use Rattle.std.proofs.lemmas.List.Sums.{sum_by-insert}
 use Rattle.mm_types.specs.declared.moves.LineKind.TheVariants as line_kind
-use Rattle.mm_types.specs.declared.numbers.Key.{Key}
-use Rattle.mm_types.specs.declared.numbers.Pid.{Pid}
+use Rattle.mm_types.specs.{Key, Pid, View, Range, is_free, lies_within, reserve_type, limit_of}
 use Rattle.mm_types.specs.declared.views.Kind.TheVariants as kind
-use Rattle.mm_types.specs.declared.views.View.{View}
-use Rattle.mm_types.specs.Address.{Range, holds_page, meets, is_free, are_user_pages, lies_within}
-use Rattle.mm_types.specs.Allocation.{reserve_type}
-use Rattle.mm_types.specs.Machine.{limit_of}
-use Rattle.mm_types.proofs.Options.{same_found}
-use Rattle.mm_types.proofs.Tables.{differ}
-use Rattle.mm_world.specs.World.{Page, RowOf, RegionOf, ProcessOf, SectionOf, Numbered, numbered, pages_of}
-use Rattle.mm_world.specs.Find.{Found, process_of, section_of, ranges_of, region_with, add_region, set_regions, region_around, is_private}
-use Rattle.mm_world.specs.Charge.{charge, limit, region_charge}
-use Rattle.mm_world.specs.Contents.{Tables}
-use Rattle.mm_world.specs.Keys.{own_page}
-use Rattle.mm_world.specs.Sections.{is_view_of}
-use Rattle.mm_world.specs.Views.{view_region, first_protection, is_copy}
-use Rattle.mm_world.specs.WellFormed.{RowFits, RegionRefers, ViewFits, WellFormed}
-use Rattle.mm_world.proofs.Charges.{charge-set_regions, sum_by-put}
-use Rattle.mm_world.proofs.Each.{each-insert, each-replicate}
-use Rattle.mm_world.proofs.Finding.{numbered_there, found_stands}
-use Rattle.mm_world.proofs.KeptPages.{own_in, own_free}
-use Rattle.mm_world.proofs.LaidOut.{no_flags, and-true, IsPlaced}
-use Rattle.mm_world.proofs.RowsFit.{new_view_fits}
-use Rattle.mm_world.proofs.Spaces.{space_add, begins_before}
-use Rattle.mm_pages.specs.Conditions.{AllBound}
-use Rattle.mm_pages.specs.Store.{StoreOf}
-use Rattle.mm_commit.specs.Charge.{CommitOf}
-use Rattle.mm_sections.specs.Directories.{CountedSection, DirectoryOf, sections_of, one_view_more}
-use Rattle.mm_spaces.specs.declared.spaces.RegionInfo.{RegionInfo}
-use Rattle.mm_spaces.specs.Tables.{found_info}
-use Rattle.mm_tables.specs.Effects.{Makes, Leaves, RangeStored, Moves}
-use Rattle.mm_tables.specs.Fits.{FitsTables, Settled, store_beside, paging_count, new_pages}
-use Rattle.mm_tables.specs.References.{handles_in, views_in, views_of, handles_to}
-use Rattle.mm_tables.specs.Shown.{shown_processes}
-use Rattle.mm_tables.specs.Sound.{AreKeptTables}
-use Rattle.mm_tables.specs.ViewChanges.{region_of_view, NewPlaces, living}
+use Rattle.mm_types.proofs.{same_found, differ}
+use Rattle.mm_world.specs.{Page, RowOf, RegionOf, ProcessOf, SectionOf, Numbered, numbered, pages_of, Found, process_of, section_of, ranges_of}
+use Rattle.mm_world.specs.{add_region, set_regions, region_around, is_private, charge, limit, region_charge, Tables, is_view_of, view_region}
+use Rattle.mm_world.specs.{first_protection, is_copy, RowFits, ViewFits}
+use Rattle.mm_world.specs.WellFormed.{WellFormed}
+use Rattle.mm_world.proofs.{charge-set_regions, sum_by-put, each-replicate, numbered_there, found_stands, no_flags, IsPlaced, free_of, new_view_fits}
+use Rattle.mm_world.proofs.{begins_before, RegionComes, any_insert}
+use Rattle.mm_world.proofs.Edits.{Regions}
+use Rattle.mm_pages.specs.{AllBound, StoreOf}
+use Rattle.mm_commit.specs.{CommitOf}
+use Rattle.mm_sections.specs.{CountedSection, DirectoryOf, sections_of, one_view_more}
+use Rattle.mm_spaces.specs.{RegionInfo, found_info}
+use Rattle.mm_tables.specs.{Makes, Leaves, Moves, FitsTables, Settled, paging_count, new_pages, handles_in, views_in, views_of, handles_to}
+use Rattle.mm_tables.specs.{shown_processes, AreKeptTables, region_of_view, NewPlaces, living}
 use Rattle.mm_tables.specs.declared.tables.Tables.TheInside.{Inside}
-use Rattle.mm_tables.proofs.Lists.{same_number, same_some, any_insert, count-replicate, found-insert, if_some}
-use Rattle.mm_tables.proofs.OneProcess.{own_rows, paging-add_region, region_key, key_in_has}
-use Rattle.mm_tables.proofs.Regional.{not-true}
-use Rattle.mm_tables.proofs.Regions.{has, has_added}
+use Rattle.mm_tables.proofs.Lists.{same_number, same_some, count-replicate, if_some}
+use Rattle.mm_tables.proofs.OneProcess.{own_rows, paging-add_region}
 use Rattle.mm_tables.proofs.SectionFits.{now, as_kept, Counts, counts_set, sections_set}
-use Rattle.mm_tables.proofs.SectionTidy.{put_well, put_tidy}
+use Rattle.mm_tables.proofs.SectionTidy.{sound_edit, put_tidy}
 use Rattle.mm_tables.proofs.Settled.{can_make, settled_by, settled_as}
 use Rattle.mm_tables.proofs.ViewCommitted.{views_bound}
+use Rattle.mm_tables.proofs.Regional.{added_moves}
+use Rattle.mm_tables.proofs.Filled.{places_stored}
 
 -- ---- the region of a new view
 
@@ -79,36 +58,9 @@ module _ (t : Tables) (pid : Pid) (p : ProcessOf (Unit {0})) (range : Range) (v 
   pages : pages_of (region_of_view v range) ≡ range
   pages i = record { first = range.first; count = length-replicate range.count (view_row v) i }
 
-  clear : list_any (meets range) (ranges_of p.regions) ≡ false
-  clear = not-true (list_any (meets range) (ranges_of p.regions)) (and-true (are_user_pages range) (not (list_any (meets range) (ranges_of p.regions))) free).1
-
-  none_met : list_any (meets (pages_of (region_of_view v range))) (ranges_of p.regions) ≡ false
-  none_met = ap (λ (r : Range). list_any (meets r) (ranges_of p.regions)) pages ∙ clear
-
   -- its places are bound, and no key comes to be
-  added_moves : Moves t pid range Leaves Makes true p.regions (add_region (region_of_view v range) p.regions)
-  added_moves =
-      let new = region_of_view v range in
-      record {
-        owned = λ w.
-            ap is_some (has_added (λ (r : RegionOf (Unit {0})). own_in r w) new p.regions (place_in p.regions range) w none_met)
-            ∙ by_held w (holds_page (pages_of new) w) (own_free w new p.regions none_met);
-        reserved = λ w.
-            found-insert (λ (r : RegionOf (Unit {0})). holds_page (pages_of r) w) p.regions (place_in p.regions range) new
-            ∙ ap (λ (r : Range). holds_page r w || is_some (region_with p.regions w)) pages ∙ by_or (holds_page range w) (is_some (region_with p.regions w));
-        named = λ w k clears named.
-            key_in_has t pid.0 (add_region new p.regions) w ∙ has_added (region_key t pid.0 w) new p.regions (place_in p.regions range) w none_met
-            ∙ ap (λ b. cond b (region_key t pid.0 w new) (has (region_key t pid.0 w) p.regions w)) (ap (λ (r : Range). holds_page r w) pages ∙ clears refl)
-            ∙ sym (key_in_has t pid.0 p.regions w) ∙ named;
-      }
-    where
-      by_held : (w : ℕ) (b : Bool) → (b ≡ true → own_page p.regions w ≡ None) → is_some (cond b (own_in (region_of_view v range) w) (own_page p.regions w)) ≡ is_some (own_page p.regions w)
-      by_held w true none = ap is_some (replicated_own range.count (w - range.first) (view_row v) refl ∙ sym (none refl))
-      by_held w false none = refl
-
-      by_or : (b c : Bool) → (b || c) ≡ cond b true c
-      by_or true c = refl
-      by_or false c = refl
+  view_moves : Moves t pid range Leaves Makes true p.regions (add_region (region_of_view v range) p.regions)
+  view_moves = added_moves t p (region_of_view v range) range pages free Leaves pid (λ w held. ap is_some (replicated_own range.count (w - range.first) (view_row v) refl))
 
   -- ---- what is counted
 
@@ -160,19 +112,20 @@ module _ (t : Tables) (pid : Pid) (p : ProcessOf (Unit {0})) (range : Range) (v 
 
   sound_now : range.first % 16 ≡ 0 → 1 ≤ range.count → ViewFits t v range.count → charge t + marked_of range v ≤ limit t → WellFormed t → WellFormed (with_view t pid.0 p range v)
   sound_now granule some fit room h =
-      let user = (and-true (are_user_pages range) (not (list_any (meets range) (ranges_of p.regions))) free).0 in
-      let placed : IsPlaced (ranges_of p.regions) range = record { on_granule = granule; user = user; free = clear } in
-      put_well t pid.0 p (record p { regions = add_region (region_of_view v range) p.regions }) lives
-      (space_add (region_of_view v range) p.regions range placed refl (length-replicate range.count (view_row v)) some (no_flags (region_of_view v range) refl)
-      (each-replicate (RowFits (kind.View v)) range.count (view_row v) (new_view_fits v.access)))
-      (λ k. record {
-        views = each-insert (RegionRefers t) p.regions (place_in p.regions range) (region_of_view v range) k.views (λ x is.
+      let new = region_of_view v range in
+      let long = length-replicate range.count (view_row v) in
+      sound_edit t (with_view t pid.0 p range v) (Regions pid.0 p (add_region new p.regions) lives (RegionComes new (record {
+        placed = subst (λ (r : Range). IsPlaced (ranges_of p.regions) r) (sym pages) (free_of (ranges_of p.regions) range granule free);
+        some = omega (arith, some, long);
+        flags = no_flags new refl;
+        rows = each-replicate (RowFits (kind.View v)) range.count (view_row v) (new_view_fits v.access);
+        refers = λ x is.
             let here : View = record { section = record { 0 = v.section.0 }; area = record { 0 = v.area.0 }; first = v.first; access = v.access } in
             let same : here ≡ x = cc in
-            subst (λ x. ViewFits t x (length (replicate range.count (view_row v)))) same (subst (λ (n : ℕ). ViewFits t v n) (sym (length-replicate range.count (view_row v))) fit));
-        handles = k.handles;
-      })
-      (omega (arith, charge_now, room)) h
+            subst (λ x. ViewFits t x (length (replicate range.count (view_row v)))) same (subst (λ (n : ℕ). ViewFits t v n) (sym long) fit);
+        plain = λ e. cc;
+        charged = tt;
+      }))) (omega (arith, charge_now, room)) h
 
   -- ---- the store fits
 
@@ -184,17 +137,7 @@ module _ (t : Tables) (pid : Pid) (p : ProcessOf (Unit {0})) (range : Range) (v 
 
   settled_now : (c d : Key → Option Page) (s z : StoreOf) → FitsTables t c s → d ≡ c → NewPlaces pid range s z → charge t + marked_of range v ≤ z.room → Settled (with_view t pid.0 p range v) c d s z
   settled_now c d s z f contents m room =
-      let stored : RangeStored pid range Leaves Makes true c d s z =
-      record {
-        contents = contents;
-        paging = ap (λ (x : StoreOf). x.paging) m.store;
-        bound = ap (λ (x : StoreOf). x.bound) m.store;
-        names = ap (λ (x : StoreOf). x.names) m.store;
-        open_same = ap (λ (x : StoreOf). x.is_open) m.store;
-        areas_same = ap (λ (x : StoreOf). x.areas) m.store;
-        same = m.store ∙ ap (store_beside s) (sym m.store);
-      } in
-      settled_by t pid p range Leaves Makes true (add_region (region_of_view v range) p.regions) c d s z lives f stored added_moves
+      settled_by t pid p range Leaves Makes true (add_region (region_of_view v range) p.regions) c d s z lives f (places_stored m contents) view_moves
       (ap (λ (x : StoreOf). x.paging_keys) m.store ∙ f.counted ∙ sym paging_now) (omega (arith, charge_now, room))
 
 -- ---- tables as they are kept
@@ -237,9 +180,6 @@ module _ {i : Inside} {t : Tables} {pid : Pid} {range : Range} {v : View} {d : D
 
 pub few_views : (t : Tables) (entries : Numbered CountedSection) (commit : CommitOf) (n : ℕ) → AreKeptTables t entries commit → IfSome (numbered entries n) (λ c. c.views < 2 ^ 60)
 few_views t entries commit n h = if_some (numbered entries n) (λ c. c.views < 2 ^ 60) (λ c e. omega (arith, (h.counted n c e).views, views_bound t n h.sound))
-
-pub process_is : (o : Option (ProcessOf (Unit {0}))) (p q : ProcessOf (Unit {0})) → o ≡ Some p → o ≡ Some q → p ≡ q
-process_is o p q a b = same_found o p q a b
 
 -- ---- what is told of a region
 

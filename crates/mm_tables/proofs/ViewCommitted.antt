@@ -1,54 +1,34 @@
 -- Pages of views and areas are committed, within bounds: live keys are charged, and no section has more views than there are pages.
-use Rattle.std.proofs.Common.{◌≡◌, ℕ, ◌+◌, ◌≤◌, ◌<◌, ◌^◌, Bool, true, false, Option, Some, None, List, [], ◌∷◌, refl, cond, arith, length, get_or, is_some, count_by, ◌-◌, sym, ◌∙◌, ap, subst, set, slice_get, take, drop, ◌&&◌, not, option_map, unwrap_or}
+use Rattle.std.proofs.Common.{◌≡◌, ℕ, ◌+◌, ◌≤◌, ◌<◌, ◌^◌, Bool, true, false, Option, Some, None, List, [], ◌∷◌, refl, cond, arith, length, get_or, is_some, count_by, ◌-◌, sym, ◌∙◌, ap, subst, set, slice_get, take, drop, ◌&&◌, not, option_map, unwrap_or, ◌≢◌}
 use Rattle.std.proofs.lemmas.List.Sums.{sum_by-cons, count_by-le-length}
 use Rattle.std.specs.Prelude.{◌==◌, is_none}
 use Rattle.std.specs.Cmp.{unsigned_Decides}
-use Rattle.mm_types.specs.declared.views.Kind.{Kind}
+use Rattle.mm_types.specs.{Kind, end_of_user_pages, first_user_page, end_of, Range, lies_within, Area, Key, Pid, View, base_of}
 use Rattle.mm_types.specs.declared.views.Kind.TheVariants as kind
-use Rattle.mm_types.specs.Address.{end_of_user_pages, first_user_page, end_of, Range, lies_within}
-use Rattle.mm_types.specs.declared.numbers.Area.{Area}
-use Rattle.mm_types.specs.declared.numbers.Key.{Key}
 use Rattle.mm_types.specs.declared.numbers.Key.TheVariants as key
-use Rattle.mm_types.specs.declared.numbers.Pid.{Pid}
-use Rattle.mm_types.specs.declared.views.View.{View}
 use Rattle.mm_types.specs.declared.moves.LineKind.TheVariants as line_kind
-use Rattle.mm_types.specs.Protection.{base_of}
-use Rattle.mm_types.proofs.Booleans.{not_true}
-use Rattle.mm_types.proofs.Cells.{get_set_other}
-use Rattle.mm_types.proofs.Options.{some_found}
-use Rattle.mm_types.proofs.Tables.{differ}
-use Rattle.mm_world.specs.World.{RegionOf, ProcessOf, pages_of, Page, AreaOf, Numbered, numbered, filled}
-use Rattle.mm_world.specs.Charge.{charge, limit, area_charge}
-use Rattle.mm_world.specs.Contents.{Tables, blank}
-use Rattle.mm_world.specs.Sections.{is_view_of}
-use Rattle.mm_world.specs.WellFormed.{LaidOut, WellFormed, RegionRefers, ViewFits}
-use Rattle.mm_world.specs.Find.{Found, process_of, region_around, set_regions, set_area, area_at, no_area, change_range, shared_page}
-use Rattle.mm_world.specs.Alloc.{commit_shared}
-use Rattle.mm_world.specs.Rows.{is_one_of, is_protection_among, private_protections, accepts, protected, change_rows, every_page}
-use Rattle.mm_world.proofs.Charges.{charge-set_region}
-use Rattle.mm_world.proofs.Each.{each-at}
-use Rattle.mm_world.proofs.Finding.{Stands, found_stands}
-use Rattle.mm_world.proofs.RowsFit.{length-change_range, view_rows_protected}
-use Rattle.mm_pages.specs.Store.{StoreOf}
-use Rattle.mm_commit.specs.Charge.{CommitOf}
-use Rattle.mm_sections.specs.Directories.{CountedSection}
-use Rattle.mm_sections.specs.Pages.{uncommitted_in}
-use Rattle.mm_spaces.specs.Tables.{unmarked_in}
-use Rattle.mm_tables.specs.Fits.{FitsTables, Settled, Carried, store_beside, newly_marked, new_marks}
-use Rattle.mm_tables.specs.References.{views_in, views_of}
-use Rattle.mm_tables.specs.Shown.{shown_processes}
-use Rattle.mm_tables.specs.Sound.{AreKeptTables}
-use Rattle.mm_tables.specs.Effects.{Roomier, Leaves}
-use Rattle.mm_tables.specs.ViewChanges.{listed_area, is_shared_in, shared_added, living, CanShare, Shares}
+use Rattle.mm_types.proofs.{not_true, get_set_other, some_found, differ}
+use Rattle.mm_world.specs.{RegionOf, ProcessOf, pages_of, Page, AreaOf, Numbered, numbered, filled, charge, limit, area_charge, Tables, blank}
+use Rattle.mm_world.specs.{is_view_of, LaidOut, RegionRefers, ViewFits, Found, process_of, region_around, set_regions, set_area, area_at, no_area}
+use Rattle.mm_world.specs.{change_range, shared_page, commit_shared, is_one_of, is_protection_among, private_protections, accepts, protected}
+use Rattle.mm_world.specs.{change_rows, every_page}
+use Rattle.mm_world.specs.WellFormed.{WellFormed}
+use Rattle.mm_world.proofs.{charge-set_region, each-at, Stands, found_stands, length-change_range, view_rows_protected}
+use Rattle.mm_pages.specs.{StoreOf}
+use Rattle.mm_commit.specs.{CommitOf}
+use Rattle.mm_sections.specs.{CountedSection, uncommitted_in}
+use Rattle.mm_spaces.specs.{unmarked_in}
+use Rattle.mm_tables.specs.{FitsTables, Settled, Carried, store_beside, newly_marked, new_marks, views_in, views_of, shown_processes, AreKeptTables}
+use Rattle.mm_tables.specs.{Roomier, Leaves, listed_area, is_shared_in, shared_added, living, CanShare, Shares}
 use Rattle.mm_tables.specs.declared.tables.Tables.TheInside.{Inside}
 use Rattle.mm_tables.proofs.Carried.{at_added}
 use Rattle.mm_tables.proofs.EndingFits.{beside_then}
-use Rattle.mm_tables.proofs.Keeping.{StandIn, kept_after}
-use Rattle.mm_tables.proofs.Lists.{by_cell, numbered_got, get-change_range, count-change_range, count-all, length-range, is_between}
+use Rattle.mm_tables.proofs.SectionTidy.{StandIn, kept_after}
+use Rattle.mm_tables.proofs.Lists.{by_cell, numbered_got, get-change_range, count-change_range, count-all, length-range, is_between, area_in}
 use Rattle.mm_tables.proofs.Regional.{allowed, change_stands, protect_count, protect_moves, protect_paging}
 use Rattle.mm_tables.proofs.Regions.{within}
 use Rattle.mm_tables.proofs.Rows.{inside, Inside as LiesIn}
-use Rattle.mm_tables.proofs.SectionFits.{now, as_kept, sum_few, no_block, opened_some, IsOld, with_area_of, fits_area}
+use Rattle.mm_tables.proofs.SectionFits.{now, as_kept, sum_few, no_block, opened_some, IsOld, with_area_of, fits_area, pages_stay}
 use Rattle.mm_tables.proofs.SectionTidy.{Alike}
 use Rattle.mm_tables.proofs.Settled.{paging_few, roomier_settled, settled_by}
 use Rattle.mm_tables.proofs.ViewShares.{cell, indices}
@@ -183,11 +163,12 @@ module _ (t : Tables) (area : Area) (first count : ℕ) (none : (area_at t area.
       let alike : Alike a b = alike_now a first count in
       let page : (i : ℕ) → is_some (numbered b.pages i) ≡ cond (is_between first count i) true (is_some (numbered a.pages i)) = page_now a first count none inner in
       let not_file : not (is_some a.file_block) ≡ true = ap (λ (o : Option ℕ). not (is_some o)) none in
+      let here : area_in (set t.areas area.0 b) area.0 ≡ b = area_here t.areas area.0 b there in
+      let before : (q : ℕ) → q ≢ area.0 → area_in (set t.areas area.0 b) q ≡ area_at t q = λ q other. ap (λ (o : Option (AreaOf (Unit {0}))). unwrap_or o no_area) (get_set_other t.areas area.0 q b other) in
       fits_area t (set t.areas area.0 b) area.0 b t.blocks_used c d s z (record {
-        here = area_here t.areas area.0 b there;
-        before = λ q other. ap (λ (o : Option (AreaOf (Unit {0}))). unwrap_or o no_area) (get_set_other t.areas area.0 q b other);
-        stays = λ i e. page i ∙ ap (λ x. cond (is_between first count i) true x) e ∙ either (is_between first count i);
-        some = omega (arith, some, inner, alike.pages);
+        here = here;
+        before = before;
+        stays = pages_stay t (set t.areas area.0 b) area.0 b t.blocks_used here before (λ i e. page i ∙ ap (λ x. cond (is_between first count i) true x) e ∙ either (is_between first count i));
         live_new = λ k i same.
             ap (λ (d : Key → Option Page). is_some (d (key.Shared k i))) m.contents
             ∙ some_added (is_shared_in area first count (key.Shared k i)) (c (key.Shared k i))
@@ -207,7 +188,7 @@ module _ (t : Tables) (area : Area) (first count : ℕ) (none : (area_at t area.
             ∙ no_block (is_some (shared_page t k.0 i)) i (area_at t k.0).file_block (ap (λ (n : ℕ). (area_at t n).file_block) same ∙ none)
             ∙ sym (no_block (is_some (numbered b.pages i)) i a.file_block none);
         block_old = λ k old. ap (λ (x : StoreOf). x.block_of k) m.store;
-        areas_new = ap (λ (x : StoreOf). x.areas area.0) m.store ∙ f.areas area.0 ∙ sym (opened_some (length a.pages) (omega (arith, some, inner))) ∙ ap (λ (n : ℕ). Some n) (sym alike.pages);
+        areas_new = ap (λ (x : StoreOf). x.areas area.0) m.store ∙ f.areas area.0 ∙ ap (λ (n : ℕ). cond (n == 0) None (Some n)) (sym alike.pages);
         areas_old = λ q other. ap (λ (x : StoreOf). x.areas q) m.store;
         counted = omega (arith, ap (λ (x : StoreOf). x.paging_keys) m.store, f.counted, paging_area t area.0 b alike there, area_charge_now a first count none inner);
         room = omega (arith, room, charge_pages);

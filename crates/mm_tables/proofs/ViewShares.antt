@@ -3,18 +3,14 @@ use Rattle.std.proofs.Common.{◌≡◌, ℕ, zero, suc, ◌≤◌, ◌<◌, tru
 use Rattle.std.specs.Prelude.{◌==◌, is_none}
 use Rattle.std.specs.Cmp.{unsigned_Decides}
 use Rattle.std.proofs.Math.Path.{fun_ext}
-use Rattle.mm_types.specs.declared.numbers.Key.{Key}
-use Rattle.mm_types.specs.declared.numbers.Area.{Area}
+use Rattle.mm_types.specs.{Key, Area, Range}
 use Rattle.mm_types.specs.declared.numbers.Key.TheVariants as key
-use Rattle.mm_types.specs.Address.{Range}
-use Rattle.mm_types.proofs.Booleans.{and_false, spread, cond_twice}
-use Rattle.mm_world.specs.World.{Page, AreaOf, filled, numbered}
-use Rattle.mm_world.specs.Failure.{same_key}
-use Rattle.mm_world.proofs.LaidOut.{and-true}
-use Rattle.mm_pages.specs.Store.{StoreOf, changed}
-use Rattle.mm_pages.specs.Reports.{rearranged}
-use Rattle.mm_sections.specs.Pages.{uncommitted_in}
-use Rattle.mm_tables.specs.ViewChanges.{is_shared_in, shared_added, with_shared, CanShare, Shares}
+use Rattle.mm_types.proofs.{and_false, spread, cond_twice}
+use Rattle.mm_world.specs.{Page, AreaOf, filled, numbered, same_key}
+use Rattle.mm_world.proofs.{and-true}
+use Rattle.mm_pages.specs.{StoreOf, changed, rearranged}
+use Rattle.mm_sections.specs.{uncommitted_in}
+use Rattle.mm_tables.specs.{is_shared_in, shared_added, with_shared, CanShare, Shares}
 use Rattle.mm_tables.proofs.Regions.{holds_not}
 use Rattle.mm_tables.proofs.Lists.{count-next, is_between}
 use Rattle.mm_tables.proofs.PageByPage.{holds_only, holds_more, added_twice, some_of, none_of, cond_at, cond_same, rises}

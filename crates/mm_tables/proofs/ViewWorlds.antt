@@ -1,19 +1,11 @@
 -- What stands at the place of a living process, and tables in which one area has other pages.
-use Rattle.std.proofs.Common.{◌≡◌, ℕ, zero, suc, ◌+◌, ◌-◌, ◌≤◌, ◌<◌, true, false, Option, Some, None, List, [], ◌∷◌, refl, sym, ◌∙◌, ap, subst, arith, length, set, get_or, slice_get, is_some, option_map, unwrap_or, length-set}
-use Rattle.mm_types.proofs.Lists.{some_get}
-use Rattle.mm_types.proofs.Options.{same_found}
-use Rattle.mm_world.specs.World.{RegionOf, ProcessOf, AreaOf}
-use Rattle.mm_world.specs.Find.{set_area, area_at, no_area}
-use Rattle.mm_world.specs.Charge.{charge, limit, area_charge}
-use Rattle.mm_world.specs.Contents.{Tables}
+use Rattle.std.proofs.Common.{◌≡◌, ℕ, zero, suc, ◌+◌, ◌-◌, ◌≤◌, ◌<◌, true, false, Option, Some, None, List, [], ◌∷◌, refl, sym, ◌∙◌, ap, subst, arith, length, set, get_or, slice_get, is_some, option_map, unwrap_or}
+use Rattle.mm_types.proofs.{some_get, same_found}
+use Rattle.mm_world.specs.{RegionOf, ProcessOf, AreaOf, set_area, area_at, no_area, charge, limit, area_charge, Tables}
 use Rattle.mm_world.specs.WellFormed.{WellFormed}
-use Rattle.mm_world.proofs.Charges.{sum_by-put}
-use Rattle.mm_tables.specs.Fits.{paging_count}
-use Rattle.mm_tables.specs.References.{IsTidy}
-use Rattle.mm_tables.specs.Shown.{shown_process, shown_processes}
-use Rattle.mm_tables.specs.ViewChanges.{living}
-use Rattle.mm_tables.specs.declared.tables.Process.{Process}
-use Rattle.mm_tables.proofs.SectionTidy.{Alike, alike_same, area_more, settle_by, section_settled, area_settled, rest_of, tidy_by, AreasFit, areas_rest, file_at, lists_well}
+use Rattle.mm_world.proofs.{sum_by-put, AreaChanges}
+use Rattle.mm_tables.specs.{paging_count, IsTidy, shown_process, shown_processes, living, Process}
+use Rattle.mm_tables.proofs.SectionTidy.{Alike, alike_same, area_more, settle_by, section_settled, area_settled, rest_of, tidy_by, AreasFit, areas_rest, file_at, sound_edit}
 use Rattle.mm_tables.proofs.Standing.{lives_where, shown_at, shown_set}
 
 -- ---- by pid
@@ -35,9 +27,8 @@ pub put_at : (ps : List (Option Process)) (pid : ℕ) (y : Option Process) → i
 put_at ps pid y alive = shown_set ps pid y (lives_where ps pid alive).0
 
 set_same : {A : Type 0} (xs : List (Option A)) (i : ℕ) → set xs i (get_or xs i None) ≡ xs
-set_same [] i = refl
-set_same (y ∷ xs) zero = refl
 set_same (y ∷ xs) (suc i) = ap (λ ys. y ∷ ys) (set_same xs i)
+set_same _ _ = refl
 
 -- one that shows as before
 pub still_at : (ps : List (Option Process)) (pid : ℕ) (x y : Option Process) → is_some (living ps pid) ≡ true → x ≡ get_or ps (pid - 1) x → option_map shown_process y ≡ option_map shown_process x → shown_processes (set ps (pid - 1) y) ≡ shown_processes ps
@@ -66,11 +57,9 @@ module _ (t : Tables) (at : ℕ) (b : AreaOf (Unit {0})) (alike : Alike (area_at
   area_cases P n was is = by_list t.areas at n was is
     where
       by_list : (areas : List (AreaOf (Unit {0}))) (at n : ℕ) → P (unwrap_or (slice_get areas n) no_area) → (n ≡ at → P b) → P (unwrap_or (slice_get (set areas at b) n) no_area)
-      by_list [] at n was is = was
       by_list (a ∷ areas) zero zero was is = is refl
-      by_list (a ∷ areas) zero (suc n) was is = was
-      by_list (a ∷ areas) (suc at) zero was is = was
       by_list (a ∷ areas) (suc at) (suc n) was is = by_list areas at n was (λ e. is (ap suc e))
+      by_list _ _ _ was is = was
 
   alike_at : (n : ℕ) → Alike (area_at t n) (area_at (set_area t at b) n)
   alike_at n = area_cases (λ x. Alike (area_at t n) x) n (alike_same (area_at t n)) (λ e. subst (λ (k : ℕ). Alike (area_at t k) b) (sym e) alike)
@@ -94,9 +83,7 @@ module _ (t : Tables) (at : ℕ) (b : AreaOf (Unit {0})) (alike : Alike (area_at
       (areas_rest t (set t.areas at b) t.blocks_used well.references (set_fits none h) (rest_of t h))
 
   pub sound_area : charge (set_area t at b) ≤ limit t → WellFormed t → WellFormed (set_area t at b)
-  sound_area room h =
-      lists_well t t.sections (set t.areas at b) (record { sections = λ n s e. (s, e, refl); pages = λ n. omega (arith, (alike_at n).pages) })
-      (omega (arith, length-set t.areas at b)) (λ n s e. omega (arith, h.references.sections n s e, length-set t.areas at b)) room h
+  sound_area room h = sound_edit t (set_area t at b) (AreaChanges at b alike.pages tt) room h
 
   pub charge_area : at < length t.areas → charge (set_area t at b) + area_charge (area_at t at) ≡ charge t + area_charge b
   charge_area h = omega (arith, sum_by-put area_charge t.areas at (area_at t at) b (some_get t.areas at no_area h))

@@ -1,20 +1,11 @@
 -- What a call does to the keys and places of a range of a process, and to the process's regions
 -- with them.
 use Rattle.std.specs.Prelude.{◌≡◌, ◌≤◌, ◌+◌, ◌==◌, if◌then◌else◌, ℕ, Bool, true, false, cond, is_some, List, Option, Some, None, option_map}
-use Rattle.mm_types.specs.declared.numbers.Key.{Key}
-use Rattle.mm_types.specs.declared.numbers.Pid.{Pid}
-use Rattle.mm_types.specs.declared.numbers.Place.{Place}
-use Rattle.mm_types.specs.Address.{Range, holds_page}
+use Rattle.mm_types.specs.{Key, Pid, Place, Range, holds_page, limit_of, reserve_type}
 use Rattle.mm_types.specs.declared.moves.LineKind.TheVariants as kind
-use Rattle.mm_types.specs.Machine.{limit_of}
-use Rattle.mm_types.specs.Allocation.{reserve_type}
-use Rattle.mm_world.specs.World.{Page, RegionOf}
-use Rattle.mm_world.specs.Find.{region_with}
-use Rattle.mm_world.specs.Keys.{own_page, key_of, committed_at}
-use Rattle.mm_world.specs.Contents.{Tables}
-use Rattle.mm_pages.specs.Store.{StoreOf, changed_in, own_key}
+use Rattle.mm_world.specs.{Page, RegionOf, region_with, own_page, key_of, committed_at, Tables}
+use Rattle.mm_pages.specs.{StoreOf, changed_in, own_key, AllBound, place_at}
 use Rattle.mm_tables.specs.Fits.{store_beside, new_pages}
-use Rattle.mm_pages.specs.Conditions.{AllBound, place_at}
 use Rattle.mm_tables.specs.Ranges.{with_range_keys, removed, flags_set_in, is_page_live}
 
 -- each of the range comes to be, none of it is any more, or all are as they were

@@ -2,22 +2,12 @@
 -- sections.
 use Rattle.std.specs.Prelude.{◌≡◌, ◌≤◌, ◌<◌, ℕ, zero, suc, ◌+◌, ◌-◌, Bool, true, false, ◌&&◌, ◌||◌, ◌==◌, if◌then◌else◌, is_some, Option, Some, None, List, length, count_by, remove}
 use Rattle.mm_types.specs.declared.moves.LineKind.TheVariants as line_kind
-use Rattle.mm_types.specs.declared.numbers.Area.{Area}
-use Rattle.mm_types.specs.declared.numbers.Key.{Key}
+use Rattle.mm_types.specs.{Area, Key, Pid, Place, Range, end_of, end_of_user_pages}
 use Rattle.mm_types.specs.declared.numbers.Key.TheVariants as key
-use Rattle.mm_types.specs.declared.numbers.Pid.{Pid}
-use Rattle.mm_types.specs.declared.numbers.Place.{Place}
-use Rattle.mm_types.specs.Address.{Range, end_of, end_of_user_pages}
-use Rattle.mm_world.specs.World.{Page, AreaOf, RegionOf, ProcessOf, SectionOf, numbered}
-use Rattle.mm_world.specs.Find.{no_area, area_at, process_of, section_of, set_process}
-use Rattle.mm_world.specs.Keys.{own_page}
-use Rattle.mm_world.specs.Sections.{settle}
-use Rattle.mm_world.specs.Failure.{same_key}
-use Rattle.mm_world.specs.Contents.{Tables}
-use Rattle.mm_pages.specs.Store.{StoreOf, changed, changed_in, own_key, is_place_in}
-use Rattle.mm_pages.specs.Reports.{rearranged}
-use Rattle.mm_pages.specs.Leaving.{section_rank}
-use Rattle.mm_pages.specs.Conditions.{AllBound, MayRemove, IsReleasing, place_at}
+use Rattle.mm_world.specs.{Page, AreaOf, RegionOf, ProcessOf, SectionOf, numbered, no_area, area_at, process_of, section_of, set_process, own_page}
+use Rattle.mm_world.specs.{settle, same_key, Tables}
+use Rattle.mm_pages.specs.{StoreOf, changed, changed_in, own_key, rearranged, section_rank, AllBound, MayRemove, IsReleasing, place_at}
+use Rattle.mm_tables.specs.Effects.{Effect, Ends, Leaves, bound_by}
 use Rattle.mm_tables.specs.Fits.{FitsTables, store_beside}
 use Rattle.mm_tables.specs.Ranges.{is_key_in}
 
@@ -76,71 +66,57 @@ is_owned_at regions first i = is_some (own_page regions (first + i))
 abbrev pub is_committed_in : AreaOf (Unit {0}) → ℕ → Bool
 is_committed_in a i = is_some (numbered a.pages i)
 
--- ---- keys and places of a store that are no more
+-- ---- keys that are no more
 
 -- keys that are live are as they were
 abbrev pub Less : (Key → Option Page) → (Key → Option Page) → Type 0
 Less c d = (k : Key) → is_some (d k) ≡ true → d k ≡ c k
-
--- a store after the keys that are held, `n` of them live, and the places that were left
-pub record Lost (held : Key → Bool) (left : Place → Bool) (n : ℕ) (c d : Key → Option Page)
-    (s z : StoreOf) : Type 0 where
-  pub live : (k : Key) → is_some (d k) ≡ (if held k then false else is_some (c k))
-  pub less : Less c d
-  pub paging : (k : Key) → z.paging k ≡ (if held k then false else s.paging k)
-  pub bound : (place : Place) → z.bound place ≡ (if left place then false else s.bound place)
-  pub names : (place : Place) (k : Key) → z.names place ≡ Some k → (s.names place ≡ Some k) ×
-      (left place ≡ false)
-  pub count : z.paging_keys ≡ s.paging_keys - n
-  pub open_same : z.is_open ≡ s.is_open
-  pub room : z.room ≡ s.room
-  pub rest : z ≡ store_beside s z
 
 -- a key of a page of the area
 abbrev pub is_key_of_area : ℕ → Key → Bool
 is_key_of_area area (key.Private pid page) = false
 is_key_of_area area (key.Shared a i) = a.0 == area
 
-abbrev pub nowhere : Place → Bool
-nowhere place = false
-
 -- ---- regions
 
--- pages of a process can be given up: their keys are those of the regions
-pub record CanRelease (pid : Pid) (range : Range) (regions : List (RegionOf (Unit {0})))
-    (c : Key → Option Page) (s : StoreOf) : Type 0 where
+-- what becomes of places that go, or stay
+abbrev pub places_by : Bool → Effect
+places_by goes = if goes then Ends else Leaves
+
+-- pages of a process can be given up: their keys are those of the regions; and their places, or
+-- these stay, and name nothing where there is no key
+pub record CanRelease (goes : Bool) (pid : Pid) (range : Range)
+    (regions : List (RegionOf (Unit {0}))) (c : Key → Option Page) (s : StoreOf) : Type 0 where
   pub live : (i : ℕ) → i < range.count →
       is_some (c (own_at pid range.first i)) ≡ is_owned_at regions range.first i
   pub paging : (i : ℕ) → i < range.count →
       s.paging (own_at pid range.first i) ≡ is_owned_at regions range.first i
-  pub bound : AllBound s pid range true
+  pub bound : goes ≡ true → AllBound s pid range true
+  pub named : goes ≡ false → (i : ℕ) → i < range.count → is_owned_at regions range.first i ≡ false
+      → s.names (place_at pid (range.first + i)) ≡ None
   pub unbinding : s.kind ≡ line_kind.Unbind pid
 
 -- one page can be given up, with its key if it is owned
-pub record CanGiveUp (pid : Pid) (page : ℕ) (owned : Bool) (c : Key → Option Page) (s : StoreOf) :
-    Type 0 where
+pub record CanGiveUp (goes : Bool) (pid : Pid) (page : ℕ) (owned : Bool) (c : Key → Option Page)
+    (s : StoreOf) : Type 0 where
   pub live : is_some (c (own_key (place_at pid page))) ≡ owned
   pub paging : s.paging (own_key (place_at pid page)) ≡ owned
-  pub bound : s.bound (place_at pid page) ≡ true
+  pub bound : goes ≡ true → s.bound (place_at pid page) ≡ true
+  pub named : goes ≡ false → owned ≡ false → s.names (place_at pid page) ≡ None
   pub unbinding : s.kind ≡ line_kind.Unbind pid
 
--- a store after pages of a process were given up: their keys, `n` of them, and their places
-pub record GivenUp (pid : Pid) (range : Range) (n : ℕ) (c d : Key → Option Page) (s z : StoreOf) :
-    Type 0 where
+-- a store after pages of a process were given up: their keys, `n` of them, and what their places
+-- name, which go too or stay bound
+pub record GivenUp (goes : Bool) (pid : Pid) (range : Range) (n : ℕ) (c d : Key → Option Page)
+    (s z : StoreOf) : Type 0 where
   pub contents : d ≡ without_keys (is_key_in pid range) c
   pub store : z ≡ record s {
-    bound = changed_in pid range s.bound false;
+    bound = bound_by (places_by goes) pid range s.bound;
     names = changed_in pid range s.names None;
     paging = without_paging (is_key_in pid range) s.paging;
     paging_keys = s.paging_keys - n;
     report = rearranged s.report z.report;
   }
-
-pub record Released (pid : Pid) (range : Range) (regions : List (RegionOf (Unit {0})))
-    (c d : Key → Option Page) (s z : StoreOf) : Type 0 where
-  pub lost : Lost (is_key_in pid range) (is_place_in pid range)
-      (owned_among (is_owned_at regions range.first) range.count) c d s z
-  pub areas : z.areas ≡ s.areas
 
 -- these user pages of a process are bound no more
 pub record AreUnbound (pid : Pid) (range : Range) (s : StoreOf) : Type 0 where
@@ -165,14 +141,18 @@ pub record CanEnd (area : Area) (a : AreaOf (Unit {0})) (c : Key → Option Page
 -- a store after an area ended that is no file's
 pub record Emptied (area : Area) (a : AreaOf (Unit {0})) (c d : Key → Option Page) (s z : StoreOf) :
     Type 0 where
-  pub lost : Lost (is_key_of_area area.0) nowhere (count_by is_some a.pages) c d s z
-  pub areas : z.areas ≡ changed ◌==◌ s.areas area.0 None
+  pub contents : d ≡ without_keys (is_key_of_area area.0) c
+  pub store : z ≡ record s {
+    paging = without_paging (is_key_of_area area.0) s.paging;
+    paging_keys = s.paging_keys - count_by is_some a.pages;
+    areas = changed ◌==◌ s.areas area.0 None;
+    report = rearranged s.report z.report;
+  }
 
 -- what the end of an area is to the store: nothing where it is a file's
 pub record EndsArea (area : Area) (a : AreaOf (Unit {0})) (c d : Key → Option Page)
     (s z : StoreOf) : Type 0 where
   pub file : (first : ℕ) → a.file_block ≡ Some first → (d ≡ c) × (z ≡ s)
-  pub bound : (place : Place) → z.bound place ≡ s.bound place
   pub emptied : a.file_block ≡ None → Emptied area a c d s z
 
 -- ---- the order in which areas end

@@ -1,17 +1,10 @@
 -- What the making of a file asks and promises.
 use Rattle.std.specs.Prelude.{◌≡◌, ◌≤◌, ◌<◌, ℕ, ◌+◌, length, false, None, Result, IsErrOf, OnOk, OnErr}
-use Rattle.mm_types.specs.declared.faults.MakeFault.{MakeFault}
+use Rattle.mm_types.specs.{MakeFault, Text}
 use Rattle.mm_types.specs.declared.faults.MakeFault.TheVariants as make_fault
-use Rattle.mm_types.specs.Spelling.{Text}
-use Rattle.mm_blocks.specs.Devices.{CallFailed}
-use Rattle.mm_world.specs.Contents.{Tables, blank}
-use Rattle.mm_world.specs.Processes.{new_file}
-use Rattle.mm_world.specs.Sections.{file_named}
-use Rattle.mm_pages.specs.declared.pages.Pages.{Ghosts as PagesGhosts}
-use Rattle.mm_pages.specs.Housekeeping.{Turns, Makes}
-use Rattle.mm_pages.specs.Passing.{NotesIn, FileMade}
-use Rattle.mm_pages.specs.Reports.{Served}
-use Rattle.mm_pages.specs.Store.{with_file}
+use Rattle.mm_blocks.specs.{CallFailed}
+use Rattle.mm_world.specs.{Tables, blank, new_file, file_named}
+use Rattle.mm_pages.specs.{Ghosts as PagesGhosts, Turns, Makes, NotesIn, FileMade, Served, with_file}
 use Rattle.mm_tables.specs.Fits.{FitsTables, beside_file}
 
 -- no file has the name, and there are blocks for its pages

@@ -1,31 +1,15 @@
 -- What the tables say of a store, and what a call does to both.
 use Rattle.std.specs.Prelude.{◌≡◌, ◌≤◌, ℕ, ◌+◌, ◌-◌, Bool, true, false, not, ◌&&◌, ◌==◌, nat_le, nat_lt, if◌then◌else◌, is_some, List, length, slice_get, count_by, sum_by, Option, Some, None, unwrap_or, option_map, option_and_then}
-use Rattle.mm_types.specs.declared.answers.Answer.{Answer}
+use Rattle.mm_types.specs.{Answer, Key, Place, View, Kind, base_of, reserve_type, Range, holds_page, Text}
 use Rattle.mm_types.specs.declared.answers.Answer.TheVariants as answer
-use Rattle.mm_types.specs.declared.numbers.Key.{Key}
 use Rattle.mm_types.specs.declared.numbers.Key.TheVariants as key
-use Rattle.mm_types.specs.declared.numbers.Place.{Place}
-use Rattle.mm_types.specs.declared.views.View.{View}
-use Rattle.mm_types.specs.declared.views.Kind.{Kind}
-use Rattle.mm_types.specs.Protection.{base_of}
-use Rattle.mm_types.specs.Allocation.{reserve_type}
-use Rattle.mm_world.specs.Failure.{same_key}
-use Rattle.mm_spaces.specs.Tables.{unmarked_in}
+use Rattle.mm_world.specs.{same_key, Page, RegionOf, ProcessOf, WorldOf, filled, Found, process_of, region_with, region_around, area_at, charge}
+use Rattle.mm_world.specs.{area_charge, Committed, committed_at, key_of, shared_key, content_of, is_file_key, OutcomeOf, done, grow, new_file}
+use Rattle.mm_world.specs.{most_slots, flush, flushed_view, flushed_range, is_failed_extension, is_ok, Tables, BytesAfter, blank}
+use Rattle.mm_spaces.specs.{unmarked_in}
 use Rattle.mm_types.specs.declared.views.Kind.TheVariants as view_kind
-use Rattle.mm_types.specs.Address.{Range, holds_page}
-use Rattle.mm_types.specs.Spelling.{Text}
-use Rattle.mm_world.specs.World.{Page, RegionOf, ProcessOf, WorldOf, filled}
-use Rattle.mm_world.specs.Find.{Found, process_of, region_with, region_around, area_at}
-use Rattle.mm_world.specs.Charge.{charge, area_charge}
-use Rattle.mm_world.specs.Keys.{Committed, committed_at, key_of, shared_key, content_of, is_file_key}
-use Rattle.mm_world.specs.Outcome.{OutcomeOf, done}
-use Rattle.mm_world.specs.Processes.{grow, new_file, most_slots}
-use Rattle.mm_world.specs.Views.{flush, flushed_view, flushed_range}
 use Rattle.mm_world.specs.Report.{Report}
-use Rattle.mm_world.specs.Step.{is_failed_extension, is_ok}
-use Rattle.mm_world.specs.Contents.{Tables, BytesAfter, blank}
-use Rattle.mm_pages.specs.Store.{StoreOf, changed, same_place, own_key}
-use Rattle.mm_pages.specs.Reports.{rearranged, begun, called, wrote}
+use Rattle.mm_pages.specs.{StoreOf, changed, same_place, own_key, rearranged, begun, called, wrote}
 
 -- the bytes of a key; of one that is not live zeros
 abbrev pub key_bytes : (Key → Option Page) → Key → Page

@@ -1,8 +1,7 @@
 -- What is known of pages before each is looked up: whether it has bytes of its own.
 use Rattle.std.specs.Prelude.{◌≡◌, ◌<◌, ◌+◌, ℕ, Bool, List, Option, IfSome, is_some}
-use Rattle.mm_types.specs.Address.{Range}
-use Rattle.mm_world.specs.World.{RegionOf}
-use Rattle.mm_world.specs.Keys.{own_page}
+use Rattle.mm_types.specs.{Range}
+use Rattle.mm_world.specs.{RegionOf, own_page}
 
 -- of one page
 abbrev pub KnownAt : Option Bool → List (RegionOf (Unit {0})) → ℕ → Type 0

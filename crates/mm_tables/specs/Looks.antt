@@ -1,10 +1,6 @@
 -- What the tables tell of a page, of a handle, and of an access.
 use Rattle.std.specs.Prelude.{ℕ, Bool, ◌&&◌, not, is_some, Option, option_map, option_and_then}
-use Rattle.mm_world.specs.World.{SectionOf}
-use Rattle.mm_world.specs.Find.{Found, process_of}
-use Rattle.mm_world.specs.Keys.{Home, Own, InSection, Committed, committed_at, key_of}
-use Rattle.mm_world.specs.Sections.{handle_section}
-use Rattle.mm_world.specs.Contents.{Tables}
+use Rattle.mm_world.specs.{SectionOf, Found, process_of, Home, Own, InSection, Committed, committed_at, key_of, handle_section, Tables}
 use Rattle.mm_tables.specs.declared.looks.CommittedRow.{CommittedRow}
 use Rattle.mm_tables.specs.declared.looks.HandleSection.{HandleSection}
 use Rattle.std.specs.Prelude.{true, false}

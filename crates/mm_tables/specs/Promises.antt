@@ -1,31 +1,21 @@
 -- What a family of calls asks and promises of tables, store and moves together.
 use Rattle.std.specs.Prelude.{◌≡◌, ◌≤◌, ℕ, ◌+◌, ◌-◌, ◌%◌, Bool, true, false, is_some, List, Option, Some, None, Result, OnErr, option_map}
-use Rattle.mm_types.specs.Address.{Range, end_of, end_of_user_pages, is_free}
-use Rattle.mm_types.specs.declared.faults.NoMemory.{NoMemory}
-use Rattle.mm_types.specs.declared.moves.LineKind.{LineKind}
+use Rattle.mm_types.specs.{Range, end_of, end_of_user_pages, is_free, NoMemory, LineKind, Pid, View, limit_of}
 use Rattle.mm_types.specs.declared.moves.LineKind.TheVariants as line_kind
-use Rattle.mm_types.specs.declared.numbers.Pid.{Pid}
 use Rattle.mm_types.specs.declared.views.Kind.TheVariants as kind
-use Rattle.mm_types.specs.declared.views.View.{View}
-use Rattle.mm_types.specs.Machine.{limit_of}
-use Rattle.mm_world.specs.World.{RegionOf, ProcessOf, pages_of}
-use Rattle.mm_world.specs.Find.{Found, process_of, region_around, ranges_of, area_at, is_private}
-use Rattle.mm_world.specs.Contents.{Tables}
-use Rattle.mm_world.specs.Free.{private_at}
-use Rattle.mm_world.specs.Rows.{is_protection_among, private_protections, all_protections, is_committed_at, every_page, accepts}
-use Rattle.mm_sections.specs.Pages.{uncommitted_in}
-use Rattle.mm_spaces.specs.Tables.{owned_in}
-use Rattle.mm_pages.specs.declared.pages.Pages.{Ghosts as PagesGhosts}
-use Rattle.mm_pages.specs.Conditions.{AllBound, AreAmong}
-use Rattle.mm_pages.specs.Housekeeping.{Turn, Turns, Makes as Making, MakesFrom, Ends as Ending}
-use Rattle.mm_pages.specs.Leaving.{Leaving, leaving, page_rank}
-use Rattle.mm_pages.specs.Passing.{PassesIn}
+use Rattle.mm_world.specs.{RegionOf, ProcessOf, pages_of, Found, process_of, region_around, ranges_of, area_at, is_private, Tables, private_at}
+use Rattle.mm_world.specs.{is_protection_among, private_protections, all_protections, is_committed_at, every_page, accepts}
+use Rattle.mm_sections.specs.{uncommitted_in}
+use Rattle.mm_spaces.specs.{owned_in}
+use Rattle.mm_pages.specs.{Ghosts as PagesGhosts, AllBound, AreAmong, Turn, Turns, Makes as Making, MakesFrom, leaving, page_rank, PassesIn}
+use Rattle.mm_pages.specs.Housekeeping.{Ends as Ending}
+use Rattle.mm_pages.specs.Leaving.{Leaving}
 use Rattle.mm_tables.specs.declared.tables.Process.{Process}
 use Rattle.mm_tables.specs.Shown.{shown_process}
-use Rattle.mm_tables.specs.Effects.{Effect, Ends, RangeStored, Roomier}
-use Rattle.mm_tables.specs.Endings.{Less, Toward, CanRelease}
+use Rattle.mm_tables.specs.Effects.{Effect, RangeStored, Roomier}
+use Rattle.mm_tables.specs.Endings.{Less, Toward, CanRelease, GivenUp}
 use Rattle.mm_tables.specs.Fits.{FitsTables, Settled, before_process, is_uncommitted, new_marks}
-use Rattle.mm_tables.specs.Ranges.{CanAdd, CanRemove, passing, is_page_live}
+use Rattle.mm_tables.specs.Ranges.{CanAdd, passing, is_page_live}
 use Rattle.mm_tables.specs.Spaces.{process_regions, RegionsBecame}
 use Rattle.mm_tables.specs.ViewChanges.{NewPlaces}
 
@@ -122,11 +112,11 @@ module _ {G : Type 0} (p : PagesGhosts G) where
     pub end : end_of range ≤ end_of_user_pages
     pub can : CanAdd pid range regions (p.contents g) (record (p.store g) { room = total })
 
-  -- the keys of these user pages can be removed
-  pub record CanRemoveIn (pid : Pid) (range : Range) (regions : List (RegionOf (Unit {0})))
-      (g : G) : Type 0 where
+  -- these user pages can be given up
+  pub record CanRemoveIn (goes : Bool) (pid : Pid) (range : Range)
+      (regions : List (RegionOf (Unit {0}))) (g : G) : Type 0 where
     pub end : end_of range ≤ end_of_user_pages
-    pub can : CanRemove pid range regions (p.contents g) (p.store g)
+    pub can : CanRelease goes pid range regions (p.contents g) (p.store g)
 
   -- places of an open process that are not bound can be, with room for `total` keys
   pub record CanBind (pid : Pid) (range : Range) (total : ℕ) (g : G) : Type 0 where
@@ -141,7 +131,7 @@ module _ {G : Type 0} (p : PagesGhosts G) where
     pub around : (q : ProcessOf (Unit {0})) → option_map shown_process process ≡ Some q →
         is_some (region_around q.regions range) ≡ true
     pub can : (q : ProcessOf (Unit {0})) → option_map shown_process process ≡ Some q →
-        CanRelease pid range q.regions (p.contents g) (p.store g)
+        CanRelease true pid range q.regions (p.contents g) (p.store g)
 
   -- ---- moves
 
@@ -161,8 +151,11 @@ module _ {G : Type 0} (p : PagesGhosts G) where
     pub passes : (turn : Turn) → PassesAs turn g h
     pub loans : p.loans h ≡ p.loans g
 
-  -- pages of this range of a process go
-  pub record EndsPages (pid : Pid) (range : Range) (g h : G) : Type 0 where
+  -- pages of this range of a process are given up
+  pub record GivesUp (goes : Bool) (pid : Pid) (range : Range) (g h : G) : Type 0 where
+    pub given_up : GivenUp goes pid range
+        (passing (is_page_live pid (p.contents g)) range.first range.count) (p.contents g)
+        (p.contents h) (p.store g) (p.store h)
     pub passes : (held : Leaving) (from to : ℕ) → AreAmong held from to pid range →
         PassesAs (Ending held from to) g h
     pub loans : p.loans h ≡ p.loans g
@@ -191,14 +184,6 @@ module _ {G : Type 0} (p : PagesGhosts G) where
         (p.store h)
     pub counted : (p.store h).paging_keys ≡ (p.store g).paging_keys + n
     pub room : total ≤ (p.store h).room
-
-  -- one without the keys of the range
-  pub record RemovesKeys (pid : Pid) (range : Range) (places : Effect) (g h : G) : Type 0 where
-    pub stored : RangeStored pid range Ends places true (p.contents g) (p.contents h) (p.store g)
-        (p.store h)
-    pub counted : (p.store h).paging_keys ≡
-        (p.store g).paging_keys - passing (is_page_live pid (p.contents g)) range.first range.count
-    pub room : (p.store h).room ≡ (p.store g).room
 
   -- one in which the places of the range are bound, with room for `total` keys
   pub record BindsPlaces (pid : Pid) (range : Range) (total : ℕ) (g h : G) : Type 0 where

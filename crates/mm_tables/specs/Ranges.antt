@@ -1,15 +1,10 @@
 -- A store with the private keys of a range of pages added or removed.
 use Rattle.std.specs.Prelude.{◌≡◌, ◌≤◌, ℕ, zero, suc, ◌+◌, ◌-◌, ◌/◌, Bool, true, false, not, ◌&&◌, ◌==◌, if◌then◌else◌, is_some, Option, Some, None, unwrap_or, List}
-use Rattle.mm_types.specs.declared.numbers.Key.{Key}
+use Rattle.mm_types.specs.{Key, Pid, Range, holds_page}
 use Rattle.mm_types.specs.declared.numbers.Key.TheVariants as key
-use Rattle.mm_types.specs.declared.numbers.Pid.{Pid}
 use Rattle.mm_types.specs.declared.moves.LineKind.TheVariants as kind
-use Rattle.mm_types.specs.Address.{Range, holds_page}
-use Rattle.mm_world.specs.World.{Page, RegionOf, filled}
-use Rattle.mm_world.specs.Keys.{own_page}
-use Rattle.mm_pages.specs.Store.{StoreOf, changed_in, own_key}
-use Rattle.mm_pages.specs.Conditions.{AllBound, place_at}
-use Rattle.mm_pages.specs.Reports.{rearranged}
+use Rattle.mm_world.specs.{Page, RegionOf, filled, own_page}
+use Rattle.mm_pages.specs.{StoreOf, own_key, AllBound, place_at, rearranged}
 
 -- a private key of one of the pages of a process
 abbrev pub is_key_in : Pid → Range → Key → Bool
@@ -50,16 +45,6 @@ with_keys pid range count old new =
       report = rearranged old.report new.report;
     }
 
--- the store after they were removed
-abbrev pub store_without_keys : Pid → Range → ℕ → StoreOf → StoreOf → StoreOf
-store_without_keys pid range count old new =
-    record old {
-      names = changed_in pid range old.names None;
-      paging = flags_set_in pid range old.paging false;
-      paging_keys = old.paging_keys - count;
-      report = rearranged old.report new.report;
-    }
-
 -- keys can be added where these pages of a process, which regions have, hold none
 pub record CanAdd (pid : Pid) (range : Range) (regions : List (RegionOf (Unit {0})))
     (c : Key → Option Page) (s : StoreOf) : Type 0 where
@@ -72,17 +57,6 @@ pub record CanAdd (pid : Pid) (range : Range) (regions : List (RegionOf (Unit {0
       s.paging (own_key (place_at pid page)) ≡ is_page_live pid c page
   pub room : s.paging_keys + passing (is_page_dead pid c) range.first range.count ≤ s.room
   pub called : s.kind ≡ kind.Call
-
--- those that these pages hold can be removed
-pub record CanRemove (pid : Pid) (range : Range) (regions : List (RegionOf (Unit {0})))
-    (c : Key → Option Page) (s : StoreOf) : Type 0 where
-  pub live : (page : ℕ) → holds_page range page ≡ true →
-      is_page_live pid c page ≡ is_some (own_page regions page)
-  pub named : (page : ℕ) → holds_page range page ≡ true → is_page_live pid c page ≡ false →
-      s.names (place_at pid page) ≡ None
-  pub paging : (page : ℕ) → holds_page range page ≡ true →
-      s.paging (own_key (place_at pid page)) ≡ is_page_live pid c page
-  pub unbinding : s.kind ≡ kind.Unbind pid
 
 -- these pages stand from one number to before another
 abbrev pub StandsFrom : ℕ → ℕ → Range → Type 0
@@ -110,10 +84,3 @@ high_half range = record {
 pub record Adds (pid : Pid) (range : Range) (c d : Key → Option Page) (s z : StoreOf) : Type 0 where
   pub contents : d ≡ with_range_keys pid range c
   pub store : z ≡ with_keys pid range (passing (is_page_dead pid c) range.first range.count) s z
-
--- what removing keys comes to
-pub record Removes (pid : Pid) (range : Range) (c d : Key → Option Page) (s z : StoreOf) :
-    Type 0 where
-  pub contents : d ≡ removed pid range c
-  pub store : z ≡ store_without_keys pid range
-      (passing (is_page_live pid c) range.first range.count) s z

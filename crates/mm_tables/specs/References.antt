@@ -1,9 +1,6 @@
 -- How many handles and views refer to a section, and how much was made.
 use Rattle.std.specs.Prelude.{◌≡◌, ◌≤◌, ℕ, ◌+◌, ◌-◌, ◌^◌, ◌≢◌, is_some, true, length, count_by, sum_by, Option, Some, None}
-use Rattle.mm_world.specs.World.{ProcessOf, SectionOf, KeptOf, WorldOf, numbered}
-use Rattle.mm_world.specs.Find.{process_of, section_of, area_at}
-use Rattle.mm_world.specs.Sections.{is_handle_to, is_view_of, settle}
-use Rattle.mm_world.specs.WellFormed.{Each}
+use Rattle.mm_world.specs.{ProcessOf, SectionOf, KeptOf, WorldOf, numbered, process_of, section_of, area_at, is_handle_to, is_view_of, settle, Each}
 
 module _ {B : Type 0} where
   -- ---- references

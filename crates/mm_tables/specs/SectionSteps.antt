@@ -1,13 +1,11 @@
 -- The steps in which a section is made: room for a handle, and the keys of a new area.
 use Rattle.std.specs.Prelude.{◌≡◌, ◌≤◌, ◌<◌, ℕ, ◌+◌, ◌-◌, ◌^◌, Bool, true, false, ◌&&◌, ◌==◌, nat_le, nat_lt, if◌then◌else◌, is_some, List, length, Option, Some, None}
-use Rattle.mm_types.specs.declared.numbers.Area.{Area}
-use Rattle.mm_types.specs.declared.numbers.Key.{Key}
+use Rattle.mm_types.specs.{Area, Key}
 use Rattle.mm_types.specs.declared.numbers.Key.TheVariants as key
 use Rattle.mm_types.specs.declared.moves.LineKind.TheVariants as kind
-use Rattle.mm_world.specs.World.{Page, ProcessOf, numbered, filled}
-use Rattle.mm_pages.specs.Store.{StoreOf, changed}
-use Rattle.mm_pages.specs.Reports.{rearranged}
-use Rattle.mm_sections.specs.Directories.{DirectoryOf}
+use Rattle.mm_world.specs.{Page, ProcessOf, numbered, filled}
+use Rattle.mm_pages.specs.{StoreOf, changed, rearranged}
+use Rattle.mm_sections.specs.{DirectoryOf}
 use Rattle.mm_tables.specs.declared.tables.Process.{Process}
 use Rattle.mm_tables.specs.Shown.{shown_processes}
 

@@ -1,9 +1,8 @@
 -- The tables as they are kept.
 use Rattle.std.specs.Prelude.{◌∷◌, ℕ, ◌==◌, if◌then◌else◌, List, Option, Some, None, map, option_map}
-use Rattle.mm_types.specs.Machine.{MachineOf}
-use Rattle.mm_world.specs.World.{ProcessOf, AreaOf, FileOf, KeptOf, StackOf, Numbered}
-use Rattle.mm_world.specs.Contents.{Tables}
-use Rattle.mm_sections.specs.Directories.{CountedSection, sections_of}
+use Rattle.mm_types.specs.{MachineOf}
+use Rattle.mm_world.specs.{ProcessOf, AreaOf, FileOf, KeptOf, StackOf, Numbered, Tables}
+use Rattle.mm_sections.specs.{CountedSection, sections_of}
 use Rattle.mm_tables.specs.declared.waiting.Kept.{Kept}
 use Rattle.mm_tables.specs.declared.tables.Process.{Process}
 

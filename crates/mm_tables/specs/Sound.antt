@@ -1,11 +1,9 @@
 -- What the tables keep.
 use Rattle.std.specs.Prelude.{◌≡◌, ℕ, Some}
-use Rattle.mm_commit.specs.Charge.{CommitOf}
-use Rattle.mm_world.specs.World.{Numbered, numbered}
-use Rattle.mm_world.specs.Charge.{charge, limit}
-use Rattle.mm_world.specs.Contents.{Tables}
+use Rattle.mm_commit.specs.{CommitOf}
+use Rattle.mm_world.specs.{Numbered, numbered, charge, limit, Tables}
 use Rattle.mm_world.specs.WellFormed.{WellFormed}
-use Rattle.mm_sections.specs.Directories.{CountedSection}
+use Rattle.mm_sections.specs.{CountedSection}
 use Rattle.mm_tables.specs.References.{IsTidy, handles_to, views_of}
 
 -- the references to a section are counted

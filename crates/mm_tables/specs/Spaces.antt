@@ -1,6 +1,6 @@
 -- What stands at a process's place: its regions, and other regions in their place.
 use Rattle.std.specs.Prelude.{◌≡◌, List, [], Option, Some, option_map, unwrap_or}
-use Rattle.mm_world.specs.World.{RegionOf}
+use Rattle.mm_world.specs.{RegionOf}
 use Rattle.mm_tables.specs.declared.tables.Process.{Process}
 use Rattle.mm_tables.specs.Shown.{shown_process}
 

@@ -1,7 +1,7 @@
 -- What an access that a thread keeps asks for.
 use Rattle.std.specs.Prelude.{◌+◌, ◌%◌, ◌≤◌, length}
 use Rattle.std.specs.Coded.{×_prop, le_prop}
-use Rattle.mm_types.specs.declared.events.AccessSpec.{AccessSpec}
+use Rattle.mm_types.specs.{AccessSpec}
 use Rattle.mm_types.specs.declared.events.AccessSpec.TheVariants as spec
 
 -- it lies in one page, and a read is of 1 to 64 bytes

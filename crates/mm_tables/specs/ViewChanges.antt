@@ -1,20 +1,13 @@
 -- A store in which the places of a new view are bound, and one in which pages of a section come to
 -- be.
 use Rattle.std.specs.Prelude.{◌≡◌, ◌≤◌, ◌<◌, ℕ, ◌+◌, ◌==◌, ◌&&◌, Bool, true, false, nat_le, nat_lt, if◌then◌else◌, is_some, List, length, slice_get, Option, Some, None, unwrap_or}
-use Rattle.mm_types.specs.declared.numbers.Area.{Area}
-use Rattle.mm_types.specs.declared.numbers.Key.{Key}
+use Rattle.mm_types.specs.{Area, Key, Pid, View, Range}
 use Rattle.mm_types.specs.declared.numbers.Key.TheVariants as key
-use Rattle.mm_types.specs.declared.numbers.Pid.{Pid}
 use Rattle.mm_types.specs.declared.moves.LineKind.TheVariants as kind
-use Rattle.mm_types.specs.declared.views.View.{View}
-use Rattle.mm_types.specs.Address.{Range}
-use Rattle.mm_world.specs.World.{Page, AreaOf, ProcessOf, RegionOf, SectionOf, filled, numbered}
-use Rattle.mm_world.specs.Find.{Found, no_area, region_around, is_private}
-use Rattle.mm_world.specs.Rows.{accepts, every_page}
-use Rattle.mm_world.specs.Views.{view_region}
-use Rattle.mm_pages.specs.Store.{StoreOf, changed_in}
-use Rattle.mm_pages.specs.Reports.{rearranged}
-use Rattle.mm_sections.specs.Pages.{uncommitted_in}
+use Rattle.mm_world.specs.{Page, AreaOf, ProcessOf, RegionOf, SectionOf, filled, numbered, Found, no_area, region_around, is_private, accepts}
+use Rattle.mm_world.specs.{every_page, view_region}
+use Rattle.mm_pages.specs.{StoreOf, changed_in, rearranged}
+use Rattle.mm_sections.specs.{uncommitted_in}
 use Rattle.mm_tables.specs.declared.tables.Process.{Process}
 use Rattle.mm_tables.specs.Shown.{shown_processes}
 

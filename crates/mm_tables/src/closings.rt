@@ -1,14 +1,9 @@
-ghost use Rattle.std.specs.Prelude.{if◌then◌else◌, ℕ, Bool, ◌≡◌, ◌≤◌, ◌/◌, true, is_some, Option, Some, None, IsSomeAnd, option_map, slice_set, remove, length};
-ghost use Rattle.mm_types.specs.declared.numbers.Place.{Place};
-ghost use Rattle.mm_world.specs.World.{RegionOf, ProcessOf, numbered};
-ghost use Rattle.mm_world.specs.Find.{Found};
-ghost use Rattle.mm_world.specs.Views.{view_at};
-ghost use Rattle.mm_sections.specs.Directories.{CountedSection, section_settled, one_handle_less, one_view_less};
-ghost use Rattle.mm_sections.specs.Handles.{held};
-ghost use Rattle.mm_spaces.specs.Tables.{owned_in, marked_in};
+ghost use Rattle.std.specs.Prelude.{if◌then◌else◌, ℕ, ◌≡◌, ◌≤◌, ◌/◌, true, is_some, Some, None, IsSomeAnd, option_map, slice_set, remove};
+ghost use Rattle.mm_world.specs.{RegionOf, ProcessOf, numbered, Found, view_at};
+ghost use Rattle.mm_sections.specs.{CountedSection, section_settled, one_handle_less, one_view_less, held};
+ghost use Rattle.mm_spaces.specs.{marked_in};
 ghost use Rattle.mm_tables.specs.Shown.{shown_process};
-ghost use Rattle.mm_tables.specs.Endings.{Released, AreUnbound};
-ghost use Rattle.mm_tables.specs.Promises.{CanLose, EndsPages};
+ghost use Rattle.mm_tables.specs.Promises.{CanLose, GivesUp};
 
 use crate::removals::release_pages;
 use crate::tables::Process;
@@ -117,50 +112,14 @@ pub(crate) fn unmap_in<G: Pages>(
         }) }
     ensures marked { (p : ProcessOf (Unit {0})) → option_map shown_process process.old ≡ Some p →
         result ≡ marked_in p.regions range }
-    ensures released { (p : ProcessOf (Unit {0})) → option_map shown_process process.old ≡ Some p →
-        Released pid range p.regions (G.contents g.old) (G.contents g.new) (G.store g.old)
-        (G.store g.new) }
-    ensures unbound { AreUnbound pid range (G.store g.new) }
-    ensures ends { EndsPages G.Pages pid range g.old g.new }
+    ensures gives_up { GivesUp G.Pages true pid range g.old g.new }
 {
     match process {
         Some(process) => {
             let marked = process.space.marked(range);
-            release_pages(g, &process.space, pid, range);
+            release_pages(g, &process.space, pid, range, true);
             process.space.remove(addr);
             marked
-        }
-        None => unreachable!(),
-    }
-}
-
-/// Releases the lowest region of a process, which has these pages. Tells how many of them had bytes
-/// of their own.
-pub(crate) fn release_in<G: Pages>(
-    process: &mut Option<Process>,
-    g: &mut G,
-    pid: Pid,
-    range: PageRange,
-) -> u32
-    requires can { CanLose G.Pages process.old pid range g.old }
-    requires there { (p : ProcessOf (Unit {0})) → option_map shown_process process.old ≡ Some p →
-        1 ≤ length p.regions }
-    ensures removed { (p : ProcessOf (Unit {0})) → option_map shown_process process.old ≡ Some p →
-        option_map shown_process process.new ≡ Some (record p {
-          regions = remove p.regions 0;
-        }) }
-    ensures owned { (p : ProcessOf (Unit {0})) → option_map shown_process process.old ≡ Some p →
-        result ≡ owned_in p.regions range }
-    ensures released { (p : ProcessOf (Unit {0})) → option_map shown_process process.old ≡ Some p →
-        Released pid range p.regions (G.contents g.old) (G.contents g.new) (G.store g.old)
-        (G.store g.new) }
-    ensures ends { EndsPages G.Pages pid range g.old g.new }
-{
-    match process {
-        Some(process) => {
-            let owned = release_pages(g, &process.space, pid, range);
-            process.space.remove_lowest();
-            owned
         }
         None => unreachable!(),
     }

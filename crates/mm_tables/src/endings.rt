@@ -1,21 +1,18 @@
-ghost use Rattle.std.specs.Prelude.{◌≡◌, ◌≤◌, ◌<◌, ◌+◌, ◌/◌, ℕ, Bool, true, is_some, Some, None, option_map, slice_set, slice_get, remove};
+ghost use Rattle.std.specs.Prelude.{◌≡◌, ◌≤◌, ◌<◌, ◌+◌, ◌/◌, ℕ, Bool, true, is_some, Some, None, option_map, slice_set, remove};
 ghost use Rattle.mm_types.specs.declared.moves.LineKind.TheVariants as line_kind;
 ghost use Rattle.mm_types.specs.declared.views.Kind.TheVariants as kind;
-ghost use Rattle.mm_types.specs.declared.numbers.Place.{Place};
+ghost use Rattle.mm_types.specs.{Place};
 ghost use Rattle.mm_pages.specs.Housekeeping.{Ends, Goes};
-ghost use Rattle.mm_pages.specs.Leaving.{Leaving, leaving};
-ghost use Rattle.mm_world.specs.World.{RegionOf, ProcessOf};
-ghost use Rattle.mm_world.specs.Find.{Found, process_of, set_regions, set_process};
-ghost use Rattle.mm_world.specs.Sections.{handle_section, settle};
-ghost use Rattle.mm_world.specs.Views.{view_at};
-ghost use Rattle.mm_pages.specs.Conditions.{AreAmong, IsReleasing};
-ghost use Rattle.mm_spaces.specs.Tables.{found_info, info_of};
+ghost use Rattle.mm_pages.specs.{leaving, AreAmong, IsReleasing};
+ghost use Rattle.mm_pages.specs.Leaving.{Leaving};
+ghost use Rattle.mm_world.specs.{RegionOf, ProcessOf, Found, process_of, set_regions, set_process, handle_section, settle, view_at};
+ghost use Rattle.mm_spaces.specs.{found_info};
 ghost use Rattle.mm_tables.specs.Fits.{FitsTables, Settled, is_uncommitted};
 ghost use Rattle.mm_tables.specs.Endings.{AreUnbound, IsRankFor};
 ghost use Rattle.mm_tables.specs.Promises.{IsReadyFor, PassesAs, Shrinks};
 
 use crate::Tables;
-use crate::closings::{close_in, drop_view_of, release_in, unmap_in};
+use crate::closings::{close_in, drop_view_of, unmap_in};
 use crate::removals::end_area;
 use mm_pages::Pages;
 use mm_spaces::PageRange;
@@ -78,25 +75,6 @@ impl Tables {
             let pages = &mut self.areas[area.0 as usize];
             end_area(g, pages, &mut self.commit, area);
         }
-    }
-
-    /// Releases the lowest region of a process, which is private and has these pages.
-    pub(crate) fn release_lowest<G: Pages>(&mut self, g: &mut G, pid: Pid, range: PageRange)
-        requires ready { IsReadyFor G.Pages (line_kind.Unbind pid) pid self.old g.old }
-        requires there { (p : ProcessOf (Unit {0})) → process_of self.old pid.0 ≡ Some p →
-            option_map info_of (slice_get p.regions 0) ≡ Some (record {
-              pages = range;
-              kind = kind.Private;
-            }) }
-        ensures removed { (p : ProcessOf (Unit {0})) → process_of self.old pid.0 ≡ Some p →
-            self.new ≡ set_regions self.old pid.0 p (remove p.regions 0) }
-        ensures shrinks { Shrinks G.Pages self.new g.old g.new }
-        ensures passes { (held : Leaving) (from to : ℕ) → AreAmong held from to pid range →
-            PassesAs G.Pages (Ends held from to) g.old g.new }
-    {
-        let process = &mut self.processes[pid.0 as usize - 1];
-        let owned = release_in(process, g, pid, range);
-        self.commit.refund(owned);
     }
 
     /// Closes a handle that a process has. A section to which nothing refers any more ends, and

@@ -1,19 +1,14 @@
 ghost use Rattle.std.specs.Prelude.{◌≡◌, ◌≤◌, ◌<◌, ◌^◌, ◌==◌, [], ℕ, Bool, true, is_some, map, Some, None, IfSome, option_map, position, slice_get};
 ghost use Rattle.mm_types.specs.declared.moves.LineKind.TheVariants as line_kind;
-ghost use Rattle.mm_types.specs.declared.numbers.Place.{Place};
-ghost use Rattle.mm_pages.specs.Conditions.{AreAmong, place_at};
-ghost use Rattle.mm_pages.specs.Housekeeping.{Turn, Ends, Goes};
-ghost use Rattle.mm_pages.specs.Leaving.{Leaving, leaving, page_rank};
-ghost use Rattle.mm_types.specs.Address.{end_of, end_of_user_pages};
-ghost use Rattle.mm_world.specs.World.{ProcessOf};
-ghost use Rattle.mm_world.specs.Find.{process_of, set_process, end_stacks};
-ghost use Rattle.mm_world.specs.Processes.{kept_of_others};
-ghost use Rattle.mm_world.specs.Sections.{settle};
+ghost use Rattle.mm_types.specs.{Place, end_of, end_of_user_pages};
+ghost use Rattle.mm_pages.specs.{AreAmong, place_at, Turn, leaving, page_rank};
+ghost use Rattle.mm_pages.specs.Housekeeping.{Ends, Goes};
+ghost use Rattle.mm_pages.specs.Leaving.{Leaving};
+ghost use Rattle.mm_world.specs.{ProcessOf, process_of, set_process, end_stacks, kept_of_others, settle};
 ghost use Rattle.mm_world.specs.WellFormed.{WellFormed};
-ghost use Rattle.mm_sections.specs.Handles.{handle_at};
-ghost use Rattle.mm_spaces.specs.Tables.{info_of};
+ghost use Rattle.mm_sections.specs.{handle_at};
+ghost use Rattle.mm_spaces.specs.{info_of};
 ghost use Rattle.mm_tables.specs.References.{IsTidy, NobodyKeeps};
-ghost use Rattle.mm_tables.specs.Shown.{shown_process};
 ghost use Rattle.mm_tables.specs.Fits.{FitsTables, Settled};
 ghost use Rattle.mm_tables.specs.Endings.{Fewer, HasNoHandle, IsRankFor};
 ghost use Rattle.mm_tables.specs.Promises.{IsReadyFor, PassesAs, Shrinks, Nears};
@@ -32,20 +27,6 @@ fn empty_place(process: &mut Option<Process>)
 }
 
 impl Tables {
-    /// A living process.
-    fn process(&self, pid: Pid) -> &Process
-        requires lives { is_some (process_of self.now pid.0) ≡ true }
-        ensures shown { (p : ProcessOf (Unit {0})) → process_of self.now pid.0 ≡ Some p →
-            shown_process result.now ≡ p }
-        ensures sound { WellFormed self.now }
-        ensures tidy { IsTidy self.now }
-    {
-        match &self.processes[pid.0 as usize - 1] {
-            Some(process) => process,
-            None => unreachable!(),
-        }
-    }
-
     /// The lowest handle of a living process. None exactly where it has no handle.
     fn lowest_handle(&self, pid: Pid) -> Option<u32>
         requires lives { is_some (process_of self.now pid.0) ≡ true }
@@ -100,11 +81,10 @@ impl Tables {
             PassesAs G.Pages (Ends held from to) g.old g.new }
     {
         let range = info.pages;
+        let addr = range.first * PAGE_SIZE;
         match info.kind {
-            Kind::Private => self.release_lowest(g, pid, range),
-            Kind::View(view) => {
-                self.unmap_view(g, pid, range.first * PAGE_SIZE, range, view);
-            }
+            Kind::Private => self.release_region(g, pid, addr, range),
+            Kind::View(view) => self.unmap_view(g, pid, addr, range, view),
         }
     }
 

@@ -1,6 +1,6 @@
 ghost use Rattle.std.specs.Prelude.{◌≡◌, ◌≤◌, ◌<◌, ◌+◌, ◌++◌, [], ◌∷◌, replicate, Some, None, find, bytes_eq, IfOk, OnOk, vec_len, vec_capacity};
 ghost use Rattle.mm_types.specs.declared.moves.LineKind.TheVariants as line_kind;
-ghost use Rattle.mm_pages.specs.Housekeeping.{Makes};
+ghost use Rattle.mm_pages.specs.{Makes};
 ghost use Rattle.mm_tables.specs.References.{IsFew};
 ghost use Rattle.mm_tables.specs.Fits.{FitsTables};
 ghost use Rattle.mm_tables.specs.FilePromises.{IsNewFile, MakesFile, StoresFile, BlamesDevice, NotesFile};

@@ -1,9 +1,6 @@
 ghost use Rattle.std.specs.Prelude.{◌≡◌, ◌≤◌, true, false, is_some, map, slice_set, Some, None, option_map};
-ghost use Rattle.mm_types.specs.Address.{address_of};
-ghost use Rattle.mm_world.specs.World.{RegionOf};
-ghost use Rattle.mm_world.specs.Find.{Found, region_with};
-ghost use Rattle.mm_world.specs.Rows.{change_flags, mark_written, one_page};
-ghost use Rattle.mm_world.specs.Watch.{watched_around, written_in, unwritten};
+ghost use Rattle.mm_types.specs.{address_of};
+ghost use Rattle.mm_world.specs.{RegionOf, Found, region_with, change_flags, mark_written, one_page, watched_around, written_in, unwritten};
 ghost use Rattle.mm_tables.specs.Spaces.{process_regions, RegionsBecame};
 
 use crate::tables::Process;

@@ -1,5 +1,5 @@
 ghost use Rattle.std.specs.Prelude.{◌≡◌, ◌≤◌};
-ghost use Rattle.mm_types.specs.Address.{end_of, end_of_user_pages};
+ghost use Rattle.mm_types.specs.{end_of, end_of_user_pages};
 ghost use Rattle.mm_tables.specs.Ranges.{low_half, high_half};
 
 use mm_spaces::PageRange;

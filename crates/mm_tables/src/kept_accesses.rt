@@ -1,10 +1,7 @@
 ghost use Rattle.std.specs.Prelude.{◌≡◌, ℕ, true, is_some, map, replicate, Option, Some, None, option_map};
-ghost use Rattle.mm_types.specs.declared.numbers.Key.{Key};
-ghost use Rattle.mm_world.specs.World.{Page, KeptOf};
-ghost use Rattle.mm_world.specs.Find.{process_of};
-ghost use Rattle.mm_world.specs.Processes.{kept_of_others};
-ghost use Rattle.mm_world.specs.Step.{threads, kept_by, keep};
-ghost use Rattle.mm_pages.specs.Store.{StoreOf};
+ghost use Rattle.mm_types.specs.{Key};
+ghost use Rattle.mm_world.specs.{Page, KeptOf, process_of, kept_of_others, threads, kept_by, keep};
+ghost use Rattle.mm_pages.specs.{StoreOf};
 ghost use Rattle.mm_tables.specs.Fits.{FitsTables};
 ghost use Rattle.mm_tables.specs.References.{NobodyKeeps};
 ghost use Rattle.mm_tables.specs.Threads.{FitsPage};

@@ -1,17 +1,16 @@
 ghost use Rattle.std.specs.Prelude.{◌≡◌, ◌≤◌, ◌<◌, ◌+◌, true, is_some, length, Some, None, option_map, if◌then◌else◌, nat_le};
-ghost use Rattle.mm_world.specs.World.{ProcessOf};
-ghost use Rattle.mm_world.specs.Find.{process_of, section_named, area_at};
-ghost use Rattle.mm_world.specs.Processes.{most_processes};
-ghost use Rattle.mm_world.specs.Sections.{file_named};
-ghost use Rattle.mm_sections.specs.Directories.{id_of, area_of};
-ghost use Rattle.mm_world.specs.Find.{shared_page};
-ghost use Rattle.mm_world.specs.Keys.{home_in, key_of};
-ghost use Rattle.mm_types.specs.declared.views.View.{View};
+ghost use Rattle.mm_world.specs.{ProcessOf, process_of, section_named, area_at, most_processes, file_named, shared_page, home_in, key_of};
+ghost use Rattle.mm_sections.specs.{id_of, area_of};
+ghost use Rattle.mm_types.specs.{View};
 ghost use Rattle.mm_types.specs.declared.views.Kind.TheVariants as kind;
 ghost use Rattle.mm_types.specs.declared.numbers.Key.TheVariants as Key;
+ghost use Rattle.mm_world.specs.WellFormed.{WellFormed};
 ghost use Rattle.mm_tables.specs.Looks.{committed_row, section_at};
+ghost use Rattle.mm_tables.specs.References.{IsTidy};
+ghost use Rattle.mm_tables.specs.Shown.{shown_process};
 
 use crate::Tables;
+use crate::tables::Process;
 use mm_sections::{Handles, SectionPages};
 use mm_spaces::{AddressSpace, PageRow};
 use mm_types::{Area, Key, Kind, Name, Pid, Prot, SectionId, View, Vpn};
@@ -66,16 +65,27 @@ impl Tables {
         Some(Pid(made as u8 + 1))
     }
 
+    /// A living process.
+    pub(crate) fn process(&self, pid: Pid) -> &Process
+        requires lives { is_some (process_of self.now pid.0) ≡ true }
+        ensures shown { (p : ProcessOf (Unit {0})) → process_of self.now pid.0 ≡ Some p →
+            shown_process result.now ≡ p }
+        ensures sound { WellFormed self.now }
+        ensures tidy { IsTidy self.now }
+    {
+        match &self.processes[pid.0 as usize - 1] {
+            Some(process) => process,
+            None => unreachable!(),
+        }
+    }
+
     /// The regions of a living process.
     pub fn space(&self, pid: Pid) -> &AddressSpace
         requires { is_some (process_of self.now pid.0) ≡ true }
         ensures { (p : ProcessOf (Unit {0})) → process_of self.now pid.0 ≡ Some p →
             result.now.regions ≡ p.regions }
     {
-        match &self.processes[pid.0 as usize - 1] {
-            Some(process) => &process.space,
-            None => unreachable!(),
-        }
+        &self.process(pid).space
     }
 
     /// The handles of a living process.
@@ -84,10 +94,7 @@ impl Tables {
         ensures { (p : ProcessOf (Unit {0})) → process_of self.now pid.0 ≡ Some p →
             result.now.entries ≡ p.handles }
     {
-        match &self.processes[pid.0 as usize - 1] {
-            Some(process) => &process.handles,
-            None => unreachable!(),
-        }
+        &self.process(pid).handles
     }
 
     /// The key of the page `index` of a view, which lies in its control area. None exactly where it

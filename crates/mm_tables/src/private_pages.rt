@@ -1,15 +1,11 @@
-ghost use Rattle.std.specs.Prelude.{◌≡◌, ◌≤◌, ◌+◌, ◌^◌, ◌==◌, Bool, true, false, is_some, Option, Some, IsOk, OnOk, option_map, remove};
+ghost use Rattle.std.specs.Prelude.{◌≡◌, ◌≤◌, ◌+◌, ◌^◌, ◌==◌, true, false, is_some, Some, IsOk, OnOk, option_map, remove};
 ghost use Rattle.mm_types.specs.declared.moves.LineKind.TheVariants as line_kind;
-ghost use Rattle.mm_types.specs.declared.numbers.Place.{Place};
-ghost use Rattle.mm_types.specs.Allocation.{reserve_type};
-ghost use Rattle.mm_world.specs.World.{RegionOf, ProcessOf, pages_of};
-ghost use Rattle.mm_world.specs.Find.{Found, process_of, region_around, add_region, set_region, set_regions, end_stacks, is_private};
-ghost use Rattle.mm_world.specs.Alloc.{private_region};
-ghost use Rattle.mm_world.specs.Charge.{charge, limit};
-ghost use Rattle.mm_world.specs.Contents.{blank};
-ghost use Rattle.mm_world.specs.Free.{private_at, is_stack_at};
-ghost use Rattle.mm_world.specs.Rows.{is_protection_among, private_protections, commit, reserved_row, change_rows};
+ghost use Rattle.mm_types.specs.{reserve_type};
+ghost use Rattle.mm_world.specs.{RegionOf, ProcessOf, pages_of, Found, process_of, region_around, add_region, set_region, set_regions, end_stacks};
+ghost use Rattle.mm_world.specs.{is_private, private_region, charge, limit, blank, private_at, is_stack_at, is_protection_among, private_protections};
+ghost use Rattle.mm_world.specs.{commit, reserved_row, change_rows};
 ghost use Rattle.mm_tables.specs.Fits.{new_pages};
+ghost use Rattle.mm_tables.specs.Endings.{Less};
 ghost use Rattle.mm_tables.specs.Promises.{CommitsPages, IsNewRange, IsReadyFor, MakesWithin, SettlesTables, Frees};
 ghost use Rattle.mm_tables.specs.Ranges.{StandsFrom};
 
@@ -109,14 +105,22 @@ impl Tables {
         self.commit.refund(owned);
     }
 
-    /// `release`, before the stack is looked at that may have had the region.
-    fn release_region<G: Pages>(&mut self, g: &mut G, pid: Pid, addr: u32, range: PageRange)
+    /// `release`, before the stack is looked at that may have had the region. Keys that live on keep
+    /// their bytes.
+    pub(crate) fn release_region<G: Pages>(
+        &mut self,
+        g: &mut G,
+        pid: Pid,
+        addr: u32,
+        range: PageRange,
+    )
         requires ready { IsReadyFor G.Pages (line_kind.Unbind pid) pid self.old g.old }
         requires there { (p : ProcessOf (Unit {0})) → process_of self.old pid.0 ≡ Some p →
             option_map (λ r. pages_of r.thing) (private_at p.regions addr) ≡ Some range }
         ensures changed { (p : ProcessOf (Unit {0})) (r : Found (RegionOf (Unit {0}))) →
             process_of self.old pid.0 ≡ Some p → private_at p.regions addr ≡ Some r →
             self.new ≡ set_regions self.old pid.0 p (remove p.regions r.place) }
+        ensures less { Less (G.contents g.old) (G.contents g.new) }
         ensures frees { Frees G.Pages pid range self.old self.new g.old g.new }
     {
         let freed = release_pages(&mut self.processes[pid.0 as usize - 1], g, pid, addr, range);

@@ -1,16 +1,10 @@
 ghost use Rattle.std.specs.Prelude.{◌≡◌, ◌≤◌, ◌<◌, ◌+◌, ◌++◌, ◌==◌, [], ◌∷◌, true, false, is_some, length, Option, Some, IsSomeAnd, IsOk, OnOk, OnErr};
 ghost use Rattle.mm_types.specs.declared.moves.LineKind.TheVariants as line_kind;
-ghost use Rattle.mm_types.specs.declared.numbers.Key.{Key};
-ghost use Rattle.mm_world.specs.World.{Page, RegionOf, ProcessOf};
-ghost use Rattle.mm_world.specs.Find.{Found, process_of, region_around, set_region};
-ghost use Rattle.mm_world.specs.Charge.{charge, limit};
-ghost use Rattle.mm_world.specs.Keys.{Committed, committed_at, guard_off, set_row, private_key};
-ghost use Rattle.mm_world.specs.Failure.{same_key};
-ghost use Rattle.mm_world.specs.Processes.{most_processes, most_slots, most_fails, no_regions, with_slots};
-ghost use Rattle.mm_world.specs.Rows.{protected, change_rows};
-ghost use Rattle.mm_pages.specs.Conditions.{place_at};
-ghost use Rattle.mm_pages.specs.Housekeeping.{Turns};
-ghost use Rattle.mm_pages.specs.Store.{StoreOf, changed};
+ghost use Rattle.mm_types.specs.{Key};
+ghost use Rattle.mm_world.specs.{Page, RegionOf, ProcessOf, Found, process_of, region_around, set_region, charge, limit, Committed, committed_at};
+ghost use Rattle.mm_world.specs.{guard_off, set_row, private_key, same_key, most_processes, most_slots, most_fails, no_regions, with_slots};
+ghost use Rattle.mm_world.specs.{protected, change_rows};
+ghost use Rattle.mm_pages.specs.{place_at, Turns, StoreOf, changed};
 ghost use Rattle.mm_tables.specs.Fits.{FitsTables, extended, copied, CanCopy, NamesAtMostOne};
 ghost use Rattle.mm_tables.specs.Promises.{CanProtectAll, IsReadyFor, StartsProcess, StaysIdle, IdlesOver, SettlesTables};
 

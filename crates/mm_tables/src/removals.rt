@@ -1,17 +1,14 @@
-ghost use Rattle.std.specs.Prelude.{if◌then◌else◌, Bool, true, ℕ, ◌≡◌, ◌≤◌, ◌<◌, ◌+◌, ◌&&◌, ◌-◌, None, length, count_by, is_some};
-ghost use Rattle.mm_types.specs.Address.{end_of, end_of_user_pages};
-ghost use Rattle.mm_pages.specs.Conditions.{AreAmong, IsAmong, place_at};
-ghost use Rattle.mm_pages.specs.Housekeeping.{Turns, Ends};
-ghost use Rattle.mm_pages.specs.Leaving.{Leaving, page_rank};
-ghost use Rattle.mm_pages.specs.Passing.{PassesIn};
-ghost use Rattle.mm_world.specs.Charge.{area_charge};
-ghost use Rattle.mm_world.specs.Failure.{same_key};
-ghost use Rattle.mm_world.specs.Find.{no_area, region_around};
-ghost use Rattle.mm_world.specs.Keys.{own_page};
-ghost use Rattle.mm_spaces.specs.Tables.{owned_in};
-ghost use Rattle.mm_tables.specs.Endings.{is_owned_at, CanGo, CanGoAll, Gone, is_owned_among, owned_among, shared_at, is_committed_in, CanGiveUp, GivenUp, CanRelease, Released, CanEnd, Emptied, ended_area, EndsArea};
+ghost use Rattle.std.specs.Prelude.{if◌then◌else◌, true, ℕ, ◌≡◌, ◌≤◌, ◌<◌, ◌+◌, ◌&&◌, ◌-◌, None, length, count_by, is_some};
+ghost use Rattle.mm_types.specs.{end_of, end_of_user_pages};
+ghost use Rattle.mm_pages.specs.{AreAmong, IsAmong, place_at, Turns, page_rank, PassesIn};
+ghost use Rattle.mm_pages.specs.Housekeeping.{Ends};
+ghost use Rattle.mm_pages.specs.Leaving.{Leaving};
+ghost use Rattle.mm_world.specs.{area_charge, same_key, no_area, region_around, own_page};
+ghost use Rattle.mm_spaces.specs.{owned_in};
+ghost use Rattle.mm_tables.specs.Endings.{is_owned_at, CanGo, CanGoAll, Gone, is_owned_among, owned_among, shared_at, is_committed_in, CanGiveUp, GivenUp, CanRelease, CanEnd, Emptied, ended_area, EndsArea};
 ghost use Rattle.mm_tables.specs.Known.{KnownAt, KnownIn};
-ghost use Rattle.mm_tables.specs.Ranges.{one_page_range, passing, is_page_live};
+ghost use Rattle.mm_tables.specs.Promises.{GivesUp};
+ghost use Rattle.mm_tables.specs.Ranges.{one_page_range};
 
 use crate::halves::{FEW_PAGES, high_half, low_half};
 use crate::keys::is_owned;
@@ -60,12 +57,20 @@ fn remove_shared<G: Pages>(g: &mut G, pages: &SectionPages, area: Area)
 }
 
 /// Gives up one page of a process: its key, where it has bytes of its own, of which this is known,
-/// and then its place.
-fn release_page<G: Pages>(g: &mut G, space: &AddressSpace, pid: Pid, page: u32, known: Option<bool>)
+/// and then its place, if places go.
+#[tactic(auto, using(mm_pages::proofs::Passed::turns_same))]
+fn release_page<G: Pages>(
+    g: &mut G,
+    space: &AddressSpace,
+    pid: Pid,
+    page: u32,
+    known: Option<bool>,
+    goes: bool,
+)
     requires known { KnownAt known space.now.regions page }
-    requires can { CanGiveUp pid page (is_some (own_page space.now.regions page)) (G.contents g.old)
-        (G.store g.old) }
-    ensures given_up { GivenUp pid (one_page_range page)
+    requires can { CanGiveUp goes pid page (is_some (own_page space.now.regions page))
+        (G.contents g.old) (G.store g.old) }
+    ensures given_up { GivenUp goes pid (one_page_range page)
         (if is_some (own_page space.now.regions page) then 1 else 0) (G.contents g.old)
         (G.contents g.new) (G.store g.old) (G.store g.new) }
     ensures passes { (held : Leaving) (from to : ℕ) → held.places (place_at pid page) ≡ true →
@@ -79,7 +84,9 @@ fn release_page<G: Pages>(g: &mut G, space: &AddressSpace, pid: Pid, page: u32, 
         is_owned(space, page, known),
         Key::Private(pid, Vpn(page)),
     );
-    g.unbind(pid, Vpn(page), 1);
+    if goes {
+        g.unbind(pid, Vpn(page), 1);
+    }
 }
 
 /// Gives up pages of a process one by one in rising order, each with its key before the next; of
@@ -90,11 +97,12 @@ fn release_each<G: Pages>(
     pid: Pid,
     range: PageRange,
     known: Option<bool>,
+    goes: bool,
 )
     requires known { KnownIn known space.now.regions range }
     requires end { end_of range ≤ end_of_user_pages }
-    requires can { CanRelease pid range space.now.regions (G.contents g.old) (G.store g.old) }
-    ensures given_up { GivenUp pid range
+    requires can { CanRelease goes pid range space.now.regions (G.contents g.old) (G.store g.old) }
+    ensures given_up { GivenUp goes pid range
         (owned_among (is_owned_at space.now.regions range.first) range.count) (G.contents g.old)
         (G.contents g.new) (G.store g.old) (G.store g.new) }
     ensures passes { (held : Leaving) (from to : ℕ) → AreAmong held from to pid range →
@@ -103,15 +111,16 @@ fn release_each<G: Pages>(
     ensures loans { G.loans g.new ≡ G.loans g.old }
 {
     for i in 0..range.count {
-        release_page(g, space, pid, range.first + i, known);
+        release_page(g, space, pid, range.first + i, known, goes);
     }
 }
 
 /// Gives up pages of a process of which none has bytes of its own, all at once.
-fn release_empty<G: Pages>(g: &mut G, space: &AddressSpace, pid: Pid, range: PageRange)
-    requires can { CanRelease pid range space.now.regions (G.contents g.old) (G.store g.old) }
+#[tactic(auto, using(mm_pages::proofs::Passed::turns_same))]
+fn release_empty<G: Pages>(g: &mut G, space: &AddressSpace, pid: Pid, range: PageRange, goes: bool)
+    requires can { CanRelease goes pid range space.now.regions (G.contents g.old) (G.store g.old) }
     requires none { owned_among (is_owned_at space.now.regions range.first) range.count ≡ 0 }
-    ensures given_up { GivenUp pid range
+    ensures given_up { GivenUp goes pid range
         (owned_among (is_owned_at space.now.regions range.first) range.count) (G.contents g.old)
         (G.contents g.new) (G.store g.old) (G.store g.new) }
     ensures passes { (held : Leaving) (from to : ℕ) → AreAmong held from to pid range →
@@ -119,17 +128,26 @@ fn release_empty<G: Pages>(g: &mut G, space: &AddressSpace, pid: Pid, range: Pag
         (G.behind g.old) (G.behind g.new) }
     ensures loans { G.loans g.new ≡ G.loans g.old }
 {
-    g.unbind(pid, Vpn(range.first), range.count);
+    if goes {
+        g.unbind(pid, Vpn(range.first), range.count);
+    }
 }
 
 /// Gives up pages of one region of a process in rising order, each key before its place; `owned` of
 /// them have bytes of their own. Pages without are passed over by runs, found by halving.
-fn release_some<G: Pages>(g: &mut G, space: &AddressSpace, pid: Pid, range: PageRange, owned: u32)
+fn release_some<G: Pages>(
+    g: &mut G,
+    space: &AddressSpace,
+    pid: Pid,
+    range: PageRange,
+    owned: u32,
+    goes: bool,
+)
     requires end { end_of range ≤ end_of_user_pages }
     requires around { is_some (region_around space.now.regions range) ≡ true }
     requires owned { owned ≡ owned_in space.now.regions range }
-    requires can { CanRelease pid range space.now.regions (G.contents g.old) (G.store g.old) }
-    ensures given_up { GivenUp pid range
+    requires can { CanRelease goes pid range space.now.regions (G.contents g.old) (G.store g.old) }
+    ensures given_up { GivenUp goes pid range
         (owned_among (is_owned_at space.now.regions range.first) range.count) (G.contents g.old)
         (G.contents g.new) (G.store g.old) (G.store g.new) }
     ensures passes { (held : Leaving) (from to : ℕ) → AreAmong held from to pid range →
@@ -139,44 +157,37 @@ fn release_some<G: Pages>(g: &mut G, space: &AddressSpace, pid: Pid, range: Page
 {
     space.sound();
     if owned == 0 {
-        release_empty(g, space, pid, range);
+        release_empty(g, space, pid, range, goes);
     } else if owned == range.count {
-        release_each(g, space, pid, range, Some(true));
+        release_each(g, space, pid, range, Some(true), goes);
     } else if range.count <= FEW_PAGES {
-        release_each(g, space, pid, range, None);
+        release_each(g, space, pid, range, None, goes);
     } else {
         let low = low_half(range);
         let high = high_half(range);
         let low_owned = space.owned(low);
-        release_some(g, space, pid, low, low_owned);
-        release_some(g, space, pid, high, owned - low_owned);
+        release_some(g, space, pid, low, low_owned, goes);
+        release_some(g, space, pid, high, owned - low_owned, goes);
     }
 }
 
-/// Gives up pages of one region of a process in rising order, each with its key before the next.
-/// Tells how many had bytes of their own.
+/// Gives up pages of one region of a process in rising order, each with its key before the next,
+/// and their places, or these stay bound. Tells how many had bytes of their own.
 pub(crate) fn release_pages<G: Pages>(
     g: &mut G,
     space: &AddressSpace,
     pid: Pid,
     range: PageRange,
+    goes: bool,
 ) -> u32
     requires end { end_of range ≤ end_of_user_pages }
     requires around { is_some (region_around space.now.regions range) ≡ true }
-    requires can { CanRelease pid range space.now.regions (G.contents g.old) (G.store g.old) }
+    requires can { CanRelease goes pid range space.now.regions (G.contents g.old) (G.store g.old) }
     ensures owned { result ≡ owned_in space.now.regions range }
-    ensures given_up { GivenUp pid range
-        (passing (is_page_live pid (G.contents g.old)) range.first range.count) (G.contents g.old)
-        (G.contents g.new) (G.store g.old) (G.store g.new) }
-    ensures released { Released pid range space.now.regions (G.contents g.old) (G.contents g.new)
-        (G.store g.old) (G.store g.new) }
-    ensures passes { (held : Leaving) (from to : ℕ) → AreAmong held from to pid range →
-        PassesIn G.unpaged (Turns (Ends held from to)) (G.store g.old) (G.store g.new)
-        (G.behind g.old) (G.behind g.new) }
-    ensures loans { G.loans g.new ≡ G.loans g.old }
+    ensures gives_up { GivesUp G.Pages goes pid range g.old g.new }
 {
     let owned = space.owned(range);
-    release_some(g, space, pid, range, owned);
+    release_some(g, space, pid, range, owned, goes);
     owned
 }
 

@@ -1,30 +1,20 @@
 ghost use Rattle.std.specs.Prelude.{◌≡◌, ◌≤◌, ◌+◌, ◌-◌, ◌==◌, ◌++◌, [], ◌∷◌, ℕ, true, false, is_some, Some, IsOk, OnOk, OnErr, slice_set, remove, vec_len, vec_capacity};
-ghost use Rattle.mm_types.specs.Address.{end_of, end_of_user_pages, are_user_pages, holds_page};
-ghost use Rattle.mm_types.specs.Machine.{limit_of};
-ghost use Rattle.mm_world.specs.World.{RowOf, RegionOf};
-ghost use Rattle.mm_world.specs.Find.{Found, region_with, region_around, add_region, is_private};
-ghost use Rattle.mm_types.specs.Allocation.{reserve_type};
-ghost use Rattle.mm_world.specs.Alloc.{private_region};
-ghost use Rattle.mm_world.specs.Contents.{blank};
-ghost use Rattle.mm_world.specs.Free.{private_at};
-ghost use Rattle.mm_world.specs.Rows.{row_at, is_protection_among, private_protections, all_protections, every_page, accepts, commit, reserved_row, protected, change_rows};
-ghost use Rattle.mm_pages.specs.Conditions.{AllBound};
-ghost use Rattle.mm_pages.specs.Housekeeping.{MakesFrom};
-ghost use Rattle.mm_types.specs.declared.numbers.Place.{Place};
-ghost use Rattle.std.specs.Prelude.{Bool};
-ghost use Rattle.mm_spaces.specs.Tables.{owned_in};
-ghost use Rattle.mm_tables.specs.Effects.{Makes, Ends, Leaves, RangeStored, Roomier, CanMake, keys_of};
+ghost use Rattle.mm_types.specs.{end_of, end_of_user_pages, are_user_pages, holds_page, limit_of, reserve_type};
+ghost use Rattle.mm_world.specs.{RowOf, RegionOf, Found, region_with, region_around, add_region, is_private, private_region, blank, private_at};
+ghost use Rattle.mm_world.specs.{row_at, is_protection_among, private_protections, all_protections, every_page, accepts, commit, reserved_row};
+ghost use Rattle.mm_world.specs.{protected, change_rows, no_regions, with_slots, most_slots};
+ghost use Rattle.mm_pages.specs.{MakesFrom, changed};
+ghost use Rattle.mm_spaces.specs.{owned_in};
+ghost use Rattle.mm_tables.specs.Effects.{Makes, Leaves, RangeStored, Roomier, CanMake, keys_of};
 ghost use Rattle.mm_tables.specs.Fits.{new_pages};
-ghost use Rattle.mm_tables.specs.Promises.{LiesInPrivate, BeginsAt, IsNewRange, CanAddUpTo, CanRemoveIn, CanBind, PassesAs, StaysIdle, IdlesOver, EndsPages, MakesWithin, AddsKeys, RemovesKeys, BindsPlaces, KeepsRegions};
+ghost use Rattle.mm_tables.specs.Promises.{LiesInPrivate, BeginsAt, IsNewRange, CanAddUpTo, CanRemoveIn, CanBind, PassesAs, StaysIdle, IdlesOver, GivesUp, MakesWithin, AddsKeys, BindsPlaces, KeepsRegions};
 ghost use Rattle.mm_tables.specs.Ranges.{CanAdd, StandsFrom, passing, is_page_dead, is_page_live};
 ghost use Rattle.mm_tables.specs.Shown.{shown_processes};
 ghost use Rattle.mm_tables.specs.Spaces.{process_regions, RegionsBecame};
 ghost use Rattle.mm_tables.specs.ViewChanges.{MoreRoom};
 ghost use Rattle.mm_types.specs.declared.moves.LineKind.TheVariants as line_kind;
-ghost use Rattle.mm_pages.specs.Store.{changed};
-ghost use Rattle.mm_world.specs.Processes.{no_regions, with_slots, most_slots};
 
-use crate::keys::{add_pages, remove_pages};
+use crate::keys::add_pages;
 use crate::removals;
 use crate::tables::Process;
 use mm_commit::Commit;
@@ -119,28 +109,25 @@ pub(crate) fn decommit_pages<G: Pages>(
     range: PageRange,
 ) -> u32
     requires lies { LiesInPrivate process.old range }
-    requires can { CanRemoveIn G.Pages pid range (process_regions process.old) g.old }
+    requires can { CanRemoveIn G.Pages false pid range (process_regions process.old) g.old }
     ensures owned { result ≡ owned_in (process_regions process.old) range }
     ensures changed { (r : Found (RegionOf (Unit {0}))) →
         region_around (process_regions process.old) range ≡ Some r →
         RegionsBecame process.old process.new
         (slice_set (process_regions process.old) r.place
         (change_rows (λ row. reserved_row) range r.thing)) }
-    ensures removes { RemovesKeys G.Pages pid range Leaves g.old g.new }
-    ensures ends { EndsPages G.Pages pid range g.old g.new }
+    ensures gives_up { GivesUp G.Pages false pid range g.old g.new }
 {
     let Some(process) = process else {
         unreachable!()
     };
-    let owned = process.space.owned(range);
-    remove_pages(g, &process.space, pid, range, owned);
+    let owned = removals::release_pages(g, &process.space, pid, range, false);
     process.space.decommit(range);
     owned
 }
 
 /// Releases the private region of a living process that begins at the address and has these pages:
 /// their keys and their places go, page by page. Tells how many were committed.
-#[tactic(auto, using(crate::proofs::EndingPages::can_release, crate::proofs::EndingPages::stored))]
 pub(crate) fn release_pages<G: Pages>(
     process: &mut Option<Process>,
     g: &mut G,
@@ -149,19 +136,17 @@ pub(crate) fn release_pages<G: Pages>(
     range: PageRange,
 ) -> u32
     requires begins { BeginsAt process.old addr range }
-    requires bound { AllBound (G.store g.old) pid range true }
-    requires can { CanRemoveIn G.Pages pid range (process_regions process.old) g.old }
+    requires can { CanRemoveIn G.Pages true pid range (process_regions process.old) g.old }
     ensures owned { result ≡ owned_in (process_regions process.old) range }
     ensures changed { (r : Found (RegionOf (Unit {0}))) →
         private_at (process_regions process.old) addr ≡ Some r →
         RegionsBecame process.old process.new (remove (process_regions process.old) r.place) }
-    ensures removes { RemovesKeys G.Pages pid range Ends g.old g.new }
-    ensures ends { EndsPages G.Pages pid range g.old g.new }
+    ensures gives_up { GivesUp G.Pages true pid range g.old g.new }
 {
     let Some(process) = process else {
         unreachable!()
     };
-    let owned = removals::release_pages(g, &process.space, pid, range);
+    let owned = removals::release_pages(g, &process.space, pid, range, true);
     process.space.remove(addr);
     owned
 }

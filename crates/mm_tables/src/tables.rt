@@ -1,6 +1,5 @@
 ghost use Rattle.std.specs.Prelude.{◌≡◌, ◌≤◌, ◌+◌, nat_le};
-ghost use Rattle.mm_world.specs.Charge.{charge, limit};
-ghost use Rattle.mm_world.specs.Step.{first_world};
+ghost use Rattle.mm_world.specs.{charge, limit, first_world};
 ghost use Rattle.mm_world.specs.WellFormed.{WellFormed};
 ghost use Rattle.mm_tables.specs.References.{IsTidy};
 
@@ -43,7 +42,7 @@ pub struct Tables {
 }
 
 impl Model for Tables {
-    ghost use Rattle.mm_world.specs.Contents.{Tables};
+    ghost use Rattle.mm_world.specs.{Tables};
     ghost use Rattle.mm_tables.specs.Shown.{shown_processes, shown_accesses, tables_with};
     ghost use Rattle.mm_tables.specs.Sound.{AreKeptTables};
 

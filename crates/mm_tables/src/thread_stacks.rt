@@ -1,10 +1,7 @@
 ghost use Rattle.std.specs.Prelude.{◌≡◌, ◌==◌, ℕ, map, replicate, slice_set, Option, Some, None};
-ghost use Rattle.mm_types.specs.declared.numbers.Key.{Key};
-ghost use Rattle.mm_world.specs.World.{Page, StackOf, numbered};
-ghost use Rattle.mm_world.specs.Find.{unless, stack_by, set_stack, end_stacks};
-ghost use Rattle.mm_world.specs.Free.{is_stack_at};
-ghost use Rattle.mm_world.specs.Step.{threads};
-ghost use Rattle.mm_pages.specs.Store.{StoreOf};
+ghost use Rattle.mm_types.specs.{Key};
+ghost use Rattle.mm_world.specs.{Page, StackOf, numbered, unless, stack_by, set_stack, end_stacks, is_stack_at, threads};
+ghost use Rattle.mm_pages.specs.{StoreOf};
 ghost use Rattle.mm_tables.specs.Fits.{FitsTables};
 ghost use Rattle.mm_tables.specs.Stacks.{StandBelow};
 
@@ -26,8 +23,8 @@ pub struct ThreadStack {
 
 impl Model for ThreadStack {
     ghost use Rattle.std.specs.Prelude.{◌<◌};
-    ghost use Rattle.mm_types.specs.Address.{end_of_user_pages};
-    ghost use Rattle.mm_world.specs.World.{StackOf};
+    ghost use Rattle.mm_types.specs.{end_of_user_pages};
+    ghost use Rattle.mm_world.specs.{StackOf};
 
     ghost Value = { StackOf };
 
@@ -53,7 +50,7 @@ pub(crate) struct Stacks {
 }
 
 impl Model for Stacks {
-    ghost use Rattle.mm_world.specs.World.{Numbered, StackOf};
+    ghost use Rattle.mm_world.specs.{Numbered, StackOf};
     ghost use Rattle.mm_tables.specs.Stacks.{StandBelow};
 
     ghost Value = { Numbered StackOf };

@@ -1,12 +1,8 @@
 ghost use Rattle.std.specs.Prelude.{◌≡◌, ◌≤◌, true, false, is_some, map, Option, Some, None, option_map};
-ghost use Rattle.mm_types.specs.declared.numbers.Key.{Key};
-ghost use Rattle.mm_types.specs.Address.{address_of};
-ghost use Rattle.mm_world.specs.World.{Page, RegionOf, ProcessOf};
-ghost use Rattle.mm_world.specs.Find.{Found, process_of, set_region};
-ghost use Rattle.mm_world.specs.Keys.{Committed, committed_at};
-ghost use Rattle.mm_world.specs.Rows.{change_flags, mark_written, one_page};
-ghost use Rattle.mm_world.specs.Watch.{watched_around, written_in, unwritten};
-ghost use Rattle.mm_pages.specs.Store.{StoreOf};
+ghost use Rattle.mm_types.specs.{Key, address_of};
+ghost use Rattle.mm_world.specs.{Page, RegionOf, ProcessOf, Found, process_of, set_region, Committed, committed_at, change_flags, mark_written};
+ghost use Rattle.mm_world.specs.{one_page, watched_around, written_in, unwritten};
+ghost use Rattle.mm_pages.specs.{StoreOf};
 ghost use Rattle.mm_tables.specs.Fits.{FitsTables};
 
 use crate::Tables;

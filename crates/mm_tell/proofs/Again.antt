@@ -2,8 +2,8 @@
 use Rattle.std.proofs.Common.{◌≡◌, ℕ, true, false, cond, [], ◌∷◌, ◌++◌, map, refl, sym, ap, ◌∙◌}
 use Rattle.std.specs.Prelude.{◌==◌, ◌&&◌, codes}
 use Rattle.std.proofs.lemmas.Bool.{ne_eqb, eqb-true, and_parts}
-use Rattle.mm_types.specs.Spelling.{Text}
-use Rattle.mm_tell.specs.Shown.{is_plain, shown_byte, answer_data, answer_of}
+use Rattle.mm_types.specs.{Text}
+use Rattle.mm_tell.specs.{is_plain, shown_byte, answer_data, answer_of}
 
 no_tab : (c : ℕ) → (shown_byte c == 9) ≡ false
 no_tab c = elim (is_plain c) as (λ b. is_plain c ≡ b → (cond b c 63 == 9) ≡ false) [

@@ -2,18 +2,12 @@
 use Rattle.std.proofs.Common.{◌≡◌, ℕ, Bool, true, false, ◌&&◌, List, ◌∷◌, ◌++◌, Option, Some, refl, ap}
 use Rattle.std.specs.Prelude.{not, ◌==◌, if◌then◌else◌}
 use Rattle.std.proofs.lemmas.Bool.{eq-eqb}
-use Rattle.mm_types.specs.declared.numbers.Place.{Place}
-use Rattle.mm_types.specs.declared.moves.Move.{Move}
+use Rattle.mm_types.specs.{Place, Move}
 use Rattle.mm_types.specs.declared.moves.Move.TheVariants as move
-use Rattle.mm_life.specs.Life.{FrameLife, set_of}
-use Rattle.mm_life.specs.Legal.{is_access, is_unbind, touches, is_at_max, is_short}
-use Rattle.mm_life.specs.Effect.{after_move}
-use Rattle.mm_classes.specs.Marks.{MarksOf, marks_after}
-use Rattle.mm_classes.specs.Classes.{class_of, is_trim, makes_way, maps_into, next_of, classes_from}
-use Rattle.mm_classes.specs.declared.classes.Class.{Class}
+use Rattle.mm_life.specs.{FrameLife, set_of, is_access, is_unbind, touches, is_at_max, is_short, after_move}
+use Rattle.mm_classes.specs.{MarksOf, marks_after, class_of, is_trim, makes_way, maps_into, next_of, classes_from, Class}
 use Rattle.mm_classes.specs.declared.classes.Class.TheVariants as class
-use Rattle.mm_tell.specs.Classing.{pending, classed, class_then, move_of, class_list, classes_rest}
-use Rattle.mm_tell.specs.declared.classifiers.Pending.{Pending}
+use Rattle.mm_tell.specs.{pending, classed, class_then, move_of, class_list, classes_rest, Pending}
 
 same_true : (n : ℕ) → (n == n) ≡ true
 same_true n = eq-eqb n n refl

@@ -4,10 +4,10 @@ use Rattle.std.specs.Prelude.{slice_range}
 use Rattle.std.proofs.lemmas.List.{drop_more, drop_all}
 use Rattle.std.proofs.lemmas.List.Edits.{between_more, between_none}
 use Rattle.std.proofs.lemmas.Bool.{eq-eqb, ne_eqb}
-use Rattle.mm_types.specs.Spelling.{Text}
-use Rattle.mm_types.proofs.Bytes.{append_nil}
-use Rattle.mm_script.specs.Place.{without_return}
-use Rattle.mm_tell.specs.Lines.{lines_from, lines_of}
+use Rattle.mm_types.specs.{Text}
+use Rattle.mm_types.proofs.{append_nil}
+use Rattle.mm_script.specs.{without_return}
+use Rattle.mm_tell.specs.{lines_from, lines_of}
 
 abbrev pick : Bool → List Text → List Text → List Text
 pick b ended longer = cond b ended longer

@@ -2,11 +2,10 @@
 use Rattle.std.proofs.Common.{◌≡◌, ℕ, ◌<◌, Bool, true, false, [], ◌++◌, length, take, Option, Some, None, refl, sym, ap, ◌∙◌, subst, arith}
 use Rattle.std.specs.Prelude.{nat_lt}
 use Rattle.std.proofs.lemmas.Bool.{ltb-false}
-use Rattle.mm_types.specs.Spelling.{Text}
-use Rattle.mm_types.specs.Outside.{Took, IsEnd}
-use Rattle.mm_types.proofs.Bytes.{took_then, append_nil}
-use Rattle.mm_io.specs.Io.{ReadsFront}
-use Rattle.mm_tell.specs.Files.{IsRead, ReadsOn}
+use Rattle.mm_types.specs.{Text, Took, IsEnd}
+use Rattle.mm_types.proofs.{took_then, append_nil}
+use Rattle.mm_io.specs.{ReadsFront}
+use Rattle.mm_tell.specs.{IsRead, ReadsOn}
 
 end_after : (a b : Option Text) → IsEnd a → Took a b [] → IsEnd b
 end_after None None e t = tt

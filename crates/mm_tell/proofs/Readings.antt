@@ -1,26 +1,16 @@
 -- One text, read twice, where a script stands beside it.
 use Rattle.std.proofs.Common.{◌≡◌, ◌⊎◌, ℕ, ◌+◌, ◌≤◌, true, false, List, [], ◌∷◌, ◌++◌, length, Option, Some, None, refl, sym, ap, ◌∙◌, subst, inl, inr, arith, append_assoc, length-append}
-use Rattle.mm_types.specs.Spelling.{Text}
-use Rattle.mm_types.specs.Outside.{Took, Appended}
-use Rattle.mm_types.proofs.Bytes.{append_nil}
-use Rattle.mm_types.specs.declared.moves.Move.{Move}
+use Rattle.mm_types.specs.{Text, Took, Appended, Move}
+use Rattle.mm_types.proofs.{append_nil}
 use Rattle.mm_types.specs.declared.moves.Move.TheVariants as move
-use Rattle.mm_life.specs.MoveText.{spelled_moves, AreMoves}
-use Rattle.mm_life.specs.Life.{FrameLife, unstarted}
-use Rattle.mm_life.specs.Effect.{after_move}
-use Rattle.mm_life.specs.Replay.{Replays}
-use Rattle.mm_life.proofs.Replays.{replays_then, replays_one}
-use Rattle.mm_replay.proofs.Lines.{one_move}
-use Rattle.mm_log.specs.Verdict.{IsStuck, StuckBefore, Spells, SpellsBefore}
-use Rattle.mm_log.specs.Exact.{IsFault}
-use Rattle.mm_log.specs.Reading.{Lines}
-use Rattle.mm_log.proofs.Exactly.{Ended, in_front, no_more, one_reading, taken_told, end_told}
+use Rattle.mm_life.specs.{spelled_moves, AreMoves, FrameLife, unstarted, after_move, Replays}
+use Rattle.mm_life.proofs.{replays_then, replays_one}
+use Rattle.mm_replay.proofs.{one_move}
+use Rattle.mm_log.specs.{IsStuck, StuckBefore, Spells, SpellsBefore, IsFault, Lines}
+use Rattle.mm_log.proofs.{Ended, in_front, no_more, one_reading, taken_told, end_told}
 use Rattle.mm_log.specs.declared.endings.Ending.TheVariants as ending
-use Rattle.mm_tell.specs.Fitting.{fits, AreFit}
-use Rattle.mm_tell.specs.Telling.{ClosesAt}
-use Rattle.mm_tell.specs.Answering.{Said, Why, ends_well, close_words, closing_text, closing_status, HasTold, Answers}
-use Rattle.mm_tell.specs.Exact.{Says, IsWhole, IsCut, IsMisfitAt, SaysExactly}
-use Rattle.mm_tell.specs.declared.closings.Closing.{Closing}
+use Rattle.mm_tell.specs.{fits, AreFit, ClosesAt, Said, Why, ends_well, close_words, closing_text, closing_status, HasTold, Answers, Says, IsWhole}
+use Rattle.mm_tell.specs.{IsCut, IsMisfitAt, SaysExactly, Closing}
 use Rattle.mm_tell.specs.declared.closings.Closing.TheVariants as closing
 
 -- a log that is read to where it ends has every legal beginning

@@ -1,23 +1,15 @@
 -- A log that is told, move by move.
 use Rattle.std.proofs.Common.{◌≡◌, ℕ, ◌<◌, Bool, true, false, List, [], ◌∷◌, ◌++◌, Option, refl, sym, ap, ◌∙◌, subst, append_assoc, arith}
-use Rattle.mm_types.specs.Spelling.{Text}
-use Rattle.mm_types.specs.Outside.{Appended}
-use Rattle.mm_types.proofs.Bytes.{append_nil, appended_none, appended_then}
-use Rattle.mm_io.specs.Io.{Wrote}
-use Rattle.mm_types.specs.declared.moves.Move.{Move}
-use Rattle.mm_life.specs.Life.{FrameLife, unstarted}
-use Rattle.mm_life.specs.Effect.{after_move}
-use Rattle.mm_life.specs.Legal.{IsLegal}
-use Rattle.mm_life.proofs.Replays.{replays_then}
-use Rattle.mm_log.specs.Verdict.{most_bytes}
-use Rattle.mm_log.specs.Reading.{IsReady, Lines, Reading, Reads, Stops}
+use Rattle.mm_types.specs.{Text, Appended, Move}
+use Rattle.mm_types.proofs.{append_nil, appended_none, appended_then}
+use Rattle.mm_io.specs.{Wrote}
+use Rattle.mm_life.specs.{FrameLife, unstarted, after_move, IsLegal}
+use Rattle.mm_life.proofs.{replays_then}
+use Rattle.mm_log.specs.{most_bytes, IsReady, Lines, Reads, Stops, LogReader, Ending}
+use Rattle.mm_log.specs.Reading.{Reading}
 use Rattle.mm_log.specs.declared.endings.Ending.TheVariants as ending
-use Rattle.mm_log.specs.declared.readers.LogReader.{LogReader}
-use Rattle.mm_log.specs.declared.endings.Ending.{Ending}
-use Rattle.mm_tell.specs.Fitting.{fits, AreFit, IsMisfit}
-use Rattle.mm_tell.specs.Telling.{RestOf, Poured, Tells, Closes}
-use Rattle.mm_tell.specs.Answering.{Why, ends_well, close_words, said_by, closing_text, closing_status, HasTold}
-use Rattle.mm_tell.specs.declared.closings.Closing.{Closing}
+use Rattle.mm_tell.specs.{fits, AreFit, IsMisfit, RestOf, Poured, Tells, Closes, Why, ends_well, close_words, said_by, closing_text, closing_status}
+use Rattle.mm_tell.specs.{HasTold, Closing}
 use Rattle.mm_tell.specs.declared.closings.Closing.TheVariants as closing
 
 pub fit_more : (script : Option (List Text)) (ms : List Move) (m : Move) → AreFit script ms → fits script m ≡ true → AreFit script (ms ++ m ∷ [])

@@ -2,13 +2,9 @@
 -- Profile, "What a log shows".
 use Rattle.std.specs.Prelude.{◌≡◌, ◌⊎◌, ℕ, Bool, true, false, List, [], ◌∷◌, ◌++◌, codes, Option}
 use Rattle.std.specs.Prelude.{Some, None}
-use Rattle.mm_types.specs.Spelling.{Text}
-use Rattle.mm_types.specs.Outside.{Appended}
-use Rattle.mm_types.specs.declared.moves.Move.{Move}
-use Rattle.mm_life.specs.MoveText.{numbered}
-use Rattle.mm_life.specs.Life.{FrameLife, unstarted}
-use Rattle.mm_life.specs.Replay.{Replays}
-use Rattle.mm_log.specs.Exact.{IsFault}
+use Rattle.mm_types.specs.{Text, Appended, Move}
+use Rattle.mm_life.specs.{numbered, FrameLife, unstarted, Replays}
+use Rattle.mm_log.specs.{IsFault}
 use Rattle.mm_log.specs.declared.endings.Ending.TheVariants as ending
 use Rattle.mm_tell.specs.Fitting.{AreFit}
 use Rattle.mm_tell.specs.Telling.{RestOf, ClosesAt}

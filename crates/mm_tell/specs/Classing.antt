@@ -3,12 +3,10 @@
 use Rattle.std.specs.Prelude.{Bool, false, if◌then◌else◌, List, [], ◌∷◌, ◌++◌, Option, Some}
 use Rattle.std.specs.Prelude.{None}
 use Rattle.std.specs.Prelude.{option_map}
-use Rattle.mm_types.specs.declared.moves.Move.{Move}
+use Rattle.mm_types.specs.{Move}
 use Rattle.mm_types.specs.declared.moves.Move.TheVariants as move
-use Rattle.mm_life.specs.Life.{FrameLife}
-use Rattle.mm_classes.specs.Marks.{MarksOf}
-use Rattle.mm_classes.specs.Classes.{class_of, maps_into, next_of, classes_from}
-use Rattle.mm_classes.specs.declared.classes.Class.{Class}
+use Rattle.mm_life.specs.{FrameLife}
+use Rattle.mm_classes.specs.{MarksOf, class_of, maps_into, next_of, classes_from, Class}
 use Rattle.mm_tell.specs.declared.classifiers.Pending.{Pending}
 use Rattle.mm_tell.specs.declared.classifiers.Classed.{Classed}
 

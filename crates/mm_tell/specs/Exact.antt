@@ -2,16 +2,10 @@
 -- Profile, "What a log shows".
 use Rattle.std.specs.Prelude.{◌≡◌, ◌⊎◌, ℕ, ◌+◌, ◌≤◌, true, false, List, [], ◌∷◌, ◌++◌, length}
 use Rattle.std.specs.Prelude.{Option, Some}
-use Rattle.mm_types.specs.Spelling.{Text}
-use Rattle.mm_types.specs.Outside.{Appended}
-use Rattle.mm_types.specs.declared.moves.Move.{Move}
+use Rattle.mm_types.specs.{Text, Appended, Move, LineKind}
 use Rattle.mm_types.specs.declared.moves.Move.TheVariants as move
-use Rattle.mm_types.specs.declared.moves.LineKind.{LineKind}
-use Rattle.mm_life.specs.MoveText.{IsSpelled, AreMoves, spelled_moves}
-use Rattle.mm_life.specs.Life.{FrameLife, unstarted}
-use Rattle.mm_life.specs.Replay.{Replays}
-use Rattle.mm_log.specs.Verdict.{most_bytes, IsStuck, Spells}
-use Rattle.mm_log.specs.Exact.{IsFault}
+use Rattle.mm_life.specs.{IsSpelled, AreMoves, spelled_moves, FrameLife, unstarted, Replays}
+use Rattle.mm_log.specs.{most_bytes, IsStuck, Spells, IsFault}
 use Rattle.mm_log.specs.declared.endings.Ending.TheVariants as ending
 use Rattle.mm_tell.specs.Fitting.{fits, AreFit}
 use Rattle.mm_tell.specs.Answering.{Said, Why, close_words}

@@ -1,8 +1,7 @@
 -- A file that is read whole.
 -- Profile, "What a log shows".
 use Rattle.std.specs.Prelude.{◌≡◌, ℕ, Bool, true, false, List, Option, Some, None}
-use Rattle.mm_types.specs.Spelling.{Text}
-use Rattle.mm_types.specs.Outside.{Took, IsEnd}
+use Rattle.mm_types.specs.{Text, Took, IsEnd}
 use Rattle.mm_tell.specs.Lines.{lines_of}
 
 -- these bytes were taken, and none is left

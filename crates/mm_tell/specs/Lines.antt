@@ -1,8 +1,8 @@
 -- The lines of a file.
 -- Profile, "What a log shows".
 use Rattle.std.specs.Prelude.{◌==◌, if◌then◌else◌, List, [], ◌∷◌, ◌++◌}
-use Rattle.mm_types.specs.Spelling.{Text}
-use Rattle.mm_script.specs.Place.{without_return}
+use Rattle.mm_types.specs.{Text}
+use Rattle.mm_script.specs.{without_return}
 
 -- the lines of some bytes, each without its line feed and one carriage return before it, where
 -- these bytes of the first were read; what stands after the last line feed is no line

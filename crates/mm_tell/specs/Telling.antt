@@ -1,16 +1,11 @@
 -- A log that is told, move by move.
 -- Profile, "What a log shows".
 use Rattle.std.specs.Prelude.{◌≡◌, ℕ, Bool, true, false, List, [], ◌∷◌, ◌++◌, Option}
-use Rattle.mm_types.specs.Spelling.{Text}
-use Rattle.mm_types.specs.Outside.{Appended}
-use Rattle.mm_types.specs.declared.moves.Move.{Move}
+use Rattle.mm_types.specs.{Text, Appended, Move, LineKind}
 use Rattle.mm_types.specs.declared.moves.Move.TheVariants as move
-use Rattle.mm_types.specs.declared.moves.LineKind.{LineKind}
-use Rattle.mm_life.specs.Life.{FrameLife, unstarted}
-use Rattle.mm_life.specs.Legal.{IsLegal}
-use Rattle.mm_life.specs.Replay.{Replays}
-use Rattle.mm_log.specs.Reading.{Lines, Reading, Stops}
-use Rattle.mm_log.specs.declared.readers.LogReader.{LogReader}
+use Rattle.mm_life.specs.{FrameLife, unstarted, IsLegal, Replays}
+use Rattle.mm_log.specs.{Lines, Stops, LogReader}
+use Rattle.mm_log.specs.Reading.{Reading}
 use Rattle.mm_log.specs.declared.endings.Ending.TheVariants as ending
 use Rattle.mm_tell.specs.Fitting.{fits, AreFit}
 use Rattle.mm_tell.specs.declared.closings.Closing.{Closing}

@@ -1,8 +1,6 @@
 ghost use Rattle.std.specs.Prelude.{◌≡◌, ◌≤◌, ◌++◌, ◌∷◌, [], length, codes, OnOk};
-ghost use Rattle.mm_types.specs.Outside.{Rose};
-ghost use Rattle.mm_types.specs.Spelling.{decimal};
-ghost use Rattle.mm_life.specs.Life.{unstarted};
-ghost use Rattle.mm_life.specs.MoveText.{numbered};
+ghost use Rattle.mm_types.specs.{Rose, decimal};
+ghost use Rattle.mm_life.specs.{unstarted, numbered};
 ghost use Rattle.mm_replay.specs.Standing.{life as life_of};
 ghost use Rattle.mm_tell.specs.Telling.{is_broken};
 ghost use Rattle.mm_tell.specs.Answering.{ends_well, closing_status, close_words, refused_words};

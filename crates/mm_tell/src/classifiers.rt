@@ -1,8 +1,6 @@
 ghost use Rattle.std.specs.Prelude.{◌≡◌, OnOk, IfOk, None, Some, option_map};
 ghost use Rattle.mm_replay.specs.Standing.{life as life_of};
-ghost use Rattle.mm_classes.specs.Classes.{class_of};
-ghost use Rattle.mm_classes.specs.Marks.{no_marks, marks_after};
-ghost use Rattle.mm_classes.specs.Marking.{marks_of};
+ghost use Rattle.mm_classes.specs.{class_of, no_marks, marks_after, marks_of};
 ghost use Rattle.mm_tell.specs.Classing.{next_there, is_made_room, pending, class_then, move_of};
 ghost use Rattle.mm_tell.specs.Classing.{classed};
 

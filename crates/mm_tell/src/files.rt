@@ -1,7 +1,7 @@
 ghost use Rattle.std.specs.Prelude.{◌≡◌, ◌≤◌, ◌⊎◌, ℕ, List, Option, true, false, Some, None};
 ghost use Rattle.std.specs.Prelude.{option_map, IfOk, Ok};
 ghost use Rattle.std.specs.Prelude.{Err};
-ghost use Rattle.mm_types.specs.Outside.{Rose, Took};
+ghost use Rattle.mm_types.specs.{Rose, Took};
 ghost use Rattle.mm_tell.specs.Files.{IsRead, ReadsOn, HasLines, total_of};
 
 use crate::lines::Lines;

@@ -1,5 +1,5 @@
 ghost use Rattle.std.specs.Prelude.{◌≡◌, ◌++◌, ◌∷◌, [], map, option_map, OnOk, IfOk, slice_get};
-ghost use Rattle.mm_script.specs.Place.{without_return};
+ghost use Rattle.mm_script.specs.{without_return};
 ghost use Rattle.mm_tell.specs.Lines.{lines_of};
 ghost use Rattle.mm_tell.specs.Shown.{shown_lines, answer_lines};
 

@@ -1,5 +1,5 @@
 ghost use Rattle.std.specs.Prelude.{OnOk};
-ghost use Rattle.mm_types.specs.Outside.{HasCause};
+ghost use Rattle.mm_types.specs.{HasCause};
 ghost use Rattle.mm_tell.specs.Telling.{Poured};
 
 use mm_io::{Sink, write_all};

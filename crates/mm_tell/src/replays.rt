@@ -1,13 +1,9 @@
 ghost use Rattle.std.specs.Prelude.{◌≡◌, ◌+◌, ◌<◌, ◌≤◌, ◌^◌, ◌++◌, ◌∷◌, [], ℕ, Bool, false, List};
 ghost use Rattle.std.specs.Prelude.{Option, MatchResult, OnOk, Err};
-ghost use Rattle.mm_types.specs.declared.moves.Move.{Move};
-ghost use Rattle.mm_types.specs.Outside.{Rose};
-ghost use Rattle.mm_life.specs.Life.{unstarted};
+ghost use Rattle.mm_types.specs.{Move, Rose};
+ghost use Rattle.mm_life.specs.{unstarted, IsLegal, after_move};
 ghost use Rattle.mm_replay.specs.Standing.{life as life_of};
-ghost use Rattle.mm_log.specs.declared.endings.Ending.{Ending};
-ghost use Rattle.mm_log.specs.Reading.{IsReady};
-ghost use Rattle.mm_life.specs.Legal.{IsLegal};
-ghost use Rattle.mm_life.specs.Effect.{after_move};
+ghost use Rattle.mm_log.specs.{Ending, IsReady};
 ghost use Rattle.mm_tell.specs.Telling.{RestOf, Tells, Closes, is_broken};
 
 use crate::closings::Closing;

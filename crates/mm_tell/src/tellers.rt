@@ -1,8 +1,6 @@
 ghost use Rattle.std.specs.Prelude.{◌≡◌, ◌+◌, ◌<◌, ◌≤◌, ◌++◌, ◌∷◌, ◌^◌, [], ℕ, Bool, List, OnOk};
-ghost use Rattle.mm_types.specs.declared.moves.Move.{Move};
-ghost use Rattle.mm_life.specs.Life.{FrameLife};
-ghost use Rattle.mm_life.specs.Legal.{IsLegal};
-ghost use Rattle.mm_life.specs.Effect.{after_move};
+ghost use Rattle.mm_types.specs.{Move};
+ghost use Rattle.mm_life.specs.{FrameLife, IsLegal, after_move};
 ghost use Rattle.mm_replay.specs.Standing.{life as life_of};
 
 use mm_replay::Life;

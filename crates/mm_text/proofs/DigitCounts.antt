@@ -1,7 +1,7 @@
 -- How long a number is, and texts put together.
 use Rattle.std.proofs.Common.{◌≡◌, ℕ, zero, suc, ◌+◌, ◌/◌, ◌%◌, ◌≤◌, Bool, true, false, cond, ◌∷◌, [], length, arith, append_assoc, length-append}
 use Rattle.std.specs.Prelude.{nat_lt}
-use Rattle.mm_types.specs.Spelling.{Text, glyph, decimal, decimal_onto}
+use Rattle.mm_types.specs.{Text, glyph, decimal, decimal_onto}
 
 longer_of : (b : Bool) (last more : Text) (k : ℕ) → length last ≤ k → length more ≤ k → length (cond b last more) ≤ k
 longer_of true last more k p q = p

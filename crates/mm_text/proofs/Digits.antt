@@ -3,8 +3,8 @@ use Rattle.std.proofs.Common.{◌≡◌, ℕ, zero, suc, ◌+◌, ◌-◌, ◌/�
 use Rattle.std.specs.Prelude.{nat_lt}
 use Rattle.std.proofs.lemmas.List.{drop-set, drop_more, take_all, take_more_set, length-drop}
 use Rattle.std.proofs.lemmas.Bool.{lt-ltb, le-ltb}
-use Rattle.mm_types.specs.Spelling.{Text, glyph, decimal, decimal_onto, hex_onto, byte_pairs}
-use Rattle.mm_text.specs.Shortest.{digits_onto}
+use Rattle.mm_types.specs.{Text, glyph, decimal, decimal_onto, hex_onto, byte_pairs}
+use Rattle.mm_text.specs.{digits_onto}
 
 abbrev either : Bool → Text → Text → Text
 either b last more = cond b last more

@@ -1,8 +1,8 @@
 -- Words that are written one after another.
 use Rattle.std.proofs.Common.{◌≡◌, ℕ, zero, suc, ◌+◌, ◌*◌, ◌≤◌, ◌<◌, List, [], ◌∷◌, ◌++◌, length, drop, get_or, map, refl, sym, ap, ◌∙◌, arith, append_assoc, length-append, lit≤}
 use Rattle.std.proofs.lemmas.List.{append-nil, drop_more, drop_all}
-use Rattle.mm_types.specs.Spelling.{Text, decimal, hex8, spaced}
-use Rattle.mm_text.specs.Following.{following}
+use Rattle.mm_types.specs.{Text, decimal, hex8, spaced}
+use Rattle.mm_text.specs.{following}
 use Rattle.mm_text.proofs.Digits.{decimal_is}
 use Rattle.mm_text.proofs.Spelled.{length-digits, length-decimal, length-decimal-32, length-hex8, length-byte_pairs}
 

@@ -3,8 +3,8 @@ use Rattle.std.proofs.Common.{◌≡◌, ℕ, ◌≤◌, ◌<◌, ◌↔◌, ◌
 use Rattle.std.specs.Prelude.{nat_le, ◌&&◌}
 use Rattle.std.specs.List.{list_all}
 use Rattle.std.proofs.lemmas.Bool.{and_right, le-leb, lt-leb, cases_lt}
-use Rattle.mm_types.specs.Spelling.{Text}
-use Rattle.mm_text.specs.Field.{is_letter, is_name_byte, is_name, few_bytes, name_of}
+use Rattle.mm_types.specs.{Text}
+use Rattle.mm_text.specs.{is_letter, is_name_byte, is_name, few_bytes, name_of}
 
 fit : (n most : ℕ) → 1 ≤ n → n ≤ most → (nat_le 1 n && nat_le n most) ≡ true
 fit n most some few = ap (λ t. t && nat_le n most) (le-leb 1 n some) ∙ le-leb n most few

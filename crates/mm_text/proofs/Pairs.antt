@@ -4,8 +4,8 @@ use Rattle.std.specs.Prelude.{nat_le, ◌&&◌}
 use Rattle.std.specs.Option.{option_and_then}
 use Rattle.std.proofs.lemmas.List.{take_more_set, append-nil}
 use Rattle.std.proofs.lemmas.Bool.{and_right, lt-leb}
-use Rattle.mm_types.specs.Spelling.{Text}
-use Rattle.mm_text.specs.Field.{pair_of, byte_before, pairs_of, few_bytes, bytes_of}
+use Rattle.mm_types.specs.{Text}
+use Rattle.mm_text.specs.{pair_of, byte_before, pairs_of, few_bytes, bytes_of}
 
 -- bytes after those that were read
 abbrev pub behind : List ℕ → Option (List ℕ) → Option (List ℕ)

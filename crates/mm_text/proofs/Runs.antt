@@ -7,10 +7,10 @@ use Rattle.std.proofs.lemmas.List.Edits.{between_more, between_none, length-betw
 use Rattle.std.proofs.lemmas.List.Folds.{list_all-append}
 use Rattle.std.proofs.lemmas.Slice.{between_is}
 use Rattle.std.proofs.lemmas.Bool.{lt-ltb, eqb-true}
-use Rattle.mm_types.specs.Spelling.{Text}
-use Rattle.mm_text.specs.Field.{digit_value, value_in, are_digits, digits_in, below_limit, limited, hex_digits, number_in, number_of}
-use Rattle.mm_text.specs.Word.{Word, words_from, rest_from}
-use Rattle.mm_text.specs.Run.{EndsWord, BeginsHex, IsRun, IsNumberAt, TakesNumber}
+use Rattle.mm_types.specs.{Text}
+use Rattle.mm_text.specs.{digit_value, value_in, are_digits, digits_in, below_limit, limited, hex_digits, number_in, number_of, words_from, rest_from}
+use Rattle.mm_text.specs.{EndsWord, BeginsHex, IsRun, IsNumberAt, TakesNumber}
+use Rattle.mm_text.specs.Word.{Word}
 use Rattle.mm_text.proofs.Splits.{word_longer, word_ended, word_over, word_begun, rest_some}
 use Rattle.mm_text.proofs.Values.{scan_whole, scan_is}
 

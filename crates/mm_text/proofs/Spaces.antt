@@ -4,8 +4,9 @@ use Rattle.std.specs.Prelude.{◌==◌, ◌&&◌}
 use Rattle.std.specs.List.{AllByRecursion}
 use Rattle.std.proofs.lemmas.List.{append-nil}
 use Rattle.std.proofs.lemmas.Bool.{ne_eqb, eqb-true, cases_Bool}
-use Rattle.mm_types.specs.Spelling.{Text, spaced}
-use Rattle.mm_text.specs.Word.{Word, words_from, words_of}
+use Rattle.mm_types.specs.{Text, spaced}
+use Rattle.mm_text.specs.{words_from, words_of}
+use Rattle.mm_text.specs.Word.{Word}
 
 abbrev pub HasNoSpace : Text → Type 0
 HasNoSpace text = AllByRecursion (λ c. c ≢ 0x20) text

@@ -7,9 +7,9 @@ use Rattle.std.proofs.lemmas.Bool.{and_right, lt-ltb, le-ltb, ltb-true, eqb-true
 use Rattle.std.proofs.lemmas.Nat.{div-add-mod', div_below, mod_below}
 use Rattle.std.proofs.Math.Nat.{mod-eq_of_lt, pow-zero}
 use Rattle.std.proofs.lemmas.Grind.{pow_more}
-use Rattle.mm_types.specs.Spelling.{Text, glyph, decimal, hex_onto, hex8, byte_pairs}
-use Rattle.mm_text.specs.Shortest.{digits_onto, hex_short}
-use Rattle.mm_text.specs.Field.{digit_value, value_in, are_digits, digits_in, hex_digits, below_limit, limited, number_in, number_of, pair_of, byte_before, pairs_of, few_bytes, bytes_of}
+use Rattle.mm_types.specs.{Text, glyph, decimal, hex_onto, hex8, byte_pairs}
+use Rattle.mm_text.specs.{digits_onto, hex_short, digit_value, value_in, are_digits, digits_in, hex_digits, below_limit, limited, number_in}
+use Rattle.mm_text.specs.{number_of, pair_of, byte_before, pairs_of, few_bytes, bytes_of}
 use Rattle.mm_text.proofs.Digits.{decimal_is}
 use Rattle.mm_text.proofs.Values.{scan_is, scan_whole}
 

@@ -4,8 +4,9 @@ use Rattle.std.specs.Prelude.{slice_range}
 use Rattle.std.proofs.lemmas.List.{drop_more, drop_all}
 use Rattle.std.proofs.lemmas.List.Edits.{between_more, between_none, length-between}
 use Rattle.std.proofs.lemmas.Bool.{eq-eqb, ne_eqb, le-leb, lt-leb}
-use Rattle.mm_types.specs.Spelling.{Text}
-use Rattle.mm_text.specs.Word.{Word, words_from, rest_from}
+use Rattle.mm_types.specs.{Text}
+use Rattle.mm_text.specs.{words_from, rest_from}
+use Rattle.mm_text.specs.Word.{Word}
 
 abbrev pick : Bool → List Word → List Word → List Word
 pick b ended longer = cond b ended longer

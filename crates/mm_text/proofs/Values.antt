@@ -5,8 +5,8 @@ use Rattle.std.proofs.lemmas.List.{drop_more, drop_all}
 use Rattle.std.proofs.lemmas.Bool.{and_right, lt-ltb, le-ltb, le-leb, lt-leb, leb-true, agree_below_at}
 use Rattle.std.proofs.lemmas.Nat.{mul-le}
 use Rattle.std.proofs.lemmas.Grind.{pow_more}
-use Rattle.mm_types.specs.Spelling.{Text}
-use Rattle.mm_text.specs.Field.{digit_value, value_in, are_digits, digits_in, below_limit, limited}
+use Rattle.mm_types.specs.{Text}
+use Rattle.mm_text.specs.{digit_value, value_in, are_digits, digits_in, below_limit, limited}
 
 -- the value of digits after others of the value n, where all are digits and the value stays below the limit
 abbrev pub scan : ℕ → ℕ → Text → Option ℕ

@@ -1,7 +1,7 @@
 -- Words and numbers in the columns of a table.
 -- Profile, "What a log shows".
 use Rattle.std.specs.Prelude.{ℕ, ◌-◌, List, ◌++◌, length, replicate, flat_map}
-use Rattle.mm_types.specs.Spelling.{Text, decimal}
+use Rattle.mm_types.specs.{Text, decimal}
 
 -- at the right end of a column of this width, or as it is where it is wider
 unfoldable pub right_in : ℕ → Text → Text

@@ -2,7 +2,7 @@
 -- Profile, "Script".
 use Rattle.std.specs.Prelude.{ℕ, ◌+◌, ◌-◌, ◌*◌, ◌^◌, Bool, false, ◌&&◌, ◌||◌, nat_le, nat_lt, ◌==◌, if◌then◌else◌, List, [], ◌∷◌, length, Option, Some, None, option_map, option_and_then}
 use Rattle.std.specs.List.{list_all}
-use Rattle.mm_types.specs.Spelling.{Text}
+use Rattle.mm_types.specs.{Text}
 
 -- the value of a hexadecimal digit of either case, or 16 for another byte
 abbrev pub digit_value : ℕ → ℕ

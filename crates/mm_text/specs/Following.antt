@@ -1,7 +1,7 @@
 -- Words after one another.
 -- Profile, "Answers".
 use Rattle.std.specs.Prelude.{List, [], ◌∷◌, ◌++◌}
-use Rattle.mm_types.specs.Spelling.{Text}
+use Rattle.mm_types.specs.{Text}
 
 -- words, each after a space
 abbrev pub following : List Text → Text

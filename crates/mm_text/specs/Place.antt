@@ -1,7 +1,7 @@
 -- A word by its place.
 -- Profile, "Script".
 use Rattle.std.specs.Prelude.{slice_range}
-use Rattle.mm_types.specs.Spelling.{Text}
+use Rattle.mm_types.specs.{Text}
 use Rattle.mm_text.specs.Word.{Word}
 use Rattle.mm_text.specs.declared.spans.Span.{Span}
 

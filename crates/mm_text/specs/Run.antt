@@ -2,7 +2,7 @@
 use Rattle.std.specs.Prelude.{◌≡◌, ◌⊎◌, ℕ, ◌+◌, ◌≤◌, ◌<◌, true}
 use Rattle.std.specs.Prelude.{[], ◌∷◌, length, drop, slice_range, Some}
 use Rattle.std.proofs.Common.{get_or}
-use Rattle.mm_types.specs.Spelling.{Text}
+use Rattle.mm_types.specs.{Text}
 use Rattle.mm_text.specs.Field.{are_digits, digits_in, limited, number_of}
 use Rattle.mm_text.specs.Word.{WordsOf, words_from, rest_from}
 

@@ -1,7 +1,7 @@
 -- Numbers in as few digits as there can be.
 -- Profile, "Answers".
 use Rattle.std.specs.Prelude.{ℕ, zero, suc, ◌/◌, ◌%◌, nat_lt, if◌then◌else◌, [], ◌∷◌, ◌++◌, codes}
-use Rattle.mm_types.specs.Spelling.{Text, glyph}
+use Rattle.mm_types.specs.{Text, glyph}
 
 -- the digits of n in a base, of which there are at most `count`, and then the rest
 unfoldable pub digits_onto : ℕ → ℕ → ℕ → Text → Text

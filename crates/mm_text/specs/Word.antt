@@ -1,7 +1,7 @@
 -- The words of a line.
 -- Profile, "Script".
 use Rattle.std.specs.Prelude.{ℕ, ◌+◌, nat_le, ◌==◌, if◌then◌else◌, List, [], ◌∷◌, ◌++◌, length, drop}
-use Rattle.mm_types.specs.Spelling.{Text}
+use Rattle.mm_types.specs.{Text}
 
 -- a word of a line: the place of its first byte, counted from 0, and its bytes
 pub record Word : Type 0 where

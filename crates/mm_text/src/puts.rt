@@ -1,5 +1,5 @@
 ghost use Rattle.std.specs.Prelude.{◌≡◌, ◌≤◌, ◌<◌, ◌+◌, ◌*◌, ◌++◌, [], length, take, drop};
-ghost use Rattle.mm_types.specs.Spelling.{glyph, decimal, hex_onto, hex8, byte_pairs};
+ghost use Rattle.mm_types.specs.{glyph, decimal, hex_onto, hex8, byte_pairs};
 ghost use Rattle.mm_text.specs.Shortest.{digits_onto, hex_short};
 
 use crate::LineBuf;

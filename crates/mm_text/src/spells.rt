@@ -1,6 +1,5 @@
 ghost use Rattle.std.specs.Prelude.{◌≡◌, ◌≤◌, ◌+◌, ◌*◌, ◌++◌, length, map};
-ghost use Rattle.mm_types.specs.Spelling.{decimal, hex8, spaced};
-ghost use Rattle.mm_types.specs.AnswerText.{code_number, status_number, why_text, answer_text, spelling};
+ghost use Rattle.mm_types.specs.{decimal, hex8, spaced, code_number, status_number, why_text, answer_text, spelling};
 ghost use Rattle.mm_text.specs.Following.{following};
 
 use crate::{LineBuf, put_bytes, put_decimal, put_hex8};

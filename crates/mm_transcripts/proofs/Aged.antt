@@ -2,12 +2,9 @@
 use Rattle.std.proofs.Common.{◌≡◌, ℕ, ◌+◌, ◌-◌, ◌≤◌, Bool, true, false, cond, ◌&&◌, min, List, Option, Some, None, refl, sym, ap, ◌∙◌, subst, arith, option_map}
 use Rattle.std.specs.Prelude.{◌==◌, slice_index, Result, Ok, Err, OnOk, OnErr}
 use Rattle.std.proofs.lemmas.Bool.{eqb-true}
-use Rattle.mm_types.specs.declared.numbers.Pid.{Pid}
-use Rattle.mm_types.specs.declared.numbers.Place.{Place}
-use Rattle.mm_types.specs.declared.faults.NoMemory.{NoMemory}
-use Rattle.mm_life.specs.Life.{same_place}
-use Rattle.mm_transcripts.specs.Ages.{at_place, older, older_of}
-use Rattle.mm_transcripts.specs.Keeping.{one_more, age_by, age_in, AreEarlier}
+use Rattle.mm_types.specs.{Pid, Place, NoMemory}
+use Rattle.mm_life.specs.{same_place}
+use Rattle.mm_transcripts.specs.{at_place, older, older_of, one_more, age_by, age_in, AreEarlier}
 
 -- ---- the same place is of one process
 

@@ -2,7 +2,7 @@
 use Rattle.std.proofs.Common.{◌≡◌, ℕ, ◌+◌, ◌<◌, Bool, true, false, cond, List, length, get_or, set, refl, sym, ap, ◌∙◌, subst, get_or-set_same, get_or-set_other}
 use Rattle.std.specs.Prelude.{◌==◌, slice_index, slice_set}
 use Rattle.std.proofs.lemmas.Bool.{eqb-true, eqb-false}
-use Rattle.mm_transcripts.specs.Keeping.{one_more}
+use Rattle.mm_transcripts.specs.{one_more}
 
 pub everywhere : {A B : Type 0} {f g : A → B} → ((a : A) → f a ≡ g a) → f ≡ g
 everywhere same = λ i. λ a. same a i

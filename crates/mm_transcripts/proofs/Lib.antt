@@ -4,3 +4,4 @@ mod Kept
 mod Named
 pub mod Trimming
 pub mod Telling
+pub use Telling.{row_first, row_last, row_taken}

@@ -1,14 +1,10 @@
 -- The names of errors and statuses, and of the numbers that calls take, by computing.
 use Rattle.std.proofs.Common.{◌≡◌, Some, refl}
-use Rattle.mm_types.specs.AnswerText.{answer_text}
+use Rattle.mm_types.specs.{answer_text, Code, Raise, decimal_onto}
 use Rattle.mm_types.specs.declared.answers.Answer.TheVariants as answer
-use Rattle.mm_types.specs.declared.codes.Code.{Code}
 use Rattle.mm_types.specs.declared.codes.Code.TheVariants as code
-use Rattle.mm_types.specs.declared.codes.Raise.{Raise}
 use Rattle.mm_types.specs.declared.codes.Raise.TheVariants as raise
-use Rattle.mm_types.specs.Spelling.{decimal_onto}
-use Rattle.mm_transcripts.specs.Failures.{failure_name, code_name, raise_name}
-use Rattle.mm_transcripts.specs.TakenNumbers.{taken_numbers, AreReadAgain}
+use Rattle.mm_transcripts.specs.{failure_name, code_name, raise_name, taken_numbers, AreReadAgain}
 
 pub error_named : (c : Code) → failure_name (answer_text (answer.Error c)) ≡ Some (code_name c)
 unfolding decimal_onto

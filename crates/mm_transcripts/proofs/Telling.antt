@@ -1,23 +1,14 @@
 -- The transcript that is still to come, where one more move was taken.
 use Rattle.std.proofs.Common.{◌≡◌, List, [], ◌∷◌, ◌++◌, Option, Some, None, sym, ap, ◌∙◌, append_assoc}
-use Rattle.mm_types.specs.Spelling.{Text}
-use Rattle.mm_types.proofs.Bytes.{append_nil}
-use Rattle.mm_types.specs.declared.moves.Move.{Move}
-use Rattle.mm_life.specs.Life.{FrameLife, unstarted}
-use Rattle.mm_life.specs.Effect.{after_move}
-use Rattle.mm_classes.specs.Marks.{MarksOf, no_marks, marks_after}
-use Rattle.mm_classes.specs.Classes.{next_of}
-use Rattle.mm_classes.specs.declared.classes.Class.{Class}
+use Rattle.mm_types.specs.{Text, Move}
+use Rattle.mm_types.proofs.{append_nil}
+use Rattle.mm_life.specs.{FrameLife, unstarted, after_move}
+use Rattle.mm_classes.specs.{MarksOf, no_marks, marks_after, next_of, Class}
 use Rattle.mm_sentences.specs.declared.facts.Facts.{Facts}
-use Rattle.mm_sentences.specs.Facts.{facts_of}
-use Rattle.mm_transcripts.specs.Ages.{AgesOf, no_ages}
-use Rattle.mm_transcripts.specs.declared.reasons.Reason.{Reason}
-use Rattle.mm_tell.specs.Classing.{pending, class_then, move_of}
-use Rattle.mm_tell.specs.declared.classifiers.Pending.{Pending}
-use Rattle.mm_tell.proofs.ClassKnown.{class_known}
-use Rattle.mm_transcripts.specs.Rows.{Beside, row_text}
-use Rattle.mm_transcripts.specs.Transcripts.{ages_then, reason_then, rows_from}
-use Rattle.mm_transcripts.specs.Waiting.{classed_row, rows_rest}
+use Rattle.mm_sentences.specs.{facts_of}
+use Rattle.mm_transcripts.specs.{AgesOf, no_ages, Reason, Beside, row_text, ages_then, reason_then, rows_from, classed_row, rows_rest}
+use Rattle.mm_tell.specs.{pending, class_then, move_of, Pending}
+use Rattle.mm_tell.proofs.{class_known}
 
 module _ (b : Beside) (l : FrameLife) (v : MarksOf) (p : Option Pending) (x : Facts) (r : Option Reason) (a : AgesOf) (m : Move) where
   -- its row waits now, and that of the move before it was written

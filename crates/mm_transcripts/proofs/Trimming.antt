@@ -2,8 +2,8 @@
 use Rattle.std.proofs.Common.{◌≡◌, ◌≢◌, ℕ, zero, suc, ◌+◌, ◌-◌, ◌<◌, ◌≤◌, Bool, true, false, ◌&&◌, cond, List, [], ◌∷◌, ◌++◌, length, take, drop, get_or, replicate, refl, sym, ap, ◌∙◌, arith, append_assoc}
 use Rattle.std.specs.Prelude.{◌==◌}
 use Rattle.std.proofs.lemmas.Bool.{eq-eqb, ne_eqb}
-use Rattle.mm_types.specs.Spelling.{Text}
-use Rattle.mm_transcripts.specs.Rows.{trimmed, is_none_left}
+use Rattle.mm_types.specs.{Text}
+use Rattle.mm_transcripts.specs.{trimmed, is_none_left}
 
 abbrev onto : ℕ → Text → Text
 onto c behind = cond ((c == 0x20) && is_none_left behind) [] (c ∷ behind)

@@ -2,12 +2,9 @@
 -- Profile, "Paging, as far as answers show it".
 use Rattle.std.specs.Prelude.{ℕ, ◌+◌, Bool, ◌==◌, min, is_some, if◌then◌else◌, Option, Some, None}
 use Rattle.std.specs.Prelude.{option_map}
-use Rattle.mm_types.specs.declared.numbers.Pid.{Pid}
-use Rattle.mm_types.specs.declared.numbers.Tid.{Tid}
-use Rattle.mm_types.specs.declared.numbers.Place.{Place}
-use Rattle.mm_types.specs.declared.moves.Move.{Move}
+use Rattle.mm_types.specs.{Pid, Tid, Place, Move}
 use Rattle.mm_types.specs.declared.moves.Move.TheVariants as move
-use Rattle.mm_life.specs.Life.{same_place}
+use Rattle.mm_life.specs.{same_place}
 
 pub record AgesOf : Type 0 where
   -- the age of each valid page

@@ -1,12 +1,10 @@
 -- Windows' names of errors and statuses.
 -- Profile, "Answers".
 use Rattle.std.specs.Prelude.{List, [], ◌∷◌, Option, Some, None, codes}
-use Rattle.mm_types.specs.Spelling.{Text}
-use Rattle.mm_types.specs.declared.codes.Code.{Code}
+use Rattle.mm_types.specs.{Text, Code, Raise}
 use Rattle.mm_types.specs.declared.codes.Code.TheVariants as code
-use Rattle.mm_types.specs.declared.codes.Raise.{Raise}
 use Rattle.mm_types.specs.declared.codes.Raise.TheVariants as raise
-use Rattle.mm_names.specs.Words.{text_among}
+use Rattle.mm_names.specs.{text_among}
 
 -- the answers of calls that are refused, and what is raised, each with its name
 abbrev pub error_names : List (Text × Text)

@@ -2,8 +2,7 @@
 -- count at its last touch.
 use Rattle.std.specs.Prelude.{◌≡◌, ℕ, ◌+◌, ◌-◌, ◌≤◌, Bool, ◌==◌, min, if◌then◌else◌, Option, Some}
 use Rattle.std.specs.Prelude.{option_map}
-use Rattle.mm_types.specs.declared.numbers.Tid.{Tid}
-use Rattle.mm_types.specs.declared.numbers.Place.{Place}
+use Rattle.mm_types.specs.{Tid, Place}
 
 abbrev pub same_thread : Tid → Tid → Bool
 same_thread t u = t.0 == u.0

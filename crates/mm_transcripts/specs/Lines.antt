@@ -2,19 +2,11 @@
 -- Profile, "Paging, as far as answers show it".
 use Rattle.std.specs.Prelude.{ℕ, ◌-◌, ◌/◌, Bool, nat_le, if◌then◌else◌, List, [], ◌∷◌, length, take}
 use Rattle.std.specs.Prelude.{bytes_eq, Option, Some, None, Result, Ok, Err, slice_get, codes}
-use Rattle.mm_types.specs.Spelling.{Text}
-use Rattle.mm_types.specs.Address.{page_size}
-use Rattle.mm_types.specs.declared.numbers.Pid.{Pid}
-use Rattle.mm_types.specs.declared.numbers.Tid.{Tid}
-use Rattle.mm_types.specs.declared.numbers.Place.{Place}
-use Rattle.mm_types.specs.declared.events.AccessSpec.{AccessSpec}
+use Rattle.mm_types.specs.{Text, page_size, Pid, Tid, Place, AccessSpec, Event, Move}
 use Rattle.mm_types.specs.declared.events.AccessSpec.TheVariants as spec
-use Rattle.mm_types.specs.declared.events.Event.{Event}
 use Rattle.mm_types.specs.declared.events.Event.TheVariants as line
-use Rattle.mm_types.specs.declared.moves.Move.{Move}
 use Rattle.mm_types.specs.declared.moves.Move.TheVariants as move
-use Rattle.mm_script.specs.declared.faults.LineFault.{LineFault}
-use Rattle.mm_script.specs.Reading.{parse}
+use Rattle.mm_script.specs.{LineFault, parse}
 use Rattle.mm_transcripts.specs.Ages.{AgesOf, no_ages, touched, aged, keeping, after_move}
 
 -- ---- answers

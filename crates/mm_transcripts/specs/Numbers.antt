@@ -2,8 +2,8 @@
 -- Profile, "Calls" and "What a log shows"; docs/WRITTEN.md
 use Rattle.std.specs.Prelude.{ℕ, Bool, false, not, ◌&&◌, ◌||◌, ◌==◌, bit_and, bit_or}
 use Rattle.std.specs.Prelude.{if◌then◌else◌, List, [], ◌∷◌, ◌++◌, take, drop, codes}
-use Rattle.mm_types.specs.Spelling.{Text}
-use Rattle.mm_names.specs.Numbers.{memory_names, page_names, section_names}
+use Rattle.mm_types.specs.{Text}
+use Rattle.mm_names.specs.{memory_names, page_names, section_names}
 use Rattle.mm_transcripts.specs.declared.numbers.NumberPlace.{NumberPlace}
 use Rattle.mm_transcripts.specs.declared.numbers.NumberPlace.TheVariants as place
 use Rattle.mm_transcripts.specs.declared.numbers.Number.{Number}

@@ -2,12 +2,10 @@
 -- Profile, "Paging, as far as answers show it".
 use Rattle.std.specs.Prelude.{ℕ, Bool, ◌==◌, if◌then◌else◌, [], ◌++◌, Option, Some}
 use Rattle.std.specs.Prelude.{None, unwrap_or, codes}
-use Rattle.mm_types.specs.Spelling.{Text, decimal}
-use Rattle.mm_types.specs.declared.moves.Move.{Move}
+use Rattle.mm_types.specs.{Text, decimal, Move}
 use Rattle.mm_types.specs.declared.moves.Move.TheVariants as move
-use Rattle.mm_life.specs.Life.{FrameLife, set_of}
-use Rattle.mm_life.specs.Legal.{is_above_min}
-use Rattle.mm_classes.specs.declared.classes.Class.{Class}
+use Rattle.mm_life.specs.{FrameLife, set_of, is_above_min}
+use Rattle.mm_classes.specs.{Class}
 use Rattle.mm_classes.specs.declared.classes.Class.TheVariants as class
 use Rattle.mm_transcripts.specs.Ages.{AgesOf}
 use Rattle.mm_transcripts.specs.declared.reasons.Reason.{Reason}

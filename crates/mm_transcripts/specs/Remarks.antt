@@ -3,13 +3,11 @@
 use Rattle.std.specs.Prelude.{ℕ, Bool, false, ◌||◌, nat_le, if◌then◌else◌, List, [], ◌∷◌}
 use Rattle.std.specs.Prelude.{◌++◌, length, Option, Some, None, Result, Ok, Err, unwrap_or, codes}
 use Rattle.std.specs.List.{list_any}
-use Rattle.mm_types.specs.Spelling.{Text}
-use Rattle.mm_types.specs.declared.events.Event.{Event}
+use Rattle.mm_types.specs.{Text, Event}
 use Rattle.mm_types.specs.declared.events.Event.TheVariants as line
-use Rattle.mm_text.specs.Field.{number_of}
-use Rattle.mm_text.specs.Word.{Word, words_of}
-use Rattle.mm_script.specs.declared.faults.LineFault.{LineFault}
-use Rattle.mm_script.specs.Reading.{parse}
+use Rattle.mm_text.specs.{number_of, words_of}
+use Rattle.mm_text.specs.Word.{Word}
+use Rattle.mm_script.specs.{LineFault, parse}
 use Rattle.mm_transcripts.specs.Numbers.{has_name, name_text, name_behind}
 use Rattle.mm_transcripts.specs.Failures.{failure_name}
 use Rattle.mm_transcripts.specs.declared.numbers.NumberPlace.{NumberPlace}

@@ -3,15 +3,12 @@
 use Rattle.std.specs.Prelude.{ℕ, ◌-◌, Bool, true, false, ◌&&◌, ◌==◌, if◌then◌else◌, is_some, List}
 use Rattle.std.specs.Prelude.{[], ◌∷◌, ◌++◌, length, replicate, slice_get, codes, Option, Some}
 use Rattle.std.specs.Prelude.{None}
-use Rattle.mm_types.specs.Spelling.{Text, decimal}
-use Rattle.mm_types.specs.declared.moves.LineKind.{LineKind}
-use Rattle.mm_types.specs.declared.moves.Move.{Move}
+use Rattle.mm_types.specs.{Text, decimal, LineKind, Move}
 use Rattle.mm_types.specs.declared.moves.Move.TheVariants as move
-use Rattle.mm_life.specs.Life.{FrameLife}
-use Rattle.mm_classes.specs.declared.classes.Class.{Class}
+use Rattle.mm_life.specs.{FrameLife}
+use Rattle.mm_classes.specs.{Class}
 use Rattle.mm_sentences.specs.declared.facts.Facts.{Facts}
-use Rattle.mm_sentences.specs.Words.{kind_text}
-use Rattle.mm_sentences.specs.Sentences.{sentence_text}
+use Rattle.mm_sentences.specs.{kind_text, sentence_text}
 use Rattle.mm_transcripts.specs.Remarks.{remark_text}
 use Rattle.mm_transcripts.specs.Reasons.{words_if}
 use Rattle.mm_transcripts.specs.declared.reasons.Reason.{Reason}

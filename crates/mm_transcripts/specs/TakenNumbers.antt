@@ -1,7 +1,7 @@
 -- The numbers that calls take, each at its place.
 -- Profile, "Calls".
 use Rattle.std.specs.Prelude.{◌≡◌, ℕ, List, [], ◌∷◌, ◌++◌, map, Some}
-use Rattle.mm_names.specs.Numbers.{value_of}
+use Rattle.mm_names.specs.{value_of}
 use Rattle.mm_transcripts.specs.Numbers.{name_text}
 use Rattle.mm_transcripts.specs.declared.numbers.NumberPlace.{NumberPlace}
 use Rattle.mm_transcripts.specs.declared.numbers.NumberPlace.TheVariants as place

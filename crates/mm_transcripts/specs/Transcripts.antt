@@ -2,14 +2,11 @@
 -- Profile, "What a log shows".
 use Rattle.std.specs.Prelude.{Bool, ◌&&◌, if◌then◌else◌, is_some, List, [], ◌∷◌, ◌++◌, Option, Some}
 use Rattle.std.specs.Prelude.{None}
-use Rattle.mm_types.specs.Spelling.{Text}
-use Rattle.mm_types.specs.declared.moves.Move.{Move}
+use Rattle.mm_types.specs.{Text, Move}
 use Rattle.mm_types.specs.declared.moves.Move.TheVariants as move
-use Rattle.mm_life.specs.Life.{FrameLife, unstarted}
-use Rattle.mm_life.specs.Effect.{after_move}
-use Rattle.mm_classes.specs.Marks.{MarksOf, no_marks, marks_after}
-use Rattle.mm_classes.specs.Classes.{class_of, next_of}
-use Rattle.mm_sentences.specs.Facts.{facts_of}
+use Rattle.mm_life.specs.{FrameLife, unstarted, after_move}
+use Rattle.mm_classes.specs.{MarksOf, no_marks, marks_after, class_of, next_of}
+use Rattle.mm_sentences.specs.{facts_of}
 use Rattle.mm_transcripts.specs.Ages.{AgesOf, no_ages, after_move as ages_moved}
 use Rattle.mm_transcripts.specs.Lines.{after_line}
 use Rattle.mm_transcripts.specs.Reasons.{reason_at}

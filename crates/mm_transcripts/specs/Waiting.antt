@@ -1,19 +1,14 @@
 -- The transcript that is still to come, from where the row of one move waits for the next move.
 -- Profile, "What a log shows".
 use Rattle.std.specs.Prelude.{Bool, List, [], ◌++◌, Option, Some, None}
-use Rattle.mm_types.specs.Spelling.{Text}
-use Rattle.mm_types.specs.declared.moves.Move.{Move}
-use Rattle.mm_life.specs.Life.{FrameLife}
-use Rattle.mm_classes.specs.Marks.{MarksOf}
-use Rattle.mm_classes.specs.Marking.{marks_of}
-use Rattle.mm_classes.specs.Classes.{next_of}
+use Rattle.mm_types.specs.{Text, Move}
+use Rattle.mm_life.specs.{FrameLife}
+use Rattle.mm_classes.specs.{MarksOf, marks_of, next_of}
 use Rattle.mm_sentences.specs.declared.facts.Facts.{Facts}
 use Rattle.mm_transcripts.specs.Ages.{AgesOf}
 use Rattle.mm_transcripts.specs.Shown.{ages_of}
 use Rattle.mm_transcripts.specs.declared.reasons.Reason.{Reason}
-use Rattle.mm_tell.specs.Classing.{class_then, move_of}
-use Rattle.mm_tell.specs.declared.classifiers.Classed.{Classed}
-use Rattle.mm_tell.specs.declared.classifiers.Pending.{Pending}
+use Rattle.mm_tell.specs.{class_then, move_of, Classed, Pending}
 use Rattle.mm_transcripts.specs.Rows.{Beside, row_text}
 use Rattle.mm_transcripts.specs.Transcripts.{rows_from}
 use Rattle.mm_transcripts.specs.declared.transcripts.TranscriptTeller.{TranscriptTeller}

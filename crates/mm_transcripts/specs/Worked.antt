@@ -1,6 +1,6 @@
 -- The transcripts of two worked logs, as the reference in Python writes them.
 use Rattle.std.specs.Prelude.{List, [], ◌∷◌, ◌++◌, codes, flat_map}
-use Rattle.mm_types.specs.Spelling.{Text}
+use Rattle.mm_types.specs.{Text}
 
 abbrev pub rows : List Text → Text
 rows lines = flat_map (λ line. line ++ 10 ∷ []) lines

@@ -1,53 +1,40 @@
-ghost use Rattle.std.specs.Prelude.{◌≡◌, option_map};
-ghost use Rattle.mm_names.specs.Words.{text_among};
-ghost use Rattle.mm_transcripts.specs.Failures.{error_names, status_names, failure_name};
+ghost use Rattle.std.specs.Prelude.{◌≡◌, map, option_map};
+ghost use Rattle.mm_names.specs.{text_among};
+ghost use Rattle.mm_transcripts.specs.Failures.{failure_name};
+ghost use Rattle.mm_transcripts.specs.Named.{row_of};
 
-/// The name of an error that a call is refused with, as GetLastError gives it.
-fn error_name(answer: &[u8]) -> Option<&'static [u8]>
-    ensures { option_map (λ n. n.now) result ≡ text_among error_names answer.now }
-{
-    if answer == b"error 2".as_slice() {
-        return Some(b"ERROR_FILE_NOT_FOUND".as_slice());
-    }
-    if answer == b"error 5".as_slice() {
-        return Some(b"ERROR_ACCESS_DENIED".as_slice());
-    }
-    if answer == b"error 6".as_slice() {
-        return Some(b"ERROR_INVALID_HANDLE".as_slice());
-    }
-    if answer == b"error 87".as_slice() {
-        return Some(b"ERROR_INVALID_PARAMETER".as_slice());
-    }
-    if answer == b"error 183".as_slice() {
-        return Some(b"ERROR_ALREADY_EXISTS".as_slice());
-    }
-    if answer == b"error 487".as_slice() {
-        return Some(b"ERROR_INVALID_ADDRESS".as_slice());
-    }
-    if answer == b"error 1132".as_slice() {
-        return Some(b"ERROR_MAPPED_ALIGNMENT".as_slice());
-    }
-    if answer == b"error 1455".as_slice() {
-        return Some(b"ERROR_COMMITMENT_LIMIT".as_slice());
-    }
-    None
-}
+/// An answer, and its name.
+#[derive(Clone, Copy)]
+struct Failure(&'static [u8], &'static [u8]);
 
-/// The name of a status that an access raises (NTSTATUS).
-fn status_name(answer: &[u8]) -> Option<&'static [u8]>
-    ensures { option_map (λ n. n.now) result ≡ text_among status_names answer.now }
+/// The errors that calls are refused with, as GetLastError gives them.
+const ERRORS: [Failure; 8] = [
+    Failure(b"error 2", b"ERROR_FILE_NOT_FOUND"),
+    Failure(b"error 5", b"ERROR_ACCESS_DENIED"),
+    Failure(b"error 6", b"ERROR_INVALID_HANDLE"),
+    Failure(b"error 87", b"ERROR_INVALID_PARAMETER"),
+    Failure(b"error 183", b"ERROR_ALREADY_EXISTS"),
+    Failure(b"error 487", b"ERROR_INVALID_ADDRESS"),
+    Failure(b"error 1132", b"ERROR_MAPPED_ALIGNMENT"),
+    Failure(b"error 1455", b"ERROR_COMMITMENT_LIMIT"),
+];
+
+/// The statuses that accesses raise (NTSTATUS).
+const STATUSES: [Failure; 4] = [
+    Failure(b"raise 0x80000001", b"STATUS_GUARD_PAGE_VIOLATION"),
+    Failure(b"raise 0xC0000005", b"STATUS_ACCESS_VIOLATION"),
+    Failure(b"raise 0xC0000006", b"STATUS_IN_PAGE_ERROR"),
+    Failure(b"raise 0xC00000FD", b"STATUS_STACK_OVERFLOW"),
+];
+
+/// The name of an answer that is one of these.
+fn name_among(failures: &'static [Failure], answer: &[u8]) -> Option<&'static [u8]>
+    ensures { option_map (λ n. n.now) result ≡ text_among (map row_of failures.now) answer.now }
 {
-    if answer == b"raise 0x80000001".as_slice() {
-        return Some(b"STATUS_GUARD_PAGE_VIOLATION".as_slice());
-    }
-    if answer == b"raise 0xC0000005".as_slice() {
-        return Some(b"STATUS_ACCESS_VIOLATION".as_slice());
-    }
-    if answer == b"raise 0xC0000006".as_slice() {
-        return Some(b"STATUS_IN_PAGE_ERROR".as_slice());
-    }
-    if answer == b"raise 0xC00000FD".as_slice() {
-        return Some(b"STATUS_STACK_OVERFLOW".as_slice());
+    for failure in failures {
+        if answer == failure.0 {
+            return Some(failure.1);
+        }
     }
     None
 }
@@ -56,8 +43,8 @@ fn status_name(answer: &[u8]) -> Option<&'static [u8]>
 pub(crate) fn failure_name(answer: &[u8]) -> Option<&'static [u8]>
     ensures { option_map (λ n. n.now) result ≡ failure_name answer.now }
 {
-    match error_name(answer) {
+    match name_among(&ERRORS, answer) {
         Some(name) => Some(name),
-        None => status_name(answer),
+        None => name_among(&STATUSES, answer),
     }
 }

@@ -1,8 +1,6 @@
 ghost use Rattle.std.specs.Prelude.{◌≡◌, Some};
-ghost use Rattle.mm_types.specs.AnswerText.{answer_text};
+ghost use Rattle.mm_types.specs.{answer_text, Code, Raise};
 ghost use Rattle.mm_types.specs.declared.answers.Answer.TheVariants as answer;
-ghost use Rattle.mm_types.specs.declared.codes.Code.{Code};
-ghost use Rattle.mm_types.specs.declared.codes.Raise.{Raise};
 ghost use Rattle.mm_transcripts.specs.Failures.{failure_name, code_name, raise_name};
 ghost use Rattle.mm_transcripts.specs.TakenNumbers.{taken_numbers, AreReadAgain};
 

@@ -1,7 +1,7 @@
-ghost use Rattle.std.specs.Prelude.{◌≡◌, ◌++◌, ◌∷◌, ℕ, List, OnOk, IfOk, false};
-ghost use Rattle.mm_names.specs.Numbers.{memory_names, page_names};
+ghost use Rattle.std.specs.Prelude.{◌≡◌, ◌++◌, ◌∷◌, ℕ, List, OnOk, IfOk, false, map};
 ghost use Rattle.mm_transcripts.specs.Numbers.{names_at, bits_of, lies_in, is_all_access, has_name};
 ghost use Rattle.mm_transcripts.specs.Numbers.{name_behind, union_text, name_text};
+ghost use Rattle.mm_transcripts.specs.Bits.{row_of};
 
 use mm_types::NoMemory;
 
@@ -27,6 +27,56 @@ pub(crate) enum NumberPlace {
 pub(crate) struct Number {
     pub(crate) place: NumberPlace,
     pub(crate) value: u32,
+}
+
+/// A bit, by its name.
+#[derive(Clone, Copy)]
+struct NamedBit(&'static [u8], u32);
+
+/// The bits that have names in the flags of a section: those of a protection, and two more.
+const SECTION_BITS: [NamedBit; 11] = [
+    NamedBit(b"PAGE_NOACCESS", 0x01),
+    NamedBit(b"PAGE_READONLY", 0x02),
+    NamedBit(b"PAGE_READWRITE", 0x04),
+    NamedBit(b"PAGE_WRITECOPY", 0x08),
+    NamedBit(b"PAGE_EXECUTE", 0x10),
+    NamedBit(b"PAGE_EXECUTE_READ", 0x20),
+    NamedBit(b"PAGE_EXECUTE_READWRITE", 0x40),
+    NamedBit(b"PAGE_EXECUTE_WRITECOPY", 0x80),
+    NamedBit(b"PAGE_GUARD", 0x100),
+    NamedBit(b"SEC_RESERVE", 0x400_0000),
+    NamedBit(b"SEC_COMMIT", 0x800_0000),
+];
+
+/// The bits that have names at a place, in rising order.
+fn bits_at(place: NumberPlace) -> &'static [NamedBit]
+    ensures { map row_of result.now ≡ names_at place }
+{
+    match place {
+        NumberPlace::Allocation => &[
+            NamedBit(b"MEM_COMMIT", 0x1000),
+            NamedBit(b"MEM_RESERVE", 0x2000),
+            NamedBit(b"MEM_DECOMMIT", 0x4000),
+            NamedBit(b"MEM_RELEASE", 0x8000),
+            NamedBit(b"MEM_WRITE_WATCH", 0x20_0000),
+        ],
+        NumberPlace::Protection => &SECTION_BITS[..9],
+        NumberPlace::Section => &SECTION_BITS,
+        NumberPlace::Access => &[
+            NamedBit(b"FILE_MAP_COPY", 1),
+            NamedBit(b"FILE_MAP_WRITE", 2),
+            NamedBit(b"FILE_MAP_READ", 4),
+        ],
+        NumberPlace::State => &[
+            NamedBit(b"MEM_COMMIT", 0x1000),
+            NamedBit(b"MEM_RESERVE", 0x2000),
+            NamedBit(b"MEM_FREE", 0x1_0000),
+        ],
+        NumberPlace::Type => &[
+            NamedBit(b"MEM_PRIVATE", 0x2_0000),
+            NamedBit(b"MEM_MAPPED", 0x4_0000),
+        ],
+    }
 }
 
 /// The bits that have names at a place.
@@ -78,120 +128,28 @@ fn put_behind(mark: &[u8], after: bool, name: &[u8], text: &mut Vec<u8>) -> Resu
 
 /// Writes the name of a bit where the number has it. Answers whether a name stands there now.
 #[tactic(auto, using(crate::proofs::Joins::joins))]
-fn put_bit(
-    after: bool,
-    name: &[u8],
-    bit: u32,
-    value: u32,
-    text: &mut Vec<u8>,
-) -> Result<bool, NoMemory>
+fn put_bit(after: bool, bit: NamedBit, value: u32, text: &mut Vec<u8>) -> Result<bool, NoMemory>
     ensures { IfOk result (λ b. (rest : List (List ℕ × ℕ)) → text.new.items
         ++ union_text b rest value
-        ≡ text.old.items ++ union_text after ((name.now, bit) ∷ rest) value) }
+        ≡ text.old.items ++ union_text after (row_of bit ∷ rest) value) }
 {
-    if !lies_in(bit, value) {
+    if !lies_in(bit.1, value) {
         return Ok(after);
     }
-    put_behind(b"|", after, name, text)?;
+    put_behind(b"|", after, bit.0, text)?;
     Ok(true)
 }
 
-/// The union of names for kinds of allocation.
-fn put_memory(value: u32, text: &mut Vec<u8>) -> Result<(), NoMemory>
+/// Writes the names of those of some bits that a number has, between them `|`.
+fn put_bits(bits: &[NamedBit], value: u32, text: &mut Vec<u8>) -> Result<(), NoMemory>
     ensures { OnOk result (text.new.items
-        ≡ text.old.items ++ union_text false memory_names value) }
+        ≡ text.old.items ++ union_text false (map row_of bits.now) value) }
 {
-    let after = put_bit(false, b"MEM_COMMIT", 0x1000, value, text)?;
-    let after = put_bit(after, b"MEM_RESERVE", 0x2000, value, text)?;
-    let after = put_bit(after, b"MEM_DECOMMIT", 0x4000, value, text)?;
-    let after = put_bit(after, b"MEM_RELEASE", 0x8000, value, text)?;
-    put_bit(after, b"MEM_WRITE_WATCH", 0x20_0000, value, text)?;
-    Ok(())
-}
-
-/// The union of names for protections. Answers whether one was written.
-fn put_protection(value: u32, text: &mut Vec<u8>) -> Result<bool, NoMemory>
-    ensures { IfOk result (λ b. (rest : List (List ℕ × ℕ)) → text.new.items
-        ++ union_text b rest value
-        ≡ text.old.items ++ union_text false (page_names ++ rest) value) }
-{
-    let after = put_bit(false, b"PAGE_NOACCESS", 0x01, value, text)?;
-    let after = put_bit(after, b"PAGE_READONLY", 0x02, value, text)?;
-    let after = put_bit(after, b"PAGE_READWRITE", 0x04, value, text)?;
-    let after = put_bit(after, b"PAGE_WRITECOPY", 0x08, value, text)?;
-    let after = put_bit(after, b"PAGE_EXECUTE", 0x10, value, text)?;
-    let after = put_bit(after, b"PAGE_EXECUTE_READ", 0x20, value, text)?;
-    let after = put_bit(after, b"PAGE_EXECUTE_READWRITE", 0x40, value, text)?;
-    let after = put_bit(after, b"PAGE_EXECUTE_WRITECOPY", 0x80, value, text)?;
-    let after = put_bit(after, b"PAGE_GUARD", 0x100, value, text)?;
-    Ok(after)
-}
-
-/// The union of names for protections.
-fn put_page(value: u32, text: &mut Vec<u8>) -> Result<(), NoMemory>
-    ensures { OnOk result (text.new.items
-        ≡ text.old.items ++ union_text false page_names value) }
-{
-    put_protection(value, text)?;
-    Ok(())
-}
-
-/// The union of names for the flags of a section.
-fn put_section(value: u32, text: &mut Vec<u8>) -> Result<(), NoMemory>
-    ensures { OnOk result (text.new.items
-        ≡ text.old.items ++ union_text false (names_at NumberPlace.Section) value) }
-{
-    let after = put_protection(value, text)?;
-    let after = put_bit(after, b"SEC_RESERVE", 0x400_0000, value, text)?;
-    put_bit(after, b"SEC_COMMIT", 0x800_0000, value, text)?;
-    Ok(())
-}
-
-/// The union of names for the access of a view.
-fn put_access(value: u32, text: &mut Vec<u8>) -> Result<(), NoMemory>
-    ensures { OnOk result (text.new.items
-        ≡ text.old.items ++ union_text false (names_at NumberPlace.Access) value) }
-{
-    let after = put_bit(false, b"FILE_MAP_COPY", 1, value, text)?;
-    let after = put_bit(after, b"FILE_MAP_WRITE", 2, value, text)?;
-    put_bit(after, b"FILE_MAP_READ", 4, value, text)?;
-    Ok(())
-}
-
-/// The union of names for the state of a page.
-fn put_state(value: u32, text: &mut Vec<u8>) -> Result<(), NoMemory>
-    ensures { OnOk result (text.new.items
-        ≡ text.old.items ++ union_text false (names_at NumberPlace.State) value) }
-{
-    let after = put_bit(false, b"MEM_COMMIT", 0x1000, value, text)?;
-    let after = put_bit(after, b"MEM_RESERVE", 0x2000, value, text)?;
-    put_bit(after, b"MEM_FREE", 0x1_0000, value, text)?;
-    Ok(())
-}
-
-/// The union of names for the type of a page.
-fn put_type(value: u32, text: &mut Vec<u8>) -> Result<(), NoMemory>
-    ensures { OnOk result (text.new.items
-        ≡ text.old.items ++ union_text false (names_at NumberPlace.Type) value) }
-{
-    let after = put_bit(false, b"MEM_PRIVATE", 0x2_0000, value, text)?;
-    put_bit(after, b"MEM_MAPPED", 0x4_0000, value, text)?;
-    Ok(())
-}
-
-/// The union of names at a place.
-fn put_union(number: Number, text: &mut Vec<u8>) -> Result<(), NoMemory>
-    ensures { OnOk result (text.new.items
-        ≡ text.old.items ++ union_text false (names_at number.place) number.value) }
-{
-    match number.place {
-        NumberPlace::Allocation => put_memory(number.value, text),
-        NumberPlace::Protection => put_page(number.value, text),
-        NumberPlace::Section => put_section(number.value, text),
-        NumberPlace::Access => put_access(number.value, text),
-        NumberPlace::State => put_state(number.value, text),
-        NumberPlace::Type => put_type(number.value, text),
+    let mut after = false;
+    for bit in bits {
+        after = put_bit(after, *bit, value, text)?;
     }
+    Ok(())
 }
 
 /// Writes the name of a number that has one.
@@ -202,5 +160,5 @@ pub(crate) fn put_name(number: Number, text: &mut Vec<u8>) -> Result<(), NoMemor
         text.extend_from_slice(b"FILE_MAP_ALL_ACCESS")?;
         return Ok(());
     }
-    put_union(number, text)
+    put_bits(bits_at(number.place), number.value, text)
 }

@@ -1,6 +1,6 @@
 ghost use Rattle.std.specs.Prelude.{◌≡◌, ◌++◌, OnOk};
-ghost use Rattle.mm_types.specs.Spelling.{decimal};
-ghost use Rattle.mm_life.specs.Legal.{is_above_min};
+ghost use Rattle.mm_types.specs.{decimal};
+ghost use Rattle.mm_life.specs.{is_above_min};
 ghost use Rattle.mm_transcripts.specs.Reasons.{age_words, process_words, reason_words};
 
 use mm_classes::Class;

@@ -1,8 +1,7 @@
 ghost use Rattle.std.specs.Prelude.{◌≡◌, ◌++◌, List, ◌<◌, ◌+◌, ◌^◌, OnOk, IfOk, false, codes};
 ghost use Rattle.std.specs.Prelude.{length, option_map, unwrap_or, [], ◌∷◌, Some};
 ghost use Rattle.std.specs.List.{list_any};
-ghost use Rattle.mm_text.specs.Field.{number_of};
-ghost use Rattle.mm_text.specs.Word.{words_of};
+ghost use Rattle.mm_text.specs.{number_of, words_of};
 ghost use Rattle.mm_transcripts.specs.declared.numbers.Number.{Number};
 ghost use Rattle.mm_transcripts.specs.Numbers.{has_name};
 ghost use Rattle.mm_transcripts.specs.Remarks.{listed, bracketed, numbers_of, told_names};

@@ -1,4 +1,4 @@
-ghost use Rattle.std.specs.Prelude.{◌≡◌, ◌-◌, ◌++◌, OnOk, length, replicate, option_map, codes};
+ghost use Rattle.std.specs.Prelude.{◌≡◌, ◌-◌, ◌++◌, OnOk, replicate, option_map};
 ghost use Rattle.mm_replay.specs.Standing.{life as life_of};
 ghost use Rattle.mm_transcripts.specs.Reasons.{words_if};
 ghost use Rattle.mm_transcripts.specs.Rows.{trimmed, padded, answered_row, asked_row, said_text};
@@ -127,27 +127,7 @@ fn put_reason_if(class: Class, reason: &Option<Reason>, text: &mut Vec<u8>) -> R
     }
 }
 
-/// Writes the row of a move of this class; `after` is the state after it.
-#[tactic(auto, using(mm_sentences::proofs::Joined::joined))]
-fn put_move_row(
-    addressed: bool,
-    class: Class,
-    facts: &Facts,
-    reason: &Option<Reason>,
-    after: &Life,
-    text: &mut Vec<u8>,
-) -> Result<(), NoMemory>
-    ensures { OnOk result (text.new.items ≡ text.old.items
-        ++ class_row addressed (Some class) facts.now reason.now (life_of after.now)) }
-{
-    put_words(b"     ", text)?;
-    put_sentence(class, facts, addressed, after, text)?;
-    put_reason_if(class, reason, text)?;
-    text.push(b'\n')?;
-    Ok(())
-}
-
-/// Writes the row of a move, if it is of a class.
+/// Writes the row of a move, if it is of a class; `after` is the state after it.
 #[tactic(auto, using(mm_sentences::proofs::Joined::joined))]
 pub(crate) fn put_class_row(
     addressed: bool,
@@ -161,7 +141,12 @@ pub(crate) fn put_class_row(
         ++ class_row addressed class facts.now reason.now (life_of after.now)) }
 {
     match class {
-        Some(class) => put_move_row(addressed, class, facts, reason, after, text),
+        Some(class) => {
+            put_words(b"     ", text)?;
+            put_sentence(class, facts, addressed, after, text)?;
+            put_reason_if(class, reason, text)?;
+            put_words(b"\n", text)
+        }
         None => Ok(()),
     }
 }

@@ -1,6 +1,6 @@
 ghost use Rattle.std.specs.Prelude.{◌≡◌, OnOk, OnErr, None, Some, slice_index};
 ghost use Rattle.indexmap.specs.IndexMap.{get};
-ghost use Rattle.mm_life.specs.Life.{same_place};
+ghost use Rattle.mm_life.specs.{same_place};
 ghost use Rattle.mm_transcripts.specs.Ages.{at_place, at_thread, older_of};
 ghost use Rattle.mm_transcripts.specs.Keeping.{AreEarlier, age_in, one_more, same_thread};
 

@@ -1,13 +1,13 @@
-ghost use Rattle.std.specs.Prelude.{◌≡◌, ◌++◌, ◌∷◌, [], ℕ, Bool, List, OnOk, option_map, true};
-ghost use Rattle.mm_types.specs.declared.moves.Move.{Move};
-ghost use Rattle.mm_life.specs.Life.{unstarted};
-ghost use Rattle.mm_life.specs.Effect.{after_move};
+ghost use Rattle.std.specs.Prelude.{◌≡◌, ◌++◌, Bool, List, OnOk, option_map};
+ghost use Rattle.mm_types.specs.{Move};
+ghost use Rattle.mm_life.specs.{unstarted};
 ghost use Rattle.mm_replay.specs.Standing.{life as life_of};
 ghost use Rattle.mm_transcripts.specs.Shown.{ages_of};
-ghost use Rattle.mm_transcripts.specs.Rows.{Beside, line_of, row_text};
-ghost use Rattle.mm_transcripts.specs.Transcripts.{has_ages, ages_by, ages_then, reason_then};
+ghost use Rattle.mm_transcripts.specs.Rows.{line_of, row_text};
+ghost use Rattle.mm_transcripts.specs.Transcripts.{has_ages, ages_then, reason_then};
 ghost use Rattle.mm_transcripts.specs.Transcripts.{transcript};
-ghost use Rattle.mm_transcripts.specs.Waiting.{classed_row};
+ghost use Rattle.mm_transcripts.specs.Waiting.{classed_row, transcript_rest};
+ghost use Rattle.mm_sentences.specs.{why_text};
 
 use crate::ages::Ages;
 use crate::reasons::Reason;
@@ -35,23 +35,6 @@ fn has_ages(script: &Option<Lines>, answers: &Option<Lines>) -> bool
     script.is_some() && answers.is_some()
 }
 
-/// Takes a line or a move into the ages.
-fn move_ages(
-    script: &Option<Lines>,
-    answers: &Option<Lines>,
-    m: &Move,
-    ages: &mut Ages,
-) -> Result<(), NoMemory>
-    ensures { OnOk result (ages_of ages.new
-        ≡ ages_by (record { script = script.now; answers = answers.now }) m.now
-        (ages_of ages.old)) }
-{
-    match *m {
-        Move::At(number, _) => ages.line(line_of(script, number), line_of(answers, number)),
-        _ => ages.moved(m),
-    }
-}
-
 /// Takes a line or a move into the ages, where they are known.
 fn follow_ages(
     script: &Option<Lines>,
@@ -63,10 +46,12 @@ fn follow_ages(
         ≡ ages_then (record { script = script.now; answers = answers.now }) m.now
         (ages_of ages.old)) }
 {
-    if has_ages(script, answers) {
-        move_ages(script, answers, m, ages)
-    } else {
-        Ok(())
+    if !has_ages(script, answers) {
+        return Ok(());
+    }
+    match *m {
+        Move::At(number, _) => ages.line(line_of(script, number), line_of(answers, number)),
+        _ => ages.moved(m),
     }
 }
 
@@ -149,8 +134,6 @@ pub struct TranscriptTeller<'a> {
 }
 
 impl<'a> TranscriptTeller<'a> {
-    ghost use Rattle.mm_transcripts.specs.Waiting.{transcript_rest};
-
     /// Nothing was told. `script` and `answers` are those of the log's run, where they are named.
     pub fn new(
         alloc: Global,
@@ -169,13 +152,16 @@ impl<'a> TranscriptTeller<'a> {
             ages: Ages::new(alloc),
         }
     }
+}
 
-    /// Takes the next move, and writes the row of the one before it.
-    fn take_move(&mut self, life: &Life, m: &Move, text: &mut Vec<u8>) -> Result<(), NoMemory>
-        ensures { OnOk result ((whole : Bool) (ms : List Move) → text.new.items
-            ++ transcript_rest self.new whole (after_move (life_of life.now) m.now) ms
-            ≡ text.old.items ++ transcript_rest self.old whole (life_of life.now) (m.now ∷ ms)) }
-    {
+impl<'a> Teller for TranscriptTeller<'a> {
+    ghost rest = { transcript_rest };
+
+    ghost counted = { λ t. 0 };
+
+    ghost why = { why_text };
+
+    fn take(&mut self, life: &Life, m: &Move, text: &mut Vec<u8>) -> Result<(), NoMemory> {
         let before = self.classifier.next(life, m)?;
         put_classed(
             self.script,
@@ -192,11 +178,7 @@ impl<'a> TranscriptTeller<'a> {
         Ok(())
     }
 
-    /// Writes the row of the last move, whether the log ends well or not.
-    fn put_last(&mut self, _whole: bool, life: &Life, text: &mut Vec<u8>) -> Result<(), NoMemory>
-        ensures { OnOk result (text.new.items ≡ text.old.items
-            ++ transcript_rest self.old _whole (life_of life.now) []) }
-    {
+    fn finish(&mut self, whole: bool, life: &Life, text: &mut Vec<u8>) -> Result<(), NoMemory> {
         put_classed(
             self.script,
             self.answers,
@@ -207,25 +189,6 @@ impl<'a> TranscriptTeller<'a> {
             text,
         )?;
         Ok(())
-    }
-}
-
-impl<'a> Teller for TranscriptTeller<'a> {
-    ghost use Rattle.mm_transcripts.specs.Waiting.{transcript_rest};
-    ghost use Rattle.mm_sentences.specs.Refusals.{why_text};
-
-    ghost rest = { transcript_rest };
-
-    ghost counted = { λ t. 0 };
-
-    ghost why = { why_text };
-
-    fn take(&mut self, life: &Life, m: &Move, text: &mut Vec<u8>) -> Result<(), NoMemory> {
-        self.take_move(life, m, text)
-    }
-
-    fn finish(&mut self, whole: bool, life: &Life, text: &mut Vec<u8>) -> Result<(), NoMemory> {
-        self.put_last(whole, life, text)
     }
 
     fn tell_why(&self, life: &Life, m: &Move, text: &mut Vec<u8>) -> Result<(), NoMemory> {

@@ -1,5 +1,5 @@
 ghost use Rattle.std.specs.Prelude.{◌≡◌, None, true};
-ghost use Rattle.mm_life.specs.WorkedLogs.{rewritten_log, smallest_set_log};
+ghost use Rattle.mm_life.specs.{rewritten_log, smallest_set_log};
 ghost use Rattle.mm_transcripts.specs.Transcripts.{transcript};
 ghost use Rattle.mm_transcripts.specs.Worked.{rewritten_rows, smallest_set_rows};
 

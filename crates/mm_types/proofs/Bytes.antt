@@ -1,6 +1,6 @@
 -- What was taken and appended, one piece after another.
 use Rattle.std.proofs.Common.{◌≡◌, ℕ, ◌≤◌, List, [], ◌∷◌, ◌++◌, Option, Some, None, refl, sym, ap, ◌∙◌, append_assoc, arith}
-use Rattle.mm_types.specs.Outside.{Took, Appended, Rose}
+use Rattle.mm_types.specs.{Took, Appended, Rose}
 
 pub append_nil : {A : Type 0} (xs : List A) → xs ++ [] ≡ xs
 append_nil [] = refl

@@ -1,7 +1,7 @@
 -- The least number that passes a test.
 use Rattle.std.proofs.Common.{◌≡◌, ℕ, zero, suc, ◌+◌, ◌≤◌, ◌<◌, Bool, true, false, Option, Some, None, refl, ◌∙◌, ap, cond, arith}
 use Rattle.std.proofs.Math.Decide.{dec_le}
-use Rattle.mm_types.specs.Address.{least_from}
+use Rattle.mm_types.specs.{least_from}
 
 abbrev step : Bool → ℕ → Option ℕ → Option ℕ
 step b start later = cond b (Some start) later

@@ -2,7 +2,7 @@
 use Rattle.std.proofs.Common.{◌≡◌, ℕ, zero, suc, ◌+◌, ◌-◌, ◌<◌, ◌≤◌, List, [], ◌∷◌, ◌++◌, length, drop, refl, sym, ap, ◌∙◌, arith, length-append, length-drop}
 use Rattle.std.specs.Prelude.{replicate, slice_set}
 use Rattle.std.proofs.lemmas.List.{drop-replicate, length-replicate, drop-drop, drop-set-lt, length-set}
-use Rattle.mm_types.specs.Padded.{IsPadded}
+use Rattle.mm_types.specs.{IsPadded}
 
 drop_behind : (front rest : List ℕ) (n : ℕ) → length front ≡ n → drop n (front ++ rest) ≡ rest
 drop_behind [] rest zero e = refl

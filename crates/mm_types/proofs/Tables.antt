@@ -6,7 +6,7 @@ use Rattle.std.specs.FinMap as finite
 use Rattle.std.specs.FinMap.{FinMap, find}
 use Rattle.mm_types.proofs.Finite.{same, get-insert, get-remove}
 use Rattle.mm_types.proofs.Cells.{get_set_same, get_set_other, same_or_not}
-use Rattle.mm_types.specs.Table.{put_if, pairs_from, table, found}
+use Rattle.mm_types.specs.{put_if, pairs_from, table, found}
 
 pub differ : (q j : ℕ) → q ≢ j → (q == j) ≡ false
 differ q j h = elim (q == j) as (λ b. (q == j) ≡ b → (q == j) ≡ false) [ true ↦ λ e. absurd (h ((unsigned_Decides q j).0 e)) | false ↦ λ e. e ] refl

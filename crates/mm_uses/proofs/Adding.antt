@@ -3,16 +3,11 @@ use Rattle.std.proofs.Common.{◌≡◌, ◌+◌, cond, List, [], ◌∷◌, len
 use Rattle.std.specs.Prelude.{◌==◌, count_by, sum}
 use Rattle.std.proofs.lemmas.List.{length-map}
 use Rattle.std.proofs.lemmas.List.Sums.{length-filter, sum_by-cons}
-use Rattle.mm_types.specs.declared.answers.Counts.{Counts}
-use Rattle.mm_types.specs.declared.frames.Record.{Record}
-use Rattle.mm_life.specs.Frames.{record_at}
-use Rattle.mm_life.specs.Life.{FrameLife, counts_of, is_active, is_in_transition}
-use Rattle.mm_laws.specs.Standing.{counted_frames}
-use Rattle.mm_uses.specs.Sums.{AddUp, total_in}
-use Rattle.mm_uses.specs.Uses.{use_of, row_of, is_use, records_in, totals}
-use Rattle.mm_uses.specs.declared.uses.Column.{Column}
+use Rattle.mm_types.specs.{Counts, Record}
+use Rattle.mm_life.specs.{record_at, FrameLife, counts_of, is_active, is_in_transition}
+use Rattle.mm_laws.specs.{counted_frames}
+use Rattle.mm_uses.specs.{AddUp, total_in, use_of, row_of, is_use, records_in, totals, Column, Use}
 use Rattle.mm_uses.specs.declared.uses.Column.TheVariants as column
-use Rattle.mm_uses.specs.declared.uses.Use.{Use}
 use Rattle.mm_uses.specs.declared.uses.Use.TheVariants as use_of_frames
 
 one_row : (u : Use) → cond (row_of u == 0) 1 0 + cond (row_of u == 1) 1 0 + cond (row_of u == 2) 1 0 + cond (row_of u == 3) 1 0 + cond (row_of u == 4) 1 0 ≡ 1

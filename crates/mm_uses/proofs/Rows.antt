@@ -1,10 +1,9 @@
 -- Rows that are written in pieces.
 use Rattle.std.proofs.Common.{◌≡◌, ℕ, ◌∷◌, [], ◌++◌, ap, ◌∙◌, append_assoc}
 use Rattle.std.specs.Prelude.{codes}
-use Rattle.mm_types.specs.Spelling.{Text, decimal}
-use Rattle.mm_life.specs.declared.sets.ResidentSet.{ResidentSet}
-use Rattle.mm_life.specs.MoveText.{numbered}
-use Rattle.mm_uses.specs.Uses.{set_row}
+use Rattle.mm_types.specs.{Text, decimal}
+use Rattle.mm_life.specs.{ResidentSet, numbered}
+use Rattle.mm_uses.specs.{set_row}
 
 -- the two numbers of a row are these
 pub pair_is : (before between behind : Text) (m n m' n' : ℕ) (text text1 : Text) → text1 ≡ text ++ numbered before m (numbered between n behind) → m ≡ m' → n ≡ n'

@@ -1,12 +1,9 @@
 -- What was told of a state, and what is still to come.
 use Rattle.std.proofs.Common.{◌≡◌, ℕ, Bool, List, ◌∷◌, ◌++◌, sym, ap, ◌∙◌, append_assoc}
 use Rattle.std.specs.Prelude.{◌||◌}
-use Rattle.mm_types.specs.Spelling.{Text}
-use Rattle.mm_types.specs.declared.moves.Move.{Move}
-use Rattle.mm_life.specs.Life.{FrameLife}
-use Rattle.mm_life.specs.Effect.{after_move}
-use Rattle.mm_uses.specs.Lines.{ended_by, line_ends, is_among, unless_found}
-use Rattle.mm_uses.specs.States.{ValidPage, pages_after, state_before, state_from}
+use Rattle.mm_types.specs.{Text, Move}
+use Rattle.mm_life.specs.{FrameLife, after_move}
+use Rattle.mm_uses.specs.{ended_by, line_ends, is_among, unless_found, ValidPage, pages_after, state_before, state_from}
 use Rattle.mm_uses.proofs.Tellings.{found_more}
 
 pub state_taken : (line : ℕ) (found found' : Bool) (pages pages' : List ValidPage) (text text1 : Text) (l : FrameLife) (m : Move)

@@ -3,13 +3,9 @@ use Rattle.std.proofs.Common.{◌≡◌, ℕ, Bool, true, false, List, ◌∷◌
 use Rattle.std.specs.Prelude.{◌||◌, flat_map}
 use Rattle.std.proofs.lemmas.Grind.{flat_map-append}
 use Rattle.std.proofs.lemmas.List.Folds.{list_any-append}
-use Rattle.mm_types.specs.Spelling.{Text}
-use Rattle.mm_types.specs.declared.moves.Move.{Move}
-use Rattle.mm_life.specs.Life.{FrameLife}
-use Rattle.mm_life.specs.Effect.{after_move}
-use Rattle.mm_uses.specs.Lines.{ended_by, line_ends, is_line, said_of, is_among, unless_found}
-use Rattle.mm_uses.specs.Counts.{counts_row}
-use Rattle.mm_uses.specs.Rest.{head_left, said_rest}
+use Rattle.mm_types.specs.{Text, Move}
+use Rattle.mm_life.specs.{FrameLife, after_move}
+use Rattle.mm_uses.specs.{ended_by, line_ends, is_line, said_of, is_among, unless_found, counts_row, head_left, said_rest}
 
 -- two texts were written, in front of those that come
 pub joined : (text text1 text2 a b c d : Text) → text1 ≡ text ++ a → text2 ≡ text1 ++ b → d ≡ b ++ c → text2 ++ c ≡ text ++ (a ++ d)

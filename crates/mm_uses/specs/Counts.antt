@@ -1,22 +1,16 @@
 -- The eight counts after each line.
 -- Profile, "What a log shows".
-use Rattle.std.specs.Prelude.{ℕ, Bool, List, [], ◌∷◌, ◌++◌, flat_map, codes}
-use Rattle.mm_types.specs.Spelling.{Text, decimal}
-use Rattle.mm_types.specs.declared.answers.Counts.{Counts}
-use Rattle.mm_types.specs.declared.moves.Move.{Move}
-use Rattle.mm_life.specs.Life.{FrameLife, counts_of, unstarted}
-use Rattle.mm_text.specs.Columns.{right_in, numbers_in}
+use Rattle.std.specs.Prelude.{Bool, List, [], ◌∷◌, ◌++◌, flat_map, codes}
+use Rattle.mm_types.specs.{Text, decimal, Move}
+use Rattle.mm_life.specs.{FrameLife, counts_of, unstarted}
+use Rattle.mm_classes.specs.{numbers_of}
+use Rattle.mm_text.specs.{right_in, numbers_in}
 use Rattle.mm_uses.specs.Lines.{line_ends}
 
 abbrev pub counts_head : Text
 counts_head =
     codes "   line     zeroed       free    standby   modified"
     ++ (codes "     active transition      slots   requests" ++ 10 ∷ [])
-
-abbrev pub numbers_of : Counts → List ℕ
-numbers_of c =
-    c.zeroed ∷ c.free ∷ c.standby ∷ c.modified ∷ c.active ∷ c.transition ∷ c.free_slots ∷ c.requests
-    ∷ []
 
 -- the line, and the counts at its end
 abbrev pub counts_row : FrameLife → Text

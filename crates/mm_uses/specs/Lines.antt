@@ -3,11 +3,9 @@
 use Rattle.std.specs.Prelude.{ℕ, Bool, ◌&&◌, not, ◌==◌, if◌then◌else◌, List, [], ◌∷◌, ◌++◌, codes}
 use Rattle.std.specs.Prelude.{flat_map}
 use Rattle.std.specs.List.{list_any}
-use Rattle.mm_types.specs.Spelling.{Text}
-use Rattle.mm_types.specs.declared.moves.Move.{Move}
+use Rattle.mm_types.specs.{Text, Move}
 use Rattle.mm_types.specs.declared.moves.Move.TheVariants as move
-use Rattle.mm_life.specs.Life.{FrameLife}
-use Rattle.mm_life.specs.Effect.{after_move}
+use Rattle.mm_life.specs.{FrameLife, after_move}
 
 -- the state in which the line ends that began last, if any did
 abbrev pub ended : FrameLife → List FrameLife

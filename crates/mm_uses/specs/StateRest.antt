@@ -1,10 +1,8 @@
 -- What the teller of a state has still to write; and a list of frames as flags.
 -- Profile, "What a log shows".
 use Rattle.std.specs.Prelude.{◌≡◌, ℕ, ◌<◌, Bool, ◌||◌, false, List, ◌++◌, slice_index_or}
-use Rattle.mm_types.specs.Spelling.{Text}
-use Rattle.mm_types.specs.declared.moves.Move.{Move}
-use Rattle.mm_life.specs.Frames.{is_on}
-use Rattle.mm_life.specs.Life.{FrameLife}
+use Rattle.mm_types.specs.{Text, Move}
+use Rattle.mm_life.specs.{is_on, FrameLife}
 use Rattle.mm_uses.specs.Lines.{is_among, line_ends, unless_found}
 use Rattle.mm_uses.specs.States.{state_from}
 use Rattle.mm_uses.specs.declared.states.StateTeller.{StateTeller}

@@ -1,8 +1,8 @@
 -- The cells of the table of uses add up.
 -- Profile, "What a log shows".
 use Rattle.std.specs.Prelude.{◌≡◌, ℕ, ◌+◌, sum}
-use Rattle.mm_types.specs.declared.answers.Counts.{Counts}
-use Rattle.mm_life.specs.Life.{FrameLife, counts_of}
+use Rattle.mm_types.specs.{Counts}
+use Rattle.mm_life.specs.{FrameLife, counts_of}
 use Rattle.mm_uses.specs.Uses.{cell, totals}
 use Rattle.mm_uses.specs.declared.uses.Column.{Column}
 use Rattle.mm_uses.specs.declared.uses.Column.TheVariants as column

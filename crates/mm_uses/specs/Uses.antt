@@ -3,18 +3,10 @@
 use Rattle.std.specs.Prelude.{ℕ, ◌+◌, Bool, ◌==◌, if◌then◌else◌, List, [], ◌∷◌, ◌++◌, map, filter}
 use Rattle.std.specs.Prelude.{flat_map}
 use Rattle.std.specs.Prelude.{length, count_by, sum, codes, Option, Some, None}
-use Rattle.mm_types.specs.Spelling.{Text, decimal}
-use Rattle.mm_types.specs.declared.answers.Counts.{Counts}
-use Rattle.mm_types.specs.declared.frames.Record.{Record}
-use Rattle.mm_types.specs.declared.frames.Request.{Request}
-use Rattle.mm_types.specs.declared.moves.Move.{Move}
-use Rattle.mm_types.specs.declared.numbers.Key.{Key}
+use Rattle.mm_types.specs.{Text, decimal, Counts, Record, Request, Move, Key}
 use Rattle.mm_types.specs.declared.numbers.Key.TheVariants.{Private, Shared}
-use Rattle.mm_life.specs.declared.sets.ResidentSet.{ResidentSet}
-use Rattle.mm_life.specs.Frames.{record_at, has_request}
-use Rattle.mm_life.specs.Life.{FrameLife, unstarted, counts_of, is_active, is_in_transition}
-use Rattle.mm_life.specs.MoveText.{numbered}
-use Rattle.mm_text.specs.Columns.{right_in, numbers_in}
+use Rattle.mm_life.specs.{ResidentSet, record_at, has_request, FrameLife, unstarted, counts_of, is_active, is_in_transition, numbered}
+use Rattle.mm_text.specs.{right_in, numbers_in}
 use Rattle.mm_uses.specs.Lines.{line_ends, said_of, is_among, unless_found}
 use Rattle.mm_uses.specs.declared.uses.Use.{Use}
 use Rattle.mm_uses.specs.declared.uses.Use.TheVariants as use_of_frames

@@ -1,15 +1,17 @@
-ghost use Rattle.std.specs.Prelude.{◌≡◌, ◌||◌, ◌++◌, ◌∷◌, [], ℕ, Bool, List, OnOk, flat_map, true};
-ghost use Rattle.mm_types.specs.declared.moves.Move.{Move};
-ghost use Rattle.mm_life.specs.Effect.{after_move};
-ghost use Rattle.mm_life.specs.Life.{unstarted, counts_of};
+ghost use Rattle.std.specs.Prelude.{◌≡◌, ◌||◌, ◌++◌, [], Bool, List, OnOk, flat_map, true};
+ghost use Rattle.mm_types.specs.{Move};
+ghost use Rattle.mm_life.specs.{unstarted};
 ghost use Rattle.mm_replay.specs.Standing.{life as life_of};
-ghost use Rattle.mm_text.specs.Columns.{numbers_in};
-ghost use Rattle.mm_uses.specs.Counts.{counts_head, counts_row, counts_rows, numbers_of};
+ghost use Rattle.mm_classes.specs.{numbers_of};
+ghost use Rattle.mm_text.specs.{numbers_in};
+ghost use Rattle.mm_uses.specs.Counts.{counts_head, counts_row, counts_rows};
 ghost use Rattle.mm_uses.specs.Lines.{ended, ended_by, is_among, line_ends, said_of, unless_found};
-ghost use Rattle.mm_uses.specs.Rest.{head_left};
+ghost use Rattle.mm_uses.specs.Rest.{head_left, counts_rest, use_rest};
 ghost use Rattle.mm_uses.specs.Uses.{use_rows, use_text};
+ghost use Rattle.mm_sentences.specs.{why_text};
 
 use crate::tables::put_use;
+use mm_classes::counts_in;
 use mm_replay::Life;
 use mm_sentences::{put_why, put_words};
 use mm_tell::Teller;
@@ -36,17 +38,7 @@ fn put_head_left(begun: bool, text: &mut Vec<u8>) -> Result<(), NoMemory>
 fn put_counts(counts: Counts, text: &mut Vec<u8>) -> Result<(), NoMemory>
     ensures { OnOk result (text.new.items ≡ text.old.items ++ numbers_in 11 (numbers_of counts)) }
 {
-    let numbers = [
-        u64::from(counts.zeroed),
-        u64::from(counts.free),
-        u64::from(counts.standby),
-        u64::from(counts.modified),
-        u64::from(counts.active),
-        u64::from(counts.transition),
-        u64::from(counts.free_slots),
-        u64::from(counts.requests),
-    ];
-    put_numbers(11, &numbers, text)
+    put_numbers(11, &counts_in(counts), text)
 }
 
 /// Writes a line's number, and the counts at its end.
@@ -97,8 +89,6 @@ pub struct CountsTeller {
 }
 
 impl CountsTeller {
-    ghost use Rattle.mm_uses.specs.Rest.{counts_rest};
-
     /// Nothing was told.
     pub fn new() -> CountsTeller
         ensures { (whole : Bool) (moves : List Move)
@@ -106,34 +96,9 @@ impl CountsTeller {
     {
         CountsTeller { begun: false }
     }
-
-    /// Takes the next move.
-    fn take_move(&mut self, life: &Life, m: &Move, text: &mut Vec<u8>) -> Result<(), NoMemory>
-        ensures { OnOk result ((whole : Bool) (ms : List Move) → text.new.items
-            ++ counts_rest self.new whole (after_move (life_of life.now) m.now) ms
-            ≡ text.old.items ++ counts_rest self.old whole (life_of life.now) (m.now ∷ ms)) }
-    {
-        put_head_left(self.begun, text)?;
-        self.begun = true;
-        put_ended_by(life, m, text)?;
-        Ok(())
-    }
-
-    /// Writes what is left at the end.
-    #[tactic(auto, using(mm_text::proofs::DigitCounts::joined))]
-    fn put_last(&self, whole: bool, life: &Life, text: &mut Vec<u8>) -> Result<(), NoMemory>
-        ensures { OnOk result (text.new.items ≡ text.old.items
-            ++ counts_rest self.now whole (life_of life.now) []) }
-    {
-        put_head_left(self.begun, text)?;
-        put_ended_if(whole, life, text)
-    }
 }
 
 impl Teller for CountsTeller {
-    ghost use Rattle.mm_uses.specs.Rest.{counts_rest};
-    ghost use Rattle.mm_sentences.specs.Refusals.{why_text};
-
     ghost rest = { counts_rest };
 
     ghost counted = { λ t. 0 };
@@ -141,11 +106,16 @@ impl Teller for CountsTeller {
     ghost why = { why_text };
 
     fn take(&mut self, life: &Life, m: &Move, text: &mut Vec<u8>) -> Result<(), NoMemory> {
-        self.take_move(life, m, text)
+        put_head_left(self.begun, text)?;
+        self.begun = true;
+        put_ended_by(life, m, text)?;
+        Ok(())
     }
 
+    #[tactic(auto, using(mm_text::proofs::DigitCounts::joined))]
     fn finish(&mut self, whole: bool, life: &Life, text: &mut Vec<u8>) -> Result<(), NoMemory> {
-        self.put_last(whole, life, text)
+        put_head_left(self.begun, text)?;
+        put_ended_if(whole, life, text)
     }
 
     fn tell_why(&self, life: &Life, m: &Move, text: &mut Vec<u8>) -> Result<(), NoMemory> {
@@ -233,8 +203,6 @@ pub struct UseTeller {
 }
 
 impl UseTeller {
-    ghost use Rattle.mm_uses.specs.Rest.{use_rest};
-
     /// The line has not ended.
     pub fn new(alloc: Global, line: u32) -> UseTeller
         ensures { (whole : Bool) (moves : List Move)
@@ -245,17 +213,6 @@ impl UseTeller {
             line,
             found: false,
         }
-    }
-
-    /// Takes the next move.
-    fn take_move(&mut self, life: &Life, m: &Move, text: &mut Vec<u8>) -> Result<(), NoMemory>
-        ensures { OnOk result ((whole : Bool) (ms : List Move) → text.new.items
-            ++ use_rest self.new whole (after_move (life_of life.now) m.now) ms
-            ≡ text.old.items ++ use_rest self.old whole (life_of life.now) (m.now ∷ ms)) }
-    {
-        put_said_by(self.alloc, self.line, life, m, text)?;
-        self.found = found_by(self.found, self.line, life, m);
-        Ok(())
     }
 
     /// Writes what is said of the last line of a whole log, or that it has no such line.
@@ -270,9 +227,6 @@ impl UseTeller {
 }
 
 impl Teller for UseTeller {
-    ghost use Rattle.mm_uses.specs.Rest.{use_rest};
-    ghost use Rattle.mm_sentences.specs.Refusals.{why_text};
-
     ghost rest = { use_rest };
 
     ghost counted = { λ t. 0 };
@@ -280,7 +234,9 @@ impl Teller for UseTeller {
     ghost why = { why_text };
 
     fn take(&mut self, life: &Life, m: &Move, text: &mut Vec<u8>) -> Result<(), NoMemory> {
-        self.take_move(life, m, text)
+        put_said_by(self.alloc, self.line, life, m, text)?;
+        self.found = found_by(self.found, self.line, life, m);
+        Ok(())
     }
 
     fn finish(&mut self, whole: bool, life: &Life, text: &mut Vec<u8>) -> Result<(), NoMemory> {

@@ -1,14 +1,14 @@
-ghost use Rattle.std.specs.Prelude.{◌≡◌, ◌++◌, ◌∷◌, [], ℕ, ◌<◌, OnOk, IfOk, false};
+ghost use Rattle.std.specs.Prelude.{◌≡◌, ◌++◌, ◌<◌, OnOk, IfOk, false};
 ghost use Rattle.std.specs.Prelude.{slice_index_or};
-ghost use Rattle.mm_life.specs.Frames.{is_on};
+ghost use Rattle.mm_life.specs.{is_on};
 ghost use Rattle.mm_replay.specs.Standing.{life as life_of};
-ghost use Rattle.mm_sentences.specs.States.{state_by};
+ghost use Rattle.mm_sentences.specs.{state_by};
 ghost use Rattle.mm_uses.specs.StateRest.{AreMarked};
 ghost use Rattle.mm_uses.specs.States.{frame_line, frame_lines};
 
-use crate::tables::put_numbered;
+use mm_classes::{has_request, is_read};
 use mm_replay::Life;
-use mm_sentences::{FrameState, has_request, is_read, put_row, put_words};
+use mm_sentences::{FrameState, put_numbered, put_row, put_words};
 use mm_types::{Frame, NoMemory, Record};
 use std::alloc::Global;
 

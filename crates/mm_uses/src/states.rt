@@ -1,21 +1,21 @@
-ghost use Rattle.std.specs.Prelude.{◌≡◌, ◌||◌, ◌++◌, ◌∷◌, [], ℕ, Bool, List, OnOk, flat_map, true};
-ghost use Rattle.mm_types.specs.declared.moves.Move.{Move};
-ghost use Rattle.mm_life.specs.Effect.{after_move};
-ghost use Rattle.mm_life.specs.Life.{unstarted};
+ghost use Rattle.std.specs.Prelude.{◌≡◌, ◌||◌, ◌++◌, [], Bool, List, OnOk, flat_map, true};
+ghost use Rattle.mm_types.specs.{Move};
+ghost use Rattle.mm_life.specs.{unstarted};
 ghost use Rattle.mm_replay.specs.Standing.{life as life_of};
 ghost use Rattle.mm_uses.specs.Listing.{AreListsOf};
 ghost use Rattle.mm_uses.specs.States.{pages_after, page_at, frame_word, list_row, page_word};
 ghost use Rattle.mm_uses.specs.States.{process_line, process_lines, slots_line, list_rows};
 ghost use Rattle.mm_uses.specs.States.{state_text};
 ghost use Rattle.mm_uses.specs.States.{state_at, state_before, state_rows};
+ghost use Rattle.mm_uses.specs.StateRest.{state_rest};
+ghost use Rattle.mm_sentences.specs.{why_text};
 
 use crate::counts::{found_at, found_by, put_unless_found};
 use crate::frames::{marked, put_frames};
 use crate::lists::{FrameLists, frame_lists, requests};
-use crate::tables::{put_front, put_numbered, put_pair};
 use mm_life::ResidentSet;
 use mm_replay::Life;
-use mm_sentences::{put_number, put_why, put_words};
+use mm_sentences::{put_counted, put_numbered, put_pair, put_why, put_words};
 use mm_tell::Teller;
 use mm_types::{LineKind, Move, NoMemory, Place};
 use std::alloc::Global;
@@ -51,12 +51,10 @@ fn follow(pages: &mut ValidPages, m: &Move) -> Result<(), NoMemory>
     }
 }
 
-#[tactic(auto, using(mm_text::proofs::DigitCounts::joined))]
 fn put_frame_word(frame: u32, text: &mut Vec<u8>) -> Result<(), NoMemory>
     ensures { OnOk result (text.new.items ≡ text.old.items ++ frame_word frame) }
 {
-    put_words(b" ", text)?;
-    put_number(u64::from(frame), text)
+    put_counted(b" ", u64::from(frame), text)
 }
 
 fn put_frame_words(frames: &[u32], text: &mut Vec<u8>) -> Result<(), NoMemory>
@@ -86,8 +84,7 @@ fn put_page_word(pid: u64, page: (u8, u32), text: &mut Vec<u8>) -> Result<(), No
     if u64::from(page.0) != pid {
         return Ok(());
     }
-    put_words(b" ", text)?;
-    put_number(u64::from(page.1), text)
+    put_counted(b" ", u64::from(page.1), text)
 }
 
 fn put_page_words(pid: u64, pages: &ValidPages, text: &mut Vec<u8>) -> Result<(), NoMemory>
@@ -112,7 +109,7 @@ fn put_process(
 {
     let min = u64::from(set.min);
     let max = u64::from(set.max);
-    put_front(b"process ", pid, text)?;
+    put_counted(b"process ", pid, text)?;
     put_pair(b" min ", min, b" max ", max, b" pages", text)?;
     put_page_words(pid, pages, text)?;
     put_words(b"\n", text)
@@ -227,8 +224,6 @@ pub struct StateTeller {
 }
 
 impl StateTeller {
-    ghost use Rattle.mm_uses.specs.StateRest.{state_rest};
-
     /// The line has not ended.
     pub fn new(alloc: Global, line: u32) -> StateTeller
         ensures { (whole : Bool) (moves : List Move)
@@ -240,18 +235,6 @@ impl StateTeller {
             found: false,
             pages: BTreeSet::new(alloc),
         }
-    }
-
-    /// Takes the next move.
-    fn take_move(&mut self, life: &Life, m: &Move, text: &mut Vec<u8>) -> Result<(), NoMemory>
-        ensures { OnOk result ((whole : Bool) (ms : List Move) → text.new.items
-            ++ state_rest self.new whole (after_move (life_of life.now) m.now) ms
-            ≡ text.old.items ++ state_rest self.old whole (life_of life.now) (m.now ∷ ms)) }
-    {
-        put_before(self.alloc, self.line, life, &self.pages, m, text)?;
-        self.found = found_by(self.found, self.line, life, m);
-        follow(&mut self.pages, m)?;
-        Ok(())
     }
 
     /// Writes the state at the end of a whole log, if it is asked for, or that there is no such
@@ -267,9 +250,6 @@ impl StateTeller {
 }
 
 impl Teller for StateTeller {
-    ghost use Rattle.mm_uses.specs.StateRest.{state_rest};
-    ghost use Rattle.mm_sentences.specs.Refusals.{why_text};
-
     ghost rest = { state_rest };
 
     ghost counted = { λ t. 0 };
@@ -277,7 +257,10 @@ impl Teller for StateTeller {
     ghost why = { why_text };
 
     fn take(&mut self, life: &Life, m: &Move, text: &mut Vec<u8>) -> Result<(), NoMemory> {
-        self.take_move(life, m, text)
+        put_before(self.alloc, self.line, life, &self.pages, m, text)?;
+        self.found = found_by(self.found, self.line, life, m);
+        follow(&mut self.pages, m)?;
+        Ok(())
     }
 
     fn finish(&mut self, whole: bool, life: &Life, text: &mut Vec<u8>) -> Result<(), NoMemory> {

@@ -1,7 +1,4 @@
 ghost use Rattle.std.specs.Prelude.{◌≡◌, ◌<◌, ◌^◌, ◌++◌, OnOk, sum, flat_map, codes};
-ghost use Rattle.mm_types.specs.Spelling.{decimal};
-ghost use Rattle.mm_life.specs.Life.{counts_of};
-ghost use Rattle.mm_life.specs.MoveText.{numbered};
 ghost use Rattle.mm_replay.specs.Standing.{life as life_of};
 ghost use Rattle.mm_uses.specs.Listing.{AreListsOf};
 ghost use Rattle.mm_uses.specs.Uses.{name_of, sum_row, use_row, use_head, use_table, totals};
@@ -11,7 +8,7 @@ use crate::lists::{FrameLists, frame_lists};
 use crate::uses::{Use, cells};
 use mm_life::ResidentSet;
 use mm_replay::Life;
-use mm_sentences::{put_number, put_words};
+use mm_sentences::{put_counted, put_numbered, put_pair, put_words};
 use mm_text::{put_numbers, put_right_number};
 use mm_types::{Counts, NoMemory};
 use std::alloc::Global;
@@ -46,47 +43,6 @@ fn sum_of(numbers: &[u64]) -> u64
         total += *n;
     }
     total
-}
-
-/// Writes words and a number.
-#[tactic(auto, using(mm_text::proofs::DigitCounts::joined))]
-pub(crate) fn put_front(words: &[u8], n: u64, text: &mut Vec<u8>) -> Result<(), NoMemory>
-    ensures { OnOk result (text.new.items ≡ text.old.items ++ (words.now ++ decimal n)) }
-{
-    put_words(words, text)?;
-    put_number(n, text)
-}
-
-/// Writes two numbers, each behind words, and words behind them.
-#[tactic(auto, using(mm_text::proofs::DigitCounts::joined))]
-pub(crate) fn put_pair(
-    words: &[u8],
-    first: u64,
-    between: &[u8],
-    second: u64,
-    behind: &[u8],
-    text: &mut Vec<u8>,
-) -> Result<(), NoMemory>
-    ensures { OnOk result (text.new.items ≡ text.old.items
-        ++ numbered words.now first (numbered between.now second behind.now)) }
-{
-    put_front(words, first, text)?;
-    put_numbered(between, second, behind, text)
-}
-
-/// Writes words, a number, and words.
-#[tactic(auto, using(mm_text::proofs::DigitCounts::joined))]
-pub(crate) fn put_numbered(
-    words: &[u8],
-    n: u64,
-    behind: &[u8],
-    text: &mut Vec<u8>,
-) -> Result<(), NoMemory>
-    ensures { OnOk result (text.new.items ≡ text.old.items ++ numbered words.now n behind.now) }
-{
-    put_words(words, text)?;
-    put_number(n, text)?;
-    put_words(behind, text)
 }
 
 /// Writes a name, numbers and their sum.
@@ -207,8 +163,8 @@ fn put_set(pid: u64, set: ResidentSet, text: &mut Vec<u8>) -> Result<(), NoMemor
     let resident = u64::from(set.resident);
     let min = u64::from(set.min);
     let max = u64::from(set.max);
-    put_front(b"working set of process ", pid, text)?;
-    put_front(b": ", resident, text)?;
+    put_counted(b"working set of process ", pid, text)?;
+    put_counted(b": ", resident, text)?;
     put_pair(b" (min ", min, b", max ", max, b")\n", text)?;
     Ok(())
 }

@@ -1,11 +1,11 @@
 ghost use Rattle.std.specs.Prelude.{◌≡◌, ◌≤◌, ◌<◌, ◌^◌, length, count_by, filter, sum};
-ghost use Rattle.mm_life.specs.Frames.{has_request};
-ghost use Rattle.mm_life.specs.Life.{is_active, is_in_transition};
+ghost use Rattle.mm_life.specs.{is_active, is_in_transition};
 ghost use Rattle.mm_replay.specs.Standing.{life as life_of};
 ghost use Rattle.mm_uses.specs.Listing.{AreListsOf, AreFew};
 ghost use Rattle.mm_uses.specs.Uses.{use_by, row_of, is_use, cells, listed};
 
 use crate::lists::FrameLists;
+use mm_classes::has_request;
 use mm_replay::Life;
 use mm_types::{Frame, Key, Record, Request};
 
@@ -35,15 +35,6 @@ pub enum Column {
     Transition,
     Zeroed,
     Free,
-}
-
-fn has_request(request: Request) -> bool
-    ensures { result ≡ has_request request }
-{
-    match request {
-        Request::None => false,
-        Request::Read | Request::Write | Request::WriteAgain => true,
-    }
 }
 
 /// What a frame is used for, by its page and its request.

@@ -1,8 +1,7 @@
 -- Ranges that lie apart, around one of them.
 use Rattle.std.proofs.Common.{◌≡◌, ℕ, ◌+◌, ◌≤◌, List, [], ◌∷◌, ◌++◌, length, ap, ◌∙◌, arith, length-append}
-use Rattle.mm_types.specs.Address.{Range, end_of, end_of_user_pages}
-use Rattle.mm_vad.specs.Ranges.{FollowsFrom, LieApart}
-use Rattle.mm_vad.specs.Room.{end_after}
+use Rattle.mm_types.specs.{Range, end_of, end_of_user_pages}
+use Rattle.mm_vad.specs.{FollowsFrom, LieApart, end_after}
 
 -- what holds from one place on holds from any place below
 pub apart_from_below : (a b : ℕ) (xs : List Range) → a ≤ b → LieApart b xs → LieApart a xs

@@ -6,9 +6,9 @@ use Rattle.std.proofs.lemmas.Nat.{shr-shr, shr_le}
 use Rattle.std.proofs.lemmas.Nat.Bits.{bit_at_set_same, bit_at_set_other, bit_at-trailing_zeros, bit_at-zero, bit_at_above}
 use Rattle.std.proofs.lemmas.List.{get_or_read}
 use Rattle.std.proofs.lemmas.Bool.{cases_lt}
-use Rattle.mm_bits.specs.Bits.{have_bit, WordBecomes}
-use Rattle.mm_bits.proofs.BitLemmas.{at_bit, have_here}
-use Rattle.mm_vad.specs.Bits.{NoneSet, IsNextSet}
+use Rattle.mm_bits.specs.{have_bit, WordBecomes}
+use Rattle.mm_bits.proofs.{at_bit, have_here}
+use Rattle.mm_vad.specs.{NoneSet, IsNextSet}
 
 -- ---- one bit is set
 

@@ -5,15 +5,12 @@ use Rattle.std.specs.List.{list_any}
 use Rattle.std.specs.HashMap.{HashMap, get, spare, Updates, UpdatesBy, WritesThrough}
 use Rattle.std.proofs.lemmas.Bool.{ne_eqb, and_parts, not-true}
 use Rattle.std.proofs.lemmas.List.{length-set}
-use Rattle.mm_types.specs.Address.{Range, meets, is_free, are_user_pages, page_of, first_user_page}
-use Rattle.mm_vad.specs.Ranges.{GapsOf, LieApart, add_range, remove_range}
-use Rattle.mm_vad.specs.declared.pages.Row.{Row}
-use Rattle.mm_vad.specs.declared.regions.Region.{Region}
-use Rattle.mm_world.specs.Find.{change_range}
-use Rattle.mm_world.specs.Watch.{unwritten}
+use Rattle.mm_types.specs.{Range, meets, is_free, are_user_pages, page_of, first_user_page}
+use Rattle.mm_vad.specs.{GapsOf, LieApart, add_range, remove_range, Row, Region, SpaceOf, IsSpace, HasFlags, HasPages, LieInRegion, LieAmong}
+use Rattle.mm_vad.specs.{LieWithPage, pages_of, region_at, add_region, remove_region, change_region, with_row, with_equal_rows, with_marks}
+use Rattle.mm_vad.specs.{with_unwritten, regions_of, space_of, AllHeld, IsIndex}
+use Rattle.mm_world.specs.{change_range, unwritten}
 use Rattle.mm_vad.proofs.FlagLemmas.{length-change}
-use Rattle.mm_vad.specs.Regions.{SpaceOf, IsSpace, HasFlags, HasPages, LieInRegion, LieAmong, LieWithPage, pages_of, region_at, add_region, remove_region, change_region, with_row, with_equal_rows, with_marks, with_unwritten}
-use Rattle.mm_vad.specs.Index.{regions_of, space_of, AllHeld, IsIndex}
 use Rattle.mm_vad.proofs.Held.{Adds, Keeps, Rewrites, is_space, add_held, remove_held, change_held}
 use Rattle.mm_vad.proofs.Lookups.{Found, found_by}
 use Rattle.mm_vad.proofs.Joined.{length-filled}

@@ -2,13 +2,11 @@
 use Rattle.std.proofs.Common.{◌≡◌, ◌≢◌, ◌⊎◌, ℕ, zero, suc, ◌+◌, ◌^◌, ◌<◌, ◌≤◌, List, [], ◌∷◌, ◌++◌, length, get_or, set, replicate, Option, Some, None, refl, sym, ap, ◌∙◌, subst, inl, inr, arith, length-set, length-append, get_or-set_same, get_or-set_other}
 use Rattle.std.proofs.Math.Seq.{get_or-append_seam}
 use Rattle.std.proofs.lemmas.List.{ext_get_or, length-map, length-replicate, get_or_append_left, get_or_read, get_or-replicate, get_or-map, map-set, set-get_or}
-use Rattle.mm_vad.specs.declared.pages.Row.{Row}
-use Rattle.mm_vad.specs.declared.chunks.Chunk.{Chunk}
+use Rattle.mm_vad.specs.{Row, Chunk, ChunksOf, rows_in, chunks_of, own_place, owned, place_of_chunk, unplaced, AreWritten, place_after, places_after}
 use Rattle.mm_vad.specs.declared.chunks.Chunk.TheVariants as chunk
-use Rattle.mm_vad.specs.Chunks.{ChunksOf, rows_in, chunks_of, own_place, owned, place_of_chunk, unplaced, AreWritten, place_after, places_after}
 use Rattle.std.specs.Prelude.{slice_get}
 use Rattle.std.proofs.lemmas.Option.{slice_get-get_or}
-use Rattle.mm_types.proofs.Cells.{same_or_not}
+use Rattle.mm_types.proofs.{same_or_not}
 
 pub length-chunks : (chunks : List Chunk) (places : List (List Row)) → length (chunks_of chunks places) ≡ length chunks
 unfolding chunks_of

@@ -1,8 +1,8 @@
 -- A range added or removed, around one of the ranges.
 use Rattle.std.proofs.Common.{◌≡◌, ℕ, ◌+◌, ◌≤◌, ◌<◌, true, false, cond, eqb, ltb, List, [], ◌∷◌, ◌++◌, length, refl, ap, ◌∙◌, arith}
 use Rattle.std.proofs.lemmas.Bool.{lt-ltb, le-ltb, eq-eqb, ne_eqb}
-use Rattle.mm_types.specs.Address.{Range, end_of}
-use Rattle.mm_vad.specs.Ranges.{LieApart, add_range, remove_range}
+use Rattle.mm_types.specs.{Range, end_of}
+use Rattle.mm_vad.specs.{LieApart, add_range, remove_range}
 use Rattle.mm_vad.proofs.Apart.{begins_from}
 
 pub add_left : (x : Range) (xs : List Range) (m : Range) (ys : List Range) → x.first < m.first → add_range x (xs ++ m ∷ ys) ≡ add_range x xs ++ m ∷ ys

@@ -3,8 +3,7 @@ use Rattle.std.proofs.Common.{◌≡◌, ℕ, ◌+◌, ◌*◌, ◌^◌, ◌≤�
 use Rattle.std.proofs.Math.Nat.{pow-zero}
 use Rattle.std.proofs.Math.Pow.{pow_mono}
 use Rattle.std.proofs.lemmas.Grind.{pow_more}
-use Rattle.mm_vad.specs.Shape.{TreeOf, IsShaped, VisitsAtMost}
-use Rattle.mm_vad.specs.Visits.{VisitsFew, repeated}
+use Rattle.mm_vad.specs.{TreeOf, IsShaped, VisitsAtMost, VisitsFew, repeated}
 
 cube : (x : ℕ) → x ^ 3 ≡ x * x * x
 cube x =

@@ -3,8 +3,8 @@ use Rattle.std.proofs.Common.{◌≡◌, ℕ, ◌≤◌, ◌<◌, Bool, true, fa
 use Rattle.std.specs.Prelude.{find, nat_le}
 use Rattle.std.specs.Option.{option_or}
 use Rattle.std.proofs.lemmas.Bool.{lt-ltb, le-ltb, le-leb, lt-leb}
-use Rattle.mm_types.specs.Address.{Range, end_of, holds_page}
-use Rattle.mm_vad.specs.Ranges.{LieApart}
+use Rattle.mm_types.specs.{Range, end_of, holds_page}
+use Rattle.mm_vad.specs.{LieApart}
 use Rattle.mm_vad.proofs.Apart.{begins_from, apart_middle}
 
 pub find-append : (p : Range → Bool) (xs ys : List Range) → find p (xs ++ ys) ≡ option_or (find p xs) (find p ys)

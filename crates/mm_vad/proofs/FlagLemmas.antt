@@ -2,10 +2,10 @@
 use Rattle.std.proofs.Common.{◌≡◌, ℕ, zero, suc, ◌+◌, ◌<◌, ◌≤◌, Bool, false, List, [], ◌∷◌, length, get_or, replicate, refl, sym, ap, ◌∙◌, arith}
 use Rattle.std.proofs.lemmas.List.{ext_get_or, length-replicate, get_or-replicate}
 use Rattle.std.proofs.lemmas.List.FromFn.{length-map-range_with_len, get_or-map-range_with_len}
-use Rattle.mm_world.specs.Find.{change_range}
-use Rattle.mm_bits.specs.Bits.{have_bit, Becomes}
-use Rattle.mm_bits.proofs.BitLemmas.{zero_bit}
-use Rattle.mm_vad.specs.Bits.{word_flags, NoneSet, IsNextSet, bit_flag}
+use Rattle.mm_world.specs.{change_range}
+use Rattle.mm_bits.specs.{have_bit, Becomes}
+use Rattle.mm_bits.proofs.{zero_bit}
+use Rattle.mm_vad.specs.{word_flags, NoneSet, IsNextSet, bit_flag}
 
 pub length-flags : (words : List ℕ) (n : ℕ) → length (word_flags words n) ≡ n
 unfolding word_flags

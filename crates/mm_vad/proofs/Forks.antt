@@ -4,14 +4,10 @@ use Rattle.std.proofs.lemmas.Bool.{cases_lt, eqb-true, eqb-false, eq-eqb}
 use Rattle.std.specs.Prelude.{Option, None, Some, Box, IsTrue}
 use Rattle.std.specs.Option.{ForSome}
 use Rattle.std.specs.declared.alloc.Global.{Global}
-use Rattle.mm_types.specs.Address.{Range, end_of, end_of_user_pages}
-use Rattle.mm_vad.specs.Ranges.{LieApart, is_begun_at, remove_range}
-use Rattle.mm_vad.specs.Room.{room, lowest, end_after, widest}
-use Rattle.mm_vad.specs.Shape.{TreeOf, IsShaped, IsBalanced, DifferByAtMost}
-use Rattle.mm_vad.specs.Nodes.{range_of, range_in, ranges_under, tree_of, tree_at, IsSpan, IsNode, IsTree, Alike, MayLeanLeft, MayLeanRight, Became}
-use Rattle.mm_vad.specs.declared.trees.Node.{Node}
-use Rattle.mm_vad.specs.declared.trees.TakenRange.{TakenRange}
-use Rattle.mm_vad.specs.declared.trees.Span.{Span}
+use Rattle.mm_types.specs.{Range, end_of, end_of_user_pages}
+use Rattle.mm_vad.specs.{LieApart, is_begun_at, remove_range, room, lowest, end_after, widest, TreeOf, IsShaped, IsBalanced, DifferByAtMost, range_of}
+use Rattle.mm_vad.specs.{range_in, ranges_under, tree_of, tree_at, IsSpan, IsNode, IsTree, Alike, MayLeanLeft, MayLeanRight, Became, Node, TakenRange}
+use Rattle.mm_vad.specs.{Span}
 use Rattle.mm_vad.proofs.Edits.{remove_middle}
 use Rattle.mm_vad.proofs.Widest.{end_after-append, widest-append, widest_parts, lowest_front}
 use Rattle.mm_vad.proofs.Heights.{full_fork}

@@ -3,10 +3,9 @@ use Rattle.std.proofs.Common.{◌≡◌, ℕ, ◌+◌, ◌≤◌, ◌<◌, Bool,
 use Rattle.std.specs.Prelude.{find, nat_le, is_some, ◌==◌}
 use Rattle.std.specs.List.{list_any}
 use Rattle.std.proofs.lemmas.Bool.{leb-true, leb-false, lt-ltb, le-ltb, le-leb, ne_eqb, and_parts, and_right, or_right}
-use Rattle.mm_types.specs.Address.{Range, end_of, end_of_user_pages, first_user_page, holds_page, meets, is_free}
-use Rattle.mm_types.specs.declared.numbers.Vpn.{Vpn}
-use Rattle.mm_vad.specs.Ranges.{LieApart, range_at, is_begun_at, first_and_count}
-use Rattle.mm_types.proofs.Booleans.{or_false}
+use Rattle.mm_types.specs.{Range, end_of, end_of_user_pages, first_user_page, holds_page, meets, is_free, Vpn}
+use Rattle.mm_vad.specs.{LieApart, range_at, is_begun_at, first_and_count}
+use Rattle.mm_types.proofs.{or_false}
 use Rattle.mm_vad.proofs.Apart as apart
 
 -- whether the range begins at the page

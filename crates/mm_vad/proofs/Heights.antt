@@ -3,7 +3,7 @@ use Rattle.std.proofs.Common.{◌≡◌, ℕ, ◌+◌, ◌*◌, ◌^◌, ◌≤�
 use Rattle.std.proofs.lemmas.Bool.{cases_order, cases_lt}
 use Rattle.std.proofs.lemmas.Nat.{pow-add}
 use Rattle.std.proofs.Math.Nat.{mul-le-mul_left}
-use Rattle.mm_vad.specs.Shape.{DifferByAtMost}
+use Rattle.mm_vad.specs.{DifferByAtMost}
 
 squares_same : (p a b : ℕ) → p ≤ a * a → p ≤ b * b → 2 * p ≤ (a + b) * (a + b)
 squares_same p a b h k = omega arith

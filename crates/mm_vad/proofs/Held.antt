@@ -5,11 +5,9 @@ use Rattle.std.specs.List.{cons_option, position_or_len, list_any}
 use Rattle.std.proofs.lemmas.Bool.{eqb-true, eqb-false, ltb-true, ltb-false, lt-ltb, le-ltb, and_from, or_parts}
 use Rattle.std.proofs.lemmas.List.Elements.{All-nil, All-cons}
 use Rattle.std.proofs.lemmas.List.Sums.{sum_by-cons}
-use Rattle.mm_types.specs.Address.{Range, end_of, meets, holds_page, first_user_page}
-use Rattle.mm_vad.specs.Ranges.{LieApart, add_range, remove_range}
-use Rattle.mm_vad.specs.declared.regions.Region.{Region}
-use Rattle.mm_vad.specs.Regions.{IsSpace, HasFlags, pages_of, ranges_of, region_holds, begins_at, add_region, remove_region, change_region}
-use Rattle.mm_vad.specs.Index.{regions_of, IsHeld, AllHeld, IsIndex}
+use Rattle.mm_types.specs.{Range, end_of, meets, holds_page, first_user_page}
+use Rattle.mm_vad.specs.{LieApart, add_range, remove_range, Region, IsSpace, HasFlags, pages_of, ranges_of, region_holds, begins_at, add_region}
+use Rattle.mm_vad.specs.{remove_region, change_region, regions_of, IsHeld, AllHeld, IsIndex}
 
 -- a range and the region of just its pages
 pub record Pair (found : ℕ → Option Region) (r : Range) : Type 0 where

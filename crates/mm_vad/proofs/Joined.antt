@@ -5,10 +5,9 @@ use Rattle.std.specs.List.{All}
 use Rattle.std.specs.Prelude.{slice_get}
 use Rattle.std.proofs.lemmas.Nat.{div-add-mod', mod_below}
 use Rattle.std.proofs.lemmas.Option.{slice_get-get_or, get_or_from_slice_get}
-use Rattle.mm_types.proofs.Cells.{same_or_not}
+use Rattle.mm_types.proofs.{same_or_not}
 use Rattle.std.proofs.lemmas.List.{ext_get_or, same_lists, get_or_default, length-replicate, length-take-le, length-drop, get_or_past, set-set, set-get_or, get_or_append_left, get_or-append_right, set-append_left, set-append_right, replicate-append-replicate, get_or-replicate, get_or-take, get_or-drop}
-use Rattle.mm_vad.specs.declared.pages.Row.{Row}
-use Rattle.mm_vad.specs.Chunks.{rows_joined, AreRows, filled_rows}
+use Rattle.mm_vad.specs.{Row, rows_joined, AreRows, filled_rows}
 
 abbrev pub AreWhole : List (List Row) → Type 0
 AreWhole chunks = All (λ rows. length rows ≡ 512) chunks

@@ -5,13 +5,9 @@ use Rattle.std.specs.Prelude.{◌||◌, find, option_map, option_and_then, ◌==
 use Rattle.std.proofs.lemmas.Bool.{eqb-true, leb-true, ltb-true, and_parts, or_parts}
 use Rattle.std.proofs.lemmas.List.Elements.{All-head, All-tail}
 use Rattle.std.proofs.lemmas.Option.{some_pair_parts}
-use Rattle.mm_types.specs.declared.numbers.Vpn.{Vpn}
-use Rattle.mm_types.specs.Address.{Range, end_of, holds_page}
-use Rattle.mm_vad.specs.Ranges.{page_number, is_begun_at}
-use Rattle.mm_vad.specs.Ranges.{first_and_count as told_of}
-use Rattle.mm_vad.specs.declared.regions.Region.{Region}
-use Rattle.mm_vad.specs.Regions.{HasFlags, HasPages, pages_of, region_holds, region_at, region_with_base}
-use Rattle.mm_vad.specs.Index.{regions_of, IsHeld, AllHeld, IsIndex}
+use Rattle.mm_types.specs.{Vpn, Range, end_of, holds_page}
+use Rattle.mm_vad.specs.{page_number, is_begun_at, first_and_count as told_of, Region, HasFlags, HasPages, pages_of, region_holds, region_at}
+use Rattle.mm_vad.specs.{region_with_base, regions_of, IsHeld, AllHeld, IsIndex}
 use Rattle.mm_vad.proofs.Held.{pair_of, find_held}
 
 -- the range that a search told of by its first page

@@ -1,12 +1,11 @@
 -- The first place with room among ranges that lie apart is the lowest granule whose range is free.
-use Rattle.std.proofs.Common.{◌≡◌, inl, inr, ℕ, zero, suc, ◌+◌, ◌*◌, ◌/◌, ◌≤◌, ◌<◌, Bool, true, false, cond, not, leb, ltb, ◌&&◌, ◌||◌, List, [], ◌∷◌, Option, Some, None, option_map, refl, sym, ap, ◌∙◌, arith}
+use Rattle.std.proofs.Common.{◌≡◌, inl, inr, ℕ, ◌+◌, ◌*◌, ◌/◌, ◌≤◌, ◌<◌, Bool, true, false, cond, not, leb, ltb, ◌&&◌, ◌||◌, List, [], ◌∷◌, Option, Some, None, option_map, refl, sym, ap, ◌∙◌, arith}
 use Rattle.std.specs.Prelude.{nat_le}
 use Rattle.std.specs.List.{list_any}
 use Rattle.std.proofs.lemmas.Bool.{le-leb, lt-leb, leb-true, leb-false, lt-ltb, le-ltb, cases_lt, and_parts}
-use Rattle.mm_types.specs.Address.{Range, end_of, end_of_user_pages, first_user_page, granules, granule_pages, granule_range, meets, is_free, least_from, lowest_gap}
-use Rattle.mm_types.proofs.Least.{least_from-is, least_from-none}
-use Rattle.mm_vad.specs.Ranges.{FollowsFrom, LieApart, range_at}
-use Rattle.mm_vad.specs.Room.{aligned, room, first_fit}
+use Rattle.mm_types.specs.{Range, end_of, end_of_user_pages, first_user_page, granules, granule_pages, granule_range, meets, is_free, lowest_gap}
+use Rattle.mm_types.proofs.{least_from-is, least_from-none}
+use Rattle.mm_vad.specs.{FollowsFrom, LieApart, aligned, room, first_fit}
 use Rattle.mm_vad.proofs.FreeAt.{met_above}
 
 -- whether `count` pages from the granule on end with the user pages and meet no range
@@ -114,22 +113,3 @@ lowest_is taken count (Some page) some p =
 
 pub lowest_gap-fit : (taken : List Range) (count : ℕ) → 0 < count → LieApart first_user_page taken → lowest_gap taken count ≡ first_fit first_user_page taken end_of_user_pages count
 lowest_gap-fit taken count some p = lowest_is taken count (first_fit first_user_page taken end_of_user_pages count) some (fit_outcome first_user_page taken count some p)
-
-least_from-passes : (test : ℕ → Bool) (count start g : ℕ) → least_from test count start ≡ Some g → test g ≡ true
-unfolding least_from
-least_from-passes test zero start g e = cc
-least_from-passes test (suc count) start g e =
-    elim (test start) as (λ b. test start ≡ b → cond b (Some start) (least_from test count (start + 1)) ≡ Some g → test g ≡ true) [
-      | true ↦ λ k h. (let same : start ≡ g = cc in ap test (sym same) ∙ k)
-      | false ↦ λ k h. least_from-passes test count (start + 1) g h
-    ] refl e
-
-mapped : (taken : List Range) (count page : ℕ) (o : Option ℕ) → least_from (λ g. is_free taken (granule_range count g)) granules 0 ≡ o → option_map (λ g. g * granule_pages) o ≡ Some page → is_free taken (range_at page count) ≡ true
-mapped taken count page None e h = cc
-mapped taken count page (Some g) e h =
-    let same : g * granule_pages ≡ page = cc in
-    ap (λ p. is_free taken (range_at p count)) (sym same) ∙ least_from-passes (λ g. is_free taken (granule_range count g)) granules 0 g e
-
--- the pages from the lowest gap on are free
-pub lowest_gap_is_free : (taken : List Range) (count page : ℕ) → lowest_gap taken count ≡ Some page → is_free taken (range_at page count) ≡ true
-lowest_gap_is_free taken count page e = mapped taken count page (least_from (λ g. is_free taken (granule_range count g)) granules 0) refl e

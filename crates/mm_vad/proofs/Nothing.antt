@@ -3,9 +3,9 @@ use Rattle.std.proofs.Common.{◌≡◌, ℕ, ◌*◌, ◌≤◌, Bool, true, fa
 use Rattle.std.specs.Prelude.{not, nat_lt, option_map}
 use Rattle.std.specs.List.{list_any}
 use Rattle.std.proofs.lemmas.Bool.{and_from, and_right, or_from, le-ltb, not_from_false}
-use Rattle.mm_types.specs.Address.{Range, end_of, meets, is_free, are_user_pages, first_user_page, granules, granule_pages, granule_range, lowest_gap}
-use Rattle.mm_types.proofs.Least.{least_from-is}
-use Rattle.mm_vad.specs.Ranges.{LieApart}
+use Rattle.mm_types.specs.{Range, end_of, meets, is_free, are_user_pages, first_user_page, granules, granule_pages, granule_range, lowest_gap}
+use Rattle.mm_types.proofs.{least_from-is}
+use Rattle.mm_vad.specs.{LieApart}
 
 abbrev nothing : Range
 nothing = record { first = first_user_page; count = 0 }

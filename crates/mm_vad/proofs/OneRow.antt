@@ -2,8 +2,7 @@
 use Rattle.std.proofs.Common.{◌≡◌, ℕ, ◌+◌, ◌/◌, ◌%◌, ◌^◌, ◌<◌, ◌≤◌, List, [], length, replicate, Option, Some, None, sym, ap, ◌∙◌, subst, arith}
 use Rattle.std.proofs.lemmas.Nat.{div-add-mod'}
 use Rattle.std.proofs.lemmas.List.{length-replicate}
-use Rattle.mm_vad.specs.declared.pages.Row.{Row}
-use Rattle.mm_vad.specs.Chunks.{rows_joined, AreRows, WrittenOf, rows_of, AreAll, FilledSome}
+use Rattle.mm_vad.specs.{Row, rows_joined, AreRows, WrittenOf, rows_of, AreAll, FilledSome}
 use Rattle.mm_vad.proofs.Joined.{AreWhole, whole-replicate, joined-replicate, filled_same, equal_part}
 
 pub rows_written : {seen now : WrittenOf} → seen ≡ now → seen.rows ≡ now.rows

@@ -2,10 +2,8 @@
 use Rattle.std.proofs.Common.{ℕ, ◌≤◌, List, [], ◌∷◌, arith}
 use Rattle.std.specs.Prelude.{All}
 use Rattle.std.proofs.lemmas.List.Elements.{All-nil, All-cons}
-use Rattle.mm_types.specs.Address.{end_of, first_user_page}
-use Rattle.mm_vad.specs.Ranges.{LieApart, FollowsFrom}
-use Rattle.mm_vad.specs.declared.regions.Region.{Region}
-use Rattle.mm_vad.specs.Regions.{IsSpace, pages_of, ranges_of}
+use Rattle.mm_types.specs.{end_of, first_user_page}
+use Rattle.mm_vad.specs.{LieApart, FollowsFrom, Region, IsSpace, pages_of, ranges_of}
 
 -- each region has a page, and all of them are user pages
 each_from : (low : ℕ) (gs : List Region) → first_user_page ≤ low → LieApart low (ranges_of gs) → All (λ g. FollowsFrom first_user_page (pages_of g)) gs

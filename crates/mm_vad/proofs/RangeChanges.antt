@@ -3,8 +3,8 @@ use Rattle.std.proofs.Common.{◌≡◌, ◌⊎◌, inl, inr, ℕ, ◌≤◌, �
 use Rattle.std.specs.Prelude.{nat_le}
 use Rattle.std.specs.List.{list_any}
 use Rattle.std.proofs.lemmas.Bool.{ltb-true, ltb-false, or_parts, and_cases, and_parts, not-true, leb-true}
-use Rattle.mm_types.specs.Address.{Range, end_of, end_of_user_pages, first_user_page, meets, is_free, are_user_pages}
-use Rattle.mm_vad.specs.Ranges.{FollowsFrom, LieApart, add_range, remove_range}
+use Rattle.mm_types.specs.{Range, end_of, end_of_user_pages, first_user_page, meets, is_free, are_user_pages}
+use Rattle.mm_vad.specs.{FollowsFrom, LieApart, add_range, remove_range}
 use Rattle.mm_vad.proofs.Apart.{apart_from_below}
 
 -- of two ranges that do not meet, one ends where or before the other begins

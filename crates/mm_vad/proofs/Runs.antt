@@ -5,8 +5,7 @@ use Rattle.std.specs.Prelude.{◌&&◌, ◌==◌}
 use Rattle.std.proofs.lemmas.Bool.{and_from, eq-eqb}
 use Rattle.std.proofs.lemmas.List.{drop_more, drop-drop, take-append-drop, get_or-take, get_or-drop, get_or-replicate}
 use Rattle.std.proofs.lemmas.List.Folds.{length-prefix_len}
-use Rattle.mm_vad.specs.declared.pages.Row.{Row}
-use Rattle.mm_vad.specs.Looks.{Look, look_of, same_flag, same_look, are_alike, first_alike, run_from}
+use Rattle.mm_vad.specs.{Row, Look, look_of, same_flag, same_look, are_alike, first_alike, run_from}
 
 same_flag_itself : (b : Bool) → same_flag b b ≡ true
 same_flag_itself true = refl

@@ -1,7 +1,7 @@
 -- Two trees of which one is two levels higher, and a range between them, turned.
 use Rattle.std.proofs.Common.{◌≡◌, ◌+◌, ◌<◌, ◌≤◌, append_assoc, arith}
-use Rattle.mm_types.specs.Address.{Range, end_of, end_of_user_pages}
-use Rattle.mm_vad.specs.Shape.{TreeOf, IsFork, IsTurned}
+use Rattle.mm_types.specs.{Range, end_of, end_of_user_pages}
+use Rattle.mm_vad.specs.{TreeOf, IsFork, IsTurned}
 
 -- the range of the higher one's root comes between
 pub left_once : {l u inner outer f : TreeOf} {r q r' q' : Range} → IsFork u inner q outer → IsFork f l r' inner → r' ≡ r → q' ≡ q → u.height ≡ l.height + 2 → inner.height ≤ outer.height → end_of q ≤ end_of_user_pages → IsTurned l r u f q' outer

@@ -2,11 +2,10 @@
 use Rattle.std.proofs.Common.{◌≡◌, ℕ, ◌+◌, ◌-◌, ◌<◌, false, List, ◌∷◌, length, drop, get_or, ap, ◌∙◌, subst}
 use Rattle.std.specs.Prelude.{Bool, map}
 use Rattle.std.proofs.lemmas.List.{drop_more}
-use Rattle.mm_types.specs.Address.{page_of}
-use Rattle.mm_world.specs.Find.{change_range}
-use Rattle.mm_world.specs.Watch.{unwritten}
+use Rattle.mm_types.specs.{page_of}
+use Rattle.mm_world.specs.{change_range, unwritten}
 use Rattle.mm_vad.proofs.FlagLemmas.{length-change}
-use Rattle.mm_vad.specs.Regions.{LieAmong}
+use Rattle.mm_vad.specs.{LieAmong}
 
 -- so far the flags are these, and the later addresses are left
 pub record Left (base : ℕ) (whole old flags : List Bool) (addresses : List ℕ) : Type 0 where

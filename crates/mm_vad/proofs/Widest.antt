@@ -1,8 +1,8 @@
 -- The room before the ranges on both sides of one of them.
 use Rattle.std.proofs.Common.{◌≡◌, ℕ, ◌≤◌, ◌<◌, max, true, false, cond, leb, List, [], ◌∷◌, ◌++◌, Option, Some, None, refl, ap, ◌∙◌, arith}
 use Rattle.std.proofs.lemmas.Bool.{le-leb, lt-leb, leb-false}
-use Rattle.mm_types.specs.Address.{Range, end_of, end_of_user_pages}
-use Rattle.mm_vad.specs.Room.{aligned, room, lowest, end_after, widest, first_fit}
+use Rattle.mm_types.specs.{Range, end_of, end_of_user_pages}
+use Rattle.mm_vad.specs.{aligned, room, lowest, end_after, widest, first_fit}
 use Rattle.std.specs.Option.{option_or}
 
 pub end_after-append : (low : ℕ) (xs : List Range) (m : Range) (ys : List Range) → end_after low (xs ++ m ∷ ys) ≡ end_after (end_of m) ys

@@ -1,8 +1,8 @@
 -- The definitions, computed on two ranges of 16 pages at pages 0x10 and 0x30.
 use Rattle.std.proofs.Common.{◌≡◌, List, [], ◌∷◌, Some, None, true, false, refl}
 use Rattle.std.specs.Prelude.{find, nat_le}
-use Rattle.mm_types.specs.Address.{Range, holds_page, is_free, least_from, lowest_gap}
-use Rattle.mm_vad.specs.Ranges.{range_at, add_range, remove_range}
+use Rattle.mm_types.specs.{Range, holds_page, is_free, least_from, lowest_gap}
+use Rattle.mm_vad.specs.{range_at, add_range, remove_range}
 
 abbrev two : List Range
 two = add_range (range_at 0x10 16) (add_range (range_at 0x30 16) [])

@@ -1,7 +1,7 @@
 -- Words of 64 bits as a list of flags.
 use Rattle.std.specs.Prelude.{◌≡◌, ℕ, ◌<◌, ◌≤◌, Bool, true, false, List, map, slice_index_or}
 use Rattle.std.specs.List.{range_with_len}
-use Rattle.mm_bits.specs.Bits.{have_bit}
+use Rattle.mm_bits.specs.{have_bit}
 
 -- the first bits of the words
 unfoldable pub word_flags : List ℕ → ℕ → List Bool

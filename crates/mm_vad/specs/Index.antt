@@ -1,7 +1,7 @@
 -- How a `Space` holds its regions: by their bases, in the order of the ranges that they take.
 use Rattle.std.specs.Prelude.{◌≡◌, ℕ, min, List, [], ◌∷◌, length, Option, IsSomeAnd}
 use Rattle.std.specs.List.{cons_option}
-use Rattle.mm_types.specs.Address.{Range, first_user_page}
+use Rattle.mm_types.specs.{Range, first_user_page}
 use Rattle.mm_vad.specs.Ranges.{GapsOf, LieApart}
 use Rattle.mm_vad.specs.declared.regions.Region.{Region}
 use Rattle.mm_vad.specs.Regions.{SpaceOf, pages_of, HasFlags}

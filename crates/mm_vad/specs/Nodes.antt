@@ -1,7 +1,7 @@
 -- What the nodes of a tree are seen as, and what holds of each.
 use Rattle.std.specs.Prelude.{◌≡◌, ℕ, ◌+◌, ◌^◌, ◌<◌, ◌≤◌, List, length, [], ◌∷◌, ◌++◌, Option, Some, None, Box, Bool, false}
 use Rattle.std.specs.declared.alloc.Global.{Global}
-use Rattle.mm_types.specs.Address.{Range, end_of, end_of_user_pages}
+use Rattle.mm_types.specs.{Range, end_of, end_of_user_pages}
 use Rattle.mm_vad.specs.Room.{lowest, end_after, widest}
 use Rattle.mm_vad.specs.Shape.{TreeOf, IsShaped, IsFork, DifferByAtMost}
 use Rattle.mm_vad.specs.declared.trees.Node.{Node}

@@ -2,8 +2,7 @@
 -- Profile, "Machine, addresses, limits".
 use Rattle.std.specs.Prelude.{ℕ, ◌≤◌, ◌<◌, Bool, nat_lt, ◌==◌, if◌then◌else◌, List, [], ◌∷◌}
 use Rattle.std.specs.List.{list_any}
-use Rattle.mm_types.specs.Address.{Range, end_of, end_of_user_pages}
-use Rattle.mm_types.specs.declared.numbers.Vpn.{Vpn}
+use Rattle.mm_types.specs.{Range, end_of, end_of_user_pages, Vpn}
 
 -- what a `Gaps` is seen as: the ranges that are taken, and how many more can be inserted without
 -- memory

@@ -2,9 +2,8 @@
 -- Profile, "Regions, rows, sections".
 use Rattle.std.specs.Prelude.{◌≡◌, ℕ, ◌+◌, ◌-◌, ◌<◌, ◌≤◌, Bool, nat_le, nat_lt, ◌==◌, if◌then◌else◌, List, [], ◌∷◌, length, map, All, Option, IfSome, IsSomeAnd, option_map, find, insert, remove, count_by, slice_set}
 use Rattle.std.specs.List.{position_or_len}
-use Rattle.mm_types.specs.Address.{Range, holds_page, page_of, first_user_page}
-use Rattle.mm_world.specs.Find.{change_range}
-use Rattle.mm_world.specs.Watch.{unwritten}
+use Rattle.mm_types.specs.{Range, holds_page, page_of, first_user_page}
+use Rattle.mm_world.specs.{change_range, unwritten}
 use Rattle.mm_vad.specs.Ranges.{LieApart}
 use Rattle.mm_vad.specs.declared.pages.Row.{Row}
 use Rattle.mm_vad.specs.declared.regions.Region.{Region}

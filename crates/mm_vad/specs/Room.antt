@@ -1,6 +1,6 @@
 -- How much room there is between ranges in a row.
 use Rattle.std.specs.Prelude.{ℕ, ◌+◌, ◌-◌, ◌*◌, ◌/◌, max, nat_le, if◌then◌else◌, List, [], ◌∷◌, Option, Some, None}
-use Rattle.mm_types.specs.Address.{Range, end_of, granule_pages}
+use Rattle.mm_types.specs.{Range, end_of, granule_pages}
 
 -- the first page of the lowest granule that begins at the page or above it
 abbrev pub aligned : ℕ → ℕ

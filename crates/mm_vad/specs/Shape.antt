@@ -1,6 +1,6 @@
 -- What a tree of ranges is seen as, and how high it is.
 use Rattle.std.specs.Prelude.{◌≡◌, ℕ, ◌+◌, ◌*◌, ◌^◌, ◌≤◌, max, List, [], ◌∷◌, ◌++◌, length}
-use Rattle.mm_types.specs.Address.{Range, end_of, end_of_user_pages}
+use Rattle.mm_types.specs.{Range, end_of, end_of_user_pages}
 use Rattle.mm_vad.specs.Room.{end_after}
 use Rattle.mm_vad.specs.Visits.{repeated}
 

@@ -1,7 +1,7 @@
 ghost use Rattle.std.specs.Prelude.{◌≡◌, ℕ, ◌+◌, ◌*◌, ◌^◌, ◌<◌, ◌≤◌, Bool, true, false, length, replicate, IfOk, IfSome, IfNone};
 ghost use Rattle.std.specs.Int.{bit_at};
-ghost use Rattle.mm_world.specs.Find.{change_range};
-ghost use Rattle.mm_bits.specs.Bits.{have_bit};
+ghost use Rattle.mm_world.specs.{change_range};
+ghost use Rattle.mm_bits.specs.{have_bit};
 ghost use Rattle.mm_vad.specs.Bits.{word_flags, NoneSet, IsNextSet, bit_flag};
 
 use mm_bits::put_bits;

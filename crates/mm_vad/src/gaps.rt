@@ -1,5 +1,5 @@
 ghost use Rattle.std.specs.Prelude.{◌≡◌, ◌+◌, ◌-◌, ◌<◌, ◌≤◌, ℕ, [], length, max, IsTrue, OnOk, OnErr, option_map, find, nat_le};
-ghost use Rattle.mm_types.specs.Address.{holds_page, is_free, first_user_page, lowest_gap};
+ghost use Rattle.mm_types.specs.{holds_page, is_free, first_user_page, lowest_gap};
 ghost use Rattle.mm_vad.specs.Ranges.{GapsOf, LieApart, range_at, add_range, remove_range, is_begun_at, page_number, first_and_count};
 ghost use Rattle.mm_vad.specs.Visits.{VisitsFew};
 
@@ -21,7 +21,7 @@ pub struct Gaps {
 
 impl Model for Gaps {
     ghost use Rattle.std.specs.Prelude.{vec_len};
-    ghost use Rattle.mm_types.specs.Address.{first_user_page};
+    ghost use Rattle.mm_types.specs.{first_user_page};
     ghost use Rattle.mm_vad.specs.Ranges.{GapsOf, LieApart};
 
     ghost Value = { GapsOf };

@@ -1,6 +1,6 @@
 ghost use Rattle.std.specs.Prelude.{◌≡◌, true, false, map, length};
-ghost use Rattle.mm_types.specs.Address.{page_of};
-ghost use Rattle.mm_world.specs.Watch.{unwritten};
+ghost use Rattle.mm_types.specs.{page_of};
+ghost use Rattle.mm_world.specs.{unwritten};
 ghost use Rattle.mm_vad.specs.Regions.{HasFlags, HasPages, LieAmong, with_row, with_equal_rows, with_marks, with_unwritten};
 
 use crate::{Bits, Row, Rows};

@@ -1,6 +1,6 @@
 ghost use Rattle.std.specs.Prelude.{◌≡◌, ◌+◌, ◌-◌, ◌<◌, ◌≤◌, true, false, [], length, IsTrue, IsSome, IsSomeAnd, OnOk, OnErr, option_map};
 ghost use Rattle.std.specs.Option.{option_copied};
-ghost use Rattle.mm_types.specs.Address.{is_free, lowest_gap};
+ghost use Rattle.mm_types.specs.{is_free, lowest_gap};
 ghost use Rattle.mm_vad.specs.Ranges.{page_number};
 
 use crate::{Gaps, Region, Row, Steps, Uncounted};

@@ -1,6 +1,6 @@
 ghost use Rattle.std.specs.Prelude.{◌≡◌, ◌==◌, ◌+◌, ◌-◌, ◌^◌, ◌<◌, ◌≤◌, max, if◌then◌else◌, [], ◌∷◌, ◌++◌, length, Some, None, IsSome, IsTrue, MatchOption, IfSome, option_map, find, nat_le, false};
 ghost use Rattle.std.specs.Option.{ForSome, option_or};
-ghost use Rattle.mm_types.specs.Address.{end_of, end_of_user_pages, holds_page};
+ghost use Rattle.mm_types.specs.{end_of, end_of_user_pages, holds_page};
 ghost use Rattle.mm_vad.specs.Ranges.{LieApart, add_range, remove_range, is_begun_at, first_and_count};
 ghost use Rattle.mm_vad.specs.Room.{aligned, room, first_fit};
 ghost use Rattle.mm_vad.specs.Shape.{IsShaped, IsFork, IsTurned, IsBalanced, DifferByAtMost, VisitsAtMost};

@@ -2,17 +2,15 @@
 use Rattle.std.proofs.Common.{◌≡◌, ℕ, zero, suc, ◌<◌, List, [], ◌∷◌, ◌++◌, length, get_or, Option, Some, None, refl, sym, ap, ◌∙◌, inl, inr, arith, true, false, cond, replicate}
 use Rattle.std.proofs.lemmas.Bool.{cases_lt}
 use Rattle.std.proofs.lemmas.Option.{slice_get_past, slice_get_read, slice_get-get_or}
-use Rattle.std.specs.Prelude.{slice_get, slice_set, IsSome, is_some, unwrap_or}
-use Rattle.mm_words.specs.Prototypes.{AreaWords, proto_word, area_words}
+use Rattle.std.specs.Prelude.{slice_get, IsSome, is_some, unwrap_or}
+use Rattle.mm_words.specs.{AreaWords, proto_word, area_words}
 use Rattle.std.specs.Option.{option_and_then}
 use Rattle.std.specs.Ordering.{nat_cmp}
 use Rattle.std.specs.FinMap as finite
 use Rattle.std.specs.FinMap.{FinMap}
-use Rattle.mm_types.specs.Table.{table, found}
-use Rattle.mm_types.proofs.Tables.{get_table, tables_agree}
-use Rattle.mm_types.proofs.Finite.{same, get-insert, get-remove}
+use Rattle.mm_types.specs.{table, found}
+use Rattle.mm_types.proofs.{get_table, tables_agree, same, get-insert, get-remove}
 use Rattle.std.specs.Cmp.{unsigned_Decides}
-use Rattle.std.proofs.Math.ListN.{length-set}
 use Rattle.std.proofs.lemmas.List.{length-replicate}
 
 module _ {W X : Type 0} (g : W → Option X) where
@@ -78,25 +76,11 @@ get_inserted m a words = get-insert m a words a ∙ ap (λ b. cond b (Some words
 has_word : (words : List ℕ) (i : ℕ) → i < length words → IsSome (slice_get words i)
 has_word words i range = ap is_some (slice_get-get_or words i 0 range)
 
-in_words : (o : Option (List ℕ)) (j : ℕ) → IsSome (option_and_then (λ words. slice_get words j) o) → j < length (unwrap_or o [])
-in_words None j some = let bad : false ≡ true = some in cc
-in_words (Some words) j some = elim (cases_lt j (length words)) [
-  | inl near ↦ near
-  | inr far ↦ let bad : false ≡ true = sym (ap is_some (slice_get_past words j far)) ∙ some in cc
-]
-
 -- an area that was opened has so many words
 pub opened : (m : AreaWords) (a n i : ℕ) → i < n → IsSome (proto_word (finite.insert m a (replicate n 0)) a i)
 opened m a n i range =
     ap is_some (word_is _ a i (replicate n 0) (get_inserted m a (replicate n 0)))
     ∙ has_word (replicate n 0) i (omega (arith, range, length-replicate {A = ℕ} n 0))
-
--- an area has as many words after one was set
-pub still_there : (m : AreaWords) (a i word j : ℕ) → IsSome (proto_word m a j) → IsSome (proto_word (finite.insert m a (slice_set (area_words m a) i word)) a j)
-still_there m a i word j some =
-    let new : List ℕ = slice_set (area_words m a) i word in
-    ap is_some (word_is _ a j new (get_inserted m a new))
-    ∙ has_word new j (omega (arith, in_words (finite.get m a) j some, length-set (area_words m a) i word))
 
 -- an area is open after it was opened, and a word of it was set
 pub is_open : (m : AreaWords) (a : ℕ) (words : List ℕ) → IsSome (finite.get (finite.insert m a words) a)

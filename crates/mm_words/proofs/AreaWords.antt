@@ -6,22 +6,13 @@ use Rattle.std.specs.Ordering.{nat_cmp}
 use Rattle.std.specs.Cmp.{unsigned_Decides}
 use Rattle.std.specs.FinMap as finite
 use Rattle.std.proofs.lemmas.Bool.{ltb-true}
-use Rattle.mm_types.proofs.Cells.{same_or_not, get_set_same, get_set_other}
-use Rattle.mm_types.proofs.Tables.{differ}
-use Rattle.mm_life.specs.Life.{changed}
-use Rattle.mm_words.specs.Layout.{IsEntry, entry_word}
-use Rattle.mm_words.specs.declared.layout.Entry.{Entry}
+use Rattle.mm_types.proofs.{same_or_not, get_set_same, get_set_other, differ}
+use Rattle.mm_life.specs.{changed}
+use Rattle.mm_words.specs.{IsEntry, entry_word, Entry, AreaWords, proto_word, area_words, entry_in, entry_or, bare, changed_at, Process, Aside}
+use Rattle.mm_words.specs.{bound_of, at_of, read_or, process_in, shown_words, proto_in, size_in, no_words}
 use Rattle.mm_words.specs.declared.layout.Entry.TheVariants as entry
-use Rattle.mm_words.specs.Prototypes.{AreaWords, proto_word, area_words}
-use Rattle.mm_words.specs.Entries.{entry_in, entry_or}
 use Rattle.mm_words.proofs.EntryLemmas.{entry_again, zero_is_empty}
-use Rattle.mm_words.specs.Words.{bare, changed_at}
-use Rattle.mm_words.specs.declared.processes.Process.{Process}
-use Rattle.mm_words.specs.declared.aside.Aside.{Aside}
 use Rattle.std.specs.Prelude.{Result, Ok, Err, OnOk, OnErr}
-use Rattle.mm_words.specs.Changes.{bound_of, at_of}
-use Rattle.mm_words.specs.Tables.{read_or, process_in}
-use Rattle.mm_words.specs.Shown.{shown_words, proto_in, size_in, no_words}
 use Rattle.mm_words.proofs.PageChanges.{here, elsewhere, gone, left}
 use Rattle.mm_words.proofs.TableChanges.{same_words}
 

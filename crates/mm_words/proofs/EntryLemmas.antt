@@ -1,10 +1,9 @@
 -- For users: the entry of an entry's word is that entry, and the word of a word's entry is that word.
 use Rattle.std.proofs.Common.{◌≡◌, ℕ, ◌+◌, ◌*◌, ◌<◌, ◌^◌, false, cond, refl, sym, ap, ◌∙◌, arith}
 use Rattle.std.proofs.lemmas.Bool.Decides.{nat_tests}
-use Rattle.mm_words.specs.Layout.{IsEntry, entry_word, tag_of, first_number, second_number, is_no_entry, tag_in, first_in, second_in}
-use Rattle.mm_words.specs.declared.layout.Entry.{Entry}
+use Rattle.mm_words.specs.{IsEntry, entry_word, tag_of, first_number, second_number, is_no_entry, tag_in, first_in, second_in, Entry, by_parts}
+use Rattle.mm_words.specs.{entry_in}
 use Rattle.mm_words.specs.declared.layout.Entry.TheVariants as entry
-use Rattle.mm_words.specs.Entries.{by_parts, entry_in}
 
 tag_again : (t f s : ℕ) → t < 16 → tag_in (t + 16 * f + 2 ^ 32 * s) ≡ t
 tag_again t f s h = omega arith
@@ -17,21 +16,11 @@ second_again t f s h g = omega arith
 
 small_tag : (e : Entry) → tag_of e < 7
 small_tag entry.Empty = omega arith
-small_tag entry.Zero = omega arith
-small_tag (entry.Paged s) = omega arith
-small_tag (entry.InFile b) = omega arith
-small_tag (entry.Transition f) = omega arith
-small_tag (entry.Valid f n) = omega arith
-small_tag (entry.Proto a i) = omega arith
+small_tag _ = omega arith
 
 by_its_parts : (e : Entry) → by_parts (tag_of e) (first_number e) (second_number e) ≡ e
 by_its_parts entry.Empty = refl
-by_its_parts entry.Zero = refl
-by_its_parts (entry.Paged s) = refl
-by_its_parts (entry.InFile b) = refl
-by_its_parts (entry.Transition f) = refl
-by_its_parts (entry.Valid f n) = refl
-by_its_parts (entry.Proto a i) = refl
+by_its_parts _ = refl
 
 parts_again : (e : Entry) → IsEntry e → by_parts (tag_in (entry_word e)) (first_in (entry_word e)) (second_in (entry_word e)) ≡ e
 parts_again e h =
@@ -51,11 +40,7 @@ read_some word e nay is same =
 is_entry_word : (e : Entry) → IsEntry e → is_no_entry (entry_word e) ≡ false
 is_entry_word entry.Empty h = refl
 is_entry_word entry.Zero h = refl
-is_entry_word (entry.Paged s) h = let f = h.first in grind (arith, nat_tests)
-is_entry_word (entry.InFile s) h = let f = h.first in grind (arith, nat_tests)
-is_entry_word (entry.Transition s) h = let f = h.first in grind (arith, nat_tests)
-is_entry_word (entry.Valid s n) h = let f = h.first in grind (arith, nat_tests)
-is_entry_word (entry.Proto s n) h = let f = h.first in grind (arith, nat_tests)
+is_entry_word _ h = let f = h.first in grind (arith, nat_tests)
 
 pub entry_again : (e : Entry) → IsEntry e → entry_in (entry_word e) ≡ e
 entry_again e h = sym (read_some (entry_word e) e (is_entry_word e h) h refl)

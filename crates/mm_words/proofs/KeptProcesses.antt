@@ -5,19 +5,13 @@ use Rattle.std.specs.Ordering.{nat_cmp}
 use Rattle.std.specs.FinMap as finite
 use Rattle.std.specs.FinMap.{FinMap}
 use Rattle.std.proofs.lemmas.Bool.{and_parts, leb-true, ltb-true}
-use Rattle.mm_types.proofs.Cells.{same_or_not}
-use Rattle.mm_types.proofs.Finite.{same, len_more, len_less}
-use Rattle.mm_types.specs.Address.{holds_page, end_of_user_pages}
-use Rattle.mm_types.specs.declared.numbers.Frame.{Frame}
-use Rattle.mm_wset.specs.Ages.{WorkingSetOf, AgesBy, older}
-use Rattle.mm_words.specs.Layout.{IsEntry, entry_word}
-use Rattle.mm_words.specs.declared.layout.Entry.{Entry}
+use Rattle.mm_types.proofs.{same_or_not, same, len_more, len_less, none_of}
+use Rattle.mm_types.specs.{holds_page, end_of_user_pages, Frame}
+use Rattle.mm_wset.specs.{WorkingSetOf, AgesBy, older}
+use Rattle.mm_words.specs.{IsEntry, entry_word, Entry, entry_or, pages, Reserves, Releases, reserved_word, bare, is_valid_entry, IsKeptProcess}
+use Rattle.mm_words.specs.{place_in_set, set_place}
 use Rattle.mm_words.specs.declared.layout.Entry.TheVariants as entry
-use Rattle.mm_words.specs.Entries.{entry_or}
 use Rattle.mm_words.proofs.EntryLemmas.{entry_again}
-use Rattle.mm_words.specs.Pages.{pages, Reserves, Releases, reserved_word}
-use Rattle.mm_words.specs.Words.{bare, is_valid_entry}
-use Rattle.mm_words.specs.Processes.{IsKeptProcess, place_in_set, set_place}
 use Rattle.mm_words.proofs.ReadWords.{no_set_place, plain_place}
 use Rattle.mm_words.proofs.PageChanges.{here, elsewhere, gone, left}
 
@@ -118,10 +112,6 @@ module _ (t : FinMap nat_cmp ℕ) (s : WorkingSetOf) (o : Bool) (is : IsKeptProc
   -- a page that is not valid has no age
   pub no_age : (v : ℕ) → is_valid_entry (bare (entry_or (finite.get t v))) ≡ false → finite.get s.ages v ≡ None
   no_age v invalid = none_of (finite.get s.ages v) (is.aged v ∙ ap is_some (no_set_place (entry_or (finite.get t v)) invalid))
-    where
-      none_of : (a : Option ℕ) → is_some a ≡ false → a ≡ None
-      none_of None h = refl
-      none_of (Some age) h = cc
 
   -- a page was used, or became valid
   young_new : (v page age : ℕ) → finite.get (finite.insert s.ages v 0) page ≡ Some age → age ≤ 7
@@ -173,16 +163,9 @@ module _ (t : FinMap nat_cmp ℕ) (s : WorkingSetOf) (o : Bool) (is : IsKeptProc
     ]
 
     pub process_more : IsKeptProcess table_more (record s { ages = finite.insert s.ages v 0; places = finite.insert s.places m v }) o
-    process_more = record {
-      named = named_more;
-      held = held_more;
-      aged = aged_more;
-      young = young_new v;
-      within = omega (arith, few, len_more s.places m v vacant);
-      room = is.room;
-      closed = never_closed v bound;
-      user = user_set t v (entry_word (entry.Valid f m)) is.user bound;
-    }
+    process_more =
+        let within : finite.len (finite.insert s.places m v) ≤ s.max = omega (arith, few, len_more s.places m v vacant) in
+        assumption (is, named_more, held_more, aged_more, young_new v, within, never_closed {A = (page : ℕ) → finite.get table_more page ≡ None} v bound, user_set t v (entry_word (entry.Valid f m)) is.user bound)
 
   -- ---- a valid page is valid no more
 
@@ -229,33 +212,20 @@ module _ (t : FinMap nat_cmp ℕ) (s : WorkingSetOf) (o : Bool) (is : IsKeptProc
     ]
 
     pub process_less : IsKeptProcess table_less (record s { ages = finite.remove s.ages v; places = finite.remove s.places m }) o
-    process_less = record {
-      named = named_less;
-      held = held_less;
-      aged = aged_less;
-      young = young_less;
-      within = omega (arith, is.within, len_less s.places m v (is.named v m valid));
-      room = is.room;
-      closed = never_closed v bound;
-      user = user_set t v (entry_word e) is.user bound;
-    }
+    process_less =
+        let within : finite.len (finite.remove s.places m) ≤ s.max = omega (arith, is.within, len_less s.places m v (is.named v m valid)) in
+        assumption (is, named_less, held_less, aged_less, young_less, within, never_closed {A = (page : ℕ) → finite.get table_less page ≡ None} v bound, user_set t v (entry_word e) is.user bound)
 
   -- ---- ages alone change
 
   pub touched_kept : (v m : ℕ) → place_in_set t v ≡ Some m → (r : WorkingSetOf) → r ≡ record s { ages = finite.insert s.ages v 0 } → IsKeptProcess t r o
-  touched_kept v m valid r re = subst (λ (x : WorkingSetOf). IsKeptProcess t x o) (sym re) (record {
-    named = is.named;
-    held = is.held;
-    aged = λ page. elim (same_or_not page v) [
-      | inl e ↦ ap (λ k. is_some (finite.get (finite.insert s.ages v 0) k)) e ∙ ap is_some (here s.ages v 0) ∙ sym (ap (λ k. is_some (place_in_set t k)) e ∙ ap is_some valid)
-      | inr differs ↦ ap is_some (elsewhere s.ages v 0 page differs) ∙ is.aged page
-    ];
-    young = young_new v;
-    within = is.within;
-    room = is.room;
-    closed = is.closed;
-    user = is.user;
-  })
+  touched_kept v m valid r re = subst (λ (x : WorkingSetOf). IsKeptProcess t x o) (sym re) (assumption (is, aged, young_new v))
+    where
+      aged : (page : ℕ) → is_some (finite.get (finite.insert s.ages v 0) page) ≡ is_some (place_in_set t page)
+      aged page = elim (same_or_not page v) [
+        | inl e ↦ ap (λ k. is_some (finite.get (finite.insert s.ages v 0) k)) e ∙ ap is_some (here s.ages v 0) ∙ sym (ap (λ k. is_some (place_in_set t k)) e ∙ ap is_some valid)
+        | inr differs ↦ ap is_some (elsewhere s.ages v 0 page differs) ∙ is.aged page
+      ]
 
   same_kind : (a : Option ℕ) → is_some (option_map older a) ≡ is_some a
   same_kind None = refl
@@ -266,26 +236,17 @@ module _ (t : FinMap nat_cmp ℕ) (s : WorkingSetOf) (o : Bool) (is : IsKeptProc
   still_young (Some x) age h = let e : older x ≡ age = cc in omega (arith, e)
 
   pub older_kept : (r : WorkingSetOf) → r ≡ record s { ages = r.ages } → AgesBy older s.ages r.ages → IsKeptProcess t r o
-  older_kept r re by = subst (λ (x : WorkingSetOf). IsKeptProcess t x o) (sym re) (record {
-    named = is.named;
-    held = is.held;
-    aged = λ page. ap is_some (by page) ∙ same_kind (finite.get s.ages page) ∙ is.aged page;
-    young = λ page age h. still_young (finite.get s.ages page) age (sym (by page) ∙ h);
-    within = is.within;
-    room = is.room;
-    closed = is.closed;
-    user = is.user;
-  })
+  older_kept r re by = subst (λ (x : WorkingSetOf). IsKeptProcess t x o) (sym re) (assumption (
+    is,
+    λ (page : ℕ). ap is_some (by page) ∙ same_kind (finite.get s.ages page) ∙ is.aged page,
+    λ (page age : ℕ) (h : finite.get r.ages page ≡ Some age). still_young (finite.get s.ages page) age (sym (by page) ∙ h),
+  ))
 
   -- ---- a process is opened or closed
 
   module _ (none : (page : ℕ) → is_some (finite.get t page) ≡ false) where
     pub no_word : (page : ℕ) → finite.get t page ≡ None
     no_word page = none_of (finite.get t page) (none page)
-      where
-        none_of : (a : Option ℕ) → is_some a ≡ false → a ≡ None
-        none_of None h = refl
-        none_of (Some w) h = cc
 
     no_place : (n : ℕ) → finite.get s.places n ≡ None
     no_place n = by_page (finite.get s.places n) refl
@@ -299,16 +260,7 @@ module _ (t : FinMap nat_cmp ℕ) (s : WorkingSetOf) (o : Bool) (is : IsKeptProc
     none_resident = ap finite.len (same s.places finite.empty (λ n. no_place n ∙ sym (finite.get-empty nat_cmp n))) ∙ finite.len-empty nat_cmp ℕ
 
     pub close_kept : (r : WorkingSetOf) → r ≡ record s { reserved = false } → IsKeptProcess t r false
-    close_kept r re = subst (λ (x : WorkingSetOf). IsKeptProcess t x false) (sym re) (record {
-      named = is.named;
-      held = is.held;
-      aged = is.aged;
-      young = is.young;
-      within = is.within;
-      room = refl;
-      closed = λ _. no_word;
-      user = is.user;
-    })
+    close_kept r re = subst (λ (x : WorkingSetOf). IsKeptProcess t x false) (sym re) (assumption (is, no_word, refl))
 
 -- ---- as the calls below say it
 

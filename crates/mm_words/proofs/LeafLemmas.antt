@@ -8,14 +8,13 @@ use Rattle.std.specs.Prelude.{slice_get, IsSome, is_some, if◌then◌else◌}
 use Rattle.std.specs.Ordering.{nat_cmp}
 use Rattle.std.specs.FinMap as finite
 use Rattle.std.specs.FinMap.{FinMap}
-use Rattle.mm_types.specs.Table.{found}
-use Rattle.mm_types.proofs.Tables.{get_table, is_insert}
-use Rattle.mm_types.proofs.Finite.{same}
+use Rattle.mm_types.specs.{found, holds_page}
+use Rattle.mm_types.proofs.{get_table, is_insert, same}
 use Rattle.std.specs.Prelude.{replicate, ◌-◌}
-use Rattle.mm_types.specs.Address.{holds_page}
-use Rattle.mm_words.specs.Pages.{pages, Reserves, Releases, AreReserved, reserved_word}
-use Rattle.mm_words.specs.LeafWords.{leaf_pages, leaf_word, no_word}
-use Rattle.mm_words.specs.Directory.{LeavesOf, leaf_of, word_in, numbers_from, end_of_pages, most_leaves, directory_words, IsWholeLeaf, IsDirectory, IsInLeaf, with_leaf, with_leaf_word, SameWords, Changes, PlacesMore}
+use Rattle.mm_words.specs.{pages, Reserves, Releases, AreReserved, reserved_word, leaf_pages, leaf_word, no_word, LeavesOf, leaf_of, word_in}
+use Rattle.mm_words.specs.{numbers_from, end_of_pages, most_leaves, directory_words, IsWholeLeaf, IsDirectory, IsInLeaf, with_leaf, with_leaf_word}
+use Rattle.mm_words.specs.{SameWords, PlacesMore}
+use Rattle.mm_words.specs.Directory.{Changes}
 use Rattle.mm_words.proofs.WordLemmas.{none_after}
 use Rattle.std.proofs.lemmas.List.{length-replicate}
 

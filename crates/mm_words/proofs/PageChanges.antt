@@ -5,19 +5,13 @@ use Rattle.std.specs.Ordering.{nat_cmp}
 use Rattle.std.specs.Cmp.{unsigned_Decides}
 use Rattle.std.specs.FinMap as finite
 use Rattle.std.specs.FinMap.{FinMap}
-use Rattle.mm_types.proofs.Finite.{get-insert, get-remove, len_more, len_less}
-use Rattle.mm_types.proofs.Tables.{differ}
-use Rattle.mm_types.specs.Address.{Range, holds_page}
-use Rattle.mm_wset.specs.Ages.{WorkingSetOf}
-use Rattle.mm_words.specs.Layout.{IsEntry, entry_word}
-use Rattle.mm_words.specs.declared.layout.Entry.{Entry}
-use Rattle.mm_words.specs.Entries.{entry_in, entry_or}
+use Rattle.mm_types.proofs.{get-insert, get-remove, len_more, len_less, differ}
+use Rattle.mm_types.specs.{Range, holds_page}
+use Rattle.mm_wset.specs.{WorkingSetOf}
+use Rattle.mm_words.specs.{IsEntry, entry_word, Entry, entry_in, entry_or, bare, is_valid_entry, Reserves, reserved_word, bound_of, at_of}
+use Rattle.mm_words.specs.{resident_set, resident_by_numbers, EntryBecomes, Process}
 use Rattle.mm_words.proofs.EntryLemmas.{entry_again, zero_is_empty}
-use Rattle.mm_words.specs.Words.{bare, is_valid_entry}
-use Rattle.mm_words.specs.Pages.{Reserves, reserved_word}
 use Rattle.std.specs.Prelude.{Result, Ok, Err, OnOk, OnErr}
-use Rattle.mm_words.specs.Changes.{bound_of, at_of, resident_set, resident_by_numbers, EntryBecomes}
-use Rattle.mm_words.specs.declared.processes.Process.{Process}
 
 -- ---- finite maps
 

@@ -2,15 +2,11 @@
 use Rattle.std.proofs.Common.{◌≡◌, ℕ, zero, suc, ◌≤◌, Bool, true, false, List, [], ◌∷◌, map, Option, Some, None, refl, sym, ap, ◌∙◌, arith}
 use Rattle.std.specs.Prelude.{is_some, slice_get}
 use Rattle.std.specs.FinMap as finite
-use Rattle.mm_types.specs.declared.numbers.Place.{Place}
-use Rattle.mm_life.specs.declared.sets.ResidentSet.{ResidentSet}
-use Rattle.mm_life.specs.Life.{set_in}
-use Rattle.mm_words.specs.Entries.{entry_or}
+use Rattle.mm_types.specs.{Place}
+use Rattle.mm_life.specs.{ResidentSet, set_in}
+use Rattle.mm_words.specs.{entry_or, is_valid_entry, Process, bound_of, at_of, age_of, resident_of, process_in, read_or, bound_in, at_in}
+use Rattle.mm_words.specs.{age_of_place, is_open_in}
 use Rattle.mm_words.specs.declared.layout.Entry.TheVariants as entry
-use Rattle.mm_words.specs.Words.{is_valid_entry}
-use Rattle.mm_words.specs.declared.processes.Process.{Process}
-use Rattle.mm_words.specs.Changes.{bound_of, at_of, age_of, resident_of}
-use Rattle.mm_words.specs.Tables.{process_in, read_or, bound_in, at_in, age_of_place, is_open_in}
 use Rattle.mm_words.proofs.ReadWords.{valid_place}
 
 aged_by : (o : Option Process) (v : ℕ) → is_some (read_or (λ p. age_of p v) None o) ≡ is_valid_entry (read_or (λ p. at_of p v) entry.Empty o)

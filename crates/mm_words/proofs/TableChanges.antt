@@ -1,31 +1,20 @@
 -- The processes after one of them changed.
 use Rattle.std.proofs.Common.{◌≡◌, ◌≢◌, ℕ, zero, suc, ◌+◌, ◌<◌, Bool, true, false, cond, List, [], ◌∷◌, length, map, Option, Some, None, refl, sym, ap, ◌∙◌, inl, inr, arith}
 use Rattle.std.specs.Prelude.{◌==◌, ◌&&◌, is_some, if◌then◌else◌, slice_get, slice_set, slice_index_or, ◌++◌, option_map, Result, Ok, Err, OnOk, OnErr}
-use Rattle.mm_types.specs.Address.{Range, holds_page}
+use Rattle.mm_types.specs.{Range, holds_page, Pid, Place}
 use Rattle.std.specs.Cmp.{unsigned_Decides}
-use Rattle.mm_types.proofs.Cells.{same_or_not, get_set_same, get_set_other, get_within}
-use Rattle.mm_types.proofs.Tables.{differ}
-use Rattle.mm_types.specs.declared.numbers.Pid.{Pid}
-use Rattle.mm_words.specs.Oldest.{ages_in}
-use Rattle.mm_types.specs.declared.numbers.Place.{Place}
-use Rattle.mm_life.specs.Life.{changed, same_place, with_resident, resident_by, set_in}
-use Rattle.mm_words.specs.declared.layout.Entry.{Entry}
+use Rattle.mm_types.proofs.{same_or_not, get_set_same, get_set_other, get_within, differ, get_last}
+use Rattle.mm_words.specs.{ages_in, Entry, entry_or, WordsOf, bare, changed_in, is_valid_entry, AreaWords, Aside, shown_words, Process, bound_of}
+use Rattle.mm_words.specs.{at_of, age_of, resident_of, resident_set, resident_by_numbers, EntryBecomes, Rebinds, ProcessBegins, KeepsPages}
+use Rattle.mm_words.specs.{process_in, read_or, bound_in, at_in, age_of_place, is_open_in, AsideBound}
+use Rattle.mm_life.specs.{changed, same_place, with_resident, resident_by, set_in}
 use Rattle.mm_words.specs.declared.layout.Entry.TheVariants as entry
 use Rattle.std.specs.Ordering.{nat_cmp}
 use Rattle.std.specs.FinMap as finite
 use Rattle.std.specs.FinMap.{FinMap}
-use Rattle.mm_wset.specs.Ages.{WorkingSetOf}
-use Rattle.mm_words.specs.Entries.{entry_or}
-use Rattle.mm_words.specs.Words.{WordsOf, bare, changed_in, is_valid_entry}
+use Rattle.mm_wset.specs.{WorkingSetOf}
 use Rattle.std.proofs.Math.Path.{fun_ext}
 use Rattle.std.proofs.lemmas.Option.{slice_get-get_or}
-use Rattle.mm_words.specs.Prototypes.{AreaWords}
-use Rattle.mm_words.specs.declared.aside.Aside.{Aside}
-use Rattle.mm_words.specs.Shown.{shown_words}
-use Rattle.mm_words.specs.declared.processes.Process.{Process}
-use Rattle.mm_words.specs.Changes.{bound_of, at_of, age_of, resident_of, resident_set, resident_by_numbers, EntryBecomes, Rebinds, ProcessBegins, KeepsPages}
-use Rattle.mm_words.specs.Tables.{process_in, read_or, bound_in, at_in, age_of_place, is_open_in, AsideBound}
-use Rattle.mm_types.proofs.Lists.{get_last}
 
 there_by : (o : Option Process) (page : ℕ) → read_or (λ p. bound_of p page) false o ≡ true → is_some o ≡ true
 there_by None page h = cc

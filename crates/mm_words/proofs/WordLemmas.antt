@@ -8,10 +8,10 @@ use Rattle.std.proofs.Math.Seq.{take-append_seam}
 use Rattle.std.specs.Prelude.{IsSome, is_some, replicate, slice_index, ◌==◌}
 use Rattle.std.specs.Int.{bit_at}
 use Rattle.std.proofs.lemmas.Nat.Bits.{bit_at_ones, bit_at-zero}
-use Rattle.mm_bits.specs.Bits.{have_bit, Becomes, SameWordsFrom}
-use Rattle.mm_bits.proofs.BitLemmas.{zero_bit}
-use Rattle.mm_words.specs.Pages.{reserved_word}
-use Rattle.mm_words.specs.LeafWords.{leaf_pages, bit_numbers, leaf_numbers, leaf_word, place_count, stored_word, shown_leaf, IsLeaf, Changed, no_word, zero_word}
+use Rattle.mm_bits.specs.{have_bit, Becomes, SameWordsFrom}
+use Rattle.mm_bits.proofs.{zero_bit}
+use Rattle.mm_words.specs.{reserved_word, leaf_pages, bit_numbers, leaf_numbers, leaf_word, place_count, stored_word, shown_leaf, IsLeaf, Changed}
+use Rattle.mm_words.specs.{no_word, zero_word}
 
 -- ---- words changed between two places
 

@@ -1,10 +1,9 @@
 -- What a process shows, and how it changes.
 use Rattle.std.specs.Prelude.{◌≡◌, ℕ, Bool, false, is_some, ◌==◌, if◌then◌else◌, Option}
 use Rattle.std.specs.FinMap as finite
-use Rattle.mm_types.specs.Address.{Range, holds_page}
-use Rattle.mm_life.specs.declared.sets.ResidentSet.{ResidentSet}
-use Rattle.mm_wset.specs.Ages.{WorkingSetOf}
-use Rattle.mm_life.specs.Life.{changed}
+use Rattle.mm_types.specs.{Range, holds_page}
+use Rattle.mm_life.specs.{ResidentSet, changed}
+use Rattle.mm_wset.specs.{WorkingSetOf}
 use Rattle.mm_words.specs.declared.layout.Entry.{Entry}
 use Rattle.mm_words.specs.Entries.{entry_or}
 use Rattle.mm_words.specs.Words.{bare}

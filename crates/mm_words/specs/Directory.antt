@@ -1,6 +1,6 @@
 -- A page table as its leaves, each with the words of `leaf_pages` pages in a row.
 use Rattle.std.specs.Prelude.{◌≡◌, ℕ, zero, suc, ◌+◌, ◌*◌, ◌/◌, ◌%◌, ◌<◌, ◌≤◌, List, [], ◌∷◌, length, Option, IsSome, slice_index_or, slice_set}
-use Rattle.mm_types.specs.Table.{table}
+use Rattle.mm_types.specs.{table}
 use Rattle.mm_words.specs.Pages.{Words}
 use Rattle.mm_words.specs.LeafWords.{leaf_pages, leaf_word, Changed}
 

@@ -1,7 +1,7 @@
 -- The words of one leaf, and what it is that words from one place up to another are changed.
 use Rattle.std.specs.Prelude.{◌≡◌, ℕ, ◌+◌, ◌/◌, ◌<◌, ◌≤◌, false, List, [], ◌∷◌, length, Option, Some, None, if◌then◌else◌, map, slice_index, slice_index_or}
 use Rattle.std.specs.List.{range_with_len}
-use Rattle.mm_bits.specs.Bits.{have_bit}
+use Rattle.mm_bits.specs.{have_bit}
 
 -- how many pages a leaf has words for
 abbrev pub leaf_pages : ℕ

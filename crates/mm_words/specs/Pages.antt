@@ -3,7 +3,7 @@ use Rattle.std.specs.Prelude.{◌≡◌, ℕ, ◌+◌, Option, Some, None, unwra
 use Rattle.std.specs.Ordering.{nat_cmp}
 use Rattle.std.specs.FinMap as finite
 use Rattle.std.specs.FinMap.{FinMap}
-use Rattle.mm_types.specs.Address.{Range, holds_page}
+use Rattle.mm_types.specs.{Range, holds_page}
 
 abbrev pub Words : Type 0
 Words = FinMap nat_cmp ℕ

@@ -3,11 +3,11 @@ use Rattle.std.specs.Prelude.{◌≡◌, ℕ, ◌<◌, ◌≤◌, Bool, true, fa
 use Rattle.std.specs.Ordering.{nat_cmp}
 use Rattle.std.specs.FinMap as finite
 use Rattle.std.specs.FinMap.{FinMap}
-use Rattle.mm_types.specs.Address.{end_of_user_pages}
+use Rattle.mm_types.specs.{end_of_user_pages}
 use Rattle.mm_words.specs.Entries.{entry_or}
 use Rattle.mm_words.specs.declared.layout.Entry.{Entry}
 use Rattle.mm_words.specs.declared.layout.Entry.TheVariants as entry
-use Rattle.mm_wset.specs.Ages.{WorkingSetOf}
+use Rattle.mm_wset.specs.{WorkingSetOf}
 
 -- the place in a working set that a valid entry names
 abbrev pub set_place : Entry → Option ℕ

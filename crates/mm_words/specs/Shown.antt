@@ -1,7 +1,7 @@
 -- What the words show.
 use Rattle.std.specs.Prelude.{ℕ, false, [], List, map, length, Option, Some, None, option_map}
 use Rattle.std.specs.FinMap as finite
-use Rattle.mm_types.specs.declared.numbers.Place.{Place}
+use Rattle.mm_types.specs.{Place}
 use Rattle.mm_words.specs.declared.layout.Entry.{Entry}
 use Rattle.mm_words.specs.declared.layout.Entry.TheVariants as entry
 use Rattle.mm_words.specs.Prototypes.{AreaWords, proto_word}

@@ -1,5 +1,5 @@
 ghost use Rattle.std.specs.Prelude.{◌≡◌, ◌+◌, ◌-◌, ◌<◌, ◌≤◌, ◌++◌, ◌↔◌, ℕ, List, [], length, IsTrue, Option, Some, None, IfOk, IsSome, replicate, slice_index, slice_set, vec_len, vec_capacity};
-ghost use Rattle.mm_bits.specs.Bits.{have_bit, Becomes, SameWordsFrom};
+ghost use Rattle.mm_bits.specs.{have_bit, Becomes, SameWordsFrom};
 ghost use Rattle.mm_words.specs.LeafWords.{leaf_pages, bit_numbers, leaf_numbers, leaf_word, Changed, no_word, zero_word};
 ghost use Rattle.mm_words.specs.Pages.{reserved_word};
 

@@ -1,7 +1,7 @@
 ghost use Rattle.std.specs.Prelude.{◌≡◌, ◌==◌, ◌+◌, ◌*◌, ◌/◌, ◌≤◌, ◌<◌, ℕ, List, [], length, Option, Some, None, IsSome, OnOk, OnErr, is_some, if◌then◌else◌, unwrap_or};
 ghost use Rattle.std.specs.Ordering.{nat_cmp};
 ghost use Rattle.std.specs.FinMap as finite;
-ghost use Rattle.mm_types.specs.Address.{first_user_page, end_of_user_pages};
+ghost use Rattle.mm_types.specs.{first_user_page, end_of_user_pages};
 ghost use Rattle.mm_words.specs.Pages.{pages, Reserves, Releases, AreReserved, reserved_word};
 ghost use Rattle.mm_words.specs.LeafWords.{no_word};
 ghost use Rattle.mm_words.specs.Directory.{word_in, IsInLeaf, HavePlaces, HaveWords, KeepsPlaces, PlacesMore, Changes, IsPart, with_leaf_word, IsDirectory, end_of_pages, most_leaves};

@@ -1,12 +1,11 @@
 ghost use Rattle.std.specs.Prelude.{◌≡◌, ◌+◌, ◌-◌, ◌^◌, ◌<◌, ◌≤◌, ◌==◌, if◌then◌else◌, OnOk, OnErr, MatchOption, is_some, option_map, true, false, Some, None, ℕ};
 ghost use Rattle.std.specs.FinMap as finite;
-ghost use Rattle.mm_life.specs.Life.{changed};
+ghost use Rattle.mm_life.specs.{changed};
 ghost use Rattle.mm_words.specs.Layout.{IsEntry};
 ghost use Rattle.mm_words.specs.declared.layout.Entry.TheVariants as entry;
-ghost use Rattle.mm_wset.specs.Ages.{older};
-ghost use Rattle.mm_wset.specs.InOrder.{IsNextFrom};
+ghost use Rattle.mm_wset.specs.{older, IsNextFrom};
 ghost use Rattle.mm_words.specs.Pages.{pages};
-ghost use Rattle.mm_types.specs.Address.{holds_page, first_user_page, end_of_user_pages};
+ghost use Rattle.mm_types.specs.{holds_page, first_user_page, end_of_user_pages};
 ghost use Rattle.mm_words.specs.Entries.{entry_or};
 ghost use Rattle.mm_words.specs.Words.{is_valid_entry};
 ghost use Rattle.std.specs.Option.{ForSome};

@@ -1,6 +1,6 @@
 ghost use Rattle.std.specs.Prelude.{◌≡◌, ◌<◌, ◌^◌, None, Some, IsSome, OnOk, OnErr, replicate, slice_set, vec_len};
 ghost use Rattle.std.specs.FinMap as finite;
-ghost use Rattle.mm_types.specs.Table.{table};
+ghost use Rattle.mm_types.specs.{table};
 ghost use Rattle.mm_words.specs.Prototypes.{proto_word, area_words, words_in};
 
 use mm_types::{Area, NoMemory};
@@ -19,7 +19,7 @@ impl Model for Protos {
     ghost use Rattle.std.specs.Ordering.{nat_cmp};
     ghost use Rattle.std.specs.FinMap as finite;
     ghost use Rattle.std.specs.Coded.{coded_ℕ, coded_list};
-    ghost use Rattle.mm_types.specs.Table.{table};
+    ghost use Rattle.mm_types.specs.{table};
     ghost use Rattle.mm_words.specs.Prototypes.{words_in};
 
     ghost Value = { finite.FinMap nat_cmp (List ℕ) };

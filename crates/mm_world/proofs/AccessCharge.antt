@@ -1,12 +1,9 @@
 -- An access leaves the charge exactly as it is.
 use Rattle.std.proofs.Common.{◌≡◌, ℕ, ◌+◌, ◌-◌, Bool, true, false, Some, refl, sym, ◌∙◌, ap, subst, cond, arith, is_some, is_none, set, ◌&&◌, slice_get, count_by}
-use Rattle.mm_types.specs.declared.views.Kind.{Kind}
+use Rattle.mm_types.specs.{Kind, View}
 use Rattle.mm_types.specs.declared.views.Kind.TheVariants as kind
-use Rattle.mm_types.specs.declared.views.View.{View}
-use Rattle.mm_world.specs.World.{WorldOf, ProcessOf, RegionOf, RowOf, AreaOf}
-use Rattle.mm_world.specs.Find.{process_of}
-use Rattle.mm_world.specs.Charge.{charge, is_charged, region_charge, area_charge}
-use Rattle.mm_world.specs.Keys.{Committed, committed_at, set_row, guard_off}
+use Rattle.mm_world.specs.{WorldOf, ProcessOf, RegionOf, RowOf, AreaOf, process_of, charge, is_charged, region_charge, area_charge, Committed}
+use Rattle.mm_world.specs.{committed_at, set_row, guard_off}
 use Rattle.mm_world.proofs.Finding.{found_stands, IsCommitted, committed_is}
 use Rattle.mm_world.proofs.Charges.{sum_by-put, charge-set_region}
 

@@ -4,35 +4,22 @@ use Rattle.std.specs.Prelude.{option_and_then, nat_le, nat_lt, ◌-◌}
 use Rattle.std.proofs.Math.Path.{fun_ext}
 use Rattle.std.proofs.lemmas.Bool.{leb-true}
 use Rattle.std.proofs.lemmas.List.{length-map}
-use Rattle.mm_types.specs.declared.numbers.Key.{Key}
+use Rattle.mm_types.specs.{Key, Kind, ViewAccess, end_of, holds_page, first_user_page, Text}
 use Rattle.mm_types.specs.declared.numbers.Key.TheVariants as key
-use Rattle.mm_types.specs.declared.views.Kind.{Kind}
 use Rattle.mm_types.specs.declared.views.Kind.TheVariants as kind
-use Rattle.mm_types.specs.declared.views.ViewAccess.{ViewAccess}
-use Rattle.mm_types.specs.Address.{end_of, holds_page, first_user_page}
-use Rattle.mm_types.specs.Spelling.{Text}
-use Rattle.mm_world.specs.Watch.{watch, reset_watch}
-use Rattle.mm_world.specs.World.{Page, WorldOf, RowOf, RegionOf, ProcessOf, AreaOf, Numbered, numbered, filled, pages_of}
-use Rattle.mm_world.specs.Find.{is_private, Found, process_of, shared_page, region_with, no_area}
-use Rattle.mm_world.specs.Keys.{content_of, own_page, private_key, shared_key}
-use Rattle.mm_world.specs.Outcome.{OutcomeOf}
-use Rattle.mm_world.specs.Rows.{is_one_of, row_at}
-use Rattle.mm_world.specs.Alloc.{alloc}
-use Rattle.mm_world.specs.Free.{free}
-use Rattle.mm_world.specs.Protect.{protect}
-use Rattle.mm_world.specs.Sections.{create, create_file, open_section, close}
-use Rattle.mm_world.specs.Query.{query}
-use Rattle.mm_world.specs.Stack.{stack}
-use Rattle.mm_world.specs.Views.{map_view, unmap, flush}
-use Rattle.mm_world.specs.Processes.{new_process, exit, take_fail, grow}
-use Rattle.mm_world.specs.Contents.{map_row, map_region, map_process, map_world, Tables, no_bytes, tables_of, tables_outcome, bytes_in, blank, row_with, rows_with, region_with_bytes, process_with, processes_with, pages_with, areas_with, world_with, AcrossBytes}
-use Rattle.mm_world.specs.WellFormed.{Each, LaidOut, RowFits, RowsFit, Spaces, held_protections}
+use Rattle.mm_world.specs.{watch, reset_watch, Page, WorldOf, RowOf, RegionOf, ProcessOf, AreaOf, Numbered, numbered, filled, pages_of, is_private}
+use Rattle.mm_world.specs.{Found, process_of, shared_page, region_with, no_area, content_of, own_page, private_key, shared_key, OutcomeOf, is_one_of}
+use Rattle.mm_world.specs.{row_at, alloc, free, protect, create, create_file, open_section, close, query, stack, map_view, unmap, flush, new_process}
+use Rattle.mm_world.specs.{exit, take_fail, grow, map_row, map_region, map_process, map_world, Tables, no_bytes, tables_of, tables_outcome, bytes_in}
+use Rattle.mm_world.specs.{blank, row_with, rows_with, region_with_bytes, process_with, processes_with, pages_with, areas_with, world_with}
+use Rattle.mm_world.specs.{AcrossBytes, Each, LaidOut, RowFits, RowsFit, Spaces, held_protections}
 use Rattle.mm_world.proofs.Tables.{Holds}
 use Rattle.mm_world.proofs.Natural as natural
 use Rattle.mm_world.proofs.NaturalSections as sections
-use Rattle.mm_world.proofs.Natural.{some-map, at_process, map-shared_page, map-row_at, map_found}
+use Rattle.mm_world.proofs.Natural.{Agrees, some-map, at_process, map-shared_page, map-row_at, map_found}
 use Rattle.mm_world.proofs.NaturalSections.{with}
-use Rattle.mm_world.proofs.KeptPages.{own_in, own_page-cons, own_of}
+use Rattle.mm_world.proofs.KeptPages.{own_in, own_of}
+use Rattle.mm_world.proofs.Regions.{has-cons}
 use Rattle.mm_world.proofs.LaidOut.{and-true}
 use Rattle.mm_world.proofs.Spaces.{spaces_kept}
 use Rattle.mm_world.proofs.Edits.{any_terms, Edited}
@@ -149,9 +136,9 @@ module _ (c : Key → Page) where
       by_test : (b : Bool) → holds_page (pages_of new) page ≡ b → (own_page (map (region_with_bytes c pid) rs) page ≡ Some x → x ≡ c (private_key pid page)) → x ≡ c (private_key pid page)
       by_test true holds later =
           in_region pid page r (row_at new page) x (leb-true _ _ (and-true (nat_le new.base page) (nat_lt page (end_of (pages_of new))) holds).0) refl
-          (sym (own_page-cons new (map (region_with_bytes c pid) rs) page ∙ ap (λ b. cond b (own_in new page) (own_page (map (region_with_bytes c pid) rs) page)) holds) ∙ e)
+          (sym (has-cons (λ r. own_in r page) new (map (region_with_bytes c pid) rs) page ∙ ap (λ b. cond b (own_in new page) (own_page (map (region_with_bytes c pid) rs) page)) holds) ∙ e)
       by_test false holds later =
-          later (sym (own_page-cons new (map (region_with_bytes c pid) rs) page ∙ ap (λ b. cond b (own_in new page) (own_page (map (region_with_bytes c pid) rs) page)) holds) ∙ e)
+          later (sym (has-cons (λ r. own_in r page) new (map (region_with_bytes c pid) rs) page ∙ ap (λ b. cond b (own_in new page) (own_page (map (region_with_bytes c pid) rs) page)) holds) ∙ e)
 
   in_processes : (n m page : ℕ) (ps : Numbered (ProcessOf (Unit {0}))) (x : Page) → own_of (numbered (processes_with c n ps) m) page ≡ Some x → x ≡ c (private_key (n + m) page)
   in_processes n m page [] x e = cc
@@ -195,10 +182,12 @@ bytes_at c k false a (Some y) new eb ea held kept = cc
 bytes_at c k b true old None eb ea held kept = cc
 bytes_at c k b false old (Some x) eb ea held kept = cc
 
-pub across_by : (t : Tables) (c : Key → Page) (q : OutcomeOf (Unit {0})) (o : OutcomeOf Page) → Spaces t → q ≡ tables_outcome o → Holds (KeepsPages (filled 0) (world_with t c)) o → Holds (Edited any_terms (world_with t c)) o → AcrossBytes t c q o
-across_by t c q o spaces natural pages edits =
+pub across_by : (t : Tables) (c : Key → Page) (call : Tables → OutcomeOf (Unit {0})) (o : OutcomeOf Page) → Spaces t → Agrees no_bytes o (call (tables_of (world_with t c))) → Holds (KeepsPages (filled 0) (world_with t c)) o → Holds (Edited any_terms (world_with t c)) o → AcrossBytes t c (call t) o
+across_by t c call o spaces agrees pages edits =
     let w = world_with t c in
     let before : Spaces w = spaces_back no_bytes w (subst (λ t. Spaces t) (sym (tables_back c t)) spaces) in
+    let q = call t in
+    let natural : q ≡ tables_outcome o = ap call (sym (tables_back c t)) ∙ agrees.same in
     let answers : q.answer ≡ o.answer = ap (λ (q : OutcomeOf (Unit {0})). q.answer) natural in
     let tables : q.world ≡ tables_of o.world = ap (λ (q : OutcomeOf (Unit {0})). q.world) natural in
     record {
@@ -219,90 +208,90 @@ across_by t c q o spaces natural pages edits =
 module _ (t : Tables) (c : Key → Page) (fits : Spaces t) where
   pub alloc_across : (pid addr size type prot : ℕ) → AcrossBytes t c (alloc blank t pid addr size type prot) (alloc filled (world_with t c) pid addr size type prot)
   alloc_across pid addr size type prot =
-      across_by t c (alloc blank t pid addr size type prot) (alloc filled (world_with t c) pid addr size type prot) fits (ap (λ t. alloc blank t pid addr size type prot) (sym (tables_back c t)) ∙ (natural.in_alloc no_bytes filled (world_with t c) pid addr size type prot).same)
+      across_by t c (λ t. alloc blank t pid addr size type prot) _ fits (natural.in_alloc no_bytes filled (world_with t c) pid addr size type prot)
       (kept.in_alloc filled (world_with t c) pid addr size type prot) (calls.in_alloc any_terms filled (world_with t c) pid addr size type prot (λ a e. cc) (λ a n m. tt))
 
   pub free_across : (pid addr size type : ℕ) → AcrossBytes t c (free t pid addr size type) (free (world_with t c) pid addr size type)
   free_across pid addr size type =
-      across_by t c (free t pid addr size type) (free (world_with t c) pid addr size type) fits (ap (λ t. free t pid addr size type) (sym (tables_back c t)) ∙ (natural.in_free no_bytes (world_with t c) pid addr size type).same)
+      across_by t c (λ t. free t pid addr size type) _ fits (natural.in_free no_bytes (world_with t c) pid addr size type)
       (kept.in_free (filled 0) (world_with t c) pid addr size type) (calls.in_free any_terms (world_with t c) pid addr size type refl (λ is x here at. refl) (λ n m h. tt))
 
   pub protect_across : (pid addr size prot : ℕ) → AcrossBytes t c (protect t pid addr size prot) (protect (world_with t c) pid addr size prot)
   protect_across pid addr size prot =
-      across_by t c (protect t pid addr size prot) (protect (world_with t c) pid addr size prot) fits (ap (λ t. protect t pid addr size prot) (sym (tables_back c t)) ∙ (natural.in_protect no_bytes (world_with t c) pid addr size prot).same)
+      across_by t c (λ t. protect t pid addr size prot) _ fits (natural.in_protect no_bytes (world_with t c) pid addr size prot)
       (kept.in_protect (filled 0) (world_with t c) pid addr size prot) (calls.in_protect any_terms (world_with t c) pid addr size prot (λ a n m. tt))
 
   pub query_across : (pid addr : ℕ) → AcrossBytes t c (query t pid addr) (query (world_with t c) pid addr)
   query_across pid addr =
-      across_by t c (query t pid addr) (query (world_with t c) pid addr) fits (ap (λ t. query t pid addr) (sym (tables_back c t)) ∙ (sections.in_query no_bytes (world_with t c) pid addr).same)
+      across_by t c (λ t. query t pid addr) _ fits (sections.in_query no_bytes (world_with t c) pid addr)
       (kept.in_query (filled 0) (world_with t c) pid addr) (calls.in_query any_terms (world_with t c) pid addr)
 
   pub watch_across : (pid : ℕ) (unwrites : Bool) (addr size count : ℕ) → AcrossBytes t c (watch t pid unwrites addr size count) (watch (world_with t c) pid unwrites addr size count)
   watch_across pid unwrites addr size count =
-      across_by t c (watch t pid unwrites addr size count) (watch (world_with t c) pid unwrites addr size count) fits (ap (λ t. watch t pid unwrites addr size count) (sym (tables_back c t)) ∙ (sections.in_watch no_bytes (world_with t c) pid unwrites addr size count).same)
+      across_by t c (λ t. watch t pid unwrites addr size count) _ fits (sections.in_watch no_bytes (world_with t c) pid unwrites addr size count)
       (kept.in_watch (filled 0) (world_with t c) pid unwrites addr size count) (calls.in_watch any_terms (world_with t c) pid unwrites addr size count (λ a. refl))
 
   pub reset_watch_across : (pid addr size : ℕ) → AcrossBytes t c (reset_watch t pid addr size) (reset_watch (world_with t c) pid addr size)
   reset_watch_across pid addr size =
-      across_by t c (reset_watch t pid addr size) (reset_watch (world_with t c) pid addr size) fits (ap (λ t. reset_watch t pid addr size) (sym (tables_back c t)) ∙ (sections.in_reset_watch no_bytes (world_with t c) pid addr size).same)
+      across_by t c (λ t. reset_watch t pid addr size) _ fits (sections.in_reset_watch no_bytes (world_with t c) pid addr size)
       (kept.in_reset_watch (filled 0) (world_with t c) pid addr size) (calls.in_reset_watch any_terms (world_with t c) pid addr size (λ a. refl))
 
   pub close_across : (pid handle : ℕ) → AcrossBytes t c (close t pid handle) (close (world_with t c) pid handle)
   close_across pid handle =
-      across_by t c (close t pid handle) (close (world_with t c) pid handle) fits (ap (λ t. close t pid handle) (sym (tables_back c t)) ∙ (sections.in_close no_bytes (world_with t c) pid handle).same)
+      across_by t c (λ t. close t pid handle) _ fits (sections.in_close no_bytes (world_with t c) pid handle)
       (kept.in_close (filled 0) (world_with t c) pid handle) (calls.in_close any_terms (world_with t c) pid handle (λ n m h. tt))
 
   pub map_across : (pid handle access offset len addr : ℕ) → AcrossBytes t c (map_view t pid handle access offset len addr) (map_view (world_with t c) pid handle access offset len addr)
   map_across pid handle access offset len addr =
-      across_by t c (map_view t pid handle access offset len addr) (map_view (world_with t c) pid handle access offset len addr) fits (ap (λ t. map_view t pid handle access offset len addr) (sym (tables_back c t)) ∙ (sections.in_map no_bytes (world_with t c) pid handle access offset len addr).same)
+      across_by t c (λ t. map_view t pid handle access offset len addr) _ fits (sections.in_map no_bytes (world_with t c) pid handle access offset len addr)
       (kept.in_map (filled 0) (world_with t c) pid handle access offset len addr) (calls.in_map any_terms (world_with t c) pid handle access offset len addr (λ a n m. tt))
 
   pub unmap_across : (pid addr : ℕ) → AcrossBytes t c (unmap t pid addr) (unmap (world_with t c) pid addr)
   unmap_across pid addr =
-      across_by t c (unmap t pid addr) (unmap (world_with t c) pid addr) fits (ap (λ t. unmap t pid addr) (sym (tables_back c t)) ∙ (sections.in_unmap no_bytes (world_with t c) pid addr).same)
+      across_by t c (λ t. unmap t pid addr) _ fits (sections.in_unmap no_bytes (world_with t c) pid addr)
       (kept.in_unmap (filled 0) (world_with t c) pid addr) (calls.in_unmap any_terms (world_with t c) pid addr (λ n m h. tt))
 
   pub flush_across : (pid addr size : ℕ) → AcrossBytes t c (flush t pid addr size) (flush (world_with t c) pid addr size)
   flush_across pid addr size =
-      across_by t c (flush t pid addr size) (flush (world_with t c) pid addr size) fits (ap (λ t. flush t pid addr size) (sym (tables_back c t)) ∙ (sections.in_flush no_bytes (world_with t c) pid addr size).same)
+      across_by t c (λ t. flush t pid addr size) _ fits (sections.in_flush no_bytes (world_with t c) pid addr size)
       (kept.in_flush (filled 0) (world_with t c) pid addr size) (calls.in_flush any_terms (world_with t c) pid addr size)
 
   pub exit_across : (pid : ℕ) → AcrossBytes t c (exit t pid) (exit (world_with t c) pid)
   exit_across pid =
-      across_by t c (exit t pid) (exit (world_with t c) pid) fits (ap (λ t. exit t pid) (sym (tables_back c t)) ∙ (sections.in_exit no_bytes (world_with t c) pid).same)
+      across_by t c (λ t. exit t pid) _ fits (sections.in_exit no_bytes (world_with t c) pid)
       (kept.in_exit (filled 0) (world_with t c) pid) (calls.in_exit any_terms (world_with t c) pid refl refl (λ x here. refl) (λ n m h. tt))
 
   pub grow_across : (n : ℕ) → AcrossBytes t c (grow t n) (grow (world_with t c) n)
   grow_across n =
-      across_by t c (grow t n) (grow (world_with t c) n) fits (ap (λ t. grow t n) (sym (tables_back c t)) ∙ (sections.in_grow no_bytes (world_with t c) n).same)
+      across_by t c (λ t. grow t n) _ fits (sections.in_grow no_bytes (world_with t c) n)
       (kept.in_grow (filled 0) (world_with t c) n) (calls.in_grow any_terms (world_with t c) n)
 
   pub create_across : (pid size flags : ℕ) (name : Option Text) → AcrossBytes t c (create blank t pid size flags name) (create filled (world_with t c) pid size flags name)
   create_across pid size flags name =
-      across_by t c (create blank t pid size flags name) (create filled (world_with t c) pid size flags name) fits (ap (λ t. create blank t pid size flags name) (sym (tables_back c t)) ∙ (sections.in_create no_bytes filled (world_with t c) pid size flags name).same)
+      across_by t c (λ t. create blank t pid size flags name) _ fits (sections.in_create no_bytes filled (world_with t c) pid size flags name)
       (kept.in_create filled (world_with t c) pid size flags name) (calls.in_create any_terms filled (world_with t c) pid size flags name (λ a n m. tt))
 
   pub create_file_across : (pid : ℕ) (file : Text) (flags : ℕ) (name : Option Text) → AcrossBytes t c (create_file t pid file flags name) (create_file (world_with t c) pid file flags name)
   create_file_across pid file flags name =
-      across_by t c (create_file t pid file flags name) (create_file (world_with t c) pid file flags name) fits (ap (λ t. create_file t pid file flags name) (sym (tables_back c t)) ∙ (sections.in_create_file no_bytes (world_with t c) pid file flags name).same)
+      across_by t c (λ t. create_file t pid file flags name) _ fits (sections.in_create_file no_bytes (world_with t c) pid file flags name)
       (kept.in_create_file (filled 0) (world_with t c) pid file flags name) (calls.in_create_file any_terms (world_with t c) pid file flags name)
 
   pub open_across : (pid : ℕ) (name : Text) → AcrossBytes t c (open_section t pid name) (open_section (world_with t c) pid name)
   open_across pid name =
-      across_by t c (open_section t pid name) (open_section (world_with t c) pid name) fits (ap (λ t. open_section t pid name) (sym (tables_back c t)) ∙ (sections.in_open no_bytes (world_with t c) pid name).same)
+      across_by t c (λ t. open_section t pid name) _ fits (sections.in_open no_bytes (world_with t c) pid name)
       (kept.in_open (filled 0) (world_with t c) pid name) (calls.in_open any_terms (world_with t c) pid name)
 
   pub new_process_across : AcrossBytes t c (new_process t) (new_process (world_with t c))
   new_process_across =
-      across_by t c (new_process t) (new_process (world_with t c)) fits (ap (λ t. new_process t) (sym (tables_back c t)) ∙ (sections.in_new_process no_bytes (world_with t c)).same)
+      across_by t c (λ t. new_process t) _ fits (sections.in_new_process no_bytes (world_with t c))
       (kept.in_new_process (filled 0) (world_with t c)) (calls.in_new_process any_terms (world_with t c))
 
   pub take_fail_across : AcrossBytes t c (take_fail t) (take_fail (world_with t c))
   take_fail_across =
-      across_by t c (take_fail t) (take_fail (world_with t c)) fits (ap (λ t. take_fail t) (sym (tables_back c t)) ∙ (sections.in_take_fail no_bytes (world_with t c)).same)
+      across_by t c (λ t. take_fail t) _ fits (sections.in_take_fail no_bytes (world_with t c))
       (kept.in_take_fail (filled 0) (world_with t c)) (calls.in_take_fail any_terms (world_with t c))
 
   pub stack_across : (tid pid reserve commit : ℕ) → AcrossBytes t c (stack blank t tid pid reserve commit) (stack filled (world_with t c) tid pid reserve commit)
   stack_across tid pid reserve commit =
-      across_by t c (stack blank t tid pid reserve commit) (stack filled (world_with t c) tid pid reserve commit) fits (ap (λ t. stack blank t tid pid reserve commit) (sym (tables_back c t)) ∙ (sections.in_stack no_bytes filled (world_with t c) tid pid reserve commit).same)
+      across_by t c (λ t. stack blank t tid pid reserve commit) _ fits (sections.in_stack no_bytes filled (world_with t c) tid pid reserve commit)
       (kept.in_stack filled (world_with t c) tid pid reserve commit) (lines.in_stack filled any_terms (λ a. refl) (λ a n m. tt) (world_with t c) tid pid reserve commit)

@@ -1,19 +1,12 @@
 -- The same of a `file` line, whose pages hold their own bytes.
 use Rattle.std.proofs.Common.{◌≡◌, ℕ, zero, suc, ◌+◌, ◌%◌, Bool, true, false, Option, Some, None, List, [], ◌∷◌, ◌++◌, refl, sym, ◌∙◌, ap, subst, cond, arith, is_some, ◌&&◌, unwrap_or}
 use Rattle.std.proofs.Math.Path.{fun_ext}
-use Rattle.mm_types.specs.declared.answers.Answer.{Answer}
+use Rattle.mm_types.specs.{Answer, Code, Key, Text}
 use Rattle.mm_types.specs.declared.answers.Answer.TheVariants as answer
-use Rattle.mm_types.specs.declared.codes.Code.{Code}
-use Rattle.mm_types.specs.declared.numbers.Key.{Key}
 use Rattle.mm_types.specs.declared.numbers.Key.TheVariants as key
-use Rattle.mm_types.specs.Spelling.{Text}
-use Rattle.mm_world.specs.World.{Page, World, AreaOf, FileOf, numbered, filled}
-use Rattle.mm_world.specs.Find.{process_of}
-use Rattle.mm_world.specs.Keys.{content_of}
-use Rattle.mm_world.specs.Outcome.{OutcomeOf, done, refused}
-use Rattle.mm_world.specs.Processes.{new_file, file_pages}
-use Rattle.mm_world.specs.Contents.{Tables, no_bytes, tables_of, tables_outcome, bytes_in, blank, world_with, file_bytes, AcrossFile}
-use Rattle.mm_world.specs.WellFormed.{Spaces}
+use Rattle.mm_world.specs.{Page, AreaOf, FileOf, numbered, filled, process_of, content_of, OutcomeOf, done, refused, new_file, file_pages, Tables}
+use Rattle.mm_world.specs.{no_bytes, tables_of, tables_outcome, bytes_in, blank, world_with, file_bytes, AcrossFile, Spaces}
+use Rattle.mm_world.specs.World.{World}
 use Rattle.mm_world.proofs.Tables.{Holds, tables}
 use Rattle.mm_world.proofs.NaturalSections as sections
 use Rattle.mm_world.proofs.Spaces.{spaces_kept}

@@ -1,25 +1,13 @@
 -- Commitment is refused exactly where the world that the call would make passes the limit.
 use Rattle.std.proofs.Common.{◌≡◌, ℕ, ◌+◌, ◌≤◌, ◌<◌, Bool, true, false, Option, Some, None, refl, sym, ◌∙◌, ap, cond, arith, [], ◌∷◌, ◌++◌, leb}
 use Rattle.std.proofs.lemmas.Bool.{leb-true, leb-false}
-use Rattle.mm_types.specs.declared.answers.Answer.{Answer}
+use Rattle.mm_types.specs.{Answer, Code, Kind, Range, reserve_of, limit_of, Text}
 use Rattle.mm_types.specs.declared.answers.Answer.TheVariants as answer
-use Rattle.mm_types.specs.declared.codes.Code.{Code}
 use Rattle.mm_types.specs.declared.codes.Code.TheVariants as code
-use Rattle.mm_types.specs.declared.views.Kind.{Kind}
 use Rattle.mm_types.specs.declared.views.Kind.TheVariants as kind
-use Rattle.mm_types.specs.Address.{Range}
-use Rattle.mm_types.specs.Machine.{reserve_of, limit_of}
-use Rattle.mm_types.specs.Spelling.{Text}
-use Rattle.mm_world.specs.World.{WorldOf, ProcessOf, RegionOf}
-use Rattle.mm_world.specs.Find.{Found, process_of}
-use Rattle.mm_world.specs.Charge.{charge, limit}
-use Rattle.mm_world.specs.Outcome.{OutcomeOf, done, refused, need, find_or, within_limit}
-use Rattle.mm_world.specs.Alloc.{alloc, commit_in}
-use Rattle.mm_world.specs.Protect.{protect}
-use Rattle.mm_world.specs.Sections.{create, handle_or, with_handle}
-use Rattle.mm_world.specs.Views.{map_view}
-use Rattle.mm_world.specs.Stack.{stack, made}
-use Rattle.mm_world.specs.Laws.{LimitDecides, is_success, is_limit_code, is_limit_refusal, more_slots}
+use Rattle.mm_world.specs.{WorldOf, ProcessOf, RegionOf, Found, process_of, charge, limit, OutcomeOf, done, refused, need, find_or, within_limit}
+use Rattle.mm_world.specs.{alloc, commit_in, protect, create, handle_or, with_handle, map_view, stack, made, LimitDecides, is_success, is_limit_code}
+use Rattle.mm_world.specs.{is_limit_refusal, more_slots}
 use Rattle.mm_world.proofs.Charges.{charge-same_regions}
 
 not_both : (a : Answer) → is_success a ≡ true → is_limit_refusal a ≡ true → ⊥

@@ -4,35 +4,23 @@ use Rattle.std.specs.Prelude.{remove, find, ◌==◌, option_and_then}
 use Rattle.std.proofs.lemmas.Bool.{leb-true}
 use Rattle.std.proofs.lemmas.List.{length-replicate, length-append, length-map}
 use Rattle.std.proofs.lemmas.List.Quantifiers.{position-Some}
-use Rattle.mm_types.specs.declared.answers.Answer.{Answer}
+use Rattle.mm_types.specs.{Answer, Code, Kind, View, ViewAccess, Range, page_of, address_of, pages_for, granule_range_of, lies_within}
+use Rattle.mm_types.specs.{is_granule_address, release_type, base_of, Text}
 use Rattle.mm_types.specs.declared.answers.Answer.TheVariants as answer
-use Rattle.mm_types.specs.declared.codes.Code.{Code}
 use Rattle.mm_types.specs.declared.codes.Code.TheVariants as code
-use Rattle.mm_types.specs.declared.views.Kind.{Kind}
 use Rattle.mm_types.specs.declared.views.Kind.TheVariants as kind
-use Rattle.mm_types.specs.declared.views.View.{View}
-use Rattle.mm_types.specs.declared.views.ViewAccess.{ViewAccess}
-use Rattle.mm_types.specs.Address.{Range, page_of, address_of, pages_for, granule_range_of, lies_within, is_granule_address}
-use Rattle.mm_types.specs.Allocation.{release_type}
-use Rattle.mm_types.specs.Protection.{base_of}
-use Rattle.mm_types.specs.Spelling.{Text}
-use Rattle.mm_types.proofs.Booleans.{parts}
-use Rattle.mm_world.specs.World.{StackOf, WorldOf, ProcessOf, RegionOf, RowOf, AreaOf, SectionOf, FileOf, Numbered, numbered, pages_of}
-use Rattle.mm_world.specs.Find.{change_range, end_stacks, Found, first_where, process_of, set_process, set_regions, set_region, set_area, area_at, section_of, section_named, is_named, add_region, ranges_of, placed, region_around, is_private}
-use Rattle.mm_world.specs.Outcome.{OutcomeOf, done, refused}
-use Rattle.mm_world.specs.Rows.{mark_written, change_flags, is_one_of, private_protections, reserved_row, commit, protected, change_rows, every_page, accepts, is_committed_at}
-use Rattle.mm_world.specs.Charge.{region_charge, process_charge, area_charge}
-use Rattle.mm_world.specs.Alloc.{alloc, is_watched_type, reserve, commit_in, commit_pages, commit_shared, private_region, are_alloc_parameters}
-use Rattle.mm_world.specs.Free.{free, decommit, private_at, private_around, is_stack_at}
-use Rattle.mm_world.specs.Protect.{protect}
-use Rattle.mm_world.specs.Query.{query}
-use Rattle.mm_world.specs.Sections.{create, create_file, open_section, close, handle_or, named_or, handle_section, with_handle, new_section, settle, file_named}
-use Rattle.mm_world.specs.Views.{map_view, unmap, flush, view_region, view_at}
-use Rattle.mm_world.specs.Processes.{new_process, exit, new_file, take_fail, grow, no_regions, most_processes, most_fails, most_slots, kept_of_others, with_slots}
-use Rattle.mm_world.specs.Watch.{unwritten, watch, reset_watch}
-use Rattle.mm_world.specs.PrivateRegions.{PagesOf}
-use Rattle.mm_world.specs.Laws.{is_success, is_alarm, is_limit_code, is_limit_refusal}
-use Rattle.mm_world.specs.WellFormed.{Each, RowFits, RowsFit, ViewFits, References}
+use Rattle.mm_types.proofs.{parts}
+use Rattle.mm_world.specs.{StackOf, WorldOf, ProcessOf, RegionOf, RowOf, AreaOf, SectionOf, FileOf, Numbered, numbered, pages_of, change_range}
+use Rattle.mm_world.specs.{end_stacks, Found, first_where, process_of, set_process, set_regions, set_region, set_area, area_at, section_of}
+use Rattle.mm_world.specs.{section_named, is_named, add_region, ranges_of, placed, region_around, is_private, OutcomeOf, done, refused, mark_written}
+use Rattle.mm_world.specs.{change_flags, is_one_of, private_protections, reserved_row, commit, protected, change_rows, every_page, accepts}
+use Rattle.mm_world.specs.{is_committed_at, region_charge, process_charge, area_charge, alloc, is_watched_type, reserve, commit_in, commit_shared}
+use Rattle.mm_world.specs.{private_region, are_alloc_parameters, free, decommit, private_at, private_around, is_stack_at, protect, query, create}
+use Rattle.mm_world.specs.{create_file, open_section, close, handle_or, named_or, handle_section, with_handle, new_section, settle, file_named}
+use Rattle.mm_world.specs.{map_view, unmap, flush, view_region, view_at, new_process, exit, new_file, take_fail, grow, no_regions, most_processes}
+use Rattle.mm_world.specs.{most_fails, most_slots, kept_of_others, with_slots, unwritten, watch, reset_watch, PagesOf, Leaves, is_success, is_alarm}
+use Rattle.mm_world.specs.{is_limit_code, is_limit_refusal, is_told, Each, RowFits, RowsFit, ViewFits, References}
+use Rattle.mm_world.specs.Alloc.{commit_pages}
 use Rattle.mm_world.proofs.Tables.{Holds, tables}
 use Rattle.mm_world.proofs.Finding.{found_stands}
 use Rattle.mm_world.proofs.Each.{each-replicate}
@@ -41,7 +29,7 @@ use Rattle.mm_world.proofs.RowsFit.{new_view_fits, rows_protected, view_rows_pro
 use Rattle.mm_world.proofs.FlagRanges.{same_page as equals}
 use Rattle.mm_world.proofs.Charges.{stays_charged, decommit_less, not_charged}
 use Rattle.mm_world.proofs.Spaces.{base_allowed, some_bytes, some_pages, private_is, begins_before, private_flags, new_row_fits, length-unwritten, wanted_granule, count_some}
-use Rattle.mm_world.proofs.Edits.{Terms, Moves, Rises, Falls, Stays, Charged, Edits, RegionEdit, RegionComes, RegionGoes, RegionChanges, Edit, Rest, Regions, HandleComes, HandleGoes, SectionComes, AreaComes, AreaChanges, FileComes, Settles, ProcessComes, ProcessGoes, Nothing, Then, Edited}
+use Rattle.mm_world.proofs.Edits.{Terms, Moves, Rises, Falls, Stays, Charged, Edits, RegionEdit, RegionComes, RegionGoes, RegionChanges, Edit, Rest, Regions, HandleComes, HandleGoes, SectionComes, AreaComes, AreaChanges, FileComes, Settles, ProcessComes, ProcessGoes, Nothing, Then, Edited, is_call_success}
 
 -- flags that change are flags still
 pub still_watched : (change : List Bool → List Bool) (o : Option (List Bool)) → is_some (option_map change o) ≡ is_some o
@@ -91,13 +79,20 @@ module _ {B : Type 0} where
       by_number None e = cc
       by_number (Some n) e = by_section n (section_of w n) refl e
 
-calm : (a : Answer) → is_success a ≡ true → is_alarm a ≡ false
+calm : (a : Answer) → is_call_success a ≡ true → is_alarm a ≡ false
 calm (answer.Raised status) e = cc
 calm _ e = refl
 
-succeeds : (a : Answer) → is_success a ≡ true → is_limit_refusal a ≡ false
+succeeds : (a : Answer) → is_call_success a ≡ true → is_limit_refusal a ≡ false
 succeeds (answer.Error why) e = cc
 succeeds _ e = refl
+
+not-true : (b : Bool) → not b ≡ true → b ≡ false
+not-true true e = cc
+not-true false e = refl
+
+pub leaves_same : {B : Type 0} (w : WorldOf B) (a : Answer) → is_alarm a ≡ false → Leaves w (done a w)
+leaves_same w a quiet = record { alarm = λ e. (let bad : true ≡ false = sym e ∙ quiet in cc); same = λ e f. refl }
 
 -- a charge that may rise does not just fall
 rising : (c : Moves) → Charged c 0 1 → c ≡ Falls → ⊥
@@ -106,55 +101,56 @@ rising Falls h e = omega (arith, h)
 rising Stays h e = cc
 
 module _ {B : Type 0} (t : Answer → Terms) where
-  pub by_same : (w : WorldOf B) (a : Answer) → is_alarm a ≡ false → is_limit_refusal a ≡ false → Holds (Edited t w) (done a w)
-  by_same w a quiet granted = record { it = record { edits = Nothing; leaves = record { alarm = λ e. (let bad : true ≡ false = sym e ∙ quiet in cc); same = λ e f. refl }; granted = λ e. granted } }
+  pub by_same : (w : WorldOf B) (a : Answer) → is_alarm a ≡ false → is_limit_refusal a ≡ false → is_told a ≡ false → Holds (Edited t w) (done a w)
+  by_same w a quiet granted untold = record { it = record { edits = Nothing; leaves = leaves_same w a quiet; granted = λ e. granted; untold = untold } }
 
   pub by_refusal : (w : WorldOf B) (why : Code) → is_limit_code why ≡ false → Holds (Edited t w) (refused w why)
-  by_refusal w why other = by_same w (answer.Error why) refl other
+  by_refusal w why other = by_same w (answer.Error why) refl other refl
 
   -- only a line that may add to the charge is refused for the limit
   pub by_limit : (w : WorldOf B) → ((a : Answer) (old new : ℕ) → Charged (t a).charge old new) → Holds (Edited t w) (refused w code.CommitmentLimit)
   by_limit w rises =
       let a = answer.Error code.CommitmentLimit in
-      record { it = record { edits = Nothing; leaves = record { alarm = λ e. cc; same = λ e f. refl }; granted = λ e. absurd (rising (t a).charge (rises a 0 1) e) } }
+      record { it = record { edits = Nothing; leaves = leaves_same w a refl; granted = λ e. absurd (rising (t a).charge (rises a 0 1) e); untold = refl } }
 
-  pub success : (w v : WorldOf B) (a : Answer) → is_success a ≡ true → Edits (t a) w v → Holds (Edited t w) (done a v)
+  pub success : (w v : WorldOf B) (a : Answer) → is_call_success a ≡ true → Edits (t a) w v → Holds (Edited t w) (done a v)
   success w v a ok es =
       record {
         it = record {
           edits = es;
-          leaves = record { alarm = λ e. (let bad : true ≡ false = sym e ∙ calm a ok in cc); same = λ e f. (let bad : true ≡ false = sym ok ∙ e in cc) };
+          leaves = record { alarm = λ e. (let bad : true ≡ false = sym e ∙ calm a ok in cc); same = λ e f. (let bad : true ≡ false = sym (parts (is_success a) (not (is_told a)) ok).0 ∙ e in cc) };
           granted = λ e. succeeds a ok;
+          untold = not-true (is_told a) (parts (is_success a) (not (is_told a)) ok).1;
         };
       }
 
-  then_edit : (w v u : WorldOf B) (a : Answer) → is_success a ≡ true → Edit (t a) v u → Holds (Edited t w) (done a v) → Holds (Edited t w) (done a u)
+  then_edit : (w v u : WorldOf B) (a : Answer) → is_call_success a ≡ true → Edit (t a) v u → Holds (Edited t w) (done a v) → Holds (Edited t w) (done a u)
   then_edit w v u a ok e h = success w u a ok (Then v u h.it.edits e)
 
-  one_edit : (w v : WorldOf B) (a : Answer) → is_success a ≡ true → Edit (t a) w v → Holds (Edited t w) (done a v)
+  one_edit : (w v : WorldOf B) (a : Answer) → is_call_success a ≡ true → Edit (t a) w v → Holds (Edited t w) (done a v)
   one_edit w v a ok e = success w v a ok (Then w v Nothing e)
 
-  pub by_region : (w : WorldOf B) (pid : ℕ) (p : ProcessOf B) (rs : List (RegionOf B)) (a : Answer) → is_success a ≡ true → process_of w pid ≡ Some p → RegionEdit (t a) w pid p.regions rs → Holds (Edited t w) (done a (set_regions w pid p rs))
+  pub by_region : (w : WorldOf B) (pid : ℕ) (p : ProcessOf B) (rs : List (RegionOf B)) (a : Answer) → is_call_success a ≡ true → process_of w pid ≡ Some p → RegionEdit (t a) w pid p.regions rs → Holds (Edited t w) (done a (set_regions w pid p rs))
   by_region w pid p rs a ok lives e = one_edit w _ a ok (Regions pid p rs lives e)
 
-  then_settled : (w v : WorldOf B) (a : Answer) → is_success a ≡ true → ((old new : ℕ) → new ≤ old → Charged (t a).charge old new) → Holds (Edited t w) (done a v) → Holds (Edited t w) (done a (settle v))
+  then_settled : (w v : WorldOf B) (a : Answer) → is_call_success a ≡ true → ((old new : ℕ) → new ≤ old → Charged (t a).charge old new) → Holds (Edited t w) (done a v) → Holds (Edited t w) (done a (settle v))
   then_settled w v a ok falls h = then_edit w v (settle v) a ok (Settles falls) h
 
-  pub then_stacks : (w v : WorldOf B) (stacks : Numbered StackOf) (a : Answer) → is_success a ≡ true → ((t a).stacks ≡ true → stacks ≡ v.stacks) → Holds (Edited t w) (done a v) → Holds (Edited t w) (done a (record v { stacks = stacks }))
+  pub then_stacks : (w v : WorldOf B) (stacks : Numbered StackOf) (a : Answer) → is_call_success a ≡ true → ((t a).stacks ≡ true → stacks ≡ v.stacks) → Holds (Edited t w) (done a v) → Holds (Edited t w) (done a (record v { stacks = stacks }))
   then_stacks w v stacks a ok same h =
       then_edit w v (record v { stacks = stacks }) a ok
       (Rest (record v { stacks = stacks }) (record { processes = refl; sections = refl; areas = refl; files = refl; threads = refl; fails = λ n. n; blocks = λ n. n; slots = λ n. n; kept = λ k. refl; stacks = same; limit = omega arith })) h
 
   -- ---- rows
 
-  pub by_change : (w : WorldOf B) (pid : ℕ) (p : ProcessOf B) (r : Found (RegionOf B)) (test : RegionOf B → Bool) (change : RowOf B → RowOf B) (range : Range) (a : Answer) → is_success a ≡ true → process_of w pid ≡ Some p → first_where test p.regions ≡ Some r → (RowsFit r.thing → RowsFit (change_rows change range r.thing)) → Charged (t a).charge (region_charge r.thing) (region_charge (change_rows change range r.thing)) → Holds (Edited t w) (done a (set_region w pid p r.place (change_rows change range r.thing)))
+  pub by_change : (w : WorldOf B) (pid : ℕ) (p : ProcessOf B) (r : Found (RegionOf B)) (test : RegionOf B → Bool) (change : RowOf B → RowOf B) (range : Range) (a : Answer) → is_call_success a ≡ true → process_of w pid ≡ Some p → first_where test p.regions ≡ Some r → (RowsFit r.thing → RowsFit (change_rows change range r.thing)) → Charged (t a).charge (region_charge r.thing) (region_charge (change_rows change range r.thing)) → Holds (Edited t w) (done a (set_region w pid p r.place (change_rows change range r.thing)))
   by_change w pid p r test change range a ok lives found fit charged =
       let new = change_rows change range r.thing in
       let count = length-change_range change (range.first - r.thing.base) range.count r.thing.rows in
       by_region w pid p (set p.regions r.place new) a ok lives (RegionChanges r.place r.thing new (found_stands test p.regions r found).there
       (record { base = refl; kind = refl; count = count; rows = fit; flags = flags_stay r.thing new refl count refl; watched = refl; plain = λ e. refl; charged = charged }))
 
-  pub by_flags : (w : WorldOf B) (pid : ℕ) (p : ProcessOf B) (r : Found (RegionOf B)) (flags : List Bool → List Bool) (a : Answer) (test : RegionOf B → Bool) → is_success a ≡ true → (t a).plain ≡ false → process_of w pid ≡ Some p → first_where test p.regions ≡ Some r → ((ws : List Bool) → length (flags ws) ≡ length ws) → Holds (Edited t w) (done a (set_region w pid p r.place (change_flags flags r.thing)))
+  pub by_flags : (w : WorldOf B) (pid : ℕ) (p : ProcessOf B) (r : Found (RegionOf B)) (flags : List Bool → List Bool) (a : Answer) (test : RegionOf B → Bool) → is_call_success a ≡ true → (t a).plain ≡ false → process_of w pid ≡ Some p → first_where test p.regions ≡ Some r → ((ws : List Bool) → length (flags ws) ≡ length ws) → Holds (Edited t w) (done a (set_region w pid p r.place (change_flags flags r.thing)))
   by_flags w pid p r flags a test ok loose lives found long =
       let new = change_flags flags r.thing in
       by_region w pid p (set p.regions r.place new) a ok lives (RegionChanges r.place r.thing new (found_stands test p.regions r found).there
@@ -162,7 +158,7 @@ module _ {B : Type 0} (t : Answer → Terms) where
 
   -- ---- alloc
 
-  by_reserve : (fill : ℕ → B) (w : WorldOf B) (pid : ℕ) (p : ProcessOf B) (addr size : ℕ) (watched : Bool) (type prot : ℕ) (range : Range) (a : Answer) → is_success a ≡ true → ((t a).plain ≡ true → watched ≡ false) → ((a : Answer) (old new : ℕ) → Charged (t a).charge old new) → process_of w pid ≡ Some p → are_alloc_parameters size type prot ≡ true → placed (ranges_of p.regions) addr (granule_range_of addr size) (pages_for size) ≡ Some range → Holds (Edited t w) (done a (set_regions w pid p (add_region (private_region fill watched type prot range) p.regions)))
+  by_reserve : (fill : ℕ → B) (w : WorldOf B) (pid : ℕ) (p : ProcessOf B) (addr size : ℕ) (watched : Bool) (type prot : ℕ) (range : Range) (a : Answer) → is_call_success a ≡ true → ((t a).plain ≡ true → watched ≡ false) → ((a : Answer) (old new : ℕ) → Charged (t a).charge old new) → process_of w pid ≡ Some p → are_alloc_parameters size type prot ≡ true → placed (ranges_of p.regions) addr (granule_range_of addr size) (pages_for size) ≡ Some range → Holds (Edited t w) (done a (set_regions w pid p (add_region (private_region fill watched type prot range) p.regions)))
   by_reserve fill w pid p addr size watched type prot range a ok plain rises lives params found =
       let at = placed_is (ranges_of p.regions) addr (granule_range_of addr size) (pages_for size) range (omega arith) found in
       let new = private_region fill watched type prot range in
@@ -185,11 +181,11 @@ module _ {B : Type 0} (t : Answer → Terms) where
   in_commit : (fill : ℕ → B) (w : WorldOf B) (pid : ℕ) (p : ProcessOf B) (r : Found (RegionOf B)) (k : Kind) (range : Range) (prot : ℕ) → ((a : Answer) (old new : ℕ) → Charged (t a).charge old new) → process_of w pid ≡ Some p → is_one_of private_protections (base_of prot) ≡ true → region_around p.regions range ≡ Some r → r.thing.kind ≡ k → Holds (Edited t w) (commit_in fill w pid p r k range prot)
   in_commit fill w pid p r kind.Private range prot rises lives allowed found is = search (tables, by_refusal, by_limit, rows) depth 12
     where
-      rows : (a : Answer) → is_success a ≡ true → Holds (Edited t w) (done a (set_region w pid p r.place (change_rows (commit (fill 0) prot) range r.thing)))
+      rows : (a : Answer) → is_call_success a ≡ true → Holds (Edited t w) (done a (set_region w pid p r.place (change_rows (commit (fill 0) prot) range r.thing)))
       rows a ok = by_change w pid p r _ (commit (fill 0) prot) range a ok lives found (λ h. rows_committed (fill 0) r.thing prot range is h (begins_before range r.thing (found_stands _ p.regions r found).passes) allowed) (rises a _ _)
   in_commit fill w pid p r (kind.View v) range prot rises lives allowed found is = search (tables, by_refusal, by_limit, by_view) depth 12
     where
-      by_view : (a : Answer) (at first count : ℕ) → is_success a ≡ true → every_page (accepts r.thing prot) range ≡ true → Holds (Edited t w) (done a (set_area (set_region w pid p r.place (change_rows (protected r.thing.kind prot) range r.thing)) at (commit_shared fill first count (area_at w at))))
+      by_view : (a : Answer) (at first count : ℕ) → is_call_success a ≡ true → every_page (accepts r.thing prot) range ≡ true → Holds (Edited t w) (done a (set_area (set_region w pid p r.place (change_rows (protected r.thing.kind prot) range r.thing)) at (commit_shared fill first count (area_at w at))))
       by_view a at first count ok takes =
           then_edit w _ _ a ok (AreaChanges at (commit_shared fill first count (area_at w at)) (length-change_range (λ (page : Option B). Some (unwrap_or page (fill 0))) first count (area_at w at).pages) (rises a _ _))
           (by_change w pid p r _ (protected r.thing.kind prot) range a ok lives found (λ h. view_rows_protected r.thing v prot range is h (begins_before range r.thing (found_stands _ p.regions r found).passes) takes) (rises a _ _))
@@ -233,19 +229,19 @@ module _ {B : Type 0} (t : Answer → Terms) where
   pub in_watch : (w : WorldOf B) (pid : ℕ) (unwrites : Bool) (addr size count : ℕ) → ((a : Answer) → (t a).plain ≡ false) → Holds (Edited t w) (watch w pid unwrites addr size count)
   in_watch w pid unwrites addr size count loose = search (tables, by_refusal, by_same, by_unwritten) depth 12
     where
-      by_unwritten : (p : ProcessOf B) (r : Found (RegionOf B)) (base : ℕ) (pages : List ℕ) (a : Answer) (test : RegionOf B → Bool) → is_success a ≡ true → process_of w pid ≡ Some p → first_where test p.regions ≡ Some r → Holds (Edited t w) (done a (set_region w pid p r.place (change_flags (unwritten base pages) r.thing)))
+      by_unwritten : (p : ProcessOf B) (r : Found (RegionOf B)) (base : ℕ) (pages : List ℕ) (a : Answer) (test : RegionOf B → Bool) → is_call_success a ≡ true → process_of w pid ≡ Some p → first_where test p.regions ≡ Some r → Holds (Edited t w) (done a (set_region w pid p r.place (change_flags (unwritten base pages) r.thing)))
       by_unwritten p r base pages a test ok lives found = by_flags w pid p r (unwritten base pages) a test ok (loose a) lives found (length-unwritten base pages)
 
   pub in_reset_watch : (w : WorldOf B) (pid addr size : ℕ) → ((a : Answer) → (t a).plain ≡ false) → Holds (Edited t w) (reset_watch w pid addr size)
   in_reset_watch w pid addr size loose = search (tables, by_refusal, by_reset) depth 12
     where
-      by_reset : (p : ProcessOf B) (r : Found (RegionOf B)) (b : Bool) (range : Range) (a : Answer) (test : RegionOf B → Bool) → is_success a ≡ true → process_of w pid ≡ Some p → first_where test p.regions ≡ Some r → Holds (Edited t w) (done a (set_region w pid p r.place (mark_written b range r.thing)))
+      by_reset : (p : ProcessOf B) (r : Found (RegionOf B)) (b : Bool) (range : Range) (a : Answer) (test : RegionOf B → Bool) → is_call_success a ≡ true → process_of w pid ≡ Some p → first_where test p.regions ≡ Some r → Holds (Edited t w) (done a (set_region w pid p r.place (mark_written b range r.thing)))
       by_reset p r b range a test ok lives found =
           by_flags w pid p r (change_range (λ was. b) (range.first - r.thing.base) range.count) a test ok (loose a) lives found (length-change_range (λ was. b) (range.first - r.thing.base) range.count)
 
   -- ---- protect, query and flush
 
-  by_protect : (w : WorldOf B) (pid : ℕ) (p : ProcessOf B) (r : Found (RegionOf B)) (range : Range) (prot : ℕ) (a : Answer) → is_success a ≡ true → ((a : Answer) (old new : ℕ) → Charged (t a).charge old new) → process_of w pid ≡ Some p → region_around p.regions range ≡ Some r → every_page (is_committed_at w r.thing) range ≡ true → every_page (accepts r.thing prot) range ≡ true → Holds (Edited t w) (done a (set_region w pid p r.place (change_rows (protected r.thing.kind prot) range r.thing)))
+  by_protect : (w : WorldOf B) (pid : ℕ) (p : ProcessOf B) (r : Found (RegionOf B)) (range : Range) (prot : ℕ) (a : Answer) → is_call_success a ≡ true → ((a : Answer) (old new : ℕ) → Charged (t a).charge old new) → process_of w pid ≡ Some p → region_around p.regions range ≡ Some r → every_page (is_committed_at w r.thing) range ≡ true → every_page (accepts r.thing prot) range ≡ true → Holds (Edited t w) (done a (set_region w pid p r.place (change_rows (protected r.thing.kind prot) range r.thing)))
   by_protect w pid p r range prot a ok rises lives found there takes =
       by_change w pid p r _ (protected r.thing.kind prot) range a ok lives found (λ h. rows_protected w r.thing prot range h (begins_before range r.thing (found_stands _ p.regions r found).passes) there takes) (rises a _ _)
 
@@ -260,7 +256,7 @@ module _ {B : Type 0} (t : Answer → Terms) where
 
   -- ---- sections and views
 
-  by_handle : (w : WorldOf B) (pid : ℕ) (p : ProcessOf B) (number : ℕ) (a : Answer) → is_success a ≡ true → process_of w pid ≡ Some p → is_some (section_of w number) ≡ true → Holds (Edited t w) (done a (with_handle w pid p number))
+  by_handle : (w : WorldOf B) (pid : ℕ) (p : ProcessOf B) (number : ℕ) (a : Answer) → is_call_success a ≡ true → process_of w pid ≡ Some p → is_some (section_of w number) ≡ true → Holds (Edited t w) (done a (with_handle w pid p number))
   by_handle w pid p number a ok lives there = one_edit w _ a ok (HandleComes pid p number lives there)
 
   in_named_or : (w : WorldOf B) (pid : ℕ) (p : ProcessOf B) (name : Option Text) (made : OutcomeOf B) → process_of w pid ≡ Some p → Holds (Edited t w) made → Holds (Edited t w) (named_or w pid p name made)
@@ -271,7 +267,7 @@ module _ {B : Type 0} (t : Answer → Terms) where
       by_found (Some n) e = by_handle w pid p n _ refl lives (maybe_named_lives w name n e)
 
   -- a section more in a world that edits made, and a handle to it
-  then_section : (w v : WorldOf B) (pid : ℕ) (p : ProcessOf B) (s : SectionOf) (a : Answer) → is_success a ≡ true → process_of v pid ≡ Some p → (References v → s.area < length v.areas) → Holds (Edited t w) (done a v) → Holds (Edited t w) (done a (new_section v pid p s).world)
+  then_section : (w v : WorldOf B) (pid : ℕ) (p : ProcessOf B) (s : SectionOf) (a : Answer) → is_call_success a ≡ true → process_of v pid ≡ Some p → (References v → s.area < length v.areas) → Holds (Edited t w) (done a v) → Holds (Edited t w) (done a (new_section v pid p s).world)
   then_section w v pid p s a ok lives inside h =
       let u : WorldOf B = record v { sections = v.sections ++ Some s ∷ [] } in
       then_edit w u (new_section v pid p s).world a ok (HandleComes pid p (length v.sections) lives (ap is_some (pushed_last v.sections s))) (then_edit w v u a ok (SectionComes s inside) h)
@@ -289,7 +285,7 @@ module _ {B : Type 0} (t : Answer → Terms) where
     where
       by_section : (p : ProcessOf B) (f : FileOf) (prot : ℕ) (name : Option Text) → process_of w pid ≡ Some p → file_named w file ≡ Some f → Holds (Edited t w) (new_section w pid p (record { prot = prot; name = name; area = f.area }))
       by_section p f prot name lives found =
-          then_section w w pid p (record { prot = prot; name = name; area = f.area }) _ refl lives (λ h. find-each (λ (f : FileOf). f.area < length w.areas) _ w.files f h.files found) (by_same w _ refl refl)
+          then_section w w pid p (record { prot = prot; name = name; area = f.area }) _ refl lives (λ h. find-each (λ (f : FileOf). f.area < length w.areas) _ w.files f h.files found) (by_same w _ refl refl refl)
 
   pub in_open : (w : WorldOf B) (pid : ℕ) (name : Text) → Holds (Edited t w) (open_section w pid name)
   in_open w pid name = search (tables, by_refusal, by_handle, named_lives) depth 12
@@ -297,10 +293,10 @@ module _ {B : Type 0} (t : Answer → Terms) where
   pub in_close : (w : WorldOf B) (pid handle : ℕ) → ((old new : ℕ) → new ≤ old → Charged (t answer.Ok).charge old new) → Holds (Edited t w) (close w pid handle)
   in_close w pid handle falls = search (tables, by_refusal, then_settled, by_closed) depth 12
     where
-      by_closed : (p : ProcessOf B) (place : ℕ) (a : Answer) → is_success a ≡ true → process_of w pid ≡ Some p → Holds (Edited t w) (done a (set_process w pid (Some (record p { handles = set p.handles place None }))))
+      by_closed : (p : ProcessOf B) (place : ℕ) (a : Answer) → is_call_success a ≡ true → process_of w pid ≡ Some p → Holds (Edited t w) (done a (set_process w pid (Some (record p { handles = set p.handles place None }))))
       by_closed p place a ok lives = one_edit w _ a ok (HandleGoes pid p place lives)
 
-  by_view : (w : WorldOf B) (pid : ℕ) (p : ProcessOf B) (handle : ℕ) (s : Found SectionOf) (access : ViewAccess) (first addr count : ℕ) (range : Range) (a : Answer) → is_success a ≡ true → ((a : Answer) (old new : ℕ) → Charged (t a).charge old new) → process_of w pid ≡ Some p → handle_section w p handle ≡ Some s → is_granule_address addr ≡ true → 1 ≤ count → nat_le (first + count) (length (area_at w s.thing.area).pages) ≡ true → placed (ranges_of p.regions) addr (record { first = page_of addr; count = count }) count ≡ Some range → Holds (Edited t w) (done a (set_regions w pid p (add_region (view_region s access first range) p.regions)))
+  by_view : (w : WorldOf B) (pid : ℕ) (p : ProcessOf B) (handle : ℕ) (s : Found SectionOf) (access : ViewAccess) (first addr count : ℕ) (range : Range) (a : Answer) → is_call_success a ≡ true → ((a : Answer) (old new : ℕ) → Charged (t a).charge old new) → process_of w pid ≡ Some p → handle_section w p handle ≡ Some s → is_granule_address addr ≡ true → 1 ≤ count → nat_le (first + count) (length (area_at w s.thing.area).pages) ≡ true → placed (ranges_of p.regions) addr (record { first = page_of addr; count = count }) count ≡ Some range → Holds (Edited t w) (done a (set_regions w pid p (add_region (view_region s access first range) p.regions)))
   by_view w pid p handle s access first addr count range a ok rises lives found granule some within at =
       let wanted : Range = record { first = page_of addr; count = count } in
       let placed_at = placed_is (ranges_of p.regions) addr wanted count range (wanted_granule addr granule) at in
@@ -354,13 +350,13 @@ module _ {B : Type 0} (t : Answer → Terms) where
   pub in_new_process : (w : WorldOf B) → Holds (Edited t w) (new_process w)
   in_new_process w = search (tables, by_same, by_new) depth 12
     where
-      by_new : (a : Answer) → is_success a ≡ true → nat_le (length w.processes) most_processes ≡ true → Holds (Edited t w) (done a (record w { processes = w.processes ++ Some no_regions ∷ [] }))
+      by_new : (a : Answer) → is_call_success a ≡ true → nat_le (length w.processes) most_processes ≡ true → Holds (Edited t w) (done a (record w { processes = w.processes ++ Some no_regions ∷ [] }))
       by_new a ok room = one_edit w _ a ok (ProcessComes room)
 
   pub in_new_file : (fill : ℕ → B) (w : WorldOf B) (name : Text) (pages byte : ℕ) → Holds (Edited t w) (new_file fill w name pages byte)
   in_new_file fill w name pages byte = search (tables, by_refusal, by_same, by_file) depth 12
     where
-      by_file : (a : Answer) (pages : List (Option B)) (block used : ℕ) → is_success a ≡ true → nat_le used w.machine.blocks ≡ true → Holds (Edited t w) (done a (record w { files = w.files ++ record { name = name; area = length w.areas } ∷ []; areas = w.areas ++ record { file_block = Some block; pages = pages } ∷ []; blocks_used = used }))
+      by_file : (a : Answer) (pages : List (Option B)) (block used : ℕ) → is_call_success a ≡ true → nat_le used w.machine.blocks ≡ true → Holds (Edited t w) (done a (record w { files = w.files ++ record { name = name; area = length w.areas } ∷ []; areas = w.areas ++ record { file_block = Some block; pages = pages } ∷ []; blocks_used = used }))
       by_file a pages block used ok room =
           let x : AreaOf B = record { file_block = Some block; pages = pages } in
           let v : WorldOf B = record w { areas = w.areas ++ x ∷ [] } in
@@ -372,7 +368,7 @@ module _ {B : Type 0} (t : Answer → Terms) where
   pub in_take_fail : (w : WorldOf B) → Holds (Edited t w) (take_fail w)
   in_take_fail w = search (tables, by_same, by_count) depth 12
     where
-      by_count : (a : Answer) → is_success a ≡ true → nat_lt w.fails_taken most_fails ≡ true → Holds (Edited t w) (done a (record w { fails_taken = w.fails_taken + 1 }))
+      by_count : (a : Answer) → is_call_success a ≡ true → nat_lt w.fails_taken most_fails ≡ true → Holds (Edited t w) (done a (record w { fails_taken = w.fails_taken + 1 }))
       by_count a ok room =
           let v : WorldOf B = record w { fails_taken = w.fails_taken + 1 } in
           one_edit w v a ok (Rest v (record { processes = refl; sections = refl; areas = refl; files = refl; threads = refl; fails = λ n. omega (arith, less w.fails_taken most_fails room); blocks = λ n. n; slots = λ n. n; kept = λ e. refl; stacks = λ e. refl; limit = omega arith }))
@@ -380,7 +376,7 @@ module _ {B : Type 0} (t : Answer → Terms) where
   pub in_grow : (w : WorldOf B) (n : ℕ) → Holds (Edited t w) (grow w n)
   in_grow w n = search (tables, by_same, by_slots) depth 12
     where
-      by_slots : (a : Answer) → is_success a ≡ true → nat_le (w.machine.slots + n) most_slots ≡ true → Holds (Edited t w) (done a (record w { machine = with_slots w.machine n }))
+      by_slots : (a : Answer) → is_call_success a ≡ true → nat_le (w.machine.slots + n) most_slots ≡ true → Holds (Edited t w) (done a (record w { machine = with_slots w.machine n }))
       by_slots a ok room =
           let v : WorldOf B = record w { machine = with_slots w.machine n } in
           one_edit w v a ok (Rest v (record { processes = refl; sections = refl; areas = refl; files = refl; threads = refl; fails = λ n. n; blocks = λ n. n; slots = λ n. leb-true _ _ room; kept = λ e. refl; stacks = λ e. refl; limit = omega arith }))

@@ -5,23 +5,12 @@ use Rattle.std.specs.List.{list_any}
 use Rattle.std.proofs.lemmas.List.{take-append-drop}
 use Rattle.std.proofs.lemmas.List.Sums.{sum_by-set, sum_by-cons, sum_by-append, sum_by-remove, sum_by_push}
 use Rattle.std.proofs.lemmas.Option.{get_or_from_slice_get, slice_get_within}
-use Rattle.mm_types.specs.declared.codes.Code.{Code}
-use Rattle.mm_types.specs.declared.answers.Answer.{Answer}
-use Rattle.mm_types.specs.declared.views.Kind.{Kind}
+use Rattle.mm_types.specs.{Code, Answer, Kind, Range, Text}
 use Rattle.mm_types.specs.declared.views.Kind.TheVariants as kind
-use Rattle.mm_types.specs.Address.{Range}
-use Rattle.mm_types.specs.Spelling.{Text}
-use Rattle.mm_world.specs.World.{WorldOf, ProcessOf, RegionOf, RowOf, AreaOf, SectionOf, Numbered}
-use Rattle.mm_world.specs.Find.{add_region, set_area, Found, change_range, process_of, set_process, set_regions, set_region, no_area}
-use Rattle.mm_world.specs.Charge.{charge, limit, is_charged, region_charge, process_charge, area_charge}
-use Rattle.mm_world.specs.Outcome.{OutcomeOf, done, refused}
-use Rattle.mm_world.specs.Rows.{reserved_row, change_rows}
-use Rattle.mm_world.specs.Alloc.{alloc, commit_in}
-use Rattle.mm_world.specs.Protect.{protect}
-use Rattle.mm_world.specs.Sections.{create, handle_or, with_handle, settle, settled_area, settled_areas, settled_sections, uses}
-use Rattle.mm_world.specs.Views.{map_view}
-use Rattle.mm_world.specs.Processes.{no_regions}
-use Rattle.mm_world.specs.Laws.{KeepsLimit}
+use Rattle.mm_world.specs.{WorldOf, ProcessOf, RegionOf, RowOf, AreaOf, SectionOf, Numbered, add_region, set_area, Found, change_range, process_of}
+use Rattle.mm_world.specs.{set_process, set_regions, set_region, no_area, charge, limit, is_charged, region_charge, process_charge, area_charge}
+use Rattle.mm_world.specs.{OutcomeOf, done, refused, reserved_row, change_rows, alloc, commit_in, protect, create, handle_or, with_handle, settle}
+use Rattle.mm_world.specs.{settled_area, settled_areas, settled_sections, uses, map_view, no_regions, KeepsLimit}
 use Rattle.mm_world.proofs.Tables.{Holds, tables}
 use Rattle.mm_world.proofs.Edits.{Moves, Rises, Falls, Stays, Charged, Terms, RegionEdit, RegionComes, RegionGoes, RegionChanges, Edit, Rest, Regions, HandleComes, HandleGoes, SectionComes, AreaComes, AreaChanges, FileComes, Settles, ProcessComes, ProcessGoes, Edits, Nothing, Then}
 use Rattle.mm_world.proofs.Finding.{numbered_inside}
@@ -241,16 +230,7 @@ module _ {B : Type 0} (t : Terms) where
 
   each_limit : (w v : WorldOf B) → Edit t w v → limit w ≤ limit v
   each_limit w _ (Rest v b) = b.limit
-  each_limit w _ (Regions pid p rs lives e) = omega arith
-  each_limit w _ (HandleComes pid p number lives there) = omega arith
-  each_limit w _ (HandleGoes pid p i lives) = omega arith
-  each_limit w _ (ProcessComes room) = omega arith
-  each_limit w _ (ProcessGoes pid p lives ends charged) = omega arith
-  each_limit w _ (SectionComes s inside) = omega arith
-  each_limit w _ (AreaComes a charged) = omega arith
-  each_limit w _ (AreaChanges at a same charged) = omega arith
-  each_limit w _ (FileComes f inside) = omega arith
-  each_limit w _ (Settles falls) = omega arith
+  each_limit w v e = omega arith
 
   pub charge_goes : (w v : WorldOf B) → Edits t w v → Charged t.charge (charge w) (charge v)
   charge_goes w _ Nothing = stays_charged t.charge (charge w) (charge w) refl

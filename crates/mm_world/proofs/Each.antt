@@ -2,9 +2,7 @@
 use Rattle.std.proofs.Common.{◌≡◌, ℕ, zero, suc, ◌+◌, ◌≤◌, ◌<◌, Bool, true, false, Some, List, [], ◌∷◌, ◌++◌, refl, ◌∙◌, ap, subst, arith, set, map, take, drop, replicate, slice_get, ◌&&◌}
 use Rattle.std.specs.Prelude.{insert, remove}
 use Rattle.std.proofs.Math.Decide.{dec_le}
-use Rattle.mm_world.specs.Find.{change_range}
-use Rattle.mm_world.specs.Rows.{every_page_from}
-use Rattle.mm_world.specs.WellFormed.{Each}
+use Rattle.mm_world.specs.{change_range, every_page_from, Each}
 
 module _ {A : Type 0} where
   pub each-append : (P : A → Type 0) (xs ys : List A) → Each P xs → Each P ys → Each P (xs ++ ys)

@@ -1,16 +1,11 @@
 -- Edits of a world's tables. A call is a list of them, so a property that lines keep is proved once for each edit.
-use Rattle.std.proofs.Common.{◌≡◌, ℕ, ◌≤◌, ◌<◌, Bool, true, false, Some, None, List, [], ◌∷◌, ◌++◌, length, set, slice_get, is_some, nat_le}
+use Rattle.std.proofs.Common.{◌≡◌, ℕ, ◌≤◌, ◌<◌, Bool, true, false, Some, None, List, [], ◌∷◌, ◌++◌, length, set, slice_get, is_some, nat_le, ◌&&◌, not}
 use Rattle.std.specs.Prelude.{remove}
-use Rattle.mm_types.specs.declared.answers.Answer.{Answer}
-use Rattle.mm_world.specs.World.{WorldOf, ProcessOf, RegionOf, AreaOf, SectionOf, FileOf, pages_of}
-use Rattle.mm_world.specs.Find.{process_of, set_process, set_regions, set_area, area_at, section_of, add_region, ranges_of, is_private}
-use Rattle.mm_world.specs.Outcome.{OutcomeOf}
-use Rattle.mm_world.specs.Charge.{limit, region_charge, process_charge, area_charge}
-use Rattle.mm_world.specs.Sections.{with_handle, settle}
-use Rattle.mm_world.specs.Processes.{no_regions, most_processes, most_fails, most_slots}
-use Rattle.mm_world.specs.PrivateRegions.{PagesOf}
-use Rattle.mm_world.specs.Laws.{Leaves, is_limit_refusal}
-use Rattle.mm_world.specs.WellFormed.{FlagsFit, RowsFit, RegionRefers, References}
+use Rattle.mm_types.specs.{Answer}
+use Rattle.mm_world.specs.{WorldOf, ProcessOf, RegionOf, AreaOf, SectionOf, FileOf, pages_of, process_of, set_process, set_regions, set_area, area_at}
+use Rattle.mm_world.specs.{section_of, add_region, ranges_of, is_private, OutcomeOf, limit, region_charge, process_charge, area_charge, with_handle}
+use Rattle.mm_world.specs.{settle, no_regions, most_processes, most_fails, most_slots, PagesOf, Leaves, is_success, is_limit_refusal, is_told}
+use Rattle.mm_world.specs.{FlagsFit, RowsFit, RegionRefers, References}
 use Rattle.mm_world.proofs.LaidOut.{IsPlaced}
 
 -- what edits may do to the charge
@@ -104,8 +99,13 @@ module _ {B : Type 0} (t : Terms) where
   joined w v u es Nothing = es
   joined w v u es (Then x y later e) = Then x u (joined w v x es later) e
 
+-- a success that no store tells
+abbrev pub is_call_success : Answer → Bool
+is_call_success a = is_success a && not (is_told a)
+
 -- the call with this outcome is a list of edits, none where it is no success, but for a guard that an alarm turned off
 pub record Edited {B : Type 0} (t : Answer → Terms) (w : WorldOf B) (o : OutcomeOf B) : Type 0 where
   pub edits : Edits (t o.answer) w o.world
   pub leaves : Leaves w o
   pub granted : (t o.answer).charge ≡ Falls → is_limit_refusal o.answer ≡ false
+  pub untold : is_told o.answer ≡ false

@@ -1,14 +1,11 @@
 -- What searches find.
-use Rattle.std.proofs.Common.{◌≡◌, ℕ, zero, suc, ◌+◌, ◌-◌, ◌<◌, Bool, true, false, Option, Some, None, List, [], ◌∷◌, refl, sym, ◌∙◌, ap, cond, length, get_or, arith, option_map, slice_get, is_some}
+use Rattle.std.proofs.Common.{◌≡◌, ◌≢◌, ℕ, zero, suc, ◌+◌, ◌-◌, ◌<◌, Bool, true, false, Option, Some, None, List, [], ◌∷◌, ◌++◌, refl, sym, ◌∙◌, ap, subst, cond, length, set, get_or, arith, option_map, slice_get, is_some}
 use Rattle.std.specs.Prelude.{option_and_then}
-use Rattle.mm_types.specs.declared.views.Kind.{Kind}
+use Rattle.mm_types.specs.{Kind, View}
 use Rattle.mm_types.specs.declared.views.Kind.TheVariants as kind
-use Rattle.mm_types.specs.declared.views.View.{View}
-use Rattle.mm_world.specs.World.{WorldOf, RegionOf, ProcessOf, RowOf}
-use Rattle.mm_world.specs.Find.{Found, first_where, one_later, region_with, process_of, shared_page}
-use Rattle.mm_world.specs.Keys.{Home, Own, InSection, Committed, committed_at, committed_in, home_in, key_of, content_of, private_key, own_page}
-use Rattle.mm_world.specs.Rows.{row_at}
-use Rattle.mm_world.specs.Laws.{HasCommittedRow}
+use Rattle.mm_world.specs.{WorldOf, RegionOf, ProcessOf, RowOf, Found, first_where, one_later, region_with, process_of, shared_page, Home, Own}
+use Rattle.mm_world.specs.{InSection, Committed, committed_at, committed_in, home_in, key_of, content_of, private_key, own_page, row_at}
+use Rattle.mm_world.specs.{HasCommittedRow}
 
 -- ---- lists
 
@@ -50,6 +47,21 @@ pub numbered_there : {A : Type 0} (xs : List (Option A)) (i : ℕ) (x : A) → g
 numbered_there [] i x e = cc
 numbered_there (y ∷ ys) zero x e = ap (λ (o : Option _). Some o) e
 numbered_there (y ∷ ys) (suc i) x e = numbered_there ys i x e
+
+-- what holds of the old and the new in each place, where one was put in the place of another
+pub put_at : {A : Type 0} (P : Option A → Option A → Type 0) (xs : List (Option A)) (i j : ℕ) (x : A) (y : Option A) → get_or xs i None ≡ Some x → (j ≡ i → P (Some x) y) → (j ≢ i → P (get_or xs j None) (get_or xs j None)) → P (get_or xs j None) (get_or (set xs i y) j None)
+put_at P [] i j x y at here other = cc
+put_at P (o ∷ xs) zero zero x y at here other = subst (λ o. P o y) (sym at) (here refl)
+put_at P (o ∷ xs) zero (suc j) x y at here other = other (λ e. cc)
+put_at P (o ∷ xs) (suc i) zero x y at here other = other (λ e. cc)
+put_at P (o ∷ xs) (suc i) (suc j) x y at here other = put_at P xs i j x y at (λ e. here (ap suc e)) (λ n. other (λ e. n (let same : j ≡ i = cc in same)))
+
+-- and where one more was put behind
+pub push_at : {A : Type 0} (P : Option A → Option A → Type 0) (xs : List (Option A)) (j : ℕ) (y : Option A) → P None y → ((o : Option A) → P o o) → P (get_or xs j None) (get_or (xs ++ y ∷ []) j None)
+push_at P [] zero y new same = new
+push_at P [] (suc j) y new same = same None
+push_at P (o ∷ xs) zero y new same = same o
+push_at P (o ∷ xs) (suc j) y new same = push_at P xs j y new same
 
 module _ {B : Type 0} where
   -- ---- committed rows

@@ -3,10 +3,8 @@ use Rattle.std.proofs.Common.{◌≡◌, ◌≢◌, ℕ, zero, suc, ◌+◌, ◌
 use Rattle.std.specs.Prelude.{◌==◌, ◌||◌}
 use Rattle.std.specs.List.{list_any}
 use Rattle.std.specs.Cmp.{unsigned_Decides}
-use Rattle.mm_types.specs.Address.{address_of, page_of}
-use Rattle.mm_world.specs.Find.{change_range}
-use Rattle.mm_world.specs.Watch.{unwritten}
-use Rattle.mm_world.specs.WellFormed.{Each}
+use Rattle.mm_types.specs.{address_of, page_of}
+use Rattle.mm_world.specs.{change_range, unwritten, Each}
 use Rattle.mm_world.proofs.LaidOut.{less, not_less}
 
 module _ {A : Type 0} (change : A → A) where

@@ -1,62 +1,26 @@
 -- An `alloc` of a watched region gives its pages flags, none of which is set; no other page's flag changes.
-use Rattle.std.proofs.Common.{◌≡◌, ◌≢◌, ◌⊎◌, inl, inr, ℕ, zero, suc, ◌+◌, ◌-◌, ◌<◌, Bool, true, false, Option, Some, None, List, [], ◌∷◌, refl, sym, ◌∙◌, ap, subst, cond, arith, length, set, slice_get, replicate, option_map, count_by, ◌&&◌, ◌||◌}
+use Rattle.std.proofs.Common.{◌≡◌, ◌≢◌, ℕ, zero, suc, ◌+◌, ◌-◌, Bool, true, false, Option, Some, None, List, refl, sym, ◌∙◌, ap, subst, cond, arith, set, slice_get, replicate, option_map, count_by, ◌&&◌, ◌||◌}
 use Rattle.std.specs.Prelude.{◌==◌, nat_lt, option_and_then, insert}
 use Rattle.std.specs.List.{list_any}
-use Rattle.std.proofs.lemmas.Bool.{le-leb}
-use Rattle.std.proofs.lemmas.List.{length-replicate, get_or-set_same, get_or-set_other}
-use Rattle.mm_types.proofs.Booleans.{all_three, both, and_false, by_either, not_true, or_true}
-use Rattle.mm_types.proofs.Cells.{same_or_not}
-use Rattle.mm_types.specs.declared.answers.Answer.{Answer}
+use Rattle.std.proofs.lemmas.List.{length-replicate}
+use Rattle.mm_types.proofs.{all_three, and_false, by_either, not_true, or_true}
+use Rattle.mm_types.specs.{Answer, Code, Pid, reserve_type, reserve_and_commit_type, watch_type, Range, page_of, pages_for, address_of}
+use Rattle.mm_types.specs.{granule_range_of, holds_page, meets, is_free, lowest_gap}
 use Rattle.mm_types.specs.declared.answers.Answer.TheVariants as answer
-use Rattle.mm_types.specs.declared.codes.Code.{Code}
 use Rattle.mm_types.specs.declared.codes.Code.TheVariants as code
 use Rattle.mm_types.specs.declared.events.Event.TheVariants as line
-use Rattle.mm_types.specs.declared.numbers.Pid.{Pid}
-use Rattle.mm_types.specs.Allocation.{reserve_type, reserve_and_commit_type, watch_type}
-use Rattle.mm_types.specs.Address.{Range, page_of, pages_for, address_of, granule_range_of, holds_page, meets, is_free, lowest_gap, end_of}
-use Rattle.mm_world.specs.World.{World, ProcessOf, RegionOf, Page, numbered, filled, pages_of}
-use Rattle.mm_world.specs.Find.{process_of, set_regions, add_region, ranges_of, placed}
-use Rattle.mm_world.specs.Outcome.{done, refused}
-use Rattle.mm_world.specs.Alloc.{alloc, reserve, new_row, private_region, is_watched_type, plain_type, is_reserving, are_alloc_parameters}
-use Rattle.mm_world.specs.Written.{reserved_range, line_begins}
-use Rattle.mm_world.specs.Flags.{flag_in, flag_at, flag_of, FlagTold, Begun, Told}
+use Rattle.mm_world.specs.{ProcessOf, RegionOf, Page, numbered, filled, pages_of, process_of, set_regions, add_region, ranges_of, placed, done}
+use Rattle.mm_world.specs.{refused, alloc, reserve, new_row, private_region, is_watched_type, plain_type, is_reserving, are_alloc_parameters}
+use Rattle.mm_world.specs.{reserved_range, line_begins, flag_in, flag_at, flag_of, FlagTold, Begun, Told}
+use Rattle.mm_world.specs.World.{World}
 use Rattle.mm_world.proofs.Tables.{Holds, tables, at_find, at_need, at_if}
-use Rattle.mm_world.proofs.Finding.{numbered_inside}
-use Rattle.mm_world.proofs.LaidOut.{or-false, placed_is}
+use Rattle.mm_world.proofs.Finding.{put_at}
+use Rattle.mm_world.proofs.LaidOut.{placed_is}
 use Rattle.mm_world.proofs.FlagRanges.{same_page, page_of-address_of, equal}
 use Rattle.mm_world.proofs.FlagsKept as calls
 use Rattle.mm_world.proofs.CallEdits as edits
-use Rattle.mm_world.proofs.FlagsKept.{flags_here, flags_later}
-use Rattle.mm_world.proofs.FlagsWatched.{TellsFlags, tells_kept, held_in}
-
--- ---- a region is added
-
-not_both : (a b : Range) (page : ℕ) → meets a b ≡ false → holds_page a page ≡ true → holds_page b page ≡ false
-not_both a b page apart held = by_test (holds_page b page) refl
-  where
-    by_test : (t : Bool) → holds_page b page ≡ t → t ≡ false
-    by_test true e =
-        let h = held_in a page held in
-        let k = held_in b page e in
-        let meet : meets a b ≡ true = both (nat_lt a.first (end_of b)) (nat_lt b.first (end_of a)) (le-leb _ _ (omega (arith, h.0, k.1))) (le-leb _ _ (omega (arith, k.0, h.1))) in
-        let bad : true ≡ false = sym meet ∙ apart in cc
-    by_test false e = refl
-
-flags_outside : (i : ℕ) (new : RegionOf Page) (rs : List (RegionOf Page)) (page : ℕ) → holds_page (pages_of new) page ≡ false → flag_at (insert rs i new) page ≡ flag_at rs page
-flags_outside zero new rs page out = flags_later new rs page out
-flags_outside (suc i) new [] page out = flags_later new [] page out
-flags_outside (suc i) new (r ∷ rs) page out = by_test (holds_page (pages_of r) page) refl (flags_outside i new rs page out)
-  where
-    by_test : (t : Bool) → holds_page (pages_of r) page ≡ t → flag_at (insert rs i new) page ≡ flag_at rs page → flag_at (r ∷ insert rs i new) page ≡ flag_at (r ∷ rs) page
-    by_test true first later = flags_here r (insert rs i new) page first ∙ sym (flags_here r rs page first)
-    by_test false other later = flags_later r (insert rs i new) page other ∙ later ∙ sym (flags_later r rs page other)
-
-flags_inside : (i : ℕ) (new : RegionOf Page) (rs : List (RegionOf Page)) (page : ℕ) → holds_page (pages_of new) page ≡ true → list_any (meets (pages_of new)) (ranges_of rs) ≡ false → flag_at (insert rs i new) page ≡ flag_in new page
-flags_inside zero new rs page held free = flags_here new rs page held
-flags_inside (suc i) new [] page held free = flags_here new [] page held
-flags_inside (suc i) new (r ∷ rs) page held free =
-    let h = or-false (meets (pages_of new) (pages_of r)) (list_any (meets (pages_of new)) (ranges_of rs)) free in
-    flags_later r (insert rs i new) page (not_both (pages_of new) (pages_of r) page h.0 held) ∙ flags_inside i new rs page held h.1
+use Rattle.mm_world.proofs.Regions.{has_added}
+use Rattle.mm_world.proofs.FlagsWatched.{TellsFlags, tells_kept}
 
 got_replicate : (n i : ℕ) (x y : Bool) → slice_get (replicate n x) i ≡ Some y → y ≡ x
 got_replicate zero i x y e = cc
@@ -116,7 +80,7 @@ flag_new false type prot range q b is e = cc
 by_begun : (w : World) (pid : Pid) (addr size type prot : ℕ) (p : ProcessOf Page) (range : Range) → process_of w pid.0 ≡ Some p → is_watched_type type ≡ true → placed (ranges_of p.regions) addr (granule_range_of addr size) (pages_for size) ≡ Some range → Holds (TellsFlags w (line.Alloc pid addr size type prot)) (done (answer.At (address_of range.first)) (set_regions w pid.0 p (add_region (private_region filled (is_watched_type type) (plain_type type) prot range) p.regions)))
 by_begun w pid addr size type prot p range lives watched found = record {
   it = record {
-    told = λ spaces j q b e. by_process j q b e (same_or_not j pid.0);
+    told = λ spaces j q b e. by_process j q b e;
   };
 }
   where
@@ -131,31 +95,27 @@ by_begun w pid addr size type prot p range lives watched found = record {
         ap (λ (r : Range). list_any (meets r) (ranges_of p.regions)) pages
         ∙ (placed_is (ranges_of p.regions) addr (granule_range_of addr size) (pages_for size) range (omega arith) found).placed.free
 
-    inside : pid.0 < length w.processes
-    inside = numbered_inside w.processes pid.0 p lives
-
     k : ℕ
     k = count_by (λ r. nat_lt r.base new.base) p.regions
 
     q' : ProcessOf Page
     q' = record p { regions = insert p.regions k new }
 
-    in_process : (j q : ℕ) (b : Bool) → j ≡ pid.0 → flag_at (insert p.regions k new) q ≡ Some b → FlagTold w (line.Alloc pid addr size type prot) (answer.At (address_of range.first)) j q b
-    in_process j q b process now =
-        begun_told w pid addr size type prot range j q b (holds_page range q) refl process watched (reserved_is (ranges_of p.regions) addr size range found)
-        (λ held. flag_new (is_watched_type type) (plain_type type) prot range q b watched (sym (flags_inside k new p.regions q (ap (λ (r : Range). holds_page r q) pages ∙ held) free) ∙ now))
-        (λ out.
-        ap (λ (n : ℕ). flag_of w n q) process ∙ ap (λ o. flags_of_process o q) lives
-        ∙ sym (flags_outside k new p.regions q (ap (λ (r : Range). holds_page r q) pages ∙ out)) ∙ now)
+    flag_is : (q : ℕ) (t : Bool) → holds_page range q ≡ t → flag_at (insert p.regions k new) q ≡ cond t (flag_in new q) (flag_at p.regions q)
+    flag_is q t held =
+        has_added (λ r. flag_in r q) new p.regions k q free
+        ∙ ap (λ (b : Bool). cond b (flag_in new q) (flag_at p.regions q)) (ap (λ (r : Range). holds_page r q) pages ∙ held)
 
-    by_process : (j q : ℕ) (b : Bool) → flags_of_process (numbered (set w.processes pid.0 (Some q')) j) q ≡ Some b → (j ≡ pid.0) ⊎ (j ≢ pid.0) → FlagTold w (line.Alloc pid addr size type prot) (answer.At (address_of range.first)) j q b
-    by_process j q b e (inl same) =
-        in_process j q b same
-        (ap (λ o. flags_of_process o q) (sym (get_or-set_same w.processes pid.0 (Some q') None inside))
-        ∙ ap (λ (n : ℕ). flags_of_process (numbered (set w.processes pid.0 (Some q')) n) q) (sym same) ∙ e)
-    by_process j q b e (inr other) =
-        elsewhere_told w pid addr size type prot (address_of range.first) j q b other
-        (ap (λ o. flags_of_process o q) (sym (get_or-set_other w.processes pid.0 j (Some q') None other)) ∙ e)
+    in_process : (j q : ℕ) (b : Bool) → j ≡ pid.0 → flag_of w j q ≡ flag_at p.regions q → flag_at (insert p.regions k new) q ≡ Some b → FlagTold w (line.Alloc pid addr size type prot) (answer.At (address_of range.first)) j q b
+    in_process j q b process was now =
+        begun_told w pid addr size type prot range j q b (holds_page range q) refl process watched (reserved_is (ranges_of p.regions) addr size range found)
+        (λ held. flag_new (is_watched_type type) (plain_type type) prot range q b watched (sym (flag_is q true held) ∙ now))
+        (λ out. was ∙ sym (flag_is q false out) ∙ now)
+
+    by_process : (j q : ℕ) (b : Bool) → flags_of_process (numbered (set w.processes pid.0 (Some q')) j) q ≡ Some b → FlagTold w (line.Alloc pid addr size type prot) (answer.At (address_of range.first)) j q b
+    by_process j q b =
+        put_at (λ o n. flag_of w j q ≡ flags_of_process o q → flags_of_process n q ≡ Some b → FlagTold w (line.Alloc pid addr size type prot) (answer.At (address_of range.first)) j q b) w.processes pid.0 j p (Some q') lives
+        (in_process j q b) (λ other was now. elsewhere_told w pid addr size type prot (address_of range.first) j q b other (was ∙ now)) refl
 
 -- ---- the call
 

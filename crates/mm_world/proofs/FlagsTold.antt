@@ -1,26 +1,16 @@
 -- Each line changes the flags of watched regions as it and its answer tell, and `watch` gives the pages that are flagged.
-use Rattle.std.proofs.Common.{◌≡◌, ℕ, Bool, true, false, Option, Some, None, List, refl, sym, ◌∙◌, ap, subst, cond, is_some, option_map, ◌&&◌}
+use Rattle.std.proofs.Common.{◌≡◌, ℕ, Bool, true, false, Option, Some, None, List, refl, sym, ◌∙◌, ap, cond, ◌&&◌}
 use Rattle.std.specs.Prelude.{◌==◌}
-use Rattle.mm_types.specs.declared.answers.Answer.{Answer}
+use Rattle.mm_types.specs.{Answer, AccessSpec, Event, Pid, Tid, page_of}
 use Rattle.mm_types.specs.declared.answers.Answer.TheVariants as answer
-use Rattle.mm_types.specs.declared.answers.Why.{Why}
 use Rattle.mm_types.specs.declared.codes.Raise.TheVariants as raise
-use Rattle.mm_types.specs.declared.events.AccessSpec.{AccessSpec}
 use Rattle.mm_types.specs.declared.events.AccessSpec.TheVariants as spec
-use Rattle.mm_types.specs.declared.events.Event.{Event}
 use Rattle.mm_types.specs.declared.events.Event.TheVariants as line
-use Rattle.mm_types.specs.declared.numbers.Pid.{Pid}
-use Rattle.mm_types.specs.declared.numbers.Tid.{Tid}
-use Rattle.mm_types.specs.Address.{page_of}
-use Rattle.mm_world.specs.World.{World, KeptOf}
-use Rattle.mm_world.specs.Outcome.{done}
-use Rattle.mm_world.specs.Access.{WriteOf, access, address_in, attempt_in}
+use Rattle.mm_world.specs.{KeptOf, done, WriteOf, access, address_in, attempt_in, step, world_told, begin, resume, kept_by, keep, is_ok}
+use Rattle.mm_world.specs.{access_writes, kept_writes, line_begins, line_wrote, written_after, flag_of, FlagTold, Told, Spaces}
+use Rattle.mm_world.specs.World.{World}
 use Rattle.mm_world.specs.Report.{Report}
-use Rattle.mm_world.specs.Failure.{Need, access_fails, wait_failed, pending}
-use Rattle.mm_world.specs.Step.{unpaged, told, step, stepped, world_told, begin, begin_told, resume, resume_told, failing, waiting, when, need_at, kept_by, keep, is_ok}
-use Rattle.mm_world.specs.Written.{access_writes, kept_writes, line_begins, line_wrote, written_after}
-use Rattle.mm_world.specs.Flags.{flag_of, FlagTold, Told}
-use Rattle.mm_world.specs.WellFormed.{Spaces}
+use Rattle.mm_world.proofs.Determined.{may_tell, decided}
 use Rattle.mm_world.proofs.Tables.{Holds, tables}
 use Rattle.mm_world.proofs.FlagsKept as calls
 use Rattle.mm_world.proofs.FlagsKept.{KeepsFlags}
@@ -86,79 +76,32 @@ in_resume w tid (Some k) is = record {
       Told h.was h.before refl (h.now ∙ ap (λ (t : Bool). cond t true h.was) (wrote_resume j q w tid k o.answer is));
 }
 
--- ---- lines
-
-kept_answered : (w : World) (e : Event) (a : Answer) → ((pid page : ℕ) → line_begins pid page e a ≡ false) → ((pid page : ℕ) (keeps : ℕ → Bool) (was : Bool) → written_after pid page keeps was e a ≡ was) → TellsFlags w e (done a w)
-kept_answered w e a none quiet = tells_kept w e (done a w) (calls.by_same w a) none quiet
-
 -- ---- what the store tells in place of that is no `ok`
-
-told_failing : (w : World) (pid : Pid) (addr : ℕ) (bytes : List ℕ) (n : Option Need) (after : Report) (a : Answer) → failing n after ≡ Some a → TellsFlags w (line.Write pid addr bytes) (done a w)
-told_failing w pid addr bytes None after a e = cc
-told_failing w pid addr bytes (Some n) after a e = by_failure (access_fails n after) e
-  where
-    by_failure : (t : Bool) → when t (answer.Raised raise.InPageError) ≡ Some a → TellsFlags w (line.Write pid addr bytes) (done a w)
-    by_failure true e =
-        subst (λ (a : Answer). TellsFlags w (line.Write pid addr bytes) (done a w)) (let same : answer.Raised raise.InPageError ≡ a = cc in same)
-        (kept_answered w _ _ (λ j q. refl) (λ j q keeps was. refl))
-    by_failure false e = cc
 
 -- a line of a thread that waits, or whose access failed
 told_quiet : (w v : World) (e : Event) (a : Answer) → v.processes ≡ w.processes → ((pid page : ℕ) → line_begins pid page e a ≡ false) → ((pid page : ℕ) (keeps : ℕ → Bool) (was : Bool) → written_after pid page keeps was e a ≡ was) → TellsFlags w e (done a v)
 told_quiet w v e a same none quiet = tells_kept w e (done a v) (calls.by_rest w v a same) none quiet
 
-told_waiting : (w : World) (tid : Tid) (n : Option Need) (before after : Report) (a : Answer) → waiting w n before after ≡ Some a → TellsFlags w (line.Resume tid) (done a (world_told w (line.Resume tid) a))
-told_waiting w tid None before after a e = cc
-told_waiting w tid (Some n) before after a e = by_why (pending w.machine.depth n before after) e
-  where
-    by_why : (o : Option Why) → option_map answer.Pending o ≡ Some a → TellsFlags w (line.Resume tid) (done a (world_told w (line.Resume tid) a))
-    by_why None e = cc
-    by_why (Some why) e =
-        subst (λ (a : Answer). TellsFlags w (line.Resume tid) (done a (world_told w (line.Resume tid) a))) (let same : answer.Pending why ≡ a = cc in same)
-        (told_quiet w w _ _ refl (λ j q. refl) (λ j q keeps was. refl))
+told_write : (w : World) (pid : Pid) (addr : ℕ) (bytes : List ℕ) (a : Answer) → may_tell (line.Write pid addr bytes) a ≡ true → TellsFlags w (line.Write pid addr bytes) (done a w)
+told_write w pid addr bytes (answer.Raised raise.InPageError) t = told_quiet w w _ _ refl (λ j q. refl) (λ j q keeps was. refl)
+told_write w pid addr bytes _ t = cc
 
-told_resume : (w : World) (tid : Tid) (kept : Option KeptOf) (before after : Report) (a : Answer) → resume_told w tid.0 kept before after ≡ Some a → TellsFlags w (line.Resume tid) (done a (world_told w (line.Resume tid) a))
-told_resume w tid None before after a e = cc
-told_resume w tid (Some k) before after a e =
-    let n = need_at w k.pid (address_in k.access) (attempt_in k.access) in
-    by_failure (is_some n && wait_failed (before.wait tid.0)) n e
-  where
-    by_failure : (t : Bool) (n : Option Need) → cond t (Some (answer.Raised raise.InPageError)) (waiting w n before after) ≡ Some a → TellsFlags w (line.Resume tid) (done a (world_told w (line.Resume tid) a))
-    by_failure true n e =
-        subst (λ (a : Answer). TellsFlags w (line.Resume tid) (done a (world_told w (line.Resume tid) a))) (let same : answer.Raised raise.InPageError ≡ a = cc in same)
-        (told_quiet w (keep w tid.0 None) _ _ refl (λ j q. refl) (λ j q keeps was. refl))
-    by_failure false n e = told_waiting w tid n before after a e
+told_begin : (w : World) (tid : Tid) (pid : Pid) (what : AccessSpec) (a : Answer) → may_tell (line.Begin tid pid what) a ≡ true → TellsFlags w (line.Begin tid pid what) (done a (world_told w (line.Begin tid pid what) a))
+told_begin w tid pid what (answer.Pending why) t = told_quiet w _ _ _ refl (λ j q. refl) (λ j q keeps was. refl)
+told_begin w tid pid what _ t = cc
 
-told_begin : (w : World) (tid : Tid) (pid : Pid) (what : AccessSpec) (before after : Report) (a : Answer) → begin_told w tid.0 pid.0 what before after ≡ Some a → TellsFlags w (line.Begin tid pid what) (done a (world_told w (line.Begin tid pid what) a))
-told_begin w tid pid what before after a e = by_kept (is_some (kept_by w tid.0)) e
-  where
-    by_why : (o : Option Why) → option_map answer.Pending o ≡ Some a → TellsFlags w (line.Begin tid pid what) (done a (world_told w (line.Begin tid pid what) a))
-    by_why None e = cc
-    by_why (Some why) e =
-        subst (λ (a : Answer). TellsFlags w (line.Begin tid pid what) (done a (world_told w (line.Begin tid pid what) a))) (let same : answer.Pending why ≡ a = cc in same)
-        (told_quiet w (keep w tid.0 (Some (record { pid = pid.0; access = what }))) _ _ refl (λ j q. refl) (λ j q keeps was. refl))
+told_resume : (w : World) (tid : Tid) (a : Answer) → may_tell (line.Resume tid) a ≡ true → TellsFlags w (line.Resume tid) (done a (world_told w (line.Resume tid) a))
+told_resume w tid (answer.Raised raise.InPageError) t = told_quiet w (keep w tid.0 None) _ _ refl (λ j q. refl) (λ j q keeps was. refl)
+told_resume w tid (answer.Pending why) t = told_quiet w w _ _ refl (λ j q. refl) (λ j q keeps was. refl)
+told_resume w tid _ t = cc
 
-    by_need : (n : Option Need) → waiting w n before after ≡ Some a → TellsFlags w (line.Begin tid pid what) (done a (world_told w (line.Begin tid pid what) a))
-    by_need None e = cc
-    by_need (Some n) e = by_why (pending w.machine.depth n before after) e
-
-    by_kept : (t : Bool) → cond t None (waiting w (need_at w pid.0 (address_in what) (attempt_in what)) before after) ≡ Some a → TellsFlags w (line.Begin tid pid what) (done a (world_told w (line.Begin tid pid what) a))
-    by_kept true e = cc
-    by_kept false e = by_need (need_at w pid.0 (address_in what) (attempt_in what)) e
-
--- what the store tells, or what unpaged address spaces do
-either : (w : World) (e : Event) (before after : Report) → TellsFlags w e (unpaged w e) → ((a : Answer) → told w e before after ≡ Some a → TellsFlags w e (done a (world_told w e a))) → TellsFlags w e (step w e before after)
-either w e before after now later = by_told (told w e before after) refl
-  where
-    by_told : (t : Option Answer) → told w e before after ≡ t → TellsFlags w e (stepped w e t)
-    by_told None is = now
-    by_told (Some a) is = later a is
+-- ---- lines
 
 in_step : (w : World) (e : Event) (before after : Report) → TellsFlags w e (step w e before after)
 in_step w (line.Alloc pid addr size type prot) before after = in_alloc w pid addr size type prot
-in_step w (line.Write pid addr bytes) before after = either w _ before after (in_write w pid addr bytes) (told_failing w pid addr bytes (need_at w pid.0 addr (WriteOf bytes)) after)
-in_step w (line.Begin tid pid what) before after = either w _ before after (in_begin w tid pid what) (told_begin w tid pid what before after)
-in_step w (line.Resume tid) before after = either w _ before after (in_resume w tid (kept_by w tid.0) refl) (told_resume w tid (kept_by w tid.0) before after)
+in_step w (line.Write pid addr bytes) before after = decided (TellsFlags w) w (line.Write pid addr bytes) before after (in_write w pid addr bytes) (λ a h. told_write w pid addr bytes a h.tells)
+in_step w (line.Begin tid pid what) before after = decided (TellsFlags w) w (line.Begin tid pid what) before after (in_begin w tid pid what) (λ a h. told_begin w tid pid what a h.tells)
+in_step w (line.Resume tid) before after = decided (TellsFlags w) w (line.Resume tid) before after (in_resume w tid (kept_by w tid.0) refl) (λ a h. told_resume w tid a h.tells)
 in_step w (line.Watch pid unwrites addr size count) before after = (in_watch w pid unwrites addr size count).it
 in_step w (line.ResetWatch pid addr size) before after = (in_reset_watch w pid addr size).it
 in_step w e before after = tells_kept w e (step w e before after) (calls.by_edits (edits.line_terms e) w (step w e before after) refl (edits.in_step w e before after).edits) (λ j q. refl) (λ j q keeps was. refl)

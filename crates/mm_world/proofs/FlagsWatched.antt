@@ -1,27 +1,17 @@
 -- What the lines of watched regions do to flags: a region begins with pages that are not written, and `watch` and
 -- `resetwatch` make pages unwritten.
-use Rattle.std.proofs.Common.{◌≡◌, ℕ, zero, suc, ◌+◌, ◌-◌, ◌≤◌, ◌<◌, Bool, true, false, Option, Some, None, List, [], ◌∷◌, refl, sym, ◌∙◌, ap, subst, cond, arith, length, slice_get, take, drop, map, option_map, is_some, ◌&&◌, ◌||◌}
-use Rattle.std.specs.Prelude.{◌==◌, nat_le, nat_lt, option_and_then, unwrap_or}
+use Rattle.std.proofs.Common.{◌≡◌, ℕ, suc, ◌+◌, ◌-◌, ◌≤◌, ◌<◌, Bool, true, false, Option, Some, None, List, [], ◌∷◌, refl, sym, ◌∙◌, ap, subst, cond, arith, length, slice_get, take, drop, map, option_map, is_some, ◌&&◌, ◌||◌}
+use Rattle.std.specs.Prelude.{◌==◌, nat_lt, option_and_then, unwrap_or}
 use Rattle.std.specs.List.{list_any}
-use Rattle.std.proofs.lemmas.Bool.{leb-true, le-leb}
 use Rattle.std.proofs.lemmas.List.{length-take}
-use Rattle.mm_types.proofs.Booleans.{parts, both}
-use Rattle.mm_types.specs.declared.answers.Answer.{Answer}
+use Rattle.mm_types.proofs.{parts}
+use Rattle.mm_types.specs.{Answer, Code, Event, Pid, Range, address_of, range_of, holds_page, lies_within, end_of}
 use Rattle.mm_types.specs.declared.answers.Answer.TheVariants as answer
-use Rattle.mm_types.specs.declared.codes.Code.{Code}
-use Rattle.mm_types.specs.declared.events.Event.{Event}
 use Rattle.mm_types.specs.declared.events.Event.TheVariants as line
-use Rattle.mm_types.specs.declared.numbers.Pid.{Pid}
-use Rattle.mm_types.specs.Address.{Range, address_of, range_of, holds_page, lies_within, end_of}
-use Rattle.mm_world.specs.World.{World, ProcessOf, RegionOf, Page, pages_of}
-use Rattle.mm_world.specs.Find.{Found, change_range, process_of, set_region}
-use Rattle.mm_world.specs.Outcome.{OutcomeOf, done, refused}
-use Rattle.mm_world.specs.Rows.{change_flags, mark_written}
-use Rattle.mm_world.specs.Watch.{watch, reset_watch, watched_around, written_from, written_in, unwritten}
-use Rattle.mm_world.specs.Step.{kept_by}
-use Rattle.mm_world.specs.Written.{kept_writes, line_begins, written_after}
-use Rattle.mm_world.specs.Flags.{flag_of, FlagTold, Told}
-use Rattle.mm_world.specs.WellFormed.{Each, Spaces}
+use Rattle.mm_world.specs.{ProcessOf, RegionOf, Page, pages_of, Found, change_range, process_of, set_region, OutcomeOf, done, refused, change_flags}
+use Rattle.mm_world.specs.{mark_written, watch, reset_watch, watched_around, written_from, written_in, unwritten, kept_by, kept_writes, line_begins}
+use Rattle.mm_world.specs.{written_after, flag_of, FlagTold, Told, Each, Spaces}
+use Rattle.mm_world.specs.World.{World}
 use Rattle.mm_world.proofs.Tables.{Holds, tables}
 use Rattle.mm_world.proofs.Finding.{found_stands}
 use Rattle.mm_world.proofs.LaidOut.{less, not_less}
@@ -29,7 +19,8 @@ use Rattle.mm_world.proofs.FlagRanges.{got_before, got_within, got_behind, got_u
 use Rattle.mm_world.proofs.FlagsKept as calls
 use Rattle.mm_world.proofs.FlagsKept.{KeepsFlags}
 use Rattle.mm_world.proofs.FlagsChanged.{FlagChanged, InRegion, Elsewhere, flag_changed}
-use Rattle.mm_world.proofs.FlagsWritten.{from_base}
+use Rattle.mm_world.proofs.Ranges.{within, holds, holds_too, inside}
+use Rattle.mm_world.proofs.Each.{each-take}
 
 -- each page that has a flag after the line has it as the line and its answer tell
 pub record TellsFlags (w : World) (e : Event) (o : OutcomeOf Page) : Type 0 where
@@ -43,19 +34,6 @@ tells_kept w e o h none quiet = record {
 }
 
 -- ---- `resetwatch` and `watch`
-
-pub held_in : (range : Range) (q : ℕ) → holds_page range q ≡ true → (range.first ≤ q) × (q < end_of range)
-held_in range q e =
-    let h = parts (nat_le range.first q) (nat_lt q (end_of range)) e in
-    (leb-true _ _ h.0, less _ _ h.1)
-
-pub is_held : (range : Range) (q : ℕ) → range.first ≤ q → q < end_of range → holds_page range q ≡ true
-is_held range q low high = both (nat_le range.first q) (nat_lt q (end_of range)) (le-leb _ _ low) (le-leb _ _ high)
-
-pub lies_in : (range outer : Range) → lies_within range outer ≡ true → (outer.first ≤ range.first) × (end_of range ≤ end_of outer)
-lies_in range outer e =
-    let h = parts (nat_le outer.first range.first) (nat_le (end_of range) (end_of outer)) e in
-    (leb-true _ _ h.0, leb-true _ _ h.1)
 
 -- the flag of a page, where some pages of a process were unwritten
 record AsCleared (w : World) (pid : ℕ) (clears : ℕ → Bool) (j q : ℕ) (b : Bool) : Type 0 where
@@ -87,19 +65,19 @@ module _ (w : World) (pid : ℕ) (p : ProcessOf Page) (r : Found (RegionOf Page)
 
   by_change : (j q : ℕ) (b : Bool) → FlagChanged w pid r.thing (change_flags change r.thing) j q b → AsCleared w pid clears j q b
   by_change j q b (InRegion process held before now) =
-      in_flags j q b r.thing.watched process (from_base r.thing q held) before now
+      in_flags j q b r.thing.watched process ((within (pages_of r.thing) q held).low) before now
   by_change j q b (Elsewhere out before) = record { was = b; before = before; now = outside j q b out ((pid == j) && clears q) refl }
 
   as_cleared : Spaces w → (j q : ℕ) (b : Bool) → flag_of (set_region w pid p r.place (change_flags change r.thing)) j q ≡ Some b → AsCleared w pid clears j q b
   as_cleared spaces j q b e =
-      by_change j q b (flag_changed w (set_region w pid p r.place (change_flags change r.thing)) pid p r.place r.thing (change_flags change r.thing) lives there refl refl refl spaces j q b e)
+      by_change j q b (flag_changed w (set_region w pid p r.place (change_flags change r.thing)) pid p r.place r.thing (change_flags change r.thing) lives there (record { base = refl; rows = refl }) refl spaces j q b e)
 
 -- ---- `resetwatch`
 
 reset_at : (base : ℕ) (range : Range) (q : ℕ) (fs : List Bool) → base ≤ range.first → base ≤ q → (t : Bool) → holds_page range q ≡ t → slice_get (change_range (λ was. false) (range.first - base) range.count fs) (q - base) ≡ cleared t (slice_get fs (q - base))
 reset_at base range q fs from low true e =
-    let h = held_in range q e in
-    got_within (λ was. false) (range.first - base) range.count fs (q - base) (omega (arith, h.0)) (omega (arith, h.1, from, low))
+    let h = within range q e in
+    got_within (λ was. false) (range.first - base) range.count fs (q - base) (omega (arith, h.low)) (omega (arith, h.high, from, low))
 reset_at base range q fs from low false e =
     by_side (nat_lt q range.first) refl ∙ not_cleared (slice_get fs (q - base))
   where
@@ -110,7 +88,7 @@ reset_at base range q fs from low false e =
         by_end (nat_lt q (end_of range)) refl h
       where
         by_end : (t : Bool) → nat_lt q (end_of range) ≡ t → range.first ≤ q → slice_get (change_range (λ was. false) (range.first - base) range.count fs) (q - base) ≡ slice_get fs (q - base)
-        by_end true t above = let bad : true ≡ false = sym (is_held range q above (less _ _ t)) ∙ e in cc
+        by_end true t above = let bad : true ≡ false = sym (holds range q above (less _ _ t)) ∙ e in cc
         by_end false t above =
             let h = not_less q (end_of range) t in
             got_behind (λ was. false) (range.first - base) range.count fs (q - base) (omega (arith, h, from, low))
@@ -119,13 +97,13 @@ by_reset : (w : World) (pid : Pid) (addr size : ℕ) (p : ProcessOf Page) (r : F
 by_reset w pid addr size p r lives found =
     let range = range_of addr size in
     let stands = found_stands (λ r. is_some r.watched && lies_within range (pages_of r)) p.regions r found in
-    let lies = lies_in range (pages_of r.thing) (parts (is_some r.thing.watched) (lies_within range (pages_of r.thing)) stands.passes).1 in
+    let lies = inside range (pages_of r.thing) (parts (is_some r.thing.watched) (lies_within range (pages_of r.thing)) stands.passes).1 in
     record {
       it = record {
         told = λ spaces j q b e.
             let h = as_cleared w pid.0 p r (change_range (λ was. false) (range.first - r.thing.base) range.count) (holds_page range) lives stands.there
-            (λ q fs low. reset_at r.thing.base range q fs lies.0 low (holds_page range q) refl)
-            (λ q held. let k = held_in range q held in is_held (pages_of r.thing) q (omega (arith, lies.0, k.0)) (omega (arith, lies.1, k.1))) spaces j q b e in
+            (λ q fs low. reset_at r.thing.base range q fs lies.low low (holds_page range q) refl)
+            (λ q held. holds_too range (pages_of r.thing) q lies held) spaces j q b e in
             Told h.was h.before refl h.now;
       };
     }
@@ -149,11 +127,6 @@ written_within page (w ∷ ws) = by_flag w (later (page + 1) ws (written_from (p
     by_flag : (w : Bool) → (page + 1 ≡ page + 1 → Each (λ q. (page ≤ q) × (q < page + suc (length ws))) (written_from (page + 1) ws)) → Each (λ q. (page ≤ q) × (q < page + suc (length ws))) (cond w (page ∷ written_from (page + 1) ws) (written_from (page + 1) ws))
     by_flag true h = ((omega arith, omega arith), h refl)
     by_flag false h = h refl
-
-each-take : {A : Type 0} (P : A → Type 0) (n : ℕ) (xs : List A) → Each P xs → Each P (take n xs)
-each-take P zero xs h = tt
-each-take P (suc n) [] h = tt
-each-take P (suc n) (x ∷ xs) h = (h.0, each-take P n xs h.1)
 
 each-weaker : {A : Type 0} (P Q : A → Type 0) (xs : List A) → ((x : A) → P x → Q x) → Each P xs → Each Q xs
 each-weaker P Q [] f h = tt
@@ -180,14 +153,14 @@ by_unwrite w pid addr size count p r lives found =
     let range = range_of addr size in
     let pages = written_in r.thing range count in
     let stands = found_stands (λ r. is_some r.watched && lies_within range (pages_of r)) p.regions r found in
-    let lies = lies_in range (pages_of r.thing) (parts (is_some r.thing.watched) (lies_within range (pages_of r.thing)) stands.passes).1 in
+    let lies = inside range (pages_of r.thing) (parts (is_some r.thing.watched) (lies_within range (pages_of r.thing)) stands.passes).1 in
     let given = given_within r.thing range count in
     record {
       it = record {
         told = λ spaces j q b e.
             let h = as_cleared w pid.0 p r (unwritten r.thing.base pages) (λ q. list_any (λ p. p == q) pages) lives stands.there
-            (λ q fs low. got_unwritten r.thing.base q pages fs low (each-weaker (λ q. (range.first ≤ q) × (q < end_of range)) (λ q. r.thing.base ≤ q) pages (λ q k. omega (arith, k.0, lies.0)) given))
-            (λ q any. let k = any_is (λ q. (range.first ≤ q) × (q < end_of range)) q pages given any in is_held (pages_of r.thing) q (omega (arith, lies.0, k.0)) (omega (arith, lies.1, k.1))) spaces j q b e in
+            (λ q fs low. got_unwritten r.thing.base q pages fs low (each-weaker (λ q. (range.first ≤ q) × (q < end_of range)) (λ q. r.thing.base ≤ q) pages (λ q k. omega (arith, k.0, lies.low)) given))
+            (λ q any. let k = any_is (λ q. (range.first ≤ q) × (q < end_of range)) q pages given any in holds (pages_of r.thing) q (omega (arith, lies.low, k.0)) (omega (arith, lies.high, k.1))) spaces j q b e in
             Told h.was h.before refl (h.now ∙ ap (λ (t : Bool). cond ((pid.0 == j) && t) false h.was) (sym (any_address q pages)));
       };
     }

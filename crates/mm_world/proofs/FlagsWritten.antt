@@ -1,27 +1,19 @@
 -- What accesses do to the flags of watched regions: a write that is answered `ok` makes its page written.
 use Rattle.std.proofs.Common.{◌≡◌, ◌≢◌, ℕ, ◌-◌, ◌≤◌, Bool, true, false, Option, Some, None, List, refl, sym, ◌∙◌, ap, subst, cond, arith, length, slice_get, option_map, ◌&&◌}
-use Rattle.std.specs.Prelude.{◌==◌, nat_le, nat_lt, option_and_then}
+use Rattle.std.specs.Prelude.{◌==◌, nat_lt, option_and_then}
 use Rattle.std.specs.Option.{IfSome}
-use Rattle.std.proofs.lemmas.Bool.{leb-true}
 use Rattle.std.proofs.lemmas.List.{length-set}
-use Rattle.mm_types.specs.declared.answers.Answer.{Answer}
+use Rattle.mm_types.specs.{Answer, Code, View, page_of, holds_page, first_user_page}
 use Rattle.mm_types.specs.declared.answers.Answer.TheVariants as answer
-use Rattle.mm_types.specs.declared.codes.Code.{Code}
 use Rattle.mm_types.specs.declared.views.Kind.TheVariants as kind
-use Rattle.mm_types.specs.declared.views.View.{View}
-use Rattle.mm_types.specs.Address.{page_of, holds_page, first_user_page, end_of}
-use Rattle.mm_types.proofs.Booleans.{parts}
-use Rattle.mm_world.specs.World.{World, ProcessOf, RegionOf, RowOf, Page, pages_of}
-use Rattle.mm_world.specs.Find.{shared_page, change_range, process_of, set_region, is_private}
-use Rattle.mm_world.specs.Keys.{InSection, Committed, committed_at, with_row, guard_off}
-use Rattle.mm_world.specs.Outcome.{OutcomeOf, done, refused}
-use Rattle.mm_world.specs.Rows.{one_page, mark_written}
-use Rattle.mm_world.specs.Access.{Attempt, ReadOf, WriteOf, Execute, access, access_at, perform, write_to, written}
-use Rattle.mm_world.specs.Step.{is_ok}
-use Rattle.mm_world.specs.Flags.{flag_in, flag_at, flag_of}
-use Rattle.mm_world.specs.WellFormed.{FlagsFit, Spaces}
+use Rattle.mm_types.proofs.{parts}
+use Rattle.mm_world.specs.{ProcessOf, RegionOf, RowOf, Page, pages_of, shared_page, change_range, process_of, set_region, is_private, InSection}
+use Rattle.mm_world.specs.{Committed, committed_at, with_row, guard_off, OutcomeOf, done, refused, one_page, mark_written, Attempt, ReadOf, WriteOf}
+use Rattle.mm_world.specs.{Execute, access, access_at, perform, write_to, written, is_ok, flag_in, flag_at, flag_of, FlagsFit, Spaces}
+use Rattle.mm_world.specs.World.{World}
 use Rattle.mm_world.proofs.Tables.{Holds, tables}
 use Rattle.mm_world.proofs.Finding.{Stands, found_stands, IsCommitted, committed_is, HomeCases, IsOwn, IsShared, home_cases}
+use Rattle.mm_world.proofs.Ranges.{within}
 use Rattle.mm_world.proofs.LaidOut.{laid_at, less, not_less}
 use Rattle.mm_world.proofs.FlagRanges.{got_before, got_within, got_behind, same_page, equal}
 use Rattle.mm_world.proofs.FlagsKept as calls
@@ -117,13 +109,10 @@ module _ (w : World) (pid page : ℕ) (j q : ℕ) (b : Bool) where
   in_region base None process from low before now = cc
   in_region base (Some fs) process from low before now = in_flags base fs (page == q) refl process from low before now
 
-pub from_base : (r : RegionOf Page) (q : ℕ) → holds_page (pages_of r) q ≡ true → r.base ≤ q
-from_base r q held = leb-true _ _ (parts (nat_le r.base q) (nat_lt q (end_of (pages_of r))) held).0
-
 by_mark : (w : World) (pid : ℕ) (p : ProcessOf Page) (c : Committed Page) (page : ℕ) (row : RowOf Page) (bytes : List ℕ) → process_of w pid ≡ Some p → IsCommitted w p.regions page c → Holds (WritesFlags w pid page (WriteOf bytes)) (done answer.Ok (set_region w pid p c.region.place (mark_written true (one_page page) (with_row page row c.region.thing))))
 by_mark w pid p c page row bytes lives h = record {
   it = record {
-    told = λ spaces j q b e. by_change j q b (flag_changed w after pid p c.region.place r new lives stands.there refl (length-set r.rows (page - r.base) row) refl spaces j q b e);
+    told = λ spaces j q b e. by_change j q b (flag_changed w after pid p c.region.place r new lives stands.there (record { base = refl; rows = length-set r.rows (page - r.base) row }) refl spaces j q b e);
   };
 }
   where
@@ -141,7 +130,7 @@ by_mark w pid p c page row bytes lives h = record {
 
     by_change : (j q : ℕ) (b : Bool) → FlagChanged w pid r new j q b → AsWritten w pid page true j q b
     by_change j q b (InRegion process held before now) =
-        in_region w pid page j q b r.base r.watched process (from_base r page stands.passes) (from_base r q held) before now
+        in_region w pid page j q b r.base r.watched process (within (pages_of r) page stands.passes).low (within (pages_of r) q held).low before now
     by_change j q b (Elsewhere out before) = record { was = b; before = before; now = outside pid page j q r b stands.passes out }
 
 -- ---- a page of a view has no flag

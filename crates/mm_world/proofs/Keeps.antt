@@ -1,19 +1,11 @@
 -- Each call and each line keeps a well-formed world well formed.
 use Rattle.std.proofs.Common.{◌≡◌, ℕ, zero, suc, Some, refl, arith, true, false}
-use Rattle.mm_types.specs.declared.events.Event.{Event}
-use Rattle.mm_types.specs.Machine.{MachineOf, IsMachine}
-use Rattle.mm_types.specs.Spelling.{Text}
-use Rattle.mm_world.specs.World.{World, WorldOf, ProcessOf, Page}
-use Rattle.mm_types.specs.declared.answers.Answer.{Answer}
-use Rattle.mm_world.specs.Find.{process_of}
-use Rattle.mm_world.specs.Outcome.{OutcomeOf}
-use Rattle.mm_world.specs.Sections.{close}
-use Rattle.mm_world.specs.Views.{unmap}
-use Rattle.mm_world.specs.Processes.{new_process, exit, new_file, take_fail, grow}
+use Rattle.mm_types.specs.{Event, MachineOf, IsMachine, Text, Answer}
+use Rattle.mm_world.specs.{WorldOf, ProcessOf, Page, process_of, OutcomeOf, close, unmap, new_process, exit, new_file, take_fail, grow, step}
+use Rattle.mm_world.specs.{first_world, Spaces, ProcessRefers, IsSpace, KeepsLimit, Reached, First, Next}
+use Rattle.mm_world.specs.World.{World}
 use Rattle.mm_world.specs.Report.{Report}
-use Rattle.mm_world.specs.Step.{step, first_world}
-use Rattle.mm_world.specs.WellFormed.{WellFormed, Spaces, ProcessRefers, IsSpace}
-use Rattle.mm_world.specs.Laws.{KeepsLimit, Reached, First, Next}
+use Rattle.mm_world.specs.WellFormed.{WellFormed}
 use Rattle.mm_world.proofs.Tables.{Holds}
 use Rattle.mm_world.proofs.Charges as charges
 use Rattle.mm_world.proofs.Numbers.{numbers_kept}

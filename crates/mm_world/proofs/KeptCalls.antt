@@ -1,42 +1,29 @@
 -- The same of each call.
-use Rattle.std.proofs.Common.{◌≡◌, ℕ, zero, suc, ◌+◌, ◌-◌, Bool, true, false, Option, Some, None, List, [], ◌∷◌, ◌++◌, inl, inr, refl, sym, ◌∙◌, ap, subst, cond, arith, length, replicate, slice_get, set, ◌&&◌, nat_le, option_map, unwrap_or}
+use Rattle.std.proofs.Common.{◌≡◌, ℕ, zero, suc, ◌+◌, ◌-◌, Bool, true, false, Option, Some, None, List, [], ◌∷◌, ◌++◌, refl, sym, ◌∙◌, ap, subst, cond, arith, length, replicate, slice_get, set, ◌&&◌, nat_le, option_map, unwrap_or}
 use Rattle.std.specs.Prelude.{remove, ◌==◌, option_and_then}
 use Rattle.std.specs.List.{list_any}
 use Rattle.std.proofs.lemmas.Bool.{leb-true}
 use Rattle.std.proofs.lemmas.List.{length-replicate}
-use Rattle.mm_types.specs.declared.answers.Answer.{Answer}
+use Rattle.mm_types.specs.{Answer, Code, Key, Kind, ViewAccess, Range, meets, granule_range_of, pages_for, page_of, is_granule_address, lowest_gap}
+use Rattle.mm_types.specs.{first_user_page, Text, reserve_type}
 use Rattle.mm_types.specs.declared.answers.Answer.TheVariants as answer
-use Rattle.mm_types.specs.declared.codes.Code.{Code}
-use Rattle.mm_types.specs.declared.numbers.Key.{Key}
 use Rattle.mm_types.specs.declared.numbers.Key.TheVariants as key
-use Rattle.mm_types.specs.declared.views.Kind.{Kind}
 use Rattle.mm_types.specs.declared.views.Kind.TheVariants as kind
-use Rattle.mm_types.specs.declared.views.ViewAccess.{ViewAccess}
-use Rattle.mm_types.specs.Address.{Range, meets, granule_range_of, pages_for, page_of, is_granule_address, lowest_gap, first_user_page}
-use Rattle.mm_types.specs.Spelling.{Text}
-use Rattle.mm_world.specs.Watch.{watch, reset_watch}
-use Rattle.mm_world.specs.World.{StackOf, WorldOf, ProcessOf, RegionOf, RowOf, AreaOf, SectionOf, Numbered, numbered, pages_of}
-use Rattle.mm_world.specs.Find.{end_stacks, set_stack, Found, first_where, process_of, set_process, set_regions, set_region, set_area, area_at, add_region, ranges_of, placed, shared_page}
-use Rattle.mm_world.specs.Outcome.{OutcomeOf, done, refused}
-use Rattle.mm_world.specs.Rows.{change_flags, row_at, reserved_row, commit, protected, change_rows}
-use Rattle.mm_types.specs.Allocation.{reserve_type}
-use Rattle.mm_world.specs.Alloc.{alloc, reserve, commit_in, commit_shared, private_region, new_row}
-use Rattle.mm_world.specs.Free.{free, decommit}
-use Rattle.mm_world.specs.Protect.{protect}
-use Rattle.mm_world.specs.Query.{query}
-use Rattle.mm_world.specs.Sections.{create, create_file, open_section, close, handle_or, new_section, settle, settled_sections, paging_area, is_reserve}
-use Rattle.mm_world.specs.Views.{map_view, unmap, flush, view_region, first_protection, is_copy}
-use Rattle.mm_world.specs.Processes.{new_process, exit, take_fail, grow, no_regions}
-use Rattle.mm_world.specs.Stack.{stack, made, stack_region}
-use Rattle.mm_world.specs.Keys.{content_of, own_page}
-use Rattle.mm_world.specs.WellFormed.{Spaces}
+use Rattle.mm_world.specs.{watch, reset_watch, StackOf, WorldOf, ProcessOf, RegionOf, RowOf, AreaOf, SectionOf, Numbered, numbered, pages_of}
+use Rattle.mm_world.specs.{end_stacks, set_stack, Found, first_where, process_of, set_process, set_regions, set_region, set_area, area_at, add_region}
+use Rattle.mm_world.specs.{ranges_of, placed, shared_page, OutcomeOf, done, refused, change_flags, row_at, reserved_row, commit, protected}
+use Rattle.mm_world.specs.{change_rows, alloc, reserve, commit_in, commit_shared, private_region, new_row, free, decommit, protect, query, create}
+use Rattle.mm_world.specs.{create_file, open_section, close, handle_or, new_section, settle, settled_sections, paging_area, is_reserve, map_view}
+use Rattle.mm_world.specs.{unmap, flush, view_region, first_protection, is_copy, new_process, exit, take_fail, grow, no_regions, stack, made}
+use Rattle.mm_world.specs.{stack_region, content_of, own_page, Spaces}
 use Rattle.mm_world.proofs.Tables.{Holds, tables}
-use Rattle.mm_world.proofs.Finding.{found_stands}
+use Rattle.mm_world.proofs.Finding.{put_at, push_at, found_stands}
 use Rattle.mm_world.proofs.LaidOut.{placed_is, IsPlaced}
 use Rattle.mm_world.proofs.RowsFit.{length-change_range}
 use Rattle.mm_world.proofs.Spaces.{wanted_granule}
 use Rattle.mm_world.proofs.LineEdits.{stack_length}
-use Rattle.mm_world.proofs.KeptPages.{own_in, Kept, PagesKept, kept_same, own_put, own_pushed, own_of, own_removed, own_added, own_free, own_set, rows_kept, RowKept, commit_kept, cleared_kept, protected_kept, shared_settled, shared_pushed, shared_put, committed_page, all_fresh}
+use Rattle.mm_world.proofs.Regions.{added_keeps, removed_keeps, set_keeps}
+use Rattle.mm_world.proofs.KeptPages.{own_in, Kept, PagesKept, kept_same, own_of, rows_kept, RowKept, commit_kept, cleared_kept, protected_kept, shared_settled, shared_pushed, shared_put, committed_page, all_fresh}
 
 replicated : {A : Type 0} (n k : ℕ) (x y : A) → slice_get (replicate n x) k ≡ Some y → y ≡ x
 replicated zero k x y e = cc
@@ -58,7 +45,7 @@ module _ {B : Type 0} (fresh : B) where
 
   pub by_put : (w : WorldOf B) (pid : ℕ) (p : ProcessOf B) (q : Option (ProcessOf B)) (a : Answer) → process_of w pid ≡ Some p → (Spaces w → (page : ℕ) → Kept fresh (own_page p.regions page) (own_of q page)) → Holds (KeepsPages w) (done a (set_process w pid q))
   by_put w pid p q a lives keeps =
-      record { it = record { kept = λ h. record { own = own_put fresh w pid p q lives (keeps h); shared = λ area i. kept_same fresh (shared_page w area i) } } }
+      record { it = record { kept = λ h. record { own = λ j page. put_at (λ o n. Kept fresh (own_of o page) (own_of n page)) w.processes pid j p q lives (λ same. keeps h page) (λ other. kept_same fresh (own_of (process_of w j) page)); shared = λ area i. kept_same fresh (shared_page w area i) } } }
 
   -- the end of sections
   settled : (w v : WorldOf B) → PagesKept fresh w v → v.areas ≡ w.areas → PagesKept fresh w (settle v)
@@ -82,15 +69,8 @@ module _ {B : Type 0} (fresh : B) where
   by_added : (w : WorldOf B) (pid : ℕ) (p : ProcessOf B) (new : RegionOf B) (range : Range) (a : Answer) → process_of w pid ≡ Some p → IsPlaced (ranges_of p.regions) range → pages_of new ≡ range → ((page : ℕ) (x : B) (row : RowOf B) → row_at new page ≡ Some row → row.own ≡ Some x → x ≡ fresh) → Holds (KeepsPages w) (done a (set_regions w pid p (add_region new p.regions)))
   by_added w pid p new range a lives free same zero' =
       by_put w pid p (Some (record p { regions = add_region new p.regions })) a lives (λ h page.
-      record {
-        kept = λ x e.
-            elim (own_added page _ new p.regions x e) [
-              | inl here ↦
-                  own_in_rows new page (row_at new page) x refl (λ row at own. zero' page x row at own) here.1
-                  ∙ sym (ap (λ (o : Option B). unwrap_or o fresh) (own_free page new p.regions (subst (λ range. list_any (meets range) (ranges_of p.regions) ≡ false) (sym same) free.free) here.0))
-              | inr there ↦ (kept_same fresh (own_page p.regions page)).kept x there
-            ];
-      })
+      added_keeps (λ (r : RegionOf B). own_in r page) (Kept fresh) (kept_same fresh) new p.regions _ page (subst (λ range. list_any (meets range) (ranges_of p.regions) ≡ false) (sym same) free.free)
+      (record { kept = λ x e. own_in_rows new page (row_at new page) x refl (λ row at own. zero' page x row at own) e }))
 
   -- ---- rows changed
 
@@ -98,8 +78,8 @@ module _ {B : Type 0} (fresh : B) where
   by_changed w pid p r test change range a lives found keeps =
       let new = change_rows change range r.thing in
       by_put w pid p (Some (record p { regions = set p.regions r.place new })) a lives (λ h page.
-      own_set fresh page r.place p.regions r.thing new (found_stands test p.regions r found).there refl
-      (length-change_range change (range.first - r.thing.base) range.count r.thing.rows) (rows_kept fresh change range r.thing page keeps))
+      set_keeps (λ (r : RegionOf B). own_in r page) (Kept fresh) (kept_same fresh) first_user_page r.place page p.regions r.thing new (h pid p lives).laid_out (found_stands test p.regions r found).there
+      (record { base = refl; rows = length-change_range change (range.first - r.thing.base) range.count r.thing.rows }) (rows_kept fresh change range r.thing page keeps))
 
   by_committed : (w : WorldOf B) (pid : ℕ) (p : ProcessOf B) (r : Found (RegionOf B)) (test : RegionOf B → Bool) (prot : ℕ) (range : Range) (a : Answer) → process_of w pid ≡ Some p → first_where test p.regions ≡ Some r → Holds (KeepsPages w) (done a (set_region w pid p r.place (change_rows (commit fresh prot) range r.thing)))
   by_committed w pid p r test prot range a lives found = by_changed w pid p r test (commit fresh prot) range a lives found (commit_kept fresh prot)
@@ -110,25 +90,30 @@ module _ {B : Type 0} (fresh : B) where
   by_cleared : (w : WorldOf B) (pid : ℕ) (p : ProcessOf B) (r : Found (RegionOf B)) (test : RegionOf B → Bool) (range : Range) → process_of w pid ≡ Some p → first_where test p.regions ≡ Some r → Holds (KeepsPages w) (decommit w pid p r range)
   by_cleared w pid p r test range lives found = by_changed w pid p r test (λ row. reserved_row) range answer.Ok lives found (cleared_kept fresh)
 
-  by_removed : (w : WorldOf B) (pid : ℕ) (p : ProcessOf B) (i : ℕ) (a : Answer) → process_of w pid ≡ Some p → Holds (KeepsPages w) (done a (set_regions w pid p (remove p.regions i)))
-  by_removed w pid p i a lives =
-      by_put w pid p (Some (record p { regions = remove p.regions i })) a lives (λ h page.
-      record { kept = λ x e. (kept_same fresh (own_page p.regions page)).kept x (own_removed first_user_page page i p.regions x (h pid p lives).laid_out e) })
+  by_removed : (w : WorldOf B) (pid : ℕ) (p : ProcessOf B) (r : Found (RegionOf B)) (test : RegionOf B → Bool) (a : Answer) → process_of w pid ≡ Some p → first_where test p.regions ≡ Some r → Holds (KeepsPages w) (done a (set_regions w pid p (remove p.regions r.place)))
+  by_removed w pid p r test a lives found =
+      by_put w pid p (Some (record p { regions = remove p.regions r.place })) a lives (λ h page.
+      removed_keeps (λ (r : RegionOf B). own_in r page) (Kept fresh) (kept_same fresh) first_user_page r.place page r.thing p.regions (h pid p lives).laid_out (found_stands test p.regions r found).there (λ o. record { kept = λ x e. cc }))
 
   -- stacks stand beside the pages
   pub by_beside : (w v : WorldOf B) (stacks : Numbered StackOf) (a : Answer) → Holds (KeepsPages w) (done a v) → Holds (KeepsPages w) (done a (record v { stacks = stacks }))
   by_beside w v stacks a h = record { it = record { kept = λ spaces. let k = h.it.kept spaces in record { own = k.own; shared = k.shared } } }
 
-  by_release : (w : WorldOf B) (pid : ℕ) (p : ProcessOf B) (i : ℕ) (ends : StackOf → Bool) (a : Answer) → process_of w pid ≡ Some p → Holds (KeepsPages w) (done a (end_stacks (set_regions w pid p (remove p.regions i)) ends))
-  by_release w pid p i ends a lives = by_beside w (set_regions w pid p (remove p.regions i)) _ a (by_removed w pid p i a lives)
+  by_release : (w : WorldOf B) (pid : ℕ) (p : ProcessOf B) (r : Found (RegionOf B)) (test : RegionOf B → Bool) (ends : StackOf → Bool) (a : Answer) → process_of w pid ≡ Some p → first_where test p.regions ≡ Some r → Holds (KeepsPages w) (done a (end_stacks (set_regions w pid p (remove p.regions r.place)) ends))
+  by_release w pid p r test ends a lives found = by_beside w (set_regions w pid p (remove p.regions r.place)) _ a (by_removed w pid p r test a lives found)
 
   pub by_flags : (w : WorldOf B) (pid : ℕ) (p : ProcessOf B) (r : Found (RegionOf B)) (flags : List Bool → List Bool) (a : Answer) (test : RegionOf B → Bool) → process_of w pid ≡ Some p → first_where test p.regions ≡ Some r → Holds (KeepsPages w) (done a (set_region w pid p r.place (change_flags flags r.thing)))
   by_flags w pid p r flags a test lives found =
       by_put w pid p (Some (record p { regions = set p.regions r.place (change_flags flags r.thing) })) a lives (λ h page.
-      own_set fresh page r.place p.regions r.thing (change_flags flags r.thing) (found_stands test p.regions r found).there refl refl (kept_same fresh (own_in r.thing page)))
+      set_keeps (λ (r : RegionOf B). own_in r page) (Kept fresh) (kept_same fresh) first_user_page r.place page p.regions r.thing (change_flags flags r.thing) (h pid p lives).laid_out (found_stands test p.regions r found).there
+      (record { base = refl; rows = refl }) (kept_same fresh (own_in r.thing page)))
 
   by_handles : (w : WorldOf B) (pid : ℕ) (p : ProcessOf B) (handles : Numbered ℕ) (a : Answer) → process_of w pid ≡ Some p → Holds (KeepsPages w) (done a (set_process w pid (Some (record p { handles = handles }))))
   by_handles w pid p handles a lives = by_put w pid p (Some (record p { handles = handles })) a lives (λ h page. kept_same fresh (own_page p.regions page))
+
+  at_handle_or : (w : WorldOf B) (pid : ℕ) (p : ProcessOf B) (found : Option ℕ) (made : OutcomeOf B) → process_of w pid ≡ Some p → Holds (KeepsPages w) made → Holds (KeepsPages w) (handle_or w pid p found made)
+  at_handle_or w pid p None made lives h = h
+  at_handle_or w pid p (Some number) made lives h = by_handles w pid p (p.handles ++ Some number ∷ []) _ lives
 
 module _ {B : Type 0} (fill : ℕ → B) where
   -- ---- alloc
@@ -191,12 +176,8 @@ module _ {B : Type 0} (fill : ℕ → B) where
         };
       }
 
-  in_handle_or : (w : WorldOf B) (pid : ℕ) (p : ProcessOf B) (found : Option ℕ) (made : OutcomeOf B) → process_of w pid ≡ Some p → Holds (KeepsPages (fill 0) w) made → Holds (KeepsPages (fill 0) w) (handle_or w pid p found made)
-  in_handle_or w pid p None made lives h = h
-  in_handle_or w pid p (Some number) made lives h = by_handles (fill 0) w pid p (p.handles ++ Some number ∷ []) _ lives
-
   pub in_create : (w : WorldOf B) (pid size flags : ℕ) (name : Option Text) → Holds (KeepsPages (fill 0) w) (create fill w pid size flags name)
-  in_create w pid size flags name = search (tables, by_refusal, in_handle_or, by_section) depth 14
+  in_create w pid size flags name = search (tables, by_refusal, at_handle_or, by_section) depth 14
 
 -- ---- the other calls
 
@@ -217,10 +198,6 @@ module _ {B : Type 0} (fresh : B) where
   by_file_section w pid p s lives =
       let h = by_handles fresh w pid p (p.handles ++ Some (length w.sections) ∷ []) answer.Ok lives in
       record { it = record { kept = λ spaces. record { own = (h.it.kept spaces).own; shared = (h.it.kept spaces).shared } } }
-
-  at_handle_or : (w : WorldOf B) (pid : ℕ) (p : ProcessOf B) (found : Option ℕ) (made : OutcomeOf B) → process_of w pid ≡ Some p → Holds (KeepsPages fresh w) made → Holds (KeepsPages fresh w) (handle_or w pid p found made)
-  at_handle_or w pid p None made lives h = h
-  at_handle_or w pid p (Some number) made lives h = by_handles fresh w pid p (p.handles ++ Some number ∷ []) _ lives
 
   pub in_create_file : (w : WorldOf B) (pid : ℕ) (file : Text) (flags : ℕ) (name : Option Text) → Holds (KeepsPages fresh w) (create_file w pid file flags name)
   in_create_file w pid file flags name = search (tables, by_refusal, at_handle_or, by_file_section) depth 14
@@ -276,7 +253,7 @@ module _ {B : Type 0} (fresh : B) where
   by_new w a =
       record {
         it = record {
-          kept = λ h. record { own = λ j page. own_pushed fresh w.processes (Some no_regions) j page refl; shared = λ area i. kept_same fresh (shared_page w area i) };
+          kept = λ h. record { own = λ j page. push_at (λ o n. Kept fresh (own_of o page) (own_of n page)) w.processes j (Some no_regions) (record { kept = λ x e. cc }) (λ o. kept_same fresh (own_of o page)); shared = λ area i. kept_same fresh (shared_page w area i) };
         };
       }
 

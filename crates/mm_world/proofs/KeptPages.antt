@@ -1,22 +1,14 @@
 -- After a call each live page holds what it held before, and a page that comes to be is zero.
-use Rattle.std.proofs.Common.{◌≡◌, ℕ, zero, suc, ◌+◌, ◌-◌, ◌≤◌, Bool, true, false, Option, Some, None, List, [], ◌∷◌, ◌++◌, ◌⊎◌, inl, inr, refl, sym, ◌∙◌, ap, cond, arith, length, set, replicate, slice_get, is_some, ◌&&◌, ◌||◌, nat_lt, nat_le, option_map, unwrap_or}
-use Rattle.std.specs.Prelude.{insert, remove, option_and_then}
+use Rattle.std.proofs.Common.{◌≡◌, ℕ, zero, suc, ◌+◌, ◌-◌, Bool, true, false, Option, Some, None, List, [], ◌∷◌, ◌++◌, ◌⊎◌, inl, inr, refl, sym, ◌∙◌, ap, cond, set, replicate, slice_get, is_some, ◌||◌, unwrap_or}
+use Rattle.std.specs.Prelude.{option_and_then}
 use Rattle.std.specs.List.{list_any}
-use Rattle.std.proofs.lemmas.Bool.{leb-true, le-leb}
-use Rattle.std.proofs.lemmas.List.{get_or-set_same, get_or-set_other}
 use Rattle.std.proofs.lemmas.Option.{get_or_from_slice_get}
-use Rattle.mm_types.proofs.Cells.{same_or_not}
-use Rattle.mm_types.specs.declared.views.Kind.{Kind}
+use Rattle.mm_types.specs.{Kind, Range, holds_page, meets}
 use Rattle.mm_types.specs.declared.views.Kind.TheVariants as kind
-use Rattle.mm_types.specs.Address.{Range, end_of, holds_page, meets}
-use Rattle.mm_world.specs.World.{WorldOf, ProcessOf, RegionOf, RowOf, AreaOf, SectionOf, Numbered, numbered, pages_of}
-use Rattle.mm_world.specs.Find.{Found, one_later, change_range, region_with, ranges_of, process_of, set_process, no_area, shared_page}
-use Rattle.mm_world.specs.Rows.{row_at, reserved_row, commit, protected, change_rows}
-use Rattle.mm_world.specs.Keys.{own_page}
-use Rattle.mm_world.specs.Sections.{settled_areas, uses}
-use Rattle.mm_world.specs.WellFormed.{LaidOut}
-use Rattle.mm_world.proofs.Finding.{numbered_inside, numbered_there}
-use Rattle.mm_world.proofs.LaidOut.{and-true, or-false, less}
+use Rattle.mm_world.specs.{WorldOf, ProcessOf, RegionOf, RowOf, AreaOf, SectionOf, Numbered, numbered, pages_of, change_range, ranges_of, process_of}
+use Rattle.mm_world.specs.{no_area, shared_page, row_at, reserved_row, commit, protected, change_rows, own_page, settled_areas, uses}
+use Rattle.mm_world.proofs.Finding.{numbered_there}
+use Rattle.mm_world.proofs.Regions.{has_free}
 
 module _ {B : Type 0} where
   -- ---- the bytes of a page, region by region
@@ -24,101 +16,8 @@ module _ {B : Type 0} where
   abbrev pub own_in : RegionOf B → ℕ → Option B
   own_in r page = option_and_then (λ row. row.own) (row_at r page)
 
-  own_found : (rs : List (RegionOf B)) (page : ℕ) (o : Option (Found (RegionOf B))) → option_and_then (λ (r : Found (RegionOf B)). own_in r.thing page) (option_map one_later o) ≡ option_and_then (λ (r : Found (RegionOf B)). own_in r.thing page) o
-  own_found rs page None = refl
-  own_found rs page (Some r) = refl
-
-  pub own_page-cons : (r : RegionOf B) (rs : List (RegionOf B)) (page : ℕ) → own_page (r ∷ rs) page ≡ cond (holds_page (pages_of r) page) (own_in r page) (own_page rs page)
-  own_page-cons r rs page = by_test (holds_page (pages_of r) page)
-    where
-      by_test : (b : Bool) → option_and_then (λ (x : Found (RegionOf B)). own_in x.thing page) (cond b (Some (record { place = 0; thing = r })) (option_map one_later (region_with rs page))) ≡ cond b (own_in r page) (own_page rs page)
-      by_test true = refl
-      by_test false = own_found rs page (region_with rs page)
-
-  holds_from : (r : RegionOf B) (page : ℕ) → holds_page (pages_of r) page ≡ true → r.base ≤ page
-  holds_from r page e = leb-true _ _ (and-true (nat_le r.base page) (nat_lt page (end_of (pages_of r))) e).0
-
-  -- own bytes stand behind the place from which the regions are laid out
-  pub own_above : (from page : ℕ) (rs : List (RegionOf B)) (x : B) → LaidOut from rs → own_page rs page ≡ Some x → from ≤ page
-  own_above from page [] x h e = cc
-  own_above from page (r ∷ rs) x h e = by_test (holds_page (pages_of r) page) refl (own_above (end_of (pages_of r)) page rs x h.1)
-    where
-      by_test : (b : Bool) → holds_page (pages_of r) page ≡ b → (own_page rs page ≡ Some x → end_of (pages_of r) ≤ page) → from ≤ page
-      by_test true holds later = omega (arith, holds_from r page holds, h.0.later)
-      by_test false holds later = omega (arith, h.0.later, later (sym (own_page-cons r rs page ∙ ap (λ b. cond b (own_in r page) (own_page rs page)) holds) ∙ e))
-
-  behind : (r : RegionOf B) (page : ℕ) → end_of (pages_of r) ≤ page → holds_page (pages_of r) page ≡ false
-  behind r page low = by_test (holds_page (pages_of r) page) refl
-    where
-      by_test : (b : Bool) → holds_page (pages_of r) page ≡ b → b ≡ false
-      by_test true e = absurd (omega (arith, low, less _ _ (and-true (nat_le r.base page) (nat_lt page (end_of (pages_of r))) e).1))
-      by_test false e = refl
-
-  own_later : (r : RegionOf B) (rs : List (RegionOf B)) (page : ℕ) → holds_page (pages_of r) page ≡ false → own_page (r ∷ rs) page ≡ own_page rs page
-  own_later r rs page e = own_page-cons r rs page ∙ ap (λ b. cond b (own_in r page) (own_page rs page)) e
-
-  own_here : (r : RegionOf B) (rs : List (RegionOf B)) (page : ℕ) → holds_page (pages_of r) page ≡ true → own_page (r ∷ rs) page ≡ own_in r page
-  own_here r rs page e = own_page-cons r rs page ∙ ap (λ b. cond b (own_in r page) (own_page rs page)) e
-
-  -- ---- a region is removed
-
-  pub own_removed : (from page i : ℕ) (rs : List (RegionOf B)) (x : B) → LaidOut from rs → own_page (remove rs i) page ≡ Some x → own_page rs page ≡ Some x
-  own_removed from page zero [] x h e = e
-  own_removed from page (suc i) [] x h e = e
-  own_removed from page zero (r ∷ rs) x h e = own_later r rs page (behind r page (own_above (end_of (pages_of r)) page rs x h.1 e)) ∙ e
-  own_removed from page (suc i) (r ∷ rs) x h e = by_test (holds_page (pages_of r) page) refl (own_removed (end_of (pages_of r)) page i rs x h.1)
-    where
-      by_test : (b : Bool) → holds_page (pages_of r) page ≡ b → (own_page (remove rs i) page ≡ Some x → own_page rs page ≡ Some x) → own_page (r ∷ rs) page ≡ Some x
-      by_test true holds later = own_here r rs page holds ∙ sym (own_here r (remove rs i) page holds) ∙ e
-      by_test false holds later = own_later r rs page holds ∙ later (sym (own_later r (remove rs i) page holds) ∙ e)
-
-  -- ---- a region is added
-
-  abbrev Added : ℕ → RegionOf B → List (RegionOf B) → B → Type 0
-  Added page new rs x = ((holds_page (pages_of new) page ≡ true) × (own_in new page ≡ Some x)) ⊎ (own_page rs page ≡ Some x)
-
-  own_in_front : (page : ℕ) (new : RegionOf B) (rs : List (RegionOf B)) (x : B) → own_page (new ∷ rs) page ≡ Some x → Added page new rs x
-  own_in_front page new rs x e = by_test (holds_page (pages_of new) page) refl
-    where
-      by_test : (b : Bool) → holds_page (pages_of new) page ≡ b → Added page new rs x
-      by_test true holds = inl (holds, sym (own_here new rs page holds) ∙ e)
-      by_test false holds = inr (sym (own_later new rs page holds) ∙ e)
-
-  pub own_added : (page i : ℕ) (new : RegionOf B) (rs : List (RegionOf B)) (x : B) → own_page (insert rs i new) page ≡ Some x → Added page new rs x
-  own_added page zero new rs x e = own_in_front page new rs x e
-  own_added page (suc i) new [] x e = own_in_front page new [] x e
-  own_added page (suc i) new (r ∷ rs) x e = by_test (holds_page (pages_of r) page) refl (own_added page i new rs x)
-    where
-      by_test : (b : Bool) → holds_page (pages_of r) page ≡ b → (own_page (insert rs i new) page ≡ Some x → Added page new rs x) → Added page new (r ∷ rs) x
-      by_test true holds later = inr (own_here r rs page holds ∙ sym (own_here r (insert rs i new) page holds) ∙ e)
-      by_test false holds later =
-          elim (later (sym (own_later r (insert rs i new) page holds) ∙ e)) [
-            | inl here ↦ inl here
-            | inr there ↦ inr (own_later r rs page holds ∙ there)
-          ]
-
-  -- a page of a new region had no bytes
-  meets_page : (new r : RegionOf B) (page : ℕ) → holds_page (pages_of new) page ≡ true → holds_page (pages_of r) page ≡ true → meets (pages_of new) (pages_of r) ≡ true
-  meets_page new r page in_new in_r =
-      let a = and-true (nat_le new.base page) (nat_lt page (end_of (pages_of new))) in_new in
-      let b = and-true (nat_le r.base page) (nat_lt page (end_of (pages_of r))) in_r in
-      both (nat_lt new.base (end_of (pages_of r))) (nat_lt r.base (end_of (pages_of new)))
-      (le-leb _ _ (omega (arith, leb-true _ _ a.0, less _ _ b.1)))
-      (le-leb _ _ (omega (arith, leb-true _ _ b.0, less _ _ a.1)))
-    where
-      both : (x y : Bool) → x ≡ true → y ≡ true → (x && y) ≡ true
-      both true y e f = f
-      both false y e f = cc
-
   pub own_free : (page : ℕ) (new : RegionOf B) (rs : List (RegionOf B)) → list_any (meets (pages_of new)) (ranges_of rs) ≡ false → holds_page (pages_of new) page ≡ true → own_page rs page ≡ None
-  own_free page new [] free holds = refl
-  own_free page new (r ∷ rs) free holds =
-      let apart = or-false (meets (pages_of new) (pages_of r)) (list_any (meets (pages_of new)) (ranges_of rs)) free in
-      by_test (holds_page (pages_of r) page) refl apart.0 (own_free page new rs apart.1 holds)
-    where
-      by_test : (b : Bool) → holds_page (pages_of r) page ≡ b → meets (pages_of new) (pages_of r) ≡ false → own_page rs page ≡ None → own_page (r ∷ rs) page ≡ None
-      by_test true in_r apart later = let bad : true ≡ false = sym (meets_page new r page holds in_r) ∙ apart in cc
-      by_test false in_r apart later = own_later r rs page in_r ∙ later
+  own_free page new rs = has_free (λ r. own_in r page) new rs page
 
   -- ---- a region's rows are changed
 
@@ -128,36 +27,6 @@ module _ {B : Type 0} where
 
   pub kept_same : (fresh : B) (o : Option B) → Kept fresh o o
   kept_same fresh o = record { kept = λ x e. sym (ap (λ (o : Option B). unwrap_or o fresh) e) }
-
-  -- each row of the new region keeps what the old one had
-  pub own_set : (fresh : B) (page i : ℕ) (rs : List (RegionOf B)) (r new : RegionOf B) → slice_get rs i ≡ Some r → new.base ≡ r.base → length new.rows ≡ length r.rows → Kept fresh (own_in r page) (own_in new page) → Kept fresh (own_page rs page) (own_page (set rs i new) page)
-  own_set fresh page i [] r new there base rows k = cc
-  own_set fresh page zero (y ∷ rs) r new there base rows k = by_test (holds_page (pages_of y) page) refl
-    where
-      same : y ≡ r
-      same = cc
-
-      held : holds_page (pages_of new) page ≡ holds_page (pages_of y) page
-      held = (λ i. holds_page (record { first = base i; count = rows i }) page) ∙ ap (λ (r : RegionOf B). holds_page (pages_of r) page) (sym same)
-
-      by_test : (b : Bool) → holds_page (pages_of y) page ≡ b → Kept fresh (own_page (y ∷ rs) page) (own_page (new ∷ rs) page)
-      by_test true holds =
-          record {
-            kept = λ x e.
-                k.kept x (sym (own_here new rs page (held ∙ holds)) ∙ e)
-                ∙ ap (λ (o : Option B). unwrap_or o fresh) (ap (λ (r : RegionOf B). own_in r page) (sym same) ∙ sym (own_here y rs page holds));
-          }
-      by_test false holds =
-          record {
-            kept = λ x e.
-                (kept_same fresh (own_page rs page)).kept x (sym (own_later new rs page (held ∙ holds)) ∙ e)
-                ∙ ap (λ (o : Option B). unwrap_or o fresh) (sym (own_later y rs page holds));
-          }
-  own_set fresh page (suc i) (y ∷ rs) r new there base rows k = by_test (holds_page (pages_of y) page) refl (own_set fresh page i rs r new there base rows k)
-    where
-      by_test : (b : Bool) → holds_page (pages_of y) page ≡ b → Kept fresh (own_page rs page) (own_page (set rs i new) page) → Kept fresh (own_page (y ∷ rs) page) (own_page (y ∷ set rs i new) page)
-      by_test true holds later = record { kept = λ x e. (kept_same fresh (own_in y page)).kept x (sym (own_here y (set rs i new) page holds) ∙ e) ∙ ap (λ (o : Option B). unwrap_or o fresh) (sym (own_here y rs page holds)) }
-      by_test false holds later = record { kept = λ x e. later.kept x (sym (own_later y (set rs i new) page holds) ∙ e) ∙ ap (λ (o : Option B). unwrap_or o fresh) (sym (own_later y rs page holds)) }
 
 -- what a changed range has at a place
 pub record Got {A : Type 0} (change : A → A) (xs : List A) (k : ℕ) (y : A) : Type 0 where
@@ -226,26 +95,6 @@ module _ {B : Type 0} where
   pub record PagesKept (fresh : B) (w v : WorldOf B) : Type 0 where
     pub own : (pid page : ℕ) → Kept fresh (own_of (process_of w pid) page) (own_of (process_of v pid) page)
     pub shared : (area i : ℕ) → Kept fresh (shared_page w area i) (shared_page v area i)
-
-  pub own_put : (fresh : B) (w : WorldOf B) (pid : ℕ) (p : ProcessOf B) (q : Option (ProcessOf B)) → process_of w pid ≡ Some p → ((page : ℕ) → Kept fresh (own_page p.regions page) (own_of q page)) → (j page : ℕ) → Kept fresh (own_of (process_of w j) page) (own_of (process_of (set_process w pid q) j) page)
-  own_put fresh w pid p q lives keeps j page =
-      let inside = numbered_inside w.processes pid p lives in
-      elim (same_or_not j pid) [
-        | inl same ↦ record {
-          kept = λ x e.
-              (keeps page).kept x (ap (λ o. own_of o page) (sym (get_or-set_same w.processes pid q None inside) ∙ ap (λ (k : ℕ). process_of (set_process w pid q) k) (sym same)) ∙ e)
-              ∙ ap (λ (o : Option B). unwrap_or o fresh) (ap (λ o. own_of o page) (sym lives ∙ ap (λ (k : ℕ). process_of w k) (sym same)));
-        }
-        | inr other ↦ record {
-          kept = λ x e. (kept_same fresh (own_of (process_of w j) page)).kept x (ap (λ o. own_of o page) (sym (get_or-set_other w.processes pid j q None other)) ∙ e);
-        }
-      ]
-
-  pub own_pushed : (fresh : B) (ps : Numbered (ProcessOf B)) (q : Option (ProcessOf B)) (j page : ℕ) → own_of q page ≡ None → Kept fresh (own_of (numbered ps j) page) (own_of (numbered (ps ++ q ∷ []) j) page)
-  own_pushed fresh [] q zero page none = record { kept = λ x e. let bad : None ≡ Some x = sym none ∙ e in cc }
-  own_pushed fresh [] q (suc j) page none = record { kept = λ x e. cc }
-  own_pushed fresh (p ∷ ps) q zero page none = kept_same fresh (own_of p page)
-  own_pushed fresh (p ∷ ps) q (suc j) page none = own_pushed fresh ps q j page none
 
   -- ---- areas
 

@@ -1,35 +1,22 @@
 -- What threads keep changes by `begin`, `resume` and `exit` alone, as their answers tell; so do their stacks by `free` and `exit`, but for lines
 -- of stacks.
-use Rattle.std.proofs.Common.{◌≡◌, ℕ, zero, suc, Bool, true, false, Option, Some, None, List, [], ◌∷◌, refl, sym, ◌∙◌, ap, subst, cond, map, set, ◌&&◌, option_map}
-use Rattle.std.specs.Prelude.{◌==◌, if◌then◌else◌, slice_set, is_some}
-use Rattle.mm_types.specs.declared.answers.Answer.{Answer}
+use Rattle.std.proofs.Common.{◌≡◌, ℕ, zero, suc, Bool, true, false, Option, Some, None, List, [], ◌∷◌, refl, sym, ◌∙◌, ap, cond, map, set}
+use Rattle.std.specs.Prelude.{◌==◌, if◌then◌else◌, slice_set}
+use Rattle.mm_types.specs.{Answer, Code, AccessSpec, Event, Pid, Tid, Place, release_type}
 use Rattle.mm_types.specs.declared.answers.Answer.TheVariants as answer
-use Rattle.mm_types.specs.declared.codes.Code.{Code}
 use Rattle.mm_types.specs.declared.codes.Raise.TheVariants as raise
-use Rattle.mm_types.specs.declared.events.AccessSpec.{AccessSpec}
 use Rattle.mm_types.specs.declared.events.AccessSpec.TheVariants as spec
-use Rattle.mm_types.specs.declared.events.Event.{Event}
 use Rattle.mm_types.specs.declared.events.Event.TheVariants as line
-use Rattle.mm_types.specs.declared.answers.Why.{Why}
-use Rattle.mm_types.specs.declared.numbers.Pid.{Pid}
-use Rattle.mm_types.specs.declared.numbers.Tid.{Tid}
-use Rattle.mm_types.specs.declared.numbers.Place.{Place}
-use Rattle.mm_types.specs.Allocation.{release_type}
-use Rattle.mm_world.specs.World.{WorldOf, World, ProcessOf, KeptOf, StackOf, Page, Numbered}
-use Rattle.mm_world.specs.Find.{unless}
-use Rattle.mm_world.specs.Outcome.{OutcomeOf, done, refused}
-use Rattle.mm_world.specs.Keys.{Committed}
-use Rattle.mm_world.specs.Free.{free, is_stack_at}
-use Rattle.mm_world.specs.Processes.{exit, kept_of_others}
-use Rattle.mm_world.specs.Access.{Attempt, ReadOf, WriteOf, Execute, access, access_at, perform, address_in, attempt_in}
+use Rattle.mm_world.specs.{WorldOf, ProcessOf, KeptOf, StackOf, Page, Numbered, unless, OutcomeOf, done, refused, Committed, free, is_stack_at, exit}
+use Rattle.mm_world.specs.{kept_of_others, Attempt, ReadOf, WriteOf, Execute, access, access_at, perform, address_in, attempt_in, step, world_told}
+use Rattle.mm_world.specs.{begin, resume, kept_by, page_written, write_of, writes_of, unless_in, ends_none, writes_after}
+use Rattle.mm_world.specs.World.{World}
 use Rattle.mm_world.specs.Report.{Report}
-use Rattle.mm_world.specs.Failure.{Need, wait_failed, pending}
-use Rattle.mm_world.specs.Step.{unpaged, told, step, stepped, world_told, begin, resume, resume_told, waiting, need_at, kept_by}
+use Rattle.mm_world.proofs.Determined.{may_tell, decided}
 use Rattle.mm_world.proofs.Tables.{Holds, tables}
-use Rattle.mm_world.proofs.Edits.{Rises, Terms, Edit, Rest, Regions, HandleComes, HandleGoes, SectionComes, AreaComes, AreaChanges, FileComes, Settles, ProcessComes, ProcessGoes, Edits, fold}
+use Rattle.mm_world.proofs.Edits.{Rises, Terms, Edit, Rest, Edits, fold}
 use Rattle.mm_world.proofs.LineEdits as edits
 use Rattle.mm_world.proofs.LineEdits.{keeps_accesses, keeps_stacks}
-use Rattle.mm_world.specs.Writes.{page_written, write_of, writes_of, unless_in, ends_none, writes_after}
 
 -- ---- what edits leave of threads
 
@@ -45,16 +32,7 @@ module _ {B : Type 0} (t : Terms) where
 
   each : (o w v : WorldOf B) → Edit t w v → Threads o w → Threads o v
   each o w _ (Rest v b) h = record { kept = λ e. b.kept e ∙ h.kept e; stacks = λ e. b.stacks e ∙ h.stacks e }
-  each o w _ (Regions pid p rs lives e) h = record { kept = h.kept; stacks = h.stacks }
-  each o w _ (HandleComes pid p number lives there) h = record { kept = h.kept; stacks = h.stacks }
-  each o w _ (HandleGoes pid p i lives) h = record { kept = h.kept; stacks = h.stacks }
-  each o w _ (ProcessComes room) h = record { kept = h.kept; stacks = h.stacks }
-  each o w _ (ProcessGoes pid p lives ends charged) h = record { kept = h.kept; stacks = h.stacks }
-  each o w _ (SectionComes s inside) h = record { kept = h.kept; stacks = h.stacks }
-  each o w _ (AreaComes a charged) h = record { kept = h.kept; stacks = h.stacks }
-  each o w _ (AreaChanges at a same charged) h = record { kept = h.kept; stacks = h.stacks }
-  each o w _ (FileComes f inside) h = record { kept = h.kept; stacks = h.stacks }
-  each o w _ (Settles falls) h = record { kept = h.kept; stacks = h.stacks }
+  each o w v e h = record { kept = h.kept; stacks = h.stacks }
 
   threads : (w v : WorldOf B) → Edits t w v → Threads w v
   threads w v es = fold t (Threads w) (each w) w v es (record { kept = λ e. refl; stacks = λ e. refl })
@@ -205,41 +183,20 @@ in_resume w tid (Some k) =
     }
 
 -- what the store tells of a `resume` is that its access failed, or waits
-told_waiting : (w : World) (tid : Tid) (n : Option Need) (before after : Report) (a : Answer) → waiting w n before after ≡ Some a → TellsThreads w (line.Resume tid) (done a (world_told w (line.Resume tid) a))
-told_waiting w tid None before after a e = cc
-told_waiting w tid (Some n) before after a e = by_why (pending w.machine.depth n before after) e
-  where
-    by_why : (o : Option Why) → option_map answer.Pending o ≡ Some a → TellsThreads w (line.Resume tid) (done a (world_told w (line.Resume tid) a))
-    by_why None e = cc
-    by_why (Some why) e = subst (λ (a : Answer). TellsThreads w (line.Resume tid) (done a (world_told w (line.Resume tid) a))) (let same : answer.Pending why ≡ a = cc in same) (record { tells = refl; stacks = λ other. refl })
-
-told_resume : (w : World) (tid : Tid) (kept : Option KeptOf) (before after : Report) (a : Answer) → resume_told w tid.0 kept before after ≡ Some a → TellsThreads w (line.Resume tid) (done a (world_told w (line.Resume tid) a))
-told_resume w tid None before after a e = cc
-told_resume w tid (Some k) before after a e =
-    let n = need_at w k.pid (address_in k.access) (attempt_in k.access) in
-    by_failure (is_some n && wait_failed (before.wait tid.0)) n e
-  where
-    by_failure : (b : Bool) (n : Option Need) → cond b (Some (answer.Raised raise.InPageError)) (waiting w n before after) ≡ Some a → TellsThreads w (line.Resume tid) (done a (world_told w (line.Resume tid) a))
-    by_failure true n e = subst (λ (a : Answer). TellsThreads w (line.Resume tid) (done a (world_told w (line.Resume tid) a))) (let same : answer.Raised raise.InPageError ≡ a = cc in same) (record { tells = map_set w.kept tid.0 None; stacks = λ other. refl })
-    by_failure false n e = told_waiting w tid n before after a e
+told_resume : (w : World) (tid : Tid) (a : Answer) → may_tell (line.Resume tid) a ≡ true → TellsThreads w (line.Resume tid) (done a (world_told w (line.Resume tid) a))
+told_resume w tid (answer.Raised raise.InPageError) t = record { tells = map_set w.kept tid.0 None; stacks = λ other. refl }
+told_resume w tid (answer.Pending why) t = record { tells = refl; stacks = λ other. refl }
+told_resume w tid _ t = cc
 
 told_begin : (w : World) (tid : Tid) (pid : Pid) (what : AccessSpec) (a : Answer) → TellsThreads w (line.Begin tid pid what) (done a (world_told w (line.Begin tid pid what) a))
 told_begin w tid pid what (answer.Pending why) = record { tells = map_set w.kept tid.0 (Some (record { pid = pid.0; access = what })); stacks = λ other. refl }
 told_begin w tid pid what a = record { tells = refl; stacks = λ other. refl }
 
--- what the store tells, or what unpaged address spaces do
-either : (w : World) (e : Event) (before after : Report) → TellsThreads w e (unpaged w e) → ((a : Answer) → told w e before after ≡ Some a → TellsThreads w e (done a (world_told w e a))) → TellsThreads w e (step w e before after)
-either w e before after now later = by_told (told w e before after) refl
-  where
-    by_told : (t : Option Answer) → told w e before after ≡ t → TellsThreads w e (stepped w e t)
-    by_told None is = now
-    by_told (Some a) is = later a is
-
 pub in_step : (w : World) (e : Event) (before after : Report) → TellsThreads w e (step w e before after)
 in_step w (line.Exit pid) before after = (in_exit w pid).it
 in_step w (line.Free pid addr size type) before after = (in_free w pid addr size type).it
-in_step w (line.Begin tid pid what) before after = either w _ before after (in_begin w tid pid what) (λ a is. told_begin w tid pid what a)
-in_step w (line.Resume tid) before after = either w _ before after (in_resume w tid (kept_by w tid.0)) (told_resume w tid (kept_by w tid.0) before after)
+in_step w (line.Begin tid pid what) before after = decided (TellsThreads w) w (line.Begin tid pid what) before after (in_begin w tid pid what) (λ a h. told_begin w tid pid what a)
+in_step w (line.Resume tid) before after = decided (TellsThreads w) w (line.Resume tid) before after (in_resume w tid (kept_by w tid.0)) (λ a h. told_resume w tid a h.tells)
 in_step w (line.Stack tid pid reserve commit) before after = tells_kept w _ before after refl (λ other. cc) (λ a. refl) (λ a. refl)
 in_step w (line.Probe tid addr) before after = tells_kept w _ before after refl (λ other. cc) (λ a. refl) (λ a. refl)
 in_step w e before after = tells_kept w e before after refl (λ other. refl) (λ a. refl) (λ a. refl)

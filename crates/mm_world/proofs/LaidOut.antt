@@ -6,11 +6,8 @@ use Rattle.std.specs.Option.{IfSome}
 use Rattle.std.proofs.lemmas.Option.{IfSome_then}
 use Rattle.std.proofs.lemmas.Bool.{leb-true, leb-false}
 use Rattle.std.proofs.lemmas.List.Sums.{sum_by-cons}
-use Rattle.mm_types.specs.Address.{Range, end_of, meets, is_free, are_user_pages, end_of_user_pages, granule_pages, granule_range, lowest_gap, least_from}
-use Rattle.mm_world.specs.World.{RegionOf, pages_of}
-use Rattle.mm_world.specs.Find.{is_private, add_region, ranges_of, placed}
-use Rattle.mm_world.specs.Rows.{change_flags}
-use Rattle.mm_world.specs.WellFormed.{FlagsFit, RegionFits, LaidOut}
+use Rattle.mm_types.specs.{Range, end_of, meets, is_free, are_user_pages, end_of_user_pages, granule_pages, granule_range, lowest_gap, least_from}
+use Rattle.mm_world.specs.{RegionOf, pages_of, is_private, add_region, ranges_of, placed, change_flags, FlagsFit, RegionFits, LaidOut}
 
 pub less : (a b : ℕ) → nat_lt a b ≡ true → a < b
 less a b e = leb-true (suc a) b e

@@ -1,22 +1,12 @@
 -- The charge is within the limit in each world that lines reach.
-use Rattle.std.proofs.Common.{◌≡◌, ℕ, ◌-◌, ◌≤◌, Option, Some, None, refl, arith, true, false}
-use Rattle.mm_types.specs.declared.answers.Answer.{Answer}
-use Rattle.mm_types.specs.declared.events.Event.{Event}
+use Rattle.std.proofs.Common.{◌≡◌, ℕ, ◌-◌, ◌≤◌, Some, refl, arith, true, false}
+use Rattle.mm_types.specs.{Answer, Event, address_of, MachineOf, commit_type}
 use Rattle.mm_types.specs.declared.events.Event.TheVariants as line
-use Rattle.mm_types.specs.Address.{address_of}
-use Rattle.mm_types.specs.Machine.{MachineOf}
-use Rattle.mm_world.specs.World.{StackOf, World, ProcessOf, Page, filled}
-use Rattle.mm_world.specs.Find.{process_of, stack_by}
-use Rattle.mm_world.specs.Charge.{charge, limit}
-use Rattle.mm_world.specs.Keys.{Committed, committed_at, guard_off}
-use Rattle.mm_world.specs.Outcome.{done}
-use Rattle.mm_types.specs.Allocation.{commit_type}
-use Rattle.mm_world.specs.Access.{Attempt, access}
+use Rattle.mm_world.specs.{StackOf, ProcessOf, Page, filled, process_of, charge, limit, Committed, committed_at, guard_off, done, Attempt, access}
+use Rattle.mm_world.specs.{step, stack, probe, grown, made, KeepsLimit, Reached, First, Next}
+use Rattle.mm_world.specs.World.{World}
 use Rattle.mm_world.specs.Report.{Report}
-use Rattle.mm_world.specs.Step.{step}
-use Rattle.mm_world.specs.Stack.{stack, probe_at, probe_in, probe_of, grown, made}
-use Rattle.mm_world.specs.Laws.{KeepsLimit, Reached, First, Next}
-use Rattle.mm_world.proofs.Tables.{Holds, tables}
+use Rattle.mm_world.proofs.Tables.{Holds, tables, at_probe}
 use Rattle.mm_world.proofs.Charges.{by_edits, charge_goes, keeping, kept_same, keeps_alloc, keeps_protect, keeps_map, keeps_create}
 use Rattle.mm_world.proofs.Edits.{Terms, Stays}
 use Rattle.mm_world.proofs.LineEdits as edits
@@ -48,17 +38,8 @@ in_grown w tid s p c page lives committed =
     let h = keeps_alloc filled v s.pid (address_of (s.guard_page - 1)) 1 commit_type 0x104 in
     record { it = record { kept = λ within. h.it.kept (omega (arith, charge-guard_off w s.pid p c page lives committed)) } }
 
-in_probe_at : (w : World) (tid : ℕ) (p : ProcessOf Page) (s : StackOf) (page : ℕ) (c : Option (Committed Page)) → process_of w s.pid ≡ Some p → committed_at w p.regions page ≡ c → Holds (KeepsLimit w) (probe_at filled w tid p s page c)
-in_probe_at w tid p s page None lives committed = kept_same w _
-in_probe_at w tid p s page (Some c) lives committed = search (tables, kept_same, by_guard, in_grown) depth 14
-
-in_probe_in : (w : World) (tid : ℕ) (s : StackOf) (page : ℕ) (p : Option (ProcessOf Page)) → process_of w s.pid ≡ p → Holds (KeepsLimit w) (probe_in filled w tid s page p)
-in_probe_in w tid s page None lives = kept_same w _
-in_probe_in w tid s page (Some p) lives = in_probe_at w tid p s page (committed_at w p.regions page) lives refl
-
-in_probe_of : (w : World) (tid page : ℕ) (s : Option StackOf) → Holds (KeepsLimit w) (probe_of filled w tid page s)
-in_probe_of w tid page None = kept_same w _
-in_probe_of w tid page (Some s) = in_probe_in w tid s page (process_of w s.pid) refl
+in_probe : (w : World) (tid addr : ℕ) → Holds (KeepsLimit w) (probe filled w tid addr)
+in_probe w tid addr = at_probe filled w tid addr (kept_same w _) (kept_same w _) (λ s p c has lives committed. search (tables, kept_same, by_guard, in_grown) depth 14)
 
 pub in_step : (w : World) (e : Event) (before after : Report) → Holds (KeepsLimit w) (step w e before after)
 in_step w (line.Alloc pid addr size type prot) before after = keeps_alloc filled w pid.0 addr size type prot
@@ -66,7 +47,7 @@ in_step w (line.Protect pid addr size prot) before after = keeps_protect w pid.0
 in_step w (line.Create pid size flags name) before after = keeps_create filled w pid.0 size flags name
 in_step w (line.Map pid handle access offset len addr) before after = keeps_map w pid.0 handle access offset len addr
 in_step w (line.Stack tid pid reserve commit) before after = in_stack w tid.0 pid.0 reserve commit
-in_step w (line.Probe tid addr) before after = in_probe_of w tid.0 _ (stack_by w tid.0)
+in_step w (line.Probe tid addr) before after = in_probe w tid.0 addr
 in_step w e before after = by_edits (edits.line_terms e) w (step w e before after) refl (edits.in_step w e before after).edits
 
 -- the charge is within the limit in each world that lines reach

@@ -2,47 +2,37 @@
 use Rattle.std.proofs.Common.{count_by, ◌≡◌, ℕ, ◌+◌, ◌-◌, ◌≤◌, Bool, true, false, Option, Some, None, List, ◌∷◌, refl, sym, ◌∙◌, ap, subst, cond, arith, length, set, replicate, is_some, nat_le, option_map, ◌&&◌, ◌==◌}
 use Rattle.std.proofs.lemmas.Bool.{leb-true}
 use Rattle.std.proofs.lemmas.List.{length-set, length-append, length-replicate}
-use Rattle.mm_types.specs.declared.answers.Answer.{Answer}
+use Rattle.mm_types.specs.{Answer, AccessSpec, Event, Kind, View, Range, address_of, lowest_gap, commit_type, release_type, Tid}
 use Rattle.mm_types.specs.declared.answers.Answer.TheVariants as answer
-use Rattle.mm_types.specs.declared.events.AccessSpec.{AccessSpec}
-use Rattle.mm_types.specs.declared.events.Event.{Event}
 use Rattle.mm_types.specs.declared.events.Event.TheVariants as line
-use Rattle.mm_types.specs.declared.views.Kind.{Kind}
 use Rattle.mm_types.specs.declared.views.Kind.TheVariants as kind
-use Rattle.mm_types.specs.declared.views.View.{View}
-use Rattle.mm_types.specs.Address.{Range, address_of, page_of, lowest_gap}
-use Rattle.mm_types.specs.Allocation.{commit_type, release_type}
-use Rattle.mm_types.proofs.Booleans.{all_three}
-use Rattle.mm_world.specs.World.{StackOf, World, WorldOf, ProcessOf, RegionOf, RowOf, KeptOf, Page, filled}
-use Rattle.mm_world.specs.Find.{change_range, set_region, set_stack, stack_by, process_of, set_regions, add_region, ranges_of, area_at, shared_page}
-use Rattle.mm_world.specs.Keys.{with_row, Home, InSection, Committed, committed_at, set_row, set_shared, guard_off}
-use Rattle.mm_world.specs.Outcome.{OutcomeOf, done}
-use Rattle.mm_world.specs.Access.{Attempt, ReadOf, WriteOf, Execute, access, access_at, perform, write_to, written, bytes_of, address_in, attempt_in}
+use Rattle.mm_types.proofs.{all_three}
+use Rattle.mm_world.specs.{StackOf, WorldOf, ProcessOf, RegionOf, RowOf, KeptOf, Page, filled, change_range, set_region, set_stack, process_of}
+use Rattle.mm_world.specs.{set_regions, add_region, ranges_of, area_at, shared_page, with_row, Home, InSection, Committed, committed_at, set_row}
+use Rattle.mm_world.specs.{set_shared, guard_off, OutcomeOf, done, Attempt, ReadOf, WriteOf, Execute, access, access_at, perform, write_to, written}
+use Rattle.mm_world.specs.{bytes_of, address_in, attempt_in, is_told, unpaged, step, world_told, begin, resume, store_line, kept_by, keep, is_charged}
+use Rattle.mm_world.specs.{region_charge, area_charge, alloc, stack, probe, grown, made, stack_region, PagesOf, line_ends, is_released_by, Each}
+use Rattle.mm_world.specs.{RowFits, RowsFit, FlagsFit, PrivateRowFits, held_protections, one_page, mark_written, is_one_of, reserved_row, commit}
+use Rattle.mm_world.specs.{Leaves, LineLeaves, is_alarm, is_limit_refusal, is_thread_line}
+use Rattle.mm_world.specs.World.{World}
 use Rattle.mm_world.specs.Report.{Report}
-use Rattle.mm_world.specs.Step.{unpaged, told, step, stepped, world_told, begin, resume, store_line, kept_by, keep}
-use Rattle.mm_world.specs.Charge.{is_charged, region_charge, area_charge}
-use Rattle.mm_world.specs.Alloc.{alloc}
-use Rattle.mm_world.specs.Stack.{stack, probe, probe_at, probe_in, probe_of, grown, made, stack_region}
-use Rattle.mm_world.specs.PrivateRegions.{PagesOf, line_ends, is_released_by}
-use Rattle.mm_world.specs.WellFormed.{Each, RowFits, RowsFit, FlagsFit, PrivateRowFits, held_protections}
-use Rattle.mm_world.specs.Rows.{one_page, mark_written, is_one_of, reserved_row, commit}
-use Rattle.mm_types.specs.declared.numbers.Tid.{Tid}
-use Rattle.mm_world.specs.Laws.{Leaves, LineLeaves, is_success, is_alarm, is_limit_refusal, is_thread_line}
-use Rattle.mm_world.proofs.Determined.{follows}
-use Rattle.mm_world.proofs.Tables.{Holds, tables}
+use Rattle.mm_world.proofs.Determined.{decided}
+use Rattle.mm_types.specs.declared.codes.Raise.TheVariants as raise
+use Rattle.mm_world.proofs.Tables.{Holds, tables, at_probe}
 use Rattle.mm_world.proofs.Finding.{numbered_there, found_stands, committed_is, HomeCases, IsOwn, IsShared, home_cases}
 use Rattle.mm_world.proofs.Each.{each-set, each-at, each-append, each-replicate}
 use Rattle.mm_world.proofs.LaidOut.{flags_stay, flags_changed, no_flags, IsPlaced, placed_is}
 use Rattle.mm_world.proofs.RowsFit.{length-change_range, reserved_fits, commit_fits}
 use Rattle.mm_world.proofs.FlagRanges.{equal}
-use Rattle.mm_world.proofs.Edits.{Terms, any_terms, Edit, Edits, Regions, Nothing, Then, Moves, Rises, Falls, Charged, RegionComes, RegionChanges, Rest, AreaChanges, Edited, joined}
+use Rattle.mm_world.proofs.Edits.{Terms, Edit, Edits, Regions, Nothing, Then, Moves, Rises, Falls, Charged, RegionComes, RegionChanges, Rest, AreaChanges, Edited, joined, is_call_success}
 use Rattle.mm_world.proofs.Charges.{stays_charged}
 use Rattle.mm_world.proofs.AccessCharge.{row_charge, page_charge, own_charged, view_charged, guard_charged}
-use Rattle.mm_world.proofs.CallEdits.{success, by_limit, still_watched, by_same, by_refusal, by_region, then_stacks, in_alloc, in_free, in_watch, in_reset_watch, in_protect, in_query, in_flush, in_create, in_create_file, in_open, in_close, in_map, in_unmap, in_exit, in_new_process, in_new_file, in_take_fail, in_grow}
+use Rattle.mm_world.proofs.CallEdits.{leaves_same, success, by_limit, still_watched, by_same, by_refusal, by_region, then_stacks, in_alloc, in_free, in_watch, in_reset_watch, in_protect, in_query, in_flush, in_create, in_create_file, in_open, in_close, in_map, in_unmap, in_exit, in_new_process, in_new_file, in_take_fail, in_grow}
 
-alarmed : (a : Answer) → is_alarm a ≡ true → is_limit_refusal a ≡ false
-alarmed (answer.Error why) e = cc
-alarmed _ e = refl
+alarmed : (a : Answer) → is_alarm a ≡ true → (is_limit_refusal a ≡ false) × (is_told a ≡ false)
+alarmed (answer.Raised raise.GuardPage) e = (refl, refl)
+alarmed (answer.Raised raise.StackOverflow) e = (refl, refl)
+alarmed _ e = cc
 
 module _ {B : Type 0} where
   -- ---- what calls make of rows
@@ -136,7 +126,8 @@ module _ {B : Type 0} where
             alarm = λ e. record { pid = pid; page = page; process = p; row = c; lives = lives; committed = committed; was_on = on; now_off = refl };
             same = λ e f. (let bad : true ≡ false = sym alarm ∙ f in cc);
           };
-          granted = λ e. alarmed a alarm;
+          granted = λ e. (alarmed a alarm).0;
+          untold = (alarmed a alarm).1;
         };
       }
 
@@ -166,13 +157,13 @@ in_home t loose w pid p c page offset bytes i lives committed (IsShared v old is
 
 module _ (t : Answer → Terms) where
   in_perform : (w : World) (pid : ℕ) (p : ProcessOf Page) (c : Committed Page) (page offset : ℕ) (what : Attempt) → (is_write what ≡ true → (t answer.Ok).plain ≡ false) → process_of w pid ≡ Some p → committed_at w p.regions page ≡ Some c → Holds (Edited t w) (perform w pid p c page offset what)
-  in_perform w pid p c page offset (ReadOf len) loose lives committed = by_same t w _ refl refl
+  in_perform w pid p c page offset (ReadOf len) loose lives committed = by_same t w _ refl refl refl
   in_perform w pid p c page offset (WriteOf bytes) loose lives committed =
       success t w _ answer.Ok refl (in_home (t answer.Ok) (loose refl) w pid p c page offset bytes _ lives committed (home_cases w (page - c.region.thing.base) c.region.thing.kind c.row.own c.home (committed_is w p.regions page c committed).home_there))
-  in_perform w pid p c page offset Execute loose lives committed = by_same t w _ refl refl
+  in_perform w pid p c page offset Execute loose lives committed = by_same t w _ refl refl refl
 
   in_access_at : (w : World) (pid : ℕ) (p : ProcessOf Page) (page offset : ℕ) (what : Attempt) (c : Option (Committed Page)) → (is_write what ≡ true → (t answer.Ok).plain ≡ false) → process_of w pid ≡ Some p → committed_at w p.regions page ≡ c → Holds (Edited t w) (access_at w pid p page offset what c)
-  in_access_at w pid p page offset what None loose lives committed = by_same t w _ refl refl
+  in_access_at w pid p page offset what None loose lives committed = by_same t w _ refl refl refl
   in_access_at w pid p page offset what (Some c) loose lives committed = search (tables, by_same, by_guard, in_perform) depth 12
 
   pub in_access : (w : World) (pid addr : ℕ) (what : Attempt) → (is_write what ≡ true → (t answer.Ok).plain ≡ false) → Holds (Edited t w) (access w pid addr what)
@@ -213,7 +204,7 @@ module _ {B : Type 0} (fill : ℕ → B) where
       omega (arith, length-append bottom (commit (fill 0) 0x104 reserved_row ∷ top), below, above, fits)
 
   module _ (t : Answer → Terms) (loose : (a : Answer) → (t a).stacks ≡ false) (rises : (a : Answer) (old new : ℕ) → Charged (t a).charge old new) where
-    pub by_stack : (w : WorldOf B) (tid pid : ℕ) (p : ProcessOf B) (s : StackOf) (r c base : ℕ) (a : Answer) → is_success a ≡ true → process_of w pid ≡ Some p → nat_le (c + 2) r ≡ true → lowest_gap (ranges_of p.regions) r ≡ Some base → Holds (Edited t w) (done a (set_stack (set_regions w pid p (add_region (stack_region fill base r c) p.regions)) tid s))
+    pub by_stack : (w : WorldOf B) (tid pid : ℕ) (p : ProcessOf B) (s : StackOf) (r c base : ℕ) (a : Answer) → is_call_success a ≡ true → process_of w pid ≡ Some p → nat_le (c + 2) r ≡ true → lowest_gap (ranges_of p.regions) r ≡ Some base → Holds (Edited t w) (done a (set_stack (set_regions w pid p (add_region (stack_region fill base r c) p.regions)) tid s))
     by_stack w tid pid p s r c base a ok lives fits found =
         let range : Range = record { first = base; count = r } in
         let at = placed_is (ranges_of p.regions) 0 (record { first = 0; count = r }) r range refl (ap (λ g. option_map (λ first. let range : Range = record { first = first; count = r } in range) g) found) in
@@ -247,20 +238,8 @@ module _ {B : Type 0} (fill : ℕ → B) where
         let more = in_alloc (λ b. t a) fill v s.pid next 1 commit_type 0x104 (λ b e. refl) (λ b. rises a) in
         then_stacks t w u _ a refl (λ e. let bad : false ≡ true = sym (loose a) ∙ e in cc) (success t w u a refl (joined (t a) w v u (guard_edits (t a) w s.pid p c page lives committed) more.it.edits))
 
-    in_probe_at : (w : WorldOf B) (tid : ℕ) (p : ProcessOf B) (s : StackOf) (page : ℕ) (c : Option (Committed B)) → process_of w s.pid ≡ Some p → committed_at w p.regions page ≡ c → Holds (Edited t w) (probe_at fill w tid p s page c)
-    in_probe_at w tid p s page None lives committed = by_same t w _ refl refl
-    in_probe_at w tid p s page (Some c) lives committed = search (tables, by_same, by_guard, in_grown, on_of) depth 14
-
-    in_probe_in : (w : WorldOf B) (tid : ℕ) (s : StackOf) (page : ℕ) (p : Option (ProcessOf B)) → process_of w s.pid ≡ p → Holds (Edited t w) (probe_in fill w tid s page p)
-    in_probe_in w tid s page None lives = by_same t w _ refl refl
-    in_probe_in w tid s page (Some p) lives = in_probe_at w tid p s page (committed_at w p.regions page) lives refl
-
-    in_probe_of : (w : WorldOf B) (tid page : ℕ) (s : Option StackOf) → Holds (Edited t w) (probe_of fill w tid page s)
-    in_probe_of w tid page None = by_same t w _ refl refl
-    in_probe_of w tid page (Some s) = in_probe_in w tid s page (process_of w s.pid) refl
-
     pub in_probe : (w : WorldOf B) (tid addr : ℕ) → Holds (Edited t w) (probe fill w tid addr)
-    in_probe w tid addr = in_probe_of w tid (page_of addr) (stack_by w tid)
+    in_probe w tid addr = at_probe fill w tid addr (by_same t w _ refl refl refl) (by_same t w _ refl refl refl) (λ s p c has lives committed. search (tables, by_same, by_guard, in_grown, on_of) depth 14)
 
 -- ---- lines
 
@@ -310,11 +289,19 @@ pub record LineEdited (e : Event) (w : World) (o : OutcomeOf Page) : Type 0 wher
   pub leaves : LineLeaves w e o
   pub granted : line_charge e ≡ Falls → is_limit_refusal o.answer ≡ false
 
-by_call : (w : World) (e : Event) (o : OutcomeOf Page) → Holds (Edited (line_terms e) w) o → LineEdited e w o
-by_call w e o h = record { edits = h.it.edits; leaves = record { but_kept = o.world; leaves = h.it.leaves; all_else = refl; other_lines = λ e. refl }; granted = h.it.granted }
+-- where address spaces decide it, no store tells the answer
+pub record LineDecided (e : Event) (w : World) (o : OutcomeOf Page) : Type 0 where
+  pub edited : LineEdited e w o
+  pub untold : is_told o.answer ≡ false
 
-by_answer : (w : World) (e : Event) (a : Answer) → is_alarm a ≡ false → is_limit_refusal a ≡ false → LineEdited e w (done a w)
-by_answer w e a quiet granted = by_call w e (done a w) (by_same (line_terms e) w a quiet granted)
+by_leaves : (w : World) (e : Event) (o : OutcomeOf Page) → Edits (line_terms e o.answer) w o.world → Leaves w o → (line_charge e ≡ Falls → is_limit_refusal o.answer ≡ false) → LineEdited e w o
+by_leaves w e o es leaves granted = record { edits = es; leaves = record { but_kept = o.world; leaves = leaves; all_else = refl; other_lines = λ e. refl }; granted = granted }
+
+by_call : (w : World) (e : Event) (o : OutcomeOf Page) → Holds (Edited (line_terms e) w) o → LineDecided e w o
+by_call w e o h = record { edited = by_leaves w e o h.it.edits h.it.leaves h.it.granted; untold = h.it.untold }
+
+by_answer : (w : World) (e : Event) (a : Answer) → is_alarm a ≡ false → is_limit_refusal a ≡ false → is_told a ≡ false → LineDecided e w (done a w)
+by_answer w e a quiet granted untold = by_call w e (done a w) (by_same (line_terms e) w a quiet granted untold)
 
 -- what a thread keeps changes as well
 then_keeps : (w v : World) (e : Event) (tid : ℕ) (kept : Option KeptOf) (a : Answer) → is_thread_line e ≡ true → keeps_accesses e ≡ false → Edits (line_terms e a) w v → Leaves w (done a v) → (line_charge e ≡ Falls → is_limit_refusal a ≡ false) → LineEdited e w (done a (keep v tid kept))
@@ -325,15 +312,15 @@ then_keeps w v e tid kept a is loose es leaves granted =
       granted = granted;
     }
 
-in_resume : (w : World) (tid : Tid) (kept : Option KeptOf) → LineEdited (line.Resume tid) w (resume w tid.0 kept)
-in_resume w tid None = by_answer w _ _ refl refl
+in_resume : (w : World) (tid : Tid) (kept : Option KeptOf) → LineDecided (line.Resume tid) w (resume w tid.0 kept)
+in_resume w tid None = by_answer w _ _ refl refl refl
 in_resume w tid (Some k) =
     let o = access w k.pid (address_in k.access) (attempt_in k.access) in
     let h = in_access (line_terms (line.Resume tid)) w k.pid (address_in k.access) (attempt_in k.access) (λ e. refl) in
-    then_keeps w o.world _ tid.0 None o.answer refl refl h.it.edits h.it.leaves h.it.granted
+    record { edited = then_keeps w o.world _ tid.0 None o.answer refl refl h.it.edits h.it.leaves h.it.granted; untold = h.it.untold }
 
-in_unpaged : (w : World) (e : Event) → LineEdited e w (unpaged w e)
-in_unpaged w (line.Machine m) = by_answer w _ _ refl refl
+pub in_unpaged : (w : World) (e : Event) → LineDecided e w (unpaged w e)
+in_unpaged w (line.Machine m) = by_answer w _ _ refl refl refl
 in_unpaged w (line.Process min max) = by_call w _ _ (in_new_process _ w)
 in_unpaged w (line.Exit pid) = by_call w _ _ (in_exit _ w pid.0 refl refl (λ x here. equal x.pid pid.0 here) (λ n m h. h))
 in_unpaged w (line.File name pages byte) = by_call w _ _ (in_new_file _ filled w name pages byte)
@@ -353,14 +340,14 @@ in_unpaged w (line.Write pid addr bytes) = by_call w _ _ (in_access _ w pid.0 ad
 in_unpaged w (line.Exec pid addr) = by_call w _ _ (in_access _ w pid.0 addr Execute (λ e. cc))
 in_unpaged w (line.Begin tid pid what) = by_call w _ _ (in_begin _ w tid.0 pid.0 what refl)
 in_unpaged w (line.Resume tid) = in_resume w tid (kept_by w tid.0)
-in_unpaged w (line.Io i) = by_answer w _ _ refl refl
+in_unpaged w (line.Io i) = by_answer w _ _ refl refl refl
 in_unpaged w (line.Trim pid n) = by_call w _ _ (in_store_line _ w pid.0)
 in_unpaged w (line.Age pid) = by_call w _ _ (in_store_line _ w pid.0)
-in_unpaged w (line.Writer n) = by_answer w _ _ refl refl
-in_unpaged w (line.Zeroer n) = by_answer w _ _ refl refl
+in_unpaged w (line.Writer n) = by_answer w _ _ refl refl refl
+in_unpaged w (line.Zeroer n) = by_answer w _ _ refl refl refl
 in_unpaged w (line.Fail device direction k n) = by_call w _ _ (in_take_fail _ w)
-in_unpaged w line.Charge = by_answer w _ _ refl refl
-in_unpaged w line.Counts = by_answer w _ _ refl refl
+in_unpaged w line.Charge = by_answer w _ _ refl refl refl
+in_unpaged w line.Counts = by_answer w _ _ refl refl refl
 in_unpaged w (line.Grow n) = by_call w _ _ (in_grow _ w n)
 in_unpaged w (line.Watch pid unwrites addr size count) = by_call w _ _ (in_watch _ w pid.0 unwrites addr size count (λ a. refl))
 in_unpaged w (line.ResetWatch pid addr size) = by_call w _ _ (in_reset_watch _ w pid.0 addr size (λ a. refl))
@@ -368,13 +355,9 @@ in_unpaged w (line.Stack tid pid reserve commit) = by_call w _ _ (in_stack fille
 in_unpaged w (line.Probe tid addr) = by_call w _ _ (in_probe filled _ (λ a. refl) (λ a n m. tt) w tid.0 addr)
 
 in_told : (w : World) (e : Event) (a : Answer) → is_alarm a ≡ false → is_limit_refusal a ≡ false → LineEdited e w (done a (world_told w e a))
-in_told w (line.Begin tid pid what) (answer.Pending why) quiet granted = then_keeps w w _ tid.0 _ _ refl refl Nothing (by_same any_terms w _ refl refl).it.leaves (λ e. refl)
-in_told w (line.Resume tid) (answer.Raised status) quiet granted = then_keeps w w _ tid.0 _ _ refl refl Nothing (by_same any_terms w _ quiet refl).it.leaves (λ e. refl)
-in_told w e a quiet granted = by_answer w e a quiet granted
-
-in_stepped : (w : World) (e : Event) (before after : Report) (t : Option Answer) → told w e before after ≡ t → LineEdited e w (stepped w e t)
-in_stepped w e before after None is = in_unpaged w e
-in_stepped w e before after (Some a) is = let h = follows w e before after a is in in_told w e a h.calm h.granted
+in_told w (line.Begin tid pid what) (answer.Pending why) quiet granted = then_keeps w w _ tid.0 _ _ refl refl Nothing (leaves_same w _ refl) (λ e. refl)
+in_told w (line.Resume tid) (answer.Raised status) quiet granted = then_keeps w w _ tid.0 _ _ refl refl Nothing (leaves_same w _ quiet) (λ e. refl)
+in_told w e a quiet granted = by_leaves w e (done a w) Nothing (leaves_same w a quiet) (λ f. granted)
 
 pub in_step : (w : World) (e : Event) (before after : Report) → LineEdited e w (step w e before after)
-in_step w e before after = in_stepped w e before after (told w e before after) refl
+in_step w e before after = decided (λ e. LineEdited e w) w e before after (in_unpaged w e).edited (λ a h. in_told w e a h.calm h.granted)

@@ -5,26 +5,17 @@ use Rattle.std.proofs.Math.Path.{fun_ext}
 use Rattle.std.proofs.Math.ListN.{get_or-map}
 use Rattle.std.proofs.lemmas.List.{map-set, length-map}
 use Rattle.std.proofs.lemmas.List.Sums.{sum_by-cons}
-use Rattle.mm_types.specs.declared.codes.Code.{Code}
+use Rattle.mm_types.specs.{Code, Answer, Prot, Kind, Range, lies_within, address_of, base_of, reserve_type}
 use Rattle.mm_types.specs.declared.codes.Code.TheVariants as code
-use Rattle.mm_types.specs.declared.answers.Answer.{Answer}
 use Rattle.mm_types.specs.declared.answers.Answer.TheVariants as answer
-use Rattle.mm_types.specs.declared.protections.Prot.{Prot}
-use Rattle.mm_types.specs.declared.views.Kind.{Kind}
 use Rattle.mm_types.specs.declared.views.Kind.TheVariants as kind
-use Rattle.mm_types.specs.Address.{Range, lies_within, address_of, range_of, granule_range_of, pages_for}
-use Rattle.mm_types.specs.Protection.{base_of}
-use Rattle.mm_world.specs.World.{RowOf, RegionOf, ProcessOf, AreaOf, WorldOf, pages_of}
-use Rattle.mm_world.specs.Contents.{map_row, map_region, map_process, map_area, map_world, map_outcome}
-use Rattle.mm_world.specs.Find.{end_stacks, Found, first_where, one_later, change_range, ranges_of, region_around, add_region, process_of, set_process, set_regions, set_region, area_at, set_area, no_area, shared_page, placed, is_private}
-use Rattle.mm_world.specs.Charge.{charge, limit, is_charged, region_charge, process_charge, area_charge}
-use Rattle.mm_world.specs.Outcome.{OutcomeOf, done, need, find_or, with_process, within_limit}
-use Rattle.mm_world.specs.Rows.{is_one_of, protections_of, row_at, accepts, is_committed, is_committed_at, reserved_row, commit, protected, change_rows, every_page}
-use Rattle.mm_types.specs.Allocation.{reserve_type}
-use Rattle.mm_world.specs.Alloc.{is_watched_type, plain_type, alloc, reserve, commit_in, commit_shared, private_region, new_row, are_alloc_parameters, is_reserving}
-use Rattle.mm_types.specs.Allocation.{release_type}
-use Rattle.mm_world.specs.Free.{is_stack_at, free, decommit, private_at, private_around, are_free_parameters}
-use Rattle.mm_world.specs.Protect.{protect, protection_at, protection_of, are_protect_parameters}
+use Rattle.mm_world.specs.{RowOf, RegionOf, ProcessOf, AreaOf, WorldOf, pages_of, map_row, map_region, map_process, map_area, map_world, map_outcome}
+use Rattle.mm_world.specs.{end_stacks, Found, first_where, one_later, change_range, ranges_of, region_around, add_region, process_of, set_process}
+use Rattle.mm_world.specs.{set_regions, set_region, area_at, set_area, no_area, shared_page, placed, is_private, charge, limit, is_charged}
+use Rattle.mm_world.specs.{region_charge, process_charge, area_charge, OutcomeOf, done, need, find_or, with_process, within_limit, is_one_of}
+use Rattle.mm_world.specs.{protections_of, row_at, accepts, is_committed, is_committed_at, reserved_row, commit, protected, change_rows, every_page}
+use Rattle.mm_world.specs.{alloc, reserve, commit_in, commit_shared, private_region, new_row, is_stack_at, free, decommit, private_at, private_around}
+use Rattle.mm_world.specs.{protect, protection_at, protection_of}
 
 module _ {A B : Type 0} (f : A → B) where
   pub record Agrees (o : OutcomeOf A) (p : OutcomeOf B) : Type 0 where
@@ -151,6 +142,12 @@ module _ {A B : Type 0} (f : A → B) where
   pub to_regions : (w : WorldOf A) (pid : ℕ) (p : ProcessOf A) (rs : List (RegionOf A)) → map_world f (set_regions w pid p rs) ≡ set_regions (map_world f w) pid (map_process f p) (map (map_region f) rs)
   to_regions w pid p rs = to_process w pid (Some (record p { regions = rs }))
 
+  pub to_added : (w : WorldOf A) (pid : ℕ) (p : ProcessOf A) (new : RegionOf A) (new' : RegionOf B) → map_region f new ≡ new' → set_regions (map_world f w) pid (map_process f p) (add_region new' (map (map_region f) p.regions)) ≡ map_world f (set_regions w pid p (add_region new p.regions))
+  to_added w pid p new new' e =
+      ap (λ r. set_regions (map_world f w) pid (map_process f p) (add_region r (map (map_region f) p.regions))) (sym e)
+      ∙ ap (λ rs. set_regions (map_world f w) pid (map_process f p) rs) (sym (map-add_region new p.regions))
+      ∙ sym (to_regions w pid p (add_region new p.regions))
+
   pub to_region : (w : WorldOf A) (pid : ℕ) (p : ProcessOf A) (place : ℕ) (r : RegionOf A) → map_world f (set_region w pid p place r) ≡ set_region (map_world f w) pid (map_process f p) place (map_region f r)
   to_region w pid p place r = to_regions w pid p (set p.regions place r) ∙ ap (λ rs. set_regions (map_world f w) pid (map_process f p) rs) (map-set (map_region f) p.regions place r)
 
@@ -254,6 +251,9 @@ module _ {A B : Type 0} (f : A → B) where
   pub at_lives : (w : WorldOf A) (pid : ℕ) (k : ProcessOf A → OutcomeOf A) (l : ProcessOf B → OutcomeOf B) → ((p : ProcessOf A) → process_of w pid ≡ Some p → Agrees f (k p) (l (map_process f p))) → Agrees f (with_process w pid k) (with_process (map_world f w) pid l)
   at_lives w pid k l h = at_find w code.InvalidHandle (map_process f) (process_of w pid) (process_of (map_world f w) pid) k l (at_process w pid) h
 
+  pub at_region : (w : WorldOf A) (why : Code) (x : Option (Found (RegionOf A))) (y : Option (Found (RegionOf B))) (k : Found (RegionOf A) → OutcomeOf A) (l : Found (RegionOf B) → OutcomeOf B) → y ≡ option_map (map_found f) x → ((r : Found (RegionOf A)) → x ≡ Some r → Agrees f (k r) (l (map_found f r))) → Agrees f (find_or w why x k) (find_or (map_world f w) why y l)
+  at_region w why x y k l e h = at_find w why (map_found f) x y k l e h
+
   pub at_if : (b : Bool) (o o' : OutcomeOf A) (p p' : OutcomeOf B) → Agrees f o p → Agrees f o' p' → Agrees f (cond b o o') (cond b p p')
   at_if true o o' p p' h k = h
   at_if false o o' p p' h k = k
@@ -269,6 +269,8 @@ module _ {A B : Type 0} (f : A → B) where
     where
       same_test : leb (charge p.world) (limit p.world) ≡ leb (charge o.world) (limit o.world)
       same_test = ap (λ (q : OutcomeOf B). leb (charge q.world) (limit q.world)) h.same ∙ ap (λ c. leb c (limit o.world)) (same_charge o.world)
+
+  pub ruleset agreeing = (at_lives, at_need, at_region, at_found, at_if, at_done, at_answer, at_limit)
 
   -- a region with changed rows, in its place
   at_change : (w : WorldOf A) (pid : ℕ) (p : ProcessOf A) (r : Found (RegionOf A)) (c : RowOf A → RowOf A) (d : RowOf B → RowOf B) (range : Range) → ((row : RowOf A) → map_row f (c row) ≡ d (map_row f row)) → set_region (map_world f w) pid (map_process f p) r.place (change_rows d range (map_region f r.thing)) ≡ map_world f (set_region w pid p r.place (change_rows c range r.thing))
@@ -301,17 +303,7 @@ module _ {A B : Type 0} (f : A → B) where
         by_own (Some x) = refl
 
     in_reserve : (w : WorldOf A) (pid : ℕ) (p : ProcessOf A) (addr size : ℕ) (watched : Bool) (type prot : ℕ) → Agrees f (reserve fill w pid p addr size watched type prot) (reserve there (map_world f w) pid (map_process f p) addr size watched type prot)
-    in_reserve w pid p addr size watched type prot =
-        let wanted = granule_range_of addr size in
-        at_found w code.InvalidAddress (placed (ranges_of p.regions) addr wanted (pages_for size)) (placed (ranges_of (map (map_region f) p.regions)) addr wanted (pages_for size)) _ _
-        (same_place p.regions addr wanted (pages_for size))
-        (λ range found. at_limit w
-        (done (answer.At (address_of range.first)) (set_regions w pid p (add_region (private_region fill watched type prot range) p.regions)))
-        (done (answer.At (address_of range.first)) (set_regions (map_world f w) pid (map_process f p) (add_region (private_region there watched type prot range) (map (map_region f) p.regions))))
-        (at_done _ _ _ (
-        ap (λ r. set_regions (map_world f w) pid (map_process f p) (add_region r (map (map_region f) p.regions))) (sym (map-private_region watched type prot range))
-        ∙ ap (λ rs. set_regions (map_world f w) pid (map_process f p) rs) (sym (map-add_region (private_region fill watched type prot range) p.regions))
-        ∙ sym (to_regions w pid p (add_region (private_region fill watched type prot range) p.regions)))))
+    in_reserve w pid p addr size watched type prot = search (agreeing, same_place, to_added, map-private_region) depth 14
 
     map-commit_shared : (first count : ℕ) (a : AreaOf A) → map_area f (commit_shared fill first count a) ≡ commit_shared there first count (map_area f a)
     map-commit_shared first count a =
@@ -323,56 +315,37 @@ module _ {A B : Type 0} (f : A → B) where
         by_page (Some x) = refl
 
     in_commit : (w : WorldOf A) (pid : ℕ) (p : ProcessOf A) (r : Found (RegionOf A)) (k : Kind) (range : Range) (prot : ℕ) → Agrees f (commit_in fill w pid p r k range prot) (commit_in there (map_world f w) pid (map_process f p) (map_found f r) k range prot)
-    in_commit w pid p r kind.Private range prot =
-        at_limit w
-        (done (answer.At (address_of range.first)) (set_region w pid p r.place (change_rows (commit (fill 0) prot) range r.thing)))
-        (done (answer.At (address_of range.first)) (set_region (map_world f w) pid (map_process f p) r.place (change_rows (commit (there 0) prot) range (map_region f r.thing))))
-        (at_done _ _ _ (at_change w pid p r (commit (fill 0) prot) (commit (there 0) prot) range (map-commit prot)))
-    in_commit w pid p r (kind.View v) range prot =
-        let area = area_at w v.area.0 in
-        let first = v.first + (range.first - r.thing.base) in
-        let v1 = set_region w pid p r.place (change_rows (protected r.thing.kind prot) range r.thing) in
-        let v2 = set_region (map_world f w) pid (map_process f p) r.place (change_rows (protected r.thing.kind prot) range (map_region f r.thing)) in
-        at_need w code.InvalidAddress (is_none area.file_block) (is_none (area_at (map_world f w) v.area.0).file_block) _ _ (ap (λ (a : AreaOf B). is_none a.file_block) (map-area_at w v.area.0))
-        (at_need w code.InvalidParameter (every_page (accepts r.thing prot) range) (every_page (accepts (map_region f r.thing) prot) range) _ _ (every_page-same (accepts (map_region f r.thing) prot) (accepts r.thing prot) range (same_accepts r.thing prot))
-        (at_limit w
-        (done (answer.At (address_of range.first)) (set_area v1 v.area.0 (commit_shared fill first range.count area)))
-        (done (answer.At (address_of range.first)) (set_area v2 v.area.0 (commit_shared there first range.count (area_at (map_world f w) v.area.0))))
-        (at_done _ _ _ (
-        (λ i. set_area (at_change w pid p r (protected r.thing.kind prot) (protected r.thing.kind prot) range (map-protected r.thing.kind prot) i) v.area.0
-        ((ap (commit_shared there first range.count) (map-area_at w v.area.0) ∙ sym (map-commit_shared first range.count area)) i))
-        ∙ sym (to_area v1 v.area.0 (commit_shared fill first range.count area))))))
+    in_commit w pid p r kind.Private range prot = search (agreeing, at_change, map-commit) depth 14
+    in_commit w pid p r (kind.View v) range prot = search (agreeing, at_file, every_page-same, same_accepts, at_shared) depth 16
       where
         to_area : (w : WorldOf A) (area : ℕ) (a : AreaOf A) → map_world f (set_area w area a) ≡ set_area (map_world f w) area (map_area f a)
         to_area w area a = ap (λ areas. record (map_world f w) { areas = areas }) (map-set (map_area f) w.areas area a)
 
+        at_file : is_none (area_at (map_world f w) v.area.0).file_block ≡ is_none (area_at w v.area.0).file_block
+        at_file = ap (λ (a : AreaOf B). is_none a.file_block) (map-area_at w v.area.0)
+
+        at_shared : (first : ℕ) → set_area (set_region (map_world f w) pid (map_process f p) r.place (change_rows (protected r.thing.kind prot) range (map_region f r.thing))) v.area.0 (commit_shared there first range.count (area_at (map_world f w) v.area.0)) ≡ map_world f (set_area (set_region w pid p r.place (change_rows (protected r.thing.kind prot) range r.thing)) v.area.0 (commit_shared fill first range.count (area_at w v.area.0)))
+        at_shared first =
+            (λ i. set_area (at_change w pid p r (protected r.thing.kind prot) (protected r.thing.kind prot) range (map-protected r.thing.kind prot) i) v.area.0
+            ((ap (commit_shared there first range.count) (map-area_at w v.area.0) ∙ sym (map-commit_shared first range.count (area_at w v.area.0))) i))
+            ∙ sym (to_area (set_region w pid p r.place (change_rows (protected r.thing.kind prot) range r.thing)) v.area.0 (commit_shared fill first range.count (area_at w v.area.0)))
+
     pub in_alloc : (w : WorldOf A) (pid addr size type prot : ℕ) → Agrees f (alloc fill w pid addr size type prot) (alloc there (map_world f w) pid addr size type prot)
-    in_alloc w pid addr size type prot =
-        at_lives w pid _ _ (λ p lives.
-        at_need w code.InvalidParameter (are_alloc_parameters size (plain_type type) prot) (are_alloc_parameters size (plain_type type) prot) _ _ refl (
-        at_if (is_reserving addr (plain_type type)) _ _ _ _
-        (in_reserve w pid p addr size (is_watched_type type) (plain_type type) prot)
-        (at_find w code.InvalidAddress (map_found f) (region_around p.regions (range_of addr size)) (region_around (map (map_region f) p.regions) (range_of addr size)) _ _
-        (around p.regions (range_of addr size))
-        (λ r found. in_commit w pid p r r.thing.kind (range_of addr size) prot))))
+    in_alloc w pid addr size type prot = search (agreeing, in_reserve, around, in_commit) depth 16
 
   -- ---- free
 
   at_decommit : (w : WorldOf A) (pid : ℕ) (p : ProcessOf A) (r : Found (RegionOf A)) (range : Range) → Agrees f (decommit w pid p r range) (decommit (map_world f w) pid (map_process f p) (map_found f r) range)
   at_decommit w pid p r range = at_done answer.Ok _ _ (at_change w pid p r (λ row. reserved_row) (λ row. reserved_row) range (λ row. refl))
 
+  at_whole : (w : WorldOf A) (pid : ℕ) (p : ProcessOf A) (r : Found (RegionOf A)) → Agrees f (decommit w pid p r (pages_of r.thing)) (decommit (map_world f w) pid (map_process f p) (map_found f r) (pages_of (map_region f r.thing)))
+  at_whole w pid p r = record { same = ap (λ range. decommit (map_world f w) pid (map_process f p) (map_found f r) range) (pages_of-map r.thing) ∙ (at_decommit w pid p r (pages_of r.thing)).same }
+
+  at_release : (w : WorldOf A) (pid addr : ℕ) (p : ProcessOf A) (r : Found (RegionOf A)) → end_stacks (set_regions (map_world f w) pid (map_process f p) (remove (map (map_region f) p.regions) r.place)) (is_stack_at pid addr) ≡ map_world f (end_stacks (set_regions w pid p (remove p.regions r.place)) (is_stack_at pid addr))
+  at_release w pid addr p r = ap (λ v. end_stacks v (is_stack_at pid addr)) (ap (λ rs. set_regions (map_world f w) pid (map_process f p) rs) (sym (map-remove (map_region f) p.regions r.place)) ∙ sym (to_regions w pid p (remove p.regions r.place)))
+
   pub in_free : (w : WorldOf A) (pid addr size type : ℕ) → Agrees f (free w pid addr size type) (free (map_world f w) pid addr size type)
-  in_free w pid addr size type =
-      at_lives w pid _ _ (λ p lives.
-      at_need w code.InvalidParameter (are_free_parameters size type) (are_free_parameters size type) _ _ refl (
-      at_if (type == release_type) _ _ _ _
-      (at_find w code.InvalidAddress (map_found f) (private_at p.regions addr) (private_at (map (map_region f) p.regions) addr) _ _ (at_private p.regions addr)
-      (λ r found. at_done answer.Ok _ _ (ap (λ v. end_stacks v (is_stack_at pid addr)) (ap (λ rs. set_regions (map_world f w) pid (map_process f p) rs) (sym (map-remove (map_region f) p.regions r.place)) ∙ sym (to_regions w pid p (remove p.regions r.place))))))
-      (at_if (size == 0) _ _ _ _
-      (at_find w code.InvalidAddress (map_found f) (private_at p.regions addr) (private_at (map (map_region f) p.regions) addr) _ _ (at_private p.regions addr)
-      (λ r found. record { same = ap (λ range. decommit (map_world f w) pid (map_process f p) (map_found f r) range) (pages_of-map r.thing) ∙ (at_decommit w pid p r (pages_of r.thing)).same }))
-      (at_find w code.InvalidAddress (map_found f) (private_around p.regions (range_of addr size)) (private_around (map (map_region f) p.regions) (range_of addr size)) _ _ (around_private p.regions (range_of addr size))
-      (λ r found. at_decommit w pid p r (range_of addr size))))))
+  in_free w pid addr size type = search (agreeing, at_private, around_private, at_release, at_whole, at_decommit) depth 16
 
   -- ---- protect
 
@@ -384,14 +357,4 @@ module _ {A B : Type 0} (f : A → B) where
       by_row (Some row) = refl
 
   pub in_protect : (w : WorldOf A) (pid addr size prot : ℕ) → Agrees f (protect w pid addr size prot) (protect (map_world f w) pid addr size prot)
-  in_protect w pid addr size prot =
-      let range = range_of addr size in
-      at_lives w pid _ _ (λ p lives.
-      at_need w code.InvalidParameter (are_protect_parameters size prot) (are_protect_parameters size prot) _ _ refl (
-      at_find w code.InvalidAddress (map_found f) (region_around p.regions range) (region_around (map (map_region f) p.regions) range) _ _ (around p.regions range) (λ r found.
-      at_need w code.InvalidAddress (every_page (is_committed_at w r.thing) range) (every_page (is_committed_at (map_world f w) (map_region f r.thing)) range) _ _ (every_page-same _ _ range (same_committed_at w r.thing)) (
-      at_need w code.InvalidParameter (every_page (accepts r.thing prot) range) (every_page (accepts (map_region f r.thing) prot) range) _ _ (every_page-same _ _ range (same_accepts r.thing prot)) (
-      at_limit w
-      (done (answer.OldProt (protection_at r.thing range.first)) (set_region w pid p r.place (change_rows (protected r.thing.kind prot) range r.thing)))
-      (done (answer.OldProt (protection_at (map_region f r.thing) range.first)) (set_region (map_world f w) pid (map_process f p) r.place (change_rows (protected r.thing.kind prot) range (map_region f r.thing))))
-      (at_answer _ _ _ _ (ap answer.OldProt (same_protection r.thing range.first)) (at_change w pid p r (protected r.thing.kind prot) (protected r.thing.kind prot) range (map-protected r.thing.kind prot))))))))
+  in_protect w pid addr size prot = search (agreeing, around, every_page-same, same_committed_at, same_accepts, same_protection, at_change, map-protected) depth 20

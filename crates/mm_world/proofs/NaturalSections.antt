@@ -5,32 +5,24 @@ use Rattle.std.specs.List.{list_any}
 use Rattle.std.proofs.Math.Path.{fun_ext}
 use Rattle.std.proofs.lemmas.List.{map-set, length-map}
 use Rattle.mm_types.specs.declared.answers.Answer.TheVariants as answer
-use Rattle.mm_types.specs.declared.answers.QueryInfo.{QueryInfo}
+use Rattle.mm_types.specs.{QueryInfo, Kind, ViewAccess, Range, lies_within, holds_page, address_of, page_of, pages_for, end_of_user_pages}
+use Rattle.mm_types.specs.{is_granule_address, is_user_page, lowest_gap, permits, Text, commit_type}
 use Rattle.mm_types.specs.declared.codes.Code.TheVariants as code
 use Rattle.mm_types.specs.declared.codes.Raise.TheVariants as raise
 use Rattle.mm_types.specs.declared.protections.Access.TheVariants as access_kind
-use Rattle.mm_types.specs.declared.views.Kind.{Kind}
 use Rattle.mm_types.specs.declared.views.Kind.TheVariants as kind
-use Rattle.mm_types.specs.declared.views.ViewAccess.{ViewAccess}
-use Rattle.mm_types.specs.Address.{Range, lies_within, holds_page, address_of, page_of, range_of, pages_for, end_of_user_pages, is_granule_address, is_user_page, lowest_gap}
-use Rattle.mm_types.specs.Protection.{permits}
-use Rattle.mm_types.specs.Spelling.{Text}
-use Rattle.mm_world.specs.Watch.{watch, reset_watch, watched_around, written_in, unwritten}
-use Rattle.mm_world.specs.World.{StackOf, RowOf, RegionOf, ProcessOf, AreaOf, SectionOf, WorldOf, Numbered, pages_of}
-use Rattle.mm_world.specs.Find.{end_stacks, set_stack, stack_by, change_range, Found, first_where, ranges_of, region_with, add_region, process_of, set_process, set_regions, set_region, area_at, no_area, shared_page, section_named, placed, is_private}
-use Rattle.mm_world.specs.Charge.{limit}
-use Rattle.mm_world.specs.Outcome.{OutcomeOf, done, need, find_or, within_limit}
-use Rattle.mm_world.specs.Rows.{change_flags, row_at, is_committed, reserved_row, commit}
-use Rattle.mm_world.specs.Query.{query, page_info, next_base, page_states, row_state, first_run, PageState, type_of}
-use Rattle.mm_world.specs.Sections.{create, create_file, open_section, close, handle_or, new_section, settle, settled_area, settled_areas, settled_section, settled_sections, holds, views, is_view_of, uses, handle_section, paging_area, is_reserve, are_section_flags, section_prot, file_named, largest_section}
-use Rattle.mm_world.specs.Views.{map_view, unmap, flush, view_access, may_view, view_region, view_at, view_around}
-use Rattle.mm_world.specs.Keys.{Home, Own, InSection, Committed, home_in, committed_in, committed_at, guard_off}
-use Rattle.mm_types.specs.Allocation.{commit_type}
-use Rattle.mm_world.specs.Alloc.{alloc}
-use Rattle.mm_world.specs.Stack.{stack, made, stack_region, probe, probe_at, probe_in, probe_of, grown, is_overflow, reserve_pages, commit_pages}
-use Rattle.mm_world.specs.Processes.{new_process, exit, new_file, take_fail, tell_charge, grow, no_regions, file_pages, kept_of_others, most_processes, most_fails, most_slots}
-use Rattle.mm_world.specs.Contents.{map_row, map_region, map_process, map_area, map_world}
-use Rattle.mm_world.proofs.Natural.{Agrees, map_found, first-map, map-append, map-remove, map-replicate, pages_of-map, ranges_of-map, same_place, map-add_region, at_process, to_process, to_regions, to_region, map-area_at, map-shared_page, map-row_at, same_committed, same_charge, in_alloc, at_need, at_find, at_found, at_lives, at_if, at_done, at_answer, at_limit}
+use Rattle.mm_world.specs.{watch, reset_watch, watched_around, StackOf, RowOf, RegionOf, ProcessOf, AreaOf, SectionOf, WorldOf, Numbered, pages_of}
+use Rattle.mm_world.specs.{end_stacks, set_stack, stack_by, Found, first_where, ranges_of, region_with, add_region, process_of, set_process}
+use Rattle.mm_world.specs.{set_regions, set_region, area_at, no_area, shared_page, section_named, placed, is_private, limit, OutcomeOf, done, need}
+use Rattle.mm_world.specs.{find_or, within_limit, change_flags, row_at, is_committed, reserved_row, commit, query, page_info, next_base, page_states}
+use Rattle.mm_world.specs.{row_state, first_run, PageState, type_of, create, create_file, open_section, close, handle_or, new_section, settle}
+use Rattle.mm_world.specs.{settled_area, settled_areas, settled_section, settled_sections, holds, views, is_view_of, uses, handle_section}
+use Rattle.mm_world.specs.{paging_area, is_reserve, are_section_flags, section_prot, file_named, largest_section, map_view, unmap, flush, view_access}
+use Rattle.mm_world.specs.{may_view, view_region, view_at, view_around, Home, Own, InSection, Committed, home_in, committed_in, committed_at}
+use Rattle.mm_world.specs.{guard_off, alloc, stack, made, stack_region, probe, probe_at, probe_in, probe_of, grown, is_overflow, new_process, exit}
+use Rattle.mm_world.specs.{new_file, take_fail, tell_charge, grow, no_regions, file_pages, kept_of_others, most_processes, map_row, map_region}
+use Rattle.mm_world.specs.{map_process, map_area, map_world}
+use Rattle.mm_world.proofs.Natural.{Agrees, map_found, first-map, map-append, map-remove, map-replicate, pages_of-map, ranges_of-map, same_place, at_process, to_process, to_regions, to_added, to_region, map-area_at, map-shared_page, map-row_at, same_committed, same_charge, in_alloc, at_need, at_found, at_lives, at_if, at_done, at_answer, at_limit, agreeing}
 
 any-map : {X Y : Type 0} (test : Y → Bool) (g : X → Y) (xs : List X) → list_any test (map g xs) ≡ list_any (λ x. test (g x)) xs
 any-map test g [] = refl
@@ -147,24 +139,16 @@ module _ {A B : Type 0} (f : A → B) where
   at_section w pid p s = at_done f _ _ _ (ap (λ (v : WorldOf B). record v { sections = w.sections ++ Some s ∷ [] }) (at_handle w pid p (p.handles ++ Some (length w.sections) ∷ [])))
 
   pub in_create_file : (w : WorldOf A) (pid : ℕ) (file : Text) (flags : ℕ) (name : Option Text) → Agrees f (create_file w pid file flags name) (create_file (map_world f w) pid file flags name)
-  in_create_file w pid file flags name =
-      at_lives f w pid _ _ (λ p lives.
-      at_need f w code.InvalidParameter (are_section_flags flags) (are_section_flags flags) _ _ refl (
-      at_found f w code.NotFound (file_named w file) (file_named w file) _ _ refl (λ x found.
-      at_handle_or w pid p (option_and_then (section_named w) name) _ _ (
-      at_section w pid p (record { prot = section_prot flags; name = name; area = x.area })))))
+  in_create_file w pid file flags name = search (agreeing, at_handle_or, at_section) depth 14
 
   pub in_open : (w : WorldOf A) (pid : ℕ) (name : Text) → Agrees f (open_section w pid name) (open_section (map_world f w) pid name)
-  in_open w pid name =
-      at_lives f w pid _ _ (λ p lives.
-      at_found f w code.NotFound (section_named w name) (section_named w name) _ _ refl (λ number found.
-      at_done f _ _ _ (at_handle w pid p (p.handles ++ Some number ∷ []))))
+  in_open w pid name = search (agreeing, at_handle) depth 14
 
   pub in_close : (w : WorldOf A) (pid handle : ℕ) → Agrees f (close w pid handle) (close (map_world f w) pid handle)
-  in_close w pid handle =
-      at_lives f w pid _ _ (λ p lives.
-      at_found f w code.InvalidHandle (handle_section w p handle) (handle_section w p handle) _ _ refl (λ s found.
-      at_done f answer.Ok _ _ (ap settle (at_handle w pid p (set p.handles (handle / 4) None)) ∙ to_settled (set_process w pid (Some (record p { handles = set p.handles (handle / 4) None }))))))
+  in_close w pid handle = search (agreeing, at_closed) depth 14
+    where
+      at_closed : (p : ProcessOf A) → settle (set_process (map_world f w) pid (Some (record (map_process f p) { handles = set p.handles (handle / 4) None }))) ≡ map_world f (settle (set_process w pid (Some (record p { handles = set p.handles (handle / 4) None }))))
+      at_closed p = ap settle (at_handle w pid p (set p.handles (handle / 4) None)) ∙ to_settled (set_process w pid (Some (record p { handles = set p.handles (handle / 4) None })))
 
   -- ---- views
 
@@ -186,21 +170,7 @@ module _ {A B : Type 0} (f : A → B) where
       within_limit w (done (answer.At (address_of range.first)) (set_regions w pid p (add_region (view_region s view first range) p.regions)))))))
 
   at_map_with : (w : WorldOf A) (pid : ℕ) (p : ProcessOf A) (offset len addr : ℕ) (view : ViewAccess) (s : Found SectionOf) (total : ℕ) → Agrees f (map_with w pid p offset len addr view s total) (map_with (map_world f w) pid (map_process f p) offset len addr view s total)
-  at_map_with w pid p offset len addr view s total =
-      let first = page_of offset in
-      let count = cond (len == 0) (total - first) (pages_for len) in
-      at_need f w code.AccessDenied (may_view view s.thing.prot) (may_view view s.thing.prot) _ _ refl (
-      at_need f w code.Misaligned (is_granule_address offset && is_granule_address addr) (is_granule_address offset && is_granule_address addr) _ _ refl (
-      at_need f w code.InvalidAddress (nat_lt first total && nat_le (first + count) total) (nat_lt first total && nat_le (first + count) total) _ _ refl (
-      at_found f w code.InvalidAddress (placed (ranges_of p.regions) addr (record { first = page_of addr; count = count }) count) (placed (ranges_of (map (map_region f) p.regions)) addr (record { first = page_of addr; count = count }) count) _ _
-      (same_place f p.regions addr (record { first = page_of addr; count = count }) count) (λ range found.
-      at_limit f w
-      (done (answer.At (address_of range.first)) (set_regions w pid p (add_region (view_region s view first range) p.regions)))
-      (done (answer.At (address_of range.first)) (set_regions (map_world f w) pid (map_process f p) (add_region (view_region s view first range) (map (map_region f) p.regions))))
-      (at_done f _ _ _ (
-      ap (λ r. set_regions (map_world f w) pid (map_process f p) (add_region r (map (map_region f) p.regions))) (sym (map-view_region s view first range))
-      ∙ ap (λ rs. set_regions (map_world f w) pid (map_process f p) rs) (sym (map-add_region f (view_region s view first range) p.regions))
-      ∙ sym (to_regions f w pid p (add_region (view_region s view first range) p.regions))))))))
+  at_map_with w pid p offset len addr view s total = search (agreeing, same_place, to_added, map-view_region) depth 20
 
   pub in_map : (w : WorldOf A) (pid handle access offset len addr : ℕ) → Agrees f (map_view w pid handle access offset len addr) (map_view (map_world f w) pid handle access offset len addr)
   in_map w pid handle access offset len addr =
@@ -216,12 +186,12 @@ module _ {A B : Type 0} (f : A → B) where
   at_view rs addr = first-map (λ r. not (is_private r.kind) && (address_of r.base == addr)) (map_region f) rs
 
   pub in_unmap : (w : WorldOf A) (pid addr : ℕ) → Agrees f (unmap w pid addr) (unmap (map_world f w) pid addr)
-  in_unmap w pid addr =
-      at_lives f w pid _ _ (λ p lives.
-      at_find f w code.InvalidAddress (map_found f) (view_at p.regions addr) (view_at (map (map_region f) p.regions) addr) _ _ (at_view p.regions addr) (λ r found.
-      at_done f answer.Ok _ _ (
-      ap settle (ap (λ rs. set_regions (map_world f w) pid (map_process f p) rs) (sym (map-remove (map_region f) p.regions r.place)) ∙ sym (to_regions f w pid p (remove p.regions r.place)))
-      ∙ to_settled (set_regions w pid p (remove p.regions r.place)))))
+  in_unmap w pid addr = search (agreeing, at_view, at_unmapped) depth 14
+    where
+      at_unmapped : (p : ProcessOf A) (r : Found (RegionOf A)) → settle (set_regions (map_world f w) pid (map_process f p) (remove (map (map_region f) p.regions) r.place)) ≡ map_world f (settle (set_regions w pid p (remove p.regions r.place)))
+      at_unmapped p r =
+          ap settle (ap (λ rs. set_regions (map_world f w) pid (map_process f p) rs) (sym (map-remove (map_region f) p.regions r.place)) ∙ sym (to_regions f w pid p (remove p.regions r.place)))
+          ∙ to_settled (set_regions w pid p (remove p.regions r.place))
 
   around_view : (rs : List (RegionOf A)) (range : Range) → view_around (map (map_region f) rs) range ≡ option_map (map_found f) (view_around rs range)
   around_view rs range =
@@ -229,11 +199,7 @@ module _ {A B : Type 0} (f : A → B) where
       ∙ ap (λ t. option_map (map_found f) (first_where t rs)) (fun_ext (λ r. ap (λ range'. not (is_private r.kind) && lies_within range range') (pages_of-map f r)))
 
   pub in_flush : (w : WorldOf A) (pid addr size : ℕ) → Agrees f (flush w pid addr size) (flush (map_world f w) pid addr size)
-  in_flush w pid addr size =
-      let range = range_of addr (cond (size == 0) 1 size) in
-      at_lives f w pid _ _ (λ p lives.
-      at_find f w code.InvalidAddress (map_found f) (view_around p.regions range) (view_around (map (map_region f) p.regions) range) _ _ (around_view p.regions range) (λ r found.
-      at_done f answer.Ok _ _ refl))
+  in_flush w pid addr size = search (agreeing, around_view) depth 14
 
   -- ---- watched regions
 
@@ -246,24 +212,14 @@ module _ {A B : Type 0} (f : A → B) where
   to_flags w pid p r flags = sym (to_region f w pid p r.place (change_flags flags r.thing))
 
   pub in_watch : (w : WorldOf A) (pid : ℕ) (unwrites : Bool) (addr size count : ℕ) → Agrees f (watch w pid unwrites addr size count) (watch (map_world f w) pid unwrites addr size count)
-  in_watch w pid unwrites addr size count =
-      let range = range_of addr size in
-      at_lives f w pid _ _ (λ p lives.
-      at_need f w code.InvalidParameter (not (size == 0)) (not (size == 0)) _ _ refl (
-      at_find f w code.InvalidParameter (map_found f) (watched_around p.regions range) (watched_around (map (map_region f) p.regions) range) _ _ (around_watched p.regions range) (λ r found.
-      at_done f _ _ _ (by_flag w pid p r (unwritten r.thing.base (written_in r.thing range count)) unwrites))))
+  in_watch w pid unwrites addr size count = search (agreeing, around_watched, by_flag) depth 14
     where
       by_flag : (w : WorldOf A) (pid : ℕ) (p : ProcessOf A) (r : Found (RegionOf A)) (flags : List Bool → List Bool) (b : Bool) → cond b (set_region (map_world f w) pid (map_process f p) r.place (change_flags flags (map_region f r.thing))) (map_world f w) ≡ map_world f (cond b (set_region w pid p r.place (change_flags flags r.thing)) w)
       by_flag w pid p r flags true = to_flags w pid p r flags
       by_flag w pid p r flags false = refl
 
   pub in_reset_watch : (w : WorldOf A) (pid addr size : ℕ) → Agrees f (reset_watch w pid addr size) (reset_watch (map_world f w) pid addr size)
-  in_reset_watch w pid addr size =
-      let range = range_of addr size in
-      at_lives f w pid _ _ (λ p lives.
-      at_need f w code.InvalidParameter (not (size == 0)) (not (size == 0)) _ _ refl (
-      at_find f w code.InvalidParameter (map_found f) (watched_around p.regions range) (watched_around (map (map_region f) p.regions) range) _ _ (around_watched p.regions range) (λ r found.
-      at_done f _ _ _ (to_flags w pid p r (change_range (λ was. false) (range.first - r.thing.base) range.count)))))
+  in_reset_watch w pid addr size = search (agreeing, around_watched, to_flags) depth 14
 
   -- ---- processes
 
@@ -290,10 +246,10 @@ module _ {A B : Type 0} (f : A → B) where
       at_done f answer.Ok _ _ (ap settle (sym (to_process f v pid None)) ∙ to_settled (set_process v pid None)))
 
   pub in_take_fail : (w : WorldOf A) → Agrees f (take_fail w) (take_fail (map_world f w))
-  in_take_fail w = at_if f (nat_lt w.fails_taken most_fails) _ _ _ _ (at_done f answer.Ok _ _ refl) (at_done f answer.Full _ _ refl)
+  in_take_fail w = search agreeing depth 14
 
   pub in_grow : (w : WorldOf A) (n : ℕ) → Agrees f (grow w n) (grow (map_world f w) n)
-  in_grow w n = at_if f (nat_le (w.machine.slots + n) most_slots) _ _ _ _ (at_done f _ _ _ refl) (at_done f answer.Full _ _ refl)
+  in_grow w n = search agreeing depth 14
 
   pub in_tell_charge : (w : WorldOf A) → Agrees f (tell_charge w) (tell_charge (map_world f w))
   in_tell_charge w = at_answer f _ _ _ _ (ap (λ c. answer.Charge c (limit w)) (same_charge f w)) refl
@@ -412,26 +368,16 @@ module _ {A B : Type 0} (f : A → B) where
         ∙ (λ i. map-replicate (map_row f) (r - (c + 1)) reserved_row i ++ commit (stacking 0) 0x104 reserved_row ∷ map-replicate (map_row f) c (commit (fill 0) 0x04 reserved_row) i))
 
     in_made : (w : WorldOf A) (tid pid : ℕ) (p : ProcessOf A) (r c : ℕ) → Agrees f (made fill w tid pid p r c) (made stacking (map_world f w) tid pid (map_process f p) r c)
-    in_made w tid pid p r c =
-        at_need f w code.InvalidParameter (nat_le (c + 2) r) (nat_le (c + 2) r) _ _ refl (
-        at_found f w code.InvalidAddress (lowest_gap (ranges_of p.regions) r) (lowest_gap (ranges_of (map (map_region f) p.regions)) r) _ _ (ap (λ ranges. lowest_gap ranges r) (ranges_of-map f p.regions)) (λ base found.
-        let s : StackOf = record { pid = pid; base = base; guard_page = base + r - (c + 1) } in
-        let v = set_regions w pid p (add_region (stack_region fill base r c) p.regions) in
-        let u = set_regions (map_world f w) pid (map_process f p) (add_region (stack_region stacking base r c) (map (map_region f) p.regions)) in
-        at_limit f w
-        (done (answer.Stack (address_of base) (address_of r) (address_of (base + r - (c + 1)))) (set_stack v tid s))
-        (done (answer.Stack (address_of base) (address_of r) (address_of (base + r - (c + 1)))) (set_stack u tid s))
-        (at_done f _ _ _ (ap (λ (v : WorldOf B). set_stack v tid s) (
-        ap (λ r. set_regions (map_world f w) pid (map_process f p) (add_region r (map (map_region f) p.regions))) (sym (map-stack_region base r c))
-        ∙ ap (λ rs. set_regions (map_world f w) pid (map_process f p) rs) (sym (map-add_region f (stack_region fill base r c) p.regions))
-        ∙ sym (to_regions f w pid p (add_region (stack_region fill base r c) p.regions)))))))
+    in_made w tid pid p r c = search (agreeing, at_gap, at_stack) depth 16
+      where
+        at_gap : lowest_gap (ranges_of (map (map_region f) p.regions)) r ≡ lowest_gap (ranges_of p.regions) r
+        at_gap = ap (λ ranges. lowest_gap ranges r) (ranges_of-map f p.regions)
+
+        at_stack : (base : ℕ) (s : StackOf) → set_stack (set_regions (map_world f w) pid (map_process f p) (add_region (stack_region stacking base r c) (map (map_region f) p.regions))) tid s ≡ map_world f (set_stack (set_regions w pid p (add_region (stack_region fill base r c) p.regions)) tid s)
+        at_stack base s = ap (λ (v : WorldOf B). set_stack v tid s) (to_added f w pid p (stack_region fill base r c) (stack_region stacking base r c) (map-stack_region base r c))
 
     pub in_stack : (w : WorldOf A) (tid pid reserve commit : ℕ) → Agrees f (stack fill w tid pid reserve commit) (stack stacking (map_world f w) tid pid reserve commit)
-    in_stack w tid pid reserve commit =
-        at_lives f w pid _ _ (λ p lives.
-        at_if f (is_some (stack_by w tid)) _ _ _ _
-        (at_done f answer.Busy _ _ refl)
-        (at_need f w code.InvalidParameter (not (reserve == 0)) (not (reserve == 0)) _ _ refl (in_made w tid pid p (reserve_pages reserve) (commit_pages commit))))
+    in_stack w tid pid reserve commit = search (agreeing, in_made) depth 14
 
     at_grown : (tid : ℕ) (s : StackOf) (v : WorldOf A) (u : WorldOf B) → u ≡ map_world f v → Agrees f (grown fill v tid s) (grown stacking u tid s)
     at_grown tid s v u e =
@@ -451,11 +397,7 @@ module _ {A B : Type 0} (f : A → B) where
         (cond (not (permits row.prot access_kind.Read)) (done (answer.Raised raise.AccessViolation) w) (done (answer.At (address_of s.guard_page)) w))))
 
     at_probe_with : (overflow : Bool) (w : WorldOf A) (tid : ℕ) (s : StackOf) (page : ℕ) (row : RowOf A) (v : WorldOf A) (u : WorldOf B) → u ≡ map_world f v → Agrees f (probe_with (grown fill) overflow w tid s page row v) (probe_with (grown stacking) overflow (map_world f w) tid s page (map_row f row) u)
-    at_probe_with overflow w tid s page row v u e =
-        at_if f (row.guard && not (page == s.guard_page)) _ _ _ _ (at_done f (answer.Raised raise.GuardPage) v u e)
-        (at_if f (row.guard && overflow) _ _ _ _ (at_done f (answer.Raised raise.StackOverflow) v u e)
-        (at_if f row.guard _ _ _ _ (at_grown tid s v u e)
-        (at_if f (not (permits row.prot access_kind.Read)) _ _ _ _ (at_done f (answer.Raised raise.AccessViolation) w (map_world f w) refl) (at_done f (answer.At (address_of s.guard_page)) w (map_world f w) refl))))
+    at_probe_with overflow w tid s page row v u e = search (agreeing, at_grown) depth 14
 
     in_probe_at : (w : WorldOf A) (tid : ℕ) (p : ProcessOf A) (s : StackOf) (page : ℕ) (c : Option (Committed A)) → Agrees f (probe_at fill w tid p s page c) (probe_at stacking (map_world f w) tid (map_process f p) s page (option_map map_committed c))
     in_probe_at w tid p s page None = at_done f (answer.Raised raise.AccessViolation) w (map_world f w) refl

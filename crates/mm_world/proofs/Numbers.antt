@@ -2,11 +2,8 @@
 use Rattle.std.proofs.Common.{◌≡◌, ℕ, zero, suc, Option, Some, None, [], ◌∷◌, ◌++◌, ◌∙◌, ap, arith, length, set, slice_get}
 use Rattle.std.proofs.lemmas.Bool.{leb-true}
 use Rattle.std.proofs.lemmas.List.{length-set, length-append}
-use Rattle.mm_world.specs.World.{WorldOf, ProcessOf, Numbered, numbered}
-use Rattle.mm_world.specs.Find.{process_of, set_process}
-use Rattle.mm_world.specs.Processes.{no_regions, most_processes}
-use Rattle.mm_world.specs.WellFormed.{NumbersFit}
-use Rattle.mm_world.proofs.Edits.{Terms, Edit, Rest, Regions, HandleComes, HandleGoes, SectionComes, AreaComes, AreaChanges, FileComes, Settles, ProcessComes, ProcessGoes, Edits, fold}
+use Rattle.mm_world.specs.{WorldOf, ProcessOf, Numbered, numbered, process_of, set_process, no_regions, most_processes, NumbersFit}
+use Rattle.mm_world.proofs.Edits.{Terms, Edit, Rest, Regions, HandleComes, HandleGoes, ProcessComes, ProcessGoes, Edits, fold}
 
 module _ {B : Type 0} where
   -- a process that lives is not process 0
@@ -54,11 +51,7 @@ module _ {B : Type 0} (t : Terms) where
         blocks = h.blocks;
         slots = h.slots;
       }
-  each w _ (SectionComes s inside) h = record { processes = h.processes; no_process = h.no_process; kept = h.kept; fails = h.fails; blocks = h.blocks; slots = h.slots }
-  each w _ (AreaComes a charged) h = record { processes = h.processes; no_process = h.no_process; kept = h.kept; fails = h.fails; blocks = h.blocks; slots = h.slots }
-  each w _ (AreaChanges at a same charged) h = record { processes = h.processes; no_process = h.no_process; kept = h.kept; fails = h.fails; blocks = h.blocks; slots = h.slots }
-  each w _ (FileComes f inside) h = record { processes = h.processes; no_process = h.no_process; kept = h.kept; fails = h.fails; blocks = h.blocks; slots = h.slots }
-  each w _ (Settles falls) h = record { processes = h.processes; no_process = h.no_process; kept = h.kept; fails = h.fails; blocks = h.blocks; slots = h.slots }
+  each w v e h = record { processes = h.processes; no_process = h.no_process; kept = h.kept; fails = h.fails; blocks = h.blocks; slots = h.slots }
 
   pub numbers_kept : (w v : WorldOf B) → Edits t w v → NumbersFit w → NumbersFit v
   numbers_kept = fold t NumbersFit each

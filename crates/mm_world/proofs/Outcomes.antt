@@ -1,14 +1,10 @@
 -- Outcomes that are decided step by step.
 use Rattle.std.proofs.Common.{◌≡◌, ◌≤◌, ◌<◌, ℕ, Bool, true, false, Option, Some, ap, is_some, nat_le, arith}
 use Rattle.std.proofs.lemmas.Bool.{leb-true, le-leb}
-use Rattle.mm_types.specs.declared.codes.Code.{Code}
+use Rattle.mm_types.specs.{Code}
 use Rattle.mm_types.specs.declared.codes.Code.TheVariants as code
-use Rattle.mm_world.specs.World.{ProcessOf, WorldOf}
-use Rattle.mm_world.specs.Find.{process_of}
-use Rattle.mm_world.specs.Charge.{charge, limit}
-use Rattle.mm_world.specs.Outcome.{OutcomeOf, refused, need, find_or, with_process, within_limit}
-use Rattle.mm_types.proofs.Booleans.{not_true}
-use Rattle.mm_types.proofs.Options.{none_of}
+use Rattle.mm_world.specs.{ProcessOf, WorldOf, process_of, charge, limit, OutcomeOf, refused, need, find_or, with_process, within_limit}
+use Rattle.mm_types.proofs.{not_true, none_of}
 
 module _ {B : Type 0} (w : WorldOf B) where
   pub at_alive : (pid : ℕ) (p : ProcessOf B) (f : ProcessOf B → OutcomeOf B) → process_of w pid ≡ Some p → with_process w pid f ≡ f p

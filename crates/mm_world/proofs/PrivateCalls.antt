@@ -2,15 +2,14 @@
 use Rattle.std.proofs.Common.{◌≡◌, ℕ, Bool, true, false, Option, Some, None, List, refl, sym, ◌∙◌, ap, length, is_some, ◌&&◌, ◌||◌, not}
 use Rattle.std.specs.Prelude.{◌==◌}
 use Rattle.std.specs.List.{list_any}
-use Rattle.mm_types.specs.declared.views.Kind.{Kind}
-use Rattle.mm_types.proofs.Booleans.{parts}
-use Rattle.mm_world.specs.World.{WorldOf, ProcessOf, RegionOf, Numbered, numbered, pages_of}
-use Rattle.mm_world.specs.Find.{process_of, set_process, is_private}
-use Rattle.mm_world.specs.Processes.{no_regions}
-use Rattle.mm_world.specs.PrivateRegions.{PagesOf, is_same_range, is_asked_region, holds_asked, is_region_of}
+use Rattle.mm_types.specs.{Kind}
+use Rattle.mm_types.proofs.{parts}
+use Rattle.mm_world.specs.{WorldOf, ProcessOf, RegionOf, Numbered, numbered, pages_of, process_of, set_process, is_private, no_regions, PagesOf}
+use Rattle.mm_world.specs.{is_same_range, is_asked_region, holds_asked, is_region_of}
 use Rattle.mm_world.proofs.FlagRanges.{same_page as equals}
-use Rattle.mm_world.proofs.PrivateLists.{any_set, any_insert, any_remove, after_put, after_push, view_is_none}
-use Rattle.mm_world.proofs.Edits.{Terms, RegionEdit, RegionComes, RegionGoes, RegionChanges, Edit, Rest, Regions, HandleComes, HandleGoes, SectionComes, AreaComes, AreaChanges, FileComes, Settles, ProcessComes, ProcessGoes, Edits, fold}
+use Rattle.mm_world.proofs.PrivateLists.{any_set, any_insert, any_remove, view_is_none}
+use Rattle.mm_world.proofs.Finding.{put_at, push_at}
+use Rattle.mm_world.proofs.Edits.{Terms, RegionEdit, RegionComes, RegionGoes, RegionChanges, Edit, Rest, Regions, HandleComes, HandleGoes, ProcessComes, ProcessGoes, Edits, fold}
 
 module _ {B : Type 0} where
   -- a region with as many pages at the same base, watched as it was, stays what it was
@@ -46,20 +45,16 @@ module _ {B : Type 0} (t : Terms) (x : PagesOf) (lasts : t.ends x ≡ false) whe
       any_set (is_asked_region x) rs i r new there (region_kept x r new like.base like.kind like.count like.watched) held
 
   put : (w : WorldOf B) (pid : ℕ) (p : ProcessOf B) (q : Option (ProcessOf B)) → process_of w pid ≡ Some p → (x.pid ≡ pid → holds_asked x (Some p) ≡ true → holds_asked x q ≡ true) → is_region_of w x ≡ true → is_region_of (set_process w pid q) x ≡ true
-  put w pid p q lives keeps h = after_put w.processes pid x.pid p q x lives keeps h
+  put w pid p q lives keeps = put_at (λ o n. holds_asked x o ≡ true → holds_asked x n ≡ true) w.processes pid x.pid p q lives keeps (λ other h. h)
 
   each : (w v : WorldOf B) → Edit t w v → is_region_of w x ≡ true → is_region_of v x ≡ true
   each w _ (Rest v b) h = ap (λ (ps : Numbered (ProcessOf B)). holds_asked x (numbered ps x.pid)) b.processes ∙ h
   each w _ (Regions pid p rs lives e) h = put w pid p (Some (record p { regions = rs })) lives (after_region w pid p.regions rs e) h
   each w _ (HandleComes pid p number lives there) h = put w pid p _ lives (λ here held. held) h
   each w _ (HandleGoes pid p i lives) h = put w pid p _ lives (λ here held. held) h
-  each w _ (ProcessComes room) h = after_push w.processes (Some no_regions) x.pid x h
+  each w _ (ProcessComes room) h = push_at (λ o n. holds_asked x o ≡ true → holds_asked x n ≡ true) w.processes x.pid (Some no_regions) (λ h. cc) (λ o h. h) h
   each w _ (ProcessGoes pid p lives ends charged) h = put w pid p None lives (λ here held. let bad : true ≡ false = sym (ends x here) ∙ lasts in cc) h
-  each w _ (SectionComes s inside) h = h
-  each w _ (AreaComes a charged) h = h
-  each w _ (AreaChanges at a same charged) h = h
-  each w _ (FileComes f inside) h = h
-  each w _ (Settles falls) h = h
+  each w v e h = h
 
   pub region_stays : (w v : WorldOf B) → Edits t w v → is_region_of w x ≡ true → is_region_of v x ≡ true
   region_stays = fold t (λ w. is_region_of w x ≡ true) each

@@ -1,14 +1,9 @@
 -- A private region of a process, as the regions of processes change.
-use Rattle.std.proofs.Common.{◌≡◌, ℕ, zero, suc, Bool, true, false, Option, Some, None, List, [], ◌∷◌, ◌++◌, inl, inr, refl, sym, ◌∙◌, ap, set, get_or, slice_get, is_some, not, ◌&&◌, ◌||◌}
+use Rattle.std.proofs.Common.{◌≡◌, ℕ, zero, suc, Bool, true, false, Some, List, [], ◌∷◌, refl, ◌∙◌, ap, set, slice_get, is_some, not, ◌&&◌, ◌||◌}
 use Rattle.std.specs.Prelude.{insert, remove}
 use Rattle.std.specs.List.{list_any}
-use Rattle.std.proofs.lemmas.List.{get_or-set_same, get_or-set_other}
-use Rattle.mm_types.proofs.Cells.{same_or_not}
-use Rattle.mm_types.proofs.Booleans.{and_false, or_left, or_right, or_both}
-use Rattle.mm_world.specs.World.{ProcessOf, RegionOf, Numbered, numbered, pages_of}
-use Rattle.mm_world.specs.Find.{is_private}
-use Rattle.mm_world.proofs.Finding.{numbered_inside}
-use Rattle.mm_world.specs.PrivateRegions.{PagesOf, is_same_range, is_asked_region, holds_asked}
+use Rattle.mm_types.proofs.{and_false, or_left, or_right, or_both}
+use Rattle.mm_world.specs.{RegionOf, pages_of, is_private, PagesOf, is_same_range, is_asked_region}
 
 or-keeps : (a b c : Bool) → (a ≡ true → b ≡ true) → (a || c) ≡ true → (b || c) ≡ true
 or-keeps true b c k h = or_left b c (k refl)
@@ -41,23 +36,6 @@ module _ {A : Type 0} (test : A → Bool) where
   any_remove (y ∷ xs) (suc i) x there fails h = or_both (test y) (list_any test xs) (list_any test (remove xs i)) (any_remove xs i x there fails) h
 
 module _ {B : Type 0} where
-  -- after one process was put in the place of another
-  pub after_put : (ps : Numbered (ProcessOf B)) (pid j : ℕ) (p : ProcessOf B) (q : Option (ProcessOf B)) (x : PagesOf) → numbered ps pid ≡ Some p → (j ≡ pid → holds_asked x (Some p) ≡ true → holds_asked x q ≡ true) → holds_asked x (numbered ps j) ≡ true → holds_asked x (numbered (set ps pid q) j) ≡ true
-  after_put ps pid j p q x lives keeps h =
-      elim (same_or_not j pid) [
-        | inl same ↦
-            ap (λ (k : ℕ). holds_asked x (get_or (set ps pid q) k None)) same
-            ∙ ap (λ (o : Option (ProcessOf B)). holds_asked x o) (get_or-set_same ps pid q None (numbered_inside ps pid p lives))
-            ∙ keeps same (ap (λ (o : Option (ProcessOf B)). holds_asked x o) (sym lives ∙ ap (λ (k : ℕ). get_or ps k None) (sym same)) ∙ h)
-        | inr other ↦ ap (λ (o : Option (ProcessOf B)). holds_asked x o) (get_or-set_other ps pid j q None other) ∙ h
-      ]
-
-  -- after one process more
-  pub after_push : (ps : Numbered (ProcessOf B)) (q : Option (ProcessOf B)) (j : ℕ) (x : PagesOf) → holds_asked x (numbered ps j) ≡ true → holds_asked x (numbered (ps ++ q ∷ []) j) ≡ true
-  after_push [] q j x h = cc
-  after_push (p ∷ ps) q zero x h = h
-  after_push (p ∷ ps) q (suc j) x h = after_push ps q j x h
-
   -- a view is no private region
   pub view_is_none : (x : PagesOf) (r : RegionOf B) → is_private r.kind ≡ false → is_asked_region x r ≡ false
   view_is_none x r e =

@@ -1,9 +1,8 @@
 -- Pages within ranges, ranges within ranges, and ranges that do not meet, in numbers.
 use Rattle.std.proofs.Common.{◌≡◌, ℕ, ◌≤◌, ◌<◌, true, false, sym, ◌∙◌, arith, nat_le, nat_lt}
 use Rattle.std.proofs.lemmas.Bool.{leb-true, le-leb}
-use Rattle.mm_types.specs.Address.{Range, end_of, holds_page, lies_within, meets}
-use Rattle.mm_types.proofs.Booleans.{both, parts, not_true}
-use Rattle.mm_types.proofs.Naturals.{less, is_below}
+use Rattle.mm_types.specs.{Range, end_of, holds_page, lies_within, meets}
+use Rattle.mm_types.proofs.{both, parts, not_true, less, is_below}
 
 -- ---- a page of a range
 

@@ -1,17 +1,15 @@
 -- A world is its tables and the bytes of its keys.
-use Rattle.std.proofs.Common.{◌≡◌, ℕ, zero, suc, ◌+◌, ◌-◌, ◌≤◌, ◌<◌, Bool, true, false, Option, Some, None, List, [], ◌∷◌, refl, ◌∙◌, ap, cond, arith, map, slice_get, ◌&&◌, option_map, unwrap_or, nat_le, nat_lt}
+use Rattle.std.proofs.Common.{◌≡◌, ℕ, suc, ◌+◌, ◌-◌, Option, Some, None, List, [], ◌∷◌, refl, ◌∙◌, ap, arith, map, slice_get, option_map, unwrap_or}
 use Rattle.std.specs.Prelude.{option_and_then}
-use Rattle.std.proofs.lemmas.Bool.{le-leb}
-use Rattle.mm_types.specs.declared.numbers.Key.{Key}
-use Rattle.mm_types.specs.Address.{end_of, holds_page, first_user_page}
-use Rattle.mm_world.specs.World.{Page, World, RowOf, RegionOf, ProcessOf, AreaOf, Numbered, numbered, filled, pages_of}
-use Rattle.mm_world.specs.Find.{no_area}
-use Rattle.mm_world.specs.Keys.{own_page, private_key, shared_key}
-use Rattle.mm_world.specs.Contents.{map_row, map_region, map_process, map_area, Tables, no_bytes, tables_of, bytes_in, row_with, rows_with, region_with_bytes, process_with, processes_with, pages_with, areas_with, world_with}
-use Rattle.mm_world.specs.WellFormed.{LaidOut, Spaces}
-use Rattle.mm_types.proofs.Cells.{get_within}
-use Rattle.mm_world.proofs.LaidOut.{laid_at, and-true, less}
-use Rattle.mm_world.proofs.KeptPages.{own_in, own_page-cons, own_of}
+use Rattle.mm_types.specs.{Key, first_user_page}
+use Rattle.mm_world.specs.{Page, RowOf, RegionOf, ProcessOf, AreaOf, Numbered, numbered, filled, pages_of, no_area, own_page, private_key, shared_key}
+use Rattle.mm_world.specs.{map_row, map_region, map_process, map_area, Tables, no_bytes, tables_of, bytes_in, row_with, rows_with, region_with_bytes}
+use Rattle.mm_world.specs.{process_with, processes_with, pages_with, areas_with, world_with, LaidOut, Spaces}
+use Rattle.mm_world.specs.World.{World}
+use Rattle.mm_types.proofs.{get_within}
+use Rattle.mm_world.proofs.KeptPages.{own_in, own_of}
+use Rattle.mm_world.proofs.Ranges.{holds}
+use Rattle.mm_world.proofs.Regions.{has_at}
 
 -- ---- the tables of a world with bytes are those that it was made of
 
@@ -104,30 +102,11 @@ module _ (c : Key → Page) where
 
 -- a row's own bytes are those of its page
 own_at : {B : Type 0} (from j i : ℕ) (rs : List (RegionOf B)) (r : RegionOf B) (row : RowOf B) → LaidOut from rs → slice_get rs j ≡ Some r → slice_get r.rows i ≡ Some row → own_page rs (r.base + i) ≡ row.own
-own_at from j i [] r row h there at = cc
-own_at {B} from zero i (y ∷ rs) r row h there at =
-    let same : y ≡ r = cc in
-    let base : y.base ≡ r.base = ap (λ (r : RegionOf B). r.base) same in
-    let in_rows : slice_get y.rows i ≡ Some row = ap (λ (r : RegionOf B). slice_get r.rows i) same ∙ at in
-    own_page-cons y rs (r.base + i)
-    ∙ ap (λ b. cond b (own_in y (r.base + i)) (own_page rs (r.base + i))) (holds y (r.base + i) (omega (arith, base)) (omega (arith, base, get_within y.rows i row in_rows)))
-    ∙ ap (λ (k : ℕ). option_and_then (λ (row : RowOf B). row.own) (slice_get y.rows k)) (let k : r.base + i - y.base ≡ i = omega (arith, base) in k)
-    ∙ ap (λ o. option_and_then (λ (row : RowOf B). row.own) o) in_rows
-  where
-    both : (x y : Bool) → x ≡ true → y ≡ true → (x && y) ≡ true
-    both true y e f = f
-    both false y e f = cc
-
-    holds : (r : RegionOf B) (page : ℕ) → r.base ≤ page → page < end_of (pages_of r) → holds_page (pages_of r) page ≡ true
-    holds r page low high = both (nat_le r.base page) (nat_lt page (end_of (pages_of r))) (le-leb _ _ low) (le-leb _ _ high)
-own_at from (suc j) i (y ∷ rs) r row h there at =
-    own_page-cons y rs (r.base + i)
-    ∙ ap (λ b. cond b (own_in y (r.base + i)) (own_page rs (r.base + i))) (behind (holds_page (pages_of y) (r.base + i)) refl)
-    ∙ own_at (end_of (pages_of y)) j i rs r row h.1 there at
-  where
-    behind : (b : Bool) → holds_page (pages_of y) (r.base + i) ≡ b → b ≡ false
-    behind true e = absurd (omega (arith, less _ _ (and-true (nat_le y.base (r.base + i)) (nat_lt (r.base + i) (end_of (pages_of y))) e).1, (laid_at (end_of (pages_of y)) rs j r h.1 there).later))
-    behind false e = refl
+own_at {B} from j i rs r row h there at =
+    let page = r.base + i in
+    has_at (λ (r : RegionOf B). own_in r page) from j page rs r h there (holds (pages_of r) page (omega arith) (omega (arith, get_within r.rows i row at)))
+    ∙ ap (λ (k : ℕ). option_and_then (λ (row : RowOf B). row.own) (slice_get r.rows k)) (let k : page - r.base ≡ i = omega arith in k)
+    ∙ ap (λ o. option_and_then (λ (row : RowOf B). row.own) o) at
 
 pub full_world : (w : World) → Spaces w → world_with (tables_of w) (bytes_in w) ≡ w
 full_world w spaces =

@@ -4,20 +4,17 @@ use Rattle.std.specs.Prelude.{◌==◌}
 use Rattle.std.specs.List.{list_any}
 use Rattle.std.specs.Cmp.{unsigned_Decides}
 use Rattle.std.proofs.lemmas.List.{length-append, length-set}
-use Rattle.mm_types.specs.declared.answers.Answer.{Answer}
+use Rattle.mm_types.specs.{Answer, View}
 use Rattle.mm_types.specs.declared.views.Kind.TheVariants as kind
-use Rattle.mm_types.specs.declared.views.View.{View}
-use Rattle.mm_world.specs.World.{WorldOf, ProcessOf, RegionOf, AreaOf, SectionOf, FileOf, Numbered, numbered}
-use Rattle.mm_world.specs.Find.{process_of, set_process, set_area, area_at, no_area, section_of}
-use Rattle.mm_world.specs.Outcome.{OutcomeOf, done}
-use Rattle.mm_world.specs.Sections.{settle, settled_section, settled_sections, settled_area, settled_areas, holds, views, is_handle_to, is_view_of, uses}
-use Rattle.mm_world.specs.Processes.{no_regions}
-use Rattle.mm_world.specs.Keys.{Committed, committed_at, guard_off}
-use Rattle.mm_world.specs.WellFormed.{Each, ViewFits, RegionRefers, ProcessRefers, References}
+use Rattle.mm_types.proofs.{or_right}
+use Rattle.mm_world.specs.{WorldOf, ProcessOf, RegionOf, AreaOf, SectionOf, FileOf, Numbered, numbered, process_of, set_process, set_area, area_at}
+use Rattle.mm_world.specs.{no_area, section_of, OutcomeOf, done, settle, settled_section, settled_sections, settled_area, settled_areas, holds, views}
+use Rattle.mm_world.specs.{is_handle_to, is_view_of, uses, no_regions, Committed, committed_at, guard_off, Each, ViewFits, RegionRefers}
+use Rattle.mm_world.specs.{ProcessRefers, References}
 use Rattle.mm_world.proofs.Tables.{Holds}
 use Rattle.mm_world.proofs.Edits.{Terms, any_terms, RegionEdit, RegionComes, RegionGoes, RegionChanges, Edit, Rest, Regions, HandleComes, HandleGoes, SectionComes, AreaComes, AreaChanges, FileComes, Settles, ProcessComes, ProcessGoes, Edits, fold}
 use Rattle.mm_world.proofs.LineEdits as edits
-use Rattle.mm_world.proofs.Finding.{numbered_inside}
+use Rattle.mm_world.proofs.Finding.{numbered_inside, numbered_there, push_at}
 use Rattle.mm_world.proofs.Each.{each-append, each-insert, each-remove, each-set, each-at}
 use Rattle.mm_world.proofs.Spaces.{after_set, after_push}
 
@@ -26,20 +23,10 @@ use Rattle.mm_world.proofs.Spaces.{after_set, after_push}
 any-at : {A : Type 0} (test : A → Bool) (xs : List A) (i : ℕ) (x : A) → slice_get xs i ≡ Some x → test x ≡ true → list_any test xs ≡ true
 any-at test [] i x there passes = cc
 any-at test (y ∷ xs) zero x there passes = let same : y ≡ x = cc in ap (λ b. b || list_any test xs) (ap test same ∙ passes)
-any-at test (y ∷ xs) (suc i) x there passes = or-true (test y) (list_any test xs) (any-at test xs i x there passes)
-  where
-    or-true : (a b : Bool) → b ≡ true → (a || b) ≡ true
-    or-true true b e = refl
-    or-true false b e = e
+any-at test (y ∷ xs) (suc i) x there passes = or_right (test y) (list_any test xs) (any-at test xs i x there passes)
 
 any-numbered : {A : Type 0} (test : Option A → Bool) (xs : Numbered A) (i : ℕ) (x : A) → numbered xs i ≡ Some x → test (Some x) ≡ true → list_any test xs ≡ true
-any-numbered test [] i x there passes = cc
-any-numbered test (y ∷ xs) zero x there passes = ap (λ b. b || list_any test xs) (ap test there ∙ passes)
-any-numbered test (y ∷ xs) (suc i) x there passes = or-true (test y) (list_any test xs) (any-numbered test xs i x there passes)
-  where
-    or-true : (a b : Bool) → b ≡ true → (a || b) ≡ true
-    or-true true b e = refl
-    or-true false b e = e
+any-numbered test xs i x there passes = any-at test xs i (Some x) (numbered_there xs i x there) passes
 
 same_number : (n : ℕ) → (n == n) ≡ true
 same_number n = (unsigned_Decides n n).1 refl
@@ -47,11 +34,6 @@ same_number n = (unsigned_Decides n n).1 refl
 some_of : {X : Type 0} (o : Option X) → is_some o ≡ true → (x : X) × (o ≡ Some x)
 some_of None e = absurd (cc)
 some_of (Some x) e = (x, refl)
-
-pushed : {X : Type 0} (xs : Numbered X) (o : Option X) (n : ℕ) (x : X) → numbered xs n ≡ Some x → numbered (xs ++ o ∷ []) n ≡ Some x
-pushed [] o n x e = cc
-pushed (y ∷ xs) o zero x e = e
-pushed (y ∷ xs) o (suc n) x e = pushed xs o n x e
 
 each-more : (n m : ℕ) (fs : List FileOf) → n ≤ m → Each (λ (f : FileOf). f.area < n) fs → Each (λ (f : FileOf). f.area < m) fs
 each-more n m [] low h = tt
@@ -166,7 +148,7 @@ module _ {B : Type 0} where
   section_pushed : (w : WorldOf B) (s : SectionOf) → s.area < length w.areas → References w → References (record w { sections = w.sections ++ Some s ∷ [] })
   section_pushed w s inside h =
       let v : WorldOf B = record w { sections = w.sections ++ Some s ∷ [] } in
-      let g : Grows w v = record { sections = λ n t e. (t, pushed w.sections (Some s) n t e, refl); pages = λ area. omega arith } in
+      let g : Grows w v = record { sections = λ n t e. (t, push_at (λ o p. o ≡ Some t → p ≡ Some t) w.sections n (Some s) (λ e. cc) (λ o e. e) e, refl); pages = λ area. omega arith } in
       record {
         processes = λ j q e. process_grows w v q g (h.processes j q e);
         sections = λ n t e.

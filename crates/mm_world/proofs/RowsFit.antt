@@ -3,18 +3,13 @@ use Rattle.std.proofs.Common.{◌≡◌, ℕ, ◌+◌, ◌-◌, ◌≤◌, ◌<�
 use Rattle.std.specs.Prelude.{◌==◌}
 use Rattle.std.specs.Cmp.{unsigned_Decides}
 use Rattle.std.proofs.lemmas.List.{take-append-drop, length-append, length-map}
-use Rattle.mm_types.specs.declared.views.Kind.{Kind}
+use Rattle.mm_types.specs.{Kind, View, ViewAccess, Range, base_of}
 use Rattle.mm_types.specs.declared.views.Kind.TheVariants as kind
-use Rattle.mm_types.specs.declared.views.View.{View}
-use Rattle.mm_types.specs.declared.views.ViewAccess.{ViewAccess}
 use Rattle.mm_types.specs.declared.views.ViewAccess.TheVariants as view
-use Rattle.mm_types.specs.Address.{Range}
-use Rattle.mm_types.specs.Protection.{base_of}
-use Rattle.mm_world.specs.World.{RowOf, RegionOf, WorldOf}
-use Rattle.mm_world.specs.Find.{change_range}
-use Rattle.mm_world.specs.Rows.{is_one_of, private_protections, marked_protections, view_protections, protections_of, row_at, accepts, is_committed, is_committed_at, reserved_row, commit, marked_prot, protected, change_rows, every_page}
-use Rattle.mm_world.specs.Views.{is_copy, first_protection}
-use Rattle.mm_world.specs.WellFormed.{PrivateRowFits, ViewRowFits, RowFits, RowsFit, held_protections}
+use Rattle.mm_types.proofs.{or_left}
+use Rattle.mm_world.specs.{RowOf, RegionOf, WorldOf, change_range, is_one_of, private_protections, marked_protections, view_protections}
+use Rattle.mm_world.specs.{protections_of, row_at, accepts, is_committed, is_committed_at, reserved_row, commit, marked_prot, protected, change_rows}
+use Rattle.mm_world.specs.{every_page, is_copy, first_protection, PrivateRowFits, ViewRowFits, RowFits, RowsFit, held_protections}
 use Rattle.mm_world.proofs.Each.{each-change_range, every_page-at}
 
 -- ---- one of a few numbers
@@ -45,10 +40,6 @@ by_four P a b c d pa pb pc pd n e =
       | inl is ↦ subst P is pa
       | inr e ↦ by_three P b c d pb pc pd n e
     ]
-
-or-left : (a b : Bool) → a ≡ true → (a || b) ≡ true
-or-left true b e = refl
-or-left false b e = cc
 
 pub length-change_range : {A : Type 0} (change : A → A) (first count : ℕ) (xs : List A) → length (change_range change first count xs) ≡ length xs
 length-change_range change first count xs =
@@ -100,8 +91,8 @@ module _ {B : Type 0} where
   view_fits : (v : View) (prot : ℕ) (row : RowOf B) → is_one_of (protections_of (kind.View v) row) (base_of prot) ≡ true → ViewRowFits v.access row → ViewRowFits v.access (protected (kind.View v) prot row)
   view_fits v prot row e h =
       record {
-        copied = λ n. or-left row.marked (base_of prot == 8) (h.copied n);
-        copy_view = λ n. or-left row.marked (base_of prot == 8) (h.copy_view n);
+        copied = λ n. or_left row.marked (base_of prot == 8) (h.copied n);
+        copy_view = λ n. or_left row.marked (base_of prot == 8) (h.copy_view n);
         held = held v.access row.own row.marked (base_of prot) h.copied h.copy_view e;
       }
 

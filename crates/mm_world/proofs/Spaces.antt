@@ -5,25 +5,17 @@ use Rattle.std.specs.List.{list_any}
 use Rattle.std.specs.Cmp.{unsigned_Decides}
 use Rattle.std.proofs.lemmas.Bool.{leb-true}
 use Rattle.std.proofs.lemmas.List.{get_or-set_same, get_or-set_other, length-replicate}
-use Rattle.mm_types.proofs.Cells.{same_or_not}
-use Rattle.mm_types.specs.declared.answers.Answer.{Answer}
+use Rattle.mm_types.proofs.{same_or_not}
+use Rattle.mm_types.specs.{Answer, Kind, Range, end_of, granule_range_of, pages_for, page_of, lies_within, meets, first_user_page, end_of_user_pages}
+use Rattle.mm_types.specs.{granule_pages, granule_size, is_granule_address, base_of, reserve_type}
 use Rattle.mm_types.specs.declared.answers.Answer.TheVariants as answer
-use Rattle.mm_types.specs.declared.views.Kind.{Kind}
 use Rattle.mm_types.specs.declared.views.Kind.TheVariants as kind
-use Rattle.mm_types.specs.Address.{Range, end_of, granule_range_of, pages_for, page_of, lies_within, meets, first_user_page, end_of_user_pages, granule_pages, granule_size, is_granule_address}
-use Rattle.mm_types.specs.Protection.{base_of}
-use Rattle.mm_world.specs.Watch.{unwritten}
-use Rattle.mm_world.specs.World.{WorldOf, ProcessOf, RegionOf, Numbered, numbered, pages_of}
-use Rattle.mm_world.specs.Find.{change_range, process_of, set_process, set_regions, add_region, ranges_of, is_private}
-use Rattle.mm_world.specs.Outcome.{OutcomeOf, done}
-use Rattle.mm_world.specs.Rows.{is_one_of, is_protection_among, private_protections, reserved_row, commit}
-use Rattle.mm_types.specs.Allocation.{reserve_type}
-use Rattle.mm_world.specs.Alloc.{private_region, new_row, are_alloc_parameters, alloc_types}
-use Rattle.mm_world.specs.Free.{free}
-use Rattle.mm_world.specs.Processes.{no_regions}
-use Rattle.mm_world.specs.WellFormed.{FlagsFit, RowFits, RowsFit, IsSpace, Spaces}
+use Rattle.mm_world.specs.{unwritten, WorldOf, ProcessOf, RegionOf, Numbered, numbered, pages_of, change_range, process_of, set_process, set_regions}
+use Rattle.mm_world.specs.{add_region, ranges_of, is_private, OutcomeOf, done, is_one_of, is_protection_among, private_protections, reserved_row}
+use Rattle.mm_world.specs.{commit, private_region, new_row, are_alloc_parameters, alloc_types, free, no_regions, FlagsFit, RowFits, RowsFit, IsSpace}
+use Rattle.mm_world.specs.{Spaces}
 use Rattle.mm_world.proofs.Tables.{Holds}
-use Rattle.mm_world.proofs.Edits.{Terms, RegionEdit, RegionComes, RegionGoes, RegionChanges, Edit, Rest, Regions, HandleComes, HandleGoes, SectionComes, AreaComes, AreaChanges, FileComes, Settles, ProcessComes, ProcessGoes, Edits, fold}
+use Rattle.mm_world.proofs.Edits.{Terms, RegionEdit, RegionComes, RegionGoes, RegionChanges, Edit, Rest, Regions, HandleComes, HandleGoes, ProcessComes, ProcessGoes, Edits, fold}
 use Rattle.mm_world.proofs.Finding.{numbered_inside}
 use Rattle.mm_world.proofs.Each.{each-insert, each-remove, each-set, each-at}
 use Rattle.mm_world.proofs.LaidOut.{laid_add, laid_remove, laid_set, and-true, less, IsPlaced, PlacedAt}
@@ -168,11 +160,7 @@ module _ {B : Type 0} (t : Terms) where
         | inl is ↦ (let bad = is.0 in cc)
         | inr other ↦ h j r other
       ]
-  each w _ (SectionComes s inside) h = h
-  each w _ (AreaComes a charged) h = h
-  each w _ (AreaChanges at a same charged) h = h
-  each w _ (FileComes f inside) h = h
-  each w _ (Settles falls) h = h
+  each w v e h = h
 
   pub spaces_kept : (w v : WorldOf B) → Edits t w v → Spaces w → Spaces v
   spaces_kept = fold t Spaces each

@@ -4,36 +4,24 @@ use Rattle.std.specs.Prelude.{◌==◌}
 use Rattle.std.specs.List.{list_any, list_all}
 use Rattle.std.proofs.lemmas.Bool.{leb-true, le-leb, lt-ltb, ltb-true, ltb-false}
 use Rattle.std.proofs.lemmas.List.{get_or-set_same}
-use Rattle.mm_types.specs.declared.answers.Answer.{Answer}
+use Rattle.mm_types.specs.{Answer, Code, Event, Range, holds_page, address_of, lowest_gap, commit_type, release_type, MachineOf}
 use Rattle.mm_types.specs.declared.answers.Answer.TheVariants as answer
-use Rattle.mm_types.specs.declared.codes.Code.{Code}
-use Rattle.mm_types.specs.declared.events.Event.{Event}
 use Rattle.mm_types.specs.declared.events.Event.TheVariants as line
-use Rattle.mm_types.specs.Address.{Range, holds_page, address_of, page_of, lowest_gap}
-use Rattle.mm_types.specs.Allocation.{commit_type, release_type}
-use Rattle.mm_types.specs.Machine.{MachineOf}
-use Rattle.mm_types.proofs.Booleans.{both, parts, or_left, or_right}
-use Rattle.mm_world.specs.World.{Page, World, WorldOf, ProcessOf, RegionOf, StackOf, Numbered, numbered, pages_of, filled}
-use Rattle.mm_world.specs.Find.{process_of, set_regions, add_region, ranges_of, is_private, stack_by, set_stack, unless}
-use Rattle.mm_world.specs.Free.{is_stack_at}
-use Rattle.mm_world.specs.Keys.{Committed, committed_at, guard_off}
-use Rattle.mm_world.specs.Outcome.{OutcomeOf, done, refused}
+use Rattle.mm_types.proofs.{both, parts, or_left, or_right}
+use Rattle.mm_world.specs.{Page, WorldOf, ProcessOf, RegionOf, StackOf, Numbered, numbered, pages_of, filled, process_of, set_regions, add_region}
+use Rattle.mm_world.specs.{ranges_of, is_private, stack_by, set_stack, unless, is_stack_at, Committed, committed_at, guard_off, OutcomeOf, done}
+use Rattle.mm_world.specs.{refused, alloc, stack, made, stack_region, probe, grown, is_overflow, step, first_world, threads, PagesOf, line_ends}
+use Rattle.mm_world.specs.{is_private_region, is_same_range, holds_asked, is_region_of, is_stack_region, holds_stack, is_stacked, is_place}
+use Rattle.mm_world.specs.{are_stacked}
+use Rattle.mm_world.specs.World.{World}
 use Rattle.mm_world.specs.Report.{Report}
-use Rattle.mm_world.specs.Alloc.{alloc}
-use Rattle.mm_world.specs.Laws.{is_success}
-use Rattle.mm_world.specs.Stack.{stack, made, stack_region, probe, probe_at, probe_in, probe_of, grown, is_overflow}
-use Rattle.mm_world.specs.Step.{step, first_world, threads}
-use Rattle.mm_world.specs.PrivateRegions.{PagesOf}
-use Rattle.mm_world.proofs.Tables.{Holds, tables}
+use Rattle.mm_world.proofs.Tables.{Holds, tables, at_probe}
 use Rattle.mm_world.proofs.Finding.{numbered_inside}
 use Rattle.mm_world.proofs.LineEdits.{stack_length}
-use Rattle.mm_world.specs.PrivateRegions.{line_ends}
 use Rattle.mm_world.proofs.FlagRanges.{same_page as equals, equal}
-use Rattle.mm_world.specs.PrivateRegions.{is_private_region, is_same_range, holds_asked, is_region_of}
-use Rattle.mm_world.specs.Stacked.{is_stack_region, holds_stack, is_stacked, is_place, are_stacked}
 use Rattle.mm_world.proofs.PrivateLists.{any_inserted}
 use Rattle.mm_world.proofs.PrivateCalls.{region_stays}
-use Rattle.mm_world.proofs.Edits.{Rises, Terms, Edits}
+use Rattle.mm_world.proofs.Edits.{Rises, Terms, Edits, is_call_success}
 use Rattle.mm_world.proofs.CallEdits as calls
 use Rattle.mm_world.proofs.LineEdits as lines
 use Rattle.mm_world.proofs.KeptWrites as kept
@@ -238,7 +226,7 @@ module _ {B : Type 0} where
           (ap (λ (o : Option (ProcessOf B)). holds_stack new o) (get_or-set_same w.processes pid (Some (record p { regions = add_region (stack_region fill base r c) p.regions })) None (numbered_inside w.processes pid p lives))
           ∙ any_inserted (is_stack_region new) p.regions _ (stack_region fill base r c) new_region)
 
-      stacks_new : (a : Answer) → is_success a ≡ true → Holds (KeepsStacked w) (done a v)
+      stacks_new : (a : Answer) → is_call_success a ≡ true → Holds (KeepsStacked w) (done a v)
       stacks_new a ok = record {
         it = record {
           stacked = λ e.
@@ -289,20 +277,8 @@ module _ (w : World) (tid : ℕ) (s : StackOf) (has : stack_by w tid ≡ Some s)
         };
       }
 
-  stacks_probe_at : (p : ProcessOf Page) (page : ℕ) (c : Option (Committed Page)) → process_of w s.pid ≡ Some p → committed_at w p.regions page ≡ c → Holds (KeepsStacked w) (probe_at filled w tid p s page c)
-  stacks_probe_at p page None lives committed = stacks_same w _
-  stacks_probe_at p page (Some c) lives committed = search (tables, stacks_same, stacks_guard, stacks_grown) depth 14
-
-  stacks_probe_in : (page : ℕ) (p : Option (ProcessOf Page)) → process_of w s.pid ≡ p → Holds (KeepsStacked w) (probe_in filled w tid s page p)
-  stacks_probe_in page None lives = stacks_same w _
-  stacks_probe_in page (Some p) lives = stacks_probe_at p page (committed_at w p.regions page) lives refl
-
-stacks_probe_of : (w : World) (tid page : ℕ) (s : Option StackOf) → stack_by w tid ≡ s → Holds (KeepsStacked w) (probe_of filled w tid page s)
-stacks_probe_of w tid page None has = stacks_same w _
-stacks_probe_of w tid page (Some s) has = stacks_probe_in w tid s has page (process_of w s.pid) refl
-
 in_probe : (w : World) (tid addr : ℕ) → Holds (KeepsStacked w) (probe filled w tid addr)
-in_probe w tid addr = stacks_probe_of w tid (page_of addr) (stack_by w tid) refl
+in_probe w tid addr = at_probe filled w tid addr (stacks_same w _) (stacks_same w _) (λ s p c has lives committed. search (tables, stacks_same, stacks_guard, stacks_grown) depth 14)
 
 -- ---- a line
 

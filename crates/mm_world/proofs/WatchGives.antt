@@ -5,25 +5,19 @@ use Rattle.std.specs.List.{range_with_len}
 use Rattle.std.specs.Option.{IfSome}
 use Rattle.std.proofs.lemmas.List.{length-take, length-drop}
 use Rattle.std.proofs.lemmas.Option.{slice_get-get_or, slice_get_within}
-use Rattle.mm_types.proofs.Booleans.{parts}
+use Rattle.mm_types.proofs.{parts}
 use Rattle.mm_types.specs.declared.answers.Answer.TheVariants as answer
-use Rattle.mm_types.specs.declared.codes.Code.{Code}
+use Rattle.mm_types.specs.{Code, Pid, Range, address_of, range_of, lies_within, end_of, first_user_page}
 use Rattle.mm_types.specs.declared.events.Event.TheVariants as line
-use Rattle.mm_types.specs.declared.numbers.Pid.{Pid}
-use Rattle.mm_types.specs.Address.{Range, address_of, range_of, lies_within, end_of, first_user_page}
-use Rattle.mm_world.specs.World.{World, ProcessOf, RegionOf, Page, pages_of}
-use Rattle.mm_world.specs.Find.{Found, process_of, is_private}
-use Rattle.mm_world.specs.Outcome.{OutcomeOf, done, refused}
-use Rattle.mm_world.specs.Watch.{watch, watched_around, written_from, written_in}
+use Rattle.mm_world.specs.{ProcessOf, RegionOf, Page, pages_of, Found, process_of, is_private, OutcomeOf, done, refused, watch, watched_around}
+use Rattle.mm_world.specs.{written_from, written_in, step, flag_in, flag_at, flag_of, is_flagged, GivesFlagged, Spaces}
+use Rattle.mm_world.specs.World.{World}
 use Rattle.mm_world.specs.Report.{Report}
-use Rattle.mm_world.specs.Step.{step}
-use Rattle.mm_world.specs.Flags.{flag_at, flag_of, is_flagged, GivesFlagged}
-use Rattle.mm_world.specs.WellFormed.{Spaces}
 use Rattle.mm_world.proofs.Tables.{Holds, tables}
 use Rattle.mm_world.proofs.Finding.{found_stands}
 use Rattle.mm_world.proofs.LaidOut.{laid_at}
-use Rattle.mm_world.proofs.FlagsChanged.{flags_there}
-use Rattle.mm_world.proofs.FlagsWatched.{is_held, lies_in}
+use Rattle.mm_world.proofs.Regions.{has_at}
+use Rattle.mm_world.proofs.Ranges.{holds, inside}
 
 -- ---- a list of flags from a page on
 
@@ -66,7 +60,7 @@ module _ (w : World) (pid : ℕ) (p : ProcessOf Page) (r : Found (RegionOf Page)
   given flags has there low high count =
       let at : (page : ℕ) → range.first ≤ page → page < end_of range → flag_of w pid page ≡ slice_get flags (page - base) = λ page from below.
       ap (λ o. option_and_then (λ (p : ProcessOf Page). flag_at p.regions page) o) lives
-      ∙ flags_there first_user_page r.place p.regions r.thing page (spaces pid p lives).laid_out there (is_held (pages_of r.thing) page (omega (arith, low, from)) (omega (arith, high, below)))
+      ∙ has_at (λ r. flag_in r page) first_user_page r.place page p.regions r.thing (spaces pid p lives).laid_out there (holds (pages_of r.thing) page (omega (arith, low, from)) (omega (arith, high, below)))
       ∙ ap (λ o. option_and_then (λ flags. slice_get flags (page - base)) o) has.are in
       let bits = take range.count (drop (range.first - base) flags) in
       let many : length bits ≡ range.count = omega (arith, length-take range.count (drop (range.first - base) flags), length-drop (range.first - base) flags, low, high, has.many) in
@@ -89,10 +83,10 @@ module _ (w : World) (pid : ℕ) (p : ProcessOf Page) (r : Found (RegionOf Page)
   around_gives count =
       let stands = found_stands (λ r. is_some r.watched && lies_within range (pages_of r)) p.regions r found in
       let passes = parts (is_some r.thing.watched) (lies_within range (pages_of r.thing)) stands.passes in
-      let lies = lies_in range (pages_of r.thing) passes.1 in
+      let lies = inside range (pages_of r.thing) passes.1 in
       let fits = laid_at first_user_page p.regions r.place r.thing (spaces pid p lives).laid_out stands.there in
       let flags = has_flags r.thing r.thing.watched refl passes.0 fits.flags in
-      given flags.0 flags.1 stands.there lies.0 lies.1 count
+      given flags.0 flags.1 stands.there lies.low lies.high count
 
 -- ---- the line
 

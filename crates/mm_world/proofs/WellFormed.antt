@@ -1,10 +1,7 @@
 -- A guard that is turned off leaves regions well formed.
 use Rattle.std.proofs.Common.{◌≡◌, ℕ, Some}
-use Rattle.mm_types.specs.declared.answers.Answer.{Answer}
-use Rattle.mm_world.specs.World.{WorldOf, ProcessOf}
-use Rattle.mm_world.specs.Find.{process_of}
-use Rattle.mm_world.specs.Keys.{Committed, committed_at, guard_off}
-use Rattle.mm_world.specs.Outcome.{done}
+use Rattle.mm_types.specs.{Answer}
+use Rattle.mm_world.specs.{WorldOf, ProcessOf, process_of, Committed, committed_at, guard_off, done}
 use Rattle.mm_world.proofs.Tables.{Holds}
 use Rattle.mm_world.proofs.Spaces.{KeepsSpaces, spaces_kept}
 use Rattle.mm_world.proofs.Edits.{any_terms}

@@ -2,9 +2,7 @@
 -- No rule of the profile: words of laws on written pages.
 use Rattle.std.specs.Prelude.{◌≡◌, ◌≤◌, ◌<◌, ℕ, ◌+◌, ◌-◌, Bool, true, false, is_some, List, map, take, filter, Option, Some, slice_get, option_and_then, unwrap_or}
 use Rattle.std.specs.List.{range_with_len}
-use Rattle.mm_types.specs.declared.answers.Answer.{Answer}
-use Rattle.mm_types.specs.declared.events.Event.{Event}
-use Rattle.mm_types.specs.Address.{Range, address_of}
+use Rattle.mm_types.specs.{Answer, Event, Range, address_of}
 use Rattle.mm_world.specs.World.{RegionOf, World, WorldOf}
 use Rattle.mm_world.specs.Find.{region_with, process_of}
 use Rattle.mm_world.specs.Step.{kept_by}

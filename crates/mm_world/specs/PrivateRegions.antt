@@ -2,12 +2,9 @@
 -- Profile, "Calls" (free, exit).
 use Rattle.std.specs.Prelude.{ℕ, Bool, false, not, is_some, ◌&&◌, ◌||◌, ◌==◌, Option, Some, None}
 use Rattle.std.specs.List.{list_any}
-use Rattle.mm_types.specs.declared.answers.Answer.{Answer}
+use Rattle.mm_types.specs.{Answer, Event, Range, address_of, release_type}
 use Rattle.mm_types.specs.declared.answers.Answer.TheVariants as answer
-use Rattle.mm_types.specs.declared.events.Event.{Event}
 use Rattle.mm_types.specs.declared.events.Event.TheVariants as line
-use Rattle.mm_types.specs.Address.{Range, address_of}
-use Rattle.mm_types.specs.Allocation.{release_type}
 use Rattle.mm_world.specs.World.{RegionOf, ProcessOf, WorldOf, pages_of}
 use Rattle.mm_world.specs.Find.{process_of, is_private}
 

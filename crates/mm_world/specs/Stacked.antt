@@ -2,7 +2,7 @@
 -- Profile, "Watched regions and stacks".
 use Rattle.std.specs.Prelude.{Bool, true, false, ◌&&◌, ◌==◌, nat_lt, Option, Some, None}
 use Rattle.std.specs.List.{list_any, list_all}
-use Rattle.mm_types.specs.Address.{holds_page}
+use Rattle.mm_types.specs.{holds_page}
 use Rattle.mm_world.specs.World.{RegionOf, ProcessOf, StackOf, WorldOf, pages_of}
 use Rattle.mm_world.specs.Find.{process_of, is_private}
 

@@ -1,14 +1,10 @@
 -- The writes that threads keep, by the page that each is to.
 -- Profile, "Accesses" and "Watched regions and stacks".
 use Rattle.std.specs.Prelude.{ℕ, Bool, true, false, ◌==◌, if◌then◌else◌, List, map, Option, Some, None, slice_set}
-use Rattle.mm_types.specs.declared.answers.Answer.{Answer}
+use Rattle.mm_types.specs.{Answer, AccessSpec, Event, Place, page_of}
 use Rattle.mm_types.specs.declared.answers.Answer.TheVariants as answer
-use Rattle.mm_types.specs.declared.events.AccessSpec.{AccessSpec}
 use Rattle.mm_types.specs.declared.events.AccessSpec.TheVariants as spec
-use Rattle.mm_types.specs.declared.events.Event.{Event}
 use Rattle.mm_types.specs.declared.events.Event.TheVariants as line
-use Rattle.mm_types.specs.declared.numbers.Place.{Place}
-use Rattle.mm_types.specs.Address.{page_of}
 use Rattle.mm_world.specs.World.{KeptOf, WorldOf}
 
 abbrev pub place_of : ℕ → ℕ → Place

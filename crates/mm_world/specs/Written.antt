@@ -2,13 +2,10 @@
 -- (GetWriteWatch). Profile, "Watched regions and stacks".
 use Rattle.std.specs.Prelude.{ℕ, Bool, true, false, ◌&&◌, ◌==◌, if◌then◌else◌, Option, Some, None}
 use Rattle.std.specs.List.{list_any}
-use Rattle.mm_types.specs.declared.answers.Answer.{Answer}
+use Rattle.mm_types.specs.{Answer, AccessSpec, Event, Range, page_of, pages_for, range_of, granule_range_of, holds_page}
 use Rattle.mm_types.specs.declared.answers.Answer.TheVariants as answer
-use Rattle.mm_types.specs.declared.events.AccessSpec.{AccessSpec}
 use Rattle.mm_types.specs.declared.events.AccessSpec.TheVariants as spec
-use Rattle.mm_types.specs.declared.events.Event.{Event}
 use Rattle.mm_types.specs.declared.events.Event.TheVariants as line
-use Rattle.mm_types.specs.Address.{Range, page_of, pages_for, range_of, granule_range_of, holds_page}
 use Rattle.mm_world.specs.World.{KeptOf}
 use Rattle.mm_world.specs.Alloc.{is_watched_type}
 

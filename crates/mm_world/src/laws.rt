@@ -1,12 +1,7 @@
 ghost use Rattle.std.specs.Prelude.{◌≡◌, ◌≤◌, ◌%◌, ℕ, Bool, List, Option, Some, true, false, is_some, slice_get};
 ghost use Rattle.mm_types.specs.declared.answers.Answer.TheVariants as answer;
-ghost use Rattle.mm_types.specs.declared.events.Event.{Event};
+ghost use Rattle.mm_types.specs.{Event, Key, Pid, range_of, holds_page, are_user_pages, granule_pages, MachineOf, IsMachine, Text};
 ghost use Rattle.mm_types.specs.declared.events.Event.TheVariants as line;
-ghost use Rattle.mm_types.specs.declared.numbers.Key.{Key};
-ghost use Rattle.mm_types.specs.declared.numbers.Pid.{Pid};
-ghost use Rattle.mm_types.specs.Address.{range_of, holds_page, are_user_pages, granule_pages};
-ghost use Rattle.mm_types.specs.Machine.{MachineOf, IsMachine};
-ghost use Rattle.mm_types.specs.Spelling.{Text};
 ghost use Rattle.mm_world.specs.World.{World, ProcessOf, RegionOf, Page, filled, pages_of};
 ghost use Rattle.mm_world.specs.Find.{process_of};
 ghost use Rattle.mm_world.specs.Charge.{charge, limit};

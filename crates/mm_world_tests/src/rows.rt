@@ -1,8 +1,7 @@
 ghost use Rattle.std.specs.Prelude.{◌≡◌, ◌≤◌, ◌+◌, false, OnOk, IfOk, replicate};
-ghost use Rattle.mm_blocks.specs.Traffic.{empty_block};
-ghost use Rattle.mm_script.specs.Printed.{IsWellFormed};
-ghost use Rattle.mm_core.specs.Built.{is_machine};
-ghost use Rattle.mm_core.specs.Shown.{line_number};
+ghost use Rattle.mm_blocks.specs.{empty_block};
+ghost use Rattle.mm_script.specs.{IsWellFormed};
+ghost use Rattle.mm_core.specs.{is_machine, line_number};
 
 use mm_blocks::{Blocks, Injected, MemBlocks};
 use mm_core::{World, is_machine};

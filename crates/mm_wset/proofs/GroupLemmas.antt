@@ -9,15 +9,11 @@ use Rattle.std.specs.Prelude.{◌||◌, IsSome, is_some, option_map, slice_get}
 use Rattle.std.specs.List.{range_with_len}
 use Rattle.std.specs.Ordering.{nat_cmp}
 use Rattle.std.specs.FinMap as finite
-use Rattle.mm_types.specs.Table.{found}
-use Rattle.mm_types.proofs.Tables.{get_table, is_insert, is_remove}
-use Rattle.mm_types.proofs.Finite.{same}
-use Rattle.mm_bits.specs.Bits.{have_bit}
-use Rattle.mm_wset.specs.Ages.{older, AgesBy}
-use Rattle.mm_wset.specs.Ring.{turned, next_newest}
-use Rattle.mm_wset.specs.InOrder.{IsLowestFrom}
-use Rattle.mm_wset.specs.Rows.{put_at, NoneFrom}
-use Rattle.mm_wset.specs.AgeGroups.{numbers_below, is_in, group_below, group_in, age_in, ages_by_group, is_group, AreGrouped, IsGrouped, PutsPage, Joins, retired_to}
+use Rattle.mm_types.specs.{found}
+use Rattle.mm_types.proofs.{get_table, is_insert, is_remove, same}
+use Rattle.mm_bits.specs.{have_bit}
+use Rattle.mm_wset.specs.{older, AgesBy, turned, next_newest, IsLowestFrom, put_at, NoneFrom, numbers_below, is_in, group_below, group_in, age_in}
+use Rattle.mm_wset.specs.{ages_by_group, is_group, AreGrouped, IsGrouped, PutsPage, Joins, retired_to}
 use Rattle.mm_wset.proofs.RowLemmas.{empty_bits}
 use Rattle.mm_wset.proofs.RingLemmas.{turned_newest, turned_older, next_turns}
 

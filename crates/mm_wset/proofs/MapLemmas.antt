@@ -6,10 +6,8 @@ use Rattle.std.specs.Ordering.{nat_cmp}
 use Rattle.std.specs.Cmp.{unsigned_Decides}
 use Rattle.std.specs.FinMap as finite
 use Rattle.std.specs.FinMap.{FinMap}
-use Rattle.mm_types.proofs.Finite.{get-remove}
-use Rattle.mm_types.proofs.Tables.{differ}
-use Rattle.mm_wset.specs.Ages.{older, AgesBy, EachAtOnePlace}
-use Rattle.mm_wset.specs.Held.{maps, last_round, KnowsUses}
+use Rattle.mm_types.proofs.{get-remove, differ}
+use Rattle.mm_wset.specs.{older, AgesBy, EachAtOnePlace, maps, last_round, KnowsUses}
 use Rattle.mm_wset.proofs.UserLemmas.{here, elsewhere}
 
 abbrev Map : Type 0

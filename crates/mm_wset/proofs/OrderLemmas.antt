@@ -3,12 +3,9 @@ use Rattle.std.proofs.Common.{◌≡◌, ◌⊎◌, ℕ, ◌+◌, ◌<◌, ◌�
 use Rattle.std.proofs.lemmas.Bool.{cases_eq, cases_lt}
 use Rattle.std.specs.Prelude.{IsSome, is_some, option_map, MatchOption}
 use Rattle.std.specs.FinMap as finite
-use Rattle.mm_types.specs.declared.numbers.Vpn.{Vpn}
-use Rattle.mm_wset.specs.Ages.{GoesBefore, IsOldestInSet, NoneFollowsInSet}
-use Rattle.mm_wset.specs.Ring.{turned}
-use Rattle.mm_wset.specs.InOrder.{IsNextFrom, IsLowestFrom}
-use Rattle.mm_wset.specs.Rows.{NoneFrom}
-use Rattle.mm_wset.specs.AgeGroups.{is_in, group_in, age_in, ages_by_group, AreGrouped, IsFirstOf, GoesFirst, IsBelow, NoAgeWithin}
+use Rattle.mm_types.specs.{Vpn}
+use Rattle.mm_wset.specs.{GoesBefore, IsOldestInSet, NoneFollowsInSet, turned, IsNextFrom, IsLowestFrom, NoneFrom, is_in, group_in, age_in}
+use Rattle.mm_wset.specs.{ages_by_group, AreGrouped, IsFirstOf, GoesFirst, IsBelow, NoAgeWithin}
 use Rattle.mm_wset.proofs.GroupLemmas.{get-ages, set_of_group, group_of_set, none_held}
 use Rattle.mm_wset.proofs.RingLemmas.{turned_back}
 

@@ -1,8 +1,7 @@
 -- The ring of groups: a group's age, an age's group, and what a new round makes of them.
 use Rattle.std.proofs.Common.{◌≡◌, ◌≢◌, ℕ, ◌+◌, ◌-◌, ◌<◌, ◌≤◌, ◌⊎◌, cond, eqb, ltb, ap, ◌∙◌, inl, inr, arith}
 use Rattle.std.proofs.lemmas.Bool.{cases_lt, cases_eq, le-leb, lt-leb, lt-ltb, le-ltb, eq-eqb, ne_eqb}
-use Rattle.mm_wset.specs.Ages.{older}
-use Rattle.mm_wset.specs.Ring.{turned, next_newest}
+use Rattle.mm_wset.specs.{older, turned, next_newest}
 
 -- ---- the three kinds of groups
 

@@ -6,10 +6,9 @@ use Rattle.std.proofs.lemmas.Nat.{shr-shr, shr_le}
 use Rattle.std.proofs.lemmas.Nat.Bits.{bit_at_set_same, bit_at_set_other, bit_at_clear_same, bit_at_clear_other, bit_at-trailing_zeros, bit_at-zero, bit_at_above, shr_and_one}
 use Rattle.std.proofs.lemmas.List.{get_or_read, get_or_past, length-replicate}
 use Rattle.std.proofs.lemmas.Bool.{cases_lt, cases_eq, eq-eqb, ne_eqb, eqb-true, eqb-false, false_from_ne_true}
-use Rattle.mm_bits.specs.Bits.{have_bit, Becomes, WordBecomes}
-use Rattle.mm_bits.proofs.BitLemmas.{at_bit, have_here, word_becomes, zero_bit}
-use Rattle.mm_wset.specs.InOrder.{IsLowestFrom}
-use Rattle.mm_wset.specs.Rows.{is_filled, put_at, PutsBit, PutsBits, Sums, NoneFrom, NoneWithin, word_end, IsPageSet, Reaches}
+use Rattle.mm_bits.specs.{have_bit, Becomes, WordBecomes}
+use Rattle.mm_bits.proofs.{at_bit, have_here, word_becomes, zero_bit}
+use Rattle.mm_wset.specs.{IsLowestFrom, is_filled, put_at, PutsBit, PutsBits, Sums, NoneFrom, NoneWithin, word_end, IsPageSet, Reaches}
 
 -- ---- one bit changes
 

@@ -6,13 +6,11 @@ use Rattle.std.specs.Prelude.{slice_get, IsSome}
 use Rattle.std.specs.Ordering.{nat_cmp}
 use Rattle.std.specs.FinMap as finite
 use Rattle.std.specs.FinMap.{FinMap}
-use Rattle.mm_types.specs.Table.{found}
-use Rattle.mm_types.proofs.Tables.{get_table, is_insert, is_remove}
-use Rattle.mm_types.proofs.Finite.{same, len_more, len_less}
+use Rattle.mm_types.specs.{found}
+use Rattle.mm_types.proofs.{get_table, is_insert, is_remove, same, len_more, len_less}
 use Rattle.slab.specs.Slab as slabs
 use Rattle.slab.specs.Slab.{Slab, slab_len, Updates}
-use Rattle.mm_wset.specs.Ages.{WorkingSetOf, EachAtOnePlace, AgesBy, older}
-use Rattle.mm_wset.specs.Held.{places_of, room_of, maps, last_round, KnowsUses, IsWorkingSet}
+use Rattle.mm_wset.specs.{WorkingSetOf, EachAtOnePlace, AgesBy, older, places_of, room_of, maps, last_round, KnowsUses, IsWorkingSet}
 use Rattle.mm_wset.proofs.MapLemmas.{kept, each_add, each_remove, each_used, each_older, uses_add, uses_remove, uses_used, uses_older}
 
 abbrev Map : Type 0

@@ -5,9 +5,8 @@ use Rattle.std.specs.Ordering.{nat_cmp}
 use Rattle.std.specs.Cmp.{nat_cmp_total, unsigned_Decides}
 use Rattle.std.specs.FinMap as finite
 use Rattle.std.specs.FinMap.{FinMap}
-use Rattle.mm_types.proofs.Finite.{get-insert}
-use Rattle.mm_types.proofs.Tables.{differ}
-use Rattle.mm_wset.specs.Ages.{older, AgesBy}
+use Rattle.mm_types.proofs.{get-insert, differ}
+use Rattle.mm_wset.specs.{older, AgesBy}
 
 pub here : (m : FinMap nat_cmp ℕ) (k x : ℕ) → finite.get (finite.insert m k x) k ≡ Some x
 here m k x = get-insert m k x k ∙ ap (λ b. cond b (Some x) (finite.get m k)) ((unsigned_Decides k k).1 refl)

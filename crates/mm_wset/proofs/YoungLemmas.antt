@@ -4,9 +4,8 @@ use Rattle.std.specs.Prelude.{option_map}
 use Rattle.std.specs.Ordering.{nat_cmp}
 use Rattle.std.specs.FinMap as finite
 use Rattle.std.specs.FinMap.{FinMap}
-use Rattle.mm_types.specs.declared.numbers.Vpn.{Vpn}
-use Rattle.mm_wset.specs.Ages.{older, AgesBy}
-use Rattle.mm_wset.specs.AgeGroups.{NoneOlder, GoesFirst, IsBelow}
+use Rattle.mm_types.specs.{Vpn}
+use Rattle.mm_wset.specs.{older, AgesBy, NoneOlder, GoesFirst, IsBelow}
 use Rattle.mm_wset.proofs.MapLemmas.{put, kept}
 
 pub young_empty : (ages : FinMap nat_cmp ℕ) → ages ≡ finite.empty → NoneOlder 0 ages

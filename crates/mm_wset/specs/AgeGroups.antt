@@ -4,9 +4,8 @@ use Rattle.std.specs.List.{range_with_len}
 use Rattle.std.specs.Ordering.{nat_cmp}
 use Rattle.std.specs.FinMap as finite
 use Rattle.std.specs.FinMap.{FinMap}
-use Rattle.mm_types.specs.Table.{table}
-use Rattle.mm_types.specs.declared.numbers.Vpn.{Vpn}
-use Rattle.mm_bits.specs.Bits.{have_bit}
+use Rattle.mm_types.specs.{table, Vpn}
+use Rattle.mm_bits.specs.{have_bit}
 use Rattle.mm_wset.specs.Ages.{GoesBefore}
 use Rattle.mm_wset.specs.Ring.{turned}
 

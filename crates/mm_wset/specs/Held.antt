@@ -3,7 +3,7 @@ use Rattle.std.specs.Prelude.{◌≡◌, ℕ, ◌-◌, ◌^◌, ◌<◌, ◌≤�
 use Rattle.std.specs.Ordering.{nat_cmp}
 use Rattle.std.specs.FinMap as finite
 use Rattle.std.specs.FinMap.{FinMap}
-use Rattle.mm_types.specs.Table.{table}
+use Rattle.mm_types.specs.{table}
 use Rattle.slab.specs.Slab.{Slab, slab_len}
 use Rattle.mm_wset.specs.declared.groups.AgeGroups.{AgeGroups}
 use Rattle.mm_wset.specs.Ages.{WorkingSetOf, EachAtOnePlace}

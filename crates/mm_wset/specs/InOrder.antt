@@ -1,7 +1,7 @@
 -- The lowest page at a number or above, of those that a process has.
 -- Profile, "Calls".
 use Rattle.std.specs.Prelude.{◌≡◌, ℕ, ◌≤◌, Bool, true, Option, Some, None}
-use Rattle.mm_types.specs.declared.numbers.Vpn.{Vpn}
+use Rattle.mm_types.specs.{Vpn}
 
 -- v is the lowest of the pages at `from` or above
 pub record IsLowestFrom (has : ℕ → Bool) (from v : ℕ) : Type 0 where

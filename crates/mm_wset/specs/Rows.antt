@@ -1,7 +1,7 @@
 -- Rows of bits in words of 64: one bit that changes, the next bit that is set, and a row above
 -- another that says which of its words are not 0.
 use Rattle.std.specs.Prelude.{◌≡◌, ℕ, ◌*◌, ◌+◌, ◌/◌, ◌<◌, ◌≤◌, Bool, true, false, not, List, ◌==◌, if◌then◌else◌, length, slice_index}
-use Rattle.mm_bits.specs.Bits.{have_bit}
+use Rattle.mm_bits.specs.{have_bit}
 
 -- whether the word has a bit that is set
 unfoldable pub is_filled : List ℕ → ℕ → Bool

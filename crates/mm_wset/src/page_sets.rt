@@ -1,5 +1,5 @@
 ghost use Rattle.std.specs.Prelude.{◌≡◌, ◌*◌, ◌/◌, ◌^◌, ◌<◌, ◌≤◌, ℕ, true, false, length, IfOk, IfSome, MatchOption, vec_capacity};
-ghost use Rattle.mm_bits.specs.Bits.{have_bit};
+ghost use Rattle.mm_bits.specs.{have_bit};
 ghost use Rattle.mm_wset.specs.InOrder.{IsLowestFrom, IsNextFrom};
 ghost use Rattle.mm_wset.specs.Rows.{is_filled, put_at, PutsBit, PutsBits, Sums, Reaches, NoneFrom, NoneWithin, word_end};
 

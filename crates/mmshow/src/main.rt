@@ -1,38 +1,14 @@
 //! Shows a log of moves on standard input, as a page for a browser and as texts for the terminal.
 #![tactic(auto)]
 
-use mm_io::{StdSink, StdSource};
+use mm_io::{StdSink, StdSource, buffered, exit_code, words};
 use mm_page::{UP_TO_ANSWERS, UP_TO_CLASSES, UP_TO_END, UP_TO_MOVES, UP_TO_SCRIPT};
 use mm_show::{PageTexts, run_show};
-use std::alloc::{AllocError, Global};
+use mm_types::NoMemory;
+use std::alloc::Global;
 use std::fs::File;
-use std::io::BufWriter;
 use std::process::ExitCode;
-use std::rt::Env;
-use std::{env, fs, io};
-
-/// The status where a request for memory was refused.
-const NO_MEMORY: u8 = 1;
-
-/// The words after the program's name; none where one of them is no text, which is no form.
-fn words(rt: &(impl Env + AllocGlobal)) -> Result<Vec<String>, AllocError> {
-    let mut words: Vec<String> = Vec::new(rt.alloc());
-    match env::args(rt) {
-        Ok(args) => {
-            for word in args.skip(1) {
-                words.push(word)?;
-            }
-            Ok(words)
-        }
-        Err(e) => {
-            if e.kind() == io::ErrorKind::OutOfMemory {
-                Err(AllocError)
-            } else {
-                Ok(words)
-            }
-        }
-    }
-}
+use std::{fs, io};
 
 /// Whether the first word is the name of a form whose values are files.
 fn has_files(words: &[String]) -> bool {
@@ -71,17 +47,13 @@ fn texts() -> PageTexts<'static> {
 }
 
 /// Shows the log on standard input, and answers the status. The text is flushed by then.
-fn show(rt: &HostRuntime) -> Result<u8, AllocError> {
-    let alloc: Global = rt.alloc();
+fn show(rt: &HostRuntime) -> Result<u8, NoMemory> {
     let words = words(rt)?;
+    let alloc: Global = rt.alloc();
     let mut script = named(rt, &words, 1);
     let mut answers = named(rt, &words, 2);
-    let writer = match BufWriter::new(alloc, io::writer(rt)) {
-        Ok(writer) => writer,
-        Err(_) => return Err(AllocError),
-    };
     let mut log = StdSource::new(rt.reader());
-    let mut out = StdSink::new(writer);
+    let mut out = StdSink::new(buffered(alloc, io::writer(rt))?);
     Ok(run_show(
         alloc,
         &words,
@@ -94,8 +66,5 @@ fn show(rt: &HostRuntime) -> Result<u8, AllocError> {
 }
 
 fn main(rt: HostRuntime) -> ExitCode {
-    match show(&rt) {
-        Ok(status) => ExitCode::from(status),
-        Err(AllocError) => ExitCode::from(NO_MEMORY),
-    }
+    exit_code(show(&rt))
 }

@@ -1,5 +1,5 @@
 use Rattle.std.proofs.Common.{arith}
-use Rattle.mm_bits.proofs.BitLemmas.{mask_inside, mask_below, mask_above}
+use Rattle.mm_bits.proofs.{mask_inside, mask_below, mask_above}
 use Rattle.mm_bits.proofs.bits.mask.Goals as goal
 
 pub returns-clause-inside : goal.returns-clause-inside

@@ -1,6 +1,6 @@
 use Rattle.std.proofs.Common.{arith, ℕ, ap, sym, ◌∙◌}
 use Rattle.std.specs.Prelude.{◌==◌}
-use Rattle.mm_bits.proofs.BitLemmas.{cleared_inside, cleared_outside, or_inside, or_outside}
+use Rattle.mm_bits.proofs.{cleared_inside, cleared_outside, or_inside, or_outside}
 use Rattle.mm_bits.proofs.bits.put.Goals as goal
 
 pub returns-then-on : goal.returns-then-on

@@ -1,5 +1,5 @@
 use Rattle.std.proofs.Common.{◌-◌, ◌*◌, ◌/◌, ◌%◌, ◌<◌, length, ◌∙◌, arith, length-set, get_or-set_other}
-use Rattle.mm_bits.proofs.BitLemmas.{word_becomes, becomes_more}
+use Rattle.mm_bits.proofs.{word_becomes, becomes_more}
 use Rattle.mm_bits.proofs.bits.put_bits.Goals as goal
 
 pub loop-at-preserved : goal.loop-at-preserved

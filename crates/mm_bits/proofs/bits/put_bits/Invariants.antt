@@ -1,5 +1,5 @@
 use Rattle.std.proofs.Common.{◌-◌, ◌≡◌, ◌≤◌, length, vec_capacity}
-use Rattle.mm_bits.specs.Bits.{have_bit, Becomes, SameWordsFrom}
+use Rattle.mm_bits.specs.{have_bit, Becomes, SameWordsFrom}
 use Rattle.mm_bits.proofs.bits.put_bits.Given as goal
 
 abbrev pub invariant-loop-at : goal.invariant-loop-at

@@ -1,5 +1,5 @@
 use Rattle.std.proofs.Common.{◌≡◌, take, false}
-use Rattle.mm_blocks.specs.Traffic.{is_named}
+use Rattle.mm_blocks.specs.{is_named}
 use Rattle.mm_blocks.proofs.plans.is_due.Given as goal
 
 abbrev pub invariant-loop-i : goal.invariant-loop-i

@@ -2,8 +2,8 @@ use Rattle.std.proofs.Common.{◌≡◌, ap, ◌∙◌, arith, length, map, take
 use Rattle.std.specs.Prelude.{slice_set}
 use Rattle.std.proofs.lemmas.List.{get_or_default}
 use Rattle.std.proofs.lemmas.List.Edits.{map_over_more}
-use Rattle.mm_blocks.specs.Traffic.{one_further}
-use Rattle.mm_blocks.proofs.Fronts.{front_length, front_changed}
+use Rattle.mm_blocks.specs.{one_further}
+use Rattle.mm_blocks.proofs.{front_length, front_changed}
 use Rattle.mm_blocks.proofs.plans.move_on.Goals as goal
 
 pub loop-i-preserved : goal.loop-i-preserved

@@ -1,5 +1,5 @@
 use Rattle.std.proofs.Common.{◌≡◌, ◌++◌, map, take, drop}
-use Rattle.mm_blocks.specs.Traffic.{one_further}
+use Rattle.mm_blocks.specs.{one_further}
 use Rattle.mm_blocks.proofs.plans.move_on.Given as goal
 
 abbrev pub invariant-loop-i : goal.invariant-loop-i

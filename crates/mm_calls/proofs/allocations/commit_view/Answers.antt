@@ -1,25 +1,20 @@
-use Rattle.std.proofs.Common.{◌≡◌, ◌≤◌, ◌<◌, ◌+◌, ◌-◌, ◌*◌, ℕ, ◌∙◌, refl, sym, ap, arith, rules, take, drop, length, is_none, is_some, true, None}
-use Rattle.std.proofs.lemmas.Bool.{leb-true, leb-false}
+use Rattle.std.proofs.Common.{rules, ◌≡◌, ◌≤◌, ◌+◌, ◌-◌, ◌*◌, ℕ, ◌∙◌, sym, ap, arith, take, drop, length, is_none, is_some, Some}
+use Rattle.std.proofs.lemmas.Bool.{leb-true}
 use Rattle.std.proofs.lemmas.List.{length-take}
 use Rattle.std.proofs.lemmas.List.Sums.{count_by-le-length}
 use Rattle.mm_types.specs.declared.answers.Answer.TheVariants as answer
-use Rattle.mm_types.specs.Address.{Range}
-use Rattle.mm_world.specs.World.{AreaOf}
+use Rattle.mm_types.specs.declared.codes.Code.TheVariants as code
+use Rattle.mm_types.specs.{Range, address_of}
+use Rattle.mm_types.proofs.{some_found}
+use Rattle.mm_world.specs.{AreaOf, ProcessOf, commit_shared, process_of, region_around, area_at, set_area, set_region, blank, done, change_rows}
+use Rattle.mm_world.specs.{protected}
 use Rattle.mm_world.specs.Alloc.{commit_pages}
-use Rattle.mm_world.specs.Find.{process_of, region_around, area_at}
-use Rattle.mm_world.specs.Charge.{charge, limit}
-use Rattle.mm_world.specs.Contents.{blank}
-use Rattle.mm_world.specs.Outcome.{done}
-use Rattle.mm_world.specs.Rows.{accepts, every_page}
-use Rattle.mm_sections.specs.Pages.{uncommitted_in}
-use Rattle.mm_calls.proofs.Areas.{tells_view, no_block}
-use Rattle.mm_calls.proofs.Around.{user_range}
-use Rattle.mm_calls.proofs.Decided.{view_refused, view_made, view_charges, some_marks}
-use Rattle.mm_pages.specs.Housekeeping.{Makes}
-use Rattle.mm_pages.proofs.Passed.{turns_same}
-use Rattle.mm_tables.proofs.Carried.{settled_same}
+use Rattle.mm_sections.specs.{uncommitted_in}
+use Rattle.mm_calls.proofs.{TellsView, tells_view, no_block, user_range, view_within, ChangesWithin, past_limit, within_room, then_charged}
+use Rattle.mm_calls.proofs.{commits_none, commits_some, commits_broke}
+use Rattle.mm_calls.proofs.allocations.commit_view.Given as given
 use Rattle.mm_calls.proofs.allocations.commit_view.Goals as goal
-use Rattle.mm_types.proofs.Options.{some_found}
+use Rattle.mm_calls.proofs.allocations.commit_view.Goals.{After-can_charge}
 
 -- of so many pages no more are not committed
 uncommitted_few : (a : AreaOf (Unit {0})) (first count : ℕ) → uncommitted_in a first count ≤ count
@@ -73,130 +68,55 @@ overflow_mul-result g c =
     let first : c.range-2.inside.first ≡ range.first = ap (λ (r : Range). r.first) c.range-2.view_is in
     omega (arith, first, user_range t c.args.pid.0 p.0 range v.region p.1 c.sound.ensures.sound v.found)
 
+record Asked (g : given.Over) (c : After-can_charge g) (p : ProcessOf (Unit {0})) : Type 0 where
+  view : TellsView c.args.t.now p.regions c.args.range c.args.pages c.args.view
+  within : ChangesWithin (commit_pages blank c.args.t.now c.args.pid.0 p c.args.range c.args.prot) c.args.t.now c.uncommitted-n.result (answer.At (address_of c.args.range.first))
+      (set_area (set_region c.args.t.now c.args.pid.0 p view.region.place (change_rows (protected view.region.thing.kind c.args.prot) c.args.range view.region.thing)) c.args.view.area.0
+      (commit_shared blank (c.args.view.first + (c.args.range.first - view.region.thing.base)) c.args.range.count (area_at c.args.t.now c.args.view.area.0)))
+
+asked : (g : given.Over) (c : After-can_charge g) (p : ProcessOf (Unit {0})) → process_of c.args.t.now c.args.pid.0 ≡ Some p → Asked g c p
+asked g c p lives =
+    let t = c.args.t.now in
+    let range : Range = c.args.range in
+    let v = tells_view t c.args.pid.0 p range c.args.pages c.args.view lives c.sound.ensures.sound (c.requires.around p lives) in
+    let first : c.args.view.first + (c.range.inside.first - c.pages.inside.first) ≡ c.args.view.first + (range.first - v.region.thing.base) =
+    omega (arith, v.index, ap (λ (r : Range). r.first) c.range.view_is, ap (λ (r : Range). r.first) c.pages.view_is) in
+    let count : c.range.inside.count ≡ range.count = ap (λ (r : Range). r.count) c.range.view_is in
+    record {
+      view = v;
+      within = view_within t c.args.pid.0 p range c.args.prot _ lives v.region v.found c.args.view v.kind
+          (ap (λ (a : AreaOf (Unit {0})). a.file_block) (sym c.area-area.ensures) ∙ no_block c.area-area.result.now.file_block (ap (λ o. is_some o) (sym c.first_block.ensures) ∙ sym c.is_some.ensures ∙ c.if-is_some.false))
+          c.sound.ensures.sound c.requires.prot (sym (c.accepts.ensures v.region (ap (λ rs. region_around rs range) (c.space.ensures p lives) ∙ v.found)) ∙ c.if-not-accepts.false)
+          (c.uncommitted-n.ensures ∙ (λ i. uncommitted_in (c.area-area.ensures i) (first i) (count i)));
+    }
+
 pub returns-then-not-can_charge : goal.returns-then-not-can_charge
-returns-then-not-can_charge g c = record {
-  done = record {
-    outcome = λ p lives.
-        let t = c.args.t.now in
-        let range : Range = c.args.range in
-        let v = tells_view t c.args.pid.0 p range c.args.pages c.args.view lives c.sound.ensures.sound (c.requires.around p lives) in
-        let first : c.args.view.first + (c.range.inside.first - c.pages.inside.first) ≡ c.args.view.first + (range.first - v.region.thing.base) =
-        omega (arith, v.index, ap (λ (r : Range). r.first) c.range.view_is, ap (λ (r : Range). r.first) c.pages.view_is) in
-        let count : c.range.inside.count ≡ range.count = ap (λ (r : Range). r.count) c.range.view_is in
-        let n : ℕ = c.uncommitted-n.result in
-        let counted : n ≡ uncommitted_in (area_at t c.args.view.area.0) (c.args.view.first + (range.first - v.region.thing.base)) range.count =
-        c.uncommitted-n.ensures ∙ (λ i. uncommitted_in (c.area-area.ensures i) (first i) (count i)) in
-        let none : (area_at t c.args.view.area.0).file_block ≡ None =
-        ap (λ (a : AreaOf (Unit {0})). a.file_block) (sym c.area-area.ensures) ∙ no_block c.area-area.result.now.file_block (ap (λ o. is_some o) (sym c.first_block.ensures) ∙ sym c.is_some.ensures ∙ c.if-is_some.false) in
-        let takes : every_page (accepts v.region.thing c.args.prot) range ≡ true = sym (c.accepts.ensures v.region (ap (λ rs. region_around rs range) (c.space.ensures p lives) ∙ v.found)) ∙ c.if-not-accepts.false in
-        let past : limit t < charge t + n = (let h = leb-false _ _ (sym c.can_charge.ensures ∙ c.if-not-can_charge.true) in omega (arith, h)) in
-        view_refused t c.args.pid.0 p range c.args.prot n lives v.region v.found c.args.view v.kind none c.sound.ensures.sound c.requires.prot takes counted past;
-    settled = settled_same c.args.t.now (g.G.Pages.contents c.args.g.now) (g.G.Pages.store c.args.g.now) c.requires.ready.fits;
-  };
-  broke = tt;
-  enough = λ room. refl;
-  charges = tt;
-  makes = record {
-    passes = turns_same g.G.Pages.unpaged Makes (g.G.Pages.store c.args.g.now) (g.G.Pages.behind c.args.g.now);
-    idle = tt;
-    loans = refl;
-  };
-}
+returns-then-not-can_charge g c =
+    commits_none g.G.Pages c.requires.ready.fits c.args.pid c.args.range c.args.prot code.CommitmentLimit
+    (λ p lives. past_limit (asked g (goal.at.returns-then-not-can_charge g c).After-can_charge p lives).within (sym c.can_charge.ensures ∙ c.if-not-can_charge.true))
 
 pub returns-then-is_some : goal.returns-then-is_some
-returns-then-is_some g c = record {
-  done = search rules;
-  broke = tt;
-  enough = λ room. refl;
-  charges = tt;
-  makes = record {
-    passes = turns_same g.G.Pages.unpaged Makes (g.G.Pages.store c.args.g.now) (g.G.Pages.behind c.args.g.now);
-    idle = tt;
-    loans = refl;
-  };
-}
+returns-then-is_some g c = commits_none g.G.Pages c.requires.ready.fits c.args.pid c.args.range c.args.prot code.InvalidAddress (search rules)
 
 pub returns-then-not-accepts : goal.returns-then-not-accepts
-returns-then-not-accepts g c = record {
-  done = search rules;
-  broke = tt;
-  enough = λ room. refl;
-  charges = tt;
-  makes = record {
-    passes = turns_same g.G.Pages.unpaged Makes (g.G.Pages.store c.args.g.now) (g.G.Pages.behind c.args.g.now);
-    idle = tt;
-    loans = refl;
-  };
-}
+returns-then-not-accepts g c = commits_none g.G.Pages c.requires.ready.fits c.args.pid c.args.range c.args.prot code.InvalidParameter (search rules)
 
 pub returns-in-Ok : goal.returns-in-Ok
-returns-in-Ok g c = record {
-  done = record {
-    outcome = λ p lives.
-        let t = c.args.t.now in
-        let range : Range = c.args.range in
-        let v = tells_view t c.args.pid.0 p range c.args.pages c.args.view lives c.sound.ensures.sound (c.requires.around p lives) in
-        let first : c.args.view.first + (c.range.inside.first - c.pages.inside.first) ≡ c.args.view.first + (range.first - v.region.thing.base) =
-        omega (arith, v.index, ap (λ (r : Range). r.first) c.range.view_is, ap (λ (r : Range). r.first) c.pages.view_is) in
-        let count : c.range.inside.count ≡ range.count = ap (λ (r : Range). r.count) c.range.view_is in
-        let n : ℕ = c.uncommitted-n.result in
-        let counted : n ≡ uncommitted_in (area_at t c.args.view.area.0) (c.args.view.first + (range.first - v.region.thing.base)) range.count =
-        c.uncommitted-n.ensures ∙ (λ i. uncommitted_in (c.area-area.ensures i) (first i) (count i)) in
-        let none : (area_at t c.args.view.area.0).file_block ≡ None =
-        ap (λ (a : AreaOf (Unit {0})). a.file_block) (sym c.area-area.ensures) ∙ no_block c.area-area.result.now.file_block (ap (λ o. is_some o) (sym c.first_block.ensures) ∙ sym c.is_some.ensures ∙ c.if-is_some.false) in
-        let takes : every_page (accepts v.region.thing c.args.prot) range ≡ true = sym (c.accepts.ensures v.region (ap (λ rs. region_around rs range) (c.space.ensures p lives) ∙ v.found)) ∙ c.if-not-accepts.false in
-        let room : charge t + n ≤ limit t = leb-true _ _ (sym c.can_charge.ensures ∙ c.if-not-can_charge.false) in
-        let at : range.first ≡ c.range-2.inside.first = sym (ap (λ (r : Range). r.first) c.range-2.view_is) in
-        let now = sym (c.in-Ok.ensures.ok p v.region c.args.view lives v.found v.kind) in
-        view_made t c.args.pid.0 p range c.args.prot n lives v.region v.found c.args.view v.kind none c.sound.ensures.sound c.requires.prot takes counted room
-        ∙ (λ i. done (answer.At (at i * 4096)) (now i));
-    settled = c.commit_view.ensures.settles.settled;
-  };
-  broke = tt;
-  enough = λ room. refl;
-  charges = tt;
-  makes = record {
-    passes = c.commit_view.ensures.makes.passes;
-    idle = tt;
-    loans = c.commit_view.ensures.makes.loans;
-  };
-}
+returns-in-Ok g c =
+    let room = leb-true _ _ (sym c.can_charge.ensures ∙ c.if-not-can_charge.false) in
+    commits_some g.G.Pages c.requires.ready.fits c.args.pid c.args.range c.args.prot (record {
+      outcome = λ p lives.
+          let a = asked g (goal.at.returns-in-Ok g c).After-can_charge p lives in
+          let first = ap (λ (r : Range). r.first) c.range-2.view_is in
+          within_room a.within room ∙ (λ i. done (answer.At (sym first i * 4096)) (sym (c.in-Ok.ensures.ok p a.view.region c.args.view lives a.view.found a.view.kind) i));
+      settled = c.commit_view.ensures.settles.settled;
+    })
+    c.commit_view.ensures.makes.passes c.commit_view.ensures.makes.loans
 
 pub returns-in-Err : goal.returns-in-Err
-returns-in-Err g c = record {
-  done = tt;
-  broke = record {
-    tables = c.in-Err.ensures.settles.err.0;
-    contents = c.in-Err.ensures.settles.err.1;
-    settled = c.in-Err.ensures.settles.settled;
-  };
-  enough = λ room.
-      let t = c.args.t.now in
-      let n : ℕ = c.uncommitted-n.result in
-      let few : n ≤ c.range.inside.count = omega (arith, c.uncommitted-n.ensures, uncommitted_few c.area-area.result.now (c.args.view.first + (c.range.inside.first - c.pages.inside.first)) c.range.inside.count) in
-      let count : c.range.inside.count ≡ c.args.range.count = ap (λ (r : Range). r.count) c.range.view_is in
-      let charged : charge t + n ≤ limit t = leb-true _ _ (sym c.can_charge.ensures ∙ c.if-not-can_charge.false) in
-      c.in-Err.ensures.enough (omega (arith, room, few, count, charged));
-  charges = λ p lives.
-      let t = c.args.t.now in
-      let range : Range = c.args.range in
-      let v = tells_view t c.args.pid.0 p range c.args.pages c.args.view lives c.sound.ensures.sound (c.requires.around p lives) in
-      let first : c.args.view.first + (c.range.inside.first - c.pages.inside.first) ≡ c.args.view.first + (range.first - v.region.thing.base) =
-      omega (arith, v.index, ap (λ (r : Range). r.first) c.range.view_is, ap (λ (r : Range). r.first) c.pages.view_is) in
-      let count : c.range.inside.count ≡ range.count = ap (λ (r : Range). r.count) c.range.view_is in
-      let n : ℕ = c.uncommitted-n.result in
-      let counted : n ≡ uncommitted_in (area_at t c.args.view.area.0) (c.args.view.first + (range.first - v.region.thing.base)) range.count =
-      c.uncommitted-n.ensures ∙ (λ i. uncommitted_in (c.area-area.ensures i) (first i) (count i)) in
-      let none : (area_at t c.args.view.area.0).file_block ≡ None =
-      ap (λ (a : AreaOf (Unit {0})). a.file_block) (sym c.area-area.ensures) ∙ no_block c.area-area.result.now.file_block (ap (λ o. is_some o) (sym c.first_block.ensures) ∙ sym c.is_some.ensures ∙ c.if-is_some.false) in
-      let takes : every_page (accepts v.region.thing c.args.prot) range ≡ true = sym (c.accepts.ensures v.region (ap (λ rs. region_around rs range) (c.space.ensures p lives) ∙ v.found)) ∙ c.if-not-accepts.false in
-      let room : charge t + n ≤ limit t = leb-true _ _ (sym c.can_charge.ensures ∙ c.if-not-can_charge.false) in
-      let charged : charge (commit_pages blank t c.args.pid.0 p range c.args.prot).world ≡ charge t + n =
-      view_charges t c.args.pid.0 p range c.args.prot n lives v.region v.found c.args.view v.kind none c.sound.ensures.sound c.requires.prot takes counted room in
-      omega (arith, charged, some_marks n (λ zero. let bad = c.in-Err.ensures.enough (omega (arith, zero, c.requires.ready.fits.room)) in cc));
-  makes = record {
-    passes = c.commit_view.ensures.makes.passes;
-    idle = c.in-Err.ensures.makes.idle;
-    loans = c.commit_view.ensures.makes.loans;
-  };
-}
+returns-in-Err g c =
+    let few : c.uncommitted-n.result ≤ c.args.range.count = omega (arith, c.uncommitted-n.ensures, uncommitted_few c.area-area.result.now (c.args.view.first + (c.range.inside.first - c.pages.inside.first)) c.range.inside.count, ap (λ (r : Range). r.count) c.range.view_is) in
+    let room = leb-true _ _ (sym c.can_charge.ensures ∙ c.if-not-can_charge.false) in
+    commits_broke g.G.Pages c.requires.ready.fits c.args.pid c.args.range c.args.prot c.uncommitted-n.result room few c.in-Err.ensures.enough
+    (λ p lives. then_charged (asked g (goal.at.returns-in-Err g c).After-can_charge p lives).within room)
+    c.in-Err.ensures.settles c.commit_view.ensures.makes.passes c.in-Err.ensures.makes.idle c.commit_view.ensures.makes.loans

@@ -1,12 +1,12 @@
 use Rattle.std.proofs.Common.{rules, ◌≡◌, ◌+◌, ◌∙◌, sym, ap, subst, cond, is_some, false, Some, []}
-use Rattle.mm_pages.specs.Housekeeping.{Flushes}
-use Rattle.mm_pages.specs.Passing.{PassesIn}
-use Rattle.mm_calls.specs.Stages.{keys_from}
+use Rattle.mm_pages.specs.{Flushes, PassesIn}
+use Rattle.mm_calls.specs.{keys_from}
 use Rattle.mm_calls.proofs.FlushMoves.{flushes_none}
-use Rattle.mm_world.specs.World.{AreaOf}
-use Rattle.mm_world.specs.Find.{area_at}
-use Rattle.mm_calls.proofs.Flushing.{in_blocks, fits_written, block_told, block_none}
+use Rattle.mm_world.specs.{AreaOf, area_at}
+use Rattle.mm_calls.proofs.Flushing.{in_blocks, answers_flushed, block_told, block_none}
+use Rattle.mm_calls.proofs.files.flush_view_pages.Given as given
 use Rattle.mm_calls.proofs.files.flush_view_pages.Goals as goal
+use Rattle.mm_calls.proofs.files.flush_view_pages.Goals.{After-flush_pages}
 
 pub flush_pages-requires-clause-blocks : goal.flush_pages-requires-clause-blocks
 flush_pages-requires-clause-blocks g c =
@@ -17,28 +17,10 @@ flush_pages-requires-clause-blocks g c =
     in_blocks t (g.G.Pages.contents c.args.g.now) (g.G.Pages.store c.args.g.now) v.area.0 (v.first + c.args.before) c.args.count c.in-Some.block.0 c.requires.begins.fits c.sound.ensures.tidy file c.requires.within
 
 pub returns-in-Ok-clause-done : goal.returns-in-Ok-clause-done
-returns-in-Ok-clause-done g c =
-    let e = c.flush_pages.ensures.flushes in
-    record {
-      contents = e.contents;
-      fits = fits_written c.args.t.now (g.G.Pages.contents c.args.g.now) (g.G.Pages.contents c.flush_pages.new.g) (g.G.Pages.store c.args.g.now) (g.G.Pages.store c.flush_pages.new.g) c.requires.begins.fits e.store e.contents e.served e.stored;
-      beside = e.store;
-      served = e.served;
-      blamed = search rules;
-      loans = e.loans;
-    }
+returns-in-Ok-clause-done g c = answers_flushed g.G.Pages c.requires.begins.fits c.flush_pages.ensures.flushes _ (search rules)
 
 pub returns-in-Err-clause-done : goal.returns-in-Err-clause-done
-returns-in-Err-clause-done g c =
-    let e = c.flush_pages.ensures.flushes in
-    record {
-      contents = e.contents;
-      fits = fits_written c.args.t.now (g.G.Pages.contents c.args.g.now) (g.G.Pages.contents c.flush_pages.new.g) (g.G.Pages.store c.args.g.now) (g.G.Pages.store c.flush_pages.new.g) c.requires.begins.fits e.store e.contents e.served e.stored;
-      beside = e.store;
-      served = e.served;
-      blamed = search rules;
-      loans = e.loans;
-    }
+returns-in-Err-clause-done g c = answers_flushed g.G.Pages c.requires.begins.fits c.flush_pages.ensures.flushes _ (search rules)
 
 pub returns-in-None-clause-passes : goal.returns-in-None-clause-passes
 returns-in-None-clause-passes g c =
@@ -49,18 +31,15 @@ returns-in-None-clause-passes g c =
     ap (λ (a : AreaOf (Unit {0})). is_some a.file_block) (sym c.area-area.ensures) ∙ block_none c.area-area.result.now.file_block (sym c.first_block.ensures ∙ c.in-None.is) in
     subst (λ x. PassesIn g.G.Pages.unpaged (Flushes (cond x (keys_from v.area.0 (v.first + c.args.before) c.args.count) [])) s s b b) (sym none) (flushes_none g.G.Pages.unpaged s b)
 
-pub returns-in-Ok-clause-passes : goal.returns-in-Ok-clause-passes
-returns-in-Ok-clause-passes g c =
-    let v = c.args.view in
-    let file : (area_at c.args.t.now v.area.0).file_block ≡ Some c.in-Some.block.0 =
-    ap (λ (a : AreaOf (Unit {0})). a.file_block) (sym c.area-area.ensures) ∙ block_told c.area-area.result.now.file_block c.in-Some.block (sym c.first_block.ensures ∙ c.in-Some.is) in
-    subst (λ x. PassesIn g.G.Pages.unpaged (Flushes (cond x (keys_from v.area.0 (v.first + c.args.before) c.args.count) [])) (g.G.Pages.store c.args.g.now) (g.G.Pages.store c.flush_pages.new.g) (g.G.Pages.behind c.args.g.now) (g.G.Pages.behind c.flush_pages.new.g))
+passes : (g : given.Over) (c : After-flush_pages g) → PassesIn g.G.Pages.unpaged (Flushes (cond (is_some (area_at c.args.t.now c.args.view.area.0).file_block) (keys_from c.args.view.area.0 (c.args.view.first + c.args.before) c.args.count) []))
+    (g.G.Pages.store c.args.g.now) (g.G.Pages.store c.flush_pages.new.g) (g.G.Pages.behind c.args.g.now) (g.G.Pages.behind c.flush_pages.new.g)
+passes g c =
+    let file = ap (λ (a : AreaOf (Unit {0})). a.file_block) (sym c.area-area.ensures) ∙ block_told c.area-area.result.now.file_block c.in-Some.block (sym c.first_block.ensures ∙ c.in-Some.is) in
+    subst (λ x. PassesIn g.G.Pages.unpaged (Flushes (cond x (keys_from c.args.view.area.0 (c.args.view.first + c.args.before) c.args.count) [])) (g.G.Pages.store c.args.g.now) (g.G.Pages.store c.flush_pages.new.g) (g.G.Pages.behind c.args.g.now) (g.G.Pages.behind c.flush_pages.new.g))
     (sym (ap is_some file)) c.flush_pages.ensures.passes
 
+pub returns-in-Ok-clause-passes : goal.returns-in-Ok-clause-passes
+returns-in-Ok-clause-passes g c = passes g (goal.at.returns-in-Ok-clause-passes g c).After-flush_pages
+
 pub returns-in-Err-clause-passes : goal.returns-in-Err-clause-passes
-returns-in-Err-clause-passes g c =
-    let v = c.args.view in
-    let file : (area_at c.args.t.now v.area.0).file_block ≡ Some c.in-Some.block.0 =
-    ap (λ (a : AreaOf (Unit {0})). a.file_block) (sym c.area-area.ensures) ∙ block_told c.area-area.result.now.file_block c.in-Some.block (sym c.first_block.ensures ∙ c.in-Some.is) in
-    subst (λ x. PassesIn g.G.Pages.unpaged (Flushes (cond x (keys_from v.area.0 (v.first + c.args.before) c.args.count) [])) (g.G.Pages.store c.args.g.now) (g.G.Pages.store c.flush_pages.new.g) (g.G.Pages.behind c.args.g.now) (g.G.Pages.behind c.flush_pages.new.g))
-    (sym (ap is_some file)) c.flush_pages.ensures.passes
+returns-in-Err-clause-passes g c = passes g (goal.at.returns-in-Err-clause-passes g c).After-flush_pages

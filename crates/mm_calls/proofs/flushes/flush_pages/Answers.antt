@@ -2,8 +2,8 @@ use Rattle.std.proofs.Common.{rules, ◌∙◌, refl, arith}
 use Rattle.mm_calls.proofs.FlushMoves.{loop_none, loop_more, loop_all, loop_ended}
 use Rattle.mm_calls.proofs.Flushing.{flushed_none, flushed_more, blamed_since}
 use Rattle.mm_calls.proofs.flushes.flush_pages.Goals as goal
-use Rattle.mm_types.proofs.Options.{on_err}
-use Rattle.mm_pages.proofs.Served.{served_then}
+use Rattle.mm_types.proofs.{on_err}
+use Rattle.mm_pages.proofs.{served_then}
 
 pub loop-i-init : goal.loop-i-init
 loop-i-init g c =

@@ -1,6 +1,6 @@
 use Rattle.std.proofs.Common.{◌≡◌}
-use Rattle.mm_pages.specs.Passing.{PassesIn}
-use Rattle.mm_calls.specs.Stages.{keys_from}
+use Rattle.mm_pages.specs.{PassesIn}
+use Rattle.mm_calls.specs.{keys_from}
 use Rattle.mm_calls.proofs.Flushing.{FlushedTo}
 use Rattle.mm_calls.proofs.FlushMoves.{WereFlushed}
 use Rattle.mm_calls.proofs.flushes.flush_pages.Given as goal

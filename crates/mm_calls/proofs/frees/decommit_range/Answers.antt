@@ -1,16 +1,12 @@
 use Rattle.std.proofs.Common.{◌≡◌, ◌∙◌, sym, ap, is_some, true}
 use Rattle.mm_types.specs.declared.answers.Answer.TheVariants as answer
 use Rattle.mm_types.specs.declared.codes.Code.TheVariants as code
-use Rattle.mm_types.specs.Address.{Range}
-use Rattle.mm_world.specs.World.{RegionOf}
-use Rattle.mm_world.specs.Contents.{Tables}
-use Rattle.mm_world.specs.Find.{Found, is_private}
-use Rattle.mm_world.specs.Free.{decommit, private_around}
-use Rattle.mm_world.specs.Outcome.{done}
-use Rattle.mm_calls.proofs.Around.{private_around_is}
+use Rattle.mm_types.specs.{Range}
+use Rattle.mm_world.specs.{RegionOf, Tables, Found, is_private, decommit, private_around, done}
+use Rattle.mm_calls.proofs.{private_around_is}
 use Rattle.mm_calls.proofs.frees.decommit_range.Goals as goal
-use Rattle.mm_world.proofs.Outcomes.{at_found}
-use Rattle.mm_types.proofs.Options.{some_found, same_found}
+use Rattle.mm_world.proofs.{at_found}
+use Rattle.mm_types.proofs.{some_found, same_found}
 
 pub decommit-requires-clause-inside : goal.decommit-requires-clause-inside
 decommit-requires-clause-inside g c p lives =

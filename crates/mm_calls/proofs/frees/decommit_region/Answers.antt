@@ -1,17 +1,12 @@
 use Rattle.std.proofs.Common.{◌∙◌, sym, ap, is_some, option_map}
 use Rattle.mm_types.specs.declared.answers.Answer.TheVariants as answer
 use Rattle.mm_types.specs.declared.codes.Code.TheVariants as code
-use Rattle.mm_types.specs.Address.{Range}
-use Rattle.mm_world.specs.World.{RegionOf, pages_of}
-use Rattle.mm_world.specs.Contents.{Tables}
-use Rattle.mm_world.specs.Find.{Found, set_region, is_private}
-use Rattle.mm_world.specs.Free.{decommit, private_at}
-use Rattle.mm_world.specs.Outcome.{done}
-use Rattle.mm_world.specs.Rows.{reserved_row, change_rows}
-use Rattle.mm_calls.proofs.Around.{pages_found, private_at_is}
+use Rattle.mm_types.specs.{Range}
+use Rattle.mm_world.specs.{RegionOf, pages_of, Tables, Found, set_region, is_private, decommit, private_at, done, reserved_row, change_rows}
+use Rattle.mm_calls.proofs.{pages_found, private_at_is}
 use Rattle.mm_calls.proofs.frees.decommit_region.Goals as goal
-use Rattle.mm_world.proofs.Outcomes.{at_found}
-use Rattle.mm_types.proofs.Options.{same_found}
+use Rattle.mm_world.proofs.{at_found}
+use Rattle.mm_types.proofs.{same_found}
 
 pub decommit-requires-clause-inside : goal.decommit-requires-clause-inside
 decommit-requires-clause-inside g c p lives =

@@ -1,15 +1,9 @@
-use Rattle.std.proofs.Common.{◌≡◌, ◌<◌, true, sym, ap, ◌∙◌, refl, subst}
-use Rattle.std.specs.Prelude.{Ok, Err, IsOk}
-use Rattle.mm_types.specs.Address.{Range, range_of}
-use Rattle.mm_types.proofs.Options.{some_found}
-use Rattle.mm_world.specs.Charge.{charge}
-use Rattle.mm_world.specs.Find.{process_of}
-use Rattle.mm_world.specs.Alloc.{commit_pages, are_alloc_parameters}
-use Rattle.mm_world.specs.Contents.{blank}
-use Rattle.mm_pages.proofs.Passed.{turns_same}
-use Rattle.mm_pages.specs.Housekeeping.{Makes}
-use Rattle.mm_calls.proofs.Allocated.{alloc_reserves, alloc_commits, reserves_anew, commits_anew}
-use Rattle.mm_calls.proofs.CallsDone.{answers-by}
+use Rattle.std.proofs.Common.{◌≡◌, ◌<◌, true, Some, sym, ap, ◌∙◌, subst}
+use Rattle.mm_types.specs.{Range}
+use Rattle.mm_types.proofs.{some_found}
+use Rattle.mm_world.specs.{ProcessOf, charge, process_of, reserve, are_alloc_parameters, blank, is_success}
+use Rattle.mm_world.specs.Alloc.{commit_pages}
+use Rattle.mm_calls.proofs.{alloc_reserves, alloc_commits, reserves_anew, commits_anew, answers-by, ok_unless, makes_none}
 use Rattle.mm_calls.proofs.memory_calls.valloc.Goals as goal
 
 pub returns-then-is_reserving-clause-done : goal.returns-then-is_reserving-clause-done
@@ -37,39 +31,24 @@ returns-then-is_reserving-clause-no_memory g c none =
     let t = c.args.t.now in
     let p = some_found (process_of t c.args.pid.0) (sym c.has.ensures ∙ c.if-not-has.false) in
     let right : are_alloc_parameters c.args.size c.plain_type-plain.result c.args.prot ≡ true = sym c.are_alloc_parameters.ensures ∙ c.if-not-are_alloc_parameters.false in
-    elim c.reserve.result as (λ r. c.reserve.result ≡ r → IsOk r) [
-      | Ok a ↦ λ q. refl
-      | Err x ↦ λ q.
-          sym none
-          ∙ reserves_anew t c.args.pid.0 c.args.addr c.args.size c.args.kind c.args.prot p.0 c.plain_type-plain.result p.1 c.plain_type-plain.ensures right
-          c.is_watched_type-watched.result c.is_watched_type-watched.ensures (sym c.is_reserving.ensures ∙ c.if-is_reserving.true) ((rw q at c.reserve.ensures.succeeds) p.0 p.1)
-    ] refl
+    ok_unless c.reserve.result c.reserve.ensures.succeeds
+    (λ (succeeds : (q : ProcessOf (Unit {0})) → process_of t c.args.pid.0 ≡ Some q → is_success (reserve blank t c.args.pid.0 q c.args.addr c.args.size c.is_watched_type-watched.result c.plain_type-plain.result c.args.prot).answer ≡ true).
+    sym none
+    ∙ reserves_anew t c.args.pid.0 c.args.addr c.args.size c.args.kind c.args.prot p.0 c.plain_type-plain.result p.1 c.plain_type-plain.ensures right
+    c.is_watched_type-watched.result c.is_watched_type-watched.ensures (sym c.is_reserving.ensures ∙ c.if-is_reserving.true) (succeeds p.0 p.1))
 
 pub returns-else-is_reserving-clause-no_memory : goal.returns-else-is_reserving-clause-no_memory
 returns-else-is_reserving-clause-no_memory g c none =
     let t = c.args.t.now in
     let p = some_found (process_of t c.args.pid.0) (sym c.has.ensures ∙ c.if-not-has.false) in
     let right : are_alloc_parameters c.args.size c.plain_type-plain.result c.args.prot ≡ true = sym c.are_alloc_parameters.ensures ∙ c.if-not-are_alloc_parameters.false in
-    elim c.commit.result as (λ r. c.commit.result ≡ r → IsOk r) [
-      | Ok a ↦ λ q. refl
-      | Err x ↦ λ q.
-          let more : charge t < charge (commit_pages blank t c.args.pid.0 p.0 c.of.result c.args.prot).world = (rw q at c.commit.ensures.charges) p.0 p.1 in
-          let here : charge t < charge (commit_pages blank t c.args.pid.0 p.0 (range_of c.args.addr c.args.size) c.args.prot).world =
-          subst (λ (range : Range). charge t < charge (commit_pages blank t c.args.pid.0 p.0 range c.args.prot).world) c.of.ensures more in
-          absurd (commits_anew t c.args.pid.0 c.args.addr c.args.size c.args.kind c.args.prot p.0 c.plain_type-plain.result p.1 c.plain_type-plain.ensures right
-          (sym c.is_reserving.ensures ∙ c.if-is_reserving.false) here none)
-    ] refl
+    ok_unless c.commit.result c.commit.ensures.charges
+    (λ (more : (q : ProcessOf (Unit {0})) → process_of t c.args.pid.0 ≡ Some q → charge t < charge (commit_pages blank t c.args.pid.0 q c.of.result c.args.prot).world).
+    absurd (commits_anew t c.args.pid.0 c.args.addr c.args.size c.args.kind c.args.prot p.0 c.plain_type-plain.result p.1 c.plain_type-plain.ensures right (sym c.is_reserving.ensures ∙ c.if-is_reserving.false)
+    (subst (λ (range : Range). charge t < charge (commit_pages blank t c.args.pid.0 p.0 range c.args.prot).world) c.of.ensures (more p.0 p.1)) none))
 
 pub returns-then-not-has-clause-makes : goal.returns-then-not-has-clause-makes
-returns-then-not-has-clause-makes g c = record {
-  passes = turns_same g.G.Pages.unpaged Makes (g.G.Pages.store c.args.g.now) (g.G.Pages.behind c.args.g.now);
-  idle = tt;
-  loans = refl;
-}
+returns-then-not-has-clause-makes g c = makes_none g.G.Pages _ c.args.g.now
 
 pub returns-then-not-are_alloc_parameters-clause-makes : goal.returns-then-not-are_alloc_parameters-clause-makes
-returns-then-not-are_alloc_parameters-clause-makes g c = record {
-  passes = turns_same g.G.Pages.unpaged Makes (g.G.Pages.store c.args.g.now) (g.G.Pages.behind c.args.g.now);
-  idle = tt;
-  loans = refl;
-}
+returns-then-not-are_alloc_parameters-clause-makes g c = makes_none g.G.Pages _ c.args.g.now

@@ -1,8 +1,8 @@
 use Rattle.std.proofs.Common.{refl}
-use Rattle.mm_pages.proofs.Passed.{turns_same}
+use Rattle.mm_pages.proofs.{turns_same}
 use Rattle.mm_pages.specs.Housekeeping.{Goes}
-use Rattle.mm_pages.specs.Leaving.{leaving}
-use Rattle.mm_tables.specs.Fits.{is_uncommitted}
+use Rattle.mm_pages.specs.{leaving}
+use Rattle.mm_tables.specs.{is_uncommitted}
 use Rattle.mm_calls.proofs.memory_calls.vfree.Goals as goal
 
 pub returns-then-not-has-clause-loses : goal.returns-then-not-has-clause-loses

@@ -1,18 +1,15 @@
 use Rattle.std.proofs.Common.{rules, ◌≡◌, ◌≤◌, ◌-◌, ◌∙◌, sym, ap, arith, is_some}
 use Rattle.std.specs.Prelude.{IsOk}
-use Rattle.mm_types.specs.Address.{address_of, range_of}
+use Rattle.mm_types.specs.{address_of, range_of}
 use Rattle.mm_world.specs.Alloc.{commit_pages}
-use Rattle.mm_world.specs.Contents.{blank}
-use Rattle.mm_world.specs.Find.{process_of}
-use Rattle.mm_world.specs.Keys.{committed_at, guard_off}
-use Rattle.mm_world.specs.World.{StackOf}
-use Rattle.mm_tables.specs.Fits.{FitsTables}
-use Rattle.mm_tables.proofs.ViewCommitted.{roomier_fits}
-use Rattle.mm_pages.proofs.Passed.{idle_before}
-use Rattle.mm_pages.specs.Housekeeping.{Makes}
-use Rattle.mm_calls.proofs.Growing.{past_first, room_there, grown_is}
+use Rattle.mm_world.specs.{blank, process_of, committed_at, guard_off, StackOf}
+use Rattle.mm_tables.specs.{FitsTables}
+use Rattle.mm_tables.proofs.{roomier_fits}
+use Rattle.mm_pages.proofs.{idle_before}
+use Rattle.mm_pages.specs.{Makes}
+use Rattle.mm_calls.proofs.{past_first, room_there, grown_is}
 use Rattle.mm_calls.proofs.probes.grow.Goals as goal
-use Rattle.mm_types.proofs.Options.{some_found, on_err}
+use Rattle.mm_types.proofs.{some_found, on_err}
 
 pub take_guard_off-requires-clause-committed : goal.take_guard_off-requires-clause-committed
 take_guard_off-requires-clause-committed g c p lives =

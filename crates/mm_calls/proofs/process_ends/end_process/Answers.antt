@@ -1,12 +1,10 @@
 use Rattle.std.proofs.Common.{◌∙◌, sym, map}
 use Rattle.std.specs.Prelude.{◌==◌}
-use Rattle.mm_world.specs.Find.{process_of, end_stacks}
-use Rattle.mm_world.specs.Processes.{kept_of_others}
-use Rattle.mm_world.specs.Contents.{Tables}
-use Rattle.mm_tables.specs.Fits.{is_uncommitted}
-use Rattle.mm_tables.proofs.Uncommitted.{all_ended}
+use Rattle.mm_world.specs.{process_of, end_stacks, kept_of_others, Tables}
+use Rattle.mm_tables.specs.{is_uncommitted}
+use Rattle.mm_tables.proofs.{all_ended}
 use Rattle.mm_calls.proofs.process_ends.end_process.Goals as goal
-use Rattle.mm_types.proofs.Options.{some_found}
+use Rattle.mm_types.proofs.{some_found}
 
 pub returns-clause-loses : goal.returns-clause-loses
 returns-clause-loses g c =

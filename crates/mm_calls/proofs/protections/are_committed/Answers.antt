@@ -1,11 +1,8 @@
 use Rattle.std.proofs.Common.{◌≡◌, ◌∙◌, Some, sym, ap, is_some}
-use Rattle.mm_world.specs.World.{RegionOf}
-use Rattle.mm_world.specs.Find.{Found, process_of, region_around, is_private}
-use Rattle.mm_world.specs.Rows.{is_committed_at, every_page}
-use Rattle.mm_calls.proofs.Areas.{in_section}
-use Rattle.mm_calls.proofs.Around.{around}
+use Rattle.mm_world.specs.{RegionOf, Found, process_of, region_around, is_private, is_committed_at, every_page}
+use Rattle.mm_calls.proofs.{in_section, around}
 use Rattle.mm_calls.proofs.protections.are_committed.Goals as goal
-use Rattle.mm_types.proofs.Options.{some_found}
+use Rattle.mm_types.proofs.{some_found}
 
 pub area-requires : goal.area-requires
 area-requires c =

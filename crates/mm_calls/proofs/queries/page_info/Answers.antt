@@ -1,14 +1,11 @@
 use Rattle.std.proofs.Common.{◌≡◌, ◌∙◌, Some, sym, ap, subst, is_some}
-use Rattle.mm_world.specs.Find.{Found, process_of, region_with, is_private}
-use Rattle.mm_world.specs.Query.{page_info}
-use Rattle.mm_world.specs.World.{RegionOf, pages_of}
-use Rattle.mm_types.specs.Address.{holds_page}
-use Rattle.mm_world.proofs.Finding.{found_stands}
-use Rattle.mm_spaces.specs.declared.queries.PageInfo.{PageInfo}
-use Rattle.mm_spaces.specs.PageInfos.{IfTold, IfInView, LiesInView}
-use Rattle.mm_calls.proofs.Areas.{in_section}
+use Rattle.mm_world.specs.{Found, process_of, region_with, is_private, page_info, RegionOf, pages_of}
+use Rattle.mm_types.specs.{holds_page}
+use Rattle.mm_world.proofs.{found_stands}
+use Rattle.mm_spaces.specs.{PageInfo, IfTold, IfInView, LiesInView}
+use Rattle.mm_calls.proofs.{in_section}
 use Rattle.mm_calls.proofs.queries.page_info.Goals as goal
-use Rattle.mm_types.proofs.Options.{some_found}
+use Rattle.mm_types.proofs.{some_found}
 
 pub area-requires : goal.area-requires
 area-requires c =

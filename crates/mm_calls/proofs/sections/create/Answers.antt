@@ -1,11 +1,11 @@
 use Rattle.std.proofs.Common.{◌∙◌, sym, refl}
-use Rattle.mm_world.specs.Find.{process_of}
-use Rattle.mm_pages.proofs.Passed.{turns_same}
-use Rattle.mm_pages.specs.Housekeeping.{Makes}
+use Rattle.mm_world.specs.{process_of}
+use Rattle.mm_pages.proofs.{turns_same}
+use Rattle.mm_pages.specs.{Makes}
 use Rattle.mm_calls.proofs.Named.{maybe_lives, maybe_told, created_existing}
-use Rattle.mm_calls.proofs.CallsDone.{answers-if}
+use Rattle.mm_calls.proofs.{answers-if, makes_none}
 use Rattle.mm_calls.proofs.sections.create.Goals as goal
-use Rattle.mm_types.proofs.Options.{some_found, on_err}
+use Rattle.mm_types.proofs.{some_found, on_err}
 
 pub add_existing-requires-clause-section : goal.add_existing-requires-clause-section
 add_existing-requires-clause-section g c = maybe_lives c.args.t.now c.args.name c.in-Some.id (sym c.section_with.ensures ∙ c.in-Some.is)
@@ -23,18 +23,10 @@ returns-in-Some-clause-done g c =
     c.add_existing.ensures.ok c.requires.begins.fits settled)
 
 pub returns-then-not-has-clause-makes : goal.returns-then-not-has-clause-makes
-returns-then-not-has-clause-makes g c = record {
-  passes = turns_same g.G.Pages.unpaged Makes (g.G.Pages.store c.args.g.now) (g.G.Pages.behind c.args.g.now);
-  idle = tt;
-  loans = refl;
-}
+returns-then-not-has-clause-makes g c = makes_none g.G.Pages _ c.args.g.now
 
 pub returns-then-not-are_section_parameters-clause-makes : goal.returns-then-not-are_section_parameters-clause-makes
-returns-then-not-are_section_parameters-clause-makes g c = record {
-  passes = turns_same g.G.Pages.unpaged Makes (g.G.Pages.store c.args.g.now) (g.G.Pages.behind c.args.g.now);
-  idle = tt;
-  loans = refl;
-}
+returns-then-not-are_section_parameters-clause-makes g c = makes_none g.G.Pages _ c.args.g.now
 
 pub returns-in-Some-clause-makes : goal.returns-in-Some-clause-makes
 returns-in-Some-clause-makes g c = record {

@@ -1,4 +1,4 @@
-use Rattle.mm_calls.proofs.Growths.{above_the_base, told}
+use Rattle.mm_calls.proofs.{above_the_base, told}
 use Rattle.mm_calls.proofs.stack_laws.growth_stays_above_the_base_page.Goals as goal
 
 pub returns-clause-above : goal.returns-clause-above

@@ -1,4 +1,4 @@
-use Rattle.mm_calls.proofs.Succeeding.{succeeds}
+use Rattle.mm_calls.proofs.{succeeds}
 use Rattle.mm_calls.proofs.stack_laws.growth_succeeds_in_the_region.Goals as goal
 
 pub returns : goal.returns

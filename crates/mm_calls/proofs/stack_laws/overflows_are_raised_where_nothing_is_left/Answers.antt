@@ -1,4 +1,4 @@
-use Rattle.mm_calls.proofs.Growths.{overflow_is, overflow_raised}
+use Rattle.mm_calls.proofs.{overflow_is, overflow_raised}
 use Rattle.mm_calls.proofs.stack_laws.overflows_are_raised_where_nothing_is_left.Goals as goal
 
 pub returns : goal.returns

@@ -1,4 +1,4 @@
-use Rattle.mm_calls.proofs.Growable.{grows_there, there_grows}
+use Rattle.mm_calls.proofs.{grows_there, there_grows}
 use Rattle.mm_calls.proofs.stack_laws.stacks_grow_where_something_is_left.Goals as goal
 
 pub returns : goal.returns

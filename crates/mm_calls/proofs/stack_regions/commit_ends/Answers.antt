@@ -1,109 +1,75 @@
 use Rattle.std.proofs.Common.{◌≡◌, ℕ, subst, ◌+◌, ◌-◌, ◌^◌, ◌∙◌, ap, arith}
-use Rattle.mm_types.specs.Address.{Range}
-use Rattle.mm_world.specs.Charge.{charge, limit}
-use Rattle.mm_world.specs.Contents.{Tables}
-use Rattle.mm_pages.specs.Housekeeping.{Turns, MakesStack}
-use Rattle.mm_pages.specs.Passing.{PassesIn}
-use Rattle.mm_pages.proofs.Passed.{stack_then}
-use Rattle.mm_calls.proofs.Joined.{joined}
-use Rattle.mm_calls.proofs.RegionSteps.{in_user, top_free, guard_free, both_made, charge_more, lasts_commit}
+use Rattle.mm_types.specs.{Range}
+use Rattle.mm_world.specs.{charge, limit, Tables, set_region, commit, change_rows}
+use Rattle.mm_pages.specs.{Turns, MakesStack, PassesIn}
+use Rattle.mm_pages.proofs.{stack_then}
+use Rattle.mm_calls.specs.{IsReserved, IsUncommitted, reserved_region}
+use Rattle.mm_calls.proofs.{joined, in_user, top_free, guard_free, both_made, charge_more, lasts_commit}
+use Rattle.mm_calls.proofs.stack_regions.commit_ends.Given as given
 use Rattle.mm_calls.proofs.stack_regions.commit_ends.Goals as goal
+use Rattle.mm_calls.proofs.stack_regions.commit_ends.Goals.{After-pages-2}
+
+-- the top pages, of which none is committed, and the guard page once they are
+
+top_is : (g : given.Over) (c : After-pages-2 g) → c.pages.result ≡ record { first = c.args.range.first + c.args.range.count - (c.args.top + 1) + 1; count = c.args.top }
+top_is g c = c.pages.ensures.pages ∙ (λ i. record { first = c.guard_of-guard.ensures.guard i + 1; count = c.args.top })
+
+abbrev top : (g : given.Over) (c : After-pages-2 g) → IsReserved c.args.t.now c.args.pid.0 c.args.range → IsUncommitted c.args.t.now c.args.pid.0 c.pages.result
+top g c r = top_free c.args.t.now c.args.pid.0 c.args.range c.args.top r c.requires.tall.inside c.pages.result (top_is g c) c.requires.tall.some c.sound.ensures.sound
+
+record Ends (g : given.Over) (c : After-pages-2 g) (r : IsReserved c.args.t.now c.args.pid.0 c.args.range) : Type 0 where
+  made : c.commit_new.new.t ≡ set_region c.args.t.now c.args.pid.0 r.process r.place (change_rows (commit tt 0x04) c.pages.result (reserved_region c.args.range))
+  one : c.pages-2.result ≡ record { first = c.args.range.first + c.args.range.count - (c.args.top + 1); count = 1 }
+
+ends : (g : given.Over) (c : After-pages-2 g) (r : IsReserved c.args.t.now c.args.pid.0 c.args.range) → Ends g c r
+ends g c r = record {
+  made = c.commit_new.ensures.changed (top g c r);
+  one = c.pages-2.ensures.pages ∙ (λ i. record { first = c.guard_of-guard.ensures.guard i; count = 1 });
+}
 
 pub guard_of-guard-requires-clause-user : goal.guard_of-guard-requires-clause-user
 guard_of-guard-requires-clause-user g c = in_user c.args.t.now c.args.pid.0 c.args.range c.args.top c.requires.reserved c.requires.tall.inside c.sound.ensures.sound
 
 pub overflow_add-guard : goal.overflow_add-guard
 overflow_add-guard g c =
-    let range : Range = c.args.range in
-    omega (arith, c.guard_of-guard.ensures.guard, in_user c.args.t.now c.args.pid.0 range c.args.top c.requires.reserved c.requires.tall.inside c.sound.ensures.sound)
+    omega (arith, c.guard_of-guard.ensures.guard, in_user c.args.t.now c.args.pid.0 c.args.range c.args.top c.requires.reserved c.requires.tall.inside c.sound.ensures.sound)
 
 pub commit_new-requires-clause-free : goal.commit_new-requires-clause-free
 commit_new-requires-clause-free g c =
-    let t = c.args.t.now in
-    let pid = c.args.pid.0 in
-    let range : Range = c.args.range in
-    let top = c.args.top in
-    let fits = c.requires.tall.inside in
-    let inner = c.pages.result in
-    let is : inner ≡ record { first = range.first + range.count - (top + 1) + 1; count = top } = c.pages.ensures.pages ∙ (λ i. record { first = c.guard_of-guard.ensures.guard i + 1; count = top }) in
-    top_free t pid range top c.requires.reserved fits inner is c.requires.tall.some c.sound.ensures.sound
+    top_free c.args.t.now c.args.pid.0 c.args.range c.args.top c.requires.reserved c.requires.tall.inside c.pages.result
+    (c.pages.ensures.pages ∙ (λ i. record { first = c.guard_of-guard.ensures.guard i + 1; count = c.args.top })) c.requires.tall.some c.sound.ensures.sound
 
 pub commit_new-requires-2-clause-free : goal.commit_new-requires-2-clause-free
 commit_new-requires-2-clause-free g c =
-    let t = c.args.t.now in
-    let pid = c.args.pid.0 in
-    let range : Range = c.args.range in
-    let top = c.args.top in
-    let fits = c.requires.tall.inside in
-    let inner = c.pages.result in
-    let is : inner ≡ record { first = range.first + range.count - (top + 1) + 1; count = top } = c.pages.ensures.pages ∙ (λ i. record { first = c.guard_of-guard.ensures.guard i + 1; count = top }) in
-    let made = c.commit_new.ensures.changed (top_free t pid range top c.requires.reserved fits inner is c.requires.tall.some c.sound.ensures.sound) in
-    let one = c.pages-2.result in
-    let same : one ≡ record { first = range.first + range.count - (top + 1); count = 1 } = c.pages-2.ensures.pages ∙ (λ i. record { first = c.guard_of-guard.ensures.guard i; count = 1 }) in
-    guard_free t pid range top c.requires.reserved fits inner is c.commit_new.new.t made one same c.sound-2.ensures.sound
+    let d = (goal.at.commit_new-requires-2-clause-free g c).After-pages-2 in
+    let e = ends g d c.requires.reserved in
+    guard_free c.args.t.now c.args.pid.0 c.args.range c.args.top c.requires.reserved c.requires.tall.inside c.pages.result (top_is g d) c.commit_new.new.t e.made c.pages-2.result e.one c.sound-2.ensures.sound
 
 pub commit_new-requires-2-clause-room : goal.commit_new-requires-2-clause-room
 commit_new-requires-2-clause-room g c =
-    let t = c.args.t.now in
-    let pid = c.args.pid.0 in
-    let range : Range = c.args.range in
-    let top = c.args.top in
-    let fits = c.requires.tall.inside in
-    let inner = c.pages.result in
-    let is : inner ≡ record { first = range.first + range.count - (top + 1) + 1; count = top } = c.pages.ensures.pages ∙ (λ i. record { first = c.guard_of-guard.ensures.guard i + 1; count = top }) in
-    let made = c.commit_new.ensures.changed (top_free t pid range top c.requires.reserved fits inner is c.requires.tall.some c.sound.ensures.sound) in
-    let one = c.pages-2.result in
-    let same : one ≡ record { first = range.first + range.count - (top + 1); count = 1 } = c.pages-2.ensures.pages ∙ (λ i. record { first = c.guard_of-guard.ensures.guard i; count = 1 }) in
+    let d = (goal.at.commit_new-requires-2-clause-room g c).After-pages-2 in
+    let e = ends g d c.requires.reserved in
+    let more = charge_more c.args.t.now c.args.pid.0 c.pages.result (top g d c.requires.reserved) 0x04 in
+    let charged = ap (λ (t : Tables). charge t) e.made in
+    let tops = ap (λ (r : Range). r.count) (top_is g d) in
+    let one = ap (λ (r : Range). r.count) e.one in
     record {
-      allowed = omega (
-        arith,
-        charge_more t pid inner (top_free t pid range top c.requires.reserved fits inner is c.requires.tall.some c.sound.ensures.sound) 0x04,
-        ap (λ (t : Tables). charge t) made,
-        ap (λ (t : Tables). limit t) made,
-        ap (λ (r : Range). r.count) is,
-        ap (λ (r : Range). r.count) same,
-        c.requires.room.allowed,
-      );
-      room = omega (
-        arith,
-        charge_more t pid inner (top_free t pid range top c.requires.reserved fits inner is c.requires.tall.some c.sound.ensures.sound) 0x04,
-        ap (λ (t : Tables). charge t) made,
-        ap (λ (r : Range). r.count) is,
-        ap (λ (r : Range). r.count) same,
-        c.requires.room.room,
-        c.commit_new.ensures.makes.later,
-      );
+      allowed = omega (arith, more, charged, ap (λ (t : Tables). limit t) e.made, tops, one, c.requires.room.allowed);
+      room = omega (arith, more, charged, tops, one, c.requires.room.room, c.commit_new.ensures.makes.later);
     }
 
 pub returns-clause-changed : goal.returns-clause-changed
 returns-clause-changed g c h =
-    let t = c.args.t.now in
-    let pid = c.args.pid.0 in
-    let range : Range = c.args.range in
-    let top = c.args.top in
-    let fits = c.requires.tall.inside in
-    let inner = c.pages.result in
-    let is : inner ≡ record { first = range.first + range.count - (top + 1) + 1; count = top } = c.pages.ensures.pages ∙ (λ i. record { first = c.guard_of-guard.ensures.guard i + 1; count = top }) in
-    let made = c.commit_new.ensures.changed (top_free t pid range top h fits inner is c.requires.tall.some c.sound.ensures.sound) in
-    let one = c.pages-2.result in
-    let same : one ≡ record { first = range.first + range.count - (top + 1); count = 1 } = c.pages-2.ensures.pages ∙ (λ i. record { first = c.guard_of-guard.ensures.guard i; count = 1 }) in
-    both_made t pid range top h fits inner is c.commit_new.new.t made one same c.commit_new-2.new.t
-    (c.commit_new-2.ensures.changed (guard_free t pid range top h fits inner is c.commit_new.new.t made one same c.sound-2.ensures.sound))
+    let d = (goal.at.returns-clause-changed g c).After-pages-2 in
+    let e = ends g d h in
+    both_made c.args.t.now c.args.pid.0 c.args.range c.args.top h c.requires.tall.inside c.pages.result (top_is g d) c.commit_new.new.t e.made c.pages-2.result e.one c.commit_new-2.new.t
+    (c.commit_new-2.ensures.changed (guard_free c.args.t.now c.args.pid.0 c.args.range c.args.top h c.requires.tall.inside c.pages.result (top_is g d) c.commit_new.new.t e.made c.pages-2.result e.one c.sound-2.ensures.sound))
 
 pub returns-clause-settled : goal.returns-clause-settled
 returns-clause-settled g c =
-    let t = c.args.t.now in
-    let pid = c.args.pid.0 in
-    let range : Range = c.args.range in
-    let top = c.args.top in
-    let fits = c.requires.tall.inside in
-    let inner = c.pages.result in
-    let is : inner ≡ record { first = range.first + range.count - (top + 1) + 1; count = top } = c.pages.ensures.pages ∙ (λ i. record { first = c.guard_of-guard.ensures.guard i + 1; count = top }) in
-    let made = c.commit_new.ensures.changed (top_free t pid range top c.requires.reserved fits inner is c.requires.tall.some c.sound.ensures.sound) in
-    let one = c.pages-2.result in
-    let same : one ≡ record { first = range.first + range.count - (top + 1); count = 1 } = c.pages-2.ensures.pages ∙ (λ i. record { first = c.guard_of-guard.ensures.guard i; count = 1 }) in
-    joined t c.commit_new.new.t c.commit_new-2.new.t _ _ _ _ _ _ c.requires.begins.fits
-    (lasts_commit t pid inner (top_free t pid range top c.requires.reserved fits inner is c.requires.tall.some c.sound.ensures.sound) 0x04 c.commit_new.new.t c.sound.ensures.sound made)
+    let d = (goal.at.returns-clause-settled g c).After-pages-2 in
+    joined c.args.t.now c.commit_new.new.t c.commit_new-2.new.t _ _ _ _ _ _ c.requires.begins.fits
+    (lasts_commit c.args.t.now c.args.pid.0 c.pages.result (top g d c.requires.reserved) 0x04 c.commit_new.new.t c.sound.ensures.sound (ends g d c.requires.reserved).made)
     c.commit_new.ensures.settled c.commit_new-2.ensures.settled
 
 pub returns-clause-passes : goal.returns-clause-passes

@@ -1,11 +1,8 @@
 use Rattle.std.proofs.Common.{ap, arith}
-use Rattle.mm_world.specs.Charge.{limit}
-use Rattle.mm_world.specs.Contents.{Tables}
-use Rattle.mm_world.specs.Find.{process_of}
-use Rattle.mm_calls.proofs.Joined.{joined}
-use Rattle.mm_calls.proofs.RegionSteps.{now_reserved, same_charge, lasts_reserve, stack_made}
+use Rattle.mm_world.specs.{limit, Tables, process_of}
+use Rattle.mm_calls.proofs.{joined, now_reserved, same_charge, lasts_reserve, stack_made}
 use Rattle.mm_calls.proofs.stack_regions.make_region.Goals as goal
-use Rattle.mm_types.proofs.Options.{some_found}
+use Rattle.mm_types.proofs.{some_found}
 
 pub reserve_region-requires-clause-new : goal.reserve_region-requires-clause-new
 reserve_region-requires-clause-new g c p lives =

@@ -1,20 +1,14 @@
 use Rattle.std.proofs.Common.{◌≡◌, ℕ, ◌≤◌, ◌<◌, ◌+◌, ◌-◌, ◌∙◌, subst, refl, true, false, sym, ap, arith, is_some}
 use Rattle.std.proofs.lemmas.Bool.{leb-true, leb-false}
-use Rattle.mm_types.specs.Address.{Range}
-use Rattle.mm_world.proofs.FlagRanges.{page_of-address_of}
-use Rattle.mm_pages.specs.Housekeeping.{Turns, MakesStack, guard_told}
-use Rattle.mm_pages.specs.Passing.{PassesIn}
-use Rattle.mm_world.specs.Laws.{is_success}
-use Rattle.mm_world.specs.Outcome.{OutcomeOf}
-use Rattle.mm_world.specs.Find.{process_of, stack_by}
-use Rattle.mm_world.specs.Charge.{charge, limit}
-use Rattle.mm_tables.proofs.Carried.{settled_same}
-use Rattle.mm_pages.proofs.Passed.{turns_same}
-use Rattle.mm_calls.proofs.Created.{refused_past, made}
-use Rattle.mm_calls.proofs.Probed.{settled_then}
-use Rattle.mm_calls.proofs.CallsDone.{answers}
+use Rattle.mm_types.specs.{Range}
+use Rattle.mm_world.proofs.{page_of-address_of}
+use Rattle.mm_pages.specs.{Turns, MakesStack, guard_told, PassesIn}
+use Rattle.mm_world.specs.{is_success, OutcomeOf, process_of, stack_by, charge, limit}
+use Rattle.mm_tables.proofs.{settled_same}
+use Rattle.mm_pages.proofs.{turns_same}
+use Rattle.mm_calls.proofs.{refused_past, made, settled_then, answers}
 use Rattle.mm_calls.proofs.stacks.stack.Goals as goal
-use Rattle.mm_types.proofs.Options.{some_found}
+use Rattle.mm_types.proofs.{some_found}
 
 pub returns-then-not-can_charge-clause-done : goal.returns-then-not-can_charge-clause-done
 returns-then-not-can_charge-clause-done g c =

@@ -1,7 +1,7 @@
 use Rattle.std.proofs.Common.{◌∙◌, sym}
 use Rattle.std.specs.Prelude.{◌==◌}
-use Rattle.mm_types.specs.Address.{address_of}
-use Rattle.mm_world.specs.World.{RegionOf}
+use Rattle.mm_types.specs.{address_of}
+use Rattle.mm_world.specs.{RegionOf}
 use Rattle.mm_calls.proofs.Placing.{told_view}
 use Rattle.mm_calls.proofs.views.unmap.Goals as goal
 

@@ -1,8 +1,7 @@
 use Rattle.std.proofs.Common.{◌∙◌, sym}
-use Rattle.mm_types.proofs.Options.{some_found}
-use Rattle.mm_types.proofs.Tables.{differ}
-use Rattle.mm_world.specs.Find.{process_of}
-use Rattle.mm_calls.proofs.Watched.{called_beside, watch_gives, watch_refused}
+use Rattle.mm_types.proofs.{some_found, differ}
+use Rattle.mm_world.specs.{process_of}
+use Rattle.mm_calls.proofs.{called_beside, watch_gives, watch_refused}
 use Rattle.mm_calls.proofs.watch_calls.watch.Goals as goal
 
 pub returns-in-Some-clause-called : goal.returns-in-Some-clause-called

@@ -1,6 +1,6 @@
 use Rattle.std.proofs.Common.{◌≡◌, ℕ, ◌++◌, ap, sym, ◌∙◌, arith}
-use Rattle.mm_classes.specs.Encoding.{digits_of}
-use Rattle.mm_classes.proofs.Digits.{digits_none}
+use Rattle.mm_classes.specs.{digits_of}
+use Rattle.mm_classes.proofs.{digits_none}
 use Rattle.mm_classes.proofs.encoding.put_number.Goals as goal
 
 pub returns-clause-text : goal.returns-clause-text

@@ -1,5 +1,5 @@
 use Rattle.std.proofs.Common.{◌≡◌, ◌≤◌, ◌+◌, ◌++◌, length}
-use Rattle.mm_classes.specs.Encoding.{digits_of, number_text}
+use Rattle.mm_classes.specs.{digits_of, number_text}
 use Rattle.mm_classes.proofs.encoding.put_number.Given as goal
 
 abbrev pub invariant-loop-places : goal.invariant-loop-places

@@ -1,5 +1,5 @@
 use Rattle.std.proofs.Common.{◌≡◌, ◌≤◌, ◌+◌, ◌*◌, ◌++◌, length, drop}
-use Rattle.mm_classes.specs.Encoding.{numbers_text}
+use Rattle.mm_classes.specs.{numbers_text}
 use Rattle.mm_classes.proofs.encoding.put_numbers.Given as goal
 
 abbrev pub invariant-loop-n : goal.invariant-loop-n

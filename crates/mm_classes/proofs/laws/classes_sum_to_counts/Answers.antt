@@ -1,4 +1,4 @@
-use Rattle.mm_classes.proofs.Counted.{agrees}
+use Rattle.mm_classes.proofs.{agrees}
 use Rattle.mm_classes.proofs.laws.classes_sum_to_counts.Goals as goal
 
 pub returns : goal.returns

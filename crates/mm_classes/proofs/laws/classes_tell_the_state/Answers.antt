@@ -1,4 +1,4 @@
-use Rattle.mm_classes.proofs.Tells.{says}
+use Rattle.mm_classes.proofs.{says}
 use Rattle.mm_classes.proofs.laws.classes_tell_the_state.Goals as goal
 
 pub returns : goal.returns

@@ -1,4 +1,4 @@
-use Rattle.mm_classes.proofs.Back.{data_back}
+use Rattle.mm_classes.proofs.{data_back}
 use Rattle.mm_classes.proofs.laws.data_tells_all.Goals as goal
 
 pub returns : goal.returns

@@ -1,26 +1,13 @@
 use Rattle.std.proofs.Common.{◌≡◌, ◌∙◌, sym, ap, subst, arith, Some, Option}
 use Rattle.std.specs.Prelude.{Result, Ok, Err}
-use Rattle.mm_types.specs.declared.numbers.Key.{Key}
-use Rattle.mm_types.specs.Address.{page_of}
-use Rattle.mm_world.specs.World.{Page}
-use Rattle.mm_types.specs.declared.faults.PageFault.{PageFault}
-use Rattle.mm_types.specs.declared.numbers.Place.{Place}
-use Rattle.mm_pages.specs.Accesses.{Copies}
+use Rattle.mm_types.specs.{Key, page_of, PageFault, Place}
+use Rattle.mm_world.specs.{Page, same_key, private_key}
+use Rattle.mm_pages.specs.{Copies, place_at, touch, copying, IsReady, PassesIn, StoreOf, changed, same_place, fetched}
 use Rattle.mm_pages.specs.Behind.{Behind}
-use Rattle.mm_pages.specs.Conditions.{place_at, touch, copying, IsReady}
-use Rattle.mm_pages.specs.Passing.{PassesIn}
-use Rattle.mm_tables.specs.Fits.{FitsTables, key_at}
+use Rattle.mm_tables.specs.{FitsTables, key_at, CommittedRow}
 use Rattle.std.proofs.Common.{Bool, cond, true, false, ◌+◌}
-use Rattle.mm_world.specs.Failure.{same_key}
-use Rattle.mm_world.specs.Keys.{private_key}
-use Rattle.mm_pages.specs.Store.{StoreOf, changed, same_place}
-use Rattle.mm_pages.specs.Reports.{fetched}
-use Rattle.mm_tables.specs.declared.looks.CommittedRow.{CommittedRow}
-use Rattle.mm_core.proofs.Accesses.{is-copying}
-use Rattle.mm_core.proofs.Fitting.{fits_uncopied, fits_copied, at-named, place_itself}
-use Rattle.mm_types.proofs.Options.{some_found}
-use Rattle.mm_core.proofs.Keys.{key-row, key-live}
-use Rattle.mm_core.proofs.Room.{room-to-copy}
+use Rattle.mm_core.proofs.{is-copying, fits_uncopied, fits_copied, at-named, place_itself, key-row, key-live, room-to-copy}
+use Rattle.mm_types.proofs.{some_found}
 use Rattle.mm_core.proofs.fetching.copy.Goals as goal
 
 -- the moves of a copy, said of the same place

@@ -1,27 +1,17 @@
 use Rattle.std.proofs.Common.{rules, ◌≡◌, true, Err, refl, sym, subst}
 use Rattle.std.proofs.lemmas.Result.{err_from_is_err_and}
-use Rattle.mm_types.specs.declared.numbers.Key.{Key}
-use Rattle.mm_types.specs.Address.{page_of}
-use Rattle.mm_pages.specs.Conditions.{place_at, touch, copying, IsReady}
-use Rattle.mm_core.proofs.AccessForms.{copied_then, copied_err}
-use Rattle.mm_pages.proofs.Served.{served_then}
+use Rattle.mm_types.specs.{Key, page_of}
+use Rattle.mm_pages.specs.{place_at, touch, copying, IsReady}
+use Rattle.mm_core.proofs.{copied_then, copied_err}
+use Rattle.mm_pages.proofs.{served_then}
 use Rattle.mm_core.proofs.fetching.put_copy.Goals as goal
 
 pub returns-in_err-copy-clause-copied : goal.returns-in_err-copy-clause-copied
 returns-in_err-copy-clause-copied g c =
     let p = err_from_is_err_and c.from_residual.result c.from_residual.ensures.1 in
     let is : c.from_residual.result ≡ Err c.in_err-copy.field-0.0 = let err = p.1 in let from = p.2 in cc in
-    let did = c.copy.ensures.copied in
-    record {
-      fits = did.fits;
-      line = did.line;
-      served = did.served;
-      blamed = search rules;
-      was_ready = search rules;
-      unpaged = search rules;
-      passes = copied_err g.G.Pages.unpaged _ _ c.copy.result _ _ _ _ _ _ c.in_err-copy.was is c.copy.ensures.copied.passes;
-      loans = did.loans;
-    }
+    let passes = copied_err g.G.Pages.unpaged _ _ c.copy.result _ _ _ _ _ _ c.in_err-copy.was is c.copy.ensures.copied.passes in
+    search (rules, passes)
 
 pub returns-clause-copied : goal.returns-clause-copied
 returns-clause-copied g c =

@@ -1,4 +1,4 @@
-use Rattle.mm_core.proofs.Forgotten.{idles-one, idles-not}
+use Rattle.mm_core.proofs.{idles-one, idles-not}
 use Rattle.mm_core.proofs.forgetting.forget_wait.Goals as goal
 
 pub returns-then-keeps_of-clause-passes : goal.returns-then-keeps_of-clause-passes

@@ -1,5 +1,5 @@
 use Rattle.std.proofs.Common.{refl, ◌∙◌}
-use Rattle.mm_core.proofs.Forgotten.{forgot-none, forgot-more, idles-none, idles-more}
+use Rattle.mm_core.proofs.{forgot-none, forgot-more, idles-none, idles-more}
 use Rattle.mm_core.proofs.forgetting.forget_waits.Goals as goal
 
 pub loop-tid-init : goal.loop-tid-init

@@ -1,6 +1,5 @@
 use Rattle.std.proofs.Common.{◌≡◌}
-use Rattle.mm_core.specs.Forgetting.{Forgot}
-use Rattle.mm_core.specs.Noting.{IdlesIn}
+use Rattle.mm_core.specs.{Forgot, IdlesIn}
 use Rattle.mm_core.proofs.forgetting.forget_waits.Given as goal
 
 abbrev pub invariant-loop-tid : goal.invariant-loop-tid

@@ -1,16 +1,11 @@
 use Rattle.std.proofs.Common.{refl, sym, subst, ap, ◌∙◌, ◌+◌, Option}
 use Rattle.mm_types.specs.declared.events.Event.TheVariants as event
-use Rattle.mm_types.specs.declared.numbers.Key.{Key}
-use Rattle.mm_world.specs.World.{Page}
-use Rattle.mm_tables.specs.Fits.{Called, key_bytes}
-use Rattle.mm_core.proofs.Serving.{quiet-beside}
-use Rattle.mm_world.specs.Processes.{exit}
-use Rattle.mm_world.proofs.Across.{exit_across}
-use Rattle.mm_pages.specs.Store.{StoreOf}
-use Rattle.mm_core.proofs.Making.{in_exit}
-use Rattle.mm_core.proofs.Lines.{decided-call}
-use Rattle.mm_core.proofs.Forgotten.{keeps-forgot, decided-forgot, ends-waits}
-use Rattle.mm_core.proofs.CallForms.{marked_exit}
+use Rattle.mm_types.specs.{Key}
+use Rattle.mm_world.specs.{Page, exit}
+use Rattle.mm_tables.specs.{Called, key_bytes}
+use Rattle.mm_core.proofs.{quiet-beside, in_exit, decided-call, keeps-forgot, decided-forgot, ends-waits, marked_exit}
+use Rattle.mm_world.proofs.{exit_across}
+use Rattle.mm_pages.specs.{StoreOf}
 use Rattle.mm_core.proofs.memory_lines.exit_line.Goals as goal
 
 pub begin_release-requires-clause-fits : goal.begin_release-requires-clause-fits

@@ -2,13 +2,8 @@ use Rattle.std.proofs.Common.{◌∙◌, refl, sym}
 use Rattle.mm_types.specs.declared.answers.Answer.TheVariants as answer
 use Rattle.mm_types.specs.declared.codes.Code.TheVariants as code
 use Rattle.mm_types.specs.declared.events.Event.TheVariants as event
-use Rattle.mm_tables.specs.Fits.{key_bytes}
-use Rattle.mm_core.proofs.Serving.{quiet-same}
-use Rattle.mm_core.proofs.Lines.{decided-same}
-use Rattle.mm_core.proofs.Fitting.{fits-same}
-use Rattle.mm_core.proofs.Rows.{gone-by, lives-by}
-use Rattle.mm_core.proofs.Accesses.{store-gone, store-lives}
-use Rattle.mm_core.proofs.CallForms.{marked_no_age, marked_age}
+use Rattle.mm_tables.specs.{key_bytes}
+use Rattle.mm_core.proofs.{quiet-same, decided-same, fits-same, gone-by, lives-by, store-gone, store-lives, marked_no_age, marked_age}
 use Rattle.mm_core.proofs.paging_lines.age_line.Goals as goal
 
 pub returns-then-not-has-clause-done : goal.returns-then-not-has-clause-done
@@ -17,10 +12,8 @@ returns-then-not-has-clause-done g c =
     let old = g.G.Pages.contents c.args.g.now in
     let m = g.G.Pages.store c.begin.new.g in
     record {
-      decided = decided-same g.G.Pages.unpaged (event.Age c.args.pid) c.args.line t old _ m (answer.Error code.InvalidHandle) t (g.G.Pages.contents c.begin.new.g) m
-          c.requires.next.keeps c.requires.next.line_is c.begin.ensures.starts.begins (quiet-same _ _ refl) refl c.begin.ensures.starts.contents refl
-          (store-gone t (key_bytes old) c.args.pid.0 (gone-by t c.args.pid.0 (sym c.has.ensures ∙ c.if-not-has.true)))
-          (λ f. f) tt tt (c.begin.ensures.fits t c.requires.next.keeps.fits);
+      decided = decided-same g.G.Pages c.requires.next c.begin.ensures.starts (event.Age c.args.pid) (answer.Error code.InvalidHandle) (quiet-same m m refl) refl refl
+          (store-gone t (key_bytes old) c.args.pid.0 (gone-by t c.args.pid.0 (sym c.has.ensures ∙ c.if-not-has.true))) (λ f. f) tt tt (c.begin.ensures.fits t c.requires.next.keeps.fits);
       marked = marked_no_age c.args.t.now (g.G.Pages.contents c.args.g.now) (g.G.Pages.contents c.begin.new.g) c.args.line c.args.pid g.G.Pages.unpaged (g.G.Pages.store c.args.g.now) (g.G.Pages.store c.begin.new.g) (g.G.Pages.store c.begin.new.g) (g.G.Pages.behind c.args.g.now) (g.G.Pages.behind c.begin.new.g) (g.G.Pages.behind c.begin.new.g) c.has.result c.has.ensures (answer.Error code.InvalidHandle) c.if-not-has.true c.begin.ensures.passes;
     }
 
@@ -31,8 +24,7 @@ returns-clause-done g c =
     let m = g.G.Pages.store c.begin.new.g in
     let z = g.G.Pages.store c.age.new.self in
     record {
-      decided = decided-same g.G.Pages.unpaged (event.Age c.args.pid) c.args.line t old _ m answer.Ok t (g.G.Pages.contents c.age.new.self) z
-          c.requires.next.keeps c.requires.next.line_is c.begin.ensures.starts.begins (quiet-same m z c.age.ensures.store) refl (c.age.ensures.contents ∙ c.begin.ensures.starts.contents) refl
+      decided = decided-same g.G.Pages c.requires.next c.begin.ensures.starts (event.Age c.args.pid) answer.Ok (quiet-same m z c.age.ensures.store) c.age.ensures.contents refl
           (store-lives t (key_bytes old) c.args.pid.0 (lives-by t c.args.pid.0 (sym c.has.ensures ∙ c.if-not-has.false)))
           (λ f. f) tt tt (fits-same t _ m _ z (c.begin.ensures.fits t c.requires.next.keeps.fits) c.age.ensures.contents c.age.ensures.store);
       marked = marked_age c.args.t.now (g.G.Pages.contents c.args.g.now) (g.G.Pages.contents c.age.new.self) c.args.line c.args.pid g.G.Pages.unpaged (g.G.Pages.store c.args.g.now) (g.G.Pages.store c.begin.new.g) (g.G.Pages.store c.age.new.self) (g.G.Pages.behind c.args.g.now) (g.G.Pages.behind c.begin.new.g) (g.G.Pages.behind c.age.new.self) c.has.result c.has.ensures answer.Ok c.if-not-has.false c.begin.ensures.passes c.age.ensures.passes;

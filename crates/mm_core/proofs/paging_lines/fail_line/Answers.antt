@@ -3,19 +3,12 @@ use Rattle.mm_types.specs.declared.answers.Answer.TheVariants as answer
 use Rattle.mm_types.specs.declared.events.Event.TheVariants as event
 use Rattle.mm_types.specs.declared.moves.LineKind.TheVariants as kind
 use Rattle.mm_types.specs.declared.moves.Move.TheVariants as move
-use Rattle.mm_types.specs.declared.numbers.Key.{Key}
-use Rattle.mm_world.specs.World.{Page}
-use Rattle.mm_world.specs.Contents.{Tables, world_with}
-use Rattle.mm_world.specs.Outcome.{OutcomeOf, done}
-use Rattle.mm_world.specs.Processes.{take_fail}
-use Rattle.mm_tables.specs.Fits.{FitsTables, Called, key_bytes}
-use Rattle.mm_tables.specs.References.{MadeAtMost}
-use Rattle.mm_world.proofs.Across.{take_fail_across}
-use Rattle.mm_core.proofs.Lines.{stepped-plain, called-across, bytes-kept, keeps-made}
-use Rattle.mm_core.proofs.Making.{in_take_fail}
-use Rattle.mm_core.proofs.Files.{fail-taken, devices-named, is-named, named-line, named-blocks}
-use Rattle.mm_core.proofs.Beside.{beside-fail}
-use Rattle.mm_core.proofs.CallForms.{marked_fail}
+use Rattle.mm_types.specs.{Key}
+use Rattle.mm_world.specs.{Page, Tables, world_with, OutcomeOf, done, take_fail}
+use Rattle.mm_tables.specs.{FitsTables, Called, key_bytes, MadeAtMost}
+use Rattle.mm_world.proofs.{take_fail_across}
+use Rattle.mm_core.proofs.{stepped-plain, called-across, bytes-kept, keeps-made, in_take_fail, fail-taken, devices-named, is-named, named-line}
+use Rattle.mm_core.proofs.{named-blocks, beside-fail, marked_fail}
 use Rattle.mm_core.proofs.paging_lines.fail_line.Goals as goal
 
 pub returns-clause-done : goal.returns-clause-done

@@ -1,13 +1,13 @@
 use Rattle.std.proofs.Common.{rules, refl}
 use Rattle.mm_types.specs.declared.events.Event.TheVariants as event
 use Rattle.mm_types.specs.declared.moves.LineKind.TheVariants as kind
-use Rattle.mm_world.specs.Contents.{world_with}
-use Rattle.mm_tables.specs.Fits.{key_bytes}
-use Rattle.mm_core.proofs.Marking.{marked_exactly, clearings_keep}
+use Rattle.mm_world.specs.{world_with}
+use Rattle.mm_tables.specs.{key_bytes}
+use Rattle.mm_core.proofs.{marked_exactly, clearings_keep}
 use Rattle.mm_types.specs.declared.answers.Answer.TheVariants as answer
 use Rattle.mm_pages.specs.Behind.{Behind}
-use Rattle.mm_life.specs.Chores.{clearings}
-use Rattle.mm_paging.specs.Lines.{with_line}
+use Rattle.mm_life.specs.{clearings}
+use Rattle.mm_paging.specs.{with_line}
 use Rattle.mm_types.specs.declared.moves.Move.TheVariants as move
 use Rattle.mm_core.proofs.paging_lines.zeroer_line.Goals as goal
 

@@ -1,16 +1,12 @@
 use Rattle.std.proofs.Common.{◌≡◌, true, false, sym, ◌∙◌, ap, subst}
-use Rattle.mm_types.specs.declared.codes.Raise.{Raise}
+use Rattle.mm_types.specs.{Raise, page_of, permits}
 use Rattle.mm_types.specs.declared.answers.Answer.TheVariants as answer
 use Rattle.mm_types.specs.declared.codes.Raise.TheVariants as raise
-use Rattle.mm_types.specs.Address.{page_of}
-use Rattle.mm_types.specs.Protection.{permits}
-use Rattle.mm_tables.specs.declared.looks.CommittedRow.{CommittedRow}
-use Rattle.mm_tables.specs.References.{MadeAtMost}
-use Rattle.mm_world.specs.Contents.{Tables, world_with}
-use Rattle.mm_core.specs.Accessing.{Refuses}
-use Rattle.mm_core.proofs.Rows.{lives-by, row-told, no-row}
+use Rattle.mm_tables.specs.{CommittedRow, MadeAtMost}
+use Rattle.mm_world.specs.{Tables, world_with}
+use Rattle.mm_core.specs.{Refuses}
+use Rattle.mm_core.proofs.{lives-by, row-told, no-row, made-set_row}
 use Rattle.mm_core.proofs.Accesses as accesses
-use Rattle.mm_core.proofs.Making.{made-set_row}
 use Rattle.mm_core.proofs.refusals.admit.Goals as goal
 
 pub returns-in-None-clause-refused : goal.returns-in-None-clause-refused

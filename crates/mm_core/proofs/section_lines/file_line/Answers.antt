@@ -1,25 +1,17 @@
-use Rattle.std.proofs.Common.{◌+◌, ap, subst, inr, Option, ◌&&◌, nat_lt, refl}
+use Rattle.std.proofs.Common.{◌+◌, ◌∙◌, ap, subst, inr, Option, ◌&&◌, nat_lt, refl}
 use Rattle.mm_types.specs.declared.events.Event.TheVariants as event
-use Rattle.mm_types.specs.declared.numbers.Key.{Key}
-use Rattle.mm_world.specs.World.{Page}
-use Rattle.mm_world.specs.Contents.{blank, BytesAfterFile, world_with}
-use Rattle.mm_world.specs.Processes.{new_file}
-use Rattle.mm_world.specs.Step.{is_ok}
-use Rattle.mm_pages.specs.Store.{StoreOf}
-use Rattle.mm_tables.specs.Fits.{key_bytes}
-use Rattle.mm_core.proofs.Beside.{beside-file}
-use Rattle.mm_core.proofs.Lines.{if-ok, decided-served, faulted-answer, faulted-made, one-later, if-err}
-use Rattle.mm_core.proofs.Making.{in_new_file}
-use Rattle.mm_core.proofs.Files.{file-stepped}
+use Rattle.mm_types.specs.{Key}
+use Rattle.mm_world.specs.{Page, blank, BytesAfterFile, world_with, new_file, is_ok}
+use Rattle.mm_pages.specs.{StoreOf}
+use Rattle.mm_tables.specs.{key_bytes}
+use Rattle.mm_core.proofs.{beside-file, if-ok, decided-served, faulted-answer, faulted-made, one-later, if-err, in_new_file, file-stepped}
+use Rattle.mm_core.proofs.{marked_file, halted_notes, idle-still}
 use Rattle.mm_types.specs.declared.moves.LineKind.TheVariants as kind
 use Rattle.mm_types.specs.declared.moves.Move.TheVariants as move
-use Rattle.mm_core.proofs.CallForms.{marked_file}
-use Rattle.mm_core.proofs.Marking.{halted_notes}
-use Rattle.mm_core.proofs.LinesDone.{idle-still}
 use Rattle.mm_core.proofs.section_lines.file_line.Goals as goal
 
-pub returns-clause-done : goal.returns-clause-done
-returns-clause-done g c =
+pub returns-clause-made : goal.returns-clause-made
+returns-clause-made g c =
     let t = c.args.t.now in
     let u = g.G.Pages.unpaged in
     let old = g.G.Pages.contents c.args.g.now in
@@ -34,23 +26,23 @@ returns-clause-done g c =
     let q = new_file blank t name c.args.pages c.args.byte in
     let makes = (in_new_file blank t name c.args.pages c.args.byte).it in
     let b = is_ok q.answer && nat_lt 0 z.report.file_writes.failed in
-    if-ok call.result call.ensures.done (λ a h. record {
-      decided = decided-served u e c.args.line t old s m a after new z c.requires.next.line_is c.begin.ensures.starts.begins (ap (λ (s : StoreOf). s.line) h.beside) h.served
-          (file-stepped u c.args.line t old new s m z c.sound.ensures.sound.spaces c.requires.next.keeps.fits.live a after name c.args.pages c.args.byte h.told
-          (subst (λ (x : Key → Option Page). BytesAfterFile c.args.byte t (key_bytes x) after (key_bytes new)) c.begin.ensures.starts.contents h.bytes))
-          (λ f. inr (h.blamed (faulted-answer u e c.args.line t old s m a after new z b q makes.fine h.told f))) tt tt
-          (faulted-made u e c.args.line t old s m a after new z b q (s.line + 1) (one-later t s.line c.requires.next.keeps.few) (makes.made s.line c.requires.next.keeps.few) h.told) h.fits;
-      marked = marked_file c.args.line (event.File c.args.name.now c.args.pages c.args.byte) (world_with c.args.t.now (key_bytes (g.G.Pages.contents c.args.g.now))) a (world_with call.new.t (key_bytes (g.G.Pages.contents call.new.g))) g.G.Pages.unpaged (g.G.Pages.store c.args.g.now) (g.G.Pages.store c.begin.new.g) (g.G.Pages.store call.new.g) (g.G.Pages.behind c.args.g.now) (g.G.Pages.behind c.begin.new.g) (g.G.Pages.behind call.new.g)
-          (record { ages = λ ms. refl; waits = λ ws l. refl }) (λ ms h. h) c.begin.ensures.passes call.ensures.notes;
-    })
-
-pub returns-clause-broke : goal.returns-clause-broke
-returns-clause-broke g c =
-    let call = c.new_file in
-    if-err call.result call.ensures.broke (λ h. record {
-      idle = idle-still c.begin.ensures.starts.begins c.begin.ensures.starts.contents h.store h.tables h.contents;
-      halted = halted_notes c.args.line kind.Call refl g.G.Pages.unpaged (g.G.Pages.store c.args.g.now) (g.G.Pages.store c.begin.new.g) (g.G.Pages.store call.new.g) (g.G.Pages.behind c.args.g.now) (g.G.Pages.behind c.begin.new.g) (g.G.Pages.behind call.new.g) c.begin.ensures.passes call.ensures.notes;
-    })
+    record {
+      done = if-ok call.result call.ensures.done (λ a h. record {
+        decided = decided-served u e c.args.line t old s m a after new z c.requires.next.line_is c.begin.ensures.starts.begins (ap (λ (s : StoreOf). s.line) h.beside) h.served
+            (file-stepped u c.args.line t old new s m z c.sound.ensures.sound.spaces c.requires.next.keeps.fits.live a after name c.args.pages c.args.byte h.told
+            (subst (λ (x : Key → Option Page). BytesAfterFile c.args.byte t (key_bytes x) after (key_bytes new)) c.begin.ensures.starts.contents h.bytes))
+            (λ f. inr (h.blamed (faulted-answer u e c.args.line t old s m a after new z b q makes.fine h.told f))) tt tt
+            (faulted-made u e c.args.line t old s m a after new z b q (s.line + 1) (one-later t s.line c.requires.next.keeps.few) (makes.made s.line c.requires.next.keeps.few) h.told) h.fits;
+        marked = marked_file c.args.line (event.File c.args.name.now c.args.pages c.args.byte) (world_with c.args.t.now (key_bytes (g.G.Pages.contents c.args.g.now))) a (world_with call.new.t (key_bytes (g.G.Pages.contents call.new.g))) g.G.Pages.unpaged (g.G.Pages.store c.args.g.now) (g.G.Pages.store c.begin.new.g) (g.G.Pages.store call.new.g) (g.G.Pages.behind c.args.g.now) (g.G.Pages.behind c.begin.new.g) (g.G.Pages.behind call.new.g)
+            (record { ages = λ ms. refl; waits = λ ws l. refl }) (λ ms h. h) c.begin.ensures.passes call.ensures.notes;
+      });
+      broke = if-err call.result call.ensures.broke (λ h. record {
+        idle = idle-still c.begin.ensures.starts.begins c.begin.ensures.starts.contents h.store h.tables h.contents;
+        halted = halted_notes c.args.line kind.Call refl g.G.Pages.unpaged (g.G.Pages.store c.args.g.now) (g.G.Pages.store c.begin.new.g) (g.G.Pages.store call.new.g) (g.G.Pages.behind c.args.g.now) (g.G.Pages.behind c.begin.new.g) (g.G.Pages.behind call.new.g) c.begin.ensures.passes call.ensures.notes;
+      });
+      no_memory = call.ensures.no_memory;
+      loans = call.ensures.loans ∙ c.begin.ensures.starts.loans;
+    }
 
 pub returns-clause-beside : goal.returns-clause-beside
 returns-clause-beside g c = λ paged.

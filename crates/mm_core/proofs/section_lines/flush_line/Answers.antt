@@ -1,12 +1,8 @@
 use Rattle.std.proofs.Common.{refl, ◌∙◌, ap, inr, ◌&&◌, nat_lt}
 use Rattle.mm_types.specs.declared.events.Event.TheVariants as event
-use Rattle.mm_world.specs.Views.{flush}
-use Rattle.mm_world.specs.Step.{is_ok}
-use Rattle.mm_pages.specs.Store.{StoreOf}
-use Rattle.mm_core.proofs.Lines.{decided-served, faulted-answer, one-later}
-use Rattle.mm_core.proofs.Making.{in_flush}
-use Rattle.mm_core.proofs.Files.{flush-stepped, flushed-line}
-use Rattle.mm_core.proofs.CallForms.{marked_flush}
+use Rattle.mm_world.specs.{flush, is_ok}
+use Rattle.mm_pages.specs.{StoreOf}
+use Rattle.mm_core.proofs.{decided-served, faulted-answer, one-later, in_flush, flush-stepped, flushed-line, marked_flush}
 use Rattle.mm_core.proofs.section_lines.flush_line.Goals as goal
 
 pub returns-clause-done : goal.returns-clause-done

@@ -1,7 +1,7 @@
 use Rattle.std.proofs.Common.{List, ℕ, ap, ◌∙◌}
 use Rattle.std.specs.BTreeMap.{insert_entry}
-use Rattle.mm_faults.specs.Tallies.{one_more}
-use Rattle.mm_faults.proofs.Counted.{put_back}
+use Rattle.mm_faults.specs.{one_more}
+use Rattle.mm_faults.proofs.{put_back}
 use Rattle.mm_faults.proofs.counters.count.Goals as goal
 
 pub returns : goal.returns

@@ -1,4 +1,4 @@
-use Rattle.mm_faults.proofs.Summing.{sums_to_classes}
+use Rattle.mm_faults.proofs.{sums_to_classes}
 use Rattle.mm_faults.proofs.laws.faults_sum_to_classes.Goals as goal
 
 pub returns : goal.returns

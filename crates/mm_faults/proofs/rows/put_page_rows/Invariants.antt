@@ -1,6 +1,6 @@
 use Rattle.std.proofs.Common.{◌≡◌, ◌++◌}
 use Rattle.std.specs.Prelude.{flat_map}
-use Rattle.mm_faults.specs.Rows.{page_row}
+use Rattle.mm_faults.specs.{page_row}
 use Rattle.mm_faults.proofs.rows.put_page_rows.Given as goal
 
 abbrev pub invariant-loop-place : goal.invariant-loop-place

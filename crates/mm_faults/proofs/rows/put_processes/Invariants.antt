@@ -1,6 +1,6 @@
 use Rattle.std.proofs.Common.{◌≡◌, ◌++◌}
 use Rattle.std.specs.Prelude.{flat_map}
-use Rattle.mm_faults.specs.Rows.{process_rows}
+use Rattle.mm_faults.specs.{process_rows}
 use Rattle.mm_faults.proofs.rows.put_processes.Given as goal
 
 abbrev pub invariant-loop-pid : goal.invariant-loop-pid

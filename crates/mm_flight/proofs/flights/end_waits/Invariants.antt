@@ -1,7 +1,6 @@
 use Rattle.std.proofs.Common.{◌≡◌, ◌≤◌, ◌<◌, ◌++◌, ℕ, map, take, drop, false, Some}
 use Rattle.std.specs.Prelude.{slice_get}
-use Rattle.mm_flight.specs.declared.flights.Waiting.{Waiting}
-use Rattle.mm_flight.specs.Requests.{ended, is_for}
+use Rattle.mm_flight.specs.{Waiting, ended, is_for}
 use Rattle.mm_flight.proofs.flights.end_waits.Given as goal
 
 abbrev pub invariant-loop-t : goal.invariant-loop-t

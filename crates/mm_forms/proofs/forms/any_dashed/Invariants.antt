@@ -1,6 +1,6 @@
 use Rattle.std.proofs.Common.{◌≡◌, drop, map, string_bytes}
 use Rattle.std.specs.List.{list_any}
-use Rattle.mm_forms.specs.Forms.{is_dashed}
+use Rattle.mm_forms.specs.{is_dashed}
 use Rattle.mm_forms.proofs.forms.any_dashed.Given as goal
 
 abbrev pub invariant-loop-word : goal.invariant-loop-word

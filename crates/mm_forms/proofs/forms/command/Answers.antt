@@ -3,8 +3,8 @@ use Rattle.std.specs.List.{fold}
 use Rattle.std.proofs.lemmas.List.{at_drop_more}
 use Rattle.clap.specs.Words.{App, Shape, app_of, with_subcommand}
 use Rattle.clap.specs.Simple.{app_of_fields, on_top}
-use Rattle.mm_forms.specs.Shapes.{with_form}
-use Rattle.mm_forms.proofs.Whole.{all_added, start}
+use Rattle.mm_forms.specs.{with_form}
+use Rattle.mm_forms.proofs.{all_added, start}
 use Rattle.mm_forms.proofs.forms.command.Goals as goal
 
 pub loop-form-init : goal.loop-form-init

@@ -1,7 +1,7 @@
 use Rattle.std.proofs.Common.{◌≡◌, drop}
 use Rattle.std.specs.List.{fold}
 use Rattle.clap.specs.Words.{app_of}
-use Rattle.mm_forms.specs.Shapes.{with_form, words_app}
+use Rattle.mm_forms.specs.{with_form, words_app}
 use Rattle.mm_forms.proofs.forms.command.Given as goal
 
 abbrev pub invariant-loop-form : goal.invariant-loop-form

@@ -7,8 +7,7 @@ use Rattle.clap.specs.declared.builder.ValueRange.{ValueRange}
 use Rattle.clap.specs.declared.builder.ArgAction.TheVariants.{Set}
 use Rattle.clap.specs.Words.{App, Rule, new_app, rule_of, with_rule}
 use Rattle.clap.specs.Simple.{new_shape}
-use Rattle.mm_forms.specs.declared.forms.Form.{Form}
-use Rattle.mm_forms.specs.Shapes.{form_app, values_rule}
+use Rattle.mm_forms.specs.{Form, form_app, values_rule}
 use Rattle.mm_forms.proofs.forms.form_command.Goals as goal
 
 some_is : {X : Type 0} (o : Option X) (x : X) → IsSomeAnd o (λ y. y ≡ x) → o ≡ Some x

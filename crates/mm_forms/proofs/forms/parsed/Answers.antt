@@ -1,6 +1,6 @@
 use Rattle.std.proofs.Common.{◌∙◌, map, string_bytes}
-use Rattle.mm_forms.specs.Shapes.{words_app}
-use Rattle.mm_forms.proofs.Found.{accepted, refused, simple_some}
+use Rattle.mm_forms.specs.{words_app}
+use Rattle.mm_forms.proofs.{accepted, refused, simple_some}
 use Rattle.mm_forms.proofs.forms.parsed.Goals as goal
 
 pub returns-in-Ok : goal.returns-in-Ok

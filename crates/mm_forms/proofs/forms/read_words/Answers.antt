@@ -1,8 +1,7 @@
 use Rattle.std.proofs.Common.{rules, ◌∙◌, sym, subst, true, false, length, map, string_bytes, eqb-true}
 use Rattle.std.proofs.lemmas.Result.{IfOk-weaker}
 use Rattle.clap.specs.Words.{subcommand_rows_of}
-use Rattle.mm_forms.proofs.Found.{dashed_none, none_empty, reads_some, said_from, says_none_some}
-use Rattle.mm_forms.proofs.Whole.{Read}
+use Rattle.mm_forms.proofs.{dashed_none, none_empty, reads_some, said_from, says_none_some, Read}
 use Rattle.mm_forms.proofs.forms.read_words.Goals as goal
 
 pub returns-then-is_empty : goal.returns-then-is_empty

@@ -1,6 +1,6 @@
 use Rattle.std.proofs.Common.{rules, ap, sym, None, Some}
-use Rattle.mm_forms.specs.Forms.{texts}
-use Rattle.mm_forms.proofs.Found.{gives}
+use Rattle.mm_forms.specs.{texts}
+use Rattle.mm_forms.proofs.{gives}
 use Rattle.mm_forms.proofs.forms.said_of.Goals as goal
 
 pub returns-in_ok-from_slice-in-Some-get_strs : goal.returns-in_ok-from_slice-in-Some-get_strs

@@ -1,4 +1,4 @@
-use Rattle.mm_frame_laws.proofs.Carrying.{carries_clear, carries_give, carries_read, carries_steal}
+use Rattle.mm_frame_laws.proofs.{carries_clear, carries_give, carries_read, carries_steal}
 use Rattle.mm_frame_laws.proofs.bytes.frames_are_taken.Goals as goal
 
 pub returns-clause-clear : goal.returns-clause-clear

@@ -1,4 +1,4 @@
-use Rattle.mm_frame_laws.proofs.Carrying.{carries_add_zero, carries_add_block, carries_drop}
+use Rattle.mm_frame_laws.proofs.{carries_add_zero, carries_add_block, carries_drop}
 use Rattle.mm_frame_laws.proofs.bytes.keys_come_and_go.Goals as goal
 
 pub returns-clause-zero : goal.returns-clause-zero

@@ -1,4 +1,4 @@
-use Rattle.mm_frame_laws.proofs.Carrying.{carries_at}
+use Rattle.mm_frame_laws.proofs.{carries_at}
 use Rattle.mm_frame_laws.proofs.bytes.lines_keep_bytes.Goals as goal
 
 pub returns : goal.returns

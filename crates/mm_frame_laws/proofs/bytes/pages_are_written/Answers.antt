@@ -1,4 +1,4 @@
-use Rattle.mm_frame_laws.proofs.Carrying.{carries_written, carries_block}
+use Rattle.mm_frame_laws.proofs.{carries_written, carries_block}
 use Rattle.mm_frame_laws.proofs.bytes.pages_are_written.Goals as goal
 
 pub returns-clause-page : goal.returns-clause-page

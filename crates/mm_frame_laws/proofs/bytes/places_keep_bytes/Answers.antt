@@ -1,4 +1,4 @@
-use Rattle.mm_frame_laws.proofs.Carrying.{carries_map, carries_unmap, carries_soil}
+use Rattle.mm_frame_laws.proofs.{carries_map, carries_unmap, carries_soil}
 use Rattle.mm_frame_laws.proofs.bytes.places_keep_bytes.Goals as goal
 
 pub returns-clause-map : goal.returns-clause-map

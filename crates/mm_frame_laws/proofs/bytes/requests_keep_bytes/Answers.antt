@@ -1,4 +1,4 @@
-use Rattle.mm_frame_laws.proofs.Carrying.{carries_write, carries_got, carries_bad, carries_wrote, carries_lost}
+use Rattle.mm_frame_laws.proofs.{carries_write, carries_got, carries_bad, carries_wrote, carries_lost}
 use Rattle.mm_frame_laws.proofs.bytes.requests_keep_bytes.Goals as goal
 
 pub returns-clause-write : goal.returns-clause-write

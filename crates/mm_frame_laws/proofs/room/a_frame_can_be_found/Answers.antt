@@ -1,6 +1,6 @@
 use Rattle.std.proofs.Common.{◌≡◌, true, false, sym, ◌∙◌}
 use Rattle.mm_frame_laws.proofs.Counting.{room}
-use Rattle.mm_frame_laws.proofs.Walks.{either}
+use Rattle.mm_frame_laws.proofs.{either}
 use Rattle.mm_frame_laws.proofs.room.a_frame_can_be_found.Goals as goal
 
 pub returns-clause-may_go : goal.returns-clause-may_go

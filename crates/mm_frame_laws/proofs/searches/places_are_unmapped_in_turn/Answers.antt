@@ -1,4 +1,4 @@
-use Rattle.mm_frame_laws.proofs.Turns.{turn_kept, turn_failed, turn_fewer, turn_failed_fewer}
+use Rattle.mm_frame_laws.proofs.{turn_kept, turn_failed, turn_fewer, turn_failed_fewer}
 use Rattle.mm_frame_laws.proofs.searches.places_are_unmapped_in_turn.Goals as goal
 
 pub returns-clause-kept : goal.returns-clause-kept

@@ -1,4 +1,4 @@
-use Rattle.mm_frame_laws.proofs.InOrder.{walk_in, walk_failed_in, walk_wrote_in, walk_ends_in, turn_in, turn_wrote_in, turn_failed_in}
+use Rattle.mm_frame_laws.proofs.{walk_in, walk_failed_in, walk_wrote_in, walk_ends_in, turn_in, turn_wrote_in, turn_failed_in}
 use Rattle.mm_frame_laws.proofs.searches.searches_keep_their_order.Goals as goal
 
 pub returns-clause-begins : goal.returns-clause-begins

@@ -1,5 +1,4 @@
-use Rattle.mm_frame_laws.proofs.Walks.{walk_begins, walk_on, walk_passes, walk_passes_all, walk_fails}
-use Rattle.mm_frame_laws.proofs.Turns.{walk_then}
+use Rattle.mm_frame_laws.proofs.{walk_begins, walk_on, walk_passes, walk_passes_all, walk_fails, walk_then}
 use Rattle.mm_frame_laws.proofs.searches.the_modified_list_is_walked.Goals as goal
 
 pub returns-clause-begins : goal.returns-clause-begins

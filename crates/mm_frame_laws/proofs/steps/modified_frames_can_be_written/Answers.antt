@@ -1,4 +1,4 @@
-use Rattle.mm_frame_laws.proofs.Writing.{which_writes, file_writes, paged_writes, store_in_writer, write_lists, write_record, write_others}
+use Rattle.mm_frame_laws.proofs.{which_writes, file_writes, paged_writes, store_in_writer, write_lists, write_record, write_others}
 use Rattle.mm_frame_laws.proofs.steps.modified_frames_can_be_written.Goals as goal
 
 pub returns-clause-which : goal.returns-clause-which

@@ -1,4 +1,4 @@
-use Rattle.mm_frame_laws.proofs.Writing.{unmap_legal, store_there, wrote_legal, lost_legal}
+use Rattle.mm_frame_laws.proofs.{unmap_legal, store_there, wrote_legal, lost_legal}
 use Rattle.mm_frame_laws.proofs.steps.searches_are_legal.Goals as goal
 
 pub returns-clause-unmap : goal.returns-clause-unmap

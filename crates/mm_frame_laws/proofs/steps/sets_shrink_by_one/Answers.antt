@@ -1,5 +1,4 @@
-use Rattle.mm_frame_laws.proofs.Unmapping.{sized, others_sized}
-use Rattle.mm_frame_laws.proofs.Writing.{trim_legal, full_legal}
+use Rattle.mm_frame_laws.proofs.{sized, others_sized, trim_legal, full_legal}
 use Rattle.mm_frame_laws.proofs.steps.sets_shrink_by_one.Goals as goal
 
 pub returns-clause-trim : goal.returns-clause-trim

@@ -1,4 +1,4 @@
-use Rattle.mm_frame_laws.proofs.Unmapping.{unmapped, unmapped_clean, unmapped_changed}
+use Rattle.mm_frame_laws.proofs.{unmapped, unmapped_clean, unmapped_changed}
 use Rattle.mm_frame_laws.proofs.steps.unmapped_frames_join_a_list.Goals as goal
 
 pub returns-clause-unmapped : goal.returns-clause-unmapped

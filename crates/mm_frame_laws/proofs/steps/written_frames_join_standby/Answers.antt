@@ -1,5 +1,5 @@
-use Rattle.mm_laws.proofs.FromSound.{modified_frame}
-use Rattle.mm_frame_laws.proofs.Writing.{written, written_flight, written_found, failed}
+use Rattle.mm_laws.proofs.{modified_frame}
+use Rattle.mm_frame_laws.proofs.{written, written_flight, written_found, failed}
 use Rattle.mm_frame_laws.proofs.steps.written_frames_join_standby.Goals as goal
 
 pub returns-clause-once : goal.returns-clause-once

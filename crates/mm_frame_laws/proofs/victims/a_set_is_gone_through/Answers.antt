@@ -1,4 +1,4 @@
-use Rattle.mm_frame_laws.proofs.Going.{next_oldest, next_passed, none_next}
+use Rattle.mm_frame_laws.proofs.{next_oldest, next_passed, none_next}
 use Rattle.mm_frame_laws.proofs.victims.a_set_is_gone_through.Goals as goal
 
 pub returns-clause-oldest : goal.returns-clause-oldest

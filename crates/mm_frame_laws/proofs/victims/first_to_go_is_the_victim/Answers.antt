@@ -1,4 +1,4 @@
-use Rattle.mm_frame_laws.proofs.Ordering.{victim_found, none_found, oldest_found}
+use Rattle.mm_frame_laws.proofs.{victim_found, none_found, oldest_found}
 use Rattle.mm_frame_laws.proofs.victims.first_to_go_is_the_victim.Goals as goal
 
 pub returns-clause-victim : goal.returns-clause-victim

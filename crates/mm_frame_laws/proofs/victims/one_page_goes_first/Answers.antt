@@ -1,5 +1,4 @@
-use Rattle.mm_frame_laws.proofs.Ordering.{some_victim, some_oldest, one_victim, one_oldest}
-use Rattle.mm_frame_laws.proofs.Going.{set_oldest, all_go}
+use Rattle.mm_frame_laws.proofs.{some_victim, some_oldest, one_victim, one_oldest, set_oldest, all_go}
 use Rattle.mm_frame_laws.proofs.victims.one_page_goes_first.Goals as goal
 
 pub returns-clause-victim : goal.returns-clause-victim

@@ -1,4 +1,4 @@
-use Rattle.mm_frame_laws.proofs.Going.{best_begins, best_same, best_kept, best_now, best_victim, best_none, has_process}
+use Rattle.mm_frame_laws.proofs.{best_begins, best_same, best_kept, best_now, best_victim, best_none, has_process}
 use Rattle.mm_frame_laws.proofs.victims.processes_are_gone_through.Goals as goal
 
 pub returns-clause-same : goal.returns-clause-same

@@ -1,4 +1,4 @@
-use Rattle.mm_frame_laws.proofs.Sets.{oldest_next, none_next_in}
+use Rattle.mm_frame_laws.proofs.{oldest_next, none_next_in}
 use Rattle.mm_frame_laws.proofs.victims.sets_go_by_age.Goals as goal
 
 pub returns-clause-next : goal.returns-clause-next

@@ -1,8 +1,8 @@
 use Rattle.std.proofs.Common.{◌++◌, ◌∷◌, [], sym, ap, ◌∙◌, List, ℕ}
-use Rattle.mm_lists.specs.Lists.{ListsOf, list_at, number_at, with_list}
-use Rattle.mm_frames.specs.Placing.{free_only}
-use Rattle.mm_life.proofs.Numbers.{numbers_next}
-use Rattle.mm_frames.proofs.Fresh.{not_yet}
+use Rattle.mm_lists.specs.{ListsOf, list_at, number_at, with_list}
+use Rattle.mm_frames.specs.{free_only}
+use Rattle.mm_life.proofs.{numbers_next}
+use Rattle.mm_frames.proofs.{not_yet}
 use Rattle.mm_frames.proofs.frames.push_all.Goals as goal
 
 pub push_back-requires-clause-on_none : goal.push_back-requires-clause-on_none

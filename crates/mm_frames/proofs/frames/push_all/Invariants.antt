@@ -1,7 +1,7 @@
 use Rattle.std.proofs.Common.{◌≡◌}
-use Rattle.mm_life.specs.Life.{numbers_from}
-use Rattle.mm_lists.specs.Lists.{AreApart}
-use Rattle.mm_frames.specs.Placing.{free_only}
+use Rattle.mm_life.specs.{numbers_from}
+use Rattle.mm_lists.specs.{AreApart}
+use Rattle.mm_frames.specs.{free_only}
 use Rattle.mm_frames.proofs.frames.push_all.Given as goal
 
 abbrev pub invariant-loop-f : goal.invariant-loop-f

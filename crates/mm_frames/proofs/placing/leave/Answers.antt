@@ -1,5 +1,5 @@
 use Rattle.std.proofs.Common.{sym, ap, List, ℕ}
-use Rattle.mm_lists.proofs.Members.{without_none}
+use Rattle.mm_lists.proofs.{without_none}
 use Rattle.mm_frames.proofs.placing.leave.Goals as goal
 
 pub returns-else-listed : goal.returns-else-listed

@@ -1,10 +1,10 @@
 use Rattle.std.proofs.Common.{◌∷◌, [], ◌++◌, ap, ◌∙◌}
 use Rattle.std.specs.Prelude.{codes}
-use Rattle.mm_types.specs.declared.frames.Held.{Held}
-use Rattle.mm_life.specs.Located.{held_at}
+use Rattle.mm_types.specs.{Held}
+use Rattle.mm_life.specs.{held_at}
 use Rattle.mm_replay.specs.Standing.{life}
-use Rattle.mm_histories.specs.Histories.{held_text}
-use Rattle.mm_histories.proofs.Pieces.{three}
+use Rattle.mm_histories.specs.{held_text}
+use Rattle.mm_histories.proofs.{three}
 use Rattle.mm_histories.proofs.heads.put_page_end.Goals as goal
 
 pub returns : goal.returns

@@ -1,8 +1,8 @@
 use Rattle.std.proofs.Common.{◌∷◌, []}
 use Rattle.std.specs.Prelude.{codes}
 use Rattle.mm_replay.specs.Standing.{life}
-use Rattle.mm_sentences.specs.States.{frame_row}
-use Rattle.mm_histories.proofs.Pieces.{three}
+use Rattle.mm_sentences.specs.{frame_row}
+use Rattle.mm_histories.proofs.{three}
 use Rattle.mm_histories.proofs.heads.put_standing.Goals as goal
 
 pub returns : goal.returns

@@ -1,5 +1,5 @@
 use Rattle.std.proofs.Common.{arith}
-use Rattle.mm_io.proofs.Views.{moved}
+use Rattle.mm_io.proofs.{moved}
 use Rattle.mm_io.proofs.buffers.move_front.Goals as goal
 
 pub returns : goal.returns

@@ -1,4 +1,4 @@
-use Rattle.mm_io.proofs.Feeds.{feed_found}
+use Rattle.mm_io.proofs.{feed_found}
 use Rattle.mm_io.proofs.looks.feed_at.Goals as goal
 
 pub returns : goal.returns

@@ -1,5 +1,5 @@
 use Rattle.std.proofs.Common.{arith}
-use Rattle.mm_io.proofs.Feeds.{looks_line, looks_long}
+use Rattle.mm_io.proofs.{looks_line, looks_long}
 use Rattle.mm_io.proofs.looks.look_at.Goals as goal
 
 pub returns-in-Some : goal.returns-in-Some

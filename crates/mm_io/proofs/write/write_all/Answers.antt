@@ -1,6 +1,6 @@
 use Rattle.std.proofs.Common.{◌++◌, take, ◌∙◌}
-use Rattle.mm_types.proofs.Bytes.{appended_then}
-use Rattle.mm_io.proofs.Writes.{rest_more, gives_then}
+use Rattle.mm_types.proofs.{appended_then}
+use Rattle.mm_io.proofs.{rest_more, gives_then}
 use Rattle.mm_io.proofs.write.write_all.Goals as goal
 
 pub loop-rest-preserved : goal.loop-rest-preserved

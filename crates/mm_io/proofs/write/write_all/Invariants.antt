@@ -1,6 +1,6 @@
 use Rattle.std.proofs.Common.{◌≡◌, ℕ, List, ◌++◌, length}
-use Rattle.mm_types.specs.Outside.{Appended}
-use Rattle.mm_io.specs.Io.{GivesOn}
+use Rattle.mm_types.specs.{Appended}
+use Rattle.mm_io.specs.{GivesOn}
 use Rattle.mm_io.proofs.write.write_all.Given as goal
 
 abbrev pub invariant-loop-rest : goal.invariant-loop-rest

@@ -1,4 +1,4 @@
-use Rattle.mm_laws.proofs.Settling.{got_settles, bad_settles, wrote_settles, lost_settles}
+use Rattle.mm_laws.proofs.{got_settles, bad_settles, wrote_settles, lost_settles}
 use Rattle.mm_laws.proofs.ends.ended_requests_settle_one_frame.Goals as goal
 
 pub returns-clause-got : goal.returns-clause-got

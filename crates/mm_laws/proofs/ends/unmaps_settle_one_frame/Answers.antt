@@ -1,4 +1,4 @@
-use Rattle.mm_laws.proofs.Settling.{unmap_settles}
+use Rattle.mm_laws.proofs.{unmap_settles}
 use Rattle.mm_laws.proofs.ends.unmaps_settle_one_frame.Goals as goal
 
 pub returns : goal.returns

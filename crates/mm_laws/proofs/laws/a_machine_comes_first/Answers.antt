@@ -1,4 +1,4 @@
-use Rattle.mm_laws.proofs.FileKeys.{only_machine}
+use Rattle.mm_laws.proofs.{only_machine}
 use Rattle.mm_laws.proofs.laws.a_machine_comes_first.Goals as goal
 
 pub returns : goal.returns

@@ -1,4 +1,4 @@
-use Rattle.mm_laws.proofs.FromSound.{file_backed, changed_slotless, ownerless_unblocked}
+use Rattle.mm_laws.proofs.{file_backed, changed_slotless, ownerless_unblocked}
 use Rattle.mm_laws.proofs.laws.backings_fit_their_pages.Goals as goal
 
 pub returns-clause-file : goal.returns-clause-file

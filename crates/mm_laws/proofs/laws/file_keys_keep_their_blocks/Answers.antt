@@ -1,6 +1,4 @@
-use Rattle.mm_laws.proofs.Blocks.{paging_block}
-use Rattle.mm_laws.proofs.BlocksApart.{file_has_block}
-use Rattle.mm_laws.proofs.Deduced.{block_kept, blocks_apart}
+use Rattle.mm_laws.proofs.{paging_block, file_has_block, block_kept, blocks_apart}
 use Rattle.mm_laws.proofs.laws.file_keys_keep_their_blocks.Goals as goal
 
 pub returns-clause-has : goal.returns-clause-has

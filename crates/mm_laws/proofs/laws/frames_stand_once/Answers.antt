@@ -1,4 +1,4 @@
-use Rattle.mm_laws.proofs.FromSound.{once, no_other, counted}
+use Rattle.mm_laws.proofs.{once, no_other, counted}
 use Rattle.mm_laws.proofs.laws.frames_stand_once.Goals as goal
 
 pub returns-clause-once : goal.returns-clause-once

@@ -1,4 +1,4 @@
-use Rattle.mm_laws.proofs.FromSound.{one_frame, owner_lives, frame_there}
+use Rattle.mm_laws.proofs.{one_frame, owner_lives, frame_there}
 use Rattle.mm_laws.proofs.laws.keys_stand_once.Goals as goal
 
 pub returns-clause-in_frame : goal.returns-clause-in_frame

@@ -1,4 +1,4 @@
-use Rattle.mm_laws.proofs.FromSound.{zeroed_bare, free_bare, standby_is, modified_is}
+use Rattle.mm_laws.proofs.{zeroed_bare, free_bare, standby_is, modified_is}
 use Rattle.mm_laws.proofs.laws.lists_hold_their_frames.Goals as goal
 
 pub returns-clause-zeroed : goal.returns-clause-zeroed

@@ -1,6 +1,4 @@
-use Rattle.mm_laws.proofs.LineMoves.{sound_unstarted}
-use Rattle.mm_laws.proofs.Kept.{keeps}
-use Rattle.mm_laws.proofs.Deduced.{reached_sound}
+use Rattle.mm_laws.proofs.{sound_unstarted, keeps, reached_sound}
 use Rattle.mm_laws.proofs.laws.moves_keep_what_holds.Goals as goal
 
 pub returns-clause-start : goal.returns-clause-start

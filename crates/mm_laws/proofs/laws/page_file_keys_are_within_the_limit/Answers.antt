@@ -1,5 +1,4 @@
-use Rattle.mm_laws.proofs.FromSound.{keys_counted, paging_lives, some_keys}
-use Rattle.mm_laws.proofs.Deduced.{file_key_stays}
+use Rattle.mm_laws.proofs.{keys_counted, paging_lives, some_keys, file_key_stays}
 use Rattle.mm_laws.proofs.laws.page_file_keys_are_within_the_limit.Goals as goal
 
 pub returns-clause-within : goal.returns-clause-within

@@ -1,4 +1,4 @@
-use Rattle.mm_laws.proofs.FromSound.{requests_counted}
+use Rattle.mm_laws.proofs.{requests_counted}
 use Rattle.mm_laws.proofs.laws.requests_are_those_of_records.Goals as goal
 
 pub returns-clause-once : goal.returns-clause-once

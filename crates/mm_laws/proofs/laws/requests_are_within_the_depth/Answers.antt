@@ -1,4 +1,4 @@
-use Rattle.mm_laws.proofs.Deduced.{line_flight, move_flight}
+use Rattle.mm_laws.proofs.{line_flight, move_flight}
 use Rattle.mm_laws.proofs.laws.requests_are_within_the_depth.Goals as goal
 
 pub returns-clause-at_lines : goal.returns-clause-at_lines

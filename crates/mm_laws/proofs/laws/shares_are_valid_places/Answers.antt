@@ -1,4 +1,4 @@
-use Rattle.mm_laws.proofs.FromSound.{places_counted, place_shares, place_owned, place_own}
+use Rattle.mm_laws.proofs.{places_counted, place_shares, place_owned, place_own}
 use Rattle.mm_laws.proofs.laws.shares_are_valid_places.Goals as goal
 
 pub returns-clause-counted : goal.returns-clause-counted

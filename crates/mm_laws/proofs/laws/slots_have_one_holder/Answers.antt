@@ -1,4 +1,4 @@
-use Rattle.mm_laws.proofs.FromSound.{slot_free, slot_has, slot_one, slot_there, slot_taken}
+use Rattle.mm_laws.proofs.{slot_free, slot_has, slot_one, slot_there, slot_taken}
 use Rattle.mm_laws.proofs.laws.slots_have_one_holder.Goals as goal
 
 pub returns-clause-free : goal.returns-clause-free

@@ -1,5 +1,4 @@
-use Rattle.mm_laws.proofs.Homes.{counts_homes}
-use Rattle.mm_laws.proofs.Lowest.{free_and_taken}
+use Rattle.mm_laws.proofs.{counts_homes, free_and_taken}
 use Rattle.mm_laws.proofs.numbers.keys_and_slots_are_counted.Goals as goal
 
 pub returns-clause-homes : goal.returns-clause-homes

@@ -1,4 +1,4 @@
-use Rattle.mm_laws.proofs.Deduced.{reached_start, reached_next, reached_along}
+use Rattle.mm_laws.proofs.{reached_start, reached_next, reached_along}
 use Rattle.mm_laws.proofs.numbers.logs_go_on.Goals as goal
 
 pub returns-clause-start : goal.returns-clause-start

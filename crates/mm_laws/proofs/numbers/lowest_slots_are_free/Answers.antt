@@ -1,4 +1,4 @@
-use Rattle.mm_laws.proofs.Lowest.{lowest_is, lowest_from, lowest_one, lowest_there, lowest_nowhere, lowest_taken, free_counted}
+use Rattle.mm_laws.proofs.{lowest_is, lowest_from, lowest_one, lowest_there, lowest_nowhere, lowest_taken, free_counted}
 use Rattle.mm_laws.proofs.numbers.lowest_slots_are_free.Goals as goal
 
 pub returns-clause-is : goal.returns-clause-is

@@ -1,5 +1,4 @@
-use Rattle.mm_laws.proofs.Machines.{in_range}
-use Rattle.mm_laws.proofs.FileKeys.{in_line}
+use Rattle.mm_laws.proofs.{in_range, in_line}
 use Rattle.mm_laws.proofs.numbers.machines_are_in_range.Goals as goal
 
 pub returns-clause-machine : goal.returns-clause-machine

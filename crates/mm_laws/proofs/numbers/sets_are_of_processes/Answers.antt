@@ -1,5 +1,4 @@
-use Rattle.mm_laws.proofs.Machines.{in_range}
-use Rattle.mm_laws.proofs.SetSizes.{set_there, set_within, nowhere}
+use Rattle.mm_laws.proofs.{in_range, set_there, set_within, nowhere}
 use Rattle.mm_laws.proofs.numbers.sets_are_of_processes.Goals as goal
 
 pub returns-clause-most : goal.returns-clause-most

@@ -1,5 +1,4 @@
-use Rattle.mm_laws.proofs.Deduced.{share_most}
-use Rattle.mm_laws.proofs.SetSizes.{places_are, all_shares, share_within, places_within, private_share}
+use Rattle.mm_laws.proofs.{share_most, places_are, all_shares, share_within, places_within, private_share}
 use Rattle.mm_laws.proofs.numbers.shares_are_within_the_sets.Goals as goal
 
 pub returns-clause-places : goal.returns-clause-places

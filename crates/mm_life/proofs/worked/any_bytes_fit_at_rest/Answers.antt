@@ -1,4 +1,4 @@
-use Rattle.mm_life.proofs.Start.{located_at_start}
+use Rattle.mm_life.proofs.{located_at_start}
 use Rattle.mm_life.proofs.worked.any_bytes_fit_at_rest.Goals as goal
 
 pub returns : goal.returns

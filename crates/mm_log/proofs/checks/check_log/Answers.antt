@@ -1,6 +1,6 @@
 use Rattle.std.proofs.Common.{arith}
 use Rattle.mm_replay.specs.Standing.{life}
-use Rattle.mm_log.proofs.Stories.{stands_none, came_full}
+use Rattle.mm_log.proofs.{stands_none, came_full}
 use Rattle.mm_log.proofs.checks.check_log.Goals as goal
 
 pub loop-n-init : goal.loop-n-init

@@ -1,7 +1,6 @@
 use Rattle.std.proofs.Common.{◌≡◌, ◌≤◌}
 use Rattle.mm_replay.specs.Standing.{life}
-use Rattle.mm_log.specs.Reading.{IsReady}
-use Rattle.mm_log.specs.Stepping.{Stands}
+use Rattle.mm_log.specs.{IsReady, Stands}
 use Rattle.mm_log.proofs.checks.check_log.Given as goal
 
 abbrev pub invariant-loop-n : goal.invariant-loop-n

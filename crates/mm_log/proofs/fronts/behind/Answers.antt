@@ -3,8 +3,8 @@ use Rattle.std.specs.Prelude.{MatchOption, IfSome}
 use Rattle.std.specs.Borrow.{Bor}
 use Rattle.std.proofs.lemmas.Bool.Decides.{Decides-eqb}
 use Rattle.std.proofs.lemmas.Slice.Eq.{strip_prefix_is}
-use Rattle.mm_types.specs.Spelling.{Text}
-use Rattle.mm_log.proofs.InFront.{first_and_rest}
+use Rattle.mm_types.specs.{Text}
+use Rattle.mm_log.proofs.{first_and_rest}
 use Rattle.mm_log.proofs.fronts.behind.Goals as goal
 
 -- a text without its first byte

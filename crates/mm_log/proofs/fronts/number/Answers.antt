@@ -1,6 +1,6 @@
 use Rattle.std.proofs.Common.{◌≡◌, ◌∷◌, ◌++◌, ℕ, ◌-◌, length, take, drop, sym, ap, ◌∙◌, arith}
-use Rattle.mm_types.specs.Spelling.{Text, decimal}
-use Rattle.mm_log.proofs.InFront.{first_and_rest, front_zero, front_one, front_more}
+use Rattle.mm_types.specs.{Text, decimal}
+use Rattle.mm_log.proofs.{first_and_rest, front_zero, front_one, front_more}
 use Rattle.mm_log.proofs.fronts.number.Goals as goal
 
 pub returns-then-first-eq-ZERO : goal.returns-then-first-eq-ZERO

@@ -1,5 +1,5 @@
 use Rattle.std.proofs.Common.{◌≡◌, ◌≤◌, ◌++◌, length}
-use Rattle.mm_types.specs.Spelling.{decimal}
+use Rattle.mm_types.specs.{decimal}
 use Rattle.mm_log.proofs.fronts.number.Given as goal
 
 abbrev pub invariant-loop-rest : goal.invariant-loop-rest

@@ -1,5 +1,5 @@
 use Rattle.std.proofs.Common.{refl, map, string_bytes}
-use Rattle.mm_log.proofs.AskedWords.{asks_none}
+use Rattle.mm_log.proofs.{asks_none}
 use Rattle.mm_log.proofs.top.asked.Goals as goal
 
 pub returns-in-None-clause-all : goal.returns-in-None-clause-all

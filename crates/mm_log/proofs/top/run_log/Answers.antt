@@ -1,8 +1,6 @@
 use Rattle.std.proofs.Common.{◌≡◌, ◌∙◌, sym, Some, subst, inl}
-use Rattle.mm_log.specs.declared.endings.Asked.{Asked}
-use Rattle.mm_log.specs.Verdict.{Ran}
-use Rattle.mm_log.proofs.Exactly.{says_yes, says_no}
-use Rattle.mm_log.proofs.Refusals.{ran_refused}
+use Rattle.mm_log.specs.{Asked, Ran}
+use Rattle.mm_log.proofs.{says_yes, says_no, ran_refused}
 use Rattle.mm_log.proofs.top.run_log.Goals as goal
 
 pub returns-in-Ok-Some-clause-yes : goal.returns-in-Ok-Some-clause-yes

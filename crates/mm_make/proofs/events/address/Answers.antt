@@ -1,5 +1,5 @@
 use Rattle.std.proofs.Common.{◌∙◌}
-use Rattle.mm_make.proofs.OutputLemmas.{one_step}
+use Rattle.mm_make.proofs.{one_step}
 use Rattle.mm_make.proofs.events.address.Goals as goal
 
 pub returns-clause-after : goal.returns-clause-after

@@ -2,9 +2,8 @@ use Rattle.std.proofs.Common.{◌≡◌, ℕ, ◌+◌, ◌%◌, ◌≤◌, sym, 
 use Rattle.rand_pcg.specs.Lcg.{Lcg, advance}
 use Rattle.rand_pcg.specs.Pcg.{multiplier_64}
 use Rattle.mm_types.specs.declared.events.Event.TheVariants as line
-use Rattle.mm_make.specs.Outputs.{outputs}
-use Rattle.mm_make.specs.Generated.{Drawn, drawn}
-use Rattle.mm_make.proofs.OutputLemmas.{of_kind, low_kind, one_step, read_behind, write_behind, output_behind, advance_behind}
+use Rattle.mm_make.specs.{outputs, Drawn, drawn}
+use Rattle.mm_make.proofs.{of_kind, low_kind, one_step, read_behind, write_behind, output_behind, advance_behind}
 use Rattle.mm_make.proofs.events.event.Goals as goal
 
 event_of : (d e : Drawn) → d ≡ e → d.event ≡ e.event

@@ -1,6 +1,6 @@
 use Rattle.std.proofs.Common.{◌-◌, arith}
-use Rattle.mm_make.specs.Outputs.{outputs}
-use Rattle.mm_make.proofs.OutputLemmas.{one_more, all_drawn}
+use Rattle.mm_make.specs.{outputs}
+use Rattle.mm_make.proofs.{one_more, all_drawn}
 use Rattle.mm_make.proofs.events.script.Goals as goal
 
 pub loop-drawn-preserved : goal.loop-drawn-preserved

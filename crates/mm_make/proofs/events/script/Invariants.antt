@@ -1,7 +1,6 @@
 use Rattle.std.proofs.Common.{◌≡◌, ◌+◌, ◌-◌, ◌++◌, vec_len}
 use Rattle.std.specs.Prelude.{vec_capacity}
-use Rattle.mm_make.specs.Outputs.{outputs}
-use Rattle.mm_make.specs.Generated.{drawn_events, script_of}
+use Rattle.mm_make.specs.{outputs, drawn_events, script_of}
 use Rattle.mm_make.proofs.events.script.Given as goal
 
 abbrev pub invariant-loop-drawn : goal.invariant-loop-drawn

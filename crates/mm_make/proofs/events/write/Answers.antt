@@ -2,9 +2,8 @@ use Rattle.std.proofs.Common.{◌≡◌, ℕ, ◌%◌, List, [], ◌∷◌, ap, 
 use Rattle.rand_pcg.specs.Lcg.{Lcg, next}
 use Rattle.rand_pcg.specs.Pcg.{multiplier_64}
 use Rattle.mm_types.specs.declared.events.Event.TheVariants as line
-use Rattle.mm_make.specs.Outputs.{outputs}
-use Rattle.mm_make.specs.Generated.{address_drawn}
-use Rattle.mm_make.proofs.OutputLemmas.{outputs_after, two_steps}
+use Rattle.mm_make.specs.{outputs, address_drawn}
+use Rattle.mm_make.proofs.{outputs_after, two_steps}
 use Rattle.mm_make.proofs.events.write.Goals as goal
 
 pub returns-clause-drawn : goal.returns-clause-drawn

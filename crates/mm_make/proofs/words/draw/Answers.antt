@@ -1,6 +1,6 @@
 use Rattle.std.proofs.Common.{ℕ, ◌%◌, ap, ◌∙◌}
 use Rattle.rand_pcg.specs.Lcg.{Lcg}
-use Rattle.mm_make.proofs.OutputLemmas.{first_output}
+use Rattle.mm_make.proofs.{first_output}
 use Rattle.mm_make.proofs.words.draw.Goals as goal
 
 pub returns-clause-drawn : goal.returns-clause-drawn

@@ -1,7 +1,7 @@
 use Rattle.std.proofs.Common.{◌++◌, take, ◌∙◌}
-use Rattle.mm_io.proofs.Writes.{gives_then}
-use Rattle.mm_types.proofs.Bytes.{appended_then}
-use Rattle.mm_moves.proofs.Growing.{piece_more}
+use Rattle.mm_io.proofs.{gives_then}
+use Rattle.mm_types.proofs.{appended_then}
+use Rattle.mm_moves.proofs.{piece_more}
 use Rattle.mm_moves.proofs.recorders.write_line.Goals as goal
 
 pub loop-rest-preserved : goal.loop-rest-preserved

@@ -1,6 +1,6 @@
 -- The table is held against the entries of the numbers below 1,000, by computing.
 use Rattle.std.proofs.Common.{◌≡◌, ℕ, ◌+◌, ◌*◌, ◌<◌, List, get_or, refl, ap, arith, ◌∙◌}
-use Rattle.mm_moves.specs.Few.{few_entry}
+use Rattle.mm_moves.specs.{few_entry}
 use Rattle.mm_moves.specs.declared.spellings.TheConstants.{FEW}
 use Rattle.mm_moves.proofs.Table.{entries, entry_at}
 use Rattle.mm_moves.proofs.spellings.few_byte.Goals as goal

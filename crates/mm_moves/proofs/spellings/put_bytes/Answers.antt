@@ -1,5 +1,5 @@
 use Rattle.std.proofs.Common.{◌+◌, ◌++◌, ℕ, ap, ◌∙◌, arith, take}
-use Rattle.mm_types.specs.Spelling.{Text}
+use Rattle.mm_types.specs.{Text}
 use Rattle.mm_moves.proofs.Fronts.{byte_more, bytes_all}
 use Rattle.mm_moves.proofs.spellings.put_bytes.Goals as goal
 

@@ -1,6 +1,6 @@
 use Rattle.std.proofs.Common.{◌≡◌, ℕ, ◌+◌, ◌-◌, ◌++◌, ◌∷◌, [], ap, ◌∙◌, arith, get_or, take}
-use Rattle.mm_types.specs.Spelling.{Text}
-use Rattle.mm_moves.specs.Few.{few_entry}
+use Rattle.mm_types.specs.{Text}
+use Rattle.mm_moves.specs.{few_entry}
 use Rattle.mm_moves.proofs.Fronts.{shorter, three}
 use Rattle.mm_moves.proofs.Table.{entry_text, entry_count}
 use Rattle.mm_moves.proofs.spellings.put_few.Goals as goal

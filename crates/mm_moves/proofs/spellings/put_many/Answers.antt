@@ -1,6 +1,6 @@
 use Rattle.std.proofs.Common.{◌++◌, ◌∷◌, [], ◌/◌, ◌%◌, ap, ◌∙◌, arith, append_assoc, take}
-use Rattle.mm_types.specs.Spelling.{Text, glyph, decimal}
-use Rattle.mm_moves.proofs.Written.{front_then_pairs}
+use Rattle.mm_types.specs.{Text, glyph, decimal}
+use Rattle.mm_moves.proofs.{front_then_pairs}
 use Rattle.mm_moves.proofs.Fronts.{reaches_number}
 use Rattle.mm_moves.proofs.spellings.put_many.Goals as goal
 

@@ -1,4 +1,4 @@
-use Rattle.mm_names.proofs.Formed.{formed_result}
+use Rattle.mm_names.proofs.{formed_result}
 use Rattle.mm_names.proofs.meanings.meant.Goals as goal
 
 pub returns-clause-formed : goal.returns-clause-formed

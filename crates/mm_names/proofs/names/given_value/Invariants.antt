@@ -1,5 +1,5 @@
 use Rattle.std.proofs.Common.{◌≡◌, None, drop}
-use Rattle.mm_names.specs.Numbers.{latest}
+use Rattle.mm_names.specs.{latest}
 use Rattle.mm_names.proofs.names.given_value.Given as goal
 
 abbrev pub invariant-loop-given : goal.invariant-loop-given

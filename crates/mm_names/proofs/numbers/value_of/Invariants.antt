@@ -1,5 +1,5 @@
 use Rattle.std.proofs.Common.{◌≡◌, drop}
-use Rattle.mm_names.specs.Numbers.{nothing_yet, sum_with_all}
+use Rattle.mm_names.specs.{nothing_yet, sum_with_all}
 use Rattle.mm_names.proofs.numbers.value_of.Given as goal
 
 abbrev pub invariant-loop-byte : goal.invariant-loop-byte

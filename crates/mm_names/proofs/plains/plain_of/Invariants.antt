@@ -1,5 +1,5 @@
 use Rattle.std.proofs.Common.{◌≡◌, ◌≤◌, length}
-use Rattle.mm_names.specs.Meaning.{plain_from, plain_of}
+use Rattle.mm_names.specs.{plain_from, plain_of}
 use Rattle.mm_names.proofs.plains.plain_of.Given as goal
 
 abbrev pub invariant-loop-span : goal.invariant-loop-span

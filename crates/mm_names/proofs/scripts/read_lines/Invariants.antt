@@ -1,6 +1,5 @@
 use Rattle.std.proofs.Common.{◌≡◌, [], drop}
-use Rattle.mm_names.specs.Scripts.{lines_from}
-use Rattle.mm_names.specs.Stages.{unread, with_lines}
+use Rattle.mm_names.specs.{lines_from, unread, with_lines}
 use Rattle.mm_names.proofs.scripts.read_lines.Given as goal
 
 abbrev pub invariant-loop-byte : goal.invariant-loop-byte

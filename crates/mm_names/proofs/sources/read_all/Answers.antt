@@ -1,6 +1,6 @@
 use Rattle.std.proofs.Common.{rules, ◌≡◌, ◌<◌, ◌++◌, length, take, inl, refl, arith}
-use Rattle.mm_names.specs.Runs.{most_bytes}
-use Rattle.mm_names.proofs.ReadWhole.{many_read}
+use Rattle.mm_names.specs.{most_bytes}
+use Rattle.mm_names.proofs.{many_read}
 use Rattle.mm_names.proofs.sources.read_all.Goals as goal
 
 pub returns-then-len-gt-MOST_BYTES-clause-err : goal.returns-then-len-gt-MOST_BYTES-clause-err

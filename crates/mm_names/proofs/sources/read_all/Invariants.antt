@@ -1,6 +1,6 @@
 use Rattle.std.proofs.Common.{◌≤◌, length}
-use Rattle.mm_types.specs.Outside.{Took}
-use Rattle.mm_names.specs.Runs.{most_bytes}
+use Rattle.mm_types.specs.{Took}
+use Rattle.mm_names.specs.{most_bytes}
 use Rattle.mm_names.proofs.sources.read_all.Given as goal
 
 abbrev pub invariant-loop-n : goal.invariant-loop-n

@@ -1,5 +1,5 @@
 use Rattle.std.proofs.Common.{◌≡◌, drop}
-use Rattle.mm_names.specs.Tidy.{untouched, with_bytes}
+use Rattle.mm_names.specs.{untouched, with_bytes}
 use Rattle.mm_names.proofs.tidy.tidied.Given as goal
 
 abbrev pub invariant-loop-byte : goal.invariant-loop-byte

@@ -1,5 +1,5 @@
 use Rattle.std.proofs.Common.{refl, ◌-◌}
-use Rattle.mm_paged.proofs.Completed.{flight_request, flight_low, nth_found, nth_none}
+use Rattle.mm_paged.proofs.{flight_request, flight_low, nth_found, nth_none}
 use Rattle.mm_paged.proofs.completing.complete_request.Goals as goal
 
 pub end_request-requires-clause-request : goal.end_request-requires-clause-request

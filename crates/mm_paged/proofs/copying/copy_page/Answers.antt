@@ -1,10 +1,8 @@
 use Rattle.std.proofs.Common.{rules}
 use Rattle.std.proofs.Common.{ap, ◌∙◌}
-use Rattle.mm_life.specs.Legal.{touches}
-use Rattle.mm_moving.specs.Shown.{StateOf}
-use Rattle.mm_paged.proofs.HeldCopy.{room_then}
-use Rattle.mm_paged.proofs.CopyPage.{readied_life, still_dead, page_access, fails_to_hold}
-use Rattle.mm_paged.proofs.CopyPage.{ok_copies, err_copies}
+use Rattle.mm_life.specs.{touches}
+use Rattle.mm_moving.specs.{StateOf}
+use Rattle.mm_paged.proofs.{room_then, readied_life, still_dead, page_access, fails_to_hold, ok_copies, err_copies}
 use Rattle.mm_paged.proofs.copying.copy_page.Goals as goal
 
 pub copy_held-requires-clause-access : goal.copy_held-requires-clause-access

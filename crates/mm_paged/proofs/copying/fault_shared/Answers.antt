@@ -1,5 +1,5 @@
 use Rattle.std.proofs.Common.{sym, ◌∙◌}
-use Rattle.mm_paged.proofs.HeldShared.{shared_fits, faulted_readied}
+use Rattle.mm_paged.proofs.{shared_fits, faulted_readied}
 use Rattle.mm_paged.proofs.copying.fault_shared.Goals as goal
 
 pub fault-requires : goal.fault-requires

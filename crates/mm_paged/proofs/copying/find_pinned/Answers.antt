@@ -1,12 +1,11 @@
-use Rattle.std.proofs.Common.{ap, true, false, refl, rules}
+use Rattle.std.proofs.Common.{ap, true, false, refl, rules, Some}
 use Rattle.std.specs.Prelude.{is_ok}
-use Rattle.mm_paged.proofs.Doing.{sought_nothing}
-use Rattle.mm_paged.proofs.PinnedSearch.{sought_pinned, stuck_pinned, search_spares, search_pinned_as}
+use Rattle.mm_paged.proofs.{sought_nothing, sought_pinned, stuck_pinned, search_spares, search_as}
 use Rattle.mm_paged.proofs.copying.find_pinned.Goals as goal
 
 pub returns-in-Err-clause-err : goal.returns-in-Err-clause-err
 returns-in-Err-clause-err g c = record {
-  stuck = λ a place p. stuck_pinned a place c.args.pinned (g.T.Moving.shown c.args.state.now) (g.T.Moving.shown c.find_frame.new.state) p (search_pinned_as c.args.pinned _ false (g.T.Moving.shown c.args.state.now) (g.T.Moving.shown c.find_frame.new.state) (ap is_ok c.in-Err.is) c.find_frame.ensures.searched);
+  stuck = λ a place p. stuck_pinned a place c.args.pinned (g.T.Moving.shown c.args.state.now) (g.T.Moving.shown c.find_frame.new.state) p (search_as (Some c.args.pinned) _ false (g.T.Moving.shown c.args.state.now) (g.T.Moving.shown c.find_frame.new.state) (ap is_ok c.in-Err.is) c.find_frame.ensures.searched);
   why = refl;
   short = search rules;
   lacks = search rules;
@@ -17,8 +16,8 @@ returns-in-Err-clause-spares g c = search_spares c.args.pinned _ (g.T.Moving.sho
 
 pub returns-in_default-clause-ok : goal.returns-in_default-clause-ok
 returns-in_default-clause-ok g c = record {
-  some = (search_pinned_as c.args.pinned _ true (g.T.Moving.shown c.args.state.now) (g.T.Moving.shown c.find_frame.new.state) (ap is_ok c.in_default.is) c.find_frame.ensures.searched).got refl;
-  went = λ a place p. sought_pinned a place c.args.pinned (g.T.Moving.shown c.args.state.now) (g.T.Moving.shown c.find_frame.new.state) p (search_pinned_as c.args.pinned _ true (g.T.Moving.shown c.args.state.now) (g.T.Moving.shown c.find_frame.new.state) (ap is_ok c.in_default.is) c.find_frame.ensures.searched);
+  some = (search_as (Some c.args.pinned) _ true (g.T.Moving.shown c.args.state.now) (g.T.Moving.shown c.find_frame.new.state) (ap is_ok c.in_default.is) c.find_frame.ensures.searched).got refl;
+  went = λ a place p. sought_pinned a place c.args.pinned (g.T.Moving.shown c.args.state.now) (g.T.Moving.shown c.find_frame.new.state) p (search_as (Some c.args.pinned) _ true (g.T.Moving.shown c.args.state.now) (g.T.Moving.shown c.find_frame.new.state) (ap is_ok c.in_default.is) c.find_frame.ensures.searched);
 }
 
 pub returns-in_default-clause-spares : goal.returns-in_default-clause-spares

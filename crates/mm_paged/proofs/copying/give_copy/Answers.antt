@@ -1,6 +1,6 @@
 use Rattle.std.proofs.Common.{rules}
-use Rattle.mm_life.specs.Life.{key_of_place}
-use Rattle.mm_paged.proofs.GivingCopy.{took_ready, copy_life, copy_legal}
+use Rattle.mm_life.specs.{key_of_place}
+use Rattle.mm_paged.proofs.{took_ready, copy_life, copy_legal}
 use Rattle.mm_paged.proofs.copying.give_copy.Goals as goal
 
 pub returns-clause-gave : goal.returns-clause-gave

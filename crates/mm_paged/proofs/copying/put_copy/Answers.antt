@@ -1,9 +1,8 @@
 use Rattle.std.proofs.Common.{ap, refl, rules}
-use Rattle.mm_types.specs.declared.frames.Record.{Record}
-use Rattle.mm_moving.specs.Shown.{StateOf}
-use Rattle.mm_life.specs.Life.{key_of_place}
-use Rattle.mm_paged.proofs.Placing.{in_frame_then}
-use Rattle.mm_paged.proofs.PuttingCopy.{map_copy, own_may_map, went_put, put_look, put_names, put_kept, put_valid, put_young, put_aside, put_same}
+use Rattle.mm_types.specs.{Record}
+use Rattle.mm_moving.specs.{StateOf}
+use Rattle.mm_life.specs.{key_of_place}
+use Rattle.mm_paged.proofs.{in_frame_then, map_copy, own_may_map, went_put, put_look, put_names, put_kept, put_valid, put_young, put_aside, put_same}
 use Rattle.mm_paged.proofs.copying.put_copy.Goals as goal
 
 pub map-requires-clause-legal : goal.map-requires-clause-legal

@@ -1,4 +1,4 @@
-use Rattle.mm_paged.specs.Copies.{Taken}
+use Rattle.mm_paged.specs.{Taken}
 use Rattle.mm_paged.proofs.copying.ready_standby.Goals as goal
 
 pub returns-clause-readies : goal.returns-clause-readies

@@ -1,5 +1,5 @@
 use Rattle.std.proofs.Common.{rules}
-use Rattle.mm_paged.proofs.FaultSteps.{ok_brings_settled, err_brings_settled}
+use Rattle.mm_paged.proofs.{ok_brings_settled, err_brings_settled}
 use Rattle.mm_paged.proofs.faults.bring.Goals as goal
 
 pub returns-in-Frame-clause-ok : goal.returns-in-Frame-clause-ok

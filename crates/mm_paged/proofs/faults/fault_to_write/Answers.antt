@@ -1,7 +1,6 @@
 use Rattle.std.proofs.Common.{rules, sym, ap, ◌∙◌}
-use Rattle.mm_life.specs.Legal.{is_touch}
-use Rattle.mm_paged.proofs.Doing.{went_then}
-use Rattle.mm_paged.proofs.Ending.{went_soil}
+use Rattle.mm_life.specs.{is_touch}
+use Rattle.mm_paged.proofs.{went_then, went_soil}
 use Rattle.mm_paged.proofs.faults.fault_to_write.Goals as goal
 
 pub soil-requires-clause-touch : goal.soil-requires-clause-touch

@@ -1,17 +1,14 @@
 use Rattle.std.proofs.Common.{rules, ap, true, false, refl, None}
 use Rattle.std.specs.Prelude.{is_ok}
-use Rattle.mm_blocks.proofs.Serving.{later_same}
-use Rattle.mm_moving.specs.Shown.{StateOf}
-use Rattle.mm_paged.proofs.Doing.{sought_nothing}
-use Rattle.mm_paged.proofs.Bringing.{does_later}
-use Rattle.mm_paged.proofs.Sought.{sought_by, stuck_by, search_fails, search_stands, search_as, search_keeps}
-use Rattle.mm_paged.proofs.InFlight.{search_flight, flight_same}
-use Rattle.mm_paged.proofs.FaultSteps.{keeps_nothing}
+use Rattle.mm_blocks.proofs.{later_same}
+use Rattle.mm_moving.specs.{StateOf}
+use Rattle.mm_paged.proofs.{sought_nothing, does_later, sought_by, stuck_by, search_fails, search_stands, search_as, search_keeps, search_flight}
+use Rattle.mm_paged.proofs.{flight_same, keeps_nothing}
 use Rattle.mm_paged.proofs.faults.find.Goals as goal
 
 pub returns-in-Err-clause-err : goal.returns-in-Err-clause-err
 returns-in-Err-clause-err g c =
-    let searched = search_as _ false _ _ (ap is_ok c.in-Err.is) c.find_frame.ensures.searched in
+    let searched = search_as None _ false _ _ (ap is_ok c.in-Err.is) c.find_frame.ensures.searched in
     record {
       stuck = λ a b. stuck_by a c.args.key _ _ c.requires.unframed b searched;
       fails = search_fails c.args.key _ _ c.requires.unframed searched;
@@ -28,8 +25,8 @@ returns-in-Err-clause-keeps g c = record {
 
 pub returns-in_default-clause-ok : goal.returns-in_default-clause-ok
 returns-in_default-clause-ok g c = record {
-  some = (search_as _ true _ _ (ap is_ok c.in_default.is) c.find_frame.ensures.searched).got refl;
-  went = λ a b. sought_by a c.args.key _ _ c.requires.unframed b (search_as _ true _ _ (ap is_ok c.in_default.is) c.find_frame.ensures.searched);
+  some = (search_as None _ true _ _ (ap is_ok c.in_default.is) c.find_frame.ensures.searched).got refl;
+  went = λ a b. sought_by a c.args.key _ _ c.requires.unframed b (search_as None _ true _ _ (ap is_ok c.in_default.is) c.find_frame.ensures.searched);
   keeps = search_keeps _ _ _ c.find_frame.ensures.searched;
   flight = search_flight _ (g.T.Moving.shown c.args.state.now) (g.T.Moving.shown c.find_frame.new.state) c.find_frame.ensures.searched;
 }

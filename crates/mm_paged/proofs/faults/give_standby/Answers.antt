@@ -1,5 +1,4 @@
-use Rattle.mm_paged.proofs.Taking.{went_steal_give, give_legal}
-use Rattle.mm_paged.proofs.FaultSteps.{gives, ready_then, ready_cleared, ready_stolen}
+use Rattle.mm_paged.proofs.{went_steal_give, give_legal, gives, ready_then, ready_cleared, ready_stolen}
 use Rattle.mm_paged.proofs.faults.give_standby.Goals as goal
 
 pub give-requires : goal.give-requires

@@ -1,5 +1,4 @@
-use Rattle.mm_paged.proofs.Taking.{went_give}
-use Rattle.mm_paged.proofs.FaultSteps.{gives, ready_now}
+use Rattle.mm_paged.proofs.{went_give, gives, ready_now}
 use Rattle.mm_paged.proofs.faults.give_zeroed.Goals as goal
 
 pub returns-clause-gave : goal.returns-clause-gave

@@ -1,7 +1,7 @@
 use Rattle.std.proofs.Common.{ap}
-use Rattle.mm_life.specs.Life.{FrameLife}
-use Rattle.mm_moving.specs.Shown.{StateOf}
-use Rattle.mm_paged.proofs.Placing.{map_legal, may_map, placed_by}
+use Rattle.mm_life.specs.{FrameLife}
+use Rattle.mm_moving.specs.{StateOf}
+use Rattle.mm_paged.proofs.{map_legal, may_map, placed_by}
 use Rattle.mm_paged.proofs.faults.put_below.Goals as goal
 
 pub map-requires-clause-legal : goal.map-requires-clause-legal

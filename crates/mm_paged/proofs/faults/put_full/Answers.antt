@@ -1,9 +1,8 @@
 use Rattle.std.proofs.Common.{refl, ap, ◌∙◌}
-use Rattle.mm_types.specs.declared.numbers.Place.{Place}
-use Rattle.mm_moving.specs.Shown.{StateOf}
-use Rattle.mm_paged.proofs.Placing.{went_unmap_map, full_oldest, in_frame_then, below_then, some_page, placed_after, kind_then}
-use Rattle.mm_paged.proofs.InFlight.{unmapped_flight}
-use Rattle.mm_paged.proofs.FaultSteps.{may_use_moved}
+use Rattle.mm_types.specs.{Place}
+use Rattle.mm_moving.specs.{StateOf}
+use Rattle.mm_paged.proofs.{went_unmap_map, full_oldest, in_frame_then, below_then, some_page, placed_after, kind_then, unmapped_flight}
+use Rattle.mm_paged.proofs.{may_use_moved}
 use Rattle.mm_paged.proofs.faults.put_full.Goals as goal
 
 pub returns-clause-went : goal.returns-clause-went

@@ -1,6 +1,5 @@
 use Rattle.std.proofs.Common.{rules, true, false, refl}
-use Rattle.mm_paged.proofs.Taking.{read_legal, read_in_frame, read_fails, reads_in}
-use Rattle.mm_paged.proofs.InFlight.{read_flight}
+use Rattle.mm_paged.proofs.{read_legal, read_in_frame, read_fails, reads_in, read_flight}
 use Rattle.mm_paged.proofs.faults.read_free.Goals as goal
 
 pub end_read-requires : goal.end_read-requires

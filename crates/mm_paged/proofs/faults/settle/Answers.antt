@@ -1,8 +1,5 @@
 use Rattle.std.proofs.Common.{rules, refl, Some}
-use Rattle.mm_paged.proofs.Doing.{went_nothing}
-use Rattle.mm_paged.proofs.Taking.{went_got, stuck_bad, bad_fails, called_by_read, in_frame_got}
-use Rattle.mm_paged.proofs.InFlight.{got_flight, flight_same}
-use Rattle.mm_paged.proofs.FaultSteps.{keeps_nothing}
+use Rattle.mm_paged.proofs.{went_nothing, went_got, stuck_bad, bad_fails, called_by_read, in_frame_got, got_flight, flight_same, keeps_nothing}
 use Rattle.mm_paged.proofs.faults.settle.Goals as goal
 
 pub returns-then-not-end_read-clause-err : goal.returns-then-not-end_read-clause-err

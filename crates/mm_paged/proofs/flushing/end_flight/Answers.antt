@@ -1,6 +1,6 @@
 use Rattle.std.proofs.Common.{◌≡◌, true, false}
-use Rattle.mm_life.specs.Frames.{record_at, is_write}
-use Rattle.mm_paged.proofs.Flushed.{flight_none, flight_ended}
+use Rattle.mm_life.specs.{record_at, is_write}
+use Rattle.mm_paged.proofs.{flight_none, flight_ended}
 use Rattle.mm_paged.proofs.flushing.end_flight.Goals as goal
 
 pub returns-then-not-is_writing-clause-ended : goal.returns-then-not-is_writing-clause-ended

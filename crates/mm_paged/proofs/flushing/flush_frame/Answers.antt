@@ -1,6 +1,6 @@
 use Rattle.std.proofs.Common.{refl, ap, ◌∙◌}
-use Rattle.mm_moving.specs.Shown.{StateOf}
-use Rattle.mm_paged.proofs.Flushed.{frame_lost, frame_flushed, filed_after}
+use Rattle.mm_moving.specs.{StateOf}
+use Rattle.mm_paged.proofs.{frame_lost, frame_flushed, filed_after}
 use Rattle.mm_paged.proofs.flushing.flush_frame.Goals as goal
 
 pub returns-then-not-end_flight-clause-flushed : goal.returns-then-not-end_flight-clause-flushed

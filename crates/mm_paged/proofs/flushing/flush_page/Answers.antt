@@ -1,7 +1,7 @@
 use Rattle.std.proofs.Common.{refl, sym, ap, ◌∙◌}
 use Rattle.std.specs.Prelude.{is_ok}
-use Rattle.mm_pages.specs.Shortage.{is_framed}
-use Rattle.mm_paged.proofs.Flushed.{block_of_frame, page_framed, page_home, not_framed}
+use Rattle.mm_pages.specs.{is_framed}
+use Rattle.mm_paged.proofs.{block_of_frame, page_framed, page_home, not_framed}
 use Rattle.mm_paged.proofs.flushing.flush_page.Goals as goal
 
 pub returns-in-Frame-clause-flushed : goal.returns-in-Frame-clause-flushed

@@ -1,6 +1,6 @@
 use Rattle.std.proofs.Common.{sym, ap, ◌∙◌}
-use Rattle.mm_types.specs.declared.frames.Record.{Record}
-use Rattle.mm_paged.proofs.Flushed.{changed_none, start_legal, changed_written}
+use Rattle.mm_types.specs.{Record}
+use Rattle.mm_paged.proofs.{changed_none, start_legal, changed_written}
 use Rattle.mm_paged.proofs.flushing.write_changed.Goals as goal
 
 pub returns-then-not-changed-clause-wrote : goal.returns-then-not-changed-clause-wrote

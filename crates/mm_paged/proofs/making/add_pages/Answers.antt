@@ -1,6 +1,6 @@
 use Rattle.std.proofs.Common.{◌∙◌, ap, arith, refl}
-use Rattle.mm_moving.specs.Shown.{StateOf}
-use Rattle.mm_paged.proofs.NewFiles.{pages_none, pages_more}
+use Rattle.mm_moving.specs.{StateOf}
+use Rattle.mm_paged.proofs.{pages_none, pages_more}
 use Rattle.mm_paged.proofs.making.add_pages.Goals as goal
 
 pub loop-i-init : goal.loop-i-init

@@ -1,5 +1,5 @@
 use Rattle.std.proofs.Common.{◌≡◌, ◌≤◌}
-use Rattle.mm_paged.specs.NewFiles.{PagesAdded}
+use Rattle.mm_paged.specs.{PagesAdded}
 use Rattle.mm_paged.proofs.making.add_pages.Given as goal
 
 abbrev pub invariant-loop-i : goal.invariant-loop-i

@@ -1,5 +1,5 @@
 use Rattle.std.proofs.Common.{◌≡◌, ◌+◌, ◌%◌, ◌∙◌, arith, refl, length}
-use Rattle.mm_paged.proofs.NewFiles.{blocks_none, blocks_more, blocks_lost, one_written}
+use Rattle.mm_paged.proofs.{blocks_none, blocks_more, blocks_lost, one_written}
 use Rattle.mm_paged.proofs.making.write_blocks.Goals as goal
 
 pub loop-i-init : goal.loop-i-init

@@ -1,5 +1,5 @@
 use Rattle.std.proofs.Common.{◌≡◌, ◌≤◌, true}
-use Rattle.mm_paged.specs.NewFiles.{BlocksWritten}
+use Rattle.mm_paged.specs.{BlocksWritten}
 use Rattle.mm_paged.proofs.making.write_blocks.Given as goal
 
 abbrev pub invariant-loop-i : goal.invariant-loop-i

@@ -1,8 +1,7 @@
 use Rattle.std.proofs.Common.{ap, ◌∙◌, refl, arith, ◌<◌, ◌≤◌}
-use Rattle.mm_moving.specs.Shown.{StateOf}
-use Rattle.mm_pages.specs.Conditions.{place_at}
-use Rattle.mm_pages.specs.Leaving.{page_rank}
-use Rattle.mm_paged.proofs.LettingGo.{lets_none, lets_then, lets_wider, thins_none, thins_then, gone_more, may_still, in_pages}
+use Rattle.mm_moving.specs.{StateOf}
+use Rattle.mm_pages.specs.{place_at, page_rank}
+use Rattle.mm_paged.proofs.{lets_none, lets_then, lets_wider, thins_none, thins_then, gone_more, may_still, in_pages}
 use Rattle.mm_paged.proofs.releasing.let_all_go.Goals as goal
 
 pub loop-from-init : goal.loop-from-init

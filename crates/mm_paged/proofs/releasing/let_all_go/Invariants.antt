@@ -1,8 +1,8 @@
 use Rattle.std.proofs.Common.{◌≡◌, ◌+◌, ◌-◌, ◌≤◌, ℕ}
-use Rattle.mm_pages.specs.Conditions.{AreAmong}
-use Rattle.mm_pages.specs.Leaving.{Leaving, page_rank}
-use Rattle.mm_paged.specs.Pieces.{LetsGo, Thins}
-use Rattle.mm_paged.proofs.LettingGo.{GoneUpTo}
+use Rattle.mm_pages.specs.{AreAmong, page_rank}
+use Rattle.mm_pages.specs.Leaving.{Leaving}
+use Rattle.mm_paged.specs.{LetsGo, Thins}
+use Rattle.mm_paged.proofs.{GoneUpTo}
 use Rattle.mm_paged.proofs.releasing.let_all_go.Given as goal
 
 abbrev pub invariant-loop-from : goal.invariant-loop-from

@@ -1,5 +1,5 @@
-use Rattle.mm_paged.proofs.LettingGo.{none_next, past_next, gone_next, next_at, may_legal, valid_in}
-use Rattle.mm_pages.specs.Conditions.{place_at}
+use Rattle.mm_paged.proofs.{none_next, past_next, gone_next, next_at, may_legal, valid_in}
+use Rattle.mm_pages.specs.{place_at}
 use Rattle.mm_paged.proofs.releasing.let_next_go.Goals as goal
 
 pub returns-in-None-clause-gone : goal.returns-in-None-clause-gone

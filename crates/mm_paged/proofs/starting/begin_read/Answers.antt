@@ -1,4 +1,4 @@
-use Rattle.mm_paged.proofs.Started.{reads_free}
+use Rattle.mm_paged.proofs.{reads_free}
 use Rattle.mm_paged.proofs.starting.begin_read.Goals as goal
 
 pub returns-clause-reads : goal.returns-clause-reads

@@ -1,8 +1,7 @@
 use Rattle.std.proofs.Common.{refl}
-use Rattle.mm_life.specs.Legal.{is_stored}
-use Rattle.mm_parts.specs.Moves.{front}
-use Rattle.mm_paged.proofs.Taking.{stolen_stays}
-use Rattle.mm_paged.proofs.Started.{reads_standby}
+use Rattle.mm_life.specs.{is_stored}
+use Rattle.mm_parts.specs.{front}
+use Rattle.mm_paged.proofs.{stolen_stays, reads_standby}
 use Rattle.mm_paged.proofs.starting.begin_standby.Goals as goal
 
 pub returns-clause-reads : goal.returns-clause-reads

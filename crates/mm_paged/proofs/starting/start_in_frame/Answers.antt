@@ -1,7 +1,7 @@
 use Rattle.std.proofs.Common.{sym, ap, ◌∙◌}
-use Rattle.mm_types.specs.declared.frames.Record.{Record}
-use Rattle.mm_life.specs.Frames.{is_read}
-use Rattle.mm_paged.proofs.Started.{begun_reading, begun_put}
+use Rattle.mm_types.specs.{Record}
+use Rattle.mm_life.specs.{is_read}
+use Rattle.mm_paged.proofs.{begun_reading, begun_put}
 use Rattle.mm_paged.proofs.starting.start_in_frame.Goals as goal
 
 pub returns-then-is_reading-clause-begun : goal.returns-then-is_reading-clause-begun

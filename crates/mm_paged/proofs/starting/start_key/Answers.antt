@@ -1,7 +1,7 @@
 use Rattle.std.proofs.Common.{sym, subst}
-use Rattle.mm_pages.specs.declared.outcomes.Start.{Start}
-use Rattle.mm_paged.specs.Started.{AccessBegun}
-use Rattle.mm_paged.proofs.Started.{begun_with_frame}
+use Rattle.mm_pages.specs.{Start}
+use Rattle.mm_paged.specs.{AccessBegun}
+use Rattle.mm_paged.proofs.{begun_with_frame}
 use Rattle.mm_paged.proofs.starting.start_key.Goals as goal
 
 pub returns-clause-begun : goal.returns-clause-begun

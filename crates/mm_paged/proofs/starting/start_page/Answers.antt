@@ -1,5 +1,5 @@
 use Rattle.std.proofs.Common.{sym, ◌∙◌}
-use Rattle.mm_paged.proofs.Started.{begun_here}
+use Rattle.mm_paged.proofs.{begun_here}
 use Rattle.mm_paged.proofs.starting.start_page.Goals as goal
 
 pub returns-in-Some-clause-begun : goal.returns-in-Some-clause-begun

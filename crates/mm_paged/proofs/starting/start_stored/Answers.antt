@@ -1,5 +1,5 @@
 use Rattle.std.proofs.Common.{sym, ◌∙◌}
-use Rattle.mm_paged.proofs.Started.{begun_full, begun_short, begun_read}
+use Rattle.mm_paged.proofs.{begun_full, begun_short, begun_read}
 use Rattle.mm_paged.proofs.starting.start_stored.Goals as goal
 
 pub returns-then-not-has_depth-clause-begun : goal.returns-then-not-has_depth-clause-begun

@@ -1,6 +1,5 @@
 use Rattle.std.proofs.Common.{sym, ◌∙◌}
-use Rattle.mm_paged.proofs.Started.{begun_starved, begun_given}
-use Rattle.mm_paged.proofs.FaultSteps.{may_use_then}
+use Rattle.mm_paged.proofs.{begun_starved, begun_given, may_use_then}
 use Rattle.mm_paged.proofs.starting.start_zero.Goals as goal
 
 pub returns-then-is_starved-clause-begun : goal.returns-then-is_starved-clause-begun

@@ -1,4 +1,4 @@
-use Rattle.mm_paging.proofs.OneLog.{one_log}
+use Rattle.mm_paging.proofs.{one_log}
 use Rattle.mm_paging.proofs.laws.lines_have_one_log.Goals as goal
 
 pub returns : goal.returns

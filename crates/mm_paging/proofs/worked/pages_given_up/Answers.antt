@@ -1,9 +1,7 @@
 use Rattle.std.proofs.Common.{◌≡◌, ◌<◌, ℕ, zero, suc, false, refl, arith}
 use Rattle.mm_types.specs.declared.moves.Move.TheVariants as move
-use Rattle.mm_life.specs.Effect.{after_move}
-use Rattle.mm_life.specs.Life.{FrameLife, is_live}
-use Rattle.mm_life.specs.WorkedLogs.{place, private}
-use Rattle.mm_paging.specs.Worked.{shared, life_after, section_log}
+use Rattle.mm_life.specs.{after_move, FrameLife, is_live, place, private}
+use Rattle.mm_paging.specs.{shared, life_after, section_log}
 use Rattle.mm_paging.proofs.worked.pages_given_up.Goals as goal
 
 below_one : (P : ℕ → Type 0) → P 0 → (i : ℕ) → i < 1 → P i

@@ -1,9 +1,9 @@
 use Rattle.std.proofs.Common.{ap, ◌∙◌, subst}
-use Rattle.mm_types.specs.declared.numbers.Key.{Key}
+use Rattle.mm_types.specs.{Key}
 use Rattle.mm_types.specs.declared.numbers.Key.TheVariants.{Shared}
-use Rattle.mm_words.specs.Words.{WordsOf, has_word}
+use Rattle.mm_words.specs.{WordsOf, has_word}
 use Rattle.mm_words.specs.Shown as tables
-use Rattle.mm_parts.specs.Moves.{CanLeave}
+use Rattle.mm_parts.specs.{CanLeave}
 use Rattle.mm_parts.proofs.place_moves.leave_place.Goals as goal
 
 pub set_word-requires-clause-has : goal.set_word-requires-clause-has

@@ -1,5 +1,5 @@
 use Rattle.std.proofs.Common.{Some, sym, ap, ◌+◌, ◌∙◌}
-use Rattle.mm_parts.proofs.Waiting.{place_last, place_flies}
+use Rattle.mm_parts.proofs.{place_last, place_flies}
 use Rattle.mm_parts.proofs.waits.place_of_request.Goals as goal
 
 pub returns-then-is_own : goal.returns-then-is_own

@@ -1,7 +1,7 @@
 use Rattle.std.proofs.Common.{rules, ◌≡◌, ◌+◌, Some, ap, ◌∙◌, arith}
-use Rattle.mm_plain.specs.Areas.{block_at}
+use Rattle.mm_plain.specs.{block_at}
 use Rattle.mm_plain.specs.declared.areas.AreaPages.TheVariants.{Filed}
-use Rattle.mm_plain.proofs.OpenAreas.{in_file}
+use Rattle.mm_plain.proofs.{in_file}
 use Rattle.mm_plain.proofs.areas.file_block.Goals as goal
 
 pub overflow_add-result : goal.overflow_add-result

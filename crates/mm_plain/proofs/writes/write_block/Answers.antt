@@ -1,4 +1,4 @@
-use Rattle.mm_plain.proofs.StoredFiles.{failed_write}
+use Rattle.mm_plain.proofs.{failed_write}
 use Rattle.mm_plain.proofs.writes.write_block.Goals as goal
 
 pub returns-clause-blamed : goal.returns-clause-blamed

@@ -1,11 +1,11 @@
 use Rattle.std.proofs.Common.{◌≡◌, ◌+◌, Some, ap, sym, ◌∙◌, arith}
 use Rattle.std.specs.Prelude.{is_ok, slice_get}
-use Rattle.mm_types.proofs.Options.{on_err}
-use Rattle.mm_blocks.specs.Devices.{device_with}
-use Rattle.mm_blocks.proofs.Serving.{all_served_later, failed_later}
-use Rattle.mm_plain.specs.declared.file_pages.FilePage.{FilePage}
+use Rattle.mm_types.proofs.{on_err}
+use Rattle.mm_blocks.specs.{device_with}
+use Rattle.mm_blocks.proofs.{all_served_later, failed_later}
+use Rattle.mm_plain.specs.{FilePage}
 use Rattle.mm_plain.specs.Files.{page_of}
-use Rattle.mm_plain.proofs.StoredFiles.{stored_more, wrote_one, wrote_then, none_failed}
+use Rattle.mm_plain.proofs.{stored_more, wrote_one, wrote_then, none_failed}
 use Rattle.mm_plain.proofs.writes.write_file.Goals as goal
 
 pub returns-in_err-write_block-clause-wrote : goal.returns-in_err-write_block-clause-wrote

@@ -1,6 +1,6 @@
 use Rattle.std.proofs.Common.{◌≡◌}
-use Rattle.mm_blocks.specs.Devices.{device_with}
-use Rattle.mm_plain.specs.Files.{Wrote, Stored}
+use Rattle.mm_blocks.specs.{device_with}
+use Rattle.mm_plain.specs.{Wrote, Stored}
 use Rattle.mm_plain.proofs.writes.write_file.Given as goal
 
 abbrev pub invariant-loop-i : goal.invariant-loop-i

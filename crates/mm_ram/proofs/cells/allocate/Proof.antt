@@ -44,7 +44,7 @@ use denote.Builtin.{usize}
 use Rattle.std.specs.Prelude.{None}
 use Rattle.core.proofs.mem.Param.{El, R, elτ}
 use Rattle.std_alloc.proofs.RawLayout.{as_written}
-use Rattle.mm_ram.specs.Ownership.{slots}
+use Rattle.mm_ram.specs.{slots}
 use Rattle.mm_ram.proofs.Memory.{Cr, Bs, Mark, sz, mark, mark_made, word_made}
 use base.Fml.{Incl-trans}
 use lib.ListN.{replicate, length-replicate}

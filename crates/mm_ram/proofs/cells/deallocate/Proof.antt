@@ -40,7 +40,7 @@ use denote.Builtin.{usize}
 use Rattle.std.specs.Prelude.{None}
 use Rattle.core.proofs.mem.Param.{El, R, elτ}
 use Rattle.std_alloc.proofs.RawLayout.{as_raw}
-use Rattle.mm_ram.specs.Ownership.{cells_own}
+use Rattle.mm_ram.specs.{cells_own, deed_owns}
 use Rattle.mm_ram.proofs.Memory.{Cr, Bs, sz, Place, mark, mark_had, word_had}
 use base.Fml.{Incl-trans}
 use lib.Dec.{T}
@@ -59,7 +59,6 @@ use denote.Triple.Statement.{Triple}
 use denote.Triple.Call.{calls_at_last}
 use Rattle.core.proofs.alloc.Calls.{Al, second, token, gives_key, Gives, at_gives, Gives-goes, Gives-Gives}
 use Rattle.core.proofs.slots.Leases.{uncapped, block_ty, block_size, block_align, args, P}
-use Rattle.mm_ram.specs.Ownership.{deed_owns}
 use Rattle.mm_ram.proofs.Memory.{to_room}
 use Rattle.mm_ram.specs.contracts.cells.Deed as D-type
 use Rattle.mm_ram.specs.contracts.cells.deallocate as F

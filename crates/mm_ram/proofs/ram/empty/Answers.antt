@@ -1,5 +1,5 @@
 use Rattle.std.proofs.Common.{◌<◌, length, replicate, ap, sym, subst, ◌∙◌, ◌+◌, arith, None, ℕ, List, Option}
-use Rattle.mm_ram.proofs.Slots.{Emptied, as_long, emptied_all, emptied_next, emptied_same, filled_at, empty_at}
+use Rattle.mm_ram.proofs.{Emptied, as_long, emptied_all, emptied_next, emptied_same, filled_at, empty_at}
 use Rattle.mm_ram.proofs.ram.empty.Goals as goal
 use Rattle.mm_ram.proofs.ram.empty.Goals.{then-has_bytes, else-has_bytes}
 

@@ -1,5 +1,5 @@
 use Rattle.std.proofs.Common.{◌≡◌}
-use Rattle.mm_ram.proofs.Slots.{Emptied}
+use Rattle.mm_ram.proofs.{Emptied}
 use Rattle.mm_ram.proofs.ram.empty.Given as goal
 
 abbrev pub invariant-loop-i : goal.invariant-loop-i

@@ -1,10 +1,8 @@
 use Rattle.std.proofs.Common.{◌≡◌, ◌<◌, ℕ, List, Option, Some, None, length, set, arith, sym, ap, ◌∙◌, subst, get_or, get_or-set_same}
 use Rattle.std.proofs.lemmas.List.{get_or_read}
-use Rattle.mm_ram.specs.declared.contents.Contents.{Contents}
+use Rattle.mm_ram.specs.{Contents, page_at, zero_page, ArePlaces, backed, has_bytes, shown}
 use Rattle.mm_ram.specs.declared.contents.Contents.TheVariants as contains
-use Rattle.mm_ram.specs.Ram.{page_at, zero_page}
-use Rattle.mm_ram.specs.Frames.{ArePlaces, backed, has_bytes, shown}
-use Rattle.mm_ram.proofs.Slots.{contents_at, as_long, filled_at, empty_at, places_backed, shown_backed}
+use Rattle.mm_ram.proofs.{contents_at, as_long, filled_at, empty_at, places_backed, shown_backed}
 use Rattle.mm_ram.proofs.ram.fill_place.Goals as goal
 
 -- the contents that were read are the frame's

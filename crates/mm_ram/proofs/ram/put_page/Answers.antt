@@ -1,8 +1,8 @@
 use Rattle.std.proofs.Common.{◌<◌, length, arith, sym, ap, ◌∙◌}
 use Rattle.mm_ram.specs.declared.contents.Contents.TheVariants as contains
 use Rattle.std.proofs.lemmas.List.{get_or_read}
-use Rattle.mm_ram.specs.Frames.{has_bytes}
-use Rattle.mm_ram.proofs.Slots.{as_long, filled_at, empty_at}
+use Rattle.mm_ram.specs.{has_bytes}
+use Rattle.mm_ram.proofs.{as_long, filled_at, empty_at}
 use Rattle.mm_ram.proofs.ram.put_page.Goals as goal
 
 pub get_mut-requires : goal.get_mut-requires

@@ -1,5 +1,4 @@
-use Rattle.mm_reasons.proofs.Sayings.{matched_then}
-use Rattle.mm_reasons.proofs.Blames.{blamed_result}
+use Rattle.mm_reasons.proofs.{matched_then, blamed_result}
 use Rattle.mm_reasons.proofs.talks.hear.Goals as goal
 
 pub returns-clause-said : goal.returns-clause-said

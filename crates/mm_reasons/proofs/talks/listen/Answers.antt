@@ -1,7 +1,6 @@
 use Rattle.std.proofs.Common.{arith}
-use Rattle.mm_types.proofs.Bytes.{rose_later}
-use Rattle.mm_reasons.proofs.Sayings.{said_then, talked_then}
-use Rattle.mm_reasons.proofs.Blames.{blamed_write}
+use Rattle.mm_types.proofs.{rose_later}
+use Rattle.mm_reasons.proofs.{said_then, talked_then, blamed_write}
 use Rattle.mm_reasons.proofs.talks.listen.Goals as goal
 
 pub returns-in-Err-clause-blame : goal.returns-in-Err-clause-blame

@@ -1,5 +1,5 @@
 use Rattle.std.proofs.Common.{◌≤◌}
-use Rattle.mm_reasons.specs.Forms.{Said}
+use Rattle.mm_reasons.specs.{Said}
 use Rattle.mm_reasons.proofs.talks.listen.Given as goal
 
 abbrev pub invariant-loop-turn : goal.invariant-loop-turn

@@ -1,5 +1,5 @@
 use Rattle.std.proofs.Common.{◌∙◌}
-use Rattle.mm_reasons.proofs.Sayings.{said_event}
+use Rattle.mm_reasons.proofs.{said_event}
 use Rattle.mm_reasons.proofs.talks.say.Goals as goal
 
 pub returns-in-Ok-write_flushed-clause-said : goal.returns-in-Ok-write_flushed-clause-said

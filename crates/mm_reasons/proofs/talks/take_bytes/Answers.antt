@@ -1,6 +1,5 @@
 use Rattle.std.proofs.Common.{arith}
-use Rattle.mm_reasons.proofs.Sayings.{said_then, talked_then}
-use Rattle.mm_reasons.proofs.Blames.{blamed_later}
+use Rattle.mm_reasons.proofs.{said_then, talked_then, blamed_later}
 use Rattle.mm_reasons.proofs.talks.take_bytes.Goals as goal
 
 pub returns-in-Err-clause-said : goal.returns-in-Err-clause-said

@@ -1,6 +1,6 @@
 use Rattle.std.proofs.Common.{map, string_bytes}
-use Rattle.mm_reasons.specs.Forms.{form_of}
-use Rattle.mm_reasons.proofs.Endings.{out_of_memory}
+use Rattle.mm_reasons.specs.{form_of}
+use Rattle.mm_reasons.proofs.{out_of_memory}
 use Rattle.mm_reasons.proofs.top.run_names.Goals as goal
 
 pub returns-in-Err-clause-ran : goal.returns-in-Err-clause-ran

@@ -1,6 +1,6 @@
 use Rattle.std.proofs.Common.{refl, sym, ap}
-use Rattle.mm_types.specs.declared.numbers.Pid.{Pid}
-use Rattle.mm_reclaim.proofs.Bests.{closed_same, none_same, best_stays, best_taken}
+use Rattle.mm_types.specs.{Pid}
+use Rattle.mm_reclaim.proofs.{closed_same, none_same, best_stays, best_taken}
 use Rattle.mm_reclaim.proofs.choosing.better.Goals as goal
 
 pub returns-then-not-is_open-clause-below : goal.returns-then-not-is_open-clause-below

@@ -1,7 +1,7 @@
 use Rattle.std.proofs.Common.{◌-◌}
-use Rattle.mm_frame_laws.specs.Order.{PassedTo}
-use Rattle.mm_parts.specs.Moves.{after_page}
-use Rattle.mm_reclaim.specs.Choosing.{IsValidPage, IsLow, rank}
+use Rattle.mm_frame_laws.specs.{PassedTo}
+use Rattle.mm_parts.specs.{after_page}
+use Rattle.mm_reclaim.specs.{IsValidPage, IsLow, rank}
 use Rattle.mm_reclaim.proofs.choosing.oldest_to_go.Given as goal
 
 abbrev pub invariant-pages : goal.invariant-pages

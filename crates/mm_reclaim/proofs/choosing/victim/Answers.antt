@@ -1,5 +1,5 @@
 use Rattle.std.proofs.Common.{◌+◌, refl, arith}
-use Rattle.mm_reclaim.proofs.Bests.{settled_answer, best_answer}
+use Rattle.mm_reclaim.proofs.{settled_answer, best_answer}
 use Rattle.mm_reclaim.proofs.choosing.victim.Goals as goal
 
 pub returns-then-is_settled : goal.returns-then-is_settled

@@ -1,6 +1,6 @@
 use Rattle.std.proofs.Common.{◌≡◌, true}
 use Rattle.std.specs.Option.{ForSome}
-use Rattle.mm_frame_laws.specs.Order.{BestBelow}
+use Rattle.mm_frame_laws.specs.{BestBelow}
 use Rattle.mm_reclaim.proofs.choosing.victim.Given as goal
 
 abbrev pub invariant-loop-n : goal.invariant-loop-n

@@ -1,5 +1,5 @@
 use Rattle.std.proofs.Common.{◌∙◌, refl, arith}
-use Rattle.mm_reclaim.proofs.Trimming.{trims_none, trims_more, trims_over, trims_all}
+use Rattle.mm_reclaim.proofs.{trims_none, trims_more, trims_over, trims_all}
 use Rattle.mm_reclaim.proofs.chores.trim.Goals as goal
 
 pub loop-trimmed-init : goal.loop-trimmed-init

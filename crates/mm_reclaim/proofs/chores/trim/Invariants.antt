@@ -1,5 +1,5 @@
 use Rattle.std.proofs.Common.{◌≡◌, ◌≤◌}
-use Rattle.mm_reclaim.specs.Chores.{TrimsTo}
+use Rattle.mm_reclaim.specs.{TrimsTo}
 use Rattle.mm_reclaim.proofs.chores.trim.Given as goal
 
 abbrev pub invariant-loop-trimmed : goal.invariant-loop-trimmed

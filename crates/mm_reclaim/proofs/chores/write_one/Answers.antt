@@ -1,6 +1,6 @@
 use Rattle.std.proofs.Common.{Option, option_map, sym, ap, ◌∙◌}
-use Rattle.mm_types.specs.declared.numbers.Frame.{Frame}
-use Rattle.mm_reclaim.proofs.Writing.{writes}
+use Rattle.mm_types.specs.{Frame}
+use Rattle.mm_reclaim.proofs.{writes}
 use Rattle.mm_reclaim.proofs.chores.write_one.Goals as goal
 
 pub returns-in-Some-clause-writes : goal.returns-in-Some-clause-writes

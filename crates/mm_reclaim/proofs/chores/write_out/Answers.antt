@@ -1,7 +1,6 @@
 use Rattle.std.proofs.Common.{◌∙◌, refl, arith}
-use Rattle.mm_reclaim.specs.Chores.{writings}
-use Rattle.mm_reclaim.proofs.Writing.{no_writing}
-use Rattle.mm_reclaim.proofs.Chained.{chain_none, chain_more, chain_over, chain_all}
+use Rattle.mm_reclaim.specs.{writings}
+use Rattle.mm_reclaim.proofs.{no_writing, chain_none, chain_more, chain_over, chain_all}
 use Rattle.mm_reclaim.proofs.chores.write_out.Goals as goal
 
 pub loop-begun-init : goal.loop-begun-init

@@ -1,5 +1,5 @@
 use Rattle.std.proofs.Common.{◌≡◌, ◌≤◌}
-use Rattle.mm_reclaim.specs.Chores.{RoundsTo, writings}
+use Rattle.mm_reclaim.specs.{RoundsTo, writings}
 use Rattle.mm_reclaim.proofs.chores.write_out.Given as goal
 
 abbrev pub invariant-loop-begun : goal.invariant-loop-begun

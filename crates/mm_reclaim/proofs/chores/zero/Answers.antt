@@ -1,6 +1,6 @@
 use Rattle.std.proofs.Common.{◌∙◌, refl, arith}
-use Rattle.mm_life.specs.Chores.{clearings}
-use Rattle.mm_reclaim.proofs.Chained.{chain_none, chain_more, chain_over, chain_all}
+use Rattle.mm_life.specs.{clearings}
+use Rattle.mm_reclaim.proofs.{chain_none, chain_more, chain_over, chain_all}
 use Rattle.mm_reclaim.proofs.chores.zero.Goals as goal
 
 pub loop-cleared-init : goal.loop-cleared-init

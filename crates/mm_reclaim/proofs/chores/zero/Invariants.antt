@@ -1,6 +1,6 @@
 use Rattle.std.proofs.Common.{◌≡◌, ◌≤◌}
-use Rattle.mm_life.specs.Chores.{clearings}
-use Rattle.mm_reclaim.specs.Chores.{RoundsTo}
+use Rattle.mm_life.specs.{clearings}
+use Rattle.mm_reclaim.specs.{RoundsTo}
 use Rattle.mm_reclaim.proofs.chores.zero.Given as goal
 
 abbrev pub invariant-loop-cleared : goal.invariant-loop-cleared

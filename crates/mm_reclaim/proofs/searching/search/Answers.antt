@@ -1,6 +1,5 @@
 use Rattle.std.proofs.Common.{sym, ◌∙◌, arith}
-use Rattle.mm_reclaim.proofs.Steps.{found_at_once}
-use Rattle.mm_reclaim.proofs.Turning.{turn_fewer, turn_on, turn_found, search_starves}
+use Rattle.mm_reclaim.proofs.{found_at_once, turn_fewer, turn_on, turn_found, search_starves}
 use Rattle.mm_reclaim.proofs.searching.search.Goals as goal
 
 pub returns-then-not-is_short-clause-searched : goal.returns-then-not-is_short-clause-searched

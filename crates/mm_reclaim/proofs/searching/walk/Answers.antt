@@ -1,6 +1,6 @@
 use Rattle.std.proofs.Common.{Option, option_map, refl, sym, ap, ◌∙◌}
-use Rattle.mm_types.specs.declared.numbers.Frame.{Frame}
-use Rattle.mm_reclaim.proofs.Walking.{walk_begins, walk_ends, some_front, writable_here, walk_found, walk_goes_on}
+use Rattle.mm_types.specs.{Frame}
+use Rattle.mm_reclaim.proofs.{walk_begins, walk_ends, some_front, writable_here, walk_found, walk_goes_on}
 use Rattle.mm_reclaim.proofs.searching.walk.Goals as goal
 
 pub loop-i-init : goal.loop-i-init

@@ -1,5 +1,5 @@
 use Rattle.std.proofs.Common.{◌≡◌}
-use Rattle.mm_reclaim.specs.Seeking.{Walks}
+use Rattle.mm_reclaim.specs.{Walks}
 use Rattle.mm_reclaim.proofs.searching.walk.Given as goal
 
 abbrev pub invariant-loop-i : goal.invariant-loop-i

@@ -1,4 +1,4 @@
-use Rattle.mm_reclaim.proofs.Steps.{write_fault, tries_same}
+use Rattle.mm_reclaim.proofs.{write_fault, tries_same}
 use Rattle.mm_reclaim.proofs.seeking.write_frame.Goals as goal
 
 pub returns-clause-tries : goal.returns-clause-tries

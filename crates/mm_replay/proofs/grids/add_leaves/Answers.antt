@@ -1,6 +1,6 @@
 use Rattle.std.proofs.Common.{arith}
-use Rattle.mm_replay.specs.Grids.{in_leaves}
-use Rattle.mm_replay.proofs.Leaves.{push_keeps, same_twice}
+use Rattle.mm_replay.specs.{in_leaves}
+use Rattle.mm_replay.proofs.{push_keeps, same_twice}
 use Rattle.mm_replay.proofs.grids.add_leaves.Goals as goal
 
 pub loop-preserved : goal.loop-preserved

@@ -1,5 +1,5 @@
 use Rattle.std.proofs.Common.{◌≡◌, vec_len}
-use Rattle.mm_replay.specs.Grids.{in_leaves, Same}
+use Rattle.mm_replay.specs.{in_leaves, Same}
 use Rattle.mm_replay.proofs.grids.add_leaves.Given as goal
 
 abbrev pub invariant-loop : goal.invariant-loop

@@ -1,5 +1,5 @@
 use Rattle.std.proofs.Common.{arith}
-use Rattle.mm_replay.proofs.Leaves.{resized}
+use Rattle.mm_replay.proofs.{resized}
 use Rattle.mm_replay.proofs.grids.fill.Goals as goal
 
 pub returns-clause-same : goal.returns-clause-same

@@ -1,8 +1,8 @@
 use Rattle.std.proofs.Common.{◌++◌, ◌∷◌, [], List, ℕ, sym, ap, ◌∙◌}
-use Rattle.mm_lists.specs.Lists.{ListsOf, list_at, number_at, with_list}
-use Rattle.mm_replay.specs.Listed.{free_alone}
-use Rattle.mm_life.proofs.Numbers.{numbers_next}
-use Rattle.mm_replay.proofs.Fresh.{not_yet}
+use Rattle.mm_lists.specs.{ListsOf, list_at, number_at, with_list}
+use Rattle.mm_replay.specs.{free_alone}
+use Rattle.mm_life.proofs.{numbers_next}
+use Rattle.mm_replay.proofs.{not_yet}
 use Rattle.mm_replay.proofs.listings.push_all.Goals as goal
 
 pub push_back-requires-clause-on_none : goal.push_back-requires-clause-on_none

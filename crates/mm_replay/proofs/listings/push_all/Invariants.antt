@@ -1,6 +1,6 @@
 use Rattle.std.proofs.Common.{◌≡◌}
-use Rattle.mm_life.specs.Life.{numbers_from}
-use Rattle.mm_replay.specs.Listed.{AreFour, free_alone}
+use Rattle.mm_life.specs.{numbers_from}
+use Rattle.mm_replay.specs.{AreFour, free_alone}
 use Rattle.mm_replay.proofs.listings.push_all.Given as goal
 
 abbrev pub invariant-loop-f : goal.invariant-loop-f

@@ -1,6 +1,6 @@
 use Rattle.std.proofs.Common.{◌≡◌, ◌≤◌, take}
 use Rattle.std.specs.Prelude.{count_by}
-use Rattle.mm_life.specs.Life.{is_active}
+use Rattle.mm_life.specs.{is_active}
 use Rattle.mm_replay.proofs.looks.count_active.Given as goal
 
 abbrev pub invariant-loop-r : goal.invariant-loop-r

@@ -1,7 +1,6 @@
 use Rattle.std.proofs.Common.{Some, None, sym, ◌∙◌}
-use Rattle.mm_replay.specs.Grids.{in_leaves}
-use Rattle.mm_replay.specs.Pairs.{near_part}
-use Rattle.mm_replay.proofs.NearAndFar.{part_of, near_sets, none_removed}
+use Rattle.mm_replay.specs.{in_leaves, near_part}
+use Rattle.mm_replay.proofs.{part_of, near_sets, none_removed}
 use Rattle.mm_replay.proofs.pairs.remove_near.Goals as goal
 
 pub returns-in-Some-clause-value : goal.returns-in-Some-clause-value

@@ -1,5 +1,5 @@
 use Rattle.std.proofs.Common.{◌≡◌, length}
-use Rattle.mm_replay.specs.Reading.{strip}
+use Rattle.mm_replay.specs.{strip}
 use Rattle.mm_replay.proofs.readings.behind.Given as goal
 
 abbrev pub invariant-loop-left : goal.invariant-loop-left

@@ -1,5 +1,5 @@
 use Rattle.std.proofs.Common.{◌≡◌, ◌<◌, ◌^◌, length}
-use Rattle.mm_replay.specs.Reading.{number_from}
+use Rattle.mm_replay.specs.{number_from}
 use Rattle.mm_replay.proofs.readings.digits.Given as goal
 
 abbrev pub invariant-loop-rest : goal.invariant-loop-rest

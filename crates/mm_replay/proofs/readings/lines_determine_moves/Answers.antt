@@ -1,4 +1,4 @@
-use Rattle.mm_replay.proofs.Lines.{one_move}
+use Rattle.mm_replay.proofs.{one_move}
 use Rattle.mm_replay.proofs.readings.lines_determine_moves.Goals as goal
 
 pub returns : goal.returns

@@ -1,9 +1,8 @@
 use Rattle.std.proofs.Common.{◌≡◌, ◌==◌, true, [], Some, None, length, refl, sym, ap, ◌∙◌}
-use Rattle.mm_types.specs.Spelling.{Text}
-use Rattle.mm_life.specs.MoveText.{key_onto, IsKey}
-use Rattle.mm_replay.specs.Reading.{read_key}
-use Rattle.mm_replay.proofs.ReadAgain.{read_key-onto, value_of, rest_of}
-use Rattle.mm_replay.proofs.Sounds.{key_sound, all_read, none_behind}
+use Rattle.mm_types.specs.{Text}
+use Rattle.mm_life.specs.{key_onto, IsKey}
+use Rattle.mm_replay.specs.{read_key}
+use Rattle.mm_replay.proofs.{read_key-onto, value_of, rest_of, key_sound, all_read, none_behind}
 use Rattle.mm_replay.proofs.readings.read_key.Goals as goal
 
 -- what is spelled right is read

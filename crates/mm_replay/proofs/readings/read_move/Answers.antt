@@ -1,9 +1,8 @@
 use Rattle.std.proofs.Common.{◌≡◌, ◌==◌, true, [], Some, None, length, sym, ap, ◌∙◌}
-use Rattle.mm_types.specs.Spelling.{Text}
-use Rattle.mm_life.specs.MoveText.{move_onto, IsMove}
-use Rattle.mm_replay.specs.Reading.{read_text}
-use Rattle.mm_replay.proofs.ReadAgain.{read_text-spelled, value_of, rest_of}
-use Rattle.mm_replay.proofs.Sounds.{text_sound, all_read, none_behind}
+use Rattle.mm_types.specs.{Text}
+use Rattle.mm_life.specs.{move_onto, IsMove}
+use Rattle.mm_replay.specs.{read_text}
+use Rattle.mm_replay.proofs.{read_text-spelled, value_of, rest_of, text_sound, all_read, none_behind}
 use Rattle.mm_replay.proofs.readings.read_move.Goals as goal
 
 -- what is spelled right is read

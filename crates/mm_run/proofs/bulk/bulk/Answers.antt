@@ -1,9 +1,8 @@
 use Rattle.std.proofs.Common.{refl, ◌∙◌}
-use Rattle.mm_make.specs.Generated.{script_of}
+use Rattle.mm_make.specs.{script_of}
 use Rattle.mm_run.specs.declared.endings.Ending.TheVariants as ending
-use Rattle.mm_run.specs.Story.{fault_counts_with}
-use Rattle.mm_run.proofs.Ends.{accounted, accounted_behind}
-use Rattle.mm_run.proofs.Tallies.{ran_unflushed, ran_failed, all_told, all_torn, accounted_unflushed}
+use Rattle.mm_run.specs.{fault_counts_with}
+use Rattle.mm_run.proofs.{accounted, accounted_behind, ran_unflushed, ran_failed, all_told, all_torn, accounted_unflushed}
 use Rattle.mm_run.proofs.bulk.bulk.Goals as goal
 
 -- the moves could not be given on

@@ -1,5 +1,5 @@
 use Rattle.std.proofs.Common.{refl, sym, ap, inl, inr}
-use Rattle.mm_run.specs.Story.{fault_counts_with}
+use Rattle.mm_run.specs.{fault_counts_with}
 use Rattle.mm_run.proofs.bulk.decide_event.Goals as goal
 
 pub returns-then-moves_failed-clause-came : goal.returns-then-moves_failed-clause-came

@@ -1,9 +1,7 @@
 use Rattle.std.proofs.Common.{◌≡◌, ◌∙◌, refl, sym, ap, inl, inr, true, false, arith}
-use Rattle.mm_core.specs.Promise.{scene}
-use Rattle.mm_run.specs.Scenes.{Running}
-use Rattle.mm_run.specs.Story.{fault_counts_with}
-use Rattle.mm_run.proofs.Finding.{blamed_then}
-use Rattle.mm_run.proofs.Batches.{first_handled, first_stopped, first_muted}
+use Rattle.mm_core.specs.{scene}
+use Rattle.mm_run.specs.{Running, fault_counts_with}
+use Rattle.mm_run.proofs.{blamed_then, first_handled, first_stopped, first_muted}
 use Rattle.mm_run.proofs.bulk.decide_events.Goals as goal
 
 pub returns-then-moves_failed-clause-came : goal.returns-then-moves_failed-clause-came

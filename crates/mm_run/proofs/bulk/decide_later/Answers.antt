@@ -1,9 +1,7 @@
 use Rattle.std.proofs.Common.{refl, ap, ◌∙◌, cond, arith}
-use Rattle.mm_core.specs.Promise.{scene}
-use Rattle.mm_run.specs.Scenes.{Running}
-use Rattle.mm_run.specs.Story.{FaultCounts, fault_counts_with}
-use Rattle.mm_run.proofs.Finding.{blamed_then}
-use Rattle.mm_run.proofs.Batches.{handled_none, handled_on, stopped_on}
+use Rattle.mm_core.specs.{scene}
+use Rattle.mm_run.specs.{Running, FaultCounts, fault_counts_with}
+use Rattle.mm_run.proofs.{blamed_then, handled_none, handled_on, stopped_on}
 use Rattle.mm_run.proofs.bulk.decide_later.Goals as goal
 
 pub loop-event-init : goal.loop-event-init

@@ -1,10 +1,6 @@
 use Rattle.std.proofs.Common.{◌≡◌, ◌≤◌, ◌+◌, take}
-use Rattle.mm_core.specs.Shown.{loans, world_behind}
-use Rattle.mm_core.specs.Promise.{scene}
-use Rattle.mm_run.specs.Scenes.{Running}
-use Rattle.mm_run.specs.Batch.{Handled}
-use Rattle.mm_run.specs.Moments.{HasNotedAll}
-use Rattle.mm_run.specs.Seen.{world_seen}
+use Rattle.mm_core.specs.{loans, world_behind, scene}
+use Rattle.mm_run.specs.{Running, Handled, HasNotedAll, world_seen}
 use Rattle.mm_run.proofs.bulk.decide_later.Given as goal
 
 abbrev pub invariant-loop-event : goal.invariant-loop-event

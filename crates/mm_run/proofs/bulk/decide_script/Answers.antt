@@ -1,10 +1,8 @@
 use Rattle.std.proofs.Common.{refl, ◌∙◌, inl, arith}
 use Rattle.mm_run.specs.declared.endings.Ending.TheVariants as ending
-use Rattle.mm_make.specs.Generated.{script_of}
-use Rattle.mm_run.specs.Scenes.{NotBegun, outset}
-use Rattle.mm_run.proofs.Stories.{log_left_at}
-use Rattle.mm_run.proofs.Batches.{stopped_here}
-use Rattle.mm_run.proofs.Drawn.{slice_later, slice_few}
+use Rattle.mm_make.specs.{script_of}
+use Rattle.mm_run.specs.{NotBegun, outset}
+use Rattle.mm_run.proofs.{log_left_at, stopped_here, slice_later, slice_few}
 use Rattle.mm_run.proofs.bulk.decide_script.Goals as goal
 
 pub returns-in-Err : goal.returns-in-Err

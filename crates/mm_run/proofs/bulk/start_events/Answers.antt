@@ -1,9 +1,7 @@
 use Rattle.std.proofs.Common.{◌∷◌, refl, arith}
 use Rattle.mm_types.specs.declared.events.Event.TheVariants as line
-use Rattle.mm_run.specs.Scenes.{NotBegun, outset}
-use Rattle.mm_run.proofs.Stories.{log_left_at}
-use Rattle.mm_run.proofs.Batches.{stopped_here, blamed_opened}
-use Rattle.mm_run.proofs.Ends.{blamed_open}
+use Rattle.mm_run.specs.{NotBegun, outset}
+use Rattle.mm_run.proofs.{log_left_at, stopped_here, blamed_opened, blamed_open}
 use Rattle.mm_run.proofs.bulk.start_events.Goals as goal
 
 pub returns-in-Ok : goal.returns-in-Ok

@@ -1,8 +1,7 @@
 use Rattle.std.proofs.Common.{refl, sym, ap, length, ◌<◌, subst, List, ℕ, arith}
-use Rattle.mm_core.specs.Promise.{scene}
-use Rattle.mm_run.specs.Story.{fault_counts_with}
-use Rattle.mm_run.proofs.Firsts.{told_went, told_muted}
-use Rattle.mm_run.proofs.Stops.{came_broken, few}
+use Rattle.mm_core.specs.{scene}
+use Rattle.mm_run.specs.{fault_counts_with}
+use Rattle.mm_run.proofs.{told_went, told_muted, came_broken, few}
 use Rattle.mm_run.proofs.decisions.answer_event.Goals as goal
 
 pub returns-then-moves_failed-clause-steps : goal.returns-then-moves_failed-clause-steps

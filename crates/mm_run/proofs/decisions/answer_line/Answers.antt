@@ -1,9 +1,8 @@
 use Rattle.std.proofs.Common.{◌≡◌, take, sym, refl, ap, ◌∙◌, subst, List, ℕ, arith}
-use Rattle.mm_script.specs.Grammar.{IsLine as IsLineFor}
+use Rattle.mm_script.specs.{IsLine as IsLineFor}
 use Rattle.std.specs.Prelude.{Err}
-use Rattle.mm_run.specs.Reading.{reading_of}
-use Rattle.mm_run.proofs.Later.{later_reading, later_misplaced}
-use Rattle.mm_run.proofs.Stops.{came_bad}
+use Rattle.mm_run.specs.{reading_of}
+use Rattle.mm_run.proofs.{later_reading, later_misplaced, came_bad}
 use Rattle.mm_run.proofs.decisions.answer_line.Goals as goal
 
 pub returns-in-Err-clause-steps : goal.returns-in-Err-clause-steps

@@ -1,7 +1,6 @@
 use Rattle.std.proofs.Common.{refl, ap, lit≤, arith}
-use Rattle.mm_run.specs.Story.{fault_counts_with}
-use Rattle.mm_run.proofs.Stops.{came_done, came_line, came_read, line_of_none}
-use Rattle.mm_run.specs.Scenes.{Running}
+use Rattle.mm_run.specs.{fault_counts_with, Running}
+use Rattle.mm_run.proofs.{came_done, came_line, came_read, line_of_none}
 use Rattle.mm_run.proofs.decisions.behind_last.Goals as goal
 
 pub returns-in-Ok-true : goal.returns-in-Ok-true

@@ -1,16 +1,10 @@
 use Rattle.std.proofs.Common.{◌≡◌, ◌∙◌, refl, sym, inl, inr, true, false, subst, rules}
 use Rattle.std.specs.Prelude.{Bool, Ok, Err, OnOk, OnErr}
-use Rattle.mm_world.specs.World.{filled}
-use Rattle.mm_core.specs.Built.{takes_memory}
-use Rattle.mm_core.specs.Shown.{world, report}
-use Rattle.mm_core.specs.Promise.{ToldBeside, Breaks, scene}
-use Rattle.mm_run.specs.Scenes.{Running}
-use Rattle.mm_run.specs.Steps.{Moved}
-use Rattle.mm_run.specs.Moments.{HasDecided, RunsShort}
-use Rattle.mm_run.specs.Seen.{world_seen}
-use Rattle.mm_run.proofs.Deciding.{devices_hold}
-use Rattle.mm_core.proofs.Noted.{stands}
-use Rattle.mm_run.proofs.Unpaged.{unpaged_answer, plain_answer}
+use Rattle.mm_world.specs.{filled}
+use Rattle.mm_core.specs.{takes_memory, world, report, ToldBeside, Breaks, scene}
+use Rattle.mm_run.specs.{Running, Moved, HasDecided, RunsShort, world_seen}
+use Rattle.mm_run.proofs.{devices_hold, unpaged_answer, plain_answer}
+use Rattle.mm_core.proofs.{stands}
 use Rattle.mm_run.proofs.decisions.decide.Goals as goal
 
 pub returns-clause-moved : goal.returns-clause-moved

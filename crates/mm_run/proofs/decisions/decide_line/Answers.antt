@@ -1,6 +1,6 @@
 use Rattle.std.proofs.Common.{◌+◌, arith}
-use Rattle.mm_run.specs.Seen.{input_seen}
-use Rattle.mm_run.proofs.Finding.{steps_then}
+use Rattle.mm_run.specs.{input_seen}
+use Rattle.mm_run.proofs.{steps_then}
 use Rattle.mm_run.proofs.decisions.decide_line.Goals as goal
 
 pub returns-in-Some-clause-steps : goal.returns-in-Some-clause-steps

@@ -1,9 +1,7 @@
 use Rattle.std.proofs.Common.{◌≡◌, ℕ, subst, refl, ◌∙◌, arith}
-use Rattle.mm_core.specs.Promise.{scene}
-use Rattle.mm_run.specs.Moments.{EndsRun, moment}
-use Rattle.mm_run.specs.Scenes.{Running}
-use Rattle.mm_run.specs.Seen.{input_seen, output_seen}
-use Rattle.mm_run.proofs.Finding.{goes_here, goes_then, goes_ends}
+use Rattle.mm_core.specs.{scene}
+use Rattle.mm_run.specs.{EndsRun, moment, Running, input_seen, output_seen}
+use Rattle.mm_run.proofs.{goes_here, goes_then, goes_ends}
 use Rattle.mm_run.proofs.decisions.decide_rest.Goals as goal
 
 pub loop-n-init : goal.loop-n-init

@@ -1,7 +1,6 @@
 use Rattle.std.proofs.Common.{◌≡◌}
-use Rattle.mm_core.specs.Shown.{loans}
-use Rattle.mm_run.specs.Moments.{GoesOn, IsBetween}
-use Rattle.mm_run.specs.Seen.{moment_seen, world_seen}
+use Rattle.mm_core.specs.{loans}
+use Rattle.mm_run.specs.{GoesOn, IsBetween, moment_seen, world_seen}
 use Rattle.mm_run.proofs.decisions.decide_rest.Given as goal
 
 abbrev pub invariant-loop-n : goal.invariant-loop-n

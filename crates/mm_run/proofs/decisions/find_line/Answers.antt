@@ -1,7 +1,6 @@
 use Rattle.std.proofs.Common.{refl, arith}
-use Rattle.mm_io.proofs.Fillings.{filled_none}
-use Rattle.mm_run.proofs.Finding.{goes_here}
-use Rattle.mm_run.proofs.Stops.{came_long}
+use Rattle.mm_io.proofs.{filled_none}
+use Rattle.mm_run.proofs.{goes_here, came_long}
 use Rattle.mm_run.proofs.decisions.find_line.Goals as goal
 
 pub returns-in-Line-clause-finds : goal.returns-in-Line-clause-finds

@@ -1,8 +1,7 @@
 use Rattle.std.proofs.Common.{refl, ap, arith}
-use Rattle.mm_core.specs.Promise.{scene}
-use Rattle.mm_run.specs.Scenes.{Running}
-use Rattle.mm_run.specs.Story.{fault_counts_with}
-use Rattle.mm_run.proofs.Stops.{came_held_back, went_told, came_torn}
+use Rattle.mm_core.specs.{scene}
+use Rattle.mm_run.specs.{Running, fault_counts_with}
+use Rattle.mm_run.proofs.{came_held_back, went_told, came_torn}
 use Rattle.mm_run.proofs.decisions.flush.Goals as goal
 
 pub returns-in-Err-clause-steps : goal.returns-in-Err-clause-steps

@@ -1,4 +1,4 @@
-use Rattle.mm_run.proofs.Finding.{goes_here}
+use Rattle.mm_run.proofs.{goes_here}
 use Rattle.mm_run.proofs.decisions.flush_before_read.Goals as goal
 
 pub returns-in-Line-clause-steps : goal.returns-in-Line-clause-steps

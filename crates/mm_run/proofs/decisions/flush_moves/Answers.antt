@@ -1,5 +1,5 @@
-use Rattle.mm_core.specs.Promise.{scene}
-use Rattle.mm_run.proofs.Stories.{scene_follows}
+use Rattle.mm_core.specs.{scene}
+use Rattle.mm_run.proofs.{scene_follows}
 use Rattle.mm_run.proofs.decisions.flush_moves.Goals as goal
 
 pub returns-clause-follows : goal.returns-clause-follows

@@ -1,4 +1,4 @@
-use Rattle.mm_run.proofs.Finding.{goes_here}
+use Rattle.mm_run.proofs.{goes_here}
 use Rattle.mm_run.proofs.decisions.make_room.Goals as goal
 
 pub returns-then-has_room-clause-steps : goal.returns-then-has_room-clause-steps

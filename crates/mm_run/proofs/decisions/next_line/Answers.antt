@@ -1,9 +1,6 @@
 use Rattle.std.proofs.Common.{List, ℕ, subst, length, refl, ap, arith, rules}
-use Rattle.mm_run.specs.Scenes.{log_of}
-use Rattle.mm_run.specs.Story.{InputEndsAt, fault_counts_with}
-use Rattle.mm_run.proofs.Stories.{went_filled}
-use Rattle.mm_run.proofs.Stops.{came_end, came_long, came_read}
-use Rattle.mm_run.proofs.Ends.{blamed_end}
+use Rattle.mm_run.specs.{log_of, InputEndsAt, fault_counts_with}
+use Rattle.mm_run.proofs.{went_filled, came_end, came_long, came_read, blamed_end}
 use Rattle.mm_run.proofs.decisions.next_line.Goals as goal
 
 pub returns-in-Ok-Line-clause-finds : goal.returns-in-Ok-Line-clause-finds

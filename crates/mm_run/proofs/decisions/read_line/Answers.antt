@@ -1,8 +1,7 @@
 use Rattle.std.proofs.Common.{arith}
-use Rattle.mm_core.specs.Promise.{scene}
-use Rattle.mm_run.specs.Scenes.{Running}
-use Rattle.mm_run.specs.Seen.{input_seen, output_seen}
-use Rattle.mm_run.proofs.Finding.{finds_then}
+use Rattle.mm_core.specs.{scene}
+use Rattle.mm_run.specs.{Running, input_seen, output_seen}
+use Rattle.mm_run.proofs.{finds_then}
 use Rattle.mm_run.proofs.decisions.read_line.Goals as goal
 
 pub returns-in-Some-clause-finds : goal.returns-in-Some-clause-finds

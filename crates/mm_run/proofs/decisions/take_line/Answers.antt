@@ -1,6 +1,6 @@
 use Rattle.std.proofs.Common.{◌+◌}
-use Rattle.mm_run.specs.Seen.{input_seen, output_seen}
-use Rattle.mm_run.proofs.Finding.{steps_then}
+use Rattle.mm_run.specs.{input_seen, output_seen}
+use Rattle.mm_run.proofs.{steps_then}
 use Rattle.mm_run.proofs.decisions.take_line.Goals as goal
 
 pub returns-in-Ok-clause-steps : goal.returns-in-Ok-clause-steps

@@ -1,6 +1,6 @@
 use Rattle.std.proofs.Common.{◌≡◌, ◌<◌, ◌^◌, drop}
-use Rattle.mm_run.specs.Bulk.{word_value}
-use Rattle.mm_run.proofs.Numbers.{scan}
+use Rattle.mm_run.specs.{word_value}
+use Rattle.mm_run.proofs.{scan}
 use Rattle.mm_run.proofs.forms.value.Given as goal
 
 abbrev pub invariant-loop-byte : goal.invariant-loop-byte

@@ -1,14 +1,11 @@
 use Rattle.std.proofs.Common.{◌≡◌, ◌<◌, ◌∙◌, [], ◌∷◌, sym, refl, ap, inl, inr, arith, true, false}
 use Rattle.mm_types.specs.declared.answers.Answer.TheVariants as answer
 use Rattle.mm_types.specs.declared.events.Event.TheVariants as line
-use Rattle.mm_types.specs.Machine.{limit_of}
-use Rattle.mm_paging.specs.Runs.{first_move}
-use Rattle.mm_core.specs.Promise.{scene}
-use Rattle.mm_run.specs.Scenes.{NotBegun, Running}
-use Rattle.mm_run.specs.Story.{fault_counts_with}
-use Rattle.mm_run.proofs.Firsts.{first_answered, told_went, told_muted}
-use Rattle.mm_run.proofs.Finding.{blamed_then}
-use Rattle.mm_run.proofs.Stories.{went_came}
+use Rattle.mm_types.specs.{limit_of}
+use Rattle.mm_paging.specs.{first_move}
+use Rattle.mm_core.specs.{scene}
+use Rattle.mm_run.specs.{NotBegun, Running, fault_counts_with}
+use Rattle.mm_run.proofs.{first_answered, told_went, told_muted, blamed_then, went_came}
 use Rattle.mm_run.proofs.machines.answer_all.Goals as goal
 
 pub returns-then-moves_failed-clause-came : goal.returns-then-moves_failed-clause-came

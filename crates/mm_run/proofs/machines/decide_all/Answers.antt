@@ -1,11 +1,7 @@
 use Rattle.std.proofs.Common.{◌<◌, List, ℕ, [], refl, ap, subst, length, arith}
-use Rattle.mm_io.specs.Filling.{Filled}
-use Rattle.mm_run.specs.Scenes.{NotBegun, outset}
-use Rattle.mm_run.specs.Story.{InputEndsAt, stand, fault_counts_with}
-use Rattle.mm_run.proofs.Stories.{filled_comes, comes_here}
-use Rattle.mm_run.proofs.Ends.{blamed_end}
-use Rattle.mm_run.proofs.Finding.{blamed_then}
-use Rattle.mm_run.proofs.Stops.{came_end, came_long, came_read}
+use Rattle.mm_io.specs.{Filled}
+use Rattle.mm_run.specs.{NotBegun, outset, InputEndsAt, stand, fault_counts_with}
+use Rattle.mm_run.proofs.{filled_comes, comes_here, blamed_end, blamed_then, came_end, came_long, came_read}
 use Rattle.mm_run.proofs.machines.decide_all.Goals as goal
 
 pub returns-in-Ok-Line-clause-ends : goal.returns-in-Ok-Line-clause-ends

@@ -1,9 +1,8 @@
 use Rattle.std.proofs.Common.{◌≡◌, ◌<◌, take, refl, sym, ap, ◌∙◌, subst, List, ℕ, arith}
 use Rattle.std.specs.Prelude.{Err}
-use Rattle.mm_script.specs.Grammar.{IsLine as IsLineFor}
-use Rattle.mm_run.specs.Reading.{reading_of}
-use Rattle.mm_run.proofs.Stories.{comes_here}
-use Rattle.mm_run.proofs.Stops.{came_bad}
+use Rattle.mm_script.specs.{IsLine as IsLineFor}
+use Rattle.mm_run.specs.{reading_of}
+use Rattle.mm_run.proofs.{comes_here, came_bad}
 use Rattle.mm_run.proofs.machines.decide_first.Goals as goal
 
 pub returns-in-Err-clause-ends : goal.returns-in-Err-clause-ends

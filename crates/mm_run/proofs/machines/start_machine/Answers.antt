@@ -1,11 +1,7 @@
 use Rattle.std.proofs.Common.{◌<◌, refl, sym, subst, arith, inl, inr}
 use Rattle.mm_types.specs.declared.events.Event.TheVariants as line
-use Rattle.mm_run.specs.declared.endings.Ending.{Ending}
-use Rattle.mm_run.specs.Scenes.{NotBegun, outset}
-use Rattle.mm_run.specs.Story.{CameToEnd, outside, stand}
-use Rattle.mm_run.proofs.Stories.{comes_here, follows_here, grows_here}
-use Rattle.mm_run.proofs.Ends.{blamed_beside, blamed_open}
-use Rattle.mm_run.proofs.Stops.{came_memory, came_setup}
+use Rattle.mm_run.specs.{Ending, NotBegun, outset, CameToEnd, outside, stand}
+use Rattle.mm_run.proofs.{comes_here, follows_here, grows_here, blamed_beside, blamed_open, came_memory, came_setup}
 use Rattle.mm_run.proofs.machines.start_machine.Goals as goal
 
 pub returns-in-Ok-clause-ends : goal.returns-in-Ok-clause-ends

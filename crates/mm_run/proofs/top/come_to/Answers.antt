@@ -1,6 +1,5 @@
 use Rattle.std.proofs.Common.{refl, arith}
-use Rattle.mm_run.proofs.Ends.{came_usage}
-use Rattle.mm_run.proofs.Stories.{comes_here}
+use Rattle.mm_run.proofs.{came_usage, comes_here}
 use Rattle.mm_run.proofs.top.come_to.Goals as goal
 
 pub returns-else-is_form-clause-ends : goal.returns-else-is_form-clause-ends

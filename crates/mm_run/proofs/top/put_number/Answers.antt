@@ -1,6 +1,6 @@
 use Rattle.std.proofs.Common.{arith, ap, length, length-append}
-use Rattle.mm_types.specs.Spelling.{decimal}
-use Rattle.mm_text.proofs.Spelled.{length-decimal-32}
+use Rattle.mm_types.specs.{decimal}
+use Rattle.mm_text.proofs.{length-decimal-32}
 use Rattle.mm_run.proofs.top.put_number.Goals as goal
 
 pub put_decimal-requires : goal.put_decimal-requires

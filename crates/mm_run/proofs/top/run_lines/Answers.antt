@@ -1,9 +1,6 @@
 use Rattle.std.proofs.Common.{◌≡◌, ℕ, List, [], true, inl, inr, refl, subst}
-use Rattle.mm_run.specs.Scenes.{NotBegun}
-use Rattle.mm_run.specs.Story.{Comes, stand}
-use Rattle.mm_run.specs.Seen.{outside_seen, outset_seen, left_seen}
-use Rattle.mm_run.proofs.Closing.{ran_closed, accounted_closed}
-use Rattle.mm_run.proofs.Ends.{accounted_memory}
+use Rattle.mm_run.specs.{NotBegun, Comes, stand, outside_seen, outset_seen, left_seen}
+use Rattle.mm_run.proofs.{ran_closed, accounted_closed, accounted_memory}
 use Rattle.mm_run.proofs.top.run_lines.Goals as goal
 
 pub returns-clause-ran : goal.returns-clause-ran

@@ -1,6 +1,6 @@
 use Rattle.std.proofs.Common.{◌++◌, List, ℕ, subst, ◌∙◌}
-use Rattle.mm_types.specs.Outside.{Appended}
-use Rattle.mm_run.proofs.Writing.{flushed_either}
+use Rattle.mm_types.specs.{Appended}
+use Rattle.mm_run.proofs.{flushed_either}
 use Rattle.mm_run.proofs.top.tell_end.Goals as goal
 
 pub returns-in-Ok-clause-told : goal.returns-in-Ok-clause-told

@@ -1,4 +1,4 @@
-use Rattle.mm_run.proofs.Writing.{wrote_whole, wrote_torn, torn_before, both_either}
+use Rattle.mm_run.proofs.{wrote_whole, wrote_torn, torn_before, both_either}
 use Rattle.mm_run.proofs.top.write_both.Goals as goal
 
 pub returns-in-Ok-clause-wrote : goal.returns-in-Ok-clause-wrote

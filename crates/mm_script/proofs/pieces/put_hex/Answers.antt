@@ -1,5 +1,5 @@
 use Rattle.std.proofs.Common.{arith}
-use Rattle.mm_script.proofs.Room.{hex_room, hex_len}
+use Rattle.mm_script.proofs.{hex_room, hex_len}
 use Rattle.mm_script.proofs.pieces.put_hex.Goals as goal
 
 pub put_hex_short-requires : goal.put_hex_short-requires

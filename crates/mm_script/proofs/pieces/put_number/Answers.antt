@@ -1,5 +1,5 @@
 use Rattle.std.proofs.Common.{arith}
-use Rattle.mm_script.proofs.Room.{number_room, number_len}
+use Rattle.mm_script.proofs.{number_room, number_len}
 use Rattle.mm_script.proofs.pieces.put_number.Goals as goal
 
 pub put_decimal-requires : goal.put_decimal-requires

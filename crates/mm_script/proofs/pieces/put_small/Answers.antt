@@ -1,5 +1,5 @@
 use Rattle.std.proofs.Common.{arith}
-use Rattle.mm_script.proofs.Room.{small_room, small_len}
+use Rattle.mm_script.proofs.{small_room, small_len}
 use Rattle.mm_script.proofs.pieces.put_small.Goals as goal
 
 pub put_decimal-requires : goal.put_decimal-requires

@@ -1,7 +1,6 @@
 use Rattle.std.proofs.Common.{◌≡◌, ◌++◌, subst, sym}
-use Rattle.mm_types.specs.Spelling.{Text}
-use Rattle.mm_types.specs.declared.events.Event.{Event}
-use Rattle.mm_script.specs.Printed.{printed}
+use Rattle.mm_types.specs.{Text, Event}
+use Rattle.mm_script.specs.{printed}
 use Rattle.mm_script.proofs.printing.print.Goals as goal
 
 -- the line of an event that was told apart

@@ -1,4 +1,4 @@
-use Rattle.mm_script.proofs.Again.{printed_again}
+use Rattle.mm_script.proofs.{printed_again}
 use Rattle.mm_script.proofs.printing.print_event.Goals as goal
 
 pub returns-clause-again : goal.returns-clause-again

@@ -1,8 +1,6 @@
 use Rattle.std.proofs.Common.{◌≡◌, Result, subst, sym}
-use Rattle.mm_types.specs.declared.events.Event.{Event}
-use Rattle.mm_script.specs.declared.faults.LineFault.{LineFault}
-use Rattle.mm_script.specs.declared.keywords.Keyword.{Keyword}
-use Rattle.mm_script.specs.Reading.{Rest, line_of, IsPut}
+use Rattle.mm_types.specs.{Event}
+use Rattle.mm_script.specs.{LineFault, Keyword, Rest, line_of, IsPut}
 use Rattle.mm_script.proofs.reading.fields_after.Goals as goal
 
 -- what was read after a keyword that was told apart

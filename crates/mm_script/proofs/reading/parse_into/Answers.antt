@@ -1,5 +1,4 @@
-use Rattle.mm_script.proofs.Laws.{put_ok, put_only, put_fault, put_none, put_same}
-use Rattle.mm_script.proofs.Ranges.{put_fits}
+use Rattle.mm_script.proofs.{put_ok, put_only, put_fault, put_none, put_same, put_fits}
 use Rattle.mm_script.proofs.reading.parse_into.Goals as goal
 
 pub returns-clause-ok : goal.returns-clause-ok

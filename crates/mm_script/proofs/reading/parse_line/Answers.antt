@@ -1,6 +1,5 @@
 use Rattle.std.proofs.Common.{◌∙◌}
-use Rattle.mm_script.proofs.Laws.{parse_again, answer_ok, answer_fault, answer_none}
-use Rattle.mm_script.proofs.Ranges.{answer_fits}
+use Rattle.mm_script.proofs.{parse_again, answer_ok, answer_fault, answer_none, answer_fits}
 use Rattle.mm_script.proofs.reading.parse_line.Goals as goal
 
 pub returns-clause-ok : goal.returns-clause-ok

@@ -1,8 +1,8 @@
 use Rattle.std.proofs.Common.{ap, sym, ◌∙◌, ◌++◌, Some, None}
 use Rattle.std.proofs.lemmas.Bool.Decides.{Decides-eqb}
 use Rattle.std.proofs.lemmas.Slice.Eq.{strip_suffix_is}
-use Rattle.mm_script.specs.Place.{without_return}
-use Rattle.mm_script.proofs.Joined.{return_taken, not_returned}
+use Rattle.mm_script.specs.{without_return}
+use Rattle.mm_script.proofs.{return_taken, not_returned}
 use Rattle.mm_script.proofs.reading.without_return.Goals as goal
 
 pub returns-in-Some-clause-body : goal.returns-in-Some-clause-body

@@ -1,7 +1,7 @@
 use Rattle.std.proofs.Common.{◌≡◌, ℕ, ◌++◌, subst, OnOk, codes}
-use Rattle.mm_types.specs.Spelling.{decimal}
+use Rattle.mm_types.specs.{decimal}
 use Rattle.mm_replay.specs.Standing.{life}
-use Rattle.mm_sentences.specs.Refusals.{counted}
+use Rattle.mm_sentences.specs.{counted}
 use Rattle.mm_sentences.proofs.reasons.put_depth_is.Goals as goal
 
 pub returns : goal.returns

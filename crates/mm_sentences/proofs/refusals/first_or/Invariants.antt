@@ -1,7 +1,6 @@
 use Rattle.std.proofs.Common.{◌≡◌, [], ◌∷◌, ◌++◌, drop, false}
 use Rattle.mm_replay.specs.Standing.{life}
-use Rattle.mm_sentences.specs.Parts.{first_failing}
-use Rattle.mm_sentences.specs.Tested.{all_hold}
+use Rattle.mm_sentences.specs.{first_failing, all_hold}
 use Rattle.mm_sentences.proofs.refusals.first_or.Given as goal
 
 abbrev pub invariant-loop-part : goal.invariant-loop-part

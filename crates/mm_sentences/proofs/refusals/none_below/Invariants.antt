@@ -1,6 +1,6 @@
 use Rattle.std.proofs.Common.{◌≡◌, ◌-◌, drop}
 use Rattle.mm_replay.specs.Standing.{life}
-use Rattle.mm_sentences.specs.Tested.{none_free}
+use Rattle.mm_sentences.specs.{none_free}
 use Rattle.mm_sentences.proofs.refusals.none_below.Given as goal
 
 abbrev pub invariant-loop-below : goal.invariant-loop-below

@@ -1,7 +1,7 @@
 use Rattle.std.proofs.Common.{◌≡◌, ℕ, List, Some, sym, ◌∙◌}
-use Rattle.mm_replay.specs.Looking.{frame_at}
+use Rattle.mm_replay.specs.{frame_at}
 use Rattle.mm_replay.specs.Standing.{life}
-use Rattle.mm_sentences.proofs.Walking.{passed, next_there}
+use Rattle.mm_sentences.proofs.{passed, next_there}
 use Rattle.mm_sentences.proofs.states.is_zeroed.Goals as goal
 
 pub loop-i-preserved : goal.loop-i-preserved

@@ -1,5 +1,5 @@
 use Rattle.std.proofs.Common.{◌≡◌, ◌++◌, take, drop}
-use Rattle.mm_show.specs.Forms.{before}
+use Rattle.mm_show.specs.{before}
 use Rattle.mm_show.proofs.keys.before.Given as goal
 
 abbrev pub invariant-loop-i : goal.invariant-loop-i

@@ -1,7 +1,6 @@
 use Rattle.std.proofs.Common.{◌++◌, Option, ap, ◌∙◌, sym}
-use Rattle.mm_tell.specs.Classing.{class_list}
-use Rattle.mm_show.specs.Counted.{of_class}
-use Rattle.mm_tell.specs.declared.classifiers.Classed.{Classed}
+use Rattle.mm_tell.specs.{class_list, Classed}
+use Rattle.mm_show.specs.{of_class}
 use Rattle.mm_show.proofs.sums.count_classed.Goals as goal
 
 pub returns-in-Some-clause-counts : goal.returns-in-Some-clause-counts

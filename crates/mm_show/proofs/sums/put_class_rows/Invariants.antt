@@ -1,6 +1,7 @@
 use Rattle.std.proofs.Common.{◌≡◌, ◌++◌, drop}
 use Rattle.std.specs.Prelude.{flat_map}
-use Rattle.mm_show.specs.Sums.{class_row, number_in}
+use Rattle.mm_show.specs.{number_in}
+use Rattle.mm_show.specs.Sums.{class_row}
 use Rattle.mm_show.proofs.sums.put_class_rows.Given as goal
 
 abbrev pub invariant-loop-class : goal.invariant-loop-class

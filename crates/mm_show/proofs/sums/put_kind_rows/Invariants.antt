@@ -1,6 +1,6 @@
 use Rattle.std.proofs.Common.{◌≡◌, ◌++◌, drop}
 use Rattle.std.specs.Prelude.{flat_map, slice_index}
-use Rattle.mm_show.specs.Sums.{kind_row}
+use Rattle.mm_show.specs.{kind_row}
 use Rattle.mm_show.proofs.sums.put_kind_rows.Given as goal
 
 abbrev pub invariant-loop-kind : goal.invariant-loop-kind

@@ -1,10 +1,7 @@
 use Rattle.std.proofs.Common.{◌≡◌, ◌∙◌, Some, true, sym, subst, option_map, inl}
-use Rattle.mm_tell.specs.Answering.{Answers}
-use Rattle.mm_tell.proofs.Readings.{says_exactly}
-use Rattle.mm_show.specs.declared.forms.Form.{Form}
-use Rattle.mm_show.specs.Forms.{files_of, has_script, has_answers}
-use Rattle.mm_show.specs.Showing.{form_said, form_why, FileIs}
-use Rattle.mm_show.specs.Texts.{page_of}
+use Rattle.mm_tell.specs.{Answers}
+use Rattle.mm_tell.proofs.{says_exactly}
+use Rattle.mm_show.specs.{Form, files_of, has_script, has_answers, form_said, form_why, FileIs, page_of}
 use Rattle.mm_show.proofs.top.run_show.Goals as goal
 
 pub returns-in-Ok-Some-clause-exact : goal.returns-in-Ok-Some-clause-exact

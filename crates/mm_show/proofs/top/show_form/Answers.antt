@@ -1,10 +1,8 @@
 use Rattle.std.proofs.Common.{◌≡◌, Bool, List, Option, ℕ, sym, ap, ◌∙◌, subst, option_map}
-use Rattle.mm_types.specs.Spelling.{Text}
-use Rattle.mm_tell.specs.Answering.{Answers}
-use Rattle.mm_show.specs.Forms.{files_of, has_script, has_answers}
-use Rattle.mm_show.specs.Showing.{form_said, form_why, FileIs, IsUnread}
-use Rattle.mm_show.specs.Texts.{page_of}
-use Rattle.mm_show.proofs.Exactness.{file_lines}
+use Rattle.mm_types.specs.{Text}
+use Rattle.mm_tell.specs.{Answers}
+use Rattle.mm_show.specs.{files_of, has_script, has_answers, form_said, form_why, FileIs, IsUnread, page_of}
+use Rattle.mm_show.proofs.{file_lines}
 use Rattle.mm_show.proofs.top.show_form.Goals as goal
 
 pub returns-clause-exact : goal.returns-clause-exact

@@ -1,11 +1,9 @@
-use Rattle.mm_show.specs.Texts.{page_of}
-use Rattle.mm_show.proofs.Exactness.{said_sums, told_as}
-use Rattle.mm_show.proofs.Exactness.{said_is}
-use Rattle.mm_transcripts.specs.Waiting.{transcript_rest}
-use Rattle.mm_uses.specs.Rest.{counts_rest, use_rest}
-use Rattle.mm_uses.specs.StateRest.{state_rest}
-use Rattle.mm_histories.specs.Rest.{history_rest}
-use Rattle.mm_faults.specs.Rest.{fault_rest}
+use Rattle.mm_show.specs.{page_of}
+use Rattle.mm_show.proofs.{said_sums, told_as, said_is}
+use Rattle.mm_transcripts.specs.{transcript_rest}
+use Rattle.mm_uses.specs.{counts_rest, use_rest, state_rest}
+use Rattle.mm_histories.specs.{history_rest}
+use Rattle.mm_faults.specs.{fault_rest}
 use Rattle.mm_show.proofs.top.shown.Goals as goal
 
 pub returns-in-Tell-clause-answers : goal.returns-in-Tell-clause-answers

@@ -1,7 +1,7 @@
 use Rattle.std.proofs.Common.{◌≡◌, ◌++◌, ap, ◌∙◌, subst, inl}
-use Rattle.mm_types.specs.Spelling.{Text}
-use Rattle.mm_log.specs.Verdict.{Shows}
-use Rattle.mm_show.specs.Showing.{unread_text}
+use Rattle.mm_types.specs.{Text}
+use Rattle.mm_log.specs.{Shows}
+use Rattle.mm_show.specs.{unread_text}
 use Rattle.mm_show.proofs.top.unread.Goals as goal
 
 pub returns-in-Ok-clause-says : goal.returns-in-Ok-clause-says

@@ -1,5 +1,5 @@
 use Rattle.std.proofs.Common.{◌≡◌, ℕ, List, get_or, ap, ◌∙◌, arith}
-use Rattle.mm_slots.proofs.WordLemmas.{raised_same}
+use Rattle.mm_slots.proofs.{raised_same}
 use Rattle.mm_slots.proofs.tree.raised.Goals as goal
 
 pub returns-clause-same : goal.returns-clause-same

@@ -1,6 +1,6 @@
 use Rattle.std.proofs.Common.{◌≡◌, ◌+◌, ◌≤◌, take, count_by, sym, ◌∙◌, arith}
-use Rattle.mm_spaces.specs.RowTests.{passes}
-use Rattle.mm_spaces.proofs.EqualRows.{AreEqual, behind, counted_yes, counted_no}
+use Rattle.mm_spaces.specs.{passes}
+use Rattle.mm_spaces.proofs.{AreEqual, behind, counted_yes, counted_no}
 use Rattle.mm_spaces.proofs.row_tests.count_rows.Goals as goal
 use Rattle.mm_spaces.proofs.row_tests.count_rows.Goals.{then-holds, else-holds}
 

@@ -1,6 +1,6 @@
 use Rattle.std.proofs.Common.{◌≡◌, ◌-◌, ◌≤◌, take, drop, count_by}
-use Rattle.mm_spaces.specs.RowTests.{passes}
-use Rattle.mm_spaces.proofs.Owned.{shown_rows}
+use Rattle.mm_spaces.specs.{passes}
+use Rattle.mm_spaces.proofs.{shown_rows}
 use Rattle.mm_spaces.proofs.row_tests.count_rows.Given as goal
 
 abbrev pub invariant-loop-done : goal.invariant-loop-done

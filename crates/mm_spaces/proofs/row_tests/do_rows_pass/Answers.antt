@@ -1,7 +1,6 @@
 use Rattle.std.proofs.Common.{sym, ◌∙◌, arith}
-use Rattle.mm_spaces.specs.RowTests.{passes}
-use Rattle.mm_spaces.proofs.Owned.{not_all}
-use Rattle.mm_spaces.proofs.EqualRows.{AreEqual, front_there, all_pass}
+use Rattle.mm_spaces.specs.{passes}
+use Rattle.mm_spaces.proofs.{not_all, AreEqual, front_there, all_pass}
 use Rattle.mm_spaces.proofs.row_tests.do_rows_pass.Goals as goal
 
 pub returns-then-not-holds : goal.returns-then-not-holds

@@ -1,7 +1,7 @@
 use Rattle.std.proofs.Common.{◌≡◌, ◌-◌, ◌≤◌, true, take, drop}
 use Rattle.std.specs.List.{list_all}
-use Rattle.mm_spaces.specs.RowTests.{passes}
-use Rattle.mm_spaces.proofs.Owned.{shown_rows}
+use Rattle.mm_spaces.specs.{passes}
+use Rattle.mm_spaces.proofs.{shown_rows}
 use Rattle.mm_spaces.proofs.row_tests.do_rows_pass.Given as goal
 
 abbrev pub invariant-loop-done : goal.invariant-loop-done

@@ -1,7 +1,7 @@
 use Rattle.std.proofs.Common.{◌+◌, ◌-◌, ◌<◌, arith}
-use Rattle.mm_types.specs.Address.{first_user_page, end_of_user_pages}
-use Rattle.mm_vad.specs.Ranges.{range_at}
-use Rattle.mm_spaces.proofs.Ranged.{changing_none, changing_more, some_now, user_page}
+use Rattle.mm_types.specs.{first_user_page, end_of_user_pages}
+use Rattle.mm_vad.specs.{range_at}
+use Rattle.mm_spaces.proofs.{changing_none, changing_more, some_now, user_page}
 use Rattle.mm_spaces.proofs.rows.change_rows.Goals as goal
 
 pub loop-done-init : goal.loop-done-init

@@ -1,6 +1,6 @@
 use Rattle.std.proofs.Common.{◌+◌, ◌-◌, ◌<◌, ◌≤◌, ◌^◌}
-use Rattle.mm_vad.specs.Ranges.{range_at}
-use Rattle.mm_spaces.proofs.Ranged.{Changing}
+use Rattle.mm_vad.specs.{range_at}
+use Rattle.mm_spaces.proofs.{Changing}
 use Rattle.mm_spaces.proofs.rows.change_rows.Given as goal
 
 abbrev pub invariant-loop-done : goal.invariant-loop-done

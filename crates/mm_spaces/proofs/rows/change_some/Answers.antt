@@ -1,12 +1,9 @@
 use Rattle.std.proofs.Common.{◌≡◌, ◌-◌, Some, None, sym, ap, ◌∙◌, subst, arith, length, take, drop, replicate}
-use Rattle.mm_vad.specs.declared.regions.Region.{Region}
-use Rattle.mm_vad.specs.Regions.{SpaceOf}
-use Rattle.mm_vad.proofs.Lookups.{row_there, rows_whole}
-use Rattle.mm_world.specs.Find.{region_with}
-use Rattle.mm_spaces.specs.Shown.{shown_row, shown_regions}
-use Rattle.mm_spaces.specs.RowChanges.{changed_row}
-use Rattle.mm_spaces.proofs.Shows.{there, here}
-use Rattle.mm_spaces.proofs.EqualRows.{run_changed, in_region}
+use Rattle.mm_vad.specs.{Region, SpaceOf}
+use Rattle.mm_vad.proofs.{row_there, rows_whole}
+use Rattle.mm_world.specs.{region_with}
+use Rattle.mm_spaces.specs.{shown_row, shown_regions, changed_row}
+use Rattle.mm_spaces.proofs.{there, here, run_changed, in_region}
 use Rattle.mm_spaces.proofs.rows.change_some.Goals as goal
 
 pub unreachable-requires : goal.unreachable-requires

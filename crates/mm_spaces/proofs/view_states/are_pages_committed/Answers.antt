@@ -1,7 +1,7 @@
 use Rattle.std.proofs.Common.{◌≡◌, ◌+◌, suc, sym, ap, ◌∙◌, arith}
-use Rattle.mm_world.specs.Rows.{every_page_from}
-use Rattle.mm_spaces.specs.ViewStates.{is_area_page}
-use Rattle.mm_spaces.proofs.Viewed.{every_more, every_fails}
+use Rattle.mm_world.specs.{every_page_from}
+use Rattle.mm_spaces.specs.{is_area_page}
+use Rattle.mm_spaces.proofs.{every_more, every_fails}
 use Rattle.mm_spaces.proofs.view_states.are_pages_committed.Goals as goal
 
 pub returns-then-not-is_page_committed : goal.returns-then-not-is_page_committed

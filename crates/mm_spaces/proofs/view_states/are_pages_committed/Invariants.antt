@@ -1,6 +1,6 @@
 use Rattle.std.proofs.Common.{◌≡◌, true}
-use Rattle.mm_world.specs.Rows.{every_page_from}
-use Rattle.mm_spaces.specs.ViewStates.{is_area_page}
+use Rattle.mm_world.specs.{every_page_from}
+use Rattle.mm_spaces.specs.{is_area_page}
 use Rattle.mm_spaces.proofs.view_states.are_pages_committed.Given as goal
 
 abbrev pub invariant-loop-i : goal.invariant-loop-i

@@ -2,9 +2,9 @@ use Rattle.std.proofs.Common.{◌≡◌, ◌<◌, length, drop, get_or, sym, ap,
 use Rattle.std.specs.List.{prefix_len}
 use Rattle.std.proofs.lemmas.List.Sums.{prefix_len-drop_yes, prefix_len-drop_no, prefix_len-drop_all}
 use Rattle.std.proofs.lemmas.Option.{get_or_from_slice_get}
-use Rattle.mm_world.specs.Query.{same_state}
-use Rattle.mm_spaces.specs.ViewStates.{states_in, state_told}
-use Rattle.mm_spaces.proofs.Viewed.{seen, run_at, length_in}
+use Rattle.mm_world.specs.{same_state}
+use Rattle.mm_spaces.specs.{states_in, state_told}
+use Rattle.mm_spaces.proofs.{seen, run_at, length_in}
 use Rattle.mm_spaces.proofs.view_states.run_in_view.Goals as goal
 use Rattle.mm_spaces.proofs.view_states.run_in_view.Goals.{then-loop-end-test+else-is_like, else-loop-end-test}
 

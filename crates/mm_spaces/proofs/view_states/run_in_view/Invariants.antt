@@ -1,7 +1,7 @@
 use Rattle.std.proofs.Common.{◌≡◌, ◌+◌, ◌-◌, ◌<◌, ◌≤◌, length, drop}
 use Rattle.std.specs.List.{prefix_len}
-use Rattle.mm_world.specs.Query.{same_state}
-use Rattle.mm_spaces.specs.ViewStates.{states_in, state_told}
+use Rattle.mm_world.specs.{same_state}
+use Rattle.mm_spaces.specs.{states_in, state_told}
 use Rattle.mm_spaces.proofs.view_states.run_in_view.Given as goal
 
 abbrev pub invariant-loop-end : goal.invariant-loop-end

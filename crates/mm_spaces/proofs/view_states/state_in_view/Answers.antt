@@ -1,5 +1,5 @@
 use Rattle.mm_types.specs.declared.views.Kind.TheVariants as kind
-use Rattle.mm_spaces.proofs.Viewed.{view_low, state_read}
+use Rattle.mm_spaces.proofs.{view_low, state_read}
 use Rattle.mm_spaces.proofs.view_states.state_in_view.Goals as goal
 
 pub told_of_row-requires : goal.told_of_row-requires

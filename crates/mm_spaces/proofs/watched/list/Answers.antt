@@ -1,8 +1,8 @@
 use Rattle.std.proofs.Common.{◌+◌, ◌-◌, ◌*◌, ◌++◌, ◌∙◌, ℕ, List, length, take, ap, arith}
 use Rattle.std.specs.Prelude.{map}
 use Rattle.std.proofs.lemmas.List.{length_push}
-use Rattle.mm_types.specs.Address.{address_of}
-use Rattle.mm_spaces.proofs.WrittenPages.{written_between, next_between, none_between, told_more, told_all, told_enough, in_places}
+use Rattle.mm_types.specs.{address_of}
+use Rattle.mm_spaces.proofs.{written_between, next_between, none_between, told_more, told_all, told_enough, in_places}
 use Rattle.mm_spaces.proofs.watched.list.Goals as goal
 
 pub loop-told-preserved : goal.loop-told-preserved

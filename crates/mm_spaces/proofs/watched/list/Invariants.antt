@@ -1,7 +1,7 @@
 use Rattle.std.proofs.Common.{◌≡◌, ◌-◌, ◌≤◌, ◌++◌, length, take}
 use Rattle.std.specs.Prelude.{map}
-use Rattle.mm_types.specs.Address.{address_of}
-use Rattle.mm_spaces.proofs.WrittenPages.{written_between}
+use Rattle.mm_types.specs.{address_of}
+use Rattle.mm_spaces.proofs.{written_between}
 use Rattle.mm_spaces.proofs.watched.list.Given as goal
 
 abbrev pub invariant-loop-told : goal.invariant-loop-told

@@ -1,11 +1,10 @@
 use Rattle.std.proofs.Common.{sym, ap, ◌∙◌, subst, map, true, false}
 use Rattle.mm_types.specs.declared.moves.Move.TheVariants as move
-use Rattle.mm_life.specs.Legal.{IsLegal}
-use Rattle.mm_flight.specs.Requests.{ended}
-use Rattle.mm_parts.specs.Shown.{PartsOf}
+use Rattle.mm_life.specs.{IsLegal}
+use Rattle.mm_flight.specs.{ended}
+use Rattle.mm_parts.specs.{PartsOf, parts_after, own_ended}
 use Rattle.mm_parts.specs.PartsShown as parts_of
-use Rattle.mm_parts.specs.Moves.{parts_after, own_ended}
-use Rattle.mm_state.proofs.Ends.{is_reading, read_legal}
+use Rattle.mm_state.proofs.{is_reading, read_legal}
 use Rattle.mm_state.proofs.on_parts.read_from.Goals as goal
 
 pub fill_from-requires-clause-reading : goal.fill_from-requires-clause-reading

@@ -1,11 +1,10 @@
 use Rattle.std.proofs.Common.{refl}
-use Rattle.mm_life.specs.Frames.{record_at}
-use Rattle.mm_ram.specs.Ram.{bytes_of, overwritten, with_page}
+use Rattle.mm_life.specs.{record_at}
+use Rattle.mm_ram.specs.{bytes_of, overwritten, with_page}
 use Rattle.mm_parts.specs.PartsShown as parts_of
-use Rattle.mm_frame_laws.proofs.Carrying.{carries_written}
-use Rattle.mm_state.proofs.Making.{carried}
-use Rattle.mm_state.proofs.PageBytes.{pick, soiled_calm}
-use Rattle.mm_state_tests.proofs.Changed.{rest_bytes, same_live}
+use Rattle.mm_frame_laws.proofs.{carries_written}
+use Rattle.mm_state.proofs.{carried, pick, soiled_calm}
+use Rattle.mm_state_tests.proofs.{rest_bytes, same_live}
 use Rattle.mm_state_tests.proofs.behind.write_frame.Goals as goal
 
 pub write_in_parts-requires-clause-calm : goal.write_in_parts-requires-clause-calm

@@ -1,9 +1,8 @@
 use Rattle.std.proofs.Common.{ap}
-use Rattle.mm_ram.specs.Ram.{bytes_of, overwritten, with_page}
-use Rattle.mm_frames.specs.Base.{FramesOf}
-use Rattle.mm_parts.specs.PartsShown.{joined_parts}
-use Rattle.mm_parts.proofs.Keeping.{step_to}
-use Rattle.mm_parts.proofs.WordSteps.{bytes_step}
+use Rattle.mm_ram.specs.{bytes_of, overwritten, with_page}
+use Rattle.mm_frames.specs.{FramesOf}
+use Rattle.mm_parts.specs.{joined_parts}
+use Rattle.mm_parts.proofs.{step_to, bytes_step}
 use Rattle.mm_state_tests.proofs.behind.write_in_parts.Goals as goal
 
 pub invariant_of-parts : goal.invariant_of-parts

@@ -2,9 +2,8 @@ use Rattle.std.proofs.Common.{replicate, refl, sym, ◌∙◌}
 use Rattle.std.specs.Prelude.{slice_set}
 use Rattle.std.proofs.lemmas.List.{length-replicate}
 use Rattle.mm_parts.specs.PartsShown as parts_of
-use Rattle.mm_state.proofs.Blocks.{block_written}
-use Rattle.mm_state.proofs.Whole.{block_whole}
-use Rattle.mm_state_tests.proofs.Changed.{slot_behind, named_stays}
+use Rattle.mm_state.proofs.{block_written, block_whole}
+use Rattle.mm_state_tests.proofs.{slot_behind, named_stays}
 use Rattle.mm_state_tests.proofs.behind.write_slot.Goals as goal
 
 pub invariant_of-state : goal.invariant_of-state

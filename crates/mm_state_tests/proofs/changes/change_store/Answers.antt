@@ -1,6 +1,6 @@
-use Rattle.mm_paged.specs.Store.{own_in}
-use Rattle.mm_state.specs.StateShown.{shown_state}
-use Rattle.mm_state_tests.proofs.Fitting.{still_kept, still_fits, same_line}
+use Rattle.mm_paged.specs.{own_in}
+use Rattle.mm_state.specs.{shown_state}
+use Rattle.mm_state_tests.proofs.{still_kept, still_fits, same_line}
 use Rattle.mm_state_tests.proofs.changes.change_store.Goals as goal
 
 pub invariant_of-store : goal.invariant_of-store

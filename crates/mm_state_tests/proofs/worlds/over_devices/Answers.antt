@@ -1,7 +1,7 @@
 use Rattle.std.proofs.Common.{ap, ◌∙◌}
-use Rattle.mm_blocks.specs.declared.mem_blocks.MemBlocks.{MemBlocks}
-use Rattle.mm_moving.specs.Shown.{StateOf}
-use Rattle.mm_state_tests.proofs.Starting.{is_new}
+use Rattle.mm_blocks.specs.{MemBlocks}
+use Rattle.mm_moving.specs.{StateOf}
+use Rattle.mm_state_tests.proofs.{is_new}
 use Rattle.mm_state_tests.proofs.worlds.over_devices.Goals as goal
 
 pub over-store-requires-clause-unused : goal.over-store-requires-clause-unused

@@ -1,5 +1,5 @@
 use Rattle.std.proofs.Common.{◌≡◌, true, false, sym, ap, ◌∙◌, is_some, option_map}
-use Rattle.mm_tables.specs.Shown.{shown_process}
+use Rattle.mm_tables.specs.{shown_process}
 use Rattle.mm_tables.proofs.closings.close_in.Goals as goal
 
 pub close-requires : goal.close-requires

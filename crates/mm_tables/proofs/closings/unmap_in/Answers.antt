@@ -1,5 +1,5 @@
 use Rattle.std.proofs.Common.{inr, ap, option_map}
-use Rattle.mm_tables.specs.Shown.{shown_process}
+use Rattle.mm_tables.specs.{shown_process}
 use Rattle.mm_tables.proofs.closings.unmap_in.Goals as goal
 
 pub marked-marked-requires : goal.marked-marked-requires

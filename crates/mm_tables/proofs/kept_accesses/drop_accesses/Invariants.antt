@@ -1,5 +1,5 @@
 use Rattle.std.proofs.Common.{◌≡◌, ◌++◌, map, take, drop}
-use Rattle.mm_tables.specs.Shown.{unless_of}
+use Rattle.mm_tables.specs.{unless_of}
 use Rattle.mm_tables.proofs.kept_accesses.drop_accesses.Given as goal
 
 abbrev pub invariant-loop-tid : goal.invariant-loop-tid

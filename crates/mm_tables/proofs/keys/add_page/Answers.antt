@@ -1,8 +1,6 @@
 use Rattle.std.proofs.Common.{◌∙◌, ap, sym, arith}
-use Rattle.mm_tables.specs.Ranges.{one_page_range}
-use Rattle.mm_tables.proofs.Added.{adds_one, adds_none}
-use Rattle.mm_tables.proofs.PageByPage.{own, none_of}
-use Rattle.mm_tables.proofs.Regions.{holds}
+use Rattle.mm_tables.specs.{one_page_range}
+use Rattle.mm_tables.proofs.{adds_one, adds_none, own, none_of, holds}
 use Rattle.mm_tables.proofs.keys.add_page.Goals as goal
 
 pub add-requires-clause-dead : goal.add-requires-clause-dead

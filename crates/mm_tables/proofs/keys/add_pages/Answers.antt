@@ -1,12 +1,9 @@
-use Rattle.mm_pages.specs.Housekeeping.{MakesFrom}
-use Rattle.mm_pages.proofs.Passed.{makes_then, makes_wider, turns_same}
+use Rattle.mm_pages.specs.{MakesFrom}
+use Rattle.mm_pages.proofs.{makes_then, makes_wider, turns_same}
 use Rattle.std.proofs.Common.{◌≡◌, ℕ, ◌+◌, ◌<◌, ◌∙◌, refl, sym, ap, subst, arith}
-use Rattle.mm_types.specs.Address.{Range}
-use Rattle.mm_tables.specs.Ranges.{CanAdd, Adds, first_pages, one_page_range}
-use Rattle.mm_tables.specs.Known.{KnownAt}
-use Rattle.mm_tables.proofs.Known.{known_at}
-use Rattle.mm_tables.proofs.Added.{adds_nothing}
-use Rattle.mm_tables.proofs.PageByPage.{can_add_next, adds_then}
+use Rattle.mm_types.specs.{Range}
+use Rattle.mm_tables.specs.{CanAdd, Adds, first_pages, one_page_range, KnownAt}
+use Rattle.mm_tables.proofs.{known_at, adds_nothing, can_add_next, adds_then}
 use Rattle.mm_tables.proofs.keys.add_pages.Goals as goal
 
 pub loop-i-init : goal.loop-i-init

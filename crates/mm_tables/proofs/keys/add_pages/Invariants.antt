@@ -1,7 +1,6 @@
-use Rattle.mm_pages.specs.Housekeeping.{Turns, MakesFrom}
-use Rattle.mm_pages.specs.Passing.{PassesIn}
+use Rattle.mm_pages.specs.{Turns, MakesFrom, PassesIn}
 use Rattle.std.proofs.Common.{◌≡◌, ◌+◌}
-use Rattle.mm_tables.specs.Ranges.{Adds, first_pages}
+use Rattle.mm_tables.specs.{Adds, first_pages}
 use Rattle.mm_tables.proofs.keys.add_pages.Given as goal
 
 abbrev pub invariant-loop-i : goal.invariant-loop-i

@@ -1,8 +1,9 @@
 use Rattle.std.proofs.Common.{◌≡◌, ◌-◌, ◌/◌, ap, arith}
-use Rattle.mm_types.specs.Address.{Range}
-use Rattle.mm_tables.specs.Endings.{is_owned_at}
+use Rattle.mm_types.specs.{Range}
+use Rattle.mm_tables.specs.{is_owned_at}
 use Rattle.mm_tables.proofs.Known.{all_owned}
-use Rattle.mm_tables.proofs.EndingRuns.{owned_is, halves, low_in, high_in, apart, around_part, counted, can_part, can_after, given_halves, halves_pass}
+use Rattle.mm_tables.proofs.{owned_is, low_in, high_in, apart, around_part, can_part, can_after, given_halves, halves_pass}
+use Rattle.mm_tables.proofs.EndingRuns.{halves, counted}
 use Rattle.mm_tables.proofs.removals.+release_some.Goals as goal
 
 pub release_empty-requires-clause-none : goal.release_empty-requires-clause-none
@@ -59,7 +60,7 @@ release_some-requires-else-range-le-FEW_PAGES g t c κs within =
 pub returns-else-range-le-FEW_PAGES-clause-given_up : goal.returns-else-range-le-FEW_PAGES-clause-given_up
 returns-else-range-le-FEW_PAGES-clause-given_up g t c =
     let h = halves c.args.range c.low_half-low.result c.high_half-high.result c.low_half-low.ensures c.high_half-high.ensures in
-    given_halves h c.args.space.now.regions c.release_some.ensures.given_up c.release_some-else-range-le-FEW_PAGES.ensures.given_up
+    given_halves h c.args.goes c.args.space.now.regions c.release_some.ensures.given_up c.release_some-else-range-le-FEW_PAGES.ensures.given_up
 
 pub returns-else-range-le-FEW_PAGES-clause-passes : goal.returns-else-range-le-FEW_PAGES-clause-passes
 returns-else-range-le-FEW_PAGES-clause-passes g t c held from to among =

@@ -1,7 +1,7 @@
-use Rattle.mm_tables.proofs.EndingPages.{shared_dead, emptied}
+use Rattle.mm_tables.proofs.{shared_dead, emptied}
 use Rattle.mm_pages.specs.Housekeeping.{Ends}
 use Rattle.std.proofs.Common.{arith}
-use Rattle.mm_pages.proofs.Passed.{ends_then}
+use Rattle.mm_pages.proofs.{ends_then}
 use Rattle.mm_tables.proofs.removals.empty_area.Goals as goal
 
 pub close_area-requires-clause-dead : goal.close_area-requires-clause-dead

@@ -1,8 +1,7 @@
 use Rattle.std.proofs.Common.{◌≡◌, ◌-◌, arith, ap, sym, ◌∙◌, is_some}
-use Rattle.mm_commit.specs.Charge.{CommitOf}
-use Rattle.mm_world.specs.World.{AreaOf}
-use Rattle.mm_world.specs.Charge.{area_charge}
-use Rattle.mm_tables.proofs.EndingSettles.{no_charge}
+use Rattle.mm_commit.specs.{CommitOf}
+use Rattle.mm_world.specs.{AreaOf, area_charge}
+use Rattle.mm_tables.proofs.{no_charge}
 use Rattle.mm_tables.proofs.removals.end_area.Goals as goal
 
 pub returns-else-is_none-clause-refunded : goal.returns-else-is_none-clause-refunded

@@ -1,8 +1,8 @@
 use Rattle.std.proofs.Common.{◌<◌, ◌+◌, Bool, ◌∙◌, sym, subst, arith, cond, length, ◌&&◌}
-use Rattle.mm_world.specs.Failure.{same_key}
-use Rattle.mm_tables.specs.Endings.{CanGo, Gone, shared_at, is_committed_in}
-use Rattle.mm_tables.proofs.EndingPages.{can_go_next, gone_then, lower_gone}
-use Rattle.mm_pages.proofs.Passed.{ends_meet}
+use Rattle.mm_world.specs.{same_key}
+use Rattle.mm_tables.specs.{CanGo, Gone, shared_at, is_committed_in}
+use Rattle.mm_tables.proofs.{can_go_next, gone_then, lower_gone}
+use Rattle.mm_pages.proofs.{ends_meet}
 use Rattle.mm_tables.proofs.removals.remove_shared.Goals as goal
 
 pub remove_if-requires : goal.remove_if-requires

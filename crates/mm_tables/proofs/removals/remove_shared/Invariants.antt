@@ -1,8 +1,8 @@
 use Rattle.std.proofs.Common.{◌≡◌, ◌≤◌, ◌<◌, ℕ}
-use Rattle.mm_pages.specs.Housekeeping.{Turns, Ends}
+use Rattle.mm_pages.specs.{Turns, PassesIn}
+use Rattle.mm_pages.specs.Housekeeping.{Ends}
 use Rattle.mm_pages.specs.Leaving.{Leaving}
-use Rattle.mm_pages.specs.Passing.{PassesIn}
-use Rattle.mm_tables.specs.Endings.{Gone, is_owned_among, owned_among, shared_at, is_committed_in}
+use Rattle.mm_tables.specs.{Gone, is_owned_among, owned_among, shared_at, is_committed_in}
 use Rattle.mm_tables.proofs.removals.remove_shared.Given as goal
 
 abbrev pub invariant-loop-i : goal.invariant-loop-i

@@ -1,6 +1,6 @@
 use Rattle.std.proofs.Common.{◌∙◌, ◌+◌, ◌^◌, arith}
-use Rattle.mm_pages.proofs.Passed.{makes_then, makes_wider}
-use Rattle.mm_tables.proofs.FileKept.{fills_then, next_dead, next_room, next_kind, next_area}
+use Rattle.mm_pages.proofs.{makes_then, makes_wider}
+use Rattle.mm_tables.proofs.{fills_then, next_dead, next_room, next_kind, next_area}
 use Rattle.mm_tables.proofs.sections.fill_area.Goals as goal
 
 pub add-requires-clause-dead : goal.add-requires-clause-dead

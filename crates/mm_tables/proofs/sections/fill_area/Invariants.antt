@@ -1,7 +1,6 @@
 use Rattle.std.proofs.Common.{◌≡◌}
-use Rattle.mm_pages.specs.Housekeeping.{Turns, MakesFrom}
-use Rattle.mm_pages.specs.Passing.{PassesIn}
-use Rattle.mm_tables.specs.SectionSteps.{Fills}
+use Rattle.mm_pages.specs.{Turns, MakesFrom, PassesIn}
+use Rattle.mm_tables.specs.{Fills}
 use Rattle.mm_tables.proofs.sections.fill_area.Given as goal
 
 abbrev pub invariant-loop-i : goal.invariant-loop-i

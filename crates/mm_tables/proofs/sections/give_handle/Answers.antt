@@ -1,5 +1,5 @@
 use Rattle.std.proofs.Common.{ap, option_map}
-use Rattle.mm_tables.specs.Shown.{shown_process}
+use Rattle.mm_tables.specs.{shown_process}
 use Rattle.mm_tables.proofs.sections.give_handle.Goals as goal
 
 pub add-requires-clause-few : goal.add-requires-clause-few

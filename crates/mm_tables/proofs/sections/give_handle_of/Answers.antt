@@ -1,6 +1,6 @@
 use Rattle.std.proofs.Common.{◌∙◌, sym, ap, set}
-use Rattle.mm_tables.proofs.ViewWorlds.{living_at, put_at}
-use Rattle.mm_tables.specs.Shown.{shown_processes}
+use Rattle.mm_tables.proofs.{living_at, put_at}
+use Rattle.mm_tables.specs.{shown_processes}
 use Rattle.mm_tables.proofs.sections.give_handle_of.Goals as goal
 
 pub give_handle-requires-clause-few : goal.give_handle-requires-clause-few

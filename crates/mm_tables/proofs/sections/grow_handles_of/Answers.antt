@@ -1,7 +1,7 @@
 use Rattle.std.proofs.Common.{◌∙◌, sym, ap, is_some}
-use Rattle.mm_tables.proofs.ViewWorlds.{living_at, still_at}
-use Rattle.mm_tables.specs.Shown.{shown_process}
-use Rattle.mm_types.proofs.Options.{some_map}
+use Rattle.mm_tables.proofs.{living_at, still_at}
+use Rattle.mm_tables.specs.{shown_process}
+use Rattle.mm_types.proofs.{some_map}
 use Rattle.mm_tables.proofs.sections.grow_handles_of.Goals as goal
 
 pub grow_handles-requires : goal.grow_handles-requires

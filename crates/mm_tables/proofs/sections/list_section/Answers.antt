@@ -1,6 +1,6 @@
 use Rattle.std.proofs.Common.{◌∙◌, ap}
-use Rattle.mm_sections.specs.Directories.{DirectoryOf, new_entry}
-use Rattle.mm_tables.proofs.SectionFits.{handled_last}
+use Rattle.mm_sections.specs.{DirectoryOf, new_entry}
+use Rattle.mm_tables.proofs.{handled_last}
 use Rattle.mm_tables.proofs.sections.list_section.Goals as goal
 
 pub returns-clause-entries : goal.returns-clause-entries

@@ -1,10 +1,9 @@
 use Rattle.std.proofs.Common.{◌∙◌}
-use Rattle.mm_pages.specs.Housekeeping.{Turn, Turns, Makes}
-use Rattle.mm_pages.specs.Passing.{PassesIn}
+use Rattle.mm_pages.specs.{Turn, Turns, Makes, PassesIn}
 use Rattle.mm_tables.proofs.FileKept.{can_fill}
-use Rattle.mm_pages.proofs.Passed.{idle_before}
-use Rattle.mm_tables.proofs.Turning.{idle_then}
-use Rattle.mm_types.proofs.Options.{on_err}
+use Rattle.mm_pages.proofs.{idle_before}
+use Rattle.mm_tables.proofs.{idle_then}
+use Rattle.mm_types.proofs.{on_err}
 use Rattle.mm_tables.proofs.sections.open_paging_area.Goals as goal
 
 pub returns-in_err-reserve-clause-makes : goal.returns-in_err-reserve-clause-makes

@@ -1,11 +1,9 @@
 use Rattle.std.proofs.Common.{◌≡◌, ◌∙◌, ◌+◌, sym, ap, arith, cond, not}
-use Rattle.mm_types.specs.Address.{Range}
-use Rattle.mm_pages.specs.Store.{StoreOf}
-use Rattle.mm_tables.specs.Fits.{new_pages}
-use Rattle.mm_tables.specs.Ranges.{is_page_dead}
-use Rattle.mm_tables.proofs.PageByPage.{passing_all}
-use Rattle.mm_tables.proofs.Regions.{holds}
-use Rattle.mm_types.proofs.Tables.{differ}
+use Rattle.mm_types.specs.{Range}
+use Rattle.mm_pages.specs.{StoreOf}
+use Rattle.mm_tables.specs.{new_pages, is_page_dead}
+use Rattle.mm_tables.proofs.{passing_all, holds}
+use Rattle.mm_types.proofs.{differ}
 use Rattle.mm_tables.proofs.steps.fill_region.Goals as goal
 
 pub add_pages-requires-clause-known : goal.add_pages-requires-clause-known

@@ -1,11 +1,10 @@
 use Rattle.std.proofs.Common.{◌≡◌, refl, true, None, ◌∙◌, ap, subst, arith}
 use Rattle.std.proofs.lemmas.Result.{on_ok_weaker}
-use Rattle.mm_types.specs.Address.{Range}
-use Rattle.mm_types.proofs.Options.{on_err}
-use Rattle.mm_pages.specs.Store.{StoreOf, changed_in}
-use Rattle.mm_pages.proofs.Passed.{turns_same}
-use Rattle.mm_tables.proofs.Filled.{new_places, more_room, err_then}
-use Rattle.mm_tables.proofs.Turning.{idle_then}
+use Rattle.mm_types.specs.{Range}
+use Rattle.mm_types.proofs.{on_err}
+use Rattle.mm_pages.specs.{StoreOf, changed_in}
+use Rattle.mm_pages.proofs.{turns_same}
+use Rattle.mm_tables.proofs.{new_places, more_room, err_then, idle_then}
 use Rattle.mm_tables.proofs.steps.grow_for_region.Goals as goal
 
 pub returns-in_err-reserve-clause-err : goal.returns-in_err-reserve-clause-err

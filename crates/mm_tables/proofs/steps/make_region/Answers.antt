@@ -1,11 +1,10 @@
 use Rattle.std.proofs.Common.{◌+◌, ◌∙◌, refl, sym, ap, arith}
-use Rattle.mm_pages.specs.Housekeeping.{MakesFrom}
-use Rattle.mm_pages.proofs.Passed.{idle_before, turns_same}
-use Rattle.mm_pages.specs.Store.{StoreOf}
-use Rattle.mm_types.proofs.Options.{on_err}
-use Rattle.mm_tables.specs.Fits.{new_pages}
-use Rattle.mm_tables.specs.Spaces.{process_regions}
-use Rattle.mm_tables.proofs.Filled.{can_fill, places_stored, filled}
+use Rattle.mm_pages.specs.{MakesFrom, StoreOf}
+use Rattle.mm_pages.proofs.{idle_before, turns_same}
+use Rattle.mm_types.proofs.{on_err}
+use Rattle.mm_tables.specs.{new_pages, process_regions}
+use Rattle.mm_tables.proofs.{places_stored, filled}
+use Rattle.mm_tables.proofs.Filled.{can_fill}
 use Rattle.mm_tables.proofs.steps.make_region.Goals as goal
 
 pub returns-in_err-region-clause-makes : goal.returns-in_err-region-clause-makes

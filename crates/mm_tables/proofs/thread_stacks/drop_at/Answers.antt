@@ -1,7 +1,7 @@
 use Rattle.std.proofs.Common.{arith}
-use Rattle.mm_world.specs.Free.{is_stack_at}
-use Rattle.mm_world.specs.Find.{unless}
-use Rattle.mm_tables.proofs.StackTables.{one_more, all_changed}
+use Rattle.mm_world.specs.{is_stack_at, unless}
+use Rattle.mm_tables.proofs.{one_more}
+use Rattle.mm_tables.proofs.StackTables.{all_changed}
 use Rattle.mm_tables.proofs.thread_stacks.drop_at.Goals as goal
 
 pub loop-tid-preserved : goal.loop-tid-preserved

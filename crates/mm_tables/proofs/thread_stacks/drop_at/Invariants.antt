@@ -1,6 +1,5 @@
 use Rattle.std.specs.Prelude.{◌≡◌, ◌++◌, map, take, drop}
-use Rattle.mm_world.specs.Free.{is_stack_at}
-use Rattle.mm_world.specs.Find.{unless}
+use Rattle.mm_world.specs.{is_stack_at, unless}
 use Rattle.mm_tables.proofs.thread_stacks.drop_at.Given as goal
 
 abbrev pub invariant-loop-tid : goal.invariant-loop-tid

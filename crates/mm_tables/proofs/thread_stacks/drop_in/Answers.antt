@@ -1,8 +1,8 @@
 use Rattle.std.proofs.Common.{arith}
 use Rattle.std.specs.Prelude.{◌==◌}
-use Rattle.mm_world.specs.World.{StackOf}
-use Rattle.mm_world.specs.Find.{unless}
-use Rattle.mm_tables.proofs.StackTables.{one_more, all_changed}
+use Rattle.mm_world.specs.{StackOf, unless}
+use Rattle.mm_tables.proofs.{one_more}
+use Rattle.mm_tables.proofs.StackTables.{all_changed}
 use Rattle.mm_tables.proofs.thread_stacks.drop_in.Goals as goal
 
 pub loop-tid-preserved : goal.loop-tid-preserved

@@ -1,6 +1,5 @@
 use Rattle.std.specs.Prelude.{◌≡◌, ◌++◌, map, take, drop, ◌==◌}
-use Rattle.mm_world.specs.World.{StackOf}
-use Rattle.mm_world.specs.Find.{unless}
+use Rattle.mm_world.specs.{StackOf, unless}
 use Rattle.mm_tables.proofs.thread_stacks.drop_in.Given as goal
 
 abbrev pub invariant-loop-tid : goal.invariant-loop-tid

@@ -1,8 +1,8 @@
 use Rattle.std.proofs.Common.{◌∙◌, ap, refl, arith}
-use Rattle.mm_types.proofs.Options.{on_err}
-use Rattle.mm_pages.proofs.Passed.{turns_same}
-use Rattle.mm_world.specs.Find.{add_region}
-use Rattle.mm_tables.specs.ViewChanges.{section_of_view}
+use Rattle.mm_types.proofs.{on_err}
+use Rattle.mm_pages.proofs.{turns_same}
+use Rattle.mm_world.specs.{add_region}
+use Rattle.mm_tables.specs.{section_of_view}
 use Rattle.mm_tables.proofs.views.make_view.Goals as goal
 
 pub returns-in_err-region-clause-idles : goal.returns-in_err-region-clause-idles

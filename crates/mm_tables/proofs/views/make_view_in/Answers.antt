@@ -1,10 +1,8 @@
 use Rattle.std.proofs.Common.{◌∙◌, Option, Some, sym, ap, option_map, refl}
 use Rattle.std.proofs.lemmas.Result.{on_ok_weaker, on_err_weaker}
-use Rattle.mm_world.specs.World.{ProcessOf}
-use Rattle.mm_world.specs.Find.{add_region}
-use Rattle.mm_tables.specs.Shown.{shown_process}
-use Rattle.mm_tables.specs.ViewChanges.{region_of_view}
-use Rattle.mm_tables.proofs.ViewWorlds.{lives_at, not_none, still_at, changed_in}
+use Rattle.mm_world.specs.{ProcessOf, add_region}
+use Rattle.mm_tables.specs.{shown_process, region_of_view}
+use Rattle.mm_tables.proofs.{lives_at, not_none, still_at, changed_in}
 use Rattle.mm_tables.proofs.views.make_view_in.Goals as goal
 
 pub make_view-requires-clause-new : goal.make_view-requires-clause-new

@@ -1,5 +1,5 @@
 use Rattle.std.proofs.Common.{◌∙◌, sym}
-use Rattle.mm_tables.proofs.ViewShares.{shares_new, shares_old}
+use Rattle.mm_tables.proofs.{shares_new, shares_old}
 use Rattle.mm_tables.proofs.views.share_page.Goals as goal
 
 pub returns-then-not-is_committed-clause-shares : goal.returns-then-not-is_committed-clause-shares

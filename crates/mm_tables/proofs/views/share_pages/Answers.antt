@@ -3,11 +3,8 @@ use Rattle.std.specs.Prelude.{unwrap_or}
 use Rattle.std.proofs.lemmas.Bool.{cases_lt}
 use Rattle.std.proofs.lemmas.Option.{slice_get_past, slice_get_read}
 use Rattle.std.proofs.Math.ListN.{set}
-use Rattle.mm_world.specs.World.{AreaOf}
-use Rattle.mm_world.specs.Contents.{blank}
-use Rattle.mm_world.specs.Alloc.{commit_shared}
-use Rattle.mm_world.specs.Find.{no_area}
-use Rattle.mm_tables.specs.ViewChanges.{CanShare, Shares, listed_area}
+use Rattle.mm_world.specs.{AreaOf, blank, commit_shared, no_area}
+use Rattle.mm_tables.specs.{CanShare, Shares, listed_area}
 use Rattle.mm_tables.proofs.views.share_pages.Given as given
 use Rattle.mm_tables.proofs.views.share_pages.Goals as goal
 use Rattle.mm_tables.proofs.views.share_pages.Goals.{After-index_mut}

@@ -1,6 +1,6 @@
 use Rattle.std.proofs.Common.{◌∙◌, ◌+◌, ◌^◌, arith}
-use Rattle.mm_pages.proofs.Passed.{makes_then, makes_wider}
-use Rattle.mm_tables.proofs.ViewShares.{can_next, shares_then}
+use Rattle.mm_pages.proofs.{makes_then, makes_wider}
+use Rattle.mm_tables.proofs.{can_next, shares_then}
 use Rattle.mm_tables.proofs.views.share_range.Goals as goal
 
 pub share_page-requires-clause-can : goal.share_page-requires-clause-can

@@ -1,11 +1,9 @@
 use Rattle.std.proofs.Common.{◌∙◌, ap}
-use Rattle.mm_world.specs.World.{ProcessOf}
-use Rattle.mm_world.specs.Find.{region_around}
-use Rattle.mm_tables.specs.Shown.{shown_process}
-use Rattle.mm_tables.specs.ViewChanges.{living}
-use Rattle.mm_tables.proofs.ViewAdded.{process_is}
-use Rattle.mm_tables.proofs.ViewWorlds.{lives_at, not_none}
+use Rattle.mm_world.specs.{ProcessOf, region_around}
+use Rattle.mm_tables.specs.{shown_process, living}
+use Rattle.mm_tables.proofs.{lives_at, not_none}
 use Rattle.mm_tables.proofs.views.view_around.Goals as goal
+use Rattle.mm_types.proofs.{same_found}
 
 pub view_of-requires-clause-inside : goal.view_of-requires-clause-inside
 view_of-requires-clause-inside c =
@@ -21,5 +19,5 @@ unreachable-requires c = not_none c.args.processes.now.items c.args.pid.0 c.inde
 pub returns : goal.returns
 returns c p r lives found =
     let here = lives_at c.args.processes.now.items c.args.pid.0 c.index.result.now c.in-Some.process c.requires.lives c.index.ensures c.in-Some.is in
-    let same = process_is (living c.args.processes.now.items c.args.pid.0) (shown_process c.in-Some.process) p here lives in
+    let same = same_found (living c.args.processes.now.items c.args.pid.0) (shown_process c.in-Some.process) p here lives in
     c.view_of.ensures r (ap (λ (p : ProcessOf (Unit {0})). region_around p.regions c.args.range) same ∙ found)

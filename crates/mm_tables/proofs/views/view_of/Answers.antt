@@ -1,6 +1,6 @@
 use Rattle.std.proofs.Common.{◌≡◌, ◌∙◌, sym, ap, true, false}
-use Rattle.mm_world.specs.Find.{is_private}
-use Rattle.mm_tables.proofs.ViewAdded.{info_inside, info_of_view}
+use Rattle.mm_world.specs.{is_private}
+use Rattle.mm_tables.proofs.{info_inside, info_of_view}
 use Rattle.mm_tables.proofs.views.view_of.Goals as goal
 
 pub pages_before-requires : goal.pages_before-requires

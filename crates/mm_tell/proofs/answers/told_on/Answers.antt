@@ -1,10 +1,9 @@
 use Rattle.std.proofs.Common.{◌≡◌, ◌∙◌, ℕ, false, sym, subst, inl}
-use Rattle.mm_types.specs.Spelling.{Text}
-use Rattle.mm_io.specs.Io.{Wrote}
+use Rattle.mm_types.specs.{Text}
+use Rattle.mm_io.specs.{Wrote}
 use Rattle.mm_replay.specs.Standing.{life}
-use Rattle.mm_tell.specs.Telling.{is_broken}
-use Rattle.mm_tell.specs.Answering.{said_by, Answers}
-use Rattle.mm_tell.proofs.Tellings.{has_told}
+use Rattle.mm_tell.specs.{is_broken, said_by, Answers}
+use Rattle.mm_tell.proofs.{has_told}
 use Rattle.mm_tell.proofs.answers.told_on.Goals as goal
 
 pub returns-in-Ok-write_flushed-clause-answers : goal.returns-in-Ok-write_flushed-clause-answers

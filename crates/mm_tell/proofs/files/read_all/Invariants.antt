@@ -1,5 +1,5 @@
 use Rattle.std.proofs.Common.{◌≤◌}
-use Rattle.mm_types.specs.Outside.{Took}
+use Rattle.mm_types.specs.{Took}
 use Rattle.mm_tell.proofs.files.read_all.Given as goal
 
 abbrev pub invariant-loop-n : goal.invariant-loop-n

@@ -1,5 +1,5 @@
 use Rattle.std.proofs.Common.{◌≡◌, ◌++◌, take, drop}
-use Rattle.mm_tell.specs.Fitting.{first_word}
+use Rattle.mm_tell.specs.{first_word}
 use Rattle.mm_tell.proofs.fitting.first_word.Given as goal
 
 abbrev pub invariant-loop-i : goal.invariant-loop-i

@@ -1,6 +1,6 @@
 use Rattle.std.proofs.Common.{◌≡◌, ◌≤◌, ◌++◌, map, drop}
 use Rattle.std.specs.Prelude.{slice_range}
-use Rattle.mm_tell.specs.Lines.{lines_from, lines_of}
+use Rattle.mm_tell.specs.{lines_from, lines_of}
 use Rattle.mm_tell.proofs.lines.divided.Given as goal
 
 abbrev pub invariant-loop-i : goal.invariant-loop-i

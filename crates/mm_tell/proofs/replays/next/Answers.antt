@@ -1,5 +1,5 @@
 use Rattle.mm_replay.specs.Standing.{life}
-use Rattle.mm_tell.proofs.Tellings.{tells_more, closes_stop, closes_misfit}
+use Rattle.mm_tell.proofs.{tells_more, closes_stop, closes_misfit}
 use Rattle.mm_tell.proofs.replays.next.Goals as goal
 
 pub returns-in-Err-clause-told : goal.returns-in-Err-clause-told

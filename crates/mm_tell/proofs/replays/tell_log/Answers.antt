@@ -1,6 +1,6 @@
 use Rattle.std.proofs.Common.{arith}
 use Rattle.mm_replay.specs.Standing.{life}
-use Rattle.mm_tell.proofs.Tellings.{tells_none, closes_full}
+use Rattle.mm_tell.proofs.{tells_none, closes_full}
 use Rattle.mm_tell.proofs.replays.tell_log.Goals as goal
 
 pub loop-n-init : goal.loop-n-init

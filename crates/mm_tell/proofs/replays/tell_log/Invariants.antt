@@ -1,7 +1,7 @@
 use Rattle.std.proofs.Common.{◌≡◌, ◌≤◌}
 use Rattle.mm_replay.specs.Standing.{life}
-use Rattle.mm_log.specs.Reading.{IsReady}
-use Rattle.mm_tell.specs.Telling.{Tells}
+use Rattle.mm_log.specs.{IsReady}
+use Rattle.mm_tell.specs.{Tells}
 use Rattle.mm_tell.proofs.replays.tell_log.Given as goal
 
 abbrev pub invariant-loop-n : goal.invariant-loop-n

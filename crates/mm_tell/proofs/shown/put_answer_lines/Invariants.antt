@@ -1,5 +1,5 @@
 use Rattle.std.proofs.Common.{◌≡◌, ◌++◌, map, drop}
-use Rattle.mm_tell.specs.Shown.{answer_lines}
+use Rattle.mm_tell.specs.{answer_lines}
 use Rattle.mm_tell.proofs.shown.put_answer_lines.Given as goal
 
 abbrev pub invariant-loop-answer : goal.invariant-loop-answer

@@ -1,5 +1,5 @@
 use Rattle.std.proofs.Common.{◌≡◌, ◌++◌, map, drop}
-use Rattle.mm_tell.specs.Shown.{shown_byte}
+use Rattle.mm_tell.specs.{shown_byte}
 use Rattle.mm_tell.proofs.shown.put_bytes.Given as goal
 
 abbrev pub invariant-loop-byte : goal.invariant-loop-byte

@@ -1,5 +1,5 @@
 use Rattle.std.proofs.Common.{◌≡◌, ◌++◌, map, drop}
-use Rattle.mm_tell.specs.Shown.{shown_lines}
+use Rattle.mm_tell.specs.{shown_lines}
 use Rattle.mm_tell.proofs.shown.put_lines.Given as goal
 
 abbrev pub invariant-loop-line : goal.invariant-loop-line

@@ -1,5 +1,5 @@
 use Rattle.std.proofs.Common.{◌≡◌, ◌++◌, drop}
-use Rattle.mm_text.specs.Columns.{numbers_in}
+use Rattle.mm_text.specs.{numbers_in}
 use Rattle.mm_text.proofs.columns.put_numbers.Given as goal
 
 abbrev pub invariant-loop-n : goal.invariant-loop-n

@@ -1,7 +1,7 @@
 use Rattle.std.proofs.Common.{◌≡◌, ◌≤◌, ◌<◌, ◌+◌, length, get_or, take, set, Some, sym, ap, ◌∙◌, arith, length-set, length-drop}
 use Rattle.std.proofs.lemmas.List.{take_rest}
-use Rattle.mm_text.specs.Field.{pair_of, pairs_of}
-use Rattle.mm_text.proofs.Pairs.{behind, pairs_more}
+use Rattle.mm_text.specs.{pair_of, pairs_of}
+use Rattle.mm_text.proofs.{behind, pairs_more}
 use Rattle.mm_text.proofs.fields.bytes.Goals as goal
 
 pub loop-rest-preserved : goal.loop-rest-preserved

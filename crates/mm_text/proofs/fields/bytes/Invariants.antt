@@ -1,6 +1,6 @@
 use Rattle.std.proofs.Common.{◌≡◌, ◌+◌, ◌*◌, ◌≤◌, length, take}
-use Rattle.mm_text.specs.Field.{pairs_of}
-use Rattle.mm_text.proofs.Pairs.{behind}
+use Rattle.mm_text.specs.{pairs_of}
+use Rattle.mm_text.proofs.{behind}
 use Rattle.mm_text.proofs.fields.bytes.Given as goal
 
 abbrev pub invariant-loop-rest : goal.invariant-loop-rest

@@ -3,7 +3,7 @@ use Rattle.std.proofs.Common.{◌≡◌, ℕ, ◌≤◌, ◌<◌, List, get_or, 
 use Rattle.std.specs.Prelude.{nat_le, ◌==◌}
 use Rattle.std.proofs.lemmas.Bool.{agree_below, agree_below_at, eqb-true, leb-true}
 use Rattle.mm_text.specs.declared.fields.TheConstants.{DIGIT_VALUES}
-use Rattle.mm_text.specs.Field.{digit_value}
+use Rattle.mm_text.specs.{digit_value}
 use Rattle.mm_text.proofs.fields.digit.Goals as goal
 
 value_at : (table : List ℕ) (b : ℕ) → agree_below (λ k. get_or table k 0 == digit_value k) (λ _. true) 256 ≡ true → b < 256 → get_or table b 0 ≡ digit_value b

@@ -1,5 +1,5 @@
 use Rattle.std.proofs.Common.{◌≤◌, ◌*◌, ◌^◌, arith}
-use Rattle.mm_text.proofs.Values.{sum_fits}
+use Rattle.mm_text.proofs.{sum_fits}
 use Rattle.mm_text.proofs.fields.value.Goals as goal
 
 pub overflow_mul-sum : goal.overflow_mul-sum

@@ -1,6 +1,6 @@
 use Rattle.std.proofs.Common.{◌≡◌, ◌<◌, ◌^◌, drop}
-use Rattle.mm_text.specs.Field.{limited, digits_in}
-use Rattle.mm_text.proofs.Values.{scan}
+use Rattle.mm_text.specs.{limited, digits_in}
+use Rattle.mm_text.proofs.{scan}
 use Rattle.mm_text.proofs.fields.value.Given as goal
 
 abbrev pub invariant-loop-byte : goal.invariant-loop-byte

@@ -1,5 +1,5 @@
 use Rattle.std.proofs.Common.{◌≡◌, ◌≤◌, [], length, drop}
-use Rattle.mm_types.specs.Spelling.{hex_onto}
+use Rattle.mm_types.specs.{hex_onto}
 use Rattle.mm_text.proofs.puts.fill_hex.Given as goal
 
 abbrev pub invariant-loop-at : goal.invariant-loop-at

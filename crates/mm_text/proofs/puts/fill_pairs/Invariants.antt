@@ -1,5 +1,5 @@
 use Rattle.std.proofs.Common.{◌≡◌, ◌*◌, ◌++◌, length, take, drop}
-use Rattle.mm_types.specs.Spelling.{byte_pairs}
+use Rattle.mm_types.specs.{byte_pairs}
 use Rattle.mm_text.proofs.puts.fill_pairs.Given as goal
 
 abbrev pub invariant-loop-byte : goal.invariant-loop-byte

@@ -1,6 +1,6 @@
 use Rattle.std.proofs.Common.{◌-◌, ◌/◌, drop, set, sym, ap, ◌∙◌, arith, length-set}
-use Rattle.mm_text.specs.Shortest.{digits_onto}
-use Rattle.mm_text.proofs.Digits.{digits_more}
+use Rattle.mm_text.specs.{digits_onto}
+use Rattle.mm_text.proofs.{digits_more}
 use Rattle.mm_text.proofs.puts.fill_short.Goals as goal
 
 pub loop-at-preserved : goal.loop-at-preserved

@@ -1,5 +1,5 @@
 use Rattle.std.proofs.Common.{◌≡◌, ◌≤◌, [], length, drop}
-use Rattle.mm_text.specs.Shortest.{digits_onto}
+use Rattle.mm_text.specs.{digits_onto}
 use Rattle.mm_text.proofs.puts.fill_short.Given as goal
 
 abbrev pub invariant-loop-at : goal.invariant-loop-at

@@ -2,7 +2,7 @@
 use Rattle.std.proofs.Common.{◌≡◌, ℕ, ◌<◌, List, get_or, true, refl}
 use Rattle.std.specs.Prelude.{◌==◌}
 use Rattle.std.proofs.lemmas.Bool.{agree_below, agree_below_at, eqb-true}
-use Rattle.mm_types.specs.Spelling.{glyph}
+use Rattle.mm_types.specs.{glyph}
 use Rattle.mm_text.specs.declared.puts.TheConstants.{GLYPHS}
 use Rattle.mm_text.proofs.puts.glyph.Goals as goal
 

@@ -1,6 +1,6 @@
 use Rattle.std.proofs.Common.{◌≡◌, ◌-◌, ◌++◌, drop, take, length, ap, ◌∙◌, arith}
-use Rattle.mm_types.specs.Spelling.{decimal}
-use Rattle.mm_text.proofs.Digits.{decimal_tail}
+use Rattle.mm_types.specs.{decimal}
+use Rattle.mm_text.proofs.{decimal_tail}
 use Rattle.mm_text.proofs.puts.put_decimal.Goals as goal
 
 pub push_slice-requires : goal.push_slice-requires

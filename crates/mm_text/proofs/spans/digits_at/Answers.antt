@@ -1,5 +1,5 @@
 use Rattle.std.proofs.Common.{refl}
-use Rattle.mm_text.proofs.Runs.{hex_some}
+use Rattle.mm_text.proofs.{hex_some}
 use Rattle.mm_text.proofs.spans.digits_at.Goals as goal
 
 pub returns-then-begins_hex : goal.returns-then-begins_hex

@@ -1,6 +1,6 @@
 use Rattle.std.proofs.Common.{◌≡◌, ◌≤◌, ◌-◌, [], length, drop}
 use Rattle.std.specs.Prelude.{slice_range}
-use Rattle.mm_text.specs.Word.{words_from}
+use Rattle.mm_text.specs.{words_from}
 use Rattle.mm_text.proofs.spans.end_of_word.Given as goal
 
 abbrev pub invariant-fours : goal.invariant-fours

@@ -1,7 +1,6 @@
 use Rattle.std.proofs.Common.{◌≡◌, ◌≤◌, ◌<◌, ◌+◌, ◌-◌, ◌*◌, ◌^◌, ℕ, length, get_or, refl, sym, ap, subst, ◌∙◌, arith}
-use Rattle.mm_text.specs.Field.{digit_value}
-use Rattle.mm_text.proofs.Values.{sum_fits, sum_grows}
-use Rattle.mm_text.proofs.Runs.{Passed, passed_more}
+use Rattle.mm_text.specs.{digit_value}
+use Rattle.mm_text.proofs.{sum_fits, sum_grows, Passed, passed_more}
 use Rattle.mm_text.proofs.spans.run.Goals as goal
 
 pub overflow_mul-sum : goal.overflow_mul-sum

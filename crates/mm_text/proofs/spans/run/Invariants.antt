@@ -1,5 +1,5 @@
 use Rattle.std.proofs.Common.{◌≡◌, ◌≤◌, ◌<◌, ◌-◌, ◌+◌, ◌^◌, length}
-use Rattle.mm_text.proofs.Runs.{Passed}
+use Rattle.mm_text.proofs.{Passed}
 use Rattle.mm_text.proofs.spans.run.Given as goal
 
 abbrev pub invariant-loop-to : goal.invariant-loop-to

@@ -1,6 +1,6 @@
 use Rattle.std.proofs.Common.{◌≡◌, ◌+◌, ◌*◌, ◌≤◌, ◌++◌, length, drop, map}
-use Rattle.mm_types.specs.Spelling.{hex8}
-use Rattle.mm_text.specs.Following.{following}
+use Rattle.mm_types.specs.{hex8}
+use Rattle.mm_text.specs.{following}
 use Rattle.mm_text.proofs.spells.put_fields.Given as goal
 
 abbrev pub invariant-loop-field : goal.invariant-loop-field

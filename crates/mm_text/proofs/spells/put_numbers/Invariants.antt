@@ -1,6 +1,6 @@
 use Rattle.std.proofs.Common.{◌≡◌, ◌+◌, ◌*◌, ◌≤◌, ◌++◌, length, drop, map}
-use Rattle.mm_types.specs.Spelling.{decimal}
-use Rattle.mm_text.specs.Following.{following}
+use Rattle.mm_types.specs.{decimal}
+use Rattle.mm_text.specs.{following}
 use Rattle.mm_text.proofs.spells.put_numbers.Given as goal
 
 abbrev pub invariant-loop-number : goal.invariant-loop-number

@@ -1,5 +1,5 @@
 use Rattle.std.proofs.Common.{◌≡◌, ◌++◌, drop, false}
-use Rattle.mm_transcripts.specs.Remarks.{listed}
+use Rattle.mm_transcripts.specs.{listed}
 use Rattle.mm_transcripts.proofs.remarks.put_names.Given as goal
 
 abbrev pub invariant-loop-number : goal.invariant-loop-number

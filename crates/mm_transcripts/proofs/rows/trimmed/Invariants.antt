@@ -1,5 +1,5 @@
 use Rattle.std.proofs.Common.{◌≡◌, ◌≤◌, length, take}
-use Rattle.mm_transcripts.specs.Rows.{trimmed}
+use Rattle.mm_transcripts.specs.{trimmed}
 use Rattle.mm_transcripts.proofs.rows.trimmed.Given as goal
 
 abbrev pub invariant-loop-end : goal.invariant-loop-end

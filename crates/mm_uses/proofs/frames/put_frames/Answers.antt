@@ -1,7 +1,7 @@
 use Rattle.std.proofs.Common.{◌++◌, arith}
 use Rattle.mm_replay.specs.Standing.{life}
-use Rattle.mm_uses.specs.States.{frame_lines}
-use Rattle.mm_uses.proofs.Marks.{lines_more}
+use Rattle.mm_uses.specs.{frame_lines}
+use Rattle.mm_uses.proofs.{lines_more}
 use Rattle.mm_uses.proofs.frames.put_frames.Goals as goal
 
 pub loop-f-preserved : goal.loop-f-preserved

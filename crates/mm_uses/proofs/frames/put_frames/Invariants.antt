@@ -1,6 +1,6 @@
 use Rattle.std.proofs.Common.{◌≡◌, ◌-◌, ◌++◌}
 use Rattle.mm_replay.specs.Standing.{life}
-use Rattle.mm_uses.specs.States.{frame_lines}
+use Rattle.mm_uses.specs.{frame_lines}
 use Rattle.mm_uses.proofs.frames.put_frames.Given as goal
 
 abbrev pub invariant-loop-f : goal.invariant-loop-f

@@ -1,7 +1,7 @@
 use Rattle.std.proofs.Common.{◌+◌, ◌++◌, drop, ap, sym, ◌∙◌, arith}
-use Rattle.mm_replay.specs.Looking.{frames_on}
+use Rattle.mm_replay.specs.{frames_on}
 use Rattle.mm_replay.specs.Standing.{life}
-use Rattle.mm_uses.proofs.Walks.{one_more, read_out, read_all, next_there}
+use Rattle.mm_uses.proofs.{one_more, read_out, read_all, next_there}
 use Rattle.mm_uses.proofs.lists.frames_on.Goals as goal
 
 pub returns-in-None : goal.returns-in-None

@@ -1,5 +1,5 @@
 use Rattle.std.proofs.Common.{◌≡◌, ◌++◌, drop}
-use Rattle.mm_replay.specs.Looking.{frames_on, frame_at}
+use Rattle.mm_replay.specs.{frames_on, frame_at}
 use Rattle.mm_replay.specs.Standing.{life}
 use Rattle.mm_uses.proofs.lists.frames_on.Given as goal
 

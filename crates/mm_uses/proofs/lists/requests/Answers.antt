@@ -1,6 +1,6 @@
 use Rattle.std.proofs.Common.{◌+◌, ◌++◌, drop, ap, sym, ◌∙◌, arith}
 use Rattle.mm_replay.specs.Standing.{life}
-use Rattle.mm_uses.proofs.Walks.{one_more, read_out, read_all, next_begun}
+use Rattle.mm_uses.proofs.{one_more, read_out, read_all, next_begun}
 use Rattle.mm_uses.proofs.lists.requests.Goals as goal
 
 pub returns-in-None : goal.returns-in-None

@@ -1,5 +1,5 @@
 use Rattle.std.proofs.Common.{◌≡◌, ◌++◌, drop}
-use Rattle.mm_replay.specs.Looking.{frame_at}
+use Rattle.mm_replay.specs.{frame_at}
 use Rattle.mm_replay.specs.Standing.{life}
 use Rattle.mm_uses.proofs.lists.requests.Given as goal
 

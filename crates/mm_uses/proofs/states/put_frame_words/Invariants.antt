@@ -1,6 +1,6 @@
 use Rattle.std.proofs.Common.{◌≡◌, ◌++◌, drop}
 use Rattle.std.specs.Prelude.{flat_map}
-use Rattle.mm_uses.specs.States.{frame_word}
+use Rattle.mm_uses.specs.{frame_word}
 use Rattle.mm_uses.proofs.states.put_frame_words.Given as goal
 
 abbrev pub invariant-loop-frame : goal.invariant-loop-frame

@@ -1,6 +1,6 @@
 use Rattle.std.proofs.Common.{◌≡◌, ◌++◌}
 use Rattle.std.specs.Prelude.{flat_map}
-use Rattle.mm_uses.specs.States.{page_word}
+use Rattle.mm_uses.specs.{page_word}
 use Rattle.mm_uses.proofs.states.put_page_words.Given as goal
 
 abbrev pub invariant-loop-page : goal.invariant-loop-page

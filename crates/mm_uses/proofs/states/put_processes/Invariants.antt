@@ -1,5 +1,5 @@
 use Rattle.std.proofs.Common.{◌≡◌, ◌++◌, ◌+◌, drop}
-use Rattle.mm_uses.specs.States.{process_lines}
+use Rattle.mm_uses.specs.{process_lines}
 use Rattle.mm_uses.proofs.states.put_processes.Given as goal
 
 abbrev pub invariant-loop-i : goal.invariant-loop-i

@@ -1,10 +1,9 @@
 use Rattle.std.proofs.Common.{ℕ, List, ◌∷◌, [], ◌++◌, ap, ◌∙◌}
 use Rattle.std.specs.Prelude.{codes}
-use Rattle.mm_life.specs.declared.sets.ResidentSet.{ResidentSet}
-use Rattle.mm_life.specs.MoveText.{numbered}
+use Rattle.mm_life.specs.{ResidentSet, numbered}
 use Rattle.mm_replay.specs.Standing.{life}
-use Rattle.mm_uses.specs.States.{list_rows, frame_lines, process_lines, slots_line}
-use Rattle.mm_uses.proofs.Rows.{five}
+use Rattle.mm_uses.specs.{list_rows, frame_lines, process_lines, slots_line}
+use Rattle.mm_uses.proofs.{five}
 use Rattle.mm_uses.proofs.states.put_state.Goals as goal
 
 pub returns : goal.returns

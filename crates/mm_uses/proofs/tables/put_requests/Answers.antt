@@ -1,7 +1,7 @@
 use Rattle.std.proofs.Common.{◌∷◌, [], length, ◌∙◌}
 use Rattle.std.specs.Prelude.{codes}
 use Rattle.mm_replay.specs.Standing.{life}
-use Rattle.mm_uses.proofs.Rows.{pair_is}
+use Rattle.mm_uses.proofs.{pair_is}
 use Rattle.mm_uses.proofs.tables.put_requests.Goals as goal
 
 pub returns : goal.returns

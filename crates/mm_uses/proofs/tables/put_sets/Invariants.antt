@@ -1,5 +1,5 @@
 use Rattle.std.proofs.Common.{◌≡◌, ◌++◌, ◌+◌, drop}
-use Rattle.mm_uses.specs.Uses.{set_rows}
+use Rattle.mm_uses.specs.{set_rows}
 use Rattle.mm_uses.proofs.tables.put_sets.Given as goal
 
 abbrev pub invariant-loop-i : goal.invariant-loop-i

@@ -1,10 +1,10 @@
 use Rattle.std.proofs.Common.{◌++◌, ap, ◌∙◌}
 use Rattle.std.specs.Prelude.{codes, flat_map}
-use Rattle.mm_types.specs.declared.answers.Counts.{Counts}
-use Rattle.mm_life.specs.Life.{counts_of}
+use Rattle.mm_types.specs.{Counts}
+use Rattle.mm_life.specs.{counts_of}
 use Rattle.mm_replay.specs.Standing.{life}
-use Rattle.mm_uses.specs.Uses.{all_uses, sum_row, totals, use_head, use_row}
-use Rattle.mm_uses.proofs.Rows.{three}
+use Rattle.mm_uses.specs.{all_uses, sum_row, totals, use_head, use_row}
+use Rattle.mm_uses.proofs.{three}
 use Rattle.mm_uses.proofs.tables.put_table.Goals as goal
 
 pub returns : goal.returns

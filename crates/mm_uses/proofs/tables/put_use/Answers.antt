@@ -1,10 +1,9 @@
 use Rattle.std.proofs.Common.{ℕ, List, ◌∷◌, [], ◌++◌, ap, ◌∙◌}
 use Rattle.std.specs.Prelude.{codes}
-use Rattle.mm_life.specs.declared.sets.ResidentSet.{ResidentSet}
-use Rattle.mm_life.specs.MoveText.{numbered}
+use Rattle.mm_life.specs.{ResidentSet, numbered}
 use Rattle.mm_replay.specs.Standing.{life}
-use Rattle.mm_uses.specs.Uses.{use_table, slots_row, requests_row, set_rows}
-use Rattle.mm_uses.proofs.Rows.{five}
+use Rattle.mm_uses.specs.{use_table, slots_row, requests_row, set_rows}
+use Rattle.mm_uses.proofs.{five}
 use Rattle.mm_uses.proofs.tables.put_use.Goals as goal
 
 pub returns : goal.returns

@@ -1,7 +1,7 @@
 use Rattle.std.proofs.Common.{◌≡◌, ◌++◌, drop}
 use Rattle.std.specs.Prelude.{flat_map}
 use Rattle.mm_replay.specs.Standing.{life}
-use Rattle.mm_uses.specs.Uses.{use_row}
+use Rattle.mm_uses.specs.{use_row}
 use Rattle.mm_uses.proofs.tables.put_use_rows.Given as goal
 
 abbrev pub invariant-loop-usage : goal.invariant-loop-usage

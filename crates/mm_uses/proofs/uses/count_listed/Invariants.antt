@@ -1,7 +1,7 @@
 use Rattle.std.proofs.Common.{◌≡◌, ◌+◌, ◌≤◌, drop}
 use Rattle.std.specs.Prelude.{count_by}
 use Rattle.mm_replay.specs.Standing.{life}
-use Rattle.mm_uses.specs.Uses.{is_use, listed}
+use Rattle.mm_uses.specs.{is_use, listed}
 use Rattle.mm_uses.proofs.uses.count_listed.Given as goal
 
 abbrev pub invariant-loop-frame : goal.invariant-loop-frame

@@ -1,5 +1,5 @@
 use Rattle.std.proofs.Common.{◌+◌, ◌*◌, ◌/◌, ◌<◌, length, refl, arith}
-use Rattle.mm_vad.proofs.BitLemmas.{found_in_word, found_behind, none_in_word, none_more}
+use Rattle.mm_vad.proofs.{found_in_word, found_behind, none_in_word, none_more}
 use Rattle.mm_vad.proofs.bits.next_set.Goals as goal
 
 pub returns-then-next-end-clause-found : goal.returns-then-next-end-clause-found

@@ -1,6 +1,6 @@
 use Rattle.std.proofs.Common.{◌-◌, ◌≤◌}
-use Rattle.mm_bits.specs.Bits.{have_bit}
-use Rattle.mm_vad.specs.Bits.{NoneSet}
+use Rattle.mm_bits.specs.{have_bit}
+use Rattle.mm_vad.specs.{NoneSet}
 use Rattle.mm_vad.proofs.bits.next_set.Given as goal
 
 abbrev pub invariant-loop-at : goal.invariant-loop-at

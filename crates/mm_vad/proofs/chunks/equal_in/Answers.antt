@@ -1,5 +1,5 @@
 use Rattle.std.proofs.Common.{◌∙◌, sym, arith}
-use Rattle.mm_vad.proofs.Joined.{equal_run, equal_if_eq, equal_more}
+use Rattle.mm_vad.proofs.{equal_run, equal_if_eq, equal_more}
 use Rattle.mm_vad.proofs.chunks.equal_in.Goals as goal
 
 pub loop-n-preserved : goal.loop-n-preserved

@@ -1,8 +1,8 @@
 use Rattle.std.proofs.Common.{arith}
 use Rattle.std.specs.Prelude.{map}
-use Rattle.mm_types.specs.Address.{page_of}
-use Rattle.mm_world.specs.Watch.{unwritten}
-use Rattle.mm_vad.proofs.Unwritten.{left_more}
+use Rattle.mm_types.specs.{page_of}
+use Rattle.mm_world.specs.{unwritten}
+use Rattle.mm_vad.proofs.{left_more}
 use Rattle.mm_vad.proofs.regions.clear_pages.Goals as goal
 
 pub loop-address-preserved : goal.loop-address-preserved

@@ -1,8 +1,8 @@
 use Rattle.std.proofs.Common.{drop}
 use Rattle.std.specs.Prelude.{map}
-use Rattle.mm_types.specs.Address.{page_of}
-use Rattle.mm_world.specs.Watch.{unwritten}
-use Rattle.mm_vad.proofs.Unwritten.{Left}
+use Rattle.mm_types.specs.{page_of}
+use Rattle.mm_world.specs.{unwritten}
+use Rattle.mm_vad.proofs.{Left}
 use Rattle.mm_vad.proofs.regions.clear_pages.Given as goal
 
 abbrev pub invariant-loop-address : goal.invariant-loop-address

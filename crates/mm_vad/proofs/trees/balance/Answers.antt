@@ -1,5 +1,5 @@
 use Rattle.std.proofs.Common.{◌∷◌, length, ap, arith, length-append}
-use Rattle.mm_vad.specs.Nodes.{range_of}
+use Rattle.mm_vad.specs.{range_of}
 use Rattle.mm_vad.proofs.trees.balance.Goals as goal
 
 pub fork-requires-clause-few : goal.fork-requires-clause-few

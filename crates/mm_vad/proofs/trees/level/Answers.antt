@@ -1,6 +1,5 @@
 use Rattle.std.proofs.Common.{◌∷◌, length, ap, arith, length-append}
-use Rattle.mm_vad.specs.Nodes.{range_of, range_in}
-use Rattle.mm_vad.specs.Shape.{TreeOf}
+use Rattle.mm_vad.specs.{range_of, range_in, TreeOf}
 use Rattle.mm_vad.proofs.trees.level.Goals as goal
 
 pub node_over-requires-clause-few : goal.node_over-requires-clause-few

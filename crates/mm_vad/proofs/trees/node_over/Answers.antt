@@ -1,6 +1,6 @@
 use Rattle.std.proofs.Common.{◌∙◌, arith}
-use Rattle.mm_vad.specs.Nodes.{range_of}
-use Rattle.mm_vad.proofs.Forks.{node_fork, lowest_fork, highest_fork, left_fork, right_fork}
+use Rattle.mm_vad.specs.{range_of}
+use Rattle.mm_vad.proofs.{node_fork, lowest_fork, highest_fork, left_fork, right_fork}
 use Rattle.mm_vad.proofs.trees.node_over.Goals as goal
 
 pub returns-clause-node : goal.returns-clause-node

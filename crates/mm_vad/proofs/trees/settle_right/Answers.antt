@@ -1,7 +1,6 @@
 use Rattle.std.proofs.Common.{◌∙◌, arith}
-use Rattle.mm_vad.specs.Shape.{DifferByAtMost}
-use Rattle.mm_vad.specs.Nodes.{range_in}
-use Rattle.mm_vad.proofs.Forks.{node_fork, same_kept, highest_fork, right_fork}
+use Rattle.mm_vad.specs.{DifferByAtMost, range_in}
+use Rattle.mm_vad.proofs.{node_fork, same_kept, highest_fork, right_fork}
 use Rattle.mm_vad.proofs.trees.settle_right.Goals as goal
 
 pub returns-clause-is : goal.returns-clause-is

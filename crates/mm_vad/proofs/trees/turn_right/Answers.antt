@@ -1,6 +1,6 @@
 use Rattle.std.proofs.Common.{◌∷◌, ◌∙◌, length, ap, arith, length-append}
-use Rattle.mm_vad.specs.Nodes.{range_of, range_in}
-use Rattle.mm_vad.proofs.Turned.{right_once, right_twice}
+use Rattle.mm_vad.specs.{range_of, range_in}
+use Rattle.mm_vad.proofs.{right_once, right_twice}
 use Rattle.mm_vad.proofs.trees.turn_right.Goals as goal
 
 pub fork-requires-clause-few : goal.fork-requires-clause-few

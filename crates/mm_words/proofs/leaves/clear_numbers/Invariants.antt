@@ -1,6 +1,6 @@
 use Rattle.std.proofs.Common.{◌≡◌, length, vec_capacity}
 use Rattle.std.specs.Prelude.{slice_index}
-use Rattle.mm_words.specs.LeafWords.{Changed, zero_word}
+use Rattle.mm_words.specs.{Changed, zero_word}
 use Rattle.mm_words.proofs.leaves.clear_numbers.Given as goal
 
 abbrev pub invariant-loop-i : goal.invariant-loop-i

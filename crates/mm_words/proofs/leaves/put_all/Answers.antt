@@ -1,8 +1,8 @@
 use Rattle.std.proofs.Common.{◌≡◌, ℕ, Bool, List, length, cond, sym, ap, ◌∙◌, subst, arith}
 use Rattle.std.specs.Prelude.{slice_index}
-use Rattle.mm_bits.specs.Bits.{have_bit, Becomes}
-use Rattle.mm_words.specs.LeafWords.{leaf_pages}
-use Rattle.mm_words.proofs.WordLemmas.{all_put, whole_again}
+use Rattle.mm_bits.specs.{have_bit, Becomes}
+use Rattle.mm_words.specs.{leaf_pages}
+use Rattle.mm_words.proofs.{all_put, whole_again}
 use Rattle.mm_words.proofs.leaves.put_all.Goals as goal
 use Rattle.mm_words.proofs.leaves.put_all.Goals.{then-on, else-on}
 

@@ -1,5 +1,5 @@
 use Rattle.std.proofs.Common.{◌≡◌, true, false, sym, ◌∙◌, arith}
-use Rattle.mm_words.proofs.LeafLemmas.{placed_leaf}
+use Rattle.mm_words.proofs.{placed_leaf}
 use Rattle.mm_words.proofs.page_tables.place_leaf.Goals as goal
 
 pub returns-in_ok-leaves-clause-placed : goal.returns-in_ok-leaves-clause-placed

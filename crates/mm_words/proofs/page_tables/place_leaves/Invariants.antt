@@ -1,5 +1,5 @@
 use Rattle.std.proofs.Common.{◌≡◌, ◌-◌, ◌≤◌, length}
-use Rattle.mm_words.specs.Directory.{PlacesMore, HavePlaces}
+use Rattle.mm_words.specs.{PlacesMore, HavePlaces}
 use Rattle.mm_words.proofs.page_tables.place_leaves.Given as goal
 
 abbrev pub invariant-loop-page : goal.invariant-loop-page

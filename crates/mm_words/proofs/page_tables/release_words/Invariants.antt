@@ -1,5 +1,5 @@
 use Rattle.std.proofs.Common.{◌-◌, ◌≤◌}
-use Rattle.mm_words.specs.LeafWords.{no_word}
+use Rattle.mm_words.specs.{no_word}
 use Rattle.mm_words.specs.Directory.{Changes}
 use Rattle.mm_words.proofs.page_tables.release_words.Given as goal
 

@@ -1,6 +1,6 @@
 use Rattle.std.proofs.Common.{◌-◌, ◌≤◌}
-use Rattle.mm_words.specs.Pages.{reserved_word}
-use Rattle.mm_words.specs.Directory.{Changes, HavePlaces}
+use Rattle.mm_words.specs.{reserved_word, HavePlaces}
+use Rattle.mm_words.specs.Directory.{Changes}
 use Rattle.mm_words.proofs.page_tables.reserve_words.Given as goal
 
 abbrev pub invariant-loop-page : goal.invariant-loop-page

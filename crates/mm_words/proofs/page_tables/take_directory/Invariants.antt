@@ -1,5 +1,5 @@
 use Rattle.std.proofs.Common.{◌≡◌, vec_len}
-use Rattle.mm_words.specs.Directory.{PlacesMore}
+use Rattle.mm_words.specs.{PlacesMore}
 use Rattle.mm_words.proofs.page_tables.take_directory.Given as goal
 
 abbrev pub invariant-loop : goal.invariant-loop

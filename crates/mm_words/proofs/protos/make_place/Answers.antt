@@ -1,7 +1,7 @@
 use Rattle.std.proofs.Common.{◌∙◌, ap, None, refl, arith}
-use Rattle.mm_types.specs.Table.{table}
-use Rattle.mm_words.specs.Prototypes.{words_in}
-use Rattle.mm_words.proofs.AreaLemmas.{table_push}
+use Rattle.mm_types.specs.{table}
+use Rattle.mm_words.specs.{words_in}
+use Rattle.mm_words.proofs.{table_push}
 use Rattle.mm_words.proofs.protos.make_place.Goals as goal
 
 pub loop-preserved : goal.loop-preserved

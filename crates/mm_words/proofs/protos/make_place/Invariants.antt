@@ -1,6 +1,6 @@
 use Rattle.std.proofs.Common.{◌≡◌, vec_len}
-use Rattle.mm_types.specs.Table.{table}
-use Rattle.mm_words.specs.Prototypes.{words_in}
+use Rattle.mm_types.specs.{table}
+use Rattle.mm_words.specs.{words_in}
 use Rattle.mm_words.proofs.protos.make_place.Given as goal
 
 abbrev pub invariant-loop : goal.invariant-loop

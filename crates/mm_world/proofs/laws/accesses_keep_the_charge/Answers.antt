@@ -1,4 +1,4 @@
-use Rattle.mm_world.proofs.LimitKept.{access_charge}
+use Rattle.mm_world.proofs.{access_charge}
 use Rattle.mm_world.proofs.laws.accesses_keep_the_charge.Goals as goal
 
 pub returns : goal.returns

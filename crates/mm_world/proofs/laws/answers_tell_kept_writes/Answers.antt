@@ -1,4 +1,4 @@
-use Rattle.mm_world.proofs.KeptWrites.{kept_writes_follow}
+use Rattle.mm_world.proofs.{kept_writes_follow}
 use Rattle.mm_world.proofs.laws.answers_tell_kept_writes.Goals as goal
 
 pub returns : goal.returns

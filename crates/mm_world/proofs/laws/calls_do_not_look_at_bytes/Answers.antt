@@ -1,5 +1,4 @@
-use Rattle.mm_world.specs.World.{filled}
-use Rattle.mm_world.specs.Contents.{no_bytes}
+use Rattle.mm_world.specs.{filled, no_bytes}
 use Rattle.mm_world.proofs.Natural as natural
 use Rattle.mm_world.proofs.NaturalSections as sections
 use Rattle.mm_world.proofs.laws.calls_do_not_look_at_bytes.Goals as goal

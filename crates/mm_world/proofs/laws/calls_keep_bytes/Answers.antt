@@ -1,6 +1,6 @@
-use Rattle.mm_world.proofs.Across.{watch_across, reset_watch_across, alloc_across, free_across, protect_across, query_across, create_across, create_file_across, open_across, close_across, map_across, unmap_across, flush_across, new_process_across, exit_across, take_fail_across, grow_across, stack_across}
-use Rattle.mm_world.proofs.AcrossFile.{new_file_across}
-use Rattle.mm_world.proofs.KeptProbe.{probe_across}
+use Rattle.mm_world.proofs.{watch_across, reset_watch_across, alloc_across, free_across, protect_across, query_across, create_across}
+use Rattle.mm_world.proofs.{create_file_across, open_across, close_across, map_across, unmap_across, flush_across, new_process_across, exit_across}
+use Rattle.mm_world.proofs.{take_fail_across, grow_across, stack_across, new_file_across, probe_across}
 use Rattle.mm_world.proofs.laws.calls_keep_bytes.Goals as goal
 
 pub returns-clause-alloc : goal.returns-clause-alloc

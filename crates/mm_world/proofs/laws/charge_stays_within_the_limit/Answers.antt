@@ -1,4 +1,4 @@
-use Rattle.mm_world.proofs.LimitKept.{reached_within}
+use Rattle.mm_world.proofs.{reached_within}
 use Rattle.mm_world.proofs.laws.charge_stays_within_the_limit.Goals as goal
 
 pub returns : goal.returns

@@ -1,5 +1,5 @@
 use Rattle.mm_world.proofs.AtLimit.{in_alloc, in_protect, in_create, in_map, in_stack}
-use Rattle.mm_world.proofs.NeverLimit.{never_refused}
+use Rattle.mm_world.proofs.{never_refused}
 use Rattle.mm_world.proofs.laws.commitment_is_refused_exactly_past_the_limit.Goals as goal
 
 pub returns-clause-alloc : goal.returns-clause-alloc

@@ -1,4 +1,4 @@
-use Rattle.mm_world.proofs.Disjoint.{same_place, is_placed}
+use Rattle.mm_world.proofs.{same_place, is_placed}
 use Rattle.mm_world.proofs.laws.regions_are_disjoint.Goals as goal
 
 pub returns-clause-apart : goal.returns-clause-apart

@@ -1,4 +1,4 @@
-use Rattle.mm_world.proofs.StacksStay.{stays_stacked, first_stacked}
+use Rattle.mm_world.proofs.{stays_stacked, first_stacked}
 use Rattle.mm_world.proofs.laws.stacks_stay_private_regions.Goals as goal
 
 pub returns-clause-kept : goal.returns-clause-kept

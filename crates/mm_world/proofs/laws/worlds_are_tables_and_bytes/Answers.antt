@@ -1,4 +1,4 @@
-use Rattle.mm_world.proofs.Reconstruct.{full_world, tables_back}
+use Rattle.mm_world.proofs.{full_world, tables_back}
 use Rattle.mm_world.proofs.laws.worlds_are_tables_and_bytes.Goals as goal
 
 pub returns-clause-world : goal.returns-clause-world

@@ -1,4 +1,4 @@
-use Rattle.mm_world.proofs.Keeps.{line_keeps, reached_is}
+use Rattle.mm_world.proofs.{line_keeps, reached_is}
 use Rattle.mm_world.proofs.laws.worlds_are_well_formed.Goals as goal
 
 pub returns-clause-kept : goal.returns-clause-kept

@@ -1,7 +1,7 @@
 use Rattle.std.proofs.Common.{sym, ap, ◌∙◌, inl, inr, arith}
 use Rattle.std.proofs.lemmas.Bool.{cases_lt}
-use Rattle.mm_wset.specs.AgeGroups.{is_in}
-use Rattle.mm_wset.proofs.GroupLemmas.{in_read, group_of_set}
+use Rattle.mm_wset.specs.{is_in}
+use Rattle.mm_wset.proofs.{in_read, group_of_set}
 use Rattle.mm_wset.proofs.groups.group_of.Goals as goal
 
 pub returns-then-has : goal.returns-then-has

@@ -1,5 +1,5 @@
 use Rattle.std.proofs.Common.{◌≡◌, ◌-◌, ◌<◌, ◌≤◌, ℕ, false}
-use Rattle.mm_wset.specs.AgeGroups.{is_in}
+use Rattle.mm_wset.specs.{is_in}
 use Rattle.mm_wset.proofs.groups.group_of.Given as goal
 
 abbrev pub invariant-loop-group : goal.invariant-loop-group

@@ -1,5 +1,5 @@
 use Rattle.std.proofs.Common.{◌<◌, length, ◌^◌, arith}
-use Rattle.mm_wset.proofs.GroupLemmas.{joins_empty, joins_more, joins_all, lowest_in_set, none_in_set}
+use Rattle.mm_wset.proofs.{joins_empty, joins_more, joins_all, lowest_in_set, none_in_set}
 use Rattle.mm_wset.proofs.groups.join.Goals as goal
 
 pub returns-then-len-eq0 : goal.returns-then-len-eq0

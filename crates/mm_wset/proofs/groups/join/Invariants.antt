@@ -1,5 +1,5 @@
 use Rattle.std.proofs.Common.{◌-◌, ◌^◌, ◌≤◌}
-use Rattle.mm_wset.specs.AgeGroups.{Joins}
+use Rattle.mm_wset.specs.{Joins}
 use Rattle.mm_wset.proofs.groups.join.Given as goal
 
 abbrev pub invariant-loop-page : goal.invariant-loop-page

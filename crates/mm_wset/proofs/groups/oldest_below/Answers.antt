@@ -1,10 +1,6 @@
 use Rattle.std.proofs.Common.{◌-◌, ℕ, ap, ◌∙◌, subst, arith}
-use Rattle.mm_wset.specs.Ring.{turned}
-use Rattle.mm_wset.specs.Rows.{NoneFrom}
-use Rattle.mm_wset.specs.AgeGroups.{is_in}
-use Rattle.mm_wset.proofs.RingLemmas.{turned_back}
-use Rattle.mm_wset.proofs.GroupLemmas.{lowest_in_set, none_in_set}
-use Rattle.mm_wset.proofs.OrderLemmas.{oldest_is, none_younger}
+use Rattle.mm_wset.specs.{turned, NoneFrom, is_in}
+use Rattle.mm_wset.proofs.{turned_back, lowest_in_set, none_in_set, oldest_is, none_younger}
 use Rattle.mm_wset.proofs.groups.oldest_below.Goals as goal
 
 pub returns-in-Some : goal.returns-in-Some

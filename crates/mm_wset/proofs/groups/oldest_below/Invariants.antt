@@ -1,5 +1,5 @@
 use Rattle.std.proofs.Common.{◌≤◌}
-use Rattle.mm_wset.specs.AgeGroups.{age_in, NoAgeWithin}
+use Rattle.mm_wset.specs.{age_in, NoAgeWithin}
 use Rattle.mm_wset.proofs.groups.oldest_below.Given as goal
 
 abbrev pub invariant-loop-age : goal.invariant-loop-age

@@ -1,5 +1,5 @@
 use Rattle.std.proofs.Common.{true}
-use Rattle.mm_wset.proofs.GroupLemmas.{puts_page}
+use Rattle.mm_wset.proofs.{puts_page}
 use Rattle.mm_wset.proofs.groups.put.Goals as goal
 
 pub returns : goal.returns

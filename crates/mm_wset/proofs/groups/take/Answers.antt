@@ -1,5 +1,5 @@
 use Rattle.std.proofs.Common.{false, sym, ◌∙◌, arith}
-use Rattle.mm_wset.proofs.GroupLemmas.{puts_page, in_read, set_within}
+use Rattle.mm_wset.proofs.{puts_page, in_read, set_within}
 use Rattle.mm_wset.proofs.groups.take.Goals as goal
 
 pub index_mut-requires : goal.index_mut-requires

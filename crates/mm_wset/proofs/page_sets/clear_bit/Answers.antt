@@ -1,4 +1,4 @@
-use Rattle.mm_wset.proofs.RowLemmas.{clears_one}
+use Rattle.mm_wset.proofs.{clears_one}
 use Rattle.mm_wset.proofs.page_sets.clear_bit.Goals as goal
 
 pub returns-clause-puts : goal.returns-clause-puts

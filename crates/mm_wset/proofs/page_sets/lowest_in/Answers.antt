@@ -1,6 +1,6 @@
 use Rattle.std.proofs.Common.{refl, arith}
 use Rattle.std.proofs.lemmas.List.{get_or_read}
-use Rattle.mm_wset.proofs.RowLemmas.{filled_within, lowest_of}
+use Rattle.mm_wset.proofs.{filled_within, lowest_of}
 use Rattle.mm_wset.proofs.page_sets.lowest_in.Goals as goal
 
 pub index-requires : goal.index-requires

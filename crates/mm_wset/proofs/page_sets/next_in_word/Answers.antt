@@ -1,6 +1,6 @@
 use Rattle.std.proofs.Common.{◌/◌, refl, arith}
 use Rattle.std.proofs.lemmas.List.{get_or_read}
-use Rattle.mm_wset.proofs.RowLemmas.{none_until, none_in_word, found_in_word}
+use Rattle.mm_wset.proofs.{none_until, none_in_word, found_in_word}
 use Rattle.mm_wset.proofs.page_sets.next_in_word.Goals as goal
 
 pub returns-then-i-len : goal.returns-then-i-len

@@ -1,4 +1,4 @@
-use Rattle.mm_wset.proofs.RowLemmas.{next_top_none, top_answered}
+use Rattle.mm_wset.proofs.{next_top_none, top_answered}
 use Rattle.mm_wset.proofs.page_sets.next_top.Goals as goal
 
 pub returns-then-from-lt-BITS : goal.returns-then-from-lt-BITS

@@ -1,5 +1,5 @@
 use Rattle.std.proofs.Common.{sym, ◌∙◌, arith}
-use Rattle.mm_wset.proofs.RowLemmas.{bit_within, none_above, found_above}
+use Rattle.mm_wset.proofs.{bit_within, none_above, found_above}
 use Rattle.mm_wset.proofs.page_sets.next_word.Goals as goal
 
 pub lowest_in-requires-clause-filled : goal.lowest_in-requires-clause-filled

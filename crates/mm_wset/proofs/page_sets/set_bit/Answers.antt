@@ -1,4 +1,4 @@
-use Rattle.mm_wset.proofs.RowLemmas.{puts_one}
+use Rattle.mm_wset.proofs.{puts_one}
 use Rattle.mm_wset.proofs.page_sets.set_bit.Goals as goal
 
 pub returns-clause-puts : goal.returns-clause-puts

@@ -1,5 +1,5 @@
 use Rattle.std.proofs.Common.{◌≡◌, ◌++◌, replicate, ◌∙◌, sym, arith, [], None}
-use Rattle.mm_blocks.proofs.Stored.{resized, store_grown, blocks_grown}
+use Rattle.mm_blocks.proofs.{resized, store_grown, blocks_grown}
 use Rattle.mm_blocks.proofs.stores.Store.add.Goals as goal
 
 pub invariant_of-self-2 : goal.invariant_of-self-2

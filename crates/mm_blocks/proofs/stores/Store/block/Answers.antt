@@ -1,8 +1,7 @@
 use Rattle.std.proofs.Common.{◌≡◌, ◌<◌, length, ap, sym, ◌∙◌, arith, Some, None}
 use Rattle.std.proofs.lemmas.List.{get_or_read}
-use Rattle.mm_blocks.specs.Traffic.{empty_block}
-use Rattle.mm_blocks.specs.Stores.{place_of}
-use Rattle.mm_blocks.proofs.Stored.{length-blocks, block_placed, block_unplaced, block_read}
+use Rattle.mm_blocks.specs.{empty_block, place_of}
+use Rattle.mm_blocks.proofs.{length-blocks, block_placed, block_unplaced, block_read}
 use Rattle.mm_blocks.proofs.stores.Store.block.Goals as goal
 
 pub index-requires : goal.index-requires

@@ -1,5 +1,5 @@
 use Rattle.std.proofs.Common.{arith, length, ap}
-use Rattle.mm_blocks.proofs.Stored.{length-blocks}
+use Rattle.mm_blocks.proofs.{length-blocks}
 use Rattle.mm_blocks.proofs.stores.Store.count.Goals as goal
 
 pub returns : goal.returns

@@ -1,6 +1,6 @@
 use Rattle.std.proofs.Common.{ap, ◌∙◌, List, Option, ℕ}
-use Rattle.mm_blocks.specs.Stores.{blocks_of}
-use Rattle.mm_blocks.proofs.Stored.{none_stored}
+use Rattle.mm_blocks.specs.{blocks_of}
+use Rattle.mm_blocks.proofs.{none_stored}
 use Rattle.mm_blocks.proofs.stores.Store.new.Goals as goal
 
 pub returns : goal.returns

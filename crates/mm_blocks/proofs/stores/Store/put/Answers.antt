@@ -1,8 +1,8 @@
 use Rattle.std.proofs.Common.{◌≡◌, ◌<◌, ◌++◌, [], ◌∷◌, length, set, ap, sym, ◌∙◌, subst, arith, List, ℕ, Some, None}
 use Rattle.std.specs.Prelude.{vec_capacity}
 use Rattle.std.proofs.lemmas.List.{get_or_read}
-use Rattle.mm_blocks.specs.Stores.{blocks_of, place_of, IsStore}
-use Rattle.mm_blocks.proofs.Stored.{length-blocks, room_left, block_rewritten, block_put, store_put}
+use Rattle.mm_blocks.specs.{blocks_of, place_of, IsStore}
+use Rattle.mm_blocks.proofs.{length-blocks, room_left, block_rewritten, block_put, store_put}
 use Rattle.mm_blocks.proofs.stores.Store.put.Goals as goal
 
 pub index-requires : goal.index-requires

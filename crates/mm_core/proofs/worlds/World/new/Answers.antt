@@ -1,13 +1,10 @@
 use Rattle.std.proofs.Common.{◌≡◌, ℕ, zero, suc, None, Some, refl, sym, ◌∙◌, subst, arith}
-use Rattle.mm_types.specs.Machine.{MachineOf}
-use Rattle.mm_world.specs.Find.{process_of}
-use Rattle.mm_world.specs.Contents.{Tables, world_with}
-use Rattle.mm_world.specs.Step.{first_world}
-use Rattle.mm_tables.specs.References.{MadeAtMost}
-use Rattle.mm_paging.specs.Lines.{Agrees}
-use Rattle.mm_tables.specs.Fits.{FitsTables, key_bytes}
-use Rattle.mm_tables.proofs.Lines.{new_fits}
-use Rattle.mm_core.proofs.Noted.{agrees, stands}
+use Rattle.mm_types.specs.{MachineOf}
+use Rattle.mm_world.specs.{process_of, Tables, world_with, first_world}
+use Rattle.mm_tables.specs.{MadeAtMost, FitsTables, key_bytes}
+use Rattle.mm_paging.specs.{Agrees}
+use Rattle.mm_tables.proofs.{new_fits}
+use Rattle.mm_core.proofs.{agrees, stands}
 use Rattle.mm_core.proofs.worlds.World.new.Goals as goal
 
 -- no process lives, and nothing was made yet

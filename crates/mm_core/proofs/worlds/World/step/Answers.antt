@@ -1,6 +1,5 @@
-use Rattle.mm_tables.specs.Fits.{key_bytes}
-use Rattle.mm_core.proofs.Memory.{is_ok_with}
-use Rattle.mm_core.proofs.Promised.{at-ok, at-err, decides, breaks}
+use Rattle.mm_tables.specs.{key_bytes}
+use Rattle.mm_core.proofs.{is_ok_with, at-ok, at-err, decides, breaks}
 use Rattle.mm_core.proofs.worlds.World.step.Goals as goal
 
 pub returns-clause-decided : goal.returns-clause-decided
@@ -12,13 +11,7 @@ returns-clause-decided g c =
     decides p.unpaged c.args.line w.tables (p.contents w.pages) (p.store w.pages) (p.behind w.pages)
     d.new.t (p.contents d.new.g) (p.store d.new.g) (p.behind d.new.g)
     c.args.event.now d.new.answer (w.fits c.requires.ready)
-    (record {
-      next = c.requires.next;
-      stands = c.sound.ensures.stands;
-      stands_after = c.sound-3.ensures.stands;
-      tidy = c.sound-2.ensures.tidy;
-      within = c.sound-2.ensures.within;
-    })
+    (assumption (c.requires, c.sound.ensures, c.sound-2.ensures, c.sound-3.ensures))
     (rw q at d.ensures.done).decided (rw q at d.ensures.waits) (λ paging. rw q at (d.ensures.beside paging)) (rw q at d.ensures.done).marked)
 
 pub returns-clause-broke : goal.returns-clause-broke
@@ -29,13 +22,7 @@ returns-clause-broke g c =
     at-err d.result (λ x q.
     breaks p.unpaged c.args.line w.tables (p.contents w.pages) (p.store w.pages) (p.behind w.pages)
     d.new.t (p.contents d.new.g) (p.store d.new.g) (p.behind d.new.g)
-    (record {
-      next = c.requires.next;
-      stands = c.sound.ensures.stands;
-      stands_after = c.sound-3.ensures.stands;
-      tidy = c.sound-2.ensures.tidy;
-      within = c.sound-2.ensures.within;
-    })
+    (assumption (c.requires, c.sound.ensures, c.sound-2.ensures, c.sound-3.ensures))
     (rw q at d.ensures.broke).idle (rw q at d.ensures.broke).halted)
 
 pub returns-clause-no_memory : goal.returns-clause-no_memory

@@ -1,7 +1,7 @@
 use Rattle.std.proofs.Common.{None, refl}
-use Rattle.mm_classes.specs.Marking.{marks_of}
-use Rattle.mm_faults.specs.Rest.{tally_of}
-use Rattle.mm_faults.proofs.Same.{fault_none}
+use Rattle.mm_classes.specs.{marks_of}
+use Rattle.mm_faults.specs.{tally_of}
+use Rattle.mm_faults.proofs.{fault_none}
 use Rattle.mm_faults.proofs.faults.FaultTeller.new.Goals as goal
 
 pub returns : goal.returns

@@ -1,7 +1,7 @@
 use Rattle.std.proofs.Common.{arith, ◌≡◌, ◌<◌, ℕ, List, [], ◌∷◌, ◌++◌, length, map, false, sym, ap, ◌∙◌, subst}
 use Rattle.std.proofs.lemmas.List.{length-map}
-use Rattle.mm_flight.specs.Requests.{FlightOf, IsKept, is_in, number_of}
-use Rattle.mm_flight.proofs.Keeping.{numbers_more, kept_begun}
+use Rattle.mm_flight.specs.{FlightOf, IsKept, is_in, number_of}
+use Rattle.mm_flight.proofs.{numbers_more, kept_begun}
 use Rattle.mm_flight.proofs.flights.Flight.begin.Goals as goal
 
 pub invariant_of-self : goal.invariant_of-self

@@ -1,9 +1,7 @@
 use Rattle.std.proofs.Common.{arith, ◌≡◌, ℕ, List, length, map, sym, ap, ◌∙◌, subst}
 use Rattle.std.proofs.lemmas.List.{length-map}
-use Rattle.mm_flight.specs.declared.flights.Waiting.{Waiting}
-use Rattle.mm_flight.specs.Requests.{IsKept, number_of, without, ended}
-use Rattle.mm_flight.proofs.Places.{ended_view, numbers_without}
-use Rattle.mm_flight.proofs.Keeping.{kept_ended}
+use Rattle.mm_flight.specs.{Waiting, IsKept, number_of, without, ended}
+use Rattle.mm_flight.proofs.{ended_view, numbers_without, kept_ended}
 use Rattle.mm_flight.proofs.flights.Flight.end.Goals as goal
 
 pub invariant_of-self : goal.invariant_of-self

@@ -1,7 +1,7 @@
 use Rattle.std.proofs.Common.{◌-◌, map, sym, ap, ◌∙◌}
 use Rattle.std.specs.Prelude.{slice_get}
-use Rattle.mm_flight.specs.Requests.{FlightOf, number_of}
-use Rattle.mm_flight.proofs.Keeping.{nth_at}
+use Rattle.mm_flight.specs.{FlightOf, number_of}
+use Rattle.mm_flight.proofs.{nth_at}
 use Rattle.mm_flight.proofs.flights.Flight.nth.Goals as goal
 
 pub returns : goal.returns

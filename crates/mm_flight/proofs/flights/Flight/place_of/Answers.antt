@@ -1,7 +1,7 @@
 use Rattle.std.proofs.Common.{◌≡◌, ◌∙◌, ap, sym, map, arith, below_more}
 use Rattle.std.proofs.lemmas.List.{length-map}
-use Rattle.mm_flight.specs.Requests.{FlightOf, number_of, place_in}
-use Rattle.mm_flight.proofs.Places.{other_frame, same_frame, place_found, place_missing}
+use Rattle.mm_flight.specs.{FlightOf, number_of, place_in}
+use Rattle.mm_flight.proofs.{other_frame, same_frame, place_found, place_missing}
 use Rattle.mm_flight.proofs.flights.Flight.place_of.Goals as goal
 
 pub loop-i-preserved : goal.loop-i-preserved

@@ -1,6 +1,6 @@
 use Rattle.std.proofs.Common.{◌≡◌, ◌<◌, ℕ, map, get_or, false}
 use Rattle.std.specs.Prelude.{◌==◌}
-use Rattle.mm_flight.specs.Requests.{number_of}
+use Rattle.mm_flight.specs.{number_of}
 use Rattle.mm_flight.proofs.flights.Flight.place_of.Given as goal
 
 abbrev pub invariant-loop-i : goal.invariant-loop-i

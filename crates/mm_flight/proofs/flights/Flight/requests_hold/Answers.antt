@@ -1,7 +1,7 @@
 use Rattle.std.proofs.Common.{◌≡◌, ◌≤◌, length, subst, arith}
 use Rattle.std.proofs.lemmas.List.{length-map}
-use Rattle.mm_flight.specs.Requests.{FlightOf, Holds, number_of}
-use Rattle.mm_flight.proofs.Keeping.{holds_at}
+use Rattle.mm_flight.specs.{FlightOf, Holds, number_of}
+use Rattle.mm_flight.proofs.{holds_at}
 use Rattle.mm_flight.proofs.flights.Flight.requests_hold.Goals as goal
 
 pub returns-clause-holds : goal.returns-clause-holds

@@ -1,8 +1,8 @@
 use Rattle.std.proofs.Common.{ap, arith, length}
 use Rattle.std.proofs.lemmas.List.Sums.{length-filter, count_by-le-length}
-use Rattle.mm_life.specs.Frames.{record_at}
-use Rattle.mm_lists.specs.Lists.{ListsOf, list_at}
-use Rattle.mm_frames.specs.Base.{FramesOf, has_block, modified_with_block}
+use Rattle.mm_life.specs.{record_at}
+use Rattle.mm_lists.specs.{ListsOf, list_at}
+use Rattle.mm_frames.specs.{FramesOf, has_block, modified_with_block}
 use Rattle.mm_frames.proofs.frames.Frames.modified_with_block.Goals as goal
 
 pub returns-clause-most : goal.returns-clause-most

@@ -1,13 +1,11 @@
 use Rattle.std.proofs.Common.{sym, subst, None, Option, List, ℕ, replicate}
-use Rattle.mm_types.specs.declared.frames.Record.{Record}
-use Rattle.mm_life.specs.Frames.{blank}
-use Rattle.mm_lists.specs.Lists.{ListsOf}
-use Rattle.mm_frames.specs.declared.standing.Standing.{Standing}
+use Rattle.mm_types.specs.{Record}
+use Rattle.mm_life.specs.{blank}
+use Rattle.mm_lists.specs.{ListsOf}
+use Rattle.mm_frames.specs.{Standing, AreFrames, AreBacked}
 use Rattle.mm_frames.specs.declared.standing.Standing.TheVariants.{Free}
 use Rattle.mm_lists.specs.contracts.lists.Lists.{the_view}
-use Rattle.mm_frames.specs.Placing.{AreFrames, AreBacked}
-use Rattle.mm_frames.proofs.Fresh.{all_free}
-use Rattle.mm_frames.proofs.WithBlock.{none_backed}
+use Rattle.mm_frames.proofs.{all_free, none_backed}
 use Rattle.mm_frames.proofs.frames.Frames.new.Goals as goal
 
 pub invariant_of-result-2 : goal.invariant_of-result-2

@@ -1,78 +1,19 @@
-use Rattle.std.proofs.Common.{◌≡◌, true, sym, ap, ◌∙◌, subst, refl, List, map, get_or, set}
+use Rattle.std.proofs.Common.{ap, ◌∙◌, arith}
 use Rattle.std.specs.Prelude.{is_some}
-use Rattle.mm_types.specs.declared.frames.Record.{Record}
-use Rattle.mm_life.specs.Frames.{FrameTable, blank, record_at, is_idle, shared, after_map}
-use Rattle.mm_lists.specs.Lists.{ListsOf, AreApart, without}
-use Rattle.mm_frames.specs.Base.{FramesOf, is_modified_with_block}
-use Rattle.mm_frames.specs.Placing.{AreFrames, is_kept, table_of}
-use Rattle.mm_frames.proofs.Placings.{kept_owned, frame_written, idle_on_one, busy_on_none, left_busy, off_table, shared_off}
-use Rattle.mm_frames.proofs.WithBlock.{with_block_on, without_block_off, left_now}
+use Rattle.mm_types.specs.{Record}
+use Rattle.mm_life.specs.{record_at, off_lists, shared, with_record}
+use Rattle.mm_frames.proofs.{kept_owned, owned_used, shared_busy}
 use Rattle.mm_frames.proofs.frames.Frames.share.Goals as goal
 
-pub leave-requires-clause-on_one : goal.leave-requires-clause-on_one
-leave-requires-clause-on_one c = λ e.
-    let i = c.self.inside in
-    let f = c.args.f.0 in
-    let owned : is_some (get_or i.records f blank).owner ≡ true = ap (λ (w : FramesOf). is_some (record_at w.table f).owner) c.self.view_is ∙ c.requires.owned in
-    let kept : is_kept (get_or i.records f blank) ≡ true = kept_owned (get_or i.records f blank) owned in
-    let idle : is_idle (get_or i.records f blank) ≡ c.is_idle.result = sym (ap is_idle c.get-r.ensures) ∙ sym c.is_idle.ensures in
-    idle_on_one i.records i.standing.items i.lists i.ram c.self.invariant.placed f kept (idle ∙ e)
+pub rebind-requires-clause-bound : goal.rebind-requires-clause-bound
+rebind-requires-clause-bound c = owned_used (record_at c.args.self.now.table c.args.f.0) c.requires.owned
 
-pub leave-requires-clause-on_none : goal.leave-requires-clause-on_none
-leave-requires-clause-on_none c = λ e.
-    let i = c.self.inside in
-    let f = c.args.f.0 in
-    let owned : is_some (get_or i.records f blank).owner ≡ true = ap (λ (w : FramesOf). is_some (record_at w.table f).owner) c.self.view_is ∙ c.requires.owned in
-    let kept : is_kept (get_or i.records f blank) ≡ true = kept_owned (get_or i.records f blank) owned in
-    let idle : is_idle (get_or i.records f blank) ≡ c.is_idle.result = sym (ap is_idle c.get-r.ensures) ∙ sym c.is_idle.ensures in
-    busy_on_none i.records i.standing.items i.lists i.ram c.self.invariant.placed f kept (idle ∙ e)
-
-pub leave-requires-2-clause-on_one : goal.leave-requires-2-clause-on_one
-leave-requires-2-clause-on_one c = λ e.
-    let i = c.self.inside in
-    let f = c.args.f.0 in
-    let kept : is_kept (get_or i.records f blank) ≡ true = kept_owned (get_or i.records f blank) (ap (λ (w : FramesOf). is_some (record_at w.table f).owner) c.self.view_is ∙ c.requires.owned) in
-    let is : is_modified_with_block (get_or i.records f blank) ≡ c.is_modified_with_block.result = sym (ap is_modified_with_block c.get-r.ensures) ∙ sym c.is_modified_with_block.ensures in
-    with_block_on i.records i.standing.items i.lists i.with_block i.ram c.self.invariant.placed c.self.invariant.backed f kept (is ∙ e)
-
-pub leave-requires-2-clause-on_none : goal.leave-requires-2-clause-on_none
-leave-requires-2-clause-on_none c = λ e.
-    let i = c.self.inside in
-    let f = c.args.f.0 in
-    let is : is_modified_with_block (get_or i.records f blank) ≡ c.is_modified_with_block.result = sym (ap is_modified_with_block c.get-r.ensures) ∙ sym c.is_modified_with_block.ensures in
-    without_block_off i.records i.standing.items i.lists i.with_block i.ram c.self.invariant.placed c.self.invariant.backed f (is ∙ e)
-
-pub invariant_of-self : goal.invariant_of-self
-invariant_of-self c =
-    let i = c.self.inside in
-    let f = c.args.f.0 in
-    let owned : is_some (get_or i.records f blank).owner ≡ true = ap (λ (w : FramesOf). is_some (record_at w.table f).owner) c.self.view_is ∙ c.requires.owned in
-    let kept : is_kept (get_or i.records f blank) ≡ true = kept_owned (get_or i.records f blank) owned in
-    let now : c.set.new.self ≡ set i.records f (shared (get_or i.records f blank)) = c.set.ensures ∙ ap (λ (q : Record). set i.records f (shared q)) c.get-r.ensures in
-    let apart = subst (λ (ls : ListsOf). AreApart ls) c.leave.ensures.left c.leave.ensures.apart in
-    let made = left_busy i.records i.standing.items i.lists i.ram c.self.invariant.placed f kept (shared (get_or i.records f blank)) apart (shared_off (get_or i.records f blank))
-    (record {
-      empty = λ d. absurd (d refl);
-      kept = λ e. kept_owned (shared (get_or i.records f blank)) owned;
-      zero = λ e. cc;
-      written = λ e d. frame_written i.records i.standing.items i.lists i.ram c.self.invariant.placed f kept d;
-    }) in
-    record {
-      placed =
-          subst (λ (ls : ListsOf). AreFrames c.set.new.self i.standing.items ls i.ram) (sym c.leave.ensures.left)
-          (subst (λ (rs : List Record). AreFrames rs i.standing.items (record i.lists { lists = map (without f) i.lists.lists }) i.ram) (sym now) made);
-      backed =
-          left_now i.records i.lists i.with_block c.self.invariant.backed f (shared (get_or i.records f blank)) c.set.new.self now c.leave.new.lists c.leave-2.new.lists c.leave-2.ensures.apart c.leave.ensures.left c.leave-2.ensures.left;
-    }
+pub rebind-requires-clause-kept : goal.rebind-requires-clause-kept
+rebind-requires-clause-kept c = λ k. kept_owned (shared c.look-r.result) (ap (λ (r : Record). is_some r.owner) c.look-r.ensures ∙ c.requires.owned)
 
 pub returns : goal.returns
 returns c =
-    let i = c.self.inside in
+    let v = c.args.self.now in
     let f = c.args.f.0 in
-    let owned : is_some (get_or i.records f blank).owner ≡ true = ap (λ (w : FramesOf). is_some (record_at w.table f).owner) c.self.view_is ∙ c.requires.owned in
-    let kept : is_kept (get_or i.records f blank) ≡ true = kept_owned (get_or i.records f blank) owned in
-    let now : c.set.new.self ≡ set i.records f (shared (get_or i.records f blank)) = c.set.ensures ∙ ap (λ (q : Record). set i.records f (shared q)) c.get-r.ensures in
-    ap (λ (rs : List Record). record { table = table_of rs c.leave.new.lists.lists; bytes = i.ram; standing = i.standing.items }) now
-    ∙ ap (λ (ls : ListsOf). record { table = table_of (set i.records f (shared (get_or i.records f blank))) ls.lists; bytes = i.ram; standing = i.standing.items }) c.leave.ensures.left
-    ∙ ap (λ (t : FrameTable). record { table = t; bytes = i.ram; standing = i.standing.items }) (off_table i.records i.standing.items i.lists i.ram c.self.invariant.placed f kept (shared (get_or i.records f blank)))
-    ∙ ap (λ (w : FramesOf). record w { table = after_map w.table f }) c.self.view_is
+    c.rebind.ensures.left (shared_busy (shared c.look-r.result) (omega arith))
+    ∙ ap (λ (r : Record). record v { table = with_record (off_lists v.table f) f (shared r) }) c.look-r.ensures

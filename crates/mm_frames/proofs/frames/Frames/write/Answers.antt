@@ -1,28 +1,13 @@
-use Rattle.std.proofs.Common.{◌≡◌, true, false, sym, ap, ◌∙◌, subst, List, ℕ, Option, get_or}
-use Rattle.std.specs.Prelude.{is_some}
-use Rattle.mm_life.specs.Frames.{blank, record_at, is_read}
-use Rattle.mm_ram.specs.Ram.{bytes_of, overwritten}
-use Rattle.mm_frames.specs.Base.{FramesOf}
-use Rattle.mm_frames.specs.Placing.{AreFrames, is_kept}
-use Rattle.mm_frames.proofs.Placings.{kept_owned, frame_written, rewritten}
+use Rattle.mm_life.specs.{record_at}
+use Rattle.mm_ram.specs.{bytes_of, overwritten}
+use Rattle.mm_frames.proofs.{owned_used, page_written, page_changed}
 use Rattle.mm_frames.proofs.frames.Frames.write.Goals as goal
 
 pub write-requires-clause-written : goal.write-requires-clause-written
 write-requires-clause-written c =
-    let i = c.self.inside in
-    let kept : is_kept (get_or i.records c.args.f.0 blank) ≡ true = kept_owned (get_or i.records c.args.f.0 blank) (ap (λ (w : FramesOf). is_some (record_at w.table c.args.f.0).owner) c.self.view_is ∙ c.requires.owned) in
-    let not_read : is_read (get_or i.records c.args.f.0 blank).request ≡ false = ap (λ (w : FramesOf). is_read (record_at w.table c.args.f.0).request) c.self.view_is ∙ c.requires.not_read in
-    frame_written i.records i.standing.items i.lists i.ram c.self.invariant.placed c.args.f.0 kept not_read
+    page_written c.self.invariant c.self.view_is c.args.f.0 (owned_used (record_at c.args.self.now.table c.args.f.0) c.requires.owned) c.requires.not_read
 
 pub invariant_of-self : goal.invariant_of-self
 invariant_of-self c =
-    let i = c.self.inside in
-    let kept : is_kept (get_or i.records c.args.f.0 blank) ≡ true = kept_owned (get_or i.records c.args.f.0 blank) (ap (λ (w : FramesOf). is_some (record_at w.table c.args.f.0).owner) c.self.view_is ∙ c.requires.owned) in
-    let not_read : is_read (get_or i.records c.args.f.0 blank).request ≡ false = ap (λ (w : FramesOf). is_read (record_at w.table c.args.f.0).request) c.self.view_is ∙ c.requires.not_read in
-    record {
-      placed =
-          subst (λ (m : List (Option (List ℕ))). AreFrames i.records i.standing.items i.lists m) (sym c.write.ensures)
-          (rewritten i.records i.standing.items i.lists i.ram c.self.invariant.placed c.args.f.0 kept (overwritten (bytes_of i.ram c.args.f.0) c.args.off c.args.bytes.now));
-      backed =
-          c.self.invariant.backed;
-    }
+    page_changed c.self.invariant c.self.view_is c.args.f.0 (owned_used (record_at c.args.self.now.table c.args.f.0) c.requires.owned)
+    c.write.new.self (overwritten (bytes_of c.self.inside.ram c.args.f.0) c.args.off c.args.bytes.now) c.write.ensures

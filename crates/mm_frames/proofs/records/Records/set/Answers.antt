@@ -1,6 +1,6 @@
 use Rattle.std.proofs.Common.{◌<◌, length, ap, arith}
-use Rattle.mm_life.specs.Life.{is_active, is_in_transition}
-use Rattle.mm_frames.proofs.Counting.{counted}
+use Rattle.mm_life.specs.{is_active, is_in_transition}
+use Rattle.mm_frames.proofs.{counted}
 use Rattle.mm_frames.proofs.records.Records.set.Goals as goal
 
 pub overflow_add-self : goal.overflow_add-self

@@ -1,5 +1,5 @@
-use Rattle.mm_classes.specs.Marking.{marks_of}
-use Rattle.mm_histories.proofs.Told.{history_none}
+use Rattle.mm_classes.specs.{marks_of}
+use Rattle.mm_histories.proofs.{history_none}
 use Rattle.mm_histories.proofs.histories.HistoryTeller.new.Goals as goal
 
 pub returns : goal.returns

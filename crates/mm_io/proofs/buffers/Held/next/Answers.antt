@@ -1,8 +1,6 @@
 use Rattle.std.proofs.Common.{arith, ◌∙◌}
-use Rattle.mm_io.specs.Lines.{IsLine}
-use Rattle.mm_io.specs.Looking.{HasLine}
-use Rattle.mm_io.proofs.Feeds.{recent_line}
-use Rattle.mm_io.proofs.Fillings.{filled_then, recent_after}
+use Rattle.mm_io.specs.{IsLine, HasLine}
+use Rattle.mm_io.proofs.{recent_line, filled_then, recent_after}
 use Rattle.mm_io.proofs.buffers.Held.next.Goals as goal
 
 pub returns-in-Line-clause-finds : goal.returns-in-Line-clause-finds

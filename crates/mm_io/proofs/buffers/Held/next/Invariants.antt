@@ -1,6 +1,6 @@
 use Rattle.std.proofs.Common.{◌≡◌, ◌-◌, ◌≤◌, length}
-use Rattle.mm_io.specs.Filling.{Filled}
-use Rattle.mm_io.proofs.Feeds.{Recent}
+use Rattle.mm_io.specs.{Filled}
+use Rattle.mm_io.proofs.{Recent}
 use Rattle.mm_io.proofs.buffers.Held.next.Given as goal
 
 abbrev pub invariant-loop-n : goal.invariant-loop-n

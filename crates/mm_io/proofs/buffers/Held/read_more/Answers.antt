@@ -1,5 +1,5 @@
 use Rattle.std.proofs.Common.{◌-◌, ◌++◌, take, ap, ◌∙◌, arith}
-use Rattle.mm_io.proofs.Views.{read_view_at}
+use Rattle.mm_io.proofs.{read_view_at}
 use Rattle.mm_io.proofs.buffers.Held.read_more.Goals as goal
 
 pub returns-clause-filled : goal.returns-clause-filled

@@ -1,5 +1,4 @@
-use Rattle.mm_lists.proofs.Standing.{opened, apart}
-use Rattle.mm_lists.proofs.Changes.{front_there}
+use Rattle.mm_lists.proofs.{opened, apart, front_there}
 use Rattle.std.proofs.Common.{sym}
 use Rattle.mm_lists.proofs.lists.Lists.front.Goals as goal
 

@@ -1,4 +1,4 @@
-use Rattle.mm_lists.proofs.Standing.{opened, apart}
+use Rattle.mm_lists.proofs.{opened, apart}
 use Rattle.mm_lists.proofs.lists.Lists.len.Goals as goal
 
 pub returns-clause-apart : goal.returns-clause-apart

@@ -1,5 +1,4 @@
-use Rattle.mm_lists.proofs.Standing.{apart, closed, shows}
-use Rattle.mm_lists.proofs.Changes.{fresh}
+use Rattle.mm_lists.proofs.{apart, closed, shows, fresh}
 use Rattle.mm_lists.proofs.lists.Lists.new.Goals as goal
 
 pub invariant_of-result : goal.invariant_of-result

@@ -1,6 +1,5 @@
 use Rattle.std.proofs.Common.{sym, arith, add-one}
-use Rattle.mm_lists.proofs.Standing.{opened, apart}
-use Rattle.mm_lists.proofs.Changes.{x_low, list_is, list_low, none_behind, one_behind}
+use Rattle.mm_lists.proofs.{opened, apart, x_low, list_is, list_low, none_behind, one_behind}
 use Rattle.mm_lists.proofs.lists.Lists.next.Goals as goal
 
 pub index-requires : goal.index-requires

@@ -1,6 +1,5 @@
 use Rattle.std.proofs.Common.{sym, arith}
-use Rattle.mm_lists.proofs.Standing.{opened, apart, closed, shows}
-use Rattle.mm_lists.proofs.Changes.{front_there, front_low, popped}
+use Rattle.mm_lists.proofs.{opened, apart, closed, shows, front_there, front_low, popped}
 use Rattle.mm_lists.proofs.lists.Lists.pop_front.Goals as goal
 
 pub returns-then-len-eq0-clause-apart : goal.returns-then-len-eq0-clause-apart

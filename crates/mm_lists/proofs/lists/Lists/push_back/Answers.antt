@@ -1,6 +1,5 @@
 use Rattle.std.proofs.Common.{arith}
-use Rattle.mm_lists.proofs.Standing.{opened, apart, closed, shows}
-use Rattle.mm_lists.proofs.Changes.{back_low, room, first_pushed, pushed}
+use Rattle.mm_lists.proofs.{opened, apart, closed, shows, back_low, room, first_pushed, pushed}
 use Rattle.mm_lists.proofs.lists.Lists.push_back.Goals as goal
 
 pub overflow_add-len : goal.overflow_add-len

@@ -1,5 +1,5 @@
 use Rattle.mm_replay.specs.Standing.{life}
-use Rattle.mm_log.proofs.Stories.{stands_more, came_stop, came_halt}
+use Rattle.mm_log.proofs.{stands_more, came_stop, came_halt}
 use Rattle.mm_log.proofs.checks.Checker.next.Goals as goal
 
 pub returns-in-Err-clause-went : goal.returns-in-Err-clause-went

@@ -1,7 +1,7 @@
 use Rattle.std.proofs.Common.{◌≡◌, ℕ, ◌+◌, ◌-◌, length, arith, subst}
 use Rattle.mm_replay.specs.Standing.{life}
-use Rattle.mm_log.specs.Reading.{Lines}
-use Rattle.mm_log.proofs.Readings.{lines_here, took_line, stops_read, stops_full, stops_long, stops_last, finds_line, finds_long, finds_end}
+use Rattle.mm_log.specs.{Lines}
+use Rattle.mm_log.proofs.{lines_here, took_line, stops_read, stops_full, stops_long, stops_last, finds_line, finds_long, finds_end}
 use Rattle.mm_log.proofs.readers.LogReader.next_move.Goals as goal
 
 pub returns-in-Err-clause-read : goal.returns-in-Err-clause-read

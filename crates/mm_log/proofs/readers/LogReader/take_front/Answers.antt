@@ -1,9 +1,9 @@
 use Rattle.std.proofs.Common.{rules, ◌-◌, length, drop, refl, ap, subst, ◌∙◌}
-use Rattle.mm_types.specs.Spelling.{Text}
-use Rattle.mm_life.specs.Legal.{IsLegal}
+use Rattle.mm_types.specs.{Text}
+use Rattle.mm_life.specs.{IsLegal}
 use Rattle.mm_replay.specs.Standing.{life}
-use Rattle.mm_log.specs.InFront.{StandsInFront}
-use Rattle.mm_log.proofs.Readings.{took_front}
+use Rattle.mm_log.specs.{StandsInFront}
+use Rattle.mm_log.proofs.{took_front}
 use Rattle.mm_log.proofs.readers.LogReader.take_front.Goals as goal
 
 pub returns-clause-read : goal.returns-clause-read

@@ -1,5 +1,5 @@
 use Rattle.std.proofs.Common.{rules, ◌≡◌, false}
-use Rattle.mm_moves.proofs.Growing.{grew_whole, grew_cut}
+use Rattle.mm_moves.proofs.{grew_whole, grew_cut}
 use Rattle.mm_moves.proofs.recorders.RecorderMoves.note.Goals as goal
 
 pub returns-in-Ok-clause-grew : goal.returns-in-Ok-clause-grew

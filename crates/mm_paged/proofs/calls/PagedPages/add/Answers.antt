@@ -1,9 +1,8 @@
 use Rattle.std.proofs.Common.{ap, ◌∙◌}
-use Rattle.mm_world.specs.World.{filled}
-use Rattle.mm_moving.specs.Shown.{StateOf}
-use Rattle.mm_paged.specs.Store.{own_in, paged_state}
-use Rattle.mm_paged.proofs.Shows.{changed_keys, adds_passes, added_store}
-use Rattle.mm_paged.proofs.Unmoved.{stands_nowhere}
+use Rattle.mm_world.specs.{filled}
+use Rattle.mm_moving.specs.{StateOf}
+use Rattle.mm_paged.specs.{own_in, paged_state}
+use Rattle.mm_paged.proofs.{changed_keys, adds_passes, added_store, stands_nowhere}
 use Rattle.mm_paged.proofs.calls.PagedPages.add.Goals as goal
 
 pub returns-clause-contents : goal.returns-clause-contents

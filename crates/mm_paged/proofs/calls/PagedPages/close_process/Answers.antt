@@ -1,8 +1,7 @@
 use Rattle.std.proofs.Common.{ap}
-use Rattle.mm_moving.specs.Shown.{StateOf}
-use Rattle.mm_paged.specs.Shown.{behind_of}
-use Rattle.mm_paged.specs.Store.{own_in, paged_state}
-use Rattle.mm_paged.proofs.Unmoved.{turns_still}
+use Rattle.mm_moving.specs.{StateOf}
+use Rattle.mm_paged.specs.{behind_of, own_in, paged_state}
+use Rattle.mm_paged.proofs.{turns_still}
 use Rattle.mm_paged.proofs.calls.PagedPages.close_process.Goals as goal
 
 pub returns-clause-passes : goal.returns-clause-passes

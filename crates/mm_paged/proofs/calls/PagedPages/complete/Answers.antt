@@ -1,5 +1,6 @@
-use Rattle.mm_paged.specs.Store.{own_in, paged_state}
-use Rattle.mm_paged.proofs.Completed.{ended_store, ended_contents, ended_none, ended_some, ended_ok, ended_failed, ended_blames, ended_served, ended_stored, ended_passes, ended_kept}
+use Rattle.mm_paged.specs.{own_in, paged_state}
+use Rattle.mm_paged.proofs.{ended_store, ended_contents, ended_none, ended_some, ended_ok, ended_failed, ended_blames, ended_served, ended_stored}
+use Rattle.mm_paged.proofs.{ended_passes, ended_kept}
 use Rattle.mm_paged.proofs.calls.PagedPages.complete.Goals as goal
 
 pub returns-clause-contents : goal.returns-clause-contents

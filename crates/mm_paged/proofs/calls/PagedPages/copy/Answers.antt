@@ -1,6 +1,8 @@
 use Rattle.std.proofs.Common.{refl, sym, ap, ◌∙◌}
-use Rattle.mm_paged.specs.Store.{own_in, paged_state}
-use Rattle.mm_paged.proofs.CopyEnds.{plain_where_free, plain_where_short, never_unready, copy_served, failed_served, copy_passes, failed_passes, copied_store_at, failed_store, failed_dead, copied_ends, failed_causes_copy, failed_ends_copy, some_bytes, copied_kept, failed_kept}
+use Rattle.mm_paged.specs.{own_in, paged_state}
+use Rattle.mm_paged.proofs.{plain_where_free, plain_where_short, never_unready, copy_served, failed_served, copy_passes, failed_passes}
+use Rattle.mm_paged.proofs.{copied_store_at, failed_store, failed_dead, copied_ends, failed_causes_copy, failed_ends_copy, some_bytes, copied_kept}
+use Rattle.mm_paged.proofs.{failed_kept}
 use Rattle.mm_paged.proofs.calls.PagedPages.copy.Goals as goal
 
 pub copy_page-done-requires-clause-needs : goal.copy_page-done-requires-clause-needs

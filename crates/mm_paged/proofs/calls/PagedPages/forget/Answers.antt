@@ -1,5 +1,5 @@
-use Rattle.mm_paged.specs.Store.{own_in}
-use Rattle.mm_paged.proofs.Unmoved.{forgot_store, forgot_passes}
+use Rattle.mm_paged.specs.{own_in}
+use Rattle.mm_paged.proofs.{forgot_store, forgot_passes}
 use Rattle.mm_paged.proofs.calls.PagedPages.forget.Goals as goal
 
 pub returns-clause-store : goal.returns-clause-store

@@ -1,17 +1,14 @@
 use Rattle.std.proofs.Common.{◌≡◌, ℕ, false, None, Some, refl, sym, ap, ◌∙◌, subst}
 use Rattle.mm_types.specs.declared.moves.LineKind.TheVariants as kind
 use Rattle.mm_types.specs.declared.moves.Move.TheVariants as move
-use Rattle.mm_types.specs.declared.numbers.Place.{Place}
-use Rattle.mm_blocks.specs.Devices.{DeviceOf}
-use Rattle.mm_life.specs.Effect.{after_move}
-use Rattle.mm_life.specs.Life.{FrameLife}
-use Rattle.mm_life.specs.Waits.{Waiting, waits_after, ages_after}
-use Rattle.mm_pages.specs.Reports.{begun, called}
-use Rattle.mm_pages.specs.Told.{Told, none_told}
-use Rattle.mm_moving.specs.Shown.{StateOf, GrowBegins, moved, asked_to_grow}
-use Rattle.mm_paged.specs.Shown.{OwnOf, store_of}
-use Rattle.mm_paged.specs.Store.{own_in, paged_state}
-use Rattle.mm_paged.proofs.Unmoved.{notes_by}
+use Rattle.mm_types.specs.{Place}
+use Rattle.mm_blocks.specs.{DeviceOf}
+use Rattle.mm_life.specs.{after_move, FrameLife, Waiting, waits_after, ages_after}
+use Rattle.mm_pages.specs.{begun, called, none_told}
+use Rattle.mm_pages.specs.Told.{Told}
+use Rattle.mm_moving.specs.{StateOf, GrowBegins, moved, asked_to_grow}
+use Rattle.mm_paged.specs.{OwnOf, store_of, own_in, paged_state}
+use Rattle.mm_paged.proofs.{notes_by}
 use Rattle.mm_paged.proofs.calls.PagedPages.grow.Goals as goal
 
 -- the line is a call that changes nothing, and the device's count of faults rose

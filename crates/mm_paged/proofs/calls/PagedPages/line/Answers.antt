@@ -1,8 +1,8 @@
 use Rattle.std.proofs.Common.{ap}
 use Rattle.mm_types.specs.declared.moves.Move.TheVariants as move
-use Rattle.mm_moving.specs.Shown.{StateOf}
-use Rattle.mm_paged.specs.Store.{own_in}
-use Rattle.mm_paged.proofs.Shows.{line_store, one_passes}
+use Rattle.mm_moving.specs.{StateOf}
+use Rattle.mm_paged.specs.{own_in}
+use Rattle.mm_paged.proofs.{line_store, one_passes}
 use Rattle.mm_paged.proofs.calls.PagedPages.line.Goals as goal
 
 pub returns-clause-store : goal.returns-clause-store

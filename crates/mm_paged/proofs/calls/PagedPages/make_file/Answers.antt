@@ -1,6 +1,6 @@
 use Rattle.std.proofs.Common.{arith}
-use Rattle.mm_paged.specs.Store.{own_in, paged_state}
-use Rattle.mm_paged.proofs.NewFiles.{built_served, built_notes, unmade_served, unmade_notes}
+use Rattle.mm_paged.specs.{own_in, paged_state}
+use Rattle.mm_paged.proofs.{built_served, built_notes, unmade_served, unmade_notes}
 use Rattle.mm_paged.proofs.calls.PagedPages.make_file.Goals as goal
 
 pub returns-in-Err-clause-served : goal.returns-in-Err-clause-served

@@ -1,6 +1,6 @@
 use Rattle.std.proofs.Common.{refl}
-use Rattle.mm_paged.specs.Store.{own_in}
-use Rattle.mm_paged.proofs.Unmoved.{turns_either}
+use Rattle.mm_paged.specs.{own_in}
+use Rattle.mm_paged.proofs.{turns_either}
 use Rattle.mm_paged.proofs.calls.PagedPages.open_area.Goals as goal
 
 pub returns-clause-passes : goal.returns-clause-passes

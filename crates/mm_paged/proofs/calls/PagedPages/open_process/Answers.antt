@@ -1,7 +1,6 @@
 use Rattle.std.proofs.Common.{refl}
-use Rattle.mm_paged.specs.Store.{own_in}
-use Rattle.mm_paged.proofs.Opening.{process_set}
-use Rattle.mm_paged.proofs.Unmoved.{turns_either}
+use Rattle.mm_paged.specs.{own_in}
+use Rattle.mm_paged.proofs.{process_set, turns_either}
 use Rattle.mm_paged.proofs.calls.PagedPages.open_process.Goals as goal
 
 pub open_process-requires : goal.open_process-requires

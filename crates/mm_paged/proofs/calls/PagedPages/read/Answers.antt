@@ -1,14 +1,11 @@
 use Rattle.std.proofs.Common.{rules, inl, inr, refl, ap, sym, ◌∙◌, subst, length, false}
 use Rattle.std.specs.Prelude.{is_some}
-use Rattle.mm_moving.specs.Shown.{StateOf}
-use Rattle.mm_pages.specs.Reports.{Served}
-use Rattle.mm_pages.specs.Store.{StoreOf}
-use Rattle.mm_pages.proofs.Served.{served_nothing}
-use Rattle.mm_paged.specs.Shown.{store_of}
-use Rattle.mm_paged.specs.Store.{store, own_in, paged_state}
-use Rattle.mm_paged.proofs.Reading.{valid_ends, read_valid_passes, read_went_passes, stuck_passes}
-use Rattle.mm_paged.proofs.Writing.{named_here, read_named}
-use Rattle.mm_paged.proofs.Ending.{of_went, of_stuck, served_in, read_store, err_store, read_served, stored_in, some_is, not_here, faulted_kept}
+use Rattle.mm_moving.specs.{StateOf}
+use Rattle.mm_pages.specs.{Served, StoreOf}
+use Rattle.mm_pages.proofs.{served_nothing}
+use Rattle.mm_paged.specs.{store_of, store, own_in, paged_state}
+use Rattle.mm_paged.proofs.{valid_ends, valid_passes, went_passes, stuck_passes, named_here, read_named, of_went, of_stuck, served_in, ok_store}
+use Rattle.mm_paged.proofs.{err_store, ok_served, stored_in, some_is, not_here, faulted_kept}
 use Rattle.mm_paged.proofs.calls.PagedPages.read.Goals as goal
 
 pub returns-in-Some-clause-served : goal.returns-in-Some-clause-served
@@ -22,15 +19,15 @@ pub returns-in-Some-clause-fault : goal.returns-in-Some-clause-fault
 returns-in-Some-clause-fault g c b = valid_ends c.args.key c.args.place _ _ (own_in c.args.self.now) (g.met.T.Moving.holds c.args.self.now.state) (ap is_some (sym c.valid.ensures ∙ c.in-Some.is)) c.requires.at.named c.read.ensures.rest b
 
 pub returns-in-Some-clause-passes : goal.returns-in-Some-clause-passes
-returns-in-Some-clause-passes g c = read_valid_passes c.args.key c.args.place _ _ (own_in c.args.self.now) (ap is_some (sym c.valid.ensures ∙ c.in-Some.is)) c.read.ensures.rest
+returns-in-Some-clause-passes g c = valid_passes false c.args.key c.args.place (paged_state c.args.self.now) _ (own_in c.args.self.now) _ (ap is_some (sym c.valid.ensures ∙ c.in-Some.is)) c.read.ensures.rest
 
 -- the page is brought
 
 pub returns-in_default-clause-served : goal.returns-in_default-clause-served
-returns-in_default-clause-served g c = read_served c.args.key c.args.place _ _ _ (own_in c.args.self.now) _ (of_went c.args.key c.args.place _ _ (sym c.valid.ensures ∙ c.in-None.is) c.in_default.ensures.ok.went) c.read-in-None.ensures.rest
+returns-in_default-clause-served g c = ok_served false c.args.key c.args.place _ _ _ (own_in c.args.self.now) _ _ (of_went c.args.key c.args.place _ _ (sym c.valid.ensures ∙ c.in-None.is) c.in_default.ensures.ok.went) c.read-in-None.ensures.rest
 
 pub returns-in_default-clause-ok : goal.returns-in_default-clause-ok
-returns-in_default-clause-ok g c = read_store c.args.key c.args.place _ _ _ (own_in c.args.self.now) _ (of_went c.args.key c.args.place _ _ (sym c.valid.ensures ∙ c.in-None.is) c.in_default.ensures.ok.went) (g.met.T.Moving.holds c.args.self.now.state) (g.met.T.Moving.holds c.fault-done.new.state) c.fault-done.ensures.same c.in_default.ensures.ok.names c.read-in-None.ensures.rest refl refl
+returns-in_default-clause-ok g c = ok_store false c.args.key c.args.place _ _ _ (own_in c.args.self.now) _ _ (of_went c.args.key c.args.place _ _ (sym c.valid.ensures ∙ c.in-None.is) c.in_default.ensures.ok.went) (g.met.T.Moving.holds c.args.self.now.state) (g.met.T.Moving.holds c.fault-done.new.state) c.fault-done.ensures.same c.in_default.ensures.ok.names c.read-in-None.ensures.rest refl refl
 
 pub returns-in_default-clause-stored : goal.returns-in_default-clause-stored
 returns-in_default-clause-stored g c = ap (λ (s : StateOf). length s.blocks) c.read-in-None.ensures.rest ∙ stored_in false c.args.key c.args.place _ _ (of_went c.args.key c.args.place _ _ (sym c.valid.ensures ∙ c.in-None.is) c.in_default.ensures.ok.went) (g.met.T.Moving.holds c.args.self.now.state) (g.met.T.Moving.holds c.fault-done.new.state)
@@ -39,7 +36,7 @@ pub returns-in_default-clause-eased : goal.returns-in_default-clause-eased
 returns-in_default-clause-eased g c r = absurd (not_here _ (sym c.valid.ensures ∙ c.in-None.is) (c.args.self.now.kept.ready _ r))
 
 pub returns-in_default-clause-passes : goal.returns-in_default-clause-passes
-returns-in_default-clause-passes g c = read_went_passes c.args.key c.args.place _ _ _ (own_in c.args.self.now) _ _ (sym c.valid.ensures ∙ c.in-None.is) (λ r. c.args.self.now.kept.ready _ r) c.in_default.ensures.ok.went (some_is _ c.in_default.ensures.ok.valid) c.read-in-None.ensures.rest
+returns-in_default-clause-passes g c = went_passes false c.args.key c.args.place _ _ _ (own_in c.args.self.now) _ _ _ (sym c.valid.ensures ∙ c.in-None.is) (λ r. c.args.self.now.kept.ready _ r) (λ a p w b. c.in_default.ensures.ok.went a p b) (some_is _ c.in_default.ensures.ok.valid) c.read-in-None.ensures.rest
 
 pub returns-in-Err-clause-served : goal.returns-in-Err-clause-served
 returns-in-Err-clause-served g c = served_in false c.args.key c.args.place _ _ (own_in c.args.self.now) _ (of_stuck false _ c.args.key c.args.place _ _ (sym c.valid.ensures ∙ c.in-None.is) c.in-Err.ensures.err.stuck)

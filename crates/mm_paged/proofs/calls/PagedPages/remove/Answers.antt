@@ -1,5 +1,5 @@
-use Rattle.mm_paged.specs.Store.{own_in, paged_state}
-use Rattle.mm_paged.proofs.LettingGo.{may_let_own, paging_lives, drop_legal, removed_store, removed_contents, removed_passes}
+use Rattle.mm_paged.specs.{own_in, paged_state}
+use Rattle.mm_paged.proofs.{may_let_own, paging_lives, drop_legal, removed_store, removed_contents, removed_passes}
 use Rattle.mm_paged.proofs.calls.PagedPages.remove.Goals as goal
 
 pub let_own_go-requires : goal.let_own_go-requires

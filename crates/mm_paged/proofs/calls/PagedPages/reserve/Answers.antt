@@ -1,6 +1,6 @@
 use Rattle.std.proofs.Common.{refl}
-use Rattle.mm_paged.specs.Store.{own_in, paged_state}
-use Rattle.mm_paged.proofs.Unmoved.{turns_still}
+use Rattle.mm_paged.specs.{own_in, paged_state}
+use Rattle.mm_paged.proofs.{turns_still}
 use Rattle.mm_paged.proofs.calls.PagedPages.reserve.Goals as goal
 
 pub returns-clause-passes : goal.returns-clause-passes

@@ -1,9 +1,7 @@
 use Rattle.std.proofs.Common.{refl, ap, ◌∙◌}
-use Rattle.mm_life.specs.Legal.{is_thread}
-use Rattle.mm_paged.specs.Shown.{own_of}
-use Rattle.mm_paged.specs.Started.{reason_at_once}
-use Rattle.mm_paged.specs.Store.{own_in, paged_state}
-use Rattle.mm_paged.proofs.StartedStore.{started_store, started_pends, started_awaited, started_waits, started_passes, started_kept}
+use Rattle.mm_life.specs.{is_thread}
+use Rattle.mm_paged.specs.{own_of, reason_at_once, own_in, paged_state}
+use Rattle.mm_paged.proofs.{started_store, started_pends, started_awaited, started_waits, started_passes, started_kept}
 use Rattle.mm_paged.proofs.calls.PagedPages.start.Goals as goal
 
 pub invariant_of-self : goal.invariant_of-self

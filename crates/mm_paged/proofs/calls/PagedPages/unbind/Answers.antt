@@ -1,10 +1,10 @@
 use Rattle.std.proofs.Common.{ap, ◌∙◌, true, false, ◌+◌}
-use Rattle.mm_moving.specs.Shown.{StateOf}
+use Rattle.mm_moving.specs.{StateOf}
 use Rattle.mm_pages.specs.Housekeeping.{Ends}
-use Rattle.mm_pages.specs.Leaving.{page_rank}
-use Rattle.mm_pages.proofs.Passed.{turns_same}
-use Rattle.mm_paged.specs.Store.{store, paged_behind, own_in, paged_state}
-use Rattle.mm_paged.proofs.LettingGo.{pages_low, pages_open, may_let_pages, in_pages, unbound_store, unbound_passes, all_among, all_places}
+use Rattle.mm_pages.specs.{page_rank}
+use Rattle.mm_pages.proofs.{turns_same}
+use Rattle.mm_paged.specs.{store, paged_behind, own_in, paged_state}
+use Rattle.mm_paged.proofs.{pages_low, pages_open, may_let_pages, in_pages, unbound_store, unbound_passes, all_among, all_places}
 use Rattle.mm_paged.proofs.calls.PagedPages.unbind.Goals as goal
 
 pub returns-then-n-eq0-clause-passes : goal.returns-then-n-eq0-clause-passes

@@ -1,14 +1,12 @@
 use Rattle.std.proofs.Common.{rules, inl, inr, refl, ap, sym, ◌∙◌, subst, length, true, Option}
-use Rattle.mm_types.specs.declared.numbers.Key.{Key}
-use Rattle.mm_types.specs.declared.numbers.Place.{Place}
-use Rattle.mm_moving.specs.Shown.{StateOf}
-use Rattle.mm_pages.specs.Reports.{Served}
-use Rattle.mm_pages.specs.Store.{StoreOf}
-use Rattle.mm_pages.proofs.Served.{served_nothing}
-use Rattle.mm_paged.specs.Store.{store, own_in, paged_state}
-use Rattle.mm_paged.proofs.Writing.{brought_written, wrote_eases, wrote_passes, wrote_ends, written_in, soils_names, named_here, wrote_named}
-use Rattle.mm_paged.proofs.Reading.{went_passes, stuck_passes}
-use Rattle.mm_paged.proofs.Ending.{of_went_to_write, of_stuck, served_in, ok_store, err_store, ok_served, stored_in, some_is, not_here, faulted_ends, named_then, faulted_kept}
+use Rattle.mm_types.specs.{Key, Place}
+use Rattle.mm_moving.specs.{StateOf}
+use Rattle.mm_pages.specs.{Served, StoreOf}
+use Rattle.mm_pages.proofs.{served_nothing}
+use Rattle.mm_paged.specs.{store, own_in, paged_state}
+use Rattle.mm_paged.proofs.{brought_written, wrote_eases, wrote_passes, wrote_ends, written_in, soils_names, named_here, wrote_named, went_passes}
+use Rattle.mm_paged.proofs.{stuck_passes, of_went_to_write, of_stuck, served_in, ok_store, err_store, ok_served, stored_in, some_is, not_here}
+use Rattle.mm_paged.proofs.{faulted_ends, named_then, faulted_kept}
 use Rattle.mm_paged.proofs.calls.PagedPages.write.Goals as goal
 
 pub returns-in-Some-clause-written : goal.returns-in-Some-clause-written

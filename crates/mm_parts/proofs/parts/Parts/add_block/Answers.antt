@@ -1,7 +1,6 @@
 use Rattle.std.specs.Prelude.{true, slice_set}
-use Rattle.mm_parts.specs.PartsShown.{joined_parts}
-use Rattle.mm_parts.proofs.Keeping.{step_to}
-use Rattle.mm_parts.proofs.KeyBirths.{add_block_step}
+use Rattle.mm_parts.specs.{joined_parts}
+use Rattle.mm_parts.proofs.{step_to, add_block_step}
 use Rattle.mm_parts.proofs.parts.Parts.add_block.Goals as goal
 
 pub invariant_of-self : goal.invariant_of-self

@@ -1,7 +1,6 @@
 use Rattle.std.proofs.Common.{◌+◌, sym, ◌∙◌, arith}
-use Rattle.mm_parts.specs.PartsShown.{joined_parts}
-use Rattle.mm_parts.proofs.Keeping.{step_to}
-use Rattle.mm_parts.proofs.KeyBirths.{keys_room, copy_none_aside, copy_bound, copy_step, set_step, set_places}
+use Rattle.mm_parts.specs.{joined_parts}
+use Rattle.mm_parts.proofs.{step_to, keys_room, copy_none_aside, copy_bound, copy_step, set_step, set_places}
 use Rattle.mm_parts.proofs.parts.Parts.add_zero.Goals as goal
 
 pub overflow_add-self : goal.overflow_add-self

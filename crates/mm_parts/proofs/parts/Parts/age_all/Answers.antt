@@ -1,6 +1,5 @@
-use Rattle.mm_parts.specs.PartsShown.{joined_parts}
-use Rattle.mm_parts.proofs.Keeping.{step_to}
-use Rattle.mm_parts.proofs.WordSteps.{aged_step}
+use Rattle.mm_parts.specs.{joined_parts}
+use Rattle.mm_parts.proofs.{step_to, aged_step}
 use Rattle.mm_parts.proofs.parts.Parts.age_all.Goals as goal
 
 pub invariant_of-self : goal.invariant_of-self

@@ -1,6 +1,5 @@
-use Rattle.mm_parts.specs.PartsShown.{joined_parts}
-use Rattle.mm_parts.proofs.Keeping.{step_to}
-use Rattle.mm_parts.proofs.LineSteps.{at_shown, set_room}
+use Rattle.mm_parts.specs.{joined_parts}
+use Rattle.mm_parts.proofs.{step_to, at_shown, set_room}
 use Rattle.mm_parts.proofs.parts.Parts.at.Goals as goal
 
 pub begin_set-requires : goal.begin_set-requires

@@ -1,7 +1,6 @@
-use Rattle.mm_words.specs.Pages.{pages}
-use Rattle.mm_parts.specs.PartsShown.{joined_parts}
-use Rattle.mm_parts.proofs.Outcomes.{on_ok, on_err, kept_by, ok_by, err_by}
-use Rattle.mm_parts.proofs.WordSteps.{bind_step, range_user}
+use Rattle.mm_words.specs.{pages}
+use Rattle.mm_parts.specs.{joined_parts}
+use Rattle.mm_parts.proofs.{on_ok, on_err, kept_by, ok_by, err_by, bind_step, range_user}
 use Rattle.mm_parts.proofs.parts.Parts.bind.Goals as goal
 
 pub invariant_of-self : goal.invariant_of-self

@@ -1,7 +1,6 @@
 use Rattle.std.specs.Prelude.{None}
-use Rattle.mm_parts.specs.PartsShown.{joined_parts}
-use Rattle.mm_parts.proofs.Keeping.{step_to}
-use Rattle.mm_parts.proofs.WordSteps.{area_step, area_clear}
+use Rattle.mm_parts.specs.{joined_parts}
+use Rattle.mm_parts.proofs.{step_to, area_step, area_clear}
 use Rattle.mm_parts.proofs.parts.Parts.close_area.Goals as goal
 
 pub close_area-requires-clause-none : goal.close_area-requires-clause-none

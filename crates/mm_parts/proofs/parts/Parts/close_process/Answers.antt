@@ -1,8 +1,7 @@
 use Rattle.std.specs.Prelude.{◌==◌, false}
-use Rattle.mm_life.specs.Life.{changed}
-use Rattle.mm_parts.specs.PartsShown.{joined_parts}
-use Rattle.mm_parts.proofs.Keeping.{step_to}
-use Rattle.mm_parts.proofs.WordSteps.{open_step}
+use Rattle.mm_life.specs.{changed}
+use Rattle.mm_parts.specs.{joined_parts}
+use Rattle.mm_parts.proofs.{step_to, open_step}
 use Rattle.mm_parts.proofs.parts.Parts.close_process.Goals as goal
 
 pub invariant_of-self : goal.invariant_of-self

@@ -1,10 +1,8 @@
 use Rattle.std.proofs.Common.{◌≡◌, sym, ap, ◌∙◌}
-use Rattle.mm_life.specs.Effect.{freed}
-use Rattle.mm_frames.specs.Base.{FramesOf}
-use Rattle.mm_parts.specs.PartsShown.{joined_parts}
-use Rattle.mm_parts.proofs.Keeping.{step_to}
-use Rattle.mm_parts.proofs.FrameSteps.{table_end, write_end_step, ended_table, ended_bytes, write_frees, write_busy}
-use Rattle.mm_parts.proofs.FrameSteps.{held_by_request}
+use Rattle.mm_life.specs.{freed}
+use Rattle.mm_frames.specs.{FramesOf}
+use Rattle.mm_parts.specs.{joined_parts}
+use Rattle.mm_parts.proofs.{step_to, table_end, write_end_step, ended_table, ended_bytes, write_frees, write_busy, held_by_request}
 use Rattle.mm_parts.proofs.parts.Parts.end_write.Goals as goal
 
 pub give_back-requires : goal.give_back-requires

@@ -1,11 +1,9 @@
 use Rattle.std.proofs.Common.{ap, set}
 use Rattle.std.specs.Prelude.{slice_get}
 use Rattle.std.proofs.lemmas.Result.{on_ok_weaker, on_err_weaker}
-use Rattle.mm_frames.specs.Base.{FramesOf}
-use Rattle.mm_parts.specs.Shown.{JoinedParts}
-use Rattle.mm_parts.specs.PartsShown.{joined_parts}
-use Rattle.mm_parts.proofs.Outcomes.{kept_by}
-use Rattle.mm_parts.proofs.WordSteps.{bytes_step}
+use Rattle.mm_frames.specs.{FramesOf}
+use Rattle.mm_parts.specs.{JoinedParts, joined_parts}
+use Rattle.mm_parts.proofs.{kept_by, bytes_step}
 use Rattle.mm_parts.proofs.parts.Parts.fill_from.Goals as goal
 
 pub invariant_of-self : goal.invariant_of-self

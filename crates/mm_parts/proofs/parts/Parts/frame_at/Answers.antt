@@ -1,5 +1,5 @@
-use Rattle.mm_parts.specs.PartsShown.{joined_parts}
-use Rattle.mm_parts.proofs.Using.{valid_there, valid_owned, valid_calm, valid_told, not_valid_told}
+use Rattle.mm_parts.specs.{joined_parts}
+use Rattle.mm_parts.proofs.{valid_there, valid_owned, valid_calm, valid_told, not_valid_told}
 use Rattle.mm_parts.proofs.parts.Parts.frame_at.Goals as goal
 
 pub at-requires : goal.at-requires

@@ -1,9 +1,8 @@
 use Rattle.std.proofs.Common.{ap}
 use Rattle.mm_types.specs.declared.moves.LineKind.TheVariants as kind
-use Rattle.mm_slots.specs.Slots.{SlotsOf}
-use Rattle.mm_parts.specs.PartsShown.{joined_parts}
-use Rattle.mm_parts.proofs.Keeping.{step_to}
-use Rattle.mm_parts.proofs.LineSteps.{grow_shown, grow_machine, slots_small}
+use Rattle.mm_slots.specs.{SlotsOf}
+use Rattle.mm_parts.specs.{joined_parts}
+use Rattle.mm_parts.proofs.{step_to, grow_shown, grow_machine, slots_small}
 use Rattle.mm_parts.proofs.parts.Parts.grow.Goals as goal
 
 pub with_slots-self-requires : goal.with_slots-self-requires

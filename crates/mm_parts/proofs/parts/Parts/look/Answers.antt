@@ -1,6 +1,6 @@
 use Rattle.std.proofs.Common.{arith}
-use Rattle.mm_parts.specs.PartsShown.{joined_parts}
-use Rattle.mm_parts.proofs.Keeping.{known}
+use Rattle.mm_parts.specs.{joined_parts}
+use Rattle.mm_parts.proofs.{known}
 use Rattle.mm_parts.proofs.parts.Parts.look.Goals as goal
 
 pub look-requires : goal.look-requires

@@ -1,12 +1,11 @@
 use Rattle.std.proofs.Common.{◌≡◌, ℕ, ap, ◌∙◌}
 use Rattle.std.proofs.Common.{true, false, [], None, replicate, rules}
-use Rattle.mm_types.specs.Machine.{IsMachine}
-use Rattle.mm_life.specs.Life.{free_table}
-use Rattle.mm_frames.specs.Base.{FramesOf}
+use Rattle.mm_types.specs.{IsMachine}
+use Rattle.mm_life.specs.{free_table}
+use Rattle.mm_frames.specs.{FramesOf}
 use Rattle.mm_flight.specs.declared.flights.Waiting.TheVariants as waiting
-use Rattle.mm_parts.specs.Start.{first_parts, started_parts}
-use Rattle.mm_parts.proofs.Keeping.{step_to}
-use Rattle.mm_parts.proofs.Starting.{start_step}
+use Rattle.mm_parts.specs.{first_parts, started_parts}
+use Rattle.mm_parts.proofs.{step_to, start_step}
 use Rattle.mm_parts.proofs.parts.Parts.new.Goals as goal
 
 pub invariant_of-result : goal.invariant_of-result

@@ -1,5 +1,5 @@
-use Rattle.mm_parts.specs.PartsShown.{joined_parts}
-use Rattle.mm_parts.proofs.Ageing.{next_shown}
+use Rattle.mm_parts.specs.{joined_parts}
+use Rattle.mm_parts.proofs.{next_shown}
 use Rattle.mm_parts.proofs.parts.Parts.next_valid.Goals as goal
 
 pub returns : goal.returns

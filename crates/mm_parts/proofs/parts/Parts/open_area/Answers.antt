@@ -1,7 +1,6 @@
 use Rattle.std.proofs.Common.{Some}
-use Rattle.mm_parts.specs.PartsShown.{joined_parts}
-use Rattle.mm_parts.proofs.Outcomes.{on_ok, on_err, kept_by, ok_by, err_by}
-use Rattle.mm_parts.proofs.WordSteps.{area_step}
+use Rattle.mm_parts.specs.{joined_parts}
+use Rattle.mm_parts.proofs.{on_ok, on_err, kept_by, ok_by, err_by, area_step}
 use Rattle.mm_parts.proofs.parts.Parts.open_area.Goals as goal
 
 pub invariant_of-self : goal.invariant_of-self

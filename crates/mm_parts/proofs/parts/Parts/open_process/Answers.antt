@@ -1,8 +1,7 @@
 use Rattle.std.specs.Prelude.{◌==◌, true}
-use Rattle.mm_life.specs.Life.{changed}
-use Rattle.mm_parts.specs.PartsShown.{joined_parts}
-use Rattle.mm_parts.proofs.Outcomes.{on_ok, on_err, kept_by, ok_by, err_by}
-use Rattle.mm_parts.proofs.WordSteps.{open_step}
+use Rattle.mm_life.specs.{changed}
+use Rattle.mm_parts.specs.{joined_parts}
+use Rattle.mm_parts.proofs.{on_ok, on_err, kept_by, ok_by, err_by, open_step}
 use Rattle.mm_parts.proofs.parts.Parts.open_process.Goals as goal
 
 pub invariant_of-self : goal.invariant_of-self

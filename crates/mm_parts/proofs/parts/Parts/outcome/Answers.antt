@@ -1,4 +1,4 @@
-use Rattle.mm_parts.proofs.Waiting.{outcome_told}
+use Rattle.mm_parts.proofs.{outcome_told}
 use Rattle.mm_parts.proofs.parts.Parts.outcome.Goals as goal
 
 pub returns : goal.returns

@@ -1,5 +1,5 @@
-use Rattle.mm_parts.specs.PartsShown.{joined_parts}
-use Rattle.mm_parts.proofs.FrameSteps.{write_kept}
+use Rattle.mm_parts.specs.{joined_parts}
+use Rattle.mm_parts.proofs.{write_kept}
 use Rattle.mm_parts.proofs.parts.Parts.page.Goals as goal
 
 pub page-requires-clause-kept : goal.page-requires-clause-kept

@@ -1,5 +1,5 @@
-use Rattle.mm_parts.specs.PartsShown.{joined_parts}
-use Rattle.mm_parts.proofs.Holding.{lines_hold, pages_hold, storage_holds}
+use Rattle.mm_parts.specs.{joined_parts}
+use Rattle.mm_parts.proofs.{lines_hold, pages_hold, storage_holds}
 use Rattle.mm_parts.proofs.parts.Parts.parts_hold.Goals as goal
 
 pub returns-clause-lines : goal.returns-clause-lines

@@ -1,5 +1,5 @@
-use Rattle.mm_parts.specs.PartsShown.{joined_parts}
-use Rattle.mm_parts.proofs.Waiting.{few_requests, own_alone}
+use Rattle.mm_parts.specs.{joined_parts}
+use Rattle.mm_parts.proofs.{few_requests, own_alone}
 use Rattle.mm_parts.proofs.parts.Parts.place_of.Goals as goal
 
 pub place_of_request-requires-clause-few : goal.place_of_request-requires-clause-few

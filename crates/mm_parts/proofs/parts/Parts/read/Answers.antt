@@ -1,10 +1,8 @@
 use Rattle.std.proofs.Common.{ap, ◌∙◌, length}
-use Rattle.mm_types.specs.declared.numbers.Frame.{Frame}
-use Rattle.mm_ram.specs.Ram.{bytes_of, bytes_from}
-use Rattle.mm_parts.specs.PartsShown.{joined_parts}
-use Rattle.mm_parts.proofs.Keeping.{step_to}
-use Rattle.mm_parts.proofs.WordSteps.{used_step}
-use Rattle.mm_parts.proofs.Using.{one_frame, valid_entry}
+use Rattle.mm_types.specs.{Frame}
+use Rattle.mm_ram.specs.{bytes_of, bytes_from}
+use Rattle.mm_parts.specs.{joined_parts}
+use Rattle.mm_parts.proofs.{step_to, used_step, one_frame, valid_entry}
 use Rattle.mm_parts.proofs.parts.Parts.read.Goals as goal
 
 pub touch-requires : goal.touch-requires

@@ -1,5 +1,5 @@
-use Rattle.mm_parts.specs.PartsShown.{joined_parts}
-use Rattle.mm_parts.proofs.Waiting.{few_requests}
+use Rattle.mm_parts.specs.{joined_parts}
+use Rattle.mm_parts.proofs.{few_requests}
 use Rattle.mm_parts.proofs.parts.Parts.requests.Goals as goal
 
 pub number_of-requires : goal.number_of-requires

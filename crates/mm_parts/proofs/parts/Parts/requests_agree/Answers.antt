@@ -1,4 +1,4 @@
-use Rattle.mm_parts.specs.PartsShown.{joined_parts}
+use Rattle.mm_parts.specs.{joined_parts}
 use Rattle.mm_parts.proofs.Agreeing.{requests_agree}
 use Rattle.mm_parts.proofs.parts.Parts.requests_agree.Goals as goal
 

@@ -1,4 +1,4 @@
-use Rattle.mm_parts.specs.PartsShown.{joined_parts}
+use Rattle.mm_parts.specs.{joined_parts}
 use Rattle.mm_parts.proofs.Agreeing.{sets_agree}
 use Rattle.mm_parts.proofs.parts.Parts.sets_agree.Goals as goal
 

@@ -1,4 +1,4 @@
-use Rattle.mm_parts.specs.PartsShown.{shown_parts}
+use Rattle.mm_parts.specs.{shown_parts}
 use Rattle.mm_parts.proofs.Agreeing.{slots_agree}
 use Rattle.mm_parts.proofs.parts.Parts.slots_agree.Goals as goal
 

@@ -1,41 +1,32 @@
-use Rattle.std.proofs.Common.{◌≡◌, ap, ◌∙◌}
-use Rattle.mm_life.specs.Frames.{after_soil}
-use Rattle.mm_life.specs.Effect.{freed}
-use Rattle.mm_frames.specs.Base.{FramesOf}
-use Rattle.mm_slots.specs.Slots.{SlotsOf}
-use Rattle.mm_parts.specs.PartsShown.{joined_parts}
-use Rattle.mm_parts.proofs.Keeping.{step_to}
-use Rattle.mm_parts.proofs.FrameSteps.{soil_step}
+use Rattle.std.proofs.Common.{◌≡◌, Bool, List, ap, ◌∙◌}
+use Rattle.mm_types.specs.declared.moves.Move.TheVariants as move
+use Rattle.mm_life.specs.{after_soil, record_at, slot_after_soil, freed}
+use Rattle.mm_frames.specs.{FramesOf}
+use Rattle.mm_slots.specs.{SlotsOf}
+use Rattle.mm_parts.specs.{joined_parts, shown_parts, parts_after}
+use Rattle.mm_parts.proofs.{Step, step_to, soil_step}
 use Rattle.mm_parts.proofs.parts.Parts.soil.Goals as goal
+use Rattle.mm_parts.proofs.parts.Parts.soil.Goals.{After-soil, After-give}
+
+made : (c : After-soil) {free : List Bool} → free ≡ freed c.args.self.now.slots.free (slot_after_soil (record_at c.args.self.now.frames.table c.args.f.0))
+    → Step (record (joined_parts c.args.self.now) { table = c.soil.new.self.table; bytes = c.soil.new.self.bytes; free = free }) (parts_after (shown_parts c.args.self.now) (move.Soil c.args.f))
+made c free =
+    let s = c.args.self.now in
+    let table : c.soil.new.self.table ≡ after_soil s.frames.table c.args.f.0 = ap (λ (v : FramesOf). v.table) c.soil.ensures.soiled in
+    let bytes : c.soil.new.self.bytes ≡ s.frames.bytes = ap (λ (v : FramesOf). v.bytes) c.soil.ensures.soiled in
+    step_to _ _ _ (λ i. record (joined_parts s) { table = table i; bytes = bytes i; free = free i }) (soil_step (joined_parts s) s.kept c.args.f c.requires.legal)
+
+given : (c : After-give) → c.give.new.self.free ≡ freed c.args.self.now.slots.free (slot_after_soil (record_at c.args.self.now.frames.table c.args.f.0))
+given c = ap (λ (v : SlotsOf). v.free) c.give.ensures ∙ ap (freed c.args.self.now.slots.free) c.in-Some.ensures.slot
 
 pub invariant_of-self : goal.invariant_of-self
-invariant_of-self c =
-    let s = c.args.self.now in
-    let table : c.soil.new.self.table ≡ after_soil s.frames.table c.args.f.0 = ap (λ (v : FramesOf). v.table) c.soil.ensures.soiled in
-    let bytes : c.soil.new.self.bytes ≡ s.frames.bytes = ap (λ (v : FramesOf). v.bytes) c.soil.ensures.soiled in
-    let free = ap (λ (v : SlotsOf). v.free) c.give.ensures ∙ ap (freed s.slots.free) c.in-Some.ensures.slot in
-    record { kept = (step_to _ _ _ (λ i. record (joined_parts s) { table = table i; bytes = bytes i; free = free i }) (soil_step (joined_parts s) s.kept c.args.f c.requires.legal)).kept }
+invariant_of-self c = record { kept = (made (goal.at.invariant_of-self c).After-soil (given (goal.at.invariant_of-self c).After-give)).kept }
 
 pub returns-in-Some : goal.returns-in-Some
-returns-in-Some c =
-    let s = c.args.self.now in
-    let table : c.soil.new.self.table ≡ after_soil s.frames.table c.args.f.0 = ap (λ (v : FramesOf). v.table) c.soil.ensures.soiled in
-    let bytes : c.soil.new.self.bytes ≡ s.frames.bytes = ap (λ (v : FramesOf). v.bytes) c.soil.ensures.soiled in
-    let free = ap (λ (v : SlotsOf). v.free) c.give.ensures ∙ ap (freed s.slots.free) c.in-Some.ensures.slot in
-    record { made = (step_to _ _ _ (λ i. record (joined_parts s) { table = table i; bytes = bytes i; free = free i }) (soil_step (joined_parts s) s.kept c.args.f c.requires.legal)).shown }
+returns-in-Some c = record { made = (made (goal.at.returns-in-Some c).After-soil (given (goal.at.returns-in-Some c).After-give)).shown }
 
 pub invariant_of-self-in_default : goal.invariant_of-self-in_default
-invariant_of-self-in_default c =
-    let s = c.args.self.now in
-    let table : c.soil.new.self.table ≡ after_soil s.frames.table c.args.f.0 = ap (λ (v : FramesOf). v.table) c.soil.ensures.soiled in
-    let bytes : c.soil.new.self.bytes ≡ s.frames.bytes = ap (λ (v : FramesOf). v.bytes) c.soil.ensures.soiled in
-    let free = ap (freed s.slots.free) c.in_default.ensures.slot in
-    record { kept = (step_to _ _ _ (λ i. record (joined_parts s) { table = table i; bytes = bytes i; free = free i }) (soil_step (joined_parts s) s.kept c.args.f c.requires.legal)).kept }
+invariant_of-self-in_default c = record { kept = (made (goal.at.invariant_of-self-in_default c).After-soil (ap (freed c.args.self.now.slots.free) c.in_default.ensures.slot)).kept }
 
 pub returns-in_default : goal.returns-in_default
-returns-in_default c =
-    let s = c.args.self.now in
-    let table : c.soil.new.self.table ≡ after_soil s.frames.table c.args.f.0 = ap (λ (v : FramesOf). v.table) c.soil.ensures.soiled in
-    let bytes : c.soil.new.self.bytes ≡ s.frames.bytes = ap (λ (v : FramesOf). v.bytes) c.soil.ensures.soiled in
-    let free = ap (freed s.slots.free) c.in_default.ensures.slot in
-    record { made = (step_to _ _ _ (λ i. record (joined_parts s) { table = table i; bytes = bytes i; free = free i }) (soil_step (joined_parts s) s.kept c.args.f c.requires.legal)).shown }
+returns-in_default c = record { made = (made (goal.at.returns-in_default c).After-soil (ap (freed c.args.self.now.slots.free) c.in_default.ensures.slot)).shown }

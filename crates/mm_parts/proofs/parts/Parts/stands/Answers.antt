@@ -1,6 +1,6 @@
 use Rattle.std.proofs.Common.{◌∙◌}
-use Rattle.mm_parts.specs.PartsShown.{joined_parts}
-use Rattle.mm_parts.proofs.Reading.{home_word, told_low, stands_told}
+use Rattle.mm_parts.specs.{joined_parts}
+use Rattle.mm_parts.proofs.{home_word, told_low, stands_told}
 use Rattle.mm_parts.proofs.parts.Parts.stands.Goals as goal
 
 pub word-entry-requires : goal.word-entry-requires

@@ -1,16 +1,14 @@
 use Rattle.std.proofs.Common.{◌≡◌, ℕ, Some, refl, sym, ap, ◌∙◌, subst}
-use Rattle.mm_types.specs.declared.numbers.Frame.{Frame}
-use Rattle.mm_words.specs.Layout.{IsEntry}
-use Rattle.mm_life.specs.Frames.{record_at, after_steal}
-use Rattle.mm_frames.specs.Base.{FramesOf, standby_taken, free_put}
-use Rattle.mm_words.specs.Words.{with_entry, keeps_places}
-use Rattle.mm_parts.specs.PartsShown.{joined_parts}
-use Rattle.mm_parts.specs.Moves.{front, home_entry}
-use Rattle.mm_parts.proofs.Tokens.{front_is, stolen_table}
-use Rattle.mm_parts.proofs.Keeping.{step_to}
-use Rattle.mm_parts.proofs.Conditions.{steal_can}
-use Rattle.mm_parts.proofs.KeySteps.{steal_step}
+use Rattle.mm_types.specs.{Frame}
+use Rattle.mm_types.specs.declared.moves.Move.TheVariants as move
+use Rattle.mm_words.specs.Shown as tables
+use Rattle.mm_words.specs.{IsEntry, with_entry, keeps_places}
+use Rattle.mm_life.specs.{record_at, after_steal}
+use Rattle.mm_frames.specs.{FramesOf, standby_taken, free_put}
+use Rattle.mm_parts.specs.{joined_parts, shown_parts, front, home_entry, parts_after}
+use Rattle.mm_parts.proofs.{front_is, stolen_table, Step, step_to, steal_can, steal_step}
 use Rattle.mm_parts.proofs.parts.Parts.steal.Goals as goal
+use Rattle.mm_parts.proofs.parts.Parts.steal.Goals.{After-set_word}
 
 pub set_word-requires-clause-has : goal.set_word-requires-clause-has
 set_word-requires-clause-has c =
@@ -27,8 +25,9 @@ set_word-requires-clause-places c =
     let s = c.args.self.now in
     ap (keeps_places (joined_parts s).words c.in-Some.stolen.key) (c.home.ensures ∙ ap home_entry (sym c.in-Some.ensures.backing)) ∙ (steal_can (joined_parts s) s.kept c.requires.legal c.in-Some.stolen.dirty c.in-Some.stolen.key (sym c.in-Some.ensures.first) c.in-Some.ensures.key).places
 
-pub invariant_of-self : goal.invariant_of-self
-invariant_of-self c =
+made : (c : After-set_word) → Step (record (joined_parts c.args.self.now) { table = c.put_free.new.self.table; bytes = c.put_free.new.self.bytes; words = tables.words c.set_word.new.self; ages = tables.place_ages c.set_word.new.self })
+    (parts_after (shown_parts c.args.self.now) (move.Steal (front c.args.self.now.frames.table.standby)))
+made c =
     let s = c.args.self.now in
     let f = front s.frames.table.standby in
     let dirty = c.in-Some.stolen.dirty in
@@ -41,20 +40,10 @@ invariant_of-self c =
     let table : c.put_free.new.self.table ≡ after_steal s.frames.table f.0 = ap (λ (v : FramesOf). v.table) now ∙ stolen_table s.frames dirty first ∙ ap (λ (x : ℕ). after_steal s.frames.table x) is in
     let bytes : c.put_free.new.self.bytes ≡ s.frames.bytes = ap (λ (v : FramesOf). v.bytes) now in
     let words = c.set_word.ensures.words ∙ ap (with_entry (joined_parts s).words key) (c.home.ensures ∙ ap home_entry backing) in
-    record { kept = (step_to _ _ _ (λ i. record (joined_parts s) { table = table i; bytes = bytes i; words = words i; ages = c.set_word.ensures.ages i }) (steal_step (joined_parts s) s.kept f key c.requires.legal owner)).kept }
+    step_to _ _ _ (λ i. record (joined_parts s) { table = table i; bytes = bytes i; words = words i; ages = c.set_word.ensures.ages i }) (steal_step (joined_parts s) s.kept f key c.requires.legal owner)
+
+pub invariant_of-self : goal.invariant_of-self
+invariant_of-self c = record { kept = (made (goal.at.invariant_of-self c).After-set_word).kept }
 
 pub returns : goal.returns
-returns c =
-    let s = c.args.self.now in
-    let f = front s.frames.table.standby in
-    let dirty = c.in-Some.stolen.dirty in
-    let key = c.in-Some.stolen.key in
-    let first = sym c.in-Some.ensures.first in
-    let is : dirty ≡ f.0 = ap (λ (x : Frame). x.0) (front_is s.frames.table.standby dirty (record { 0 = dirty }) first refl) in
-    let owner : (record_at s.frames.table f.0).owner ≡ Some key = ap (λ (x : ℕ). (record_at s.frames.table x).owner) (sym is) ∙ c.in-Some.ensures.key in
-    let backing : c.in-Some.stolen.backing ≡ (record_at s.frames.table f.0).backing = sym c.in-Some.ensures.backing ∙ ap (λ (x : ℕ). (record_at s.frames.table x).backing) is in
-    let now : c.put_free.new.self ≡ free_put (standby_taken s.frames) dirty = c.put_free.ensures ∙ ap (λ (v : FramesOf). free_put v dirty) c.take_standby.ensures.taken in
-    let table : c.put_free.new.self.table ≡ after_steal s.frames.table f.0 = ap (λ (v : FramesOf). v.table) now ∙ stolen_table s.frames dirty first ∙ ap (λ (x : ℕ). after_steal s.frames.table x) is in
-    let bytes : c.put_free.new.self.bytes ≡ s.frames.bytes = ap (λ (v : FramesOf). v.bytes) now in
-    let words = c.set_word.ensures.words ∙ ap (with_entry (joined_parts s).words key) (c.home.ensures ∙ ap home_entry backing) in
-    record { made = (step_to _ _ _ (λ i. record (joined_parts s) { table = table i; bytes = bytes i; words = words i; ages = c.set_word.ensures.ages i }) (steal_step (joined_parts s) s.kept f key c.requires.legal owner)).shown }
+returns c = record { made = (made (goal.at.returns c).After-set_word).shown }

@@ -1,9 +1,6 @@
-use Rattle.mm_words.specs.Words.{place_from}
-use Rattle.mm_words.specs.Pages.{pages}
-use Rattle.mm_parts.specs.PartsShown.{joined_parts}
-use Rattle.mm_parts.proofs.Keeping.{step_to}
-use Rattle.mm_parts.proofs.WordSteps.{unbind_step, givable, range_invalid}
-use Rattle.mm_parts.proofs.LineSteps.{no_place}
+use Rattle.mm_words.specs.{place_from, pages}
+use Rattle.mm_parts.specs.{joined_parts}
+use Rattle.mm_parts.proofs.{step_to, unbind_step, givable, range_invalid, no_place}
 use Rattle.mm_parts.proofs.parts.Parts.unbind.Goals as goal
 
 pub unbind-requires-clause-invalid : goal.unbind-requires-clause-invalid

@@ -1,13 +1,14 @@
 use Rattle.std.proofs.Common.{◌≡◌, Some, sym, ap, ◌∙◌}
 use Rattle.std.specs.Prelude.{◌==◌, is_some}
-use Rattle.mm_types.specs.declared.frames.Record.{Record}
-use Rattle.mm_life.specs.Frames.{record_at}
-use Rattle.mm_frames.specs.Base.{FramesOf}
-use Rattle.mm_parts.specs.PartsShown.{joined_parts}
-use Rattle.mm_parts.proofs.Keeping.{step_to}
-use Rattle.mm_parts.proofs.Conditions.{Leaving, leaving_told, leave_can}
-use Rattle.mm_parts.proofs.AnyPage.{unmap_any_step}
+use Rattle.mm_types.specs.{Record}
+use Rattle.mm_types.specs.declared.moves.Move.TheVariants as move
+use Rattle.mm_life.specs.{record_at, changed, same_place}
+use Rattle.mm_frames.specs.{FramesOf}
+use Rattle.mm_words.specs.Shown as tables
+use Rattle.mm_parts.specs.{joined_parts, shown_parts, parts_after}
+use Rattle.mm_parts.proofs.{Step, step_to, Leaving, leaving_told, leave_can, unmap_any_step}
 use Rattle.mm_parts.proofs.parts.Parts.unmap.Goals as goal
+use Rattle.mm_parts.proofs.parts.Parts.unmap.Goals.{After-leave_place}
 
 pub look-r-requires : goal.look-r-requires
 look-r-requires c = (leaving_told (joined_parts c.args.self.now) c.args.self.now.kept c.in-Valid.f c.in-Valid.field-1 c.args.place c.at.result c.at.ensures c.in-Valid.is).low
@@ -28,8 +29,9 @@ leave_place-requires-clause-can c =
     let owner : (record_at s.frames.table f.0).owner ≡ Some c.unwrap-key.result = sym (ap (λ (r : Record). r.owner) c.look-r.ensures) ∙ c.unwrap-key.ensures in
     leave_can (joined_parts s) s.kept f c.unwrap-key.result owner l.low c.words_hold.ensures.there
 
-pub invariant_of-self : goal.invariant_of-self
-invariant_of-self c =
+made : (c : After-leave_place) → Step (record (joined_parts c.args.self.now) { table = c.unshare.new.self.table; bytes = c.unshare.new.self.bytes; words = tables.words c.leave_place.new.words; ages = tables.place_ages c.leave_place.new.words })
+    (record (parts_after (shown_parts c.args.self.now) (move.Unmap c.args.place)) { ages = changed same_place (shown_parts c.args.self.now).ages c.args.place 0 })
+made c =
     let s = c.args.self.now in
     let f = c.in-Valid.f in
     let l : Leaving (joined_parts s) f c.args.place = leaving_told (joined_parts s) s.kept f c.in-Valid.field-1 c.args.place c.at.result c.at.ensures c.in-Valid.is in
@@ -37,15 +39,10 @@ invariant_of-self c =
     let table = ap (λ (v : FramesOf). v.table) c.unshare.ensures in
     let bytes = ap (λ (v : FramesOf). v.bytes) c.unshare.ensures in
     let last : ((record_at s.frames.table f.0).shares == 1) ≡ (c.look-r.result.shares == 1) = ap (λ (r : Record). r.shares == 1) (sym c.look-r.ensures) in
-    record { kept = (step_to _ _ _ (λ i. record (joined_parts s) { table = table i; bytes = bytes i; words = c.leave_place.ensures.words i; ages = c.leave_place.ensures.ages i }) (unmap_any_step (joined_parts s) s.kept f c.args.place c.unwrap-key.result c.requires.legal l owner (c.look-r.result.shares == 1) last)).kept }
+    step_to _ _ _ (λ i. record (joined_parts s) { table = table i; bytes = bytes i; words = c.leave_place.ensures.words i; ages = c.leave_place.ensures.ages i }) (unmap_any_step (joined_parts s) s.kept f c.args.place c.unwrap-key.result c.requires.legal l owner (c.look-r.result.shares == 1) last)
+
+pub invariant_of-self : goal.invariant_of-self
+invariant_of-self c = record { kept = (made (goal.at.invariant_of-self c).After-leave_place).kept }
 
 pub returns : goal.returns
-returns c =
-    let s = c.args.self.now in
-    let f = c.in-Valid.f in
-    let l : Leaving (joined_parts s) f c.args.place = leaving_told (joined_parts s) s.kept f c.in-Valid.field-1 c.args.place c.at.result c.at.ensures c.in-Valid.is in
-    let owner : (record_at s.frames.table f.0).owner ≡ Some c.unwrap-key.result = sym (ap (λ (r : Record). r.owner) c.look-r.ensures) ∙ c.unwrap-key.ensures in
-    let table = ap (λ (v : FramesOf). v.table) c.unshare.ensures in
-    let bytes = ap (λ (v : FramesOf). v.bytes) c.unshare.ensures in
-    let last : ((record_at s.frames.table f.0).shares == 1) ≡ (c.look-r.result.shares == 1) = ap (λ (r : Record). r.shares == 1) (sym c.look-r.ensures) in
-    record { made = (step_to _ _ _ (λ i. record (joined_parts s) { table = table i; bytes = bytes i; words = c.leave_place.ensures.words i; ages = c.leave_place.ensures.ages i }) (unmap_any_step (joined_parts s) s.kept f c.args.place c.unwrap-key.result c.requires.legal l owner (c.look-r.result.shares == 1) last)).shown }
+returns c = record { made = (made (goal.at.returns c).After-leave_place).shown }

@@ -1,6 +1,6 @@
 use Rattle.std.proofs.Common.{sym, ◌∙◌}
-use Rattle.mm_parts.specs.PartsShown.{joined_parts}
-use Rattle.mm_parts.proofs.Using.{frame_told}
+use Rattle.mm_parts.specs.{joined_parts}
+use Rattle.mm_parts.proofs.{frame_told}
 use Rattle.mm_parts.proofs.parts.Parts.valid.Goals as goal
 
 pub returns : goal.returns

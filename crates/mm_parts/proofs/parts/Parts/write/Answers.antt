@@ -1,12 +1,10 @@
 use Rattle.std.proofs.Common.{ap, ◌∙◌}
-use Rattle.mm_types.specs.declared.numbers.Frame.{Frame}
-use Rattle.mm_life.specs.Life.{changed, same_place}
-use Rattle.mm_ram.specs.Ram.{bytes_of, overwritten, with_page}
-use Rattle.mm_frames.specs.Base.{FramesOf}
-use Rattle.mm_parts.specs.PartsShown.{joined_parts, shown_parts}
-use Rattle.mm_parts.proofs.Keeping.{step_to}
-use Rattle.mm_parts.proofs.WordSteps.{used_step}
-use Rattle.mm_parts.proofs.Using.{one_frame, valid_entry}
+use Rattle.mm_types.specs.{Frame}
+use Rattle.mm_life.specs.{changed, same_place}
+use Rattle.mm_ram.specs.{bytes_of, overwritten, with_page}
+use Rattle.mm_frames.specs.{FramesOf}
+use Rattle.mm_parts.specs.{joined_parts, shown_parts}
+use Rattle.mm_parts.proofs.{step_to, used_step, one_frame, valid_entry}
 use Rattle.mm_parts.proofs.parts.Parts.write.Goals as goal
 
 pub touch-requires : goal.touch-requires

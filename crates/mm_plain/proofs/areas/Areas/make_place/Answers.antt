@@ -2,9 +2,8 @@ use Rattle.std.proofs.Common.{◌≡◌, ℕ, List, ap, ◌∙◌, None, Option,
 use Rattle.std.specs.Prelude.{slice_index_or}
 use Rattle.std.specs.List.{sum_by}
 use Rattle.std.proofs.lemmas.List.Sums.{sum_by_push}
-use Rattle.mm_plain.specs.declared.areas.AreaPages.{AreaPages}
-use Rattle.mm_plain.specs.Areas.{count_of}
-use Rattle.mm_plain.proofs.OpenAreas.{pushed}
+use Rattle.mm_plain.specs.{AreaPages, count_of}
+use Rattle.mm_plain.proofs.{pushed}
 use Rattle.mm_plain.proofs.areas.Areas.make_place.Goals as goal
 
 at : List (Option AreaPages) → ℕ → Option AreaPages

@@ -1,6 +1,6 @@
 use Rattle.std.proofs.Common.{◌≡◌}
 use Rattle.std.specs.Prelude.{vec_len}
-use Rattle.mm_plain.specs.Areas.{area_in, count_in}
+use Rattle.mm_plain.specs.{area_in, count_in}
 use Rattle.mm_plain.proofs.areas.Areas.make_place.Given as goal
 
 abbrev pub invariant-loop : goal.invariant-loop

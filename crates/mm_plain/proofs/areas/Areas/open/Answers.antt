@@ -1,7 +1,7 @@
 use Rattle.std.proofs.Common.{◌≡◌, ap, ◌∙◌, arith}
 use Rattle.std.specs.List.{sum_by}
-use Rattle.mm_plain.specs.Areas.{area_in, count_of, one_if_live}
-use Rattle.mm_plain.proofs.OpenAreas.{none_live}
+use Rattle.mm_plain.specs.{area_in, count_of, one_if_live}
+use Rattle.mm_plain.proofs.{none_live}
 use Rattle.mm_plain.proofs.areas.Areas.open.Goals as goal
 
 pub returns-clause-count : goal.returns-clause-count

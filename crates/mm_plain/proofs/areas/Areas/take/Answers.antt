@@ -1,9 +1,9 @@
 use Rattle.std.proofs.Common.{◌==◌, ap, ◌∙◌, Some, None}
 use Rattle.std.specs.Prelude.{slice_set}
-use Rattle.mm_pages.specs.Store.{changed}
+use Rattle.mm_pages.specs.{changed}
 use Rattle.mm_plain.specs.declared.areas.AreaPages.TheVariants.{Paged}
-use Rattle.mm_plain.specs.Areas.{area_in, pages_of}
-use Rattle.mm_plain.proofs.OpenAreas.{indexed, set_area, live_place}
+use Rattle.mm_plain.specs.{area_in, pages_of}
+use Rattle.mm_plain.proofs.{indexed, set_area, live_place}
 use Rattle.mm_plain.proofs.areas.Areas.take.Goals as goal
 
 pub returns-clause-areas : goal.returns-clause-areas

@@ -1,11 +1,10 @@
 use Rattle.std.proofs.Common.{◌==◌, ap, ◌∙◌, Some, None}
 use Rattle.std.specs.Prelude.{slice_set, unwrap_or}
-use Rattle.mm_world.specs.Access.{written}
-use Rattle.mm_world.specs.World.{filled}
-use Rattle.mm_pages.specs.Store.{changed}
+use Rattle.mm_world.specs.{written, filled}
+use Rattle.mm_pages.specs.{changed}
 use Rattle.mm_plain.specs.declared.areas.AreaPages.TheVariants.{Paged}
-use Rattle.mm_plain.specs.Areas.{area_in, pages_of, page_at}
-use Rattle.mm_plain.proofs.OpenAreas.{indexed, set_area, live_place}
+use Rattle.mm_plain.specs.{area_in, pages_of, page_at}
+use Rattle.mm_plain.proofs.{indexed, set_area, live_place}
 use Rattle.mm_plain.proofs.areas.Areas.write.Goals as goal
 
 pub returns-clause-areas : goal.returns-clause-areas

@@ -1,4 +1,4 @@
-use Rattle.mm_plain.specs.Files.{IsMade}
+use Rattle.mm_plain.specs.{IsMade}
 use Rattle.mm_plain.proofs.file_pages.FilePages.made.Given as goal
 
 abbrev pub invariant-loop-i : goal.invariant-loop-i

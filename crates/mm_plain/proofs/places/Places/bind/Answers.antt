@@ -1,5 +1,5 @@
 use Rattle.std.proofs.Common.{refl, ◌∙◌}
-use Rattle.mm_plain.proofs.Changes.{count_by_insert, none_there}
+use Rattle.mm_plain.proofs.{count_by_insert, none_there}
 use Rattle.mm_plain.proofs.places.Places.bind.Goals as goal
 
 pub returns-clause-count : goal.returns-clause-count

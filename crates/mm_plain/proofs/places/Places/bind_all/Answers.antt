@@ -1,8 +1,7 @@
 use Rattle.std.proofs.Common.{◌+◌, true, None, sym, ap, ◌∙◌, arith}
-use Rattle.mm_pages.specs.Store.{changed, same_place}
-use Rattle.mm_pages.specs.Conditions.{place_at}
-use Rattle.mm_plain.specs.Places.{bound_in, names_in}
-use Rattle.mm_plain.proofs.Ranges.{changed_none, changed_more, next_unchanged, held}
+use Rattle.mm_pages.specs.{changed, same_place, place_at}
+use Rattle.mm_plain.specs.{bound_in, names_in}
+use Rattle.mm_plain.proofs.{changed_none, changed_more, next_unchanged, held}
 use Rattle.mm_plain.proofs.places.Places.bind_all.Goals as goal
 
 pub loop-i-init : goal.loop-i-init

@@ -1,6 +1,6 @@
 use Rattle.std.proofs.Common.{refl}
 use Rattle.mm_plain.specs.Places.{page_of}
-use Rattle.mm_plain.proofs.Changes.{kept_by_write, count_kept_by_write}
+use Rattle.mm_plain.proofs.{kept_by_write, count_kept_by_write}
 use Rattle.mm_plain.proofs.places.Places.name.Goals as goal
 
 pub returns-clause-pages : goal.returns-clause-pages

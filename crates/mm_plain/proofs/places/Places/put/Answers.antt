@@ -1,7 +1,7 @@
 use Rattle.std.proofs.Common.{refl, Some, ap, ◌∙◌, ◌≡◌, arith}
-use Rattle.mm_plain.specs.declared.places.BoundPlace.{BoundPlace}
-use Rattle.mm_plain.specs.Places.{named_by, page_of, page_count}
-use Rattle.mm_plain.proofs.Changes.{kept_by_write, count_by_write, counts_without}
+use Rattle.mm_plain.specs.{BoundPlace, named_by, page_count}
+use Rattle.mm_plain.specs.Places.{page_of}
+use Rattle.mm_plain.proofs.{kept_by_write, count_by_write, counts_without}
 use Rattle.mm_plain.proofs.places.Places.put.Goals as goal
 
 pub returns-clause-names : goal.returns-clause-names

@@ -1,4 +1,4 @@
-use Rattle.mm_plain.proofs.Changes.{count_in_order}
+use Rattle.mm_plain.proofs.{count_in_order}
 use Rattle.mm_plain.proofs.places.Places.reserve.Goals as goal
 
 pub returns-clause-count : goal.returns-clause-count

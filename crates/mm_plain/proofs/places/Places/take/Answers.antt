@@ -1,6 +1,6 @@
 use Rattle.std.proofs.Common.{sym, ap, ◌≡◌, arith}
-use Rattle.mm_plain.specs.Places.{page_count}
-use Rattle.mm_plain.proofs.Changes.{count_by_write, counts_with}
+use Rattle.mm_plain.specs.{page_count}
+use Rattle.mm_plain.proofs.{count_by_write, counts_with}
 use Rattle.mm_plain.proofs.places.Places.take.Goals as goal
 
 pub returns-clause-count : goal.returns-clause-count

@@ -1,4 +1,4 @@
-use Rattle.mm_plain.proofs.Changes.{count_by_remove}
+use Rattle.mm_plain.proofs.{count_by_remove}
 use Rattle.mm_plain.proofs.places.Places.unbind.Goals as goal
 
 pub returns-clause-count : goal.returns-clause-count

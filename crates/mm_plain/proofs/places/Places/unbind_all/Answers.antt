@@ -1,8 +1,7 @@
 use Rattle.std.proofs.Common.{◌+◌, false, None, ap, ◌∙◌, arith}
-use Rattle.mm_pages.specs.Store.{changed, same_place}
-use Rattle.mm_pages.specs.Conditions.{place_at}
-use Rattle.mm_plain.specs.Places.{bound_in, names_in}
-use Rattle.mm_plain.proofs.Ranges.{changed_more}
+use Rattle.mm_pages.specs.{changed, same_place, place_at}
+use Rattle.mm_plain.specs.{bound_in, names_in}
+use Rattle.mm_plain.proofs.{changed_more}
 use Rattle.mm_plain.proofs.places.Places.unbind_all.Goals as goal
 
 pub unbind-requires : goal.unbind-requires

@@ -1,6 +1,6 @@
 use Rattle.std.proofs.Common.{◌≡◌, None, false}
-use Rattle.mm_pages.specs.Store.{changed_in}
-use Rattle.mm_plain.specs.Places.{bound_in, names_in, pages_at, pages_in}
+use Rattle.mm_pages.specs.{changed_in}
+use Rattle.mm_plain.specs.{bound_in, names_in, pages_at, pages_in}
 use Rattle.mm_plain.proofs.places.Places.unbind_all.Given as goal
 
 abbrev pub invariant-loop-i : goal.invariant-loop-i

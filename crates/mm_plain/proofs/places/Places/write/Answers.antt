@@ -1,7 +1,8 @@
 use Rattle.std.proofs.Common.{sym, ap, ◌≡◌, subst, ◌∙◌}
 use Rattle.std.specs.Prelude.{IsSome}
-use Rattle.mm_plain.specs.Places.{named_by, page_of, page_count}
-use Rattle.mm_plain.proofs.Changes.{kept_by_write, count_kept_by_write, counts_some}
+use Rattle.mm_plain.specs.{named_by, page_count}
+use Rattle.mm_plain.specs.Places.{page_of}
+use Rattle.mm_plain.proofs.{kept_by_write, count_kept_by_write, counts_some}
 use Rattle.mm_plain.proofs.places.Places.write.Goals as goal
 
 pub returns-clause-names : goal.returns-clause-names

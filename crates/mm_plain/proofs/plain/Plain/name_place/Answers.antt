@@ -1,4 +1,4 @@
-use Rattle.mm_plain.proofs.Fitting.{fits_kept}
+use Rattle.mm_plain.proofs.{fits_kept}
 use Rattle.mm_plain.proofs.plain.Plain.name_place.Goals as goal
 
 pub invariant_of-self : goal.invariant_of-self

@@ -1,9 +1,7 @@
 use Rattle.std.proofs.Common.{length, refl, ap, arith}
 use Rattle.mm_types.specs.declared.moves.LineKind.TheVariants as kind
-use Rattle.mm_plain.specs.Areas.{area_in, size_of}
-use Rattle.mm_plain.specs.Places.{pages_at}
-use Rattle.mm_plain.proofs.Fitting.{fits_new, files_fit_new}
-use Rattle.mm_plain.proofs.Openings.{contents_new, paging_new, blocks_new}
+use Rattle.mm_plain.specs.{area_in, size_of, pages_at}
+use Rattle.mm_plain.proofs.{fits_new, files_fit_new, contents_new, paging_new, blocks_new}
 use Rattle.mm_plain.proofs.plain.Plain.new.Goals as goal
 
 pub invariant_of-result-clause-fits : goal.invariant_of-result-clause-fits

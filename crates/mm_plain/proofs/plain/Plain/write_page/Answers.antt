@@ -1,11 +1,9 @@
 use Rattle.std.proofs.Common.{Some, sym, ap, ◌∙◌}
 use Rattle.std.specs.Prelude.{unwrap_or}
-use Rattle.mm_types.specs.declared.numbers.Key.{Key}
-use Rattle.mm_world.specs.Access.{written}
-use Rattle.mm_world.specs.Failure.{same_key}
-use Rattle.mm_world.specs.World.{filled}
-use Rattle.mm_pages.specs.Store.{changed}
-use Rattle.mm_plain.specs.Plain.{contents_in}
+use Rattle.mm_types.specs.{Key}
+use Rattle.mm_world.specs.{written, same_key, filled}
+use Rattle.mm_pages.specs.{changed}
+use Rattle.mm_plain.specs.{contents_in}
 use Rattle.mm_plain.proofs.plain.Plain.write_page.Goals as goal
 
 pub returns-in-Private-clause-contents : goal.returns-in-Private-clause-contents

@@ -1,16 +1,8 @@
-use Rattle.std.proofs.Common.{◌+◌, ◌∙◌, Some, true, refl, ap}
-use Rattle.std.specs.Prelude.{unwrap_or}
-use Rattle.mm_types.specs.declared.numbers.Key.{Key}
+use Rattle.std.proofs.Common.{◌+◌, ◌∙◌, true, refl, ap}
+use Rattle.mm_types.specs.{Key}
 use Rattle.mm_types.specs.declared.numbers.Key.TheVariants.{Private}
-use Rattle.mm_world.specs.Access.{written}
-use Rattle.mm_world.specs.World.{filled}
-use Rattle.mm_plain.specs.Areas.{area_in, count_in}
-use Rattle.mm_plain.specs.Places.{pages_at}
-use Rattle.mm_plain.specs.Plain.{contents_in}
-use Rattle.mm_plain.specs.Shown.{paging_of}
-use Rattle.mm_plain.proofs.Contents.{contents_at_place, paging_at_place, changed_same, where_kept}
-use Rattle.mm_plain.proofs.Fitting.{fits_kept}
-use Rattle.mm_plain.proofs.Stores.{same_parts, report_kept}
+use Rattle.mm_plain.specs.{area_in, count_in, pages_at, contents_in, paging_of}
+use Rattle.mm_plain.proofs.{contents_at_place, paging_at_place, changed_same, where_kept, fits_kept, same_parts, report_kept}
 use Rattle.mm_plain.proofs.plain.Plain.write_private.Goals as goal
 
 pub invariant_of-self : goal.invariant_of-self
@@ -27,17 +19,14 @@ pub returns-clause-store : goal.returns-clause-store
 returns-clause-store g c =
     let s = c.args.self.now in
     let k : Key = Private c.args.pid c.args.vpn in
-    let new = written (unwrap_or (contents_in s k) (filled 0)) c.args.off c.args.bytes.now in
     let e = c.write.ensures in
-    let contents = contents_at_place (pages_at s.places) (pages_at c.write.new.self) (area_in s.areas) c.args.pid c.args.vpn k (Some new) s.file_pages.pages.items e.pages refl in
-    same_parts _ _ _ _ _ _ _ _ _ _ _ _ _ _ _ _ _ _ _ _ _ _ _ _ _ _ _
-    refl
+    same_parts _ _ _ _ _ _ _ _ _ refl
     e.bound
     e.names
-    (paging_at_place (pages_at s.places) (pages_at c.write.new.self) (area_in s.areas) c.args.pid c.args.vpn k (Some new) e.pages refl
+    (paging_at_place (pages_at s.places) (pages_at c.write.new.self) (area_in s.areas) c.args.pid c.args.vpn k _ e.pages refl
     ∙ changed_same (paging_of (pages_at s.places) (area_in s.areas)) k true c.requires.live)
     (ap (λ n. n + count_in s.areas) e.count)
     refl
     refl
     refl
-    (report_kept s.writes (contents_in s) _ (where_kept (contents_in s) _ k new contents c.requires.live))
+    (report_kept s.writes (contents_in s) _ (where_kept (contents_in s) _ k _ (returns-clause-contents g c) c.requires.live))

@@ -1,17 +1,9 @@
-use Rattle.std.proofs.Common.{◌≡◌, ◌+◌, ◌∙◌, Some, refl, sym, ap, subst, arith}
-use Rattle.mm_types.specs.declared.numbers.Key.{Key}
-use Rattle.mm_types.specs.declared.numbers.Key.TheVariants.{Shared}
-use Rattle.mm_world.specs.Failure.{same_key}
-use Rattle.mm_pages.specs.Conditions.{HasHome}
-use Rattle.mm_pages.specs.Store.{changed}
-use Rattle.mm_plain.specs.Areas.{area_in, count_in}
-use Rattle.mm_plain.specs.Places.{pages_at, pages_in}
-use Rattle.mm_plain.specs.Plain.{contents_in, store_in}
-use Rattle.mm_plain.specs.Stocks.{StockOf}
-use Rattle.mm_plain.proofs.Contents.{contents_at_place, paging_at_place, contents_in_area, paging_in_area, block_in_area, blocks_in_area, sizes_in_area}
-use Rattle.mm_plain.proofs.Fitting.{fits_then, files_fit_areas}
-use Rattle.mm_plain.proofs.Openings.{paged_home}
-use Rattle.mm_plain.proofs.Stores.{same_parts}
+use Rattle.std.proofs.Common.{◌≡◌, ◌+◌, ◌∙◌, Some, refl, ap, arith}
+use Rattle.mm_world.specs.{same_key}
+use Rattle.mm_pages.specs.{changed}
+use Rattle.mm_plain.specs.{area_in, count_in, pages_at, pages_in, contents_in, StockOf}
+use Rattle.mm_plain.proofs.{contents_at_place, paging_at_place, contents_in_area, paging_in_area, block_in_area, blocks_in_area, sizes_in_area}
+use Rattle.mm_plain.proofs.{fits_then, files_fit_areas, home_near, same_parts}
 use Rattle.mm_plain.proofs.plain.PlainPages.add.Goals as goal
 
 pub invariant_of-self : goal.invariant_of-self
@@ -29,9 +21,7 @@ pub put-requires-in-Shared-clause-place : goal.put-requires-in-Shared-clause-pla
 put-requires-in-Shared-clause-place g c =
     let s = c.args.self.now in
     let k = c.in-Shared in
-    let home : HasHome (store_in s) (Shared k.area k.index) = subst (λ (q : Key). HasHome (store_in s) q) k.is c.requires.home in
-    paged_home s.file_pages.pages.items (area_in s.areas k.area.0) k.index home.0 home.1.0 home.1.1
-    (sym (ap (contents_in s) k.is) ∙ c.requires.dead) (s.files_fit.near k.area.0 k.index)
+    home_near s _ _ c.args.key k.area k.index k.is c.requires.home c.requires.dead s.files_fit
 
 pub invariant_of-self-in-Shared : goal.invariant_of-self-in-Shared
 invariant_of-self-in-Shared g c =
@@ -39,9 +29,7 @@ invariant_of-self-in-Shared g c =
     let k = c.in-Shared in
     let e = c.put-in-Shared.ensures in
     let stock = c.take-page.ensures.stock in
-    let home : HasHome (store_in s) (Shared k.area k.index) = subst (λ (q : Key). HasHome (store_in s) q) k.is c.requires.home in
-    let near = paged_home s.file_pages.pages.items (area_in s.areas k.area.0) k.index home.0 home.1.0 home.1.1
-    (sym (ap (contents_in s) k.is) ∙ c.requires.dead) (s.files_fit.near k.area.0 k.index) in
+    let near = home_near s _ _ c.args.key k.area k.index k.is c.requires.home c.requires.dead s.files_fit in
     record {
       fits = fits_then s.places s.places s.areas c.put-in-Shared.new.self s.stock c.take-page.new.self s.fits refl
           (omega (arith, e.count, s.fits.boxes, c.requires.room, ap (λ (t : StockOf). t.boxes) stock, ap (λ (t : StockOf). t.room) stock));
@@ -60,8 +48,7 @@ returns-in-Private-clause-store g c =
     let s = c.args.self.now in
     let e = c.put.ensures in
     let more : pages_in c.put.new.self + count_in s.areas ≡ (pages_in s.places + count_in s.areas) + 1 = omega (arith, e.count) in
-    same_parts _ _ _ _ _ _ _ _ _ _ _ _ _ _ _ _ _ _ _ _ _ _ _ _ _ _ _
-    refl
+    same_parts _ _ _ _ _ _ _ _ _ refl
     e.bound
     e.names
     (paging_at_place (pages_at s.places) (pages_at c.put.new.self) (area_in s.areas) c.in-Private.pid c.in-Private.vpn c.args.key _ e.pages c.in-Private.is)
@@ -75,9 +62,7 @@ pub returns-in-Shared-clause-contents : goal.returns-in-Shared-clause-contents
 returns-in-Shared-clause-contents g c =
     let s = c.args.self.now in
     let k = c.in-Shared in
-    let home : HasHome (store_in s) (Shared k.area k.index) = subst (λ (q : Key). HasHome (store_in s) q) k.is c.requires.home in
-    let near = paged_home s.file_pages.pages.items (area_in s.areas k.area.0) k.index home.0 home.1.0 home.1.1
-    (sym (ap (contents_in s) k.is) ∙ c.requires.dead) (s.files_fit.near k.area.0 k.index) in
+    let near = home_near s _ _ c.args.key k.area k.index k.is c.requires.home c.requires.dead s.files_fit in
     contents_in_area (area_in s.areas) (area_in c.put-in-Shared.new.self) k.area k.index _ near c.put-in-Shared.ensures.areas (pages_at s.places) s.file_pages.pages.items c.args.key k.is
     ∙ ap (λ p. changed same_key (contents_in s) c.args.key (Some p)) c.take-page.ensures.page
 
@@ -87,12 +72,9 @@ returns-in-Shared-clause-store g c =
     let k = c.in-Shared in
     let e = c.put-in-Shared.ensures in
     let after = area_in c.put-in-Shared.new.self in
-    let home : HasHome (store_in s) (Shared k.area k.index) = subst (λ (q : Key). HasHome (store_in s) q) k.is c.requires.home in
-    let near = paged_home s.file_pages.pages.items (area_in s.areas k.area.0) k.index home.0 home.1.0 home.1.1
-    (sym (ap (contents_in s) k.is) ∙ c.requires.dead) (s.files_fit.near k.area.0 k.index) in
+    let near = home_near s _ _ c.args.key k.area k.index k.is c.requires.home c.requires.dead s.files_fit in
     let more : pages_in s.places + count_in c.put-in-Shared.new.self ≡ (pages_in s.places + count_in s.areas) + 1 = omega (arith, e.count) in
-    same_parts _ _ _ _ _ _ _ _ _ _ _ _ _ _ _ _ _ _ _ _ _ _ _ _ _ _ _
-    (sizes_in_area (area_in s.areas) after k.area k.index _ near e.areas)
+    same_parts _ _ _ _ _ _ _ _ _ (sizes_in_area (area_in s.areas) after k.area k.index _ near e.areas)
     refl
     refl
     (paging_in_area (area_in s.areas) after k.area k.index _ near e.areas (pages_at s.places) c.args.key k.is)

@@ -1,4 +1,4 @@
-use Rattle.mm_plain.proofs.Fitting.{fits_bound}
+use Rattle.mm_plain.proofs.{fits_bound}
 use Rattle.mm_plain.proofs.plain.PlainPages.bind.Goals as goal
 
 pub invariant_of-self : goal.invariant_of-self

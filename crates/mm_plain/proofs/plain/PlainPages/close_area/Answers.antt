@@ -1,11 +1,8 @@
 use Rattle.std.proofs.Common.{◌+◌, None, refl, sym, ap}
 use Rattle.std.specs.Prelude.{is_some}
-use Rattle.mm_plain.specs.Areas.{area_in}
-use Rattle.mm_plain.specs.Places.{pages_at, pages_in}
-use Rattle.mm_plain.specs.Shown.{unpaged_report}
-use Rattle.mm_plain.proofs.Fitting.{fits_areas, files_fit_areas}
-use Rattle.mm_plain.proofs.Openings.{dead_page, dead_block, dead_count, contents_kept, paging_kept, block_kept, blocks_kept, sizes_changed}
-use Rattle.mm_plain.proofs.Stores.{same_parts}
+use Rattle.mm_plain.specs.{area_in, pages_at, pages_in, unpaged_report}
+use Rattle.mm_plain.proofs.{fits_areas, files_fit_areas, dead_page, dead_block, dead_count, contents_kept, paging_kept, block_kept, blocks_kept}
+use Rattle.mm_plain.proofs.{sizes_changed, same_parts}
 use Rattle.mm_plain.proofs.plain.PlainPages.close_area.Goals as goal
 
 pub close-requires-clause-dead : goal.close-requires-clause-dead
@@ -32,8 +29,7 @@ returns-clause-store g c =
     let after = area_in c.close.new.self in
     let files = s.file_pages.pages.items in
     let none = dead_block files o c.requires.dead (s.files_fit.near a) in
-    same_parts _ _ _ _ _ _ _ _ _ _ _ _ _ _ _ _ _ _ _ _ _ _ _ _ _ _ _
-    (sizes_changed (area_in s.areas) after a None c.close.ensures.areas)
+    same_parts _ _ _ _ _ _ _ _ _ (sizes_changed (area_in s.areas) after a None c.close.ensures.areas)
     refl
     refl
     (paging_kept (area_in s.areas) after a None c.close.ensures.areas (pages_at s.places) (λ j. ap is_some (sym (dead_page files o c.requires.dead j))))

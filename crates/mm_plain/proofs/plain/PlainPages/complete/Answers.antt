@@ -1,5 +1,5 @@
 use Rattle.std.proofs.Common.{refl}
-use Rattle.mm_pages.proofs.Served.{served_nothing}
+use Rattle.mm_pages.proofs.{served_nothing}
 use Rattle.mm_plain.proofs.plain.PlainPages.complete.Goals as goal
 
 pub returns-clause-served : goal.returns-clause-served

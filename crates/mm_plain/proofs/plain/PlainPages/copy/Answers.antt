@@ -1,14 +1,9 @@
 use Rattle.std.proofs.Common.{◌≡◌, ◌+◌, ◌∙◌, Some, refl, sym, ap, arith}
-use Rattle.mm_world.specs.Failure.{same_key}
-use Rattle.mm_pages.specs.Store.{changed, same_place}
-use Rattle.mm_pages.proofs.Served.{served_nothing}
-use Rattle.mm_plain.specs.Areas.{area_in, count_in}
-use Rattle.mm_plain.specs.Places.{pages_at, pages_in}
-use Rattle.mm_plain.specs.Plain.{contents_in}
-use Rattle.mm_plain.specs.Stocks.{StockOf}
-use Rattle.mm_plain.proofs.Contents.{contents_at_place, paging_at_place}
-use Rattle.mm_plain.proofs.Fitting.{fits_then}
-use Rattle.mm_plain.proofs.Stores.{same_parts}
+use Rattle.mm_world.specs.{same_key}
+use Rattle.mm_pages.specs.{changed, same_place}
+use Rattle.mm_pages.proofs.{served_nothing}
+use Rattle.mm_plain.specs.{area_in, count_in, pages_at, pages_in, contents_in, StockOf}
+use Rattle.mm_plain.proofs.{contents_at_place, paging_at_place, fits_then, same_parts}
 use Rattle.mm_plain.proofs.Having.{copy_ends, copied_from, copied_to}
 use Rattle.mm_plain.proofs.plain.PlainPages.copy.Goals as goal
 
@@ -37,8 +32,7 @@ pub returns-clause-ok : goal.returns-clause-ok
 returns-clause-ok g c =
     let s = c.args.self.now in
     let more : pages_in c.name.new.self + count_in s.areas ≡ (pages_in s.places + count_in s.areas) + 1 = omega (arith, c.name.ensures.count, c.put.ensures.count) in
-    same_parts _ _ _ _ _ _ _ _ _ _ _ _ _ _ _ _ _ _ _ _ _ _ _ _ _ _ _
-    refl
+    same_parts _ _ _ _ _ _ _ _ _ refl
     (c.name.ensures.bound ∙ c.put.ensures.bound)
     (c.name.ensures.names ∙ ap (λ f. changed same_place f c.args.place (Some c.args.to)) c.put.ensures.names)
     (paging_at_place (pages_at s.places) (pages_at c.name.new.self) (area_in s.areas) c.args.place.pid c.args.place.vpn c.args.to _ (c.name.ensures.pages ∙ c.put.ensures.pages) c.requires.own)

@@ -1,16 +1,10 @@
 use Rattle.std.proofs.Common.{◌≡◌, ◌∙◌, ℕ, Some, refl, sym, ap, arith}
 use Rattle.std.specs.Prelude.{is_ok, slice_get, slice_set, unwrap_or}
-use Rattle.mm_types.proofs.Cells.{get_set_same, get_set_other}
-use Rattle.mm_world.specs.World.{filled}
-use Rattle.mm_pages.proofs.Served.{served_nothing, served_writes}
-use Rattle.mm_plain.specs.Areas.{area_in, block_at, page_at}
-use Rattle.mm_plain.specs.Files.{page_in}
-use Rattle.mm_plain.specs.Places.{pages_at}
-use Rattle.mm_plain.specs.Plain.{contents_in}
-use Rattle.mm_plain.specs.Shown.{shared_page}
-use Rattle.mm_plain.proofs.Fitting.{files_fit_settled}
-use Rattle.mm_plain.proofs.Openings.{contents_settled, only_block}
-use Rattle.mm_plain.proofs.StoredFiles.{wrote_one}
+use Rattle.mm_types.proofs.{get_set_same, get_set_other}
+use Rattle.mm_world.specs.{filled}
+use Rattle.mm_pages.proofs.{served_nothing, served_writes}
+use Rattle.mm_plain.specs.{area_in, block_at, page_at, page_in, pages_at, contents_in, shared_page}
+use Rattle.mm_plain.proofs.{files_fit_settled, contents_settled, only_block, wrote_one}
 use Rattle.mm_plain.proofs.plain.PlainPages.flush.Goals as goal
 
 pub returns-then-not-is_changed-clause-served : goal.returns-then-not-is_changed-clause-served

@@ -1,11 +1,10 @@
 use Rattle.std.proofs.Common.{◌≡◌, ◌+◌, ℕ, None, ap, ◌∙◌}
 use Rattle.mm_types.specs.declared.moves.LineKind.TheVariants as kind
-use Rattle.mm_types.specs.Machine.{MachineOf}
-use Rattle.mm_world.specs.Processes.{with_slots}
-use Rattle.mm_pages.specs.Reports.{begun}
-use Rattle.mm_plain.specs.Plain.{store_in}
-use Rattle.mm_plain.proofs.Fitting.{more_slots}
-use Rattle.mm_plain.proofs.Stores.{grown}
+use Rattle.mm_types.specs.{MachineOf}
+use Rattle.mm_world.specs.{with_slots}
+use Rattle.mm_pages.specs.{begun}
+use Rattle.mm_plain.specs.{store_in}
+use Rattle.mm_plain.proofs.{more_slots, grown}
 use Rattle.mm_plain.proofs.plain.PlainPages.grow.Goals as goal
 
 pub new-self-requires : goal.new-self-requires

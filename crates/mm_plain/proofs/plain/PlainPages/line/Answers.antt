@@ -1,6 +1,6 @@
 use Rattle.std.proofs.Common.{ℕ, None, ap, ◌∙◌}
-use Rattle.mm_pages.specs.Reports.{begun}
-use Rattle.mm_plain.specs.Plain.{store_in}
+use Rattle.mm_pages.specs.{begun}
+use Rattle.mm_plain.specs.{store_in}
 use Rattle.mm_plain.proofs.plain.PlainPages.line.Goals as goal
 
 pub returns-clause-store : goal.returns-clause-store

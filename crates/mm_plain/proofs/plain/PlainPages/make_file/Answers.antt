@@ -1,12 +1,10 @@
 use Rattle.std.proofs.Common.{◌+◌, ◌∙◌, ◌++◌, ◌==◌, Some, refl, ap, inl, inr, length, arith}
-use Rattle.mm_pages.specs.Store.{changed}
-use Rattle.mm_pages.proofs.Served.{served_nothing, served_writes}
+use Rattle.mm_pages.specs.{changed}
+use Rattle.mm_pages.proofs.{served_nothing, served_writes}
 use Rattle.mm_plain.specs.declared.areas.AreaPages.TheVariants.{Filed}
-use Rattle.mm_plain.specs.Areas.{area_in}
-use Rattle.mm_plain.specs.Places.{pages_at, pages_in}
-use Rattle.mm_plain.proofs.Fitting.{fits_areas, files_fit_same, files_fit_unused}
-use Rattle.mm_plain.proofs.Openings.{closed_of, contents_with_file, blocks_with_file, paging_with_file, used_with_file, sizes_changed, files_fit_made}
-use Rattle.mm_plain.proofs.Stores.{same_parts}
+use Rattle.mm_plain.specs.{area_in, pages_at, pages_in}
+use Rattle.mm_plain.proofs.{fits_areas, files_fit_same, files_fit_unused, closed_of, contents_with_file, blocks_with_file, paging_with_file}
+use Rattle.mm_plain.proofs.{used_with_file, files_fit_made, sizes_changed, same_parts}
 use Rattle.mm_plain.proofs.plain.PlainPages.make_file.Goals as goal
 
 pub returns-in_default-clause-served : goal.returns-in_default-clause-served
@@ -72,8 +70,7 @@ returns-clause-ok g c =
     let closed = closed_of (area_in s.areas a) c.requires.new in
     let is = c.open_file.ensures.areas ∙ ap (λ f. changed ◌==◌ f a (Some (Filed first c.args.n))) c.prepare_file.ensures.areas in
     let whole = c.append.ensures ∙ ap (λ fs. fs ++ made) c.prepare_file.ensures.files in
-    same_parts _ _ _ _ _ _ _ _ _ _ _ _ _ _ _ _ _ _ _ _ _ _ _ _ _ _ _
-    (sizes_changed (area_in s.areas) after a (Some (Filed first c.args.n)) is)
+    same_parts _ _ _ _ _ _ _ _ _ (sizes_changed (area_in s.areas) after a (Some (Filed first c.args.n)) is)
     refl
     refl
     (paging_with_file (area_in s.areas) after a first c.args.n c.args.byte files made all closed is c.requires.next c.in-Ok.ensures.made whole (pages_at s.places))

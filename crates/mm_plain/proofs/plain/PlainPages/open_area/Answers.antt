@@ -1,14 +1,11 @@
 use Rattle.std.proofs.Common.{◌≡◌, ◌+◌, ◌∙◌, ◌==◌, None, Some, replicate, refl, sym, ap}
 use Rattle.std.specs.Prelude.{is_some}
 use Rattle.std.proofs.lemmas.List.{length-replicate}
-use Rattle.mm_pages.specs.Store.{changed}
+use Rattle.mm_pages.specs.{changed}
 use Rattle.mm_plain.specs.declared.areas.AreaPages.TheVariants.{Paged}
-use Rattle.mm_plain.specs.Areas.{area_in, block_at, page_at}
-use Rattle.mm_plain.specs.Places.{pages_at, pages_in}
-use Rattle.mm_plain.specs.Shown.{contents_of, shared_page, sizes_of, unpaged_report}
-use Rattle.mm_plain.proofs.Fitting.{fits_areas, files_fit_areas}
-use Rattle.mm_plain.proofs.Openings.{closed_of, contents_kept, paging_kept, block_kept, blocks_kept, sizes_changed, none_at, on_ok, either}
-use Rattle.mm_plain.proofs.Stores.{same_parts}
+use Rattle.mm_plain.specs.{area_in, block_at, page_at, pages_at, pages_in, contents_of, shared_page, sizes_of, unpaged_report}
+use Rattle.mm_plain.proofs.{fits_areas, files_fit_areas, closed_of, none_at, on_ok, either, contents_kept, paging_kept, block_kept, blocks_kept}
+use Rattle.mm_plain.proofs.{sizes_changed, same_parts}
 use Rattle.mm_plain.proofs.plain.PlainPages.open_area.Goals as goal
 
 pub invariant_of-self : goal.invariant_of-self
@@ -35,8 +32,7 @@ returns-clause-ok g c =
     let files = s.file_pages.pages.items in
     let closed : area_in s.areas a ≡ None = closed_of (area_in s.areas a) c.requires.new in
     on_ok c.open.result (λ e.
-    same_parts _ _ _ _ _ _ _ _ _ _ _ _ _ _ _ _ _ _ _ _ _ _ _ _ _ _ _
-    (sizes_changed (area_in s.areas) after a (Some (Paged (replicate c.args.n None))) e
+    same_parts _ _ _ _ _ _ _ _ _ (sizes_changed (area_in s.areas) after a (Some (Paged (replicate c.args.n None))) e
     ∙ ap (λ n. changed ◌==◌ (sizes_of (area_in s.areas)) a (Some n)) (length-replicate c.args.n None))
     refl
     refl

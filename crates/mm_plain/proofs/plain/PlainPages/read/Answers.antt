@@ -1,11 +1,10 @@
 use Rattle.std.proofs.Common.{Some, Option, sym, subst}
 use Rattle.std.specs.Prelude.{IsSome}
-use Rattle.mm_types.specs.declared.numbers.Key.{Key}
-use Rattle.mm_world.specs.World.{Page}
-use Rattle.mm_pages.specs.Store.{changed, same_place}
-use Rattle.mm_plain.specs.Places.{names_in}
-use Rattle.mm_plain.specs.Plain.{contents_in, store_in}
-use Rattle.mm_plain.proofs.Stores.{fetched_named, served_named}
+use Rattle.mm_types.specs.{Key}
+use Rattle.mm_world.specs.{Page}
+use Rattle.mm_pages.specs.{changed, same_place}
+use Rattle.mm_plain.specs.{names_in, contents_in, store_in}
+use Rattle.mm_plain.proofs.{fetched_named, served_named}
 use Rattle.mm_plain.proofs.Having.{touch_ends}
 use Rattle.mm_plain.proofs.plain.PlainPages.read.Goals as goal
 

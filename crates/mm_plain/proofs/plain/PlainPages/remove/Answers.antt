@@ -1,15 +1,10 @@
 use Rattle.std.proofs.Common.{◌≡◌, ◌+◌, ◌-◌, ◌∙◌, refl, sym, ap, arith}
 use Rattle.std.specs.Prelude.{IsSome}
-use Rattle.mm_types.specs.declared.numbers.Key.{Key}
-use Rattle.mm_pages.specs.Store.{unnamed}
-use Rattle.mm_plain.specs.Areas.{area_in, pages_of, page_at, count_in}
-use Rattle.mm_plain.specs.Places.{names_in, pages_at, pages_in}
-use Rattle.mm_plain.specs.Shown.{paging_of}
-use Rattle.mm_plain.specs.Stocks.{StockOf}
-use Rattle.mm_plain.proofs.Contents.{contents_at_place, paging_at_place, contents_in_area, paging_in_area, block_in_area, blocks_in_area, sizes_in_area}
-use Rattle.mm_plain.proofs.Fitting.{fits_then, files_fit_areas}
-use Rattle.mm_plain.proofs.OpenAreas.{live_within}
-use Rattle.mm_plain.proofs.Stores.{same_parts}
+use Rattle.mm_types.specs.{Key}
+use Rattle.mm_pages.specs.{unnamed}
+use Rattle.mm_plain.specs.{area_in, pages_of, page_at, count_in, names_in, pages_at, pages_in, paging_of, StockOf}
+use Rattle.mm_plain.proofs.{contents_at_place, paging_at_place, contents_in_area, paging_in_area, block_in_area, blocks_in_area, sizes_in_area}
+use Rattle.mm_plain.proofs.{fits_then, files_fit_areas, live_within, same_parts}
 use Rattle.mm_plain.proofs.plain.PlainPages.remove.Goals as goal
 
 pub invariant_of-self : goal.invariant_of-self
@@ -47,8 +42,7 @@ returns-in-Private-clause-store g c =
     let s = c.args.self.now in
     let e = c.take-page.ensures in
     let fewer : pages_in c.take-page.new.self + count_in s.areas ≡ (pages_in s.places + count_in s.areas) - 1 = omega (arith, e.count) in
-    same_parts _ _ _ _ _ _ _ _ _ _ _ _ _ _ _ _ _ _ _ _ _ _ _ _ _ _ _
-    refl
+    same_parts _ _ _ _ _ _ _ _ _ refl
     e.bound
     (e.names ∙ ap (λ (k : Key). unnamed k (names_in s.places)) (sym c.in-Private.is))
     (paging_at_place (pages_at s.places) (pages_at c.take-page.new.self) (area_in s.areas) c.in-Private.pid c.in-Private.vpn c.args.key _ e.pages c.in-Private.is)
@@ -76,8 +70,7 @@ returns-in-Shared-clause-store g c =
     let live : IsSome (page_at (area_in s.areas k.area.0) k.index) = sym (ap (paging_of (pages_at s.places) (area_in s.areas)) k.is) ∙ c.requires.live in
     let near = live_within (pages_of (area_in s.areas k.area.0)) k.index live in
     let fewer : pages_in s.places + count_in c.take-page-in-Shared.new.self ≡ (pages_in s.places + count_in s.areas) - 1 = omega (arith, e.count) in
-    same_parts _ _ _ _ _ _ _ _ _ _ _ _ _ _ _ _ _ _ _ _ _ _ _ _ _ _ _
-    (sizes_in_area (area_in s.areas) after k.area k.index _ near e.areas)
+    same_parts _ _ _ _ _ _ _ _ _ (sizes_in_area (area_in s.areas) after k.area k.index _ near e.areas)
     refl
     (ap (λ (q : Key). unnamed q (names_in s.places)) (sym k.is))
     (paging_in_area (area_in s.areas) after k.area k.index _ near e.areas (pages_at s.places) c.args.key k.is)

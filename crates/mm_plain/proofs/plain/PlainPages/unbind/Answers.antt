@@ -1,4 +1,4 @@
-use Rattle.mm_plain.proofs.Fitting.{fits_unbound}
+use Rattle.mm_plain.proofs.{fits_unbound}
 use Rattle.mm_plain.proofs.plain.PlainPages.unbind.Goals as goal
 
 pub invariant_of-self : goal.invariant_of-self

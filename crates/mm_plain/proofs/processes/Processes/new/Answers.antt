@@ -1,4 +1,4 @@
-use Rattle.mm_plain.proofs.Flags.{none_set}
+use Rattle.mm_plain.proofs.{none_set}
 use Rattle.mm_plain.proofs.processes.Processes.new.Goals as goal
 
 pub returns : goal.returns

@@ -45,8 +45,7 @@ use denote.Builtin.{usize}
 use Rattle.std.specs.Prelude.{Some, None}
 use Rattle.core.proofs.mem.Param.{El, R, args, el_x}
 use Rattle.core.proofs.ptr.Rows.{times_below, one_below}
-use Rattle.mm_ram.specs.Places.{IsFilled}
-use Rattle.mm_ram.specs.Ownership.{slot_lent, cells_lent}
+use Rattle.mm_ram.specs.{IsFilled, slot_lent, cells_lent}
 use Rattle.mm_ram.proofs.Memory.{Cr, Bs, sz, Place, word_had, filled_within, slot_seen}
 use Rattle.mm_ram.specs.contracts.cells.Cells.get.Key.{name as #self}
 use Rattle.mm_ram.proofs.cells.Cells.get.Statement as stated

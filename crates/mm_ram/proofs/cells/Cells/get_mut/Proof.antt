@@ -45,11 +45,9 @@ use denote.Builtin.{usize}
 use Rattle.std.specs.Prelude.{Some, None}
 use Rattle.core.proofs.mem.Param.{El, R, args, el_x}
 use Rattle.core.proofs.ptr.Rows.{times_below, one_below}
-use Rattle.mm_ram.specs.Places.{IsFilled}
-use Rattle.mm_ram.specs.Ownership.{slot, slots, cells_own}
+use Rattle.mm_ram.specs.{IsFilled, slot, slots, cells_own, with_slots}
 use Rattle.mm_ram.proofs.Memory.{Cr, Bs, Mark, sz, Place, word_had, filled_within, Besides, slot_out, slot_in}
 use denote.Follow.{follows, Part, lends_Part}
-use Rattle.mm_ram.specs.Lends.{with_slots}
 use Rattle.mm_ram.specs.contracts.cells.Cells.get_mut.Key.{name as #self}
 use Rattle.mm_ram.proofs.cells.Cells.get_mut.Statement as stated
 use Rattle.mm_ram.proofs.cells.Cells.get_mut.Code as code

@@ -46,8 +46,7 @@ use Rattle.std.specs.Prelude.{Some, None}
 use Rattle.core.proofs.mem.Param.{El, R, args, elτ}
 use Rattle.core.proofs.ptr.Rows.{times_below, one_below}
 use Rattle.std_alloc.proofs.RawLayout.{as_raw}
-use Rattle.mm_ram.specs.Places.{IsFilled}
-use Rattle.mm_ram.specs.Ownership.{slot, slots, cells_own}
+use Rattle.mm_ram.specs.{IsFilled, slot, slots, cells_own}
 use Rattle.mm_ram.proofs.Memory.{Cr, Bs, sz, Place, word_had, says_both, value_out, filled_within, Besides, slot_out, slot_in}
 use Rattle.mm_ram.specs.contracts.cells.Cells.read.Key.{name as #self}
 use Rattle.mm_ram.proofs.cells.Cells.read.Statement as stated

@@ -46,7 +46,7 @@ use Rattle.std.specs.Prelude.{Some, None}
 use Rattle.core.proofs.mem.Param.{El, R, args, elτ}
 use Rattle.core.proofs.ptr.Rows.{times_below, one_below}
 use Rattle.std_alloc.proofs.RawLayout.{as_written}
-use Rattle.mm_ram.specs.Ownership.{slot, slots, cells_own}
+use Rattle.mm_ram.specs.{slot, slots, cells_own}
 use Rattle.mm_ram.proofs.Memory.{Cr, Bs, sz, Place, word_had, value_in, tells, Besides, slot_out, slot_in}
 use Rattle.mm_ram.specs.contracts.cells.Cells.write.Key.{name as #self}
 use Rattle.mm_ram.proofs.cells.Cells.write.Statement as stated

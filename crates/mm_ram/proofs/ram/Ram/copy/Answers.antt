@@ -1,5 +1,5 @@
 use Rattle.std.proofs.Common.{ℕ, List, set, Some, arith, sym, ap, ◌∙◌}
-use Rattle.mm_ram.proofs.Slots.{seen, contents_low, some_low, contents_read, own_filled, own_is, zeros_are}
+use Rattle.mm_ram.proofs.{seen, contents_low, some_low, contents_read, own_filled, own_is, zeros_are}
 use Rattle.mm_ram.proofs.ram.Ram.copy.Goals as goal
 
 pub index-requires : goal.index-requires

@@ -1,4 +1,4 @@
-use Rattle.mm_ram.proofs.Slots.{seen, frame_low, seen_filled, ram_put}
+use Rattle.mm_ram.proofs.{seen, frame_low, seen_filled, ram_put}
 use Rattle.mm_ram.proofs.ram.Ram.fill.Goals as goal
 
 pub put_page-requires-clause-there : goal.put_page-requires-clause-there

@@ -1,6 +1,6 @@
 use Rattle.std.proofs.Common.{◌<◌, ℕ, List, Option, Some, length, set, arith, refl, sym, ap, ◌∙◌}
 use Rattle.mm_ram.specs.declared.contents.Contents.TheVariants as contains
-use Rattle.mm_ram.proofs.Slots.{seen, frame_low, seen_filled, ram_over, ram_put}
+use Rattle.mm_ram.proofs.{seen, frame_low, seen_filled, ram_over, ram_put}
 use Rattle.mm_ram.proofs.ram.Ram.fill_from.Goals as goal
 
 pub fill_place-requires-clause-low : goal.fill_place-requires-clause-low

@@ -1,8 +1,7 @@
 use Rattle.std.proofs.Common.{◌≡◌, ◌∙◌, List, Option, replicate, None, ap, ℕ}
-use Rattle.mm_ram.specs.declared.contents.Contents.{Contents}
+use Rattle.mm_ram.specs.{Contents, shown}
 use Rattle.mm_ram.specs.declared.contents.Contents.TheVariants as contains
-use Rattle.mm_ram.specs.Frames.{shown}
-use Rattle.mm_ram.proofs.Slots.{ram_new, none_shown}
+use Rattle.mm_ram.proofs.{ram_new, none_shown}
 use Rattle.mm_ram.proofs.ram.Ram.new.Goals as goal
 
 pub invariant_of-result : goal.invariant_of-result

@@ -1,6 +1,6 @@
 use Rattle.std.proofs.Common.{arith, sym, ◌∙◌}
-use Rattle.mm_ram.specs.Ram.{zero_page}
-use Rattle.mm_ram.proofs.Slots.{seen, contents_low, some_low, contents_read, own_filled, own_is, zeros_are}
+use Rattle.mm_ram.specs.{zero_page}
+use Rattle.mm_ram.proofs.{seen, contents_low, some_low, contents_read, own_filled, own_is, zeros_are}
 use Rattle.mm_ram.proofs.ram.Ram.page.Goals as goal
 
 pub index-requires : goal.index-requires

@@ -1,4 +1,4 @@
-use Rattle.mm_ram.proofs.Slots.{seen, seen_whole}
+use Rattle.mm_ram.proofs.{seen, seen_whole}
 use Rattle.mm_ram.proofs.ram.Ram.pages_are_whole.Goals as goal
 
 pub returns : goal.returns

@@ -1,10 +1,10 @@
 use Rattle.std.proofs.Common.{◌≡◌, ◌≤◌, ◌+◌, ℕ, List, length, set, Option, Some, None, arith, sym, ap, ◌∙◌, get_or-set_same, set-set}
 use Rattle.std.specs.Prelude.{unwrap_or, []}
-use Rattle.mm_ram.specs.declared.contents.Contents.{Contents}
+use Rattle.mm_ram.specs.{Contents, page_at, overwritten, zero_page}
 use Rattle.mm_ram.specs.declared.contents.Contents.TheVariants as contains
-use Rattle.mm_ram.specs.Ram.{page_at, overwritten, zero_page}
-use Rattle.mm_types.specs.Address.{page_size}
-use Rattle.mm_ram.proofs.Slots.{contents_at, seen, frame_low, contents_low, some_low, contents_read, own_filled, own_is, zeros_are, zeros_long, seen_filled, seen_rewritten, ram_put, ram_rewritten, length-over}
+use Rattle.mm_types.specs.{page_size}
+use Rattle.mm_ram.proofs.{contents_at, seen, frame_low, contents_low, some_low, contents_read, own_filled, own_is, zeros_are, zeros_long, seen_filled}
+use Rattle.mm_ram.proofs.{seen_rewritten, ram_put, ram_rewritten, length-over}
 use Rattle.mm_ram.proofs.ram.Ram.write.Goals as goal
 
 -- a page that is written within it is as long as before

@@ -1,6 +1,6 @@
 use Rattle.std.proofs.Common.{arith, ap, ◌∙◌}
-use Rattle.mm_ram.specs.Frames.{zeroed}
-use Rattle.mm_ram.proofs.Slots.{seen, contents_low, contents_read, seen_zeroed, ram_zeroed}
+use Rattle.mm_ram.specs.{zeroed}
+use Rattle.mm_ram.proofs.{seen, contents_low, contents_read, seen_zeroed, ram_zeroed}
 use Rattle.mm_ram.proofs.ram.Ram.zero.Goals as goal
 
 pub index-requires : goal.index-requires

@@ -1,6 +1,6 @@
 use Rattle.std.proofs.Common.{◌+◌, ap, sym, ◌∙◌, arith}
-use Rattle.mm_slots.specs.Slots.{free_count}
-use Rattle.mm_replay.proofs.Looked.{one_apart, few_apart}
+use Rattle.mm_slots.specs.{free_count}
+use Rattle.mm_replay.proofs.{one_apart, few_apart}
 use Rattle.mm_replay.proofs.free_slots.SlotMap.count.Goals as goal
 
 pub overflow_add-result : goal.overflow_add-result

@@ -1,7 +1,7 @@
 use Rattle.std.proofs.Common.{◌≡◌, ◌∙◌, ℕ, List, Bool, true, false, Option, Some, ap, subst, sym}
 use Rattle.std.specs.Prelude.{slice_get, slice_set}
-use Rattle.mm_replay.specs.Slotted.{AreApartFrom}
-use Rattle.mm_replay.proofs.Slotting.{given_first, given_taken, lowest_taken, given_behind, given_before}
+use Rattle.mm_replay.specs.{AreApartFrom}
+use Rattle.mm_replay.proofs.{given_first, given_taken, lowest_taken, given_behind, given_before}
 use Rattle.mm_replay.proofs.free_slots.SlotMap.give_one.Goals as goal
 
 taken_in : (xs ys : List Bool) (k : ℕ) → ys ≡ xs → slice_get ys k ≡ Some false → slice_get xs k ≡ Some false

@@ -1,6 +1,6 @@
 use Rattle.std.proofs.Common.{◌++◌, ℕ, List, Bool, true, Option, replicate, subst, sym, ap, ◌∙◌}
-use Rattle.mm_replay.specs.Slotted.{AreApartFrom}
-use Rattle.mm_replay.proofs.Slotting.{grown_some}
+use Rattle.mm_replay.specs.{AreApartFrom}
+use Rattle.mm_replay.proofs.{grown_some}
 use Rattle.mm_replay.proofs.free_slots.SlotMap.grow.Goals as goal
 
 pub invariant_of-self-in-Some : goal.invariant_of-self-in-Some

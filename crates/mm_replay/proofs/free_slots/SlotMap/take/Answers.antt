@@ -1,7 +1,7 @@
 use Rattle.std.proofs.Common.{◌≡◌, ◌∙◌, List, Bool, true, ap, subst, sym}
-use Rattle.mm_life.specs.Legal.{is_lowest}
-use Rattle.mm_replay.specs.Slotted.{AreApartFrom}
-use Rattle.mm_replay.proofs.Slotting.{taken_next}
+use Rattle.mm_life.specs.{is_lowest}
+use Rattle.mm_replay.specs.{AreApartFrom}
+use Rattle.mm_replay.proofs.{taken_next}
 use Rattle.mm_replay.proofs.free_slots.SlotMap.take.Goals as goal
 
 pub invariant_of-self : goal.invariant_of-self

@@ -1,4 +1,4 @@
-use Rattle.mm_replay.proofs.Leaves.{place_of_some}
+use Rattle.mm_replay.proofs.{place_of_some}
 use Rattle.mm_replay.proofs.grids.Grid.change.Goals as goal
 
 pub put-requires : goal.put-requires

@@ -1,5 +1,5 @@
 use Rattle.std.proofs.Common.{◌≡◌, true, false, sym, ◌∙◌, arith}
-use Rattle.mm_replay.proofs.Leaves.{place_within, place_in, value_is, none_of}
+use Rattle.mm_replay.proofs.{place_within, place_in, value_is, none_of}
 use Rattle.mm_replay.proofs.grids.Grid.get.Goals as goal
 
 pub index-requires : goal.index-requires

@@ -1,5 +1,5 @@
 use Rattle.std.proofs.Common.{◌∙◌, arith}
-use Rattle.mm_replay.proofs.Leaves.{no_place, place_tested}
+use Rattle.mm_replay.proofs.{no_place, place_tested}
 use Rattle.mm_replay.proofs.grids.Grid.has_place.Goals as goal
 
 pub returns-then-leaf-count : goal.returns-then-leaf-count

@@ -1,5 +1,5 @@
 use Rattle.std.proofs.Common.{◌≡◌, true, false, sym, ◌∙◌}
-use Rattle.mm_replay.proofs.Leaves.{none_of}
+use Rattle.mm_replay.proofs.{none_of}
 use Rattle.mm_replay.proofs.grids.Grid.is_in_leaf.Goals as goal
 
 pub returns : goal.returns

@@ -1,7 +1,6 @@
 use Rattle.std.proofs.Common.{◌<◌, ◌/◌, length, arith}
-use Rattle.mm_replay.specs.Grids.{in_leaves}
-use Rattle.mm_replay.proofs.Outcomes.{on_ok_then}
-use Rattle.mm_replay.proofs.Leaves.{same_twice, full_keeps, full_place}
+use Rattle.mm_replay.specs.{in_leaves}
+use Rattle.mm_replay.proofs.{on_ok_then, same_twice, full_keeps, full_place}
 use Rattle.mm_replay.proofs.grids.Grid.make_place.Goals as goal
 
 pub returns-clause-same : goal.returns-clause-same

@@ -1,4 +1,4 @@
-use Rattle.mm_replay.proofs.Leaves.{none_in}
+use Rattle.mm_replay.proofs.{none_in}
 use Rattle.mm_replay.proofs.grids.Grid.new.Goals as goal
 
 pub returns : goal.returns

@@ -1,5 +1,5 @@
 use Rattle.std.proofs.Common.{arith}
-use Rattle.mm_replay.proofs.Leaves.{place_within, place_in, put_sets}
+use Rattle.mm_replay.proofs.{place_within, place_in, put_sets}
 use Rattle.mm_replay.proofs.grids.Grid.put.Goals as goal
 
 pub index_mut-leaf-requires : goal.index_mut-leaf-requires

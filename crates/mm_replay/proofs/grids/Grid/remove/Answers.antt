@@ -1,7 +1,7 @@
 use Rattle.std.proofs.Common.{None, sym, ap, ◌∙◌}
 use Rattle.std.specs.Prelude.{is_some}
-use Rattle.mm_replay.specs.Grids.{in_leaves}
-use Rattle.mm_replay.proofs.Leaves.{place_of_some, set_to_same}
+use Rattle.mm_replay.specs.{in_leaves}
+use Rattle.mm_replay.proofs.{place_of_some, set_to_same}
 use Rattle.mm_replay.proofs.grids.Grid.remove.Goals as goal
 
 pub put-requires : goal.put-requires

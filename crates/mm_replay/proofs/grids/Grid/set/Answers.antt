@@ -1,7 +1,7 @@
 use Rattle.std.proofs.Common.{Some}
-use Rattle.mm_types.proofs.Options.{on_err}
-use Rattle.mm_replay.specs.Grids.{in_leaves}
-use Rattle.mm_replay.proofs.Leaves.{set_after}
+use Rattle.mm_types.proofs.{on_err}
+use Rattle.mm_replay.specs.{in_leaves}
+use Rattle.mm_replay.proofs.{set_after}
 use Rattle.mm_replay.proofs.grids.Grid.set.Goals as goal
 
 pub returns-clause-ok : goal.returns-clause-ok

@@ -1,7 +1,7 @@
 use Rattle.std.proofs.Common.{Some}
-use Rattle.mm_types.proofs.Options.{on_err}
-use Rattle.mm_replay.specs.Holdings.{alive_in}
-use Rattle.mm_replay.proofs.Holding.{stands_written, paging_written, stands_same, paging_same}
+use Rattle.mm_types.proofs.{on_err}
+use Rattle.mm_replay.specs.{alive_in}
+use Rattle.mm_replay.proofs.{stands_written, paging_written, stands_same, paging_same}
 use Rattle.mm_replay.proofs.holdings.Keys.add.Goals as goal
 
 pub returns-clause-stands : goal.returns-clause-stands

@@ -1,5 +1,5 @@
 use Rattle.std.proofs.Common.{sym, ◌∙◌, arith}
-use Rattle.mm_replay.proofs.Holding.{private_is, shared_is}
+use Rattle.mm_replay.proofs.{private_is, shared_is}
 use Rattle.mm_replay.proofs.holdings.Keys.alive.Goals as goal
 
 pub returns-in-Private : goal.returns-in-Private

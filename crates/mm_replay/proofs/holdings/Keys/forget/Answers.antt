@@ -1,5 +1,5 @@
 use Rattle.std.proofs.Common.{None, arith}
-use Rattle.mm_replay.proofs.Holding.{private_written, shared_written}
+use Rattle.mm_replay.proofs.{private_written, shared_written}
 use Rattle.mm_replay.proofs.holdings.Keys.forget.Goals as goal
 
 pub returns-in-Private : goal.returns-in-Private

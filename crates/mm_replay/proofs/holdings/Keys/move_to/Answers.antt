@@ -1,6 +1,6 @@
 use Rattle.std.proofs.Common.{Some}
-use Rattle.mm_replay.specs.Holdings.{alive_in, paging_in}
-use Rattle.mm_replay.proofs.Holding.{known, stands_written, paging_written, paging_kept}
+use Rattle.mm_replay.specs.{alive_in, paging_in}
+use Rattle.mm_replay.proofs.{known, stands_written, paging_written, paging_kept}
 use Rattle.mm_replay.proofs.holdings.Keys.move_to.Goals as goal
 
 pub rewrite-requires : goal.rewrite-requires

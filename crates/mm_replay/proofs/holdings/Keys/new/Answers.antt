@@ -1,4 +1,4 @@
-use Rattle.mm_replay.proofs.Holding.{stands_none, paging_none}
+use Rattle.mm_replay.proofs.{stands_none, paging_none}
 use Rattle.mm_replay.proofs.holdings.Keys.new.Goals as goal
 
 pub returns-clause-stands : goal.returns-clause-stands

@@ -1,5 +1,5 @@
-use Rattle.mm_replay.specs.Holdings.{paging_in}
-use Rattle.mm_replay.proofs.Holding.{paging_kept}
+use Rattle.mm_replay.specs.{paging_in}
+use Rattle.mm_replay.proofs.{paging_kept}
 use Rattle.mm_replay.proofs.holdings.Keys.place.Goals as goal
 
 pub returns-in-Ok-clause-paging : goal.returns-in-Ok-clause-paging

@@ -1,6 +1,6 @@
 use Rattle.std.proofs.Common.{None}
-use Rattle.mm_replay.specs.Holdings.{alive_in}
-use Rattle.mm_replay.proofs.Holding.{stands_written, paging_written}
+use Rattle.mm_replay.specs.{alive_in}
+use Rattle.mm_replay.proofs.{stands_written, paging_written}
 use Rattle.mm_replay.proofs.holdings.Keys.remove.Goals as goal
 
 pub returns-clause-stands : goal.returns-clause-stands

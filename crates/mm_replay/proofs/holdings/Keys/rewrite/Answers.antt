@@ -1,6 +1,6 @@
 use Rattle.std.proofs.Common.{Some, sym, ap, ◌∙◌, arith}
 use Rattle.std.specs.Prelude.{is_some}
-use Rattle.mm_replay.proofs.Holding.{private_is, shared_is, private_written, shared_written}
+use Rattle.mm_replay.proofs.{private_is, shared_is, private_written, shared_written}
 use Rattle.mm_replay.proofs.holdings.Keys.rewrite.Goals as goal
 
 pub change-requires : goal.change-requires

@@ -1,6 +1,5 @@
 use Rattle.std.proofs.Common.{Some, arith}
-use Rattle.mm_replay.proofs.Outcomes.{on_ok_then, on_err_then}
-use Rattle.mm_replay.proofs.Holding.{private_written, shared_written, private_kept, shared_kept}
+use Rattle.mm_replay.proofs.{on_ok_then, on_err_then, private_written, shared_written, private_kept, shared_kept}
 use Rattle.mm_replay.proofs.holdings.Keys.write.Goals as goal
 
 pub returns-in-Private-clause-ok : goal.returns-in-Private-clause-ok

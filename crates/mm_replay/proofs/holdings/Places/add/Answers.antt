@@ -1,7 +1,7 @@
 use Rattle.std.proofs.Common.{Some, arith}
-use Rattle.mm_types.proofs.Options.{on_err}
-use Rattle.mm_replay.specs.Pairs.{found}
-use Rattle.mm_replay.proofs.Holding.{frames_written, frames_same}
+use Rattle.mm_types.proofs.{on_err}
+use Rattle.mm_replay.specs.{found}
+use Rattle.mm_replay.proofs.{frames_written, frames_same}
 use Rattle.mm_replay.proofs.holdings.Places.add.Goals as goal
 
 pub returns-clause-ok : goal.returns-clause-ok

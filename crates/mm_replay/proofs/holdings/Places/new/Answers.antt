@@ -1,5 +1,5 @@
-use Rattle.mm_replay.specs.Pairs.{found}
-use Rattle.mm_replay.proofs.Holding.{frames_none}
+use Rattle.mm_replay.specs.{found}
+use Rattle.mm_replay.proofs.{frames_none}
 use Rattle.mm_replay.proofs.holdings.Places.new.Goals as goal
 
 pub returns : goal.returns

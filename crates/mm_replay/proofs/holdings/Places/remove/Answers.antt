@@ -1,7 +1,6 @@
 use Rattle.std.proofs.Common.{None, sym, ◌∙◌, arith}
-use Rattle.mm_replay.specs.Pairs.{found}
-use Rattle.mm_replay.proofs.Outcomes.{if_none}
-use Rattle.mm_replay.proofs.Holding.{frames_written, frames_kept}
+use Rattle.mm_replay.specs.{found}
+use Rattle.mm_replay.proofs.{if_none, frames_written, frames_kept}
 use Rattle.mm_replay.proofs.holdings.Places.remove.Goals as goal
 
 pub returns-clause-removed : goal.returns-clause-removed

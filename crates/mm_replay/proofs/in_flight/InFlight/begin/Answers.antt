@@ -1,7 +1,7 @@
 use Rattle.std.proofs.Common.{◌<◌, ◌++◌, ◌∷◌, [], Bool, List, subst, sym}
-use Rattle.mm_lists.specs.Lists.{ListsOf, list_at, with_list}
-use Rattle.mm_replay.specs.Flying.{FlightOf, IsOne, AreFlagged}
-use Rattle.mm_replay.proofs.Flying.{flagged_begun}
+use Rattle.mm_lists.specs.{ListsOf, list_at, with_list}
+use Rattle.mm_replay.specs.{FlightOf, IsOne, AreFlagged}
+use Rattle.mm_replay.proofs.{flagged_begun}
 use Rattle.mm_replay.proofs.in_flight.InFlight.begin.Goals as goal
 
 pub invariant_of-self : goal.invariant_of-self

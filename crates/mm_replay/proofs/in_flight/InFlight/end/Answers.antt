@@ -1,9 +1,8 @@
 use Rattle.std.proofs.Common.{rules, ◌≡◌, map, false, Bool, List, slice_index_or, subst, sym}
-use Rattle.mm_life.specs.Frames.{without}
-use Rattle.mm_lists.specs.Lists.{ListsOf}
-use Rattle.mm_lists.specs.Lists.{without as without_number}
-use Rattle.mm_replay.specs.Flying.{FlightOf, IsOne, AreFlagged}
-use Rattle.mm_replay.proofs.Flying.{flagged_ended, flight_stays}
+use Rattle.mm_life.specs.{without}
+use Rattle.mm_lists.specs.{ListsOf, without as without_number}
+use Rattle.mm_replay.specs.{FlightOf, IsOne, AreFlagged}
+use Rattle.mm_replay.proofs.{flagged_ended, flight_stays}
 use Rattle.mm_replay.proofs.in_flight.InFlight.end.Goals as goal
 
 pub invariant_of-self : goal.invariant_of-self

@@ -1,6 +1,6 @@
 use Rattle.std.proofs.Common.{rules, ◌≡◌, ℕ, Some, true, false, slice_get, slice_index_or, subst}
-use Rattle.mm_replay.specs.Flying.{FlightOf, flight_of}
-use Rattle.mm_replay.proofs.Flying.{request_new}
+use Rattle.mm_replay.specs.{FlightOf, flight_of}
+use Rattle.mm_replay.proofs.{request_new}
 use Rattle.mm_replay.proofs.in_flight.InFlight.next.Goals as goal
 
 pub returns-then-flag_at-clause-none : goal.returns-then-flag_at-clause-none

@@ -1,6 +1,6 @@
 use Rattle.std.proofs.Common.{◌∙◌, ap}
-use Rattle.mm_replay.specs.Listed.{is_changed_page}
-use Rattle.mm_replay.proofs.Placing.{modified_here}
+use Rattle.mm_replay.specs.{is_changed_page}
+use Rattle.mm_replay.proofs.{modified_here}
 use Rattle.mm_replay.proofs.listings.Listing.is_modified.Goals as goal
 
 pub returns : goal.returns

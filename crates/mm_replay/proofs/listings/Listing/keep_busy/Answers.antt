@@ -1,7 +1,7 @@
 use Rattle.std.proofs.Common.{◌∙◌, ap}
-use Rattle.mm_life.specs.Frames.{is_idle}
-use Rattle.mm_replay.specs.Listed.{is_owned}
-use Rattle.mm_replay.proofs.Placing.{busy_kept}
+use Rattle.mm_life.specs.{is_idle}
+use Rattle.mm_replay.specs.{is_owned}
+use Rattle.mm_replay.proofs.{busy_kept}
 use Rattle.mm_replay.proofs.listings.Listing.keep_busy.Goals as goal
 
 pub returns-clause-kept : goal.returns-clause-kept

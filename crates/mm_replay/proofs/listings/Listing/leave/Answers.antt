@@ -1,8 +1,8 @@
 use Rattle.std.proofs.Common.{◌∙◌, ap, subst, sym}
-use Rattle.mm_life.specs.Frames.{is_idle}
-use Rattle.mm_lists.specs.Lists.{ListsOf}
-use Rattle.mm_replay.specs.Listed.{AreFour, Off, table_of}
-use Rattle.mm_replay.proofs.Placing.{off_left, busy_off, table_left, table_stays}
+use Rattle.mm_life.specs.{is_idle}
+use Rattle.mm_lists.specs.{ListsOf}
+use Rattle.mm_replay.specs.{AreFour, Off, table_of}
+use Rattle.mm_replay.proofs.{off_left, busy_off, table_left, table_stays}
 use Rattle.mm_replay.proofs.listings.Listing.leave.Goals as goal
 
 pub returns-then-is_idle-clause-off : goal.returns-then-is_idle-clause-off

@@ -1,7 +1,7 @@
 use Rattle.std.proofs.Common.{List, subst, sym}
-use Rattle.mm_types.specs.declared.frames.Record.{Record}
-use Rattle.mm_replay.specs.Listed.{Kept}
-use Rattle.mm_replay.proofs.Fresh.{all_kept}
+use Rattle.mm_types.specs.{Record}
+use Rattle.mm_replay.specs.{Kept}
+use Rattle.mm_replay.proofs.{all_kept}
 use Rattle.mm_replay.proofs.listings.Listing.new.Goals as goal
 
 pub returns-clause-kept : goal.returns-clause-kept

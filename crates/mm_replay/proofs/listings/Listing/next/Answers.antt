@@ -1,6 +1,6 @@
 use Rattle.std.proofs.Common.{◌≡◌, true, false, ap, sym, ◌∙◌, arith}
-use Rattle.mm_life.specs.Frames.{is_idle}
-use Rattle.mm_replay.proofs.Looked.{on_list}
+use Rattle.mm_life.specs.{is_idle}
+use Rattle.mm_replay.proofs.{on_list}
 use Rattle.mm_replay.proofs.listings.Listing.next.Goals.{else-f-len-via-then-f-len+else-is_idle, else-f-len-via-else-f-len}
 use Rattle.mm_replay.proofs.listings.Listing.next.Goals as goal
 

@@ -1,7 +1,7 @@
 use Rattle.std.proofs.Common.{subst, sym}
-use Rattle.mm_lists.specs.Lists.{ListsOf}
-use Rattle.mm_replay.specs.Listed.{AreFour, Kept}
-use Rattle.mm_replay.proofs.Placing.{put_kept}
+use Rattle.mm_lists.specs.{ListsOf}
+use Rattle.mm_replay.specs.{AreFour, Kept}
+use Rattle.mm_replay.proofs.{put_kept}
 use Rattle.mm_replay.proofs.listings.Listing.put.Goals as goal
 
 pub returns-clause-kept : goal.returns-clause-kept

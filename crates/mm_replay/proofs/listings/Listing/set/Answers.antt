@@ -1,7 +1,7 @@
 use Rattle.std.proofs.Common.{List, subst, sym}
-use Rattle.mm_types.specs.declared.frames.Record.{Record}
-use Rattle.mm_replay.specs.Listed.{Off}
-use Rattle.mm_replay.proofs.Placing.{off_set}
+use Rattle.mm_types.specs.{Record}
+use Rattle.mm_replay.specs.{Off}
+use Rattle.mm_replay.proofs.{off_set}
 use Rattle.mm_replay.proofs.listings.Listing.set.Goals as goal
 
 pub returns-clause-off : goal.returns-clause-off

@@ -1,7 +1,7 @@
 use Rattle.std.proofs.Common.{◌∙◌, ap, sym}
-use Rattle.mm_life.specs.Frames.{is_idle}
-use Rattle.mm_replay.specs.Listed.{is_owned}
-use Rattle.mm_replay.proofs.Placing.{busy_kept}
+use Rattle.mm_life.specs.{is_idle}
+use Rattle.mm_replay.specs.{is_owned}
+use Rattle.mm_replay.proofs.{busy_kept}
 use Rattle.mm_replay.proofs.listings.Listing.settle.Goals as goal
 
 pub returns-else-is_idle-clause-kept : goal.returns-else-is_idle-clause-kept

@@ -1,6 +1,6 @@
-use Rattle.mm_laws.proofs.Facts.{facts_of}
+use Rattle.mm_laws.proofs.{facts_of}
 use Rattle.mm_replay.specs.Replaying.{life}
-use Rattle.mm_replay.proofs.Soundness.{sound_of, reached_made}
+use Rattle.mm_replay.proofs.{sound_of, reached_made}
 use Rattle.mm_replay.proofs.lives.Life.make.Goals as goal
 
 pub make-requires-clause-sound : goal.make-requires-clause-sound

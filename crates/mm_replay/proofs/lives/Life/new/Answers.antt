@@ -1,6 +1,6 @@
 use Rattle.std.proofs.Common.{subst, sym}
 use Rattle.mm_laws.specs.Reached.{Reached}
-use Rattle.mm_laws.proofs.Deduced.{reached_start}
+use Rattle.mm_laws.proofs.{reached_start}
 use Rattle.mm_replay.proofs.lives.Life.new.Goals as goal
 
 pub invariant_of-result : goal.invariant_of-result

@@ -1,7 +1,7 @@
 use Rattle.std.proofs.Common.{◌≡◌, true, false, None, sym, ap, ◌∙◌, arith}
 use Rattle.std.specs.Prelude.{is_some}
-use Rattle.mm_replay.specs.OrderedPairs.{mapped}
-use Rattle.mm_replay.proofs.Pairing.{mapped_at, mapped_through}
+use Rattle.mm_replay.specs.{mapped}
+use Rattle.mm_replay.proofs.{mapped_at, mapped_through}
 use Rattle.mm_replay.proofs.ordered_pairs.OrderedPairs.change.Goals as goal
 
 pub unreachable-requires : goal.unreachable-requires

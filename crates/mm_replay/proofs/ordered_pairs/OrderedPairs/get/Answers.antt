@@ -1,5 +1,5 @@
 use Rattle.std.proofs.Common.{sym, ◌∙◌, arith}
-use Rattle.mm_replay.proofs.Pairing.{mapped_at}
+use Rattle.mm_replay.proofs.{mapped_at}
 use Rattle.mm_replay.proofs.ordered_pairs.OrderedPairs.get.Goals as goal
 
 pub returns : goal.returns

@@ -1,6 +1,6 @@
 use Rattle.std.proofs.Common.{Some, arith}
-use Rattle.mm_types.proofs.Options.{on_err}
-use Rattle.mm_replay.proofs.Pairing.{mapped_written, mapped_same}
+use Rattle.mm_types.proofs.{on_err}
+use Rattle.mm_replay.proofs.{mapped_written, mapped_same}
 use Rattle.mm_replay.proofs.ordered_pairs.OrderedPairs.insert.Goals as goal
 
 pub returns-clause-ok : goal.returns-clause-ok

@@ -1,4 +1,4 @@
-use Rattle.mm_replay.proofs.Pairing.{mapped_none}
+use Rattle.mm_replay.proofs.{mapped_none}
 use Rattle.mm_replay.proofs.ordered_pairs.OrderedPairs.new.Goals as goal
 
 pub returns : goal.returns

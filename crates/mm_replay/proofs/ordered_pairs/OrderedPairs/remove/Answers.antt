@@ -1,5 +1,5 @@
 use Rattle.std.proofs.Common.{None, sym, ◌∙◌, arith}
-use Rattle.mm_replay.proofs.Pairing.{mapped_at, mapped_written}
+use Rattle.mm_replay.proofs.{mapped_at, mapped_written}
 use Rattle.mm_replay.proofs.ordered_pairs.OrderedPairs.remove.Goals as goal
 
 pub returns-clause-value : goal.returns-clause-value

@@ -1,9 +1,7 @@
 use Rattle.std.proofs.Common.{Some, sym, ap, ◌∙◌}
 use Rattle.std.specs.Prelude.{is_some}
-use Rattle.mm_replay.specs.Grids.{in_leaves}
-use Rattle.mm_replay.specs.OrderedPairs.{ordered}
-use Rattle.mm_replay.specs.Pairs.{first_of, near_part, near_of}
-use Rattle.mm_replay.proofs.NearAndFar.{chosen, near_sets, near_written, far_written}
+use Rattle.mm_replay.specs.{in_leaves, ordered, first_of, near_part, near_of}
+use Rattle.mm_replay.proofs.{chosen, near_sets, near_written, far_written}
 use Rattle.mm_replay.proofs.pairs.Pairs.change.Goals as goal
 
 pub change-requires : goal.change-requires

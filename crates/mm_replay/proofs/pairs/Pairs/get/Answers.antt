@@ -1,7 +1,6 @@
 use Rattle.std.proofs.Common.{Option, sym, ap, ◌∙◌}
-use Rattle.mm_replay.specs.OrderedPairs.{ordered}
-use Rattle.mm_replay.specs.Pairs.{first_of, near_of}
-use Rattle.mm_replay.proofs.NearAndFar.{chosen}
+use Rattle.mm_replay.specs.{ordered, first_of, near_of}
+use Rattle.mm_replay.proofs.{chosen}
 use Rattle.mm_replay.proofs.pairs.Pairs.get.Goals as goal
 
 pub returns-in-Some : goal.returns-in-Some

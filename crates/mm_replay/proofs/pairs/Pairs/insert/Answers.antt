@@ -1,9 +1,6 @@
 use Rattle.std.proofs.Common.{Some}
-use Rattle.mm_replay.specs.Grids.{in_leaves}
-use Rattle.mm_replay.specs.OrderedPairs.{ordered}
-use Rattle.mm_replay.specs.Pairs.{near_part, near_of}
-use Rattle.mm_replay.proofs.Outcomes.{on_ok_then, on_err_then}
-use Rattle.mm_replay.proofs.NearAndFar.{near_sets, near_same, near_written, far_written, near_kept, far_kept}
+use Rattle.mm_replay.specs.{in_leaves, ordered, near_part, near_of}
+use Rattle.mm_replay.proofs.{on_ok_then, on_err_then, near_sets, near_same, near_written, far_written, near_kept, far_kept}
 use Rattle.mm_replay.proofs.pairs.Pairs.insert.Goals as goal
 
 pub returns-in-Some-clause-ok : goal.returns-in-Some-clause-ok

@@ -1,6 +1,6 @@
 use Rattle.std.proofs.Common.{Some, None, sym, ◌∙◌}
-use Rattle.mm_replay.specs.Grids.{in_leaves}
-use Rattle.mm_replay.proofs.NearAndFar.{part_of}
+use Rattle.mm_replay.specs.{in_leaves}
+use Rattle.mm_replay.proofs.{part_of}
 use Rattle.mm_replay.proofs.pairs.Pairs.near_value.Goals as goal
 
 pub returns-in-Some : goal.returns-in-Some

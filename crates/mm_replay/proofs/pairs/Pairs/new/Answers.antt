@@ -1,6 +1,5 @@
-use Rattle.mm_replay.specs.Grids.{in_leaves}
-use Rattle.mm_replay.specs.OrderedPairs.{ordered}
-use Rattle.mm_replay.proofs.NearAndFar.{nothing_found}
+use Rattle.mm_replay.specs.{in_leaves, ordered}
+use Rattle.mm_replay.proofs.{nothing_found}
 use Rattle.mm_replay.proofs.pairs.Pairs.new.Goals as goal
 
 pub returns : goal.returns

@@ -1,8 +1,6 @@
 use Rattle.std.proofs.Common.{sym, ap, ◌∙◌}
-use Rattle.mm_replay.specs.Grids.{in_leaves}
-use Rattle.mm_replay.specs.OrderedPairs.{ordered}
-use Rattle.mm_replay.specs.Pairs.{first_of, near_part, near_of}
-use Rattle.mm_replay.proofs.NearAndFar.{chosen, both_removed}
+use Rattle.mm_replay.specs.{in_leaves, ordered, first_of, near_part, near_of}
+use Rattle.mm_replay.proofs.{chosen, both_removed}
 use Rattle.mm_replay.proofs.pairs.Pairs.remove.Goals as goal
 
 pub returns-in-Some-clause-value : goal.returns-in-Some-clause-value

@@ -1,9 +1,7 @@
 use Rattle.std.proofs.Common.{◌∙◌, ap}
-use Rattle.mm_replay.specs.Flying.{FlightOf}
+use Rattle.mm_replay.specs.{FlightOf, stands_in, paging_in, frames_in, flagged}
 use Rattle.mm_types.specs.declared.moves.LineKind.TheVariants as kind
-use Rattle.mm_replay.specs.Holdings.{stands_in, paging_in, frames_in}
-use Rattle.mm_replay.specs.Replaying.{flagged}
-use Rattle.mm_replay.proofs.Flags.{fresh_life, flagged_none}
+use Rattle.mm_replay.proofs.{fresh_life, flagged_none}
 use Rattle.mm_replay.proofs.states.State.at_machine.Goals as goal
 
 pub returns-clause-ok : goal.returns-clause-ok

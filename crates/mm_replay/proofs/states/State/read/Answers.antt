@@ -1,7 +1,7 @@
 use Rattle.std.proofs.Common.{◌<◌, ℕ, sym, subst}
 use Rattle.std.proofs.lemmas.Bool.{and_parts}
 use Rattle.mm_replay.specs.Replaying.{life}
-use Rattle.mm_replay.proofs.Soundness.{read_ready, ready_low, ready_quiet}
+use Rattle.mm_replay.proofs.{read_ready, ready_low, ready_quiet}
 use Rattle.mm_replay.proofs.states.State.read.Goals as goal
 
 pub begin-requires-clause-low : goal.begin-requires-clause-low

@@ -1,6 +1,6 @@
 use Rattle.std.proofs.Common.{◌<◌, ℕ, sym, subst}
 use Rattle.mm_replay.specs.Replaying.{life}
-use Rattle.mm_replay.proofs.Soundness.{write_ready, ready_low, ready_quiet}
+use Rattle.mm_replay.proofs.{write_ready, ready_low, ready_quiet}
 use Rattle.mm_replay.proofs.states.State.write.Goals as goal
 
 pub begin-requires-clause-low : goal.begin-requires-clause-low

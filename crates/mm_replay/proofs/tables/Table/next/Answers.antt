@@ -1,8 +1,8 @@
 use Rattle.std.proofs.Common.{Some, subst}
-use Rattle.mm_life.specs.Frames.{FrameTable}
-use Rattle.mm_replay.specs.Looking.{frames_on, IsBehind}
+use Rattle.mm_life.specs.{FrameTable}
+use Rattle.mm_replay.specs.{frames_on, IsBehind}
 use Rattle.mm_replay.specs.Sound.{frame}
-use Rattle.mm_replay.proofs.Looked.{behind_frame}
+use Rattle.mm_replay.proofs.{behind_frame}
 use Rattle.mm_replay.proofs.tables.Table.next.Goals as goal
 
 pub returns-in-Some : goal.returns-in-Some

@@ -1,7 +1,7 @@
 use Rattle.std.proofs.Common.{◌++◌, ◌∷◌, [], length, take, ap, ◌∙◌, arith, length-append}
 use Rattle.std.specs.Prelude.{codes}
 use Rattle.std.proofs.lemmas.List.{length-take}
-use Rattle.mm_types.specs.Spelling.{byte_pairs}
+use Rattle.mm_types.specs.{byte_pairs}
 use Rattle.mm_run.proofs.Pairs.{bytes_kept}
 use Rattle.mm_run.proofs.answers.Kept.keep_bytes.Goals as goal
 

@@ -1,13 +1,8 @@
-use Rattle.mm_script.specs.Shape.{read, ByteWord}
-use Rattle.mm_script.proofs.Given.{given_value, given_fault}
+use Rattle.mm_script.specs.{read, ByteWord}
+use Rattle.mm_script.proofs.{given_or}
 use Rattle.mm_script.proofs.fields.Fields.bytes.Goals as goal
 
-pub returns-in-Some-clause-value : goal.returns-in-Some-clause-value
+pub returns-clause-value : goal.returns-clause-value
 unfolding read
-returns-in-Some-clause-value c =
-    given_value (read ByteWord) c.args.self.now c.next.new.self c.in_ok-word.word.now c.in-Some.value c.in_ok-word.ensures.word c.in-Some.ensures
-
-pub returns-in-None-clause-value : goal.returns-in-None-clause-value
-unfolding read
-returns-in-None-clause-value c =
-    given_fault (read ByteWord) c.args.self.now c.next.new.self c.in_ok-word.word.now c.fault.result c.in_ok-word.ensures.word c.in-None.ensures c.fault.ensures
+returns-clause-value c =
+    given_or (read ByteWord) c.args.self.now c.next.new.self c.in_ok-word.word.now c.bytes.result c.fault.result c.ok_or.result c.in_ok-word.ensures.word c.bytes.ensures c.fault.ensures c.ok_or.ensures.value

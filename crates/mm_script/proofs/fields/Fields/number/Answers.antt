@@ -1,7 +1,6 @@
-use Rattle.std.proofs.Common.{◌≡◌, ◌+◌, length, refl}
-use Rattle.mm_script.specs.Reading.{Rest}
-use Rattle.mm_script.specs.Cursor.{rest_of}
-use Rattle.mm_script.proofs.Narrowed.{number_taken}
+use Rattle.std.proofs.Common.{◌+◌, refl}
+use Rattle.mm_script.specs.{Rest, rest_of}
+use Rattle.mm_script.proofs.{number_taken}
 use Rattle.mm_script.proofs.fields.Fields.number.Goals as goal
 
 pub returns-in-Some-clause-value : goal.returns-in-Some-clause-value

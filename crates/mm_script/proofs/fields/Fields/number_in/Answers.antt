@@ -1,5 +1,5 @@
 use Rattle.std.proofs.Common.{arith}
-use Rattle.mm_script.proofs.Narrowed.{number_low, number_high}
+use Rattle.mm_script.proofs.{number_low, number_high}
 use Rattle.mm_script.proofs.fields.Fields.number_in.Goals as goal
 use Rattle.mm_script.proofs.fields.Fields.number_in.Goals.{else-least-value-via-then-least-value+else-value-most, else-least-value-via-else-least-value}
 

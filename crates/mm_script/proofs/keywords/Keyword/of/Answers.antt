@@ -1,6 +1,6 @@
 use Rattle.std.proofs.Common.{sym, ◌∙◌}
 use Rattle.mm_script.specs.declared.keywords.Keyword.TheVariants as keyword
-use Rattle.mm_script.proofs.Found.{found_word, found_sorted}
+use Rattle.mm_script.proofs.{found_word, found_sorted}
 use Rattle.mm_script.proofs.keywords.Keyword.of.Goals as goal
 
 pub returns-then-is_read : goal.returns-then-is_read

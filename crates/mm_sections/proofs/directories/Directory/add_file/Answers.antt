@@ -1,10 +1,9 @@
 use Rattle.std.proofs.Common.{◌≡◌, ◌-◌, ap, ◌∙◌, List, map, ◌++◌, ◌∷◌, [], None}
 use Rattle.std.specs.Prelude.{find, bytes_eq}
-use Rattle.mm_types.specs.Spelling.{Text}
-use Rattle.mm_world.specs.World.{FileOf}
-use Rattle.mm_sections.specs.Directories.{DirectoryOf}
-use Rattle.mm_sections.specs.Names.{file_of}
-use Rattle.mm_sections.proofs.Lists.{added_file, tables}
+use Rattle.mm_types.specs.{Text}
+use Rattle.mm_world.specs.{FileOf}
+use Rattle.mm_sections.specs.{DirectoryOf, file_of}
+use Rattle.mm_sections.proofs.{added_file, tables}
 use Rattle.mm_sections.proofs.directories.Directory.add_file.Goals as goal
 
 pub returns-clause-added : goal.returns-clause-added

@@ -1,9 +1,8 @@
 use Rattle.std.proofs.Common.{◌≡◌, ap, ◌∙◌, sym, subst, length, None, arith}
 use Rattle.std.specs.Prelude.{position, IfSome}
-use Rattle.mm_world.specs.Find.{is_named}
-use Rattle.mm_sections.specs.Directories.{DirectoryOf, sections_of}
-use Rattle.mm_sections.specs.Names.{found_by}
-use Rattle.mm_sections.proofs.Lists.{tables, added_index, length_tables}
+use Rattle.mm_world.specs.{is_named}
+use Rattle.mm_sections.specs.{DirectoryOf, sections_of, found_by}
+use Rattle.mm_sections.proofs.{tables, added_index, length_tables}
 use Rattle.mm_sections.proofs.directories.Directory.add_section.Goals as goal
 
 pub invariant_of-self : goal.invariant_of-self

@@ -1,10 +1,9 @@
 use Rattle.std.proofs.Common.{ap, ◌∙◌, sym}
 use Rattle.std.specs.Prelude.{find, option_map, bytes_eq}
 use Rattle.std.specs.HashMap.{get_by}
-use Rattle.mm_types.specs.Spelling.{Text}
-use Rattle.mm_sections.specs.Directories.{DirectoryOf, area_of}
-use Rattle.mm_sections.specs.Names.{name_key, same_name}
-use Rattle.mm_sections.proofs.Lists.{found_file}
+use Rattle.mm_types.specs.{Text}
+use Rattle.mm_sections.specs.{DirectoryOf, area_of, name_key, same_name}
+use Rattle.mm_sections.proofs.{found_file}
 use Rattle.mm_sections.proofs.directories.Directory.file.Goals as goal
 
 pub returns : goal.returns

@@ -1,11 +1,10 @@
 use Rattle.std.proofs.Common.{ap, ◌∙◌}
 use Rattle.std.specs.Prelude.{position, option_map}
 use Rattle.std.specs.HashMap.{get_by}
-use Rattle.mm_types.specs.Spelling.{Text}
-use Rattle.mm_world.specs.Find.{is_named}
-use Rattle.mm_sections.specs.Directories.{DirectoryOf, sections_of, id_of}
-use Rattle.mm_sections.specs.Names.{name_key, same_name}
-use Rattle.mm_sections.proofs.Lists.{named_number, tables}
+use Rattle.mm_types.specs.{Text}
+use Rattle.mm_world.specs.{is_named}
+use Rattle.mm_sections.specs.{DirectoryOf, sections_of, id_of, name_key, same_name}
+use Rattle.mm_sections.proofs.{named_number, tables}
 use Rattle.mm_sections.proofs.directories.Directory.named.Goals as goal
 
 pub returns : goal.returns

@@ -1,8 +1,8 @@
 use Rattle.std.proofs.Common.{◌≡◌, ap, ◌∙◌, sym, length, ◌++◌, ◌∷◌, [], Some, arith}
 use Rattle.std.specs.Prelude.{nat_eq}
 use Rattle.indexmap.specs.IndexMap.{get}
-use Rattle.mm_sections.specs.Handles.{HandlesOf}
-use Rattle.mm_sections.proofs.Opened.{length_shown, shown_more, open_more}
+use Rattle.mm_sections.specs.{HandlesOf}
+use Rattle.mm_sections.proofs.{length_shown, shown_more, open_more}
 use Rattle.mm_sections.proofs.handles.Handles.add.Goals as goal
 
 pub invariant_of-self : goal.invariant_of-self

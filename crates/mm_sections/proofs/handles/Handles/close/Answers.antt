@@ -1,8 +1,8 @@
 use Rattle.std.proofs.Common.{◌≡◌, ◌/◌, ap, ◌∙◌, true, is_some, None}
 use Rattle.std.specs.Prelude.{nat_eq, slice_set}
 use Rattle.indexmap.specs.IndexMap.{get}
-use Rattle.mm_sections.specs.Handles.{HandlesOf, held}
-use Rattle.mm_sections.proofs.Opened.{shown, shown_less, open_less}
+use Rattle.mm_sections.specs.{HandlesOf, held}
+use Rattle.mm_sections.proofs.{shown, shown_less, open_less}
 use Rattle.mm_sections.proofs.handles.Handles.close.Goals as goal
 
 pub invariant_of-self : goal.invariant_of-self

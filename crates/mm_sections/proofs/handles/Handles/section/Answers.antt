@@ -1,8 +1,8 @@
 use Rattle.std.proofs.Common.{ap, ◌∙◌, option_map}
 use Rattle.std.specs.Prelude.{nat_eq}
 use Rattle.indexmap.specs.IndexMap.{get}
-use Rattle.mm_sections.specs.Handles.{HandlesOf, held, section_number}
-use Rattle.mm_sections.proofs.Opened.{held_is}
+use Rattle.mm_sections.specs.{HandlesOf, held, section_number}
+use Rattle.mm_sections.proofs.{held_is}
 use Rattle.mm_sections.proofs.handles.Handles.section.Goals as goal
 
 pub returns : goal.returns

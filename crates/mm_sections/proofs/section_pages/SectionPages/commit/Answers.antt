@@ -1,10 +1,8 @@
 use Rattle.std.proofs.Common.{◌+◌, ◌-◌, ap, ◌∙◌, sym, List, Bool, map, arith}
 use Rattle.std.specs.Prelude.{option_map}
-use Rattle.mm_world.specs.World.{AreaOf}
-use Rattle.mm_world.specs.Alloc.{commit_shared}
-use Rattle.mm_world.specs.Contents.{blank}
-use Rattle.mm_sections.specs.Pages.{page_if, block_number}
-use Rattle.mm_sections.proofs.Lists.{committed_area, refilled_whole}
+use Rattle.mm_world.specs.{AreaOf, commit_shared, blank}
+use Rattle.mm_sections.specs.{page_if, block_number}
+use Rattle.mm_sections.proofs.{committed_area, refilled_whole}
 use Rattle.mm_sections.proofs.section_pages.SectionPages.commit.Goals as goal
 
 pub returns : goal.returns

@@ -1,7 +1,7 @@
 use Rattle.std.proofs.Common.{ap, ◌∙◌, List, Option, Bool, None, map}
-use Rattle.mm_world.specs.World.{AreaOf}
-use Rattle.mm_world.proofs.Natural.{map-replicate}
-use Rattle.mm_sections.specs.Pages.{page_if}
+use Rattle.mm_world.specs.{AreaOf}
+use Rattle.mm_world.proofs.{map-replicate}
+use Rattle.mm_sections.specs.{page_if}
 use Rattle.mm_sections.proofs.section_pages.SectionPages.of_paging_file.Goals as goal
 
 pub returns : goal.returns

@@ -1,8 +1,8 @@
 use Rattle.std.proofs.Common.{◌≡◌, ℕ, ◌+◌, ◌-◌, ap, ◌∙◌, List, Bool, not, take, drop, arith}
 use Rattle.std.specs.Prelude.{count_by}
-use Rattle.mm_world.specs.World.{AreaOf}
-use Rattle.mm_sections.specs.Pages.{uncommitted_in}
-use Rattle.mm_sections.proofs.Lists.{uncommitted-map}
+use Rattle.mm_world.specs.{AreaOf}
+use Rattle.mm_sections.specs.{uncommitted_in}
+use Rattle.mm_sections.proofs.{uncommitted-map}
 use Rattle.mm_sections.proofs.section_pages.SectionPages.uncommitted.Goals as goal
 
 pub returns : goal.returns

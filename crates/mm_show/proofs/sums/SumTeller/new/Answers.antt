@@ -1,5 +1,5 @@
-use Rattle.mm_classes.specs.Marking.{marks_of}
-use Rattle.mm_show.proofs.Summed.{few_none, sum_none}
+use Rattle.mm_classes.specs.{marks_of}
+use Rattle.mm_show.proofs.{few_none, sum_none}
 use Rattle.mm_show.proofs.sums.SumTeller.new.Goals as goal
 
 pub invariant_of-result : goal.invariant_of-result

@@ -1,10 +1,9 @@
 use Rattle.std.proofs.Common.{◌++◌, Option, ap, ◌∙◌}
 use Rattle.mm_replay.specs.Standing.{life}
-use Rattle.mm_classes.specs.Marking.{marks_of}
-use Rattle.mm_tell.specs.Classing.{class_list}
-use Rattle.mm_show.specs.Counted.{of_class}
-use Rattle.mm_tell.specs.declared.classifiers.Classed.{Classed}
-use Rattle.mm_show.proofs.Summed.{sum_ended}
+use Rattle.mm_classes.specs.{marks_of}
+use Rattle.mm_tell.specs.{class_list, Classed}
+use Rattle.mm_show.specs.{of_class}
+use Rattle.mm_show.proofs.{sum_ended}
 use Rattle.mm_show.proofs.sums.SumTeller.put_sums.Goals as goal
 
 pub returns : goal.returns

@@ -1,8 +1,7 @@
 use Rattle.std.proofs.Common.{ap, ◌∙◌, false, arith}
 use Rattle.std.specs.Prelude.{slice_get}
-use Rattle.mm_slots.specs.Slots.{SlotsOf}
-use Rattle.mm_slots.specs.Bits.{have_bit}
-use Rattle.mm_slots.proofs.FlagLemmas.{flag_from, slot_given, more_fits, shown_changed}
+use Rattle.mm_slots.specs.{SlotsOf, have_bit}
+use Rattle.mm_slots.proofs.{flag_from, slot_given, more_fits, shown_changed}
 use Rattle.mm_slots.proofs.slots.Slots.give.Goals as goal
 
 pub insert-requires : goal.insert-requires

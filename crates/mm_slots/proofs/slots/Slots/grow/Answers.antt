@@ -1,7 +1,6 @@
 use Rattle.std.proofs.Common.{◌*◌, ap, length, arith}
-use Rattle.mm_slots.specs.Slots.{SlotsOf}
-use Rattle.mm_slots.specs.Bits.{have_bit}
-use Rattle.mm_slots.proofs.FlagLemmas.{length-flags, slots_grown, shown_grown}
+use Rattle.mm_slots.specs.{SlotsOf, have_bit}
+use Rattle.mm_slots.proofs.{length-flags, slots_grown, shown_grown}
 use Rattle.mm_slots.proofs.slots.Slots.grow.Goals as goal
 
 pub overflow_add-end : goal.overflow_add-end

@@ -1,7 +1,6 @@
 use Rattle.std.proofs.Common.{◌≡◌, length, sym, ap, ◌∙◌, arith}
-use Rattle.mm_slots.specs.Slots.{SlotsOf}
-use Rattle.mm_slots.specs.Bits.{have_bit}
-use Rattle.mm_slots.proofs.FlagLemmas.{length-flags}
+use Rattle.mm_slots.specs.{SlotsOf, have_bit}
+use Rattle.mm_slots.proofs.{length-flags}
 use Rattle.mm_slots.proofs.slots.Slots.len.Goals as goal
 
 pub returns-clause-value : goal.returns-clause-value

@@ -1,8 +1,7 @@
 use Rattle.std.proofs.Common.{◌++◌, true, List, ap, ◌∙◌, length, replicate, arith}
 use Rattle.std.specs.Prelude.{Bool}
-use Rattle.mm_slots.specs.Slots.{SlotsOf}
-use Rattle.mm_slots.specs.Bits.{have_bit}
-use Rattle.mm_slots.proofs.FlagLemmas.{flags_none, no_slots}
+use Rattle.mm_slots.specs.{SlotsOf, have_bit}
+use Rattle.mm_slots.proofs.{flags_none, no_slots}
 use Rattle.mm_slots.proofs.slots.Slots.new.Goals as goal
 
 pub invariant_of-slots : goal.invariant_of-slots

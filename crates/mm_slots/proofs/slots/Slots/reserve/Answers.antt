@@ -1,5 +1,5 @@
 use Rattle.std.proofs.Common.{arith}
-use Rattle.mm_slots.proofs.FlagLemmas.{slots_reserved}
+use Rattle.mm_slots.proofs.{slots_reserved}
 use Rattle.mm_slots.proofs.slots.Slots.reserve.Goals as goal
 
 pub invariant_of-self : goal.invariant_of-self

@@ -1,7 +1,6 @@
 use Rattle.std.proofs.Common.{◌≡◌, sym, ap, ◌∙◌}
-use Rattle.mm_slots.specs.Slots.{SlotsOf, free_count}
-use Rattle.mm_slots.specs.Bits.{have_bit}
-use Rattle.mm_slots.proofs.FlagLemmas.{some_free, counted_some, slot_taken, lowest_slot, shown_changed}
+use Rattle.mm_slots.specs.{SlotsOf, free_count, have_bit}
+use Rattle.mm_slots.proofs.{some_free, counted_some, slot_taken, lowest_slot, shown_changed}
 use Rattle.mm_slots.proofs.slots.Slots.take.Goals as goal
 
 pub lowest-slot-requires : goal.lowest-slot-requires

@@ -1,5 +1,5 @@
 use Rattle.std.proofs.Common.{◌≡◌, ◌/◌, ℕ, get_or, ◌∙◌, ap, arith}
-use Rattle.mm_slots.proofs.WordLemmas.{word_of, some_inside, not_zero}
+use Rattle.mm_slots.proofs.{word_of, some_inside, not_zero}
 use Rattle.mm_slots.proofs.tree.Level.first_word.Goals as goal
 
 pub returns-then-len-eq1-clause-some : goal.returns-then-len-eq1-clause-some

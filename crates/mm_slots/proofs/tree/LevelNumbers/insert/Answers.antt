@@ -1,5 +1,5 @@
 use Rattle.std.proofs.Common.{ℕ, arith, length-set}
-use Rattle.mm_slots.proofs.WordLemmas.{inserted, above_kept}
+use Rattle.mm_slots.proofs.{inserted, above_kept}
 use Rattle.mm_slots.proofs.tree.LevelNumbers.insert.Goals as goal
 
 pub invariant_of-self-else-word-eq0 : goal.invariant_of-self-else-word-eq0

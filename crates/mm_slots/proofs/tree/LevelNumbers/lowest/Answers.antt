@@ -1,7 +1,7 @@
 use Rattle.std.proofs.Common.{ℕ, ◌≡◌, ◌<◌, ◌^◌, ◌+◌, ◌*◌, get_or, arith, ap}
 use Rattle.std.specs.Int.{trailing_zeros, w64}
 use Rattle.std.proofs.lemmas.List.{get_or_read}
-use Rattle.mm_slots.proofs.WordLemmas.{least_in, some_inside}
+use Rattle.mm_slots.proofs.{least_in, some_inside}
 use Rattle.mm_slots.proofs.tree.LevelNumbers.lowest.Goals as goal
 
 pub returns : goal.returns

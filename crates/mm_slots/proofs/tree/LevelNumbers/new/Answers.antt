@@ -1,5 +1,5 @@
 use Rattle.std.proofs.Common.{ap, length}
-use Rattle.mm_slots.proofs.WordLemmas.{no_words}
+use Rattle.mm_slots.proofs.{no_words}
 use Rattle.mm_slots.proofs.tree.LevelNumbers.new.Goals as goal
 
 pub returns : goal.returns

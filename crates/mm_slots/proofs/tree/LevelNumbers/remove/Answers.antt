@@ -1,5 +1,5 @@
 use Rattle.std.proofs.Common.{◌/◌, ◌∙◌, arith}
-use Rattle.mm_slots.proofs.WordLemmas.{word_of, some_inside, not_zero, removed}
+use Rattle.mm_slots.proofs.{word_of, some_inside, not_zero, removed}
 use Rattle.mm_slots.proofs.tree.LevelNumbers.remove.Goals as goal
 
 pub index-requires : goal.index-requires

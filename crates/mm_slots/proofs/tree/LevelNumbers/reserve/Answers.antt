@@ -1,4 +1,4 @@
-use Rattle.mm_slots.proofs.WordLemmas.{have_same}
+use Rattle.mm_slots.proofs.{have_same}
 use Rattle.mm_slots.proofs.tree.LevelNumbers.reserve.Goals as goal
 
 pub returns-clause-same : goal.returns-clause-same

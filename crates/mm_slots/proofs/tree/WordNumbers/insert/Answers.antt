@@ -1,4 +1,4 @@
-use Rattle.mm_slots.proofs.BitLemmas.{set_same, set_other}
+use Rattle.mm_slots.proofs.{set_same, set_other}
 use Rattle.mm_slots.proofs.tree.WordNumbers.insert.Goals as goal
 
 pub returns-clause-inserted : goal.returns-clause-inserted

@@ -1,6 +1,6 @@
 use Rattle.std.proofs.Common.{◌≢◌, true, false, ◌≡◌, sym, ◌∙◌, ap, ℕ, arith}
-use Rattle.mm_slots.specs.Bits.{has_bit}
-use Rattle.mm_slots.proofs.BitLemmas.{lowest_bit, zero_has_none}
+use Rattle.mm_slots.specs.{has_bit}
+use Rattle.mm_slots.proofs.{lowest_bit, zero_has_none}
 use Rattle.mm_slots.proofs.tree.WordNumbers.lowest.Goals as goal
 
 pub returns : goal.returns

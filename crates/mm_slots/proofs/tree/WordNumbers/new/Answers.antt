@@ -1,4 +1,4 @@
-use Rattle.mm_slots.proofs.BitLemmas.{zero_has_none}
+use Rattle.mm_slots.proofs.{zero_has_none}
 use Rattle.mm_slots.proofs.tree.WordNumbers.new.Goals as goal
 
 pub returns : goal.returns

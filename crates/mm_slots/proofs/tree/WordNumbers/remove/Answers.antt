@@ -1,5 +1,5 @@
 use Rattle.std.proofs.Common.{arith}
-use Rattle.mm_slots.proofs.BitLemmas.{clear_one, bit_low}
+use Rattle.mm_slots.proofs.{clear_one, bit_low}
 use Rattle.mm_slots.proofs.tree.WordNumbers.remove.Goals as goal
 
 pub overflow_shl-self : goal.overflow_shl-self

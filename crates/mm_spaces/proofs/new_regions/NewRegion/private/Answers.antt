@@ -1,9 +1,8 @@
 use Rattle.std.proofs.Common.{ap, ◌∙◌}
-use Rattle.mm_types.specs.Address.{Range}
-use Rattle.mm_world.specs.Contents.{blank}
-use Rattle.mm_world.specs.Alloc.{private_region}
-use Rattle.mm_vad.specs.Ranges.{range_at}
-use Rattle.mm_spaces.proofs.Made.{region_made, made_fits}
+use Rattle.mm_types.specs.{Range}
+use Rattle.mm_world.specs.{blank, private_region}
+use Rattle.mm_vad.specs.{range_at}
+use Rattle.mm_spaces.proofs.{region_made, made_fits}
 use Rattle.mm_spaces.proofs.new_regions.NewRegion.private.Goals as goal
 
 pub returns-clause-ok : goal.returns-clause-ok

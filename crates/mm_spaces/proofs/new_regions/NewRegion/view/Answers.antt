@@ -1,8 +1,8 @@
 use Rattle.std.proofs.Common.{ap, ◌∙◌}
-use Rattle.mm_types.specs.Address.{Range}
-use Rattle.mm_vad.specs.Ranges.{range_at}
-use Rattle.mm_world.specs.Views.{view_region}
-use Rattle.mm_spaces.proofs.Made.{IsViewRow, view_made, view_fits}
+use Rattle.mm_types.specs.{Range}
+use Rattle.mm_vad.specs.{range_at}
+use Rattle.mm_world.specs.{view_region}
+use Rattle.mm_spaces.proofs.{IsViewRow, view_made, view_fits}
 use Rattle.mm_spaces.proofs.new_regions.NewRegion.view.Goals as goal
 
 pub returns-clause-ok : goal.returns-clause-ok

@@ -1,7 +1,7 @@
 use Rattle.std.proofs.Common.{sym, ◌∙◌}
-use Rattle.mm_spaces.specs.RowTests.{passes}
+use Rattle.mm_spaces.specs.{passes}
 use Rattle.mm_spaces.specs.declared.row_tests.RowTest.TheVariants as test
-use Rattle.mm_spaces.proofs.Owned.{every_row}
+use Rattle.mm_spaces.proofs.{every_row}
 use Rattle.mm_spaces.proofs.spaces.AddressSpace.accepts.Goals as goal
 
 pub returns : goal.returns

@@ -1,10 +1,7 @@
 use Rattle.std.proofs.Common.{ap, ◌∙◌}
-use Rattle.mm_world.specs.World.{RegionOf}
-use Rattle.mm_world.specs.Find.{add_region}
-use Rattle.mm_spaces.specs.Shown.{shown_regions, region_of}
-use Rattle.mm_spaces.specs.Tables.{RegionsOf}
-use Rattle.mm_spaces.proofs.Carried.{add_shown}
-use Rattle.mm_spaces.proofs.Made.{can_add, free_among, has_flags, kept_add}
+use Rattle.mm_world.specs.{RegionOf, add_region}
+use Rattle.mm_spaces.specs.{shown_regions, region_of, RegionsOf}
+use Rattle.mm_spaces.proofs.{add_shown, can_add, free_among, has_flags, kept_add}
 use Rattle.mm_spaces.proofs.spaces.AddressSpace.add.Goals as goal
 
 pub add-requires-clause-free : goal.add-requires-clause-free

@@ -1,8 +1,8 @@
 use Rattle.std.proofs.Common.{false, sym, ap, ◌∙◌, ◌-◌}
-use Rattle.mm_types.specs.Address.{Range}
-use Rattle.mm_world.specs.Rows.{every_page_from}
-use Rattle.mm_spaces.specs.ViewStates.{is_area_page}
-use Rattle.mm_spaces.proofs.Viewed.{not_private, kind_around, committed_told}
+use Rattle.mm_types.specs.{Range}
+use Rattle.mm_world.specs.{every_page_from}
+use Rattle.mm_spaces.specs.{is_area_page}
+use Rattle.mm_spaces.proofs.{not_private, kind_around, committed_told}
 use Rattle.mm_spaces.proofs.spaces.AddressSpace.are_committed.Goals as goal
 
 pub unreachable-requires-in_default-kind : goal.unreachable-requires-in_default-kind

@@ -1,9 +1,9 @@
 use Rattle.std.proofs.Common.{◌≡◌, ◌+◌, ◌≤◌, arith, None, sym, subst}
 use Rattle.std.specs.Prelude.{IfNone}
-use Rattle.mm_types.specs.Address.{Range, end_of}
-use Rattle.mm_world.specs.Find.{region_with}
-use Rattle.mm_spaces.specs.Kept.{IsRegionAt, NoneAround}
-use Rattle.mm_spaces.proofs.Kept.{around_some, around_short, around_none, long}
+use Rattle.mm_types.specs.{Range, end_of}
+use Rattle.mm_world.specs.{region_with}
+use Rattle.mm_spaces.specs.{IsRegionAt, NoneAround}
+use Rattle.mm_spaces.proofs.{around_some, around_short, around_none, long}
 use Rattle.mm_spaces.proofs.spaces.AddressSpace.around.Goals as goal
 
 pub returns-in_err-region-clause-none : goal.returns-in_err-region-clause-none

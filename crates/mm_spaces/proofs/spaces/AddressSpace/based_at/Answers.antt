@@ -2,9 +2,9 @@ use Rattle.std.proofs.Common.{sym, subst}
 use Rattle.std.specs.Prelude.{IfNone}
 use Rattle.std.specs.Cmp.{unsigned_Decides}
 use Rattle.std.proofs.lemmas.Bool.{ne_eqb}
-use Rattle.mm_types.specs.Address.{address_of}
-use Rattle.mm_spaces.specs.Kept.{NoneBased}
-use Rattle.mm_spaces.proofs.Kept.{based_some, based_other, based_none}
+use Rattle.mm_types.specs.{address_of}
+use Rattle.mm_spaces.specs.{NoneBased}
+use Rattle.mm_spaces.proofs.{based_some, based_other, based_none}
 use Rattle.mm_spaces.proofs.spaces.AddressSpace.based_at.Goals as goal
 
 pub returns-in_err-region-clause-none : goal.returns-in_err-region-clause-none

@@ -1,7 +1,7 @@
 use Rattle.std.proofs.Common.{ap, ◌∙◌, arith}
-use Rattle.mm_types.specs.Address.{Range, granule_range_of, pages_for}
-use Rattle.mm_world.specs.Find.{ranges_of, placed}
-use Rattle.mm_spaces.proofs.Gaps.{placed_gap}
+use Rattle.mm_types.specs.{Range, granule_range_of, pages_for}
+use Rattle.mm_world.specs.{ranges_of, placed}
+use Rattle.mm_spaces.proofs.{placed_gap}
 use Rattle.mm_spaces.proofs.spaces.AddressSpace.gap.Goals as goal
 
 pub returns-clause-free : goal.returns-clause-free

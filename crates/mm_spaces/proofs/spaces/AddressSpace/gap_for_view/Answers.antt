@@ -1,8 +1,8 @@
-use Rattle.mm_types.specs.Address.{page_of}
-use Rattle.mm_world.specs.Find.{ranges_of}
-use Rattle.mm_vad.specs.Ranges.{range_at}
-use Rattle.mm_world.proofs.Spaces.{wanted_granule}
-use Rattle.mm_spaces.proofs.Gaps.{placed_gap}
+use Rattle.mm_types.specs.{page_of}
+use Rattle.mm_world.specs.{ranges_of}
+use Rattle.mm_vad.specs.{range_at}
+use Rattle.mm_world.proofs.{wanted_granule}
+use Rattle.mm_spaces.proofs.{placed_gap}
 use Rattle.mm_spaces.proofs.spaces.AddressSpace.gap_for_view.Goals as goal
 
 pub returns-clause-free : goal.returns-clause-free

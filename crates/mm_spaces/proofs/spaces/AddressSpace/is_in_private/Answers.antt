@@ -1,5 +1,5 @@
 use Rattle.std.proofs.Common.{sym, ap, ◌∙◌, is_some}
-use Rattle.mm_world.specs.Find.{is_private as private}
+use Rattle.mm_world.specs.{is_private as private}
 use Rattle.mm_spaces.proofs.Kept.{is_in_private}
 use Rattle.mm_spaces.proofs.spaces.AddressSpace.is_in_private.Goals as goal
 

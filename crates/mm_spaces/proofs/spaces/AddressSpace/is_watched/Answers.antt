@@ -1,5 +1,5 @@
 use Rattle.std.proofs.Common.{is_some, sym, ap, ◌∙◌}
-use Rattle.mm_spaces.proofs.Flagged.{watched_told}
+use Rattle.mm_spaces.proofs.{watched_told}
 use Rattle.mm_spaces.proofs.spaces.AddressSpace.is_watched.Goals as goal
 
 pub returns-in-Some : goal.returns-in-Some

@@ -1,6 +1,6 @@
 use Rattle.std.proofs.Common.{sym, ap, ◌∙◌, option_map, slice_get, None}
-use Rattle.mm_spaces.specs.Tables.{RegionsOf, info_of}
-use Rattle.mm_spaces.proofs.Made.{lowest_shown}
+use Rattle.mm_spaces.specs.{RegionsOf, info_of}
+use Rattle.mm_spaces.proofs.{lowest_shown}
 use Rattle.mm_spaces.proofs.spaces.AddressSpace.lowest.Goals as goal
 
 pub returns-in_err-region-clause-found : goal.returns-in_err-region-clause-found

@@ -1,11 +1,8 @@
 use Rattle.std.proofs.Common.{◌≡◌, Some, true, is_some, sym, ap, ◌∙◌, subst, slice_set}
-use Rattle.mm_vad.specs.Regions.{SpaceOf}
-use Rattle.mm_world.specs.Find.{region_with}
-use Rattle.mm_world.specs.Rows.{mark_written, one_page}
-use Rattle.mm_spaces.specs.Shown.{shown_regions}
-use Rattle.mm_spaces.specs.Tables.{RegionsOf}
-use Rattle.mm_spaces.proofs.Shows.{there}
-use Rattle.mm_spaces.proofs.Flagged.{some_at, marked, kept_marks}
+use Rattle.mm_vad.specs.{SpaceOf}
+use Rattle.mm_world.specs.{region_with, mark_written, one_page}
+use Rattle.mm_spaces.specs.{shown_regions, RegionsOf}
+use Rattle.mm_spaces.proofs.{there, some_at, marked, kept_marks}
 use Rattle.mm_spaces.proofs.spaces.AddressSpace.mark.Goals as goal
 
 pub mark-requires : goal.mark-requires

@@ -1,7 +1,7 @@
 use Rattle.std.proofs.Common.{ap, ◌∙◌}
-use Rattle.mm_world.specs.Query.{next_base}
-use Rattle.mm_spaces.specs.Tables.{RegionsOf}
-use Rattle.mm_spaces.proofs.Told.{next_is, no_next, next_behind}
+use Rattle.mm_world.specs.{next_base}
+use Rattle.mm_spaces.specs.{RegionsOf}
+use Rattle.mm_spaces.proofs.{next_is, no_next, next_behind}
 use Rattle.mm_spaces.proofs.spaces.AddressSpace.next_base.Goals as goal
 
 pub returns-in-Some-clause-next : goal.returns-in-Some-clause-next

@@ -1,9 +1,9 @@
 use Rattle.std.proofs.Common.{Some, None, cond, sym, ap, ◌∙◌}
-use Rattle.mm_types.specs.Address.{Range, is_free}
+use Rattle.mm_types.specs.{Range, is_free}
 use Rattle.mm_vad.specs.Regions as vad
-use Rattle.mm_world.specs.Find.{placed, ranges_of}
-use Rattle.mm_spaces.specs.Tables.{RegionsOf}
-use Rattle.mm_spaces.proofs.Gaps.{no_gap, some_gap, by_wanted}
+use Rattle.mm_world.specs.{placed, ranges_of}
+use Rattle.mm_spaces.specs.{RegionsOf}
+use Rattle.mm_spaces.proofs.{no_gap, some_gap, by_wanted}
 use Rattle.mm_spaces.proofs.spaces.AddressSpace.placed.Goals as goal
 
 pub returns-in_err-first : goal.returns-in_err-first

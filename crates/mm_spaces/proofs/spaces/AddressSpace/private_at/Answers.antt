@@ -1,9 +1,7 @@
 use Rattle.std.proofs.Common.{Some, None, cond, option_map, sym, ap, ◌∙◌}
-use Rattle.mm_world.specs.World.{RegionOf, pages_of}
-use Rattle.mm_world.specs.Find.{Found, is_private}
-use Rattle.mm_spaces.specs.declared.spaces.RegionInfo.{RegionInfo}
-use Rattle.mm_spaces.specs.Shown.{region_of}
-use Rattle.mm_spaces.proofs.Kept.{private_at_told}
+use Rattle.mm_world.specs.{RegionOf, pages_of, Found, is_private}
+use Rattle.mm_spaces.specs.{RegionInfo, region_of}
+use Rattle.mm_spaces.proofs.{private_at_told}
 use Rattle.mm_spaces.proofs.spaces.AddressSpace.private_at.Goals as goal
 
 pub returns-in_err-region-clause-found : goal.returns-in_err-region-clause-found

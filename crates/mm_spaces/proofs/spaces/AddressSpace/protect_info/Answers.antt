@@ -1,8 +1,8 @@
 use Rattle.std.proofs.Common.{sym, ap, ◌∙◌}
-use Rattle.mm_world.specs.World.{RegionOf}
-use Rattle.mm_spaces.specs.RowTests.{passes}
+use Rattle.mm_world.specs.{RegionOf}
+use Rattle.mm_spaces.specs.{passes}
 use Rattle.mm_spaces.specs.declared.row_tests.RowTest.TheVariants as test
-use Rattle.mm_spaces.proofs.Owned.{every_row, every_owned}
+use Rattle.mm_spaces.proofs.{every_row, every_owned}
 use Rattle.mm_spaces.proofs.spaces.AddressSpace.protect_info.Goals as goal
 
 pub returns-clause-some : goal.returns-clause-some

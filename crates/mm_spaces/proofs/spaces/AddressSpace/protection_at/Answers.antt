@@ -1,4 +1,4 @@
-use Rattle.mm_spaces.proofs.Kept.{row_low}
+use Rattle.mm_spaces.proofs.{row_low}
 use Rattle.mm_spaces.proofs.spaces.AddressSpace.protection_at.Goals as goal
 
 pub protection_of_row-requires : goal.protection_of_row-requires

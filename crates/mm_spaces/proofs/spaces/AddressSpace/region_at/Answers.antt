@@ -2,10 +2,9 @@ use Rattle.std.proofs.Common.{◌≡◌, Some, None, sym, subst}
 use Rattle.std.specs.Prelude.{IfSome, IfNone}
 use Rattle.std.specs.Option.{option_copied}
 use Rattle.mm_vad.specs.Regions as vad
-use Rattle.mm_world.specs.Find.{region_with}
-use Rattle.mm_spaces.specs.Tables.{RegionsOf}
-use Rattle.mm_spaces.specs.Kept.{IsRegionAt}
-use Rattle.mm_spaces.proofs.Kept.{is_at, none_at}
+use Rattle.mm_world.specs.{region_with}
+use Rattle.mm_spaces.specs.{RegionsOf, IsRegionAt}
+use Rattle.mm_spaces.proofs.{is_at, none_at}
 use Rattle.mm_spaces.proofs.spaces.AddressSpace.region_at.Goals as goal
 
 pub returns-clause-some : goal.returns-clause-some

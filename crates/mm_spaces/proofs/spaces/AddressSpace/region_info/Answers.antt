@@ -1,9 +1,8 @@
 use Rattle.std.proofs.Common.{sym, ap, ◌∙◌}
-use Rattle.mm_types.specs.Address.{address_of}
+use Rattle.mm_types.specs.{address_of}
 use Rattle.mm_types.specs.declared.views.Kind.TheVariants as kind
-use Rattle.mm_world.specs.Query.{type_of}
-use Rattle.mm_spaces.proofs.Kept.{row_low}
-use Rattle.mm_spaces.proofs.Told.{info_by, region_told, private_state, private_run}
+use Rattle.mm_world.specs.{type_of}
+use Rattle.mm_spaces.proofs.{row_low, info_by, region_told, private_state, private_run}
 use Rattle.mm_spaces.proofs.spaces.AddressSpace.region_info.Goals as goal
 
 pub told_of_row-told-requires : goal.told_of_row-told-requires

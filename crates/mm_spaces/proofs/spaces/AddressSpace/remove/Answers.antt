@@ -1,13 +1,9 @@
 use Rattle.std.proofs.Common.{◌≡◌, inl, inr, List, Some, is_some, not, sym, ap, ◌∙◌, subst}
 use Rattle.std.specs.Prelude.{remove}
-use Rattle.mm_types.specs.Address.{page_of}
-use Rattle.mm_world.specs.Find.{is_private}
-use Rattle.mm_world.specs.Free.{private_at}
-use Rattle.mm_world.specs.Views.{view_at}
-use Rattle.mm_world.specs.World.{RegionOf}
-use Rattle.mm_spaces.specs.Shown.{shown_regions}
-use Rattle.mm_spaces.specs.Tables.{RegionsOf}
-use Rattle.mm_spaces.proofs.Made.{kept_remove, removed, is_there}
+use Rattle.mm_types.specs.{page_of}
+use Rattle.mm_world.specs.{is_private, private_at, view_at, RegionOf}
+use Rattle.mm_spaces.specs.{shown_regions, RegionsOf}
+use Rattle.mm_spaces.proofs.{kept_remove, removed, is_there}
 use Rattle.mm_spaces.proofs.spaces.AddressSpace.remove.Goals as goal
 
 pub take_out-requires : goal.take_out-requires

@@ -1,53 +1,37 @@
-use Rattle.std.proofs.Common.{map, sym, ap, ◌∙◌, slice_set}
-use Rattle.mm_types.specs.Address.{Range, address_of}
-use Rattle.mm_vad.specs.Regions.{SpaceOf}
-use Rattle.mm_world.specs.Rows.{change_flags}
-use Rattle.mm_world.specs.Watch.{watched_around, written_in, unwritten}
-use Rattle.mm_vad.specs.Ranges.{range_at}
-use Rattle.mm_spaces.specs.Shown.{shown_regions}
-use Rattle.mm_spaces.specs.Tables.{RegionsOf}
-use Rattle.mm_spaces.proofs.Shows.{there}
-use Rattle.mm_spaces.proofs.Written.{Same}
-use Rattle.mm_spaces.proofs.Flagged.{Place, is_watched, watched_in, told_of, told_pages, lie_with_page, unwrote, kept_unwrote}
+use Rattle.std.proofs.Common.{◌≡◌, Some, map, sym, ap, ◌∙◌, slice_set}
+use Rattle.mm_types.specs.{Range, address_of}
+use Rattle.mm_vad.specs.{range_at, SpaceOf}
+use Rattle.mm_world.specs.{change_flags, watched_around, written_in, unwritten}
+use Rattle.mm_spaces.specs.{shown_regions, RegionsOf}
+use Rattle.mm_spaces.proofs.{there, Place, IsWatched, watched_as, told_of, told_pages, lie_with_page, unwrote, kept_unwrote}
 use Rattle.mm_spaces.proofs.spaces.AddressSpace.take_written.Goals as goal
+use Rattle.mm_spaces.proofs.spaces.AddressSpace.take_written.Goals.{After-range}
+
+watched : (c : After-range) (r : Place) → watched_around c.args.self.now.regions c.args.range ≡ Some r → IsWatched (shown_regions c.self.inside.space.regions) (range_at c.range.inside.first c.range.inside.count) r
+watched c r e = watched_as (record { regions = ap (λ (v : RegionsOf). v.regions) c.self.view_is; range_is = c.range.view_is }) r c.self.invariant c.range.invariant e
+
+told : (c : After-range) (r : Place) → watched_around c.args.self.now.regions c.args.range ≡ Some r → c.in_ok-pages.pages ≡ map address_of (written_in r.thing (range_at c.range.inside.first c.range.inside.count) c.args.count)
+told c r e =
+    told_pages (λ (x : Place). map address_of (written_in x.thing c.args.range c.args.count)) (watched_around c.args.self.now.regions c.args.range) r c.in_ok-pages.pages c.in_ok-pages.ensures.found e
+    ∙ sym (ap (λ (x : Range). map address_of (written_in r.thing x c.args.count)) c.range.view_is)
 
 pub unwrite-requires : goal.unwrite-requires
 unwrite-requires c =
-    let vs = c.self.inside.space.regions in
-    let inner = range_at c.range.inside.first c.range.inside.count in
-    let rs = c.args.self.now.regions in
-    let same : Same vs inner rs c.args.range = record { regions = ap (λ (v : RegionsOf). v.regions) c.self.view_is; range_is = c.range.view_is } in
-    let f = (λ (x : Place). map address_of (written_in x.thing c.args.range c.args.count)) in
-    let r = there (watched_around rs c.args.range) (told_of f (watched_around rs c.args.range) c.in_ok-pages.pages c.in_ok-pages.ensures.found) in
-    let told = told_pages f (watched_around rs c.args.range) r.thing c.in_ok-pages.pages c.in_ok-pages.ensures.found r.is
-    ∙ sym (ap (λ (x : Range). map address_of (written_in r.thing.thing x c.args.count)) c.range.view_is) in
-    lie_with_page vs inner r.thing c.args.count c.in_ok-pages.pages c.self.invariant
-    (is_watched (shown_regions vs) inner r.thing c.self.invariant.sound c.range.invariant (watched_in vs inner rs c.args.range same ∙ r.is)) told
+    let d = (goal.at.unwrite-requires c).After-range in
+    let r = there (watched_around c.args.self.now.regions c.args.range) (told_of _ _ c.in_ok-pages.pages c.in_ok-pages.ensures.found) in
+    lie_with_page c.self.inside.space.regions (range_at c.range.inside.first c.range.inside.count) r.thing c.args.count c.in_ok-pages.pages c.self.invariant (watched d r.thing r.is) (told d r.thing r.is)
 
 pub invariant_of-self : goal.invariant_of-self
 invariant_of-self c =
-    let vs = c.self.inside.space.regions in
-    let inner = range_at c.range.inside.first c.range.inside.count in
-    let rs = c.args.self.now.regions in
-    let same : Same vs inner rs c.args.range = record { regions = ap (λ (v : RegionsOf). v.regions) c.self.view_is; range_is = c.range.view_is } in
-    let f = (λ (x : Place). map address_of (written_in x.thing c.args.range c.args.count)) in
-    let r = there (watched_around rs c.args.range) (told_of f (watched_around rs c.args.range) c.in_ok-pages.pages c.in_ok-pages.ensures.found) in
-    let told = told_pages f (watched_around rs c.args.range) r.thing c.in_ok-pages.pages c.in_ok-pages.ensures.found r.is
-    ∙ sym (ap (λ (x : Range). map address_of (written_in r.thing.thing x c.args.count)) c.range.view_is) in
-    let w = is_watched (shown_regions vs) inner r.thing c.self.invariant.sound c.range.invariant (watched_in vs inner rs c.args.range same ∙ r.is) in
-    kept_unwrote vs c.unwrite.new.self.regions inner r.thing c.args.count c.in_ok-pages.pages c.self.invariant w.there told
+    let r = there (watched_around c.args.self.now.regions c.args.range) (told_of _ _ c.in_ok-pages.pages c.in_ok-pages.ensures.found) in
+    let d = (goal.at.invariant_of-self c).After-range in
+    kept_unwrote c.self.inside.space.regions c.unwrite.new.self.regions (range_at c.range.inside.first c.range.inside.count) r.thing c.args.count c.in_ok-pages.pages c.self.invariant (watched d r.thing r.is).there (told d r.thing r.is)
     (ap (λ (s : SpaceOf). s.regions) c.unwrite.ensures.after) c.unwrite.ensures.sound
 
 pub returns-clause-changed : goal.returns-clause-changed
 returns-clause-changed c = λ r e. (
-    let vs = c.self.inside.space.regions in
     let inner = range_at c.range.inside.first c.range.inside.count in
-    let rs = c.args.self.now.regions in
-    let same : Same vs inner rs c.args.range = record { regions = ap (λ (v : RegionsOf). v.regions) c.self.view_is; range_is = c.range.view_is } in
-    let f = (λ (x : Place). map address_of (written_in x.thing c.args.range c.args.count)) in
-    let told = told_pages f (watched_around rs c.args.range) r c.in_ok-pages.pages c.in_ok-pages.ensures.found e
-    ∙ sym (ap (λ (x : Range). map address_of (written_in r.thing x c.args.count)) c.range.view_is) in
-    let w = is_watched (shown_regions vs) inner r c.self.invariant.sound c.range.invariant (watched_in vs inner rs c.args.range same ∙ e) in
-    unwrote vs c.unwrite.new.self.regions inner r c.args.count c.in_ok-pages.pages c.self.invariant w.there told (ap (λ (s : SpaceOf). s.regions) c.unwrite.ensures.after)
+    let d = (goal.at.returns-clause-changed c).After-range in
+    unwrote c.self.inside.space.regions c.unwrite.new.self.regions inner r c.args.count c.in_ok-pages.pages c.self.invariant (watched d r e).there (told d r e) (ap (λ (s : SpaceOf). s.regions) c.unwrite.ensures.after)
     ∙ ap (λ (v : RegionsOf). slice_set v.regions r.place (change_flags (unwritten r.thing.base (written_in r.thing inner c.args.count)) r.thing)) c.self.view_is
-    ∙ ap (λ (x : Range). slice_set rs r.place (change_flags (unwritten r.thing.base (written_in r.thing x c.args.count)) r.thing)) c.range.view_is)
+    ∙ ap (λ (x : Range). slice_set c.args.self.now.regions r.place (change_flags (unwritten r.thing.base (written_in r.thing x c.args.count)) r.thing)) c.range.view_is)

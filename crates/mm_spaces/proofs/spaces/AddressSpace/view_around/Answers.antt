@@ -1,24 +1,12 @@
-use Rattle.std.proofs.Common.{Some, None, cond, not, option_map, sym, ap, ◌∙◌}
-use Rattle.mm_world.specs.Find.{is_private}
-use Rattle.mm_spaces.specs.declared.spaces.RegionInfo.{RegionInfo}
-use Rattle.mm_spaces.specs.Shown.{region_of}
-use Rattle.mm_spaces.specs.Tables.{info_of, found_info}
-use Rattle.mm_spaces.proofs.Kept.{view_around_told}
+use Rattle.std.proofs.Common.{not, option_map, sym, ap, ◌∙◌}
+use Rattle.mm_world.specs.{is_private}
+use Rattle.mm_spaces.specs.{found_info}
+use Rattle.mm_spaces.proofs.{view_around_told}
 use Rattle.mm_spaces.proofs.spaces.AddressSpace.view_around.Goals as goal
 
-pub returns-in_err-region-clause-found : goal.returns-in_err-region-clause-found
-returns-in_err-region-clause-found c =
-    c.from_residual.ensures ∙ sym (ap (option_map found_info) (c.in_err-region.ensures.none.only (λ r. not (is_private r.kind))))
+pub returns-in_err-around-clause-found : goal.returns-in_err-around-clause-found
+returns-in_err-around-clause-found c =
+    c.from_residual.ensures ∙ sym (ap (option_map found_info) (c.in_err-around.ensures.none.only (λ r. not (is_private r.kind))))
 
-pub returns-then-is_private-clause-found : goal.returns-then-is_private-clause-found
-returns-then-is_private-clause-found c =
-    let region = c.in_ok-region.region.now in
-    sym (view_around_told c.args.self.now.regions c.args.range region c.in_ok-region.ensures.some
-    ∙ ap (λ b. cond (not b) (Some (info_of (region_of region))) None) (sym c.is_private.ensures ∙ c.if-is_private.true))
-
-pub returns-else-is_private-clause-found : goal.returns-else-is_private-clause-found
-returns-else-is_private-clause-found c =
-    let region = c.in_ok-region.region.now in
-    ap (λ (x : RegionInfo). Some x) c.info_of_region.ensures
-    ∙ sym (view_around_told c.args.self.now.regions c.args.range region c.in_ok-region.ensures.some
-    ∙ ap (λ b. cond (not b) (Some (info_of (region_of region))) None) (sym c.is_private.ensures ∙ c.if-is_private.false))
+pub returns-clause-found : goal.returns-clause-found
+returns-clause-found c = c.info_of_view.ensures ∙ sym (view_around_told c.args.self.now.regions c.args.range c.in_ok-around.field-0.now c.in_ok-around.ensures.some)

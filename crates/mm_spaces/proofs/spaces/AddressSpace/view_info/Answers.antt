@@ -1,6 +1,5 @@
 use Rattle.std.proofs.Common.{◌-◌, false}
-use Rattle.mm_spaces.proofs.Told.{kind_at}
-use Rattle.mm_spaces.proofs.Viewed.{not_private, view_fit, view_told, seen}
+use Rattle.mm_spaces.proofs.{kind_at, not_private, view_fit, view_told, seen}
 use Rattle.mm_spaces.proofs.spaces.AddressSpace.view_info.Goals as goal
 
 pub unreachable-requires-in_default-kind : goal.unreachable-requires-in_default-kind

@@ -1,8 +1,8 @@
 use Rattle.std.proofs.Common.{◌-◌, Bool, List, map, take, drop, Option, Some, is_some, sym, ap, ◌∙◌, arith, option_map, ℕ}
-use Rattle.mm_types.specs.Address.{Range, address_of}
-use Rattle.mm_world.specs.Watch.{written_from, written_in}
-use Rattle.mm_spaces.specs.Kept.{found_if}
-use Rattle.mm_spaces.proofs.Flagged.{Place, watched_there, told_here, flags_many}
+use Rattle.mm_types.specs.{Range, address_of}
+use Rattle.mm_world.specs.{written_from, written_in}
+use Rattle.mm_spaces.specs.{found_if}
+use Rattle.mm_spaces.proofs.{Place, watched_there, told_here, flags_many}
 use Rattle.mm_spaces.proofs.spaces.AddressSpace.written.Goals as goal
 
 pub returns-in_err-region-clause-found : goal.returns-in_err-region-clause-found

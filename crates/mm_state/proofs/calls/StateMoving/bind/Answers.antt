@@ -1,5 +1,5 @@
-use Rattle.mm_parts.proofs.Outcomes.{on_ok, on_err}
-use Rattle.mm_state.proofs.Making.{shown_on, located_or}
+use Rattle.mm_parts.proofs.{on_ok, on_err}
+use Rattle.mm_state.proofs.{shown_on, located_or}
 use Rattle.mm_state.proofs.calls.StateMoving.bind.Goals as goal
 
 pub invariant_of-self : goal.invariant_of-self

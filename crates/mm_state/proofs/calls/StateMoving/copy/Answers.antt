@@ -1,12 +1,9 @@
 use Rattle.std.proofs.Common.{ℕ, List, Option, sym, ap, ◌∙◌}
-use Rattle.mm_life.specs.Frames.{record_at}
-use Rattle.mm_life.specs.Life.{changed, same_key}
-use Rattle.mm_life.specs.Located.{contents_of}
-use Rattle.mm_ram.specs.Ram.{bytes_of}
+use Rattle.mm_life.specs.{record_at, changed, same_key, contents_of}
+use Rattle.mm_ram.specs.{bytes_of}
 use Rattle.mm_parts.specs.PartsShown as parts_of
-use Rattle.mm_frame_laws.proofs.Carrying.{carries_written}
-use Rattle.mm_state.proofs.Making.{rest_page, carried}
-use Rattle.mm_state.proofs.PageBytes.{pick, own_page, soiled_calm}
+use Rattle.mm_frame_laws.proofs.{carries_written}
+use Rattle.mm_state.proofs.{rest_page, carried, pick, own_page, soiled_calm}
 use Rattle.mm_state.proofs.calls.StateMoving.copy.Goals as goal
 
 pub copy-requires-clause-to_calm : goal.copy-requires-clause-to_calm

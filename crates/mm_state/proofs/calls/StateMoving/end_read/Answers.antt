@@ -1,25 +1,15 @@
 use Rattle.std.proofs.Common.{sym, ap, ◌∙◌, subst}
-use Rattle.mm_types.specs.Outside.{Both}
+use Rattle.mm_types.specs.{Both, Record, Move}
 use Rattle.mm_types.specs.declared.devices.Direction.TheVariants as way
-use Rattle.mm_types.specs.declared.frames.Record.{Record}
-use Rattle.mm_types.specs.declared.moves.Move.{Move}
-use Rattle.mm_life.specs.Frames.{record_at, slot_of, is_read}
-use Rattle.mm_life.specs.Logs.{Grew}
-use Rattle.mm_life.specs.MoveText.{IsMove, spelling_of_move}
-use Rattle.mm_laws.specs.Fits.{is_backed}
-use Rattle.mm_laws.specs.FileBlocks.{block_of}
-use Rattle.mm_parts.specs.Shown.{PartsOf}
+use Rattle.mm_life.specs.{record_at, slot_of, is_read, Grew, IsMove, spelling_of_move}
+use Rattle.mm_laws.specs.{is_backed, block_of}
+use Rattle.mm_parts.specs.{PartsOf, waits_of, end_of_read}
 use Rattle.mm_parts.specs.PartsShown as parts_of
-use Rattle.mm_parts.specs.Reading.{waits_of}
-use Rattle.mm_parts.specs.Moves.{end_of_read}
-use Rattle.mm_frame_laws.proofs.Carrying.{read_backed, slot_there, block_there}
-use Rattle.mm_blocks.specs.Devices.{device_with}
-use Rattle.mm_state.specs.Tallied.{read_told, IsTallied}
-use Rattle.mm_state.proofs.Making.{made_quiet, rest_called, carried_on}
-use Rattle.mm_state.proofs.Tallying.{tallied_read}
-use Rattle.mm_state.proofs.Whole.{whole_on}
-use Rattle.mm_state.proofs.Ends.{read_low, is_reading, read_legal, read_carries, read_ages, read_waits, read_tells, read_calls, called_at}
-use Rattle.mm_state.proofs.After.{read_quiet}
+use Rattle.mm_frame_laws.proofs.{read_backed, slot_there, block_there}
+use Rattle.mm_blocks.specs.{device_with}
+use Rattle.mm_state.specs.{read_told, IsTallied}
+use Rattle.mm_state.proofs.{made_quiet, rest_called, carried_on, tallied_read, whole_on, read_low, is_reading, read_legal, read_carries, read_ages}
+use Rattle.mm_state.proofs.{read_waits, read_tells, read_calls, called_at, read_quiet}
 use Rattle.mm_state.proofs.calls.StateMoving.end_read.Goals as goal
 
 pub look-r-requires : goal.look-r-requires

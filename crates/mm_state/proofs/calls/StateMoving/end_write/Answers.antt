@@ -1,27 +1,19 @@
 use Rattle.std.proofs.Common.{[], ◌∷◌, sym, ap, ◌∙◌, subst}
-use Rattle.mm_types.specs.Outside.{Both}
+use Rattle.mm_types.specs.{Both, Record, Move}
 use Rattle.mm_types.specs.declared.devices.Direction.TheVariants as way
-use Rattle.mm_types.specs.declared.frames.Record.{Record}
-use Rattle.mm_types.specs.declared.moves.Move.{Move}
-use Rattle.mm_life.specs.Frames.{slot_of}
-use Rattle.mm_life.specs.Logs.{Grew}
-use Rattle.mm_life.specs.MoveText.{IsMove, spelling_of_move}
-use Rattle.mm_laws.specs.Fits.{is_backed}
-use Rattle.mm_laws.specs.FileBlocks.{block_of}
-use Rattle.mm_pages.specs.Told.{with_write, paging_traffic, file_traffic}
-use Rattle.mm_parts.specs.Shown.{PartsOf}
+use Rattle.mm_life.specs.{slot_of, Grew, IsMove, spelling_of_move}
+use Rattle.mm_laws.specs.{is_backed, block_of}
+use Rattle.mm_pages.specs.{with_write, paging_traffic, file_traffic}
+use Rattle.mm_parts.specs.{PartsOf, waits_of, write_end}
 use Rattle.mm_parts.specs.PartsShown as parts_of
-use Rattle.mm_parts.specs.Reading.{waits_of}
-use Rattle.mm_parts.specs.Moves.{write_end}
-use Rattle.mm_frame_laws.specs.Carried.{slots_written, blocks_written}
-use Rattle.mm_frame_laws.proofs.Carrying.{write_backed, slot_there, block_there, page_of_key}
-use Rattle.mm_blocks.specs.Devices.{device_with, KeepsOthers}
-use Rattle.mm_moving.specs.Shown.{written_if}
-use Rattle.mm_state.specs.Tallied.{IsTallied}
-use Rattle.mm_state.proofs.Making.{made_by, rest_of, carried_on}
-use Rattle.mm_state.proofs.Tallying.{tallied_write}
-use Rattle.mm_state.proofs.Whole.{slots_whole, blocks_whole}
-use Rattle.mm_state.proofs.Ends.{write_low, is_writing, write_legal, write_carries, write_ages, write_waits, write_tells, write_calls, called_at, write_calm, same_page, no_block, slots_by_write, blocks_by_write}
+use Rattle.mm_frame_laws.specs.{slots_written, blocks_written}
+use Rattle.mm_frame_laws.proofs.{write_backed, slot_there, block_there, page_of_key}
+use Rattle.mm_blocks.specs.{device_with, KeepsOthers}
+use Rattle.mm_moving.specs.{written_if}
+use Rattle.mm_state.specs.{IsTallied}
+use Rattle.mm_state.proofs.{made_by, rest_of, carried_on, tallied_write, slots_whole, blocks_whole, write_low, is_writing, write_legal, write_carries}
+use Rattle.mm_state.proofs.{write_ages, write_waits, write_tells, write_calls, called_at, write_calm, same_page, no_block, slots_by_write}
+use Rattle.mm_state.proofs.{blocks_by_write}
 use Rattle.mm_state.proofs.calls.StateMoving.end_write.Goals as goal
 
 pub page-page-requires : goal.page-page-requires

@@ -1,4 +1,4 @@
-use Rattle.mm_state.proofs.Making.{located_on, rest_waits}
+use Rattle.mm_state.proofs.{located_on, rest_waits}
 use Rattle.mm_state.proofs.calls.StateMoving.forget.Goals as goal
 
 pub invariant_of-self : goal.invariant_of-self

@@ -1,4 +1,4 @@
-use Rattle.mm_state.proofs.Waiting.{front_is}
+use Rattle.mm_state.proofs.{front_is}
 use Rattle.mm_state.proofs.calls.StateMoving.front_modified.Goals as goal
 
 pub returns-clause-first : goal.returns-clause-first

@@ -1,17 +1,12 @@
 use Rattle.std.proofs.Common.{refl, sym, ap, ◌∙◌, subst}
 use Rattle.mm_types.specs.declared.moves.LineKind.TheVariants as kind
 use Rattle.mm_types.specs.declared.moves.Move.TheVariants as move
-use Rattle.mm_parts.specs.Moves.{parts_after}
-use Rattle.mm_parts.specs.Shown.{PartsOf}
+use Rattle.mm_parts.specs.{parts_after, PartsOf, waits_of}
 use Rattle.mm_parts.specs.PartsShown as parts_of
-use Rattle.mm_frame_laws.proofs.Carrying.{carries_at, carries_at_plain}
-use Rattle.mm_blocks.specs.Devices.{device_with}
-use Rattle.mm_state.specs.Tallied.{IsTallied}
-use Rattle.mm_state.proofs.Legals.{call_legal}
-use Rattle.mm_parts.specs.Reading.{waits_of}
-use Rattle.mm_state.proofs.Making.{carried_on, rest_grown, grew_one}
-use Rattle.mm_state.proofs.Tallying.{tallied_none}
-use Rattle.mm_state.proofs.Whole.{whole_grown, whole_on}
+use Rattle.mm_frame_laws.proofs.{carries_at, carries_at_plain}
+use Rattle.mm_blocks.specs.{device_with}
+use Rattle.mm_state.specs.{IsTallied}
+use Rattle.mm_state.proofs.{call_legal, carried_on, rest_grown, grew_one, tallied_none, whole_grown, whole_on}
 use Rattle.mm_state.proofs.calls.StateMoving.grow.Goals as goal
 
 pub invariant_of-self-in-Ok : goal.invariant_of-self-in-Ok

@@ -1,9 +1,8 @@
 use Rattle.std.proofs.Common.{ℕ, length, List, sym, ap, ◌∙◌}
-use Rattle.mm_ram.specs.Ram.{bytes_from}
+use Rattle.mm_ram.specs.{bytes_from}
 use Rattle.mm_parts.specs.PartsShown as parts_of
-use Rattle.mm_parts.specs.Shown.{owners}
-use Rattle.mm_state.proofs.Making.{shown_on, located_on}
-use Rattle.mm_state.proofs.PageBytes.{pick, valid_names, valid_calm, own_bytes}
+use Rattle.mm_parts.specs.{owners}
+use Rattle.mm_state.proofs.{shown_on, located_on, pick, valid_names, valid_calm, own_bytes}
 use Rattle.mm_state.proofs.calls.StateMoving.read.Goals as goal
 
 pub invariant_of-self : goal.invariant_of-self

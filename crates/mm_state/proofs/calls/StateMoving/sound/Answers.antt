@@ -1,5 +1,5 @@
 use Rattle.mm_parts.specs.PartsShown as parts_of
-use Rattle.mm_state.proofs.Whole.{page_whole}
+use Rattle.mm_state.proofs.{page_whole}
 use Rattle.mm_state.proofs.calls.StateMoving.sound.Goals as goal
 
 pub returns-clause-few : goal.returns-clause-few

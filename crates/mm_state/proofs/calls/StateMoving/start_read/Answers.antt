@@ -1,17 +1,12 @@
 use Rattle.std.proofs.Common.{refl, sym, ap, subst, ◌∙◌}
-use Rattle.mm_types.specs.Outside.{Loans, Both}
-use Rattle.mm_types.specs.declared.numbers.Frame.{Frame}
+use Rattle.mm_types.specs.{Loans, Both, Frame}
 use Rattle.mm_types.specs.declared.moves.Move.TheVariants as move
-use Rattle.mm_parts.specs.Shown.{PartsOf}
+use Rattle.mm_parts.specs.{PartsOf, waits_of}
 use Rattle.mm_parts.specs.PartsShown as parts_of
-use Rattle.mm_parts.specs.Reading.{waits_of}
-use Rattle.mm_frame_laws.proofs.Carrying.{carries_read}
-use Rattle.mm_state.specs.Tallied.{IsTallied}
-use Rattle.mm_state.proofs.Legals.{legal_at}
-use Rattle.mm_state.proofs.Making.{made_quiet, rest_of, carried}
-use Rattle.mm_state.proofs.Tallying.{tallied_search}
-use Rattle.mm_life.specs.Frames.{record_at, is_read}
-use Rattle.mm_state.proofs.After.{read_begun}
+use Rattle.mm_frame_laws.proofs.{carries_read}
+use Rattle.mm_state.specs.{IsTallied}
+use Rattle.mm_state.proofs.{legal_at, made_quiet, rest_of, carried, tallied_search, read_begun}
+use Rattle.mm_life.specs.{record_at, is_read}
 use Rattle.mm_state.proofs.calls.StateMoving.start_read.Goals as goal
 
 pub invariant_of-self : goal.invariant_of-self
@@ -32,8 +27,7 @@ returns-clause-rest g c =
     let s = c.args.self.now in
     let u = parts_of.shown_parts s.parts in
     let e = c.start_read-f.ensures.made in
-    let now = carried _ _ _ _ _ e (carries_read u.life s.parts.kept.reached u.bytes _ _ s.located c.start_read-f.result c.args.key (legal_at u.life _ _ (ap (λ (f : Frame). move.Read f c.args.key) c.start_read-f.ensures.frame) c.requires.legal)) in
-    rest_of _ _ _ _ _ _ _ _ _ e now.bytes
+    rest_of _ _ _ _ _ _ _ _ _ e (carried _ _ _ _ _ e (carries_read u.life s.parts.kept.reached u.bytes _ _ s.located c.start_read-f.result c.args.key (legal_at u.life _ _ (ap (λ (f : Frame). move.Read f c.args.key) c.start_read-f.ensures.frame) c.requires.legal))).bytes
 
 pub returns-clause-loans : goal.returns-clause-loans
 returns-clause-loans g c = ap (λ (x : Loans). Both (Both (g.P.Inject.loans c.args.self.now.paging) (g.F.Inject.loans c.args.self.now.files)) x) c.note.ensures.loans

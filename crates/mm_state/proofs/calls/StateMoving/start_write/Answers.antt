@@ -1,13 +1,10 @@
 use Rattle.std.proofs.Common.{refl, ap}
-use Rattle.mm_types.specs.Outside.{Loans, Both}
-use Rattle.mm_types.specs.declared.moves.Stored.{Stored}
+use Rattle.mm_types.specs.{Loans, Both, Stored}
 use Rattle.mm_types.specs.declared.moves.Move.TheVariants as move
-use Rattle.mm_parts.specs.Shown.{PartsOf}
+use Rattle.mm_parts.specs.{PartsOf, waits_of}
 use Rattle.mm_parts.specs.PartsShown as parts_of
-use Rattle.mm_parts.specs.Reading.{waits_of}
-use Rattle.mm_frame_laws.proofs.Carrying.{carries_write}
-use Rattle.mm_state.proofs.Legals.{legal_at}
-use Rattle.mm_state.proofs.Making.{made_quiet, rest_of, carried}
+use Rattle.mm_frame_laws.proofs.{carries_write}
+use Rattle.mm_state.proofs.{legal_at, made_quiet, rest_of, carried}
 use Rattle.mm_state.proofs.calls.StateMoving.start_write.Goals as goal
 
 pub invariant_of-self : goal.invariant_of-self
@@ -28,8 +25,7 @@ returns-clause-rest g c =
     let s = c.args.self.now in
     let u = parts_of.shown_parts s.parts in
     let e = c.start_write-to.ensures.made in
-    let now = carried _ _ _ _ _ e (carries_write u.life s.parts.kept.reached u.bytes _ _ s.located c.args.f c.start_write-to.result (legal_at u.life _ _ (ap (λ (t : Stored). move.Write c.args.f t) c.start_write-to.ensures.to) c.requires.legal)) in
-    rest_of _ _ _ _ _ _ _ _ _ e now.bytes
+    rest_of _ _ _ _ _ _ _ _ _ e (carried _ _ _ _ _ e (carries_write u.life s.parts.kept.reached u.bytes _ _ s.located c.args.f c.start_write-to.result (legal_at u.life _ _ (ap (λ (t : Stored). move.Write c.args.f t) c.start_write-to.ensures.to) c.requires.legal))).bytes
 
 pub returns-clause-loans : goal.returns-clause-loans
 returns-clause-loans g c = ap (λ (x : Loans). Both (Both (g.P.Inject.loans c.args.self.now.paging) (g.F.Inject.loans c.args.self.now.files)) x) c.note.ensures.loans

@@ -1,13 +1,10 @@
 use Rattle.std.proofs.Common.{refl, ap}
-use Rattle.mm_types.specs.Outside.{Loans, Both}
+use Rattle.mm_types.specs.{Loans, Both}
 use Rattle.mm_types.specs.declared.moves.Move.TheVariants as move
-use Rattle.mm_parts.specs.Moves.{front}
-use Rattle.mm_parts.specs.Shown.{PartsOf}
+use Rattle.mm_parts.specs.{front, PartsOf, waits_of}
 use Rattle.mm_parts.specs.PartsShown as parts_of
-use Rattle.mm_parts.specs.Reading.{waits_of}
-use Rattle.mm_frame_laws.proofs.Carrying.{carries_steal}
-use Rattle.mm_state.proofs.Legals.{noted_at, ranged_at, some_standby}
-use Rattle.mm_state.proofs.Making.{made_quiet, rest_of, carried}
+use Rattle.mm_frame_laws.proofs.{carries_steal}
+use Rattle.mm_state.proofs.{noted_at, ranged_at, some_standby, made_quiet, rest_of, carried}
 use Rattle.mm_state.proofs.calls.StateMoving.steal.Goals as goal
 
 pub first_standby-f-requires : goal.first_standby-f-requires
@@ -31,8 +28,7 @@ returns-clause-rest g c =
     let s = c.args.self.now in
     let u = parts_of.shown_parts s.parts in
     let e = c.steal.ensures.made in
-    let now = carried _ _ _ _ _ e (carries_steal u.life s.parts.kept.reached u.bytes _ _ s.located (front u.life.frames.standby) c.requires.legal) in
-    rest_of _ _ _ _ _ _ _ _ _ e now.bytes
+    rest_of _ _ _ _ _ _ _ _ _ e (carried _ _ _ _ _ e (carries_steal u.life s.parts.kept.reached u.bytes _ _ s.located (front u.life.frames.standby) c.requires.legal)).bytes
 
 pub returns-clause-loans : goal.returns-clause-loans
 returns-clause-loans g c = ap (λ (x : Loans). Both (Both (g.P.Inject.loans c.args.self.now.paging) (g.F.Inject.loans c.args.self.now.files)) x) c.note.ensures.loans

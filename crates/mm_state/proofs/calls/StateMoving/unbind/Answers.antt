@@ -1,4 +1,4 @@
-use Rattle.mm_state.proofs.Making.{shown_on, located_on}
+use Rattle.mm_state.proofs.{shown_on, located_on}
 use Rattle.mm_state.proofs.calls.StateMoving.unbind.Goals as goal
 
 pub invariant_of-self : goal.invariant_of-self

@@ -1,5 +1,4 @@
-use Rattle.mm_state.proofs.Making.{located_on, rest_waits}
-use Rattle.mm_state.proofs.Waiting.{other_request}
+use Rattle.mm_state.proofs.{located_on, rest_waits, other_request}
 use Rattle.mm_state.proofs.calls.StateMoving.wait.Goals as goal
 
 pub invariant_of-self : goal.invariant_of-self

@@ -1,12 +1,10 @@
 use Rattle.std.proofs.Common.{ℕ, List, Some, sym, ap, ◌∙◌}
-use Rattle.mm_life.specs.Life.{changed, same_key}
-use Rattle.mm_life.specs.Located.{contents_of}
-use Rattle.mm_ram.specs.Ram.{bytes_of, overwritten}
+use Rattle.mm_life.specs.{changed, same_key, contents_of}
+use Rattle.mm_ram.specs.{bytes_of, overwritten}
 use Rattle.mm_parts.specs.PartsShown as parts_of
-use Rattle.mm_parts.specs.Shown.{owners}
-use Rattle.mm_frame_laws.proofs.Carrying.{carries_written}
-use Rattle.mm_state.proofs.Making.{rest_page, carried}
-use Rattle.mm_state.proofs.PageBytes.{pick, valid_names, valid_owner, valid_calm, own_bytes}
+use Rattle.mm_parts.specs.{owners}
+use Rattle.mm_frame_laws.proofs.{carries_written}
+use Rattle.mm_state.proofs.{rest_page, carried, pick, valid_names, valid_owner, valid_calm, own_bytes}
 use Rattle.mm_state.proofs.calls.StateMoving.write.Goals as goal
 
 pub invariant_of-self : goal.invariant_of-self

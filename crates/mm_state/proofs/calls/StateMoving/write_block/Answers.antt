@@ -3,10 +3,8 @@ use Rattle.std.specs.Prelude.{slice_set}
 use Rattle.std.proofs.lemmas.List.{length-replicate}
 use Rattle.mm_types.specs.declared.frames.Backing.TheVariants as backing
 use Rattle.mm_parts.specs.PartsShown as parts_of
-use Rattle.mm_state.specs.Tallied.{IsTallied}
-use Rattle.mm_state.proofs.Blocks.{block_written, block_carries, rest_block}
-use Rattle.mm_state.proofs.Tallying.{tallied_write}
-use Rattle.mm_state.proofs.Whole.{block_whole}
+use Rattle.mm_state.specs.{IsTallied}
+use Rattle.mm_state.proofs.{block_written, block_carries, rest_block, tallied_write, block_whole}
 use Rattle.mm_state.proofs.calls.StateMoving.write_block.Goals as goal
 
 pub write_device-ok-requires : goal.write_device-ok-requires

@@ -1,10 +1,8 @@
 use Rattle.std.proofs.Common.{sym, subst}
-use Rattle.mm_frame_laws.proofs.Carrying.{carries_start}
-use Rattle.mm_parts.specs.Start.{first_move}
-use Rattle.mm_state.specs.Tallied.{IsTallied}
-use Rattle.mm_state.proofs.Legals.{noted_at, ranged_at}
-use Rattle.mm_state.proofs.Making.{carried, shows_start, grew_one}
-use Rattle.mm_state.proofs.Tallying.{tallied_none}
+use Rattle.mm_frame_laws.proofs.{carries_start}
+use Rattle.mm_parts.specs.{first_move}
+use Rattle.mm_state.specs.{IsTallied}
+use Rattle.mm_state.proofs.{noted_at, ranged_at, carried, shows_start, grew_one, tallied_none}
 use Rattle.mm_state.proofs.states.State.new.Goals as goal
 
 pub invariant_of-result : goal.invariant_of-result

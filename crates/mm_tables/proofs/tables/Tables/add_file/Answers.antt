@@ -1,17 +1,14 @@
 use Rattle.std.proofs.Common.{◌≡◌, ◌+◌, ◌++◌, ◌∷◌, [], ℕ, Option, Some, None, true, refl, sym, ◌∙◌, ap, subst, length, arith}
 use Rattle.std.specs.Prelude.{◌==◌, Err, find, bytes_eq}
-use Rattle.mm_types.specs.declared.numbers.Key.{Key}
-use Rattle.mm_world.specs.Contents.{Tables}
-use Rattle.mm_tables.specs.Fits.{FitsTables, beside_file}
-use Rattle.mm_tables.proofs.FileKept.{file_area, file_kept, file_now, file_fits, nothing_served, fits_wrote}
-use Rattle.mm_tables.proofs.SectionPaging.{area_free, same_kept, same_tables}
-use Rattle.mm_pages.specs.Housekeeping.{Makes}
-use Rattle.mm_pages.specs.Passing.{FileMade, WritesFile}
-use Rattle.mm_pages.specs.Reports.{wrote}
-use Rattle.mm_pages.specs.Store.{StoreOf, changed, with_blocks, with_file}
-use Rattle.mm_tables.proofs.Turning.{notes_nothing}
+use Rattle.mm_types.specs.{Key}
+use Rattle.mm_world.specs.{Tables}
+use Rattle.mm_tables.specs.{FitsTables, beside_file}
+use Rattle.mm_tables.proofs.{file_area, file_kept, file_now, file_fits, fits_wrote, area_free, same_kept, notes_nothing}
+use Rattle.mm_tables.proofs.SectionPaging.{same_tables}
+use Rattle.mm_pages.specs.{Makes, FileMade, WritesFile, wrote, StoreOf, changed, with_blocks, with_file}
 use Rattle.mm_tables.proofs.tables.Tables.add_file.Given as given
 use Rattle.mm_tables.proofs.tables.Tables.add_file.Goals as goal
+use Rattle.mm_pages.proofs.{served_none}
 
 -- what has become of the areas and the files
 at_end : (g : given.Over) (c : goal.After-self-1 g) → c.len.result ≡ length c.self.inside.areas.items
@@ -51,7 +48,7 @@ returns-in-Err-clause-stored g c =
       fits = subst (λ (t : Tables). FitsTables t (g.G.Pages.contents c.args.g.now) (g.G.Pages.store c.args.g.now)) (sym same) c.requires.fits;
       beside = refl;
       memory = λ memory. refl;
-      served = nothing_served (g.G.Pages.store c.args.g.now);
+      served = served_none (g.G.Pages.store c.args.g.now);
     }
 
 pub returns-in-Err-clause-notes : goal.returns-in-Err-clause-notes

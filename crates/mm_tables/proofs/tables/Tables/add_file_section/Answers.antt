@@ -1,8 +1,7 @@
 use Rattle.std.proofs.Common.{refl}
-use Rattle.mm_world.specs.Find.{process_of}
-use Rattle.mm_tables.proofs.Holding.{can_hold}
-use Rattle.mm_tables.proofs.SectionPaging.{same_kept, lists, file_section_kept, file_section_settled}
-use Rattle.mm_types.proofs.Options.{some_found}
+use Rattle.mm_world.specs.{process_of}
+use Rattle.mm_tables.proofs.{can_hold, same_kept, lists, file_section_kept, file_section_settled}
+use Rattle.mm_types.proofs.{some_found}
 use Rattle.mm_tables.proofs.tables.Tables.add_file_section.Goals as goal
 
 pub invariant_of-self : goal.invariant_of-self

@@ -1,10 +1,7 @@
 use Rattle.std.proofs.Common.{◌∙◌, refl, ap}
-use Rattle.mm_world.specs.World.{numbered}
-use Rattle.mm_world.specs.Contents.{Tables}
-use Rattle.mm_world.specs.Find.{process_of}
-use Rattle.mm_tables.proofs.Holding.{can_hold}
-use Rattle.mm_tables.proofs.SectionPaging.{same_kept, handle_few, handle_kept, handle_now, handle_settled}
-use Rattle.mm_types.proofs.Options.{some_found}
+use Rattle.mm_world.specs.{numbered, Tables, process_of}
+use Rattle.mm_tables.proofs.{can_hold, same_kept, handle_few, handle_kept, handle_now, handle_settled}
+use Rattle.mm_types.proofs.{some_found}
 use Rattle.mm_tables.proofs.tables.Tables.add_handle.Goals as goal
 
 pub invariant_of-self : goal.invariant_of-self

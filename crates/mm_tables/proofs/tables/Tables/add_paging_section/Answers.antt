@@ -1,19 +1,15 @@
 use Rattle.std.proofs.Common.{◌≡◌, ◌≤◌, ◌+◌, ◌++◌, ◌∷◌, [], ◌∙◌, ℕ, Bool, sym, ap, subst, length, arith, true, false, refl}
 use Rattle.std.specs.Prelude.{if◌then◌else◌}
 use Rattle.mm_types.specs.declared.answers.Answer.TheVariants as answer
-use Rattle.mm_world.specs.World.{numbered}
-use Rattle.mm_world.specs.Charge.{charge}
-use Rattle.mm_world.specs.Contents.{Tables}
-use Rattle.mm_world.specs.Find.{process_of}
+use Rattle.mm_world.specs.{numbered, charge, Tables, process_of}
 use Rattle.mm_world.specs.WellFormed.{WellFormed}
-use Rattle.mm_tables.specs.Shown.{shown_processes}
-use Rattle.mm_tables.proofs.Holding.{can_hold}
-use Rattle.mm_tables.proofs.SectionPaging.{ListsSection, paging_pages, committed_pages, area_free, key_free, lists, paging_kept, paging_now, paging_settled, same_kept, same_tables}
-use Rattle.mm_tables.proofs.SectionFits.{as_kept}
-use Rattle.mm_tables.proofs.Settled.{paging_few, roomier_settled}
-use Rattle.mm_pages.specs.Housekeeping.{Makes}
-use Rattle.mm_pages.proofs.Passed.{turns_same}
-use Rattle.mm_types.proofs.Options.{some_found, on_err}
+use Rattle.mm_tables.specs.{shown_processes}
+use Rattle.mm_tables.proofs.{can_hold, ListsSection, paging_pages, committed_pages, area_free, key_free, lists, paging_kept, paging_now}
+use Rattle.mm_tables.proofs.{paging_settled, same_kept, as_kept, paging_few, roomier_settled}
+use Rattle.mm_tables.proofs.SectionPaging.{same_tables}
+use Rattle.mm_pages.specs.{Makes}
+use Rattle.mm_pages.proofs.{turns_same}
+use Rattle.mm_types.proofs.{some_found, on_err}
 use Rattle.mm_tables.proofs.tables.Tables.add_paging_section.Given as given
 use Rattle.mm_tables.proofs.tables.Tables.add_paging_section.Goals as goal
 

@@ -1,11 +1,8 @@
 use Rattle.std.proofs.Common.{◌≤◌, ◌∙◌, sym, ap, subst, arith, length, is_some}
-use Rattle.mm_world.specs.Contents.{Tables}
-use Rattle.mm_world.specs.Processes.{most_processes}
-use Rattle.mm_tables.specs.Fits.{FitsTables}
-use Rattle.mm_tables.specs.Sound.{AreKeptTables}
-use Rattle.mm_tables.proofs.Lines.{none_next, more, shown_as, more_kept, more_fits}
-use Rattle.mm_tables.proofs.Standing.{shown_with}
-use Rattle.mm_types.proofs.Options.{on_err}
+use Rattle.mm_world.specs.{Tables, most_processes}
+use Rattle.mm_tables.specs.{FitsTables, AreKeptTables}
+use Rattle.mm_tables.proofs.{none_next, more, shown_as, more_kept, more_fits, shown_with}
+use Rattle.mm_types.proofs.{on_err}
 use Rattle.mm_tables.proofs.tables.Tables.add_process.Goals as goal
 
 pub push_process-requires-clause-new : goal.push_process-requires-clause-new

@@ -1,10 +1,8 @@
 use Rattle.std.proofs.Common.{◌≤◌, ◌+◌, sym, ap, subst, arith}
-use Rattle.mm_types.specs.Machine.{MachineOf}
-use Rattle.mm_world.specs.Contents.{Tables}
-use Rattle.mm_world.specs.Processes.{most_slots}
-use Rattle.mm_tables.specs.Shown.{shown_processes, tables_with, shown_accesses}
-use Rattle.mm_tables.specs.Sound.{AreKeptTables}
-use Rattle.mm_tables.proofs.Lines.{slots_kept}
+use Rattle.mm_types.specs.{MachineOf}
+use Rattle.mm_world.specs.{Tables, most_slots}
+use Rattle.mm_tables.specs.{shown_processes, tables_with, shown_accesses, AreKeptTables}
+use Rattle.mm_tables.proofs.{slots_kept}
 use Rattle.mm_tables.proofs.tables.Tables.add_slots.Goals as goal
 
 pub invariant_of-self : goal.invariant_of-self

@@ -1,16 +1,12 @@
 use Rattle.std.proofs.Common.{refl, ap, sym, subst, arith, ◌∙◌}
-use Rattle.mm_world.specs.Contents.{Tables}
-use Rattle.mm_types.specs.Machine.{limit_of}
-use Rattle.mm_world.specs.Charge.{charge}
-use Rattle.mm_world.specs.Find.{process_of}
+use Rattle.mm_world.specs.{Tables, charge, process_of}
+use Rattle.mm_types.specs.{limit_of}
 use Rattle.mm_world.specs.WellFormed.{WellFormed}
-use Rattle.mm_tables.specs.Shown.{shown_processes}
-use Rattle.mm_tables.specs.Sound.{AreKeptTables}
-use Rattle.mm_tables.proofs.SectionPaging.{same_kept, same_tables}
-use Rattle.mm_tables.proofs.Settled.{roomier_settled}
-use Rattle.mm_tables.proofs.SectionFits.{as_kept}
-use Rattle.mm_tables.proofs.ViewAdded.{AddsView, unbound, few_views, view_kept, view_done, view_settled}
-use Rattle.mm_types.proofs.Options.{some_found, on_err}
+use Rattle.mm_tables.specs.{shown_processes, AreKeptTables}
+use Rattle.mm_tables.proofs.{same_kept, roomier_settled, as_kept, AddsView, unbound, few_views, view_done}
+use Rattle.mm_tables.proofs.SectionPaging.{same_tables}
+use Rattle.mm_tables.proofs.ViewAdded.{view_kept, view_settled}
+use Rattle.mm_types.proofs.{some_found, on_err}
 use Rattle.mm_tables.proofs.tables.Tables.add_view.Given as given
 use Rattle.mm_tables.proofs.tables.Tables.add_view.Goals as goal
 

@@ -1,25 +1,25 @@
 use Rattle.std.proofs.Common.{refl, ◌∙◌, arith}
 use Rattle.mm_pages.specs.Housekeeping.{Ends}
-use Rattle.mm_pages.proofs.Passed.{turns_same}
-use Rattle.mm_tables.proofs.EndingSteps.{whole_inside, whole_can, whole_charged, whole_stays, whole_ends, ends_at}
-use Rattle.mm_tables.proofs.EndingClose.{known, close_held, close_counted, close_step, close_named}
+use Rattle.mm_pages.proofs.{turns_same}
+use Rattle.mm_tables.proofs.{whole_inside, whole_can, whole_charged, whole_stays, whole_ends, ends_at, close_held, close_counted, close_step}
+use Rattle.mm_tables.proofs.{close_named, held_by}
 use Rattle.mm_tables.proofs.tables.Tables.close_handle.Goals as goal
 
 pub close_in-ended-requires : goal.close_in-ended-requires
 close_in-ended-requires g c =
-    let k = known c.self.inside c.args.self.now c.self.view_is c.self.invariant c.args.pid.0 c.index_mut-process.result.now c.requires.lives c.index_mut-process.ensures.value in
+    let k = held_by c.self.inside c.args.self.now c.self.view_is c.self.invariant c.args.pid.0 c.index_mut-process.result.now c.requires.lives c.index_mut-process.ensures.value in
     record { lives = k.there; held = close_held k c.args.handle c.requires.there; counted = close_counted k c.args.handle c.requires.there }
 
 pub index_mut-pages-requires : goal.index_mut-pages-requires
 index_mut-pages-requires g c =
-    let k = known c.self.inside c.args.self.now c.self.view_is c.self.invariant c.args.pid.0 c.index_mut-process.result.now c.requires.lives c.index_mut-process.ensures.value in
+    let k = held_by c.self.inside c.args.self.now c.self.view_is c.self.invariant c.args.pid.0 c.index_mut-process.result.now c.requires.lives c.index_mut-process.ensures.value in
     let w = close_step k c.args.handle c.requires.there c.close_in-ended.new.process c.close_in-ended.ensures.closed c.close_in-ended.ensures.dropped c.close_in-ended.ensures.ended c.requires.fits in
     let inside = whole_inside w c.in-Some.is in
     omega (arith, inside, c.self.inside.areas.ok)
 
 pub end_area-requires : goal.end_area-requires
 end_area-requires g c =
-    let k = known c.self.inside c.args.self.now c.self.view_is c.self.invariant c.args.pid.0 c.index_mut-process.result.now c.requires.lives c.index_mut-process.ensures.value in
+    let k = held_by c.self.inside c.args.self.now c.self.view_is c.self.invariant c.args.pid.0 c.index_mut-process.result.now c.requires.lives c.index_mut-process.ensures.value in
     let w = close_step k c.args.handle c.requires.there c.close_in-ended.new.process c.close_in-ended.ensures.closed c.close_in-ended.ensures.dropped c.close_in-ended.ensures.ended c.requires.fits in
     record {
       can = whole_can w c.in-Some.is c.index_mut-pages.ensures.value c.requires.kind;
@@ -28,19 +28,19 @@ end_area-requires g c =
 
 pub invariant_of-self : goal.invariant_of-self
 invariant_of-self g c =
-    let k = known c.self.inside c.args.self.now c.self.view_is c.self.invariant c.args.pid.0 c.index_mut-process.result.now c.requires.lives c.index_mut-process.ensures.value in
+    let k = held_by c.self.inside c.args.self.now c.self.view_is c.self.invariant c.args.pid.0 c.index_mut-process.result.now c.requires.lives c.index_mut-process.ensures.value in
     let w = close_step k c.args.handle c.requires.there c.close_in-ended.new.process c.close_in-ended.ensures.closed c.close_in-ended.ensures.dropped c.close_in-ended.ensures.ended c.requires.fits in
     (whole_ends w c.in-Some.is c.index_mut-pages.ensures.value c.end_area.ensures.ended c.end_area.ensures.refunded c.end_area.ensures.ends.file c.end_area.ensures.ends.emptied).kept
 
 pub invariant_of-self-in_default : goal.invariant_of-self-in_default
 invariant_of-self-in_default g c =
-    let k = known c.self.inside c.args.self.now c.self.view_is c.self.invariant c.args.pid.0 c.index_mut-process.result.now c.requires.lives c.index_mut-process.ensures.value in
+    let k = held_by c.self.inside c.args.self.now c.self.view_is c.self.invariant c.args.pid.0 c.index_mut-process.result.now c.requires.lives c.index_mut-process.ensures.value in
     let w = close_step k c.args.handle c.requires.there c.close_in-ended.new.process c.close_in-ended.ensures.closed c.close_in-ended.ensures.dropped c.close_in-ended.ensures.ended c.requires.fits in
     (whole_stays w c.in_default.is).kept
 
 pub returns-in-Some : goal.returns-in-Some
 returns-in-Some g c =
-    let k = known c.self.inside c.args.self.now c.self.view_is c.self.invariant c.args.pid.0 c.index_mut-process.result.now c.requires.lives c.index_mut-process.ensures.value in
+    let k = held_by c.self.inside c.args.self.now c.self.view_is c.self.invariant c.args.pid.0 c.index_mut-process.result.now c.requires.lives c.index_mut-process.ensures.value in
     let w = close_step k c.args.handle c.requires.there c.close_in-ended.new.process c.close_in-ended.ensures.closed c.close_in-ended.ensures.dropped c.close_in-ended.ensures.ended c.requires.fits in
     let e = whole_ends w c.in-Some.is c.index_mut-pages.ensures.value c.end_area.ensures.ended c.end_area.ensures.refunded c.end_area.ensures.ends.file c.end_area.ensures.ends.emptied in
     record {
@@ -53,7 +53,7 @@ returns-in-Some g c =
 
 pub returns-in_default : goal.returns-in_default
 returns-in_default g c =
-    let k = known c.self.inside c.args.self.now c.self.view_is c.self.invariant c.args.pid.0 c.index_mut-process.result.now c.requires.lives c.index_mut-process.ensures.value in
+    let k = held_by c.self.inside c.args.self.now c.self.view_is c.self.invariant c.args.pid.0 c.index_mut-process.result.now c.requires.lives c.index_mut-process.ensures.value in
     let w = close_step k c.args.handle c.requires.there c.close_in-ended.new.process c.close_in-ended.ensures.closed c.close_in-ended.ensures.dropped c.close_in-ended.ensures.ended c.requires.fits in
     let e = whole_stays w c.in_default.is in
     record {

@@ -1,13 +1,12 @@
 use Rattle.std.proofs.Common.{◌+◌, ◌<◌, ◌^◌, ℕ, Option, refl, sym, subst, arith, ◌∙◌, ap, is_some, Some}
 use Rattle.std.specs.Prelude.{◌/◌, IfSome}
 use Rattle.mm_pages.specs.Housekeeping.{Ends}
-use Rattle.mm_pages.specs.Leaving.{page_rank}
-use Rattle.mm_pages.proofs.Passed.{turns_same, ends_then, ends_wider}
-use Rattle.mm_types.proofs.Options.{some_found}
-use Rattle.mm_world.specs.Find.{process_of}
-use Rattle.mm_tables.proofs.EndingClose.{closed}
-use Rattle.mm_tables.proofs.EndingExits.{section_there, toward_same, toward_settled, toward_then, after_settled, handles_fewer, no_lowest, below_lowest, next_closed}
-use Rattle.mm_tables.proofs.EndingRanks.{for_settled, ranked_closed}
+use Rattle.mm_pages.specs.{page_rank}
+use Rattle.mm_pages.proofs.{turns_same, ends_then, ends_wider}
+use Rattle.mm_types.proofs.{some_found}
+use Rattle.mm_world.specs.{process_of}
+use Rattle.mm_tables.proofs.{closed, section_there, toward_same, toward_settled, toward_then, after_settled, handles_fewer, no_lowest, below_lowest}
+use Rattle.mm_tables.proofs.{next_closed, for_settled, ranked_closed}
 use Rattle.mm_tables.proofs.tables.Tables.close_handles.Goals as goal
 
 pub close_handle-requires-clause-there : goal.close_handle-requires-clause-there

@@ -1,10 +1,10 @@
 use Rattle.std.proofs.Common.{◌≡◌, ◌≤◌, ◌+◌, ◌^◌, ℕ, true, is_some}
-use Rattle.mm_pages.specs.Housekeeping.{Turns, Ends}
+use Rattle.mm_pages.specs.{Turns, PassesIn}
+use Rattle.mm_pages.specs.Housekeeping.{Ends}
 use Rattle.mm_pages.specs.Leaving.{Leaving}
-use Rattle.mm_pages.specs.Passing.{PassesIn}
-use Rattle.mm_world.specs.Find.{process_of}
-use Rattle.mm_tables.specs.Endings.{Toward, IsRankFor}
-use Rattle.mm_tables.proofs.EndingExits.{open_handles, NoneBelow}
+use Rattle.mm_world.specs.{process_of}
+use Rattle.mm_tables.specs.{Toward, IsRankFor}
+use Rattle.mm_tables.proofs.{open_handles, NoneBelow}
 use Rattle.mm_tables.proofs.tables.Tables.close_handles.Given as goal
 
 abbrev pub invariant-loop-handle : goal.invariant-loop-handle

@@ -1,12 +1,12 @@
 use Rattle.std.proofs.Common.{◌+◌, ◌^◌, ◌∙◌, sym, ap, subst, arith, is_some}
-use Rattle.mm_types.specs.Machine.{limit_of}
-use Rattle.mm_types.proofs.Options.{some_found, on_err}
-use Rattle.mm_world.specs.Find.{region_around}
-use Rattle.mm_world.specs.Rows.{commit}
-use Rattle.mm_commit.specs.Charge.{CommitOf}
-use Rattle.mm_tables.specs.Ranges.{CanAdd, StandsFrom}
-use Rattle.mm_tables.proofs.Settled.{roomier_settled, settled_as, commit_done, ends, can_add, around}
-use Rattle.mm_tables.proofs.Standing.{Held, held_by, still_kept, same_tables, kept_same, around_became, around_changed}
+use Rattle.mm_types.specs.{limit_of}
+use Rattle.mm_types.proofs.{some_found, on_err}
+use Rattle.mm_world.specs.{region_around, commit}
+use Rattle.mm_commit.specs.{CommitOf}
+use Rattle.mm_tables.specs.{CanAdd, StandsFrom}
+use Rattle.mm_tables.proofs.{roomier_settled, settled_as, commit_done, ends, can_add, around, Held, held_by, still_kept, kept_same, around_became}
+use Rattle.mm_tables.proofs.{around_changed, makes_as}
+use Rattle.mm_tables.proofs.Standing.{same_tables}
 use Rattle.mm_tables.proofs.tables.Tables.commit.Given as given
 use Rattle.mm_tables.proofs.tables.Tables.commit.Goals as goal
 use Rattle.mm_tables.proofs.tables.Tables.commit.Goals.{After-index_mut}
@@ -85,17 +85,7 @@ pub returns-clause-among : goal.returns-clause-among
 returns-clause-among g c = stands g (goal.at.returns-clause-among g c).After-index_mut
 
 pub returns-in_err-commit_pages-clause-makes : goal.returns-in_err-commit_pages-clause-makes
-returns-in_err-commit_pages-clause-makes g c = record {
-  later = c.commit_pages.ensures.makes.later;
-  passes = c.commit_pages.ensures.makes.passes;
-  idle = on_err c.from_residual.result c.in_err-commit_pages.ensures.makes.idle;
-  loans = c.commit_pages.ensures.makes.loans;
-}
+returns-in_err-commit_pages-clause-makes g c = makes_as g.G.Pages c.from_residual.result (on_err c.from_residual.result c.in_err-commit_pages.ensures.makes.idle) c.commit_pages.ensures.makes
 
 pub returns-clause-makes : goal.returns-clause-makes
-returns-clause-makes g c = record {
-  later = c.commit_pages.ensures.makes.later;
-  passes = c.commit_pages.ensures.makes.passes;
-  idle = tt;
-  loans = c.commit_pages.ensures.makes.loans;
-}
+returns-clause-makes g c = makes_as g.G.Pages _ tt c.commit_pages.ensures.makes

@@ -1,11 +1,11 @@
-use Rattle.std.proofs.Common.{◌∙◌, refl, ap, arith}
-use Rattle.mm_types.specs.Address.{Range}
-use Rattle.mm_types.proofs.Options.{on_err}
-use Rattle.mm_pages.specs.Housekeeping.{Makes}
-use Rattle.mm_pages.proofs.Passed.{idle_before}
-use Rattle.mm_tables.specs.Shown.{shown_processes}
-use Rattle.mm_tables.proofs.ViewCommitted.{CommitsView, Committed, can_share, view_kept, view_now, view_settled}
-use Rattle.mm_tables.proofs.Settled.{roomier_settled}
+use Rattle.std.proofs.Common.{◌≤◌, ◌∙◌, refl, ap, arith}
+use Rattle.mm_types.specs.{Range}
+use Rattle.mm_types.proofs.{on_err}
+use Rattle.mm_pages.specs.{Makes}
+use Rattle.mm_pages.proofs.{idle_before}
+use Rattle.mm_tables.specs.{shown_processes}
+use Rattle.mm_tables.proofs.{CommitsView, Committed, can_share, view_now, roomier_settled}
+use Rattle.mm_tables.proofs.ViewCommitted.{view_kept, view_settled}
 use Rattle.mm_tables.proofs.tables.Tables.commit_view.Given as given
 use Rattle.mm_tables.proofs.tables.Tables.commit_view.Goals as goal
 
@@ -13,21 +13,8 @@ use Rattle.mm_tables.proofs.tables.Tables.commit_view.Goals as goal
 commits : (g : given.Over) (c : goal.After-range g) → CommitsView c.self.inside c.args.self.now c.args.pid c.args.range c.args.prot c.args.n c.view_around-offset.result.0 c.view_around-offset.result.1 c.range.inside.count (g.G.Pages.contents c.args.g.now) (g.G.Pages.store c.args.g.now)
 commits g c =
     let count = ap (λ (r : Range). r.count) c.range.view_is in
-    record {
-      view = c.self.view_is;
-      kept = c.self.invariant;
-      fits = c.requires.ready.fits;
-      lives = c.requires.ready.lives;
-      inside = c.requires.can.inside;
-      paging = c.requires.can.paging;
-      counted = c.requires.can.counted;
-      accepted = c.requires.can.accepted;
-      private = c.requires.can.allowed;
-      room = c.requires.room;
-      told = c.view_around-offset.ensures;
-      count_is = count;
-      some = omega (arith, c.range.invariant, count);
-    }
+    let some : 1 ≤ c.range.inside.count = omega (arith, c.range.invariant, count) in
+    assumption (count, some)
 
 -- the point before they do, from the end
 abbrev at_range : (g : given.Over) (c : goal.After-take g) → goal.After-range g

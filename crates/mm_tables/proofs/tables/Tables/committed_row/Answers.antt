@@ -1,8 +1,8 @@
 use Rattle.std.proofs.Common.{◌≡◌, Some, sym, subst}
-use Rattle.mm_types.proofs.Options.{some_found}
-use Rattle.mm_world.specs.Find.{process_of}
-use Rattle.mm_spaces.specs.Tables.{told_page_row}
-use Rattle.mm_tables.proofs.OneRow.{in_area}
+use Rattle.mm_types.proofs.{some_found}
+use Rattle.mm_world.specs.{process_of}
+use Rattle.mm_spaces.specs.{told_page_row}
+use Rattle.mm_tables.proofs.{in_area}
 use Rattle.mm_tables.proofs.tables.Tables.committed_row.Goals as goal
 
 pub key_of_row-requires : goal.key_of_row-requires

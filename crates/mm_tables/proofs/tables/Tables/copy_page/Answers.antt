@@ -1,14 +1,9 @@
 use Rattle.std.proofs.Common.{Some, ◌∙◌, sym, ap, subst, is_some}
-use Rattle.mm_world.specs.Contents.{Tables}
-use Rattle.mm_world.specs.Failure.{same_key}
-use Rattle.mm_world.specs.Find.{region_with}
-use Rattle.mm_world.specs.Keys.{committed_at, private_key}
-use Rattle.mm_world.proofs.Finding.{committed_is}
-use Rattle.mm_pages.specs.Store.{changed}
-use Rattle.mm_pages.specs.Conditions.{place_at}
-use Rattle.mm_tables.specs.Fits.{FitsTables, CanCopy, copied}
-use Rattle.mm_tables.proofs.OneRow.{copy_stands, copy_charge, copy_moved, copy_marked, some_with, row_changed, row_kept}
-use Rattle.mm_tables.proofs.Standing.{Held, held_by}
+use Rattle.mm_world.specs.{Tables, same_key, region_with, committed_at, private_key}
+use Rattle.mm_world.proofs.{committed_is}
+use Rattle.mm_pages.specs.{changed, place_at}
+use Rattle.mm_tables.specs.{FitsTables, CanCopy, copied}
+use Rattle.mm_tables.proofs.{copy_stands, copy_charge, copy_moved, copy_marked, some_with, row_changed, row_kept, Held, held_by}
 use Rattle.mm_tables.proofs.tables.Tables.copy_page.Goals as goal
 use Rattle.mm_tables.proofs.tables.Tables.copy_page.Goals.{After-index_mut}
 

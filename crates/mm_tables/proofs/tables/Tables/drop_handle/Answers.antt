@@ -1,7 +1,7 @@
 use Rattle.std.proofs.Common.{arith}
-use Rattle.mm_types.specs.Address.{end_of_user_pages}
-use Rattle.mm_pages.specs.Leaving.{leaving, page_rank}
-use Rattle.mm_tables.proofs.EndingRanks.{for_own}
+use Rattle.mm_types.specs.{end_of_user_pages}
+use Rattle.mm_pages.specs.{leaving, page_rank}
+use Rattle.mm_tables.proofs.{for_own}
 use Rattle.mm_tables.proofs.tables.Tables.drop_handle.Goals as goal
 
 pub returns-clause-passes : goal.returns-clause-passes

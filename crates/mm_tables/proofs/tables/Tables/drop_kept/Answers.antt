@@ -1,10 +1,7 @@
 use Rattle.std.proofs.Common.{sym, ◌∙◌, ap, subst}
-use Rattle.mm_world.specs.World.{Numbered, KeptOf, numbered}
-use Rattle.mm_tables.specs.Sound.{AreKeptTables}
-use Rattle.mm_tables.specs.Shown.{shown_accesses}
-use Rattle.mm_tables.proofs.Keeping.{of_others}
-use Rattle.mm_tables.proofs.Standing.{shown_with}
-use Rattle.mm_tables.proofs.KeptAccesses.{kept_dropped}
+use Rattle.mm_world.specs.{Numbered, KeptOf, numbered}
+use Rattle.mm_tables.specs.{AreKeptTables, shown_accesses}
+use Rattle.mm_tables.proofs.{of_others, shown_with, kept_dropped}
 use Rattle.mm_tables.proofs.tables.Tables.drop_kept.Goals as goal
 
 pub invariant_of-self : goal.invariant_of-self

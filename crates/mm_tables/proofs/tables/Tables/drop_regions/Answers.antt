@@ -1,9 +1,8 @@
 use Rattle.std.proofs.Common.{sym, ◌∙◌, ap, ℕ}
-use Rattle.mm_pages.specs.Store.{StoreOf}
-use Rattle.mm_world.specs.World.{Numbered, numbered}
-use Rattle.mm_types.proofs.Options.{some_found}
-use Rattle.mm_world.specs.Find.{process_of}
-use Rattle.mm_tables.proofs.EndingExits.{toward_then, no_region, regions_fewer, regions_then, regions_end}
+use Rattle.mm_pages.specs.{StoreOf}
+use Rattle.mm_world.specs.{Numbered, numbered, process_of}
+use Rattle.mm_types.proofs.{some_found}
+use Rattle.mm_tables.proofs.{toward_then, no_region, regions_fewer, regions_then, regions_end}
 use Rattle.mm_tables.proofs.tables.Tables.drop_regions.Goals as goal
 
 pub drop_lowest-requires-clause-ready : goal.drop_lowest-requires-clause-ready

@@ -1,13 +1,10 @@
 use Rattle.std.proofs.Common.{◌≡◌, ℕ, true, is_some, Some, length}
-use Rattle.mm_pages.specs.Conditions.{place_at}
-use Rattle.mm_pages.specs.Housekeeping.{Turns, Ends}
-use Rattle.mm_pages.specs.Leaving.{Leaving, page_rank}
-use Rattle.mm_pages.specs.Passing.{PassesIn}
-use Rattle.mm_world.specs.World.{ProcessOf}
-use Rattle.mm_world.specs.Find.{process_of}
-use Rattle.mm_tables.specs.Endings.{Toward, HasNoHandle, IsRankFor}
-use Rattle.mm_tables.proofs.EndingExits.{first_page}
-use Rattle.mm_tables.proofs.OneProcess.{regions_in}
+use Rattle.mm_pages.specs.{place_at, Turns, page_rank, PassesIn}
+use Rattle.mm_pages.specs.Housekeeping.{Ends}
+use Rattle.mm_pages.specs.Leaving.{Leaving}
+use Rattle.mm_world.specs.{ProcessOf, process_of}
+use Rattle.mm_tables.specs.{Toward, HasNoHandle, IsRankFor}
+use Rattle.mm_tables.proofs.{first_page, regions_in}
 use Rattle.mm_tables.proofs.tables.Tables.drop_regions.Given as goal
 
 abbrev pub invariant-loop-info : goal.invariant-loop-info

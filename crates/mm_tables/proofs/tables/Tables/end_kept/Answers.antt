@@ -1,5 +1,5 @@
 use Rattle.std.proofs.Common.{None}
-use Rattle.mm_tables.proofs.KeptAccesses.{put_kept, put_is}
+use Rattle.mm_tables.proofs.{put_kept, put_is}
 use Rattle.mm_tables.proofs.tables.Tables.end_kept.Goals as goal
 
 pub invariant_of-self : goal.invariant_of-self

@@ -1,17 +1,10 @@
 use Rattle.std.proofs.Common.{None, ◌∙◌, ap, sym, subst, arith}
-use Rattle.mm_world.specs.Contents.{Tables}
+use Rattle.mm_world.specs.{Tables, set_process, end_stacks, settle}
 use Rattle.std.specs.Prelude.{◌==◌}
-use Rattle.mm_pages.specs.Store.{StoreOf}
-use Rattle.mm_world.specs.Find.{set_process, end_stacks}
-use Rattle.mm_tables.proofs.StackTables.{nobody_beside}
-use Rattle.mm_world.specs.Sections.{settle}
-use Rattle.mm_tables.proofs.EndingFits.{less_then, beside_then, carries_less}
-use Rattle.mm_tables.proofs.EndingExits.{toward_then, toward_nobody, exit_then}
-use Rattle.mm_types.specs.Address.{end_of_user_pages}
-use Rattle.mm_pages.specs.Leaving.{leaving, goes_with, page_rank}
-use Rattle.mm_tables.specs.Endings.{IsRankFor}
-use Rattle.mm_tables.proofs.EndingRanks.{for_own}
-use Rattle.mm_tables.proofs.Uncommitted.{its_own}
+use Rattle.mm_pages.specs.{StoreOf, leaving, goes_with, page_rank}
+use Rattle.mm_tables.proofs.{nobody_beside, less_then, beside_then, carries_less, toward_then, toward_nobody, exit_then, for_own, its_own}
+use Rattle.mm_types.specs.{end_of_user_pages}
+use Rattle.mm_tables.specs.{IsRankFor}
 use Rattle.mm_tables.proofs.tables.Tables.end_process.Goals as goal
 
 pub drop_regions-requires-clause-ready : goal.drop_regions-requires-clause-ready

@@ -1,5 +1,4 @@
-use Rattle.mm_tables.proofs.Standing.{shown_with}
-use Rattle.mm_tables.proofs.StackTables.{kept_beside}
+use Rattle.mm_tables.proofs.{shown_with, kept_beside}
 use Rattle.mm_tables.proofs.tables.Tables.end_stack_at.Goals as goal
 
 pub invariant_of-self : goal.invariant_of-self

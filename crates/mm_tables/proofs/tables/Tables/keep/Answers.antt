@@ -1,10 +1,6 @@
 use Rattle.std.proofs.Common.{◌≡◌, Some, true, is_some, sym, ◌∙◌, ap, subst}
-use Rattle.mm_world.specs.World.{KeptOf}
-use Rattle.mm_world.specs.Contents.{Tables}
-use Rattle.mm_world.specs.Find.{process_of}
-use Rattle.mm_world.specs.Step.{keep}
-use Rattle.mm_tables.proofs.Standing.{shown_with}
-use Rattle.mm_tables.proofs.KeptAccesses.{put_kept, put_is}
+use Rattle.mm_world.specs.{KeptOf, Tables, process_of, keep}
+use Rattle.mm_tables.proofs.{shown_with, put_kept, put_is}
 use Rattle.mm_tables.proofs.tables.Tables.keep.Goals as goal
 
 pub invariant_of-self : goal.invariant_of-self

@@ -1,4 +1,4 @@
-use Rattle.mm_tables.proofs.EndingExits.{lowest_within}
+use Rattle.mm_tables.proofs.{lowest_within}
 use Rattle.mm_tables.proofs.tables.Tables.lowest.Goals as goal
 
 pub returns-clause-within : goal.returns-clause-within

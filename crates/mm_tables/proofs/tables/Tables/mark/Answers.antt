@@ -1,13 +1,9 @@
 use Rattle.std.proofs.Common.{◌-◌, true, ◌∙◌, ap, is_some}
-use Rattle.mm_types.proofs.Options.{some_found}
-use Rattle.mm_types.specs.Address.{holds_page}
-use Rattle.mm_world.specs.World.{pages_of}
-use Rattle.mm_world.specs.Find.{change_range, region_with}
-use Rattle.mm_world.specs.Keys.{committed_at}
-use Rattle.mm_world.proofs.Finding.{committed_is}
-use Rattle.mm_world.proofs.RowsFit.{length-change_range}
-use Rattle.mm_tables.proofs.Flagged.{flagged, flags_kept, flags_fit}
-use Rattle.mm_tables.proofs.Standing.{Held, held_by}
+use Rattle.mm_types.proofs.{some_found}
+use Rattle.mm_types.specs.{holds_page}
+use Rattle.mm_world.specs.{pages_of, change_range, region_with, committed_at}
+use Rattle.mm_world.proofs.{committed_is, length-change_range}
+use Rattle.mm_tables.proofs.{flagged, flags_kept, flags_fit, Held, held_by}
 use Rattle.mm_tables.proofs.tables.Tables.mark.Goals as goal
 use Rattle.mm_tables.proofs.tables.Tables.mark.Goals.{After-index_mut}
 

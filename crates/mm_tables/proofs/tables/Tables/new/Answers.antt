@@ -1,12 +1,9 @@
 use Rattle.std.proofs.Common.{◌≡◌, ◌≤◌, [], sym, ◌∙◌, ap, subst, arith}
-use Rattle.mm_world.specs.Contents.{Tables}
-use Rattle.mm_world.specs.Step.{first_world}
-use Rattle.mm_commit.specs.Charge.{CommitOf}
-use Rattle.mm_world.specs.World.{Numbered}
-use Rattle.mm_sections.specs.Directories.{CountedSection, DirectoryOf}
-use Rattle.mm_tables.specs.Sound.{AreKeptTables}
-use Rattle.mm_tables.specs.Shown.{shown_processes, shown_accesses, tables_with}
-use Rattle.mm_tables.proofs.KeptAccesses.{first_kept}
+use Rattle.mm_world.specs.{Tables, first_world, Numbered}
+use Rattle.mm_commit.specs.{CommitOf}
+use Rattle.mm_sections.specs.{CountedSection, DirectoryOf}
+use Rattle.mm_tables.specs.{AreKeptTables, shown_processes, shown_accesses, tables_with}
+use Rattle.mm_tables.proofs.{first_kept}
 use Rattle.mm_tables.proofs.tables.Tables.new.Goals as goal
 
 pub invariant_of-result : goal.invariant_of-result

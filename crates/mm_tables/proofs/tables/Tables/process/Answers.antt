@@ -1,5 +1,5 @@
 use Rattle.std.proofs.Common.{◌≡◌, true, false, ◌∙◌, sym, ap, is_some}
-use Rattle.mm_tables.proofs.Standing.{held_by, shown_is}
+use Rattle.mm_tables.proofs.{held_by, shown_is}
 use Rattle.mm_tables.proofs.tables.Tables.process.Goals as goal
 
 pub unreachable-requires : goal.unreachable-requires

@@ -1,11 +1,10 @@
 use Rattle.std.proofs.Common.{refl, ◌∙◌, sym, ap, arith, is_some}
-use Rattle.mm_types.proofs.Options.{some_found, on_err}
-use Rattle.mm_world.specs.Find.{region_around}
-use Rattle.mm_world.specs.Rows.{protected}
-use Rattle.mm_commit.specs.Charge.{CommitOf}
-use Rattle.mm_spaces.specs.Tables.{owned_in}
-use Rattle.mm_tables.proofs.Settled.{roomier_settled, settled_as, protect_done, around, all_owned}
-use Rattle.mm_tables.proofs.Standing.{Held, held_by, still_kept, around_became, around_changed}
+use Rattle.mm_types.proofs.{some_found, on_err}
+use Rattle.mm_world.specs.{region_around, protected}
+use Rattle.mm_commit.specs.{CommitOf}
+use Rattle.mm_spaces.specs.{owned_in}
+use Rattle.mm_tables.proofs.{roomier_settled, settled_as, protect_done, around, Held, held_by, still_kept, around_became, around_changed}
+use Rattle.mm_tables.proofs.Settled.{all_owned}
 use Rattle.mm_tables.proofs.tables.Tables.protect.Given as given
 use Rattle.mm_tables.proofs.tables.Tables.protect.Goals as goal
 use Rattle.mm_tables.proofs.tables.Tables.protect.Goals.{After-index_mut}

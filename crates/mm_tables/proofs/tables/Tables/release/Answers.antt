@@ -1,11 +1,8 @@
 use Rattle.std.proofs.Common.{◌∙◌, ap, subst, sym}
-use Rattle.mm_types.specs.Address.{end_of_user_pages}
-use Rattle.mm_pages.specs.Conditions.{AreAmong}
-use Rattle.mm_pages.specs.Leaving.{leaving, page_rank}
-use Rattle.mm_tables.specs.Fits.{is_uncommitted}
-use Rattle.mm_world.specs.Contents.{Tables}
-use Rattle.mm_world.specs.Find.{end_stacks}
-use Rattle.mm_world.specs.Free.{is_stack_at}
+use Rattle.mm_types.specs.{end_of_user_pages}
+use Rattle.mm_pages.specs.{AreAmong, leaving, page_rank}
+use Rattle.mm_tables.specs.{is_uncommitted}
+use Rattle.mm_world.specs.{Tables, end_stacks, is_stack_at}
 use Rattle.mm_tables.proofs.tables.Tables.release.Goals as goal
 
 pub returns : goal.returns

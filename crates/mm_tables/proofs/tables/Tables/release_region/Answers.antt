@@ -1,10 +1,8 @@
 use Rattle.std.proofs.Common.{◌∙◌, ap, option_map}
 use Rattle.std.specs.Prelude.{remove}
-use Rattle.mm_world.specs.World.{RegionOf, pages_of}
-use Rattle.mm_world.specs.Find.{Found}
-use Rattle.mm_world.specs.Free.{private_at}
-use Rattle.mm_tables.proofs.Standing.{held_by}
-use Rattle.mm_tables.proofs.Uncommitted.{release_end, release_inside, release_bound, release_can, release_freed, release_among, freed_charged, freed_kept, freed_settled, freed_named}
+use Rattle.mm_world.specs.{RegionOf, pages_of, Found, private_at}
+use Rattle.mm_tables.proofs.{given_less, held_by, release_end, release_inside, release_can, release_freed, release_among, freed_charged, freed_kept}
+use Rattle.mm_tables.proofs.{freed_settled, freed_named}
 use Rattle.mm_tables.proofs.tables.Tables.release_region.Goals as goal
 
 pub release_pages-freed-requires : goal.release_pages-freed-requires
@@ -16,7 +14,6 @@ release_pages-freed-requires g c =
         there = ap (λ rs. option_map (λ (r : Found (RegionOf (Unit {0}))). pages_of r.thing) (private_at rs c.args.addr)) h.same ∙ c.requires.there h.process h.lives;
         inside = release_inside c.args.pid h c.args.addr c.args.range c.requires.there c.requires.ready.fits;
       };
-      bound = release_bound c.args.pid h c.args.addr c.args.range c.requires.there c.requires.ready.fits;
       can = record {
         end = release_end c.args.pid h c.args.addr c.args.range c.requires.there c.requires.ready.fits;
         can = release_can c.args.pid h c.args.addr c.args.range c.requires.there c.requires.ready.fits c.requires.ready.kind_is;
@@ -27,27 +24,28 @@ pub refund-requires : goal.refund-requires
 refund-requires g c =
     let h = held_by c.self.inside c.args.self.now c.self.view_is c.self.invariant c.args.pid.0 c.index_mut.result.now c.requires.ready.lives c.index_mut.ensures.value in
     let f = release_freed c.args.pid h c.args.addr c.args.range c.requires.there c.requires.ready.fits
-    c.release_pages-freed.ensures.owned c.release_pages-freed.ensures.changed c.release_pages-freed.ensures.removes.stored c.release_pages-freed.ensures.removes.counted c.release_pages-freed.ensures.removes.room in
+    c.release_pages-freed.ensures.owned c.release_pages-freed.ensures.changed c.release_pages-freed.ensures.gives_up.given_up in
     freed_charged c.args.pid h f
 
 pub invariant_of-self : goal.invariant_of-self
 invariant_of-self g c =
     let h = held_by c.self.inside c.args.self.now c.self.view_is c.self.invariant c.args.pid.0 c.index_mut.result.now c.requires.ready.lives c.index_mut.ensures.value in
     let f = release_freed c.args.pid h c.args.addr c.args.range c.requires.there c.requires.ready.fits
-    c.release_pages-freed.ensures.owned c.release_pages-freed.ensures.changed c.release_pages-freed.ensures.removes.stored c.release_pages-freed.ensures.removes.counted c.release_pages-freed.ensures.removes.room in
+    c.release_pages-freed.ensures.owned c.release_pages-freed.ensures.changed c.release_pages-freed.ensures.gives_up.given_up in
     freed_kept c.args.pid h f c.refund.new.self c.refund.ensures
 
 pub returns : goal.returns
 returns g c =
     let h = held_by c.self.inside c.args.self.now c.self.view_is c.self.invariant c.args.pid.0 c.index_mut.result.now c.requires.ready.lives c.index_mut.ensures.value in
     let f = release_freed c.args.pid h c.args.addr c.args.range c.requires.there c.requires.ready.fits
-    c.release_pages-freed.ensures.owned c.release_pages-freed.ensures.changed c.release_pages-freed.ensures.removes.stored c.release_pages-freed.ensures.removes.counted c.release_pages-freed.ensures.removes.room in
+    c.release_pages-freed.ensures.owned c.release_pages-freed.ensures.changed c.release_pages-freed.ensures.gives_up.given_up in
     record {
       changed = freed_named h c.release_pages-freed.new.process (λ rs. private_at rs c.args.addr) (λ rs r. remove rs r.place) c.release_pages-freed.ensures.changed;
+      less = given_less c.release_pages-freed.ensures.gives_up.given_up;
       frees = record {
         settled = freed_settled c.args.pid h f;
-        among = release_among c.args.pid h c.args.addr c.args.range c.requires.there c.requires.ready.fits f c.release_pages-freed.ensures.removes.stored;
-        passes = c.release_pages-freed.ensures.ends.passes;
-        loans = c.release_pages-freed.ensures.ends.loans;
+        among = release_among c.args.pid h c.args.addr c.args.range c.requires.there c.requires.ready.fits f c.release_pages-freed.ensures.gives_up.given_up;
+        passes = c.release_pages-freed.ensures.gives_up.passes;
+        loans = c.release_pages-freed.ensures.gives_up.loans;
       };
     }

@@ -1,8 +1,7 @@
-use Rattle.mm_types.specs.Address.{end_of_user_pages}
-use Rattle.mm_pages.specs.Leaving.{leaving, page_rank}
-use Rattle.mm_tables.specs.Fits.{is_uncommitted}
-use Rattle.mm_tables.proofs.EndingRanks.{for_own}
-use Rattle.mm_tables.proofs.Uncommitted.{among_unbound}
+use Rattle.mm_types.specs.{end_of_user_pages}
+use Rattle.mm_pages.specs.{leaving, page_rank}
+use Rattle.mm_tables.specs.{is_uncommitted}
+use Rattle.mm_tables.proofs.{for_own, among_unbound}
 use Rattle.mm_tables.proofs.tables.Tables.remove_view.Goals as goal
 
 pub returns-clause-passes : goal.returns-clause-passes

@@ -2,20 +2,13 @@ use Rattle.std.proofs.Common.{◌+◌, ◌^◌, sym, ap, subst, arith, not}
 use Rattle.std.specs.Prelude.{nat_le}
 use Rattle.std.specs.List.{list_any}
 use Rattle.std.proofs.lemmas.Bool.{leb-true}
-use Rattle.mm_types.proofs.Booleans.{parts}
-use Rattle.mm_types.specs.Address.{Range, are_user_pages, first_user_page, end_of, end_of_user_pages, meets}
-use Rattle.mm_types.specs.Machine.{limit_of}
-use Rattle.mm_types.proofs.Options.{on_err}
-use Rattle.mm_world.specs.Alloc.{private_region}
-use Rattle.mm_world.specs.Contents.{blank}
-use Rattle.mm_world.specs.Find.{ranges_of, add_region}
-use Rattle.mm_commit.specs.Charge.{CommitOf}
-use Rattle.mm_tables.specs.Effects.{CanMake}
-use Rattle.mm_tables.specs.Promises.{IsNewRange}
-use Rattle.mm_tables.specs.Ranges.{StandsFrom}
-use Rattle.mm_tables.specs.Spaces.{RegionsBecame}
-use Rattle.mm_tables.proofs.Settled.{roomier_settled, settled_as, reserve_done, can_make}
-use Rattle.mm_tables.proofs.Standing.{Held, held_by, regions_by, still_kept, same_tables, kept_same}
+use Rattle.mm_types.proofs.{parts, on_err}
+use Rattle.mm_types.specs.{Range, are_user_pages, first_user_page, end_of, end_of_user_pages, meets, limit_of}
+use Rattle.mm_world.specs.{private_region, blank, ranges_of, add_region}
+use Rattle.mm_commit.specs.{CommitOf}
+use Rattle.mm_tables.specs.{CanMake, IsNewRange, StandsFrom, RegionsBecame}
+use Rattle.mm_tables.proofs.{roomier_settled, settled_as, reserve_done, can_make, Held, held_by, regions_by, still_kept, kept_same, makes_as}
+use Rattle.mm_tables.proofs.Standing.{same_tables}
 use Rattle.mm_tables.proofs.tables.Tables.reserve.Given as given
 use Rattle.mm_tables.proofs.tables.Tables.reserve.Goals as goal
 use Rattle.mm_tables.proofs.tables.Tables.reserve.Goals.{After-index_mut-process}
@@ -88,17 +81,7 @@ pub returns-clause-among : goal.returns-clause-among
 returns-clause-among g c = stands g (goal.at.returns-clause-among g c).After-index_mut-process
 
 pub returns-in_err-make_region-clause-makes : goal.returns-in_err-make_region-clause-makes
-returns-in_err-make_region-clause-makes g c = record {
-  later = c.make_region.ensures.makes.later;
-  passes = c.make_region.ensures.makes.passes;
-  idle = on_err c.from_residual.result c.in_err-make_region.ensures.makes.idle;
-  loans = c.make_region.ensures.makes.loans;
-}
+returns-in_err-make_region-clause-makes g c = makes_as g.G.Pages c.from_residual.result (on_err c.from_residual.result c.in_err-make_region.ensures.makes.idle) c.make_region.ensures.makes
 
 pub returns-clause-makes : goal.returns-clause-makes
-returns-clause-makes g c = record {
-  later = c.make_region.ensures.makes.later;
-  passes = c.make_region.ensures.makes.passes;
-  idle = tt;
-  loans = c.make_region.ensures.makes.loans;
-}
+returns-clause-makes g c = makes_as g.G.Pages _ tt c.make_region.ensures.makes

@@ -1,11 +1,8 @@
 use Rattle.std.proofs.Common.{◌&&◌, ◌-◌, false, ap, is_some, ◌∙◌}
-use Rattle.mm_types.specs.Address.{lies_within}
-use Rattle.mm_world.specs.World.{pages_of}
-use Rattle.mm_world.specs.Find.{change_range}
-use Rattle.mm_world.specs.Watch.{watched_around}
-use Rattle.mm_world.proofs.RowsFit.{length-change_range}
-use Rattle.mm_tables.proofs.Flagged.{flagged, none_found, either_kept, either_fit}
-use Rattle.mm_tables.proofs.Standing.{Held, held_by, regions_by}
+use Rattle.mm_types.specs.{lies_within}
+use Rattle.mm_world.specs.{pages_of, change_range, watched_around}
+use Rattle.mm_world.proofs.{length-change_range}
+use Rattle.mm_tables.proofs.{flagged, none_found, either_kept, either_fit, Held, held_by, regions_by}
 use Rattle.mm_tables.proofs.tables.Tables.reset_written.Goals as goal
 use Rattle.mm_tables.proofs.tables.Tables.reset_written.Goals.{After-index_mut}
 

@@ -1,7 +1,7 @@
 use Rattle.std.proofs.Common.{ap, arith}
-use Rattle.mm_world.specs.Contents.{Tables}
-use Rattle.mm_tables.specs.Shown.{shown_processes, tables_with, shown_accesses}
-use Rattle.mm_tables.proofs.Lines.{fail_kept}
+use Rattle.mm_world.specs.{Tables}
+use Rattle.mm_tables.specs.{shown_processes, tables_with, shown_accesses}
+use Rattle.mm_tables.proofs.{fail_kept}
 use Rattle.mm_tables.proofs.tables.Tables.take_fail.Goals as goal
 
 pub invariant_of-self : goal.invariant_of-self

@@ -1,12 +1,9 @@
 use Rattle.std.proofs.Common.{false, ◌∙◌, sym, ap, subst, is_some}
-use Rattle.mm_types.proofs.Options.{some_found}
-use Rattle.mm_world.specs.Contents.{Tables}
-use Rattle.mm_world.specs.Find.{region_with}
-use Rattle.mm_world.specs.Keys.{committed_at}
-use Rattle.mm_world.proofs.Finding.{committed_is}
-use Rattle.mm_tables.specs.Fits.{FitsTables}
-use Rattle.mm_tables.proofs.OneRow.{guard_stands, guard_charge, guard_moved, row_changed, row_kept}
-use Rattle.mm_tables.proofs.Standing.{Held, held_by}
+use Rattle.mm_types.proofs.{some_found}
+use Rattle.mm_world.specs.{Tables, region_with, committed_at}
+use Rattle.mm_world.proofs.{committed_is}
+use Rattle.mm_tables.specs.{FitsTables}
+use Rattle.mm_tables.proofs.{guard_stands, guard_charge, guard_moved, row_changed, row_kept, Held, held_by}
 use Rattle.mm_tables.proofs.tables.Tables.take_guard_off.Goals as goal
 use Rattle.mm_tables.proofs.tables.Tables.take_guard_off.Goals.{After-index_mut}
 

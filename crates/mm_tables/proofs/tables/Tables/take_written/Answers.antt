@@ -1,11 +1,9 @@
 use Rattle.std.proofs.Common.{◌&&◌, ap, is_some, ◌∙◌}
 use Rattle.std.specs.Prelude.{map, option_map}
-use Rattle.mm_types.specs.Address.{address_of, lies_within}
-use Rattle.mm_world.specs.World.{pages_of}
-use Rattle.mm_world.specs.Watch.{watched_around, written_in, unwritten}
-use Rattle.mm_world.proofs.Spaces.{length-unwritten}
-use Rattle.mm_tables.proofs.Flagged.{flagged, none_found, either_kept, either_fit}
-use Rattle.mm_tables.proofs.Standing.{Held, held_by, regions_by}
+use Rattle.mm_types.specs.{address_of, lies_within}
+use Rattle.mm_world.specs.{pages_of, watched_around, written_in, unwritten}
+use Rattle.mm_world.proofs.{length-unwritten}
+use Rattle.mm_tables.proofs.{flagged, none_found, either_kept, either_fit, Held, held_by, regions_by}
 use Rattle.mm_tables.proofs.tables.Tables.take_written.Goals as goal
 use Rattle.mm_tables.proofs.tables.Tables.take_written.Goals.{After-index_mut}
 

@@ -1,7 +1,7 @@
 use Rattle.std.proofs.Common.{sym, subst}
-use Rattle.mm_world.specs.Free.{is_stack_at}
-use Rattle.mm_tables.specs.Stacks.{StandBelow}
-use Rattle.mm_tables.proofs.StackTables.{below_too}
+use Rattle.mm_world.specs.{is_stack_at}
+use Rattle.mm_tables.specs.{StandBelow}
+use Rattle.mm_tables.proofs.{below_too}
 use Rattle.mm_tables.proofs.thread_stacks.Stacks.end_at.Goals as goal
 
 pub invariant_of-self : goal.invariant_of-self

@@ -1,8 +1,8 @@
 use Rattle.std.proofs.Common.{sym, subst}
 use Rattle.std.specs.Prelude.{◌==◌}
-use Rattle.mm_world.specs.World.{StackOf}
-use Rattle.mm_tables.specs.Stacks.{StandBelow}
-use Rattle.mm_tables.proofs.StackTables.{below_too}
+use Rattle.mm_world.specs.{StackOf}
+use Rattle.mm_tables.specs.{StandBelow}
+use Rattle.mm_tables.proofs.{below_too}
 use Rattle.mm_tables.proofs.thread_stacks.Stacks.end_in.Goals as goal
 
 pub invariant_of-self : goal.invariant_of-self

@@ -1,5 +1,5 @@
-use Rattle.mm_world.specs.Step.{threads}
-use Rattle.mm_tables.proofs.StackTables.{none_yet}
+use Rattle.mm_world.specs.{threads}
+use Rattle.mm_tables.proofs.{none_yet}
 use Rattle.mm_tables.proofs.thread_stacks.Stacks.new.Goals as goal
 
 pub invariant_of-result : goal.invariant_of-result

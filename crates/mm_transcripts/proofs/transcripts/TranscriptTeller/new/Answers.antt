@@ -1,5 +1,5 @@
-use Rattle.mm_classes.specs.Marking.{marks_of}
-use Rattle.mm_transcripts.proofs.Telling.{row_first}
+use Rattle.mm_classes.specs.{marks_of}
+use Rattle.mm_transcripts.proofs.{row_first}
 use Rattle.mm_transcripts.proofs.transcripts.TranscriptTeller.new.Goals as goal
 
 pub returns : goal.returns

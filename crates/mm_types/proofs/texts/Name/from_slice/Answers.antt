@@ -1,5 +1,5 @@
 use Rattle.std.proofs.Common.{arith, ap, length}
-use Rattle.mm_types.proofs.Paddings.{padded_front}
+use Rattle.mm_types.proofs.{padded_front}
 use Rattle.mm_types.proofs.texts.Name.from_slice.Goals as goal
 
 pub invariant_of-result : goal.invariant_of-result

@@ -1,5 +1,5 @@
 use Rattle.std.proofs.Common.{arith, ap, length, length-take}
-use Rattle.mm_types.proofs.Paddings.{padded_push}
+use Rattle.mm_types.proofs.{padded_push}
 use Rattle.mm_types.proofs.texts.PageList.push.Goals as goal
 
 pub invariant_of-self : goal.invariant_of-self

@@ -1,7 +1,7 @@
 use Rattle.std.proofs.Common.{◌∙◌, ◌+◌, ap, refl, false, List, length, arith}
 use Rattle.std.specs.Prelude.{Bool}
-use Rattle.mm_world.specs.Find.{change_range}
-use Rattle.mm_vad.proofs.FlagLemmas.{flags_become, length-flags}
+use Rattle.mm_world.specs.{change_range}
+use Rattle.mm_vad.proofs.{flags_become, length-flags}
 use Rattle.mm_vad.proofs.bits.Bits.clear.Goals as goal
 
 pub put_bits-requires-clause-within : goal.put_bits-requires-clause-within

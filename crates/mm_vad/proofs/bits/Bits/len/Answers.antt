@@ -1,5 +1,5 @@
 use Rattle.std.proofs.Common.{◌∙◌, sym, ap, length}
-use Rattle.mm_vad.proofs.FlagLemmas.{length-flags}
+use Rattle.mm_vad.proofs.{length-flags}
 use Rattle.mm_vad.proofs.bits.Bits.len.Goals as goal
 
 pub returns : goal.returns

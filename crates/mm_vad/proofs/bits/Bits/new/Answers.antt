@@ -1,6 +1,6 @@
 use Rattle.std.proofs.Common.{◌≡◌, ◌∙◌, ◌+◌, ◌/◌, ap, ℕ, List, replicate, rules}
-use Rattle.mm_vad.specs.Bits.{word_flags}
-use Rattle.mm_vad.proofs.FlagLemmas.{flags_zero}
+use Rattle.mm_vad.specs.{word_flags}
+use Rattle.mm_vad.proofs.{flags_zero}
 use Rattle.mm_vad.proofs.bits.Bits.new.Goals as goal
 
 pub returns : goal.returns

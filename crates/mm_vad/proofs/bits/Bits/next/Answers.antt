@@ -1,7 +1,7 @@
 use Rattle.std.proofs.Common.{ap, subst, List, length, arith}
 use Rattle.std.specs.Prelude.{Bool}
-use Rattle.mm_vad.specs.Bits.{IsNextSet, NoneSet, bit_flag}
-use Rattle.mm_vad.proofs.FlagLemmas.{next_flagged, none_flagged, length-flags}
+use Rattle.mm_vad.specs.{IsNextSet, NoneSet, bit_flag}
+use Rattle.mm_vad.proofs.{next_flagged, none_flagged, length-flags}
 use Rattle.mm_vad.proofs.bits.Bits.next.Goals as goal
 
 pub next_set-requires-clause-within : goal.next_set-requires-clause-within

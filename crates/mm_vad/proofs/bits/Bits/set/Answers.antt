@@ -1,9 +1,8 @@
 use Rattle.std.proofs.Common.{◌∙◌, ◌+◌, ◌/◌, ◌%◌, ◌<◌, ap, true, List, length, arith}
 use Rattle.std.specs.Prelude.{Bool}
-use Rattle.mm_world.specs.Find.{change_range}
-use Rattle.mm_bits.proofs.BitLemmas.{word_becomes}
-use Rattle.mm_vad.proofs.BitLemmas.{set_one}
-use Rattle.mm_vad.proofs.FlagLemmas.{flags_become, length-flags}
+use Rattle.mm_world.specs.{change_range}
+use Rattle.mm_bits.proofs.{word_becomes}
+use Rattle.mm_vad.proofs.{set_one, flags_become, length-flags}
 use Rattle.mm_vad.proofs.bits.Bits.set.Goals as goal
 
 pub index-word-requires : goal.index-word-requires

@@ -1,5 +1,5 @@
 use Rattle.std.proofs.Common.{arith, length, ap}
-use Rattle.mm_vad.proofs.Chunked.{rows_seen, length-chunks}
+use Rattle.mm_vad.proofs.{rows_seen, length-chunks}
 use Rattle.mm_vad.proofs.chunks.Chunks.count.Goals as goal
 
 pub returns : goal.returns

@@ -1,10 +1,8 @@
 use Rattle.std.proofs.Common.{List, [], sym, ◌∙◌, subst, arith}
 use Rattle.std.proofs.lemmas.List.{get_or_read}
-use Rattle.mm_vad.specs.declared.pages.Row.{Row}
+use Rattle.mm_vad.specs.{Row, StartsRun}
 use Rattle.mm_vad.specs.declared.chunks.Chunk.TheVariants as chunk
-use Rattle.mm_vad.specs.Chunks.{StartsRun}
-use Rattle.mm_vad.proofs.Chunked.{rows_seen, inside, rows_read, place_read}
-use Rattle.mm_vad.proofs.Joined.{equal_part}
+use Rattle.mm_vad.proofs.{rows_seen, inside, rows_read, place_read, equal_part}
 use Rattle.mm_vad.proofs.chunks.Chunks.equal_from.Goals as goal
 
 pub index-requires : goal.index-requires

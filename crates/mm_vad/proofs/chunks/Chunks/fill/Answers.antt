@@ -2,11 +2,11 @@ use Rattle.std.proofs.Common.{◌≡◌, ◌<◌, ℕ, [], List, Option, Some, N
 use Rattle.std.specs.Prelude.{min, vec_capacity, IfSome}
 use Rattle.std.proofs.Common.{rules}
 use Rattle.std.proofs.lemmas.List.{get_or_read, set-get_or}
-use Rattle.mm_vad.specs.declared.pages.Row.{Row}
+use Rattle.mm_vad.specs.{Row, chunks_of, AreWritten, place_after, places_after, filled_rows}
 use Rattle.mm_vad.specs.declared.chunks.Chunk.TheVariants as chunk
-use Rattle.mm_vad.specs.Chunks.{chunks_of, AreWritten, place_after, places_after, filled_rows}
-use Rattle.mm_vad.proofs.Chunked.{rows_seen, rows_same, chunks_become, inside, stands, rows_read, place_read, room_left, written_out, chunk_written, rows_written}
-use Rattle.mm_vad.proofs.Joined.{equal_part, equal_unless_other, filled_same, filled_whole}
+use Rattle.mm_vad.proofs.{rows_seen, rows_same, chunks_become, inside, stands, rows_read, place_read, room_left, written_out, chunk_written}
+use Rattle.mm_vad.proofs.{equal_part, equal_unless_other, filled_same, filled_whole}
+use Rattle.mm_vad.proofs.Chunked.{rows_written}
 use Rattle.mm_vad.proofs.chunks.Chunks.fill.Goals as goal
 
 if_placed : (place : Option ℕ) (n : ℕ) → ((k : ℕ) → place ≡ Some k → k < n) → IfSome place (λ k. k < n)

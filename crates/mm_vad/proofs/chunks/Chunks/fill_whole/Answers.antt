@@ -1,8 +1,7 @@
 use Rattle.std.proofs.Common.{◌≡◌, List, set, replicate, refl, sym, ap, ◌∙◌, arith, length-set}
-use Rattle.mm_vad.specs.declared.pages.Row.{Row}
+use Rattle.mm_vad.specs.{Row, place_of_chunk}
 use Rattle.mm_vad.specs.declared.chunks.Chunk.TheVariants as chunk
-use Rattle.mm_vad.specs.Chunks.{place_of_chunk}
-use Rattle.mm_vad.proofs.Chunked.{rows_seen, chunks_become, inside, place_read, places_kept, owned_same, chunk_filled}
+use Rattle.mm_vad.proofs.{rows_seen, chunks_become, inside, place_read, places_kept, owned_same, chunk_filled}
 use Rattle.mm_vad.proofs.chunks.Chunks.fill_whole.Goals as goal
 
 pub index-requires : goal.index-requires

@@ -1,6 +1,6 @@
 use Rattle.std.proofs.Common.{arith}
 use Rattle.mm_vad.specs.declared.chunks.Chunk.TheVariants as chunk
-use Rattle.mm_vad.proofs.Chunked.{rows_seen, inside, rows_read, place_read, equal_read, each_read}
+use Rattle.mm_vad.proofs.{rows_seen, inside, rows_read, place_read, equal_read, each_read}
 use Rattle.mm_vad.proofs.chunks.Chunks.get.Goals as goal
 
 pub index-requires : goal.index-requires

@@ -1,7 +1,6 @@
 use Rattle.std.proofs.Common.{List, ap}
-use Rattle.mm_vad.specs.declared.chunks.Chunk.{Chunk}
-use Rattle.mm_vad.specs.Chunks.{chunks_of}
-use Rattle.mm_vad.proofs.Chunked.{no_chunks}
+use Rattle.mm_vad.specs.{Chunk, chunks_of}
+use Rattle.mm_vad.proofs.{no_chunks}
 use Rattle.mm_vad.proofs.chunks.Chunks.new.Goals as goal
 
 pub invariant_of-result : goal.invariant_of-result

@@ -1,5 +1,5 @@
 use Rattle.std.proofs.Common.{arith}
-use Rattle.mm_vad.proofs.Chunked.{room_seen, chunks_made, rows_made}
+use Rattle.mm_vad.proofs.{room_seen, chunks_made, rows_made}
 use Rattle.mm_vad.proofs.chunks.Chunks.renew.Goals as goal
 
 pub invariant_of-self : goal.invariant_of-self

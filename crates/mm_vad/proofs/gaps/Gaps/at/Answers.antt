@@ -1,6 +1,6 @@
 use Rattle.std.proofs.Common.{arith}
-use Rattle.mm_types.specs.Address.{first_user_page}
-use Rattle.mm_vad.proofs.Apart.{apart_from_below}
+use Rattle.mm_types.specs.{first_user_page}
+use Rattle.mm_vad.proofs.{apart_from_below}
 use Rattle.mm_vad.proofs.gaps.Gaps.at.Goals as goal
 
 pub at-requires : goal.at-requires

@@ -1,8 +1,7 @@
 use Rattle.std.proofs.Common.{◌≡◌, sym, ap, ◌∙◌, subst, arith}
-use Rattle.mm_types.specs.Address.{first_user_page}
-use Rattle.mm_vad.specs.Ranges.{LieApart, range_at, add_range}
-use Rattle.mm_vad.proofs.Apart.{apart_from_below, length-apart}
-use Rattle.mm_vad.proofs.RangeChanges.{add_free}
+use Rattle.mm_types.specs.{first_user_page}
+use Rattle.mm_vad.specs.{LieApart, range_at, add_range}
+use Rattle.mm_vad.proofs.{apart_from_below, length-apart, add_free}
 use Rattle.mm_vad.proofs.gaps.Gaps.insert.Goals as goal
 
 pub insert-requires-clause-apart : goal.insert-requires-clause-apart

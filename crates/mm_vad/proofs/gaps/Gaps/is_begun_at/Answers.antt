@@ -1,7 +1,7 @@
 use Rattle.std.proofs.Common.{ap, sym, ◌∙◌}
 use Rattle.std.specs.Prelude.{find, nat_le}
-use Rattle.mm_types.specs.Address.{first_user_page}
-use Rattle.mm_vad.proofs.FreeAt.{begins_at, begun_is, mapped_none, mapped_begins_at}
+use Rattle.mm_types.specs.{first_user_page}
+use Rattle.mm_vad.proofs.{begins_at, begun_is, mapped_none, mapped_begins_at}
 use Rattle.mm_vad.proofs.gaps.Gaps.is_begun_at.Goals as goal
 
 pub returns-in-None : goal.returns-in-None

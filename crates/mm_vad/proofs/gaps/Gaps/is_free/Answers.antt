@@ -1,11 +1,11 @@
 use Rattle.std.proofs.Common.{◌+◌, ap, sym, ◌∙◌, not, arith}
 use Rattle.std.specs.Prelude.{is_some, find, nat_le}
 use Rattle.std.proofs.lemmas.Bool.{and_right}
-use Rattle.mm_types.specs.Address.{first_user_page, holds_page, are_user_pages}
-use Rattle.mm_vad.specs.Ranges.{range_at}
-use Rattle.mm_vad.proofs.FreeAt.{begins_from, met_at, met_is, is_free-from, not_not, mapped_none, mapped_some, mapped_begins_from}
+use Rattle.mm_types.specs.{first_user_page, holds_page, are_user_pages}
+use Rattle.mm_vad.specs.{range_at}
+use Rattle.mm_vad.proofs.{begins_from, met_at, met_is, is_free-from, not_not, mapped_none, mapped_some, mapped_begins_from}
 use Rattle.mm_vad.proofs.gaps.Gaps.is_free.Goals as goal
-use Rattle.mm_types.proofs.Options.{none_of}
+use Rattle.mm_types.proofs.{none_of}
 
 pub returns-then-is_some : goal.returns-then-is_some
 returns-then-is_some c =

@@ -1,9 +1,7 @@
 use Rattle.std.proofs.Common.{length, option_map, ap, sym, ◌∙◌, subst}
-use Rattle.mm_types.specs.Address.{lowest_gap}
-use Rattle.mm_vad.specs.Ranges.{page_number}
-use Rattle.mm_vad.specs.Visits.{VisitsFew}
-use Rattle.mm_vad.proofs.Few.{visits_few}
-use Rattle.mm_vad.proofs.LowestGap.{lowest_gap-fit}
+use Rattle.mm_types.specs.{lowest_gap}
+use Rattle.mm_vad.specs.{page_number, VisitsFew}
+use Rattle.mm_vad.proofs.{visits_few, lowest_gap-fit}
 use Rattle.mm_vad.proofs.gaps.Gaps.lowest_gap.Goals as goal
 
 pub returns-in-None-clause-found : goal.returns-in-None-clause-found

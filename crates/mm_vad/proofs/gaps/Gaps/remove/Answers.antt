@@ -1,8 +1,7 @@
 use Rattle.std.proofs.Common.{◌≡◌, sym, subst, arith}
-use Rattle.mm_types.specs.Address.{first_user_page}
-use Rattle.mm_vad.specs.Ranges.{LieApart, remove_range}
-use Rattle.mm_vad.proofs.Apart.{apart_from_below, length-apart}
-use Rattle.mm_vad.proofs.RangeChanges.{remove_apart}
+use Rattle.mm_types.specs.{first_user_page}
+use Rattle.mm_vad.specs.{LieApart, remove_range}
+use Rattle.mm_vad.proofs.{apart_from_below, length-apart, remove_apart}
 use Rattle.mm_vad.proofs.gaps.Gaps.remove.Goals as goal
 
 pub remove-requires-clause-apart : goal.remove-requires-clause-apart

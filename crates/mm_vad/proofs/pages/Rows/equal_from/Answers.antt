@@ -1,7 +1,6 @@
 use Rattle.std.proofs.Common.{List, length, take, drop, ap, ◌∙◌, arith}
-use Rattle.mm_vad.specs.declared.pages.Row.{Row}
-use Rattle.mm_vad.proofs.Joined.{equal_part}
-use Rattle.mm_vad.proofs.OneRow.{as_one, as_written, length-rows}
+use Rattle.mm_vad.specs.{Row}
+use Rattle.mm_vad.proofs.{equal_part, as_one, as_written, length-rows}
 use Rattle.mm_vad.proofs.pages.Rows.equal_from.Goals as goal
 
 pub returns-in-Some-clause-equal : goal.returns-in-Some-clause-equal

@@ -1,7 +1,6 @@
 use Rattle.std.proofs.Common.{◌+◌, ◌≤◌, List, length, ap, ◌∙◌, arith}
-use Rattle.mm_vad.specs.declared.pages.Row.{Row}
-use Rattle.mm_vad.specs.Chunks.{filled_rows}
-use Rattle.mm_vad.proofs.Joined.{filled_none, filled-more}
+use Rattle.mm_vad.specs.{Row, filled_rows}
+use Rattle.mm_vad.proofs.{filled_none, filled-more}
 use Rattle.mm_vad.proofs.pages.Rows.fill.Goals as goal
 
 pub loop-done-init : goal.loop-done-init

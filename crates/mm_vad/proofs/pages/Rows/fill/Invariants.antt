@@ -1,5 +1,5 @@
 use Rattle.std.proofs.Common.{◌≡◌, ◌+◌, ◌-◌, ◌^◌, ◌<◌, ◌≤◌}
-use Rattle.mm_vad.specs.Chunks.{filled_rows}
+use Rattle.mm_vad.specs.{filled_rows}
 use Rattle.mm_vad.proofs.pages.Rows.fill.Given as goal
 
 abbrev pub invariant-loop-done : goal.invariant-loop-done

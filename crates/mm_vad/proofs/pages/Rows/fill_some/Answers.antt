@@ -1,6 +1,5 @@
 use Rattle.std.proofs.Common.{sym, ◌∙◌, arith}
-use Rattle.mm_vad.proofs.Joined.{equal_if_eq}
-use Rattle.mm_vad.proofs.OneRow.{as_one, length-rows, filled_equal}
+use Rattle.mm_vad.proofs.{equal_if_eq, as_one, length-rows, filled_equal}
 use Rattle.mm_vad.proofs.pages.Rows.fill_some.Goals as goal
 
 pub returns-then-eq : goal.returns-then-eq

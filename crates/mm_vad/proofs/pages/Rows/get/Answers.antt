@@ -1,8 +1,7 @@
 use Rattle.std.proofs.Common.{List, length, ap, ◌∙◌, arith}
 use Rattle.std.specs.Prelude.{slice_get}
-use Rattle.mm_vad.specs.declared.pages.Row.{Row}
-use Rattle.mm_vad.proofs.Chunked.{equal_read}
-use Rattle.mm_vad.proofs.OneRow.{as_one, as_written, length-rows}
+use Rattle.mm_vad.specs.{Row}
+use Rattle.mm_vad.proofs.{equal_read, as_one, as_written, length-rows}
 use Rattle.mm_vad.proofs.pages.Rows.get.Goals as goal
 
 pub returns-in-Some : goal.returns-in-Some

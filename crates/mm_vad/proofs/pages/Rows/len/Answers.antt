@@ -1,5 +1,5 @@
 use Rattle.std.proofs.Common.{◌∙◌}
-use Rattle.mm_vad.proofs.OneRow.{length-rows}
+use Rattle.mm_vad.proofs.{length-rows}
 use Rattle.mm_vad.proofs.pages.Rows.len.Goals as goal
 
 pub returns : goal.returns

@@ -1,7 +1,7 @@
 use Rattle.std.proofs.Common.{◌<◌, length, sym, ap, ◌∙◌, arith}
 use Rattle.std.proofs.lemmas.List.Sums.{prefix_len-drop_no, prefix_len-drop_all}
-use Rattle.mm_vad.specs.Looks.{are_alike}
-use Rattle.mm_vad.proofs.Runs.{are_alike_itself, run_from_is, prefix_run, first_of_run}
+use Rattle.mm_vad.specs.{are_alike}
+use Rattle.mm_vad.proofs.{are_alike_itself, run_from_is, prefix_run, first_of_run}
 use Rattle.mm_vad.proofs.pages.Rows.run_from.Goals as goal
 
 pub loop-end-init : goal.loop-end-init

@@ -1,6 +1,6 @@
 use Rattle.std.proofs.Common.{◌≡◌, ◌+◌, ◌-◌, ◌<◌, ◌≤◌, length, drop}
 use Rattle.std.specs.List.{prefix_len}
-use Rattle.mm_vad.specs.Looks.{are_alike}
+use Rattle.mm_vad.specs.{are_alike}
 use Rattle.mm_vad.proofs.pages.Rows.run_from.Given as goal
 
 abbrev pub invariant-loop-end : goal.invariant-loop-end

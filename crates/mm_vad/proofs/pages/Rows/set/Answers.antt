@@ -1,6 +1,6 @@
 use Rattle.std.proofs.Common.{◌≡◌, ℕ, sym, ap, ◌∙◌, arith}
-use Rattle.mm_vad.specs.Chunks.{filled_rows}
-use Rattle.mm_vad.proofs.Joined.{filled_one}
+use Rattle.mm_vad.specs.{filled_rows}
+use Rattle.mm_vad.proofs.{filled_one}
 use Rattle.mm_vad.proofs.pages.Rows.set.Goals as goal
 
 pub returns : goal.returns

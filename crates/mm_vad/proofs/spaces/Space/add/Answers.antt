@@ -1,12 +1,9 @@
 use Rattle.std.proofs.Common.{◌≡◌, ℕ, List, Option, sym, ap, ◌∙◌, subst}
 use Rattle.std.specs.Prelude.{IsTrue, nat_eq}
 use Rattle.std.specs.HashMap.{get}
-use Rattle.mm_types.specs.Address.{Range, is_free}
-use Rattle.mm_vad.specs.declared.regions.Region.{Region}
-use Rattle.mm_vad.specs.Regions.{SpaceOf, ranges_of, pages_of, add_region}
-use Rattle.mm_vad.specs.Index.{regions_of}
-use Rattle.mm_vad.proofs.Held.{is_space, ranges_of-regions_of}
-use Rattle.mm_vad.proofs.Changes.{after_add, adds_from}
+use Rattle.mm_types.specs.{Range, is_free}
+use Rattle.mm_vad.specs.{Region, SpaceOf, ranges_of, pages_of, add_region, regions_of}
+use Rattle.mm_vad.proofs.{is_space, ranges_of-regions_of, after_add, adds_from}
 use Rattle.mm_vad.proofs.spaces.Space.add.Goals as goal
 
 -- the range of the region is free among the ranges that are taken

@@ -1,9 +1,9 @@
 use Rattle.std.proofs.Common.{◌≡◌, ◌∙◌, false, true, sym, ap, subst}
 use Rattle.std.specs.Prelude.{find, nat_eq, IsSome, IsSomeAnd}
 use Rattle.std.specs.HashMap.{get}
-use Rattle.mm_types.specs.Address.{holds_page}
-use Rattle.mm_vad.specs.Regions.{SpaceOf, region_at}
-use Rattle.mm_vad.proofs.Lookups.{told_some, told_none, none_there, lies_at}
+use Rattle.mm_types.specs.{holds_page}
+use Rattle.mm_vad.specs.{SpaceOf, region_at}
+use Rattle.mm_vad.proofs.{told_some, told_none, none_there, lies_at}
 use Rattle.mm_vad.proofs.spaces.Space.base_at.Goals as goal
 
 pub unreachable-requires : goal.unreachable-requires

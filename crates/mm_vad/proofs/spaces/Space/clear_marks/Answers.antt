@@ -1,7 +1,6 @@
 use Rattle.std.proofs.Common.{false}
-use Rattle.mm_vad.specs.Regions.{with_marks}
-use Rattle.mm_vad.proofs.Lookups.{lies_in_one}
-use Rattle.mm_vad.proofs.Changes.{Changed, none_missing, has_pages, after_change, marks_keep}
+use Rattle.mm_vad.specs.{with_marks}
+use Rattle.mm_vad.proofs.{lies_in_one, Changed, none_missing, has_pages, after_change, marks_keep}
 use Rattle.mm_vad.proofs.spaces.Space.clear_marks.Goals as goal
 use Rattle.mm_vad.proofs.spaces.Space.clear_marks.Goals.{After-clear_marks}
 

@@ -1,6 +1,5 @@
-use Rattle.mm_vad.specs.Regions.{with_equal_rows}
-use Rattle.mm_vad.proofs.Lookups.{lies_in_one}
-use Rattle.mm_vad.proofs.Changes.{Changed, none_missing, has_pages, after_change, filling_keeps}
+use Rattle.mm_vad.specs.{with_equal_rows}
+use Rattle.mm_vad.proofs.{lies_in_one, Changed, none_missing, has_pages, after_change, filling_keeps}
 use Rattle.mm_vad.proofs.spaces.Space.fill_rows.Goals as goal
 use Rattle.mm_vad.proofs.spaces.Space.fill_rows.Goals.{After-fill_rows}
 

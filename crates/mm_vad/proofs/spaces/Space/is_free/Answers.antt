@@ -1,10 +1,9 @@
 use Rattle.std.proofs.Common.{List, sym, ap, ◌∙◌}
 use Rattle.std.specs.Prelude.{nat_eq}
 use Rattle.std.specs.HashMap.{get}
-use Rattle.mm_types.specs.Address.{Range, is_free}
-use Rattle.mm_vad.specs.Ranges.{range_at}
-use Rattle.mm_vad.specs.Regions.{SpaceOf, ranges_of}
-use Rattle.mm_vad.proofs.Held.{ranges_of-regions_of}
+use Rattle.mm_types.specs.{Range, is_free}
+use Rattle.mm_vad.specs.{range_at, SpaceOf, ranges_of}
+use Rattle.mm_vad.proofs.{ranges_of-regions_of}
 use Rattle.mm_vad.proofs.spaces.Space.is_free.Goals as goal
 
 pub returns : goal.returns

@@ -1,11 +1,9 @@
 use Rattle.std.proofs.Common.{ℕ, List, sym, ap, ◌∙◌, subst}
 use Rattle.std.specs.Prelude.{option_map, nat_eq}
 use Rattle.std.specs.HashMap.{get}
-use Rattle.mm_types.specs.Address.{Range, lowest_gap}
-use Rattle.mm_vad.specs.Ranges.{page_number}
-use Rattle.mm_vad.specs.Regions.{SpaceOf, IsSpace, ranges_of}
-use Rattle.mm_vad.proofs.Held.{is_space, ranges_of-regions_of}
-use Rattle.mm_vad.proofs.Nothing.{nothing_is_free}
+use Rattle.mm_types.specs.{Range, lowest_gap}
+use Rattle.mm_vad.specs.{page_number, SpaceOf, IsSpace, ranges_of}
+use Rattle.mm_vad.proofs.{is_space, ranges_of-regions_of, nothing_is_free}
 use Rattle.mm_vad.proofs.spaces.Space.lowest_gap.Goals as goal
 
 -- no page at all is free at once

@@ -1,6 +1,6 @@
 use Rattle.std.proofs.Common.{true}
-use Rattle.mm_vad.specs.Regions.{with_marks}
-use Rattle.mm_vad.proofs.Changes.{Changed, none_missing, has_page, after_change, marks_keep}
+use Rattle.mm_vad.specs.{with_marks}
+use Rattle.mm_vad.proofs.{Changed, none_missing, has_page, after_change, marks_keep}
 use Rattle.mm_vad.proofs.spaces.Space.mark.Goals as goal
 use Rattle.mm_vad.proofs.spaces.Space.mark.Goals.{After-mark}
 

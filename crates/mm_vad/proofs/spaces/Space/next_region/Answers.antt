@@ -2,9 +2,8 @@ use Rattle.std.proofs.Common.{sym, ap, ◌∙◌, subst}
 use Rattle.std.specs.Prelude.{find, nat_eq, nat_le}
 use Rattle.std.specs.Option.{option_copied}
 use Rattle.std.specs.HashMap.{get}
-use Rattle.mm_vad.specs.Regions.{SpaceOf, IsSpace, region_from}
-use Rattle.mm_vad.proofs.Held.{is_space}
-use Rattle.mm_vad.proofs.Lookups.{told_some, told_none, found_there, none_there}
+use Rattle.mm_vad.specs.{SpaceOf, IsSpace, region_from}
+use Rattle.mm_vad.proofs.{is_space, told_some, told_none, found_there, none_there}
 use Rattle.mm_vad.proofs.spaces.Space.next_region.Goals as goal
 
 pub returns-in_err-base-clause-found : goal.returns-in_err-base-clause-found

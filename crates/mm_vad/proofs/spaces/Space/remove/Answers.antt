@@ -1,10 +1,8 @@
 use Rattle.std.proofs.Common.{◌≡◌, List, sym, ap, ◌∙◌, subst}
 use Rattle.std.specs.Prelude.{nat_eq, IsSome}
 use Rattle.std.specs.HashMap.{get}
-use Rattle.mm_vad.specs.declared.regions.Region.{Region}
-use Rattle.mm_vad.specs.Regions.{SpaceOf, IsSpace, region_with_base, remove_region}
-use Rattle.mm_vad.proofs.Held.{is_space, remove_none}
-use Rattle.mm_vad.proofs.Lookups.{none_with_base, is_with_base}
+use Rattle.mm_vad.specs.{Region, SpaceOf, IsSpace, region_with_base, remove_region}
+use Rattle.mm_vad.proofs.{is_space, remove_none, none_with_base, is_with_base}
 use Rattle.mm_vad.proofs.spaces.Space.remove.Goals as goal
 
 pub returns-then-not-is_begun_at-clause-removed : goal.returns-then-not-is_begun_at-clause-removed

@@ -1,8 +1,8 @@
 use Rattle.std.proofs.Common.{sym, ap, subst}
 use Rattle.std.specs.Prelude.{nat_eq}
 use Rattle.std.specs.HashMap.{get}
-use Rattle.mm_vad.specs.Index.{IsIndex}
-use Rattle.mm_vad.proofs.Changes.{after_none}
+use Rattle.mm_vad.specs.{IsIndex}
+use Rattle.mm_vad.proofs.{after_none}
 use Rattle.mm_vad.proofs.spaces.Space.reserve.Goals as goal
 
 pub invariant_of-self-in_err-reserve-2 : goal.invariant_of-self-in_err-reserve-2

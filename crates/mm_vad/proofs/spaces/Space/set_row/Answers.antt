@@ -1,5 +1,5 @@
-use Rattle.mm_vad.specs.Regions.{with_row}
-use Rattle.mm_vad.proofs.Changes.{Changed, none_missing, has_page, after_change, row_keeps}
+use Rattle.mm_vad.specs.{with_row}
+use Rattle.mm_vad.proofs.{Changed, none_missing, has_page, after_change, row_keeps}
 use Rattle.mm_vad.proofs.spaces.Space.set_row.Goals as goal
 use Rattle.mm_vad.proofs.spaces.Space.set_row.Goals.{After-set_row}
 

@@ -1,14 +1,9 @@
 use Rattle.std.proofs.Common.{◌≡◌, ℕ, List, true, sym, ap, ◌∙◌, subst}
 use Rattle.std.specs.Prelude.{nat_eq, IsSome}
 use Rattle.std.specs.HashMap.{HashMap, get}
-use Rattle.mm_types.specs.Address.{Range}
-use Rattle.mm_vad.specs.declared.regions.Region.{Region}
-use Rattle.mm_vad.specs.Index.{IsIndex, regions_of}
-use Rattle.mm_vad.specs.Ranges.{is_begun_at}
-use Rattle.mm_vad.specs.Regions.{SpaceOf, region_with_base, remove_region}
-use Rattle.mm_vad.proofs.Held.{is_space}
-use Rattle.mm_vad.proofs.Lookups.{begun, with_base}
-use Rattle.mm_vad.proofs.Changes.{after_remove}
+use Rattle.mm_types.specs.{Range}
+use Rattle.mm_vad.specs.{Region, IsIndex, regions_of, is_begun_at, SpaceOf, region_with_base, remove_region}
+use Rattle.mm_vad.proofs.{is_space, begun, with_base, after_remove}
 use Rattle.mm_vad.proofs.spaces.Space.take_out.Goals as goal
 
 begins : {S : Type 0} (m : HashMap ℕ Region S) (ranges : List Range) → IsIndex (get nat_eq m) ranges → (base : ℕ) (gs : List Region) → regions_of (get nat_eq m) ranges ≡ gs → IsSome (region_with_base gs base) → is_begun_at base ranges ≡ true

@@ -1,6 +1,5 @@
-use Rattle.mm_vad.specs.Regions.{with_unwritten}
-use Rattle.mm_vad.proofs.Lookups.{lies_in_one}
-use Rattle.mm_vad.proofs.Changes.{Changed, none_missing, has_page, has_addresses, after_change, unwritten_keep}
+use Rattle.mm_vad.specs.{with_unwritten}
+use Rattle.mm_vad.proofs.{lies_in_one, Changed, none_missing, has_page, has_addresses, after_change, unwritten_keep}
 use Rattle.mm_vad.proofs.spaces.Space.unwrite.Goals as goal
 use Rattle.mm_vad.proofs.spaces.Space.unwrite.Goals.{After-unwrite}
 

@@ -1,9 +1,7 @@
 use Rattle.std.proofs.Common.{ap, sym, ◌∙◌, option_map, find, subst, ◌∷◌, arith}
-use Rattle.mm_types.specs.Address.{holds_page}
-use Rattle.mm_vad.specs.Ranges.{LieApart, first_and_count}
-use Rattle.mm_vad.specs.Nodes.{range_in}
-use Rattle.mm_vad.proofs.Apart.{apart_front, apart_back}
-use Rattle.mm_vad.proofs.Finds.{at_left, at_middle, at_right}
+use Rattle.mm_types.specs.{holds_page}
+use Rattle.mm_vad.specs.{LieApart, first_and_count, range_in}
+use Rattle.mm_vad.proofs.{apart_front, apart_back, at_left, at_middle, at_right}
 use Rattle.mm_vad.proofs.trees.Tree.at.Goals as goal
 
 pub loop-node-preserved-then-v-pages : goal.loop-node-preserved-then-v-pages

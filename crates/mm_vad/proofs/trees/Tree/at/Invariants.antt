@@ -1,6 +1,6 @@
 use Rattle.std.proofs.Common.{◌≡◌, length, find}
-use Rattle.mm_types.specs.Address.{holds_page}
-use Rattle.mm_vad.specs.Ranges.{LieApart}
+use Rattle.mm_types.specs.{holds_page}
+use Rattle.mm_vad.specs.{LieApart}
 use Rattle.mm_vad.proofs.trees.Tree.at.Given as goal
 
 abbrev pub invariant-loop-node : goal.invariant-loop-node

@@ -1,10 +1,8 @@
 use Rattle.std.proofs.Common.{ap, sym, ◌∙◌, option_map, find, subst, ◌∷◌}
 use Rattle.std.specs.Prelude.{nat_le}
 use Rattle.std.specs.Option.{option_or}
-use Rattle.mm_vad.specs.Ranges.{LieApart, first_and_count}
-use Rattle.mm_vad.specs.Nodes.{range_in}
-use Rattle.mm_vad.proofs.Apart.{apart_front, apart_back}
-use Rattle.mm_vad.proofs.Finds.{first_before, first_right}
+use Rattle.mm_vad.specs.{LieApart, first_and_count, range_in}
+use Rattle.mm_vad.proofs.{apart_front, apart_back, first_before, first_right}
 use Rattle.mm_vad.proofs.trees.Tree.first_from.Goals as goal
 
 pub loop-node-preserved-then-pages-v : goal.loop-node-preserved-then-pages-v

@@ -1,7 +1,7 @@
 use Rattle.std.proofs.Common.{◌≡◌, length, find, option_map}
 use Rattle.std.specs.Prelude.{nat_le}
 use Rattle.std.specs.Option.{option_or}
-use Rattle.mm_vad.specs.Ranges.{LieApart, first_and_count}
+use Rattle.mm_vad.specs.{LieApart, first_and_count}
 use Rattle.mm_vad.proofs.trees.Tree.first_from.Given as goal
 
 abbrev pub invariant-loop-node : goal.invariant-loop-node

@@ -1,9 +1,7 @@
 use Rattle.std.proofs.Common.{◌<◌, ap, sym, ◌∙◌, [], ◌∷◌, ◌++◌, arith}
-use Rattle.mm_types.specs.Address.{end_of_user_pages}
-use Rattle.mm_vad.specs.Room.{room, lowest, first_fit, widest}
-use Rattle.mm_vad.specs.Nodes.{range_in}
-use Rattle.mm_vad.proofs.Widest.{fit_left, fit_right}
-use Rattle.mm_vad.proofs.Few.{visits_more}
+use Rattle.mm_types.specs.{end_of_user_pages}
+use Rattle.mm_vad.specs.{room, lowest, first_fit, widest, range_in}
+use Rattle.mm_vad.proofs.{fit_left, fit_right, visits_more}
 use Rattle.mm_vad.proofs.trees.Tree.lowest_gap.Goals as goal
 
 pub returns-then-n-room_between-clause-few : goal.returns-then-n-room_between-clause-few

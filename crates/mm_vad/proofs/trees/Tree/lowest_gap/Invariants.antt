@@ -1,7 +1,6 @@
 use Rattle.std.proofs.Common.{◌≡◌, ◌-◌, ◌≤◌}
-use Rattle.mm_types.specs.Address.{end_of_user_pages}
-use Rattle.mm_vad.specs.Room.{first_fit}
-use Rattle.mm_vad.specs.Shape.{IsShaped, VisitsAtMost}
+use Rattle.mm_types.specs.{end_of_user_pages}
+use Rattle.mm_vad.specs.{first_fit, IsShaped, VisitsAtMost}
 use Rattle.mm_vad.proofs.trees.Tree.lowest_gap.Given as goal
 
 abbrev pub invariant-loop-node : goal.invariant-loop-node

@@ -1,8 +1,8 @@
 use Rattle.std.proofs.Common.{◌<◌, ◌≤◌, ◌-◌, ◌*◌, ◌/◌, ℕ, List, length, sym, ap, ◌∙◌, arith, take, drop}
 use Rattle.std.proofs.lemmas.Nat.{div-add-mod', mod_below}
-use Rattle.mm_vad.specs.declared.pages.Row.{Row}
+use Rattle.mm_vad.specs.{Row}
 use Rattle.mm_vad.proofs.OneRow.{rows_written}
-use Rattle.mm_vad.proofs.Joined.{length-joined, equal_within, equal_behind}
+use Rattle.mm_vad.proofs.{length-joined, equal_within, equal_behind}
 use Rattle.mm_vad.proofs.written.WrittenRows.equal_from.Goals as goal
 
 pub returns-then-index-whole : goal.returns-then-index-whole

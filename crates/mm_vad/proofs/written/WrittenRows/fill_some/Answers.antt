@@ -1,11 +1,10 @@
 use Rattle.std.proofs.Common.{◌≡◌, ◌<◌, ◌≤◌, ◌+◌, ◌-◌, ◌*◌, ◌/◌, ◌%◌, ℕ, List, [], ◌++◌, length, get_or, take, drop, ap, ◌∙◌, arith}
 use Rattle.std.proofs.lemmas.Nat.{div-add-mod', mod_below}
 use Rattle.std.proofs.lemmas.List.{take_all, take-append-le}
-use Rattle.mm_vad.specs.declared.pages.Row.{Row}
-use Rattle.mm_vad.specs.Chunks.{rows_joined, filled_rows}
-use Rattle.mm_vad.proofs.Chunked.{rows_seen, room_seen}
-use Rattle.mm_vad.proofs.OneRow.{rows_written, room_written}
-use Rattle.mm_vad.proofs.Joined.{length-joined, kept_within, kept_behind, length-filled, filled_within_chunk, filled_behind_chunks}
+use Rattle.mm_vad.specs.{Row, rows_joined, filled_rows}
+use Rattle.mm_vad.proofs.{rows_seen, room_seen, room_written, length-joined, kept_within, kept_behind, length-filled, filled_within_chunk}
+use Rattle.mm_vad.proofs.{filled_behind_chunks}
+use Rattle.mm_vad.proofs.OneRow.{rows_written}
 use Rattle.mm_vad.proofs.written.WrittenRows.fill_some.Goals as goal
 
 -- what a slice of all rows gives back

@@ -1,7 +1,6 @@
 use Rattle.std.proofs.Common.{List, refl, ap, ◌∙◌, arith}
-use Rattle.mm_vad.specs.declared.pages.Row.{Row}
-use Rattle.mm_vad.specs.Chunks.{rows_joined}
-use Rattle.mm_vad.proofs.OneRow.{no-rows, written_as}
+use Rattle.mm_vad.specs.{Row, rows_joined}
+use Rattle.mm_vad.proofs.{no-rows, written_as}
 use Rattle.mm_vad.proofs.written.WrittenRows.new.Goals as goal
 
 pub invariant_of-result : goal.invariant_of-result

@@ -1,5 +1,5 @@
 use Rattle.std.proofs.Common.{ℕ, replicate, ap, ◌∙◌, arith}
-use Rattle.mm_vad.proofs.OneRow.{room_written, joined-equal, equal-rows, written_as}
+use Rattle.mm_vad.proofs.{room_written, joined-equal, equal-rows, written_as}
 use Rattle.mm_vad.proofs.written.WrittenRows.renew.Goals as goal
 
 pub invariant_of-self : goal.invariant_of-self

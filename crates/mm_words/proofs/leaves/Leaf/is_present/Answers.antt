@@ -1,6 +1,6 @@
 use Rattle.std.proofs.Common.{◌≡◌, ◌<◌, length, arith, ◌∙◌}
 use Rattle.std.proofs.lemmas.Bool.Decides.{nat_tests}
-use Rattle.mm_words.proofs.WordLemmas.{all_places, some_numbers, places_shown}
+use Rattle.mm_words.proofs.{all_places, some_numbers, places_shown}
 use Rattle.mm_words.proofs.leaves.Leaf.is_present.Goals as goal
 
 pub returns : goal.returns

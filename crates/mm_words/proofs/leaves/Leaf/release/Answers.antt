@@ -1,5 +1,5 @@
 use Rattle.std.proofs.Common.{arith, vec_capacity}
-use Rattle.mm_words.proofs.WordLemmas.{released_words, released_places, released_leaf, places_shown, some_numbers, most_places}
+use Rattle.mm_words.proofs.{released_words, released_places, released_leaf, places_shown, some_numbers, most_places}
 use Rattle.mm_words.proofs.leaves.Leaf.release.Goals as goal
 
 pub mark-requires-clause-within : goal.mark-requires-clause-within

@@ -1,5 +1,5 @@
 use Rattle.std.proofs.Common.{arith, vec_capacity}
-use Rattle.mm_words.proofs.WordLemmas.{reserved_words, reserved_places, places_shown, some_numbers, most_places}
+use Rattle.mm_words.proofs.{reserved_words, reserved_places, places_shown, some_numbers, most_places}
 use Rattle.mm_words.proofs.leaves.Leaf.reserve.Goals as goal
 
 pub mark-requires-clause-within : goal.mark-requires-clause-within

@@ -1,6 +1,6 @@
 use Rattle.std.proofs.Common.{Some, ap, ◌∙◌, arith, vec_capacity}
 use Rattle.std.specs.Prelude.{slice_set, List, Option, ℕ}
-use Rattle.mm_words.proofs.WordLemmas.{placed, placed_low, bit_there, some_numbers, shown_set, set_leaf}
+use Rattle.mm_words.proofs.{placed, placed_low, bit_there, some_numbers, shown_set, set_leaf}
 use Rattle.mm_words.proofs.leaves.Leaf.set.Goals as goal
 
 pub overflow_add-at : goal.overflow_add-at

@@ -1,6 +1,6 @@
 use Rattle.std.proofs.Common.{◌-◌, ◌++◌, ℕ, List, ap, ◌∙◌, replicate, vec_len}
-use Rattle.mm_words.specs.LeafWords.{bit_numbers}
-use Rattle.mm_words.proofs.WordLemmas.{shown_zero}
+use Rattle.mm_words.specs.{bit_numbers}
+use Rattle.mm_words.proofs.{shown_zero}
 use Rattle.mm_words.proofs.leaves.Leaf.unreserved.Goals as goal
 
 pub returns : goal.returns

@@ -1,8 +1,8 @@
 use Rattle.std.proofs.Common.{sym, ap, ◌∙◌, subst}
 use Rattle.std.specs.Prelude.{IsSome}
 use Rattle.std.specs.FinMap as finite
-use Rattle.mm_words.specs.Directory.{LeavesOf, word_in}
-use Rattle.mm_words.proofs.LeafLemmas.{worded, get-words_of}
+use Rattle.mm_words.specs.{LeavesOf, word_in}
+use Rattle.mm_words.proofs.{worded, get-words_of}
 use Rattle.mm_words.proofs.page_tables.Table.get.Goals as goal
 
 pub word_at-requires : goal.word_at-requires

@@ -1,7 +1,7 @@
 use Rattle.std.proofs.Common.{sym, ◌∙◌}
 use Rattle.std.specs.Ordering.{nat_cmp}
 use Rattle.std.specs.FinMap as finite
-use Rattle.mm_types.proofs.Finite.{same}
+use Rattle.mm_types.proofs.{same}
 use Rattle.mm_words.proofs.page_tables.Table.give_back.Goals as goal
 
 pub returns : goal.returns

@@ -1,6 +1,6 @@
 use Rattle.std.proofs.Common.{ap, ◌∙◌}
-use Rattle.mm_words.specs.Directory.{directory_words}
-use Rattle.mm_words.proofs.LeafLemmas.{words_of-none}
+use Rattle.mm_words.specs.{directory_words}
+use Rattle.mm_words.proofs.{words_of-none}
 use Rattle.mm_words.proofs.page_tables.Table.new.Goals as goal
 
 pub returns : goal.returns

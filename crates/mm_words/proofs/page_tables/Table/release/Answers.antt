@@ -1,5 +1,5 @@
 use Rattle.std.proofs.Common.{arith}
-use Rattle.mm_words.proofs.LeafLemmas.{worded, reserved_end, release_map}
+use Rattle.mm_words.proofs.{worded, reserved_end, release_map}
 use Rattle.mm_words.proofs.page_tables.Table.release.Goals as goal
 
 pub release_words-requires-clause-end : goal.release_words-requires-clause-end

@@ -1,6 +1,6 @@
-use Rattle.mm_words.proofs.LeafLemmas.{placed_map, reserve_map}
+use Rattle.mm_words.proofs.{placed_map, reserve_map}
 use Rattle.mm_words.proofs.page_tables.Table.reserve.Goals as goal
-use Rattle.mm_types.proofs.Options.{on_err}
+use Rattle.mm_types.proofs.{on_err}
 
 pub returns-in_err-take_directory-clause-err : goal.returns-in_err-take_directory-clause-err
 returns-in_err-take_directory-clause-err c =

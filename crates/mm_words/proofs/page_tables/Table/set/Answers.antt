@@ -1,7 +1,7 @@
 use Rattle.std.proofs.Common.{ap, ◌∙◌}
 use Rattle.std.specs.FinMap as finite
-use Rattle.mm_words.specs.Directory.{directory_words}
-use Rattle.mm_words.proofs.LeafLemmas.{worded, place_of_some, words_of-with_word}
+use Rattle.mm_words.specs.{directory_words}
+use Rattle.mm_words.proofs.{worded, place_of_some, words_of-with_word}
 use Rattle.mm_words.proofs.page_tables.Table.set.Goals as goal
 
 pub set_at-requires : goal.set_at-requires

@@ -1,4 +1,4 @@
-use Rattle.mm_words.proofs.KeptProcesses.{older_kept}
+use Rattle.mm_words.proofs.{older_kept}
 use Rattle.mm_words.proofs.processes.Process.age_all.Goals as goal
 
 pub invariant_of-self : goal.invariant_of-self

@@ -1,4 +1,4 @@
-use Rattle.mm_words.proofs.KeptProcesses.{begin_kept}
+use Rattle.mm_words.proofs.{begin_kept}
 use Rattle.mm_words.proofs.processes.Process.begin.Goals as goal
 
 pub invariant_of-result : goal.invariant_of-result

@@ -1,8 +1,6 @@
 use Rattle.std.proofs.Common.{ap}
-use Rattle.mm_words.specs.Words.{bare}
-use Rattle.mm_words.specs.Pages.{pages}
-use Rattle.mm_words.proofs.PageChanges.{after_bind}
-use Rattle.mm_words.proofs.KeptProcesses.{bind_kept, user_bound}
+use Rattle.mm_words.specs.{bare, pages}
+use Rattle.mm_words.proofs.{after_bind, bind_kept, user_bound}
 use Rattle.mm_words.proofs.processes.Process.bind.Goals as goal
 
 pub invariant_of-self : goal.invariant_of-self

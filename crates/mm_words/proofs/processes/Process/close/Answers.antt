@@ -1,8 +1,9 @@
 use Rattle.std.proofs.Common.{ℕ, false, sym, subst}
 use Rattle.std.specs.Ordering.{nat_cmp}
 use Rattle.std.specs.FinMap.{FinMap}
-use Rattle.mm_words.specs.Processes.{IsKeptProcess}
-use Rattle.mm_words.proofs.KeptProcesses.{close_kept, no_word, none_resident}
+use Rattle.mm_words.specs.{IsKeptProcess}
+use Rattle.mm_words.proofs.{close_kept, none_resident}
+use Rattle.mm_words.proofs.KeptProcesses.{no_word}
 use Rattle.mm_words.proofs.processes.Process.close.Goals as goal
 
 pub give_back-requires : goal.give_back-requires

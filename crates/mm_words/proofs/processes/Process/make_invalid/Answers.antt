@@ -1,9 +1,7 @@
 use Rattle.std.proofs.Common.{refl, ap}
 use Rattle.std.specs.Prelude.{is_some}
 use Rattle.std.specs.FinMap as finite
-use Rattle.mm_words.proofs.ReadWords.{bare_plain}
-use Rattle.mm_words.proofs.PageChanges.{becomes, resident_less, ages_less, valid_bound}
-use Rattle.mm_words.proofs.KeptProcesses.{less_kept, set_held, place_of_valid, removed_page}
+use Rattle.mm_words.proofs.{bare_plain, becomes, resident_less, ages_less, valid_bound, less_kept, set_held, place_of_valid, removed_page}
 use Rattle.mm_words.proofs.processes.Process.make_invalid.Goals as goal
 
 pub remove-requires : goal.remove-requires

@@ -1,8 +1,7 @@
 use Rattle.std.proofs.Common.{refl, arith}
-use Rattle.mm_words.specs.Layout.{IsEntry}
+use Rattle.mm_words.specs.{IsEntry}
 use Rattle.mm_words.specs.declared.layout.Entry.TheVariants as entry
-use Rattle.mm_words.proofs.PageChanges.{becomes, resident_more, ages_more}
-use Rattle.mm_words.proofs.KeptProcesses.{more_kept, no_age, reserved_of_bound}
+use Rattle.mm_words.proofs.{becomes, resident_more, ages_more, more_kept, no_age, reserved_of_bound}
 use Rattle.mm_words.proofs.processes.Process.make_valid.Goals as goal
 
 pub insert-place-requires-clause-reserved : goal.insert-place-requires-clause-reserved

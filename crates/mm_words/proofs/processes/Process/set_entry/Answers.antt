@@ -1,7 +1,5 @@
 use Rattle.std.proofs.Common.{refl}
-use Rattle.mm_words.proofs.ReadWords.{bare_plain}
-use Rattle.mm_words.proofs.PageChanges.{becomes}
-use Rattle.mm_words.proofs.KeptProcesses.{set_kept}
+use Rattle.mm_words.proofs.{bare_plain, becomes, set_kept}
 use Rattle.mm_words.proofs.processes.Process.set_entry.Goals as goal
 
 pub invariant_of-self : goal.invariant_of-self

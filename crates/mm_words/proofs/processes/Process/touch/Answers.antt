@@ -1,8 +1,7 @@
 use Rattle.std.proofs.Common.{ap}
 use Rattle.std.specs.Prelude.{is_some}
-use Rattle.mm_words.specs.Changes.{resident_set}
-use Rattle.mm_words.proofs.PageChanges.{ages_touched}
-use Rattle.mm_words.proofs.KeptProcesses.{set_held, place_of_valid, touched_kept}
+use Rattle.mm_words.specs.{resident_set}
+use Rattle.mm_words.proofs.{ages_touched, set_held, place_of_valid, touched_kept}
 use Rattle.mm_words.proofs.processes.Process.touch.Goals as goal
 
 pub touch-requires : goal.touch-requires

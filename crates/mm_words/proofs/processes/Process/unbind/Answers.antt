@@ -1,4 +1,4 @@
-use Rattle.mm_words.proofs.KeptProcesses.{unbind_kept}
+use Rattle.mm_words.proofs.{unbind_kept}
 use Rattle.mm_words.proofs.processes.Process.unbind.Goals as goal
 
 pub invariant_of-self : goal.invariant_of-self

@@ -1,7 +1,7 @@
 use Rattle.std.proofs.Common.{ap, ◌∙◌, refl, None, arith}
 use Rattle.std.specs.FinMap as finite
-use Rattle.mm_types.proofs.Tables.{table_remove}
-use Rattle.mm_words.specs.Prototypes.{words_in}
+use Rattle.mm_types.proofs.{table_remove}
+use Rattle.mm_words.specs.{words_in}
 use Rattle.mm_words.proofs.AreaLemmas.{within}
 use Rattle.mm_words.proofs.protos.Protos.close.Goals as goal
 

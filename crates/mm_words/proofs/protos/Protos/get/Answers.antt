@@ -1,8 +1,9 @@
 use Rattle.std.proofs.Common.{◌≡◌, Some, ap, ◌∙◌, refl, arith}
 use Rattle.std.specs.FinMap as finite
 use Rattle.std.proofs.lemmas.Option.{slice_get_read}
-use Rattle.mm_words.specs.Prototypes.{words_in}
-use Rattle.mm_words.proofs.AreaLemmas.{within, at_index, open_of_word, word_is, word_within, no_word}
+use Rattle.mm_words.specs.{words_in}
+use Rattle.mm_words.proofs.{at_index, open_of_word, word_within}
+use Rattle.mm_words.proofs.AreaLemmas.{within, word_is, no_word}
 use Rattle.mm_words.proofs.protos.Protos.get.Goals as goal
 
 pub index-requires : goal.index-requires

@@ -1,7 +1,7 @@
 use Rattle.std.proofs.Common.{ap, ◌∙◌}
-use Rattle.mm_types.specs.Table.{table}
-use Rattle.mm_words.specs.Prototypes.{words_in}
-use Rattle.mm_words.proofs.AreaLemmas.{table_none}
+use Rattle.mm_types.specs.{table}
+use Rattle.mm_words.specs.{words_in}
+use Rattle.mm_words.proofs.{table_none}
 use Rattle.mm_words.proofs.protos.Protos.new.Goals as goal
 
 pub returns : goal.returns

@@ -1,7 +1,7 @@
 use Rattle.std.proofs.Common.{ℕ, List, ap, ◌∙◌, replicate, Some, arith}
 use Rattle.std.specs.FinMap as finite
-use Rattle.mm_types.proofs.Tables.{table_insert}
-use Rattle.mm_words.specs.Prototypes.{words_in}
+use Rattle.mm_types.proofs.{table_insert}
+use Rattle.mm_words.specs.{words_in}
 use Rattle.mm_words.proofs.protos.Protos.open.Goals as goal
 
 pub returns-clause-ok : goal.returns-clause-ok

@@ -2,9 +2,10 @@ use Rattle.std.proofs.Common.{◌≡◌, ℕ, List, Some, ap, ◌∙◌, refl, s
 use Rattle.std.specs.Prelude.{slice_set}
 use Rattle.std.specs.Vec.{with_item}
 use Rattle.std.specs.FinMap as finite
-use Rattle.mm_types.proofs.Tables.{table_insert}
-use Rattle.mm_words.specs.Prototypes.{words_in}
-use Rattle.mm_words.proofs.AreaLemmas.{within, at_index, open_of_word, word_within, no_word, words_are}
+use Rattle.mm_types.proofs.{table_insert}
+use Rattle.mm_words.specs.{words_in}
+use Rattle.mm_words.proofs.{at_index, open_of_word, word_within, words_are}
+use Rattle.mm_words.proofs.AreaLemmas.{within, no_word}
 use Rattle.mm_words.proofs.protos.Protos.set.Goals as goal
 
 pub index_mut-requires : goal.index_mut-requires

@@ -1,5 +1,5 @@
-use Rattle.mm_wset.specs.Ages.{older}
-use Rattle.mm_words.proofs.TableChanges.{still_words, older_ages, aside_stays}
+use Rattle.mm_wset.specs.{older}
+use Rattle.mm_words.proofs.{still_words, older_ages, aside_stays}
 use Rattle.mm_words.proofs.tables.Words.age_all.Goals as goal
 
 pub invariant_of-self-clause-kept : goal.invariant_of-self-clause-kept

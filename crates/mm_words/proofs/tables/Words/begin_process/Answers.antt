@@ -1,4 +1,4 @@
-use Rattle.mm_words.proofs.TableChanges.{pushed_words, pushed_ages, pushed_aside}
+use Rattle.mm_words.proofs.{pushed_words, pushed_ages, pushed_aside}
 use Rattle.mm_words.proofs.tables.Words.begin_process.Goals as goal
 
 pub invariant_of-self-clause-kept : goal.invariant_of-self-clause-kept

@@ -1,8 +1,6 @@
 use Rattle.std.proofs.Common.{ap}
-use Rattle.mm_words.specs.Pages.{pages}
-use Rattle.mm_words.specs.Changes.{resident_set}
-use Rattle.mm_words.proofs.AreaWords.{ok_then, err_then}
-use Rattle.mm_words.proofs.TableChanges.{bound_words, still_words, ages_stay, aside_bind}
+use Rattle.mm_words.specs.{pages, resident_set}
+use Rattle.mm_words.proofs.{ok_then, err_then, bound_words, still_words, ages_stay, aside_bind}
 use Rattle.mm_words.proofs.tables.Words.bind.Goals as goal
 
 pub invariant_of-self-clause-kept : goal.invariant_of-self-clause-kept

@@ -1,8 +1,7 @@
 use Rattle.std.proofs.Common.{refl, false}
-use Rattle.mm_types.specs.declared.numbers.Place.{Place}
-use Rattle.mm_words.specs.Words.{place_from}
-use Rattle.mm_words.specs.Changes.{bound_of}
-use Rattle.mm_words.proofs.TableChanges.{opened_words, ages_kept, aside_stays, place_reads}
+use Rattle.mm_types.specs.{Place}
+use Rattle.mm_words.specs.{place_from, bound_of}
+use Rattle.mm_words.proofs.{opened_words, ages_kept, aside_stays, place_reads}
 use Rattle.mm_words.proofs.tables.Words.close_process.Goals as goal
 
 pub close-requires : goal.close-requires

@@ -1,5 +1,5 @@
 use Rattle.std.proofs.Common.{None, ◌-◌}
-use Rattle.mm_words.proofs.TableChanges.{aside_kept, moved_shown, ages_changed}
+use Rattle.mm_words.proofs.{aside_kept, moved_shown, ages_changed}
 use Rattle.mm_words.proofs.tables.Words.make_invalid.Goals as goal
 
 pub invariant_of-self-clause-kept : goal.invariant_of-self-clause-kept

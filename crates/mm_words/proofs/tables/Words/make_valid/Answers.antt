@@ -1,8 +1,7 @@
-use Rattle.mm_words.specs.Words.{WordsOf, without_aside}
-use Rattle.mm_words.specs.Shown.{bare_aside}
+use Rattle.mm_words.specs.{WordsOf, without_aside, bare_aside}
 use Rattle.std.proofs.Common.{ap, ◌∙◌, Some, ◌+◌}
 use Rattle.mm_words.specs.declared.layout.Entry.TheVariants as entry
-use Rattle.mm_words.proofs.TableChanges.{aside_kept, moved_shown, ages_changed}
+use Rattle.mm_words.proofs.{aside_kept, moved_shown, ages_changed}
 use Rattle.mm_words.proofs.tables.Words.make_valid.Goals as goal
 
 pub invariant_of-self-clause-kept : goal.invariant_of-self-clause-kept

@@ -1,4 +1,4 @@
-use Rattle.mm_words.proofs.AreaWords.{new_shown}
+use Rattle.mm_words.proofs.{new_shown}
 use Rattle.mm_words.proofs.tables.Words.new.Goals as goal
 
 pub returns-clause-words : goal.returns-clause-words

@@ -1,7 +1,7 @@
 use Rattle.std.proofs.Common.{ℕ, Option, subst}
 use Rattle.std.specs.Prelude.{is_some}
-use Rattle.mm_wset.specs.InOrder.{IsNextFrom}
-use Rattle.mm_words.proofs.TableChanges.{ages_of_process}
+use Rattle.mm_wset.specs.{IsNextFrom}
+use Rattle.mm_words.proofs.{ages_of_process}
 use Rattle.mm_words.proofs.tables.Words.next_from.Goals as goal
 
 pub returns : goal.returns

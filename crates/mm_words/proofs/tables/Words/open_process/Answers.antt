@@ -1,6 +1,5 @@
 use Rattle.std.proofs.Common.{true}
-use Rattle.mm_words.proofs.AreaWords.{ok_then, err_then}
-use Rattle.mm_words.proofs.TableChanges.{opened_words, still_words, ages_kept, aside_stays}
+use Rattle.mm_words.proofs.{ok_then, err_then, opened_words, still_words, ages_kept, aside_stays}
 use Rattle.mm_words.proofs.tables.Words.open_process.Goals as goal
 
 pub invariant_of-self-clause-kept : goal.invariant_of-self-clause-kept

@@ -1,4 +1,4 @@
-use Rattle.mm_words.proofs.TableChanges.{aside_kept, set_shown, ages_same}
+use Rattle.mm_words.proofs.{aside_kept, set_shown, ages_same}
 use Rattle.mm_words.proofs.tables.Words.set_at.Goals as goal
 
 pub invariant_of-self-clause-kept : goal.invariant_of-self-clause-kept

@@ -1,5 +1,5 @@
 use Rattle.std.proofs.Common.{Some}
-use Rattle.mm_words.proofs.TableChanges.{aside_kept, same_shown, ages_changed, table_bound}
+use Rattle.mm_words.proofs.{aside_kept, same_shown, ages_changed, table_bound}
 use Rattle.mm_words.proofs.tables.Words.touch.Goals as goal
 
 pub invariant_of-self-clause-kept : goal.invariant_of-self-clause-kept

@@ -1,4 +1,5 @@
-use Rattle.mm_words.proofs.SetLaws.{aged, young, bound_open, begun, within}
+use Rattle.mm_words.proofs.{aged, young, bound_open, begun}
+use Rattle.mm_words.proofs.SetLaws.{within}
 use Rattle.mm_words.proofs.tables.Words.working_sets_hold.Goals as goal
 
 pub returns-clause-aged : goal.returns-clause-aged

@@ -1,7 +1,6 @@
 use Rattle.std.proofs.Common.{arith}
-use Rattle.mm_wset.specs.AgeGroups.{ages_by_group}
-use Rattle.mm_wset.proofs.GroupLemmas.{still_kept, older_grouped, older_ages}
-use Rattle.mm_wset.proofs.YoungLemmas.{young_older}
+use Rattle.mm_wset.specs.{ages_by_group}
+use Rattle.mm_wset.proofs.{still_kept, older_grouped, older_ages, young_older}
 use Rattle.mm_wset.proofs.groups.AgeGroups.age_all.Goals as goal
 
 pub overflow_add-self : goal.overflow_add-self

@@ -1,7 +1,6 @@
 use Rattle.std.proofs.Common.{◌∙◌}
-use Rattle.mm_wset.specs.AgeGroups.{ages_by_group}
-use Rattle.mm_wset.proofs.GroupLemmas.{still_kept, added, ages_insert, no_group}
-use Rattle.mm_wset.proofs.YoungLemmas.{young_insert}
+use Rattle.mm_wset.specs.{ages_by_group}
+use Rattle.mm_wset.proofs.{still_kept, added, ages_insert, no_group, young_insert}
 use Rattle.mm_wset.proofs.groups.AgeGroups.insert.Goals as goal
 
 pub invariant_of-self : goal.invariant_of-self

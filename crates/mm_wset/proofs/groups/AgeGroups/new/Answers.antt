@@ -1,7 +1,6 @@
 use Rattle.std.proofs.Common.{◌≡◌, List, ℕ, length, ap, ◌∙◌, arith}
-use Rattle.mm_wset.specs.AgeGroups.{is_in, ages_by_group}
-use Rattle.mm_wset.proofs.YoungLemmas.{young_empty}
-use Rattle.mm_wset.proofs.GroupLemmas.{no_kept, empty_sets, empty_ages, none_pushed}
+use Rattle.mm_wset.specs.{is_in, ages_by_group}
+use Rattle.mm_wset.proofs.{young_empty, no_kept, empty_sets, empty_ages, none_pushed}
 use Rattle.mm_wset.proofs.groups.AgeGroups.new.Goals as goal
 
 pub loop-init : goal.loop-init

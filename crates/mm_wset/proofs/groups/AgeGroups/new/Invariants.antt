@@ -1,5 +1,5 @@
 use Rattle.std.proofs.Common.{◌≡◌, ◌≤◌, ℕ, false, vec_len, vec_capacity}
-use Rattle.mm_wset.specs.AgeGroups.{is_in}
+use Rattle.mm_wset.specs.{is_in}
 use Rattle.mm_wset.proofs.groups.AgeGroups.new.Given as goal
 
 abbrev pub invariant-loop : goal.invariant-loop

@@ -1,6 +1,5 @@
 use Rattle.std.proofs.Common.{◌+◌, arith}
-use Rattle.mm_wset.proofs.GroupLemmas.{nine_sets, some_group, lowest_in_set, none_in_set}
-use Rattle.mm_wset.proofs.OrderLemmas.{next_found, next_later}
+use Rattle.mm_wset.proofs.{nine_sets, some_group, lowest_in_set, none_in_set, next_found, next_later}
 use Rattle.mm_wset.proofs.groups.AgeGroups.next_after.Goals as goal
 
 pub group_of-group-requires-clause-whole : goal.group_of-group-requires-clause-whole

@@ -1,10 +1,9 @@
 use Rattle.std.proofs.Common.{◌≡◌, sym, ◌∙◌, length, arith}
 use Rattle.std.specs.Prelude.{is_some}
 use Rattle.std.specs.FinMap as finite
-use Rattle.mm_bits.specs.Bits.{have_bit}
-use Rattle.mm_wset.specs.AgeGroups.{ages_by_group}
-use Rattle.mm_wset.proofs.GroupLemmas.{none_held, in_all, in_read}
-use Rattle.mm_wset.proofs.OrderLemmas.{next_same}
+use Rattle.mm_bits.specs.{have_bit}
+use Rattle.mm_wset.specs.{ages_by_group}
+use Rattle.mm_wset.proofs.{none_held, in_all, in_read, next_same}
 use Rattle.mm_wset.proofs.groups.AgeGroups.next_from.Goals as goal
 
 pub returns-then-len-eq0 : goal.returns-then-len-eq0

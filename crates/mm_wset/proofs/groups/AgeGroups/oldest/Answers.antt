@@ -1,8 +1,6 @@
 use Rattle.std.proofs.Common.{ℕ, ◌≡◌, ◌+◌, ◌<◌, Some, ◌∙◌, arith}
-use Rattle.mm_wset.specs.AgeGroups.{age_in}
-use Rattle.mm_wset.proofs.GroupLemmas.{get-ages}
-use Rattle.mm_wset.proofs.OrderLemmas.{no_page}
-use Rattle.mm_wset.proofs.YoungLemmas.{first_of_all}
+use Rattle.mm_wset.specs.{age_in}
+use Rattle.mm_wset.proofs.{get-ages, no_page, first_of_all}
 use Rattle.mm_wset.proofs.groups.AgeGroups.oldest.Goals as goal
 
 pub returns-then-len-eq0 : goal.returns-then-len-eq0

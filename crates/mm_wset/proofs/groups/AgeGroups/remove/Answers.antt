@@ -1,7 +1,6 @@
 use Rattle.std.proofs.Common.{◌∙◌}
-use Rattle.mm_wset.specs.AgeGroups.{ages_by_group}
-use Rattle.mm_wset.proofs.YoungLemmas.{young_remove}
-use Rattle.mm_wset.proofs.GroupLemmas.{still_kept, removed, ages_remove, nine_sets, some_group}
+use Rattle.mm_wset.specs.{ages_by_group}
+use Rattle.mm_wset.proofs.{young_remove, still_kept, removed, ages_remove, nine_sets, some_group}
 use Rattle.mm_wset.proofs.groups.AgeGroups.remove.Goals as goal
 
 pub group_of-group-requires-clause-whole : goal.group_of-group-requires-clause-whole

@@ -1,7 +1,6 @@
 use Rattle.std.proofs.Common.{◌∙◌}
-use Rattle.mm_wset.specs.AgeGroups.{ages_by_group}
-use Rattle.mm_wset.proofs.YoungLemmas.{young_insert}
-use Rattle.mm_wset.proofs.GroupLemmas.{still_kept, renewed, ages_insert, nine_sets, some_group}
+use Rattle.mm_wset.specs.{ages_by_group}
+use Rattle.mm_wset.proofs.{young_insert, still_kept, renewed, ages_insert, nine_sets, some_group}
 use Rattle.mm_wset.proofs.groups.AgeGroups.renew.Goals as goal
 
 pub group_of-group-requires-clause-whole : goal.group_of-group-requires-clause-whole

@@ -1,7 +1,6 @@
 use Rattle.std.proofs.Common.{length, ap, arith}
-use Rattle.mm_wset.specs.AgeGroups.{ages_by_group}
-use Rattle.mm_wset.proofs.YoungLemmas.{young_empty}
-use Rattle.mm_wset.proofs.GroupLemmas.{no_kept, empty_sets, empty_ages}
+use Rattle.mm_wset.specs.{ages_by_group}
+use Rattle.mm_wset.proofs.{young_empty, no_kept, empty_sets, empty_ages}
 use Rattle.mm_wset.proofs.groups.AgeGroups.unreserved.Goals as goal
 
 pub invariant_of-result : goal.invariant_of-result

@@ -1,6 +1,6 @@
 use Rattle.std.proofs.Common.{◌∙◌, List, ℕ, sym, ap, arith}
-use Rattle.mm_bits.specs.Bits.{have_bit}
-use Rattle.mm_wset.proofs.RowLemmas.{read_bit, none_past}
+use Rattle.mm_bits.specs.{have_bit}
+use Rattle.mm_wset.proofs.{read_bit, none_past}
 use Rattle.mm_wset.proofs.page_sets.PageSet.has.Goals as goal
 
 pub returns-then-i-len : goal.returns-then-i-len

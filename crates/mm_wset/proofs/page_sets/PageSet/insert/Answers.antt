@@ -1,5 +1,5 @@
 use Rattle.std.proofs.Common.{true}
-use Rattle.mm_wset.proofs.RowLemmas.{bits_now, set_passed, set_stayed}
+use Rattle.mm_wset.proofs.{bits_now, set_passed, set_stayed}
 use Rattle.mm_wset.proofs.page_sets.PageSet.insert.Goals as goal
 
 pub invariant_of-self : goal.invariant_of-self

@@ -1,5 +1,5 @@
 use Rattle.std.proofs.Common.{arith}
-use Rattle.mm_wset.proofs.RowLemmas.{empty_set, empty_bits}
+use Rattle.mm_wset.proofs.{empty_set, empty_bits}
 use Rattle.mm_wset.proofs.page_sets.PageSet.new.Goals as goal
 
 pub invariant_of-result : goal.invariant_of-result

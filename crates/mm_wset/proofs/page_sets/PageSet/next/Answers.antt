@@ -1,7 +1,7 @@
 use Rattle.std.proofs.Common.{◌∙◌, List, ℕ, sym, ◌≡◌, ◌≤◌, true, subst, arith}
-use Rattle.mm_bits.specs.Bits.{have_bit}
-use Rattle.mm_wset.specs.InOrder.{IsLowestFrom}
-use Rattle.mm_wset.proofs.RowLemmas.{bit_within, none_above, found_above, page_low, none_next}
+use Rattle.mm_bits.specs.{have_bit}
+use Rattle.mm_wset.specs.{IsLowestFrom}
+use Rattle.mm_wset.proofs.{bit_within, none_above, found_above, page_low, none_next}
 use Rattle.mm_wset.proofs.page_sets.PageSet.next.Goals as goal
 
 pub overflow_cast-result : goal.overflow_cast-result

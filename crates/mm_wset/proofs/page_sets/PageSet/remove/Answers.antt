@@ -1,6 +1,6 @@
 use Rattle.std.proofs.Common.{List, ℕ, ap, ◌∙◌, arith}
-use Rattle.mm_bits.specs.Bits.{have_bit}
-use Rattle.mm_wset.proofs.RowLemmas.{bit_within}
+use Rattle.mm_bits.specs.{have_bit}
+use Rattle.mm_wset.proofs.{bit_within}
 use Rattle.mm_wset.proofs.page_sets.PageSet.remove.Goals as goal
 
 pub clear_bit-requires : goal.clear_bit-requires

@@ -1,7 +1,6 @@
 use Rattle.std.proofs.Common.{subst}
-use Rattle.mm_wset.specs.Ages.{WorkingSetOf, AgesBy, older}
-use Rattle.mm_wset.specs.Held.{ages_of}
-use Rattle.mm_wset.proofs.SetLemmas.{older_keeps}
+use Rattle.mm_wset.specs.{WorkingSetOf, AgesBy, older, ages_of}
+use Rattle.mm_wset.proofs.{older_keeps}
 use Rattle.mm_wset.proofs.sets.WorkingSet.age_all.Goals as goal
 
 pub invariant_of-self : goal.invariant_of-self

@@ -1,5 +1,5 @@
 use Rattle.std.proofs.Common.{subst}
-use Rattle.mm_wset.specs.Ages.{WorkingSetOf, EachAtOnePlace}
+use Rattle.mm_wset.specs.{WorkingSetOf, EachAtOnePlace}
 use Rattle.mm_wset.proofs.sets.WorkingSet.every_page_has_one_place.Goals as goal
 
 pub returns-clause-each : goal.returns-clause-each

@@ -1,9 +1,8 @@
 use Rattle.std.proofs.Common.{◌≡◌, ◌<◌, None, sym, ap, ◌∙◌, arith}
 use Rattle.std.specs.FinMap as finite
 use Rattle.slab.specs.Slab.{slab_len}
-use Rattle.mm_wset.specs.Ages.{WorkingSetOf}
-use Rattle.mm_wset.specs.Held.{ages_of, room_of}
-use Rattle.mm_wset.proofs.SetLemmas.{insert_vacant, insert_keeps, insert_view}
+use Rattle.mm_wset.specs.{WorkingSetOf, ages_of, room_of}
+use Rattle.mm_wset.proofs.{insert_vacant, insert_keeps, insert_view}
 use Rattle.mm_wset.proofs.sets.WorkingSet.insert.Goals as goal
 
 pub invariant_of-self : goal.invariant_of-self

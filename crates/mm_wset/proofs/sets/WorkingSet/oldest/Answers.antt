@@ -1,9 +1,9 @@
 use Rattle.std.proofs.Common.{sym, subst}
 use Rattle.std.specs.Prelude.{Option, Some, None, IsSome, option_map, MatchOption}
 use Rattle.std.specs.FinMap as finite
-use Rattle.mm_types.specs.declared.numbers.Vpn.{Vpn}
-use Rattle.mm_wset.specs.Ages.{WorkingSetOf, IsOldestInSet, NoneFollowsInSet}
-use Rattle.mm_wset.proofs.OrderLemmas.{answers_first, answers_next}
+use Rattle.mm_types.specs.{Vpn}
+use Rattle.mm_wset.specs.{WorkingSetOf, IsOldestInSet, NoneFollowsInSet}
+use Rattle.mm_wset.proofs.{answers_first, answers_next}
 use Rattle.mm_wset.proofs.sets.WorkingSet.oldest.Goals as goal
 
 pub returns-in-None : goal.returns-in-None

@@ -1,8 +1,7 @@
 use Rattle.std.proofs.Common.{◌<◌, false, ap, ◌∙◌, arith}
 use Rattle.std.specs.FinMap as finite
-use Rattle.mm_wset.specs.Ages.{WorkingSetOf}
-use Rattle.mm_wset.specs.Held.{ages_of}
-use Rattle.mm_wset.proofs.SetLemmas.{empty_keeps, same_maps}
+use Rattle.mm_wset.specs.{WorkingSetOf, ages_of}
+use Rattle.mm_wset.proofs.{empty_keeps, same_maps}
 use Rattle.mm_wset.proofs.sets.WorkingSet.release.Goals as goal
 
 pub invariant_of-self : goal.invariant_of-self

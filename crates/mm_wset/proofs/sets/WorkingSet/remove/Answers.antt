@@ -1,8 +1,7 @@
 use Rattle.std.proofs.Common.{sym, ap, ◌∙◌}
 use Rattle.std.specs.FinMap as finite
-use Rattle.mm_wset.specs.Ages.{WorkingSetOf}
-use Rattle.mm_wset.specs.Held.{ages_of}
-use Rattle.mm_wset.proofs.SetLemmas.{in_use, remove_page_at, remove_held, remove_keeps, remove_view}
+use Rattle.mm_wset.specs.{WorkingSetOf, ages_of}
+use Rattle.mm_wset.proofs.{in_use, remove_page_at, remove_held, remove_keeps, remove_view}
 use Rattle.mm_wset.proofs.sets.WorkingSet.remove.Goals as goal
 
 pub remove-page-requires : goal.remove-page-requires

@@ -1,7 +1,6 @@
 use Rattle.std.proofs.Common.{true, ap, ◌∙◌, arith}
-use Rattle.mm_wset.specs.Ages.{WorkingSetOf}
-use Rattle.mm_wset.specs.Held.{ages_of}
-use Rattle.mm_wset.proofs.SetLemmas.{empty_keeps, no_room, same_maps}
+use Rattle.mm_wset.specs.{WorkingSetOf, ages_of}
+use Rattle.mm_wset.proofs.{empty_keeps, no_room, same_maps}
 use Rattle.mm_wset.proofs.sets.WorkingSet.reserve.Goals as goal
 
 pub invariant_of-self : goal.invariant_of-self

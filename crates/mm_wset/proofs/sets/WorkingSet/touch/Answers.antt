@@ -4,9 +4,8 @@ use Rattle.std.specs.Ordering.{nat_cmp}
 use Rattle.std.specs.FinMap as finite
 use Rattle.std.specs.FinMap.{FinMap}
 use Rattle.slab.specs.Slab as slabs
-use Rattle.mm_wset.specs.Ages.{WorkingSetOf}
-use Rattle.mm_wset.specs.Held.{ages_of, places_of}
-use Rattle.mm_wset.proofs.SetLemmas.{made, in_use, get-places, touch_keeps, used_already}
+use Rattle.mm_wset.specs.{WorkingSetOf, ages_of, places_of}
+use Rattle.mm_wset.proofs.{made, in_use, get-places, touch_keeps, used_already}
 use Rattle.mm_wset.proofs.sets.WorkingSet.touch.Goals as goal
 
 pub returns-then-used_in-self : goal.returns-then-used_in-self

@@ -3,8 +3,8 @@ use Rattle.std.specs.Ordering.{nat_cmp}
 use Rattle.std.specs.Prelude.{ℕ}
 use Rattle.std.specs.FinMap as finite
 use Rattle.std.specs.FinMap.{FinMap}
-use Rattle.mm_wset.specs.Held.{places_of}
-use Rattle.mm_wset.proofs.SetLemmas.{made, empty_keeps, no_places}
+use Rattle.mm_wset.specs.{places_of}
+use Rattle.mm_wset.proofs.{made, empty_keeps, no_places}
 use Rattle.mm_wset.proofs.sets.WorkingSet.unreserved.Goals as goal
 
 pub invariant_of-result : goal.invariant_of-result

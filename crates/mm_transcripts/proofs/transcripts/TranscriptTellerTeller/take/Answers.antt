@@ -1,0 +1,19 @@
+use Rattle.std.proofs.Common.{◌++◌, Option, ap, ◌∙◌}
+use Rattle.mm_life.specs.{FrameLife}
+use Rattle.mm_replay.specs.Standing.{life}
+use Rattle.mm_classes.specs.{marks_of}
+use Rattle.mm_transcripts.specs.{ages_of, Beside, classed_row, beside_of, TranscriptTeller}
+use Rattle.mm_tell.specs.{Classed}
+use Rattle.mm_transcripts.proofs.{row_taken}
+use Rattle.mm_transcripts.proofs.transcripts.TranscriptTellerTeller.take.Goals as goal
+
+pub returns-clause-text : goal.returns-clause-text
+returns-clause-text c =
+    let t : TranscriptTeller = c.args.self.now in
+    let b : Beside = beside_of t in
+    let l : FrameLife = life c.args.life.now in
+    λ whole. row_taken b l (marks_of t.classifier.marks) t.classifier.pending t.facts t.reason (ages_of t.ages) c.args.m.now
+    (marks_of c.next.new.self.marks) c.next.new.self.pending c.facts_of-self.result c.reason_then-self.result (ages_of c.follow_ages.new.ages)
+    c.args.text.now.items c.put_classed.new.text.items
+    (c.in_ok-put_classed.ensures ∙ ap (λ (o : Option Classed). c.args.text.now.items ++ classed_row b o t.facts t.reason l) c.in_ok-before.ensures.before)
+    c.in_ok-before.ensures.marks c.in_ok-before.ensures.pending c.facts_of-self.ensures c.reason_then-self.ensures c.in_ok-follow_ages.ensures
