@@ -1,18 +1,78 @@
--- Pages of a file are flushed one after another.
-use Rattle.std.proofs.Common.{◌≡◌, ◌≢◌, ◌≤◌, ◌<◌, ◌+◌, ℕ, zero, suc, true, false, Option, Some, None, List, [], ◌∷◌, refl, sym, ◌∙◌, ap, arith, length, slice_get, is_some, option_map, count_by, get_or, cond}
+-- Pages of a file are flushed one after another: their keys, what their blocks hold, and the moves.
+use Rattle.std.proofs.Common.{◌≡◌, ◌≤◌, ◌+◌, ◌-◌, ℕ, zero, suc, Bool, true, false, Option, Some, None, [], ◌∷◌, refl, sym, ◌∙◌, ap, cond, arith, length, is_some, map, option_map, unwrap_or, ◌≢◌, ◌<◌, List, slice_get, count_by, get_or, ◌++◌, subst, append_assoc}
+use Rattle.std.specs.Prelude.{◌==◌, option_and_then}
 use Rattle.std.proofs.Math.Decide.{dec_le}
 use Rattle.std.proofs.lemmas.List.Sums.{sum_by-cons, count_by-le-length}
-use Rattle.mm_types.specs.{Answer, Key, Block}
+use Rattle.std.proofs.lemmas.List.{append-nil}
+use Rattle.mm_types.specs.{Kind, View, Range, page_of, range_of, end_of, Answer, Key, Block, Move}
+use Rattle.mm_types.specs.declared.views.Kind.TheVariants as kind
 use Rattle.mm_types.specs.declared.answers.Answer.TheVariants as answer
+use Rattle.mm_life.specs.{numbers_from, FrameLife, after_move, Replays}
 use Rattle.mm_blocks.specs.{CallFailed}
-use Rattle.mm_world.specs.{Page, area_at, Tables, shared_key}
-use Rattle.mm_pages.specs.{Ghosts as PagesGhosts, Served, wrote, StoreOf}
+use Rattle.mm_blocks.proofs.{all_served_later, failed_later}
+use Rattle.mm_world.specs.{RegionOf, ProcessOf, pages_of, Found, process_of, area_at, Tables, shared_key, flushed_view, flushed_range, Page}
+use Rattle.mm_pages.specs.{Ghosts as PagesGhosts, Served, wrote, StoreOf, FlushedAt, ends_lost, life_through, ByMoves, FlushesPage, Flushes, PassesIn}
+use Rattle.mm_pages.specs.{Turns, MakesFrom}
 use Rattle.mm_sections.specs.{number_of_block}
-use Rattle.mm_tables.proofs.{one_if}
+use Rattle.mm_pages.proofs.{served_none, served_then, Joins, passes_then, moved_then, turns_same}
+use Rattle.mm_pages.specs.Behind.{Behind}
+use Rattle.mm_pages.specs.Flushing.{Flushing}
+use Rattle.mm_pages.proofs.Passed as passed
+use Rattle.mm_tables.proofs.{one_if, fits_wrote}
 use Rattle.mm_tables.specs.{FitsTables, IsTidy}
-use Rattle.mm_calls.specs.{AnswersFlush, FlushesBlocks, AreHeld, InBlocks}
-use Rattle.mm_blocks.proofs.{all_served_later, failed_later, named_as_before}
-use Rattle.mm_pages.proofs.{served_none, served_then}
+use Rattle.mm_calls.specs.{keys_from, keys_of_region, flushed_keys, AnswersFlush, FlushesBlocks, AreHeld, InBlocks}
+use Rattle.mm_calls.proofs.Around.{mapped}
+
+keys_mapped : (area vfirst base first n : ℕ) → base ≤ first → map (λ page. shared_key area (vfirst + (page - base))) (numbers_from first n) ≡ keys_from area (vfirst + (first - base)) n
+keys_mapped area vfirst base first zero low = refl
+keys_mapped area vfirst base first (suc n) low =
+    let next : vfirst + (first + 1 - base) ≡ vfirst + (first - base) + 1 = omega (arith, low) in
+    ap (λ ks. shared_key area (vfirst + (first - base)) ∷ ks) (keys_mapped area vfirst base (first + 1) n (omega (arith, low)) ∙ ap (λ (k : ℕ). keys_from area k n) next)
+
+first_is : (b : Bool) (r : RegionOf (Unit {0})) (addr size : ℕ) → (let whole : Range = record { first = page_of addr; count = end_of (pages_of r) - page_of addr } in (cond b whole (range_of addr size)).first) ≡ page_of addr
+first_is true r addr size = refl
+first_is false r addr size = refl
+
+count_is : (b : Bool) (r : RegionOf (Unit {0})) (addr size before first count meant : ℕ) → first ≡ r.base → count ≡ length r.rows → before ≡ page_of addr - first → first ≤ page_of addr → meant ≡ (range_of addr (cond b 1 size)).count → cond b (count - before) meant ≡ (let whole : Range = record { first = page_of addr; count = end_of (pages_of r) - page_of addr } in (cond b whole (range_of addr size)).count)
+count_is true r addr size before first count meant base rows is low range = omega (arith, base, rows, is, low)
+count_is false r addr size before first count meant base rows is low range = range
+
+-- how many pages are flushed
+pub flushed_count_is : (r : RegionOf (Unit {0})) (addr size before first count meant : ℕ) → first ≡ r.base → count ≡ length r.rows → before ≡ page_of addr - first → first ≤ page_of addr → meant ≡ (range_of addr (cond (size == 0) 1 size)).count → cond (size == 0) (count - before) meant ≡ (flushed_range r addr size).count
+flushed_count_is r addr size before first count meant base rows is low range = count_is (size == 0) r addr size before first count meant base rows is low range
+
+-- the keys of the region that is found
+pub flushed_are : (t : Tables) (pid : ℕ) (p : ProcessOf (Unit {0})) (addr size : ℕ) (r : Found (RegionOf (Unit {0}))) (v : View) (before count : ℕ) → process_of t pid ≡ Some p → flushed_view p.regions addr size ≡ Some r → r.thing.kind ≡ kind.View v → r.thing.base ≤ page_of addr → before ≡ page_of addr - r.thing.base → count ≡ (flushed_range r.thing addr size).count → cond (is_some (area_at t v.area.0).file_block) (keys_from v.area.0 (v.first + before) count) [] ≡ flushed_keys t pid addr size
+flushed_are t pid p addr size r v before count lives found is low begins counts =
+    let range = flushed_range r.thing addr size in
+    let first : range.first ≡ page_of addr = first_is (size == 0) r.thing addr size in
+    let keys : map (λ page. shared_key v.area.0 (v.first + (page - r.thing.base))) (numbers_from range.first range.count) ≡ keys_from v.area.0 (v.first + before) count =
+    keys_mapped v.area.0 v.first r.thing.base range.first range.count (omega (arith, first, low))
+    ∙ ap (λ (k : ℕ). keys_from v.area.0 k range.count) (let same : v.first + (range.first - r.thing.base) ≡ v.first + before = omega (arith, first, begins) in same)
+    ∙ ap (keys_from v.area.0 (v.first + before)) (sym counts) in
+    sym (
+    ap (λ (o : Option (ProcessOf (Unit {0}))). unwrap_or (option_and_then (λ (p : ProcessOf (Unit {0})). option_map (λ (r : Found (RegionOf (Unit {0}))). keys_of_region t addr size r.thing.kind r.thing) (flushed_view p.regions addr size)) o) []) lives
+    ∙ ap (λ (o : Option (Found (RegionOf (Unit {0})))). unwrap_or (option_map (λ (r : Found (RegionOf (Unit {0}))). keys_of_region t addr size r.thing.kind r.thing) o) []) found
+    ∙ ap (λ (k : Kind). keys_of_region t addr size k r.thing) is
+    ∙ ap (λ ks. cond (is_some (area_at t v.area.0).file_block) ks []) keys
+    )
+
+-- where there is no process, or no such view, there are none
+pub no_process : (t : Tables) (pid addr size : ℕ) → is_some (process_of t pid) ≡ false → [] ≡ flushed_keys t pid addr size
+no_process t pid addr size none = by_process (process_of t pid) none
+  where
+    by_process : (o : Option (ProcessOf (Unit {0}))) → is_some o ≡ false → [] ≡ unwrap_or (option_and_then (λ (p : ProcessOf (Unit {0})). option_map (λ (r : Found (RegionOf (Unit {0}))). keys_of_region t addr size r.thing.kind r.thing) (flushed_view p.regions addr size)) o) []
+    by_process None none = refl
+    by_process (Some p) none = cc
+
+pub no_view : (t : Tables) (pid : ℕ) (p : ProcessOf (Unit {0})) (addr size : ℕ) → process_of t pid ≡ Some p → flushed_view p.regions addr size ≡ None → [] ≡ flushed_keys t pid addr size
+no_view t pid p addr size lives none =
+    sym (
+    ap (λ (o : Option (ProcessOf (Unit {0}))). unwrap_or (option_and_then (λ (p : ProcessOf (Unit {0})). option_map (λ (r : Found (RegionOf (Unit {0}))). keys_of_region t addr size r.thing.kind r.thing) (flushed_view p.regions addr size)) o) []) lives
+    ∙ ap (λ (o : Option (Found (RegionOf (Unit {0})))). unwrap_or (option_map (λ (r : Found (RegionOf (Unit {0}))). keys_of_region t addr size r.thing.kind r.thing) o) []) none
+    )
+
+-- ---- pages of a file are flushed one after another
 
 -- ---- one page after another
 
@@ -40,7 +100,7 @@ pub wrote_then : (s z y : StoreOf) → z ≡ wrote s z → y ≡ wrote z y → y
 wrote_then s z y h k = k ∙ ap (λ (x : StoreOf). wrote x y) h
 
 -- what a flush of a page does
-pub record Flushed (d e : Key → Option Page) (z y : StoreOf) (key : Key) : Type 0 where
+pub record FlushedPage (d e : Key → Option Page) (z y : StoreOf) (key : Key) : Type 0 where
   pub store : y ≡ wrote z y
   pub contents : e ≡ d
   pub holds : (block : ℕ) → z.block_of key ≡ Some block → slice_get y.file_blocks block ≡ d key
@@ -56,7 +116,7 @@ module _ (c d e : Key → Option Page) (s z y : StoreOf) (area first n count blo
   pub next_block : z.block_of (shared_key area (first + n)) ≡ Some (block + (first + n))
   next_block = ap (λ f. f (shared_key area (first + n))) same_blocks ∙ blocks.at (first + n) (omega arith) (omega (arith, few))
 
-  held_next : Flushed d e z y (shared_key area (first + n)) → (index b : ℕ) → first ≤ index → index < first + (n + 1) → s.block_of (shared_key area index) ≡ Some b → slice_get y.file_blocks b ≡ c (shared_key area index)
+  held_next : FlushedPage d e z y (shared_key area (first + n)) → (index b : ℕ) → first ≤ index → index < first + (n + 1) → s.block_of (shared_key area index) ≡ Some b → slice_get y.file_blocks b ≡ c (shared_key area index)
   held_next h index b low high at =
       let here : Some b ≡ Some (block + index) = sym at ∙ blocks.at index low (omega (arith, high, few)) in
       let number : b ≡ block + index = cc in
@@ -70,7 +130,7 @@ module _ (c d e : Key → Option Page) (s z y : StoreOf) (area first n count blo
             ∙ before.held index b low (omega (arith, earlier)) at
       ]
 
-  pub flushed_more : Flushed d e z y (shared_key area (first + n)) → FlushedTo c e s y area first (n + 1)
+  pub flushed_more : FlushedPage d e z y (shared_key area (first + n)) → FlushedTo c e s y area first (n + 1)
   flushed_more h =
       record {
         store = wrote_then s z y before.store h.store;
@@ -87,30 +147,10 @@ blamed_since s z y h failed = failed_later s.file_device z.file_device y.file_de
 
 -- ---- a store that was only written to
 
-pub fits_written : (t : Tables) (c d : Key → Option Page) (s z : StoreOf) → FitsTables t c s → z ≡ wrote s z → d ≡ c → Served s z → length z.file_blocks ≡ length s.file_blocks → FitsTables t d z
-fits_written t c d s z f e same served stored =
-    record {
-      machine = ap (λ (x : StoreOf). x.machine) e ∙ f.machine;
-      opened = λ pid. ap (λ (x : StoreOf). x.is_open pid) e ∙ f.opened pid;
-      last_pid = ap (λ (x : StoreOf). x.last_pid + 1) e ∙ f.last_pid;
-      areas = λ area. ap (λ (x : StoreOf). x.areas area) e ∙ f.areas area;
-      bound = λ place. ap (λ (x : StoreOf). x.bound place) e ∙ f.bound place;
-      live = λ k. ap (λ (c : Key → Option Page). is_some (c k)) same ∙ f.live k;
-      paging = λ k. ap (λ (x : StoreOf). x.paging k) e ∙ f.paging k;
-      counted = ap (λ (x : StoreOf). x.paging_keys) e ∙ f.counted;
-      room = omega (arith, f.room, ap (λ (x : StoreOf). x.room) e);
-      named = λ place k n. f.named place k (sym (ap (λ (x : StoreOf). x.names place) e) ∙ n);
-      blocks = λ k. ap (λ (x : StoreOf). x.block_of k) e ∙ f.blocks k;
-      used = ap (λ (x : StoreOf). x.blocks_used) e ∙ f.used;
-      stored = stored ∙ f.stored;
-      named_paging = omega (arith, f.named_paging, ap (λ (x : StoreOf). length x.paging_device.named) e);
-      named_file = omega (arith, f.named_file, named_as_before served.file_calls s.file_device z.file_device served.files);
-    }
-
 -- a flush is answered, with the failure that it is blamed on
 pub answers_flushed : {G : Type 0} (p : PagesGhosts G) {t : Tables} {g h : G} → FitsTables t (p.contents g) (p.store g) → FlushesBlocks p g h → (a : Answer) → (a ≡ answer.Fault → CallFailed (p.store g).file_device (p.store h).file_device) → AnswersFlush p t a g h
 answers_flushed p {t = t} {g = g} {h = h} fits e a blamed =
-    assumption (fits_written t (p.contents g) (p.contents h) (p.store g) (p.store h) fits e.store e.contents e.served e.stored, blamed, e)
+    assumption (fits_wrote t (p.contents g) (p.contents h) (p.store g) (p.store h) fits e.contents e.store e.stored e.served, blamed, e)
 
 -- ---- a file's pages have blocks in a row
 
@@ -132,9 +172,151 @@ in_blocks t c s area first count block f tidy file inside =
     }
 
 pub block_told : (o : Option ℕ) (b : Block) → option_map number_of_block o ≡ Some b → o ≡ Some b.0
-block_told None b e = cc
-block_told (Some n) b e = let same : number_of_block n ≡ b = cc in ap (λ (b : Block). Some b.0) same
+block_told o b e = let m = mapped number_of_block o b e in m.1.0 ∙ ap (λ (b : Block). Some b.0) m.1.1
 
 pub block_none : (o : Option ℕ) → option_map number_of_block o ≡ None → is_some o ≡ false
 block_none None e = refl
 block_none (Some n) e = cc
+
+-- ---- the moves of pages that are flushed one after another
+
+-- ---- pages one after another
+
+-- the pages of these keys were flushed, and no write failed
+abbrev pub Flushed : FrameLife → List Key → List Move → Type 0
+Flushed l [] ms = ms ≡ []
+Flushed l (k ∷ ks) ms =
+    (front : List Move) × ((behind : List Move) × ((ms ≡ front ++ behind) × FlushedAt l (l.stands k) front × (ends_lost front ≡ false) × Flushed (life_through l front) ks behind))
+
+replays_behind : (xs ys : List Move) (l m : FrameLife) → Replays (xs ++ ys) l m → Replays ys (life_through l xs) m
+replays_behind [] ys l m r = r
+replays_behind (x ∷ xs) ys l m r = replays_behind xs ys (after_move l x) m r.1
+
+flushed_then : (l m : FrameLife) (ks js : List Key) (ms ns : List Move) → Replays ms l m → Flushed l ks ms → Flushed m js ns → Flushed l (ks ++ js) (ms ++ ns)
+flushed_then l m [] js ms ns r p q =
+    subst (λ ms. Flushed l js (ms ++ ns)) (sym p) (subst (λ (x : FrameLife). Flushed x js ns) (subst (λ ms. Replays ms l m) p r) q)
+flushed_then l m (k ∷ ks) js ms ns r p q =
+    let rest = replays_behind p.0 p.1.0 l m (subst (λ ms. Replays ms l m) p.1.1.0 r) in
+    (p.0, (p.1.0 ++ ns, (ap (λ xs. xs ++ ns) p.1.1.0 ∙ append_assoc p.0 p.1.0 ns, p.1.1.1, p.1.1.2, flushed_then (life_through l p.0) m ks js p.1.0 ns rest p.1.1.3 q)))
+
+flushing_then : (l m : FrameLife) (ks js : List Key) (ms ns : List Move) → Replays ms l m → Flushed l ks ms → Flushing m js ns → Flushing l (ks ++ js) (ms ++ ns)
+flushing_then l m [] js ms ns r p q =
+    subst (λ ms. Flushing l js (ms ++ ns)) (sym p) (subst (λ (x : FrameLife). Flushing x js ns) (subst (λ ms. Replays ms l m) p r) q)
+flushing_then l m (k ∷ ks) js ms ns r p q = (
+  p.0,
+  (
+    p.1.0 ++ ns,
+    (
+      ap (λ xs. xs ++ ns) p.1.1.0 ∙ append_assoc p.0 p.1.0 ns,
+      p.1.1.1,
+      (λ lost. let bad : true ≡ false = sym lost ∙ p.1.1.2 in cc),
+      (λ ok. flushing_then (life_through l p.0) m ks js p.1.0 ns (replays_behind p.0 p.1.0 l m (subst (λ ms. Replays ms l m) p.1.1.0 r)) p.1.1.3 q),
+    ),
+  ),
+)
+
+-- the pages behind one whose write failed are flushed no more
+flushing_last : (l : FrameLife) (k : Key) (ks : List Key) (ms : List Move) → FlushedAt l (l.stands k) ms → ends_lost ms ≡ true → Flushing l (k ∷ ks) ms
+flushing_last l k ks ms p lost = (ms, ([], (sym (append-nil ms), p, (λ was. refl), (λ ok. let bad : true ≡ false = sym lost ∙ ok in cc))))
+
+flushed_one : (l : FrameLife) (k : Key) (ms : List Move) → FlushedAt l (l.stands k) ms → ends_lost ms ≡ false → Flushed l (k ∷ []) ms
+flushed_one l k ms p ok = (ms, ([], (sym (append-nil ms), p, ok, refl)))
+
+flushing_all : (l : FrameLife) (ks : List Key) (ms : List Move) → Flushed l ks ms → Flushing l ks ms
+flushing_all l [] ms p = p
+flushing_all l (k ∷ ks) ms p = (p.0, (p.1.0, (p.1.1.0, p.1.1.1, (λ lost. let bad : true ≡ false = sym lost ∙ p.1.1.2 in cc), (λ ok. flushing_all (life_through l p.0) ks p.1.0 p.1.1.3))))
+
+-- ---- calls of a store, one after another
+
+pub record WereFlushed (keys : List Key) (b : Behind) (moves : List Move) (c : Behind) : Type 0 where
+  pub pages : Flushed b.life keys moves
+  pub moved : ByMoves b moves c
+  pub slots : c.slots ≡ b.slots
+
+-- a page behind those that were flushed: its write was made
+more_join : (ks : List Key) (k : Key) → Joins (WereFlushed ks) (FlushesPage k true) (WereFlushed (ks ++ k ∷ []))
+more_join ks k = record {
+  join = λ b c d xs ys r p q. record {
+    pages = flushed_then b.life c.life ks (k ∷ []) xs ys r p.pages (flushed_one c.life k ys q.page q.ends);
+    moved = moved_then b c d xs ys p.moved q.moved;
+    slots = q.slots ∙ p.slots;
+  };
+}
+
+-- or it failed
+last_join : (ks : List Key) (k : Key) (js : List Key) → Joins (WereFlushed ks) (FlushesPage k false) (Flushes (ks ++ k ∷ js))
+last_join ks k js = record {
+  join = λ b c d xs ys r p q. record {
+    pages = flushing_then b.life c.life ks (k ∷ js) xs ys r p.pages (flushing_last c.life k js ys q.page q.ends);
+    moved = moved_then b c d xs ys p.moved q.moved;
+    slots = q.slots ∙ p.slots;
+  };
+}
+
+-- no page: a call that makes none, twice
+were_none : (u : Bool) (s : StoreOf) (b : Behind) → PassesIn u (WereFlushed []) s s b b
+were_none u s b =
+    let none = MakesFrom 0 0 in
+    passes_then u (Turns none) (Turns none) (WereFlushed []) s s s b b b
+    (record {
+      join = λ b c d xs ys r p q. record {
+        pages = (λ i. passed.none_made b.life xs p.turned i ++ passed.none_made c.life ys q.turned i);
+        moved = moved_then b c d xs ys p.moved q.moved;
+        slots = q.slots ∙ p.slots;
+      };
+    }) (turns_same u none s b) (turns_same u none s b)
+
+-- all of them, and none behind
+were_all : (u : Bool) (ks : List Key) (s z : StoreOf) (b c : Behind) → PassesIn u (WereFlushed ks) s z b c → PassesIn u (Flushes ks) s z b c
+were_all u ks s z b c p =
+    passes_then u (WereFlushed ks) (WereFlushed []) (Flushes ks) s z z b c c
+    (record {
+      join = λ b c d xs ys r p q. record {
+        pages = subst (λ zs. Flushing b.life ks (xs ++ zs)) (sym q.pages) (subst (Flushing b.life ks) (sym (append-nil xs)) (flushing_all b.life ks xs p.pages));
+        moved = moved_then b c d xs ys p.moved q.moved;
+        slots = q.slots ∙ p.slots;
+      };
+    }) p (were_none u z c)
+
+-- ---- the pages of an area
+
+keys_more : (area first n : ℕ) → keys_from area first n ++ shared_key area (first + n) ∷ [] ≡ keys_from area first (suc n)
+keys_more area first zero = ap (λ (k : ℕ). shared_key area k ∷ []) (let same : first + 0 ≡ first = omega arith in same)
+keys_more area first (suc n) =
+    ap (λ ks. shared_key area first ∷ ks)
+    (ap (λ (k : ℕ). keys_from area (first + 1) n ++ shared_key area k ∷ []) (let same : first + suc n ≡ first + 1 + n = omega arith in same) ∙ keys_more area (first + 1) n)
+
+keys_split : (area first n m : ℕ) → keys_from area first n ++ keys_from area (first + n) m ≡ keys_from area first (n + m)
+keys_split area first zero m =
+    let here : first + 0 ≡ first = omega arith in
+    let same : m ≡ 0 + m = omega arith in
+    ap (λ (k : ℕ). keys_from area k m) here ∙ ap (keys_from area first) same
+keys_split area first (suc n) m =
+    let here : first + suc n ≡ first + 1 + n = omega arith in
+    let same : suc (n + m) ≡ suc n + m = omega arith in
+    ap (λ ks. shared_key area first ∷ ks) (ap (λ (k : ℕ). keys_from area (first + 1) n ++ keys_from area k m) here ∙ keys_split area (first + 1) n m)
+    ∙ ap (keys_from area first) same
+
+pub flushes_none : (u : Bool) (s : StoreOf) (b : Behind) → PassesIn u (Flushes []) s s b b
+flushes_none u s b = were_all u [] s s b b (were_none u s b)
+
+pub loop_none : (u : Bool) (area first : ℕ) (s : StoreOf) (b : Behind) → PassesIn u (WereFlushed (keys_from area first 0)) s s b b
+loop_none u area first s b = were_none u s b
+
+pub loop_more : (u : Bool) (area first n : ℕ) (s y z : StoreOf) (b c d : Behind) → PassesIn u (WereFlushed (keys_from area first n)) s y b c → PassesIn u (FlushesPage (shared_key area (first + n)) true) y z c d → PassesIn u (WereFlushed (keys_from area first (n + 1))) s z b d
+loop_more u area first n s y z b c d p q =
+    let more : suc n ≡ n + 1 = omega arith in
+    let k = shared_key area (first + n) in
+    subst (λ ks. PassesIn u (WereFlushed ks) s z b d) (keys_more area first n ∙ ap (keys_from area first) more)
+    (passes_then u (WereFlushed (keys_from area first n)) (FlushesPage k true) (WereFlushed (keys_from area first n ++ k ∷ [])) s y z b c d (more_join (keys_from area first n) k) p q)
+
+pub loop_all : (u : Bool) (area first n count : ℕ) (s z : StoreOf) (b c : Behind) → n ≡ count → PassesIn u (WereFlushed (keys_from area first n)) s z b c → PassesIn u (Flushes (keys_from area first count)) s z b c
+loop_all u area first n count s z b c all p = subst (λ (n : ℕ). PassesIn u (Flushes (keys_from area first n)) s z b c) all (were_all u (keys_from area first n) s z b c p)
+
+pub loop_ended : (u : Bool) (area first n count : ℕ) (s y z : StoreOf) (b c d : Behind) → n < count → PassesIn u (WereFlushed (keys_from area first n)) s y b c → PassesIn u (FlushesPage (shared_key area (first + n)) false) y z c d → PassesIn u (Flushes (keys_from area first count)) s z b d
+loop_ended u area first n count s y z b c d few p q =
+    let k = shared_key area (first + n) in
+    let rest = keys_from area (first + n + 1) (count - n - 1) in
+    let all : n + suc (count - n - 1) ≡ count = omega (arith, few) in
+    subst (λ ks. PassesIn u (Flushes ks) s z b d) (keys_split area first n (suc (count - n - 1)) ∙ ap (keys_from area first) all)
+    (passes_then u (WereFlushed (keys_from area first n)) (FlushesPage k false) (Flushes (keys_from area first n ++ k ∷ rest)) s y z b c d (last_join (keys_from area first n) k rest) p q)

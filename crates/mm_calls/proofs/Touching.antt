@@ -1,7 +1,8 @@
 -- What the definition of a `probe` line comes to.
-use Rattle.std.proofs.Common.{◌≡◌, ◌≤◌, ◌*◌, ℕ, Bool, true, false, Option, Some, None, refl, ◌∙◌, ap, cond, not, arith, ◌&&◌, ◌||◌, option_map}
-use Rattle.std.specs.Prelude.{◌==◌, option_and_then}
+use Rattle.std.proofs.Common.{◌≡◌, ◌≤◌, ◌*◌, ℕ, Bool, true, false, Some, None, refl, ◌∙◌, ap, cond, not, arith, ◌&&◌, ◌||◌, option_map}
+use Rattle.std.specs.Prelude.{◌==◌}
 use Rattle.std.specs.Cmp.{unsigned_Decides}
+use Rattle.std.proofs.lemmas.Option.{option_and_then_some}
 use Rattle.mm_types.specs.declared.answers.Answer.TheVariants as answer
 use Rattle.mm_types.specs.declared.codes.Raise.TheVariants as raise
 use Rattle.mm_types.specs.declared.protections.Access.TheVariants as access_kind
@@ -11,6 +12,7 @@ use Rattle.mm_world.specs.{Tables, probe, probe_of, probe_in, probe_at, grown, i
 use Rattle.mm_world.specs.Alloc.{commit_pages}
 use Rattle.mm_tables.specs.{CommittedRow, committed_row, told_committed}
 use Rattle.mm_world.proofs.{at_alive}
+use Rattle.mm_calls.proofs.Around.{mapped}
 
 module _ {B : Type 0} (fill : ℕ → B) (w : WorldOf B) (tid addr : ℕ) where
   pub at_nobody : stack_by w tid ≡ None → probe fill w tid addr ≡ done answer.Nothing w
@@ -69,17 +71,10 @@ pub record IsTold (t : Tables) (pid page : ℕ) (row : CommittedRow) : Type 0 wh
   pub prot : committed.row.prot ≡ row.prot.0
 
 pub told : (t : Tables) (pid page : ℕ) (row : CommittedRow) → committed_row t pid page ≡ Some row → IsTold t pid page row
-told t pid page row e = by_process (process_of t pid) refl e
-  where
-    by_row : (p : ProcessOf (Unit {0})) (o : Option (Committed (Unit {0}))) → process_of t pid ≡ Some p → committed_at t p.regions page ≡ o → option_map (told_committed pid page) o ≡ Some row → IsTold t pid page row
-    by_row p None lives there e = cc
-    by_row p (Some c) lives there e =
-        let same : told_committed pid page c ≡ row = cc in
-        record { process = p; lives = lives; committed = c; there = there; guard = ap (λ (r : CommittedRow). r.guard) same; prot = ap (λ (r : CommittedRow). r.prot.0) same }
-
-    by_process : (o : Option (ProcessOf (Unit {0}))) → process_of t pid ≡ o → option_and_then (λ (p : ProcessOf (Unit {0})). option_map (told_committed pid page) (committed_at t p.regions page)) o ≡ Some row → IsTold t pid page row
-    by_process None lives e = cc
-    by_process (Some p) lives e = by_row p (committed_at t p.regions page) lives refl e
+told t pid page row e =
+    option_and_then_some (λ (p : ProcessOf (Unit {0})). option_map (told_committed pid page) (committed_at t p.regions page)) (process_of t pid) row e (λ p lives at.
+    let c = mapped (told_committed pid page) (committed_at t p.regions page) row at in
+    record { process = p; lives = lives; committed = c.0; there = c.1.0; guard = ap (λ (r : CommittedRow). r.guard) c.1.1; prot = ap (λ (r : CommittedRow). r.prot.0) c.1.1 })
 
 -- ---- growth
 

@@ -3,7 +3,7 @@
 use Rattle.std.specs.Prelude.{◌≡◌, ◌≤◌, ◌<◌, ◌+◌, ◌^◌, ℕ, true, is_some, length, min, nat_le, Option, Some, Result, IfOk, IsOk, OnErr}
 use Rattle.mm_types.specs.{Answer, NoMemory, Key, Pid, Range}
 use Rattle.mm_types.specs.declared.moves.LineKind.TheVariants as line_kind
-use Rattle.mm_world.specs.{Page, ProcessOf, charge, limit, Tables, blank, process_of, OutcomeOf, new_process, most_processes}
+use Rattle.mm_world.specs.{Page, ProcessOf, charge, limit, Tables, blank, process_of, OutcomeOf, is_success, new_process, most_processes}
 use Rattle.mm_world.specs.Alloc.{commit_pages}
 use Rattle.mm_pages.specs.{Ghosts as PagesGhosts, Turn, MakesFrom, MakesStack, leaving, StoreOf}
 use Rattle.mm_pages.specs.Housekeeping.{Goes}
@@ -76,6 +76,16 @@ module _ {G : Type 0} (p : PagesGhosts G) where
     pub tables : after ≡ t
     pub contents : p.contents h ≡ p.contents g
     pub settled : Settled after (p.contents g) (p.contents h) (p.store g) (p.store h)
+
+  -- something comes to be in a living process as the definition says, or memory ran out, which it
+  -- does only where that succeeds
+  pub record MakesIn (pid : Pid) (q : ProcessOf (Unit {0}) → OutcomeOf (Unit {0}))
+      (result : Result Answer NoMemory) (t : Tables) (g : G) (after : Tables) (h : G) :
+      Type 0 where
+    pub done : IfOk result (λ a. DecidesIn pid q t g a after h)
+    pub broke : OnErr result (LacksMemory t g after h)
+    pub succeeds : OnErr result ((x : ProcessOf (Unit {0})) → process_of t pid.0 ≡ Some x →
+        is_success (q x).answer ≡ true)
 
   -- memory ran out: nothing has changed
   pub record ChangesNothing (t : Tables) (g : G) (after : Tables) (h : G) : Type 0 where

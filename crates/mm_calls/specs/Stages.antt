@@ -1,14 +1,14 @@
 -- What is left of a call once its first tests were passed.
 -- Profile, "Calls".
 use Rattle.std.specs.Prelude.{ℕ, true, false, zero, suc, [], ◌∷◌, ◌++◌, map, is_some, unwrap_or, option_map, option_and_then, ◌-◌, ◌+◌, ◌≡◌, ◌≤◌, ◌<◌, ◌&&◌, ◌==◌, nat_lt, nat_le, if◌then◌else◌, Option, Some, None, slice_get, List, length}
-use Rattle.mm_types.specs.{Answer, Key, Kind, View, ViewAccess, Range, page_of, pages_for, address_of, is_granule_address, Text}
+use Rattle.mm_types.specs.{Answer, Key, Kind, View, ViewAccess, Range, page_of, range_of, pages_for, address_of, is_granule_address, Text}
 use Rattle.mm_types.specs.declared.answers.Answer.TheVariants as answer
 use Rattle.mm_types.specs.declared.codes.Code.TheVariants as code
 use Rattle.mm_types.specs.declared.views.Kind.TheVariants as kind
 use Rattle.mm_pages.specs.{WritesFile, StoreOf}
 use Rattle.mm_world.specs.{Page, ProcessOf, RegionOf, SectionOf, Found, process_of, add_region, ranges_of, set_regions, area_at, placed, Tables}
 use Rattle.mm_world.specs.{blank, shared_key, OutcomeOf, done, need, find_or, within_limit, new_section, paging_area, section_prot, may_view}
-use Rattle.mm_world.specs.{view_region, flushed_view, flushed_range}
+use Rattle.mm_world.specs.{view_region, flushed_view, flushed_range, pages_of, private_at, private_around}
 use Rattle.mm_life.specs.{numbers_from}
 
 -- the pages of a view of a section of `total` pages, from the page `first` on; length 0 means to
@@ -20,6 +20,12 @@ abbrev pub are_viewed : ℕ → ℕ → ℕ → Option ℕ
 are_viewed total first size =
     let count = viewed total first size in if nat_lt first total &&
     nat_le (first + count) total then Some count else None
+
+-- `free`: the pages that it means, where they lie in a private region as it asks
+abbrev pub freed_pages : List (RegionOf (Unit {0})) → ℕ → ℕ → Option Range
+freed_pages regions addr size =
+    if size == 0 then option_map (λ r. pages_of r.thing) (private_at regions addr)
+    else option_map (λ r. range_of addr size) (private_around regions (range_of addr size))
 
 -- `create`: no section has the name, and one is made
 abbrev pub make_section :

@@ -1,19 +1,19 @@
-ghost use Rattle.std.specs.Prelude.{[], false, is_some, ◌≡◌, ◌==◌, ◌≤◌, ◌<◌, ◌+◌, nat_lt, if◌then◌else◌, length, IfOk, IsOk, OnErr};
+ghost use Rattle.std.specs.Prelude.{[], false, is_some, ◌≡◌, ◌==◌, ◌≤◌, ◌<◌, ◌+◌, ◌^◌, nat_lt, if◌then◌else◌, length, IfOk, IsOk, OnOk, OnErr};
 ghost use Rattle.mm_types.specs.declared.answers.Answer.TheVariants as answer;
+ghost use Rattle.mm_types.specs.declared.moves.LineKind.TheVariants as line_kind;
 ghost use Rattle.mm_types.specs.{range_of};
 ghost use Rattle.mm_world.specs.{area_at, blank, is_success, new_file};
 ghost use Rattle.mm_pages.specs.{Turns, Makes, Flushes, PassesIn, NotesIn};
 ghost use Rattle.mm_tables.specs.{IsFew, BlocksHold, flush_told, file_block_in};
-ghost use Rattle.mm_calls.specs.Stages.{AreHeld, keys_from, flushed_keys};
+ghost use Rattle.mm_calls.specs.Stages.{AreHeld, InBlocks, keys_from, flushed_keys};
 ghost use Rattle.mm_calls.specs.CallPromises.{BeginsWrites, ChangesNothing};
-ghost use Rattle.mm_calls.specs.DevicePromises.{AnswersFile, AnswersFlush};
+ghost use Rattle.mm_calls.specs.DevicePromises.{AnswersFile, AnswersFlush, FlushesBlocks, HoldsPages, FailsWrite};
 
-use crate::flushes::flush_pages;
 use crate::views::view_of;
 use mm_pages::Pages;
 use mm_spaces::PageRange;
 use mm_tables::Tables;
-use mm_types::{Answer, Code, MakeFault, Name, NoMemory, Pid, View, WriteFault};
+use mm_types::{Answer, Area, Block, Code, Key, MakeFault, Name, NoMemory, Pid, View, WriteFault};
 use std::alloc::Global;
 
 /// `file` (CreateFile): a file of `pages` pages, in the lowest blocks that no file uses; page i
@@ -138,4 +138,30 @@ fn flush_view_pages<G: Pages>(t: &Tables, g: &mut G, view: View, before: u32, co
             Err(WriteFault) => Answer::Fault,
         },
     }
+}
+
+/// Flushes `count` pages of a file's area from the index `first` on, in rising order, up to the
+/// first that is not written. The pages have blocks in a row, the page with the index i the block
+/// `block + i`.
+fn flush_pages<G: Pages>(
+    g: &mut G,
+    area: Area,
+    first: u32,
+    count: u32,
+    block: Block,
+) -> Result<(), WriteFault>
+    requires kind { (G.store g.old).kind ≡ line_kind.Call }
+    requires few { first + count < 2 ^ 32 }
+    requires begun { (G.store g.old).report.file_writes.failed ≡ 0 }
+    requires blocks { InBlocks (G.store g.old).block_of area.0 first count block.0 }
+    ensures flushes { FlushesBlocks G.Pages g.old g.new }
+    ensures held { OnOk result (HoldsPages G.Pages area.0 first count g.old g.new) }
+    ensures broke { OnErr result (FailsWrite G.Pages g.old g.new) }
+    ensures passes { PassesIn G.unpaged (Flushes (keys_from area.0 first count)) (G.store g.old)
+        (G.store g.new) (G.behind g.old) (G.behind g.new) }
+{
+    for i in 0..count {
+        g.flush(Key::Shared(area, first + i))?;
+    }
+    Ok(())
 }

@@ -6,35 +6,22 @@
 //! `mm_tables`.
 #![tactic(auto)]
 
-mod allocations;
 mod files;
-mod flushes;
-mod frees;
 mod machine_calls;
-mod mappings;
 mod memory_calls;
-mod new_sections;
 mod parameters;
 mod probes;
-mod process_ends;
-mod protections;
 mod queries;
-mod section_parameters;
 mod sections;
 mod stack_laws;
-mod stack_regions;
-mod stack_sizes;
 mod stacks;
 mod views;
-mod watch_calls;
 
-pub use allocations::commit;
 pub use files::{flush_view, new_file};
-pub use machine_calls::{grow_paging, new_process};
-pub use memory_calls::{protect, valloc, vfree};
+pub use machine_calls::{end_process, grow_paging, new_process};
+pub use memory_calls::{commit, protect, valloc, vfree};
 pub use probes::probe;
-pub use process_ends::end_process;
-pub use queries::query;
+pub use queries::{query, reset_watch, watch};
 pub use sections::{close, create, create_file, open_section};
 pub use stack_laws::{
     growth_stays_above_the_base_page, growth_succeeds_in_the_region,
@@ -43,4 +30,3 @@ pub use stack_laws::{
 };
 pub use stacks::stack;
 pub use views::{map, unmap};
-pub use watch_calls::{reset_watch, watch};

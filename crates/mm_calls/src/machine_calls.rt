@@ -1,14 +1,14 @@
 ghost use Rattle.std.specs.Prelude.{◌≡◌, ◌≤◌, ◌+◌, ◌-◌, false, length, nat_le, IfOk, IsOk, OnErr};
-ghost use Rattle.mm_world.specs.{is_success, grow, new_process, most_processes};
+ghost use Rattle.mm_world.specs.{is_success, grow, new_process, most_processes, exit};
 ghost use Rattle.mm_pages.specs.{begun, NotesIn};
 ghost use Rattle.mm_calls.specs.Growing.{GrowsBy};
 ghost use Rattle.mm_tables.specs.{FitsTables, StaysIdle};
-ghost use Rattle.mm_calls.specs.CallPromises.{BeginsProcess, AnswersCall, ChangesNothing};
+ghost use Rattle.mm_calls.specs.CallPromises.{BeginsProcess, BeginsRelease, AnswersCall, ChangesNothing, LosesPages};
 ghost use Rattle.mm_calls.specs.DevicePromises.{AnswersGrow};
 
 use mm_pages::Pages;
 use mm_tables::Tables;
-use mm_types::{Answer, GrowFault, LineKind, NoMemory};
+use mm_types::{Answer, Code, GrowFault, LineKind, NoMemory, Pid};
 use std::alloc::Global;
 
 /// The most page-file slots of a machine.
@@ -40,6 +40,23 @@ pub fn new_process<G: Pages>(
     };
     t.add_process(allocator, g, pid, min, max)?;
     Ok(Answer::NewProcess(pid))
+}
+
+/// `exit` (ExitProcess): the process's handles are closed, its views unmapped, its private regions
+/// released, and with them the stacks of threads in it; what threads keep of it is dropped.
+///
+/// `InvalidHandle` for a process that does not live.
+#[tactic(auto, using(mm_pages::proofs::Passed::turns_same))]
+pub fn end_process<G: Pages>(t: &mut Tables, g: &mut G, pid: Pid) -> Answer
+    requires begins { BeginsRelease G.Pages pid t.old g.old }
+    ensures done { AnswersCall G.Pages (exit t.old pid.0) t.old g.old result t.new g.new }
+    ensures loses { LosesPages G.Pages pid t.old t.new g.old g.new }
+{
+    if !t.has(pid) {
+        return Answer::Error(Code::InvalidHandle);
+    }
+    t.end_process(g, pid);
+    Answer::Ok
 }
 
 /// `grow` (own): the paging file grows by `n` slots, and the commit limit with it. The call notes

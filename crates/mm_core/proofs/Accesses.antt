@@ -1,27 +1,29 @@
 -- An access to the world of some tables with bytes, by what the tables have at its page.
-use Rattle.std.proofs.Common.{◌≡◌, ℕ, ◌+◌, ◌-◌, ◌≤◌, ◌%◌, Bool, true, false, Option, Some, None, is_some, List, refl, sym, ◌∙◌, ap, subst, cond, take, drop, option_map, unwrap_or, not, ◌&&◌, nat_le, nat_lt}
+use Rattle.std.proofs.Common.{◌≡◌, ℕ, ◌+◌, ◌-◌, ◌≤◌, ◌%◌, Bool, true, false, Option, Some, None, is_some, List, refl, sym, ◌∙◌, ap, subst, cond, take, drop, option_map, unwrap_or, not, ◌&&◌, inr}
 use Rattle.std.specs.Prelude.{option_and_then}
-use Rattle.std.proofs.lemmas.Bool.{leb-true}
+use Rattle.mm_types.specs.{Access, Key, View, page_of, page_size, permits, Pid, Place}
+use Rattle.mm_world.specs.{Page, RowOf, RegionOf, ProcessOf, filled, process_of, shared_page, set_region, change_range, mark_written, one_page, Home}
+use Rattle.mm_world.specs.{Own, InSection, Committed, committed_at, key_of, private_key, shared_key, with_row, set_row, set_shared, guard_off}
+use Rattle.mm_world.specs.{Attempt, ReadOf, WriteOf, Execute, access, access_at, access_of, is_permitted, perform, write_to, written, bytes_of, Need}
+use Rattle.mm_world.specs.{need_of, copies, same_key, OutcomeOf, done, find_or, need_at, store_line, Tables, row_with, process_with, world_with}
+use Rattle.mm_world.specs.{Spaces}
+use Rattle.mm_world.specs.World.{World}
+use Rattle.mm_pages.specs.{touch, place_at, copying, IsReady, MayAccess, IsBegun, started, StoreOf, Ghosts as PagesGhosts}
+use Rattle.mm_tables.specs.{CommittedRow, is_own, MadeAtMost, key_at}
+use Rattle.mm_core.specs.{Refuses, Admits, Marks, CanAccess, CanTurn, row_need, LineBegins, KeepsOver}
+use Rattle.mm_world.proofs.{IsCommitted, committed_is, HomeCases, IsOwn, IsShared, home_cases}
+use Rattle.mm_types.proofs.{and_false, and_true, parts, none_of}
+use Rattle.mm_core.proofs.Alike.{same_key_of}
+use Rattle.mm_core.proofs.Rows.{Lives}
+use Rattle.mm_core.proofs.With.{begins, committed_with, home_with, process-with, committed-with, guard_off-with, shared-with}
+use Rattle.mm_core.proofs.Making.{made-set_region}
+use Rattle.mm_core.proofs.Writing.{written-with, marked-with, copied-with, shared-written}
+use Rattle.mm_world.specs.Report.{Report}
 use Rattle.mm_types.specs.declared.answers.Answer.TheVariants as answer
 use Rattle.mm_types.specs.declared.codes.Code.TheVariants as code
 use Rattle.mm_types.specs.declared.codes.Raise.TheVariants as raise
-use Rattle.mm_types.specs.{Access, Key, View, page_of, page_size, end_of, permits}
 use Rattle.mm_types.specs.declared.views.Kind.TheVariants as kind
-use Rattle.mm_world.specs.{Page, RowOf, RegionOf, ProcessOf, pages_of, filled, process_of, shared_page, set_region, change_range, mark_written}
-use Rattle.mm_world.specs.{one_page, Home, Own, InSection, Committed, committed_at, key_of, private_key, shared_key, with_row, set_row, set_shared}
-use Rattle.mm_world.specs.{guard_off, Attempt, ReadOf, WriteOf, Execute, access, access_at, access_of, is_permitted, perform, write_to, written}
-use Rattle.mm_world.specs.{bytes_of, Need, need_of, copies, same_key, OutcomeOf, done, find_or, need_at, store_line, Tables, row_with, process_with}
-use Rattle.mm_world.specs.{world_with, Spaces}
-use Rattle.mm_world.specs.World.{World}
-use Rattle.mm_pages.specs.{touch}
-use Rattle.mm_tables.specs.{CommittedRow, is_own, MadeAtMost}
-use Rattle.mm_core.specs.{Refuses, Admits, Marks}
-use Rattle.mm_world.proofs.{found_stands, IsCommitted, committed_is, HomeCases, IsOwn, IsShared, home_cases}
-use Rattle.mm_types.proofs.{parts, none_of}
-use Rattle.mm_core.proofs.Rows.{Lives}
-use Rattle.mm_core.proofs.With.{committed_with, home_with, process-with, committed-with, guard_off-with, shared-with}
-use Rattle.mm_core.proofs.Making.{made-set_region}
-use Rattle.mm_core.proofs.Writing.{written-with, marked-with, copied-with, shared-written}
+use Rattle.mm_types.specs.declared.protections.Access.TheVariants as access_kind
 
 -- ---- a line for the store alone
 
@@ -38,14 +40,6 @@ store-lives t b pid l =
 -- what an access needs, by the process and by its committed row
 abbrev needed : ℕ → ℕ → Attempt → Committed Page → Option Need
 needed pid addr what c = cond (is_permitted what c) (Some (need_of pid (page_of addr) c what)) None
-
-and_false : (a : Bool) → (a && false) ≡ false
-and_false true = refl
-and_false false = refl
-
-and_true : (a : Bool) → (a && true) ≡ a
-and_true true = refl
-and_true false = refl
 
 module _ (t : Tables) (b : Key → Page) (pid addr : ℕ) (what : Attempt) where
   abbrev world : World
@@ -90,9 +84,7 @@ module _ (t : Tables) (b : Key → Page) (pid addr : ℕ) (what : Attempt) where
       d = committed_with b pid (page_of addr) c
 
       low : c.region.thing.base ≤ page_of addr
-      low =
-          let h = committed_is t p.regions (page_of addr) c committed in
-          leb-true _ _ (parts (nat_le c.region.thing.base (page_of addr)) (nat_lt (page_of addr) (end_of (pages_of c.region.thing))) (found_stands _ p.regions c.region h.region).passes).0
+      low = begins (page_of addr) p.regions c.region (committed_is t p.regions (page_of addr) c committed).region
 
       abbrev by_guard : Bool → OutcomeOf Page
       by_guard guard =
@@ -125,15 +117,11 @@ module _ (t : Tables) (b : Key → Page) (pid addr : ℕ) (what : Attempt) where
             }
 
         module _ (permitted : permits c.row.prot (access_of what) ≡ true) where
-          same_home_key : (home : Home (Unit {0})) → key_of pid (page_of addr) (home_with b pid (page_of addr) home) ≡ key_of pid (page_of addr) home
-          same_home_key (Own u) = refl
-          same_home_key (InSection area i) = refl
-
           pub need_is : need_at world pid addr what ≡ Some (record { key = key_of pid (page_of addr) c.home; copy = cond (copies d what d.home) (Some (private_key pid (page_of addr))) None })
           need_is =
               need-by (Some c) committed
               ∙ (λ i. need_if (not (off i) && permitted i))
-              ∙ ap (λ (k : Key). let n : Need = record { key = k; copy = cond (copies d what d.home) (Some (private_key pid (page_of addr))) None } in Some n) (same_home_key c.home)
+              ∙ ap (λ (k : Key). let n : Need = record { key = k; copy = cond (copies d what d.home) (Some (private_key pid (page_of addr))) None } in Some n) (same_key_of t b pid (page_of addr) c.home)
 
           pub performs : access world pid addr what ≡ perform world pid q d (page_of addr) (addr % page_size) what
           performs = access-by (Some c) committed ∙ ap by_guard off ∙ ap by_permission permitted
@@ -328,3 +316,50 @@ is-copying t pid page p c committed e =
     by_home (IsShared v u is none there at_home) = record { view = v; is = is; none = none; marked = (parts c.row.marked (not (is_own c.home)) e).0 }
     by_home (IsOwn u own at_home) =
         let never : false ≡ true = sym (and_false c.row.marked) ∙ sym (ap (λ home. c.row.marked && not (is_own home)) at_home) ∙ e in cc
+
+-- ---- what an access asks of a row that was admitted
+
+pub is-begun : {n : ℕ} {s m : StoreOf} → LineBegins n s m → IsBegun m.report
+is-begun b =
+    record {
+      no_failed_read = ap (λ (r : Report). r.last_failed_read) b.report_is;
+      no_failed_write = ap (λ (r : Report). r.search_writes) b.report_is;
+    }
+
+-- admitting it left the tables as they were
+pub can-access : {G : Type 0} (p : PagesGhosts G) (kind : Access) (t after : Tables) (pid : Pid) (addr : ℕ) (row : CommittedRow) (need : Need) (g : G) → after ≡ t → KeepsOver p t g → Spaces t → Admits t pid.0 addr kind row → key_at t (place_at pid (page_of addr)) ≡ Some row.key → MayAccess (p.store g) (place_at pid (page_of addr)) need → IsBegun (p.store g).report → CanAccess p kind after pid addr row need g
+can-access p kind t after pid addr row need g same keeps spaces admitted at may begun =
+    subst (λ (v : Tables). CanAccess p kind v pid addr row need g) (sym same) assumption
+
+-- the same for a thread, once the store has what it needs
+pub can-go-on : {G : Type 0} (p : PagesGhosts G) (kind : Access) (t after : Tables) (pid : Pid) (addr : ℕ) (row : CommittedRow) (need : Need) (g h : G) → after ≡ t → CanTurn p t pid g → Spaces t → Admits t pid.0 addr kind row → key_at t (place_at pid (page_of addr)) ≡ Some row.key → p.store h ≡ started (p.store g) (p.store h) → KeepsOver p t h → IsReady (p.store h) (place_at pid (page_of addr)) need → CanAccess p kind after pid addr row need h
+can-go-on p kind t after pid addr row need g h same can spaces admitted at e keeps ready =
+    can-access p kind t after pid addr row need h same keeps spaces admitted at (inr (ap (λ (s : StoreOf). s.kind) e ∙ can.form, ready))
+    (record {
+      no_failed_read = ap (λ (s : StoreOf). s.report.last_failed_read) e ∙ can.begun.no_failed_read;
+      no_failed_write = ap (λ (s : StoreOf). s.report.search_writes) e ∙ can.begun.no_failed_write;
+    })
+
+-- what a permitted access needs, by its kind
+pub needs-of : (t : Tables) (b : Key → Page) (pid : Pid) (addr : ℕ) (what : Attempt) (kind : Access) (row : CommittedRow) → access_of what ≡ kind → Admits t pid.0 addr kind row → need_at (world_with t b) pid.0 addr what ≡ Some (row_need kind row (place_at pid (page_of addr)))
+needs-of t b pid addr what kind row is h =
+    subst (λ (k : Access). Admits t pid.0 addr k row → need_at (world_with t b) pid.0 addr what ≡ Some (row_need k row (place_at pid (page_of addr)))) is (by_form what) h
+  where
+    by_copies : (bytes : List ℕ) (h : Admits t pid.0 addr access_kind.Write row) (x : Bool) → row.copies ≡ x → need_at (world_with t b) pid.0 addr (WriteOf bytes) ≡ Some (cond x (copying row.key (place_at pid (page_of addr))) (touch row.key))
+    by_copies bytes h true e = copy-needs t b pid.0 addr bytes row h e
+    by_copies bytes h false e = write-needs t b pid.0 addr bytes row h e
+
+    by_form : (what : Attempt) → Admits t pid.0 addr (access_of what) row → need_at (world_with t b) pid.0 addr what ≡ Some (row_need (access_of what) row (place_at pid (page_of addr)))
+    by_form (ReadOf len) h = read-needs t b pid.0 addr len row h
+    by_form (WriteOf bytes) h = by_copies bytes h row.copies refl
+    by_form Execute h = execute-needs t b pid.0 addr row h
+
+-- its key is the row's
+pub need-key : (kind : Access) (row : CommittedRow) (place : Place) → (row_need kind row place).key ≡ row.key
+need-key access_kind.Read row place = refl
+need-key access_kind.Write row place = by_copies row.copies
+  where
+    by_copies : (x : Bool) → (let n : Need = cond x (copying row.key place) (touch row.key) in n.key) ≡ row.key
+    by_copies true = refl
+    by_copies false = refl
+need-key access_kind.Execute row place = refl

@@ -1,5 +1,5 @@
 -- What the frames' half asks of a world with bytes is what its tables tell.
-use Rattle.std.proofs.Common.{◌≡◌, ℕ, ◌+◌, ◌-◌, Option, Some, None, List, [], ◌∷◌, refl, sym, ◌∙◌, ap, cond, is_some, not, ◌&&◌, map, slice_get, option_map, unwrap_or}
+use Rattle.std.proofs.Common.{◌≡◌, ℕ, ◌+◌, ◌-◌, Option, Some, None, List, [], ◌∷◌, refl, sym, ◌∙◌, ap, cond, is_some, not, ◌&&◌, map, option_map, unwrap_or}
 use Rattle.std.specs.Prelude.{Bool, option_and_then, position, ◌==◌}
 use Rattle.std.proofs.Math.Path.{fun_ext}
 use Rattle.mm_types.specs.{LineKind, Key, Pid, Place, Kind, Range, page_of, range_of, end_of, lies_within}
@@ -7,16 +7,16 @@ use Rattle.mm_types.specs.declared.moves.LineKind.TheVariants as line_kind
 use Rattle.mm_types.specs.declared.numbers.Key.TheVariants as key_of_page
 use Rattle.mm_types.specs.declared.views.Kind.TheVariants as kind
 use Rattle.mm_life.specs.{numbers_from}
-use Rattle.mm_world.specs.{Page, RegionOf, ProcessOf, AreaOf, pages_of, Found, first_where, process_of, area_at, no_area, is_private, Home, Own}
-use Rattle.mm_world.specs.{InSection, Committed, committed_at, key_of, content_of, shared_key, view_around, flushed_view, flushed_range, Tables}
-use Rattle.mm_world.specs.{no_bytes, region_with_bytes, process_with, area_with, world_with, is_view_of, uses}
+use Rattle.mm_world.specs.{Page, RegionOf, ProcessOf, AreaOf, pages_of, Found, first_where, process_of, area_at, is_private, Home, Own, InSection}
+use Rattle.mm_world.specs.{Committed, committed_at, key_of, content_of, shared_key, view_around, flushed_view, flushed_range, Tables, no_bytes}
+use Rattle.mm_world.specs.{region_with_bytes, process_with, world_with, is_view_of, uses}
 use Rattle.mm_world.specs.World.{World}
 use Rattle.mm_world.proofs.{live_back, first-map, some-map, tables_back}
 use Rattle.mm_pages.specs.{page_rank, or_else, last_rank, rank_behind, handle_rank, section_rank, goes_with, leaving}
 use Rattle.mm_paging.specs.{lives, row_key, if_lives, file_block_of, is_uncommitted, flushed_in, flushed_keys}
 use Rattle.mm_tables.specs.{key_at, file_block_in, is_uncommitted as is_free}
 use Rattle.mm_calls.specs.{keys_of_region, flushed_keys as keys_flushed}
-use Rattle.mm_core.proofs.With.{found_with, home_with, committed_with, pages-with, get-areas, process-with, committed-with}
+use Rattle.mm_core.proofs.With.{found_with, home_with, committed_with, pages-with, area-with, process-with, committed-with}
 
 module _ (t : Tables) (b : Key → Page) where
   abbrev w : World
@@ -35,7 +35,7 @@ module _ (t : Tables) (b : Key → Page) where
 
   -- ---- committed rows
 
-  same_key_of : (pid page : ℕ) (home : Home (Unit {0})) → key_of pid page (home_with b pid page home) ≡ key_of pid page home
+  pub same_key_of : (pid page : ℕ) (home : Home (Unit {0})) → key_of pid page (home_with b pid page home) ≡ key_of pid page home
   same_key_of pid page (Own u) = refl
   same_key_of pid page (InSection area i) = refl
 
@@ -78,24 +78,20 @@ module _ (t : Tables) (b : Key → Page) where
 
   -- ---- the keys of a flush
 
-  view-with : (pid : ℕ) (range : Range) (rs : List (RegionOf (Unit {0}))) → view_around (map (region_with_bytes b pid) rs) range ≡ option_map (found_with b pid) (view_around rs range)
+  pub view-with : (pid : ℕ) (range : Range) (rs : List (RegionOf (Unit {0}))) → view_around (map (region_with_bytes b pid) rs) range ≡ option_map (found_with b pid) (view_around rs range)
   view-with pid range rs =
       first-map (λ r. not (is_private r.kind) && lies_within range (pages_of r)) (region_with_bytes b pid) rs
       ∙ ap (λ t. option_map (found_with b pid) (first_where t rs)) (fun_ext (λ r. ap (λ pages. not (is_private r.kind) && lies_within range pages) (pages-with b pid r)))
 
-  block-with : (area : ℕ) → (area_at w area).file_block ≡ (area_at t area).file_block
-  block-with area = ap (λ o. (unwrap_or o no_area).file_block) (get-areas b 0 area t.areas) ∙ by_area (slice_get t.areas area)
-    where
-      by_area : (o : Option (AreaOf (Unit {0}))) → (unwrap_or (option_map (area_with b (0 + area)) o) no_area).file_block ≡ (unwrap_or o no_area).file_block
-      by_area None = refl
-      by_area (Some a) = refl
+  pub block-with : (area : ℕ) → (area_at w area).file_block ≡ (area_at t area).file_block
+  block-with area = ap (λ (a : AreaOf Page). a.file_block) (area-with b t area)
 
   pub block_of-with : (k : Key) → file_block_of w k ≡ file_block_in t k
   block_of-with (key_of_page.Private pid page) = refl
   block_of-with (key_of_page.Shared area index) = λ i.
       cond (live-with (key_of_page.Shared area index) i) (option_map (λ first. first + index) (block-with area.0 i)) None
 
-  range-with : (pid addr size : ℕ) (r : RegionOf (Unit {0})) → flushed_range (region_with_bytes b pid r) addr size ≡ flushed_range r addr size
+  pub range-with : (pid addr size : ℕ) (r : RegionOf (Unit {0})) → flushed_range (region_with_bytes b pid r) addr size ≡ flushed_range r addr size
   range-with pid addr size r = ap (λ (pages : Range). cond (size == 0) (record { first = page_of addr; count = end_of pages - page_of addr }) (range_of addr size)) (pages-with b pid r)
 
   keys_by_kind : (pid addr size : ℕ) (k : Kind) (r : Found (RegionOf (Unit {0}))) → flushed_in w addr size k (found_with b pid r) ≡ keys_of_region t addr size k r.thing

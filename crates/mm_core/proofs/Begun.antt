@@ -1,16 +1,58 @@
--- A line's `at`, and then the moves of a call.
-use Rattle.std.proofs.Common.{◌≡◌, ℕ, List, [], ◌∷◌, ◌++◌, Bool, true, false, refl, sym, ap, ◌∙◌, subst}
-use Rattle.mm_types.specs.{LineKind, Move}
-use Rattle.mm_types.specs.declared.moves.Move.TheVariants as move
-use Rattle.mm_life.specs.{after_move, Log, Grew, AreMoves, spelled_moves, Replays, waits_through, ages_through}
-use Rattle.mm_life.proofs.{grew_then, replays_then, spelled-append, moves-append}
-use Rattle.mm_blocks.specs.{KeepsOthers}
-use Rattle.mm_pages.specs.{StoreOf, told_of, told_through, paging_traffic, file_traffic, OneMove, Passes, PassesIn, Notes, NotesIn}
+-- A call's piece of moves: told in other words, or none, and behind a line's `at`.
+use Rattle.std.proofs.Common.{List, [], Bool, true, false, refl, ◌≡◌, ℕ, ◌∷◌, ◌++◌, sym, ap, ◌∙◌, subst}
+use Rattle.mm_types.specs.{Move, LineKind}
+use Rattle.mm_life.specs.{Replays, after_move, Log, Grew, AreMoves, spelled_moves, waits_through, ages_through}
+use Rattle.mm_life.proofs.{grew_nothing, grew_then, replays_then, spelled-append, moves-append}
+use Rattle.mm_blocks.proofs.{keeps_same}
+use Rattle.mm_pages.specs.{StoreOf, Passes, PassesIn, told_of, told_through, OneMove, Notes, NotesIn}
 use Rattle.mm_pages.specs.Behind.{Behind}
 use Rattle.mm_pages.proofs.{Joins, passes_then}
-use Rattle.mm_paging.specs.{with_line}
+use Rattle.mm_paging.specs.{Traffic, with_line}
 use Rattle.mm_core.specs.{LineWent}
-use Rattle.mm_core.proofs.Pieces.{passes_with}
+use Rattle.mm_types.specs.declared.moves.Move.TheVariants as move
+
+-- what holds of the moves may be told in other words
+pub passes_with : (P Q : Behind → List Move → Behind → Type 0) (s z : StoreOf) (b c : Behind) (p : Passes P s z b c) → Q b p.moves c → Passes Q s z b c
+passes_with P Q s z b c p that = record {
+  moves = p.moves;
+  in_range = p.in_range;
+  grew = p.grew;
+  replays = p.replays;
+  that = that;
+  report = p.report;
+  paging_calls = p.paging_calls;
+  paging = p.paging;
+  paging_are = p.paging_are;
+  file_calls = p.file_calls;
+  files = p.files;
+  files_are = p.files_are;
+  slots_kept = p.slots_kept;
+  blocks_kept = p.blocks_kept;
+}
+
+pub passes_as : (u : Bool) (P Q : Behind → List Move → Behind → Type 0) (s z : StoreOf) (b c : Behind) → ((ms : List Move) → Replays ms b.life c.life → P b ms c → Q b ms c) → PassesIn u P s z b c → PassesIn u Q s z b c
+passes_as true P Q s z b c h p = p
+passes_as false P Q s z b c h p = passes_with P Q s z b c p (h p.moves p.replays p.that)
+
+-- no move, and the store is as before
+pub passes_still : (u : Bool) (Q : Behind → List Move → Behind → Type 0) (s : StoreOf) (b : Behind) → Q b [] b → PassesIn u Q s s b b
+passes_still true Q s b q = refl
+passes_still false Q s b q = record {
+  moves = [];
+  in_range = tt;
+  grew = grew_nothing b.log;
+  replays = refl;
+  that = q;
+  report = refl;
+  paging_calls = [];
+  paging = refl;
+  paging_are = refl;
+  file_calls = [];
+  files = refl;
+  files_are = refl;
+  slots_kept = keeps_same [] b.slots b.slots refl;
+  blocks_kept = keeps_same [] s.file_blocks s.file_blocks refl;
+}
 
 -- of a store that pages
 pub paged : (u : Bool) (P : Behind → List Move → Behind → Type 0) (s z : StoreOf) (b c : Behind) → u ≡ false → PassesIn u P s z b c → Passes P s z b c
@@ -57,28 +99,23 @@ module _ (n : ℕ) (k : LineKind) where
       };
     }
 
-    -- a piece that opens so
+    -- a piece that opens so is a line's
+    line_from : (beside : Bool) (s z : StoreOf) (b c : Behind) (Q : List Move → Type 0) → ((log : Log) (ms : List Move) → P (begun_with n k log b) ms c → Q ms) → (moves : List Move) → AreMoves moves → Grew b.log c.log (spelled_moves moves) → Replays moves b.life c.life
+        → (beside ≡ false → told_of z.report ≡ told_through b.life moves (told_of s.report)) → (beside ≡ false → Traffic b.life moves s.paging_device z.paging_device s.file_device z.file_device b.slots c.slots s.file_blocks z.file_blocks) → Opens n k P b moves c → LineWent beside at Q s z b c
+    line_from beside s z b c Q to moves in_range grew replays told traffic o = record {
+      moves = o.rest;
+      in_range = subst AreMoves o.is in_range;
+      grew = subst (λ (t : List Move). Grew b.log c.log (spelled_moves t)) o.is grew;
+      replays = subst (λ (t : List Move). Replays t b.life c.life) o.is replays;
+      that = to o.log o.rest o.that;
+      told = λ plain. told plain ∙ ap (λ t. told_through b.life t (told_of s.report)) o.is;
+      traffic = λ plain. subst (λ (t : List Move). Traffic b.life t s.paging_device z.paging_device s.file_device z.file_device b.slots c.slots s.file_blocks z.file_blocks) o.is (traffic plain);
+    }
+
     pub went_from : (s z : StoreOf) (b c : Behind) (Q : List Move → Type 0) → ((log : Log) (ms : List Move) → P (begun_with n k log b) ms c → Q ms) → Passes (Opens n k P) s z b c → LineWent false at Q s z b c
     went_from s z b c Q to p =
-        let e = p.that.is in
-        record {
-          moves = p.that.rest;
-          in_range = subst AreMoves e p.in_range;
-          grew = subst (λ (t : List Move). Grew b.log c.log (spelled_moves t)) e p.grew;
-          replays = subst (λ (t : List Move). Replays t b.life c.life) e p.replays;
-          that = to p.that.log p.that.rest p.that.that;
-          told = λ plain. p.report ∙ ap (λ t. told_through b.life t (told_of s.report)) e;
-          traffic = λ plain. record {
-            paging_calls = p.paging_calls;
-            paging_served = p.paging;
-            paging_are = p.paging_are ∙ ap (paging_traffic b.life) e;
-            file_calls = p.file_calls;
-            files_served = p.files;
-            files_are = p.files_are ∙ ap (file_traffic b.life) e;
-            slots_kept = subst (λ (t : List Move). KeepsOthers (paging_traffic b.life t) b.slots c.slots) e p.slots_kept;
-            blocks_kept = subst (λ (t : List Move). KeepsOthers (file_traffic b.life t) s.file_blocks z.file_blocks) e p.blocks_kept;
-          };
-        }
+        line_from false s z b c Q to p.moves p.in_range p.grew p.replays (λ plain. p.report)
+        (λ plain. record { paging_calls = p.paging_calls; paging_served = p.paging; paging_are = p.paging_are; file_calls = p.file_calls; files_served = p.files; files_are = p.files_are; slots_kept = p.slots_kept; blocks_kept = p.blocks_kept }) p.that
 
     -- a line begins, and a call makes moves of which that holds
     pub went_then : (u : Bool) (s m z : StoreOf) (b y c : Behind) (Q : List Move → Type 0) → u ≡ false → ((log : Log) (ms : List Move) → P (begun_with n k log b) ms c → Q ms) → PassesIn u (OneMove at) s m b y → PassesIn u P m z y c → LineWent false at Q s z b c
@@ -87,17 +124,7 @@ module _ (n : ℕ) (k : LineKind) where
 
     -- such moves of a line of which nothing is told of devices
     pub noted_from : (s z : StoreOf) (b c : Behind) (Q : List Move → Type 0) → ((log : Log) (ms : List Move) → P (begun_with n k log b) ms c → Q ms) → Notes (Opens n k P) b c → LineWent true at Q s z b c
-    noted_from s z b c Q to p =
-        let e = p.that.is in
-        record {
-          moves = p.that.rest;
-          in_range = subst AreMoves e p.in_range;
-          grew = subst (λ (t : List Move). Grew b.log c.log (spelled_moves t)) e p.grew;
-          replays = subst (λ (t : List Move). Replays t b.life c.life) e p.replays;
-          that = to p.that.log p.that.rest p.that.that;
-          told = λ bad. cc;
-          traffic = λ bad. cc;
-        }
+    noted_from s z b c Q to p = line_from true s z b c Q to p.moves p.in_range p.grew p.replays (λ bad. cc) (λ bad. cc) p.that
 
     notes_both : (s m : StoreOf) (b y c : Behind) → Passes (OneMove at) s m b y → Notes P y c → Notes (Opens n k P) b c
     notes_both s m b y c p q = record {

@@ -1,28 +1,36 @@
--- The lines that the file device has a part in: `file`, `flush`, and `fail`, which names calls of either device.
+-- The lines that the file device has a part in: `file`, `flush`, and `fail`, which names calls of either device; and what lines ask of devices beside their moves.
 use Rattle.std.proofs.Common.{◌≡◌, ◌≤◌, ◌<◌, ℕ, zero, suc, ◌+◌, ◌-◌, Bool, true, false, Option, Some, None, List, [], ◌∷◌, refl, sym, ◌∙◌, ap, subst, cond, arith, is_some, unwrap_or, option_map, ◌&&◌, not, nat_le, nat_lt, ◌==◌, length, map, get_or, slice_get, count_by}
 use Rattle.std.proofs.Math.Path.{fun_ext}
 use Rattle.std.proofs.lemmas.Bool.{leb-true, lt-ltb}
 use Rattle.std.proofs.lemmas.List.{length-append}
 use Rattle.std.proofs.lemmas.List.Sums.{sum_by-cons}
-use Rattle.mm_types.specs.{Answer, Device, Direction, Key, Pid, View, Range, holds_page, lies_within, range_of, page_of, end_of, Text}
+use Rattle.mm_types.specs.{Answer, Device, Direction, Key, Pid, View, Range, holds_page, lies_within, range_of, page_of, end_of, Text, LineKind, Move}
+use Rattle.mm_types.specs.{Name}
+use Rattle.mm_blocks.specs.{NamedCalls, DeviceOf}
+use Rattle.mm_world.specs.{Page, RegionOf, ProcessOf, filled, pages_of, Found, process_of, area_at, shared_page, is_private, content_of, shared_key}
+use Rattle.mm_world.specs.{OutcomeOf, done, new_file, take_fail, most_fails, flush, flushed_view, flushed_range, unpaged, when, is_ok, Tables}
+use Rattle.mm_world.specs.{BytesAfter, BytesAfterFile, file_bytes, blank, world_with, region_with_bytes, process_with, Spaces, RegionRefers}
+use Rattle.mm_world.specs.World.{World}
+use Rattle.mm_world.specs.WellFormed.{WellFormed}
+use Rattle.mm_world.proofs.{flush_across, new_file_across, each-at, found_stands}
+use Rattle.mm_types.proofs.{parts, less}
+use Rattle.mm_pages.specs.{StoreOf, with_named, with_named_paging, Makes, Turns, OneMove, PassesIn, NotesIn, WritesFile, Ghosts as PagesGhosts}
+use Rattle.mm_tables.specs.{key_bytes, file_block_in, BlocksHold, NamesAtMostOne, file_told, flush_told, IsTidy, beside_file, extended}
+use Rattle.mm_core.specs.{FlushHolds, FlushServed, NamedOn, Stepped, LineBegins, Devices, WritesBlocks, FileWrites, AskedBeside, AskedBesideOver}
+use Rattle.mm_core.specs.{StartsLine}
+use Rattle.mm_core.proofs.Lines.{stepped-faulted, bytes-kept}
+use Rattle.mm_core.proofs.Alike.{block-with, range-with, view-with}
+use Rattle.mm_core.proofs.With.{found_with, process-with, shared-with}
+use Rattle.std.specs.Prelude.{Result, Ok, Err, IfOk}
+use Rattle.mm_pages.specs.Behind.{Behind}
+use Rattle.mm_paging.specs.{HoldsBeside}
+use Rattle.mm_calls.specs.{GrowsBy, NewFileMade}
+use Rattle.mm_core.proofs.Begun.{paged, noted}
 use Rattle.mm_types.specs.declared.answers.Answer.TheVariants as answer
 use Rattle.mm_types.specs.declared.devices.Device.TheVariants as device_of
 use Rattle.mm_types.specs.declared.events.Event.TheVariants as line
 use Rattle.mm_types.specs.declared.views.Kind.TheVariants as kind
-use Rattle.mm_blocks.specs.{NamedCalls, DeviceOf}
-use Rattle.mm_world.specs.{Page, RegionOf, ProcessOf, AreaOf, filled, pages_of, Found, first_where, process_of, area_at, no_area, shared_page}
-use Rattle.mm_world.specs.{is_private, content_of, shared_key, OutcomeOf, done, new_file, take_fail, most_fails, flush, view_around, flushed_view}
-use Rattle.mm_world.specs.{flushed_range, unpaged, when, is_ok, Tables, BytesAfter, BytesAfterFile, file_bytes, blank, world_with, region_with_bytes}
-use Rattle.mm_world.specs.{process_with, area_with, Spaces, RegionRefers}
-use Rattle.mm_world.specs.World.{World}
-use Rattle.mm_world.specs.WellFormed.{WellFormed}
-use Rattle.mm_world.proofs.{flush_across, new_file_across, each-at, found_stands, first-map}
-use Rattle.mm_types.proofs.{parts, less}
-use Rattle.mm_pages.specs.{StoreOf, with_named, with_named_paging}
-use Rattle.mm_tables.specs.{key_bytes, file_block_in, BlocksHold, NamesAtMostOne, file_told, flush_told, IsTidy}
-use Rattle.mm_core.specs.{FlushHolds, FlushServed, Stepped, LineBegins, Devices}
-use Rattle.mm_core.proofs.Lines.{stepped-faulted, bytes-kept}
-use Rattle.mm_core.proofs.With.{found_with, process-with, pages-with, get-areas, shared-with}
+use Rattle.mm_types.specs.declared.moves.Move.TheVariants as move
 
 -- ---- `file`
 
@@ -117,18 +125,6 @@ module _ (t : Tables) (c : Key → Option Page) (sound : WellFormed t) (tidy : I
   abbrev b : Key → Page
   b = key_bytes c
 
-  view-with : (pid : ℕ) (range : Range) (rs : List (RegionOf (Unit {0}))) → view_around (map (region_with_bytes b pid) rs) range ≡ option_map (found_with b pid) (view_around rs range)
-  view-with pid range rs =
-      first-map (λ r. not (is_private r.kind) && lies_within range (pages_of r)) (region_with_bytes b pid) rs
-      ∙ ap (λ t. option_map (found_with b pid) (first_where t rs)) (fun_ext (λ r. ap (λ pages. not (is_private r.kind) && lies_within range pages) (pages-with b pid r)))
-
-  block-with : (area : ℕ) → (area_at (world_with t b) area).file_block ≡ (area_at t area).file_block
-  block-with area = ap (λ o. (unwrap_or o no_area).file_block) (get-areas b 0 area t.areas) ∙ by_area (slice_get t.areas area)
-    where
-      by_area : (o : Option (AreaOf (Unit {0}))) → (unwrap_or (option_map (area_with b (0 + area)) o) no_area).file_block ≡ (unwrap_or o no_area).file_block
-      by_area None = refl
-      by_area (Some a) = refl
-
   -- a page of the range lies within the view
   record Within (r : RegionOf (Unit {0})) (page : ℕ) : Type 0 where
     low : r.base ≤ page
@@ -169,20 +165,17 @@ module _ (t : Tables) (c : Key → Option Page) (sound : WellFormed t) (tidy : I
         ∙ same-bytes (c (shared_key v.area.0 index)) (shared_page t v.area.0 index) (live (shared_key v.area.0 index) ∙ there) there
         ∙ sym (shared-with b t v.area.0 index)
 
-    range-with : (r : RegionOf (Unit {0})) → flushed_range (region_with_bytes b pid r) addr size ≡ flushed_range r addr size
-    range-with r = ap (λ (pages : Range). cond (size == 0) (record { first = page_of addr; count = end_of pages - page_of addr }) (range_of addr size)) (pages-with b pid r)
-
     pub flush-holds : FlushHolds (world_with t b) blocks pid addr size
     flush-holds p r v page first lives found is inside block =
         let q = mapped (process_with b pid) (process_of t pid) p (sym (process-with b t pid) ∙ lives) in
         let view : flushed_view (map (region_with_bytes b pid) q.thing.regions) addr size ≡ Some r = ap (λ (p : ProcessOf Page). flushed_view p.regions addr size) q.is ∙ found in
-        let x = mapped (found_with b pid) (flushed_view q.thing.regions addr size) r (sym (view-with pid (range_of addr (cond (size == 0) 1 size)) q.thing.regions) ∙ view) in
+        let x = mapped (found_with b pid) (flushed_view q.thing.regions addr size) r (sym (view-with t b pid (range_of addr (cond (size == 0) 1 size)) q.thing.regions) ∙ view) in
         let same : (found_with b pid x.thing).thing ≡ r.thing = ap (λ (f : Found (RegionOf Page)). f.thing) x.is in
         subst (λ (g : RegionOf Page). slice_get blocks (first + (v.first + (page - g.base))) ≡ shared_page (world_with t b) v.area.0 (v.first + (page - g.base))) same
         (at-page q.thing x.thing v page first q.there x.there
         (ap (λ (g : RegionOf Page). g.kind) same ∙ is)
-        (ap (λ (range : Range). holds_page range page) (sym (range-with x.thing.thing)) ∙ ap (λ (g : RegionOf Page). holds_page (flushed_range g addr size) page) same ∙ inside)
-        (sym (block-with v.area.0) ∙ block))
+        (ap (λ (range : Range). holds_page range page) (sym (range-with t b pid addr size x.thing.thing)) ∙ ap (λ (g : RegionOf Page). holds_page (flushed_range g addr size) page) same ∙ inside)
+        (sym (block-with t b v.area.0) ∙ block))
 
 pub flushed-line : (t : Tables) (c : Key → Option Page) → WellFormed t → IsTidy t → ((k : Key) → is_some (c k) ≡ is_some (content_of t k)) → (blocks : List Page) (pid : Pid) (addr size : ℕ) (a : Answer) → (a ≡ answer.Ok → BlocksHold t c blocks pid.0 addr size) → FlushServed (world_with t (key_bytes c)) blocks (line.Flush pid addr size) a
 flushed-line t c sound tidy live blocks pid addr size answer.Ok holds = flush-holds t c sound tidy live blocks pid.0 addr size (holds refl)
@@ -203,6 +196,35 @@ module _ (u : Bool) (direction : Direction) (k n number : ℕ) (s m z : StoreOf)
   abbrev PagingNamed : Type 0
   PagingNamed = z ≡ record m { paging_device = with_named_paging u m.paging_device calls }
 
+  -- what such a call does to the store
+  pub record NamesCalls (device : Device) : Type 0 where
+    pub devices : Devices u (line.Fail device direction k n) s z answer.Ok
+    pub is : NamesAtMostOne m z
+    pub line_is : z.line ≡ m.line
+    pub blocks : z.file_blocks ≡ m.file_blocks
+
+  by-devices : (device : Device) (d f : DeviceOf) → z ≡ record m { paging_device = d; file_device = f } → NamedOn u device calls s.paging_device d s.file_device f → (length d.named ≤ length m.paging_device.named + 1) × (length f.named ≤ length m.file_device.named + 1) → d.faults ≡ m.paging_device.faults → f.faults ≡ m.file_device.faults → NamesCalls device
+  by-devices device d f e named few paging files =
+      let is-paging : z.paging_device ≡ d = ap (λ (s : StoreOf). s.paging_device) e in
+      let is-files : z.file_device ≡ f = ap (λ (s : StoreOf). s.file_device) e in
+      record {
+        devices = record {
+          asked_files = λ bad. cc;
+          asked_paging = λ bad. cc;
+          named = subst (λ (d : DeviceOf). NamedOn u device calls s.paging_device d s.file_device z.file_device) (sym is-paging) (subst (λ (f : DeviceOf). NamedOn u device calls s.paging_device d s.file_device f) (sym is-files) named);
+          failed = λ f. absurd f;
+          paging_later = omega (arith, ap (λ (d : DeviceOf). d.faults) is-paging, paging, ap (λ (d : DeviceOf). d.faults) b.paging);
+          files_later = omega (arith, ap (λ (d : DeviceOf). d.faults) is-files, files, ap (λ (d : DeviceOf). d.faults) b.files);
+        };
+        is = record {
+          same = e ∙ (λ i. record m { paging_device = sym is-paging i; file_device = sym is-files i });
+          paging = omega (arith, ap (λ (d : DeviceOf). length d.named) is-paging, few.0);
+          file = omega (arith, ap (λ (d : DeviceOf). length d.named) is-files, few.1);
+        };
+        line_is = ap (λ (s : StoreOf). s.line) e;
+        blocks = ap (λ (s : StoreOf). s.file_blocks) e;
+      }
+
   paging-faults : (u : Bool) (d : DeviceOf) → (with_named_paging u d calls).faults ≡ d.faults
   paging-faults true d = refl
   paging-faults false d = refl
@@ -211,56 +233,72 @@ module _ (u : Bool) (direction : Direction) (k n number : ℕ) (s m z : StoreOf)
   paging-length true d = omega arith
   paging-length false d = omega (arith, length-append d.named (calls ∷ []))
 
-  on-files : FilesNamed → Devices u (line.Fail device_of.File direction k n) s z answer.Ok
-  on-files e =
-      let paging : z.paging_device ≡ s.paging_device = ap (λ (s : StoreOf). s.paging_device) e ∙ b.paging in
-      let files : z.file_device ≡ with_named s.file_device calls = ap (λ (s : StoreOf). s.file_device) e ∙ ap (λ (d : DeviceOf). with_named d calls) b.files in
-      record {
-        asked_files = λ bad. cc;
-        asked_paging = λ bad. cc;
-        named = (paging, files);
-        failed = λ f. absurd f;
-        paging_later = omega (arith, ap (λ (d : DeviceOf). d.faults) paging);
-        files_later = omega (arith, ap (λ (d : DeviceOf). d.faults) files);
-      }
+  pub names-calls : (device : Device) → (device ≡ device_of.File → FilesNamed) → (device ≡ device_of.Paging → PagingNamed) → NamesCalls device
+  names-calls device_of.File files paging =
+      by-devices device_of.File m.paging_device (with_named m.file_device calls) (files refl) (b.paging, ap (λ (d : DeviceOf). with_named d calls) b.files)
+      (omega arith, omega (arith, length-append m.file_device.named (calls ∷ []))) refl refl
+  names-calls device_of.Paging files paging =
+      by-devices device_of.Paging (with_named_paging u m.paging_device calls) m.file_device (paging refl) (ap (λ (d : DeviceOf). with_named_paging u d calls) b.paging, b.files)
+      (paging-length u m.paging_device, omega arith) (paging-faults u m.paging_device) refl
 
-  on-paging : PagingNamed → Devices u (line.Fail device_of.Paging direction k n) s z answer.Ok
-  on-paging e =
-      let paging : z.paging_device ≡ with_named_paging u s.paging_device calls = ap (λ (s : StoreOf). s.paging_device) e ∙ ap (λ (d : DeviceOf). with_named_paging u d calls) b.paging in
-      let files : z.file_device ≡ s.file_device = ap (λ (s : StoreOf). s.file_device) e ∙ b.files in
-      record {
-        asked_files = λ bad. cc;
-        asked_paging = λ bad. cc;
-        named = (paging, files);
-        failed = λ f. absurd f;
-        paging_later = omega (arith, ap (λ (d : DeviceOf). d.faults) paging, paging-faults u s.paging_device);
-        files_later = omega (arith, ap (λ (d : DeviceOf). d.faults) files);
-      }
+-- ---- what is asked beside the moves, and what slots and blocks hold then
 
-  pub devices-named : (device : Device) → (device ≡ device_of.File → FilesNamed) → (device ≡ device_of.Paging → PagingNamed) → Devices u (line.Fail device direction k n) s z answer.Ok
-  devices-named device_of.File files paging = on-files (files refl)
-  devices-named device_of.Paging files paging = on-paging (paging refl)
+-- ---- the blocks of a file
 
-  pub is-named : (device : Device) → (device ≡ device_of.File → FilesNamed) → (device ≡ device_of.Paging → PagingNamed) → NamesAtMostOne m z
-  is-named device_of.File files paging =
-      let e = files refl in
-      record {
-        same = e ∙ (λ i. record m { paging_device = ap (λ (s : StoreOf). s.paging_device) (sym e) i; file_device = ap (λ (s : StoreOf). s.file_device) (sym e) i });
-        paging = omega (arith, ap (λ (s : StoreOf). length s.paging_device.named) e);
-        file = omega (arith, ap (λ (s : StoreOf). length s.file_device.named) e, length-append m.file_device.named (calls ∷ []));
-      }
-  is-named device_of.Paging files paging =
-      let e = paging refl in
-      record {
-        same = e ∙ (λ i. record m { paging_device = ap (λ (s : StoreOf). s.paging_device) (sym e) i; file_device = ap (λ (s : StoreOf). s.file_device) (sym e) i });
-        paging = omega (arith, ap (λ (s : StoreOf). length s.paging_device.named) e, paging-length u m.paging_device);
-        file = omega (arith, ap (λ (s : StoreOf). length s.file_device.named) e);
-      }
+blocks-written : (first pages : ℕ) (ok : Bool) (m z : StoreOf) → WritesFile first pages ok m z
+    → WritesBlocks first pages ok m.file_device z.file_device m.file_blocks z.file_blocks
+blocks-written first pages ok m z h =
+    record { whole = h.whole; calls = h.calls; served = h.served; are = h.are; all = h.all; some = h.some; kept = h.blocks_kept }
 
-  pub named-line : (device : Device) → (device ≡ device_of.File → FilesNamed) → (device ≡ device_of.Paging → PagingNamed) → z.line ≡ m.line
-  named-line device_of.File files paging = ap (λ (s : StoreOf). s.line) (files refl)
-  named-line device_of.Paging files paging = ap (λ (s : StoreOf). s.line) (paging refl)
+file-writes : (first pages : ℕ) (a : Answer) (m z : StoreOf) → NewFileMade first pages a m z
+    → FileWrites first pages a m.file_device z.file_device m.file_blocks z.file_blocks
+file-writes first pages answer.Ok m z h = blocks-written first pages true m z h
+file-writes first pages answer.Fault m z h = blocks-written first pages false m z h
+file-writes first pages a m z h = (ap (λ (s : StoreOf). s.file_device) h, ap (λ (s : StoreOf). s.file_blocks) h)
 
-  pub named-blocks : (device : Device) → (device ≡ device_of.File → FilesNamed) → (device ≡ device_of.Paging → PagingNamed) → z.file_blocks ≡ m.file_blocks
-  named-blocks device_of.File files paging = ap (λ (s : StoreOf). s.file_blocks) (files refl)
-  named-blocks device_of.Paging files paging = ap (λ (s : StoreOf). s.file_blocks) (paging refl)
+-- ---- the lines
+
+-- where an `at` was noted, slots are as before
+begun-slots : (u : Bool) (x : Move) (s m : StoreOf) (b y : Behind) → u ≡ false
+    → PassesIn u (OneMove x) s m b y → y.slots ≡ b.slots
+begun-slots u x s m b y paging p = (paged u (OneMove x) s m b y paging p).that.slots
+
+pub beside-file : (w : World) (name : Name) (pages byte number : ℕ) (a : Answer) (x : Move) (u : Bool) (s m z : StoreOf) (b y c : Behind)
+    → u ≡ false → LineBegins number s m → z ≡ beside_file m z → NewFileMade w.blocks_used pages a m z
+    → PassesIn u (OneMove x) s m b y → NotesIn u (Turns Makes) y c
+    → AskedBeside w.blocks_used (line.File name pages byte) a s.paging_device z.paging_device s.file_device z.file_device s.file_blocks z.file_blocks × HoldsBeside w (line.File name pages byte) a b.slots c.slots s.file_blocks z.file_blocks
+beside-file w name pages byte number a x u s m z b y c paging begins beside h p q = (
+  (
+    ap (λ (s : StoreOf). s.paging_device) beside ∙ begins.paging,
+    subst (λ (d : DeviceOf). FileWrites w.blocks_used pages a d z.file_device s.file_blocks z.file_blocks) begins.files
+        (subst (λ blocks. FileWrites w.blocks_used pages a m.file_device z.file_device blocks z.file_blocks) begins.blocks (file-writes w.blocks_used pages a m z h)),
+  ),
+  (noted u (Turns Makes) y c paging q).that.slots ∙ begun-slots u x s m b y paging p,
+)
+
+module _ (w : World) (used n number : ℕ) (u : Bool) (s z : StoreOf) (b c : Behind) (paging : u ≡ false) where
+  abbrev GrewBy : Answer → Type 0
+  GrewBy a = AskedBeside used (line.Grow n) a s.paging_device z.paging_device s.file_device z.file_device s.file_blocks z.file_blocks × HoldsBeside w (line.Grow n) a b.slots c.slots s.file_blocks z.file_blocks
+
+  grew-by : (E : Type 0) (a : Answer) → z ≡ extended s z
+      → ((limit : ℕ) → a ≡ answer.Limit limit → z.paging_device ≡ s.paging_device)
+      → NotesIn u (GrowsBy {E = E} number n (Ok a)) b c → GrewBy a
+  grew-by E (answer.Limit limit) e grew p = (
+    (grew limit refl, ap (λ (s : StoreOf). s.file_device) e),
+    ((noted u (GrowsBy {E = E} number n (Ok (answer.Limit limit))) b c paging p).that.slots, ap (λ (s : StoreOf). s.file_blocks) e),
+  )
+  grew-by E a e grew p = (
+    (ap (λ (s : StoreOf). s.paging_device) e, ap (λ (s : StoreOf). s.file_device) e),
+    ((noted u (GrowsBy {E = E} number n (Ok a)) b c paging p).that.slots, ap (λ (s : StoreOf). s.file_blocks) e),
+  )
+
+  pub beside-grow : {E : Type 0} (r : Result Answer E) → IfOk r (λ a. z ≡ extended s z)
+      → IfOk r (λ a. (limit : ℕ) → a ≡ answer.Limit limit → z.paging_device ≡ s.paging_device)
+      → NotesIn u (GrowsBy number n r) b c → IfOk r GrewBy
+  beside-grow {E} (Ok a) e grew p = grew-by E a e grew p
+  beside-grow (Err x) e grew p = tt
+
+pub beside-fail : {G : Type 0} (p : PagesGhosts G) (t : Tables) (device : Device) (direction : Direction) (k n : ℕ) (a : Answer) {number : ℕ} {form : LineKind} {g m : G} → StartsLine p number form g m → (h : G)
+    → p.unpaged ≡ false → (p.store h).file_blocks ≡ (p.store m).file_blocks → p.behind h ≡ p.behind m → AskedBesideOver p t (line.Fail device direction k n) a g h
+beside-fail p t device direction k n a {number} {form} {g} {m} starts h paging blocks same =
+    (tt, (ap (λ (b : Behind). b.slots) same ∙ begun-slots p.unpaged (move.At number form) (p.store g) (p.store m) (p.behind g) (p.behind m) paging starts.passes, blocks ∙ starts.begins.blocks))

@@ -9,7 +9,7 @@ use Rattle.mm_world.specs.Report.{Report}
 use Rattle.mm_pages.specs.{Ready, StoreOf, changed, same_place, own_key, fetched, rearranged, Served}
 use Rattle.mm_tables.specs.{FitsTables, key_at, copied}
 use Rattle.mm_types.proofs.{parts}
-use Rattle.mm_core.proofs.Serving.{all-named}
+use Rattle.mm_core.proofs.Lines.{all-named}
 
 -- ---- keys and places
 
@@ -69,6 +69,10 @@ module _ (t : Tables) (c : Key → Option Page) (s : StoreOf) (f : FitsTables t 
       by_test true same e = ap (key_at t) (same_place-is q place same) ∙ at ∙ e
       by_test false other e = f.named q j e
 
+  pub names_either : (names : Place → Option Key) (place : Place) (k : Key) → key_at t place ≡ Some k → (names ≡ s.names) ⊎ (names ≡ changed same_place s.names place (Some k)) → (q : Place) (j : Key) → names q ≡ Some j → key_at t q ≡ Some j
+  names_either names place k at (inl none) q j e = f.named q j (ap (λ (n : Place → Option Key). n q) (sym none) ∙ e)
+  names_either names place k at (inr one) q j e = names_one place k at q j (ap (λ (n : Place → Option Key). n q) (sym one) ∙ e)
+
   -- the bytes of a live key are others
   pub fits_bytes : (k : Key) (x : Page) → is_some (c k) ≡ true → FitsTables t (changed same_key c k (Some x)) s
   fits_bytes k x there =
@@ -100,10 +104,7 @@ module _ (t : Tables) (c : Key → Option Page) (s : StoreOf) (c' : Key → Opti
   pub fits_uncopied : c' ≡ c → z ≡ record (fetched s z) { names = z.names } → (z.names ≡ s.names) ⊎ (z.names ≡ changed same_place s.names place (Some k)) → FitsTables t c' z
   fits_uncopied same err names =
       subst (λ (c : Key → Option Page). FitsTables t c z) (sym same)
-      (fits_fetched t c s f z.names z served stored err (λ q j e. elim names [
-        | inl none ↦ f.named q j (ap (λ (n : Place → Option Key). n q) (sym none) ∙ e)
-        | inr one ↦ names_one t c s f place k at q j (ap (λ (n : Place → Option Key). n q) (sym one) ∙ e)
-      ]))
+      (fits_fetched t c s f z.names z served stored err (names_either t c s f z.names place k at names))
 
 -- ---- a page was copied
 

@@ -1,27 +1,31 @@
 -- A line's piece of the log: its `at`, and an access behind it, or none.
-use Rattle.std.proofs.Common.{◌≡◌, ℕ, List, [], ◌∷◌, ◌++◌, Bool, true, false, Option, Some, None, refl, sym, ap, ◌∙◌, subst, cond, option_map, is_some, arith}
+use Rattle.std.proofs.Common.{◌≡◌, ℕ, List, [], ◌∷◌, ◌++◌, Bool, true, false, Option, Some, None, refl, sym, ap, ◌∙◌, subst, cond, option_map, is_some, arith, inl}
 use Rattle.std.specs.Prelude.{◌==◌}
 use Rattle.std.proofs.lemmas.List.{append-nil}
 use Rattle.mm_types.specs.{Answer, Why, Event, Held, Move, Pid, Place, page_of}
+use Rattle.mm_types.proofs.{some_found}
+use Rattle.mm_life.specs.{FrameLife, after_move, Replays, is_valid, Starved, Waiting, Idle, Walk, walked_all, waits_through, ages_through, Through}
+use Rattle.mm_life.specs.{walked}
+use Rattle.mm_world.specs.World.{World}
+use Rattle.mm_world.specs.{Attempt, Need, BeingRead, need_at, Tables}
+use Rattle.mm_world.specs.Report.{Report}
+use Rattle.mm_pages.specs.{StoreOf, changed, same_place, place_at, PassesIn, Aim, AccessMoves, Forgets, wait_begun, walk_from, OneMove, NoMove}
+use Rattle.mm_pages.specs.{AccessMove, Ghosts as PagesGhosts}
+use Rattle.mm_pages.specs.Behind.{Behind}
+use Rattle.mm_pages.proofs.{Joins, passes_then}
+use Rattle.mm_paging.specs.{aim_at, aim_of, is_write, kind_of_line, Accesses, AccessesBy, Does, ages_of_line, waits_of_line, awaited, is_had}
+use Rattle.mm_paging.specs.{is_failed, is_pending_read, place_had, with_line, asks_beside}
+use Rattle.mm_paging.proofs.{moves_from}
+use Rattle.mm_core.specs.{Answered, MadeBy, WaitsBy, Lined, AnswersLine, DecidedOver, MarkedOver, PassesOver, world_over, keeps_keys, EachMove}
+use Rattle.mm_core.specs.{LineWent, TellsLine}
+use Rattle.mm_core.proofs.Begun.{passes_as, passes_with}
+use Rattle.mm_core.proofs.AccessForms.{twice}
+use Rattle.mm_core.proofs.Begun.{Opens, paged, went_from}
 use Rattle.mm_types.specs.declared.answers.Answer.TheVariants as answer
 use Rattle.mm_types.specs.declared.answers.Why.TheVariants as why
 use Rattle.mm_types.specs.declared.frames.Held.TheVariants as held
 use Rattle.mm_types.specs.declared.moves.Move.TheVariants as move
-use Rattle.mm_types.proofs.{some_found}
-use Rattle.mm_life.specs.{FrameLife, after_move, Replays, is_valid, Starved, Waiting, Idle, Walk, walked_all, waits_through, ages_through}
-use Rattle.mm_world.specs.World.{World}
-use Rattle.mm_world.specs.{Attempt, Need, BeingRead, need_at}
-use Rattle.mm_world.specs.Report.{Report}
-use Rattle.mm_pages.specs.{StoreOf, changed, same_place, place_at, PassesIn, Aim, AccessMoves, Forgets, wait_begun, walk_from, OneMove, NoMove}
-use Rattle.mm_pages.specs.Behind.{Behind}
 use Rattle.mm_pages.specs.declared.outcomes.Start.TheVariants as start
-use Rattle.mm_pages.proofs.{Joins, passes_then}
-use Rattle.mm_paging.specs.{aim_at, aim_of, is_write, kind_of_line, Accesses, AccessesBy, Does, ages_of_line, waits_of_line, awaited, is_had}
-use Rattle.mm_paging.specs.{is_failed, is_pending_read, place_had, with_line}
-use Rattle.mm_paging.proofs.{moves_from}
-use Rattle.mm_core.specs.{Answered, MadeBy, WaitsBy, Lined}
-use Rattle.mm_core.proofs.Pieces.{passes_as}
-use Rattle.mm_core.proofs.AccessPieces.{twice}
 
 -- ---- a line has begun
 
@@ -267,3 +271,61 @@ none_line u plain w e n r v s z b c does ages needless waits p =
 pub begun_still : (u : Bool) (x : Move) (P : Behind → List Move → Behind → Type 0) (s m z : StoreOf) (b y c : Behind) → ((b : Behind) (ms : List Move) (c : Behind) → P b ms c → NoMove b ms c) → PassesIn u (OneMove x) s m b y → PassesIn u P m z y c → PassesIn u (OneMove x) s z b c
 begun_still u x P s m z b y c still p q =
     passes_then u (OneMove x) NoMove (OneMove x) s m z b y c (still_joins x) p (passes_as u P NoMove m z y c (λ ms rep a. still y ms c a) q)
+
+-- ---- such a piece is what is noted of a line: no key goes in an access
+
+through_keeps : (a : Aim) (w : Walk) (ms : List Move) → Through (AccessMove a) w ms → EachMove keeps_keys ms
+through_keeps a w [] h = tt
+through_keeps a w (move.At n k ∷ ms) h = absurd h.0
+through_keeps a w (move.Add k None ∷ ms) h = (refl, through_keeps a (walked w (move.Add k None)) ms h.1)
+through_keeps a w (move.Add k (Some b) ∷ ms) h = absurd h.0
+through_keeps a w (move.Drop k ∷ ms) h = absurd h.0
+through_keeps a w (m ∷ ms) h = (refl, through_keeps a (walked w m) ms h.1)
+
+access_keeps : (plain : Bool) (o : Option Aim) (r : Answer) (after : Report) (b : Behind) (ms : List Move) (c : Behind) → AccessesBy plain o r after b ms c → EachMove keeps_keys ms
+access_keeps plain None r after b ms c h = subst (EachMove keeps_keys) (sym h) tt
+access_keeps plain (Some a) r after b ms c h = through_keeps a (walk_from b) ms h.made.each
+
+-- a line whose moves are those of an access, if any
+marked_lined : (plain : Bool) (w : World) (e : Event) (n : ℕ) (a : Answer) (v : World) (u : Bool) (s z : StoreOf) (b c : Behind) → ((x : Behind) (ms : List Move) → Does w e a v z.report x ms c → AccessesBy plain (aim_of w x.life e) a z.report x ms c) → PassesIn u (Lined w e n a v z.report) s z b c → u ≡ false
+    → LineWent false (move.At n (kind_of_line w e a)) (λ ms. TellsLine n (kind_of_line w e a) e w a v z.report b ms c) s z b c
+marked_lined plain w e n a v u s z b c accesses p paging =
+    let q = paged u (Lined w e n a v z.report) s z b c paging p in
+    let is = q.that.begins in
+    let begun = with_line (move.At n (kind_of_line w e a)) b in
+    let tells = λ (ms : List Move). TellsLine n (kind_of_line w e a) e w a v z.report b ms c in
+    went_from n (kind_of_line w e a) (λ x ms y. tells ms) s z b c tells (λ log ms h. h)
+    (passes_with (Lined w e n a v z.report) (Opens n (kind_of_line w e a) (λ x ms y. tells ms)) s z b c q (record {
+      rest = q.that.moves;
+      is = is;
+      log = c.log;
+      that = record {
+        one_way = inl (access_keeps plain (aim_of w begun.life e) a z.report begun q.that.moves c (accesses begun q.that.moves q.that.does));
+        does = q.that.does;
+        ages = q.that.ages;
+        waits = q.that.waits;
+      };
+    }))
+
+-- such a line over a store, told of the line that it is
+module _ {G : Type 0} (p : PagesGhosts G) where
+  pub access_marked : (plain : Bool) (e f : Event) → f ≡ e → asks_beside e ≡ false → (n : ℕ) (t : Tables) (x : G) (a : Answer) (after : Tables) (y : G)
+      → ((d : Behind) (ms : List Move) → Does (world_over p t x) e a (world_over p after y) (p.store y).report d ms (p.behind y) → AccessesBy plain (aim_of (world_over p t x) d.life e) a (p.store y).report d ms (p.behind y))
+      → PassesOver p (Lined (world_over p t x) e n a (world_over p after y) (p.store y).report) x y → MarkedOver p f n t x a after y
+  access_marked plain e f is bare n t x a after y accesses passes =
+      let kind = kind_of_line (world_over p t x) e a in
+      let tells = λ (ms : List Move). TellsLine n kind e (world_over p t x) a (world_over p after y) (p.store y).report (p.behind x) ms (p.behind y) in
+      subst (λ (l : Event). MarkedOver p l n t x a after y) (sym is)
+      (λ paging.
+      subst (λ (b : Bool). LineWent b (move.At n kind) tells (p.store x) (p.store y) (p.behind x) (p.behind y)) (sym bare)
+      (marked_lined plain (world_over p t x) e n a (world_over p after y) p.unpaged (p.store x) (p.store y) (p.behind x) (p.behind y) accesses passes paging))
+
+  -- and decided
+  pub access_answers : (plain : Bool) (e f : Event) → f ≡ e → asks_beside e ≡ false → (n : ℕ) (t : Tables) (x : G) (a : Answer) (after : Tables) (y : G)
+      → ((d : Behind) (ms : List Move) → Does (world_over p t x) e a (world_over p after y) (p.store y).report d ms (p.behind y) → AccessesBy plain (aim_of (world_over p t x) d.life e) a (p.store y).report d ms (p.behind y))
+      → DecidedOver p e n t x a after y → PassesOver p (Lined (world_over p t x) e n a (world_over p after y) (p.store y).report) x y → AnswersLine p f n t x a after y
+  access_answers plain e f is bare n t x a after y accesses decided passes =
+      record {
+        decided = subst (λ (l : Event). DecidedOver p l n t x a after y) (sym is) decided;
+        marked = access_marked plain e f is bare n t x a after y accesses passes;
+      }

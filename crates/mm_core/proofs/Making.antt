@@ -2,13 +2,13 @@
 use Rattle.std.proofs.Common.{◌≡◌, ◌≤◌, ℕ, zero, suc, ◌+◌, ◌-◌, Bool, false, Option, Some, None, List, [], ◌∷◌, ◌++◌, refl, sym, ◌∙◌, ap, arith, length, set, map, inl, inr}
 use Rattle.std.proofs.lemmas.List.{length-set, length-append, get_or-set_same, get_or-set_other}
 use Rattle.mm_types.proofs.{same_or_not}
-use Rattle.mm_types.specs.{Answer, Code, Kind, Range, address_of, page_of, Text, commit_type}
+use Rattle.mm_types.specs.{Answer, Code, Kind, MachineOf, Range, address_of, page_of, Text, commit_type}
 use Rattle.mm_types.specs.declared.views.Kind.TheVariants as kind
 use Rattle.mm_world.specs.{WorldOf, ProcessOf, RegionOf, AreaOf, SectionOf, FileOf, StackOf, RowOf, Numbered, numbered, Found, process_of}
 use Rattle.mm_world.specs.{set_process, set_region, set_regions, set_area, stack_by, set_stack, end_stacks, Committed, committed_at, with_row}
 use Rattle.mm_world.specs.{set_row, guard_off, OutcomeOf, done, refused, alloc, commit_in, free, protect, query, create, create_file, open_section}
 use Rattle.mm_world.specs.{close, handle_or, new_section, settle, settled_sections, settled_areas, with_handle, map_view, unmap, flush, new_process}
-use Rattle.mm_world.specs.{exit, new_file, take_fail, no_regions, kept_of_others, watch, reset_watch, stack, made, probe, probe_at, probe_in}
+use Rattle.mm_world.specs.{exit, new_file, take_fail, grow, no_regions, kept_of_others, watch, reset_watch, stack, made, probe, probe_at, probe_in}
 use Rattle.mm_world.specs.{probe_of, grown}
 use Rattle.mm_tables.specs.{MadeAtMost}
 use Rattle.mm_core.specs.{IsFailure}
@@ -54,33 +54,16 @@ module _ {B : Type 0} where
           let same : x ≡ r = cc in
           omega (arith, more, h.handles pid p lives, ap (λ (p : ProcessOf B). length p.handles) same)
 
+  by_counts : (w v : WorldOf B) (a : Answer) → (IsFailure a → ⊥) → length v.sections ≤ length w.sections + 1 → length v.areas ≤ length w.areas + 1 → ((n : ℕ) → MadeAtMost n w → (pid : ℕ) (p : ProcessOf B) → process_of v pid ≡ Some p → length p.handles ≤ n + 1 + 1) → Holds (Makes w) (done a v)
+  by_counts w v a fine sections areas handles =
+      record { it = record { made = λ n h. record { sections = omega (arith, h.sections, sections); areas = omega (arith, h.areas, areas); handles = handles n h }; fine = fine } }
+
   by_set : (w v : WorldOf B) (pid : ℕ) (p : ProcessOf B) (q : Option (ProcessOf B)) (a : Answer) → (IsFailure a → ⊥) → process_of w pid ≡ Some p → v.processes ≡ set w.processes pid q → OneMore p q → length v.sections ≤ length w.sections + 1 → length v.areas ≤ length w.areas + 1 → Holds (Makes w) (done a v)
-  by_set w v pid p q a fine lives processes more sections areas =
-      record {
-        it = record {
-          made = λ n h.
-              record {
-                sections = omega (arith, h.sections, sections);
-                areas = omega (arith, h.areas, areas);
-                handles = handles-in w n v.processes pid p q h lives processes more;
-              };
-          fine = fine;
-        };
-      }
+  by_set w v pid p q a fine lives processes more sections areas = by_counts w v a fine sections areas (λ n h. handles-in w n v.processes pid p q h lives processes more)
 
   by_rest : (w v : WorldOf B) (a : Answer) → (IsFailure a → ⊥) → v.processes ≡ w.processes → length v.sections ≤ length w.sections + 1 → length v.areas ≤ length w.areas + 1 → Holds (Makes w) (done a v)
   by_rest w v a fine processes sections areas =
-      record {
-        it = record {
-          made = λ n h.
-              record {
-                sections = omega (arith, h.sections, sections);
-                areas = omega (arith, h.areas, areas);
-                handles = λ pid p lives. omega (arith, h.handles pid p (ap (λ (ps : Numbered (ProcessOf B)). numbered ps pid) (sym processes) ∙ lives));
-              };
-          fine = fine;
-        };
-      }
+      by_counts w v a fine sections areas (λ n h pid p lives. omega (arith, h.handles pid p (ap (λ (ps : Numbered (ProcessOf B)). numbered ps pid) (sym processes) ∙ lives)))
 
   -- ---- nothing was settled away from its number
 
@@ -190,18 +173,7 @@ module _ {B : Type 0} where
   pushed n (q ∷ ps) h some (suc pid) p e = pushed n ps (λ pid. h (suc pid)) some pid p e
 
   by_new : (w : WorldOf B) (a : Answer) → (IsFailure a → ⊥) → Holds (Makes w) (done a (record w { processes = w.processes ++ Some no_regions ∷ [] }))
-  by_new w a fine =
-      record {
-        it = record {
-          made = λ n h.
-              record {
-                sections = omega (arith, h.sections);
-                areas = omega (arith, h.areas);
-                handles = pushed (n + 1 + 1) w.processes (λ pid p lives. omega (arith, h.handles pid p lives)) (omega arith);
-              };
-          fine = fine;
-        };
-      }
+  by_new w a fine = by_counts w _ a fine (omega arith) (omega arith) (λ n h. pushed (n + 1 + 1) w.processes (λ pid p lives. omega (arith, h.handles pid p lives)) (omega arith))
 
   pub in_new_process : (w : WorldOf B) → Holds (Makes w) (new_process w)
   in_new_process w = search (tables, unchanged, by_new) depth 14
@@ -217,6 +189,12 @@ module _ {B : Type 0} where
 
   pub in_take_fail : (w : WorldOf B) → Holds (Makes w) (take_fail w)
   in_take_fail w = search (tables, unchanged, by_count) depth 14
+
+  by_machine : (w : WorldOf B) (m : MachineOf) (a : Answer) → (IsFailure a → ⊥) → Holds (Makes w) (done a (record w { machine = m }))
+  by_machine w m a fine = by_rest w _ a fine refl (omega arith) (omega arith)
+
+  pub in_grow : (w : WorldOf B) (n : ℕ) → Holds (Makes w) (grow w n)
+  in_grow w n = search (tables, unchanged, by_machine) depth 14
 
   -- ---- one region, one row
 

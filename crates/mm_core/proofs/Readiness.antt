@@ -1,7 +1,6 @@
 -- An access at a place that is ready has what it needs.
 use Rattle.std.proofs.Common.{◌≡◌, ◌∙◌, ℕ, Bool, true, false, Option, inl, inr}
-use Rattle.mm_types.specs.declared.answers.Wait.TheVariants as wait
-use Rattle.mm_types.specs.{Key, PageFault, Place}
+use Rattle.mm_types.specs.{Key, PageFault, Place, AccessSpec, Pid, Tid}
 use Rattle.mm_world.specs.{Page, Need}
 use Rattle.mm_pages.specs.Behind.{Behind}
 use Rattle.mm_pages.specs.{StandsIn, StoreOf, MayAccess, IsReady}
@@ -9,6 +8,12 @@ use Rattle.std.specs.Prelude.{Result, Ok, Err, IsOk}
 use Rattle.mm_world.specs.Report.{Report}
 use Rattle.mm_pages.specs.Reports.{Ends}
 use Rattle.mm_core.specs.{IsHad}
+use Rattle.std.proofs.lemmas.Bool.{leb-true}
+use Rattle.mm_script.specs.{IsWellFormed}
+use Rattle.mm_tables.specs.{FitsPage}
+use Rattle.mm_types.specs.declared.answers.Wait.TheVariants as wait
+use Rattle.mm_types.specs.declared.events.AccessSpec.TheVariants as spec
+use Rattle.mm_types.specs.declared.events.Event.TheVariants as event
 
 pub had_ready : {T : Type 0} (need : Need) (after : Report) (r : Result T PageFault) → Ends need after r → IsOk r → IsHad need after
 had_ready need after (Ok x) e ok = record { fine = e.ok; framed = e.had }
@@ -23,3 +28,9 @@ may_go_on s z place n m (inr h) e r = inr (e ∙ h.0, r)
 pub idle_in : (u : Bool) (c : Key → Option Page) (s : StoreOf) (b : Behind) → StandsIn u c s b → u ≡ true → (tid : ℕ) → s.report.wait tid ≡ wait.None
 idle_in true c s b h e tid = h.idle tid
 idle_in false c s b h e tid = cc
+
+-- ---- what the form of a `begin` line says of its access
+
+pub fits_page : (tid : Tid) (pid : Pid) (what : AccessSpec) → IsWellFormed (event.Begin tid pid what) → FitsPage what
+fits_page tid pid (spec.Read addr len) h = let range = h.fields.1.1.1.1.1.0 in (range.0, (range.1, leb-true _ _ h.joined))
+fits_page tid pid (spec.Write addr bytes) h = leb-true _ _ h.joined

@@ -1,16 +1,16 @@
 -- A page of a world is written: the same tables, with other bytes at one key.
-use Rattle.std.proofs.Common.{◌≡◌, ◌≢◌, ◌⊎◌, inl, inr, ℕ, zero, suc, ◌+◌, ◌-◌, ◌≤◌, ◌<◌, Bool, true, false, Option, Some, None, List, [], ◌∷◌, refl, ◌∙◌, ap, arith, length, map, set, slice_get, option_map, ◌&&◌, nat_le, nat_lt, ◌==◌, get_or, unwrap_or, sym}
-use Rattle.std.proofs.lemmas.Bool.{leb-true}
+use Rattle.std.proofs.Common.{◌≡◌, ◌≢◌, ◌⊎◌, inl, inr, ℕ, zero, suc, ◌+◌, ◌-◌, ◌≤◌, ◌<◌, true, false, Option, Some, None, List, [], ◌∷◌, refl, ◌∙◌, ap, arith, length, map, set, slice_get, option_map, ◌&&◌, nat_le, nat_lt, ◌==◌, get_or, unwrap_or, sym}
 use Rattle.std.specs.Cmp.{unsigned_Decides}
-use Rattle.mm_types.proofs.{differ, parts, less}
+use Rattle.mm_types.proofs.{and_false, differ, parts, less}
 use Rattle.mm_types.specs.{Key, end_of, first_user_page}
 use Rattle.mm_types.specs.declared.numbers.Key.TheVariants as key
-use Rattle.mm_world.specs.{Page, RowOf, RegionOf, ProcessOf, AreaOf, Numbered, pages_of, process_of, area_at, no_area, shared_page, set_region}
-use Rattle.mm_world.specs.{mark_written, one_page, same_key, Committed, committed_at, private_key, shared_key, with_row, set_row, set_shared, Tables}
-use Rattle.mm_world.specs.{row_with, rows_with, region_with_bytes, process_with, processes_with, pages_with, area_with, areas_with, world_with}
-use Rattle.mm_world.specs.{LaidOut, Spaces}
+use Rattle.mm_world.specs.{Page, RowOf, RegionOf, ProcessOf, AreaOf, Numbered, pages_of, process_of, area_at, no_area, shared_page, set_process}
+use Rattle.mm_world.specs.{set_region, mark_written, one_page, same_key, Committed, committed_at, private_key, shared_key, with_row, set_row}
+use Rattle.mm_world.specs.{set_shared, Tables, row_with, rows_with, region_with_bytes, process_with, processes_with, pages_with, area_with}
+use Rattle.mm_world.specs.{areas_with, world_with, LaidOut, Spaces}
 use Rattle.mm_world.proofs.{found_stands, numbered_there, committed_is, laid_at}
-use Rattle.mm_core.proofs.With.{found_with, get-areas}
+use Rattle.mm_core.proofs.Numbering.{areas-numbered, numbers-new, numbers-same, pages-numbered, processes-numbered, rows-numbered, set_itself}
+use Rattle.mm_core.proofs.With.{begins, found_with, area-with}
 
 pub shared_itself : (area index : ℕ) → same_key (shared_key area index) (shared_key area index) ≡ true
 shared_itself area index = λ i. (unsigned_Decides area area).1 refl i && (unsigned_Decides index index).1 refl i
@@ -24,10 +24,6 @@ keys-same (key.Shared area index) = shared_itself area.0 index
 
 other_page : (p q : ℕ) (a b : ℕ) → a ≢ b → same_key (private_key p a) (private_key q b) ≡ false
 other_page p q a b h = ap (λ t. (p == q) && t) (differ a b h) ∙ and_false (p == q)
-  where
-    and_false : (x : Bool) → (x && false) ≡ false
-    and_false true = refl
-    and_false false = refl
 
 other_process : (p q : ℕ) (a b : ℕ) → p ≢ q → same_key (private_key p a) (private_key q b) ≡ false
 other_process p q a b h = ap (λ t. t && (a == b)) (differ p q h)
@@ -39,36 +35,20 @@ module _ (b c : Key → Page) (pid page : ℕ) (others : (k : Key) → same_key 
   row-other : (q at : ℕ) (row : RowOf (Unit {0})) → c (private_key q at) ≡ b (private_key q at) → row_with c q at row ≡ row_with b q at row
   row-other q at row e = λ i. record { prot = row.prot; guard = row.guard; marked = row.marked; own = option_map (λ u. e i) row.own }
 
+  row-elsewhere : (at : ℕ) (row : RowOf (Unit {0})) → at ≢ page → row_with c pid at row ≡ row_with b pid at row
+  row-elsewhere at row h = row-other pid at row (others (private_key pid at) (other_page pid pid at page h))
+
   rows-before : (n : ℕ) (rows : List (RowOf (Unit {0}))) → (page < n) ⊎ (n + length rows ≤ page) → rows_with c pid n rows ≡ rows_with b pid n rows
-  rows-before n [] h = refl
-  rows-before n (row ∷ rows) h =
-      let here : n ≢ page = λ e. elim h [ inl low ↦ absurd (omega (arith, low, e)) | inr high ↦ absurd (omega (arith, high, e)) ] in
-      let later : (page < n + 1) ⊎ (n + 1 + length rows ≤ page) = elim h [ inl low ↦ inl (omega (arith, low)) | inr high ↦ inr (omega (arith, high)) ] in
-      λ i. row-other pid n row (others (private_key pid n) (other_page pid pid n page here)) i ∷ rows-before (n + 1) rows later i
+  rows-before n rows h =
+      numbers-same (rows-numbered c pid) (rows-numbered b pid) n rows
+      (λ k row low high. row-elsewhere k row (λ e. elim h [ inl x ↦ absurd (omega (arith, x, low, e)) | inr y ↦ absurd (omega (arith, y, high, e)) ]))
 
-  rows-at : (n i : ℕ) (rows : List (RowOf (Unit {0}))) (row : RowOf (Unit {0})) → n + i ≡ page → slice_get rows i ≡ Some row → rows_with c pid n rows ≡ set (rows_with b pid n rows) i (row_with c pid page row)
-  rows-at n i [] row e there = cc
-  rows-at n zero (r ∷ rows) row e there =
-      let same : r ≡ row = cc in
-      let at : n ≡ page = omega (arith, e) in
-      λ i. row_with c pid (at i) (same i) ∷ rows-before (n + 1) rows (inl (omega (arith, at))) i
-  rows-at n (suc i) (r ∷ rows) row e there =
-      let here : n ≢ page = λ f. absurd (omega (arith, e, f)) in
-      λ j. row-other pid n r (others (private_key pid n) (other_page pid pid n page here)) j ∷ rows-at (n + 1) i rows row (omega (arith, e)) there j
-
-  -- another row stands there
-  rows-new : (n i : ℕ) (rows : List (RowOf (Unit {0}))) (row new : RowOf (Unit {0})) → n + i ≡ page → slice_get rows i ≡ Some row → rows_with c pid n (set rows i new) ≡ set (rows_with b pid n rows) i (row_with c pid page new)
-  rows-new n i [] row new e there = cc
-  rows-new n zero (r ∷ rows) row new e there =
-      let at : n ≡ page = omega (arith, e) in
-      λ i. row_with c pid (at i) new ∷ rows-before (n + 1) rows (inl (omega (arith, at))) i
-  rows-new n (suc i) (r ∷ rows) row new e there =
-      let here : n ≢ page = λ f. absurd (omega (arith, e, f)) in
-      λ j. row-other pid n r (others (private_key pid n) (other_page pid pid n page here)) j ∷ rows-new (n + 1) i rows row new (omega (arith, e)) there j
+  -- where another row stands
+  rows-new : (n i : ℕ) (rows : List (RowOf (Unit {0}))) (new : RowOf (Unit {0})) → n + i ≡ page → rows_with c pid n (set rows i new) ≡ set (rows_with b pid n rows) i (row_with c pid page new)
+  rows-new n i rows new e = numbers-new (rows-numbered c pid) (rows-numbered b pid) page row-elsewhere n i e rows new
 
   rows-process : (q n : ℕ) (rows : List (RowOf (Unit {0}))) → q ≢ pid → rows_with c q n rows ≡ rows_with b q n rows
-  rows-process q n [] h = refl
-  rows-process q n (row ∷ rows) h = λ i. row-other q n row (others (private_key q n) (other_process q pid n page h)) i ∷ rows-process q (n + 1) rows h i
+  rows-process q n rows h = numbers-same (rows-numbered c q) (rows-numbered b q) n rows (λ k row low high. row-other q k row (others (private_key q k) (other_process q pid k page h)))
 
   -- ---- regions
 
@@ -83,16 +63,6 @@ module _ (b c : Key → Page) (pid page : ℕ) (others : (k : Key) → same_key 
   regions-behind from [] laid low = refl
   regions-behind from (r ∷ rs) laid low =
       λ i. region-before r (inl (omega (arith, laid.0.later, low))) i ∷ regions-behind (end_of (pages_of r)) rs laid.1 (omega (arith, laid.0.later, low)) i
-
-  regions-at : (from j : ℕ) (rs : List (RegionOf (Unit {0}))) (r : RegionOf (Unit {0})) → LaidOut from rs → slice_get rs j ≡ Some r → r.base ≤ page → page < r.base + length r.rows → map (region_with_bytes c pid) rs ≡ set (map (region_with_bytes b pid) rs) j (region_with_bytes c pid r)
-  regions-at from j [] r laid there low high = cc
-  regions-at from zero (x ∷ rs) r laid there low high =
-      let same : x ≡ r = cc in
-      let behind : page < end_of (pages_of x) = omega (arith, high, ap (λ (r : RegionOf (Unit {0})). r.base + length r.rows) same) in
-      λ i. region_with_bytes c pid (same i) ∷ regions-behind (end_of (pages_of x)) rs laid.1 behind i
-  regions-at from (suc j) (x ∷ rs) r laid there low high =
-      let later = (laid_at (end_of (pages_of x)) rs j r laid.1 there).later in
-      λ i. region-before x (inr (omega (arith, later, low))) i ∷ regions-at (end_of (pages_of x)) j rs r laid.1 there low high i
 
   regions-new : (from j : ℕ) (rs : List (RegionOf (Unit {0}))) (r new : RegionOf (Unit {0})) → LaidOut from rs → slice_get rs j ≡ Some r → r.base ≤ page → page < r.base + length r.rows → map (region_with_bytes c pid) (set rs j new) ≡ set (map (region_with_bytes b pid) rs) j (region_with_bytes c pid new)
   regions-new from j [] r new laid there low high = cc
@@ -110,60 +80,18 @@ module _ (b c : Key → Page) (pid page : ℕ) (others : (k : Key) → same_key 
   process-other q None h = refl
   process-other q (Some p) h = λ i. Some (record { regions = regions-process q p.regions h i; handles = p.handles })
 
-  processes-behind : (n : ℕ) (ps : Numbered (ProcessOf (Unit {0}))) → pid < n → processes_with c n ps ≡ processes_with b n ps
-  processes-behind n [] h = refl
-  processes-behind n (p ∷ ps) h =
-      let other : n ≢ pid = λ e. absurd (omega (arith, h, e)) in
-      λ i. process-other n p other i ∷ processes-behind (n + 1) ps (omega (arith, h)) i
-
-  processes-at : (n m : ℕ) (ps : Numbered (ProcessOf (Unit {0}))) (p : Option (ProcessOf (Unit {0}))) → n + m ≡ pid → slice_get ps m ≡ Some p → processes_with c n ps ≡ set (processes_with b n ps) m (option_map (process_with c pid) p)
-  processes-at n m [] p e there = cc
-  processes-at n zero (q ∷ ps) p e there =
-      let same : q ≡ p = cc in
-      let at : n ≡ pid = omega (arith, e) in
-      λ i. option_map (process_with c (at i)) (same i) ∷ processes-behind (n + 1) ps (omega (arith, at)) i
-  processes-at n (suc m) (q ∷ ps) p e there =
-      let other : n ≢ pid = λ f. absurd (omega (arith, e, f)) in
-      λ i. process-other n q other i ∷ processes-at (n + 1) m ps p (omega (arith, e)) there i
-
-  processes-new : (n m : ℕ) (ps : Numbered (ProcessOf (Unit {0}))) (p new : Option (ProcessOf (Unit {0}))) → n + m ≡ pid → slice_get ps m ≡ Some p → processes_with c n (set ps m new) ≡ set (processes_with b n ps) m (option_map (process_with c pid) new)
-  processes-new n m [] p new e there = cc
-  processes-new n zero (q ∷ ps) p new e there =
-      let at : n ≡ pid = omega (arith, e) in
-      λ i. option_map (process_with c (at i)) new ∷ processes-behind (n + 1) ps (omega (arith, at)) i
-  processes-new n (suc m) (q ∷ ps) p new e there =
-      let other : n ≢ pid = λ f. absurd (omega (arith, e, f)) in
-      λ i. process-other n q other i ∷ processes-new (n + 1) m ps p new (omega (arith, e)) there i
+  processes-new : (ps : Numbered (ProcessOf (Unit {0}))) (new : Option (ProcessOf (Unit {0}))) → processes_with c 0 (set ps pid new) ≡ set (processes_with b 0 ps) pid (option_map (process_with c pid) new)
+  processes-new ps new = numbers-new (processes-numbered c) (processes-numbered b) pid process-other 0 pid (omega arith) ps new
 
   -- ---- areas
 
   pages-same : (area n : ℕ) (pages : List (Option (Unit {0}))) → pages_with c area n pages ≡ pages_with b area n pages
-  pages-same area n [] = refl
-  pages-same area n (o ∷ pages) = λ i. option_map (λ u. others (shared_key area n) refl i) o ∷ pages-same area (n + 1) pages i
+  pages-same area n pages = numbers-same (pages-numbered c area) (pages-numbered b area) n pages (λ k o low high. ap (λ (x : Page). option_map (λ u. x) o) (others (shared_key area k) refl))
 
   areas-same : (n : ℕ) (areas : List (AreaOf (Unit {0}))) → areas_with c n areas ≡ areas_with b n areas
-  areas-same n [] = refl
-  areas-same n (a ∷ rest) = λ i. record { file_block = a.file_block; pages = pages-same n 0 a.pages i } ∷ areas-same (n + 1) rest i
+  areas-same n areas = numbers-same (areas-numbered c) (areas-numbered b) n areas (λ k a low high. λ i. record { file_block = a.file_block; pages = pages-same k 0 a.pages i })
 
   -- ---- the world
-
-  pub written-with : (t : Tables) (p : ProcessOf (Unit {0})) (d : Committed (Unit {0})) → Spaces t → process_of t pid ≡ Some p → committed_at t p.regions page ≡ Some d → world_with t c ≡ set_row (world_with t b) pid (process_with b pid p) (found_with b pid d.region) page (row_with c pid page d.row)
-  written-with t p d spaces lives committed =
-      let h = committed_is t p.regions page d committed in
-      let r = d.region.thing in
-      let stands = found_stands _ p.regions d.region h.region in
-      let inside = parts (nat_le r.base page) (nat_lt page (end_of (pages_of r))) stands.passes in
-      let low : r.base ≤ page = leb-true _ _ inside.0 in
-      let high : page < r.base + length r.rows = less _ _ inside.1 in
-      let rows : rows_with c pid r.base r.rows ≡ set (rows_with b pid r.base r.rows) (page - r.base) (row_with c pid page d.row) =
-      rows-at r.base (page - r.base) r.rows d.row (omega (arith, low)) h.row_there in
-      let regions : map (region_with_bytes c pid) p.regions ≡ set (map (region_with_bytes b pid) p.regions) d.region.place (record { base = r.base; alloc_prot = r.alloc_prot; kind = r.kind; rows = set (rows_with b pid r.base r.rows) (page - r.base) (row_with c pid page d.row); watched = r.watched }) =
-      regions-at first_user_page d.region.place p.regions r (spaces pid p lives).laid_out stands.there low high
-      ∙ ap (λ (rows : List (RowOf Page)). set (map (region_with_bytes b pid) p.regions) d.region.place (record { base = r.base; alloc_prot = r.alloc_prot; kind = r.kind; rows = rows; watched = r.watched })) rows in
-      let processes : processes_with c 0 t.processes ≡ set (processes_with b 0 t.processes) pid (Some (record { regions = set (map (region_with_bytes b pid) p.regions) d.region.place (record { base = r.base; alloc_prot = r.alloc_prot; kind = r.kind; rows = set (rows_with b pid r.base r.rows) (page - r.base) (row_with c pid page d.row); watched = r.watched }); handles = p.handles })) =
-      processes-at 0 pid t.processes (Some p) (omega arith) (numbered_there t.processes pid p lives)
-      ∙ ap (λ (rs : List (RegionOf Page)). set (processes_with b 0 t.processes) pid (Some (record { regions = rs; handles = p.handles }))) regions in
-      λ i. record (world_with t b) { processes = processes i; areas = areas-same 0 t.areas i }
 
   -- another region stands in place of the row's, and other bytes of the page
   region-changed : (t : Tables) (p : ProcessOf (Unit {0})) (d : Committed (Unit {0})) (new : RegionOf (Unit {0})) → Spaces t → process_of t pid ≡ Some p → committed_at t p.regions page ≡ Some d → world_with (set_region t pid p d.region.place new) c ≡ set_region (world_with t b) pid (process_with b pid p) d.region.place (region_with_bytes c pid new)
@@ -171,14 +99,13 @@ module _ (b c : Key → Page) (pid page : ℕ) (others : (k : Key) → same_key 
       let h = committed_is t p.regions page d committed in
       let r = d.region.thing in
       let stands = found_stands _ p.regions d.region h.region in
-      let inside = parts (nat_le r.base page) (nat_lt page (end_of (pages_of r))) stands.passes in
-      let low : r.base ≤ page = leb-true _ _ inside.0 in
-      let high : page < r.base + length r.rows = less _ _ inside.1 in
+      let low : r.base ≤ page = begins page p.regions d.region h.region in
+      let high : page < r.base + length r.rows = less _ _ (parts (nat_le r.base page) (nat_lt page (end_of (pages_of r))) stands.passes).1 in
       let q : ProcessOf (Unit {0}) = record p { regions = set p.regions d.region.place new } in
       let regions : map (region_with_bytes c pid) q.regions ≡ set (map (region_with_bytes b pid) p.regions) d.region.place (region_with_bytes c pid new) =
       regions-new first_user_page d.region.place p.regions r new (spaces pid p lives).laid_out stands.there low high in
       let processes : processes_with c 0 (set t.processes pid (Some q)) ≡ set (processes_with b 0 t.processes) pid (Some (record { regions = set (map (region_with_bytes b pid) p.regions) d.region.place (region_with_bytes c pid new); handles = p.handles })) =
-      processes-new 0 pid t.processes (Some p) (Some q) (omega arith) (numbered_there t.processes pid p lives)
+      processes-new t.processes (Some q)
       ∙ ap (λ (rs : List (RegionOf Page)). set (processes_with b 0 t.processes) pid (Some (record { regions = rs; handles = p.handles }))) regions in
       λ i. record (world_with t b) { processes = processes i; areas = areas-same 0 t.areas i }
 
@@ -187,11 +114,10 @@ module _ (b c : Key → Page) (pid page : ℕ) (others : (k : Key) → same_key 
   marked-with t p d spaces lives committed =
       let h = committed_is t p.regions page d committed in
       let r = d.region.thing in
-      let stands = found_stands _ p.regions d.region h.region in
-      let low : r.base ≤ page = leb-true _ _ (parts (nat_le r.base page) (nat_lt page (end_of (pages_of r))) stands.passes).0 in
+      let low : r.base ≤ page = begins page p.regions d.region h.region in
       let marked : RegionOf (Unit {0}) = mark_written true (one_page page) r in
       let rows : rows_with c pid r.base r.rows ≡ set (rows_with b pid r.base r.rows) (page - r.base) (row_with c pid page d.row) =
-      rows-at r.base (page - r.base) r.rows d.row (omega (arith, low)) h.row_there in
+      ap (rows_with c pid r.base) (sym (set_itself r.rows (page - r.base) d.row h.row_there)) ∙ rows-new r.base (page - r.base) r.rows d.row (omega (arith, low)) in
       region-changed t p d marked spaces lives committed
       ∙ ap (λ (rows : List (RowOf Page)). set_region (world_with t b) pid (process_with b pid p) d.region.place (record { base = r.base; alloc_prot = r.alloc_prot; kind = r.kind; rows = rows; watched = marked.watched })) rows
 
@@ -200,72 +126,55 @@ module _ (b c : Key → Page) (pid page : ℕ) (others : (k : Key) → same_key 
   copied-with t p d new spaces lives committed =
       let h = committed_is t p.regions page d committed in
       let r = d.region.thing in
-      let stands = found_stands _ p.regions d.region h.region in
-      let low : r.base ≤ page = leb-true _ _ (parts (nat_le r.base page) (nat_lt page (end_of (pages_of r))) stands.passes).0 in
+      let low : r.base ≤ page = begins page p.regions d.region h.region in
       let rows : rows_with c pid r.base (set r.rows (page - r.base) new) ≡ set (rows_with b pid r.base r.rows) (page - r.base) (row_with c pid page new) =
-      rows-new r.base (page - r.base) r.rows d.row new (omega (arith, low)) h.row_there in
+      rows-new r.base (page - r.base) r.rows new (omega (arith, low)) in
       region-changed t p d (with_row page new r) spaces lives committed
       ∙ ap (λ (rows : List (RowOf Page)). set_region (world_with t b) pid (process_with b pid p) d.region.place (record { base = r.base; alloc_prot = r.alloc_prot; kind = r.kind; rows = rows; watched = r.watched })) rows
+
+  -- the tables as they are
+  pub written-with : (t : Tables) (p : ProcessOf (Unit {0})) (d : Committed (Unit {0})) → Spaces t → process_of t pid ≡ Some p → committed_at t p.regions page ≡ Some d → world_with t c ≡ set_row (world_with t b) pid (process_with b pid p) (found_with b pid d.region) page (row_with c pid page d.row)
+  written-with t p d spaces lives committed =
+      let h = committed_is t p.regions page d committed in
+      let r = d.region.thing in
+      let stands = found_stands _ p.regions d.region h.region in
+      let same : set_row t pid p d.region page d.row ≡ t =
+      (λ i. set_region t pid p d.region.place (record r { rows = set_itself r.rows (page - r.base) d.row h.row_there i }))
+      ∙ (λ i. set_process t pid (Some (record p { regions = set_itself p.regions d.region.place r stands.there i })))
+      ∙ (λ i. record t { processes = set_itself t.processes pid (Some p) (numbered_there t.processes pid p lives) i }) in
+      ap (λ (v : Tables). world_with v c) (sym same) ∙ copied-with t p d d.row spaces lives committed
 
 -- the bytes of one shared key are changed
 module _ (b c : Key → Page) (area index : ℕ) (others : (k : Key) → same_key k (shared_key area index) ≡ false → c k ≡ b k) where
   other_index : (a i : ℕ) → i ≢ index → same_key (shared_key a i) (shared_key area index) ≡ false
-  other_index a i h = ap (λ t. (a == area) && t) (differ i index h) ∙ and_none (a == area)
-    where
-      and_none : (x : Bool) → (x && false) ≡ false
-      and_none true = refl
-      and_none false = refl
+  other_index a i h = ap (λ t. (a == area) && t) (differ i index h) ∙ and_false (a == area)
 
   other_area : (a i : ℕ) → a ≢ area → same_key (shared_key a i) (shared_key area index) ≡ false
   other_area a i h = ap (λ t. t && (i == index)) (differ a area h)
 
-  -- ---- the pages of the area
-
-  pages-behind : (n : ℕ) (pages : List (Option (Unit {0}))) → index < n → pages_with c area n pages ≡ pages_with b area n pages
-  pages-behind n [] h = refl
-  pages-behind n (o ∷ pages) h =
-      let here : n ≢ index = λ e. absurd (omega (arith, h, e)) in
-      λ i. option_map (λ u. others (shared_key area n) (other_index area n here) i) o ∷ pages-behind (n + 1) pages (omega (arith, h)) i
-
-  pages-at : (n i : ℕ) (pages : List (Option (Unit {0}))) (u : Unit {0}) → n + i ≡ index → slice_get pages i ≡ Some (Some u) → pages_with c area n pages ≡ set (pages_with b area n pages) i (Some (c (shared_key area index)))
-  pages-at n i [] u e there = cc
-  pages-at n zero (o ∷ pages) u e there =
-      let same : o ≡ Some u = cc in
-      let at : n ≡ index = omega (arith, e) in
-      λ i. option_map (λ u. c (shared_key area (at i))) (same i) ∷ pages-behind (n + 1) pages (omega (arith, at)) i
-  pages-at n (suc i) (o ∷ pages) u e there =
-      let here : n ≢ index = λ f. absurd (omega (arith, e, f)) in
-      λ j. option_map (λ u. others (shared_key area n) (other_index area n here) j) o ∷ pages-at (n + 1) i pages u (omega (arith, e)) there j
-
-  pages-other : (a n : ℕ) (pages : List (Option (Unit {0}))) → a ≢ area → pages_with c a n pages ≡ pages_with b a n pages
-  pages-other a n [] h = refl
-  pages-other a n (o ∷ pages) h = λ i. option_map (λ u. others (shared_key a n) (other_area a n h) i) o ∷ pages-other a (n + 1) pages h i
-
   -- ---- the areas
 
-  areas-behind : (n : ℕ) (areas : List (AreaOf (Unit {0}))) → area < n → areas_with c n areas ≡ areas_with b n areas
-  areas-behind n [] h = refl
-  areas-behind n (a ∷ rest) h =
-      let other : n ≢ area = λ e. absurd (omega (arith, h, e)) in
-      λ i. record { file_block = a.file_block; pages = pages-other n 0 a.pages other i } ∷ areas-behind (n + 1) rest (omega (arith, h)) i
+  pages-at : (n i : ℕ) (pages : List (Option (Unit {0}))) (u : Unit {0}) → n + i ≡ index → slice_get pages i ≡ Some (Some u) → pages_with c area n pages ≡ set (pages_with b area n pages) i (Some (c (shared_key area index)))
+  pages-at n i pages u e there =
+      ap (pages_with c area n) (sym (set_itself pages i (Some u) there))
+      ∙ numbers-new (pages-numbered c area) (pages-numbered b area) index (λ k o h. ap (λ (x : Page). option_map (λ u. x) o) (others (shared_key area k) (other_index area k h))) n i e pages (Some u)
 
-  areas-at : (n m : ℕ) (areas : List (AreaOf (Unit {0}))) (a : AreaOf (Unit {0})) (u : Unit {0}) → n + m ≡ area → slice_get areas m ≡ Some a → slice_get a.pages index ≡ Some (Some u) → areas_with c n areas ≡ set (areas_with b n areas) m (record { file_block = a.file_block; pages = set (pages_with b area 0 a.pages) index (Some (c (shared_key area index))) })
-  areas-at n m [] a u e there page = cc
-  areas-at n zero (x ∷ rest) a u e there page =
-      let same : x ≡ a = cc in
-      let at : n ≡ area = omega (arith, e) in
-      let here : area_with c n x ≡ area_with c area a = λ i. area_with c (at i) (same i) in
-      λ i. (here ∙ ap (λ (pages : List (Option Page)). let made : AreaOf Page = record { file_block = a.file_block; pages = pages } in made) (pages-at 0 index a.pages u (omega arith) page)) i ∷ areas-behind (n + 1) rest (omega (arith, at)) i
-  areas-at n (suc m) (x ∷ rest) a u e there page =
-      let other : n ≢ area = λ f. absurd (omega (arith, e, f)) in
-      λ j. record { file_block = x.file_block; pages = pages-other n 0 x.pages other j } ∷ areas-at (n + 1) m rest a u (omega (arith, e)) there page j
+  area-elsewhere : (n : ℕ) (a : AreaOf (Unit {0})) → n ≢ area → area_with c n a ≡ area_with b n a
+  area-elsewhere n a h =
+      ap (λ (pages : List (Option Page)). let made : AreaOf Page = record { file_block = a.file_block; pages = pages } in made)
+      (numbers-same (pages-numbered c n) (pages-numbered b n) 0 a.pages (λ k o low high. ap (λ (x : Page). option_map (λ u. x) o) (others (shared_key n k) (other_area n k h))))
+
+  areas-at : (areas : List (AreaOf (Unit {0}))) (a : AreaOf (Unit {0})) (u : Unit {0}) → slice_get areas area ≡ Some a → slice_get a.pages index ≡ Some (Some u) → areas_with c 0 areas ≡ set (areas_with b 0 areas) area (record { file_block = a.file_block; pages = set (pages_with b area 0 a.pages) index (Some (c (shared_key area index))) })
+  areas-at areas a u there page =
+      ap (areas_with c 0) (sym (set_itself areas area a there)) ∙ numbers-new (areas-numbered c) (areas-numbered b) area area-elsewhere 0 area (omega arith) areas a
+      ∙ ap (λ (pages : List (Option Page)). set (areas_with b 0 areas) area (record { file_block = a.file_block; pages = pages })) (pages-at 0 index a.pages u (omega arith) page)
 
   -- ---- the processes
 
   rows-shared : (q n : ℕ) (rows : List (RowOf (Unit {0}))) → rows_with c q n rows ≡ rows_with b q n rows
-  rows-shared q n [] = refl
-  rows-shared q n (row ∷ rows) =
-      λ i. record { prot = row.prot; guard = row.guard; marked = row.marked; own = option_map (λ u. others (private_key q n) refl i) row.own } ∷ rows-shared q (n + 1) rows i
+  rows-shared q n rows =
+      numbers-same (rows-numbered c q) (rows-numbered b q) n rows
+      (λ k row low high. λ i. record { prot = row.prot; guard = row.guard; marked = row.marked; own = option_map (λ u. others (private_key q k) refl i) row.own })
 
   regions-shared : (q : ℕ) (rs : List (RegionOf (Unit {0}))) → map (region_with_bytes c q) rs ≡ map (region_with_bytes b q) rs
   regions-shared q [] = refl
@@ -276,8 +185,7 @@ module _ (b c : Key → Page) (area index : ℕ) (others : (k : Key) → same_ke
   process-shared q (Some p) = λ i. Some (record { regions = regions-shared q p.regions i; handles = p.handles })
 
   processes-shared : (n : ℕ) (ps : Numbered (ProcessOf (Unit {0}))) → processes_with c n ps ≡ processes_with b n ps
-  processes-shared n [] = refl
-  processes-shared n (p ∷ ps) = λ i. process-shared n p i ∷ processes-shared (n + 1) ps i
+  processes-shared n ps = numbers-same (processes-numbered c) (processes-numbered b) n ps (λ k p low high. process-shared k p)
 
   -- ---- the world
 
@@ -289,9 +197,7 @@ module _ (b c : Key → Page) (area index : ℕ) (others : (k : Key) → same_ke
   shared-written t u there =
       let a = area_at t area in
       let at : slice_get t.areas area ≡ Some a = known (slice_get t.areas area) u there in
-      let with : area_at (world_with t b) area ≡ area_with b area a =
-      ap (λ o. unwrap_or o no_area) (get-areas b 0 area t.areas ∙ ap (λ o. option_map (area_with b (0 + area)) o) at) ∙ ap (λ (k : ℕ). area_with b k a) (let k : 0 + area ≡ area = omega arith in k) in
       let areas : areas_with c 0 t.areas ≡ set (areas_with b 0 t.areas) area (record { file_block = a.file_block; pages = set (pages_with b area 0 a.pages) index (Some (c (shared_key area index))) }) =
-      areas-at 0 area t.areas a u (omega arith) at (numbered_there a.pages index u there) in
+      areas-at t.areas a u at (numbered_there a.pages index u there) in
       (λ i. record (world_with t b) { processes = processes-shared 0 t.processes i; areas = areas i })
-      ∙ ap (λ (x : AreaOf Page). record (world_with t b) { areas = set (areas_with b 0 t.areas) area (record x { pages = set x.pages index (Some (c (shared_key area index))) }) }) (sym with)
+      ∙ ap (λ (x : AreaOf Page). record (world_with t b) { areas = set (areas_with b 0 t.areas) area (record x { pages = set x.pages index (Some (c (shared_key area index))) }) }) (sym (area-with b t area))

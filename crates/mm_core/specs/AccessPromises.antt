@@ -4,12 +4,11 @@ use Rattle.mm_types.specs.{Answer, Why, Event, PageFault, Move, Key, Pid, Place,
 use Rattle.mm_types.specs.declared.answers.Wait.TheVariants as wait
 use Rattle.mm_types.specs.declared.events.Event.TheVariants as event
 use Rattle.mm_types.specs.declared.moves.LineKind.TheVariants as line_kind
-use Rattle.mm_types.specs.declared.moves.Move.TheVariants as move
 use Rattle.mm_types.specs.declared.protections.Access.TheVariants as access_kind
 use Rattle.mm_life.specs.{is_thread}
 use Rattle.mm_world.specs.{Attempt, ReadOf, WriteOf, Execute, Tables, Need, process_of, private_key, keep, kept_by, Spaces}
-use Rattle.mm_pages.specs.{Aim, Touches, Copies, Starts, Forgets, place_at, touch, copying, IsReady, MayAccess, waits_at_once, OneMove, IsBegun}
-use Rattle.mm_pages.specs.{Served, SomeFailed, started, Ghosts as PagesGhosts}
+use Rattle.mm_pages.specs.{Aim, Touches, Copies, Starts, Forgets, place_at, touch, copying, IsReady, MayAccess, waits_at_once, IsBegun, Served}
+use Rattle.mm_pages.specs.{SomeFailed, started, Ghosts as PagesGhosts}
 use Rattle.mm_pages.specs.Behind.{Behind}
 use Rattle.mm_pages.specs.declared.outcomes.Start.TheVariants as start
 use Rattle.mm_tables.specs.{CommittedRow, key_at}
@@ -18,7 +17,7 @@ use Rattle.mm_core.specs.declared.threads.Threaded.TheVariants as threaded
 use Rattle.mm_core.specs.Accessing.{Admits, Accessed, IsHad}
 use Rattle.mm_core.specs.Answering.{Answered, TurnedBy}
 use Rattle.mm_core.specs.Forgetting.{waited}
-use Rattle.mm_core.specs.LinePromises.{StartsLine}
+use Rattle.mm_core.specs.LinePromises.{StartsLine, StartsOn}
 use Rattle.mm_core.specs.Over.{FitsOver, KeepsOver, PassesOver, aim_over, world_over}
 use Rattle.mm_core.specs.Pending.{ThreadWent}
 
@@ -131,9 +130,7 @@ module _ {G : Type 0} (p : PagesGhosts G) where
       (t : Tables) (g : G) (after : Tables) (h : G) : Type 0 where
     pub can : (need : Need) → CanAccess kind after pid addr row need h
     pub same : after ≡ t
-    pub lives : is_some (process_of t pid.0) ≡ true
-    pub starts : StartsLine p n g h
-    pub passes : PassesOver p (OneMove (move.At n (line_kind.Access pid))) g h
+    pub on : StartsOn p n t pid (line_kind.Access pid) true g h
 
   -- ---- of a thread
 
@@ -182,10 +179,8 @@ module _ {G : Type 0} (p : PagesGhosts G) where
     pub busy_is : busy ≡ is_some (kept_by t tid.0)
     pub lives : lived ≡ is_some (process_of t pid.0)
     pub keeps : KeepsOver p t h
-    pub starts : StartsLine p n g h
-    pub form : lived ≡ true → busy ≡ false → (p.store h).kind ≡ line_kind.Thread pid
-    pub passes : PassesOver p (OneMove (move.At n (if busy then line_kind.Call
-        else if lived then line_kind.Thread pid else line_kind.Call))) g h
+    pub starts : StartsLine p n (if busy then line_kind.Call
+        else if lived then line_kind.Thread pid else line_kind.Call) g h
 
   -- a thread's access has ended: it keeps none, and waits for nothing
   pub record EndsAccess (tid : ℕ) (t : Tables) (g : G) (after : Tables) (h : G) : Type 0 where

@@ -18,6 +18,25 @@ is_access_line (line.Write pid addr bytes) = true
 is_access_line (line.Exec pid addr) = true
 is_access_line _ = false
 
+-- a line that is one call, which its `at` tells no more of, and which asks devices for nothing
+-- beside its moves
+abbrev pub is_call_line : Event → Bool
+is_call_line (line.Alloc pid addr size type prot) = true
+is_call_line (line.Protect pid addr size prot) = true
+is_call_line (line.Query pid addr) = true
+is_call_line line.Charge = true
+is_call_line (line.Create pid size flags name) = true
+is_call_line (line.CreateFile pid file flags name) = true
+is_call_line (line.Open pid name) = true
+is_call_line (line.Close pid handle) = true
+is_call_line (line.Map pid handle access offset len addr) = true
+is_call_line line.Counts = true
+is_call_line (line.Stack tid pid reserve commit) = true
+is_call_line (line.Probe tid addr) = true
+is_call_line (line.Watch pid unwrites addr size count) = true
+is_call_line (line.ResetWatch pid addr size) = true
+is_call_line _ = false
+
 -- a line that may run out of memory in this world: of `process`, one for which a number is left, of
 -- `alloc`, one that makes a region or commits a page that was not, of `protect`, one that gives a
 -- page its first mark, of `probe`, one that makes a stack grow, and of the others one that is not

@@ -15,11 +15,11 @@ pub mod LinePromises
 pub mod AccessPromises
 pub use Accessing.{Accessed, Admits, IsHad, Marks, Refuses}
 pub use Stepping.{Stepped, asks_frames}
-pub use Deciding.{Decided, Devices, Idle, KeepsTables, LineBegins}
-pub use Built.{is_machine, takes_memory}
+pub use Deciding.{Decided, Devices, Idle, KeepsTables, LineBegins, is_plain_kind}
+pub use Built.{is_call_line, is_machine, takes_memory}
 pub use Shown.{line_number, loans, report, world, world_behind}
 pub use Serving.{AskedBeside, FailedBefore, FileWrites, FlushHolds, FlushServed, HasFailed}
-pub use Serving.{IsFailure, Named, OneFailed, WritesBlocks, resumed_thread}
+pub use Serving.{IsFailure, Named, NamedOn, OneFailed, WritesBlocks, resumed_thread}
 pub use Pending.{AccessMade, Permitted, Waits}
 pub use Forgetting.{EndsWaits, Forgot, is_of_process, waited, waits_but}
 pub use Answering.{Answered, AnswersAccess, FailedBy, MadeBy, RefusedBy, TurnedBy, WaitsBy, aim_in}
@@ -30,7 +30,8 @@ pub use Noting.{takes_away}
 pub use Over.{AskedBesideOver, DecidedOver, FitsOver, HaltedOver, IdleOver, KeepsOver, MarkedOver}
 pub use Over.{PassesOver, aim_over, world_over}
 pub use Promise.{Breaks, Decides, NotesMoves, Scene, StaysSound, ToldBeside, scene, scene_of}
-pub use LinePromises.{AnswersLine, HaltsLine, IsNext, MakesLine, StartsLine, TakesLine}
+pub use LinePromises.{AnswersLine, HaltsLine, IsNext, MakesLine, StartsCall, StartsLine, StartsOn}
+pub use LinePromises.{StartsRelease, TakesLine}
 pub use AccessPromises.{AccessDone, AccessEnded, BeginsThread, CanAccess, CanTurn, EndsAccess}
 pub use AccessPromises.{ReadyFor, TurnsAccess, access_line, aim_for, row_need}
 pub use declared.threads.Threaded.{Threaded}

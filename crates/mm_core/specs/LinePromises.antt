@@ -1,14 +1,19 @@
 -- What the lines ask and promise of tables and store together.
-use Rattle.std.specs.Prelude.{◌≡◌, ◌≤◌, ℕ, ◌+◌, true, false, Result, IfOk, OnErr, IsOk}
-use Rattle.mm_types.specs.{Answer, Event, NoMemory}
+use Rattle.std.specs.Prelude.{◌≡◌, ◌≤◌, ℕ, ◌+◌, Bool, true, false, is_some, if◌then◌else◌, Result, IfOk, OnErr, IsOk}
+use Rattle.mm_types.specs.{Answer, Event, LineKind, NoMemory, Pid}
 use Rattle.mm_types.specs.declared.answers.Wait.TheVariants as wait
+use Rattle.mm_types.specs.declared.moves.LineKind.TheVariants as line_kind
+use Rattle.mm_types.specs.declared.moves.Move.TheVariants as move
 use Rattle.mm_script.specs.{IsWellFormed}
-use Rattle.mm_world.specs.{Tables, blank}
-use Rattle.mm_pages.specs.{Ghosts as PagesGhosts}
+use Rattle.mm_world.specs.{Tables, blank, process_of}
+use Rattle.mm_world.specs.WellFormed.{WellFormed}
+use Rattle.mm_pages.specs.{OneMove, Ghosts as PagesGhosts}
+use Rattle.mm_tables.specs.{IsTidy}
 use Rattle.mm_core.specs.Built.{is_machine, takes_memory}
 use Rattle.mm_core.specs.Deciding.{LineBegins}
 use Rattle.mm_core.specs.Forgetting.{EndsWaits}
 use Rattle.mm_core.specs.Over.{AskedBesideOver, DecidedOver, HaltedOver, IdleOver, KeepsOver, MarkedOver}
+use Rattle.mm_core.specs.Over.{PassesOver}
 
 module _ {G : Type 0} (p : PagesGhosts G) where
   -- the line has the next number, over a store that fits the tables
@@ -24,11 +29,36 @@ module _ {G : Type 0} (p : PagesGhosts G) where
     pub few : line ≤ 1000000
     pub idle : p.unpaged ≡ true → (tid : ℕ) → (p.store g).report.wait tid ≡ wait.None
 
-  -- it has begun: bytes and loans stay
-  pub record StartsLine (line : ℕ) (g h : G) : Type 0 where
+  -- it has begun with an `at` of this kind: bytes and loans stay, and what fitted the store
+  pub record StartsLine (line : ℕ) (form : LineKind) (g h : G) : Type 0 where
     pub begins : LineBegins line (p.store g) (p.store h)
     pub contents : p.contents h ≡ p.contents g
+    pub keeps : (t : Tables) → KeepsOver p t g → KeepsOver p t h
+    pub passes : PassesOver p (OneMove (move.At line form)) g h
     pub loans : p.loans h ≡ p.loans g
+
+  -- the line of a call has begun
+  pub record StartsCall (line : ℕ) (t : Tables) (g h : G) : Type 0 where
+    pub sound : WellFormed t
+    pub tidy : IsTidy t
+    pub starts : StartsLine line line_kind.Call g h
+    pub keeps : KeepsOver p t h
+    pub form : (p.store h).kind ≡ line_kind.Call
+
+  -- a line that goes by a process has begun, as a call where that does not live
+  pub record StartsOn (line : ℕ) (t : Tables) (pid : Pid) (of : LineKind) (lived : Bool)
+      (g h : G) : Type 0 where
+    pub lives : lived ≡ is_some (process_of t pid.0)
+    pub starts : StartsLine line (if lived then of else line_kind.Call) g h
+    pub form : lived ≡ true → (p.store h).kind ≡ of
+
+  -- one that may unbind pages of it
+  pub record StartsRelease (line : ℕ) (t : Tables) (pid : Pid) (g h : G) : Type 0 where
+    pub sound : WellFormed t
+    pub starts : StartsLine line (if is_some (process_of t pid.0) then line_kind.Unbind pid
+        else line_kind.Call) g h
+    pub keeps : KeepsOver p t h
+    pub form : is_some (process_of t pid.0) ≡ true → (p.store h).kind ≡ line_kind.Unbind pid
 
   -- it was decided, and noted
   pub record AnswersLine (e : Event) (line : ℕ) (t : Tables) (g : G) (a : Answer) (after : Tables)

@@ -9,12 +9,12 @@ ghost use Rattle.mm_core.specs.Accessing.{Admits, Marks};
 ghost use Rattle.mm_core.specs.LinePromises.{AnswersLine, IsNext};
 ghost use Rattle.mm_core.specs.AccessPromises.{LieInPage, CanAccess, AccessDone, EntersLine, access_line, row_need};
 
-use crate::beginning::begin_access;
+use crate::beginning::begin_on;
 use crate::fetching::{fetch, put, put_copy, read_bytes};
 use crate::refusals::admit;
 use mm_pages::Pages;
 use mm_tables::{CommittedRow, Tables};
-use mm_types::{Access, Answer, ByteBuf, Code, PAGE_SIZE, Pid, Raise};
+use mm_types::{Access, Answer, ByteBuf, Code, LineKind, PAGE_SIZE, Pid, Raise};
 
 /// Reads 1 to 64 bytes, which the row of their page permits.
 pub(crate) fn read_at<G: Pages>(
@@ -169,7 +169,7 @@ fn enter<G: Pages>(
     ensures loans { G.loans g.new ≡ G.loans g.old }
 {
     t.sound();
-    if !begin_access(t, g, line, pid) {
+    if !begin_on(t, g, line, pid, LineKind::Access(pid)) {
         *answer = Answer::Error(Code::InvalidHandle);
         return None;
     }

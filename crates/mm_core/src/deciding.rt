@@ -3,27 +3,19 @@ ghost use Rattle.mm_core.specs.Built.{is_access_line};
 ghost use Rattle.mm_core.specs.LinePromises.{CanDecide, TakesLine};
 
 use crate::access_lines::{exec_line, read_line, write_line};
-use crate::memory_lines::{
-    alloc_line, charge_line, exit_line, free_line, grow_line, process_line, protect_line,
-    query_line,
-};
-use crate::paging_lines::{
-    age_line, counts_line, fail_line, io_line, trim_line, writer_line, zeroer_line,
-};
-use crate::section_lines::{
-    close_line, create_file_line, create_line, file_line, flush_line, map_line, open_line,
-    unmap_line,
-};
-use crate::stack_lines::{probe_line, stack_line};
+use crate::beginning::begin_release;
+use crate::calling::decide_call;
+use crate::memory_lines::{exit_line, file_line, flush_line, grow_line, process_line};
+use crate::paging_lines::{age_line, fail_line, io_line, trim_line, writer_line, zeroer_line};
 use crate::thread_lines::{begin_line, resume_line};
-use crate::watch_lines::{reset_watch_line, watch_line};
+use mm_calls::{unmap, vfree};
 use mm_pages::Pages;
 use mm_tables::Tables;
 use mm_types::{Answer, Event, NoMemory};
 use std::alloc::Global;
 
 /// Decides a line that a world decides, and that makes no access itself.
-#[tactic(auto, using(crate::proofs::Formed::fits_page))]
+#[tactic(auto, using(crate::proofs::Readiness::fits_page))]
 fn decide_other<G: Pages>(
     alloc: Global,
     t: &mut Tables,
@@ -38,54 +30,21 @@ fn decide_other<G: Pages>(
     match event {
         Event::Process { min, max } => process_line(alloc, t, g, line, *min, *max),
         Event::Exit { pid } => Ok(exit_line(t, g, line, *pid)),
-        Event::Alloc {
-            pid,
-            addr,
-            size,
-            form,
-            prot,
-        } => alloc_line(alloc, t, g, line, *pid, *addr, *size, *form, *prot),
         Event::Free {
             pid,
             addr,
             size,
             form,
-        } => Ok(free_line(t, g, line, *pid, *addr, *size, *form)),
-        Event::Protect {
-            pid,
-            addr,
-            size,
-            prot,
-        } => protect_line(t, g, line, *pid, *addr, *size, *prot),
-        Event::Query { pid, addr } => Ok(query_line(t, g, line, *pid, *addr)),
-        Event::Charge => Ok(charge_line(t, g, line)),
+        } => {
+            begin_release(t, g, line, *pid);
+            Ok(vfree(t, g, *pid, *addr, *size, *form))
+        }
         Event::Grow { slots } => grow_line(t, g, line, *slots),
         Event::File { name, pages, byte } => file_line(alloc, t, g, line, name, *pages, *byte),
-        Event::Create {
-            pid,
-            size,
-            flags,
-            name,
-        } => create_line(alloc, t, g, line, *pid, *size, *flags, *name),
-        Event::CreateFile {
-            pid,
-            file,
-            flags,
-            name,
-        } => create_file_line(t, g, line, *pid, file, *flags, *name),
-        Event::Open { pid, name } => open_line(t, g, line, *pid, name),
-        Event::Close { pid, handle } => Ok(close_line(t, g, line, *pid, *handle)),
-        Event::Map {
-            pid,
-            handle,
-            access,
-            offset,
-            length: size,
-            addr,
-        } => map_line(
-            alloc, t, g, line, *pid, *handle, *access, *offset, *size, *addr,
-        ),
-        Event::Unmap { pid, addr } => Ok(unmap_line(t, g, line, *pid, *addr)),
+        Event::Unmap { pid, addr } => {
+            begin_release(t, g, line, *pid);
+            Ok(unmap(t, g, *pid, *addr))
+        }
         Event::Flush { pid, addr, size } => Ok(flush_line(t, g, line, *pid, *addr, *size)),
         Event::Begin { tid, pid, access } => Ok(begin_line(t, g, line, *tid, *pid, access)),
         Event::Resume { tid } => Ok(resume_line(t, g, line, *tid)),
@@ -94,31 +53,13 @@ fn decide_other<G: Pages>(
         Event::Zeroer { count } => Ok(zeroer_line(t, g, line, *count)),
         Event::Writer { count } => Ok(writer_line(t, g, line, *count)),
         Event::Io { index } => Ok(io_line(t, g, line, *index)),
-        Event::Counts => Ok(counts_line(t, g, line)),
         Event::Fail {
             device,
             direction,
             nth,
             count,
         } => Ok(fail_line(t, g, line, *device, *direction, *nth, *count)),
-        Event::Stack {
-            tid,
-            pid,
-            reserve,
-            commit,
-        } => stack_line(alloc, t, g, line, *tid, *pid, *reserve, *commit),
-        Event::Probe { tid, addr } => probe_line(t, g, line, *tid, *addr),
-        Event::Watch {
-            pid,
-            reset: unwrites,
-            addr,
-            size,
-            count,
-        } => Ok(watch_line(t, g, line, *pid, *unwrites, *addr, *size, *count)),
-        Event::ResetWatch { pid, addr, size } => {
-            Ok(reset_watch_line(t, g, line, *pid, *addr, *size))
-        }
-        _ => unreachable!(),
+        _ => decide_call(alloc, t, g, line, event),
     }
 }
 

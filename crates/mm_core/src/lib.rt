@@ -8,6 +8,7 @@
 mod access_lines;
 mod beginning;
 mod built;
+mod calling;
 mod deciding;
 mod fetching;
 mod flushing;
@@ -15,11 +16,8 @@ mod forgetting;
 mod memory_lines;
 mod paging_lines;
 mod refusals;
-mod section_lines;
-mod stack_lines;
 mod thread_lines;
 mod threads;
-mod watch_lines;
 mod worlds;
 
 pub use built::is_machine;

@@ -3,7 +3,7 @@ ghost use Rattle.mm_types.specs.declared.events.Event.TheVariants as event;
 ghost use Rattle.mm_core.specs.Over.{AskedBesideOver};
 ghost use Rattle.mm_core.specs.LinePromises.{AnswersLine, IsNext};
 
-use crate::beginning::{begin, begin_trim};
+use crate::beginning::{begin, begin_call, begin_on};
 use mm_pages::{Done, Pages};
 use mm_tables::Tables;
 use mm_types::{Answer, Code, Device, Direction, LineKind, Pid};
@@ -17,7 +17,7 @@ pub(crate) fn trim_line<G: Pages>(t: &mut Tables, g: &mut G, line: u32, pid: Pid
     ensures done { AnswersLine G.Pages (event.Trim pid n) line t.old g.old result t.new g.new }
     ensures loans { G.loans g.new ≡ G.loans g.old }
 {
-    if !begin_trim(t, g, line, pid) {
+    if !begin_on(t, g, line, pid, LineKind::Trim(pid)) {
         return Answer::Error(Code::InvalidHandle);
     }
     g.trim(pid, n);
@@ -30,7 +30,7 @@ pub(crate) fn age_line<G: Pages>(t: &mut Tables, g: &mut G, line: u32, pid: Pid)
     ensures done { AnswersLine G.Pages (event.Age pid) line t.old g.old result t.new g.new }
     ensures loans { G.loans g.new ≡ G.loans g.old }
 {
-    begin(g, line, LineKind::Call);
+    begin_call(t, g, line);
     if !t.has(pid) {
         return Answer::Error(Code::InvalidHandle);
     }
@@ -69,8 +69,7 @@ pub(crate) fn fail_line<G: Pages>(
         AskedBesideOver G.Pages t.old (event.Fail device direction k n) result g.old g.new }
     ensures loans { G.loans g.new ≡ G.loans g.old }
 {
-    t.sound();
-    begin(g, line, LineKind::Call);
+    begin_call(t, g, line);
     if t.fails_taken() >= MOST_FAILS {
         return Answer::Full;
     }
@@ -103,14 +102,4 @@ pub(crate) fn io_line<G: Pages>(t: &mut Tables, g: &mut G, line: u32, i: u32) ->
         Done::Ok => Answer::Ok,
         Done::Failed => Answer::Fault,
     }
-}
-
-/// Decides a `counts` line: how many frames, slots and requests there are.
-pub(crate) fn counts_line<G: Pages>(t: &mut Tables, g: &mut G, line: u32) -> Answer
-    requires next { IsNext G.Pages line t.old g.old }
-    ensures done { AnswersLine G.Pages event.Counts line t.old g.old result t.new g.new }
-    ensures loans { G.loans g.new ≡ G.loans g.old }
-{
-    begin(g, line, LineKind::Call);
-    Answer::Counts(g.counts())
 }

@@ -1,17 +1,14 @@
-ghost use Rattle.std.specs.Prelude.{◌≡◌, ◌+◌, ℕ, ◌&&◌, true, false, is_some, if◌then◌else◌};
+ghost use Rattle.std.specs.Prelude.{◌≡◌, ℕ, true, is_some};
 ghost use Rattle.mm_types.specs.declared.answers.Wait.TheVariants as wait;
 ghost use Rattle.mm_types.specs.declared.events.Event.TheVariants as event;
-ghost use Rattle.mm_types.specs.declared.moves.LineKind.TheVariants as line_kind;
-ghost use Rattle.mm_types.specs.declared.moves.Move.TheVariants as move;
 ghost use Rattle.mm_world.specs.{address_in, attempt_in, wait_failed, process_of};
-ghost use Rattle.mm_pages.specs.{OneMove};
 ghost use Rattle.mm_tables.specs.{FitsPage};
 ghost use Rattle.mm_core.specs.Forgetting.{EndsWaits};
-ghost use Rattle.mm_core.specs.Over.{FitsOver, KeepsOver, PassesOver};
-ghost use Rattle.mm_core.specs.LinePromises.{AnswersLine, IsNext, StartsLine};
+ghost use Rattle.mm_core.specs.Over.{KeepsOver};
+ghost use Rattle.mm_core.specs.LinePromises.{AnswersLine, IsNext};
 ghost use Rattle.mm_core.specs.AccessPromises.{CanTurn, TurnsAccess, EndsAccess};
 
-use crate::beginning::begin;
+use crate::beginning::{begin, begin_on};
 use crate::threads::{Threaded, read_access, write_access};
 use mm_pages::Pages;
 use mm_tables::Tables;
@@ -38,29 +35,6 @@ fn access_on<G: Pages>(
     }
 }
 
-/// Begins the line of a thread's access to a process, and tells whether that lives. A thread that
-/// is busy accesses nothing.
-fn begin_thread<G: Pages>(t: &Tables, g: &mut G, line: u32, pid: Pid, busy: bool) -> bool
-    requires fits { FitsOver G.Pages t.now g.old }
-    requires next { line ≡ (G.store g.old).line + 1 }
-    ensures lives { result ≡ is_some (process_of t.now pid.0) }
-    ensures fits { FitsOver G.Pages t.now g.new }
-    ensures starts { StartsLine G.Pages line g.old g.new }
-    ensures form { result ≡ true → busy ≡ false → (G.store g.new).kind ≡ line_kind.Thread pid }
-    ensures passes { PassesOver G.Pages
-        (OneMove (move.At line
-        (if busy then line_kind.Call else if result then line_kind.Thread pid else line_kind.Call)))
-        g.old g.new }
-{
-    let lives = t.has(pid);
-    if lives && !busy {
-        begin(g, line, LineKind::Thread(pid));
-    } else {
-        begin(g, line, LineKind::Call);
-    }
-    lives
-}
-
 /// Decides a `begin` line (own): an access of a thread that waits for no device. The thread keeps
 /// an access that has to wait.
 pub(crate) fn begin_line<G: Pages>(
@@ -77,12 +51,15 @@ pub(crate) fn begin_line<G: Pages>(
         t.new g.new }
     ensures loans { G.loans g.new ≡ G.loans g.old }
 {
-    let busy = t.kept(tid).is_some();
-    if !begin_thread(t, g, line, pid, busy) {
+    if t.kept(tid).is_some() {
+        begin(g, line, LineKind::Call);
+        if t.has(pid) {
+            return Answer::Busy;
+        }
         return Answer::Error(Code::InvalidHandle);
     }
-    if busy {
-        return Answer::Busy;
+    if !begin_on(t, g, line, pid, LineKind::Thread(pid)) {
+        return Answer::Error(Code::InvalidHandle);
     }
     match access_on(t, g, tid, pid, what, false) {
         Threaded::Refused(answer) => answer,

@@ -61,7 +61,7 @@ impl<G: Pages> World<G> {
     }
 
     /// The commit charge and the commit limit, in pages.
-    #[tactic(auto, using(crate::proofs::Charged::charges))]
+    #[tactic(auto, using(crate::proofs::With::charges))]
     pub fn charge(&self) -> (u32, u32)
         ensures charge { result.0 ≡ charge (world self.now) }
         ensures limit { result.1 ≡ limit (world self.now) }

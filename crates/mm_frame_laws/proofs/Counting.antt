@@ -4,6 +4,7 @@ use Rattle.std.specs.Prelude.{◌==◌, ◌&&◌, ◌||◌, nat_lt, is_some, opt
 use Rattle.std.specs.List.{list_any}
 use Rattle.std.proofs.lemmas.Bool.{or_right, or_cases, lt-ltb}
 use Rattle.std.specs.Cmp.{unsigned_Decides}
+use Rattle.mm_types.proofs.{not_false}
 use Rattle.mm_types.specs.{IsMachine, Frame, Key, Place, Record, Backing}
 use Rattle.mm_types.specs.declared.frames.Backing.TheVariants as backing
 use Rattle.mm_life.specs.{record_at, blank, has_request, slot_of, is_idle, is_on, is_empty, FrameLife, is_short, owner_is, can_be_written}
@@ -60,9 +61,7 @@ module _ (l : FrameLife) (s : Sound l) (pinned : Option Frame) (short : is_short
   -- no place may go: only the pinned frame has shares
   unshared : tally (may_go l pinned) s.shown.places ≡ 0 → (f : ℕ) → is_frame f pinned ≡ false → (r f).shares ≡ 0
   unshared none f other =
-      let more = tally-more (λ p. is_frame f (l.valid p)) (may_go l pinned) s.shown.places (λ p e. shown (l.valid p) e) in
-      let shares = s.shown.shares f in
-      omega (arith, none, more, shares)
+      omega (arith, none, tally-more (λ p. is_frame f (l.valid p)) (may_go l pinned) s.shown.places (λ p e. shown (l.valid p) e), s.shown.shares f)
     where
       shown : (o : Option Frame) → is_frame f o ≡ true → is_unpinned pinned o ≡ true
       shown None e = cc
@@ -79,10 +78,7 @@ module _ (l : FrameLife) (s : Sound l) (pinned : Option Frame) (short : is_short
 
       is_kept_here : is_kept (r f) ≡ true
       is_kept_here =
-          let a = no_times f l.frames.zeroed lists.0 in
-          let b = no_times f l.frames.free lists.1.0 in
-          let e = st.fresh in
-          at (is_kept (r f)) (omega (arith, a, b, e))
+          at (is_kept (r f)) (omega (arith, no_times f l.frames.zeroed lists.0, no_times f l.frames.free lists.1.0, st.fresh))
         where
           at : (b : Bool) → 0 ≡ cond b 0 (one_if (nat_lt f (length l.frames.records))) → b ≡ true
           at true e = refl
@@ -101,18 +97,15 @@ module _ (l : FrameLife) (s : Sound l) (pinned : Option Frame) (short : is_short
           by_pin : (b : Bool) → is_frame f pinned ≡ b → Kept f l pinned
           by_pin true e = pins e q owned
           by_pin false e =
-              let zero_shares = unshared none f e in
-              let idle : is_idle (r f) ≡ true = ap (λ (n : ℕ). (n == 0) && not (has_request (r f).request)) zero_shares ∙ ap not q in
-              let a = no_times f l.frames.standby lists.1.1 in
-              by_changed (r f).changed refl idle a
+              let idle : is_idle (r f) ≡ true = ap (λ (n : ℕ). (n == 0) && not (has_request (r f).request)) (unshared none f e) ∙ ap not q in
+              by_changed (r f).changed refl idle (no_times f l.frames.standby lists.1.1)
             where
               by_changed : (b : Bool) → (r f).changed ≡ b → is_idle (r f) ≡ true → times f l.frames.standby ≡ 0 → Kept f l pinned
               by_changed true c i a =
                   let one : times f l.frames.modified ≡ 1 = st.modified ∙ three_hold (is_some (r f).owner) (is_idle (r f)) (r f).changed owned i c in
                   unwritten (on_times f l.frames.modified (omega (arith, one))) owned (st.fit.dirty c q)
               by_changed false c i a =
-                  let one : times f l.frames.standby ≡ 1 = st.standby ∙ three_hold (is_some (r f).owner) (is_idle (r f)) (not (r f).changed) owned i (ap not c) in
-                  absurd (omega (arith, a, one))
+                  absurd (omega (arith, a, st.standby ∙ three_hold (is_some (r f).owner) (is_idle (r f)) (not (r f).changed) owned i (ap not c)))
 
   -- what a frame counts for: one, and one more with a slot
   worth : NoneWritable l → tally (may_go l pinned) s.shown.places ≡ 0 → list_any (λ b. b) l.free_slots ≡ false → (f : ℕ) → f < length l.frames.records
@@ -120,32 +113,23 @@ module _ (l : FrameLife) (s : Sound l) (pinned : Option Frame) (short : is_short
   worth unwritable none full f low = by_kept (kept none f low)
     where
       by_kept : Kept f l pinned → 1 + one_if (has_slot (r f)) ≤ one_if (has_paged l (r f)) + (one_if (has_request (r f).request) + (one_if (has_request (r f).request) + one_if (is_frame f pinned)))
-      by_kept (busy q) =
-          let one : one_if (has_request (r f).request) ≡ 1 = ap one_if q in
-          let most = one_most (has_slot (r f)) in
-          omega (arith, one, most)
+      by_kept (busy q) = omega (arith, ap one_if q, one_most (has_slot (r f)))
       by_kept (pins e q owned) =
-          let one : one_if (is_frame f pinned) ≡ 1 = ap one_if e in
           let o = some_owner (r f) owned in
           let paged : one_if (has_slot (r f)) ≤ one_if (has_paged l (r f)) = one_within (has_slot (r f)) (has_paged l (r f)) (λ b.
           let p = backing_pages (l.paging o.0) (r f).backing (s.homed.backing f o.0 o.1) b in
           ap (λ (k : Option Key). unwrap_or (option_map l.paging k) false) o.1 ∙ p) in
-          omega (arith, one, paged)
+          omega (arith, ap one_if e, paged)
       by_kept (unwritten on owned slotless) =
-          let no : one_if (has_slot (r f)) ≡ 0 = ap (λ (o : Option ℕ). one_if (is_some o)) slotless in
           let o = some_owner (r f) owned in
           let can = unwritable f on in
           let not_file : not (l.paging o.0) ≡ false = sym (ap (λ (k : Option Key). unwrap_or (option_map (λ x. not (l.paging x)) k) false) o.1) ∙ left_false (owner_is (λ k. not (l.paging k)) (r f)) (list_any (λ b. b) l.free_slots) can in
-          let one : one_if (has_paged l (r f)) ≡ 1 = ap one_if (ap (λ (k : Option Key). unwrap_or (option_map l.paging k) false) o.1 ∙ unnot (l.paging o.0) not_file) in
-          omega (arith, no, one)
+          let one : one_if (has_paged l (r f)) ≡ 1 = ap one_if (ap (λ (k : Option Key). unwrap_or (option_map l.paging k) false) o.1 ∙ not_false (l.paging o.0) not_file) in
+          omega (arith, ap (λ (o : Option ℕ). one_if (is_some o)) slotless, one)
         where
           left_false : (a b : Bool) → (a || b) ≡ false → a ≡ false
           left_false true b h = cc
           left_false false b h = refl
-
-          unnot : (b : Bool) → not b ≡ false → b ≡ true
-          unnot true h = refl
-          unnot false h = cc
 
   -- the same where some slot is free: no frame is modified
   worth_free : NoneWritable l → tally (may_go l pinned) s.shown.places ≡ 0 → list_any (λ b. b) l.free_slots ≡ true → (f : ℕ) → f < length l.frames.records
@@ -171,14 +155,10 @@ module _ (l : FrameLife) (s : Sound l) (pinned : Option Frame) (short : is_short
 
       by_slots : (b : Bool) → list_any (λ x. x) l.free_slots ≡ b → ⊥
       by_slots true e =
-          let ones = sum-ones (length l.frames.records) in
           let each = sum-most (λ f. 1) (λ f. one_if (has_request (r f).request) + one_if (is_frame f pinned)) (length l.frames.records) (worth_free unwritable none e) in
           let plus = sum-plus (λ f. one_if (has_request (r f).request)) (λ f. one_if (is_frame f pinned)) (length l.frames.records) in
-          let pin = sum-frame pinned (length l.frames.records) in
-          let q = requests in
-          let size = s.framed in
           let enough = machine.enough_frames in
-          omega (arith, ones, each, plus, pin, q, size, enough, few)
+          omega (arith, sum-ones (length l.frames.records), each, plus, sum-frame pinned (length l.frames.records), requests, s.framed, enough, few)
       by_slots false e =
           let ones = sum-ones (length l.frames.records) in
           let each = sum-most (λ f. 1 + one_if (has_slot (r f))) (λ f. one_if (has_paged l (r f)) + (one_if (has_request (r f).request) + (one_if (has_request (r f).request) + one_if (is_frame f pinned)))) (length l.frames.records) (worth unwritable none e) in
@@ -187,8 +167,6 @@ module _ (l : FrameLife) (s : Sound l) (pinned : Option Frame) (short : is_short
           let p2 = sum-plus (λ f. one_if (has_request (r f).request)) (λ f. one_if (has_request (r f).request) + one_if (is_frame f pinned)) (length l.frames.records) in
           let p3 = sum-plus (λ f. one_if (has_request (r f).request)) (λ f. one_if (is_frame f pinned)) (length l.frames.records) in
           let pin = sum-frame pinned (length l.frames.records) in
-          let q = requests in
-          let size = s.framed in
           let slots = s.slotted in
           let paged = sum-cells (has_paged l) blank l.frames.records in
           let backed = sum-cells has_slot blank l.frames.records in
@@ -199,7 +177,7 @@ module _ (l : FrameLife) (s : Sound l) (pinned : Option Frame) (short : is_short
           let full = none_counted l.free_slots e in
           let limit = s.limited in
           let enough = machine.enough_frames in
-          omega (arith, ones, each, p0, p1, p2, p3, pin, q, size, slots, paged, backed, homes, frames, held, all, full, limit, enough, few)
+          omega (arith, ones, each, p0, p1, p2, p3, pin, requests, s.framed, slots, paged, backed, homes, frames, held, all, full, limit, enough, few)
 
   pub room : IsMachine l.machine → IsWithinDepth l → NoneWritable l → (place : Place) × (may_go l pinned place ≡ true)
   room machine few unwritable = elim (search_list (may_go l pinned) s.shown.places) [

@@ -1,15 +1,22 @@
 -- The first page that may go: it exists where a place may go, and there is one alone.
-use Rattle.std.proofs.Common.{◌≡◌, ◌≢◌, ◌⊎◌, ℕ, ◌+◌, ◌<◌, ◌≤◌, Bool, true, false, cond, List, [], ◌∷◌, Option, Some, None, refl, sym, ap, ◌∙◌, subst, inl, inr, arith}
-use Rattle.std.specs.Prelude.{◌==◌, ◌&&◌, ◌||◌, nat_lt, is_some}
+use Rattle.std.proofs.Common.{◌≡◌, ◌≢◌, ◌⊎◌, ℕ, ◌+◌, ◌<◌, ◌≤◌, Bool, true, false, cond, List, [], ◌∷◌, Option, Some, None, refl, sym, ap, ◌∙◌, subst, inl, inr, arith, zero, suc, not, length}
+use Rattle.std.specs.Prelude.{◌==◌, ◌&&◌, ◌||◌, nat_lt, is_some, slice_get, option_map}
 use Rattle.std.specs.Cmp.{unsigned_Decides}
 use Rattle.std.proofs.lemmas.Bool.{cases_lt, lt-ltb, le-ltb, ltb-false, ltb-true, eqb-true, or_cases, and_parts, and_from}
-use Rattle.mm_types.proofs.{same_or_not, differ, not_true}
-use Rattle.mm_types.specs.{Frame, Place}
-use Rattle.mm_life.specs.{FrameLife, same_place, is_unpinned, may_go, Ages, page_first, turn_of, process_first, IsOldest, IsVictim}
-use Rattle.mm_laws.specs.{one_if, tally}
+use Rattle.mm_types.proofs.{same_or_not, differ, not_true, get_within, one_only_if}
+use Rattle.mm_types.specs.{Frame, Place, Pid}
+use Rattle.mm_life.specs.{FrameLife, same_place, is_unpinned, may_go, Ages, page_first, turn_of, process_first, IsOldest, IsVictim, set_of}
+use Rattle.mm_life.specs.{is_above_min, ResidentSet}
+use Rattle.mm_laws.specs.{one_if, tally, is_of, residents}
 use Rattle.mm_laws.specs.Sound.{Sound}
-use Rattle.mm_laws.proofs.{same_place-true}
-use Rattle.mm_frame_laws.specs.{place_first, earlier, first_that, first_to_go, may_go_in, first_to_go_in}
+use Rattle.mm_laws.proofs.{same_place-true, same_place-self, resident_there}
+use Rattle.mm_frame_laws.specs.{place_first, earlier, first_that, first_to_go, may_go_in, first_to_go_in, Sooner, IsNextPage, PassedTo, NoPageFollows}
+use Rattle.mm_frame_laws.specs.{IsBest, BestBelow, takes_over, FollowsPage, SetShows, place_of_page, IsInSet, page_of_place}
+use Rattle.mm_frame_laws.specs.{NoPageFollows as NoneNext}
+use Rattle.std.specs.Ordering.{nat_cmp}
+use Rattle.std.specs.FinMap.{FinMap}
+use Rattle.mm_wset.specs.{IsOldestInSet, NoneFollowsInSet, GoesAfter, GoesBefore}
+use Rattle.std.specs.FinMap as finite
 
 -- ---- one number before another, or the same and then a second one
 
@@ -21,8 +28,7 @@ not_earlier a b same rest one h = (
     | inr l ↦ l
   ],
   λ e.
-      let t = le-ltb a b (omega (arith, e)) in
-      sym (ap (λ x. x || (same && rest)) t ∙ ap (λ x. x && rest) (one e)) ∙ h,
+      sym (ap (λ x. x || (same && rest)) (le-ltb a b (omega (arith, e))) ∙ ap (λ x. x && rest) (one e)) ∙ h,
 )
 
 from_not : (a b : ℕ) (same rest : Bool) → (a ≢ b → same ≡ false) → (a ≡ b → same ≡ true) → b ≤ a → (a ≡ b → rest ≡ false) → (nat_lt a b || (same && rest)) ≡ false
@@ -83,24 +89,19 @@ place_not l ages q p h = at (process_first l q.pid.0 p.pid.0) refl h
 -- where q does not go before r, and r not before p, q does not go before p
 not_along : (l : FrameLife) (ages : Ages) (q r p : Place) → NoFirst l ages q r → NoFirst l ages r p → NoFirst l ages q p
 not_along l ages q r p a b =
-    let a1 = a.process.turn in
-    let a2 = a.process.pid in
-    let b1 = b.process.turn in
-    let b2 = b.process.pid in
     record {
-      process = record { turn = omega (arith, a1, b1); pid = λ e. omega (arith, a1, a2, b1, b2, e) };
+      process = omega (arith, a.process, b.process);
       page = λ e.
-          let turns : turn_of l q.pid.0 ≡ turn_of l p.pid.0 = ap (turn_of l) e in
-          let qr : q.pid.0 ≡ r.pid.0 = omega (arith, a1, a2, b1, b2, e, turns) in
+          let qr : q.pid.0 ≡ r.pid.0 = omega (arith, a.process, b.process, e, ap (turn_of l) e) in
           let rp : r.pid.0 ≡ p.pid.0 = omega (arith, qr, e) in
           let x = a.page qr in
           let y = b.page rp in
-          record { age = let x1 = x.age in let y1 = y.age in omega (arith, x1, y1); page = λ s. let x1 = x.age in let y1 = y.age in let x2 = x.page in let y2 = y.page in omega (arith, x1, y1, x2, y2, s) };
+          record { age = omega (arith, x.age, y.age); page = λ s. omega (arith, x.age, y.age, x.page, y.page, s) };
     }
 
 -- no place goes before itself, and of two one does not go before the other
-not_self : (l : FrameLife) (ages : Ages) (p : Place) → NoFirst l ages p p
-not_self l ages p = record { process = record { turn = omega arith; pid = λ e. omega arith }; page = λ e. record { age = omega arith; page = λ s. omega arith } }
+first_not_self : (l : FrameLife) (ages : Ages) (p : Place) → NoFirst l ages p p
+first_not_self l ages p = record { process = record { turn = omega arith; pid = λ e. omega arith }; page = λ e. record { age = omega arith; page = λ s. omega arith } }
 
 is_earlier : (a b : ℕ) (same rest : Bool) → (same ≡ true → a ≡ b) → (nat_lt a b || (same && rest)) ≡ true → (a < b) ⊎ ((a ≡ b) × (rest ≡ true))
 is_earlier a b same rest one h = elim (or_cases (nat_lt a b) (same && rest) h) [
@@ -136,18 +137,10 @@ first_is l ages q p h = elim (or_cases (process_first l q.pid.0 p.pid.0) ((q.pid
 -- the same place, where neither goes before the other
 pub neither : (l : FrameLife) (ages : Ages) (q p : Place) → NoFirst l ages q p → NoFirst l ages p q → q ≡ p
 neither l ages q p a b =
-    let a1 = a.process.turn in
-    let a2 = a.process.pid in
-    let b1 = b.process.turn in
-    let b2 = b.process.pid in
-    let pid : q.pid.0 ≡ p.pid.0 = omega (arith, a1, a2, b1, b2) in
+    let pid : q.pid.0 ≡ p.pid.0 = omega (arith, a.process.turn, a.process.pid, b.process.turn, b.process.pid) in
     let x = a.page pid in
     let y = b.page (sym pid) in
-    let x1 = x.age in
-    let x2 = x.page in
-    let y1 = y.age in
-    let y2 = y.page in
-    let page : q.vpn.0 ≡ p.vpn.0 = omega (arith, x1, x2, y1, y2) in
+    let page : q.vpn.0 ≡ p.vpn.0 = omega (arith, x.age, x.page, y.age, y.page) in
     λ i. record { pid = record { 0 = pid i }; vpn = record { 0 = page i } }
 
 -- ---- the first page that may go
@@ -174,7 +167,7 @@ module _ (l : FrameLife) (ages : Ages) (test : Place → Bool) where
   with_first p rest None goes (none h) = one p (record {
     goes = goes;
     first = λ q i g. elim (here_or_there q p rest i) [
-      | inl e ↦ subst (λ (x : Place). NoFirst l ages x p) (sym e) (not_self l ages p)
+      | inl e ↦ subst (λ (x : Place). NoFirst l ages x p) (sym e) (first_not_self l ages p)
       | inr e ↦ let bad : true ≡ false = sym g ∙ h q e in cc
     ];
   })
@@ -191,7 +184,7 @@ module _ (l : FrameLife) (ages : Ages) (test : Place → Bool) where
       at false e = one p (record {
         goes = goes;
         first = λ q i g. elim (here_or_there q p rest i) [
-          | inl s ↦ subst (λ (x : Place). NoFirst l ages x p) (sym s) (not_self l ages p)
+          | inl s ↦ subst (λ (x : Place). NoFirst l ages x p) (sym s) (first_not_self l ages p)
           | inr s ↦ not_along l ages q v p (f.first q s g) (place_not l ages v p e)
         ];
       })
@@ -234,6 +227,14 @@ module _ (l : FrameLife) (ages : Ages) (test : Place → Bool) where
 -- ---- one page is the first
 
 module _ (l : FrameLife) (ages : Ages) (pinned : Option Frame) where
+  -- a page that may go is valid
+  pub goes_valid : (q : Place) → may_go l pinned q ≡ true → is_some (l.valid q) ≡ true
+  goes_valid q g = at (l.valid q) g
+    where
+      at : (o : Option Frame) → is_unpinned pinned o ≡ true → is_some o ≡ true
+      at None h = cc
+      at (Some f) h = refl
+
   pub victim_first : (v : Place) → IsVictim l ages pinned v → (q : Place) → may_go l pinned q ≡ true → NoFirst l ages q v
   victim_first v h q g = record {
     process = process_not l q.pid.0 v.pid.0 (h.process q g);
@@ -253,24 +254,17 @@ module _ (l : FrameLife) (ages : Ages) (pinned : Option Frame) where
   -- ---- where a list has each valid place
 
   module _ (places : List Place) (all : (q : Place) → is_some (l.valid q) ≡ true → 1 ≤ tally (same_place q) places) where
-    shown : (q : Place) → may_go l pinned q ≡ true → is_some (l.valid q) ≡ true
-    shown q g = at (l.valid q) g
-      where
-        at : (o : Option Frame) → is_unpinned pinned o ≡ true → is_some o ≡ true
-        at None h = cc
-        at (Some f) h = refl
-
     victim_of : (v : Place) → FirstOf l ages (may_go l pinned) places v → IsVictim l ages pinned v
     victim_of v f = record {
-      oldest = record { goes = f.goes; first = λ q e g. page_from ages q v ((f.first q (all q (shown q g)) g).page e) };
-      process = λ q g. process_from l q.pid.0 v.pid.0 ((f.first q (all q (shown q g)) g).process);
+      oldest = record { goes = f.goes; first = λ q e g. page_from ages q v ((f.first q (all q (goes_valid q g)) g).page e) };
+      process = λ q g. process_from l q.pid.0 v.pid.0 ((f.first q (all q (goes_valid q g)) g).process);
     }
 
     pub victim_found : (v : Place) → first_to_go l ages pinned places ≡ Some v → IsVictim l ages pinned v
     victim_found v e = victim_of v (found_is l ages (may_go l pinned) places v e)
 
     pub none_found : first_to_go l ages pinned places ≡ None → (q : Place) → may_go l pinned q ≡ false
-    none_found e q = not_true (may_go l pinned q) (λ g. let bad : true ≡ false = sym g ∙ found_none l ages (may_go l pinned) places e q (all q (shown q g)) in cc)
+    none_found e q = not_true (may_go l pinned q) (λ g. let bad : true ≡ false = sym g ∙ found_none l ages (may_go l pinned) places e q (all q (goes_valid q g)) in cc)
 
     pub victim_there : (p : Place) → may_go l pinned p ≡ true → (v : Place) × IsVictim l ages pinned v
     victim_there p g = at (first_to_go l ages pinned places) refl
@@ -285,7 +279,7 @@ module _ (l : FrameLife) (ages : Ages) (pinned : Option Frame) where
       oldest_of v f =
           let h = and_parts (v.pid.0 == pid) (may_go l pinned v) f.goes in
           let mine : v.pid.0 ≡ pid = eqb-true v.pid.0 pid h.0 in
-          (mine, record { goes = h.1; first = λ q e g. page_from ages q v ((f.first q (all q (shown q g)) (and_from (q.pid.0 == pid) (may_go l pinned q) ((unsigned_Decides q.pid.0 pid).1 (e ∙ mine)) g)).page e) })
+          (mine, record { goes = h.1; first = λ q e g. page_from ages q v ((f.first q (all q (goes_valid q g)) (and_from (q.pid.0 == pid) (may_go l pinned q) ((unsigned_Decides q.pid.0 pid).1 (e ∙ mine)) g)).page e) })
 
       pub oldest_found : (v : Place) → first_to_go_in l ages pinned pid places ≡ Some v → (v.pid.0 ≡ pid) × IsOldest l ages pinned v
       oldest_found v e = oldest_of v (found_is l ages (may_go_in l pinned pid) places v e)
@@ -293,7 +287,7 @@ module _ (l : FrameLife) (ages : Ages) (pinned : Option Frame) where
       pub none_in : first_to_go_in l ages pinned pid places ≡ None → (q : Place) → q.pid.0 ≡ pid → may_go l pinned q ≡ false
       none_in e q i = not_true (may_go l pinned q) (λ g.
           let t = and_from (q.pid.0 == pid) (may_go l pinned q) ((unsigned_Decides q.pid.0 pid).1 i) g in
-          let bad : true ≡ false = sym t ∙ found_none l ages (may_go_in l pinned pid) places e q (all q (shown q g)) in cc)
+          let bad : true ≡ false = sym t ∙ found_none l ages (may_go_in l pinned pid) places e q (all q (goes_valid q g)) in cc)
 
       pub oldest_there : (p : Place) → p.pid.0 ≡ pid → may_go l pinned p ≡ true → (v : Place) × ((v.pid.0 ≡ pid) × IsOldest l ages pinned v)
       oldest_there p i g = at (first_to_go_in l ages pinned pid places) refl
@@ -312,3 +306,205 @@ module _ (l : FrameLife) (s : Sound l) (ages : Ages) (pinned : Option Frame) (p 
 
   pub some_oldest : (v : Place) × ((v.pid.0 ≡ p.pid.0) × IsOldest l ages pinned v)
   some_oldest = oldest_there l ages pinned s.shown.places (all_shown l s) p.pid.0 p refl goes
+
+-- ---- how the first page that may go is found: the pages of a set in turn, and the processes in turn
+
+-- ---- the pages of a set in turn
+
+sooner_not : (ages : Ages) (p q : Place) → Sooner ages p q → NotBefore ages q p
+sooner_not ages p q (inl h) = record { age = omega (arith, h); page = λ e. absurd (omega (arith, h, e)) }
+sooner_not ages p q (inr h) = let a = h.0 in let b = h.1 in record { age = omega (arith, a); page = λ e. omega (arith, b) }
+
+not_self : (ages : Ages) (p : Place) → NotBefore ages p p
+not_self ages p = record { age = omega arith; page = λ e. omega arith }
+
+module _ (l : FrameLife) (ages : Ages) (pinned : Option Frame) where
+  pub next_oldest : (after : Option Place) (v : Place) → PassedTo l ages pinned v.pid.0 after → IsNextPage l ages after v → may_go l pinned v ≡ true → IsOldest l ages pinned v
+  next_oldest after v passed next goes = record {
+    goes = goes;
+    first = λ q e g. elim (next.first q e (goes_valid l ages pinned q g) (passed q e g)) [
+      | inl s ↦ page_from ages q v (subst (λ (x : Place). NotBefore ages x v) (sym s) (not_self ages v))
+      | inr s ↦ page_from ages q v (sooner_not ages v q s)
+    ];
+  }
+
+  pub next_passed : (after : Option Place) (v : Place) → PassedTo l ages pinned v.pid.0 after → IsNextPage l ages after v → may_go l pinned v ≡ false → PassedTo l ages pinned v.pid.0 (Some v)
+  next_passed after v passed next stays = λ q e g. elim (next.first q e (goes_valid l ages pinned q g) (passed q e g)) [
+    | inl s ↦ (let bad : true ≡ false = sym g ∙ (ap (may_go l pinned) s ∙ stays) in cc)
+    | inr s ↦ s
+  ]
+
+  pub none_next : (pid : ℕ) (after : Option Place) → PassedTo l ages pinned pid after → NoPageFollows l ages pid after → (q : Place) → q.pid.0 ≡ pid → may_go l pinned q ≡ false
+  none_next pid after passed nothing q e = not_true (may_go l pinned q) (λ g. nothing q e (goes_valid l ages pinned q g) (passed q e g))
+
+  -- ---- processes in turn
+
+  below_or_at : (q : Place) (n : ℕ) → q.pid.0 < n + 1 → (q.pid.0 < n) ⊎ (q.pid.0 ≡ n)
+  below_or_at q n h = elim (cases_lt q.pid.0 n) [ inl a ↦ inl a | inr a ↦ inr (omega (arith, h, a)) ]
+
+  -- a process that holds no page that may go
+  pub best_same : (n : ℕ) (o : Option Place) → BestBelow l ages pinned n o → ((q : Place) → q.pid.0 ≡ n → may_go l pinned q ≡ false) → BestBelow l ages pinned (n + 1) o
+  best_same n None b nothing = λ q h. elim (below_or_at q n h) [ inl a ↦ b q a | inr a ↦ nothing q a ]
+  best_same n (Some v) b nothing = record {
+    oldest = b.oldest;
+    low = let a = b.low in omega (arith, a);
+    process = λ q h g. elim (below_or_at q n h) [
+      | inl a ↦ b.process q a g
+      | inr a ↦ let bad : true ≡ false = sym g ∙ nothing q a in cc
+    ];
+  }
+
+  turn_test : (a b : Bool) → (a && not b) ≡ false → cond b 0 1 ≤ cond a 0 1
+  turn_test true true h = omega arith
+  turn_test true false h = cc
+  turn_test false true h = omega arith
+  turn_test false false h = omega arith
+
+  turn_over : (a b : Bool) → (a && not b) ≡ true → cond a 0 1 < cond b 0 1
+  turn_over true true h = cc
+  turn_over true false h = omega arith
+  turn_over false b h = cc
+
+  same_turn : (q w : Place) → q.pid.0 ≡ w.pid.0 → process_first l q.pid.0 w.pid.0 ≡ false
+  same_turn q w e = let t : turn_of l q.pid.0 ≡ turn_of l w.pid.0 = ap (turn_of l) e in process_from l q.pid.0 w.pid.0 (record { turn = omega (arith, t); pid = λ s. omega (arith, e) })
+
+  -- it holds one, and the best so far stays
+  pub best_kept : (n : ℕ) (v w : Place) → IsBest l ages pinned n v → w.pid.0 ≡ n → takes_over l n (Some v) ≡ false → IsBest l ages pinned (n + 1) v
+  best_kept n v w b e stays = record {
+    oldest = b.oldest;
+    low = let a = b.low in omega (arith, a);
+    process = λ q h g. elim (below_or_at q n h) [
+      | inl a ↦ b.process q a g
+      | inr a ↦
+          let t : turn_of l v.pid.0 ≤ turn_of l n = turn_test (is_above_min (set_of l n)) (is_above_min (set_of l v.pid.0)) stays in
+          process_from l q.pid.0 v.pid.0 (record { turn = omega (arith, t, ap (turn_of l) a); pid = λ s. omega (arith, b.low, a) })
+    ];
+  }
+
+  -- it holds one, and is the best now
+  pub best_now : (n : ℕ) (o : Option Place) (w : Place) → BestBelow l ages pinned n o → w.pid.0 ≡ n → IsOldest l ages pinned w → takes_over l n o ≡ true → IsBest l ages pinned (n + 1) w
+  best_now n None w b e oldest takes = record {
+    oldest = oldest;
+    low = omega (arith, e);
+    process = λ q h g. elim (below_or_at q n h) [
+      | inl a ↦ let bad : true ≡ false = sym g ∙ b q a in cc
+      | inr a ↦ same_turn q w (a ∙ sym e)
+    ];
+  }
+  best_now n (Some v) w b e oldest takes = record {
+    oldest = oldest;
+    low = omega (arith, e);
+    process = λ q h g. elim (below_or_at q n h) [
+      | inl a ↦
+          let t : turn_of l n < turn_of l v.pid.0 = turn_over (is_above_min (set_of l n)) (is_above_min (set_of l v.pid.0)) takes in
+          let same : turn_of l w.pid.0 ≡ turn_of l n = ap (turn_of l) e in
+          let kt = (process_not l q.pid.0 v.pid.0 (b.process q a g)).turn in
+          process_from l q.pid.0 w.pid.0 (record { turn = omega (arith, kt, t, same); pid = λ s. absurd (omega (arith, kt, t, same, s)) })
+      | inr a ↦ same_turn q w (a ∙ sym e)
+    ];
+  }
+
+-- ---- all processes
+
+-- the process of a valid place was made, and its set is not empty
+module _ (l : FrameLife) (s : Sound l) (q : Place) (there : is_some (l.valid q) ≡ true) where
+  pub has_process : (1 ≤ q.pid.0) × (q.pid.0 ≤ length l.sets)
+  has_process = at q.pid.0 refl (resident_there l s q there)
+    where
+      at : (n : ℕ) → q.pid.0 ≡ n → 1 ≤ residents (set_of l n) → (1 ≤ n) × (n ≤ length l.sets)
+      at zero e h = absurd (omega (arith, h))
+      at (suc k) e h = by_set (slice_get l.sets k) refl h
+        where
+          by_set : (o : Option ResidentSet) → slice_get l.sets k ≡ o → 1 ≤ residents o → (1 ≤ suc k) × (suc k ≤ length l.sets)
+          by_set None g i = absurd (omega (arith, i))
+          by_set (Some t) g i = let low = get_within l.sets k t g in (omega arith, omega (arith, low))
+
+module _ (l : FrameLife) (s : Sound l) (ages : Ages) (pinned : Option Frame) where
+  below_end : (n : ℕ) → length l.sets < n → (q : Place) → may_go l pinned q ≡ true → q.pid.0 < n
+  below_end n h q g = let p = has_process l s q (goes_valid l ages pinned q g) in let a = p.1 in omega (arith, h, a)
+
+  pub best_victim : (n : ℕ) (v : Place) → length l.sets < n → IsBest l ages pinned n v → IsVictim l ages pinned v
+  best_victim n v h b = record { oldest = b.oldest; process = λ q g. b.process q (below_end n h q g) g }
+
+  pub best_none : (n : ℕ) → length l.sets < n → BestBelow l ages pinned n None → (q : Place) → may_go l pinned q ≡ false
+  best_none n h b q = not_true (may_go l pinned q) (λ g. let bad : true ≡ false = sym g ∙ b q (below_end n h q g) in cc)
+
+  -- pid 0 is no process
+  pub best_begins : BestBelow l ages pinned 1 None
+  best_begins = λ q h. not_true (may_go l pinned q) (λ g. omega (arith, h, (has_process l s q (goes_valid l ages pinned q g)).0))
+
+pub all_go : (l : FrameLife) (p : Place) → may_go l None p ≡ is_some (l.valid p)
+all_go l p = at (l.valid p)
+  where
+    at : (o : Option Frame) → is_unpinned None o ≡ is_some o
+    at None = refl
+    at (Some f) = refl
+
+-- a place of a list that passes a test, or none does
+search_places : (test : Place → Bool) (xs : List Place) → ((x : Place) × ((1 ≤ tally (same_place x) xs) × (test x ≡ true))) ⊎ (tally test xs ≡ 0)
+search_places test [] = inr refl
+search_places test (y ∷ xs) = elim (test y) as (λ b. test y ≡ b → ((x : Place) × ((1 ≤ one_if (same_place x y) + tally (same_place x) xs) × (test x ≡ true))) ⊎ (one_if b + tally test xs ≡ 0)) [
+  | true ↦ λ e. inl (y, (let one : one_if (same_place y y) ≡ 1 = ap one_if (same_place-self y) in omega (arith, one), e))
+  | false ↦ λ e. elim (search_places test xs) [ inl h ↦ inl (h.0, (let a = h.1.0 in omega (arith, a), h.1.1)) | inr h ↦ inr (omega (arith, h)) ]
+] refl
+
+-- a set that is not empty has an oldest page
+pub set_oldest : (l : FrameLife) (s : Sound l) (ages : Ages) (pid : ℕ) → 1 ≤ residents (set_of l pid) → (v : Place) × ((v.pid.0 ≡ pid) × IsOldest l ages None v)
+set_oldest l s ages pid some = elim (search_places (is_of pid) s.shown.places) [
+  | inl h ↦
+      let mine : h.0.pid.0 ≡ pid = eqb-true h.0.pid.0 pid h.1.1 in
+      let old = some_oldest l s ages None h.0 (goes (l.valid h.0) (shown h.0 h.1.0)) in
+      (old.0, (old.1.0 ∙ mine, old.1.1))
+  | inr h ↦ (let sizes = s.shown.resident pid in absurd (omega (arith, some, sizes, h)))
+]
+  where
+    shown : (q : Place) → 1 ≤ tally (same_place q) s.shown.places → is_some (l.valid q) ≡ true
+    shown q h = one_only_if (is_some (l.valid q)) (omega (arith, s.shown.once q, h))
+
+    goes : (o : Option Frame) → is_some o ≡ true → is_unpinned None o ≡ true
+    goes None e = cc
+    goes (Some f) e = refl
+
+-- ---- the oldest page of a working set, as the page that goes next of its process
+
+module _ (l : FrameLife) (ages : Ages) (pid : Pid) (set : FinMap nat_cmp ℕ) (agrees : SetShows l ages pid set) where
+  -- a page of the set is valid
+  held_valid : (p : Place) (a : ℕ) → p.pid.0 ≡ pid.0 → finite.get set p.vpn.0 ≡ Some a → (is_some (l.valid p) ≡ true) × (ages p ≡ a)
+  held_valid p a e h = at (l.valid p) (sym (agrees.at p e) ∙ h)
+    where
+      at : (o : Option Frame) → option_map (λ _. ages p) o ≡ Some a → (is_some o ≡ true) × (ages p ≡ a)
+      at None g = cc
+      at (Some f) g = (refl, let same : ages p ≡ a = cc in same)
+
+  valid_held : (p : Place) → p.pid.0 ≡ pid.0 → is_some (l.valid p) ≡ true → finite.get set p.vpn.0 ≡ Some (ages p)
+  valid_held p e h = agrees.at p e ∙ at (l.valid p) h
+    where
+      at : (o : Option Frame) → is_some o ≡ true → option_map (λ _. ages p) o ≡ Some (ages p)
+      at None g = cc
+      at (Some f) g = refl
+
+  -- of a page that is in the set
+  follows_by : (after : Option Place) → IsInSet l pid after → (q : Place) → GoesAfter set (page_of_place after) q.vpn.0 (ages q) → FollowsPage ages after q
+  follows_by None known q h = tt
+  follows_by (Some p) known q h = let k = known p refl in h (ages p) (valid_held p k.0 k.1)
+
+  goes_by : (after : Option Place) → IsInSet l pid after → (q : Place) → FollowsPage ages after q → GoesAfter set (page_of_place after) q.vpn.0 (ages q)
+  goes_by None known q h = tt
+  goes_by (Some p) known q h = λ a e.
+      let same : ages p ≡ a = (held_valid p a (known p refl).0 e).1 in
+      subst (λ (n : ℕ). GoesBefore p.vpn.0 n q.vpn.0 (ages q)) same h
+
+  pub oldest_next : (after : Option Place) → IsInSet l pid after → (v : ℕ) → IsOldestInSet set (page_of_place after) v → IsNextPage l ages after (place_of_page pid v)
+  oldest_next after known v o =
+      let here = held_valid (place_of_page pid v) o.age refl o.held in
+      record {
+        valid = here.0;
+        follows = follows_by after known (place_of_page pid v) (subst (λ (n : ℕ). GoesAfter set (page_of_place after) v n) (sym here.1) o.follows);
+        first = λ q e t h. elim (o.first q.vpn.0 (ages q) (valid_held q e t) (goes_by after known q h)) [
+          | inl s ↦ inl (λ i. record { pid = record { 0 = e i }; vpn = record { 0 = s i } })
+          | inr s ↦ inr (subst (λ (n : ℕ). GoesBefore v n q.vpn.0 (ages q)) (sym here.1) s)
+        ];
+      }
+
+  pub none_next_in : (after : Option Place) → IsInSet l pid after → NoneFollowsInSet set (page_of_place after) → NoneNext l ages pid.0 after
+  none_next_in after known nothing = λ q e t h. nothing q.vpn.0 (ages q) (valid_held q e t) (goes_by after known q h)

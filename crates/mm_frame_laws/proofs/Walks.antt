@@ -1,21 +1,25 @@
 -- The walk over the modified list, and the unmaps after it.
-use Rattle.std.proofs.Common.{◌≡◌, ◌≢◌, ◌⊎◌, ℕ, Bool, true, false, cond, not, List, [], ◌∷◌, ◌++◌, Option, refl, sym, ap, ◌∙◌, subst, inl, inr, append_assoc, arith}
+use Rattle.std.proofs.Common.{◌≡◌, ◌≢◌, ◌⊎◌, ℕ, Bool, true, false, cond, not, List, [], ◌∷◌, ◌++◌, Option, refl, sym, ap, ◌∙◌, subst, inl, inr, append_assoc, arith, ◌+◌, ◌≤◌, length, Some, None}
 use Rattle.std.specs.Prelude.{◌==◌, ◌&&◌, ◌||◌, option_map, unwrap_or}
 use Rattle.std.specs.List.{list_any}
 use Rattle.std.specs.Cmp.{unsigned_Decides}
 use Rattle.std.proofs.lemmas.Bool.{or_left, or_right, or_cases, eqb-true}
 use Rattle.std.proofs.lemmas.List.{append-nil}
-use Rattle.mm_types.proofs.{same_or_not}
-use Rattle.mm_types.specs.{IsMachine, Frame, Key, Place, Stored, Move}
-use Rattle.mm_types.specs.declared.moves.Move.TheVariants as move
-use Rattle.mm_life.specs.{record_at, is_on, without, FrameLife, IsLegal, is_short, owner_is, can_be_written, may_go}
-use Rattle.mm_laws.specs.{one_if, times, at_end_if}
+use Rattle.std.proofs.lemmas.List.Folds.{list_any-append}
+use Rattle.mm_types.proofs.{same_or_not, untried_not, not_true, or_false}
+use Rattle.mm_types.specs.{IsMachine, Frame, Key, Place, Stored, Move, MachineOf}
+use Rattle.mm_life.specs.{record_at, is_on, without, FrameLife, IsLegal, is_short, owner_is, can_be_written, may_go, is_access, after_move, Replays}
+use Rattle.mm_life.specs.{Ages, IsVictim}
+use Rattle.mm_laws.specs.{one_if, times, at_end_if, valid_places}
 use Rattle.mm_laws.specs.Sound.{Sound}
 use Rattle.mm_frame_laws.specs.{NoneMayGo, Writable, IsWithinDepth, is_last, SameWriters, Unmapped, after_failed, list_in_search, is_lost_of, lost_in}
-use Rattle.mm_frame_laws.specs.{failed_write, AllWritesFailed, MissedBut, with_modified, Walking}
+use Rattle.mm_frame_laws.specs.{failed_write, AllWritesFailed, MissedBut, with_modified, Walking, Emptying, put_last, first_passing, is_untried}
+use Rattle.mm_frame_laws.specs.{next_try, written_by, open_write, IsUnmap, AreSteps, InOrder, InWalk}
 use Rattle.mm_frame_laws.proofs.Counting.{room}
-use Rattle.mm_laws.proofs.{tally-append, without_none, without_append, without_self, modified_frame}
-use Rattle.mm_frame_laws.proofs.Writing.{failed}
+use Rattle.mm_laws.proofs.{tally-append, without_none, without_append, without_self, modified_frame, keeps, kept_along, times_on, has_shares}
+use Rattle.mm_frame_laws.proofs.Writing.{failed, unmapped, unmap_legal, lost_legal}
+use Rattle.mm_life.proofs.{replays_then}
+use Rattle.mm_types.specs.declared.moves.Move.TheVariants as move
 
 -- ---- the list in the walk
 
@@ -35,19 +39,13 @@ walk_lost passed left lost f once =
 -- ---- lists and moves
 
 pub any_append : {A : Type 0} (p : A → Bool) (xs ys : List A) → list_any p (xs ++ ys) ≡ list_any p xs || list_any p ys
-any_append p [] ys = refl
-any_append p (x ∷ xs) ys = ap (λ b. p x || b) (any_append p xs ys) ∙ sym (assoc (p x) (list_any p xs) (list_any p ys))
-  where
-    assoc : (a b c : Bool) → ((a || b) || c) ≡ (a || (b || c))
-    assoc true b c = refl
-    assoc false b c = refl
+any_append p xs ys = list_any-append p xs ys
 
 pub on_append : (g : ℕ) (xs ys : List ℕ) → is_on g (xs ++ ys) ≡ is_on g xs || is_on g ys
 on_append g xs ys = any_append (λ x. x == g) xs ys
 
 pub or_none : (a : Bool) → (a || false) ≡ a
-or_none true = refl
-or_none false = refl
+or_none = or_false
 
 -- a list with one element
 on_one : (g f : ℕ) → is_on g (f ∷ []) ≡ true → g ≡ f
@@ -136,9 +134,8 @@ module _ (start l : FrameLife) (passed left lost : List ℕ) (moves : List Move)
   -- its write failed
   pub walk_fails : Sound l → (home : Stored) → IsLegal (move.Write f home) l → Walking start (after_failed l f home) passed left (lost ++ f.0 ∷ []) (moves ++ failed_write f home)
   walk_fails s home legal =
-      let m = modified_frame l s f.0 walk_on in
       let list : l.frames.modified ≡ list_in_search passed (f.0 ∷ left) lost = ap (λ (k : FrameLife). k.frames.modified) w.now in
-      let once = sym (ap (λ (xs : List ℕ). times f.0 xs) list) ∙ m.once in
+      let once = sym (ap (λ (xs : List ℕ). times f.0 xs) list) ∙ (modified_frame l s f.0 walk_on).once in
       let moved : without f.0 l.frames.modified ++ f.0 ∷ [] ≡ list_in_search passed left (lost ++ f.0 ∷ []) = ap (λ (xs : List ℕ). without f.0 xs ++ f.0 ∷ []) list ∙ walk_lost passed left lost f.0 once in
       record {
         now = failed l s f walk_on home legal ∙ ((λ i. with_modified l (moved i)) ∙ (λ i. with_modified (w.now i) (list_in_search passed left (lost ++ f.0 ∷ []))));
@@ -229,3 +226,225 @@ module _ (l : FrameLife) (s : Sound l) (pinned : Option Frame) (short : is_short
     | inl h ↦ (h.0, missed h.0 h.1.modified h.1.can)
     | inr h ↦ (let bad : true ≡ false = sym h.1 ∙ none h.0 in cc)
   ]
+
+-- ---- the turns of a search: a place is unmapped, and its frame written where it can be
+
+-- after the walk
+pub walk_then : (start l : FrameLife) (passed lost : List ℕ) (moves : List Move) → Walking start l passed [] lost moves → Replays moves start l → IsMachine l.machine → is_access l.kind ≡ true → is_short l ≡ true → IsWithinDepth l → Emptying start l moves
+walk_then start l passed lost moves w r machine access short few = assumption (walk_ends start l passed lost moves w)
+
+module _ (start l : FrameLife) (begun : Sound start) (moves : List Move) (e : Emptying start l moves) where
+  sound : Sound l
+  sound = kept_along moves start l begun e.replays
+
+  module _ (place : Place) (f : Frame) (there : l.valid place ≡ Some f) where
+    abbrev m : FrameLife
+    m = after_move l (move.Unmap place)
+
+    u : Unmapped l m place f.0
+    u = unmapped l sound place f there
+
+    legal : IsLegal (move.Unmap place) l
+    legal = unmap_legal l place f e.access e.short there
+
+    sound_now : Sound m
+    sound_now = keeps (move.Unmap place) l sound legal
+
+    access_now : is_access m.kind ≡ true
+    access_now = ap is_access u.kind ∙ e.access
+
+    few_now : IsWithinDepth m
+    few_now = omega (arith, ap (λ (q : List ℕ). length q) u.flight, ap (λ (k : MachineOf). k.depth) u.machine, e.few)
+
+    -- no frame came of it, and its own is not modified or cannot be written
+    pub turn_kept : is_short m ≡ true → (is_on f.0 m.frames.modified ≡ true → can_be_written m f.0 ≡ false) → Emptying start m (moves ++ move.Unmap place ∷ [])
+    turn_kept short bars = record {
+      replays = replays_then moves (move.Unmap place ∷ []) start l m e.replays (legal, refl);
+      machine = subst IsMachine (sym u.machine) e.machine;
+      access = access_now;
+      short = short;
+      few = few_now;
+      missed = but_none f.0 m (moves ++ move.Unmap place ∷ []) (unmap_but l m place f.0 u moves (move.Unmap place ∷ []) e.missed) bars;
+    }
+
+    -- its write failed
+    pub turn_failed : is_short m ≡ true → is_on f.0 m.frames.modified ≡ true → (home : Stored) → IsLegal (move.Write f home) m → Emptying start (after_failed m f home) (moves ++ move.Unmap place ∷ failed_write f home)
+    turn_failed short on home writes =
+        let same = failed m sound_now f on home writes in
+        record {
+          replays = replays_then moves (move.Unmap place ∷ failed_write f home) start l (after_failed m f home) e.replays (legal, (writes, (lost_legal m sound_now f on home access_now, refl)));
+          machine = subst (λ (k : FrameLife). IsMachine k.machine) (sym same) (subst IsMachine (sym u.machine) e.machine);
+          access = ap (λ (k : FrameLife). is_access k.kind) same ∙ access_now;
+          short = ap (λ (k : FrameLife). is_short k) same ∙ short;
+          few = subst (λ (k : FrameLife). length k.flight ≤ k.machine.depth) (sym same) few_now;
+          missed = subst (λ (xs : List Move). AllWritesFailed (after_failed m f home) xs) (append_assoc moves (move.Unmap place ∷ []) (failed_write f home))
+              (but_failed f m sound_now (moves ++ move.Unmap place ∷ []) on (unmap_but l m place f.0 u moves (move.Unmap place ∷ []) e.missed) home writes);
+        }
+
+    -- fewer places are valid after each turn
+    pub turn_fewer : valid_places m + 1 ≡ valid_places l
+    turn_fewer = u.fewer
+
+    pub turn_failed_fewer : is_on f.0 m.frames.modified ≡ true → (home : Stored) → IsLegal (move.Write f home) m → valid_places (after_failed m f home) + 1 ≡ valid_places l
+    turn_failed_fewer on home writes = ap (λ (k : FrameLife). valid_places k + 1) (failed m sound_now f on home writes) ∙ u.fewer
+
+  -- where no place may go a write failed
+  pub turns_end : (pinned : Option Frame) → NoneMayGo l pinned → (f : ℕ) × (lost_in moves f ≡ true)
+  turns_end pinned none = ends_with_lost l sound pinned e.short e.machine e.few moves e.missed none
+
+-- ---- a search makes its moves in its order
+
+-- ---- the first that passes
+
+pub passes_first : (test : ℕ → Bool) (xs rest : List ℕ) (f : ℕ) → ((x : ℕ) → is_on x xs ≡ true → test x ≡ false) → test f ≡ true → first_passing test (xs ++ (f ∷ rest)) ≡ Some f
+passes_first test [] rest f none here = ap (λ b. cond b (Some f) (first_passing test rest)) here
+passes_first test (x ∷ xs) rest f none here =
+    ap (λ b. cond b (Some x) (first_passing test (xs ++ (f ∷ rest)))) (none x (or_left (x == x) (is_on x xs) ((unsigned_Decides x x).1 refl)))
+    ∙ passes_first test xs rest f (λ y h. none y (or_right (x == y) (is_on y xs) h)) here
+
+pub passes_none : (test : ℕ → Bool) (xs : List ℕ) → ((x : ℕ) → is_on x xs ≡ true → test x ≡ false) → first_passing test xs ≡ None
+passes_none test [] none = refl
+passes_none test (x ∷ xs) none =
+    ap (λ b. cond b (Some x) (first_passing test xs)) (none x (or_left (x == x) (is_on x xs) ((unsigned_Decides x x).1 refl))) ∙ passes_none test xs (λ y h. none y (or_right (x == y) (is_on y xs) h))
+
+-- ---- moves in a row
+
+pub steps_then : (l m : FrameLife) (ages : Ages) (pinned : Option Frame) (made xs ys : List Move) → AreSteps l ages pinned made xs → Replays xs l m → AreSteps m ages pinned (made ++ xs) ys → AreSteps l ages pinned made (xs ++ ys)
+steps_then l m ages pinned made [] ys a r b = subst (λ (k : FrameLife). AreSteps k ages pinned made ys) r (subst (λ (zs : List Move). AreSteps m ages pinned zs ys) (append-nil made) b)
+steps_then l m ages pinned made (x ∷ xs) ys a r b =
+    (a.0, steps_then (after_move l x) m ages pinned (made ++ x ∷ []) xs ys a.1 r.1 (subst (λ (zs : List Move). AreSteps m ages pinned zs ys) (sym (append_assoc made (x ∷ []) xs)) b))
+
+-- the last move
+open_push : (made : List Move) (x : Move) → open_write (made ++ x ∷ []) ≡ written_by x
+open_push (y ∷ z ∷ rest) x = open_push (z ∷ rest) x
+open_push _ x = refl
+
+open_failed : (made : List Move) (f : Frame) (home : Stored) → open_write (made ++ failed_write f home) ≡ None
+open_failed made f home = ap open_write (sym (append_assoc made (move.Write f home ∷ []) (move.Lost f ∷ []))) ∙ open_push (made ++ move.Write f home ∷ []) (move.Lost f)
+
+-- failed writes among more moves
+pub lost_more : (moves : List Move) (f : Frame) (home : Stored) (g : ℕ) → lost_in (moves ++ failed_write f home) g ≡ true → (lost_in moves g ≡ true) ⊎ (g ≡ f.0)
+lost_more moves f home g h = at (lost_in moves g) refl (sym (any_append (λ m. is_lost_of g m) moves (failed_write f home)) ∙ h)
+  where
+    at : (b : Bool) → lost_in moves g ≡ b → (b || lost_in (failed_write f home) g) ≡ true → (lost_in moves g ≡ true) ⊎ (g ≡ f.0)
+    at true e k = inl e
+    at false e k = inr (sym ((unsigned_Decides f.0 g).0 (sym (or_none (f.0 == g)) ∙ k)))
+
+pub not_lost : (moves : List Move) (place : Place) (g : ℕ) → lost_in (moves ++ move.Unmap place ∷ []) g ≡ lost_in moves g
+not_lost moves place g = any_append (λ m. is_lost_of g m) moves (move.Unmap place ∷ []) ∙ or_none (lost_in moves g)
+
+-- ---- the walk
+
+pub walk_in : (l : FrameLife) (ages : Ages) (pinned : Option Frame) → InWalk l ages pinned [] []
+walk_in l ages pinned = record { steps = tt; closed = refl; only = λ g h. h }
+
+module _ (start l : FrameLife) (ages : Ages) (pinned : Option Frame) (passed left lost : List ℕ) (moves : List Move) (f : Frame) (w : Walking start l passed (f.0 ∷ left) lost moves) (o : InWalk start ages pinned lost moves) (s : Sound l) (r : Replays moves start l) (can : can_be_written l f.0 ≡ true) where
+  -- it was not tried
+  fresh : lost_in moves f.0 ≡ false
+  fresh = not_true (lost_in moves f.0) (λ h.
+      let list : l.frames.modified ≡ list_in_search passed (f.0 ∷ left) lost = ap (λ (k : FrameLife). k.frames.modified) w.now in
+      let once = sym (ap (λ (xs : List ℕ). times f.0 xs) list) ∙ (modified_frame l s f.0 (walk_on start l passed left lost moves f w)).once in
+      let one : one_if (f.0 == f.0) ≡ 1 = ap one_if ((unsigned_Decides f.0 f.0).1 refl) in
+      let more = times_on f.0 lost (o.only f.0 h) in
+      absurd (omega (arith, once, tally-append (λ x. x == f.0) passed (f.0 ∷ (left ++ lost)), tally-append (λ x. x == f.0) left lost, one, more)))
+
+  tries : next_try l moves ≡ Some f.0
+  tries =
+      ap (λ (xs : List ℕ). first_passing (is_untried l moves) xs) (ap (λ (k : FrameLife). k.frames.modified) w.now)
+      ∙ passes_first (is_untried l moves) passed (left ++ lost) f.0
+      (λ x h. ap (λ b. b && not (lost_in moves x)) (writes_same start l (list_in_search passed (f.0 ∷ left) lost) w.now x ∙ w.over x h))
+      (ap (λ b. b && not (lost_in moves f.0)) can ∙ ap not fresh)
+
+  -- its write failed
+  pub walk_failed_in : (home : Stored) → InWalk start ages pinned (lost ++ f.0 ∷ []) (moves ++ failed_write f home)
+  walk_failed_in home = record {
+    steps = steps_then start l ages pinned [] moves (failed_write f home) o.steps r (record { closed = o.closed; next = tries }, (open_push moves (move.Write f home), tt));
+    closed = open_failed moves f home;
+    only = λ g h. elim (lost_more moves f home g h) [
+      | inl a ↦ on_append g lost (f.0 ∷ []) ∙ or_left (is_on g lost) (is_on g (f.0 ∷ [])) (o.only g a)
+      | inr a ↦ ap (λ (k : ℕ). is_on k (lost ++ f.0 ∷ [])) a ∙ on_last f.0 lost
+    ];
+  }
+
+  -- it was written
+  pub walk_wrote_in : (home : Stored) → AreSteps start ages pinned [] (moves ++ move.Write f home ∷ move.Wrote f ∷ [])
+  walk_wrote_in home = steps_then start l ages pinned [] moves (move.Write f home ∷ move.Wrote f ∷ []) o.steps r (record { closed = o.closed; next = tries }, (open_push moves (move.Write f home), tt))
+
+pub walk_ends_in : (start l : FrameLife) (ages : Ages) (pinned : Option Frame) (passed lost : List ℕ) (moves : List Move) → Walking start l passed [] lost moves → InWalk start ages pinned lost moves → InOrder start l ages pinned moves
+walk_ends_in start l ages pinned passed lost moves w o = record {
+  steps = o.steps;
+  closed = o.closed;
+  listed = λ g h. ap (λ (k : FrameLife). is_on g k.frames.modified) w.now ∙ (on_append g passed lost ∙ or_right (is_on g passed) (is_on g lost) (o.only g h));
+}
+
+-- ---- the unmaps
+
+module _ (start l : FrameLife) (ages : Ages) (pinned : Option Frame) (moves : List Move) (begun : Sound start) (e : Emptying start l moves) (o : InOrder start l ages pinned moves) (place : Place) (f : Frame) (there : l.valid place ≡ Some f) (victim : IsVictim l ages pinned place) where
+  sound_left : Sound l
+  sound_left = kept_along moves start l begun e.replays
+
+  abbrev later : FrameLife
+  later = after_move l (move.Unmap place)
+
+  gone : Unmapped l later place f.0
+  gone = unmapped l sound_left place f there
+
+  none_left : next_try l moves ≡ None
+  none_left = passes_none (is_untried l moves) l.frames.modified (λ x h. untried_not (can_be_written l x) (lost_in moves x) (e.missed x h))
+
+  unmaps : IsUnmap l ages pinned moves place
+  unmaps = record { closed = o.closed; none = none_left; victim = victim }
+
+  -- the place's frame is not on the list
+  off_list : is_on f.0 l.frames.modified ≡ false
+  off_list = not_true (is_on f.0 l.frames.modified) (λ h.
+      absurd (omega (arith, (modified_frame l sound_left f.0 h).unshared, has_shares l.valid l.frames l.sets sound_left.shown place f there)))
+
+  stays_on : (g : ℕ) → is_on g l.frames.modified ≡ true → is_on g later.frames.modified ≡ true
+  stays_on g h = ap (is_on g) gone.lists.modified ∙ at (is_last (record_at l.frames f.0) && (record_at l.frames f.0).changed)
+    where
+      at : (b : Bool) → is_on g (at_end_if b f.0 l.frames.modified) ≡ true
+      at true = on_append g l.frames.modified (f.0 ∷ []) ∙ or_left (is_on g l.frames.modified) (is_on g (f.0 ∷ [])) h
+      at false = h
+
+  pub turn_in : InOrder start later ages pinned (moves ++ move.Unmap place ∷ [])
+  turn_in = record {
+    steps = steps_then start l ages pinned [] moves (move.Unmap place ∷ []) o.steps e.replays (unmaps, tt);
+    closed = open_push moves (move.Unmap place);
+    listed = λ g h. stays_on g (o.listed g (sym (not_lost moves place g) ∙ h));
+  }
+
+  module _ (on : is_on f.0 later.frames.modified ≡ true) (can : can_be_written later f.0 ≡ true) where
+    list_now : later.frames.modified ≡ l.frames.modified ++ f.0 ∷ []
+    list_now = gone.lists.modified ∙ at (is_last (record_at l.frames f.0) && (record_at l.frames f.0).changed) (sym (ap (is_on f.0) gone.lists.modified) ∙ on)
+      where
+        at : (b : Bool) → is_on f.0 (at_end_if b f.0 l.frames.modified) ≡ true → at_end_if b f.0 l.frames.modified ≡ l.frames.modified ++ f.0 ∷ []
+        at true h = refl
+        at false h = let bad : true ≡ false = sym h ∙ off_list in cc
+
+    fresh_now : lost_in (moves ++ move.Unmap place ∷ []) f.0 ≡ false
+    fresh_now = not_lost moves place f.0 ∙ not_true (lost_in moves f.0) (λ h. let bad : true ≡ false = sym (o.listed f.0 h) ∙ off_list in cc)
+
+    tries_now : next_try later (moves ++ move.Unmap place ∷ []) ≡ Some f.0
+    tries_now =
+        ap (λ (xs : List ℕ). first_passing (is_untried later (moves ++ move.Unmap place ∷ [])) xs) list_now
+        ∙ passes_first (is_untried later (moves ++ move.Unmap place ∷ [])) l.frames.modified [] f.0
+        (λ x h. untried_not (can_be_written later x) (lost_in (moves ++ move.Unmap place ∷ []) x) (λ c. lost_still moves (move.Unmap place ∷ []) x (e.missed x h (sym (writers_same l later gone.writers x) ∙ c))))
+        (ap (λ b. b && not (lost_in (moves ++ move.Unmap place ∷ []) f.0)) can ∙ ap not fresh_now)
+
+    pub turn_wrote_in : (home : Stored) → AreSteps start ages pinned [] (moves ++ move.Unmap place ∷ move.Write f home ∷ move.Wrote f ∷ [])
+    turn_wrote_in home = steps_then start l ages pinned [] moves (move.Unmap place ∷ move.Write f home ∷ move.Wrote f ∷ []) o.steps e.replays (unmaps, (record { closed = open_push moves (move.Unmap place); next = tries_now }, (open_push (moves ++ move.Unmap place ∷ []) (move.Write f home), tt)))
+
+    pub turn_failed_in : Sound later → (home : Stored) → IsLegal (move.Write f home) later → InOrder start (after_failed later f home) ages pinned (moves ++ move.Unmap place ∷ failed_write f home)
+    turn_failed_in sound_m home legal = record {
+      steps = steps_then start l ages pinned [] moves (move.Unmap place ∷ failed_write f home) o.steps e.replays (unmaps, (record { closed = open_push moves (move.Unmap place); next = tries_now }, (open_push (moves ++ move.Unmap place ∷ []) (move.Write f home), tt)));
+      closed = sym (ap open_write (append_assoc moves (move.Unmap place ∷ []) (failed_write f home))) ∙ open_failed (moves ++ move.Unmap place ∷ []) f home;
+      listed = λ g h. ap (λ (k : FrameLife). is_on g k.frames.modified) (failed later sound_m f on home legal) ∙ last g (lost_more (moves ++ move.Unmap place ∷ []) f home g (ap (λ (xs : List Move). lost_in xs g) (append_assoc moves (move.Unmap place ∷ []) (failed_write f home)) ∙ h));
+    }
+      where
+        last : (g : ℕ) → (lost_in (moves ++ move.Unmap place ∷ []) g ≡ true) ⊎ (g ≡ f.0) → is_on g (put_last later f.0).frames.modified ≡ true
+        last g (inl h) =
+            let was = o.listed g (sym (not_lost moves place g) ∙ h) in
+            on_append g (without f.0 later.frames.modified) (f.0 ∷ []) ∙ or_left (is_on g (without f.0 later.frames.modified)) (is_on g (f.0 ∷ []))
+            (on_left g f.0 later.frames.modified (λ z. let bad : true ≡ false = sym was ∙ (ap (λ (k : ℕ). is_on k l.frames.modified) z ∙ off_list) in cc) (stays_on g was))
+        last g (inr h) = ap (λ (k : ℕ). is_on k (put_last later f.0).frames.modified) h ∙ on_last f.0 (without f.0 later.frames.modified)

@@ -1,24 +1,118 @@
--- What a write of a modified frame leaves, where it succeeds and where it fails.
-use Rattle.std.proofs.Common.{◌≡◌, ◌≢◌, ℕ, ◌<◌, Bool, true, false, cond, not, List, [], ◌∷◌, ◌++◌, length, Option, Some, None, refl, sym, ap, ◌∙◌, arith, get_or-set_same, get_or-set_other, length-set}
-use Rattle.std.specs.Prelude.{◌==◌, ◌&&◌, ◌||◌, is_some, option_map, unwrap_or, slice_set}
-use Rattle.std.specs.List.{list_any}
+-- What the unmap of a place leaves.
+use Rattle.std.proofs.Common.{◌≡◌, ◌≢◌, ℕ, zero, suc, ◌+◌, ◌-◌, ◌≤◌, Bool, true, false, cond, not, [], ◌∷◌, ◌++◌, Option, Some, None, sym, ap, ◌∙◌, subst, inl, inr, arith, ◌<◌, List, length, refl, get_or-set_same, get_or-set_other, length-set}
+use Rattle.std.specs.Prelude.{◌==◌, ◌&&◌, is_some, ◌||◌, option_map, unwrap_or, slice_set}
+use Rattle.std.proofs.lemmas.Bool.{lt-ltb, and_parts, and_from, or_left, or_right, eqb-true}
 use Rattle.std.specs.Cmp.{unsigned_Decides}
-use Rattle.std.proofs.lemmas.Bool.{and_parts, and_from, or_left, or_right, eqb-true}
-use Rattle.mm_types.specs.{Frame, Slot, Block, Key, Place, Record, Backing, Request, Stored}
+use Rattle.mm_types.proofs.{same_or_not, differ, and_false}
+use Rattle.mm_types.specs.{Frame, Place, Record, Slot, Block, Key, Backing, Request, Stored}
+use Rattle.mm_life.specs.{record_at, has_request, is_idle, unshared, FrameLife, set_of, after_move, after_unmap_at, ResidentSet, FrameTable, blank}
+use Rattle.mm_life.specs.{is_on, is_empty, slot_of, without, without_slot, with_record, being_written, write_done, write_lost, settled, settled_by}
+use Rattle.mm_life.specs.{after_write, after_wrote, after_lost, is_write, is_shared, is_live, key_of_place, IsLegal, owner_is, is_access, is_io}
+use Rattle.mm_life.specs.{is_call, is_writer, has_depth, is_lowest, is_block, may_write_block, is_short, may_unmap, unbinds, trims, touches}
+use Rattle.mm_life.specs.{is_above_min, is_at_max, freed, can_be_written}
+use Rattle.mm_laws.proofs.{set_here, set_else, has_shares, place_or_not, same_place-self, sets_fewer, resident_there, unmap_settles, owner_passes}
+use Rattle.mm_laws.proofs.{without_none, begun_ended, set_back, set_back_or, lowest_free, lowest_there, ModifiedFrame, modified_frame, four_parts}
+use Rattle.mm_laws.specs.Sound.{Sound}
+use Rattle.mm_laws.specs.{valid_places, ListsAre, at_end_if, Settles, is_backing_for, block_of}
+use Rattle.mm_frame_laws.specs.{is_last, Unmapped, backing_to, after_written, after_failed, put_last}
+use Rattle.std.specs.List.{list_any}
+use Rattle.mm_types.specs.declared.moves.Move.TheVariants as move
 use Rattle.mm_types.specs.declared.frames.Backing.TheVariants as backing
 use Rattle.mm_types.specs.declared.frames.Request.TheVariants as request
 use Rattle.mm_types.specs.declared.moves.Stored.TheVariants as stored
-use Rattle.mm_types.specs.declared.moves.Move.TheVariants as move
-use Rattle.mm_life.specs.{FrameTable, record_at, blank, has_request, is_idle, is_on, is_empty, slot_of, without, without_slot, with_record}
-use Rattle.mm_life.specs.{being_written, write_done, write_lost, settled, settled_by, after_write, after_wrote, after_lost, is_write, FrameLife}
-use Rattle.mm_life.specs.{set_of, is_shared, is_live, key_of_place, IsLegal, owner_is, is_access, is_io, is_call, is_writer, has_depth, is_lowest}
-use Rattle.mm_life.specs.{is_block, may_write_block, is_short, may_unmap, unbinds, trims, touches, is_above_min, is_at_max, after_move, freed}
-use Rattle.mm_life.specs.{can_be_written}
-use Rattle.mm_laws.specs.{is_backing_for, ListsAre, block_of}
-use Rattle.mm_laws.specs.Sound.{Sound}
-use Rattle.mm_laws.proofs.{owner_passes, without_none, begun_ended, set_back, set_back_or, lowest_free, lowest_there, ModifiedFrame, modified_frame}
-use Rattle.mm_laws.proofs.{four_parts}
-use Rattle.mm_frame_laws.specs.{backing_to, after_written, after_failed, put_last}
+
+-- without one of n shares there are none exactly where n is one
+one_less : (n : ℕ) → 1 ≤ n → (n - 1 == 0) ≡ (n == 1)
+one_less zero h = absurd (omega (arith, h))
+one_less (suc n) h = elim (same_or_not (suc n) 1) [
+  | inl e ↦ (unsigned_Decides (suc n - 1) 0).1 (omega (arith, e)) ∙ sym ((unsigned_Decides (suc n) 1).1 e)
+  | inr d ↦ differ (suc n - 1) 0 (λ e. d (omega (arith, e))) ∙ sym (differ (suc n) 1 d)
+]
+
+module _ (l : FrameLife) (s : Sound l) (place : Place) (f : Frame) (there : l.valid place ≡ Some f) where
+  abbrev was : Record
+  was = record_at l.frames f.0
+
+  abbrev u : Record
+  u = unshared (record_at l.frames f.0)
+
+  abbrev now : FrameLife
+  now = after_move l (move.Unmap place)
+
+  some_shares : 1 ≤ was.shares
+  some_shares = has_shares l.valid l.frames l.sets s.shown place f there
+
+  owned : is_some was.owner ≡ true
+  owned = let some = some_shares in (s.standing f.0).fit.shown (lt-ltb 0 was.shares (omega (arith, some)))
+
+  settles : Settles l.frames now.frames f.0 u
+  settles = unmap_settles l s f place there
+
+  now_is : now ≡ after_unmap_at (Some f) l place
+  now_is = ap (λ (o : Option Frame). after_unmap_at o l place) there
+
+  idle_last : (is_some was.owner && is_idle u) ≡ is_last was
+  idle_last = ap (λ b. b && is_idle u) owned ∙ ap (λ b. b && not (has_request was.request)) (one_less was.shares some_shares)
+
+  lists_now : ListsAre now.frames l.frames.zeroed l.frames.free (at_end_if (is_last was && not was.changed) f.0 l.frames.standby) (at_end_if (is_last was && was.changed) f.0 l.frames.modified)
+  lists_now =
+      let a = settles.lists in
+      let b : ListsAre now.frames l.frames.zeroed (at_end_if (not (is_some was.owner)) f.0 l.frames.free) (at_end_if (is_last was && not was.changed) f.0 l.frames.standby) (at_end_if (is_last was && was.changed) f.0 l.frames.modified)
+      = subst (λ (i : Bool). ListsAre now.frames l.frames.zeroed (at_end_if (not (is_some was.owner)) f.0 l.frames.free) (at_end_if (i && not was.changed) f.0 l.frames.standby) (at_end_if (i && was.changed) f.0 l.frames.modified)) idle_last a in
+      subst (λ (o : Bool). ListsAre now.frames l.frames.zeroed (at_end_if (not o) f.0 l.frames.free) (at_end_if (is_last was && not was.changed) f.0 l.frames.standby) (at_end_if (is_last was && was.changed) f.0 l.frames.modified)) owned b
+
+  pub unmapped : Unmapped l (after_move l (move.Unmap place)) place f.0
+  unmapped = record {
+    lists = lists_now;
+    own = settles.here;
+    others = settles.others;
+    writers = record {
+      owners = λ g. elim (same_or_not g f.0) [
+        | inl e ↦ ap (λ (k : ℕ). (record_at now.frames k).owner) e ∙ (ap (λ (t : Record). t.owner) settles.here ∙ ap (λ (k : ℕ). (record_at l.frames k).owner) (sym e))
+        | inr n ↦ ap (λ (t : Record). t.owner) (settles.others g n)
+      ];
+      free_slots = ap (λ (m : FrameLife). m.free_slots) now_is;
+      paging = ap (λ (m : FrameLife). m.paging) now_is;
+    };
+    fewer = ap (λ (m : FrameLife). valid_places m + 1) now_is ∙ sets_fewer l.sets place.pid.0 (resident_there l s place (ap is_some there));
+    gone = ap (λ (m : FrameLife). m.valid place) now_is ∙ ap (λ b. cond b None (l.valid place)) (same_place-self place);
+    stays = λ q n. ap (λ (m : FrameLife). m.valid q) now_is ∙ elim (place_or_not q place) [
+      | inl e ↦ absurd (n e.0)
+      | inr e ↦ ap (λ b. cond b None (l.valid q)) e.1
+    ];
+    flight = ap (λ (m : FrameLife). m.flight) now_is;
+    kind = ap (λ (m : FrameLife). m.kind) now_is;
+    machine = ap (λ (m : FrameLife). m.machine) now_is;
+  }
+
+  last_is : was.shares ≡ 1 → has_request was.request ≡ false → is_last was ≡ true
+  last_is one quiet = ap (λ (n : ℕ). (n == 1) && not (has_request was.request)) one ∙ ap not quiet
+
+  unmapped_last : was.shares ≡ 1 → has_request was.request ≡ false → (c : Bool) → was.changed ≡ c → ListsAre (after_move l (move.Unmap place)).frames l.frames.zeroed l.frames.free (at_end_if (not c) f.0 l.frames.standby) (at_end_if c f.0 l.frames.modified)
+  unmapped_last one quiet c is =
+      let last = last_is one quiet in
+      record {
+        zeroed = unmapped.lists.zeroed;
+        free = unmapped.lists.free;
+        standby = unmapped.lists.standby ∙ (ap (λ b. at_end_if (b && not was.changed) f.0 l.frames.standby) last ∙ ap (λ b. at_end_if (not b) f.0 l.frames.standby) is);
+        modified = unmapped.lists.modified ∙ (ap (λ b. at_end_if (b && was.changed) f.0 l.frames.modified) last ∙ ap (λ b. at_end_if b f.0 l.frames.modified) is);
+      }
+
+  pub unmapped_clean : was.shares ≡ 1 → has_request was.request ≡ false → was.changed ≡ false → ListsAre (after_move l (move.Unmap place)).frames l.frames.zeroed l.frames.free (l.frames.standby ++ f.0 ∷ []) l.frames.modified
+  unmapped_clean one quiet clean = unmapped_last one quiet false clean
+
+  pub unmapped_changed : was.shares ≡ 1 → has_request was.request ≡ false → was.changed ≡ true → ListsAre (after_move l (move.Unmap place)).frames l.frames.zeroed l.frames.free l.frames.standby (l.frames.modified ++ f.0 ∷ [])
+  unmapped_changed one quiet dirty = unmapped_last one quiet true dirty
+
+-- ---- working sets
+
+pub sized : (l : FrameLife) (place : Place) (f : Frame) (s : ResidentSet) → l.valid place ≡ Some f → set_of l place.pid.0 ≡ Some s → set_of (after_move l (move.Unmap place)) place.pid.0 ≡ Some (record s { resident = s.resident - 1 })
+sized l place f s there e = ap (λ (o : Option Frame). set_of (after_unmap_at o l place) place.pid.0) there ∙ set_here l.sets place.pid.0 (λ n. n - 1) s e
+
+pub others_sized : (l : FrameLife) (place : Place) (f : Frame) (pid : ℕ) → l.valid place ≡ Some f → pid ≢ place.pid.0 → set_of (after_move l (move.Unmap place)) pid ≡ set_of l pid
+others_sized l place f pid there n = ap (λ (o : Option Frame). set_of (after_unmap_at o l place) pid) there ∙ set_else l.sets place.pid.0 pid (λ k. k - 1) n
+
+-- ---- what a write of a modified frame leaves, where it succeeds and where it fails
 
 -- ---- small facts
 
@@ -99,8 +193,7 @@ module _ (l : FrameLife) (s : Sound l) (f : Frame) (on : is_on f.0 l.frames.modi
 
     pub lost_table : r.backing ≡ without_slot home → after_lost d1 f.0 ≡ record l.frames { modified = without f.0 l.frames.modified ++ f.0 ∷ [] }
     lost_table e =
-        let quiet = no_request r.request modified.quiet in
-        let same : r ≡ v = λ i. record r { backing = e i; request = quiet i } in
+        let same : r ≡ v = λ i. record r { backing = e i; request = (no_request r.request modified.quiet) i } in
         let records : slice_set (slice_set l.frames.records f.0 w) f.0 v ≡ l.frames.records = set_back_or l.frames.records f.0 w v blank same in
         let standby = without_none f.0 l.frames.standby modified.off_standby in
         lost_is ∙ (λ i. record { records = records i; zeroed = l.frames.zeroed; free = l.frames.free; standby = standby i; modified = without f.0 l.frames.modified ++ f.0 ∷ [] })
@@ -125,12 +218,10 @@ module _ (l : FrameLife) (s : Sound l) (f : Frame) (on : is_on f.0 l.frames.modi
 
     slot_failed : after_failed l f (stored.Slot t) ≡ put_last l f.0
     slot_failed =
-        let m = modified_frame l s f.0 on in
-        let tables = lost_table l s f on (backing.Slot t) slot_backing in
         let slots : freed (slice_set l.free_slots t.0 false) (slot_of (record_at (after_write l.frames f.0 (backing.Slot t)) f.0).backing) ≡ l.free_slots =
         ap (λ (x : Record). freed (slice_set l.free_slots t.0 false) (slot_of x.backing)) (in_write l s f on (backing.Slot t)) ∙ set_back l.free_slots t.0 false true (lowest_free t.0 l.free_slots slot_parts.1) in
-        let flight = begun_ended f.0 l.flight m.off_flight in
-        λ i. record l { frames = tables i; free_slots = slots i; flight = flight i }
+        let flight = begun_ended f.0 l.flight (modified_frame l s f.0 on).off_flight in
+        λ i. record l { frames = (lost_table l s f on (backing.Slot t) slot_backing) i; free_slots = slots i; flight = flight i }
 
   module _ (b : Block) (legal : IsLegal (move.Write f (stored.Block b)) l) where
     pub block_is : (record_at l.frames f.0).backing ≡ backing.Block b
@@ -138,12 +229,10 @@ module _ (l : FrameLife) (s : Sound l) (f : Frame) (on : is_on f.0 l.frames.modi
 
     block_failed : after_failed l f (stored.Block b) ≡ put_last l f.0
     block_failed =
-        let m = modified_frame l s f.0 on in
-        let tables = lost_table l s f on (backing.Block b) block_is in
         let slots : freed l.free_slots (slot_of (record_at (after_write l.frames f.0 (backing.Block b)) f.0).backing) ≡ l.free_slots =
         ap (λ (x : Record). freed l.free_slots (slot_of x.backing)) (in_write l s f on (backing.Block b)) in
-        let flight = begun_ended f.0 l.flight m.off_flight in
-        λ i. record l { frames = tables i; free_slots = slots i; flight = flight i }
+        let flight = begun_ended f.0 l.flight (modified_frame l s f.0 on).off_flight in
+        λ i. record l { frames = (lost_table l s f on (backing.Block b) block_is) i; free_slots = slots i; flight = flight i }
 
   -- a write that failed leaves the frame at the end of the modified list, and all else as it was
   pub failed : (home : Stored) → IsLegal (move.Write f home) l → after_failed l f home ≡ put_last l f.0
@@ -158,15 +247,11 @@ module _ (l : FrameLife) (s : Sound l) (f : Frame) (on : is_on f.0 l.frames.modi
   pub written_found : (home : Stored) → is_short (after_written l f home) ≡ false
   written_found home =
       ap (λ (xs : List ℕ). is_empty (after_written l f home).frames.zeroed && is_empty (after_written l f home).frames.free && is_empty xs) (written home).standby
-      ∙ (ap (λ b. is_empty (after_written l f home).frames.zeroed && is_empty (after_written l f home).frames.free && b) (pushed l.frames.standby) ∙ and_none (is_empty (after_written l f home).frames.zeroed && is_empty (after_written l f home).frames.free))
+      ∙ (ap (λ b. is_empty (after_written l f home).frames.zeroed && is_empty (after_written l f home).frames.free && b) (pushed l.frames.standby) ∙ and_false (is_empty (after_written l f home).frames.zeroed && is_empty (after_written l f home).frames.free))
     where
       pushed : (xs : List ℕ) → is_empty (xs ++ f.0 ∷ []) ≡ false
       pushed [] = refl
       pushed (x ∷ xs) = refl
-
-      and_none : (b : Bool) → (b && false) ≡ false
-      and_none true = refl
-      and_none false = refl
 
   pub written_flight : (home : Stored) → (after_written l f home).flight ≡ l.flight
   written_flight (stored.Slot t) = begun_ended f.0 l.flight (modified_frame l s f.0 on).off_flight

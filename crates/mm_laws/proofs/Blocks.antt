@@ -1,31 +1,34 @@
 -- Keys keep their blocks, and no two have one.
-use Rattle.std.proofs.Common.{◌≡◌, ◌≢◌, ◌⊎◌, ℕ, ◌<◌, Bool, true, false, cond, not, List, [], ◌∷◌, ◌++◌, length, Option, Some, None, refl, sym, ap, ◌∙◌, subst, inl, inr, arith, get_or-set_same, get_or-set_other, length-set}
-use Rattle.std.specs.Prelude.{is_some, slice_set}
-use Rattle.std.proofs.lemmas.Bool.{and_parts, eqb-true, cases_lt}
+use Rattle.std.proofs.Common.{◌≡◌, ◌≢◌, ◌⊎◌, ℕ, ◌<◌, Bool, true, false, cond, not, List, [], ◌∷◌, ◌++◌, length, Option, Some, None, refl, sym, ap, ◌∙◌, subst, inl, inr, arith, get_or-set_same, get_or-set_other, length-set, ◌+◌, ◌≤◌}
+use Rattle.std.specs.Prelude.{is_some, slice_set, ◌==◌, ◌&&◌, nat_le}
+use Rattle.std.proofs.lemmas.Bool.{and_parts, eqb-true, cases_lt, ltb-true, not-true}
 use Rattle.std.proofs.lemmas.List.{get_or_past}
 use Rattle.mm_types.proofs.Cells.{same_or_not}
 use Rattle.mm_types.specs.{Frame, Key, Slot, Block, Place, Record, Backing, Held, LineKind, Move}
+use Rattle.mm_life.specs.{FrameTable, blank, record_at, without_slot, with_record, off_lists, to_free, settled, has_request, is_again, is_idle}
+use Rattle.mm_life.specs.{taken_for_read, given, being_read, being_written, shared, unshared, disowned, soiled, read_done, write_done, write_lost}
+use Rattle.mm_life.specs.{after_clear, after_steal, after_give, after_read, after_bad, after_map, after_unmap, after_soil, after_write, after_drop}
+use Rattle.mm_life.specs.{FrameLife, same_key, changed, is_dead, IsLegal, is_stored, is_block, after_move, after_at, after_add, dropped_at}
+use Rattle.mm_life.specs.{after_unmap_at, homed, home_at, backing_of, unstarted, is_live, is_legal_kind, is_machine, Replays}
+use Rattle.mm_laws.specs.{is_home_for, is_backing_for, block_of, block_in, block_held, frame, owner_at, is_file_key, IsAdded}
+use Rattle.mm_laws.specs.Sound.{Sound}
+use Rattle.mm_laws.proofs.Taking.{first_zeroed, fresh_read}
+use Rattle.mm_laws.proofs.Owners.{key_or_not, changed_here, changed_else, paged_unblocked}
+use Rattle.mm_laws.proofs.Requests.{zero_is}
+use Rattle.mm_laws.proofs.KeyMoves.{dead_is}
+use Rattle.mm_laws.proofs.Sound.{owner_passes}
+use Rattle.mm_life.proofs.Records.{records_taken, records_settled}
+use Rattle.mm_laws.proofs.Parts.{four_parts, three_parts}
+use Rattle.std.specs.Cmp.{unsigned_Decides}
+use Rattle.mm_laws.proofs.Moved.{dropped_as, unmapped_as, along}
+use Rattle.mm_laws.proofs.Kept.{sound_unstarted, keeps}
+use Rattle.mm_laws.proofs.FileKeys.{line_rises, file_step}
 use Rattle.mm_types.specs.declared.frames.Backing.TheVariants as backing
 use Rattle.mm_types.specs.declared.frames.Request.TheVariants as request
 use Rattle.mm_types.specs.declared.frames.Held.TheVariants as held
 use Rattle.mm_types.specs.declared.moves.LineKind.TheVariants as kind
 use Rattle.mm_types.specs.declared.moves.Stored.TheVariants as stored
 use Rattle.mm_types.specs.declared.moves.Move.TheVariants as move
-use Rattle.mm_life.specs.{FrameTable, blank, record_at, without_slot, with_record, off_lists, to_free, settled, has_request, is_again, is_idle}
-use Rattle.mm_life.specs.{taken_for_read, given, being_read, being_written, shared, unshared, disowned, soiled, read_done, write_done, write_lost}
-use Rattle.mm_life.specs.{after_clear, after_steal, after_give, after_read, after_bad, after_map, after_unmap, after_soil, after_write, after_drop}
-use Rattle.mm_life.specs.{FrameLife, same_key, changed, is_dead, IsLegal, is_stored, is_block, after_move, after_at, after_add, dropped_at}
-use Rattle.mm_life.specs.{after_unmap_at, homed, home_at, backing_of}
-use Rattle.mm_laws.specs.{is_home_for, is_backing_for, block_of, block_in, block_held, frame, owner_at}
-use Rattle.mm_laws.specs.Sound.{Sound}
-use Rattle.mm_laws.proofs.Changes.{first_zeroed}
-use Rattle.mm_laws.proofs.Taking.{fresh_read}
-use Rattle.mm_laws.proofs.Owners.{key_or_not, changed_here, changed_else}
-use Rattle.mm_laws.proofs.FreshMoves.{zero_is}
-use Rattle.mm_laws.proofs.KeyMoves.{dead_is}
-use Rattle.mm_laws.proofs.Sound.{owner_passes}
-use Rattle.mm_life.proofs.Records.{records_taken}
-use Rattle.mm_laws.proofs.Parts.{four_parts, three_parts}
 
 -- ---- blocks of backings
 
@@ -45,10 +48,6 @@ stored_block d _ e = cc
 is_block_is : (b : Block) (x : Backing) → is_block b.0 x ≡ true → Some b.0 ≡ block_of x
 is_block_is b (backing.Block c) e = ap (λ (n : ℕ). Some n) (sym (eqb-true c.0 b.0 e))
 is_block_is b _ e = cc
-
-paging_backing : (p : Bool) (x : Backing) → p ≡ true → is_backing_for p x ≡ true → block_of x ≡ None
-paging_backing p (backing.Block b) e i = let bad : false ≡ true = sym (ap not e) ∙ i in cc
-paging_backing p _ e i = refl
 
 soiled_block : (r : Record) → block_of (soiled r).backing ≡ block_of r.backing
 soiled_block r = at (has_request r.request)
@@ -84,12 +83,7 @@ with_block d f r e g = elim (record_set d f g r) [
 ]
 
 settled_record : (d : FrameTable) (f g : ℕ) → record_at (settled d f) g ≡ record_at d g
-settled_record d f g = at (is_idle (record_at d f)) (record_at d f).changed
-  where
-    at : (i c : Bool) → record_at (cond i (cond c (record d { modified = d.modified ++ f ∷ [] }) (record d { standby = d.standby ++ f ∷ [] })) d) g ≡ record_at d g
-    at true true = refl
-    at true false = refl
-    at false c = refl
+settled_record d f g = ap (λ (rs : List Record). record_at (record d { records = rs }) g) (records_settled (record_at d f) d f)
 
 settles_block : (d : FrameTable) (f : ℕ) (r : Record) → block_of r.backing ≡ block_of (record_at d f).backing → (g : ℕ) → block_of (record_at (settled (with_record d f r) f) g).backing ≡ block_of (record_at d g).backing
 settles_block d f r e g = ap (λ (x : Record). block_of x.backing) (settled_record (with_record d f r) f g) ∙ with_block d f r e g
@@ -120,11 +114,9 @@ module _ (l : FrameLife) (s : Sound l) where
   paging_block k p = at (l.stands k) refl
     where
       at : (h : Held) → l.stands k ≡ h → block_in l.frames h ≡ None
-      at (held.Frame f) e = paging_backing (l.paging k) (record_at l.frames f.0).backing p (s.homed.backing f.0 k (s.owned.owner k f e))
-      at (held.Slot t) e = refl
+      at (held.Frame f) e = paged_unblocked (l.paging k) (record_at l.frames f.0).backing p (s.homed.backing f.0 k (s.owned.owner k f e))
       at (held.Block b) e = let bad : not (l.paging k) ≡ true = ap (is_home_for (l.paging k)) (sym e) ∙ s.homed.home k in let low : false ≡ true = sym (ap not p) ∙ bad in cc
-      at held.Zero e = refl
-      at held.Dead e = refl
+      at _ e = refl
 
   -- the owner of a frame goes home to the frame's backing
   goes_home : (d' : FrameTable) (f : ℕ) (k : Key) (o : Option Key) → owner_at l.frames f ≡ o → ((g : ℕ) → g ≢ f → record_at d' g ≡ record_at l.frames g) → block_in d' (homed l o (record_at l.frames f).backing k) ≡ block_held l k
@@ -206,9 +198,8 @@ module _ (l : FrameLife) (s : Sound l) where
 
   writes_slot : (f : Frame) (t : Slot) (k : Key) → IsLegal (move.Write f (stored.Slot t)) l → block_held (after_move l (move.Write f (stored.Slot t))) k ≡ block_held l k
   writes_slot f t k h =
-      let parts = four_parts _ _ _ _ h in
-      let owner = owner_passes l.paging (record_at l.frames f.0) parts.1 in
-      let was = paging_backing (l.paging owner.key) (record_at l.frames f.0).backing owner.passes (s.homed.backing f.0 owner.key owner.is) in
+      let owner = owner_passes l.paging (record_at l.frames f.0) (four_parts _ _ _ _ h).1 in
+      let was = paged_unblocked (l.paging owner.key) (record_at l.frames f.0).backing owner.passes (s.homed.backing f.0 owner.key owner.is) in
       in_same l.frames (after_write l.frames f.0 (backing.Slot t)) (with_block (off_lists l.frames f.0) f.0 (being_written (backing.Slot t) (record_at l.frames f.0)) (sym was)) (l.stands k)
 
   writes_block : (f : Frame) (b : Block) (k : Key) → IsLegal (move.Write f (stored.Block b)) l → block_held (after_move l (move.Write f (stored.Block b))) k ≡ block_held l k
@@ -218,8 +209,7 @@ module _ (l : FrameLife) (s : Sound l) where
 
   adds_zero : (j k : Key) → IsLegal (move.Add j None) l → block_held (after_add l j None) k ≡ block_held l k
   adds_zero j k h =
-      let dead = dead_is (l.stands j) (three_parts _ _ _ h).0 in
-      without_block l.frames j k held.Zero (dead_block l.frames (l.stands j) dead) refl (λ n. refl)
+      without_block l.frames j k held.Zero (dead_block l.frames (l.stands j) (dead_is (l.stands j) (three_parts _ _ _ h).0)) refl (λ n. refl)
 
 -- ---- a move that adds no block, and is no line of a machine
 
@@ -254,3 +244,116 @@ block_stays (move.Write f (stored.Slot t)) l s h a m k = writes_slot l s f t k h
 block_stays (move.Write f (stored.Block b)) l s h a m k = writes_block l s f b k h
 block_stays (move.Wrote f) l s h a m k = ends l s f.0 (write_done (record_at l.frames f.0)) k (write_done_block (record_at l.frames f.0))
 block_stays (move.Lost f) l s h a m k = ends l s f.0 (write_lost (record_at l.frames f.0)) k (without_slot_block (record_at l.frames f.0).backing)
+
+-- ---- no two keys have one block, and a file key keeps its block along a replay
+
+pub record Apart (l : FrameLife) : Type 0 where
+  pub one : (j k : Key) (b : ℕ) → block_held l j ≡ Some b → block_held l k ≡ Some b → j ≡ k
+  pub there : (k : Key) (b : ℕ) → block_held l k ≡ Some b → IsAdded l b
+
+-- no key has a block
+none_apart : (l : FrameLife) → ((k : Key) → block_held l k ≡ None) → Apart l
+none_apart l none = record {
+  one = λ j k b e g. let bad : None ≡ Some b = sym (none j) ∙ e in cc;
+  there = λ k b e. let bad : None ≡ Some b = sym (none k) ∙ e in cc;
+}
+
+pub apart_unstarted : Apart unstarted
+apart_unstarted = none_apart unstarted (λ k. refl)
+
+-- each key has the block that it had
+same_apart : (l m : FrameLife) → ((k : Key) → block_held m k ≡ block_held l k) → m.machine.blocks ≡ l.machine.blocks → m.added ≡ l.added → Apart l → Apart m
+same_apart l m same blocks added a = record {
+  one = λ j k b e g. a.one j k b (sym (same j) ∙ e) (sym (same k) ∙ g);
+  there = λ k b e.
+      let was = a.there k b (sym (same k) ∙ e) in
+      record { there = omega (arith, was.there, blocks); added = ap (λ (f : ℕ → Bool). f b) added ∙ was.added };
+}
+
+-- a key comes to be on a block that no key ever had
+added_apart : (l : FrameLife) (j : Key) (b : Block) → IsLegal (move.Add j (Some b)) l → Apart l → Apart (after_move l (move.Add j (Some b)))
+added_apart l j b h a =
+    let low = ltb-true b.0 l.machine.blocks (and_parts _ _ (and_parts _ _ h).0).1 in
+    let here_is : (k : Key) (n : ℕ) → k ≡ j → block_in l.frames (changed same_key l.stands j (held.Block b) k) ≡ Some n → n ≡ b.0 = λ k n z e.
+    let at : Some b.0 ≡ Some n = sym (ap (block_in l.frames) (changed_here l.stands j (held.Block b))) ∙ (ap (λ (y : Key). block_in l.frames (changed same_key l.stands j (held.Block b) y)) (sym z) ∙ e) in
+    cc in
+    let else_is : (k : Key) → k ≢ j → block_in l.frames (changed same_key l.stands j (held.Block b) k) ≡ block_held l k = λ k n. ap (block_in l.frames) (changed_else l.stands j k (held.Block b) n) in
+    let clash : (k : Key) (n : ℕ) → n ≡ b.0 → block_held l k ≡ Some n → ⊥ = λ k n e g.
+    let was = (a.there k n g).added in
+    let bad : false ≡ true = sym (not-true (l.added b.0) (and_parts _ _ h).1) ∙ (ap l.added (sym e) ∙ was) in cc in
+    record {
+      one = λ i k n e g. elim (key_or_not i j) [
+        | inl x ↦ elim (key_or_not k j) [
+          | inl y ↦ x.0 ∙ sym y.0
+          | inr y ↦ absurd (clash k n (here_is i n x.0 e) (sym (else_is k y.0) ∙ g))
+        ]
+        | inr x ↦ elim (key_or_not k j) [
+          | inl y ↦ absurd (clash i n (here_is k n y.0 g) (sym (else_is i x.0) ∙ e))
+          | inr y ↦ a.one i k n (sym (else_is i x.0) ∙ e) (sym (else_is k y.0) ∙ g)
+        ]
+      ];
+      there = λ k n e. elim (key_or_not k j) [
+        | inl y ↦
+            let is = here_is k n y.0 e in
+            record { there = omega (arith, low, is); added = ap (λ t. cond t true (l.added n)) ((unsigned_Decides n b.0).1 is) }
+        | inr y ↦ (
+            let was = a.there k n (sym (else_is k y.0) ∙ e) in
+            record { there = was.there; added = either (n == b.0) (l.added n) was.added })
+      ];
+    }
+  where
+    either : (t x : Bool) → x ≡ true → cond t true x ≡ true
+    either true x e = refl
+    either false x e = e
+
+pub apart_step : (x : Move) (l : FrameLife) → Sound l → IsLegal x l → Apart l → Apart (after_move l x)
+apart_step (move.At n (kind.Machine frames slots depth blocks)) l s h a = none_apart (after_move l (move.At n (kind.Machine frames slots depth blocks))) (λ k. refl)
+apart_step (move.Add k (Some b)) l s h a = added_apart l k b h a
+apart_step (move.Drop k) l s h a = same_apart l (after_move l (move.Drop k)) (block_stays (move.Drop k) l s h refl refl) (ap (λ (m : FrameLife). m.machine.blocks) (dropped_as (l.stands k) l k)) (ap (λ (m : FrameLife). m.added) (dropped_as (l.stands k) l k)) a
+apart_step (move.Unmap place) l s h a = same_apart l (after_move l (move.Unmap place)) (block_stays (move.Unmap place) l s h refl refl) (ap (λ (m : FrameLife). m.machine.blocks) (unmapped_as (l.valid place) l place)) (ap (λ (m : FrameLife). m.added) (unmapped_as (l.valid place) l place)) a
+apart_step (move.Write f (stored.Slot t)) l s h a = same_apart l (after_move l (move.Write f (stored.Slot t))) (block_stays (move.Write f (stored.Slot t)) l s h refl refl) refl refl a
+apart_step x l s h a = same_apart l (after_move l x) (block_stays x l s h refl refl) refl refl a
+
+pub replay_apart : (xs : List Move) (l : FrameLife) → Replays xs unstarted l → Apart l
+replay_apart xs l r = (along (λ m. Sound m × Apart m) (λ x m p h. (keeps x m p.0 h, apart_step x m p.0 h p.1)) xs unstarted l (sound_unstarted, apart_unstarted) r).1
+
+-- ---- a file key and its block
+
+pub file_has_block : (l : FrameLife) → Sound l → (k : Key) → is_file_key l k ≡ true → is_some (block_held l k) ≡ true
+file_has_block l s k file = at (l.stands k) refl
+  where
+    parts : (is_live l k ≡ true) × (l.paging k ≡ false)
+    parts = let p = and_parts (is_live l k) (not (l.paging k)) file in (p.0, not-true (l.paging k) p.1)
+
+    on_block : (b : Backing) → is_backing_for (l.paging k) b ≡ true → is_some (block_of b) ≡ true
+    on_block (backing.Block b) e = refl
+    on_block _ e = let bad : false ≡ true = sym parts.1 ∙ e in cc
+
+    at : (h : Held) → l.stands k ≡ h → is_some (block_in l.frames h) ≡ true
+    at (held.Frame f) e = on_block (record_at l.frames f.0).backing (s.homed.backing f.0 k (s.owned.owner k f e))
+    at (held.Block b) e = refl
+    at held.Dead e = let bad : false ≡ true = ap (λ (h : Held). not (is_dead h)) (sym e) ∙ parts.0 in cc
+    at _ e = let bad : false ≡ true = sym parts.1 ∙ (ap (is_home_for (l.paging k)) (sym e) ∙ s.homed.home k) in cc
+
+-- a move of a line that is not the first
+file_block_step : (x : Move) (l : FrameLife) → Sound l → 1 ≤ l.line → IsLegal x l → (k : Key) → is_file_key l k ≡ true → block_held (after_move l x) k ≡ block_held l k
+file_block_step (move.At n kd) l s on h k file = block_stays (move.At n kd) l s h refl (no_machine kd (and_parts ((n == l.line + 1) && nat_le (length l.flight) l.machine.depth) (is_legal_kind l kd) h).1) k
+  where
+    no_machine : (kd : LineKind) → is_legal_kind l kd ≡ true → makes_machine (move.At n kd) ≡ false
+    no_machine (kind.Machine frames slots depth blocks) e =
+        let p = and_parts (l.line == 0) (is_machine (record { frames = frames; slots = slots; depth = depth; blocks = blocks })) e in
+        let z = eqb-true l.line 0 p.0 in absurd (omega (arith, on, z))
+    no_machine _ e = refl
+file_block_step (move.Add j None) l s on h k file = block_stays (move.Add j None) l s h refl refl k
+file_block_step (move.Add j (Some b)) l s on h k file =
+    let dead = dead_is (l.stands j) (and_parts _ _ (and_parts _ _ (and_parts _ _ h).0).0).1 in
+    let lives = (and_parts (is_live l k) (not (l.paging k)) file).0 in
+    ap (block_in l.frames) (changed_else l.stands j k (held.Block b) (λ e. let bad : false ≡ true = sym (ap not dead) ∙ (ap (is_live l) (sym e) ∙ lives) in cc))
+file_block_step (move.Drop j) l s on h k file = block_stays (move.Drop j) l s h refl refl k
+file_block_step x l s on h k file = block_stays x l s h refl refl k
+
+pub file_block_along : (xs : List Move) (l m : FrameLife) → Sound l → 1 ≤ l.line → Replays xs l m → (k : Key) → is_file_key l k ≡ true → block_held m k ≡ block_held l k
+file_block_along [] l m s on e k file = ap (λ (x : FrameLife). block_held x k) e
+file_block_along (x ∷ xs) l m s on r k file =
+    let up = line_rises x l r.0 in
+    file_block_along xs (after_move l x) m (keeps x l s r.0) (omega (arith, on, up)) r.1 k (file_step l k on file x r.0) ∙ file_block_step x l s on r.0 k file

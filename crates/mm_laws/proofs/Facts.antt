@@ -11,11 +11,10 @@ use Rattle.mm_life.specs.{fits_place, after_move, slot_at}
 use Rattle.mm_laws.specs.Reached.{Reached}
 use Rattle.mm_laws.specs.Sound.{Sound}
 use Rattle.mm_laws.specs.{Stands, IsStandby, IsModified, Home, Behind, is_home_for, is_backing_for, block_held}
-use Rattle.mm_laws.proofs.BlocksApart.{Apart}
-use Rattle.mm_laws.proofs.Deduced.{reached_sound, reached_next, share_most, blocks_apart}
-use Rattle.mm_laws.proofs.FromSound.{slot_there, slot_taken, some_keys, behind_one, behind_no_home, zeroed_bare, free_bare, standby_is, modified_is, place_shares, frame_there}
+use Rattle.mm_laws.proofs.Blocks.{Apart}
+use Rattle.mm_laws.proofs.Deduced.{reached_sound, reached_next, share_most, blocks_apart, slot_there, slot_taken, some_keys, behind_one, behind_no_home, zeroed_bare, free_bare, standby_is, modified_is, place_shares, frame_there}
 use Rattle.mm_laws.proofs.Owners.{same_key-self}
-use Rattle.mm_laws.proofs.PrivateKeys.{private_paged}
+use Rattle.mm_laws.proofs.FileKeys.{private_paged}
 use Rattle.mm_laws.proofs.SetSizes.{private_share}
 
 pub record Facts (l : FrameLife) : Type 0 where

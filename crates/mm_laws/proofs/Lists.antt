@@ -1,5 +1,6 @@
 -- Numbers that leave a list, and cells that are set back.
 use Rattle.std.proofs.Common.{◌≡◌, ℕ, zero, suc, ◌+◌, Bool, true, false, cond, not, List, [], ◌∷◌, ◌++◌, Some, refl, sym, ap, ◌∙◌, arith}
+use Rattle.mm_types.proofs.Bytes.{append_nil}
 use Rattle.std.specs.Prelude.{◌==◌, slice_get, slice_set, slice_index_or}
 use Rattle.std.specs.Cmp.{unsigned_Decides}
 use Rattle.mm_life.specs.{without}
@@ -28,10 +29,6 @@ without_self f xs = ap (λ b. cond (not b) (f ∷ without f xs) (without f xs)) 
 -- a request that begins and ends
 pub begun_ended : (f : ℕ) (xs : List ℕ) → times f xs ≡ 0 → without f (xs ++ f ∷ []) ≡ xs
 begun_ended f xs h = without_append f xs (f ∷ []) ∙ (ap (λ (ys : List ℕ). without f xs ++ ys) (without_self f []) ∙ (append_nil (without f xs) ∙ without_none f xs h))
-  where
-    append_nil : (ys : List ℕ) → ys ++ [] ≡ ys
-    append_nil [] = refl
-    append_nil (y ∷ ys) = ap (λ (zs : List ℕ). y ∷ zs) (append_nil ys)
 
 -- a cell that is set and set back
 pub set_back : {A : Type 0} (xs : List A) (i : ℕ) (a b : A) → slice_get xs i ≡ Some b → slice_set (slice_set xs i a) i b ≡ xs

@@ -3,7 +3,8 @@ use Rattle.std.proofs.Common.{◌≡◌, ℕ, zero, suc, ◌+◌, ◌<◌, Bool,
 use Rattle.std.specs.Prelude.{nat_lt, slice_get, slice_set, count_by}
 use Rattle.std.specs.List.{list_any}
 use Rattle.std.proofs.lemmas.List.Sums.{sum_by-cons}
-use Rattle.std.proofs.lemmas.Bool.{and_parts, and_from, lt-ltb, ltb-false}
+use Rattle.std.proofs.lemmas.Bool.{and_parts, and_from, lt-ltb, ltb-false, not-true}
+use Rattle.mm_types.proofs.Booleans.{not_true}
 use Rattle.mm_life.specs.{is_lowest}
 use Rattle.mm_laws.specs.{one_if, IsLowest}
 
@@ -15,11 +16,7 @@ lowest_free (suc s) (b ∷ free) e = lowest_free s free (and_parts (not b) (is_l
 below_taken : (s : ℕ) (free : List Bool) → is_lowest s free ≡ true → (k : ℕ) → k < s → slice_get free k ≡ Some false
 below_taken s [] e k l = cc
 below_taken zero (b ∷ free) e k l = absurd (omega (arith, l))
-below_taken (suc s) (b ∷ free) e zero l = ap (λ (x : Bool). Some x) (is_not b (and_parts (not b) (is_lowest s free) e).0)
-  where
-    is_not : (x : Bool) → not x ≡ true → x ≡ false
-    is_not true h = cc
-    is_not false h = refl
+below_taken (suc s) (b ∷ free) e zero l = ap (λ (x : Bool). Some x) (not-true b (and_parts (not b) (is_lowest s free) e).0)
 below_taken (suc s) (b ∷ free) e (suc k) l = below_taken s free (and_parts (not b) (is_lowest s free) e).1 k (omega (arith, l))
 
 pub lowest_is : (free : List Bool) (s : ℕ) → is_lowest s free ≡ true → IsLowest free s
@@ -53,11 +50,7 @@ lowest_any zero (false ∷ free) e = cc
 lowest_any (suc t) (false ∷ free) e = lowest_any t free e
 
 pub lowest_nowhere : (free : List Bool) → list_any (λ b. b) free ≡ false → (t : ℕ) → is_lowest t free ≡ false
-lowest_nowhere free none t = at (is_lowest t free) refl
-  where
-    at : (b : Bool) → is_lowest t free ≡ b → b ≡ false
-    at true e = let bad : true ≡ false = sym (lowest_any t free e) ∙ none in cc
-    at false e = refl
+lowest_nowhere free none t = not_true (is_lowest t free) (λ e. let bad : true ≡ false = sym (lowest_any t free e) ∙ none in cc)
 
 pub free_counted : (free : List Bool) → nat_lt 0 (count_by (λ b. b) free) ≡ list_any (λ b. b) free
 free_counted [] = refl
@@ -71,28 +64,15 @@ none_counted free none = let h = ltb-false 0 (count_by (λ b. b) free) (free_cou
 pub lowest_taken : (free : List Bool) (s : ℕ) → is_lowest s free ≡ true → count_by (λ b. b) (slice_set free s false) + 1 ≡ count_by (λ b. b) free
 lowest_taken [] s e = cc
 lowest_taken (b ∷ free) zero e =
-    let now = sum_by-cons (λ (x : Bool). cond x 1 0) false free in
-    let was = sum_by-cons (λ (x : Bool). cond x 1 0) b free in
-    let one : one_if b ≡ 1 = ap one_if e in
-    omega (arith, now, was, one)
+    omega (arith, sum_by-cons (λ (x : Bool). cond x 1 0) false free, sum_by-cons (λ (x : Bool). cond x 1 0) b free, ap one_if e)
 lowest_taken (b ∷ free) (suc s) e =
-    let rest = lowest_taken free s (and_parts (not b) (is_lowest s free) e).1 in
     let now = sum_by-cons (λ (x : Bool). cond x 1 0) b (slice_set free s false) in
-    let was = sum_by-cons (λ (x : Bool). cond x 1 0) b free in
-    omega (arith, rest, now, was)
+    omega (arith, lowest_taken free s (and_parts (not b) (is_lowest s free) e).1, now, sum_by-cons (λ (x : Bool). cond x 1 0) b free)
 
 -- free and taken slots are all slots
 pub free_and_taken : (free : List Bool) → count_by (λ b. b) free + count_by not free ≡ length free
 free_and_taken [] = refl
-free_and_taken (b ∷ free) =
-    let rest = free_and_taken free in
-    let n = sum_by-cons (λ (x : Bool). cond x 1 0) b free in
-    let m = sum_by-cons (λ (x : Bool). cond (not x) 1 0) b free in
-    at b rest n m
-  where
-    at : (c : Bool) → count_by (λ x. x) free + count_by not free ≡ length free → count_by (λ x. x) (b ∷ free) ≡ cond b 1 0 + count_by (λ x. x) free → count_by not (b ∷ free) ≡ cond (not b) 1 0 + count_by not free → count_by (λ x. x) (b ∷ free) + count_by not (b ∷ free) ≡ length (b ∷ free)
-    at c r x y = let one : cond b 1 0 + cond (not b) 1 0 ≡ 1 = both b in omega (arith, r, x, y, one)
-      where
-        both : (d : Bool) → cond d 1 0 + cond (not d) 1 0 ≡ 1
-        both true = refl
-        both false = refl
+free_and_taken (true ∷ free) =
+    omega (arith, free_and_taken free, sum_by-cons (λ (x : Bool). cond x 1 0) true free, sum_by-cons (λ (x : Bool). cond (not x) 1 0) true free)
+free_and_taken (false ∷ free) =
+    omega (arith, free_and_taken free, sum_by-cons (λ (x : Bool). cond x 1 0) false free, sum_by-cons (λ (x : Bool). cond (not x) 1 0) false free)

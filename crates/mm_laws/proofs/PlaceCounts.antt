@@ -1,17 +1,56 @@
--- Valid places, and the shares of frames.
-use Rattle.std.proofs.Common.{◌≡◌, ◌≢◌, ◌⊎◌, ℕ, ◌+◌, ◌-◌, ◌<◌, ◌≤◌, true, false, cond, not, List, [], ◌∷◌, ◌++◌, Option, Some, None, refl, sym, ap, ◌∙◌, subst, inl, inr, arith}
-use Rattle.std.specs.Prelude.{◌==◌, is_some, filter}
+-- Working sets, one a process, in turn.
+use Rattle.std.proofs.Common.{◌≡◌, ◌≢◌, ◌⊎◌, ℕ, zero, suc, List, [], ◌∷◌, ◌++◌, Option, Some, None, refl, ap, ◌∙◌, inl, inr, ◌+◌, ◌-◌, ◌<◌, ◌≤◌, true, false, cond, not, sym, subst, arith}
+use Rattle.std.specs.Prelude.{slice_get, ◌==◌, is_some, filter, unwrap_or, option_map}
+use Rattle.mm_types.proofs.Cells.{get_set_same, get_set_other, get_within, same_or_not}
+use Rattle.mm_life.specs.{ResidentSet, set_in, with_resident, resident_by, FrameTable, record_at, same_place, changed, fits_place}
+use Rattle.mm_laws.specs.{residents, one_if, tally, is_frame, is_of, Sight, Shown}
 use Rattle.std.specs.Cmp.{unsigned_Decides}
 use Rattle.std.proofs.lemmas.Bool.{eqb-true, eq-eqb, and_parts, and_from}
-use Rattle.mm_types.proofs.Cells.{same_or_not}
 use Rattle.mm_types.proofs.Tables.{differ}
 use Rattle.mm_types.specs.{Frame, Key, Place, Record}
-use Rattle.mm_life.specs.{ResidentSet, FrameTable, record_at, same_place, changed, set_in, with_resident, fits_place}
-use Rattle.mm_laws.specs.{one_if, tally, is_frame, is_of, residents, Sight, Shown}
 use Rattle.mm_laws.proofs.Tallies.{tally-but, tally-without, tally-more}
-use Rattle.mm_laws.proofs.Changes.{Changes}
+use Rattle.mm_laws.proofs.Taking.{Changes}
 use Rattle.mm_laws.proofs.Owners.{pid}
-use Rattle.mm_laws.proofs.ResidentSets.{resized, set_here, set_else, residents_more, set_more}
+
+abbrev pub resized : ResidentSet → (ℕ → ℕ) → ResidentSet
+resized s change = record s { resident = change s.resident }
+
+pub set_here : (sets : List ResidentSet) (pid : ℕ) (change : ℕ → ℕ) (s : ResidentSet) → set_in sets pid ≡ Some s → set_in (with_resident sets pid change) pid ≡ Some (resized s change)
+set_here sets zero change s e = cc
+set_here sets (suc k) change s e =
+    ap (λ (o : Option ResidentSet). slice_get (resident_by o sets k change) k) e ∙ get_set_same sets k (resized s change) (get_within sets k s e)
+
+pub set_else : (sets : List ResidentSet) (pid q : ℕ) (change : ℕ → ℕ) → q ≢ pid → set_in (with_resident sets pid change) q ≡ set_in sets q
+set_else sets zero q change n = refl
+set_else sets (suc k) zero change n = refl
+set_else sets (suc k) (suc j) change n = at (slice_get sets k)
+  where
+    at : (o : Option ResidentSet) → slice_get (resident_by o sets k change) j ≡ slice_get sets j
+    at None = refl
+    at (Some s) = get_set_other sets k j (resized s change) (λ e. n (ap suc e))
+
+-- one process more
+at_end : (sets : List ResidentSet) (new : ResidentSet) (k : ℕ) → new.resident ≡ 0 → residents (slice_get (sets ++ new ∷ []) k) ≡ residents (slice_get sets k)
+at_end [] new zero e = e
+at_end [] new (suc k) e = refl
+at_end (s ∷ sets) new zero e = refl
+at_end (s ∷ sets) new (suc k) e = at_end sets new k e
+
+pub residents_more : (sets : List ResidentSet) (new : ResidentSet) (pid : ℕ) → new.resident ≡ 0 → residents (set_in (sets ++ new ∷ []) pid) ≡ residents (set_in sets pid)
+residents_more sets new zero e = refl
+residents_more sets new (suc k) e = at_end sets new k e
+
+got_at_end : (sets : List ResidentSet) (new s : ResidentSet) (k : ℕ) → slice_get (sets ++ new ∷ []) k ≡ Some s → (slice_get sets k ≡ Some s) ⊎ (new ≡ s)
+got_at_end [] new s zero e = inr (let same : new ≡ s = cc in same)
+got_at_end [] new s (suc k) e = inl e
+got_at_end (t ∷ sets) new s zero e = inl e
+got_at_end (t ∷ sets) new s (suc k) e = got_at_end sets new s k e
+
+pub set_more : (sets : List ResidentSet) (new s : ResidentSet) (pid : ℕ) → set_in (sets ++ new ∷ []) pid ≡ Some s → (set_in sets pid ≡ Some s) ⊎ (new ≡ s)
+set_more sets new s zero e = inl e
+set_more sets new s (suc k) e = got_at_end sets new s k e
+
+-- ---- valid places, and the shares of frames
 
 -- ---- places
 
@@ -52,12 +91,10 @@ at_one change none f old new here else g = elim (same_or_not g f) [
 -- a valid place's frame has shares
 pub has_shares : (valid : Place → Option Frame) (d : FrameTable) (sets : List ResidentSet) → Shown valid d sets → (p : Place) (f : Frame) → valid p ≡ Some f → 1 ≤ (record_at d f.0).shares
 has_shares valid d sets s p f e =
-    let one : tally (same_place p) s.places ≡ 1 = s.once p ∙ ap (λ o. one_if (is_some o)) e in
     let more = tally-more (same_place p) (λ x. is_frame f.0 (valid x)) s.places (λ x h.
     let same : p ≡ x = same_place-true p x h in
     ap (λ (y : Place). is_frame f.0 (valid y)) (sym same) ∙ (ap (is_frame f.0) e ∙ (unsigned_Decides f.0 f.0).1 refl)) in
-    let shares = s.shares f.0 in
-    omega (arith, one, more, shares)
+    omega (arith, s.once p ∙ ap (λ o. one_if (is_some o)) e, more, s.shares f.0)
 
 module _ (d d' : FrameTable) (q q' : List ℕ) (f : ℕ) (r : Record) (c : Changes d d' q q' f r) (valid : Place → Option Frame) (sets : List ResidentSet) (s : Shown valid d sets) where
   shares_else : (g : ℕ) → g ≢ f → (record_at d' g).shares ≡ (record_at d g).shares
@@ -92,9 +129,7 @@ module _ (d d' : FrameTable) (q q' : List ℕ) (f : ℕ) (r : Record) (c : Chang
       | inl z ↦ elim o [
         | inl same ↦ s.fits p g k v (ap (λ (m : ℕ). (record_at d m).owner) z ∙ (sym same ∙ (sym owner_here ∙ (ap (λ (m : ℕ). (record_at d' m).owner) (sym z) ∙ w))))
         | inr none ↦
-            let some = has_shares valid d sets s p g v in
-            let at : (record_at d g.0).shares ≡ (record_at d f).shares = ap (λ (m : ℕ). (record_at d m).shares) z in
-            absurd (omega (arith, some, none, at))
+            absurd (omega (arith, has_shares valid d sets s p g v, none, ap (λ (m : ℕ). (record_at d m).shares) z))
       ]
       | inr n ↦ s.fits p g k v (sym (owner_else g.0 n) ∙ w)
     ];
@@ -130,30 +165,19 @@ module _ (d d' : FrameTable) (q q' : List ℕ) (f : ℕ) (r : Record) (c : Chang
       places = p ∷ s.places;
       once = λ x. elim (place_or_not x p) [
         | inl z ↦
-            let one : one_if (same_place x p) ≡ 1 = ap one_if z.1 in
-            let none : tally (same_place x) s.places ≡ 0 = ap (λ (y : Place). tally (same_place y) s.places) z.0 ∙ absent in
             let now : one_if (is_some (valid_now x)) ≡ 1 = ap (λ (y : Place). one_if (is_some (valid_now y))) z.0 ∙ ap (λ o. one_if (is_some o)) (place_here valid p _) in
-            omega (arith, one, none, now)
+            omega (arith, ap one_if z.1, ap (λ (y : Place). tally (same_place y) s.places) z.0 ∙ absent, now)
         | inr z ↦
-            let none : one_if (same_place x p) ≡ 0 = ap one_if z.1 in
-            let was = s.once x in
             let now : one_if (is_some (valid_now x)) ≡ one_if (is_some (valid x)) = ap (λ o. one_if (is_some o)) (place_else valid p x _ z.0) in
-            omega (arith, none, was, now)
+            omega (arith, ap one_if z.1, s.once x, now)
       ];
       shares = λ g.
-          let here : one_if (is_frame g (valid_now p)) ≡ one_if (f == g) = ap (λ o. one_if (is_frame g o)) (place_here valid p _) in
-          let rest = counted g in
-          let was = s.shares g in
-          let now = shares_now g in
-          omega (arith, here, rest, was, now);
-      resident = λ pid.
-          let was = s.resident pid in
-          let now = resident_now pid in
-          omega (arith, was, now);
+          omega (arith, ap (λ o. one_if (is_frame g o)) (place_here valid p (Some (record { 0 = f }))), counted g, s.shares g, shares_now g);
+      resident = λ pid. omega (arith, s.resident pid, resident_now pid);
       fits = λ x g k v w. elim (place_or_not x p) [
         | inl z ↦
             let both : Some (record { 0 = f }) ≡ Some g = sym (place_here valid p _) ∙ (ap valid_now (sym z.0) ∙ v) in
-            let same : f ≡ g.0 = ap index both in
+            let same : f ≡ g.0 = ap (λ (o : Option Frame). unwrap_or (option_map (λ (x : Frame). x.0) o) 0) both in
             ap (λ (y : Place). fits_place y k) z.0 ∙ fit k (owner ∙ (ap (λ (m : ℕ). (record_at d m).owner) same ∙ (sym (owner_as owner g.0) ∙ w)))
         | inr z ↦ s.fits x g k (sym (place_else valid p x _ z.0) ∙ v) (sym (owner_as owner g.0) ∙ w)
       ];
@@ -165,10 +189,6 @@ module _ (d d' : FrameTable) (q q' : List ℕ) (f : ℕ) (r : Record) (c : Chang
         | inr n ↦ s.below pid t (sym (set_else sets p.pid.0 pid (λ n. n + 1) n) ∙ e)
       ];
     }
-      where
-        index : Option Frame → ℕ
-        index None = 0
-        index (Some g) = g.0
 
   -- a place is valid no more
   module _ (p : Place) (there : valid p ≡ Some (record { 0 = f })) (shrunk : r.shares ≡ (record_at d f).shares - 1) (owner : r.owner ≡ (record_at d f).owner) where
@@ -193,16 +213,12 @@ module _ (d d' : FrameTable) (q q' : List ℕ) (f : ℕ) (r : Record) (c : Chang
         (λ x n. ap (is_frame g) (place_else valid p x _ (λ z. let t : same_place p x ≡ true = ap (same_place p) z ∙ same_place-self p in cc))) in
         let less = tally-without (same_place p) (λ x. is_frame g (valid x)) (f == g) s.places
         (λ x e. ap (λ (y : Place). is_frame g (valid y)) (sym (same_place-true p x e)) ∙ ap (is_frame g) there) in
-        let one : cond (f == g) (tally (same_place p) s.places) 0 ≡ one_if (f == g) = ap (λ n. cond (f == g) n 0) present in
-        let was = s.shares g in
-        omega (arith, agree, less, one, was)
+        omega (arith, agree, less, ap (λ n. cond (f == g) n 0) present, s.shares g)
 
     left_in : (pid : ℕ) → tally (is_of pid) left + one_if (p.pid.0 == pid) ≡ residents (set_in sets pid)
     left_in pid =
         let less = tally-without (same_place p) (is_of pid) (p.pid.0 == pid) s.places (λ x e. ap (λ (y : Place). is_of pid y) (sym (same_place-true p x e))) in
-        let one : cond (p.pid.0 == pid) (tally (same_place p) s.places) 0 ≡ one_if (p.pid.0 == pid) = ap (λ n. cond (p.pid.0 == pid) n 0) present in
-        let was = s.resident pid in
-        omega (arith, less, one, was)
+        omega (arith, less, ap (λ n. cond (p.pid.0 == pid) n 0) present, s.resident pid)
 
     shares_less : (g : ℕ) → (record_at d' g).shares ≡ (record_at d g).shares - one_if (f == g)
     shares_less g = at_one (λ n m. m - n) (λ n. omega arith) f (λ m. (record_at d m).shares) (λ m. (record_at d' m).shares) (shares_here ∙ shrunk) shares_else g
@@ -214,9 +230,7 @@ module _ (d d' : FrameTable) (q q' : List ℕ) (f : ℕ) (r : Record) (c : Chang
 
     set_left : (t : ResidentSet) × (set_in sets p.pid.0 ≡ Some t)
     set_left =
-        let one : one_if (p.pid.0 == p.pid.0) ≡ 1 = ap one_if ((unsigned_Decides p.pid.0 p.pid.0).1 refl) in
-        let here = left_in p.pid.0 in
-        known_set (set_in sets p.pid.0) (omega (arith, one, here))
+        known_set (set_in sets p.pid.0) (omega (arith, ap one_if ((unsigned_Decides p.pid.0 p.pid.0).1 refl), left_in p.pid.0))
 
     resident_left : (pid : ℕ) → residents (set_in sets_left pid) ≡ residents (set_in sets pid) - one_if (p.pid.0 == pid)
     resident_left pid = at_one (λ n m. m - n) (λ n. omega arith) p.pid.0 (λ m. residents (set_in sets m)) (λ m. residents (set_in sets_left m))
@@ -228,23 +242,15 @@ module _ (d d' : FrameTable) (q q' : List ℕ) (f : ℕ) (r : Record) (c : Chang
       places = left;
       once = λ x. elim (place_or_not x p) [
         | inl z ↦
-            let none : tally (same_place x) left ≡ 0 = ap (λ (y : Place). tally (same_place y) left) z.0 ∙ gone in
             let now : one_if (is_some (valid_left x)) ≡ 0 = ap (λ (y : Place). one_if (is_some (valid_left y))) z.0 ∙ ap (λ o. one_if (is_some o)) (place_here valid p _) in
-            omega (arith, none, now)
+            omega (arith, ap (λ (y : Place). tally (same_place y) left) z.0 ∙ gone, now)
         | inr z ↦
             let less = tally-without (same_place p) (same_place x) false s.places (λ y e. ap (same_place x) (sym (same_place-true p y e)) ∙ z.1) in
-            let was = s.once x in
             let now : one_if (is_some (valid_left x)) ≡ one_if (is_some (valid x)) = ap (λ o. one_if (is_some o)) (place_else valid p x _ z.0) in
-            omega (arith, less, was, now)
+            omega (arith, less, s.once x, now)
       ];
-      shares = λ g.
-          let rest = left_for g in
-          let now = shares_less g in
-          omega (arith, rest, now);
-      resident = λ pid.
-          let was = left_in pid in
-          let now = resident_left pid in
-          omega (arith, was, now);
+      shares = λ g. omega (arith, left_for g, shares_less g);
+      resident = λ pid. omega (arith, left_in pid, resident_left pid);
       fits = λ x g k v w. elim (place_or_not x p) [
         | inl z ↦ let bad : None ≡ Some g = sym (place_here valid p _) ∙ (ap valid_left (sym z.0) ∙ v) in cc
         | inr z ↦ s.fits x g k (sym (place_else valid p x _ z.0) ∙ v) (sym (owner_as owner g.0) ∙ w)
@@ -253,8 +259,7 @@ module _ (d d' : FrameTable) (q q' : List ℕ) (f : ℕ) (r : Record) (c : Chang
         | inl z ↦
             let both : Some (resized set_left.0 (λ n. n - 1)) ≡ Some t = sym (set_here sets p.pid.0 (λ n. n - 1) set_left.0 set_left.1) ∙ (ap (set_in sets_left) (sym z) ∙ e) in
             let same : resized set_left.0 (λ n. n - 1) ≡ t = cc in
-            let most = s.below p.pid.0 set_left.0 set_left.1 in
-            subst (λ (x : ResidentSet). x.resident ≤ x.max) same (omega (arith, most))
+            subst (λ (x : ResidentSet). x.resident ≤ x.max) same (omega (arith, s.below p.pid.0 set_left.0 set_left.1))
         | inr n ↦ s.below pid t (sym (set_else sets p.pid.0 pid (λ n. n - 1) n) ∙ e)
       ];
     }

@@ -1,13 +1,65 @@
--- What is seen of one frame: its record, and how often it stands on each list. What changes of lists and records do to it.
-use Rattle.std.proofs.Common.{◌≡◌, ◌≢◌, ℕ, ◌+◌, ◌<◌, ◌≤◌, Bool, true, false, cond, not, List, [], ◌∷◌, ◌++◌, length, Option, None, refl, sym, ap, ◌∙◌, subst, inl, inr, arith, get_or-set_same, get_or-set_other, length-set}
-use Rattle.std.specs.Prelude.{◌&&◌, nat_lt, is_some}
+-- What is true of each record by itself.
+use Rattle.std.proofs.Common.{◌≡◌, true, false, cond, None, refl, rules, ◌≢◌, ℕ, ◌+◌, ◌<◌, ◌≤◌, Bool, not, List, [], ◌∷◌, ◌++◌, length, Option, sym, ap, ◌∙◌, subst, inl, inr, arith, get_or-set_same, get_or-set_other, length-set}
+use Rattle.std.specs.Prelude.{is_some, ◌&&◌, nat_lt}
+use Rattle.std.proofs.lemmas.Bool.{or_right, ltb-true, or_left, cases_lt}
+use Rattle.mm_types.specs.{Key, Record, Backing}
+use Rattle.mm_types.proofs.Booleans.{one_only_if}
+use Rattle.mm_life.specs.{blank, has_request, is_read, is_write, is_again, slot_of, without_slot, given, being_read, shared, unshared, disowned}
+use Rattle.mm_life.specs.{being_written, read_done, write_done, write_lost, FrameTable, record_at, is_idle, with_record, off_lists, to_free}
+use Rattle.mm_life.specs.{settled_by}
+use Rattle.mm_laws.specs.{block_of, is_backed, Fit, one_if, times, is_kept, Sight, sight, Stand}
+use Rattle.mm_life.proofs.Requests.{write_has, calm}
 use Rattle.std.proofs.lemmas.List.{get_or_past}
-use Rattle.std.proofs.lemmas.Bool.{ltb-true, or_left, or_right, cases_lt}
-use Rattle.mm_types.specs.{Record}
-use Rattle.mm_life.specs.{FrameTable, blank, record_at, has_request, is_idle, with_record, off_lists, to_free, settled_by}
-use Rattle.mm_laws.specs.{one_if, times, is_kept, Fit, Sight, sight, Stand}
 use Rattle.mm_laws.proofs.Tallies.{times-push_same, times-push_other, times-without_other}
-use Rattle.mm_laws.proofs.Fits.{fit_blank}
+use Rattle.mm_types.specs.declared.frames.Backing.TheVariants as backing
+use Rattle.mm_types.specs.declared.frames.Request.TheVariants as request
+
+pub fit_blank : Fit blank
+fit_blank = search rules
+
+pub fit_given : (k : Key) → Fit (given k)
+fit_given k = search rules
+
+pub fit_being_read : (k : Key) (b : Backing) → is_backed b ≡ true → Fit (being_read k b)
+fit_being_read k b e = search (rules, e)
+
+pub fit_shared : (r : Record) → Fit r → is_some r.owner ≡ true → is_read r.request ≡ false → Fit (shared r)
+fit_shared r f o n = search (rules, f.dirty, f.writing, f.clean, o)
+
+pub fit_unshared : (r : Record) → Fit r → is_some r.owner ≡ true → is_read r.request ≡ false → Fit (unshared r)
+fit_unshared r f o n = search (rules, f.dirty, f.writing, f.clean, o)
+
+pub fit_disowned : (r : Record) → Fit r → r.shares ≡ 0 → has_request r.request ≡ true → block_of r.backing ≡ None → Fit (disowned r)
+fit_disowned r f z q b = search (rules, f.reading, f.writing, f.clean, or_right, q, b)
+
+pub slot_without : (b : Backing) → slot_of (without_slot b) ≡ None
+slot_without backing.None = refl
+slot_without _ = refl
+
+-- changed without a request
+pub fit_dirtied : (r : Record) → Fit r → is_some r.owner ≡ true → has_request r.request ≡ false → Fit (record r { changed = true; backing = without_slot r.backing })
+fit_dirtied r f o n = search (rules, o, n, calm, write_has, slot_without r.backing)
+
+-- changed while it is being written
+pub fit_again : (r : Record) → Fit r → is_some r.owner ≡ true → is_write r.request ≡ true → Fit (record r { request = request.WriteAgain })
+fit_again r f o w = search (rules, o, f.writing, w)
+
+pub fit_being_written : (home : Backing) (r : Record) → Fit r → is_some r.owner ≡ true → r.changed ≡ true → is_backed home ≡ true → Fit (being_written home r)
+fit_being_written home r f o c b = search (rules, f.shown, c, b)
+
+pub fit_read_done : (r : Record) → Fit r → is_some r.owner ≡ true → is_read r.request ≡ true → Fit (read_done r)
+fit_read_done r f o q = search (rules, o, f.reading, f.clean, q)
+
+pub fit_write_done : (r : Record) → Fit r → is_some r.owner ≡ true → is_write r.request ≡ true → Fit (write_done r)
+fit_write_done r f o w = elim (is_again r.request) as (λ b. Fit (cond b (record r { request = request.None; backing = without_slot r.backing }) (record r { request = request.None; changed = false }))) [
+  | true ↦ search (rules, o, f.writing, w, slot_without r.backing)
+  | false ↦ search (rules, o, f.writing, w)
+]
+
+pub fit_write_lost : (r : Record) → Fit r → is_some r.owner ≡ true → is_write r.request ≡ true → Fit (write_lost r)
+fit_write_lost r f o w = search (rules, o, f.writing, w, slot_without r.backing)
+
+-- ---- what is seen of one frame: its record, and how often it stands on each list. What changes of lists and records do to it
 
 pub same_sight : {w w' : Record} {i i' z z' u u' s s' m m' q q' : ℕ} → w ≡ w' → i ≡ i' → z ≡ z' → u ≡ u' → s ≡ s' → m ≡ m' → q ≡ q' →
     ◌≡◌ {A = Sight} (record { what = w; inside = i; zeroed = z; free = u; standby = s; modified = m; flight = q }) (record { what = w'; inside = i'; zeroed = z'; free = u'; standby = s'; modified = m'; flight = q' })
@@ -22,11 +74,7 @@ kept_inside d f e = elim (cases_lt f (length d.records)) [
 ]
 
 pub is_inside : (d : FrameTable) (f : ℕ) → 1 ≤ one_if (nat_lt f (length d.records)) → f < length d.records
-is_inside d f h = ltb-true f (length d.records) (at (nat_lt f (length d.records)) h)
-  where
-    at : (b : Bool) → 1 ≤ one_if b → b ≡ true
-    at true h = refl
-    at false h = absurd (omega arith)
+is_inside d f h = ltb-true f (length d.records) (one_only_if (nat_lt f (length d.records)) h)
 
 -- ---- what is known of a frame by the list that it is on
 

@@ -7,7 +7,7 @@ use Rattle.std.specs.Cmp.{unsigned_Decides}
 use Rattle.mm_types.specs.{Key, Record, Held}
 use Rattle.mm_life.specs.{FrameTable, record_at, slot_of, same_key, changed, slot_at, freed}
 use Rattle.mm_laws.specs.{Holder, Home, Behind, holding, Sight, SlotsHeld}
-use Rattle.mm_laws.proofs.Changes.{Changes}
+use Rattle.mm_laws.proofs.Taking.{Changes}
 use Rattle.mm_laws.proofs.Owners.{key_or_not, changed_here, changed_else}
 
 pub holder_or_not : (g h : Holder) → (g ≡ h) ⊎ (g ≢ h)

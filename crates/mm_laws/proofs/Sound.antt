@@ -1,16 +1,18 @@
 -- What holds of each state that a replay reaches, and what moves of one frame keep of it.
 use Rattle.std.proofs.Common.{◌≡◌, ℕ, ◌+◌, ◌≤◌, Bool, true, false, List, [], ◌∷◌, ◌++◌, length, Option, Some, None, refl, sym, ap, ◌∙◌, inl, inr, arith, length-append}
-use Rattle.std.specs.Prelude.{is_some, nat_lt, option_map, unwrap_or}
-use Rattle.std.proofs.lemmas.Bool.{ltb-false}
+use Rattle.std.specs.Prelude.{is_some, nat_lt, option_map, unwrap_or, ◌&&◌, ◌||◌}
+use Rattle.std.proofs.lemmas.Bool.{ltb-false, ltb-true}
 use Rattle.mm_types.specs.{Key, Record, Held}
-use Rattle.mm_life.specs.{FrameTable, record_at, without, FrameLife, same_key, changed, is_access, is_call, owner_is}
-use Rattle.mm_laws.specs.{holding, is_backing_for, Fit, owner_at, Owned, SlotsHeld, Homed}
+use Rattle.mm_types.proofs.Booleans.{not_true}
+use Rattle.mm_types.proofs.Options.{some_found, none_of}
+use Rattle.mm_life.specs.{FrameTable, record_at, without, FrameLife, same_key, changed, is_access, is_call, owner_is, is_first, is_empty, is_stored}
+use Rattle.mm_life.specs.{is_thread, is_writer, is_on, has_depth, may_write_block}
+use Rattle.mm_laws.specs.{holding, is_backing_for, Fit, owner_at, Owned, SlotsHeld, Homed, may_begin}
 use Rattle.mm_laws.specs.Sound.{Sound}
 use Rattle.mm_laws.proofs.Tallies.{length-without}
-use Rattle.mm_laws.proofs.Changes.{Changes, stands_kept}
-use Rattle.mm_laws.proofs.Owners.{owned_same}
+use Rattle.mm_laws.proofs.Taking.{Changes, stands_kept}
+use Rattle.mm_laws.proofs.Owners.{owned_same, homed_frame}
 use Rattle.mm_laws.proofs.PlaceCounts.{shown_same}
-use Rattle.mm_laws.proofs.KeyCounts.{homed_frame}
 
 -- the owner, if any, that passes a test
 pub record OwnerPasses (test : Key → Bool) (r : Record) : Type 0 where
@@ -26,18 +28,10 @@ owner_passes test r e = at r.owner refl e
     at (Some k) h e = record { key = k; is = h; passes = e }
 
 pub some_owner : (r : Record) → is_some r.owner ≡ true → (k : Key) × (r.owner ≡ Some k)
-some_owner r e = at r.owner refl e
-  where
-    at : (o : Option Key) → r.owner ≡ o → is_some o ≡ true → (k : Key) × (r.owner ≡ Some k)
-    at None h e = cc
-    at (Some k) h e = (k, h)
+some_owner r e = some_found r.owner e
 
 pub no_owner : (r : Record) → is_some r.owner ≡ false → r.owner ≡ None
-no_owner r e = at r.owner refl e
-  where
-    at : (o : Option Key) → r.owner ≡ o → is_some o ≡ false → r.owner ≡ None
-    at None h e = h
-    at (Some k) h e = cc
+no_owner r e = none_of r.owner e
 
 pub ended_few : (q : List ℕ) (f : ℕ) → length (without f q) ≤ length q
 ended_few q f = let h = length-without f q in omega (arith, h)
@@ -45,13 +39,53 @@ ended_few q f = let h = length-without f q in omega (arith, h)
 pub begun_long : (q : List ℕ) (f : ℕ) → length (q ++ f ∷ []) ≡ length q + 1
 begun_long q f = let h = length-append q (f ∷ []) in omega (arith, h)
 
+-- ---- what begins a request may begin one
+
+begin_thread : (x a c t w d : Bool) → (x && (a || (t && d))) ≡ true → ((a || c) || ((t || w) && d)) ≡ true
+begin_thread true true c t w d e = refl
+begin_thread true false true t w d e = refl
+begin_thread true false false true w true e = refl
+begin_thread _ _ _ _ _ _ e = cc
+
+begin_writer : (x a c t w d : Bool) → (x && (a || (w && d))) ≡ true → ((a || c) || ((t || w) && d)) ≡ true
+begin_writer true true c t w d e = refl
+begin_writer true false true t w d e = refl
+begin_writer true false false true true true e = refl
+begin_writer true false false false true true e = refl
+begin_writer _ _ _ _ _ _ e = cc
+
+begin_block : (x on a c t w d : Bool) → (x && (((on && a) || (on && w && d)) || c)) ≡ true → ((a || c) || ((t || w) && d)) ≡ true
+begin_block true on true c t w d e = refl
+begin_block true on false true t w d e = refl
+begin_block true true false false true true true e = refl
+begin_block true true false false false true true e = refl
+begin_block _ _ _ _ _ _ _ e = cc
+
+in_depth : (a c x d : Bool) → ((a || c) || (x && d)) ≡ true → a ≡ false → c ≡ false → d ≡ true
+in_depth false false true true e f g = refl
+in_depth _ _ _ _ e f g = cc
+
+module _ (l : FrameLife) where
+  pub begins_read : (f : ℕ) (k : Key) → (((is_first f l.frames.free || (is_empty l.frames.free && is_first f l.frames.zeroed)) && is_stored (l.stands k)) && (is_access l.kind || (is_thread l.kind && has_depth l))) ≡ true → may_begin l ≡ true
+  begins_read f k h = begin_thread _ (is_access l.kind) (is_call l.kind) (is_thread l.kind) (is_writer l.kind) (has_depth l) h
+
+  pub begins_slot : (a : Bool) → (a && (is_access l.kind || (is_writer l.kind && has_depth l))) ≡ true → may_begin l ≡ true
+  begins_slot a h = begin_writer a (is_access l.kind) (is_call l.kind) (is_thread l.kind) (is_writer l.kind) (has_depth l) h
+
+  pub begins_block : (a : Bool) (f : ℕ) → (a && may_write_block l f) ≡ true → may_begin l ≡ true
+  begins_block a f h = begin_block a (is_on f l.frames.modified) (is_access l.kind) (is_call l.kind) (is_thread l.kind) (is_writer l.kind) (has_depth l) h
+
+  -- and is within the depth, but in a plain access or a call
+  pub begun_few : (f : ℕ) → may_begin l ≡ true → is_access l.kind ≡ false → is_call l.kind ≡ false → length (l.flight ++ f ∷ []) ≤ l.machine.depth
+  begun_few f h a c =
+      let deep = in_depth (is_access l.kind) (is_call l.kind) _ (has_depth l) h a c in
+      omega (arith, ltb-true (length l.flight) l.machine.depth deep, begun_long l.flight f)
+
 -- no shares where there is no owner
 pub orphan_unshared : (r : Record) → Fit r → r.owner ≡ None → r.shares ≡ 0
-orphan_unshared r f o = at (nat_lt 0 r.shares) refl
-  where
-    at : (b : Bool) → nat_lt 0 r.shares ≡ b → r.shares ≡ 0
-    at true e = let h = f.shown e in let bad : false ≡ true = sym (ap is_some o) ∙ h in cc
-    at false e = let h = ltb-false 0 r.shares e in omega (arith, h)
+orphan_unshared r f o =
+    let none = not_true (nat_lt 0 r.shares) (λ e. let bad : false ≡ true = sym (ap is_some o) ∙ f.shown e in cc) in
+    omega (arith, ltb-false 0 r.shares none)
 
 -- ---- a move that changes one frame, and neither its owner nor its shares
 

@@ -4,7 +4,6 @@ use Rattle.std.specs.Prelude.{◌==◌, nat_lt, count_by, slice_index_or}
 use Rattle.std.specs.Cmp.{unsigned_Decides}
 use Rattle.std.proofs.lemmas.List.Sums.{sum_by-cons}
 use Rattle.std.proofs.lemmas.Bool.{cases_lt, lt-ltb, le-ltb}
-use Rattle.mm_types.proofs.Cells.{same_or_not}
 use Rattle.mm_types.specs.{Frame}
 use Rattle.mm_laws.specs.{one_if, tally, times, sum_to, total, is_frame}
 use Rattle.std.proofs.lemmas.Bool.Decides.{nat_tests}
@@ -48,9 +47,8 @@ sum-front h (suc n) = let a = sum-front h n in omega (arith, a)
 pub sum-one : (x n : ℕ) → sum_to (λ f. one_if (x == f)) n ≡ one_if (nat_lt x n)
 sum-one x zero = ap one_if (sym (le-ltb x 0 (omega arith)))
 sum-one x (suc n) =
-    let a = sum-one x n in
     let step : one_if (x == n) + one_if (nat_lt x n) ≡ one_if (nat_lt x (suc n)) = grind (arith, nat_tests) in
-    omega (arith, a, step)
+    omega (arith, sum-one x n, step)
 
 pub sum-alone : (x n : ℕ) → sum_to (λ f. one_if (x == f)) n ≤ 1
 sum-alone x n = let a = sum-one x n in let b = one_most (nat_lt x n) in omega (arith, a, b)
@@ -77,10 +75,7 @@ sum-times (x ∷ xs) n low =
 -- two sums in either order
 pub sum-swap : (h : ℕ → ℕ → ℕ) (m n : ℕ) → sum_to (λ s. sum_to (h s) n) m ≡ sum_to (λ f. sum_to (λ s. h s f) m) n
 sum-swap h zero n = sym (sum-zeros n)
-sum-swap h (suc m) n =
-    let a = sum-swap h m n in
-    let b = sum-plus (λ f. sum_to (λ s. h s f) m) (h m) n in
-    omega (arith, a, b)
+sum-swap h (suc m) n = omega (arith, sum-swap h m n, sum-plus (λ f. sum_to (λ s. h s f) m) (h m) n)
 
 -- ---- over the elements of a list
 
@@ -105,10 +100,7 @@ module _ {A : Type 0} where
   pub total-listed : (same : A → A → Bool) (self : (x : A) → same x x ≡ true) (h k : A → ℕ) (xs : List A) → ((x : A) → 1 ≤ tally (same x) xs → h x ≡ k x) → total h xs ≡ total k xs
   total-listed same self h k [] e = refl
   total-listed same self h k (x ∷ xs) e =
-      let one : one_if (same x x) ≡ 1 = ap one_if (self x) in
-      let here = e x (omega (arith, one)) in
-      let rest = total-listed same self h k xs (λ y l. e y (omega (arith, l))) in
-      omega (arith, here, rest)
+      omega (arith, e x (omega (arith, ap one_if (self x))), total-listed same self h k xs (λ y l. e y (omega (arith, l))))
 
   -- a sum of tallies is one total of sums
   pub sum-tally : (p : ℕ → A → Bool) (xs : List A) (n : ℕ) → sum_to (λ f. tally (p f) xs) n ≡ total (λ x. sum_to (λ f. one_if (p f x)) n) xs

@@ -24,10 +24,8 @@ module _ {A : Type 0} where
   tally-but same p q [] none agree = refl
   tally-but same p q (x ∷ xs) none agree =
       let low : tally same xs ≡ 0 = omega arith in
-      let h = tally-but same p q xs low agree in
       let e : p x ≡ q x = agree x (unless (same x) (omega arith)) in
-      let here : one_if (p x) ≡ one_if (q x) = ap one_if e in
-      omega (arith, h, here)
+      omega (arith, tally-but same p q xs low agree, ap one_if e)
     where
       unless : (b : Bool) → one_if b ≡ 0 → b ≡ false
       unless true e = absurd (omega arith)
@@ -98,11 +96,8 @@ pub length-without : (f : ℕ) (xs : List ℕ) → length (without f xs) + times
 length-without f xs = length-left (λ x. x == f) xs
 
 pub times-numbers : (count n f : ℕ) → times f (numbers_from n count) + one_if (nat_lt f n) ≡ one_if (nat_lt f (n + count))
-times-numbers zero n f =
-    let e : one_if (nat_lt f n) ≡ one_if (nat_lt f (n + 0)) = ap (λ (k : ℕ). one_if (nat_lt f k)) (omega arith) in
-    omega (arith, e)
+times-numbers zero n f = let e : one_if (nat_lt f n) ≡ one_if (nat_lt f (n + 0)) = ap (λ (k : ℕ). one_if (nat_lt f k)) (omega arith) in omega (arith, e)
 times-numbers (suc count) n f =
-    let h = times-numbers count (n + 1) f in
     let e : one_if (nat_lt f (n + 1 + count)) ≡ one_if (nat_lt f (n + suc count)) = ap (λ (k : ℕ). one_if (nat_lt f k)) (omega arith) in
     let step : one_if (n == f) + one_if (nat_lt f n) ≡ one_if (nat_lt f (n + 1)) = grind (arith, nat_tests) in
-    omega (arith, h, e, step)
+    omega (arith, times-numbers count (n + 1) f, e, step)

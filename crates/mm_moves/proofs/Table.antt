@@ -79,3 +79,14 @@ entry_count n = elim (entry_of n) [
   | IsTwo more low e ↦ (omega (arith, ap (λ (t : List ℕ). get_or t 3 0) e), omega (arith, ap (λ (t : List ℕ). get_or t 3 0) e))
   | IsThree high e ↦ (omega (arith, ap (λ (t : List ℕ). get_or t 3 0) e), omega (arith, ap (λ (t : List ℕ). get_or t 3 0) e))
 ]
+
+-- the last two digits of a number of three, of which the first is 1
+pub pair_entry : (n : ℕ) → n < 100 → (get_or (few_entry (100 + n)) 1 0 ≡ glyph (n / 10)) × (get_or (few_entry (100 + n)) 2 0 ≡ glyph (n % 10))
+pair_entry n low = elim (entry_of (100 + n)) [
+  | IsOne few e ↦ absurd (omega arith)
+  | IsTwo more few e ↦ absurd (omega arith)
+  | IsThree high e ↦
+      let first : (100 + n) % 100 / 10 ≡ n / 10 = omega arith in
+      let second : (100 + n) % 100 % 10 ≡ n % 10 = omega arith in
+      (ap (λ (t : List ℕ). get_or t 1 0) e ∙ ap glyph first, ap (λ (t : List ℕ). get_or t 2 0) e ∙ ap glyph second)
+]

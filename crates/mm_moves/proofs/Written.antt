@@ -62,22 +62,6 @@ decimal_more n high low =
     ∙ room_more 18 (n / 10) (glyph (n % 10) ∷ []) (below_power 19 n (omega arith))
     ∙ sym (onto_append 20 (n / 10) [] (glyph (n % 10) ∷ []))
 
--- the last four digits apart from those before them
-pub decimal_pieces : (n : ℕ) → 10000 ≤ n → n < 2 ^ 32 → decimal n ≡ decimal (n / 10 / 10 / 10 / 10) ++ glyph (n / 10 / 10 / 10 % 10) ∷ glyph (n / 10 / 10 % 10) ∷ glyph (n / 10 % 10) ∷ glyph (n % 10) ∷ []
-decimal_pieces n high low =
-    let a = glyph (n % 10) ∷ [] in
-    let b = glyph (n / 10 % 10) ∷ [] in
-    let c = glyph (n / 10 / 10 % 10) ∷ [] in
-    let d = glyph (n / 10 / 10 / 10 % 10) ∷ [] in
-    let front = decimal (n / 10 / 10 / 10 / 10) in
-    decimal_more n (omega arith) low
-    ∙ ap (λ t. t ++ a) (decimal_more (n / 10) (omega arith) (omega arith))
-    ∙ ap (λ t. (t ++ b) ++ a) (decimal_more (n / 10 / 10) (omega arith) (omega arith))
-    ∙ ap (λ t. ((t ++ c) ++ b) ++ a) (decimal_more (n / 10 / 10 / 10) (omega arith) (omega arith))
-    ∙ append_assoc ((front ++ d) ++ c) b a
-    ∙ append_assoc (front ++ d) c (b ++ a)
-    ∙ append_assoc front d (c ++ (b ++ a))
-
 -- the last two
 pub decimal_pair : (n : ℕ) → 100 ≤ n → n < 2 ^ 32 → decimal n ≡ decimal (n / 10 / 10) ++ glyph (n / 10 % 10) ∷ glyph (n % 10) ∷ []
 decimal_pair n high low =
@@ -87,58 +71,35 @@ decimal_pair n high low =
     ∙ ap (λ t. t ++ a) (decimal_more (n / 10) (omega arith) (omega arith))
     ∙ append_assoc (decimal (n / 10 / 10)) b a
 
-front_then_two : (n : ℕ) (old : Text) → 100 ≤ n → n < 2 ^ 32 → (old ++ decimal (n / 10 / 10)) ++ glyph (n / 10 % 10) ∷ glyph (n % 10) ∷ [] ≡ old ++ decimal n
-front_then_two n old high low =
-    append_assoc old (decimal (n / 10 / 10)) (glyph (n / 10 % 10) ∷ glyph (n % 10) ∷ []) ∙ ap (λ t. old ++ t) (sym (decimal_pair n high low))
+-- ---- the digits by pairs
 
-front_then_four : (n : ℕ) (old : Text) → 10000 ≤ n → n < 2 ^ 32 → (old ++ decimal (n / 10 / 10 / 10 / 10)) ++ glyph (n / 10 / 10 / 10 % 10) ∷ glyph (n / 10 / 10 % 10) ∷ glyph (n / 10 % 10) ∷ glyph (n % 10) ∷ [] ≡ old ++ decimal n
-front_then_four n old high low =
-    append_assoc old (decimal (n / 10 / 10 / 10 / 10)) (glyph (n / 10 / 10 / 10 % 10) ∷ glyph (n / 10 / 10 % 10) ∷ glyph (n / 10 % 10) ∷ glyph (n % 10) ∷ [])
-    ∙ ap (λ t. old ++ t) (sym (decimal_pieces n high low))
-
--- two and three digits
-pub decimal_two : (n : ℕ) → 10 ≤ n → n < 100 → decimal n ≡ glyph (n / 10) ∷ glyph (n % 10) ∷ []
-decimal_two n high low =
-    decimal_more n high (omega arith) ∙ ap (λ t. t ++ glyph (n % 10) ∷ []) (decimal_one (n / 10) (omega arith))
-
-pub decimal_three : (n : ℕ) → 100 ≤ n → n < 1000 → decimal n ≡ glyph (n / 10 / 10) ∷ glyph (n / 10 % 10) ∷ glyph (n % 10) ∷ []
-decimal_three n high low =
-    decimal_more n (omega arith) (omega arith) ∙ ap (λ t. t ++ glyph (n % 10) ∷ []) (decimal_two (n / 10) (omega arith) (omega arith))
-
--- the digits by pairs
-pub three_by_pair : (n : ℕ) → 100 ≤ n → n < 1000 → decimal n ≡ glyph (n / 100) ∷ glyph (n % 100 / 10) ∷ glyph (n % 100 % 10) ∷ []
-three_by_pair n high low =
-    let a : n / 10 / 10 ≡ n / 100 = omega arith in
-    let b : n / 10 % 10 ≡ n % 100 / 10 = omega arith in
-    let c : n % 10 ≡ n % 100 % 10 = omega arith in
-    decimal_three n high low
-    ∙ ap (λ x. glyph x ∷ glyph (n / 10 % 10) ∷ glyph (n % 10) ∷ []) a
-    ∙ ap (λ x. glyph (n / 100) ∷ glyph x ∷ glyph (n % 10) ∷ []) b
-    ∙ ap (λ x. glyph (n / 100) ∷ glyph (n % 100 / 10) ∷ glyph x ∷ []) c
+abbrev pair : ℕ → Text
+pair k = glyph (k / 10) ∷ glyph (k % 10) ∷ []
 
 pub front_then_pair : (n : ℕ) (old : Text) → 100 ≤ n → n < 2 ^ 32 → (old ++ decimal (n / 100)) ++ glyph (n % 100 / 10) ∷ glyph (n % 100 % 10) ∷ [] ≡ old ++ decimal n
 front_then_pair n old high low =
     let a : n / 100 ≡ n / 10 / 10 = omega arith in
     let b : n % 100 / 10 ≡ n / 10 % 10 = omega arith in
     let c : n % 100 % 10 ≡ n % 10 = omega arith in
-    ap (λ x. (old ++ decimal x) ++ glyph (n % 100 / 10) ∷ glyph (n % 100 % 10) ∷ []) a
-    ∙ ap (λ x. (old ++ decimal (n / 10 / 10)) ++ glyph x ∷ glyph (n % 100 % 10) ∷ []) b
-    ∙ ap (λ x. (old ++ decimal (n / 10 / 10)) ++ glyph (n / 10 % 10) ∷ glyph x ∷ []) c
-    ∙ front_then_two n old high low
+    append_assoc old (decimal (n / 100)) (pair (n % 100))
+    ∙ ap (λ t. old ++ t) (
+    ap (λ x. decimal x ++ pair (n % 100)) a
+    ∙ ap (λ x. decimal (n / 10 / 10) ++ glyph x ∷ glyph (n % 100 % 10) ∷ []) b
+    ∙ ap (λ x. decimal (n / 10 / 10) ++ glyph (n / 10 % 10) ∷ glyph x ∷ []) c
+    ∙ sym (decimal_pair n high low)
+    )
 
-pub front_then_pairs : (n : ℕ) (old : Text) → 10000 ≤ n → n < 2 ^ 32 → (old ++ decimal (n / 10000)) ++ glyph (n % 10000 / 100 / 10) ∷ glyph (n % 10000 / 100 % 10) ∷ glyph (n % 10000 % 100 / 10) ∷ glyph (n % 10000 % 100 % 10) ∷ [] ≡ old ++ decimal n
-front_then_pairs n old high low =
-    let front : Text = old ++ decimal (n / 10 / 10 / 10 / 10) in
-    let z : n / 10000 ≡ n / 10 / 10 / 10 / 10 = omega arith in
-    let a : n % 10000 / 100 / 10 ≡ n / 10 / 10 / 10 % 10 = omega arith in
-    let b : n % 10000 / 100 % 10 ≡ n / 10 / 10 % 10 = omega arith in
-    let c : n % 10000 % 100 / 10 ≡ n / 10 % 10 = omega arith in
-    let d : n % 10000 % 100 % 10 ≡ n % 10 = omega arith in
-    ap (λ x. (old ++ decimal x) ++ glyph (n % 10000 / 100 / 10) ∷ glyph (n % 10000 / 100 % 10) ∷ glyph (n % 10000 % 100 / 10) ∷ glyph (n % 10000 % 100 % 10) ∷ []) z
-    ∙ ap (λ x. front ++ glyph x ∷ glyph (n % 10000 / 100 % 10) ∷ glyph (n % 10000 % 100 / 10) ∷ glyph (n % 10000 % 100 % 10) ∷ []) a
-    ∙ ap (λ x. front ++ glyph (n / 10 / 10 / 10 % 10) ∷ glyph x ∷ glyph (n % 10000 % 100 / 10) ∷ glyph (n % 10000 % 100 % 10) ∷ []) b
-    ∙ ap (λ x. front ++ glyph (n / 10 / 10 / 10 % 10) ∷ glyph (n / 10 / 10 % 10) ∷ glyph x ∷ glyph (n % 10000 % 100 % 10) ∷ []) c
-    ∙ ap (λ x. front ++ glyph (n / 10 / 10 / 10 % 10) ∷ glyph (n / 10 / 10 % 10) ∷ glyph (n / 10 % 10) ∷ glyph x ∷ []) d
-    ∙ front_then_four n old high low
+-- the same, where the digits in front are told by another number
+pub front_told : (n k : ℕ) (old : Text) → k ≡ n / 100 → 100 ≤ n → n < 2 ^ 32 → (old ++ decimal k) ++ glyph (n % 100 / 10) ∷ glyph (n % 100 % 10) ∷ [] ≡ old ++ decimal n
+front_told n k old e high low = ap (λ (x : ℕ). (old ++ decimal x) ++ pair (n % 100)) e ∙ front_then_pair n old high low
+
+-- two and three digits
+pub decimal_two : (n : ℕ) → 10 ≤ n → n < 100 → decimal n ≡ glyph (n / 10) ∷ glyph (n % 10) ∷ []
+decimal_two n high low =
+    decimal_more n high (omega arith) ∙ ap (λ t. t ++ glyph (n % 10) ∷ []) (decimal_one (n / 10) (omega arith))
+
+pub three_by_pair : (n : ℕ) → 100 ≤ n → n < 1000 → decimal n ≡ glyph (n / 100) ∷ glyph (n % 100 / 10) ∷ glyph (n % 100 % 10) ∷ []
+three_by_pair n high low =
+    sym (front_then_pair n [] high (omega arith)) ∙ ap (λ t. t ++ pair (n % 100)) (decimal_one (n / 100) (omega arith))
 
 pub ruleset written = (front_then_pair, append_assoc, length-append)

@@ -1,5 +1,7 @@
 pub mod Few
+pub mod Lines
 pub mod Recorded
 pub use Few.{few_entry}
+pub use Lines.{Puts}
 pub use Recorded.{FailsExactly, IsCut, WroteOrCut}
 pub use declared.recorders.Moves.{Ghosts}

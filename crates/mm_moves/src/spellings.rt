@@ -1,51 +1,18 @@
 ghost use Rattle.std.specs.Prelude.{◌≡◌, ◌≤◌, ◌<◌, ◌+◌, ◌^◌, ◌∷◌, ◌++◌, [], List, ℕ, length, take};
 ghost use Rattle.std.specs.Prelude.{◌/◌, ◌%◌, slice_index};
 ghost use Rattle.mm_types.specs.{glyph, decimal};
-ghost use Rattle.mm_life.specs.{numbered, place_onto, key_onto, kind_onto, stored_onto, home_onto, move_onto, spelling_of_move, IsKey, IsPlace};
-ghost use Rattle.mm_life.specs.{IsKind, IsStored, IsBlock, IsMove};
+ghost use Rattle.mm_life.specs.{numbered, place_onto, key_onto, kind_onto, move_onto, spelling_of_move, IsKey, IsPlace, IsKind, IsMove};
 ghost use Rattle.mm_moves.specs.Few.{few_entry};
+ghost use Rattle.mm_moves.specs.Lines.{Puts};
 
 use mm_text::LineBuf;
-use mm_types::{Block, Frame, Key, LineKind, Move, Place, Stored};
+use mm_types::{Frame, Key, LineKind, Move, Place, Stored};
 
 /// Room for the line of a move, of at most 66 bytes, and for what is stored past its end.
 pub(crate) type Line = [u8; 80];
 
 /// Room in which nothing stands yet.
 pub(crate) const EMPTY: Line = [0; 80];
-
-/// The two digits of each number below 100, one number after another.
-#[rattlefmt::skip]
-static PAIRS: [u8; 200] = [
-    48, 48, 48, 49, 48, 50, 48, 51, 48, 52, 48, 53, 48, 54, 48, 55, 48, 56, 48, 57, // 00 to 09
-    49, 48, 49, 49, 49, 50, 49, 51, 49, 52, 49, 53, 49, 54, 49, 55, 49, 56, 49, 57, // 10 to 19
-    50, 48, 50, 49, 50, 50, 50, 51, 50, 52, 50, 53, 50, 54, 50, 55, 50, 56, 50, 57, // 20 to 29
-    51, 48, 51, 49, 51, 50, 51, 51, 51, 52, 51, 53, 51, 54, 51, 55, 51, 56, 51, 57, // 30 to 39
-    52, 48, 52, 49, 52, 50, 52, 51, 52, 52, 52, 53, 52, 54, 52, 55, 52, 56, 52, 57, // 40 to 49
-    53, 48, 53, 49, 53, 50, 53, 51, 53, 52, 53, 53, 53, 54, 53, 55, 53, 56, 53, 57, // 50 to 59
-    54, 48, 54, 49, 54, 50, 54, 51, 54, 52, 54, 53, 54, 54, 54, 55, 54, 56, 54, 57, // 60 to 69
-    55, 48, 55, 49, 55, 50, 55, 51, 55, 52, 55, 53, 55, 54, 55, 55, 55, 56, 55, 57, // 70 to 79
-    56, 48, 56, 49, 56, 50, 56, 51, 56, 52, 56, 53, 56, 54, 56, 55, 56, 56, 56, 57, // 80 to 89
-    57, 48, 57, 49, 57, 50, 57, 51, 57, 52, 57, 53, 57, 54, 57, 55, 57, 56, 57, 57, // 90 to 99
-];
-
-/// The first of the two digits of a number below 100.
-#[inline(always)]
-fn tens(n: u32) -> u8
-    requires { n < 100 }
-    ensures { result ≡ glyph (n / 10) }
-{
-    PAIRS[2 * n as usize]
-}
-
-/// The second of the two digits of a number below 100.
-#[inline(always)]
-fn ones(n: u32) -> u8
-    requires { n < 100 }
-    ensures { result ≡ glyph (n % 10) }
-{
-    PAIRS[2 * n as usize + 1]
-}
 
 /// The digits of each number below 1,000, filled up to three, and how many they are as a digit too.
 #[rattlefmt::skip]
@@ -122,9 +89,8 @@ fn put_byte(out: &mut Line, at: usize, byte: u8) -> usize
     at + 1
 }
 
-/// Writes the two digits of a number below 100.
+/// Writes the two digits of a number below 100: the last two of the number that is 100 more.
 #[inline(always)]
-#[tactic(auto, using(crate::proofs::Written::written))]
 fn put_pair(out: &mut Line, at: usize, n: u32) -> usize
     requires few { n < 100 }
     requires room { at + 2 ≤ 80 }
@@ -132,8 +98,8 @@ fn put_pair(out: &mut Line, at: usize, n: u32) -> usize
         ≡ take at out.old ++ glyph (n / 10) ∷ glyph (n % 10) ∷ [] }
     ensures end { result ≡ at + 2 }
 {
-    let next = put_byte(out, at, tens(n));
-    put_byte(out, next, ones(n))
+    let next = put_byte(out, at, few_byte(100 + n, 1));
+    put_byte(out, next, few_byte(100 + n, 2))
 }
 
 /// Writes a number of at most three digits. Three bytes are stored whatever the number: what stands
@@ -168,23 +134,6 @@ fn put_short(out: &mut Line, at: usize, n: u32) -> usize
     }
 }
 
-/// Writes a number of at most seven digits.
-#[inline(always)]
-#[tactic(auto, using(crate::proofs::Written::written))]
-fn put_front(out: &mut Line, at: usize, n: u32) -> usize
-    requires few { n < 10000000 }
-    requires room { at + 7 ≤ 80 }
-    ensures text { take result out.new ≡ take at out.old ++ decimal n }
-    ensures few { result ≤ at + 7 }
-{
-    if n < 100000 {
-        put_short(out, at, n)
-    } else {
-        let next = put_short(out, at, n / 100);
-        put_pair(out, next, n % 100)
-    }
-}
-
 /// Writes a number of four digits or more.
 #[inline(never)]
 #[tactic(auto, using(crate::proofs::Written::written))]
@@ -196,10 +145,14 @@ fn put_many(out: &mut Line, at: usize, n: u32) -> usize
 {
     if n < 100000 {
         put_short(out, at, n)
+    } else if n < 10000000 {
+        let next = put_short(out, at, n / 100);
+        put_pair(out, next, n % 100)
     } else {
-        let third = put_front(out, at, n / 10000);
-        let last = put_pair(out, third, n % 10000 / 100);
-        put_pair(out, last, n % 10000 % 100)
+        let third = put_short(out, at, n / 1000000);
+        let second = put_pair(out, third, n / 10000 % 100);
+        let last = put_pair(out, second, n / 100 % 100);
+        put_pair(out, last, n % 100)
     }
 }
 
@@ -235,9 +188,7 @@ fn put_bytes(out: &mut Line, at: usize, bytes: &[u8]) -> usize
 #[tactic(auto, using(mm_text::proofs::Lines::steps))]
 fn put_numbered(out: &mut Line, at: usize, word: &[u8], n: u32) -> usize
     requires { at + length word.now + 11 ≤ 80 }
-    ensures text { (behind : List ℕ) →
-        take result out.new ++ behind ≡ take at out.old ++ numbered word.now n behind }
-    ensures few { result ≤ at + length word.now + 10 }
+    ensures put { Puts out.old at out.new result (length word.now + 10) (numbered word.now n) }
 {
     let next = put_bytes(out, at, word);
     put_number(out, next, n)
@@ -248,9 +199,7 @@ fn put_numbered(out: &mut Line, at: usize, word: &[u8], n: u32) -> usize
 #[tactic(auto, using(mm_text::proofs::DigitCounts::joined))]
 fn put_words(out: &mut Line, at: usize, words: &[u8]) -> usize
     requires { at + length words.now ≤ 80 }
-    ensures text { (behind : List ℕ) →
-        take result out.new ++ behind ≡ take at out.old ++ (words.now ++ behind) }
-    ensures few { result ≤ at + length words.now }
+    ensures put { Puts out.old at out.new result (length words.now) (λ b. words.now ++ b) }
 {
     put_bytes(out, at, words)
 }
@@ -259,9 +208,8 @@ fn put_words(out: &mut Line, at: usize, words: &[u8]) -> usize
 #[inline(always)]
 fn put_frame(out: &mut Line, at: usize, word: &[u8], frame: Frame) -> usize
     requires { at + length word.now + 11 ≤ 80 }
-    ensures text { (behind : List ℕ) →
-        take result out.new ++ behind ≡ take at out.old ++ numbered word.now frame.0 behind }
-    ensures few { result ≤ at + length word.now + 10 }
+    ensures put { Puts out.old at out.new result (length word.now + 10)
+        (numbered word.now frame.0) }
     ensures in_range { frame.0 < 2 ^ 32 }
 {
     put_numbered(out, at, word, frame.0)
@@ -270,9 +218,7 @@ fn put_frame(out: &mut Line, at: usize, word: &[u8], frame: Frame) -> usize
 #[inline(always)]
 fn put_place(out: &mut Line, at: usize, place: Place) -> usize
     requires { at + 22 ≤ 80 }
-    ensures text { (behind : List ℕ) →
-        take result out.new ++ behind ≡ take at out.old ++ place_onto place behind }
-    ensures few { result ≤ at + 21 }
+    ensures put { Puts out.old at out.new result 21 (place_onto place) }
     ensures in_range { IsPlace place }
 {
     let next = put_numbered(out, at, b"", u32::from(place.pid.0));
@@ -283,9 +229,7 @@ fn put_place(out: &mut Line, at: usize, place: Place) -> usize
 #[inline(always)]
 fn put_key(out: &mut Line, at: usize, key: Key) -> usize
     requires { at + 23 ≤ 80 }
-    ensures text { (behind : List ℕ) →
-        take result out.new ++ behind ≡ take at out.old ++ key_onto key behind }
-    ensures few { result ≤ at + 22 }
+    ensures put { Puts out.old at out.new result 22 (key_onto key) }
     ensures in_range { IsKey key }
 {
     match key {
@@ -303,9 +247,7 @@ fn put_key(out: &mut Line, at: usize, key: Key) -> usize
 #[inline(always)]
 fn put_kind(out: &mut Line, at: usize, kind: LineKind) -> usize
     requires { at + 52 ≤ 80 }
-    ensures text { (behind : List ℕ) →
-        take result out.new ++ behind ≡ take at out.old ++ kind_onto kind behind }
-    ensures few { result ≤ at + 51 }
+    ensures put { Puts out.old at out.new result 51 (kind_onto kind) }
     ensures in_range { IsKind kind }
 {
     match kind {
@@ -332,34 +274,6 @@ fn put_kind(out: &mut Line, at: usize, kind: LineKind) -> usize
     }
 }
 
-#[inline(always)]
-fn put_stored(out: &mut Line, at: usize, stored: Stored) -> usize
-    requires { at + 18 ≤ 80 }
-    ensures text { (behind : List ℕ) →
-        take result out.new ++ behind ≡ take at out.old ++ stored_onto stored behind }
-    ensures few { result ≤ at + 17 }
-    ensures in_range { IsStored stored }
-{
-    match stored {
-        Stored::Slot(slot) => put_numbered(out, at, b" slot ", slot.0),
-        Stored::Block(block) => put_numbered(out, at, b" block ", block.0),
-    }
-}
-
-#[inline(always)]
-fn put_home(out: &mut Line, at: usize, home: Option<Block>) -> usize
-    requires { at + 18 ≤ 80 }
-    ensures text { (behind : List ℕ) →
-        take result out.new ++ behind ≡ take at out.old ++ home_onto home behind }
-    ensures few { result ≤ at + 17 }
-    ensures in_range { IsBlock home }
-{
-    match home {
-        None => put_words(out, at, b" zero"),
-        Some(block) => put_numbered(out, at, b" block ", block.0),
-    }
-}
-
 /// Writes a move without its line feed.
 #[inline(always)]
 fn put_move(out: &mut Line, m: &Move) -> usize
@@ -376,7 +290,10 @@ fn put_move(out: &mut Line, m: &Move) -> usize
         Move::Add(key, home) => {
             let next = put_words(out, 0, b"add ");
             let next = put_key(out, next, key);
-            put_home(out, next, home)
+            match home {
+                None => put_words(out, next, b" zero"),
+                Some(block) => put_numbered(out, next, b" block ", block.0),
+            }
         }
         Move::Drop(key) => {
             let next = put_words(out, 0, b"drop ");
@@ -408,7 +325,10 @@ fn put_move(out: &mut Line, m: &Move) -> usize
         Move::Soil(frame) => put_frame(out, 0, b"soil ", frame),
         Move::Write(frame, stored) => {
             let next = put_frame(out, 0, b"write ", frame);
-            put_stored(out, next, stored)
+            match stored {
+                Stored::Slot(slot) => put_numbered(out, next, b" slot ", slot.0),
+                Stored::Block(block) => put_numbered(out, next, b" block ", block.0),
+            }
         }
         Move::Wrote(frame) => put_frame(out, 0, b"wrote ", frame),
         Move::Lost(frame) => put_frame(out, 0, b"lost ", frame),

@@ -5,7 +5,7 @@ use Rattle.std.proofs.Math.Logic.{∥∥₁_elim}
 use Rattle.std.proofs.Props.{props}
 use Rattle.std.specs.Cmp.{unsigned_Decides}
 use Rattle.std.specs.Prelude.{◌==◌, nat_lt, if◌then◌else◌, length, option_map, min, slice_get, slice_index_or, ◌^◌}
-use Rattle.mm_types.specs.{MachineOf, Backing, Record, Request, Move, Frame, Key, Place}
+use Rattle.mm_types.specs.{Backing, Record, Request, Move, Frame, Key, Place}
 use Rattle.mm_types.specs.declared.devices.Direction.TheVariants as way
 use Rattle.mm_types.specs.declared.frames.Backing.TheVariants as backing
 use Rattle.mm_types.specs.declared.frames.Request.TheVariants as request
@@ -19,15 +19,14 @@ use Rattle.mm_world.specs.{failed_calls}
 use Rattle.mm_pages.specs.{Done, CompletesAs, Completes, Passes, completed, fetched, Served, with_read, with_write}
 use Rattle.mm_pages.specs.declared.outcomes.Done.TheVariants as done
 use Rattle.mm_pages.specs.Told.{Told}
-use Rattle.mm_pages.proofs.{served_nothing}
 use Rattle.mm_parts.specs.{end_of_read, write_end, own_ended}
-use Rattle.mm_moving.specs.{StateOf, Made, SomeFault, moved_with_call, StateHolds}
-use Rattle.mm_moving.proofs.{does_one}
+use Rattle.mm_moving.specs.{StateOf, Made, SomeFault, DoesMoves, moved_with_call, StateHolds}
+use Rattle.mm_moving.proofs.{does_nothing, does_one}
 use Rattle.mm_paged.specs.{LifeKept, EndsOne, EndsAs, OwnOf, StoreKept, store_of, report_of, behind_of}
-use Rattle.mm_paged.proofs.Keeping.{blocks_kept, fetched_by, kept_within}
+use Rattle.mm_paged.proofs.Keeping.{called_on, called_store, kept_same, kept_within}
 use Rattle.mm_paged.proofs.Serving.{InLine, served_by}
 use Rattle.mm_paged.proofs.Shows.{passes_of, none_passes}
-use Rattle.mm_types.proofs.{less}
+use Rattle.mm_types.proofs.{get_within, less}
 use Rattle.mm_paged.proofs.Quiet.{kept_untouched}
 use Rattle.mm_reclaim.proofs.{one_some, fault_by}
 
@@ -44,8 +43,7 @@ ending_write r f false e = ap (λ (b : Bool). if b then move.Bad f else move.Los
 writes_else : (q : Request) → has_request q ≡ true → is_read q ≡ false → is_write q ≡ true
 writes_else request.None h r = cc
 writes_else request.Read h r = cc
-writes_else request.Write h r = refl
-writes_else request.WriteAgain h r = refl
+writes_else q h r = refl
 
 pub called_by_write : (s z : StateOf) (n : ℕ) → s.own ≡ None → z ≡ record (moved_with_call s z) { own = own_ended s.own n } → z ≡ moved_with_call s z
 called_by_write s z n o e = e ∙ ap (λ (x : Option Frame). record (moved_with_call s z) { own = x }) (ap (λ (x : Option Frame). own_ended x n) o ∙ sym o)
@@ -54,20 +52,8 @@ called_by_write s z n o e = e ∙ ap (λ (x : Option Frame). record (moved_with_
 
 get_times : (xs : List ℕ) (n f : ℕ) → slice_get xs n ≡ Some f → 1 ≤ times f xs
 get_times [] n f e = cc
-get_times (x ∷ xs) zero f e = let a : (x == f) ≡ true = (unsigned_Decides x f).1 (some_same x f e) in let b : one_if (x == f) ≡ 1 = ap one_if a in omega (arith, b)
-  where
-    some_same : (a b : ℕ) → Some a ≡ Some b → a ≡ b
-    some_same a b q = ap (λ (o : Option ℕ). get o) q
-      where
-        get : Option ℕ → ℕ
-        get None = 0
-        get (Some v) = v
+get_times (x ∷ xs) zero f e = let same : x ≡ f = cc in let a : (x == f) ≡ true = (unsigned_Decides x f).1 same in let b : one_if (x == f) ≡ 1 = ap one_if a in omega (arith, b)
 get_times (x ∷ xs) (suc n) f e = let a = get_times xs n f e in omega (arith, a)
-
-get_below : (xs : List ℕ) (n f : ℕ) → slice_get xs n ≡ Some f → n < length xs
-get_below [] n f e = cc
-get_below (x ∷ xs) zero f e = omega arith
-get_below (x ∷ xs) (suc n) f e = let a = get_below xs n f e in omega (arith, a)
 
 get_past : (xs : List ℕ) (n : ℕ) → slice_get xs n ≡ None → length xs ≤ n
 get_past [] n e = omega arith
@@ -95,10 +81,7 @@ flight_low s f h e = less f s.life.machine.frames (∥∥₁_elim h.reached (hle
 
 nth_back : (i n : ℕ) (xs : List ℕ) (o : Option ℕ) → 1 ≤ i → o ≡ nth_oldest i xs → slice_get xs (i - 1) ≡ o
 nth_back zero n xs o h e = absurd (omega (arith, h))
-nth_back (suc i) n xs o h e = ap (λ (k : ℕ). slice_get xs k) (back i) ∙ sym e
-  where
-    back : (i : ℕ) → suc i - 1 ≡ i
-    back i = omega arith
+nth_back (suc i) n xs o h e = let back : suc i - 1 ≡ i = omega arith in ap (λ (k : ℕ). slice_get xs k) back ∙ sym e
 
 pub nth_found : (i : ℕ) (xs : List ℕ) (r : Option Frame) (f : Frame) → 1 ≤ i → option_map (λ g. g.0) r ≡ nth_oldest i xs → r ≡ Some f → slice_get xs (i - 1) ≡ Some f.0
 nth_found i xs r f h e q = nth_back i 0 xs (Some f.0) h (sym (ap (λ (o : Option Frame). option_map (λ (g : Frame). g.0) o) q) ∙ e)
@@ -132,39 +115,43 @@ in_ending r f false = ending_by (λ (m : Move). InLine (m ∷ [])) r f false tt 
 life_one : (i : ℕ) (ok : Bool) (s z : StateOf) → EndsOne i ok s z → LifeKept s.life z.life
 life_one i ok s z e = subst (λ (l : FrameLife). LifeKept s.life l) (sym e.made.life) (kept_ending (record_at s.life.frames e.frame.0) e.frame ok s.life)
 
-store_one : (i : ℕ) (ok : Bool) (s z : StateOf) (o : OwnOf) → StateHolds s → StateHolds z → EndsOne i ok s z → store_of z o ≡ completed (store_of s o) (store_of z o)
-store_one i ok s z o h g e =
-    let l = life_one i ok s z e in
-    let m = ending (record_at s.life.frames e.frame.0) e.frame ok in
-    fetched_by s z o o l (blocks_kept s z (m ∷ []) h g (e.made.legal, e.made.life) l.paging (ap (λ (x : StateOf). x.contents) e.same))
-    (ap (λ (x : StateOf). x.is_open) e.same) (ap (λ (x : StateOf). x.areas) e.same) (ap (λ (x : StateOf). x.bound) e.same) refl refl
-    ∙ ap (λ (n : Place → Option Key). record (fetched (store_of s o) (store_of z o)) { names = n }) (ap (λ (x : StateOf). x.names) e.same)
+-- what a call leaves that ends a request, or finds none
+pub record Completing (ms : List Move) (s z : StateOf) : Type 0 where
+  pub does : DoesMoves ms s z
+  pub line : InLine ms
+  pub life : LifeKept s.life z.life
+  pub same : z ≡ moved_with_call s z
 
-pub ended_store : (i : ℕ) (r : Done) (s z : StateOf) (o : OwnOf) → StateHolds s → StateHolds z → EndsAs i r s z → store_of z o ≡ completed (store_of s o) (store_of z o)
-ended_store i done.None s z o h g e = subst (λ (x : StateOf). store_of x o ≡ completed (store_of s o) (store_of x o)) (sym e.1) refl
-ended_store i done.Ok s z o h g e = store_one i true s z o h g e
-ended_store i done.Failed s z o h g e = store_one i false s z o h g e
+one_completes : (i : ℕ) (ok : Bool) (s z : StateOf) (e : EndsOne i ok s z) → Completing (ending (record_at s.life.frames e.frame.0) e.frame ok ∷ []) s z
+one_completes i ok s z e = record { does = does_one _ s z e.made; line = in_ending (record_at s.life.frames e.frame.0) e.frame ok; life = life_one i ok s z e; same = e.same }
 
-pub ended_contents : (i : ℕ) (r : Done) (s z : StateOf) → EndsAs i r s z → z.contents ≡ s.contents
-ended_contents i done.None s z e = ap (λ (x : StateOf). x.contents) e.1
-ended_contents i done.Ok s z e = ap (λ (x : StateOf). x.contents) e.same
-ended_contents i done.Failed s z e = ap (λ (x : StateOf). x.contents) e.same
+pub completes : (i : ℕ) (r : Done) (s z : StateOf) → EndsAs i r s z → (ms : List Move) × Completing ms s z
+completes i done.None s z e = subst (λ (x : StateOf). (ms : List Move) × Completing ms s x) (sym e.1) ([], record { does = does_nothing s; line = tt; life = kept_same s.life; same = refl })
+completes i done.Ok s z e = (_, one_completes i true s z e)
+completes i done.Failed s z e = (_, one_completes i false s z e)
 
--- which result it is
-abbrev is_done : Done → ℕ
-is_done done.None = 0
-is_done done.Ok = 1
-is_done done.Failed = 2
+module _ (ms : List Move) (s z : StateOf) (o : OwnOf) (c : Completing ms s z) where
+  pub ended_store : StateHolds s → StateHolds z → store_of z o ≡ completed (store_of s o) (store_of z o)
+  ended_store h g =
+      called_store ms s z o o c.does.replays c.life (called_on s z c.same) h g refl refl
+      ∙ ap (λ (n : Place → Option Key). record (fetched (store_of s o) (store_of z o)) { names = n }) (ap (λ (x : StateOf). x.names) c.same)
+
+  pub ended_served : Served (store_of s o) (store_of z o)
+  ended_served = served_by ms s z o o c.line c.does
+
+  pub ended_kept : StoreKept s o → s.life.kind ≡ kind.Io → StoreKept z o
+  ended_kept k io = kept_untouched s z o k (ap is_touch io) c.life c.same
+
+-- ---- the result
 
 pub ended_none : (i : ℕ) (r : Done) (s z : StateOf) (o : OwnOf) → EndsAs i r s z → r ≡ done.None → (length s.life.flight < i) × (store_of z o ≡ store_of s o)
 ended_none i done.None s z o e q = (e.0, ap (λ (x : StateOf). store_of x o) e.1)
-ended_none i done.Ok s z o e q = let bad : 1 ≡ 0 = ap is_done q in absurd (omega (arith, bad))
-ended_none i done.Failed s z o e q = let bad : 2 ≡ 0 = ap is_done q in absurd (omega (arith, bad))
+ended_none i r s z o e q = cc
 
 pub ended_some : (i : ℕ) (r : Done) (s z : StateOf) → 1 ≤ i → EndsAs i r s z → length s.life.flight < i → r ≡ done.None
 ended_some i done.None s z h e l = refl
-ended_some i done.Ok s z h e l = let a = get_below s.life.flight (i - 1) e.frame.0 e.found in absurd (omega (arith, h, a, l))
-ended_some i done.Failed s z h e l = let a = get_below s.life.flight (i - 1) e.frame.0 e.found in absurd (omega (arith, h, a, l))
+ended_some i done.Ok s z h e l = let a = get_within s.life.flight (i - 1) e.frame.0 e.found in absurd (omega (arith, h, a, l))
+ended_some i done.Failed s z h e l = let a = get_within s.life.flight (i - 1) e.frame.0 e.found in absurd (omega (arith, h, a, l))
 
 -- ---- devices
 
@@ -225,27 +212,12 @@ bad_told s z f h q m = at (is_read (record_at s.life.frames f.0).request) refl
         record { failed = subst (λ (t : Told). 0 < failed_told t) (sym n.told) (bad_write (record_at s.life.frames f.0).backing s.told b); fault = fault_by way.Write (record_at s.life.frames f.0).backing s z b n.calls }
 
 pub ended_ok : (i : ℕ) (r : Done) (s z : StateOf) (o : OwnOf) → EndsAs i r s z → r ≡ done.Ok → failed_calls (report_of z o) ≡ failed_calls (report_of s o)
-ended_ok i done.None s z o e q = let bad : 0 ≡ 1 = ap is_done q in absurd (omega (arith, bad))
 ended_ok i done.Ok s z o e q = ok_told s z e.frame e.made
-ended_ok i done.Failed s z o e q = let bad : 2 ≡ 1 = ap is_done q in absurd (omega (arith, bad))
+ended_ok i r s z o e q = cc
 
 pub ended_blames : (i : ℕ) (r : Done) (s z : StateOf) → StateHolds s → EndsAs i r s z → r ≡ done.Failed → Blames s z
-ended_blames i done.None s z h e q = let bad : 0 ≡ 2 = ap is_done q in absurd (omega (arith, bad))
-ended_blames i done.Ok s z h e q = let bad : 1 ≡ 2 = ap is_done q in absurd (omega (arith, bad))
 ended_blames i done.Failed s z h e q = bad_told s z e.frame h (flight_request s (i - 1) e.frame.0 h e.found) e.made
-
-pub ended_failed : (i : ℕ) (r : Done) (s z : StateOf) (o : OwnOf) → StateHolds s → EndsAs i r s z → r ≡ done.Failed → 0 < failed_calls (report_of z o)
-ended_failed i r s z o h e q = (ended_blames i r s z h e q).failed
-
-pub ended_served : (i : ℕ) (r : Done) (s z : StateOf) (o : OwnOf) → EndsAs i r s z → Served (store_of s o) (store_of z o)
-ended_served i done.None s z o e = subst (λ (x : StateOf). Served (store_of s o) (store_of x o)) (sym e.1) (served_nothing (store_of s o) (store_of s o) refl refl refl refl refl refl)
-ended_served i done.Ok s z o e = served_by (ending (record_at s.life.frames e.frame.0) e.frame true ∷ []) s z o o (in_ending (record_at s.life.frames e.frame.0) e.frame true) (does_one _ s z e.made)
-ended_served i done.Failed s z o e = served_by (ending (record_at s.life.frames e.frame.0) e.frame false ∷ []) s z o o (in_ending (record_at s.life.frames e.frame.0) e.frame false) (does_one _ s z e.made)
-
-pub ended_stored : (i : ℕ) (r : Done) (s z : StateOf) → StateHolds s → StateHolds z → EndsAs i r s z → length z.blocks ≡ length s.blocks
-ended_stored i done.None s z h g e = ap (λ (x : StateOf). length x.blocks) e.1
-ended_stored i done.Ok s z h g e = g.blocks ∙ ap (λ (n : MachineOf). n.blocks) (life_one i true s z e).machine ∙ sym h.blocks
-ended_stored i done.Failed s z h g e = g.blocks ∙ ap (λ (n : MachineOf). n.blocks) (life_one i false s z e).machine ∙ sym h.blocks
+ended_blames i r s z h e q = cc
 
 passes_one : (i : ℕ) (ok : Bool) (s z : StateOf) (o : OwnOf) → EndsOne i ok s z → Passes (Completes i ok) (store_of s o) (store_of z o) (behind_of s) (behind_of z)
 passes_one i ok s z o e = passes_of (Completes i ok) (ending (record_at s.life.frames e.frame.0) e.frame ok ∷ []) s z o o (does_one _ s z e.made)
@@ -255,13 +227,3 @@ pub ended_passes : (i : ℕ) (r : Done) (s z : StateOf) (o : OwnOf) → EndsAs i
 ended_passes i done.None s z o e = none_passes (CompletesAs i done.None) s z o o s.contents s.ages s.waits e.1 (e.0, record { none = refl; same = refl })
 ended_passes i done.Ok s z o e = passes_one i true s z o e
 ended_passes i done.Failed s z o e = passes_one i false s z o e
-
--- ---- what the store keeps
-
-kept_one : (i : ℕ) (ok : Bool) (s z : StateOf) (o : OwnOf) → StoreKept s o → s.life.kind ≡ kind.Io → EndsOne i ok s z → StoreKept z o
-kept_one i ok s z o k io e = kept_untouched s z o k (ap is_touch io) (life_one i ok s z e) e.same
-
-pub ended_kept : (i : ℕ) (r : Done) (s z : StateOf) (o : OwnOf) → StoreKept s o → s.life.kind ≡ kind.Io → EndsAs i r s z → StoreKept z o
-ended_kept i done.None s z o k io e = subst (λ (x : StateOf). StoreKept x o) (sym e.1) k
-ended_kept i done.Ok s z o k io e = kept_one i true s z o k io e
-ended_kept i done.Failed s z o k io e = kept_one i false s z o k io e

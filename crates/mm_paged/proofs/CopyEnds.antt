@@ -1,6 +1,6 @@
 -- What a copy leaves of the store, and how it ends.
 use Rattle.std.proofs.Common.{◌≡◌, ℕ, ◌≤◌, ◌+◌, Bool, true, false, List, Option, Some, None, refl, sym, ap, ◌∙◌, subst, arith, inl, inr, ◌⊎◌}
-use Rattle.std.specs.Prelude.{not, is_some, is_none, IsSome, ◌==◌, ◌||◌, option_map, unwrap_or, Ok, Err}
+use Rattle.std.specs.Prelude.{not, is_some, is_none, ◌==◌, ◌||◌, option_map, unwrap_or, Ok, Err}
 use Rattle.mm_types.specs.{limit_of, PageFault, Held, Move, Frame, Key, Place}
 use Rattle.mm_types.specs.declared.faults.PageFault.TheVariants as fault
 use Rattle.mm_types.specs.declared.frames.Held.TheVariants as held
@@ -8,24 +8,21 @@ use Rattle.mm_types.specs.declared.moves.LineKind.TheVariants as kind
 use Rattle.mm_life.specs.{FrameLife, changed, same_place, key_of_place, is_live, is_dead, is_short, is_touch, Replays}
 use Rattle.mm_laws.proofs.{key_or_not, changed_here, changed_else, same_key-self}
 use Rattle.mm_world.specs.{Page, same_key as same_in_world, still_needs_frame, search_failed, is_short as report_is_short}
-use Rattle.mm_pages.specs.{Aim, Copies, MayAccess, IsReady, copying, Passes, IsBegun, HasCauses, Served, fetched, where_of, block_at, backed_by}
-use Rattle.mm_pages.specs.{StoreOf, Ready, own_key}
+use Rattle.mm_pages.specs.{Aim, Copies, MayAccess, IsReady, copying, Passes, IsBegun, HasCauses, fetched, where_of, block_at, backed_by, StoreOf}
+use Rattle.mm_pages.specs.{Ready, own_key}
 use Rattle.mm_paged.proofs.Giving.{young_still}
 use Rattle.mm_pages.specs.Reports.{Ends}
-use Rattle.mm_moving.specs.{StateOf, moved_with_call, walk_of, StateHolds}
-use Rattle.mm_paged.specs.{Went, Stuck, LifeKept, CopiesFrom, Copied, FailsToCopy, most_reads, OwnOf, StoreKept, store_of, report_of, behind_of}
+use Rattle.mm_moving.specs.{StateOf, moved_with_call, StateHolds}
+use Rattle.mm_paged.specs.{Went, IsFresh, HasTried, CopiesFrom, Copied, Causes, FailsToCopyPage, most_reads, OwnOf, StoreKept, store_of, report_of}
+use Rattle.mm_paged.specs.{behind_of}
+use Rattle.mm_paged.proofs.Doing.{made_by}
+use Rattle.mm_paged.proofs.CopyPage.{few_reads}
 use Rattle.mm_paged.proofs.Quiet.{calm_through, kept_by, none_ready}
-use Rattle.mm_paged.proofs.Ending.{in_line}
-use Rattle.mm_paged.proofs.Keeping.{block_same, blocks_kept, paging_has_none, dead_has_none, fetched_by}
+use Rattle.mm_paged.proofs.Keeping.{block_same, called_store, paging_has_none, dead_has_none}
 use Rattle.mm_paged.proofs.Reading.{framed_has, nothing_read, fails_not, short_counts, search_failed_by}
-use Rattle.mm_paged.proofs.Serving.{served_by}
 use Rattle.mm_paged.proofs.Shows.{changed_keys, passes_of}
 
 -- ---- when it may be made
-
-pub some_bytes : (o : Option Page) → IsSome o → is_some o ≡ true
-some_bytes None n = cc
-some_bytes (Some v) n = refl
 
 pub plain_where_free : (place : Place) (k : Key) (s : StateOf) (o : OwnOf) → StoreKept s o → MayAccess (store_of s o) place (copying k place) → s.life.valid place ≡ None → s.life.kind ≡ kind.Access place.pid
 plain_where_free place k s o h (inl e) n = e
@@ -48,12 +45,6 @@ copy_aim k place s = record { place = place; need = copying k place; writes = tr
 pub aims : (k : Key) (place : Place) (s : StateOf) → CopiesFrom (copy_aim k place s) k place s
 aims k place s = record { reaches = record { at = refl; needs = refl; from = refl }; copy = refl }
 
-pub copy_served : (n : ℕ) (k : Key) (place : Place) (s z : StateOf) (o u : OwnOf) → ((a : Aim) → CopiesFrom a k place s → Went a n s z) → Served (store_of s o) (store_of z u)
-copy_served n k place s z o u h = let w = h (copy_aim k place s) (aims k place s) in served_by w.moves s z o u (in_line (copy_aim k place s) w.moves (walk_of s) w.each) w.does
-
-pub failed_served : (e : PageFault) (k : Key) (place : Place) (s z : StateOf) (o u : OwnOf) → ((a : Aim) → CopiesFrom a k place s → Stuck a e 1 s z) → Served (store_of s o) (store_of z u)
-failed_served e k place s z o u h = let w = h (copy_aim k place s) (aims k place s) in served_by w.moves s z o u (in_line (copy_aim k place s) w.moves (walk_of s) w.each) w.does
-
 -- ---- what the store keeps
 
 touches_then : (place : Place) (k : Key) (s : StateOf) (o : OwnOf) → MayAccess (store_of s o) place (copying k place) → is_touch s.life.kind ≡ true
@@ -70,21 +61,16 @@ copied_kept n k place s z o u now h may went c ready at none used = record {
   touching = λ r e. ap is_touch c.life.kind ∙ touches_then place k s o may;
   room = λ r e copies. let bad : false ≡ true = sym (ap is_some none) ∙ ap (λ (x : Ready). is_some x.need.copy) (is_now r e) ∙ copies in cc;
   fresh = λ b low. ap (λ (f : ℕ → Bool). f b) c.life.added ∙ h.fresh b (subst (λ (a : ℕ). a ≤ b) used low);
-  calm = λ t. let w = went (copy_aim k place s) (aims k place s) in calm_through (copy_aim k place s) w.moves s z w.does w.each h.calm t;
+  calm = λ t. let w = went (copy_aim k place s) (aims k place s) in calm_through (copy_aim k place s) IsFresh n 0 0 s z w h.calm t;
 }
   where
     is_now : (r : Ready) → u.ready ≡ Some r → now ≡ r
     is_now r e = let both : Some now ≡ Some r = sym ready ∙ e in cc
 
 -- nothing is ready
-pub failed_kept : (e : PageFault) (k : Key) (place : Place) (s z : StateOf) (o u : OwnOf) → StoreKept s o → ((a : Aim) → CopiesFrom a k place s → Stuck a e 1 s z) → LifeKept s.life z.life → z ≡ record (moved_with_call s z) { names = z.names }
-    → u.ready ≡ None → u.blocks_used ≡ o.blocks_used → StoreKept z u
-failed_kept e k place s z o u h stuck life same none used = kept_by s z o u (none_ready u none) h (ap (λ (x : StateOf). x.own) same) (ap (λ (x : StateOf). x.aside) same) life.added used
-    (λ t. let w = stuck (copy_aim k place s) (aims k place s) in calm_through (copy_aim k place s) w.moves s z w.does w.each h.calm t)
-
-few_of : (o : Option Frame) (n : ℕ) → n ≤ most_reads o → n ≤ 1
-few_of None n h = h
-few_of (Some f) n h = omega (arith, h)
+pub failed_kept : (e : PageFault) (k : Key) (place : Place) (s z : StateOf) (o u : OwnOf) → StoreKept s o → FailsToCopyPage k place e s z → u.ready ≡ None → u.blocks_used ≡ o.blocks_used → StoreKept z u
+failed_kept e k place s z o u h p none used = kept_by s z o u (none_ready u none) h (ap (λ (x : StateOf). x.own) p.same) (ap (λ (x : StateOf). x.aside) p.same) p.life.added used
+    (λ t. calm_through (copy_aim k place s) (HasTried (copy_aim k place s) e z) 1 0 0 s z (p.stuck (copy_aim k place s) (aims k place s)) h.calm t)
 
 none_of : (o : Option Frame) (n : ℕ) → n ≤ most_reads o → is_some o ≡ true → n ≡ 0
 none_of None n h e = cc
@@ -96,7 +82,7 @@ copy_passes k place s z o u h went c =
     let w = went (copy_aim k place s) (aims k place s) in
     passes_of _ w.moves s z o u w.does (record {
       ends = record {
-        made = record { each = w.each; one_read = few_of (s.life.valid place) _ w.few_reads; few_writes = w.few_writes };
+        made = made_by (copy_aim k place s) IsFresh (most_reads (s.life.valid place)) s z w (few_reads (s.life.valid place));
         waits = w.does.waits;
         valid = c.valid;
         ages = young_still z.ages place 0 c.young ∙ ap (λ (g : Place → ℕ). changed same_place g place 0) w.does.ages;
@@ -104,18 +90,13 @@ copy_passes k place s z o u h went c =
       calm = λ r. none_of (s.life.valid place) _ w.few_reads (h.ready _ r);
     })
 
-pub failed_passes : (e : PageFault) (k : Key) (place : Place) (s z : StateOf) (o u : OwnOf) → StoreKept s o → ((a : Aim) → CopiesFrom a k place s → Stuck a e 1 s z) → (s.life.valid place ≡ None) ⊎ (is_short s.life ≡ true)
+pub failed_passes : (e : PageFault) (k : Key) (place : Place) (s z : StateOf) (o u : OwnOf) → StoreKept s o → FailsToCopyPage k place e s z
     → Passes (Copies {T = Unit {0}} (copy_aim k place s) (IsReady (store_of s o) place (copying k place)) (Err e)) (store_of s o) (store_of z u) (behind_of s) (behind_of z)
-failed_passes e k place s z o u h stuck never =
-    let w = stuck (copy_aim k place s) (aims k place s) in
+failed_passes e k place s z o u h p =
+    let w = p.stuck (copy_aim k place s) (aims k place s) in
     passes_of _ w.moves s z o u w.does (record {
-      ends = record {
-        made = record { each = w.each; one_read = w.few_reads; few_writes = w.few_writes };
-        waits = w.does.waits;
-        ages = w.does.ages;
-        starved = w.starved;
-      };
-      calm = λ r. absurd (never_unready place k s o h r never);
+      ends = record { made = made_by (copy_aim k place s) (HasTried (copy_aim k place s) e z) 1 s z w (omega arith); waits = w.does.waits; ages = w.does.ages; starved = w.ends };
+      calm = λ r. absurd (never_unready place k s o h r p.unready);
     })
 
 -- ---- the store after it
@@ -139,16 +120,16 @@ with_copy s z place to = record (fetched s z) {
   paging_keys = s.paging_keys + 1;
 }
 
-pub copied_store : (n : ℕ) (k : Key) (place : Place) (s z : StateOf) (o u : OwnOf) → StateHolds s → StateHolds z → s.contents (key_of_place place) ≡ None → ((a : Aim) → CopiesFrom a k place s → Went a n s z) → Copied k place s z → u.extended ≡ o.extended → u.blocks_used ≡ o.blocks_used
-    → store_of z u ≡ with_copy (store_of s o) (store_of z u) place (own_key place)
-copied_store n k place s z o u h g dead went c x b =
+pub copied_store : (n : ℕ) (k : Key) (place : Place) (to : Key) (s z : StateOf) (o u : OwnOf) → to ≡ own_key place → StateHolds s → StateHolds z → s.contents (key_of_place place) ≡ None → ((a : Aim) → CopiesFrom a k place s → Went a n s z) → Copied k place s z → u.extended ≡ o.extended → u.blocks_used ≡ o.blocks_used
+    → store_of z u ≡ with_copy (store_of s o) (store_of z u) place to
+copied_store n k place to s z o u e h g dead went c x b =
     let w = went (copy_aim k place s) (aims k place s) in
     let blocks = block_copied k place s z w.moves h g w.does.replays dead c in
     let paging : z.life.paging ≡ changed same_in_world s.life.paging (own_key place) true = c.life.paging ∙ changed_keys s.life.paging (key_of_place place) true in
     let opened : z.is_open ≡ s.is_open = ap (λ (t : StateOf). t.is_open) c.same in
     let areas : z.areas ≡ s.areas = ap (λ (t : StateOf). t.areas) c.same in
     let bound : z.bound ≡ s.bound = ap (λ (t : StateOf). t.bound) c.same in
-    λ i. record {
+    (λ i. record {
       machine = c.life.machine i;
       is_open = opened i;
       areas = areas i;
@@ -167,14 +148,10 @@ copied_store n k place s z o u h g dead went c x b =
       report = record (report_of z u) { extended = x i };
       paging_device = z.paging;
       file_device = z.files;
-    }
+    }) ∙ ap (with_copy (store_of s o) (store_of z u) place) (sym e)
 
-pub failed_store : (e : PageFault) (k : Key) (place : Place) (s z : StateOf) (o u : OwnOf) → StateHolds s → StateHolds z → ((a : Aim) → CopiesFrom a k place s → Stuck a e 1 s z) → LifeKept s.life z.life → z ≡ record (moved_with_call s z) { names = z.names } → u.extended ≡ o.extended → u.blocks_used ≡ o.blocks_used
-    → store_of z u ≡ record (fetched (store_of s o) (store_of z u)) { names = z.names }
-failed_store e k place s z o u h g stuck l c x b =
-    let w = stuck (copy_aim k place s) (aims k place s) in
-    fetched_by s z o u l (blocks_kept s z w.moves h g w.does.replays l.paging (ap (λ (t : StateOf). t.contents) c))
-    (ap (λ (t : StateOf). t.is_open) c) (ap (λ (t : StateOf). t.areas) c) (ap (λ (t : StateOf). t.bound) c) x b
+pub failed_store : (e : PageFault) (k : Key) (place : Place) (s z : StateOf) (o u : OwnOf) → StateHolds s → StateHolds z → FailsToCopyPage k place e s z → u.extended ≡ o.extended → u.blocks_used ≡ o.blocks_used → store_of z u ≡ record (fetched (store_of s o) (store_of z u)) { names = z.names }
+failed_store e k place s z o u h g p x b = let w = p.stuck (copy_aim k place s) (aims k place s) in called_store w.moves s z o u w.does.replays p.life p.same h g x b
 
 -- ---- how it ends, by the report
 
@@ -185,9 +162,6 @@ live_where l h e = refl
 dead_where : (l : FrameLife) (h : Held) → not (is_dead h) ≡ false → not (is_none (where_of l h)) ≡ false
 dead_where l held.Dead e = refl
 dead_where l h e = cc
-
-either_none : (a b : Bool) → a ≡ true → b ≡ true → (not a || not b) ≡ false
-either_none a b p q = grind (arith, p, q)
 
 either_some : (a b : Bool) → b ≡ false → (not a || not b) ≡ true
 either_some a b q = grind (arith, q)
@@ -203,7 +177,7 @@ told_by x = record { extended = x; ready = None; blocks_used = 0 }
 pub copied_ends : (k : Key) (place : Place) (s z : StateOf) (o : OwnOf) (x : Option Bool) → StateHolds z → Copied k place s z → is_some (s.contents k) ≡ true → IsBegun (report_of s o) → Ends {T = Unit {0}} (copying k place) (report_of z (told_by x)) (Ok tt)
 copied_ends k place s z o x g c some b =
     let still : still_needs_frame (copying k place) (report_of z (told_by x)) ≡ false =
-    either_none _ _ (framed_has z.life (z.life.stands k) c.framed) (live_where z.life (z.life.stands (key_of_place place)) (copied_live k place s z g c some)) in
+    (λ i. not (framed_has z.life (z.life.stands k) c.framed i) || not (live_where z.life (z.life.stands (key_of_place place)) (copied_live k place s z g c some) i)) in
     record {
       ok = ap (λ (f : Bool). f || search_failed (copying k place) (report_of z (told_by x))) (nothing_read k (report_of z (told_by x)) (c.read ∙ b.no_failed_read)) ∙ fails_not _ (z.told.search_writes.succeeded == 0) (still_needs_frame (copying k place) (report_of z (told_by x))) (report_is_short (report_of z (told_by x))) still;
       had = still;
@@ -211,7 +185,7 @@ copied_ends k place s z o x g c some b =
       no_frame = λ h. cc;
     }
 
-pub failed_causes_copy : (why : PageFault) (k : Key) (place : Place) (s z : StateOf) (x : Option Bool) → StateHolds z → z.contents (key_of_place place) ≡ None → FailsToCopy why k s z → HasCauses {T = Unit {0}} (copying k place) (report_of z (told_by x)) (Err why)
+pub failed_causes_copy : (why : PageFault) (k : Key) (place : Place) (s z : StateOf) (x : Option Bool) → StateHolds z → z.contents (key_of_place place) ≡ None → Causes why k s z → HasCauses {T = Unit {0}} (copying k place) (report_of z (told_by x)) (Err why)
 failed_causes_copy fault.Read k place s z x g dead h = record {
   read = λ e. ap (λ (r : Option Key). unwrap_or (option_map (same_in_world k) r) false) (h.read refl) ∙ same_key-self k;
   no_frame = λ e. cc;
@@ -225,7 +199,7 @@ failed_causes_copy fault.NoFrame k place s z x g dead h = record {
   );
 }
 
-pub failed_ends_copy : (why : PageFault) (k : Key) (place : Place) (s z : StateOf) (o : OwnOf) (x : Option Bool) → StateHolds z → z.contents (key_of_place place) ≡ None → FailsToCopy why k s z → IsBegun (report_of s o) → Ends {T = Unit {0}} (copying k place) (report_of z (told_by x)) (Err why)
+pub failed_ends_copy : (why : PageFault) (k : Key) (place : Place) (s z : StateOf) (o : OwnOf) (x : Option Bool) → StateHolds z → z.contents (key_of_place place) ≡ None → Causes why k s z → IsBegun (report_of s o) → Ends {T = Unit {0}} (copying k place) (report_of z (told_by x)) (Err why)
 failed_ends_copy fault.Read k place s z o x g dead h b = record { ok = tt; had = tt; read = (failed_causes_copy fault.Read k place s z x g dead h).read; no_frame = λ e. cc }
 failed_ends_copy fault.NoFrame k place s z o x g dead h b =
     let c = (failed_causes_copy fault.NoFrame k place s z x g dead h).no_frame refl in
@@ -244,7 +218,3 @@ failed_ends_copy fault.NoFrame k place s z o x g dead h b =
 -- the place's own page is dead still
 pub failed_dead : (s z : StateOf) (place : Place) → z ≡ record (moved_with_call s z) { names = z.names } → s.contents (key_of_place place) ≡ None → z.contents (key_of_place place) ≡ None
 failed_dead s z place e dead = ap (λ (x : StateOf). x.contents (key_of_place place)) e ∙ dead
-
-pub copied_store_at : (n : ℕ) (k : Key) (place : Place) (to : Key) (s z : StateOf) (o u : OwnOf) → to ≡ own_key place → StateHolds s → StateHolds z → s.contents (key_of_place place) ≡ None → ((a : Aim) → CopiesFrom a k place s → Went a n s z) → Copied k place s z → u.extended ≡ o.extended → u.blocks_used ≡ o.blocks_used
-    → store_of z u ≡ with_copy (store_of s o) (store_of z u) place to
-copied_store_at n k place to s z o u e h g dead went c x b = copied_store n k place s z o u h g dead went c x b ∙ ap (with_copy (store_of s o) (store_of z u) place) (sym e)

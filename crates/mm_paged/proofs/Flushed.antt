@@ -2,8 +2,8 @@
 use Rattle.std.proofs.Common.{◌≡◌, ◌≢◌, ℕ, ◌<◌, Bool, true, false, List, [], ◌∷◌, ◌++◌, Option, Some, None, refl, sym, ap, ◌∙◌, subst, inl, inr, ◌⊎◌}
 use Rattle.std.proofs.Math.Logic.{∥∥₁_elim}
 use Rattle.std.proofs.Props.{props}
-use Rattle.std.specs.Prelude.{not, ◌&&◌, ◌||◌, if◌then◌else◌, is_some, IsSome, length, slice_get, Result, Ok, Err, OnOk, OnErr, is_ok}
-use Rattle.mm_types.specs.{MachineOf, Backing, Held, Record, Request, LineKind, Move, Stored, Block, Frame, Key}
+use Rattle.std.specs.Prelude.{not, ◌&&◌, ◌||◌, if◌then◌else◌, is_some, IsSome, slice_get, Result, Ok, Err, OnOk, OnErr, is_ok}
+use Rattle.mm_types.specs.{Backing, Held, Record, Request, LineKind, Move, Stored, Block, Frame, Key}
 use Rattle.mm_types.specs.declared.devices.Direction.TheVariants as way
 use Rattle.mm_types.specs.declared.frames.Backing.TheVariants as backing
 use Rattle.mm_types.specs.declared.frames.Held.TheVariants as held
@@ -12,9 +12,9 @@ use Rattle.mm_types.specs.declared.moves.LineKind.TheVariants as kind
 use Rattle.mm_types.specs.declared.moves.Move.TheVariants as move
 use Rattle.mm_types.specs.declared.moves.Stored.TheVariants as stored
 use Rattle.mm_blocks.proofs.{later_same, later_then, serves_later, serves_failed, failed_later}
-use Rattle.mm_types.proofs.{get_set_other, same_number, some_found}
+use Rattle.mm_types.proofs.{get_set_other, or_true, same_number, some_found}
 use Rattle.mm_life.specs.{record_at, blank, is_read, is_write, is_again, has_request, write_done, without_slot, being_written, FrameLife, is_live}
-use Rattle.mm_life.specs.{is_dead, IsLegal, is_touch, is_access, is_writer, is_call, is_block, has_depth, after_move, is_on, wait_of}
+use Rattle.mm_life.specs.{is_dead, IsLegal, is_touch, is_access, is_writer, is_call, is_block, has_depth, is_on, wait_of}
 use Rattle.mm_laws.specs.{ended_as}
 use Rattle.mm_laws.proofs.{reached_sound, wrote_settles}
 use Rattle.mm_pages.specs.{IsEndOf, IsWrittenNow, IsWrittenIf, IsEndedFirst, FlushesBy, FlushedAt, ends_lost, FlushesPage as Flushes, Passes, wrote}
@@ -28,7 +28,8 @@ use Rattle.mm_paged.specs.{HoldsFilePage, WritesTo, WritesBack, EndedIf, Written
 use Rattle.mm_paged.specs.{FlushesPage, LifeKept, OwnOf, StoreKept, store_of, report_of, behind_of}
 use Rattle.mm_paged.proofs.Quiet.{kept_untouched}
 use Rattle.mm_paged.proofs.Completed.{called_by_write}
-use Rattle.mm_paged.proofs.Keeping.{kept_same, kept_then, blocks_kept, fetched_by, with_told}
+use Rattle.mm_paged.proofs.Keeping.{kept_same, kept_then, blocks_kept, called_on, called_store, kept_made, with_told}
+use Rattle.mm_paged.proofs.Ending.{some_is}
 use Rattle.mm_paged.proofs.Serving.{InLine, served_by}
 use Rattle.mm_paged.proofs.Shows.{passes_of}
 use Rattle.mm_reclaim.proofs.{one_some}
@@ -44,10 +45,6 @@ block_is (backing.Block c) n e = let same : c.0 ≡ n = cc in ap (λ (k : ℕ). 
 
 pub block_of_frame : (s : StateOf) (k : Key) (f : Frame) (n : ℕ) → s.life.stands k ≡ held.Frame f → block_at (backed_by s.life (s.life.stands k)) ≡ Some n → backing_of_frame s f ≡ backing.Block (record { 0 = n })
 block_of_frame s k f n e b = block_is (backing_of_frame s f) n (sym (ap (λ (h : Held). block_at (backed_by s.life h)) e) ∙ b)
-
-pub some_there : {A : Type 0} (o : Option A) → IsSome o → (v : A) × (o ≡ Some v)
-some_there None h = cc
-some_there (Some v) h = (v, refl)
 
 live_frame : (s : StateOf) (k : Key) (f : Frame) → s.life.stands k ≡ held.Frame f → is_live s.life k ≡ true
 live_frame s k f e = ap (λ (h : Held). not (is_dead h)) e
@@ -118,25 +115,13 @@ ended_device b f page false s z e m w = by_call b page false s z (m.told ∙ ap 
 
 -- ---- the life of the frames
 
-kept_end : (ok : Bool) (f : Frame) (l : FrameLife) → LifeKept l (after_move l (write_end ok f))
-kept_end true f l = record { machine = refl; line = refl; kind = refl; paging = refl; keys = refl; pids = refl; added = refl }
-kept_end false f l = record { machine = refl; line = refl; kind = refl; paging = refl; keys = refl; pids = refl; added = refl }
-
-stands_end : (ok : Bool) (f : Frame) (l : FrameLife) → (after_move l (write_end ok f)).stands ≡ l.stands
-stands_end true f l = refl
-stands_end false f l = refl
-
 life_end : (ok : Bool) (f : Frame) (s z : StateOf) → Made (write_end ok f) s z → LifeKept s.life z.life
-life_end ok f s z m = subst (λ (l : FrameLife). LifeKept s.life l) (sym m.life) (kept_end ok f s.life)
+life_end true f s z m = kept_made (move.Wrote f) s z m tt
+life_end false f s z m = kept_made (move.Lost f) s z m tt
 
 held_end : (ok : Bool) (f : Frame) (s z : StateOf) → Made (write_end ok f) s z → z.life.stands ≡ s.life.stands
-held_end ok f s z m = ap (λ (l : FrameLife). l.stands) m.life ∙ stands_end ok f s.life
-
-life_start : (b : Block) (f : Frame) (s z : StateOf) → Made (move.Write f (stored.Block b)) s z → LifeKept s.life z.life
-life_start b f s z m = subst (λ (l : FrameLife). LifeKept s.life l) (sym m.life) (record { machine = refl; line = refl; kind = refl; paging = refl; keys = refl; pids = refl; added = refl })
-
-held_start : (b : Block) (f : Frame) (s z : StateOf) → Made (move.Write f (stored.Block b)) s z → z.life.stands ≡ s.life.stands
-held_start b f s z m = ap (λ (l : FrameLife). l.stands) m.life
+held_end true f s z m = ap (λ (l : FrameLife). l.stands) m.life
+held_end false f s z m = ap (λ (l : FrameLife). l.stands) m.life
 
 -- the frame's page has the block that it had
 backed_after : (s z : StateOf) (ms : List Move) (k : Key) (f : Frame) (b : Block) → StateHolds s → StateHolds z → DoesMoves ms s z → LifeKept s.life z.life → z.life.stands ≡ s.life.stands → z.contents ≡ s.contents → s.life.stands k ≡ held.Frame f → backing_of_frame s f ≡ backing.Block b → backing_of_frame z f ≡ backing.Block b
@@ -168,11 +153,12 @@ done_still r = at (is_some r.owner) (is_again r.request)
     at true false = refl
     at false a = refl
 
+-- what is looked at in the record of a frame whose write has ended
+ended_look : (look : Record → Bool) (f : Frame) (s z : StateOf) → StateHolds s → Made (move.Wrote f) s z → look (record_at z.life.frames f.0) ≡ look (ended_as write_done (record_at s.life.frames f.0))
+ended_look look f s z h m = ∥∥₁_elim h.reached (hlevel props) (λ r. ap (λ (l : FrameLife). look (record_at l.frames f.0)) m.life ∙ ap look (wrote_settles s.life (reached_sound s.life r) f m.legal).here)
+
 ended_still : (ok : Bool) (f : Frame) (s z : StateOf) → StateHolds s → Made (write_end ok f) s z → ok ≡ true → is_write (record_at z.life.frames f.0).request ≡ false
-ended_still true f s z h m e = ∥∥₁_elim h.reached (hlevel props) (λ r.
-    ap (λ (l : FrameLife). is_write (record_at l.frames f.0).request) m.life
-    ∙ ap (λ (t : Record). is_write t.request) (wrote_settles s.life (reached_sound s.life r) f m.legal).here
-    ∙ done_still (record_at s.life.frames f.0))
+ended_still true f s z h m e = ended_look (λ r. is_write r.request) f s z h m ∙ done_still (record_at s.life.frames f.0)
 ended_still false f s z h m e = cc
 
 pub flight_none : (b : Block) (f : Frame) (s : StateOf) → backing_of_frame s f ≡ backing.Block b → is_write (record_at s.life.frames f.0).request ≡ false → EndsFlight b f true s s
@@ -195,10 +181,7 @@ done_changed r o c = at (is_some r.owner) (is_again r.request) o
     at false a q = cc
 
 ended_changed : (ok : Bool) (f : Frame) (s z : StateOf) → StateHolds s → Made (write_end ok f) s z → is_some (record_at s.life.frames f.0).owner ≡ true → is_write (record_at s.life.frames f.0).request ≡ true → ok ≡ true → (record_at z.life.frames f.0).changed ≡ is_again (record_at s.life.frames f.0).request
-ended_changed true f s z h m o w e = ∥∥₁_elim h.reached (hlevel props) (λ r.
-    ap (λ (l : FrameLife). (record_at l.frames f.0).changed) m.life
-    ∙ ap (λ (t : Record). t.changed) (wrote_settles s.life (reached_sound s.life r) f m.legal).here
-    ∙ done_changed (record_at s.life.frames f.0) o (((reached_sound s.life r).standing f.0).fit.writing w).0)
+ended_changed true f s z h m o w e = ended_look (λ r. r.changed) f s z h m ∙ done_changed (record_at s.life.frames f.0) o (h.writing f w)
 ended_changed false f s z h m o w e = cc
 
 -- what the end of a write tells of the page that is written
@@ -251,23 +234,27 @@ quiet_frame s f h w c = ∥∥₁_elim h.reached (hlevel props) (λ r. no_reques
 is_its_block : (x : Backing) (b : Block) → x ≡ backing.Block b → is_block b.0 x ≡ true
 is_its_block x b e = ap (is_block b.0) e ∙ same_number b.0
 
-writes_in_call : (a b c d x y z : Bool) → a ≡ true → b ≡ true → c ≡ false → d ≡ true → z ≡ true → (a && b && not c && d && (x || y || z)) ≡ true
-writes_in_call true true false true true y z p q r s t = refl
-writes_in_call true true false true false true z p q r s t = refl
-writes_in_call true true false true false false z p q r s t = t
-writes_in_call true true false false x y z p q r s t = cc
-writes_in_call true true true d x y z p q r s t = cc
-writes_in_call true false c d x y z p q r s t = cc
-writes_in_call false b c d x y z p q r s t = cc
-
 pub start_legal : (s : StateOf) (f : Frame) → StateHolds s → HoldsFilePage f s → s.life.kind ≡ kind.Call → is_write (record_at s.life.frames f.0).request ≡ false → (record_at s.life.frames f.0).changed ≡ true → IsLegal (move.Write f (write_target s.life f)) s.life
 start_legal s f h i k w c = subst (λ (t : Stored). IsLegal (move.Write f t) s.life) (sym (target_is s.life f i.block i.backed))
-    (writes_in_call r.changed (is_some r.owner) (has_request r.request) (is_block i.block.0 r.backing)
-    (is_on f.0 s.life.frames.modified && is_access s.life.kind) (is_on f.0 s.life.frames.modified && is_writer s.life.kind && has_depth s.life) (is_call s.life.kind)
-    c (ap is_some (h.owner i.key f i.stands)) (quiet_frame s f h w c) (is_its_block r.backing i.block i.backed) (ap is_call k))
+    ((λ j. c j && owned j && not (quiet j) && its j && (other || call j)) ∙ or_true other)
   where
     r : Record
     r = record_at s.life.frames f.0
+
+    other : Bool
+    other = (is_on f.0 s.life.frames.modified && is_access s.life.kind) || (is_on f.0 s.life.frames.modified && is_writer s.life.kind && has_depth s.life)
+
+    owned : is_some r.owner ≡ true
+    owned = ap is_some (h.owner i.key f i.stands)
+
+    quiet : has_request r.request ≡ false
+    quiet = quiet_frame s f h w c
+
+    its : is_block i.block.0 r.backing ≡ true
+    its = is_its_block r.backing i.block i.backed
+
+    call : is_call s.life.kind ≡ true
+    call = ap is_call k
 
 -- the record of the frame that is being written
 begun_record : (b : Block) (f : Frame) (s y : StateOf) → Made (move.Write f (stored.Block b)) s y → (record_at y.life.frames f.0 ≡ being_written (backing.Block b) (record_at s.life.frames f.0)) ⊎ ((record_at y.life.frames f.0 ≡ blank) × (record_at s.life.frames f.0 ≡ blank))
@@ -291,10 +278,7 @@ done_clean r e = at (is_some r.owner) (is_again r.request) e
     at false a q = refl
 
 ended_clean : (ok : Bool) (f : Frame) (s z : StateOf) → StateHolds s → Made (write_end ok f) s z → is_again (record_at s.life.frames f.0).request ≡ false → ok ≡ true → (record_at z.life.frames f.0).changed ≡ false
-ended_clean true f s z h m a e = ∥∥₁_elim h.reached (hlevel props) (λ r.
-    ap (λ (l : FrameLife). (record_at l.frames f.0).changed) m.life
-    ∙ ap (λ (t : Record). t.changed) (wrote_settles s.life (reached_sound s.life r) f m.legal).here
-    ∙ done_clean (record_at s.life.frames f.0) a)
+ended_clean true f s z h m a e = ended_look (λ r. r.changed) f s z h m ∙ done_clean (record_at s.life.frames f.0) a
 ended_clean false f s z h m a e = cc
 
 own_done : (s y z : StateOf) (f : Frame) → s.own ≡ None → s.life.kind ≡ kind.Call → y ≡ record (moved s y) { own = own_after s.life.kind s.own f } → z ≡ record (moved_with_call y z) { own = own_ended y.own f.0 } → z ≡ moved_with_call s z
@@ -312,11 +296,11 @@ changed_written b f to ok s y z h hy g i e o k c t n a m r w =
     let start : Made (move.Write f (stored.Block b)) s y = subst (λ (x : Stored). Made (move.Write f x) s y) (t ∙ target_is s.life f b e) n in
     let xs : List Move = move.Write f (stored.Block b) ∷ write_end ok f ∷ [] in
     let does = does_two (move.Write f (stored.Block b)) (write_end ok f) s y z start m in
-    let life = kept_then s.life y.life z.life (life_start b f s y start) (life_end ok f y z m) in
-    let stands = held_end ok f y z m ∙ held_start b f s y start in
+    let life = kept_then s.life y.life z.life (kept_made (move.Write f (stored.Block b)) s y start tt) (life_end ok f y z m) in
+    let stands = held_end ok f y z m ∙ ap (λ (l : FrameLife). l.stands) start.life in
     let same = own_done s y z f o k a r in
-    let at : y.life.stands i.key ≡ held.Frame f = ap (λ (x : Key → Held). x i.key) (held_start b f s y start) ∙ i.stands in
-    let backed = backed_after s y (move.Write f (stored.Block b) ∷ []) i.key f b h hy (does_one (move.Write f (stored.Block b)) s y start) (life_start b f s y start) (held_start b f s y start) (ap (λ (x : StateOf). x.contents) a) i.stands e in
+    let at : y.life.stands i.key ≡ held.Frame f = ap (λ (x : Key → Held). x i.key) (ap (λ (l : FrameLife). l.stands) start.life) ∙ i.stands in
+    let backed = backed_after s y (move.Write f (stored.Block b) ∷ []) i.key f b h hy (does_one (move.Write f (stored.Block b)) s y start) (kept_made (move.Write f (stored.Block b)) s y start tt) (ap (λ (l : FrameLife). l.stands) start.life) (ap (λ (x : StateOf). x.contents) a) i.stands e in
     let page = page_of y i.key f hy at in
     record {
       moves = xs;
@@ -417,11 +401,9 @@ page_home k b s n e =
 
 pub flushed_store : (k : Key) (b : Block) (ok : Bool) (s z : StateOf) (o : OwnOf) → StateHolds s → StateHolds z → FlushesPage k b ok s z → store_of z o ≡ wrote (store_of s o) (store_of z o)
 flushed_store k b ok s z o h g p =
-    let same = p.writes.same in
-    fetched_by s z o o p.writes.life (blocks_kept s z p.moves h g p.writes.does.replays p.writes.life.paging (ap (λ (x : StateOf). x.contents) same))
-    (ap (λ (x : StateOf). x.is_open) same) (ap (λ (x : StateOf). x.areas) same) (ap (λ (x : StateOf). x.bound) same) refl refl
+    called_store p.moves s z o o p.writes.does.replays p.writes.life (called_on s z p.writes.same) h g refl refl
     ∙ (λ i. record (fetched (store_of s o) (store_of z o)) {
-      names = ap (λ (x : StateOf). x.names) same i;
+      names = ap (λ (x : StateOf). x.names) p.writes.same i;
       report = with_told (record (report_of z o) { wait = λ tid. wait_of (p.writes.device.waits i tid) }) (p.writes.device.told i);
       paging_device = p.writes.device.paging i;
     })
@@ -467,9 +449,6 @@ flushed_in_line l h ms p = subst InLine (sym p) tt
 pub flushed_served : (k : Key) (b : Block) (ok : Bool) (s z : StateOf) (o : OwnOf) → FlushesPage k b ok s z → Served (store_of s o) (store_of z o)
 flushed_served k b ok s z o p = served_by p.moves s z o o (flushed_in_line s.life (s.life.stands k) p.moves p.page) p.writes.does
 
-pub flushed_stored : (k : Key) (b : Block) (ok : Bool) (s z : StateOf) → StateHolds s → StateHolds z → FlushesPage k b ok s z → length z.blocks ≡ length s.blocks
-flushed_stored k b ok s z h g p = g.blocks ∙ ap (λ (n : MachineOf). n.blocks) p.writes.life.machine ∙ sym h.blocks
-
 pub flushed_passes : (k : Key) (b : Block) (ok : Bool) (s z : StateOf) (o : OwnOf) → FlushesPage k b ok s z → Passes (Flushes k ok) (store_of s o) (store_of z o) (behind_of s) (behind_of z)
 flushed_passes k b ok s z o p = passes_of (Flushes k ok) p.moves s z o o p.writes.does (record {
   page = p.page;
@@ -493,7 +472,7 @@ pub record Flushing (k : Key) (ok : Bool) (s z : StateOf) : Type 0 where
   pub page : FlushesPage k block ok s z
 
 pub flushing_of : (k : Key) (ok : Bool) (s z : StateOf) → IsSome (block_at (backed_by s.life (s.life.stands k))) → ((b : Block) → block_at (backed_by s.life (s.life.stands k)) ≡ Some b.0 → FlushesPage k b ok s z) → Flushing k ok s z
-flushing_of k ok s z h f = let n = some_there (block_at (backed_by s.life (s.life.stands k))) h in record { block = record { 0 = n.0 }; is = n.1; page = f (record { 0 = n.0 }) n.1 }
+flushing_of k ok s z h f = let n = some_found (block_at (backed_by s.life (s.life.stands k))) (some_is (block_at (backed_by s.life (s.life.stands k))) h) in record { block = record { 0 = n.0 }; is = n.1; page = f (record { 0 = n.0 }) n.1 }
 
 -- that block is the only one
 pub its_bytes : (k : Key) (ok : Bool) (s z : StateOf) → StateHolds z → Flushing k ok s z → ok ≡ true → (block : ℕ) → block_at (backed_by s.life (s.life.stands k)) ≡ Some block → slice_get z.blocks block ≡ s.contents k

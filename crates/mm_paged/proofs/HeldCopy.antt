@@ -7,19 +7,20 @@ use Rattle.mm_life.specs.{record_at, FrameLife, changed, same_key, same_place, i
 use Rattle.mm_laws.proofs.{changed_else}
 use Rattle.mm_pages.specs.{Aim, is_framed}
 use Rattle.mm_pages.specs.Told.{Told}
-use Rattle.mm_moving.specs.{StateOf, moved_with_call, StateHolds}
-use Rattle.mm_paged.specs.{Went, Sought, TookFrame, LifeKept, HeldAt, Spares, KeyAdded, Copied, MayCopy, MayCopyHeld, CopyGiven, CopyPut}
-use Rattle.mm_paged.proofs.Doing.{went_then, sought_took}
+use Rattle.mm_moving.specs.{StateOf, Searched, moved_with_call, StateHolds}
+use Rattle.mm_paged.specs.{Went, IsFresh, TookFrame, LifeKept, HeldAt, KeyAdded, Pins, Copied, MayCopy, MayCopyHeld, CopyGiven, CopyPut}
+use Rattle.mm_paged.proofs.Doing.{went_then, sought_then}
 use Rattle.mm_paged.proofs.Giving.{changed_twice}
 use Rattle.mm_paged.proofs.Keeping.{added_then, added_behind}
+use Rattle.mm_paged.proofs.Sought.{search_left, sought_pinned}
 
 -- ---- the page copied from stays where it is
 
-held_then : (k : Key) (f : Frame) (place : Place) (s t : StateOf) → HeldAt k f place s → Spares f s t → HeldAt k f place t
-held_then k f place s t h p = record { valid = p.valid place h.valid; named = ap (λ (x : StateOf). x.names place) p.same ∙ h.named }
+held_then : (k : Key) (f : Frame) (place : Place) (s t : StateOf) → HeldAt k f place s → Searched (Some f) true s t → HeldAt k f place t
+held_then k f place s t h p = record { valid = (search_left (Some f) true s t p).valid place h.valid; named = ap (λ (x : StateOf). x.names place) p.same ∙ h.named }
 
 -- and where the place's own page came to be beside the tables
-pub held_given : (k : Key) (f g : Frame) (place : Place) (s t u : StateOf) → MayCopyHeld k f place s → Spares f s t → CopyGiven place g t u → HeldAt k f place u
+pub held_given : (k : Key) (f g : Frame) (place : Place) (s t u : StateOf) → MayCopyHeld k f place s → Searched (Some f) true s t → CopyGiven place g t u → HeldAt k f place u
 held_given k f g place s t u may p gave =
     let held = held_then k f place s t may.held p in
     record { valid = ap (λ (x : Place → Option Frame). x place) gave.valid ∙ held.valid; named = ap (λ (x : Place → Option Key). x place) gave.names ∙ held.named }
@@ -37,7 +38,7 @@ owner_then : (k : Key) (f : Frame) (u v : StateOf) → StateHolds v → v.life.s
 owner_then k f u v h s e = h.owner k f (ap (λ (x : Key → Held). x k) s ∙ e)
 
 -- once the copy is valid the page copied from is in its frame still, and the copy in its own
-pub copied_from : (k : Key) (f g : Frame) (place : Place) (s t u v : StateOf) → StateHolds u → StateHolds v → MayCopyHeld k f place s → Spares f s t → CopyGiven place g t u → CopyPut place g u v → (record_at v.life.frames f.0).owner ≡ Some k
+pub copied_from : (k : Key) (f g : Frame) (place : Place) (s t u v : StateOf) → StateHolds u → StateHolds v → MayCopyHeld k f place s → Searched (Some f) true s t → CopyGiven place g t u → CopyPut place g u v → (record_at v.life.frames f.0).owner ≡ Some k
 copied_from k f g place s t u v hu hv may p gave put = owner_then k f u v hv put.stands (stands_held k f place u hu (held_given k f g place s t u may p gave))
 
 pub copied_to : (g : Frame) (place : Place) (t u v : StateOf) → StateHolds v → CopyGiven place g t u → CopyPut place g u v → (record_at v.life.frames g.0).owner ≡ Some (key_of_place place)
@@ -75,20 +76,21 @@ went_bytes a n s v c w = record {
     blocks_kept = w.does.blocks_kept;
   };
   each = w.each;
-  fresh = w.fresh;
+  ends = w.ends;
   few_reads = w.few_reads;
   few_writes = w.few_writes;
 }
 
-pub went_held : (a : Aim) (s t u v z : StateOf) → Sought a s t → TookFrame a 0 t u → Went a 0 u v → z ≡ record v { contents = z.contents } → Went a 0 s z
-went_held a s t u v z p q r e = subst (λ (x : StateOf). Went a 0 s x) (sym e) (went_bytes a 0 s v z.contents (went_then a 0 0 s u v (sought_took a 0 s t u p q) r))
+pub went_held : (a : Aim) (place : Place) (f : Frame) (s t u v z : StateOf) → Pins a place f s → Searched (Some f) true s t → TookFrame a 0 t u → Went a 0 u v → z ≡ record v { contents = z.contents } → Went a 0 s z
+went_held a place f s t u v z p h q r e = subst (λ (x : StateOf). Went a 0 s x) (sym e)
+    (went_bytes a 0 s v z.contents (went_then a IsFresh 0 0 s u v (sought_then a IsFresh 0 s t u (sought_pinned a place f s t p h) q) r))
 
 -- ---- what is there then
 
 -- the steps of it: a search, the key's frame, the place, the bytes
 pub record Makes (k : Key) (place : Place) (f g : Frame) (s t u v z : StateOf) : Type 0 where
   pub may : MayCopyHeld k f place s
-  pub spares : Spares f s t
+  pub found : Searched (Some f) true s t
   pub gave : CopyGiven place g t u
   pub holds : StateHolds u
   pub put : CopyPut place g u v
@@ -98,10 +100,10 @@ pub record Makes (k : Key) (place : Place) (f g : Frame) (s t u v z : StateOf) :
 module _ (k : Key) (place : Place) (f g : Frame) (s t u v z : StateOf) (m : Makes k place f g s t u v z) where
   made_life : KeyAdded (key_of_place place) s.life z.life
   made_life = subst (λ (x : StateOf). KeyAdded (key_of_place place) s.life x.life) (sym m.rest)
-      (added_then (key_of_place place) s.life u.life v.life (added_behind (key_of_place place) s.life t.life u.life m.spares.life m.gave.life) m.put.life)
+      (added_then (key_of_place place) s.life u.life v.life (added_behind (key_of_place place) s.life t.life u.life (search_left (Some f) true s t m.found).life m.gave.life) m.put.life)
 
   zeroed_first : v.contents ≡ changed same_key s.contents (key_of_place place) (Some zero_page)
-  zeroed_first = ap (λ (x : StateOf). x.contents) m.put.same ∙ m.gave.contents ∙ ap (λ (x : StateOf). changed same_key x.contents (key_of_place place) (Some zero_page)) m.spares.same
+  zeroed_first = ap (λ (x : StateOf). x.contents) m.put.same ∙ m.gave.contents ∙ ap (λ (x : StateOf). changed same_key x.contents (key_of_place place) (Some zero_page)) m.found.same
 
   made_contents : z.contents ≡ changed same_key s.contents (key_of_place place) (s.contents k)
   made_contents =
@@ -110,14 +112,14 @@ module _ (k : Key) (place : Place) (f g : Frame) (s t u v z : StateOf) (m : Make
       ∙ changed_twice same_key s.contents (key_of_place place) (Some zero_page) (s.contents k)
 
   made_held : HeldAt k f place u
-  made_held = held_given k f g place s t u m.may m.spares m.gave
+  made_held = held_given k f g place s t u m.may m.found m.gave
 
   made_same : z ≡ record (moved_with_call s z) { names = z.names; contents = z.contents }
   made_same =
       m.rest
       ∙ ap (λ (x : StateOf). record x { contents = z.contents }) m.put.same
       ∙ ap (λ (x : StateOf). record (moved_with_call x v) { names = v.names; aside = None; contents = z.contents }) m.gave.same
-      ∙ ap (λ (x : StateOf). record (moved_with_call x v) { names = v.names; aside = None; contents = z.contents }) m.spares.same
+      ∙ ap (λ (x : StateOf). record (moved_with_call x v) { names = v.names; aside = None; contents = z.contents }) m.found.same
       ∙ sym (ap (λ (x : StateOf). record (moved_with_call s x) { names = x.names; aside = None; contents = z.contents }) m.rest)
       ∙ ap (λ (o : Option Place). record (moved_with_call s z) { names = z.names; aside = o; contents = z.contents }) (sym m.may.aside)
 
@@ -126,10 +128,10 @@ module _ (k : Key) (place : Place) (f g : Frame) (s t u v z : StateOf) (m : Make
     life = made_life;
     valid = ap (λ (x : StateOf). is_some (x.life.valid place)) m.rest ∙ ap is_some m.put.valid;
     young = ap (λ (x : StateOf). x.ages place) m.rest ∙ m.put.young;
-    names = ap (λ (x : StateOf). x.names) m.rest ∙ m.put.names ∙ ap (λ (n : Place → Option Key). changed same_place n place (Some (key_of_place place))) (m.gave.names ∙ ap (λ (x : StateOf). x.names) m.spares.same);
+    names = ap (λ (x : StateOf). x.names) m.rest ∙ m.put.names ∙ ap (λ (n : Place → Option Key). changed same_place n place (Some (key_of_place place))) (m.gave.names ∙ ap (λ (x : StateOf). x.names) m.found.same);
     contents = made_contents;
     framed = ap (λ (x : StateOf). is_framed (x.life.stands k)) m.rest ∙ ap (λ (x : Key → Held). is_framed (x k)) m.put.stands ∙ ap is_framed (stands_held k f place u m.holds made_held);
-    read = ap (λ (x : StateOf). x.told.last_failed_read) m.rest ∙ ap (λ (x : Told). x.last_failed_read) m.put.told ∙ m.gave.read ∙ m.spares.read;
+    read = ap (λ (x : StateOf). x.told.last_failed_read) m.rest ∙ ap (λ (x : Told). x.last_failed_read) m.put.told ∙ m.gave.read ∙ m.found.read;
     same = made_same;
   }
 
@@ -145,13 +147,13 @@ shows_held k f place u h e at =
     ∙ ap (λ (o : Option Key). unwrap_or (option_map is_shared o) false) (h.named place f at.valid ∙ at.named)
     ∙ e
 
-pub may_copy : (k : Key) (f : Frame) (place : Place) (s t : StateOf) → StateHolds t → MayCopyHeld k f place s → Spares f s t → MayCopy place t
+pub may_copy : (k : Key) (f : Frame) (place : Place) (s t : StateOf) → StateHolds t → MayCopyHeld k f place s → Searched (Some f) true s t → MayCopy place t
 may_copy k f place s t h m p =
     let at = held_then k f place s t m.held p in
     record {
       bound = h.bound place f at.valid;
       dead = ap (λ (x : StateOf). x.contents (key_of_place place)) p.same ∙ m.dead;
-      room = room_then s.life t.life p.life m.room;
+      room = room_then s.life t.life (search_left (Some f) true s t p).life m.room;
       shows = shows_held k f place t h m.shared at;
       named = ap is_some at.named;
       aside = ap (λ (x : StateOf). x.aside) p.same ∙ m.aside;

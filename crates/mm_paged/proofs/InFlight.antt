@@ -76,12 +76,3 @@ pub search_flight : (found : Bool) (s z : StateOf) → Searched None found s z �
 search_flight found s z h =
     let all = flight_same s.life.flight None s.life refl in
     flight_all None s.life.flight h.moves (walk_of s) z.life (h.each s.life.flight all) h.does.replays all
-
--- ---- by the result
-
--- a page that is valid was brought into this frame
-pub flight_at : (f g : Frame) (flight : List ℕ) (l m : FrameLife) (place : Place) → IsFlightOf flight (Some f) l → m.flight ≡ l.flight → m.valid place ≡ Some f → m.valid place ≡ Some g → IsFlightOf flight (Some g) m
-flight_at f g flight l m place p q v w = λ h o. elim (flight_on flight (Some f) l m p q h o) [
-  | inl e ↦ inl e
-  | inr e ↦ inr (sym w ∙ v ∙ e)
-]

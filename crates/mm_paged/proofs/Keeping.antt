@@ -3,31 +3,35 @@ use Rattle.std.proofs.Common.{◌≡◌, ℕ, zero, suc, ◌+◌, ◌-◌, Bool,
 use Rattle.std.specs.Prelude.{not, is_some, slice_get}
 use Rattle.std.proofs.Math.Logic.{∥∥₁_elim}
 use Rattle.std.proofs.Props.{props}
-use Rattle.mm_types.specs.{limit_of, Backing, Held, Move, Frame, Key, Place}
+use Rattle.mm_types.specs.{limit_of, MachineOf, Backing, Held, Move, Frame, Key, Place}
 use Rattle.mm_types.specs.declared.frames.Backing.TheVariants as backing
 use Rattle.mm_types.specs.declared.frames.Held.TheVariants as held
 use Rattle.mm_types.specs.declared.moves.Move.TheVariants as move
 use Rattle.mm_types.specs.declared.moves.Stored.TheVariants as stored
-use Rattle.mm_life.specs.{ResidentSet, record_at, FrameLife, with_resident, resident_by, is_live, is_dead, changed, same_key, after_move}
-use Rattle.mm_life.specs.{after_unmap_at, Replays, Walk, Through, walked}
+use Rattle.mm_life.specs.{ResidentSet, record_at, FrameLife, with_resident, resident_by, is_live, is_dead, changed, same_key, key_of_place}
+use Rattle.mm_life.specs.{after_move, after_unmap_at, Replays, Walk, Through, walked}
 use Rattle.mm_laws.specs.Reached.{Reached}
 use Rattle.mm_laws.specs.{block_held, block_in, block_of}
 use Rattle.mm_laws.proofs.{paging_block, reached_sound, block_kept}
-use Rattle.mm_pages.specs.{Aim, AccessMove, block_at, backed_by, in_backing, fetched}
-use Rattle.mm_moving.specs.{StateOf, Made, StateHolds}
-use Rattle.mm_paged.specs.{LifeKept, OwnOf, store_of, report_of, KeyAdded}
+use Rattle.mm_pages.specs.{Aim, AccessMove, touch, block_at, backed_by, in_backing, fetched}
+use Rattle.mm_moving.specs.{StateOf, Made, moved, moved_with_call, walk_of, StateHolds}
+use Rattle.mm_paged.specs.{Piece, LifeBut, LifeKept, KeepsButNames, IsCalledOn, MayUse, OwnOf, store_of, report_of, KeyAdded}
 use Rattle.mm_pages.specs.Told.{Told}
 use Rattle.mm_world.specs.Report.{Report}
+use Rattle.mm_reclaim.proofs.{moved_called}
 
 pub kept_same : (l : FrameLife) → LifeKept l l
 kept_same l = record { machine = refl; line = refl; kind = refl; paging = refl; keys = refl; pids = refl; added = refl }
 
+pub but_then : (p : Key → Bool) (n : ℕ) (l m o : FrameLife) → LifeBut p n l m → LifeKept m o → LifeBut p n l o
+but_then p n l m o a w = record { machine = w.machine ∙ a.machine; line = w.line ∙ a.line; kind = w.kind ∙ a.kind; paging = w.paging ∙ a.paging; keys = w.keys ∙ a.keys; pids = w.pids ∙ a.pids; added = w.added ∙ a.added }
+
 pub kept_then : (l m n : FrameLife) → LifeKept l m → LifeKept m n → LifeKept l n
-kept_then l m n p q = record { machine = q.machine ∙ p.machine; line = q.line ∙ p.line; kind = q.kind ∙ p.kind; paging = q.paging ∙ p.paging; keys = q.keys ∙ p.keys; pids = q.pids ∙ p.pids; added = q.added ∙ p.added }
+kept_then l m n p q = but_then l.paging l.paging_keys l m n p q
 
 -- a key comes to be, behind and before what moves within a line leave
 pub added_then : (k : Key) (l m n : FrameLife) → KeyAdded k l m → LifeKept m n → KeyAdded k l n
-added_then k l m n a w = record { machine = w.machine ∙ a.machine; line = w.line ∙ a.line; kind = w.kind ∙ a.kind; paging = w.paging ∙ a.paging; keys = w.keys ∙ a.keys; pids = w.pids ∙ a.pids; added = w.added ∙ a.added }
+added_then k l m n a w = but_then (changed same_key l.paging k true) (l.paging_keys + 1) l m n a w
 
 pub added_behind : (k : Key) (l m n : FrameLife) → LifeKept l m → KeyAdded k m n → KeyAdded k l n
 added_behind k l m n w a = record {
@@ -81,6 +85,13 @@ kept_one a w m ms c h = kept_within w.life m tt
 pub kept_all : (a : Aim) (ms : List Move) (w : Walk) (m : FrameLife) → a.need.copy ≡ None → Through (AccessMove a) w ms → Replays ms w.life m → LifeKept w.life m
 kept_all a [] w m c h r = subst (λ (l : FrameLife). LifeKept w.life l) (sym r) (kept_same w.life)
 kept_all a (x ∷ xs) w m c h r = kept_then w.life (after_move w.life x) m (kept_one a w x xs c h.0) (kept_all a xs (walked w x) m c h.1 r.1)
+
+-- what an access of a page is about that makes no copy
+abbrev pub aim_at : Bool → Key → Place → StateOf → Aim
+aim_at w k place s = record { place = place; need = touch k; writes = w; start = s.life }
+
+pub piece_life : (a : Aim) (E : Walk → Type 0) (n p o : ℕ) (s z : StateOf) → a.need.copy ≡ None → Piece a E n p o [] s z → LifeKept s.life z.life
+piece_life a E n p o s z c x = kept_all a x.moves (walk_of s) z.life c x.each x.does.replays
 
 -- ---- blocks of keys
 
@@ -156,3 +167,51 @@ fetched_by s z o u k b opened areas bound ext used = λ i. record {
   paging_device = z.paging;
   file_device = z.files;
 }
+
+-- after moves and calls of devices
+pub called_store : (ms : List Move) (s z : StateOf) (o u : OwnOf) → Replays ms s.life z.life → LifeKept s.life z.life → IsCalledOn s z → StateHolds s → StateHolds z → u.extended ≡ o.extended → u.blocks_used ≡ o.blocks_used
+    → store_of z u ≡ record (fetched (store_of s o) (store_of z u)) { names = z.names }
+called_store ms s z o u r l e h g ext used =
+    fetched_by s z o u l (blocks_kept s z ms h g r l.paging (ap (λ (x : StateOf). x.contents) e))
+    (ap (λ (x : StateOf). x.is_open) e) (ap (λ (x : StateOf). x.areas) e) (ap (λ (x : StateOf). x.bound) e) ext used
+
+pub stored_same : (s z : StateOf) → LifeKept s.life z.life → StateHolds s → StateHolds z → length z.blocks ≡ length s.blocks
+stored_same s z l h g = g.blocks ∙ ap (λ (n : MachineOf). n.blocks) l.machine ∙ sym h.blocks
+
+-- ---- what of the state stays
+
+-- no device was called
+pub moved_on : (s z : StateOf) (n : Place → Option Key) (a : Option Place) → z ≡ record (moved s z) { names = n; aside = a } → z ≡ record (moved_with_call s z) { names = n; aside = a }
+moved_on s z n a e = e ∙ (λ i. record (moved s z) {
+  names = n;
+  aside = a;
+  paging = ap (λ (t : StateOf). t.paging) (sym e) i;
+  files = ap (λ (t : StateOf). t.files) (sym e) i;
+  slots = ap (λ (t : StateOf). t.slots) (sym e) i;
+  blocks = ap (λ (t : StateOf). t.blocks) (sym e) i;
+})
+
+pub keeps_then : (s y z : StateOf) → KeepsButNames s y → KeepsButNames y z → KeepsButNames s z
+keeps_then s y z a b = record {
+  kind = b.kind ∙ a.kind;
+  unmapped = λ p h. b.unmapped p (a.unmapped p h);
+  same = b.same ∙ ap (λ (x : StateOf). record (moved_with_call x z) { names = z.names }) a.same;
+}
+
+pub called_on : (s z : StateOf) → z ≡ moved_with_call s z → IsCalledOn s z
+called_on s z e = e ∙ ap (λ (n : Place → Option Key). record (moved_with_call s z) { names = n }) (sym (ap (λ (x : StateOf). x.names) e))
+
+-- after a call of devices
+pub keeps_called : (s z : StateOf) → z.life.kind ≡ s.life.kind → z.life.valid ≡ s.life.valid → z ≡ moved_with_call s z → KeepsButNames s z
+keeps_called s z k v e = record { kind = k; unmapped = λ p h. ap (λ (f : Place → Option Frame). f p) v ∙ h; same = called_on s z e }
+
+pub may_use_then : (k : Key) (place : Place) (s z : StateOf) → IsCalledOn s z → MayUse k place s → MayUse k place z
+may_use_then k place s z e m = record {
+  bound = ap (λ (x : StateOf). x.bound place) e ∙ m.bound;
+  fits = m.fits;
+  alone = λ h. ap (λ (x : StateOf). x.contents (key_of_place place)) e ∙ m.alone h;
+  aside = ap (λ (x : StateOf). x.aside) e ∙ m.aside;
+}
+
+pub may_use_moved : (k : Key) (place : Place) (s z : StateOf) → z ≡ moved s z → MayUse k place s → MayUse k place z
+may_use_moved k place s z e m = may_use_then k place s z (called_on s z (moved_called s z e)) m

@@ -4,7 +4,7 @@ use Rattle.std.proofs.lemmas.Bool.{eqb-true, cases_lt}
 use Rattle.std.proofs.Math.Logic.{∥∥₁_elim}
 use Rattle.std.proofs.Props.{props}
 use Rattle.std.specs.Cmp.{unsigned_Decides}
-use Rattle.std.specs.Prelude.{not, is_some, ◌&&◌, ◌||◌, ◌==◌, if◌then◌else◌, option_map, unwrap_or, length}
+use Rattle.std.specs.Prelude.{is_some, ◌&&◌, ◌||◌, ◌==◌, if◌then◌else◌, option_map, unwrap_or}
 use Rattle.mm_types.specs.{Range, holds_page, limit_of, Held, LineKind, Frame, Key, Pid, Vpn, Place}
 use Rattle.mm_types.specs.declared.frames.Held.TheVariants as held
 use Rattle.mm_types.specs.declared.moves.LineKind.TheVariants as kind
@@ -12,12 +12,13 @@ use Rattle.mm_types.specs.declared.moves.Move.TheVariants as move
 use Rattle.mm_types.specs.declared.numbers.Key.TheVariants.{Private, Shared}
 use Rattle.mm_types.proofs.{not_true, none_of, some_found}
 use Rattle.mm_wset.specs.{IsNextFrom, IsLowestFrom}
-use Rattle.mm_life.specs.{record_at, FrameLife, changed, same_key, same_place, set_of, key_of_place, is_shared, is_live, is_dead, IsLegal, may_unmap}
-use Rattle.mm_life.specs.{unbinds, trims, touches, is_above_min, is_at_max, is_access, is_short, is_call, is_unbind, is_unmapped, owner_is}
-use Rattle.mm_life.specs.{fits_place, after_unmap_at, dropped_at, wait_of}
+use Rattle.mm_life.specs.{record_at, FrameLife, changed, same_key, same_place, set_of, key_of_place, is_shared, is_live, IsLegal, may_unmap, unbinds}
+use Rattle.mm_life.specs.{trims, touches, is_above_min, is_at_max, is_access, is_short, is_call, is_unbind, is_unmapped, owner_is, fits_place}
+use Rattle.mm_life.specs.{after_unmap_at, dropped_at, wait_of}
 use Rattle.mm_laws.specs.Sound.{Sound}
-use Rattle.mm_laws.specs.{is_frame, is_home_for}
-use Rattle.mm_laws.proofs.{reached_sound, changed_here, changed_else, key_or_not, same_place-self, tally-none}
+use Rattle.mm_laws.specs.{is_frame}
+use Rattle.mm_laws.proofs.{reached_sound, changed_here, changed_else, key_or_not, same_place-self, same_place-true, tally-none}
+use Rattle.mm_laws.proofs.{paging_lives as paging_live}
 use Rattle.mm_world.specs.{same_key as same_in_world}
 use Rattle.mm_pages.specs.{AllBound, AreAmong, IsAmong, MayUnbind, MayRemove, IsReleasing, place_at, Turns, page_rank, Passes, PassesIn, rearranged}
 use Rattle.mm_pages.specs.{block_at, backed_by, StoreOf, changed_in, unnamed}
@@ -26,8 +27,8 @@ use Rattle.mm_pages.specs.Leaving.{Leaving}
 use Rattle.mm_pages.proofs.{ends_then, ends_wider}
 use Rattle.mm_moving.specs.{StateOf, Made, moved, names_after_drop, StateHolds}
 use Rattle.mm_moving.proofs.{does_one, does_two}
-use Rattle.mm_paged.specs.{LifeKept, Thins, LetsGo, LetGo, Still, Gone, OwnLetGo, MayLetGo, MayLetOwnGo, NextGone, OwnOf, store_of, report_of}
-use Rattle.mm_paged.specs.{behind_of}
+use Rattle.mm_paged.specs.{LifeBut, LifeKept, Thins, LetsGo, LetGo, Still, Gone, OwnLetGo, MayLetGo, MayLetOwnGo, NextGone, OwnOf, store_of}
+use Rattle.mm_paged.specs.{report_of, behind_of}
 use Rattle.mm_paged.proofs.Unmoved.{turns_still}
 use Rattle.mm_paged.proofs.Keeping.{kept_same, kept_then, blocks_kept, block_same, paging_has_none, dead_has_none, fetched_by, with_told, kept_made}
 use Rattle.mm_paged.proofs.Placing.{unmapped_stands, unmapped_still}
@@ -233,12 +234,7 @@ unmapped_by s k h none = at (s.life.stands k) refl
     at w e = refl
 
 own_place : (pid : Pid) (vpn : Vpn) (p : Place) → fits_place p (Private pid vpn) ≡ true → p ≡ record { pid = pid; vpn = vpn }
-own_place pid vpn p h = both (pid.0 == p.pid.0) (vpn.0 == p.vpn.0) refl refl h
-  where
-    both : (a b : Bool) → (pid.0 == p.pid.0) ≡ a → (vpn.0 == p.vpn.0) ≡ b → (a && b) ≡ true → p ≡ record { pid = pid; vpn = vpn }
-    both true true e f q = λ i. record { pid = record { 0 = sym (eqb-true pid.0 p.pid.0 e) i }; vpn = record { 0 = sym (eqb-true vpn.0 p.vpn.0 f) i } }
-    both true false e f q = cc
-    both false b e f q = cc
+own_place pid vpn p h = sym (same_place-true (record { pid = pid; vpn = vpn }) p h)
 
 -- once its own place is let go, no place is valid for it
 pub unmapped_then : (k : Key) (s y : StateOf) (o : OwnOf) → StateHolds y → OwnLetGo k s y → MayRemove (store_of s o) k → is_unmapped y.life (y.life.stands k) ≡ true
@@ -260,19 +256,12 @@ drop_legal k s y o h g p m =
     (λ i. a i && b i && c i)
 
 -- what a drop leaves of the life of the frames
-record Drops (k : Key) (l m : FrameLife) : Type 0 where
-  machine : m.machine ≡ l.machine
-  line : m.line ≡ l.line
-  kind : m.kind ≡ l.kind
-  paging : m.paging ≡ changed same_key l.paging k false
-  keys : m.paging_keys ≡ l.paging_keys - 1
-  pids : length m.sets ≡ length l.sets
-  added : m.added ≡ l.added
-  valid : m.valid ≡ l.valid
+abbrev Drops : Key → FrameLife → FrameLife → Type 0
+Drops k l m = LifeBut (changed same_key l.paging k false) (l.paging_keys - 1) l m
 
 drops_at : (k : Key) (l : FrameLife) (h : Held) → Drops k l (dropped_at h l k)
-drops_at k l (held.Frame f) = record { machine = refl; line = refl; kind = refl; paging = refl; keys = refl; pids = refl; added = refl; valid = refl }
-drops_at k l h = record { machine = refl; line = refl; kind = refl; paging = refl; keys = refl; pids = refl; added = refl; valid = refl }
+drops_at k l (held.Frame f) = record { machine = refl; line = refl; kind = refl; paging = refl; keys = refl; pids = refl; added = refl }
+drops_at k l h = record { machine = refl; line = refl; kind = refl; paging = refl; keys = refl; pids = refl; added = refl }
 
 drops_by : (k : Key) (s z : StateOf) → Made (move.Drop k) s z → Drops k s.life z.life
 drops_by k s z m = subst (λ (l : FrameLife). Drops k s.life l) (sym m.life) (drops_at k s.life (s.life.stands k))
@@ -369,14 +358,7 @@ removed_passes (Shared area index) s y z o u g e m w held from to h = subst (λ 
 
 -- a page-file key lives
 pub paging_lives : (s : StateOf) (k : Key) → StateHolds s → s.life.paging k ≡ true → is_live s.life k ≡ true
-paging_lives s k h e = at (s.life.stands k) (ap (λ (b : Bool). is_home_for b (s.life.stands k)) (sym e) ∙ h.homes k)
-  where
-    at : (w : Held) → is_home_for true w ≡ true → not (is_dead w) ≡ true
-    at (held.Frame f) q = refl
-    at (held.Slot t) q = refl
-    at (held.Block b) q = refl
-    at held.Zero q = refl
-    at held.Dead q = cc
+paging_lives s k h e = ∥∥₁_elim h.reached (hlevel props) (λ r. paging_live s.life (reached_sound s.life r) k e)
 
 -- ---- pages of a process are given up
 

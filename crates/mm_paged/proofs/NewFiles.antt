@@ -15,14 +15,14 @@ use Rattle.mm_blocks.specs.{DeviceCall, DeviceOf, Call, AllServed, logged_call, 
 use Rattle.mm_blocks.proofs.{all_served_then, all_served_one, map-logged, later_same, later_then, serves_later, serves_failed, failed_later}
 use Rattle.mm_blocks.proofs.{keeps_same, keeps_then, keeps_written}
 use Rattle.mm_life.specs.{FrameLife, changed, same_key}
-use Rattle.mm_world.specs.{Tally, filled}
+use Rattle.mm_world.specs.{filled}
 use Rattle.mm_pages.specs.Behind.{Behind}
-use Rattle.mm_pages.specs.{Turns, Makes, Notes, writes_from, Served, tallied, with_write}
+use Rattle.mm_pages.specs.{Turns, Makes, Notes, writes_from, Served, with_write}
 use Rattle.mm_pages.specs.Told.{Told}
 use Rattle.mm_pages.proofs.{made_behind, made_wider, turned_none, tallied_then, served_nothing, served_writes}
 use Rattle.mm_moving.specs.{StateOf, Made, DeviceCalled, moved, written_if}
 use Rattle.mm_moving.proofs.{does_one, does_then, does_nothing}
-use Rattle.mm_paged.specs.{BlocksWritten, PagesAdded, with_pages, with_area, FileBuilt, UnmadeAs, OwnOf, store_of, behind_of}
+use Rattle.mm_paged.specs.{BlocksWritten, CallsWritten, PagesAdded, with_pages, with_area, FileBuilt, UnmadeAs, OwnOf, store_of, behind_of}
 use Rattle.mm_reclaim.proofs.{one_some}
 
 -- ---- blocks are written
@@ -47,21 +47,16 @@ pub blocks_none : (first byte : ℕ) (s : StateOf) → BlocksWritten first 0 byt
 blocks_none first byte s = record {
   whole = 0;
   calls = [];
-  served = refl;
+  tells = record { served = refl; none_read = λ t. refl; told = refl; rest = refl; later = later_same s.files s.files refl; kept = keeps_same [] s.blocks s.blocks refl };
   are = refl;
   all = λ e. refl;
   some = λ e. cc;
-  none_read = λ t. refl;
-  told = refl;
-  rest = refl;
   written = λ e i h. absurd (omega (arith, h));
   others = λ block h. refl;
   long = refl;
-  later = later_same s.files s.files refl;
   quiet = λ e. refl;
   failed = λ e. cc;
   blamed = λ e. cc;
-  kept = keeps_same [] s.blocks s.blocks refl;
 }
 
 -- the call of the device that writes a block
@@ -90,50 +85,39 @@ module _ (first i byte : ℕ) (s y z : StateOf) (p : BlocksWritten first i byte 
   more_are : (ok : Bool) → map logged_call (p.calls ++ call_for y (first + i) ok ∷ []) ≡ writes_from first i ++ one_write ok (first + i) ∷ []
   more_are ok = map-logged p.calls (call_for y (first + i) ok ∷ []) ∙ ap (λ (cs : List DeviceCall). cs ++ one_write ok (first + i) ∷ []) calls_are
 
-  more_told : (ok : Bool) (q : OneWritten (first + i) ((byte + i) % 256) ok y z) → z.told ≡ record s.told { file_writes = tallied way.Write (p.calls ++ call_for y (first + i) ok ∷ []) s.told.file_writes; search_writes = tallied way.Write (p.calls ++ call_for y (first + i) ok ∷ []) s.told.search_writes }
-  more_told ok q =
-      let cs : List Call = call_for y (first + i) ok ∷ [] in
-      let a = sym (tallied_then way.Write p.calls cs s.told.file_writes) in
-      let b = sym (tallied_then way.Write p.calls cs s.told.search_writes) in
-      q.told ∙ ap (λ (t : Told). with_write ok (backing.Block (record { 0 = first + i })) t) p.told ∙ (λ j. record s.told { file_writes = a j; search_writes = b j })
-
-  more_served : (ok : Bool) → OneWritten (first + i) ((byte + i) % 256) ok y z → AllServed (p.calls ++ call_for y (first + i) ok ∷ []) s.files z.files
-  more_served ok q = all_served_then p.calls (call_for y (first + i) ok ∷ []) s.files y.files z.files p.served (all_served_one (call_for y (first + i) ok) y.files z.files q.called.0)
-
-  more_unread : (ok : Bool) (t : Tally) → tallied way.Read (p.calls ++ call_for y (first + i) ok ∷ []) t ≡ t
-  more_unread ok t = tallied_then way.Read p.calls (call_for y (first + i) ok ∷ []) t ∙ p.none_read t
-
   one_kept : (ok : Bool) → OneWritten (first + i) ((byte + i) % 256) ok y z → KeepsOthers (one_write ok (first + i) ∷ []) y.blocks z.blocks
   one_kept true q = subst (λ (bs : List (List ℕ)). KeepsOthers (one_write true (first + i) ∷ []) y.blocks bs) (sym q.written) (keeps_written (first + i) y.blocks (replicate 4096 ((byte + i) % 256)))
   one_kept false q = keeps_same (one_write false (first + i) ∷ []) y.blocks z.blocks q.written
 
-  more_kept : (ok : Bool) → OneWritten (first + i) ((byte + i) % 256) ok y z → KeepsOthers (map logged_call (p.calls ++ call_for y (first + i) ok ∷ [])) s.blocks z.blocks
-  more_kept ok q =
-      subst (λ (cs : List DeviceCall). KeepsOthers cs s.blocks z.blocks) (sym (map-logged p.calls (call_for y (first + i) ok ∷ [])))
-      (keeps_then (map logged_call p.calls) (one_write ok (first + i) ∷ []) s.blocks y.blocks z.blocks p.kept (one_kept ok q))
-
-  more_rest : (ok : Bool) → OneWritten (first + i) ((byte + i) % 256) ok y z → z ≡ record s { told = z.told; files = z.files; blocks = z.blocks }
-  more_rest ok q = q.rest ∙ ap (λ (x : StateOf). record x { told = z.told; files = z.files; blocks = z.blocks }) p.rest
+  more_tells : (ok : Bool) → OneWritten (first + i) ((byte + i) % 256) ok y z → CallsWritten (p.calls ++ call_for y (first + i) ok ∷ []) s z
+  more_tells ok q =
+      let cs : List Call = call_for y (first + i) ok ∷ [] in
+      let was = p.tells in
+      let a = sym (tallied_then way.Write p.calls cs s.told.file_writes) in
+      let b = sym (tallied_then way.Write p.calls cs s.told.search_writes) in
+      record {
+        served = all_served_then p.calls cs s.files y.files z.files was.served (all_served_one (call_for y (first + i) ok) y.files z.files q.called.0);
+        none_read = λ t. tallied_then way.Read p.calls cs t ∙ was.none_read t;
+        told = q.told ∙ ap (λ (t : Told). with_write ok (backing.Block (record { 0 = first + i })) t) was.told ∙ (λ j. record s.told { file_writes = a j; search_writes = b j });
+        rest = q.rest ∙ ap (λ (x : StateOf). record x { told = z.told; files = z.files; blocks = z.blocks }) was.rest;
+        later = later_then s.files y.files z.files was.later (serves_later _ y.files z.files q.called.0);
+        kept = subst (λ (ds : List DeviceCall). KeepsOthers ds s.blocks z.blocks) (sym (map-logged p.calls cs)) (keeps_then (map logged_call p.calls) (one_write ok (first + i) ∷ []) s.blocks y.blocks z.blocks was.kept (one_kept ok q));
+      }
 
   pub blocks_more : OneWritten (first + i) ((byte + i) % 256) true y z → first + i < length y.blocks → BlocksWritten first (i + 1) byte true s z
   blocks_more q near = record {
     whole = i + 1;
     calls = p.calls ++ call_for y (first + i) true ∷ [];
-    served = more_served true q;
+    tells = more_tells true q;
     are = more_are true ∙ sym (writes-more first i) ∙ sym (append_nil (writes_from first (i + 1)));
     all = λ e. refl;
     some = λ e. cc;
-    none_read = more_unread true;
-    told = more_told true q;
-    rest = more_rest true q;
     written = λ e k h. at k h;
     others = others;
     long = ap (λ (bs : List (List ℕ)). length bs) q.written ∙ length-set y.blocks (first + i) (replicate 4096 ((byte + i) % 256)) ∙ p.long;
-    later = later_then s.files y.files z.files p.later (serves_later _ y.files z.files q.called.0);
     quiet = λ e. ap (λ (t : Told). t.file_writes.failed) q.told ∙ p.quiet refl;
     failed = λ e. cc;
     blamed = λ e. cc;
-    kept = more_kept true q;
   }
     where
       at : (k : ℕ) → k < i + 1 → slice_get z.blocks (first + k) ≡ Some (filled ((byte + k) % 256))
@@ -158,21 +142,16 @@ module _ (first i byte : ℕ) (s y z : StateOf) (p : BlocksWritten first i byte 
   blocks_lost n q h = record {
     whole = i;
     calls = p.calls ++ call_for y (first + i) false ∷ [];
-    served = more_served false q;
+    tells = more_tells false q;
     are = more_are false;
     all = λ e. cc;
     some = λ e. h;
-    none_read = more_unread false;
-    told = more_told false q;
-    rest = more_rest false q;
     written = λ e k l. cc;
     others = λ block b. ap (λ (bs : List (List ℕ)). slice_get bs block) q.written ∙ p.others block (elim b [ inl low ↦ inl low | inr high ↦ inr (omega (arith, high, h)) ]);
     long = ap (λ (bs : List (List ℕ)). length bs) q.written ∙ p.long;
-    later = later_then s.files y.files z.files p.later (serves_later _ y.files z.files q.called.0);
     quiet = λ e. cc;
     failed = λ e. subst (λ (t : Told). 0 < t.file_writes.failed) (sym q.told) (one_some y.told.file_writes.failed);
-    blamed = λ e. failed_later s.files y.files z.files p.later (serves_failed _ y.files z.files q.called.0 refl);
-    kept = more_kept false q;
+    blamed = λ e. failed_later s.files y.files z.files p.tells.later (serves_failed _ y.files z.files q.called.0 refl);
   }
 
 -- ---- pages come to be
@@ -270,23 +249,23 @@ pages_more area first i s y z p m r = record {
 
 module _ (area first n byte : ℕ) (s z : StateOf) (p : FileBuilt area first n byte s z) where
   built_told : z.told ≡ record s.told { file_writes = z.told.file_writes; search_writes = z.told.search_writes }
-  built_told = subst (λ (x : Told). x ≡ record s.told { file_writes = x.file_writes; search_writes = x.search_writes }) (sym (p.added.told ∙ p.wrote.told)) refl
+  built_told = subst (λ (x : Told). x ≡ record s.told { file_writes = x.file_writes; search_writes = x.search_writes }) (sym (p.added.told ∙ p.wrote.tells.told)) refl
 
   built_still : {A : Type 0} (look : StateOf → A) → look (record (moved p.mid z) { contents = z.contents }) ≡ look p.mid → look (record (with_area area n s) { told = p.mid.told; files = p.mid.files; blocks = p.mid.blocks }) ≡ look (with_area area n s) → look z ≡ look (with_area area n s)
-  built_still look e f = ap look p.added.same ∙ e ∙ ap look p.wrote.rest ∙ f
+  built_still look e f = ap look p.added.same ∙ e ∙ ap look p.wrote.tells.rest ∙ f
 
   pub built_files : z.files ≡ p.mid.files
   built_files = ap (λ (x : StateOf). x.files) p.added.same
 
   pub built_served : (o u : OwnOf) → Served (store_of s o) (store_of z u)
-  built_served o u = served_writes (store_of s o) (store_of z u) p.wrote.calls (subst (λ (d : DeviceOf). AllServed p.wrote.calls s.files d) (sym built_files) p.wrote.served)
-      (ap (λ (t : Told). t.file_writes) (p.added.told ∙ p.wrote.told)) p.wrote.none_read (built_still (λ x. x.paging) refl refl)
+  built_served o u = served_writes (store_of s o) (store_of z u) p.wrote.calls (subst (λ (d : DeviceOf). AllServed p.wrote.calls s.files d) (sym built_files) p.wrote.tells.served)
+      (ap (λ (t : Told). t.file_writes) (p.added.told ∙ p.wrote.tells.told)) p.wrote.tells.none_read (built_still (λ x. x.paging) refl refl)
       (ap (λ (t : Told). t.paging_reads) built_told) (ap (λ (t : Told). t.paging_writes) built_told) (ap (λ (t : Told). t.file_reads) built_told)
 
   pub built_notes : n ≤ 2 ^ 32 → Notes (Turns Makes) (behind_of s) (behind_of z)
   built_notes few =
       let d = p.added.does in
-      subst (λ (b : Behind). Notes (Turns Makes) b (behind_of z)) (ap behind_of p.wrote.rest) (record {
+      subst (λ (b : Behind). Notes (Turns Makes) b (behind_of z)) (ap behind_of p.wrote.tells.rest) (record {
         moves = p.added.moves;
         in_range = d.in_range;
         grew = d.grew;
@@ -301,8 +280,8 @@ module _ (area first n byte : ℕ) (s z : StateOf) (p : FileBuilt area first n b
 -- ---- what it shows where no file was made
 
 pub unmade_served : (first n byte : ℕ) (e : MakeFault) (s z : StateOf) (o : OwnOf) → UnmadeAs first n byte e s z → Served (store_of s o) (store_of z o)
-unmade_served first n byte make_fault.Write s z o p = served_writes (store_of s o) (store_of z o) p.calls p.served (ap (λ (t : Told). t.file_writes) p.told) p.none_read (ap (λ (x : StateOf). x.paging) p.rest)
-    (ap (λ (t : Told). t.paging_reads) p.told) (ap (λ (t : Told). t.paging_writes) p.told) (ap (λ (t : Told). t.file_reads) p.told)
+unmade_served first n byte make_fault.Write s z o p = served_writes (store_of s o) (store_of z o) p.calls p.tells.served (ap (λ (t : Told). t.file_writes) p.tells.told) p.tells.none_read (ap (λ (x : StateOf). x.paging) p.tells.rest)
+    (ap (λ (t : Told). t.paging_reads) p.tells.told) (ap (λ (t : Told). t.paging_writes) p.tells.told) (ap (λ (t : Told). t.file_reads) p.tells.told)
 unmade_served first n byte make_fault.Memory s z o p = subst (λ (x : StateOf). Served (store_of s o) (store_of x o)) (sym p) (served_nothing (store_of s o) (store_of s o) refl refl refl refl refl refl)
 
 notes_none : (s z : StateOf) → behind_of z ≡ behind_of s → Notes (Turns Makes) (behind_of s) (behind_of z)
@@ -315,5 +294,5 @@ notes_none s z e = subst (λ (b : Behind). Notes (Turns Makes) (behind_of s) b) 
 })
 
 pub unmade_notes : (first n byte : ℕ) (e : MakeFault) (s z : StateOf) → UnmadeAs first n byte e s z → Notes (Turns Makes) (behind_of s) (behind_of z)
-unmade_notes first n byte make_fault.Write s z p = notes_none s z (ap behind_of p.rest)
+unmade_notes first n byte make_fault.Write s z p = notes_none s z (ap behind_of p.tells.rest)
 unmade_notes first n byte make_fault.Memory s z p = notes_none s z (ap behind_of p)

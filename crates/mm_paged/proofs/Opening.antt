@@ -3,8 +3,8 @@ use Rattle.std.proofs.Common.{◌≡◌, ℕ, suc, ◌+◌, ◌-◌, Bool, true,
 use Rattle.std.proofs.Math.Logic.{∥∥₁_elim}
 use Rattle.std.proofs.Props.{props}
 use Rattle.std.specs.Bool.{IsTrue}
-use Rattle.std.specs.Prelude.{is_some, ◌&&◌, ◌==◌, nat_le, nat_lt, slice_get}
-use Rattle.mm_types.proofs.{same_or_not}
+use Rattle.std.specs.Prelude.{is_some, ◌&&◌, ◌==◌, nat_le, nat_lt}
+use Rattle.mm_types.proofs.{get_last, same_or_not}
 use Rattle.mm_types.specs.{Held, LineKind, Move, Frame, Pid}
 use Rattle.mm_types.specs.declared.frames.Held.TheVariants as held
 use Rattle.mm_types.specs.declared.moves.LineKind.TheVariants as kind
@@ -33,12 +33,8 @@ resized_has sets q change p h = elim (same_or_not p q) [
     here None e g = cc
     here (Some s) e g = ap is_some (set_here sets p change s e)
 
-last_get : (xs : List ResidentSet) (s : ResidentSet) → is_some (slice_get (xs ++ s ∷ []) (length xs)) ≡ true
-last_get [] s = refl
-last_get (x ∷ xs) s = last_get xs s
-
 last_has : (sets : List ResidentSet) (s : ResidentSet) (p : ℕ) → p ≡ length sets + 1 → is_some (set_in (sets ++ s ∷ []) p) ≡ true
-last_has sets s p e = subst (λ (n : ℕ). is_some (set_in (sets ++ s ∷ []) n) ≡ true) (sym (next e)) (last_get sets s)
+last_has sets s p e = subst (λ (n : ℕ). is_some (set_in (sets ++ s ∷ []) n) ≡ true) (sym (next e)) (ap is_some (get_last sets s))
   where
     next : p ≡ length sets + 1 → p ≡ suc (length sets)
     next e = omega (arith, e)

@@ -1,5 +1,5 @@
 -- A copy becomes valid at its place, where the page that it is a copy of goes.
-use Rattle.std.proofs.Common.{◌≡◌, ℕ, ◌≤◌, Bool, true, false, [], ◌∷◌, Option, Some, None, refl, sym, ap, ◌∙◌, arith}
+use Rattle.std.proofs.Common.{◌≡◌, ℕ, ◌≤◌, Bool, true, false, Option, Some, None, refl, sym, ap, ◌∙◌, arith}
 use Rattle.std.specs.Prelude.{not, ◌-◌, if◌then◌else◌, option_map, unwrap_or}
 use Rattle.mm_types.specs.{Held, Record, Frame, Key, Place}
 use Rattle.mm_types.specs.declared.moves.Move.TheVariants as move
@@ -9,15 +9,13 @@ use Rattle.mm_laws.proofs.{same_place-self}
 use Rattle.mm_frame_laws.proofs.{sized}
 use Rattle.mm_parts.specs.{HasSet, left_by}
 use Rattle.mm_pages.specs.{Aim, ByCopy, touch}
-use Rattle.mm_moving.specs.{StateOf, Made, MayMap, names_after_map, moved, moved_with_call, StateHolds}
-use Rattle.mm_moving.proofs.{does_one}
-use Rattle.mm_paged.specs.{Went, InQuietFrame, LifeKept}
-use Rattle.mm_paged.proofs.Keeping.{kept_then, kept_made}
-use Rattle.mm_paged.proofs.Doing.{went_then}
-use Rattle.mm_paged.proofs.Placing.{own_test, map_legal, in_frame_then, kind_then, went_map}
+use Rattle.mm_moving.specs.{StateOf, Made, MayMap, names_after_map, moved, StateHolds}
+use Rattle.mm_paged.specs.{Went, IsFresh, InQuietFrame, CopyPut}
+use Rattle.mm_paged.proofs.Keeping.{kept_then, kept_made, moved_on}
+use Rattle.mm_paged.proofs.Doing.{went_one, went_then}
+use Rattle.mm_paged.proofs.Placing.{own_test, map_legal, unmapped_stands, went_map}
 use Rattle.mm_paged.proofs.Records.{settled_record, look_set}
 use Rattle.mm_paged.proofs.LettingGo.{gone_then}
-use Rattle.mm_paged.proofs.FaultSteps.{moved_on}
 
 -- ---- the page that was copied goes
 
@@ -33,15 +31,15 @@ shows_valid : (l : FrameLife) (p : Place) (o : Option Frame) → unwrap_or (opti
 shows_valid l p None e v = cc
 shows_valid l p (Some f) e v = (f, v)
 
-pub below_copied : (place : Place) (s y : StateOf) → HasSet s.life place.pid.0 → shows_shared s.life place ≡ true → Made (move.Unmap place) s y → is_below_max (set_of y.life place.pid.0) ≡ true
+below_copied : (place : Place) (s y : StateOf) → HasSet s.life place.pid.0 → shows_shared s.life place ≡ true → Made (move.Unmap place) s y → is_below_max (set_of y.life place.pid.0) ≡ true
 below_copied place s y h shows m =
     let f = shows_valid s.life place (s.life.valid place) shows refl in
     ap (λ (x : FrameLife). is_below_max (set_of x place.pid.0)) m.life ∙ ap is_below_max (sized s.life place f.0 h.set f.1 h.found) ∙ fewer_below h.set h.some h.within
 
-pub map_copy : (place : Place) (f : Frame) (s y : StateOf) → StateHolds s → StateHolds y → InQuietFrame (key_of_place place) f s → s.bound place ≡ true → shows_shared s.life place ≡ true → touches place.pid.0 s.life.kind ≡ true → Made (move.Unmap place) s y → IsLegal (move.Map f place) y.life
+pub map_copy : (place : Place) (f : Frame) (s y : StateOf) → StateHolds s → StateHolds y → InQuietFrame (key_of_place place) f y → s.bound place ≡ true → shows_shared s.life place ≡ true → touches place.pid.0 s.life.kind ≡ true → Made (move.Unmap place) s y → IsLegal (move.Map f place) y.life
 map_copy place f s y h g i bound shows touch m =
-    map_legal (key_of_place place) f place y g (in_frame_then (key_of_place place) f s y place i m.life) (same_place-self place) (gone_then s y place m)
-    (ap (touches place.pid.0) (kind_then s y place m.life) ∙ touch)
+    map_legal (key_of_place place) f place y g i (same_place-self place) (gone_then s y place m)
+    (ap (touches place.pid.0) (kept_made (move.Unmap place) s y m tt).kind ∙ touch)
     (below_copied place s y (h.sets place.pid.0 (h.open_process place bound)) shows m)
 
 pub own_may_map : (place : Place) (f : Frame) (y : StateOf) → StateHolds y → InQuietFrame (key_of_place place) f y → MayMap y f place
@@ -50,17 +48,10 @@ own_may_map place f y g i = λ e. let bad : false ≡ true = sym (own_test is_sh
 -- ---- the piece
 
 went_unmap : (a : Aim) (place : Place) (s y : StateOf) → a.place ≡ place → a.need.copy ≡ Some (key_of_place place) → is_live s.life (key_of_place place) ≡ true → Made (move.Unmap place) s y → Went a 0 s y
-went_unmap a place s y e c l m = record {
-  moves = move.Unmap place ∷ [];
-  does = does_one (move.Unmap place) s y m;
-  each = (ByCopy (sym e) (ap (λ (o : Option Key). unwrap_or (option_map (λ k. is_live s.life k) o) false) c ∙ l), tt);
-  fresh = refl;
-  few_reads = omega arith;
-  few_writes = omega arith;
-}
+went_unmap a place s y e c l m = went_one a (move.Unmap place) s y m (ByCopy (sym e) (ap (λ (o : Option Key). unwrap_or (option_map (λ k. is_live s.life k) o) false) c ∙ l)) refl (omega arith) (omega arith)
 
-pub went_put : (a : Aim) (place : Place) (f : Frame) (s y z : StateOf) → a.place ≡ place → a.need.copy ≡ Some (key_of_place place) → InQuietFrame (key_of_place place) f s → Made (move.Unmap place) s y → Made (move.Map f place) y z → Went a 0 s z
-went_put a place f s y z e c i u m = went_then a 0 0 s y z (went_unmap a place s y e c (in_frame_live (key_of_place place) f s i) u) (went_map a f place y z e m)
+went_put : (a : Aim) (place : Place) (f : Frame) (s y z : StateOf) → a.place ≡ place → a.need.copy ≡ Some (key_of_place place) → InQuietFrame (key_of_place place) f s → Made (move.Unmap place) s y → Made (move.Map f place) y z → Went a 0 s z
+went_put a place f s y z e c i u m = went_then a IsFresh 0 0 s y z (went_unmap a place s y e c (in_frame_live (key_of_place place) f s i) u) (went_map a f place y z e m)
 
 -- ---- what stays
 
@@ -71,37 +62,29 @@ look_unmap look same l p g (Some f) =
     let d = with_record l.frames f.0 (unshared (record_at l.frames f.0)) in
     ap look (settled_record (record_at d f.0) d f.0 g) ∙ look_set look l.frames.records f.0 g (unshared (record_at l.frames f.0)) (same (record_at l.frames f.0) _)
 
-pub put_look : {A : Type 0} (look : Record → A) → ((r : Record) (n : ℕ) → look (record r { shares = n }) ≡ look r) → (place : Place) (f : Frame) (s y z : StateOf) → Made (move.Unmap place) s y → Made (move.Map f place) y z → (g : ℕ) → look (record_at z.life.frames g) ≡ look (record_at s.life.frames g)
+put_look : {A : Type 0} (look : Record → A) → ((r : Record) (n : ℕ) → look (record r { shares = n }) ≡ look r) → (place : Place) (f : Frame) (s y z : StateOf) → Made (move.Unmap place) s y → Made (move.Map f place) y z → (g : ℕ) → look (record_at z.life.frames g) ≡ look (record_at s.life.frames g)
 put_look look same place f s y z u m g =
     ap (λ (l : FrameLife). look (record_at l.frames g)) m.life ∙ look_set look y.life.frames.records f.0 g (shared (record_at y.life.frames f.0)) (same (record_at y.life.frames f.0) _)
     ∙ ap (λ (l : FrameLife). look (record_at l.frames g)) u.life ∙ look_unmap look same s.life place g (s.life.valid place)
 
-pub put_names : (place : Place) (f : Frame) (s y z : StateOf) → StateHolds y → InQuietFrame (key_of_place place) f y → y.names ≡ s.names → z.names ≡ names_after_map y f place → z.names ≡ changed same_place s.names place (Some (key_of_place place))
-put_names place f s y z g i n e =
-    e ∙ ap (λ (o : Option Key). changed same_place y.names place o) (g.owner (key_of_place place) f i.stands) ∙ ap (λ (h : Place → Option Key). changed same_place h place (Some (key_of_place place))) n
-
-pub put_kept : (place : Place) (f : Frame) (s y z : StateOf) → Made (move.Unmap place) s y → Made (move.Map f place) y z → LifeKept s.life z.life
-put_kept place f s y z u m = kept_then s.life y.life z.life (kept_made (move.Unmap place) s y u tt) (kept_made (move.Map f place) y z m tt)
-
-pub put_valid : (place : Place) (f : Frame) (y z : StateOf) → Made (move.Map f place) y z → z.life.valid place ≡ Some f
-put_valid place f y z m = ap (λ (l : FrameLife). l.valid place) m.life ∙ ap (λ (b : Bool). if b then Some f else y.life.valid place) (same_place-self place)
-
-pub put_young : (place : Place) (f : Frame) (y z : StateOf) → Made (move.Map f place) y z → z.ages place ≡ 0
-put_young place f y z m = ap (λ (ages : Place → ℕ). ages place) m.ages ∙ ap (λ (b : Bool). if b then 0 else y.ages place) (same_place-self place)
-
 left_here : (o : Option Place) (place : Place) → o ≡ Some place → left_by o place ≡ None
 left_here o place e = ap (λ (q : Option Place). left_by q place) e ∙ ap (λ (b : Bool). if b then None else Some place) (same_place-self place)
 
--- nothing stands beside the tables then
-pub put_aside : (place : Place) (n : Place → Option Key) (s y z : StateOf) → s.aside ≡ Some place → y ≡ moved s y → z ≡ record (moved y z) { names = n; aside = left_by y.aside place } → z.aside ≡ None
-put_aside place n s y z a r e = ap (λ (x : StateOf). x.aside) e ∙ left_here y.aside place (ap (λ (x : StateOf). x.aside) r ∙ a)
-
-put_moved : (place : Place) (n : Place → Option Key) (s y z : StateOf) → s.aside ≡ Some place → y ≡ moved s y → z ≡ record (moved y z) { names = n; aside = left_by y.aside place } → z ≡ record (moved s z) { names = z.names; aside = None }
-put_moved place n s y z a r e =
-    e
-    ∙ ap (λ (x : StateOf). record (moved x z) { names = n; aside = left_by y.aside place }) r
-    ∙ ap (λ (m : Place → Option Key). record (moved s z) { names = m; aside = left_by y.aside place }) (sym (ap (λ (x : StateOf). x.names) e))
-    ∙ ap (λ (o : Option Place). record (moved s z) { names = z.names; aside = o }) (left_here y.aside place (ap (λ (x : StateOf). x.aside) r ∙ a))
-
-pub put_same : (place : Place) (n : Place → Option Key) (s y z : StateOf) → s.aside ≡ Some place → y ≡ moved s y → z ≡ record (moved y z) { names = n; aside = left_by y.aside place } → z ≡ record (moved_with_call s z) { names = z.names; aside = None }
-put_same place n s y z a r e = moved_on s z z.names None (put_moved place n s y z a r e)
+pub copy_put : (place : Place) (f : Frame) (s y z : StateOf) → StateHolds y → InQuietFrame (key_of_place place) f s → InQuietFrame (key_of_place place) f y → s.aside ≡ Some place → Made (move.Unmap place) s y → y ≡ moved s y → Made (move.Map f place) y z
+    → z ≡ record (moved y z) { names = names_after_map y f place; aside = left_by y.aside place } → CopyPut place f s z
+copy_put place f s y z h i j a u r m e =
+    let none : left_by y.aside place ≡ None = left_here y.aside place (ap (λ (x : StateOf). x.aside) r ∙ a) in
+    let names = ap (λ (x : StateOf). x.names) e in
+    record {
+      went = λ b p c. went_put b place f s y z p c i u m;
+      life = kept_then s.life y.life z.life (kept_made (move.Unmap place) s y u tt) (kept_made (move.Map f place) y z m tt);
+      valid = ap (λ (l : FrameLife). l.valid place) m.life ∙ ap (λ (b : Bool). if b then Some f else y.life.valid place) (same_place-self place);
+      young = ap (λ (ages : Place → ℕ). ages place) m.ages ∙ ap (λ (b : Bool). if b then 0 else y.ages place) (same_place-self place);
+      stands = ap (λ (l : FrameLife). l.stands) m.life ∙ ap (λ (l : FrameLife). l.stands) u.life ∙ unmapped_stands s.life place (s.life.valid place);
+      quiet = put_look (λ (r : Record). r.request) (λ r n. refl) place f s y z u m;
+      flags = put_look (λ (r : Record). r.changed) (λ r n. refl) place f s y z u m;
+      names = names ∙ ap (λ (o : Option Key). changed same_place y.names place o) (h.owner (key_of_place place) f j.stands) ∙ ap (λ (x : StateOf). changed same_place x.names place (Some (key_of_place place))) r;
+      aside = ap (λ (x : StateOf). x.aside) e ∙ none;
+      told = m.told ∙ u.told;
+      same = moved_on s z z.names None (e ∙ ap (λ (x : StateOf). record (moved x z) { names = names_after_map y f place; aside = left_by y.aside place }) r ∙ (λ k. record (moved s z) { names = sym names k; aside = none k }));
+    }

@@ -1,32 +1,30 @@
 -- What the moves of an access leave alone in a thread's line: no device is called there, and no read ends.
-use Rattle.std.proofs.Common.{◌≡◌, ℕ, Bool, true, false, List, [], ◌∷◌, ◌++◌, None, Some, refl, sym, ap, ◌∙◌, Option, ◌≤◌, subst}
+use Rattle.std.proofs.Common.{◌≡◌, ℕ, Bool, true, false, List, [], ◌∷◌, ◌++◌, None, Some, refl, sym, ap, ◌∙◌, ◌≤◌, subst}
 use Rattle.std.specs.Bool.{IsTrue}
 use Rattle.std.specs.Prelude.{◌&&◌, ◌||◌, map}
 use Rattle.mm_types.specs.{LineKind, Move}
 use Rattle.mm_types.specs.declared.moves.LineKind.TheVariants as kind
 use Rattle.mm_types.specs.declared.moves.Move.TheVariants as move
-use Rattle.mm_types.specs.declared.moves.Stored.TheVariants as stored
 use Rattle.mm_blocks.specs.{DeviceCall, DeviceOf, Call, AllServed, logged_call}
 use Rattle.mm_life.specs.{record_at, is_read, is_write, FrameLife, IsLegal, is_thread, is_touch, is_io, is_access, is_call, after_move, Replays}
 use Rattle.mm_life.specs.{Waiting, waits_after, Walk, Through, walked, waits_through}
 use Rattle.mm_pages.specs.{Aim, AccessMove, no_calls, told_after, told_through, in_slot, in_block, call_of, calls_of, Ready}
 use Rattle.mm_pages.specs.Told.{Told}
 use Rattle.mm_world.specs.{Tally}
-use Rattle.mm_moving.specs.{StateOf, moved_with_call, DoesMoves, walk_of}
-use Rattle.mm_paged.proofs.Placing.{unmapped_kind}
-use Rattle.mm_paged.specs.{OwnOf, StoreKept, LifeKept}
+use Rattle.mm_moving.specs.{StateOf, moved_with_call, walk_of}
+use Rattle.mm_paged.specs.{Piece, OwnOf, StoreKept, LifeKept}
+use Rattle.mm_paged.proofs.Keeping.{kept_within}
 
 -- ---- the line goes on
 
 kind_after : (a : Aim) (w : Walk) (m : Move) (ms : List Move) → AccessMove a w m ms → (after_move w.life m).kind ≡ w.life.kind
 kind_after a w (move.At n k) ms h = absurd h
+kind_after a w (move.Add k None) ms h = refl
 kind_after a w (move.Add k (Some b)) ms h = absurd h
 kind_after a w (move.Drop k) ms h = absurd h
-kind_after a w (move.Unmap p) ms h = unmapped_kind w.life p (w.life.valid p)
-kind_after a w (move.Write f (stored.Slot s)) ms h = refl
-kind_after a w m ms h = refl
+kind_after a w m ms h = (kept_within w.life m tt).kind
 
-pub kind_through : (a : Aim) (ms : List Move) (w : Walk) (m : FrameLife) → Through (AccessMove a) w ms → Replays ms w.life m → m.kind ≡ w.life.kind
+kind_through : (a : Aim) (ms : List Move) (w : Walk) (m : FrameLife) → Through (AccessMove a) w ms → Replays ms w.life m → m.kind ≡ w.life.kind
 kind_through a [] w m h r = ap (λ (l : FrameLife). l.kind) r
 kind_through a (x ∷ xs) w m h r = kind_through a xs (walked w x) m h.1 r.1 ∙ kind_after a w x xs h.0
 
@@ -125,11 +123,12 @@ pub record Rests (s z : StateOf) : Type 0 where
   pub paging : z.paging ≡ s.paging
   pub files : z.files ≡ s.files
 
-pub rests_through : (a : Aim) (ms : List Move) (s z : StateOf) → DoesMoves ms s z → Through (AccessMove a) (walk_of s) ms → is_thread s.life.kind ≡ true → s.told.search_writes ≡ no_calls → Rests s z
-rests_through a ms s z d h t e =
-    let q = quiet_all a ms (walk_of s) z.life t h d.replays in
+pub rests_through : (a : Aim) (E : Walk → Type 0) (n p o : ℕ) (s z : StateOf) → Piece a E n p o [] s z → is_thread s.life.kind ≡ true → s.told.search_writes ≡ no_calls → Rests s z
+rests_through a E n p o s z x t e =
+    let d = x.does in
+    let q = quiet_all a x.moves (walk_of s) z.life t x.each d.replays in
     record {
-      kind = kind_through a ms (walk_of s) z.life h d.replays;
+      kind = kind_through a x.moves (walk_of s) z.life x.each d.replays;
       told = d.told ∙ q.told s.told e;
       waits = d.waits ∙ q.waits s.waits;
       paging = none_served d.paging_calls s.paging z.paging (d.paging_are ∙ q.slots) d.paging;
@@ -137,7 +136,7 @@ rests_through a ms s z d h t e =
     }
 
 -- no device write was tried, still
-pub calm_through : (a : Aim) (ms : List Move) (s z : StateOf) → DoesMoves ms s z → Through (AccessMove a) (walk_of s) ms → (is_thread s.life.kind ≡ true → s.told.search_writes ≡ no_calls) → is_thread z.life.kind ≡ true → z.told.search_writes ≡ no_calls
-calm_through a ms s z d h e t =
-    let was = sym (ap is_thread (kind_through a ms (walk_of s) z.life h d.replays)) ∙ t in
-    ap (λ (x : Told). x.search_writes) (rests_through a ms s z d h was (e was)).told ∙ e was
+pub calm_through : (a : Aim) (E : Walk → Type 0) (n p o : ℕ) (s z : StateOf) → Piece a E n p o [] s z → (is_thread s.life.kind ≡ true → s.told.search_writes ≡ no_calls) → is_thread z.life.kind ≡ true → z.told.search_writes ≡ no_calls
+calm_through a E n p o s z x e t =
+    let was = sym (ap is_thread (kind_through a x.moves (walk_of s) z.life x.each x.does.replays)) ∙ t in
+    ap (λ (y : Told). y.search_writes) (rests_through a E n p o s z x was (e was)).told ∙ e was

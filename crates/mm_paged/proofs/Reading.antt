@@ -1,16 +1,16 @@
 -- How an access ends, by the report, and what it did.
 use Rattle.std.proofs.Common.{◌≡◌, ℕ, ◌≤◌, Bool, true, false, List, [], ◌∷◌, Option, Some, None, refl, sym, ap, ◌∙◌, arith, inl, inr, ◌⊎◌}
-use Rattle.std.specs.Prelude.{not, is_some, length, ◌&&◌, ◌||◌, nat_lt, ◌==◌, option_map, unwrap_or, if◌then◌else◌, Ok, Err}
-use Rattle.mm_types.specs.{PageFault, Held, Frame, Key, Place}
+use Rattle.std.specs.Prelude.{not, is_some, length, ◌&&◌, ◌||◌, nat_lt, ◌==◌, option_map, unwrap_or, if◌then◌else◌, Ok}
+use Rattle.mm_types.specs.{Held, Frame, Key, Place}
 use Rattle.mm_types.specs.declared.frames.Held.TheVariants as held
 use Rattle.mm_life.specs.{record_at, is_read, is_empty, FrameLife, changed, same_place}
 use Rattle.mm_world.specs.{same_key, has_frame, still_needs_frame, read_failed, search_failed, is_short as report_is_short, BeingRead, InFrame}
 use Rattle.mm_world.specs.Report.{Report}
-use Rattle.mm_pages.specs.{Aim, Touches, touch, IsReady, IsBegun, is_framed, where_of, framed_where, Passes}
+use Rattle.mm_pages.specs.{Touches, touch, IsReady, IsBegun, is_framed, where_of, framed_where, Passes}
 use Rattle.mm_pages.specs.Reports.{Ends}
 use Rattle.mm_moving.specs.{StateOf, StateHolds}
-use Rattle.mm_paged.specs.{Went, Stuck, AccessBegins, OwnOf, report_of, store_of, behind_of}
-use Rattle.mm_paged.proofs.Shows.{passes_of, none_passes, passes_beside}
+use Rattle.mm_paged.specs.{OwnOf, report_of, store_of, behind_of}
+use Rattle.mm_paged.proofs.Shows.{none_passes}
 
 pub framed_has : (l : FrameLife) (h : Held) → is_framed h ≡ true → has_frame (where_of l h) ≡ true
 framed_has l (held.Frame f) e = at (is_read (record_at l.frames f.0).request) refl
@@ -73,35 +73,3 @@ pub valid_ends : (k : Key) (place : Place) (s z : StateOf) (o : OwnOf) → State
     → z ≡ record s { ages = changed same_place s.ages place 0 } → IsBegun (report_of s o) → Ends {T = Unit {0}} (touch k) (report_of z o) (Ok tt)
 valid_ends k place s z o h v n e b = had_ends k z o (ap (λ (x : StateOf). x.told.last_failed_read) e ∙ b.no_failed_read)
     (ap (λ (x : StateOf). is_framed (x.life.stands k)) e ∙ framed_at k place s h (s.life.valid place) refl v n)
-
--- ---- an access that faulted
-
-pub went_passes : (w : Bool) (k : Key) (place : Place) (s y z : StateOf) (o u : OwnOf) (c : Key → Option (List ℕ)) (IsNow : Type 0) → s.life.valid place ≡ None → (IsNow → is_some (s.life.valid place) ≡ true)
-    → ((a : Aim) → a.place ≡ place → a.writes ≡ w → AccessBegins a k s → Went a 1 s y) → is_some (y.life.valid place) ≡ true → z ≡ record y { ages = changed same_place y.ages place 0; contents = c }
-    → Passes (Touches {T = Unit {0}} (record { place = place; need = touch k; writes = w; start = s.life }) IsNow (Ok tt)) (store_of s o) (store_of z u) (behind_of s) (behind_of z)
-went_passes w k place s y z o u c IsNow none now went v e =
-    let p : Went (record { place = place; need = touch k; writes = w; start = s.life }) 1 s y = went (record { place = place; need = touch k; writes = w; start = s.life }) refl refl (record { needs = refl; from = refl; at = none }) in
-    passes_beside _ p.moves s y z o u y.bound y.names c (changed same_place y.ages place 0) y.waits p.does e (record {
-      ends = record {
-        made = record { each = p.each; one_read = p.few_reads; few_writes = p.few_writes };
-        waits = p.does.waits;
-        valid = v;
-        ages = ap (λ (g : Place → ℕ). changed same_place g place 0) p.does.ages;
-      };
-      calm = λ r. let bad : false ≡ true = sym (ap is_some none) ∙ now r in cc;
-    })
-
-pub stuck_passes : (w : Bool) (why : PageFault) (k : Key) (place : Place) (s z : StateOf) (o u : OwnOf) (IsNow : Type 0) → s.life.valid place ≡ None → (IsNow → is_some (s.life.valid place) ≡ true)
-    → ((a : Aim) → AccessBegins a k s → Stuck a why 1 s z)
-    → Passes (Touches {T = Unit {0}} (record { place = place; need = touch k; writes = w; start = s.life }) IsNow (Err why)) (store_of s o) (store_of z u) (behind_of s) (behind_of z)
-stuck_passes w why k place s z o u IsNow none now stuck =
-    let p = stuck (record { place = place; need = touch k; writes = w; start = s.life }) (record { needs = refl; from = refl; at = none }) in
-    passes_of _ p.moves s z o u p.does (record {
-      ends = record {
-        made = record { each = p.each; one_read = p.few_reads; few_writes = p.few_writes };
-        waits = p.does.waits;
-        ages = p.does.ages;
-        starved = p.starved;
-      };
-      calm = λ r. let bad : false ≡ true = sym (ap is_some none) ∙ now r in cc;
-    })

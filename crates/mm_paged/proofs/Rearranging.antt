@@ -1,9 +1,8 @@
 -- Chores: places are unmapped, frames cleared, writes begun. Frames go from list to list, and no device is called.
 use Rattle.std.proofs.Common.{◌≡◌, ℕ, ◌-◌, Bool, true, false, List, [], ◌∷◌, refl, sym, ap, ◌∙◌, subst}
 use Rattle.std.specs.Prelude.{◌&&◌, nat_lt, if◌then◌else◌, map, take}
-use Rattle.mm_types.specs.{Move, Stored, Frame, Pid, Place}
+use Rattle.mm_types.specs.{Move, Pid}
 use Rattle.mm_types.specs.declared.moves.Move.TheVariants as move
-use Rattle.mm_types.specs.declared.moves.Stored.TheVariants as stored
 use Rattle.mm_life.specs.{record_at, FrameLife, is_touch, has_depth, after_move, Replays, can_be_written, TrimMove, frame_of, clearings, target}
 use Rattle.mm_life.specs.{writes_begun, Waiting, waits_after, Walk, Through, walked, waits_through}
 use Rattle.mm_pages.specs.{Trims, Clears, WritesOut, Passes, rearranged, told_after, told_through}
@@ -12,21 +11,22 @@ use Rattle.mm_moving.specs.{StateOf, moved, DoesMoves, walk_of, StateHolds}
 use Rattle.mm_reclaim.specs.{Trimmed}
 use Rattle.mm_paged.specs.{LifeKept, OwnOf, StoreKept, store_of, report_of, behind_of}
 use Rattle.mm_paged.proofs.Quiet.{kept_untouched}
-use Rattle.mm_paged.proofs.Keeping.{kept_same, kept_then, kept_unmap, blocks_kept}
+use Rattle.mm_paged.proofs.Keeping.{kept_same, kept_then, kept_within, blocks_kept}
 use Rattle.mm_paged.proofs.LettingGo.{rearranged_by}
 use Rattle.mm_paged.proofs.Shows.{passes_of}
 use Rattle.mm_reclaim.proofs.{moved_called}
 
 -- ---- moves of chores
 
-pub data Chore (m : Move) : Type 0 where
-  Unmaps : (p : Place) → m ≡ move.Unmap p → Chore m
-  Cleans : (f : Frame) → m ≡ move.Clear f → Chore m
-  Begins : (f : Frame) (home : Stored) → m ≡ move.Write f home → Chore m
+abbrev pub IsChore : Move → Type 0
+IsChore (move.Unmap p) = Unit {0}
+IsChore (move.Clear f) = Unit {0}
+IsChore (move.Write f home) = Unit {0}
+IsChore m = ⊥
 
 abbrev pub AllChores : List Move → Type 0
 AllChores [] = Unit {0}
-AllChores (m ∷ ms) = Chore m × AllChores ms
+AllChores (m ∷ ms) = IsChore m × AllChores ms
 
 -- what such a move leaves
 record Quiet (l : FrameLife) (m : Move) : Type 0 where
@@ -34,20 +34,11 @@ record Quiet (l : FrameLife) (m : Move) : Type 0 where
   told : (t : Told) → told_after l m t ≡ t
   waits : (w : ℕ → Waiting) → waits_after m w ≡ w
 
-quiet_unmap : (l : FrameLife) (p : Place) → Quiet l (move.Unmap p)
-quiet_unmap l p = record { life = kept_unmap l p (l.valid p); told = λ t. refl; waits = λ w. refl }
-
-quiet_clear : (l : FrameLife) (f : Frame) → Quiet l (move.Clear f)
-quiet_clear l f = record { life = record { machine = refl; line = refl; kind = refl; paging = refl; keys = refl; pids = refl; added = refl }; told = λ t. refl; waits = λ w. refl }
-
-quiet_write : (l : FrameLife) (f : Frame) (home : Stored) → Quiet l (move.Write f home)
-quiet_write l f (stored.Slot s) = record { life = record { machine = refl; line = refl; kind = refl; paging = refl; keys = refl; pids = refl; added = refl }; told = λ t. refl; waits = λ w. refl }
-quiet_write l f (stored.Block b) = record { life = record { machine = refl; line = refl; kind = refl; paging = refl; keys = refl; pids = refl; added = refl }; told = λ t. refl; waits = λ w. refl }
-
-quiet : (l : FrameLife) (m : Move) → Chore m → Quiet l m
-quiet l m (Unmaps p e) = subst (λ (x : Move). Quiet l x) (sym e) (quiet_unmap l p)
-quiet l m (Cleans f e) = subst (λ (x : Move). Quiet l x) (sym e) (quiet_clear l f)
-quiet l m (Begins f home e) = subst (λ (x : Move). Quiet l x) (sym e) (quiet_write l f home)
+quiet : (l : FrameLife) (m : Move) → IsChore m → Quiet l m
+quiet l (move.Unmap p) h = record { life = kept_within l (move.Unmap p) tt; told = λ t. refl; waits = λ w. refl }
+quiet l (move.Clear f) h = record { life = kept_within l (move.Clear f) tt; told = λ t. refl; waits = λ w. refl }
+quiet l (move.Write f home) h = record { life = kept_within l (move.Write f home) tt; told = λ t. refl; waits = λ w. refl }
+quiet l m h = absurd h
 
 life_kept : (ms : List Move) (l m : FrameLife) → AllChores ms → Replays ms l m → LifeKept l m
 life_kept [] l m a r = subst (λ (x : FrameLife). LifeKept l x) (sym r) (kept_same l)
@@ -63,8 +54,8 @@ waits_kept (x ∷ xs) l w a = ap (waits_through xs) ((quiet l x a.0).waits w) �
 
 -- ---- which moves they are
 
-of_trim : (pid : Pid) (w : Walk) (m : Move) (ms : List Move) → TrimMove pid w m ms → Chore m
-of_trim pid w (move.Unmap p) ms h = Unmaps p refl
+of_trim : (pid : Pid) (w : Walk) (m : Move) (ms : List Move) → TrimMove pid w m ms → IsChore m
+of_trim pid w (move.Unmap p) ms h = tt
 of_trim pid w m ms h = absurd h
 
 all_of_trim : (pid : Pid) (w : Walk) (ms : List Move) → Through (TrimMove pid) w ms → AllChores ms
@@ -73,7 +64,7 @@ all_of_trim pid w (m ∷ ms) t = (of_trim pid w m ms t.0, all_of_trim pid (walke
 
 all_cleared : (fs : List ℕ) → AllChores (map (λ f. move.Clear (frame_of f)) fs)
 all_cleared [] = tt
-all_cleared (f ∷ fs) = (Cleans (frame_of f) refl, all_cleared fs)
+all_cleared (f ∷ fs) = (tt, all_cleared fs)
 
 all_begun : (n : ℕ) (l : FrameLife) (fs : List ℕ) → AllChores (writes_begun n l fs)
 all_begun n l [] = tt
@@ -83,7 +74,7 @@ all_begun n l (f ∷ fs) = at (nat_lt 0 n && has_depth l) (can_be_written l f) (
     m = move.Write (frame_of f) (target (record_at l.frames f).backing l)
 
     at : (a b : Bool) → AllChores (writes_begun (n - 1) (after_move l m) fs) → AllChores (writes_begun n l fs) → AllChores (if a then (if b then m ∷ writes_begun (n - 1) (after_move l m) fs else writes_begun n l fs) else [])
-    at true true more over = (Begins (frame_of f) (target (record_at l.frames f).backing l) refl, more)
+    at true true more over = (tt, more)
     at true false more over = over
     at false b more over = tt
 

@@ -26,12 +26,12 @@ tallied_is : (d : Direction) (cs : List Call) (t : Tally) → tallied d cs t ≡
 tallied_is d [] t = refl
 tallied_is d (c ∷ cs) t = tallied_is d cs (with_call d c t)
 
--- the four counts after a move
-pub record Counts (l : FrameLife) (ms : List Move) (t u : Told) : Type 0 where
-  pub paging_reads : u.paging_reads ≡ counted way.Read (calls_of in_slot l ms) t.paging_reads
-  pub paging_writes : u.paging_writes ≡ counted way.Write (calls_of in_slot l ms) t.paging_writes
-  pub file_reads : u.file_reads ≡ counted way.Read (calls_of in_block l ms) t.file_reads
-  pub file_writes : u.file_writes ≡ counted way.Write (calls_of in_block l ms) t.file_writes
+-- the four counts, by these calls of the two devices
+pub record Counts (ps fs : List DeviceCall) (t u : Told) : Type 0 where
+  pub paging_reads : u.paging_reads ≡ counted way.Read ps t.paging_reads
+  pub paging_writes : u.paging_writes ≡ counted way.Write ps t.paging_writes
+  pub file_reads : u.file_reads ≡ counted way.Read fs t.file_reads
+  pub file_writes : u.file_writes ≡ counted way.Write fs t.file_writes
 
 -- a line does not begin
 abbrev pub InLine : List Move → Type 0
@@ -39,49 +39,41 @@ InLine [] = Unit {0}
 InLine (move.At n k ∷ ms) = ⊥
 InLine (m ∷ ms) = InLine ms
 
-counts_more : (x : Move) (ms : List Move) (l : FrameLife) (t v u : Told)
-    → v.paging_reads ≡ counted way.Read (call_of in_slot l x) t.paging_reads → v.paging_writes ≡ counted way.Write (call_of in_slot l x) t.paging_writes
-    → v.file_reads ≡ counted way.Read (call_of in_block l x) t.file_reads → v.file_writes ≡ counted way.Write (call_of in_block l x) t.file_writes
-    → Counts (after_move l x) ms v u → Counts l (x ∷ ms) t u
-counts_more x ms l t v u a b c d h = record {
-  paging_reads = h.paging_reads ∙ ap (counted way.Read (calls_of in_slot (after_move l x) ms)) a ∙ sym (counted_then way.Read (call_of in_slot l x) _ _);
-  paging_writes = h.paging_writes ∙ ap (counted way.Write (calls_of in_slot (after_move l x) ms)) b ∙ sym (counted_then way.Write (call_of in_slot l x) _ _);
-  file_reads = h.file_reads ∙ ap (counted way.Read (calls_of in_block (after_move l x) ms)) c ∙ sym (counted_then way.Read (call_of in_block l x) _ _);
-  file_writes = h.file_writes ∙ ap (counted way.Write (calls_of in_block (after_move l x) ms)) d ∙ sym (counted_then way.Write (call_of in_block l x) _ _);
+counts_then : (ps qs fs gs : List DeviceCall) (t v u : Told) → Counts ps fs t v → Counts qs gs v u → Counts (ps ++ qs) (fs ++ gs) t u
+counts_then ps qs fs gs t v u a h = record {
+  paging_reads = h.paging_reads ∙ ap (counted way.Read qs) a.paging_reads ∙ sym (counted_then way.Read ps qs _);
+  paging_writes = h.paging_writes ∙ ap (counted way.Write qs) a.paging_writes ∙ sym (counted_then way.Write ps qs _);
+  file_reads = h.file_reads ∙ ap (counted way.Read gs) a.file_reads ∙ sym (counted_then way.Read fs gs _);
+  file_writes = h.file_writes ∙ ap (counted way.Write gs) a.file_writes ∙ sym (counted_then way.Write fs gs _);
 }
 
 -- of one device call
-pub record One (w : Direction) (ok : Bool) (b : Backing) (t v : Told) : Type 0 where
-  pub paging_reads : v.paging_reads ≡ counted way.Read (in_slot w ok b) t.paging_reads
-  pub paging_writes : v.paging_writes ≡ counted way.Write (in_slot w ok b) t.paging_writes
-  pub file_reads : v.file_reads ≡ counted way.Read (in_block w ok b) t.file_reads
-  pub file_writes : v.file_writes ≡ counted way.Write (in_block w ok b) t.file_writes
-
-one_read : (ok : Bool) (b : Backing) (t : Told) → One way.Read ok b t (with_read ok b t)
+one_read : (ok : Bool) (b : Backing) (t : Told) → Counts (in_slot way.Read ok b) (in_block way.Read ok b) t (with_read ok b t)
 one_read ok backing.None t = record { paging_reads = refl; paging_writes = refl; file_reads = refl; file_writes = refl }
 one_read ok b t = record { paging_reads = refl; paging_writes = refl; file_reads = refl; file_writes = refl }
 
-one_write : (ok : Bool) (b : Backing) (t : Told) → One way.Write ok b t (with_write ok b t)
+one_write : (ok : Bool) (b : Backing) (t : Told) → Counts (in_slot way.Write ok b) (in_block way.Write ok b) t (with_write ok b t)
 one_write ok backing.None t = record { paging_reads = refl; paging_writes = refl; file_reads = refl; file_writes = refl }
 one_write ok b t = record { paging_reads = refl; paging_writes = refl; file_reads = refl; file_writes = refl }
 
-pub counts_all : (ms : List Move) (l : FrameLife) (t : Told) → InLine ms → Counts l ms t (told_through l ms t)
+count_one : (l : FrameLife) (m : Move) (t : Told) → InLine (m ∷ []) → Counts (call_of in_slot l m) (call_of in_block l m) t (told_after l m t)
+count_one l (move.At n k) t h = absurd h
+count_one l (move.Got f) t h = one_read true (record_at l.frames f.0).backing t
+count_one l (move.Bad f) t h = let o = one_read false (record_at l.frames f.0).backing t in record { paging_reads = o.paging_reads; paging_writes = o.paging_writes; file_reads = o.file_reads; file_writes = o.file_writes }
+count_one l (move.Wrote f) t h = one_write true (record_at l.frames f.0).backing t
+count_one l (move.Lost f) t h = one_write false (record_at l.frames f.0).backing t
+count_one l m t h = record { paging_reads = refl; paging_writes = refl; file_reads = refl; file_writes = refl }
+
+first_in_line : (m : Move) (ms : List Move) → InLine (m ∷ ms) → InLine (m ∷ []) × InLine ms
+first_in_line (move.At n k) ms h = absurd h
+first_in_line m ms h = (tt, h)
+
+counts_all : (ms : List Move) (l : FrameLife) (t : Told) → InLine ms → Counts (calls_of in_slot l ms) (calls_of in_block l ms) t (told_through l ms t)
 counts_all [] l t h = record { paging_reads = refl; paging_writes = refl; file_reads = refl; file_writes = refl }
-counts_all (move.At n k ∷ ms) l t h = absurd h
-counts_all (move.Add k b ∷ ms) l t h = counts_more (move.Add k b) ms l t t _ refl refl refl refl (counts_all ms _ t h)
-counts_all (move.Drop k ∷ ms) l t h = counts_more (move.Drop k) ms l t t _ refl refl refl refl (counts_all ms _ t h)
-counts_all (move.Clear f ∷ ms) l t h = counts_more (move.Clear f) ms l t t _ refl refl refl refl (counts_all ms _ t h)
-counts_all (move.Steal f ∷ ms) l t h = counts_more (move.Steal f) ms l t t _ refl refl refl refl (counts_all ms _ t h)
-counts_all (move.Give f k ∷ ms) l t h = counts_more (move.Give f k) ms l t (told_after l (move.Give f k) t) _ refl refl refl refl (counts_all ms _ _ h)
-counts_all (move.Read f k ∷ ms) l t h = counts_more (move.Read f k) ms l t (told_after l (move.Read f k) t) _ refl refl refl refl (counts_all ms _ _ h)
-counts_all (move.Got f ∷ ms) l t h = let o = one_read true (record_at l.frames f.0).backing t in counts_more (move.Got f) ms l t (told_after l (move.Got f) t) _ o.paging_reads o.paging_writes o.file_reads o.file_writes (counts_all ms _ _ h)
-counts_all (move.Bad f ∷ ms) l t h = let o = one_read false (record_at l.frames f.0).backing t in counts_more (move.Bad f) ms l t (told_after l (move.Bad f) t) _ o.paging_reads o.paging_writes o.file_reads o.file_writes (counts_all ms _ _ h)
-counts_all (move.Map f p ∷ ms) l t h = counts_more (move.Map f p) ms l t t _ refl refl refl refl (counts_all ms _ t h)
-counts_all (move.Unmap p ∷ ms) l t h = counts_more (move.Unmap p) ms l t t _ refl refl refl refl (counts_all ms _ t h)
-counts_all (move.Soil f ∷ ms) l t h = counts_more (move.Soil f) ms l t t _ refl refl refl refl (counts_all ms _ t h)
-counts_all (move.Write f b ∷ ms) l t h = counts_more (move.Write f b) ms l t t _ refl refl refl refl (counts_all ms _ t h)
-counts_all (move.Wrote f ∷ ms) l t h = let o = one_write true (record_at l.frames f.0).backing t in counts_more (move.Wrote f) ms l t (told_after l (move.Wrote f) t) _ o.paging_reads o.paging_writes o.file_reads o.file_writes (counts_all ms _ _ h)
-counts_all (move.Lost f ∷ ms) l t h = let o = one_write false (record_at l.frames f.0).backing t in counts_more (move.Lost f) ms l t (told_after l (move.Lost f) t) _ o.paging_reads o.paging_writes o.file_reads o.file_writes (counts_all ms _ _ h)
+counts_all (m ∷ ms) l t h =
+    let lines = first_in_line m ms h in
+    counts_then (call_of in_slot l m) (calls_of in_slot (after_move l m) ms) (call_of in_block l m) (calls_of in_block (after_move l m) ms) t (told_after l m t) (told_through l (m ∷ ms) t)
+    (count_one l m t lines.0) (counts_all ms (after_move l m) (told_after l m t) lines.1)
 
 -- each call is one of the devices'
 pub served_by : (ms : List Move) (s z : StateOf) (o u : OwnOf) → InLine ms → DoesMoves ms s z → Served (store_of s o) (store_of z u)

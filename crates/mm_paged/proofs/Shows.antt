@@ -1,5 +1,5 @@
 -- What is told of moves, of the store's report and of what stands behind it.
-use Rattle.std.proofs.Common.{◌≡◌, ℕ, ◌+◌, ◌≤◌, ◌<◌, inl, inr, Bool, true, List, [], ◌∷◌, ◌++◌, None, refl, sym, ap, ◌∙◌, subst, arith}
+use Rattle.std.proofs.Common.{◌≡◌, ℕ, ◌+◌, ◌≤◌, ◌<◌, inl, inr, Bool, true, List, [], ◌∷◌, None, refl, sym, ap, ◌∙◌, subst, length-append}
 use Rattle.std.specs.Prelude.{length, Option}
 use Rattle.mm_types.specs.{limit_of, Held, Move, LineKind, Key, Place}
 use Rattle.mm_types.specs.declared.frames.Held.TheVariants as held
@@ -7,12 +7,12 @@ use Rattle.mm_laws.proofs.{key_or_not, changed_here, changed_else}
 use Rattle.mm_types.specs.declared.moves.Move.TheVariants as move
 use Rattle.mm_types.specs.declared.moves.LineKind.TheVariants as kind
 use Rattle.mm_types.specs.declared.numbers.Key.TheVariants.{Private, Shared}
+use Rattle.mm_blocks.specs.{DeviceOf}
 use Rattle.mm_life.specs.{FrameLife, same_key, Log, after_move, Waiting, waits_after, ages_after, wait_of}
 use Rattle.mm_world.specs.{same_key as same_in_world}
 use Rattle.mm_pages.specs.Behind.{Behind}
 use Rattle.mm_pages.specs.{IsLineKind, pid_after, OneMove, Turns, MakesFrom, number_of, Passes, begun, rearranged, block_at, backed_by, changed}
 use Rattle.mm_pages.specs.{none_told}
-use Rattle.mm_pages.specs.Told.{Told}
 use Rattle.mm_moving.specs.{StateOf, Made, moved, DoesMoves}
 use Rattle.mm_paged.specs.{OwnOf, report_of, store_of, behind_of}
 use Rattle.mm_moving.proofs.{does_one, does_nothing}
@@ -102,12 +102,12 @@ added_store s z o k c a dead m e =
 
 -- ---- a line
 
-length-snoc : {A : Type 0} (xs : List A) (x : A) → length (xs ++ x ∷ []) ≡ length xs + 1
-length-snoc [] x = refl
-length-snoc (y ∷ xs) x = grind (arith, length-snoc xs x)
+abbrev pub line_at : StateOf → Log → DeviceOf → ℕ → LineKind → StateOf
+line_at s log d n k = record s { life = after_move s.life (move.At n k); log = log; told = none_told; ages = ages_after (move.At n k) s.ages; waits = waits_after (move.At n k) s.waits; paging = d }
 
-abbrev line_at : StateOf → Log → ℕ → LineKind → StateOf
-line_at s log n k = record s { life = after_move s.life (move.At n k); log = log; told = none_told; ages = ages_after (move.At n k) s.ages; waits = waits_after (move.At n k) s.waits }
+-- the state, once a line has begun, where at most the paging device was called
+pub line_whole : (s z : StateOf) (d : DeviceOf) (n : ℕ) (k : LineKind) → z.life ≡ after_move s.life (move.At n k) → z.told ≡ none_told → z.ages ≡ ages_after (move.At n k) s.ages → z.waits ≡ waits_after (move.At n k) s.waits → z ≡ record (moved s z) { paging = d } → z ≡ line_at s z.log d n k
+line_whole s z d n k life told ages waits e = e ∙ (λ i. record s { life = life i; log = z.log; told = told i; ages = ages i; waits = waits i; paging = d })
 
 abbrev begun_own : OwnOf → OwnOf
 begun_own o = record { extended = None; ready = None; blocks_used = o.blocks_used }
@@ -115,18 +115,11 @@ begun_own o = record { extended = None; ready = None; blocks_used = o.blocks_use
 abbrev IsBegunAs : StateOf → OwnOf → ℕ → LineKind → StateOf → Type 0
 IsBegunAs s o n k z = store_of z (begun_own o) ≡ record (store_of s o) { line = n; kind = k; last_pid = pid_after (store_of s o).last_pid k; ready = None; report = begun (store_of s o).report }
 
-line_begun : (s : StateOf) (o : OwnOf) (log : Log) (n : ℕ) (k : LineKind) → IsLineKind (store_of s o) k → IsBegunAs s o n k (line_at s log n k)
+line_begun : (s : StateOf) (o : OwnOf) (log : Log) (n : ℕ) (k : LineKind) → IsLineKind (store_of s o) k → IsBegunAs s o n k (line_at s log s.paging n k)
 line_begun s o log n (kind.Machine a b c d) h = absurd h
-line_begun s o log n (kind.Process pid min max) h = let e = h.next in ap (λ (p : ℕ). record (store_of s o) { line = n; kind = kind.Process pid min max; last_pid = p; ready = None; report = begun (store_of s o).report }) (length-snoc _ _ ∙ sym e)
+line_begun s o log n (kind.Process pid min max) h = let e = h.next in ap (λ (p : ℕ). record (store_of s o) { line = n; kind = kind.Process pid min max; last_pid = p; ready = None; report = begun (store_of s o).report }) (length-append s.life.sets _ ∙ sym e)
 line_begun s o log n (kind.Grow count) h = absurd h
 line_begun s o log n k h = refl
 
 pub line_store : (s z : StateOf) (o : OwnOf) (n : ℕ) (k : LineKind) → IsLineKind (store_of s o) k → Made (move.At n k) s z → z ≡ moved s z → IsBegunAs s o n k z
-line_store s z o n k h m e = subst (λ (x : StateOf). IsBegunAs s o n k x) (sym whole) (line_begun s o z.log n k h)
-  where
-    whole : z ≡ line_at s z.log n k
-    whole = e
-        ∙ ap (λ (l : FrameLife). record s { life = l; log = z.log; told = z.told; ages = z.ages; waits = z.waits }) m.life
-        ∙ ap (λ (t : Told). record s { life = after_move s.life (move.At n k); log = z.log; told = t; ages = z.ages; waits = z.waits }) m.told
-        ∙ ap (λ (t : Place → ℕ). record s { life = after_move s.life (move.At n k); log = z.log; told = none_told; ages = t; waits = z.waits }) m.ages
-        ∙ ap (λ (t : ℕ → Waiting). record s { life = after_move s.life (move.At n k); log = z.log; told = none_told; ages = ages_after (move.At n k) s.ages; waits = t }) m.waits
+line_store s z o n k h m e = subst (λ (x : StateOf). IsBegunAs s o n k x) (sym (line_whole s z s.paging n k m.life m.told m.ages m.waits e)) (line_begun s o z.log n k h)

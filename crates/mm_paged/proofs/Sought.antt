@@ -1,27 +1,27 @@
 -- A search, as a piece of an access: without a pinned frame where its place is not valid and its page has no frame, and while the frame of its place is pinned where it makes a copy.
 use Rattle.std.proofs.Common.{◌≡◌, ℕ, Bool, true, false, List, [], ◌∷◌, Option, Some, None, refl, sym, ap, ◌∙◌, subst, arith, inl}
 use Rattle.std.specs.Prelude.{◌&&◌, ◌||◌, not, if◌then◌else◌, ◌==◌, option_map, unwrap_or}
-use Rattle.mm_life.specs.{is_on, FrameLife, same_place, is_live, is_dead, key_of_place, is_short, after_move, after_unmap_at, Replays, Walk, Through}
-use Rattle.mm_life.specs.{walked, walked_all, SearchMove, Starved, IsVictim, may_go, is_unpinned}
+use Rattle.mm_life.specs.{is_access, is_on, FrameLife, same_place, is_live, is_dead, key_of_place, is_short, after_move, after_unmap_at, Replays}
+use Rattle.mm_life.specs.{Walk, Through, walked, walked_all, SearchMove, Starved, IsVictim, may_go, is_unpinned}
 use Rattle.mm_types.specs.declared.faults.PageFault.TheVariants as fault
 use Rattle.mm_types.specs.{Held, Move, Frame, Key, Place}
 use Rattle.mm_types.specs.declared.moves.Move.TheVariants as move
 use Rattle.mm_types.specs.declared.moves.Stored.TheVariants as stored
-use Rattle.mm_world.specs.{Need}
+use Rattle.mm_world.specs.{Need, Tally}
 use Rattle.mm_pages.specs.{Aim, AccessMove, InShortage, is_framed, is_shortage}
 use Rattle.mm_moving.specs.{StateOf, Searched, walk_of, IsFlightOf}
-use Rattle.mm_paged.specs.{Sought, Stuck, AccessBegins, KeepsButNames, Fails, LifeKept, Pins, Spares}
+use Rattle.mm_paged.specs.{Anywhere, HasTried, Sought, Stuck, AccessBegins, Causes, KeepsButNames, Fails, LifeKept, Pins}
+use Rattle.mm_paged.proofs.Doing.{piece_of}
 use Rattle.std.specs.Cmp.{unsigned_Decides}
 use Rattle.mm_laws.proofs.{same_place-true}
 use Rattle.mm_paged.proofs.InFlight.{flight_same}
-use Rattle.mm_paged.proofs.Keeping.{kept_same, kept_then, kept_unmap, kept_within}
+use Rattle.mm_paged.proofs.Keeping.{called_on, kept_same, kept_then, kept_unmap, kept_within}
 use Rattle.mm_paged.proofs.Placing.{unmapped_stands}
-use Rattle.mm_paged.proofs.FaultSteps.{called_on}
 
 -- ---- what it leaves
 
 -- a place that is valid in the pinned frame stays so, as does one that is not valid where none is pinned
-record Left (pin : Option Frame) (l m : FrameLife) : Type 0 where
+pub record Left (pin : Option Frame) (l m : FrameLife) : Type 0 where
   pub life : LifeKept l m
   pub stands : m.stands ≡ l.stands
   pub valid : (p : Place) → l.valid p ≡ pin → m.valid p ≡ pin
@@ -67,7 +67,7 @@ left_all : (pin : Option Frame) (flight : List ℕ) (ms : List Move) (w : Walk) 
 left_all pin flight [] w m h r = subst (λ (l : FrameLife). Left pin w.life l) (sym r) (left_same pin w.life)
 left_all pin flight (x ∷ xs) w m h r = left_then pin w.life (after_move w.life x) m (left_one pin flight w x xs h.0) (left_all pin flight xs (walked w x) m h.1 r.1)
 
-search_left : (pin : Option Frame) (found : Bool) (s z : StateOf) → Searched pin found s z → Left pin s.life z.life
+pub search_left : (pin : Option Frame) (found : Bool) (s z : StateOf) → Searched pin found s z → Left pin s.life z.life
 search_left pin found s z h = left_all pin s.life.flight h.moves (walk_of s) z.life (h.each s.life.flight (flight_same s.life.flight pin s.life refl)) h.does.replays
 
 -- ---- each move is one of the access
@@ -96,20 +96,21 @@ search_each : (pin : Option Frame) (a : Aim) (found : Bool) (s z : StateOf) → 
 search_each pin a found s z k h = access_all pin a s.life.stands k.wants h.moves (walk_of s) refl k.at (h.each a.start.flight k.flight)
 
 sought_in : (pin : Option Frame) (a : Aim) (s z : StateOf) → Seeks pin a s → Searched pin true s z → Sought a s z
-sought_in pin a s z k h = record { moves = h.moves; does = h.does; each = search_each pin a true s z k h; none = h.no_read; one = h.one }
+sought_in pin a s z k h =
+    let none = h.no_read in
+    let one = h.one in
+    piece_of a Anywhere 0 0 1 [] h.moves s z h.does (search_each pin a true s z k h) tt (omega (arith, none)) (omega (arith, one))
 
 stuck_in : (pin : Option Frame) (a : Aim) (s z : StateOf) → Seeks pin a s → Searched pin false s z → Stuck a fault.NoFrame 0 s z
-stuck_in pin a s z k h = record {
-  moves = h.moves;
-  does = h.does;
-  each = search_each pin a false s z k h;
-  few_reads = let e = h.no_read in omega (arith, e);
-  few_writes = let e = h.lost refl in omega (arith, e);
-  starved = λ e. subst (λ (o : Option Frame). Starved o (walked_all (walk_of s) h.moves)) (sym ((search_left pin false s z h).valid a.place k.at)) (h.starved refl);
-}
+stuck_in pin a s z k h =
+    let none = h.no_read in
+    let lost = h.lost refl in
+    piece_of a (HasTried a fault.NoFrame z) 0 0 0 [] h.moves s z h.does (search_each pin a false s z k h)
+    (λ e. subst (λ (o : Option Frame). Starved o (walked_all (walk_of s) h.moves)) (sym ((search_left pin false s z h).valid a.place k.at)) (h.starved refl)) (omega (arith, none)) (omega (arith, lost))
 
-pub search_as : (pin : Option Frame) (r b : Bool) (s z : StateOf) → r ≡ b → Searched pin r s z → Searched pin b s z
-search_as pin r b s z e h = subst (λ (x : Bool). Searched pin x s z) e h
+-- why nothing came of it, by the report
+pub search_causes : (pin : Option Frame) (k : Key) (s z : StateOf) → Searched pin false s z → Causes fault.NoFrame k s z
+search_causes pin k s z h = record { read = λ e. cc; kept = λ e. h.read; short = λ e. h.short refl; failed = λ e. h.fails refl; none = λ e n. h.none refl ∙ ap (λ (t : Tally). t.succeeded) n; fault = h.fault refl }
 
 -- ---- without a pinned frame
 
@@ -134,18 +135,10 @@ sought_by a k s z u b h = sought_in None a s z (seeks_by a k s u b) h
 pub stuck_by : (a : Aim) (k : Key) (s z : StateOf) → is_framed (s.life.stands k) ≡ false → AccessBegins a k s → Searched None false s z → Stuck a fault.NoFrame 0 s z
 stuck_by a k s z u b h = stuck_in None a s z (seeks_by a k s u b) h
 
-pub search_stands : (found : Bool) (s z : StateOf) → Searched None found s z → z.life.stands ≡ s.life.stands
-search_stands found s z h = (search_left None found s z h).stands
-
 pub search_fails : (k : Key) (s z : StateOf) → is_framed (s.life.stands k) ≡ false → Searched None false s z → Fails fault.NoFrame k s z
 search_fails k s z u h = record {
-  read = λ e. cc;
-  kept = λ e. h.read;
-  short = λ e. h.short refl;
-  failed = λ e. h.fails refl;
-  none = λ e n. h.none refl ∙ n;
-  unframed = λ e. ap (λ (x : Key → Held). is_framed (x k)) (search_stands false s z h) ∙ u;
-  fault = h.fault refl;
+  causes = search_causes None k s z h;
+  unframed = λ e. ap (λ (x : Key → Held). is_framed (x k)) (search_left None false s z h).stands ∙ u;
   same = h.same;
 }
 
@@ -176,13 +169,16 @@ seeks_pinned a place f s p = record {
   flight = p.flight;
 }
 
-pub search_spares : (pinned : Frame) (found : Bool) (s z : StateOf) → Searched (Some pinned) found s z → Spares pinned s z
-search_spares pinned found s z h =
-    let left = search_left (Some pinned) found s z h in
-    record { life = left.life; stands = left.stands; valid = left.valid; read = h.read; same = h.same }
-
 pub sought_pinned : (a : Aim) (place : Place) (f : Frame) (s z : StateOf) → Pins a place f s → Searched (Some f) true s z → Sought a s z
 sought_pinned a place f s z p h = sought_in (Some f) a s z (seeks_pinned a place f s p) h
 
 pub stuck_pinned : (a : Aim) (place : Place) (f : Frame) (s z : StateOf) → Pins a place f s → Searched (Some f) false s z → Stuck a fault.NoFrame 0 s z
 stuck_pinned a place f s z p h = stuck_in (Some f) a s z (seeks_pinned a place f s p) h
+
+-- ---- what a page asks that is brought behind it
+
+pub found_stands : (test : Held → Bool) (k : Key) (s t : StateOf) → Searched None true s t → test (s.life.stands k) ≡ true → test (t.life.stands k) ≡ true
+found_stands test k s t p e = ap (λ (x : Key → Held). test (x k)) (search_left None true s t p).stands ∙ e
+
+pub found_access : (s t : StateOf) → Searched None true s t → is_access s.life.kind ≡ true → is_access t.life.kind ≡ true
+found_access s t p e = ap is_access (search_left None true s t p).life.kind ∙ e

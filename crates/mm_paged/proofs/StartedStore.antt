@@ -1,5 +1,5 @@
 -- What the store shows once an access of a thread has begun.
-use Rattle.std.proofs.Common.{◌≡◌, ℕ, ◌≤◌, Bool, true, false, Option, Some, None, refl, sym, ap, ◌∙◌, subst, inl, inr, ◌⊎◌}
+use Rattle.std.proofs.Common.{◌≡◌, ℕ, ◌≤◌, Bool, true, false, Option, Some, None, refl, sym, ap, ◌∙◌, subst, arith, inl, inr, ◌⊎◌}
 use Rattle.std.specs.Prelude.{not, is_some, is_none, ◌||◌, ◌==◌, if◌then◌else◌}
 use Rattle.mm_types.specs.{Wait, Why, Held, LineKind, Key, Place}
 use Rattle.mm_types.specs.declared.answers.Why.TheVariants as why
@@ -10,27 +10,28 @@ use Rattle.mm_pages.specs.{Ready, changed, own_key, Need, Start}
 use Rattle.mm_pages.specs.Told.{Told}
 use Rattle.mm_pages.specs.declared.outcomes.Need.TheVariants as need
 use Rattle.mm_pages.specs.declared.outcomes.Start.TheVariants as start
-use Rattle.mm_moving.specs.{StateOf, StateHolds, walk_of}
-use Rattle.mm_paged.specs.{Went, LifeKept, OwnOf, StoreKept, report_of, store_of, behind_of, AccessBegun, IsBeingRead, needs_copy, ready_after}
-use Rattle.mm_paged.proofs.Ending.{aim_at}
-use Rattle.mm_paged.proofs.Keeping.{kept_all, blocks_kept, fetched_by, with_told}
+use Rattle.mm_moving.specs.{StateOf, StateHolds}
+use Rattle.mm_paged.specs.{Went, IsFresh, LifeKept, OwnOf, StoreKept, report_of, store_of, behind_of, AccessBegun, IsBeingRead, needs_copy}
+use Rattle.mm_paged.specs.{ready_after}
+use Rattle.mm_paged.proofs.Keeping.{aim_at, piece_life, called_store, with_told}
 use Rattle.mm_paged.proofs.Quiet.{Rests, rests_through, thread_touches}
 use Rattle.mm_paged.proofs.Reading.{unframed_has}
 use Rattle.mm_paged.proofs.Started.{shown_short}
 use Rattle.mm_paged.proofs.Unmoved.{stands_nowhere}
 use Rattle.mm_types.proofs.{or_true, both}
+use Rattle.mm_paged.proofs.Doing.{made_by}
 use Rattle.mm_paged.proofs.Shows.{passes_beside}
 
 -- ---- what stays
 
 went_plain : (n : Need) (k : Key) (place : Place) (r : Start) (s y : StateOf) → AccessBegun n k place r s y → Went (aim_at false k place s) 1 s y
-went_plain n k place r s y h = h.went (aim_at false k place s) (record { at = refl; needs = refl; from = refl })
+went_plain n k place r s y h = h.came.went (aim_at false k place s) (record { at = refl; needs = refl; from = refl })
 
 pub begun_rests : (n : Need) (k : Key) (place : Place) (r : Start) (s y : StateOf) → AccessBegun n k place r s y → is_thread s.life.kind ≡ true → s.told.search_writes ≡ no_calls → Rests s y
-begun_rests n k place r s y h t e = let w = went_plain n k place r s y h in rests_through (aim_at false k place s) w.moves s y w.does w.each t e
+begun_rests n k place r s y h t e = rests_through (aim_at false k place s) IsFresh 1 0 0 s y (went_plain n k place r s y h) t e
 
 begun_life : (n : Need) (k : Key) (place : Place) (r : Start) (s y : StateOf) → AccessBegun n k place r s y → LifeKept s.life y.life
-begun_life n k place r s y h = let w = went_plain n k place r s y h in kept_all (aim_at false k place s) w.moves (walk_of s) y.life refl w.each w.does.replays
+begun_life n k place r s y h = piece_life (aim_at false k place s) IsFresh 1 0 0 s y refl (went_plain n k place r s y h)
 
 -- ---- what the store shows
 
@@ -44,11 +45,10 @@ shown_started n k place r s y w o u h t e hs hz ext used =
     let life = begun_life n k place r s y h in
     let rests = begun_rests n k place r s y h t e in
     let moves = went_plain n k place r s y h in
-    fetched_by s (waiting y w) o u life (blocks_kept s (waiting y w) moves.moves hs hz moves.does.replays life.paging (ap (λ (x : StateOf). x.contents) h.same))
-    (ap (λ (x : StateOf). x.is_open) h.same) (ap (λ (x : StateOf). x.areas) h.same) (ap (λ (x : StateOf). x.bound) h.same) ext used
+    called_store moves.moves s (waiting y w) o u moves.does.replays life (ap (λ (x : StateOf). waiting x w) h.came.same) hs hz ext used
     ∙ (λ i. record (fetched (store_of s o) (store_of (waiting y w) u)) {
       names = y.names;
-      file_blocks = h.blocks i;
+      file_blocks = h.came.blocks i;
       report = with_told (record (report_of (waiting y w) u) { extended = o.extended }) (rests.told i);
       paging_device = rests.paging i;
       file_device = rests.files i;
@@ -104,7 +104,7 @@ copy_pends k place start.Ready w s y v o u h hz d e = cc
 copy_pends k place (start.Pending why.Read) w s y v o u h hz d e = pend_at_once _ _ _ _ why.Read (h.at_once o) ∙ ap reason e
 copy_pends k place (start.Pending why.Full) w s y v o u h hz d e = pend_at_once _ _ _ _ why.Full (h.at_once o) ∙ ap reason e
 copy_pends k place (start.Pending why.Frame) w s y v o u h hz d e =
-    pend_frame _ _ _ _ (h.at_once o) (both _ _ (copy_needs k place (waiting y v) u hz (ap (λ (x : StateOf). x.contents (own_key place)) h.same ∙ d)) (shown_short (waiting y v) u ∙ h.short refl)) ∙ ap reason e
+    pend_frame _ _ _ _ (h.at_once o) (both _ _ (copy_needs k place (waiting y v) u hz (ap (λ (x : StateOf). x.contents (own_key place)) h.came.same ∙ d)) (shown_short (waiting y v) u ∙ h.short refl)) ∙ ap reason e
 
 pub started_pends : (n : Need) (k : Key) (place : Place) (r : Start) (w : Why) (s y z : StateOf) (v : ℕ → Waiting) (o u : OwnOf) → AccessBegun n k place r s y → z ≡ waiting y v → StateHolds z → (n ≡ need.Copy → s.contents (own_key place) ≡ None) → r ≡ start.Pending w
     → pending s.life.machine.depth (need_for n k place) (report_of s o) (report_of z u) ≡ Some w
@@ -146,26 +146,19 @@ aim_for w n k place s = record { place = place; need = need_for n k place; write
 pub started_passes : (writes : Bool) (n : Need) (k : Key) (place : Place) (r : Start) (tid : ℕ) (s y z : StateOf) (o u : OwnOf) → AccessBegun n k place r s y → z ≡ waiting y (changed ◌==◌ y.waits tid (wait_begun r (y.life.stands k)))
     → Passes (Starts (record { place = place; need = need_for n k place; writes = writes; start = s.life }) tid r) (store_of s o) (store_of z u) (behind_of s) (behind_of z)
 started_passes writes n k place r tid s y z o u h q =
-    let p : Went (aim_for writes n k place s) 1 s y = h.went (aim_for writes n k place s) (record { at = refl; needs = need_key n k place; from = refl }) in
+    let p : Went (aim_for writes n k place s) 1 s y = h.came.went (aim_for writes n k place s) (record { at = refl; needs = need_key n k place; from = refl }) in
     passes_beside (Starts (aim_for writes n k place s) tid r) p.moves s y z o u y.bound y.names y.contents y.ages (changed ◌==◌ y.waits tid (wait_begun r (y.life.stands k))) p.does q (record {
-      made = record { each = p.each; one_read = p.few_reads; few_writes = p.few_writes };
+      made = made_by (aim_for writes n k place s) IsFresh 1 s y p (omega arith);
       waits = λ i. changed ◌==◌ (p.does.waits i) tid (wait_begun r (y.life.stands (sym (need_key n k place) i)));
       ages = p.does.ages;
-      slots = h.slots;
+      slots = h.came.slots;
       valid = h.valid;
     })
 
 -- ---- what the store keeps
 
 ready_is : (r : Start) (n : Need) (k : Key) (place : Place) (x : Ready) → ready_after r n k place ≡ Some x → (r ≡ start.Ready) × (x ≡ record { place = place; need = need_for n k place })
-ready_is start.Ready n k place x e = (refl, sym (some_same e))
-  where
-    out : Ready → Option Ready → Ready
-    out d None = d
-    out d (Some v) = v
-
-    some_same : {a b : Ready} → Some a ≡ Some b → a ≡ b
-    some_same {a} {b} e = ap (out a) e
+ready_is start.Ready n k place x e = let same : record { place = place; need = need_for n k place } ≡ x = cc in (refl, sym same)
 ready_is (start.Pending w) n k place x e = cc
 
 copy_needed : (n : Need) (k : Key) (place : Place) → is_some (need_for n k place).copy ≡ true → needs_copy n ≡ true
@@ -174,8 +167,8 @@ copy_needed need.Copy k place e = refl
 
 pub started_kept : (n : Need) (k : Key) (place : Place) (r : Start) (s y z : StateOf) (w : ℕ → Waiting) (o u : OwnOf) → AccessBegun n k place r s y → z ≡ waiting y w → is_thread s.life.kind ≡ true → StoreKept s o → u.ready ≡ ready_after r n k place → u.blocks_used ≡ o.blocks_used → StoreKept z u
 started_kept n k place r s y z w o u h q t kept e used = subst (λ (x : StateOf). StoreKept x u) (sym q) (record {
-  own = ap (λ (x : StateOf). x.own) h.same ∙ kept.own;
-  aside = ap (λ (x : StateOf). x.aside) h.same ∙ kept.aside;
+  own = ap (λ (x : StateOf). x.own) h.came.same ∙ kept.own;
+  aside = ap (λ (x : StateOf). x.aside) h.came.same ∙ kept.aside;
   ready = λ x f. let is = ready_is r n k place x (sym e ∙ f) in ap (λ (a : Ready). is_some (y.life.valid a.place)) is.1 ∙ h.valid is.0;
   touching = λ x f. ap (λ (a : LineKind). is_touch a) life.kind ∙ thread_touches s.life.kind t;
   room = λ x f c. let is = ready_is r n k place x (sym e ∙ f) in h.room is.0 (copy_needed n k place (ap (λ (a : Ready). is_some a.need.copy) (sym is.1) ∙ c));

@@ -55,19 +55,12 @@ forgot_passes s z o t e = none_passes (Forgets t) s z o o s.contents s.ages (cha
 begun_notes : (That : Behind → List Move → Behind → Type 0) (x : Move) (s z : StateOf) → GrowBegins x s z → That (behind_of s) (x ∷ []) (behind_of z) → Notes That (behind_of s) (behind_of z)
 begun_notes That x s z b t = record { moves = x ∷ []; in_range = b.in_range; grew = b.grew; replays = (b.legal, b.life); that = t }
 
-pub grown_notes : (s z : StateOf) (line n : ℕ) → GrowBegins (move.At line (kind.Grow n)) s z → z.slots ≡ s.slots ++ replicate n zero_page → Notes (Grows line n) (behind_of s) (behind_of z)
-unfolding filled
-grown_notes s z line n b e = begun_notes (Grows line n) (move.At line (kind.Grow n)) s z b (record { one = refl; moved = record { waits = b.waits; ages = b.ages }; slots = e })
-
-pub failed_notes : (s z : StateOf) (line : ℕ) → GrowBegins (move.At line kind.Call) s z → z.slots ≡ s.slots → Notes (OneMove (move.At line kind.Call)) (behind_of s) (behind_of z)
-failed_notes s z line b e = begun_notes (OneMove (move.At line kind.Call)) (move.At line kind.Call) s z b (record { one = refl; moved = record { waits = b.waits; ages = b.ages }; slots = e })
-
-pub memory_notes : (s z : StateOf) → z ≡ s → Notes NoMove (behind_of s) (behind_of z)
-memory_notes s z e = subst (λ (x : StateOf). Notes NoMove (behind_of s) (behind_of x)) (sym e) (record { moves = []; in_range = tt; grew = (does_nothing s).grew; replays = refl; that = record { none = refl; same = refl } })
-
 pub notes_by : {T : Type 0} (r : Result T GrowFault) (s z : StateOf) (line n : ℕ) → OnOk r (GrowBegins (move.At line (kind.Grow n)) s z) → OnOk r (z ≡ record (moved s z) { slots = s.slots ++ replicate n zero_page })
     → (IsErrOf r grow_fault.Failed → GrowBegins (move.At line kind.Call) s z) → (IsErrOf r grow_fault.Failed → z ≡ record (moved s z) { paging = asked_to_grow s.paging z.paging }) → (IsErrOf r grow_fault.Memory → z ≡ s)
     → Notes (GrowsAs line n r) (behind_of s) (behind_of z)
-notes_by (Ok v) s z line n a e f k m = grown_notes s z line n a (ap (λ (x : StateOf). x.slots) e)
-notes_by (Err grow_fault.Failed) s z line n a e f k m = failed_notes s z line (f refl) (ap (λ (x : StateOf). x.slots) (k refl))
-notes_by (Err grow_fault.Memory) s z line n a e f k m = memory_notes s z (m refl)
+unfolding filled
+notes_by (Ok v) s z line n a e f k m = begun_notes (Grows line n) (move.At line (kind.Grow n)) s z a (record { one = refl; moved = record { waits = a.waits; ages = a.ages }; slots = ap (λ (x : StateOf). x.slots) e })
+notes_by (Err grow_fault.Failed) s z line n a e f k m =
+    let b = f refl in
+    begun_notes (OneMove (move.At line kind.Call)) (move.At line kind.Call) s z b (record { one = refl; moved = record { waits = b.waits; ages = b.ages }; slots = ap (λ (x : StateOf). x.slots) (k refl) })
+notes_by (Err grow_fault.Memory) s z line n a e f k m = subst (λ (x : StateOf). Notes NoMove (behind_of s) (behind_of x)) (sym (m refl)) (record { moves = []; in_range = tt; grew = (does_nothing s).grew; replays = refl; that = record { none = refl; same = refl } })

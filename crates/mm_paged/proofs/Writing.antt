@@ -5,7 +5,6 @@ use Rattle.std.specs.Prelude.{◌&&◌, ◌==◌, nat_lt, if◌then◌else◌, i
 use Rattle.mm_types.specs.{Backing, Held, Record, Frame, Key, Place}
 use Rattle.mm_types.specs.declared.frames.Backing.TheVariants as backing
 use Rattle.mm_types.specs.declared.frames.Held.TheVariants as held
-use Rattle.mm_types.specs.declared.frames.Request.TheVariants as request
 use Rattle.mm_types.specs.declared.moves.Move.TheVariants as move
 use Rattle.mm_life.specs.{record_at, blank, is_read, has_request, soiled, without_slot, FrameLife, changed, same_key, same_place, counts_of}
 use Rattle.mm_life.specs.{is_active, is_in_transition, after_move, zero_page, Waiting}
@@ -21,7 +20,7 @@ use Rattle.mm_moving.proofs.{does_one}
 use Rattle.mm_paged.specs.{Soils, Was, Is, OwnOf, store_of, report_of, behind_of}
 use Rattle.mm_paged.proofs.Reading.{valid_passes, had_ends, framed_at, named_by}
 use Rattle.mm_paged.proofs.Shows.{changed_keys, passes_beside}
-use Rattle.mm_life.proofs.{soiled_shares, soiled_request}
+use Rattle.mm_life.proofs.{soiled_part, soiled_shares, soiled_request}
 use Rattle.mm_paged.proofs.Records.{look_set}
 
 count_cons : (test : Record → Bool) (x : Record) (xs : List Record) → count_by test (x ∷ xs) ≡ (0 + cond (test x) 1 0) + count_by test xs
@@ -33,11 +32,7 @@ count_set test (x ∷ xs) zero r e = count_cons test r xs ∙ ap (λ (b : Bool).
 count_set test (x ∷ xs) (suc f) r e = count_cons test x (slice_set xs f r) ∙ ap (λ (n : ℕ). (0 + cond (test x) 1 0) + n) (count_set test xs f r e) ∙ sym (count_cons test x xs)
 
 soiled_unread : (r : Record) → is_read r.request ≡ false → is_read (soiled r).request ≡ is_read r.request
-soiled_unread r u = at (has_request r.request)
-  where
-    at : (b : Bool) → is_read (if b then record r { request = request.WriteAgain } else record r { changed = true; backing = without_slot r.backing }).request ≡ is_read r.request
-    at true = sym u
-    at false = refl
+soiled_unread r u = soiled_part (λ (q : Record). is_read q.request) r (sym u) refl
 
 soiled_active : (r : Record) → is_active (soiled r) ≡ is_active r
 soiled_active r = ap (λ (n : ℕ). nat_lt 0 n) (soiled_shares r)
@@ -70,11 +65,7 @@ without_block backing.None = refl
 without_block b = refl
 
 soiled_backing : (r : Record) → block_at (in_backing (soiled r).backing) ≡ block_at (in_backing r.backing)
-soiled_backing r = at (has_request r.request)
-  where
-    at : (b : Bool) → block_at (in_backing (if b then record r { request = request.WriteAgain } else record r { changed = true; backing = without_slot r.backing }).backing) ≡ block_at (in_backing r.backing)
-    at true = refl
-    at false = without_block r.backing
+soiled_backing r = soiled_part (λ (q : Record). block_at (in_backing q.backing)) r refl (without_block r.backing)
 
 soiled_block : (l : FrameLife) (f : Frame) (h : Held) → block_at (backed_by (soiled_life l f) h) ≡ block_at (backed_by l h)
 soiled_block l f (held.Frame g) = look_set (λ r. block_at (in_backing r.backing)) l.frames.records f.0 g.0 (soiled (record_at l.frames f.0)) (soiled_backing (record_at l.frames f.0))

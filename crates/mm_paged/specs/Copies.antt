@@ -1,23 +1,13 @@
 -- Pieces of an access that makes a copy.
 -- Profile, "Accesses".
-use Rattle.std.specs.Prelude.{◌≡◌, ◌≤◌, ◌<◌, ◌+◌, ◌⊎◌, ℕ, true, false, length, Option, Some, None, is_some}
+use Rattle.std.specs.Prelude.{◌≡◌, ◌<◌, ◌+◌, ◌⊎◌, ℕ, true, false, Option, Some, None, is_some}
 use Rattle.mm_types.specs.{PageFault, limit_of, Frame, Key, Place}
-use Rattle.mm_types.specs.declared.faults.PageFault.TheVariants as fault
 use Rattle.mm_types.specs.declared.moves.LineKind.TheVariants as kind
-use Rattle.mm_types.specs.declared.moves.Move.TheVariants as move
-use Rattle.mm_life.specs.{is_empty, record_at, FrameLife, changed, same_key, same_place, is_live, is_shared, key_of_place, is_short, shows_shared}
-use Rattle.mm_life.specs.{zero_page}
+use Rattle.mm_life.specs.{record_at, FrameLife, changed, same_key, same_place, is_live, is_shared, key_of_place, is_short, shows_shared, zero_page}
 use Rattle.mm_frame_laws.specs.{IsSoiled}
-use Rattle.mm_pages.specs.{Aim, no_calls, is_framed}
-use Rattle.mm_parts.specs.{front}
-use Rattle.mm_moving.specs.{StateOf, Made, moved_with_call, SomeFault, IsFlightOf}
-use Rattle.mm_paged.specs.Pieces.{Went, Stuck, Sought, TookFrame, Calm, InQuietFrame, LifeKept}
-
--- the access begins here, at this place, for this page
-pub record Reaches (a : Aim) (k : Key) (place : Place) (s : StateOf) : Type 0 where
-  pub at : a.place ≡ place
-  pub needs : a.need.key ≡ k
-  pub from : a.start ≡ s.life
+use Rattle.mm_pages.specs.{Aim, is_framed}
+use Rattle.mm_moving.specs.{StateOf, moved_with_call, IsFlightOf}
+use Rattle.mm_paged.specs.Pieces.{Went, Stuck, TookFrame, Calm, Causes, InQuietFrame, LifeBut, LifeKept, Reaches}
 
 -- it makes a copy of the page, which becomes the place's own
 pub record CopiesFrom (a : Aim) (k : Key) (place : Place) (s : StateOf) : Type 0 where
@@ -52,30 +42,9 @@ pub record Pins (a : Aim) (place : Place) (f : Frame) (s : StateOf) : Type 0 whe
   pub valid : s.life.valid place ≡ Some f
   pub flight : IsFlightOf a.start.flight (Some f) s.life
 
--- what a search leaves while a frame is pinned
-pub record Spares (pinned : Frame) (s z : StateOf) : Type 0 where
-  pub life : LifeKept s.life z.life
-  pub stands : z.life.stands ≡ s.life.stands
-  pub valid : (p : Place) → s.life.valid p ≡ Some pinned → z.life.valid p ≡ Some pinned
-  pub read : z.told.last_failed_read ≡ s.told.last_failed_read
-  pub same : z ≡ moved_with_call s z
-
--- a search found no frame, by the report
-pub record Lacks (s z : StateOf) : Type 0 where
-  pub short : is_short z.life ≡ true
-  pub failed : 1 ≤ z.told.search_writes.failed
-  pub none : s.told.search_writes.succeeded ≡ 0 → z.told.search_writes.succeeded ≡ 0
-  pub fault : SomeFault s z
-
 -- a page-file key came to be, and else the life of the frames is as moves within a line leave it
-pub record KeyAdded (k : Key) (l m : FrameLife) : Type 0 where
-  pub machine : m.machine ≡ l.machine
-  pub line : m.line ≡ l.line
-  pub kind : m.kind ≡ l.kind
-  pub paging : m.paging ≡ changed same_key l.paging k true
-  pub keys : m.paging_keys ≡ l.paging_keys + 1
-  pub pids : length m.sets ≡ length l.sets
-  pub added : m.added ≡ l.added
+abbrev pub KeyAdded : Key → FrameLife → FrameLife → Type 0
+KeyAdded k l m = LifeBut (changed same_key l.paging k true) (l.paging_keys + 1) l m
 
 -- the place's own page is there, a copy of this page, and valid
 pub record Copied (k : Key) (place : Place) (s z : StateOf) : Type 0 where
@@ -87,26 +56,6 @@ pub record Copied (k : Key) (place : Place) (s z : StateOf) : Type 0 where
   pub framed : is_framed (z.life.stands k) ≡ true
   pub read : z.told.last_failed_read ≡ s.told.last_failed_read
   pub same : z ≡ record (moved_with_call s z) { names = z.names; contents = z.contents }
-
--- why there is no copy, by the report: the read of the page copied from, or a search
-pub record FailsToCopy (why : PageFault) (k : Key) (s z : StateOf) : Type 0 where
-  pub read : why ≡ fault.Read → z.told.last_failed_read ≡ Some k
-  pub kept : why ≡ fault.NoFrame → z.told.last_failed_read ≡ s.told.last_failed_read
-  pub short : why ≡ fault.NoFrame → is_short z.life ≡ true
-  pub failed : why ≡ fault.NoFrame → 1 ≤ z.told.search_writes.failed
-  pub none : why ≡ fault.NoFrame → s.told.search_writes ≡ no_calls →
-      z.told.search_writes.succeeded ≡ 0
-  pub fault : SomeFault s z
-
--- a frame is zeroed now, where one could be taken: it was before, or the first free one is cleared,
--- or the first on standby is taken and cleared
-pub data Readies (s z : StateOf) : Type 0 where
-  Zeroed : z ≡ s → Readies s z
-  Cleared : is_empty s.life.frames.zeroed ≡ true →
-      Made (move.Clear (front s.life.frames.free)) s z → Readies s z
-  Taken : (x : StateOf) → is_empty s.life.frames.zeroed ≡ true →
-      is_empty s.life.frames.free ≡ true → Made (move.Steal (front s.life.frames.standby)) s x
-      → Made (move.Clear (front x.life.frames.free)) x z → Readies s z
 
 -- ---- what is asked
 
@@ -144,18 +93,6 @@ pub record MayCopy (place : Place) (s : StateOf) : Type 0 where
   pub aside : s.aside ≡ None
 
 -- ---- what is promised
-
--- there is a frame to be taken beside the pinned one
-pub record FindsBeside (pinned : Frame) (s z : StateOf) : Type 0 where
-  pub some : is_short z.life ≡ false
-  pub went : (a : Aim) (place : Place) → Pins a place pinned s → Sought a s z
-
--- there is none
-pub record NoneBeside (pinned : Frame) (e : PageFault) (s z : StateOf) : Type 0 where
-  pub stuck : (a : Aim) (place : Place) → Pins a place pinned s → Stuck a fault.NoFrame 0 s z
-  pub why : e ≡ fault.NoFrame
-  pub short : is_short s.life ≡ true
-  pub lacks : Lacks s z
 
 -- the place's own page came to be beside the tables, and has this frame
 pub record CopyGiven (place : Place) (f : Frame) (s z : StateOf) : Type 0 where
@@ -196,5 +133,5 @@ pub record FailsToCopyPage (k : Key) (place : Place) (e : PageFault) (s z : Stat
   pub unready : (s.life.valid place ≡ None) ⊎ (is_short s.life ≡ true)
   pub life : LifeKept s.life z.life
   pub names : (z.names ≡ s.names) ⊎ (z.names ≡ changed same_place s.names place (Some k))
-  pub fails : FailsToCopy e k s z
+  pub causes : Causes e k s z
   pub same : z ≡ record (moved_with_call s z) { names = z.names }

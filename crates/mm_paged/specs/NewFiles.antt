@@ -11,32 +11,36 @@ use Rattle.mm_world.specs.{filled, Tally}
 use Rattle.mm_pages.specs.{MakesFrom, Turned, writes_from, last_write, changed, tallied}
 use Rattle.mm_moving.specs.{StateOf, moved, DoesMoves}
 
--- The first n blocks of a new file were written in order, block `first + i` with the byte `byte +
--- i` throughout; or they were up to a write that failed. Nothing but the file device was changed,
--- and no other block.
-pub record BlocksWritten (first n byte : ℕ) (ok : Bool) (s z : StateOf) : Type 0 where
-  pub whole : ℕ
-  pub calls : List Call
+-- the file device was called so, to write blocks, and nothing but it was changed
+pub record CallsWritten (calls : List Call) (s z : StateOf) : Type 0 where
   pub served : AllServed calls s.files z.files
-  pub are : map logged_call calls ≡ writes_from first whole ++ last_write ok (first + whole)
-  pub all : ok ≡ true → whole ≡ n
-  pub some : ok ≡ false → whole < n
   pub none_read : (t : Tally) → tallied way.Read calls t ≡ t
   pub told : z.told ≡ record s.told {
     file_writes = tallied way.Write calls s.told.file_writes;
     search_writes = tallied way.Write calls s.told.search_writes;
   }
   pub rest : z ≡ record s { told = z.told; files = z.files; blocks = z.blocks }
+  pub later : IsLater s.files z.files
+  pub kept : KeepsOthers (map logged_call calls) s.blocks z.blocks
+
+-- The first n blocks of a new file were written in order, block `first + i` with the byte `byte +
+-- i` throughout; or they were up to a write that failed. Nothing but the file device was changed,
+-- and no other block.
+pub record BlocksWritten (first n byte : ℕ) (ok : Bool) (s z : StateOf) : Type 0 where
+  pub whole : ℕ
+  pub calls : List Call
+  pub tells : CallsWritten calls s z
+  pub are : map logged_call calls ≡ writes_from first whole ++ last_write ok (first + whole)
+  pub all : ok ≡ true → whole ≡ n
+  pub some : ok ≡ false → whole < n
   pub written : ok ≡ true → (i : ℕ) → i < n →
       slice_get z.blocks (first + i) ≡ Some (filled ((byte + i) % 256))
   pub others : (block : ℕ) → (block < first) ⊎ (first + n ≤ block) →
       slice_get z.blocks block ≡ slice_get s.blocks block
   pub long : length z.blocks ≡ length s.blocks
-  pub later : IsLater s.files z.files
   pub quiet : ok ≡ true → z.told.file_writes.failed ≡ s.told.file_writes.failed
   pub failed : ok ≡ false → 0 < z.told.file_writes.failed
   pub blamed : ok ≡ false → CallFailed s.files z.files
-  pub kept : KeepsOthers (map logged_call calls) s.blocks z.blocks
 
 -- a function of keys, with these values for the first n pages of an area
 abbrev pub with_pages : {V : Type 0} → ℕ → ℕ → (ℕ → V) → (Key → V) → Key → V

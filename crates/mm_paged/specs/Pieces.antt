@@ -9,61 +9,57 @@ use Rattle.mm_types.specs.declared.moves.Move.TheVariants as move
 use Rattle.mm_types.specs.declared.numbers.Key.TheVariants.{Private, Shared}
 use Rattle.mm_life.specs.{record_at, is_read, is_short, Walk, Through, walked_all, is_read_move, takes_frame, is_wrote_move, Starved, ending}
 use Rattle.mm_life.specs.{FrameLife, changed, same_place, fits_place}
-use Rattle.mm_blocks.specs.{IsLater}
 use Rattle.mm_pages.specs.{Done, Aim, AccessMove, is_had, place_at, Turns, page_rank, PassesIn, no_calls, is_framed}
 use Rattle.mm_pages.specs.declared.outcomes.Done.TheVariants as done
 use Rattle.mm_pages.specs.Housekeeping.{Ends}
 use Rattle.mm_pages.specs.Leaving.{Leaving}
 use Rattle.mm_paged.specs.Shown.{OwnOf, store_of, behind_of}
-use Rattle.mm_moving.specs.{StateOf, Made, moved, moved_with_call, SomeFault, DoesMoves, walk_of}
-use Rattle.mm_parts.specs.{end_of_read}
-
--- moves of an access, with at most so many reads, after which a new search would begin
-pub record Went (a : Aim) (reads : ℕ) (s z : StateOf) : Type 0 where
-  pub moves : List Move
-  pub does : DoesMoves moves s z
-  pub each : Through (AccessMove a) (walk_of s) moves
-  pub fresh : (walked_all (walk_of s) moves).tried ≡ []
-  pub few_reads : count_by is_read_move moves ≤ reads
-  pub few_writes : count_by is_wrote_move moves ≤ count_by takes_frame moves
-
--- the moves of an access that failed
-pub record Stuck (a : Aim) (why : PageFault) (reads : ℕ) (s z : StateOf) : Type 0 where
-  pub moves : List Move
-  pub does : DoesMoves moves s z
-  pub each : Through (AccessMove a) (walk_of s) moves
-  pub few_reads : count_by is_read_move moves ≤ reads
-  pub few_writes : count_by is_wrote_move moves ≤ count_by takes_frame moves
-  pub starved : why ≡ fault.NoFrame → Starved (z.life.valid a.place) (walked_all (walk_of s) moves)
+use Rattle.mm_moving.specs.{StateOf, Made, moved, moved_with_call, SomeFault, DoesMoves}
 
 -- in the middle of a search: frames whose write failed
 abbrev pub walk_at : List ℕ → StateOf → Walk
 walk_at tried s = record { life = s.life; ages = s.ages; tried = tried }
 
--- the search of an access
-pub record Sought (a : Aim) (s z : StateOf) : Type 0 where
+-- Moves of an access, from where these frames were tried: at most so many reads, and of its writes
+-- `paid` fewer than frames that are taken, or `owed` more. They end where this holds of the walk.
+pub record Piece (a : Aim) (End : Walk → Type 0) (reads paid owed : ℕ) (tried : List ℕ)
+    (s z : StateOf) : Type 0 where
   pub moves : List Move
   pub does : DoesMoves moves s z
-  pub each : Through (AccessMove a) (walk_of s) moves
-  pub none : count_by is_read_move moves ≡ 0
-  pub one : count_by is_wrote_move moves ≤ 1
-
--- a frame is taken, whatever was tried in the search before
-pub record TookFrame (a : Aim) (reads : ℕ) (s z : StateOf) : Type 0 where
-  pub moves : List Move
-  pub does : DoesMoves moves s z
-  pub each : (t : List ℕ) → Through (AccessMove a) (walk_at t s) moves
-  pub fresh : (t : List ℕ) → (walked_all (walk_at t s) moves).tried ≡ []
+  pub each : Through (AccessMove a) (walk_at tried s) moves
+  pub ends : End (walked_all (walk_at tried s) moves)
   pub few_reads : count_by is_read_move moves ≤ reads
-  pub paid : count_by is_wrote_move moves + 1 ≤ count_by takes_frame moves
+  pub few_writes : count_by is_wrote_move moves + paid ≤ count_by takes_frame moves + owed
 
--- a frame is taken, and the read fails
-pub record Missed (a : Aim) (s z : StateOf) : Type 0 where
-  pub moves : List Move
-  pub does : DoesMoves moves s z
-  pub each : (t : List ℕ) → Through (AccessMove a) (walk_at t s) moves
-  pub few_reads : count_by is_read_move moves ≤ 1
-  pub paid : count_by is_wrote_move moves + 1 ≤ count_by takes_frame moves
+-- a search would begin anew
+abbrev pub IsFresh : Walk → Type 0
+IsFresh w = w.tried ≡ []
+
+abbrev pub Anywhere : Walk → Type 0
+Anywhere w = Unit {0}
+
+-- where no frame could be had all was tried
+abbrev pub HasTried : Aim → PageFault → StateOf → Walk → Type 0
+HasTried a why z w = why ≡ fault.NoFrame → Starved (z.life.valid a.place) w
+
+-- moves of an access, with at most so many reads, after which a new search would begin
+abbrev pub Went : Aim → ℕ → StateOf → StateOf → Type 0
+Went a reads s z = Piece a IsFresh reads 0 0 [] s z
+
+-- the moves of an access that failed
+abbrev pub Stuck : Aim → PageFault → ℕ → StateOf → StateOf → Type 0
+Stuck a why reads s z = Piece a (HasTried a why z) reads 0 0 [] s z
+
+-- the search of an access
+abbrev pub Sought : Aim → StateOf → StateOf → Type 0
+Sought a s z = Piece a Anywhere 0 0 1 [] s z
+
+-- a frame is taken, whatever was tried in the search before, and so this holds where it ends
+abbrev pub Takes : Aim → (Walk → Type 0) → ℕ → StateOf → StateOf → Type 0
+Takes a End reads s z = (t : List ℕ) → Piece a End reads 1 0 t s z
+
+abbrev pub TookFrame : Aim → ℕ → StateOf → StateOf → Type 0
+TookFrame a reads s z = Takes a IsFresh reads s z
 
 -- a frame is for this page
 abbrev pub IsFor : Aim → Key → Type 0
@@ -73,6 +69,12 @@ IsFor a k = (k ≡ a.need.key) ⊎ (a.need.copy ≡ Some k)
 pub record ReadsFor (a : Aim) (k : Key) : Type 0 where
   pub needs : a.need.key ≡ k
   pub absent : is_had a.start (a.start.stands k) ≡ false
+
+-- the access begins here, at this place, for this page
+pub record Reaches (a : Aim) (k : Key) (place : Place) (s : StateOf) : Type 0 where
+  pub at : a.place ≡ place
+  pub needs : a.need.key ≡ k
+  pub from : a.start ≡ s.life
 
 -- the access begins, for this page, at a place that is not valid
 pub record AccessBegins (a : Aim) (k : Key) (s : StateOf) : Type 0 where
@@ -97,15 +99,19 @@ NamesFor k s z = (place : Place) (v : Option Key) → fits_place place k ≡ tru
     changed same_place z.names place v ≡ changed same_place s.names place v
 
 -- what failed, by the report: the read of the key, or a search
-pub record Fails (why : PageFault) (k : Key) (s z : StateOf) : Type 0 where
+pub record Causes (why : PageFault) (k : Key) (s z : StateOf) : Type 0 where
   pub read : why ≡ fault.Read → z.told.last_failed_read ≡ Some k
   pub kept : why ≡ fault.NoFrame → z.told.last_failed_read ≡ s.told.last_failed_read
   pub short : why ≡ fault.NoFrame → is_short z.life ≡ true
   pub failed : why ≡ fault.NoFrame → 1 ≤ z.told.search_writes.failed
-  pub none : why ≡ fault.NoFrame → s.told.search_writes.succeeded ≡ 0 →
+  pub none : why ≡ fault.NoFrame → s.told.search_writes ≡ no_calls →
       z.told.search_writes.succeeded ≡ 0
-  pub unframed : why ≡ fault.NoFrame → is_framed (z.life.stands k) ≡ false
   pub fault : SomeFault s z
+
+-- so a page that has no frame could not be had
+pub record Fails (why : PageFault) (k : Key) (s z : StateOf) : Type 0 where
+  pub causes : Causes why k s z
+  pub unframed : why ≡ fault.NoFrame → is_framed (z.life.stands k) ≡ false
   pub same : z ≡ moved_with_call s z
 
 -- the key stands in this frame, which is not being read
@@ -113,25 +119,12 @@ pub record InQuietFrame (k : Key) (f : Frame) (s : StateOf) : Type 0 where
   pub stands : s.life.stands k ≡ held.Frame f
   pub quiet : is_read (record_at s.life.frames f.0).request ≡ false
 
--- a page is read into a frame: the read begins, and ends
-pub record ReadsIn (k : Key) (f : Frame) (ok : Bool) (s z : StateOf) : Type 0 where
-  pub mid : StateOf
-  pub begins : Made (move.Read f k) s mid
-  pub ends : Made (end_of_read ok f) mid z
-  pub owner : (record_at mid.life.frames f.0).owner ≡ Some k
-
--- devices were called since
-pub record Later (s z : StateOf) : Type 0 where
-  pub paging : IsLater s.paging z.paging
-  pub files : IsLater s.files z.files
-
 -- a page is valid at a place then, where it was not
 pub record Placed (k : Key) (f : Frame) (place : Place) (s z : StateOf) : Type 0 where
   pub valid : z.life.valid place ≡ Some f
   pub names : z.names ≡ changed same_place s.names place (Some k)
   pub kind : z.life.kind ≡ s.life.kind
   pub frame : InQuietFrame k f z
-  pub told : z.told ≡ s.told
   pub same : z ≡ record (moved_with_call s z) { names = z.names }
 
 -- a page is soiled, or was so
@@ -139,15 +132,19 @@ pub data Soils (f : Frame) (s z : StateOf) : Type 0 where
   Was : z ≡ s → Soils f s z
   Is : Made (move.Soil f) s z → z ≡ moved s z → Soils f s z
 
--- what moves within a line leave of the life of the frames
-pub record LifeKept (l m : FrameLife) : Type 0 where
+-- what moves leave of the life of the frames, where these keys are the paging file's then
+pub record LifeBut (pages : Key → Bool) (count : ℕ) (l m : FrameLife) : Type 0 where
   pub machine : m.machine ≡ l.machine
   pub line : m.line ≡ l.line
   pub kind : m.kind ≡ l.kind
-  pub paging : m.paging ≡ l.paging
-  pub keys : m.paging_keys ≡ l.paging_keys
+  pub paging : m.paging ≡ pages
+  pub keys : m.paging_keys ≡ count
   pub pids : length m.sets ≡ length l.sets
   pub added : m.added ≡ l.added
+
+-- what moves within a line leave of it
+abbrev pub LifeKept : FrameLife → FrameLife → Type 0
+LifeKept l m = LifeBut l.paging l.paging_keys l m
 
 -- a place can be let go: it is not valid, or the line unbinds pages of its process
 abbrev pub MayLetGo : Place → StateOf → Type 0

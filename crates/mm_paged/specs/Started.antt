@@ -8,16 +8,9 @@ use Rattle.mm_life.specs.{record_at, is_read, changed, same_place, is_short}
 use Rattle.mm_pages.specs.{Aim, need_for, waits_at_once, is_framed, Ready, Need, Start}
 use Rattle.mm_pages.specs.declared.outcomes.Need.TheVariants as need
 use Rattle.mm_pages.specs.declared.outcomes.Start.TheVariants as start
-use Rattle.mm_types.specs.declared.moves.Move.TheVariants as move
-use Rattle.mm_moving.specs.{StateOf, Made, moved, moved_with_call}
-use Rattle.mm_paged.specs.Pieces.{Went, TookFrame, ReadsFor}
+use Rattle.mm_moving.specs.{StateOf, moved_with_call}
+use Rattle.mm_paged.specs.Pieces.{Went, Reaches}
 use Rattle.mm_paged.specs.Shown.{OwnOf, report_of}
-
--- an access of this page at this place begins
-pub record AimsAt (a : Aim) (k : Key) (place : Place) (s : StateOf) : Type 0 where
-  pub at : a.place ≡ place
-  pub needs : a.need.key ≡ k
-  pub from : a.start ≡ s.life
 
 -- why it waits whatever frames there are, by its answer
 abbrev pub reason_at_once : Start → Option Why
@@ -35,14 +28,18 @@ abbrev pub IsBeingRead : Key → StateOf → Type 0
 IsBeingRead k s = (f : Frame) × (s.life.stands k ≡ held.Frame f) ×
     (is_read (record_at s.life.frames f.0).request ≡ true)
 
--- the access has begun so far as its moves go, and this is its answer
-pub record AccessBegun (n : Need) (k : Key) (place : Place) (result : Start) (s z : StateOf) :
-    Type 0 where
-  pub went : (a : Aim) → AimsAt a k place s → Went a 1 s z
+-- what the access did, whatever it answers
+pub record Came (k : Key) (place : Place) (s z : StateOf) : Type 0 where
+  pub went : (a : Aim) → Reaches a k place s → Went a 1 s z
   pub names : (z.names ≡ s.names) ⊎ (z.names ≡ changed same_place s.names place (Some k))
   pub slots : z.slots ≡ s.slots
   pub blocks : z.blocks ≡ s.blocks
   pub same : z ≡ record (moved_with_call s z) { names = z.names }
+
+-- the access has begun so far as its moves go, and this is its answer
+pub record AccessBegun (n : Need) (k : Key) (place : Place) (result : Start) (s z : StateOf) :
+    Type 0 where
+  pub came : Came k place s z
   -- its page is valid at its place, and for a copy there is a frame
   pub valid : result ≡ start.Ready → is_some (z.life.valid place) ≡ true
   pub room : result ≡ start.Ready → needs_copy n ≡ true → is_short z.life ≡ false
@@ -63,11 +60,3 @@ ready_after (start.Pending w) n k place = None
 abbrev pub answered : Need → Start → Bool → Start
 answered need.Copy start.Ready true = start.Pending why.Frame
 answered n r short = r
-
--- a read of the page begins
-pub record ReadBegins (k : Key) (s z : StateOf) : Type 0 where
-  pub frame : Frame
-  pub mid : StateOf
-  pub made : Made (move.Read frame k) mid z
-  pub took : (a : Aim) → ReadsFor a k → TookFrame a 1 s z
-  pub same : z ≡ moved s z

@@ -13,10 +13,8 @@ pub(crate) fn is_reading(r: &Record) -> bool
     ensures { result ≡ is_read r.now.request }
 {
     match r.request {
-        Request::None => false,
         Request::Read => true,
-        Request::Write => false,
-        Request::WriteAgain => false,
+        _ => false,
     }
 }
 

@@ -1,57 +1,77 @@
-ghost use Rattle.std.specs.Prelude.{◌≡◌, not, ◌&&◌, ◌||◌, true, false, None, Some, OnOk, IfOk, IfErr};
+ghost use Rattle.std.specs.Prelude.{◌≡◌, ◌≤◌, not, ◌&&◌, ◌||◌, true, false, None, Some, OnOk, IfOk, IfErr};
 ghost use Rattle.mm_types.specs.declared.frames.Held.TheVariants as held;
 ghost use Rattle.mm_life.specs.{is_empty, record_at, is_write, is_again, has_request, is_live, set_of, is_access, is_touch, touches, is_zero};
 ghost use Rattle.mm_life.specs.{is_short, is_below_max};
-ghost use Rattle.mm_pages.specs.{Aim, is_framed};
-ghost use Rattle.mm_moving.specs.{Made};
-ghost use Rattle.mm_types.specs.{Place};
+ghost use Rattle.mm_pages.specs.{Aim};
+ghost use Rattle.mm_moving.specs.{Made, Searched};
+ghost use Rattle.mm_types.specs.{Frame, Place};
 ghost use Rattle.mm_frame_laws.specs.{IsSoiled};
-ghost use Rattle.mm_parts.specs.{front};
 ghost use Rattle.mm_types.specs.declared.moves.Move.TheVariants as move;
 ghost use Rattle.mm_paged.specs.Pieces.{Went, InQuietFrame, Soils};
-ghost use Rattle.mm_paged.specs.Faults.{StandbyAlone, MayReadIn, MayUse, HasFullSet, MayFault, GivesFrame, KeepsNames, ReadsWell, ReadsBadly, TakesIn, MissesIn, SettlesRead, FailsToSettle, SearchKeeps, FindsFrame, Brings, FailsToBring, Puts, Faults, FaultsToWrite, IsCalledOn};
+ghost use Rattle.mm_paged.specs.Faults.{FindsNone, Frees, Readies, MayReadIn, MayUse, HasFullSet, MayFault, GivesFrame, Brings, FailsToBring, Puts, Faulted, FaultsToWrite};
 
 use mm_moving::Moving;
 use mm_reclaim::{NoFrame, find_frame};
 use mm_types::{Frame, Held, Key, PageFault, Place, Record, Request};
 
-/// A demand-zero page gets the first zeroed frame.
-pub(crate) fn give_zeroed<T: Moving>(state: &mut T, key: Key) -> Frame
-    requires touch { is_touch (T.shown state.old).life.kind ≡ true }
-    requires zero { is_zero ((T.shown state.old).life.stands key) ≡ true }
-    requires some { is_empty (T.shown state.old).life.frames.zeroed ≡ false }
-    ensures front { result ≡ front (T.shown state.old).life.frames.zeroed }
-    ensures made { Made (move.Give result key) (T.shown state.old) (T.shown state.new) }
-    ensures gave { GivesFrame key result (T.shown state.old) (T.shown state.new) }
-    ensures loans { T.loans state.new ≡ T.loans state.old }
+/// Whether no frame can be taken at once.
+pub(crate) fn is_starved<T: Moving>(state: &T) -> bool
+    ensures { result ≡ is_short (T.shown state.now).life }
 {
-    state.give(key)
+    state.no_zeroed() && state.no_free() && state.no_standby()
 }
 
-/// It gets the first free frame, cleared.
-fn give_free<T: Moving>(state: &mut T, key: Key) -> Frame
-    requires touch { is_touch (T.shown state.old).life.kind ≡ true }
-    requires zero { is_zero ((T.shown state.old).life.stands key) ≡ true }
-    requires none { is_empty (T.shown state.old).life.frames.zeroed ≡ true }
-    requires some { is_empty (T.shown state.old).life.frames.free ≡ false }
-    ensures gave { GivesFrame key result (T.shown state.old) (T.shown state.new) }
+/// Sees that there is a frame to be taken, beside a pinned one.
+pub(crate) fn find<T: Moving>(state: &mut T, pinned: Option<Frame>) -> Result<(), PageFault>
+    requires access { is_short (T.shown state.old).life ≡ true
+        → is_access (T.shown state.old).life.kind ≡ true }
+    requires shares { (f : Frame) → pinned ≡ Some f →
+        1 ≤ (record_at (T.shown state.old).life.frames f.0).shares }
+    requires own { (T.shown state.old).own ≡ None }
+    ensures ok { OnOk result (Searched pinned true (T.shown state.old) (T.shown state.new)) }
+    ensures err { IfErr result
+        (λ e. FindsNone pinned e (T.shown state.old) (T.shown state.new)) }
     ensures loans { T.loans state.new ≡ T.loans state.old }
 {
-    state.clear();
-    state.give(key)
+    state.sound();
+    if !is_starved(state) {
+        return Ok(());
+    }
+    match find_frame(state, pinned) {
+        Ok(_) => Ok(()),
+        Err(NoFrame) => Err(PageFault::NoFrame),
+    }
 }
 
-/// It gets the first frame on standby, taken and cleared.
-fn give_standby<T: Moving>(state: &mut T, key: Key) -> Frame
+/// Sees that a frame is free or zeroed: without one the first on standby is taken.
+pub(crate) fn free_frame<T: Moving>(state: &mut T)
     requires touch { is_touch (T.shown state.old).life.kind ≡ true }
-    requires zero { is_zero ((T.shown state.old).life.stands key) ≡ true }
-    requires only { StandbyAlone (T.shown state.old).life.frames }
-    ensures gave { GivesFrame key result (T.shown state.old) (T.shown state.new) }
+    requires some { is_short (T.shown state.old).life ≡ false }
+    ensures frees { Frees (T.shown state.old) (T.shown state.new) }
+    ensures some { is_empty (T.shown state.new).life.frames.zeroed ≡ true
+        → is_empty (T.shown state.new).life.frames.free ≡ false }
     ensures loans { T.loans state.new ≡ T.loans state.old }
 {
-    state.steal();
+    if state.no_zeroed() {
+        if state.no_free() {
+            state.steal();
+        }
+    }
+}
+
+/// Sees that a frame is zeroed: without one the first that is free is cleared.
+pub(crate) fn ready_frame<T: Moving>(state: &mut T)
+    requires touch { is_touch (T.shown state.old).life.kind ≡ true }
+    requires some { is_short (T.shown state.old).life ≡ false }
+    ensures readies { Readies (T.shown state.old) (T.shown state.new) }
+    ensures zeroed { is_empty (T.shown state.new).life.frames.zeroed ≡ false }
+    ensures loans { T.loans state.new ≡ T.loans state.old }
+{
+    if !state.no_zeroed() {
+        return;
+    }
+    free_frame(state);
     state.clear();
-    state.give(key)
 }
 
 /// A demand-zero page gets a frame, where there is one.
@@ -62,61 +82,25 @@ pub(crate) fn give<T: Moving>(state: &mut T, key: Key) -> Frame
     ensures gave { GivesFrame key result (T.shown state.old) (T.shown state.new) }
     ensures loans { T.loans state.new ≡ T.loans state.old }
 {
-    if !state.no_zeroed() {
-        return give_zeroed(state, key);
-    }
-    if !state.no_free() {
-        return give_free(state, key);
-    }
-    give_standby(state, key)
+    ready_frame(state);
+    state.give(key)
 }
 
-/// A page on a device is read into the first free frame, or else the first zeroed one.
-fn read_free<T: Moving>(state: &mut T, key: Key) -> Result<Frame, PageFault>
-    requires may { MayReadIn key (T.shown state.old) }
-    requires some { is_empty (T.shown state.old).life.frames.zeroed ≡ true
-        → is_empty (T.shown state.old).life.frames.free ≡ false }
-    ensures ok { IfOk result (λ f. ReadsWell key f (T.shown state.old) (T.shown state.new)) }
-    ensures err { IfErr result (λ e. ReadsBadly key e (T.shown state.old) (T.shown state.new)) }
-    ensures keeps { KeepsNames (T.shown state.old) (T.shown state.new) }
+/// A page's frame, which is found where it has none.
+fn bring<T: Moving>(state: &mut T, key: Key) -> Result<Frame, PageFault>
+    requires access { is_access (T.shown state.old).life.kind ≡ true }
+    requires live { is_live (T.shown state.old).life key ≡ true }
+    requires own { (T.shown state.old).own ≡ None }
+    requires aside { (T.shown state.old).aside ≡ None }
+    ensures ok { IfOk result (λ f. Brings key f (T.shown state.old) (T.shown state.new)) }
+    ensures err { IfErr result (λ e. FailsToBring key e (T.shown state.old) (T.shown state.new)) }
     ensures loans { T.loans state.new ≡ T.loans state.old }
 {
-    let f = state.start_read(key);
-    if state.end_read(f) {
-        Ok(f)
-    } else {
-        Err(PageFault::Read)
+    match state.stands(key) {
+        Held::Frame(f) => settle(state, key, f),
+        Held::Zero => bring_zero(state, key),
+        _ => bring_stored(state, key),
     }
-}
-
-/// A page on a device is read into the first frame on standby, which is taken.
-fn read_standby<T: Moving>(state: &mut T, key: Key) -> Result<Frame, PageFault>
-    requires may { MayReadIn key (T.shown state.old) }
-    requires only { StandbyAlone (T.shown state.old).life.frames }
-    ensures ok { IfOk result (λ f. TakesIn key f (T.shown state.old) (T.shown state.new)) }
-    ensures err { IfErr result (λ e. MissesIn key e (T.shown state.old) (T.shown state.new)) }
-    ensures keeps { KeepsNames (T.shown state.old) (T.shown state.new) }
-    ensures loans { T.loans state.new ≡ T.loans state.old }
-{
-    state.steal();
-    read_free(state, key)
-}
-
-/// A page on a device is read into a frame, where there is one.
-fn read_in<T: Moving>(state: &mut T, key: Key) -> Result<Frame, PageFault>
-    requires may { MayReadIn key (T.shown state.old) }
-    requires some { is_short (T.shown state.old).life ≡ false }
-    ensures ok { IfOk result (λ f. TakesIn key f (T.shown state.old) (T.shown state.new)) }
-    ensures err { IfErr result (λ e. MissesIn key e (T.shown state.old) (T.shown state.new)) }
-    ensures keeps { KeepsNames (T.shown state.old) (T.shown state.new) }
-    ensures loans { T.loans state.new ≡ T.loans state.old }
-{
-    if state.no_zeroed() {
-        if state.no_free() {
-            return read_standby(state, key);
-        }
-    }
-    read_free(state, key)
 }
 
 /// A frame that a page is in: where a read of it is in flight, that is completed.
@@ -124,10 +108,8 @@ fn settle<T: Moving>(state: &mut T, key: Key, f: Frame) -> Result<Frame, PageFau
     requires access { is_access (T.shown state.old).life.kind ≡ true }
     requires stands { (T.shown state.old).life.stands key ≡ held.Frame f }
     requires own { (T.shown state.old).own ≡ None }
-    ensures same { IfOk result (λ g. g ≡ f) }
-    ensures ok { IfOk result (λ g. SettlesRead key g (T.shown state.old) (T.shown state.new)) }
-    ensures err { IfErr result (λ e. FailsToSettle key e (T.shown state.old) (T.shown state.new)) }
-    ensures keeps { KeepsNames (T.shown state.old) (T.shown state.new) }
+    ensures ok { IfOk result (λ g. Brings key g (T.shown state.old) (T.shown state.new)) }
+    ensures err { IfErr result (λ e. FailsToBring key e (T.shown state.old) (T.shown state.new)) }
     ensures loans { T.loans state.new ≡ T.loans state.old }
 {
     if state.look(f).request == Request::Read {
@@ -138,65 +120,35 @@ fn settle<T: Moving>(state: &mut T, key: Key, f: Frame) -> Result<Frame, PageFau
     Ok(f)
 }
 
-/// Sees that there is a frame to be taken, for a page that has none.
-fn find<T: Moving>(state: &mut T, key: Key) -> Result<(), PageFault>
-    requires access { is_access (T.shown state.old).life.kind ≡ true }
-    requires unframed { is_framed ((T.shown state.old).life.stands key) ≡ false }
-    requires own { (T.shown state.old).own ≡ None }
-    ensures ok { OnOk result (FindsFrame key (T.shown state.old) (T.shown state.new)) }
-    ensures err { IfErr result (λ e. FailsToBring key e 0 (T.shown state.old) (T.shown state.new)) }
-    ensures keeps { SearchKeeps (T.shown state.old) (T.shown state.new) }
-    ensures loans { T.loans state.new ≡ T.loans state.old }
-{
-    state.sound();
-    if state.no_zeroed() && state.no_free() && state.no_standby() {
-        if let Err(NoFrame) = find_frame(state, None) {
-            return Err(PageFault::NoFrame);
-        }
-    }
-    Ok(())
-}
-
-/// A page's frame, which is found where it has none.
-fn bring<T: Moving>(state: &mut T, key: Key) -> Result<Frame, PageFault>
-    requires access { is_access (T.shown state.old).life.kind ≡ true }
-    requires live { is_live (T.shown state.old).life key ≡ true }
-    requires own { (T.shown state.old).own ≡ None }
-    requires aside { (T.shown state.old).aside ≡ None }
-    ensures ok { IfOk result (λ f. Brings key f (T.shown state.old) (T.shown state.new)) }
-    ensures err { IfErr result (λ e. FailsToBring key e 1 (T.shown state.old) (T.shown state.new)) }
-    ensures loans { T.loans state.new ≡ T.loans state.old }
-{
-    match state.stands(key) {
-        Held::Frame(f) => settle(state, key, f),
-        Held::Zero => bring_zero(state, key),
-        _ => bring_stored(state, key),
-    }
-}
-
-/// A demand-zero page gets a frame.
+/// A demand-zero page gets a frame that is found for it.
 fn bring_zero<T: Moving>(state: &mut T, key: Key) -> Result<Frame, PageFault>
     requires access { is_access (T.shown state.old).life.kind ≡ true }
     requires zero { is_zero ((T.shown state.old).life.stands key) ≡ true }
     requires own { (T.shown state.old).own ≡ None }
-    requires aside { (T.shown state.old).aside ≡ None }
     ensures ok { IfOk result (λ f. Brings key f (T.shown state.old) (T.shown state.new)) }
-    ensures err { IfErr result (λ e. FailsToBring key e 1 (T.shown state.old) (T.shown state.new)) }
+    ensures err { IfErr result (λ e. FailsToBring key e (T.shown state.old) (T.shown state.new)) }
     ensures loans { T.loans state.new ≡ T.loans state.old }
 {
-    find(state, key)?;
+    find(state, None)?;
     Ok(give(state, key))
 }
 
-/// A page on a device is read into a frame that is found for it.
+/// A page on a device is read into a frame that is found for it: the first free one, or else the
+/// first zeroed one.
 fn bring_stored<T: Moving>(state: &mut T, key: Key) -> Result<Frame, PageFault>
     requires may { MayReadIn key (T.shown state.old) }
     ensures ok { IfOk result (λ f. Brings key f (T.shown state.old) (T.shown state.new)) }
-    ensures err { IfErr result (λ e. FailsToBring key e 1 (T.shown state.old) (T.shown state.new)) }
+    ensures err { IfErr result (λ e. FailsToBring key e (T.shown state.old) (T.shown state.new)) }
     ensures loans { T.loans state.new ≡ T.loans state.old }
 {
-    find(state, key)?;
-    read_in(state, key)
+    find(state, None)?;
+    free_frame(state);
+    let f = state.start_read(key);
+    if state.end_read(f) {
+        Ok(f)
+    } else {
+        Err(PageFault::Read)
+    }
 }
 
 /// A page becomes valid at a place, in a set that is not full.
@@ -254,17 +206,16 @@ pub(crate) fn put<T: Moving>(state: &mut T, key: Key, f: Frame, place: Place)
     }
 }
 
-/// A page that is not valid at a place becomes so.
-pub(crate) fn fault<T: Moving>(state: &mut T, key: Key, place: Place) -> Result<(), PageFault>
+/// A page that is not valid at a place becomes so, in this frame.
+pub(crate) fn fault<T: Moving>(state: &mut T, key: Key, place: Place) -> Result<Frame, PageFault>
     requires may { MayFault key place (T.shown state.old) }
-    ensures ok { OnOk result (Faults key place (T.shown state.old) (T.shown state.new)) }
-    ensures err { IfErr result (λ e. FailsToBring key e 1 (T.shown state.old) (T.shown state.new)) }
-    ensures same { IsCalledOn (T.shown state.old) (T.shown state.new) }
+    ensures ok { IfOk result (λ f. Faulted key f place (T.shown state.old) (T.shown state.new)) }
+    ensures err { IfErr result (λ e. FailsToBring key e (T.shown state.old) (T.shown state.new)) }
     ensures loans { T.loans state.new ≡ T.loans state.old }
 {
     let f = bring(state, key)?;
     put(state, key, f, place);
-    Ok(())
+    Ok(f)
 }
 
 /// Whether a page that is valid must be soiled before it is written.
@@ -275,8 +226,7 @@ fn must_soil(r: &Record) -> bool
     match r.request {
         Request::None => !r.changed,
         Request::Write => true,
-        Request::Read => false,
-        Request::WriteAgain => false,
+        _ => false,
     }
 }
 
@@ -302,16 +252,10 @@ pub(crate) fn fault_to_write<T: Moving>(
 ) -> Result<(), PageFault>
     requires may { MayFault key place (T.shown state.old) }
     ensures ok { OnOk result (FaultsToWrite key place (T.shown state.old) (T.shown state.new)) }
-    ensures err { IfErr result (λ e. FailsToBring key e 1 (T.shown state.old) (T.shown state.new)) }
-    ensures same { IsCalledOn (T.shown state.old) (T.shown state.new) }
+    ensures err { IfErr result (λ e. FailsToBring key e (T.shown state.old) (T.shown state.new)) }
     ensures loans { T.loans state.new ≡ T.loans state.old }
 {
-    fault(state, key, place)?;
-    match state.valid(place) {
-        Some(f) => {
-            soil(state, place, f);
-            Ok(())
-        }
-        None => unreachable!(),
-    }
+    let f = fault(state, key, place)?;
+    soil(state, place, f);
+    Ok(())
 }

@@ -15,10 +15,8 @@ fn is_writing(r: &Record) -> bool
     ensures { result ≡ is_write r.now.request }
 {
     match r.request {
-        Request::None => false,
-        Request::Read => false,
-        Request::Write => true,
-        Request::WriteAgain => true,
+        Request::Write | Request::WriteAgain => true,
+        _ => false,
     }
 }
 

@@ -3,30 +3,20 @@ ghost use Rattle.mm_types.specs.{Why};
 ghost use Rattle.mm_types.specs.declared.answers.Why.TheVariants as why;
 ghost use Rattle.mm_types.specs.declared.frames.Held.TheVariants as held;
 ghost use Rattle.mm_types.specs.declared.moves.LineKind.TheVariants as kind;
-ghost use Rattle.mm_life.specs.{is_empty, is_live, is_zero, is_stored, is_short, is_thread, has_depth};
+ghost use Rattle.mm_life.specs.{is_live, is_zero, is_stored, is_short, is_thread};
 ghost use Rattle.mm_pages.specs.{wait_begun, changed};
 ghost use Rattle.mm_pages.specs.declared.outcomes.Need.TheVariants as wanted;
 ghost use Rattle.mm_pages.specs.declared.outcomes.Start.TheVariants as start_of;
-ghost use Rattle.mm_moving.specs.{Made, moved};
-ghost use Rattle.mm_parts.specs.{front_for_read};
-ghost use Rattle.mm_types.specs.declared.moves.Move.TheVariants as move;
 ghost use Rattle.mm_paged.specs.Shown.{ready_at};
-ghost use Rattle.mm_paged.specs.Faults.{StandbyAlone, MayUse};
-ghost use Rattle.mm_paged.specs.Started.{AccessBegun, IsBeingRead, ReadBegins, answered, ready_after};
+ghost use Rattle.mm_paged.specs.Faults.{MayUse};
+ghost use Rattle.mm_paged.specs.Started.{AccessBegun, IsBeingRead, answered, ready_after};
 
 use crate::completing::is_reading;
-use crate::faults::{give, put};
+use crate::faults::{free_frame, give, is_starved, put};
 use crate::paged::Wanted;
 use mm_moving::Moving;
 use mm_pages::{Need, Start};
 use mm_types::{Frame, Held, Key, Place, Tid, Why};
-
-/// Whether no frame can be taken at once.
-fn is_starved<T: Moving>(state: &T) -> bool
-    ensures { result ≡ is_short (T.shown state.now).life }
-{
-    state.no_zeroed() && state.no_free() && state.no_standby()
-}
 
 /// The access of a page that has a frame: the page becomes valid, unless it is being read.
 fn start_in_frame<T: Moving>(state: &mut T, key: Key, f: Frame, place: Place) -> Start
@@ -64,54 +54,8 @@ fn start_zero<T: Moving>(state: &mut T, key: Key, place: Place) -> Start
     Start::Ready
 }
 
-/// A read of a page begins, into the first free frame, or else the first zeroed one.
-fn begin_free<T: Moving>(state: &mut T, key: Key)
-    requires thread { is_thread (T.shown state.old).life.kind ≡ true }
-    requires depth { has_depth (T.shown state.old).life ≡ true }
-    requires stored { is_stored ((T.shown state.old).life.stands key) ≡ true }
-    requires some { is_empty (T.shown state.old).life.frames.zeroed ≡ true
-        → is_empty (T.shown state.old).life.frames.free ≡ false }
-    ensures made { Made (move.Read (front_for_read (T.shown state.old).life) key)
-        (T.shown state.old) (T.shown state.new) }
-    ensures rest { T.shown state.new ≡ moved (T.shown state.old) (T.shown state.new) }
-    ensures loans { T.loans state.new ≡ T.loans state.old }
-{
-    state.start_read(key);
-}
-
-/// A read of a page begins, into the first frame on standby, which is taken.
-fn begin_standby<T: Moving>(state: &mut T, key: Key)
-    requires thread { is_thread (T.shown state.old).life.kind ≡ true }
-    requires depth { has_depth (T.shown state.old).life ≡ true }
-    requires stored { is_stored ((T.shown state.old).life.stands key) ≡ true }
-    requires only { StandbyAlone (T.shown state.old).life.frames }
-    ensures reads { ReadBegins key (T.shown state.old) (T.shown state.new) }
-    ensures loans { T.loans state.new ≡ T.loans state.old }
-{
-    state.steal();
-    begin_free(state, key);
-}
-
-/// A read of a page begins, where there is a frame.
-fn begin_read<T: Moving>(state: &mut T, key: Key)
-    requires thread { is_thread (T.shown state.old).life.kind ≡ true }
-    requires depth { has_depth (T.shown state.old).life ≡ true }
-    requires stored { is_stored ((T.shown state.old).life.stands key) ≡ true }
-    requires some { is_short (T.shown state.old).life ≡ false }
-    ensures reads { ReadBegins key (T.shown state.old) (T.shown state.new) }
-    ensures loans { T.loans state.new ≡ T.loans state.old }
-{
-    if state.no_zeroed() {
-        if state.no_free() {
-            begin_standby(state, key);
-            return;
-        }
-    }
-    begin_free(state, key);
-}
-
-/// The access of a page on a device: a read of it begins, if there is room for a request and a
-/// frame.
+/// The access of a page on a device: a read of it begins, into the first free frame, or else the
+/// first zeroed one, if there is room for a request and a frame.
 fn start_stored<T: Moving>(state: &mut T, key: Key) -> Start
     requires thread { is_thread (T.shown state.old).life.kind ≡ true }
     requires stored { is_stored ((T.shown state.old).life.stands key) ≡ true }
@@ -125,7 +69,8 @@ fn start_stored<T: Moving>(state: &mut T, key: Key) -> Start
     if is_starved(state) {
         return Start::Pending(Why::Frame);
     }
-    begin_read(state, key);
+    free_frame(state);
+    state.start_read(key);
     Start::Pending(Why::Read)
 }
 

@@ -1,24 +1,23 @@
 -- What the parts keep makes entries, slots, requests and working sets agree.
-use Rattle.std.proofs.Common.{◌≡◌, ◌⊎◌, ℕ, ◌+◌, ◌≤◌, Bool, true, false, cond, List, [], ◌∷◌, Option, Some, None, refl, sym, ap, ◌∙◌, inl, inr, arith, length, length-append}
+use Rattle.std.proofs.Common.{◌≡◌, ◌⊎◌, ℕ, ◌+◌, ◌≤◌, true, false, List, [], ◌∷◌, Option, Some, None, refl, sym, ap, ◌∙◌, inl, inr, arith, length, length-append}
 use Rattle.std.specs.Prelude.{is_some, option_map, unwrap_or}
 use Rattle.std.proofs.Math.Logic.{∥∥₁_elim, ∥∥₁_map}
 use Rattle.std.proofs.Props.{props}
-use Rattle.std.proofs.lemmas.Bool.{lt-ltb}
 use Rattle.mm_types.specs.{Area, Block, Frame, Key, Place}
 use Rattle.mm_types.specs.declared.numbers.Key.TheVariants.{Private, Shared}
 use Rattle.mm_types.specs.declared.frames.Held.TheVariants as held
 use Rattle.mm_life.specs.{ResidentSet, record_at, FrameLife, key_of_place, is_shared, set_in, owner_is}
 use Rattle.mm_laws.specs.Reached.{Reached}
 use Rattle.mm_laws.proofs.{reached_sound, slot_free, slot_has, slot_one, slot_there, places_counted, same_place-true}
-use Rattle.mm_words.specs.{Entry, Aside, key_entry, own_word, place_from, is_aside, aside_or, is_valid_entry}
+use Rattle.mm_words.specs.{Entry, Aside, key_entry, own_word, place_from, is_valid_entry}
 use Rattle.mm_words.specs.declared.layout.Entry.TheVariants as entry
 use Rattle.mm_parts.specs.{JoinedParts, owners, owned_by, held_by, life_in, requests, is_aside_entry, EntriesAgree, SlotsAgree, RequestsAgree}
 use Rattle.mm_parts.specs.{SetsAgree, InFrame, IsValidFor, EntrySays, PartsKept}
 use Rattle.mm_parts.proofs.Keeping.{known}
-use Rattle.mm_parts.proofs.Stands.{at_place}
-use Rattle.mm_parts.proofs.StandingWords.{in_frame, beside_word, beside_shared}
-use Rattle.mm_parts.proofs.Using.{valid_owned}
-use Rattle.mm_parts.proofs.WordSteps.{valid_is}
+use Rattle.mm_parts.proofs.Stands.{at_place, beside_or_not, in_table}
+use Rattle.mm_parts.proofs.Reading.{in_frame, beside_word, beside_shared}
+use Rattle.mm_parts.proofs.Keeping.{valid_owned}
+use Rattle.mm_parts.proofs.LineSteps.{valid_is}
 
 pub slots_agree : (l : FrameLife) → ∥ Reached l ∥₁ → SlotsAgree l
 slots_agree l r = record {
@@ -35,11 +34,8 @@ module _ (t : JoinedParts) (kept : PartsKept t) where
   valid_own : (p : Place) (f : Frame) → (life_in t).valid p ≡ Some f → (owner_is is_shared (record_at t.table f.0) ≡ true) ⊎ InFrame (life_in t) (key_of_place p) f
   valid_own p f v = at (record_at t.table f.0).owner refl
     where
-      some : is_some (record_at t.table f.0).owner ≡ true
-      some = let h = (known t kept).shares p f v in ((known t kept).standing f.0).fit.shown (lt-ltb 0 (record_at t.table f.0).shares (omega (arith, h)))
-
       at : (o : Option Key) → (record_at t.table f.0).owner ≡ o → (owner_is is_shared (record_at t.table f.0) ≡ true) ⊎ InFrame (life_in t) (key_of_place p) f
-      at None e = let bad : false ≡ true = sym (ap is_some e) ∙ some in cc
+      at None e = let bad : false ≡ true = sym (ap is_some e) ∙ valid_owned t kept p f v in cc
       at (Some (Shared a i)) e = inl (rw e refl)
       at (Some (Private q u)) e =
           let same : place_from q u ≡ p = same_place-true (place_from q u) p ((known t kept).fits p f (Private q u) v e) in
@@ -53,14 +49,10 @@ module _ (t : JoinedParts) (kept : PartsKept t) where
 
   -- a private key is on no block
   own_no_file : (p : Place) (b : Block) → own_word t.words p ≡ entry.InFile b → ⊥
-  own_no_file p b e = from t.words.aside refl (is_aside t.words.aside p) refl e
-    where
-      from : (a : Option Aside) → t.words.aside ≡ a → (c : Bool) → is_aside a p ≡ c → aside_or a p (t.words.at p) ≡ entry.InFile b → ⊥
-      from None g c h e = kept.words.no_file p b e
-      from (Some a) g false h e = kept.words.no_file p b (sym (ap (λ d. cond d a.entry (t.words.at p)) h) ∙ e)
-      from (Some a) g true h e =
-          let is : a.entry ≡ entry.InFile b = sym (ap (λ d. cond d a.entry (t.words.at p)) h) ∙ e in
-          let bad : true ≡ false = sym (kept.words.beside a g) ∙ ap is_aside_entry is in cc
+  own_no_file p b e = elim (beside_or_not t.words.aside p) [
+    | inl off ↦ kept.words.no_file p b (sym (in_table t.words.aside p (t.words.at p) off) ∙ e)
+    | inr x ↦ let bad : true ≡ false = sym (kept.words.beside x.aside x.is) ∙ ap is_aside_entry (sym (x.says (t.words.at p)) ∙ e) in cc
+  ]
 
   pub in_its_frame : (k : Key) (f : Frame) → (life_in t).stands k ≡ held.Frame f → InFrame (life_in t) k f
   in_its_frame k f stands = record { stands = stands; owner = (known t kept).owner k f stands }

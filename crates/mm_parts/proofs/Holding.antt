@@ -1,6 +1,6 @@
 -- What the parts keep, in terms of what they show.
 use Rattle.std.proofs.Common.{◌≡◌, ℕ, ◌<◌, ◌≤◌, Bool, true, false, [], ◌++◌, Option, Some, None, refl, sym, ap, ◌∙◌, arith, length, length-append}
-use Rattle.std.specs.Prelude.{not, is_some, option_map}
+use Rattle.std.specs.Prelude.{not, is_some}
 use Rattle.std.proofs.Math.Logic.{∥∥₁_elim}
 use Rattle.std.proofs.Props.{props}
 use Rattle.std.proofs.lemmas.Bool.{or_left, or_right}
@@ -19,8 +19,9 @@ use Rattle.mm_laws.proofs.Facts.{Facts}
 use Rattle.mm_parts.proofs.Keeping.{known}
 use Rattle.mm_parts.proofs.RequestLists.{own_apart}
 use Rattle.mm_parts.proofs.Reading.{word_home}
-use Rattle.mm_parts.proofs.Using.{valid_there, valid_owned, valid_calm}
+use Rattle.mm_parts.proofs.Keeping.{valid_there, valid_owned, valid_calm}
 use Rattle.mm_types.proofs.Booleans.{not_true}
+use Rattle.mm_types.proofs.Options.{some_map}
 
 -- ---- lines
 
@@ -31,10 +32,6 @@ read_once t kept f h = ((known t kept).standing f).flight ∙ ap one_if (read_ha
 -- a request in flight is not the line's own
 not_own : (t : JoinedParts) → PartsKept t → (f : ℕ) → is_in f t.flight.frames ≡ true → is_read (record_at t.table f).request ≡ true → own_is t.own f ≡ false
 not_own t kept f flies reads = not_true (own_is t.own f) (λ e. let bad : true ≡ false = sym flies ∙ own_apart f t.own t.flight.frames (read_once t kept f reads) e in cc)
-
-some_place : (a : Option Aside) → is_some (option_map (λ (x : Aside). x.place) a) ≡ true → is_some a ≡ true
-some_place None h = cc
-some_place (Some x) h = refl
 
 few_by : (t : JoinedParts) → PartsKept t → length t.flight.frames ≤ t.flight.depth → t.own ≡ None → length (requests_in t) ≤ t.line.machine.depth
 few_by t kept few none =
@@ -50,7 +47,7 @@ lines_hold t kept few threads = record {
   begun = kept.line.begun;
   few = few_by t kept few;
   own_line = kept.within.requesting;
-  copying = λ h. kept.within.copying (some_place t.words.aside h);
+  copying = λ h. kept.within.copying (sym (some_map (λ (x : Aside). x.place) t.words.aside) ∙ h);
   waits = λ n f e. let h = kept.waits n f e in (h.1, not_own t kept f.0 h.0 h.1);
   threads = threads;
 }
@@ -97,7 +94,7 @@ pages_hold t kept there bound open_now begun within =
       of_frame = λ k f e. facts.owned f.0 k e;
       there = λ k f e. owned_low t kept f.0 (ap is_some (facts.owner k f e));
       framed = facts.framed;
-      bound = λ p f v. bound p (valid_there t p (ap is_some v));
+      bound = λ p f v. bound p (valid_there (t.words.at p) (ap is_some v));
       named = λ p f v. named_frame (owners t.table) p (t.words.at p) f v;
       owned = λ p f v. ap is_some (sym (named_frame (owners t.table) p (t.words.at p) f v)) ∙ valid_owned t kept p f v;
       fits = facts.fits;

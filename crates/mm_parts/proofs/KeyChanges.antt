@@ -1,15 +1,15 @@
 -- The word of one key changes, and with it the record of one frame that no place is valid for and that is no other key's.
-use Rattle.std.proofs.Common.{◌≡◌, ◌≢◌, ◌⊎◌, ℕ, Bool, true, false, cond, List, Option, Some, None, refl, sym, ap, ◌∙◌, inl, inr, arith, length}
-use Rattle.std.specs.Prelude.{◌==◌, ◌&&◌, not, is_some, option_map, if◌then◌else◌, slice_index_or}
+use Rattle.std.proofs.Common.{◌≡◌, ◌≢◌, ◌⊎◌, ℕ, Bool, true, false, cond, List, Option, Some, refl, sym, ap, ◌∙◌, inl, inr, arith, length}
+use Rattle.std.specs.Prelude.{◌==◌, ◌&&◌, not, is_some, option_map, slice_index_or}
 use Rattle.std.proofs.lemmas.Bool.{and_parts, not-true}
 use Rattle.std.proofs.lemmas.List.{get_or_past}
 use Rattle.mm_types.proofs.Cells.{same_or_not}
+use Rattle.mm_types.proofs.Options.{some_map}
 use Rattle.mm_types.specs.{Frame, Area, Block, Key, Place, Record, Move, MachineOf}
 use Rattle.mm_types.specs.declared.numbers.Key.TheVariants.{Private, Shared}
 use Rattle.mm_types.specs.declared.frames.Held.TheVariants as held
 use Rattle.mm_life.specs.{FrameTable, blank, record_at, changed, same_key, same_place, set_in, IsLegal, is_touch, after_move}
-use Rattle.mm_laws.proofs.Owners.{key_or_not}
-use Rattle.mm_laws.proofs.PlaceCounts.{place_or_not, same_place-true, same_place-self}
+use Rattle.mm_laws.proofs.PlaceCounts.{same_place-self}
 use Rattle.mm_laws.proofs.Facts.{reached_by}
 use Rattle.mm_frames.specs.{has_block}
 use Rattle.mm_flight.specs.{FlightOf}
@@ -17,11 +17,10 @@ use Rattle.mm_words.specs.{Entry, Aside, WordsOf, key_entry, with_entry, with_ow
 use Rattle.mm_words.specs.declared.layout.Entry.TheVariants as entry
 use Rattle.mm_parts.specs.{JoinedParts, LineOf, owners, owned_by, held_by, stands_of, valid_of, names_of, is_paging, paging_of, life_of, life_in}
 use Rattle.mm_parts.specs.{shown_of, requests, is_own_line, WordsKept, is_aside_entry, names_other, PartsKept, LineKept, AreWaits, parts_after}
-use Rattle.mm_laws.proofs.Facts.{Facts}
-use Rattle.mm_parts.proofs.Stands.{paging_at, same_life, if_either, stands_set, stands_owner, proto_by, left_set, sets_set, valid_set, word_set}
-use Rattle.mm_parts.proofs.FrameChanges.{Rewrites}
+use Rattle.mm_parts.proofs.Stands.{paging_at, same_life, if_either, by_key, by_place, own_cases, stands_set, stands_owner, proto_by, left_set, sets_set, valid_set, word_set}
+use Rattle.mm_parts.proofs.Stands.{Rewrites}
 use Rattle.mm_parts.proofs.Keeping.{Step, known}
-use Rattle.mm_parts.proofs.NameChanges.{names_owner}
+use Rattle.mm_parts.proofs.Stands.{names_owner}
 
 -- ---- entries
 
@@ -38,6 +37,10 @@ abbrev pub is_resting : Key → Entry → Bool
 is_resting (Private p v) e = not (is_valid_entry e) && not (is_file e)
 is_resting (Shared a i) e = not (is_valid_entry e) && not (is_proto e)
 
+pub rests : (k : Key) (e : Entry) → is_valid_entry e ≡ false → is_file e ≡ false → is_proto e ≡ false → is_resting k e ≡ true
+rests (Private p v) e calm file proto = rw (calm, file) refl
+rests (Shared a i) e calm file proto = rw (calm, proto) refl
+
 pub resting_calm : (k : Key) (e : Entry) → is_resting k e ≡ true → is_valid_entry e ≡ false
 resting_calm (Private p v) e h = not-true (is_valid_entry e) (and_parts (not (is_valid_entry e)) (not (is_file e)) h).0
 resting_calm (Shared a i) e h = not-true (is_valid_entry e) (and_parts (not (is_valid_entry e)) (not (is_proto e)) h).0
@@ -49,25 +52,9 @@ is_beside w (Shared a i) = false
 
 -- ---- what a change of a word leaves
 
-pub bound_set : (w : WordsOf) (k : Key) (e : Entry) → (with_entry w k e).bound ≡ w.bound
-bound_set w k e = ap (λ (x : WordsOf). x.bound) (left_set w k e)
-
-pub open_set : (w : WordsOf) (k : Key) (e : Entry) → (with_entry w k e).is_open ≡ w.is_open
-open_set w k e = ap (λ (x : WordsOf). x.is_open) (left_set w k e)
-
-pub sizes_set : (w : WordsOf) (k : Key) (e : Entry) → (with_entry w k e).sizes ≡ w.sizes
-sizes_set w k e = ap (λ (x : WordsOf). x.sizes) (left_set w k e)
-
 pub aside_set : (w : WordsOf) (k : Key) (e : Entry) → option_map (λ x. x.place) (with_entry w k e).aside ≡ option_map (λ x. x.place) w.aside
-aside_set w (Private p v) e = by (is_aside w.aside (place_from p v)) refl
-  where
-    there : (a : Option Aside) → is_aside a (place_from p v) ≡ true → Some (place_from p v) ≡ option_map (λ x. x.place) a
-    there None h = cc
-    there (Some a) h = ap Some (same_place-true (place_from p v) a.place h)
-
-    by : (b : Bool) → is_aside w.aside (place_from p v) ≡ b → option_map (λ x. x.place) (with_own b w (place_from p v) e).aside ≡ option_map (λ x. x.place) w.aside
-    by true h = there w.aside h
-    by false h = refl
+aside_set w (Private p v) e = own_cases w (place_from p v) e (λ y. option_map (λ x. x.place) y.aside ≡ option_map (λ x. x.place) w.aside) (λ off. refl)
+    (λ b. ap Some b.place ∙ sym (ap (option_map (λ (x : Aside). x.place)) b.is))
 aside_set w (Shared a i) e = refl
 
 at_by : (b : Bool) (w : WordsOf) (place : Place) (e : Entry) (p : Place) (x : Entry) → (with_own b w place e).at p ≡ x → (e ≡ x) ⊎ (w.at p ≡ x)
@@ -83,48 +70,32 @@ no_file_set w (Shared a i) e h kept p b at = kept p b at
 
 no_proto_set : (w : WordsOf) (k : Key) (e : Entry) → is_resting k e ≡ true → ((a i : ℕ) (b : Area) (j : ℕ) → w.proto a i ≢ entry.Proto b j) → (a i : ℕ) (b : Area) (j : ℕ) → (with_entry w k e).proto a i ≢ entry.Proto b j
 no_proto_set w (Private q v) e h kept a i b j at = kept a i b j (sym (proto_by (is_aside w.aside (place_from q v)) w (place_from q v) e a i) ∙ at)
-no_proto_set w (Shared c m) e h kept a i b j at = go ((a == c.0) && (i == m)) at
-  where
-    go : (t : Bool) → (if t then e else w.proto a i) ≡ entry.Proto b j → ⊥
-    go true at = let two = and_parts (not (is_valid_entry e)) (not (is_proto e)) h in let bad : true ≡ false = sym (ap is_proto at) ∙ not-true (is_proto e) two.1 in cc
-    go false at = kept a i b j at
+no_proto_set w (Shared c m) e h kept a i b j at = elim (if_either ((a == c.0) && (i == m)) e (w.proto a i) (entry.Proto b j) at) [
+  | inl s ↦ let two = and_parts (not (is_valid_entry e)) (not (is_proto e)) h in let bad : true ≡ false = sym (ap is_proto s) ∙ not-true (is_proto e) two.1 in cc
+  | inr was ↦ kept a i b j was
+]
 
 beside_set : (w : WordsOf) (k : Key) (e : Entry) → (is_beside w k ≡ true → is_aside_entry e ≡ true) → ((x : Aside) → w.aside ≡ Some x → (is_aside_entry x.entry ≡ true) × (w.bound x.place ≡ true))
     → (x : Aside) → (with_entry w k e).aside ≡ Some x → (is_aside_entry x.entry ≡ true) × (w.bound x.place ≡ true)
-beside_set w (Private q v) e h kept x at = by (is_aside w.aside (place_from q v)) refl at
-  where
-    was : (a : Option Aside) → w.aside ≡ a → is_aside a (place_from q v) ≡ true → w.bound (place_from q v) ≡ true
-    was None g b = cc
-    was (Some a) g b = ap w.bound (same_place-true (place_from q v) a.place b) ∙ (kept a g).1
-
-    by : (b : Bool) → is_aside w.aside (place_from q v) ≡ b → (with_own b w (place_from q v) e).aside ≡ Some x → (is_aside_entry x.entry ≡ true) × (w.bound x.place ≡ true)
-    by true g at =
-        let entry_is : e ≡ x.entry = cc in
-        let place_is : place_from q v ≡ x.place = cc in
-        (ap is_aside_entry (sym entry_is) ∙ h g, ap w.bound (sym place_is) ∙ was w.aside refl g)
-    by false g at = kept x at
+beside_set w (Private q v) e h kept x at = own_cases w (place_from q v) e (λ y. y.aside ≡ Some x → (is_aside_entry x.entry ≡ true) × (w.bound x.place ≡ true)) (λ off at. kept x at)
+    (λ b at.
+    let entry_is : e ≡ x.entry = cc in
+    let place_is : place_from q v ≡ x.place = cc in
+    (ap is_aside_entry (sym entry_is) ∙ h b.on, ap w.bound (sym place_is ∙ b.place) ∙ (kept b.aside b.is).1))
+    at
 beside_set w (Shared a i) e h kept x at = kept x at
 
 other_set : (w : WordsOf) (k : Key) (e : Entry) → ((x : Aside) → w.aside ≡ Some x → names_other (w.at x.place) ≡ true)
     → (x : Aside) → (with_entry w k e).aside ≡ Some x → names_other ((with_entry w k e).at x.place) ≡ true
-other_set w (Private q v) e kept x at = by (is_aside w.aside (place_from q v)) refl at
-  where
-    was : (a : Option Aside) → w.aside ≡ a → is_aside a (place_from q v) ≡ true → names_other (w.at (place_from q v)) ≡ true
-    was None g b = cc
-    was (Some a) g b = ap (λ (y : Place). names_other (w.at y)) (same_place-true (place_from q v) a.place b) ∙ kept a g
-
-    elsewhere : is_aside w.aside (place_from q v) ≡ false → w.aside ≡ Some x → changed same_place w.at (place_from q v) e x.place ≡ w.at x.place
-    elsewhere g at = elim (place_or_not x.place (place_from q v)) [
-      | inl s ↦
-          (let here : is_aside w.aside (place_from q v) ≡ same_place (place_from q v) x.place = ap (λ (a : Option Aside). is_aside a (place_from q v)) at in
-          let on : same_place (place_from q v) x.place ≡ true = ap (λ (y : Place). same_place (place_from q v) y) s.0 ∙ same_place-self (place_from q v) in
-          let bad : false ≡ true = sym g ∙ here ∙ on in cc)
-      | inr n ↦ ap (λ b. cond b e (w.at x.place)) n.1
-    ]
-
-    by : (b : Bool) → is_aside w.aside (place_from q v) ≡ b → (with_own b w (place_from q v) e).aside ≡ Some x → names_other ((with_own b w (place_from q v) e).at x.place) ≡ true
-    by true g at = let place_is : place_from q v ≡ x.place = cc in ap (λ (y : Place). names_other (w.at y)) (sym place_is) ∙ was w.aside refl g
-    by false g at = ap names_other (elsewhere g at) ∙ kept x at
+other_set w (Private q v) e kept x at = own_cases w (place_from q v) e (λ y. y.aside ≡ Some x → names_other (y.at x.place) ≡ true)
+    (λ off at. by_place x.place (place_from q v) (λ b. names_other (cond b e (w.at x.place))) (λ _. true)
+    (λ s.
+    let here : is_aside w.aside (place_from q v) ≡ same_place (place_from q v) x.place = ap (λ (a : Option Aside). is_aside a (place_from q v)) at in
+    let on : same_place (place_from q v) x.place ≡ true = ap (λ (y : Place). same_place (place_from q v) y) s ∙ same_place-self (place_from q v) in
+    let bad : false ≡ true = sym off ∙ here ∙ on in cc)
+    (λ n out. kept x at))
+    (λ b at. let place_is : place_from q v ≡ x.place = cc in ap (λ (y : Place). names_other (w.at y)) (sym place_is ∙ b.place) ∙ kept b.aside b.is)
+    at
 other_set w (Shared a i) e kept x at = kept x at
 
 pub places_kept : (w : WordsOf) (k : Key) (e : Entry) → is_valid_entry e ≡ false → is_valid_entry (key_entry w k) ≡ false → keeps_places w k e ≡ true
@@ -155,11 +126,8 @@ unfolding beyond
 beyond_blank d = get_or_past d.records (length d.records) blank (omega arith)
 
 module _ (t : JoinedParts) (kept : PartsKept t) (d' : FrameTable) (f : Frame) (r : Record) (k : Key) (e : Entry) (re : Rewords t d' f r k e) where
-  facts_here : Facts (life_in t)
-  facts_here = known t kept
-
   valid_elsewhere : (p : Place) (g : Frame) → valid_of t.words p ≡ Some g → g.0 ≢ f.0
-  valid_elsewhere p g v same = let some = facts_here.shares p g v in let none : (record_at t.table g.0).shares ≡ 0 = ap (λ (x : ℕ). (record_at t.table x).shares) same ∙ re.unshared in omega (arith, some, none)
+  valid_elsewhere p g v same = let some = (known t kept).shares p g v in let none : (record_at t.table g.0).shares ≡ 0 = ap (λ (x : ℕ). (record_at t.table x).shares) same ∙ re.unshared in omega (arith, some, none)
 
   owner_kept : (p : Place) (g : Frame) → valid_of t.words p ≡ Some g → owners d' g.0 ≡ owners t.table g.0
   owner_kept p g v = ap (λ (x : Record). x.owner) (re.change.elsewhere g.0 (valid_elsewhere p g v))
@@ -171,23 +139,15 @@ module _ (t : JoinedParts) (kept : PartsKept t) (d' : FrameTable) (f : Frame) (r
   -- every other key is a page-file key or not as before
   pub key_paging : (q : Key) → paging_of d' (stands_of (owners d') (with_entry t.words k e)) q ≡ changed same_key (paging_of t.table (stands_of (owners t.table) t.words)) k (is_paging d' (held_by (owned_by (owners d') k) e)) q
   key_paging q = ap (is_paging d') (key_stands q)
-      ∙ (elim (key_or_not q k) as (λ _. is_paging d' (if same_key q k then held_by (owned_by (owners d') k) e else stands_of (owners t.table) t.words q) ≡ (if same_key q k then is_paging d' (held_by (owned_by (owners d') k) e) else is_paging t.table (stands_of (owners t.table) t.words q))) [
-        | inl s ↦ ap (λ b. is_paging d' (cond b (held_by (owned_by (owners d') k) e) (stands_of (owners t.table) t.words q))) s.1
-            ∙ sym (ap (λ b. cond b (is_paging d' (held_by (owned_by (owners d') k) e)) (is_paging t.table (stands_of (owners t.table) t.words q))) s.1)
-        | inr m ↦ ap (λ b. is_paging d' (cond b (held_by (owned_by (owners d') k) e) (stands_of (owners t.table) t.words q))) m.1
-            ∙ paging_at t.table d' (stands_of (owners t.table) t.words q) (λ g at. ap (λ (x : Record). has_block x.backing) (re.change.elsewhere g.0 (λ same. m.0 (re.only q (at ∙ λ i. held.Frame (record { 0 = same i }))))))
-            ∙ sym (ap (λ b. cond b (is_paging d' (held_by (owned_by (owners d') k) e)) (is_paging t.table (stands_of (owners t.table) t.words q))) m.1)
-      ])
+      ∙ by_key q k (λ b. is_paging d' (cond b (held_by (owned_by (owners d') k) e) (stands_of (owners t.table) t.words q))) (λ b. cond b (is_paging d' (held_by (owned_by (owners d') k) e)) (is_paging t.table (stands_of (owners t.table) t.words q))) (λ s. refl)
+      (λ n. paging_at t.table d' (stands_of (owners t.table) t.words q) (λ g at. ap (λ (x : Record). has_block x.backing) (re.change.elsewhere g.0 (λ same. n (re.only q (at ∙ λ i. held.Frame (record { 0 = same i })))))))
 
   key_words : WordsKept d' (with_entry t.words k e)
   key_words =
       let w = t.words in
       let shares_here : (record_at d' f.0).shares ≡ 0 = ap (λ (x : Record). x.shares) re.change.here ∙ re.bare in
       let other : (q : Key) (x : Entry) → key_entry (with_entry t.words k e) q ≡ x → (e ≡ x) ⊎ (key_entry t.words q ≡ x) =
-      (λ q x h. (elim (key_or_not q k) as (λ _. (e ≡ x) ⊎ (key_entry t.words q ≡ x)) [
-        | inl s ↦ inl (sym (ap (λ b. cond b e (key_entry t.words q)) s.1) ∙ sym (word_set t.words k e q) ∙ h)
-        | inr m ↦ inr (sym (ap (λ b. cond b e (key_entry t.words q)) m.1) ∙ sym (word_set t.words k e q) ∙ h)
-      ])) in
+      (λ q x h. if_either (same_key q k) e (key_entry t.words q) x (sym (word_set t.words k e q) ∙ h)) in
       let both = beside_set w k e re.beside (λ x at. (kept.words.beside x at, kept.words.beside_bound x at)) in
       record {
         transition = λ q g h. elim (other q (entry.Transition g) h) [
@@ -208,7 +168,7 @@ module _ (t : JoinedParts) (kept : PartsKept t) (d' : FrameTable) (f : Frame) (r
         no_file = no_file_set w k e re.resting kept.words.no_file;
         no_proto = no_proto_set w k e re.resting kept.words.no_proto;
         beside = λ x at. (both x at).0;
-        beside_bound = λ x at. ap (λ (b : Place → Bool). b x.place) (bound_set w k e) ∙ (both x at).1;
+        beside_bound = λ x at. ap (λ (v : WordsOf). v.bound x.place) (left_set w k e) ∙ (both x at).1;
         beside_other = other_set w k e kept.words.beside_other;
       }
 
@@ -225,14 +185,8 @@ module _ (t : JoinedParts) (kept : PartsKept t) (d' : FrameTable) (f : Frame) (r
       (λ q. key_paging q ∙ still q) key_valid
     where
       still : (q : Key) → changed same_key (paging_of t.table (stands_of (owners t.table) t.words)) k (is_paging d' (held_by (owned_by (owners d') k) e)) q ≡ paging_of t.table (stands_of (owners t.table) t.words) q
-      still q = elim (key_or_not q k) as (λ _. (if same_key q k then is_paging d' (held_by (owned_by (owners d') k) e) else is_paging t.table (stands_of (owners t.table) t.words q)) ≡ is_paging t.table (stands_of (owners t.table) t.words q)) [
-        | inl s ↦ ap (λ b. cond b (is_paging d' (held_by (owned_by (owners d') k) e)) (is_paging t.table (stands_of (owners t.table) t.words q))) s.1 ∙ here ∙ ap (λ (j : Key). is_paging t.table (stands_of (owners t.table) t.words j)) (sym s.0)
-        | inr m ↦ ap (λ b. cond b (is_paging d' (held_by (owned_by (owners d') k) e)) (is_paging t.table (stands_of (owners t.table) t.words q))) m.1
-      ]
-
-  -- where the frames' owners have changed, each place names what it named
-  pub key_names : (names' : Place → Option Key) → ((q : Place) → names_of (owners t.table) (with_entry t.words k e) q ≡ names' q) → (q : Place) → names_of (owners d') (with_entry t.words k e) q ≡ names' q
-  key_names names' h q = names_owner (owners t.table) (owners d') (with_entry t.words k e) (λ p g v. owner_kept p g (sym (key_valid p) ∙ v)) q ∙ h q
+      still q = by_key q k (λ b. cond b (is_paging d' (held_by (owned_by (owners d') k) e)) (is_paging t.table (stands_of (owners t.table) t.words q))) (λ _. is_paging t.table (stands_of (owners t.table) t.words q))
+          (λ s. here ∙ ap (λ (j : Key). is_paging t.table (stands_of (owners t.table) t.words j)) (sym s)) (λ n. refl)
 
   pub key_step : (x : Move) → IsLegal x (life_in t) → (n' : LineOf) (bytes' : List (Option (List ℕ))) (free' : List Bool) (flight' : FlightOf) (own' : Option Frame) (names' : Place → Option Key)
       → life_of n' d' free' (with_entry t.words k e) (requests flight'.frames own') ≡ after_move (life_in t) x
@@ -247,12 +201,12 @@ module _ (t : JoinedParts) (kept : PartsKept t) (d' : FrameTable) (f : Frame) (r
       words = key_words;
       within = record {
         requesting = λ h. ap is_own_line same_kind ∙ own h;
-        copying = λ h. ap is_touch same_kind ∙ kept.within.copying (sym (some_place t.words.aside) ∙ ap is_some (sym (aside_set t.words k e)) ∙ some_place (with_entry t.words k e).aside ∙ h);
+        copying = λ h. ap is_touch same_kind ∙ kept.within.copying (sym (some_map (λ (x : Aside). x.place) t.words.aside) ∙ ap is_some (sym (aside_set t.words k e)) ∙ some_map (λ (x : Aside). x.place) (with_entry t.words k e).aside ∙ h);
       };
       ranges = record {
         sets = λ pid s h. kept.ranges.sets pid s (ap (λ z. set_in z pid) (sym (sets_set t.words k e)) ∙ h);
-        areas = λ a h. kept.ranges.areas a (ap (λ (s : ℕ → Option ℕ). is_some (s a)) (sym (sizes_set t.words k e)) ∙ h);
-        user = λ p h. kept.ranges.user p (ap (λ (b : Place → Bool). b p) (sym (bound_set t.words k e)) ∙ h);
+        areas = λ a h. kept.ranges.areas a (ap (λ (w : WordsOf). is_some (w.sizes a)) (sym (left_set t.words k e)) ∙ h);
+        user = λ p h. kept.ranges.user p (ap (λ (w : WordsOf). w.bound p) (sym (left_set t.words k e)) ∙ h);
       };
       depth = depth ∙ kept.depth ∙ ap (λ (m : MachineOf). m.depth) (sym same_machine);
       waits = waits;
@@ -263,13 +217,9 @@ module _ (t : JoinedParts) (kept : PartsKept t) (d' : FrameTable) (f : Frame) (r
       waits = flight'.waits;
       own = own';
       aside = aside_set t.words k e i;
-      is_open = open_set t.words k e i;
-      bound = bound_set t.words k e i;
-      areas = sizes_set t.words k e i;
-      names = λ q. key_names names' names q i;
+      is_open = (left_set t.words k e i).is_open;
+      bound = (left_set t.words k e i).bound;
+      areas = (left_set t.words k e i).sizes;
+      names = λ q. (names_owner (owners t.table) (owners d') (with_entry t.words k e) (λ p g v. owner_kept p g (sym (key_valid p) ∙ v)) q ∙ names q) i;
     };
   }
-    where
-      some_place : (a : Option Aside) → is_some (option_map (λ x. x.place) a) ≡ is_some a
-      some_place None = refl
-      some_place (Some a) = refl

@@ -1,24 +1,22 @@
 -- The requests as one list, those in flight and behind them the line's own, and the waits for them.
-use Rattle.std.proofs.Common.{◌≡◌, ◌≢◌, ℕ, zero, suc, ◌+◌, ◌≤◌, Bool, true, false, not, List, [], ◌∷◌, ◌++◌, Option, Some, None, refl, sym, ap, ◌∙◌, arith}
-use Rattle.std.specs.Prelude.{◌==◌, map, is_some, if◌then◌else◌, slice_get}
+use Rattle.std.proofs.Common.{◌≡◌, ◌≢◌, ℕ, suc, ◌+◌, ◌≤◌, Bool, true, false, not, List, [], ◌∷◌, ◌++◌, Option, Some, None, refl, sym, ap, ◌∙◌, arith}
+use Rattle.std.specs.Prelude.{◌==◌, map, is_some, if◌then◌else◌, option_map, slice_get}
 use Rattle.std.proofs.lemmas.Bool.{eqb-true, eq-eqb}
+use Rattle.std.proofs.lemmas.Option.{slice_get-map}
+use Rattle.mm_types.proofs.Booleans.{not_true}
+use Rattle.mm_types.proofs.Bytes.{append_nil}
 use Rattle.mm_types.specs.{Frame, LineKind, Record}
 use Rattle.mm_life.specs.{FrameTable, record_at, is_read, without}
 use Rattle.mm_laws.specs.{one_if, times}
-use Rattle.mm_laws.proofs.Tallies.{times_on, times-without_other}
+use Rattle.mm_laws.proofs.Tallies.{tally-append, times_on, times-without_other}
 use Rattle.mm_laws.proofs.Lists.{without_append, without_none}
 use Rattle.mm_flight.specs.{FlightOf, is_in, ended, Waiting}
 use Rattle.mm_flight.specs.declared.flights.Waiting.TheVariants as waiting
 use Rattle.mm_parts.specs.{requests, own_request, own_is, is_own_line, AreWaits, own_after, own_ended, flight_begun, flight_ended}
-use Rattle.mm_parts.proofs.FrameChanges.{Rewrites}
+use Rattle.mm_parts.proofs.Stands.{Rewrites}
 
 pub times-append : (f : ℕ) (xs ys : List ℕ) → times f (xs ++ ys) ≡ times f xs + times f ys
-times-append f [] ys = omega arith
-times-append f (x ∷ xs) ys = let e = times-append f xs ys in omega (arith, e)
-
-append_nil : (xs : List ℕ) → xs ++ [] ≡ xs
-append_nil [] = refl
-append_nil (x ∷ xs) = ap (λ zs. x ∷ zs) (append_nil xs)
+times-append f xs ys = tally-append (λ x. x == f) xs ys
 
 own_stays : (f : ℕ) (own : Option Frame) → own_is own f ≡ false → without f (own_request own) ≡ own_request own
 own_stays f None n = refl
@@ -50,11 +48,10 @@ other_out f own xs n = sym (without_append f xs (own_request own) ∙ ap (λ zs.
 -- once a request has ended, the others are there in their order
 pub ended_requests : (q : FlightOf) (own : Option Frame) (f : ℕ) (ok : Bool) → times f (requests q.frames own) ≡ 1
     → requests (flight_ended (own_is own f) q f ok).frames (own_ended own f) ≡ without f (requests q.frames own)
-ended_requests q own f ok once = by (own_is own f) refl
-  where
-    by : (b : Bool) → own_is own f ≡ b → requests (flight_ended b q f ok).frames (own_ended own f) ≡ without f (requests q.frames own)
-    by true e = ap (requests q.frames) (own_none f own e) ∙ own_out f own q.frames once e
-    by false e = ap (requests (without f q.frames)) (own_other f own e) ∙ other_out f own q.frames e
+ended_requests q own f ok once = elim (own_is own f) as (λ b. own_is own f ≡ b → requests (flight_ended b q f ok).frames (own_ended own f) ≡ without f (requests q.frames own)) [
+  | true ↦ λ e. ap (requests q.frames) (own_none f own e) ∙ own_out f own q.frames once e
+  | false ↦ λ e. ap (requests (without f q.frames)) (own_other f own e) ∙ other_out f own q.frames e
+] refl
 
 any_head : (f x : ℕ) (xs : List ℕ) (b : Bool) → (x == f) ≡ b → 1 ≤ times f (x ∷ xs) → (1 ≤ times f xs → is_in f xs ≡ true) → is_in f (x ∷ xs) ≡ true
 any_head f x xs true e h rest = rw e refl
@@ -65,11 +62,7 @@ any_in f [] h = absurd (omega (arith, h))
 any_in f (x ∷ xs) h = any_head f x xs (x == f) refl h (any_in f xs)
 
 pub none_in : (f : ℕ) (xs : List ℕ) → times f xs ≡ 0 → is_in f xs ≡ false
-none_in f xs e = by (is_in f xs) refl
-  where
-    by : (b : Bool) → is_in f xs ≡ b → b ≡ false
-    by false h = refl
-    by true h = let some = times_on f xs h in absurd (omega (arith, some, e))
+none_in f xs e = not_true (is_in f xs) (λ h. let some = times_on f xs h in omega (arith, some, e))
 
 -- a request that is not the line's own is in flight
 pub in_flight : (f : ℕ) (own : Option Frame) (xs : List ℕ) → times f (requests xs own) ≡ 1 → own_is own f ≡ false → is_in f xs ≡ true
@@ -113,11 +106,10 @@ begun_requests q own k f within can = by (is_own_line k) refl
         ∙ ap (λ zs. zs ++ f.0 ∷ []) (sym (append_nil q.frames) ∙ ap (requests q.frames) (sym none))
 
 pub begun_within : (own : Option Frame) (k : LineKind) (f : Frame) → (is_some own ≡ true → is_own_line k ≡ true) → is_some (own_after k own f) ≡ true → is_own_line k ≡ true
-begun_within own k f within h = by (is_own_line k) refl
-  where
-    by : (b : Bool) → is_own_line k ≡ b → b ≡ true
-    by true e = refl
-    by false e = sym e ∙ within (sym (ap is_some (begun_own own k f false e)) ∙ h)
+begun_within own k f within h = elim (is_own_line k) as (λ b. is_own_line k ≡ b → b ≡ true) [
+  | true ↦ λ e. refl
+  | false ↦ λ e. sym e ∙ within (sym (ap is_some (begun_own own k f false e)) ∙ h)
+] refl
 
 pub ended_within : (own : Option Frame) (f : ℕ) → is_some (own_ended own f) ≡ true → is_some own ≡ true
 ended_within None f h = h
@@ -148,38 +140,30 @@ waits_begun true d q f waits = waits
 waits_begun false d q f waits = λ t g e. let was = waits t g e in (in_pushed g.0 f.0 q.frames was.0, was.1)
 
 -- what a thread waits for yet, once a request has ended
-record StillFor (f : ℕ) (w : Waiting) (g : Frame) : Type 0 where
-  was : w ≡ waiting.For g
-  other : g.0 ≢ f
-
-still_by : (f : ℕ) (ok b : Bool) (h g : Frame) → (h.0 == f) ≡ b → (if b then (if ok then waiting.Done else waiting.Failed) else waiting.For h) ≡ waiting.For g → StillFor f (waiting.For h) g
+still_by : (f : ℕ) (ok b : Bool) (h g : Frame) → (h.0 == f) ≡ b → (if b then (if ok then waiting.Done else waiting.Failed) else waiting.For h) ≡ waiting.For g → (waiting.For h ≡ waiting.For g) × (g.0 ≢ f)
 still_by f true true h g e x = cc
 still_by f false true h g e x = cc
 still_by f ok false h g e x =
     let same : h ≡ g = cc in
-    record { was = x; other = λ s. let is = eq-eqb h.0 f (ap (λ (y : Frame). y.0) same ∙ s) in let bad : true ≡ false = sym is ∙ e in cc }
+    (x, λ s. let is = eq-eqb h.0 f (ap (λ (y : Frame). y.0) same ∙ s) in let bad : true ≡ false = sym is ∙ e in cc)
 
-still_for : (f : ℕ) (ok : Bool) (w : Waiting) (g : Frame) → ended f ok w ≡ waiting.For g → StillFor f w g
+still_for : (f : ℕ) (ok : Bool) (w : Waiting) (g : Frame) → ended f ok w ≡ waiting.For g → (w ≡ waiting.For g) × (g.0 ≢ f)
 still_for f ok (waiting.For h) g x = still_by f ok (h.0 == f) h g refl x
 still_for f ok _ g x = cc
 
-record StillAt (f : ℕ) (ws : List Waiting) (t : ℕ) (g : Frame) : Type 0 where
-  was : slice_get ws t ≡ Some (waiting.For g)
-  other : g.0 ≢ f
-
-still_at : (f : ℕ) (ok : Bool) (ws : List Waiting) (t : ℕ) (g : Frame) → slice_get (map (ended f ok) ws) t ≡ Some (waiting.For g) → StillAt f ws t g
-still_at f ok [] t g x = cc
-still_at f ok (w ∷ ws) zero g x = let is : ended f ok w ≡ waiting.For g = cc in let s = still_for f ok w g is in record { was = ap Some s.was; other = s.other }
-still_at f ok (w ∷ ws) (suc t) g x = let s = still_at f ok ws t g x in record { was = s.was; other = s.other }
+still_at : (f : ℕ) (ok : Bool) (ws : List Waiting) (t : ℕ) (g : Frame) → slice_get (map (ended f ok) ws) t ≡ Some (waiting.For g) → (slice_get ws t ≡ Some (waiting.For g)) × (g.0 ≢ f)
+still_at f ok ws t g x = elim (slice_get ws t) as (λ o. option_map (ended f ok) o ≡ Some (waiting.For g) → (o ≡ Some (waiting.For g)) × (g.0 ≢ f)) [
+  | None ↦ λ h. cc
+  | Some w ↦ λ h. let is : ended f ok w ≡ waiting.For g = cc in let s = still_for f ok w g is in (ap (λ (y : Waiting). Some y) s.0, s.1)
+] (sym (slice_get-map (ended f ok) ws t) ∙ x)
 
 -- where nobody waits for it, no wait changes
 calm_wait : (f : ℕ) (ok : Bool) (w : Waiting) → ((g : Frame) → w ≡ waiting.For g → g.0 ≢ f) → ended f ok w ≡ w
 calm_wait f ok waiting.Nothing h = refl
-calm_wait f ok (waiting.For g) h = by (g.0 == f) refl
-  where
-    by : (b : Bool) → (g.0 == f) ≡ b → (if b then (if ok then waiting.Done else waiting.Failed) else waiting.For g) ≡ waiting.For g
-    by true e = absurd (h g refl (eqb-true g.0 f e))
-    by false e = refl
+calm_wait f ok (waiting.For g) h = elim (g.0 == f) as (λ b. (g.0 == f) ≡ b → (if b then (if ok then waiting.Done else waiting.Failed) else waiting.For g) ≡ waiting.For g) [
+  | true ↦ λ e. absurd (h g refl (eqb-true g.0 f e))
+  | false ↦ λ e. refl
+] refl
 calm_wait f ok waiting.Done h = refl
 calm_wait f ok waiting.Failed h = refl
 
@@ -190,13 +174,12 @@ calm_waits f ok (w ∷ ws) h = λ i. calm_wait f ok w (λ g e. h 0 g (ap Some e)
 -- the waits once a request has ended: nobody waited for the line's own
 pub ended_waits : (d : FrameTable) (q : FlightOf) (own : Option Frame) (f : ℕ) (ok : Bool) → AreWaits d q → times f (requests q.frames own) ≡ 1
     → (flight_ended (own_is own f) q f ok).waits ≡ map (ended f ok) q.waits
-ended_waits d q own f ok waits once = by (own_is own f) refl
-  where
-    by : (b : Bool) → own_is own f ≡ b → (flight_ended b q f ok).waits ≡ map (ended f ok) q.waits
-    by false e = refl
-    by true e = sym (calm_waits f ok q.waits (λ t g x same.
-        let here : is_in f q.frames ≡ true = ap (λ (y : ℕ). is_in y q.frames) (sym same) ∙ (waits t g x).0 in
-        let bad : true ≡ false = sym here ∙ own_apart f own q.frames once e in cc))
+ended_waits d q own f ok waits once = elim (own_is own f) as (λ b. own_is own f ≡ b → (flight_ended b q f ok).waits ≡ map (ended f ok) q.waits) [
+  | false ↦ λ e. refl
+  | true ↦ λ e. sym (calm_waits f ok q.waits (λ t g x same.
+      let here : is_in f q.frames ≡ true = ap (λ (y : ℕ). is_in y q.frames) (sym same) ∙ (waits t g x).0 in
+      let bad : true ≡ false = sym here ∙ own_apart f own q.frames once e in cc))
+] refl
 
 -- a request that is not a read is waited for by nobody
 pub unread_waits : (d : FrameTable) (q : FlightOf) (f : ℕ) (ok : Bool) → AreWaits d q → is_read (record_at d f).request ≡ false → map (ended f ok) q.waits ≡ q.waits
@@ -210,9 +193,7 @@ pub waits_ended : (d d' : FrameTable) (q : FlightOf) (own : Option Frame) (f : �
 waits_ended d d' q own f r ok change waits once = λ t g x.
     let left : slice_get (map (ended f ok) q.waits) t ≡ Some (waiting.For g) = ap (λ ws. slice_get ws t) (sym (ended_waits d q own f ok waits once)) ∙ x in
     let s = still_at f ok q.waits t g left in
-    let was = waits t g s.was in
-    (by (own_is own f) g.0 s.other was.0, ap (λ (y : Record). is_read y.request) (change.elsewhere g.0 s.other) ∙ was.1)
-  where
-    by : (b : Bool) (g : ℕ) → g ≢ f → is_in g q.frames ≡ true → is_in g (flight_ended b q f ok).frames ≡ true
-    by true g n h = h
-    by false g n h = in_without g f q.frames n h
+    let was = waits t g s.0 in (
+      elim (own_is own f) as (λ b. is_in g.0 (flight_ended b q f ok).frames ≡ true) [ true ↦ was.0 | false ↦ in_without g.0 f q.frames s.1 was.0 ],
+      ap (λ (y : Record). is_read y.request) (change.elsewhere g.0 s.1) ∙ was.1,
+    )

@@ -1,15 +1,15 @@
 -- The requests as one list, looked up by age and by frame, and the waits for them.
-use Rattle.std.proofs.Common.{◌≡◌, ℕ, ◌+◌, ◌<◌, ◌≤◌, ◌^◌, Bool, true, false, cond, List, [], ◌∷◌, ◌++◌, Option, Some, None, refl, sym, ap, ◌∙◌, subst, inl, inr, arith, length}
+use Rattle.std.proofs.Common.{◌≡◌, ℕ, ◌+◌, ◌<◌, ◌≤◌, Bool, true, false, cond, List, [], ◌∷◌, ◌++◌, Option, Some, None, refl, sym, ap, ◌∙◌, subst, inl, inr, arith, length}
 use Rattle.std.specs.Prelude.{◌==◌, ◌||◌, option_map, slice_get, slice_set, map, if◌then◌else◌}
 use Rattle.std.specs.List.{list_any, position_from}
 use Rattle.std.proofs.lemmas.Iterator.Adapters.{position_from-zero}
 use Rattle.std.proofs.lemmas.Option.{slice_get-map}
-use Rattle.std.proofs.lemmas.Bool.{eqb-true, eq-eqb}
-use Rattle.mm_types.proofs.{append_nil, same_or_not, set_cases, get_set_same, get_set_other, differ}
-use Rattle.mm_types.specs.{Frame, Wait}
-use Rattle.mm_life.specs.{record_at, is_read, has_request, changed, ForFrame, Ended, ended_by, wait_of as walked_wait}
+use Rattle.std.proofs.lemmas.Bool.{eq-eqb}
+use Rattle.mm_types.proofs.{same_or_not, set_cases, get_set_same, get_set_other, differ}
+use Rattle.mm_types.specs.{Frame}
+use Rattle.mm_life.specs.{record_at, is_read, has_request, changed, ForFrame, Ended, ended_by}
 use Rattle.mm_laws.specs.{one_if, times}
-use Rattle.mm_flight.specs.{is_in, place_in, ended, wait_of, Waiting}
+use Rattle.mm_flight.specs.{is_in, place_in, ended, Waiting}
 use Rattle.mm_flight.specs.declared.flights.Waiting.TheVariants as waiting
 use Rattle.mm_parts.specs.{JoinedParts, shown_of, requests, own_request, own_is, PartsKept, AreWaits, wait_as_walked, walked_or, waits_of}
 use Rattle.mm_parts.proofs.Keeping.{Step, known}
@@ -17,38 +17,17 @@ use Rattle.mm_parts.proofs.RequestLists.{in_flight, own_apart, times-append}
 use Rattle.mm_parts.proofs.Holding.{read_once}
 use Rattle.mm_laws.proofs.{one_most}
 
--- ---- how many
-
-pub few_requests : (t : JoinedParts) → PartsKept t → length t.flight.frames ≤ t.flight.depth → length t.flight.frames + 1 < 2 ^ 32
-few_requests t kept few = let depth = kept.depth in let most = kept.line.machine.most_depth in omega (arith, few, depth, most)
-
--- ---- by age
-
 -- ---- by frame
-
-from_other : (t : ℕ → Bool) (g i : ℕ) (xs : List ℕ) → t g ≡ false → position_from t i (xs ++ g ∷ []) ≡ position_from t i xs
-from_other t g i [] e = ap (λ b. cond b (Some i) None) e
-from_other t g i (x ∷ xs) e = ap (λ r. cond (t x) (Some i) r) (from_other t g (i + 1) xs e)
-
-last_step : (t : ℕ → Bool) (g i x : ℕ) (xs : List ℕ) (b : Bool) → t x ≡ b → (b || list_any t xs) ≡ false
-    → (list_any t xs ≡ false → position_from t (i + 1) (xs ++ g ∷ []) ≡ Some (i + 1 + length xs)) → position_from t i ((x ∷ xs) ++ g ∷ []) ≡ Some (i + length (x ∷ xs))
-last_step t g i x xs true h n later = cc
-last_step t g i x xs false h n later = ap (λ b. cond b (Some i) (position_from t (i + 1) (xs ++ g ∷ []))) h ∙ later n ∙ ap Some (omega arith)
 
 from_last : (t : ℕ → Bool) (g i : ℕ) (xs : List ℕ) → list_any t xs ≡ false → t g ≡ true → position_from t i (xs ++ g ∷ []) ≡ Some (i + length xs)
 from_last t g i [] none e = ap (λ b. cond b (Some i) None) e ∙ ap Some (omega arith)
-from_last t g i (x ∷ xs) none e = last_step t g i x xs (t x) refl none (λ n. from_last t g (i + 1) xs n e)
+from_last t g i (x ∷ xs) none e = elim (t x) as (λ b. t x ≡ b → (b || list_any t xs) ≡ false → position_from t i ((x ∷ xs) ++ g ∷ []) ≡ Some (i + length (x ∷ xs))) [
+  | true ↦ λ h n. cc
+  | false ↦ λ h n. ap (λ b. cond b (Some i) (position_from t (i + 1) (xs ++ g ∷ []))) h ∙ from_last t g (i + 1) xs n e ∙ ap Some (omega arith)
+] refl none
 
 place_is : (f : ℕ) (xs : List ℕ) → place_in f xs ≡ option_map (λ i. i + 1) (position_from (λ x. x == f) 0 xs)
 place_is f xs = ap (option_map (λ i. i + 1)) (position_from-zero (λ x. x == f) xs)
-
--- not the line's own
-pub place_flies : (f : ℕ) (xs : List ℕ) (own : Option Frame) → own_is own f ≡ false → place_in f xs ≡ place_in f (requests xs own)
-place_flies f xs None e = sym (ap (place_in f) (append_nil xs))
-place_flies f xs (Some g) e = place_is f xs ∙ sym (ap (option_map (λ i. i + 1)) (from_other (λ x. x == f) g.0 0 xs e)) ∙ sym (place_is f (xs ++ g.0 ∷ []))
-
-pub place_own : (f : ℕ) (xs : List ℕ) (g : Frame) → is_in f xs ≡ false → g.0 ≡ f → Some (length xs + 1) ≡ place_in f (requests xs (Some g))
-place_own f xs g none e = sym (place_is f (xs ++ g.0 ∷ []) ∙ ap (option_map (λ i. i + 1)) (from_last (λ x. x == f) g.0 0 xs none (eq-eqb g.0 f e)) ∙ ap Some (omega arith))
 
 own_once : (f : ℕ) (own : Option Frame) → own_is own f ≡ true → 1 ≤ times f (own_request own)
 own_once f None h = cc
@@ -57,7 +36,7 @@ own_once f (Some g) h = let one = ap one_if h in omega (arith, one)
 -- the line's own request is the last
 pub place_last : (f : ℕ) (xs : List ℕ) (own : Option Frame) → own_is own f ≡ true → is_in f xs ≡ false → Some (length xs + 1) ≡ place_in f (requests xs own)
 place_last f xs None own none = cc
-place_last f xs (Some g) own none = place_own f xs g none (eqb-true g.0 f own)
+place_last f xs (Some g) own none = sym (place_is f (xs ++ g.0 ∷ []) ∙ ap (option_map (λ i. i + 1)) (from_last (λ x. x == f) g.0 0 xs none own) ∙ ap Some (omega arith))
 
 -- the line's own request is not in flight
 pub own_alone : (t : JoinedParts) → PartsKept t → (f : ℕ) → own_is t.own f ≡ true → is_in f t.flight.frames ≡ false
@@ -102,17 +81,6 @@ waits_set ws n x within u = elim (same_or_not u n) [
   | inr other ↦ ap walked_or (get_set_other ws n u x other) ∙ sym (ap (λ b. if b then wait_as_walked x else waits_of ws u) (differ u n other))
 ]
 
-wait_told : (x : Waiting) → wait_of x ≡ walked_wait (wait_as_walked x)
-wait_told (waiting.For f) = refl
-wait_told _ = refl
-
-pub outcome_told : (ws : List Waiting) (n : ℕ) (r : Wait) → slice_get (map wait_of ws) n ≡ Some r → r ≡ walked_wait (waits_of ws n)
-outcome_told ws n r e = by (slice_get ws n) (sym (slice_get-map wait_of ws n) ∙ e)
-  where
-    by : (o : Option Waiting) → option_map wait_of o ≡ Some r → r ≡ walked_wait (walked_or o)
-    by None h = cc
-    by (Some x) h = let same : wait_of x ≡ r = cc in sym same ∙ wait_told x
-
 ended_one : (f : ℕ) (ok : Bool) (x : Waiting) → wait_as_walked (ended f ok x) ≡ ended_by f ok (wait_as_walked x)
 ended_one f ok waiting.Nothing = refl
 ended_one f ok (waiting.For g) = by (g.0 == f) ok
@@ -126,8 +94,5 @@ ended_one f ok waiting.Failed = refl
 
 -- the end of a read, to the waits
 pub waits_ended : (ws : List Waiting) (f t : ℕ) (ok : Bool) → waits_of (map (ended f ok) ws) t ≡ ended_by f ok (waits_of ws t)
-waits_ended ws f t ok = ap walked_or (slice_get-map (ended f ok) ws t) ∙ by (slice_get ws t)
-  where
-    by : (o : Option Waiting) → walked_or (option_map (ended f ok) o) ≡ ended_by f ok (walked_or o)
-    by None = refl
-    by (Some x) = ended_one f ok x
+waits_ended ws f t ok = ap walked_or (slice_get-map (ended f ok) ws t)
+    ∙ elim (slice_get ws t) as (λ o. walked_or (option_map (ended f ok) o) ≡ ended_by f ok (walked_or o)) [ None ↦ refl | Some x ↦ ended_one f ok x ]

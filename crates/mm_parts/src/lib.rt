@@ -6,20 +6,16 @@
 #![tactic(auto)]
 
 mod backings;
-mod frame_moves;
 mod homes;
-mod key_moves;
 mod laws;
 mod line_moves;
 mod lists;
 mod looks;
+mod page_moves;
 mod pages;
 mod parts;
-mod place_moves;
 mod request_moves;
 mod requests;
-mod sets;
-mod waits;
 
 pub use laws::waits_end_as_walks_have_it;
 pub use parts::Parts;

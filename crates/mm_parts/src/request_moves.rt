@@ -20,7 +20,7 @@ use mm_words::{Entry, Words};
 
 /// The frame that a page is read into is taken: the first free one, or where none is free the first
 /// zeroed one.
-#[tactic(auto, using(crate::proofs::Tokens::taken_free, crate::proofs::Tokens::taken_zeroed))]
+#[tactic(auto, using(crate::proofs::Reading::taken_free, crate::proofs::Reading::taken_zeroed))]
 fn take_for_read(frames: &mut Frames) -> Dirty
     requires { is_empty frames.old.table.free ≡ true → is_empty frames.old.table.zeroed ≡ false }
     ensures first { result ≡ (front_or frames.old.table.free frames.old.table.zeroed).0 }
@@ -50,7 +50,7 @@ fn send_home(words: &mut Words, owner: Option<Key>, backing: Backing)
 
 /// Where a page is written to: the block that backs its frame, else the lowest free slot, which is
 /// taken.
-#[tactic(auto, using(crate::proofs::Requesting::lowest_is))]
+#[tactic(auto, using(crate::proofs::Conditions::lowest_is))]
 fn take_target(slots: &mut Slots, backing: Backing) -> Stored
     requires { has_block backing ≡ false → free_count slots.old.free ≢ 0 }
     ensures to { result ≡ goes_to backing (lowest_free slots.old.free) }

@@ -1,11 +1,15 @@
-ghost use Rattle.std.specs.Prelude.{◌≡◌, ◌<◌, Some, None, true, false, length};
+ghost use Rattle.std.specs.Prelude.{◌≡◌, ◌<◌, Some, None, true, false, length, ◌+◌, ◌^◌, ◌==◌, ℕ, option_map, slice_set};
 ghost use Rattle.mm_laws.specs.{times};
-ghost use Rattle.mm_flight.specs.{is_in};
+ghost use Rattle.mm_flight.specs.{is_in, nth_oldest, place_in};
 ghost use Rattle.mm_parts.specs.Shown.{requests, own_is, is_own_line};
 ghost use Rattle.mm_parts.specs.Moves.{own_after, own_ended, flight_begun, flight_ended};
+ghost use Rattle.mm_life.specs.{record_at, is_read, changed, has_depth, Idle, ForFrame, wait_of as walked_wait};
+ghost use Rattle.mm_parts.specs.Reading.{waits_of};
+ghost use Rattle.mm_flight.specs.declared.flights.Waiting.TheVariants as waiting;
 
+use crate::parts::Parts;
 use mm_flight::Flight;
-use mm_types::{Frame, LineKind};
+use mm_types::{Frame, LineKind, Tid, Wait};
 
 /// A request begins: the line's own in a plain access and in a call, else one in flight.
 pub(crate) fn begin_request(flight: &mut Flight, own: &mut Option<Frame>, kind: LineKind, f: Frame)
@@ -21,7 +25,7 @@ pub(crate) fn begin_request(flight: &mut Flight, own: &mut Option<Frame>, kind: 
 }
 
 /// Whether the line's own request is that of the frame.
-pub(crate) fn is_own(own: &Option<Frame>, f: Frame) -> bool
+fn is_own(own: &Option<Frame>, f: Frame) -> bool
     ensures { result ≡ own_is own.now f.0 }
 {
     match own {
@@ -41,5 +45,107 @@ pub(crate) fn end_request(flight: &mut Flight, own: &mut Option<Frame>, f: Frame
         *own = None;
     } else {
         flight.end(f, ok);
+    }
+}
+
+/// How many requests there are: those in flight, and the line's own.
+fn number_of(flight: &Flight, own: Option<Frame>) -> u32
+    requires { length flight.now.frames + 1 < 2 ^ 32 }
+    ensures { result ≡ length (requests flight.now.frames own) }
+{
+    match own {
+        Some(_) => flight.len() + 1,
+        None => flight.len(),
+    }
+}
+
+/// The frame of the i-th oldest request, counted from 1: those in flight, and behind them the
+/// line's own.
+fn nth_request(flight: &Flight, own: Option<Frame>, i: u32) -> Option<Frame>
+    ensures { option_map (λ f. f.0) result ≡ nth_oldest i (requests flight.now.frames own) }
+{
+    let len = flight.len();
+    if len < i {
+        return if i - len == 1 { own } else { None };
+    }
+    flight.nth(i)
+}
+
+/// How old the request of a frame is: 1 is the oldest, and behind those in flight is the line's
+/// own.
+fn place_of_request(flight: &Flight, own: Option<Frame>, f: Frame) -> Option<u32>
+    requires few { length flight.now.frames + 1 < 2 ^ 32 }
+    requires apart { own_is own f.0 ≡ true → is_in f.0 flight.now.frames ≡ false }
+    ensures { result ≡ place_in f.0 (requests flight.now.frames own) }
+{
+    if is_own(&own, f) {
+        return Some(flight.len() + 1);
+    }
+    flight.place_of(f)
+}
+
+impl Parts {
+    ghost use Rattle.mm_parts.specs.PartsShown.{shown_parts};
+
+    /// How many requests there are, the line's own among them.
+    pub fn requests(&self) -> u32
+        ensures { result ≡ length (shown_parts self.now).life.flight }
+    {
+        self.flight.requests_hold();
+        number_of(&self.flight, self.own)
+    }
+
+    /// Whether there are fewer requests than the depth.
+    pub fn has_depth(&self) -> bool
+        ensures { result ≡ has_depth (shown_parts self.now).life }
+    {
+        self.requests() < self.machine.depth()
+    }
+
+    /// The frame of the i-th oldest request, counted from 1, the line's own among them. `None`
+    /// comes at 0 and past the last.
+    pub fn nth(&self, i: u32) -> Option<Frame>
+        ensures { option_map (λ f. f.0) result ≡ nth_oldest i (shown_parts self.now).life.flight }
+    {
+        nth_request(&self.flight, self.own, i)
+    }
+
+    /// How old the request of a frame is: the i of `nth`. `None` comes exactly where it has none.
+    pub fn place_of(&self, f: Frame) -> Option<u32>
+        ensures { result ≡ place_in f.0 (shown_parts self.now).life.flight }
+    {
+        self.flight.requests_hold();
+        place_of_request(&self.flight, self.own, f)
+    }
+
+    /// A thread waits for a read in flight, which is not the line's own, from now on.
+    pub fn wait(&mut self, t: Tid, f: Frame)
+        requires read { is_read (record_at (shown_parts self.old).life.frames f.0).request ≡ true }
+        requires other { own_is (shown_parts self.old).own f.0 ≡ false }
+        ensures made { shown_parts self.new ≡ record (shown_parts self.old) {
+          waits = slice_set (shown_parts self.old).waits t.0 (waiting.For f);
+        } }
+        ensures walked { (u : ℕ) → waits_of (shown_parts self.new).waits u ≡
+            changed ◌==◌ (waits_of (shown_parts self.old).waits) t.0 (ForFrame f.0) u }
+    {
+        self.flight.wait(t, f);
+    }
+
+    /// How a thread's wait stands.
+    pub fn outcome(&self, t: Tid) -> Wait
+        ensures { result ≡ walked_wait (waits_of (shown_parts self.now).waits t.0) }
+    {
+        self.flight.outcome(t)
+    }
+
+    /// A thread waits for nothing from now on.
+    pub fn forget(&mut self, t: Tid)
+        ensures made { shown_parts self.new ≡ record (shown_parts self.old) {
+          waits = slice_set (shown_parts self.old).waits t.0 waiting.Nothing;
+        } }
+        ensures walked { (u : ℕ) → waits_of (shown_parts self.new).waits u ≡
+            changed ◌==◌ (waits_of (shown_parts self.old).waits) t.0 Idle u }
+    {
+        self.flight.forget(t);
     }
 }

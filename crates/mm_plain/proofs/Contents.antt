@@ -1,40 +1,31 @@
 -- What a change of a place, of an area or of a file's page makes of the contents.
-use Rattle.std.proofs.Common.{◌≡◌, ℕ, ◌<◌, Bool, true, false, List, length, Option, Some, None, refl, sym, ap, ◌∙◌, inl, inr, arith}
-use Rattle.std.specs.Prelude.{◌==◌, ◌&&◌, IsSome, is_some, option_map, if◌then◌else◌, slice_set}
+use Rattle.std.proofs.Common.{◌≡◌, ℕ, ◌<◌, Bool, true, false, List, length, Option, Some, None, refl, sym, ap, ◌∙◌, subst, inl, inr, arith}
+use Rattle.std.specs.Prelude.{◌==◌, ◌&&◌, IsSome, is_some, option_map, if◌then◌else◌, slice_set, unwrap_or}
 use Rattle.std.proofs.Math.ListN.{length-set}
 use Rattle.std.proofs.lemmas.Bool.{eqb-true, and_parts}
 use Rattle.std.specs.Cmp.{unsigned_Decides}
 use Rattle.mm_types.proofs.{same_or_not, get_set_same, get_set_other}
 use Rattle.mm_types.specs.{Area, Key, Pid, Place, Vpn}
 use Rattle.mm_types.specs.declared.numbers.Key.TheVariants.{Private, Shared}
-use Rattle.mm_world.specs.{same_key, InFrame, Page}
+use Rattle.mm_world.specs.{same_key, InFrame, Page, Tally, filled, written}
 use Rattle.mm_pages.specs.{changed, same_place}
 use Rattle.mm_plain.specs.{AreaPages, FilePage, size_of, pages_of, page_at, block_at, shared_page, contents_of, paging_of, blocks_of, sizes_of}
-use Rattle.mm_plain.specs.{whereabouts_of}
+use Rattle.mm_plain.specs.{whereabouts_of, unpaged_report}
 use Rattle.mm_plain.specs.declared.areas.AreaPages.TheVariants.{Paged, Filed}
 use Rattle.mm_plain.specs.Files.{page_of}
 use Rattle.mm_plain.proofs.OpenAreas.{set_at}
 
 -- ---- functions of keys
 
-abbrev pid : ℕ → Pid
-pid n = record { 0 = n }
-
-abbrev vpn : ℕ → Vpn
-vpn n = record { 0 = n }
-
-abbrev area : ℕ → Area
-area n = record { 0 = n }
-
 same_keys : (k q : Key) → same_key k q ≡ true → k ≡ q
 same_keys (Private p v) (Private q w) e =
     let h = and_parts (p.0 == q.0) (v.0 == w.0) e in
-    ap (λ (n : ℕ). Private (pid n) v) (eqb-true p.0 q.0 h.0) ∙ ap (λ (n : ℕ). Private q (vpn n)) (eqb-true v.0 w.0 h.1)
+    λ i. Private (record { 0 = eqb-true p.0 q.0 h.0 i }) (record { 0 = eqb-true v.0 w.0 h.1 i })
 same_keys (Private p v) (Shared a i) e = cc
 same_keys (Shared a i) (Private p v) e = cc
 same_keys (Shared a i) (Shared b j) e =
     let h = and_parts (a.0 == b.0) (i == j) e in
-    ap (λ (n : ℕ). Shared (area n) i) (eqb-true a.0 b.0 h.0) ∙ ap (λ (n : ℕ). Shared b n) (eqb-true i j h.1)
+    λ t. Shared (record { 0 = eqb-true a.0 b.0 h.0 t }) (eqb-true i j h.1 t)
 
 -- a change to what was there is none
 pub changed_same : {V : Type 0} (f : Key → V) (k : Key) (v : V) → f k ≡ v → changed same_key f k v ≡ f
@@ -55,94 +46,48 @@ in_frame : (o : Option Page) → IsSome o → option_map (λ _. InFrame) o ≡ S
 in_frame None live = cc
 in_frame (Some page) live = refl
 
--- a live key with other bytes stays where it is
-pub where_kept : (contents after : Key → Option Page) (k : Key) (page : Page) → after ≡ changed same_key contents k (Some page) → IsSome (contents k) → whereabouts_of after ≡ whereabouts_of contents
-where_kept contents after k page e live =
-    ap whereabouts_of e ∙ where_changed contents k page
-    ∙ changed_same (whereabouts_of contents) k (Some InFrame) (in_frame (contents k) live)
+-- a live key with other bytes stays where it is, and the report tells of a key no more than that
+pub report_kept : (w : Tally) (contents after : Key → Option Page) (k : Key) (page : Page) → after ≡ changed same_key contents k (Some page) → IsSome (contents k) → unpaged_report w after ≡ unpaged_report w contents
+report_kept w contents after k page e live =
+    let stays : whereabouts_of after ≡ whereabouts_of contents =
+    ap whereabouts_of e ∙ where_changed contents k page ∙ changed_same (whereabouts_of contents) k (Some InFrame) (in_frame (contents k) live) in
+    λ i. record (unpaged_report w contents) { whereabouts = stays i }
 
--- ---- a place has another page
+-- bytes written into the page that a key has
+pub written_to : (C : Key → Option Page) (off : ℕ) (bytes : List ℕ) {D : Key → Option Page} {k : Key} {p : Option Page} → D ≡ changed same_key C k (Some (written (unwrap_or p (filled 0)) off bytes)) → p ≡ C k → D ≡ changed same_key C k (Some (written (unwrap_or (C k) (filled 0)) off bytes))
+written_to C off bytes {k = k} e same = e ∙ ap (λ q. changed same_key C k (Some (written (unwrap_or q (filled 0)) off bytes))) same
 
-contents_changed : (places : Place → Option Page) (areas : ℕ → Option AreaPages) (files : List FilePage) (p : Pid) (v : Vpn) (new : Option Page) → contents_of (changed same_place places (record { pid = p; vpn = v }) new) areas files ≡ changed same_key (contents_of places areas files) (Private p v) new
-contents_changed places areas files p v new = λ i. λ (q : Key). (at q) i
+-- ---- the page of one key is another one, or none
+
+pub record Becomes (places late : Place → Option Page) (areas after : ℕ → Option AreaPages) (files : List FilePage) (k : Key) (new : Option Page) : Type 0 where
+  pub contents : contents_of late after files ≡ changed same_key (contents_of places areas files) k new
+  pub paging : paging_of late after ≡ changed same_key (paging_of places areas) k (is_some new)
+  pub sizes : sizes_of after ≡ sizes_of areas
+  pub block : (b j : ℕ) → block_at (after b) j ≡ block_at (areas b) j
+  pub blocks : blocks_of after ≡ blocks_of areas
+
+pub page_at_place : {places late : Place → Option Page} (areas : ℕ → Option AreaPages) (files : List FilePage) (p : Pid) (v : Vpn) (k : Key) (new : Option Page) → late ≡ changed same_place places (record { pid = p; vpn = v }) new → k ≡ Private p v → Becomes places late areas areas files k new
+page_at_place {places} {late} areas files p v k new e key = subst (λ (q : Key). Becomes places late areas areas files q new) (sym key) (record {
+  contents = ap (λ ps. contents_of ps areas files) e ∙ (λ t. λ (q : Key). (at q) t);
+  paging = ap (λ ps. paging_of ps areas) e ∙ (λ t. λ (q : Key). (live q) t);
+  sizes = refl;
+  block = λ b j. refl;
+  blocks = refl;
+})
   where
     at : (q : Key) → contents_of (changed same_place places (record { pid = p; vpn = v }) new) areas files q ≡ changed same_key (contents_of places areas files) (Private p v) new q
     at (Private q w) = refl
     at (Shared a j) = refl
 
-paging_changed : (places : Place → Option Page) (areas : ℕ → Option AreaPages) (p : Pid) (v : Vpn) (new : Option Page) → paging_of (changed same_place places (record { pid = p; vpn = v }) new) areas ≡ changed same_key (paging_of places areas) (Private p v) (is_some new)
-paging_changed places areas p v new = λ i. λ (q : Key). (at q) i
-  where
     cases : (b : Bool) (old : Option Page) → is_some (if b then new else old) ≡ (if b then is_some new else is_some old)
     cases true old = refl
     cases false old = refl
 
-    at : (q : Key) → paging_of (changed same_place places (record { pid = p; vpn = v }) new) areas q ≡ changed same_key (paging_of places areas) (Private p v) (is_some new) q
-    at (Private q w) = cases ((q.0 == p.0) && (w.0 == v.0)) (places (record { pid = q; vpn = w }))
-    at (Shared a j) = refl
-
-module _ (places after : Place → Option Page) (areas : ℕ → Option AreaPages) (p : Pid) (v : Vpn) (k : Key) (new : Option Page) where
-  pub contents_at_place : (files : List FilePage) → after ≡ changed same_place places (record { pid = p; vpn = v }) new → k ≡ Private p v → contents_of after areas files ≡ changed same_key (contents_of places areas files) k new
-  contents_at_place files e key =
-      ap (λ ps. contents_of ps areas files) e ∙ contents_changed places areas files p v new
-      ∙ ap (λ q. changed same_key (contents_of places areas files) q new) (sym key)
-
-  pub paging_at_place : after ≡ changed same_place places (record { pid = p; vpn = v }) new → k ≡ Private p v → paging_of after areas ≡ changed same_key (paging_of places areas) k (is_some new)
-  paging_at_place e key =
-      ap (λ ps. paging_of ps areas) e ∙ paging_changed places areas p v new
-      ∙ ap (λ q. changed same_key (paging_of places areas) q (is_some new)) (sym key)
+    live : (q : Key) → paging_of (changed same_place places (record { pid = p; vpn = v }) new) areas q ≡ changed same_key (paging_of places areas) (Private p v) (is_some new) q
+    live (Private q w) = cases ((q.0 == p.0) && (w.0 == v.0)) (places (record { pid = q; vpn = w }))
+    live (Shared a j) = refl
 
 -- ---- an area is another one
-
--- the number of areas apart, an area is another one or as before
-pub at_area : {V : Type 0} (areas : ℕ → Option AreaPages) (a : ℕ) (new : Option AreaPages) (b : ℕ) (g : Option AreaPages → V) → g (changed ◌==◌ areas a new b) ≡ (if b == a then g new else g (areas b))
-at_area {V} areas a new b g = go (b == a)
-  where
-    go : (t : Bool) → g (if t then new else areas b) ≡ (if t then g new else g (areas b))
-    go true = refl
-    go false = refl
-
--- what the areas show stays, where it does for the one that changed
-kept_at : {V : Type 0} (areas : ℕ → Option AreaPages) (a : ℕ) (new : Option AreaPages) (b : ℕ) (g : Option AreaPages → V) → g new ≡ g (areas a) → g (changed ◌==◌ areas a new b) ≡ g (areas b)
-kept_at {V} areas a new b g same = go (b == a) refl
-  where
-    go : (t : Bool) → (b == a) ≡ t → g (if t then new else areas b) ≡ g (areas b)
-    go true e = same ∙ ap (λ (n : ℕ). g (areas n)) (sym (eqb-true b a e))
-    go false e = refl
-
-module _ (areas after : ℕ → Option AreaPages) (a : ℕ) (new : Option AreaPages) (is : after ≡ changed ◌==◌ areas a new) where
-  -- an area without blocks, and its pages as they were
-  pub contents_kept : (places : Place → Option Page) (files : List FilePage) → ((j : ℕ) → shared_page files (block_at new j) (page_at new j) ≡ shared_page files (block_at (areas a) j) (page_at (areas a) j)) → contents_of places after files ≡ contents_of places areas files
-  contents_kept places files same = ap (λ f. contents_of places f files) is ∙ (λ t. λ (q : Key). (at q) t)
-    where
-      at : (q : Key) → contents_of places (changed ◌==◌ areas a new) files q ≡ contents_of places areas files q
-      at (Private p v) = refl
-      at (Shared b j) = kept_at areas a new b.0 (λ o. shared_page files (block_at o j) (page_at o j)) (same j)
-
-  pub paging_kept : (places : Place → Option Page) → ((j : ℕ) → is_some (page_at new j) ≡ is_some (page_at (areas a) j)) → paging_of places after ≡ paging_of places areas
-  paging_kept places same = ap (paging_of places) is ∙ (λ t. λ (q : Key). (at q) t)
-    where
-      at : (q : Key) → paging_of places (changed ◌==◌ areas a new) q ≡ paging_of places areas q
-      at (Private p v) = refl
-      at (Shared b j) = kept_at areas a new b.0 (λ o. is_some (page_at o j)) (same j)
-
-  pub block_kept : (b j : ℕ) → block_at new j ≡ block_at (areas a) j → block_at (after b) j ≡ block_at (areas b) j
-  block_kept b j same = ap (λ f. block_at (f b) j) is ∙ kept_at areas a new b (λ o. block_at o j) same
-
-  pub blocks_kept : ((j : ℕ) → block_at new j ≡ block_at (areas a) j) → blocks_of after ≡ blocks_of areas
-  blocks_kept same = λ t. λ (q : Key). (at q) t
-    where
-      at : (q : Key) → blocks_of after q ≡ blocks_of areas q
-      at (Private p v) = refl
-      at (Shared b j) = block_kept b.0 j (same j)
-
-  pub sizes_kept : size_of new ≡ size_of (areas a) → sizes_of after ≡ sizes_of areas
-  sizes_kept same = ap sizes_of is ∙ (λ t. λ (b : ℕ). (kept_at areas a new b size_of same) t)
-
-  pub sizes_changed : sizes_of after ≡ changed ◌==◌ (sizes_of areas) a (size_of new)
-  sizes_changed = ap sizes_of is ∙ (λ t. λ (b : ℕ). (at_area areas a new b size_of) t)
-
--- ---- an area has another page
 
 -- an area with pages of its own is no file
 pub paged_of : (o : Option AreaPages) (i : ℕ) → i < length (pages_of o) → o ≡ Some (Paged (pages_of o))
@@ -150,62 +95,106 @@ paged_of None i h = absurd (omega arith)
 paged_of (Some (Paged pages)) i h = refl
 paged_of (Some (Filed first count)) i h = absurd (omega arith)
 
-module _ (areas : ℕ → Option AreaPages) (a i : ℕ) (new : Option Page) (paged : areas a ≡ Some (Paged (pages_of (areas a)))) (near : i < length (pages_of (areas a))) where
-  abbrev with_page : ℕ → Option AreaPages
-  with_page = changed ◌==◌ areas a (Some (Paged (slice_set (pages_of (areas a)) i new)))
+-- areas of which no key shows another page or block
+pub record Kept (places : Place → Option Page) (areas after : ℕ → Option AreaPages) (files : List FilePage) : Type 0 where
+  pub contents : contents_of places after files ≡ contents_of places areas files
+  pub paging : paging_of places after ≡ paging_of places areas
+  pub block : (b j : ℕ) → block_at (after b) j ≡ block_at (areas b) j
+  pub blocks : blocks_of after ≡ blocks_of areas
 
-  there : (b : ℕ) → (b == a) ≡ true → areas b ≡ Some (Paged (pages_of (areas a)))
-  there b e = ap areas (eqb-true b a e) ∙ paged
-
-  at_page : {V : Type 0} (g : Option ℕ → Option Page → V) (b j : ℕ) → g (block_at (with_page b) j) (page_at (with_page b) j) ≡ (if (b == a) && (j == i) then g None new else g (block_at (areas b) j) (page_at (areas b) j))
-  at_page {V} g b j = go (b == a) refl
+module _ (areas after : ℕ → Option AreaPages) (a : ℕ) (new : Option AreaPages) (is : after ≡ changed ◌==◌ areas a new) where
+  -- what the areas show stays, where it does for the one that changed
+  kept_at : {V : Type 0} (g : Option AreaPages → V) → g new ≡ g (areas a) → (b : ℕ) → g (after b) ≡ g (areas b)
+  kept_at {V} g same b = ap (λ f. g (f b)) is ∙ go (b == a) refl
     where
-      split : (t : Bool) → areas b ≡ Some (Paged (pages_of (areas a))) → g None (if t then new else page_at (Some (Paged (pages_of (areas a)))) j) ≡ (if t then g None new else g (block_at (areas b) j) (page_at (areas b) j))
+      go : (t : Bool) → (b == a) ≡ t → g (if t then new else areas b) ≡ g (areas b)
+      go true e = same ∙ ap (λ (n : ℕ). g (areas n)) (sym (eqb-true b a e))
+      go false e = refl
+
+  pub block_kept : ((j : ℕ) → block_at new j ≡ block_at (areas a) j) → (b j : ℕ) → block_at (after b) j ≡ block_at (areas b) j
+  block_kept same b j = kept_at (λ o. block_at o j) (same j) b
+
+  pub paging_kept : (places : Place → Option Page) → ((j : ℕ) → page_at new j ≡ page_at (areas a) j) → paging_of places after ≡ paging_of places areas
+  paging_kept places same = λ t. λ (q : Key). (at q) t
+    where
+      at : (q : Key) → paging_of places after q ≡ paging_of places areas q
+      at (Private p v) = refl
+      at (Shared b j) = kept_at (λ o. is_some (page_at o j)) (ap is_some (same j)) b.0
+
+  -- an area with the blocks and the pages that it had
+  pub areas_kept : (places : Place → Option Page) (files : List FilePage) → ((j : ℕ) → block_at new j ≡ block_at (areas a) j) → ((j : ℕ) → page_at new j ≡ page_at (areas a) j) → Kept places areas after files
+  areas_kept places files block page = record {
+    contents = λ t. λ (q : Key). (at q) t;
+    paging = paging_kept places page;
+    block = block_kept block;
+    blocks = λ t. λ (q : Key). (home q) t;
+  }
+    where
+      at : (q : Key) → contents_of places after files q ≡ contents_of places areas files q
+      at (Private p v) = refl
+      at (Shared b j) = kept_at (λ o. shared_page files (block_at o j) (page_at o j)) (λ t. shared_page files (block j t) (page j t)) b.0
+
+      home : (q : Key) → blocks_of after q ≡ blocks_of areas q
+      home (Private p v) = refl
+      home (Shared b j) = block_kept block b.0 j
+
+  pub sizes_kept : size_of new ≡ size_of (areas a) → sizes_of after ≡ sizes_of areas
+  sizes_kept same = λ t. λ (b : ℕ). (kept_at size_of same b) t
+
+  pub sizes_changed : sizes_of after ≡ changed ◌==◌ (sizes_of areas) a (size_of new)
+  sizes_changed = ap sizes_of is ∙ (λ t. λ (b : ℕ). (go b (b == a)) t)
+    where
+      go : (b : ℕ) (t : Bool) → size_of (if t then new else areas b) ≡ (if t then size_of new else size_of (areas b))
+      go b true = refl
+      go b false = refl
+
+-- ---- an area has another page
+
+module _ (areas after : ℕ → Option AreaPages) (a : Area) (i : ℕ) (new : Option Page) (near : i < length (pages_of (areas a.0))) (is : after ≡ changed ◌==◌ areas a.0 (Some (Paged (slice_set (pages_of (areas a.0)) i new)))) where
+  paged : areas a.0 ≡ Some (Paged (pages_of (areas a.0)))
+  paged = paged_of (areas a.0) i near
+
+  at_page : {V : Type 0} (g : Option ℕ → Option Page → V) (b j : ℕ) → g (block_at (after b) j) (page_at (after b) j) ≡ (if (b == a.0) && (j == i) then g None new else g (block_at (areas b) j) (page_at (areas b) j))
+  at_page {V} g b j = ap (λ f. g (block_at (f b) j) (page_at (f b) j)) is ∙ go (b == a.0) refl
+    where
+      split : (t : Bool) → areas b ≡ Some (Paged (pages_of (areas a.0))) → g None (if t then new else page_at (Some (Paged (pages_of (areas a.0)))) j) ≡ (if t then g None new else g (block_at (areas b) j) (page_at (areas b) j))
       split true e = refl
       split false e = ap (λ o. g (block_at o j) (page_at o j)) (sym e)
 
-      go : (t : Bool) → (b == a) ≡ t → g (block_at (if t then Some (Paged (slice_set (pages_of (areas a)) i new)) else areas b) j) (page_at (if t then Some (Paged (slice_set (pages_of (areas a)) i new)) else areas b) j) ≡ (if t && (j == i) then g None new else g (block_at (areas b) j) (page_at (areas b) j))
-      go true e = ap (g None) (set_at (pages_of (areas a)) i j new None near) ∙ split (j == i) (there b e)
+      go : (t : Bool) → (b == a.0) ≡ t → g (block_at (if t then Some (Paged (slice_set (pages_of (areas a.0)) i new)) else areas b) j) (page_at (if t then Some (Paged (slice_set (pages_of (areas a.0)) i new)) else areas b) j) ≡ (if t && (j == i) then g None new else g (block_at (areas b) j) (page_at (areas b) j))
+      go true e = ap (g None) (set_at (pages_of (areas a.0)) i j new None near) ∙ split (j == i) (ap areas (eqb-true b a.0 e) ∙ paged)
       go false e = refl
 
-module _ (areas after : ℕ → Option AreaPages) (a : Area) (i : ℕ) (new : Option Page) (near : i < length (pages_of (areas a.0))) (is : after ≡ changed ◌==◌ areas a.0 (Some (Paged (slice_set (pages_of (areas a.0)) i new)))) where
-  pub contents_in_area : (places : Place → Option Page) (files : List FilePage) (k : Key) → k ≡ Shared a i → contents_of places after files ≡ changed same_key (contents_of places areas files) k new
-  contents_in_area places files k key =
-      ap (λ f. contents_of places f files) is
-      ∙ (λ t. λ (q : Key). (at q) t)
-      ∙ ap (λ q. changed same_key (contents_of places areas files) q new) (sym key)
+  pub page_in_area : (places : Place → Option Page) (files : List FilePage) (k : Key) → k ≡ Shared a i → Becomes places places areas after files k new
+  page_in_area places files k key = subst (λ (q : Key). Becomes places places areas after files q new) (sym key) (record {
+    contents = λ t. λ (q : Key). (at q) t;
+    paging = λ t. λ (q : Key). (live q) t;
+    sizes = sizes_kept areas after a.0 _ is (ap Some (length-set (pages_of (areas a.0)) i new) ∙ ap size_of (sym paged));
+    block = block_kept areas after a.0 _ is no_block;
+    blocks = λ t. λ (q : Key). (home q) t;
+  })
     where
-      at : (q : Key) → contents_of places (changed ◌==◌ areas a.0 (Some (Paged (slice_set (pages_of (areas a.0)) i new)))) files q ≡ changed same_key (contents_of places areas files) (Shared a i) new q
+      at : (q : Key) → contents_of places after files q ≡ changed same_key (contents_of places areas files) (Shared a i) new q
       at (Private p v) = refl
-      at (Shared b j) = at_page areas a.0 i new (paged_of (areas a.0) i near) near (shared_page files) b.0 j
+      at (Shared b j) = at_page (shared_page files) b.0 j
 
-  pub paging_in_area : (places : Place → Option Page) (k : Key) → k ≡ Shared a i → paging_of places after ≡ changed same_key (paging_of places areas) k (is_some new)
-  paging_in_area places k key =
-      ap (paging_of places) is
-      ∙ (λ t. λ (q : Key). (at q) t)
-      ∙ ap (λ q. changed same_key (paging_of places areas) q (is_some new)) (sym key)
-    where
-      at : (q : Key) → paging_of places (changed ◌==◌ areas a.0 (Some (Paged (slice_set (pages_of (areas a.0)) i new)))) q ≡ changed same_key (paging_of places areas) (Shared a i) (is_some new) q
-      at (Private p v) = refl
-      at (Shared b j) = at_page areas a.0 i new (paged_of (areas a.0) i near) near (λ block page. is_some page) b.0 j
+      live : (q : Key) → paging_of places after q ≡ changed same_key (paging_of places areas) (Shared a i) (is_some new) q
+      live (Private p v) = refl
+      live (Shared b j) = at_page (λ block page. is_some page) b.0 j
 
-  same_block : (j : ℕ) → None ≡ block_at (areas a.0) j
-  same_block j = ap (λ o. block_at o j) (sym (paged_of (areas a.0) i near))
+      no_block : (j : ℕ) → None ≡ block_at (areas a.0) j
+      no_block j = ap (λ o. block_at o j) (sym paged)
 
-  pub block_in_area : (b j : ℕ) → block_at (after b) j ≡ block_at (areas b) j
-  block_in_area b j = block_kept areas after a.0 _ is b j (same_block j)
-
-  pub blocks_in_area : blocks_of after ≡ blocks_of areas
-  blocks_in_area = blocks_kept areas after a.0 _ is same_block
-
-  pub sizes_in_area : sizes_of after ≡ sizes_of areas
-  sizes_in_area = sizes_kept areas after a.0 _ is (ap Some (length-set (pages_of (areas a.0)) i new) ∙ ap size_of (sym (paged_of (areas a.0) i near)))
+      home : (q : Key) → blocks_of after q ≡ blocks_of areas q
+      home (Private p v) = refl
+      home (Shared b j) = block_kept areas after a.0 _ is no_block b.0 j
 
 -- ---- a block has another page
 
 module _ (areas : ℕ → Option AreaPages) (files after : List FilePage) (a : Area) (i block : ℕ) (new : FilePage) (at_block : block_at (areas a.0) i ≡ Some block) (near : block < length files) (is : after ≡ slice_set files block new) where
-  pub contents_in_file : ((b j : ℕ) → block_at (areas b) j ≡ Some block → (b ≡ a.0) × (j ≡ i)) → (places : Place → Option Page) → contents_of places areas after ≡ changed same_key (contents_of places areas files) (Shared a i) (Some new.page)
-  contents_in_file alone places = ap (λ fs. contents_of places areas fs) is ∙ (λ t. λ (q : Key). (at q) t)
+  pub contents_in_file : ((b j : ℕ) → block_at (areas b) j ≡ Some block → (b ≡ a.0) × (j ≡ i)) → (places : Place → Option Page) (k : Key) → k ≡ Shared a i → contents_of places areas after ≡ changed same_key (contents_of places areas files) k (Some new.page)
+  contents_in_file alone places k key =
+      ap (λ fs. contents_of places areas fs) is ∙ (λ t. λ (q : Key). (at q) t) ∙ ap (λ q. changed same_key (contents_of places areas files) q (Some new.page)) (sym key)
     where
       other : (b : Area) (j : ℕ) → ((b.0 == a.0) && (j == i)) ≡ false → (o : Option ℕ) → block_at (areas b.0) j ≡ o → shared_page (slice_set files block new) o (page_at (areas b.0) j) ≡ shared_page files o (page_at (areas b.0) j)
       other b j t None e = refl

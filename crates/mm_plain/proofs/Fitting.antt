@@ -1,28 +1,27 @@
 -- What changes of the parts of a store leave true of them.
-use Rattle.std.proofs.Common.{◌≡◌, ◌⊎◌, ◌+◌, ◌<◌, ◌≤◌, ◌^◌, ℕ, Bool, true, false, List, [], length, Option, Some, None, Result, Ok, Err, refl, sym, ap, ◌∙◌, subst, inl, inr, arith}
+use Rattle.std.proofs.Common.{◌≡◌, ◌≢◌, ◌⊎◌, ◌+◌, ◌<◌, ◌≤◌, ◌^◌, ℕ, Bool, true, false, List, [], length, Option, Some, None, Result, Ok, Err, refl, sym, ap, ◌∙◌, subst, inl, inr, arith}
 use Rattle.std.specs.Prelude.{◌==◌, nat_le, nat_lt, if◌then◌else◌, OnOk, OnErr, slice_get, slice_set}
 use Rattle.std.proofs.Math.ListN.{length-set}
 use Rattle.std.proofs.lemmas.Bool.{and_parts, leb-true, ltb-true}
-use Rattle.mm_types.specs.{Pid, Place, Range, are_user_pages, holds_page, end_of, end_of_user_pages, first_user_page, MachineOf, IsMachine}
+use Rattle.mm_types.specs.{Pid, Place, Range, are_user_pages, holds_page, end_of, end_of_user_pages, first_user_page}
 use Rattle.mm_types.proofs.{same_or_not, get_set_same, get_set_other, get_within}
 use Rattle.mm_world.specs.{Page}
 use Rattle.mm_pages.specs.{changed_in, is_place_in}
 use Rattle.mm_plain.specs.{AreaPages, FilePage, block_at, count_in, no_area, Fits, FilesFit, bound_in, pages_in, no_place, StockOf}
 use Rattle.mm_plain.specs.declared.areas.Areas.{Areas}
 use Rattle.mm_plain.specs.declared.places.Places.{Places}
-use Rattle.mm_plain.specs.Files.{page_of}
 
 -- ---- places, areas and boxes
 
 -- places below the end stay below it
-pub fits_then : (a b : Places) (x y : Areas) (s t : StockOf) → Fits a x s → bound_in b ≡ bound_in a → (pages_in b + count_in y) + t.boxes ≡ t.room → Fits b y t
-fits_then a b x y s t fits bound boxes = record { boxes = boxes; low = λ p e. fits.low p (sym (ap (λ f. f p) bound) ∙ e) }
+pub fits_then : {a b : Places} {x y : Areas} {s t : StockOf} → Fits a x s → bound_in b ≡ bound_in a → (pages_in b + count_in y) + t.boxes ≡ t.room → Fits b y t
+fits_then fits bound boxes = record { boxes = boxes; low = λ p e. fits.low p (sym (ap (λ f. f p) bound) ∙ e) }
 
-pub fits_kept : (a b : Places) (x : Areas) (s : StockOf) → Fits a x s → bound_in b ≡ bound_in a → pages_in b ≡ pages_in a → Fits b x s
-fits_kept a b x s fits bound count = fits_then a b x x s s fits bound (omega (arith, count, fits.boxes))
+pub fits_kept : {a b : Places} {x : Areas} {s : StockOf} → Fits a x s → bound_in b ≡ bound_in a → pages_in b ≡ pages_in a → Fits b x s
+fits_kept fits bound count = fits_then fits bound (omega (arith, count, fits.boxes))
 
-pub fits_areas : (a : Places) (x y : Areas) (s : StockOf) → Fits a x s → count_in y ≡ count_in x → Fits a y s
-fits_areas a x y s fits count = fits_then a a x y s s fits refl (omega (arith, count, fits.boxes))
+pub fits_areas : {a : Places} {x y : Areas} {s : StockOf} → Fits a x s → count_in y ≡ count_in x → Fits a y s
+fits_areas fits count = fits_then fits refl (omega (arith, count, fits.boxes))
 
 pub fits_new : (a : Places) (x : Areas) (s : StockOf) → bound_in a ≡ no_place → pages_in a ≡ 0 → count_in x ≡ 0 → s ≡ record { boxes = 0; room = 0 } → Fits a x s
 fits_new a x s bound count none stock = record {
@@ -36,7 +35,7 @@ in_range range page user held =
     let h = ltb-true page (end_of range) (and_parts (nat_le range.first page) (nat_lt page (end_of range)) held).1 in
     omega (arith, u, h)
 
-module _ (a b : Places) (x : Areas) (s : StockOf) (pid : Pid) (range : Range) where
+module _ {a b : Places} {x : Areas} {s : StockOf} (pid : Pid) (range : Range) where
   bound_more : are_user_pages range ≡ true → Fits a x s → bound_in b ≡ changed_in pid range (bound_in a) true → pages_in b ≡ pages_in a → Fits b x s
   bound_more user fits bound count = record {
     boxes = omega (arith, count, fits.boxes);
@@ -49,7 +48,7 @@ module _ (a b : Places) (x : Areas) (s : StockOf) (pid : Pid) (range : Range) wh
 
   pub fits_bound : {T E : Type 0} (result : Result T E) → are_user_pages range ≡ true → Fits a x s → OnOk result (bound_in b ≡ changed_in pid range (bound_in a) true) → OnErr result (bound_in b ≡ bound_in a) → pages_in b ≡ pages_in a → Fits b x s
   fits_bound (Ok r) user fits ok err count = bound_more user fits ok count
-  fits_bound (Err e) user fits ok err count = fits_kept a b x s fits err count
+  fits_bound (Err e) user fits ok err count = fits_kept fits err count
 
   pub fits_unbound : Fits a x s → bound_in b ≡ changed_in pid range (bound_in a) false → pages_in b ≡ pages_in a → Fits b x s
   fits_unbound fits bound count = record {
@@ -63,10 +62,10 @@ module _ (a b : Places) (x : Areas) (s : StockOf) (pid : Pid) (range : Range) wh
 
 -- ---- files
 
-module _ (areas : ℕ → Option AreaPages) (pages : List FilePage) (blocks : List Page) (count : ℕ) (fit : FilesFit areas pages blocks count) where
+module _ {areas : ℕ → Option AreaPages} {pages : List FilePage} {blocks : List Page} {count : ℕ} (fit : FilesFit areas pages blocks count) where
   -- no page of a file has another block
-  pub files_fit_areas : (after : ℕ → Option AreaPages) → ((a i : ℕ) → block_at (after a) i ≡ block_at (areas a) i) → FilesFit after pages blocks count
-  files_fit_areas after same = record {
+  pub files_fit_areas : {after : ℕ → Option AreaPages} → ((a i : ℕ) → block_at (after a) i ≡ block_at (areas a) i) → FilesFit after pages blocks count
+  files_fit_areas same = record {
     near = λ a i block e. fit.near a i block (sym (same a i) ∙ e);
     alone = λ a i b j block e f. fit.alone a i b j block (sym (same a i) ∙ e) (sym (same b j) ∙ f);
     kept = fit.kept;
@@ -75,28 +74,31 @@ module _ (areas : ℕ → Option AreaPages) (pages : List FilePage) (blocks : Li
     few = fit.few;
   }
 
-  -- the block of a page holds it now
-  pub files_fit_settled : (after : List FilePage) (stored : List Page) (block : ℕ) (page : Page) → block < length pages → after ≡ slice_set pages block (record { page = page; changed = false }) → stored ≡ slice_set blocks block page → FilesFit areas after stored count
-  files_fit_settled after stored block page near is put =
-      let new : FilePage = record { page = page; changed = false } in
+  -- a block has another page, which the device holds unless it was changed
+  pub files_fit_set : {after : List FilePage} {stored : List Page} (block : ℕ) (new : FilePage) → block < length pages → after ≡ slice_set pages block new → length stored ≡ length blocks → (new.changed ≡ false → slice_get stored block ≡ Some new.page) → ((b : ℕ) → b ≢ block → slice_get stored b ≡ slice_get blocks b) → FilesFit areas after stored count
+  files_fit_set {after} {stored} block new near is wide here others =
       let long : length after ≡ length pages = ap length is ∙ length-set pages block new in
-      let wide : length stored ≡ length blocks = ap length put ∙ length-set blocks block page in
       record {
         near = λ a i b e. (let n = fit.near a i b e in omega (arith, n, long));
         alone = fit.alone;
         kept = λ b p e clean. elim (same_or_not b block) [
           | inl same ↦
-              let here : Some new ≡ Some p = sym (ap (λ ps. slice_get ps b) is ∙ ap (λ (n : ℕ). slice_get (slice_set pages block new) n) same ∙ get_set_same pages block new near) ∙ e in
-              ap (λ ps. slice_get ps b) put ∙ ap (λ (n : ℕ). slice_get (slice_set blocks block page) n) same
-              ∙ get_set_same blocks block page (omega (arith, near, fit.used, fit.device)) ∙ ap page_of here
-          | inr other ↦
-              ap (λ ps. slice_get ps b) put ∙ get_set_other blocks block b page other
-              ∙ fit.kept b p (sym (ap (λ ps. slice_get ps b) is ∙ get_set_other pages block b new other) ∙ e) clean
+              let there : Some new ≡ Some p = sym (ap (λ ps. slice_get ps b) is ∙ ap (λ (n : ℕ). slice_get (slice_set pages block new) n) same ∙ get_set_same pages block new near) ∙ e in
+              let one : new ≡ p = cc in
+              ap (λ (n : ℕ). slice_get stored n) same ∙ here (ap (λ (x : FilePage). x.changed) one ∙ clean) ∙ ap (λ (x : FilePage). Some x.page) one
+          | inr other ↦ others b other ∙ fit.kept b p (sym (ap (λ ps. slice_get ps b) is ∙ get_set_other pages block b new other) ∙ e) clean
         ];
         device = wide ∙ fit.device;
         used = omega (arith, fit.used, long);
         few = fit.few;
       }
+
+  -- the block of a page holds it now
+  pub files_fit_settled : {after : List FilePage} {stored : List Page} (block : ℕ) (page : Page) → block < length pages → after ≡ slice_set pages block (record { page = page; changed = false }) → stored ≡ slice_set blocks block page → FilesFit areas after stored count
+  files_fit_settled block page near is put =
+      files_fit_set block _ near is (ap length put ∙ length-set blocks block page)
+      (λ clean. ap (λ ps. slice_get ps block) put ∙ get_set_same blocks block page (omega (arith, near, fit.used, fit.device)))
+      (λ b other. ap (λ ps. slice_get ps b) put ∙ get_set_other blocks block b page other)
 
   -- blocks that no file has hold other bytes
   pub files_fit_unused : (stored : List Page) (n : ℕ) → length stored ≡ length blocks → ((block : ℕ) → (block < length pages) ⊎ (n ≤ block) → slice_get stored block ≡ slice_get blocks block) → FilesFit areas pages stored count
@@ -123,16 +125,3 @@ files_fit_new areas pages blocks count none empty long few = record {
 pub files_fit_same : (areas after : ℕ → Option AreaPages) (pages late : List FilePage) (blocks : List Page) (count : ℕ) → after ≡ areas → late ≡ pages → FilesFit areas pages blocks count → FilesFit after late blocks count
 files_fit_same areas after pages late blocks count same alike fit =
     subst (λ ps. FilesFit after ps blocks count) (sym alike) (subst (λ f. FilesFit f pages blocks count) (sym same) fit)
-
--- ---- the machine
-
-pub more_slots : (m : MachineOf) (f s d b n : ℕ) → IsMachine m → f ≡ m.frames → s ≡ m.slots → d ≡ m.depth → b ≡ m.blocks → m.slots + n ≤ 262144 → IsMachine (record { frames = f; slots = s + n; depth = d; blocks = b })
-more_slots m f s d b n is ef es ed eb most = record {
-  least_frames = omega (arith, is.least_frames, ef);
-  most_frames = omega (arith, is.most_frames, ef);
-  most_slots = omega (arith, most, es);
-  least_depth = omega (arith, is.least_depth, ed);
-  most_depth = omega (arith, is.most_depth, ed);
-  most_blocks = omega (arith, is.most_blocks, eb);
-  enough_frames = omega (arith, is.enough_frames, ed, ef);
-}

@@ -1,38 +1,34 @@
 -- An area is opened or closed, or a file is made.
 use Rattle.std.proofs.Common.{◌≡◌, ◌⊎◌, ℕ, zero, suc, ◌+◌, ◌-◌, ◌<◌, ◌≤◌, ◌%◌, Bool, true, false, List, [], ◌∷◌, ◌++◌, length, replicate, Option, Some, None, Result, Ok, Err, refl, sym, ap, subst, ◌∙◌, inl, inr, arith}
-use Rattle.std.specs.Prelude.{◌==◌, ◌&&◌, nat_lt, is_some, if◌then◌else◌, slice_get, slice_set, slice_index_or, OnOk, OnErr}
+use Rattle.std.specs.Prelude.{◌==◌, ◌&&◌, nat_lt, IsSome, is_some, if◌then◌else◌, slice_get, slice_set, slice_index_or, OnOk, OnErr}
 use Rattle.std.specs.List.{sum_by}
 use Rattle.std.proofs.lemmas.Bool.{eqb-true, ltb-true, cases_lt}
 use Rattle.std.proofs.lemmas.List.{length-append}
 use Rattle.std.proofs.lemmas.List.Sums.{sum_by-cons}
-use Rattle.mm_types.specs.{Area, Key, Place}
+use Rattle.mm_types.specs.{Area, Key, Pid, Place, Vpn}
 use Rattle.mm_types.specs.declared.numbers.Key.TheVariants.{Private, Shared}
 use Rattle.mm_types.proofs.{get_within}
 use Rattle.mm_world.specs.{Page, filled}
-use Rattle.mm_pages.specs.{changed, with_file, with_blocks, HasHome}
+use Rattle.mm_pages.specs.{changed, same_place, with_file, with_blocks, HasHome}
 use Rattle.mm_plain.specs.{AreaPages, FilePage, area_in, size_of, pages_of, page_at, block_at, count_of, one_if_live, no_area, IsMade, Stored}
-use Rattle.mm_plain.specs.{page_in, made_page, no_page, FilesFit, shared_page, contents_of, paging_of, blocks_of, contents_in, store_in}
+use Rattle.mm_plain.specs.{page_in, made_page, no_page, pages_at, FilesFit, shared_page, contents_of, paging_of, blocks_of, sizes_of, contents_in}
+use Rattle.mm_plain.specs.{store_in}
 use Rattle.mm_plain.specs.declared.areas.AreaPages.TheVariants.{Paged, Filed}
 use Rattle.mm_plain.specs.Files.{page_of}
-use Rattle.mm_plain.proofs.OpenAreas.{in_file}
-use Rattle.mm_plain.proofs.Contents.{paging_kept}
+use Rattle.mm_plain.proofs.OpenAreas.{in_file, live_within, none_at}
+use Rattle.mm_plain.proofs.Contents.{Becomes, Kept, areas_kept, page_at_place, page_in_area, paging_kept, sizes_changed}
 use Rattle.mm_plain.specs.declared.plain.Plain.{Plain}
 use Rattle.mm_blocks.specs.declared.Inject.{Ghosts as DeviceGhosts}
-use Rattle.mm_plain.proofs.MadeFiles.{get_before, get_behind}
 
 -- ---- functions of areas
 
-pub closed_of : (o : Option AreaPages) → size_of o ≡ None → o ≡ None
+closed_of : (o : Option AreaPages) → size_of o ≡ None → o ≡ None
 closed_of None e = refl
 closed_of (Some (Paged pages)) e = cc
 closed_of (Some (Filed first count)) e = cc
 
--- ---- an area opened
-
-pub none_at : (n j : ℕ) → ◌≡◌ {A = Option Page} (slice_index_or (replicate n None) j None) None
-none_at zero j = refl
-none_at (suc n) zero = refl
-none_at (suc n) (suc j) = none_at n j
+pub none_counted : (areas mid : ℕ → Option AreaPages) (a : ℕ) → size_of (areas a) ≡ None → mid ≡ areas → count_of (mid a) ≡ 0
+none_counted areas mid a new same = ap (λ f. count_of (f a)) same ∙ ap count_of (closed_of (areas a) new)
 
 -- ---- an area without live pages
 
@@ -50,21 +46,40 @@ paged_home files (Some (Filed first count)) i pages size near dead within =
     let there = in_file first count i (omega (arith, near, same)) in
     absurd (page_there files (first + i) (within (first + i) there) (sym (ap (λ b. shared_page files b None) there) ∙ dead))
 
-pub home_near : {F : Type 0} {d : DeviceGhosts F} (s : Plain F d) (blocks : List Page) (count : ℕ) (k : Key) (a : Area) (i : ℕ) → k ≡ Shared a i → HasHome (store_in s) k → contents_in s k ≡ None → FilesFit (area_in s.areas) s.file_pages.pages.items blocks count → i < length (pages_of (area_in s.areas a.0))
-home_near s blocks count k a i is home dead fit =
-    let own : HasHome (store_in s) (Shared a i) = subst (λ (q : Key). HasHome (store_in s) q) is home in
-    paged_home s.file_pages.pages.items (area_in s.areas a.0) i own.0 own.1.0 own.1.1 (sym (ap (contents_in s) is) ∙ dead) (fit.near a.0 i)
+dead_page : (files : List FilePage) (o : Option AreaPages) (j : ℕ) → shared_page files (block_at o j) (page_at o j) ≡ None → page_at o j ≡ None
+dead_page files None j e = refl
+dead_page files (Some (Paged pages)) j e = e
+dead_page files (Some (Filed first count)) j e = refl
+
+-- a live key without a block is no file's
+pub own_live : {F : Type 0} {d : DeviceGhosts F} (s : Plain F d) (k : Key) → blocks_of (area_in s.areas) k ≡ None → IsSome (contents_in s k) → paging_of (pages_at s.places) (area_in s.areas) k ≡ true
+own_live s (Private p v) e h = h
+own_live s (Shared a i) e h = subst (λ b. IsSome (shared_page s.file_pages.pages.items b (page_at (area_in s.areas a.0) i))) e h
+
+module _ {F : Type 0} {d : DeviceGhosts F} (s : Plain F d) {k : Key} where
+  -- a key that comes to be in an area has its index there, and no page
+  pub home_near : {blocks : List Page} {count : ℕ} {a : Area} {i : ℕ} → k ≡ Shared a i → HasHome (store_in s) k → contents_in s k ≡ None → FilesFit (area_in s.areas) s.file_pages.pages.items blocks count → (i < length (pages_of (area_in s.areas a.0))) × (page_at (area_in s.areas a.0) i ≡ None)
+  home_near {a = a} {i = i} is home dead fit =
+      let own : HasHome (store_in s) (Shared a i) = subst (λ (q : Key). HasHome (store_in s) q) is home in
+      let none = sym (ap (contents_in s) is) ∙ dead in
+      (paged_home s.file_pages.pages.items (area_in s.areas a.0) i own.0 own.1.0 own.1.1 none (fit.near a.0 i), dead_page s.file_pages.pages.items (area_in s.areas a.0) i none)
+
+  pub live_near : {a : Area} {i : ℕ} → k ≡ Shared a i → paging_of (pages_at s.places) (area_in s.areas) k ≡ true → i < length (pages_of (area_in s.areas a.0))
+  live_near {a} {i} is live = live_within (pages_of (area_in s.areas a.0)) i (sym (ap (paging_of (pages_at s.places) (area_in s.areas)) is) ∙ live)
+
+  -- what a key of an area shows goes by its block
+  pub shown_by : {a : Area} {i : ℕ} {o : Option ℕ} → k ≡ Shared a i → block_at (area_in s.areas a.0) i ≡ o → shared_page s.file_pages.pages.items o (page_at (area_in s.areas a.0) i) ≡ contents_in s k
+  shown_by {a} {i} is e = sym (ap (contents_in s) is ∙ ap (λ b. shared_page s.file_pages.pages.items b (page_at (area_in s.areas a.0) i)) e)
+
+  -- the page of a private key, and of a key of a page-file section, is another one
+  pub at_place : {late : Place → Option Page} {p : Pid} {v : Vpn} {new : Option Page} → late ≡ changed same_place (pages_at s.places) (record { pid = p; vpn = v }) new → k ≡ Private p v → Becomes (pages_at s.places) late (area_in s.areas) (area_in s.areas) s.file_pages.pages.items k new
+  at_place e key = page_at_place (area_in s.areas) s.file_pages.pages.items _ _ k _ e key
+
+  pub in_area : {after : ℕ → Option AreaPages} {a : Area} {i : ℕ} {new : Option Page} → i < length (pages_of (area_in s.areas a.0)) → after ≡ changed ◌==◌ (area_in s.areas) a.0 (Some (Paged (slice_set (pages_of (area_in s.areas a.0)) i new))) → k ≡ Shared a i → Becomes (pages_at s.places) (pages_at s.places) (area_in s.areas) after s.file_pages.pages.items k new
+  in_area near is key = page_in_area (area_in s.areas) _ _ _ _ near is (pages_at s.places) s.file_pages.pages.items k key
 
 module _ (files : List FilePage) (o : Option AreaPages) (dead : (j : ℕ) → shared_page files (block_at o j) (page_at o j) ≡ None) where
-  pub dead_page : (j : ℕ) → page_at o j ≡ None
-  dead_page j = go o j (dead j)
-    where
-      go : (x : Option AreaPages) (i : ℕ) → shared_page files (block_at x i) (page_at x i) ≡ None → page_at x i ≡ None
-      go None i e = refl
-      go (Some (Paged pages)) i e = e
-      go (Some (Filed first count)) i e = refl
-
-  pub dead_block : ((j block : ℕ) → block_at o j ≡ Some block → block < length files) → (j : ℕ) → block_at o j ≡ None
+  dead_block : ((j block : ℕ) → block_at o j ≡ Some block → block < length files) → (j : ℕ) → block_at o j ≡ None
   dead_block near j = go (block_at o j) refl
     where
       go : (x : Option ℕ) → block_at o j ≡ x → block_at o j ≡ None
@@ -72,7 +87,7 @@ module _ (files : List FilePage) (o : Option AreaPages) (dead : (j : ℕ) → sh
       go (Some k) e = absurd (page_there files k (near j k e) (sym (ap (λ b. shared_page files b (page_at o j)) e) ∙ dead j))
 
   pub dead_count : count_of o ≡ 0
-  dead_count = all (pages_of o) (λ j. dead_page j)
+  dead_count = all (pages_of o) (λ j. dead_page files o j (dead j))
     where
       all : (ps : List (Option Page)) → ((j : ℕ) → slice_index_or ps j None ≡ None) → sum_by one_if_live ps ≡ 0
       all [] e = refl
@@ -81,7 +96,41 @@ module _ (files : List FilePage) (o : Option AreaPages) (dead : (j : ℕ) → sh
           let none : one_if_live p ≡ 0 = ap one_if_live (e 0) in
           omega (arith, first, none, all ps (λ j. e (suc j)))
 
+-- ---- an area opened, and closed
+
+pub opened : (places : Place → Option Page) (areas after : ℕ → Option AreaPages) (files : List FilePage) (a n : ℕ) → size_of (areas a) ≡ None → after ≡ changed ◌==◌ areas a (Some (Paged (replicate n None))) → Kept places areas after files
+opened places areas after files a n new is =
+    let none = closed_of (areas a) new in
+    areas_kept areas after a _ is places files (λ j. ap (λ o. block_at o j) (sym none)) (λ j. none_at None n j ∙ ap (λ o. page_at o j) (sym none))
+
+pub opened_or_not : {T E : Type 0} (result : Result T E) (places : Place → Option Page) (areas after : ℕ → Option AreaPages) (files : List FilePage) (a n : ℕ) → size_of (areas a) ≡ None → OnOk result (after ≡ changed ◌==◌ areas a (Some (Paged (replicate n None)))) → OnErr result (after ≡ areas) → Kept places areas after files
+opened_or_not (Ok x) places areas after files a n new ok err = opened places areas after files a n new ok
+opened_or_not (Err e) places areas after files a n new ok err =
+    subst (λ f. Kept places areas f files) (sym err) (record { contents = refl; paging = refl; block = λ b j. refl; blocks = refl })
+
+pub closed : (places : Place → Option Page) (areas after : ℕ → Option AreaPages) (files : List FilePage) (a : ℕ) → ((j : ℕ) → shared_page files (block_at (areas a) j) (page_at (areas a) j) ≡ None) → ((j block : ℕ) → block_at (areas a) j ≡ Some block → block < length files) → after ≡ changed ◌==◌ areas a None → Kept places areas after files
+closed places areas after files a dead near is =
+    areas_kept areas after a None is places files (λ j. sym (dead_block files (areas a) dead near j)) (λ j. sym (dead_page files (areas a) j (dead j)))
+
 -- ---- a file made
+
+get_before : {A : Type 0} (xs ys : List A) (i : ℕ) → i < length xs → slice_get (xs ++ ys) i ≡ slice_get xs i
+get_before [] ys i h = absurd (omega arith)
+get_before (x ∷ xs) ys zero h = refl
+get_before (x ∷ xs) ys (suc i) h = get_before xs ys i (omega arith)
+
+get_behind : {A : Type 0} (xs ys : List A) (i : ℕ) → slice_get (xs ++ ys) (length xs + i) ≡ slice_get ys i
+get_behind [] ys i = let e : 0 + i ≡ i = omega arith in ap (λ (k : ℕ). slice_get ys k) e
+get_behind (x ∷ xs) ys i =
+    let e : suc (length xs) + i ≡ suc (length xs + i) = omega arith in
+    ap (λ (k : ℕ). slice_get (x ∷ (xs ++ ys)) k) e ∙ get_behind xs ys i
+
+pub record FileOpened (places : Place → Option Page) (areas after : ℕ → Option AreaPages) (a first n byte : ℕ) (files all : List FilePage) : Type 0 where
+  pub contents : contents_of places after all ≡ with_file a n byte (contents_of places areas files)
+  pub paging : paging_of places after ≡ paging_of places areas
+  pub sizes : sizes_of after ≡ changed ◌==◌ (sizes_of areas) a (Some n)
+  pub blocks : blocks_of after ≡ with_blocks a n first (blocks_of areas)
+  pub used : length all ≡ length files + n
 
 pub block_in : (first n j block : ℕ) → block_at (Some (Filed first n)) j ≡ Some block → (j < n) × (block ≡ first + j)
 block_in first n j block e = go (nat_lt j n) refl e
@@ -90,11 +139,20 @@ block_in first n j block e = go (nat_lt j n) refl e
     go true h e = (ltb-true j n h, cc)
     go false h e = cc
 
-module _ (areas after : ℕ → Option AreaPages) (a first n byte : ℕ) (files made all : List FilePage) (new : areas a ≡ None) (is : after ≡ changed ◌==◌ areas a (Some (Filed first n))) (next : first ≡ length files) (filed : IsMade made n byte) (whole : all ≡ files ++ made) where
+module _ (areas mid after : ℕ → Option AreaPages) (a first n byte : ℕ) (files early made all : List FilePage) (new : size_of (areas a) ≡ None) (before : mid ≡ areas) (set : after ≡ changed ◌==◌ mid a (Some (Filed first n))) (next : first ≡ length files) (filed : IsMade made n byte) (alike : early ≡ files) (put : all ≡ early ++ made) where
+  closed_before : areas a ≡ None
+  closed_before = closed_of (areas a) new
+
+  is : after ≡ changed ◌==◌ areas a (Some (Filed first n))
+  is = set ∙ ap (λ f. changed ◌==◌ f a (Some (Filed first n))) before
+
+  whole : all ≡ files ++ made
+  whole = put ∙ ap (λ fs. fs ++ made) alike
+
   made_at : (j : ℕ) → j < n → slice_get (files ++ made) (first + j) ≡ Some (made_page ((byte + j) % 256))
   made_at j h = ap (λ (k : ℕ). slice_get (files ++ made) (k + j)) next ∙ get_behind files made j ∙ filed.each j h
 
-  pub contents_with_file : (places : Place → Option Page) → ((b j block : ℕ) → block_at (areas b) j ≡ Some block → block < length files) → contents_of places after all ≡ with_file a n byte (contents_of places areas files)
+  contents_with_file : (places : Place → Option Page) → ((b j block : ℕ) → block_at (areas b) j ≡ Some block → block < length files) → contents_of places after all ≡ with_file a n byte (contents_of places areas files)
   contents_with_file places near = ap (λ f. contents_of places f all) is ∙ ap (λ fs. contents_of places (changed ◌==◌ areas a (Some (Filed first n))) fs) whole ∙ (λ t. λ (q : Key). (at q) t)
     where
       old : (b j : ℕ) (o : Option ℕ) → block_at (areas b) j ≡ o → shared_page (files ++ made) o (page_at (areas b) j) ≡ shared_page files o (page_at (areas b) j)
@@ -102,37 +160,43 @@ module _ (areas after : ℕ → Option AreaPages) (a first n byte : ℕ) (files 
       old b j (Some k) e = ap page_of (get_before files made k (near b j k e))
 
       here : (b j : ℕ) (t : Bool) → areas b ≡ None → nat_lt j n ≡ t → shared_page (files ++ made) (if t then Some (first + j) else None) None ≡ (if t then Some (filled ((byte + j) % 256)) else shared_page files (block_at (areas b) j) (page_at (areas b) j))
-      here b j true none h = ap page_of (made_at j (ltb-true j n h))
-      here b j false none h = ap (λ o. shared_page files (block_at o j) (page_at o j)) (sym none)
+      here b j true gone h = ap page_of (made_at j (ltb-true j n h))
+      here b j false gone h = ap (λ o. shared_page files (block_at o j) (page_at o j)) (sym gone)
 
       split : (b j : ℕ) (t : Bool) → (b == a) ≡ t → shared_page (files ++ made) (block_at (if t then Some (Filed first n) else areas b) j) (page_at (if t then Some (Filed first n) else areas b) j) ≡ (if t && nat_lt j n then Some (filled ((byte + j) % 256)) else shared_page files (block_at (areas b) j) (page_at (areas b) j))
-      split b j true e = here b j (nat_lt j n) (ap areas (eqb-true b a e) ∙ new) refl
+      split b j true e = here b j (nat_lt j n) (ap areas (eqb-true b a e) ∙ closed_before) refl
       split b j false e = old b j (block_at (areas b) j) refl
 
       at : (q : Key) → contents_of places (changed ◌==◌ areas a (Some (Filed first n))) (files ++ made) q ≡ with_file a n byte (contents_of places areas files) q
       at (Private p v) = refl
       at (Shared b j) = split b.0 j (b.0 == a) refl
 
-  pub blocks_with_file : blocks_of after ≡ with_blocks a n first (blocks_of areas)
+  blocks_with_file : blocks_of after ≡ with_blocks a n first (blocks_of areas)
   blocks_with_file = ap blocks_of is ∙ (λ t. λ (q : Key). (at q) t)
     where
       here : (b j : ℕ) (t : Bool) → areas b ≡ None → (if t then Some (first + j) else None) ≡ (if t then Some (first + j) else block_at (areas b) j)
-      here b j true none = refl
-      here b j false none = ap (λ o. block_at o j) (sym none)
+      here b j true gone = refl
+      here b j false gone = ap (λ o. block_at o j) (sym gone)
 
       split : (b j : ℕ) (t : Bool) → (b == a) ≡ t → block_at (if t then Some (Filed first n) else areas b) j ≡ (if t && nat_lt j n then Some (first + j) else block_at (areas b) j)
-      split b j true e = here b j (nat_lt j n) (ap areas (eqb-true b a e) ∙ new)
+      split b j true e = here b j (nat_lt j n) (ap areas (eqb-true b a e) ∙ closed_before)
       split b j false e = refl
 
       at : (q : Key) → blocks_of (changed ◌==◌ areas a (Some (Filed first n))) q ≡ with_blocks a n first (blocks_of areas) q
       at (Private p v) = refl
       at (Shared b j) = split b.0 j (b.0 == a) refl
 
-  pub paging_with_file : (places : Place → Option Page) → paging_of places after ≡ paging_of places areas
-  paging_with_file places = paging_kept areas after a (Some (Filed first n)) is places (λ j. ap (λ o. is_some (page_at o j)) (sym new))
-
-  pub used_with_file : length all ≡ length files + n
+  used_with_file : length all ≡ length files + n
   used_with_file = ap length whole ∙ length-append files made ∙ ap (λ (k : ℕ). length files + k) filed.long
+
+  pub file_opened : (places : Place → Option Page) → ((b j block : ℕ) → block_at (areas b) j ≡ Some block → block < length files) → FileOpened places areas after a first n byte files all
+  file_opened places near = record {
+    contents = contents_with_file places near;
+    paging = paging_kept areas after a (Some (Filed first n)) is places (λ j. ap (λ o. page_at o j) (sym closed_before));
+    sizes = sizes_changed areas after a (Some (Filed first n)) is;
+    blocks = blocks_with_file;
+    used = used_with_file;
+  }
 
   -- where the block of a page is
   whose : (b j block : ℕ) → block_at (after b) j ≡ Some block → ((b ≡ a) × ((j < n) × (block ≡ first + j))) ⊎ (block_at (areas b) j ≡ Some block)
@@ -143,7 +207,7 @@ module _ (areas after : ℕ → Option AreaPages) (a first n byte : ℕ) (files 
       go false h e = inr e
 
   pub files_fit_made : (blocks stored : List Page) (count : ℕ) → FilesFit areas files blocks count → first + n ≤ count → Stored first n made blocks stored → FilesFit after all stored count
-  files_fit_made blocks stored count fit room put = record {
+  files_fit_made blocks stored count fit room laid = record {
     near = λ b j block e. elim (whose b j block e) [
       | inl own ↦ omega (arith, own.1.0, own.1.1, next, used_with_file)
       | inr old ↦ (let h = fit.near b j block old in omega (arith, h, used_with_file))
@@ -159,7 +223,7 @@ module _ (areas after : ℕ → Option AreaPages) (a first n byte : ℕ) (files 
       ]
     ];
     kept = λ b page e clean. kept b page (sym (ap (λ ps. slice_get ps b) whole) ∙ e) clean;
-    device = put.long ∙ fit.device;
+    device = laid.long ∙ fit.device;
     used = omega (arith, used_with_file, next, room);
     few = fit.few;
   }
@@ -169,11 +233,11 @@ module _ (areas after : ℕ → Option AreaPages) (a first n byte : ℕ) (files 
           let there : slice_get made i ≡ Some page = sym (get_behind files made i) ∙ ap (λ (k : ℕ). slice_get (files ++ made) k) (sym at) ∙ e in
           let near : i < n = omega (arith, get_within made i page there, filed.long) in
           let same : b ≡ first + i = omega (arith, at, next) in
-          ap (λ (k : ℕ). slice_get stored k) same ∙ put.done i page near there
+          ap (λ (k : ℕ). slice_get stored k) same ∙ laid.done i page near there
 
       kept : (b : ℕ) (page : FilePage) → slice_get (files ++ made) b ≡ Some page → page.changed ≡ false → slice_get stored b ≡ Some page.page
       kept b page e clean = elim (cases_lt b (length files)) [
-        | inl low ↦ put.others b (inl (omega (arith, low, next))) ∙ fit.kept b page (sym (get_before files made b low) ∙ e) clean
+        | inl low ↦ laid.others b (inl (omega (arith, low, next))) ∙ fit.kept b page (sym (get_before files made b low) ∙ e) clean
         | inr high ↦ behind b page (b - length files) (omega (arith, high)) e
       ]
 
@@ -216,11 +280,3 @@ blocks_new areas (Shared a i) closed = ap (λ f. block_at (f a.0) i) closed
 pub on_ok : {T E P Q : Type 0} (result : Result T E) → (P → Q) → OnOk result P → OnOk result Q
 on_ok (Ok x) f p = f p
 on_ok (Err e) f p = p
-
-pub either : {T E P Q R : Type 0} (result : Result T E) → (P → R) → (Q → R) → OnOk result P → OnErr result Q → R
-either (Ok x) f h p q = f p
-either (Err e) f h p q = h q
-
--- the block of a key is one
-pub only_block : (areas : ℕ → Option AreaPages) (k : Key) (a : Area) (i block other : ℕ) → k ≡ Shared a i → block_at (areas a.0) i ≡ Some block → blocks_of areas k ≡ Some other → other ≡ block
-only_block areas k a i block other is there at = let same : Some other ≡ Some block = sym at ∙ ap (blocks_of areas) is ∙ there in cc

@@ -4,7 +4,7 @@ use Rattle.mm_types.specs.declared.devices.Direction.TheVariants as way
 use Rattle.mm_world.specs.{Tally, Page, filled}
 use Rattle.mm_blocks.specs.{DeviceOf, Call, AllServed}
 use Rattle.mm_pages.specs.{tallied}
-use Rattle.mm_plain.specs.declared.file_pages.FilePage.{FilePage}
+use Rattle.mm_plain.specs.declared.files.FilePage.{FilePage}
 
 -- a page of which each byte is this one, as its block has it
 abbrev pub made_page : ℕ → FilePage

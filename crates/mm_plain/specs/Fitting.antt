@@ -4,7 +4,7 @@ use Rattle.mm_types.specs.{Place, end_of_user_pages}
 use Rattle.mm_world.specs.{Page}
 use Rattle.mm_plain.specs.declared.areas.AreaPages.{AreaPages}
 use Rattle.mm_plain.specs.declared.areas.Areas.{Areas}
-use Rattle.mm_plain.specs.declared.file_pages.FilePage.{FilePage}
+use Rattle.mm_plain.specs.declared.files.FilePage.{FilePage}
 use Rattle.mm_plain.specs.declared.places.Places.{Places}
 use Rattle.mm_plain.specs.Areas.{block_at, count_in}
 use Rattle.mm_plain.specs.Places.{bound_in, pages_in}

@@ -1,5 +1,4 @@
 pub mod Stocks
-pub mod Processes
 pub mod Places
 pub mod Areas
 pub mod Files
@@ -7,8 +6,8 @@ pub mod Shown
 pub mod Fitting
 pub mod Plain
 pub use Stocks.{StockOf}
-pub use Places.{bound_in, named_by, names_in, no_page, no_place, page_count, pages_at, pages_in}
-pub use Places.{place_eq}
+pub use Places.{bound_in, named_by, names_in, no_page, no_place, page_count, pages_at, pages_from}
+pub use Places.{pages_in, place_eq}
 pub use Areas.{area_in, block_at, count_in, count_of, no_area, one_if_live, page_at, pages_of}
 pub use Areas.{size_of}
 pub use Files.{IsMade, Stored, Wrote, made_page, page_in}
@@ -17,5 +16,5 @@ pub use Shown.{whereabouts_of}
 pub use Fitting.{FilesFit, Fits}
 pub use Plain.{contents_in, store_in}
 pub use declared.areas.AreaPages.{AreaPages}
-pub use declared.file_pages.FilePage.{FilePage}
+pub use declared.files.FilePage.{FilePage}
 pub use declared.places.BoundPlace.{BoundPlace}

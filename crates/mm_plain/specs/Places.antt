@@ -2,7 +2,7 @@
 use Rattle.std.specs.Prelude.{ℕ, Bool, false, if◌then◌else◌, is_some, Option, Some, None}
 use Rattle.std.specs.List.{sum_by}
 use Rattle.std.specs.HashMap.{get, values}
-use Rattle.mm_types.specs.{Key, Place}
+use Rattle.mm_types.specs.{Key, Place, Range}
 use Rattle.mm_types.specs.contracts.numbers.PlacePartialEq.TheImpl as place_equality
 use Rattle.mm_world.specs.{Page}
 use Rattle.mm_plain.specs.declared.places.BoundPlace.{BoundPlace}
@@ -37,6 +37,10 @@ page_count place = if is_some place.page then 1 else 0
 
 abbrev pub pages_in : Places → ℕ
 pages_in places = sum_by page_count (values places.map)
+
+-- this many pages, from one on
+abbrev pub pages_from : ℕ → ℕ → Range
+pages_from first count = record { first = first; count = count }
 
 abbrev pub no_place : Place → Bool
 no_place _ = false

@@ -1,5 +1,5 @@
 -- What an unpaged store shows, out of what it holds.
-use Rattle.std.specs.Prelude.{◌+◌, length, Option}
+use Rattle.std.specs.Prelude.{◌+◌, ℕ, Bool, false, List, length, Option, slice_index_or}
 use Rattle.mm_types.specs.{Key}
 use Rattle.mm_blocks.specs.declared.Inject.{Ghosts as DeviceGhosts}
 use Rattle.mm_world.specs.{Page}
@@ -8,8 +8,11 @@ use Rattle.mm_pages.specs.{StoreOf}
 use Rattle.mm_plain.specs.declared.plain.Plain.{Plain}
 use Rattle.mm_plain.specs.Areas.{area_in, count_in}
 use Rattle.mm_plain.specs.Places.{bound_in, names_in, pages_at, pages_in}
-use Rattle.mm_plain.specs.Processes.{is_open_in}
 use Rattle.mm_plain.specs.Shown.{contents_of, paging_of, blocks_of, sizes_of, ready_at, unpaged_report}
+
+-- which processes are open, by pid
+abbrev pub is_open_in : List Bool → ℕ → Bool
+is_open_in processes pid = slice_index_or processes pid false
 
 module _ {F : Type 0} {d : DeviceGhosts F} where
   abbrev pub contents_in : Plain F d → Key → Option Page

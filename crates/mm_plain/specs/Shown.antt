@@ -8,7 +8,7 @@ use Rattle.mm_world.specs.Report.{Report}
 use Rattle.mm_pages.specs.{need_for, no_calls, Ready}
 use Rattle.mm_plain.specs.declared.plain.Wanted.{Wanted}
 use Rattle.mm_plain.specs.declared.areas.AreaPages.{AreaPages}
-use Rattle.mm_plain.specs.declared.file_pages.FilePage.{FilePage}
+use Rattle.mm_plain.specs.declared.files.FilePage.{FilePage}
 use Rattle.mm_plain.specs.Areas.{size_of, page_at, block_at}
 use Rattle.mm_plain.specs.Files.{page_of}
 

@@ -1,7 +1,7 @@
 ghost use Rattle.std.specs.Prelude.{◌≡◌, ◌+◌, ◌-◌, ◌<◌, ◌≤◌, ◌^◌, ◌==◌, ℕ, Some, None, IsSome, OnOk, OnErr, length, replicate, slice_set, unwrap_or, vec_len};
 ghost use Rattle.mm_world.specs.{filled, written};
 ghost use Rattle.mm_pages.specs.{changed};
-ghost use Rattle.mm_plain.specs.declared.areas.AreaPages.TheVariants.{Paged, Filed};
+ghost use Rattle.mm_plain.specs.declared.areas.AreaPages.TheVariants.{Paged};
 
 use crate::boxes::PageBox;
 use crate::segments::Segment;
@@ -43,25 +43,14 @@ fn file_block(area: &Option<AreaPages>, index: u32) -> Option<u32>
     }
 }
 
-/// A page of a page-file section comes to be.
-fn put_page(area: &mut Option<AreaPages>, index: u32, page: PageBox)
+/// Another page of a page-file section stands at an index, or none; the one that stood there.
+fn replace_page(area: &mut Option<AreaPages>, index: u32, page: Option<PageBox>) -> Option<PageBox>
     requires { index < length (pages_of area.old) }
-    ensures { area.new ≡ Some (Paged (slice_set (pages_of area.old) index (Some page))) }
+    ensures page { result ≡ page_at area.old index }
+    ensures area { area.new ≡ Some (Paged (slice_set (pages_of area.old) index page)) }
 {
     match area {
-        Some(AreaPages::Paged(segment)) => segment.put(index, page),
-        _ => unreachable!(),
-    }
-}
-
-/// A live page of a page-file section is no more; its box.
-fn take_page(area: &mut Option<AreaPages>, index: u32) -> PageBox
-    requires { IsSome (page_at area.old index) }
-    ensures page { page_at area.old index ≡ Some result }
-    ensures area { area.new ≡ Some (Paged (slice_set (pages_of area.old) index None)) }
-{
-    match area {
-        Some(AreaPages::Paged(segment)) => segment.take(index),
+        Some(AreaPages::Paged(segment)) => segment.replace(index, page),
         _ => unreachable!(),
     }
 }
@@ -81,7 +70,7 @@ fn write_page(area: &mut Option<AreaPages>, index: u32, off: u16, bytes: &[u8])
 }
 
 impl Areas {
-    ghost use Rattle.mm_plain.specs.Areas.{area_in, no_area, size_of, count_of, count_in};
+    ghost use Rattle.mm_plain.specs.Areas.{area_in, no_area, size_of, count_of, count_in, one_if_live};
 
     /// No area is open.
     pub(crate) fn new(alloc: Global) -> Areas
@@ -106,8 +95,8 @@ impl Areas {
         Ok(())
     }
 
-    /// An area that is not open, and for which there is a place, has these pages from now on.
-    fn set(&mut self, area: Area, pages: Option<AreaPages>)
+    /// An area for which there is a place has these pages from now on.
+    pub(crate) fn set(&mut self, area: Area, pages: Option<AreaPages>)
         requires place { area.0 < vec_len self.old.areas }
         ensures areas { area_in self.new ≡ changed ◌==◌ (area_in self.old) area.0 pages }
         ensures count { count_in self.new + count_of (area_in self.old area.0) ≡
@@ -131,18 +120,6 @@ impl Areas {
         self.make_place(area)?;
         self.set(area, Some(AreaPages::Paged(pages)));
         Ok(())
-    }
-
-    /// Opens an area of the `n` pages of a file, in the blocks from `first` on. There is a place
-    /// for it.
-    pub(crate) fn open_file(&mut self, area: Area, first: u32, n: u32)
-        requires place { area.0 < vec_len self.old.areas }
-        requires new { area_in self.old area.0 ≡ None }
-        ensures areas { area_in self.new ≡ changed ◌==◌ (area_in self.old) area.0
-            (Some (Filed first n)) }
-        ensures count { count_in self.new ≡ count_in self.old }
-    {
-        self.set(area, Some(AreaPages::Filed(first, n)));
     }
 
     /// Closes an area of which no page is live.
@@ -178,25 +155,22 @@ impl Areas {
         }
     }
 
-    /// A page of a page-file section comes to be.
-    pub(crate) fn put(&mut self, area: Area, index: u32, page: PageBox)
-        requires place { index < length (pages_of (area_in self.old area.0)) }
-        requires dead { page_at (area_in self.old area.0) index ≡ None }
+    /// Another page of a page-file section stands at an index from now on, or none; the one that
+    /// stood there.
+    pub(crate) fn replace(
+        &mut self,
+        area: Area,
+        index: u32,
+        page: Option<PageBox>,
+    ) -> Option<PageBox>
+        requires { index < length (pages_of (area_in self.old area.0)) }
+        ensures page { result ≡ page_at (area_in self.old area.0) index }
         ensures areas { area_in self.new ≡ changed ◌==◌ (area_in self.old) area.0
-            (Some (Paged (slice_set (pages_of (area_in self.old area.0)) index (Some page)))) }
-        ensures count { count_in self.new ≡ count_in self.old + 1 }
+            (Some (Paged (slice_set (pages_of (area_in self.old area.0)) index page))) }
+        ensures count { count_in self.new + one_if_live result ≡
+            count_in self.old + one_if_live page }
     {
-        put_page(&mut self.areas[area.0 as usize], index, page);
-    }
-
-    /// A live page of a page-file section is no more; its box.
-    pub(crate) fn take(&mut self, area: Area, index: u32) -> PageBox
-        requires { IsSome (page_at (area_in self.old area.0) index) }
-        ensures areas { area_in self.new ≡ changed ◌==◌ (area_in self.old) area.0
-            (Some (Paged (slice_set (pages_of (area_in self.old area.0)) index None))) }
-        ensures count { count_in self.new + 1 ≡ count_in self.old }
-    {
-        take_page(&mut self.areas[area.0 as usize], index)
+        replace_page(&mut self.areas[area.0 as usize], index, page)
     }
 
     /// Writes bytes from `off` on into a live page of a page-file section.

@@ -19,24 +19,6 @@ impl Model for PageBox {
     ghost view = { λ p. p.bytes.value };
 }
 
-/// Writes the bytes from a place on.
-fn put_bytes(bytes: &mut [u8], at: usize, new: &[u8])
-    requires { at + length new.now ≤ length bytes.old }
-    ensures { bytes.new ≡ written bytes.old at new.now }
-{
-    let end = at + new.len();
-    bytes[at..end].copy_from_slice(new);
-}
-
-/// Reads bytes from a place on.
-fn get_bytes(bytes: &[u8], at: usize, out: &mut [u8])
-    requires { at + length out.old ≤ length bytes.now }
-    ensures { out.new ≡ take (length out.old) (drop at bytes.now) }
-{
-    let end = at + out.len();
-    out.copy_from_slice(&bytes[at..end]);
-}
-
 impl PageBox {
     /// A page of which each byte is this one.
     #[tactic(auto, unfolding(mm_world::specs::World::filled))]
@@ -74,7 +56,9 @@ impl PageBox {
         requires { off + length out.old ≤ 4096 }
         ensures { out.new ≡ take (length out.old) (drop off self.now) }
     {
-        get_bytes(&*self.bytes, off as usize, out);
+        let at = off as usize;
+        let end = at + out.len();
+        out.copy_from_slice(&self.bytes[at..end]);
     }
 
     /// Writes bytes from `off` on.
@@ -82,6 +66,8 @@ impl PageBox {
         requires { off + length bytes.now ≤ 4096 }
         ensures { self.new ≡ written self.old off bytes.now }
     {
-        put_bytes(&mut *self.bytes, off as usize, bytes);
+        let at = off as usize;
+        let end = at + bytes.len();
+        self.bytes[at..end].copy_from_slice(bytes);
     }
 }

@@ -7,12 +7,10 @@
 
 mod areas;
 mod boxes;
-mod file_pages;
+mod files;
 mod places;
 mod plain;
-mod processes;
 mod segments;
 mod stock;
-mod writes;
 
 pub use plain::Plain;

@@ -22,32 +22,8 @@ pub(crate) struct Places {
     map: HashMap<Place, BoundPlace>,
 }
 
-/// Writes bytes from `off` on into the page of a place.
-fn write_page(place: &mut BoundPlace, off: u16, bytes: &[u8])
-    requires live { IsSome place.old.page }
-    requires inside { off + length bytes.now ≤ 4096 }
-    ensures { place.new ≡ record {
-      named = place.old.named;
-      page = Some (written (unwrap_or place.old.page (filled 0)) off bytes.now);
-    } }
-{
-    let Some(page) = &mut place.page else {
-        unreachable!()
-    };
-    page.write(off, bytes);
-}
-
-/// Takes the page of a place, which then names nothing.
-fn take_page(place: &mut BoundPlace) -> Option<PageBox>
-    ensures page { result ≡ place.old.page }
-    ensures place { place.new ≡ record { named = None; page = None } }
-{
-    place.named = None;
-    place.page.take()
-}
-
 impl Places {
-    ghost use Rattle.mm_plain.specs.Places.{bound_in, names_in, pages_at, pages_in, no_place, no_name, no_page};
+    ghost use Rattle.mm_plain.specs.Places.{bound_in, names_in, pages_at, pages_in, no_place, no_name, no_page, pages_from};
 
     /// No place is bound.
     pub(crate) fn new(alloc: Global) -> Places
@@ -105,21 +81,15 @@ impl Places {
 
     /// Binds `n` places of a process from page `first` on; they name nothing. After `NoMemory`
     /// nothing has changed.
-    #[tactic(auto, using(crate::proofs::Ranges::paging))]
+    #[tactic(auto, using(crate::proofs::BoundPlaces::paging))]
     pub(crate) fn bind_all(&mut self, pid: Pid, first: Vpn, n: u32) -> Result<(), NoMemory>
         requires inside { first.0 + n ≤ 2 ^ 32 }
-        requires unbound { (page : ℕ) → holds_page (record {
-          first = first.0;
-          count = n;
-        }) page ≡ true → bound_in self.old (place_at pid page) ≡ false }
-        ensures bound { OnOk result (bound_in self.new ≡ changed_in pid (record {
-          first = first.0;
-          count = n;
-        }) (bound_in self.old) true) }
-        ensures names { OnOk result (names_in self.new ≡ changed_in pid (record {
-          first = first.0;
-          count = n;
-        }) (names_in self.old) None) }
+        requires unbound { (page : ℕ) → holds_page (pages_from first.0 n) page ≡ true →
+            bound_in self.old (place_at pid page) ≡ false }
+        ensures bound { OnOk result
+            (bound_in self.new ≡ changed_in pid (pages_from first.0 n) (bound_in self.old) true) }
+        ensures names { OnOk result
+            (names_in self.new ≡ changed_in pid (pages_from first.0 n) (names_in self.old) None) }
         ensures still_bound { OnErr result (bound_in self.new ≡ bound_in self.old) }
         ensures same_names { OnErr result (names_in self.new ≡ names_in self.old) }
         ensures pages { pages_at self.new ≡ pages_at self.old }
@@ -136,19 +106,15 @@ impl Places {
     }
 
     /// Gives up `n` places of a process from page `first` on that have no page.
-    #[tactic(auto, using(crate::proofs::Ranges::paging))]
+    #[tactic(auto, using(crate::proofs::BoundPlaces::paging))]
     pub(crate) fn unbind_all(&mut self, pid: Pid, first: Vpn, n: u32)
         requires inside { first.0 + n ≤ 2 ^ 32 }
         requires dead { (page : ℕ) → first.0 ≤ page → page < first.0 + n →
             pages_at self.old (place_at pid page) ≡ None }
-        ensures bound { bound_in self.new ≡ changed_in pid (record {
-          first = first.0;
-          count = n;
-        }) (bound_in self.old) false }
-        ensures names { names_in self.new ≡ changed_in pid (record {
-          first = first.0;
-          count = n;
-        }) (names_in self.old) None }
+        ensures bound { bound_in self.new
+            ≡ changed_in pid (pages_from first.0 n) (bound_in self.old) false }
+        ensures names { names_in self.new
+            ≡ changed_in pid (pages_from first.0 n) (names_in self.old) None }
         ensures pages { pages_at self.new ≡ pages_at self.old }
         ensures count { pages_in self.new ≡ pages_in self.old }
     {
@@ -202,7 +168,8 @@ impl Places {
         let Some(here) = self.map.get_mut(&place) else {
             unreachable!()
         };
-        let Some(page) = take_page(here) else {
+        here.named = None;
+        let Some(page) = here.page.take() else {
             unreachable!()
         };
         page
@@ -235,6 +202,9 @@ impl Places {
         let Some(here) = self.map.get_mut(&place) else {
             unreachable!()
         };
-        write_page(here, off, bytes);
+        let Some(page) = &mut here.page else {
+            unreachable!()
+        };
+        page.write(off, bytes);
     }
 }

@@ -1,21 +1,19 @@
 ghost use Rattle.std.specs.Prelude.{◌≡◌, ◌+◌, ◌≤◌, ◌<◌, ◌^◌, ℕ, [], true, false, None, Some, IsOk, IsSome, IfOk, IfErr, OnOk, length, unwrap_or, vec_len, vec_capacity};
-ghost use Rattle.mm_types.specs.declared.numbers.Key.TheVariants.{Private, Shared};
 ghost use Rattle.mm_types.specs.{IsMachine};
 ghost use Rattle.mm_world.specs.{filled, written, same_key};
 ghost use Rattle.mm_pages.specs.{IsNew, pid_after, nothing_behind, begun, changed, same_place};
 ghost use Rattle.mm_blocks.specs.{no_device};
-ghost use Rattle.mm_plain.specs.Areas.{area_in, block_at, page_at, count_in};
+ghost use Rattle.mm_plain.specs.Areas.{area_in, block_at, count_in};
 ghost use Rattle.mm_plain.specs.Files.{IsMade};
 ghost use Rattle.mm_plain.specs.Fitting.{Fits, FilesFit};
-ghost use Rattle.mm_plain.specs.Shown.{shared_page};
+ghost use Rattle.mm_plain.specs.Places.{pages_at};
+ghost use Rattle.mm_plain.specs.Shown.{contents_of};
 
-use crate::areas::Areas;
+use crate::areas::{AreaPages, Areas};
 use crate::boxes::PageBox;
-use crate::file_pages::FilePages;
+use crate::files::{FilePages, Writes, write_block, write_file};
 use crate::places::Places;
-use crate::processes::Processes;
 use crate::stock::Stock;
-use crate::writes::{Writes, write_block, write_file};
 use mm_blocks::Inject;
 use mm_pages::{Done, Need, Pages, Start};
 use mm_types::{
@@ -43,7 +41,8 @@ pub struct Plain<F: Inject> {
     areas: Areas,
     file_pages: FilePages,
     stock: Stock,
-    processes: Processes,
+    // Which processes are open, by pid.
+    processes: [bool; 256],
     files: F,
     writes: Writes,
     ready: Option<Wanted>,
@@ -68,19 +67,22 @@ fn pid_after(last: u8, kind: LineKind) -> u8
     }
 }
 
-/// The page of a live key of an area.
-fn shared_page<'a>(areas: &'a Areas, files: &'a FilePages, area: Area, index: u32) -> &'a PageBox
-    requires near { (block : ℕ) → block_at (area_in areas.now area.0) index ≡ Some block →
+/// The page of a live key.
+fn page_of<'a>(places: &'a Places, areas: &'a Areas, files: &'a FilePages, key: Key) -> &'a PageBox
+    requires near { (area index block : ℕ) → block_at (area_in areas.now area) index ≡ Some block →
         block < length files.now.pages.items }
     requires few { length files.now.pages.items < 2 ^ 32 }
-    requires live { IsSome (shared_page files.now.pages.items
-        (block_at (area_in areas.now area.0) index) (page_at (area_in areas.now area.0) index)) }
-    ensures { shared_page files.now.pages.items (block_at (area_in areas.now area.0) index)
-        (page_at (area_in areas.now area.0) index) ≡ Some result.now }
+    requires live { IsSome (contents_of (pages_at places.now) (area_in areas.now)
+        files.now.pages.items key) }
+    ensures { contents_of (pages_at places.now) (area_in areas.now) files.now.pages.items key
+        ≡ Some result.now }
 {
-    match areas.block(area, index) {
-        Some(block) => files.page(block),
-        None => areas.page(area, index),
+    match key {
+        Key::Private(pid, vpn) => places.page(Place { pid, vpn }),
+        Key::Shared(area, index) => match areas.block(area, index) {
+            Some(block) => files.page(block),
+            None => areas.page(area, index),
+        },
     }
 }
 
@@ -131,7 +133,7 @@ impl<F: Inject> Plain<F> {
             areas: Areas::new(alloc),
             file_pages: FilePages::new(alloc),
             stock: Stock::new(alloc),
-            processes: Processes::new(),
+            processes: [false; 256],
             files,
             writes: Writes::none(),
             ready: None,
@@ -167,34 +169,6 @@ impl<F: Inject> Plain<F> {
         self.writes = Writes::none();
     }
 
-    /// The page of a live key.
-    fn page(&self, key: Key) -> &PageBox
-        requires { IsSome (contents_in self.now key) }
-        ensures { contents_in self.now key ≡ Some result.now }
-    {
-        match key {
-            Key::Private(pid, vpn) => self.places.page(Place { pid, vpn }),
-            Key::Shared(area, index) => shared_page(&self.areas, &self.file_pages, area, index),
-        }
-    }
-
-    /// Writes bytes from `off` on into the page of a live key of an area.
-    fn write_shared(&mut self, area: Area, index: u32, off: u16, bytes: &[u8])
-        requires live { IsSome (contents_in self.old (Shared area index)) }
-        requires inside { off + length bytes.now ≤ 4096 }
-        ensures contents { contents_in self.new ≡ changed same_key (contents_in self.old)
-            (Shared area index)
-            (Some (written (unwrap_or (contents_in self.old (Shared area index)) (filled 0)) off
-            bytes.now)) }
-        ensures store { store_in self.new ≡ store_in self.old }
-        ensures files { self.new.files ≡ self.old.files }
-    {
-        match self.areas.block(area, index) {
-            Some(block) => self.file_pages.write(block, off, bytes),
-            None => self.areas.write(area, index, off, bytes),
-        }
-    }
-
     /// Writes bytes from `off` on into the page of a live key.
     fn write_page(&mut self, key: Key, off: u16, bytes: &[u8])
         requires live { IsSome (contents_in self.old key) }
@@ -205,8 +179,11 @@ impl<F: Inject> Plain<F> {
         ensures files { self.new.files ≡ self.old.files }
     {
         match key {
-            Key::Private(pid, vpn) => self.write_private(pid, vpn, off, bytes),
-            Key::Shared(area, index) => self.write_shared(area, index, off, bytes),
+            Key::Private(pid, vpn) => self.places.write(Place { pid, vpn }, off, bytes),
+            Key::Shared(area, index) => match self.areas.block(area, index) {
+                Some(block) => self.file_pages.write(block, off, bytes),
+                None => self.areas.write(area, index, off, bytes),
+            },
         }
     }
 
@@ -220,20 +197,6 @@ impl<F: Inject> Plain<F> {
         ensures files { self.new.files ≡ self.old.files }
     {
         self.places.name(place, key);
-    }
-
-    /// Writes bytes from `off` on into the page of a live private key.
-    fn write_private(&mut self, pid: Pid, vpn: Vpn, off: u16, bytes: &[u8])
-        requires live { IsSome (contents_in self.old (Private pid vpn)) }
-        requires inside { off + length bytes.now ≤ 4096 }
-        ensures contents { contents_in self.new ≡ changed same_key (contents_in self.old)
-            (Private pid vpn)
-            (Some (written (unwrap_or (contents_in self.old (Private pid vpn)) (filled 0)) off
-            bytes.now)) }
-        ensures store { store_in self.new ≡ store_in self.old }
-        ensures files { self.new.files ≡ self.old.files }
-    {
-        self.places.write(Place { pid, vpn }, off, bytes);
     }
 }
 
@@ -253,12 +216,12 @@ impl<F: Inject> Pages for Plain<F> {
     fn sound(&self) {}
 
     fn open_process(&mut self, pid: Pid, _min: u32, _max: u32) -> Result<(), NoMemory> {
-        self.processes.set(pid, true);
+        self.processes[pid.0 as usize] = true;
         Ok(())
     }
 
     fn close_process(&mut self, pid: Pid) {
-        self.processes.set(pid, false);
+        self.processes[pid.0 as usize] = false;
     }
 
     fn bind(&mut self, pid: Pid, first: Vpn, n: u32) -> Result<(), NoMemory> {
@@ -296,7 +259,7 @@ impl<F: Inject> Pages for Plain<F> {
             return Err(MakeFault::Write);
         };
         self.file_pages.append(made);
-        self.areas.open_file(area, first.0, n);
+        self.areas.set(area, Some(AreaPages::Filed(first.0, n)));
         Ok(())
     }
 
@@ -304,7 +267,9 @@ impl<F: Inject> Pages for Plain<F> {
         let page = self.stock.take();
         match key {
             Key::Private(pid, vpn) => self.places.put(Place { pid, vpn }, page),
-            Key::Shared(area, index) => self.areas.put(area, index, page),
+            Key::Shared(area, index) => {
+                let _ = self.areas.replace(area, index, Some(page));
+            }
         }
     }
 
@@ -315,14 +280,16 @@ impl<F: Inject> Pages for Plain<F> {
                 self.stock.put(page);
             }
             Key::Shared(area, index) => {
-                let page = self.areas.take(area, index);
+                let Some(page) = self.areas.replace(area, index, None) else {
+                    unreachable!()
+                };
                 self.stock.put(page);
             }
         }
     }
 
     fn read(&mut self, place: Place, key: Key, off: u16, out: &mut [u8]) -> Result<(), PageFault> {
-        self.page(key).read(off, out);
+        page_of(&self.places, &self.areas, &self.file_pages, key).read(off, out);
         self.name_place(place, key);
         Ok(())
     }
@@ -334,18 +301,15 @@ impl<F: Inject> Pages for Plain<F> {
     }
 
     fn copy(&mut self, place: Place, from: Key, to: Key) -> Result<(), PageFault> {
-        let Key::Shared(area, index) = from else {
-            unreachable!()
-        };
         let mut page = self.stock.take();
-        page.copy_from(shared_page(&self.areas, &self.file_pages, area, index));
-        self.places.put(place, page);
-        self.places.name(place, to);
+        page.copy_from(page_of(&self.places, &self.areas, &self.file_pages, from));
         self.ready = Some(Wanted {
             place,
             key: to,
             need: Need::Touch,
         });
+        self.places.put(place, page);
+        self.places.name(place, to);
         Ok(())
     }
 

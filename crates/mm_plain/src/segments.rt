@@ -5,6 +5,7 @@ use crate::boxes::PageBox;
 use mm_types::NoMemory;
 use std::alloc::Global;
 use std::marker::Model;
+use std::mem;
 
 /// The pages of a page-file section, by index. Each live one stands in a box.
 #[derive(Drop)]
@@ -20,54 +21,25 @@ impl Model for Segment {
     ghost view = { λ s. s.pages.items };
 }
 
-/// Writes bytes from `off` on into a page that is live.
-fn write_live(page: &mut Option<PageBox>, off: u16, bytes: &[u8])
-    requires live { IsSome page.old }
-    requires inside { off + length bytes.now ≤ 4096 }
-    ensures { page.new ≡ Some (written (unwrap_or page.old (filled 0)) off bytes.now) }
-{
-    let Some(page) = page else { unreachable!() };
-    page.write(off, bytes);
-}
-
-/// Puts `n` pages that are not live at the end. There is room for them.
-fn push_none(pages: &mut Vec<Option<PageBox>>, n: u32) -> Result<(), NoMemory>
-    ensures { OnOk result (pages.new.items ≡ pages.old.items ++ replicate n None) }
-{
-    for _ in 0..n {
-        pages.push(None)?;
-    }
-    Ok(())
-}
-
 impl Segment {
     /// A segment of `n` pages, of which none is live.
     pub(crate) fn new(alloc: Global, n: u32) -> Result<Segment, NoMemory>
         ensures { IfOk result (λ s. s ≡ replicate n None) }
     {
         let mut pages = Vec::with_capacity(alloc, n as usize)?;
-        push_none(&mut pages, n)?;
+        for _ in 0..n {
+            pages.push(None)?;
+        }
         Ok(Segment { pages })
     }
 
-    /// A page comes to be.
-    pub(crate) fn put(&mut self, index: u32, page: PageBox)
+    /// Another page stands at an index from now on, or none; the one that stood there.
+    pub(crate) fn replace(&mut self, index: u32, page: Option<PageBox>) -> Option<PageBox>
         requires { index < length self.old }
-        ensures { self.new ≡ slice_set self.old index (Some page) }
+        ensures page { result ≡ slice_index_or self.old index None }
+        ensures pages { self.new ≡ slice_set self.old index page }
     {
-        self.pages[index as usize] = Some(page);
-    }
-
-    /// A live page is no more; its box.
-    pub(crate) fn take(&mut self, index: u32) -> PageBox
-        requires { IsSome (slice_index_or self.old index None) }
-        ensures page { slice_index_or self.old index None ≡ Some result }
-        ensures pages { self.new ≡ slice_set self.old index None }
-    {
-        let Some(page) = self.pages[index as usize].take() else {
-            unreachable!()
-        };
-        page
+        mem::replace(&mut self.pages[index as usize], page)
     }
 
     /// A live page.
@@ -89,6 +61,9 @@ impl Segment {
             (Some (written (unwrap_or (slice_index_or self.old index None) (filled 0)) off
             bytes.now)) }
     {
-        write_live(&mut self.pages[index as usize], off, bytes);
+        let Some(page) = &mut self.pages[index as usize] else {
+            unreachable!()
+        };
+        page.write(off, bytes);
     }
 }

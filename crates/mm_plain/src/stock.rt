@@ -1,4 +1,4 @@
-ghost use Rattle.std.specs.Prelude.{◌≡◌, ◌+◌, ◌-◌, ◌<◌, ◌≤◌, IsOk, OnOk};
+ghost use Rattle.std.specs.Prelude.{◌≡◌, ◌+◌, ◌<◌, ◌≤◌, IsOk, OnOk};
 ghost use Rattle.mm_world.specs.{filled};
 ghost use Rattle.mm_plain.specs.Stocks.{StockOf};
 
@@ -65,7 +65,8 @@ impl Stock {
     pub(crate) fn take(&mut self) -> PageBox
         requires { 0 < self.old.boxes }
         ensures page { result ≡ filled 0 }
-        ensures stock { self.new ≡ record self.old { boxes = self.old.boxes - 1 } }
+        ensures boxes { self.new.boxes + 1 ≡ self.old.boxes }
+        ensures room { self.new.room ≡ self.old.room }
     {
         let Some(mut page) = self.boxes.pop() else {
             unreachable!()
@@ -77,7 +78,8 @@ impl Stock {
     /// Puts back the box of a page that is no more.
     pub(crate) fn put(&mut self, page: PageBox)
         requires { self.old.boxes < self.old.room }
-        ensures { self.new ≡ record self.old { boxes = self.old.boxes + 1 } }
+        ensures boxes { self.new.boxes ≡ self.old.boxes + 1 }
+        ensures room { self.new.room ≡ self.old.room }
     {
         let Ok(()) = self.boxes.push(page) else {
             unreachable!()

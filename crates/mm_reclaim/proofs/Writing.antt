@@ -1,6 +1,6 @@
 -- Writes of modified frames begin, of those that can be written, in the order of their list.
-use Rattle.std.proofs.Common.{◌≡◌, ◌≢◌, ℕ, zero, suc, ◌+◌, ◌-◌, Bool, true, false, cond, List, [], ◌∷◌, ◌++◌, Some, None, refl, sym, ap, ◌∙◌, subst, arith}
-use Rattle.std.specs.Prelude.{◌==◌, ◌&&◌, ◌||◌, not, is_some, nat_lt, filter, slice_get, slice_set, count_by}
+use Rattle.std.proofs.Common.{◌≡◌, ◌≢◌, ℕ, zero, suc, ◌+◌, ◌-◌, Bool, true, false, cond, List, [], ◌∷◌, ◌++◌, Some, None, refl, sym, ap, ◌∙◌, subst, arith, zero-add}
+use Rattle.std.specs.Prelude.{◌==◌, ◌&&◌, ◌||◌, not, nat_lt, filter, slice_get, slice_set}
 use Rattle.std.specs.List.{list_any}
 use Rattle.std.specs.Cmp.{unsigned_Decides}
 use Rattle.std.proofs.lemmas.Bool.{or_left, or_right, lt-ltb}
@@ -13,17 +13,15 @@ use Rattle.mm_types.specs.declared.moves.Move.TheVariants as move
 use Rattle.mm_types.specs.declared.moves.Stored.TheVariants as stored
 use Rattle.mm_life.specs.{record_at, is_on, without, FrameLife, IsLegal, owner_is, is_writer, has_depth, after_move, can_be_written, frame_of}
 use Rattle.mm_life.specs.{lowest_free as lowest_from, target, writes_begun}
-use Rattle.mm_frames.specs.{has_block, modified_with_block}
-use Rattle.mm_laws.specs.{block_of, one_if, times}
-use Rattle.mm_laws.proofs.{reached_sound, modified_frame, without_none, without_append, without_self, free_counted, tally-append}
+use Rattle.mm_laws.specs.{one_if, times}
+use Rattle.mm_laws.proofs.{reached_sound, modified_frame, without_none, without_append, without_self, tally-append}
 use Rattle.mm_frame_laws.specs.{first_passing}
-use Rattle.mm_frame_laws.proofs.{which_writes, store_in_writer, write_others}
+use Rattle.mm_frame_laws.proofs.{on_append, store_in_writer, write_others}
 use Rattle.mm_parts.specs.{goes_to, lowest_free, write_target, own_after}
 use Rattle.mm_moving.specs.{StateOf, Made, moved, StateHolds}
-use Rattle.mm_reclaim.specs.{Rounds, writings}
+use Rattle.mm_reclaim.specs.{Rounds, writings, writable_modified}
 use Rattle.mm_reclaim.proofs.Targets.{target_is}
-use Rattle.mm_types.proofs.{or_false, and_false}
-use Rattle.mm_reclaim.proofs.Writables.{block_is}
+use Rattle.mm_types.proofs.{and_false}
 use Rattle.mm_reclaim.proofs.Trying.{kind_write}
 use Rattle.mm_world.proofs.{or-false}
 use Rattle.std.proofs.Props.{props}
@@ -51,48 +49,27 @@ split test (x ∷ xs) f e = at (test x) refl e (λ h. split test xs f h)
     at false t h later = let s = later h in record { before = x ∷ s.before; behind = s.behind; is = ap (λ (ys : List ℕ). x ∷ ys) s.is; over = (t, s.over); here = s.here }
 
 passing_on : (test : ℕ → Bool) (xs : List ℕ) (f : ℕ) → first_passing test xs ≡ Some f → is_on f xs ≡ true
-passing_on test [] f e = cc
-passing_on test (x ∷ xs) f e = at (test x) e (λ h. passing_on test xs f h)
-  where
-    at : (b : Bool) → cond b (Some x) (first_passing test xs) ≡ Some f → (first_passing test xs ≡ Some f → is_on f xs ≡ true) → ((x == f) || is_on f xs) ≡ true
-    at true h later = let same : x ≡ f = cc in or_left (x == f) (is_on f xs) ((unsigned_Decides x f).1 same)
-    at false h later = or_right (x == f) (is_on f xs) (later h)
+passing_on test xs f e =
+    let s = split test xs f e in
+    ap (is_on f) s.is ∙ on_append f s.before (f ∷ s.behind) ∙ or_right (is_on f s.before) (is_on f (f ∷ s.behind)) (or_left (f == f) (is_on f s.behind) ((unsigned_Decides f f).1 refl))
 
-first_any : (test : ℕ → Bool) (xs : List ℕ) → ((x : ℕ) → test x ≡ true) → first_passing test xs ≡ slice_get xs 0
-first_any test [] h = refl
-first_any test (x ∷ xs) h = ap (λ b. cond b (Some x) (first_passing test xs)) (h x)
-
-first_filtered : (test keep : ℕ → Bool) (xs : List ℕ) → ((x : ℕ) → is_on x xs ≡ true → test x ≡ keep x) → first_passing test xs ≡ slice_get (filter keep xs) 0
-first_filtered test keep [] h = refl
-first_filtered test keep (x ∷ xs) h =
-    ap (λ b. cond b (Some x) (first_passing test xs)) (h x (or_left (x == x) (is_on x xs) ((unsigned_Decides x x).1 refl)))
-    ∙ at (keep x) (first_filtered test keep xs (λ y e. h y (or_right (x == y) (is_on y xs) e)))
+first_filtered : (test : ℕ → Bool) (xs : List ℕ) → first_passing test xs ≡ slice_get (filter test xs) 0
+first_filtered test [] = refl
+first_filtered test (x ∷ xs) = at (test x) (first_filtered test xs)
   where
-    at : (b : Bool) → first_passing test xs ≡ slice_get (filter keep xs) 0 → cond b (Some x) (first_passing test xs) ≡ slice_get (cond b (x ∷ filter keep xs) (filter keep xs)) 0
+    at : (b : Bool) → first_passing test xs ≡ slice_get (filter test xs) 0 → cond b (Some x) (first_passing test xs) ≡ slice_get (cond b (x ∷ filter test xs) (filter test xs)) 0
     at true e = refl
     at false e = e
 
--- ---- the first that can be written
-
-any_free : (free : List Bool) (n : ℕ) → n ≡ count_by (λ b. b) free → n ≢ 0 → list_any (λ b. b) free ≡ true
-any_free free n e some = sym (free_counted free) ∙ ap (nat_lt 0) (sym e) ∙ lt-ltb 0 n (omega (arith, some))
-
-none_free : (free : List Bool) (n : ℕ) → n ≡ count_by (λ b. b) free → n ≡ 0 → list_any (λ b. b) free ≡ false
-none_free free n e none = sym (free_counted free) ∙ ap (nat_lt 0) (sym e ∙ none)
-
-pub first_of_all : (l : FrameLife) (n : ℕ) → n ≡ count_by (λ b. b) l.free_slots → n ≢ 0 → first_passing (can_be_written l) l.frames.modified ≡ slice_get l.frames.modified 0
-first_of_all l n e some = first_any (can_be_written l) l.frames.modified (λ x. or_right (owner_is (λ k. not (l.paging k)) (record_at l.frames x)) (list_any (λ b. b) l.free_slots) (any_free l.free_slots n e some))
-
-pub first_with_block : (s : StateOf) (n : ℕ) → StateHolds s → n ≡ count_by (λ b. b) s.life.free_slots → n ≡ 0 → first_passing (can_be_written s.life) s.life.frames.modified ≡ slice_get (modified_with_block s.life.frames) 0
-first_with_block s n h e none = first_filtered (can_be_written s.life) (λ f. has_block (record_at s.life.frames f).backing) s.life.frames.modified (λ x on.
-    ∥∥₁_elim h.reached (Bool-set _ _) (λ r. which_writes s.life (reached_sound s.life r) x on)
-    ∙ ap (λ b. is_some (block_of (record_at s.life.frames x).backing) || b) (none_free s.life.free_slots n e none)
-    ∙ or_false (is_some (block_of (record_at s.life.frames x).backing)) ∙ block_is (record_at s.life.frames x).backing)
+-- the first modified frame that can be written
+front_passes : (l : FrameLife) → first_passing (can_be_written l) l.frames.modified ≡ slice_get (writable_modified l) 0
+front_passes l = first_filtered (can_be_written l) l.frames.modified
 
 -- ---- where it is written to
 
-pub writer_legal : (s : StateOf) (f : Frame) → StateHolds s → s.life.kind ≡ kind.Writer → has_depth s.life ≡ true → first_passing (can_be_written s.life) s.life.frames.modified ≡ Some f.0 → IsLegal (move.Write f (write_target s.life f)) s.life
-writer_legal s f h k depth first =
+pub writer_legal : (s : StateOf) (f : Frame) → StateHolds s → s.life.kind ≡ kind.Writer → has_depth s.life ≡ true → slice_get (writable_modified s.life) 0 ≡ Some f.0 → IsLegal (move.Write f (write_target s.life f)) s.life
+writer_legal s f h k depth front =
+    let first = front_passes s.life ∙ front in
     let on = passing_on (can_be_written s.life) s.life.frames.modified f.0 first in
     let can = (split (can_be_written s.life) s.life.frames.modified f.0 first).here in
     ∥∥₁_elim h.reached (Bool-set _ _) (λ r.
@@ -102,14 +79,8 @@ writer_legal s f h k depth first =
 
 -- the lowest free slot, counted in two ways
 lowest_from_is : (free : List Bool) (n : ℕ) → lowest_from n free ≡ lowest_free free + n
-lowest_from_is [] n = none n
-  where
-    none : (n : ℕ) → n ≡ 0 + n
-    none n = omega arith
-lowest_from_is (true ∷ free) n = none n
-  where
-    none : (n : ℕ) → n ≡ 0 + n
-    none n = omega arith
+lowest_from_is [] n = sym (zero-add n)
+lowest_from_is (true ∷ free) n = sym (zero-add n)
 lowest_from_is (false ∷ free) n = let rest = lowest_from_is free (n + 1) in omega (arith, rest)
 
 lowest_same : (free : List Bool) → lowest_from 0 free ≡ lowest_free free
@@ -213,7 +184,10 @@ first_begun n l f fs depth can =
 
 -- ---- a round
 
-module _ (s z : StateOf) (f : Frame) (home : Stored) (h : StateHolds s) (depth : has_depth s.life ≡ true) (first : first_passing (can_be_written s.life) s.life.frames.modified ≡ Some f.0) (to : home ≡ write_target s.life f) (m : Made (move.Write f home) s z) where
+module _ (s z : StateOf) (f : Frame) (home : Stored) (h : StateHolds s) (depth : has_depth s.life ≡ true) (front : slice_get (writable_modified s.life) 0 ≡ Some f.0) (to : home ≡ write_target s.life f) (m : Made (move.Write f home) s z) where
+  first : first_passing (can_be_written s.life) s.life.frames.modified ≡ Some f.0
+  first = front_passes s.life ∙ front
+
   parts : Split (can_be_written s.life) s.life.frames.modified f.0
   parts = split (can_be_written s.life) s.life.frames.modified f.0 first
 
@@ -248,8 +222,8 @@ module _ (s z : StateOf) (f : Frame) (home : Stored) (h : StateHolds s) (depth :
     same = rest ∙ ap (λ (x : LineKind). record (moved s z) { own = own_after x s.own f }) k;
   }
 
-pub writes_none : (s : StateOf) → first_passing (can_be_written s.life) s.life.frames.modified ≡ None → Rounds writings false s s
-writes_none s e = (λ n. none_begun n s.life s.life.frames.modified e, refl)
+pub writes_none : (s : StateOf) → slice_get (writable_modified s.life) 0 ≡ None → Rounds writings false s s
+writes_none s e = (λ n. none_begun n s.life s.life.frames.modified (front_passes s.life ∙ e), refl)
 
 pub writes_full : (s : StateOf) → has_depth s.life ≡ false → Rounds writings false s s
 writes_full s e = (λ n. stopped n s.life s.life.frames.modified (ap (λ b. nat_lt 0 n && b) e ∙ and_false (nat_lt 0 n)), refl)

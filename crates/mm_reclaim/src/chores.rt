@@ -1,12 +1,12 @@
-ghost use Rattle.std.specs.Prelude.{◌≡◌, true, option_map};
+ghost use Rattle.std.specs.Prelude.{◌≡◌, true};
 ghost use Rattle.mm_types.specs.declared.moves.LineKind.TheVariants as kind;
-ghost use Rattle.mm_life.specs.{can_be_written as writable, clearings, writes_begun};
-ghost use Rattle.mm_frame_laws.specs.{first_passing};
+ghost use Rattle.mm_life.specs.{clearings, writes_begun};
 ghost use Rattle.mm_moving.specs.{moved, DoesMoves};
 ghost use Rattle.mm_reclaim.specs.Chores.{TrimsOne, Trimmed, Rounds, writings};
 
+use crate::searching::first_writable;
 use mm_moving::Moving;
-use mm_types::{Frame, Pid, Place};
+use mm_types::{Pid, Place};
 
 /// Unmaps the oldest page of an open process that has more than its minimum. Answers whether it
 /// had.
@@ -73,19 +73,6 @@ pub fn zero<T: Moving>(state: &mut T, n: u32)
     }
 }
 
-/// The first modified frame that can be written: any where a slot is free, else one whose page has
-/// a block.
-#[tactic(auto, using(crate::proofs::Writing::first_of_all, crate::proofs::Writing::first_with_block))]
-fn first_to_write<T: Moving>(state: &T) -> Option<Frame>
-    ensures { option_map (λ f. f.0) result ≡ first_passing (writable (T.shown state.now).life)
-        (T.shown state.now).life.frames.modified }
-{
-    if state.free_slots() != 0 {
-        return state.front_modified();
-    }
-    state.front_modified_with_block()
-}
-
 /// The write of the first modified frame that can be written begins, while fewer requests than the
 /// depth are in flight. Answers whether it did.
 #[tactic(auto, using(crate::proofs::Writing::writer_legal, crate::proofs::Writing::writes_none, crate::proofs::Writing::writes_full))]
@@ -97,7 +84,7 @@ fn write_one<T: Moving>(state: &mut T) -> bool
     if !state.has_depth() {
         return false;
     }
-    match first_to_write(state) {
+    match first_writable(state) {
         None => false,
         Some(f) => {
             let _to = state.start_write(f);

@@ -73,9 +73,9 @@ fn writable_count<T: Moving>(state: &T) -> u32
     }
 }
 
-/// The first of them.
+/// The first modified frame that can be written.
 #[tactic(auto, using(crate::proofs::Writables::all_writable, crate::proofs::Writables::blocks_writable))]
-fn first_writable<T: Moving>(state: &T) -> Option<Frame>
+pub(crate) fn first_writable<T: Moving>(state: &T) -> Option<Frame>
     ensures { option_map (λ f. f.0) result ≡ slice_get (writable_modified (T.shown state.now).life)
         0 }
 {

@@ -1,5 +1,5 @@
 -- Lists of flags as tests of a number.
-use Rattle.std.proofs.Common.{◌≡◌, ℕ, zero, suc, ◌<◌, Bool, true, false, cond, List, [], length, Option, None, refl, sym, ap, ◌∙◌, inl, inr}
+use Rattle.std.proofs.Common.{◌≡◌, ℕ, ◌<◌, Bool, true, false, cond, List, [], length, Option, None, sym, ap, ◌∙◌, inl, inr}
 use Rattle.std.specs.Prelude.{replicate, slice_set, slice_index_or, ◌==◌}
 use Rattle.std.proofs.lemmas.List.{get_or-set_same, get_or-set_other}
 use Rattle.std.specs.Cmp.{unsigned_Decides}
@@ -8,14 +8,10 @@ use Rattle.mm_types.specs.{MachineOf, Frame, Key, Place, Held, LineKind}
 use Rattle.mm_types.specs.declared.frames.Held.TheVariants as held
 use Rattle.mm_life.specs.{ResidentSet, FrameTable, changed, free_table, life_at}
 use Rattle.mm_replay.specs.{flagged}
+use Rattle.mm_replay.proofs.Outcomes.{filled_at}
 
-none_at : (n k : ℕ) → slice_index_or (replicate n false) k false ≡ false
-none_at zero k = refl
-none_at (suc n) zero = refl
-none_at (suc n) (suc k) = none_at n k
-
-pub flagged-replicate : (n : ℕ) → flagged (replicate n false) ≡ (λ (k : ℕ). false)
-flagged-replicate n = λ i. λ (k : ℕ). none_at n k i
+flagged-replicate : (n : ℕ) → flagged (replicate n false) ≡ (λ (k : ℕ). false)
+flagged-replicate n = λ i. λ (k : ℕ). filled_at n k false i
 
 set_at : (xs : List Bool) (b q : ℕ) → b < length xs → slice_index_or (slice_set xs b true) q false ≡ cond (q == b) true (slice_index_or xs q false)
 set_at xs b q h = elim (same_or_not q b) [
@@ -39,31 +35,5 @@ pub ruleset flags = (flagged_none, flagged-set)
 pub fresh_life : (m : MachineOf) (line : ℕ) (kind : LineKind) (sets : List ResidentSet) (table : FrameTable) (slots : List Bool) (stands : Key → Held) (paging : Key → Bool) (added : ℕ → Bool) (valid : Place → Option Frame) (flight : List ℕ) →
     sets ≡ [] → table ≡ free_table m.frames → slots ≡ replicate m.slots true → stands ≡ (λ (k : Key). held.Dead) → paging ≡ (λ (k : Key). false) → added ≡ (λ (b : ℕ). false)
     → valid ≡ (λ (p : Place). None) → flight ≡ []
-    → record {
-      machine = m;
-      line = line;
-      kind = kind;
-      sets = sets;
-      frames = table;
-      free_slots = slots;
-      stands = stands;
-      paging = paging;
-      paging_keys = 0;
-      added = added;
-      valid = valid;
-      flight = flight;
-    } ≡ life_at m line kind
-fresh_life m line kind sets table slots stands paging added valid flight a b c d e f g h = λ i. record {
-  machine = m;
-  line = line;
-  kind = kind;
-  sets = a i;
-  frames = b i;
-  free_slots = c i;
-  stands = d i;
-  paging = e i;
-  paging_keys = 0;
-  added = f i;
-  valid = g i;
-  flight = h i;
-}
+    → record (life_at m line kind) { sets = sets; frames = table; free_slots = slots; stands = stands; paging = paging; added = added; valid = valid; flight = flight } ≡ life_at m line kind
+fresh_life m line kind sets table slots stands paging added valid flight a b c d e f g h = λ i. record (life_at m line kind) { sets = a i; frames = b i; free_slots = c i; stands = d i; paging = e i; added = f i; valid = g i; flight = h i }

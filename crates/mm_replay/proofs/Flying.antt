@@ -1,41 +1,23 @@
 -- The list of the frames with a request, and their flags.
-use Rattle.std.proofs.Common.{◌≡◌, ℕ, zero, suc, ◌<◌, Bool, true, false, List, [], ◌∷◌, ◌++◌, length, get_or, set, map, Some, None, refl, sym, ap, ◌∙◌, inl, inr, arith, length-set, get_or-set_same, get_or-set_other}
+use Rattle.std.proofs.Common.{◌≡◌, ℕ, zero, suc, ◌<◌, Bool, true, false, List, [], ◌∷◌, ◌++◌, length, get_or, set, map, Some, refl, sym, ap, ◌∙◌, inl, inr, arith, length-set, get_or-set_same, get_or-set_other}
 use Rattle.std.specs.Prelude.{slice_get}
 use Rattle.mm_types.proofs.{same_or_not}
-use Rattle.mm_lists.specs.{ListsOf, IsOnNone, IsOnOne, list_at, number_at, with_list, without}
+use Rattle.mm_lists.specs.{ListsOf, IsOnNone, list_at, number_at, with_list, without}
 use Rattle.mm_lists.proofs.{without_other, list_within, without_removes, push_found, push_keeps, push_new}
-use Rattle.mm_replay.specs.{no_requests, flight_of, IsOne, AreFlagged}
-
-none_requested : (j k g : ℕ) → number_at no_requests.lists j k ≡ Some g → ⊥
-none_requested zero k g e = let bad : None ≡ Some g = e in cc
-none_requested (suc j) k g e = let bad : None ≡ Some g = e in cc
-
-pub request_on_none : (x : ℕ) → IsOnOne no_requests.lists x → ⊥
-request_on_none x o = none_requested o.0 o.1 x o.2
-
-pub none_one : IsOne no_requests
-none_one = record {
-  one = refl;
-  apart = record {
-    below = λ j k x e. absurd (none_requested j k x e);
-    once = λ i j k m x e f. absurd (none_requested i k x e);
-  };
-}
-
-pub ruleset flying = (none_one, request_on_none)
+use Rattle.mm_replay.specs.{flight_of, AreLists, AreFlagged}
 
 module _ (v : ListsOf) (flags : List Bool) (f : ℕ) (a : AreFlagged v flags) where
   only_one : (j : ℕ) → j < length v.lists → j ≡ 0
-  only_one j h = omega (arith, h, a.lists.one)
+  only_one j h = omega (arith, h, a.lists.counted)
 
   pub request_new : ((k : ℕ) → slice_get (list_at v.lists 0) k ≡ Some f → ⊥) → IsOnNone v.lists f
   request_new none j k e =
       let z = only_one j (list_within v.lists j k f e) in
       none k (ap (λ (q : ℕ). number_at v.lists q k) (sym z) ∙ e)
 
-  pub flagged_begun : f < v.numbers → IsOne (with_list v 0 (list_at v.lists 0 ++ f ∷ [])) → AreFlagged (with_list v 0 (list_at v.lists 0 ++ f ∷ [])) (set flags f true)
+  pub flagged_begun : f < v.numbers → AreLists 1 (with_list v 0 (list_at v.lists 0 ++ f ∷ [])) → AreFlagged (with_list v 0 (list_at v.lists 0 ++ f ∷ [])) (set flags f true)
   flagged_begun low one =
-      let within : 0 < length v.lists = omega (arith, a.lists.one) in
+      let within : 0 < length v.lists = omega (arith, a.lists.counted) in
       let inside : f < length flags = omega (arith, low, a.sized) in
       record {
         lists = one;
@@ -55,7 +37,7 @@ module _ (v : ListsOf) (flags : List Bool) (f : ℕ) (a : AreFlagged v flags) wh
         ];
       }
 
-  pub flagged_ended : IsOne (record v { lists = map (without f) v.lists }) → AreFlagged (record v { lists = map (without f) v.lists }) (set flags f false)
+  pub flagged_ended : AreLists 1 (record v { lists = map (without f) v.lists }) → AreFlagged (record v { lists = map (without f) v.lists }) (set flags f false)
   flagged_ended one =
       let r = without_removes f v.lists in
       record {

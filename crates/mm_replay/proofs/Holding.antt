@@ -5,8 +5,9 @@ use Rattle.std.proofs.lemmas.Bool.{eqb-true, and_parts}
 use Rattle.mm_types.specs.{Frame, Key, Place, Pid, Vpn, Area, Held}
 use Rattle.mm_types.specs.declared.numbers.Key.TheVariants.{Private, Shared}
 use Rattle.mm_life.specs.{changed, same_key, same_place, is_dead}
-use Rattle.mm_replay.specs.{Alive, pid, vpn, area, Writes, Keeps, found, alive_at, Written, Stays, held_of, paging_of, no_keys, no_paging, no_places}
+use Rattle.mm_replay.specs.{Alive, Writes, Keeps, found, alive_at, Written, Stays, held_of, paging_of, no_keys, no_paging, no_places}
 use Rattle.mm_replay.specs.declared.pairs.Pairs.{Pairs}
+use Rattle.mm_laws.proofs.{same_key-true}
 use Rattle.mm_replay.proofs.Outcomes.{kept_at}
 
 -- ---- two tables of keys as one
@@ -32,21 +33,15 @@ module _ (pages indices : Pairs Alive) where
   pub shared_written : (new : Pairs Alive) (k : Key) (a : Area) (i : ℕ) (x : Option Alive) → k ≡ Shared a i → Writes (found indices) (found new) a.0 i x → Written (alive_at pages indices) (alive_at pages new) k x
   shared_written new k a i x e h = λ q. shared_changes new a i x h q ∙ sym (ap (λ (r : Key). changed same_key (alive_at pages indices) r x q) e)
 
-  private_stays : (new : Pairs Alive) → Keeps (found pages) (found new) → (q : Key) → alive_at new indices q ≡ alive_at pages indices q
-  unfolding alive_at
-  private_stays new h (Private p v) = h p.0 v.0
-  private_stays new h (Shared a i) = refl
-
   pub private_kept : (new : Pairs Alive) → Keeps (found pages) (found new) → Stays (alive_at pages indices) (alive_at new indices)
-  private_kept new h = λ q. private_stays new h q
-
-  shared_stays : (new : Pairs Alive) → Keeps (found indices) (found new) → (q : Key) → alive_at pages new q ≡ alive_at pages indices q
   unfolding alive_at
-  shared_stays new h (Private p v) = refl
-  shared_stays new h (Shared a i) = h a.0 i
+  private_kept new h (Private p v) = h p.0 v.0
+  private_kept new h (Shared a i) = refl
 
   pub shared_kept : (new : Pairs Alive) → Keeps (found indices) (found new) → Stays (alive_at pages indices) (alive_at pages new)
-  shared_kept new h = λ q. shared_stays new h q
+  unfolding alive_at
+  shared_kept new h (Private p v) = refl
+  shared_kept new h (Shared a i) = h a.0 i
 
   pub private_is : (k : Key) (p : Pid) (v : Vpn) (n : ℕ) → k ≡ Private p v → n ≡ p.0 → alive_at pages indices k ≡ found pages n v.0
   unfolding alive_at
@@ -96,20 +91,6 @@ known None e = cc
 known (Some a) e = refl
 
 -- ---- a key's flag stays
-
-pub same_key-true : (k q : Key) → same_key k q ≡ true → k ≡ q
-same_key-true (Private p v) (Private q w) e =
-    let h = and_parts (p.0 == q.0) (v.0 == w.0) e in
-    let a : p.0 ≡ q.0 = eqb-true p.0 q.0 h.0 in
-    let b : v.0 ≡ w.0 = eqb-true v.0 w.0 h.1 in
-    ap (λ (n : ℕ). Private (pid n) v) a ∙ ap (λ (n : ℕ). Private q (vpn n)) b
-same_key-true (Private p v) (Shared a i) e = cc
-same_key-true (Shared a i) (Private p v) e = cc
-same_key-true (Shared a i) (Shared b j) e =
-    let h = and_parts (a.0 == b.0) (i == j) e in
-    let c : a.0 ≡ b.0 = eqb-true a.0 b.0 h.0 in
-    let d : i ≡ j = eqb-true i j h.1 in
-    ap (λ (n : ℕ). Shared (area n) i) c ∙ ap (λ (n : ℕ). Shared b n) d
 
 -- set to what it was
 pub paging_kept : (f g : Key → Bool) (k : Key) (b : Bool) → g ≡ changed same_key f k b → b ≡ f k → g ≡ f

@@ -4,10 +4,10 @@ use Rattle.std.specs.Prelude.{◌==◌, ◌↔◌, slice_get, slice_set, IsTrue,
 use Rattle.std.specs.Vec.{with_item}
 use Rattle.std.specs.declared.vec.Vec.{Vec}
 use Rattle.std.proofs.lemmas.Bool.{cases_lt, cases_eq, ltb-true, lt-ltb, eqb-true, eq-eqb, ne_eqb, cond-true, cond-false}
-use Rattle.std.proofs.lemmas.List.{get_or_past, get_or_append_left, get_or-append_right, get_or-replicate, get_or_read, length-replicate, take_all}
+use Rattle.std.proofs.lemmas.List.{get_or_past, get_or_append_left, get_or-append_right, get_or_read, take_all}
 use Rattle.std.proofs.lemmas.Option.{slice_get_read, slice_get_past}
 use Rattle.mm_types.proofs.{get_set_same, get_set_other}
-use Rattle.mm_replay.proofs.Outcomes.{kept_at}
+use Rattle.mm_replay.proofs.Outcomes.{filled_at, kept_at}
 use Rattle.mm_replay.specs.{in_leaf, leaf_len, in_leaves, HasPlace, Sets, Same}
 
 -- ---- functions of numbers
@@ -59,16 +59,10 @@ module _ {X Z : Type 0} where
 -- ---- a leaf that gets places without values
 
 module _ {X : Type 0} where
-  none_after : (k i : ℕ) → ◌≡◌ {A = Option X} (get_or (replicate k None) i None) None
-  none_after k i = elim (cases_lt i k) [
-    | inl near ↦ get_or-replicate k i None None near
-    | inr far ↦ get_or_past (replicate k None) i None (omega (arith, far, length-replicate {A = Option X} k None))
-  ]
-
   extended : (xs : List (Option X)) (k i : ℕ) → get_or (xs ++ replicate k None) i None ≡ get_or xs i None
   extended xs k i = elim (cases_lt i (length xs)) [
     | inl near ↦ get_or_append_left xs (replicate k None) None i near
-    | inr far ↦ get_or-append_right xs (replicate k None) (length xs) i None refl far ∙ none_after k (i - length xs) ∙ sym (get_or_past xs i None far)
+    | inr far ↦ get_or-append_right xs (replicate k None) (length xs) i None refl far ∙ filled_at k (i - length xs) None ∙ sym (get_or_past xs i None far)
   ]
 
   pub resized : (xs new : List (Option X)) (k : ℕ) → new ≡ take 256 xs ++ replicate k None → length xs ≤ 256 → (i : ℕ) → get_or new i None ≡ get_or xs i None

@@ -14,8 +14,7 @@ pub mod Placing
 pub mod Looked
 pub mod Soundness
 pub mod Flying
-pub use ReadAgain.{read_key-onto, read_text-spelled, rest_of, value_of}
-pub use Sounds.{all_read, key_sound, none_behind, text_sound}
+pub use Sounds.{front_again, key_reads, move_reads, none_again, whole_again, whole_spelled}
 pub use Slotting.{given_before, given_behind, given_first, given_taken, grown_some, lowest_taken}
 pub use Slotting.{taken_next}
 pub use Outcomes.{if_none, on_err_then, on_ok_then}
@@ -34,6 +33,6 @@ pub use Lines.{NoFeed, move_no_feed, move_onto-is, move_short, no_line, one_line
 pub use Fresh.{all_kept, not_yet}
 pub use Placing.{busy_kept, busy_off, modified_here, off_left, off_set, put_kept, table_left}
 pub use Placing.{table_stays}
-pub use Looked.{behind_frame, few_apart, on_list, one_apart}
+pub use Looked.{behind_frame, few_apart, framed_behind, one_apart}
 pub use Soundness.{reached_made, read_ready, ready_low, ready_quiet, sound_of, write_ready}
 pub use Flying.{flagged_begun, flagged_ended, flight_stays, request_new}

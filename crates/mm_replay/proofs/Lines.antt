@@ -1,6 +1,6 @@
 -- The lines of moves: none has a line feed before its end, and the lines of a log are those of one list of moves alone.
-use Rattle.std.proofs.Common.{◌≡◌, ◌≢◌, ℕ, ◌+◌, ◌≤◌, ◌<◌, Bool, true, [], ◌∷◌, ◌++◌, length, Option, Some, None, refl, sym, ap, ◌∙◌, subst, arith, append_assoc, length-append}
-use Rattle.std.specs.Prelude.{◌==◌, not, codes}
+use Rattle.std.proofs.Common.{◌≡◌, ◌≢◌, ℕ, ◌+◌, ◌≤◌, ◌<◌, Bool, true, List, [], ◌∷◌, ◌++◌, length, Option, Some, None, refl, sym, ap, ◌∙◌, subst, lit≤, arith, append_assoc, length-append}
+use Rattle.std.specs.Prelude.{◌==◌, ◌&&◌, not, codes}
 use Rattle.std.specs.List.{AllByRecursion, list_all}
 use Rattle.std.proofs.lemmas.Bool.{and_parts}
 use Rattle.std.specs.Cmp.{unsigned_Decides}
@@ -10,83 +10,113 @@ use Rattle.mm_types.specs.declared.moves.LineKind.TheVariants as kind
 use Rattle.mm_types.specs.declared.moves.Stored.TheVariants as stored
 use Rattle.mm_types.specs.declared.moves.Move.TheVariants as move
 use Rattle.mm_text.proofs.{decimal_is, IsPlain, plain-digits, length-decimal}
-use Rattle.mm_life.specs.{numbered, place_onto, key_onto, kind_onto, stored_onto, home_onto, move_onto, move_text, IsMove}
+use Rattle.mm_life.specs.{move_onto, move_text, IsMove}
 use Rattle.mm_replay.specs.{read_text}
 use Rattle.mm_replay.proofs.ReadAgain.{read_text-onto, value_of}
 
 abbrev pub NoFeed : Text → Type 0
 NoFeed bytes = AllByRecursion (λ b. b ≢ 10) bytes
 
--- ---- what is written in front of something is written, and then that
+-- ---- a line in pieces
 
-numbered_is : (w : Text) (n : ℕ) (b c : Text) → numbered w n (b ++ c) ≡ numbered w n b ++ c
-numbered_is w n b c = sym (append_assoc w (decimal n ++ b) c ∙ ap (λ t. w ++ t) (append_assoc (decimal n) b c))
+data Piece : Type 0 where
+  Word : Text → Piece
+  Number : ℕ → Piece
 
-abbrev Appends : (Text → Text) → Type 0
-Appends f = (b c : Text) → f (b ++ c) ≡ f b ++ c
+abbrev piece_text : Piece → Text
+piece_text (Word w) = w
+piece_text (Number n) = decimal n
 
-words_are : (w : Text) → Appends (λ b. w ++ b)
-words_are w b c = sym (append_assoc w b c)
+abbrev onto : List Piece → Text → Text
+onto [] b = b
+onto (p ∷ ps) b = piece_text p ++ onto ps b
 
-place_is : (p : Place) → Appends (place_onto p)
-place_is p b c = ap (λ t. decimal p.pid.0 ++ t) (numbered_is (codes ".") p.vpn.0 b c) ∙ words_are (decimal p.pid.0) (numbered (codes ".") p.vpn.0 b) c
+abbrev with_number : Text → ℕ → List Piece → List Piece
+with_number w n ps = Word w ∷ Number n ∷ ps
 
-key_is : (k : Key) → Appends (key_onto k)
-key_is (Private p v) b c = ap (numbered (codes "p") p.0) (numbered_is (codes ".") v.0 b c) ∙ numbered_is (codes "p") p.0 (numbered (codes ".") v.0 b) c
-key_is (Shared a i) b c = ap (numbered (codes "s") a.0) (numbered_is (codes ".") i b c) ∙ numbered_is (codes "s") a.0 (numbered (codes ".") i b) c
+abbrev key_pieces : Key → List Piece → List Piece
+key_pieces (Private p v) ps = with_number (codes "p") p.0 (with_number (codes ".") v.0 ps)
+key_pieces (Shared a i) ps = with_number (codes "s") a.0 (with_number (codes ".") i ps)
 
-kind_is : (k : LineKind) → Appends (kind_onto k)
-kind_is (kind.Machine f s d n) b c =
-    ap (λ t. numbered (codes "machine ") f (numbered (codes " ") s (numbered (codes " ") d t))) (numbered_is (codes " ") n b c)
-    ∙ ap (λ t. numbered (codes "machine ") f (numbered (codes " ") s t)) (numbered_is (codes " ") d (numbered (codes " ") n b) c)
-    ∙ ap (numbered (codes "machine ") f) (numbered_is (codes " ") s (numbered (codes " ") d (numbered (codes " ") n b)) c)
-    ∙ numbered_is (codes "machine ") f (numbered (codes " ") s (numbered (codes " ") d (numbered (codes " ") n b))) c
-kind_is (kind.Process p min max) b c =
-    ap (λ t. numbered (codes "process ") p.0 (numbered (codes " ") min t)) (numbered_is (codes " ") max b c)
-    ∙ ap (numbered (codes "process ") p.0) (numbered_is (codes " ") min (numbered (codes " ") max b) c)
-    ∙ numbered_is (codes "process ") p.0 (numbered (codes " ") min (numbered (codes " ") max b)) c
-kind_is (kind.Unbind p) b c = numbered_is (codes "unbind ") p.0 b c
-kind_is (kind.Access p) b c = numbered_is (codes "access ") p.0 b c
-kind_is (kind.Thread p) b c = numbered_is (codes "thread ") p.0 b c
-kind_is (kind.Trim p) b c = numbered_is (codes "trim ") p.0 b c
-kind_is kind.Writer b c = refl
-kind_is kind.Zeroer b c = refl
-kind_is kind.Io b c = refl
-kind_is kind.Call b c = refl
-kind_is (kind.Grow n) b c = numbered_is (codes "grow ") n b c
+abbrev place_pieces : Place → List Piece
+place_pieces p = with_number [] p.pid.0 (with_number (codes ".") p.vpn.0 [])
 
-stored_is : (s : Stored) → Appends (stored_onto s)
-stored_is (stored.Slot s) b c = numbered_is (codes " slot ") s.0 b c
-stored_is (stored.Block n) b c = numbered_is (codes " block ") n.0 b c
+abbrev kind_pieces : LineKind → List Piece
+kind_pieces (kind.Machine f s d n) = with_number (codes "machine ") f (with_number (codes " ") s (with_number (codes " ") d (with_number (codes " ") n [])))
+kind_pieces (kind.Process p min max) = with_number (codes "process ") p.0 (with_number (codes " ") min (with_number (codes " ") max []))
+kind_pieces (kind.Unbind p) = with_number (codes "unbind ") p.0 []
+kind_pieces (kind.Access p) = with_number (codes "access ") p.0 []
+kind_pieces (kind.Thread p) = with_number (codes "thread ") p.0 []
+kind_pieces (kind.Trim p) = with_number (codes "trim ") p.0 []
+kind_pieces kind.Writer = Word (codes "writer") ∷ []
+kind_pieces kind.Zeroer = Word (codes "zeroer") ∷ []
+kind_pieces kind.Io = Word (codes "io") ∷ []
+kind_pieces kind.Call = Word (codes "call") ∷ []
+kind_pieces (kind.Grow n) = with_number (codes "grow ") n []
 
-home_is : (h : Option Block) → Appends (home_onto h)
-home_is None b c = refl
-home_is (Some n) b c = numbered_is (codes " block ") n.0 b c
+abbrev stored_pieces : Stored → List Piece
+stored_pieces (stored.Slot s) = with_number (codes " slot ") s.0 []
+stored_pieces (stored.Block n) = with_number (codes " block ") n.0 []
 
-move_is : (m : Move) → Appends (move_onto m)
-move_is (move.At n k) b c = ap (λ t. numbered (codes "at ") n (32 ∷ t)) (kind_is k b c) ∙ numbered_is (codes "at ") n (32 ∷ kind_onto k b) c
-move_is (move.Add k h) b c = ap (λ t. codes "add " ++ key_onto k t) (home_is h b c) ∙ ap (λ t. codes "add " ++ t) (key_is k (home_onto h b) c)
-move_is (move.Drop k) b c = ap (λ t. codes "drop " ++ t) (key_is k b c)
-move_is (move.Clear f) b c = numbered_is (codes "clear ") f.0 b c
-move_is (move.Steal f) b c = numbered_is (codes "steal ") f.0 b c
-move_is (move.Give f k) b c = ap (λ t. numbered (codes "give ") f.0 (32 ∷ t)) (key_is k b c) ∙ numbered_is (codes "give ") f.0 (32 ∷ key_onto k b) c
-move_is (move.Read f k) b c = ap (λ t. numbered (codes "read ") f.0 (32 ∷ t)) (key_is k b c) ∙ numbered_is (codes "read ") f.0 (32 ∷ key_onto k b) c
-move_is (move.Got f) b c = numbered_is (codes "got ") f.0 b c
-move_is (move.Bad f) b c = numbered_is (codes "bad ") f.0 b c
-move_is (move.Map f p) b c = ap (λ t. numbered (codes "map ") f.0 (32 ∷ t)) (place_is p b c) ∙ numbered_is (codes "map ") f.0 (32 ∷ place_onto p b) c
-move_is (move.Unmap p) b c = ap (λ t. codes "unmap " ++ t) (place_is p b c)
-move_is (move.Soil f) b c = numbered_is (codes "soil ") f.0 b c
-move_is (move.Write f s) b c = ap (λ t. numbered (codes "write ") f.0 t) (stored_is s b c) ∙ numbered_is (codes "write ") f.0 (stored_onto s b) c
-move_is (move.Wrote f) b c = numbered_is (codes "wrote ") f.0 b c
-move_is (move.Lost f) b c = numbered_is (codes "lost ") f.0 b c
+abbrev home_pieces : Option Block → List Piece
+home_pieces None = Word (codes " zero") ∷ []
+home_pieces (Some n) = with_number (codes " block ") n.0 []
 
-pub move_onto-is : (m : Move) (b : Text) → move_onto m b ≡ move_text m ++ b
-move_onto-is m b = move_is m [] b
-
--- ---- no line feed
+abbrev move_pieces : Move → List Piece
+move_pieces (move.At n k) = with_number (codes "at ") n (Word (codes " ") ∷ kind_pieces k)
+move_pieces (move.Add k h) = Word (codes "add ") ∷ key_pieces k (home_pieces h)
+move_pieces (move.Drop k) = Word (codes "drop ") ∷ key_pieces k []
+move_pieces (move.Clear f) = with_number (codes "clear ") f.0 []
+move_pieces (move.Steal f) = with_number (codes "steal ") f.0 []
+move_pieces (move.Give f k) = with_number (codes "give ") f.0 (Word (codes " ") ∷ key_pieces k [])
+move_pieces (move.Read f k) = with_number (codes "read ") f.0 (Word (codes " ") ∷ key_pieces k [])
+move_pieces (move.Got f) = with_number (codes "got ") f.0 []
+move_pieces (move.Bad f) = with_number (codes "bad ") f.0 []
+move_pieces (move.Map f p) = with_number (codes "map ") f.0 (Word (codes " ") ∷ place_pieces p)
+move_pieces (move.Unmap p) = Word (codes "unmap ") ∷ place_pieces p
+move_pieces (move.Soil f) = with_number (codes "soil ") f.0 []
+move_pieces (move.Write f s) = with_number (codes "write ") f.0 (stored_pieces s)
+move_pieces (move.Wrote f) = with_number (codes "wrote ") f.0 []
+move_pieces (move.Lost f) = with_number (codes "lost ") f.0 []
 
 abbrev no_feeds : Text → Bool
 no_feeds bytes = list_all (λ c. not (c == 10)) bytes
+
+-- no word of the pieces has a line feed
+abbrev words_plain : List Piece → Bool
+words_plain [] = true
+words_plain (Word w ∷ ps) = no_feeds w && words_plain ps
+words_plain (Number n ∷ ps) = words_plain ps
+
+-- the most that the pieces can take
+abbrev width : List Piece → ℕ
+width [] = 0
+width (Word w ∷ ps) = length w + width ps
+width (Number n ∷ ps) = 20 + width ps
+
+-- what is seen of a move's pieces
+abbrev InPieces : Move → Type 0
+InPieces m = ((b : Text) → move_onto m b ≡ onto (move_pieces m) b) × (words_plain (move_pieces m) ≡ true) × (width (move_pieces m) ≤ 115)
+
+in_pieces : (m : Move) → InPieces m
+in_pieces (move.At n kind.Writer) = ((λ b. refl), refl, lit≤ tt)
+in_pieces (move.Add (Private p v) None) = ((λ b. refl), refl, lit≤ tt)
+in_pieces (move.Add k None) = ((λ b. refl), refl, lit≤ tt)
+in_pieces (move.Drop (Private p v)) = ((λ b. refl), refl, lit≤ tt)
+in_pieces (move.Give f (Private p v)) = ((λ b. refl), refl, lit≤ tt)
+in_pieces (move.Read f (Private p v)) = ((λ b. refl), refl, lit≤ tt)
+in_pieces (move.Write f (stored.Slot s)) = ((λ b. refl), refl, lit≤ tt)
+in_pieces m = ((λ b. refl), refl, lit≤ tt)
+
+-- what is written in front of something is written, and then that
+pieces_then : (ps : List Piece) (b : Text) → onto ps b ≡ onto ps [] ++ b
+pieces_then [] b = refl
+pieces_then (p ∷ ps) b = ap (λ t. piece_text p ++ t) (pieces_then ps b) ∙ sym (append_assoc (piece_text p) (onto ps []) b)
+
+pub move_onto-is : (m : Move) (b : Text) → move_onto m b ≡ move_text m ++ b
+move_onto-is m b = (in_pieces m).0 b ∙ pieces_then (move_pieces m) b ∙ ap (λ t. t ++ b) (sym ((in_pieces m).0 []))
+
+-- ---- no line feed
 
 not_feed : (c : ℕ) → not (c == 10) ≡ true → c ≢ 10
 not_feed c e h = let t : (c == 10) ≡ true = (unsigned_Decides c 10).1 h in let bad : not true ≡ true = sym (ap not t) ∙ e in cc
@@ -106,127 +136,23 @@ NoFeed-plain (c ∷ cs) p = ((λ e. absurd (omega (arith, p.0))), NoFeed-plain c
 NoFeed-decimal : (n : ℕ) → NoFeed (decimal n)
 NoFeed-decimal n = NoFeed-plain (decimal n) (subst IsPlain (sym (decimal_is 20 n [])) (plain-digits 10 (omega arith) (omega arith) 20 n [] tt))
 
-numbered_no_feed : (w : Text) (n : ℕ) (b : Text) → no_feeds w ≡ true → NoFeed b → NoFeed (numbered w n b)
-numbered_no_feed w n b e h = NoFeed-append w (decimal n ++ b) (NoFeed-from w e) (NoFeed-append (decimal n) b (NoFeed-decimal n) h)
-
-key_no_feed : (k : Key) (b : Text) → NoFeed b → NoFeed (key_onto k b)
-key_no_feed (Private p v) b h = numbered_no_feed (codes "p") p.0 (numbered (codes ".") v.0 b) refl (numbered_no_feed (codes ".") v.0 b refl h)
-key_no_feed (Shared a i) b h = numbered_no_feed (codes "s") a.0 (numbered (codes ".") i b) refl (numbered_no_feed (codes ".") i b refl h)
-
-place_no_feed : (p : Place) (b : Text) → NoFeed b → NoFeed (place_onto p b)
-place_no_feed p b h = numbered_no_feed [] p.pid.0 (numbered (codes ".") p.vpn.0 b) refl (numbered_no_feed (codes ".") p.vpn.0 b refl h)
-
-spaced_no_feed : (b : Text) → NoFeed b → NoFeed (32 ∷ b)
-spaced_no_feed b h = NoFeed-append (codes " ") b (NoFeed-from (codes " ") refl) h
-
-kind_no_feed : (k : LineKind) → NoFeed (kind_onto k [])
-kind_no_feed (kind.Machine f s d n) =
-    numbered_no_feed (codes "machine ") f _ refl (numbered_no_feed (codes " ") s _ refl (numbered_no_feed (codes " ") d _ refl (numbered_no_feed (codes " ") n [] refl tt)))
-kind_no_feed (kind.Process p min max) = numbered_no_feed (codes "process ") p.0 _ refl (numbered_no_feed (codes " ") min _ refl (numbered_no_feed (codes " ") max [] refl tt))
-kind_no_feed (kind.Unbind p) = numbered_no_feed (codes "unbind ") p.0 [] refl tt
-kind_no_feed (kind.Access p) = numbered_no_feed (codes "access ") p.0 [] refl tt
-kind_no_feed (kind.Thread p) = numbered_no_feed (codes "thread ") p.0 [] refl tt
-kind_no_feed (kind.Trim p) = numbered_no_feed (codes "trim ") p.0 [] refl tt
-kind_no_feed kind.Writer = NoFeed-from (codes "writer") refl
-kind_no_feed kind.Zeroer = NoFeed-from (codes "zeroer") refl
-kind_no_feed kind.Io = NoFeed-from (codes "io") refl
-kind_no_feed kind.Call = NoFeed-from (codes "call") refl
-kind_no_feed (kind.Grow n) = numbered_no_feed (codes "grow ") n [] refl tt
-
-stored_no_feed : (s : Stored) → NoFeed (stored_onto s [])
-stored_no_feed (stored.Slot s) = numbered_no_feed (codes " slot ") s.0 [] refl tt
-stored_no_feed (stored.Block n) = numbered_no_feed (codes " block ") n.0 [] refl tt
-
-home_no_feed : (h : Option Block) → NoFeed (home_onto h [])
-home_no_feed None = NoFeed-from (codes " zero") refl
-home_no_feed (Some n) = numbered_no_feed (codes " block ") n.0 [] refl tt
+pieces_no_feed : (ps : List Piece) → words_plain ps ≡ true → NoFeed (onto ps [])
+pieces_no_feed [] e = tt
+pieces_no_feed (Word w ∷ ps) e = let h = and_parts (no_feeds w) (words_plain ps) e in NoFeed-append w (onto ps []) (NoFeed-from w h.0) (pieces_no_feed ps h.1)
+pieces_no_feed (Number n ∷ ps) e = NoFeed-append (decimal n) (onto ps []) (NoFeed-decimal n) (pieces_no_feed ps e)
 
 pub move_no_feed : (m : Move) → NoFeed (move_text m)
-move_no_feed (move.At n k) = numbered_no_feed (codes "at ") n _ refl (spaced_no_feed (kind_onto k []) (kind_no_feed k))
-move_no_feed (move.Add k h) = NoFeed-append (codes "add ") (key_onto k (home_onto h [])) (NoFeed-from (codes "add ") refl) (key_no_feed k (home_onto h []) (home_no_feed h))
-move_no_feed (move.Drop k) = NoFeed-append (codes "drop ") (key_onto k []) (NoFeed-from (codes "drop ") refl) (key_no_feed k [] tt)
-move_no_feed (move.Clear f) = numbered_no_feed (codes "clear ") f.0 [] refl tt
-move_no_feed (move.Steal f) = numbered_no_feed (codes "steal ") f.0 [] refl tt
-move_no_feed (move.Give f k) = numbered_no_feed (codes "give ") f.0 _ refl (spaced_no_feed (key_onto k []) (key_no_feed k [] tt))
-move_no_feed (move.Read f k) = numbered_no_feed (codes "read ") f.0 _ refl (spaced_no_feed (key_onto k []) (key_no_feed k [] tt))
-move_no_feed (move.Got f) = numbered_no_feed (codes "got ") f.0 [] refl tt
-move_no_feed (move.Bad f) = numbered_no_feed (codes "bad ") f.0 [] refl tt
-move_no_feed (move.Map f p) = numbered_no_feed (codes "map ") f.0 _ refl (spaced_no_feed (place_onto p []) (place_no_feed p [] tt))
-move_no_feed (move.Unmap p) = NoFeed-append (codes "unmap ") (place_onto p []) (NoFeed-from (codes "unmap ") refl) (place_no_feed p [] tt)
-move_no_feed (move.Soil f) = numbered_no_feed (codes "soil ") f.0 [] refl tt
-move_no_feed (move.Write f s) = numbered_no_feed (codes "write ") f.0 (stored_onto s []) refl (stored_no_feed s)
-move_no_feed (move.Wrote f) = numbered_no_feed (codes "wrote ") f.0 [] refl tt
-move_no_feed (move.Lost f) = numbered_no_feed (codes "lost ") f.0 [] refl tt
+move_no_feed m = subst NoFeed (sym ((in_pieces m).0 [])) (pieces_no_feed (move_pieces m) (in_pieces m).1)
 
 -- ---- how long
 
-numbered_short : (w : Text) (n : ℕ) (b : Text) (k j : ℕ) → length w ≤ k → length b ≤ j → length (numbered w n b) ≤ k + (20 + j)
-numbered_short w n b k j p q = omega (arith, length-append w (decimal n ++ b), length-append (decimal n) b, length-decimal n)
-
-key_short : (k : Key) (b : Text) (j : ℕ) → length b ≤ j → length (key_onto k b) ≤ 42 + j
-key_short (Private p v) b j h = omega (arith, numbered_short (codes "p") p.0 (numbered (codes ".") v.0 b) 1 (21 + j) (omega arith) (omega (arith, numbered_short (codes ".") v.0 b 1 j (omega arith) h)))
-key_short (Shared a i) b j h = omega (arith, numbered_short (codes "s") a.0 (numbered (codes ".") i b) 1 (21 + j) (omega arith) (omega (arith, numbered_short (codes ".") i b 1 j (omega arith) h)))
-
-place_short : (p : Place) → length (place_onto p []) ≤ 41
-place_short p = omega (arith, numbered_short [] p.pid.0 (numbered (codes ".") p.vpn.0 []) 0 21 (omega arith) (omega (arith, numbered_short (codes ".") p.vpn.0 [] 1 0 (omega arith) (omega arith))))
-
-kind_short : (k : LineKind) → length (kind_onto k []) ≤ 91
-kind_short (kind.Machine f s d n) =
-    omega (
-      arith,
-      numbered_short (codes "machine ") f (numbered (codes " ") s (numbered (codes " ") d (numbered (codes " ") n []))) 8 63 (omega arith)
-          (omega (
-            arith,
-            numbered_short (codes " ") s (numbered (codes " ") d (numbered (codes " ") n [])) 1 42 (omega arith)
-                (omega (arith, numbered_short (codes " ") d (numbered (codes " ") n []) 1 21 (omega arith) (omega (arith, numbered_short (codes " ") n [] 1 0 (omega arith) (omega arith))))),
-          )),
-    )
-kind_short (kind.Process p min max) =
-    omega (
-      arith,
-      numbered_short (codes "process ") p.0 (numbered (codes " ") min (numbered (codes " ") max [])) 8 42 (omega arith)
-          (omega (arith, numbered_short (codes " ") min (numbered (codes " ") max []) 1 21 (omega arith) (omega (arith, numbered_short (codes " ") max [] 1 0 (omega arith) (omega arith))))),
-    )
-kind_short (kind.Unbind p) = omega (arith, numbered_short (codes "unbind ") p.0 [] 8 0 (omega arith) (omega arith))
-kind_short (kind.Access p) = omega (arith, numbered_short (codes "access ") p.0 [] 8 0 (omega arith) (omega arith))
-kind_short (kind.Thread p) = omega (arith, numbered_short (codes "thread ") p.0 [] 8 0 (omega arith) (omega arith))
-kind_short (kind.Trim p) = omega (arith, numbered_short (codes "trim ") p.0 [] 8 0 (omega arith) (omega arith))
-kind_short kind.Writer = omega arith
-kind_short kind.Zeroer = omega arith
-kind_short kind.Io = omega arith
-kind_short kind.Call = omega arith
-kind_short (kind.Grow n) = omega (arith, numbered_short (codes "grow ") n [] 8 0 (omega arith) (omega arith))
-
-stored_short : (s : Stored) → length (stored_onto s []) ≤ 27
-stored_short (stored.Slot s) = omega (arith, numbered_short (codes " slot ") s.0 [] 7 0 (omega arith) (omega arith))
-stored_short (stored.Block n) = omega (arith, numbered_short (codes " block ") n.0 [] 7 0 (omega arith) (omega arith))
-
-home_short : (h : Option Block) → length (home_onto h []) ≤ 27
-home_short None = omega arith
-home_short (Some n) = omega (arith, numbered_short (codes " block ") n.0 [] 7 0 (omega arith) (omega arith))
-
-one_number : (w : Text) (n : ℕ) → length w ≤ 6 → length (numbered w n []) ≤ 115
-one_number w n h = omega (arith, numbered_short w n [] 6 0 h (omega arith))
-
-number_and : (w : Text) (n : ℕ) (b : Text) → length w ≤ 6 → length b ≤ 89 → length (numbered w n b) ≤ 115
-number_and w n b h k = omega (arith, numbered_short w n b 6 89 h k)
+pieces_short : (ps : List Piece) → length (onto ps []) ≤ width ps
+pieces_short [] = lit≤ tt
+pieces_short (Word w ∷ ps) = omega (arith, length-append w (onto ps []), pieces_short ps)
+pieces_short (Number n ∷ ps) = omega (arith, length-append (decimal n) (onto ps []), length-decimal n, pieces_short ps)
 
 pub move_short : (m : Move) → length (move_text m) ≤ 115
-move_short (move.At n k) = omega (arith, numbered_short (codes "at ") n (32 ∷ kind_onto k []) 3 92 (omega arith) (omega (arith, kind_short k)))
-move_short (move.Add k h) = omega (arith, key_short k (home_onto h []) 27 (home_short h))
-move_short (move.Drop k) = omega (arith, key_short k [] 0 (omega arith))
-move_short (move.Clear f) = one_number (codes "clear ") f.0 (omega arith)
-move_short (move.Steal f) = one_number (codes "steal ") f.0 (omega arith)
-move_short (move.Give f k) = number_and (codes "give ") f.0 (32 ∷ key_onto k []) (omega arith) (omega (arith, key_short k [] 0 (omega arith)))
-move_short (move.Read f k) = number_and (codes "read ") f.0 (32 ∷ key_onto k []) (omega arith) (omega (arith, key_short k [] 0 (omega arith)))
-move_short (move.Got f) = one_number (codes "got ") f.0 (omega arith)
-move_short (move.Bad f) = one_number (codes "bad ") f.0 (omega arith)
-move_short (move.Map f p) = number_and (codes "map ") f.0 (32 ∷ place_onto p []) (omega arith) (omega (arith, place_short p))
-move_short (move.Unmap p) = omega (arith, place_short p)
-move_short (move.Soil f) = one_number (codes "soil ") f.0 (omega arith)
-move_short (move.Write f s) = number_and (codes "write ") f.0 (stored_onto s []) (omega arith) (omega (arith, stored_short s))
-move_short (move.Wrote f) = one_number (codes "wrote ") f.0 (omega arith)
-move_short (move.Lost f) = one_number (codes "lost ") f.0 (omega arith)
+move_short m = omega (arith, ap length ((in_pieces m).0 []), pieces_short (move_pieces m), (in_pieces m).2)
 
 -- ---- one text, one list of moves
 

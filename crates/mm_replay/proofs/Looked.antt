@@ -1,29 +1,23 @@
 -- What stands on the lists, for the readers.
-use Rattle.std.proofs.Common.{◌≡◌, ℕ, zero, suc, ◌+◌, ◌<◌, Bool, true, false, List, length, Option, Some, None, ap, subst, arith, length-set}
+use Rattle.std.proofs.Common.{◌≡◌, ℕ, zero, suc, ◌+◌, ◌<◌, Bool, true, false, List, length, Option, Some, None, ap, ◌∙◌, subst, arith, length-set}
 use Rattle.std.specs.Prelude.{option_map, slice_get, slice_set}
 use Rattle.std.proofs.lemmas.List.Sums.{count_by-le-length}
-use Rattle.mm_types.specs.{Record}
-use Rattle.mm_life.specs.{is_idle}
+use Rattle.mm_types.specs.{Frame, Record}
 use Rattle.mm_lists.specs.{ListsOf, number_at}
 use Rattle.mm_lists.proofs.{list_within}
 use Rattle.mm_slots.specs.{free_count}
 use Rattle.mm_slots.proofs.{count_changed}
-use Rattle.mm_replay.specs.{Kept, table_of, record_of, frames_on, IsBehind, AreApartFrom, FrameList}
+use Rattle.mm_replay.specs.{Kept, table_of, frames_on, IsBehind, AreApartFrom, FrameList}
 use Rattle.mm_replay.specs.Sound.{frame}
 use Rattle.mm_replay.specs.declared.four_lists.FrameList.TheVariants as list
-use Rattle.mm_replay.proofs.Placing.{belongs_idle}
 
 -- ---- lists
 
--- a frame on a list is there, and idle
-pub record OnList (records : List Record) (f : ℕ) : Type 0 where
-  pub low : f < length records
-  pub idle : is_idle (record_of records f) ≡ true
-
-pub on_list : (records : List Record) (v : ListsOf) → Kept records v → (j k f : ℕ) → number_at v.lists j k ≡ Some f → OnList records f
-on_list records v s j k f e = record {
-  low = subst (λ (n : ℕ). f < n) s.numbers (s.lists.apart.below j k f e);
-  idle = belongs_idle (record_of records f) j (s.listed j k f e);
+pub framed_behind : {A : Type 0} (lists : A → List ℕ) (f : ℕ) (o : Option ℕ) (r : Option Frame) → r ≡ option_map frame o → ((j : A) (k : ℕ) → slice_get (lists j) k ≡ Some f → o ≡ slice_get (lists j) (k + 1))
+    → (((j : A) (k : ℕ) → slice_get (lists j) k ≡ Some f → ⊥) → o ≡ None) → IsBehind lists f r
+framed_behind lists f o r e behind none = record {
+  behind = λ j k at. e ∙ ap (λ (x : Option ℕ). option_map frame x) (behind j k at);
+  none = λ h. e ∙ ap (λ (x : Option ℕ). option_map frame x) (none h);
 }
 
 module _ (records : List Record) (v : ListsOf) (s : Kept records v) (f : ℕ) (o : Option ℕ)
@@ -40,13 +34,10 @@ module _ (records : List Record) (v : ListsOf) (s : Kept records v) (f : ℕ) (o
   nowhere h (suc zero) k e = h list.Free k e
   nowhere h (suc (suc zero)) k e = h list.Standby k e
   nowhere h (suc (suc (suc zero))) k e = h list.Modified k e
-  nowhere h (suc (suc (suc (suc j)))) k e = let low = list_within v.lists (suc (suc (suc (suc j)))) k f e in absurd (omega (arith, low, s.lists.four))
+  nowhere h (suc (suc (suc (suc j)))) k e = let low = list_within v.lists (suc (suc (suc (suc j)))) k f e in absurd (omega (arith, low, s.lists.counted))
 
-  pub behind_frame : IsBehind (frames_on (table_of records v)) f (option_map frame o)
-  behind_frame = record {
-    behind = λ j k e. ap (λ (x : Option ℕ). option_map frame x) (next_there j k e);
-    none = λ h. ap (λ (x : Option ℕ). option_map frame x) (none (nowhere h));
-  }
+  pub behind_frame : (r : Option Frame) → r ≡ option_map frame o → IsBehind (frames_on (table_of records v)) f r
+  behind_frame r e = framed_behind (frames_on (table_of records v)) f o r e next_there (λ h. none (nowhere h))
 
 -- ---- slots
 

@@ -4,6 +4,7 @@ use Rattle.std.specs.Prelude.{◌&&◌, ◌==◌, nat_lt}
 use Rattle.std.proofs.lemmas.Bool.{eqb-true, eq-eqb, ltb-true, and_parts, and_from, cond-false}
 use Rattle.std.proofs.lemmas.Option.{cond_some, none-some}
 use Rattle.mm_types.proofs.{same_tests, not_true}
+use Rattle.mm_replay.proofs.Outcomes.{kept_at}
 use Rattle.mm_replay.specs.{Sets, Same, Writes, Keeps, near_number, at_number, near_part, first_of, either_way}
 
 -- what two small numbers are as one
@@ -112,19 +113,15 @@ module _ {X : Type 0} where
   unfolding either_way
   far_kept near old new same = λ c d. ap (first_of (near c d)) (same c d)
 
-  pub chosen : (near far : ℕ → ℕ → Option X) (a b : ℕ) → either_way near far a b ≡ first_of (near a b) (far a b)
+  pub chosen : (near far : ℕ → ℕ → Option X) (a b : ℕ) {o : Option X} → near a b ≡ o → either_way near far a b ≡ first_of o (far a b)
   unfolding either_way
-  chosen near far a b = refl
+  chosen near far a b e = ap (λ (x : Option X). first_of x (far a b)) e
 
   -- what has no value is as if it had been taken away
-  none_there : (t : Bool) (x : Option X) → (t ≡ true → x ≡ None) → x ≡ cond t None x
-  none_there true x none = none refl
-  none_there false x none = refl
-
   pub none_removed : (near : ℕ → ℕ → Option X) (a b : ℕ) → near a b ≡ None → Writes near near a b None
-  none_removed near a b none = λ c d. none_there ((c == a) && (d == b)) (near c d) (λ t.
+  none_removed near a b none = λ c d. sym (kept_at ((c == a) && (d == b)) None (near c d) (λ t.
       let both = and_parts (c == a) (d == b) t in
-      ap (λ (i : ℕ). near i d) (eqb-true c a both.0) ∙ ap (near a) (eqb-true d b both.1) ∙ none)
+      sym (ap (λ (i : ℕ). near i d) (eqb-true c a both.0) ∙ ap (near a) (eqb-true d b both.1) ∙ none)))
 
 -- nothing in leaves and nothing in the map
 module _ {X : Type 0} where

@@ -8,7 +8,7 @@ use Rattle.mm_types.specs.{Text, glyph, decimal, decimal_onto}
 use Rattle.mm_moves.proofs.{step_last, step_more, step_none, below_power, onto_append}
 use Rattle.mm_replay.specs.{is_digit, number_from, below, led_by, read_number}
 
-abbrev next : Bool → (ℕ × Text) → (ℕ × Text) → ℕ × Text
+abbrev pub next : Bool → (ℕ × Text) → (ℕ × Text) → ℕ × Text
 next b more last = cond b more last
 
 pub number_digit : (sum c : ℕ) (cs : Text) → 0x30 ≤ c → c ≤ 0x39 → number_from sum (c ∷ cs) ≡ number_from (10 * sum + (c - 0x30)) cs
@@ -25,7 +25,7 @@ number_grows sum [] = omega arith
 number_grows sum (c ∷ cs) =
     grows_by (is_digit c) sum (number_from (10 * sum + (c - 0x30)) cs) (sum, c ∷ cs) (omega (arith, number_grows (10 * sum + (c - 0x30)) cs)) (omega arith)
 
-abbrev short : Bool → ℕ × Text → Option (ℕ × Text)
+abbrev pub short : Bool → ℕ × Text → Option (ℕ × Text)
 short b p = cond b (Some p) None
 
 pub number_past : (sum : ℕ) (cs : Text) → 2 ^ 32 ≤ sum → below (2 ^ 32) (number_from sum cs) ≡ None
@@ -75,7 +75,7 @@ number_stops n (c ∷ cs) e = stop_at (is_digit c) (number_from (10 * n + (c - 0
 
 -- ---- a number's first digit
 
-glyph_is : (d : ℕ) → d < 10 → glyph d ≡ 0x30 + d
+pub glyph_is : (d : ℕ) → d < 10 → glyph d ≡ 0x30 + d
 glyph_is d low = ap (λ b. cond b (0x30 + d) (0x37 + d)) (lt-ltb d 10 low)
 
 -- the first digit is not zero but where the number is
@@ -91,10 +91,10 @@ front (suc count) n rest some low = elim (cases_lt n 10) [
       (up.0, up.1, up.2, up.3, step_more (suc count) n rest large ∙ up.4))
 ]
 
-abbrev led : Bool → Option (ℕ × Text) → Option (ℕ × Text)
+abbrev pub led : Bool → Option (ℕ × Text) → Option (ℕ × Text)
 led b found = cond b found None
 
-abbrev led_more : Bool → Option (ℕ × Text) → ℕ → Text → Option (ℕ × Text)
+abbrev pub led_more : Bool → Option (ℕ × Text) → ℕ → Text → Option (ℕ × Text)
 led_more b more zero_is cs = cond b more (Some (zero_is, cs))
 
 pub is_digit-true : (c : ℕ) → 0x30 ≤ c → c ≤ 0x39 → is_digit c ≡ true

@@ -1,5 +1,5 @@
--- What a call leaves, by its answer, and a choice whose first value is the second.
-use Rattle.std.proofs.Common.{◌≡◌, Bool, true, false, cond, Option, Some, None, refl}
+-- What a call leaves, by its answer, a choice whose first value is the second, and lists of one value.
+use Rattle.std.proofs.Common.{◌≡◌, ℕ, zero, suc, get_or, replicate, Bool, true, false, cond, Option, Some, None, refl}
 use Rattle.std.specs.Prelude.{Result, Ok, Err, OnOk, OnErr, IfNone}
 
 pub on_ok_then : {T E P Q : Type 0} (r : Result T E) → (P → Q) → OnOk r P → OnOk r Q
@@ -17,3 +17,9 @@ if_none (Some x) f = tt
 pub kept_at : {V : Type 0} (b : Bool) (x y : V) → (b ≡ true → x ≡ y) → cond b x y ≡ y
 kept_at true x y h = h refl
 kept_at false x y h = refl
+
+-- a list of one value has it everywhere
+pub filled_at : {X : Type 0} (n k : ℕ) (x : X) → get_or (replicate n x) k x ≡ x
+filled_at zero k x = refl
+filled_at (suc n) zero x = refl
+filled_at (suc n) (suc k) x = filled_at n k x

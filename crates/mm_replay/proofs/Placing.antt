@@ -1,15 +1,15 @@
 -- The list of each frame, as one frame leaves its list, changes or goes to one.
-use Rattle.std.proofs.Common.{◌≡◌, ◌≢◌, ◌⊎◌, ℕ, zero, suc, ◌<◌, ◌≤◌, Bool, true, false, List, [], ◌∷◌, ◌++◌, length, set, map, Option, Some, None, refl, sym, ap, ◌∙◌, inl, inr, arith, length-set, get_or-set_other}
-use Rattle.std.specs.Prelude.{◌-◌, slice_get, ◌==◌, ◌&&◌, ◌||◌, not, nat_lt, is_some, if◌then◌else◌}
+use Rattle.std.proofs.Common.{◌≡◌, ◌≢◌, ℕ, zero, suc, ◌<◌, ◌≤◌, Bool, true, false, List, [], ◌∷◌, ◌++◌, length, set, map, Option, Some, None, refl, sym, ap, ◌∙◌, inl, inr, arith, length-set, get_or-set_other}
+use Rattle.std.specs.Prelude.{slice_get, ◌==◌, ◌&&◌, ◌||◌, not, nat_lt, is_some, if◌then◌else◌}
 use Rattle.std.specs.Cmp.{unsigned_Decides}
-use Rattle.std.proofs.lemmas.Bool.{and_parts, not-true}
+use Rattle.std.proofs.lemmas.Bool.{and_parts, cases_lt, not-true}
 use Rattle.std.proofs.lemmas.List.{get_or_past}
 use Rattle.mm_types.specs.{Key, Record}
-use Rattle.mm_types.proofs.{not_true, or_right, same_or_not, differ}
+use Rattle.mm_types.proofs.{or_right, same_or_not, same_tests, differ}
 use Rattle.mm_life.specs.{blank, is_idle, has_request, is_read, is_first, is_empty, is_on, off_lists}
 use Rattle.mm_lists.specs.{ListsOf, IsOnOne, list_at, number_at, with_list, without}
-use Rattle.mm_lists.proofs.{without_other, Removes, without_removes, list-without, push_found, push_keeps, push_new}
-use Rattle.mm_replay.specs.{AreFour, table_of, record_of, belongs, is_owned, is_changed_page, Kept, Off, IsEmptyFrame}
+use Rattle.mm_lists.proofs.{without_other, without_removes, list-without, push_found, push_keeps, push_new}
+use Rattle.mm_replay.specs.{AreLists, table_of, record_of, belongs, is_owned, is_changed_page, Kept, Off, IsEmptyFrame}
 use Rattle.mm_replay.specs.Sound.{Listed}
 
 -- ---- where a record belongs
@@ -50,20 +50,11 @@ owned_not_low r j owned low e =
 -- ---- frames and lists
 
 module _ (records : List Record) (v : ListsOf) (f : ℕ) where
-  past_blank : (length records ≤ f) → record_of records f ≡ blank
-  past_blank h = get_or_past records f blank h
-
-  low_or_past : (f < length records) ⊎ (record_of records f ≡ blank)
-  low_or_past = elim (same_or_not (f - length records) 0) [
-    | inl e ↦ elim (same_or_not f (length records)) [ inl s ↦ inr (past_blank (omega arith)) | inr d ↦ inl (omega arith) ]
-    | inr d ↦ inr (past_blank (omega arith))
-  ]
-
   -- what the record of no frame does not show
   there_is : (P : Record → Bool) → P blank ≡ false → P (record_of records f) ≡ true → f < length records
-  there_is P absent holds = elim low_or_past [
+  there_is P absent holds = elim (cases_lt f (length records)) [
     | inl h ↦ h
-    | inr e ↦ let bad : true ≡ false = sym holds ∙ ap P e ∙ absent in cc
+    | inr h ↦ let bad : true ≡ false = sym holds ∙ ap P (get_or_past records f blank h) ∙ absent in cc
   ]
 
   pub busy_off : Kept records v → is_idle (record_of records f) ≡ false → Off records v f
@@ -77,20 +68,18 @@ module _ (records : List Record) (v : ListsOf) (f : ℕ) where
     owned = λ g d. k.owned g;
   }
 
-  removed : (w : ListsOf) → Kept records v → w.numbers ≡ v.numbers → AreFour w → f < length records → Removes f v.lists w.lists → Off records w f
-  removed w k same four low r = record {
-    numbers = same ∙ k.numbers;
-    lists = four;
-    low = low;
-    off = λ j m e. (r.gone j m f e).0 refl;
-    listed = λ j m g e. let h = (r.gone j m g e).1 in k.listed j h.0 g h.1;
-    there = λ g d low idle. let h = k.there g low idle in let m = r.kept h.0 h.1 g d h.2 in (h.0, m.0, m.1);
-    owned = λ g d. k.owned g;
-  }
-
-  pub off_left : Kept records v → is_some (record_of records f).owner ≡ true → AreFour (record v { lists = map (without f) v.lists }) → Off records (record v { lists = map (without f) v.lists }) f
+  pub off_left : Kept records v → is_some (record_of records f).owner ≡ true → AreLists 4 (record v { lists = map (without f) v.lists }) → Off records (record v { lists = map (without f) v.lists }) f
   off_left k owned four =
-      removed (record v { lists = map (without f) v.lists }) k refl four (there_is (λ r. is_some r.owner) refl owned) (without_removes f v.lists)
+      let r = without_removes f v.lists in
+      record {
+        numbers = k.numbers;
+        lists = four;
+        low = there_is (λ r. is_some r.owner) refl owned;
+        off = λ j m e. (r.gone j m f e).0 refl;
+        listed = λ j m g e. let h = (r.gone j m g e).1 in k.listed j h.0 g h.1;
+        there = λ g d low idle. let h = k.there g low idle in let m = r.kept h.0 h.1 g d h.2 in (h.0, m.0, m.1);
+        owned = λ g d. k.owned g;
+      }
 
   pub idle_on_one : Kept records v → is_some (record_of records f).owner ≡ true → is_idle (record_of records f) ≡ true → IsOnOne v.lists f
   idle_on_one k owned idle = k.there f (there_is (λ r. is_some r.owner) refl owned) idle
@@ -124,9 +113,9 @@ module _ (records : List Record) (v : ListsOf) (f : ℕ) where
     ];
   }
 
-  pub put_kept : (i : ℕ) → Off records v f → i < 4 → belongs (record_of records f) i ≡ true → AreFour (with_list v i (list_at v.lists i ++ f ∷ [])) → Kept records (with_list v i (list_at v.lists i ++ f ∷ []))
+  pub put_kept : (i : ℕ) → Off records v f → i < 4 → belongs (record_of records f) i ≡ true → AreLists 4 (with_list v i (list_at v.lists i ++ f ∷ [])) → Kept records (with_list v i (list_at v.lists i ++ f ∷ []))
   put_kept i o inside here four =
-      let within : i < length v.lists = omega (arith, inside, o.lists.four) in
+      let within : i < length v.lists = omega (arith, inside, o.lists.counted) in
       record {
         numbers = o.numbers;
         lists = four;
@@ -218,20 +207,17 @@ module _ (records : List Record) (v : ListsOf) (f : ℕ) (k : Kept records v) wh
       on_there f h.1 (list_at v.lists 3) (ap (λ (q : ℕ). number_at v.lists q h.1) (sym three) ∙ h.2)
 
   -- a frame is on the modified list exactly where its record says so
-  pub modified_by : (owned idle changed : Bool) → is_some (record_of records f).owner ≡ owned → is_idle (record_of records f) ≡ idle → (record_of records f).changed ≡ changed → is_on f (list_at v.lists 3) ≡ ((owned && idle) && changed)
-  modified_by owned idle changed a b c = elim (is_on f (list_at v.lists 3)) as (λ on. is_on f (list_at v.lists 3) ≡ on → on ≡ ((owned && idle) && changed)) [
-    | true ↦ λ e.
-        let h = found f (list_at v.lists 3) e in
-        let yes = at_three (is_idle (record_of records f)) (is_some (record_of records f).owner) (record_of records f).changed (k.listed 3 h.0 f h.1) in
-        sym (ap (λ (x : Bool). (x && idle) && changed) (sym a) ∙ ap (λ (y : Bool). (is_some (record_of records f).owner && y) && changed) (sym b) ∙ ap (λ (z : Bool). (is_some (record_of records f).owner && is_idle (record_of records f)) && z) (sym c) ∙ yes)
-    | false ↦ λ e. sym (not_true ((owned && idle) && changed) (λ yes.
-        let p = and_parts (owned && idle) changed yes in
-        let q = and_parts owned idle p.0 in
-        let bad : true ≡ false = sym (modified_true (a ∙ q.0) (b ∙ q.1) (c ∙ p.1)) ∙ e in cc))
-  ] refl
-
   pub modified_here : is_changed_page (record_of records f) ≡ is_on f (list_at v.lists 3)
-  modified_here = sym (modified_by (is_some (record_of records f).owner) (is_idle (record_of records f)) (record_of records f).changed refl refl refl)
+  modified_here =
+      let r = record_of records f in
+      same_tests (is_changed_page r) (is_on f (list_at v.lists 3))
+      (λ e.
+      let p = and_parts (is_some r.owner && is_idle r) r.changed e in
+      let q = and_parts (is_some r.owner) (is_idle r) p.0 in
+      modified_true q.0 q.1 p.1)
+      (λ on.
+      let h = found f (list_at v.lists 3) on in
+      at_three (is_idle r) (is_some r.owner) r.changed (k.listed 3 h.0 f h.1))
 
 -- ---- what the lists say of the records
 

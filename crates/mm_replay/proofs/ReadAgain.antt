@@ -1,17 +1,16 @@
 -- What is spelled is read as the same again.
-use Rattle.std.proofs.Common.{◌≡◌, ℕ, ◌^◌, ◌<◌, Bool, true, cond, [], ◌∷◌, ◌++◌, Option, Some, None, refl, ap, ◌∙◌, arith}
+use Rattle.std.proofs.Common.{◌≡◌, ℕ, ◌^◌, ◌<◌, Bool, true, cond, [], ◌∷◌, ◌++◌, Option, Some, None, refl, ap, arith}
 use Rattle.std.proofs.lemmas.Bool.{lt-ltb}
 use Rattle.mm_types.specs.{Text, decimal, Pid, Frame, Block, Key, Place, LineKind, Stored, Move}
 use Rattle.mm_types.specs.declared.numbers.Key.TheVariants.{Private, Shared}
 use Rattle.mm_types.specs.declared.moves.LineKind.TheVariants as kind
 use Rattle.mm_types.specs.declared.moves.Stored.TheVariants as stored
 use Rattle.mm_types.specs.declared.moves.Move.TheVariants as move
-use Rattle.mm_life.specs.{place_onto, key_onto, kind_onto, stored_onto, home_onto, move_onto, move_text, IsKey, IsPlace, IsKind, IsStored, IsBlock}
-use Rattle.mm_life.specs.{IsMove}
+use Rattle.mm_life.specs.{place_onto, key_onto, kind_onto, stored_onto, home_onto, move_onto, IsKey, IsPlace, IsKind, IsStored, IsBlock, IsMove}
 use Rattle.mm_replay.specs.{pid, read_pid, read_place, read_key, read_kind, home_behind, stored_behind, read_text}
 use Rattle.mm_replay.proofs.Numbers.{ends_number, read_number-decimal}
 
-abbrev small_or : Bool → ℕ → Text → Option (Pid × Text)
+abbrev pub small_or : Bool → ℕ → Text → Option (Pid × Text)
 small_or b n text = cond b (Some (pid n, text)) None
 
 read_pid-decimal : (n : ℕ) (behind : Text) → n < 2 ^ 8 → ends_number behind ≡ true → read_pid (decimal n ++ behind) ≡ Some (pid n, behind)
@@ -83,9 +82,6 @@ read_text-onto (move.Soil f) b h e = rw (read_number-decimal f.0 b h e)
 read_text-onto (move.Write f s) b h e = rw (read_number-decimal f.0 (stored_onto s b) h.0 (stored-ends s b), stored-onto f s b h.1 e)
 read_text-onto (move.Wrote f) b h e = rw (read_number-decimal f.0 b h e)
 read_text-onto (move.Lost f) b h e = rw (read_number-decimal f.0 b h e)
-
-pub read_text-spelled : (m : Move) → IsMove m → read_text (move_text m) ≡ Some (m, [])
-read_text-spelled m h = read_text-onto m [] h refl
 
 -- what was read, and what stands after it
 abbrev pub value_of : {A : Type 0} → Option (A × Text) → Option A

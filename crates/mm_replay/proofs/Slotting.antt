@@ -1,7 +1,9 @@
 -- The lowest free slot, kept apart from the others.
-use Rattle.std.proofs.Common.{◌≡◌, ◌≢◌, ℕ, zero, suc, ◌<◌, ◌≤◌, Bool, true, false, List, [], ◌∷◌, ◌++◌, length, Option, Some, None, refl, sym, ap, ◌∙◌, subst, inl, inr, arith}
+use Rattle.std.proofs.Common.{◌≡◌, ◌≢◌, ℕ, zero, suc, ◌<◌, ◌≤◌, Bool, true, false, List, [], ◌∷◌, ◌++◌, length, get_or, Option, Some, None, refl, sym, ap, ◌∙◌, subst, inl, inr, arith}
 use Rattle.std.specs.Prelude.{not, ◌&&◌, ◌==◌, slice_get, slice_set}
 use Rattle.std.specs.Cmp.{unsigned_Decides}
+use Rattle.std.proofs.lemmas.List.{set-set, set_comm, set-get_or, set-append_left}
+use Rattle.std.proofs.lemmas.Option.{get_or_from_slice_get, slice_get-get_or}
 use Rattle.mm_types.proofs.{same_or_not, get_set_same, get_set_other, get_within, differ}
 use Rattle.mm_life.specs.{is_lowest}
 use Rattle.mm_slots.specs.{free_count, IsLowest}
@@ -54,26 +56,12 @@ lowest_some s t xs l = elim (same_or_not t s) [
 ]
 
 pub same_set : (xs : List Bool) (k : ℕ) (b : Bool) → slice_get xs k ≡ Some b → slice_set xs k b ≡ xs
-same_set [] k b e = refl
-same_set (x ∷ xs) zero b e = ap (λ y. y ∷ xs) (sym (one_bool x b e))
-same_set (x ∷ xs) (suc k) b e = ap (λ ys. x ∷ ys) (same_set xs k b e)
+same_set xs k b e = ap (λ (x : Bool). slice_set xs k x) (sym (get_or_from_slice_get xs k b false e)) ∙ set-get_or xs k false
 
 pub past_set : (xs : List Bool) (k : ℕ) (b : Bool) → slice_get xs k ≡ None → slice_set xs k b ≡ xs
 past_set [] k b e = refl
 past_set (x ∷ xs) zero b e = let bad : Some x ≡ None = e in cc
 past_set (x ∷ xs) (suc k) b e = ap (λ ys. x ∷ ys) (past_set xs k b e)
-
-twice_set : (xs : List Bool) (k : ℕ) (a b : Bool) → slice_set (slice_set xs k a) k b ≡ slice_set xs k b
-twice_set [] k a b = refl
-twice_set (x ∷ xs) zero a b = refl
-twice_set (x ∷ xs) (suc k) a b = ap (λ ys. x ∷ ys) (twice_set xs k a b)
-
-set_apart : (xs : List Bool) (j k : ℕ) (a b : Bool) → j ≢ k → slice_set (slice_set xs j a) k b ≡ slice_set (slice_set xs k b) j a
-set_apart [] j k a b d = refl
-set_apart (x ∷ xs) zero zero a b d = absurd (d refl)
-set_apart (x ∷ xs) zero (suc k) a b d = refl
-set_apart (x ∷ xs) (suc j) zero a b d = refl
-set_apart (x ∷ xs) (suc j) (suc k) a b d = ap (λ ys. x ∷ ys) (set_apart xs j k a b (λ e. d (ap suc e)))
 
 not_both : (xs : List Bool) (s t : ℕ) → slice_get xs s ≡ Some false → slice_get xs t ≡ Some true → s ≢ t
 not_both xs s t a b e = let bad : Some false ≡ Some true = sym a ∙ ap (λ (k : ℕ). slice_get xs k) e ∙ b in cc
@@ -88,18 +76,13 @@ given_first free others s a taken =
         is_free = get_set_same free s true within;
         below = λ k h. get_set_other free s k true (λ e. omega (arith, e)) ∙ taken_at free k s within h a.is_lowest;
       };
-      others_are = a.others_are ∙ sym (same_set free s false taken) ∙ sym (twice_set free s true false);
+      others_are = a.others_are ∙ sym (same_set free s false taken) ∙ sym (set-set free s true false);
     }
   where
-    there : (xs : List Bool) (k : ℕ) → k < length xs → (b : Bool) × (slice_get xs k ≡ Some b)
-    there [] k h = absurd (omega arith)
-    there (x ∷ xs) zero h = (x, refl)
-    there (x ∷ xs) (suc k) h = there xs k (omega arith)
-
     taken_at : (xs : List Bool) (k s : ℕ) → s < length xs → k < s → free_count xs ≡ 0 → slice_get xs k ≡ Some false
     taken_at xs k s within low none =
-        let h = there xs k (omega (arith, within, low)) in
-        h.1 ∙ ap (λ (b : Bool). Some b) (none_free xs k h.0 none h.1)
+        let h = slice_get-get_or xs k false (omega (arith, within, low)) in
+        h ∙ ap (λ (b : Bool). Some b) (none_free xs k (get_or xs k false) none h)
 
 module _ (free others : List Bool) (s t : ℕ) (a : AreApartFrom free (Some t) others) (taken : slice_get free s ≡ Some false) where
   pub given_taken : slice_get others s ≡ Some false
@@ -114,7 +97,7 @@ module _ (free others : List Bool) (s t : ℕ) (a : AreApartFrom free (Some t) o
       is_free = get_set_other free s t true (λ e. omega (arith, e, h)) ∙ a.is_lowest.is_free;
       below = λ k low. get_set_other free s k true (λ e. omega (arith, e, h, low)) ∙ a.is_lowest.below k low;
     };
-    others_are = ap (λ (xs : List Bool). slice_set xs s true) a.others_are ∙ set_apart free t s false true (λ e. omega (arith, e, h));
+    others_are = ap (λ (xs : List Bool). slice_set xs s true) a.others_are ∙ set_comm free t s false true (λ e. omega (arith, e, h));
   }
 
   pub given_before : s ≤ t → AreApartFrom (slice_set free s true) (Some s) (slice_set others t true)
@@ -126,8 +109,8 @@ module _ (free others : List Bool) (s t : ℕ) (a : AreApartFrom free (Some t) o
           below = λ k low. get_set_other free s k true (λ e. omega (arith, e, low)) ∙ a.is_lowest.below k (omega (arith, low, h));
         };
         others_are =
-            ap (λ (xs : List Bool). slice_set xs t true) a.others_are ∙ twice_set free t false true ∙ same_set free t true a.is_lowest.is_free
-            ∙ sym (same_set free s false taken) ∙ sym (twice_set free s true false);
+            ap (λ (xs : List Bool). slice_set xs t true) a.others_are ∙ set-set free t false true ∙ same_set free t true a.is_lowest.is_free
+            ∙ sym (same_set free s false taken) ∙ sym (set-set free s true false);
       }
 
 -- ---- a slot is taken
@@ -153,18 +136,13 @@ get_front [] ys k b e = let bad : None ≡ Some b = e in cc
 get_front (x ∷ xs) ys zero b e = e
 get_front (x ∷ xs) ys (suc k) b e = get_front xs ys k b e
 
-set_front : (xs ys : List Bool) (k : ℕ) (a b : Bool) → slice_get xs k ≡ Some a → slice_set xs k b ++ ys ≡ slice_set (xs ++ ys) k b
-set_front [] ys k a b e = let bad : None ≡ Some a = e in cc
-set_front (x ∷ xs) ys zero a b e = refl
-set_front (x ∷ xs) ys (suc k) a b e = ap (λ zs. x ∷ zs) (set_front xs ys k a b e)
-
 pub grown_some : (free others others' more : List Bool) (t : ℕ) → AreApartFrom free (Some t) others → others' ≡ others ++ more → AreApartFrom (free ++ more) (Some t) others'
 grown_some free others others' more t a e = record {
   is_lowest = record {
     is_free = get_front free more t true a.is_lowest.is_free;
     below = λ k h. get_front free more k false (a.is_lowest.below k h);
   };
-  others_are = e ∙ ap (λ (xs : List Bool). xs ++ more) a.others_are ∙ set_front free more t true false a.is_lowest.is_free;
+  others_are = e ∙ ap (λ (xs : List Bool). xs ++ more) a.others_are ∙ sym (set-append_left free more t false (get_within free t true a.is_lowest.is_free));
 }
 
 pub ruleset slotting = (lowest_none, lowest_some, past_set, same_set)

@@ -1,20 +1,20 @@
 -- What is read stands in the text: its spelling, in front of the text that is given after it.
 use Rattle.std.proofs.Common.{◌≡◌, ◌==◌, ◌⊎◌, length, ℕ, ◌+◌, ◌-◌, ◌*◌, ◌%◌, ◌^◌, ◌≤◌, ◌<◌, Bool, true, false, cond, [], ◌∷◌, ◌++◌, codes, Option, Some, None, refl, sym, ap, ◌∙◌, subst, inl, inr, arith, append_assoc, nat_le, nat_lt}
 use Rattle.std.proofs.lemmas.Bool.{lt-ltb, le-ltb, cases_lt, lt-leb, and_left, and_right, eqb-true, ltb-true}
-use Rattle.mm_types.specs.{Text, glyph, decimal, Pid, Frame, Key, Place, LineKind, Move}
+use Rattle.mm_types.specs.{Text, glyph, decimal, Pid, Frame, Key, LineKind, Move}
 use Rattle.mm_types.specs.declared.numbers.Key.TheVariants.{Private, Shared}
 use Rattle.mm_types.specs.declared.moves.LineKind.TheVariants as kind
 use Rattle.mm_types.specs.declared.moves.Stored.TheVariants as stored
 use Rattle.mm_types.specs.declared.moves.Move.TheVariants as move
 use Rattle.mm_life.specs.{numbered, place_onto, key_onto, kind_onto, move_onto, IsKey, IsPlace, IsKind, IsMove}
-use Rattle.mm_replay.specs.{pid, vpn, area, slot, block, place, reading, past, past_or, strip, number_from, below, is_digit, led_by, read_number}
-use Rattle.mm_replay.specs.{small, read_pid, number_behind, read_place, read_private, read_shared, read_key, read_frame, read_machine, read_process}
+use Rattle.mm_replay.specs.{vpn, area, slot, block, place, reading, past, past_or, strip, number_from, below, is_digit, led_by, read_number, small}
+use Rattle.mm_replay.specs.{read_pid, number_behind, read_place, read_private, read_shared, read_key, read_frame, read_machine, read_process}
 use Rattle.mm_replay.specs.{read_unbind, read_access, read_thread, read_trim, read_grow, read_plain_kind, read_kind, kind_behind, read_at}
-use Rattle.mm_replay.specs.{home_behind, read_add, read_drop, key_behind, read_give, read_read, place_behind, read_map, read_unmap, stored_behind}
-use Rattle.mm_replay.specs.{read_write, read_clear, read_steal, read_got, read_bad, read_soil, read_wrote, read_lost, read_end, read_taking}
-use Rattle.mm_replay.specs.{read_text}
+use Rattle.mm_replay.specs.{home_behind, read_add, read_drop, read_give, read_read, read_map, read_unmap, stored_behind, read_write, read_clear}
+use Rattle.mm_replay.specs.{read_steal, read_got, read_bad, read_soil, read_wrote, read_lost, read_end, read_taking, read_text}
 use Rattle.mm_replay.specs.Reading.{frame}
-use Rattle.mm_replay.proofs.Numbers.{number_digit, number_grows, is_digit-true}
+use Rattle.mm_replay.proofs.Numbers.{next, short, led, led_more, glyph_is, number_digit, number_grows, is_digit-true}
+use Rattle.mm_replay.proofs.ReadAgain.{small_or, read_key-onto, read_text-onto, value_of, rest_of}
 use Rattle.mm_moves.proofs.{decimal_one, decimal_more}
 
 -- a value that was read is spelled in front of the text after it, and is one of those that are asked for
@@ -63,17 +63,16 @@ abbrev decimal_front : ℕ → Text → Text
 decimal_front n behind = decimal n ++ behind
 
 glyph_of : (c : ℕ) → 0x30 ≤ c → c ≤ 0x39 → glyph (c - 0x30) ≡ c
-glyph_of c low high = ap (λ b. cond b (0x30 + (c - 0x30)) (0x37 + (c - 0x30))) (lt-ltb (c - 0x30) 10 (omega arith)) ∙ omega arith
+glyph_of c low high = glyph_is (c - 0x30) (omega arith) ∙ omega arith
 
-not_digit : (c : ℕ) → (c < 0x30) ⊎ (0x39 < c) → is_digit c ≡ false
-not_digit c (inl low) = and_left (nat_le 0x30 c) (nat_le c 0x39) (lt-leb 0x30 c low)
-not_digit c (inr high) = and_right (nat_le 0x30 c) (nat_le c 0x39) (lt-leb c 0x39 high)
-
-abbrev stops : Bool → (ℕ × Text) → (ℕ × Text) → ℕ × Text
-stops b more last = cond b more last
+digit_or : (c : ℕ) → (is_digit c ≡ false) ⊎ ((0x30 ≤ c) × (c ≤ 0x39))
+digit_or c = elim (cases_lt c 0x30) [
+  | inl low ↦ inl (and_left (nat_le 0x30 c) (nat_le c 0x39) (lt-leb 0x30 c low))
+  | inr low ↦ elim (cases_lt 0x39 c) [ inl high ↦ inl (and_right (nat_le 0x30 c) (nat_le c 0x39) (lt-leb c 0x39 high)) | inr high ↦ inr (low, high) ]
+]
 
 number_ends : (sum c : ℕ) (cs : Text) → is_digit c ≡ false → number_from sum (c ∷ cs) ≡ (sum, c ∷ cs)
-number_ends sum c cs e = ap (λ b. stops b (number_from (10 * sum + (c - 0x30)) cs) (sum, c ∷ cs)) e
+number_ends sum c cs e = ap (λ b. next b (number_from (10 * sum + (c - 0x30)) cs) (sum, c ∷ cs)) e
 
 -- a digit more
 digit_more : (sum c : ℕ) (cs : Text) → 0 < sum → 0x30 ≤ c → c ≤ 0x39 → 10 * sum + (c - 0x30) < 2 ^ 32 → decimal (10 * sum + (c - 0x30)) ++ cs ≡ decimal sum ++ c ∷ cs
@@ -91,51 +90,36 @@ Digits sum text p = p.0 < 2 ^ 32 → decimal p.0 ++ p.1 ≡ decimal sum ++ text
 
 digits_sound : (sum : ℕ) (text : Text) → 0 < sum → Digits sum text (number_from sum text)
 digits_sound sum [] some = λ h. refl
-digits_sound sum (c ∷ cs) some = elim (cases_lt c 0x30) [
-  | inl low ↦ subst (Digits sum (c ∷ cs)) (sym (number_ends sum c cs (not_digit c (inl low)))) (λ h. refl)
-  | inr low ↦ elim (cases_lt 0x39 c) [
-    | inl high ↦ subst (Digits sum (c ∷ cs)) (sym (number_ends sum c cs (not_digit c (inr high)))) (λ h. refl)
-    | inr high ↦
-        (let next = 10 * sum + (c - 0x30) in
-        subst (Digits sum (c ∷ cs)) (sym (number_digit sum c cs low high))
-        (λ h. digits_sound next cs (omega arith) h ∙ digit_more sum c cs some low high (omega (arith, h, number_grows next cs))))
-  ]
+digits_sound sum (c ∷ cs) some = elim (digit_or c) [
+  | inl none ↦ subst (Digits sum (c ∷ cs)) (sym (number_ends sum c cs none)) (λ h. refl)
+  | inr d ↦
+      (let more = 10 * sum + (c - 0x30) in
+      subst (Digits sum (c ∷ cs)) (sym (number_digit sum c cs d.0 d.1))
+      (λ h. digits_sound more cs (omega arith) h ∙ digit_more sum c cs some d.0 d.1 (omega (arith, h, number_grows more cs))))
 ]
 
-abbrev limits : Bool → (ℕ × Text) → Option (ℕ × Text)
-limits b p = cond b (Some p) None
-
-below_sound : (text : Text) (p : ℕ × Text) (b : Bool) → nat_lt p.0 (2 ^ 32) ≡ b → (p.0 < 2 ^ 32 → decimal p.0 ++ p.1 ≡ text) → Sounds decimal_front IsWord text (limits b p)
+below_sound : (text : Text) (p : ℕ × Text) (b : Bool) → nat_lt p.0 (2 ^ 32) ≡ b → (p.0 < 2 ^ 32 → decimal p.0 ++ p.1 ≡ text) → Sounds decimal_front IsWord text (short b p)
 below_sound text p false e sound = tt
 below_sound text p true e sound = let h : p.0 < 2 ^ 32 = ltb-true p.0 (2 ^ 32) e in (sound h, h)
-
-abbrev limited : Bool → Option (ℕ × Text) → Text → Option (ℕ × Text)
-limited b more cs = cond b more (Some (0, cs))
 
 led_sound : (c : ℕ) (cs : Text) → 0x30 ≤ c → c ≤ 0x39 → Sounds decimal_front IsWord (c ∷ cs) (led_by c cs)
 led_sound c cs low high = elim (cases_lt 0x30 c) [
   | inl more ↦
       (let p = number_from (c - 0x30) cs in
       let one : decimal (c - 0x30) ++ cs ≡ c ∷ cs = ap (λ t. t ++ cs) (decimal_one (c - 0x30) (omega arith)) ∙ ap (λ d. d ∷ cs) (glyph_of c low high) in
-      subst (Sounds decimal_front IsWord (c ∷ cs)) (sym (ap (λ b. limited b (below (2 ^ 32) p) cs) (lt-ltb 0x30 c more)))
+      subst (Sounds decimal_front IsWord (c ∷ cs)) (sym (ap (λ b. led_more b (below (2 ^ 32) p) 0 cs) (lt-ltb 0x30 c more)))
       (below_sound (c ∷ cs) p (nat_lt p.0 (2 ^ 32)) refl (λ h. digits_sound (c - 0x30) cs (omega arith) h ∙ one)))
   | inr zero_is ↦
       (let e : 0x30 ≡ c = omega arith in
-      subst (Sounds decimal_front IsWord (c ∷ cs)) (sym (ap (λ b. limited b (below (2 ^ 32) (number_from (c - 0x30) cs)) cs) (le-ltb 0x30 c zero_is)))
+      subst (Sounds decimal_front IsWord (c ∷ cs)) (sym (ap (λ b. led_more b (below (2 ^ 32) (number_from (c - 0x30) cs)) 0 cs) (le-ltb 0x30 c zero_is)))
       (ap (λ t. t ++ cs) (decimal_one 0 (omega arith)) ∙ ap (λ d. d ∷ cs) e, omega arith))
 ]
 
-abbrev led : Bool → Option (ℕ × Text) → Option (ℕ × Text)
-led b found = cond b found None
-
 pub number_sound : (text : Text) → Sounds decimal_front IsWord text (read_number text)
 number_sound [] = tt
-number_sound (c ∷ cs) = elim (cases_lt c 0x30) [
-  | inl low ↦ subst (Sounds decimal_front IsWord (c ∷ cs)) (sym (ap (λ b. led b (led_by c cs)) (not_digit c (inl low)))) tt
-  | inr low ↦ elim (cases_lt 0x39 c) [
-    | inl high ↦ subst (Sounds decimal_front IsWord (c ∷ cs)) (sym (ap (λ b. led b (led_by c cs)) (not_digit c (inr high)))) tt
-    | inr high ↦ subst (Sounds decimal_front IsWord (c ∷ cs)) (sym (ap (λ b. led b (led_by c cs)) (is_digit-true c low high))) (led_sound c cs low high)
-  ]
+number_sound (c ∷ cs) = elim (digit_or c) [
+  | inl none ↦ subst (Sounds decimal_front IsWord (c ∷ cs)) (sym (ap (λ b. led b (led_by c cs)) none)) tt
+  | inr d ↦ subst (Sounds decimal_front IsWord (c ∷ cs)) (sym (ap (λ b. led b (led_by c cs)) (is_digit-true c d.0 d.1))) (led_sound c cs d.0 d.1)
 ]
 
 -- the same spelling within a longer one
@@ -156,10 +140,7 @@ pid_front p behind = decimal p.0 ++ behind
 abbrev IsPid : Pid → Type 0
 IsPid p = p.0 < 2 ^ 8
 
-abbrev smalls : Bool → ℕ → Text → Option (Pid × Text)
-smalls b n text = cond b (Some (pid n, text)) None
-
-small_by : (b : Bool) (n : ℕ) (rest text : Text) → nat_lt n 256 ≡ b → decimal n ++ rest ≡ text → Sounds pid_front IsPid text (smalls b n rest)
+small_by : (b : Bool) (n : ℕ) (rest text : Text) → nat_lt n 256 ≡ b → decimal n ++ rest ≡ text → Sounds pid_front IsPid text (small_or b n rest)
 small_by false n rest text low e = tt
 small_by true n rest text low e = (e, ltb-true n 256 low)
 
@@ -195,7 +176,7 @@ shared_sound inner text w =
     (λ a rest e h. then_reads (numbered (codes ".")) IsWord key_onto IsKey rest text (number_behind (codes ".") rest) (λ i last. Some (Shared (area a) i, last)) (behind_sound (codes ".") rest)
     (λ i last f k. (ap (λ t. codes "s" ++ t) (ap (λ t. decimal a ++ t) f ∙ e) ∙ w, (h, k))))
 
-pub key_sound : (text : Text) → Sounds key_onto IsKey text (read_key text)
+key_sound : (text : Text) → Sounds key_onto IsKey text (read_key text)
 key_sound text =
     either_reads (codes "p") key_onto IsKey text text (strip (codes "p") text) read_private (past (strip (codes "s") text) read_shared) (strips (codes "p") text)
     (λ rest e. private_sound rest text e)
@@ -203,12 +184,11 @@ key_sound text =
 
 -- ---- kinds of lines
 
--- a word and a process
-pid_kind : (word inner text : Text) (k : Pid → LineKind) → word ++ inner ≡ text → ((p : Pid) (b : Text) → kind_onto (k p) b ≡ numbered word p.0 b) → ((p : Pid) → IsPid p → IsKind (k p))
-    → Sounds kind_onto IsKind text (reading (read_pid inner) (λ p behind. Some (k p, behind)))
-pid_kind word inner text k w spelled is =
-    then_reads pid_front IsPid kind_onto IsKind inner text (read_pid inner) (λ p behind. Some (k p, behind)) (pid_sound inner)
-    (λ p rest e h. (spelled p rest ∙ ap (λ t. word ++ t) e ∙ w, is p h))
+-- a word and a value
+word_then : {A X : Type 0} (onto : A → Text → Text) (Is : A → Type 0) (onto_x : X → Text → Text) (IsX : X → Type 0) (word inner text : Text) (x : A → X) (r : Option (A × Text)) → Sounds onto Is inner r → word ++ inner ≡ text
+    → ((a : A) (b : Text) → onto_x (x a) b ≡ word ++ onto a b) → ((a : A) → Is a → IsX (x a)) → Sounds onto_x IsX text (reading r (λ a last. Some (x a, last)))
+word_then onto Is onto_x IsX word inner text x r sound w spelled is =
+    then_reads onto Is onto_x IsX inner text r (λ a last. Some (x a, last)) sound (λ a rest e h. (spelled a rest ∙ ap (λ t. word ++ t) e ∙ w, is a h))
 
 machine_sound : (inner text : Text) → codes "machine " ++ inner ≡ text → Sounds kind_onto IsKind text (read_machine inner)
 machine_sound inner text w =
@@ -243,11 +223,6 @@ process_sound inner text w =
       (h, i, j),
     ))))
 
-grow_sound : (inner text : Text) → codes "grow " ++ inner ≡ text → Sounds kind_onto IsKind text (read_grow inner)
-grow_sound inner text w =
-    then_reads decimal_front IsWord kind_onto IsKind inner text (read_number inner) (λ n behind. Some (kind.Grow n, behind)) (number_sound inner)
-    (λ n rest e h. (ap (λ t. codes "grow " ++ t) e ∙ w, h))
-
 kind_or : (word text : Text) (go : Text → Option (LineKind × Text)) (other : Option (LineKind × Text)) → ((rest : Text) → word ++ rest ≡ text → Sounds kind_onto IsKind text (go rest)) → Sounds kind_onto IsKind text other
     → Sounds kind_onto IsKind text (past_or (strip word text) go other)
 kind_or word text go other first last = either_reads word kind_onto IsKind text text (strip word text) go other (strips word text) first last
@@ -259,25 +234,18 @@ plain_kind_sound text =
     (kind_or (codes "zeroer") text (λ t. Some (kind.Zeroer, t)) _ (λ rest e. (e, tt))
     (kind_or (codes "io") text (λ t. Some (kind.Io, t)) _ (λ rest e. (e, tt))
     (kind_or (codes "machine ") text read_machine _ (λ rest e. machine_sound rest text e)
-    (past_reads (codes "grow ") kind_onto IsKind text text (strip (codes "grow ") text) read_grow (strips (codes "grow ") text) (λ rest e. grow_sound rest text e))))))
+    (past_reads (codes "grow ") kind_onto IsKind text text (strip (codes "grow ") text) read_grow (strips (codes "grow ") text) (λ rest e. word_then decimal_front IsWord kind_onto IsKind (codes "grow ") rest text kind.Grow (read_number rest) (number_sound rest) e (λ n b. refl) (λ n h. h)))))))
 
 kind_sound : (text : Text) → Sounds kind_onto IsKind text (read_kind text)
 kind_sound text =
-    kind_or (codes "access ") text read_access _ (λ rest e. pid_kind (codes "access ") rest text kind.Access e (λ p b. refl) (λ p h. h))
-    (kind_or (codes "thread ") text read_thread _ (λ rest e. pid_kind (codes "thread ") rest text kind.Thread e (λ p b. refl) (λ p h. h))
-    (kind_or (codes "unbind ") text read_unbind _ (λ rest e. pid_kind (codes "unbind ") rest text kind.Unbind e (λ p b. refl) (λ p h. h))
-    (kind_or (codes "trim ") text read_trim _ (λ rest e. pid_kind (codes "trim ") rest text kind.Trim e (λ p b. refl) (λ p h. h))
+    kind_or (codes "access ") text read_access _ (λ rest e. word_then pid_front IsPid kind_onto IsKind (codes "access ") rest text kind.Access (read_pid rest) (pid_sound rest) e (λ p b. refl) (λ p h. h))
+    (kind_or (codes "thread ") text read_thread _ (λ rest e. word_then pid_front IsPid kind_onto IsKind (codes "thread ") rest text kind.Thread (read_pid rest) (pid_sound rest) e (λ p b. refl) (λ p h. h))
+    (kind_or (codes "unbind ") text read_unbind _ (λ rest e. word_then pid_front IsPid kind_onto IsKind (codes "unbind ") rest text kind.Unbind (read_pid rest) (pid_sound rest) e (λ p b. refl) (λ p h. h))
+    (kind_or (codes "trim ") text read_trim _ (λ rest e. word_then pid_front IsPid kind_onto IsKind (codes "trim ") rest text kind.Trim (read_pid rest) (pid_sound rest) e (λ p b. refl) (λ p h. h))
     (kind_or (codes "process ") text read_process _ (λ rest e. process_sound rest text e)
     (plain_kind_sound text)))))
 
 -- ---- moves
-
--- a word and a frame
-frame_move : (word inner text : Text) (m : Frame → Move) → word ++ inner ≡ text → ((f : Frame) (b : Text) → move_onto (m f) b ≡ numbered word f.0 b) → ((f : Frame) → IsFrame f → IsMove (m f))
-    → Sounds move_onto IsMove text (reading (read_frame inner) (λ f last. Some (m f, last)))
-frame_move word inner text m w spelled is =
-    then_reads frame_front IsFrame move_onto IsMove inner text (read_frame inner) (λ f last. Some (m f, last)) (frame_sound inner)
-    (λ f rest e h. (spelled f rest ∙ ap (λ t. word ++ t) e ∙ w, is f h))
 
 at_sound : (inner text : Text) → codes "at " ++ inner ≡ text → Sounds move_onto IsMove text (read_at inner)
 at_sound inner text w =
@@ -299,24 +267,17 @@ add_sound inner text w =
     then_reads key_onto IsKey move_onto IsMove inner text (read_key inner) home_behind (key_sound inner)
     (λ k rest e h. home_sound k rest text h (ap (λ x. codes "add " ++ x) e ∙ w))
 
--- a word, a frame and a key
-key_move : (word inner text : Text) (m : Frame → Key → Move) → word ++ inner ≡ text → ((f : Frame) (k : Key) (b : Text) → move_onto (m f k) b ≡ numbered word f.0 (codes " " ++ key_onto k b))
-    → ((f : Frame) (k : Key) → IsFrame f → IsKey k → IsMove (m f k)) → Sounds move_onto IsMove text (reading (read_frame inner) (λ f behind. reading (key_behind behind) (λ k last. Some (m f k, last))))
-key_move word inner text m w spelled is =
-    then_reads frame_front IsFrame move_onto IsMove inner text (read_frame inner) (λ f behind. reading (key_behind behind) (λ k last. Some (m f k, last))) (frame_sound inner)
-    (λ f t e h. then_reads (λ k b. codes " " ++ key_onto k b) IsKey move_onto IsMove t text (key_behind t) (λ k last. Some (m f k, last))
-    (past_reads (codes " ") (λ k b. codes " " ++ key_onto k b) IsKey t t (strip (codes " ") t) read_key (strips (codes " ") t)
-    (λ u g. carry key_onto (λ k b. codes " " ++ key_onto k b) IsKey u t (read_key u) (key_sound u) (λ k last i. ap (λ x. codes " " ++ x) i ∙ g)))
-    (λ k last g i. (spelled f k last ∙ ap (λ x. word ++ (decimal f.0 ++ x)) g ∙ ap (λ x. word ++ x) e ∙ w, is f k h i)))
-
-map_sound : (inner text : Text) → codes "map " ++ inner ≡ text → Sounds move_onto IsMove text (read_map inner)
-map_sound inner text w =
-    let spaced_place = (λ (p : Place) (b : Text). codes " " ++ place_onto p b) in
-    then_reads frame_front IsFrame move_onto IsMove inner text (read_frame inner) (λ f behind. reading (place_behind behind) (λ p last. Some (move.Map f p, last))) (frame_sound inner)
-    (λ f t e h. then_reads spaced_place IsPlace move_onto IsMove t text (place_behind t) (λ p last. Some (move.Map f p, last))
-    (past_reads (codes " ") spaced_place IsPlace t t (strip (codes " ") t) read_place (strips (codes " ") t)
-    (λ u g. carry place_onto spaced_place IsPlace u t (read_place u) (place_sound u) (λ p last i. ap (λ x. codes " " ++ x) i ∙ g)))
-    (λ p last g i. (ap (λ x. codes "map " ++ (decimal f.0 ++ x)) g ∙ ap (λ x. codes "map " ++ x) e ∙ w, (h, i))))
+-- a word, a frame and, after a space, a key or a place
+frame_then : {A : Type 0} (onto : A → Text → Text) (Is : A → Type 0) (read : Text → Option (A × Text)) → ((t : Text) → Sounds onto Is t (read t)) → (word inner text : Text) (m : Frame → A → Move) → word ++ inner ≡ text
+    → ((f : Frame) (a : A) (b : Text) → move_onto (m f a) b ≡ numbered word f.0 (codes " " ++ onto a b)) → ((f : Frame) (a : A) → IsFrame f → Is a → IsMove (m f a))
+    → Sounds move_onto IsMove text (reading (read_frame inner) (λ f behind. reading (past (strip (codes " ") behind) read) (λ a last. Some (m f a, last))))
+frame_then {A = A} onto Is read sound word inner text m w spelled is =
+    let spaced = (λ (a : A) (b : Text). codes " " ++ onto a b) in
+    then_reads frame_front IsFrame move_onto IsMove inner text (read_frame inner) (λ f behind. reading (past (strip (codes " ") behind) read) (λ a last. Some (m f a, last))) (frame_sound inner)
+    (λ f t e h. then_reads spaced Is move_onto IsMove t text (past (strip (codes " ") t) read) (λ a last. Some (m f a, last))
+    (past_reads (codes " ") spaced Is t t (strip (codes " ") t) read (strips (codes " ") t)
+    (λ u g. carry onto spaced Is u t (read u) (sound u) (λ a last i. ap (λ x. codes " " ++ x) i ∙ g)))
+    (λ a last g i. (spelled f a last ∙ ap (λ x. word ++ (decimal f.0 ++ x)) g ∙ ap (λ x. word ++ x) e ∙ w, is f a h i)))
 
 stored_sound : (f : Frame) (inner text : Text) → IsFrame f → numbered (codes "write ") f.0 inner ≡ text → Sounds move_onto IsMove text (stored_behind f inner)
 stored_sound f inner text is w =
@@ -339,41 +300,62 @@ move_or word text go other first last = either_reads word move_onto IsMove text 
 
 end_sound : (text : Text) → Sounds move_onto IsMove text (read_end text)
 end_sound text =
-    move_or (codes "wrote ") text read_wrote _ (λ rest e. frame_move (codes "wrote ") rest text move.Wrote e (λ f b. refl) (λ f h. h))
-    (move_or (codes "got ") text read_got _ (λ rest e. frame_move (codes "got ") rest text move.Got e (λ f b. refl) (λ f h. h))
-    (move_or (codes "soil ") text read_soil _ (λ rest e. frame_move (codes "soil ") rest text move.Soil e (λ f b. refl) (λ f h. h))
-    (move_or (codes "lost ") text read_lost _ (λ rest e. frame_move (codes "lost ") rest text move.Lost e (λ f b. refl) (λ f h. h))
+    move_or (codes "wrote ") text read_wrote _ (λ rest e. word_then frame_front IsFrame move_onto IsMove (codes "wrote ") rest text move.Wrote (read_frame rest) (frame_sound rest) e (λ f b. refl) (λ f h. h))
+    (move_or (codes "got ") text read_got _ (λ rest e. word_then frame_front IsFrame move_onto IsMove (codes "got ") rest text move.Got (read_frame rest) (frame_sound rest) e (λ f b. refl) (λ f h. h))
+    (move_or (codes "soil ") text read_soil _ (λ rest e. word_then frame_front IsFrame move_onto IsMove (codes "soil ") rest text move.Soil (read_frame rest) (frame_sound rest) e (λ f b. refl) (λ f h. h))
+    (move_or (codes "lost ") text read_lost _ (λ rest e. word_then frame_front IsFrame move_onto IsMove (codes "lost ") rest text move.Lost (read_frame rest) (frame_sound rest) e (λ f b. refl) (λ f h. h))
     (past_reads (codes "bad ") move_onto IsMove text text (strip (codes "bad ") text) read_bad (strips (codes "bad ") text)
-    (λ rest e. frame_move (codes "bad ") rest text move.Bad e (λ f b. refl) (λ f h. h))))))
+    (λ rest e. word_then frame_front IsFrame move_onto IsMove (codes "bad ") rest text move.Bad (read_frame rest) (frame_sound rest) e (λ f b. refl) (λ f h. h))))))
 
 taking_sound : (text : Text) → Sounds move_onto IsMove text (read_taking text)
 taking_sound text =
-    move_or (codes "give ") text read_give _ (λ rest e. key_move (codes "give ") rest text move.Give e (λ f k b. refl) (λ f k h i. (h, i)))
-    (move_or (codes "clear ") text read_clear _ (λ rest e. frame_move (codes "clear ") rest text move.Clear e (λ f b. refl) (λ f h. h))
-    (move_or (codes "read ") text read_read _ (λ rest e. key_move (codes "read ") rest text move.Read e (λ f k b. refl) (λ f k h i. (h, i)))
-    (move_or (codes "steal ") text read_steal _ (λ rest e. frame_move (codes "steal ") rest text move.Steal e (λ f b. refl) (λ f h. h))
+    move_or (codes "give ") text read_give _ (λ rest e. frame_then key_onto IsKey read_key key_sound (codes "give ") rest text move.Give e (λ f k b. refl) (λ f k h i. (h, i)))
+    (move_or (codes "clear ") text read_clear _ (λ rest e. word_then frame_front IsFrame move_onto IsMove (codes "clear ") rest text move.Clear (read_frame rest) (frame_sound rest) e (λ f b. refl) (λ f h. h))
+    (move_or (codes "read ") text read_read _ (λ rest e. frame_then key_onto IsKey read_key key_sound (codes "read ") rest text move.Read e (λ f k b. refl) (λ f k h i. (h, i)))
+    (move_or (codes "steal ") text read_steal _ (λ rest e. word_then frame_front IsFrame move_onto IsMove (codes "steal ") rest text move.Steal (read_frame rest) (frame_sound rest) e (λ f b. refl) (λ f h. h))
     (move_or (codes "write ") text read_write _ (λ rest e. write_sound rest text e)
     (end_sound text)))))
 
-pub text_sound : (text : Text) → Sounds move_onto IsMove text (read_text text)
+text_sound : (text : Text) → Sounds move_onto IsMove text (read_text text)
 text_sound text =
     move_or (codes "at ") text read_at _ (λ rest e. at_sound rest text e)
-    (move_or (codes "map ") text read_map _ (λ rest e. map_sound rest text e)
-    (move_or (codes "unmap ") text read_unmap _ (λ rest e. then_reads place_onto IsPlace move_onto IsMove rest text (read_place rest) (λ p last. Some (move.Unmap p, last)) (place_sound rest) (λ p last g h. (ap (λ x. codes "unmap " ++ x) g ∙ e, h)))
+    (move_or (codes "map ") text read_map _ (λ rest e. frame_then place_onto IsPlace read_place place_sound (codes "map ") rest text move.Map e (λ f p b. refl) (λ f p h i. (h, i)))
+    (move_or (codes "unmap ") text read_unmap _ (λ rest e. word_then place_onto IsPlace move_onto IsMove (codes "unmap ") rest text move.Unmap (read_place rest) (place_sound rest) e (λ p b. refl) (λ p h. h))
     (move_or (codes "add ") text read_add _ (λ rest e. add_sound rest text e)
-    (move_or (codes "drop ") text read_drop _ (λ rest e. then_reads key_onto IsKey move_onto IsMove rest text (read_key rest) (λ k last. Some (move.Drop k, last)) (key_sound rest) (λ k last g h. (ap (λ x. codes "drop " ++ x) g ∙ e, h)))
+    (move_or (codes "drop ") text read_drop _ (λ rest e. word_then key_onto IsKey move_onto IsMove (codes "drop ") rest text move.Drop (read_key rest) (key_sound rest) e (λ k b. refl) (λ k h. h))
     (taking_sound text)))))
 
--- what was read with nothing after it
-pub all_read : {A : Type 0} (onto : A → Text → Text) (Is : A → Type 0) (text rest : Text) (r : Option (A × Text)) (a : A) → Sounds onto Is text r → Some (a, rest) ≡ r → rest ≡ [] → (onto a [] ≡ text) × Is a
-all_read onto Is text rest None a sound e none = cc
-all_read onto Is text rest (Some p) a sound e none =
-    let same : (a, rest) ≡ p = cc in
-    let value : p.0 ≡ a = sym (ap (λ q. q.0) same) in
-    let behind : p.1 ≡ [] = sym (ap (λ q. q.1) same) ∙ none in
-    (ap (λ x. onto x []) (sym value) ∙ ap (λ t. onto p.0 t) (sym behind) ∙ sound.0, subst Is value sound.1)
-
 -- a text that is said to be empty
-pub none_behind : (rest : Text) (b : Bool) → b ≡ (length rest == 0) → b ≡ true → rest ≡ []
+none_behind : (rest : Text) (b : Bool) → b ≡ (length rest == 0) → b ≡ true → rest ≡ []
 none_behind [] b e yes_it_is = refl
 none_behind (c ∷ cs) b e yes_it_is = let none : length (c ∷ cs) ≡ 0 = eqb-true (length (c ∷ cs)) 0 (sym e ∙ yes_it_is) in absurd (omega (arith, none))
+
+-- a reading of a text is sound, and what is spelled right is read
+pub record Reads {A : Type 0} (onto : A → Text → Text) (Is : A → Type 0) (text : Text) (r : Option (A × Text)) : Type 0 where
+  pub sound : Sounds onto Is text r
+  pub found : (a : A) → Is a → onto a [] ≡ text → r ≡ Some (a, [])
+
+pub key_reads : (text : Text) → Reads key_onto IsKey text (read_key text)
+key_reads text = record { sound = key_sound text; found = λ k h e. ap read_key (sym e) ∙ read_key-onto k [] h refl }
+
+pub move_reads : (text : Text) → Reads move_onto IsMove text (read_text text)
+move_reads text = record { sound = text_sound text; found = λ m h e. ap read_text (sym e) ∙ read_text-onto m [] h refl }
+
+module _ {A : Type 0} {onto : A → Text → Text} {Is : A → Type 0} {text : Text} {r : Option (A × Text)} (reads : Reads onto Is text r) where
+  -- nothing was read, all of the text, or a front of it
+  pub none_again : None ≡ r → (a : A) → Is a → onto a [] ≡ text → ⊥
+  none_again e a is spelled = let bad : ◌≡◌ {A = Option (A × Text)} None (Some (a, [])) = e ∙ reads.found a is spelled in cc
+
+  pub whole_again : (v : A) (rest : Text) → Some (v, rest) ≡ r → (a : A) → Is a → onto a [] ≡ text → Some v ≡ Some a
+  whole_again v rest e a is spelled = ap value_of (e ∙ reads.found a is spelled)
+
+  pub front_again : (v : A) (rest : Text) (b : Bool) → Some (v, rest) ≡ r → b ≡ (length rest == 0) → b ≡ false → (a : A) → Is a → onto a [] ≡ text → ◌≡◌ {A = Option A} None (Some a)
+  front_again v rest b e empty more a is spelled =
+      let none : rest ≡ [] = ap rest_of (e ∙ reads.found a is spelled) in
+      let bad : true ≡ false = sym (empty ∙ ap (λ (t : Text). length t == 0) none) ∙ more in cc
+
+  -- what is read stands there
+  pub whole_spelled : (v : A) (rest : Text) (b : Bool) → Some (v, rest) ≡ r → b ≡ (length rest == 0) → b ≡ true → onto v [] ≡ text
+  whole_spelled v rest b e empty all_of =
+      let here : Sounds onto Is text (Some (v, rest)) = subst (Sounds onto Is text) (sym e) reads.sound in
+      ap (onto v) (sym (none_behind rest b empty all_of)) ∙ here.0

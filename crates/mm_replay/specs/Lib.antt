@@ -28,12 +28,12 @@ unfoldable pub use Pairs.{either_way, near_part}
 pub use Holdings.{Stays, Written, alive_in, frames_in, held_of, no_keys, no_paging, no_places}
 pub use Holdings.{paging_in, paging_of, stands_in}
 unfoldable pub use Holdings.{alive_at}
-pub use Listed.{AreFour, Kept, Off, belongs, free_alone, is_changed_page, is_owned, no_lists}
+pub use Listed.{AreLists, Kept, Off, belongs, free_alone, is_changed_page, is_owned, no_lists}
 pub use Listed.{record_of, table_of}
 pub use Slotted.{AreApartFrom, IsLowestIn, without_slot}
 pub use Sound.{IsEmptyFrame}
 pub use Looking.{IsBehind, frame_at, frames_on}
 pub use Replaying.{flagged}
-pub use Flying.{AreFlagged, FlightOf, IsOne, flight_of, no_requests}
+pub use Flying.{AreFlagged, FlightOf, flight_of}
 pub use declared.four_lists.FrameList.{FrameList}
 pub use declared.holdings.Alive.{Alive}

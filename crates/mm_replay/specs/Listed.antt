@@ -1,5 +1,5 @@
 -- The list that each frame is on, by its record: no frame is loose.
-use Rattle.std.specs.Prelude.{◌≡◌, ◌≢◌, ℕ, zero, suc, ◌<◌, nat_lt, not, Bool, true, ◌&&◌, ◌||◌, ◌==◌, if◌then◌else◌, is_some, List, [], ◌∷◌, ◌++◌, length, Option, Some, None, slice_index_or}
+use Rattle.std.specs.Prelude.{◌≡◌, ◌≢◌, ℕ, zero, suc, ◌<◌, nat_lt, not, Bool, true, ◌&&◌, ◌||◌, ◌==◌, if◌then◌else◌, is_some, List, [], ◌∷◌, ◌++◌, length, replicate, Option, Some, None, slice_index_or}
 use Rattle.mm_types.specs.{Record}
 use Rattle.mm_life.specs.{FrameTable, blank, is_idle, is_read, rest}
 use Rattle.mm_lists.specs.{ListsOf, AreApart, IsOnNone, list_at, number_at}
@@ -8,15 +8,16 @@ use Rattle.mm_lists.specs.{ListsOf, AreApart, IsOnNone, list_at, number_at}
 abbrev pub free_alone : List ℕ → List (List ℕ)
 free_alone xs = [] ∷ xs ∷ [] ∷ [] ∷ []
 
-abbrev pub no_lists : ListsOf
-no_lists = record { numbers = 0; lists = free_alone [] }
+-- so many lists over no numbers
+abbrev pub no_lists : ℕ → ListsOf
+no_lists count = record { numbers = 0; lists = replicate count [] }
 
-abbrev pub lists_of : Option ListsOf → ListsOf
-lists_of None = no_lists
-lists_of (Some v) = v
+abbrev pub lists_of : ℕ → Option ListsOf → ListsOf
+lists_of count None = no_lists count
+lists_of count (Some v) = v
 
-pub record AreFour (v : ListsOf) : Type 0 where
-  pub four : length v.lists ≡ 4
+pub record AreLists (count : ℕ) (v : ListsOf) : Type 0 where
+  pub counted : length v.lists ≡ count
   pub apart : AreApart v
 
 abbrev pub table_of : List Record → ListsOf → FrameTable
@@ -62,7 +63,7 @@ is_owned r = (is_some r.owner && not (is_read r.request)) || (r.shares == 0)
 -- each idle frame is on the list where it belongs, no other frame is on one, and none is on two
 pub record Kept (records : List Record) (v : ListsOf) : Type 0 where
   pub numbers : v.numbers ≡ length records
-  pub lists : AreFour v
+  pub lists : AreLists 4 v
   pub listed : (j k f : ℕ) → number_at v.lists j k ≡ Some f → belongs (record_of records f) j ≡ true
   pub there : (f : ℕ) → f < length records → is_idle (record_of records f) ≡ true → (j k : ℕ) ×
       (number_at v.lists j k ≡ Some f)
@@ -71,7 +72,7 @@ pub record Kept (records : List Record) (v : ListsOf) : Type 0 where
 -- the same of all frames but one, which is on no list
 pub record Off (records : List Record) (v : ListsOf) (f : ℕ) : Type 0 where
   pub numbers : v.numbers ≡ length records
-  pub lists : AreFour v
+  pub lists : AreLists 4 v
   pub low : f < length records
   pub off : IsOnNone v.lists f
   pub listed : (j k g : ℕ) → number_at v.lists j k ≡ Some g → belongs (record_of records g) j ≡ true

@@ -20,7 +20,7 @@ life c = record {
   stands = stands_in c.keys;
   paging = paging_in c.keys;
   paging_keys = c.paging_keys;
-  added = flagged c.added;
+  added = flagged c.added.items;
   valid = frames_in c.places;
   flight = c.flight.requests;
 }

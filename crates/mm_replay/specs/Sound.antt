@@ -1,8 +1,9 @@
 -- What a move has to know of the state before it: frames and keys agree on who is where, a frame
 -- with a valid place has a share, and the frames in flight have a request.
-use Rattle.std.specs.Prelude.{◌≡◌, ℕ, ◌<◌, ◌≤◌, true, false, List, length, Option, Some, None, slice_get}
-use Rattle.mm_types.specs.{Frame, Key, Place, Record, Held}
+use Rattle.std.specs.Prelude.{◌≡◌, ℕ, ◌<◌, ◌≤◌, Bool, true, false, List, length, Option, Some, None, slice_get}
+use Rattle.mm_types.specs.{Frame, Key, Place, Record, Held, Move}
 use Rattle.mm_types.specs.declared.frames.Held.TheVariants as held
+use Rattle.mm_types.specs.declared.moves.Move.TheVariants as move
 use Rattle.mm_life.specs.{FrameTable, record_at, is_first, is_on, is_idle, has_request, FrameLife}
 use Rattle.mm_replay.specs.Listed.{record_of, is_owned}
 
@@ -46,3 +47,10 @@ pub record Sound (l : FrameLife) : Type 0 where
   pub owned : Owned (owner_in l.frames) l.stands
   pub shared : (p : Place) (f : Frame) → l.valid p ≡ Some f → 1 ≤ (record_at l.frames f.0).shares
   pub requested : Requested l.frames.records l.flight
+
+-- a move that takes no memory
+abbrev pub is_in_place : Move → Bool
+is_in_place (move.At n k) = false
+is_in_place (move.Add k b) = false
+is_in_place (move.Map f p) = false
+is_in_place m = true

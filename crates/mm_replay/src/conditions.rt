@@ -1,12 +1,14 @@
-ghost use Rattle.std.specs.Prelude.{◌≡◌, ◌+◌, ◌-◌, ◌*◌, ◌<◌, ◌≤◌, true, false, length};
+ghost use Rattle.std.specs.Prelude.{◌≡◌, ◌+◌, ◌-◌, ◌*◌, ◌<◌, true, false};
 ghost use Rattle.mm_life.specs.{is_call, is_io, is_access, is_thread, is_unbind, is_writer, is_zeroer, is_touch, touches, unbinds, trims, is_machine};
 ghost use Rattle.mm_life.specs.{is_legal_kind, has_depth, is_zero, is_stored, owner_is, shows_shared, may_copy, is_unmapped, fits_place};
 ghost use Rattle.mm_life.specs.{is_below_max, is_above_min, is_at_max, is_short, may_unmap, is_block, may_write_block, is_legal_add, is_legal_map};
-ghost use Rattle.mm_life.specs.{is_legal_soil, is_legal_write, is_legal, is_shared, key_of_place, is_live, is_dead, set_of, set_in};
+ghost use Rattle.mm_life.specs.{is_legal_soil, is_legal_write, is_legal, is_shared, is_live, is_dead, set_of, set_in};
 ghost use Rattle.mm_types.specs.declared.moves.Move.TheVariants as move;
 
+use crate::four_lists::FrameList;
 use crate::records::{has_request, is_again, is_read, is_write};
 use crate::states::State;
+use crate::values::flag_at;
 use mm_life::ResidentSet;
 use mm_types::{Backing, Block, Frame, Held, Key, LineKind, Move, Pid, Place, Record, Stored};
 
@@ -15,100 +17,67 @@ use mm_types::{Backing, Block, Frame, Held, Key, LineKind, Move, Pid, Place, Rec
 fn is_call(kind: LineKind) -> bool
     ensures { result ≡ is_call kind }
 {
-    match kind {
-        LineKind::Call => true,
-        _ => false,
-    }
+    matches!(kind, LineKind::Call)
 }
 
 fn is_io(kind: LineKind) -> bool
     ensures { result ≡ is_io kind }
 {
-    match kind {
-        LineKind::Io => true,
-        _ => false,
-    }
+    matches!(kind, LineKind::Io)
 }
 
 fn is_access(kind: LineKind) -> bool
     ensures { result ≡ is_access kind }
 {
-    match kind {
-        LineKind::Access(_) => true,
-        _ => false,
-    }
+    matches!(kind, LineKind::Access(_))
 }
 
 fn is_thread(kind: LineKind) -> bool
     ensures { result ≡ is_thread kind }
 {
-    match kind {
-        LineKind::Thread(_) => true,
-        _ => false,
-    }
+    matches!(kind, LineKind::Thread(_))
 }
 
 fn is_touch(kind: LineKind) -> bool
     ensures { result ≡ is_touch kind }
 {
-    match kind {
-        LineKind::Access(_) | LineKind::Thread(_) => true,
-        _ => false,
-    }
+    matches!(kind, LineKind::Access(_) | LineKind::Thread(_))
 }
 
 fn is_unbind(kind: LineKind) -> bool
     ensures { result ≡ is_unbind kind }
 {
-    match kind {
-        LineKind::Unbind(_) => true,
-        _ => false,
-    }
+    matches!(kind, LineKind::Unbind(_))
 }
 
 fn is_writer(kind: LineKind) -> bool
     ensures { result ≡ is_writer kind }
 {
-    match kind {
-        LineKind::Writer => true,
-        _ => false,
-    }
+    matches!(kind, LineKind::Writer)
 }
 
 fn is_zeroer(kind: LineKind) -> bool
     ensures { result ≡ is_zeroer kind }
 {
-    match kind {
-        LineKind::Zeroer => true,
-        _ => false,
-    }
+    matches!(kind, LineKind::Zeroer)
 }
 
 fn touches(pid: Pid, kind: LineKind) -> bool
     ensures { result ≡ touches pid.0 kind }
 {
-    match kind {
-        LineKind::Access(p) | LineKind::Thread(p) => p.0 == pid.0,
-        _ => false,
-    }
+    matches!(kind, LineKind::Access(p) | LineKind::Thread(p) if p.0 == pid.0)
 }
 
 fn unbinds(pid: Pid, kind: LineKind) -> bool
     ensures { result ≡ unbinds pid.0 kind }
 {
-    match kind {
-        LineKind::Unbind(p) => p.0 == pid.0,
-        _ => false,
-    }
+    matches!(kind, LineKind::Unbind(p) if p.0 == pid.0)
 }
 
 fn trims(pid: Pid, kind: LineKind) -> bool
     ensures { result ≡ trims pid.0 kind }
 {
-    match kind {
-        LineKind::Trim(p) => p.0 == pid.0,
-        _ => false,
-    }
+    matches!(kind, LineKind::Trim(p) if p.0 == pid.0)
 }
 
 // ---- keys, records, sets
@@ -133,46 +102,31 @@ fn is_machine(frames: u32, slots: u32, depth: u32, blocks: u32) -> bool
 pub(crate) fn is_dead(held: Held) -> bool
     ensures { result ≡ is_dead held }
 {
-    match held {
-        Held::Dead => true,
-        Held::Frame(_) | Held::Slot(_) | Held::Block(_) | Held::Zero => false,
-    }
+    matches!(held, Held::Dead)
 }
 
 fn is_zero(held: Held) -> bool
     ensures { result ≡ is_zero held }
 {
-    match held {
-        Held::Zero => true,
-        Held::Frame(_) | Held::Slot(_) | Held::Block(_) | Held::Dead => false,
-    }
+    matches!(held, Held::Zero)
 }
 
 fn is_stored(held: Held) -> bool
     ensures { result ≡ is_stored held }
 {
-    match held {
-        Held::Slot(_) | Held::Block(_) => true,
-        Held::Frame(_) | Held::Zero | Held::Dead => false,
-    }
+    matches!(held, Held::Slot(_) | Held::Block(_))
 }
 
 fn is_shared(key: Key) -> bool
     ensures { result ≡ is_shared key }
 {
-    match key {
-        Key::Private(_, _) => false,
-        Key::Shared(_, _) => true,
-    }
+    matches!(key, Key::Shared(_, _))
 }
 
 fn is_owner_shared(r: &Record) -> bool
     ensures { result ≡ owner_is is_shared r.now }
 {
-    match r.owner {
-        Some(key) => is_shared(key),
-        None => false,
-    }
+    matches!(r.owner, Some(key) if is_shared(key))
 }
 
 fn fits_place(place: Place, key: Key) -> bool
@@ -187,37 +141,25 @@ fn fits_place(place: Place, key: Key) -> bool
 fn is_block(block: u32, backing: Backing) -> bool
     ensures { result ≡ is_block block backing }
 {
-    match backing {
-        Backing::Block(b) => b.0 == block,
-        Backing::None | Backing::Slot(_) => false,
-    }
+    matches!(backing, Backing::Block(b) if b.0 == block)
 }
 
 fn is_below_max(set: Option<ResidentSet>) -> bool
     ensures { result ≡ is_below_max set }
 {
-    match set {
-        Some(set) => set.resident < set.max,
-        None => false,
-    }
+    matches!(set, Some(set) if set.resident < set.max)
 }
 
 fn is_above_min(set: Option<ResidentSet>) -> bool
     ensures { result ≡ is_above_min set }
 {
-    match set {
-        Some(set) => set.min < set.resident,
-        None => false,
-    }
+    matches!(set, Some(set) if set.min < set.resident)
 }
 
 fn is_at_max(set: Option<ResidentSet>) -> bool
     ensures { result ≡ is_at_max set }
 {
-    match set {
-        Some(set) => set.resident == set.max,
-        None => false,
-    }
+    matches!(set, Some(set) if set.resident == set.max)
 }
 
 /// The working set of a pid, where a `process` line gave it.
@@ -265,10 +207,7 @@ fn is_live(l: &State, key: Key) -> bool
 fn shows_shared(l: &State, place: Place) -> bool
     ensures { result ≡ shows_shared (life l.now) place }
 {
-    match l.places.get(place) {
-        Some(frame) => is_owner_shared(&l.table.record(frame.0)),
-        None => false,
-    }
+    matches!(l.places.get(place), Some(frame) if is_owner_shared(&l.table.record(frame.0)))
 }
 
 fn may_copy(l: &State, key: Key) -> bool
@@ -292,7 +231,9 @@ fn is_unmapped(l: &State, held: Held) -> bool
 fn is_short(l: &State) -> bool
     ensures { result ≡ is_short (life l.now) }
 {
-    l.table.is_zeroed_empty() && l.table.is_free_empty() && l.table.is_standby_empty()
+    l.table.is_empty(FrameList::Zeroed)
+        && l.table.is_empty(FrameList::Free)
+        && l.table.is_empty(FrameList::Standby)
 }
 
 fn may_unmap(l: &State, place: Place, r: &Record) -> bool
@@ -325,7 +266,7 @@ fn is_legal_add(l: &State, key: Key, block: Option<Block>) -> bool
             && is_shared(key)
             && !is_live(l, key)
             && block.0 < l.blocks
-            && !l.added.has(block.0),
+            && !flag_at(&l.added, block.0),
     }
 }
 
@@ -340,30 +281,30 @@ fn is_legal_drop(l: &State, key: Key) -> bool
 fn is_legal_clear(l: &State, frame: Frame) -> bool
     ensures { result ≡ is_legal (life l.now) (move.Clear frame) }
 {
-    l.table.is_first_free(frame.0)
-        && (is_zeroer(l.kind) || (is_touch(l.kind) && l.table.is_zeroed_empty()))
+    l.table.is_first(FrameList::Free, frame.0)
+        && (is_zeroer(l.kind) || (is_touch(l.kind) && l.table.is_empty(FrameList::Zeroed)))
 }
 
 fn is_legal_steal(l: &State, frame: Frame) -> bool
     ensures { result ≡ is_legal (life l.now) (move.Steal frame) }
 {
-    l.table.is_first_standby(frame.0)
-        && l.table.is_zeroed_empty()
-        && l.table.is_free_empty()
+    l.table.is_first(FrameList::Standby, frame.0)
+        && l.table.is_empty(FrameList::Zeroed)
+        && l.table.is_empty(FrameList::Free)
         && is_touch(l.kind)
 }
 
 fn is_legal_give(l: &State, frame: Frame, key: Key) -> bool
     ensures { result ≡ is_legal (life l.now) (move.Give frame key) }
 {
-    l.table.is_first_zeroed(frame.0) && is_zero(l.keys.held(key)) && is_touch(l.kind)
+    l.table.is_first(FrameList::Zeroed, frame.0) && is_zero(l.keys.held(key)) && is_touch(l.kind)
 }
 
 fn is_legal_read(l: &State, frame: Frame, key: Key) -> bool
     ensures { result ≡ is_legal (life l.now) (move.Read frame key) }
 {
-    let first = l.table.is_first_free(frame.0)
-        || (l.table.is_free_empty() && l.table.is_first_zeroed(frame.0));
+    let first = l.table.is_first(FrameList::Free, frame.0)
+        || (l.table.is_empty(FrameList::Free) && l.table.is_first(FrameList::Zeroed, frame.0));
     first
         && is_stored(l.keys.held(key))
         && (is_access(l.kind) || (is_thread(l.kind) && has_depth(l)))
@@ -380,11 +321,8 @@ fn is_legal_map(l: &State, frame: Frame, place: Place) -> bool
     ensures { result ≡ is_legal (life l.now) (move.Map frame place) }
 {
     let r = l.table.record(frame.0);
-    let fits = match r.owner {
-        Some(key) => fits_place(place, key),
-        None => false,
-    };
-    fits && !is_read(r.request)
+    matches!(r.owner, Some(key) if fits_place(place, key))
+        && !is_read(r.request)
         && l.places.get(place).is_none()
         && touches(place.pid, l.kind)
         && is_below_max(set_of(&l.sets, place.pid))
@@ -393,10 +331,7 @@ fn is_legal_map(l: &State, frame: Frame, place: Place) -> bool
 fn is_legal_unmap(l: &State, place: Place) -> bool
     ensures { result ≡ is_legal (life l.now) (move.Unmap place) }
 {
-    match l.places.get(place) {
-        Some(frame) => may_unmap(l, place, &l.table.record(frame.0)),
-        None => false,
-    }
+    matches!(l.places.get(place), Some(frame) if may_unmap(l, place, &l.table.record(frame.0)))
 }
 
 fn is_legal_soil(l: &State, frame: Frame) -> bool
@@ -411,10 +346,7 @@ fn is_legal_soil(l: &State, frame: Frame) -> bool
 fn is_owner_paging(l: &State, r: &Record) -> bool
     ensures { result ≡ owner_is (life l.now).paging r.now }
 {
-    match r.owner {
-        Some(key) => l.keys.is_paging(key),
-        None => false,
-    }
+    matches!(r.owner, Some(key) if l.keys.is_paging(key))
 }
 
 fn may_write_block(l: &State, frame: u32) -> bool

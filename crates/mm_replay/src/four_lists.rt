@@ -1,6 +1,6 @@
-ghost use Rattle.std.specs.Prelude.{◌≡◌, ℕ, ◌+◌, ◌++◌, ◌<◌, ◌∷◌, [], IfOk, Some, drop, length, map};
+ghost use Rattle.std.specs.Prelude.{◌≡◌, ℕ, ◌+◌, ◌++◌, ◌<◌, ◌∷◌, [], IfOk, Some, drop, length, map, replicate};
 ghost use Rattle.mm_lists.specs.{IsOnOne, IsOnNone, list_at, number_at, with_list, without};
-ghost use Rattle.mm_replay.specs.Listed.{AreFour, free_alone, no_lists};
+ghost use Rattle.mm_replay.specs.Listed.{AreLists, no_lists};
 
 use mm_lists::Lists;
 use mm_types::NoMemory;
@@ -29,44 +29,44 @@ pub enum FrameList {
     Modified,
 }
 
-/// Four lists over the frames; before the machine is known over none, and without memory.
+/// So many lists over the frames; before the machine is known over none, and without memory.
 #[derive(Drop)]
-pub(crate) struct FourLists {
+pub(crate) struct FrameLists<const COUNT: u32> {
     lists: Option<Lists>,
 }
 
-impl Model for FourLists {
+impl<const COUNT: u32> Model for FrameLists<COUNT> {
     ghost use Rattle.mm_lists.specs.{ListsOf};
-    ghost use Rattle.mm_replay.specs.Listed.{AreFour, lists_of};
+    ghost use Rattle.mm_replay.specs.Listed.{AreLists, lists_of};
 
     ghost Value = { ListsOf };
 
-    ghost view = { λ s. lists_of s.lists };
+    ghost view = { λ s. lists_of COUNT s.lists };
 
-    ghost invariant = { λ s. AreFour (lists_of s.lists) };
+    ghost invariant = { λ s. AreLists COUNT (lists_of COUNT s.lists) };
 }
 
 #[tactic(auto, using(crate::proofs::Fresh::fresh))]
-impl FourLists {
-    pub(crate) fn none() -> FourLists
-        ensures none { result ≡ no_lists }
-        ensures four { AreFour result }
+impl<const COUNT: u32> FrameLists<COUNT> {
+    pub(crate) fn none() -> FrameLists<COUNT>
+        ensures none { result ≡ no_lists COUNT }
+        ensures kept { AreLists COUNT result }
     {
-        FourLists { lists: None }
+        FrameLists { lists: None }
     }
 
-    /// Four empty lists over the numbers below `n`.
-    pub(crate) fn new(alloc: Global, n: u32) -> Result<FourLists, NoMemory>
-        ensures empty { IfOk result (λ v. v ≡ record { numbers = n; lists = free_alone [] }) }
-        ensures four { IfOk result AreFour }
+    /// Empty lists over the numbers below `n`.
+    pub(crate) fn new(alloc: Global, n: u32) -> Result<FrameLists<COUNT>, NoMemory>
+        ensures empty { IfOk result (λ v. v ≡ record { numbers = n; lists = replicate COUNT [] }) }
+        ensures kept { IfOk result (AreLists COUNT) }
     {
-        let lists = Lists::new(alloc, n, 4)?;
-        Ok(FourLists { lists: Some(lists) })
+        let lists = Lists::new(alloc, n, COUNT)?;
+        Ok(FrameLists { lists: Some(lists) })
     }
 
     /// The first number on the list, `None` exactly where it is empty.
     pub(crate) fn front(&self, list: u32) -> Option<u32>
-        requires { list < 4 }
+        requires { list < COUNT }
         ensures { result ≡ number_at self.now.lists list 0 }
     {
         match &self.lists {
@@ -77,7 +77,7 @@ impl FourLists {
 
     /// How many numbers are on the list.
     pub(crate) fn len(&self, list: u32) -> u32
-        requires { list < 4 }
+        requires { list < COUNT }
         ensures { result ≡ length (list_at self.now.lists list) }
     {
         match &self.lists {
@@ -100,15 +100,12 @@ impl FourLists {
 
     /// Takes the first number, if any, off the list.
     pub(crate) fn pop_front(&mut self, list: u32)
-        requires { list < 4 }
+        requires { list < COUNT }
         ensures popped { self.new ≡ with_list self.old list (drop 1 (list_at self.old.lists list)) }
-        ensures four { AreFour self.new }
+        ensures kept { AreLists COUNT self.new }
     {
-        match &mut self.lists {
-            Some(lists) => {
-                let _first = lists.pop_front(list);
-            }
-            None => {}
+        if let Some(lists) = &mut self.lists {
+            let _first = lists.pop_front(list);
         }
     }
 
@@ -116,25 +113,23 @@ impl FourLists {
     pub(crate) fn unlink(&mut self, x: u32)
         requires { IsOnOne self.old.lists x }
         ensures closed { self.new ≡ record self.old { lists = map (without x) self.old.lists } }
-        ensures four { AreFour self.new }
+        ensures kept { AreLists COUNT self.new }
     {
-        match &mut self.lists {
-            Some(lists) => lists.unlink(x),
-            None => {}
+        if let Some(lists) = &mut self.lists {
+            lists.unlink(x);
         }
     }
 
     /// Puts `x`, which is on no list, after the last number of the list.
     pub(crate) fn push_back(&mut self, list: u32, x: u32)
-        requires inside { list < 4 }
+        requires inside { list < COUNT }
         requires below { x < self.old.numbers }
         requires on_none { IsOnNone self.old.lists x }
         ensures pushed { self.new ≡ with_list self.old list (list_at self.old.lists list ++ x ∷ []) }
-        ensures four { AreFour self.new }
+        ensures kept { AreLists COUNT self.new }
     {
-        match &mut self.lists {
-            Some(lists) => lists.push_back(list, x),
-            None => {}
+        if let Some(lists) = &mut self.lists {
+            lists.push_back(list, x);
         }
     }
 }

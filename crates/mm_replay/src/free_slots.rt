@@ -3,7 +3,7 @@ ghost use Rattle.mm_life.specs.{is_lowest, freed};
 ghost use Rattle.mm_slots.specs.{free_count};
 ghost use Rattle.mm_replay.specs.Slotted.{no_slots, IsLowestIn, without_slot};
 
-use crate::values::put;
+use crate::values::{flag_at, flags, put, set_at};
 use mm_slots::Slots;
 use mm_types::{NoMemory, Slot};
 use std::alloc::Global;
@@ -73,9 +73,8 @@ impl SlotTree {
         requires { slice_get self.old.free slot ≡ Some false }
         ensures { self.new.free ≡ slice_set self.old.free slot true }
     {
-        match &mut self.slots {
-            Some(slots) => slots.give(Slot(slot)),
-            None => {}
+        if let Some(slots) = &mut self.slots {
+            slots.give(Slot(slot));
         }
     }
 
@@ -100,9 +99,8 @@ impl SlotTree {
         requires small { length self.old.free + n < 2 ^ 32 }
         ensures { self.new.free ≡ self.old.free ++ replicate n true }
     {
-        match &mut self.slots {
-            Some(slots) => slots.grow(n),
-            None => {}
+        if let Some(slots) = &mut self.slots {
+            slots.grow(n);
         }
     }
 }
@@ -149,26 +147,6 @@ fn is_taken(free: &[bool], slot: u32) -> bool
     }
 }
 
-/// A flag; that is not set, where there is no such place.
-pub(crate) fn flag_at(flags: &[bool], at: u32) -> bool
-    ensures { result ≡ slice_index_or flags.now at false }
-{
-    match flags.get(at as usize) {
-        Some(flag) => *flag,
-        None => false,
-    }
-}
-
-/// Sets a flag, where there is such a place.
-pub(crate) fn set_flag(flags: &mut Vec<bool>, at: u32, flag: bool)
-    ensures { flags.new.items ≡ slice_set flags.old.items at flag }
-{
-    let at = at as usize;
-    if at < flags.len() {
-        flags[at] = flag;
-    }
-}
-
 /// So many flags more that are set.
 fn extend(flags: &mut Vec<bool>, count: u32) -> Result<(), NoMemory>
     ensures ok { OnOk result (flags.new.items ≡ flags.old.items ++ replicate count true) }
@@ -185,7 +163,7 @@ impl SlotMap {
     pub(crate) fn new(alloc: Global, slots: u32) -> Result<SlotMap, NoMemory>
         ensures { IfOk result (λ s. s ≡ replicate slots true) }
     {
-        let free = vec![in alloc; true; slots as usize]?;
+        let free = flags(alloc, slots, true)?;
         let mut others = SlotTree::new(alloc, slots)?;
         let lowest = others.take();
         Ok(SlotMap {
@@ -237,9 +215,8 @@ impl SlotMap {
     pub(crate) fn give(&mut self, slot: Option<u32>)
         ensures { self.new ≡ freed self.old slot }
     {
-        match slot {
-            Some(slot) => self.give_one(slot),
-            None => {}
+        if let Some(slot) = slot {
+            self.give_one(slot);
         }
     }
 
@@ -247,7 +224,7 @@ impl SlotMap {
         ensures { self.new ≡ slice_set self.old slot true }
     {
         if is_taken(&self.free, slot) {
-            set_flag(&mut self.free, slot, true);
+            set_at(&mut self.free, slot, true);
             match self.lowest {
                 Some(lowest) => {
                     if lowest < slot {
@@ -267,7 +244,7 @@ impl SlotMap {
         requires { is_lowest slot self.old ≡ true }
         ensures { self.new ≡ slice_set self.old slot false }
     {
-        set_flag(&mut self.free, slot, false);
+        set_at(&mut self.free, slot, false);
         self.lowest = self.others.take();
     }
 

@@ -1,12 +1,10 @@
-ghost use Rattle.std.specs.Prelude.{◌≡◌, IsSome, ◌+◌, ◌-◌, ◌<◌, ◌≤◌, ◌==◌, true, false, [], ◌∷◌, ◌++◌, replicate, length, OnOk, OnErr, IfOk, IfNone, Some, None, slice_set, slice_index_or};
+ghost use Rattle.std.specs.Prelude.{◌≡◌, IsSome, false, OnOk, OnErr, IfNone, Some, None};
 ghost use Rattle.mm_types.specs.declared.frames.Held.TheVariants as held;
 ghost use Rattle.mm_life.specs.{changed, same_key, same_place, is_dead};
 
-use crate::free_slots::{flag_at, set_flag};
 use crate::pairs::Pairs;
 use mm_types::{Frame, Held, Key, NoMemory, Place};
 use std::alloc::Global;
-use std::marker::Model;
 
 /// What is known of a live key: its frame or its home, and whether it was added with `zero`.
 #[derive(Clone, Copy)]
@@ -189,48 +187,5 @@ impl Places {
         ensures same { IfNone result (frames_in self.new ≡ frames_in self.old) }
     {
         self.frames.remove(u32::from(place.pid.0), place.vpn.0)
-    }
-}
-
-/// The blocks that a key was ever added with.
-#[derive(Drop)]
-pub(crate) struct BlockSet {
-    added: Vec<bool>,
-}
-
-impl Model for BlockSet {
-    ghost use Rattle.std.specs.Prelude.{List, Bool};
-
-    ghost Value = { List Bool };
-
-    ghost view = { λ s. s.added.items };
-}
-
-impl BlockSet {
-    pub(crate) fn new(alloc: Global, blocks: u32) -> Result<BlockSet, NoMemory>
-        ensures { IfOk result (λ s. s ≡ replicate blocks false) }
-    {
-        let added = vec![in alloc; false; blocks as usize]?;
-        Ok(BlockSet { added })
-    }
-
-    pub(crate) fn none(alloc: Global) -> BlockSet
-        ensures { result ≡ [] }
-    {
-        BlockSet {
-            added: Vec::new(alloc),
-        }
-    }
-
-    pub(crate) fn has(&self, block: u32) -> bool
-        ensures { result ≡ slice_index_or self.now block false }
-    {
-        flag_at(&self.added, block)
-    }
-
-    pub(crate) fn add(&mut self, block: u32)
-        ensures { self.new ≡ slice_set self.old block true }
-    {
-        set_flag(&mut self.added, block, true);
     }
 }

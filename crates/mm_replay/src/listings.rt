@@ -1,26 +1,27 @@
-ghost use Rattle.std.specs.Prelude.{◌≡◌, ℕ, ◌+◌, ◌++◌, ◌<◌, ◌∷◌, [], true, false, is_some, length, replicate, IfOk, Some, None, slice_set, slice_index_or};
-ghost use Rattle.mm_life.specs.{FrameTable, blank, record_at, is_idle, is_on, off_lists, with_record, settled, to_free, free_table, numbers_from};
-ghost use Rattle.mm_lists.specs.{IsOnNone, list_at, number_at};
-ghost use Rattle.mm_replay.specs.Listed.{AreFour, free_alone, belongs, is_owned, first_taken, put_behind};
+ghost use Rattle.std.specs.Prelude.{◌≡◌, ◌<◌, [], true, false, is_some, replicate, IfOk, Some, None};
+ghost use Rattle.mm_life.specs.{blank, record_at, is_idle, off_lists, with_record, settled, to_free, free_table, numbers_from};
+ghost use Rattle.mm_lists.specs.{number_at};
+ghost use Rattle.mm_replay.specs.Listed.{AreLists, free_alone, belongs, is_owned, first_taken, put_behind};
 
-use crate::four_lists::{FREE, FourLists, MODIFIED, STANDBY};
-use crate::records::{blank, is_changed_page, is_idle};
+use crate::four_lists::{FREE, FrameLists, MODIFIED, STANDBY};
+use crate::records::{blank, is_idle};
+use crate::values::set_at;
 use mm_types::{NoMemory, Record};
 use std::alloc::Global;
 
 /// A record for each frame, and the lists that the idle frames stand on.
 #[derive(Drop)]
 pub(crate) struct Listing {
-    records: Vec<Record>,
-    lists: FourLists,
+    pub(crate) records: Vec<Record>,
+    pub(crate) lists: FrameLists<4>,
 }
 
 /// All frames go to the free list, in rising order.
-fn push_all(lists: &mut FourLists, n: u32)
+fn push_all(lists: &mut FrameLists<4>, n: u32)
     requires empty { lists.old ≡ record { numbers = n; lists = free_alone [] } }
-    requires four { AreFour lists.old }
+    requires kept { AreLists 4 lists.old }
     ensures pushed { lists.new ≡ record { numbers = n; lists = free_alone (numbers_from 0 n) } }
-    ensures four { AreFour lists.new }
+    ensures kept { AreLists 4 lists.new }
 {
     for f in 0..n {
         lists.push_back(FREE, f);
@@ -33,26 +34,6 @@ fn blanks(alloc: Global, n: u32) -> Result<Vec<Record>, NoMemory>
     Ok(vec![in alloc; blank(); n as usize]?)
 }
 
-/// The record of a frame; that of a frame that holds nothing, where there is no such frame.
-fn record_in(records: &[Record], f: u32) -> Record
-    ensures { result ≡ slice_index_or records.now f blank }
-{
-    match records.get(f as usize) {
-        Some(r) => *r,
-        None => blank(),
-    }
-}
-
-/// Sets the record of a frame, where there is such a frame.
-fn set_record(records: &mut Vec<Record>, f: u32, r: Record)
-    ensures { records.new.items ≡ slice_set records.old.items f r }
-{
-    let f = f as usize;
-    if f < records.len() {
-        records[f] = r;
-    }
-}
-
 impl Listing {
     ghost use Rattle.mm_replay.specs.Listings.{table, IsKept, IsOff};
 
@@ -63,7 +44,7 @@ impl Listing {
     {
         Listing {
             records: Vec::new(alloc),
-            lists: FourLists::none(),
+            lists: FrameLists::none(),
         }
     }
 
@@ -73,7 +54,7 @@ impl Listing {
         ensures table { IfOk result (λ s. table s ≡ free_table frames) }
     {
         let records = blanks(alloc, frames)?;
-        let mut lists = FourLists::new(alloc, frames)?;
+        let mut lists = FrameLists::new(alloc, frames)?;
         push_all(&mut lists, frames);
         Ok(Listing { records, lists })
     }
@@ -82,52 +63,10 @@ impl Listing {
     pub(crate) fn record(&self, f: u32) -> Record
         ensures { result ≡ record_at (table self.now) f }
     {
-        record_in(&self.records, f)
-    }
-
-    /// The first frame of a list, if any.
-    pub(crate) fn first(&self, list: u32) -> Option<u32>
-        requires { list < 4 }
-        ensures { result ≡ number_at self.now.lists.lists list 0 }
-    {
-        self.lists.front(list)
-    }
-
-    /// How many frames are on a list.
-    pub(crate) fn len(&self, list: u32) -> u32
-        requires { list < 4 }
-        ensures { result ≡ length (list_at self.now.lists.lists list) }
-    {
-        self.lists.len(list)
-    }
-
-    /// The frame after `f` on its list, if `f` is on one and is not the last.
-    pub(crate) fn next(&self, f: u32) -> Option<u32>
-        requires { IsKept self.now }
-        ensures behind { (j k : ℕ) → number_at self.now.lists.lists j k ≡ Some f
-            → result ≡ number_at self.now.lists.lists j (k + 1) }
-        ensures none { IsOnNone self.now.lists.lists f → result ≡ None }
-    {
-        if (f as usize) < self.records.len() && is_idle(&self.record(f)) {
-            self.lists.next(f)
-        } else {
-            None
+        match self.records.get(f as usize) {
+            Some(r) => *r,
+            None => blank(),
         }
-    }
-
-    /// The record of each frame.
-    pub(crate) fn records(&self) -> &[Record]
-        ensures { result.now ≡ (table self.now).records }
-    {
-        &self.records
-    }
-
-    /// Whether a frame is on the modified list.
-    pub(crate) fn is_modified(&self, f: u32) -> bool
-        requires { IsKept self.now }
-        ensures { result ≡ is_on f (table self.now).modified }
-    {
-        is_changed_page(&self.record(f))
     }
 
     /// A frame that is on no list has this record from now on.
@@ -137,7 +76,7 @@ impl Listing {
         ensures table { table self.new ≡ with_record (table self.old) f r }
         ensures now { record_at (table self.new) f ≡ r }
     {
-        set_record(&mut self.records, f, r);
+        set_at(&mut self.records, f, r);
     }
 
     /// The first frame of a list, which is `f`, leaves it.

@@ -1,4 +1,4 @@
-ghost use Rattle.std.specs.Prelude.{◌≡◌, ◌↔◌, true, false, OnOk, OnErr, Err};
+ghost use Rattle.std.specs.Prelude.{◌≡◌, ◌↔◌, false, OnOk, OnErr, Err};
 ghost use Rattle.mm_life.specs.{unstarted, is_legal, IsLegal, after_move, held_at};
 ghost use Rattle.mm_replay.specs.Replaying.{life as life_of};
 ghost use Rattle.mm_laws.specs.Reached.{Reached};

@@ -7,33 +7,16 @@ use crate::conditions::{is_dead, set_of};
 use crate::four_lists::FrameList;
 use crate::lives::Life;
 use crate::records::has_request;
+use crate::values::framed;
 use mm_life::ResidentSet;
 use mm_types::{Counts, Frame, Held, Key, LineKind, Pid, Place, Record, Slot};
-
-fn is_active(r: &Record) -> bool
-    ensures { result ≡ is_active r.now }
-{
-    r.shares > 0
-}
-
-fn is_in_transition(r: &Record) -> bool
-    ensures { result ≡ is_in_transition r.now }
-{
-    r.shares == 0 && has_request(r.request)
-}
 
 /// How many of the frames hold a page that is valid somewhere.
 fn count_active(records: &[Record]) -> u32
     requires { length records.now < 2 ^ 32 }
     ensures { result ≡ count_by is_active records.now }
 {
-    let mut count = 0;
-    for r in records {
-        if is_active(r) {
-            count += 1;
-        }
-    }
-    count
+    records.iter().filter(|r| r.shares > 0).count() as u32
 }
 
 /// How many of the frames have a request, and hold no page that is valid anywhere.
@@ -41,13 +24,10 @@ fn count_in_transition(records: &[Record]) -> u32
     requires { length records.now < 2 ^ 32 }
     ensures { result ≡ count_by is_in_transition records.now }
 {
-    let mut count = 0;
-    for r in records {
-        if is_in_transition(r) {
-            count += 1;
-        }
-    }
-    count
+    records
+        .iter()
+        .filter(|r| r.shares == 0 && has_request(r.request))
+        .count() as u32
 }
 
 /// What a replay tells of its state. Each takes constant time but `counts`, and none takes memory.
@@ -121,17 +101,14 @@ impl Life {
     pub fn is_list_empty(&self, list: FrameList) -> bool
         ensures { result ≡ is_empty (frames_on (life self.now).frames list) }
     {
-        self.state.table.first(list).is_none()
+        self.state.table.is_empty(list)
     }
 
     /// The frame that stands on a list longest, if any.
     pub fn first_on(&self, list: FrameList) -> Option<Frame>
         ensures { result ≡ frame_at (frames_on (life self.now).frames list) 0 }
     {
-        match self.state.table.first(list) {
-            Some(frame) => Some(Frame(frame)),
-            None => None,
-        }
+        framed(self.state.table.first(list))
     }
 
     /// The frame right after this one on its list; `None` where it is the last, or on no list.
@@ -159,10 +136,7 @@ impl Life {
     pub fn first_request(&self) -> Option<Frame>
         ensures { result ≡ frame_at (life self.now).flight 0 }
     {
-        match self.state.flight.first() {
-            Some(frame) => Some(Frame(frame)),
-            None => None,
-        }
+        framed(self.state.flight.first())
     }
 
     /// The frame of the request that began right after that of this frame; `None` where it is the
@@ -170,10 +144,7 @@ impl Life {
     pub fn next_request(&self, frame: Frame) -> Option<Frame>
         ensures { IsBehind {A = Unit {0}} (λ _. (life self.now).flight) frame.0 result }
     {
-        match self.state.flight.next(frame.0) {
-            Some(next) => Some(Frame(next)),
-            None => None,
-        }
+        framed(self.state.flight.next(frame.0))
     }
 
     /// The frame that a place is valid for, if any.

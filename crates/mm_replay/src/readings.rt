@@ -1,7 +1,7 @@
 ghost use Rattle.std.specs.Prelude.{◌≡◌, ◌^◌, ℕ, List, Option, IfSome, Some, [], option_map};
 ghost use Rattle.mm_types.specs.{Move, Key};
 ghost use Rattle.mm_life.specs.{move_text, key_onto, IsMove, IsKey, move_onto};
-ghost use Rattle.mm_replay.specs.Reading.{strip, number_from, below, read_number, number_behind, read_pid, read_place, read_key, read_private, read_shared, read_frame, read_machine, read_process, read_plain_kind, read_kind, read_at, read_add, read_give, read_read, read_map, read_write, key_behind, place_behind, home_behind, stored_behind, read_end, read_taking, read_text};
+ghost use Rattle.mm_replay.specs.Reading.{strip, number_from, below, read_number, number_behind, read_pid, read_place, read_key, read_frame, read_plain_kind, read_kind, read_end, read_taking, read_text};
 
 use mm_types::{Area, Block, Frame, Key, LineKind, Move, Pid, Place, Slot, Stored, Vpn};
 
@@ -96,50 +96,19 @@ fn place(text: &[u8]) -> Option<(Place, &[u8])>
     Some((Place { pid, vpn: Vpn(vpn) }, last))
 }
 
-fn private_key(text: &[u8]) -> Option<(Key, &[u8])>
-    ensures { option_map (λ p. (p.0, p.1.now)) result ≡ read_private text.now }
-{
-    let (pid, rest) = pid(text)?;
-    let (vpn, last) = number_behind(rest, b".")?;
-    Some((Key::Private(pid, Vpn(vpn)), last))
-}
-
-fn shared_key(text: &[u8]) -> Option<(Key, &[u8])>
-    ensures { option_map (λ p. (p.0, p.1.now)) result ≡ read_shared text.now }
-{
-    let (area, rest) = number(text)?;
-    let (index, last) = number_behind(rest, b".")?;
-    Some((Key::Shared(Area(area), index), last))
-}
-
 /// The key in front of a text, and what stands after it.
 fn key(text: &[u8]) -> Option<(Key, &[u8])>
     ensures { option_map (λ p. (p.0, p.1.now)) result ≡ read_key text.now }
 {
     if let Some(rest) = behind(text, b"p") {
-        return private_key(rest);
+        let (pid, rest) = pid(rest)?;
+        let (vpn, last) = number_behind(rest, b".")?;
+        return Some((Key::Private(pid, Vpn(vpn)), last));
     }
     let rest = behind(text, b"s")?;
-    shared_key(rest)
-}
-
-fn machine_kind(text: &[u8]) -> Option<(LineKind, &[u8])>
-    ensures { option_map (λ p. (p.0, p.1.now)) result ≡ read_machine text.now }
-{
-    let (frames, rest) = number(text)?;
-    let (slots, rest) = number_behind(rest, b" ")?;
-    let (depth, rest) = number_behind(rest, b" ")?;
-    let (blocks, last) = number_behind(rest, b" ")?;
-    Some((LineKind::Machine(frames, slots, depth, blocks), last))
-}
-
-fn process_kind(text: &[u8]) -> Option<(LineKind, &[u8])>
-    ensures { option_map (λ p. (p.0, p.1.now)) result ≡ read_process text.now }
-{
-    let (pid, rest) = pid(text)?;
-    let (min, rest) = number_behind(rest, b" ")?;
-    let (max, last) = number_behind(rest, b" ")?;
-    Some((LineKind::Process(pid, min, max), last))
+    let (area, rest) = number(rest)?;
+    let (index, last) = number_behind(rest, b".")?;
+    Some((Key::Shared(Area(area), index), last))
 }
 
 /// A kind of line that names no process.
@@ -159,7 +128,11 @@ fn plain_kind(text: &[u8]) -> Option<(LineKind, &[u8])>
         return Some((LineKind::Io, last));
     }
     if let Some(rest) = behind(text, b"machine ") {
-        return machine_kind(rest);
+        let (frames, rest) = number(rest)?;
+        let (slots, rest) = number_behind(rest, b" ")?;
+        let (depth, rest) = number_behind(rest, b" ")?;
+        let (blocks, last) = number_behind(rest, b" ")?;
+        return Some((LineKind::Machine(frames, slots, depth, blocks), last));
     }
     let (count, last) = number_behind(text, b"grow ")?;
     Some((LineKind::Grow(count), last))
@@ -185,73 +158,12 @@ fn kind(text: &[u8]) -> Option<(LineKind, &[u8])>
         return Some((LineKind::Trim(pid), last));
     }
     if let Some(rest) = behind(text, b"process ") {
-        return process_kind(rest);
+        let (pid, rest) = pid(rest)?;
+        let (min, rest) = number_behind(rest, b" ")?;
+        let (max, last) = number_behind(rest, b" ")?;
+        return Some((LineKind::Process(pid, min, max), last));
     }
     plain_kind(text)
-}
-
-fn at_move(text: &[u8]) -> Option<(Move, &[u8])>
-    ensures { option_map (λ p. (p.0, p.1.now)) result ≡ read_at text.now }
-{
-    let (line, rest) = number(text)?;
-    let rest = behind(rest, b" ")?;
-    let (kind, last) = kind(rest)?;
-    Some((Move::At(line, kind), last))
-}
-
-fn add_move(text: &[u8]) -> Option<(Move, &[u8])>
-    ensures { option_map (λ p. (p.0, p.1.now)) result ≡ read_add text.now }
-{
-    let (key, rest) = key(text)?;
-    if let Some(last) = behind(rest, b" zero") {
-        return Some((Move::Add(key, None), last));
-    }
-    let (block, last) = number_behind(rest, b" block ")?;
-    Some((Move::Add(key, Some(Block(block))), last))
-}
-
-fn key_behind(text: &[u8]) -> Option<(Key, &[u8])>
-    ensures { option_map (λ p. (p.0, p.1.now)) result ≡ key_behind text.now }
-{
-    let rest = behind(text, b" ")?;
-    key(rest)
-}
-
-fn give_move(text: &[u8]) -> Option<(Move, &[u8])>
-    ensures { option_map (λ p. (p.0, p.1.now)) result ≡ read_give text.now }
-{
-    let (frame, rest) = frame(text)?;
-    let (key, last) = key_behind(rest)?;
-    Some((Move::Give(frame, key), last))
-}
-
-fn read_in(text: &[u8]) -> Option<(Move, &[u8])>
-    ensures { option_map (λ p. (p.0, p.1.now)) result ≡ read_read text.now }
-{
-    let (frame, rest) = frame(text)?;
-    let (key, last) = key_behind(rest)?;
-    Some((Move::Read(frame, key), last))
-}
-
-fn map_move(text: &[u8]) -> Option<(Move, &[u8])>
-    ensures { option_map (λ p. (p.0, p.1.now)) result ≡ read_map text.now }
-{
-    let (frame, rest) = frame(text)?;
-    let rest = behind(rest, b" ")?;
-    let (place, last) = place(rest)?;
-    Some((Move::Map(frame, place), last))
-}
-
-fn write_move(text: &[u8]) -> Option<(Move, &[u8])>
-    ensures { option_map (λ p. (p.0, p.1.now)) result ≡ read_write text.now }
-{
-    let (frame, rest) = frame(text)?;
-    if let Some(behind) = behind(rest, b" slot ") {
-        let (slot, last) = number(behind)?;
-        return Some((Move::Write(frame, Stored::Slot(Slot(slot))), last));
-    }
-    let (block, last) = number_behind(rest, b" block ")?;
-    Some((Move::Write(frame, Stored::Block(Block(block))), last))
 }
 
 /// The ends of requests, and `soil`.
@@ -284,21 +196,33 @@ fn taking_move(text: &[u8]) -> Option<(Move, &[u8])>
     ensures { option_map (λ p. (p.0, p.1.now)) result ≡ read_taking text.now }
 {
     if let Some(rest) = behind(text, b"give ") {
-        return give_move(rest);
+        let (frame, rest) = frame(rest)?;
+        let rest = behind(rest, b" ")?;
+        let (key, last) = key(rest)?;
+        return Some((Move::Give(frame, key), last));
     }
     if let Some(rest) = behind(text, b"clear ") {
         let (frame, last) = frame(rest)?;
         return Some((Move::Clear(frame), last));
     }
     if let Some(rest) = behind(text, b"read ") {
-        return read_in(rest);
+        let (frame, rest) = frame(rest)?;
+        let rest = behind(rest, b" ")?;
+        let (key, last) = key(rest)?;
+        return Some((Move::Read(frame, key), last));
     }
     if let Some(rest) = behind(text, b"steal ") {
         let (frame, last) = frame(rest)?;
         return Some((Move::Steal(frame), last));
     }
     if let Some(rest) = behind(text, b"write ") {
-        return write_move(rest);
+        let (frame, rest) = frame(rest)?;
+        if let Some(rest) = behind(rest, b" slot ") {
+            let (slot, last) = number(rest)?;
+            return Some((Move::Write(frame, Stored::Slot(Slot(slot))), last));
+        }
+        let (block, last) = number_behind(rest, b" block ")?;
+        return Some((Move::Write(frame, Stored::Block(Block(block))), last));
     }
     end_move(text)
 }
@@ -308,17 +232,28 @@ fn move_in_front(text: &[u8]) -> Option<(Move, &[u8])>
     ensures { option_map (λ p. (p.0, p.1.now)) result ≡ read_text text.now }
 {
     if let Some(rest) = behind(text, b"at ") {
-        return at_move(rest);
+        let (line, rest) = number(rest)?;
+        let rest = behind(rest, b" ")?;
+        let (kind, last) = kind(rest)?;
+        return Some((Move::At(line, kind), last));
     }
     if let Some(rest) = behind(text, b"map ") {
-        return map_move(rest);
+        let (frame, rest) = frame(rest)?;
+        let rest = behind(rest, b" ")?;
+        let (place, last) = place(rest)?;
+        return Some((Move::Map(frame, place), last));
     }
     if let Some(rest) = behind(text, b"unmap ") {
         let (place, last) = place(rest)?;
         return Some((Move::Unmap(place), last));
     }
     if let Some(rest) = behind(text, b"add ") {
-        return add_move(rest);
+        let (key, rest) = key(rest)?;
+        if let Some(last) = behind(rest, b" zero") {
+            return Some((Move::Add(key, None), last));
+        }
+        let (block, last) = number_behind(rest, b" block ")?;
+        return Some((Move::Add(key, Some(Block(block))), last));
     }
     if let Some(rest) = behind(text, b"drop ") {
         let (key, last) = key(rest)?;

@@ -1,7 +1,6 @@
 ghost use Rattle.std.specs.Prelude.{◌≡◌, ◌+◌, ◌-◌, ◌<◌, ◌^◌, true, false, is_some};
-ghost use Rattle.mm_life.specs.{blank, given, being_read, shared, unshared, being_written, read_done, disowned, soiled, write_done, write_lost};
-ghost use Rattle.mm_life.specs.{is_again, has_request, is_read, is_write, without_slot, slot_of, slot_after_soil, slot_after_drop, slot_after_read};
-ghost use Rattle.mm_life.specs.{slot_after_wrote, is_idle};
+ghost use Rattle.mm_life.specs.{blank, given, being_read, shared, soiled, write_done, write_lost, is_again, has_request, is_read, is_write};
+ghost use Rattle.mm_life.specs.{without_slot, slot_of, slot_after_soil, slot_after_drop, slot_after_read, slot_after_wrote, is_idle};
 ghost use Rattle.mm_replay.specs.Listed.{is_changed_page};
 
 use mm_types::{Backing, Key, Record, Request};
@@ -22,37 +21,25 @@ pub(crate) fn blank() -> Record
 pub(crate) fn has_request(request: Request) -> bool
     ensures { result ≡ has_request request }
 {
-    match request {
-        Request::None => false,
-        Request::Read | Request::Write | Request::WriteAgain => true,
-    }
+    !matches!(request, Request::None)
 }
 
 pub(crate) fn is_read(request: Request) -> bool
     ensures { result ≡ is_read request }
 {
-    match request {
-        Request::Read => true,
-        Request::None | Request::Write | Request::WriteAgain => false,
-    }
+    matches!(request, Request::Read)
 }
 
 pub(crate) fn is_write(request: Request) -> bool
     ensures { result ≡ is_write request }
 {
-    match request {
-        Request::Write | Request::WriteAgain => true,
-        Request::None | Request::Read => false,
-    }
+    matches!(request, Request::Write | Request::WriteAgain)
 }
 
 pub(crate) fn is_again(request: Request) -> bool
     ensures { result ≡ is_again request }
 {
-    match request {
-        Request::WriteAgain => true,
-        Request::None | Request::Read | Request::Write => false,
-    }
+    matches!(request, Request::WriteAgain)
 }
 
 fn without_slot(backing: Backing) -> Backing
@@ -81,9 +68,7 @@ pub(crate) fn given(key: Key) -> Record
     Record {
         owner: Some(key),
         changed: true,
-        backing: Backing::None,
-        shares: 0,
-        request: Request::None,
+        ..blank()
     }
 }
 
@@ -92,10 +77,9 @@ pub(crate) fn being_read(key: Key, home: Backing) -> Record
 {
     Record {
         owner: Some(key),
-        changed: false,
         backing: home,
-        shares: 0,
         request: Request::Read,
+        ..blank()
     }
 }
 
@@ -120,11 +104,7 @@ pub(crate) fn write_done(r: Record) -> Record
     ensures { result ≡ write_done r }
 {
     if is_again(r.request) {
-        Record {
-            request: Request::None,
-            backing: without_slot(r.backing),
-            ..r
-        }
+        write_lost(r)
     } else {
         Record {
             request: Request::None,
@@ -170,41 +150,6 @@ pub(crate) fn shared(r: Record) -> Record
     }
 }
 
-/// A page that is valid at one place fewer.
-pub(crate) fn unshared(r: Record) -> Record
-    ensures { result ≡ unshared r }
-{
-    Record {
-        shares: r.shares.saturating_sub(1),
-        ..r
-    }
-}
-
-pub(crate) fn being_written(r: Record, home: Backing) -> Record
-    ensures { result ≡ being_written home r }
-{
-    Record {
-        backing: home,
-        request: Request::Write,
-        ..r
-    }
-}
-
-pub(crate) fn read_done(r: Record) -> Record
-    ensures { result ≡ read_done r }
-{
-    Record {
-        request: Request::None,
-        ..r
-    }
-}
-
-pub(crate) fn disowned(r: Record) -> Record
-    ensures { result ≡ disowned r }
-{
-    Record { owner: None, ..r }
-}
-
 // ---- the slots that are given back
 
 pub(crate) fn slot_after_soil(r: &Record) -> Option<u32>
@@ -212,28 +157,25 @@ pub(crate) fn slot_after_soil(r: &Record) -> Option<u32>
     ensures drop { result ≡ slot_after_drop r.now }
 {
     if has_request(r.request) {
-        None
-    } else {
-        slot_of(r.backing)
+        return None;
     }
+    slot_of(r.backing)
 }
 
 pub(crate) fn slot_after_read(r: &Record) -> Option<u32>
     ensures { result ≡ slot_after_read r.now }
 {
     if r.owner.is_some() {
-        None
-    } else {
-        slot_of(r.backing)
+        return None;
     }
+    slot_of(r.backing)
 }
 
 pub(crate) fn slot_after_wrote(r: &Record) -> Option<u32>
     ensures { result ≡ slot_after_wrote r.now }
 {
     if r.owner.is_some() && !is_again(r.request) {
-        None
-    } else {
-        slot_of(r.backing)
+        return None;
     }
+    slot_of(r.backing)
 }

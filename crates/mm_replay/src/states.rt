@@ -1,17 +1,16 @@
-ghost use Rattle.std.specs.Prelude.{◌≡◌, ◌+◌, ◌-◌, ◌<◌, ◌≤◌, ◌↔◌, true, false, IsTrue, OnOk, OnErr, IfSome, Some, None, Err, length};
-ghost use Rattle.mm_types.specs.{MachineOf, IsMachine};
+ghost use Rattle.std.specs.Prelude.{◌≡◌, ◌+◌, ◌-◌, true, false, if◌then◌else◌, OnOk, OnErr, IfSome, length};
 ghost use Rattle.mm_types.specs.declared.moves.Move.TheVariants as move;
 ghost use Rattle.mm_types.specs.declared.moves.LineKind.TheVariants as kind;
-ghost use Rattle.mm_life.specs.{unstarted, set_in, with_resident, is_dead, is_legal, IsLegal, is_below_max, after_move, after_at, after_add};
-ghost use Rattle.mm_life.specs.{unlisted, home_at, backing_of, homed, held_at};
-ghost use Rattle.mm_replay.specs.Sound.{Listed, Sound};
+ghost use Rattle.mm_life.specs.{unstarted, set_in, with_resident, is_dead, IsLegal, is_below_max, after_move, after_at, after_add, unlisted, home_at};
+ghost use Rattle.mm_life.specs.{backing_of, homed, held_at};
+ghost use Rattle.mm_replay.specs.Sound.{Listed, Sound, is_in_place};
 
 use crate::free_slots::SlotMap;
-use crate::holdings::{BlockSet, Keys, Places};
+use crate::holdings::{Keys, Places};
 use crate::in_flight::InFlight;
 use crate::records::{is_read, slot_after_read, slot_after_soil, slot_after_wrote, slot_of};
 use crate::tables::Table;
-use crate::values::put;
+use crate::values::{flags, put, set_at};
 use mm_life::ResidentSet;
 use mm_types::{Backing, Block, Frame, Held, Key, LineKind, Move, NoMemory, Pid, Place, Stored};
 use std::alloc::Global;
@@ -31,10 +30,11 @@ pub(crate) struct State {
     pub(crate) free_slots: SlotMap,
     pub(crate) keys: Keys,
     pub(crate) paging_keys: u64,
-    pub(crate) added: BlockSet,
+    /// Of each block whether a key was ever added with it.
+    pub(crate) added: Vec<bool>,
     pub(crate) places: Places,
     pub(crate) flight: InFlight,
-    ghost sized: { length added ≡ blocks },
+    ghost sized: { length added.items ≡ blocks },
     ghost slotted: { length free_slots ≡ slots },
     ghost requested: { flight.frames ≡ frames },
 }
@@ -59,7 +59,7 @@ impl State {
             free_slots: SlotMap::none(alloc),
             keys: Keys::new(alloc),
             paging_keys: 0,
-            added: BlockSet::none(alloc),
+            added: Vec::new(alloc),
             places: Places::new(alloc),
             flight: InFlight::none(alloc),
         }
@@ -97,55 +97,37 @@ impl State {
         match *m {
             Move::At(line, kind) => self.at(line, kind),
             Move::Add(key, block) => self.add(key, block),
-            Move::Drop(key) => {
-                self.drop_key(key);
-                Ok(())
-            }
-            Move::Clear(frame) => {
-                self.clear(frame);
-                Ok(())
-            }
-            Move::Steal(frame) => {
-                self.steal(frame);
-                Ok(())
-            }
-            Move::Give(frame, key) => {
-                self.give(frame, key);
-                Ok(())
-            }
-            Move::Read(frame, key) => {
-                self.read(frame, key);
-                Ok(())
-            }
-            Move::Got(frame) => {
-                self.got(frame);
-                Ok(())
-            }
-            Move::Bad(frame) => {
-                self.bad(frame);
-                Ok(())
-            }
             Move::Map(frame, place) => self.map(frame, place),
-            Move::Unmap(place) => {
-                self.unmap(place);
+            _ => {
+                self.make_in_place(m);
                 Ok(())
             }
-            Move::Soil(frame) => {
-                self.soil(frame);
-                Ok(())
-            }
-            Move::Write(frame, stored) => {
-                self.write(frame, stored);
-                Ok(())
-            }
-            Move::Wrote(frame) => {
-                self.wrote(frame);
-                Ok(())
-            }
-            Move::Lost(frame) => {
-                self.lost(frame);
-                Ok(())
-            }
+        }
+    }
+
+    /// Makes a legal move that takes no memory.
+    #[inline(always)]
+    fn make_in_place(&mut self, m: &Move)
+        requires legal { IsLegal m.now (life self.old) }
+        requires sound { Sound (life self.old) }
+        requires listed { Listed self.old.table }
+        requires in_place { is_in_place m.now ≡ true }
+        ensures { life self.new ≡ after_move (life self.old) m.now }
+    {
+        match *m {
+            Move::Drop(key) => self.drop_key(key),
+            Move::Clear(frame) => self.table.clear(frame.0),
+            Move::Steal(frame) => self.steal(frame),
+            Move::Give(frame, key) => self.give(frame, key),
+            Move::Read(frame, key) => self.read(frame, key),
+            Move::Got(frame) => self.got(frame),
+            Move::Bad(frame) => self.bad(frame),
+            Move::Unmap(place) => self.unmap(place),
+            Move::Soil(frame) => self.soil(frame),
+            Move::Write(frame, stored) => self.write(frame, stored),
+            Move::Wrote(frame) => self.wrote(frame),
+            Move::Lost(frame) => self.lost(frame),
+            Move::At(_, _) | Move::Add(_, _) | Move::Map(_, _) => unreachable!(),
         }
     }
 
@@ -165,7 +147,7 @@ impl State {
         ensures err { OnErr result (life self.new ≡ life self.old) }
     {
         let alloc = self.alloc;
-        let added = BlockSet::new(alloc, blocks)?;
+        let added = flags(alloc, blocks, false)?;
         let flight = InFlight::new(alloc, frames)?;
         let table = Table::new(alloc, frames)?;
         let free_slots = SlotMap::new(alloc, slots)?;
@@ -186,44 +168,23 @@ impl State {
         Ok(())
     }
 
-    fn at_process(&mut self, line: u32, pid: Pid, min: u32, max: u32) -> Result<(), NoMemory>
-        ensures ok { OnOk result (life self.new ≡
-            after_at (life self.old) line (kind.Process pid min max)) }
-        ensures err { OnErr result (life self.new ≡ life self.old) }
-    {
-        self.sets.push(ResidentSet {
-            min,
-            max,
-            resident: 0,
-        })?;
-        self.line = line;
-        self.kind = LineKind::Process(pid, min, max);
-        Ok(())
-    }
-
-    fn at_grow(&mut self, line: u32, count: u32) -> Result<(), NoMemory>
-        requires { self.old.slots + count ≤ 262144 }
-        ensures ok { OnOk result (life self.new ≡ after_at (life self.old) line (kind.Grow count)) }
-        ensures err { OnErr result (life self.new ≡ life self.old) }
-    {
-        self.free_slots.grow(self.alloc, count)?;
-        self.slots += count;
-        self.line = line;
-        self.kind = LineKind::Grow(count);
-        Ok(())
-    }
-
     fn at(&mut self, line: u32, kind: LineKind) -> Result<(), NoMemory>
         requires { IsLegal (move.At line kind) (life self.old) }
         ensures ok { OnOk result (life self.new ≡ after_at (life self.old) line kind) }
         ensures err { OnErr result (life self.new ≡ life self.old) }
     {
         match kind {
-            LineKind::Machine(frames, slots, depth, blocks) => self.at_machine(
-                line, frames, slots, depth, blocks,
-            ),
-            LineKind::Process(pid, min, max) => self.at_process(line, pid, min, max),
-            LineKind::Grow(count) => self.at_grow(line, count),
+            LineKind::Machine(frames, slots, depth, blocks) => {
+                return self.at_machine(line, frames, slots, depth, blocks);
+            }
+            LineKind::Process(_, min, max) => {
+                let resident = 0;
+                self.sets.push(ResidentSet { min, max, resident })?;
+            }
+            LineKind::Grow(count) => {
+                self.free_slots.grow(self.alloc, count)?;
+                self.slots += count;
+            }
             LineKind::Unbind(_)
             | LineKind::Access(_)
             | LineKind::Thread(_)
@@ -231,45 +192,32 @@ impl State {
             | LineKind::Writer
             | LineKind::Zeroer
             | LineKind::Io
-            | LineKind::Call => {
-                self.line = line;
-                self.kind = kind;
-                Ok(())
-            }
+            | LineKind::Call => {}
         }
+        self.line = line;
+        self.kind = kind;
+        Ok(())
     }
 
     // ---- keys
 
-    fn add_zero(&mut self, key: Key) -> Result<(), NoMemory>
-        requires { IsLegal (move.Add key None) (life self.old) }
-        ensures ok { OnOk result (life self.new ≡ after_add (life self.old) key None) }
-        ensures err { OnErr result (life self.new ≡ life self.old) }
-    {
-        self.keys.add(key, Held::Zero, true)?;
-        self.paging_keys += 1;
-        Ok(())
-    }
-
     #[tactic(auto, using(crate::proofs::Flags::flags))]
-    fn add_block(&mut self, key: Key, block: Block) -> Result<(), NoMemory>
-        requires { block.0 < self.old.blocks }
-        ensures ok { OnOk result (life self.new ≡ after_add (life self.old) key (Some block)) }
-        ensures err { OnErr result (life self.new ≡ life self.old) }
-    {
-        self.keys.place(key, Held::Block(block))?;
-        self.added.add(block.0);
-        Ok(())
-    }
-
     fn add(&mut self, key: Key, block: Option<Block>) -> Result<(), NoMemory>
         requires { IsLegal (move.Add key block) (life self.old) }
         ensures ok { OnOk result (life self.new ≡ after_add (life self.old) key block) }
         ensures err { OnErr result (life self.new ≡ life self.old) }
     {
         match block {
-            None => self.add_zero(key),
-            Some(block) => self.add_block(key, block),
+            None => {
+                self.keys.add(key, Held::Zero, true)?;
+                self.paging_keys += 1;
+                Ok(())
+            }
+            Some(block) => {
+                self.keys.place(key, Held::Block(block))?;
+                set_at(&mut self.added, block.0, true);
+                Ok(())
+            }
         }
     }
 
@@ -304,13 +252,6 @@ impl State {
 
     // ---- frames that are found
 
-    fn clear(&mut self, frame: Frame)
-        requires { IsLegal (move.Clear frame) (life self.old) }
-        ensures { life self.new ≡ after_move (life self.old) (move.Clear frame) }
-    {
-        self.table.clear(frame.0);
-    }
-
     /// The owner, if any, has the backing as home from now on.
     fn send_home(&mut self, owner: Option<Key>, home: Backing)
         requires { IfSome owner (λ k. is_dead ((life self.old).stands k) ≡ false) }
@@ -318,9 +259,8 @@ impl State {
           stands = homed (life self.old) owner home;
         } }
     {
-        match owner {
-            Some(key) => self.keys.move_to(key, home_of(home)),
-            None => {}
+        if let Some(key) = owner {
+            self.keys.move_to(key, home_of(home));
         }
     }
 
@@ -410,7 +350,7 @@ impl State {
         }
         self.places.add(place, frame)?;
         self.table.map(frame.0);
-        add_resident(&mut self.sets, place.pid);
+        change_resident(&mut self.sets, place.pid, true);
         Ok(())
     }
 
@@ -421,7 +361,7 @@ impl State {
         match self.places.remove(place) {
             Some(frame) => {
                 self.table.unmap(frame.0);
-                remove_resident(&mut self.sets, place.pid);
+                change_resident(&mut self.sets, place.pid, false);
             }
             None => {}
         }
@@ -466,10 +406,11 @@ fn backing_of(held: Held) -> Backing
     }
 }
 
-/// A pid has one valid place more.
-fn add_resident(sets: &mut [ResidentSet], pid: Pid)
-    requires { is_below_max (set_in sets.old pid.0) ≡ true }
-    ensures { sets.new ≡ with_resident sets.old pid.0 (λ n. n + 1) }
+/// A pid has one valid place more, or one fewer.
+fn change_resident(sets: &mut [ResidentSet], pid: Pid, more: bool)
+    requires { more ≡ true → is_below_max (set_in sets.old pid.0) ≡ true }
+    ensures { sets.new
+        ≡ with_resident sets.old pid.0 (λ n. if more then n + 1 else n - 1) }
 {
     if pid.0 == 0 {
         return;
@@ -477,27 +418,12 @@ fn add_resident(sets: &mut [ResidentSet], pid: Pid)
     let at = usize::from(pid.0 - 1);
     if at < sets.len() {
         let set = sets[at];
-        sets[at] = ResidentSet {
-            resident: set.resident + 1,
-            ..set
+        let resident = if more {
+            set.resident + 1
+        } else {
+            set.resident.saturating_sub(1)
         };
-    }
-}
-
-/// A pid has one valid place fewer.
-fn remove_resident(sets: &mut [ResidentSet], pid: Pid)
-    ensures { sets.new ≡ with_resident sets.old pid.0 (λ n. n - 1) }
-{
-    if pid.0 == 0 {
-        return;
-    }
-    let at = usize::from(pid.0 - 1);
-    if at < sets.len() {
-        let set = sets[at];
-        sets[at] = ResidentSet {
-            resident: set.resident.saturating_sub(1),
-            ..set
-        };
+        sets[at] = ResidentSet { resident, ..set };
     }
 }
 

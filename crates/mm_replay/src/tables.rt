@@ -3,15 +3,17 @@ ghost use Rattle.mm_replay.specs.Looking.{frames_on, IsBehind};
 ghost use Rattle.mm_life.specs.{record_at, is_first, is_empty, is_on, is_read, is_write, has_request, taken_for_read, after_clear, after_steal};
 ghost use Rattle.mm_life.specs.{after_give, after_read, after_got, after_bad, after_map, after_unmap, after_soil, after_write, after_wrote};
 ghost use Rattle.mm_life.specs.{after_lost, after_drop, free_table};
+ghost use Rattle.mm_replay.specs.Listings.{table, IsKept, IsOff};
 ghost use Rattle.mm_replay.specs.Sound.{Listed};
 
 use crate::four_lists::{FREE, FrameList, MODIFIED, STANDBY, ZEROED};
 use crate::listings::Listing;
 use crate::records::{
-    being_read, being_written, disowned, given, has_request, read_done, shared, soiled, unshared,
-    write_done, write_lost,
+    being_read, given, has_request, is_changed_page, is_idle, shared, soiled, write_done,
+    write_lost,
 };
-use mm_types::{Backing, Frame, Key, NoMemory, Record};
+use crate::values::framed;
+use mm_types::{Backing, Frame, Key, NoMemory, Record, Request};
 use std::alloc::Global;
 use std::marker::Model;
 
@@ -63,7 +65,7 @@ impl Table {
     pub(crate) fn records(&self) -> &[Record]
         ensures { result.now ≡ self.now.records }
     {
-        self.listing.records()
+        &self.listing.records
     }
 
     /// How many frames are on a list.
@@ -71,22 +73,23 @@ impl Table {
         ensures { result ≡ length (frames_on self.now list) }
     {
         match list {
-            FrameList::Zeroed => self.listing.len(ZEROED),
-            FrameList::Free => self.listing.len(FREE),
-            FrameList::Standby => self.listing.len(STANDBY),
-            FrameList::Modified => self.listing.len(MODIFIED),
+            FrameList::Zeroed => self.listing.lists.len(ZEROED),
+            FrameList::Free => self.listing.lists.len(FREE),
+            FrameList::Standby => self.listing.lists.len(STANDBY),
+            FrameList::Modified => self.listing.lists.len(MODIFIED),
         }
     }
 
     /// The first frame of a list, if any.
+    #[inline]
     pub(crate) fn first(&self, list: FrameList) -> Option<u32>
         ensures { result ≡ slice_get (frames_on self.now list) 0 }
     {
         match list {
-            FrameList::Zeroed => self.listing.first(ZEROED),
-            FrameList::Free => self.listing.first(FREE),
-            FrameList::Standby => self.listing.first(STANDBY),
-            FrameList::Modified => self.listing.first(MODIFIED),
+            FrameList::Zeroed => self.listing.lists.front(ZEROED),
+            FrameList::Free => self.listing.lists.front(FREE),
+            FrameList::Standby => self.listing.lists.front(STANDBY),
+            FrameList::Modified => self.listing.lists.front(MODIFIED),
         }
     }
 
@@ -94,53 +97,33 @@ impl Table {
     pub(crate) fn next(&self, f: u32) -> Option<Frame>
         ensures { IsBehind (frames_on self.now) f result }
     {
-        match self.listing.next(f) {
-            Some(next) => Some(Frame(next)),
-            None => None,
+        if f as usize >= self.listing.records.len() || !is_idle(&self.listing.record(f)) {
+            return None;
         }
+        framed(self.listing.lists.next(f))
     }
 
-    pub(crate) fn is_zeroed_empty(&self) -> bool
-        ensures { result ≡ is_empty self.now.zeroed }
+    /// Whether a list is empty.
+    #[inline]
+    pub(crate) fn is_empty(&self, list: FrameList) -> bool
+        ensures { result ≡ is_empty (frames_on self.now list) }
     {
-        self.listing.first(ZEROED).is_none()
+        self.first(list).is_none()
     }
 
-    pub(crate) fn is_free_empty(&self) -> bool
-        ensures { result ≡ is_empty self.now.free }
+    /// Whether a frame is the first of a list.
+    #[inline]
+    pub(crate) fn is_first(&self, list: FrameList, f: u32) -> bool
+        ensures { result ≡ is_first f (frames_on self.now list) }
     {
-        self.listing.first(FREE).is_none()
-    }
-
-    pub(crate) fn is_standby_empty(&self) -> bool
-        ensures { result ≡ is_empty self.now.standby }
-    {
-        self.listing.first(STANDBY).is_none()
-    }
-
-    pub(crate) fn is_first_zeroed(&self, f: u32) -> bool
-        ensures { result ≡ is_first f self.now.zeroed }
-    {
-        self.listing.first(ZEROED) == Some(f)
-    }
-
-    pub(crate) fn is_first_free(&self, f: u32) -> bool
-        ensures { result ≡ is_first f self.now.free }
-    {
-        self.listing.first(FREE) == Some(f)
-    }
-
-    pub(crate) fn is_first_standby(&self, f: u32) -> bool
-        ensures { result ≡ is_first f self.now.standby }
-    {
-        self.listing.first(STANDBY) == Some(f)
+        self.first(list) == Some(f)
     }
 
     /// Whether a frame is on the modified list.
     pub(crate) fn is_modified(&self, f: u32) -> bool
         ensures { result ≡ is_on f self.now.modified }
     {
-        self.listing.is_modified(f)
+        is_changed_page(&self.listing.record(f))
     }
 
     /// What the lists say of the records. It does nothing.
@@ -195,7 +178,8 @@ impl Table {
     {
         let r = self.listing.record(f);
         if r.owner.is_some() {
-            self.listing.settle(f, read_done(r));
+            let request = Request::None;
+            self.listing.settle(f, Record { request, ..r });
         } else {
             self.listing.free(f);
         }
@@ -227,7 +211,8 @@ impl Table {
         ensures { self.new ≡ after_unmap self.old f }
     {
         let r = self.listing.record(f);
-        self.listing.settle(f, unshared(r));
+        let shares = r.shares.saturating_sub(1);
+        self.listing.settle(f, Record { shares, ..r });
     }
 
     /// A page that is valid somewhere is changed.
@@ -246,7 +231,12 @@ impl Table {
     {
         let r = self.listing.record(f);
         self.listing.leave(f);
-        self.listing.keep_busy(f, being_written(r, home));
+        let r = Record {
+            backing: home,
+            request: Request::Write,
+            ..r
+        };
+        self.listing.keep_busy(f, r);
     }
 
     /// A write succeeded.
@@ -283,7 +273,7 @@ impl Table {
     {
         let r = self.listing.record(f);
         if has_request(r.request) {
-            self.listing.keep_busy(f, disowned(r));
+            self.listing.keep_busy(f, Record { owner: None, ..r });
         } else {
             self.listing.leave(f);
             self.listing.free(f);
@@ -301,11 +291,9 @@ fn take_for_read(listing: &mut Listing, f: u32)
     ensures off { IsOff listing.new f }
     ensures table { table listing.new ≡ taken_for_read (table listing.old) }
 {
-    if listing.first(FREE).is_none() {
+    if listing.lists.front(FREE).is_none() {
         listing.take_first(ZEROED, f);
     } else {
         listing.take_first(FREE, f);
     }
 }
-
-ghost use Rattle.mm_replay.specs.Listings.{table, IsKept, IsOff};

@@ -1,20 +1,21 @@
 -- A text is read as the event that it is a line for, and otherwise its first fault is told.
 use Rattle.std.proofs.Common.{◌≡◌, ◌≤◌, ◌⊎◌, arith, List, [], ◌∷◌, ◌++◌, length, Some, Result, Ok, Err, true, refl, sym, ap, ◌∙◌, subst, inl, inr}
-use Rattle.std.specs.Prelude.{IfOk, IfErr, OnOk, OnErr}
+use Rattle.std.specs.Prelude.{IfErr, OnOk, OnErr}
 use Rattle.mm_types.specs.{Text, spaced, Event}
 use Rattle.mm_text.specs.{words_of}
 use Rattle.mm_text.specs.Word.{Word}
 use Rattle.mm_text.proofs.{words_from-some}
 use Rattle.mm_script.specs.{LineFault, Keyword, Exactly, EachSpells, fields_of, are_joined, IsText, IsLine, spaced_words, text_of, keyword_of}
 use Rattle.mm_script.specs.{shape_of, without_return, first_fault, fault_behind, fault_among, fault_place, ◌>>=◌, Rest, rest_behind, word_as, make_of}
-use Rattle.mm_script.specs.{line_of, whole_line, parse, IsPut}
+use Rattle.mm_script.specs.{line_of, whole_line, parse, IsPut, IsWellFormed}
 use Rattle.mm_script.specs.Field.{Field}
 use Rattle.mm_script.proofs.Binds.{bind_ok, bind_err, Missing, Bad, word_ok, word_err, word_again}
+use Rattle.mm_script.proofs.Ranges.{line_fits}
 use Rattle.mm_script.proofs.Joined.{texts, joined_words, split_words, return_cases, return_taken, plain_kept, IsPlain, ArePlain}
 use Rattle.mm_script.proofs.Shapes.{Values, made_of, fields_for, plain_words}
 use Rattle.mm_script.proofs.EachForm.{fields_made, form_of, plain_keyword}
 use Rattle.mm_script.proofs.Found.{keyword_is, keyword_again}
-use Rattle.mm_script.proofs.Walk.{event_ok, event_again, event_err}
+use Rattle.mm_script.proofs.Walk.{spelled_on, event_ok, event_again, event_err}
 
 nil_cons : {A : Type 0} (x : A) (xs : List A) → [] ≡ x ∷ xs → ⊥
 nil_cons x xs h = cc
@@ -37,11 +38,10 @@ parse_ok text e h =
     let m = event_ok p.0.0 (shape_of p.0.0) (make_of p.0.0) p.0.1 e p.2 in
     let first = keyword_is r.word.text p.0.0 r.value in
     let fields : fields_of e ≡ Exactly (text_of p.0.0) ∷ fields_for (shape_of p.0.0) m.values = ap fields_of (sym m.made) ∙ fields_made p.0.0 m.values in
-    let later : EachSpells (texts r.words) (fields_for (shape_of p.0.0) m.values) = subst (λ (x : Rest). EachSpells (texts x.left) (fields_for (shape_of p.0.0) m.values)) r.left_then m.spelled in
     record {
       words = texts (words_of body);
       whole = line_text text;
-      spelled = subst (λ (fs : List Field). EachSpells (texts (words_of body)) fs) (sym fields) (subst (λ (ws : List Word). EachSpells (texts ws) (Exactly (text_of p.0.0) ∷ fields_for (shape_of p.0.0) m.values)) (sym r.left) (first, later));
+      spelled = subst (λ (fs : List Field). EachSpells (texts (words_of body)) fs) (sym fields) (spelled_on keyword_of (whole_line body) p.0.1 p.0.0 (Exactly (text_of p.0.0)) (fields_for (shape_of p.0.0) m.values) r first m.spelled);
       joined = m.joined;
     }
 
@@ -106,36 +106,34 @@ parse_err text f h =
 pub one_event : (text : Text) (d e : Event) → IsLine text d → IsLine text e → d ≡ e
 one_event text d e g h = let same : Ok d ≡ Ok e = sym (parse_again text d g) ∙ parse_again text e h in cc
 
--- what is answered for a text
-pub answer_ok : (text : Text) (r : Result Event LineFault) → r ≡ parse text → IfOk r (λ e. IsLine text e)
-answer_ok text (Ok e) h = parse_ok text e (sym h)
-answer_ok text (Err f) h = tt
+-- what is told where an event is wanted
+pub record Puts (text : Text) (r : Result (Unit {0}) LineFault) (old new : Event) : Type 0 where
+  pub ok : OnOk r (IsLine text new)
+  pub fits : OnOk r (IsWellFormed new)
+  pub only : (e : Event) → IsLine text e → (r ≡ Ok tt) × (new ≡ e)
+  pub fault : IfErr r (λ f. f ≡ fault_place text)
+  pub none : OnErr r ((e : Event) → IsLine text e → ⊥)
+  pub same : OnErr r (new ≡ old)
 
-pub answer_fault : (text : Text) (r : Result Event LineFault) → r ≡ parse text → IfErr r (λ f. f ≡ fault_place text)
-answer_fault text (Ok e) h = tt
-answer_fault text (Err f) h = parse_err text f (sym h)
-
-pub answer_none : (text : Text) (r : Result Event LineFault) → r ≡ parse text → IfErr r (λ _. (e : Event) → IsLine text e → ⊥)
-answer_none text (Ok e) h = tt
-answer_none text (Err f) h = λ e g. let bad : Err f ≡ Ok e = h ∙ parse_again text e g in cc
-
--- what is written where an event is wanted
-pub put_ok : (text : Text) (r : Result (Unit {0}) LineFault) (old new : Event) → IsPut r old new (parse text) → OnOk r (IsLine text new)
-put_ok text (Ok u) old new h = parse_ok text new h
-put_ok text (Err f) old new h = tt
-
-pub put_only : (text : Text) (r : Result (Unit {0}) LineFault) (old new e : Event) → IsPut r old new (parse text) → IsLine text e → (r ≡ Ok tt) × (new ≡ e)
-put_only text (Ok u) old new e h g = (refl, let same : Ok new ≡ Ok e = sym h ∙ parse_again text e g in cc)
-put_only text (Err f) old new e h g = let bad : Err f ≡ Ok e = sym h.0 ∙ parse_again text e g in cc
-
-pub put_fault : (text : Text) (r : Result (Unit {0}) LineFault) (old new : Event) → IsPut r old new (parse text) → IfErr r (λ f. f ≡ fault_place text)
-put_fault text (Ok u) old new h = tt
-put_fault text (Err f) old new h = parse_err text f h.0
-
-pub put_none : (text : Text) (r : Result (Unit {0}) LineFault) (old new : Event) → IsPut r old new (parse text) → OnErr r ((e : Event) → IsLine text e → ⊥)
-put_none text (Ok u) old new h = tt
-put_none text (Err f) old new h = λ e g. let bad : Err f ≡ Ok e = sym h.0 ∙ parse_again text e g in cc
-
-pub put_same : (text : Text) (r : Result (Unit {0}) LineFault) (old new : Event) → IsPut r old new (parse text) → OnErr r (new ≡ old)
-put_same text (Ok u) old new h = tt
-put_same text (Err f) old new h = h.1
+pub put : (text : Text) (r : Result (Unit {0}) LineFault) (old new : Event) → IsPut r old new (parse text) → Puts text r old new
+put text (Ok u) old new h =
+    let line = parse_ok text new h in
+    record {
+      ok = line;
+      fits = line_fits text new line;
+      only = λ e g. (refl, let same : Ok new ≡ Ok e = sym h ∙ parse_again text e g in cc);
+      fault = tt;
+      none = tt;
+      same = tt;
+    }
+put text (Err f) old new h = record {
+  ok = tt;
+  fits = tt;
+  only = λ e g. absurd (no_line e g);
+  fault = parse_err text f h.0;
+  none = no_line;
+  same = h.1;
+}
+  where
+    no_line : (e : Event) → IsLine text e → ⊥
+    no_line e g = let bad : Err f ≡ Ok e = sym h.0 ∙ parse_again text e g in cc

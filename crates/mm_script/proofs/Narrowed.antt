@@ -5,8 +5,8 @@ use Rattle.std.proofs.lemmas.Bool.{le-leb, lt-leb}
 use Rattle.mm_types.specs.{Text}
 use Rattle.mm_text.specs.{number_of}
 use Rattle.mm_text.specs.Word.{Word}
-use Rattle.mm_script.specs.{LineFault, fault_at, read, Number, AnyNumber, PidNumber, within, number_in, pid_from, Rest, rest_behind, word_read}
-use Rattle.mm_script.specs.{first_read, word_as, word_from}
+use Rattle.mm_script.specs.{LineFault, fault_at, read, Number, AnyNumber, PidNumber, TidNumber, within, number_in, pid_from, tid_from, Rest}
+use Rattle.mm_script.specs.{rest_behind, word_read, first_read, word_as, word_from}
 use Rattle.mm_script.proofs.Given.{given_value}
 
 abbrev or_fault : {B : Type 0} → Option B → Rest → Result (B × Rest) LineFault
@@ -18,7 +18,7 @@ abbrev made : {A B : Type 0} → (A → Option B) → Result (A × Rest) LineFau
 made f (Err e) = Err e
 made f (Ok x) = or_fault (f x.0) x.1
 
-abbrev mapped : {A B : Type 0} → (A → B) → Result (A × Rest) LineFault → Result (B × Rest) LineFault
+abbrev pub mapped : {A B : Type 0} → (A → B) → Result (A × Rest) LineFault → Result (B × Rest) LineFault
 mapped g (Err e) = Err e
 mapped g (Ok x) = Ok (g x.0, x.1)
 
@@ -47,9 +47,22 @@ number_made : (least most : ℕ) (rest : Rest) → word_as (read (Number least m
 unfolding word_as read number_in
 number_made least most rest = made_first number_of rest (within least most) rest.left
 
-pid_made : (rest : Rest) → word_as (read PidNumber) rest ≡ mapped pid_from (word_as (read (Number 0 255)) rest)
+-- a word that is read as a number, and what is made of it
+pub as_number : {B : Type 0} (reads : Text → Option B) (least most : ℕ) (g : ℕ → B) → ((w : Text) → reads w ≡ option_map g (number_in least most w)) → (rest : Rest) → word_as reads rest ≡ mapped g (word_as (read (Number least most)) rest)
 unfolding word_as read
-pid_made rest = mapped_first (number_in 0 255) rest pid_from rest.left
+as_number reads least most g h rest = same_first rest.left ∙ mapped_first (number_in least most) rest g rest.left
+  where
+    same_first : (ws : List Word) → first_read reads rest ws ≡ first_read (λ w. option_map g (number_in least most w)) rest ws
+    same_first [] = refl
+    same_first (w ∷ ws) = ap (λ o. word_read o rest w ws) (h w.text)
+
+pid_made : (rest : Rest) → word_as (read PidNumber) rest ≡ mapped pid_from (word_as (read (Number 0 255)) rest)
+unfolding read
+pid_made rest = as_number (read PidNumber) 0 255 pid_from (λ w. refl) rest
+
+tid_made : (rest : Rest) → word_as (read TidNumber) rest ≡ mapped tid_from (word_as (read (Number 0 255)) rest)
+unfolding read
+tid_made rest = as_number (read TidNumber) 0 255 tid_from (λ w. refl) rest
 
 module _ (least most : ℕ) (rest new : Rest) (v : ℕ) (f : LineFault) where
   pub number_fault : word_as (read AnyNumber) rest ≡ Err f → word_as (read (Number least most)) rest ≡ Err f
@@ -79,11 +92,18 @@ module _ (least most : ℕ) (rest new : Rest) (v : ℕ) (f : LineFault) where
       none_of true = refl
       none_of false = refl
 
-pub pid_fault : (rest : Rest) (f : LineFault) → word_as (read (Number 0 255)) rest ≡ Err f → word_as (read PidNumber) rest ≡ Err f
-pid_fault rest f h = pid_made rest ∙ ap (mapped pid_from) h
+module _ (rest : Rest) where
+  pub pid_fault : (f : LineFault) → word_as (read (Number 0 255)) rest ≡ Err f → word_as (read PidNumber) rest ≡ Err f
+  pid_fault f h = pid_made rest ∙ ap (mapped pid_from) h
 
-pub pid_value : (rest new : Rest) (v : ℕ) → word_as (read (Number 0 255)) rest ≡ Ok (v, new) → word_as (read PidNumber) rest ≡ Ok (pid_from v, new)
-pid_value rest new v h = pid_made rest ∙ ap (mapped pid_from) h
+  pub pid_value : (new : Rest) (v : ℕ) → word_as (read (Number 0 255)) rest ≡ Ok (v, new) → word_as (read PidNumber) rest ≡ Ok (pid_from v, new)
+  pid_value new v h = pid_made rest ∙ ap (mapped pid_from) h
+
+  pub tid_fault : (f : LineFault) → word_as (read (Number 0 255)) rest ≡ Err f → word_as (read TidNumber) rest ≡ Err f
+  tid_fault f h = tid_made rest ∙ ap (mapped tid_from) h
+
+  pub tid_value : (new : Rest) (v : ℕ) → word_as (read (Number 0 255)) rest ≡ Ok (v, new) → word_as (read TidNumber) rest ≡ Ok (tid_from v, new)
+  tid_value new v h = tid_made rest ∙ ap (mapped tid_from) h
 
 -- the next word is a number that was read at its place
 pub number_taken : (old new : Rest) (text : Text) (v : ℕ) → old.left ≡ word_from new.last text ∷ new.left → new.end ≡ old.end → new.number ≡ old.number + 1 → number_of text ≡ Some v → word_as (read AnyNumber) old ≡ Ok (v, new)
@@ -91,4 +111,4 @@ unfolding read
 number_taken old new text v left end number e =
     given_value (read AnyNumber) old new text v (record { left = left; end = end; number = number }) (sym e)
 
-pub ruleset narrowed = (number_fault, number_value, number_low, number_high, pid_fault, pid_value)
+pub ruleset narrowed = (number_fault, number_value, number_low, number_high, pid_fault, pid_value, tid_fault, tid_value)

@@ -55,7 +55,7 @@ within_is least most n x h =
     let p = and_parts (nat_le least n) (nat_le n most) t.0 in
     (t.1, subst (λ k. least ≤ k) t.1 (leb-true least n p.0), subst (λ k. k ≤ most) t.1 (leb-true n most p.1))
 
-within_again : (least most n : ℕ) → least ≤ n → n ≤ most → within least most n ≡ Some n
+pub within_again : (least most n : ℕ) → least ≤ n → n ≤ most → within least most n ≡ Some n
 within_again least most n a b = cond-true (nat_le least n && nat_le n most) (Some n) None (and_from (nat_le least n) (nat_le n most) (le-leb least n a) (le-leb n most b))
 
 number_in_some : (least most x : ℕ) (o : Option ℕ) → option_and_then (within least most) o ≡ Some x → (o ≡ Some x) × (least ≤ x) × (x ≤ most)

@@ -1,16 +1,17 @@
 -- The words after a keyword are read as the fields of one event, or the first fault is told.
-use Rattle.std.proofs.Common.{◌≡◌, ◌+◌, List, [], ◌∷◌, Some, None, Ok, Err, Bool, true, false, cond, refl, sym, ap, ◌∙◌, subst, inl, inr}
+use Rattle.std.proofs.Common.{◌≡◌, ◌+◌, List, [], ◌∷◌, Option, Some, None, Ok, Err, Bool, true, false, cond, refl, sym, ap, ◌∙◌, subst, inl, inr}
 use Rattle.std.specs.Prelude.{is_some, bytes_eq, codes}
 use Rattle.std.proofs.lemmas.Bool.{cond-true}
 use Rattle.mm_types.specs.{Text, Direction, Event}
 use Rattle.mm_types.specs.declared.devices.Direction.TheVariants as direction
 use Rattle.mm_text.specs.Word.{Word}
-use Rattle.mm_script.specs.{LineFault, Keyword, EachSpells, are_joined, DirectionWord, read, End, Then, ReadOrWrite, fault_at, joint_fault}
+use Rattle.mm_script.specs.{LineFault, Keyword, Spells, EachSpells, are_joined, DirectionWord, read, End, Then, ReadOrWrite, fault_at, joint_fault}
 use Rattle.mm_script.specs.{first_fault, ◌>>=◌, Rest, rest_behind, word_as, ended, Makes, by_direction, event_in}
+use Rattle.mm_script.specs.Field.{Field}
 use Rattle.mm_script.specs.Shape.{Shape}
 use Rattle.mm_script.proofs.Binds.{bind_ok, bind_err, IsRead, Missing, Bad, word_ok, word_err, word_again, ended_ok, More, ended_err, ended_again}
 use Rattle.mm_script.proofs.Joined.{texts}
-use Rattle.mm_script.proofs.Shapes.{Values, made_of, fields_for, spells_read, read_spells}
+use Rattle.mm_script.proofs.Shapes.{Values, made_of, field_for, fields_for, spells_read, read_spells}
 
 -- these values were read, and they make the event
 pub record IsMade (s : Shape) (make : Makes s Event) (ws : List Text) (e : Event) : Type 0 where
@@ -26,6 +27,11 @@ tested_ok e d f false j h = cc
 none_left : (rest : Rest) → rest.left ≡ [] → EachSpells (texts rest.left) []
 none_left rest l = subst (λ (ws : List Word). EachSpells (texts ws) []) (sym l) tt
 
+-- a word that was read and spells a field stands before those that spell the others
+pub spelled_on : {A : Type 0} (reads : Text → Option A) (rest later : Rest) (x : A) (f : Field) (fs : List Field) → (r : IsRead reads rest x later) → Spells r.word.text f → EachSpells (texts later.left) fs → EachSpells (texts rest.left) (f ∷ fs)
+spelled_on reads rest later x f fs r s each =
+    subst (λ (ws : List Word). EachSpells (texts ws) (f ∷ fs)) (sym r.left) (s, subst (λ (y : Rest). EachSpells (texts y.left) fs) r.left_then each)
+
 pub event_ok : (k : Keyword) (s : Shape) (make : Makes s Event) (rest : Rest) (e : Event) → event_in k s make rest ≡ Ok e → IsMade s make (texts rest.left) e
 event_ok k End make rest e h =
     let p = bind_ok (ended rest) _ e h in
@@ -35,10 +41,9 @@ event_ok k (Then kind s) make rest e h =
     let p = bind_ok (word_as (read kind) rest) _ e h in
     let r = word_ok (read kind) rest p.0.1 p.0.0 p.1 in
     let m = event_ok k s (make p.0.0) p.0.1 e p.2 in
-    let later : EachSpells (texts r.words) (fields_for s m.values) = subst (λ (x : Rest). EachSpells (texts x.left) (fields_for s m.values)) r.left_then m.spelled in
     record {
       values = (p.0.0, m.values);
-      spelled = subst (λ (ws : List Word). EachSpells (texts ws) (fields_for (Then kind s) (p.0.0, m.values))) (sym r.left) (spells_read kind p.0.0 r.word.text r.value, later);
+      spelled = spelled_on (read kind) rest p.0.1 p.0.0 (field_for kind p.0.0) (fields_for s m.values) r (spells_read kind p.0.0 r.word.text r.value) m.spelled;
       made = m.made;
       joined = m.joined;
     }
@@ -48,19 +53,17 @@ event_ok k (ReadOrWrite s t) make rest e h =
     elim p.0.0 as (λ d. IsRead (read DirectionWord) rest d p.0.1 → by_direction d (event_in k s make.0 p.0.1) (event_in k t make.1 p.0.1) ≡ Ok e → IsMade (ReadOrWrite s t) make (texts rest.left) e) [
       | direction.Read ↦ λ r h.
           let m = event_ok k s make.0 p.0.1 e h in
-          let later : EachSpells (texts r.words) (fields_for s m.values) = subst (λ (x : Rest). EachSpells (texts x.left) (fields_for s m.values)) r.left_then m.spelled in
           record {
             values = inl m.values;
-            spelled = subst (λ (ws : List Word). EachSpells (texts ws) (fields_for (ReadOrWrite s t) (inl m.values))) (sym r.left) (spells_read DirectionWord direction.Read r.word.text r.value, later);
+            spelled = spelled_on (read DirectionWord) rest p.0.1 direction.Read (field_for DirectionWord direction.Read) (fields_for s m.values) r (spells_read DirectionWord direction.Read r.word.text r.value) m.spelled;
             made = m.made;
             joined = m.joined;
           }
       | direction.Write ↦ λ r h.
           let m = event_ok k t make.1 p.0.1 e h in
-          let later : EachSpells (texts r.words) (fields_for t m.values) = subst (λ (x : Rest). EachSpells (texts x.left) (fields_for t m.values)) r.left_then m.spelled in
           record {
             values = inr m.values;
-            spelled = subst (λ (ws : List Word). EachSpells (texts ws) (fields_for (ReadOrWrite s t) (inr m.values))) (sym r.left) (spells_read DirectionWord direction.Write r.word.text r.value, later);
+            spelled = spelled_on (read DirectionWord) rest p.0.1 direction.Write (field_for DirectionWord direction.Write) (fields_for t m.values) r (spells_read DirectionWord direction.Write r.word.text r.value) m.spelled;
             made = m.made;
             joined = m.joined;
           }

@@ -1,16 +1,19 @@
 pub mod Field
 pub mod Grammar
 pub mod Printed
+pub mod Pieces
 pub mod Keywords
 pub mod Sorted
 pub mod Shape
 pub mod Place
 pub mod Reading
+pub mod Numbers
 pub mod Cursor
 pub use Field.{Bytes, Decimal, EachSpells, Exactly, Hex, Named, NamedOrDash, Spells}
 pub use Grammar.{IsLine, IsText, are_joined, device_field, direction_field, fields_of, flag_field}
 pub use Grammar.{pid_field, tid_field}
 pub use Printed.{IsByte, IsInRange, IsWellFormed, print, printed, spaced_words}
+pub use Pieces.{room, shown}
 pub use Keywords.{keyword_among, keywords, text_of}
 unfoldable pub use Keywords.{keyword_of}
 pub use Sorted.{keywords_of_length}
@@ -23,6 +26,9 @@ unfoldable pub use Place.{without_return}
 pub use Reading.{Gives, IsPut, Makes, Rest, by_direction, ends_at, event_in, first_read, make_of}
 pub use Reading.{rest_behind, whole_line, word_read, ◌>>=◌}
 unfoldable pub use Reading.{ended, line_of, parse, word_as}
+pub use Numbers.{IfTrue, behind, is_end, is_free, is_plain, leading, made_with, numbers_as}
+pub use Numbers.{numbers_in, ranges_of, whole_of, with_numbers}
 pub use Cursor.{TakesWord, rest_of, word_from}
 pub use declared.faults.LineFault.{LineFault}
+pub use declared.fields.Range.{Range}
 pub use declared.keywords.Keyword.{Keyword}

@@ -1,9 +1,10 @@
 ghost use Rattle.std.specs.Prelude.{◌≡◌, ◌+◌, ◌-◌, ◌^◌, ◌<◌, ◌≤◌, length, OnOk, IfOk};
-ghost use Rattle.mm_script.specs.Shape.{read, Number, AnyNumber, PidNumber, TidNumber, FlagNumber, ByteWord, NameWord, NameOrDash, DeviceWord, DirectionWord};
+ghost use Rattle.mm_script.specs.Shape.{read, Number, AnyNumber, PidNumber, TidNumber, ByteWord, NameWord, NameOrDash, DeviceWord, DirectionWord};
 ghost use Rattle.mm_script.specs.Place.{fault_at};
 ghost use Rattle.mm_script.specs.Keywords.{keyword_of};
 ghost use Rattle.mm_script.specs.Reading.{word_as, ended, whole_line, Gives};
 ghost use Rattle.mm_script.specs.Cursor.{Takes};
+ghost use Rattle.mm_script.specs.Numbers.{numbers_in, PutsNumbers};
 
 use crate::keywords::Keyword;
 use crate::{LineFault, values};
@@ -13,6 +14,13 @@ use std::marker::Model;
 
 /// More words than any line has.
 const MOST_WORDS: u32 = 64;
+
+/// The most numbers that stand in a line.
+pub const MOST_NUMBERS: usize = 6;
+
+/// The least number that may stand at a place, and the greatest.
+#[derive(Clone, Copy)]
+pub struct Range(pub u32, pub u32);
 
 /// The words of a line that are left. Each call takes the next word, and answers its value, or the
 /// fault at it.
@@ -143,14 +151,34 @@ impl<'a> Fields<'a> {
     }
 
     /// A number that a byte holds.
-    #[tactic(auto, using(crate::proofs::Given::given))]
     pub fn byte(&mut self) -> Result<u8, LineFault>
         requires few { self.old.number < MOST_WORDS }
         ensures value { Gives result self.new (word_as (read (Number 0 255)) self.old) }
         ensures counts { self.new.number ≡ self.old.number + 1 }
     {
-        let word = self.next()?;
-        values::byte(word).ok_or(self.fault())
+        let value = self.number_in(0, 255)?;
+        Ok(value as u8)
+    }
+
+    /// As many numbers as there are ranges, each in its own, at the front of `numbers`.
+    #[inline(always)]
+    pub fn numbers(
+        &mut self,
+        ranges: &[Range],
+        numbers: &mut [u32; MOST_NUMBERS],
+    ) -> Result<(), LineFault>
+        requires few { length ranges.now ≤ MOST_NUMBERS }
+        requires words { self.old.number + length ranges.now ≤ MOST_WORDS }
+        ensures value { PutsNumbers result numbers.new self.new (numbers_in ranges.now self.old) }
+        ensures counts { OnOk result (self.new.number ≡ self.old.number + length ranges.now) }
+    {
+        *numbers = [0; MOST_NUMBERS];
+        let mut count = 0;
+        for range in ranges {
+            numbers[count] = self.number_in(range.0, range.1)?;
+            count += 1;
+        }
+        Ok(())
     }
 
     /// A process's number, 0 to 255.
@@ -166,25 +194,14 @@ impl<'a> Fields<'a> {
     }
 
     /// A thread's number, 0 to 255.
-    #[tactic(auto, using(crate::proofs::Given::given))]
+    #[tactic(auto, using(crate::proofs::Narrowed::narrowed))]
     pub fn tid(&mut self) -> Result<Tid, LineFault>
         requires few { self.old.number < MOST_WORDS }
         ensures value { Gives result self.new (word_as (read TidNumber) self.old) }
         ensures counts { self.new.number ≡ self.old.number + 1 }
     {
-        let word = self.next()?;
-        values::tid(word).ok_or(self.fault())
-    }
-
-    /// 0 or 1.
-    #[tactic(auto, using(crate::proofs::Given::given))]
-    pub fn flag(&mut self) -> Result<bool, LineFault>
-        requires few { self.old.number < MOST_WORDS }
-        ensures value { Gives result self.new (word_as (read FlagNumber) self.old) }
-        ensures counts { self.new.number ≡ self.old.number + 1 }
-    {
-        let word = self.next()?;
-        values::flag(word).ok_or(self.fault())
+        let value = self.number_in(0, 255)?;
+        Ok(Tid(value as u8))
     }
 
     /// 1 to 64 bytes, as pairs of hexadecimal digits.

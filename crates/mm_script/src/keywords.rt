@@ -79,6 +79,19 @@ fn is_write(word: &[u8]) -> bool
     }
 }
 
+/// The first of some keywords that a word is: one test after another, each with a text that is
+/// known when it is compiled.
+macro_rules! among {
+    ($word:expr, $($text:literal => $keyword:ident,)*) => {{
+        $(
+            if is_text($word, $text) {
+                return Some(Keyword::$keyword);
+            }
+        )*
+        None
+    }};
+}
+
 /// The keyword that a word is, sought among those of its length.
 #[inline(never)]
 fn by_length(word: &[u8]) -> Option<Keyword>
@@ -96,125 +109,63 @@ fn by_length(word: &[u8]) -> Option<Keyword>
 fn four_letters(word: &[u8]) -> Option<Keyword>
     ensures { result ≡ keyword_among four_letter_keywords word.now }
 {
-    if is_text(word, b"read") {
-        return Some(Keyword::Read);
-    }
-    if is_text(word, b"exit") {
-        return Some(Keyword::Exit);
-    }
-    if is_text(word, b"file") {
-        return Some(Keyword::File);
-    }
-    if is_text(word, b"free") {
-        return Some(Keyword::Free);
-    }
-    if is_text(word, b"open") {
-        return Some(Keyword::Open);
-    }
-    if is_text(word, b"exec") {
-        return Some(Keyword::Exec);
-    }
-    if is_text(word, b"trim") {
-        return Some(Keyword::Trim);
-    }
-    if is_text(word, b"fail") {
-        return Some(Keyword::Fail);
-    }
-    if is_text(word, b"grow") {
-        return Some(Keyword::Grow);
-    }
-    None
+    among!(word,
+        b"read" => Read,
+        b"exit" => Exit,
+        b"file" => File,
+        b"free" => Free,
+        b"open" => Open,
+        b"exec" => Exec,
+        b"trim" => Trim,
+        b"fail" => Fail,
+        b"grow" => Grow,
+    )
 }
 
 /// The keyword of five letters that a word is.
 fn five_letters(word: &[u8]) -> Option<Keyword>
     ensures { result ≡ keyword_among five_letter_keywords word.now }
 {
-    if is_text(word, b"write") {
-        return Some(Keyword::Write);
-    }
-    if is_text(word, b"alloc") {
-        return Some(Keyword::Alloc);
-    }
-    if is_text(word, b"query") {
-        return Some(Keyword::Query);
-    }
-    if is_text(word, b"close") {
-        return Some(Keyword::Close);
-    }
-    if is_text(word, b"unmap") {
-        return Some(Keyword::Unmap);
-    }
-    if is_text(word, b"flush") {
-        return Some(Keyword::Flush);
-    }
-    if is_text(word, b"begin") {
-        return Some(Keyword::Begin);
-    }
-    if is_text(word, b"watch") {
-        return Some(Keyword::Watch);
-    }
-    if is_text(word, b"stack") {
-        return Some(Keyword::Stack);
-    }
-    if is_text(word, b"probe") {
-        return Some(Keyword::Probe);
-    }
-    None
+    among!(word,
+        b"write" => Write,
+        b"alloc" => Alloc,
+        b"query" => Query,
+        b"close" => Close,
+        b"unmap" => Unmap,
+        b"flush" => Flush,
+        b"begin" => Begin,
+        b"watch" => Watch,
+        b"stack" => Stack,
+        b"probe" => Probe,
+    )
 }
 
 /// The keyword of six letters that a word is.
 fn six_letters(word: &[u8]) -> Option<Keyword>
     ensures { result ≡ keyword_among six_letter_keywords word.now }
 {
-    if is_text(word, b"writer") {
-        return Some(Keyword::Writer);
-    }
-    if is_text(word, b"create") {
-        return Some(Keyword::Create);
-    }
-    if is_text(word, b"resume") {
-        return Some(Keyword::Resume);
-    }
-    if is_text(word, b"zeroer") {
-        return Some(Keyword::Zeroer);
-    }
-    if is_text(word, b"charge") {
-        return Some(Keyword::Charge);
-    }
-    if is_text(word, b"counts") {
-        return Some(Keyword::Counts);
-    }
-    None
+    among!(word,
+        b"writer" => Writer,
+        b"create" => Create,
+        b"resume" => Resume,
+        b"zeroer" => Zeroer,
+        b"charge" => Charge,
+        b"counts" => Counts,
+    )
 }
 
 /// The keyword of another length that a word is.
 fn other(word: &[u8]) -> Option<Keyword>
     ensures { result ≡ keyword_among other_keywords word.now }
 {
-    if is_text(word, b"io") {
-        return Some(Keyword::Io);
-    }
-    if is_text(word, b"map") {
-        return Some(Keyword::Map);
-    }
-    if is_text(word, b"age") {
-        return Some(Keyword::Age);
-    }
-    if is_text(word, b"machine") {
-        return Some(Keyword::Machine);
-    }
-    if is_text(word, b"process") {
-        return Some(Keyword::Process);
-    }
-    if is_text(word, b"protect") {
-        return Some(Keyword::Protect);
-    }
-    if is_text(word, b"createfile") {
-        return Some(Keyword::CreateFile);
-    }
-    if is_text(word, b"resetwatch") {
-        return Some(Keyword::ResetWatch);
-    }
-    None
+    among!(word,
+        b"io" => Io,
+        b"map" => Map,
+        b"age" => Age,
+        b"machine" => Machine,
+        b"process" => Process,
+        b"protect" => Protect,
+        b"createfile" => CreateFile,
+        b"resetwatch" => ResetWatch,
+    )
 }

@@ -1,59 +1,119 @@
 ghost use Rattle.std.specs.Prelude.{◌≡◌, ◌≤◌, ◌++◌, [], length};
+ghost use Rattle.mm_types.specs.declared.events.Event.TheVariants as line;
 ghost use Rattle.mm_script.specs.Grammar.{IsLine};
 ghost use Rattle.mm_script.specs.Printed.{IsWellFormed, printed};
 
-mod accesses;
-mod calls;
-mod paging;
-mod sections;
-mod setup;
-
+use crate::pieces::Piece::{Bytes, Decimal, Device, Direction, Hex, Name, NameOrDash, Small};
+use crate::pieces::put_line;
 use mm_text::LineBuf;
-use mm_types::Event;
+use mm_types::{AccessSpec, Direction as Way, Event, Pid, Tid};
+
+fn print_begin(out: &mut LineBuf, tid: Tid, pid: Pid, access: &AccessSpec)
+    requires { length out.old ≤ 96 }
+    ensures { out.new ≡ out.old ++ printed (line.Begin tid pid access.now) }
+{
+    match access {
+        AccessSpec::Read { addr, len } => put_line(
+            out,
+            b"begin",
+            &[
+                Small(tid.0),
+                Small(pid.0),
+                Direction(Way::Read),
+                Hex(*addr),
+                Decimal(*len),
+            ],
+        ),
+        AccessSpec::Write { addr, bytes } => put_line(
+            out,
+            b"begin",
+            &[
+                Small(tid.0),
+                Small(pid.0),
+                Direction(Way::Write),
+                Hex(*addr),
+                Bytes(bytes),
+            ],
+        ),
+    }
+}
 
 fn print(event: &Event, out: &mut LineBuf)
     requires { length out.old ≤ 96 }
     ensures { out.new ≡ out.old ++ printed event.now }
 {
     match event {
-        Event::Machine(machine) => setup::machine(out, machine),
-        Event::Process { min, max } => setup::process(out, *min, *max),
-        Event::Exit { pid } => setup::exit(out, *pid),
-        Event::File { name, pages, byte } => setup::file(out, name, *pages, *byte),
+        Event::Machine(machine) => put_line(
+            out,
+            b"machine",
+            &[
+                Decimal(machine.frames()),
+                Decimal(machine.slots()),
+                Decimal(machine.depth()),
+                Decimal(machine.blocks()),
+            ],
+        ),
+        Event::Process { min, max } => put_line(out, b"process", &[Decimal(*min), Decimal(*max)]),
+        Event::Exit { pid } => put_line(out, b"exit", &[Small(pid.0)]),
+        Event::File { name, pages, byte } => put_line(
+            out,
+            b"file",
+            &[Name(name), Decimal(*pages), Small(*byte)],
+        ),
         Event::Alloc {
             pid,
             addr,
             size,
             form,
             prot,
-        } => calls::alloc(out, *pid, *addr, *size, *form, *prot),
+        } => put_line(
+            out,
+            b"alloc",
+            &[Small(pid.0), Hex(*addr), Hex(*size), Hex(*form), Hex(*prot)],
+        ),
         Event::Free {
             pid,
             addr,
             size,
             form,
-        } => calls::free(out, *pid, *addr, *size, *form),
+        } => put_line(
+            out,
+            b"free",
+            &[Small(pid.0), Hex(*addr), Hex(*size), Hex(*form)],
+        ),
         Event::Protect {
             pid,
             addr,
             size,
             prot,
-        } => calls::protect(out, *pid, *addr, *size, *prot),
-        Event::Query { pid, addr } => calls::query(out, *pid, *addr),
+        } => put_line(
+            out,
+            b"protect",
+            &[Small(pid.0), Hex(*addr), Hex(*size), Hex(*prot)],
+        ),
+        Event::Query { pid, addr } => put_line(out, b"query", &[Small(pid.0), Hex(*addr)]),
         Event::Create {
             pid,
             size,
             flags,
             name,
-        } => sections::create(out, *pid, *size, *flags, name),
+        } => put_line(
+            out,
+            b"create",
+            &[Small(pid.0), Hex(*size), Hex(*flags), NameOrDash(name)],
+        ),
         Event::CreateFile {
             pid,
             file,
             flags,
             name,
-        } => sections::create_file(out, *pid, file, *flags, name),
-        Event::Open { pid, name } => sections::open(out, *pid, name),
-        Event::Close { pid, handle } => sections::close(out, *pid, *handle),
+        } => put_line(
+            out,
+            b"createfile",
+            &[Small(pid.0), Name(file), Hex(*flags), NameOrDash(name)],
+        ),
+        Event::Open { pid, name } => put_line(out, b"open", &[Small(pid.0), Name(name)]),
+        Event::Close { pid, handle } => put_line(out, b"close", &[Small(pid.0), Decimal(*handle)]),
         Event::Map {
             pid,
             handle,
@@ -61,43 +121,93 @@ fn print(event: &Event, out: &mut LineBuf)
             offset,
             length: len,
             addr,
-        } => sections::map(out, *pid, *handle, *access, *offset, *len, *addr),
-        Event::Unmap { pid, addr } => sections::unmap(out, *pid, *addr),
-        Event::Flush { pid, addr, size } => sections::flush(out, *pid, *addr, *size),
-        Event::Read { pid, addr, len } => accesses::read(out, *pid, *addr, *len),
-        Event::Write { pid, addr, bytes } => accesses::write(out, *pid, *addr, bytes),
-        Event::Exec { pid, addr } => accesses::exec(out, *pid, *addr),
-        Event::Begin { tid, pid, access } => accesses::begin(out, *tid, *pid, access),
-        Event::Resume { tid } => accesses::resume(out, *tid),
-        Event::Io { index: i } => paging::io(out, *i),
-        Event::Trim { pid, count: n } => paging::trim(out, *pid, *n),
-        Event::Age { pid } => paging::age(out, *pid),
-        Event::Writer { count: n } => paging::writer(out, *n),
-        Event::Zeroer { count: n } => paging::zeroer(out, *n),
+        } => put_line(
+            out,
+            b"map",
+            &[
+                Small(pid.0),
+                Decimal(*handle),
+                Hex(*access),
+                Hex(*offset),
+                Hex(*len),
+                Hex(*addr),
+            ],
+        ),
+        Event::Unmap { pid, addr } => put_line(out, b"unmap", &[Small(pid.0), Hex(*addr)]),
+        Event::Flush { pid, addr, size } => put_line(
+            out,
+            b"flush",
+            &[Small(pid.0), Hex(*addr), Hex(*size)],
+        ),
+        Event::Read { pid, addr, len } => put_line(
+            out,
+            b"read",
+            &[Small(pid.0), Hex(*addr), Decimal(*len)],
+        ),
+        Event::Write { pid, addr, bytes } => put_line(
+            out,
+            b"write",
+            &[Small(pid.0), Hex(*addr), Bytes(bytes)],
+        ),
+        Event::Exec { pid, addr } => put_line(out, b"exec", &[Small(pid.0), Hex(*addr)]),
+        Event::Begin { tid, pid, access } => print_begin(out, *tid, *pid, access),
+        Event::Resume { tid } => put_line(out, b"resume", &[Small(tid.0)]),
+        Event::Io { index: i } => put_line(out, b"io", &[Decimal(*i)]),
+        Event::Trim { pid, count: n } => put_line(out, b"trim", &[Small(pid.0), Decimal(*n)]),
+        Event::Age { pid } => put_line(out, b"age", &[Small(pid.0)]),
+        Event::Writer { count: n } => put_line(out, b"writer", &[Decimal(*n)]),
+        Event::Zeroer { count: n } => put_line(out, b"zeroer", &[Decimal(*n)]),
         Event::Fail {
             device,
             direction,
             nth: k,
             count: n,
-        } => setup::fail(out, *device, *direction, *k, *n),
-        Event::Charge => paging::charge(out),
-        Event::Counts => paging::counts(out),
-        Event::Grow { slots: n } => setup::grow(out, *n),
+        } => put_line(
+            out,
+            b"fail",
+            &[
+                Device(*device),
+                Direction(*direction),
+                Decimal(*k),
+                Decimal(*n),
+            ],
+        ),
+        Event::Charge => put_line(out, b"charge", &[]),
+        Event::Counts => put_line(out, b"counts", &[]),
+        Event::Grow { slots: n } => put_line(out, b"grow", &[Decimal(*n)]),
         Event::Watch {
             pid,
             reset: flag,
             addr,
             size,
             count,
-        } => calls::watch(out, *pid, *flag, *addr, *size, *count),
-        Event::ResetWatch { pid, addr, size } => calls::reset_watch(out, *pid, *addr, *size),
+        } => put_line(
+            out,
+            b"watch",
+            &[
+                Small(pid.0),
+                Small(u8::from(*flag)),
+                Hex(*addr),
+                Hex(*size),
+                Decimal(*count),
+            ],
+        ),
+        Event::ResetWatch { pid, addr, size } => put_line(
+            out,
+            b"resetwatch",
+            &[Small(pid.0), Hex(*addr), Hex(*size)],
+        ),
         Event::Stack {
             tid,
             pid,
             reserve,
             commit,
-        } => calls::stack(out, *tid, *pid, *reserve, *commit),
-        Event::Probe { tid, addr } => calls::probe(out, *tid, *addr),
+        } => put_line(
+            out,
+            b"stack",
+            &[Small(tid.0), Small(pid.0), Hex(*reserve), Hex(*commit)],
+        ),
+        Event::Probe { tid, addr } => put_line(out, b"probe", &[Small(tid.0), Hex(*addr)]),
     }
 }
 

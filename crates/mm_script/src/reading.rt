@@ -6,9 +6,7 @@ ghost use Rattle.mm_script.specs.Place.{without_return, fault_place};
 ghost use Rattle.mm_script.specs.Reading.{line_of, parse, IsPut};
 
 mod accesses;
-mod calls;
-mod paging;
-mod sections;
+mod numbers;
 mod setup;
 
 use crate::LineFault;
@@ -25,37 +23,15 @@ fn fields_after(keyword: Keyword, fields: &mut Fields, event: &mut Event) -> Res
     match keyword {
         Keyword::Machine => setup::machine(fields, event),
         Keyword::Process => setup::process(fields, event),
-        Keyword::Exit => setup::exit(fields, event),
         Keyword::File => setup::file(fields, event),
-        Keyword::Alloc => calls::alloc(fields, event),
-        Keyword::Free => calls::free(fields, event),
-        Keyword::Protect => calls::protect(fields, event),
-        Keyword::Query => calls::query(fields, event),
-        Keyword::Create => sections::create(fields, event),
-        Keyword::CreateFile => sections::create_file(fields, event),
-        Keyword::Open => sections::open(fields, event),
-        Keyword::Close => sections::close(fields, event),
-        Keyword::Map => sections::map(fields, event),
-        Keyword::Unmap => sections::unmap(fields, event),
-        Keyword::Flush => sections::flush(fields, event),
+        Keyword::Fail => setup::fail(fields, event),
+        Keyword::Create => setup::create(fields, event),
+        Keyword::CreateFile => setup::create_file(fields, event),
+        Keyword::Open => setup::open(fields, event),
         Keyword::Read => accesses::read(fields, event),
         Keyword::Write => accesses::write(fields, event),
-        Keyword::Exec => accesses::exec(fields, event),
         Keyword::Begin => accesses::begin(fields, event),
-        Keyword::Resume => accesses::resume(fields, event),
-        Keyword::Io => paging::io(fields, event),
-        Keyword::Trim => paging::trim(fields, event),
-        Keyword::Age => paging::age(fields, event),
-        Keyword::Writer => paging::writer(fields, event),
-        Keyword::Zeroer => paging::zeroer(fields, event),
-        Keyword::Fail => setup::fail(fields, event),
-        Keyword::Charge => paging::charge(fields, event),
-        Keyword::Counts => paging::counts(fields, event),
-        Keyword::Grow => setup::grow(fields, event),
-        Keyword::Watch => calls::watch(fields, event),
-        Keyword::ResetWatch => calls::reset_watch(fields, event),
-        Keyword::Stack => calls::stack(fields, event),
-        Keyword::Probe => calls::probe(fields, event),
+        _ => numbers::numbers(keyword, fields, event),
     }
 }
 
@@ -86,38 +62,9 @@ fn put_event(line: &[u8], event: &mut Event) -> Result<(), LineFault>
     }
 }
 
-/// The event of a line in a place of its own.
-#[inline(always)]
-fn parse(line: &[u8]) -> Result<Event, LineFault>
-    requires { length line.now + 1 < 2 ^ 32 }
-    ensures { result ≡ parse line.now }
-{
-    let mut event = Event::Charge;
-    put_event(line, &mut event)?;
-    Ok(event)
-}
-
-/// The event of a line, from its bytes before the line feed; one carriage return at their end is
-/// taken off. `Err` exactly where the grammar has no event for the line: the place of its first
-/// fault.
-#[inline(always)]
-pub fn parse_line(line: &[u8]) -> Result<Event, LineFault>
-    requires { length line.now + 1 < 2 ^ 32 }
-    // What is answered is the line's event, with its fields in their ranges.
-    ensures ok { IfOk result (λ e. IsLine line.now e) }
-    ensures well_formed { IfOk result (λ e. IsWellFormed e) }
-    // A line of the grammar is accepted.
-    ensures only { (e : Event) → IsLine line.now e → result ≡ Ok e }
-    // The place of the first fault, where there is no event.
-    ensures fault { IfErr result (λ f. f ≡ fault_place line.now) }
-    ensures none { IfErr result (λ _. (e : Event) → IsLine line.now e → ⊥) }
-    // The same, to compute with.
-    ensures exact { result ≡ parse line.now }
-{
-    parse(line)
-}
-
-/// The same, with the event written where it is wanted. After an `Err` the event is as it was.
+/// The event of a line, from its bytes before the line feed, written where it is wanted; one
+/// carriage return at their end is taken off. `Err` exactly where the grammar has no event for the
+/// line: the place of its first fault. After an `Err` the event is as it was.
 #[inline(always)]
 pub fn parse_into(line: &[u8], event: &mut Event) -> Result<(), LineFault>
     requires { length line.now + 1 < 2 ^ 32 }
@@ -134,6 +81,26 @@ pub fn parse_into(line: &[u8], event: &mut Event) -> Result<(), LineFault>
     ensures exact { IsPut result event.old event.new (parse line.now) }
 {
     put_event(line, event)
+}
+
+/// The same, with the event in a place of its own.
+#[inline(always)]
+pub fn parse_line(line: &[u8]) -> Result<Event, LineFault>
+    requires { length line.now + 1 < 2 ^ 32 }
+    // What is answered is the line's event, with its fields in their ranges.
+    ensures ok { IfOk result (λ e. IsLine line.now e) }
+    ensures well_formed { IfOk result (λ e. IsWellFormed e) }
+    // A line of the grammar is accepted.
+    ensures only { (e : Event) → IsLine line.now e → result ≡ Ok e }
+    // The place of the first fault, where there is no event.
+    ensures fault { IfErr result (λ f. f ≡ fault_place line.now) }
+    ensures none { IfErr result (λ _. (e : Event) → IsLine line.now e → ⊥) }
+    // The same, to compute with.
+    ensures exact { result ≡ parse line.now }
+{
+    let mut event = Event::Charge;
+    parse_into(line, &mut event)?;
+    Ok(event)
 }
 
 /// No line stands for two events.

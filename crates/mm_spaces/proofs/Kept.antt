@@ -1,7 +1,8 @@
 -- What a look-up of a page finds in the regions that are kept.
-use Rattle.std.proofs.Common.{◌≡◌, ℕ, zero, suc, ◌+◌, ◌<◌, ◌≤◌, Bool, true, false, cond, List, [], ◌∷◌, length, map, Option, Some, None, option_map, is_some, refl, sym, ap, ◌∙◌, subst, arith, slice_get, nat_le, ◌&&◌, ◌||◌, not}
+use Rattle.std.proofs.Common.{◌≡◌, ℕ, zero, suc, ◌+◌, ◌<◌, ◌≤◌, Bool, true, false, cond, List, [], ◌∷◌, length, map, Option, Some, None, option_map, is_some, refl, ap, ◌∙◌, subst, arith, slice_get, nat_le, nat_lt, ◌&&◌, ◌||◌, not}
 use Rattle.std.specs.Prelude.{find, All, ◌==◌}
-use Rattle.std.proofs.lemmas.Bool.{leb-true, le-leb, eqb-true, and_right}
+use Rattle.std.specs.List.{list_all}
+use Rattle.std.proofs.lemmas.Bool.{leb-true, le-leb, eqb-true, and_parts, and_right}
 use Rattle.std.proofs.lemmas.Option.{slice_get-map}
 use Rattle.std.proofs.lemmas.List.Elements.{All-head, All-tail}
 use Rattle.mm_types.specs.{Kind, ViewAccess, Range, holds_page, lies_within, end_of, page_of, first_user_page}
@@ -12,12 +13,12 @@ use Rattle.mm_vad.specs.Regions as vad
 use Rattle.mm_vad.proofs.{row_there, each_region}
 use Rattle.mm_world.specs.{RegionOf, RowOf, pages_of, Found, region_with, is_private, private_at, private_around, view_at, view_around, is_one_of}
 use Rattle.mm_world.specs.{private_protections, IsSpace, RowsFit, RowFits, held_protections}
-use Rattle.mm_world.proofs.{found_stands, each-at}
+use Rattle.mm_world.proofs.{found_stands, each-at, less}
 use Rattle.mm_spaces.specs.{shown_row, region_of, shown_regions, info_of, found_info, IsKeptSpace, IsRegionAt, IsAround, NoneAround, IsBased}
-use Rattle.mm_spaces.specs.{NoneBased, found_if, surrounds, is_based}
-use Rattle.mm_spaces.proofs.Shows.{shown_pages}
-use Rattle.mm_spaces.proofs.Carried.{place_of, with_shown}
-use Rattle.mm_spaces.proofs.OfPage.{kept_if, around_of_page, both_around, both_based}
+use Rattle.mm_spaces.specs.{NoneBased, both_where, found_if, surrounds, is_based}
+use Rattle.mm_spaces.proofs.Around.{shown_pages}
+use Rattle.mm_spaces.proofs.Around.{place_of, with_shown}
+use Rattle.mm_spaces.proofs.Around.{kept_if, both_around, both_based}
 
 abbrev Regions : Type 0
 Regions = List (RegionOf (Unit {0}))
@@ -61,31 +62,23 @@ has_row [] i h = absurd (omega (arith, h))
 has_row (x ∷ xs) zero h = (x, refl)
 has_row (x ∷ xs) (suc i) h = has_row xs i (omega (arith, h))
 
-member : (a : ℕ) (rest : List ℕ) (n : ℕ) → a < 0x100 → (is_one_of rest n ≡ true → n < 0x100) → is_one_of (a ∷ rest) n ≡ true → n < 0x100
-member a rest n low later e =
-    elim (a == n) as (λ b. (a == n) ≡ b → (b || is_one_of rest n) ≡ true → n < 0x100) [
-      | true ↦ λ is k. omega (arith, low, eqb-true a n is)
-      | false ↦ λ is k. later k
+low_among : (xs : List ℕ) (n : ℕ) → list_all (λ a. nat_lt a 0x100) xs ≡ true → is_one_of xs n ≡ true → n < 0x100
+low_among [] n low e = cc
+low_among (a ∷ xs) n low e =
+    let k = and_parts (nat_lt a 0x100) (list_all (λ a. nat_lt a 0x100) xs) low in
+    elim (a == n) as (λ b. (a == n) ≡ b → (b || is_one_of xs n) ≡ true → n < 0x100) [
+      | true ↦ λ is h. omega (arith, less a 0x100 k.0, eqb-true a n is)
+      | false ↦ λ is h. low_among xs n k.1 h
     ] refl e
 
 pub private_low : (n : ℕ) → is_one_of private_protections n ≡ true → n < 0x100
-private_low n e =
-    member 0x01 (0x02 ∷ 0x04 ∷ 0x10 ∷ 0x20 ∷ 0x40 ∷ []) n (omega arith)
-    (member 0x02 (0x04 ∷ 0x10 ∷ 0x20 ∷ 0x40 ∷ []) n (omega arith)
-    (member 0x04 (0x10 ∷ 0x20 ∷ 0x40 ∷ []) n (omega arith)
-    (member 0x10 (0x20 ∷ 0x40 ∷ []) n (omega arith)
-    (member 0x20 (0x40 ∷ []) n (omega arith)
-    (member 0x40 [] n (omega arith) (λ k. (cc)))))))
-    e
-
-three_low : (a b c n : ℕ) → a < 0x100 → b < 0x100 → c < 0x100 → is_one_of (a ∷ b ∷ c ∷ []) n ≡ true → n < 0x100
-three_low a b c n la lb lc e = member a (b ∷ c ∷ []) n la (member b (c ∷ []) n lb (member c [] n lc (λ k. (cc)))) e
+private_low n e = low_among private_protections n refl e
 
 held_low : (access : ViewAccess) (own : Option (Unit {0})) (marked : Bool) (n : ℕ) → is_one_of (held_protections access own marked) n ≡ true → n < 0x100
-held_low access None true n e = three_low 1 2 8 n (omega arith) (omega arith) (omega arith) e
-held_low access (Some b) true n e = three_low 1 2 4 n (omega arith) (omega arith) (omega arith) e
-held_low view.Read own false n e = member 1 (2 ∷ []) n (omega arith) (member 2 [] n (omega arith) (λ k. (cc))) e
-held_low view.Write own false n e = three_low 1 2 4 n (omega arith) (omega arith) (omega arith) e
+held_low access None true n e = low_among (1 ∷ 2 ∷ 8 ∷ []) n refl e
+held_low access (Some b) true n e = low_among (1 ∷ 2 ∷ 4 ∷ []) n refl e
+held_low view.Read own false n e = low_among (1 ∷ 2 ∷ []) n refl e
+held_low view.Write own false n e = low_among (1 ∷ 2 ∷ 4 ∷ []) n refl e
 held_low view.Copy own false n e = cc
 
 pub fit_low : (k : Kind) (row : RowOf (Unit {0})) → RowFits k row → row.prot < 0x100
@@ -122,73 +115,55 @@ module _ (rs : Regions) (sound : IsSpace rs) where
       ∙ ap (λ (x : Range). lies_within range x) (shown_pages r at.rows)
       ∙ ap (λ (b : Bool). b && nat_le (end_of range) (r.base.0 + r.pages)) (le-leb r.base.0 range.first at.low)
 
-  pub around_some : (range : Range) (r : Region) → 1 ≤ range.count → IsRegionAt rs range.first r → end_of range ≤ r.base.0 + r.pages → IsAround rs range r
-  around_some range r some at high =
-      let passes : surrounds range at.found.thing ≡ true = surrounded range r at ∙ le-leb (end_of range) (r.base.0 + r.pages) high in
-      record {
-        at = at;
-        high = omega (arith, high, at.low, at.rows);
-        around = around_of_page first_user_page rs range sound.laid_out some ∙ ap (kept_if (surrounds range)) at.there ∙ ap (λ b. found_if b at.found) passes;
-        only = λ t.
-            both_around t first_user_page rs range sound.laid_out some
-            ∙ ap (kept_if (λ x. t x && surrounds range x)) at.there
-            ∙ ap (λ b. found_if b at.found) (both-left (t at.found.thing) (surrounds range at.found.thing) passes);
-      }
+  -- a search that only the region with one page can pass, whatever else is asked
+  module _ (test : RegionOf (Unit {0}) → Bool) (page : ℕ) (one : (t : RegionOf (Unit {0}) → Bool) → both_where t test rs ≡ kept_if (λ x. t x && test x) (region_with rs page)) where
+    found_at : (f : Found (RegionOf (Unit {0}))) → region_with rs page ≡ Some f → test f.thing ≡ true → (t : RegionOf (Unit {0}) → Bool) → both_where t test rs ≡ found_if (t f.thing) f
+    found_at f there passes t = one t ∙ ap (kept_if (λ x. t x && test x)) there ∙ ap (λ b. found_if b f) (both-left (t f.thing) (test f.thing) passes)
 
-  pub around_short : (range : Range) (r : Region) → 1 ≤ range.count → IsRegionAt rs range.first r → nat_le (end_of range) (r.base.0 + r.pages) ≡ false → NoneAround rs range
-  around_short range r some at short =
-      let fails : surrounds range at.found.thing ≡ false = surrounded range r at ∙ short in
-      record {
-        around = around_of_page first_user_page rs range sound.laid_out some ∙ ap (kept_if (surrounds range)) at.there ∙ ap (λ b. found_if b at.found) fails;
-        only = λ t.
-            both_around t first_user_page rs range sound.laid_out some
-            ∙ ap (kept_if (λ x. t x && surrounds range x)) at.there
-            ∙ ap (λ b. found_if b at.found) (and_right (t at.found.thing) (surrounds range at.found.thing) fails);
-      }
+    fails_at : (f : Found (RegionOf (Unit {0}))) → region_with rs page ≡ Some f → test f.thing ≡ false → (t : RegionOf (Unit {0}) → Bool) → both_where t test rs ≡ None
+    fails_at f there fails t = one t ∙ ap (kept_if (λ x. t x && test x)) there ∙ ap (λ b. found_if b f) (and_right (t f.thing) (test f.thing) fails)
 
-  pub around_none : (range : Range) → 1 ≤ range.count → region_with rs range.first ≡ None → NoneAround rs range
-  around_none range some e =
-      record {
-        around = around_of_page first_user_page rs range sound.laid_out some ∙ ap (kept_if (surrounds range)) e;
-        only = λ t. both_around t first_user_page rs range sound.laid_out some ∙ ap (kept_if (λ x. t x && surrounds range x)) e;
-      }
+    none_there : region_with rs page ≡ None → (t : RegionOf (Unit {0}) → Bool) → both_where t test rs ≡ None
+    none_there e t = one t ∙ ap (kept_if (λ x. t x && test x)) e
 
-  pub based_some : (addr : ℕ) (r : Region) (at : IsRegionAt rs (page_of addr) r) → is_based addr (region_of r) ≡ true → IsBased rs addr r
-  based_some addr r at e =
-      let passes : is_based addr at.found.thing ≡ true = ap (is_based addr) at.is_shown ∙ e in
-      record {
-        at = at;
-        only = λ t.
-            both_based t first_user_page rs addr sound.laid_out
-            ∙ ap (kept_if (λ x. t x && is_based addr x)) at.there
-            ∙ ap (λ b. found_if b at.found) (both-left (t at.found.thing) (is_based addr at.found.thing) passes);
-      }
+  module _ (range : Range) (some : 1 ≤ range.count) where
+    in_range : (t : RegionOf (Unit {0}) → Bool) → both_where t (surrounds range) rs ≡ kept_if (λ x. t x && surrounds range x) (region_with rs range.first)
+    in_range t = both_around t first_user_page rs range sound.laid_out some
 
-  pub based_other : (addr : ℕ) (r : Region) (at : IsRegionAt rs (page_of addr) r) → is_based addr (region_of r) ≡ false → NoneBased rs addr
-  based_other addr r at e =
-      let fails : is_based addr at.found.thing ≡ false = ap (is_based addr) at.is_shown ∙ e in
-      record {
-        only = λ t.
-            both_based t first_user_page rs addr sound.laid_out
-            ∙ ap (kept_if (λ x. t x && is_based addr x)) at.there
-            ∙ ap (λ b. found_if b at.found) (and_right (t at.found.thing) (is_based addr at.found.thing) fails);
-      }
+    pub around_some : (r : Region) → IsRegionAt rs range.first r → end_of range ≤ r.base.0 + r.pages → IsAround rs range r
+    around_some r at high =
+        let only = found_at (surrounds range) range.first in_range at.found at.there (surrounded range r at ∙ le-leb (end_of range) (r.base.0 + r.pages) high) in
+        record { at = at; high = omega (arith, high, at.low, at.rows); around = only (λ x. true); only = only }
 
-  pub based_none : (addr : ℕ) → region_with rs (page_of addr) ≡ None → NoneBased rs addr
-  based_none addr e =
-      record { only = λ t. both_based t first_user_page rs addr sound.laid_out ∙ ap (kept_if (λ x. t x && is_based addr x)) e }
+    pub around_short : (r : Region) → IsRegionAt rs range.first r → nat_le (end_of range) (r.base.0 + r.pages) ≡ false → NoneAround rs range
+    around_short r at short =
+        let only = fails_at (surrounds range) range.first in_range at.found at.there (surrounded range r at ∙ short) in
+        record { around = only (λ x. true); only = only }
+
+    pub around_none : region_with rs range.first ≡ None → NoneAround rs range
+    around_none e = let only = none_there (surrounds range) range.first in_range e in record { around = only (λ x. true); only = only }
+
+  module _ (addr : ℕ) where
+    at_base : (t : RegionOf (Unit {0}) → Bool) → both_where t (is_based addr) rs ≡ kept_if (λ x. t x && is_based addr x) (region_with rs (page_of addr))
+    at_base t = both_based t first_user_page rs addr sound.laid_out
+
+    pub based_some : (r : Region) (at : IsRegionAt rs (page_of addr) r) → is_based addr (region_of r) ≡ true → IsBased rs addr r
+    based_some r at e = record { at = at; only = found_at (is_based addr) (page_of addr) at_base at.found at.there (ap (is_based addr) at.is_shown ∙ e) }
+
+    pub based_other : (r : Region) (at : IsRegionAt rs (page_of addr) r) → is_based addr (region_of r) ≡ false → NoneBased rs addr
+    based_other r at e = record { only = fails_at (is_based addr) (page_of addr) at_base at.found at.there (ap (is_based addr) at.is_shown ∙ e) }
+
+    pub based_none : region_with rs (page_of addr) ≡ None → NoneBased rs addr
+    based_none e = record { only = none_there (is_based addr) (page_of addr) at_base e }
 
 -- ---- what is told of them
 
-abbrev told_if : (RegionOf (Unit {0}) → Bool) → Found (RegionOf (Unit {0})) → Region → Type 0
-told_if t f r = option_map found_info (found_if (t f.thing) f) ≡ cond (t (region_of r)) (Some (info_of (region_of r))) None
-
-told_by : (t : RegionOf (Unit {0}) → Bool) (f : Found (RegionOf (Unit {0}))) (r : Region) → f.thing ≡ region_of r → told_if t f r
-told_by t f r e =
-    elim (t f.thing) as (λ b. t f.thing ≡ b → option_map found_info (found_if b f) ≡ cond (t (region_of r)) (Some (info_of (region_of r))) None) [
-      | true ↦ λ p. ap (λ (x : RegionOf (Unit {0})). Some (info_of x)) e ∙ ap (λ b. cond b (Some (info_of (region_of r))) None) (sym p ∙ ap t e)
-      | false ↦ λ p. ap (λ b. cond b (Some (info_of (region_of r))) None) (sym p ∙ ap t e)
-    ] refl
+told_by : {C : Type 0} (f : RegionOf (Unit {0}) → C) (t : RegionOf (Unit {0}) → Bool) (x : Found (RegionOf (Unit {0}))) (r : Region) → x.thing ≡ region_of r → option_map (λ (y : Found (RegionOf (Unit {0}))). f y.thing) (found_if (t x.thing) x) ≡ cond (t (region_of r)) (Some (f (region_of r))) None
+told_by f t x r e = by_test (t x.thing) ∙ (λ i. cond (t (e i)) (Some (f (e i))) None)
+  where
+    by_test : (b : Bool) → option_map (λ (y : Found (RegionOf (Unit {0}))). f y.thing) (found_if b x) ≡ cond b (Some (f x.thing)) None
+    by_test true = refl
+    by_test false = refl
 
 module _ (rs : Regions) (range : Range) (r : Region) (h : IsAround rs range r) where
   pub is_in_private : is_some (private_around rs range) ≡ is_private r.kind
@@ -198,16 +173,11 @@ module _ (rs : Regions) (range : Range) (r : Region) (h : IsAround rs range r) w
       ∙ elim (is_private r.kind) as (λ b. is_some (found_if b h.at.found) ≡ b) [ true ↦ refl | false ↦ refl ]
 
   pub view_around_told : option_map found_info (view_around rs range) ≡ cond (not (is_private r.kind)) (Some (info_of (region_of r))) None
-  view_around_told = ap (option_map found_info) (h.only (λ x. not (is_private x.kind))) ∙ told_by (λ x. not (is_private x.kind)) h.at.found r h.at.is_shown
+  view_around_told = ap (option_map found_info) (h.only (λ x. not (is_private x.kind))) ∙ told_by info_of (λ x. not (is_private x.kind)) h.at.found r h.at.is_shown
 
 module _ (rs : Regions) (addr : ℕ) (r : Region) (h : IsBased rs addr r) where
   pub view_at_told : option_map found_info (view_at rs addr) ≡ cond (not (is_private r.kind)) (Some (info_of (region_of r))) None
-  view_at_told = ap (option_map found_info) (h.only (λ x. not (is_private x.kind))) ∙ told_by (λ x. not (is_private x.kind)) h.at.found r h.at.is_shown
+  view_at_told = ap (option_map found_info) (h.only (λ x. not (is_private x.kind))) ∙ told_by info_of (λ x. not (is_private x.kind)) h.at.found r h.at.is_shown
 
   pub private_at_told : option_map (λ (x : Found (RegionOf (Unit {0}))). pages_of x.thing) (private_at rs addr) ≡ cond (is_private r.kind) (Some (pages_of (region_of r))) None
-  private_at_told =
-      ap (option_map (λ (x : Found (RegionOf (Unit {0}))). pages_of x.thing)) (h.only (λ x. is_private x.kind))
-      ∙ elim (is_private h.at.found.thing.kind) as (λ b. is_private h.at.found.thing.kind ≡ b → option_map (λ (x : Found (RegionOf (Unit {0}))). pages_of x.thing) (found_if b h.at.found) ≡ cond (is_private r.kind) (Some (pages_of (region_of r))) None) [
-        | true ↦ λ p. ap (λ (x : RegionOf (Unit {0})). Some (pages_of x)) h.at.is_shown ∙ ap (λ b. cond b (Some (pages_of (region_of r))) None) (sym p ∙ ap (λ (x : RegionOf (Unit {0})). is_private x.kind) h.at.is_shown)
-        | false ↦ λ p. ap (λ b. cond b (Some (pages_of (region_of r))) None) (sym p ∙ ap (λ (x : RegionOf (Unit {0})). is_private x.kind) h.at.is_shown)
-      ] refl
+  private_at_told = ap (option_map (λ (x : Found (RegionOf (Unit {0}))). pages_of x.thing)) (h.only (λ x. is_private x.kind)) ∙ told_by pages_of (λ x. is_private x.kind) h.at.found r h.at.is_shown

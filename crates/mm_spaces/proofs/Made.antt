@@ -1,25 +1,68 @@
--- What a change makes of the regions that are kept.
-use Rattle.std.proofs.Common.{◌≡◌, ℕ, ◌%◌, ◌≤◌, Bool, true, false, cond, List, [], ◌∷◌, length, map, replicate, Option, Some, None, option_map, is_some, refl, sym, ap, ◌∙◌, subst, arith, nat_le, ◌&&◌, slice_get}
-use Rattle.std.specs.Prelude.{find, remove, ◌==◌}
-use Rattle.std.specs.List.{position_or_len}
+-- Where pages are free, and what a change makes of the regions that are kept.
+use Rattle.std.proofs.Common.{◌≡◌, ℕ, ◌%◌, ◌≤◌, Bool, true, false, List, Option, Some, None, option_map, inl, inr, refl, sym, ap, ◌∙◌, arith, cond, not, ◌&&◌, [], ◌∷◌, length, map, replicate, is_some, subst, nat_le, slice_get}
+use Rattle.std.specs.Prelude.{IfSome, find, remove, ◌==◌}
+use Rattle.std.specs.List.{list_any, position_or_len}
+use Rattle.std.proofs.lemmas.Bool.{ne_eqb, eqb-true, eqb-false, le-leb}
 use Rattle.std.specs.Cmp.{unsigned_Decides}
-use Rattle.std.proofs.lemmas.Bool.{eqb-true, ne_eqb, eqb-false, le-leb}
 use Rattle.std.proofs.lemmas.List.{length-map}
 use Rattle.std.proofs.lemmas.Option.{slice_get-map, IfSome_then}
-use Rattle.mm_types.specs.{View, ViewAccess, Range, is_free, page_of, address_of, granule_pages, first_user_page, base_of, reserve_type}
+use Rattle.mm_types.specs.{Vpn, Range, meets, is_free, are_user_pages, lowest_gap, View, page_of, address_of, granule_pages, first_user_page, base_of}
+use Rattle.mm_types.specs.{reserve_type}
+use Rattle.mm_types.proofs.{some_found}
 use Rattle.mm_types.specs.declared.views.Kind.TheVariants as kind
-use Rattle.mm_vad.specs.{Row, Region}
+use Rattle.mm_vad.specs.{page_number, Region, Row}
 use Rattle.mm_vad.specs.Regions as vad
-use Rattle.mm_world.specs.{RegionOf, RowOf, SectionOf, pages_of, Found, first_where, region_with, add_region, ranges_of, is_private, new_row}
+use Rattle.mm_world.specs.{placed, ranges_of, RegionOf, RowOf, SectionOf, pages_of, Found, first_where, region_with, add_region, is_private, new_row}
 use Rattle.mm_world.specs.{private_region, blank, is_one_of, is_protection_among, private_protections, reserved_row, commit, view_region}
-use Rattle.mm_world.specs.{first_protection, is_copy, Each, IsSpace, RowsFit, RowFits, PrivateRowFits, ViewRowFits}
-use Rattle.mm_world.proofs.{map-replicate, each-remove, each-replicate, and-true, laid_remove, free_of, reserved_fits, commit_fits, new_view_fits}
-use Rattle.mm_world.proofs.{space_add}
-use Rattle.mm_spaces.specs.{shown_row, region_of, new_flags, shown_regions, IsKeptSpace, IsWholeRegion, both_where, is_based}
-use Rattle.mm_spaces.proofs.Shows.{shown_pages, there}
-use Rattle.mm_spaces.proofs.OfPage.{kept_if, both_based, based_of_page}
-use Rattle.mm_spaces.proofs.Carried.{Whole, place_of, first_shown, ranges_shown, add_shown, remove_shown}
+use Rattle.mm_world.specs.{first_protection, Each, IsSpace, RowsFit, RowFits, PrivateRowFits, ViewRowFits}
+use Rattle.mm_world.proofs.{placed_is, map-replicate, each-remove, each-replicate, and-true, laid_remove, free_of, reserved_fits, commit_fits}
+use Rattle.mm_world.proofs.{new_view_fits, space_add, some-map}
+use Rattle.mm_spaces.specs.{new_view_row, shown_regions, shown_row, region_of, new_flags, IsKeptSpace, IsWholeRegion, both_where, is_based}
+use Rattle.mm_spaces.proofs.Around.{Whole, ranges_shown, shown_pages, kept_if, both_based, was_found, place_of, first_shown, add_shown, remove_shown}
 use Rattle.mm_spaces.proofs.RowsKept.{base_allowed}
+
+pub free_by : (taken : List Range) (r : Range) → are_user_pages r ≡ true → list_any (meets r) taken ≡ false → is_free taken r ≡ true
+free_by taken r user free = ap (λ a. a && not (list_any (meets r) taken)) user ∙ ap not free
+
+abbrev pub IsGap : List Range → Range → Type 0
+IsGap taken r = (are_user_pages r ≡ true) × (1 ≤ r.count) × (r.first % 16 ≡ 0) × (is_free taken r ≡ true)
+
+gap_is : (taken : List Range) (addr : ℕ) (wanted : Range) (count : ℕ) (r : Range) → 1 ≤ count → 1 ≤ wanted.count → wanted.first % 16 ≡ 0 → placed taken addr wanted count ≡ Some r → IsGap taken r
+gap_is taken addr wanted count r some any granule e =
+    let at = placed_is taken addr wanted count r granule e in
+    (at.placed.user, elim at.size [ inl k ↦ omega (arith, k, some) | inr k ↦ omega (arith, k, any) ], at.placed.on_granule, free_by taken r at.placed.user at.placed.free)
+
+pub placed_gap : (taken : List Range) (addr : ℕ) (wanted : Range) (count : ℕ) (o : Option Range) → 1 ≤ count → 1 ≤ wanted.count → wanted.first % 16 ≡ 0 → o ≡ placed taken addr wanted count → IfSome o (IsGap taken)
+placed_gap taken addr wanted count None some any granule e = tt
+placed_gap taken addr wanted count (Some r) some any granule e = gap_is taken addr wanted count r some any granule (sym e)
+
+-- ---- read off the regions that are kept
+
+abbrev pub range_by : ℕ → ℕ → Range
+range_by count first = record { first = first; count = count }
+
+by_address : (taken : List Range) (addr : ℕ) (wanted : Range) (count : ℕ) → addr ≡ 0 → placed taken addr wanted count ≡ option_map (range_by count) (lowest_gap taken count)
+by_address taken addr wanted count e = ap (λ (n : ℕ). placed taken n wanted count) e
+
+module _ (vs : List Region) (whole : Whole vs) (addr : ℕ) (wanted : Range) (count : ℕ) where
+  pub by_gap : (o : Option Vpn) → addr ≡ 0 → o ≡ option_map page_number (lowest_gap (vad.ranges_of vs) count) → placed (ranges_of (shown_regions vs)) addr wanted count ≡ option_map (λ (v : Vpn). range_by count v.0) o
+  by_gap o e found =
+      by_address (ranges_of (shown_regions vs)) addr wanted count e
+      ∙ ap (λ taken. option_map (range_by count) (lowest_gap taken count)) (ranges_shown vs whole)
+      ∙ by_number (lowest_gap (vad.ranges_of vs) count)
+      ∙ ap (option_map (λ (v : Vpn). range_by count v.0)) (sym found)
+    where
+      by_number : (o : Option ℕ) → option_map (range_by count) o ≡ option_map (λ (v : Vpn). range_by count v.0) (option_map page_number o)
+      by_number None = refl
+      by_number (Some n) = refl
+
+  pub by_wanted : (b : Bool) → (addr ≡ 0 → ⊥) → b ≡ is_free (vad.ranges_of vs) wanted → placed (ranges_of (shown_regions vs)) addr wanted count ≡ cond b (Some wanted) None
+  by_wanted b other e =
+      ap (λ z. cond z (option_map (range_by count) (lowest_gap (ranges_of (shown_regions vs)) count)) (cond (is_free (ranges_of (shown_regions vs)) wanted) (Some wanted) None)) (ne_eqb addr 0 other)
+      ∙ ap (λ taken. cond (is_free taken wanted) (Some wanted) None) (ranges_shown vs whole)
+      ∙ ap (λ z. cond z (Some wanted) None) (sym e)
+
+-- ---- what a change makes of the regions that are kept
 
 -- ---- a new private region
 
@@ -107,15 +150,6 @@ place_is t vs (Some g) r e =
     let same : place_of t vs g ≡ r = cc in
     ap (λ (f : Found (RegionOf (Unit {0}))). f.place) same
 
--- what passes one more test was found
-pub was_found : (t : RegionOf (Unit {0}) → Bool) (o : Option (Found (RegionOf (Unit {0})))) (r : Found (RegionOf (Unit {0}))) → kept_if t o ≡ Some r → (o ≡ Some r) × (t r.thing ≡ true)
-was_found t None r e = cc
-was_found t (Some f) r e =
-    elim (t f.thing) as (λ b. t f.thing ≡ b → cond b (Some f) None ≡ Some r → (Some f ≡ Some r) × (t r.thing ≡ true)) [
-      | true ↦ λ p k. (let same : f ≡ r = cc in (k, ap (λ (g : Found (RegionOf (Unit {0}))). t g.thing) (sym same) ∙ p))
-      | false ↦ λ p k. (cc)
-    ] refl e
-
 -- the region with the base is the one that is found, whatever else is asked of it
 based : (t : RegionOf (Unit {0}) → Bool) (vs : List Region) (addr : ℕ) (r : Found (RegionOf (Unit {0}))) → IsKeptSpace vs → both_where t (is_based addr) (shown_regions vs) ≡ Some r → option_map (place_of (vad.begins_at (page_of addr)) vs) (find (vad.begins_at (page_of addr)) vs) ≡ Some r
 based t vs addr r k e =
@@ -123,7 +157,7 @@ based t vs addr r k e =
     let passes : is_based addr r.thing ≡ true = (and-true (t r.thing) (is_based addr r.thing) w.1).1 in
     let base : address_of r.thing.base ≡ addr = eqb-true (address_of r.thing.base) addr passes in
     let whole : addr ≡ address_of (page_of addr) = omega (arith, base) in
-    let is : first_where (is_based addr) (shown_regions vs) ≡ Some r = based_of_page first_user_page (shown_regions vs) addr k.sound.laid_out ∙ ap (kept_if (is_based addr)) w.0 ∙ ap (λ b. cond b (Some r) None) passes in
+    let is : first_where (is_based addr) (shown_regions vs) ≡ Some r = both_based (λ x. true) first_user_page (shown_regions vs) addr k.sound.laid_out ∙ ap (kept_if (is_based addr)) w.0 ∙ ap (λ b. cond b (Some r) None) passes in
     let found = first_shown (is_based addr) (vad.begins_at (page_of addr)) vs k.whole.whole (λ x w. same_page x.base.0 (page_of addr) addr whole) in
     sym found ∙ is
 
@@ -131,14 +165,10 @@ based t vs addr r k e =
 pub removed_place : (t : RegionOf (Unit {0}) → Bool) (vs : List Region) (addr : ℕ) (r : Found (RegionOf (Unit {0}))) → IsKeptSpace vs → both_where t (is_based addr) (shown_regions vs) ≡ Some r → position_or_len (vad.begins_at (page_of addr)) vs ≡ r.place
 removed_place t vs addr r k e = place_is (vad.begins_at (page_of addr)) vs (find (vad.begins_at (page_of addr)) vs) r (based t vs addr r k e)
 
-some_mapped : {A C : Type 0} (f : A → C) (o : Option A) → is_some (option_map f o) ≡ true → is_some o ≡ true
-some_mapped f None e = e
-some_mapped f (Some x) e = refl
-
 pub is_there : (t : RegionOf (Unit {0}) → Bool) (vs : List Region) (addr : ℕ) → IsKeptSpace vs → is_some (both_where t (is_based addr) (shown_regions vs)) ≡ true → is_some (vad.region_with_base vs (page_of addr)) ≡ true
 is_there t vs addr k e =
-    let r = there (both_where t (is_based addr) (shown_regions vs)) e in
-    some_mapped (place_of (vad.begins_at (page_of addr)) vs) (find (vad.begins_at (page_of addr)) vs) (ap is_some (based t vs addr r.thing k r.is))
+    let r = some_found (both_where t (is_based addr) (shown_regions vs)) e in
+    sym (some-map (place_of (vad.begins_at (page_of addr)) vs) (find (vad.begins_at (page_of addr)) vs)) ∙ ap is_some (based t vs addr r.0 k r.1)
 
 pub removed : (t : RegionOf (Unit {0}) → Bool) (vs after : List Region) (addr : ℕ) (r : Found (RegionOf (Unit {0}))) → IsKeptSpace vs → after ≡ vad.remove_region vs (page_of addr) → both_where t (is_based addr) (shown_regions vs) ≡ Some r → shown_regions after ≡ remove (shown_regions vs) r.place
 removed t vs after addr r k e at =
@@ -158,20 +188,7 @@ lowest_shown vs o e = slice_get-map region_of vs 0 ∙ ap (option_map region_of)
 abbrev view_by : ℕ → ℕ → ℕ → View → List Row → Region
 view_by first count prot v rows = record { base = record { 0 = first }; pages = count; alloc_prot = record { 0 = prot }; kind = kind.View v; rows = rows; watched = None }
 
-abbrev pub new_view_row : ViewAccess → RowOf (Unit {0})
-new_view_row access = record { prot = first_protection access; guard = false; marked = is_copy access; own = None }
-
--- a row of a new view
-pub record IsViewRow (access : ViewAccess) (row : Row) : Type 0 where
-  pub prot : row.prot.0 ≡ first_protection access
-  pub guard : row.guard ≡ false
-  pub marked : row.marked ≡ is_copy access
-  pub copied : row.copied ≡ false
-
-module _ (v : View) (prot : ℕ) (range : Range) (rows : List Row) (row : Row) (is : IsViewRow v.access row) (first : prot ≡ first_protection v.access) (all : rows ≡ replicate range.count row) where
-  same_row : shown_row (kind.View v) row ≡ new_view_row v.access
-  same_row = λ i. record { prot = is.prot i; guard = is.guard i; marked = is.marked i; own = cond (is.copied i) (Some tt) None }
-
+module _ (v : View) (prot : ℕ) (range : Range) (rows : List Row) (row : Row) (same_row : shown_row (kind.View v) row ≡ new_view_row v.access) (first : prot ≡ first_protection v.access) (all : rows ≡ replicate range.count row) where
   view_rows : map (shown_row (kind.View v)) rows ≡ replicate range.count (new_view_row v.access)
   view_rows =
       ap (map (shown_row (kind.View v))) all

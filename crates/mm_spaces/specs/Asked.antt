@@ -3,7 +3,7 @@
 use Rattle.std.specs.Prelude.{◌≡◌, true, List, Some}
 use Rattle.mm_types.specs.{Range}
 use Rattle.mm_world.specs.{WorldOf, RegionOf, Found, region_around, is_private, protection_at, every_page, is_committed_at}
-use Rattle.mm_spaces.specs.declared.protecting.ProtectInfo.{ProtectInfo}
+use Rattle.mm_spaces.specs.declared.queries.ProtectInfo.{ProtectInfo}
 
 pub record IsAsked (regions : List (RegionOf (Unit {0}))) (range : Range) (asked : ProtectInfo) :
     Type 0 where

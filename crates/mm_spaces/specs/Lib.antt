@@ -7,7 +7,7 @@ pub mod RowTests
 pub mod ViewStates
 pub mod Asked
 pub mod PageInfos
-pub use Shown.{new_flags, region_of, shown_regions, shown_row}
+pub use Shown.{new_flags, new_view_row, region_of, shown_regions, shown_row}
 pub use Tables.{RegionsOf, found_info, info_of, marked_in, owned_in, rows_in_range, rows_of}
 pub use Tables.{told_page_row, told_row, unmarked_in}
 pub use Finds.{IsKeptSpace, IsWholeRegion}
@@ -20,7 +20,7 @@ pub use ViewStates.{is_area_page, state_told, states_in, view_state, view_states
 pub use Asked.{IsAsked}
 pub use PageInfos.{IfInView, IfTold, LiesInView}
 pub use declared.queries.PageInfo.{PageInfo}
+pub use declared.queries.ToldState.{ToldState}
 pub use declared.rows.RowChange.{RowChange}
 pub use declared.spaces.PageRow.{PageRow}
 pub use declared.spaces.RegionInfo.{RegionInfo}
-pub use declared.view_states.ToldState.{ToldState}

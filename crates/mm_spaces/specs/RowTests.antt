@@ -3,8 +3,8 @@
 use Rattle.std.specs.Prelude.{Bool, not, is_some}
 use Rattle.mm_types.specs.{Kind, base_of}
 use Rattle.mm_world.specs.{RowOf, is_one_of, protections_of}
-use Rattle.mm_spaces.specs.declared.row_tests.RowTest.{RowTest}
-use Rattle.mm_spaces.specs.declared.row_tests.RowTest.TheVariants as test
+use Rattle.mm_spaces.specs.declared.rows.RowTest.{RowTest}
+use Rattle.mm_spaces.specs.declared.rows.RowTest.TheVariants as test
 
 -- whether a row passes, in a region of this kind
 abbrev pub passes : RowTest → Kind → RowOf (Unit {0}) → Bool

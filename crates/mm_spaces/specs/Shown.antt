@@ -1,10 +1,10 @@
 -- The regions of an address space as the definitions of worlds have them, read off those that
 -- `mm_vad` keeps. Profile, "Regions, rows, sections".
 use Rattle.std.specs.Prelude.{ℕ, Bool, false, if◌then◌else◌, List, map, replicate, Option, Some, None}
-use Rattle.mm_types.specs.{Kind}
+use Rattle.mm_types.specs.{Kind, ViewAccess}
 use Rattle.mm_types.specs.declared.views.Kind.TheVariants as kind
 use Rattle.mm_vad.specs.{Row, Region}
-use Rattle.mm_world.specs.{RowOf, RegionOf}
+use Rattle.mm_world.specs.{RowOf, RegionOf, first_protection, is_copy}
 
 -- whether the page has bytes of its own: a private row where it is committed, a view's where it was
 -- copied
@@ -20,6 +20,11 @@ shown_row kind row =
       marked = row.marked;
       own = if has_own kind row then Some tt else None;
     }
+
+-- the row of each page of a new view
+abbrev pub new_view_row : ViewAccess → RowOf (Unit {0})
+new_view_row access =
+    record { prot = first_protection access; guard = false; marked = is_copy access; own = None }
 
 abbrev pub region_of : Region → RegionOf (Unit {0})
 region_of r = record {

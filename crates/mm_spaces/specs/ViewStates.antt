@@ -6,7 +6,7 @@ use Rattle.mm_types.specs.declared.views.Kind.TheVariants as kind
 use Rattle.mm_vad.specs.{Row}
 use Rattle.mm_world.specs.{AreaOf, RowOf, numbered, PageState, row_state}
 use Rattle.mm_spaces.specs.Shown.{shown_row}
-use Rattle.mm_spaces.specs.declared.view_states.ToldState.{ToldState}
+use Rattle.mm_spaces.specs.declared.queries.ToldState.{ToldState}
 
 -- whether the page of a view is committed: the area's page with the view's first index and the
 -- page's own is

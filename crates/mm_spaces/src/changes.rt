@@ -6,7 +6,7 @@ ghost use Rattle.mm_world.specs.{commit, protected, change_rows, RowsFit};
 ghost use Rattle.mm_spaces.specs.Tables.{owned_in};
 ghost use Rattle.mm_spaces.specs.RowChanges.{IsInRegion, CanChangeRow, CanChangeRows, RowChanged, RowsChanged};
 
-use crate::rows::{RowChange, change_row, change_rows};
+use crate::rows::{RowChange, change_rows};
 use crate::{AddressSpace, NewRegion, PageRange};
 use mm_types::{NoMemory, PAGE_SIZE, Vpn};
 
@@ -157,6 +157,12 @@ impl AddressSpace {
         ensures changed { RowChanged change page self.old.regions self.new.regions }
         ensures room { self.new.spare ≡ self.old.spare }
     {
-        change_row(&mut self.space, page, change);
+        self.change(
+            PageRange {
+                first: page,
+                count: 1,
+            },
+            change,
+        );
     }
 }

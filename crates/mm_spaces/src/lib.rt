@@ -3,19 +3,14 @@
 #![tactic(auto)]
 
 mod changes;
-mod look_ups;
 mod new_regions;
-mod protecting;
 mod queries;
 mod ranges;
-mod row_tests;
 mod rows;
 mod spaces;
-mod view_states;
 mod watched;
 
 pub use new_regions::NewRegion;
-pub use protecting::ProtectInfo;
-pub use queries::PageInfo;
+pub use queries::{PageInfo, ProtectInfo};
 pub use ranges::{PageRange, pages_for};
 pub use spaces::{AddressSpace, PageRow, RegionInfo};

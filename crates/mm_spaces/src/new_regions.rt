@@ -1,10 +1,11 @@
-ghost use Rattle.std.specs.Prelude.{◌≡◌, ◌≤◌, true, false, IfOk};
+ghost use Rattle.std.specs.Prelude.{◌≡◌, ◌≤◌, true, IfOk};
 ghost use Rattle.mm_world.specs.{blank, private_region, new_row, is_protection_among, private_protections, RowsFit, SectionOf, pages_of, Found};
-ghost use Rattle.mm_world.specs.{view_region, first_protection, is_copy};
-ghost use Rattle.mm_spaces.specs.Shown.{shown_row, new_flags};
+ghost use Rattle.mm_world.specs.{view_region, first_protection};
+ghost use Rattle.mm_spaces.specs.Shown.{shown_row, new_flags, new_view_row};
 ghost use Rattle.mm_types.specs.declared.views.Kind.TheVariants as kind;
 
 use crate::PageRange;
+use crate::rows::{RESERVED, base_protection, is_guarded};
 use mm_types::{AllocFlags, Kind, NoMemory, Prot, View, ViewAccess, Vpn};
 use mm_vad::{Bits, Region, Row, Rows};
 use std::alloc::Global;
@@ -33,20 +34,13 @@ fn new_row(alloc_type: u32, prot: u32) -> Row
     ensures { shown_row kind.Private result ≡ new_row blank alloc_type prot }
 {
     if alloc_type == AllocFlags::RESERVE.0 {
-        Row {
-            committed: false,
-            prot: Prot(0),
-            guard: false,
-            copied: false,
-            marked: false,
-        }
+        RESERVED
     } else {
         Row {
             committed: true,
-            prot: Prot(prot % Prot::GUARD.0),
-            guard: prot / Prot::GUARD.0 == 1,
-            copied: false,
-            marked: false,
+            prot: base_protection(prot),
+            guard: is_guarded(prot),
+            ..RESERVED
         }
     }
 }
@@ -63,18 +57,13 @@ fn first_prot(access: ViewAccess) -> u32
 }
 
 // The row of each page of a new view.
-fn view_row(access: ViewAccess) -> Row
-    ensures prot { result.prot.0 ≡ first_protection access }
-    ensures guard { result.guard ≡ false }
-    ensures marked { result.marked ≡ is_copy access }
-    ensures copied { result.copied ≡ false }
+fn view_row(view: View) -> Row
+    ensures { shown_row (kind.View view) result ≡ new_view_row view.access }
 {
     Row {
-        committed: false,
-        prot: Prot(first_prot(access)),
-        guard: false,
-        copied: false,
-        marked: matches!(access, ViewAccess::Copy),
+        prot: Prot(first_prot(view.access)),
+        marked: matches!(view.access, ViewAccess::Copy),
+        ..RESERVED
     }
 }
 
@@ -128,7 +117,7 @@ impl NewRegion {
         ensures pages { IfOk result (λ r. pages_of r ≡ range) }
         ensures fit { IfOk result (λ r. RowsFit r) }
     {
-        let rows = Rows::new(alloc, range.count, view_row(view.access))?;
+        let rows = Rows::new(alloc, range.count, view_row(view))?;
         Ok(NewRegion {
             region: Region {
                 base: Vpn(range.first),

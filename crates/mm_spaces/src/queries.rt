@@ -1,16 +1,21 @@
-ghost use Rattle.std.specs.Prelude.{◌≡◌, ◌+◌, ◌-◌, ◌≤◌, true, false, is_some, Some, drop};
-ghost use Rattle.mm_types.specs.{View, is_user_page, end_of_user_pages};
+ghost use Rattle.std.specs.Prelude.{◌≡◌, ◌+◌, ◌-◌, ◌<◌, ◌≤◌, ◌^◌, true, false, is_some, length, drop, map, slice_get, IfSome, IfNone, None, Some};
+ghost use Rattle.mm_types.specs.{Kind, View, is_user_page, end_of_user_pages};
 ghost use Rattle.mm_types.specs.declared.views.Kind.TheVariants as kind;
-ghost use Rattle.mm_world.specs.{RegionOf, WorldOf, Found, region_with, area_at, is_private, page_info, region_info, free_info, page_states};
-ghost use Rattle.mm_world.specs.{first_run, next_base};
-ghost use Rattle.mm_spaces.specs.Kept.{IsRegionAt};
+ghost use Rattle.mm_vad.specs.{Row};
+ghost use Rattle.mm_world.specs.{RegionOf, WorldOf, Found, region_with, region_around, area_at, is_private, page_info, region_info, free_info};
+ghost use Rattle.mm_world.specs.{page_states, first_run, next_base, protection_at, every_page, every_page_from, accepts, same_state, row_state};
+ghost use Rattle.mm_world.specs.{with_guard, Each, ViewRowFits};
+ghost use Rattle.mm_spaces.specs.Shown.{shown_row};
+ghost use Rattle.mm_spaces.specs.Kept.{IsAround, IsRegionAt};
+ghost use Rattle.mm_spaces.specs.Asked.{IsAsked};
 ghost use Rattle.mm_spaces.specs.PageInfos.{IfTold, IfInView, LiesInView};
+ghost use Rattle.mm_spaces.specs.ViewStates.{is_area_page, view_state, states_in, state_told};
 
-use crate::AddressSpace;
-use crate::view_states::{run_in_view, state_in_view, told_of_row};
+use crate::rows::RowTest;
+use crate::{AddressSpace, PageRange};
 use mm_sections::SectionPages;
-use mm_types::{END_OF_USER_PAGES, Kind, PAGE_SIZE, Prot, QueryInfo, View, Vpn};
-use mm_vad::Region;
+use mm_types::{AllocFlags, END_OF_USER_PAGES, Kind, PAGE_SIZE, Prot, QueryInfo, View, Vpn};
+use mm_vad::{Region, Row, Rows};
 
 const FREE: u32 = 0x10000;
 
@@ -25,6 +30,19 @@ pub enum PageInfo {
     Told(QueryInfo),
     /// The page lies in this view, whose control area says which pages are committed.
     InView(View),
+}
+
+/// What is asked of pages of one region before they get another protection.
+#[derive(Clone, Copy, PartialEq, Eq, Debug)]
+pub struct ProtectInfo {
+    /// What the region is.
+    pub kind: Kind,
+    /// Each of the pages has bytes of its own: of a private region, each is committed.
+    pub owned: bool,
+    /// Each can have the new protection, guard aside.
+    pub accepted: bool,
+    /// The protection of the first page, guard included.
+    pub before: Prot,
 }
 
 impl AddressSpace {
@@ -126,4 +144,133 @@ impl AddressSpace {
             None => END_OF_USER_PAGES,
         }
     }
+
+    /// What is asked of the pages of the range before they get the protection `prot`, by one
+    /// look-up. None exactly where they do not lie in one region.
+    pub fn protect_info(&self, range: PageRange, prot: u32) -> Option<ProtectInfo>
+        ensures some { IfSome result (λ asked. IsAsked self.now.regions range asked) }
+        ensures accepted { IfSome result (λ asked. (r : Found (RegionOf (Unit {0})))
+            → region_around self.now.regions range ≡ Some r
+            → asked.accepted ≡ every_page (accepts r.thing prot) range) }
+        ensures none { IfNone result (region_around self.now.regions range ≡ None) }
+    {
+        let region = self.around(range)?;
+        Some(ProtectInfo {
+            kind: region.kind,
+            owned: self.do_all_pass(region, range, RowTest::Owned),
+            accepted: self.do_all_pass(region, range, RowTest::Accepts(prot)),
+            before: self.protection_at(region, range),
+        })
+    }
+
+    // The protection of the first page of the range, guard included. The range lies in this region.
+    fn protection_at(&self, region: &Region, range: PageRange) -> Prot
+        requires around { IsAround self.now.regions range region.now }
+        ensures { (r : Found (RegionOf (Unit {0}))) → region_around self.now.regions range ≡ Some r
+            → result ≡ protection_at r.thing range.first }
+    {
+        let row = region.rows.get(range.first - region.base.0);
+        Prot(protection_of_row(row))
+    }
+}
+
+// ---- what is told of rows
+
+/// What is told of a page: its state (MEM_COMMIT or MEM_RESERVE) and its protection, guard
+/// included.
+#[derive(Clone, Copy)]
+pub(crate) struct ToldState {
+    pub state: u32,
+    pub prot: u32,
+}
+
+impl ToldState {
+    fn is_like(self, other: ToldState) -> bool
+        ensures { result ≡ same_state (state_told self) (state_told other) }
+    {
+        self.state == other.state && self.prot == other.prot
+    }
+}
+
+/// The protection of a row, guard included.
+pub(crate) fn protection_of_row(row: Row) -> u32
+    requires { row.prot.0 < 0x100 }
+    ensures { result ≡ with_guard row.prot.0 row.guard }
+{
+    if row.guard {
+        row.prot.0 + Prot::GUARD.0
+    } else {
+        row.prot.0
+    }
+}
+
+/// What is told of a page with this row; one that is not committed has protection 0.
+pub(crate) fn told_of_row(row: Row, committed: bool) -> ToldState
+    requires { row.prot.0 < 0x100 }
+    ensures { (k : Kind) → state_told result ≡ row_state committed (shown_row k row) }
+{
+    if committed {
+        ToldState {
+            state: AllocFlags::COMMIT.0,
+            prot: protection_of_row(row),
+        }
+    } else {
+        ToldState {
+            state: AllocFlags::RESERVE.0,
+            prot: 0,
+        }
+    }
+}
+
+/// Whether the page of a view is committed, which stands at this place in the view.
+pub(crate) fn is_page_committed(view: View, index: u32, pages: &SectionPages) -> bool
+    ensures { result ≡ is_area_page pages.now view index }
+{
+    let place = u64::from(view.first) + u64::from(index);
+    if place < u64::from(pages.len()) {
+        pages.is_committed(place as u32)
+    } else {
+        false
+    }
+}
+
+/// Whether `count` pages of a view are committed, the first of which stands at the place `first` in
+/// the view.
+pub(crate) fn are_pages_committed(view: View, first: u32, count: u32, pages: &SectionPages) -> bool
+    requires fits { first + count < 2 ^ 32 }
+    ensures { result ≡ every_page_from (is_area_page pages.now view) first count }
+{
+    for i in 0..count {
+        if !is_page_committed(view, first + i, pages) {
+            return false;
+        }
+    }
+    true
+}
+
+/// What is told of the page of a view that stands at this place in it.
+pub(crate) fn state_in_view(rows: &Rows, view: View, index: u32, pages: &SectionPages) -> ToldState
+    requires inside { index < length rows.now }
+    requires fit { Each (ViewRowFits view.access) (map (shown_row (kind.View view)) rows.now) }
+    ensures { (row : Row) → slice_get rows.now index ≡ Some row
+        → state_told result ≡ view_state pages.now view index (shown_row (kind.View view) row) }
+{
+    let row = rows.get(index);
+    told_of_row(row, is_page_committed(view, index, pages))
+}
+
+/// How many pages of a view, from the place `index` on, are alike in what is told of them.
+pub(crate) fn run_in_view(rows: &Rows, view: View, index: u32, pages: &SectionPages) -> u32
+    requires inside { index < length rows.now }
+    requires fit { Each (ViewRowFits view.access) (map (shown_row (kind.View view)) rows.now) }
+    ensures run { result ≡ (first_run (drop index (states_in pages.now view rows.now))).1 }
+    ensures within { index + result ≤ length rows.now }
+{
+    let len = rows.len();
+    let first = state_in_view(rows, view, index, pages);
+    let mut end = index + 1;
+    while end < len && first.is_like(state_in_view(rows, view, end, pages)) {
+        end += 1;
+    }
+    end - index
 }

@@ -1,18 +1,18 @@
-ghost use Rattle.std.specs.Prelude.{◌≡◌, ◌≤◌, ◌%◌, true, false, [], is_some, IfSome, Some, option_map, slice_get, count_by};
+ghost use Rattle.std.specs.Prelude.{◌≡◌, ◌≤◌, ◌+◌, ◌%◌, true, false, [], is_some, length, not, if◌then◌else◌, IfSome, IfNone, None, Some, option_map, slice_get, count_by};
 ghost use Rattle.std.specs.List.{list_all};
 ghost use Rattle.mm_types.specs.{Range, pages_for, page_of, granule_range_of, are_user_pages, is_free, is_granule_address, View};
 ghost use Rattle.mm_types.specs.declared.views.Kind.TheVariants as kind;
-ghost use Rattle.mm_world.specs.{RegionOf, WorldOf, pages_of, Found, ranges_of, region_around, placed, area_at, is_private, private_at};
+ghost use Rattle.mm_world.specs.{RegionOf, WorldOf, pages_of, Found, ranges_of, region_with, region_around, placed, area_at, is_private, private_at};
 ghost use Rattle.mm_world.specs.{private_around, view_at, view_around, own_page, every_page, accepts, is_committed_at, IsSpace};
-ghost use Rattle.mm_spaces.specs.Kept.{IsAround};
+ghost use Rattle.mm_spaces.specs.Shown.{region_of};
+ghost use Rattle.mm_spaces.specs.Kept.{IsRegionAt, IsAround, NoneAround, IsBased, NoneBased};
 ghost use Rattle.mm_spaces.specs.Tables.{info_of, found_info, told_page_row, owned_in, unmarked_in, marked_in, rows_in_range};
 ghost use Rattle.mm_spaces.specs.RowTests.{passes};
 
 use crate::PageRange;
-use crate::look_ups::{info_of_region, info_of_view, is_private};
+use crate::queries::are_pages_committed;
 use crate::ranges::pages_for;
-use crate::row_tests::{RowTest, count_rows, do_rows_pass, has_own};
-use crate::view_states::are_pages_committed;
+use crate::rows::{RowTest, count_rows, has_own};
 use mm_sections::SectionPages;
 use mm_types::{Kind, PAGE_SIZE, Prot, Vpn};
 use mm_vad::{Region, Space};
@@ -297,17 +297,106 @@ impl AddressSpace {
         let Some(region) = self.around(range) else {
             unreachable!()
         };
+        self.count_in(region, range, test)
+    }
+
+    // The same of a range that lies in this region.
+    fn count_in(&self, region: &Region, range: PageRange, test: RowTest) -> u32
+        requires around { IsAround self.now.regions range region.now }
+        ensures { (r : Found (RegionOf (Unit {0}))) → region_around self.now.regions range ≡ Some r
+            → result ≡ count_by (passes test r.thing.kind) (rows_in_range self.now.regions range) }
+    {
         let first = range.first - region.base.0;
         count_rows(&region.rows, region.kind, first, range.count, test)
     }
 
-    // Whether all rows of a range, which lies in this region, pass.
+    // Whether all of them pass.
     pub(crate) fn do_all_pass(&self, region: &Region, range: PageRange, test: RowTest) -> bool
         requires around { IsAround self.now.regions range region.now }
         ensures { (r : Found (RegionOf (Unit {0}))) → region_around self.now.regions range ≡ Some r
             → result ≡ list_all (passes test r.thing.kind) (rows_in_range self.now.regions range) }
     {
-        let first = range.first - region.base.0;
-        do_rows_pass(&region.rows, region.kind, first, range.count, test)
+        self.count_in(region, range, test) == range.count
     }
+
+    // ---- look-ups
+
+    // The region in which a page lies.
+    pub(crate) fn region_at(&self, page: u32) -> Option<&Region>
+        ensures some { IfSome result (λ r. IsRegionAt self.now.regions page r.now) }
+        ensures none { IfNone result (region_with self.now.regions page ≡ None) }
+        ensures sound { IsSpace self.now.regions }
+    {
+        self.space.find(Vpn(page))
+    }
+
+    // The region in which all pages of the range lie.
+    pub(crate) fn around(&self, range: PageRange) -> Option<&Region>
+        ensures some { IfSome result (λ r. IsAround self.now.regions range r.now) }
+        ensures none { IfNone result (NoneAround self.now.regions range) }
+        ensures sound { IsSpace self.now.regions }
+    {
+        let region = self.region_at(range.first)?;
+        if range.end() <= end_of_region(region) {
+            Some(region)
+        } else {
+            None
+        }
+    }
+
+    // The region whose base is the address, to the byte.
+    fn based_at(&self, addr: u32) -> Option<&Region>
+        ensures some { IfSome result (λ r. IsBased self.now.regions addr r.now) }
+        ensures none { IfNone result (NoneBased self.now.regions addr) }
+        ensures sound { IsSpace self.now.regions }
+    {
+        let region = self.region_at(addr / PAGE_SIZE)?;
+        if region.base.0 * PAGE_SIZE == addr {
+            Some(region)
+        } else {
+            None
+        }
+    }
+}
+
+// The page after the last of a region.
+fn end_of_region(region: &Region) -> u64
+    ensures { result ≡ region.now.base.0 + region.now.pages }
+{
+    u64::from(region.base.0) + u64::from(region.pages)
+}
+
+// What is told of a region.
+fn info_of_region(region: &Region) -> RegionInfo
+    requires rows { length region.now.rows ≡ region.now.pages }
+    requires some { 1 ≤ region.now.pages }
+    ensures { result ≡ info_of (region_of region.now) }
+{
+    RegionInfo {
+        pages: PageRange {
+            first: region.base.0,
+            count: region.pages,
+        },
+        kind: region.kind,
+    }
+}
+
+// What is told of a view; None of private memory.
+fn info_of_view(region: &Region) -> Option<RegionInfo>
+    requires rows { length region.now.rows ≡ region.now.pages }
+    requires some { 1 ≤ region.now.pages }
+    ensures { result ≡ if not (is_private region.now.kind) then
+        Some (info_of (region_of region.now)) else None }
+{
+    if is_private(region) {
+        None
+    } else {
+        Some(info_of_region(region))
+    }
+}
+
+fn is_private(region: &Region) -> bool
+    ensures { result ≡ is_private region.now.kind }
+{
+    matches!(region.kind, Kind::Private)
 }

@@ -18,11 +18,13 @@ block_written true after before write there kept = OnTrue_at refl there
 block_written false after before write there kept = OnFalse_at refl kept
 
 pub block_carries : (ok : Bool) (l : FrameLife) → ∥ Reached l ∥₁ → (ram : FrameBytes) (slots blocks : BlockBytes) → BytesLocated l ram slots blocks → (b : ℕ) (page : List ℕ) → l.added b ≡ false
-    → (after : BlockBytes) → after ≡ written_if ok (λ xs. slice_set xs b page) blocks → Carries l ram slots after (contents_of l ram slots blocks)
-block_carries true l reached ram slots blocks kept b page new after e =
-    subst (λ (x : BlockBytes). Carries l ram slots x (contents_of l ram slots blocks)) (sym e) (carries_block l reached ram slots blocks kept b page new)
-block_carries false l reached ram slots blocks kept b page new after e =
-    subst (λ (x : BlockBytes). Carries l ram slots x (contents_of l ram slots blocks)) (sym e) (record { located = kept; bytes = refl })
+    → (after : BlockBytes) → OnTrue ok (after ≡ slice_set blocks b page) → OnFalse ok (after ≡ blocks) → Carries l ram slots after (contents_of l ram slots blocks)
+block_carries ok l reached ram slots blocks kept b page new after there same =
+    subst (λ (x : BlockBytes). Carries l ram slots x (contents_of l ram slots blocks)) (sym (block_written ok after blocks (λ xs. slice_set xs b page) there same)) (by ok)
+  where
+    by : (c : Bool) → Carries l ram slots (written_if c (λ xs. slice_set xs b page) blocks) (contents_of l ram slots blocks)
+    by true = carries_block l reached ram slots blocks kept b page new
+    by false = record { located = kept; bytes = refl }
 
 -- the blocks of the file device changed, and what keys have stays
 pub rest_block : (u : PartsOf) (log : Log) (told : Told) (paging files : DeviceOf) (slots blocks after : BlockBytes) → contents_of u.life u.bytes slots after ≡ contents_of u.life u.bytes slots blocks

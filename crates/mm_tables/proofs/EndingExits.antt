@@ -1,38 +1,45 @@
--- Calls that give up pages, one after another: their moves, the pages of a range, the regions of a process, and its end.
+-- The moves of calls that end pages, joined, and the steps of the end of a process.
 use Rattle.std.specs.Prelude.{position, remove, ◌==◌, ◌/◌, ◌%◌, option_and_then, IfSome}
-use Rattle.std.proofs.Common.{inl, inr, ◌≢◌, ◌^◌, option_map, slice_get, ◌≡◌, ℕ, ◌+◌, ◌≤◌, ◌<◌, Bool, true, false, List, [], ◌∷◌, Option, Some, None, refl, sym, ap, ◌∙◌, subst, arith, ◌-◌, cond, length, set, is_some, nat_lt, ◌&&◌, suc, ◌*◌, sum_by, count_by, not}
+use Rattle.std.proofs.Common.{inl, inr, ◌≢◌, ◌^◌, option_map, slice_get, ◌≡◌, ℕ, ◌+◌, ◌≤◌, ◌<◌, Bool, true, false, List, [], ◌∷◌, Option, Some, None, refl, sym, ap, ◌∙◌, subst, arith, ◌-◌, cond, length, set, is_some, nat_lt, ◌&&◌, suc, ◌*◌, sum_by, count_by, not, zero, nat_le, ◌||◌}
 use Rattle.std.specs.Cmp.{unsigned_Decides}
 use Rattle.std.specs.List.{position_or_len}
-use Rattle.std.proofs.lemmas.Bool.{ltb-true, ltb-false, cases_lt}
+use Rattle.std.proofs.lemmas.Bool.{ltb-true, ltb-false, cases_lt, le-leb, leb-true, leb-false}
 use Rattle.std.proofs.lemmas.List.{get_or_past, set-set, get_or-set_same, get_or-set_other}
 use Rattle.std.proofs.lemmas.List.Sums.{sum_by-cons, sum_by-set, passes_at_first, fails_before_first}
-use Rattle.mm_types.specs.{Pid, Range, holds_page, end_of, end_of_user_pages, address_of, Key, Kind, View}
+use Rattle.mm_types.specs.{Pid, Range, holds_page, end_of, end_of_user_pages, address_of, Key, Kind, View, lies_within, first_user_page, Place}
 use Rattle.mm_types.specs.declared.views.Kind.TheVariants as kind
-use Rattle.mm_types.proofs.{both, not_true, get_within, none_of, some_found, same_found, some_map}
+use Rattle.mm_types.proofs.{both, not_true, get_within, none_of, some_found, same_found, some_map, same_or_not, same_tests, and_false, spread}
+use Rattle.mm_types.proofs.{or_left, or_right, by_either, get_set_same}
 use Rattle.std.proofs.lemmas.List.Edits.{length-remove}
 use Rattle.mm_world.specs.{RegionOf, ProcessOf, pages_of, Page, Numbered, SectionOf, numbered, process_of, Found, first_where, one_later, is_private}
 use Rattle.mm_world.specs.{set_process, section_of, Tables, IsSpace, LaidOut, charge, region_charge, is_view_of, settle, handle_section, is_handle_to}
-use Rattle.mm_world.specs.{view_at, private_at}
+use Rattle.mm_world.specs.{view_at, private_at, region_around, own_page, region_with, set_regions, Committed, committed_at, key_of, reserved_row}
+use Rattle.mm_world.specs.{change_rows}
 use Rattle.mm_world.specs.WellFormed.{WellFormed}
-use Rattle.mm_world.proofs.{charge-set_process, ProcessGoes}
+use Rattle.mm_world.proofs.{charge-set_process, ProcessGoes, and-true}
 use Rattle.mm_pages.specs.Behind.{Behind}
-use Rattle.mm_pages.specs.{AreAmong, place_at, Turn, Turns, page_rank, PassesIn, StoreOf, changed}
+use Rattle.mm_pages.specs.{AreAmong, place_at, Turn, Turns, page_rank, PassesIn, StoreOf, changed, rearranged, changed_in, own_key, leaving}
 use Rattle.mm_pages.specs.Housekeeping.{Ends}
 use Rattle.mm_pages.specs.Leaving.{Leaving}
 use Rattle.mm_pages.proofs.{ends_then, ends_meet, ends_wider}
 use Rattle.mm_commit.specs.{CommitOf}
 use Rattle.mm_sections.specs.{CountedSection, held, handle_at}
-use Rattle.mm_spaces.specs.{info_of, found_info, RegionInfo}
+use Rattle.mm_spaces.specs.{info_of, found_info, RegionInfo, owned_in}
 use Rattle.mm_tables.specs.{Fewer, Less, Toward, HasNoHandle, IsRankFor, IsTidy, handles_to, views_of, NobodyKeeps, AreKeptTables, FitsTables}
-use Rattle.mm_tables.specs.{Settled, store_beside, paging_count}
-use Rattle.mm_tables.proofs.EndingFits.{regions_of, process_same, at_each, less_then, beside_then}
-use Rattle.mm_tables.proofs.OneProcess.{regions_in, paging-set_process}
-use Rattle.mm_tables.proofs.Keeping.{keepers_less}
-use Rattle.mm_tables.proofs.EndingSettles.{handles_put, views_put, holds_count, views_count, settle_same, tidy_settled, ends_same}
-use Rattle.mm_tables.proofs.EndingSteps.{Landed, landed_by, nothing_lost}
-use Rattle.mm_tables.proofs.EndingUnmap.{unmapped}
-use Rattle.mm_tables.proofs.EndingClose.{closed}
-use Rattle.mm_tables.proofs.SectionTidy.{sound_edit}
+use Rattle.mm_tables.specs.{Settled, store_beside, owned_among, own_at, is_owned_at, without_keys, without_paging, CanRelease, GivenUp, low_half}
+use Rattle.mm_tables.specs.{high_half, is_key_in, AreUnbound, is_page_live, passing, Process, process_regions, RegionsBecame, is_reserved}
+use Rattle.mm_tables.specs.{is_uncommitted}
+use Rattle.mm_tables.proofs.EndingSettles.{process_same, at_each, less_then, beside_then, handles_put, views_put, holds_count, views_count, settle_same, tidy_settled, ends_same, key_is}
+use Rattle.mm_tables.proofs.Rows.{regions_in, paging-set_process, within, holds, holds_not, Inside, holds_too, passing_owned, region_key, reserved_is, own_rows, same_pages, has_own, in_range, private_charge, regions_of}
+use Rattle.mm_tables.proofs.Keeping.{keepers_less, sound_edit, Held, shown_with, still_kept, regions_by, sound_after}
+use Rattle.mm_tables.proofs.EndingSteps.{Landed, landed_by, nothing_lost, unmapped, closed}
+use Rattle.std.proofs.Math.Path.{fun_ext}
+use Rattle.mm_types.specs.declared.numbers.Key.TheVariants as key
+use Rattle.mm_tables.proofs.PageByPage.{owned_passing, owned_same, given_two, by_key, bound_out, own, here}
+use Rattle.mm_tables.proofs.Settled.{around, found_there, Done, ends, settled_as, uncommitted_is, IsAround, decommit_done, can_release, Begins, release_done, is_around, begins, whole_inside, pages_found, some_pages, whole_owned}
+use Rattle.mm_tables.specs.declared.tables.Tables.TheInside as the_inside
+use Rattle.mm_types.specs.declared.moves.LineKind.TheVariants as line_kind
+use Rattle.mm_tables.proofs.Regional.{decommit_charge, release_charge}
 
 -- ---- the pages of a range, one after another
 
@@ -168,14 +175,14 @@ held_at hs index =
     ap (λ b. cond b (numbered hs (4 * index / 4)) None) ((unsigned_Decides (4 * index % 4) 0).1 whole) ∙ ap (numbered hs) part
 
 -- what is told of the lowest handle is its place, and that it is open
-pub lowest_at : (hs : Numbered ℕ) (handle : ℕ) → option_map handle_at (position (is_some {T = ℕ}) hs) ≡ Some handle → (i : ℕ) × (handle ≡ 4 * i) × (i < length hs) × (is_some (numbered hs i) ≡ true)
+pub lowest_at : (hs : Numbered ℕ) (handle : ℕ) → option_map handle_at (position (is_some {T = ℕ}) hs) ≡ Some handle → (i : ℕ) × (handle ≡ 4 * i) × (i < length hs) × (is_some (numbered hs i) ≡ true) × (i ≡ position_or_len (is_some {T = ℕ}) hs)
 lowest_at hs handle told =
     let at = position_or_len (is_some {T = ℕ}) hs in
-    elim (nat_lt at (length hs)) as (λ b. nat_lt at (length hs) ≡ b → option_map handle_at (cond b (Some at) None) ≡ Some handle → (i : ℕ) × (handle ≡ 4 * i) × (i < length hs) × (is_some (numbered hs i) ≡ true)) [
+    elim (nat_lt at (length hs)) as (λ b. nat_lt at (length hs) ≡ b → option_map handle_at (cond b (Some at) None) ≡ Some handle → (i : ℕ) × (handle ≡ 4 * i) × (i < length hs) × (is_some (numbered hs i) ≡ true) × (i ≡ position_or_len (is_some {T = ℕ}) hs)) [
       | true ↦ λ e f. (
           let inside = ltb-true at (length hs) e in
           let same : 4 * at ≡ handle = cc in
-          (at, sym same, inside, passes_at_first (is_some {T = ℕ}) hs None inside))
+          (at, sym same, inside, passes_at_first (is_some {T = ℕ}) hs None inside, refl))
       | false ↦ λ e f. cc
     ] refl told
 
@@ -196,15 +203,7 @@ no_lowest hs told k =
 pub below_lowest : (hs : Numbered ℕ) (handle : ℕ) → option_map handle_at (position (is_some {T = ℕ}) hs) ≡ Some handle → (j : ℕ) → j < handle / 4 → numbered hs j ≡ None
 below_lowest hs handle told j less =
     let at = lowest_at hs handle told in
-    let first = lowest_is hs handle told in
-    none_of (numbered hs j) (fails_before_first (is_some {T = ℕ}) hs j None (omega (arith, less, at.1, first)))
-  where
-    lowest_is : (hs : Numbered ℕ) (handle : ℕ) → option_map handle_at (position (is_some {T = ℕ}) hs) ≡ Some handle → handle ≡ 4 * position_or_len (is_some {T = ℕ}) hs
-    lowest_is hs handle told = by_test (nat_lt (position_or_len (is_some {T = ℕ}) hs) (length hs)) told
-      where
-        by_test : (b : Bool) → option_map handle_at (cond b (Some (position_or_len (is_some {T = ℕ}) hs)) None) ≡ Some handle → handle ≡ 4 * position_or_len (is_some {T = ℕ}) hs
-        by_test true e = cc
-        by_test false e = cc
+    none_of (numbered hs j) (fails_before_first (is_some {T = ℕ}) hs j None (omega (arith, less, at.1, at.4)))
 
 -- the handles below this are closed
 abbrev pub NoneBelow : ℕ → ℕ → Tables → Type 0
@@ -312,9 +311,6 @@ module _ (t : Tables) (pid : ℕ) (p : ProcessOf (Unit {0})) (lives : process_of
   charge_none : charge (set_process t pid None) ≡ charge t
   charge_none = omega (arith, charge-set_process t pid p None lives, ap (λ (rs : List (RegionOf (Unit {0}))). sum_by region_charge rs) empty)
 
-  count_none : paging_count (set_process t pid None) ≡ paging_count t
-  count_none = omega (arith, paging-set_process t pid p None lives, ap (λ (rs : List (RegionOf (Unit {0}))). sum_by (λ (r : RegionOf (Unit {0})). count_by (λ row. is_some row.own) r.rows) rs) empty)
-
   settled_none : IsTidy t → settle (set_process t pid None) ≡ set_process t pid None
   settled_none tidy =
       let now = set_process t pid None in
@@ -338,7 +334,7 @@ module _ (t : Tables) (pid : ℕ) (p : ProcessOf (Unit {0})) (lives : process_of
 
   fits_none : (c : Key → Option Page) (s : StoreOf) → FitsTables t c s → FitsTables (set_process t pid None) c (record s { is_open = changed ◌==◌ s.is_open pid false })
   fits_none c s f =
-      nothing_lost t pid p None lives (sym empty) charge_none count_none c s (record s { is_open = changed ◌==◌ s.is_open pid false }) refl (λ n.
+      nothing_lost t pid p None lives (sym empty) charge_none (omega (arith, paging-set_process t pid p None lives, ap (λ (rs : List (RegionOf (Unit {0}))). sum_by (λ (r : RegionOf (Unit {0})). count_by (λ row. is_some row.own) r.rows) rs) empty)) c s (record s { is_open = changed ◌==◌ s.is_open pid false }) refl (λ n.
       ap (cond (n == pid) false) (f.opened n)
       ∙ at_each t pid p None lives (λ n o x. cond (n == pid) false (is_some o) ≡ is_some x) (ap (λ b. cond b false true) ((unsigned_Decides pid pid).1 refl))
       (λ n o other. ap (λ b. cond b false (is_some o)) (not_true (n == pid) (λ e. other ((unsigned_Decides n pid).0 e)))) n)
@@ -370,3 +366,364 @@ view_info p range view first lowest is = ap (option_map found_info) (view_lowest
 pub regions_fewer : (t v : Tables) (pid : ℕ) (p q : ProcessOf (Unit {0})) → process_of t pid ≡ Some p → process_of v pid ≡ Some q → Fewer p q → length (regions_in v pid) < length (regions_in t pid)
 regions_fewer t v pid p q lives now fewer =
     omega (arith, ap (λ (o : Option (ProcessOf (Unit {0}))). length (regions_of o)) lives, ap (λ (o : Option (ProcessOf (Unit {0}))). length (regions_of o)) now, fewer.count)
+
+-- ---- pages of a region are given up in runs: where none has a key at once, else by halves
+
+-- how many pages of a range have a key by their regions
+abbrev owned : List (RegionOf (Unit {0})) → Range → ℕ
+owned rs range = owned_among (is_owned_at rs range.first) range.count
+
+-- ---- no page has a key
+
+none_owned : (f : ℕ → Bool) (n : ℕ) → owned_among f n ≡ 0 → (i : ℕ) → i < n → f i ≡ false
+none_owned f zero e i few = absurd (omega (arith, few))
+none_owned f (suc n) e i few =
+    elim (same_or_not i n) [
+      | inl same ↦ ap f same ∙ not_true (f n) (λ t. omega (arith, e, ap {B = ℕ} (λ b. cond b 1 0) t))
+      | inr other ↦ none_owned f n (omega (arith, e)) i (omega (arith, few, other))
+    ]
+
+-- a function that has this value at the keys of the range already
+keys_stay : {V : Type 0} (pid : Pid) (range : Range) (f : Key → V) (x : V) → ((i : ℕ) → i < range.count → f (own_at pid range.first i) ≡ x) → (k : Key) → f k ≡ cond (is_key_in pid range k) x (f k)
+keys_stay pid range f x h (key.Shared area index) = refl
+keys_stay pid range f x h (key.Private p v) = by_test ((p.0 == pid.0) && holds_page range v.0) refl
+  where
+    by_test : (b : Bool) → ((p.0 == pid.0) && holds_page range v.0) ≡ b → f (key.Private p v) ≡ cond b x (f (key.Private p v))
+    by_test false e = refl
+    by_test true e =
+        let both = and-true (p.0 == pid.0) (holds_page range v.0) e in
+        let w = within range v.0 both.1 in
+        let same : p.0 ≡ pid.0 = (unsigned_Decides p.0 pid.0).0 both.0 in
+        let at : v.0 ≡ range.first + (v.0 - range.first) = omega (arith, w.low) in
+        (λ i. f (key.Private (record { 0 = same i }) (record { 0 = at i }))) ∙ h (v.0 - range.first) (omega (arith, w.low, w.high))
+
+module _ {goes : Bool} (pid : Pid) (range : Range) (rs : List (RegionOf (Unit {0}))) {c : Key → Option Page} {s : StoreOf} (can : CanRelease goes pid range rs c s) (none : owned_among (is_owned_at rs range.first) range.count ≡ 0) where
+  dead : (i : ℕ) → i < range.count → is_owned_at rs range.first i ≡ false
+  dead = none_owned (is_owned_at rs range.first) range.count none
+
+  contents_stay : c ≡ without_keys (is_key_in pid range) c
+  contents_stay = fun_ext (keys_stay pid range c None (λ i few. none_of (c (own_at pid range.first i)) (can.live i few ∙ dead i few)))
+
+  paging_stays : s.paging ≡ without_paging (is_key_in pid range) s.paging
+  paging_stays = fun_ext (keys_stay pid range s.paging false (λ j few. can.paging j few ∙ dead j few))
+
+  count : s.paging_keys ≡ s.paging_keys - owned rs range
+  count = omega (arith, none)
+
+  pub given_at_once : {d : Key → Option Page} {z : StoreOf} → d ≡ c → z ≡ record s { bound = changed_in pid range s.bound false; names = changed_in pid range s.names None; report = rearranged s.report z.report } → GivenUp true pid range (owned_among (is_owned_at rs range.first) range.count) c d s z
+  given_at_once {z = z} same after =
+      record {
+        contents = same ∙ contents_stay;
+        store = after ∙ (λ i. record s { bound = changed_in pid range s.bound false; names = changed_in pid range s.names None; paging = paging_stays i; paging_keys = count i; report = rearranged s.report z.report });
+      }
+
+  pub given_nothing : goes ≡ false → GivenUp false pid range (owned_among (is_owned_at rs range.first) range.count) c c s s
+  given_nothing stays =
+      record {
+        contents = contents_stay;
+        store = λ i. record s {
+          names = fun_ext (λ q. keys_stay pid range (by_key s.names) None (λ j few. can.named stays j few (dead j few)) (own_key q)) i;
+          paging = paging_stays i;
+          paging_keys = count i;
+          report = rearranged s.report s.report;
+        };
+      }
+
+  pub dead_at_once : (page : ℕ) → range.first ≤ page → page < range.first + range.count → c (own pid page) ≡ None
+  dead_at_once page low high =
+      let at : range.first + (page - range.first) ≡ page = omega (arith, low) in
+      let few : page - range.first < range.count = omega (arith, low, high) in
+      none_of (c (own pid page)) (ap (λ (page : ℕ). is_some (c (own pid page))) (sym at) ∙ can.live (page - range.first) few ∙ dead (page - range.first) few)
+
+-- ---- parts of a range
+
+pub around_part : (rs : List (RegionOf (Unit {0}))) {range part : Range} → is_some (region_around rs range) ≡ true → Inside part range → is_some (region_around rs part) ≡ true
+around_part rs {range = range} {part = part} there inner =
+    let r = some_found (region_around rs range) there in
+    let a = around rs range r.0 r.1 in
+    found_there (λ (r : RegionOf (Unit {0})). lies_within part (pages_of r)) rs r.0.place r.0.thing a.at
+    (both (nat_le r.0.thing.base part.first) (nat_le (end_of part) (end_of (pages_of r.0.thing)))
+    (le-leb _ _ (omega (arith, a.inside.low, inner.low))) (le-leb _ _ (omega (arith, a.inside.high, inner.high))))
+
+pub can_part : {goes : Bool} {pid : Pid} {range part : Range} {rs : List (RegionOf (Unit {0}))} {c : Key → Option Page} {s : StoreOf} → CanRelease goes pid range rs c s → Inside part range → CanRelease goes pid part rs c s
+can_part {pid = pid} {range = range} {part = part} {rs = rs} {c = c} {s = s} can inner =
+    record {
+      live = λ i few. subst (λ (page : ℕ). is_some (c (own pid page)) ≡ is_some (own_page rs page)) (at i) (can.live (part.first - range.first + i) (small i few));
+      paging = λ i few. subst (λ (page : ℕ). s.paging (own pid page) ≡ is_some (own_page rs page)) (at i) (can.paging (part.first - range.first + i) (small i few));
+      bound = λ too page e. can.bound too page (holds_too part range page inner e);
+      named = λ stays i few. subst (λ (page : ℕ). is_some (own_page rs page) ≡ false → s.names (place_at pid page) ≡ None) (at i) (can.named stays (part.first - range.first + i) (small i few));
+      unbinding = can.unbinding;
+    }
+  where
+    at : (i : ℕ) → range.first + (part.first - range.first + i) ≡ part.first + i
+    at i = omega (arith, inner.low)
+
+    small : (i : ℕ) → i < part.count → part.first - range.first + i < range.count
+    small i few = omega (arith, inner.low, inner.high, few)
+
+-- a page behind the range is none of its pages
+out_of : (pid : Pid) (first : Range) (page : ℕ) → end_of first ≤ page → is_key_in pid first (own pid page) ≡ false
+out_of pid first page from = ap (λ b. (pid.0 == pid.0) && b) (holds_not first page (λ w. absurd (omega (arith, w.high, from)))) ∙ and_false (pid.0 == pid.0)
+
+-- the part behind one that was given up
+pub can_after : {goes : Bool} {pid : Pid} {first second : Range} {n : ℕ} {rs : List (RegionOf (Unit {0}))} {c d : Key → Option Page} {s z : StoreOf} → end_of first ≤ second.first → CanRelease goes pid second rs c s → GivenUp goes pid first n c d s z → CanRelease goes pid second rs d z
+can_after {goes = goes} {pid = pid} {first = first} {second = second} {c = c} {s = s} behind can a =
+    record {
+      live = λ i few. ap (λ (f : Key → Option Page). is_some (f (own_at pid second.first i))) a.contents ∙ ap (λ b. is_some (cond b None (c (own_at pid second.first i)))) (key i) ∙ can.live i few;
+      paging = λ i few. ap (λ (x : StoreOf). x.paging (own_at pid second.first i)) a.store ∙ ap (λ b. cond b false (s.paging (own_at pid second.first i))) (key i) ∙ can.paging i few;
+      bound = λ too page e.
+          ap (λ (x : StoreOf). x.bound (place_at pid page)) a.store
+          ∙ bound_out goes pid first s.bound (place_at pid page) (out_of pid first page (let w = within second page e in omega (arith, w.low, behind))) ∙ can.bound too page e;
+      named = λ stays i few dead.
+          ap (λ (x : StoreOf). x.names (place_at pid (second.first + i))) a.store ∙ ap (λ b. cond b None (s.names (place_at pid (second.first + i)))) (key i) ∙ can.named stays i few dead;
+      unbinding = ap (λ (x : StoreOf). x.kind) a.store ∙ can.unbinding;
+    }
+  where
+    key : (i : ℕ) → is_key_in pid first (own_at pid second.first i) ≡ false
+    key i = out_of pid first (second.first + i) (omega (arith, behind))
+
+-- ---- how many pages have a key
+
+pub owned_is : (rs : List (RegionOf (Unit {0}))) (range : Range) → IsSpace rs → is_some (region_around rs range) ≡ true → owned_in rs range ≡ owned_among (is_owned_at rs range.first) range.count
+owned_is rs range space there =
+    let r = some_found (region_around rs range) there in
+    let a = around rs range r.0 r.1 in
+    a.owned ∙ sym (passing_owned first_user_page r.0.place rs r.0.thing range range.count space.laid_out a.at a.inside (omega arith))
+    ∙ sym (owned_passing (λ page. is_some (own_page rs page)) range.first range.count)
+
+owned_split : (f : ℕ → Bool) (a b : ℕ) → owned_among f (a + b) ≡ owned_among f a + owned_among (λ i. f (a + i)) b
+owned_split f a zero = let same : a + 0 ≡ a = omega arith in ap (owned_among f) same ∙ (let same : owned_among f a ≡ owned_among f a + 0 = omega arith in same)
+owned_split f a (suc b) =
+    let same : a + suc b ≡ suc (a + b) = omega arith in
+    ap (owned_among f) same ∙ (let sum : owned_among f (suc (a + b)) ≡ owned_among f a + owned_among (λ i. f (a + i)) (suc b) = omega (arith, owned_split f a b) in sum)
+
+-- ---- one half and then the other
+
+pub record Halves (range low high : Range) : Type 0 where
+  pub first : low.first ≡ range.first
+  pub second : high.first ≡ range.first + low.count
+  pub count : low.count + high.count ≡ range.count
+
+pub halves : (range low high : Range) → low ≡ low_half range → high ≡ high_half range → Halves range low high
+halves range low high l h =
+    let first = ap (λ (r : Range). r.first) l in
+    let few = ap (λ (r : Range). r.count) l in
+    let second = ap (λ (r : Range). r.first) h in
+    let rest = ap (λ (r : Range). r.count) h in
+    record { first = first; second = omega (arith, second, few); count = omega (arith, few, rest) }
+
+module _ {range low high : Range} (h : Halves range low high) where
+  pub low_in : Inside low range
+  low_in = record { low = omega (arith, h.first); high = omega (arith, h.first, h.count) }
+
+  pub high_in : Inside high range
+  high_in = record { low = omega (arith, h.second); high = omega (arith, h.second, h.count) }
+
+  -- the second is behind the first
+  pub apart : end_of low ≤ high.first
+  apart = omega (arith, h.first, h.second)
+
+  owned_halves : (rs : List (RegionOf (Unit {0}))) → owned rs range ≡ owned rs low + owned rs high
+  owned_halves rs =
+      let f = is_owned_at rs range.first in
+      let whole : owned rs range ≡ owned_among f (low.count + high.count) = ap (owned_among f) (sym h.count) in
+      let front : owned_among f low.count ≡ owned rs low = ap (λ (n : ℕ). owned_among (is_owned_at rs n) low.count) (sym h.first) in
+      let behind : owned_among (λ i. f (low.count + i)) high.count ≡ owned rs high =
+      owned_same (λ i. f (low.count + i)) (is_owned_at rs high.first) high.count (λ i few. ap (λ (page : ℕ). is_some (own_page rs page)) (let same : range.first + (low.count + i) ≡ high.first + i = omega (arith, h.second) in same)) in
+      omega (arith, whole, front, behind, owned_split f low.count high.count)
+
+  pub counted : (rs : List (RegionOf (Unit {0}))) → IsSpace rs → is_some (region_around rs range) ≡ true → owned_in rs range ≡ owned_in rs low + owned_in rs high
+  counted rs space there =
+      let a = owned_is rs range space there in
+      let b = owned_is rs low space (around_part rs there low_in) in
+      let c = owned_is rs high space (around_part rs there high_in) in
+      omega (arith, a, b, c, owned_halves rs)
+
+  holds_halves : (v : ℕ) → holds_page range v ≡ (holds_page high v || holds_page low v)
+  holds_halves v =
+      same_tests _ _
+      (λ e. let w = within range v e in by_side w.low w.high (nat_le high.first v) refl)
+      (λ e. by_either (holds_page high v) (holds_page low v) e (holds_page range v ≡ true) (holds_too high range v high_in) (holds_too low range v low_in))
+    where
+      by_side : range.first ≤ v → v < end_of range → (b : Bool) → nat_le high.first v ≡ b → (holds_page high v || holds_page low v) ≡ true
+      by_side from to true e = or_left (holds_page high v) (holds_page low v) (holds high v (leb-true _ _ e) (omega (arith, to, h.second, h.count)))
+      by_side from to false e = or_right (holds_page high v) (holds_page low v) (holds low v (omega (arith, from, h.first)) (omega (arith, leb-false _ _ e, h.first, h.second)))
+
+  key_halves : (pid : Pid) (k : Key) → is_key_in pid range k ≡ (is_key_in pid high k || is_key_in pid low k)
+  key_halves pid (key.Private p v) = ap (λ b. (p.0 == pid.0) && b) (holds_halves v.0) ∙ spread (p.0 == pid.0) (holds_page high v.0) (holds_page low v.0)
+  key_halves pid (key.Shared area index) = refl
+
+  pub given_halves : (goes : Bool) {pid : Pid} {c d e : Key → Option Page} {s z y : StoreOf} (rs : List (RegionOf (Unit {0}))) → GivenUp goes pid low (owned_among (is_owned_at rs low.first) low.count) c d s z → GivenUp goes pid high (owned_among (is_owned_at rs high.first) high.count) d e z y → GivenUp goes pid range (owned_among (is_owned_at rs range.first) range.count) c e s y
+  given_halves goes {pid = pid} rs a b = given_two goes (key_halves pid) (sym (owned_halves rs)) a b
+
+  pub halves_pass : (u : Bool) (held : Leaving) (from to : ℕ) (pid : Pid) (s y z : StoreOf) (b c d : Behind) → AreAmong held from to pid range
+      → ((held : Leaving) (from to : ℕ) → AreAmong held from to pid low → PassesIn u (Turns (Ends held from to)) s y b c)
+      → ((held : Leaving) (from to : ℕ) → AreAmong held from to pid high → PassesIn u (Turns (Ends held from to)) y z c d)
+      → PassesIn u (Turns (Ends held from to)) s z b d
+  halves_pass u held from to pid s y z b c d among p q =
+      let mid = page_rank high.first in
+      ends_then u held from mid to s y z b c d (omega (arith, among.first, h.second)) (omega (arith, among.last, h.second, h.count))
+      (p held from mid (record { each = λ page e. among.each page (holds_too low range page low_in e); first = omega (arith, among.first, h.first); last = omega (arith, apart) }))
+      (q held mid to (record { each = λ page e. among.each page (holds_too high range page high_in e); first = omega arith; last = omega (arith, among.last, h.second, h.count) }))
+
+-- ---- places without a committed row, and pages of a private region that are decommitted or released
+
+-- a place in no region
+unreserved : (t : Tables) (place : Place) → is_reserved t place ≡ false → is_uncommitted t place ≡ true
+unreserved t place e =
+    ap (λ (o : Option Key). not (is_some o)) (key_is t place
+    ∙ ap (option_and_then (λ (r : Found (RegionOf (Unit {0}))). region_key t place.pid.0 place.vpn.0 r.thing)) (none_of (region_with (regions_in t place.pid.0) place.vpn.0) (sym (reserved_is t place) ∙ e)))
+
+-- a place of a process that does not live
+pub ended : (t : Tables) (pid : Pid) (page : ℕ) → process_of t pid.0 ≡ None → is_uncommitted t (place_at pid page) ≡ true
+ended t pid page e = ap (λ (o : Option (ProcessOf (Unit {0}))). not (is_some (option_and_then (λ (p : ProcessOf (Unit {0})). option_map (λ (c : Committed (Unit {0})). key_of pid.0 page c.home) (committed_at t p.regions page)) o))) e
+
+pub all_ended : (t v : Tables) (pid : Pid) (p : ProcessOf (Unit {0})) → process_of t pid.0 ≡ Some p → v ≡ settle (set_process t pid.0 None) → (page : ℕ) → is_uncommitted v (place_at pid page) ≡ true
+all_ended t v pid p lives is page = ended v pid page (ap (λ (w : Tables). process_of w pid.0) is ∙ process_same t pid.0 p None lives)
+
+-- a place of the process itself
+pub its_own : (pid : Pid) (places : Place → Bool) (page : ℕ) → places (place_at pid page) ≡ true → ((pid.0 == pid.0) && places (place_at pid page)) ≡ true
+its_own pid places page e = both (pid.0 == pid.0) (places (place_at pid page)) ((unsigned_Decides pid.0 pid.0).1 refl) e
+
+-- places that are bound no more
+pub among_unbound : (o t : Tables) (c : Key → Option Page) (z : StoreOf) (pid : Pid) (range : Range) → FitsTables t c z → AreUnbound pid range z → AreAmong (leaving o pid.0 (is_uncommitted t)) 1 (page_rank end_of_user_pages) pid range
+among_unbound o t c z pid range fits unbound =
+    record {
+      each = λ page e. its_own pid (is_uncommitted t) page (unreserved t (place_at pid page) (sym (fits.bound (place_at pid page)) ∙ unbound.each page e));
+      first = omega arith;
+      last = omega (arith, unbound.end);
+    }
+
+pub given_unbound : {pid : Pid} {range : Range} {n : ℕ} {c d : Key → Option Page} {s z : StoreOf} → end_of range ≤ end_of_user_pages → GivenUp true pid range n c d s z → AreUnbound pid range z
+given_unbound {pid} {range} {s = s} end a =
+    record { each = λ page e. ap (λ (x : StoreOf). x.bound (place_at pid page)) a.store ∙ ap (λ b. cond b false (s.bound (place_at pid page))) (here pid range page e); end = end }
+
+-- ---- pages of a private region are given up, `n` of them with bytes: what the call's next steps are told, and what they come to
+
+pub record Freed (i : the_inside.Inside) (t : Tables) (pid : Pid) (p : ProcessOf (Unit {0})) (o new : Option Process) (ss : List (RegionOf (Unit {0}))) (n : ℕ) (c d : Key → Option Page) (s z : StoreOf) : Type 0 where
+  pub total : ℕ
+  pub done : Done t pid p ss total c d s z
+  pub became : RegionsBecame o new ss
+  pub counted : n + total ≡ charge t
+
+module _ {i : the_inside.Inside} {t : Tables} {o new : Option Process} {ss : List (RegionOf (Unit {0}))} {n : ℕ} {c d : Key → Option Page} {s z : StoreOf} (pid : Pid) (h : Held i t pid.0 o) (f : Freed i t pid h.process o new ss n c d s z) where
+  pub freed_charged : n ≤ i.commit.charge
+  freed_charged = omega (arith, f.counted, h.kept.charged)
+
+  pub freed_kept : (commit : CommitOf) → commit ≡ record i.commit { charge = i.commit.charge - n } → AreKeptTables (shown_with i (set i.processes.items (pid.0 - 1) new)) i.directory.entries commit
+  freed_kept commit refunded =
+      still_kept h new ss commit f.total f.became f.done.stands f.done.charged (omega (arith, f.counted, h.kept.sound.charged))
+      (omega (arith, ap (λ (k : CommitOf). k.charge) refunded, h.kept.charged, f.counted)) (ap (λ (k : CommitOf). k.limit) refunded)
+
+  pub freed_is : shown_with i (set i.processes.items (pid.0 - 1) new) ≡ set_regions t pid.0 h.process ss
+  freed_is = h.changed new h.process ss f.became h.lives
+
+  pub freed_settled : Settled (shown_with i (set i.processes.items (pid.0 - 1) new)) c d s z
+  freed_settled = settled_as freed_is f.done.settled
+
+-- by whatever names the process and its region have
+pub freed_named : {i : the_inside.Inside} {t : Tables} {pid : ℕ} {o : Option Process} (h : Held i t pid o) (new : Option Process) (pick : List (RegionOf (Unit {0})) → Option (Found (RegionOf (Unit {0})))) (put : List (RegionOf (Unit {0})) → Found (RegionOf (Unit {0})) → List (RegionOf (Unit {0})))
+    → ((r : Found (RegionOf (Unit {0}))) → pick (process_regions o) ≡ Some r → RegionsBecame o new (put (process_regions o) r)) → (q : ProcessOf (Unit {0})) (r : Found (RegionOf (Unit {0}))) → process_of t pid ≡ Some q → pick q.regions ≡ Some r → shown_with i (set i.processes.items (pid - 1) new) ≡ set_regions t pid q (put q.regions r)
+freed_named {o = o} h new pick put changed q r lives found =
+    let regions = regions_by h q lives in
+    h.changed new q (put q.regions r) (subst (λ rs. RegionsBecame o new (put rs r)) regions (changed r (ap pick regions ∙ found))) lives
+
+-- ---- pages of a private region are decommitted
+
+module _ {i : the_inside.Inside} {t : Tables} {o : Option Process} (pid : Pid) (h : Held i t pid.0 o) (range : Range) (inside : (p : ProcessOf (Unit {0})) → process_of t pid.0 ≡ Some p → is_some (region_around p.regions range) ≡ true) (private : (p : ProcessOf (Unit {0})) (r : Found (RegionOf (Unit {0}))) → process_of t pid.0 ≡ Some p → region_around p.regions range ≡ Some r → is_private r.thing.kind ≡ true) {c : Key → Option Page} {s : StoreOf} (fits : FitsTables t c s) where
+  pub found : (f : Found (RegionOf (Unit {0}))) × (region_around h.process.regions range ≡ Some f)
+  found = some_found (region_around h.process.regions range) (inside h.process h.lives)
+
+  placed : IsAround h.process.regions range found.0
+  placed = around h.process.regions range found.0 found.1
+
+  of_own : is_private found.0.thing.kind ≡ true
+  of_own = private h.process found.0 h.lives found.1
+
+  abbrev pub emptied_rows : List (RegionOf (Unit {0}))
+  emptied_rows = set h.process.regions found.0.place (change_rows (λ row. reserved_row) range found.0.thing)
+
+  pub decommit_end : end_of range ≤ end_of_user_pages
+  decommit_end = ends t pid h.process c s h.lives h.kept.sound fits found.0.place found.0.thing range placed.at placed.inside
+
+  pub decommit_can : s.kind ≡ line_kind.Unbind pid → CanRelease false pid range (process_regions o) c s
+  decommit_can unbinding =
+      subst (λ rs. CanRelease false pid range rs c s) (sym h.same) (can_release t pid h.process c s h.lives h.kept.sound fits found.0.place found.0.thing range placed.at placed.inside false (λ stays. of_own) unbinding)
+
+  pub decommitted : {n : ℕ} {new : Option Process} {d : Key → Option Page} {z : StoreOf} → n ≡ owned_in (process_regions o) range
+      → ((r : Found (RegionOf (Unit {0}))) → region_around (process_regions o) range ≡ Some r → RegionsBecame o new (set (process_regions o) r.place (change_rows (λ row. reserved_row) range r.thing)))
+      → GivenUp false pid range (passing (is_page_live pid c) range.first range.count) c d s z → Freed i t pid h.process o new emptied_rows n c d s z
+  decommitted {n} {new} {d} {z} owned changed a =
+      let few = decommit_charge t pid.0 h.process found.0.place found.0.thing range h.lives h.kept.sound placed.at placed.inside of_own in
+      let some = owned ∙ ap (λ rs. owned_in rs range) h.same ∙ placed.owned in
+      record {
+        total = charge t - count_by has_own (in_range range found.0.thing);
+        done = decommit_done t pid h.process range c d s z h.lives h.kept.sound fits found.0.place found.0.thing placed.at placed.inside of_own a;
+        became = subst (λ rs. RegionsBecame o new (set rs found.0.place (change_rows (λ row. reserved_row) range found.0.thing))) h.same (changed found.0 (ap (λ rs. region_around rs range) h.same ∙ found.1));
+        counted = omega (arith, some, few);
+      }
+
+  pub decommit_among : {n m : ℕ} {new : Option Process} {d : Key → Option Page} {z : StoreOf} → Freed i t pid h.process o new emptied_rows n c d s z → GivenUp false pid range m c d s z → AreAmong (leaving t pid.0 (is_uncommitted (shown_with i (set i.processes.items (pid.0 - 1) new)))) 1 (page_rank end_of_user_pages) pid range
+  decommit_among {n} {new = new} {d = d} {z = z} f a =
+      let row = change_rows (λ row. reserved_row) range found.0.thing in
+      let q : ProcessOf (Unit {0}) = record h.process { regions = emptied_rows } in
+      let u = set_regions t pid.0 h.process emptied_rows in
+      let now : process_of u pid.0 ≡ Some q = process_same t pid.0 h.process (Some q) h.lives in
+      let sound : WellFormed u = sound_after t pid.0 h.process emptied_rows h.lives f.done.stands h.kept.sound (omega (arith, f.done.charged, f.counted, h.kept.sound.charged)) in
+      let there : slice_get emptied_rows found.0.place ≡ Some row = get_set_same h.process.regions found.0.place row (get_within h.process.regions found.0.place found.0.thing placed.at) in
+      let same = same_pages (λ row. reserved_row) range found.0.thing in
+      let low : row.base ≤ range.first = placed.inside.low in
+      let within : Inside range (pages_of row) = record { low = low; high = omega (arith, placed.inside.high, same.rows) } in
+      subst (λ (w : Tables). AreAmong (leaving t pid.0 (is_uncommitted w)) 1 (page_rank end_of_user_pages) pid range) (sym (freed_is pid h f)) (record {
+        each = λ page e. its_own pid (is_uncommitted u) page
+            (ap (λ (o : Option Key). not (is_some o))
+            (uncommitted_is u pid q d z now sound f.done.settled.fits found.0.place row range there within of_own page e
+            (ap (λ (f : Key → Option Page). is_page_live pid f page) a.contents ∙ ap (λ b. is_some (cond b None (c (own pid page)))) (here pid range page e))));
+        first = omega arith;
+        last = omega (arith, ends u pid q d z now sound f.done.settled.fits found.0.place row range there within);
+      })
+
+-- ---- a private region is released
+
+module _ {i : the_inside.Inside} {t : Tables} {o : Option Process} (pid : Pid) (h : Held i t pid.0 o) (addr : ℕ) (range : Range) (there : (p : ProcessOf (Unit {0})) → process_of t pid.0 ≡ Some p → option_map (λ (r : Found (RegionOf (Unit {0}))). pages_of r.thing) (private_at p.regions addr) ≡ Some range) {c : Key → Option Page} {s : StoreOf} (fits : FitsTables t c s) where
+  pub begun : (f : Found (RegionOf (Unit {0}))) × ((private_at h.process.regions addr ≡ Some f) × (pages_of f.thing ≡ range))
+  begun = pages_found (private_at h.process.regions addr) range (there h.process h.lives)
+
+  starts : Begins h.process.regions begun.0
+  starts = begins h.process.regions addr begun.0 begun.1.0
+
+  whole : Inside range (pages_of begun.0.thing)
+  whole = whole_inside begun.0.thing range begun.1.1
+
+  abbrev pub without_it : List (RegionOf (Unit {0}))
+  without_it = remove h.process.regions begun.0.place
+
+  pub release_end : end_of range ≤ end_of_user_pages
+  release_end = ends t pid h.process c s h.lives h.kept.sound fits begun.0.place begun.0.thing range starts.at whole
+
+  pub release_inside : is_some (region_around (process_regions o) range) ≡ true
+  release_inside =
+      ap (λ rs. is_some (region_around rs range)) h.same
+      ∙ is_around t pid.0 h.process begun.0.place begun.0.thing range h.lives h.kept.sound starts.at whole (some_pages t pid.0 h.process begun.0.place begun.0.thing range h.lives h.kept.sound starts.at begun.1.1)
+
+  pub release_can : s.kind ≡ line_kind.Unbind pid → CanRelease true pid range (process_regions o) c s
+  release_can unbinding =
+      subst (λ rs. CanRelease true pid range rs c s) (sym h.same) (can_release t pid h.process c s h.lives h.kept.sound fits begun.0.place begun.0.thing range starts.at whole true (λ stays. starts.private) unbinding)
+
+  pub release_freed : {n : ℕ} {new : Option Process} {d : Key → Option Page} {z : StoreOf} → n ≡ owned_in (process_regions o) range
+      → ((r : Found (RegionOf (Unit {0}))) → private_at (process_regions o) addr ≡ Some r → RegionsBecame o new (remove (process_regions o) r.place))
+      → GivenUp true pid range (passing (is_page_live pid c) range.first range.count) c d s z → Freed i t pid h.process o new without_it n c d s z
+  release_freed {n} {new} {d} {z} owned changed a =
+      let some = owned ∙ ap (λ rs. owned_in rs range) h.same ∙ whole_owned t pid.0 h.process begun.0.place begun.0.thing range h.lives h.kept.sound starts.at begun.1.1 in
+      let few = release_charge t pid.0 h.process begun.0.place begun.0.thing h.lives h.kept.sound starts.at in
+      record {
+        total = charge t - own_rows begun.0.thing;
+        done = release_done t pid h.process range c d s z h.lives h.kept.sound fits begun.0.place begun.0.thing starts.at begun.1.1 starts.private a;
+        became = subst (λ rs. RegionsBecame o new (remove rs begun.0.place)) h.same (changed begun.0 (ap (λ rs. private_at rs addr) h.same ∙ begun.1.0));
+        counted = omega (arith, some, few, private_charge begun.0.thing starts.private);
+      }
+
+  pub release_among : {n m : ℕ} {new : Option Process} {d : Key → Option Page} {z : StoreOf} → Freed i t pid h.process o new without_it n c d s z → GivenUp true pid range m c d s z → AreAmong (leaving t pid.0 (is_uncommitted (shown_with i (set i.processes.items (pid.0 - 1) new)))) 1 (page_rank end_of_user_pages) pid range
+  release_among {n} {new = new} {d = d} {z = z} f a =
+      subst (λ (w : Tables). AreAmong (leaving t pid.0 (is_uncommitted w)) 1 (page_rank end_of_user_pages) pid range) (sym (freed_is pid h f))
+      (among_unbound t (set_regions t pid.0 h.process without_it) d z pid range f.done.settled.fits (given_unbound release_end a))

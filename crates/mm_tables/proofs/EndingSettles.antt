@@ -1,25 +1,31 @@
--- What is left of tables when a process loses references: at most one section and its area are other.
-use Rattle.std.proofs.Common.{◌≡◌, ◌≢◌, inl, inr, ℕ, zero, suc, ◌+◌, ◌≤◌, ◌<◌, Bool, true, false, Option, Some, None, List, [], ◌∷◌, refl, sym, ◌∙◌, ap, subst, cond, arith, length, set, slice_get, is_some, ◌||◌, unwrap_or, count_by, is_none, ◌&&◌, nat_lt, sum_by, option_map}
-use Rattle.std.specs.Prelude.{◌==◌, remove}
-use Rattle.std.specs.List.{list_any}
+-- One reference less, section by section: what is settled, that a store fits, and with what a section's pages go.
+use Rattle.std.proofs.Common.{◌≡◌, ◌≢◌, inl, inr, ℕ, zero, suc, ◌+◌, ◌≤◌, ◌<◌, Bool, true, false, Option, Some, None, List, [], ◌∷◌, refl, sym, ◌∙◌, ap, subst, cond, arith, length, set, slice_get, is_some, ◌||◌, unwrap_or, count_by, is_none, ◌&&◌, nat_lt, sum_by, option_map, ◌-◌}
+use Rattle.std.specs.Prelude.{◌==◌, remove, option_and_then, position}
+use Rattle.std.specs.List.{list_any, position_or_len}
 use Rattle.std.specs.Cmp.{unsigned_Decides}
 use Rattle.std.proofs.lemmas.List.{get_or-set_same, get_or-set_other, length-set, set-set}
 use Rattle.std.proofs.lemmas.List.Folds.{list_any_at}
 use Rattle.std.proofs.lemmas.Option.{get_or_from_slice_get}
 use Rattle.std.proofs.Math.Path.{fun_ext}
-use Rattle.std.proofs.lemmas.Bool.{le-leb}
-use Rattle.std.proofs.lemmas.List.Sums.{sum_by-cons, sum_by-remove}
-use Rattle.mm_types.proofs.{get_set_other, get_set_same, get_within, same_or_not, some_found, some_map, not_true, or_left, or_right, or_both, either}
-use Rattle.mm_types.proofs.{and_true, and_false}
+use Rattle.std.proofs.lemmas.Bool.{le-leb, ltb-true, ltb-false}
+use Rattle.std.proofs.lemmas.List.Sums.{sum_by-cons, sum_by-remove, passes_at_first, fails_before_first}
+use Rattle.mm_types.proofs.{none_of, get_set_other, get_set_same, get_within, same_or_not, some_found, some_map, not_true, or_left, or_right, or_both}
+use Rattle.mm_types.proofs.{either, and_true, and_false, some_get}
 use Rattle.mm_world.specs.{WorldOf, ProcessOf, SectionOf, AreaOf, FileOf, Numbered, numbered, RegionOf, section_of, area_at, no_area, set_process}
 use Rattle.mm_world.specs.{process_of, holds, views, uses, settle, settled_section, settled_sections, settled_area, settled_areas, is_handle_to}
-use Rattle.mm_world.specs.{is_view_of, Each, area_charge}
-use Rattle.mm_world.proofs.{numbered_inside, numbered_there, sum_by-put, count_by-never}
+use Rattle.mm_world.specs.{is_view_of, Each, area_charge, Page, shared_page, Home, Committed, committed_at, key_of, InSection, Own, Tables}
+use Rattle.mm_world.proofs.{numbered_inside, numbered_there, sum_by-put, count_by-never, found_stands, committed_is, home_cases, IsOwn, IsShared}
 use Rattle.mm_sections.specs.{number_of_block}
-use Rattle.mm_tables.specs.{IsTidy, KeepersLive, handles_in, views_in, handles_to, views_of, ended_area}
-use Rattle.mm_tables.proofs.Keeping.{any_count, any_set}
+use Rattle.mm_tables.specs.{IsTidy, KeepersLive, handles_in, views_in, handles_to, views_of, ended_area, FitsTables, Carried, CarriesPages}
+use Rattle.mm_tables.specs.{store_beside, key_at, Less, is_key_of_area, Emptied, IsRankFor}
+use Rattle.mm_tables.proofs.Keeping.{any_count, any_put, alike_same, area_more, area_now, area_settled, area_used, nothing_settles, section_more, section_now, section_settled, settle_as, settle_by}
 use Rattle.mm_tables.proofs.Lists.{area_in, counted, same_some}
-use Rattle.mm_tables.proofs.SectionTidy.{alike_same, area_more, area_now, area_settled, area_used, nothing_settles, section_more, section_now, section_settled, settle_as, settle_by}
+use Rattle.mm_types.specs.{Key, Place, View, Area}
+use Rattle.mm_types.specs.declared.numbers.Key.TheVariants as key
+use Rattle.mm_types.specs.declared.views.Kind.TheVariants as kind
+use Rattle.mm_pages.specs.{StoreOf, or_else, last_rank, handle_rank, view_rank, section_rank, rank_behind, goes_with}
+use Rattle.mm_tables.proofs.Rows.{has, regions_in, region_key, key_in_has, key_at_is}
+use Rattle.mm_tables.proofs.SectionFits.{IsOld, fits_area, no_block, with_area_of}
 
 -- ---- lists
 
@@ -142,7 +148,7 @@ module _ {B : Type 0} where
         by_file (Some first) e = ap (λ (f : Option ℕ). is_some f || list_any (uses s.area) (set t.sections m None)) e ∙ sym (ap is_some e)
 
     used_same : (n : ℕ) (o : Option SectionOf) → uses n o ≡ uses n (Some s) → list_any (uses n) (set t.sections m o) ≡ list_any (uses n) t.sections
-    used_same n o e = any_set (uses n) t.sections m s o there e
+    used_same n o e = any_put (uses n) t.sections m s o there e
 
     areas_by : (o : Option SectionOf) → ((x : SectionOf) → o ≡ Some x → x.area ≡ s.area) → (k : ℕ) → settled_area (set t.sections m o) k (area_at t k) ≡ area_in (cond (is_some o) t.areas (set t.areas s.area (ended_area (area_at t s.area)))) k
     areas_by None same k =
@@ -292,3 +298,280 @@ module _ {B : Type 0} where
 
   pub area_sum : (areas : List (AreaOf B)) (i : ℕ) (a b : AreaOf B) → slice_get areas i ≡ Some a → sum_by area_charge (set areas i b) + area_charge a ≡ sum_by area_charge areas + area_charge b
   area_sum areas i a b at = sum_by-put area_charge areas i a b at
+
+-- ---- what is kept of bytes
+
+pub less_then : (a b c : Key → Option Page) → Less a b → Less b c → Less a c
+less_then a b c h k x e = k x e ∙ h x (sym (ap is_some (k x e)) ∙ e)
+
+pub beside_then : (a b c : StoreOf) → b ≡ store_beside a b → c ≡ store_beside b c → c ≡ store_beside a c
+beside_then a b c e f = f ∙ ap (λ (x : StoreOf). store_beside x c) e
+
+carried_less : (old new : Option Page) → (is_some new ≡ true → new ≡ old) → Carried old new
+carried_less None None h = refl
+carried_less (Some x) None h = refl
+carried_less None (Some y) h = let bad : Some y ≡ None = h refl in cc
+carried_less (Some x) (Some y) h = let both : Some y ≡ Some x = h refl in let same : y ≡ x = cc in same
+
+pub carries_less : (c d : Key → Option Page) → Less c d → CarriesPages c d
+carries_less c d h = record { at = λ k. carried_less (c k) (d k) (h k) }
+
+-- ---- regions of a pid
+
+module _ {B : Type 0} (w : WorldOf B) (pid : ℕ) where
+  pub process_same : (p : ProcessOf B) (q : Option (ProcessOf B)) → process_of w pid ≡ Some p → process_of (set_process w pid q) pid ≡ q
+  process_same p q e = get_or-set_same w.processes pid q None (numbered_inside w.processes pid p e)
+
+  -- one process is another: what holds of it, and of all that stay, holds of each
+  pub at_each : (p : ProcessOf B) (q : Option (ProcessOf B)) → process_of w pid ≡ Some p → (P : ℕ → Option (ProcessOf B) → Option (ProcessOf B) → Type 0) → P pid (Some p) q → ((n : ℕ) (o : Option (ProcessOf B)) → n ≢ pid → P n o o) → (n : ℕ) → P n (process_of w n) (process_of (set_process w pid q) n)
+  at_each p q lives P here there n =
+      elim (same_or_not n pid) [
+        | inl e ↦
+            subst (λ (k : ℕ). P k (process_of w k) (process_of (set_process w pid q) k)) (sym e)
+            (subst (λ (o : Option (ProcessOf B)). P pid o (process_of (set_process w pid q) pid)) (sym lives) (subst (P pid (Some p)) (sym (process_same p q lives)) here))
+        | inr other ↦ subst (P n (process_of w n)) (sym (get_or-set_other w.processes pid n q None other)) (there n (process_of w n) other)
+      ]
+
+pub key_is : (t : Tables) (place : Place) → key_at t place ≡ has (region_key t place.pid.0 place.vpn.0) (regions_in t place.pid.0) place.vpn.0
+key_is t place = key_at_is t place ∙ key_in_has t place.pid.0 (regions_in t place.pid.0) place.vpn.0
+
+-- ---- an area that ends, of which no view is left
+
+module _ (t : Tables) (name : Area) (c d : Key → Option Page) (s z : StoreOf) (inside : name.0 < length t.areas) (paging : (area_at t name.0).file_block ≡ None) (unseen : (pid i : ℕ) (p : ProcessOf (Unit {0})) (r : RegionOf (Unit {0})) (x : View) → process_of t pid ≡ Some p → slice_get p.regions i ≡ Some r → r.kind ≡ kind.View x → x.area.0 ≢ name.0) (e : Emptied name (area_at t name.0) c d s z) where
+  its : (k : Area) → k.0 ≡ name.0 → (k.0 == name.0) ≡ true
+  its k same = (unsigned_Decides k.0 name.0).1 same
+
+  not_its : (k : Key) → IsOld name.0 k → is_key_of_area name.0 k ≡ false
+  not_its (key.Private pid page) old = refl
+  not_its (key.Shared a i) old = not_true (a.0 == name.0) (λ e. old ((unsigned_Decides a.0 name.0).0 e))
+
+  stands : (q : ℕ) → q ≢ name.0 → area_at (record t { areas = set t.areas name.0 no_area }) q ≡ area_at t q
+  stands q other = ap (λ o. unwrap_or o no_area) (get_set_other t.areas name.0 q no_area other)
+
+  pub fits_ended : FitsTables t c s → FitsTables (record t { areas = set t.areas name.0 no_area }) d z
+  fits_ended f =
+      let freed : sum_by area_charge (set t.areas name.0 no_area) + area_charge (area_at t name.0) ≡ sum_by area_charge t.areas =
+      omega (arith, area_sum t.areas name.0 (area_at t name.0) no_area (some_get t.areas name.0 no_area inside)) in
+      fits_area t (set t.areas name.0 no_area) name.0 no_area t.blocks_used c d s z (record {
+        here = ap (λ o. unwrap_or o no_area) (get_set_same t.areas name.0 no_area inside);
+        before = stands;
+        stays = λ q j p r x i lives there is some. ap (λ (b : AreaOf (Unit {0})). is_some (numbered b.pages i)) (stands x.area.0 (unseen q j p r x lives there is)) ∙ some;
+        live_new = λ k i same. ap (λ (d : Key → Option Page). is_some (d (key.Shared k i))) e.contents ∙ ap (λ b. is_some (cond b None (c (key.Shared k i)))) (its k same);
+        live_old = λ k old. ap (λ (d : Key → Option Page). is_some (d k)) e.contents ∙ ap (λ b. is_some (cond b None (c k))) (not_its k old);
+        paging_new = λ k i same. ap (λ (x : StoreOf). x.paging (key.Shared k i)) e.store ∙ ap (λ b. cond b false (s.paging (key.Shared k i))) (its k same);
+        paging_old = λ k old. ap (λ (x : StoreOf). x.paging k) e.store ∙ ap (λ b. cond b false (s.paging k)) (not_its k old);
+        block_new = λ k i same.
+            ap (λ (x : StoreOf). x.block_of (key.Shared k i)) e.store ∙ f.blocks (key.Shared k i)
+            ∙ no_block (is_some (shared_page t k.0 i)) i (area_at t k.0).file_block (ap (λ (n : ℕ). (area_at t n).file_block) same ∙ paging);
+        block_old = λ k old. ap (λ (x : StoreOf). x.block_of k) e.store;
+        areas_new = ap (λ (x : StoreOf). x.areas name.0) e.store ∙ ap (λ b. cond b None (s.areas name.0)) ((unsigned_Decides name.0 name.0).1 refl);
+        areas_old = λ q other. ap (λ (x : StoreOf). x.areas q) e.store ∙ ap (λ b. cond b None (s.areas q)) (not_true (q == name.0) (λ e. other ((unsigned_Decides q name.0).0 e)));
+        counted = omega (arith, ap (λ (x : StoreOf). x.paging_keys) e.store, f.counted, freed, paging_charge (area_at t name.0) paging);
+        room = omega (arith, ap (λ (x : StoreOf). x.room) e.store, f.room, freed);
+        blocks_used = ap (λ (x : StoreOf). x.blocks_used) e.store ∙ f.used;
+        rest = e.store ∙ ap (with_area_of s) (sym e.store);
+        stored = ap (λ (x : StoreOf). length x.file_blocks) e.store;
+        named_file = ap (λ (x : StoreOf). length x.file_device.named) e.store;
+      }) f
+
+-- ---- a place that has the key of a section's page lies in a view of its area
+
+of_home : (pid page : ℕ) (area : Area) (i : ℕ) (b : Unit {0}) (h : Home (Unit {0})) → h ≡ Own b → key_of {B = Unit {0}} pid page h ≡ key.Shared area i → ⊥
+of_home pid page area i b h own e = let bad : key_of {B = Unit {0}} pid page (Own b) ≡ key.Shared area i = ap (key_of {B = Unit {0}} pid page) (sym own) ∙ e in absurd (cc)
+
+pub seen_by : (t : Tables) (place : Place) (area : Area) (i : ℕ) → ((pid j : ℕ) (p : ProcessOf (Unit {0})) (r : RegionOf (Unit {0})) (x : View) → process_of t pid ≡ Some p → slice_get p.regions j ≡ Some r → r.kind ≡ kind.View x → x.area.0 ≢ area.0) → key_at t place ≡ Some (key.Shared area i) → ⊥
+seen_by t place area i unseen e = by_process (process_of t place.pid.0) refl e
+  where
+    by_committed : (p : ProcessOf (Unit {0})) → process_of t place.pid.0 ≡ Some p → (o : Option (Committed (Unit {0}))) → committed_at t p.regions place.vpn.0 ≡ o → option_map (λ (c : Committed (Unit {0})). key_of place.pid.0 place.vpn.0 c.home) o ≡ Some (key.Shared area i) → ⊥
+    by_committed p lives None at e = cc
+    by_committed p lives (Some c) at e =
+        let h = committed_is t p.regions place.vpn.0 c at in
+        let is_key : key_of {B = Unit {0}} place.pid.0 place.vpn.0 c.home ≡ key.Shared area i = cc in
+        elim (home_cases t (place.vpn.0 - c.region.thing.base) c.region.thing.kind c.row.own c.home h.home_there) [
+          | IsOwn bytes own home ↦ of_home place.pid.0 place.vpn.0 area i bytes c.home home is_key
+          | IsShared v page is own there home ↦
+              (let both : key_of {B = Unit {0}} place.pid.0 place.vpn.0 (InSection v.area.0 (v.first + (place.vpn.0 - c.region.thing.base))) ≡ key.Shared area i = ap (key_of {B = Unit {0}} place.pid.0 place.vpn.0) (sym home) ∙ is_key in
+              let same_area : v.area.0 ≡ area.0 = cc in
+              unseen place.pid.0 c.region.place p c.region.thing v lives (found_stands _ p.regions c.region h.region).there is same_area)
+        ]
+
+    by_process : (o : Option (ProcessOf (Unit {0}))) → process_of t place.pid.0 ≡ o → option_and_then (λ (p : ProcessOf (Unit {0})). option_map (λ (c : Committed (Unit {0})). key_of place.pid.0 place.vpn.0 c.home) (committed_at t p.regions place.vpn.0)) o ≡ Some (key.Shared area i) → ⊥
+    by_process None lives e = cc
+    by_process (Some p) lives e = by_committed p lives (committed_at t p.regions place.vpn.0) refl e
+
+-- ---- the last of a list
+
+or_zero : (n m : ℕ) → or_else n m ≡ 0 → (n ≡ 0) × (m ≡ 0)
+or_zero zero m e = (refl, e)
+or_zero (suc n) m e = absurd (omega (arith, e))
+
+or_some : (n m : ℕ) → 1 ≤ n → or_else n m ≡ n
+or_some zero m h = absurd (omega (arith, h))
+or_some (suc n) m h = refl
+
+none_ranked : {A : Type 0} (test : A → Bool) (rank : ℕ → A → ℕ) (k : ℕ) (xs : List A) → count_by test xs ≡ 0 → last_rank test rank k xs ≡ 0
+none_ranked test rank k [] e = refl
+none_ranked test rank k (x ∷ xs) e = at (none_ranked test rank (k + 1) xs) (test x) (sum_by-cons (λ x. cond (test x) 1 0) x xs)
+  where
+    at : (count_by test xs ≡ 0 → last_rank test rank (k + 1) xs ≡ 0) → (b : Bool) → count_by test (x ∷ xs) ≡ cond b 1 0 + count_by test xs → or_else (last_rank test rank (k + 1) xs) (cond b (rank k x) 0) ≡ 0
+    at later true c = absurd (omega (arith, c, e))
+    at later false c = ap (λ n. or_else n 0) (later (omega (arith, c, e)))
+
+-- ---- handles
+
+abbrev handle_from : ℕ → ℕ → Numbered ℕ → ℕ
+handle_from n k hs = last_rank (is_handle_to n) (λ place h. place + 1) k hs
+
+-- the only handle that is left
+closed_ranked : (n k i : ℕ) (hs : Numbered ℕ) → numbered hs i ≡ Some n → handle_from n k (set hs i None) ≡ 0 → handle_from n k hs ≡ k + i + 1
+closed_ranked n k i [] at none = cc
+closed_ranked n k zero (x ∷ xs) at none =
+    let rest = (or_zero (handle_from n (k + 1) xs) 0 none).0 in
+    let itself : is_handle_to n x ≡ true = ap (is_handle_to n) at ∙ (unsigned_Decides n n).1 refl in
+    let here : k + 1 ≡ k + 0 + 1 = omega arith in
+    (λ j. or_else (rest j) (cond (itself j) (k + 1) 0)) ∙ here
+closed_ranked n k (suc i) (x ∷ xs) at none =
+    let parts = or_zero (handle_from n (k + 1) (set xs i None)) (cond (is_handle_to n x) (k + 1) 0) none in
+    let later = closed_ranked n (k + 1) i xs at parts.0 in
+    let some : 1 ≤ handle_from n (k + 1) xs = omega (arith, later) in
+    let there : k + 1 + i + 1 ≡ k + suc i + 1 = omega arith in
+    or_some (handle_from n (k + 1) xs) (cond (is_handle_to n x) (k + 1) 0) some ∙ later ∙ there
+
+-- the last handle stays the last where the lowest is closed
+closed_later : (n k i : ℕ) (hs : Numbered ℕ) → ((j : ℕ) → j < i → numbered hs j ≡ None) → 1 ≤ handle_from n k (set hs i None) → handle_from n k hs ≡ handle_from n k (set hs i None)
+closed_later n k i [] low some = refl
+closed_later n k zero (x ∷ xs) low some = at (handle_from n (k + 1) xs) (cond (is_handle_to n x) (k + 1) 0) some
+  where
+    at : (m o : ℕ) → 1 ≤ or_else m 0 → or_else m o ≡ or_else m 0
+    at zero o h = absurd (omega (arith, h))
+    at (suc m) o h = refl
+closed_later n k (suc i) (x ∷ xs) low some =
+    let none : x ≡ None = low 0 (omega arith) in
+    let closed : is_handle_to n x ≡ false = ap (is_handle_to n) none in
+    at (handle_from n (k + 1) (set xs i None)) (handle_from n (k + 1) xs) (is_handle_to n x) closed
+    (λ h. closed_later n (k + 1) i xs (λ j less. low (suc j) (omega (arith, less))) h) some
+  where
+    at : (m l : ℕ) (b : Bool) → b ≡ false → (1 ≤ m → l ≡ m) → 1 ≤ or_else m (cond b (k + 1) 0) → or_else l (cond b (k + 1) 0) ≡ or_else m (cond b (k + 1) 0)
+    at zero l true e f h = cc
+    at zero l false e f h = absurd (omega (arith, h))
+    at (suc m) l b e f h = ap (λ l. or_else l (cond b (k + 1) 0)) (f (omega arith))
+
+-- ---- views
+
+abbrev view_from : ℕ → ℕ → List (RegionOf (Unit {0})) → ℕ
+view_from n k rs = last_rank (λ r. is_view_of n r.kind) (λ place r. rank_behind r) k rs
+
+anywhere : (n k m : ℕ) (rs : List (RegionOf (Unit {0}))) → view_from n k rs ≡ view_from n m rs
+anywhere n k m [] = refl
+anywhere n k m (r ∷ rs) = ap (λ l. or_else l (cond (is_view_of n r.kind) (rank_behind r) 0)) (anywhere n (k + 1) (m + 1) rs)
+
+-- the only view that is left
+removed_ranked : (n k i : ℕ) (rs : List (RegionOf (Unit {0}))) (r : RegionOf (Unit {0})) → slice_get rs i ≡ Some r → is_view_of n r.kind ≡ true → view_from n k (remove rs i) ≡ 0 → view_from n k rs ≡ rank_behind r
+removed_ranked n k i [] r at is none = cc
+removed_ranked n k zero (x ∷ rs) r at is none =
+    let rest : view_from n (k + 1) rs ≡ 0 = anywhere n (k + 1) k rs ∙ none in
+    let same : x ≡ r = cc in
+    (λ j. or_else (rest j) (cond (is_view_of n (same j).kind) (rank_behind (same j)) 0)) ∙ ap (λ b. cond b (rank_behind r) 0) is
+removed_ranked n k (suc i) (x ∷ rs) r at is none =
+    let parts = or_zero (view_from n (k + 1) (remove rs i)) (cond (is_view_of n x.kind) (rank_behind x) 0) none in
+    let later = removed_ranked n (k + 1) i rs r at is parts.0 in
+    let some : 1 ≤ view_from n (k + 1) rs = omega (arith, later) in
+    or_some (view_from n (k + 1) rs) (cond (is_view_of n x.kind) (rank_behind x) 0) some ∙ later
+
+-- the last view stays the last where the lowest region is dropped
+lowest_later : (n k : ℕ) (rs : List (RegionOf (Unit {0}))) → 1 ≤ view_from n k (remove rs 0) → view_from n k rs ≡ view_from n k (remove rs 0)
+lowest_later n k [] some = refl
+lowest_later n k (x ∷ rs) some =
+    let same : view_from n (k + 1) rs ≡ view_from n k rs = anywhere n (k + 1) k rs in
+    or_some (view_from n (k + 1) rs) (cond (is_view_of n x.kind) (rank_behind x) 0) (omega (arith, some, same)) ∙ same
+
+-- ---- of a process
+
+-- where a process has no handle and no view left, the handle that was closed was the last
+pub closed_rank : (n i : ℕ) (p : ProcessOf (Unit {0})) → numbered p.handles i ≡ Some n → handles_in n (Some (record p { handles = set p.handles i None })) ≡ 0 → views_in n (Some p) ≡ 0 → section_rank n (Some p) ≡ i + 1
+closed_rank n i p at handles views =
+    let unseen = none_ranked (λ r. is_view_of n r.kind) (λ place r. rank_behind r) 0 p.regions views in
+    let held = closed_ranked n 0 i p.handles at (none_ranked (is_handle_to n) (λ place h. place + 1) 0 (set p.handles i None) handles) in
+    let here : 0 + i + 1 ≡ i + 1 = omega arith in
+    ap (λ v. or_else v (handle_rank n p.handles)) unseen ∙ held ∙ here
+
+pub removed_rank : (n i : ℕ) (p : ProcessOf (Unit {0})) (r : RegionOf (Unit {0})) → slice_get p.regions i ≡ Some r → is_view_of n r.kind ≡ true → views_in n (Some (record p { regions = remove p.regions i })) ≡ 0 → section_rank n (Some p) ≡ rank_behind r
+removed_rank n i p r at is views =
+    let last = removed_ranked n 0 i p.regions r at is (none_ranked (λ r. is_view_of n r.kind) (λ place r. rank_behind r) 0 (remove p.regions i) views) in
+    or_some (view_rank n p.regions) (handle_rank n p.handles) (omega (arith, last)) ∙ last
+
+-- the rest of a process goes as before
+abbrev pub Ranked : ProcessOf (Unit {0}) → ProcessOf (Unit {0}) → Type 0
+Ranked p q = (n : ℕ) → 1 ≤ section_rank n (Some q) → section_rank n (Some p) ≡ section_rank n (Some q)
+
+pub ranked_closed : (p : ProcessOf (Unit {0})) (i : ℕ) → ((j : ℕ) → j < i → numbered p.handles j ≡ None) → Ranked p (record p { handles = set p.handles i None })
+ranked_closed p i low n some = at (view_rank n p.regions) (handle_rank n p.handles) (handle_rank n (set p.handles i None)) (closed_later n 0 i p.handles low) some
+  where
+    at : (v h l : ℕ) → (1 ≤ l → h ≡ l) → 1 ≤ or_else v l → or_else v h ≡ or_else v l
+    at zero h l f some = f some
+    at (suc v) h l f some = refl
+
+no_handle_ranked : (n k : ℕ) (hs : Numbered ℕ) → ((j : ℕ) → numbered hs j ≡ None) → handle_from n k hs ≡ 0
+no_handle_ranked n k [] none = refl
+no_handle_ranked n k (x ∷ hs) none =
+    let here : is_handle_to n x ≡ false = ap (is_handle_to n) (none 0) in
+    let rest = no_handle_ranked n (k + 1) hs (λ j. none (suc j)) in
+    λ j. or_else (rest j) (cond (here j) (k + 1) 0)
+
+pub ranked_removed : (p : ProcessOf (Unit {0})) → ((j : ℕ) → numbered p.handles j ≡ None) → Ranked p (record p { regions = remove p.regions 0 })
+ranked_removed p none n some =
+    at (view_rank n p.regions) (view_rank n (remove p.regions 0)) (handle_rank n p.handles) (no_handle_ranked n 0 p.handles none) (lowest_later n 0 p.regions) some
+  where
+    at : (v w h : ℕ) → h ≡ 0 → (1 ≤ w → v ≡ w) → 1 ≤ or_else w h → or_else v h ≡ or_else w h
+    at v zero h e f some = absurd (omega (arith, e, some))
+    at v (suc w) h e f some = ap (λ v. or_else v h) (f (omega arith))
+
+-- ---- in tables
+
+file_stays : (a : AreaOf (Unit {0})) (b c : Bool) → is_some a.file_block ≡ b → (cond (b || c) a no_area).file_block ≡ None → a.file_block ≡ None
+file_stays a true c e h = h
+file_stays a false c e h = none_of a.file_block e
+
+-- what goes with the rest of a process goes as before, once what nothing refers to is gone
+pub for_settled : (rank : ℕ → ℕ) (pid : ℕ) (t v : Tables) (p q : ProcessOf (Unit {0})) → process_of t pid ≡ Some p → v ≡ settle (set_process t pid (Some q)) → Ranked p q → IsRankFor rank pid t → IsRankFor rank pid v
+for_settled rank pid t v p q lives is ranked for =
+    subst (λ (w : Tables). IsRankFor rank pid w) (sym is) (λ n s there paging some.
+    let u = set_process t pid (Some q) in
+    let now : process_of u pid ≡ Some q = process_same t pid p (Some q) lives in
+    let x = stood u.processes t.sections n s there in
+    let area : area_at (settle u) s.area ≡ settled_area (settle u).sections s.area (area_at t s.area) = area_now (settle u).sections t.areas s.area in
+    let file = file_stays (area_at t s.area) (is_some (area_at t s.area).file_block) _ refl (sym (ap (λ (a : AreaOf (Unit {0})). a.file_block) area) ∙ paging) in
+    let mine : 1 ≤ section_rank n (Some q) = subst (λ (o : Option (ProcessOf (Unit {0}))). 1 ≤ section_rank n o) now some in
+    let more : 1 ≤ section_rank n (process_of t pid) = subst (λ (o : Option (ProcessOf (Unit {0}))). 1 ≤ section_rank n o) (sym lives) (subst (λ (m : ℕ). 1 ≤ m) (sym (ranked n mine)) mine) in
+    ap rank x.2 ∙ for n x.0 x.1 (ap (λ (a : ℕ). (area_at t a).file_block) (sym x.2) ∙ file) more
+    ∙ ap (section_rank n) lives ∙ ranked n mine ∙ ap (section_rank n) (sym now))
+
+pub for_set : (rank : ℕ → ℕ) (pid : ℕ) (t v : Tables) (p q : ProcessOf (Unit {0})) → process_of t pid ≡ Some p → v ≡ set_process t pid (Some q) → Ranked p q → IsRankFor rank pid t → IsRankFor rank pid v
+for_set rank pid t v p q lives is ranked for =
+    subst (λ (w : Tables). IsRankFor rank pid w) (sym is) (λ n s there paging some.
+    let now : process_of (set_process t pid (Some q)) pid ≡ Some q = process_same t pid p (Some q) lives in
+    let mine : 1 ≤ section_rank n (Some q) = subst (λ (o : Option (ProcessOf (Unit {0}))). 1 ≤ section_rank n o) now some in
+    let more : 1 ≤ section_rank n (process_of t pid) = subst (λ (o : Option (ProcessOf (Unit {0}))). 1 ≤ section_rank n o) (sym lives) (subst (λ (m : ℕ). 1 ≤ m) (sym (ranked n mine)) mine) in
+    for n s there paging more ∙ ap (section_rank n) lives ∙ ranked n mine ∙ ap (section_rank n) (sym now))
+
+-- a page-file section has its area alone
+first_use : (t : Tables) (n : ℕ) (s : SectionOf) → IsTidy t → section_of t n ≡ Some s → (area_at t s.area).file_block ≡ None → position (uses s.area) t.sections ≡ Some n
+first_use t n s tidy lives paging =
+    let at = position_or_len (uses s.area) t.sections in
+    let inside = numbered_inside t.sections n s lives in
+    let mine : uses s.area (numbered t.sections n) ≡ true = ap (uses s.area) lives ∙ (unsigned_Decides s.area s.area).1 refl in
+    elim (nat_lt at (length t.sections)) as (λ b. nat_lt at (length t.sections) ≡ b → cond b (Some at) None ≡ Some n) [
+      | true ↦ λ e. (
+          let first = passes_at_first (uses s.area) t.sections None (ltb-true at (length t.sections) e) in
+          ap (λ (m : ℕ). Some m) (sym (same (numbered t.sections at) refl first)))
+      | false ↦ λ e. (
+          let past = ltb-false at (length t.sections) e in
+          let bad : true ≡ false = sym mine ∙ fails_before_first (uses s.area) t.sections n None (omega (arith, inside, past)) in cc)
+    ] refl
+  where
+    same : (o : Option SectionOf) → numbered t.sections (position_or_len (uses s.area) t.sections) ≡ o → uses s.area o ≡ true → n ≡ position_or_len (uses s.area) t.sections
+    same None e u = cc
+    same (Some r) e u = tidy.own_area n (position_or_len (uses s.area) t.sections) s r lives e (sym ((unsigned_Decides r.area s.area).0 u)) paging
+
+pub for_own : (t : Tables) (pid : ℕ) → IsTidy t → IsRankFor (goes_with t pid) pid t
+for_own t pid tidy n s lives paging some = ap (λ (o : Option ℕ). unwrap_or (option_map (λ n. section_rank n (process_of t pid)) o) 0) (first_use t n s tidy lives paging)

@@ -1,6 +1,6 @@
--- One reference less: what is left of the tables, and of a store that holds what they say.
-use Rattle.std.proofs.Common.{◌≡◌, ◌≢◌, inl, inr, ℕ, ◌+◌, ◌-◌, ◌≤◌, ◌<◌, Bool, true, false, Option, Some, None, List, refl, sym, ◌∙◌, ap, subst, cond, arith, length, set, slice_get, is_some, not, ◌&&◌, nat_lt, option_map, sum_by, get_or, length-set}
-use Rattle.std.specs.Prelude.{◌==◌}
+-- One reference less: a handle is closed, a view unmapped, and what is left of tables and store.
+use Rattle.std.proofs.Common.{◌≡◌, ◌≢◌, inl, inr, ℕ, ◌+◌, ◌-◌, ◌≤◌, ◌<◌, Bool, true, false, Option, Some, None, List, refl, sym, ◌∙◌, ap, subst, cond, arith, length, set, slice_get, is_some, not, ◌&&◌, nat_lt, option_map, sum_by, get_or, length-set, zero, suc, [], ◌∷◌, count_by}
+use Rattle.std.specs.Prelude.{◌==◌, ◌/◌, ◌%◌, IsSomeAnd, option_and_then, remove}
 use Rattle.std.specs.List.{list_any}
 use Rattle.std.specs.Cmp.{unsigned_Decides}
 use Rattle.std.proofs.lemmas.Bool.{ltb-false}
@@ -8,27 +8,32 @@ use Rattle.std.proofs.lemmas.List.{get_or-set_same, get_or-set_other, map-set, s
 use Rattle.std.proofs.lemmas.List.Folds.{list_any_at}
 use Rattle.std.proofs.lemmas.Option.{get_or_from_slice_get, unwrap_or-slice_get}
 use Rattle.std.proofs.Math.ListN.{get_or-map}
-use Rattle.mm_types.specs.{Area, Key, View, Place}
+use Rattle.mm_types.specs.{Area, Key, View, Place, Pid, Kind, Range, end_of, end_of_user_pages}
 use Rattle.mm_types.specs.declared.numbers.Key.TheVariants as key
 use Rattle.mm_types.specs.declared.views.Kind.TheVariants as kind
-use Rattle.mm_types.proofs.{same_or_not, get_within, not_true, and_true, some_get, some_map}
+use Rattle.mm_types.proofs.{same_or_not, get_within, not_true, and_true, some_get, some_map, some_found, same_found}
 use Rattle.mm_world.specs.{Page, ProcessOf, RegionOf, AreaOf, SectionOf, Numbered, numbered, process_of, section_of, set_process, area_at, no_area}
-use Rattle.mm_world.specs.{charge, area_charge, holds, views, is_view_of, settle, settled_section, Tables, ViewFits}
+use Rattle.mm_world.specs.{charge, area_charge, holds, views, is_view_of, settle, settled_section, Tables, ViewFits, Found, handle_section, RowOf}
+use Rattle.mm_world.specs.{pages_of, region_around, set_regions, is_charged, region_charge, view_at}
 use Rattle.mm_world.specs.WellFormed.{WellFormed}
-use Rattle.mm_world.proofs.{each-at, numbered_inside}
-use Rattle.mm_pages.specs.{StoreOf, IsReleasing, section_rank}
+use Rattle.mm_world.proofs.{each-at, numbered_inside, charge-same_regions, charge-settle, Then, Nothing, HandleGoes, Settles, charge-remove_region}
+use Rattle.mm_world.proofs.{found_stands, RegionGoes}
+use Rattle.mm_pages.specs.{StoreOf, IsReleasing, section_rank, page_rank, Ghosts as PagesGhosts}
 use Rattle.mm_commit.specs.{CommitOf}
-use Rattle.mm_sections.specs.{CountedSection, DirectoryOf, section_in, sections_of, section_settled}
+use Rattle.mm_sections.specs.{CountedSection, DirectoryOf, section_in, sections_of, section_settled, one_handle_less, held, one_view_less}
 use Rattle.mm_tables.specs.{handles_in, views_in, handles_to, views_of, IsCounted, AreKeptTables, FitsTables, Settled, store_beside, paging_count}
-use Rattle.mm_tables.specs.{Less, is_key_of_area, ended_area, CanEnd, Emptied, IsRankFor, EndsArea, Process, shown_process, shown_processes}
-use Rattle.mm_tables.specs.{shown_accesses, tables_with}
+use Rattle.mm_tables.specs.{LosesReference, Less, is_key_of_area, ended_area, CanEnd, Emptied, IsRankFor, EndsArea, Process, shown_process}
+use Rattle.mm_tables.specs.{shown_processes, shown_accesses, tables_with, passing, is_page_live, CanRelease, GivenUp, CanLose}
 use Rattle.mm_tables.specs.declared.tables.Tables.TheInside.{Inside}
-use Rattle.mm_tables.proofs.Keeping.{lives_put}
-use Rattle.mm_tables.proofs.Standing.{shown_set, shown_with}
-use Rattle.mm_tables.proofs.EndingSettles.{holds_count, views_count, handles_put, views_put, ended_charge, area_sum, any_numbered, settle_put, tidy_settled}
-use Rattle.mm_tables.proofs.EndingFits.{seen_by, at_each, carries_less, less_then, beside_then, regions_of, fits_ended}
-use Rattle.mm_tables.proofs.EndingPages.{gone_same}
+use Rattle.mm_tables.proofs.Keeping.{lives_put, shown_set, shown_with, Held, sound_by}
+use Rattle.mm_tables.proofs.EndingSettles.{holds_count, views_count, handles_put, views_put, ended_charge, area_sum, any_numbered, settle_put, tidy_settled, seen_by, at_each, carries_less, less_then, beside_then, fits_ended, closed_count, closed_rank, removed_views, removed_rank}
+use Rattle.mm_tables.proofs.PageByPage.{gone_same, given_less}
 use Rattle.mm_tables.proofs.SectionFits.{fits_processes, with_open_of}
+use Rattle.mm_tables.proofs.Rows.{paging-set_process, in_range, regions_of}
+use Rattle.mm_types.specs.declared.moves.LineKind.TheVariants as line_kind
+use Rattle.mm_world.proofs.Edits.{Regions}
+use Rattle.mm_spaces.specs.{rows_of, marked_in, found_info, RegionInfo}
+use Rattle.mm_tables.proofs.Settled.{can_release, region_gone, ends, is_around, around_is, whole_inside, whole_range, some_pages}
 
 -- ---- counted sections
 
@@ -43,13 +48,6 @@ settled_counts c x e = by_tests (nat_lt 0 c.handles) (nat_lt 0 c.views) e
 settled_section_is : (c : CountedSection) (a b : Bool) → option_map section_in (cond a (Some c) (cond b (Some (record c { section = record (c.section) { name = None } })) None)) ≡ cond a (Some c.section) (cond b (Some (record (c.section) { name = None })) None)
 settled_section_is c false true = refl
 settled_section_is c _ _ = refl
-
-ended_bits : (c : CountedSection) → is_some (section_settled c) ≡ false → nat_lt 0 c.views ≡ false
-ended_bits c e = by_tests (nat_lt 0 c.handles) (nat_lt 0 c.views) e
-  where
-    by_tests : (a b : Bool) → is_some (cond a (Some c) (cond b (Some (record c { section = record (c.section) { name = None } })) None)) ≡ false → b ≡ false
-    by_tests false false e = refl
-    by_tests _ _ e = cc
 
 ended_counts : (c : CountedSection) → is_some (section_settled c) ≡ false → (c.handles ≡ 0) × (c.views ≡ 0)
 ended_counts c e = by_tests (nat_lt 0 c.handles) (nat_lt 0 c.views) refl refl e
@@ -252,7 +250,7 @@ module _ {t : Tables} {pid : ℕ} {p q : ProcessOf (Unit {0})} {m : ℕ} {old no
       let seen_now : list_any (views m) u.processes ≡ true =
       any_numbered (views m) u.processes n x alive (list_any_at (λ (r : RegionOf (Unit {0})). is_view_of m r.kind) x.regions i r (get_within x.regions i r at)
       (ap (λ (r : RegionOf (Unit {0})). is_view_of m r.kind) (get_or_from_slice_get x.regions i r r at) ∙ ap (is_view_of m) is ∙ (unsigned_Decides v.section.0 m).1 number)) in
-      let bad : true ≡ false = sym seen_now ∙ views_count u m ∙ ap (nat_lt 0) (sym views_now) ∙ ended_bits now ended in
+      let bad : true ≡ false = sym seen_now ∙ views_count u m ∙ ap (nat_lt 0) (sym views_now) ∙ ap (nat_lt 0) (ended_counts now ended).1 in
       cc
 
   pub can_end : (name : Area) (c1 : Key → Option Page) (s1 : StoreOf) → name.0 ≡ area → is_some (section_settled now) ≡ false → a.file_block ≡ None → FitsTables u c1 s1 → IsReleasing s1.kind → CanEnd name a c1 s1
@@ -376,8 +374,8 @@ module _ {i : Inside} {t : Tables} {pid : ℕ} {q : ProcessOf (Unit {0})} {y : O
     areas_are : i.areas.items ≡ t.areas
     areas_are = ap (λ (t : Tables). t.areas) w.view
 
-    pub whole_inside : n.0 < length i.areas.items
-    whole_inside = omega (arith, end.1, inside w.one, ap (λ (areas : List (AreaOf (Unit {0}))). length areas) areas_are)
+    pub its_area_inside : n.0 < length i.areas.items
+    its_area_inside = omega (arith, end.1, inside w.one, ap (λ (areas : List (AreaOf (Unit {0}))). length areas) areas_are)
 
     module _ {pages : AreaOf (Unit {0})} (at : pages ≡ get_or i.areas.items n.0 pages) where
       is_area : pages ≡ area_at t its_area
@@ -404,3 +402,319 @@ module _ {i : Inside} {t : Tables} {pid : ℕ} {q : ProcessOf (Unit {0})} {y : O
           (ap (λ (k : CommitOf). k.limit) refunded ∙ w.limited) w.less w.rest w.fits
           (λ first e. file first (ap (λ (a : AreaOf (Unit {0})). a.file_block) is_area ∙ e))
           (λ e. subst (λ (a : AreaOf (Unit {0})). Emptied n a c1 d s1 z) is_area (emptied (ap (λ (a : AreaOf (Unit {0})). a.file_block) is_area ∙ e))))
+
+-- ---- a process that lives in the tables
+
+module _ {i : Inside} {t : Tables} {pid : ℕ} {x : Option Process} (k : Held i t pid x) where
+  -- it has one name only
+  pub by_shown : (P : ProcessOf (Unit {0}) → Type 0) → P k.process → (p : ProcessOf (Unit {0})) → option_map shown_process x ≡ Some p → P p
+  by_shown P at p shown = subst P (same_found (option_map shown_process x) k.process p k.shown shown) at
+
+  pub same_process : (p : ProcessOf (Unit {0})) → process_of t pid ≡ Some p → k.process ≡ p
+  same_process p lives = same_found (process_of t pid) k.process p k.lives lives
+
+  -- the tables with this at its place
+  pub put_process : (y : Option Process) (q : Option (ProcessOf (Unit {0}))) → option_map shown_process y ≡ q → shown_with i (set i.processes.items (pid - 1) y) ≡ set_process t pid q
+  put_process y q shown =
+      (λ j. record (shown_with i i.processes.items) { processes = (shown_set i.processes.items pid y k.low ∙ (λ m. set (shown_processes i.processes.items) pid (shown m))) j })
+      ∙ ap (λ (t : Tables). set_process t pid q) k.view
+
+-- ---- handles
+
+-- the section of a handle that is there
+pub record HasHandle (t : Tables) (p : ProcessOf (Unit {0})) (handle : ℕ) : Type 0 where
+  pub number : ℕ
+  pub is_held : held p.handles handle ≡ Some number
+  pub there : numbered p.handles (handle / 4) ≡ Some number
+  pub section : SectionOf
+  pub lives : section_of t number ≡ Some section
+
+has_handle : (t : Tables) (p : ProcessOf (Unit {0})) (handle : ℕ) → is_some (handle_section t p handle) ≡ true → HasHandle t p handle
+has_handle t p handle e = by_held (held p.handles handle) refl e
+  where
+    there : (b : Bool) (n : ℕ) → cond b (numbered p.handles (handle / 4)) None ≡ Some n → numbered p.handles (handle / 4) ≡ Some n
+    there true n e = e
+    there false n e = cc
+
+    by_held : (o : Option ℕ) → held p.handles handle ≡ o → is_some (option_and_then (λ number. option_map (λ s. let f : Found SectionOf = record { place = number; thing = s } in f) (section_of t number)) o) ≡ true → HasHandle t p handle
+    by_held None h e = cc
+    by_held (Some n) h e =
+        let s = some_found (section_of t n) (sym (some_map (λ (s : SectionOf). let f : Found SectionOf = record { place = n; thing = s } in f) (section_of t n)) ∙ e) in
+        record { number = n; is_held = h; there = there (handle % 4 == 0) n h; section = s.0; lives = s.1 }
+
+-- the entry of a section that lives
+pub has_entry : (entries : Numbered CountedSection) (ss : Numbered SectionOf) (n : ℕ) (s : SectionOf) → sections_of entries ≡ ss → numbered ss n ≡ Some s → (c : CountedSection) × (numbered entries n ≡ Some c)
+has_entry entries ss n s sections there =
+    some_found (numbered entries n) (sym (some_map section_in (numbered entries n)) ∙ ap is_some (sym (get_or-map (option_map section_in) entries n None) ∙ ap (λ (ss : Numbered SectionOf). numbered ss n) sections ∙ there))
+
+-- ---- A handle of a process is closed: what the call's steps are told, and what they come to
+
+abbrev pub closed : {B : Type 0} → ProcessOf B → ℕ → ProcessOf B
+closed p handle = record p { handles = set p.handles (handle / 4) None }
+
+module _ {i : Inside} {t : Tables} {pid : ℕ} {x : Option Process} (k : Held i t pid x) (handle : ℕ) (there : (p : ProcessOf (Unit {0})) → process_of t pid ≡ Some p → is_some (handle_section t p handle) ≡ true) where
+  abbrev after_close : ProcessOf (Unit {0})
+  after_close = closed k.process handle
+
+  h : HasHandle t k.process handle
+  h = has_handle t k.process handle (there k.process k.lives)
+
+  closed_entry : (c : CountedSection) × (numbered i.directory.entries h.number ≡ Some c)
+  closed_entry = has_entry i.directory.entries t.sections h.number h.section (ap (λ (t : Tables). t.sections) k.view) h.lives
+
+  less : (n : ℕ) → handles_in n (Some after_close) + cond (h.number == n) 1 0 ≡ handles_in n (Some k.process)
+  less n = closed_count k.process.handles (handle / 4) n h.number h.there
+
+  one_closed : handles_in h.number (Some after_close) + 1 ≡ handles_in h.number (Some k.process)
+  one_closed = omega (arith, less h.number, ap {B = ℕ} (λ b. cond b 1 0) ((unsigned_Decides h.number h.number).1 refl))
+
+  some_held : 1 ≤ closed_entry.0.handles
+  some_held = omega (arith, (k.kept.counted h.number closed_entry.0 closed_entry.1).handles, handles_put t pid h.number k.process None k.lives, one_closed)
+
+  pub close_held : (p : ProcessOf (Unit {0})) → option_map shown_process x ≡ Some p → is_some (held p.handles handle) ≡ true
+  close_held = by_shown k (λ p. is_some (held p.handles handle) ≡ true) (ap is_some h.is_held)
+
+  pub close_counted : (p : ProcessOf (Unit {0})) (n : ℕ) → option_map shown_process x ≡ Some p → held p.handles handle ≡ Some n → IsSomeAnd (numbered i.directory.entries n) (λ c. 1 ≤ c.handles)
+  close_counted p n shown is_held =
+      let both : Some n ≡ Some h.number = sym is_held ∙ by_shown k (λ p. held p.handles handle ≡ Some h.number) h.is_held p shown in
+      let number : n ≡ h.number = cc in
+      subst (λ (o : Option CountedSection). IsSomeAnd o (λ c. 1 ≤ c.handles)) (sym (ap (numbered i.directory.entries) number ∙ closed_entry.1)) some_held
+
+  same_charge : charge (set_process t pid (Some after_close)) ≡ charge t
+  same_charge = charge-same_regions t pid k.process (set k.process.handles (handle / 4) None) k.lives
+
+  sound : WellFormed (settle (set_process t pid (Some after_close)))
+  sound =
+      let u = set_process t pid (Some after_close) in
+      sound_by t (settle u) (Then u (settle u) (Then t u Nothing (HandleGoes pid k.process (handle / 4) k.lives)) (Settles (λ old new fewer. tt))) (omega (arith, charge-settle u, same_charge, k.kept.sound.charged)) k.kept.sound
+
+  close_one : OneLess t pid k.process after_close h.number closed_entry.0 (one_handle_less closed_entry.0) i.directory.entries i.commit
+  close_one =
+      record {
+        lives = k.lives;
+        kept = k.kept;
+        sections = ap (λ (t : Tables). t.sections) k.view;
+        entry = closed_entry.1;
+        others = λ n other. (omega (arith, less n, ap {B = ℕ} (λ b. cond b 1 0) (not_true (h.number == n) (λ e. other (sym ((unsigned_Decides h.number n).0 e))))), refl);
+        same_section = refl;
+        handles = omega (arith, some_held, one_closed);
+        seen = refl;
+        sub = λ i r at. (i, at);
+        sound = sound;
+      }
+
+  pub close_step : {dir : DirectoryOf} {result : Option Area} {c : Key → Option Page} {s : StoreOf} (y : Option Process) → ((p : ProcessOf (Unit {0})) → option_map shown_process x ≡ Some p → option_map shown_process y ≡ Some (closed p handle))
+      → ((p : ProcessOf (Unit {0})) (n : ℕ) → option_map shown_process x ≡ Some p → held p.handles handle ≡ Some n → LosesReference one_handle_less n i.directory dir result)
+      → FitsTables t c s → Step i t pid after_close y dir result i.commit c c s s (handle / 4 + 1)
+  close_step {dir} {result} {c} {s} y shut loses fits =
+      let lost = loses k.process h.number k.shown h.is_held in
+      record {
+        p = k.process;
+        m = h.number;
+        old = closed_entry.0;
+        now = one_handle_less closed_entry.0;
+        view = k.view;
+        low = k.low;
+        one = close_one;
+        shown = shut k.process k.shown;
+        dir_is = lost.dropped closed_entry.0 closed_entry.1;
+        told = lost.ended closed_entry.0 closed_entry.1;
+        charged = k.kept.charged ∙ sym same_charge;
+        limited = refl;
+        less = λ key some. refl;
+        rest = refl;
+        fits = nothing_lost t pid k.process (Some after_close) k.lives refl same_charge (omega (arith, paging-set_process t pid k.process (Some after_close) k.lives)) c s s refl (λ n. fits.opened n ∙ sym (lives_as t pid k.process (Some after_close) k.lives refl n)) refl refl refl fits;
+        ranked = closed_rank h.number (handle / 4) k.process h.there;
+        early = omega arith;
+      }
+
+  -- by whatever name the process has
+  pub close_named : (p : ProcessOf (Unit {0})) → process_of t pid ≡ Some p → settle (set_process t pid (Some after_close)) ≡ settle (set_process t pid (Some (closed p handle)))
+  close_named p lives = λ j. settle (set_process t pid (Some (closed (same_process k p lives j) handle)))
+
+-- ---- lists
+
+pub removed_from : {B : Type 0} (rs : List (RegionOf B)) (i j : ℕ) (r : RegionOf B) → slice_get (remove rs i) j ≡ Some r → (k : ℕ) × (slice_get rs k ≡ Some r)
+removed_from [] zero j r at = cc
+removed_from [] (suc i) j r at = cc
+removed_from (x ∷ rs) zero j r at = (suc j, at)
+removed_from (x ∷ rs) (suc i) zero r at = (0, at)
+removed_from (x ∷ rs) (suc i) (suc j) r at = let k = removed_from rs i j r at in (suc k.0, k.1)
+
+-- ---- the pages of a region
+
+module _ (t : Tables) (pid : Pid) (p : ProcessOf (Unit {0})) (i : ℕ) (r : RegionOf (Unit {0})) (range : Range) (lives : process_of t pid.0 ≡ Some p) (at : slice_get p.regions i ≡ Some r) (pages : pages_of r ≡ range) (sound : WellFormed t) where
+  some : 1 ≤ range.count
+  some = some_pages t pid.0 p i r range lives sound at pages
+
+  pub all_around : is_some (region_around p.regions range) ≡ true
+  all_around = is_around t pid.0 p i r range lives sound at (whole_inside r range pages) some
+
+  -- what the commit charge has of a view
+  pub marked_charge : (v : View) → r.kind ≡ kind.View v → marked_in p.regions range ≡ region_charge r
+  marked_charge v is =
+      ap (λ o. count_by (λ (row : RowOf (Unit {0})). row.marked) (rows_of range o)) (around_is t pid.0 p i r range lives sound at (whole_inside r range pages) some)
+      ∙ ap (λ (range : Range). count_by (λ (row : RowOf (Unit {0})). row.marked) (in_range range r)) (sym pages) ∙ ap (count_by (λ (row : RowOf (Unit {0})). row.marked)) (whole_range r)
+      ∙ ap (λ (k : Kind). count_by (is_charged k) r.rows) (sym is)
+
+  pub charge_removed : charge (set_regions t pid.0 p (remove p.regions i)) + region_charge r ≡ charge t
+  charge_removed = charge-remove_region t pid.0 p i r lives at
+
+  module _ (c : Key → Option Page) (s : StoreOf) (f : FitsTables t c s) where
+    pub ends_within : end_of range ≤ end_of_user_pages
+    ends_within = ends t pid p c s lives sound f i r range at (whole_inside r range pages)
+
+    pub can_go : s.kind ≡ line_kind.Unbind pid → CanRelease true pid range p.regions c s
+    can_go unbinding = can_release t pid p c s lives sound f i r range at (whole_inside r range pages) true (λ stays. cc) unbinding
+
+-- a region of a process that is known can be given up
+pub can_lose : {G : Type 0} (gs : PagesGhosts G) {i : Inside} {t : Tables} {x : Option Process} (pid : Pid) (k : Held i t pid.0 x) (place : ℕ) (r : RegionOf (Unit {0})) {range : Range} {g : G} → slice_get k.process.regions place ≡ Some r → pages_of r ≡ range → FitsTables t (gs.contents g) (gs.store g) → (gs.store g).kind ≡ line_kind.Unbind pid → CanLose gs x pid range g
+can_lose gs {t = t} pid k place r {range} {g} at pages fits unbinding =
+    record {
+      end = ends_within t pid k.process place r range k.lives at pages k.kept.sound (gs.contents g) (gs.store g) fits;
+      lives = k.there;
+      around = by_shown k (λ p. is_some (region_around p.regions range) ≡ true) (all_around t pid k.process place r range k.lives at pages k.kept.sound);
+      can = by_shown k (λ p. CanRelease true pid range p.regions (gs.contents g) (gs.store g)) (can_go t pid k.process place r range k.lives at pages k.kept.sound (gs.contents g) (gs.store g) fits unbinding);
+    }
+
+-- ---- A view of a process is unmapped: what the call's steps are told, and what they come to
+
+abbrev pub unmapped : {B : Type 0} → ProcessOf B → ℕ → ProcessOf B
+unmapped p i = record p { regions = remove p.regions i }
+
+-- the view that was asked for
+pub record HasView (t : Tables) (p : ProcessOf (Unit {0})) (addr : ℕ) (range : Range) (view : View) : Type 0 where
+  pub found : Found (RegionOf (Unit {0}))
+  pub is_found : view_at p.regions addr ≡ Some found
+  pub at : slice_get p.regions found.place ≡ Some found.thing
+  pub pages : pages_of found.thing ≡ range
+  pub is : found.thing.kind ≡ kind.View view
+  pub view_fits : ViewFits t view (length found.thing.rows)
+
+has_view : (t : Tables) (pid : ℕ) (p : ProcessOf (Unit {0})) (addr : ℕ) (range : Range) (view : View) → WellFormed t → process_of t pid ≡ Some p → option_map found_info (view_at p.regions addr) ≡ Some (record { pages = range; kind = kind.View view }) → HasView t p addr range view
+has_view t pid p addr range view sound lives e = by_found (view_at p.regions addr) refl e
+  where
+    by_found : (o : Option (Found (RegionOf (Unit {0})))) → view_at p.regions addr ≡ o → option_map found_info o ≡ Some (record { pages = range; kind = kind.View view }) → HasView t p addr range view
+    by_found None f e = cc
+    by_found (Some r) f e =
+        let same : ◌≡◌ {A = RegionInfo} (found_info r) (record { pages = range; kind = kind.View view }) = cc in
+        let at = (found_stands _ p.regions r f).there in
+        let is : r.thing.kind ≡ kind.View view = ap (λ (i : RegionInfo). i.kind) same in
+        record {
+          found = r;
+          is_found = f;
+          at = at;
+          pages = ap (λ (i : RegionInfo). i.pages) same;
+          is = is;
+          view_fits = each-at _ p.regions r.place r.thing (sound.references.processes pid p lives).views at view is;
+        }
+
+module _ {i : Inside} {t : Tables} {x : Option Process} (pid : Pid) (k : Held i t pid.0 x) (addr : ℕ) {range : Range} {view : View} (there : (p : ProcessOf (Unit {0})) → process_of t pid.0 ≡ Some p → option_map found_info (view_at p.regions addr) ≡ Some (record { pages = range; kind = kind.View view })) where
+  pub v : HasView t k.process addr range view
+  v = has_view t pid.0 k.process addr range view k.kept.sound k.lives (there k.process k.lives)
+
+  e : (c : CountedSection) × (numbered i.directory.entries view.section.0 ≡ Some c)
+  e = has_entry i.directory.entries t.sections view.section.0 v.view_fits.section (ap (λ (t : Tables). t.sections) k.view) v.view_fits.lives
+
+  abbrev q : ProcessOf (Unit {0})
+  q = unmapped k.process v.found.place
+
+  views_less : (n : ℕ) → views_in n (Some q) + cond (view.section.0 == n) 1 0 ≡ views_in n (Some k.process)
+  views_less n = omega (arith, removed_views k.process.regions v.found.place n v.found.thing v.at, ap {B = ℕ} (λ (k : Kind). cond (is_view_of n k) 1 0) v.is)
+
+  one : views_in view.section.0 (Some q) + 1 ≡ views_in view.section.0 (Some k.process)
+  one = omega (arith, views_less view.section.0, ap {B = ℕ} (λ b. cond b 1 0) ((unsigned_Decides view.section.0 view.section.0).1 refl))
+
+  some_of : 1 ≤ e.0.views
+  some_of = omega (arith, (k.kept.counted view.section.0 e.0 e.1).views, views_put t pid.0 view.section.0 k.process None k.lives, one)
+
+  unmap_sound : WellFormed (settle (set_process t pid.0 (Some q)))
+  unmap_sound =
+      let u = set_process t pid.0 (Some q) in
+      let less = charge_removed t pid k.process v.found.place v.found.thing range k.lives v.at v.pages k.kept.sound in
+      sound_by t (settle u) (Then u (settle u) (Then t u Nothing (Regions pid.0 k.process (remove k.process.regions v.found.place) k.lives (RegionGoes v.found.place v.found.thing v.at (λ shared x here first. refl) tt))) (Settles (λ old new fewer. tt)))
+      (omega (arith, charge-settle u, less, k.kept.sound.charged)) k.kept.sound
+
+  unmap_one : OneLess t pid.0 k.process q view.section.0 e.0 (one_view_less e.0) i.directory.entries i.commit
+  unmap_one =
+      record {
+        lives = k.lives;
+        kept = k.kept;
+        sections = ap (λ (t : Tables). t.sections) k.view;
+        entry = e.1;
+        others = λ n other. (refl, omega (arith, views_less n, ap {B = ℕ} (λ b. cond b 1 0) (not_true (view.section.0 == n) (λ e. other (sym ((unsigned_Decides view.section.0 n).0 e))))));
+        same_section = refl;
+        handles = refl;
+        seen = omega (arith, some_of, one);
+        sub = λ j r at. removed_from k.process.regions v.found.place j r at;
+        sound = unmap_sound;
+      }
+
+  pub unmap_there : (p : ProcessOf (Unit {0})) → option_map shown_process x ≡ Some p → is_some (view_at p.regions addr) ≡ true
+  unmap_there = by_shown k (λ p. is_some (view_at p.regions addr) ≡ true) (ap is_some v.is_found)
+
+  pub unmap_counted : IsSomeAnd (numbered i.directory.entries view.section.0) (λ c. 1 ≤ c.views)
+  unmap_counted = subst (λ (o : Option CountedSection). IsSomeAnd o (λ c. 1 ≤ c.views)) (sym e.1) some_of
+
+  pub unmap_some : 1 ≤ range.count
+  unmap_some = some t pid k.process v.found.place v.found.thing range k.lives v.at v.pages k.kept.sound
+
+  -- it was the last reference of the process
+  unmap_rank : views_in view.section.0 (Some q) ≡ 0 → section_rank view.section.0 (Some k.process) ≡ page_rank (end_of range) - 1
+  unmap_rank views =
+      removed_rank view.section.0 v.found.place k.process v.found.thing v.at
+      (ap (is_view_of view.section.0) v.is ∙ (unsigned_Decides view.section.0 view.section.0).1 refl) views
+      ∙ ap (λ (pages : Range). page_rank (end_of pages) - 1) v.pages
+
+  -- by whatever names the process and the region have
+  pub unmap_named : (p : ProcessOf (Unit {0})) (r : Found (RegionOf (Unit {0}))) → process_of t pid.0 ≡ Some p → view_at p.regions addr ≡ Some r → settle (set_process t pid.0 (Some q)) ≡ settle (set_process t pid.0 (Some (unmapped p r.place)))
+  unmap_named p r lives found =
+      let same = same_process k p lives in
+      let place = same_found (view_at k.process.regions addr) v.found r v.is_found (ap (λ (p : ProcessOf (Unit {0})). view_at p.regions addr) same ∙ found) in
+      λ j. settle (set_process t pid.0 (Some (unmapped (same j) (place j).place)))
+
+  pub unmap_can : {G : Type 0} (gs : PagesGhosts G) {g : G} → FitsTables t (gs.contents g) (gs.store g) → (gs.store g).kind ≡ line_kind.Unbind pid → CanLose gs x pid range g
+  unmap_can gs fits unbinding = can_lose gs pid k v.found.place v.found.thing v.at v.pages fits unbinding
+
+  module _ {c : Key → Option Page} {s : StoreOf} (fits : FitsTables t c s) where
+    pub unmap_end : end_of range ≤ end_of_user_pages
+    unmap_end = ends_within t pid k.process v.found.place v.found.thing range k.lives v.at v.pages k.kept.sound c s fits
+
+    module _ {marked : ℕ} (counts : (p : ProcessOf (Unit {0})) → option_map shown_process x ≡ Some p → marked ≡ marked_in p.regions range) where
+      charged_now : charge (set_process t pid.0 (Some q)) + marked ≡ charge t
+      charged_now =
+          omega (
+            arith,
+            counts k.process k.shown,
+            marked_charge t pid k.process v.found.place v.found.thing range k.lives v.at v.pages k.kept.sound view v.is,
+            charge_removed t pid k.process v.found.place v.found.thing range k.lives v.at v.pages k.kept.sound,
+          )
+
+      pub unmap_charged : marked ≤ i.commit.charge
+      unmap_charged = omega (arith, charged_now, k.kept.charged)
+
+      pub unmap_step : {dir : DirectoryOf} {result : Option Area} {commit : CommitOf} {d : Key → Option Page} {z : StoreOf} (y : Option Process) → ((p : ProcessOf (Unit {0})) (r : Found (RegionOf (Unit {0}))) → option_map shown_process x ≡ Some p → view_at p.regions addr ≡ Some r → option_map shown_process y ≡ Some (unmapped p r.place))
+          → GivenUp true pid range (passing (is_page_live pid c) range.first range.count) c d s z → commit ≡ record i.commit { charge = i.commit.charge - marked }
+          → LosesReference one_view_less view.section.0 i.directory dir result
+          → Step i t pid.0 q y dir result commit c d s z (page_rank (end_of range) - 1)
+      unmap_step {dir} {result} {commit} {d} {z} y removed gone refunded lost =
+          let done = region_gone t pid k.process range c d s z k.lives k.kept.sound fits v.found.place v.found.thing v.at v.pages gone in
+          record {
+            p = k.process;
+            m = view.section.0;
+            old = e.0;
+            now = one_view_less e.0;
+            view = k.view;
+            low = k.low;
+            one = unmap_one;
+            shown = removed k.process v.found k.shown v.is_found;
+            dir_is = lost.dropped e.0 e.1;
+            told = lost.ended e.0 e.1;
+            charged = omega (arith, ap (λ (k : CommitOf). k.charge) refunded, k.kept.charged, charged_now);
+            limited = ap (λ (k : CommitOf). k.limit) refunded;
+            less = given_less gone;
+            rest = done.rest;
+            fits = done.fits;
+            ranked = λ handles. unmap_rank;
+            early = omega arith;
+          }

@@ -77,12 +77,7 @@ count-change_range test change first count xs =
     let f = counted test in
     let later = drop first xs in
     let middle = map change (take count later) in
-    let front : count_by test (take first xs ++ middle) ≡ count_by test (take first xs) + count_by test middle = sum_by-append f (take first xs) middle in
-    let whole : count_by test (change_range change first count xs) ≡ count_by test (take first xs ++ middle) + count_by test (drop count later) =
-    sum_by-append f (take first xs ++ middle) (drop count later) in
-    let before : count_by test xs ≡ count_by test (take first xs) + count_by test later = sum_by-split f xs first in
-    let rest : count_by test later ≡ count_by test (take count later) + count_by test (drop count later) = sum_by-split f later count in
-    omega (arith, whole, front, before, rest)
+    omega (arith, sum_by-append f (take first xs ++ middle) (drop count later), sum_by-append f (take first xs) middle, sum_by-split f xs first, sum_by-split f later count)
 
 pub count-all : {A : Type 0} (test : A → Bool) (change : A → A) (xs : List A) → ((x : A) → test (change x) ≡ true) → count_by test (map change xs) ≡ length xs
 count-all test change [] all = refl
@@ -123,6 +118,10 @@ length-range xs first n inside = omega (arith, length-take n (drop first xs), le
 
 -- ---- things by number
 
+pub none_replicated : {A : Type 0} (n i : ℕ) → ◌≡◌ {A = Option A} (get_or (replicate n None) i None) None
+none_replicated (suc n) (suc i) = none_replicated n i
+none_replicated _ _ = refl
+
 abbrev pub by_cell : {A : Type 0} → Option (Option A) → Option A
 by_cell None = None
 by_cell (Some o) = o
@@ -144,11 +143,6 @@ if_some None P h = tt
 if_some (Some x) P h = h x refl
 
 -- ---- one more
-
-pub pushed : {A : Type 0} (xs : List (Option A)) (o : Option A) (n : ℕ) (x : A) → get_or xs n None ≡ Some x → get_or (xs ++ o ∷ []) n None ≡ Some x
-pushed [] o n x e = cc
-pushed (y ∷ xs) o zero x e = e
-pushed (y ∷ xs) o (suc n) x e = pushed xs o n x e
 
 module _ {B : Type 0} where
   abbrev pub area_in : List (AreaOf B) → ℕ → AreaOf B

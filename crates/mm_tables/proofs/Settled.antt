@@ -1,7 +1,7 @@
 -- What a store that fits the tables allows to be done to a range of a process.
 use Rattle.std.proofs.Common.{◌≡◌, ◌≤◌, ◌+◌, ◌-◌, ℕ, zero, suc, Bool, true, false, Option, Some, None, List, [], ◌∷◌, refl, sym, ◌∙◌, ap, subst, arith, length, slice_get, is_some, ◌&&◌, ◌||◌, not, nat_le, take, drop, count_by, sum_by, option_map, unwrap_or, set}
 use Rattle.std.proofs.Math.Path.{fun_ext}
-use Rattle.std.specs.Prelude.{◌==◌, option_and_then, remove, ◌%◌}
+use Rattle.std.specs.Prelude.{◌==◌, option_and_then, remove, ◌%◌, Result}
 use Rattle.std.specs.List.{list_any}
 use Rattle.std.proofs.lemmas.Bool.{leb-true}
 use Rattle.std.proofs.lemmas.List.{take_all}
@@ -9,10 +9,10 @@ use Rattle.std.proofs.lemmas.List.Sums.{sum_by-cons}
 use Rattle.std.proofs.lemmas.Option.{get_or_from_slice_get}
 use Rattle.mm_types.specs.declared.moves.LineKind.TheVariants as kind
 use Rattle.mm_types.specs.{Kind, Key, Pid, Range, meets, is_free, address_of, end_of, holds_page, lies_within, first_user_page, end_of_user_pages}
-use Rattle.mm_types.specs.{limit_of}
+use Rattle.mm_types.specs.{limit_of, NoMemory}
 use Rattle.mm_types.specs.declared.views.Kind.TheVariants as kind'
 use Rattle.mm_types.specs.declared.numbers.Key.TheVariants as key
-use Rattle.mm_types.proofs.{or_true, none_of, some_found, same_found}
+use Rattle.mm_types.proofs.{or_true, none_of, some_found, same_found, on_err}
 use Rattle.mm_world.specs.{Page, ProcessOf, RegionOf, RowOf, pages_of, row_at, is_committed, is_committed_at, every_page, is_protection_among}
 use Rattle.mm_world.specs.{private_protections, reserved_row, commit, protected, change_rows, accepts, Found, first_where, process_of, region_with}
 use Rattle.mm_world.specs.{region_around, ranges_of, is_private, set_region, set_regions, add_region, private_at, charge, is_charged, region_charge}
@@ -20,20 +20,16 @@ use Rattle.mm_world.specs.{process_charge, own_page, private_key, Tables, blank,
 use Rattle.mm_world.specs.WellFormed.{WellFormed}
 use Rattle.mm_world.proofs.{each-at, every_page-at, is_placed, same_place, found_stands, own_in, charge-set_region, private_kind, and-true, or-false}
 use Rattle.mm_world.proofs.{laid_at, apart_too, holds_first, lies, rows_committed, rows_cleared, rows_protected}
-use Rattle.mm_pages.specs.{place_at, StoreOf}
+use Rattle.mm_pages.specs.{place_at, StoreOf, Ghosts as PagesGhosts, AreAmong, leaving, page_rank}
 use Rattle.mm_spaces.specs.{owned_in, rows_of}
 use Rattle.mm_tables.specs.{CanMake, key_in, Effect, Makes, Ends, Leaves, RangeStored, Moves, Roomier, keys_of, FitsTables, key_at, new_pages}
 use Rattle.mm_tables.specs.{new_marks, paging_count, owned_keys, CarriesPages, Settled, store_beside, CanRelease, GivenUp, CanAdd, passing}
-use Rattle.mm_tables.specs.{is_page_live, is_page_dead}
+use Rattle.mm_tables.specs.{is_page_live, is_page_dead, SettlesTables, is_uncommitted, GivesUp, Frees}
 use Rattle.mm_tables.proofs.Lists.{found-cons, one_if}
-use Rattle.mm_tables.proofs.Carried.{private_paging, moved, carries_by, carries_same}
-use Rattle.mm_tables.proofs.PageByPage.{passing_all, next_held}
-use Rattle.mm_tables.proofs.EndingPages.{stored}
-use Rattle.mm_tables.proofs.OneProcess.{own_rows, paging-remove_region, regions_of_process, reserved_is, content_is, home_key, region_key, key_in_has, key_at_is, private_home}
-use Rattle.mm_tables.proofs.Regions.{has_at, holds}
-use Rattle.mm_tables.proofs.Rows.{Inside, inside, has_own, in_range, holds_too, passing_owned, private_charge, charge_of_commit}
+use Rattle.mm_tables.proofs.Rows.{private_paging, moved, carries_by, carries_same, own_rows, paging-remove_region, regions_of_process, reserved_is, content_is, home_key, region_key, key_in_has, key_at_is, private_home, has_at, holds, Inside, inside, has_own, in_range, holds_too, passing_owned, private_charge, charge_of_commit}
+use Rattle.mm_tables.proofs.PageByPage.{passing_all, next_held, stored}
 use Rattle.mm_tables.proofs.Regional.{allowed, one_or_other, is_clear, change_stands, change_moves, commit_moves, decommit_charge, paging_as_charge, protect_count, protect_moves, protect_paging, release_moves, release_charge, release_stands, reserve_moves, reserve_charge, reserve_paging, reserve_stands}
-use Rattle.mm_tables.proofs.SectionTidy.{StandIn}
+use Rattle.mm_tables.proofs.Keeping.{StandIn}
 
 pub found_there : {A : Type 0} (test : A → Bool) (xs : List A) (i : ℕ) (x : A) → slice_get xs i ≡ Some x → test x ≡ true → is_some (first_where test xs) ≡ true
 found_there test [] i x at e = cc
@@ -256,6 +252,14 @@ roomier_settled {t} {after} {c} {d} {s} {z} f same r =
       carries = carries_same c d r.contents;
       rest = roomier_beside c d s z r;
     }
+
+-- memory ran out
+pub out_of_memory : {G : Type 0} (gs : PagesGhosts G) {T : Type 0} (result : Result T NoMemory) {old new : Tables} {g h : G} → FitsTables old (gs.contents g) (gs.store g) → new ≡ old → Roomier (gs.contents g) (gs.contents h) (gs.store g) (gs.store h) → SettlesTables gs result old new g h
+out_of_memory gs result fits same more = record { err = on_err result (same, more.contents); settled = roomier_settled fits same more }
+
+-- both change together: pages of a range of a process go
+pub frees : {G : Type 0} (gs : PagesGhosts G) {goes : Bool} {pid : Pid} {range : Range} {old new : Tables} {g h : G} → Settled new (gs.contents g) (gs.contents h) (gs.store g) (gs.store h) → AreAmong (leaving old pid.0 (is_uncommitted new)) 1 (page_rank end_of_user_pages) pid range → GivesUp gs goes pid range g h → Frees gs pid range old new g h
+frees gs settled among gives = record { settled = settled; among = among; passes = gives.passes; loans = gives.loans }
 
 pub settled_as : {t after : Tables} {c d : Key → Option Page} {s z : StoreOf} → after ≡ t → Settled t c d s z → Settled after c d s z
 settled_as {t} {after} {c} {d} {s} {z} same h = subst (λ (t : Tables). Settled t c d s z) (sym same) h

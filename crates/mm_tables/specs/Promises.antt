@@ -1,11 +1,11 @@
 -- What a family of calls asks and promises of tables, store and moves together.
-use Rattle.std.specs.Prelude.{◌≡◌, ◌≤◌, ℕ, ◌+◌, ◌-◌, ◌%◌, Bool, true, false, is_some, List, Option, Some, None, Result, OnErr, option_map}
-use Rattle.mm_types.specs.{Range, end_of, end_of_user_pages, is_free, NoMemory, LineKind, Pid, View, limit_of}
+use Rattle.std.specs.Prelude.{◌≡◌, ◌≤◌, ℕ, ◌+◌, ◌-◌, ◌%◌, Bool, true, false, is_some, List, Option, Some, None, Result, OnErr, option_map, slice_set, if◌then◌else◌}
+use Rattle.mm_types.specs.{Area, Range, end_of, end_of_user_pages, is_free, NoMemory, LineKind, Pid, View, limit_of}
 use Rattle.mm_types.specs.declared.moves.LineKind.TheVariants as line_kind
 use Rattle.mm_types.specs.declared.views.Kind.TheVariants as kind
-use Rattle.mm_world.specs.{RegionOf, ProcessOf, pages_of, Found, process_of, region_around, ranges_of, area_at, is_private, Tables, private_at}
-use Rattle.mm_world.specs.{is_protection_among, private_protections, all_protections, is_committed_at, every_page, accepts}
-use Rattle.mm_sections.specs.{uncommitted_in}
+use Rattle.mm_world.specs.{AreaOf, RegionOf, ProcessOf, numbered, pages_of, Found, process_of, region_around, ranges_of, area_at, is_private, Tables}
+use Rattle.mm_world.specs.{private_at, is_protection_among, private_protections, all_protections, is_committed_at, every_page, accepts}
+use Rattle.mm_sections.specs.{CountedSection, DirectoryOf, section_settled, uncommitted_in}
 use Rattle.mm_spaces.specs.{owned_in}
 use Rattle.mm_pages.specs.{Ghosts as PagesGhosts, AllBound, AreAmong, Turn, Turns, Makes as Making, MakesFrom, leaving, page_rank, PassesIn}
 use Rattle.mm_pages.specs.Housekeeping.{Ends as Ending}
@@ -13,11 +13,11 @@ use Rattle.mm_pages.specs.Leaving.{Leaving}
 use Rattle.mm_tables.specs.declared.tables.Process.{Process}
 use Rattle.mm_tables.specs.Shown.{shown_process}
 use Rattle.mm_tables.specs.Effects.{Effect, RangeStored, Roomier}
-use Rattle.mm_tables.specs.Endings.{Less, Toward, CanRelease, GivenUp}
+use Rattle.mm_tables.specs.Endings.{Less, Toward, CanRelease, GivenUp, is_owned_at, owned_among}
 use Rattle.mm_tables.specs.Fits.{FitsTables, Settled, before_process, is_uncommitted, new_marks}
-use Rattle.mm_tables.specs.Ranges.{CanAdd, passing, is_page_live}
+use Rattle.mm_tables.specs.Ranges.{Adds, CanAdd, StandsFrom, passing, is_page_live}
 use Rattle.mm_tables.specs.Spaces.{process_regions, RegionsBecame}
-use Rattle.mm_tables.specs.ViewChanges.{NewPlaces}
+use Rattle.mm_tables.specs.ViewChanges.{NewPlaces, Shares}
 
 -- ---- what is asked
 
@@ -92,6 +92,18 @@ pub record CanProtectAll (pid : Pid) (range : Range) (prot n : ℕ) (t : Tables)
   pub counted : (p : ProcessOf (Unit {0})) → process_of t pid.0 ≡ Some p →
       n ≡ new_marks p.regions range prot
 
+-- ---- references
+
+-- one reference less, which `less` takes off what is counted: what is left of a section, and its
+-- area where it ended
+pub record LosesReference (less : CountedSection → CountedSection) (number : ℕ)
+    (old new : DirectoryOf) (result : Option Area) : Type 0 where
+  pub dropped : (c : CountedSection) → numbered old.entries number ≡ Some c →
+      new ≡ record old { entries = slice_set old.entries number (section_settled (less c)) }
+  pub ended : (c : CountedSection) → numbered old.entries number ≡ Some c →
+      result ≡ (if is_some (section_settled (less c)) then None else
+      Some (record { 0 = c.section.area }))
+
 module _ {G : Type 0} (p : PagesGhosts G) where
   -- a line of this kind, in which the process lives and the store fits the tables
   pub record IsReadyFor (kind : LineKind) (pid : Pid) (t : Tables) (g : G) : Type 0 where
@@ -158,6 +170,29 @@ module _ {G : Type 0} (p : PagesGhosts G) where
         (p.contents h) (p.store g) (p.store h)
     pub passes : (held : Leaving) (from to : ℕ) → AreAmong held from to pid range →
         PassesAs (Ending held from to) g h
+    pub loans : p.loans h ≡ p.loans g
+
+  -- those of these pages that regions have with bytes of their own are given up
+  pub record GivesUpOwn (regions : List (RegionOf (Unit {0}))) (goes : Bool) (pid : Pid)
+      (range : Range) (g h : G) : Type 0 where
+    pub given_up : GivenUp goes pid range
+        (owned_among (is_owned_at regions range.first) range.count) (p.contents g) (p.contents h)
+        (p.store g) (p.store h)
+    pub passes : (held : Leaving) (from to : ℕ) → AreAmong held from to pid range →
+        PassesAs (Ending held from to) g h
+    pub loans : p.loans h ≡ p.loans g
+
+  -- those of these pages that had no key have one
+  pub record AddsOwn (pid : Pid) (range : Range) (g h : G) : Type 0 where
+    pub adds : Adds pid range (p.contents g) (p.contents h) (p.store g) (p.store h)
+    pub passes : (from to : ℕ) → StandsFrom from to range → PassesAs (MakesFrom from to) g h
+    pub loans : p.loans h ≡ p.loans g
+
+  -- these pages of a section have keys
+  pub record SharesPages (area : Area) (first count : ℕ) (a : AreaOf (Unit {0})) (g h : G) :
+      Type 0 where
+    pub shares : Shares area first count a (p.contents g) (p.contents h) (p.store g) (p.store h)
+    pub passes : PassesAs Making g h
     pub loans : p.loans h ≡ p.loans g
 
   -- pages come to be from the first bound to the second, or memory ran out

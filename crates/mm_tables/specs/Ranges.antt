@@ -11,10 +11,25 @@ abbrev pub is_key_in : Pid → Range → Key → Bool
 is_key_in pid range (key.Private p v) = (p.0 == pid.0) && holds_page range v.0
 is_key_in pid range (key.Shared area index) = false
 
--- these pages of a process have a key: what was not live reads as zero
+-- keys that are held are live: what was not reads as zero
+abbrev pub with_live : (Key → Bool) → (Key → Option Page) → Key → Option Page
+with_live held c k = if held k then Some (unwrap_or (c k) (filled 0)) else c k
+
+abbrev pub with_flags : (Key → Bool) → (Key → Bool) → Key → Bool
+with_flags held f k = if held k then true else f k
+
+-- a store after the keys that are held came to be, `n` of them, `z` for its report alone
+pub record Come (held : Key → Bool) (n : ℕ) (c d : Key → Option Page) (s z : StoreOf) : Type 0 where
+  pub contents : d ≡ with_live held c
+  pub store : z ≡ record s {
+    paging = with_flags held s.paging;
+    paging_keys = s.paging_keys + n;
+    report = rearranged s.report z.report;
+  }
+
+-- these pages of a process have a key
 abbrev pub with_range_keys : Pid → Range → (Key → Option Page) → Key → Option Page
-with_range_keys pid range contents k = if is_key_in pid range k then
-    Some (unwrap_or (contents k) (filled 0)) else contents k
+with_range_keys pid range contents = with_live (is_key_in pid range) contents
 
 -- these pages of a process have none
 abbrev pub removed : Pid → Range → (Key → Option Page) → Key → Option Page
@@ -35,15 +50,6 @@ is_page_live pid contents page = is_some (contents (key.Private pid (record { 0 
 
 abbrev pub is_page_dead : Pid → (Key → Option Page) → ℕ → Bool
 is_page_dead pid contents page = not (is_page_live pid contents page)
-
--- the store after the keys were added, `new` for its report alone
-abbrev pub with_keys : Pid → Range → ℕ → StoreOf → StoreOf → StoreOf
-with_keys pid range count old new =
-    record old {
-      paging = flags_set_in pid range old.paging true;
-      paging_keys = old.paging_keys + count;
-      report = rearranged old.report new.report;
-    }
 
 -- keys can be added where these pages of a process, which regions have, hold none
 pub record CanAdd (pid : Pid) (range : Range) (regions : List (RegionOf (Unit {0})))
@@ -81,6 +87,6 @@ high_half range = record {
 }
 
 -- what adding keys comes to
-pub record Adds (pid : Pid) (range : Range) (c d : Key → Option Page) (s z : StoreOf) : Type 0 where
-  pub contents : d ≡ with_range_keys pid range c
-  pub store : z ≡ with_keys pid range (passing (is_page_dead pid c) range.first range.count) s z
+abbrev pub Adds : Pid → Range → (Key → Option Page) → (Key → Option Page) → StoreOf → StoreOf → Type 0
+Adds pid range c d s z =
+    Come (is_key_in pid range) (passing (is_page_dead pid c) range.first range.count) c d s z

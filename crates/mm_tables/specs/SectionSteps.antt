@@ -1,12 +1,13 @@
 -- The steps in which a section is made: room for a handle, and the keys of a new area.
-use Rattle.std.specs.Prelude.{◌≡◌, ◌≤◌, ◌<◌, ℕ, ◌+◌, ◌-◌, ◌^◌, Bool, true, false, ◌&&◌, ◌==◌, nat_le, nat_lt, if◌then◌else◌, is_some, List, length, Option, Some, None}
+use Rattle.std.specs.Prelude.{◌≡◌, ◌≤◌, ◌<◌, ℕ, ◌+◌, ◌-◌, ◌^◌, Bool, true, false, ◌&&◌, ◌==◌, nat_le, nat_lt, if◌then◌else◌, is_some, List, length, Option, Some, None, ◌++◌, ◌∷◌, [], slice_set}
 use Rattle.mm_types.specs.{Area, Key}
 use Rattle.mm_types.specs.declared.numbers.Key.TheVariants as key
 use Rattle.mm_types.specs.declared.moves.LineKind.TheVariants as kind
-use Rattle.mm_world.specs.{Page, ProcessOf, numbered, filled}
+use Rattle.mm_world.specs.{Page, ProcessOf, numbered, filled, next_handle}
 use Rattle.mm_pages.specs.{StoreOf, changed, rearranged}
 use Rattle.mm_sections.specs.{DirectoryOf}
 use Rattle.mm_tables.specs.declared.tables.Process.{Process}
+use Rattle.mm_tables.specs.Ranges.{with_flags, with_live}
 use Rattle.mm_tables.specs.Shown.{shown_processes}
 
 -- ---- handles
@@ -26,6 +27,15 @@ pub record CanHold (processes : List (Option Process)) (pid : ℕ) : Type 0 wher
   pub few : (p : ProcessOf (Unit {0})) → numbered (shown_processes processes) pid ≡ Some p →
       length p.handles < 2 ^ 28
 
+-- it was given the next one, to the section with this number
+pub record GivesHandle (old new : List (Option Process)) (pid number result : ℕ) : Type 0 where
+  pub handle : (p : ProcessOf (Unit {0})) → numbered (shown_processes old) pid ≡ Some p →
+      result ≡ next_handle p
+  pub given : (p : ProcessOf (Unit {0})) → numbered (shown_processes old) pid ≡ Some p →
+      shown_processes new ≡ slice_set (shown_processes old) pid (Some (record p {
+        handles = p.handles ++ Some number ∷ [];
+      }))
+
 -- a directory of the same sections and files
 pub record IsListedAs (old new : DirectoryOf) : Type 0 where
   pub entries : new.entries ≡ old.entries
@@ -37,22 +47,6 @@ pub record IsListedAs (old new : DirectoryOf) : Type 0 where
 abbrev pub is_page_of : Area → ℕ → Key → Bool
 is_page_of area n (key.Private pid vpn) = false
 is_page_of area n (key.Shared a i) = (a.0 == area.0) && nat_lt i n
-
--- these pages read as zero
-abbrev pub with_zero_pages : Area → ℕ → (Key → Option Page) → Key → Option Page
-with_zero_pages area n contents k = if is_page_of area n k then Some (filled 0) else contents k
-
-abbrev pub with_flags : Area → ℕ → (Key → Bool) → Key → Bool
-with_flags area n flags k = if is_page_of area n k then true else flags k
-
--- the store after their keys were added, `new` for its report alone
-abbrev pub with_area_keys : Area → ℕ → StoreOf → StoreOf → StoreOf
-with_area_keys area n old new =
-    record old {
-      paging = with_flags area n old.paging;
-      paging_keys = old.paging_keys + n;
-      report = rearranged old.report new.report;
-    }
 
 -- the first `n` pages of an open area have no keys yet, and there is room for them
 pub record CanFill (area : Area) (n : ℕ) (c : Key → Option Page) (s : StoreOf) : Type 0 where
@@ -72,16 +66,14 @@ pub record IsNewArea (area : Area) (pages n : ℕ) (c : Key → Option Page) (s 
     pub within : n ≤ pages
     pub dead : (i : ℕ) → c (key.Shared area i) ≡ None
 
--- what adding them comes to
-pub record Fills (area : Area) (n : ℕ) (c d : Key → Option Page) (s z : StoreOf) : Type 0 where
-  pub contents : d ≡ with_zero_pages area n c
-  pub store : z ≡ with_area_keys area n s z
-
 -- an area was opened, and its first `n` pages have keys
 pub record Opens (area : Area) (pages n : ℕ) (c d : Key → Option Page) (s z : StoreOf) :
     Type 0 where
-  pub contents : d ≡ with_zero_pages area n c
-  pub store : z ≡ record (with_area_keys area n s z) {
+  pub contents : d ≡ with_live (is_page_of area n) c
+  pub store : z ≡ record s {
+    paging = with_flags (is_page_of area n) s.paging;
+    paging_keys = s.paging_keys + n;
+    report = rearranged s.report z.report;
     areas = changed ◌==◌ s.areas area.0 (Some pages);
     room = z.room;
   }

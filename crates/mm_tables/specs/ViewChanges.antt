@@ -4,11 +4,12 @@ use Rattle.std.specs.Prelude.{◌≡◌, ◌≤◌, ◌<◌, ℕ, ◌+◌, ◌==
 use Rattle.mm_types.specs.{Area, Key, Pid, View, Range}
 use Rattle.mm_types.specs.declared.numbers.Key.TheVariants as key
 use Rattle.mm_types.specs.declared.moves.LineKind.TheVariants as kind
-use Rattle.mm_world.specs.{Page, AreaOf, ProcessOf, RegionOf, SectionOf, filled, numbered, Found, no_area, region_around, is_private, accepts}
-use Rattle.mm_world.specs.{every_page, view_region}
-use Rattle.mm_pages.specs.{StoreOf, changed_in, rearranged}
+use Rattle.mm_world.specs.{Page, AreaOf, ProcessOf, RegionOf, SectionOf, numbered, Found, no_area, region_around, is_private, accepts, every_page}
+use Rattle.mm_world.specs.{view_region}
+use Rattle.mm_pages.specs.{StoreOf, changed_in}
 use Rattle.mm_sections.specs.{uncommitted_in}
 use Rattle.mm_tables.specs.declared.tables.Process.{Process}
+use Rattle.mm_tables.specs.Ranges.{Come}
 use Rattle.mm_tables.specs.Shown.{shown_processes}
 
 -- ---- what is kept, by number
@@ -54,23 +55,6 @@ is_shared_in area first count (key.Private pid v) = false
 is_shared_in area first count (key.Shared a i) = (a.0 == area.0) &&
     (nat_le first i && nat_lt i (first + count))
 
--- these pages are committed: what was not live reads as zero
-abbrev pub shared_added : Area → ℕ → ℕ → (Key → Option Page) → Key → Option Page
-shared_added area first count c k = if is_shared_in area first count k then
-    Some (unwrap_or (c k) (filled 0)) else c k
-
-abbrev pub shared_set : Area → ℕ → ℕ → (Key → Bool) → Key → Bool
-shared_set area first count f k = if is_shared_in area first count k then true else f k
-
--- the store after `n` keys were added, `new` for its report alone
-abbrev pub with_shared : Area → ℕ → ℕ → ℕ → StoreOf → StoreOf → StoreOf
-with_shared area first count n old new =
-    record old {
-      paging = shared_set area first count old.paging;
-      paging_keys = old.paging_keys + n;
-      report = rearranged old.report new.report;
-    }
-
 -- keys of these pages of an open area can be added where they are not committed
 pub record CanShare (area : Area) (first count : ℕ) (a : AreaOf (Unit {0})) (c : Key → Option Page)
     (s : StoreOf) : Type 0 where
@@ -84,10 +68,10 @@ pub record CanShare (area : Area) (first count : ℕ) (a : AreaOf (Unit {0})) (c
   pub called : s.kind ≡ kind.Call
 
 -- what adding them comes to
-pub record Shares (area : Area) (first count : ℕ) (a : AreaOf (Unit {0})) (c d : Key → Option Page)
-    (s z : StoreOf) : Type 0 where
-  pub contents : d ≡ shared_added area first count c
-  pub store : z ≡ with_shared area first count (uncommitted_in a first count) s z
+abbrev pub Shares : Area → ℕ → ℕ → AreaOf (Unit {0}) → (Key → Option Page) → (Key → Option Page) →
+    StoreOf → StoreOf → Type 0
+Shares area first count a c d s z =
+    Come (is_shared_in area first count) (uncommitted_in a first count) c d s z
 
 -- ---- protections
 

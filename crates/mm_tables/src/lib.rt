@@ -2,20 +2,13 @@
 //! them is one call here, which changes tables and store together.
 #![tactic(auto)]
 
-mod closings;
 mod endings;
-mod exits;
-mod files;
-mod flags;
-mod halves;
 mod kept_accesses;
 mod keys;
 mod looks;
 mod private_pages;
 mod processes;
-mod removals;
 mod sections;
-mod steps;
 mod tables;
 mod thread_stacks;
 mod views;

@@ -1,3 +1,4 @@
+ghost use Rattle.std.specs.Option.{ForSome};
 ghost use Rattle.std.specs.Prelude.{◌≡◌, ◌≤◌, ◌<◌, ◌+◌, true, is_some, length, Some, None, option_map, if◌then◌else◌, nat_le};
 ghost use Rattle.mm_world.specs.{ProcessOf, process_of, section_named, area_at, most_processes, file_named, shared_page, home_in, key_of};
 ghost use Rattle.mm_sections.specs.{id_of, area_of};
@@ -68,8 +69,7 @@ impl Tables {
     /// A living process.
     pub(crate) fn process(&self, pid: Pid) -> &Process
         requires lives { is_some (process_of self.now pid.0) ≡ true }
-        ensures shown { (p : ProcessOf (Unit {0})) → process_of self.now pid.0 ≡ Some p →
-            shown_process result.now ≡ p }
+        ensures shown { ForSome (process_of self.now pid.0) (λ p. shown_process result.now ≡ p) }
         ensures sound { WellFormed self.now }
         ensures tidy { IsTidy self.now }
     {
@@ -91,8 +91,7 @@ impl Tables {
     /// The handles of a living process.
     pub(crate) fn handles(&self, pid: Pid) -> &Handles
         requires { is_some (process_of self.now pid.0) ≡ true }
-        ensures { (p : ProcessOf (Unit {0})) → process_of self.now pid.0 ≡ Some p →
-            result.now.entries ≡ p.handles }
+        ensures { ForSome (process_of self.now pid.0) (λ p. result.now.entries ≡ p.handles) }
     {
         &self.process(pid).handles
     }

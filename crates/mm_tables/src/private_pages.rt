@@ -1,20 +1,219 @@
-ghost use Rattle.std.specs.Prelude.{◌≡◌, ◌≤◌, ◌+◌, ◌^◌, ◌==◌, true, false, is_some, Some, IsOk, OnOk, option_map, remove};
-ghost use Rattle.mm_types.specs.declared.moves.LineKind.TheVariants as line_kind;
-ghost use Rattle.mm_types.specs.{reserve_type};
-ghost use Rattle.mm_world.specs.{RegionOf, ProcessOf, pages_of, Found, process_of, region_around, add_region, set_region, set_regions, end_stacks};
-ghost use Rattle.mm_world.specs.{is_private, private_region, charge, limit, blank, private_at, is_stack_at, is_protection_among, private_protections};
-ghost use Rattle.mm_world.specs.{commit, reserved_row, change_rows};
+ghost use Rattle.std.specs.Prelude.{◌≡◌, ◌≤◌, ◌+◌, ◌-◌, ◌==◌, ℕ, true, false, is_some, Some, IsOk, OnOk, OnErr, slice_set, remove, ◌^◌, option_map};
+ghost use Rattle.mm_types.specs.{end_of, end_of_user_pages, are_user_pages, holds_page, reserve_type};
+ghost use Rattle.mm_world.specs.{RegionOf, Found, region_around, add_region, is_private, private_region, blank, private_at, is_protection_among};
+ghost use Rattle.mm_world.specs.{private_protections, commit, reserved_row, change_rows, ProcessOf, pages_of, process_of, set_region, set_regions};
+ghost use Rattle.mm_world.specs.{end_stacks, charge, limit, is_stack_at};
+ghost use Rattle.mm_pages.specs.{MakesFrom, changed};
+ghost use Rattle.mm_spaces.specs.{owned_in};
+ghost use Rattle.mm_tables.specs.Effects.{Makes, Leaves, RangeStored, CanMake, keys_of};
 ghost use Rattle.mm_tables.specs.Fits.{new_pages};
+ghost use Rattle.mm_tables.specs.Promises.{LiesInPrivate, BeginsAt, IsNewRange, CanAddUpTo, CanRemoveIn, CanBind, PassesAs, IdlesOver, GivesUp, MakesWithin, AddsKeys, BindsPlaces, KeepsRegions, CommitsPages, IsReadyFor, SettlesTables, Frees};
+ghost use Rattle.mm_tables.specs.Ranges.{CanAdd, StandsFrom, passing, is_page_dead, is_page_live};
+ghost use Rattle.mm_tables.specs.Spaces.{process_regions, RegionsBecame};
+ghost use Rattle.mm_tables.specs.ViewChanges.{MoreRoom};
+ghost use Rattle.mm_types.specs.declared.moves.LineKind.TheVariants as line_kind;
 ghost use Rattle.mm_tables.specs.Endings.{Less};
-ghost use Rattle.mm_tables.specs.Promises.{CommitsPages, IsNewRange, IsReadyFor, MakesWithin, SettlesTables, Frees};
-ghost use Rattle.mm_tables.specs.Ranges.{StandsFrom};
 
-use crate::Tables;
-use crate::steps::{commit_pages, decommit_pages, make_region, new_pages, release_pages, take};
+use crate::tables::Process;
+use crate::{Tables, keys};
+use mm_commit::Commit;
 use mm_pages::Pages;
-use mm_spaces::PageRange;
-use mm_types::{NoMemory, Pid};
+use mm_spaces::{AddressSpace, NewRegion, PageRange};
+use mm_types::{NoMemory, Pid, Vpn};
 use std::alloc::Global;
+
+/// MEM_RESERVE.
+const RESERVE_TYPE: u32 = 0x2000;
+
+/// How many pages of a new region are committed.
+fn new_pages(kind: u32, range: PageRange) -> u32
+    ensures { result ≡ new_pages kind range }
+{
+    if kind == RESERVE_TYPE { 0 } else { range.count }
+}
+
+/// Charges pages for which there is room.
+pub(crate) fn take(commit: &mut Commit, n: u32)
+    requires { commit.old.charge + n ≤ commit.old.limit }
+    ensures { commit.new ≡ record commit.old { charge = commit.old.charge + n } }
+{
+    match commit.charge(n) {
+        Ok(()) => {}
+        Err(_) => unreachable!(),
+    }
+}
+
+/// Commits pages of one private region of a living process, and adds their keys. `total` is what
+/// all keys then come to at most. After `NoMemory` there may be more room.
+#[tactic(auto, using(mm_pages::proofs::Passed::turns_same, mm_pages::proofs::Passed::idle_before))]
+fn commit_pages<G: Pages>(
+    process: &mut Option<Process>,
+    g: &mut G,
+    pid: Pid,
+    range: PageRange,
+    prot: u32,
+    total: u32,
+) -> Result<(), NoMemory>
+    requires lies { LiesInPrivate process.old range }
+    requires prot { is_protection_among private_protections prot ≡ true }
+    requires can { CanAddUpTo G.Pages pid range total (process_regions process.old) g.old }
+    ensures changed { OnOk result ((r : Found (RegionOf (Unit {0}))) →
+        region_around (process_regions process.old) range ≡ Some r →
+        RegionsBecame process.old process.new
+        (slice_set (process_regions process.old) r.place
+        (change_rows (commit tt prot) range r.thing))) }
+    ensures adds { OnOk result (AddsKeys G.Pages pid range Makes Leaves false
+        (passing (is_page_dead pid (G.contents g.old)) range.first range.count) total g.old g.new) }
+    ensures enough { total ≤ (G.store g.old).room → IsOk result }
+    ensures keeps { OnErr result (KeepsRegions G.Pages process.old process.new g.old g.new) }
+    ensures makes { MakesWithin G.Pages (λ from to. StandsFrom from to range) result g.old g.new }
+{
+    let Some(process) = process else {
+        unreachable!()
+    };
+    g.reserve(total)?;
+    keys::add_pages(g, &process.space, pid, range, None);
+    process.space.commit(range, prot);
+    Ok(())
+}
+
+/// Decommits pages of one private region of a living process, and removes their keys. Tells how
+/// many were committed.
+fn decommit_pages<G: Pages>(
+    process: &mut Option<Process>,
+    g: &mut G,
+    pid: Pid,
+    range: PageRange,
+) -> u32
+    requires lies { LiesInPrivate process.old range }
+    requires can { CanRemoveIn G.Pages false pid range (process_regions process.old) g.old }
+    ensures owned { result ≡ owned_in (process_regions process.old) range }
+    ensures changed { (r : Found (RegionOf (Unit {0}))) →
+        region_around (process_regions process.old) range ≡ Some r →
+        RegionsBecame process.old process.new
+        (slice_set (process_regions process.old) r.place
+        (change_rows (λ row. reserved_row) range r.thing)) }
+    ensures gives_up { GivesUp G.Pages false pid range g.old g.new }
+{
+    let Some(process) = process else {
+        unreachable!()
+    };
+    let owned = keys::release_pages(g, &process.space, pid, range, false);
+    process.space.decommit(range);
+    owned
+}
+
+/// Releases the private region of a living process that begins at the address and has these pages:
+/// their keys and their places go, page by page. Tells how many were committed.
+fn release_pages<G: Pages>(
+    process: &mut Option<Process>,
+    g: &mut G,
+    pid: Pid,
+    addr: u32,
+    range: PageRange,
+) -> u32
+    requires begins { BeginsAt process.old addr range }
+    requires can { CanRemoveIn G.Pages true pid range (process_regions process.old) g.old }
+    ensures owned { result ≡ owned_in (process_regions process.old) range }
+    ensures changed { (r : Found (RegionOf (Unit {0}))) →
+        private_at (process_regions process.old) addr ≡ Some r →
+        RegionsBecame process.old process.new (remove (process_regions process.old) r.place) }
+    ensures gives_up { GivesUp G.Pages true pid range g.old g.new }
+{
+    let Some(process) = process else {
+        unreachable!()
+    };
+    let owned = keys::release_pages(g, &process.space, pid, range, true);
+    process.space.remove(addr);
+    owned
+}
+
+/// What a new region takes of an address space and of the store: room for it and for all keys, and
+/// its places. After `NoMemory` there may be more room.
+#[tactic(auto, using(mm_pages::proofs::Passed::turns_same))]
+pub(crate) fn grow_for_region<G: Pages>(
+    space: &mut AddressSpace,
+    g: &mut G,
+    pid: Pid,
+    range: PageRange,
+    total: u32,
+) -> Result<(), NoMemory>
+    requires user { are_user_pages range ≡ true }
+    requires bind { CanBind G.Pages pid range total g.old }
+    ensures regions { space.new.regions ≡ space.old.regions }
+    ensures spare { OnOk result (1 ≤ space.new.spare) }
+    ensures binds { OnOk result (BindsPlaces G.Pages pid range total g.old g.new) }
+    ensures err { OnErr result (MoreRoom (G.store g.old) (G.store g.new)) }
+    ensures idles { IdlesOver G.Pages g.old g.new }
+{
+    space.reserve()?;
+    g.reserve(total)?;
+    g.bind(pid, Vpn(range.first), range.count)
+}
+
+/// Adds the keys of a new region's pages, where its pages are committed.
+#[tactic(auto, using(mm_pages::proofs::Passed::turns_same))]
+fn fill_region<G: Pages>(space: &AddressSpace, g: &mut G, pid: Pid, range: PageRange, kind: u32)
+    requires end { end_of range ≤ end_of_user_pages }
+    requires can { (kind == reserve_type) ≡ false →
+        CanAdd pid range space.now.regions (G.contents g.old) (G.store g.old) }
+    requires dead { (page : ℕ) → holds_page range page ≡ true →
+        is_page_live pid (G.contents g.old) page ≡ false }
+    ensures stored { RangeStored pid range (keys_of kind) Leaves false (G.contents g.old)
+        (G.contents g.new) (G.store g.old) (G.store g.new) }
+    ensures counted { (G.store g.new).paging_keys ≡ (G.store g.old).paging_keys + new_pages kind
+        range }
+    ensures room { (G.store g.new).room ≡ (G.store g.old).room }
+    ensures passes { (from to : ℕ) → ((kind == reserve_type) ≡ false → StandsFrom from to range) →
+        PassesAs G.Pages (MakesFrom from to) g.old g.new }
+    ensures loans { G.loans g.new ≡ G.loans g.old }
+{
+    if kind != RESERVE_TYPE {
+        keys::add_pages(g, space, pid, range, Some(false));
+    }
+}
+
+/// Makes a private region of free pages in a living process, and adds its keys where it is
+/// committed. `total` is what all keys then come to at most. After `NoMemory` there may be more
+/// room.
+#[tactic(auto, using(mm_pages::proofs::Passed::turns_same, mm_pages::proofs::Passed::idle_before))]
+fn make_region<G: Pages>(
+    alloc: Global,
+    process: &mut Option<Process>,
+    g: &mut G,
+    pid: Pid,
+    range: PageRange,
+    watched: bool,
+    kind: u32,
+    prot: u32,
+    total: u32,
+) -> Result<(), NoMemory>
+    requires lives { is_some process.old ≡ true }
+    requires new { IsNewRange (process_regions process.old) range }
+    requires prot { is_protection_among private_protections prot ≡ true }
+    requires can { CanMake pid range kind total (process_regions process.old) (G.contents g.old)
+        (G.store g.old) }
+    ensures changed { OnOk result (RegionsBecame process.old process.new
+        (add_region (private_region blank watched kind prot range) (process_regions process.old))) }
+    ensures adds { OnOk result (AddsKeys G.Pages pid range (keys_of kind) Makes true
+        (new_pages kind range) total g.old g.new) }
+    ensures makes { MakesWithin G.Pages (λ from to.
+        (kind == reserve_type) ≡ false → StandsFrom from to range) result g.old g.new }
+    ensures keeps { OnErr result (KeepsRegions G.Pages process.old process.new g.old g.new) }
+{
+    let Some(process) = process else {
+        unreachable!()
+    };
+    let region = NewRegion::private(alloc, watched, kind, prot, range)?;
+    match grow_for_region(&mut process.space, g, pid, range, total) {
+        Ok(()) => {
+            fill_region(&process.space, g, pid, range, kind);
+            process.space.add(region);
+            Ok(())
+        }
+        Err(NoMemory) => Err(NoMemory),
+    }
+}
 
 impl Tables {
     /// Commits a range of one private region of a process; `n` of its pages are not committed, and

@@ -1,21 +1,160 @@
-ghost use Rattle.std.specs.Prelude.{◌≡◌, ◌≤◌, ◌<◌, ◌+◌, ◌++◌, ◌==◌, [], ◌∷◌, true, false, is_some, length, Option, Some, IsSomeAnd, IsOk, OnOk, OnErr};
-ghost use Rattle.mm_types.specs.declared.moves.LineKind.TheVariants as line_kind;
-ghost use Rattle.mm_types.specs.{Key};
-ghost use Rattle.mm_world.specs.{Page, RegionOf, ProcessOf, Found, process_of, region_around, set_region, charge, limit, Committed, committed_at};
-ghost use Rattle.mm_world.specs.{guard_off, set_row, private_key, same_key, most_processes, most_slots, most_fails, no_regions, with_slots};
-ghost use Rattle.mm_world.specs.{protected, change_rows};
-ghost use Rattle.mm_pages.specs.{place_at, Turns, StoreOf, changed};
+ghost use Rattle.std.specs.Prelude.{◌==◌, ◌≡◌, ◌≤◌, ◌+◌, ◌-◌, ◌++◌, [], ◌∷◌, true, false, is_some, Some, IsOk, OnOk, OnErr, slice_set, vec_len, vec_capacity, ◌<◌, length, Option, IsSomeAnd};
+ghost use Rattle.mm_types.specs.{limit_of, Key};
+ghost use Rattle.mm_world.specs.{RowOf, RegionOf, Found, region_with, region_around, is_private, row_at, is_protection_among, all_protections};
+ghost use Rattle.mm_world.specs.{every_page, accepts, protected, change_rows, no_regions, with_slots, most_slots, Page, ProcessOf, process_of};
+ghost use Rattle.mm_world.specs.{set_region, charge, limit, Committed, committed_at, guard_off, set_row, private_key, same_key, most_processes};
+ghost use Rattle.mm_world.specs.{most_fails};
+ghost use Rattle.mm_pages.specs.{changed, place_at, StoreOf};
+ghost use Rattle.mm_spaces.specs.{owned_in};
+ghost use Rattle.mm_tables.specs.Effects.{Roomier};
 ghost use Rattle.mm_tables.specs.Fits.{FitsTables, extended, copied, CanCopy, NamesAtMostOne};
-ghost use Rattle.mm_tables.specs.Promises.{CanProtectAll, IsReadyFor, StartsProcess, StaysIdle, IdlesOver, SettlesTables};
+ghost use Rattle.mm_tables.specs.Promises.{StaysIdle, IdlesOver, CanProtectAll, IsReadyFor, StartsProcess, SettlesTables};
+ghost use Rattle.mm_tables.specs.Shown.{shown_processes};
+ghost use Rattle.mm_tables.specs.Spaces.{process_regions, RegionsBecame};
+ghost use Rattle.mm_types.specs.declared.moves.LineKind.TheVariants as line_kind;
 
 use crate::Tables;
-use crate::steps::{
-    copy_page, grow_for_marks, protect_pages, push_process, take, take_guard_off, with_slots,
-};
+use crate::private_pages::take;
+use crate::tables::Process;
 use mm_pages::Pages;
-use mm_spaces::PageRange;
-use mm_types::{NoMemory, Pid};
+use mm_sections::Handles;
+use mm_spaces::{AddressSpace, PageRange};
+use mm_types::{Machine, NoMemory, Pid};
 use std::alloc::Global;
+
+/// Takes the guard off a page that lies in a region of a living process.
+fn take_guard_off(process: &mut Option<Process>, page: u32)
+    requires lives { is_some process.old ≡ true }
+    requires there { is_some (region_with (process_regions process.old) page) ≡ true }
+    ensures changed { (r : Found (RegionOf (Unit {0}))) (row : RowOf (Unit {0})) →
+        region_with (process_regions process.old) page ≡ Some r → row_at r.thing page ≡ Some row
+        → RegionsBecame process.old process.new
+        (slice_set (process_regions process.old) r.place (record r.thing {
+          rows = slice_set r.thing.rows (page - r.thing.base) (record row { guard = false });
+        })) }
+{
+    match process {
+        Some(process) => process.space.take_guard_off(page),
+        None => unreachable!(),
+    }
+}
+
+/// Gives a page of a view, which has a mark and was not copied, bytes of its own and the protection
+/// READWRITE.
+fn copy_page(process: &mut Option<Process>, page: u32)
+    requires lives { is_some process.old ≡ true }
+    requires there { is_some (region_with (process_regions process.old) page) ≡ true }
+    requires marked { (r : Found (RegionOf (Unit {0}))) (row : RowOf (Unit {0})) →
+        region_with (process_regions process.old) page ≡ Some r → row_at r.thing page ≡ Some row
+        → (is_private r.thing.kind ≡ false) × (row.marked ≡ true) }
+    ensures changed { (r : Found (RegionOf (Unit {0}))) (row : RowOf (Unit {0})) →
+        region_with (process_regions process.old) page ≡ Some r → row_at r.thing page ≡ Some row
+        → RegionsBecame process.old process.new
+        (slice_set (process_regions process.old) r.place (record r.thing {
+          rows = slice_set r.thing.rows (page - r.thing.base)
+              (record row { own = Some tt; prot = 0x04 });
+        })) }
+{
+    match process {
+        Some(process) => process.space.copy_page(page),
+        None => unreachable!(),
+    }
+}
+
+/// Sees that there is room for `total` keys, as there was where `n` is 0. After `NoMemory`, which
+/// comes only where it is not, there may be more room.
+#[tactic(auto, using(mm_pages::proofs::Passed::turns_same))]
+fn grow_for_marks<G: Pages>(g: &mut G, n: u32, total: u32) -> Result<(), NoMemory>
+    requires within { total ≤ limit_of (G.store g.old).machine }
+    requires enough { n ≡ 0 → total ≤ (G.store g.old).room }
+    ensures room { OnOk result (total ≤ (G.store g.new).room) }
+    ensures some { n ≡ 0 → IsOk result }
+    ensures more { Roomier (G.contents g.old) (G.contents g.new) (G.store g.old) (G.store g.new) }
+    ensures idles { StaysIdle G.Pages g.old g.new }
+{
+    if n > 0 {
+        g.reserve(total)?;
+    }
+    Ok(())
+}
+
+/// Gives pages of one region of a living process another protection, which they accept.
+fn protect_pages(process: &mut Option<Process>, range: PageRange, prot: u32)
+    requires lives { is_some process.old ≡ true }
+    requires inside { is_some (region_around (process_regions process.old) range) ≡ true }
+    requires prot { is_protection_among all_protections prot ≡ true }
+    requires accepted { (r : Found (RegionOf (Unit {0}))) →
+        region_around (process_regions process.old) range ≡ Some r →
+        every_page (accepts r.thing prot) range ≡ true }
+    requires committed { (r : Found (RegionOf (Unit {0}))) →
+        region_around (process_regions process.old) range ≡ Some r →
+        is_private r.thing.kind ≡ true →
+        owned_in (process_regions process.old) range ≡ range.count }
+    ensures changed { (r : Found (RegionOf (Unit {0}))) →
+        region_around (process_regions process.old) range ≡ Some r →
+        RegionsBecame process.old process.new
+        (slice_set (process_regions process.old) r.place
+        (change_rows (protected r.thing.kind prot) range r.thing)) }
+{
+    match process {
+        Some(process) => process.space.protect(range, prot),
+        None => unreachable!(),
+    }
+}
+
+/// Puts a process without regions and handles at the end, for which there is room.
+fn push_empty(processes: &mut Vec<Option<Process>>, allocator: Global)
+    requires room { vec_len processes.old + 1 ≤ vec_capacity processes.old }
+    ensures { shown_processes processes.new.items ≡
+        shown_processes processes.old.items ++ Some no_regions ∷ [] }
+{
+    processes.push_reserved(Some(Process {
+        space: AddressSpace::new(allocator),
+        handles: Handles::new(allocator),
+    }));
+}
+
+/// Makes a process without regions in the store, at the end of those that there are. After
+/// `NoMemory` nothing has changed.
+#[tactic(auto, using(mm_pages::proofs::Passed::turns_same))]
+fn push_process<G: Pages>(
+    processes: &mut Vec<Option<Process>>,
+    allocator: Global,
+    g: &mut G,
+    pid: Pid,
+    min: u32,
+    max: u32,
+) -> Result<(), NoMemory>
+    requires new { (G.store g.old).is_open pid.0 ≡ false }
+    requires kind { (G.store g.old).kind ≡ line_kind.Process pid min max }
+    ensures added { OnOk result (shown_processes processes.new.items ≡
+        shown_processes processes.old.items ++ Some no_regions ∷ []) }
+    ensures same { OnErr result (processes.new.items ≡ processes.old.items) }
+    ensures store { OnOk result (G.store g.new ≡ record (G.store g.old) {
+      is_open = changed ◌==◌ (G.store g.old).is_open pid.0 true;
+    }) }
+    ensures kept { OnErr result (G.store g.new ≡ G.store g.old) }
+    ensures idles { IdlesOver G.Pages g.old g.new }
+{
+    processes.reserve(1)?;
+    g.open_process(pid, min, max)?;
+    push_empty(processes, allocator);
+    Ok(())
+}
+
+/// The machine with `n` page-file slots more.
+fn with_slots(machine: Machine, n: u32) -> Machine
+    requires most { machine.slots + n ≤ most_slots }
+    ensures made { result ≡ with_slots machine n }
+    ensures limit { limit_of (with_slots machine n) ≡ limit_of machine + n }
+{
+    Machine::new(
+        machine.frames(),
+        machine.slots() + n,
+        machine.depth(),
+        machine.blocks(),
+    )
+}
 
 impl Tables {
     // ---- processes and what is counted

@@ -1,78 +1,49 @@
-ghost use Rattle.std.specs.Prelude.{◌≡◌, ◌≤◌, ◌<◌, ◌+◌, ◌^◌, ◌++◌, [], ◌∷◌, true, false, is_some, length, replicate, if◌then◌else◌, Option, Some, None, IfOk, OnOk, OnErr, IfSome, position, slice_set, option_map, vec_len, vec_capacity};
+ghost use Rattle.std.specs.Prelude.{◌≡◌, ◌≤◌, ◌<◌, ◌+◌, ◌^◌, ◌++◌, [], ◌∷◌, true, false, is_some, length, replicate, if◌then◌else◌, Option, Some, None, IfOk, OnOk, OnErr, IfSome, position, vec_len, vec_capacity, find, bytes_eq};
 ghost use Rattle.mm_types.specs.declared.answers.Answer.TheVariants as answer;
 ghost use Rattle.mm_types.specs.{Key, limit_of};
 ghost use Rattle.mm_world.specs.{Page, ProcessOf, numbered, process_of, section_of, section_named, area_at, is_named, charge, limit, next_handle};
 ghost use Rattle.mm_world.specs.{with_handle, new_section};
 ghost use Rattle.mm_pages.specs.{Makes, StoreOf};
 ghost use Rattle.mm_sections.specs.{sections_of, new_entry, one_handle_more, page_if};
+ghost use Rattle.mm_tables.specs.Ranges.{Come};
 ghost use Rattle.mm_tables.specs.References.{IsFew};
-ghost use Rattle.mm_tables.specs.Shown.{shown_process, shown_processes};
+ghost use Rattle.mm_tables.specs.Shown.{shown_processes};
 ghost use Rattle.mm_tables.specs.Promises.{IsReadyFor, PassesAs, MakesPages, SettlesTables};
-ghost use Rattle.mm_tables.specs.SectionSteps.{has_spare, has_room, CanFill, Fills, Opens, IsListedAs, CanHold, IsNewArea};
+ghost use Rattle.mm_tables.specs.SectionSteps.{has_room, CanFill, Opens, IsListedAs, CanHold, GivesHandle, IsNewArea, is_page_of};
 ghost use Rattle.mm_tables.specs.Effects.{Roomier};
 ghost use Rattle.mm_tables.specs.Fits.{FitsTables, Settled};
 ghost use Rattle.mm_types.specs.declared.moves.LineKind.TheVariants as line_kind;
+ghost use Rattle.mm_tables.specs.FilePromises.{IsNewFile, MakesFile, StoresFile, BlamesDevice, NotesFile};
 
 use crate::Tables;
-use crate::steps::take;
+use crate::private_pages::take;
 use crate::tables::Process;
 use mm_pages::Pages;
 use mm_sections::{Directory, SectionPages};
-use mm_types::{Area, Key, Name, NoMemory, Pid, Prot, SectionId};
+use mm_types::{Area, Block, Key, MakeFault, Name, NoMemory, Pid, Prot, SectionId};
 use std::alloc::Global;
 
 /// Sees that there is room for one handle more of a living process.
-fn grow_handles(process: &mut Option<Process>) -> Result<(), NoMemory>
-    requires lives { is_some process.old ≡ true }
-    ensures same { option_map shown_process process.new ≡ option_map shown_process process.old }
-    ensures ok { OnOk result (has_spare process.new ≡ true) }
+fn grow_handles(processes: &mut Vec<Option<Process>>, pid: Pid) -> Result<(), NoMemory>
+    requires lives { is_some (numbered (shown_processes processes.old.items) pid.0) ≡ true }
+    ensures same { shown_processes processes.new.items ≡ shown_processes processes.old.items }
+    ensures ok { OnOk result (has_room processes.new.items pid.0 ≡ true) }
 {
-    match process {
+    match &mut processes[pid.0 as usize - 1] {
         Some(process) => process.handles.reserve(),
         None => unreachable!(),
     }
 }
 
 /// The next handle of a living process, to this section. There is room for it.
-fn give_handle(process: &mut Option<Process>, id: SectionId) -> u32
-    requires room { has_spare process.old ≡ true }
-    requires few { (p : ProcessOf (Unit {0})) → option_map shown_process process.old ≡ Some p →
-        length p.handles < 2 ^ 28 }
-    ensures handle { (p : ProcessOf (Unit {0})) → option_map shown_process process.old ≡ Some p →
-        result ≡ next_handle p }
-    ensures given { (p : ProcessOf (Unit {0})) → option_map shown_process process.old ≡ Some p →
-        option_map shown_process process.new ≡ Some (record p {
-          handles = p.handles ++ Some id.0 ∷ [];
-        }) }
+fn give_handle(processes: &mut Vec<Option<Process>>, pid: Pid, id: SectionId) -> u32
+    requires holds { CanHold processes.old.items pid.0 }
+    ensures { GivesHandle processes.old.items processes.new.items pid.0 id.0 result }
 {
-    match process {
+    match &mut processes[pid.0 as usize - 1] {
         Some(process) => process.handles.add(id),
         None => unreachable!(),
     }
-}
-
-/// Sees that there is room for one handle more of the process.
-fn grow_handles_of(processes: &mut Vec<Option<Process>>, pid: Pid) -> Result<(), NoMemory>
-    requires lives { is_some (numbered (shown_processes processes.old.items) pid.0) ≡ true }
-    ensures same { shown_processes processes.new.items ≡ shown_processes processes.old.items }
-    ensures ok { OnOk result (has_room processes.new.items pid.0 ≡ true) }
-{
-    grow_handles(&mut processes[pid.0 as usize - 1])
-}
-
-/// The next handle of the process, to this section. There is room for it.
-fn give_handle_of(processes: &mut Vec<Option<Process>>, pid: Pid, id: SectionId) -> u32
-    requires holds { CanHold processes.old.items pid.0 }
-    ensures handle { (p : ProcessOf (Unit {0})) →
-        numbered (shown_processes processes.old.items) pid.0 ≡ Some p → result ≡ next_handle p }
-    ensures given { (p : ProcessOf (Unit {0})) →
-        numbered (shown_processes processes.old.items) pid.0 ≡ Some p →
-        shown_processes processes.new.items ≡ slice_set (shown_processes processes.old.items) pid.0
-        (Some (record p {
-          handles = p.handles ++ Some id.0 ∷ [];
-        })) }
-{
-    give_handle(&mut processes[pid.0 as usize - 1], id)
 }
 
 /// Sees that there is room for one section more and a handle to it. After `NoMemory` all is as
@@ -89,7 +60,7 @@ fn grow_for_section(
     ensures room { OnOk result (has_room processes.new.items pid.0 ≡ true) }
 {
     directory.reserve()?;
-    grow_handles_of(processes, pid)
+    grow_handles(processes, pid)
 }
 
 /// Makes a section to which one handle of the process refers, which is answered. There is room for
@@ -107,21 +78,15 @@ fn list_section(
     requires few { length directory.old.entries < 2 ^ 28 }
     requires unnamed { IfSome name (λ n. position (is_named n) (sections_of directory.old.entries) ≡
         None) }
-    ensures handle { (p : ProcessOf (Unit {0})) →
-        numbered (shown_processes processes.old.items) pid.0 ≡ Some p → result ≡ next_handle p }
-    ensures given { (p : ProcessOf (Unit {0})) →
-        numbered (shown_processes processes.old.items) pid.0 ≡ Some p →
-        shown_processes processes.new.items ≡ slice_set (shown_processes processes.old.items) pid.0
-        (Some (record p {
-          handles = p.handles ++ Some (length directory.old.entries) ∷ [];
-        })) }
+    ensures gives { GivesHandle processes.old.items processes.new.items pid.0
+        (length directory.old.entries) result }
     ensures entries { directory.new.entries ≡ directory.old.entries ++
         Some (one_handle_more (new_entry prot.0 name area.0)) ∷ [] }
     ensures files { directory.new.files ≡ directory.old.files }
 {
     let id = directory.add_section(prot, name, area);
     directory.add_handle(id);
-    give_handle_of(processes, pid, id)
+    give_handle(processes, pid, id)
 }
 
 /// What a page-file section takes beside keys: room for it and a handle, and its control area.
@@ -155,8 +120,8 @@ fn grow_for_paging(
 #[tactic(auto, using(mm_pages::proofs::Passed::turns_same))]
 fn fill_area<G: Pages>(g: &mut G, area: Area, n: u32)
     requires can { CanFill area n (G.contents g.old) (G.store g.old) }
-    ensures fills { Fills area n (G.contents g.old) (G.contents g.new) (G.store g.old)
-        (G.store g.new) }
+    ensures fills { Come (is_page_of area n) n (G.contents g.old) (G.contents g.new)
+        (G.store g.old) (G.store g.new) }
     ensures passes { PassesAs G.Pages Makes g.old g.new }
     ensures loans { G.loans g.new ≡ G.loans g.old }
 {
@@ -199,12 +164,48 @@ fn pages_if(pages: u32, committed: bool) -> u32
     if committed { pages } else { 0 }
 }
 
-/// Puts an area at the end, for which there is room.
-fn push_area(areas: &mut Vec<SectionPages>, area: SectionPages)
-    requires room { vec_len areas.old + 1 ≤ vec_capacity areas.old }
-    ensures { areas.new.items ≡ areas.old.items ++ area ∷ [] }
+/// What a file takes beside its blocks: room for it, and its control area.
+fn grow_for_file(
+    alloc: Global,
+    directory: &mut Directory,
+    areas: &mut Vec<SectionPages>,
+    first: Block,
+    pages: u32,
+) -> Result<SectionPages, NoMemory>
+    ensures made { IfOk result (λ a. a ≡ record {
+      file_block = Some first.0;
+      pages = replicate pages (Some tt);
+    }) }
+    ensures listed { IsListedAs directory.old directory.new }
+    ensures areas { areas.new.items ≡ areas.old.items }
+    ensures spare { OnOk result (1 ≤ directory.new.spare) }
+    ensures space { OnOk result (vec_len areas.new + 1 ≤ vec_capacity areas.new) }
 {
-    areas.push_reserved(area);
+    directory.reserve()?;
+    areas.reserve(1)?;
+    SectionPages::of_file(alloc, first, pages)
+}
+
+/// Lists a file of the next area. There is room for both.
+fn list_file(
+    directory: &mut Directory,
+    areas: &mut Vec<SectionPages>,
+    area: Area,
+    made: SectionPages,
+    name: Name,
+)
+    requires spare { 1 ≤ directory.old.spare }
+    requires space { vec_len areas.old + 1 ≤ vec_capacity areas.old }
+    requires unnamed { find (λ f. bytes_eq f.name name) directory.old.files ≡ None }
+    ensures entries { directory.new.entries ≡ directory.old.entries }
+    ensures files { directory.new.files ≡ directory.old.files ++ record {
+      name = name;
+      area = area.0;
+    } ∷ [] }
+    ensures areas { areas.new.items ≡ areas.old.items ++ made ∷ [] }
+{
+    directory.add_file(name, area);
+    areas.push_reserved(made);
 }
 
 impl Tables {
@@ -258,7 +259,7 @@ impl Tables {
             prot,
             name,
         );
-        push_area(&mut self.areas, made);
+        self.areas.push_reserved(made);
         take(&mut self.commit, n);
         Ok(handle)
     }
@@ -310,8 +311,45 @@ impl Tables {
         ensures settled { (c : Key → Option Page) (s : StoreOf) → FitsTables self.old c s →
             Settled self.new c c s s }
     {
-        grow_handles_of(&mut self.processes, pid)?;
+        grow_handles(&mut self.processes, pid)?;
         self.directory.add_handle(id);
-        Ok(give_handle_of(&mut self.processes, pid, id))
+        Ok(give_handle(&mut self.processes, pid, id))
+    }
+
+    /// Makes a file of `pages` pages in the lowest blocks that no file uses; no file has the name.
+    /// Page i holds the byte `byte + i` throughout. `Write` where a write of a block failed: then
+    /// there is no file. After an error the tables are as before.
+    pub fn add_file<G: Pages>(
+        &mut self,
+        alloc: Global,
+        g: &mut G,
+        name: Name,
+        pages: u32,
+        byte: u8,
+    ) -> Result<(), MakeFault>
+        requires fits { FitsTables self.old (G.contents g.old) (G.store g.old) }
+        requires kind { (G.store g.old).kind ≡ line_kind.Call }
+        requires few { IsFew self.old }
+        requires new { IsNewFile name pages self.old }
+        ensures files { MakesFile G.Pages name pages byte result self.old self.new g.old g.new }
+        ensures stored { StoresFile G.Pages result self.new g.old g.new }
+        ensures fails { BlamesDevice G.Pages result g.old g.new }
+        ensures notes { NotesFile G.Pages self.old.blocks_used pages result g.old g.new }
+    {
+        let area = Area(self.areas.len() as u32);
+        let first = Block(self.blocks_used);
+        let grown = grow_for_file(alloc, &mut self.directory, &mut self.areas, first, pages);
+        let made = match grown {
+            Ok(made) => made,
+            Err(NoMemory) => return Err(MakeFault::Memory),
+        };
+        match g.make_file(area, first, pages, byte) {
+            Ok(()) => {
+                list_file(&mut self.directory, &mut self.areas, area, made, name);
+                self.blocks_used += pages;
+                Ok(())
+            }
+            Err(fault) => Err(fault),
+        }
     }
 }

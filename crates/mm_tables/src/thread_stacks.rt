@@ -1,9 +1,9 @@
-ghost use Rattle.std.specs.Prelude.{◌≡◌, ◌==◌, ℕ, map, replicate, slice_set, Option, Some, None};
+ghost use Rattle.std.specs.Prelude.{◌≡◌, ◌==◌, map, replicate, slice_set, Option, Some, None};
 ghost use Rattle.mm_types.specs.{Key};
 ghost use Rattle.mm_world.specs.{Page, StackOf, numbered, unless, stack_by, set_stack, end_stacks, is_stack_at, threads};
 ghost use Rattle.mm_pages.specs.{StoreOf};
 ghost use Rattle.mm_tables.specs.Fits.{FitsTables};
-ghost use Rattle.mm_tables.specs.Stacks.{StandBelow};
+ghost use Rattle.mm_tables.specs.Stacks.{StandBelow, is_stack_of};
 
 use crate::Tables;
 use mm_types::{PAGE_SIZE, Pid, THREADS, Tid};
@@ -84,24 +84,23 @@ fn unless_in(pid: Pid, stack: Option<ThreadStack>) -> Option<ThreadStack>
     }
 }
 
-/// No stack is one whose region begins at the address any more; the threads below `end` may have
-/// one.
-fn drop_at(places: &mut [Option<ThreadStack>; THREADS], end: usize, pid: Pid, addr: u32)
-    requires below { StandBelow end places.old }
-    ensures { places.new ≡ map (unless (is_stack_at pid.0 addr)) places.old }
+/// The stack, unless it is one of the process: the one at the address, where one is given, else any.
+fn unless_ended(pid: Pid, addr: Option<u32>, stack: Option<ThreadStack>) -> Option<ThreadStack>
+    ensures { result ≡ unless (is_stack_of pid.0 addr) stack }
 {
-    for tid in 0..end {
-        places[tid] = unless_at(pid, addr, places[tid]);
+    match addr {
+        Some(addr) => unless_at(pid, addr, stack),
+        None => unless_in(pid, stack),
     }
 }
 
-/// No stack is one of the process any more; the threads below `end` may have one.
-fn drop_in(places: &mut [Option<ThreadStack>; THREADS], end: usize, pid: Pid)
+/// No stack is one of those any more; the threads below `end` may have one.
+fn drop_ended(places: &mut [Option<ThreadStack>; THREADS], end: usize, pid: Pid, addr: Option<u32>)
     requires below { StandBelow end places.old }
-    ensures { places.new ≡ map (unless (λ (s : StackOf). s.pid == pid.0)) places.old }
+    ensures { places.new ≡ map (unless (is_stack_of pid.0 addr)) places.old }
 {
     for tid in 0..end {
-        places[tid] = unless_in(pid, places[tid]);
+        places[tid] = unless_ended(pid, addr, places[tid]);
     }
 }
 
@@ -132,18 +131,12 @@ impl Stacks {
         self.end = self.end.max(place + 1);
     }
 
-    /// A stack of the process whose region begins at the address ends.
-    fn end_at(&mut self, pid: Pid, addr: u32)
-        ensures { self.new ≡ map (unless (is_stack_at pid.0 addr)) self.old }
+    /// The stack of the process whose region begins at the address ends, where one is given, else
+    /// each of its stacks.
+    fn let_go(&mut self, pid: Pid, addr: Option<u32>)
+        ensures { self.new ≡ map (unless (is_stack_of pid.0 addr)) self.old }
     {
-        drop_at(&mut self.places, self.end, pid, addr);
-    }
-
-    /// Each stack of the process ends.
-    fn end_in(&mut self, pid: Pid)
-        ensures { self.new ≡ map (unless (λ (s : StackOf). s.pid == pid.0)) self.old }
-    {
-        drop_in(&mut self.places, self.end, pid);
+        drop_ended(&mut self.places, self.end, pid, addr);
     }
 }
 
@@ -171,7 +164,7 @@ impl Tables {
         ensures fits { (c : Key → Option Page) (s : StoreOf) → FitsTables self.old c s →
             FitsTables self.new c s }
     {
-        self.stacks.end_at(pid, addr);
+        self.stacks.let_go(pid, Some(addr));
     }
 
     /// No thread has a stack in this process any more.
@@ -180,6 +173,6 @@ impl Tables {
         ensures fits { (c : Key → Option Page) (s : StoreOf) → FitsTables self.old c s →
             FitsTables self.new c s }
     {
-        self.stacks.end_in(pid);
+        self.stacks.let_go(pid, None);
     }
 }

@@ -1,3 +1,4 @@
+ghost use Rattle.std.specs.Option.{ForSome};
 ghost use Rattle.std.specs.Prelude.{◌≡◌, ◌≤◌, ◌<◌, ◌+◌, ◌-◌, ◌^◌, ℕ, true, false, is_some, if◌then◌else◌, Some, None, IsOk, OnOk, OnErr, length, slice_set};
 ghost use Rattle.mm_types.specs.declared.moves.LineKind.TheVariants as line_kind;
 ghost use Rattle.mm_types.specs.{View};
@@ -5,13 +6,13 @@ ghost use Rattle.mm_types.specs.declared.views.Kind.TheVariants as kind;
 ghost use Rattle.mm_world.specs.{RegionOf, ProcessOf, SectionOf, Found, process_of, section_of, region_around, add_region, set_region, set_regions};
 ghost use Rattle.mm_world.specs.{set_area, area_at, is_private, commit_shared, charge, limit, blank, is_protection_among, all_protections, protected};
 ghost use Rattle.mm_world.specs.{change_rows, view_region, is_copy, ViewFits};
-ghost use Rattle.mm_pages.specs.{Makes, MakesFrom};
-ghost use Rattle.mm_tables.specs.Promises.{CommitsInView, IsNewPlace, IsReadyFor, CanBind, PassesAs, StaysIdle, IdlesOver, MakesPages, BindsPlaces, SettlesTables};
+ghost use Rattle.mm_pages.specs.{MakesFrom};
+ghost use Rattle.mm_tables.specs.Promises.{CommitsInView, IsNewPlace, IsReadyFor, CanBind, PassesAs, StaysIdle, IdlesOver, MakesPages, BindsPlaces, SettlesTables, SharesPages};
 ghost use Rattle.mm_tables.specs.Shown.{shown_processes};
 ghost use Rattle.mm_tables.specs.ViewChanges.{region_of_view, living, listed_area, MoreRoom, CanShare, Shares, CanProtect};
 
 use crate::Tables;
-use crate::steps::{grow_for_region, take};
+use crate::private_pages::{grow_for_region, take};
 use crate::tables::Process;
 use mm_pages::Pages;
 use mm_sections::SectionPages;
@@ -74,8 +75,7 @@ fn make_view_in<G: Pages>(
     total: u32,
 ) -> Result<(), NoMemory>
     requires lives { is_some (living processes.old.items pid.0) ≡ true }
-    requires new { (p : ProcessOf (Unit {0})) → living processes.old.items pid.0 ≡ Some p →
-        IsNewPlace p.regions range }
+    requires new { ForSome (living processes.old.items pid.0) (λ p. IsNewPlace p.regions range) }
     requires bind { CanBind G.Pages pid range total g.old }
     ensures made { OnOk result ((p : ProcessOf (Unit {0})) →
         living processes.old.items pid.0 ≡ Some p →
@@ -91,25 +91,6 @@ fn make_view_in<G: Pages>(
 {
     match &mut processes[pid.0 as usize - 1] {
         Some(process) => make_view(alloc, &mut process.space, g, pid, range, view, total),
-        None => unreachable!(),
-    }
-}
-
-/// The view in which the pages of a range of a living process lie, and how many of its pages stand
-/// before them.
-fn view_around(processes: &Vec<Option<Process>>, pid: Pid, range: PageRange) -> (View, u32)
-    requires lives { is_some (living processes.now.items pid.0) ≡ true }
-    requires inside { (p : ProcessOf (Unit {0})) → living processes.now.items pid.0 ≡ Some p →
-        is_some (region_around p.regions range) ≡ true }
-    requires view { (p : ProcessOf (Unit {0})) (r : Found (RegionOf (Unit {0}))) →
-        living processes.now.items pid.0 ≡ Some p → region_around p.regions range ≡ Some r →
-        is_private r.thing.kind ≡ false }
-    ensures { (p : ProcessOf (Unit {0})) (r : Found (RegionOf (Unit {0}))) →
-        living processes.now.items pid.0 ≡ Some p → region_around p.regions range ≡ Some r →
-        (r.thing.kind ≡ kind.View result.0) × (result.1 ≡ range.first - r.thing.base) }
-{
-    match &processes[pid.0 as usize - 1] {
-        Some(process) => view_of(&process.space, range),
         None => unreachable!(),
     }
 }
@@ -160,10 +141,7 @@ fn share_page<G: Pages>(g: &mut G, pages: &SectionPages, area: Area, index: u32)
 fn share_range<G: Pages>(g: &mut G, pages: &SectionPages, area: Area, first: u32, count: u32)
     requires end { first + count < 2 ^ 32 }
     requires can { CanShare area first count pages.now (G.contents g.old) (G.store g.old) }
-    ensures shares { Shares area first count pages.now (G.contents g.old) (G.contents g.new)
-        (G.store g.old) (G.store g.new) }
-    ensures passes { PassesAs G.Pages Makes g.old g.new }
-    ensures loans { G.loans g.new ≡ G.loans g.old }
+    ensures { SharesPages G.Pages area first count pages.now g.old g.new }
 {
     for i in 0..count {
         share_page(g, pages, area, first + i);
@@ -188,10 +166,8 @@ fn share_in<G: Pages>(pages: &mut SectionPages, g: &mut G, view: View, offset: u
     requires can { CanShare view.area (view.first + offset) count pages.old (G.contents g.old)
         (G.store g.old) }
     ensures pages { pages.new ≡ commit_shared blank (view.first + offset) count pages.old }
-    ensures shares { Shares view.area (view.first + offset) count pages.old (G.contents g.old)
-        (G.contents g.new) (G.store g.old) (G.store g.new) }
-    ensures passes { PassesAs G.Pages Makes g.old g.new }
-    ensures loans { G.loans g.new ≡ G.loans g.old }
+    ensures shared { SharesPages G.Pages view.area (view.first + offset) count
+        pages.old g.old g.new }
 {
     let first = index_behind(pages, view.first, offset);
     share_range(g, pages, view.area, first, count);
@@ -213,12 +189,8 @@ fn share_pages<G: Pages>(
         slice_set areas.old.items view.area.0
         (commit_shared blank (view.first +
         offset) count (listed_area areas.old.items view.area.0)) }
-    ensures shares { Shares view.area (view.first + offset) count
-        (listed_area areas.old.items view.area.0) (G.contents g.old) (G.contents g.new)
-        (G.store g.old)
-        (G.store g.new) }
-    ensures passes { PassesAs G.Pages Makes g.old g.new }
-    ensures loans { G.loans g.new ≡ G.loans g.old }
+    ensures shared { SharesPages G.Pages view.area (view.first + offset) count
+        (listed_area areas.old.items view.area.0) g.old g.new }
 {
     share_in(&mut areas[view.area.0 as usize], g, view, offset, count);
 }
@@ -272,7 +244,7 @@ impl Tables {
         ensures settles { SettlesTables G.Pages result self.old self.new g.old g.new }
         ensures makes { MakesPages G.Pages result g.old g.new }
     {
-        let (view, offset) = view_around(&self.processes, pid, range);
+        let (view, offset) = view_of(self.space(pid), range);
         let total = self.commit.now() + n;
         g.reserve(total)?;
         share_pages(&mut self.areas, g, view, offset, range.count);

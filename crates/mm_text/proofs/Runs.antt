@@ -1,18 +1,16 @@
 -- A number read from its place in a line, one byte after another.
-use Rattle.std.proofs.Common.{◌≡◌, ◌≢◌, ℕ, ◌+◌, ◌-◌, ◌*◌, ◌^◌, ◌≤◌, ◌<◌, Bool, true, false, cond, List, [], ◌∷◌, ◌++◌, length, drop, take, get_or, Option, Some, None, refl, sym, ap, subst, ◌∙◌, inl, inr, arith, length-take}
-use Rattle.std.specs.Prelude.{◌⊎◌, nat_lt, nat_le, ◌&&◌, ◌==◌, slice_range, IfSome}
-use Rattle.std.specs.List.{list_all}
-use Rattle.std.proofs.lemmas.List.{drop_more, drop_all, get_or-take}
+use Rattle.std.proofs.Common.{◌≡◌, ◌≢◌, ℕ, ◌+◌, ◌-◌, ◌*◌, ◌^◌, ◌≤◌, ◌<◌, Bool, true, false, [], ◌∷◌, ◌++◌, length, drop, take, get_or, Option, Some, None, refl, sym, ap, subst, ◌∙◌, inl, inr, arith, length-take}
+use Rattle.std.specs.Prelude.{nat_lt, ◌&&◌, slice_range, IfSome}
+use Rattle.std.proofs.lemmas.List.{drop_more, get_or-take}
 use Rattle.std.proofs.lemmas.List.Edits.{between_more, between_none, length-between}
 use Rattle.std.proofs.lemmas.List.Folds.{list_all-append}
 use Rattle.std.proofs.lemmas.Slice.{between_is}
-use Rattle.std.proofs.lemmas.Bool.{lt-ltb, eqb-true}
+use Rattle.std.proofs.lemmas.Bool.{lt-ltb}
 use Rattle.mm_types.specs.{Text}
-use Rattle.mm_text.specs.{digit_value, value_in, are_digits, digits_in, below_limit, limited, hex_digits, number_in, number_of, words_from, rest_from}
-use Rattle.mm_text.specs.{EndsWord, BeginsHex, IsRun, IsNumberAt, TakesNumber}
-use Rattle.mm_text.specs.Word.{Word}
+use Rattle.mm_text.specs.{digit_value, value_in, are_digits, limited, number_in, number_of, words_from, rest_from, EndsWord, BeginsHex, IsRun}
+use Rattle.mm_text.specs.{IsNumberAt, TakesNumber}
 use Rattle.mm_text.proofs.Splits.{word_longer, word_ended, word_over, word_begun, rest_some}
-use Rattle.mm_text.proofs.Values.{scan_whole, scan_is}
+use Rattle.mm_text.proofs.Spelled.{no_hex, read_digits}
 
 value_in-more : (base n : ℕ) (cs : Text) (c : ℕ) → value_in base n (cs ++ c ∷ []) ≡ value_in base n cs * base + digit_value c
 value_in-more base n [] c = refl
@@ -63,9 +61,6 @@ ended_at line from to order e = elim e [
   | inr here ↦ word_ended line from to order here.0 here.1
 ]
 
-limit_kept : (n : ℕ) → n < 2 ^ 32 → below_limit n ≡ Some n
-limit_kept n low = ap (λ t. cond t (Some n) None) (lt-ltb n (2 ^ 32) low)
-
 -- all of a word was passed
 pub run_whole : (base most : ℕ) (line : Text) (start to sum : ℕ) → start < to → to ≤ start + most → to ≤ length line → sum < 2 ^ 32 → EndsWord line to → Passed base line start to sum → IsRun base most line start to sum
 run_whole base most line start to sum some few within low e p =
@@ -75,47 +70,18 @@ run_whole base most line start to sum some few within low e p =
       order = omega arith;
       within = within;
       digits = p.digits;
-      reads =
-          scan_whole base most cs (omega (arith, long)) (omega (arith, long))
-          ∙ scan_is base 0 cs
-          ∙ ap (λ t. cond t (below_limit (value_in base 0 cs)) None) p.digits
-          ∙ ap below_limit p.value
-          ∙ limit_kept sum low;
+      reads = read_digits base most sum cs (omega (arith, long)) (omega (arith, long)) p.digits p.value low;
       word = λ from h. p.word from h ∙ ended_at line from to (omega arith) e;
     }
 
 pub ruleset runs = (run_whole, passed_none)
-
--- decimal digits have no `x` among them
-not_x : (b : ℕ) (cs : Text) (t : Bool) → nat_lt (digit_value b) 10 ≡ t → t ≡ true → (b == 0x78) ≡ false
-not_x b cs t e h = by_test (b == 0x78) refl
-  where
-    by_test : (q : Bool) → (b == 0x78) ≡ q → q ≡ false
-    by_test false f = refl
-    by_test true f = sym (e ∙ h) ∙ ap (λ (k : ℕ). nat_lt (digit_value k) 10) (eqb-true b 0x78 f)
-
-first_two : (a b c : Bool) → (a && (b && c)) ≡ true → b ≡ true
-first_two true true c h = refl
-first_two true false c h = h
-first_two false b c h = cc
-
-neither : (a b : Bool) (cs : Text) → b ≡ false → cond (a && b) (Some cs) None ≡ None
-neither true b cs e = ap (λ t. cond t (Some cs) None) e
-neither false b cs e = refl
-
-pub decimal_not_hex : (cs : Text) → are_digits 10 cs ≡ true → hex_digits cs ≡ None
-decimal_not_hex [] h = refl
-decimal_not_hex (a ∷ []) h = refl
-decimal_not_hex (a ∷ b ∷ cs) h =
-    let second : nat_lt (digit_value b) 10 ≡ true = first_two (nat_lt (digit_value a) 10) (nat_lt (digit_value b) 10) (are_digits 10 cs) h in
-    neither (a == 0x30) (b == 0x78) cs (not_x b cs (nat_lt (digit_value b) 10) refl second)
 
 pub decimal_at : (line : Text) (from to value : ℕ) → IsRun 10 10 line from to value → IsNumberAt line from to value
 decimal_at line from to value r = record {
   order = r.order;
   within = r.within;
   word = word_begun line from ∙ r.word from (omega arith);
-  reads = ap (λ o. limited (number_in (slice_range line from to) o)) (decimal_not_hex (slice_range line from to) r.digits) ∙ r.reads;
+  reads = ap (λ o. limited (number_in (slice_range line from to) o)) (no_hex (slice_range line from to) r.digits) ∙ r.reads;
 }
 
 -- what stands from a place on, after its first two bytes

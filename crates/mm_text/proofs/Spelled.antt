@@ -144,7 +144,7 @@ not_x b low = elim (cases_Bool (b == 0x78)) [
   | inr other ↦ other
 ]
 
-no_hex : (cs : Text) → are_digits 10 cs ≡ true → hex_digits cs ≡ None
+pub no_hex : (cs : Text) → are_digits 10 cs ≡ true → hex_digits cs ≡ None
 no_hex [] e = refl
 no_hex (a ∷ []) e = refl
 no_hex (a ∷ b ∷ cs) e =
@@ -153,7 +153,7 @@ no_hex (a ∷ b ∷ cs) e =
     ap (λ t. cond t (Some cs) None) (and_right (a == 0x30) (b == 0x78) (not_x b low))
 
 -- digits of a base, in a length that is allowed, with a value below the limit
-read_digits : (base most n : ℕ) (cs : Text) → 1 ≤ length cs → length cs ≤ most → are_digits base cs ≡ true → value_in base 0 cs ≡ n → n < 2 ^ 32 → limited (digits_in base most cs) ≡ Some n
+pub read_digits : (base most n : ℕ) (cs : Text) → 1 ≤ length cs → length cs ≤ most → are_digits base cs ≡ true → value_in base 0 cs ≡ n → n < 2 ^ 32 → limited (digits_in base most cs) ≡ Some n
 read_digits base most n cs some few good value low =
     scan_whole base most cs some few ∙ scan_is base 0 cs
     ∙ ap (λ b. cond b (below_limit (value_in base 0 cs)) None) good

@@ -14,4 +14,4 @@ pub use Field.{hex_digits, is_letter, is_name, is_name_byte, limited, name_of, n
 pub use Field.{pair_of, pairs_of, value_in}
 pub use Columns.{numbers_in}
 unfoldable pub use Columns.{left_in, right_in}
-pub use Following.{following}
+pub use Following.{following, number_word}

@@ -1,6 +1,6 @@
 ghost use Rattle.std.specs.Prelude.{◌≡◌, ◌≤◌, ◌+◌, ◌*◌, ◌++◌, length, map};
-ghost use Rattle.mm_types.specs.{decimal, hex8, spaced, code_number, status_number, why_text, answer_text, spelling};
-ghost use Rattle.mm_text.specs.Following.{following};
+ghost use Rattle.mm_types.specs.{spaced, code_number, status_number, why_text, answer_text, spelling};
+ghost use Rattle.mm_text.specs.Following.{following, number_word};
 
 use crate::{LineBuf, put_bytes, put_decimal, put_hex8};
 use mm_types::{Answer, ByteBuf, Code, Counts, PageList, QueryInfo, Raise, Why};
@@ -48,52 +48,43 @@ fn why_word(why: Why) -> &'static [u8]
     }
 }
 
-/// Writes decimal numbers, each after a space.
+/// Writes a number: addresses, sizes and the like by eight hexadecimal digits, others in decimal.
+#[inline(always)]
 #[tactic(auto, using(crate::proofs::Lines::steps))]
-fn put_numbers(out: &mut LineBuf, numbers: &[u32])
+fn put_word(out: &mut LineBuf, hex: bool, n: u32)
+    requires { length out.old + 10 ≤ 256 }
+    ensures text { out.new ≡ out.old ++ number_word hex n }
+    ensures few { length out.new ≤ length out.old + 10 }
+{
+    if hex {
+        put_hex8(out, n);
+    } else {
+        put_decimal(out, u64::from(n));
+    }
+}
+
+/// Writes numbers, each after a space.
+#[tactic(auto, using(crate::proofs::Lines::steps))]
+fn put_words(out: &mut LineBuf, hex: bool, numbers: &[u32])
     requires { length out.old + 11 * length numbers.now ≤ 256 }
-    ensures text { out.new ≡ out.old ++ following (map decimal numbers.now) }
+    ensures text { out.new ≡ out.old ++ following (map (number_word hex) numbers.now) }
     ensures few { length out.new ≤ length out.old + 11 * length numbers.now }
 {
     for number in numbers {
         out.push(b' ');
-        put_decimal(out, u64::from(*number));
+        put_word(out, hex, *number);
     }
 }
 
-/// Writes addresses, sizes and the like, each after a space.
+/// A word, and numbers after it.
 #[tactic(auto, using(crate::proofs::Lines::steps))]
-fn put_fields(out: &mut LineBuf, fields: &[u32])
-    requires { length out.old + 11 * length fields.now ≤ 256 }
-    ensures text { out.new ≡ out.old ++ following (map hex8 fields.now) }
-    ensures few { length out.new ≤ length out.old + 11 * length fields.now }
-{
-    for field in fields {
-        out.push(b' ');
-        put_hex8(out, *field);
-    }
-}
-
-/// A word, and decimal numbers after it.
-#[tactic(auto, using(crate::proofs::Lines::steps))]
-fn line_of_numbers(out: &mut LineBuf, word: &[u8], numbers: &[u32])
+fn line_of(out: &mut LineBuf, hex: bool, word: &[u8], numbers: &[u32])
     requires { length out.old + (length word.now + 11 * length numbers.now) ≤ 256 }
-    ensures text { out.new ≡ out.old ++ spaced word.now (map decimal numbers.now) }
+    ensures text { out.new ≡ out.old ++ spaced word.now (map (number_word hex) numbers.now) }
     ensures few { length out.new ≤ length out.old + (length word.now + 11 * length numbers.now) }
 {
     out.push_slice(word);
-    put_numbers(out, numbers);
-}
-
-/// A word, and addresses, sizes and the like after it.
-#[tactic(auto, using(crate::proofs::Lines::steps))]
-fn line_of_fields(out: &mut LineBuf, word: &[u8], fields: &[u32])
-    requires { length out.old + (length word.now + 11 * length fields.now) ≤ 256 }
-    ensures text { out.new ≡ out.old ++ spaced word.now (map hex8 fields.now) }
-    ensures few { length out.new ≤ length out.old + (length word.now + 11 * length fields.now) }
-{
-    out.push_slice(word);
-    put_fields(out, fields);
+    put_words(out, hex, numbers);
 }
 
 /// `ok` and what VirtualQuery tells.
@@ -112,7 +103,7 @@ fn line_of_info(out: &mut LineBuf, info: &QueryInfo)
         info.prot,
         info.kind,
     ];
-    line_of_fields(out, b"ok", &fields);
+    line_of(out, true, b"ok", &fields);
 }
 
 /// `ok` and the eight numbers of `counts`.
@@ -132,7 +123,7 @@ fn line_of_counts(out: &mut LineBuf, counts: &Counts)
         counts.free_slots,
         counts.requests,
     ];
-    line_of_numbers(out, b"ok", &numbers);
+    line_of(out, false, b"ok", &numbers);
 }
 
 /// `ok` and bytes as pairs of digits.
@@ -156,7 +147,7 @@ fn line_of_pages(out: &mut LineBuf, pages: &PageList)
     let addresses = pages.as_slice();
     out.push_slice(b"ok ");
     put_decimal(out, addresses.len() as u64);
-    put_fields(out, addresses);
+    put_words(out, true, addresses);
 }
 
 /// `ok`, a handle, and whether its name existed: 183 (ERROR_ALREADY_EXISTS) or 0.
@@ -171,7 +162,7 @@ fn line_of_handle(out: &mut LineBuf, handle: u32, existed: bool)
     } else {
         0
     };
-    line_of_numbers(out, b"ok", &[handle, code]);
+    line_of(out, false, b"ok", &[handle, code]);
 }
 
 /// `pending` and what the access waits for.
@@ -194,25 +185,25 @@ fn put_text(answer: &Answer, out: &mut LineBuf)
 {
     match answer {
         Answer::Ok => out.push_slice(b"ok"),
-        Answer::Limit(limit) => line_of_numbers(out, b"ok", &[*limit]),
-        Answer::NewProcess(pid) => line_of_numbers(out, b"ok", &[u32::from(pid.0)]),
-        Answer::At(address) => line_of_fields(out, b"ok", &[*address]),
-        Answer::OldProt(prot) => line_of_fields(out, b"ok", &[prot.0]),
+        Answer::Limit(limit) => line_of(out, false, b"ok", &[*limit]),
+        Answer::NewProcess(pid) => line_of(out, false, b"ok", &[u32::from(pid.0)]),
+        Answer::At(address) => line_of(out, true, b"ok", &[*address]),
+        Answer::OldProt(prot) => line_of(out, true, b"ok", &[prot.0]),
         Answer::Info(info) => line_of_info(out, info),
         Answer::Created(handle, existed) => line_of_handle(out, *handle, *existed),
-        Answer::Opened(handle) => line_of_numbers(out, b"ok", &[*handle]),
+        Answer::Opened(handle) => line_of(out, false, b"ok", &[*handle]),
         Answer::Bytes(bytes) => line_of_bytes(out, bytes),
-        Answer::Charge(charge, limit) => line_of_numbers(out, b"ok", &[*charge, *limit]),
+        Answer::Charge(charge, limit) => line_of(out, false, b"ok", &[*charge, *limit]),
         Answer::Counts(counts) => line_of_counts(out, counts),
-        Answer::Error(code) => line_of_numbers(out, b"error", &[code_number(*code)]),
-        Answer::Raised(status) => line_of_fields(out, b"raise", &[status_number(*status)]),
+        Answer::Error(code) => line_of(out, false, b"error", &[code_number(*code)]),
+        Answer::Raised(status) => line_of(out, true, b"raise", &[status_number(*status)]),
         Answer::Pending(why) => line_of_pending(out, *why),
         Answer::Nothing => out.push_slice(b"none"),
         Answer::Busy => out.push_slice(b"busy"),
         Answer::Full => out.push_slice(b"full"),
         Answer::Fault => out.push_slice(b"fault"),
         Answer::Watched(pages) => line_of_pages(out, pages),
-        Answer::Stack(base, size, guard) => line_of_fields(out, b"ok", &[*base, *size, *guard]),
+        Answer::Stack(base, size, guard) => line_of(out, true, b"ok", &[*base, *size, *guard]),
     }
 }
 

@@ -1,5 +1,5 @@
 -- What rows in chunks hold, as chunks are filled and written out.
-use Rattle.std.proofs.Common.{◌≡◌, ◌≢◌, ◌⊎◌, ℕ, zero, suc, ◌+◌, ◌^◌, ◌<◌, ◌≤◌, List, [], ◌∷◌, ◌++◌, length, get_or, set, replicate, Option, Some, None, refl, sym, ap, ◌∙◌, subst, inl, inr, arith, length-set, length-append, get_or-set_same, get_or-set_other}
+use Rattle.std.proofs.Common.{◌≡◌, ◌≢◌, ◌⊎◌, ℕ, zero, suc, ◌+◌, ◌^◌, ◌<◌, ◌≤◌, false, List, [], ◌∷◌, ◌++◌, length, get_or, set, replicate, Option, Some, None, refl, sym, ap, ◌∙◌, subst, inl, inr, arith, length-set, length-append, get_or-set_same, get_or-set_other}
 use Rattle.std.proofs.Math.Seq.{get_or-append_seam}
 use Rattle.std.proofs.lemmas.List.{ext_get_or, length-map, length-replicate, get_or_append_left, get_or_read, get_or-replicate, get_or-map, map-set, set-get_or}
 use Rattle.mm_vad.specs.{Row, Chunk, ChunksOf, rows_in, chunks_of, own_place, owned, place_of_chunk, unplaced, AreWritten, place_after, places_after}
@@ -190,23 +190,12 @@ pub chunks_made : (chunks : List Chunk) (places : List (List Row)) (n room : ℕ
 chunks_made chunks places n room row e f wide few =
     subst (λ (cs : List Chunk). AreWritten cs places room) (sym e) (subst (λ (ps : List (List Row)). AreWritten (replicate n (chunk.Equal row None)) ps room) (sym f) (new_chunks n room row wide few))
 
-none_placed : (i k : ℕ) → place_of_chunk [] i ≢ Some k
-unfolding owned
-none_placed i k e = (let bad : None ≡ Some k = e in cc)
-
-none_written : (room : ℕ) → AreWritten [] [] room
-unfolding owned
-none_written room = record {
-  below = λ i k e. absurd (none_placed i k e);
-  apart = λ i j k e f. absurd (none_placed i k e);
-  counted = refl;
-  roomy = omega arith;
-  few = omega arith;
-}
+-- no chunks are none of any row
+any_row : Row
+any_row = record { prot = record { 0 = 0 }; committed = false; guard = false; copied = false; marked = false }
 
 pub no_chunks : (chunks : List Chunk) (places : List (List Row)) (room : ℕ) → chunks ≡ [] → places ≡ [] → AreWritten chunks places room
-no_chunks chunks places room e f =
-    subst (λ (cs : List Chunk). AreWritten cs places room) (sym e) (subst (λ (ps : List (List Row)). AreWritten [] ps room) (sym f) (none_written room))
+no_chunks chunks places room e f = chunks_made chunks places 0 room any_row e f (omega arith) (omega arith)
 
 pub rows_made : (chunks : List Chunk) (places : List (List Row)) (n : ℕ) (row : Row) → chunks ≡ replicate n (chunk.Equal row None) → chunks_of chunks places ≡ replicate n (replicate 512 row)
 rows_made chunks places n row e = ap (λ (cs : List Chunk). chunks_of cs places) e ∙ new_rows n row places

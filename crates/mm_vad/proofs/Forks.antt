@@ -1,6 +1,6 @@
 -- What is kept of a tree, from what is kept of its two sides.
-use Rattle.std.proofs.Common.{◌≡◌, ◌≢◌, ◌⊎◌, ℕ, ◌+◌, ◌-◌, ◌*◌, ◌^◌, ◌<◌, ◌≤◌, max, Bool, true, false, cond, eqb, List, [], ◌∷◌, ◌++◌, length, refl, sym, ap, ◌∙◌, subst, arith, length-append, inl, inr}
-use Rattle.std.proofs.lemmas.Bool.{cases_lt, eqb-true, eqb-false, eq-eqb}
+use Rattle.std.proofs.Common.{◌≡◌, ◌≢◌, ℕ, ◌+◌, ◌-◌, ◌*◌, ◌^◌, ◌<◌, ◌≤◌, max, Bool, true, false, cond, eqb, List, [], ◌∷◌, ◌++◌, length, refl, sym, ap, ◌∙◌, subst, arith, length-append}
+use Rattle.std.proofs.lemmas.Bool.{eqb-true, eqb-false, eq-eqb}
 use Rattle.std.specs.Prelude.{Option, None, Some, Box, IsTrue}
 use Rattle.std.specs.Option.{ForSome}
 use Rattle.std.specs.declared.alloc.Global.{Global}
@@ -123,32 +123,14 @@ is_span t u a = record { lowest_is = sym a.lowest; highest_is = sym a.highest; g
 record Settles (l u s : ℕ) : Type 0 where
   least : max l u ≤ s
   most : s ≤ max l u + 1
-  near : DifferByAtMost 1 l u → s ≡ max l u + 1
+  near : l ≤ u + 1 → u ≤ l + 1 → s ≡ max l u + 1
 
 module _ (a b l u s : ℕ) (about : DifferByAtMost 1 a b) (settles : Settles l u s) where
-  settled_near : ((l ≤ u + 1) × (u ≤ l + 1)) ⊎ ((u + 2 ≤ l) ⊎ (l + 2 ≤ u))
-  settled_near = elim (cases_lt (u + 1) l) [
-    | inl left ↦ inr (inl (omega (arith, left)))
-    | inr not_left ↦ elim (cases_lt (l + 1) u) [ inl right ↦ inr (inr (omega (arith, right))) | inr not_right ↦ inl (omega (arith, not_left), omega (arith, not_right)) ]
-  ]
-
   grown : a ≤ l → b ≤ u → l + u ≤ a + b + 1 → (max a b + 1 ≤ s) × (s ≤ max a b + 2)
-  grown la ub few = elim settled_near [
-    | inl flat ↦ (omega (arith, settles.near (flat.0, flat.1), la, ub), omega (arith, settles.most, la, ub, few, about.0, about.1))
-    | inr leans ↦ elim leans [
-      | inl left ↦ (omega (arith, settles.least, left, la, ub, few, about.0, about.1), omega (arith, settles.most, la, ub, few, about.0, about.1))
-      | inr right ↦ (omega (arith, settles.least, right, la, ub, few, about.0, about.1), omega (arith, settles.most, la, ub, few, about.0, about.1))
-    ]
-  ]
+  grown la ub few = (grind (arith, settles.near), grind (arith, settles.near))
 
   shrunk : l ≤ a → u ≤ b → a + b ≤ l + u + 1 → (max a b ≤ s) × (s ≤ max a b + 1)
-  shrunk la ub few = elim settled_near [
-    | inl flat ↦ (omega (arith, settles.near (flat.0, flat.1), la, ub, few, about.0, about.1), omega (arith, settles.most, la, ub))
-    | inr leans ↦ elim leans [
-      | inl left ↦ (omega (arith, settles.least, left, la, ub, few, about.0, about.1), omega (arith, settles.most, la, ub))
-      | inr right ↦ (omega (arith, settles.least, right, la, ub, few, about.0, about.1), omega (arith, settles.most, la, ub))
-    ]
-  ]
+  shrunk la ub few = (grind (arith, settles.near), grind (arith, settles.near))
 
 -- ---- a node whose sides became others
 
@@ -189,7 +171,7 @@ module _ (n : Node) (t l u : TreeOf) (is : IsNode n t) where
     settles : Settles l.height u.height s.height
     settles =
         let P : Node → Type 0 = λ x. Settles x.left.height x.right.height s.height in
-        let made : P d = record { least = balanced.least; most = balanced.most; near = balanced.near } in
+        let made : P d = record { least = balanced.least; most = balanced.most; near = λ x y. balanced.near (x, y) } in
         subst P e made
 
     ranges_are : s.ranges ≡ ranges

@@ -1,12 +1,12 @@
 -- Rows in whole chunks and the rows behind them, as one list.
-use Rattle.std.proofs.Common.{◌≡◌, ◌⊎◌, ℕ, zero, suc, ◌+◌, ◌-◌, ◌*◌, ◌/◌, ◌%◌, ◌<◌, ◌≤◌, List, [], ◌∷◌, ◌++◌, length, get_or, set, take, drop, replicate, Some, Bool, true, false, not, ◌&&◌, eqb, refl, sym, ap, ◌∙◌, subst, inl, inr, arith, length-set, length-append, get_or-set_same, get_or-set_other}
+use Rattle.std.proofs.Common.{◌≡◌, ◌⊎◌, ℕ, zero, suc, ◌+◌, ◌-◌, ◌*◌, ◌/◌, ◌%◌, ◌<◌, ◌≤◌, List, [], ◌∷◌, ◌++◌, length, get_or, set, take, drop, replicate, Some, Bool, true, false, not, ◌&&◌, eqb, refl, sym, ap, ◌∙◌, subst, inl, inr, arith, append_assoc, length-set, length-append, get_or-set_same, get_or-set_other}
 use mathlib.Core.Bool.{beq}
 use Rattle.std.specs.List.{All}
 use Rattle.std.specs.Prelude.{slice_get}
 use Rattle.std.proofs.lemmas.Nat.{div-add-mod', mod_below}
 use Rattle.std.proofs.lemmas.Option.{slice_get-get_or, get_or_from_slice_get}
 use Rattle.mm_types.proofs.{same_or_not}
-use Rattle.std.proofs.lemmas.List.{ext_get_or, same_lists, get_or_default, length-replicate, length-take-le, length-drop, get_or_past, set-set, set-get_or, get_or_append_left, get_or-append_right, set-append_left, set-append_right, replicate-append-replicate, get_or-replicate, get_or-take, get_or-drop}
+use Rattle.std.proofs.lemmas.List.{ext_get_or, same_lists, get_or_default, length-replicate, length-take-le, length-drop, get_or_past, get_or_append_left, get_or-append_right, take-append-le, drop-append-le, replicate-append-replicate, get_or-replicate, get_or-take, get_or-drop}
 use Rattle.mm_vad.specs.{Row, rows_joined, AreRows, filled_rows}
 
 abbrev pub AreWhole : List (List Row) → Type 0
@@ -41,23 +41,6 @@ joined_behind (rows ∷ chunks) rest o d whole =
     get_or-append_right rows (rows_joined chunks rest) 512 (suc (length chunks) * 512 + o) d (whole_first rows chunks whole) (omega arith)
     ∙ ap (λ (q : ℕ). get_or (rows_joined chunks rest) q d) (omega arith)
     ∙ joined_behind chunks rest o d (whole_rest rows chunks whole)
-
--- a row is written
-pub joined-set : (chunks : List (List Row)) (rest : List Row) (k o : ℕ) (row : Row) → AreWhole chunks → k < length chunks → o < 512 → set (rows_joined chunks rest) (k * 512 + o) row ≡ rows_joined (set chunks k (set (get_or chunks k []) o row)) rest
-joined-set [] rest k o row whole h l = absurd (omega arith)
-joined-set (rows ∷ chunks) rest zero o row whole h l =
-    ap (λ (q : ℕ). set (rows ++ rows_joined chunks rest) q row) (none_before o) ∙ set-append_left rows (rows_joined chunks rest) o row (omega (arith, l, whole_first rows chunks whole))
-joined-set (rows ∷ chunks) rest (suc k) o row whole h l =
-    set-append_right rows (rows_joined chunks rest) 512 (suc k * 512 + o) row (whole_first rows chunks whole) (omega arith)
-    ∙ ap (λ (q : ℕ). rows ++ set (rows_joined chunks rest) q row) (omega arith)
-    ∙ ap (λ (xs : List Row). rows ++ xs) (joined-set chunks rest k o row (whole_rest rows chunks whole) (omega arith) l)
-
-pub joined-set_behind : (chunks : List (List Row)) (rest : List Row) (o : ℕ) (row : Row) → AreWhole chunks → set (rows_joined chunks rest) (length chunks * 512 + o) row ≡ rows_joined chunks (set rest o row)
-joined-set_behind [] rest o row whole = ap (λ (q : ℕ). set rest q row) (none_before o)
-joined-set_behind (rows ∷ chunks) rest o row whole =
-    set-append_right rows (rows_joined chunks rest) 512 (suc (length chunks) * 512 + o) row (whole_first rows chunks whole) (omega arith)
-    ∙ ap (λ (q : ℕ). rows ++ set (rows_joined chunks rest) q row) (omega arith)
-    ∙ ap (λ (xs : List Row). rows ++ xs) (joined-set_behind chunks rest o row (whole_rest rows chunks whole))
 
 -- chunks stay whole
 pub whole-set : (chunks : List (List Row)) (k : ℕ) (rows : List Row) → AreWhole chunks → length rows ≡ 512 → AreWhole (set chunks k rows)
@@ -247,12 +230,6 @@ filled-more rows first a b row h =
     ])
     (λ k d high. filled_behind once (first + a) b row k d more (omega arith) ∙ filled_behind rows first a row k d (omega arith) (omega arith))
 
-filled_next : (rows : List Row) (first n : ℕ) (row : Row) → first + suc n ≤ length rows → filled_rows rows first (suc n) row ≡ set (filled_rows rows first n row) (first + n) row
-filled_next rows first n row h =
-    ap (λ (q : ℕ). filled_rows rows first q row) (let q : suc n ≡ n + 1 = omega arith in q)
-    ∙ sym (filled-more rows first n 1 row (omega (arith, h)))
-    ∙ sym (filled_one (filled_rows rows first n row) (first + n) row (omega (arith, h, length-filled rows first n row (omega (arith, h)))))
-
 -- rows that are equal already
 pub filled_same : (rows : List Row) (first n m : ℕ) (row : Row) → first + m ≤ length rows → n ≤ m → take m (drop first rows) ≡ replicate m row → rows ≡ filled_rows rows first n row
 filled_same rows first n m row h l e =
@@ -273,43 +250,37 @@ filled_whole rows all at n row long whole first =
     (λ k d low high. get_or-replicate all k row d (omega (arith, whole, first)))
     (λ k d high. get_or_past (replicate all row) k d (omega (arith, whole, first, length-replicate all row)) ∙ sym (get_or_past rows k d (omega (arith, whole, first, long))))
 
+-- rows of the first of two lists, and rows of the other
+filled_left : (xs ys : List Row) (first n : ℕ) (row : Row) → first + n ≤ length xs → filled_rows xs first n row ++ ys ≡ filled_rows (xs ++ ys) first n row
+filled_left xs ys first n row h = simp (take-append-le first xs ys (omega arith), drop-append-le (first + n) xs ys h, append_assoc)
+
+filled_right : (xs ys : List Row) (m o n : ℕ) (row : Row) → length xs ≡ m → xs ++ filled_rows ys o n row ≡ filled_rows (xs ++ ys) (m + o) n row
+filled_right [] ys m o n row e = ap (λ (q : ℕ). filled_rows ys q n row) (omega arith)
+filled_right (x ∷ xs) ys m o n row e =
+    let at = length xs + o in
+    let next : suc (at + n) ≡ m + o + n = omega (arith, e) in
+    let here : suc at ≡ m + o = omega (arith, e) in
+    ap (λ (rows : List Row). x ∷ rows) (filled_right xs ys (length xs) o n row refl)
+    ∙ ap (λ (q : ℕ). take (suc at) (x ∷ xs ++ ys) ++ replicate n row ++ drop q (x ∷ xs ++ ys)) next
+    ∙ ap (λ (q : ℕ). take q (x ∷ xs ++ ys) ++ replicate n row ++ drop (m + o + n) (x ∷ xs ++ ys)) here
+
 -- rows of a chunk, one after another, and rows behind the chunks
 filled_part : (chunks : List (List Row)) (rest : List Row) (k o n : ℕ) (row : Row) → AreWhole chunks → k < length chunks → o + n ≤ 512 → rows_joined (set chunks k (filled_rows (get_or chunks k []) o n row)) rest ≡ filled_rows (rows_joined chunks rest) (k * 512 + o) n row
-filled_part chunks rest k o zero row whole h l =
-    let r = get_or chunks k [] in
-    let all = rows_joined chunks rest in
-    let long : length r ≡ 512 = whole k [] h in
-    ap (λ (rs : List Row). rows_joined (set chunks k rs) rest) (sym (filled_none r o row (omega (arith, l, long))))
-    ∙ ap (λ (cs : List (List Row)). rows_joined cs rest) (set-get_or chunks k [])
-    ∙ filled_none all (k * 512 + o) row (omega (arith, l, h, length-joined chunks rest whole))
-filled_part chunks rest k o (suc n) row whole h l =
-    let r = get_or chunks k [] in
-    let all = rows_joined chunks rest in
-    let long : length r ≡ 512 = whole k [] h in
-    let part = filled_rows r o n row in
-    let size : length part ≡ 512 = length-filled r o n row (omega (arith, l, long)) ∙ long in
-    let now = set chunks k part in
-    let stands : get_or now k [] ≡ part = get_or-set_same chunks k part [] h in
-    let room : k * 512 + o + suc n ≤ length all = omega (arith, l, h, length-joined chunks rest whole) in
-    ap (λ (rs : List Row). rows_joined (set chunks k rs) rest) (filled_next r o n row (omega (arith, l, long)))
-    ∙ ap (λ (cs : List (List Row)). rows_joined cs rest) (sym (set-set chunks k part (set part (o + n) row)))
-    ∙ ap (λ (rs : List Row). rows_joined (set now k (set rs (o + n) row)) rest) (sym stands)
-    ∙ sym (joined-set now rest k (o + n) row (whole-set chunks k part whole size) (omega (arith, h, length-set chunks k part)) (omega (arith, l)))
-    ∙ ap (λ (rs : List Row). set rs (k * 512 + (o + n)) row) (filled_part chunks rest k o n row whole h (omega (arith, l)))
-    ∙ ap (λ (q : ℕ). set (filled_rows all (k * 512 + o) n row) q row) (let q : k * 512 + (o + n) ≡ k * 512 + o + n = omega arith in q)
-    ∙ sym (filled_next all (k * 512 + o) n row room)
+filled_part [] rest k o n row whole h l = absurd (omega arith)
+filled_part (rows ∷ chunks) rest zero o n row whole h l =
+    filled_left rows (rows_joined chunks rest) o n row (omega (arith, l, whole_first rows chunks whole))
+    ∙ ap (λ (q : ℕ). filled_rows (rows ++ rows_joined chunks rest) q n row) (sym (none_before o))
+filled_part (rows ∷ chunks) rest (suc k) o n row whole h l =
+    ap (λ (xs : List Row). rows ++ xs) (filled_part chunks rest k o n row (whole_rest rows chunks whole) (omega arith) l)
+    ∙ filled_right rows (rows_joined chunks rest) 512 (k * 512 + o) n row (whole_first rows chunks whole)
+    ∙ ap (λ (q : ℕ). filled_rows (rows ++ rows_joined chunks rest) q n row) (omega arith)
 
-filled_rest : (chunks : List (List Row)) (rest : List Row) (o n : ℕ) (row : Row) → AreWhole chunks → o + n ≤ length rest → rows_joined chunks (filled_rows rest o n row) ≡ filled_rows (rows_joined chunks rest) (length chunks * 512 + o) n row
-filled_rest chunks rest o zero row whole l =
-    ap (rows_joined chunks) (sym (filled_none rest o row (omega (arith, l))))
-    ∙ filled_none (rows_joined chunks rest) (length chunks * 512 + o) row (omega (arith, l, length-joined chunks rest whole))
-filled_rest chunks rest o (suc n) row whole l =
-    let all = rows_joined chunks rest in
-    ap (rows_joined chunks) (filled_next rest o n row l)
-    ∙ sym (joined-set_behind chunks (filled_rows rest o n row) (o + n) row whole)
-    ∙ ap (λ (rs : List Row). set rs (length chunks * 512 + (o + n)) row) (filled_rest chunks rest o n row whole (omega (arith, l)))
-    ∙ ap (λ (q : ℕ). set (filled_rows all (length chunks * 512 + o) n row) q row) (let q : length chunks * 512 + (o + n) ≡ length chunks * 512 + o + n = omega arith in q)
-    ∙ sym (filled_next all (length chunks * 512 + o) n row (omega (arith, l, length-joined chunks rest whole)))
+filled_rest : (chunks : List (List Row)) (rest : List Row) (o n : ℕ) (row : Row) → AreWhole chunks → rows_joined chunks (filled_rows rest o n row) ≡ filled_rows (rows_joined chunks rest) (length chunks * 512 + o) n row
+filled_rest [] rest o n row whole = ap (λ (q : ℕ). filled_rows rest q n row) (sym (none_before o))
+filled_rest (rows ∷ chunks) rest o n row whole =
+    ap (λ (xs : List Row). rows ++ xs) (filled_rest chunks rest o n row (whole_rest rows chunks whole))
+    ∙ filled_right rows (rows_joined chunks rest) 512 (length chunks * 512 + o) n row (whole_first rows chunks whole)
+    ∙ ap (λ (q : ℕ). filled_rows (rows ++ rows_joined chunks rest) q n row) (omega arith)
 
 -- the same from row i of all on
 pub filled_within_chunk : (chunks : List (List Row)) (rest shown : List Row) (i n : ℕ) (row : Row) → AreWhole chunks → rows_joined chunks rest ≡ shown → i / 512 < length chunks → i % 512 + n ≤ 512 → rows_joined (set chunks (i / 512) (filled_rows (get_or chunks (i / 512) []) (i % 512) n row)) rest ≡ filled_rows shown i n row
@@ -318,8 +289,8 @@ filled_within_chunk chunks rest shown i n row whole is low high =
     ∙ ap (λ (q : ℕ). filled_rows (rows_joined chunks rest) q n row) (div-add-mod' i 512)
     ∙ ap (λ (rs : List Row). filled_rows rs i n row) is
 
-pub filled_behind_chunks : (chunks : List (List Row)) (rest shown : List Row) (i n : ℕ) (row : Row) → AreWhole chunks → rows_joined chunks rest ≡ shown → length chunks ≤ i / 512 → i - length chunks * 512 + n ≤ length rest → rows_joined chunks (filled_rows rest (i - length chunks * 512) n row) ≡ filled_rows shown i n row
-filled_behind_chunks chunks rest shown i n row whole is high room =
-    filled_rest chunks rest (i - length chunks * 512) n row whole room
+pub filled_behind_chunks : (chunks : List (List Row)) (rest shown : List Row) (i n : ℕ) (row : Row) → AreWhole chunks → rows_joined chunks rest ≡ shown → length chunks ≤ i / 512 → rows_joined chunks (filled_rows rest (i - length chunks * 512) n row) ≡ filled_rows shown i n row
+filled_behind_chunks chunks rest shown i n row whole is high =
+    filled_rest chunks rest (i - length chunks * 512) n row whole
     ∙ ap (λ (q : ℕ). filled_rows (rows_joined chunks rest) q n row) (omega (arith, div-add-mod' i 512, high))
     ∙ ap (λ (rs : List Row). filled_rows rs i n row) is

@@ -23,12 +23,11 @@ pub mod WorkedRanges
 pub mod Widest
 pub mod BitLemmas
 pub mod FlagLemmas
-pub use Changes.{Changed, adds_from, after_add, after_change, after_none, after_remove}
-pub use Changes.{filling_keeps, has_addresses, has_page, has_pages, marks_keep, none_missing}
-pub use Changes.{row_keeps, unwritten_keep}
-pub use Held.{change_here, change_later, is_space, ranges_of-regions_of, remove_none}
-pub use Lookups.{begun, found_there, is_with_base, lies_at, lies_in_one, none_there, none_with_base}
-pub use Lookups.{row_there, rows_whole, told_none, told_some, with_base}
+pub use Changes.{Changed, Done, after_add, after_change, after_none, after_remove, can_none, fits}
+pub use Changes.{none_missing}
+pub use Held.{change_here, change_later, remove_none}
+pub use Lookups.{begun_shown, found_shown, is_with_base_shown, none_shown, none_with_base_shown}
+pub use Lookups.{ranges_shown, row_there, rows_whole, space_shown, with_base_shown}
 pub use Nothing.{nothing_is_free}
 pub use Places.{each_region}
 pub use Runs.{are_alike_itself, first_of_run, prefix_run, run_from_is}

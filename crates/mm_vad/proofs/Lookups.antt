@@ -1,14 +1,15 @@
 -- What a look-up by a range tells of the list of regions.
 use Rattle.std.proofs.Common.{◌≡◌, ℕ, ◌-◌, ◌<◌, ◌≤◌, Bool, true, false, cond, List, [], ◌∷◌, length, Option, Some, None, refl, sym, ap, ◌∙◌, subst, arith}
 use Rattle.std.specs.List.{list_any}
-use Rattle.std.specs.Prelude.{◌||◌, find, option_map, option_and_then, ◌==◌, nat_le, nat_lt, All, IsSome, IsSomeAnd}
+use Rattle.std.specs.Prelude.{◌||◌, find, option_map, option_and_then, ◌==◌, nat_eq, nat_le, nat_lt, All, IsSome, IsSomeAnd}
+use Rattle.std.specs.HashMap.{HashMap, get, spare}
 use Rattle.std.proofs.lemmas.Bool.{eqb-true, leb-true, ltb-true, and_parts, or_parts}
 use Rattle.std.proofs.lemmas.List.Elements.{All-head, All-tail}
 use Rattle.std.proofs.lemmas.Option.{some_pair_parts}
 use Rattle.mm_types.specs.{Vpn, Range, end_of, holds_page}
 use Rattle.mm_vad.specs.{page_number, is_begun_at, first_and_count as told_of, Region, HasFlags, HasPages, pages_of, region_holds, region_at}
-use Rattle.mm_vad.specs.{region_with_base, regions_of, IsHeld, AllHeld, IsIndex}
-use Rattle.mm_vad.proofs.Held.{pair_of, find_held}
+use Rattle.mm_vad.specs.{region_with_base, regions_of, IsHeld, AllHeld, IsIndex, GapsOf, SpaceOf, IsSpace, ranges_of, space_of}
+use Rattle.mm_vad.proofs.Held.{pair_of, find_held, is_space, ranges_of-regions_of}
 
 -- the range that a search told of by its first page
 pub record Told (o : Option Range) (base : ℕ) : Type 0 where
@@ -21,7 +22,7 @@ told_some None base n e = cc
 told_some (Some r) base n e =
     record { range = r; is = refl; first = sym (ap (λ (v : Vpn). v.0) (some_pair_parts base (page_number r.first) n r.count e).0) }
 
-pub told_none : (o : Option Range) → None ≡ option_map told_of o → o ≡ None
+told_none : (o : Option Range) → None ≡ option_map told_of o → o ≡ None
 told_none None e = refl
 told_none (Some r) e = cc
 
@@ -75,38 +76,6 @@ one_begins t (x ∷ xs) e =
     ] refl e
 
 module _ (found : ℕ → Option Region) (ranges : List Range) (index : IsIndex found ranges) where
-  -- the region that is found at the first page of the range is the one that the same search among the regions gives
-  pub found_there : (t : Range → Bool) (base : ℕ) → Told (find t ranges) base → found base ≡ find (λ g. t (pages_of g)) (regions_of found ranges)
-  found_there t base told =
-      sym (ap found told.first) ∙ sym (ap (option_and_then (λ (r : Range). found r.first)) told.is) ∙ sym (find_held found t ranges index.held)
-
-  pub none_there : (t : Range → Bool) → find t ranges ≡ None → find (λ g. t (pages_of g)) (regions_of found ranges) ≡ None
-  none_there t e = find_held found t ranges index.held ∙ ap (option_and_then (λ (r : Range). found r.first)) e
-
-  -- a region has the base where a range begins there
-  pub none_with_base : (base : ℕ) → is_begun_at base ranges ≡ false → region_with_base (regions_of found ranges) base ≡ None
-  none_with_base base e = none_there (λ r. r.first == base) (none_begins (λ r. r.first == base) ranges e)
-
-  pub with_base : (base : ℕ) → is_begun_at base ranges ≡ true → region_with_base (regions_of found ranges) base ≡ found base
-  with_base base e =
-      let one = one_begins (λ r. r.first == base) ranges e in
-      find_held found (λ r. r.first == base) ranges index.held
-      ∙ ap (option_and_then (λ (r : Range). found r.first)) one.1
-      ∙ ap found (eqb-true one.0.first base one.2)
-
-  pub is_with_base : (base : ℕ) → is_begun_at base ranges ≡ true → IsSome (region_with_base (regions_of found ranges) base)
-  is_with_base base e =
-      let one = one_begins (λ r. r.first == base) ranges e in
-      let p = pair_of found one.0 (found_range found (λ r. r.first == base) ranges one.0 index.held one.1).1 in
-      subst IsSome (sym (with_base base e ∙ ap found (sym (eqb-true one.0.first base one.2)) ∙ p.there)) refl
-
-  pub begun : (base : ℕ) → IsSome (region_with_base (regions_of found ranges) base) → is_begun_at base ranges ≡ true
-  begun base some =
-      elim (is_begun_at base ranges) as (λ b. is_begun_at base ranges ≡ b → is_begun_at base ranges ≡ true) [
-        | true ↦ λ e. e
-        | false ↦ λ e. (let bad : false ≡ true = subst IsSome (none_with_base base e) some in cc)
-      ] refl
-
   -- the region that is found at the first page of the range of the page
   pub region_there : (page base : ℕ) (region : Region) → Told (find (λ r. holds_page r page) ranges) base → found base ≡ Some region → HasPages region page 1
   region_there page base region told e =
@@ -125,14 +94,6 @@ module _ (found : ℕ → Option Region) (ranges : List Range) (index : IsIndex 
         flags = subst (λ (n : ℕ). HasFlags n p.region) (sym (ap (λ (r : Range). r.count) p.pages)) p.flags;
       })
 
-  -- a range that begins there holds the page: its region has that base
-  pub lies_at : (page base : ℕ) → Told (find (λ r. holds_page r page) ranges) base → IsSomeAnd (region_at (regions_of found ranges) page) (λ r. r.base.0 ≡ base)
-  lies_at page base told =
-      let p = pair_of found told.range (found_range found (λ r. holds_page r page) ranges told.range index.held told.is).1 in
-      subst (λ (o : Option Region). IsSomeAnd o (λ r. r.base.0 ≡ base))
-      (sym p.there ∙ ap found told.first ∙ found_there (λ r. holds_page r page) base told)
-      (ap (λ (r : Range). r.first) p.pages ∙ told.first)
-
 -- the region in which a page lies, as it is found by its base
 pub record Found (found : ℕ → Option Region) (ranges : List Range) (page base : ℕ) (regions : List Region) : Type 0 where
   pub region : Region
@@ -141,30 +102,65 @@ pub record Found (found : ℕ → Option Region) (ranges : List Range) (page bas
   pub at : region_at regions page ≡ Some region
   pub has : HasPages region page 1
 
-pub found_by : (found : ℕ → Option Region) (ranges : List Range) (page base : ℕ) (regions : List Region) → IsIndex found ranges → regions_of found ranges ≡ regions → IsSomeAnd (region_at regions page) (λ r. r.base.0 ≡ base) → Found found ranges page base regions
-found_by found ranges page base regions index view lies =
-    let here = find (λ r. holds_page r page) ranges in
-    let seen : region_at regions page ≡ option_and_then (λ r. found r.first) here =
-    ap (λ (gs : List Region). region_at gs page) (sym view) ∙ find_held found (λ r. holds_page r page) ranges index.held in
-    elim here as (λ o. here ≡ o → Found found ranges page base regions) [
-      | None ↦ λ e. absurd (subst (λ (o : Option Region). IsSomeAnd o (λ r. r.base.0 ≡ base)) (seen ∙ ap (option_and_then (λ (r : Range). found r.first)) e) lies)
-      | Some r ↦ λ e. (
-          let p = pair_of found r (found_range found (λ x. holds_page x page) ranges r index.held e).1 in
-          let at : region_at regions page ≡ Some p.region = seen ∙ ap (option_and_then (λ (x : Range). found x.first)) e ∙ p.there in
-          let base_is : p.region.base.0 ≡ base = subst (λ (o : Option Region). IsSomeAnd o (λ g. g.base.0 ≡ base)) at lies in
-          let first : r.first ≡ base = sym (ap (λ (x : Range). x.first) p.pages) ∙ base_is in
-          let told : Told here base = record { range = r; is = e; first = first } in
-          let there = sym (ap found first) ∙ p.there in
-          record {
-            region = p.region;
-            told = told;
-            there = there;
-            at = at;
-            has = region_there found ranges index page base p.region told there;
-          })
-    ] refl
+pub found_by : (found : ℕ → Option Region) (ranges : List Range) (page base : ℕ) (regions : List Region) → IsIndex found ranges → regions_of found ranges ≡ regions → Told (find (λ r. holds_page r page) ranges) base → Found found ranges page base regions
+found_by found ranges page base regions index view told =
+    let p = pair_of found told.range (found_range found (λ r. holds_page r page) ranges told.range index.held told.is).1 in
+    let there = sym (ap found told.first) ∙ p.there in
+    record {
+      region = p.region;
+      told = told;
+      there = there;
+      at = ap (λ (gs : List Region). region_at gs page) (sym view) ∙ find_held found (λ r. holds_page r page) ranges index.held ∙ ap (option_and_then (λ (r : Range). found r.first)) told.is ∙ p.there;
+      has = region_there found ranges index page base p.region told there;
+    }
 
 -- a page of which this holds lies in a region
 pub lies_in_one : (P : Region → Type 0) (o : Option Region) → IsSomeAnd o P → IsSome o
 lies_in_one P None h = absurd h
 lies_in_one P (Some g) h = refl
+
+-- what is seen of a space, from its index and the ranges that are taken
+module _ {S : Type 0} (m : HashMap ℕ Region S) (taken : GapsOf) (now : SpaceOf) (i : IsIndex (get nat_eq m) taken.ranges) (view : space_of (get nat_eq m) taken (spare m) ≡ now) where
+  pub space_shown : IsSpace now.regions
+  space_shown = subst (λ (v : SpaceOf). IsSpace v.regions) view (is_space (get nat_eq m) taken.ranges i)
+
+  pub ranges_shown : taken.ranges ≡ ranges_of now.regions
+  ranges_shown = sym (ranges_of-regions_of (get nat_eq m) taken.ranges i.held) ∙ ap (λ (v : SpaceOf). ranges_of v.regions) view
+
+  -- a search among the regions gives what is found at the range that the same search gives
+  seen : (t : Range → Bool) (o : Option Range) → find t taken.ranges ≡ o → find (λ g. t (pages_of g)) now.regions ≡ option_and_then (λ r. get nat_eq m r.first) o
+  seen t o e =
+      ap (λ (v : SpaceOf). find (λ g. t (pages_of g)) v.regions) (sym view)
+      ∙ find_held (get nat_eq m) t taken.ranges i.held
+      ∙ ap (option_and_then (λ (r : Range). get nat_eq m r.first)) e
+
+  pub none_shown : (t : Range → Bool) → None ≡ option_map told_of (find t taken.ranges) → None ≡ find (λ g. t (pages_of g)) now.regions
+  none_shown t none = sym (seen t None (told_none _ none))
+
+  pub found_shown : (t : Range → Bool) (base : Vpn) (n : ℕ) → Some (base, n) ≡ option_map told_of (find t taken.ranges) → get nat_eq m base.0 ≡ find (λ g. t (pages_of g)) now.regions
+  found_shown t base n some =
+      let told = told_some _ base n some in
+      sym (seen t (Some told.range) told.is ∙ ap (get nat_eq m) told.first)
+
+  -- a region has the base where a range begins there
+  module _ (base : ℕ) where
+    pub none_with_base_shown : is_begun_at base taken.ranges ≡ false → region_with_base now.regions base ≡ None
+    none_with_base_shown e = seen (λ r. r.first == base) None (none_begins (λ r. r.first == base) taken.ranges e)
+
+    pub is_with_base_shown : is_begun_at base taken.ranges ≡ true → IsSome (region_with_base now.regions base)
+    is_with_base_shown e =
+        let one = one_begins (λ r. r.first == base) taken.ranges e in
+        let p = pair_of (get nat_eq m) one.0 (found_range (get nat_eq m) (λ r. r.first == base) taken.ranges one.0 i.held one.1).1 in
+        subst IsSome (sym (seen (λ r. r.first == base) (Some one.0) one.1 ∙ p.there)) refl
+
+    pub begun_shown : IsSome (region_with_base now.regions base) → is_begun_at base taken.ranges ≡ true
+    begun_shown some =
+        elim (is_begun_at base taken.ranges) as (λ b. is_begun_at base taken.ranges ≡ b → is_begun_at base taken.ranges ≡ true) [
+          | true ↦ λ e. e
+          | false ↦ λ e. (let bad : false ≡ true = subst IsSome (none_with_base_shown e) some in cc)
+        ] refl
+
+    pub with_base_shown : IsSome (region_with_base now.regions base) → get nat_eq m base ≡ region_with_base now.regions base
+    with_base_shown some =
+        let one = one_begins (λ r. r.first == base) taken.ranges (begun_shown some) in
+        sym (seen (λ r. r.first == base) (Some one.0) one.1 ∙ ap (get nat_eq m) (eqb-true one.0.first base one.2))

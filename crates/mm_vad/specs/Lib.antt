@@ -1,5 +1,6 @@
 pub mod Looks
 pub mod Regions
+pub mod Changes
 pub mod Index
 pub mod Chunks
 pub mod Ranges
@@ -13,6 +14,7 @@ pub use Regions.{HasFlags, HasPages, IsSpace, LieAmong, LieInRegion, LieWithPage
 pub use Regions.{add_region, begins_at, change_region, fill_rows, pages_of, ranges_of, region_at}
 pub use Regions.{region_from, region_holds, region_with_base, remove_region, set_row}
 pub use Regions.{with_equal_rows, with_marks, with_row, with_unwritten}
+pub use Changes.{CanChange, FitsRegion, change_by}
 pub use Index.{AllHeld, IsHeld, IsIndex, regions_of, space_of}
 pub use Chunks.{AreAll, AreRows, AreWritten, ChunksOf, FilledSome, StartsRun, WrittenOf}
 pub use Chunks.{filled_rows, own_place, place_after, place_of_chunk, places_after, rows_in}
@@ -30,6 +32,7 @@ unfoldable pub use Bits.{word_flags}
 pub use declared.chunks.Chunk.{Chunk}
 pub use declared.ledgers.Counter.{Counter}
 pub use declared.pages.Row.{Row}
+pub use declared.regions.Change.{Change}
 pub use declared.regions.Region.{Region}
 pub use declared.trees.Node.{Node}
 pub use declared.trees.Span.{Span}

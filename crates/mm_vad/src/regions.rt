@@ -1,7 +1,8 @@
-ghost use Rattle.std.specs.Prelude.{◌≡◌, true, false, map, length};
+ghost use Rattle.std.specs.Prelude.{◌≡◌, map, length};
 ghost use Rattle.mm_types.specs.{page_of};
 ghost use Rattle.mm_world.specs.{unwritten};
-ghost use Rattle.mm_vad.specs.Regions.{HasFlags, HasPages, LieAmong, with_row, with_equal_rows, with_marks, with_unwritten};
+ghost use Rattle.mm_vad.specs.Regions.{LieAmong};
+ghost use Rattle.mm_vad.specs.Changes.{FitsRegion, change_by};
 
 use crate::{Bits, Row, Rows};
 use mm_types::{Kind, PAGE_SIZE, PageList, Prot, Vpn};
@@ -33,53 +34,46 @@ fn clear_pages(flags: &mut Bits, base: u32, addresses: &[u32])
     }
 }
 
+/// What becomes of some pages of a region, from one of them on.
+#[derive(Clone, Copy)]
+pub(crate) enum Change<'a> {
+    /// The page has this row.
+    SetRow(Row),
+    /// So many pages have this row.
+    FillRows(u32, Row),
+    /// The page is written, where the region is watched.
+    Mark,
+    /// So many pages are unwritten, where it is watched.
+    ClearMarks(u32),
+    /// The pages at these addresses are, wherever they are in the region.
+    Unwrite(&'a PageList),
+}
+
 impl Region {
-    // Writes the row of page `v`, one of the region's.
-    pub(crate) fn set_row(&mut self, v: Vpn, row: Row)
-        requires { HasPages self.old v.0 1 }
-        ensures { self.new ≡ with_row v.0 row self.old }
+    // Changes pages of the region, the first of them page `v`.
+    #[inline(always)] // each caller knows which change it is
+    pub(crate) fn change(&mut self, v: Vpn, change: Change)
+        requires { FitsRegion change v.0 self.old }
+        ensures { self.new ≡ change_by change.entry v.0 self.old }
     {
-        self.rows.set(v.0 - self.base.0, row);
-    }
-
-    // The rows of the `n` pages from `first` on, all of them the region's, become `row`.
-    pub(crate) fn fill_rows(&mut self, first: Vpn, n: u32, row: Row)
-        requires { HasPages self.old first.0 n }
-        ensures { self.new ≡ with_equal_rows first.0 n row self.old }
-    {
-        self.rows.fill(first.0 - self.base.0, n, row);
-    }
-
-    // Page `v`, one of the region's, is written from now on, where the region is watched.
-    pub(crate) fn mark(&mut self, v: Vpn)
-        requires { HasPages self.old v.0 1 }
-        ensures { self.new ≡ with_marks true v.0 1 self.old }
-    {
-        if let Some(flags) = &mut self.watched {
-            flags.set(v.0 - self.base.0);
-        }
-    }
-
-    // The `n` pages from `first` on, all of them the region's, are unwritten from now on, where it
-    // is watched.
-    pub(crate) fn clear_marks(&mut self, first: Vpn, n: u32)
-        requires { HasPages self.old first.0 n }
-        ensures { self.new ≡ with_marks false first.0 n self.old }
-    {
-        if let Some(flags) = &mut self.watched {
-            flags.clear(first.0 - self.base.0, n);
-        }
-    }
-
-    // The pages at these addresses, all of them the region's, are unwritten from now on, where it
-    // is watched.
-    pub(crate) fn unwrite(&mut self, pages: &PageList)
-        requires among { LieAmong self.old.base.0 self.old.pages pages.now }
-        requires flags { HasFlags self.old.pages self.old }
-        ensures { self.new ≡ with_unwritten pages.now self.old }
-    {
-        if let Some(flags) = &mut self.watched {
-            clear_pages(flags, self.base.0, pages.as_slice());
+        match change {
+            Change::SetRow(row) => self.rows.set(v.0 - self.base.0, row),
+            Change::FillRows(n, row) => self.rows.fill(v.0 - self.base.0, n, row),
+            Change::Mark => {
+                if let Some(flags) = &mut self.watched {
+                    flags.set(v.0 - self.base.0);
+                }
+            }
+            Change::ClearMarks(n) => {
+                if let Some(flags) = &mut self.watched {
+                    flags.clear(v.0 - self.base.0, n);
+                }
+            }
+            Change::Unwrite(pages) => {
+                if let Some(flags) = &mut self.watched {
+                    clear_pages(flags, self.base.0, pages.as_slice());
+                }
+            }
         }
     }
 }

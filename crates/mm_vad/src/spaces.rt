@@ -1,8 +1,9 @@
-ghost use Rattle.std.specs.Prelude.{◌≡◌, ◌+◌, ◌-◌, ◌<◌, ◌≤◌, true, false, [], length, IsTrue, IsSome, IsSomeAnd, OnOk, OnErr, option_map};
+ghost use Rattle.std.specs.Prelude.{◌≡◌, ◌+◌, ◌-◌, ◌<◌, ◌≤◌, true, false, [], length, IsTrue, IsSome, OnOk, OnErr, option_map};
 ghost use Rattle.std.specs.Option.{option_copied};
 ghost use Rattle.mm_types.specs.{is_free, lowest_gap};
 ghost use Rattle.mm_vad.specs.Ranges.{page_number};
 
+use crate::regions::Change;
 use crate::{Gaps, Region, Row, Steps, Uncounted};
 use mm_types::{FIRST_USER_PAGE, NoMemory, PageList, Vpn};
 use std::alloc::Global;
@@ -33,6 +34,7 @@ impl Model for Space {
 
 impl Space {
     ghost use Rattle.mm_vad.specs.Regions.{IsSpace, ranges_of, pages_of, region_at, region_from, region_with_base, HasFlags, LieInRegion, LieWithPage, add_region, remove_region, change_region, set_row, fill_rows, set_marks, with_unwritten};
+    ghost use Rattle.mm_vad.specs.Changes.{CanChange, change_by};
 
     /// No region, and no spare room.
     pub fn new(alloc: Global) -> Space
@@ -62,15 +64,22 @@ impl Space {
         self.regions.get(&base.0)
     }
 
-    // The base of the region in which page `v` lies.
-    fn base_at(&self, v: Vpn) -> u32
-        requires { IsSome (region_at self.now.regions v.0) }
-        ensures { IsSomeAnd (region_at self.now.regions v.0) (λ r. r.base.0 ≡ result) }
+    // Changes the region in which page `v` lies.
+    #[inline(always)] // each caller knows which change it is
+    fn change(&mut self, v: Vpn, change: Change)
+        requires { CanChange change self.old.regions v.0 }
+        ensures after { self.new ≡ record self.old {
+          regions = change_region (change_by change.entry v.0) self.old.regions v.0;
+        } }
+        ensures sound { IsSpace self.new.regions }
     {
         let Some((base, _)) = self.taken.at(v) else {
             unreachable!()
         };
-        base.0
+        let Some(region) = self.regions.get_mut(&base.0) else {
+            unreachable!()
+        };
+        region.change(v, change);
     }
 
     /// Writes the row of page `v`, which lies in a region.
@@ -79,11 +88,7 @@ impl Space {
         ensures after { self.new ≡ record self.old { regions = set_row self.old.regions v.0 row } }
         ensures sound { IsSpace self.new.regions }
     {
-        let base = self.base_at(v);
-        let Some(region) = self.regions.get_mut(&base) else {
-            unreachable!()
-        };
-        region.set_row(v, row);
+        self.change(v, Change::SetRow(row));
     }
 
     /// Writes `row` over the rows of the `n` pages from `first` on, which lie in one region.
@@ -94,11 +99,7 @@ impl Space {
         } }
         ensures sound { IsSpace self.new.regions }
     {
-        let base = self.base_at(first);
-        let Some(region) = self.regions.get_mut(&base) else {
-            unreachable!()
-        };
-        region.fill_rows(first, n, row);
+        self.change(first, Change::FillRows(n, row));
     }
 
     /// A write to page `v`, which lies in a region, was done: the page is written from now on,
@@ -110,11 +111,7 @@ impl Space {
         } }
         ensures sound { IsSpace self.new.regions }
     {
-        let base = self.base_at(v);
-        let Some(region) = self.regions.get_mut(&base) else {
-            unreachable!()
-        };
-        region.mark(v);
+        self.change(v, Change::Mark);
     }
 
     /// The `n` pages from `first` on, which lie in one region, are unwritten from now on, where the
@@ -126,11 +123,7 @@ impl Space {
         } }
         ensures sound { IsSpace self.new.regions }
     {
-        let base = self.base_at(first);
-        let Some(region) = self.regions.get_mut(&base) else {
-            unreachable!()
-        };
-        region.clear_marks(first, n);
+        self.change(first, Change::ClearMarks(n));
     }
 
     /// The pages at these addresses, all of them in the region of page `first`, are unwritten from
@@ -142,11 +135,7 @@ impl Space {
         } }
         ensures sound { IsSpace self.new.regions }
     {
-        let base = self.base_at(first);
-        let Some(region) = self.regions.get_mut(&base) else {
-            unreachable!()
-        };
-        region.unwrite(pages);
+        self.change(first, Change::Unwrite(pages));
     }
 
     /// The lowest granule from which `n` user pages are free, as its first page. None exactly where

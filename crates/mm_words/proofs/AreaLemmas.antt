@@ -1,17 +1,15 @@
 -- The words of areas as a finite map, out of a table.
-use Rattle.std.proofs.Common.{◌≡◌, ℕ, zero, suc, ◌<◌, List, [], ◌∷◌, ◌++◌, length, get_or, Option, Some, None, refl, sym, ap, ◌∙◌, inl, inr, arith, true, false, cond, replicate}
-use Rattle.std.proofs.lemmas.Bool.{cases_lt}
-use Rattle.std.proofs.lemmas.Option.{slice_get_past, slice_get_read, slice_get-get_or}
+use Rattle.std.proofs.Common.{◌≡◌, ℕ, zero, suc, ◌<◌, List, [], ◌∷◌, ◌++◌, length, get_or, Option, Some, None, refl, sym, ap, ◌∙◌, true, false}
+use Rattle.std.proofs.lemmas.Option.{slice_get_past, slice_get_read}
 use Rattle.std.specs.Prelude.{slice_get, IsSome, is_some, unwrap_or}
 use Rattle.mm_words.specs.{AreaWords, proto_word, area_words}
+use Rattle.mm_words.proofs.LeafLemmas.{below_by}
 use Rattle.std.specs.Option.{option_and_then}
 use Rattle.std.specs.Ordering.{nat_cmp}
 use Rattle.std.specs.FinMap as finite
 use Rattle.std.specs.FinMap.{FinMap}
 use Rattle.mm_types.specs.{table, found}
-use Rattle.mm_types.proofs.{get_table, tables_agree, same, get-insert, get-remove}
-use Rattle.std.specs.Cmp.{unsigned_Decides}
-use Rattle.std.proofs.lemmas.List.{length-replicate}
+use Rattle.mm_types.proofs.{get_table, tables_agree, same}
 
 module _ {W X : Type 0} (g : W → Option X) where
   pub table_none : table g [] ≡ finite.empty
@@ -19,13 +17,7 @@ module _ {W X : Type 0} (g : W → Option X) where
 
   -- a key of the table is an index of it
   pub within : (ws : List W) (m : FinMap nat_cmp X) (q : ℕ) → table g ws ≡ m → IsSome (finite.get m q) → q < length ws
-  within ws m q view some = elim (cases_lt q (length ws)) [
-    | inl near ↦ near
-    | inr far ↦
-        let none : finite.get m q ≡ None = ap (λ (k : FinMap nat_cmp X). finite.get k q) (sym view) ∙ get_table g ws q ∙ ap (found g) (slice_get_past ws q far) in
-        let bad : false ≡ true = sym (ap is_some none) ∙ some in
-        cc
-  ]
+  within ws m q view some = below_by q (length ws) (finite.get m q) (λ far. ap (λ (k : FinMap nat_cmp X). finite.get k q) (sym view) ∙ get_table g ws q ∙ ap (found g) (slice_get_past ws q far)) some
 
   found_push : (ws : List W) (w : W) (q : ℕ) → g w ≡ None → found g (slice_get (ws ++ w ∷ []) q) ≡ found g (slice_get ws q)
   found_push [] w zero none = none
@@ -54,12 +46,7 @@ pub word_is : (m : AreaWords) (a i : ℕ) (words : List ℕ) → finite.get m a 
 word_is m a i words is = ap (option_and_then (λ (ws : List ℕ). slice_get ws i)) is
 
 pub word_within : (m : AreaWords) (a i : ℕ) (words : List ℕ) → finite.get m a ≡ Some words → IsSome (proto_word m a i) → i < length words
-word_within m a i words is some = elim (cases_lt i (length words)) [
-  | inl near ↦ near
-  | inr far ↦
-      let bad : false ≡ true = sym (ap is_some (word_is m a i words is ∙ slice_get_past words i far)) ∙ some in
-      cc
-]
+word_within m a i words is some = below_by i (length words) (proto_word m a i) (λ far. word_is m a i words is ∙ slice_get_past words i far) some
 
 pub no_word : (m : AreaWords) (a i : ℕ) → finite.get m a ≡ None → IsSome (proto_word m a i) → ⊥
 no_word m a i is some =
@@ -68,28 +55,3 @@ no_word m a i is some =
 
 pub words_are : (m : AreaWords) (a : ℕ) (words : List ℕ) → finite.get m a ≡ Some words → area_words m a ≡ words
 words_are m a words is = ap (λ (o : Option (List ℕ)). unwrap_or o []) is
-
--- what users of the maps need: what an area has after a call
-get_inserted : (m : AreaWords) (a : ℕ) (words : List ℕ) → finite.get (finite.insert m a words) a ≡ Some words
-get_inserted m a words = get-insert m a words a ∙ ap (λ b. cond b (Some words) (finite.get m a)) ((unsigned_Decides a a).1 refl)
-
-has_word : (words : List ℕ) (i : ℕ) → i < length words → IsSome (slice_get words i)
-has_word words i range = ap is_some (slice_get-get_or words i 0 range)
-
--- an area that was opened has so many words
-pub opened : (m : AreaWords) (a n i : ℕ) → i < n → IsSome (proto_word (finite.insert m a (replicate n 0)) a i)
-opened m a n i range =
-    ap is_some (word_is _ a i (replicate n 0) (get_inserted m a (replicate n 0)))
-    ∙ has_word (replicate n 0) i (omega (arith, range, length-replicate {A = ℕ} n 0))
-
--- an area is open after it was opened, and a word of it was set
-pub is_open : (m : AreaWords) (a : ℕ) (words : List ℕ) → IsSome (finite.get (finite.insert m a words) a)
-is_open m a words = ap is_some (get_inserted m a words)
-
--- an area is not open right after it was closed
-pub closed : (m : AreaWords) (a : ℕ) → finite.get (finite.remove m a) a ≡ None
-closed m a = get-remove m a a ∙ ap (λ b. cond b None (finite.get m a)) ((unsigned_Decides a a).1 refl)
-
--- no area is open at first
-pub none_open : (a : ℕ) → finite.get (finite.empty {X = List ℕ} {R = nat_cmp}) a ≡ None
-none_open a = finite.get-empty nat_cmp a

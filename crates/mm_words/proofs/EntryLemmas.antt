@@ -1,8 +1,9 @@
 -- For users: the entry of an entry's word is that entry, and the word of a word's entry is that word.
-use Rattle.std.proofs.Common.{◌≡◌, ℕ, ◌+◌, ◌*◌, ◌<◌, ◌^◌, false, cond, refl, sym, ap, ◌∙◌, arith}
+use Rattle.std.proofs.Common.{◌≡◌, ℕ, ◌+◌, ◌*◌, ◌<◌, ◌^◌, false, cond, refl, sym, ap, ◌∙◌, arith, None}
 use Rattle.std.proofs.lemmas.Bool.Decides.{nat_tests}
 use Rattle.mm_words.specs.{IsEntry, entry_word, tag_of, first_number, second_number, is_no_entry, tag_in, first_in, second_in, Entry, by_parts}
-use Rattle.mm_words.specs.{entry_in}
+use Rattle.mm_words.specs.{entry_in, set_place, bare, is_valid_entry}
+use Rattle.std.specs.Prelude.{is_some}
 use Rattle.mm_words.specs.declared.layout.Entry.TheVariants as entry
 
 tag_again : (t f s : ℕ) → t < 16 → tag_in (t + 16 * f + 2 ^ 32 * s) ≡ t
@@ -49,3 +50,21 @@ entry_again e h = sym (read_some (entry_word e) e (is_entry_word e h) h refl)
 pub zero_is_empty : entry_in 0 ≡ entry.Empty
 unfolding entry_in
 zero_is_empty = refl
+
+-- ---- what an entry says, told without its place in a working set
+
+pub bare_plain : (e : Entry) → is_valid_entry e ≡ false → bare e ≡ e
+bare_plain (entry.Valid f n) h = cc
+bare_plain _ h = refl
+
+-- exactly the valid entries name a place in a working set
+pub valid_place : (e : Entry) → is_some (set_place e) ≡ is_valid_entry (bare e)
+valid_place entry.Empty = refl
+valid_place _ = refl
+
+pub no_set_place : (e : Entry) → is_valid_entry (bare e) ≡ false → set_place e ≡ None
+no_set_place (entry.Valid f n) h = cc
+no_set_place _ h = refl
+
+pub plain_place : (e : Entry) → is_valid_entry e ≡ false → set_place e ≡ None
+plain_place e h = no_set_place e (ap is_valid_entry (bare_plain e h) ∙ h)

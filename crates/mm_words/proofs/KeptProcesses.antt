@@ -1,25 +1,128 @@
--- A process is one again after each change.
-use Rattle.std.proofs.Common.{◌≡◌, ◌≢◌, ℕ, ◌+◌, ◌<◌, ◌≤◌, Bool, true, false, cond, Option, Some, None, refl, sym, ap, ◌∙◌, subst, inl, inr, arith}
-use Rattle.std.specs.Prelude.{is_some, nat_le, nat_lt, option_map, Result, Ok, Err, OnOk, OnErr}
+-- What a process shows after a change of pages, and that it is one again.
+use Rattle.std.proofs.Common.{◌≡◌, ◌≢◌, ℕ, ◌+◌, ◌-◌, Bool, true, false, cond, Option, Some, None, refl, sym, ap, ◌∙◌, subst, inl, inr, ◌<◌, ◌≤◌}
+use Rattle.std.proofs.Common.{arith}
+use Rattle.std.specs.Prelude.{◌==◌, is_some, if◌then◌else◌, Result, Ok, Err, OnOk, OnErr, nat_le, nat_lt, option_map}
 use Rattle.std.specs.Ordering.{nat_cmp}
-use Rattle.std.specs.FinMap as finite
+use Rattle.std.specs.Cmp.{unsigned_Decides}
 use Rattle.std.specs.FinMap.{FinMap}
-use Rattle.std.proofs.lemmas.Bool.{and_parts, leb-true, ltb-true}
-use Rattle.mm_types.proofs.{same_or_not, same, len_more, len_less, none_of}
-use Rattle.mm_types.specs.{holds_page, end_of_user_pages, Frame}
+use Rattle.mm_types.proofs.{get-insert, get-remove, len_more, len_less, differ, same_or_not, same, none_of}
+use Rattle.mm_types.specs.{Range, holds_page, end_of_user_pages, Frame}
 use Rattle.mm_wset.specs.{WorkingSetOf, AgesBy, older}
-use Rattle.mm_words.specs.{IsEntry, entry_word, Entry, entry_or, pages, Reserves, Releases, reserved_word, bare, is_valid_entry, IsKeptProcess}
-use Rattle.mm_words.specs.{place_in_set, set_place}
+use Rattle.mm_words.specs.{IsEntry, entry_word, Entry, entry_in, entry_or, bare, is_valid_entry, Reserves, reserved_word, bound_of, at_of}
+use Rattle.mm_words.specs.{resident_set, resident_by_numbers, EntryBecomes, Process, pages, Releases, IsKeptProcess, place_in_set, set_place}
+use Rattle.mm_words.proofs.EntryLemmas.{entry_again, zero_is_empty, no_set_place, plain_place}
+use Rattle.std.proofs.lemmas.Bool.{and_parts, leb-true, ltb-true}
+use Rattle.std.specs.FinMap as finite
 use Rattle.mm_words.specs.declared.layout.Entry.TheVariants as entry
-use Rattle.mm_words.proofs.EntryLemmas.{entry_again}
-use Rattle.mm_words.proofs.ReadWords.{no_set_place, plain_place}
-use Rattle.mm_words.proofs.PageChanges.{here, elsewhere, gone, left}
+
+-- what a test of two numbers chooses
+pub by_test : {A : Type 0} (q k : ℕ) (F : Bool → A) (x : A) → (q ≡ k → x ≡ F true) → (q ≢ k → x ≡ F false) → x ≡ F (q == k)
+by_test q k F x same other = elim (same_or_not q k) [
+  | inl e ↦ same e ∙ sym (ap F ((unsigned_Decides q k).1 e))
+  | inr d ↦ other d ∙ sym (ap F (differ q k d))
+]
+
+-- ---- finite maps
+
+pub here : {X : Type 0} (m : FinMap nat_cmp X) (k : ℕ) (x : X) → finite.get (finite.insert m k x) k ≡ Some x
+here m k x = get-insert m k x k ∙ ap (λ b. cond b (Some x) (finite.get m k)) ((unsigned_Decides k k).1 refl)
+
+pub elsewhere : {X : Type 0} (m : FinMap nat_cmp X) (k : ℕ) (x : X) (q : ℕ) → q ≢ k → finite.get (finite.insert m k x) q ≡ finite.get m q
+elsewhere m k x q other = get-insert m k x q ∙ ap (λ b. cond b (Some x) (finite.get m q)) (differ q k other)
+
+pub gone : {X : Type 0} (m : FinMap nat_cmp X) (k : ℕ) → finite.get (finite.remove m k) k ≡ None
+gone m k = get-remove m k k ∙ ap (λ b. cond b None (finite.get m k)) ((unsigned_Decides k k).1 refl)
+
+pub left : {X : Type 0} (m : FinMap nat_cmp X) (k q : ℕ) → q ≢ k → finite.get (finite.remove m k) q ≡ finite.get m q
+left m k q other = get-remove m k q ∙ ap (λ b. cond b None (finite.get m q)) (differ q k other)
+
+-- ---- one word is set
+
+bare_or_cond : (b : Bool) (w : ℕ) (o : Option ℕ) → bare (entry_or (cond b (Some w) o)) ≡ cond b (bare (entry_in w)) (bare (entry_or o))
+bare_or_cond true w o = refl
+bare_or_cond false w o = refl
+
+at_set : (t : FinMap nat_cmp ℕ) (v : ℕ) (e : Entry) (q : ℕ) → IsEntry e
+    → bare (entry_or (finite.get (finite.insert t v (entry_word e)) q)) ≡ (if q == v then bare e else bare (entry_or (finite.get t q)))
+at_set t v e q is =
+    ap (λ o. bare (entry_or o)) (get-insert t v (entry_word e) q)
+    ∙ bare_or_cond (q == v) (entry_word e) (finite.get t q)
+    ∙ ap (λ (x : Entry). cond (q == v) (bare x) (bare (entry_or (finite.get t q)))) (entry_again e is)
+
+bound_cond : (b : Bool) (w : ℕ) (o : Option ℕ) → (b ≡ true → is_some o ≡ true) → is_some (cond b (Some w) o) ≡ is_some o
+bound_cond true w o h = sym (h refl)
+bound_cond false w o h = refl
+
+bound_set : (t : FinMap nat_cmp ℕ) (v w q : ℕ) → is_some (finite.get t v) ≡ true → is_some (finite.get (finite.insert t v w) q) ≡ is_some (finite.get t q)
+bound_set t v w q h = ap is_some (get-insert t v w q) ∙ bound_cond (q == v) w (finite.get t q) (λ e. subst (λ (k : ℕ). is_some (finite.get t k) ≡ true) (sym ((unsigned_Decides q v).0 e)) h)
+
+pub becomes : (p q : Process) (v w : ℕ) (e : Entry) → q.table ≡ finite.insert p.table v w → w ≡ entry_word e → IsEntry e → bound_of p v ≡ true → q.is_open ≡ p.is_open
+    → (d : Entry) → bare e ≡ d → EntryBecomes p q v d
+becomes p q v w e te we fits bound same d be = record {
+  at = λ k. ap (λ (t : FinMap nat_cmp ℕ). bare (entry_or (finite.get t k))) (te ∙ ap (finite.insert p.table v) we) ∙ at_set p.table v e k fits
+      ∙ ap (λ (x : Entry). cond (k == v) x (at_of p k)) be;
+  bound = λ k. ap (λ (t : FinMap nat_cmp ℕ). is_some (finite.get t k)) te ∙ bound_set p.table v w k bound;
+  opened = same;
+}
+
+-- ---- the working set
+
+pub resident_more : (s r : WorkingSetOf) (v m : ℕ) → r ≡ record s { ages = finite.insert s.ages v 0; places = finite.insert s.places m v } → finite.get s.places m ≡ None
+    → resident_set r ≡ record { min = s.min; max = s.max; resident = finite.len s.places + 1 }
+resident_more s r v m re vacant = ap resident_set re ∙ ap (λ (n : ℕ). resident_by_numbers s.min s.max n) (len_more s.places m v vacant)
+
+pub resident_less : (s r : WorkingSetOf) (x m v : ℕ) → r ≡ record s { ages = finite.remove s.ages x; places = finite.remove s.places m } → finite.get s.places m ≡ Some v
+    → resident_set r ≡ record { min = s.min; max = s.max; resident = finite.len s.places - 1 }
+resident_less s r x m v re held = ap resident_set re ∙ ap (λ (n : ℕ). resident_by_numbers s.min s.max n) (len_less s.places m v held)
+
+pub ages_more : (s r : WorkingSetOf) (v m : ℕ) → r ≡ record s { ages = finite.insert s.ages v 0; places = finite.insert s.places m v } → (q : ℕ)
+    → finite.get r.ages q ≡ (if q == v then Some 0 else finite.get s.ages q)
+ages_more s r v m re q = ap (λ (x : WorkingSetOf). finite.get x.ages q) re ∙ get-insert s.ages v 0 q
+
+pub ages_less : (s r : WorkingSetOf) (v x m : ℕ) → r ≡ record s { ages = finite.remove s.ages x; places = finite.remove s.places m } → x ≡ v → (q : ℕ)
+    → finite.get r.ages q ≡ (if q == v then None else finite.get s.ages q)
+ages_less s r v x m re xv q = ap (λ (y : WorkingSetOf). finite.get y.ages q) re ∙ get-remove s.ages x q ∙ ap (λ (k : ℕ). cond (q == k) None (finite.get s.ages q)) xv
+
+pub ages_touched : (s r : WorkingSetOf) (v : ℕ) → r ≡ record s { ages = finite.insert s.ages v 0 } → (q : ℕ) → finite.get r.ages q ≡ (if q == v then Some 0 else finite.get s.ages q)
+ages_touched s r v re q = ap (λ (x : WorkingSetOf). finite.get x.ages q) re ∙ get-insert s.ages v 0 q
+
+pub valid_bound : (w : Option ℕ) → is_valid_entry (bare (entry_or w)) ≡ true → is_some w ≡ true
+valid_bound None h = cc
+valid_bound (Some w) h = refl
+
+-- ---- pages are bound or given up
+
+entry_reserved : (o : Option ℕ) → entry_or (reserved_word o) ≡ entry_or o
+entry_reserved None = zero_is_empty
+entry_reserved (Some w) = refl
+
+cond_reserved : (b : Bool) (o : Option ℕ) → entry_or (cond b (reserved_word o) o) ≡ entry_or o
+cond_reserved true o = entry_reserved o
+cond_reserved false o = refl
+
+pub after_bind : {T E : Type 0} (res : Result T E) (t u : FinMap nat_cmp ℕ) (r : Range) → OnOk res (Reserves t u r) → OnErr res (u ≡ t) → (q : ℕ) → entry_or (finite.get u q) ≡ entry_or (finite.get t q)
+after_bind (Ok x) t u r good bad q = ap entry_or (good q) ∙ cond_reserved (holds_page r q) (finite.get t q)
+after_bind (Err e) t u r good bad q = ap (λ (m : FinMap nat_cmp ℕ). entry_or (finite.get m q)) bad
+
+-- ---- a process is one again after each change
 
 place_here : (t : FinMap nat_cmp ℕ) (v : ℕ) (e : Entry) → IsEntry e → place_in_set (finite.insert t v (entry_word e)) v ≡ set_place e
 place_here t v e is = ap (λ o. set_place (entry_or o)) (here t v (entry_word e)) ∙ ap set_place (entry_again e is)
 
 place_elsewhere : (t : FinMap nat_cmp ℕ) (v w q : ℕ) → q ≢ v → place_in_set (finite.insert t v w) q ≡ place_in_set t q
 place_elsewhere t v w q other = ap (λ o. set_place (entry_or o)) (elsewhere t v w q other)
+
+some_if : (b : Bool) (x y : ℕ) → cond b (Some x) None ≡ Some y → (b ≡ true) × (x ≡ y)
+some_if true x y h = (refl, (let e : x ≡ y = cc in e))
+some_if false x y h = cc
+
+none_if : (b : Bool) (x y : ℕ) → cond b None (Some x) ≡ Some y → x ≡ y
+none_if true x y h = cc
+none_if false x y h = cc
+
+both_some : (b : Bool) (x y : ℕ) → is_some (cond b (Some x) None) ≡ is_some (cond b (Some y) None)
+both_some true x y = refl
+both_some false x y = refl
 
 -- only user pages have a word
 abbrev OnlyUser : FinMap nat_cmp ℕ → Type 0
@@ -48,11 +151,7 @@ module _ (t : FinMap nat_cmp ℕ) (s : WorkingSetOf) (o : Bool) (is : IsKeptProc
 
   -- a process with a bound page is open, so its set has room
   pub reserved_of_bound : (v : ℕ) → is_some (finite.get t v) ≡ true → s.reserved ≡ true
-  reserved_of_bound v bound = is.room ∙ by_flag o refl
-    where
-      by_flag : (b : Bool) → o ≡ b → b ≡ true
-      by_flag true e = refl
-      by_flag false e = never_closed v bound e
+  reserved_of_bound v bound = is.room ∙ elim o as (λ b. o ≡ b → b ≡ true) [ true ↦ λ e. refl | false ↦ λ e. never_closed v bound e ] refl
 
   -- each page names the place that it named
   pub same_places_kept : (u : FinMap nat_cmp ℕ) → ((page : ℕ) → place_in_set u page ≡ place_in_set t page) → (o ≡ false → (page : ℕ) → finite.get u page ≡ None) → OnlyUser u → IsKeptProcess u s o
@@ -107,7 +206,7 @@ module _ (t : FinMap nat_cmp ℕ) (s : WorkingSetOf) (o : Bool) (is : IsKeptProc
   unbind_kept u first n rel invalid = same_places_kept u (unbind_place u first n rel invalid) (λ nay page. rel page ∙ gone_none (holds_page (pages first n) page) (finite.get t page) (is.closed nay page))
       (λ page some. is.user page (was_bound (holds_page (pages first n) page) (finite.get t page) (ap is_some (sym (rel page)) ∙ some)))
 
-  -- ---- a page becomes valid, at a vacant place
+  -- ---- a page becomes valid at a vacant place, or is valid no more
 
   -- a page that is not valid has no age
   pub no_age : (v : ℕ) → is_valid_entry (bare (entry_or (finite.get t v))) ≡ false → finite.get s.ages v ≡ None
@@ -123,98 +222,61 @@ module _ (t : FinMap nat_cmp ℕ) (s : WorkingSetOf) (o : Bool) (is : IsKeptProc
     | inr differs ↦ is.young page age (sym (elsewhere s.ages v 0 page differs) ∙ h)
   ]
 
-  module _ (v : ℕ) (f : Frame) (m : ℕ) (bound : is_some (finite.get t v) ≡ true) (invalid : is_valid_entry (bare (entry_or (finite.get t v))) ≡ false)
-      (fits : IsEntry (entry.Valid f m)) (vacant : finite.get s.places m ≡ None) (few : finite.len s.places < s.max) where
-    abbrev table_more : FinMap nat_cmp ℕ
-    table_more = finite.insert t v (entry_word (entry.Valid f m))
+  -- the page's entry is e then, which names the place or not, and so the place holds the page or not
+  module _ (v m : ℕ) (e : Entry) (valid : Bool) (u : FinMap nat_cmp ℕ) (r : WorkingSetOf) (bound : is_some (finite.get t v) ≡ true) (ue : u ≡ finite.insert t v (entry_word e)) (fits : IsEntry e)
+      (names : set_place e ≡ cond valid (Some m) None) (named : place_in_set t v ≡ cond valid None (Some m)) (held : finite.get s.places m ≡ cond valid None (Some v))
+      (held_now : finite.get r.places m ≡ cond valid (Some v) None) (held_else : (n : ℕ) → n ≢ m → finite.get r.places n ≡ finite.get s.places n)
+      (age_now : finite.get r.ages v ≡ cond valid (Some 0) None) (age_else : (q : ℕ) → q ≢ v → finite.get r.ages q ≡ finite.get s.ages q)
+      (within : finite.len r.places ≤ r.max) (room : r.reserved ≡ s.reserved) where
+    place_now : place_in_set u v ≡ cond valid (Some m) None
+    place_now = ap (λ (x : FinMap nat_cmp ℕ). place_in_set x v) ue ∙ place_here t v e fits ∙ names
 
-    here_more : place_in_set table_more v ≡ Some m
-    here_more = place_here t v (entry.Valid f m) fits
+    place_else : (page : ℕ) → page ≢ v → place_in_set u page ≡ place_in_set t page
+    place_else page differs = ap (λ (x : FinMap nat_cmp ℕ). place_in_set x page) ue ∙ place_elsewhere t v (entry_word e) page differs
 
-    there_more : (page : ℕ) → page ≢ v → place_in_set table_more page ≡ place_in_set t page
-    there_more = place_elsewhere t v (entry_word (entry.Valid f m))
-
-    named_more : (page n : ℕ) → place_in_set table_more page ≡ Some n → finite.get (finite.insert s.places m v) n ≡ Some page
-    named_more page n h = elim (same_or_not page v) [
-      | inl e ↦
-          let both : Some m ≡ Some n = sym here_more ∙ ap (place_in_set table_more) (sym e) ∙ h in
-          let mn : m ≡ n = cc in
-          ap (finite.get (finite.insert s.places m v)) (sym mn) ∙ here s.places m v ∙ ap Some (sym e)
+    named_next : (page n : ℕ) → place_in_set u page ≡ Some n → finite.get r.places n ≡ Some page
+    named_next page n h = elim (same_or_not page v) [
+      | inl e_is ↦
+          let now = some_if valid m n (sym place_now ∙ ap (place_in_set u) (sym e_is) ∙ h) in
+          ap (finite.get r.places) (sym now.1) ∙ held_now ∙ ap (λ b. cond b (Some v) None) now.0 ∙ ap Some (sym e_is)
       | inr differs ↦
-          let old = is.named page n (sym (there_more page differs) ∙ h) in
-          elsewhere s.places m v n (λ nm. (let bad : None ≡ Some page = sym vacant ∙ ap (finite.get s.places) (sym nm) ∙ old in cc)) ∙ old
+          let old = is.named page n (sym (place_else page differs) ∙ h) in
+          held_else n (λ nm. differs (sym (none_if valid v page (sym held ∙ ap (finite.get s.places) (sym nm) ∙ old)))) ∙ old
     ]
 
-    held_more : (n page : ℕ) → finite.get (finite.insert s.places m v) n ≡ Some page → place_in_set table_more page ≡ Some n
-    held_more n page h = elim (same_or_not n m) [
-      | inl e ↦
-          let both : Some v ≡ Some page = sym (here s.places m v) ∙ ap (finite.get (finite.insert s.places m v)) (sym e) ∙ h in
-          let vp : v ≡ page = cc in
-          ap (place_in_set table_more) (sym vp) ∙ here_more ∙ ap Some (sym e)
+    held_next : (n page : ℕ) → finite.get r.places n ≡ Some page → place_in_set u page ≡ Some n
+    held_next n page h = elim (same_or_not n m) [
+      | inl nm ↦
+          let now = some_if valid v page (sym held_now ∙ ap (finite.get r.places) (sym nm) ∙ h) in
+          ap (place_in_set u) (sym now.1) ∙ place_now ∙ ap (λ b. cond b (Some m) None) now.0 ∙ ap Some (sym nm)
       | inr differs ↦
-          let old = is.held n page (sym (elsewhere s.places m v n differs) ∙ h) in
-          there_more page (λ pv. (let bad : None ≡ Some n = sym (no_set_place (entry_or (finite.get t v)) invalid) ∙ ap (place_in_set t) (sym pv) ∙ old in cc)) ∙ old
+          let old = is.held n page (sym (held_else n differs) ∙ h) in
+          place_else page (λ pv. differs (sym (none_if valid m n (sym named ∙ ap (place_in_set t) (sym pv) ∙ old)))) ∙ old
     ]
 
-    aged_more : (page : ℕ) → is_some (finite.get (finite.insert s.ages v 0) page) ≡ is_some (place_in_set table_more page)
-    aged_more page = elim (same_or_not page v) [
-      | inl e ↦ ap (λ k. is_some (finite.get (finite.insert s.ages v 0) k)) e ∙ ap is_some (here s.ages v 0) ∙ sym (ap (λ k. is_some (place_in_set table_more k)) e ∙ ap is_some here_more)
-      | inr differs ↦ ap is_some (elsewhere s.ages v 0 page differs) ∙ is.aged page ∙ ap is_some (sym (there_more page differs))
+    aged_next : (page : ℕ) → is_some (finite.get r.ages page) ≡ is_some (place_in_set u page)
+    aged_next page = elim (same_or_not page v) [
+      | inl e_is ↦ ap (λ k. is_some (finite.get r.ages k)) e_is ∙ ap is_some age_now ∙ both_some valid 0 m ∙ sym (ap (λ k. is_some (place_in_set u k)) e_is ∙ ap is_some place_now)
+      | inr differs ↦ ap is_some (age_else page differs) ∙ is.aged page ∙ ap is_some (sym (place_else page differs))
     ]
 
-    pub process_more : IsKeptProcess table_more (record s { ages = finite.insert s.ages v 0; places = finite.insert s.places m v }) o
-    process_more =
-        let within : finite.len (finite.insert s.places m v) ≤ s.max = omega (arith, few, len_more s.places m v vacant) in
-        assumption (is, named_more, held_more, aged_more, young_new v, within, never_closed {A = (page : ℕ) → finite.get table_more page ≡ None} v bound, user_set t v (entry_word (entry.Valid f m)) is.user bound)
-
-  -- ---- a valid page is valid no more
-
-  module _ (v : ℕ) (e : Entry) (m : ℕ) (bound : is_some (finite.get t v) ≡ true) (valid : place_in_set t v ≡ Some m) (other : is_valid_entry e ≡ false) (fits : IsEntry e) where
-    abbrev table_less : FinMap nat_cmp ℕ
-    table_less = finite.insert t v (entry_word e)
-
-    here_less : place_in_set table_less v ≡ None
-    here_less = place_here t v e fits ∙ plain_place e other
-
-    there_less : (page : ℕ) → page ≢ v → place_in_set table_less page ≡ place_in_set t page
-    there_less = place_elsewhere t v (entry_word e)
-
-    named_less : (page n : ℕ) → place_in_set table_less page ≡ Some n → finite.get (finite.remove s.places m) n ≡ Some page
-    named_less page n h = elim (same_or_not page v) [
-      | inl same_page ↦ (let bad : None ≡ Some n = sym here_less ∙ ap (place_in_set table_less) (sym same_page) ∙ h in cc)
-      | inr differs ↦
-          let old = is.named page n (sym (there_less page differs) ∙ h) in
-          left s.places m n (λ nm.
-          let both : Some v ≡ Some page = sym (is.named v m valid) ∙ ap (finite.get s.places) (sym nm) ∙ old in
-          let vp : page ≡ v = cc in differs vp) ∙ old
+    young_next : (page age : ℕ) → finite.get r.ages page ≡ Some age → age ≤ 7
+    young_next page age h = elim (same_or_not page v) [
+      | inl e_is ↦ let zero_is = (some_if valid 0 age (sym age_now ∙ ap (finite.get r.ages) (sym e_is) ∙ h)).1 in omega (arith, zero_is)
+      | inr differs ↦ is.young page age (sym (age_else page differs) ∙ h)
     ]
 
-    held_less : (n page : ℕ) → finite.get (finite.remove s.places m) n ≡ Some page → place_in_set table_less page ≡ Some n
-    held_less n page h = elim (same_or_not n m) [
-      | inl nm ↦ (let bad : None ≡ Some page = sym (gone s.places m) ∙ ap (finite.get (finite.remove s.places m)) (sym nm) ∙ h in cc)
-      | inr differs ↦
-          let old = is.held n page (sym (left s.places m n differs) ∙ h) in
-          there_less page (λ pv.
-          let both : Some m ≡ Some n = sym valid ∙ ap (place_in_set t) (sym pv) ∙ old in
-          let mn : n ≡ m = cc in differs mn) ∙ old
-    ]
-
-    aged_less : (page : ℕ) → is_some (finite.get (finite.remove s.ages v) page) ≡ is_some (place_in_set table_less page)
-    aged_less page = elim (same_or_not page v) [
-      | inl same_page ↦ ap (λ k. is_some (finite.get (finite.remove s.ages v) k)) same_page ∙ ap is_some (gone s.ages v) ∙ sym (ap (λ k. is_some (place_in_set table_less k)) same_page ∙ ap is_some here_less)
-      | inr differs ↦ ap is_some (left s.ages v page differs) ∙ is.aged page ∙ ap is_some (sym (there_less page differs))
-    ]
-
-    young_less : (page age : ℕ) → finite.get (finite.remove s.ages v) page ≡ Some age → age ≤ 7
-    young_less page age h = elim (same_or_not page v) [
-      | inl same_page ↦ (let bad : None ≡ Some age = sym (gone s.ages v) ∙ ap (finite.get (finite.remove s.ages v)) (sym same_page) ∙ h in cc)
-      | inr differs ↦ is.young page age (sym (left s.ages v page differs) ∙ h)
-    ]
-
-    pub process_less : IsKeptProcess table_less (record s { ages = finite.remove s.ages v; places = finite.remove s.places m }) o
-    process_less =
-        let within : finite.len (finite.remove s.places m) ≤ s.max = omega (arith, is.within, len_less s.places m v (is.named v m valid)) in
-        assumption (is, named_less, held_less, aged_less, young_less, within, never_closed {A = (page : ℕ) → finite.get table_less page ≡ None} v bound, user_set t v (entry_word e) is.user bound)
+    pub process_next : IsKeptProcess u r o
+    process_next = record {
+      named = named_next;
+      held = held_next;
+      aged = aged_next;
+      young = young_next;
+      within = within;
+      room = room ∙ is.room;
+      closed = never_closed {A = (page : ℕ) → finite.get u page ≡ None} v bound;
+      user = subst (λ (x : FinMap nat_cmp ℕ). OnlyUser x) (sym ue) (user_set t v (entry_word e) is.user bound);
+    }
 
   -- ---- ages alone change
 
@@ -249,11 +311,10 @@ module _ (t : FinMap nat_cmp ℕ) (s : WorkingSetOf) (o : Bool) (is : IsKeptProc
     no_word page = none_of (finite.get t page) (none page)
 
     no_place : (n : ℕ) → finite.get s.places n ≡ None
-    no_place n = by_page (finite.get s.places n) refl
-      where
-        by_page : (a : Option ℕ) → finite.get s.places n ≡ a → a ≡ None
-        by_page None h = refl
-        by_page (Some page) h = let bad : None ≡ Some n = sym (ap (λ r. set_place (entry_or r)) (no_word page)) ∙ is.held n page h in cc
+    no_place n = elim (finite.get s.places n) as (λ a. finite.get s.places n ≡ a → a ≡ None) [
+      | None ↦ λ h. refl
+      | Some page ↦ λ h. let bad : None ≡ Some n = sym (ap (λ r. set_place (entry_or r)) (no_word page)) ∙ is.held n page h in cc
+    ] refl
 
     -- so its working set has no page
     pub none_resident : finite.len s.places ≡ 0
@@ -268,18 +329,23 @@ pub more_kept : (t u : FinMap nat_cmp ℕ) (s r : WorkingSetOf) (o : Bool) (v w 
     → r ≡ record s { ages = finite.insert s.ages v 0; places = finite.insert s.places m v } → finite.get s.places m ≡ None → finite.len s.places < s.max
     → IsKeptProcess t s o → is_some (finite.get t v) ≡ true → is_valid_entry (bare (entry_or (finite.get t v))) ≡ false → IsEntry (entry.Valid f m) → IsKeptProcess u r o
 more_kept t u s r o v w f m ue we re vacant few is bound invalid fits =
-    subst (λ (x : FinMap nat_cmp ℕ). IsKeptProcess x r o) (sym (ue ∙ ap (finite.insert t v) we))
-    (subst (λ (x : WorkingSetOf). IsKeptProcess (finite.insert t v (entry_word (entry.Valid f m))) x o) (sym re)
-    (process_more t s o is v f m bound invalid fits vacant few))
+    let within : finite.len (finite.insert s.places m v) ≤ s.max = omega (arith, few, len_more s.places m v vacant) in
+    process_next t s o is v m (entry.Valid f m) true u r bound (ue ∙ ap (finite.insert t v) we) fits refl (no_set_place (entry_or (finite.get t v)) invalid) vacant
+    (ap (λ (x : WorkingSetOf). finite.get x.places m) re ∙ here s.places m v) (λ n d. ap (λ (x : WorkingSetOf). finite.get x.places n) re ∙ elsewhere s.places m v n d)
+    (ap (λ (x : WorkingSetOf). finite.get x.ages v) re ∙ here s.ages v 0) (λ q d. ap (λ (x : WorkingSetOf). finite.get x.ages q) re ∙ elsewhere s.ages v 0 q d)
+    (subst (λ (x : WorkingSetOf). finite.len x.places ≤ x.max) (sym re) within) (ap (λ (x : WorkingSetOf). x.reserved) re)
 
 pub less_kept : (t u : FinMap nat_cmp ℕ) (s r : WorkingSetOf) (o : Bool) (v w : ℕ) (e : Entry) (m x : ℕ) → u ≡ finite.insert t v w → w ≡ entry_word e
     → r ≡ record s { ages = finite.remove s.ages x; places = finite.remove s.places m } → x ≡ v
     → IsKeptProcess t s o → is_some (finite.get t v) ≡ true → place_in_set t v ≡ Some m → is_valid_entry e ≡ false → IsEntry e → IsKeptProcess u r o
 less_kept t u s r o v w e m x ue we re xv is bound valid other fits =
-    subst (λ (y : FinMap nat_cmp ℕ). IsKeptProcess y r o) (sym (ue ∙ ap (finite.insert t v) we))
-    (subst (λ (y : WorkingSetOf). IsKeptProcess (finite.insert t v (entry_word e)) y o)
-    (sym (re ∙ ap (λ k. record s { ages = finite.remove s.ages k; places = finite.remove s.places m }) xv))
-    (process_less t s o is v e m bound valid other fits))
+    let held = is.named v m valid in
+    let within : finite.len (finite.remove s.places m) ≤ s.max = omega (arith, is.within, len_less s.places m v held) in
+    let now : r ≡ record s { ages = finite.remove s.ages v; places = finite.remove s.places m } = re ∙ ap (λ k. record s { ages = finite.remove s.ages k; places = finite.remove s.places m }) xv in
+    process_next t s o is v m e false u r bound (ue ∙ ap (finite.insert t v) we) fits (plain_place e other) valid held
+    (ap (λ (y : WorkingSetOf). finite.get y.places m) now ∙ gone s.places m) (λ n d. ap (λ (y : WorkingSetOf). finite.get y.places n) now ∙ left s.places m n d)
+    (ap (λ (y : WorkingSetOf). finite.get y.ages v) now ∙ gone s.ages v) (λ q d. ap (λ (y : WorkingSetOf). finite.get y.ages q) now ∙ left s.ages v q d)
+    (subst (λ (y : WorkingSetOf). finite.len y.places ≤ y.max) (sym now) within) (ap (λ (y : WorkingSetOf). y.reserved) now)
 
 pub place_of_valid : (t : FinMap nat_cmp ℕ) (v : ℕ) (f : Frame) (m : ℕ) → entry.Valid f m ≡ entry_or (finite.get t v) → place_in_set t v ≡ Some m
 place_of_valid t v f m h = sym (ap set_place h)

@@ -7,7 +7,7 @@ use Rattle.mm_life.specs.{ResidentSet, set_in}
 use Rattle.mm_words.specs.{entry_or, is_valid_entry, Process, bound_of, at_of, age_of, resident_of, process_in, read_or, bound_in, at_in}
 use Rattle.mm_words.specs.{age_of_place, is_open_in}
 use Rattle.mm_words.specs.declared.layout.Entry.TheVariants as entry
-use Rattle.mm_words.proofs.ReadWords.{valid_place}
+use Rattle.mm_words.proofs.EntryLemmas.{valid_place}
 
 aged_by : (o : Option Process) (v : ℕ) → is_some (read_or (λ p. age_of p v) None o) ≡ is_valid_entry (read_or (λ p. at_of p v) entry.Empty o)
 aged_by None v = refl

@@ -1,5 +1,5 @@
 -- A page table as its leaves, each with the words of `leaf_pages` pages in a row.
-use Rattle.std.specs.Prelude.{◌≡◌, ℕ, zero, suc, ◌+◌, ◌*◌, ◌/◌, ◌%◌, ◌<◌, ◌≤◌, List, [], ◌∷◌, length, Option, IsSome, slice_index_or, slice_set}
+use Rattle.std.specs.Prelude.{◌≡◌, ℕ, zero, suc, ◌+◌, ◌*◌, ◌/◌, ◌%◌, ◌<◌, ◌≤◌, List, [], ◌∷◌, length, Option, slice_index_or, slice_set}
 use Rattle.mm_types.specs.{table}
 use Rattle.mm_words.specs.Pages.{Words}
 use Rattle.mm_words.specs.LeafWords.{leaf_pages, leaf_word, Changed}
@@ -70,10 +70,6 @@ pub record IsPart (first end : ℕ) : Type 0 where
 -- each page from `first` on and below `end` has a place
 abbrev pub HavePlaces : LeavesOf → ℕ → ℕ → Type 0
 HavePlaces leaves first end = (page : ℕ) → first ≤ page → page < end → IsInLeaf leaves page
-
--- each page from `first` on and below `end` has a word
-abbrev pub HaveWords : LeavesOf → ℕ → ℕ → Type 0
-HaveWords leaves first end = (page : ℕ) → first ≤ page → page < end → IsSome (word_in leaves page)
 
 -- every word stays, and so does every place
 pub record PlacesMore (old new : LeavesOf) : Type 0 where

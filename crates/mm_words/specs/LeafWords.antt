@@ -1,7 +1,8 @@
 -- The words of one leaf, and what it is that words from one place up to another are changed.
-use Rattle.std.specs.Prelude.{◌≡◌, ℕ, ◌+◌, ◌/◌, ◌<◌, ◌≤◌, false, List, [], ◌∷◌, length, Option, Some, None, if◌then◌else◌, map, slice_index, slice_index_or}
+use Rattle.std.specs.Prelude.{◌≡◌, ℕ, ◌+◌, ◌/◌, ◌<◌, ◌≤◌, Bool, true, false, List, [], ◌∷◌, length, Option, Some, None, if◌then◌else◌, map, slice_index, slice_index_or}
 use Rattle.std.specs.List.{range_with_len}
 use Rattle.mm_bits.specs.{have_bit}
+use Rattle.mm_words.specs.Pages.{reserved_word}
 
 -- how many pages a leaf has words for
 abbrev pub leaf_pages : ℕ
@@ -47,8 +48,12 @@ pub record Changed {A : Type 0} (f : A → A) (old new : ℕ → A) (first end :
   pub below : (i : ℕ) → i < first → new i ≡ old i
   pub above : (i : ℕ) → end ≤ i → new i ≡ old i
 
-abbrev pub no_word : Option ℕ → Option ℕ
-no_word word = None
+-- the word of a page that is reserved, or is so no more
+abbrev pub word_when : Bool → Option ℕ → Option ℕ
+word_when true word = reserved_word word
+word_when false word = None
 
-abbrev pub zero_word : ℕ → ℕ
-zero_word word = 0
+-- the number in which that word stands
+abbrev pub number_when : Bool → ℕ → ℕ
+number_when true number = number
+number_when false number = 0

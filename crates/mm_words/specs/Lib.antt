@@ -21,8 +21,8 @@ pub use Shown.{bare_aside, no_ages, no_words, proto_in, shown_words, size_in}
 pub use Oldest.{GoesBehind, IsOldestOf, NoneBehind, ages_in}
 pub use Prototypes.{AreaWords, area_words, proto_word, words_in}
 pub use Pages.{AreReserved, Releases, Reserves, pages, reserved_word}
-pub use LeafWords.{Changed, IsLeaf, bit_numbers, leaf_numbers, leaf_pages, leaf_word, no_word}
-pub use LeafWords.{place_count, stored_word, zero_word}
+pub use LeafWords.{Changed, IsLeaf, bit_numbers, leaf_numbers, leaf_pages, leaf_word, number_when}
+pub use LeafWords.{place_count, stored_word, word_when}
 unfoldable pub use LeafWords.{shown_leaf}
 pub use Directory.{HavePlaces, IsDirectory, IsInLeaf, IsWholeLeaf, LeavesOf, PlacesMore, SameWords}
 pub use Directory.{end_of_pages, leaf_of, most_leaves, with_leaf, with_leaf_word, word_in}

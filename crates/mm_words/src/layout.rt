@@ -72,3 +72,13 @@ pub fn decode(word: u64) -> Option<Entry>
         _ => None,
     }
 }
+
+/// The entry of a word; a word that no entry has is read as `Empty`.
+pub fn entry_of(word: u64) -> Entry
+    ensures { result ≡ entry_in word }
+{
+    match decode(word) {
+        Some(entry) => entry,
+        None => Entry::Empty,
+    }
+}

@@ -1,7 +1,6 @@
-ghost use Rattle.std.specs.Prelude.{◌≡◌, ◌+◌, ◌-◌, ◌<◌, ◌≤◌, ◌++◌, ◌↔◌, ℕ, List, [], length, IsTrue, Option, Some, None, IfOk, IsSome, replicate, slice_index, slice_set, vec_len, vec_capacity};
+ghost use Rattle.std.specs.Prelude.{◌≡◌, ◌+◌, ◌-◌, ◌<◌, ◌≤◌, ◌++◌, ◌↔◌, ℕ, List, [], length, IsTrue, false, Option, Some, None, IfOk, IsSome, replicate, slice_index, slice_set, vec_len, vec_capacity};
 ghost use Rattle.mm_bits.specs.{have_bit, Becomes, SameWordsFrom};
-ghost use Rattle.mm_words.specs.LeafWords.{leaf_pages, bit_numbers, leaf_numbers, leaf_word, Changed, no_word, zero_word};
-ghost use Rattle.mm_words.specs.Pages.{reserved_word};
+ghost use Rattle.mm_words.specs.LeafWords.{leaf_pages, bit_numbers, leaf_numbers, leaf_word, Changed, word_when, number_when};
 
 use mm_bits::put_bits;
 use mm_types::NoMemory;
@@ -118,7 +117,7 @@ fn mark(numbers: &mut Vec<u64>, from: usize, to: usize, on: bool)
 /// Those of the numbers from `from` up to `to` that are there are 0 from now on.
 fn clear_numbers(numbers: &mut Vec<u64>, from: usize, to: usize)
     requires { from ≤ to }
-    ensures cleared { Changed zero_word (slice_index numbers.old.items)
+    ensures cleared { Changed (number_when false) (slice_index numbers.old.items)
         (slice_index numbers.new.items) from to }
     ensures kept { length numbers.new.items ≡ length numbers.old.items }
     ensures capacity { vec_capacity numbers.new ≡ vec_capacity numbers.old }
@@ -126,6 +125,19 @@ fn clear_numbers(numbers: &mut Vec<u64>, from: usize, to: usize)
     let end = to.min(numbers.len());
     for i in from..end {
         numbers[i] = 0;
+    }
+}
+
+/// The same unless the pages are reserved.
+fn settle_numbers(numbers: &mut Vec<u64>, from: usize, to: usize, on: bool)
+    requires { from ≤ to }
+    ensures settled { Changed (number_when on) (slice_index numbers.old.items)
+        (slice_index numbers.new.items) from to }
+    ensures kept { length numbers.new.items ≡ length numbers.old.items }
+    ensures capacity { vec_capacity numbers.new ≡ vec_capacity numbers.old }
+{
+    if !on {
+        clear_numbers(numbers, from, to);
     }
 }
 
@@ -174,25 +186,15 @@ impl Leaf {
         self.numbers[BIT_NUMBERS + at] = word;
     }
 
-    /// Reserves the pages from index `from` up to `to`; those that were not reserved have a word of
-    /// 0.
-    pub fn reserve(&mut self, from: usize, to: usize)
+    /// Reserves the pages from index `from` up to `to`, of which those that were not reserved have a
+    /// word of 0; or takes their words away. The leaf keeps its room.
+    pub fn put(&mut self, from: usize, to: usize, on: bool)
         requires some { from < to }
         requires within { to ≤ length self.old }
-        ensures words { Changed reserved_word (leaf_word self.old) (leaf_word self.new) from to }
+        ensures words { Changed (word_when on) (leaf_word self.old) (leaf_word self.new) from to }
         ensures room { length self.new ≡ length self.old }
     {
-        mark(&mut self.numbers, from, to, true);
-    }
-
-    /// Takes the words of the pages from index `from` up to `to` away. The leaf keeps its room.
-    pub fn release(&mut self, from: usize, to: usize)
-        requires some { from < to }
-        requires within { to ≤ length self.old }
-        ensures words { Changed no_word (leaf_word self.old) (leaf_word self.new) from to }
-        ensures room { length self.new ≡ length self.old }
-    {
-        mark(&mut self.numbers, from, to, false);
-        clear_numbers(&mut self.numbers, BIT_NUMBERS + from, BIT_NUMBERS + to);
+        mark(&mut self.numbers, from, to, on);
+        settle_numbers(&mut self.numbers, BIT_NUMBERS + from, BIT_NUMBERS + to, on);
     }
 }

@@ -2,9 +2,9 @@ ghost use Rattle.std.specs.Prelude.{◌≡◌, ◌==◌, ◌+◌, ◌*◌, ◌/�
 ghost use Rattle.std.specs.Ordering.{nat_cmp};
 ghost use Rattle.std.specs.FinMap as finite;
 ghost use Rattle.mm_types.specs.{first_user_page, end_of_user_pages};
-ghost use Rattle.mm_words.specs.Pages.{pages, Reserves, Releases, AreReserved, reserved_word};
-ghost use Rattle.mm_words.specs.LeafWords.{no_word};
-ghost use Rattle.mm_words.specs.Directory.{word_in, IsInLeaf, HavePlaces, HaveWords, KeepsPlaces, PlacesMore, Changes, IsPart, with_leaf_word, IsDirectory, end_of_pages, most_leaves};
+ghost use Rattle.mm_words.specs.Pages.{pages, Reserves, Releases, AreReserved};
+ghost use Rattle.mm_words.specs.LeafWords.{word_when};
+ghost use Rattle.mm_words.specs.Directory.{word_in, IsInLeaf, HavePlaces, KeepsPlaces, PlacesMore, Changes, IsPart, with_leaf_word, IsDirectory, end_of_pages, most_leaves};
 
 use crate::leaves::{LEAF_PAGES, Leaf};
 use mm_types::{NoMemory, Vpn};
@@ -67,59 +67,31 @@ fn end_in_leaf(page: u32, end: u32) -> u32
     end.min((page / LEAF_PAGES as u32 + 1) * LEAF_PAGES as u32)
 }
 
-/// Gives each page of a part of one leaf a word of 0 if it has none.
-fn reserve_part(leaves: &mut Vec<Leaf>, page: u32, end: u32)
+/// Gives each page of a part of one leaf a word of 0 if it has none, or takes their words away.
+fn put_part(leaves: &mut Vec<Leaf>, page: u32, end: u32, on: bool)
     requires part { IsPart page end }
     requires place { IsInLeaf leaves.old.items page }
     requires directory { IsDirectory leaves.old.items }
-    ensures changes { Changes reserved_word leaves.old.items leaves.new.items page end }
+    ensures changes { Changes (word_when on) leaves.old.items leaves.new.items page end }
     ensures places { KeepsPlaces leaves.old.items leaves.new.items }
 {
     let from = page as usize % LEAF_PAGES;
     let leaf = &mut leaves[page as usize / LEAF_PAGES];
-    leaf.reserve(from, from + (end - page) as usize);
+    leaf.put(from, from + (end - page) as usize, on);
 }
 
-/// Gives each page from `first` up to `end` a word of 0 if it has none.
-fn reserve_words(leaves: &mut Vec<Leaf>, first: u32, end: u32)
+/// Gives each page from `first` up to `end` a word of 0 if it has none, or takes their words away.
+fn put_words(leaves: &mut Vec<Leaf>, first: u32, end: u32, on: bool)
     requires order { first ≤ end }
     requires end { end ≤ end_of_pages }
     requires places { HavePlaces leaves.old.items first end }
     requires directory { IsDirectory leaves.old.items }
-    ensures { Changes reserved_word leaves.old.items leaves.new.items first end }
+    ensures { Changes (word_when on) leaves.old.items leaves.new.items first end }
 {
     let mut page = first;
     while page < end {
         let next = end_in_leaf(page, end);
-        reserve_part(leaves, page, next);
-        page = next;
-    }
-}
-
-/// Takes the words of the pages of a part of one leaf away.
-fn release_part(leaves: &mut Vec<Leaf>, page: u32, end: u32)
-    requires part { IsPart page end }
-    requires place { IsInLeaf leaves.old.items page }
-    requires directory { IsDirectory leaves.old.items }
-    ensures { Changes no_word leaves.old.items leaves.new.items page end }
-{
-    let from = page as usize % LEAF_PAGES;
-    let leaf = &mut leaves[page as usize / LEAF_PAGES];
-    leaf.release(from, from + (end - page) as usize);
-}
-
-/// Takes the words of the pages from `first` up to `end` away.
-fn release_words(leaves: &mut Vec<Leaf>, first: u32, end: u32)
-    requires order { first ≤ end }
-    requires end { end ≤ end_of_pages }
-    requires reserved { HaveWords leaves.old.items first end }
-    requires directory { IsDirectory leaves.old.items }
-    ensures { Changes no_word leaves.old.items leaves.new.items first end }
-{
-    let mut page = first;
-    while page < end {
-        let next = end_in_leaf(page, end);
-        release_part(leaves, page, next);
+        put_part(leaves, page, next, on);
         page = next;
     }
 }
@@ -207,7 +179,7 @@ impl Table {
         take_directory(self.alloc, &mut self.leaves)?;
         let end = first.0 + n;
         place_leaves(self.alloc, &mut self.leaves, first.0, end)?;
-        reserve_words(&mut self.leaves, first.0, end);
+        put_words(&mut self.leaves, first.0, end, true);
         Ok(())
     }
 
@@ -220,7 +192,7 @@ impl Table {
         if n == 0 {
             return;
         }
-        release_words(&mut self.leaves, first.0, first.0 + n);
+        put_words(&mut self.leaves, first.0, first.0 + n, false);
     }
 
     /// Gives the memory of a table without a reserved page back.

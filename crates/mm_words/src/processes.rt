@@ -3,7 +3,7 @@ ghost use Rattle.std.specs.FinMap as finite;
 ghost use Rattle.mm_life.specs.{changed};
 ghost use Rattle.mm_words.specs.Layout.{IsEntry};
 ghost use Rattle.mm_words.specs.declared.layout.Entry.TheVariants as entry;
-ghost use Rattle.mm_wset.specs.{older, IsNextFrom};
+ghost use Rattle.mm_wset.specs.{older};
 ghost use Rattle.mm_words.specs.Pages.{pages};
 ghost use Rattle.mm_types.specs.{holds_page, first_user_page, end_of_user_pages};
 ghost use Rattle.mm_words.specs.Entries.{entry_or};
@@ -12,7 +12,7 @@ ghost use Rattle.std.specs.Option.{ForSome};
 ghost use Rattle.mm_words.specs.Oldest.{NoneBehind, IsOldestOf};
 ghost use Rattle.mm_words.specs.Processes.{IsKeptProcess};
 
-use crate::entries::entry_of;
+use crate::layout::entry_of;
 use crate::{Entry, Table, encode};
 use mm_life::ResidentSet;
 use mm_types::{Frame, NoMemory, Vpn};
@@ -190,12 +190,5 @@ impl Process {
             (λ v. IsOldestOf (age_of self.now) (option_map (λ w. w.0) after) v.0) }
     {
         self.set.oldest(after)
-    }
-
-    /// The lowest valid page at `from` or above.
-    pub fn next_from(&self, from: Vpn) -> Option<Vpn>
-        ensures { IsNextFrom (λ v. is_some (age_of self.now v)) from.0 result }
-    {
-        self.set.next_from(from)
     }
 }

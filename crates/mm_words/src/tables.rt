@@ -12,7 +12,7 @@ ghost use Rattle.mm_words.specs.Oldest.{ages_in, NoneBehind, IsOldestOf};
 ghost use Rattle.mm_words.specs.Tables.{AsideBound, process_in, bound_in};
 
 use crate::aside::Aside;
-use crate::entries::entry_of;
+use crate::layout::entry_of;
 use crate::processes::Process;
 use crate::{Entry, Protos, encode};
 use mm_life::ResidentSet;
@@ -52,7 +52,7 @@ fn index_of(processes: &Vec<Process>, pid: Pid) -> usize
     usize::from(pid.0) - 1
 }
 
-#[tactic(auto, using(crate::proofs::TableChanges::bound_there, crate::proofs::TableChanges::set_there, crate::proofs::TableChanges::open_there, crate::proofs::AreaWords::proto_there))]
+#[tactic(auto, using(crate::proofs::TableChanges::bound_there, crate::proofs::TableChanges::set_there, crate::proofs::TableChanges::open_there, crate::proofs::TableChanges::proto_there))]
 impl Words {
     ghost use Rattle.mm_words.specs.Shown.{words, place_ages, no_words, no_ages};
 
@@ -427,7 +427,7 @@ impl Words {
         ensures { IsNextFrom (λ v. is_some (ages_in (place_ages self.now) pid v)) from.0 result }
     {
         let at = index_of(&self.processes, pid);
-        self.processes[at].next_from(from)
+        self.processes[at].set.next_from(from)
     }
 
     /// The working set of a process: its sizes, and how many of its places are valid.

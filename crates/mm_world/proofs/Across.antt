@@ -1,34 +1,142 @@
--- A call on a world with bytes is the call on its tables, and the bytes that are left.
-use Rattle.std.proofs.Common.{◌≡◌, ℕ, zero, suc, ◌+◌, ◌≤◌, Bool, true, false, Option, Some, None, List, [], ◌∷◌, refl, sym, ◌∙◌, ap, subst, cond, arith, length, map, slice_get, is_some, ◌&&◌, option_map, unwrap_or}
-use Rattle.std.specs.Prelude.{option_and_then, nat_le, nat_lt, ◌-◌}
+-- A world is its tables and the bytes of its keys.
+use Rattle.std.proofs.Common.{◌≡◌, ℕ, suc, ◌+◌, ◌-◌, Option, Some, None, List, [], ◌∷◌, refl, ◌∙◌, ap, arith, map, slice_get, option_map, unwrap_or, zero, ◌≤◌, Bool, true, false, sym, subst, cond, length, is_some, ◌&&◌, ◌%◌, ◌++◌, set}
+use Rattle.std.specs.Prelude.{option_and_then, nat_le, nat_lt}
+use Rattle.mm_types.specs.{Key, first_user_page, Kind, ViewAccess, end_of, holds_page, Text, Answer, Code, address_of, commit_type}
+use Rattle.mm_world.specs.{Page, RowOf, RegionOf, ProcessOf, AreaOf, Numbered, numbered, filled, pages_of, no_area, own_page, private_key, shared_key}
+use Rattle.mm_world.specs.{map_row, map_region, map_process, map_area, Tables, no_bytes, tables_of, bytes_in, row_with, rows_with, region_with_bytes}
+use Rattle.mm_world.specs.{process_with, processes_with, pages_with, areas_with, world_with, LaidOut, Spaces, watch, reset_watch, WorldOf, is_private}
+use Rattle.mm_world.specs.{Found, process_of, shared_page, region_with, content_of, OutcomeOf, is_one_of, row_at, alloc, free, protect, create}
+use Rattle.mm_world.specs.{create_file, open_section, close, query, stack, map_view, unmap, flush, new_process, exit, take_fail, grow, map_world}
+use Rattle.mm_world.specs.{tables_outcome, blank, AcrossBytes, Each, RowFits, RowsFit, held_protections, FileOf, done, refused, new_file, file_pages}
+use Rattle.mm_world.specs.{file_bytes, AcrossFile, StackOf, Committed, committed_at, guard_off, probe, grown}
+use Rattle.mm_world.specs.World.{World}
+use Rattle.mm_types.proofs.{get_within}
+use Rattle.mm_world.proofs.KeptCalls.{own_in, own_of, KeepsPages, by_key, Kept, kept_same, shared_pushed, by_same}
+use Rattle.mm_world.proofs.Ranges.{holds}
+use Rattle.mm_world.proofs.Regions.{has_at, has-cons, set_keeps, and-true}
 use Rattle.std.proofs.Math.Path.{fun_ext}
 use Rattle.std.proofs.lemmas.Bool.{leb-true}
-use Rattle.std.proofs.lemmas.List.{length-map}
-use Rattle.mm_types.specs.{Key, Kind, ViewAccess, end_of, holds_page, first_user_page, Text}
-use Rattle.mm_types.specs.declared.numbers.Key.TheVariants as key
-use Rattle.mm_types.specs.declared.views.Kind.TheVariants as kind
-use Rattle.mm_world.specs.{watch, reset_watch, Page, WorldOf, RowOf, RegionOf, ProcessOf, AreaOf, Numbered, numbered, filled, pages_of, is_private}
-use Rattle.mm_world.specs.{Found, process_of, shared_page, region_with, no_area, content_of, own_page, private_key, shared_key, OutcomeOf, is_one_of}
-use Rattle.mm_world.specs.{row_at, alloc, free, protect, create, create_file, open_section, close, query, stack, map_view, unmap, flush, new_process}
-use Rattle.mm_world.specs.{exit, take_fail, grow, map_row, map_region, map_process, map_world, Tables, no_bytes, tables_of, tables_outcome, bytes_in}
-use Rattle.mm_world.specs.{blank, row_with, rows_with, region_with_bytes, process_with, processes_with, pages_with, areas_with, world_with}
-use Rattle.mm_world.specs.{AcrossBytes, Each, LaidOut, RowFits, RowsFit, Spaces, held_protections}
-use Rattle.mm_world.proofs.Tables.{Holds}
-use Rattle.mm_world.proofs.Natural as natural
-use Rattle.mm_world.proofs.NaturalSections as sections
+use Rattle.std.proofs.lemmas.List.{length-map, length-set}
+use Rattle.mm_world.proofs.Tables.{Holds, met, tables, at_probe}
 use Rattle.mm_world.proofs.Natural.{Agrees, some-map, at_process, map-shared_page, map-row_at, map_found}
 use Rattle.mm_world.proofs.NaturalSections.{with}
-use Rattle.mm_world.proofs.KeptPages.{own_in, own_of}
-use Rattle.mm_world.proofs.Regions.{has-cons}
-use Rattle.mm_world.proofs.LaidOut.{and-true}
 use Rattle.mm_world.proofs.Spaces.{spaces_kept}
 use Rattle.mm_world.proofs.Edits.{any_terms, Edited}
+use Rattle.std.proofs.lemmas.Option.{IfSome_then}
+use Rattle.mm_world.proofs.Finding.{found_stands, put_at, committed_is}
+use Rattle.mm_types.specs.declared.numbers.Key.TheVariants as key
+use Rattle.mm_types.specs.declared.views.Kind.TheVariants as kind
+use Rattle.mm_world.proofs.Natural as natural
+use Rattle.mm_world.proofs.NaturalSections as sections
 use Rattle.mm_world.proofs.CallEdits as calls
 use Rattle.mm_world.proofs.KeptCalls as kept
 use Rattle.mm_world.proofs.LineEdits as lines
-use Rattle.mm_world.proofs.KeptCalls.{KeepsPages, key_kept}
-use Rattle.mm_world.proofs.Reconstruct.{tables_back, full_world}
-use Rattle.std.proofs.lemmas.Option.{IfSome_then}
+use Rattle.mm_types.specs.declared.answers.Answer.TheVariants as answer
+use Rattle.mm_world.proofs.WellFormed as formed
+
+-- ---- the tables of a world with bytes are those that it was made of
+
+module _ (c : Key → Page) where
+  blank_row : (pid page : ℕ) (row : RowOf (Unit {0})) → map_row no_bytes (row_with c pid page row) ≡ row
+  blank_row pid page row = elim row.own as (λ o. map_row no_bytes (row_with c pid page (record row { own = o })) ≡ record row { own = o }) [ None ↦ refl | Some u ↦ refl ]
+
+  blank_rows : (pid page : ℕ) (rows : List (RowOf (Unit {0}))) → map (map_row no_bytes) (rows_with c pid page rows) ≡ rows
+  blank_rows pid page [] = refl
+  blank_rows pid page (row ∷ rows) = λ i. blank_row pid page row i ∷ blank_rows pid (page + 1) rows i
+
+  blank_regions : (pid : ℕ) (rs : List (RegionOf (Unit {0}))) → map (map_region no_bytes) (map (region_with_bytes c pid) rs) ≡ rs
+  blank_regions pid [] = refl
+  blank_regions pid (r ∷ rs) = λ i. record r { rows = blank_rows pid r.base r.rows i } ∷ blank_regions pid rs i
+
+  blank_process : (pid : ℕ) (p : Option (ProcessOf (Unit {0}))) → option_map (map_process no_bytes) (option_map (process_with c pid) p) ≡ p
+  blank_process pid None = refl
+  blank_process pid (Some p) = λ i. Some (record p { regions = blank_regions pid p.regions i })
+
+  blank_processes : (pid : ℕ) (ps : Numbered (ProcessOf (Unit {0}))) → map (option_map (map_process no_bytes)) (processes_with c pid ps) ≡ ps
+  blank_processes pid [] = refl
+  blank_processes pid (p ∷ ps) = λ i. blank_process pid p i ∷ blank_processes (pid + 1) ps i
+
+  blank_page : (k : Key) (o : Option (Unit {0})) → option_map no_bytes (option_map (λ u. c k) o) ≡ o
+  blank_page k None = refl
+  blank_page k (Some u) = refl
+
+  blank_pages : (area index : ℕ) (pages : List (Option (Unit {0}))) → map (option_map no_bytes) (pages_with c area index pages) ≡ pages
+  blank_pages area index [] = refl
+  blank_pages area index (o ∷ pages) = λ i. blank_page (shared_key area index) o i ∷ blank_pages area (index + 1) pages i
+
+  blank_areas : (area : ℕ) (areas : List (AreaOf (Unit {0}))) → map (map_area no_bytes) (areas_with c area areas) ≡ areas
+  blank_areas area [] = refl
+  blank_areas area (a ∷ rest) = λ i. record a { pages = blank_pages area 0 a.pages i } ∷ blank_areas (area + 1) rest i
+
+  pub tables_back : (t : Tables) → tables_of (world_with t c) ≡ t
+  tables_back t = λ i. record t { processes = blank_processes 0 t.processes i; areas = blank_areas 0 t.areas i }
+
+-- ---- a world is made of its tables and its bytes
+
+module _ (c : Key → Page) where
+  full_own : (k : Key) (own : Option Page) → ((b : Page) → own ≡ Some b → c k ≡ b) → option_map (λ u. c k) (option_map no_bytes own) ≡ own
+  full_own k None h = refl
+  full_own k (Some b) h = ap (λ (b : Page). Some b) (h b refl)
+
+  full_rows : (pid page : ℕ) (rows : List (RowOf Page)) → ((i : ℕ) (row : RowOf Page) (b : Page) → slice_get rows i ≡ Some row → row.own ≡ Some b → c (private_key pid (page + i)) ≡ b) → rows_with c pid page (map (map_row no_bytes) rows) ≡ rows
+  full_rows pid page [] h = refl
+  full_rows pid page (row ∷ rows) h =
+      let here : (b : Page) → row.own ≡ Some b → c (private_key pid page) ≡ b = λ b own. ap (λ (n : ℕ). c (private_key pid n)) (let same : page ≡ page + 0 = omega arith in same) ∙ h 0 row b refl own in
+      let later : rows_with c pid (page + 1) (map (map_row no_bytes) rows) ≡ rows =
+      full_rows pid (page + 1) rows (λ i r b at own. ap (λ (n : ℕ). c (private_key pid n)) (let same : page + 1 + i ≡ page + suc i = omega arith in same) ∙ h (suc i) r b at own) in
+      λ i. record row { own = full_own (private_key pid page) row.own here i } ∷ later i
+
+  full_regions : (pid : ℕ) (rs : List (RegionOf Page)) → ((j : ℕ) (r : RegionOf Page) (i : ℕ) (row : RowOf Page) (b : Page) → slice_get rs j ≡ Some r → slice_get r.rows i ≡ Some row → row.own ≡ Some b → c (private_key pid (r.base + i)) ≡ b) → map (region_with_bytes c pid) (map (map_region no_bytes) rs) ≡ rs
+  full_regions pid [] h = refl
+  full_regions pid (r ∷ rs) h =
+      let here = full_rows pid r.base r.rows (λ i row b at own. h 0 r i row b refl at own) in
+      let later = full_regions pid rs (λ j x i row b there at own. h (suc j) x i row b there at own) in
+      λ i. record r { rows = here i } ∷ later i
+
+  full_processes : (n : ℕ) (ps : Numbered (ProcessOf Page)) → ((m : ℕ) (p : ProcessOf Page) → numbered ps m ≡ Some p → map (region_with_bytes c (n + m)) (map (map_region no_bytes) p.regions) ≡ p.regions) → processes_with c n (map (option_map (map_process no_bytes)) ps) ≡ ps
+  full_processes n [] h = refl
+  full_processes n (p ∷ ps) h =
+      let later = full_processes (n + 1) ps (λ m q e. ap (λ (k : ℕ). map (region_with_bytes c k) (map (map_region no_bytes) q.regions)) (let same : n + 1 + m ≡ n + suc m = omega arith in same) ∙ h (suc m) q e) in
+      λ i. here p (λ q e. h 0 q e) i ∷ later i
+    where
+      here : (o : Option (ProcessOf Page)) → ((q : ProcessOf Page) → o ≡ Some q → map (region_with_bytes c (n + 0)) (map (map_region no_bytes) q.regions) ≡ q.regions) → option_map (process_with c n) (option_map (map_process no_bytes) o) ≡ o
+      here None k = refl
+      here (Some q) k =
+          let regions = ap (λ (m : ℕ). map (region_with_bytes c m) (map (map_region no_bytes) q.regions)) (let same : n ≡ n + 0 = omega arith in same) ∙ k q refl in
+          λ i. Some (record q { regions = regions i })
+
+  full_pages : (area n : ℕ) (pages : List (Option Page)) → ((i : ℕ) (b : Page) → numbered pages i ≡ Some b → c (shared_key area (n + i)) ≡ b) → pages_with c area n (map (option_map no_bytes) pages) ≡ pages
+  full_pages area n [] h = refl
+  full_pages area n (o ∷ pages) h =
+      let here : (b : Page) → o ≡ Some b → c (shared_key area n) ≡ b = λ b own. ap (λ (k : ℕ). c (shared_key area k)) (let same : n ≡ n + 0 = omega arith in same) ∙ h 0 b own in
+      let later = full_pages area (n + 1) pages (λ i b e. ap (λ (k : ℕ). c (shared_key area k)) (let same : n + 1 + i ≡ n + suc i = omega arith in same) ∙ h (suc i) b e) in
+      λ i. full_own (shared_key area n) o here i ∷ later i
+
+  full_areas : (n : ℕ) (areas : List (AreaOf Page)) → ((m : ℕ) (a : AreaOf Page) → slice_get areas m ≡ Some a → pages_with c (n + m) 0 (map (option_map no_bytes) a.pages) ≡ a.pages) → areas_with c n (map (map_area no_bytes) areas) ≡ areas
+  full_areas n [] h = refl
+  full_areas n (a ∷ rest) h =
+      let here = ap (λ (k : ℕ). pages_with c k 0 (map (option_map no_bytes) a.pages)) (let same : n ≡ n + 0 = omega arith in same) ∙ h 0 a refl in
+      let later = full_areas (n + 1) rest (λ m x e. ap (λ (k : ℕ). pages_with c k 0 (map (option_map no_bytes) x.pages)) (let same : n + 1 + m ≡ n + suc m = omega arith in same) ∙ h (suc m) x e) in
+      λ i. record a { pages = here i } ∷ later i
+
+-- a row's own bytes are those of its page
+own_at : {B : Type 0} (from j i : ℕ) (rs : List (RegionOf B)) (r : RegionOf B) (row : RowOf B) → LaidOut from rs → slice_get rs j ≡ Some r → slice_get r.rows i ≡ Some row → own_page rs (r.base + i) ≡ row.own
+own_at {B} from j i rs r row h there at =
+    let page = r.base + i in
+    has_at (λ (r : RegionOf B). own_in r page) from j page rs r h there (holds (pages_of r) page (omega arith) (omega (arith, get_within r.rows i row at)))
+    ∙ ap (λ (k : ℕ). option_and_then (λ (row : RowOf B). row.own) (slice_get r.rows k)) (let k : page - r.base ≡ i = omega arith in k)
+    ∙ ap (λ o. option_and_then (λ (row : RowOf B). row.own) o) at
+
+pub full_world : (w : World) → Spaces w → world_with (tables_of w) (bytes_in w) ≡ w
+full_world w spaces =
+    let c = bytes_in w in
+    let processes = full_processes c 0 w.processes (λ m p lives. ap (λ (k : ℕ). map (region_with_bytes c k) (map (map_region no_bytes) p.regions)) (let same : 0 + m ≡ m = omega arith in same) ∙ full_regions c m p.regions (λ j r i row b there at own.
+    ap (λ (o : Option Page). unwrap_or o (filled 0)) (ap (λ p. own_of p (r.base + i)) lives ∙ own_at first_user_page j i p.regions r row (spaces m p lives).laid_out there at ∙ own))) in
+    let areas = full_areas c 0 w.areas (λ m a there. ap (λ (k : ℕ). pages_with c k 0 (map (option_map no_bytes) a.pages)) (let same : 0 + m ≡ m = omega arith in same) ∙ full_pages c m 0 a.pages (λ i b e.
+    ap (λ (k : ℕ). c (shared_key m k)) (let same : 0 + i ≡ i = omega arith in same) ∙ ap (λ (o : Option Page). unwrap_or o (filled 0)) (ap (λ o. numbered (unwrap_or o no_area).pages i) there ∙ e))) in
+    λ i. record w { processes = processes i; areas = areas i }
+
+-- ---- a call on a world with bytes is the call on its tables, and the bytes that are left
 
 -- ---- what the tables show of a world
 
@@ -41,9 +149,6 @@ module _ {A B : Type 0} (f : A → B) where
         laid_back (end_of (pages_of r)) rs (subst (λ (n : ℕ). LaidOut (r.base + n) (map (map_region f) rs)) rows h.1),
       )
 
-  none-back : (o : Option A) → o ≡ None → option_map f o ≡ None
-  none-back o e = ap (option_map f) e
-
   same_held : (access : ViewAccess) (o : Option A) (m : Bool) → held_protections access (option_map f o) m ≡ held_protections access o m
   same_held access None m = refl
   same_held access (Some x) m = refl
@@ -53,13 +158,7 @@ module _ {A B : Type 0} (f : A → B) where
       record {
         unmarked = h.unmarked;
         reserved = λ none.
-            let e = h.reserved (none-back row.own none) in
-            λ i. record {
-              prot = ap (λ (row : RowOf B). row.prot) e i;
-              guard = ap (λ (row : RowOf B). row.guard) e i;
-              marked = ap (λ (row : RowOf B). row.marked) e i;
-              own = none i;
-            };
+            λ i. record (ap (λ (row : RowOf B). let r : RowOf A = record { prot = row.prot; guard = row.guard; marked = row.marked; own = None } in r) (h.reserved (ap (option_map f) none)) i) { own = none i };
         committed = λ there. h.committed (some-map f row.own ∙ there);
       }
   row_back (kind.View v) row h =
@@ -108,16 +207,16 @@ module _ {A B : Type 0} (f : A → B) where
 
 -- ---- what a world with bytes holds
 
+has_only : (y : Page) (o : Option (Unit {0})) (x : Page) → option_map (λ u. y) o ≡ Some x → x ≡ y
+has_only y None x e = cc
+has_only y (Some u) x e = let same : y ≡ x = cc in sym same
+
 module _ (c : Key → Page) where
   in_rows : (pid n i : ℕ) (rows : List (RowOf (Unit {0}))) (row : RowOf Page) (x : Page) → slice_get (rows_with c pid n rows) i ≡ Some row → row.own ≡ Some x → x ≡ c (private_key pid (n + i))
   in_rows pid n i [] row x at own = cc
   in_rows pid n zero (r ∷ rows) row x at own =
       let same : row_with c pid n r ≡ row = cc in
-      by_own r.own (ap (λ (row : RowOf Page). row.own) same ∙ own) ∙ ap (λ (k : ℕ). c (private_key pid k)) (let k : n ≡ n + 0 = omega arith in k)
-    where
-      by_own : (o : Option (Unit {0})) → option_map (λ u. c (private_key pid n)) o ≡ Some x → x ≡ c (private_key pid n)
-      by_own None e = cc
-      by_own (Some u) e = let same : c (private_key pid n) ≡ x = cc in sym same
+      has_only (c (private_key pid n)) r.own x (ap (λ (row : RowOf Page). row.own) same ∙ own) ∙ ap (λ (k : ℕ). c (private_key pid k)) (let k : n ≡ n + 0 = omega arith in k)
   in_rows pid n (suc i) (r ∷ rows) row x at own =
       in_rows pid (n + 1) i rows row x at own ∙ ap (λ (k : ℕ). c (private_key pid k)) (let k : n + 1 + i ≡ n + suc i = omega arith in k)
 
@@ -152,11 +251,7 @@ module _ (c : Key → Page) where
 
   in_pages : (area n i : ℕ) (pages : List (Option (Unit {0}))) (x : Page) → numbered (pages_with c area n pages) i ≡ Some x → x ≡ c (shared_key area (n + i))
   in_pages area n i [] x e = cc
-  in_pages area n zero (o ∷ pages) x e = by_page o e ∙ ap (λ (k : ℕ). c (shared_key area k)) (let k : n ≡ n + 0 = omega arith in k)
-    where
-      by_page : (o : Option (Unit {0})) → option_map (λ u. c (shared_key area n)) o ≡ Some x → x ≡ c (shared_key area n)
-      by_page None e = cc
-      by_page (Some u) e = let same : c (shared_key area n) ≡ x = cc in sym same
+  in_pages area n zero (o ∷ pages) x e = has_only (c (shared_key area n)) o x e ∙ ap (λ (k : ℕ). c (shared_key area k)) (let k : n ≡ n + 0 = omega arith in k)
   in_pages area n (suc i) (o ∷ pages) x e =
       in_pages area (n + 1) i pages x e ∙ ap (λ (k : ℕ). c (shared_key area k)) (let k : n + 1 + i ≡ n + suc i = omega arith in k)
 
@@ -172,36 +267,42 @@ module _ (c : Key → Page) where
 -- ---- across
 
 -- one key's bytes after the call
-bytes_at : (c : Key → Page) (k : Key) (b a : Bool) (old new : Option Page) → b ≡ is_some old → a ≡ is_some new → ((x : Page) → old ≡ Some x → x ≡ c k) → ((x : Page) → new ≡ Some x → x ≡ unwrap_or old (filled 0)) → cond (b && a) (c k) (filled 0) ≡ unwrap_or new (filled 0)
-bytes_at c k true true (Some y) (Some x) eb ea held kept = sym (kept x refl ∙ held y refl)
-bytes_at c k false true None (Some x) eb ea held kept = sym (kept x refl)
-bytes_at c k true false old None eb ea held kept = refl
-bytes_at c k false false old None eb ea held kept = refl
-bytes_at c k true a None new eb ea held kept = cc
-bytes_at c k false a (Some y) new eb ea held kept = cc
-bytes_at c k b true old None eb ea held kept = cc
-bytes_at c k b false old (Some x) eb ea held kept = cc
+bytes_at : (c fresh rest : Page) (b a : Bool) (old new : Option Page) → rest ≡ cond a fresh (filled 0) → b ≡ is_some old → a ≡ is_some new → ((x : Page) → old ≡ Some x → x ≡ c) → Kept fresh old new → cond (b && a) c rest ≡ unwrap_or new (filled 0)
+bytes_at c fresh rest true true (Some y) (Some x) e eb ea held k = sym (k.kept x refl ∙ held y refl)
+bytes_at c fresh rest false true None (Some x) e eb ea held k = e ∙ sym (k.kept x refl)
+bytes_at c fresh rest true false old None e eb ea held k = e
+bytes_at c fresh rest false false old None e eb ea held k = e
+bytes_at c fresh rest _ _ _ _ e eb ea held k = cc
+
+module _ (t : Tables) (c : Key → Page) (spaces : Spaces t) (q : OutcomeOf (Unit {0})) (o : OutcomeOf Page) (natural : q ≡ tables_outcome o) where
+  abbrev w : World
+  w = world_with t c
+
+  before : Spaces w
+  before = spaces_back no_bytes w (subst (λ t. Spaces t) (sym (tables_back c t)) spaces)
+
+  bytes_after : (k : Key) (fresh rest : Page) → rest ≡ cond (is_some (content_of q.world k)) fresh (filled 0) → Kept fresh (content_of w k) (content_of o.world k) → cond (is_some (content_of t k) && is_some (content_of q.world k)) (c k) rest ≡ bytes_in o.world k
+  bytes_after k fresh rest e kept =
+      bytes_at (c k) fresh rest _ _ (content_of w k) (content_of o.world k) e
+      (ap (λ t. is_some (content_of t k)) (sym (tables_back c t)) ∙ live_back no_bytes w k)
+      (ap (λ (q : OutcomeOf (Unit {0})). is_some (content_of q.world k)) natural ∙ live_back no_bytes o.world k)
+      (λ x e. holds_bytes c t k x e) kept
+
+  world_after : (new : Key → Page) → ((k : Key) → new k ≡ bytes_in o.world k) → Holds (Edited any_terms w) o → o ≡ record { answer = q.answer; world = world_with q.world new }
+  world_after new same edits =
+      let worlds : o.world ≡ world_with q.world new =
+      sym (full_world o.world (spaces_kept (any_terms o.answer) w o.world edits.it.edits before)) ∙ (λ i. world_with (sym natural i).world (sym (fun_ext same) i)) in
+      λ i. record { answer = (sym natural i).answer; world = worlds i }
+
+either_same : (b : Bool) (x : Page) → x ≡ cond b x x
+either_same true x = refl
+either_same false x = refl
 
 pub across_by : (t : Tables) (c : Key → Page) (call : Tables → OutcomeOf (Unit {0})) (o : OutcomeOf Page) → Spaces t → Agrees no_bytes o (call (tables_of (world_with t c))) → Holds (KeepsPages (filled 0) (world_with t c)) o → Holds (Edited any_terms (world_with t c)) o → AcrossBytes t c (call t) o
 across_by t c call o spaces agrees pages edits =
-    let w = world_with t c in
-    let before : Spaces w = spaces_back no_bytes w (subst (λ t. Spaces t) (sym (tables_back c t)) spaces) in
-    let q = call t in
-    let natural : q ≡ tables_outcome o = ap call (sym (tables_back c t)) ∙ agrees.same in
-    let answers : q.answer ≡ o.answer = ap (λ (q : OutcomeOf (Unit {0})). q.answer) natural in
-    let tables : q.world ≡ tables_of o.world = ap (λ (q : OutcomeOf (Unit {0})). q.world) natural in
-    record {
-      across = λ new after.
-          let same : new ≡ bytes_in o.world = fun_ext (λ k.
-          let live_before : is_some (content_of t k) ≡ is_some (content_of w k) = ap (λ t. is_some (content_of t k)) (sym (tables_back c t)) ∙ live_back no_bytes w k in
-          let live_after : is_some (content_of q.world k) ≡ is_some (content_of o.world k) = ap (λ t. is_some (content_of t k)) tables ∙ live_back no_bytes o.world k in
-          after k
-          ∙ bytes_at c k (is_some (content_of t k)) (is_some (content_of q.world k)) (content_of w k) (content_of o.world k) live_before live_after
-          (λ x e. holds_bytes c t k x e) (λ x e. key_kept (filled 0) w o k x pages before e)) in
-          let worlds : o.world ≡ world_with q.world new =
-          sym (full_world o.world (spaces_kept (any_terms o.answer) w o.world edits.it.edits before)) ∙ (λ i. world_with (sym tables i) (sym same i)) in
-          λ i. record { answer = sym answers i; world = worlds i };
-    }
+    let natural : call t ≡ tables_outcome o = ap call (sym (tables_back c t)) ∙ agrees.same in
+    let kept = λ (k : Key). by_key (filled 0) (world_with t c) o.world k (pages.it.kept (before t c spaces (call t) o natural)) in
+    record { across = λ new after. world_after t c spaces (call t) o natural new (λ k. after k ∙ bytes_after t c spaces (call t) o natural k (filled 0) (filled 0) (either_same _ (filled 0)) (kept k)) edits }
 
 -- ---- each call
 
@@ -295,3 +396,97 @@ module _ (t : Tables) (c : Key → Page) (fits : Spaces t) where
   stack_across tid pid reserve commit =
       across_by t c (λ t. stack blank t tid pid reserve commit) _ fits (sections.in_stack no_bytes filled (world_with t c) tid pid reserve commit)
       (kept.in_stack filled (world_with t c) tid pid reserve commit) (lines.in_stack filled any_terms (λ a. refl) (λ a n m. tt) (world_with t c) tid pid reserve commit)
+
+-- ---- the same of a `file` line, whose pages hold their own bytes
+
+record KeepsFile (byte : ℕ) (w : World) (o : OutcomeOf Page) : Type 0 where
+  pub kept : (k : Key) → Kept (file_bytes byte k) (content_of w k) (content_of o.world k)
+
+file_same : (byte : ℕ) (w : World) (a : Answer) → Holds (KeepsFile byte w) (done a w)
+file_same byte w a = record { it = record { kept = λ k. kept_same (file_bytes byte k) (content_of w k) } }
+
+file_refusal : (byte : ℕ) (w : World) (why : Code) → Holds (KeepsFile byte w) (refused w why)
+file_refusal byte w why = file_same byte w (answer.Error why)
+
+-- page i of the file
+file_page : (byte count i : ℕ) (x : Page) → numbered (file_pages filled byte count) i ≡ Some x → x ≡ filled ((byte + i) % 256)
+file_page byte zero i x e = cc
+file_page byte (suc count) zero x e =
+    let same : filled (byte % 256) ≡ x = cc in
+    sym same ∙ ap (λ (n : ℕ). filled (n % 256)) (let k : byte ≡ byte + 0 = omega arith in k)
+file_page byte (suc count) (suc i) x e =
+    file_page (byte + 1) count i x e ∙ ap (λ (n : ℕ). filled (n % 256)) (let k : byte + 1 + i ≡ byte + suc i = omega arith in k)
+
+by_file : (byte : ℕ) (w : World) (files : List FileOf) (block pages used : ℕ) (a : Answer) → Holds (KeepsFile byte w) (done a (record w { files = files; areas = w.areas ++ record { file_block = Some block; pages = file_pages filled byte pages } ∷ []; blocks_used = used }))
+by_file byte w files block pages used a = record { it = record { kept = by_key } }
+  where
+    area : AreaOf Page
+    area = record { file_block = Some block; pages = file_pages filled byte pages }
+
+    by_key : (k : Key) → Kept (file_bytes byte k) (content_of w k) (content_of (record w { files = files; areas = w.areas ++ area ∷ []; blocks_used = used }) k)
+    by_key (key.Private pid page) = kept_same (filled 0) (own_of (process_of w pid.0) page.0)
+    by_key (key.Shared at i) = shared_pushed (filled ((byte + i) % 256)) w.areas area at.0 i (file_page byte pages i)
+
+in_new_file : (w : World) (name : Text) (pages byte : ℕ) → Holds (KeepsFile byte w) (new_file filled w name pages byte)
+in_new_file w name pages byte = search (tables, file_refusal, file_same, by_file) depth 12
+
+pub new_file_across : (t : Tables) (c : Key → Page) → Spaces t → (name : Text) (pages byte : ℕ) → AcrossFile byte t c (new_file blank t name pages byte) (new_file filled (world_with t c) name pages byte)
+new_file_across t c fits name pages byte =
+    let w = world_with t c in
+    let q = new_file blank t name pages byte in
+    let o = new_file filled w name pages byte in
+    let natural : q ≡ tables_outcome o = ap (λ t. new_file blank t name pages byte) (sym (tables_back c t)) ∙ (sections.in_new_file no_bytes filled w name pages byte).same in
+    let kept = (in_new_file w name pages byte).it.kept in
+    record { across = λ new after. world_after t c fits q o natural new (λ k. after k ∙ bytes_after t c fits q o natural k (file_bytes byte k) _ refl (kept k)) (calls.in_new_file any_terms filled w name pages byte) }
+
+-- ---- a guard that is turned off changes no page, and so a probe keeps the pages too
+
+module _ {B : Type 0} where
+  -- a row with the same bytes in the place of one
+  row_same : (rows : List (RowOf B)) (k m : ℕ) (row new : RowOf B) → slice_get rows k ≡ Some row → new.own ≡ row.own → option_and_then (λ (row : RowOf B). row.own) (slice_get (set rows k new) m) ≡ option_and_then (λ (row : RowOf B). row.own) (slice_get rows m)
+  row_same [] k m row new there own = refl
+  row_same (r ∷ rows) zero zero row new there own = let same : r ≡ row = cc in own ∙ ap (λ (row : RowOf B). row.own) (sym same)
+  row_same (r ∷ rows) zero (suc m) row new there own = refl
+  row_same (r ∷ rows) (suc k) zero row new there own = refl
+  row_same (r ∷ rows) (suc k) (suc m) row new there own = row_same rows k m row new there own
+
+  pub guard_same : (w : WorldOf B) (pid : ℕ) (p : ProcessOf B) (c : Committed B) (page : ℕ) → Spaces w → process_of w pid ≡ Some p → committed_at w p.regions page ≡ Some c → (j at : ℕ) → own_of (process_of (guard_off w pid p c page) j) at ≡ own_of (process_of w j) at
+  guard_same w pid p c page spaces lives committed j at =
+      let h = committed_is w p.regions page c committed in
+      let r = c.region.thing in
+      let new : RegionOf B = record r { rows = set r.rows (page - r.base) (record c.row { guard = false }) } in
+      put_at (λ o n. own_of n at ≡ own_of o at) w.processes pid j p (Some (record p { regions = set p.regions c.region.place new })) lives
+      (λ same. set_keeps (λ (r : RegionOf B). own_in r at) (λ o n. n ≡ o) (λ o. refl) first_user_page c.region.place at p.regions r new (spaces pid p lives).laid_out (found_stands _ p.regions c.region h.region).there
+      (record { base = refl; rows = length-set r.rows (page - r.base) (record c.row { guard = false }) }) (row_same r.rows (page - r.base) (at - r.base) c.row (record c.row { guard = false }) h.row_there refl))
+      (λ other. refl)
+
+  by_guard : (fresh : B) (w : WorldOf B) (pid : ℕ) (p : ProcessOf B) (c : Committed B) (page : ℕ) (a : Answer) → process_of w pid ≡ Some p → committed_at w p.regions page ≡ Some c → Holds (KeepsPages fresh w) (done a (guard_off w pid p c page))
+  by_guard fresh w pid p c page a lives committed =
+      met (record {
+        kept = λ h.
+            record {
+              own = λ j at. subst (λ o. Kept fresh (own_of (process_of w j) at) o) (sym (guard_same w pid p c page h lives committed j at)) (kept_same fresh (own_of (process_of w j) at));
+              shared = λ area i. kept_same fresh (shared_page w area i);
+            };
+      })
+
+in_grown : (w : World) (tid : ℕ) (s : StackOf) (p : ProcessOf Page) (c : Committed Page) (page : ℕ) → process_of w s.pid ≡ Some p → committed_at w p.regions page ≡ Some c → Holds (KeepsPages (filled 0) w) (grown filled (guard_off w s.pid p c page) tid s)
+in_grown w tid s p c page lives committed =
+    let v = guard_off w s.pid p c page in
+    let h = kept.in_alloc filled v s.pid (address_of (s.guard_page - 1)) 1 commit_type 0x104 in
+    met (record {
+      kept = λ spaces.
+          let k = h.it.kept ((formed.by_guard w s.pid p c page answer.Ok lives committed).it.kept spaces) in
+          record {
+            own = λ j at. subst (λ o. Kept (filled 0) o (own_of (process_of (grown filled v tid s).world j) at)) (guard_same w s.pid p c page spaces lives committed j at) (k.own j at);
+            shared = k.shared;
+          };
+    })
+
+in_probe : (w : World) (tid addr : ℕ) → Holds (KeepsPages (filled 0) w) (probe filled w tid addr)
+in_probe w tid addr = at_probe filled w tid addr (by_same (filled 0) w _) (by_same (filled 0) w _) (λ s p c has lives committed. search (tables, by_same, by_guard, in_grown) depth 14)
+
+pub probe_across : (t : Tables) (c : Key → Page) → Spaces t → (tid addr : ℕ) → AcrossBytes t c (probe blank t tid addr) (probe filled (world_with t c) tid addr)
+probe_across t c fits tid addr =
+    across_by t c (λ t. probe blank t tid addr) _ fits (sections.in_probe no_bytes filled (world_with t c) tid addr)
+    (in_probe (world_with t c) tid addr) (lines.in_probe filled any_terms (λ a. refl) (λ a n m. tt) (world_with t c) tid addr)

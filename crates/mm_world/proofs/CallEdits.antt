@@ -1,7 +1,7 @@
 -- Each call is a list of edits.
 use Rattle.std.proofs.Common.{◌≡◌, ℕ, ◌+◌, ◌-◌, ◌/◌, ◌%◌, ◌≤◌, Bool, true, false, Option, Some, None, List, [], ◌∷◌, ◌++◌, inl, inr, refl, sym, ◌∙◌, ap, subst, arith, length, set, map, is_some, ◌&&◌, not, nat_le, nat_lt, unwrap_or, replicate, cond, option_map, ◌<◌}
 use Rattle.std.specs.Prelude.{remove, find, ◌==◌, option_and_then}
-use Rattle.std.proofs.lemmas.Bool.{leb-true}
+use Rattle.std.proofs.lemmas.Bool.{leb-true, not-true}
 use Rattle.std.proofs.lemmas.List.{length-replicate, length-append, length-map}
 use Rattle.std.proofs.lemmas.List.Quantifiers.{position-Some}
 use Rattle.mm_types.specs.{Answer, Code, Kind, View, ViewAccess, Range, page_of, address_of, pages_for, granule_range_of, lies_within}
@@ -21,11 +21,10 @@ use Rattle.mm_world.specs.{map_view, unmap, flush, view_region, view_at, new_pro
 use Rattle.mm_world.specs.{most_fails, most_slots, kept_of_others, with_slots, unwritten, watch, reset_watch, PagesOf, Leaves, is_success, is_alarm}
 use Rattle.mm_world.specs.{is_limit_code, is_limit_refusal, is_told, Each, RowFits, RowsFit, ViewFits, References}
 use Rattle.mm_world.specs.Alloc.{commit_pages}
-use Rattle.mm_world.proofs.Tables.{Holds, tables}
+use Rattle.mm_world.proofs.Tables.{Holds, met, tables}
 use Rattle.mm_world.proofs.Finding.{found_stands}
-use Rattle.mm_world.proofs.Each.{each-replicate}
-use Rattle.mm_world.proofs.LaidOut.{flags_stay, flags_changed, no_flags, less, IsPlaced, placed_is}
-use Rattle.mm_world.proofs.RowsFit.{new_view_fits, rows_protected, view_rows_protected, rows_committed, rows_cleared, length-change_range}
+use Rattle.mm_world.proofs.RowsFit.{each-replicate, new_view_fits, rows_protected, view_rows_protected, rows_committed, rows_cleared, length-change_range}
+use Rattle.mm_world.proofs.Regions.{flags_stay, flags_changed, no_flags, less, IsPlaced, placed_is}
 use Rattle.mm_world.proofs.FlagRanges.{same_page as equals}
 use Rattle.mm_world.proofs.Charges.{stays_charged, decommit_less, not_charged}
 use Rattle.mm_world.proofs.Spaces.{base_allowed, some_bytes, some_pages, private_is, begins_before, private_flags, new_row_fits, length-unwritten, wanted_granule, count_some}
@@ -87,10 +86,6 @@ succeeds : (a : Answer) → is_call_success a ≡ true → is_limit_refusal a �
 succeeds (answer.Error why) e = cc
 succeeds _ e = refl
 
-not-true : (b : Bool) → not b ≡ true → b ≡ false
-not-true true e = cc
-not-true false e = refl
-
 pub leaves_same : {B : Type 0} (w : WorldOf B) (a : Answer) → is_alarm a ≡ false → Leaves w (done a w)
 leaves_same w a quiet = record { alarm = λ e. (let bad : true ≡ false = sym e ∙ quiet in cc); same = λ e f. refl }
 
@@ -115,14 +110,12 @@ module _ {B : Type 0} (t : Answer → Terms) where
 
   pub success : (w v : WorldOf B) (a : Answer) → is_call_success a ≡ true → Edits (t a) w v → Holds (Edited t w) (done a v)
   success w v a ok es =
-      record {
-        it = record {
-          edits = es;
-          leaves = record { alarm = λ e. (let bad : true ≡ false = sym e ∙ calm a ok in cc); same = λ e f. (let bad : true ≡ false = sym (parts (is_success a) (not (is_told a)) ok).0 ∙ e in cc) };
-          granted = λ e. succeeds a ok;
-          untold = not-true (is_told a) (parts (is_success a) (not (is_told a)) ok).1;
-        };
-      }
+      met (record {
+        edits = es;
+        leaves = record { alarm = λ e. (let bad : true ≡ false = sym e ∙ calm a ok in cc); same = λ e f. (let bad : true ≡ false = sym (parts (is_success a) (not (is_told a)) ok).0 ∙ e in cc) };
+        granted = λ e. succeeds a ok;
+        untold = not-true (is_told a) (parts (is_success a) (not (is_told a)) ok).1;
+      })
 
   then_edit : (w v u : WorldOf B) (a : Answer) → is_call_success a ≡ true → Edit (t a) v u → Holds (Edited t w) (done a v) → Holds (Edited t w) (done a u)
   then_edit w v u a ok e h = success w u a ok (Then v u h.it.edits e)

@@ -5,15 +5,17 @@ use Rattle.std.specs.List.{list_any}
 use Rattle.std.proofs.lemmas.List.{take-append-drop}
 use Rattle.std.proofs.lemmas.List.Sums.{sum_by-set, sum_by-cons, sum_by-append, sum_by-remove, sum_by_push}
 use Rattle.std.proofs.lemmas.Option.{get_or_from_slice_get, slice_get_within}
-use Rattle.mm_types.specs.{Code, Answer, Kind, Range, Text}
-use Rattle.mm_types.specs.declared.views.Kind.TheVariants as kind
+use Rattle.std.proofs.lemmas.Bool.{and_right}
+use Rattle.mm_types.specs.{Code, Answer, Kind, Range, Text, View}
 use Rattle.mm_world.specs.{WorldOf, ProcessOf, RegionOf, RowOf, AreaOf, SectionOf, Numbered, add_region, set_area, Found, change_range, process_of}
 use Rattle.mm_world.specs.{set_process, set_regions, set_region, no_area, charge, limit, is_charged, region_charge, process_charge, area_charge}
 use Rattle.mm_world.specs.{OutcomeOf, done, refused, reserved_row, change_rows, alloc, commit_in, protect, create, handle_or, with_handle, settle}
-use Rattle.mm_world.specs.{settled_area, settled_areas, settled_sections, uses, map_view, no_regions, KeepsLimit}
+use Rattle.mm_world.specs.{settled_area, settled_areas, settled_sections, uses, map_view, no_regions, KeepsLimit, Committed, committed_at, set_row}
+use Rattle.mm_world.specs.{guard_off}
 use Rattle.mm_world.proofs.Tables.{Holds, tables}
 use Rattle.mm_world.proofs.Edits.{Moves, Rises, Falls, Stays, Charged, Terms, RegionEdit, RegionComes, RegionGoes, RegionChanges, Edit, Rest, Regions, HandleComes, HandleGoes, SectionComes, AreaComes, AreaChanges, FileComes, Settles, ProcessComes, ProcessGoes, Edits, Nothing, Then}
-use Rattle.mm_world.proofs.Finding.{numbered_inside}
+use Rattle.mm_world.proofs.Finding.{numbered_inside, found_stands, IsCommitted, committed_is}
+use Rattle.mm_types.specs.declared.views.Kind.TheVariants as kind
 
 -- ---- sums
 
@@ -27,8 +29,7 @@ counted test x = one_if (test x)
 pub sum_by-put : {A : Type 0} (f : A → ℕ) (xs : List A) (i : ℕ) (x y : A) → slice_get xs i ≡ Some x → sum_by f (set xs i y) + f x ≡ sum_by f xs + f y
 sum_by-put f xs i x y here =
     let inside : i < length xs = slice_get_within xs i x here in
-    let old = ap f (get_or_from_slice_get xs i x x here) in
-    omega (arith, sum_by-set f xs i y x inside, old)
+    omega (arith, sum_by-set f xs i y x inside, ap f (get_or_from_slice_get xs i x x here))
 
 pub sum_by-split : {A : Type 0} (f : A → ℕ) (xs : List A) (n : ℕ) → sum_by f xs ≡ sum_by f (take n xs) + sum_by f (drop n xs)
 sum_by-split f xs n = ap (sum_by f) (sym (take-append-drop n xs)) ∙ sum_by-append f (take n xs) (drop n xs)
@@ -40,8 +41,7 @@ count_by-none test change (x ∷ xs) none =
 
 pub count_by-never : {A : Type 0} (test : A → Bool) (xs : List A) → ((x : A) → test x ≡ false) → count_by test xs ≡ 0
 count_by-never test [] never = refl
-count_by-never test (x ∷ xs) never =
-    omega (arith, sum_by-cons (counted test) x xs, ap one_if (never x), count_by-never test xs never)
+count_by-never test (x ∷ xs) never = omega (arith, sum_by-cons (counted test) x xs, ap one_if (never x), count_by-never test xs never)
 
 -- a change of the elements of a range after which none passes the test
 pub count_by-change_range : {A : Type 0} (test : A → Bool) (change : A → A) (first count : ℕ) (xs : List A) → ((x : A) → test (change x) ≡ false) → count_by test (change_range change first count xs) ≤ count_by test xs
@@ -49,12 +49,10 @@ count_by-change_range test change first count xs none =
     let f = counted test in
     let later = drop first xs in
     let middle = map change (take count later) in
-    let front : count_by test (take first xs ++ middle) ≡ count_by test (take first xs) + count_by test middle = sum_by-append f (take first xs) middle in
     let whole : count_by test (change_range change first count xs) ≡ count_by test (take first xs ++ middle) + count_by test (drop count later) =
     sum_by-append f (take first xs ++ middle) (drop count later) in
-    let before : count_by test xs ≡ count_by test (take first xs) + count_by test later = sum_by-split f xs first in
     let rest : count_by test later ≡ count_by test (take count later) + count_by test (drop count later) = sum_by-split f later count in
-    omega (arith, whole, front, count_by-none test change (take count later) none, before, rest)
+    omega (arith, whole, sum_by-append f (take first xs) middle, count_by-none test change (take count later) none, sum_by-split f xs first, rest)
 
 -- ---- what edits may do
 
@@ -80,9 +78,7 @@ module _ {B : Type 0} where
   pub charge-set_process : (w : WorldOf B) (pid : ℕ) (p : ProcessOf B) (q : Option (ProcessOf B)) → process_of w pid ≡ Some p → charge (set_process w pid q) + process_charge (Some p) ≡ charge w + process_charge q
   charge-set_process w pid p q lives =
       let inside : pid < length w.processes = numbered_inside w.processes pid p lives in
-      let e = sum_by-set process_charge w.processes pid q None inside in
-      let old = ap process_charge lives in
-      omega (arith, e, old)
+      omega (arith, sum_by-set process_charge w.processes pid q None inside, ap process_charge lives)
 
   pub charge-set_regions : (w : WorldOf B) (pid : ℕ) (p : ProcessOf B) (rs : List (RegionOf B)) → process_of w pid ≡ Some p → charge (set_regions w pid p rs) + sum_by region_charge p.regions ≡ charge w + sum_by region_charge rs
   charge-set_regions w pid p rs lives = charge-set_process w pid p (Some (record p { regions = rs })) lives
@@ -109,10 +105,7 @@ module _ {B : Type 0} where
 
   settled_less : (sections : Numbered SectionOf) (n : ℕ) (a : AreaOf B) → area_charge (settled_area sections n a) ≤ area_charge a
   settled_less sections n a =
-      elim (is_some a.file_block || list_any (uses n) sections) as (λ b. area_charge (cond b a no_area) ≤ area_charge a) [
-        | true ↦ omega arith
-        | false ↦ omega arith
-      ]
+      elim (is_some a.file_block || list_any (uses n) sections) as (λ b. area_charge (cond b a no_area) ≤ area_charge a) [ true ↦ omega arith | false ↦ omega arith ]
 
   settled_sum : (sections : Numbered SectionOf) (n : ℕ) (areas : List (AreaOf B)) → sum_by area_charge (settled_areas sections n areas) ≤ sum_by area_charge areas
   settled_sum sections n [] = omega arith
@@ -142,11 +135,7 @@ module _ {B : Type 0} where
 
   pub not_charged : (a : AreaOf B) (block : ℕ) → a.file_block ≡ Some block → area_charge a ≡ 0
   not_charged a block is_file =
-      count_by-never (λ page. is_some page && is_none a.file_block) a.pages (λ page. and_false (is_some page) (is_none a.file_block) (ap is_none is_file))
-    where
-      and_false : (b c : Bool) → c ≡ false → (b && c) ≡ false
-      and_false true c e = e
-      and_false false c e = refl
+      count_by-never (λ page. is_some page && is_none a.file_block) a.pages (λ page. and_right (is_some page) (is_none a.file_block) (ap is_none is_file))
 
   set_area_charge : (areas : List (AreaOf B)) (at : ℕ) (a : AreaOf B) (c : Moves) → Charged c (area_charge (unwrap_or (slice_get areas at) no_area)) (area_charge a) → Charged c (sum_by area_charge areas) (sum_by area_charge (set areas at a))
   set_area_charge areas at a c h = by_place (slice_get areas at) refl h
@@ -245,3 +234,42 @@ pub by_edits : {B : Type 0} (t : Answer → Terms) (w : WorldOf B) (o : OutcomeO
 by_edits t w o falls es =
     let less : charge o.world ≤ charge w = subst (λ (c : Moves). Charged c (charge w) (charge o.world)) falls (charge_goes (t o.answer) w o.world es) in
     record { it = record { kept = λ within. omega (arith, within, less, limit_stays (t o.answer) w o.world es) } }
+
+-- ---- an access leaves the charge exactly as it is
+
+module _ {B : Type 0} where
+  abbrev counts_one : Kind → RowOf B → ℕ
+  counts_one k row = one_if (is_charged k row)
+
+  -- a row that is charged as the one before
+  pub row_charge : (r : RegionOf B) (i : ℕ) (row new : RowOf B) → slice_get r.rows i ≡ Some row → is_charged r.kind new ≡ is_charged r.kind row → count_by (is_charged r.kind) (set r.rows i new) ≡ region_charge r
+  row_charge r i row new there e = omega (arith, sum_by-put (counts_one r.kind) r.rows i row new there, ap one_if e)
+
+  pub charge-set_row : (w : WorldOf B) (pid : ℕ) (p : ProcessOf B) (c : Committed B) (page : ℕ) (new : RowOf B) → process_of w pid ≡ Some p → IsCommitted w p.regions page c → is_charged c.region.thing.kind new ≡ is_charged c.region.thing.kind c.row → charge (set_row w pid p c.region page new) ≡ charge w
+  charge-set_row w pid p c page new lives h e =
+      let r = c.region.thing in
+      let changed : RegionOf B = record r { rows = set r.rows (page - r.base) new } in
+      let same : region_charge changed ≡ region_charge r = row_charge r (page - r.base) c.row new h.row_there e in
+      omega (arith, same, charge-set_region w pid p c.region.place r changed lives (found_stands _ p.regions c.region h.region).there)
+
+  pub own_charged : (k : Kind) (row new : RowOf B) (bytes : B) → row.own ≡ Some bytes → is_some new.own ≡ true → new.marked ≡ row.marked → is_charged k new ≡ is_charged k row
+  own_charged kind.Private row new bytes own there marked = there ∙ sym (ap is_some own)
+  own_charged (kind.View v) row new bytes own there marked = marked
+
+  pub guard_charged : (k : Kind) (row : RowOf B) → is_charged k (record row { guard = false }) ≡ is_charged k row
+  guard_charged kind.Private row = refl
+  guard_charged (kind.View v) row = refl
+
+  pub charge-guard_off : (w : WorldOf B) (pid : ℕ) (p : ProcessOf B) (c : Committed B) (page : ℕ) → process_of w pid ≡ Some p → committed_at w p.regions page ≡ Some c → charge (guard_off w pid p c page) ≡ charge w
+  charge-guard_off w pid p c page lives committed =
+      charge-set_row w pid p c page (record c.row { guard = false }) lives (committed_is w p.regions page c committed) (guard_charged c.region.thing.kind c.row)
+
+  pub view_charged : (k : Kind) (v : View) (row new : RowOf B) → k ≡ kind.View v → new.marked ≡ row.marked → is_charged k new ≡ is_charged k row
+  view_charged k v row new is marked = subst (λ k. is_charged k new ≡ is_charged k row) (sym is) marked
+
+  -- a page of a section with other bytes
+  pub page_charge : (a : AreaOf B) (i : ℕ) (page new : B) → slice_get a.pages i ≡ Some (Some page) → area_charge (record a { pages = set a.pages i (Some new) }) ≡ area_charge a
+  page_charge a i page new there =
+      let pages : area_charge (record a { pages = set a.pages i (Some new) }) + one_if (is_some (Some page) && is_none a.file_block) ≡ area_charge a + one_if (is_some (Some new) && is_none a.file_block) =
+      sum_by-put (λ o. one_if (is_some o && is_none a.file_block)) a.pages i (Some page) (Some new) there in
+      omega (arith, pages)

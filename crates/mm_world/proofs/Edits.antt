@@ -6,7 +6,7 @@ use Rattle.mm_world.specs.{WorldOf, ProcessOf, RegionOf, AreaOf, SectionOf, File
 use Rattle.mm_world.specs.{section_of, add_region, ranges_of, is_private, OutcomeOf, limit, region_charge, process_charge, area_charge, with_handle}
 use Rattle.mm_world.specs.{settle, no_regions, most_processes, most_fails, most_slots, PagesOf, Leaves, is_success, is_limit_refusal, is_told}
 use Rattle.mm_world.specs.{FlagsFit, RowsFit, RegionRefers, References}
-use Rattle.mm_world.proofs.LaidOut.{IsPlaced}
+use Rattle.mm_world.proofs.Regions.{IsPlaced}
 
 -- what edits may do to the charge
 pub data Moves : Type 0 where

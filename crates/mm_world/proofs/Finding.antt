@@ -1,11 +1,12 @@
 -- What searches find.
 use Rattle.std.proofs.Common.{◌≡◌, ◌≢◌, ℕ, zero, suc, ◌+◌, ◌-◌, ◌<◌, Bool, true, false, Option, Some, None, List, [], ◌∷◌, ◌++◌, refl, sym, ◌∙◌, ap, subst, cond, length, set, get_or, arith, option_map, slice_get, is_some}
 use Rattle.std.specs.Prelude.{option_and_then}
-use Rattle.mm_types.specs.{Kind, View}
-use Rattle.mm_types.specs.declared.views.Kind.TheVariants as kind
+use Rattle.mm_types.specs.{Kind, View, Key}
 use Rattle.mm_world.specs.{WorldOf, RegionOf, ProcessOf, RowOf, Found, first_where, one_later, region_with, process_of, shared_page, Home, Own}
 use Rattle.mm_world.specs.{InSection, Committed, committed_at, committed_in, home_in, key_of, content_of, private_key, own_page, row_at}
-use Rattle.mm_world.specs.{HasCommittedRow}
+use Rattle.mm_world.specs.{HasCommittedRow, same_key, is_private}
+use Rattle.mm_types.specs.declared.views.Kind.TheVariants as kind
+use Rattle.mm_types.specs.declared.numbers.Key.TheVariants as key
 
 -- ---- lists
 
@@ -161,3 +162,13 @@ module _ {B : Type 0} where
 
   pub private_key_has_row : (w : WorldOf B) (pid page : ℕ) (bytes : B) → content_of w (private_key pid page) ≡ Some bytes → HasCommittedRow w pid page bytes
   private_key_has_row w pid page bytes e = in_lives w pid page (process_of w pid) bytes refl e
+
+-- ---- kinds of regions and keys of pages, by their tests
+
+pub private_kind : (k : Kind) → is_private k ≡ true → k ≡ kind.Private
+private_kind kind.Private e = refl
+private_kind (kind.View v) e = cc
+
+pub same_again : (k : Key) → same_key k k ≡ true
+same_again (key.Private p v) = grind arith
+same_again (key.Shared a i) = grind arith

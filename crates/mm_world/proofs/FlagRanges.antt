@@ -5,7 +5,7 @@ use Rattle.std.specs.List.{list_any}
 use Rattle.std.specs.Cmp.{unsigned_Decides}
 use Rattle.mm_types.specs.{address_of, page_of}
 use Rattle.mm_world.specs.{change_range, unwritten, Each}
-use Rattle.mm_world.proofs.LaidOut.{less, not_less}
+use Rattle.mm_world.proofs.Regions.{less, not_less}
 
 module _ {A : Type 0} (change : A → A) where
   of_none : (first count i : ℕ) → slice_get (change_range change first count []) i ≡ None
@@ -78,8 +78,7 @@ one_cleared base page q ws false e low from =
     by_side : (t : Bool) → nat_lt (page - base) (q - base) ≡ t → q ≢ page → slice_get (change_range (λ was. false) (q - base) 1 ws) (page - base) ≡ slice_get ws (page - base)
     by_side true t other = got_before (λ was. false) (q - base) 1 ws (page - base) (less (page - base) (q - base) t)
     by_side false t other =
-        let h = not_less (page - base) (q - base) t in
-        got_behind (λ was. false) (q - base) 1 ws (page - base) (omega (arith, h, other, low, from))
+        got_behind (λ was. false) (q - base) 1 ws (page - base) (omega (arith, not_less (page - base) (q - base) t, other, low, from))
 
 pub got_unwritten : (base page : ℕ) (pages : List ℕ) (ws : List Bool) → base ≤ page → Each (λ q. base ≤ q) pages → slice_get (unwritten base pages ws) (page - base) ≡ cleared (list_any (λ q. q == page) pages) (slice_get ws (page - base))
 got_unwritten base page [] ws low from = not_cleared (slice_get ws (page - base))

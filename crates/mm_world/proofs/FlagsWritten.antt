@@ -11,16 +11,15 @@ use Rattle.mm_world.specs.{ProcessOf, RegionOf, RowOf, Page, pages_of, shared_pa
 use Rattle.mm_world.specs.{Committed, committed_at, with_row, guard_off, OutcomeOf, done, refused, one_page, mark_written, Attempt, ReadOf, WriteOf}
 use Rattle.mm_world.specs.{Execute, access, access_at, perform, write_to, written, is_ok, flag_in, flag_at, flag_of, FlagsFit, Spaces}
 use Rattle.mm_world.specs.World.{World}
-use Rattle.mm_world.proofs.Tables.{Holds, tables}
+use Rattle.mm_world.proofs.Tables.{Holds, met, tables}
 use Rattle.mm_world.proofs.Finding.{Stands, found_stands, IsCommitted, committed_is, HomeCases, IsOwn, IsShared, home_cases}
 use Rattle.mm_world.proofs.Ranges.{within}
-use Rattle.mm_world.proofs.LaidOut.{laid_at, less, not_less}
+use Rattle.mm_world.proofs.Regions.{laid_at, less, not_less}
 use Rattle.mm_world.proofs.FlagRanges.{got_before, got_within, got_behind, same_page, equal}
 use Rattle.mm_world.proofs.FlagsKept as calls
-use Rattle.mm_world.proofs.FlagsKept.{KeepsFlags, plain_terms, by_edits}
+use Rattle.mm_world.proofs.FlagsKept.{KeepsFlags, plain_terms, by_edits, FlagChanged, InRegion, Elsewhere, flag_changed}
 use Rattle.mm_world.proofs.LineEdits as edits
 use Rattle.mm_world.proofs.LineEdits.{is_write}
-use Rattle.mm_world.proofs.FlagsChanged.{FlagChanged, InRegion, Elsewhere, flag_changed}
 
 -- the flag of a page, where one page was written if this holds
 pub record AsWritten (w : World) (pid page : ℕ) (wrote : Bool) (j q : ℕ) (b : Bool) : Type 0 where
@@ -33,15 +32,13 @@ pub record WritesFlags (w : World) (pid page : ℕ) (what : Attempt) (o : Outcom
 
 module _ (w : World) (pid page : ℕ) (what : Attempt) where
   unwritten_by : (v : World) (a : Answer) → (is_ok a && is_write what) ≡ false → Holds (KeepsFlags w) (done a v) → Holds (WritesFlags w pid page what) (done a v)
-  unwritten_by v a none h = record {
-    it = record {
-      told = λ spaces j q b e. record {
-        was = b;
-        before = h.it.kept spaces j q b e;
-        now = sym (ap (λ (t : Bool). cond (t && ((pid == j) && (page == q))) true b) none);
-      };
+  unwritten_by v a none h = met (record {
+    told = λ spaces j q b e. record {
+      was = b;
+      before = h.it.kept spaces j q b e;
+      now = sym (ap (λ (t : Bool). cond (t && ((pid == j) && (page == q))) true b) none);
     };
-  }
+  })
 
   pub by_same : (a : Answer) → (is_ok a && is_write what) ≡ false → Holds (WritesFlags w pid page what) (done a w)
   by_same a none = unwritten_by w a none (calls.by_same w a)
@@ -91,8 +88,7 @@ module _ (w : World) (pid page : ℕ) (j q : ℕ) (b : Bool) where
       by_side : (t : Bool) → nat_lt (q - base) (page - base) ≡ t → marked_flag base fs ≡ slice_get fs (q - base)
       by_side true t = got_before (λ was. true) (page - base) 1 fs (q - base) (less (q - base) (page - base) t)
       by_side false t =
-          let h = not_less (q - base) (page - base) t in
-          got_behind (λ was. true) (page - base) 1 fs (q - base) (omega (arith, h, differ, low, from))
+          got_behind (λ was. true) (page - base) 1 fs (q - base) (omega (arith, not_less (q - base) (page - base) t, differ, low, from))
 
       by_pid : (t : Bool) → b ≡ cond (t && (page == q)) true b
       by_pid true = sym (ap (λ (t : Bool). cond t true b) other)
@@ -110,11 +106,9 @@ module _ (w : World) (pid page : ℕ) (j q : ℕ) (b : Bool) where
   in_region base (Some fs) process from low before now = in_flags base fs (page == q) refl process from low before now
 
 by_mark : (w : World) (pid : ℕ) (p : ProcessOf Page) (c : Committed Page) (page : ℕ) (row : RowOf Page) (bytes : List ℕ) → process_of w pid ≡ Some p → IsCommitted w p.regions page c → Holds (WritesFlags w pid page (WriteOf bytes)) (done answer.Ok (set_region w pid p c.region.place (mark_written true (one_page page) (with_row page row c.region.thing))))
-by_mark w pid p c page row bytes lives h = record {
-  it = record {
-    told = λ spaces j q b e. by_change j q b (flag_changed w after pid p c.region.place r new lives stands.there (record { base = refl; rows = length-set r.rows (page - r.base) row }) refl spaces j q b e);
-  };
-}
+by_mark w pid p c page row bytes lives h = met (record {
+  told = λ spaces j q b e. by_change j q b (flag_changed w after pid p c.region.place r new lives stands.there (record { base = refl; rows = length-set r.rows (page - r.base) row }) refl spaces j q b e);
+})
   where
     r : RegionOf Page
     r = c.region.thing
@@ -152,13 +146,11 @@ view_unflagged w pid p c page v spaces lives h is =
     ∙ ap (λ o. option_and_then (λ fs. slice_get fs (page - r.base)) o) (none_of_view r v is fits.flags)
 
 by_view : (w v : World) (pid : ℕ) (p : ProcessOf Page) (c : Committed Page) (page : ℕ) (of : View) (bytes : List ℕ) → process_of w pid ≡ Some p → IsCommitted w p.regions page c → c.region.thing.kind ≡ kind.View of → Holds (KeepsFlags w) (done answer.Ok v) → Holds (WritesFlags w pid page (WriteOf bytes)) (done answer.Ok v)
-by_view w v pid p c page of bytes lives h is keeps = record {
-  it = record {
-    told = λ spaces j q b e.
-        let before = keeps.it.kept spaces j q b e in
-        record { was = b; before = before; now = by_test j q b (view_unflagged w pid p c page of spaces lives h is) before ((pid == j) && (page == q)) refl };
-  };
-}
+by_view w v pid p c page of bytes lives h is keeps = met (record {
+  told = λ spaces j q b e.
+      let before = keeps.it.kept spaces j q b e in
+      record { was = b; before = before; now = by_test j q b (view_unflagged w pid p c page of spaces lives h is) before ((pid == j) && (page == q)) refl };
+})
   where
     by_test : (j q : ℕ) (b : Bool) → flag_of w pid page ≡ None → flag_of w j q ≡ Some b → (t : Bool) → ((pid == j) && (page == q)) ≡ t → b ≡ cond t true b
     by_test j q b none before true e =

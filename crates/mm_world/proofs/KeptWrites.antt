@@ -13,7 +13,7 @@ use Rattle.mm_world.specs.{begin, resume, kept_by, page_written, write_of, write
 use Rattle.mm_world.specs.World.{World}
 use Rattle.mm_world.specs.Report.{Report}
 use Rattle.mm_world.proofs.Determined.{may_tell, decided}
-use Rattle.mm_world.proofs.Tables.{Holds, tables}
+use Rattle.mm_world.proofs.Tables.{Holds, met, tables}
 use Rattle.mm_world.proofs.Edits.{Rises, Terms, Edit, Rest, Edits, fold}
 use Rattle.mm_world.proofs.LineEdits as edits
 use Rattle.mm_world.proofs.LineEdits.{keeps_accesses, keeps_stacks}
@@ -110,21 +110,14 @@ in_free w pid addr size type = search (tables, free_refused, free_released, free
     free_refused : (why : Code) → Holds (TellsThreads w (line.Free pid addr size type)) (refused w why)
     free_refused why = record { it = record { tells = refl; stacks = λ other. refl } }
 
+    free_done : (v : World) (b : Bool) → (type == release_type) ≡ b → v.kept ≡ w.kept → v.stacks ≡ cond b (map (unless (is_stack_at pid.0 addr)) w.stacks) w.stacks → Holds (TellsThreads w (line.Free pid addr size type)) (done answer.Ok v)
+    free_done v b is kept stacks = met (record { tells = ap (map write_of) kept; stacks = λ other. stacks ∙ sym (ap (λ b. cond b (map (unless (is_stack_at pid.0 addr)) w.stacks) w.stacks) is) })
+
     free_released : (v : World) → (type == release_type) ≡ true → v.kept ≡ w.kept → v.stacks ≡ map (unless (is_stack_at pid.0 addr)) w.stacks → Holds (TellsThreads w (line.Free pid addr size type)) (done answer.Ok v)
-    free_released v is kept stacks = record {
-      it = record {
-        tells = ap (map write_of) kept;
-        stacks = λ other. stacks ∙ sym (ap (λ b. cond b (map (unless (is_stack_at pid.0 addr)) w.stacks) w.stacks) is);
-      };
-    }
+    free_released v is kept stacks = free_done v true is kept stacks
 
     free_kept : (v : World) → (type == release_type) ≡ false → v.kept ≡ w.kept → v.stacks ≡ w.stacks → Holds (TellsThreads w (line.Free pid addr size type)) (done answer.Ok v)
-    free_kept v is kept stacks = record {
-      it = record {
-        tells = ap (map write_of) kept;
-        stacks = λ other. stacks ∙ sym (ap (λ b. cond b (map (unless (is_stack_at pid.0 addr)) w.stacks) w.stacks) is);
-      };
-    }
+    free_kept v is kept stacks = free_done v false is kept stacks
 
 -- ---- accesses of threads
 

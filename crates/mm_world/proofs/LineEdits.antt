@@ -3,9 +3,6 @@ use Rattle.std.proofs.Common.{count_by, ◌≡◌, ℕ, ◌+◌, ◌-◌, ◌≤
 use Rattle.std.proofs.lemmas.Bool.{leb-true}
 use Rattle.std.proofs.lemmas.List.{length-set, length-append, length-replicate}
 use Rattle.mm_types.specs.{Answer, AccessSpec, Event, Kind, View, Range, address_of, lowest_gap, commit_type, release_type, Tid}
-use Rattle.mm_types.specs.declared.answers.Answer.TheVariants as answer
-use Rattle.mm_types.specs.declared.events.Event.TheVariants as line
-use Rattle.mm_types.specs.declared.views.Kind.TheVariants as kind
 use Rattle.mm_types.proofs.{all_three}
 use Rattle.mm_world.specs.{StackOf, WorldOf, ProcessOf, RegionOf, RowOf, KeptOf, Page, filled, change_range, set_region, set_stack, process_of}
 use Rattle.mm_world.specs.{set_regions, add_region, ranges_of, area_at, shared_page, with_row, Home, InSection, Committed, committed_at, set_row}
@@ -17,17 +14,18 @@ use Rattle.mm_world.specs.{Leaves, LineLeaves, is_alarm, is_limit_refusal, is_th
 use Rattle.mm_world.specs.World.{World}
 use Rattle.mm_world.specs.Report.{Report}
 use Rattle.mm_world.proofs.Determined.{decided}
-use Rattle.mm_types.specs.declared.codes.Raise.TheVariants as raise
-use Rattle.mm_world.proofs.Tables.{Holds, tables, at_probe}
+use Rattle.mm_world.proofs.Tables.{Holds, met, tables, at_probe}
 use Rattle.mm_world.proofs.Finding.{numbered_there, found_stands, committed_is, HomeCases, IsOwn, IsShared, home_cases}
-use Rattle.mm_world.proofs.Each.{each-set, each-at, each-append, each-replicate}
-use Rattle.mm_world.proofs.LaidOut.{flags_stay, flags_changed, no_flags, IsPlaced, placed_is}
-use Rattle.mm_world.proofs.RowsFit.{length-change_range, reserved_fits, commit_fits}
+use Rattle.mm_world.proofs.RowsFit.{each-set, each-at, each-append, each-replicate, length-change_range, reserved_fits, commit_fits}
+use Rattle.mm_world.proofs.Regions.{flags_stay, flags_changed, no_flags, IsPlaced, placed_is}
 use Rattle.mm_world.proofs.FlagRanges.{equal}
 use Rattle.mm_world.proofs.Edits.{Terms, Edit, Edits, Regions, Nothing, Then, Moves, Rises, Falls, Charged, RegionComes, RegionChanges, Rest, AreaChanges, Edited, joined, is_call_success}
-use Rattle.mm_world.proofs.Charges.{stays_charged}
-use Rattle.mm_world.proofs.AccessCharge.{row_charge, page_charge, own_charged, view_charged, guard_charged}
+use Rattle.mm_world.proofs.Charges.{stays_charged, row_charge, page_charge, own_charged, view_charged, guard_charged}
 use Rattle.mm_world.proofs.CallEdits.{leaves_same, success, by_limit, still_watched, by_same, by_refusal, by_region, then_stacks, in_alloc, in_free, in_watch, in_reset_watch, in_protect, in_query, in_flush, in_create, in_create_file, in_open, in_close, in_map, in_unmap, in_exit, in_new_process, in_new_file, in_take_fail, in_grow}
+use Rattle.mm_types.specs.declared.answers.Answer.TheVariants as answer
+use Rattle.mm_types.specs.declared.events.Event.TheVariants as line
+use Rattle.mm_types.specs.declared.views.Kind.TheVariants as kind
+use Rattle.mm_types.specs.declared.codes.Raise.TheVariants as raise
 
 alarmed : (a : Answer) → is_alarm a ≡ true → (is_limit_refusal a ≡ false) × (is_told a ≡ false)
 alarmed (answer.Raised raise.GuardPage) e = (refl, refl)
@@ -119,17 +117,15 @@ module _ {B : Type 0} where
 
   by_guard : (t : Answer → Terms) (w : WorldOf B) (pid : ℕ) (p : ProcessOf B) (c : Committed B) (page : ℕ) (a : Answer) → process_of w pid ≡ Some p → committed_at w p.regions page ≡ Some c → c.row.guard ≡ true → is_alarm a ≡ true → Holds (Edited t w) (done a (guard_off w pid p c page))
   by_guard t w pid p c page a lives committed on alarm =
-      record {
-        it = record {
-          edits = guard_edits (t a) w pid p c page lives committed;
-          leaves = record {
-            alarm = λ e. record { pid = pid; page = page; process = p; row = c; lives = lives; committed = committed; was_on = on; now_off = refl };
-            same = λ e f. (let bad : true ≡ false = sym alarm ∙ f in cc);
-          };
-          granted = λ e. (alarmed a alarm).0;
-          untold = (alarmed a alarm).1;
+      met (record {
+        edits = guard_edits (t a) w pid p c page lives committed;
+        leaves = record {
+          alarm = λ e. record { pid = pid; page = page; process = p; row = c; lives = lives; committed = committed; was_on = on; now_off = refl };
+          same = λ e f. (let bad : true ≡ false = sym alarm ∙ f in cc);
         };
-      }
+        granted = λ e. (alarmed a alarm).0;
+        untold = (alarmed a alarm).1;
+      })
 
 -- ---- accesses
 
@@ -361,3 +357,8 @@ in_told w e a quiet granted = by_leaves w e (done a w) Nothing (leaves_same w a 
 
 pub in_step : (w : World) (e : Event) (before after : Report) → LineEdited e w (step w e before after)
 in_step w e before after = decided (λ e. LineEdited e w) w e before after (in_unpaged w e).edited (λ a h. in_told w e a h.calm h.granted)
+
+-- ---- but for an alarm's guard and for what a thread keeps, an answer other than `ok` changes nothing
+
+pub step_leaves : (w : World) (e : Event) (before after : Report) → LineLeaves w e (step w e before after)
+step_leaves w e before after = (in_step w e before after).leaves

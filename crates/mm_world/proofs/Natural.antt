@@ -1,9 +1,12 @@
 -- Calls do not look at what a page holds: to change what each page holds by a function and then to call is to call and then to change.
-use Rattle.std.proofs.Common.{◌≡◌, ℕ, zero, suc, ◌+◌, ◌-◌, Bool, true, false, Option, Some, None, List, [], ◌∷◌, ◌++◌, refl, sym, ◌∙◌, ap, cond, is_some, is_none, sum_by, count_by, replicate, set, get_or, map, take, drop, leb, nat_lt, ◌&&◌, option_map, unwrap_or, slice_get}
+use Rattle.std.proofs.Common.{◌≡◌, ℕ, zero, suc, ◌+◌, ◌-◌, Bool, true, false, Option, Some, None, List, [], ◌∷◌, refl, sym, ◌∙◌, ap, cond, is_some, is_none, sum_by, count_by, replicate, set, get_or, map, leb, nat_lt, ◌&&◌, option_map, unwrap_or, slice_get}
 use Rattle.std.specs.Prelude.{insert, remove, ◌==◌}
 use Rattle.std.proofs.Math.Path.{fun_ext}
 use Rattle.std.proofs.Math.ListN.{get_or-map}
-use Rattle.std.proofs.lemmas.List.{map-set, length-map}
+use Rattle.std.proofs.lemmas.List.{map-set, length-map, map-append, take-map, drop-map}
+use Rattle.std.proofs.lemmas.Option.{slice_get-map}
+use Rattle.std.proofs.lemmas.Iterator.Adapters.{option_map_id}
+use Rattle.mm_types.proofs.{some_map}
 use Rattle.std.proofs.lemmas.List.Sums.{sum_by-cons}
 use Rattle.mm_types.specs.{Code, Answer, Prot, Kind, Range, lies_within, address_of, base_of, reserve_type}
 use Rattle.mm_types.specs.declared.codes.Code.TheVariants as code
@@ -41,61 +44,34 @@ first-map {X} {Y} test g (x ∷ xs) = by_test (test (g x)) (first-map test g xs)
     by_test true ih = refl
     by_test false ih = ap (option_map one_later) ih ∙ later (first_where (λ x. test (g x)) xs)
 
-pub map-append : {X Y : Type 0} (g : X → Y) (xs ys : List X) → map g (xs ++ ys) ≡ map g xs ++ map g ys
-map-append g [] ys = refl
-map-append g (x ∷ xs) ys = ap (λ zs. g x ∷ zs) (map-append g xs ys)
-
-map-take : {X Y : Type 0} (g : X → Y) (n : ℕ) (xs : List X) → map g (take n xs) ≡ take n (map g xs)
-map-take g zero xs = refl
-map-take g (suc n) [] = refl
-map-take g (suc n) (x ∷ xs) = ap (λ zs. g x ∷ zs) (map-take g n xs)
-
-map-drop : {X Y : Type 0} (g : X → Y) (n : ℕ) (xs : List X) → map g (drop n xs) ≡ drop n (map g xs)
-map-drop g zero xs = refl
-map-drop g (suc n) [] = refl
-map-drop g (suc n) (x ∷ xs) = map-drop g n xs
-
 pub map-insert : {X Y : Type 0} (g : X → Y) (xs : List X) (i : ℕ) (x : X) → map g (insert xs i x) ≡ insert (map g xs) i (g x)
-map-insert g xs i x =
-    map-append g (take i xs) (x ∷ drop i xs)
-    ∙ ap (λ zs. zs ++ g x ∷ map g (drop i xs)) (map-take g i xs)
-    ∙ ap (λ zs. take i (map g xs) ++ g x ∷ zs) (map-drop g i xs)
+map-insert g xs i x = simp (map-append, take-map, drop-map)
 
 pub map-remove : {X Y : Type 0} (g : X → Y) (xs : List X) (i : ℕ) → map g (remove xs i) ≡ remove (map g xs) i
-map-remove g xs i =
-    map-append g (take i xs) (drop (suc i) xs)
-    ∙ ap (λ zs. zs ++ map g (drop (suc i) xs)) (map-take g i xs)
-    ∙ ap (λ zs. take i (map g xs) ++ zs) (map-drop g (suc i) xs)
+map-remove g xs i = simp (map-append, take-map, drop-map)
 
 map-map : {X Y : Type 0} (g : X → Y) (c : X → X) (d : Y → Y) (xs : List X) → ((x : X) → g (c x) ≡ d (g x)) → map g (map c xs) ≡ map d (map g xs)
 map-map g c d [] e = refl
 map-map g c d (x ∷ xs) e = λ i. e x i ∷ map-map g c d xs e i
 
 pub map-change_range : {X Y : Type 0} (g : X → Y) (c : X → X) (d : Y → Y) (first count : ℕ) (xs : List X) → ((x : X) → g (c x) ≡ d (g x)) → map g (change_range c first count xs) ≡ change_range d first count (map g xs)
-map-change_range g c d first count xs e =
-    let later = drop first xs in
-    map-append g (take first xs ++ map c (take count later)) (drop count later)
-    ∙ ap (λ zs. zs ++ map g (drop count later)) (map-append g (take first xs) (map c (take count later)))
-    ∙ ap (λ zs. (zs ++ map g (map c (take count later))) ++ map g (drop count later)) (map-take g first xs)
-    ∙ ap (λ zs. (take first (map g xs) ++ zs) ++ map g (drop count later)) (map-map g c d (take count later) e ∙ ap (λ zs. map d zs) (map-take g count later ∙ ap (take count) (map-drop g first xs)))
-    ∙ ap (λ zs. (take first (map g xs) ++ map d (take count (drop first (map g xs)))) ++ zs) (map-drop g count later ∙ ap (drop count) (map-drop g first xs))
+map-change_range g c d first count xs e = simp (map-append, take-map, drop-map, map-map g c d)
 
 pub map-replicate : {X Y : Type 0} (g : X → Y) (n : ℕ) (x : X) → map g (replicate n x) ≡ replicate n (g x)
 map-replicate g zero x = refl
 map-replicate g (suc n) x = ap (λ ys. g x ∷ ys) (map-replicate g n x)
-
-pub get-map : {X Y : Type 0} (g : X → Y) (xs : List X) (i : ℕ) → slice_get (map g xs) i ≡ option_map g (slice_get xs i)
-get-map g [] i = refl
-get-map g (x ∷ xs) zero = refl
-get-map g (x ∷ xs) (suc i) = get-map g xs i
 
 pub sum_by-map : {X Y : Type 0} (h : Y → ℕ) (g : X → Y) (xs : List X) → sum_by h (map g xs) ≡ sum_by (λ x. h (g x)) xs
 sum_by-map h g [] = refl
 sum_by-map h g (x ∷ xs) = sum_by-cons h (g x) (map g xs) ∙ ap (λ (n : ℕ). h (g x) + n) (sum_by-map h g xs) ∙ sym (sum_by-cons (λ x. h (g x)) x xs)
 
 pub some-map : {X Y : Type 0} (g : X → Y) (o : Option X) → is_some (option_map g o) ≡ is_some o
-some-map g None = refl
-some-map g (Some x) = refl
+some-map = some_map
+
+-- two readings of what there is, if there is anything
+pub read-map : {X Y V : Type 0} (g : X → Y) (p : Y → V) (q : X → V) → ((x : X) → p (g x) ≡ q x) → (d : V) (o : Option X) → unwrap_or (option_map p (option_map g o)) d ≡ unwrap_or (option_map q o) d
+read-map g p q e d None = refl
+read-map g p q e d (Some x) = e x
 
 pub every_page-same : (s t : ℕ → Bool) (range : Range) → ((page : ℕ) → s page ≡ t page) → every_page s range ≡ every_page t range
 every_page-same s t range e = ap (λ u. every_page u range) (fun_ext e)
@@ -110,18 +86,18 @@ module _ {A B : Type 0} (f : A → B) where
   ranges_of-map [] = refl
   ranges_of-map (r ∷ rs) = λ i. pages_of-map r i ∷ ranges_of-map rs i
 
+  -- the region that passes a test
+  pub found-map : (test : RegionOf B → Bool) (test' : RegionOf A → Bool) → ((r : RegionOf A) → test (map_region f r) ≡ test' r) → (rs : List (RegionOf A)) → first_where test (map (map_region f) rs) ≡ option_map (map_found f) (first_where test' rs)
+  found-map test test' e rs = first-map test (map_region f) rs ∙ ap (λ t. option_map (map_found f) (first_where t rs)) (fun_ext e)
+
   around : (rs : List (RegionOf A)) (range : Range) → region_around (map (map_region f) rs) range ≡ option_map (map_found f) (region_around rs range)
-  around rs range =
-      first-map (λ r. lies_within range (pages_of r)) (map_region f) rs
-      ∙ ap (λ t. option_map (map_found f) (first_where t rs)) (fun_ext (λ r. ap (lies_within range) (pages_of-map r)))
+  around rs range = found-map (λ r. lies_within range (pages_of r)) _ (λ r. ap (lies_within range) (pages_of-map r)) rs
 
   at_private : (rs : List (RegionOf A)) (addr : ℕ) → private_at (map (map_region f) rs) addr ≡ option_map (map_found f) (private_at rs addr)
   at_private rs addr = first-map (λ r. is_private r.kind && (address_of r.base == addr)) (map_region f) rs
 
   around_private : (rs : List (RegionOf A)) (range : Range) → private_around (map (map_region f) rs) range ≡ option_map (map_found f) (private_around rs range)
-  around_private rs range =
-      first-map (λ r. is_private r.kind && lies_within range (pages_of r)) (map_region f) rs
-      ∙ ap (λ t. option_map (map_found f) (first_where t rs)) (fun_ext (λ r. ap (λ range'. is_private r.kind && lies_within range range') (pages_of-map r)))
+  around_private rs range = found-map (λ r. is_private r.kind && lies_within range (pages_of r)) _ (λ r. ap (λ range'. is_private r.kind && lies_within range range') (pages_of-map r)) rs
 
   pub same_place : (rs : List (RegionOf A)) (addr : ℕ) (wanted : Range) (count : ℕ) → placed (ranges_of (map (map_region f) rs)) addr wanted count ≡ placed (ranges_of rs) addr wanted count
   same_place rs addr wanted count = ap (λ ranges. placed ranges addr wanted count) (ranges_of-map rs)
@@ -152,11 +128,7 @@ module _ {A B : Type 0} (f : A → B) where
   to_region w pid p place r = to_regions w pid p (set p.regions place r) ∙ ap (λ rs. set_regions (map_world f w) pid (map_process f p) rs) (map-set (map_region f) p.regions place r)
 
   pub map-area_at : (w : WorldOf A) (area : ℕ) → area_at (map_world f w) area ≡ map_area f (area_at w area)
-  map-area_at w area = ap (λ o. unwrap_or o no_area) (get-map (map_area f) w.areas area) ∙ by_option (slice_get w.areas area)
-    where
-      by_option : (o : Option (AreaOf A)) → unwrap_or (option_map (map_area f) o) no_area ≡ map_area f (unwrap_or o no_area)
-      by_option None = refl
-      by_option (Some a) = refl
+  map-area_at w area = ap (λ o. unwrap_or o no_area) (slice_get-map (map_area f) w.areas area) ∙ elim (slice_get w.areas area) as (λ o. unwrap_or (option_map (map_area f) o) no_area ≡ map_area f (unwrap_or o no_area)) [ None ↦ refl | Some a ↦ refl ]
 
   pub map-shared_page : (w : WorldOf A) (area i : ℕ) → shared_page (map_world f w) area i ≡ option_map f (shared_page w area i)
   map-shared_page w area i = ap (λ (a : AreaOf B). get_or a.pages i None) (map-area_at w area) ∙ get_or-map (option_map f) (area_at w area).pages i None
@@ -187,7 +159,7 @@ module _ {A B : Type 0} (f : A → B) where
   -- ---- rows
 
   pub map-row_at : (r : RegionOf A) (page : ℕ) → row_at (map_region f r) page ≡ option_map (map_row f) (row_at r page)
-  map-row_at r page = get-map (map_row f) r.rows (page - r.base)
+  map-row_at r page = slice_get-map (map_row f) r.rows (page - r.base)
 
   same_protections : (k : Kind) (row : RowOf A) → protections_of k (map_row f row) ≡ protections_of k row
   same_protections kind.Private row = refl
@@ -195,11 +167,8 @@ module _ {A B : Type 0} (f : A → B) where
 
   same_accepts : (r : RegionOf A) (prot page : ℕ) → accepts (map_region f r) prot page ≡ accepts r prot page
   same_accepts r prot page =
-      ap (λ o. unwrap_or (option_map (λ (row : RowOf B). is_one_of (protections_of r.kind row) (base_of prot)) o) false) (map-row_at r page) ∙ by_row (row_at r page)
-    where
-      by_row : (o : Option (RowOf A)) → unwrap_or (option_map (λ (row : RowOf B). is_one_of (protections_of r.kind row) (base_of prot)) (option_map (map_row f) o)) false ≡ unwrap_or (option_map (λ (row : RowOf A). is_one_of (protections_of r.kind row) (base_of prot)) o) false
-      by_row None = refl
-      by_row (Some row) = ap (λ ps. is_one_of ps (base_of prot)) (same_protections r.kind row)
+      ap (λ o. unwrap_or (option_map (λ (row : RowOf B). is_one_of (protections_of r.kind row) (base_of prot)) o) false) (map-row_at r page)
+      ∙ read-map (map_row f) _ _ (λ row. ap (λ ps. is_one_of ps (base_of prot)) (same_protections r.kind row)) false (row_at r page)
 
   pub same_committed : (w : WorldOf A) (k : Kind) (i : ℕ) (row : RowOf A) → is_committed (map_world f w) k i (map_row f row) ≡ is_committed w k i row
   same_committed w kind.Private i row = some-map f row.own
@@ -207,19 +176,12 @@ module _ {A B : Type 0} (f : A → B) where
 
   same_committed_at : (w : WorldOf A) (r : RegionOf A) (page : ℕ) → is_committed_at (map_world f w) (map_region f r) page ≡ is_committed_at w r page
   same_committed_at w r page =
-      ap (λ o. unwrap_or (option_map (is_committed (map_world f w) r.kind (page - r.base)) o) false) (map-row_at r page) ∙ by_row (row_at r page)
-    where
-      by_row : (o : Option (RowOf A)) → unwrap_or (option_map (is_committed (map_world f w) r.kind (page - r.base)) (option_map (map_row f) o)) false ≡ unwrap_or (option_map (is_committed w r.kind (page - r.base)) o) false
-      by_row None = refl
-      by_row (Some row) = same_committed w r.kind (page - r.base) row
+      ap (λ o. unwrap_or (option_map (is_committed (map_world f w) r.kind (page - r.base)) o) false) (map-row_at r page)
+      ∙ read-map (map_row f) _ _ (same_committed w r.kind (page - r.base)) false (row_at r page)
 
   map-protected : (k : Kind) (prot : ℕ) (row : RowOf A) → map_row f (protected k prot row) ≡ protected k prot (map_row f row)
   map-protected kind.Private prot row = refl
-  map-protected (kind.View v) prot row = by_own row.own
-    where
-      by_own : (o : Option A) → map_row f (protected (kind.View v) prot (record row { own = o })) ≡ protected (kind.View v) prot (map_row f (record row { own = o }))
-      by_own None = refl
-      by_own (Some x) = refl
+  map-protected (kind.View v) prot row = elim row.own as (λ o. map_row f (protected (kind.View v) prot (record row { own = o })) ≡ protected (kind.View v) prot (map_row f (record row { own = o }))) [ None ↦ refl | Some x ↦ refl ]
 
   pub map-change_rows : (c : RowOf A → RowOf A) (d : RowOf B → RowOf B) (range : Range) (r : RegionOf A) → ((row : RowOf A) → map_row f (c row) ≡ d (map_row f row)) → map_region f (change_rows c range r) ≡ change_rows d range (map_region f r)
   map-change_rows c d range r e = ap (λ rows. record (map_region f r) { rows = rows }) (map-change_range (map_row f) c d (range.first - r.base) range.count r.rows e)
@@ -229,24 +191,17 @@ module _ {A B : Type 0} (f : A → B) where
   pub at_need : (w : WorldOf A) (why : Code) (b c : Bool) (o : OutcomeOf A) (p : OutcomeOf B) → c ≡ b → Agrees f o p → Agrees f (need w why b o) (need (map_world f w) why c p)
   at_need w why true true o p e h = h
   at_need w why false false o p e h = record { same = refl }
-  at_need w why true false o p e h = cc
-  at_need w why false true o p e h = cc
+  at_need w why _ _ o p e h = cc
 
   pub at_find : {X Y : Type 0} (w : WorldOf A) (why : Code) (g : X → Y) (x : Option X) (y : Option Y) (k : X → OutcomeOf A) (l : Y → OutcomeOf B) → y ≡ option_map g x → ((a : X) → x ≡ Some a → Agrees f (k a) (l (g a))) → Agrees f (find_or w why x k) (find_or (map_world f w) why y l)
   at_find w why g None None k l e h = record { same = refl }
   at_find w why g (Some a) (Some b) k l e h =
       let same : b ≡ g a = cc in
       record { same = ap (λ y. l y) same ∙ (h a refl).same }
-  at_find w why g None (Some b) k l e h = cc
-  at_find w why g (Some a) None k l e h = cc
+  at_find w why g _ _ k l e h = cc
 
   pub at_found : {X : Type 0} (w : WorldOf A) (why : Code) (x y : Option X) (k : X → OutcomeOf A) (l : X → OutcomeOf B) → y ≡ x → ((a : X) → x ≡ Some a → Agrees f (k a) (l a)) → Agrees f (find_or w why x k) (find_or (map_world f w) why y l)
-  at_found w why None None k l e h = record { same = refl }
-  at_found w why (Some a) (Some b) k l e h =
-      let same : b ≡ a = cc in
-      record { same = ap (λ y. l y) same ∙ (h a refl).same }
-  at_found w why None (Some b) k l e h = cc
-  at_found w why (Some a) None k l e h = cc
+  at_found w why x y k l e h = at_find w why (λ a. a) x y k l (e ∙ sym (option_map_id x)) h
 
   pub at_lives : (w : WorldOf A) (pid : ℕ) (k : ProcessOf A → OutcomeOf A) (l : ProcessOf B → OutcomeOf B) → ((p : ProcessOf A) → process_of w pid ≡ Some p → Agrees f (k p) (l (map_process f p))) → Agrees f (with_process w pid k) (with_process (map_world f w) pid l)
   at_lives w pid k l h = at_find w code.InvalidHandle (map_process f) (process_of w pid) (process_of (map_world f w) pid) k l (at_process w pid) h
@@ -284,11 +239,7 @@ module _ {A B : Type 0} (f : A → B) where
     -- ---- alloc
 
     map-new_row : (type prot : ℕ) → map_row f (new_row fill type prot) ≡ new_row there type prot
-    map-new_row type prot = by_type (type == reserve_type)
-      where
-        by_type : (b : Bool) → map_row f (cond b reserved_row (commit (fill 0) prot reserved_row)) ≡ cond b reserved_row (commit (there 0) prot reserved_row)
-        by_type true = refl
-        by_type false = refl
+    map-new_row type prot = elim (type == reserve_type) as (λ b. map_row f (cond b reserved_row (commit (fill 0) prot reserved_row)) ≡ cond b reserved_row (commit (there 0) prot reserved_row)) [ true ↦ refl | false ↦ refl ]
 
     map-private_region : (watched : Bool) (type prot : ℕ) (range : Range) → map_region f (private_region fill watched type prot range) ≡ private_region there watched type prot range
     map-private_region watched type prot range =
@@ -296,11 +247,7 @@ module _ {A B : Type 0} (f : A → B) where
         (map-replicate (map_row f) range.count (new_row fill type prot) ∙ ap (λ row. replicate range.count row) (map-new_row type prot))
 
     pub map-commit : (prot : ℕ) (row : RowOf A) → map_row f (commit (fill 0) prot row) ≡ commit (there 0) prot (map_row f row)
-    map-commit prot row = by_own row.own
-      where
-        by_own : (o : Option A) → map_row f (commit (fill 0) prot (record row { own = o })) ≡ commit (there 0) prot (map_row f (record row { own = o }))
-        by_own None = refl
-        by_own (Some x) = refl
+    map-commit prot row = elim row.own as (λ o. map_row f (commit (fill 0) prot (record row { own = o })) ≡ commit (there 0) prot (map_row f (record row { own = o }))) [ None ↦ refl | Some x ↦ refl ]
 
     in_reserve : (w : WorldOf A) (pid : ℕ) (p : ProcessOf A) (addr size : ℕ) (watched : Bool) (type prot : ℕ) → Agrees f (reserve fill w pid p addr size watched type prot) (reserve there (map_world f w) pid (map_process f p) addr size watched type prot)
     in_reserve w pid p addr size watched type prot = search (agreeing, same_place, to_added, map-private_region) depth 14
@@ -308,11 +255,8 @@ module _ {A B : Type 0} (f : A → B) where
     map-commit_shared : (first count : ℕ) (a : AreaOf A) → map_area f (commit_shared fill first count a) ≡ commit_shared there first count (map_area f a)
     map-commit_shared first count a =
         ap (λ pages. record (map_area f a) { pages = pages })
-        (map-change_range (option_map f) (λ page. Some (unwrap_or page (fill 0))) (λ page. Some (unwrap_or page (there 0))) first count a.pages by_page)
-      where
-        by_page : (o : Option A) → option_map f (Some (unwrap_or o (fill 0))) ≡ Some (unwrap_or (option_map f o) (there 0))
-        by_page None = refl
-        by_page (Some x) = refl
+        (map-change_range (option_map f) (λ page. Some (unwrap_or page (fill 0))) (λ page. Some (unwrap_or page (there 0))) first count a.pages
+        (λ o. elim o as (λ o. option_map f (Some (unwrap_or o (fill 0))) ≡ Some (unwrap_or (option_map f o) (there 0))) [ None ↦ refl | Some x ↦ refl ]))
 
     in_commit : (w : WorldOf A) (pid : ℕ) (p : ProcessOf A) (r : Found (RegionOf A)) (k : Kind) (range : Range) (prot : ℕ) → Agrees f (commit_in fill w pid p r k range prot) (commit_in there (map_world f w) pid (map_process f p) (map_found f r) k range prot)
     in_commit w pid p r kind.Private range prot = search (agreeing, at_change, map-commit) depth 14
@@ -350,11 +294,9 @@ module _ {A B : Type 0} (f : A → B) where
   -- ---- protect
 
   same_protection : (r : RegionOf A) (page : ℕ) → protection_at (map_region f r) page ≡ protection_at r page
-  same_protection r page = ap (λ (o : Option (RowOf B)). let prot : Prot = record { 0 = unwrap_or (option_map protection_of o) 0 } in prot) (map-row_at r page) ∙ by_row (row_at r page)
-    where
-      by_row : (o : Option (RowOf A)) → (let prot : Prot = record { 0 = unwrap_or (option_map protection_of (option_map (map_row f) o)) 0 } in prot) ≡ (let prot : Prot = record { 0 = unwrap_or (option_map protection_of o) 0 } in prot)
-      by_row None = refl
-      by_row (Some row) = refl
+  same_protection r page =
+      ap (λ (n : ℕ). let prot : Prot = record { 0 = n } in prot)
+      (ap (λ (o : Option (RowOf B)). unwrap_or (option_map protection_of o) 0) (map-row_at r page) ∙ read-map (map_row f) protection_of protection_of (λ row. refl) 0 (row_at r page))
 
   pub in_protect : (w : WorldOf A) (pid addr size prot : ℕ) → Agrees f (protect w pid addr size prot) (protect (map_world f w) pid addr size prot)
   in_protect w pid addr size prot = search (agreeing, around, every_page-same, same_committed_at, same_accepts, same_protection, at_change, map-protected) depth 20

@@ -3,7 +3,7 @@ use Rattle.std.proofs.Common.{◌≡◌, ℕ, zero, suc, ◌+◌, ◌-◌, ◌/�
 use Rattle.std.specs.Prelude.{remove, ◌==◌, option_and_then, find}
 use Rattle.std.specs.List.{list_any}
 use Rattle.std.proofs.Math.Path.{fun_ext}
-use Rattle.std.proofs.lemmas.List.{map-set, length-map}
+use Rattle.std.proofs.lemmas.List.{map-set, length-map, map-append}
 use Rattle.mm_types.specs.declared.answers.Answer.TheVariants as answer
 use Rattle.mm_types.specs.{QueryInfo, Kind, ViewAccess, Range, lies_within, holds_page, address_of, page_of, pages_for, end_of_user_pages}
 use Rattle.mm_types.specs.{is_granule_address, is_user_page, lowest_gap, permits, Text, commit_type}
@@ -12,17 +12,16 @@ use Rattle.mm_types.specs.declared.codes.Raise.TheVariants as raise
 use Rattle.mm_types.specs.declared.protections.Access.TheVariants as access_kind
 use Rattle.mm_types.specs.declared.views.Kind.TheVariants as kind
 use Rattle.mm_world.specs.{watch, reset_watch, watched_around, StackOf, RowOf, RegionOf, ProcessOf, AreaOf, SectionOf, WorldOf, Numbered, pages_of}
-use Rattle.mm_world.specs.{end_stacks, set_stack, stack_by, Found, first_where, ranges_of, region_with, add_region, process_of, set_process}
-use Rattle.mm_world.specs.{set_regions, set_region, area_at, no_area, shared_page, section_named, placed, is_private, limit, OutcomeOf, done, need}
-use Rattle.mm_world.specs.{find_or, within_limit, change_flags, row_at, is_committed, reserved_row, commit, query, page_info, next_base, page_states}
+use Rattle.mm_world.specs.{end_stacks, set_stack, stack_by, Found, ranges_of, region_with, add_region, process_of, set_process, set_regions}
+use Rattle.mm_world.specs.{set_region, area_at, no_area, shared_page, section_named, placed, is_private, limit, OutcomeOf, done, need, find_or}
+use Rattle.mm_world.specs.{within_limit, change_flags, row_at, is_committed, reserved_row, commit, query, page_info, next_base, page_states}
 use Rattle.mm_world.specs.{row_state, first_run, PageState, type_of, create, create_file, open_section, close, handle_or, new_section, settle}
 use Rattle.mm_world.specs.{settled_area, settled_areas, settled_section, settled_sections, holds, views, is_view_of, uses, handle_section}
-use Rattle.mm_world.specs.{paging_area, is_reserve, are_section_flags, section_prot, file_named, largest_section, map_view, unmap, flush, view_access}
-use Rattle.mm_world.specs.{may_view, view_region, view_at, view_around, Home, Own, InSection, Committed, home_in, committed_in, committed_at}
-use Rattle.mm_world.specs.{guard_off, alloc, stack, made, stack_region, probe, probe_at, probe_in, probe_of, grown, is_overflow, new_process, exit}
-use Rattle.mm_world.specs.{new_file, take_fail, tell_charge, grow, no_regions, file_pages, kept_of_others, most_processes, map_row, map_region}
-use Rattle.mm_world.specs.{map_process, map_area, map_world}
-use Rattle.mm_world.proofs.Natural.{Agrees, map_found, first-map, map-append, map-remove, map-replicate, pages_of-map, ranges_of-map, same_place, at_process, to_process, to_regions, to_added, to_region, map-area_at, map-shared_page, map-row_at, same_committed, same_charge, in_alloc, at_need, at_found, at_lives, at_if, at_done, at_answer, at_limit, agreeing}
+use Rattle.mm_world.specs.{paging_area, is_reserve, are_section_flags, section_prot, largest_section, map_view, unmap, flush, view_access, may_view}
+use Rattle.mm_world.specs.{view_region, view_at, view_around, Home, Own, InSection, Committed, home_in, committed_in, committed_at, guard_off, alloc}
+use Rattle.mm_world.specs.{stack, made, stack_region, probe, probe_at, probe_in, probe_of, grown, is_overflow, new_process, exit, new_file, take_fail}
+use Rattle.mm_world.specs.{tell_charge, grow, file_pages, kept_of_others, map_row, map_region, map_process, map_area, map_world}
+use Rattle.mm_world.proofs.Natural.{Agrees, map_found, first-map, found-map, read-map, map-remove, map-replicate, pages_of-map, ranges_of-map, same_place, at_process, to_process, to_regions, to_added, to_region, map-area_at, map-shared_page, map-row_at, same_committed, same_charge, in_alloc, at_need, at_found, at_lives, at_done, at_answer, at_limit, agreeing}
 
 any-map : {X Y : Type 0} (test : Y → Bool) (g : X → Y) (xs : List X) → list_any test (map g xs) ≡ list_any (λ x. test (g x)) xs
 any-map test g [] = refl
@@ -40,9 +39,7 @@ module _ {A B : Type 0} (f : A → B) where
   -- ---- query
 
   pub with : (rs : List (RegionOf A)) (page : ℕ) → region_with (map (map_region f) rs) page ≡ option_map (map_found f) (region_with rs page)
-  with rs page =
-      first-map (λ r. holds_page (pages_of r) page) (map_region f) rs
-      ∙ ap (λ t. option_map (map_found f) (first_where t rs)) (fun_ext (λ r. ap (λ range. holds_page range page) (pages_of-map f r)))
+  with rs page = found-map f (λ r. holds_page (pages_of r) page) _ (λ r. ap (λ range. holds_page range page) (pages_of-map f r)) rs
 
   same_state_of : (b : Bool) (row : RowOf A) → row_state b (map_row f row) ≡ row_state b row
   same_state_of true row = refl
@@ -56,11 +53,7 @@ module _ {A B : Type 0} (f : A → B) where
   same_next : (rs : List (RegionOf A)) (page : ℕ) → next_base (map (map_region f) rs) page ≡ next_base rs page
   same_next rs page =
       ap (λ (o : Option (RegionOf B)). unwrap_or (option_map (λ (r : RegionOf B). r.base) o) end_of_user_pages) (find-map (λ r. nat_lt page r.base) (map_region f) rs)
-      ∙ by_option (find (λ (r : RegionOf A). nat_lt page r.base) rs)
-    where
-      by_option : (o : Option (RegionOf A)) → unwrap_or (option_map (λ (r : RegionOf B). r.base) (option_map (map_region f) o)) end_of_user_pages ≡ unwrap_or (option_map (λ (r : RegionOf A). r.base) o) end_of_user_pages
-      by_option None = refl
-      by_option (Some r) = refl
+      ∙ read-map (map_region f) _ _ (λ r. refl) end_of_user_pages (find (λ (r : RegionOf A). nat_lt page r.base) rs)
 
   abbrev told_of : RegionOf A → ℕ → List PageState → QueryInfo
   told_of r page states =
@@ -112,10 +105,7 @@ module _ {A B : Type 0} (f : A → B) where
 
   map-settled_area : (ss : Numbered SectionOf) (n : ℕ) (a : AreaOf A) → map_area f (settled_area ss n a) ≡ settled_area ss n (map_area f a)
   map-settled_area ss n a =
-      elim (is_some a.file_block || list_any (uses n) ss) as (λ b. map_area f (cond b a no_area) ≡ cond b (map_area f a) no_area) [
-        | true ↦ refl
-        | false ↦ refl
-      ]
+      elim (is_some a.file_block || list_any (uses n) ss) as (λ b. map_area f (cond b a no_area) ≡ cond b (map_area f a) no_area) [ true ↦ refl | false ↦ refl ]
 
   map-settled_areas : (ss : Numbered SectionOf) (n : ℕ) (areas : List (AreaOf A)) → map (map_area f) (settled_areas ss n areas) ≡ settled_areas ss n (map (map_area f) areas)
   map-settled_areas ss n [] = refl
@@ -194,9 +184,7 @@ module _ {A B : Type 0} (f : A → B) where
           ∙ to_settled (set_regions w pid p (remove p.regions r.place))
 
   around_view : (rs : List (RegionOf A)) (range : Range) → view_around (map (map_region f) rs) range ≡ option_map (map_found f) (view_around rs range)
-  around_view rs range =
-      first-map (λ r. not (is_private r.kind) && lies_within range (pages_of r)) (map_region f) rs
-      ∙ ap (λ t. option_map (map_found f) (first_where t rs)) (fun_ext (λ r. ap (λ range'. not (is_private r.kind) && lies_within range range') (pages_of-map f r)))
+  around_view rs range = found-map f (λ r. not (is_private r.kind) && lies_within range (pages_of r)) _ (λ r. ap (λ range'. not (is_private r.kind) && lies_within range range') (pages_of-map f r)) rs
 
   pub in_flush : (w : WorldOf A) (pid addr size : ℕ) → Agrees f (flush w pid addr size) (flush (map_world f w) pid addr size)
   in_flush w pid addr size = search (agreeing, around_view) depth 14
@@ -204,9 +192,7 @@ module _ {A B : Type 0} (f : A → B) where
   -- ---- watched regions
 
   around_watched : (rs : List (RegionOf A)) (range : Range) → watched_around (map (map_region f) rs) range ≡ option_map (map_found f) (watched_around rs range)
-  around_watched rs range =
-      first-map (λ r. is_some r.watched && lies_within range (pages_of r)) (map_region f) rs
-      ∙ ap (λ t. option_map (map_found f) (first_where t rs)) (fun_ext (λ r. ap (λ range'. is_some r.watched && lies_within range range') (pages_of-map f r)))
+  around_watched rs range = found-map f (λ r. is_some r.watched && lies_within range (pages_of r)) _ (λ r. ap (λ range'. is_some r.watched && lies_within range range') (pages_of-map f r)) rs
 
   to_flags : (w : WorldOf A) (pid : ℕ) (p : ProcessOf A) (r : Found (RegionOf A)) (flags : List Bool → List Bool) → set_region (map_world f w) pid (map_process f p) r.place (change_flags flags (map_region f r.thing)) ≡ map_world f (set_region w pid p r.place (change_flags flags r.thing))
   to_flags w pid p r flags = sym (to_region f w pid p r.place (change_flags flags r.thing))
@@ -224,20 +210,7 @@ module _ {A B : Type 0} (f : A → B) where
   -- ---- processes
 
   pub in_new_process : (w : WorldOf A) → Agrees f (new_process w) (new_process (map_world f w))
-  in_new_process w =
-      let same : length (map (option_map (map_process f)) w.processes) ≡ length w.processes = length-map w.processes (option_map (map_process f)) in
-      record {
-        same = ap (λ n. cond (nat_le n most_processes)
-            (done (answer.NewProcess (record { 0 = n })) (record (map_world f w) { processes = map (option_map (map_process f)) w.processes ++ Some no_regions ∷ [] }))
-            (done answer.Full (map_world f w))) same
-            ∙ (at_if f (nat_le (length w.processes) most_processes)
-            (done (answer.NewProcess (record { 0 = length w.processes })) (record w { processes = w.processes ++ Some no_regions ∷ [] }))
-            (done answer.Full w)
-            (done (answer.NewProcess (record { 0 = length w.processes })) (record (map_world f w) { processes = map (option_map (map_process f)) w.processes ++ Some no_regions ∷ [] }))
-            (done answer.Full (map_world f w))
-            (at_done f _ _ _ (ap (λ ps. record (map_world f w) { processes = ps }) (sym (map-append (option_map (map_process f)) w.processes (Some no_regions ∷ [])))))
-            (at_done f _ _ _ refl)).same;
-      }
+  in_new_process w = search (agreeing, length-map, map-append) depth 14
 
   pub in_exit : (w : WorldOf A) (pid : ℕ) → Agrees f (exit w pid) (exit (map_world f w) pid)
   in_exit w pid =
@@ -260,11 +233,7 @@ module _ {A B : Type 0} (f : A → B) where
 
     map-paging_area : (flags size : ℕ) → map_area f (paging_area fill flags size) ≡ paging_area filling flags size
     map-paging_area flags size =
-        ap (λ pages. let a : AreaOf B = record { file_block = None; pages = pages } in a) (map-replicate (option_map f) (pages_for size) _ ∙ ap (replicate (pages_for size)) (by_flag (is_reserve flags)))
-      where
-        by_flag : (b : Bool) → option_map f (cond b None (Some (fill 0))) ≡ cond b None (Some (filling 0))
-        by_flag true = refl
-        by_flag false = refl
+        ap (λ pages. let a : AreaOf B = record { file_block = None; pages = pages } in a) (map-replicate (option_map f) (pages_for size) _ ∙ ap (replicate (pages_for size)) (elim (is_reserve flags) as (λ b. option_map f (cond b None (Some (fill 0))) ≡ cond b None (Some (filling 0))) [ true ↦ refl | false ↦ refl ]))
 
     pub in_create : (w : WorldOf A) (pid size flags : ℕ) (name : Option Text) → Agrees f (create fill w pid size flags name) (create filling (map_world f w) pid size flags name)
     in_create w pid size flags name =
@@ -289,18 +258,7 @@ module _ {A B : Type 0} (f : A → B) where
     map-file_pages byte (suc count) = ap (λ ps. Some (filling (byte % 256)) ∷ ps) (map-file_pages (byte + 1) count)
 
     pub in_new_file : (w : WorldOf A) (name : Text) (pages byte : ℕ) → Agrees f (new_file fill w name pages byte) (new_file filling (map_world f w) name pages byte)
-    in_new_file w name pages byte =
-        let area : AreaOf A = record { file_block = Some w.blocks_used; pages = file_pages fill byte pages } in
-        at_need f w code.AlreadyExists (is_none (file_named w name)) (is_none (file_named w name)) _ _ refl (
-        at_if f (nat_le (w.blocks_used + pages) w.machine.blocks) _ _ _ _
-        (at_done f answer.Ok _ _
-        ((λ i. record (map_world f w) {
-          files = w.files ++ record { name = name; area = length-map w.areas (map_area f) i } ∷ [];
-          areas = map (map_area f) w.areas ++ record { file_block = Some w.blocks_used; pages = sym (map-file_pages byte pages) i } ∷ [];
-          blocks_used = w.blocks_used + pages;
-        })
-        ∙ ap (λ areas. record (map_world f w) { files = w.files ++ record { name = name; area = length w.areas } ∷ []; areas = areas; blocks_used = w.blocks_used + pages }) (sym (map-append (map_area f) w.areas (area ∷ [])))))
-        (at_done f answer.Full _ _ refl))
+    in_new_file w name pages byte = search (agreeing, length-map, map-append, map-file_pages) depth 16
 
 -- ---- stacks
 

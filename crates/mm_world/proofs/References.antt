@@ -2,21 +2,28 @@
 use Rattle.std.proofs.Common.{◌≡◌, ℕ, zero, suc, ◌+◌, ◌≤◌, ◌<◌, Bool, true, false, Option, Some, None, List, [], ◌∷◌, ◌++◌, ◌⊎◌, inl, inr, refl, sym, ◌∙◌, ap, subst, cond, arith, length, slice_get, set, is_some, ◌||◌, unwrap_or}
 use Rattle.std.specs.Prelude.{◌==◌}
 use Rattle.std.specs.List.{list_any}
-use Rattle.std.specs.Cmp.{unsigned_Decides}
 use Rattle.std.proofs.lemmas.List.{length-append, length-set}
-use Rattle.mm_types.specs.{Answer, View}
-use Rattle.mm_types.specs.declared.views.Kind.TheVariants as kind
-use Rattle.mm_types.proofs.{or_right}
+use Rattle.mm_types.specs.{Answer, View, Event, MachineOf, IsMachine, Text}
+use Rattle.mm_types.proofs.{or_right, same_number, some_found}
 use Rattle.mm_world.specs.{WorldOf, ProcessOf, RegionOf, AreaOf, SectionOf, FileOf, Numbered, numbered, process_of, set_process, set_area, area_at}
 use Rattle.mm_world.specs.{no_area, section_of, OutcomeOf, done, settle, settled_section, settled_sections, settled_area, settled_areas, holds, views}
 use Rattle.mm_world.specs.{is_handle_to, is_view_of, uses, no_regions, Committed, committed_at, guard_off, Each, ViewFits, RegionRefers}
-use Rattle.mm_world.specs.{ProcessRefers, References}
+use Rattle.mm_world.specs.{ProcessRefers, References, most_processes, NumbersFit, Page, new_file, step, first_world, Spaces, IsSpace, KeepsLimit}
+use Rattle.mm_world.specs.{Reached, First, Next}
 use Rattle.mm_world.proofs.Tables.{Holds}
-use Rattle.mm_world.proofs.Edits.{Terms, any_terms, RegionEdit, RegionComes, RegionGoes, RegionChanges, Edit, Rest, Regions, HandleComes, HandleGoes, SectionComes, AreaComes, AreaChanges, FileComes, Settles, ProcessComes, ProcessGoes, Edits, fold}
-use Rattle.mm_world.proofs.LineEdits as edits
+use Rattle.mm_world.proofs.Edits.{Terms, any_terms, RegionEdit, RegionComes, RegionGoes, RegionChanges, Edit, Rest, Regions, HandleComes, HandleGoes, SectionComes, AreaComes, AreaChanges, FileComes, Settles, ProcessComes, ProcessGoes, Edits, fold, Falls, Edited}
 use Rattle.mm_world.proofs.Finding.{numbered_inside, numbered_there, push_at}
-use Rattle.mm_world.proofs.Each.{each-append, each-insert, each-remove, each-set, each-at}
-use Rattle.mm_world.proofs.Spaces.{after_set, after_push}
+use Rattle.mm_world.proofs.RowsFit.{each-weaker, each-append, each-insert, each-remove, each-set, each-at}
+use Rattle.mm_world.proofs.Spaces.{after_set, after_push, spaces_kept}
+use Rattle.std.proofs.lemmas.Bool.{leb-true}
+use Rattle.mm_world.specs.World.{World}
+use Rattle.mm_world.specs.Report.{Report}
+use Rattle.mm_world.specs.WellFormed.{WellFormed}
+use Rattle.mm_types.specs.declared.views.Kind.TheVariants as kind
+use Rattle.mm_world.proofs.LineEdits as edits
+use Rattle.mm_world.proofs.Charges as charges
+use Rattle.mm_world.proofs.Limit as limits
+use Rattle.mm_world.proofs.CallEdits as calls
 
 -- ---- searches
 
@@ -27,17 +34,6 @@ any-at test (y ∷ xs) (suc i) x there passes = or_right (test y) (list_any test
 
 any-numbered : {A : Type 0} (test : Option A → Bool) (xs : Numbered A) (i : ℕ) (x : A) → numbered xs i ≡ Some x → test (Some x) ≡ true → list_any test xs ≡ true
 any-numbered test xs i x there passes = any-at test xs i (Some x) (numbered_there xs i x there) passes
-
-same_number : (n : ℕ) → (n == n) ≡ true
-same_number n = (unsigned_Decides n n).1 refl
-
-some_of : {X : Type 0} (o : Option X) → is_some o ≡ true → (x : X) × (o ≡ Some x)
-some_of None e = absurd (cc)
-some_of (Some x) e = (x, refl)
-
-each-more : (n m : ℕ) (fs : List FileOf) → n ≤ m → Each (λ (f : FileOf). f.area < n) fs → Each (λ (f : FileOf). f.area < m) fs
-each-more n m [] low h = tt
-each-more n m (f ∷ fs) low h = (omega (arith, low, h.0), each-more n m fs low h.1)
 
 still : (hs : Numbered ℕ) (place i n : ℕ) → numbered (set hs place None) i ≡ Some n → numbered hs i ≡ Some n
 still [] place i n e = e
@@ -68,7 +64,7 @@ module _ {B : Type 0} where
       record {
         views = regions_grow w v p.regions g h.views;
         handles = λ place n e.
-            let s = some_of (section_of w n) (h.handles place n e) in
+            let s = some_found (section_of w n) (h.handles place n e) in
             ap is_some (g.sections n s.0 s.1).1;
       }
 
@@ -142,7 +138,7 @@ module _ {B : Type 0} where
       record {
         processes = λ j q e. process_grows w v q g (h.processes j q e);
         sections = λ n s e. omega (arith, h.sections n s e, more);
-        files = each-more (length w.areas) (length v.areas) w.files (omega (arith, more)) h.files;
+        files = each-weaker _ _ w.files (λ f low. omega (arith, low, more)) h.files;
       }
 
   section_pushed : (w : WorldOf B) (s : SectionOf) → s.area < length w.areas → References w → References (record w { sections = w.sections ++ Some s ∷ [] })
@@ -166,12 +162,11 @@ module _ {B : Type 0} where
   at_section ps k zero (s ∷ ss) = ap (λ (n : ℕ). settled_section ps n s) (let same : k ≡ k + 0 = omega arith in same)
   at_section ps k (suc n) (s ∷ ss) = at_section ps (k + 1) n ss ∙ ap (λ (m : ℕ). settled_section ps m (numbered ss n)) (let same : k + 1 + n ≡ k + suc n = omega arith in same)
 
+  at_here : (ps : Numbered (ProcessOf B)) (n : ℕ) (ss : Numbered SectionOf) → numbered (settled_sections ps 0 ss) n ≡ settled_section ps n (numbered ss n)
+  at_here ps n ss = at_section ps 0 n ss ∙ ap (λ (m : ℕ). settled_section ps m (numbered ss n)) (let same : 0 + n ≡ n = omega arith in same)
+
   at_area : (ss : Numbered SectionOf) (k m : ℕ) (areas : List (AreaOf B)) → unwrap_or (slice_get (settled_areas ss k areas) m) no_area ≡ settled_area ss (k + m) (unwrap_or (slice_get areas m) no_area)
-  at_area ss k m [] = empty (is_some (no_area {B = B}).file_block || list_any (uses (k + m)) ss)
-    where
-      empty : (b : Bool) → no_area {B = B} ≡ cond b (no_area {B = B}) (no_area {B = B})
-      empty true = refl
-      empty false = refl
+  at_area ss k m [] = elim (is_some (no_area {B = B}).file_block || list_any (uses (k + m)) ss) as (λ b. no_area {B = B} ≡ cond b (no_area {B = B}) (no_area {B = B})) [ true ↦ refl | false ↦ refl ]
   at_area ss k zero (a ∷ rest) = ap (λ (n : ℕ). settled_area ss n a) (let same : k ≡ k + 0 = omega arith in same)
   at_area ss k (suc m) (a ∷ rest) = at_area ss (k + 1) m rest ∙ ap (λ (n : ℕ). settled_area ss n (unwrap_or (slice_get rest m) no_area)) (let same : k + 1 + m ≡ k + suc m = omega arith in same)
 
@@ -199,12 +194,7 @@ module _ {B : Type 0} where
       by_tests false false e = cc
 
   used_area : (ss : Numbered SectionOf) (a : ℕ) (area : AreaOf B) → list_any (uses a) ss ≡ true → settled_area ss a area ≡ area
-  used_area ss a area e = by_test (is_some area.file_block) (list_any (uses a) ss) e
-    where
-      by_test : (b c : Bool) → c ≡ true → cond (b || c) area no_area ≡ area
-      by_test true c e = refl
-      by_test false true e = refl
-      by_test false false e = cc
+  used_area ss a area e = ap (λ b. cond b area no_area) (or_right (is_some area.file_block) (list_any (uses a) ss) e)
 
   settle_refers : (v : WorldOf B) → References v → References (settle v)
   settle_refers v h =
@@ -214,13 +204,12 @@ module _ {B : Type 0} where
             record {
               views = settled_regions pid p lives p.regions (λ i r there. (i, there)) k.views;
               handles = λ place n e.
-                  let s = some_of (section_of v n) (k.handles place n e) in
+                  let s = some_found (section_of v n) (k.handles place n e) in
                   let held : list_any (holds n) v.processes ≡ true = any-numbered (holds n) v.processes pid p lives (any-numbered (is_handle_to n) p.handles place n e (same_number n)) in
-                  ap is_some (at_section v.processes 0 n v.sections ∙ ap (λ (m : ℕ). settled_section v.processes m (section_of v n)) (let same : 0 + n ≡ n = omega arith in same)
-                  ∙ ap (settled_section v.processes n) s.1 ∙ (stays v.processes n s.0 (inl held)).1);
+                  ap is_some (at_here v.processes n v.sections ∙ ap (settled_section v.processes n) s.1 ∙ (stays v.processes n s.0 (inl held)).1);
             };
         sections = λ n t e.
-            let was = stayed v.processes n (section_of v n) t (sym (at_section v.processes 0 n v.sections ∙ ap (λ (m : ℕ). settled_section v.processes m (section_of v n)) (let same : 0 + n ≡ n = omega arith in same)) ∙ e) in
+            let was = stayed v.processes n (section_of v n) t (sym (at_here v.processes n v.sections) ∙ e) in
             omega (arith, h.sections n was.0 was.1, was.2, length-settled (settled_sections v.processes 0 v.sections) 0 v.areas);
         files = subst (λ (n : ℕ). Each (λ (f : FileOf). f.area < n) v.files) (sym (length-settled (settled_sections v.processes 0 v.sections) 0 v.areas)) h.files;
       }
@@ -235,8 +224,7 @@ module _ {B : Type 0} where
           any-numbered (views n) v.processes pid p lives (any-at (λ (r : RegionOf B). is_view_of n r.kind) p.regions i r there (ap (is_view_of n) is ∙ same_number n)) in
           let t = stays v.processes n fits.section (inr seen) in
           let stands : numbered new n ≡ Some t.0 =
-          at_section v.processes 0 n v.sections ∙ ap (λ (m : ℕ). settled_section v.processes m (section_of v n)) (let same : 0 + n ≡ n = omega arith in same)
-          ∙ ap (settled_section v.processes n) fits.lives ∙ t.1 in
+          at_here v.processes n v.sections ∙ ap (settled_section v.processes n) fits.lives ∙ t.1 in
           let used : list_any (uses x.area.0) new ≡ true = any-numbered (uses x.area.0) new n t.0 stands (ap (λ (m : ℕ). m == x.area.0) (t.2 ∙ fits.same_area) ∙ same_number x.area.0) in
           let area : area_at (settle v) x.area.0 ≡ area_at v x.area.0 =
           at_area new 0 x.area.0 v.areas ∙ ap (λ (m : ℕ). settled_area new m (area_at v x.area.0)) (let same : 0 + x.area.0 ≡ x.area.0 = omega arith in same)
@@ -259,16 +247,10 @@ module _ {B : Type 0} where
 
   beside_refers : (w v : WorldOf B) → v.processes ≡ w.processes → v.sections ≡ w.sections → v.areas ≡ w.areas → v.files ≡ w.files → References w → References v
   beside_refers w v processes sections areas files h =
-      let g : Grows w v =
-      record {
-        sections = λ n s e. (s, ap (λ (ss : Numbered SectionOf). numbered ss n) sections ∙ e, refl);
-        pages = λ area. let same : length (area_at w area).pages ≡ length (area_at v area).pages = ap (λ (as' : List (AreaOf B)). length (area_at (record w { areas = as' }) area).pages) (sym areas) in omega (arith, same);
-      } in
-      record {
-        processes = λ pid p lives. process_grows w v p g (h.processes pid p (ap (λ (ps : Numbered (ProcessOf B)). numbered ps pid) (sym processes) ∙ lives));
-        sections = λ n s e. let inside = h.sections n s (ap (λ (ss : Numbered SectionOf). numbered ss n) (sym sections) ∙ e) in omega (arith, inside, ap (λ (as' : List (AreaOf B)). length as') areas);
-        files = subst (λ (fs : List FileOf). Each (λ f. f.area < length v.areas) fs) (sym files) (subst (λ (as' : List (AreaOf B)). Each (λ (f : FileOf). f.area < length as') w.files) (sym areas) h.files);
-      }
+      let u : WorldOf B = record v { processes = w.processes; sections = w.sections; areas = w.areas; files = w.files } in
+      let g : Grows w u = record { sections = λ n s e. (s, e, refl); pages = λ area. omega arith } in
+      let kept : References u = record { processes = λ pid p lives. process_grows w u p g (h.processes pid p lives); sections = h.sections; files = h.files } in
+      subst References (λ i. record v { processes = sym processes i; sections = sym sections i; areas = sym areas i; files = sym files i }) kept
 
   no_process_refers : (w : WorldOf B) → References w → References (record w { processes = w.processes ++ Some no_regions ∷ [] })
   no_process_refers w h =
@@ -318,3 +300,91 @@ module _ {B : Type 0} (t : Terms) where
 
 pub by_guard : {B : Type 0} (w : WorldOf B) (pid : ℕ) (p : ProcessOf B) (c : Committed B) (page : ℕ) (a : Answer) → process_of w pid ≡ Some p → committed_at w p.regions page ≡ Some c → Holds (KeepsReferences w) (done a (guard_off w pid p c page))
 by_guard w pid p c page a lives committed = record { it = record { kept = references_kept (any_terms a) w _ (edits.guard_edits (any_terms a) w pid p c page lives committed) } }
+
+-- ---- the numbers that lines count stay in their ranges
+
+module _ {B : Type 0} where
+  -- a process that lives is not process 0
+  none_at_zero : (ps : Numbered (ProcessOf B)) (pid : ℕ) (p : ProcessOf B) (q : Option (ProcessOf B)) → numbered ps pid ≡ Some p → slice_get ps 0 ≡ Some None → slice_get (set ps pid q) 0 ≡ Some None
+  none_at_zero [] pid p q lives none = none
+  none_at_zero (x ∷ ps) zero p q lives none = let bad : Some x ≡ Some None = none in cc
+  none_at_zero (x ∷ ps) (suc pid) p q lives none = none
+
+  none_after_push : (ps : Numbered (ProcessOf B)) (q : Option (ProcessOf B)) → slice_get ps 0 ≡ Some None → slice_get (ps ++ q ∷ []) 0 ≡ Some None
+  none_after_push [] q none = cc
+  none_after_push (x ∷ ps) q none = none
+
+  put : (w : WorldOf B) (pid : ℕ) (p : ProcessOf B) (q : Option (ProcessOf B)) → process_of w pid ≡ Some p → NumbersFit w → NumbersFit (set_process w pid q)
+  put w pid p q lives h =
+      let few : length (set w.processes pid q) ≤ most_processes + 1 = omega (arith, h.processes, length-set w.processes pid q) in
+      assumption (few, none_at_zero w.processes pid p q lives h.no_process)
+
+module _ {B : Type 0} (t : Terms) where
+  each_number : (w v : WorldOf B) → Edit t w v → NumbersFit w → NumbersFit v
+  each_number w _ (Rest v b) h =
+      record {
+        processes = omega (arith, h.processes, ap (λ (ps : Numbered (ProcessOf B)). length ps) b.processes);
+        no_process = ap (λ (ps : Numbered (ProcessOf B)). slice_get ps 0) b.processes ∙ h.no_process;
+        kept = b.threads ∙ h.kept;
+        fails = b.fails h.fails;
+        blocks = b.blocks h.blocks;
+        slots = b.slots h.slots;
+      }
+  each_number w _ (Regions pid p rs lives e) h = put w pid p (Some (record p { regions = rs })) lives h
+  each_number w _ (HandleComes pid p number lives there) h = put w pid p _ lives h
+  each_number w _ (HandleGoes pid p i lives) h = put w pid p _ lives h
+  each_number w _ (ProcessGoes pid p lives gone charged) h = put w pid p None lives h
+  each_number w _ (ProcessComes room) h =
+      let few : length (w.processes ++ Some no_regions ∷ []) ≤ most_processes + 1 = omega (arith, length-append w.processes (Some no_regions ∷ []), leb-true (length w.processes) most_processes room) in
+      assumption (few, none_after_push w.processes (Some no_regions) h.no_process)
+  each_number w v e h = record { processes = h.processes; no_process = h.no_process; kept = h.kept; fails = h.fails; blocks = h.blocks; slots = h.slots }
+
+  pub numbers_kept : (w v : WorldOf B) → Edits t w v → NumbersFit w → NumbersFit v
+  numbers_kept = fold t NumbersFit each_number
+
+-- ---- each call and each line keeps a well-formed world well formed
+
+abbrev falling : Answer → Terms
+falling a = record { ends = λ x. true; plain = false; kept = false; stacks = false; charge = Falls }
+
+module _ {B : Type 0} where
+  together : (t : Answer → Terms) (w : WorldOf B) (o : OutcomeOf B) → Edits (t o.answer) w o.world → Holds (KeepsLimit w) o → WellFormed w → WellFormed o.world
+  together t w o es l h =
+      record { numbers = numbers_kept (t o.answer) w o.world es h.numbers; spaces = spaces_kept (t o.answer) w o.world es h.spaces; references = references_kept (t o.answer) w o.world es h.references; charged = l.it.kept h.charged }
+
+  -- ---- a call that adds no charge
+
+  by_edits : (w : WorldOf B) (o : OutcomeOf B) → Holds (Edited falling w) o → WellFormed w → WellFormed o.world
+  by_edits w o h = together falling w o h.it.edits (charges.by_edits falling w o refl h.it.edits)
+
+  pub new_file_keeps : (fill : ℕ → B) (w : WorldOf B) (name : Text) (pages byte : ℕ) → WellFormed w → WellFormed (new_file fill w name pages byte).world
+  new_file_keeps fill w name pages byte = by_edits w _ (calls.in_new_file falling fill w name pages byte)
+
+-- ---- lines
+
+pub line_keeps : (w : World) (e : Event) (before after : Report) → WellFormed w → WellFormed (step w e before after).world
+line_keeps w e before after = together (edits.line_terms e) w (step w e before after) (edits.in_step w e before after).edits (limits.in_step w e before after)
+
+pub first_spaces : (m : MachineOf) (pid : ℕ) (p : ProcessOf Page) → process_of (first_world m) pid ≡ Some p → IsSpace p.regions
+first_spaces m zero p e = cc
+first_spaces m (suc pid) p e = cc
+
+no_processes : (m : MachineOf) (pid : ℕ) (p : ProcessOf Page) → process_of (first_world m) pid ≡ Some p → ProcessRefers (first_world m) p
+no_processes m zero p e = cc
+no_processes m (suc pid) p e = cc
+
+pub spaces_keep : (w : World) (e : Event) (before after : Report) → Spaces w → Spaces (step w e before after).world
+spaces_keep w e before after = spaces_kept (edits.line_terms e (step w e before after).answer) w _ (edits.in_step w e before after).edits
+
+pub first_is : (m : MachineOf) → IsMachine m → WellFormed {B = Page} (first_world m)
+first_is m h =
+    record {
+      numbers = record { processes = omega arith; no_process = refl; kept = refl; fails = omega arith; blocks = omega arith; slots = h.most_slots };
+      spaces = first_spaces m;
+      references = record { processes = no_processes m; sections = λ n s e. cc; files = tt };
+      charged = omega arith;
+    }
+
+pub reached_is : (m : MachineOf) (w : World) → IsMachine m → Reached m w → WellFormed w
+reached_is m w h First = first_is m h
+reached_is m w h (Next t e before after r) = line_keeps t e before after (reached_is m t h r)

@@ -14,12 +14,11 @@ use Rattle.mm_world.specs.{unwritten, WorldOf, ProcessOf, RegionOf, Numbered, nu
 use Rattle.mm_world.specs.{add_region, ranges_of, is_private, OutcomeOf, done, is_one_of, is_protection_among, private_protections, reserved_row}
 use Rattle.mm_world.specs.{commit, private_region, new_row, are_alloc_parameters, alloc_types, free, no_regions, FlagsFit, RowFits, RowsFit, IsSpace}
 use Rattle.mm_world.specs.{Spaces}
-use Rattle.mm_world.proofs.Tables.{Holds}
+use Rattle.mm_world.proofs.Tables.{Holds, met}
 use Rattle.mm_world.proofs.Edits.{Terms, RegionEdit, RegionComes, RegionGoes, RegionChanges, Edit, Rest, Regions, HandleComes, HandleGoes, ProcessComes, ProcessGoes, Edits, fold}
 use Rattle.mm_world.proofs.Finding.{numbered_inside}
-use Rattle.mm_world.proofs.Each.{each-insert, each-remove, each-set, each-at}
-use Rattle.mm_world.proofs.LaidOut.{laid_add, laid_remove, laid_set, and-true, less, IsPlaced, PlacedAt}
-use Rattle.mm_world.proofs.RowsFit.{reserved_fits, commit_fits, length-change_range}
+use Rattle.mm_world.proofs.RowsFit.{each-insert, each-remove, each-set, each-at, reserved_fits, commit_fits, length-change_range}
+use Rattle.mm_world.proofs.Regions.{laid_add, laid_remove, laid_set, and-true, less, IsPlaced, PlacedAt}
 
 -- what stands in a place after a write
 pub after_set : {A : Type 0} (xs : List (Option A)) (i j : ℕ) (x : Option A) (y : A) → i < length xs → get_or (set xs i x) j None ≡ Some y → ((x ≡ Some y) × (j ≡ i)) ⊎ (get_or xs j None ≡ Some y)
@@ -81,15 +80,13 @@ module _ {B : Type 0} where
 
   pub by_process : (w : WorldOf B) (pid : ℕ) (p q : ProcessOf B) (a : Answer) → process_of w pid ≡ Some p → (IsSpace p.regions → IsSpace q.regions) → Holds (KeepsSpaces w) (done a (set_process w pid (Some q)))
   by_process w pid p q a lives keeps =
-      record {
-        it = record {
-          kept = λ h j r e.
-              elim (after_set w.processes pid j (Some q) r (numbered_inside w.processes pid p lives) e) [
-                | inl is ↦ (let same : q ≡ r = cc in subst (λ (r : ProcessOf B). IsSpace r.regions) same (keeps (h pid p lives)))
-                | inr other ↦ h j r other
-              ];
-        };
-      }
+      met (record {
+        kept = λ h j r e.
+            elim (after_set w.processes pid j (Some q) r (numbered_inside w.processes pid p lives) e) [
+              | inl is ↦ (let same : q ≡ r = cc in subst (λ (r : ProcessOf B). IsSpace r.regions) same (keeps (h pid p lives)))
+              | inr other ↦ h j r other
+            ];
+      })
 
   pub by_regions : (w : WorldOf B) (pid : ℕ) (p : ProcessOf B) (rs : List (RegionOf B)) (a : Answer) → process_of w pid ≡ Some p → (IsSpace p.regions → IsSpace rs) → Holds (KeepsSpaces w) (done a (set_regions w pid p rs))
   by_regions w pid p rs a lives keeps = by_process w pid p (record p { regions = rs }) a lives keeps
@@ -115,11 +112,8 @@ module _ {B : Type 0} where
       }
 
   pub new_row_fits : (fill : ℕ → B) (type prot : ℕ) → is_one_of private_protections (base_of prot) ≡ true → RowFits kind.Private (new_row fill type prot)
-  new_row_fits fill type prot e = by_type (type == reserve_type)
-    where
-      by_type : (b : Bool) → RowFits kind.Private (cond b reserved_row (commit (fill 0) prot reserved_row))
-      by_type true = reserved_fits
-      by_type false = commit_fits (fill 0) prot reserved_row e
+  new_row_fits fill type prot e =
+      elim (type == reserve_type) as (λ b. RowFits kind.Private (cond b reserved_row (commit (fill 0) prot reserved_row))) [ true ↦ reserved_fits | false ↦ commit_fits (fill 0) prot reserved_row e ]
 
   pub private_flags : (fill : ℕ → B) (watched : Bool) (type prot : ℕ) (range : Range) → FlagsFit (private_region fill watched type prot range)
   private_flags fill true type prot range = (length-replicate range.count false ∙ sym (length-replicate range.count (new_row fill type prot)), refl)

@@ -13,6 +13,9 @@ pub record Holds {B : Type 0} (P : OutcomeOf B → Type 0) (o : OutcomeOf B) : T
   pub it : P o
 
 module _ {B : Type 0} {P : OutcomeOf B → Type 0} where
+  pub met : {o : OutcomeOf B} → P o → Holds P o
+  met h = record { it = h }
+
   pub at_need : (w : WorldOf B) (why : Code) (b : Bool) (o : OutcomeOf B) → Holds P (refused w why) → (b ≡ true → Holds P o) → Holds P (need w why b o)
   at_need w why true o refuse go = go refl
   at_need w why false o refuse go = refuse

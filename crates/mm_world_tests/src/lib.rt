@@ -1,12 +1,12 @@
 //! Rows over worlds whose pages stay in memory, in a crate of their own, so that `mm_core` is
-//! proved once.
+//! proved once; and how a row's lines are gone through, which `mm_state_tests` does too.
 #![tactic(auto)]
 
-#[cfg(test)]
-mod bits;
+mod lines;
+
+pub use lines::{Stopped, opened, read_line};
+
 #[cfg(test)]
 mod gaps;
 #[cfg(test)]
 mod rows;
-#[cfg(test)]
-mod script;

@@ -54,31 +54,6 @@ pub fn write(fields: &mut Fields, event: &mut Event) -> Result<(), LineFault>
     Ok(())
 }
 
-/// `exec <pid> <addr>`
-#[tactic(auto, unfolding(crate::specs::Reading::line_of))]
-pub fn exec(fields: &mut Fields, event: &mut Event) -> Result<(), LineFault>
-    requires { fields.old.number ≡ 2 }
-    ensures { IsPut result event.old event.new (line_of keyword.Exec fields.old) }
-{
-    let pid = fields.pid()?;
-    let addr = fields.number()?;
-    fields.end()?;
-    *event = Event::Exec { pid, addr };
-    Ok(())
-}
-
-/// `resume <tid>`
-#[tactic(auto, unfolding(crate::specs::Reading::line_of))]
-pub fn resume(fields: &mut Fields, event: &mut Event) -> Result<(), LineFault>
-    requires { fields.old.number ≡ 2 }
-    ensures { IsPut result event.old event.new (line_of keyword.Resume fields.old) }
-{
-    let tid = fields.tid()?;
-    fields.end()?;
-    *event = Event::Resume { tid };
-    Ok(())
-}
-
 /// `begin <tid> <pid> read <addr> <len>`, `begin <tid> <pid> write <addr> <bytes>`
 #[tactic(auto, unfolding(crate::specs::Reading::line_of))]
 pub fn begin(fields: &mut Fields, event: &mut Event) -> Result<(), LineFault>

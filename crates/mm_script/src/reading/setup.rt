@@ -41,18 +41,6 @@ pub fn process(fields: &mut Fields, event: &mut Event) -> Result<(), LineFault>
     Ok(())
 }
 
-/// `exit <pid>`
-#[tactic(auto, unfolding(crate::specs::Reading::line_of))]
-pub fn exit(fields: &mut Fields, event: &mut Event) -> Result<(), LineFault>
-    requires { fields.old.number ≡ 2 }
-    ensures { IsPut result event.old event.new (line_of keyword.Exit fields.old) }
-{
-    let pid = fields.pid()?;
-    fields.end()?;
-    *event = Event::Exit { pid };
-    Ok(())
-}
-
 /// `file <name> <pages> <byte>`
 #[tactic(auto, unfolding(crate::specs::Reading::line_of))]
 pub fn file(fields: &mut Fields, event: &mut Event) -> Result<(), LineFault>
@@ -64,18 +52,6 @@ pub fn file(fields: &mut Fields, event: &mut Event) -> Result<(), LineFault>
     let byte = fields.byte()?;
     fields.end()?;
     *event = Event::File { name, pages, byte };
-    Ok(())
-}
-
-/// `grow <n>`
-#[tactic(auto, unfolding(crate::specs::Reading::line_of))]
-pub fn grow(fields: &mut Fields, event: &mut Event) -> Result<(), LineFault>
-    requires { fields.old.number ≡ 2 }
-    ensures { IsPut result event.old event.new (line_of keyword.Grow fields.old) }
-{
-    let n = fields.number_in(1, 262_144)?;
-    fields.end()?;
-    *event = Event::Grow { slots: n };
     Ok(())
 }
 
@@ -96,5 +72,58 @@ pub fn fail(fields: &mut Fields, event: &mut Event) -> Result<(), LineFault>
         nth: k,
         count: n,
     };
+    Ok(())
+}
+
+/// `create <pid> <size> <flags> <name|->`
+#[tactic(auto, unfolding(crate::specs::Reading::line_of))]
+pub fn create(fields: &mut Fields, event: &mut Event) -> Result<(), LineFault>
+    requires { fields.old.number ≡ 2 }
+    ensures { IsPut result event.old event.new (line_of keyword.Create fields.old) }
+{
+    let pid = fields.pid()?;
+    let size = fields.number()?;
+    let flags = fields.number()?;
+    let name = fields.name_or_dash()?;
+    fields.end()?;
+    *event = Event::Create {
+        pid,
+        size,
+        flags,
+        name,
+    };
+    Ok(())
+}
+
+/// `createfile <pid> <file name> <flags> <name|->`
+#[tactic(auto, unfolding(crate::specs::Reading::line_of))]
+pub fn create_file(fields: &mut Fields, event: &mut Event) -> Result<(), LineFault>
+    requires { fields.old.number ≡ 2 }
+    ensures { IsPut result event.old event.new (line_of keyword.CreateFile fields.old) }
+{
+    let pid = fields.pid()?;
+    let file = fields.name()?;
+    let flags = fields.number()?;
+    let name = fields.name_or_dash()?;
+    fields.end()?;
+    *event = Event::CreateFile {
+        pid,
+        file,
+        flags,
+        name,
+    };
+    Ok(())
+}
+
+/// `open <pid> <name>`
+#[tactic(auto, unfolding(crate::specs::Reading::line_of))]
+pub fn open(fields: &mut Fields, event: &mut Event) -> Result<(), LineFault>
+    requires { fields.old.number ≡ 2 }
+    ensures { IsPut result event.old event.new (line_of keyword.Open fields.old) }
+{
+    let pid = fields.pid()?;
+    let name = fields.name()?;
+    fields.end()?;
+    *event = Event::Open { pid, name };
     Ok(())
 }

@@ -2,11 +2,11 @@ use Rattle.std.proofs.Common.{◌≡◌, ◌≤◌, ◌-◌, ◌∙◌, sym, ap,
 use Rattle.std.specs.Prelude.{◌==◌, option_map}
 use Rattle.mm_types.specs.{Range, lies_within, page_of, range_of}
 use Rattle.mm_pages.specs.{Flushes, PassesIn}
-use Rattle.mm_calls.proofs.FlushMoves.{flushes_none}
-use Rattle.mm_calls.proofs.FlushKeys.{no_process, no_view, flushed_are, flushed_count_is}
+use Rattle.mm_calls.proofs.Flushing.{flushes_none}
+use Rattle.mm_calls.proofs.Flushing.{no_process, no_view, flushed_are, flushed_count_is}
 use Rattle.mm_world.specs.{ProcessOf, RegionOf, pages_of, process_of, is_private, area_at, view_around, flushed_view}
 use Rattle.mm_spaces.specs.{RegionInfo, found_info}
-use Rattle.mm_calls.proofs.Placing.{TellsView, tells_view, told_view, told_none, flushed_within}
+use Rattle.mm_calls.proofs.{FindsView, finds_view, told_view, told_none, flushed_within}
 use Rattle.mm_calls.proofs.files.flush_view.Given as given
 use Rattle.mm_calls.proofs.files.flush_view.Goals as goal
 use Rattle.mm_calls.proofs.files.flush_view.Goals.{After-view_of-view}
@@ -16,7 +16,7 @@ use Rattle.mm_types.proofs.{some_found}
 record Told (g : given.Over) (c : After-view_of-view g) : Type 0 where
   process : ProcessOf (Unit {0})
   lives : process_of c.args.t.now c.args.pid.0 ≡ Some process
-  view : TellsView c.args.t.now process.regions c.meant_range-meant.result c.in-Some.region c.view_of-view.result
+  view : FindsView c.args.t.now process.regions c.meant_range-meant.result c.in-Some.region c.view_of-view.result
 
 told : (g : given.Over) (c : After-view_of-view g) → Told g c
 told g c =
@@ -24,7 +24,7 @@ told g c =
     record {
       process = p.0;
       lives = p.1;
-      view = tells_view c.args.t.now c.args.pid.0 p.0 c.meant_range-meant.result c.in-Some.region c.view_of-view.result p.1 c.sound.ensures.sound
+      view = finds_view c.args.t.now c.args.pid.0 p.0 c.meant_range-meant.result c.in-Some.region c.view_of-view.result p.1 c.sound.ensures.sound
           (ap (λ rs. option_map found_info (view_around rs c.meant_range-meant.result)) (sym (c.space.ensures p.0 p.1)) ∙ sym c.view_around.ensures.found ∙ c.in-Some.is)
           (sym (ap (λ (i : RegionInfo). i.kind) c.region.view_is) ∙ c.view_of-view.ensures.view);
     }

@@ -1,7 +1,7 @@
 use Rattle.std.proofs.Common.{rules, ◌≡◌, ◌+◌, ◌∙◌, sym, ap, subst, cond, is_some, false, Some, []}
 use Rattle.mm_pages.specs.{Flushes, PassesIn}
 use Rattle.mm_calls.specs.{keys_from}
-use Rattle.mm_calls.proofs.FlushMoves.{flushes_none}
+use Rattle.mm_calls.proofs.Flushing.{flushes_none}
 use Rattle.mm_world.specs.{AreaOf, area_at}
 use Rattle.mm_calls.proofs.Flushing.{in_blocks, answers_flushed, block_told, block_none}
 use Rattle.mm_calls.proofs.files.flush_view_pages.Given as given

@@ -1,5 +1,5 @@
 use Rattle.std.proofs.Common.{rules}
-use Rattle.mm_calls.proofs.NewFiles.{with_file_bytes}
+use Rattle.mm_calls.proofs.Named.{with_file_bytes}
 use Rattle.mm_calls.proofs.files.new_file.Goals as goal
 
 pub returns-in-Ok-clause-done : goal.returns-in-Ok-clause-done

@@ -2,7 +2,8 @@ use Rattle.std.proofs.Common.{◌≡◌, ◌≤◌, ◌+◌, true, false, refl, 
 use Rattle.mm_types.specs.{page_of}
 use Rattle.mm_world.specs.{StackOf, process_of}
 use Rattle.mm_tables.specs.{committed_row}
-use Rattle.mm_calls.proofs.{not_next, MeetsGuard, settled_then, takes_off, of_other, of_overflow, of_growth, grows_here, answers, makes_none}
+use Rattle.mm_calls.proofs.{not_next, MeetsGuard, settled_then, takes_off, of_other, of_overflow, of_growth, grows_here, answers, makes_as}
+use Rattle.mm_calls.proofs.{makes_none}
 use Rattle.mm_tables.proofs.{settled_same}
 use Rattle.mm_calls.proofs.probes.probe.Given as given
 use Rattle.mm_calls.proofs.probes.probe.Goals as goal
@@ -71,6 +72,12 @@ returns-clause-done g c =
     (of_growth c.args.t.now c.args.tid.0 c.args.addr c.in-Some.stack _ m.guard m.here (λ p lives. sym (c.is_overflow.ensures p lives) ∙ c.if-is_overflow.false)
     c.grow.new.t c.lower.new.t c.in_ok-grow.ensures.ok c.lower.ensures.lowered c.lower.result c.lower.ensures.answer)
 
+pub returns-in_err-grow-clause-makes : goal.returns-in_err-grow-clause-makes
+returns-in_err-grow-clause-makes g c = makes_as g.G.Pages _ c.grow.ensures.makes (on_err c.from_residual.result c.in_err-grow.ensures.makes.idle)
+
+pub returns-clause-makes : goal.returns-clause-makes
+returns-clause-makes g c = makes_as g.G.Pages _ c.grow.ensures.makes tt
+
 pub returns-in-None-clause-makes : goal.returns-in-None-clause-makes
 returns-in-None-clause-makes g c = makes_none g.G.Pages _ c.args.g.now
 
@@ -91,17 +98,3 @@ returns-then-page-stack-clause-makes g c = makes_none g.G.Pages _ c.args.g.now
 
 pub returns-then-is_overflow-clause-makes : goal.returns-then-is_overflow-clause-makes
 returns-then-is_overflow-clause-makes g c = makes_none g.G.Pages _ c.args.g.now
-
-pub returns-in_err-grow-clause-makes : goal.returns-in_err-grow-clause-makes
-returns-in_err-grow-clause-makes g c = record {
-  passes = c.grow.ensures.makes.passes;
-  idle = on_err c.from_residual.result c.in_err-grow.ensures.makes.idle;
-  loans = c.grow.ensures.makes.loans;
-}
-
-pub returns-clause-makes : goal.returns-clause-makes
-returns-clause-makes g c = record {
-  passes = c.grow.ensures.makes.passes;
-  idle = tt;
-  loans = c.grow.ensures.makes.loans;
-}

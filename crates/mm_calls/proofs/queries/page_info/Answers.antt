@@ -5,7 +5,7 @@ use Rattle.mm_world.proofs.{found_stands}
 use Rattle.mm_spaces.specs.{PageInfo, IfTold, IfInView, LiesInView}
 use Rattle.mm_calls.proofs.{in_section}
 use Rattle.mm_calls.proofs.queries.page_info.Goals as goal
-use Rattle.mm_types.proofs.{some_found}
+use Rattle.mm_types.proofs.{some_found, same_found}
 
 pub area-requires : goal.area-requires
 area-requires c =
@@ -26,9 +26,7 @@ view_info-requires-clause-inside c =
 pub view_info-requires-clause-view : goal.view_info-requires-clause-view
 view_info-requires-clause-view c r e =
     let told = subst (λ (i : PageInfo). IfInView i (LiesInView c.space-space.result.now.regions c.args.page)) c.in-InView.is c.info.ensures.view in
-    let both : Some told.region ≡ Some r = sym told.there ∙ e in
-    let same : told.region ≡ r = cc in
-    ap (λ (f : Found (RegionOf (Unit {0}))). is_private f.thing.kind) (sym same) ∙ ap is_private told.kind_is
+    ap (λ (f : Found (RegionOf (Unit {0}))). is_private f.thing.kind) (sym (same_found _ told.region r told.there e)) ∙ ap is_private told.kind_is
 
 pub returns-in-Told : goal.returns-in-Told
 returns-in-Told c p lives =

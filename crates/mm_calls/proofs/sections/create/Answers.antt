@@ -1,14 +1,15 @@
-use Rattle.std.proofs.Common.{◌∙◌, sym, refl}
+use Rattle.std.proofs.Common.{◌∙◌, sym}
 use Rattle.mm_world.specs.{process_of}
-use Rattle.mm_pages.proofs.{turns_same}
-use Rattle.mm_pages.specs.{Makes}
 use Rattle.mm_calls.proofs.Named.{maybe_lives, maybe_told, created_existing}
 use Rattle.mm_calls.proofs.{answers-if, makes_none}
 use Rattle.mm_calls.proofs.sections.create.Goals as goal
-use Rattle.mm_types.proofs.{some_found, on_err}
+use Rattle.mm_types.proofs.{some_found}
 
 pub add_existing-requires-clause-section : goal.add_existing-requires-clause-section
 add_existing-requires-clause-section g c = maybe_lives c.args.t.now c.args.name c.in-Some.id (sym c.section_with.ensures ∙ c.in-Some.is)
+
+pub returns-in-Some-clause-makes : goal.returns-in-Some-clause-makes
+returns-in-Some-clause-makes g c = makes_none g.G.Pages _ c.args.g.now
 
 pub returns-in-Some-clause-done : goal.returns-in-Some-clause-done
 returns-in-Some-clause-done g c =
@@ -27,10 +28,3 @@ returns-then-not-has-clause-makes g c = makes_none g.G.Pages _ c.args.g.now
 
 pub returns-then-not-are_section_parameters-clause-makes : goal.returns-then-not-are_section_parameters-clause-makes
 returns-then-not-are_section_parameters-clause-makes g c = makes_none g.G.Pages _ c.args.g.now
-
-pub returns-in-Some-clause-makes : goal.returns-in-Some-clause-makes
-returns-in-Some-clause-makes g c = record {
-  passes = turns_same g.G.Pages.unpaged Makes (g.G.Pages.store c.args.g.now) (g.G.Pages.behind c.args.g.now);
-  idle = on_err c.add_existing.result (λ turn. turns_same g.G.Pages.unpaged turn (g.G.Pages.store c.args.g.now) (g.G.Pages.behind c.args.g.now));
-  loans = refl;
-}

@@ -2,7 +2,7 @@ use Rattle.std.proofs.Common.{◌∙◌, sym}
 use Rattle.std.specs.Prelude.{◌==◌}
 use Rattle.mm_types.specs.{address_of}
 use Rattle.mm_world.specs.{RegionOf}
-use Rattle.mm_calls.proofs.Placing.{told_view}
+use Rattle.mm_calls.proofs.{told_view}
 use Rattle.mm_calls.proofs.views.unmap.Goals as goal
 
 pub view_of-view-requires : goal.view_of-view-requires

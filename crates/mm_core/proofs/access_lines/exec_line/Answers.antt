@@ -1,4 +1,4 @@
-use Rattle.std.proofs.Common.{true, refl, sym}
+use Rattle.std.proofs.Common.{refl}
 use Rattle.mm_world.specs.{Execute}
 use Rattle.mm_core.proofs.{line-made}
 use Rattle.mm_core.proofs.access_lines.exec_line.Goals as goal
@@ -12,5 +12,4 @@ execute_at-requires g c = record { can = c.in-Some.ensures.entered.can _ }
 pub returns-clause-done : goal.returns-clause-done
 returns-clause-done g c =
     let began = c.in-Some.ensures.entered in
-    line-made g.G.Pages c.args.pid c.args.addr Execute c.args.line c.args.t.now c.args.g.now c.enter.new.g began.starts true (sym began.lives) began.passes
-    c.enter.new.t began.same _ c.execute_at.new.answer _ c.execute_at.new.g c.execute_at.ensures.done
+    line-made g.G.Pages c.args.pid c.args.addr Execute began.on began.same c.execute_at.ensures.done

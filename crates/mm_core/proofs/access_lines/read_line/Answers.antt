@@ -1,4 +1,4 @@
-use Rattle.std.proofs.Common.{true, refl, sym}
+use Rattle.std.proofs.Common.{refl}
 use Rattle.mm_world.specs.{ReadOf}
 use Rattle.mm_core.proofs.{line-made}
 use Rattle.mm_core.proofs.access_lines.read_line.Goals as goal
@@ -12,5 +12,4 @@ read_at-requires-clause-can g c = c.in-Some.ensures.entered.can _
 pub returns-clause-done : goal.returns-clause-done
 returns-clause-done g c =
     let began = c.in-Some.ensures.entered in
-    line-made g.G.Pages c.args.pid c.args.addr (ReadOf c.args.len) c.args.line c.args.t.now c.args.g.now c.enter.new.g began.starts true (sym began.lives) began.passes
-    c.enter.new.t began.same _ c.read_at.new.answer _ c.read_at.new.g c.read_at.ensures.done
+    line-made g.G.Pages c.args.pid c.args.addr (ReadOf c.args.len) began.on began.same c.read_at.ensures.done

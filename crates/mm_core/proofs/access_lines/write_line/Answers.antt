@@ -1,4 +1,4 @@
-use Rattle.std.proofs.Common.{true, refl, sym}
+use Rattle.std.proofs.Common.{refl}
 use Rattle.mm_world.specs.{WriteOf}
 use Rattle.mm_core.proofs.{line-made}
 use Rattle.mm_core.proofs.access_lines.write_line.Goals as goal
@@ -12,5 +12,4 @@ write_row-requires-clause-can g c = c.in-Some.ensures.entered.can _
 pub returns-clause-done : goal.returns-clause-done
 returns-clause-done g c =
     let began = c.in-Some.ensures.entered in
-    line-made g.G.Pages c.args.pid c.args.addr (WriteOf c.args.bytes.now) c.args.line c.args.t.now c.args.g.now c.enter.new.g began.starts true (sym began.lives) began.passes
-    c.enter.new.t began.same _ c.write_row.new.answer _ c.write_row.new.g c.write_row.ensures.done
+    line-made g.G.Pages c.args.pid c.args.addr (WriteOf c.args.bytes.now) began.on began.same c.write_row.ensures.done

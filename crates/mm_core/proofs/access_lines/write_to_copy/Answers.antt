@@ -33,11 +33,7 @@ returns-in-Ok-clause-done g c =
 
 pub returns-in-Err-clause-done : goal.returns-in-Err-clause-done
 returns-in-Err-clause-done g c =
-    let t = c.args.t.now in
     let old = key_bytes (g.G.Pages.contents c.args.g.now) in
-    let can = c.requires.can in
-    let call = c.put_copy in
-    let kept = c.in-Err.ensures.kept in
-    access-lost g.G.Pages t c.args.pid c.args.addr (WriteOf c.args.bytes.now) call.result (copying c.args.row.key (place_at c.args.pid (page_of c.args.addr))) (copy-needs t old c.args.pid.0 c.args.addr c.args.bytes.now c.args.row can.admitted c.requires.copies) call.ensures.ends call.ensures.copied (copies_tell _ _ _)
-    call.new.t call.ensures.copied.fits (subst (λ (v : Tables). MadeAtMost (g.G.Pages.store c.args.g.now).line v) (sym kept.0) can.keeps.few) c.in-Err.field-0 c.in-Err.is
-    (λ i. world_with (kept.0 i) (key_bytes (kept.1 i)))
+    access-lost g.G.Pages c.args.t.now c.args.pid c.args.addr (WriteOf c.args.bytes.now) c.put_copy.result (copying c.args.row.key (place_at c.args.pid (page_of c.args.addr))) (copy-needs c.args.t.now old c.args.pid.0 c.args.addr c.args.bytes.now c.args.row c.requires.can.admitted c.requires.copies) c.put_copy.ensures.ends c.put_copy.ensures.copied (copies_tell _ _ _)
+    c.put_copy.new.t c.put_copy.ensures.copied.fits (subst (λ (v : Tables). MadeAtMost (g.G.Pages.store c.args.g.now).line v) (sym c.in-Err.ensures.kept.0) c.requires.can.keeps.few) c.in-Err.field-0 c.in-Err.is
+    (λ i. world_with (c.in-Err.ensures.kept.0 i) (key_bytes (c.in-Err.ensures.kept.1 i)))

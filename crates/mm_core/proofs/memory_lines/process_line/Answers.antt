@@ -17,23 +17,23 @@ pub returns-in-None : goal.returns-in-None
 returns-in-None g c =
     let t = c.args.t.now in
     let old = g.G.Pages.contents c.args.g.now in
-    let new = g.G.Pages.contents c.begin.new.g in
-    let m = g.G.Pages.store c.begin.new.g in
-    let fits = c.begin.ensures.fits t c.requires.next.keeps.fits in
+    let new = g.G.Pages.contents c.begin_call.new.g in
+    let m = g.G.Pages.store c.begin_call.new.g in
+    let fits = c.begin_call.ensures.keeps.fits in
     record {
       done = record {
         decided = decided-call g.G.Pages.unpaged (event.Process c.args.min c.args.max) c.args.line t old _ m answer.Full t new m
-            (new_process t) c.requires.next.keeps c.requires.next.line_is c.begin.ensures.starts.begins (quiet-same _ _ refl)
+            (new_process t) c.requires.next.keeps c.requires.next.line_is c.begin_call.ensures.starts.begins (quiet-same _ _ refl)
             (new_process_across t (key_bytes old) c.sound.ensures.sound.spaces) (in_new_process t) refl tt tt
-            (subst (λ (old : Key → Option Page). Called (new_process t) t old answer.Full t new) c.begin.ensures.starts.contents
+            (subst (λ (old : Key → Option Page). Called (new_process t) t old answer.Full t new) c.begin_call.ensures.starts.contents
             (record { outcome = full-process t (none-if _ _ c.next_pid.result c.in-None.is c.next_pid.ensures); bytes = bytes-kept t t new fits.live fits.live })) fits;
-        marked = marked_alone c.args.line kind.Call (event.Process c.args.min c.args.max) (world_with c.args.t.now (key_bytes (g.G.Pages.contents c.args.g.now))) answer.Full (world_with c.args.t.now (key_bytes (g.G.Pages.contents c.begin.new.g))) g.G.Pages.unpaged
-            (g.G.Pages.store c.args.g.now) (g.G.Pages.store c.begin.new.g) (g.G.Pages.behind c.args.g.now) (g.G.Pages.behind c.begin.new.g)
-            (record { ages = λ ms. refl; waits = λ ws l. refl }) refl c.begin.ensures.passes;
+        marked = marked_alone c.args.line kind.Call (event.Process c.args.min c.args.max) (world_with c.args.t.now (key_bytes (g.G.Pages.contents c.args.g.now))) answer.Full (world_with c.args.t.now (key_bytes (g.G.Pages.contents c.begin_call.new.g))) g.G.Pages.unpaged
+            (g.G.Pages.store c.args.g.now) (g.G.Pages.store c.begin_call.new.g) (g.G.Pages.behind c.args.g.now) (g.G.Pages.behind c.begin_call.new.g)
+            (record { ages = λ ms. refl; waits = λ ws l. refl }) refl c.begin_call.ensures.starts.passes;
       };
       broke = tt;
       no_memory = λ none. refl;
-      loans = c.begin.ensures.starts.loans;
+      loans = c.begin_call.ensures.starts.loans;
     }
 
 pub new_process-requires : goal.new_process-requires

@@ -17,5 +17,5 @@ returns-clause-done g c =
       decided = search rules;
       marked = marked_exactly c.args.line kind.Zeroer (event.Zeroer c.args.n) (world_with c.args.t.now (key_bytes (g.G.Pages.contents c.args.g.now))) answer.Ok (world_with c.args.t.now (key_bytes (g.G.Pages.contents c.zero.new.self))) g.G.Pages.unpaged
           (g.G.Pages.store c.args.g.now) (g.G.Pages.store c.begin.new.g) (g.G.Pages.store c.zero.new.self) (g.G.Pages.behind c.args.g.now) (g.G.Pages.behind c.begin.new.g) (g.G.Pages.behind c.zero.new.self)
-          (record { ages = λ ms. refl; waits = λ ws l. refl }) (λ (x : Behind). clearings c.args.n x.life) (λ log. clearings_keep c.args.n (with_line (move.At c.args.line kind.Zeroer) (g.G.Pages.behind c.args.g.now)).life) (λ ms log h. h) c.begin.ensures.passes c.zero.ensures.passes;
+          (record { ages = λ ms. refl; waits = λ ws l. refl }) (λ (x : Behind). clearings c.args.n x.life) (λ log. clearings_keep c.args.n (with_line (move.At c.args.line kind.Zeroer) (g.G.Pages.behind c.args.g.now)).life) (λ ms log h. h) c.begin.ensures.starts.passes c.zero.ensures.passes;
     }

@@ -21,10 +21,9 @@ returns-then-row-clause-refused c =
     let t = c.args.t.now in
     let l = lives-by t c.args.pid.0 c.requires.lives in
     let r = row-told t c.args.pid.0 (page_of c.args.addr) l.process c.in-Some.row c.committed_row.result l.lives c.in-Some.is c.committed_row.ensures in
-    let off = c.alarm.ensures.off l.process r.committed l.lives r.there in
     λ bytes what is.
     subst (λ (why : Raise). Refuses (world_with t bytes) c.args.pid.0 c.args.addr what (answer.Raised why) (world_with c.alarm.new.t bytes)) (sym c.alarm.ensures.raised)
-    (subst (λ (v : Tables). Refuses (world_with t bytes) c.args.pid.0 c.args.addr what (answer.Raised raise.GuardPage) (world_with v bytes)) (sym off)
+    (subst (λ (v : Tables). Refuses (world_with t bytes) c.args.pid.0 c.args.addr what (answer.Raised raise.GuardPage) (world_with v bytes)) (sym (c.alarm.ensures.off l.process r.committed l.lives r.there))
     (accesses.guarded t bytes c.args.pid.0 c.args.addr what l.process l.lives r.committed r.there (ap (λ (x : CommittedRow). x.guard) r.is ∙ c.if-row.true)))
 
 pub returns-then-row-clause-keeps : goal.returns-then-row-clause-keeps
@@ -32,11 +31,10 @@ returns-then-row-clause-keeps c =
     let t = c.args.t.now in
     let l = lives-by t c.args.pid.0 c.requires.lives in
     let r = row-told t c.args.pid.0 (page_of c.args.addr) l.process c.in-Some.row c.committed_row.result l.lives c.in-Some.is c.committed_row.ensures in
-    let off = c.alarm.ensures.off l.process r.committed l.lives r.there in
     λ contents s k.
     record {
       fits = c.alarm.ensures.fits contents s k.fits;
-      few = subst (λ (v : Tables). MadeAtMost s.line v) (sym off) (made-set_row t s.line c.args.pid.0 (page_of c.args.addr) l.process r.committed.region (record r.committed.row { guard = false }) l.lives k.few);
+      few = subst (λ (v : Tables). MadeAtMost s.line v) (sym (c.alarm.ensures.off l.process r.committed l.lives r.there)) (made-set_row t s.line c.args.pid.0 (page_of c.args.addr) l.process r.committed.region (record r.committed.row { guard = false }) l.lives k.few);
     }
 
 pub returns-then-not-permits-clause-refused : goal.returns-then-not-permits-clause-refused

@@ -1,5 +1,4 @@
-use Rattle.std.proofs.Common.{rules}
-use Rattle.std.proofs.Common.{ap, ◌∙◌}
+use Rattle.std.proofs.Common.{rules, ap, ◌∙◌}
 use Rattle.mm_life.specs.{touches}
 use Rattle.mm_moving.specs.{StateOf}
 use Rattle.mm_paged.proofs.{room_then, readied_life, still_dead, page_access, fails_to_hold, ok_copies, err_copies}
@@ -25,9 +24,7 @@ pub returns-clause-ok : goal.returns-clause-ok
 returns-clause-ok g c = ok_copies _ c.args.from _ c.args.place _ _ c.in_ok-f.ensures.readied (g.met.T.Moving.holds c.hold_shared.new.state) c.requires.may.dead _ c.copy_held.ensures.went c.copy_held.ensures.copied
 
 pub returns-clause-err : goal.returns-clause-err
-returns-clause-err g c = err_copies _ c.args.from _ c.args.place _ _ c.in_ok-f.ensures.readied (g.met.T.Moving.holds c.hold_shared.new.state) c.requires.may.dead _ c.copy_held.ensures.err c.copy_held.ensures.spares
+returns-clause-err g c = err_copies _ c.args.from _ c.args.place _ _ c.in_ok-f.ensures.readied (g.met.T.Moving.holds c.hold_shared.new.state) c.requires.may.dead _ c.copy_held.ensures.err
 
 pub returns-in_err-f-clause-err : goal.returns-in_err-f-clause-err
-returns-in_err-f-clause-err g c =
-    let lost = fails_to_hold c.args.from c.args.place c.in_err-f.field-0.0 (g.T.Moving.shown c.args.state.now) (g.T.Moving.shown c.hold_shared.new.state) c.in_err-f.ensures.stuck c.in_err-f.ensures.free c.in_err-f.ensures.fails in
-    search (rules, lost)
+returns-in_err-f-clause-err g c = let lost = fails_to_hold c.args.from c.args.place c.in_err-f.field-0.0 (g.T.Moving.shown c.args.state.now) (g.T.Moving.shown c.hold_shared.new.state) c.in_err-f.ensures.free c.in_err-f.ensures.err in search (rules, lost)

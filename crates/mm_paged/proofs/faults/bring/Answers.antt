@@ -1,12 +1,5 @@
 use Rattle.std.proofs.Common.{rules}
-use Rattle.mm_paged.proofs.{ok_brings_settled, err_brings_settled}
 use Rattle.mm_paged.proofs.faults.bring.Goals as goal
-
-pub returns-in-Frame-clause-ok : goal.returns-in-Frame-clause-ok
-returns-in-Frame-clause-ok g c = ok_brings_settled _ c.args.key _ _ c.settle.ensures.keeps c.settle.ensures.ok
-
-pub returns-in-Frame-clause-err : goal.returns-in-Frame-clause-err
-returns-in-Frame-clause-err g c = err_brings_settled _ c.args.key _ _ c.settle.ensures.err
 
 pub stands-requires : goal.stands-requires
 stands-requires g c = (g.met.T.Moving.holds c.args.state.now).home c.args.key c.requires.live

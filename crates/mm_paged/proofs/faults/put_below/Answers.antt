@@ -13,6 +13,7 @@ map-requires-clause-alone g c = may_map c.args.key c.args.f c.args.place (g.T.Mo
 pub returns-clause-puts : goal.returns-clause-puts
 returns-clause-puts g c = record {
   stored = (ap (λ (x : StateOf). x.slots) c.map.ensures.rest, ap (λ (x : StateOf). x.blocks) c.map.ensures.rest);
-  placed = placed_by c.args.key c.args.f c.args.place _ _ (g.met.T.Moving.holds c.args.state.now) c.requires.frame c.requires.usable.aside c.map.ensures.made c.map.ensures.rest;
+  placed = placed_by c.args.key c.args.f c.args.place _ _ (g.met.T.Moving.holds c.args.state.now) c.requires.frame c.requires.usable.aside c.map.ensures.made c.map.ensures.rest c.map.ensures.quiet;
+  told = c.map.ensures.made.told;
   flight = ap (λ (l : FrameLife). l.flight) c.map.ensures.made.life;
 }

@@ -8,4 +8,4 @@ pub returns-then-is_reading-clause-begun : goal.returns-then-is_reading-clause-b
 returns-then-is_reading-clause-begun g c = begun_reading c.args.key c.args.f c.args.place _ c.requires.stands (ap (λ (r : Record). is_read r.request) (sym c.look-r.ensures) ∙ sym c.is_reading.ensures ∙ c.if-is_reading.true)
 
 pub returns-clause-begun : goal.returns-clause-begun
-returns-clause-begun g c = begun_put c.args.key c.args.f c.args.place _ _ c.requires.stands (ap (λ (r : Record). is_read r.request) (sym c.look-r.ensures) ∙ sym c.is_reading.ensures ∙ c.if-is_reading.false) c.put.ensures.went c.put.ensures.puts.placed c.put.ensures.puts.stored
+returns-clause-begun g c = begun_put c.args.key c.args.f c.args.place _ _ c.requires.stands (ap (λ (r : Record). is_read r.request) (sym c.look-r.ensures) ∙ sym c.is_reading.ensures ∙ c.if-is_reading.false) c.put.ensures.went c.put.ensures.puts

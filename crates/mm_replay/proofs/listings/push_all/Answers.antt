@@ -1,13 +1,13 @@
-use Rattle.std.proofs.Common.{◌++◌, ◌∷◌, [], List, ℕ, sym, ap, ◌∙◌}
+use Rattle.std.proofs.Common.{rules, ◌++◌, ◌∷◌, [], List, ℕ, sym, ap, ◌∙◌}
 use Rattle.mm_lists.specs.{ListsOf, list_at, number_at, with_list}
 use Rattle.mm_replay.specs.{free_alone}
 use Rattle.mm_life.proofs.{numbers_next}
 use Rattle.mm_replay.proofs.{not_yet}
 use Rattle.mm_replay.proofs.listings.push_all.Goals as goal
 
-pub push_back-requires-clause-on_none : goal.push_back-requires-clause-on_none
-push_back-requires-clause-on_none c = λ j k e.
-    not_yet c.loop-f.f j k (ap (λ (v : ListsOf). number_at v.lists j k) (sym c.loop-f.invariant.pushed) ∙ e)
+pub push_back-requires : goal.push_back-requires
+push_back-requires c =
+    (search rules, (search rules, (search rules, λ j k e. not_yet c.loop-f.f j k (ap (λ (v : ListsOf). number_at v.lists j k) (sym c.loop-f.invariant.pushed) ∙ e))))
 
 pub loop-f-preserved : goal.loop-f-preserved
 loop-f-preserved c = record {
@@ -15,5 +15,5 @@ loop-f-preserved c = record {
       c.push_back.ensures.pushed
       ∙ ap (λ (v : ListsOf). with_list v 1 (list_at v.lists 1 ++ c.loop-f.f ∷ [])) c.loop-f.invariant.pushed
       ∙ ap (λ (xs : List ℕ). record { numbers = c.args.n; lists = free_alone xs }) (sym (numbers_next c.loop-f.f));
-  four = c.push_back.ensures.four;
+  kept = c.push_back.ensures.kept;
 }

@@ -1,10 +1,10 @@
 use Rattle.std.proofs.Common.{◌≡◌}
 use Rattle.mm_life.specs.{numbers_from}
-use Rattle.mm_replay.specs.{AreFour, free_alone}
+use Rattle.mm_replay.specs.{AreLists, free_alone}
 use Rattle.mm_replay.proofs.listings.push_all.Given as goal
 
 abbrev pub invariant-loop-f : goal.invariant-loop-f
 invariant-loop-f l = record {
   pushed : l.lists ≡ record { numbers = l.n; lists = free_alone (numbers_from 0 l.f) };
-  four : AreFour l.lists;
+  kept : AreLists 4 l.lists;
 }

@@ -1,8 +1,7 @@
 use Rattle.std.proofs.Common.{◌≤◌, sym, ◌∙◌, ap, arith, Option, length, set}
 use Rattle.std.proofs.lemmas.List.Edits.{map_over_more}
 use Rattle.mm_tables.specs.{Kept, shown_accesses, unless_of}
-use Rattle.mm_tables.proofs.{shown_unless}
-use Rattle.mm_tables.proofs.KeptAccesses.{all_changed}
+use Rattle.mm_tables.proofs.{shown_unless, all_changed}
 use Rattle.mm_tables.proofs.kept_accesses.drop_accesses.Goals as goal
 
 pub loop-tid-preserved : goal.loop-tid-preserved

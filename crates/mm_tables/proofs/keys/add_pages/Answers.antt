@@ -32,17 +32,18 @@ loop-i-preserved g c =
           (subst (λ (k : ℕ). Adds c.args.pid (one_page_range (k + c.loop-i.i)) (g.G.Pages.contents c.loop-i.g) (g.G.Pages.contents c.add_page.new.g) (g.G.Pages.store c.loop-i.g) (g.G.Pages.store c.add_page.new.g)) first c.add_page.ensures.adds);
       passes = makes_then g.G.Pages.unpaged c.args.range.first (c.args.range.first + c.loop-i.i) (c.args.range.first + (c.loop-i.i + 1)) (g.G.Pages.store c.args.g.now) (g.G.Pages.store c.loop-i.g) (g.G.Pages.store c.add_page.new.g)
           (g.G.Pages.behind c.args.g.now) (g.G.Pages.behind c.loop-i.g) (g.G.Pages.behind c.add_page.new.g) (omega arith) (omega arith) c.loop-i.invariant.passes
-          (c.add_page.ensures.passes (c.args.range.first + c.loop-i.i) (c.args.range.first + (c.loop-i.i + 1)) (omega (arith, first)) (omega (arith, first)));
+          (c.add_page.ensures.passes (c.args.range.first + c.loop-i.i) (c.args.range.first + (c.loop-i.i + 1)) (omega (arith, first), omega (arith, first)));
       loans = c.add_page.ensures.loans ∙ c.loop-i.invariant.loans;
     }
 
-pub returns-clause-passes : goal.returns-clause-passes
-returns-clause-passes g c from to stands =
-    let count : c.range.inside.count ≡ c.args.range.count = ap (λ (r : Range). r.count) c.range.view_is in
-    makes_wider g.G.Pages.unpaged c.args.range.first (c.args.range.first + c.loop-i.i) from to (g.G.Pages.store c.args.g.now) (g.G.Pages.store c.loop-i.g)
-    (g.G.Pages.behind c.args.g.now) (g.G.Pages.behind c.loop-i.g) stands.0 (omega (arith, stands.1, count, c.loop-i.auto.i-end)) c.loop-i.invariant.passes
-
-pub returns-clause-adds : goal.returns-clause-adds
-returns-clause-adds g c =
-    let count : c.loop-i.i ≡ c.args.range.count = omega (arith, c.loop-i-test.false, c.loop-i.auto.i-end, ap (λ (r : Range). r.count) c.range.view_is) in
-    subst (λ (k : ℕ). Adds c.args.pid (first_pages c.args.range k) (g.G.Pages.contents c.args.g.now) (g.G.Pages.contents c.loop-i.g) (g.G.Pages.store c.args.g.now) (g.G.Pages.store c.loop-i.g)) count c.loop-i.invariant.adds
+pub returns : goal.returns
+returns g c =
+    let whole : c.range.inside.count ≡ c.args.range.count = ap (λ (r : Range). r.count) c.range.view_is in
+    let count : c.loop-i.i ≡ c.args.range.count = omega (arith, c.loop-i-test.false, c.loop-i.auto.i-end, whole) in
+    record {
+      adds = subst (λ (k : ℕ). Adds c.args.pid (first_pages c.args.range k) (g.G.Pages.contents c.args.g.now) (g.G.Pages.contents c.loop-i.g) (g.G.Pages.store c.args.g.now) (g.G.Pages.store c.loop-i.g)) count c.loop-i.invariant.adds;
+      passes = λ from to stands.
+          makes_wider g.G.Pages.unpaged c.args.range.first (c.args.range.first + c.loop-i.i) from to (g.G.Pages.store c.args.g.now) (g.G.Pages.store c.loop-i.g)
+          (g.G.Pages.behind c.args.g.now) (g.G.Pages.behind c.loop-i.g) stands.0 (omega (arith, stands.1, count)) c.loop-i.invariant.passes;
+      loans = c.loop-i.invariant.loans;
+    }

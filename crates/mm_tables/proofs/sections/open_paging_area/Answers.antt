@@ -1,17 +1,10 @@
 use Rattle.std.proofs.Common.{◌∙◌}
-use Rattle.mm_pages.specs.{Turn, Turns, Makes, PassesIn}
-use Rattle.mm_tables.proofs.FileKept.{can_fill}
-use Rattle.mm_pages.proofs.{idle_before}
-use Rattle.mm_tables.proofs.{idle_then}
-use Rattle.mm_types.proofs.{on_err}
+use Rattle.mm_tables.proofs.Lines.{can_fill}
+use Rattle.mm_tables.proofs.{idle_then, pages_idle, pages_then}
 use Rattle.mm_tables.proofs.sections.open_paging_area.Goals as goal
 
 pub returns-in_err-reserve-clause-makes : goal.returns-in_err-reserve-clause-makes
-returns-in_err-reserve-clause-makes g c = record {
-  passes = c.reserve.ensures.passes Makes;
-  idle = on_err c.from_residual.result c.reserve.ensures.passes;
-  loans = c.reserve.ensures.loans;
-}
+returns-in_err-reserve-clause-makes g c = pages_idle g.G.Pages c.from_residual.result c.reserve.ensures.passes c.reserve.ensures.loans
 
 pub fill_area-requires : goal.fill_area-requires
 fill_area-requires g c =
@@ -22,18 +15,9 @@ fill_area-requires g c =
 
 pub returns-in_err-open_area-clause-makes : goal.returns-in_err-open_area-clause-makes
 returns-in_err-open_area-clause-makes g c =
-    let idle : (turn : Turn) → PassesIn g.G.Pages.unpaged (Turns turn) (g.G.Pages.store c.args.g.now) (g.G.Pages.store c.open_area.new.self) (g.G.Pages.behind c.args.g.now) (g.G.Pages.behind c.open_area.new.self) = idle_then g.G.Pages.unpaged (g.G.Pages.store c.args.g.now) (g.G.Pages.store c.reserve.new.self) (g.G.Pages.store c.open_area.new.self) (g.G.Pages.behind c.args.g.now) (g.G.Pages.behind c.reserve.new.self) (g.G.Pages.behind c.open_area.new.self) c.reserve.ensures.passes c.open_area.ensures.passes in
-    record {
-      passes = idle Makes;
-      idle = on_err c.from_residual-in_err-open_area.result idle;
-      loans = c.open_area.ensures.loans ∙ c.reserve.ensures.loans;
-    }
+    pages_idle g.G.Pages c.from_residual-in_err-open_area.result (idle_then g.G.Pages c.args.g.now c.reserve.new.self c.open_area.new.self c.reserve.ensures.passes c.open_area.ensures.passes) (c.open_area.ensures.loans ∙ c.reserve.ensures.loans)
 
 pub returns-clause-makes : goal.returns-clause-makes
 returns-clause-makes g c =
-    let idle : (turn : Turn) → PassesIn g.G.Pages.unpaged (Turns turn) (g.G.Pages.store c.args.g.now) (g.G.Pages.store c.open_area.new.self) (g.G.Pages.behind c.args.g.now) (g.G.Pages.behind c.open_area.new.self) = idle_then g.G.Pages.unpaged (g.G.Pages.store c.args.g.now) (g.G.Pages.store c.reserve.new.self) (g.G.Pages.store c.open_area.new.self) (g.G.Pages.behind c.args.g.now) (g.G.Pages.behind c.reserve.new.self) (g.G.Pages.behind c.open_area.new.self) c.reserve.ensures.passes c.open_area.ensures.passes in
-    record {
-      passes = idle_before g.G.Pages.unpaged Makes (g.G.Pages.store c.args.g.now) (g.G.Pages.store c.open_area.new.self) (g.G.Pages.store c.fill_area.new.g) (g.G.Pages.behind c.args.g.now) (g.G.Pages.behind c.open_area.new.self) (g.G.Pages.behind c.fill_area.new.g) idle c.fill_area.ensures.passes;
-      idle = tt;
-      loans = c.fill_area.ensures.loans ∙ c.open_area.ensures.loans ∙ c.reserve.ensures.loans;
-    }
+    pages_then g.G.Pages c.open_area.new.self (idle_then g.G.Pages c.args.g.now c.reserve.new.self c.open_area.new.self c.reserve.ensures.passes c.open_area.ensures.passes) (c.open_area.ensures.loans ∙ c.reserve.ensures.loans)
+    c.fill_area.ensures.passes c.fill_area.ensures.loans

@@ -1,16 +1,12 @@
 use Rattle.std.proofs.Common.{◌∙◌, ap, refl, arith}
 use Rattle.mm_types.proofs.{on_err}
-use Rattle.mm_pages.proofs.{turns_same}
 use Rattle.mm_world.specs.{add_region}
 use Rattle.mm_tables.specs.{section_of_view}
+use Rattle.mm_tables.proofs.{idle}
 use Rattle.mm_tables.proofs.views.make_view.Goals as goal
 
 pub returns-in_err-region-clause-idles : goal.returns-in_err-region-clause-idles
-returns-in_err-region-clause-idles g c = record {
-  contents = refl;
-  passes = λ turn. turns_same g.G.Pages.unpaged turn (g.G.Pages.store c.args.g.now) (g.G.Pages.behind c.args.g.now);
-  loans = refl;
-}
+returns-in_err-region-clause-idles g c = record { contents = refl; passes = idle g.G.Pages c.args.g.now; loans = refl }
 
 pub returns-in_err-region-clause-err : goal.returns-in_err-region-clause-err
 returns-in_err-region-clause-err g c = on_err c.from_residual.result (record { store = refl; later = omega arith })

@@ -4,7 +4,7 @@ use Rattle.std.proofs.lemmas.Bool.{cases_lt}
 use Rattle.std.proofs.lemmas.Option.{slice_get_past, slice_get_read}
 use Rattle.std.proofs.Math.ListN.{set}
 use Rattle.mm_world.specs.{AreaOf, blank, commit_shared, no_area}
-use Rattle.mm_tables.specs.{CanShare, Shares, listed_area}
+use Rattle.mm_tables.specs.{CanShare, SharesPages, listed_area}
 use Rattle.mm_tables.proofs.views.share_pages.Given as given
 use Rattle.mm_tables.proofs.views.share_pages.Goals as goal
 use Rattle.mm_tables.proofs.views.share_pages.Goals.{After-index_mut}
@@ -37,6 +37,6 @@ pub returns-clause-areas : goal.returns-clause-areas
 returns-clause-areas g c =
     ap (set c.args.areas.now.items c.args.view.area.0) (c.share_in.ensures.pages ∙ ap (commit_shared blank (c.args.view.first + c.args.offset) c.args.count) (here g (goal.at.returns-clause-areas g c).After-index_mut))
 
-pub returns-clause-shares : goal.returns-clause-shares
-returns-clause-shares g c =
-    subst (λ (a : AreaOf (Unit {0})). Shares c.args.view.area (c.args.view.first + c.args.offset) c.args.count a (g.G.Pages.contents c.args.g.now) (g.G.Pages.contents c.share_in.new.g) (g.G.Pages.store c.args.g.now) (g.G.Pages.store c.share_in.new.g)) (here g (goal.at.returns-clause-shares g c).After-index_mut) c.share_in.ensures.shares
+pub returns-clause-shared : goal.returns-clause-shared
+returns-clause-shared g c =
+    subst (λ (a : AreaOf (Unit {0})). SharesPages g.G.Pages c.args.view.area (c.args.view.first + c.args.offset) c.args.count a c.args.g.now c.share_in.new.g) (here g (goal.at.returns-clause-shared g c).After-index_mut) c.share_in.ensures.shared

@@ -1,4 +1,5 @@
-use Rattle.std.proofs.Common.{◌∙◌, ◌+◌, ◌^◌, arith}
+use Rattle.std.proofs.Common.{◌≡◌, ◌∙◌, ◌+◌, ◌^◌, ℕ, subst, arith}
+use Rattle.mm_tables.specs.{Shares}
 use Rattle.mm_pages.proofs.{makes_then, makes_wider}
 use Rattle.mm_tables.proofs.{can_next, shares_then}
 use Rattle.mm_tables.proofs.views.share_range.Goals as goal
@@ -19,7 +20,12 @@ loop-i-preserved g c =
       loans = c.share_page.ensures.loans ∙ c.loop-i.invariant.loans;
     }
 
-pub returns-clause-passes : goal.returns-clause-passes
-returns-clause-passes g c =
-    makes_wider g.G.Pages.unpaged c.args.first (c.args.first + c.loop-i.i) 0 (2 ^ 32) (g.G.Pages.store c.args.g.now) (g.G.Pages.store c.loop-i.g)
-    (g.G.Pages.behind c.args.g.now) (g.G.Pages.behind c.loop-i.g) (omega arith) (omega (arith, c.requires.end, c.loop-i.auto.i-end)) c.loop-i.invariant.passes
+pub returns : goal.returns
+returns g c =
+    let count : c.loop-i.i ≡ c.args.count = omega (arith, c.loop-i-test.false, c.loop-i.auto.i-end) in
+    record {
+      shares = subst (λ (k : ℕ). Shares c.args.area c.args.first k c.args.pages.now (g.G.Pages.contents c.args.g.now) (g.G.Pages.contents c.loop-i.g) (g.G.Pages.store c.args.g.now) (g.G.Pages.store c.loop-i.g)) count c.loop-i.invariant.shares;
+      passes = makes_wider g.G.Pages.unpaged c.args.first (c.args.first + c.loop-i.i) 0 (2 ^ 32) (g.G.Pages.store c.args.g.now) (g.G.Pages.store c.loop-i.g)
+          (g.G.Pages.behind c.args.g.now) (g.G.Pages.behind c.loop-i.g) (omega arith) (omega (arith, c.requires.end, c.loop-i.auto.i-end)) c.loop-i.invariant.passes;
+      loans = c.loop-i.invariant.loans;
+    }

@@ -1,6 +1,5 @@
 use Rattle.mm_world.specs.{step}
-use Rattle.mm_world.proofs.{region_stays, line_terms}
-use Rattle.mm_world.proofs.LineEdits.{in_step}
+use Rattle.mm_world.proofs.{region_stays, line_terms, in_step}
 use Rattle.mm_world.proofs.laws.private_regions_stay.Goals as goal
 
 pub returns : goal.returns

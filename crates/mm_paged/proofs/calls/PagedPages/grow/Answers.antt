@@ -1,26 +1,12 @@
-use Rattle.std.proofs.Common.{◌≡◌, ℕ, false, None, Some, refl, sym, ap, ◌∙◌, subst}
+use Rattle.std.proofs.Common.{◌≡◌, ℕ, false, None, Some, refl, sym, subst}
 use Rattle.mm_types.specs.declared.moves.LineKind.TheVariants as kind
 use Rattle.mm_types.specs.declared.moves.Move.TheVariants as move
-use Rattle.mm_types.specs.{Place}
 use Rattle.mm_blocks.specs.{DeviceOf}
-use Rattle.mm_life.specs.{after_move, FrameLife, Waiting, waits_after, ages_after}
-use Rattle.mm_pages.specs.{begun, called, none_told}
-use Rattle.mm_pages.specs.Told.{Told}
+use Rattle.mm_pages.specs.{begun, called}
 use Rattle.mm_moving.specs.{StateOf, GrowBegins, moved, asked_to_grow}
 use Rattle.mm_paged.specs.{OwnOf, store_of, own_in, paged_state}
-use Rattle.mm_paged.proofs.{notes_by}
+use Rattle.mm_paged.proofs.{line_whole, notes_by}
 use Rattle.mm_paged.proofs.calls.PagedPages.grow.Goals as goal
-
--- the line is a call that changes nothing, and the device's count of faults rose
-abbrev failed_at : StateOf → StateOf → ℕ → StateOf
-failed_at s z n = record s {
-  life = after_move s.life (move.At n kind.Call);
-  log = z.log;
-  told = none_told;
-  ages = ages_after (move.At n kind.Call) s.ages;
-  waits = waits_after (move.At n kind.Call) s.waits;
-  paging = asked_to_grow s.paging z.paging;
-}
 
 abbrev failed_own : OwnOf → OwnOf
 failed_own o = record { extended = Some false; ready = None; blocks_used = o.blocks_used }
@@ -35,14 +21,7 @@ HasFailed s d o n x = store_of x (failed_own o) ≡ record (store_of s o) {
 }
 
 failed_store : (s z : StateOf) (o : OwnOf) (n : ℕ) → GrowBegins (move.At n kind.Call) s z → z ≡ record (moved s z) { paging = asked_to_grow s.paging z.paging } → HasFailed s z.paging o n z
-failed_store s z o n b e = subst (λ (x : StateOf). HasFailed s z.paging o n x) (sym whole) refl
-  where
-    whole : z ≡ failed_at s z n
-    whole = e
-        ∙ ap (λ (l : FrameLife). record (failed_at s z n) { life = l; told = z.told; ages = z.ages; waits = z.waits }) b.life
-        ∙ ap (λ (t : Told). record (failed_at s z n) { told = t; ages = z.ages; waits = z.waits }) b.told
-        ∙ ap (λ (t : Place → ℕ). record (failed_at s z n) { ages = t; waits = z.waits }) b.ages
-        ∙ ap (λ (t : ℕ → Waiting). record (failed_at s z n) { waits = t }) b.waits
+failed_store s z o n b e = subst (λ (x : StateOf). HasFailed s z.paging o n x) (sym (line_whole s z (asked_to_grow s.paging z.paging) n kind.Call b.life b.told b.ages b.waits e)) refl
 
 pub returns-in-Err-Failed-clause-failed : goal.returns-in-Err-Failed-clause-failed
 returns-in-Err-Failed-clause-failed g c q = failed_store (paged_state c.args.self.now) (g.T.Moving.shown c.grow-done.new.self) (own_in c.args.self.now) c.args.line (c.grow-done.ensures.failed q) (c.grow-done.ensures.kept q)

@@ -5,7 +5,7 @@ use Rattle.mm_pages.specs.{Served, StoreOf}
 use Rattle.mm_pages.proofs.{served_nothing}
 use Rattle.mm_paged.specs.{store_of, store, own_in, paged_state}
 use Rattle.mm_paged.proofs.{valid_ends, valid_passes, went_passes, stuck_passes, named_here, read_named, of_went, of_stuck, served_in, ok_store}
-use Rattle.mm_paged.proofs.{err_store, ok_served, stored_in, some_is, not_here, faulted_kept}
+use Rattle.mm_paged.proofs.{err_store, ok_served, stored_same, kept_in, not_here, faulted_kept}
 use Rattle.mm_paged.proofs.calls.PagedPages.read.Goals as goal
 
 pub returns-in-Some-clause-served : goal.returns-in-Some-clause-served
@@ -24,28 +24,28 @@ returns-in-Some-clause-passes g c = valid_passes false c.args.key c.args.place (
 -- the page is brought
 
 pub returns-in_default-clause-served : goal.returns-in_default-clause-served
-returns-in_default-clause-served g c = ok_served false c.args.key c.args.place _ _ _ (own_in c.args.self.now) _ _ (of_went c.args.key c.args.place _ _ (sym c.valid.ensures ∙ c.in-None.is) c.in_default.ensures.ok.went) c.read-in-None.ensures.rest
+returns-in_default-clause-served g c = ok_served false c.args.key c.args.place (paged_state c.args.self.now) (g.T.Moving.shown c.fault-done.new.state) (own_in c.args.self.now) _ (of_went false c.args.key c.args.place (paged_state c.args.self.now) (g.T.Moving.shown c.fault-done.new.state) (sym c.valid.ensures ∙ c.in-None.is) (λ a p q b. c.in_default.ensures.ok.went a p b) c.in_default.ensures.ok.placed.same) _ _ c.read-in-None.ensures.rest
 
 pub returns-in_default-clause-ok : goal.returns-in_default-clause-ok
-returns-in_default-clause-ok g c = ok_store false c.args.key c.args.place _ _ _ (own_in c.args.self.now) _ _ (of_went c.args.key c.args.place _ _ (sym c.valid.ensures ∙ c.in-None.is) c.in_default.ensures.ok.went) (g.met.T.Moving.holds c.args.self.now.state) (g.met.T.Moving.holds c.fault-done.new.state) c.fault-done.ensures.same c.in_default.ensures.ok.names c.read-in-None.ensures.rest refl refl
+returns-in_default-clause-ok g c = ok_store false c.args.key c.args.place (paged_state c.args.self.now) (g.T.Moving.shown c.fault-done.new.state) (own_in c.args.self.now) _ (of_went false c.args.key c.args.place (paged_state c.args.self.now) (g.T.Moving.shown c.fault-done.new.state) (sym c.valid.ensures ∙ c.in-None.is) (λ a p q b. c.in_default.ensures.ok.went a p b) c.in_default.ensures.ok.placed.same) _ _ (g.met.T.Moving.holds c.args.self.now.state) (g.met.T.Moving.holds c.fault-done.new.state) c.in_default.ensures.ok.placed.names c.read-in-None.ensures.rest refl refl
 
 pub returns-in_default-clause-stored : goal.returns-in_default-clause-stored
-returns-in_default-clause-stored g c = ap (λ (s : StateOf). length s.blocks) c.read-in-None.ensures.rest ∙ stored_in false c.args.key c.args.place _ _ (of_went c.args.key c.args.place _ _ (sym c.valid.ensures ∙ c.in-None.is) c.in_default.ensures.ok.went) (g.met.T.Moving.holds c.args.self.now.state) (g.met.T.Moving.holds c.fault-done.new.state)
+returns-in_default-clause-stored g c = ap (λ (s : StateOf). length s.blocks) c.read-in-None.ensures.rest ∙ stored_same (paged_state c.args.self.now) (g.T.Moving.shown c.fault-done.new.state) (kept_in false c.args.key c.args.place (paged_state c.args.self.now) (g.T.Moving.shown c.fault-done.new.state) (own_in c.args.self.now) (own_in c.args.self.now) (of_went false c.args.key c.args.place (paged_state c.args.self.now) (g.T.Moving.shown c.fault-done.new.state) (sym c.valid.ensures ∙ c.in-None.is) (λ a p q b. c.in_default.ensures.ok.went a p b) c.in_default.ensures.ok.placed.same)) (g.met.T.Moving.holds c.args.self.now.state) (g.met.T.Moving.holds c.fault-done.new.state)
 
 pub returns-in_default-clause-eased : goal.returns-in_default-clause-eased
 returns-in_default-clause-eased g c r = absurd (not_here _ (sym c.valid.ensures ∙ c.in-None.is) (c.args.self.now.kept.ready _ r))
 
 pub returns-in_default-clause-passes : goal.returns-in_default-clause-passes
-returns-in_default-clause-passes g c = went_passes false c.args.key c.args.place _ _ _ (own_in c.args.self.now) _ _ _ (sym c.valid.ensures ∙ c.in-None.is) (λ r. c.args.self.now.kept.ready _ r) (λ a p w b. c.in_default.ensures.ok.went a p b) (some_is _ c.in_default.ensures.ok.valid) c.read-in-None.ensures.rest
+returns-in_default-clause-passes g c = went_passes false c.args.key c.args.place (paged_state c.args.self.now) (g.T.Moving.shown c.fault-done.new.state) _ (own_in c.args.self.now) _ _ _ (sym c.valid.ensures ∙ c.in-None.is) (λ r. c.args.self.now.kept.ready _ r) (of_went false c.args.key c.args.place (paged_state c.args.self.now) (g.T.Moving.shown c.fault-done.new.state) (sym c.valid.ensures ∙ c.in-None.is) (λ a p q b. c.in_default.ensures.ok.went a p b) c.in_default.ensures.ok.placed.same) (ap is_some c.in_default.ensures.ok.placed.valid) c.read-in-None.ensures.rest
 
 pub returns-in-Err-clause-served : goal.returns-in-Err-clause-served
-returns-in-Err-clause-served g c = served_in false c.args.key c.args.place _ _ (own_in c.args.self.now) _ (of_stuck false _ c.args.key c.args.place _ _ (sym c.valid.ensures ∙ c.in-None.is) c.in-Err.ensures.err.stuck)
+returns-in-Err-clause-served g c = served_in false c.args.key c.args.place (paged_state c.args.self.now) (g.T.Moving.shown c.fault-done.new.state) (own_in c.args.self.now) _ (of_stuck false c.in-Err.why c.args.key c.args.place (paged_state c.args.self.now) (g.T.Moving.shown c.fault-done.new.state) (sym c.valid.ensures ∙ c.in-None.is) c.in-Err.ensures.err)
 
 pub returns-in-Err-clause-stored : goal.returns-in-Err-clause-stored
-returns-in-Err-clause-stored g c = stored_in false c.args.key c.args.place _ _ (of_stuck false _ c.args.key c.args.place _ _ (sym c.valid.ensures ∙ c.in-None.is) c.in-Err.ensures.err.stuck) (g.met.T.Moving.holds c.args.self.now.state) (g.met.T.Moving.holds c.fault-done.new.state)
+returns-in-Err-clause-stored g c = stored_same (paged_state c.args.self.now) (g.T.Moving.shown c.fault-done.new.state) (kept_in false c.args.key c.args.place (paged_state c.args.self.now) (g.T.Moving.shown c.fault-done.new.state) (own_in c.args.self.now) (own_in c.args.self.now) (of_stuck false c.in-Err.why c.args.key c.args.place (paged_state c.args.self.now) (g.T.Moving.shown c.fault-done.new.state) (sym c.valid.ensures ∙ c.in-None.is) c.in-Err.ensures.err)) (g.met.T.Moving.holds c.args.self.now.state) (g.met.T.Moving.holds c.fault-done.new.state)
 
 pub returns-in-Err-clause-err : goal.returns-in-Err-clause-err
-returns-in-Err-clause-err g c = err_store false c.args.key c.args.place _ _ (own_in c.args.self.now) _ (of_stuck false _ c.args.key c.args.place _ _ (sym c.valid.ensures ∙ c.in-None.is) c.in-Err.ensures.err.stuck) (g.met.T.Moving.holds c.args.self.now.state) (g.met.T.Moving.holds c.fault-done.new.state) c.in-Err.ensures.err.fails.same refl refl
+returns-in-Err-clause-err g c = err_store false c.args.key c.args.place (paged_state c.args.self.now) (g.T.Moving.shown c.fault-done.new.state) (own_in c.args.self.now) _ (of_stuck false c.in-Err.why c.args.key c.args.place (paged_state c.args.self.now) (g.T.Moving.shown c.fault-done.new.state) (sym c.valid.ensures ∙ c.in-None.is) c.in-Err.ensures.err) (g.met.T.Moving.holds c.args.self.now.state) (g.met.T.Moving.holds c.fault-done.new.state) (ap (λ (x : StateOf). x.names) c.in-Err.ensures.err.fails.same) refl refl
 
 pub returns-in-Err-clause-ready : goal.returns-in-Err-clause-ready
 returns-in-Err-clause-ready g c r = absurd (not_here _ (sym c.valid.ensures ∙ c.in-None.is) (c.args.self.now.kept.ready _ r))
@@ -54,13 +54,13 @@ pub returns-in-Err-clause-eased : goal.returns-in-Err-clause-eased
 returns-in-Err-clause-eased g c r = absurd (not_here _ (sym c.valid.ensures ∙ c.in-None.is) (c.args.self.now.kept.ready _ r))
 
 pub returns-in-Err-clause-passes : goal.returns-in-Err-clause-passes
-returns-in-Err-clause-passes g c = stuck_passes false _ c.args.key c.args.place _ _ (own_in c.args.self.now) _ _ (sym c.valid.ensures ∙ c.in-None.is) (λ r. c.args.self.now.kept.ready _ r) c.in-Err.ensures.err.stuck
+returns-in-Err-clause-passes g c = stuck_passes false c.in-Err.why c.args.key c.args.place (paged_state c.args.self.now) (g.T.Moving.shown c.fault-done.new.state) (own_in c.args.self.now) _ _ (sym c.valid.ensures ∙ c.in-None.is) (λ r. c.args.self.now.kept.ready _ r) c.in-Err.ensures.err
 
 pub invariant_of-self-in-Err-1 : goal.invariant_of-self-in-Err-1
-invariant_of-self-in-Err-1 g c = record { kept = faulted_kept false c.args.key c.args.place (paged_state c.args.self.now) (g.T.Moving.shown c.fault-done.new.state) _ (own_in c.args.self.now) _ (of_stuck false _ c.args.key c.args.place _ _ (sym c.valid.ensures ∙ c.in-None.is) c.in-Err.ensures.err.stuck) c.args.self.now.kept c.fault-done.ensures.same refl refl refl refl refl refl }
+invariant_of-self-in-Err-1 g c = record { kept = faulted_kept false c.args.key c.args.place (paged_state c.args.self.now) (g.T.Moving.shown c.fault-done.new.state) (own_in c.args.self.now) _ (of_stuck false c.in-Err.why c.args.key c.args.place (paged_state c.args.self.now) (g.T.Moving.shown c.fault-done.new.state) (sym c.valid.ensures ∙ c.in-None.is) c.in-Err.ensures.err) (g.T.Moving.shown c.fault-done.new.state) c.args.self.now.kept refl refl refl refl refl refl }
 
 pub invariant_of-self-in-None : goal.invariant_of-self-in-None
-invariant_of-self-in-None g c = record { kept = faulted_kept false c.args.key c.args.place (paged_state c.args.self.now) (g.T.Moving.shown c.fault-done.new.state) _ (own_in c.args.self.now) _ (of_went c.args.key c.args.place _ _ (sym c.valid.ensures ∙ c.in-None.is) c.in_default.ensures.ok.went) c.args.self.now.kept c.fault-done.ensures.same (ap (λ (s : StateOf). s.life) c.read-in-None.ensures.rest) (ap (λ (s : StateOf). s.own) c.read-in-None.ensures.rest) (ap (λ (s : StateOf). s.aside) c.read-in-None.ensures.rest) (ap (λ (s : StateOf). s.told) c.read-in-None.ensures.rest) refl refl }
+invariant_of-self-in-None g c = record { kept = faulted_kept false c.args.key c.args.place (paged_state c.args.self.now) (g.T.Moving.shown c.fault-done.new.state) (own_in c.args.self.now) _ (of_went false c.args.key c.args.place (paged_state c.args.self.now) (g.T.Moving.shown c.fault-done.new.state) (sym c.valid.ensures ∙ c.in-None.is) (λ a p q b. c.in_default.ensures.ok.went a p b) c.in_default.ensures.ok.placed.same) _ c.args.self.now.kept (ap (λ (s : StateOf). s.life) c.read-in-None.ensures.rest) (ap (λ (s : StateOf). s.own) c.read-in-None.ensures.rest) (ap (λ (s : StateOf). s.aside) c.read-in-None.ensures.rest) (ap (λ (s : StateOf). s.told) c.read-in-None.ensures.rest) refl refl }
 
 pub fault-done-requires : goal.fault-done-requires
 fault-done-requires g c = record {

@@ -1,4 +1,4 @@
-use Rattle.std.proofs.Common.{ap, ◌∙◌, true, false, ◌+◌}
+use Rattle.std.proofs.Common.{ap, ◌∙◌, false, ◌+◌}
 use Rattle.mm_moving.specs.{StateOf}
 use Rattle.mm_pages.specs.Housekeeping.{Ends}
 use Rattle.mm_pages.specs.{page_rank}

@@ -1,6 +1,6 @@
 use Rattle.std.proofs.Common.{◌+◌, sym, ◌∙◌, arith}
 use Rattle.mm_parts.specs.{joined_parts}
-use Rattle.mm_parts.proofs.{step_to, keys_room, copy_none_aside, copy_bound, copy_step, set_step, set_places}
+use Rattle.mm_parts.proofs.{step_to, keys_room, copy_none_aside, copy_bound, copy_step, set_places, add_zero_step, set_names}
 use Rattle.mm_parts.proofs.parts.Parts.add_zero.Goals as goal
 
 pub overflow_add-self : goal.overflow_add-self
@@ -28,9 +28,9 @@ returns-in-Some c =
 pub invariant_of-self-in-None : goal.invariant_of-self-in-None
 invariant_of-self-in-None c =
     let s = c.args.self.now in
-    record { kept = (step_to _ _ _ (λ i. record (joined_parts s) { line = record (joined_parts s).line { paging_keys = s.paging_keys + 1 }; words = c.set_word.ensures.words i; ages = c.set_word.ensures.ages i }) (set_step (joined_parts s) s.kept c.args.key (sym c.copy_place.ensures ∙ c.in-None.is) c.requires.legal c.requires.clear)).kept }
+    record { kept = (step_to _ _ _ (λ i. record (joined_parts s) { line = record (joined_parts s).line { paging_keys = s.paging_keys + 1 }; words = c.set_word.ensures.words i; ages = c.set_word.ensures.ages i }) (add_zero_step (joined_parts s) s.kept c.args.key c.requires.legal (set_names (joined_parts s) c.args.key (sym c.copy_place.ensures ∙ c.in-None.is) c.requires.clear))).kept }
 
 pub returns-in-None : goal.returns-in-None
 returns-in-None c =
     let s = c.args.self.now in
-    record { made = (step_to _ _ _ (λ i. record (joined_parts s) { line = record (joined_parts s).line { paging_keys = s.paging_keys + 1 }; words = c.set_word.ensures.words i; ages = c.set_word.ensures.ages i }) (set_step (joined_parts s) s.kept c.args.key (sym c.copy_place.ensures ∙ c.in-None.is) c.requires.legal c.requires.clear)).shown }
+    record { made = (step_to _ _ _ (λ i. record (joined_parts s) { line = record (joined_parts s).line { paging_keys = s.paging_keys + 1 }; words = c.set_word.ensures.words i; ages = c.set_word.ensures.ages i }) (add_zero_step (joined_parts s) s.kept c.args.key c.requires.legal (set_names (joined_parts s) c.args.key (sym c.copy_place.ensures ∙ c.in-None.is) c.requires.clear))).shown }

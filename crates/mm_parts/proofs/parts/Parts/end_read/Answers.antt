@@ -1,4 +1,4 @@
-use Rattle.std.proofs.Common.{◌≡◌, Bool, Option, true, false, sym, ap, ◌∙◌, subst}
+use Rattle.std.proofs.Common.{◌≡◌, Bool, Option, true, false, refl, sym, ap, ◌∙◌, subst}
 use Rattle.mm_types.specs.declared.moves.Move.TheVariants as move
 use Rattle.mm_types.specs.{Backing, Key}
 use Rattle.mm_life.specs.{record_at, IsLegal, freed}
@@ -21,7 +21,7 @@ send_home-requires c =
     let s = c.args.self.now in
     let bad : IsLegal (move.Bad c.args.f) (life_in (joined_parts s)) = subst (λ (b : Bool). IsLegal (end_of_read b c.args.f) (life_in (joined_parts s))) c.if-not-ok.true c.requires.legal in
     subst (λ (o : Option Key). CanSend (joined_parts s).words o c.end_read-ended.result.home) (sym c.end_read-ended.ensures.owner)
-    (subst (λ (b : Backing). CanSend (joined_parts s).words (record_at s.frames.table c.args.f.0).owner b) (sym c.end_read-ended.ensures.home) (send_can (joined_parts s) s.kept c.args.f bad c.words_hold.ensures.there))
+    (subst (λ (b : Backing). CanSend (joined_parts s).words (record_at s.frames.table c.args.f.0).owner b) (sym c.end_read-ended.ensures.home) (send_can (joined_parts s) s.kept c.args.f bad c.words_hold.ensures.there _ refl))
 
 -- what the parts are before the page is sent home
 abbrev parts : After-end_request → JoinedParts

@@ -3,7 +3,7 @@ use Rattle.mm_parts.proofs.{valid_there, valid_owned, valid_calm, valid_told, no
 use Rattle.mm_parts.proofs.parts.Parts.frame_at.Goals as goal
 
 pub at-requires : goal.at-requires
-at-requires c = c.words_hold.ensures.bound c.args.place (valid_there (joined_parts c.args.self.now) c.args.place c.requires)
+at-requires c = c.words_hold.ensures.bound c.args.place (valid_there ((joined_parts c.args.self.now).words.at c.args.place) c.requires)
 
 pub unreachable-requires : goal.unreachable-requires
 unreachable-requires c = not_valid_told (joined_parts c.args.self.now) c.args.place c.at.result c.at.ensures c.requires c.in_default.not-Valid

@@ -24,8 +24,7 @@ made c =
     let legal : IsLegal (move.Give f c.args.key) (life_in (joined_parts s)) = subst (λ (g : Frame). IsLegal (move.Give g c.args.key) (life_in (joined_parts s))) (sym is) c.requires.legal in
     let now : c.bind-f.new.self ≡ given_to (zeroed_taken s.frames) c.in-Some.blank c.args.key = c.bind-f.ensures.bound ∙ ap (λ (v : FramesOf). given_to v c.in-Some.blank c.args.key) c.take_zeroed.ensures.taken in
     let table : c.bind-f.new.self.table ≡ after_give s.frames.table f.0 c.args.key = ap (λ (v : FramesOf). v.table) now ∙ ap (λ (x : ℕ). after_give s.frames.table x c.args.key) (sym c.bind-f.ensures.same) in
-    let bytes : c.bind-f.new.self.bytes ≡ s.frames.bytes = ap (λ (v : FramesOf). v.bytes) now in
-    step_to _ _ _ (λ i. record (joined_parts s) { table = table i; bytes = bytes i; words = c.set_word.ensures.words i; ages = c.set_word.ensures.ages i }) (give_step (joined_parts s) s.kept f c.args.key legal)
+    step_to _ _ _ (λ i. record (joined_parts s) { table = table i; bytes = (now i).bytes; words = c.set_word.ensures.words i; ages = c.set_word.ensures.ages i }) (give_step (joined_parts s) s.kept f c.args.key legal)
 
 pub invariant_of-self : goal.invariant_of-self
 invariant_of-self c = record { kept = (made (goal.at.invariant_of-self c).After-set_word).kept }

@@ -1,8 +1,7 @@
-use Rattle.std.proofs.Common.{◌≡◌, sym, ap, ◌∙◌, subst}
+use Rattle.std.proofs.Common.{refl, sym, ap, ◌∙◌, subst}
 use Rattle.mm_types.specs.{Record}
 use Rattle.mm_types.specs.declared.moves.Move.TheVariants as move
-use Rattle.mm_life.specs.{after_map, changed, same_place}
-use Rattle.mm_frames.specs.{FramesOf}
+use Rattle.mm_life.specs.{changed, same_place}
 use Rattle.mm_words.specs.Shown as tables
 use Rattle.mm_words.specs.{WordsOf}
 use Rattle.mm_parts.specs.{joined_parts, shown_parts, CanName, words_named, parts_after, left_by, names_after_map}
@@ -37,12 +36,10 @@ made : (c : After-name_frame) → Step (record (joined_parts c.args.self.now) { 
     })
 made c =
     let s = c.args.self.now in
-    let table : c.share.new.self.table ≡ after_map s.frames.table c.args.f.0 = ap (λ (v : FramesOf). v.table) c.share.ensures in
-    let bytes : c.share.new.self.bytes ≡ s.frames.bytes = ap (λ (v : FramesOf). v.bytes) c.share.ensures in
     let owner = ap (λ (r : Record). r.owner) c.look-owner.ensures in
     let words = c.name_frame.ensures.words ∙ (λ i. words_named (owner i) c.args.f (c.make_valid.ensures.words i)) in
     let ages = c.name_frame.ensures.ages ∙ c.make_valid.ensures.ages in
-    step_to _ _ _ (λ i. record (joined_parts s) { table = table i; bytes = bytes i; words = words i; ages = ages i }) (map_any_step (joined_parts s) s.kept c.args.f c.args.place c.requires.legal c.requires.alone)
+    step_to _ _ _ (λ i. record (joined_parts s) { table = (c.share.ensures i).table; bytes = (c.share.ensures i).bytes; words = words i; ages = ages i }) (map_any_step (joined_parts s) s.kept c.args.f c.args.place c.requires.legal c.requires.alone _ refl)
 
 pub invariant_of-self : goal.invariant_of-self
 invariant_of-self c = record { kept = (made (goal.at.invariant_of-self c).After-name_frame).kept }

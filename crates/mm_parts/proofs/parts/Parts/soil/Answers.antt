@@ -1,7 +1,6 @@
 use Rattle.std.proofs.Common.{◌≡◌, Bool, List, ap, ◌∙◌}
 use Rattle.mm_types.specs.declared.moves.Move.TheVariants as move
-use Rattle.mm_life.specs.{after_soil, record_at, slot_after_soil, freed}
-use Rattle.mm_frames.specs.{FramesOf}
+use Rattle.mm_life.specs.{record_at, slot_after_soil, freed}
 use Rattle.mm_slots.specs.{SlotsOf}
 use Rattle.mm_parts.specs.{joined_parts, shown_parts, parts_after}
 use Rattle.mm_parts.proofs.{Step, step_to, soil_step}
@@ -12,9 +11,7 @@ made : (c : After-soil) {free : List Bool} → free ≡ freed c.args.self.now.sl
     → Step (record (joined_parts c.args.self.now) { table = c.soil.new.self.table; bytes = c.soil.new.self.bytes; free = free }) (parts_after (shown_parts c.args.self.now) (move.Soil c.args.f))
 made c free =
     let s = c.args.self.now in
-    let table : c.soil.new.self.table ≡ after_soil s.frames.table c.args.f.0 = ap (λ (v : FramesOf). v.table) c.soil.ensures.soiled in
-    let bytes : c.soil.new.self.bytes ≡ s.frames.bytes = ap (λ (v : FramesOf). v.bytes) c.soil.ensures.soiled in
-    step_to _ _ _ (λ i. record (joined_parts s) { table = table i; bytes = bytes i; free = free i }) (soil_step (joined_parts s) s.kept c.args.f c.requires.legal)
+    step_to _ _ _ (λ i. record (joined_parts s) { table = (c.soil.ensures.soiled i).table; bytes = (c.soil.ensures.soiled i).bytes; free = free i }) (soil_step (joined_parts s) s.kept c.args.f c.requires.legal)
 
 given : (c : After-give) → c.give.new.self.free ≡ freed c.args.self.now.slots.free (slot_after_soil (record_at c.args.self.now.frames.table c.args.f.0))
 given c = ap (λ (v : SlotsOf). v.free) c.give.ensures ∙ ap (freed c.args.self.now.slots.free) c.in-Some.ensures.slot

@@ -1,10 +1,7 @@
 use Rattle.std.proofs.Common.{◌∙◌}
 use Rattle.mm_parts.specs.{joined_parts}
-use Rattle.mm_parts.proofs.{home_word, told_low, stands_told}
+use Rattle.mm_parts.proofs.{told_low, stands_told}
 use Rattle.mm_parts.proofs.parts.Parts.stands.Goals as goal
-
-pub word-entry-requires : goal.word-entry-requires
-word-entry-requires c = home_word (joined_parts c.args.self.now) c.args.key c.requires
 
 pub is_own_page-own-requires : goal.is_own_page-own-requires
 is_own_page-own-requires c = λ f v. told_low (joined_parts c.args.self.now) c.args.self.now.kept c.args.key c.word-entry.result c.word-entry.ensures f v

@@ -5,7 +5,7 @@ use Rattle.mm_life.specs.{after_read, with_record, being_read, IsLegal, backing_
 use Rattle.mm_frames.specs.{FramesOf}
 use Rattle.mm_words.specs.Shown as tables
 use Rattle.mm_parts.specs.{life_in, joined_parts, shown_parts, front_for_read, parts_after, own_after}
-use Rattle.mm_parts.proofs.{frame_is, Step, step_to, frame_fits, read_backing, read_low, read_fewer, read_new, read_frame, read_step}
+use Rattle.mm_parts.proofs.{Step, step_to, frame_fits, read_backing, read_fewer, read_new, read_frame, read_step, read_fresh}
 use Rattle.mm_parts.proofs.parts.Parts.start_read.Goals as goal
 use Rattle.mm_parts.proofs.parts.Parts.start_read.Goals.{After-bind_read-f, After-begin_request}
 
@@ -13,7 +13,7 @@ pub take_for_read-dirty-requires : goal.take_for_read-dirty-requires
 take_for_read-dirty-requires c = read_frame (joined_parts c.args.self.now) (front_for_read (life_in (joined_parts c.args.self.now))) c.args.key c.requires.legal
 
 is : (c : After-bind_read-f) → c.bind_read-f.result ≡ front_for_read (life_in (joined_parts c.args.self.now))
-is c = frame_is c.bind_read-f.result (front_for_read (life_in (joined_parts c.args.self.now))) (c.bind_read-f.ensures.same ∙ c.take_for_read-dirty.ensures.first)
+is c = λ i. record { 0 = (c.bind_read-f.ensures.same ∙ c.take_for_read-dirty.ensures.first) i }
 
 legal : (c : After-bind_read-f) → IsLegal (move.Read c.bind_read-f.result c.args.key) (life_in (joined_parts c.args.self.now))
 legal c = subst (λ (g : Frame). IsLegal (move.Read g c.args.key) (life_in (joined_parts c.args.self.now))) (sym (is c)) c.requires.legal
@@ -21,7 +21,7 @@ legal c = subst (λ (g : Frame). IsLegal (move.Read g c.args.key) (life_in (join
 pub set_word-requires-clause-fits : goal.set_word-requires-clause-fits
 set_word-requires-clause-fits c =
     let s = c.args.self.now in
-    frame_fits (joined_parts s) s.kept c.bind_read-f.result (read_low (joined_parts s) s.kept c.bind_read-f.result c.args.key (legal (goal.at.set_word-requires-clause-fits c).After-bind_read-f))
+    frame_fits (joined_parts s) s.kept c.bind_read-f.result (read_fresh (joined_parts s) s.kept c.bind_read-f.result c.args.key (legal (goal.at.set_word-requires-clause-fits c).After-bind_read-f)).low
 
 pub begin_request-requires-clause-fewer : goal.begin_request-requires-clause-fewer
 begin_request-requires-clause-fewer c =

@@ -5,7 +5,7 @@ use Rattle.mm_life.specs.{record_at, after_write, IsLegal}
 use Rattle.mm_frames.specs.{FramesOf, can_go_to}
 use Rattle.mm_parts.specs.{life_in, joined_parts, shown_parts, parts_after, own_after, write_target, goes_to, lowest_free}
 use Rattle.mm_frame_laws.specs.{backing_to}
-use Rattle.mm_parts.proofs.{Step, step_to, write_can, write_low, write_new, write_free, write_step}
+use Rattle.mm_parts.proofs.{Step, step_to, write_can, write_low, write_free, write_step, new_in}
 use Rattle.mm_parts.proofs.parts.Parts.start_write.Goals as goal
 use Rattle.mm_parts.proofs.parts.Parts.start_write.Goals.{After-begin_request}
 
@@ -31,7 +31,7 @@ pub begin_request-requires-clause-fewer : goal.begin_request-requires-clause-few
 begin_request-requires-clause-fewer c = (write_can (joined_parts c.args.self.now) c.args.self.now.kept c.args.f _ c.requires.legal).fewer
 
 pub begin_request-requires-clause-new : goal.begin_request-requires-clause-new
-begin_request-requires-clause-new c = λ other. write_new (joined_parts c.args.self.now) c.args.self.now.kept c.args.f _ (write_can (joined_parts c.args.self.now) c.args.self.now.kept c.args.f _ c.requires.legal)
+begin_request-requires-clause-new c = λ other. new_in (joined_parts c.args.self.now) c.args.self.now.kept c.args.f.0 (write_can (joined_parts c.args.self.now) c.args.self.now.kept c.args.f _ c.requires.legal).quiet
 
 pub returns-clause-to : goal.returns-clause-to
 returns-clause-to c = c.take_target-to.ensures.to ∙ ap (λ (r : Record). goes_to r.backing (lowest_free c.args.self.now.slots.free)) c.look.ensures

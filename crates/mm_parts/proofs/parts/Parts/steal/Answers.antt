@@ -38,9 +38,8 @@ made c =
     let backing : c.in-Some.stolen.backing ≡ (record_at s.frames.table f.0).backing = sym c.in-Some.ensures.backing ∙ ap (λ (x : ℕ). (record_at s.frames.table x).backing) is in
     let now : c.put_free.new.self ≡ free_put (standby_taken s.frames) dirty = c.put_free.ensures ∙ ap (λ (v : FramesOf). free_put v dirty) c.take_standby.ensures.taken in
     let table : c.put_free.new.self.table ≡ after_steal s.frames.table f.0 = ap (λ (v : FramesOf). v.table) now ∙ stolen_table s.frames dirty first ∙ ap (λ (x : ℕ). after_steal s.frames.table x) is in
-    let bytes : c.put_free.new.self.bytes ≡ s.frames.bytes = ap (λ (v : FramesOf). v.bytes) now in
     let words = c.set_word.ensures.words ∙ ap (with_entry (joined_parts s).words key) (c.home.ensures ∙ ap home_entry backing) in
-    step_to _ _ _ (λ i. record (joined_parts s) { table = table i; bytes = bytes i; words = words i; ages = c.set_word.ensures.ages i }) (steal_step (joined_parts s) s.kept f key c.requires.legal owner)
+    step_to _ _ _ (λ i. record (joined_parts s) { table = table i; bytes = (now i).bytes; words = words i; ages = c.set_word.ensures.ages i }) (steal_step (joined_parts s) s.kept f key c.requires.legal owner)
 
 pub invariant_of-self : goal.invariant_of-self
 invariant_of-self c = record { kept = (made (goal.at.invariant_of-self c).After-set_word).kept }

@@ -3,7 +3,6 @@ use Rattle.std.specs.Prelude.{◌==◌, is_some}
 use Rattle.mm_types.specs.{Record}
 use Rattle.mm_types.specs.declared.moves.Move.TheVariants as move
 use Rattle.mm_life.specs.{record_at, changed, same_place}
-use Rattle.mm_frames.specs.{FramesOf}
 use Rattle.mm_words.specs.Shown as tables
 use Rattle.mm_parts.specs.{joined_parts, shown_parts, parts_after}
 use Rattle.mm_parts.proofs.{Step, step_to, Leaving, leaving_told, leave_can, unmap_any_step}
@@ -36,10 +35,8 @@ made c =
     let f = c.in-Valid.f in
     let l : Leaving (joined_parts s) f c.args.place = leaving_told (joined_parts s) s.kept f c.in-Valid.field-1 c.args.place c.at.result c.at.ensures c.in-Valid.is in
     let owner : (record_at s.frames.table f.0).owner ≡ Some c.unwrap-key.result = sym (ap (λ (r : Record). r.owner) c.look-r.ensures) ∙ c.unwrap-key.ensures in
-    let table = ap (λ (v : FramesOf). v.table) c.unshare.ensures in
-    let bytes = ap (λ (v : FramesOf). v.bytes) c.unshare.ensures in
     let last : ((record_at s.frames.table f.0).shares == 1) ≡ (c.look-r.result.shares == 1) = ap (λ (r : Record). r.shares == 1) (sym c.look-r.ensures) in
-    step_to _ _ _ (λ i. record (joined_parts s) { table = table i; bytes = bytes i; words = c.leave_place.ensures.words i; ages = c.leave_place.ensures.ages i }) (unmap_any_step (joined_parts s) s.kept f c.args.place c.unwrap-key.result c.requires.legal l owner (c.look-r.result.shares == 1) last)
+    step_to _ _ _ (λ i. record (joined_parts s) { table = (c.unshare.ensures i).table; bytes = (c.unshare.ensures i).bytes; words = c.leave_place.ensures.words i; ages = c.leave_place.ensures.ages i }) (unmap_any_step (joined_parts s) s.kept f c.args.place c.unwrap-key.result c.requires.legal l owner (c.look-r.result.shares == 1) last)
 
 pub invariant_of-self : goal.invariant_of-self
 invariant_of-self c = record { kept = (made (goal.at.invariant_of-self c).After-leave_place).kept }

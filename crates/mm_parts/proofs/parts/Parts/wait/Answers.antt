@@ -9,14 +9,10 @@ pub wait-requires : goal.wait-requires
 wait-requires c = read_flies (joined_parts c.args.self.now) c.args.self.now.kept c.args.f.0 c.requires.read c.requires.other
 
 pub invariant_of-self : goal.invariant_of-self
-invariant_of-self c =
-    let s = c.args.self.now in
-    record { kept = (step_to _ _ _ (λ i. record (joined_parts s) { flight = c.wait.ensures.waits i }) (wait_step (joined_parts s) s.kept c.args.t.0 (waiting.For c.args.f) c.wait.ensures.there (λ g e. new_wait (joined_parts s) s.kept c.args.f g c.requires.read c.requires.other e))).kept }
+invariant_of-self c = record { kept = (step_to _ _ _ (λ i. record (joined_parts c.args.self.now) { flight = c.wait.ensures.waits i }) (wait_step (joined_parts c.args.self.now) c.args.self.now.kept c.args.t.0 (waiting.For c.args.f) c.wait.ensures.there (λ g e. new_wait (joined_parts c.args.self.now) c.args.self.now.kept c.args.f g c.requires.read c.requires.other e))).kept }
 
 pub returns-clause-made : goal.returns-clause-made
-returns-clause-made c =
-    let s = c.args.self.now in
-    (step_to _ _ _ (λ i. record (joined_parts s) { flight = c.wait.ensures.waits i }) (wait_step (joined_parts s) s.kept c.args.t.0 (waiting.For c.args.f) c.wait.ensures.there (λ g e. new_wait (joined_parts s) s.kept c.args.f g c.requires.read c.requires.other e))).shown
+returns-clause-made c = (step_to _ _ _ (λ i. record (joined_parts c.args.self.now) { flight = c.wait.ensures.waits i }) (wait_step (joined_parts c.args.self.now) c.args.self.now.kept c.args.t.0 (waiting.For c.args.f) c.wait.ensures.there (λ g e. new_wait (joined_parts c.args.self.now) c.args.self.now.kept c.args.f g c.requires.read c.requires.other e))).shown
 
 pub returns-clause-walked : goal.returns-clause-walked
 returns-clause-walked c = λ u.

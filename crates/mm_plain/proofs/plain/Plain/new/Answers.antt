@@ -1,7 +1,7 @@
-use Rattle.std.proofs.Common.{length, refl, ap, arith}
+use Rattle.std.proofs.Common.{false, length, refl, ap, arith}
 use Rattle.mm_types.specs.declared.moves.LineKind.TheVariants as kind
 use Rattle.mm_plain.specs.{area_in, size_of, pages_at}
-use Rattle.mm_plain.proofs.{fits_new, files_fit_new, contents_new, paging_new, blocks_new}
+use Rattle.mm_plain.proofs.{fits_new, files_fit_new, contents_new, paging_new, blocks_new, none_at}
 use Rattle.mm_plain.proofs.plain.Plain.new.Goals as goal
 
 pub invariant_of-result-clause-fits : goal.invariant_of-result-clause-fits
@@ -15,7 +15,7 @@ pub returns-clause-new : goal.returns-clause-new
 returns-clause-new g c = record {
   empty = λ k. contents_new (pages_at c.new.result) (area_in c.new-2.result) c.new-3.result.pages.items k c.new.ensures.pages c.new-2.ensures.areas;
   machine = refl;
-  closed = λ pid. ap (λ f. f pid) c.new-5.ensures;
+  closed = λ pid. none_at false 256 pid;
   no_area = λ area. ap (λ f. size_of (f area)) c.new-2.ensures.areas;
   unbound = λ place. ap (λ f. f place) c.new.ensures.bound;
   no_name = λ place. ap (λ f. f place) c.new.ensures.names;

@@ -4,13 +4,8 @@ use Rattle.mm_types.specs.{MachineOf}
 use Rattle.mm_world.specs.{with_slots}
 use Rattle.mm_pages.specs.{begun}
 use Rattle.mm_plain.specs.{store_in}
-use Rattle.mm_plain.proofs.{more_slots, grown}
+use Rattle.mm_plain.proofs.{grown}
 use Rattle.mm_plain.proofs.plain.PlainPages.grow.Goals as goal
-
-pub new-self-requires : goal.new-self-requires
-new-self-requires g c =
-    let s = c.args.self.now in
-    more_slots s.machine _ _ _ _ c.args.n s.numbers c.frames.ensures c.slots.ensures c.depth.ensures c.blocks-2.ensures c.requires.most
 
 pub returns-clause-ok : goal.returns-clause-ok
 returns-clause-ok g c =

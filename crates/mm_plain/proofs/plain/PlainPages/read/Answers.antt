@@ -4,8 +4,7 @@ use Rattle.mm_types.specs.{Key}
 use Rattle.mm_world.specs.{Page}
 use Rattle.mm_pages.specs.{changed, same_place}
 use Rattle.mm_plain.specs.{names_in, contents_in, store_in}
-use Rattle.mm_plain.proofs.{fetched_named, served_named}
-use Rattle.mm_plain.proofs.Having.{touch_ends}
+use Rattle.mm_plain.proofs.{fetched_named, served_named, touch_ends}
 use Rattle.mm_plain.proofs.plain.PlainPages.read.Goals as goal
 
 pub returns-clause-ok : goal.returns-clause-ok

@@ -1,8 +1,7 @@
 use Rattle.std.proofs.Common.{Some, ap, ◌∙◌}
 use Rattle.mm_pages.specs.{StoreOf, changed, same_place}
 use Rattle.mm_plain.specs.{names_in, contents_in, store_in}
-use Rattle.mm_plain.proofs.{fetched_named, served_named, eased_named, named_after}
-use Rattle.mm_plain.proofs.Having.{touch_ends, written_live}
+use Rattle.mm_plain.proofs.{eased_named, fetched_named, named_after, served_named, touch_ends, written_live}
 use Rattle.mm_plain.proofs.plain.PlainPages.write.Goals as goal
 
 pub name_place-requires : goal.name_place-requires

@@ -18,7 +18,7 @@ invariant_of-self c =
     let i = c.self.inside in
     let apart = subst (λ (o : Option ℕ). AreApartFrom i.free.items o i.others.free) c.in-Some.is c.self.invariant in
     let made = given_behind i.free.items i.others.free c.args.slot c.in-Some.lowest apart (taken_in i.free.items c.deref.result.now c.args.slot c.deref.ensures.value (c.is_taken.ensures.taken c.if-is_taken.true)) c.if-lowest-slot.true in
-    subst (λ (xs : List Bool). AreApartFrom xs i.lowest c.give.new.self.free) (sym c.set_flag.ensures)
+    subst (λ (xs : List Bool). AreApartFrom xs i.lowest c.give.new.self.free) (sym c.set_at.ensures)
     (subst (λ (o : Option ℕ). AreApartFrom (slice_set i.free.items c.args.slot true) o c.give.new.self.free) (sym c.in-Some.is)
     (subst (λ (ys : List Bool). AreApartFrom (slice_set i.free.items c.args.slot true) (Some c.in-Some.lowest) ys) (sym c.give.ensures) made))
 
@@ -33,12 +33,12 @@ invariant_of-self-else-lowest-slot c =
     let i = c.self.inside in
     let apart = subst (λ (o : Option ℕ). AreApartFrom i.free.items o i.others.free) c.in-Some.is c.self.invariant in
     let made = given_before i.free.items i.others.free c.args.slot c.in-Some.lowest apart (taken_in i.free.items c.deref.result.now c.args.slot c.deref.ensures.value (c.is_taken.ensures.taken c.if-is_taken.true)) c.if-lowest-slot.false in
-    subst (λ (xs : List Bool). AreApartFrom xs (Some c.args.slot) c.give-else-lowest-slot.new.self.free) (sym c.set_flag.ensures)
+    subst (λ (xs : List Bool). AreApartFrom xs (Some c.args.slot) c.give-else-lowest-slot.new.self.free) (sym c.set_at.ensures)
     (subst (λ (ys : List Bool). AreApartFrom (slice_set i.free.items c.args.slot true) (Some c.args.slot) ys) (sym c.give-else-lowest-slot.ensures) made)
 
 pub invariant_of-self-in-None : goal.invariant_of-self-in-None
 invariant_of-self-in-None c =
     let i = c.self.inside in
     let apart = subst (λ (o : Option ℕ). AreApartFrom i.free.items o i.others.free) c.in-None.is c.self.invariant in
-    subst (λ (xs : List Bool). AreApartFrom xs (Some c.args.slot) i.others.free) (sym c.set_flag.ensures)
+    subst (λ (xs : List Bool). AreApartFrom xs (Some c.args.slot) i.others.free) (sym c.set_at.ensures)
     (given_first i.free.items i.others.free c.args.slot apart (taken_in i.free.items c.deref.result.now c.args.slot c.deref.ensures.value (c.is_taken.ensures.taken c.if-is_taken.true)))

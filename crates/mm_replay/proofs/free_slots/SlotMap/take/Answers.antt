@@ -9,5 +9,5 @@ invariant_of-self c =
     let i = c.self.inside in
     let lowest : is_lowest c.args.slot i.free.items ≡ true = ap (λ (xs : List Bool). is_lowest c.args.slot xs) c.self.view_is ∙ c.requires in
     let t = c.take-self-inside in
-    subst (λ (xs : List Bool). AreApartFrom xs t.result t.new.self.free) (sym c.set_flag.ensures)
+    subst (λ (xs : List Bool). AreApartFrom xs t.result t.new.self.free) (sym c.set_at.ensures)
     (taken_next i.free.items i.others.free t.new.self.free i.lowest t.result c.args.slot c.self.invariant lowest t.ensures.lowest t.ensures.taken)

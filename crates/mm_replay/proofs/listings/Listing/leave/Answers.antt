@@ -1,7 +1,7 @@
 use Rattle.std.proofs.Common.{◌∙◌, ap, subst, sym}
 use Rattle.mm_life.specs.{is_idle}
 use Rattle.mm_lists.specs.{ListsOf}
-use Rattle.mm_replay.specs.{AreFour, Off, table_of}
+use Rattle.mm_replay.specs.{AreLists, Off, table_of}
 use Rattle.mm_replay.proofs.{off_left, busy_off, table_left, table_stays}
 use Rattle.mm_replay.proofs.listings.Listing.leave.Goals as goal
 
@@ -9,7 +9,7 @@ pub returns-then-is_idle-clause-off : goal.returns-then-is_idle-clause-off
 returns-then-is_idle-clause-off c =
     let s = c.args.self.now in
     subst (λ (v : ListsOf). Off s.records.items v c.args.f) (sym c.unlink.ensures.closed)
-    (off_left s.records.items s.lists c.args.f c.requires.kept c.requires.owned (subst AreFour c.unlink.ensures.closed c.unlink.ensures.four))
+    (off_left s.records.items s.lists c.args.f c.requires.kept c.requires.owned (subst (AreLists 4) c.unlink.ensures.closed c.unlink.ensures.kept))
 
 pub returns-then-is_idle-clause-table : goal.returns-then-is_idle-clause-table
 returns-then-is_idle-clause-table c =

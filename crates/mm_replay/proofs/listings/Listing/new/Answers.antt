@@ -7,4 +7,4 @@ use Rattle.mm_replay.proofs.listings.Listing.new.Goals as goal
 pub returns-clause-kept : goal.returns-clause-kept
 returns-clause-kept c =
     subst (λ (rs : List Record). Kept rs c.push_all.new.lists) (sym c.in_ok-records.ensures)
-    (all_kept c.args.frames c.push_all.new.lists c.push_all.ensures.pushed c.push_all.ensures.four)
+    (all_kept c.args.frames c.push_all.new.lists c.push_all.ensures.pushed c.push_all.ensures.kept)

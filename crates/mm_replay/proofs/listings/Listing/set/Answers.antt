@@ -7,4 +7,4 @@ use Rattle.mm_replay.proofs.listings.Listing.set.Goals as goal
 pub returns-clause-off : goal.returns-clause-off
 returns-clause-off c =
     let s = c.args.self.now in
-    subst (λ (rs : List Record). Off rs s.lists c.args.f) (sym c.set_record.ensures) (off_set s.records.items s.lists c.args.f c.args.r c.requires)
+    subst (λ (rs : List Record). Off rs s.lists c.args.f) (sym c.set_at.ensures) (off_set s.records.items s.lists c.args.f c.args.r c.requires)

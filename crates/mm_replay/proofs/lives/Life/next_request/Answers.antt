@@ -1,10 +1,8 @@
-use Rattle.std.proofs.Common.{ℕ, Option, ap}
-use Rattle.std.specs.Prelude.{option_map}
-use Rattle.mm_replay.specs.Sound.{frame}
+use Rattle.mm_replay.specs.Standing.{life}
+use Rattle.mm_replay.proofs.{framed_behind}
 use Rattle.mm_replay.proofs.lives.Life.next_request.Goals as goal
 
-pub returns-in-Some : goal.returns-in-Some
-returns-in-Some c = record {
-  behind = λ j k e. ap (λ (x : Option ℕ). option_map frame x) (c.in-Some.ensures.behind k e);
-  none = λ h. ap (λ (x : Option ℕ). option_map frame x) (c.in-Some.ensures.none (λ k e. h tt k e));
-}
+pub returns : goal.returns
+returns c =
+    framed_behind {A = Unit {0}} (λ _. (life c.args.self.now).flight) c.args.frame.0 c.next.result c.framed.result c.framed.ensures
+    (λ j k e. c.next.ensures.behind k e) (λ h. c.next.ensures.none (λ k e. h tt k e))

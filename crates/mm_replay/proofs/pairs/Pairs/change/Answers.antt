@@ -1,6 +1,6 @@
 use Rattle.std.proofs.Common.{Some, sym, ap, ◌∙◌}
 use Rattle.std.specs.Prelude.{is_some}
-use Rattle.mm_replay.specs.{in_leaves, ordered, first_of, near_part, near_of}
+use Rattle.mm_replay.specs.{in_leaves, ordered, near_part, near_of}
 use Rattle.mm_replay.proofs.{chosen, near_sets, near_written, far_written}
 use Rattle.mm_replay.proofs.pairs.Pairs.change.Goals as goal
 
@@ -10,7 +10,7 @@ change-requires g c = c.in-Some.ensures.1
 pub change-requires-in-None : goal.change-requires-in-None
 change-requires-in-None g c =
     let s = c.args.self.now in
-    sym (ap is_some (chosen (near_of s) (ordered s.far) c.args.a c.args.b ∙ ap (λ o. first_of o (ordered s.far c.args.a c.args.b)) c.in-None.ensures)) ∙ c.requires
+    sym (ap is_some (chosen (near_of s) (ordered s.far) c.args.a c.args.b c.in-None.ensures)) ∙ c.requires
 
 pub returns-in-Some : goal.returns-in-Some
 returns-in-Some g c =

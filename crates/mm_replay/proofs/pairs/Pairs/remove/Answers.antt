@@ -1,12 +1,12 @@
-use Rattle.std.proofs.Common.{sym, ap, ◌∙◌}
-use Rattle.mm_replay.specs.{in_leaves, ordered, first_of, near_part, near_of}
+use Rattle.std.proofs.Common.{sym, ◌∙◌}
+use Rattle.mm_replay.specs.{in_leaves, ordered, near_part, near_of}
 use Rattle.mm_replay.proofs.{chosen, both_removed}
 use Rattle.mm_replay.proofs.pairs.Pairs.remove.Goals as goal
 
 pub returns-in-Some-clause-value : goal.returns-in-Some-clause-value
 returns-in-Some-clause-value g c =
     let s = c.args.self.now in
-    sym (chosen (near_of s) (ordered s.far) c.args.a c.args.b ∙ ap (λ o. first_of o (ordered s.far c.args.a c.args.b)) (sym c.remove_near.ensures.value ∙ c.in-Some.is))
+    sym (chosen (near_of s) (ordered s.far) c.args.a c.args.b (sym c.remove_near.ensures.value ∙ c.in-Some.is))
 
 pub returns-in-Some-clause-removed : goal.returns-in-Some-clause-removed
 returns-in-Some-clause-removed g c =
@@ -17,7 +17,7 @@ returns-in-Some-clause-removed g c =
 pub returns-in-None-clause-value : goal.returns-in-None-clause-value
 returns-in-None-clause-value g c =
     let s = c.args.self.now in
-    c.remove-far.ensures.value ∙ sym (chosen (near_of s) (ordered s.far) c.args.a c.args.b ∙ ap (λ o. first_of o (ordered s.far c.args.a c.args.b)) (sym c.remove_near.ensures.value ∙ c.in-None.is))
+    c.remove-far.ensures.value ∙ sym (chosen (near_of s) (ordered s.far) c.args.a c.args.b (sym c.remove_near.ensures.value ∙ c.in-None.is))
 
 pub returns-in-None-clause-removed : goal.returns-in-None-clause-removed
 returns-in-None-clause-removed g c =

@@ -4,14 +4,11 @@ use Rattle.mm_replay.specs.Replaying.{life}
 use Rattle.mm_replay.proofs.{read_ready, ready_low, ready_quiet}
 use Rattle.mm_replay.proofs.states.State.read.Goals as goal
 
-pub begin-requires-clause-low : goal.begin-requires-clause-low
-begin-requires-clause-low c =
+pub begin-requires : goal.begin-requires
+begin-requires c =
     let s = c.args.self.now in
     let ready = read_ready (life s) c.requires.listed c.args.frame.0 (and_parts _ _ (and_parts _ _ c.requires.legal).0).0 in
-    subst (λ (n : ℕ). c.args.frame.0 < n) (sym s.requested) (ready_low (life s) c.requires.sound c.args.frame.0 ready)
-
-pub begin-requires-clause-none : goal.begin-requires-clause-none
-begin-requires-clause-none c =
-    let s = c.args.self.now in
-    let ready = read_ready (life s) c.requires.listed c.args.frame.0 (and_parts _ _ (and_parts _ _ c.requires.legal).0).0 in
-    ready_quiet (life s) c.requires.sound c.args.frame.0 ready
+    record {
+      low = subst (λ (n : ℕ). c.args.frame.0 < n) (sym s.requested) (ready_low (life s) c.requires.sound c.args.frame.0 ready);
+      none = ready_quiet (life s) c.requires.sound c.args.frame.0 ready;
+    }

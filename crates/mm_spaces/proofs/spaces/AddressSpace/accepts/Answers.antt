@@ -1,6 +1,6 @@
 use Rattle.std.proofs.Common.{sym, ◌∙◌}
 use Rattle.mm_spaces.specs.{passes}
-use Rattle.mm_spaces.specs.declared.row_tests.RowTest.TheVariants as test
+use Rattle.mm_spaces.specs.declared.rows.RowTest.TheVariants as test
 use Rattle.mm_spaces.proofs.{every_row}
 use Rattle.mm_spaces.proofs.spaces.AddressSpace.accepts.Goals as goal
 

@@ -9,14 +9,14 @@ use Rattle.mm_spaces.proofs.spaces.AddressSpace.change.Goals.{After-range}
 same : (c : After-range) → Same c.self.inside.space.regions (range_at c.range.inside.first c.range.inside.count) c.args.self.now.regions c.args.range
 same c = record { regions = ap (λ (v : RegionsOf). v.regions) c.self.view_is; range_is = c.range.view_is }
 
-pub change_rows-requires : goal.change_rows-requires
-change_rows-requires c = inside _ _ _ _ (same c) c.requires.inside
+pub change_rows-requires-clause-inside : goal.change_rows-requires-clause-inside
+change_rows-requires-clause-inside c = inside _ _ _ _ (same (goal.at.change_rows-requires-clause-inside c).After-range) c.requires.inside
 
 pub invariant_of-self : goal.invariant_of-self
 invariant_of-self c =
     let s = same (goal.at.invariant_of-self c).After-range in
     kept_rows c.self.inside.space.regions c.change_rows.new.space.regions c.args.change (range_at c.range.inside.first c.range.inside.count) c.self.invariant (inside _ _ _ _ s c.requires.inside)
-    (can_inside _ _ _ _ s c.args.change c.requires.can) c.change_rows.ensures.after (c.change_rows.ensures.kept c.self.invariant.whole)
+    (can_inside _ _ _ _ s c.args.change c.requires.can) c.change_rows.ensures.after c.change_rows.ensures.kept
 
 pub returns-clause-changed : goal.returns-clause-changed
 returns-clause-changed c =

@@ -1,17 +1,18 @@
-use Rattle.std.proofs.Common.{◌≡◌, true, is_some, sym, subst}
-use Rattle.mm_world.specs.{region_with}
-use Rattle.mm_spaces.specs.{CanChangeRow, RowChanged, shown_regions, RegionsOf}
-use Rattle.mm_spaces.proofs.{kept_row}
+use Rattle.std.proofs.Common.{◌≡◌, ◌-◌, ◌∙◌, is_some, sym, ap, arith, slice_set}
+use Rattle.mm_world.specs.{RegionOf, row_at}
+use Rattle.mm_spaces.specs.{changed_row}
+use Rattle.mm_spaces.proofs.{one_around, one_changed}
 use Rattle.mm_spaces.proofs.spaces.AddressSpace.change_one.Goals as goal
 
-pub change_row-requires : goal.change_row-requires
-change_row-requires c = subst (λ (v : RegionsOf). is_some (region_with v.regions c.args.page) ≡ true) (sym c.self.view_is) c.requires.there
+pub change-requires-clause-inside : goal.change-requires-clause-inside
+change-requires-clause-inside c = sym (ap is_some (one_around c.args.self.now.regions c.args.page)) ∙ c.requires.there
 
-pub invariant_of-self : goal.invariant_of-self
-invariant_of-self c =
-    kept_row c.self.inside.space.regions c.change_row.new.space.regions c.args.change c.args.page c.self.invariant
-    (subst (λ (v : RegionsOf). is_some (region_with v.regions c.args.page) ≡ true) (sym c.self.view_is) c.requires.there)
-    (subst (λ (v : RegionsOf). CanChangeRow c.args.change v.regions c.args.page) (sym c.self.view_is) c.requires.can) c.change_row.ensures.after c.change_row.ensures.kept
+pub change-requires-clause-can : goal.change-requires-clause-can
+change-requires-clause-can c r e page row low high at =
+    let same : c.args.page ≡ page = omega (arith, low, high) in
+    c.requires.can r row (one_around c.args.self.now.regions c.args.page ∙ e) (ap (row_at r.thing) same ∙ at)
 
 pub returns-clause-changed : goal.returns-clause-changed
-returns-clause-changed c = subst (λ (v : RegionsOf). RowChanged c.args.change c.args.page v.regions (shown_regions c.change_row.new.space.regions)) c.self.view_is c.change_row.ensures.after
+returns-clause-changed c r row e at =
+    c.change.ensures.changed r (sym (one_around c.args.self.now.regions c.args.page) ∙ e)
+    ∙ ap (λ rows. slice_set c.args.self.now.regions r.place (let s : RegionOf (Unit {0}) = record r.thing { rows = rows } in s)) (one_changed (changed_row c.args.change r.thing.kind) (c.args.page - r.thing.base) r.thing.rows row at)

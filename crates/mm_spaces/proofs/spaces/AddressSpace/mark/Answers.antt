@@ -1,8 +1,9 @@
 use Rattle.std.proofs.Common.{◌≡◌, Some, true, is_some, sym, ap, ◌∙◌, subst, slice_set}
+use Rattle.mm_types.proofs.{some_found}
 use Rattle.mm_vad.specs.{SpaceOf}
 use Rattle.mm_world.specs.{region_with, mark_written, one_page}
 use Rattle.mm_spaces.specs.{shown_regions, RegionsOf}
-use Rattle.mm_spaces.proofs.{there, some_at, marked, kept_marks}
+use Rattle.mm_spaces.proofs.{some_at, marked, kept_marks}
 use Rattle.mm_spaces.proofs.spaces.AddressSpace.mark.Goals as goal
 
 pub mark-requires : goal.mark-requires
@@ -14,8 +15,8 @@ pub invariant_of-self : goal.invariant_of-self
 invariant_of-self c =
     let vs = c.self.inside.space.regions in
     let some = subst (λ (v : RegionsOf). is_some (region_with v.regions c.args.page) ≡ true) (sym c.self.view_is) c.requires.there in
-    let r = there (region_with (shown_regions vs) c.args.page) some in
-    kept_marks true vs c.mark.new.self.regions (one_page c.args.page) r.thing c.self.invariant r.is
+    let r = some_found (region_with (shown_regions vs) c.args.page) some in
+    kept_marks true vs c.mark.new.self.regions (one_page c.args.page) r.0 c.self.invariant r.1
     (ap (λ (s : SpaceOf). s.regions) c.mark.ensures.after) c.mark.ensures.sound
 
 pub returns-clause-changed : goal.returns-clause-changed

@@ -1,12 +1,12 @@
-use Rattle.std.proofs.Common.{ap, ◌∙◌}
+use Rattle.std.proofs.Common.{Some, None, sym, ap, ◌∙◌}
 use Rattle.mm_world.specs.{next_base}
 use Rattle.mm_spaces.specs.{RegionsOf}
-use Rattle.mm_spaces.proofs.{next_is, no_next, next_behind}
+use Rattle.mm_spaces.proofs.{next_shown, next_behind}
 use Rattle.mm_spaces.proofs.spaces.AddressSpace.next_base.Goals as goal
 
 pub returns-in-Some-clause-next : goal.returns-in-Some-clause-next
 returns-in-Some-clause-next c =
-    next_is c.self.inside.space.regions c.args.page c.in-Some.region.now c.in-Some.ensures.found
+    sym (next_shown c.self.inside.space.regions c.args.page (Some c.in-Some.region.now) c.in-Some.ensures.found)
     ∙ ap (λ (v : RegionsOf). next_base v.regions c.args.page) c.self.view_is
 
 pub returns-in-Some-clause-behind : goal.returns-in-Some-clause-behind
@@ -19,5 +19,5 @@ returns-in-Some-clause-within c =
 
 pub returns-in-None-clause-next : goal.returns-in-None-clause-next
 returns-in-None-clause-next c =
-    no_next c.self.inside.space.regions c.args.page c.in-None.ensures.found
+    sym (next_shown c.self.inside.space.regions c.args.page None c.in-None.ensures.found)
     ∙ ap (λ (v : RegionsOf). next_base v.regions c.args.page) c.self.view_is

@@ -1,7 +1,7 @@
 use Rattle.std.proofs.Common.{sym, ap, ◌∙◌}
 use Rattle.mm_world.specs.{RegionOf}
 use Rattle.mm_spaces.specs.{passes}
-use Rattle.mm_spaces.specs.declared.row_tests.RowTest.TheVariants as test
+use Rattle.mm_spaces.specs.declared.rows.RowTest.TheVariants as test
 use Rattle.mm_spaces.proofs.{every_row, every_owned}
 use Rattle.mm_spaces.proofs.spaces.AddressSpace.protect_info.Goals as goal
 

@@ -1,9 +1,10 @@
 use Rattle.std.proofs.Common.{◌≡◌, Some, false, sym, ap, ◌∙◌, slice_set}
+use Rattle.mm_types.proofs.{some_found}
 use Rattle.mm_types.specs.{Range}
 use Rattle.mm_vad.specs.{range_at, SpaceOf}
 use Rattle.mm_world.specs.{mark_written, watched_around}
 use Rattle.mm_spaces.specs.{shown_regions, RegionsOf}
-use Rattle.mm_spaces.proofs.{there, Place, IsWatched, watched_as, lie_in_region, marked, kept_marks}
+use Rattle.mm_spaces.proofs.{Place, IsWatched, watched_as, lie_in_region, marked, kept_marks}
 use Rattle.mm_spaces.proofs.spaces.AddressSpace.reset_written.Goals as goal
 use Rattle.mm_spaces.proofs.spaces.AddressSpace.reset_written.Goals.{After-range}
 
@@ -12,13 +13,13 @@ watched c r e = watched_as (record { regions = ap (λ (v : RegionsOf). v.regions
 
 pub clear_marks-requires : goal.clear_marks-requires
 clear_marks-requires c =
-    let r = there (watched_around c.args.self.now.regions c.args.range) (sym c.is_watched.ensures ∙ c.if-not-is_watched.false) in
-    lie_in_region c.self.inside.space.regions (range_at c.range.inside.first c.range.inside.count) r.thing c.self.invariant (watched c r.thing r.is)
+    let r = some_found (watched_around c.args.self.now.regions c.args.range) (sym c.is_watched.ensures ∙ c.if-not-is_watched.false) in
+    lie_in_region c.self.inside.space.regions (range_at c.range.inside.first c.range.inside.count) r.0 c.self.invariant (watched c r.0 r.1)
 
 pub invariant_of-self : goal.invariant_of-self
 invariant_of-self c =
-    let r = there (watched_around c.args.self.now.regions c.args.range) (sym c.is_watched.ensures ∙ c.if-not-is_watched.false) in
-    kept_marks false c.self.inside.space.regions c.clear_marks.new.self.regions (range_at c.range.inside.first c.range.inside.count) r.thing c.self.invariant (watched (goal.at.invariant_of-self c).After-range r.thing r.is).there
+    let r = some_found (watched_around c.args.self.now.regions c.args.range) (sym c.is_watched.ensures ∙ c.if-not-is_watched.false) in
+    kept_marks false c.self.inside.space.regions c.clear_marks.new.self.regions (range_at c.range.inside.first c.range.inside.count) r.0 c.self.invariant (watched (goal.at.invariant_of-self c).After-range r.0 r.1).there
     (ap (λ (s : SpaceOf). s.regions) c.clear_marks.ensures.after) c.clear_marks.ensures.sound
 
 pub returns-clause-changed : goal.returns-clause-changed

@@ -1,9 +1,10 @@
 use Rattle.std.proofs.Common.{◌≡◌, Some, map, sym, ap, ◌∙◌, slice_set}
+use Rattle.mm_types.proofs.{some_found}
 use Rattle.mm_types.specs.{Range, address_of}
 use Rattle.mm_vad.specs.{range_at, SpaceOf}
 use Rattle.mm_world.specs.{change_flags, watched_around, written_in, unwritten}
 use Rattle.mm_spaces.specs.{shown_regions, RegionsOf}
-use Rattle.mm_spaces.proofs.{there, Place, IsWatched, watched_as, told_of, told_pages, lie_with_page, unwrote, kept_unwrote}
+use Rattle.mm_spaces.proofs.{Place, IsWatched, watched_as, told_of, told_pages, lie_with_page, unwrote, kept_unwrote}
 use Rattle.mm_spaces.proofs.spaces.AddressSpace.take_written.Goals as goal
 use Rattle.mm_spaces.proofs.spaces.AddressSpace.take_written.Goals.{After-range}
 
@@ -18,14 +19,14 @@ told c r e =
 pub unwrite-requires : goal.unwrite-requires
 unwrite-requires c =
     let d = (goal.at.unwrite-requires c).After-range in
-    let r = there (watched_around c.args.self.now.regions c.args.range) (told_of _ _ c.in_ok-pages.pages c.in_ok-pages.ensures.found) in
-    lie_with_page c.self.inside.space.regions (range_at c.range.inside.first c.range.inside.count) r.thing c.args.count c.in_ok-pages.pages c.self.invariant (watched d r.thing r.is) (told d r.thing r.is)
+    let r = some_found (watched_around c.args.self.now.regions c.args.range) (told_of _ _ c.in_ok-pages.pages c.in_ok-pages.ensures.found) in
+    lie_with_page c.self.inside.space.regions (range_at c.range.inside.first c.range.inside.count) r.0 c.args.count c.in_ok-pages.pages c.self.invariant (watched d r.0 r.1) (told d r.0 r.1)
 
 pub invariant_of-self : goal.invariant_of-self
 invariant_of-self c =
-    let r = there (watched_around c.args.self.now.regions c.args.range) (told_of _ _ c.in_ok-pages.pages c.in_ok-pages.ensures.found) in
+    let r = some_found (watched_around c.args.self.now.regions c.args.range) (told_of _ _ c.in_ok-pages.pages c.in_ok-pages.ensures.found) in
     let d = (goal.at.invariant_of-self c).After-range in
-    kept_unwrote c.self.inside.space.regions c.unwrite.new.self.regions (range_at c.range.inside.first c.range.inside.count) r.thing c.args.count c.in_ok-pages.pages c.self.invariant (watched d r.thing r.is).there (told d r.thing r.is)
+    kept_unwrote c.self.inside.space.regions c.unwrite.new.self.regions (range_at c.range.inside.first c.range.inside.count) r.0 c.args.count c.in_ok-pages.pages c.self.invariant (watched d r.0 r.1).there (told d r.0 r.1)
     (ap (λ (s : SpaceOf). s.regions) c.unwrite.ensures.after) c.unwrite.ensures.sound
 
 pub returns-clause-changed : goal.returns-clause-changed

@@ -1,28 +1,26 @@
-use Rattle.std.proofs.Common.{refl, sym, ap, subst}
-use Rattle.mm_types.specs.{Loans, Both}
+use Rattle.std.proofs.Common.{refl, sym, subst}
 use Rattle.mm_types.specs.declared.moves.Move.TheVariants as move
-use Rattle.mm_parts.specs.{PartsOf, waits_of}
 use Rattle.mm_frame_laws.proofs.{carries_at_plain}
 use Rattle.mm_state.specs.{IsTallied}
-use Rattle.mm_state.proofs.{plain_grown, made_quiet, rest_of, carried, tallied_none}
+use Rattle.mm_state.proofs.{plain_grown, located_moved, made_moved, rest_of, tallied_none}
 use Rattle.mm_state.proofs.calls.StateMoving.at.Goals as goal
 
-pub invariant_of-self : goal.invariant_of-self
-invariant_of-self g c =
+pub invariant_of-self-clause-located : goal.invariant_of-self-clause-located
+invariant_of-self-clause-located g c =
     let s = c.args.self.now in
-    let now = carried _ _ _ _ _ c.at.ensures.made (carries_at_plain _ s.parts.kept.reached _ _ _ s.located c.args.line c.args.kind s.parts.kept.line.begun (plain_grown c.args.kind c.requires.plain) c.requires.legal) in
-    record { located = now.located; tallied = subst IsTallied (sym c.none-self.ensures) tallied_none; slots_whole = s.slots_whole; blocks_whole = s.blocks_whole }
+    located_moved _ _ _ _ _ c.at.ensures.made (carries_at_plain _ s.parts.kept.reached _ _ _ s.located c.args.line c.args.kind
+    s.parts.kept.line.begun (plain_grown c.args.kind c.requires.plain) c.requires.legal)
+
+pub invariant_of-self-clause-tallied : goal.invariant_of-self-clause-tallied
+invariant_of-self-clause-tallied g c = subst IsTallied (sym c.none-self.ensures) tallied_none
 
 pub returns-clause-made : goal.returns-clause-made
 returns-clause-made g c =
-    let e = c.at.ensures.made in
-    made_quiet (move.At c.args.line c.args.kind) _ _ c.requires.legal c.note.ensures.in_range c.note.ensures.grew (ap (λ (x : PartsOf). x.life) e) (ap (λ (x : PartsOf). x.ages) e) (ap (λ (x : PartsOf). waits_of x.waits) e) c.none-self.ensures (refl, refl) refl refl
+    made_moved (move.At c.args.line c.args.kind) _ _ _ _ _ _ _ _ _ _ _ c.at.ensures.made c.requires.legal
+    c.note.ensures.in_range c.note.ensures.grew refl refl refl c.none-self.ensures (refl, refl)
 
 pub returns-clause-rest : goal.returns-clause-rest
 returns-clause-rest g c =
     let s = c.args.self.now in
-    let e = c.at.ensures.made in
-    rest_of _ _ _ _ _ _ _ _ _ e (carried _ _ _ _ _ e (carries_at_plain _ s.parts.kept.reached _ _ _ s.located c.args.line c.args.kind s.parts.kept.line.begun (plain_grown c.args.kind c.requires.plain) c.requires.legal)).bytes
-
-pub returns-clause-loans : goal.returns-clause-loans
-returns-clause-loans g c = ap (λ (x : Loans). Both (Both (g.P.Inject.loans c.args.self.now.paging) (g.F.Inject.loans c.args.self.now.files)) x) c.note.ensures.loans
+    rest_of _ _ _ _ _ _ _ _ _ c.at.ensures.made (carries_at_plain _ s.parts.kept.reached _ _ _ s.located c.args.line c.args.kind
+    s.parts.kept.line.begun (plain_grown c.args.kind c.requires.plain) c.requires.legal)

@@ -2,11 +2,11 @@ use Rattle.std.proofs.Common.{ℕ, length, List, sym, ap, ◌∙◌}
 use Rattle.mm_ram.specs.{bytes_from}
 use Rattle.mm_parts.specs.PartsShown as parts_of
 use Rattle.mm_parts.specs.{owners}
-use Rattle.mm_state.proofs.{shown_on, located_on, pick, valid_names, valid_calm, own_bytes}
+use Rattle.mm_state.proofs.{located_on, pick, valid_names, valid_calm, own_bytes}
 use Rattle.mm_state.proofs.calls.StateMoving.read.Goals as goal
 
-pub invariant_of-self : goal.invariant_of-self
-invariant_of-self g c = let s = c.args.self.now in record { located = located_on _ _ _ _ c.read.ensures.made s.located; tallied = s.tallied; slots_whole = s.slots_whole; blocks_whole = s.blocks_whole }
+pub invariant_of-self-clause-located : goal.invariant_of-self-clause-located
+invariant_of-self-clause-located g c = let s = c.args.self.now in located_on _ _ _ _ c.read.ensures.made s.located
 
 pub returns-clause-bytes : goal.returns-clause-bytes
 returns-clause-bytes g c =
@@ -18,6 +18,3 @@ returns-clause-bytes g c =
     c.read.ensures.bytes at.0 at.1
     ∙ ap (λ (page : List ℕ). bytes_from page c.args.off (length c.args.out.now)) (own_bytes u.life s.parts.kept.reached u.bytes (g.P.Inject.blocks s.paging) (g.F.Inject.blocks s.files) s.located at.0 k owner
     (valid_calm u.life s.parts.kept.reached u.bytes (g.P.Inject.blocks s.paging) (g.F.Inject.blocks s.files) s.located c.args.place at.0 at.1))
-
-pub returns-clause-rest : goal.returns-clause-rest
-returns-clause-rest g c = shown_on _ _ _ _ _ _ _ _ c.read.ensures.made

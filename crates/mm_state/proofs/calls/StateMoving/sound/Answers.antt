@@ -2,9 +2,6 @@ use Rattle.mm_parts.specs.PartsShown as parts_of
 use Rattle.mm_state.proofs.{page_whole}
 use Rattle.mm_state.proofs.calls.StateMoving.sound.Goals as goal
 
-pub returns-clause-few : goal.returns-clause-few
-returns-clause-few g c = c.parts_hold.ensures.lines.few
-
 pub returns-clause-whole : goal.returns-clause-whole
 returns-clause-whole g c =
     let s = c.args.self.now in

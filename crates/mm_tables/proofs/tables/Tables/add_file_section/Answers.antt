@@ -17,7 +17,7 @@ invariant_of-self-2 c =
     let p = some_found (process_of c.args.self.now c.args.pid.0) c.requires.lives in
     file_section_kept
     (lists c.self.inside c.args.pid.0 (record { prot = c.args.prot.0; name = c.args.name; area = c.args.area.0 }) c.self.view_is c.grow_for_section.ensures.processes
-    c.grow_for_section.ensures.listed.entries c.grow_for_section.ensures.listed.files c.list_section.ensures.given c.list_section.ensures.entries c.list_section.ensures.files)
+    c.grow_for_section.ensures.listed.entries c.grow_for_section.ensures.listed.files c.list_section.ensures.gives.given c.list_section.ensures.entries c.list_section.ensures.files)
     p.0 p.1 c.requires.file c.self.invariant
 
 pub returns-clause-settled : goal.returns-clause-settled
@@ -25,5 +25,5 @@ returns-clause-settled c old z fits =
     let p = some_found (process_of c.args.self.now c.args.pid.0) c.requires.lives in
     file_section_settled
     (lists c.self.inside c.args.pid.0 (record { prot = c.args.prot.0; name = c.args.name; area = c.args.area.0 }) c.self.view_is c.grow_for_section.ensures.processes
-    c.grow_for_section.ensures.listed.entries c.grow_for_section.ensures.listed.files c.list_section.ensures.given c.list_section.ensures.entries c.list_section.ensures.files)
+    c.grow_for_section.ensures.listed.entries c.grow_for_section.ensures.listed.files c.list_section.ensures.gives.given c.list_section.ensures.entries c.list_section.ensures.files)
     p.0 p.1 old z fits

@@ -4,11 +4,9 @@ use Rattle.mm_types.specs.declared.answers.Answer.TheVariants as answer
 use Rattle.mm_world.specs.{numbered, charge, Tables, process_of}
 use Rattle.mm_world.specs.WellFormed.{WellFormed}
 use Rattle.mm_tables.specs.{shown_processes}
-use Rattle.mm_tables.proofs.{can_hold, ListsSection, paging_pages, committed_pages, area_free, key_free, lists, paging_kept, paging_now}
-use Rattle.mm_tables.proofs.{paging_settled, same_kept, as_kept, paging_few, roomier_settled}
-use Rattle.mm_tables.proofs.SectionPaging.{same_tables}
-use Rattle.mm_pages.specs.{Makes}
-use Rattle.mm_pages.proofs.{turns_same}
+use Rattle.mm_tables.proofs.{idle, pages_as, pages_idle, can_hold, ListsSection, paging_pages, committed_pages, area_free, key_free, lists}
+use Rattle.mm_tables.proofs.{paging_kept, paging_now, paging_settled, same_kept, as_kept, paging_few, out_of_memory}
+use Rattle.mm_tables.proofs.SectionFits.{same_tables}
 use Rattle.mm_types.proofs.{some_found, on_err}
 use Rattle.mm_tables.proofs.tables.Tables.add_paging_section.Given as given
 use Rattle.mm_tables.proofs.tables.Tables.add_paging_section.Goals as goal
@@ -22,13 +20,13 @@ committed_few pages false n is = omega (arith, is)
 listed : (g : given.Over) (c : goal.After-take g) → ListsSection c.self.inside c.args.self.now c.args.pid.0 (record { prot = c.args.prot.0; name = c.args.name; area = c.len.result }) (shown_processes c.list_section-handle.new.processes.items) c.list_section-handle.new.directory.entries c.list_section-handle.new.directory.files
 listed g c =
     lists c.self.inside c.args.pid.0 (record { prot = c.args.prot.0; name = c.args.name; area = c.len.result }) c.self.view_is c.grow_for_paging.ensures.processes
-    c.grow_for_paging.ensures.listed.entries c.grow_for_paging.ensures.listed.files c.list_section-handle.ensures.given c.list_section-handle.ensures.entries c.list_section-handle.ensures.files
+    c.grow_for_paging.ensures.listed.entries c.grow_for_paging.ensures.listed.files c.list_section-handle.ensures.gives.given c.list_section-handle.ensures.entries c.list_section-handle.ensures.files
 
 at_end : (g : given.Over) (c : goal.After-take g) → c.len.result ≡ length c.self.inside.areas.items
 at_end g c = omega (arith, c.len.ensures, c.self.inside.areas.ok.0)
 
-areas_are : (g : given.Over) (c : goal.After-take g) → c.push_area.new.areas.items ≡ c.self.inside.areas.items ++ paging_pages c.args.pages c.args.committed ∷ []
-areas_are g c = c.push_area.ensures ∙ (λ i. c.grow_for_paging.ensures.areas i ++ c.in_ok-made.ensures.made i ∷ [])
+areas_are : (g : given.Over) (c : goal.After-take g) → c.push_reserved.new.self.items ≡ c.self.inside.areas.items ++ paging_pages c.args.pages c.args.committed ∷ []
+areas_are g c = c.push_reserved.ensures.items ∙ (λ i. c.grow_for_paging.ensures.areas i ++ c.in_ok-made.ensures.made i ∷ [])
 
 pub invariant_of-self : goal.invariant_of-self
 invariant_of-self g c =
@@ -36,18 +34,12 @@ invariant_of-self g c =
 
 pub returns-in_err-made-clause-settles : goal.returns-in_err-made-clause-settles
 returns-in_err-made-clause-settles g c =
-    let same = same_tables c.self.inside c.grow_for_paging.ensures.processes c.grow_for_paging.ensures.listed.entries c.grow_for_paging.ensures.areas c.grow_for_paging.ensures.listed.files c.self.view_is in
-    record {
-      err = on_err c.from_residual.result (same, refl);
-      settled = roomier_settled c.requires.ready.fits same (record { contents = refl; store = refl; later = omega arith });
-    }
+    out_of_memory g.G.Pages c.from_residual.result c.requires.ready.fits
+    (same_tables c.self.inside c.grow_for_paging.ensures.processes c.grow_for_paging.ensures.listed.entries c.grow_for_paging.ensures.areas c.grow_for_paging.ensures.listed.files c.self.view_is)
+    (record { contents = refl; store = refl; later = omega arith })
 
 pub returns-in_err-made-clause-makes : goal.returns-in_err-made-clause-makes
-returns-in_err-made-clause-makes g c = record {
-  passes = turns_same g.G.Pages.unpaged Makes (g.G.Pages.store c.args.g.now) (g.G.Pages.behind c.args.g.now);
-  idle = on_err c.from_residual.result (λ turn. turns_same g.G.Pages.unpaged turn (g.G.Pages.store c.args.g.now) (g.G.Pages.behind c.args.g.now));
-  loans = refl;
-}
+returns-in_err-made-clause-makes g c = pages_idle g.G.Pages c.from_residual.result (idle g.G.Pages c.args.g.now) refl
 
 pub open_paging_area-requires-clause-new : goal.open_paging_area-requires-clause-new
 open_paging_area-requires-clause-new g c =
@@ -71,18 +63,13 @@ invariant_of-self-in_err-open_paging_area g c =
 
 pub returns-in_err-open_paging_area-clause-settles : goal.returns-in_err-open_paging_area-clause-settles
 returns-in_err-open_paging_area-clause-settles g c =
-    let same = same_tables c.self.inside c.grow_for_paging.ensures.processes c.grow_for_paging.ensures.listed.entries c.grow_for_paging.ensures.areas c.grow_for_paging.ensures.listed.files c.self.view_is in
-    record {
-      err = on_err c.from_residual-in_err-open_paging_area.result (same, c.in_err-open_paging_area.ensures.err.contents);
-      settled = roomier_settled c.requires.ready.fits same c.in_err-open_paging_area.ensures.err;
-    }
+    out_of_memory g.G.Pages c.from_residual-in_err-open_paging_area.result c.requires.ready.fits
+    (same_tables c.self.inside c.grow_for_paging.ensures.processes c.grow_for_paging.ensures.listed.entries c.grow_for_paging.ensures.areas c.grow_for_paging.ensures.listed.files c.self.view_is)
+    c.in_err-open_paging_area.ensures.err
 
 pub returns-in_err-open_paging_area-clause-makes : goal.returns-in_err-open_paging_area-clause-makes
-returns-in_err-open_paging_area-clause-makes g c = record {
-  passes = c.open_paging_area.ensures.makes.passes;
-  idle = on_err c.from_residual-in_err-open_paging_area.result c.in_err-open_paging_area.ensures.makes.idle;
-  loans = c.open_paging_area.ensures.makes.loans;
-}
+returns-in_err-open_paging_area-clause-makes g c =
+    pages_as g.G.Pages c.from_residual-in_err-open_paging_area.result (on_err c.from_residual-in_err-open_paging_area.result c.in_err-open_paging_area.ensures.makes.idle) c.open_paging_area.ensures.makes
 
 pub list_section-handle-requires-clause-holds : goal.list_section-handle-requires-clause-holds
 list_section-handle-requires-clause-holds g c =
@@ -97,7 +84,7 @@ invariant_of-self-2 g c =
 
 pub returns-clause-ok : goal.returns-clause-ok
 returns-clause-ok g c p lives =
-    let handle = c.list_section-handle.ensures.handle p (ap (λ ps. numbered ps c.args.pid.0) c.grow_for_paging.ensures.processes ∙ ap (λ (t : Tables). process_of t c.args.pid.0) c.self.view_is ∙ lives) in
+    let handle = c.list_section-handle.ensures.gives.handle p (ap (λ ps. numbered ps c.args.pid.0) c.grow_for_paging.ensures.processes ∙ ap (λ (t : Tables). process_of t c.args.pid.0) c.self.view_is ∙ lives) in
     let end = paging_now (listed g c) p lives c.args.pages c.args.committed (at_end g c) c.requires.some (areas_are g c) in
     λ i. record { answer = answer.Created (sym handle i) false; world = sym end i }
 
@@ -115,8 +102,4 @@ returns-clause-settles g c =
     }
 
 pub returns-clause-makes : goal.returns-clause-makes
-returns-clause-makes g c = record {
-  passes = c.open_paging_area.ensures.makes.passes;
-  idle = tt;
-  loans = c.open_paging_area.ensures.makes.loans;
-}
+returns-clause-makes g c = pages_as g.G.Pages _ tt c.open_paging_area.ensures.makes

@@ -1,13 +1,13 @@
 use Rattle.std.proofs.Common.{◌≤◌, ◌∙◌, sym, ap, subst, arith, length, is_some}
 use Rattle.mm_world.specs.{Tables, most_processes}
 use Rattle.mm_tables.specs.{FitsTables, AreKeptTables}
-use Rattle.mm_tables.proofs.{none_next, more, shown_as, more_kept, more_fits, shown_with}
-use Rattle.mm_types.proofs.{on_err}
+use Rattle.mm_tables.proofs.{more, shown_as, more_kept, more_fits, shown_with}
+use Rattle.mm_types.proofs.{none_at_end, on_err}
 use Rattle.mm_tables.proofs.tables.Tables.add_process.Goals as goal
 
 pub push_process-requires-clause-new : goal.push_process-requires-clause-new
 push_process-requires-clause-new g c =
-    c.requires.starts.fits.opened c.args.pid.0 ∙ ap is_some (none_next c.args.self.now c.args.pid.0 c.requires.next)
+    c.requires.starts.fits.opened c.args.pid.0 ∙ ap is_some (none_at_end c.args.self.now.processes c.args.pid.0 c.requires.next)
 
 pub invariant_of-self : goal.invariant_of-self
 invariant_of-self g c =

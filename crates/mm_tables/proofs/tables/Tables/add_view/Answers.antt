@@ -3,10 +3,9 @@ use Rattle.mm_world.specs.{Tables, charge, process_of}
 use Rattle.mm_types.specs.{limit_of}
 use Rattle.mm_world.specs.WellFormed.{WellFormed}
 use Rattle.mm_tables.specs.{shown_processes, AreKeptTables}
-use Rattle.mm_tables.proofs.{same_kept, roomier_settled, as_kept, AddsView, unbound, few_views, view_done}
-use Rattle.mm_tables.proofs.SectionPaging.{same_tables}
-use Rattle.mm_tables.proofs.ViewAdded.{view_kept, view_settled}
-use Rattle.mm_types.proofs.{some_found, on_err}
+use Rattle.mm_tables.proofs.{same_kept, out_of_memory, as_kept, AddsView, unbound, few_views, view_done, view_kept, view_settled}
+use Rattle.mm_tables.proofs.SectionFits.{same_tables}
+use Rattle.mm_types.proofs.{some_found}
 use Rattle.mm_tables.proofs.tables.Tables.add_view.Given as given
 use Rattle.mm_tables.proofs.tables.Tables.add_view.Goals as goal
 
@@ -32,12 +31,8 @@ invariant_of-self g c = same_kept c.self.inside c.in_err-make_view_in.ensures.ke
 
 pub returns-in_err-make_view_in-clause-settles : goal.returns-in_err-make_view_in-clause-settles
 returns-in_err-make_view_in-clause-settles g c =
-    let same = same_tables c.self.inside c.in_err-make_view_in.ensures.kept refl refl refl c.self.view_is in
-    record {
-      err = on_err c.from_residual.result (same, c.make_view_in.ensures.idles.contents);
-      settled = roomier_settled c.requires.ready.fits same
-          (record { contents = c.make_view_in.ensures.idles.contents; store = c.in_err-make_view_in.ensures.err.store; later = c.in_err-make_view_in.ensures.err.later });
-    }
+    out_of_memory g.G.Pages c.from_residual.result c.requires.ready.fits (same_tables c.self.inside c.in_err-make_view_in.ensures.kept refl refl refl c.self.view_is)
+    (record { contents = c.make_view_in.ensures.idles.contents; store = c.in_err-make_view_in.ensures.err.store; later = c.in_err-make_view_in.ensures.err.later })
 
 pub add_view-requires-clause-few : goal.add_view-requires-clause-few
 add_view-requires-clause-few g c =

@@ -17,7 +17,7 @@ pub loop-handle-init : goal.loop-handle-init
 loop-handle-init g c = record {
   toward = toward_same c.args.pid.0 c.args.self.now (g.G.Pages.contents c.args.g.now) (g.G.Pages.store c.args.g.now) c.requires.ready.fits;
   lives = c.requires.ready.lives;
-  closed = (0, (omega arith, ((λ p lives j h. absurd (omega (arith, h))), λ held for. turns_same g.G.Pages.unpaged (Ends held 1 1) (g.G.Pages.store c.args.g.now) (g.G.Pages.behind c.args.g.now))));
+  closed = (0, omega arith, (λ p lives j h. absurd (omega (arith, h))), (λ held for. turns_same g.G.Pages.unpaged (Ends held 1 1) (g.G.Pages.store c.args.g.now) (g.G.Pages.behind c.args.g.now)));
   loans = refl;
 }
 
@@ -31,23 +31,19 @@ loop-handle-preserved g c =
     let told = sym (c.lowest_handle.ensures.found p.0 p.1) ∙ c.in-Some.is in
     let low = below_lowest p.0.handles c.in-Some.handle told in
     let next = next_closed t c.close_handle.new.self c.args.pid.0 p.0 c.in-Some.handle before.closed.0 p.1 is told
-    (subst (λ (o : Option ℕ). IfSome o (λ handle. handle < 2 ^ 32)) c.in-Some.is c.lowest_handle.ensures.within) before.closed.1.1.0 in
+    (subst (λ (o : Option ℕ). IfSome o (λ handle. handle < 2 ^ 32)) c.in-Some.is c.lowest_handle.ensures.within) before.closed.2 in
     record {
       toward = toward_then before.toward (toward_settled c.args.pid.0 t (Some q) is c.close_handle.ensures.shrinks.settled c.close_handle.ensures.shrinks.less
           (λ rank. for_settled rank c.args.pid.0 t c.close_handle.new.self p.0 q p.1 is (ranked_closed p.0 (c.in-Some.handle / 4) low)));
       lives = ap is_some (after_settled t c.close_handle.new.self c.args.pid.0 p.0 q p.1 is);
       closed = (
         c.in-Some.handle / 4 + 1,
-        (
-          next.few,
-          (
-            next.none,
-            λ held for.
-                ends_then g.G.Pages.unpaged held 1 (before.closed.0 + 1) (c.in-Some.handle / 4 + 1 + 1) (g.G.Pages.store c.args.g.now) (g.G.Pages.store c.loop-handle.g) (g.G.Pages.store c.close_handle.new.g) (g.G.Pages.behind c.args.g.now) (g.G.Pages.behind c.loop-handle.g) (g.G.Pages.behind c.close_handle.new.g)
-                (omega arith) (omega (arith, next.more)) (before.closed.1.1.1 held for)
-                (c.close_handle.ensures.passes held (before.closed.0 + 1) (c.in-Some.handle / 4 + 1 + 1) (before.toward.ranks held.rank for) (omega (arith, next.more)) (omega arith)),
-          ),
-        ),
+        next.few,
+        next.none,
+        (λ held for.
+            ends_then g.G.Pages.unpaged held 1 (before.closed.0 + 1) (c.in-Some.handle / 4 + 1 + 1) (g.G.Pages.store c.args.g.now) (g.G.Pages.store c.loop-handle.g) (g.G.Pages.store c.close_handle.new.g) (g.G.Pages.behind c.args.g.now) (g.G.Pages.behind c.loop-handle.g) (g.G.Pages.behind c.close_handle.new.g)
+            (omega arith) (omega (arith, next.more)) (before.closed.3 held for)
+            (c.close_handle.ensures.passes held (before.closed.0 + 1) (c.in-Some.handle / 4 + 1 + 1) (before.toward.ranks held.rank for) (omega (arith, next.more)) (omega arith))),
       );
       loans = c.close_handle.ensures.shrinks.loans ∙ before.loans;
     }
@@ -67,4 +63,4 @@ pub returns-clause-passes : goal.returns-clause-passes
 returns-clause-passes g c held for =
     let k = c.loop-handle.invariant.closed in
     ends_wider g.G.Pages.unpaged held 1 (k.0 + 1) 1 (page_rank 0) (g.G.Pages.store c.args.g.now) (g.G.Pages.store c.loop-handle.g) (g.G.Pages.behind c.args.g.now) (g.G.Pages.behind c.loop-handle.g)
-    (omega arith) (omega (arith, k.1.0)) (k.1.1.1 held for)
+    (omega arith) (omega (arith, k.1)) (k.3 held for)

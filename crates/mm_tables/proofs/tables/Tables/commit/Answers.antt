@@ -4,9 +4,9 @@ use Rattle.mm_types.proofs.{some_found, on_err}
 use Rattle.mm_world.specs.{region_around, commit}
 use Rattle.mm_commit.specs.{CommitOf}
 use Rattle.mm_tables.specs.{CanAdd, StandsFrom}
-use Rattle.mm_tables.proofs.{roomier_settled, settled_as, commit_done, ends, can_add, around, Held, held_by, still_kept, kept_same, around_became}
+use Rattle.mm_tables.proofs.{out_of_memory, settled_as, commit_done, ends, can_add, around, Held, held_by, still_kept, kept_same, around_became}
 use Rattle.mm_tables.proofs.{around_changed, makes_as}
-use Rattle.mm_tables.proofs.Standing.{same_tables}
+use Rattle.mm_tables.proofs.Keeping.{same_tables}
 use Rattle.mm_tables.proofs.tables.Tables.commit.Given as given
 use Rattle.mm_tables.proofs.tables.Tables.commit.Goals as goal
 use Rattle.mm_tables.proofs.tables.Tables.commit.Goals.{After-index_mut}
@@ -40,12 +40,8 @@ invariant_of-self g c = kept_same (held g (goal.at.invariant_of-self g c).After-
 
 pub returns-in_err-commit_pages-clause-settles : goal.returns-in_err-commit_pages-clause-settles
 returns-in_err-commit_pages-clause-settles g c =
-    let h = held g (goal.at.returns-in_err-commit_pages-clause-settles g c).After-index_mut in
-    let same = same_tables h c.commit_pages.new.process c.in_err-commit_pages.ensures.keeps.kept in
-    record {
-      err = on_err c.from_residual.result (same, c.in_err-commit_pages.ensures.keeps.err.contents);
-      settled = roomier_settled c.requires.ready.fits same c.in_err-commit_pages.ensures.keeps.err;
-    }
+    let keeps = c.in_err-commit_pages.ensures.keeps in
+    out_of_memory g.G.Pages c.from_residual.result c.requires.ready.fits (same_tables (held g (goal.at.returns-in_err-commit_pages-clause-settles g c).After-index_mut) c.commit_pages.new.process keeps.kept) keeps.err
 
 pub invariant_of-self-2 : goal.invariant_of-self-2
 invariant_of-self-2 g c =

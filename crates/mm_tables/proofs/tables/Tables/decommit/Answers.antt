@@ -1,6 +1,7 @@
 use Rattle.std.proofs.Common.{◌∙◌, sym, ap, is_some, set}
 use Rattle.mm_world.specs.{region_around, reserved_row, change_rows}
-use Rattle.mm_tables.proofs.{held_by, decommit_end, decommit_can, decommitted, decommit_among, freed_charged, freed_kept, freed_settled, freed_named}
+use Rattle.mm_tables.proofs.{frees, held_by, decommit_end, decommit_can, decommitted, decommit_among, freed_charged, freed_kept, freed_settled}
+use Rattle.mm_tables.proofs.{freed_named}
 use Rattle.mm_tables.proofs.tables.Tables.decommit.Goals as goal
 
 pub decommit_pages-owned-requires : goal.decommit_pages-owned-requires
@@ -39,10 +40,5 @@ returns g c =
     c.decommit_pages-owned.ensures.owned c.decommit_pages-owned.ensures.changed c.decommit_pages-owned.ensures.gives_up.given_up in
     record {
       changed = freed_named h c.decommit_pages-owned.new.process (λ rs. region_around rs c.args.range) (λ rs r. set rs r.place (change_rows (λ row. reserved_row) c.args.range r.thing)) c.decommit_pages-owned.ensures.changed;
-      frees = record {
-        settled = freed_settled c.args.pid h f;
-        among = decommit_among c.args.pid h c.args.range c.requires.inside c.requires.private c.requires.ready.fits f c.decommit_pages-owned.ensures.gives_up.given_up;
-        passes = c.decommit_pages-owned.ensures.gives_up.passes;
-        loans = c.decommit_pages-owned.ensures.gives_up.loans;
-      };
+      frees = frees g.G.Pages (freed_settled c.args.pid h f) (decommit_among c.args.pid h c.args.range c.requires.inside c.requires.private c.requires.ready.fits f c.decommit_pages-owned.ensures.gives_up.given_up) c.decommit_pages-owned.ensures.gives_up;
     }

@@ -1,9 +1,9 @@
 use Rattle.std.proofs.Common.{refl, ◌∙◌, sym, ap, arith, is_some}
-use Rattle.mm_types.proofs.{some_found, on_err}
+use Rattle.mm_types.proofs.{some_found}
 use Rattle.mm_world.specs.{region_around, protected}
 use Rattle.mm_commit.specs.{CommitOf}
 use Rattle.mm_spaces.specs.{owned_in}
-use Rattle.mm_tables.proofs.{roomier_settled, settled_as, protect_done, around, Held, held_by, still_kept, around_became, around_changed}
+use Rattle.mm_tables.proofs.{out_of_memory, settled_as, protect_done, around, Held, held_by, still_kept, around_became, around_changed}
 use Rattle.mm_tables.proofs.Settled.{all_owned}
 use Rattle.mm_tables.proofs.tables.Tables.protect.Given as given
 use Rattle.mm_tables.proofs.tables.Tables.protect.Goals as goal
@@ -50,9 +50,5 @@ returns-clause-settles g c =
     c.grow_for_marks.ensures.more (omega (arith, c.now.ensures.charge, h.kept.charged, c.in_ok-grow_for_marks.ensures.room, c.requires.can.counted h.process h.lives)) in
     record { err = tt; settled = settled_as (around_changed h c.args.range c.protect_pages.new.process (λ r. protected r.kind c.args.prot) c.protect_pages.ensures.changed h.process r.0 h.lives r.1) done.settled }
 
-pub returns-in_err-grow_for_marks-clause-settles :
-    goal.returns-in_err-grow_for_marks-clause-settles
-returns-in_err-grow_for_marks-clause-settles g c = record {
-  err = on_err c.from_residual.result (refl, c.grow_for_marks.ensures.more.contents);
-  settled = roomier_settled c.requires.ready.fits refl c.grow_for_marks.ensures.more;
-}
+pub returns-in_err-grow_for_marks-clause-settles : goal.returns-in_err-grow_for_marks-clause-settles
+returns-in_err-grow_for_marks-clause-settles g c = out_of_memory g.G.Pages c.from_residual.result c.requires.ready.fits refl c.grow_for_marks.ensures.more

@@ -1,8 +1,8 @@
 use Rattle.std.proofs.Common.{◌∙◌, ap, option_map}
 use Rattle.std.specs.Prelude.{remove}
 use Rattle.mm_world.specs.{RegionOf, pages_of, Found, private_at}
-use Rattle.mm_tables.proofs.{given_less, held_by, release_end, release_inside, release_can, release_freed, release_among, freed_charged, freed_kept}
-use Rattle.mm_tables.proofs.{freed_settled, freed_named}
+use Rattle.mm_tables.proofs.{frees, given_less, held_by, release_end, release_inside, release_can, release_freed, release_among, freed_charged}
+use Rattle.mm_tables.proofs.{freed_kept, freed_settled, freed_named}
 use Rattle.mm_tables.proofs.tables.Tables.release_region.Goals as goal
 
 pub release_pages-freed-requires : goal.release_pages-freed-requires
@@ -42,10 +42,5 @@ returns g c =
     record {
       changed = freed_named h c.release_pages-freed.new.process (λ rs. private_at rs c.args.addr) (λ rs r. remove rs r.place) c.release_pages-freed.ensures.changed;
       less = given_less c.release_pages-freed.ensures.gives_up.given_up;
-      frees = record {
-        settled = freed_settled c.args.pid h f;
-        among = release_among c.args.pid h c.args.addr c.args.range c.requires.there c.requires.ready.fits f c.release_pages-freed.ensures.gives_up.given_up;
-        passes = c.release_pages-freed.ensures.gives_up.passes;
-        loans = c.release_pages-freed.ensures.gives_up.loans;
-      };
+      frees = frees g.G.Pages (freed_settled c.args.pid h f) (release_among c.args.pid h c.args.addr c.args.range c.requires.there c.requires.ready.fits f c.release_pages-freed.ensures.gives_up.given_up) c.release_pages-freed.ensures.gives_up;
     }

@@ -7,8 +7,8 @@ use Rattle.mm_types.specs.{Range, are_user_pages, first_user_page, end_of, end_o
 use Rattle.mm_world.specs.{private_region, blank, ranges_of, add_region}
 use Rattle.mm_commit.specs.{CommitOf}
 use Rattle.mm_tables.specs.{CanMake, IsNewRange, StandsFrom, RegionsBecame}
-use Rattle.mm_tables.proofs.{roomier_settled, settled_as, reserve_done, can_make, Held, held_by, regions_by, still_kept, kept_same, makes_as}
-use Rattle.mm_tables.proofs.Standing.{same_tables}
+use Rattle.mm_tables.proofs.{out_of_memory, settled_as, reserve_done, can_make, Held, held_by, regions_by, still_kept, kept_same, makes_as}
+use Rattle.mm_tables.proofs.Keeping.{same_tables}
 use Rattle.mm_tables.proofs.tables.Tables.reserve.Given as given
 use Rattle.mm_tables.proofs.tables.Tables.reserve.Goals as goal
 use Rattle.mm_tables.proofs.tables.Tables.reserve.Goals.{After-index_mut-process}
@@ -36,12 +36,8 @@ invariant_of-self g c = kept_same (held g (goal.at.invariant_of-self g c).After-
 
 pub returns-in_err-make_region-clause-settles : goal.returns-in_err-make_region-clause-settles
 returns-in_err-make_region-clause-settles g c =
-    let h = held g (goal.at.returns-in_err-make_region-clause-settles g c).After-index_mut-process in
-    let same = same_tables h c.make_region.new.process c.in_err-make_region.ensures.keeps.kept in
-    record {
-      err = on_err c.from_residual.result (same, c.in_err-make_region.ensures.keeps.err.contents);
-      settled = roomier_settled c.requires.ready.fits same c.in_err-make_region.ensures.keeps.err;
-    }
+    let keeps = c.in_err-make_region.ensures.keeps in
+    out_of_memory g.G.Pages c.from_residual.result c.requires.ready.fits (same_tables (held g (goal.at.returns-in_err-make_region-clause-settles g c).After-index_mut-process) c.make_region.new.process keeps.kept) keeps.err
 
 pub invariant_of-self-2 : goal.invariant_of-self-2
 invariant_of-self-2 g c =

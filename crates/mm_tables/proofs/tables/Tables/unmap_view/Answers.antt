@@ -1,8 +1,8 @@
 use Rattle.std.proofs.Common.{inr, ap, ◌∙◌, arith, ◌-◌}
 use Rattle.mm_types.specs.{end_of}
 use Rattle.mm_pages.specs.{page_rank, place_at, StoreOf}
-use Rattle.mm_tables.proofs.{whole_inside, whole_can, whole_charged, whole_stays, whole_ends, ends_at, ends_bound, unmap_end, unmap_there, unmap_can}
-use Rattle.mm_tables.proofs.{unmap_counted, unmap_charged, unmap_step, unmap_named, unmap_some, range_then, given_unbound, held_by}
+use Rattle.mm_tables.proofs.{its_area_inside, whole_can, whole_charged, whole_stays, whole_ends, ends_at, ends_bound, unmap_end, unmap_there}
+use Rattle.mm_tables.proofs.{unmap_can, unmap_counted, unmap_charged, unmap_step, unmap_named, unmap_some, range_then, given_unbound, held_by}
 use Rattle.mm_tables.proofs.tables.Tables.unmap_view.Goals as goal
 
 pub unmap_in-marked-requires : goal.unmap_in-marked-requires
@@ -27,15 +27,15 @@ pub index_mut-pages-requires : goal.index_mut-pages-requires
 index_mut-pages-requires g c =
     let k = held_by c.self.inside c.args.self.now c.self.view_is c.self.invariant c.args.pid.0 c.index_mut-process.result.now c.requires.ready.lives c.index_mut-process.ensures.value in
     let w = unmap_step c.args.pid k c.args.addr c.requires.there c.requires.ready.fits c.unmap_in-marked.ensures.marked c.unmap_in-marked.new.process
-    c.unmap_in-marked.ensures.removed c.unmap_in-marked.ensures.gives_up.given_up c.refund.ensures c.drop_view_of-ended.ensures.dropped c.drop_view_of-ended.ensures.ended in
-    let inside = whole_inside w c.in-Some.is in
+    c.unmap_in-marked.ensures.removed c.unmap_in-marked.ensures.gives_up.given_up c.refund.ensures c.drop_view_of-ended.ensures in
+    let inside = its_area_inside w c.in-Some.is in
     omega (arith, inside, c.self.inside.areas.ok)
 
 pub end_area-requires : goal.end_area-requires
 end_area-requires g c =
     let k = held_by c.self.inside c.args.self.now c.self.view_is c.self.invariant c.args.pid.0 c.index_mut-process.result.now c.requires.ready.lives c.index_mut-process.ensures.value in
     let w = unmap_step c.args.pid k c.args.addr c.requires.there c.requires.ready.fits c.unmap_in-marked.ensures.marked c.unmap_in-marked.new.process
-    c.unmap_in-marked.ensures.removed c.unmap_in-marked.ensures.gives_up.given_up c.refund.ensures c.drop_view_of-ended.ensures.dropped c.drop_view_of-ended.ensures.ended in
+    c.unmap_in-marked.ensures.removed c.unmap_in-marked.ensures.gives_up.given_up c.refund.ensures c.drop_view_of-ended.ensures in
     record {
       can = whole_can w c.in-Some.is c.index_mut-pages.ensures.value (inr (c.args.pid, ap (λ (x : StoreOf). x.kind) w.rest ∙ c.requires.ready.kind_is));
       charged = whole_charged w c.in-Some.is c.index_mut-pages.ensures.value;
@@ -45,21 +45,21 @@ pub invariant_of-self : goal.invariant_of-self
 invariant_of-self g c =
     let k = held_by c.self.inside c.args.self.now c.self.view_is c.self.invariant c.args.pid.0 c.index_mut-process.result.now c.requires.ready.lives c.index_mut-process.ensures.value in
     let w = unmap_step c.args.pid k c.args.addr c.requires.there c.requires.ready.fits c.unmap_in-marked.ensures.marked c.unmap_in-marked.new.process
-    c.unmap_in-marked.ensures.removed c.unmap_in-marked.ensures.gives_up.given_up c.refund.ensures c.drop_view_of-ended.ensures.dropped c.drop_view_of-ended.ensures.ended in
+    c.unmap_in-marked.ensures.removed c.unmap_in-marked.ensures.gives_up.given_up c.refund.ensures c.drop_view_of-ended.ensures in
     (whole_ends w c.in-Some.is c.index_mut-pages.ensures.value c.end_area.ensures.ended c.end_area.ensures.refunded c.end_area.ensures.ends.file c.end_area.ensures.ends.emptied).kept
 
 pub invariant_of-self-in_default : goal.invariant_of-self-in_default
 invariant_of-self-in_default g c =
     let k = held_by c.self.inside c.args.self.now c.self.view_is c.self.invariant c.args.pid.0 c.index_mut-process.result.now c.requires.ready.lives c.index_mut-process.ensures.value in
     let w = unmap_step c.args.pid k c.args.addr c.requires.there c.requires.ready.fits c.unmap_in-marked.ensures.marked c.unmap_in-marked.new.process
-    c.unmap_in-marked.ensures.removed c.unmap_in-marked.ensures.gives_up.given_up c.refund.ensures c.drop_view_of-ended.ensures.dropped c.drop_view_of-ended.ensures.ended in
+    c.unmap_in-marked.ensures.removed c.unmap_in-marked.ensures.gives_up.given_up c.refund.ensures c.drop_view_of-ended.ensures in
     (whole_stays w c.in_default.is).kept
 
 pub returns-in-Some : goal.returns-in-Some
 returns-in-Some g c =
     let k = held_by c.self.inside c.args.self.now c.self.view_is c.self.invariant c.args.pid.0 c.index_mut-process.result.now c.requires.ready.lives c.index_mut-process.ensures.value in
     let w = unmap_step c.args.pid k c.args.addr c.requires.there c.requires.ready.fits c.unmap_in-marked.ensures.marked c.unmap_in-marked.new.process
-    c.unmap_in-marked.ensures.removed c.unmap_in-marked.ensures.gives_up.given_up c.refund.ensures c.drop_view_of-ended.ensures.dropped c.drop_view_of-ended.ensures.ended in
+    c.unmap_in-marked.ensures.removed c.unmap_in-marked.ensures.gives_up.given_up c.refund.ensures c.drop_view_of-ended.ensures in
     let e = whole_ends w c.in-Some.is c.index_mut-pages.ensures.value c.end_area.ensures.ended c.end_area.ensures.refunded c.end_area.ensures.ends.file c.end_area.ensures.ends.emptied in
     let unbound = given_unbound (unmap_end c.args.pid k c.args.addr c.requires.there c.requires.ready.fits) c.unmap_in-marked.ensures.gives_up.given_up in
     record {
@@ -79,7 +79,7 @@ pub returns-in_default : goal.returns-in_default
 returns-in_default g c =
     let k = held_by c.self.inside c.args.self.now c.self.view_is c.self.invariant c.args.pid.0 c.index_mut-process.result.now c.requires.ready.lives c.index_mut-process.ensures.value in
     let w = unmap_step c.args.pid k c.args.addr c.requires.there c.requires.ready.fits c.unmap_in-marked.ensures.marked c.unmap_in-marked.new.process
-    c.unmap_in-marked.ensures.removed c.unmap_in-marked.ensures.gives_up.given_up c.refund.ensures c.drop_view_of-ended.ensures.dropped c.drop_view_of-ended.ensures.ended in
+    c.unmap_in-marked.ensures.removed c.unmap_in-marked.ensures.gives_up.given_up c.refund.ensures c.drop_view_of-ended.ensures in
     let e = whole_stays w c.in_default.is in
     record {
       removed = λ p r lives found. e.is ∙ unmap_named c.args.pid k c.args.addr c.requires.there p r lives found;

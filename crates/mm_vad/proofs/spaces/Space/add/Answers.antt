@@ -1,48 +1,25 @@
-use Rattle.std.proofs.Common.{◌≡◌, ℕ, List, Option, sym, ap, ◌∙◌, subst}
+use Rattle.std.proofs.Common.{List, sym, ap, subst}
 use Rattle.std.specs.Prelude.{IsTrue, nat_eq}
 use Rattle.std.specs.HashMap.{get}
 use Rattle.mm_types.specs.{Range, is_free}
-use Rattle.mm_vad.specs.{Region, SpaceOf, ranges_of, pages_of, add_region, regions_of}
-use Rattle.mm_vad.proofs.{is_space, ranges_of-regions_of, after_add, adds_from}
+use Rattle.mm_vad.specs.{pages_of, add_region}
+use Rattle.mm_vad.proofs.{Done, after_add, ranges_shown}
 use Rattle.mm_vad.proofs.spaces.Space.add.Goals as goal
-
--- the range of the region is free among the ranges that are taken
-free_of : (regions : List Region) (found : ℕ → Option Region) (ranges : List Range) (new : Range) → regions_of found ranges ≡ regions → ranges_of (regions_of found ranges) ≡ ranges → IsTrue (is_free (ranges_of regions) new) → IsTrue (is_free ranges new)
-free_of regions found ranges new e r free =
-    subst (λ (rs : List Range). IsTrue (is_free rs new)) (sym (ap ranges_of e) ∙ r) free
+use Rattle.mm_vad.proofs.spaces.Space.add.Goals.{In-Ok}
 
 pub insert-requires-clause-free : goal.insert-requires-clause-free
-insert-requires-clause-free c =
-    let s = c.self.inside in
-    free_of c.args.self.now.regions (get nat_eq s.regions) s.taken.ranges (pages_of c.args.region) (ap (λ (v : SpaceOf). v.regions) c.self.view_is)
-    (ranges_of-regions_of (get nat_eq s.regions) s.taken.ranges c.self.invariant.held) c.requires.free
+insert-requires-clause-free c = subst (λ (rs : List Range). IsTrue (is_free rs (pages_of c.args.region))) (sym (ranges_shown c.self.inside.regions _ _ c.self.invariant c.self.view_is)) c.requires.free
+
+done : (c : In-Ok) → Done (get nat_eq c.insert-2.new.self) c.insert.new.self.ranges (add_region c.args.self.now.regions c.args.region)
+done c =
+    after_add c.self.inside.regions _ _ c.self.invariant c.self.view_is c.insert-2.new.self _ c.args.region (subst (λ (rs : List Range). IsTrue (is_free rs (pages_of c.args.region))) (sym (ranges_shown c.self.inside.regions _ _ c.self.invariant c.self.view_is)) c.requires.free)
+    c.in-Ok.ensures.updates c.requires.whole c.requires.flags c.requires.some (ap (λ g. g.ranges) c.insert.ensures.after) c.insert.ensures.apart
 
 pub invariant_of-self : goal.invariant_of-self
-invariant_of-self c =
-    let s = c.self.inside in
-    let free = free_of c.args.self.now.regions (get nat_eq s.regions) s.taken.ranges (pages_of c.args.region) (ap (λ (v : SpaceOf). v.regions) c.self.view_is)
-    (ranges_of-regions_of (get nat_eq s.regions) s.taken.ranges c.self.invariant.held) c.requires.free in
-    let done = after_add (get nat_eq s.regions) (get nat_eq c.insert-2.new.self) s.taken.ranges c.insert.new.self.ranges c.args.region c.self.invariant free
-    (adds_from s.regions c.insert-2.new.self c.args.region c.in-Ok.ensures.updates c.requires.whole c.requires.flags c.requires.some)
-    (ap (λ g. g.ranges) c.insert.ensures.after) c.insert.ensures.apart in
-    done.index
+invariant_of-self c = (done (goal.at.invariant_of-self c).In-Ok).index
 
 pub returns-clause-after : goal.returns-clause-after
-returns-clause-after c =
-    let s = c.self.inside in
-    let free = free_of c.args.self.now.regions (get nat_eq s.regions) s.taken.ranges (pages_of c.args.region) (ap (λ (v : SpaceOf). v.regions) c.self.view_is)
-    (ranges_of-regions_of (get nat_eq s.regions) s.taken.ranges c.self.invariant.held) c.requires.free in
-    let done = after_add (get nat_eq s.regions) (get nat_eq c.insert-2.new.self) s.taken.ranges c.insert.new.self.ranges c.args.region c.self.invariant free
-    (adds_from s.regions c.insert-2.new.self c.args.region c.in-Ok.ensures.updates c.requires.whole c.requires.flags c.requires.some)
-    (ap (λ g. g.ranges) c.insert.ensures.after) c.insert.ensures.apart in
-    done.shown ∙ ap (λ (v : SpaceOf). add_region v.regions c.args.region) c.self.view_is
+returns-clause-after c = (done (goal.at.returns-clause-after c).In-Ok).shown
 
 pub returns-clause-sound : goal.returns-clause-sound
-returns-clause-sound c =
-    let s = c.self.inside in
-    let free = free_of c.args.self.now.regions (get nat_eq s.regions) s.taken.ranges (pages_of c.args.region) (ap (λ (v : SpaceOf). v.regions) c.self.view_is)
-    (ranges_of-regions_of (get nat_eq s.regions) s.taken.ranges c.self.invariant.held) c.requires.free in
-    let done = after_add (get nat_eq s.regions) (get nat_eq c.insert-2.new.self) s.taken.ranges c.insert.new.self.ranges c.args.region c.self.invariant free
-    (adds_from s.regions c.insert-2.new.self c.args.region c.in-Ok.ensures.updates c.requires.whole c.requires.flags c.requires.some)
-    (ap (λ g. g.ranges) c.insert.ensures.after) c.insert.ensures.apart in
-    is_space (get nat_eq c.insert-2.new.self) c.insert.new.self.ranges done.index
+returns-clause-sound c = (done (goal.at.returns-clause-sound c).In-Ok).sound

@@ -1,15 +1,8 @@
-use Rattle.std.proofs.Common.{List, sym, ap, ◌∙◌}
-use Rattle.std.specs.Prelude.{nat_eq}
-use Rattle.std.specs.HashMap.{get}
-use Rattle.mm_types.specs.{Range, is_free}
-use Rattle.mm_vad.specs.{range_at, SpaceOf, ranges_of}
-use Rattle.mm_vad.proofs.{ranges_of-regions_of}
+use Rattle.std.proofs.Common.{ap, ◌∙◌}
+use Rattle.mm_types.specs.{is_free}
+use Rattle.mm_vad.specs.{range_at}
+use Rattle.mm_vad.proofs.{ranges_shown}
 use Rattle.mm_vad.proofs.spaces.Space.is_free.Goals as goal
 
 pub returns : goal.returns
-returns c =
-    let s = c.self.inside in
-    let free = λ (taken : List Range). is_free taken (range_at c.args.first.0 c.args.n) in
-    c.is_free.ensures
-    ∙ ap free (sym (ranges_of-regions_of (get nat_eq s.regions) s.taken.ranges c.self.invariant.held))
-    ∙ ap (λ (v : SpaceOf). free (ranges_of v.regions)) c.self.view_is
+returns c = c.is_free.ensures ∙ ap (λ taken. is_free taken (range_at c.args.first.0 c.args.n)) (ranges_shown c.self.inside.regions _ _ c.self.invariant c.self.view_is)

@@ -44,8 +44,7 @@ returns-then-index-whole-clause-filled c =
       after = ap (rows_joined s.chunks.rows) ((rest_filled c).1 ∙ c.fill_in.ensures)
           ∙ ap (λ (rs : List Row). rows_joined s.chunks.rows (filled_rows rs at c.args.n c.args.row)) c.deref_mut.ensures.value
           ∙ ap (λ (n : ℕ). rows_joined s.chunks.rows (filled_rows s.rest.items (c.args.first - n * 512) c.args.n c.args.row)) c.count-whole.ensures
-          ∙ filled_behind_chunks s.chunks.rows s.rest.items c.args.self.now.rows c.args.first c.args.n c.args.row c.self.invariant.0.whole (rows_written c.self.view_is) high
-          (omega (arith, c.requires.inside, high, div-add-mod' c.args.first 512, length-joined s.chunks.rows s.rest.items c.self.invariant.0.whole, ap length (rows_written c.self.view_is)));
+          ∙ filled_behind_chunks s.chunks.rows s.rest.items c.args.self.now.rows c.args.first c.args.n c.args.row c.self.invariant.0.whole (rows_written c.self.view_is) high;
     }
 
 pub returns-then-index-whole-clause-room : goal.returns-then-index-whole-clause-room

@@ -2,7 +2,7 @@ use Rattle.std.proofs.Common.{◌+◌, sym, arith}
 use Rattle.std.proofs.lemmas.List.{get_or_read, get_or_past}
 use Rattle.mm_words.specs.{bit_numbers}
 use Rattle.mm_words.proofs.{placed_low}
-use Rattle.mm_words.proofs.WordLemmas.{word_is}
+use Rattle.mm_words.proofs.LeafLemmas.{word_is}
 use Rattle.mm_words.proofs.leaves.Leaf.get.Goals as goal
 
 pub overflow_add-i : goal.overflow_add-i

@@ -14,5 +14,5 @@ returns-in_err-place_leaves-clause-err c =
 
 pub returns-clause-ok : goal.returns-clause-ok
 returns-clause-ok c =
-    reserve_map c.self.inside.leaves.items c.take_directory.new.leaves.items c.place_leaves.new.leaves.items c.reserve_words.new.leaves.items c.args.self.now c.args.first.0 c.args.n
-    c.self.view_is c.self.invariant c.in_ok-take_directory.ensures.placed c.in_ok-place_leaves.ensures.placed c.reserve_words.ensures
+    reserve_map c.self.inside.leaves.items c.take_directory.new.leaves.items c.place_leaves.new.leaves.items c.put_words.new.leaves.items c.args.self.now c.args.first.0 c.args.n
+    c.self.view_is c.self.invariant c.in_ok-take_directory.ensures.placed c.in_ok-place_leaves.ensures.placed c.put_words.ensures

@@ -1,12 +1,13 @@
 use Rattle.std.proofs.Common.{None, ◌-◌}
-use Rattle.mm_words.proofs.{aside_kept, moved_shown, ages_changed}
+use Rattle.mm_words.proofs.{aside_kept, entry_words, sets_move, ages_changed}
 use Rattle.mm_words.proofs.tables.Words.make_invalid.Goals as goal
 
 pub invariant_of-self-clause-kept : goal.invariant_of-self-clause-kept
-invariant_of-self-clause-kept c = aside_kept c.args.self.now.processes.items c.index_of-at.result c.index_mut.result.now c.make_invalid.new.self c.index_of-at.ensures.within c.index_mut.ensures.value c.args.place c.index_of-at.ensures.next c.args.self.now.aside c.make_invalid.ensures.becomes.bound c.args.self.now.kept
+invariant_of-self-clause-kept c = aside_kept c.args.self.now.processes.items c.index_of-at.result c.index_mut.result.now c.make_invalid.new.self c.index_of-at.ensures.within c.index_mut.ensures.value c.args.place.pid c.index_of-at.ensures.next c.args.self.now.aside c.make_invalid.ensures.becomes.bound c.args.self.now.kept
 
 pub returns-clause-words : goal.returns-clause-words
-returns-clause-words c = moved_shown c.args.self.now.processes.items c.index_of-at.result c.index_mut.result.now c.make_invalid.new.self c.index_of-at.ensures.within c.index_mut.ensures.value c.args.place c.index_of-at.ensures.next c.args.self.now.protos c.args.self.now.aside c.args.e (λ n. n - 1) c.make_invalid.ensures.becomes c.make_invalid.ensures.resident
+returns-clause-words c = entry_words c.args.self.now.processes.items c.index_of-at.result c.index_mut.result.now c.make_invalid.new.self c.index_of-at.ensures.within c.index_mut.ensures.value c.args.place.pid c.index_of-at.ensures.next c.args.self.now.protos c.args.self.now.aside c.args.place.vpn c.args.e _ c.make_invalid.ensures.becomes
+    (sets_move c.args.self.now.processes.items c.index_of-at.result c.index_mut.result.now c.make_invalid.new.self c.index_of-at.ensures.within c.index_mut.ensures.value c.args.place.pid c.index_of-at.ensures.next (λ n. n - 1) c.make_invalid.ensures.resident)
 
 pub returns-clause-ages : goal.returns-clause-ages
-returns-clause-ages c = ages_changed c.args.self.now.processes.items c.index_of-at.result c.index_mut.result.now c.make_invalid.new.self c.index_of-at.ensures.within c.index_mut.ensures.value c.args.place c.index_of-at.ensures.next None c.make_invalid.ensures.ages
+returns-clause-ages c = ages_changed c.args.self.now.processes.items c.index_of-at.result c.index_mut.result.now c.make_invalid.new.self c.index_of-at.ensures.within c.index_mut.ensures.value c.args.place.pid c.index_of-at.ensures.next c.args.place.vpn None c.make_invalid.ensures.ages

@@ -1,10 +1,10 @@
 use Rattle.std.proofs.Common.{ℕ, Option, subst}
 use Rattle.std.specs.Prelude.{is_some}
 use Rattle.mm_wset.specs.{IsNextFrom}
-use Rattle.mm_words.proofs.{ages_of_process}
+use Rattle.mm_words.proofs.{own_ages}
 use Rattle.mm_words.proofs.tables.Words.next_from.Goals as goal
 
 pub returns : goal.returns
 returns c =
-    let same = ages_of_process c.args.self.now.processes.items c.index_of-at.result c.index.result.now c.args.pid c.index_of-at.ensures.within c.index.ensures c.index_of-at.ensures.next in
+    let same = own_ages c.args.self.now.processes.items c.index_of-at.result c.index.result.now c.index.result.now c.index_of-at.ensures.within c.index.ensures c.args.pid c.index_of-at.ensures.next in
     subst (λ (f : ℕ → Option ℕ). IsNextFrom (λ v. is_some (f v)) c.args.from.0 c.next_from.result) same c.next_from.ensures

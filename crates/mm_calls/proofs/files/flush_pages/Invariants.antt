@@ -1,0 +1,13 @@
+use Rattle.std.proofs.Common.{◌≡◌}
+use Rattle.mm_pages.specs.{PassesIn}
+use Rattle.mm_calls.specs.{keys_from}
+use Rattle.mm_calls.proofs.Flushing.{FlushedTo}
+use Rattle.mm_calls.proofs.Flushing.{WereFlushed}
+use Rattle.mm_calls.proofs.files.flush_pages.Given as goal
+
+abbrev pub invariant-loop-i : goal.invariant-loop-i
+invariant-loop-i g l = record {
+  flushed : FlushedTo (g.G.Pages.contents l.fn.g) (g.G.Pages.contents l.g) (g.G.Pages.store l.fn.g) (g.G.Pages.store l.g) l.fn.area.0 l.fn.first l.i;
+  passes : PassesIn g.G.Pages.unpaged (WereFlushed (keys_from l.fn.area.0 l.fn.first l.i)) (g.G.Pages.store l.fn.g) (g.G.Pages.store l.g) (g.G.Pages.behind l.fn.g) (g.G.Pages.behind l.g);
+  loans : g.G.Pages.loans l.g ≡ g.G.Pages.loans l.fn.g;
+}
