@@ -1,6 +1,6 @@
 ghost use Rattle.std.specs.Prelude.{◌≡◌, ℕ, ◌*◌, ◌^◌, ◌<◌, ◌≤◌, length, vec_capacity};
 ghost use Rattle.std.specs.Int.{bit_at};
-ghost use Rattle.mm_bits.specs.Bits.{have_bit, Becomes, WordBecomes, SameWordsFrom};
+ghost use Rattle.mm_bits.specs.{have_bit, Becomes, WordBecomes, SameWordsFrom};
 
 const BITS: usize = 64;
 

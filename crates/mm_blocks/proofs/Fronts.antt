@@ -1,4 +1,15 @@
 use Rattle.std.proofs.Common.{◌≡◌, ℕ, zero, suc, List, [], ◌∷◌, ◌++◌, length, take, drop, map, ap, refl}
+use Rattle.mm_types.specs.{Direction}
+use Rattle.mm_types.specs.contracts.devices.DirectionPartialEq.TheImpl as equality
+use Rattle.mm_types.specs.declared.devices.Direction.TheVariants as way
+use Rattle.mm_blocks.specs.{same_direction}
+
+-- the derived test is the one of the definitions
+pub same_way : (a b : Direction) → (equality.ghosts).eq a b ≡ same_direction a b
+same_way way.Read way.Read = refl
+same_way way.Read way.Write = refl
+same_way way.Write way.Read = refl
+same_way way.Write way.Write = refl
 
 -- a list whose first n elements were changed in place is as long as before
 pub front_length : {X : Type 0} (f : X → X) (n : ℕ) (xs : List X) → length (map f (take n xs) ++ drop n xs) ≡ length xs

@@ -6,31 +6,31 @@ use Rattle.std.proofs.lemmas.List.{ext_get_or, length-map, map-append, length-re
 use Rattle.std.specs.Prelude.{slice_get}
 use Rattle.std.proofs.lemmas.Option.{slice_get-get_or}
 use Rattle.mm_types.proofs.{same_or_not}
-use Rattle.mm_blocks.specs.{empty_block, block_at, blocks_of, place_of, unplaced, IsStore}
+use Rattle.mm_blocks.specs.{empty_block, block_in_store, blocks_of, stored_place, unplaced, IsStore}
 
 pub length-blocks : (places : List (Option ℕ)) (pages : List (List ℕ)) → length (blocks_of places pages) ≡ length places
 unfolding blocks_of
-length-blocks places pages = length-map places (block_at pages)
+length-blocks places pages = length-map places (block_in_store pages)
 
-pub block-blocks : (places : List (Option ℕ)) (pages : List (List ℕ)) (i : ℕ) → get_or (blocks_of places pages) i empty_block ≡ block_at pages (place_of places i)
+pub block-blocks : (places : List (Option ℕ)) (pages : List (List ℕ)) (i : ℕ) → get_or (blocks_of places pages) i empty_block ≡ block_in_store pages (stored_place places i)
 unfolding blocks_of
-block-blocks places pages i = get_or-map (block_at pages) places i None
+block-blocks places pages i = get_or-map (block_in_store pages) places i None
 
 -- a block that has a place, and one that has none
-pub block_placed : (places : List (Option ℕ)) (pages : List (List ℕ)) (i k : ℕ) → place_of places i ≡ Some k → get_or (blocks_of places pages) i empty_block ≡ get_or pages k empty_block
-block_placed places pages i k e = block-blocks places pages i ∙ ap (λ (p : Option ℕ). block_at pages p) e
+pub block_placed : (places : List (Option ℕ)) (pages : List (List ℕ)) (i k : ℕ) → stored_place places i ≡ Some k → get_or (blocks_of places pages) i empty_block ≡ get_or pages k empty_block
+block_placed places pages i k e = block-blocks places pages i ∙ ap (λ (p : Option ℕ). block_in_store pages p) e
 
-pub block_unplaced : (places : List (Option ℕ)) (pages : List (List ℕ)) (i : ℕ) → place_of places i ≡ None → get_or (blocks_of places pages) i empty_block ≡ empty_block
-block_unplaced places pages i e = block-blocks places pages i ∙ ap (λ (p : Option ℕ). block_at pages p) e
+pub block_unplaced : (places : List (Option ℕ)) (pages : List (List ℕ)) (i : ℕ) → stored_place places i ≡ None → get_or (blocks_of places pages) i empty_block ≡ empty_block
+block_unplaced places pages i e = block-blocks places pages i ∙ ap (λ (p : Option ℕ). block_in_store pages p) e
 
-map-nones : (pages : List (List ℕ)) (n : ℕ) → map (block_at pages) (replicate n None) ≡ replicate n empty_block
+map-nones : (pages : List (List ℕ)) (n : ℕ) → map (block_in_store pages) (replicate n None) ≡ replicate n empty_block
 map-nones pages zero = refl
 map-nones pages (suc n) = ap (λ (xs : List (List ℕ)). empty_block ∷ xs) (map-nones pages n)
 
 -- blocks were added
 pub blocks_added : (places : List (Option ℕ)) (pages : List (List ℕ)) (n : ℕ) → blocks_of (places ++ replicate n None) pages ≡ blocks_of places pages ++ replicate n empty_block
 unfolding blocks_of
-blocks_added places pages n = map-append (block_at pages) places (replicate n None) ∙ ap (λ (xs : List (List ℕ)). map (block_at pages) places ++ xs) (map-nones pages n)
+blocks_added places pages n = map-append (block_in_store pages) places (replicate n None) ∙ ap (λ (xs : List (List ℕ)). map (block_in_store pages) places ++ xs) (map-nones pages n)
 
 unplaced-nones : (n : ℕ) → unplaced (replicate n None) ≡ n
 unplaced-nones zero = refl
@@ -42,12 +42,12 @@ unplaced-append (None ∷ places) more = omega (arith, unplaced-append places mo
 unplaced-append (Some k ∷ places) more = unplaced-append places more
 
 -- an added block has no place
-place_past : (n i : ℕ) → place_of (replicate n None) i ≡ None
+place_past : (n i : ℕ) → stored_place (replicate n None) i ≡ None
 place_past zero i = refl
 place_past (suc n) zero = refl
 place_past (suc n) (suc i) = place_past n i
 
-place_before : (places : List (Option ℕ)) (n i k : ℕ) → place_of (places ++ replicate n None) i ≡ Some k → place_of places i ≡ Some k
+place_before : (places : List (Option ℕ)) (n i k : ℕ) → stored_place (places ++ replicate n None) i ≡ Some k → stored_place places i ≡ Some k
 place_before places n i k e = elim (same_or_not (length places - i) 0) [
   | inl past ↦
       let bad : None ≡ Some k = sym (place_past n (i - length places)) ∙ sym (get_or-append_right places (replicate n None) (length places) i None refl (omega arith)) ∙ e in
@@ -69,7 +69,7 @@ store_added places pages n room room' s roomy few =
       few = omega (arith, few, long);
     }
 
-unplaced-set : (places : List (Option ℕ)) (i k : ℕ) → i < length places → place_of places i ≡ None → unplaced (set places i (Some k)) + 1 ≡ unplaced places
+unplaced-set : (places : List (Option ℕ)) (i k : ℕ) → i < length places → stored_place places i ≡ None → unplaced (set places i (Some k)) + 1 ≡ unplaced places
 unplaced-set [] i k h e = absurd (omega arith)
 unplaced-set (None ∷ places) zero k h e = refl
 unplaced-set (Some j ∷ places) zero k h e = cc
@@ -77,26 +77,26 @@ unplaced-set (None ∷ places) (suc i) k h e = omega (arith, unplaced-set places
 unplaced-set (Some j ∷ places) (suc i) k h e = unplaced-set places i k (omega arith) e
 
 -- there is room for a block's first write
-pub room_left : (places : List (Option ℕ)) (pages : List (List ℕ)) (room i : ℕ) → IsStore places pages room → i < length places → place_of places i ≡ None → length pages < room
+pub room_left : (places : List (Option ℕ)) (pages : List (List ℕ)) (room i : ℕ) → IsStore places pages room → i < length places → stored_place places i ≡ None → length pages < room
 room_left places pages room i s h e = omega (arith, s.counted, s.roomy, unplaced-set places i 0 h e)
 
-block_at-append : (pages : List (List ℕ)) (x : List ℕ) (p : Option ℕ) → ((k : ℕ) → p ≡ Some k → k < length pages) → block_at (pages ++ x ∷ []) p ≡ block_at pages p
+block_at-append : (pages : List (List ℕ)) (x : List ℕ) (p : Option ℕ) → ((k : ℕ) → p ≡ Some k → k < length pages) → block_in_store (pages ++ x ∷ []) p ≡ block_in_store pages p
 block_at-append pages x None low = refl
 block_at-append pages x (Some k) low = get_or_append_left pages (x ∷ []) empty_block k (low k refl)
 
-block_at-set : (pages : List (List ℕ)) (x : List ℕ) (k : ℕ) (p : Option ℕ) → p ≢ Some k → block_at (set pages k x) p ≡ block_at pages p
+block_at-set : (pages : List (List ℕ)) (x : List ℕ) (k : ℕ) (p : Option ℕ) → p ≢ Some k → block_in_store (set pages k x) p ≡ block_in_store pages p
 block_at-set pages x k None other = refl
 block_at-set pages x k (Some j) other = get_or-set_other pages k j x empty_block (λ e. other (ap (λ (q : ℕ). Some q) e))
 
 -- block i was written, and the others show what they did
 module _ (places places' : List (Option ℕ)) (pages pages' : List (List ℕ)) (i : ℕ) (x : List ℕ) (there : i < length places) (long : length places' ≡ length places) where
-  pub block_written : block_at pages' (place_of places' i) ≡ x → ((j : ℕ) → j ≢ i → block_at pages' (place_of places' j) ≡ block_at pages (place_of places j)) → blocks_of places' pages' ≡ set (blocks_of places pages) i x
+  pub block_written : block_in_store pages' (stored_place places' i) ≡ x → ((j : ℕ) → j ≢ i → block_in_store pages' (stored_place places' j) ≡ block_in_store pages (stored_place places j)) → blocks_of places' pages' ≡ set (blocks_of places pages) i x
   block_written here others =
       ext_get_or empty_block (blocks_of places' pages') (set (blocks_of places pages) i x)
       (length-blocks places' pages' ∙ long ∙ sym (length-set (blocks_of places pages) i x ∙ length-blocks places pages))
       (λ j h. block-blocks places' pages' j ∙ elim (same_or_not j i) [
         | inl e ↦
-            ap (λ (q : ℕ). block_at pages' (place_of places' q)) e
+            ap (λ (q : ℕ). block_in_store pages' (stored_place places' q)) e
             ∙ here
             ∙ sym (ap (λ (q : ℕ). get_or (set (blocks_of places pages) i x) q empty_block) e ∙ get_or-set_same (blocks_of places pages) i x empty_block (omega (arith, there, length-blocks places pages)))
         | inr d ↦
@@ -105,27 +105,27 @@ module _ (places places' : List (Option ℕ)) (pages pages' : List (List ℕ)) (
       ])
 
 -- a block was written again
-pub block_rewritten : (places : List (Option ℕ)) (pages : List (List ℕ)) (room i k : ℕ) (x : List ℕ) → IsStore places pages room → i < length places → place_of places i ≡ Some k → blocks_of places (set pages k x) ≡ set (blocks_of places pages) i x
+pub block_rewritten : (places : List (Option ℕ)) (pages : List (List ℕ)) (room i k : ℕ) (x : List ℕ) → IsStore places pages room → i < length places → stored_place places i ≡ Some k → blocks_of places (set pages k x) ≡ set (blocks_of places pages) i x
 block_rewritten places pages room i k x s there e =
     block_written places places pages (set pages k x) i x there refl
-    (ap (λ (p : Option ℕ). block_at (set pages k x) p) e ∙ get_or-set_same pages k x empty_block (s.below i k e))
-    (λ j d. block_at-set pages x k (place_of places j) (λ f. d (s.apart j i k f e)))
+    (ap (λ (p : Option ℕ). block_in_store (set pages k x) p) e ∙ get_or-set_same pages k x empty_block (s.below i k e))
+    (λ j d. block_at-set pages x k (stored_place places j) (λ f. d (s.apart j i k f e)))
 
 -- a block was written for the first time
-module _ (places : List (Option ℕ)) (pages : List (List ℕ)) (room i : ℕ) (x : List ℕ) (s : IsStore places pages room) (there : i < length places) (e : place_of places i ≡ None) where
+module _ (places : List (Option ℕ)) (pages : List (List ℕ)) (room i : ℕ) (x : List ℕ) (s : IsStore places pages room) (there : i < length places) (e : stored_place places i ≡ None) where
   pub block_put : blocks_of (set places i (Some (length pages))) (pages ++ x ∷ []) ≡ set (blocks_of places pages) i x
   block_put =
       block_written places (set places i (Some (length pages))) pages (pages ++ x ∷ []) i x there (length-set places i (Some (length pages)))
-      (ap (λ (p : Option ℕ). block_at (pages ++ x ∷ []) p) (get_or-set_same places i (Some (length pages)) None there) ∙ get_or-append_seam pages x [] empty_block)
+      (ap (λ (p : Option ℕ). block_in_store (pages ++ x ∷ []) p) (get_or-set_same places i (Some (length pages)) None there) ∙ get_or-append_seam pages x [] empty_block)
       (λ j d.
-      ap (λ (p : Option ℕ). block_at (pages ++ x ∷ []) p) (get_or-set_other places i j (Some (length pages)) None d)
-      ∙ block_at-append pages x (place_of places j) (λ k f. s.below j k f))
+      ap (λ (p : Option ℕ). block_in_store (pages ++ x ∷ []) p) (get_or-set_other places i j (Some (length pages)) None d)
+      ∙ block_at-append pages x (stored_place places j) (λ k f. s.below j k f))
 
   -- the place that a block has now: the new one is its own, and any other it had before
-  place_now : (j k : ℕ) → place_of (set places i (Some (length pages))) j ≡ Some k → ((j ≡ i) × (k ≡ length pages)) ⊎ (place_of places j ≡ Some k)
+  place_now : (j k : ℕ) → stored_place (set places i (Some (length pages))) j ≡ Some k → ((j ≡ i) × (k ≡ length pages)) ⊎ (stored_place places j ≡ Some k)
   place_now j k f = elim (same_or_not j i) [
     | inl same ↦
-        let here : place_of (set places i (Some (length pages))) j ≡ Some (length pages) = ap (λ (q : ℕ). place_of (set places i (Some (length pages))) q) same ∙ get_or-set_same places i (Some (length pages)) None there in
+        let here : stored_place (set places i (Some (length pages))) j ≡ Some (length pages) = ap (λ (q : ℕ). stored_place (set places i (Some (length pages))) q) same ∙ get_or-set_same places i (Some (length pages)) None there in
         inl (same, cc)
     | inr d ↦ inr (sym (get_or-set_other places i j (Some (length pages)) None d) ∙ f)
   ]

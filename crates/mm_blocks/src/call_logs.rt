@@ -50,10 +50,7 @@ impl CallLog {
     {
         self.made = self.made.saturating_add(1);
         if self.made <= u64::from(self.room) {
-            match self.calls.push(call) {
-                Ok(()) => {}
-                Err(_) => unreachable!(),
-            }
+            self.calls.push_reserved(call);
         }
     }
 

@@ -127,10 +127,7 @@ impl Blocks for MemBlocks {
         if self.list.next_fails() {
             return Err(OpenFault::Failed);
         }
-        if self.blocks.add(n).is_err() {
-            return Err(OpenFault::Memory);
-        }
-        Ok(())
+        self.blocks.add(n).map_err(|_| OpenFault::Memory)
     }
 
     fn read(&mut self, i: u32, out: &mut [u8; 4096]) -> Result<(), Failed>

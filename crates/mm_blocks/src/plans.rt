@@ -1,7 +1,7 @@
 ghost use Rattle.std.specs.Prelude.{◌≡◌, ◌≤◌, ◌<◌, ◌+◌, ◌-◌, [], ◌∷◌, ◌++◌, length, take, map};
-ghost use Rattle.mm_blocks.specs.Traffic.{is_named, after_call, one_further};
+ghost use Rattle.mm_blocks.specs.Traffic.{is_due, is_named, after_call, one_further};
 
-use crate::device_calls::{NamedCalls, after_one, is_next};
+use crate::NamedCalls;
 use mm_types::Direction;
 use std::marker::Model;
 
@@ -26,13 +26,36 @@ impl Model for Plan {
     ghost invariant = { λ p. p.count ≤ 64 };
 }
 
+/// Whether the next call of this direction is one of those named.
+#[tactic(auto, using(crate::proofs::Fronts::same_way))]
+fn is_next(direction: Direction, named: NamedCalls) -> bool
+    ensures { result ≡ is_due direction named }
+{
+    direction == named.direction && named.passes == 0 && named.fails != 0
+}
+
+/// One more call of this direction was made.
+#[tactic(auto, using(crate::proofs::Fronts::same_way))]
+fn go_on(named: &mut NamedCalls, direction: Direction)
+    ensures { named.new ≡ one_further direction named.old }
+{
+    if direction != named.direction {
+        return;
+    }
+    if named.passes == 0 {
+        named.fails = named.fails.saturating_sub(1);
+    } else {
+        named.passes -= 1;
+    }
+}
+
 /// The first `count` of these, one call of this direction further.
 fn move_on(entries: &mut [NamedCalls; ROOM], count: usize, direction: Direction)
     requires { count ≤ 64 }
     ensures { take count entries.new ≡ map (one_further direction) (take count entries.old) }
 {
     for i in 0..count {
-        entries[i] = after_one(direction, entries[i]);
+        go_on(&mut entries[i], direction);
     }
 }
 

@@ -83,20 +83,8 @@ impl Store {
             Some(place) => self.pages[place as usize] = *bytes,
             None => {
                 self.places[i as usize] = Some(self.pages.len() as u32);
-                append(&mut self.pages, bytes);
+                self.pages.push_reserved(*bytes);
             }
         }
-    }
-}
-
-/// One more page, for which there is room.
-fn append(pages: &mut Vec<[u8; 4096]>, bytes: &[u8; 4096])
-    requires room { vec_len pages.old < vec_capacity pages.old }
-    ensures items { pages.new.items ≡ pages.old.items ++ bytes.now ∷ [] }
-    ensures capacity { vec_capacity pages.old ≤ vec_capacity pages.new }
-{
-    match pages.push(*bytes) {
-        Ok(()) => {}
-        Err(_) => unreachable!(),
     }
 }

@@ -7,14 +7,18 @@ pub mod Watching
 pub mod Stages
 pub mod Regions
 pub mod Growth
-pub use CallPromises.{AnswersCall, CommitsRange, DecidesIn, LacksMemory, LosesPages, MakesIn}
-pub use DevicePromises.{AnswersFlush, FlushesBlocks}
+pub use CallPromises.{AnswersCall, BeginsCall, BeginsProcess, BeginsRelease, BeginsWrites}
+pub use CallPromises.{ChangesNothing, CommitsRange, DecidesIn, HasRoomFor, IsTallEnough}
+pub use CallPromises.{LacksMemory, LosesPages, MakesIn, MakesInRange, MakesStackPages, StaysFit}
+pub use CallPromises.{StaysSettled}
+pub use DevicePromises.{AnswersFile, AnswersFlush, AnswersGrow, FailsWrite, FlushesBlocks}
+pub use DevicePromises.{HoldsPages}
 pub use Allocating.{allocates_anew}
 pub use Growing.{GrowsBy}
 pub use Marking.{marks_anew, protect_pages}
 pub use Watching.{after_watch}
-pub use Stages.{AreHeld, InBlocks, NewFileMade, flushed_keys, freed_pages, keys_from}
-pub use Stages.{keys_of_region, place_view}
+pub use Stages.{AreHeld, InBlocks, NewFileMade, are_viewed, flushed_keys, freed_pages, keys_from}
+pub use Stages.{keys_of_region, make_section, map_section, place_view}
 pub use Regions.{IsReserved, IsUncommitted, reserved_region}
 pub use Growth.{NothingLeft, Overflows, ProbeIn, StackGrows, StackStandsIn, grows, growths}
 pub use Growth.{guard_lowered, has_grown, probed}

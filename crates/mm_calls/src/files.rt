@@ -5,9 +5,8 @@ ghost use Rattle.mm_types.specs.{range_of};
 ghost use Rattle.mm_world.specs.{area_at, blank, is_success, new_file};
 ghost use Rattle.mm_pages.specs.{Turns, Makes, Flushes, PassesIn, NotesIn};
 ghost use Rattle.mm_tables.specs.{IsFew, BlocksHold, flush_told, file_block_in};
-ghost use Rattle.mm_calls.specs.Stages.{AreHeld, InBlocks, keys_from, flushed_keys};
-ghost use Rattle.mm_calls.specs.CallPromises.{BeginsWrites, ChangesNothing};
-ghost use Rattle.mm_calls.specs.DevicePromises.{AnswersFile, AnswersFlush, FlushesBlocks, HoldsPages, FailsWrite};
+ghost use Rattle.mm_calls.specs.{AreHeld, InBlocks, keys_from, flushed_keys, BeginsWrites, ChangesNothing, AnswersFile, AnswersFlush, FlushesBlocks};
+ghost use Rattle.mm_calls.specs.{HoldsPages, FailsWrite};
 
 use crate::views::view_of;
 use mm_pages::Pages;

@@ -1,10 +1,8 @@
 ghost use Rattle.std.specs.Prelude.{◌≡◌, ◌≤◌, ◌+◌, ◌-◌, false, length, nat_le, IfOk, IsOk, OnErr};
 ghost use Rattle.mm_world.specs.{is_success, grow, new_process, most_processes, exit};
 ghost use Rattle.mm_pages.specs.{begun, NotesIn};
-ghost use Rattle.mm_calls.specs.Growing.{GrowsBy};
+ghost use Rattle.mm_calls.specs.{GrowsBy, BeginsProcess, BeginsRelease, AnswersCall, ChangesNothing, LosesPages, AnswersGrow};
 ghost use Rattle.mm_tables.specs.{FitsTables, StaysIdle};
-ghost use Rattle.mm_calls.specs.CallPromises.{BeginsProcess, BeginsRelease, AnswersCall, ChangesNothing, LosesPages};
-ghost use Rattle.mm_calls.specs.DevicePromises.{AnswersGrow};
 
 use mm_pages::Pages;
 use mm_tables::Tables;

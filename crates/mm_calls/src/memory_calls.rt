@@ -5,10 +5,8 @@ ghost use Rattle.mm_world.specs.{RegionOf, ProcessOf, Found, charge, process_of,
 ghost use Rattle.mm_world.specs.{is_protection_among, private_protections, all_protections, is_committed_at, every_page};
 ghost use Rattle.mm_spaces.specs.{found_info, IsAsked};
 ghost use Rattle.mm_tables.specs.{new_marks, IsReadyFor, MakesPages, StaysIdle};
-ghost use Rattle.mm_calls.specs.Allocating.{allocates_anew};
-ghost use Rattle.mm_calls.specs.Marking.{protect_pages, marks_anew};
-ghost use Rattle.mm_calls.specs.Stages.{freed_pages};
-ghost use Rattle.mm_calls.specs.CallPromises.{BeginsCall, BeginsRelease, AnswersCall, DecidesIn, MakesIn, LacksMemory, LosesPages, CommitsRange};
+ghost use Rattle.mm_calls.specs.{allocates_anew, protect_pages, marks_anew, freed_pages, BeginsCall, BeginsRelease, AnswersCall, DecidesIn, MakesIn};
+ghost use Rattle.mm_calls.specs.{LacksMemory, LosesPages, CommitsRange};
 
 use crate::parameters::{
     are_alloc_parameters, are_free_parameters, are_protect_parameters, is_reserving,

@@ -4,9 +4,8 @@ ghost use Rattle.mm_types.specs.declared.answers.Answer.TheVariants as answer;
 ghost use Rattle.mm_types.specs.declared.moves.LineKind.TheVariants as line_kind;
 ghost use Rattle.mm_world.specs.{ProcessOf, process_of, set_stack, alloc, charge, limit, Committed, committed_at, guard_off, blank, probe};
 ghost use Rattle.mm_world.specs.{is_overflow};
-ghost use Rattle.mm_calls.specs.Growth.{grows, guard_lowered};
+ghost use Rattle.mm_calls.specs.{grows, guard_lowered, BeginsCall, AnswersCall, LacksMemory, StaysFit};
 ghost use Rattle.mm_tables.specs.{IsReadyFor, MakesPages, SettlesTables};
-ghost use Rattle.mm_calls.specs.CallPromises.{BeginsCall, AnswersCall, LacksMemory, StaysFit};
 
 use crate::commit;
 use mm_pages::Pages;

@@ -4,8 +4,7 @@ ghost use Rattle.mm_world.specs.{Page, RegionOf, ProcessOf, Found, process_of, r
 ghost use Rattle.mm_world.specs.{written_in};
 ghost use Rattle.mm_pages.specs.{StoreOf};
 ghost use Rattle.mm_tables.specs.{FitsTables, Called};
-ghost use Rattle.mm_calls.specs.Watching.{after_watch};
-ghost use Rattle.mm_calls.specs.CallPromises.{StaysFit};
+ghost use Rattle.mm_calls.specs.{after_watch, StaysFit};
 
 use crate::parameters::is_user_page;
 use mm_spaces::{PageInfo, PageRange};

@@ -4,12 +4,10 @@ ghost use Rattle.mm_types.specs.declared.answers.Answer.TheVariants as answer;
 ghost use Rattle.mm_types.specs.declared.moves.LineKind.TheVariants as line_kind;
 ghost use Rattle.mm_world.specs.{ProcessOf, process_of, section_of, section_named, area_at, blank, is_success, done, next_handle, with_handle};
 ghost use Rattle.mm_world.specs.{new_section, section_prot, create, create_file, open_section, close};
-ghost use Rattle.mm_pages.specs.Housekeeping.{Goes};
-ghost use Rattle.mm_pages.specs.{leaving};
+ghost use Rattle.mm_pages.specs.{Goes, leaving};
 ghost use Rattle.mm_sections.specs.{id_of};
 ghost use Rattle.mm_tables.specs.{IsFew, IsReadyFor, MakesPages, PassesAs};
-ghost use Rattle.mm_calls.specs.Stages.{make_section};
-ghost use Rattle.mm_calls.specs.CallPromises.{BeginsCall, AnswersCall, MakesIn, LacksMemory, StaysSettled};
+ghost use Rattle.mm_calls.specs.{make_section, BeginsCall, AnswersCall, MakesIn, LacksMemory, StaysSettled};
 
 use crate::parameters::{are_section_flags, are_section_parameters, is_reserve, section_prot};
 use mm_pages::Pages;

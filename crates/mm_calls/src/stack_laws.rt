@@ -7,7 +7,7 @@ ghost use Rattle.mm_world.specs.{probe, is_overflow, reserve_pages};
 ghost use Rattle.mm_world.specs.World.{World};
 ghost use Rattle.mm_world.specs.Stack.{commit_pages};
 ghost use Rattle.mm_world.specs.WellFormed.{WellFormed};
-ghost use Rattle.mm_calls.specs.Growth.{ProbeIn, grows, growths, Overflows, StackGrows, StackStandsIn};
+ghost use Rattle.mm_calls.specs.{ProbeIn, grows, growths, Overflows, StackGrows, StackStandsIn};
 
 /// A stack of r pages with c committed grows at most r - c - 2 times, whatever the probes and
 /// whatever happens between them.

@@ -7,8 +7,8 @@ ghost use Rattle.mm_world.specs.{is_protection_among, private_protections, chang
 ghost use Rattle.mm_world.specs.Stack.{commit_pages};
 ghost use Rattle.mm_pages.specs.{Turn, MakesStack, guard_told};
 ghost use Rattle.mm_tables.specs.{Settled, IsNewPlace, IsNewRange, IsReadyFor, PassesAs, SettlesTables, StaysIdle};
-ghost use Rattle.mm_calls.specs.Regions.{IsUncommitted, IsReserved, reserved_region};
-ghost use Rattle.mm_calls.specs.CallPromises.{IsTallEnough, BeginsCall, AnswersCall, LacksMemory, StaysFit, HasRoomFor, MakesInRange, MakesStackPages};
+ghost use Rattle.mm_calls.specs.{IsUncommitted, IsReserved, reserved_region, IsTallEnough, BeginsCall, AnswersCall, LacksMemory, StaysFit};
+ghost use Rattle.mm_calls.specs.{HasRoomFor, MakesInRange, MakesStackPages};
 
 use mm_pages::Pages;
 use mm_spaces::{PageRange, pages_for};

@@ -6,8 +6,7 @@ ghost use Rattle.mm_types.specs.declared.views.Kind.TheVariants as view_kind;
 ghost use Rattle.mm_world.specs.{ProcessOf, SectionOf, Found, process_of, section_of, is_private, is_success, find_or, handle_section, is_copy};
 ghost use Rattle.mm_world.specs.{map_view, unmap, ViewFits};
 ghost use Rattle.mm_tables.specs.{IsReadyFor, SettlesTables, StaysIdle};
-ghost use Rattle.mm_calls.specs.Stages.{are_viewed, place_view, map_section};
-ghost use Rattle.mm_calls.specs.CallPromises.{BeginsCall, BeginsRelease, AnswersCall, MakesIn, LacksMemory, LosesPages};
+ghost use Rattle.mm_calls.specs.{are_viewed, place_view, map_section, BeginsCall, BeginsRelease, AnswersCall, MakesIn, LacksMemory, LosesPages};
 
 use crate::parameters::{is_granule_address, may_view, view_access};
 use mm_pages::Pages;

@@ -7,7 +7,7 @@ use Rattle.mm_types.specs.declared.moves.Move.TheVariants as move
 use Rattle.mm_life.specs.{record_at, is_on, FrameLife, unstarted, after_move, is_give, is_read_in, is_steal, is_wrote, brought_in, soft_fault}
 use Rattle.mm_life.specs.{soft_faults_from, counts_of_log}
 use Rattle.mm_classes.specs.{MarksOf, marks_after, no_marks, class_of, classes_from, classes, class_of_soft, next_of, Word, Give, Read, Map, Steal}
-use Rattle.mm_classes.specs.{Wrote, word_of, word_of_move, is_class, number_of, Agrees, Class}
+use Rattle.mm_classes.specs.{Wrote, word_of, word_of_move, is_class, class_count, Agrees, Class}
 use Rattle.mm_classes.specs.declared.classes.Class.TheVariants as class
 use Rattle.mm_classes.proofs.Fits.{word_fits, of_two, of_soft}
 
@@ -154,8 +154,8 @@ soft_here o =
 
 abbrev soft_of : List (Option Class) → ℕ
 soft_of cs =
-    number_of class.FirstUse cs + number_of class.SoftFaultFromStandby cs + number_of class.SoftFaultFromModified cs + number_of class.SoftFaultInTransition cs
-    + number_of class.SoftFaultShared cs
+    class_count class.FirstUse cs + class_count class.SoftFaultFromStandby cs + class_count class.SoftFaultFromModified cs + class_count class.SoftFaultInTransition cs
+    + class_count class.SoftFaultShared cs
 
 soft_step : (o : Option Class) (os : List (Option Class)) (here later : ℕ) → soft_here o ≡ here → soft_of os ≡ later → soft_of (o ∷ os) ≡ here + later
 soft_step o os here later p q =
@@ -170,23 +170,23 @@ soft_step o os here later p q =
       count_cons (is_class class.SoftFaultShared) o os,
     )
 
-zero_sum : (l : FrameLife) (v : MarksOf) (before : Option Move) (ms : List Move) → number_of class.DemandZeroFault (classes_from l v before ms) + number_of class.FrameForCopy (classes_from l v before ms) ≡ count_by is_give ms
+zero_sum : (l : FrameLife) (v : MarksOf) (before : Option Move) (ms : List Move) → class_count class.DemandZeroFault (classes_from l v before ms) + class_count class.FrameForCopy (classes_from l v before ms) ≡ count_by is_give ms
 zero_sum l v before [] = refl
 zero_sum l v before (m ∷ ms) =
     two_step (is_class class.DemandZeroFault) (is_class class.FrameForCopy) is_give (class_of l v before m (next_of ms)) (classes_from (after_move l m) (marks_after v m) (Some m) ms) m ms (gave l v before m (next_of ms)) (zero_sum (after_move l m) (marks_after v m) (Some m) ms)
 
-hard_sum : (l : FrameLife) (v : MarksOf) (before : Option Move) (ms : List Move) → number_of class.HardFaultFromPagingFile (classes_from l v before ms) + number_of class.HardFaultFromFile (classes_from l v before ms) ≡ count_by is_read_in ms
+hard_sum : (l : FrameLife) (v : MarksOf) (before : Option Move) (ms : List Move) → class_count class.HardFaultFromPagingFile (classes_from l v before ms) + class_count class.HardFaultFromFile (classes_from l v before ms) ≡ count_by is_read_in ms
 hard_sum l v before [] = refl
 hard_sum l v before (m ∷ ms) =
     two_step (is_class class.HardFaultFromPagingFile) (is_class class.HardFaultFromFile) is_read_in (class_of l v before m (next_of ms)) (classes_from (after_move l m) (marks_after v m) (Some m) ms) m ms (read_in l v before m (next_of ms)) (hard_sum (after_move l m) (marks_after v m) (Some m) ms)
 
-steal_sum : (l : FrameLife) (v : MarksOf) (before : Option Move) (ms : List Move) → number_of class.StandbyRepurposed (classes_from l v before ms) ≡ count_by is_steal ms
+steal_sum : (l : FrameLife) (v : MarksOf) (before : Option Move) (ms : List Move) → class_count class.StandbyRepurposed (classes_from l v before ms) ≡ count_by is_steal ms
 steal_sum l v before [] = refl
 steal_sum l v before (m ∷ ms) =
     one_step (is_class class.StandbyRepurposed) is_steal (class_of l v before m (next_of ms)) (classes_from (after_move l m) (marks_after v m) (Some m) ms) m ms (stole l v before m (next_of ms)) (steal_sum (after_move l m) (marks_after v m) (Some m) ms)
 
 write_sum : (l : FrameLife) (v : MarksOf) (before : Option Move) (ms : List Move)
-    → number_of class.WriteDone (classes_from l v before ms) + number_of class.WriteDoneChanged (classes_from l v before ms) + number_of class.WriteDoneDeleted (classes_from l v before ms) ≡ count_by is_wrote ms
+    → class_count class.WriteDone (classes_from l v before ms) + class_count class.WriteDoneChanged (classes_from l v before ms) + class_count class.WriteDoneDeleted (classes_from l v before ms) ≡ count_by is_wrote ms
 write_sum l v before [] = refl
 write_sum l v before (m ∷ ms) =
     three_step (is_class class.WriteDone) (is_class class.WriteDoneChanged) (is_class class.WriteDoneDeleted) is_wrote (class_of l v before m (next_of ms)) (classes_from (after_move l m) (marks_after v m) (Some m) ms) m ms

@@ -1,7 +1,7 @@
 -- The marks of frames, as they are set one by one.
 use Rattle.std.proofs.Common.{◌≡◌, ℕ, zero, suc, ◌+◌, ◌≤◌, ◌<◌, false, List, [], ◌∷◌, ◌++◌, replicate, refl, ◌∙◌, arith}
 use Rattle.std.specs.Prelude.{◌==◌}
-use Rattle.mm_classes.specs.{FrameMark, AreEarlier, marks_in, mark_at, unmarked, no_marks}
+use Rattle.mm_classes.specs.{FrameMark, AreMarkedBefore, marks_in, mark_at, unmarked, no_marks}
 
 -- room behind the marks shows no mark
 unmarked_behind : (n f : ℕ) → mark_at (replicate n unmarked) f ≡ unmarked
@@ -28,7 +28,7 @@ none_marked g = refl
 pub new_marks : marks_in 1 [] ≡ no_marks
 new_marks = λ i. record { fresh = λ g. none_marked g i; arrived = λ g. false }
 
-pub new_earlier : AreEarlier 1 []
+pub new_earlier : AreMarkedBefore 1 []
 new_earlier = record { begun = omega arith; earlier = λ g. omega arith }
 
 pub ruleset marked = (marks_reached, new_marks, new_earlier)

@@ -8,24 +8,25 @@ use Rattle.mm_types.specs.declared.moves.LineKind.TheVariants as kind
 use Rattle.mm_types.specs.declared.moves.Move.TheVariants as move
 use Rattle.mm_life.specs.{FrameLife, unstarted, counts_of, after_move}
 use Rattle.mm_classes.specs.{MarksOf, no_marks, marks_after, class_of, next_of, code_of, digits_of, number_text, numbers_text, move_numbers}
-use Rattle.mm_classes.specs.{kind_code, head_text, move_data, mark_data, is_plain, is_marked, mark_before, last_mark, data_from, log_data, Class}
+use Rattle.mm_classes.specs.{kind_code, head_text, move_data, mark_data, is_plain_in_html, is_marked, mark_before, last_mark, data_from, log_data}
+use Rattle.mm_classes.specs.{Class}
 use Rattle.mm_classes.specs.declared.classes.Class.TheVariants as class
 
 abbrev Plain : Text → Type 0
-Plain text = list_all is_plain text ≡ true
+Plain text = list_all is_plain_in_html text ≡ true
 
 plain_more : (a b : Text) → Plain a → Plain b → Plain (a ++ b)
 plain_more [] b p q = q
-plain_more (x ∷ a) b p q = let h = parts (is_plain x) (list_all is_plain a) p in both (is_plain x) (list_all is_plain (a ++ b)) h.0 (plain_more a b h.1 q)
+plain_more (x ∷ a) b p q = let h = parts (is_plain_in_html x) (list_all is_plain_in_html a) p in both (is_plain_in_html x) (list_all is_plain_in_html (a ++ b)) h.0 (plain_more a b h.1 q)
 
-plain_cons : (n : ℕ) (a : Text) → is_plain n ≡ true → Plain a → Plain (n ∷ a)
-plain_cons n a p q = both (is_plain n) (list_all is_plain a) p q
+plain_cons : (n : ℕ) (a : Text) → is_plain_in_html n ≡ true → Plain a → Plain (n ∷ a)
+plain_cons n a p q = both (is_plain_in_html n) (list_all is_plain_in_html a) p q
 
 plain_if : (b : Bool) (x y : Text) → Plain x → Plain y → Plain (cond b x y)
 plain_if true x y p q = p
 plain_if false x y p q = q
 
-plain_high : (n : ℕ) → 63 ≤ n → is_plain n ≡ true
+plain_high : (n : ℕ) → 63 ≤ n → is_plain_in_html n ≡ true
 plain_high n high =
     both (not (n == 0x3C)) (not (n == 0x26))
     (ap not (differ n 0x3C (λ e. omega (arith, e, high)))) (ap not (differ n 0x26 (λ e. omega (arith, e, high))))
@@ -42,11 +43,11 @@ plain_numbers : (ns : List ℕ) → Plain (numbers_text ns)
 plain_numbers [] = refl
 plain_numbers (n ∷ ns) = plain_more (number_text n) (numbers_text ns) (plain_digits 13 n) (plain_numbers ns)
 
-plain_code : (c : Class) → is_plain (code_of c) ≡ true
+plain_code : (c : Class) → is_plain_in_html (code_of c) ≡ true
 plain_code class.Deleted = refl
 plain_code _ = refl
 
-plain_kind : (k : LineKind) → is_plain (kind_code k) ≡ true
+plain_kind : (k : LineKind) → is_plain_in_html (kind_code k) ≡ true
 plain_kind kind.Call = refl
 plain_kind _ = refl
 
@@ -77,5 +78,5 @@ plain_from l v before (m ∷ ms) =
     (plain_more (move_data (class_of l v before m (next_of ms)) m) (data_from (after_move l m) (marks_after v m) (Some m) ms)
     (plain_move (class_of l v before m (next_of ms)) m) (plain_from (after_move l m) (marks_after v m) (Some m) ms))
 
-pub plain_data : (moves : List Move) → list_all is_plain (log_data moves) ≡ true
+pub plain_data : (moves : List Move) → list_all is_plain_in_html (log_data moves) ≡ true
 plain_data moves = plain_from unstarted no_marks None moves

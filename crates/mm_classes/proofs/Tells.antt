@@ -11,7 +11,7 @@ use Rattle.mm_life.specs.{is_above_min, is_short, is_stored, is_unbind, unbinds,
 use Rattle.mm_laws.specs.Sound.{Sound}
 use Rattle.mm_laws.specs.{one_if, times}
 use Rattle.mm_laws.proofs.{owner_passes}
-use Rattle.mm_classes.specs.{class_of_read, class_of_soft, class_of_map, class_of_unmap, is_trim, makes_way, makes_room, Told, SaysTheState, Class}
+use Rattle.mm_classes.specs.{class_of_read, class_of_soft, class_of_map, class_of_unmap, is_trim, makes_way, makes_room, ToldAs, SaysTheState, Class}
 use Rattle.mm_classes.specs.declared.classes.Class.TheVariants as class
 
 some_class : (a b : Class) → Some a ≡ Some b → a ≡ b
@@ -91,7 +91,7 @@ module _ (l : FrameLife) (s : Sound l) where
       on_times f l.frames.standby
       (omega (arith, (s.standing f).standby, stands_there (is_some r.owner) (is_idle r) r.changed owned idle unchanged))
 
-  is_standby : (f : Frame) (p : Place) → Told l (move.Map f p) class.SoftFaultFromStandby → is_on f.0 l.frames.standby ≡ true
+  is_standby : (f : Frame) (p : Place) → ToldAs l (move.Map f p) class.SoftFaultFromStandby → is_on f.0 l.frames.standby ≡ true
   is_standby f p t =
       let r = record_at l.frames f.0 in
       let soft : class_of_soft l f.0 (record_at l.frames f.0) ≡ class.SoftFaultFromStandby =
@@ -104,7 +104,7 @@ module _ (l : FrameLife) (s : Sound l) where
       let d = and_parts _ _ c.0 in
       standby_there f.0 (ap is_some (owner_passes (fits_place p) r d.0).is) (idle_here r.shares (has_request r.request) q.unshared q.quiet) q.off
 
-is_modified : (l : FrameLife) (f : Frame) (p : Place) → Told l (move.Map f p) class.SoftFaultFromModified → is_on f.0 l.frames.modified ≡ true
+is_modified : (l : FrameLife) (f : Frame) (p : Place) → ToldAs l (move.Map f p) class.SoftFaultFromModified → is_on f.0 l.frames.modified ≡ true
 is_modified l f p t =
     let r = record_at l.frames f.0 in
     let soft : class_of_soft l f.0 (record_at l.frames f.0) ≡ class.SoftFaultFromModified =
@@ -148,7 +148,7 @@ no_room false r a b = cc
 clash : (b : Bool) → b ≡ true → b ≡ false → (P : Type 0) → P
 clash b p q P = let bad : true ≡ false = sym p ∙ q in cc
 
-is_short_then : (l : FrameLife) (p : Place) → Told l (move.Unmap p) class.TrimmedForWantOfFrames → is_short l ≡ true
+is_short_then : (l : FrameLife) (p : Place) → ToldAs l (move.Unmap p) class.TrimmedForWantOfFrames → is_short l ≡ true
 unfolding by_tests
 is_short_then l p t =
     let want = wanted_by (is_unbind l.kind) (is_trim l.kind) (makes_way l p) (is_access l.kind && is_short l && not (makes_room l p.pid.0 t.after))
@@ -189,7 +189,7 @@ module _ (l : FrameLife) (p : Place) (after : Option Move)
   full_by None e h = let bad : false ≡ true = h in cc
   full_by (Some f) e h = full_at f e h
 
-is_full_then : (l : FrameLife) (p : Place) → Told l (move.Unmap p) class.Replaced → is_at_max (set_of l p.pid.0) ≡ true
+is_full_then : (l : FrameLife) (p : Place) → ToldAs l (move.Unmap p) class.Replaced → is_at_max (set_of l p.pid.0) ≡ true
 unfolding by_tests
 is_full_then l p t =
     full_by l p t.after

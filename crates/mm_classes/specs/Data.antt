@@ -33,8 +33,8 @@ abbrev pub log_data : List Move → Text
 log_data moves = data_from unstarted no_marks None moves
 
 -- neither `<` nor `&`: a byte that HTML takes as it stands
-abbrev pub is_plain : ℕ → Bool
-is_plain byte = not (byte == 0x3C) && not (byte == 0x26)
+abbrev pub is_plain_in_html : ℕ → Bool
+is_plain_in_html byte = not (byte == 0x3C) && not (byte == 0x26)
 
 -- moves with numbers in range that replay from before the first line
 pub record IsLog (moves : List Move) : Type 0 where

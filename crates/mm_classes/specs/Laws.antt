@@ -11,7 +11,7 @@ use Rattle.mm_classes.specs.declared.classes.Class.{Class}
 use Rattle.mm_classes.specs.declared.classes.Class.TheVariants as class
 
 -- the move is legal in this state, and of this class, with some marks and between some moves
-pub record Told (l : FrameLife) (m : Move) (c : Class) : Type 0 where
+pub record ToldAs (l : FrameLife) (m : Move) (c : Class) : Type 0 where
   pub legal : IsLegal m l
   pub marks : MarksOf
   pub before : Option Move
@@ -20,15 +20,15 @@ pub record Told (l : FrameLife) (m : Move) (c : Class) : Type 0 where
 
 -- what the classes of reads, maps and unmaps say
 pub record SaysTheState (l : FrameLife) : Type 0 where
-  pub paging_file : (f : Frame) (k : Key) → Told l (move.Read f k) class.HardFaultFromPagingFile
+  pub paging_file : (f : Frame) (k : Key) → ToldAs l (move.Read f k) class.HardFaultFromPagingFile
       → (s : Slot) × (l.stands k ≡ held.Slot s)
-  pub file : (f : Frame) (k : Key) → Told l (move.Read f k) class.HardFaultFromFile
+  pub file : (f : Frame) (k : Key) → ToldAs l (move.Read f k) class.HardFaultFromFile
       → (b : Block) × (l.stands k ≡ held.Block b)
-  pub standby : (f : Frame) (p : Place) → Told l (move.Map f p) class.SoftFaultFromStandby
+  pub standby : (f : Frame) (p : Place) → ToldAs l (move.Map f p) class.SoftFaultFromStandby
       → is_on f.0 l.frames.standby ≡ true
-  pub modified : (f : Frame) (p : Place) → Told l (move.Map f p) class.SoftFaultFromModified
+  pub modified : (f : Frame) (p : Place) → ToldAs l (move.Map f p) class.SoftFaultFromModified
       → is_on f.0 l.frames.modified ≡ true
-  pub replaced : (p : Place) → Told l (move.Unmap p) class.Replaced
+  pub replaced : (p : Place) → ToldAs l (move.Unmap p) class.Replaced
       → is_at_max (set_of l p.pid.0) ≡ true
-  pub short : (p : Place) → Told l (move.Unmap p) class.TrimmedForWantOfFrames
+  pub short : (p : Place) → ToldAs l (move.Unmap p) class.TrimmedForWantOfFrames
       → is_short l ≡ true

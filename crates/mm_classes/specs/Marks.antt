@@ -42,6 +42,6 @@ marks_in line frames = record {
 }
 
 -- no frame was brought in by a line that has not begun
-pub record AreEarlier (line : ℕ) (frames : List FrameMark) : Type 0 where
+pub record AreMarkedBefore (line : ℕ) (frames : List FrameMark) : Type 0 where
   pub begun : 1 ≤ line
   pub earlier : (f : ℕ) → (mark_at frames f).line ≤ line

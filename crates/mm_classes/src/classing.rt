@@ -1,14 +1,9 @@
 ghost use Rattle.std.specs.Prelude.{◌≡◌, if◌then◌else◌, is_none, option_map};
 ghost use Rattle.mm_life.specs.{is_at_max, shows_shared, is_short, owner_is, is_shared};
 ghost use Rattle.mm_replay.specs.Standing.{life};
-ghost use Rattle.mm_classes.specs.Classes.{class_of_add, class_of_drop, class_of_clear};
-ghost use Rattle.mm_classes.specs.Classes.{class_of_give, class_of_read, class_of_got};
-ghost use Rattle.mm_classes.specs.Classes.{class_of_soft, class_of_map};
-ghost use Rattle.mm_classes.specs.Classes.{class_of_unmap, class_of_soil, class_of_write};
-ghost use Rattle.mm_classes.specs.Classes.{class_of_wrote, class_of, is_busy};
-ghost use Rattle.mm_classes.specs.Classes.{is_copy, makes_way, maps_into, makes_room};
-ghost use Rattle.mm_classes.specs.Classes.{reads_into};
-ghost use Rattle.mm_classes.specs.Marking.{marks_of};
+ghost use Rattle.mm_classes.specs.{class_of_add, class_of_drop, class_of_clear, class_of_give, class_of_read, class_of_got, class_of_soft};
+ghost use Rattle.mm_classes.specs.{class_of_map, class_of_unmap, class_of_soil, class_of_write, class_of_wrote, class_of, is_busy, is_copy};
+ghost use Rattle.mm_classes.specs.{makes_way, maps_into, makes_room, reads_into, marks_of};
 
 use crate::classes::Class;
 use crate::looks::{has_request, is_access, is_again, is_touch, touches};

@@ -1,9 +1,6 @@
 ghost use Rattle.std.specs.Prelude.{◌≡◌, ◌+◌, ◌-◌, ◌*◌, ◌<◌, ◌≤◌, ◌∷◌, ◌++◌, [], length, map};
-ghost use Rattle.mm_classes.specs.Encoding.{digits_of, number_text, numbers_text, key_numbers};
-ghost use Rattle.mm_classes.specs.Encoding.{block_numbers, stored_number, kind_numbers, kind_code};
-ghost use Rattle.mm_classes.specs.Encoding.{move_numbers, head_text, move_data, mark_data};
-ghost use Rattle.mm_classes.specs.Encoding.{numbers_of};
-ghost use Rattle.mm_classes.specs.Words.{code_of};
+ghost use Rattle.mm_classes.specs.{digits_of, number_text, numbers_text, key_numbers, block_numbers, stored_number, kind_numbers, kind_code};
+ghost use Rattle.mm_classes.specs.{move_numbers, head_text, move_data, mark_data, numbers_of, code_of};
 
 use crate::classes::Class;
 use crate::words::code;

@@ -2,14 +2,8 @@ ghost use Rattle.std.specs.Prelude.{◌≡◌, true, Option, List, option_map};
 ghost use Rattle.std.specs.List.{list_all};
 ghost use Rattle.mm_types.specs.{Move};
 ghost use Rattle.mm_life.specs.{FrameLife, counts_of_log};
-ghost use Rattle.mm_classes.specs.declared.classes.Class.{Class};
-ghost use Rattle.mm_classes.specs.Marks.{MarksOf};
-ghost use Rattle.mm_classes.specs.Classes.{class_of, classes};
-ghost use Rattle.mm_classes.specs.Counting.{Agrees};
-ghost use Rattle.mm_classes.specs.Data.{IsLog, is_plain, log_data};
-ghost use Rattle.mm_classes.specs.Fitting.{word_of, word_of_move};
-ghost use Rattle.mm_classes.specs.Laws.{SaysTheState};
-ghost use Rattle.mm_classes.specs.Words.{code_of};
+ghost use Rattle.mm_classes.specs.{Class, MarksOf, class_of, classes, Agrees, IsLog, is_plain_in_html, log_data, word_of, word_of_move, SaysTheState};
+ghost use Rattle.mm_classes.specs.{code_of};
 ghost use Rattle.mm_laws.specs.Sound.{Sound};
 
 /// Each move but `at` has one class, and it is one of its own word: no `map` is a hard fault.
@@ -41,7 +35,7 @@ pub fn classes_tell_the_state()
 
 /// No byte of a log's data is `<` or `&`, so it can stand in a page of HTML as it is.
 pub fn data_is_plain()
-    ensures { (moves : List Move) → list_all is_plain (log_data moves) ≡ true }
+    ensures { (moves : List Move) → list_all is_plain_in_html (log_data moves) ≡ true }
 {}
 
 /// From the data of a log that replays the log can be read back: two such logs with the same data

@@ -1,7 +1,7 @@
 ghost use Rattle.std.specs.Prelude.{◌≡◌, ℕ, ◌+◌, ◌^◌, ◌<◌, ◌≤◌, ◌==◌, true, false, length, OnOk};
 ghost use Rattle.std.specs.Prelude.{OnErr, slice_set};
 ghost use Rattle.mm_classes.specs.Marks.{no_marks, marks_after, with_frame, mark_at, unmarked};
-ghost use Rattle.mm_classes.specs.Marks.{AreEarlier};
+ghost use Rattle.mm_classes.specs.Marks.{AreMarkedBefore};
 
 use mm_types::{Frame, Move, NoMemory};
 use std::alloc::Global;
@@ -23,7 +23,7 @@ pub struct Marks {
     /// The line, counted from 1.
     line: u64,
     frames: Vec<FrameMark>,
-    ghost earlier: { AreEarlier line frames.items },
+    ghost earlier: { AreMarkedBefore line frames.items },
 }
 
 /// The mark of a frame.

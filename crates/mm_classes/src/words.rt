@@ -1,5 +1,5 @@
 ghost use Rattle.std.specs.Prelude.{◌≡◌};
-ghost use Rattle.mm_classes.specs.Words.{code_of, group_of, sentence_of};
+ghost use Rattle.mm_classes.specs.{code_of, group_of, sentence_of};
 
 use crate::classes::{Class, Group};
 

@@ -1,7 +1,6 @@
 ghost use Rattle.std.specs.Prelude.{◌≡◌, ◌++◌, codes};
 ghost use Rattle.mm_life.specs.{rewritten_log, smallest_set_log};
-ghost use Rattle.mm_classes.specs.Classes.{classes};
-ghost use Rattle.mm_classes.specs.Worked.{rewritten_classes, smallest_set_classes};
+ghost use Rattle.mm_classes.specs.{classes, rewritten_classes, smallest_set_classes};
 
 /// The classes of the 24 moves of a page that is rewritten while its write is in flight.
 pub fn rewritten_page_is_classed()

@@ -7,9 +7,8 @@ use Rattle.mm_life.specs.{FrameLife, record_at, is_write as is_write_request, Is
 use Rattle.mm_life.specs.{after_unmap_at, after_write_to, Replays, Waiting, Idle, ended_by, waits_after, Walk, walked, walked_all, Through}
 use Rattle.mm_life.specs.{waits_through, ages_through, tried_after, is_read_move, is_wrote_move, takes_frame}
 use Rattle.mm_pages.specs.{changed, Aim, AccessMove, ReadyMoves, ByCopy, FromFull, InShortage, walk_from, StoreOf, same_place, place_at, PassesIn}
-use Rattle.mm_pages.specs.{AccessEnds, Had, Failed, Touches, Copies}
+use Rattle.mm_pages.specs.{AccessEnds, Had, Failed, Touches, Copies, PageGoes}
 use Rattle.mm_pages.specs.Behind.{Behind}
-use Rattle.mm_pages.specs.Accesses.{Goes}
 use Rattle.mm_world.specs.{WorldOf, Attempt, Need, same_key, need_at}
 use Rattle.mm_world.specs.Report.{Report}
 use Rattle.mm_pages.specs.Reports.{Ends}
@@ -111,7 +110,7 @@ kind-after a w _ rest h = refl
 thread-after : (a : Aim) (w : Walk) (m : Move) (rest : List Move) → is_thread w.life.kind ≡ true → AccessMove a w m rest → is_thread (walked w m).life.kind ≡ true
 thread-after a w m rest th h = ap is_thread (kind-after a w m rest h) ∙ th
 
-goes-start : (a : Aim) (l : FrameLife) (w : Walk) (p : Place) (ms : List Move) → Goes a w p ms → Goes (record a { start = l }) w p ms
+goes-start : (a : Aim) (l : FrameLife) (w : Walk) (p : Place) (ms : List Move) → PageGoes a w p ms → PageGoes (record a { start = l }) w p ms
 goes-start a l w p ms (ByCopy x c) = ByCopy x c
 goes-start a l w p ms (FromFull x full old next) = FromFull x full old next
 goes-start a l w p ms (InShortage s n v) = InShortage s n v

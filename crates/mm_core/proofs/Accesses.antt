@@ -4,8 +4,8 @@ use Rattle.std.specs.Prelude.{option_and_then}
 use Rattle.mm_types.specs.{Access, Key, View, page_of, page_size, permits, Pid, Place}
 use Rattle.mm_world.specs.{Page, RowOf, RegionOf, ProcessOf, filled, process_of, shared_page, set_region, change_range, mark_written, one_page, Home}
 use Rattle.mm_world.specs.{Own, InSection, Committed, committed_at, key_of, private_key, shared_key, with_row, set_row, set_shared, guard_off}
-use Rattle.mm_world.specs.{Attempt, ReadOf, WriteOf, Execute, access, access_at, access_of, is_permitted, perform, write_to, written, bytes_of, Need}
-use Rattle.mm_world.specs.{need_of, copies, same_key, OutcomeOf, done, find_or, need_at, store_line, Tables, row_with, process_with, world_with}
+use Rattle.mm_world.specs.{Attempt, ReadOf, WriteOf, Execute, access, access_at, access_of, is_permitted, perform, write_to, written, bytes_at_home}
+use Rattle.mm_world.specs.{Need, need_of, copies, same_key, OutcomeOf, done, find_or, need_at, store_line, Tables, row_with, process_with, world_with}
 use Rattle.mm_world.specs.{Spaces}
 use Rattle.mm_world.specs.World.{World}
 use Rattle.mm_pages.specs.{touch, place_at, copying, IsReady, MayAccess, IsBegun, started, StoreOf, Ghosts as PagesGhosts}
@@ -136,11 +136,11 @@ module _ (t : Tables) (b : Key → Page) (pid addr : ℕ) where
   w = world_with t b
 
   -- the bytes of a committed row
-  home-bytes : (i : ℕ) (c : Committed (Unit {0})) (home : Home (Unit {0})) → HomeCases t i c.region.thing.kind c.row.own home → bytes_of w (home_with b pid page home) ≡ b (key_of pid page home)
+  home-bytes : (i : ℕ) (c : Committed (Unit {0})) (home : Home (Unit {0})) → HomeCases t i c.region.thing.kind c.row.own home → bytes_at_home w (home_with b pid page home) ≡ b (key_of pid page home)
   home-bytes i c home (IsOwn u own at_home) =
-      ap (λ home. bytes_of w (home_with b pid page home)) at_home ∙ sym (ap (λ home. b (key_of pid page home)) at_home)
+      ap (λ home. bytes_at_home w (home_with b pid page home)) at_home ∙ sym (ap (λ home. b (key_of pid page home)) at_home)
   home-bytes i c home (IsShared v u is none there at_home) =
-      ap (λ home. bytes_of w (home_with b pid page home)) at_home
+      ap (λ home. bytes_at_home w (home_with b pid page home)) at_home
       ∙ ap (λ o. unwrap_or o (filled 0)) (shared-with b t v.area.0 (v.first + i) ∙ ap (option_map (λ u. b (shared_key v.area.0 (v.first + i)))) there)
       ∙ sym (ap (λ home. b (key_of pid page home)) at_home)
 
@@ -166,7 +166,7 @@ module _ (t : Tables) (b : Key → Page) (pid addr : ℕ) where
     cases : HomeCases t (page - h.row.region.thing.base) h.row.region.thing.kind h.row.row.own h.row.home
     cases = home_cases t (page - h.row.region.thing.base) h.row.region.thing.kind h.row.row.own h.row.home committed-is.home_there
 
-    bytes-told : bytes_of w (home_with b pid page h.row.home) ≡ b told.key
+    bytes-told : bytes_at_home w (home_with b pid page h.row.home) ≡ b told.key
     bytes-told = home-bytes (page - h.row.region.thing.base) h.row h.row.home cases ∙ ap b key-told
 
   -- ---- a read, an execution
@@ -250,10 +250,10 @@ module _ (t : Tables) (b : Key → Page) (pid addr : ℕ) where
       in-section area i u stays there at_home =
           let key-is : shared_key area i ≡ told.key = sym (ap (key_of pid page) at_home) ∙ key-told (WriteOf bytes) told h in
           let unmarked : c.row.marked ≡ false = sym (and_true c.row.marked) ∙ sym (ap (λ home. c.row.marked && not (is_own home)) at_home) ∙ marked-told ∙ stays in
-          let held : bytes_of w (InSection area i) ≡ b told.key = ap (λ home. bytes_of w (home_with b pid page home)) (sym at_home) ∙ bytes-told (WriteOf bytes) told h in
-          let new_at : new (shared_key area i) ≡ written (bytes_of w (InSection area i)) (addr % page_size) bytes = ap new key-is ∙ at ∙ sym (ap (λ (x : Page). written x (addr % page_size) bytes) held) in
+          let held : bytes_at_home w (InSection area i) ≡ b told.key = ap (λ home. bytes_at_home w (home_with b pid page home)) (sym at_home) ∙ bytes-told (WriteOf bytes) told h in
+          let new_at : new (shared_key area i) ≡ written (bytes_at_home w (InSection area i)) (addr % page_size) bytes = ap new key-is ∙ at ∙ sym (ap (λ (x : Page). written x (addr % page_size) bytes) held) in
           ap (λ home. write_to w pid holder at_page page (addr % page_size) bytes (home_with b pid page home)) at_home
-          ∙ ap (λ (m : Bool). cond m (set_row w pid holder at_page.region page (record at_page.row { own = Some (written (bytes_of w (InSection area i)) (addr % page_size) bytes); prot = 0x04 })) (set_shared w area i (written (bytes_of w (InSection area i)) (addr % page_size) bytes))) unmarked
+          ∙ ap (λ (m : Bool). cond m (set_row w pid holder at_page.region page (record at_page.row { own = Some (written (bytes_at_home w (InSection area i)) (addr % page_size) bytes); prot = 0x04 })) (set_shared w area i (written (bytes_at_home w (InSection area i)) (addr % page_size) bytes))) unmarked
           ∙ ap (λ (x : Page). set_shared w area i x) (sym new_at)
           ∙ sym (shared-written b new area i (λ k other. others k (ap (same_key k) (sym key-is) ∙ other)) t u there)
           ∙ unwatched (sym watched-told ∙ ap (λ home. is_some c.region.thing.watched && is_own home) at_home ∙ and_false (is_some c.region.thing.watched))
@@ -276,11 +276,11 @@ module _ (t : Tables) (b : Key → Page) (pid addr : ℕ) where
       to-copy : (area i : ℕ) → told.copies ≡ true → c.home ≡ InSection area i → write_to w pid holder at_page page (addr % page_size) bytes (home_with b pid page c.home) ≡ world_with after new
       to-copy area i makes at_home =
           let marked : c.row.marked ≡ true = sym (and_true c.row.marked) ∙ sym (ap (λ home. c.row.marked && not (is_own home)) at_home) ∙ marked-told ∙ makes in
-          let held : bytes_of w (InSection area i) ≡ b told.key = ap (λ home. bytes_of w (home_with b pid page home)) (sym at_home) ∙ bytes-told (WriteOf bytes) told h in
-          let row : RowOf Page = record at_page.row { own = Some (written (bytes_of w (InSection area i)) (addr % page_size) bytes); prot = 0x04 } in
+          let held : bytes_at_home w (InSection area i) ≡ b told.key = ap (λ home. bytes_at_home w (home_with b pid page home)) (sym at_home) ∙ bytes-told (WriteOf bytes) told h in
+          let row : RowOf Page = record at_page.row { own = Some (written (bytes_at_home w (InSection area i)) (addr % page_size) bytes); prot = 0x04 } in
           let row_is : row_with new pid page own_row ≡ row = λ j. record { prot = 0x04; guard = c.row.guard; marked = c.row.marked; own = Some ((at ∙ sym (ap (λ (x : Page). written x (addr % page_size) bytes) held)) j) } in
           ap (λ home. write_to w pid holder at_page page (addr % page_size) bytes (home_with b pid page home)) at_home
-          ∙ ap (λ (m : Bool). cond m (set_row w pid holder at_page.region page (record at_page.row { own = Some (written (bytes_of w (InSection area i)) (addr % page_size) bytes); prot = 0x04 })) (set_shared w area i (written (bytes_of w (InSection area i)) (addr % page_size) bytes))) marked
+          ∙ ap (λ (m : Bool). cond m (set_row w pid holder at_page.region page (record at_page.row { own = Some (written (bytes_at_home w (InSection area i)) (addr % page_size) bytes); prot = 0x04 })) (set_shared w area i (written (bytes_at_home w (InSection area i)) (addr % page_size) bytes))) marked
           ∙ ap (λ (row : RowOf Page). set_row w pid holder at_page.region page row) (sym row_is)
           ∙ sym (copied-with b new pid page others t h.process c own_row spaces h.lives h.committed)
 

@@ -10,8 +10,8 @@ use Rattle.mm_world.proofs.{Holds, numbered_inside}
 use Rattle.mm_types.proofs.{on_err, and_false}
 use Rattle.mm_blocks.specs.{DeviceOf}
 use Rattle.mm_pages.specs.Behind.{Behind}
-use Rattle.mm_pages.specs.{Turn, AllTurn, Turned, Turns, StoreOf, Ghosts as PagesGhosts, leaving, page_rank, Makes, OneMove, Trims, Ages, Flushes}
-use Rattle.mm_pages.specs.{PassesIn, Notes, NotesIn}
+use Rattle.mm_pages.specs.{Turn, AllTurn, Turned, Turns, StoreOf, Ghosts as PagesGhosts, leaving, page_rank, Makes, OneMove, Trims, AgesAll, Flushes}
+use Rattle.mm_pages.specs.{PassesIn, Notes, NotesIn, Goes}
 use Rattle.mm_paging.specs.{kind_of_line, Does, HoldsBeside, asks_beside, with_line, lives, if_lives, made_process, kind_of_growth, GivesUp, Trimming}
 use Rattle.mm_paging.specs.{keeps_for}
 use Rattle.mm_tables.specs.{Called, FitsTables, Settled, key_bytes, MakesPages, StaysIdle, is_uncommitted as is_free}
@@ -28,7 +28,6 @@ use Rattle.std.proofs.lemmas.Bool.{lt-ltb}
 use Rattle.mm_life.specs.{Log, Waiting, Idle, waits_through, ages_through, all_aged}
 use Rattle.mm_pages.specs.Flushing.{Flushing}
 use Rattle.mm_pages.specs.Leaving.{Leaving}
-use Rattle.mm_pages.specs.Housekeeping.{Goes}
 use Rattle.mm_core.proofs.Alike.{lives-with, kind-with, leaving-with, gives-with, flushed-with}
 use Rattle.mm_core.proofs.Begun.{noted, begun_with, went_then, noted_from, noted_then, went_alone}
 use Rattle.mm_core.proofs.Marking.{makes_keep, ends_take}
@@ -252,9 +251,9 @@ module _ (t : Tables) (old new : Key → Option Page) (n : ℕ) (pid : Pid) (u :
     abbrev Aged : Answer → StoreOf → Behind → Type 0
     Aged a z c = LineWent false (move.At n kind.Call) (λ ms. TellsLine n kind.Call (event.Age pid) before a later z.report b ms c) s z b c
 
-    pub marked_age : (a : Answer) → found ≡ true → PassesIn u (OneMove (move.At n kind.Call)) s m b y → PassesIn u (Ages pid) m z y c → u ≡ false → Aged a z c
+    pub marked_age : (a : Answer) → found ≡ true → PassesIn u (OneMove (move.At n kind.Call)) s m b y → PassesIn u (AgesAll pid) m z y c → u ≡ false → Aged a z c
     marked_age a on p q paging =
-        went_then n kind.Call (Ages pid) u s m z b y c (λ ms. TellsLine n kind.Call (event.Age pid) before a later z.report b ms c) paging
+        went_then n kind.Call (AgesAll pid) u s m z b y c (λ ms. TellsLine n kind.Call (event.Age pid) before a later z.report b ms c) paging
         (λ log ms h. record {
           one_way = inl (subst (λ (xs : List Move). EachMove keeps_keys xs) (sym h.none) tt);
           does = h.none;

@@ -6,9 +6,9 @@ use Rattle.mm_life.specs.{FrameLife, is_live, is_dead, after_at, Replays}
 use Rattle.mm_world.specs.{Page, KeptOf, content_of, is_file_key, kept_by, Tables, world_with, charge, limit}
 use Rattle.mm_world.specs.World.{World}
 use Rattle.mm_types.proofs.{parts, some_found}
-use Rattle.mm_pages.specs.{StoreOf, Stands, StandsIn}
+use Rattle.mm_pages.specs.{StoreOf, PagingStands, StandsIn}
 use Rattle.mm_pages.specs.Behind.{Behind}
-use Rattle.mm_paging.specs.{kind_of_line, made_process, kind_of_growth, kept_kind, lives, Agrees, TurnsKeys, HoldsBeside, Noted, Broken, Line}
+use Rattle.mm_paging.specs.{kind_of_line, made_process, kind_of_growth, kept_kind, lives, Agrees, TurnsKeys, HoldsBeside, LineNoted, Broken, Line}
 use Rattle.mm_tables.specs.{FitsTables, key_bytes, is_paging, IsTidy}
 use Rattle.mm_core.specs.{KeepsTables, is_later, IsOneWay, IsCutLine, Marked, MarkedIn, Halted, HaltedIn, Decided, Idle, EndsWaits, Scene, StaysSound}
 use Rattle.mm_core.specs.{NotesMoves, Decides, Breaks, scene_of, AskedBeside}
@@ -68,11 +68,11 @@ kind_later w _ a = refl
 
 -- ---- store and tables
 
-pub stands : (u : Bool) (c : Key → Option Page) (s : StoreOf) (b : Behind) → u ≡ false → StandsIn u c s b → Stands c s b
+pub stands : (u : Bool) (c : Key → Option Page) (s : StoreOf) (b : Behind) → u ≡ false → StandsIn u c s b → PagingStands c s b
 stands true c s b e h = cc
 stands false c s b e h = h
 
-module _ (t : Tables) (c : Key → Option Page) (s : StoreOf) (b : Behind) (fits : FitsTables t c s) (h : Stands c s b) where
+module _ (t : Tables) (c : Key → Option Page) (s : StoreOf) (b : Behind) (fits : FitsTables t c s) (h : PagingStands c s b) where
   abbrev w : World
   w = world_with t (key_bytes c)
 
@@ -100,7 +100,7 @@ module _ (t : Tables) (c : Key → Option Page) (s : StoreOf) (b : Behind) (fits
 
 -- ---- the line
 
-module _ (e : Event) (a : Answer) (t : Tables) (old : Key → Option Page) (s : StoreOf) (b : Behind) (after : Tables) (new : Key → Option Page) (z : StoreOf) (c : Behind) (fits : FitsTables t old s) (h : Stands old s b) (fits' : FitsTables after new z) (h' : Stands new z c) where
+module _ (e : Event) (a : Answer) (t : Tables) (old : Key → Option Page) (s : StoreOf) (b : Behind) (after : Tables) (new : Key → Option Page) (z : StoreOf) (c : Behind) (fits : FitsTables t old s) (h : PagingStands old s b) (fits' : FitsTables after new z) (h' : PagingStands new z c) where
   abbrev x : World
   x = world_with t (key_bytes old)
 
@@ -108,7 +108,7 @@ module _ (e : Event) (a : Answer) (t : Tables) (old : Key → Option Page) (s : 
   v = world_with after (key_bytes new)
 
   abbrev Here : Type 0
-  Here = Noted x s.report b s.paging_device s.file_device s.file_blocks e a v z.report c z.paging_device z.file_device z.file_blocks
+  Here = LineNoted x s.report b s.paging_device s.file_device s.file_blocks e a v z.report c z.paging_device z.file_device z.file_blocks
 
   abbrev Held : Type 0
   Held = HoldsBeside x e a b.slots c.slots s.file_blocks z.file_blocks
@@ -142,13 +142,13 @@ module _ (e : Event) (a : Answer) (t : Tables) (old : Key → Option Page) (s : 
   noted_by : (n : ℕ) → n ≡ s.line + 1 → Held → Marked e n x s b a v z c → Here
   noted_by n next beside m = noted_at beside (subst (λ (k : ℕ). Marked e k x s b a v z c) (next ∙ ap (λ l. l + 1) (sym h.line)) m)
 
-pub line-noted : (u : Bool) (e : Event) (n : ℕ) (t : Tables) (old : Key → Option Page) (s : StoreOf) (b : Behind) (a : Answer) (after : Tables) (new : Key → Option Page) (z : StoreOf) (c : Behind) → u ≡ false → n ≡ s.line + 1 → FitsTables t old s → KeepsTables after new z → StandsIn u old s b → StandsIn u new z c → HoldsBeside (world_with t (key_bytes old)) e a b.slots c.slots s.file_blocks z.file_blocks → MarkedIn u e n t old s b a after new z c → Noted (world_with t (key_bytes old)) s.report b s.paging_device s.file_device s.file_blocks e a (world_with after (key_bytes new)) z.report c z.paging_device z.file_device z.file_blocks
+pub line-noted : (u : Bool) (e : Event) (n : ℕ) (t : Tables) (old : Key → Option Page) (s : StoreOf) (b : Behind) (a : Answer) (after : Tables) (new : Key → Option Page) (z : StoreOf) (c : Behind) → u ≡ false → n ≡ s.line + 1 → FitsTables t old s → KeepsTables after new z → StandsIn u old s b → StandsIn u new z c → HoldsBeside (world_with t (key_bytes old)) e a b.slots c.slots s.file_blocks z.file_blocks → MarkedIn u e n t old s b a after new z c → LineNoted (world_with t (key_bytes old)) s.report b s.paging_device s.file_device s.file_blocks e a (world_with after (key_bytes new)) z.report c z.paging_device z.file_device z.file_blocks
 line-noted u e n t old s b a after new z c paging next fits keeps h h' beside m =
     noted_by e a t old s b after new z c fits (stands u old s b paging h) keeps.fits (stands u new z c paging h') n next beside (m paging)
 
 -- ---- a line that ran out of memory
 
-module _ (old new : Key → Option Page) (s z : StoreOf) (b c : Behind) (same : new ≡ old) (h : Stands old s b) (h' : Stands new z c) where
+module _ (old new : Key → Option Page) (s z : StoreOf) (b c : Behind) (same : new ≡ old) (h : PagingStands old s b) (h' : PagingStands new z c) where
   cut_short : (n : ℕ) (piece : List Move) → Replays piece b.life c.life → IsCutLine n piece → (piece ≡ []) ⊎ ((k : LineKind) × (piece ≡ move.At n k ∷ []))
   cut_short n piece r (inl e) = inl e
   cut_short n piece r (inr (k, (ms, (later, is, makes)))) =
@@ -175,7 +175,7 @@ line-broken u n old new s z b c paging next same h h' m = broken_by old new s z 
 
 -- what was noted, if that is told of this store
 abbrev NotedIn : Bool → Scene → Event → Answer → Scene → Type 0
-NotedIn u s e a z = u ≡ false → Noted s.world s.report s.behind s.paging s.files s.blocks e a z.world z.report z.behind z.paging z.files z.blocks
+NotedIn u s e a z = u ≡ false → LineNoted s.world s.report s.behind s.paging s.files s.blocks e a z.world z.report z.behind z.paging z.files z.blocks
 
 pub record Piece (u : Bool) (s : Scene) (e : Event) (a : Answer) (z : Scene) : Type 0 where
   pub moves : List Move

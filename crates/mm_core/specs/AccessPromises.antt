@@ -88,16 +88,18 @@ module _ {G : Type 0} (p : PagesGhosts G) where
     start = (p.behind g).life;
   }
 
-  -- bytes of a key at a place were accessed
-  abbrev pub Touched : {T : Type 0} → Place → Key → Bool → Result T PageFault → Tables → G → G →
+  -- bytes of a key were accessed at the page of an address
+  abbrev pub Touched : {T : Type 0} → Pid → ℕ → Key → Bool → Result T PageFault → Tables → G → G →
       Type 0
-  Touched place key writes result t g h =
+  Touched pid addr key writes result t g h =
+      let place = place_at pid (page_of addr) in
       AccessEnded (Touches (aim_for place (touch key) writes g)
       (IsReady (p.store g) place (touch key)) result) place (touch key) result t g h
 
-  -- a place that had this key got a copy of its own
-  abbrev pub Copied : {T : Type 0} → Place → Key → Result T PageFault → Tables → G → G → Type 0
-  Copied place key result after g h =
+  -- the page of an address, which had this key, got a copy of its own
+  abbrev pub Copied : {T : Type 0} → Pid → ℕ → Key → Result T PageFault → Tables → G → G → Type 0
+  Copied pid addr key result after g h =
+      let place = place_at pid (page_of addr) in
       AccessEnded (Copies (aim_for place (copying key place) true g)
       (IsReady (p.store g) place (copying key place)) result) place (copying key place) result
       after g h

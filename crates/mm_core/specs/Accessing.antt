@@ -1,11 +1,11 @@
 -- How an access of one line stands in the tables.
 -- Profile, "Accesses".
 use Rattle.std.specs.Prelude.{◌≡◌, ℕ, Bool, true, false, Some, None}
-use Rattle.mm_types.specs.{Answer, Access, page_of, permits}
+use Rattle.mm_types.specs.{Answer, Access, Pid, page_of, permits, readwrite}
 use Rattle.mm_types.specs.declared.answers.Answer.TheVariants as answer
 use Rattle.mm_types.specs.declared.codes.Raise.TheVariants as raise
-use Rattle.mm_world.specs.{ProcessOf, process_of, set_region, mark_written, one_page, Committed, committed_at, Attempt, access, Need, access_fails}
-use Rattle.mm_world.specs.{still_needs_frame, need_at, Tables}
+use Rattle.mm_world.specs.{ProcessOf, process_of, set_region, set_row, mark_written, one_page, Committed, committed_at, Attempt, access, Need}
+use Rattle.mm_world.specs.{access_fails, still_needs_frame, need_at, Tables}
 use Rattle.mm_world.specs.World.{World}
 use Rattle.mm_world.specs.Report.{Report}
 use Rattle.mm_pages.specs.{StoreOf, Served, SomeFailed}
@@ -33,6 +33,16 @@ pub record Marks (t : Tables) (pid page : ℕ) (told : CommittedRow) (after : Ta
       process_of t pid ≡ Some p → committed_at t p.regions page ≡ Some c →
       after ≡ set_region t pid p c.region.place (mark_written true (one_page page) c.region.thing)
   pub plain : told.watched ≡ false → after ≡ t
+
+-- after a write that copies, the page has bytes of its own and is READWRITE
+abbrev pub OwnsPage : Tables → Pid → ℕ → Tables → Type 0
+OwnsPage t pid addr after =
+    (p : ProcessOf (Unit {0})) (c : Committed (Unit {0})) → process_of t pid.0 ≡ Some p →
+    committed_at t p.regions (page_of addr) ≡ Some c →
+    after ≡ set_row t pid.0 p c.region (page_of addr) (record c.row {
+      own = Some tt;
+      prot = readwrite;
+    })
 
 -- a permitted access failed: a device did, and the world is as before
 pub record AccessFailed (never_fails : Bool) (w : World) (m z : StoreOf) (a : Answer) (v : World) :

@@ -37,6 +37,16 @@ is_call_line (line.Watch pid unwrites addr size count) = true
 is_call_line (line.ResetWatch pid addr size) = true
 is_call_line _ = false
 
+-- a line that asks for a step of paging, or names device calls to come that fail
+abbrev pub is_paging_line : Event → Bool
+is_paging_line (line.Trim pid count) = true
+is_paging_line (line.Age pid) = true
+is_paging_line (line.Zeroer count) = true
+is_paging_line (line.Writer count) = true
+is_paging_line (line.Io index) = true
+is_paging_line (line.Fail device direction nth count) = true
+is_paging_line _ = false
+
 -- a line that may run out of memory in this world: of `process`, one for which a number is left, of
 -- `alloc`, one that makes a region or commits a page that was not, of `protect`, one that gives a
 -- page its first mark, of `probe`, one that makes a stack grow, and of the others one that is not

@@ -1,13 +1,11 @@
-ghost use Rattle.std.specs.Prelude.{◌≡◌, ◌≤◌, ◌+◌, ◌%◌, true, false, Option, IfSome, IfNone, length};
+ghost use Rattle.std.specs.Prelude.{◌≡◌, ◌≤◌, ◌+◌, ◌%◌, Option, IfSome, IfNone, length};
 ghost use Rattle.mm_types.specs.declared.events.Event.TheVariants as event;
 ghost use Rattle.mm_types.specs.declared.protections.Access.TheVariants as access_kind;
 ghost use Rattle.mm_types.specs.{Key, page_of};
 ghost use Rattle.mm_world.specs.{Page, Attempt, ReadOf, WriteOf, Execute, access_of};
-ghost use Rattle.mm_pages.specs.{place_at, touch, copying, StoreOf};
+ghost use Rattle.mm_pages.specs.{place_at, touch, StoreOf};
 ghost use Rattle.mm_tables.specs.{FitsTables};
-ghost use Rattle.mm_core.specs.Accessing.{Admits, Marks};
-ghost use Rattle.mm_core.specs.LinePromises.{AnswersLine, IsNext};
-ghost use Rattle.mm_core.specs.AccessPromises.{LieInPage, CanAccess, AccessDone, EntersLine, access_line, row_need};
+ghost use Rattle.mm_core.specs.{Admits, Marks, AnswersLine, IsNext, LieInPage, CanAccess, AccessDone, EntersLine, access_line, row_need};
 
 use crate::beginning::begin_on;
 use crate::fetching::{fetch, put, put_copy, read_bytes};
@@ -17,6 +15,7 @@ use mm_tables::{CommittedRow, Tables};
 use mm_types::{Access, Answer, ByteBuf, Code, LineKind, PAGE_SIZE, Pid, Raise};
 
 /// Reads 1 to 64 bytes, which the row of their page permits.
+#[inline(always)]
 pub(crate) fn read_at<G: Pages>(
     t: &Tables,
     g: &mut G,
@@ -39,29 +38,9 @@ pub(crate) fn read_at<G: Pages>(
     }
 }
 
-/// Executes what the row of a page permits. No byte is read, but a page that cannot be had raises
-/// as for a read.
-pub(crate) fn execute_at<G: Pages>(
-    t: &Tables,
-    g: &mut G,
-    pid: Pid,
-    addr: u32,
-    row: CommittedRow,
-    answer: &mut Answer,
-)
-    requires can { CanAccess G.Pages access_kind.Execute t.now pid addr row (touch row.key) g.old }
-    ensures done { AccessDone G.Pages Execute pid addr (touch row.key) t.now g.old
-        answer.new t.now g.new }
-    ensures loans { G.loans g.new ≡ G.loans g.old }
-{
-    match fetch(t, g, pid, addr, row.key, &mut []) {
-        Ok(()) => *answer = Answer::Ok,
-        Err(_) => *answer = Answer::Raised(Raise::InPageError),
-    }
-}
-
 /// The page of an address, whose own bytes were written, is written from now on, where its region
 /// is watched.
+#[inline(always)]
 fn mark_written(t: &mut Tables, pid: Pid, addr: u32, row: CommittedRow)
     requires admitted { Admits t.old pid.0 addr access_kind.Write row }
     ensures marks { Marks t.old pid.0 (page_of addr) row t.new }
@@ -73,59 +52,9 @@ fn mark_written(t: &mut Tables, pid: Pid, addr: u32, row: CommittedRow)
     }
 }
 
-/// Writes bytes where they are, which the row of their page permits. A page of a watched region is
-/// written from then on.
-pub(crate) fn write_at<G: Pages>(
-    t: &mut Tables,
-    g: &mut G,
-    pid: Pid,
-    addr: u32,
-    row: CommittedRow,
-    bytes: &ByteBuf,
-    answer: &mut Answer,
-)
-    requires can { CanAccess G.Pages access_kind.Write t.old pid addr row (touch row.key) g.old }
-    requires stays { row.copies ≡ false }
-    requires inside { addr % 4096 + length bytes.now ≤ 4096 }
-    ensures done { AccessDone G.Pages (WriteOf bytes.now) pid addr (touch row.key) t.old g.old
-        answer.new t.new g.new }
-    ensures loans { G.loans g.new ≡ G.loans g.old }
-{
-    match put(t, g, pid, addr, row.key, bytes.as_slice()) {
-        Ok(()) => {
-            mark_written(t, pid, addr, row);
-            *answer = Answer::Ok;
-        }
-        Err(_) => *answer = Answer::Raised(Raise::InPageError),
-    }
-}
-
-/// Writes bytes, which the row of their page permits, to a copy that is the page's own from then
-/// on.
-pub(crate) fn write_to_copy<G: Pages>(
-    t: &mut Tables,
-    g: &mut G,
-    pid: Pid,
-    addr: u32,
-    row: CommittedRow,
-    bytes: &ByteBuf,
-    answer: &mut Answer,
-)
-    requires can { CanAccess G.Pages access_kind.Write t.old pid addr row
-        (copying row.key (place_at pid (page_of addr))) g.old }
-    requires copies { row.copies ≡ true }
-    requires inside { addr % 4096 + length bytes.now ≤ 4096 }
-    ensures done { AccessDone G.Pages (WriteOf bytes.now) pid addr
-        (copying row.key (place_at pid (page_of addr))) t.old g.old answer.new t.new g.new }
-    ensures loans { G.loans g.new ≡ G.loans g.old }
-{
-    match put_copy(t, g, pid, addr, row, bytes.as_slice()) {
-        Ok(()) => *answer = Answer::Ok,
-        Err(_) => *answer = Answer::Raised(Raise::InPageError),
-    }
-}
-
-/// Writes bytes, which the row of their page permits, where they are or to a copy.
+/// Writes bytes, which the row of their page permits: where they are, so that a page of a watched
+/// region is written from then on, or to a copy, which is the page's own from then on.
+#[inline(always)]
 pub(crate) fn write_row<G: Pages>(
     t: &mut Tables,
     g: &mut G,
@@ -144,14 +73,24 @@ pub(crate) fn write_row<G: Pages>(
     ensures loans { G.loans g.new ≡ G.loans g.old }
 {
     if row.copies {
-        write_to_copy(t, g, pid, addr, row, bytes, answer)
+        match put_copy(t, g, pid, addr, row, bytes.as_slice()) {
+            Ok(()) => *answer = Answer::Ok,
+            Err(_) => *answer = Answer::Raised(Raise::InPageError),
+        }
     } else {
-        write_at(t, g, pid, addr, row, bytes, answer)
+        match put(t, g, pid, addr, row.key, bytes.as_slice()) {
+            Ok(()) => {
+                mark_written(t, pid, addr, row);
+                *answer = Answer::Ok;
+            }
+            Err(_) => *answer = Answer::Raised(Raise::InPageError),
+        }
     }
 }
 
 /// Begins the line of an access, and tells the row of its page that permits it. Of one that is
 /// refused the answer is written.
+#[inline(always)]
 fn enter<G: Pages>(
     t: &mut Tables,
     g: &mut G,
@@ -183,6 +122,7 @@ fn enter<G: Pages>(
 }
 
 /// Decides a `read` line.
+#[inline(always)]
 pub(crate) fn read_line<G: Pages>(
     t: &mut Tables,
     g: &mut G,
@@ -200,14 +140,14 @@ pub(crate) fn read_line<G: Pages>(
         t.new g.new }
     ensures loans { G.loans g.new ≡ G.loans g.old }
 {
-    let row = match enter(t, g, line, pid, addr, Access::Read, answer) {
-        Some(row) => row,
-        None => return,
-    };
-    read_at(t, g, pid, addr, row, len, answer);
+    match enter(t, g, line, pid, addr, Access::Read, answer) {
+        Some(row) => read_at(t, g, pid, addr, row, len, answer),
+        None => {}
+    }
 }
 
 /// Decides a `write` line.
+#[inline(always)]
 pub(crate) fn write_line<G: Pages>(
     t: &mut Tables,
     g: &mut G,
@@ -223,14 +163,13 @@ pub(crate) fn write_line<G: Pages>(
         answer.new t.new g.new }
     ensures loans { G.loans g.new ≡ G.loans g.old }
 {
-    let row = match enter(t, g, line, pid, addr, Access::Write, answer) {
-        Some(row) => row,
-        None => return,
-    };
-    write_row(t, g, pid, addr, row, bytes, answer);
+    match enter(t, g, line, pid, addr, Access::Write, answer) {
+        Some(row) => write_row(t, g, pid, addr, row, bytes, answer),
+        None => {}
+    }
 }
 
-/// Decides an `exec` line.
+/// Decides an `exec` line. No byte is read, but a page that cannot be had raises as for a read.
 pub(crate) fn exec_line<G: Pages>(
     t: &mut Tables,
     g: &mut G,
@@ -248,5 +187,8 @@ pub(crate) fn exec_line<G: Pages>(
         Some(row) => row,
         None => return,
     };
-    execute_at(t, g, pid, addr, row, answer);
+    match fetch(t, g, pid, addr, row.key, &mut []) {
+        Ok(()) => *answer = Answer::Ok,
+        Err(_) => *answer = Answer::Raised(Raise::InPageError),
+    }
 }

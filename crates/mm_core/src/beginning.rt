@@ -1,13 +1,13 @@
 ghost use Rattle.std.specs.Prelude.{◌≡◌, ◌+◌, true, if◌then◌else◌};
 ghost use Rattle.mm_types.specs.declared.moves.LineKind.TheVariants as line_kind;
-ghost use Rattle.mm_core.specs.Deciding.{is_plain_kind};
-ghost use Rattle.mm_core.specs.LinePromises.{IsNext, StartsLine, StartsCall, StartsOn, StartsRelease};
+ghost use Rattle.mm_core.specs.{is_plain_kind, IsNext, StartsLine, StartsCall, StartsOn, StartsRelease};
 
 use mm_pages::Pages;
 use mm_tables::Tables;
 use mm_types::{LineKind, Pid};
 
 /// Begins a line that names no numbers of its own.
+#[inline(always)]
 pub(crate) fn begin<G: Pages>(g: &mut G, line: u32, form: LineKind)
     requires next { line ≡ (G.store g.old).line + 1 }
     requires plain { is_plain_kind form ≡ true }
@@ -35,6 +35,7 @@ fn kind_if(lives: bool, form: LineKind) -> LineKind
 }
 
 /// Begins a line that goes by a process, and tells whether that lives.
+#[inline(always)]
 pub(crate) fn begin_on<G: Pages>(t: &Tables, g: &mut G, line: u32, pid: Pid, form: LineKind) -> bool
     requires next { IsNext G.Pages line t.now g.old }
     requires plain { is_plain_kind form ≡ true }

@@ -1,5 +1,5 @@
 ghost use Rattle.std.specs.Prelude.{◌≡◌};
-ghost use Rattle.mm_core.specs.Built.{is_machine};
+ghost use Rattle.mm_core.specs.{is_machine};
 
 use mm_types::Event;
 

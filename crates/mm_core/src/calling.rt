@@ -1,6 +1,5 @@
 ghost use Rattle.std.specs.Prelude.{◌≡◌, true};
-ghost use Rattle.mm_core.specs.Built.{is_call_line};
-ghost use Rattle.mm_core.specs.LinePromises.{CanDecide, TakesLine};
+ghost use Rattle.mm_core.specs.{is_call_line, CanDecide, TakesLine};
 
 use crate::beginning::begin_call;
 use mm_calls::{

@@ -1,18 +1,45 @@
-ghost use Rattle.std.specs.Prelude.{◌≡◌, false};
-ghost use Rattle.mm_core.specs.Built.{is_access_line};
-ghost use Rattle.mm_core.specs.LinePromises.{CanDecide, TakesLine};
+ghost use Rattle.std.specs.Prelude.{◌≡◌, ◌≤◌, false};
+ghost use Rattle.mm_types.specs.declared.events.Event.TheVariants as event;
+ghost use Rattle.mm_core.specs.{is_access_line, CanDecide, IsNext, MakesLine, TakesLine};
 
 use crate::access_lines::{exec_line, read_line, write_line};
-use crate::beginning::begin_release;
+use crate::beginning::{begin_call, begin_release};
 use crate::calling::decide_call;
-use crate::memory_lines::{exit_line, file_line, flush_line, grow_line, process_line};
-use crate::paging_lines::{age_line, fail_line, io_line, trim_line, writer_line, zeroer_line};
+use crate::forgetting::forget_waits;
+use crate::paging_lines::paging_line;
 use crate::thread_lines::{begin_line, resume_line};
-use mm_calls::{unmap, vfree};
+use mm_calls::{end_process, flush_view, grow_paging, new_file, new_process, unmap, vfree};
 use mm_pages::Pages;
 use mm_tables::Tables;
-use mm_types::{Answer, Event, NoMemory};
+use mm_types::{Answer, Event, LineKind, NoMemory};
 use std::alloc::Global;
+
+/// Decides a `process` line.
+fn process_line<G: Pages>(
+    alloc: Global,
+    t: &mut Tables,
+    g: &mut G,
+    line: u32,
+    min: u32,
+    max: u32,
+) -> Result<Answer, NoMemory>
+    requires next { IsNext G.Pages line t.old g.old }
+    requires ordered { min ≤ max }
+    requires some { 1 ≤ max }
+    requires most { max ≤ 65536 }
+    ensures { MakesLine G.Pages (event.Process min max) line t.old g.old result t.new g.new }
+{
+    t.sound();
+    let pid = match t.next_pid() {
+        Some(pid) => pid,
+        None => {
+            begin_call(t, g, line);
+            return Ok(Answer::Full);
+        }
+    };
+    g.line(line, LineKind::Process(pid, min, max));
+    new_process(alloc, t, g, min, max)
+}
 
 /// Decides a line that a world decides, and that makes no access itself.
 #[tactic(auto, using(crate::proofs::Readiness::fits_page))]
@@ -29,7 +56,12 @@ fn decide_other<G: Pages>(
 {
     match event {
         Event::Process { min, max } => process_line(alloc, t, g, line, *min, *max),
-        Event::Exit { pid } => Ok(exit_line(t, g, line, *pid)),
+        Event::Exit { pid } => {
+            // Threads that keep an access of the process wait no more, before the line begins.
+            forget_waits(t, g, *pid);
+            begin_release(t, g, line, *pid);
+            Ok(end_process(t, g, *pid))
+        }
         Event::Free {
             pid,
             addr,
@@ -39,26 +71,28 @@ fn decide_other<G: Pages>(
             begin_release(t, g, line, *pid);
             Ok(vfree(t, g, *pid, *addr, *size, *form))
         }
-        Event::Grow { slots } => grow_line(t, g, line, *slots),
-        Event::File { name, pages, byte } => file_line(alloc, t, g, line, name, *pages, *byte),
+        // The call notes its own line.
+        Event::Grow { slots } => grow_paging(t, g, line, *slots),
+        Event::File { name, pages, byte } => {
+            begin_call(t, g, line);
+            new_file(alloc, t, g, name, *pages, *byte)
+        }
         Event::Unmap { pid, addr } => {
             begin_release(t, g, line, *pid);
             Ok(unmap(t, g, *pid, *addr))
         }
-        Event::Flush { pid, addr, size } => Ok(flush_line(t, g, line, *pid, *addr, *size)),
+        Event::Flush { pid, addr, size } => {
+            begin_call(t, g, line);
+            Ok(flush_view(t, g, *pid, *addr, *size))
+        }
         Event::Begin { tid, pid, access } => Ok(begin_line(t, g, line, *tid, *pid, access)),
         Event::Resume { tid } => Ok(resume_line(t, g, line, *tid)),
-        Event::Trim { pid, count } => Ok(trim_line(t, g, line, *pid, *count)),
-        Event::Age { pid } => Ok(age_line(t, g, line, *pid)),
-        Event::Zeroer { count } => Ok(zeroer_line(t, g, line, *count)),
-        Event::Writer { count } => Ok(writer_line(t, g, line, *count)),
-        Event::Io { index } => Ok(io_line(t, g, line, *index)),
-        Event::Fail {
-            device,
-            direction,
-            nth,
-            count,
-        } => Ok(fail_line(t, g, line, *device, *direction, *nth, *count)),
+        Event::Trim { .. }
+        | Event::Age { .. }
+        | Event::Zeroer { .. }
+        | Event::Writer { .. }
+        | Event::Io { .. }
+        | Event::Fail { .. } => Ok(paging_line(t, g, line, event)),
         _ => decide_call(alloc, t, g, line, event),
     }
 }

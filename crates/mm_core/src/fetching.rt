@@ -1,16 +1,17 @@
 ghost use Rattle.std.specs.Prelude.{◌≡◌, ◌≤◌, ◌%◌, true, false, Some, None, IfOk, OnOk, OnErr, length, take, drop};
-ghost use Rattle.mm_types.specs.{page_of, page_size, readwrite};
-ghost use Rattle.mm_world.specs.{ProcessOf, process_of, same_key, Committed, committed_at, private_key, set_row, written};
+ghost use Rattle.mm_types.specs.{page_of, page_size};
+ghost use Rattle.mm_world.specs.{same_key, private_key, written};
 ghost use Rattle.mm_pages.specs.{changed, IsBegun, eased, place_at, touch, copying, IsReady};
 ghost use Rattle.mm_pages.specs.Reports.{Ends};
 ghost use Rattle.mm_tables.specs.{key_bytes};
-ghost use Rattle.mm_core.specs.AccessPromises.{LieInPage, CanReach, CanCopy, HasOwn, Touched, Copied};
+ghost use Rattle.mm_core.specs.{LieInPage, CanReach, CanCopy, HasOwn, OwnsPage, Touched, Copied};
 
 use mm_pages::Pages;
 use mm_tables::{CommittedRow, Tables};
 use mm_types::{ByteBuf, Key, PAGE_SIZE, PageFault, Pid, Place, Vpn};
 
 /// The page of an address, as a place of a process.
+#[inline(always)]
 pub(crate) fn place_of(pid: Pid, addr: u32) -> Place
     ensures { result ≡ place_at pid (page_of addr) }
 {
@@ -35,6 +36,7 @@ fn offset_of(addr: u32) -> u16
 }
 
 /// Reads bytes of a key from an address on, at its page.
+#[inline(always)]
 pub(crate) fn fetch<G: Pages>(
     t: &Tables,
     g: &mut G,
@@ -51,13 +53,13 @@ pub(crate) fn fetch<G: Pages>(
         take (length out.old) (drop (addr % page_size) (key_bytes (G.contents g.old) key))) }
     ensures ends { Ends (touch key) (G.store g.new).report result }
     ensures contents { G.contents g.new ≡ G.contents g.old }
-    ensures touched { Touched G.Pages (place_at pid (page_of addr)) key false result t.now g.old
-        g.new }
+    ensures touched { Touched G.Pages pid addr key false result t.now g.old g.new }
 {
     g.read(place_of(pid, addr), key, offset_of(addr), out)
 }
 
 /// Reads 1 to 64 bytes of a key from an address on, at its page.
+#[inline(always)]
 pub(crate) fn read_bytes<G: Pages>(
     t: &Tables,
     g: &mut G,
@@ -74,8 +76,7 @@ pub(crate) fn read_bytes<G: Pages>(
         b ≡ take len (drop (addr % page_size) (key_bytes (G.contents g.old) key))) }
     ensures ends { Ends (touch key) (G.store g.new).report result }
     ensures contents { G.contents g.new ≡ G.contents g.old }
-    ensures touched { Touched G.Pages (place_at pid (page_of addr)) key false result t.now g.old
-        g.new }
+    ensures touched { Touched G.Pages pid addr key false result t.now g.old g.new }
 {
     let mut room = [0; 64];
     let out = &mut room[..len as usize];
@@ -87,6 +88,7 @@ pub(crate) fn read_bytes<G: Pages>(
 }
 
 /// Writes bytes of a key from an address on, at its page.
+#[inline(always)]
 pub(crate) fn put<G: Pages>(
     t: &Tables,
     g: &mut G,
@@ -103,8 +105,7 @@ pub(crate) fn put<G: Pages>(
     ensures ends { IsBegun (G.store g.old).report → Ends (touch key) (G.store g.new).report result }
     ensures eased { IsReady (G.store g.old) (place_at pid (page_of addr)) (touch key) →
         (G.store g.new).report ≡ eased (G.store g.old).report (G.store g.new).report }
-    ensures touched { Touched G.Pages (place_at pid (page_of addr)) key true result t.now g.old
-        g.new }
+    ensures touched { Touched G.Pages pid addr key true result t.now g.old g.new }
 {
     g.write(place_of(pid, addr), key, offset_of(addr), bytes)
 }
@@ -121,19 +122,13 @@ fn copy<G: Pages>(
     ensures bytes { OnOk result (G.contents g.new ≡
         changed same_key (G.contents g.old) (private_key pid.0 (page_of addr))
         (G.contents g.old row.key)) }
-    ensures row { OnOk result ((p : ProcessOf (Unit {0})) (c : Committed (Unit {0})) →
-        process_of t.old pid.0 ≡ Some p → committed_at t.old p.regions (page_of addr) ≡ Some c →
-        t.new ≡ set_row t.old pid.0 p c.region (page_of addr) (record c.row {
-          own = Some tt;
-          prot = readwrite;
-        })) }
+    ensures row { OnOk result (OwnsPage t.old pid addr t.new) }
     ensures kept { OnErr result ((t.new ≡ t.old) × (G.contents g.new ≡ G.contents g.old)) }
     ensures own { OnOk result (HasOwn G.Pages t.new pid addr g.new) }
     ensures form { (G.store g.new).kind ≡ (G.store g.old).kind }
     ensures ends { Ends (copying row.key (place_at pid (page_of addr))) (G.store g.new).report
         result }
-    ensures copied { Copied G.Pages (place_at pid (page_of addr)) row.key result t.new g.old
-        g.new }
+    ensures copied { Copied G.Pages pid addr row.key result t.new g.old g.new }
 {
     match g.copy(place_of(pid, addr), row.key, own_key_of(pid, addr)) {
         Ok(()) => {
@@ -161,17 +156,11 @@ pub(crate) fn put_copy<G: Pages>(
         (changed same_key (G.contents g.old) (private_key pid.0 (page_of addr))
         (G.contents g.old row.key)) (private_key pid.0 (page_of addr))
         (Some (written (key_bytes (G.contents g.old) row.key) (addr % page_size) bytes.now))) }
-    ensures row { OnOk result ((p : ProcessOf (Unit {0})) (c : Committed (Unit {0})) →
-        process_of t.old pid.0 ≡ Some p → committed_at t.old p.regions (page_of addr) ≡ Some c →
-        t.new ≡ set_row t.old pid.0 p c.region (page_of addr) (record c.row {
-          own = Some tt;
-          prot = readwrite;
-        })) }
+    ensures row { OnOk result (OwnsPage t.old pid addr t.new) }
     ensures kept { OnErr result ((t.new ≡ t.old) × (G.contents g.new ≡ G.contents g.old)) }
     ensures ends { Ends (copying row.key (place_at pid (page_of addr))) (G.store g.new).report
         result }
-    ensures copied { Copied G.Pages (place_at pid (page_of addr)) row.key result t.new g.old
-        g.new }
+    ensures copied { Copied G.Pages pid addr row.key result t.new g.old g.new }
 {
     copy(t, g, pid, addr, row)?;
     match put(t, g, pid, addr, own_key_of(pid, addr), bytes) {

@@ -6,7 +6,7 @@ use mm_pages::FlushesMoves;
 use mm_types::Failed;
 
 impl<G: FlushesMoves> World<G> {
-    ghost use Rattle.mm_core.specs.Shown.{world, report, world_behind, line_number, paging_device, file_device, file_blocks, loans};
+    ghost use Rattle.mm_core.specs.{world, report, world_behind, line_number, paging_device, file_device, file_blocks, loans};
 
     /// Gives on the moves that were noted, so that whoever reads their log sees those of all lines
     /// decided so far. Nothing else changes but the log's count of faults, where that fails. It may

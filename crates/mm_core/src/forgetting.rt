@@ -1,7 +1,6 @@
 ghost use Rattle.std.specs.Prelude.{◌≡◌, false};
 ghost use Rattle.mm_world.specs.{kept_by};
-ghost use Rattle.mm_core.specs.Forgetting.{Forgot, is_of_process, waits_but, waited};
-ghost use Rattle.mm_core.specs.Noting.{IdlesIn, IdlesBut};
+ghost use Rattle.mm_core.specs.{Forgot, is_of_process, waits_but, waited, IdlesIn, IdlesBut};
 
 use mm_pages::Pages;
 use mm_tables::Tables;

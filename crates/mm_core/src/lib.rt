@@ -13,7 +13,6 @@ mod deciding;
 mod fetching;
 mod flushing;
 mod forgetting;
-mod memory_lines;
 mod paging_lines;
 mod refusals;
 mod thread_lines;

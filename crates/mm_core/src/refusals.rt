@@ -1,35 +1,18 @@
 ghost use Rattle.std.specs.Prelude.{◌≡◌, true, is_some, Option, Some, IfOk, OnOk, IfErr};
 ghost use Rattle.mm_types.specs.{Key, page_of};
 ghost use Rattle.mm_types.specs.declared.answers.Answer.TheVariants as answer;
-ghost use Rattle.mm_types.specs.declared.codes.Raise.TheVariants as raise;
-ghost use Rattle.mm_world.specs.{Page, ProcessOf, process_of, Attempt, access_of, world_with, Committed, committed_at, guard_off};
+ghost use Rattle.mm_world.specs.{Page, process_of, Attempt, access_of, world_with};
 ghost use Rattle.mm_pages.specs.{StoreOf, place_at};
-ghost use Rattle.mm_tables.specs.{FitsTables, key_at};
-ghost use Rattle.mm_core.specs.Accessing.{Refuses, Admits};
-ghost use Rattle.mm_core.specs.Deciding.{KeepsTables};
+ghost use Rattle.mm_tables.specs.{key_at};
+ghost use Rattle.mm_core.specs.{Refuses, Admits, KeepsTables};
 
 use mm_tables::{CommittedRow, Tables};
 use mm_types::{Access, PAGE_SIZE, Pid, Raise, permits};
 
-/// The alarm of a committed page of a living process whose guard is on; from then on it is off.
-fn alarm(t: &mut Tables, pid: Pid, page: u32) -> Raise
-    requires lives { is_some (process_of t.old pid.0) ≡ true }
-    requires committed { (p : ProcessOf (Unit {0})) → process_of t.old pid.0 ≡ Some p →
-        is_some (committed_at t.old p.regions page) ≡ true }
-    ensures off { (p : ProcessOf (Unit {0})) (c : Committed (Unit {0})) →
-        process_of t.old pid.0 ≡ Some p → committed_at t.old p.regions page ≡ Some c →
-        t.new ≡ guard_off t.old pid.0 p c page }
-    ensures fits { (contents : Key → Option Page) (s : StoreOf) → FitsTables t.old contents s →
-        FitsTables t.new contents s }
-    ensures raised { result ≡ raise.GuardPage }
-{
-    t.take_guard_off(pid, page);
-    Raise::GuardPage
-}
-
 /// What the page of an address of a living process tells an access that it permits. An error is
 /// what an access raises that is refused: by no committed page, by its guard, which is off from
 /// then on, or by its protection.
+#[inline(always)]
 pub(crate) fn admit(
     t: &mut Tables,
     pid: Pid,
@@ -54,7 +37,8 @@ pub(crate) fn admit(
     };
     // The guard comes before the protection.
     if row.guard {
-        return Err(alarm(t, pid, page));
+        t.take_guard_off(pid, page);
+        return Err(Raise::GuardPage);
     }
     if !permits(row.prot, wanted) {
         return Err(Raise::AccessViolation);

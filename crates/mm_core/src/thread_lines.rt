@@ -1,39 +1,15 @@
-ghost use Rattle.std.specs.Prelude.{◌≡◌, ℕ, true, is_some};
+ghost use Rattle.std.specs.Prelude.{◌≡◌, ℕ, true};
 ghost use Rattle.mm_types.specs.declared.answers.Wait.TheVariants as wait;
 ghost use Rattle.mm_types.specs.declared.events.Event.TheVariants as event;
-ghost use Rattle.mm_world.specs.{address_in, attempt_in, wait_failed, process_of};
+ghost use Rattle.mm_world.specs.{wait_failed};
 ghost use Rattle.mm_tables.specs.{FitsPage};
-ghost use Rattle.mm_core.specs.Forgetting.{EndsWaits};
-ghost use Rattle.mm_core.specs.Over.{KeepsOver};
-ghost use Rattle.mm_core.specs.LinePromises.{AnswersLine, IsNext};
-ghost use Rattle.mm_core.specs.AccessPromises.{CanTurn, TurnsAccess, EndsAccess};
+ghost use Rattle.mm_core.specs.{EndsWaits, KeepsOver, AnswersLine, IsNext, EndsAccess};
 
 use crate::beginning::{begin, begin_on};
-use crate::threads::{Threaded, read_access, write_access};
+use crate::threads::{Threaded, access_on};
 use mm_pages::Pages;
 use mm_tables::Tables;
 use mm_types::{AccessSpec, Answer, Code, LineKind, Pid, Raise, Tid, Wait};
-
-/// A thread reads or writes.
-fn access_on<G: Pages>(
-    t: &mut Tables,
-    g: &mut G,
-    tid: Tid,
-    pid: Pid,
-    what: &AccessSpec,
-    failed: bool,
-) -> Threaded
-    requires lives { is_some (process_of t.old pid.0) ≡ true }
-    requires can { CanTurn G.Pages t.old pid g.old }
-    requires fits { FitsPage what.now }
-    ensures { TurnsAccess G.Pages (attempt_in what.now) tid.0 pid (address_in what.now) failed
-        t.old g.old result t.new g.new }
-{
-    match what {
-        AccessSpec::Read { addr, len } => read_access(t, g, tid, pid, *addr, *len, failed),
-        AccessSpec::Write { addr, bytes } => write_access(t, g, tid, pid, *addr, bytes, failed),
-    }
-}
 
 /// Decides a `begin` line (own): an access of a thread that waits for no device. The thread keeps
 /// an access that has to wait.

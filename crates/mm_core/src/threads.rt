@@ -1,17 +1,18 @@
-ghost use Rattle.std.specs.Prelude.{◌≡◌, ◌≤◌, ◌+◌, ◌%◌, true, is_some, IfOk, IfErr, length};
+ghost use Rattle.std.specs.Prelude.{◌≡◌, true, is_some, IfOk, IfErr};
 ghost use Rattle.mm_types.specs.{Place};
 ghost use Rattle.mm_types.specs.declared.protections.Access.TheVariants as access_kind;
-ghost use Rattle.mm_world.specs.{Attempt, ReadOf, WriteOf, access_of, process_of};
+ghost use Rattle.mm_world.specs.{Attempt, access_of, address_in, attempt_in, process_of};
 ghost use Rattle.mm_pages.specs.declared.outcomes.Need.TheVariants as at_hand;
 ghost use Rattle.mm_pages.specs.{need_for};
-ghost use Rattle.mm_core.specs.AccessPromises.{LieInPage, CanTurn, ReadyFor, TurnsAccess, row_need};
+ghost use Rattle.mm_tables.specs.{FitsPage};
+ghost use Rattle.mm_core.specs.AccessPromises.{CanTurn, ReadyFor, TurnsAccess, row_need};
 
 use crate::access_lines::{read_at, write_row};
 use crate::fetching::place_of;
 use crate::refusals::admit;
 use mm_pages::{Need, Pages, Start};
 use mm_tables::{CommittedRow, Tables};
-use mm_types::{Access, AccessSpec, Answer, ByteBuf, Pid, Tid, Why};
+use mm_types::{Access, AccessSpec, Answer, Pid, Tid, Why};
 
 /// How an access of a thread went.
 pub(crate) enum Threaded {
@@ -71,53 +72,39 @@ fn ready_row<G: Pages>(
     }
 }
 
-/// A thread reads 1 to 64 bytes.
-pub(crate) fn read_access<G: Pages>(
+/// A thread reads or writes.
+pub(crate) fn access_on<G: Pages>(
     t: &mut Tables,
     g: &mut G,
     tid: Tid,
     pid: Pid,
-    addr: u32,
-    len: u32,
+    what: &AccessSpec,
     failed: bool,
 ) -> Threaded
     requires lives { is_some (process_of t.old pid.0) ≡ true }
     requires can { CanTurn G.Pages t.old pid g.old }
-    requires some { 1 ≤ len }
-    requires lie { LieInPage addr len }
-    ensures { TurnsAccess G.Pages (ReadOf len) tid.0 pid addr failed t.old g.old result t.new
-        g.new }
+    requires fits { FitsPage what.now }
+    ensures { TurnsAccess G.Pages (attempt_in what.now) tid.0 pid (address_in what.now) failed
+        t.old g.old result t.new g.new }
 {
-    let row = match ready_row(t, g, tid, pid, addr, Access::Read, failed) {
-        Ok(row) => row,
-        Err(how) => return how,
-    };
-    let mut answer = Answer::Ok;
-    read_at(t, g, pid, addr, row, len, &mut answer);
-    Threaded::Made(answer)
-}
-
-/// A thread writes bytes.
-pub(crate) fn write_access<G: Pages>(
-    t: &mut Tables,
-    g: &mut G,
-    tid: Tid,
-    pid: Pid,
-    addr: u32,
-    bytes: &ByteBuf,
-    failed: bool,
-) -> Threaded
-    requires lives { is_some (process_of t.old pid.0) ≡ true }
-    requires can { CanTurn G.Pages t.old pid g.old }
-    requires inside { addr % 4096 + length bytes.now ≤ 4096 }
-    ensures { TurnsAccess G.Pages (WriteOf bytes.now) tid.0 pid addr failed t.old g.old result
-        t.new g.new }
-{
-    let row = match ready_row(t, g, tid, pid, addr, Access::Write, failed) {
-        Ok(row) => row,
-        Err(how) => return how,
-    };
-    let mut answer = Answer::Ok;
-    write_row(t, g, pid, addr, row, bytes, &mut answer);
-    Threaded::Made(answer)
+    match what {
+        AccessSpec::Read { addr, len } => {
+            let row = match ready_row(t, g, tid, pid, *addr, Access::Read, failed) {
+                Ok(row) => row,
+                Err(how) => return how,
+            };
+            let mut answer = Answer::Ok;
+            read_at(t, g, pid, *addr, row, *len, &mut answer);
+            Threaded::Made(answer)
+        }
+        AccessSpec::Write { addr, bytes } => {
+            let row = match ready_row(t, g, tid, pid, *addr, Access::Write, failed) {
+                Ok(row) => row,
+                Err(how) => return how,
+            };
+            let mut answer = Answer::Ok;
+            write_row(t, g, pid, *addr, row, bytes, &mut answer);
+            Threaded::Made(answer)
+        }
+    }
 }

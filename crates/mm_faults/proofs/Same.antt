@@ -6,7 +6,7 @@ use Rattle.mm_types.specs.declared.moves.Move.TheVariants as move
 use Rattle.mm_life.specs.{FrameLife, unstarted, is_access, is_unbind, is_short, after_move}
 use Rattle.mm_classes.specs.{class_of, is_trim, makes_way, makes_room, next_of, MarksOf, marks_after, no_marks}
 use Rattle.mm_classes.specs.declared.classes.Class.TheVariants as class
-use Rattle.mm_faults.specs.{Tally, no_tally, with_class, tallied, tally_from, tally, fault_rows, said_of}
+use Rattle.mm_faults.specs.{Tally, no_tally, with_class, tallied, tally_from, fault_tally, fault_rows, said_of}
 
 -- no end of a place is a fault
 plain : (t : Tally) (ends trimmed way short : Bool)
@@ -49,7 +49,7 @@ fault_taken t t' l v v' before before' m count marks last whole ms =
     ∙ ap (λ (w : MarksOf). said_of whole (tally_from (tallied t l m (class_of l v before m (next_of ms))) (after_move l m) w before' ms)) marks
     ∙ ap (λ (b : Option Move). said_of whole (tally_from (tallied t l m (class_of l v before m (next_of ms))) (after_move l m) (marks_after v m) b ms)) last
 
-by_whole : (whole : Bool) (moves : List Move) → said_of whole (tally moves) ≡ fault_rows whole moves
+by_whole : (whole : Bool) (moves : List Move) → said_of whole (fault_tally moves) ≡ fault_rows whole moves
 by_whole true moves = refl
 by_whole false moves = refl
 

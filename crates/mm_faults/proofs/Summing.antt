@@ -15,8 +15,8 @@ use Rattle.mm_classes.specs.{class_of, class_of_got, classes, classes_from, is_b
 use Rattle.mm_classes.specs.{marks_after, no_marks, Class}
 use Rattle.mm_classes.specs.declared.classes.Class.TheVariants as class
 use Rattle.mm_faults.specs.{column_of, end_of, is_first_use, is_hard, is_on_paging_file, is_soft, is_zero_fill, page_of, place_of, process_of}
-use Rattle.mm_faults.specs.{number_in, one_at, sum_in, SumsToClasses, Table, Tally, column_in, counted, no_tally, none_counted, one_more, place_cmp}
-use Rattle.mm_faults.specs.{plus_one, tallied, tally, tally_from, with_class, with_end, with_fault}
+use Rattle.mm_faults.specs.{column_count, one_at, sum_in, SumsToClasses, Table, Tally, column_in, counted, no_tally, none_counted, one_in_column}
+use Rattle.mm_faults.specs.{place_cmp, plus_one, tallied, fault_tally, tally_from, with_class, with_end, with_fault}
 
 -- ---- a table
 
@@ -25,7 +25,7 @@ abbrev AreWide : {K : Type 0} → Table K → Type 0
 AreWide [] = Unit {0}
 AreWide (e ∷ es) = (length e.1 ≡ 8) × AreWide es
 
-bumped : (xs : List ℕ) (i k : ℕ) → i < length xs → slice_index (one_more xs i) k ≡ (if i == k then 1 else 0) + slice_index xs k
+bumped : (xs : List ℕ) (i k : ℕ) → i < length xs → slice_index (one_in_column xs i) k ≡ (if i == k then 1 else 0) + slice_index xs k
 bumped xs i k h = pick (i == k) refl
   where
     pick : (b : Bool) → (i == k) ≡ b → get_or (set xs i (get_or xs i 0 + 1)) k 0 ≡ cond b 1 0 + get_or xs k 0
@@ -39,7 +39,7 @@ none_there zero k = refl
 none_there (suc n) zero = refl
 none_there (suc n) (suc k) = none_there n k
 
-wide_more : (xs : List ℕ) (i : ℕ) → length xs ≡ 8 → length (one_more xs i) ≡ 8
+wide_more : (xs : List ℕ) (i : ℕ) → length xs ≡ 8 → length (one_in_column xs i) ≡ 8
 wide_more xs i w = length-set xs i (slice_index xs i + 1) ∙ w
 
 module _ {K : Type 0} (cmp : K → K → Ordering) where
@@ -47,7 +47,7 @@ module _ {K : Type 0} (cmp : K → K → Ordering) where
   wide [] k column w = (wide_more none_counted column refl, tt)
   wide (e ∷ es) k column w = pick (wide es k column w.1) (cmp k e.0)
     where
-      pick : AreWide (counted cmp es k column) → (o : Ordering) → AreWide (match_ordering o ((k, one_more none_counted column) ∷ e ∷ es) ((e.0, one_more e.1 column) ∷ es) (e ∷ counted cmp es k column))
+      pick : AreWide (counted cmp es k column) → (o : Ordering) → AreWide (match_ordering o ((k, one_in_column none_counted column) ∷ e ∷ es) ((e.0, one_in_column e.1 column) ∷ es) (e ∷ counted cmp es k column))
       pick again Less = (wide_more none_counted column refl, w)
       pick again Equal = (wide_more e.1 column w.0, w.1)
       pick again Greater = (w.0, again)
@@ -61,7 +61,7 @@ module _ {K : Type 0} (cmp : K → K → Ordering) where
       here = omega (arith, h, w.0)
 
       pick : sum_in j (counted cmp es k column) ≡ sum_in j es + (if column == j then 1 else 0) → (o : Ordering)
-          → sum_in j (match_ordering o ((k, one_more none_counted column) ∷ e ∷ es) ((e.0, one_more e.1 column) ∷ es) (e ∷ counted cmp es k column)) ≡ sum_in j (e ∷ es) + (if column == j then 1 else 0)
+          → sum_in j (match_ordering o ((k, one_in_column none_counted column) ∷ e ∷ es) ((e.0, one_in_column e.1 column) ∷ es) (e ∷ counted cmp es k column)) ≡ sum_in j (e ∷ es) + (if column == j then 1 else 0)
       pick again Less = omega (arith, bumped none_counted column j h, none_there 8 j)
       pick again Equal = omega (arith, bumped e.1 column j here)
       pick again Greater = omega (arith, again)
@@ -112,12 +112,12 @@ low_in : (c : Option Class) (j : ℕ) → column_in c ≡ Some j → j < 8
 low_in None j e = absurd (none-some j e)
 low_in (Some c) j e = low_column c j e
 
--- what a tally keeps
+-- what a fault_tally keeps
 record AreRows (t : Tally) : Type 0 where
   pages : AreWide t.pages
   processes : AreWide t.processes
 
--- the sums of a column, from one tally to another
+-- the sums of a column, from one fault_tally to another
 record Sums (t t' : Tally) (j n : ℕ) : Type 0 where
   pages : sum_in j t'.pages ≡ sum_in j t.pages + n
   processes : sum_in j t'.processes ≡ sum_in j t.processes + n
@@ -208,11 +208,11 @@ joined : (a b c : Tally) (j n k : ℕ) → Sums a b j n → Sums b c j k → Sum
 joined a b c j n k s u = record { pages = omega (arith, s.pages, u.pages); processes = omega (arith, s.processes, u.processes) }
 
 sums_from : (ms : List Move) (t : Tally) (l l' : FrameLife) (v : MarksOf) (before : Option Move) (j : ℕ) → AreRows t → Replays ms l l'
-    → Sums t (tally_from t l v before ms) j (number_in j (classes_from l v before ms))
+    → Sums t (tally_from t l v before ms) j (column_count j (classes_from l v before ms))
 sums_from [] t l l' v before j w r = record { pages = omega arith; processes = omega arith }
 sums_from (m ∷ ms) t l l' v before j w r =
     let c : Option Class = class_of l v before m (next_of ms) in
-    joined t (tallied t l m c) (tally_from (tallied t l m c) (after_move l m) (marks_after v m) (Some m) ms) j (one_at (column_in c) j) (number_in j (classes_from (after_move l m) (marks_after v m) (Some m) ms))
+    joined t (tallied t l m c) (tally_from (tallied t l m c) (after_move l m) (marks_after v m) (Some m) ms) j (one_at (column_in c) j) (column_count j (classes_from (after_move l m) (marks_after v m) (Some m) ms))
     (move_sums t l m c j w (no_page l v before m (next_of ms) r.0))
     (sums_from ms (tallied t l m c) (after_move l m) l' (marks_after v m) (Some m) j (move_wide t l m c w) r.1)
 
@@ -255,14 +255,14 @@ move_parts t l m c =
 from_none : (a b : ℕ) → a ≡ 0 + b → a ≡ b
 from_none a b e = omega (arith, e)
 
-pub sums_to_classes : (moves : List Move) (l : FrameLife) → Replays moves unstarted l → SumsToClasses (tally moves) (classes moves)
+pub sums_to_classes : (moves : List Move) (l : FrameLife) → Replays moves unstarted l → SumsToClasses (fault_tally moves) (classes moves)
 sums_to_classes moves l r =
     let w : AreRows no_tally = record { pages = tt; processes = tt } in
-    let t : Tally = tally moves in
+    let t : Tally = fault_tally moves in
     let cs : List (Option Class) = classes moves in
     record {
-      pages = λ j. from_none (sum_in j t.pages) (number_in j cs) (sums_from moves no_tally unstarted l no_marks None j w r).pages;
-      processes = λ j. from_none (sum_in j t.processes) (number_in j cs) (sums_from moves no_tally unstarted l no_marks None j w r).processes;
+      pages = λ j. from_none (sum_in j t.pages) (column_count j cs) (sums_from moves no_tally unstarted l no_marks None j w r).pages;
+      processes = λ j. from_none (sum_in j t.processes) (column_count j cs) (sums_from moves no_tally unstarted l no_marks None j w r).processes;
       zero_fills = from_none t.zero_fills (count_by is_zero_fill cs) (part_from (λ t. t.zero_fills) is_zero_fill (λ t l m c. (move_parts t l m c).zero_fills) moves no_tally unstarted no_marks None);
       hard = from_none t.hard (count_by is_hard cs) (part_from (λ t. t.hard) is_hard (λ t l m c. (move_parts t l m c).hard) moves no_tally unstarted no_marks None);
       soft = from_none t.soft (count_by is_soft cs) (part_from (λ t. t.soft) is_soft (λ t l m c. (move_parts t l m c).soft) moves no_tally unstarted no_marks None);

@@ -6,7 +6,7 @@ use Rattle.mm_types.specs.{Text, decimal, Move}
 use Rattle.mm_life.specs.{numbered}
 use Rattle.mm_text.specs.{left_in, right_in, numbers_in}
 use Rattle.mm_faults.specs.Faults.{FaultPlace}
-use Rattle.mm_faults.specs.Tallies.{Table, Tally, tally}
+use Rattle.mm_faults.specs.Tallies.{Table, Tally, fault_tally}
 
 abbrev pub head : Text
 head =
@@ -33,12 +33,12 @@ fault_row pid page counts =
 abbrev pub letter : Bool → Text
 letter shared = if shared then codes "s" else codes "p"
 
-abbrev pub page_text : FaultPlace → Text
-page_text place = letter place.1 ++ (decimal place.2 ++ (codes "." ++ decimal place.3))
+abbrev pub fault_page_text : FaultPlace → Text
+fault_page_text place = letter place.1 ++ (decimal place.2 ++ (codes "." ++ decimal place.3))
 
 -- the row of a page, if it is of this process
 abbrev pub page_row : ℕ → FaultPlace × List ℕ → Text
-page_row pid e = if e.0.0 == pid then fault_row pid (page_text e.0) e.1 else []
+page_row pid e = if e.0.0 == pid then fault_row pid (fault_page_text e.0) e.1 else []
 
 abbrev pub process_rows : Table FaultPlace → ℕ × List ℕ → Text
 process_rows pages e = fault_row e.0 (codes "all") e.1 ++ flat_map (page_row e.0) pages
@@ -78,5 +78,5 @@ tally_text t =
 
 -- nothing where the log does not replay
 abbrev pub fault_rows : Bool → List Move → Text
-fault_rows true moves = tally_text (tally moves)
+fault_rows true moves = tally_text (fault_tally moves)
 fault_rows false moves = []

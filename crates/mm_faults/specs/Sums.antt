@@ -17,14 +17,14 @@ one_at None column = 0
 one_at (Some k) column = if k == column then 1 else 0
 
 -- how many of the moves of these classes are counted in a column
-abbrev pub number_in : ℕ → List (Option Class) → ℕ
-number_in column [] = 0
-number_in column (c ∷ cs) = one_at (column_in c) column + number_in column cs
+abbrev pub column_count : ℕ → List (Option Class) → ℕ
+column_count column [] = 0
+column_count column (c ∷ cs) = one_at (column_in c) column + column_count column cs
 
 -- each sum is the number of moves of the classes that it counts
 pub record SumsToClasses (t : Tally) (cs : List (Option Class)) : Type 0 where
-  pub pages : (column : ℕ) → sum_in column t.pages ≡ number_in column cs
-  pub processes : (column : ℕ) → sum_in column t.processes ≡ number_in column cs
+  pub pages : (column : ℕ) → sum_in column t.pages ≡ column_count column cs
+  pub processes : (column : ℕ) → sum_in column t.processes ≡ column_count column cs
   pub zero_fills : t.zero_fills ≡ count_by is_zero_fill cs
   pub hard : t.hard ≡ count_by is_hard cs
   pub soft : t.soft ≡ count_by is_soft cs

@@ -12,8 +12,8 @@ use Rattle.mm_faults.specs.Faults.{is_hard, is_first_use, is_soft, end_of, is_on
 
 -- ---- numbers by column, and tables of them
 
-abbrev pub one_more : List ℕ → ℕ → List ℕ
-one_more counts column = slice_set counts column (slice_index counts column + 1)
+abbrev pub one_in_column : List ℕ → ℕ → List ℕ
+one_in_column counts column = slice_set counts column (slice_index counts column + 1)
 
 abbrev pub none_counted : List ℕ
 none_counted = replicate 8 0
@@ -23,10 +23,10 @@ Table K = List (K × List ℕ)
 
 -- one more in a column of a row; the rows stand in order, and a new one is put in its place
 abbrev pub counted : {K : Type 0} → (K → K → Ordering) → Table K → K → ℕ → Table K
-counted cmp [] k column = (k, one_more none_counted column) ∷ []
+counted cmp [] k column = (k, one_in_column none_counted column) ∷ []
 counted cmp (e ∷ es) k column =
-    match_ordering (cmp k e.0) ((k, one_more none_counted column) ∷ e ∷ es)
-    ((e.0, one_more e.1 column) ∷ es) (e ∷ counted cmp es k column)
+    match_ordering (cmp k e.0) ((k, one_in_column none_counted column) ∷ e ∷ es)
+    ((e.0, one_in_column e.1 column) ∷ es) (e ∷ counted cmp es k column)
 
 abbrev pub place_cmp : FaultPlace → FaultPlace → Ordering
 place_cmp a b =
@@ -85,8 +85,8 @@ with_class t c = record t {
 -- a request that ended so
 abbrev pub with_end : Tally → Bool → Option ℕ → Tally
 with_end t paged None = t
-with_end t true (Some how) = record t { paging_file = one_more t.paging_file how }
-with_end t false (Some how) = record t { files = one_more t.files how }
+with_end t true (Some how) = record t { paging_file = one_in_column t.paging_file how }
+with_end t false (Some how) = record t { files = one_in_column t.files how }
 
 abbrev pub column_in : Option Class → Option ℕ
 column_in None = None
@@ -106,5 +106,5 @@ tally_from t l v before (m ∷ ms) =
     (marks_after v m)
     (Some m) ms
 
-abbrev pub tally : List Move → Tally
-tally moves = tally_from no_tally unstarted no_marks None moves
+abbrev pub fault_tally : List Move → Tally
+fault_tally moves = tally_from no_tally unstarted no_marks None moves

@@ -1,7 +1,7 @@
 ghost use Rattle.std.specs.Prelude.{◌≡◌, ◌<◌, ◌+◌, IfOk, IfSome, OnOk, length};
 ghost use Rattle.mm_replay.specs.Standing.{life as life_of};
 ghost use Rattle.mm_faults.specs.Rest.{tally_of};
-ghost use Rattle.mm_faults.specs.Tallies.{counted, no_tally, one_more};
+ghost use Rattle.mm_faults.specs.Tallies.{counted, no_tally, one_in_column};
 ghost use Rattle.mm_faults.specs.Kept.{counts_at};
 ghost use Rattle.mm_faults.specs.Tallies.{plus_one, tallied, with_class, with_end, with_fault};
 
@@ -52,7 +52,7 @@ fn plus_one(so: bool, n: u64) -> Result<u64, NoMemory>
 /// One more in a column.
 fn add_one(counts: &mut [u64], column: usize) -> Result<(), NoMemory>
     requires { column < length counts.old }
-    ensures { OnOk result (counts.new ≡ one_more counts.old column) }
+    ensures { OnOk result (counts.new ≡ one_in_column counts.old column) }
 {
     counts[column] = next_number(counts[column])?;
     Ok(())

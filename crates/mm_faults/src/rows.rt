@@ -1,10 +1,7 @@
 ghost use Rattle.std.specs.Prelude.{◌≡◌, ◌<◌, ◌≤◌, ◌+◌, ◌*◌, ◌/◌, ◌^◌, ◌++◌, OnOk, flat_map};
 ghost use Rattle.std.specs.Prelude.{length};
-ghost use Rattle.mm_faults.specs.Rest.{tally_of};
-ghost use Rattle.mm_faults.specs.Rows.{head, soft_in, share, fault_row, letter, page_text};
-ghost use Rattle.mm_faults.specs.Rows.{page_row};
-ghost use Rattle.mm_faults.specs.Rows.{process_rows, device_row, check_row, tally_text};
-ghost use Rattle.mm_faults.specs.Rows.{reads_text, writes_text, hard_text, soft_text};
+ghost use Rattle.mm_faults.specs.{tally_of, head, soft_in, share, fault_row, letter, fault_page_text, page_row, process_rows, device_row, check_row};
+ghost use Rattle.mm_faults.specs.{tally_text, reads_text, writes_text, hard_text, soft_text};
 
 use crate::counters::Counters;
 use crate::kinds::FaultPlace;
@@ -91,7 +88,7 @@ fn letter(shared: bool) -> &'static [u8]
 /// The key of a page, as logs spell it.
 #[tactic(auto, using(mm_text::proofs::Lines::steps))]
 fn page_line(place: FaultPlace) -> LineBuf
-    ensures { result ≡ page_text place }
+    ensures { result ≡ fault_page_text place }
 {
     let mut line = LineBuf::new();
     line.push_slice(letter(place.1));

@@ -6,7 +6,8 @@ use Rattle.std.proofs.lemmas.Option.{slice_get-map}
 use Rattle.std.proofs.lemmas.List.Folds.{list_any-append}
 use Rattle.mm_types.specs.{Frame}
 use Rattle.mm_types.proofs.{set_cases, differ, or_true}
-use Rattle.mm_flight.specs.{Waiting, FlightOf, Holds, IsKept, AreDistinct, NoneWaitsFrom, is_for, is_in, without, nth_oldest, ended, number_of}
+use Rattle.mm_flight.specs.{Waiting, FlightOf, HoldsRequests, IsKept, AreDistinct, NoneWaitsFrom, is_for, is_in, without, nth_oldest, ended}
+use Rattle.mm_flight.specs.{frame_number}
 use Rattle.mm_flight.specs.declared.flights.Waiting.TheVariants as waiting
 
 -- ---- membership
@@ -100,7 +101,7 @@ wait_before (Some w) g f ok e =
 
 -- ---- frames and their numbers
 
-pub numbers_more : (xs : List Frame) (f : Frame) → map number_of (xs ++ f ∷ []) ≡ map number_of xs ++ f.0 ∷ []
+pub numbers_more : (xs : List Frame) (f : Frame) → map frame_number (xs ++ f ∷ []) ≡ map frame_number xs ++ f.0 ∷ []
 numbers_more [] f = refl
 numbers_more (x ∷ xs) f = ap (λ ys. x.0 ∷ ys) (numbers_more xs f)
 
@@ -182,5 +183,5 @@ module _ (frames : List ℕ) (waits : List Waiting) (h : IsKept frames waits) wh
         in_without frames f g.0 was.1 ∙ h.awaited t g was.0;
   }
 
-pub holds_at : (v : FlightOf) → IsKept v.frames v.waits → Holds v
+pub holds_at : (v : FlightOf) → IsKept v.frames v.waits → HoldsRequests v
 holds_at v h = record { distinct = apart_at v.frames h.distinct; awaited = h.awaited }

@@ -8,15 +8,15 @@ use Rattle.std.specs.List.{position_or_len}
 use Rattle.mm_types.specs.{Frame}
 use Rattle.mm_types.proofs.{differ}
 use Rattle.std.proofs.Common.{subst}
-use Rattle.mm_flight.specs.{Waiting, FlightOf, number_of, place_in, without, ended}
+use Rattle.mm_flight.specs.{Waiting, FlightOf, frame_number, place_in, without, ended}
 
-pub read_number : (xs : List Frame) (i : ℕ) → get_or (map number_of xs) i 0 ≡ (get_or xs i (record { 0 = 0 })).0
-read_number xs i = get_or-map number_of xs i (record { 0 = 0 })
+pub read_number : (xs : List Frame) (i : ℕ) → get_or (map frame_number xs) i 0 ≡ (get_or xs i (record { 0 = 0 })).0
+read_number xs i = get_or-map frame_number xs i (record { 0 = 0 })
 
-pub other_frame : (xs : List Frame) (i f : ℕ) → (get_or xs i (record { 0 = 0 })).0 ≢ f → (get_or (map number_of xs) i 0 == f) ≡ false
+pub other_frame : (xs : List Frame) (i f : ℕ) → (get_or xs i (record { 0 = 0 })).0 ≢ f → (get_or (map frame_number xs) i 0 == f) ≡ false
 other_frame xs i f other = ap (λ n. n == f) (read_number xs i) ∙ differ (get_or xs i (record { 0 = 0 })).0 f other
 
-pub same_frame : (xs : List Frame) (i f : ℕ) → (get_or xs i (record { 0 = 0 })).0 ≡ f → (get_or (map number_of xs) i 0 == f) ≡ true
+pub same_frame : (xs : List Frame) (i f : ℕ) → (get_or xs i (record { 0 = 0 })).0 ≡ f → (get_or (map frame_number xs) i 0 == f) ≡ true
 same_frame xs i f same = ap (λ n. n == f) (read_number xs i ∙ same) ∙ grind (arith, nat_tests)
 
 abbrev place_at : ℕ → Bool → Option ℕ
@@ -34,12 +34,12 @@ place_missing f xs before =
     let outside : nat_lt (length xs) (length xs) ≡ false = grind (arith, nat_tests) in
     ap (λ n. place_at n (nat_lt n (length xs))) first ∙ ap (place_at (length xs)) outside
 
-split : (b : Bool) (x : Frame) (xs : List Frame) → map number_of (cond b (x ∷ xs) xs) ≡ cond b (number_of x ∷ map number_of xs) (map number_of xs)
+split : (b : Bool) (x : Frame) (xs : List Frame) → map frame_number (cond b (x ∷ xs) xs) ≡ cond b (frame_number x ∷ map frame_number xs) (map frame_number xs)
 split true x xs = refl
 split false x xs = refl
 
 -- the numbers of the frames that stay
-pub numbers_without : (f : ℕ) (xs : List Frame) → map number_of (filter (λ x. not (x.0 == f)) xs) ≡ without f (map number_of xs)
+pub numbers_without : (f : ℕ) (xs : List Frame) → map frame_number (filter (λ x. not (x.0 == f)) xs) ≡ without f (map frame_number xs)
 numbers_without f [] = refl
 numbers_without f (x ∷ xs) =
     split (not (x.0 == f)) x (filter (λ y. not (y.0 == f)) xs)
@@ -50,8 +50,8 @@ made depth frames waits = record { depth = depth; frames = frames; waits = waits
 
 -- the value once a request has ended
 pub ended_view : (depth : ℕ) (items kept : List Frame) (waits new : List Waiting) (f : ℕ) (ok : Bool) (v : FlightOf) →
-    made depth (map number_of items) waits ≡ v → kept ≡ filter (λ x. not (x.0 == f)) items → new ≡ map (ended f ok) waits →
-    made depth (map number_of kept) new ≡ made v.depth (without f v.frames) (map (ended f ok) v.waits)
+    made depth (map frame_number items) waits ≡ v → kept ≡ filter (λ x. not (x.0 == f)) items → new ≡ map (ended f ok) waits →
+    made depth (map frame_number kept) new ≡ made v.depth (without f v.frames) (map (ended f ok) v.waits)
 ended_view depth items kept waits new f ok v view stays ends =
-    let P : FlightOf → Type 0 = λ u. made depth (map number_of kept) new ≡ made u.depth (without f u.frames) (map (ended f ok) u.waits) in
-    subst P view (ap (λ xs. made depth xs new) (ap (map number_of) stays ∙ numbers_without f items) ∙ ap (made depth (without f (map number_of items))) ends)
+    let P : FlightOf → Type 0 = λ u. made depth (map frame_number kept) new ≡ made u.depth (without f u.frames) (map (ended f ok) u.waits) in
+    subst P view (ap (λ xs. made depth xs new) (ap (map frame_number) stays ∙ numbers_without f items) ∙ ap (made depth (without f (map frame_number items))) ends)

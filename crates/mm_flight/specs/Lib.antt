@@ -1,4 +1,4 @@
 pub mod Requests
-pub use Requests.{AreDistinct, FlightOf, Holds, IsKept, NoneWaitsFrom, ended, is_for, is_in}
-pub use Requests.{nth_oldest, number_of, place_in, wait_of, without}
+pub use Requests.{AreDistinct, FlightOf, HoldsRequests, IsKept, NoneWaitsFrom, ended, frame_number}
+pub use Requests.{is_for, is_in, nth_oldest, place_in, wait_of, without}
 pub use declared.flights.Waiting.{Waiting}

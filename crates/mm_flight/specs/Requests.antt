@@ -13,8 +13,8 @@ pub record FlightOf : Type 0 where
   pub frames : List ℕ
   pub waits : List Waiting
 
-abbrev pub number_of : Frame → ℕ
-number_of f = f.0
+abbrev pub frame_number : Frame → ℕ
+frame_number f = f.0
 
 -- the frame has a request
 abbrev pub is_in : ℕ → List ℕ → Bool
@@ -82,6 +82,6 @@ pub record IsKept (frames : List ℕ) (waits : List Waiting) : Type 0 where
   pub awaited : AreAwaited frames waits
 
 -- no frame has two requests, and no thread waits for a frame that has none
-pub record Holds (v : FlightOf) : Type 0 where
+pub record HoldsRequests (v : FlightOf) : Type 0 where
   pub distinct : (i j f : ℕ) → slice_get v.frames i ≡ Some f → slice_get v.frames j ≡ Some f → i ≡ j
   pub awaited : AreAwaited v.frames v.waits

@@ -1,5 +1,5 @@
 ghost use Rattle.std.specs.Prelude.{◌≡◌, ◌-◌, ◌<◌, ◌≤◌, [], ◌∷◌, ◌++◌, length, map, not, replicate, IsTrue, IfOk, slice_get, slice_set, Some, option_map, true, false, filter, ◌==◌, vec_len, vec_capacity};
-ghost use Rattle.mm_flight.specs.Requests.{FlightOf, Holds, is_in, without, nth_oldest, place_in, ended, wait_of, number_of, is_for, NoneWaitsFrom};
+ghost use Rattle.mm_flight.specs.Requests.{FlightOf, HoldsRequests, is_in, without, nth_oldest, place_in, ended, wait_of, frame_number, is_for, NoneWaitsFrom};
 
 use mm_types::{Frame, NoMemory, THREADS, Tid, Wait};
 use std::alloc::Global;
@@ -32,19 +32,19 @@ pub struct Flight {
 
 impl Model for Flight {
     ghost use Rattle.std.specs.Prelude.{map, length, vec_len, vec_capacity, ◌≤◌};
-    ghost use Rattle.mm_flight.specs.Requests.{FlightOf, number_of, HasRoom, IsKept, NoneWaitsFrom};
+    ghost use Rattle.mm_flight.specs.Requests.{FlightOf, frame_number, HasRoom, IsKept, NoneWaitsFrom};
 
     ghost Value = { FlightOf };
 
     ghost view = { λ f. record {
       depth = f.depth;
-      frames = map number_of f.frames.items;
+      frames = map frame_number f.frames.items;
       waits = f.waits.items;
     } };
 
     ghost invariant = { λ f. record {
       room : HasRoom f.depth (vec_len f.frames) (vec_capacity f.frames) (length f.waits.items);
-      kept : IsKept (map number_of f.frames.items) f.waits.items;
+      kept : IsKept (map frame_number f.frames.items) f.waits.items;
       within : f.upto ≤ 256;
       idle : NoneWaitsFrom f.upto f.waits.items;
     } };
@@ -99,7 +99,7 @@ impl Flight {
 
     /// The frame of the i-th oldest request, counted from 1. `None` comes at 0 and past the last.
     pub fn nth(&self, i: u32) -> Option<Frame>
-        ensures { option_map number_of result ≡ nth_oldest i self.now.frames }
+        ensures { option_map frame_number result ≡ nth_oldest i self.now.frames }
     {
         if i == 0 {
             return None;
@@ -110,7 +110,7 @@ impl Flight {
     /// That no frame has two requests, that each thread that waits waits for a frame in flight,
     /// that at most depth requests are in flight, and that there are 256 threads. It does nothing.
     pub fn requests_hold(&self)
-        ensures holds { Holds self.now }
+        ensures holds { HoldsRequests self.now }
         ensures few { length self.now.frames ≤ self.now.depth }
         ensures threads { length self.now.waits ≡ 256 }
     {
@@ -181,7 +181,7 @@ impl Flight {
 
 /// The frame at a place of the list, counted from 0.
 fn frame_at(frames: &[Frame], i: u32) -> Option<Frame>
-    ensures { option_map number_of result ≡ slice_get (map number_of frames.now) i }
+    ensures { option_map frame_number result ≡ slice_get (map frame_number frames.now) i }
 {
     frames.get(i as usize).copied()
 }

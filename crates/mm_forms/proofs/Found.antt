@@ -13,7 +13,7 @@ use Rattle.clap.specs.declared.parser.matches.ArgMatches.TheViews.{out-ArgMatche
 use Rattle.clap.specs.declared.parser.matches.SubCommand.{SubCommand}
 use Rattle.clap.specs.Faults.{is_free_app}
 use Rattle.clap.proofs.WalkLemmas.{raw_values-rows}
-use Rattle.mm_forms.specs.{Form, Said, AreForms, IsNamed, Says, SaysNone, is_dashed, texts, Gives, values_of, words_app}
+use Rattle.mm_forms.specs.{Form, Said, AreForms, IsNamed, Says, SaysNone, is_dashed, texts, GivesWords, values_of, words_app}
 use Rattle.mm_forms.proofs.Whole.{Read, apart_from, first_found, form_named, later_found, reads, simple, takes}
 
 -- an error that is not for memory is a fault of the words
@@ -50,7 +50,7 @@ pair_is (Some p) n r e f =
     ap₂ (λ (x : Text) (y : List Row). Some (x, y)) first second
 
 pub gives : (m v : ArgMatches) (said : Said) → Some said.name.now ≡ subcommand_name_of m → Some (rows_of (found_of v)) ≡ option_map (λ (p : Text × List Row). p.1) (subcommand_rows_of m)
-    → (o : Option (List Text)) → o ≡ option_map raw_values (matched_of (found_of v) (codes "values")) → unwrap_or o [] ≡ texts said.values.items → Gives (subcommand_rows_of m) said
+    → (o : Option (List Text)) → o ≡ option_map raw_values (matched_of (found_of v) (codes "values")) → unwrap_or o [] ≡ texts said.values.items → GivesWords (subcommand_rows_of m) said
 gives m v said name rows o values are = record {
   rows = rows_of (found_of v);
   met_is = pair_is (subcommand_rows_of m) said.name.now (rows_of (found_of v)) (name ∙ name_of_rows m) rows;
@@ -69,7 +69,7 @@ says_found (f ∷ fs) g words said e name h = go (bytes_eq f.name.now g.name.now
         inl (subst (λ (x : Form). (said.name.now ≡ x.name.now) × IsNamed x words (texts said.values.items)) same (name, h))
     go false more q = inr (more q)
 
-pub says : (fs : List Form) (words : List Text) (met : Option (Text × List Row)) (said : Said) → list_any is_dashed words ≡ false → Read fs words met → Gives met said → Says fs words said
+pub says : (fs : List Form) (words : List Text) (met : Option (Text × List Row)) (said : Said) → list_any is_dashed words ≡ false → Read fs words met → GivesWords met said → Says fs words said
 says fs words met said plain read given =
     let names : Some read.form.name.now ≡ Some said.name.now = sym (ap first_of read.met_is) ∙ ap first_of given.met_is in
     let lists : Some read.rows ≡ Some given.rows = sym (ap second_of read.met_is) ∙ ap second_of given.met_is in
@@ -102,7 +102,7 @@ dashed_none [] words dashed = tt
 dashed_none (f ∷ fs) words dashed = (λ values h. let bad : true ≡ false = sym dashed ∙ h.plain in cc, dashed_none fs words dashed)
 
 pub said_from : (fs : List Form) (words : List Text) (met : Option (Text × List Row)) → list_any is_dashed words ≡ false → Read fs words met → (r : Option Said)
-    → MatchOption r (met ≡ None) (Gives met) → MatchOption r (SaysNone fs words) (Says fs words)
+    → MatchOption r (met ≡ None) (GivesWords met) → MatchOption r (SaysNone fs words) (Says fs words)
 said_from fs words met plain read None none = absurd (entered_some fs words met read none)
 said_from fs words met plain read (Some said) given = says fs words met said plain read given
 

@@ -52,7 +52,7 @@ abbrev pub values_of : List Row → List Text
 values_of rows = unwrap_or (all_of (codes "values") rows) []
 
 -- the subcommand that a parse entered has this name and these values
-pub record Gives (met : Option (Text × List Row)) (said : Said) : Type 0 where
+pub record GivesWords (met : Option (Text × List Row)) (said : Said) : Type 0 where
   pub rows : List Row
   pub met_is : met ≡ Some (said.name.now, rows)
   pub values : values_of rows ≡ texts said.values.items

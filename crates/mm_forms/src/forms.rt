@@ -4,7 +4,7 @@ ghost use Rattle.std.specs.List.{list_any};
 ghost use Rattle.clap.specs.Words.{app_of, fault_of, subcommand_of, subcommand_rows_of};
 ghost use Rattle.clap.specs.declared.builder.Command.TheViews.{out-Command};
 ghost use Rattle.mm_forms.specs.Forms.{AreForms, Says, SaysNone, is_dashed};
-ghost use Rattle.mm_forms.specs.Shapes.{form_app, Gives, words_app};
+ghost use Rattle.mm_forms.specs.Shapes.{form_app, GivesWords, words_app};
 
 use clap::error::ErrorKind;
 use clap::{Arg, ArgAction, ArgMatches, Command};
@@ -106,7 +106,7 @@ fn parsed<'a>(
 /// The form that the matches have, with its values.
 fn said_of<'a>(alloc: Global, matches: &ArgMatches<'a>) -> Result<Option<Said<'a>>, NoMemory>
     ensures { IfOk result (λ r. MatchOption r (subcommand_rows_of matches.now ≡ None)
-        (Gives (subcommand_rows_of matches.now))) }
+        (GivesWords (subcommand_rows_of matches.now))) }
 {
     let (name, found) = match matches.subcommand() {
         Some(entered) => entered,

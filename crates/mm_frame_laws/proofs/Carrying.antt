@@ -5,16 +5,15 @@ use Rattle.std.proofs.lemmas.Bool.{and_parts, eqb-true, leb-true, or_right}
 use Rattle.mm_types.proofs.{same_or_not, get_set_same, get_set_other, append_nil}
 use Rattle.mm_types.specs.{Frame, Key, Record, Backing, Held, LineKind, MachineOf}
 use Rattle.mm_life.specs.{FrameTable, blank, record_at, is_read, is_write, is_again, is_on, slot_of, without_slot, write_done, after_wrote, FrameLife}
-use Rattle.mm_life.specs.{IsLegal, is_io, is_access, is_call, after_move, home_at, slot_at, FrameBytes, BlockBytes, page_at, bytes_at, held_in}
+use Rattle.mm_life.specs.{IsLegal, is_io, is_access, is_call, after_move, home_at, slot_at, FrameBytes, BlockBytes, frame_page, bytes_at, held_in}
 use Rattle.mm_life.specs.{located, contents_of, BytesLocated, is_legal_kind, zero_page, has_request, unstarted}
-use Rattle.mm_laws.specs.{is_backed, block_of, block_in, block_held}
+use Rattle.mm_laws.specs.{is_backed, block_of, block_in, block_held, ReachedByMoves}
 use Rattle.mm_laws.proofs.{same_key-true, write_has, some_owner, facts_of, three_parts}
 use Rattle.mm_frame_laws.specs.{Carries, slots_written, blocks_written, slots_grown}
 use Rattle.mm_laws.proofs.Facts.{Facts}
 use Rattle.mm_frame_laws.proofs.Moving.{others_set, here_set, records_ended, zeroed_ended, asked_low, calm_in}
 use Rattle.mm_life.proofs.{write_not_read, read_has, located_at_start}
 use Rattle.std.proofs.lemmas.List.{length-replicate}
-use Rattle.mm_laws.specs.Reached.{Reached}
 pub use Rattle.mm_frame_laws.proofs.Moving.{carries_map, carries_unmap, carries_soil, carries_write, carries_lost}
 pub use Rattle.mm_frame_laws.proofs.KeyMoves.{carries_clear, carries_got, carries_written, carries_give, carries_read, carries_steal, carries_bad, carries_add_zero, carries_add_block, carries_drop}
 use Rattle.mm_types.specs.declared.frames.Backing.TheVariants as backing
@@ -157,7 +156,7 @@ module _ (l : FrameLife) (facts : Facts l) (f : Frame) (ram : FrameBytes) (slots
   clean_after true true o c = let was = ((facts.standing f.0).fit.writing writing).0 in let bad : true ≡ false = sym was ∙ c in cc
   clean_after true false o c = refl
 
-  pub located_wrote : BytesLocated l ram slots blocks → page_at ram f.0 ≡ Some page → BytesLocated (after_move l (move.Wrote f)) ram (slots_written b page slots) (blocks_written b page blocks)
+  pub located_wrote : BytesLocated l ram slots blocks → frame_page ram f.0 ≡ Some page → BytesLocated (after_move l (move.Wrote f)) ram (slots_written b page slots) (blocks_written b page blocks)
   located_wrote kept content = record {
     clean = λ g o c n. at g o c n (same_or_not g f.0);
     zeroed = λ g on. kept.zeroed g (sym (ap (is_on g) (zeroed_ended (is_some r.owner) (write_done r) d f.0)) ∙ on);
@@ -168,12 +167,12 @@ module _ (l : FrameLife) (facts : Facts l) (f : Frame) (ram : FrameBytes) (slots
   }
     where
       at : (g : ℕ) → is_some (record_at (after_wrote l.frames f.0) g).owner ≡ true → (record_at (after_wrote l.frames f.0) g).changed ≡ false → is_read (record_at (after_wrote l.frames f.0) g).request ≡ false → ((g ≡ f.0) ⊎ (g ≢ f.0))
-          → page_at ram g ≡ bytes_at ram (slots_written b page slots) (blocks_written b page blocks) (home_at (record_at (after_wrote l.frames f.0) g).backing)
+          → frame_page ram g ≡ bytes_at ram (slots_written b page slots) (blocks_written b page blocks) (home_at (record_at (after_wrote l.frames f.0) g).backing)
       at g o c n (inl s) =
           let now : record_at (after_wrote l.frames f.0) g ≡ (if is_some r.owner then write_done r else blank) = ap (λ (x : ℕ). record_at (after_wrote l.frames f.0) x) s ∙ here_wrote in
           let same : (if is_some r.owner then write_done r else blank).backing ≡ b =
           clean_after (is_some r.owner) (is_again r.request) (sym (ap (λ (x : Record). is_some x.owner) now) ∙ o) (sym (ap (λ (x : Record). x.changed) now) ∙ c) in
-          ap (page_at ram) s ∙ content
+          ap (frame_page ram) s ∙ content
           ∙ sym (ap (λ (x : Record). bytes_at ram (slots_written b page slots) (blocks_written b page blocks) (home_at x.backing)) now
           ∙ ap (λ (x : Backing). bytes_at ram (slots_written b page slots) (blocks_written b page blocks) (home_at x)) same
           ∙ bytes_there ram slots blocks b page ((facts.standing f.0).fit.writing writing).1
@@ -190,7 +189,7 @@ module _ (l : FrameLife) (facts : Facts l) (f : Frame) (ram : FrameBytes) (slots
           owned None e i = let bad : false ≡ true = sym (ap is_some e) ∙ i in cc
           owned (Some k) e i = other_backing (record { 0 = g }) k e m
 
-  pub wrote_carries : BytesLocated l ram slots blocks → page_at ram f.0 ≡ Some page → Carries (after_move l (move.Wrote f)) ram (slots_written b page slots) (blocks_written b page blocks) (contents_of l ram slots blocks)
+  pub wrote_carries : BytesLocated l ram slots blocks → frame_page ram f.0 ≡ Some page → Carries (after_move l (move.Wrote f)) ram (slots_written b page slots) (blocks_written b page blocks) (contents_of l ram slots blocks)
   wrote_carries kept content = record { located = located_wrote kept content; bytes = λ i. λ q. contents_wrote q i }
 
 -- ---- lines, and a block that no key ever had
@@ -215,7 +214,7 @@ there_stays [] ys i h = absurd (omega arith)
 there_stays (x ∷ xs) ys zero h = refl
 there_stays (x ∷ xs) ys (suc i) h = there_stays xs ys i (omega arith)
 
-module _ (l : FrameLife) (reached : ∥ Reached l ∥₁) (ram : FrameBytes) (slots blocks : BlockBytes) (kept : BytesLocated l ram slots blocks) where
+module _ (l : FrameLife) (reached : ∥ ReachedByMoves l ∥₁) (ram : FrameBytes) (slots blocks : BlockBytes) (kept : BytesLocated l ram slots blocks) where
   facts : Facts l
   facts = facts_of l reached
 
@@ -308,8 +307,8 @@ module _ (l : FrameLife) (reached : ∥ Reached l ∥₁) (ram : FrameBytes) (sl
 
 -- ---- what each move leaves of the bytes of keys
 
-module _ (l : FrameLife) (reached : ∥ Reached l ∥₁) (ram : FrameBytes) (slots blocks : BlockBytes) (kept : BytesLocated l ram slots blocks) where
-  pub carries_wrote : (f : Frame) (page : List ℕ) → IsLegal (move.Wrote f) l → page_at ram f.0 ≡ Some page
+module _ (l : FrameLife) (reached : ∥ ReachedByMoves l ∥₁) (ram : FrameBytes) (slots blocks : BlockBytes) (kept : BytesLocated l ram slots blocks) where
+  pub carries_wrote : (f : Frame) (page : List ℕ) → IsLegal (move.Wrote f) l → frame_page ram f.0 ≡ Some page
       → Carries (after_move l (move.Wrote f)) ram (slots_written (record_at l.frames f.0).backing page slots) (blocks_written (record_at l.frames f.0).backing page blocks) (contents_of l ram slots blocks)
   carries_wrote f page legal there = wrote_carries l (facts_of l reached) f ram slots blocks page legal kept there
 
@@ -333,7 +332,7 @@ module _ (l : FrameLife) (reached : ∥ Reached l ∥₁) (ram : FrameBytes) (sl
           omega (arith, (facts_of l reached).block_low k b (ap (block_in l.frames) ((facts_of l reached).owned f.0 k owner) ∙ e), kept.file_room)
 
   pub page_of_key : (f : Frame) (k : Key) → (record_at l.frames f.0).owner ≡ Some k → is_read (record_at l.frames f.0).request ≡ false
-      → contents_of l ram slots blocks k ≡ page_at ram f.0
+      → contents_of l ram slots blocks k ≡ frame_page ram f.0
   page_of_key f k owner calm =
       ap (λ (h : Held). bytes_at ram slots blocks (located l h)) ((facts_of l reached).owned f.0 k owner) ∙ calm_in ram slots blocks f (record_at l.frames f.0) calm
 

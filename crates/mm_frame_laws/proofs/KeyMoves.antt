@@ -5,16 +5,15 @@ use Rattle.std.proofs.lemmas.Bool.{and_parts, ltb-true, or_left}
 use Rattle.mm_types.specs.{MachineOf, Block, Frame, Key, Record, Backing, Held, Request}
 use Rattle.mm_life.specs.{FrameTable, blank, record_at, is_read, is_on, is_empty, rest, has_request, given, being_read, disowned, taken_for_read}
 use Rattle.mm_life.specs.{to_free, off_lists, with_record, FrameLife, changed, same_key, is_dead, IsLegal, is_stored, is_access, is_io, after_move}
-use Rattle.mm_life.specs.{home_at, backing_of, homed, dropped_at, FrameBytes, BlockBytes, zero_page, page_at, bytes_at, held_in, located, contents_of}
-use Rattle.mm_life.specs.{BytesLocated, is_first, read_done, is_live, is_zeroer, is_touch}
+use Rattle.mm_life.specs.{home_at, backing_of, homed, dropped_at, FrameBytes, BlockBytes, zero_page, frame_page, bytes_at, held_in, located}
+use Rattle.mm_life.specs.{contents_of, BytesLocated, is_first, read_done, is_live, is_zeroer, is_touch}
 use Rattle.mm_laws.proofs.{zero_is, stored_backed, changes_give, fresh_read, changes_read, changes_steal, some_owner, read_has, facts_of, four_parts}
 use Rattle.mm_laws.proofs.{three_parts, key_or_not}
-use Rattle.mm_laws.specs.{Sight, sight}
+use Rattle.mm_laws.specs.{Sight, sight, ReachedByMoves}
 use Rattle.mm_frame_laws.specs.{Carries, IsSoiled, is_calm}
 use Rattle.mm_laws.proofs.Facts.{Facts}
 use Rattle.mm_frame_laws.proofs.Moving.{calm_in, read_in, one_moves, clean_by, same_live, same_contents, alone_set, others_set, here_set, carries_kept, owned_low, asked_low, first_on, rest_on, push_on, home_bytes, elsewhere, records_ended, zeroed_ended}
 use Rattle.mm_life.proofs.{home_lives, stored_lives, calm}
-use Rattle.mm_laws.specs.Reached.{Reached}
 use Rattle.mm_types.proofs.{is_there, same_or_not}
 use Rattle.mm_ram.specs.{with_page}
 use Rattle.mm_types.specs.declared.frames.Backing.TheVariants as backing
@@ -34,7 +33,7 @@ pub record Moves (l m : FrameLife) (f : ℕ) (r : Record) (k : Key) (h : Held) :
   pub only : (q : Key) (g : Frame) → l.stands q ≡ held.Frame g → g.0 ≡ f → q ≡ k
 
 module _ (l m : FrameLife) (ram : FrameBytes) (slots blocks : BlockBytes) (kept : BytesLocated l ram slots blocks) (f : ℕ) (r : Record) (k : Key) (h : Held) (a : Moves l m f r k h)
-    (clean : is_some r.owner ≡ true → r.changed ≡ false → is_read r.request ≡ false → page_at ram f ≡ bytes_at ram slots blocks (home_at r.backing)) where
+    (clean : is_some r.owner ≡ true → r.changed ≡ false → is_read r.request ≡ false → frame_page ram f ≡ bytes_at ram slots blocks (home_at r.backing)) where
   bytes_moved : (q : Key) → contents_of m ram slots blocks q ≡ changed same_key (contents_of l ram slots blocks) k (bytes_at ram slots blocks (located m h)) q
   bytes_moved q =
       ap (λ (s : Key → Held). bytes_at ram slots blocks (located m (s q))) a.stands_as
@@ -81,7 +80,7 @@ stored_home l (held.Slot s) e = refl
 stored_home l (held.Block b) e = refl
 stored_home l _ e = cc
 
-module _ (l : FrameLife) (reached : ∥ Reached l ∥₁) (ram : FrameBytes) (slots blocks : BlockBytes) (kept : BytesLocated l ram slots blocks) where
+module _ (l : FrameLife) (reached : ∥ ReachedByMoves l ∥₁) (ram : FrameBytes) (slots blocks : BlockBytes) (kept : BytesLocated l ram slots blocks) where
   facts : Facts l
   facts = facts_of l reached
 
@@ -246,10 +245,10 @@ module _ (l : FrameLife) (reached : ∥ Reached l ∥₁) (ram : FrameBytes) (sl
 
 -- ---- the bytes of one frame change: clear, got, and a page that is written at hand
 
-pub page_here : (ram : FrameBytes) (f : ℕ) (page : List ℕ) → f < length ram → page_at (with_page ram f page) f ≡ Some page
+pub page_here : (ram : FrameBytes) (f : ℕ) (page : List ℕ) → f < length ram → frame_page (with_page ram f page) f ≡ Some page
 page_here ram f page low = get_or-set_same ram f (Some page) None low
 
-pub page_else : (ram : FrameBytes) (f : ℕ) (page : List ℕ) (g : ℕ) → g ≢ f → page_at (with_page ram f page) g ≡ page_at ram g
+pub page_else : (ram : FrameBytes) (f : ℕ) (page : List ℕ) (g : ℕ) → g ≢ f → frame_page (with_page ram f page) g ≡ frame_page ram g
 page_else ram f page g n = get_or-set_other ram f g (Some page) None n
 
 pub calm_is : (q : Request) → is_calm q ≡ true → is_read q ≡ false
@@ -257,7 +256,7 @@ calm_is request.Read e = cc
 calm_is request.Write e = cc
 calm_is _ e = refl
 
-module _ (l : FrameLife) (reached : ∥ Reached l ∥₁) (ram : FrameBytes) (slots blocks : BlockBytes) (kept : BytesLocated l ram slots blocks) where
+module _ (l : FrameLife) (reached : ∥ ReachedByMoves l ∥₁) (ram : FrameBytes) (slots blocks : BlockBytes) (kept : BytesLocated l ram slots blocks) where
   known : Facts l
   known = facts_of l reached
 
@@ -267,7 +266,7 @@ module _ (l : FrameLife) (reached : ∥ Reached l ∥₁) (ram : FrameBytes) (sl
   carries_clear f legal = record {
     located = record {
       clean = clean_by l m ram ram' slots blocks f.0 (λ g n. refl) (page_else ram f.0 zero_page) kept (λ o c n. let bad : false ≡ true = sym (ap (λ (x : Record). is_some x.owner) bare) ∙ o in cc);
-      zeroed = λ g on. elim (push_on g f.0 l.frames.zeroed on) [ inl e ↦ ap (page_at ram') e ∙ here | inr was ↦ at g was (same_or_not g f.0) ];
+      zeroed = λ g on. elim (push_on g f.0 l.frames.zeroed on) [ inl e ↦ ap (frame_page ram') e ∙ here | inr was ↦ at g was (same_or_not g f.0) ];
       live = λ k. ap is_some (bytes k) ∙ kept.live k;
       frame_room = length-set ram f.0 (Some zero_page) ∙ kept.frame_room;
       room = kept.room;
@@ -288,13 +287,13 @@ module _ (l : FrameLife) (reached : ∥ Reached l ∥₁) (ram : FrameBytes) (sl
       bare : record_at l.frames f.0 ≡ blank
       bare = known.free f.0 (first_on f.0 l.frames.free first)
 
-      here : page_at (with_page ram f.0 zero_page) f.0 ≡ Some zero_page
+      here : frame_page (with_page ram f.0 zero_page) f.0 ≡ Some zero_page
       here =
           let low = (fresh_read l.frames l.flight f.0 known.standing (or_left (is_first f.0 l.frames.free) (is_empty l.frames.free && is_first f.0 l.frames.zeroed) first)).low in
           page_here ram f.0 zero_page (omega (arith, low, known.framed, kept.frame_room))
 
-      at : (g : ℕ) → is_on g l.frames.zeroed ≡ true → ((g ≡ f.0) ⊎ (g ≢ f.0)) → page_at (with_page ram f.0 zero_page) g ≡ Some zero_page
-      at g was (inl e) = ap (page_at (with_page ram f.0 zero_page)) e ∙ here
+      at : (g : ℕ) → is_on g l.frames.zeroed ≡ true → ((g ≡ f.0) ⊎ (g ≢ f.0)) → frame_page (with_page ram f.0 zero_page) g ≡ Some zero_page
+      at g was (inl e) = ap (frame_page (with_page ram f.0 zero_page)) e ∙ here
       at g was (inr n) = page_else ram f.0 zero_page g n ∙ kept.zeroed g was
 
       bytes : (k : Key) → contents_of (after_move l (move.Clear f)) (with_page ram f.0 zero_page) slots blocks k ≡ contents_of l ram slots blocks k
@@ -315,7 +314,7 @@ module _ (l : FrameLife) (reached : ∥ Reached l ∥₁) (ram : FrameBytes) (sl
       carries_kept l (after_move l (move.Got f)) ram (with_page ram f.0 page) slots blocks kept f.0 new
       (alone_set l (after_move l (move.Got f)) f.0 new (records_ended o (read_done r) l.frames f.0) low (zeroed_ended o (read_done r) l.frames f.0) refl refl)
       (page_else ram f.0 page) (length-set ram f.0 (Some page))
-      (λ q g at e. calm_in (with_page ram f.0 page) slots blocks g new (quiet r o) ∙ ap (page_at (with_page ram f.0 page)) e ∙ here ∙ sym (read_in ram slots blocks g r reading ∙ there))
+      (λ q g at e. calm_in (with_page ram f.0 page) slots blocks g new (quiet r o) ∙ ap (frame_page (with_page ram f.0 page)) e ∙ here ∙ sym (read_in ram slots blocks g r reading ∙ there))
       (λ g on. page_else ram f.0 page g (λ e. let bad : true ≡ false = sym reading ∙ ap (λ (x : ℕ). is_read (record_at l.frames x).request) (sym e) ∙ ap (λ (x : Record). is_read x.request) (known.zeroed g on) in cc))
       (λ i c n. here ∙ sym (home_bytes ram (with_page ram f.0 page) slots blocks new.backing ∙ ap (λ (x : Backing). bytes_at ram slots blocks (home_at x)) (same r o i) ∙ there))
     where
@@ -350,7 +349,7 @@ module _ (l : FrameLife) (reached : ∥ Reached l ∥₁) (ram : FrameBytes) (sl
       at : l.stands k ≡ held.Frame f
       at = known.owned f.0 k owner
 
-      here : page_at (with_page ram f.0 page) f.0 ≡ Some page
+      here : frame_page (with_page ram f.0 page) f.0 ≡ Some page
       here = let low = owned_low l.frames f.0 (ap is_some owner) in let a = known.framed in let b = kept.frame_room in page_here ram f.0 page (omega (arith, low, a, b))
 
       by : (q : Key) → ((q ≡ k) × (same_key q k ≡ true)) ⊎ ((q ≢ k) × (same_key q k ≡ false)) → contents_of l (with_page ram f.0 page) slots blocks q ≡ (if same_key q k then Some page else contents_of l ram slots blocks q)

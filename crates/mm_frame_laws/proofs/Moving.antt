@@ -2,17 +2,17 @@
 use Rattle.std.proofs.Common.{◌≡◌, ◌⊎◌, ℕ, Bool, true, false, List, [], ◌∷◌, ◌++◌, refl, sym, inl, inr, ◌≢◌, ap, ◌∙◌, ◌<◌, length, get_or-set_same, get_or-set_other, ◌≤◌, Option, Some, None, arith}
 use Rattle.std.specs.Prelude.{◌==◌, ◌||◌, is_some, if◌then◌else◌, not, slice_set, slice_index_or, option_map, unwrap_or}
 use Rattle.std.proofs.lemmas.Bool.{eqb-true, or_right, or_left, and_parts, not-true, lt-ltb, ltb-true}
-use Rattle.mm_life.specs.{is_on, is_first, rest, record_at, is_read, FrameLife, changed, same_key, is_dead, home_at, FrameBytes, BlockBytes, page_at}
-use Rattle.mm_life.specs.{bytes_at, held_in, located, contents_of, BytesLocated, FrameTable, blank, is_idle, with_record, settled, settled_by}
-use Rattle.mm_life.specs.{to_free, is_write, has_request, shared, unshared, soiled, being_written, write_lost, without_slot, IsLegal, fits_place}
-use Rattle.mm_life.specs.{is_access, is_call, is_io, may_unmap, after_move, after_unmap_at}
+use Rattle.mm_life.specs.{is_on, is_first, rest, record_at, is_read, FrameLife, changed, same_key, is_dead, home_at, FrameBytes, BlockBytes}
+use Rattle.mm_life.specs.{frame_page, bytes_at, held_in, located, contents_of, BytesLocated, FrameTable, blank, is_idle, with_record, settled}
+use Rattle.mm_life.specs.{settled_by, to_free, is_write, has_request, shared, unshared, soiled, being_written, write_lost, without_slot, IsLegal}
+use Rattle.mm_life.specs.{fits_place, is_access, is_call, is_io, may_unmap, after_move, after_unmap_at}
 use Rattle.mm_types.proofs.{same_or_not, not_true}
 use Rattle.mm_types.specs.{Frame, Key, Record, Backing, Held, MachineOf, Place, Request, Stored}
 use Rattle.mm_laws.proofs.{key_or_not, write_has, kept_inside, owner_passes, facts_of, five_parts, four_parts, three_parts}
 use Rattle.mm_frame_laws.specs.{Carries}
 use Rattle.mm_life.proofs.{records_settled, write_not_read, calm}
 use Rattle.mm_laws.proofs.Facts.{Facts}
-use Rattle.mm_laws.specs.Reached.{Reached}
+use Rattle.mm_laws.specs.{ReachedByMoves}
 use Rattle.mm_types.specs.declared.frames.Backing.TheVariants as backing
 use Rattle.mm_types.specs.declared.frames.Held.TheVariants as held
 use Rattle.mm_types.specs.declared.frames.Request.TheVariants as request
@@ -46,13 +46,13 @@ pub home_bytes : (ram ram' : FrameBytes) (slots blocks : BlockBytes) (b : Backin
 home_bytes ram ram' slots blocks backing.None = refl
 home_bytes ram ram' slots blocks _ = refl
 
-in_frame : (ram ram' : FrameBytes) (slots blocks : BlockBytes) (b : Bool) (home : Backing) (g : Frame) → page_at ram' g.0 ≡ page_at ram g.0
+in_frame : (ram ram' : FrameBytes) (slots blocks : BlockBytes) (b : Bool) (home : Backing) (g : Frame) → frame_page ram' g.0 ≡ frame_page ram g.0
     → bytes_at ram' slots blocks (if b then home_at home else held.Frame g) ≡ bytes_at ram slots blocks (if b then home_at home else held.Frame g)
 in_frame ram ram' slots blocks true home g e = home_bytes ram ram' slots blocks home
 in_frame ram ram' slots blocks false home g e = e
 
 -- a frame that is not being read has its own bytes
-pub calm_in : (ram : FrameBytes) (slots blocks : BlockBytes) (g : Frame) (r : Record) → is_read r.request ≡ false → bytes_at ram slots blocks (held_in g r) ≡ page_at ram g.0
+pub calm_in : (ram : FrameBytes) (slots blocks : BlockBytes) (g : Frame) (r : Record) → is_read r.request ≡ false → bytes_at ram slots blocks (held_in g r) ≡ frame_page ram g.0
 calm_in ram slots blocks g r calm = ap (λ b. bytes_at ram slots blocks (if b then home_at r.backing else held.Frame g)) calm
 
 -- and one that is being read those of its backing
@@ -60,7 +60,7 @@ pub read_in : (ram : FrameBytes) (slots blocks : BlockBytes) (g : Frame) (r : Re
 read_in ram slots blocks g r read = ap (λ b. bytes_at ram slots blocks (if b then home_at r.backing else held.Frame g)) read
 
 module _ (l m : FrameLife) (ram ram' : FrameBytes) (slots blocks : BlockBytes) (f : ℕ)
-    (others : (g : ℕ) → g ≢ f → record_at m.frames g ≡ record_at l.frames g) (pages : (g : ℕ) → g ≢ f → page_at ram' g ≡ page_at ram g) where
+    (others : (g : ℕ) → g ≢ f → record_at m.frames g ≡ record_at l.frames g) (pages : (g : ℕ) → g ≢ f → frame_page ram' g ≡ frame_page ram g) where
   -- what stands elsewhere has the bytes that it had
   pub elsewhere : (h : Held) → ((g : Frame) → h ≡ held.Frame g → g.0 ≢ f) → bytes_at ram' slots blocks (located m h) ≡ bytes_at ram slots blocks (located l h)
   elsewhere (held.Frame g) other =
@@ -90,11 +90,11 @@ module _ (l m : FrameLife) (ram ram' : FrameBytes) (slots blocks : BlockBytes) (
 
   -- the frames that are clean
   pub clean_by : BytesLocated l ram slots blocks
-      → (is_some (record_at m.frames f).owner ≡ true → (record_at m.frames f).changed ≡ false → is_read (record_at m.frames f).request ≡ false → page_at ram' f ≡ bytes_at ram' slots blocks (home_at (record_at m.frames f).backing))
-      → (g : ℕ) → is_some (record_at m.frames g).owner ≡ true → (record_at m.frames g).changed ≡ false → is_read (record_at m.frames g).request ≡ false → page_at ram' g ≡ bytes_at ram' slots blocks (home_at (record_at m.frames g).backing)
+      → (is_some (record_at m.frames f).owner ≡ true → (record_at m.frames f).changed ≡ false → is_read (record_at m.frames f).request ≡ false → frame_page ram' f ≡ bytes_at ram' slots blocks (home_at (record_at m.frames f).backing))
+      → (g : ℕ) → is_some (record_at m.frames g).owner ≡ true → (record_at m.frames g).changed ≡ false → is_read (record_at m.frames g).request ≡ false → frame_page ram' g ≡ bytes_at ram' slots blocks (home_at (record_at m.frames g).backing)
   clean_by kept here g o c n = elim (same_or_not g f) [
     | inl e ↦
-        ap (page_at ram') e
+        ap (frame_page ram') e
         ∙ here (ap (λ (x : ℕ). is_some (record_at m.frames x).owner) (sym e) ∙ o) (ap (λ (x : ℕ). (record_at m.frames x).changed) (sym e) ∙ c) (ap (λ (x : ℕ). is_read (record_at m.frames x).request) (sym e) ∙ n)
         ∙ sym (ap (λ (x : ℕ). bytes_at ram' slots blocks (home_at (record_at m.frames x).backing)) e)
     | inr x ↦
@@ -166,10 +166,10 @@ alone_set l m f r e low zeroed stands machine = record {
 
 -- the keys that stand in the frame have the bytes that they had
 module _ (l m : FrameLife) (ram ram' : FrameBytes) (slots blocks : BlockBytes) (kept : BytesLocated l ram slots blocks) (f : ℕ) (r : Record) (a : Alone l m f r)
-    (pages : (g : ℕ) → g ≢ f → page_at ram' g ≡ page_at ram g) (size : length ram' ≡ length ram)
+    (pages : (g : ℕ) → g ≢ f → frame_page ram' g ≡ frame_page ram g) (size : length ram' ≡ length ram)
     (own : (q : Key) (g : Frame) → l.stands q ≡ held.Frame g → g.0 ≡ f → bytes_at ram' slots blocks (held_in g r) ≡ bytes_at ram slots blocks (held_in g (record_at l.frames f)))
-    (fresh : (g : ℕ) → is_on g l.frames.zeroed ≡ true → page_at ram' g ≡ page_at ram g)
-    (clean : is_some r.owner ≡ true → r.changed ≡ false → is_read r.request ≡ false → page_at ram' f ≡ bytes_at ram' slots blocks (home_at r.backing)) where
+    (fresh : (g : ℕ) → is_on g l.frames.zeroed ≡ true → frame_page ram' g ≡ frame_page ram g)
+    (clean : is_some r.owner ≡ true → r.changed ≡ false → is_read r.request ≡ false → frame_page ram' f ≡ bytes_at ram' slots blocks (home_at r.backing)) where
   bytes_kept : (q : Key) → contents_of m ram' slots blocks q ≡ contents_of l ram slots blocks q
   bytes_kept q =
       ap (λ (s : Key → Held). bytes_at ram' slots blocks (located m (s q))) a.stands_as
@@ -193,7 +193,7 @@ module _ (l m : FrameLife) (ram ram' : FrameBytes) (slots blocks : BlockBytes) (
 -- no bytes change, and the frame is not being read
 pub carries_alone : (l m : FrameLife) (ram : FrameBytes) (slots blocks : BlockBytes) → BytesLocated l ram slots blocks → (f : ℕ) (r : Record) → Alone l m f r
     → is_read (record_at l.frames f).request ≡ false → is_read r.request ≡ false
-    → (is_some r.owner ≡ true → r.changed ≡ false → page_at ram f ≡ bytes_at ram slots blocks (home_at r.backing)) → Carries m ram slots blocks (contents_of l ram slots blocks)
+    → (is_some r.owner ≡ true → r.changed ≡ false → frame_page ram f ≡ bytes_at ram slots blocks (home_at r.backing)) → Carries m ram slots blocks (contents_of l ram slots blocks)
 carries_alone l m ram slots blocks kept f r a was now clean =
     carries_kept l m ram ram slots blocks kept f r a (λ g n. refl) refl
     (λ q g at e. calm_in ram slots blocks g r now ∙ sym (calm_in ram slots blocks g (record_at l.frames f) was))
@@ -211,7 +211,7 @@ asked_low d f h = kept_inside d f (or_right (is_some (record_at d f).owner) (has
 pub shown_calm : (l : FrameLife) → Facts l → (f : ℕ) → 1 ≤ (record_at l.frames f).shares → is_read (record_at l.frames f).request ≡ false
 shown_calm l facts f some = not_true (is_read (record_at l.frames f).request) (λ e. omega (arith, some, ((facts.standing f).fit.reading e).0))
 
-module _ (l : FrameLife) (reached : ∥ Reached l ∥₁) (ram : FrameBytes) (slots blocks : BlockBytes) (kept : BytesLocated l ram slots blocks) where
+module _ (l : FrameLife) (reached : ∥ ReachedByMoves l ∥₁) (ram : FrameBytes) (slots blocks : BlockBytes) (kept : BytesLocated l ram slots blocks) where
   facts : Facts l
   facts = facts_of l reached
 

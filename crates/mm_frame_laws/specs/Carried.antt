@@ -6,7 +6,7 @@ use Rattle.mm_types.specs.declared.frames.Backing.TheVariants as backing
 use Rattle.mm_types.specs.declared.frames.Request.TheVariants as request
 use Rattle.mm_types.specs.declared.moves.LineKind.TheVariants as kind
 use Rattle.mm_life.specs.{FrameLife, changed, same_key, FrameBytes, BlockBytes, contents_of, BytesLocated}
-use Rattle.mm_laws.specs.Reached.{Reached}
+use Rattle.mm_laws.specs.{ReachedByMoves}
 
 -- the bytes are located in this state, and the keys have these contents
 pub record Carries (l : FrameLife) (ram : FrameBytes) (slots blocks : BlockBytes)
@@ -53,7 +53,7 @@ slots_grown (kind.Grow n) = n
 
 -- a state that legal moves reach, in which the bytes are located
 pub record HoldsBytes (l : FrameLife) (ram : FrameBytes) (slots blocks : BlockBytes) : Type 0 where
-  pub reached : ∥ Reached l ∥₁
+  pub reached : ∥ ReachedByMoves l ∥₁
   pub located : BytesLocated l ram slots blocks
 
 -- this leaves the bytes of every key

@@ -13,5 +13,8 @@ pub use Steps.{list_in_search, put_last}
 pub use Searches.{AllWritesFailed, AreSteps, Emptying, InOrder, InWalk, IsUnmap, MissedBut, Walking}
 pub use Searches.{failed_write, first_passing, is_lost_of, is_untried, lost_in, next_try}
 pub use Searches.{open_write, with_modified, written_by}
+pub use WorkedSearches.{eight_pages, eight_places, first_emptied, first_fails, one_too_many}
+pub use WorkedSearches.{second_emptied}
 pub use Sets.{IsInSet, SetShows, page_of_place, place_of_page}
-pub use Carried.{Carries, IsSoiled, blocks_written, is_calm, slots_grown, slots_written}
+pub use Carried.{Carries, HoldsBytes, IsSoiled, KeepsBytes, SetsBytes, blocks_written, is_calm}
+pub use Carried.{slots_grown, slots_written}

@@ -2,9 +2,10 @@ ghost use Rattle.std.specs.Prelude.{◌≡◌, ◌≤◌, ◌++◌, ℕ, List, S
 ghost use Rattle.mm_types.specs.{MachineOf, Block, Frame, Key, Place, LineKind, Stored};
 ghost use Rattle.mm_types.specs.declared.moves.LineKind.TheVariants as kind;
 ghost use Rattle.mm_types.specs.declared.moves.Move.TheVariants as move;
-ghost use Rattle.mm_life.specs.{record_at, FrameLife, unstarted, IsLegal, after_move, home_at, FrameBytes, BlockBytes, zero_page, page_at, bytes_at};
+ghost use Rattle.mm_life.specs.{record_at, FrameLife, unstarted, IsLegal, after_move, home_at, FrameBytes, BlockBytes, zero_page, frame_page};
+ghost use Rattle.mm_life.specs.{bytes_at};
 ghost use Rattle.mm_ram.specs.{with_page};
-ghost use Rattle.mm_frame_laws.specs.Carried.{HoldsBytes, Carries, KeepsBytes, SetsBytes, IsSoiled, slots_grown, slots_written, blocks_written};
+ghost use Rattle.mm_frame_laws.specs.{HoldsBytes, Carries, KeepsBytes, SetsBytes, IsSoiled, slots_grown, slots_written, blocks_written};
 
 /// A line leaves the bytes of every key. One in which the paging file grows has further slots,
 /// which are zero.
@@ -79,7 +80,7 @@ pub fn requests_keep_bytes()
         KeepsBytes l ram slots blocks (after_move l (move.Bad f)) ram slots blocks }
     ensures wrote { (l : FrameLife) (ram : FrameBytes) (slots blocks : BlockBytes) →
         HoldsBytes l ram slots blocks → (f : Frame) (page : List ℕ) → IsLegal (move.Wrote f) l →
-        page_at ram f.0 ≡ Some page →
+        frame_page ram f.0 ≡ Some page →
         KeepsBytes l ram slots blocks (after_move l (move.Wrote f)) ram
         (slots_written (record_at l.frames f.0).backing page slots)
         (blocks_written (record_at l.frames f.0).backing page blocks) }

@@ -2,7 +2,7 @@ ghost use Rattle.std.specs.Prelude.{◌≡◌, ◌⊎◌, ℕ, Option, true};
 ghost use Rattle.mm_types.specs.{IsMachine, Frame, Place};
 ghost use Rattle.mm_life.specs.{FrameLife, is_short, may_go};
 ghost use Rattle.mm_laws.specs.Sound.{Sound};
-ghost use Rattle.mm_frame_laws.specs.Room.{NoneMayGo, NoneWritable, Writable, IsWithinDepth};
+ghost use Rattle.mm_frame_laws.specs.{NoneMayGo, NoneWritable, Writable, IsWithinDepth};
 
 /// Where zeroed, free and standby are empty and at most depth requests are in flight, a modified
 /// frame can be written, or a place is valid for a frame other than the pinned one. So a search

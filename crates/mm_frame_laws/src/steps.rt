@@ -6,8 +6,7 @@ ghost use Rattle.mm_life.specs.{record_at, has_request, is_on, without, being_wr
 ghost use Rattle.mm_life.specs.{has_depth, is_short, trims, touches, is_above_min, is_at_max, after_move, can_be_written};
 ghost use Rattle.mm_laws.specs.Sound.{Sound};
 ghost use Rattle.mm_laws.specs.{times, block_of, ListsAre};
-ghost use Rattle.mm_frame_laws.specs.Room.{Writable};
-ghost use Rattle.mm_frame_laws.specs.Steps.{Unmapped, backing_to, after_written, after_failed, put_last};
+ghost use Rattle.mm_frame_laws.specs.{Writable, Unmapped, backing_to, after_written, after_failed, put_last};
 
 /// What the unmap of a place leaves. A frame that the place alone showed, without a request, joins
 /// standby where it is clean and modified where it is changed; any other stays on no list. One

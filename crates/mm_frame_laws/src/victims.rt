@@ -6,8 +6,8 @@ ghost use Rattle.mm_life.specs.{FrameLife, same_place, set_of, may_go, Ages, IsO
 ghost use Rattle.mm_laws.specs.Sound.{Sound};
 ghost use Rattle.mm_laws.specs.{tally, residents};
 ghost use Rattle.mm_wset.specs.{IsOldestInSet, NoneFollowsInSet};
-ghost use Rattle.mm_frame_laws.specs.Sets.{SetShows, place_of_page, page_of_place, IsInSet};
-ghost use Rattle.mm_frame_laws.specs.Order.{first_to_go, first_to_go_in, IsNextPage, PassedTo, NoPageFollows, IsBest, BestBelow, takes_over};
+ghost use Rattle.mm_frame_laws.specs.{SetShows, place_of_page, page_of_place, IsInSet, first_to_go, first_to_go_in, IsNextPage, PassedTo};
+ghost use Rattle.mm_frame_laws.specs.{NoPageFollows, IsBest, BestBelow, takes_over};
 
 /// Where a place may go, one page goes first of all, and one of that place's process; and no two
 /// do. Where no frame is pinned each valid place may go.

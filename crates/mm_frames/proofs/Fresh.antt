@@ -5,7 +5,7 @@ use Rattle.std.proofs.lemmas.List.{get_or-replicate, length-replicate}
 use Rattle.mm_types.specs.{Record}
 use Rattle.mm_life.specs.{blank, numbers_from}
 use Rattle.mm_lists.specs.{ListsOf, AreApart, IsOnNone, number_at}
-use Rattle.mm_frames.specs.{Standing, standing_at, list_for, Listed, AreFrames, free_only}
+use Rattle.mm_frames.specs.{Standing, standing_at, list_for, AreListed, AreFrames, free_only}
 use Rattle.mm_frames.specs.declared.standing.Standing.TheVariants.{Free}
 use Rattle.mm_frames.proofs.Placings.{as_empty}
 use Rattle.mm_life.proofs.{numbers_in, numbers_at}
@@ -33,7 +33,7 @@ all_free n lists small e apart =
       numbers = ap (λ (v : ListsOf). v.numbers) e ∙ sym many;
       four = ap (λ (v : ListsOf). length v.lists) e;
       apart = apart;
-      listed = subst (λ (v : ListsOf). Listed (replicate n blank) (replicate n Free) v.lists) (sym e) (record {
+      listed = subst (λ (v : ListsOf). AreListed (replicate n blank) (replicate n Free) v.lists) (sym e) (record {
         held = λ j k f at.
             let h = only_free (numbers_from 0 n) j k f at in
             let low : f < n = omega (arith, numbers_in 0 n k f h.1) in

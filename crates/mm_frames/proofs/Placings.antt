@@ -8,7 +8,7 @@ use Rattle.mm_life.specs.{FrameTable, blank, is_idle, is_read, has_request, with
 use Rattle.mm_lists.specs.{ListsOf, AreApart, IsOnNone, IsOnOne, list_at, number_at, without}
 use Rattle.mm_lists.proofs.{same, without_removes, push_found, push_keeps, push_new}
 use Rattle.mm_ram.specs.{page_at, zero_page}
-use Rattle.mm_frames.specs.{Standing, standing_at, list_for, Listed, Holds, AreFrames, is_zero, is_kept, table_of, lists_of, pushed_on, relisted}
+use Rattle.mm_frames.specs.{Standing, standing_at, list_for, AreListed, Holds, AreFrames, is_zero, is_kept, table_of, lists_of, pushed_on, relisted}
 use Rattle.mm_frames.specs.{joined, off_all}
 use Rattle.mm_frames.specs.declared.standing.Standing.TheVariants.{Zeroed, Free, Bound, Cleared, Taken}
 
@@ -141,7 +141,7 @@ module _ {records : List Record} {standing : List Standing} {lists : ListsOf} {b
       let h = a.listed.there g j (omega (arith, inside, length-set records f r)) (sym (elsewhere g d) ∙ at) in
       (without_removes f lists.lists).kept j h.0 g d h.1
 
-  listed : (o : Option ℕ) → list_for s r ≡ o → Listed (set records f r) (set standing f s) (relisted o lists f).lists
+  listed : (o : Option ℕ) → list_for s r ≡ o → AreListed (set records f r) (set standing f s) (relisted o lists f).lists
   listed None e = record {
     held = found;
     there = λ g j inside at. elim (same_or_not g f) [
@@ -175,7 +175,7 @@ module _ {records : List Record} {standing : List Standing} {lists : ListsOf} {b
         numbers = ap (λ (v : ListsOf). v.numbers) e ∙ numbers_kept (list_for s r) off f ∙ a.numbers ∙ sym (length-set records f r);
         four = ap (λ (v : ListsOf). length v.lists) e ∙ count_kept (list_for s r) off f ∙ length-map lists.lists (without f) ∙ a.four;
         apart = apart;
-        listed = subst (λ (v : ListsOf). Listed (set records f r) (set standing f s) v.lists) (sym e) (listed (list_for s r) refl);
+        listed = subst (λ (v : ListsOf). AreListed (set records f r) (set standing f s) v.lists) (sym e) (listed (list_for s r) refl);
         holds = λ g h. elim (same_or_not g f) [
           | inl q ↦
               subst (λ (x : ℕ). Holds (standing_at (set standing f s) x) (get_or (set records f r) x blank) (page_at bytes x)) (sym q)

@@ -42,7 +42,7 @@ is_zero Cleared = true
 is_zero Taken = false
 
 -- each frame is on the list that it stands on, and on no other
-pub record Listed (records : List Record) (standing : List Standing) (lists : List (List ℕ)) :
+pub record AreListed (records : List Record) (standing : List Standing) (lists : List (List ℕ)) :
     Type 0 where
   pub held : (j k f : ℕ) → number_at lists j k ≡ Some f →
       list_for (standing_at standing f) (slice_index_or records f blank) ≡ Some j
@@ -65,7 +65,7 @@ pub record AreFrames (records : List Record) (standing : List Standing) (lists :
   pub numbers : lists.numbers ≡ length records
   pub four : length lists.lists ≡ 4
   pub apart : AreApart lists
-  pub listed : Listed records standing lists.lists
+  pub listed : AreListed records standing lists.lists
   pub holds : (f : ℕ) → f < length records →
       Holds (standing_at standing f) (slice_index_or records f blank) (page_at bytes f)
 

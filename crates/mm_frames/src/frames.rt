@@ -79,6 +79,7 @@ fn all_free(alloc: Global, n: u32) -> Result<Vec<Standing>, NoMemory>
 
 impl Frames {
     /// What the frame database keeps of a frame.
+    #[inline(always)]
     pub fn look(&self, f: Frame) -> Record
         requires { f.0 < length self.now.table.records }
         ensures { result ≡ record_at self.now.table f.0 }
@@ -442,6 +443,7 @@ impl Frames {
 
     /// The frame leaves its list, if it is on one. From now on it has this record and stands there,
     /// at the end of the list that these two say, if any.
+    #[inline(always)]
     fn stand(&mut self, f: Frame, r: Record, standing: Standing)
         requires { ArePlaced self.old → CanStand self.old f.0 r standing }
         ensures stood { self.new ≡ stood self.old f.0 r standing }
@@ -461,6 +463,7 @@ impl Frames {
     }
 
     /// A bound frame has this record now, and settles.
+    #[inline(always)]
     fn rebind(&mut self, f: Frame, r: Record)
         requires bound { record_at self.old.table f.0 ≢ blank }
         requires kept { is_kept (record_at self.old.table f.0) ≡ true → is_kept r ≡ true }
@@ -479,6 +482,7 @@ impl Frames {
     }
 
     /// A bound frame leaves its list, if it is on one, and goes to free with an empty record.
+    #[inline(always)]
     fn free(&mut self, f: Frame)
         requires { record_at self.old.table f.0 ≢ blank }
         ensures freed { self.new ≡ gone_free self.old f.0 }
@@ -489,6 +493,7 @@ impl Frames {
     }
 
     /// The request of a frame ends and leaves this record: without an owner the frame goes to free.
+    #[inline(always)]
     fn end_request(&mut self, f: Frame, r: Record)
         requires bound { record_at self.old.table f.0 ≢ blank }
         requires busy { is_idle (record_at self.old.table f.0) ≡ false }

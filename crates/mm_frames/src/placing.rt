@@ -2,8 +2,7 @@ ghost use Rattle.std.specs.Prelude.{◌≡◌, ℕ, ◌<◌, true, false, length
 ghost use Rattle.mm_lists.specs.{IsOnOne, IsOnNone, AreApart, without};
 ghost use Rattle.mm_life.specs.{is_idle, has_request, is_write, soiled, write_done, write_lost, without_slot, slot_of, slot_after_soil};
 ghost use Rattle.mm_life.specs.{slot_after_read};
-ghost use Rattle.mm_frames.specs.Base.{has_block, is_modified_with_block, record_written, slot_after_write};
-ghost use Rattle.mm_frames.specs.Placing.{list_for, relisted, second_for};
+ghost use Rattle.mm_frames.specs.{has_block, is_modified_with_block, record_written, slot_after_write, list_for, relisted, second_for};
 ghost use Rattle.mm_frames.specs.declared.standing.Standing.TheVariants.{Bound};
 
 use crate::Standing;
@@ -23,6 +22,7 @@ pub const MODIFIED: u32 = 3;
 pub const WITH_BLOCK: u32 = 0;
 
 /// Whether a frame has neither shares nor a request.
+#[inline(always)]
 fn is_idle(r: &Record) -> bool
     ensures { result ≡ is_idle r.now }
 {
@@ -33,6 +33,7 @@ fn is_idle(r: &Record) -> bool
 }
 
 /// Whether a request holds the frame.
+#[inline(always)]
 pub fn has_request(r: &Record) -> bool
     ensures { result ≡ has_request r.now.request }
 {
@@ -43,12 +44,14 @@ pub fn has_request(r: &Record) -> bool
 }
 
 /// Whether the record is that of a frame on modified.
+#[inline(always)]
 pub fn is_modified(r: &Record) -> bool
     ensures { result ≡ (is_idle r.now && r.now.changed) }
 {
     is_idle(r) && r.changed
 }
 
+#[inline(always)]
 fn has_block(backing: Backing) -> bool
     ensures { result ≡ has_block backing }
 {
@@ -59,6 +62,7 @@ fn has_block(backing: Backing) -> bool
 }
 
 /// Whether a frame is on modified, and its page is written to a block of its own.
+#[inline(always)]
 pub fn is_modified_with_block(r: &Record) -> bool
     ensures { result ≡ is_modified_with_block r.now }
 {
@@ -66,6 +70,7 @@ pub fn is_modified_with_block(r: &Record) -> bool
 }
 
 /// The list that a frame is on which stands there with this record.
+#[inline(always)]
 pub fn list_for(standing: Standing, r: &Record) -> Option<u32>
     ensures { result ≡ list_for standing r.now }
 {
@@ -78,6 +83,7 @@ pub fn list_for(standing: Standing, r: &Record) -> Option<u32>
 }
 
 /// An idle frame is on modified where it is changed, else on standby.
+#[inline(always)]
 fn idle_list_for(r: &Record) -> Option<u32>
     ensures { result ≡ list_for Bound r.now }
 {
@@ -88,6 +94,7 @@ fn idle_list_for(r: &Record) -> Option<u32>
 }
 
 /// The second list that a frame with this record is on.
+#[inline(always)]
 pub fn second_list_for(r: &Record) -> Option<u32>
     ensures { result ≡ second_for r.now }
 {
@@ -99,6 +106,7 @@ pub fn second_list_for(r: &Record) -> Option<u32>
 }
 
 /// The frame leaves its list, if it is on one.
+#[inline(always)]
 fn leave(lists: &mut Lists, f: u32, listed: bool)
     requires on_one { listed ≡ true → IsOnOne lists.old.lists f }
     requires on_none { listed ≡ false → IsOnNone lists.old.lists f }
@@ -112,6 +120,7 @@ fn leave(lists: &mut Lists, f: u32, listed: bool)
 }
 
 /// The frame leaves its list, if it is on one, and goes to the end of another, if any.
+#[inline(always)]
 pub fn relist(lists: &mut Lists, f: u32, from: Option<u32>, to: Option<u32>)
     requires on_one { is_some from ≡ true → IsOnOne lists.old.lists f }
     requires on_none { is_some from ≡ false → IsOnNone lists.old.lists f }
@@ -128,6 +137,7 @@ pub fn relist(lists: &mut Lists, f: u32, from: Option<u32>, to: Option<u32>)
 }
 
 /// The record of a frame whose page is changed.
+#[inline(always)]
 pub fn soiled(r: &Record) -> Record
     ensures { result ≡ soiled r.now }
 {
@@ -144,6 +154,7 @@ pub fn soiled(r: &Record) -> Record
     }
 }
 
+#[inline(always)]
 fn without_slot(backing: Backing) -> Backing
     ensures { result ≡ without_slot backing }
 {
@@ -154,6 +165,7 @@ fn without_slot(backing: Backing) -> Backing
 }
 
 /// The slot that is given back as a page is changed.
+#[inline(always)]
 pub fn slot_after_soil(r: &Record) -> Option<Slot>
     ensures { option_map (λ s. s.0) result ≡ slot_after_soil r.now }
 {
@@ -164,6 +176,7 @@ pub fn slot_after_soil(r: &Record) -> Option<Slot>
 }
 
 /// The slot that a backing is.
+#[inline(always)]
 pub fn slot_of(backing: Backing) -> Option<Slot>
     ensures { option_map (λ s. s.0) result ≡ slot_of backing }
 {
@@ -174,6 +187,7 @@ pub fn slot_of(backing: Backing) -> Option<Slot>
 }
 
 /// The slot that is given back as a read ends: that of a page which is no more.
+#[inline(always)]
 pub fn slot_after_read(r: &Record) -> Option<Slot>
     ensures { option_map (λ s. s.0) result ≡ slot_after_read r.now }
 {
@@ -184,6 +198,7 @@ pub fn slot_after_read(r: &Record) -> Option<Slot>
 }
 
 /// The record of a frame whose write ended.
+#[inline(always)]
 pub fn written(r: &Record, ok: bool) -> Record
     requires { is_write r.now.request ≡ true }
     ensures { result ≡ record_written ok r.now }
@@ -205,6 +220,7 @@ pub fn written(r: &Record, ok: bool) -> Record
 
 /// The slot that is given back as a write ends: that of a page which is no more, or has to be
 /// written again.
+#[inline(always)]
 pub fn slot_after_write(r: &Record, ok: bool) -> Option<Slot>
     requires { is_write r.now.request ≡ true }
     ensures { option_map (λ s. s.0) result ≡ slot_after_write ok r.now }

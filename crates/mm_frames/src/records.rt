@@ -36,12 +36,14 @@ pub const BLANK: Record = Record {
     request: Request::None,
 };
 
+#[inline(always)]
 fn active_in(r: &Record) -> u32
     ensures { result ≡ cond (is_active r.now) 1 0 }
 {
     if r.shares > 0 { 1 } else { 0 }
 }
 
+#[inline(always)]
 fn transition_in(r: &Record) -> u32
     ensures { result ≡ cond (is_in_transition r.now) 1 0 }
 {
@@ -72,6 +74,7 @@ impl Records {
     }
 
     /// The record of a frame.
+    #[inline(always)]
     pub fn get(&self, f: u32) -> Record
         requires { f < length self.now }
         ensures { result ≡ slice_index_or self.now f blank }
@@ -80,6 +83,7 @@ impl Records {
     }
 
     /// Gives a frame this record.
+    #[inline(always)]
     pub fn set(&mut self, f: u32, r: Record)
         requires { f < length self.old }
         ensures { self.new ≡ slice_set self.old f r }

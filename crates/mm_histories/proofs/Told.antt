@@ -5,13 +5,13 @@ use Rattle.mm_life.specs.{FrameLife, unstarted, after_move}
 use Rattle.mm_classes.specs.{class_of, next_of, MarksOf, marks_after, no_marks, Class}
 use Rattle.mm_tell.specs.{pending, class_then, move_of, Pending}
 use Rattle.mm_tell.proofs.{class_known}
-use Rattle.mm_histories.specs.{head, history, move_row, row_of, rows_from, head_left, noted, waiting_row, Noted, Subject}
+use Rattle.mm_histories.specs.{head, history, move_row, history_row, rows_from, head_left, noted, waiting_row, Noted, Subject}
 
 -- the row of a move that waited is the row of the move
 row_known : (s : Subject) (l : FrameLife) (v : MarksOf) (before : Option Move) (m : Move) (next : Option Move)
     → waiting_row s (Some (noted l m)) (class_then (Some (pending l v before m)) next) (after_move l m) ≡ move_row s l m (class_of l v before m next) (after_move l m)
 row_known s l v before m next =
-    ap (λ (c : Option Class). row_of s l.line (noted l m).was c (noted l m).facts (after_move l m)) (class_known l v before m next)
+    ap (λ (c : Option Class). history_row s l.line (noted l m).was c (noted l m).facts (after_move l m)) (class_known l v before m next)
 
 -- one more move was taken
 pub history_taken : (s : Subject) (begun : Bool) (waiting waiting' : Option Noted) (p p' : Option Pending) (v v' : MarksOf) (text text1 text2 : Text) (l : FrameLife) (m : Move)

@@ -50,14 +50,14 @@ row_text line was class x after =
     ++ (sentence_text false class x after ++ 10 ∷ [])))))
 
 -- a move of this class that is about the subject; a move without a class begins a line
-abbrev pub row_of : Subject → ℕ → Option FrameState → Option Class → Facts → FrameLife → Text
-row_of s line was None x after = []
-row_of s line was (Some class) x after =
+abbrev pub history_row : Subject → ℕ → Option FrameState → Option Class → Facts → FrameLife → Text
+history_row s line was None x after = []
+history_row s line was (Some class) x after =
     if is_about s x then row_text line was class x after else []
 
 abbrev pub move_row : Subject → FrameLife → Move → Option Class → FrameLife → Text
 move_row s l m class after =
-    let x = facts_of l m in row_of s l.line (state_before l x.frame) class x after
+    let x = facts_of l m in history_row s l.line (state_before l x.frame) class x after
 
 -- ---- head and end
 

@@ -6,7 +6,7 @@ use Rattle.mm_life.specs.{FrameLife}
 use Rattle.mm_classes.specs.{next_of, marks_of}
 use Rattle.mm_sentences.specs.{facts_of}
 use Rattle.mm_tell.specs.{class_then, move_of, Classed}
-use Rattle.mm_histories.specs.Histories.{head, row_of, rows_from, state_before}
+use Rattle.mm_histories.specs.Histories.{head, history_row, rows_from, state_before}
 use Rattle.mm_histories.specs.declared.histories.HistoryTeller.{HistoryTeller}
 use Rattle.mm_histories.specs.declared.rows.Noted.{Noted}
 use Rattle.mm_histories.specs.declared.subjects.Subject.{Subject}
@@ -23,7 +23,7 @@ noted l m = record {
 abbrev pub waiting_row : Subject → Option Noted → Option Classed → FrameLife → Text
 waiting_row s None c after = []
 waiting_row s (Some x) None after = []
-waiting_row s (Some x) (Some c) after = row_of s x.line x.was c.class x.facts after
+waiting_row s (Some x) (Some c) after = history_row s x.line x.was c.class x.facts after
 
 -- the head, unless it stands
 abbrev pub head_left : Bool → Subject → List Move → Text

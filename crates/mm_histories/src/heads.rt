@@ -2,7 +2,7 @@ ghost use Rattle.std.specs.Prelude.{◌≡◌, ◌++◌, ◌∷◌, [], List, On
 ghost use Rattle.mm_types.specs.{Move};
 ghost use Rattle.mm_replay.specs.Standing.{life as life_of};
 ghost use Rattle.mm_sentences.specs.{frame_row};
-ghost use Rattle.mm_histories.specs.Histories.{frames_in, head, held_text, end_text};
+ghost use Rattle.mm_histories.specs.{frames_in, head, held_text, end_text};
 
 use crate::subjects::Subject;
 use mm_replay::Life;

@@ -2,7 +2,7 @@ ghost use Rattle.std.specs.Prelude.{◌≡◌, ◌++◌, ◌∷◌, [], OnOk, If
 ghost use Rattle.mm_types.specs.{decimal};
 ghost use Rattle.mm_replay.specs.Standing.{life as life_of};
 ghost use Rattle.mm_text.specs.{left_in};
-ghost use Rattle.mm_histories.specs.Histories.{state_before, change_text, row_text, row_of};
+ghost use Rattle.mm_histories.specs.Histories.{state_before, change_text, row_text, history_row};
 ghost use Rattle.mm_histories.specs.Rest.{noted, waiting_row};
 
 use crate::subjects::{Subject, is_about};
@@ -122,7 +122,7 @@ fn put_row_of(
     text: &mut Vec<u8>,
 ) -> Result<(), NoMemory>
     ensures { OnOk result (text.new.items ≡ text.old.items
-        ++ row_of subject x.now.line x.now.was class x.now.facts (life_of after.now)) }
+        ++ history_row subject x.now.line x.now.was class x.now.facts (life_of after.now)) }
 {
     match class {
         None => Ok(()),

@@ -3,7 +3,7 @@ use Rattle.std.proofs.Common.{Option, Some, None, ◌≡◌, ◌≢◌, ℕ, zer
 use Rattle.std.specs.Cmp.{unsigned_Decides}
 use Rattle.std.proofs.lemmas.Bool.{eqb-true}
 use Rattle.std.proofs.lemmas.List.{take-append-drop}
-use Rattle.mm_io.specs.{NoFeed, IsLine, IsFeedAt, FeedAt, HasLine, IsLong}
+use Rattle.mm_io.specs.{NoFeed, FitsLine, IsFeedAt, FeedAt, HasLine, IsLong}
 use Rattle.memchr.specs.Find.{IsFirstByte, Passes, is_byte}
 
 no_feed_below : (xs : List ℕ) (n : ℕ) → ((k : ℕ) → k < n → ¬ Passes (is_byte 10) xs k) → NoFeed (take n xs)
@@ -64,7 +64,7 @@ take_front : (xs ys : List ℕ) → NoFeed xs → NoFeed (take (length xs) (xs +
 take_front [] ys u = tt
 take_front (x ∷ xs) ys u = (u.0, take_front xs ys u.1)
 
-pub recent_next : (held taken held' : List ℕ) (n : ℕ) → IsLine held → held' ≡ held ++ taken → length held' ≡ length held + n → n ≤ 4096 → Recent held'
+pub recent_next : (held taken held' : List ℕ) (n : ℕ) → FitsLine held → held' ≡ held ++ taken → length held' ≡ length held + n → n ≤ 4096 → Recent held'
 recent_next held taken held' n line e c few = record {
   front = length held;
   short = line.short;

@@ -1,7 +1,7 @@
 -- One reading after another.
 use Rattle.std.proofs.Common.{ℕ, List, [], ◌++◌, sym, ap, ◌∙◌, Option, append_assoc}
 use Rattle.mm_types.proofs.{append_nil, took_none, took_then}
-use Rattle.mm_io.specs.{IsLine, Filled, HasRead}
+use Rattle.mm_io.specs.{FitsLine, Filled, HasRead}
 use Rattle.mm_io.proofs.Feeds.{Recent, recent_next}
 
 pub filled_none : (a : Option (List ℕ)) (xs : List ℕ) → Filled a a xs xs
@@ -14,7 +14,7 @@ filled_then a b c x y z u v = record {
   behind = v.behind ∙ ap (λ xs. xs ++ v.taken) u.behind ∙ append_assoc x u.taken v.taken;
 }
 
-pub recent_after : (a b : Option (List ℕ)) (x y : List ℕ) (n : ℕ) → IsLine x → Filled a b x y → HasRead a b x y n → Recent y
+pub recent_after : (a b : Option (List ℕ)) (x y : List ℕ) (n : ℕ) → FitsLine x → Filled a b x y → HasRead a b x y n → Recent y
 recent_after a b x y n line f r = recent_next x f.taken y n line f.behind r.count r.few
 
 pub ruleset filling = (filled_none, filled_then)

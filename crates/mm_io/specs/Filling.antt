@@ -3,7 +3,7 @@
 use Rattle.std.specs.Prelude.{◌≡◌, ℕ, ◌+◌, ◌<◌, ◌≤◌, List, [], ◌++◌, length, Option, Result, Ok, Err, Bool, true, false}
 use Rattle.mm_types.specs.declared.Failed.{Failed}
 use Rattle.mm_types.specs.{Took, IsEnd}
-use Rattle.mm_io.specs.Lines.{IsLine}
+use Rattle.mm_io.specs.Lines.{FitsLine}
 use Rattle.mm_io.specs.Looking.{HasLine, IsLong}
 use Rattle.mm_io.specs.declared.buffers.Found.{Found}
 use Rattle.mm_io.specs.declared.buffers.Found.TheVariants as found
@@ -28,8 +28,8 @@ ReadOnce left left' held held' (Err e) = held' ≡ held
 abbrev pub Finds : Result Found Failed → Option (List ℕ) → List ℕ → Type 0
 Finds (Ok (found.Line n)) left held = HasLine held n × (length held < n + 1 + 4096)
 Finds (Ok found.Long) left held = IsLong held × (length held < 257 + 4096)
-Finds (Ok found.End) left held = IsLine held × IsEnd left
-Finds (Err e) left held = IsLine held
+Finds (Ok found.End) left held = FitsLine held × IsEnd left
+Finds (Err e) left held = FitsLine held
 
 abbrev pub FindsMore : Result Bool Failed → Option (List ℕ) → List ℕ → Type 0
 FindsMore (Ok true) left held = (0 < length held) × (length held < 1 + 4096)

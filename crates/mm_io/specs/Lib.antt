@@ -4,7 +4,7 @@ pub mod Lines
 pub mod Looking
 pub mod Filling
 pub use Io.{CountsFaults, GivesOn, IsFrontOf, ReadsFront, Wrote}
-pub use Lines.{IsLine, NoFeed, text_of_lines, with_line_feed}
+pub use Lines.{FitsLine, NoFeed, text_of_lines, with_line_feed}
 pub use Looking.{FeedAt, HasLine, IsFeedAt, IsLong}
 pub use Filling.{Filled, Finds, HasRead}
 pub use declared.buffers.Found.{Found}

@@ -7,7 +7,7 @@ abbrev pub NoFeed : List ℕ → Type 0
 NoFeed bytes = AllByRecursion (λ b. b ≢ 10) bytes
 
 -- What a line may be: no line feed, and 256 bytes at most.
-pub record IsLine (line : List ℕ) : Type 0 where
+pub record FitsLine (line : List ℕ) : Type 0 where
   pub no_feed : NoFeed line
   pub short : length line ≤ 256
 

@@ -1,7 +1,7 @@
 -- What stands at the front of some bytes.
 -- Profile, "Script".
 use Rattle.std.specs.Prelude.{◌≡◌, ℕ, suc, ◌<◌, ◌≤◌, List, ◌∷◌, ◌++◌, length, take, drop, Option, Some, None}
-use Rattle.mm_io.specs.Lines.{NoFeed, IsLine}
+use Rattle.mm_io.specs.Lines.{NoFeed, FitsLine}
 use Rattle.mm_io.specs.declared.looks.Look.{Look}
 use Rattle.mm_io.specs.declared.looks.Look.TheVariants.{Line, Long, Open}
 
@@ -30,4 +30,4 @@ pub record IsLong (bytes : List ℕ) : Type 0 where
 abbrev pub Looks : Look → List ℕ → Type 0
 Looks (Line n) bytes = HasLine bytes n
 Looks Long bytes = IsLong bytes
-Looks Open bytes = IsLine bytes
+Looks Open bytes = FitsLine bytes

@@ -1,5 +1,5 @@
 ghost use Rattle.std.specs.Prelude.{◌≡◌, is_err};
-ghost use Rattle.mm_io.specs.Io.{CountsFaults, GivesOn, Wrote};
+ghost use Rattle.mm_io.specs.{CountsFaults, GivesOn, Wrote};
 
 use crate::Sink;
 use mm_types::Failed;

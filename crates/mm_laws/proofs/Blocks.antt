@@ -9,7 +9,7 @@ use Rattle.mm_life.specs.{FrameTable, blank, record_at, without_slot, with_recor
 use Rattle.mm_life.specs.{taken_for_read, given, being_read, being_written, shared, unshared, disowned, soiled, read_done, write_done, write_lost}
 use Rattle.mm_life.specs.{after_clear, after_steal, after_give, after_read, after_bad, after_map, after_unmap, after_soil, after_write, after_drop}
 use Rattle.mm_life.specs.{FrameLife, same_key, changed, is_dead, IsLegal, is_stored, is_block, after_move, after_at, after_add, dropped_at}
-use Rattle.mm_life.specs.{after_unmap_at, homed, home_at, backing_of, unstarted, is_live, is_legal_kind, is_machine, Replays}
+use Rattle.mm_life.specs.{after_unmap_at, homed, home_at, backing_of, unstarted, is_live, is_legal_kind, is_valid_machine, Replays}
 use Rattle.mm_laws.specs.{is_home_for, is_backing_for, block_of, block_in, block_held, frame, owner_at, is_file_key, IsAdded}
 use Rattle.mm_laws.specs.Sound.{Sound}
 use Rattle.mm_laws.proofs.Taking.{first_zeroed, fresh_read}
@@ -341,7 +341,7 @@ file_block_step (move.At n kd) l s on h k file = block_stays (move.At n kd) l s 
   where
     no_machine : (kd : LineKind) → is_legal_kind l kd ≡ true → makes_machine (move.At n kd) ≡ false
     no_machine (kind.Machine frames slots depth blocks) e =
-        let p = and_parts (l.line == 0) (is_machine (record { frames = frames; slots = slots; depth = depth; blocks = blocks })) e in
+        let p = and_parts (l.line == 0) (is_valid_machine (record { frames = frames; slots = slots; depth = depth; blocks = blocks })) e in
         let z = eqb-true l.line 0 p.0 in absurd (omega (arith, on, z))
     no_machine _ e = refl
 file_block_step (move.Add j None) l s on h k file = block_stays (move.Add j None) l s h refl refl k

@@ -9,7 +9,7 @@ use Rattle.mm_life.specs.{blank, record_at, has_request, is_on, slot_of, is_idle
 use Rattle.mm_life.specs.{slot_at, without, set_of, unstarted, IsLegal, owner_is, is_lowest, is_block, after_move, after_at, dropped_at}
 use Rattle.mm_life.specs.{after_unmap_at, Replays, ResidentSet}
 use Rattle.mm_laws.specs.{one_if, times, standings, counted_frames, IsStandby, IsModified, Holder, Home, Behind, slot_held, holding, CountsPlaces}
-use Rattle.mm_laws.specs.{CountsKeys, is_home_for, is_backing_for, block_of, sight, frame, is_file_key, block_held, may_begin}
+use Rattle.mm_laws.specs.{CountsKeys, is_home_for, is_backing_for, block_of, sight, frame, is_file_key, block_held, may_begin, ReachedByMoves}
 use Rattle.mm_laws.specs.Sound.{Sound}
 use Rattle.mm_laws.proofs.Tallies.{times_on, length-left}
 use Rattle.mm_laws.proofs.Sound.{some_owner, begins_block, begins_read, begins_slot, ended_few, begun_long}
@@ -18,7 +18,6 @@ use Rattle.mm_laws.proofs.Taking.{idle_is}
 use Rattle.mm_laws.proofs.PlaceCounts.{has_shares}
 use Rattle.mm_laws.proofs.Homes.{stands_once, total, requests_total}
 use Rattle.mm_laws.proofs.SlotHolders.{held_low}
-use Rattle.mm_laws.specs.Reached.{Reached}
 use Rattle.mm_laws.proofs.Kept.{at_depth, replay_sound}
 use Rattle.mm_laws.proofs.Moved.{dropped_as, unmapped_as}
 use Rattle.mm_laws.proofs.SetSizes.{in_range, share_within, places_most}
@@ -216,20 +215,20 @@ modified_frame l s f on =
 
 -- ---- what follows of states that a log reaches
 
-pub reached_sound : (l : FrameLife) → Reached l → Sound l
+pub reached_sound : (l : FrameLife) → ReachedByMoves l → Sound l
 reached_sound l r = replay_sound r.moves l r.replays
 
-pub reached_start : Reached unstarted
+pub reached_start : ReachedByMoves unstarted
 reached_start = record { moves = []; replays = refl }
 
-pub reached_along : (moves : List Move) (l m : FrameLife) → Reached l → Replays moves l m → Reached m
+pub reached_along : (moves : List Move) (l m : FrameLife) → ReachedByMoves l → Replays moves l m → ReachedByMoves m
 reached_along moves l m r more = record { moves = r.moves ++ moves; replays = replays_then r.moves moves unstarted l m r.replays more }
 
-pub reached_next : (x : Move) (l : FrameLife) → Reached l → IsLegal x l → Reached (after_move l x)
+pub reached_next : (x : Move) (l : FrameLife) → ReachedByMoves l → IsLegal x l → ReachedByMoves (after_move l x)
 reached_next x l r legal = reached_along (x ∷ []) l (after_move l x) r (legal, refl)
 
 -- the most shares of a frame, where no working set has room for more than 65,536 pages
-pub share_most : (l : FrameLife) → Reached l → ((pid : ℕ) (s : ResidentSet) → set_of l pid ≡ Some s → s.max ≤ 65536) → (f : ℕ) → (record_at l.frames f).shares ≤ 4194304
+pub share_most : (l : FrameLife) → ReachedByMoves l → ((pid : ℕ) (s : ResidentSet) → set_of l pid ≡ Some s → s.max ≤ 65536) → (f : ℕ) → (record_at l.frames f).shares ≤ 4194304
 share_most l reached small f =
     let s = reached_sound l reached in
     omega (arith, share_within l s f, places_most l s 65536 small, (in_range l reached).sets)
@@ -268,20 +267,20 @@ move_flight l (move.Add k None) h = no_more l l.flight (omega arith)
 move_flight l _ h = no_more l l.flight (omega arith)
 
 -- a state with a file key is in a line
-in_some_line : (l : FrameLife) → Reached l → (k : Key) → is_file_key l k ≡ true → 1 ≤ l.line
+in_some_line : (l : FrameLife) → ReachedByMoves l → (k : Key) → is_file_key l k ≡ true → 1 ≤ l.line
 in_some_line l reached k file = elim (in_line reached.moves l reached.replays) [
   | inl e ↦ let bad : false ≡ true = sym (ap (λ (x : FrameLife). is_file_key x k) e) ∙ file in cc
   | inr on ↦ on
 ]
 
 -- a file key stays
-pub file_key_stays : (l m : FrameLife) → Reached l → (moves : List Move) → Replays moves l m → (k : Key) → is_file_key l k ≡ true → is_file_key m k ≡ true
+pub file_key_stays : (l m : FrameLife) → ReachedByMoves l → (moves : List Move) → Replays moves l m → (k : Key) → is_file_key l k ≡ true → is_file_key m k ≡ true
 file_key_stays l m reached moves r k file = file_along moves l m k (in_some_line l reached k file) r file
 
 -- ---- blocks
 
-pub block_kept : (l m : FrameLife) → Reached l → (moves : List Move) → Replays moves l m → (k : Key) → is_file_key l k ≡ true → block_held m k ≡ block_held l k
+pub block_kept : (l m : FrameLife) → ReachedByMoves l → (moves : List Move) → Replays moves l m → (k : Key) → is_file_key l k ≡ true → block_held m k ≡ block_held l k
 block_kept l m reached moves r k file = file_block_along moves l m (reached_sound l reached) (in_some_line l reached k file) r k file
 
-pub blocks_apart : (l : FrameLife) → Reached l → Apart l
+pub blocks_apart : (l : FrameLife) → ReachedByMoves l → Apart l
 blocks_apart l reached = replay_apart reached.moves l reached.replays

@@ -8,9 +8,8 @@ use Rattle.mm_types.specs.declared.numbers.Key.TheVariants.{Private}
 use Rattle.mm_types.specs.declared.frames.Held.TheVariants as held
 use Rattle.mm_life.specs.{ResidentSet, record_at, slot_of, is_on, blank, FrameLife, set_of, same_key, is_shared, is_live, IsLegal, is_access, is_call}
 use Rattle.mm_life.specs.{fits_place, after_move, slot_at}
-use Rattle.mm_laws.specs.Reached.{Reached}
+use Rattle.mm_laws.specs.{ReachedByMoves, FramesStand, IsStandby, IsModified, Home, Behind, is_home_for, is_backing_for, block_held}
 use Rattle.mm_laws.specs.Sound.{Sound}
-use Rattle.mm_laws.specs.{Stands, IsStandby, IsModified, Home, Behind, is_home_for, is_backing_for, block_held}
 use Rattle.mm_laws.proofs.Blocks.{Apart}
 use Rattle.mm_laws.proofs.Deduced.{reached_sound, reached_next, share_most, blocks_apart, slot_there, slot_taken, some_keys, behind_one, behind_no_home, zeroed_bare, free_bare, standby_is, modified_is, place_shares, frame_there}
 use Rattle.mm_laws.proofs.Owners.{same_key-self}
@@ -18,7 +17,7 @@ use Rattle.mm_laws.proofs.FileKeys.{private_paged}
 use Rattle.mm_laws.proofs.SetSizes.{private_share}
 
 pub record Facts (l : FrameLife) : Type 0 where
-  pub standing : Stands l.frames l.flight
+  pub standing : FramesStand l.frames l.flight
   -- a frame has a key exactly where the key stands in it
   pub owned : (f : ℕ) (k : Key) → (record_at l.frames f).owner ≡ Some k → l.stands k ≡ held.Frame (record { 0 = f })
   pub owner : (k : Key) (f : Frame) → l.stands k ≡ held.Frame f → (record_at l.frames f.0).owner ≡ Some k
@@ -57,7 +56,7 @@ pub record Facts (l : FrameLife) : Type 0 where
   -- outside of plain accesses and calls at most depth requests are in flight
   pub few : is_access l.kind ≡ false → is_call l.kind ≡ false → length l.flight ≤ l.machine.depth
 
-facts_of_reached : (l : FrameLife) → Reached l → Facts l
+facts_of_reached : (l : FrameLife) → ReachedByMoves l → Facts l
 facts_of_reached l h =
     let s : Sound l = reached_sound l h in
     let a : Apart l = blocks_apart l h in
@@ -96,9 +95,9 @@ facts_of_reached l h =
 facts_prop : (l : FrameLife) → IsProp (Facts l)
 facts_prop l = hlevel props
 
-pub facts_of : (l : FrameLife) → ∥ Reached l ∥₁ → Facts l
+pub facts_of : (l : FrameLife) → ∥ ReachedByMoves l ∥₁ → Facts l
 facts_of l r = ∥∥₁_elim r (facts_prop l) (facts_of_reached l)
 
 -- one more legal move
-pub reached_by : (l m : FrameLife) (x : Move) → IsLegal x l → m ≡ after_move l x → ∥ Reached l ∥₁ → ∥ Reached m ∥₁
-reached_by l m x legal e r = ∥∥₁_map r (λ was. subst Reached (sym e) (reached_next x l was legal))
+pub reached_by : (l m : FrameLife) (x : Move) → IsLegal x l → m ≡ after_move l x → ∥ ReachedByMoves l ∥₁ → ∥ ReachedByMoves m ∥₁
+reached_by l m x legal e r = ∥∥₁_map r (λ was. subst ReachedByMoves (sym e) (reached_next x l was legal))

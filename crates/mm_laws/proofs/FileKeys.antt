@@ -4,15 +4,14 @@ use Rattle.std.specs.Prelude.{◌==◌, ◌&&◌, nat_lt, nat_le}
 use Rattle.std.proofs.lemmas.Bool.{and_parts, and_from, eqb-true, le-ltb, not-true}
 use Rattle.mm_types.specs.{Key, Backing, Held, LineKind, Move}
 use Rattle.mm_life.specs.{record_at, FrameLife, unstarted, same_key, changed, is_dead, is_live, is_shared, is_legal, IsLegal, is_legal_kind}
-use Rattle.mm_life.specs.{is_machine, after_move, after_at, homed, home_at, Replays, unlisted}
-use Rattle.mm_laws.specs.{is_first_line, is_file_key}
+use Rattle.mm_life.specs.{is_valid_machine, after_move, after_at, homed, home_at, Replays, unlisted}
+use Rattle.mm_laws.specs.{is_first_line, is_file_key, ReachedByMoves}
 use Rattle.mm_laws.proofs.Moved.{dropped_as, unmapped_as, along}
 use Rattle.mm_laws.proofs.Owners.{key_or_not, changed_here, changed_else}
 use Rattle.mm_laws.proofs.KeyMoves.{dead_is}
 use Rattle.mm_types.proofs.Booleans.{and_false}
 use Rattle.mm_life.proofs.Held.{home_lives, zero_live, stored_live}
 use Rattle.mm_laws.proofs.Parts.{three_parts, five_parts}
-use Rattle.mm_laws.specs.Reached.{Reached}
 use Rattle.mm_laws.specs.Sound.{Sound}
 use Rattle.mm_laws.proofs.Kept.{keeps, sound_unstarted}
 use Rattle.mm_types.specs.declared.frames.Held.TheVariants as held
@@ -30,7 +29,7 @@ no_block : (s t : Bool) (b : ℕ) (a : Bool) → (((true && s) && t) && nat_lt b
 no_block s t b a = ap (λ x. ((true && s) && t) && x && a) (le-ltb b 0 (omega arith)) ∙ (ap (λ x. x && a) (and_false ((true && s) && t)))
 
 pub only_machine : (x : Move) → is_legal unstarted x ≡ is_first_line x
-only_machine (move.At n (kind.Machine frames slots depth blocks)) = first (n == 1) (is_machine (record { frames = frames; slots = slots; depth = depth; blocks = blocks }))
+only_machine (move.At n (kind.Machine frames slots depth blocks)) = first (n == 1) (is_valid_machine (record { frames = frames; slots = slots; depth = depth; blocks = blocks }))
 only_machine (move.At n _) = and_false ((n == 1) && true)
 only_machine (move.Add k (Some b)) = no_block (is_shared k) true b.0 true
 only_machine (move.Write f (stored.Slot t)) = refl
@@ -54,7 +53,7 @@ line_along : (xs : List Move) (l m : FrameLife) → Replays xs l m → l.line �
 line_along xs l m r = along (λ k. l.line ≤ k.line) (λ x k low h. let up = line_rises x k h in omega (arith, low, up)) xs l m (omega arith) r
 
 first_line : (x : Move) → is_first_line x ≡ true → (after_move unstarted x).line ≡ 1
-first_line (move.At n (kind.Machine frames slots depth blocks)) e = eqb-true n 1 (and_parts (n == 1) (is_machine (record { frames = frames; slots = slots; depth = depth; blocks = blocks })) e).0
+first_line (move.At n (kind.Machine frames slots depth blocks)) e = eqb-true n 1 (and_parts (n == 1) (is_valid_machine (record { frames = frames; slots = slots; depth = depth; blocks = blocks })) e).0
 first_line _ e = cc
 
 -- a state that some move has reached is in a line
@@ -89,7 +88,7 @@ homed_lives l (Some j) b k a = still_lives l.stands j k (home_at b) a (ap not (h
 
 at_same : (l : FrameLife) (n : ℕ) (kd : LineKind) (k : Key) → 1 ≤ l.line → is_legal_kind l kd ≡ true → is_file_key (after_at l n kd) k ≡ is_file_key l k
 at_same l n (kind.Machine frames slots depth blocks) k on h =
-    let p = and_parts (l.line == 0) (is_machine (record { frames = frames; slots = slots; depth = depth; blocks = blocks })) h in
+    let p = and_parts (l.line == 0) (is_valid_machine (record { frames = frames; slots = slots; depth = depth; blocks = blocks })) h in
     let e = eqb-true l.line 0 p.0 in absurd (omega (arith, on, e))
 at_same l n _ k on h = refl
 
@@ -183,5 +182,5 @@ module _ (l : FrameLife) (s : Sound l) (paged : ArePaged l) where
   private_step (move.Write f (stored.Slot t)) h = paged
   private_step _ h = paged
 
-pub private_paged : (l : FrameLife) → Reached l → ArePaged l
+pub private_paged : (l : FrameLife) → ReachedByMoves l → ArePaged l
 private_paged l r = (along (λ m. Sound m × ArePaged m) (λ x m p h. (keeps x m p.0 h, private_step m p.0 p.1 x h)) r.moves unstarted l (sound_unstarted, λ k own live. cc) r.replays).1

@@ -6,7 +6,7 @@ use Rattle.std.proofs.lemmas.Bool.{lt-ltb, le-ltb, eqb-true, or_left}
 use Rattle.mm_types.proofs.Tables.{differ}
 use Rattle.mm_types.specs.{Record, Key, Held}
 use Rattle.mm_life.specs.{FrameTable, record_at, blank, has_request, is_active, is_in_transition, slot_of, FrameLife, same_key, is_zero, slot_at}
-use Rattle.mm_laws.specs.{one_if, times, standings, is_kept, sight, Stand, Stands, tally, sum_to, Holder, Home, Behind, slot_held, holding}
+use Rattle.mm_laws.specs.{one_if, times, standings, is_kept, sight, Stand, FramesStand, tally, sum_to, Holder, Home, Behind, slot_held, holding}
 use Rattle.mm_laws.specs.{is_home_for, is_framed, is_slotted, has_paged, has_slot, CountsHomes}
 use Rattle.mm_laws.proofs.Sights.{kept_inside}
 use Rattle.mm_laws.proofs.Sums.{sum-same, sum-plus, sum-ones, sum-times, sum-cells, sum-zeros, sum-swap, sum-inside, sum-tally, total-same, total-listed, total-plus, total-ones, total-tally}
@@ -44,7 +44,7 @@ stands_once d q f s =
 
 -- ---- all frames
 
-module _ (d : FrameTable) (q : List ℕ) (s : Stands d q) where
+module _ (d : FrameTable) (q : List ℕ) (s : FramesStand d q) where
   nothing_past : (f : ℕ) → length d.records ≤ f → standings d f ≡ 0
   nothing_past f l = stands_once d q f (s f) ∙ ap one_if (le-ltb f (length d.records) l)
 

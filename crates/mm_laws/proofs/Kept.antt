@@ -5,7 +5,7 @@ use Rattle.std.proofs.lemmas.Bool.{leb-true, le-ltb}
 use Rattle.std.proofs.lemmas.List.{length-replicate}
 use Rattle.mm_types.specs.{MachineOf, limit_of, Record, LineKind, Move}
 use Rattle.mm_life.specs.{blank, slot_of, FrameLife, life_at, free_table, set_in, unstarted, no_machine, IsLegal, after_move, after_at, Replays}
-use Rattle.mm_laws.specs.{one_if, Holder, Home, Behind, holding, residents, sight, Stands, SlotsHeld}
+use Rattle.mm_laws.specs.{one_if, Holder, Home, Behind, holding, residents, sight, FramesStand, SlotsHeld}
 use Rattle.mm_laws.specs.Sound.{Sound}
 use Rattle.mm_laws.proofs.Tallies.{times-numbers}
 use Rattle.mm_laws.proofs.Sights.{stand_blank}
@@ -22,7 +22,7 @@ use Rattle.mm_types.specs.declared.moves.Stored.TheVariants as stored
 
 -- ---- right after line 1
 
-first_stands : (n : ℕ) → Stands (free_table n) []
+first_stands : (n : ℕ) → FramesStand (free_table n) []
 first_stands n f =
     let e : one_if (nat_lt f (length (replicate n blank))) ≡ one_if (nat_lt f (0 + n)) = ap (λ (k : ℕ). one_if (nat_lt f k)) (let h = length-replicate {A = Record} n blank in omega (arith, h)) in
     let none : one_if (nat_lt f 0) ≡ 0 = ap one_if (le-ltb f 0 (omega arith)) in

@@ -7,7 +7,7 @@ use Rattle.mm_life.specs.{FrameTable, record_at, blank, is_first, is_empty, give
 use Rattle.mm_life.specs.{after_read, FrameLife, same_key, changed, IsLegal, is_zero, is_stored, is_access, is_touch, is_zeroer, after_move, homed}
 use Rattle.mm_life.specs.{home_at, backing_of, slot_at, without_slot, without, with_record, settled, to_free, has_request, is_read, is_write}
 use Rattle.mm_life.specs.{is_again, read_done, write_done, write_lost, is_io, is_call, freed}
-use Rattle.mm_laws.specs.{is_home_for, is_backing_for, is_backed, times, holding, is_kept, Fit, sight, Stands, SlotsHeld}
+use Rattle.mm_laws.specs.{is_home_for, is_backing_for, is_backed, times, holding, is_kept, Fit, sight, FramesStand, SlotsHeld}
 use Rattle.mm_laws.specs.Sound.{Sound}
 use Rattle.mm_laws.proofs.Taking.{first_zeroed, changes_clear, changes_give, first_standby, changes_steal, fresh_read, changes_read, Changes, flights_ended, changes_settled, changes_freed}
 use Rattle.mm_laws.proofs.Owners.{is_frame_of, owned_bind, owned_leave, homed_frame, homed_key, backing_is_home, backing_kept}
@@ -117,7 +117,7 @@ pub record Requested (d : FrameTable) (q : List ℕ) (f : ℕ) : Type 0 where
   pub standby : times f d.standby ≡ 0
   pub modified : times f d.modified ≡ 0
 
-pub requested : (d : FrameTable) (q : List ℕ) (f : ℕ) → Stands d q → has_request (record_at d f).request ≡ true → Requested d q f
+pub requested : (d : FrameTable) (q : List ℕ) (f : ℕ) → FramesStand d q → has_request (record_at d f).request ≡ true → Requested d q f
 requested d q f s h =
     let kept : is_kept (record_at d f) ≡ true = or_right (is_some (record_at d f).owner) (has_request (record_at d f).request) h in
     let off = busy_off (sight d q f) (s f) (and_right ((record_at d f).shares == 0) (not (has_request (record_at d f).request)) (not_from_true (has_request (record_at d f).request) h)) in

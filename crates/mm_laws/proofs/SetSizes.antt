@@ -10,15 +10,15 @@ use Rattle.mm_types.specs.declared.numbers.Key.TheVariants.{Private}
 use Rattle.mm_types.proofs.Options.{none_of}
 use Rattle.mm_types.proofs.Booleans.{not_true}
 use Rattle.mm_life.specs.{ResidentSet, record_at, has_request, FrameLife, same_place, set_in, set_of, with_resident, resident_by, unstarted, IsLegal}
-use Rattle.mm_life.specs.{is_legal_kind, is_machine, is_touch, after_move, after_at, after_unmap_at}
+use Rattle.mm_life.specs.{is_legal_kind, is_valid_machine, is_touch, after_move, after_at, after_unmap_at}
 use Rattle.mm_laws.specs.{one_if, tally, sum_to, is_frame, is_of, residents, residents_in, valid_places, maxima_in, CountsPlaces, InRange}
+use Rattle.mm_laws.specs.{ReachedByMoves}
 use Rattle.mm_laws.specs.Sound.{Sound}
 use Rattle.mm_laws.proofs.Sums.{one_most, sum-same, sum-plus, sum-zeros, sum-front, sum-inside, sum-tally, total-listed, total-ones}
 use Rattle.mm_laws.proofs.Tallies.{tally-more, length-left}
 use Rattle.mm_laws.proofs.Sights.{kept_inside}
 use Rattle.mm_laws.proofs.PlaceCounts.{has_shares, same_place-true, same_place-self}
 use Rattle.mm_laws.proofs.Moved.{dropped_as, along}
-use Rattle.mm_laws.specs.Reached.{Reached}
 use Rattle.mm_laws.proofs.Parts.{five_parts, three_parts}
 use Rattle.mm_types.specs.declared.moves.LineKind.TheVariants as kind
 use Rattle.mm_types.specs.declared.moves.Stored.TheVariants as stored
@@ -160,7 +160,7 @@ module _ (l : FrameLife) (s : Sound l) where
 
 -- ---- from line 1 on the machine's numbers are in range, and there are at most 64 working sets
 
-machine_is : (m : MachineOf) → is_machine m ≡ true → IsMachine m
+machine_is : (m : MachineOf) → is_valid_machine m ≡ true → IsMachine m
 machine_is m h =
     let p = five_parts _ _ _ _ _ h in
     let q = three_parts _ _ _ p.0 in
@@ -205,7 +205,7 @@ module _ (l : FrameLife) (r : InRange l) (n : ℕ) where
 
   range_at : (k : LineKind) → n ≡ l.line + 1 → is_legal_kind l k ≡ true → InRange (after_at l n k)
   range_at (kind.Machine frames slots depth blocks) next h = record {
-    machine = λ g. machine_is (record { frames = frames; slots = slots; depth = depth; blocks = blocks }) (and_parts (l.line == 0) (is_machine (record { frames = frames; slots = slots; depth = depth; blocks = blocks })) h).1;
+    machine = λ g. machine_is (record { frames = frames; slots = slots; depth = depth; blocks = blocks }) (and_parts (l.line == 0) (is_valid_machine (record { frames = frames; slots = slots; depth = depth; blocks = blocks })) h).1;
     begun = λ g. omega (arith, next);
     sets = omega arith;
   }
@@ -239,5 +239,5 @@ range_move x l r h = same_line l (after_move l x) refl refl refl refl r
 pub range_unstarted : InRange unstarted
 range_unstarted = record { machine = λ h. absurd (omega (arith, h)); begun = λ h. cc; sets = omega arith }
 
-pub in_range : (l : FrameLife) → Reached l → InRange l
+pub in_range : (l : FrameLife) → ReachedByMoves l → InRange l
 in_range l r = along InRange range_move r.moves unstarted l range_unstarted r.replays

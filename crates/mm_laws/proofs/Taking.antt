@@ -7,7 +7,7 @@ use Rattle.mm_types.proofs.Booleans.{one_at_most}
 use Rattle.mm_types.specs.{Key, Record, Backing}
 use Rattle.mm_life.specs.{FrameTable, blank, record_at, has_request, is_idle, is_first, rest, without, with_record, off_lists, to_free, settled}
 use Rattle.mm_life.specs.{settled_by, given, after_clear, after_give, is_empty, being_read, after_steal, after_read}
-use Rattle.mm_laws.specs.{one_if, times, Fit, sight, Stand, Stands, is_kept, is_backed}
+use Rattle.mm_laws.specs.{one_if, times, Fit, sight, Stand, FramesStand, is_kept, is_backed}
 use Rattle.mm_laws.proofs.Tallies.{times-push_same, times-push_other, times-without_same, times-without_other, times-rest_same, times-rest_other}
 use Rattle.mm_laws.proofs.Sights.{fit_given, same_sight, is_inside, on_fresh, stand_owned, stand_blank, other-record, other-off, other-free, other-settled, own-record, own-free, own-settled, fit_being_read, kept_inside, kept_not_fresh, on_standby, three_fail}
 use Rattle.mm_life.proofs.Records.{records_settled}
@@ -19,7 +19,7 @@ pub record Changes (d d' : FrameTable) (q q' : List ℕ) (f : ℕ) (r : Record) 
   pub stand : Stand (sight d' q' f)
   pub size : length d'.records ≡ length d.records
 
-pub stands_kept : (d d' : FrameTable) (q q' : List ℕ) (f : ℕ) (r : Record) → Changes d d' q q' f r → Stands d q → Stands d' q'
+pub stands_kept : (d d' : FrameTable) (q q' : List ℕ) (f : ℕ) (r : Record) → Changes d d' q q' f r → FramesStand d q → FramesStand d' q'
 stands_kept d d' q q' f r c s = λ g. elim (same_or_not g f) [
   | inl e ↦ subst (λ (k : ℕ). Stand (sight d' q' k)) (sym e) c.stand
   | inr n ↦ subst Stand (sym (c.elsewhere g n)) (s g)
@@ -96,7 +96,7 @@ changes_freed d q q' f flights low z a b = record {
 
 -- ---- zeroed and free frames
 
-module _ (d : FrameTable) (q : List ℕ) (f : ℕ) (stands : Stands d q) where
+module _ (d : FrameTable) (q : List ℕ) (f : ℕ) (stands : FramesStand d q) where
   -- a frame that is the first of free, or of zeroed
   first_fresh : 1 ≤ times f d.zeroed + times f d.free → (record_at d f ≡ blank) × (times f d.zeroed + times f d.free ≡ one_if (nat_lt f (length d.records)))
   first_fresh h = on_fresh (sight d q f) (stands f) h
@@ -155,7 +155,7 @@ idle_is r o i =
     let h = and_parts (r.shares == 0) (not (has_request r.request)) i in
     record { owned = o; kept = or_left (is_some r.owner) (has_request r.request) o; unshared = eqb-true r.shares 0 h.0; quiet = not-true (has_request r.request) h.1 }
 
-module _ (d : FrameTable) (q : List ℕ) (f : ℕ) (stands : Stands d q) where
+module _ (d : FrameTable) (q : List ℕ) (f : ℕ) (stands : FramesStand d q) where
   pub record Standby : Type 0 where
     pub idle : Idle (record_at d f)
     pub clean : (record_at d f).changed ≡ false

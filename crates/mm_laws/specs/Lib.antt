@@ -22,10 +22,11 @@ pub use Holders.{Behind, Holder, Home, holding, slot_held}
 pub use Places.{CountsPlaces, is_frame, is_of, maxima_in, residents, residents_in, valid_places}
 pub use PagingKeys.{CountsKeys, is_backing_for, is_file_key, is_home_for}
 pub use Fits.{Fit, is_backed, is_kept}
-pub use Sights.{Sight, Stand, Stands, sight}
+pub use Sights.{FramesStand, Sight, Stand, sight}
 pub use Sound.{Homed, Owned, Paged, Shown, SlotsHeld, frame, owner_at}
-pub use Reached.{is_first_line}
+pub use Reached.{ReachedByMoves, is_first_line}
 pub use Requests.{may_begin}
+pub use WorkedBursts.{three_reads, three_writes}
 pub use FileBlocks.{IsAdded, block_held, block_in, block_of}
 pub use Ranges.{InRange}
 pub use Lowest.{IsLowest}

@@ -4,17 +4,17 @@ use Rattle.std.specs.Prelude.{Bool, false, ◌&&◌, ◌==◌, List}
 use Rattle.mm_types.specs.declared.moves.LineKind.TheVariants as kind
 use Rattle.mm_types.specs.{Move}
 use Rattle.mm_types.specs.declared.moves.Move.TheVariants as move
-use Rattle.mm_life.specs.{FrameLife, unstarted, is_machine, Replays}
+use Rattle.mm_life.specs.{FrameLife, unstarted, is_valid_machine, Replays}
 
 -- a list of moves, legal one after another, leads here from before the first line
-pub record Reached (l : FrameLife) : Type 0 where
+pub record ReachedByMoves (l : FrameLife) : Type 0 where
   pub moves : List Move
   pub replays : Replays moves unstarted l
 
 -- `at 1 machine ..` with numbers in range
 abbrev pub is_first_line : Move → Bool
 is_first_line (move.At n (kind.Machine frames slots depth blocks)) = (n == 1) &&
-    is_machine (record {
+    is_valid_machine (record {
       frames = frames;
       slots = slots;
       depth = depth;

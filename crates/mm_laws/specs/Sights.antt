@@ -36,5 +36,5 @@ pub record Stand (s : Sight) : Type 0 where
   pub fit : Fit s.what
 
 -- each frame stands where its record says, and the requests in flight are those of the records
-abbrev pub Stands : FrameTable → List ℕ → Type 0
-Stands d q = (f : ℕ) → Stand (sight d q f)
+abbrev pub FramesStand : FrameTable → List ℕ → Type 0
+FramesStand d q = (f : ℕ) → Stand (sight d q f)

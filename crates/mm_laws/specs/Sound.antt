@@ -8,7 +8,7 @@ use Rattle.mm_laws.specs.Tally.{one_if, tally}
 use Rattle.mm_laws.specs.Holders.{Holder, holding}
 use Rattle.mm_laws.specs.Places.{is_frame, is_of, residents}
 use Rattle.mm_laws.specs.PagingKeys.{is_home_for, is_backing_for}
-use Rattle.mm_laws.specs.Sights.{Stands}
+use Rattle.mm_laws.specs.Sights.{FramesStand}
 
 abbrev pub frame : ℕ → Frame
 frame n = record { 0 = n }
@@ -56,7 +56,7 @@ pub record Homed (paging : Key → Bool) (d : FrameTable) (stands : Key → Held
 
 pub record Sound (l : FrameLife) : Type 0 where
   -- each frame is where its record says, and the requests in flight are those of the records
-  pub standing : Stands l.frames l.flight
+  pub standing : FramesStand l.frames l.flight
   pub owned : Owned l.frames l.stands
   pub held : SlotsHeld l.free_slots (holding l.frames l.stands)
   pub shown : Shown l.valid l.frames l.sets

@@ -2,7 +2,7 @@ ghost use Rattle.std.specs.Prelude.{◌≡◌, option_map, is_some, Some, None, 
 ghost use Rattle.mm_types.specs.declared.moves.LineKind.TheVariants as kind;
 ghost use Rattle.mm_types.specs.declared.moves.Move.TheVariants as move;
 ghost use Rattle.mm_life.specs.{replay_log, frame};
-ghost use Rattle.mm_laws.specs.WorkedBursts.{three_reads, three_writes};
+ghost use Rattle.mm_laws.specs.{three_reads, three_writes};
 
 /// One access can begin more requests than the depth: with depth 1 three reads are in flight, and
 /// no line begins until two of them have ended.

@@ -2,7 +2,7 @@ ghost use Rattle.std.specs.Prelude.{◌≡◌, Some};
 ghost use Rattle.mm_types.specs.{Frame, Place};
 ghost use Rattle.mm_types.specs.declared.moves.Move.TheVariants as move;
 ghost use Rattle.mm_life.specs.{blank, record_at, read_done, write_done, write_lost, unshared, FrameLife, IsLegal, after_move};
-ghost use Rattle.mm_laws.specs.Settling.{ended_as, Settles};
+ghost use Rattle.mm_laws.specs.{ended_as, Settles};
 ghost use Rattle.mm_laws.specs.Sound.{Sound};
 
 /// The end of a request changes the record of its frame alone. A frame whose page lives goes after

@@ -6,21 +6,15 @@ ghost use Rattle.mm_types.specs.declared.frames.Held.TheVariants as held;
 ghost use Rattle.mm_types.specs.declared.moves.Move.TheVariants as move;
 ghost use Rattle.mm_life.specs.{ResidentSet, blank, record_at, has_request, is_on, FrameLife, counts_of, is_live, key_of_place, set_of, unstarted};
 ghost use Rattle.mm_life.specs.{is_legal, IsLegal, is_access, is_call, after_move, Replays};
-ghost use Rattle.mm_laws.specs.Tally.{one_if, times};
-ghost use Rattle.mm_laws.specs.Reached.{Reached, is_first_line};
-ghost use Rattle.mm_laws.specs.Standing.{standings, counted_frames, IsStandby, IsModified};
-ghost use Rattle.mm_laws.specs.Holders.{Holder, slot_held};
-ghost use Rattle.mm_laws.specs.Places.{CountsPlaces};
-ghost use Rattle.mm_laws.specs.PagingKeys.{CountsKeys, is_file_key, is_home_for, is_backing_for};
-ghost use Rattle.mm_laws.specs.FileBlocks.{block_held, IsAdded};
-ghost use Rattle.mm_laws.specs.Requests.{may_begin};
+ghost use Rattle.mm_laws.specs.{one_if, times, is_first_line, standings, counted_frames, IsStandby, IsModified, Holder, slot_held, CountsPlaces};
+ghost use Rattle.mm_laws.specs.{CountsKeys, is_file_key, is_home_for, is_backing_for, block_held, IsAdded, may_begin, ReachedByMoves};
 ghost use Rattle.mm_laws.specs.Sound.{Sound};
 
 /// Each legal move keeps what `Sound` says, so it holds of each state that a replay reaches.
 pub fn moves_keep_what_holds()
     ensures start { Sound unstarted }
     ensures kept { (x : Move) (l : FrameLife) → Sound l → IsLegal x l → Sound (after_move l x) }
-    ensures reached { (l : FrameLife) → Reached l → Sound l }
+    ensures reached { (l : FrameLife) → ReachedByMoves l → Sound l }
 {}
 
 /// Before the first line nothing is legal but the line of a machine with numbers in range.
@@ -132,7 +126,7 @@ pub fn page_file_keys_are_within_the_limit()
         is_backing_for (l.paging k) (record_at l.frames f).backing ≡ true }
     ensures live { (l : FrameLife) → Sound l → (k : Key) → l.paging k ≡ true → is_live l k ≡ true }
     ensures some { (l : FrameLife) → Sound l → (k : Key) → l.paging k ≡ true → 1 ≤ l.paging_keys }
-    ensures file_keys_stay { (l m : FrameLife) → Reached l → (moves : List Move) →
+    ensures file_keys_stay { (l m : FrameLife) → ReachedByMoves l → (moves : List Move) →
         Replays moves l m → (k : Key) → is_file_key l k ≡ true → is_file_key m k ≡ true }
 {}
 
@@ -142,13 +136,13 @@ pub fn page_file_keys_are_within_the_limit()
 pub fn file_keys_keep_their_blocks()
     ensures has { (l : FrameLife) → Sound l → (k : Key) → is_file_key l k ≡ true →
         is_some (block_held l k) ≡ true }
-    ensures stays { (l m : FrameLife) → Reached l → (moves : List Move) → Replays moves l m →
+    ensures stays { (l m : FrameLife) → ReachedByMoves l → (moves : List Move) → Replays moves l m →
         (k : Key) → is_file_key l k ≡ true → block_held m k ≡ block_held l k }
     ensures none { (l : FrameLife) → Sound l → (k : Key) → l.paging k ≡ true →
         block_held l k ≡ None }
-    ensures one { (l : FrameLife) → Reached l → (j k : Key) (b : ℕ) → block_held l j ≡ Some b →
+    ensures one { (l : FrameLife) → ReachedByMoves l → (j k : Key) (b : ℕ) → block_held l j ≡ Some b →
         block_held l k ≡ Some b → j ≡ k }
-    ensures added { (l : FrameLife) → Reached l → (k : Key) (b : ℕ) → block_held l k ≡ Some b →
+    ensures added { (l : FrameLife) → ReachedByMoves l → (k : Key) (b : ℕ) → block_held l k ≡ Some b →
         IsAdded l b }
 {}
 

@@ -3,33 +3,29 @@ ghost use Rattle.std.specs.List.{list_any};
 ghost use Rattle.mm_types.specs.{IsMachine, Pid, Vpn, Place, Move};
 ghost use Rattle.mm_types.specs.declared.numbers.Key.TheVariants.{Private};
 ghost use Rattle.mm_life.specs.{ResidentSet, record_at, FrameLife, set_of, unstarted, IsLegal, is_lowest, is_touch, after_move, Replays};
-ghost use Rattle.mm_laws.specs.Reached.{Reached};
-ghost use Rattle.mm_laws.specs.Sums.{sum_to};
-ghost use Rattle.mm_laws.specs.Places.{CountsPlaces, valid_places, maxima_in};
-ghost use Rattle.mm_laws.specs.Homes.{CountsHomes};
-ghost use Rattle.mm_laws.specs.Lowest.{IsLowest};
+ghost use Rattle.mm_laws.specs.{ReachedByMoves, sum_to, CountsPlaces, valid_places, maxima_in, CountsHomes, IsLowest};
 ghost use Rattle.mm_laws.specs.Sound.{Sound};
 
 /// From line 1 on the machine's numbers are in range, and an access, plain or of a thread, comes
 /// after line 1. Before line 1 nothing has happened.
 pub fn machines_are_in_range()
-    ensures machine { (l : FrameLife) → Reached l → 1 ≤ l.line → IsMachine l.machine }
-    ensures begun { (l : FrameLife) → Reached l → is_touch l.kind ≡ true → 1 ≤ l.line }
-    ensures started { (l : FrameLife) → Reached l → (l ≡ unstarted) ⊎ (1 ≤ l.line) }
+    ensures machine { (l : FrameLife) → ReachedByMoves l → 1 ≤ l.line → IsMachine l.machine }
+    ensures begun { (l : FrameLife) → ReachedByMoves l → is_touch l.kind ≡ true → 1 ≤ l.line }
+    ensures started { (l : FrameLife) → ReachedByMoves l → (l ≡ unstarted) ⊎ (1 ≤ l.line) }
 {}
 
 /// What follows a state that a log reaches is reached too.
 pub fn logs_go_on()
-    ensures start { Reached unstarted }
-    ensures one { (x : Move) (l : FrameLife) → Reached l → IsLegal x l → Reached (after_move l x) }
-    ensures along { (moves : List Move) (l m : FrameLife) → Reached l → Replays moves l m →
-        Reached m }
+    ensures start { ReachedByMoves unstarted }
+    ensures one { (x : Move) (l : FrameLife) → ReachedByMoves l → IsLegal x l → ReachedByMoves (after_move l x) }
+    ensures along { (moves : List Move) (l m : FrameLife) → ReachedByMoves l → Replays moves l m →
+        ReachedByMoves m }
 {}
 
 /// Each pid from 1 up to the number of processes, at most 64, has a working set, and no other pid
 /// has one or a valid place.
 pub fn sets_are_of_processes()
-    ensures most { (l : FrameLife) → Reached l → length l.sets ≤ 64 }
+    ensures most { (l : FrameLife) → ReachedByMoves l → length l.sets ≤ 64 }
     ensures has { (l : FrameLife) (pid : ℕ) → 1 ≤ pid → pid ≤ length l.sets → (s : ResidentSet) ×
         (set_of l pid ≡ Some s) }
     ensures low { (l : FrameLife) (pid : ℕ) (s : ResidentSet) → set_of l pid ≡ Some s → 1 ≤ pid }
@@ -50,7 +46,7 @@ pub fn shares_are_within_the_sets()
     ensures share { (l : FrameLife) → Sound l → (f : ℕ) →
         (record_at l.frames f).shares ≤ valid_places l }
     ensures room { (l : FrameLife) → Sound l → valid_places l ≤ maxima_in l.sets }
-    ensures most { (l : FrameLife) → Reached l →
+    ensures most { (l : FrameLife) → ReachedByMoves l →
         ((pid : ℕ) (s : ResidentSet) → set_of l pid ≡ Some s → s.max ≤ 65536) → (f : ℕ) →
         (record_at l.frames f).shares ≤ 4194304 }
     ensures private { (l : FrameLife) → Sound l → (f : ℕ) (p : Pid) (v : Vpn) →

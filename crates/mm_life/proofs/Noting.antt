@@ -2,7 +2,7 @@
 use Rattle.std.proofs.Common.{◌≡◌, ℕ, List, [], ◌∷◌, ◌++◌, Option, Some, None, refl, sym, ap, ◌∙◌, subst, inl, inr, arith, append_assoc}
 use Rattle.std.specs.Prelude.{Bool, true, false}
 use Rattle.mm_types.proofs.{append_nil, appended_none, appended_then, rose_then, rose_later}
-use Rattle.mm_life.specs.{FrameLife, Log, Front, Told, IsFrontOf, GaveOn, Grew, Noted}
+use Rattle.mm_life.specs.{FrameLife, Log, Front, LogGrew, IsFrontOf, GaveOn, Grew, Noted}
 use Rattle.mm_life.proofs.Replays.{replays_then, spelled-append, moves-append}
 
 front_then : (a b c s t : List ℕ) (p q r : Bool) → (p ≡ true → q ≡ true) → (q ≡ true → r ≡ true) → Front a b s p q → Front b c t q r → Front a c (s ++ t) p r
@@ -26,7 +26,7 @@ front_then a b c s t p true r pq qr u v =
       none = u.none;
     }
 
-told_then : (a b c : Option (List ℕ)) (s t : List ℕ) (p q r : Bool) → (p ≡ true → q ≡ true) → (q ≡ true → r ≡ true) → Told a b s p q → Told b c t q r → Told a c (s ++ t) p r
+told_then : (a b c : Option (List ℕ)) (s t : List ℕ) (p q r : Bool) → (p ≡ true → q ≡ true) → (q ≡ true → r ≡ true) → LogGrew a b s p q → LogGrew b c t q r → LogGrew a c (s ++ t) p r
 told_then None None None s t p q r pq qr u v = tt
 told_then None None (Some c) s t p q r pq qr u v = absurd v
 told_then None (Some b) c s t p q r pq qr u v = absurd u
@@ -69,7 +69,7 @@ grew_then a b c s t u v =
       gave = gave_then a b c u.gave v.gave;
     }
 
-told_none : (a : Option (List ℕ)) (p : Bool) → Told a a [] p p
+told_none : (a : Option (List ℕ)) (p : Bool) → LogGrew a a [] p p
 told_none None p = tt
 told_none (Some a) p = record { front = []; behind = []; whole = refl; written = sym (append_nil a); all = λ h. refl; none = λ h. refl }
 

@@ -64,8 +64,8 @@ trims pid _ = false
 -- ---- parts of the conditions
 
 -- a machine's numbers are in range
-abbrev pub is_machine : MachineOf → Bool
-is_machine m =
+abbrev pub is_valid_machine : MachineOf → Bool
+is_valid_machine m =
     nat_le 6 m.frames && nat_le m.frames 262144 && nat_le m.slots 262144 && nat_le 1 m.depth &&
     nat_le m.depth 64 && nat_le m.blocks 65536
     && nat_le (2 * m.depth + 4) m.frames
@@ -73,7 +73,7 @@ is_machine m =
 -- line 1 is `machine`, and no other is
 abbrev pub is_legal_kind : FrameLife → LineKind → Bool
 is_legal_kind l (kind.Machine frames slots depth blocks) =
-    (l.line == 0) && is_machine (record {
+    (l.line == 0) && is_valid_machine (record {
       frames = frames;
       slots = slots;
       depth = depth;

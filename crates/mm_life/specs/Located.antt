@@ -39,11 +39,11 @@ BlockBytes = List (List ℕ)
 abbrev pub zero_page : List ℕ
 zero_page = replicate page_size 0
 
-abbrev pub page_at : FrameBytes → ℕ → Option (List ℕ)
-page_at ram f = slice_index_or ram f None
+abbrev pub frame_page : FrameBytes → ℕ → Option (List ℕ)
+frame_page ram f = slice_index_or ram f None
 
 abbrev pub bytes_at : FrameBytes → BlockBytes → BlockBytes → Held → Option (List ℕ)
-bytes_at ram slots blocks (held.Frame f) = page_at ram f.0
+bytes_at ram slots blocks (held.Frame f) = frame_page ram f.0
 bytes_at ram slots blocks (held.Slot s) = slice_get slots s.0
 bytes_at ram slots blocks (held.Block b) = slice_get blocks b.0
 bytes_at ram slots blocks held.Zero = Some zero_page
@@ -62,9 +62,9 @@ pub record BytesLocated (l : FrameLife) (ram : FrameBytes) (slots blocks : Block
   -- a frame with an owner that is neither changed nor being read equals its backing
   pub clean : (f : ℕ) → is_some (record_at l.frames f).owner ≡ true →
       (record_at l.frames f).changed ≡ false → is_read (record_at l.frames f).request ≡ false
-      → page_at ram f ≡ bytes_at ram slots blocks (home_at (record_at l.frames f).backing)
+      → frame_page ram f ≡ bytes_at ram slots blocks (home_at (record_at l.frames f).backing)
   -- a zeroed frame is all zero
-  pub zeroed : (f : ℕ) → is_on f l.frames.zeroed ≡ true → page_at ram f ≡ Some zero_page
+  pub zeroed : (f : ℕ) → is_on f l.frames.zeroed ≡ true → frame_page ram f ≡ Some zero_page
   -- the live keys have bytes, and no others
   pub live : (k : Key) → is_some (contents_of l ram slots blocks k) ≡ is_live l k
   -- as many frames, slots and blocks as the machine has now

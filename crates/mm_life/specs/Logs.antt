@@ -22,11 +22,11 @@ pub record Front (before after text : List ℕ) (was_failed is_failed : Bool) : 
   pub all : is_failed ≡ false → behind ≡ []
   pub none : was_failed ≡ true → front ≡ []
 
-abbrev pub Told : Option (List ℕ) → Option (List ℕ) → List ℕ → Bool → Bool → Type 0
-Told None None text was is = Unit {0}
-Told None (Some b) text was is = ⊥
-Told (Some a) None text was is = ⊥
-Told (Some a) (Some b) text was is = Front a b text was is
+abbrev pub LogGrew : Option (List ℕ) → Option (List ℕ) → List ℕ → Bool → Bool → Type 0
+LogGrew None None text was is = Unit {0}
+LogGrew None (Some b) text was is = ⊥
+LogGrew (Some a) None text was is = ⊥
+LogGrew (Some a) (Some b) text was is = Front a b text was is
 
 -- the one are the first bytes of the other, where told
 abbrev pub IsFrontOf : Option (List ℕ) → Option (List ℕ) → Type 0
@@ -45,7 +45,7 @@ pub record Grew (old new : Log) (text : List ℕ) : Type 0 where
   pub stays : old.failed ≡ true → new.failed ≡ true
   pub cause : new.failed ≡ true → (old.failed ≡ true) ⊎ Rose old.faults new.faults
   pub same : new.failed ≡ false → new.faults ≡ old.faults
-  pub told : Told old.bytes new.bytes text old.failed new.failed
+  pub told : LogGrew old.bytes new.bytes text old.failed new.failed
   pub gave : GaveOn old new
 
 -- A flush of the log changes what was given on and the count of faults alone. Answered Ok, all

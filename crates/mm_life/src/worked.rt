@@ -1,11 +1,7 @@
 ghost use Rattle.std.specs.Prelude.{◌≡◌, ℕ, List, option_map, is_some, Some, None, [], ◌∷◌, ◌++◌, true, false, length};
 ghost use Rattle.mm_types.specs.{MachineOf, LineKind};
-ghost use Rattle.mm_life.specs.Life.{counts_of, life_at, unstarted};
-ghost use Rattle.mm_life.specs.Located.{FrameBytes, BlockBytes, BytesLocated, contents_of};
-ghost use Rattle.mm_life.specs.Legal.{is_legal};
-ghost use Rattle.mm_life.specs.Replay.{replay_log};
-ghost use Rattle.mm_life.specs.LogCounts.{counts_of_log};
-ghost use Rattle.mm_life.specs.WorkedLogs.{rewritten_log, rewritten_head, rewritten_tail, smallest_set_log, frame, private};
+ghost use Rattle.mm_life.specs.{counts_of, life_at, unstarted, FrameBytes, BlockBytes, BytesLocated, contents_of, is_legal, replay_log};
+ghost use Rattle.mm_life.specs.{counts_of_log, rewritten_log, rewritten_head, rewritten_tail, smallest_set_log, frame, private};
 
 /// A page rewritten while its write is in flight: the 24 moves replay, and leave one frame active
 /// and seven free.

@@ -4,7 +4,7 @@ use Rattle.std.specs.Prelude.{slice_get}
 use Rattle.std.proofs.lemmas.List.{set-get_or, length-replicate, get_or-replicate, get_or_read}
 use Rattle.std.proofs.lemmas.Option.{slice_get_past}
 use Rattle.mm_types.proofs.{same_or_not, get_within}
-use Rattle.mm_lists.specs.{ListsOf, IsOnNone, list_at, number_at, with_list, without, Linked, Stands}
+use Rattle.mm_lists.specs.{ListsOf, IsOnNone, list_at, number_at, with_list, without, Linked, LinksStand}
 use Rattle.mm_lists.proofs.Cuts.{same, cut, few, there, last_there, without_one, without_other, drop_one}
 use Rattle.mm_lists.proofs.Linking.{linked_first, linked_push, linked_pop, linked_drop, linked_bridge}
 use Rattle.mm_lists.proofs.Standing.{Opened, one_changed, list_within, owner_is, one_place}
@@ -26,7 +26,7 @@ map-without (xs ∷ lists) (suc i) p x at once =
     ∙ ap (λ ls. xs ∷ ls) (map-without lists i p x at (λ j k e. let h = once (suc j) k e in let s : suc j ≡ suc i = h.0 in (omega arith, h.1)))
 
 module _ (next prev owner firsts lasts lens : List ℕ) (v : ListsOf) (o : Opened next prev owner firsts lasts lens v) where
-  s : Stands next prev owner firsts lasts lens v.lists
+  s : LinksStand next prev owner firsts lasts lens v.lists
   s = o.stands
 
   -- list i, by what was read of its ends and its length
@@ -222,11 +222,11 @@ module _ (next prev owner firsts lasts lens : List ℕ) (v : ListsOf) (o : Opene
           )) in
           let same_lists : set v.lists j (cut (list_at v.lists j) (suc some_before.0)) ≡ map (without x) v.lists =
           ap (λ (p : ℕ). set v.lists j (cut (list_at v.lists j) p)) (sym some_before.1) ∙ sym left in
-          let ends : Stands (set next before behind) (set prev behind before) owner firsts lasts (set lens j (len - 1)) (set v.lists j (cut (list_at v.lists j) (suc some_before.0))) =
+          let ends : LinksStand (set next before behind) (set prev behind before) owner firsts lasts (set lens j (len - 1)) (set v.lists j (cut (list_at v.lists j) (suc some_before.0))) =
           rw (set-get_or lasts j 0) at (rw (set-get_or firsts j 0) at all) in
           record {
             numbers = o.numbers ∙ sym (length-set next before behind);
-            stands = subst (λ (ls : List (List ℕ)). Stands (set next before behind) (set prev behind before) owner firsts lasts (set lens j (len - 1)) ls) same_lists ends;
+            stands = subst (λ (ls : List (List ℕ)). LinksStand (set next before behind) (set prev behind before) owner firsts lasts (set lens j (len - 1)) ls) same_lists ends;
           }
 
 none_linked : (next prev owner : List ℕ) (j first last len : ℕ) → len ≡ 0 → Linked next prev owner j first last len []

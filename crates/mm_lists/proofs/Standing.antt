@@ -1,7 +1,7 @@
 -- The links of all lists, as one list changes.
 use Rattle.std.proofs.Common.{◌≡◌, ◌≢◌, ℕ, zero, suc, ◌<◌, List, [], ◌∷◌, length, get_or, set, Some, None, sym, ap, ◌∙◌, subst, inl, inr, arith, length-set, get_or-set_same, get_or-set_other}
 use Rattle.mm_types.proofs.{same_or_not}
-use Rattle.mm_lists.specs.{ListsOf, AreApart, list_at, number_at, rows, Linked, Stands}
+use Rattle.mm_lists.specs.{ListsOf, AreApart, list_at, number_at, rows, Linked, LinksStand}
 use Rattle.mm_lists.proofs.Rows.{Reads, rows_is}
 use Rattle.mm_lists.proofs.Linking.{linked_kept}
 
@@ -9,13 +9,13 @@ reads : (next prev owner : List ℕ) (j first last len : ℕ) (xs : List ℕ) �
 reads next prev owner j first last len xs l = record { count = l.count; front = l.front; forth = l.forth }
 
 -- links stand for the lists that are read off them, and for no others
-pub read_off : (next prev owner firsts lasts lens : List ℕ) (lists : List (List ℕ)) → Stands next prev owner firsts lasts lens lists → rows next firsts lens ≡ lists
+pub read_off : (next prev owner firsts lasts lens : List ℕ) (lists : List (List ℕ)) → LinksStand next prev owner firsts lasts lens lists → rows next firsts lens ≡ lists
 read_off next prev owner firsts lasts lens lists s =
     rows_is next firsts lens lists s.fronts s.counts (λ j h. reads next prev owner j _ (get_or lasts j 0) _ _ (s.linked j h))
 
-pub closed : (next prev owner firsts lasts lens : List ℕ) (lists : List (List ℕ)) → Stands next prev owner firsts lasts lens lists → Stands next prev owner firsts lasts lens (rows next firsts lens)
+pub closed : (next prev owner firsts lasts lens : List ℕ) (lists : List (List ℕ)) → LinksStand next prev owner firsts lasts lens lists → LinksStand next prev owner firsts lasts lens (rows next firsts lens)
 closed next prev owner firsts lasts lens lists s =
-    subst (λ (ls : List (List ℕ)). Stands next prev owner firsts lasts lens ls) (sym (read_off next prev owner firsts lasts lens lists s)) s
+    subst (λ (ls : List (List ℕ)). LinksStand next prev owner firsts lasts lens ls) (sym (read_off next prev owner firsts lasts lens lists s)) s
 
 -- what the fields show, as a value
 abbrev pub shown : List ℕ → List ℕ → List ℕ → ListsOf
@@ -24,12 +24,12 @@ shown next firsts lens = record { numbers = length next; lists = rows next first
 -- the fields of a value
 pub record Opened (next prev owner firsts lasts lens : List ℕ) (v : ListsOf) : Type 0 where
   pub numbers : v.numbers ≡ length next
-  pub stands : Stands next prev owner firsts lasts lens v.lists
+  pub stands : LinksStand next prev owner firsts lasts lens v.lists
 
-pub opened : (next prev owner firsts lasts lens : List ℕ) (v : ListsOf) → shown next firsts lens ≡ v → Stands next prev owner firsts lasts lens (rows next firsts lens) → Opened next prev owner firsts lasts lens v
+pub opened : (next prev owner firsts lasts lens : List ℕ) (v : ListsOf) → shown next firsts lens ≡ v → LinksStand next prev owner firsts lasts lens (rows next firsts lens) → Opened next prev owner firsts lasts lens v
 opened next prev owner firsts lasts lens v e s = record {
   numbers = sym (ap (λ w. w.numbers) e);
-  stands = subst (λ (w : ListsOf). Stands next prev owner firsts lasts lens w.lists) e s;
+  stands = subst (λ (w : ListsOf). LinksStand next prev owner firsts lasts lens w.lists) e s;
 }
 
 pub shows : (next prev owner firsts lasts lens : List ℕ) (v : ListsOf) → Opened next prev owner firsts lasts lens v → shown next firsts lens ≡ v
@@ -44,14 +44,14 @@ list_within (xs ∷ lists) zero k x e = omega arith
 list_within (xs ∷ lists) (suc j) k x e = let h = list_within lists j k x e in omega arith
 
 module _ (next prev owner firsts lasts lens : List ℕ) where
-  pub at_list : (lists : List (List ℕ)) (j k x : ℕ) → Stands next prev owner firsts lasts lens lists → number_at lists j k ≡ Some x → Linked next prev owner j (get_or firsts j 0) (get_or lasts j 0) (get_or lens j 0) (list_at lists j)
+  pub at_list : (lists : List (List ℕ)) (j k x : ℕ) → LinksStand next prev owner firsts lasts lens lists → number_at lists j k ≡ Some x → Linked next prev owner j (get_or firsts j 0) (get_or lasts j 0) (get_or lens j 0) (list_at lists j)
   at_list lists j k x s e = s.linked j (list_within lists j k x e)
 
-  pub owner_is : (lists : List (List ℕ)) (j k x : ℕ) → Stands next prev owner firsts lasts lens lists → number_at lists j k ≡ Some x → get_or owner x 0 ≡ j
+  pub owner_is : (lists : List (List ℕ)) (j k x : ℕ) → LinksStand next prev owner firsts lasts lens lists → number_at lists j k ≡ Some x → get_or owner x 0 ≡ j
   owner_is lists j k x s e = (at_list lists j k x s e).owned k x e
 
   -- two places of one number are one place
-  pub one_place : (lists : List (List ℕ)) (i j k m x : ℕ) → Stands next prev owner firsts lasts lens lists → number_at lists i k ≡ Some x → number_at lists j m ≡ Some x → (i ≡ j) × (k ≡ m)
+  pub one_place : (lists : List (List ℕ)) (i j k m x : ℕ) → LinksStand next prev owner firsts lasts lens lists → number_at lists i k ≡ Some x → number_at lists j m ≡ Some x → (i ≡ j) × (k ≡ m)
   one_place lists i j k m x s e f =
       let lists_same : j ≡ i = sym (owner_is lists j m x s f) ∙ owner_is lists i k x s e in
       let at_i : number_at lists i m ≡ Some x = subst (λ (h : ℕ). number_at lists h m ≡ Some x) lists_same f in
@@ -64,7 +64,7 @@ module _ (next prev owner firsts lasts lens : List ℕ) where
   }
 
   -- all lists but i are as they were, with links as they were at their numbers
-  pub one_changed : (next' prev' owner' : List ℕ) (lists : List (List ℕ)) (i first last len : ℕ) (xs : List ℕ) → Stands next prev owner firsts lasts lens lists → i < length lists → length next' ≡ length next → length prev' ≡ length prev → length owner' ≡ length owner → Linked next' prev' owner' i first last len xs → ((j k x : ℕ) → j ≢ i → number_at lists j k ≡ Some x → (get_or next' x 0 ≡ get_or next x 0) × (get_or prev' x 0 ≡ get_or prev x 0) × (get_or owner' x 0 ≡ get_or owner x 0)) → Stands next' prev' owner' (set firsts i first) (set lasts i last) (set lens i len) (set lists i xs)
+  pub one_changed : (next' prev' owner' : List ℕ) (lists : List (List ℕ)) (i first last len : ℕ) (xs : List ℕ) → LinksStand next prev owner firsts lasts lens lists → i < length lists → length next' ≡ length next → length prev' ≡ length prev → length owner' ≡ length owner → Linked next' prev' owner' i first last len xs → ((j k x : ℕ) → j ≢ i → number_at lists j k ≡ Some x → (get_or next' x 0 ≡ get_or next x 0) × (get_or prev' x 0 ≡ get_or prev x 0) × (get_or owner' x 0 ≡ get_or owner x 0)) → LinksStand next' prev' owner' (set firsts i first) (set lasts i last) (set lens i len) (set lists i xs)
   one_changed next' prev' owner' lists i first last len xs s inside nexts prevs owners l keeps = record {
     small = let h = s.small in rw nexts h;
     prevs = prevs ∙ s.prevs ∙ sym nexts;

@@ -28,7 +28,7 @@ pub record Linked (next prev owner : List ℕ) (j first last len : ℕ) (xs : Li
   pub once : (k m x : ℕ) → slice_get xs k ≡ Some x → slice_get xs m ≡ Some x → k ≡ m
 
 -- the links of all the lists
-pub record Stands (next prev owner firsts lasts lens : List ℕ) (lists : List (List ℕ)) :
+pub record LinksStand (next prev owner firsts lasts lens : List ℕ) (lists : List (List ℕ)) :
     Type 0 where
   pub small : length next < 2 ^ 32
   pub prevs : length prev ≡ length next

@@ -24,7 +24,7 @@ pub struct Lists {
 impl Model for Lists {
     ghost use Rattle.std.specs.Prelude.{length};
     ghost use Rattle.mm_lists.specs.Lists.{ListsOf};
-    ghost use Rattle.mm_lists.specs.Links.{rows, Stands};
+    ghost use Rattle.mm_lists.specs.Links.{rows, LinksStand};
 
     ghost Value = { ListsOf };
 
@@ -33,7 +33,7 @@ impl Model for Lists {
       lists = rows s.next.items s.firsts.items s.lens.items;
     } };
 
-    ghost invariant = { λ s. Stands s.next.items s.prev.items s.owner.items s.firsts.items
+    ghost invariant = { λ s. LinksStand s.next.items s.prev.items s.owner.items s.firsts.items
         s.lasts.items s.lens.items (rows s.next.items s.firsts.items s.lens.items) };
 }
 

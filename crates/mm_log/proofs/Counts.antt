@@ -4,7 +4,7 @@ use Rattle.std.specs.Prelude.{count_by}
 use Rattle.std.proofs.lemmas.List.Sums.{sum_by-append}
 use Rattle.mm_types.specs.{Move}
 use Rattle.mm_life.specs.{CountsOfLog, is_give, is_read_in, is_steal, is_wrote, soft_fault, soft_faults_from, brought_in, counts_of_log}
-use Rattle.mm_log.specs.{one_if, counted, brought_after}
+use Rattle.mm_log.specs.{one_if, counts_after, brought_after}
 
 count_snoc : (p : Move → Bool) (ms : List Move) (m : Move) → count_by p (ms ++ m ∷ []) ≡ count_by p ms + one_if (p m)
 count_snoc p ms m = sum_by-append (λ x. one_if (p x)) ms (m ∷ []) ∙ ap (λ (k : ℕ). count_by p ms + k) (zero-add (one_if (p m)))
@@ -23,10 +23,10 @@ brought_snoc frames [] m = refl
 brought_snoc frames (x ∷ xs) m = brought_snoc (brought_in frames x) xs m
 
 -- the counts of one move more
-pub counts_more : (ms : List Move) (m : Move) (c : CountsOfLog) → c ≡ counts_of_log ms → counted c (brought_after [] ms) m ≡ counts_of_log (ms ++ m ∷ [])
+pub counts_more : (ms : List Move) (m : Move) (c : CountsOfLog) → c ≡ counts_of_log ms → counts_after c (brought_after [] ms) m ≡ counts_of_log (ms ++ m ∷ [])
 counts_more ms m c e =
     let moves : length ms + 1 ≡ length (ms ++ m ∷ []) = omega (arith, length-append ms (m ∷ [])) in
-    ap (λ (d : CountsOfLog). counted d (brought_after [] ms) m) e
+    ap (λ (d : CountsOfLog). counts_after d (brought_after [] ms) m) e
     ∙ (λ i. record {
       moves = moves i;
       zero_fills = sym (count_snoc is_give ms m) i;

@@ -7,9 +7,9 @@ use Rattle.mm_types.proofs.{took_then, append_nil}
 use Rattle.mm_life.specs.{move_text, spelling_of_move, spelled_moves, IsMove, FrameLife, IsLegal}
 use Rattle.mm_life.proofs.{spelled-append, moves-append}
 use Rattle.mm_replay.proofs.{NoFeed, move_onto-is, move_no_feed, move_short}
-use Rattle.mm_io.specs.{IsLine, HasLine, IsLong, Filled, Finds, Found}
+use Rattle.mm_io.specs.{FitsLine, HasLine, IsLong, Filled, Finds, Found}
 use Rattle.mm_io.specs.declared.buffers.Found.TheVariants as found
-use Rattle.mm_log.specs.{most_bytes, EndsAt, StandsInFront, Lines, Reads, Stops, Takes, LogReader, Ending}
+use Rattle.mm_log.specs.{most_bytes, EndsAt, StandsInFront, Lines, ReadsMoves, Stops, TakesNext, LogReader, Ending}
 use Rattle.mm_log.specs.Reading.{Reading}
 use Rattle.mm_log.specs.declared.endings.Ending.TheVariants as ending
 use Rattle.mm_log.proofs.Stuck.{stuck_line, stuck_long, stuck_end, spells_line, spells_long, spells_end}
@@ -58,8 +58,8 @@ lines_move left left' held len total m ms a h in_range text =
 
 -- the line in front was taken, or is none
 pub took_line : (left left' : Option Text) (r r' : LogReader) (len : ℕ) (l : FrameLife) (moves : List Move) (result : Result Move Ending)
-    → Lines left left' r.held moves r.bytes → r.lines ≡ length moves → HasLine r.held len → r.bytes ≤ most_bytes → Takes r r' len l result
-    → MatchResult result (λ m. Reads left left' r' moves l m) (λ e. Stops left left' moves l e)
+    → Lines left left' r.held moves r.bytes → r.lines ≡ length moves → HasLine r.held len → r.bytes ≤ most_bytes → TakesNext r r' len l result
+    → MatchResult result (λ m. ReadsMoves left left' r' moves l m) (λ e. Stops left left' moves l e)
 took_line left left' r r' len l moves (Ok m) lines number h few t = record {
   reading = record {
     lines = subst (λ (n : ℕ). Lines left left' r'.held (moves ++ m ∷ []) n) (sym t.bytes)
@@ -104,7 +104,7 @@ front_line m rest held s =
 
 pub took_front : (left left' : Option Text) (r r' : LogReader) (l : FrameLife) (moves : List Move) (m : Move) (rest : Text)
     → Reading left left' r moves → StandsInFront m rest r.held → r.bytes ≤ most_bytes → IsLegal m l
-    → r'.held ≡ drop (length r.held - length rest) r.held → r'.lines ≡ r.lines + 1 → r'.bytes ≡ r.bytes → Reads left left' r' moves l m
+    → r'.held ≡ drop (length r.held - length rest) r.held → r'.lines ≡ r.lines + 1 → r'.bytes ≡ r.bytes → ReadsMoves left left' r' moves l m
 took_front left left' r r' l moves m rest reading s few legal held lines bytes =
     let n : ℕ = length (move_text m) in
     let count : length r.held - length rest ≡ n + 1 = omega (arith, ap length (front_is m rest r.held s), length-append (move_text m) (10 ∷ rest)) in
@@ -135,7 +135,7 @@ finds_line f n left held e h = subst (λ (x : Found). Finds (Ok x) left held) e 
 pub finds_long : (f : Found) (left : Option Text) (held : Text) → f ≡ found.Long → Finds (Ok f) left held → IsLong held
 finds_long f left held e h = (subst (λ (x : Found). Finds (Ok x) left held) e h).0
 
-pub finds_end : (f : Found) (left : Option Text) (held : Text) → f ≡ found.End → Finds (Ok f) left held → IsLine held × IsEnd left
+pub finds_end : (f : Found) (left : Option Text) (held : Text) → f ≡ found.End → Finds (Ok f) left held → FitsLine held × IsEnd left
 finds_end f left held e h = subst (λ (x : Found). Finds (Ok x) left held) e h
 
 pub stops_long : (left left' : Option Text) (held : Text) (moves : List Move) (lines total : ℕ) (l : FrameLife) → Lines left left' held moves total → lines ≡ length moves → IsLong held → total ≤ most_bytes
@@ -145,7 +145,7 @@ stops_long left left' held moves lines total l r number h few =
 
 -- the last line: whole or not
 pub stops_last : (left left' : Option Text) (held : Text) (moves : List Move) (lines total : ℕ) (l : FrameLife) (e : Ending) → Lines left left' held moves total → lines ≡ length moves → total ≤ most_bytes
-    → IsLine held → IsEnd left' → (held ≡ [] → e ≡ ending.Yes) → (0 < length held → e ≡ ending.No (lines + 1) None) → Stops left left' moves l e
+    → FitsLine held → IsEnd left' → (held ≡ [] → e ≡ ending.Yes) → (0 < length held → e ≡ ending.No (lines + 1) None) → Stops left left' moves l e
 stops_last left left' [] moves lines total l e r number few line end whole cut =
     subst (λ (x : Ending). Stops left left' moves l x) (sym (whole refl)) (stops_here left left' [] moves total l ending.Yes r (refl, end, few))
 stops_last left left' (x ∷ xs) moves lines total l e r number few line end whole cut =

@@ -3,10 +3,10 @@ use Rattle.std.proofs.Common.{Option, [], refl, inl}
 use Rattle.mm_types.specs.{Text}
 use Rattle.mm_types.proofs.{appended_none, took_none}
 use Rattle.mm_life.specs.{unstarted}
-use Rattle.mm_log.specs.{no_counts, Ran, Asked}
+use Rattle.mm_log.specs.{no_counts, LogCheckRan, Asked}
 use Rattle.mm_log.specs.declared.endings.Ending.TheVariants as ending
 
-pub ran_refused : (a : Asked) (left took : Option Text) → Ran a left left took took 1
+pub ran_refused : (a : Asked) (left took : Option Text) → LogCheckRan a left left took took 1
 ran_refused a left took = record {
   ending = ending.NoMemory;
   life = unstarted;

@@ -3,18 +3,18 @@ use Rattle.std.proofs.Common.{◌≡◌, ℕ, ◌<◌, List, [], ◌∷◌, ◌+
 use Rattle.mm_types.specs.{Text, Move}
 use Rattle.mm_life.specs.{FrameLife, unstarted, is_on, CountsOfLog, spelled_moves, Replays}
 use Rattle.mm_life.proofs.{replays_then, spelled-append}
-use Rattle.mm_log.specs.{TallyOf, IsNew, IsReady, Reads, Stops, Lines, most_bytes, Replayed, Came, Steps, Halts, Stands, brought_after, LogReader}
-use Rattle.mm_log.specs.{Ending}
+use Rattle.mm_log.specs.{TallyOf, CountsNothing, IsReadyToRead, ReadsMoves, Stops, Lines, most_bytes, Replayed, Came, Steps, Halts, MovesWereTaken}
+use Rattle.mm_log.specs.{brought_after, LogReader, Ending}
 use Rattle.mm_log.specs.Reading.{Reading}
 use Rattle.mm_log.specs.declared.endings.Ending.TheVariants as ending
 use Rattle.mm_log.proofs.Counts.{counts_more, brought_snoc}
 
-pub stands_none : (left : Option Text) (r : LogReader) (l : FrameLife) (t : TallyOf) → Reading left left r [] → l ≡ unstarted → IsNew t → Stands left left r l t
+pub stands_none : (left : Option Text) (r : LogReader) (l : FrameLife) (t : TallyOf) → Reading left left r [] → l ≡ unstarted → CountsNothing t → MovesWereTaken left left r l t
 stands_none left r l t reading e new = record { moves = []; reading = reading; replays = e; counts = new.counts; brought = new.brought }
 
 -- the next move was taken, made and counted
 pub stands_more : (left mid left' : Option Text) (r r' : LogReader) (l : FrameLife) (t : TallyOf) (m : Move) (l' : FrameLife) (t' : TallyOf)
-    → (s : Stands left mid r l t) → Reads left left' r' s.moves l m → Steps m l t l' t' → Stands left left' r' l' t'
+    → (s : MovesWereTaken left mid r l t) → ReadsMoves left left' r' s.moves l m → Steps m l t l' t' → MovesWereTaken left left' r' l' t'
 stands_more left mid left' r r' l t m l' t' s n step =
     let ms = s.moves in
     record {
@@ -30,7 +30,7 @@ replayed left left' held ms total l lines replays =
     record { taken = lines.taken; took = lines.took; whole = lines.whole; in_range = lines.in_range; replays = replays; total_is = lines.total_is }
 
 -- there is no next move
-pub came_stop : (left mid left' : Option Text) (r : LogReader) (l : FrameLife) (t : TallyOf) (e : Ending) → (s : Stands left mid r l t) → Stops left left' s.moves l e → Came left left' e l t.counts
+pub came_stop : (left mid left' : Option Text) (r : LogReader) (l : FrameLife) (t : TallyOf) (e : Ending) → (s : MovesWereTaken left mid r l t) → Stops left left' s.moves l e → Came left left' e l t.counts
 came_stop left mid left' r l t e s stop = record {
   moves = s.moves;
   held = stop.held;
@@ -42,7 +42,7 @@ came_stop left mid left' r l t e s stop = record {
 
 -- memory was refused for the next move, or once it was made
 pub came_halt : (left mid left' : Option Text) (r r' : LogReader) (l : FrameLife) (t : TallyOf) (m : Move) (l' : FrameLife) (c : CountsOfLog)
-    → (s : Stands left mid r l t) → Reads left left' r' s.moves l m → Halts m l l' → Came left left' ending.NoMemory l' c
+    → (s : MovesWereTaken left mid r l t) → ReadsMoves left left' r' s.moves l m → Halts m l l' → Came left left' ending.NoMemory l' c
 came_halt left mid left' r r' l t m l' c s n (inl same) =
     let lines = n.reading.lines in
     let ms = s.moves in
@@ -72,10 +72,10 @@ came_halt left mid left' r r' l t m l' c s n (inr made) = record {
 }
 
 -- so many lines have more bytes than a log may have
-pub came_full : (left left' : Option Text) (r : LogReader) (l : FrameLife) (t : TallyOf) → IsReady r → most_bytes < r.lines → Came left left' ending.TooLong l t.counts
+pub came_full : (left left' : Option Text) (r : LogReader) (l : FrameLife) (t : TallyOf) → IsReadyToRead r → most_bytes < r.lines → Came left left' ending.TooLong l t.counts
 came_full left left' r l t ready many = absurd (omega (arith, ready.few, ready.lines, many))
 
-pub number_is : (left left' : Option Text) (r : LogReader) (l : FrameLife) (t : TallyOf) → Stands left left' r l t → t.counts.moves ≡ r.lines
+pub number_is : (left left' : Option Text) (r : LogReader) (l : FrameLife) (t : TallyOf) → MovesWereTaken left left' r l t → t.counts.moves ≡ r.lines
 number_is left left' r l t s = ap (λ (c : CountsOfLog). c.moves) s.counts ∙ sym s.reading.number
 
 pub ruleset stories = (stands_none, number_is)

@@ -3,8 +3,8 @@ use Rattle.std.proofs.Common.{◌≡◌, ℕ, suc, ◌≤◌, ◌<◌, false, �
 use Rattle.mm_types.specs.{Text, IsEnd, Move}
 use Rattle.mm_life.specs.{move_text, IsMove, FrameLife, is_legal}
 use Rattle.mm_replay.proofs.{NoFeed, move_onto-is, move_no_feed, move_short, one_line, no_line}
-use Rattle.mm_io.specs.{IsLine, HasLine, IsLong}
-use Rattle.mm_log.specs.{IsStuck, StuckBefore, Spells, SpellsBefore, IsSpelling}
+use Rattle.mm_io.specs.{FitsLine, HasLine, IsLong}
+use Rattle.mm_log.specs.{IsStuck, StuckBefore, SpellsMove, SpellsBefore, IsSpelling}
 
 more_than : (xs ys : Text) → length xs ≤ length (xs ++ ys)
 more_than xs ys = omega (arith, length-append xs ys)
@@ -25,7 +25,7 @@ module _ (l : FrameLife) (held : Text) where
   stuck_line (Some more) n h bad = line_with (take n held) (drop (suc n) held) more h.feed.whole h.feed.first bad
 
   -- and it is this move's, or no move's
-  spells_with : (line rest more : Text) → held ≡ line ++ 10 ∷ rest → NoFeed line → (o : Option Move) → IsSpelling o line → Spells o (held ++ more)
+  spells_with : (line rest more : Text) → held ≡ line ++ 10 ∷ rest → NoFeed line → (o : Option Move) → IsSpelling o line → SpellsMove o (held ++ more)
   spells_with line rest more whole first (Some m) s = (
     s.0,
     (
@@ -62,7 +62,7 @@ module _ (l : FrameLife) (held : Text) where
       absurd (no_line (move_text m) h.front b (h.more ++ more) h.no_feed (omega (arith, move_short m, h.many)) lines)
 
   -- the last line has no line feed
-  pub stuck_end : (left : Option Text) → 0 < length held → IsLine held → IsEnd left → StuckBefore left l held
+  pub stuck_end : (left : Option Text) → 0 < length held → FitsLine held → IsEnd left → StuckBefore left l held
   stuck_end None some h end = tt
   stuck_end (Some more) some h end = record {
     some = omega (arith, more_than held more);
@@ -72,7 +72,7 @@ module _ (l : FrameLife) (held : Text) where
         absurd (no_line (move_text m) held b more h.no_feed (omega (arith, ap length lines, length-append (move_text m) (10 ∷ b), length-append held more, none)) lines);
   }
 
-  pub spells_end : (left : Option Text) → IsLine held → IsEnd left → SpellsBefore left None held
+  pub spells_end : (left : Option Text) → FitsLine held → IsEnd left → SpellsBefore left None held
   spells_end None h end = tt
   spells_end (Some more) h end = λ m b k e.
       let lines : move_text m ++ 10 ∷ b ≡ held ++ more = sym (move_onto-is m (10 ∷ b)) ∙ sym e in

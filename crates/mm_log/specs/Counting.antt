@@ -19,8 +19,8 @@ no_counts = record {
   write_outs = 0;
 }
 
--- nothing was counted
-pub record IsNew (t : TallyOf) : Type 0 where
+-- nothing was counts_after
+pub record CountsNothing (t : TallyOf) : Type 0 where
   pub counts : t.counts ≡ no_counts
   pub brought : AreMarked t.brought []
 
@@ -28,8 +28,8 @@ abbrev pub one_if : Bool → ℕ
 one_if b = if b then 1 else 0
 
 -- the counts with a move more, where these frames were brought in before it
-abbrev pub counted : CountsOfLog → List ℕ → Move → CountsOfLog
-counted c frames m = record {
+abbrev pub counts_after : CountsOfLog → List ℕ → Move → CountsOfLog
+counts_after c frames m = record {
   moves = c.moves + 1;
   zero_fills = c.zero_fills + one_if (is_give m);
   soft_faults = c.soft_faults + soft_fault frames m;
@@ -38,9 +38,9 @@ counted c frames m = record {
   write_outs = c.write_outs + one_if (is_wrote m);
 }
 
--- a move was counted, whichever frames it is that were brought in before it
+-- a move was counts_after, whichever frames it is that were brought in before it
 pub record Counts (m : Move) (t t' : TallyOf) : Type 0 where
   pub counts : (frames : List ℕ) → AreMarked t.brought frames →
-      t'.counts ≡ counted t.counts frames m
+      t'.counts ≡ counts_after t.counts frames m
   pub brought : (frames : List ℕ) → AreMarked t.brought frames →
       AreMarked t'.brought (brought_in frames m)

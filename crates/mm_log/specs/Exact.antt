@@ -7,8 +7,8 @@ use Rattle.mm_log.specs.LogText.{yes_text}
 use Rattle.mm_log.specs.declared.endings.Asked.{Asked}
 
 -- memory was refused, or the source or the sink failed
-abbrev pub IsFault : ℕ → Type 0
-IsFault status = (status ≡ 1) ⊎ ((status ≡ 4) ⊎ (status ≡ 5))
+abbrev pub IsFaultStatus : ℕ → Type 0
+IsFaultStatus status = (status ≡ 1) ⊎ ((status ≡ 4) ⊎ (status ≡ 5))
 
 -- yes, with the counts of these moves, or where a key stands after them
 pub record SaysYes (a : Asked) (moves : List Move) (l : FrameLife) (took took' : Option Text)

@@ -9,7 +9,7 @@ use Rattle.mm_log.specs.declared.endings.Ending.TheVariants as ending
 use Rattle.mm_log.specs.declared.readers.LogReader.{LogReader}
 
 -- so few bytes are held and were taken that one more line may be read
-pub record IsReady (r : LogReader) : Type 0 where
+pub record IsReadyToRead (r : LogReader) : Type 0 where
   pub held : length r.held < 4096
   pub few : r.bytes ≤ most_bytes
   -- each line has a byte
@@ -29,7 +29,7 @@ pub record Reading (left left' : Option Text) (r : LogReader) (moves : List Move
   pub number : r.lines ≡ length moves
 
 -- the next line is a move that is legal in this state
-pub record Reads (left left' : Option Text) (r : LogReader) (moves : List Move) (l : FrameLife)
+pub record ReadsMoves (left left' : Option Text) (r : LogReader) (moves : List Move) (l : FrameLife)
     (m : Move) : Type 0 where
   pub reading : Reading left left' r (moves ++ m ∷ [])
   pub legal : IsLegal m l
@@ -67,6 +67,6 @@ pub record TakesNone (r r' : LogReader) (len : ℕ) (l : FrameLife) (e : Ending)
   pub spelled : IsSpelling (refused_of e) (take len r.held)
   pub no : e ≡ ending.No (r.lines + 1) (refused_of e)
 
-abbrev pub Takes : LogReader → LogReader → ℕ → FrameLife → Result Move Ending → Type 0
-Takes r r' len l (Ok m) = TakesMove r r' len l m
-Takes r r' len l (Err e) = TakesNone r r' len l e
+abbrev pub TakesNext : LogReader → LogReader → ℕ → FrameLife → Result Move Ending → Type 0
+TakesNext r r' len l (Ok m) = TakesMove r r' len l m
+TakesNext r r' len l (Err e) = TakesNone r r' len l e

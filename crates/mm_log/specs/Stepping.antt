@@ -24,7 +24,7 @@ brought_after frames [] = frames
 brought_after frames (m ∷ ms) = brought_after (brought_in frames m) ms
 
 -- these moves were taken, made and counted
-pub record Stands (left left' : Option Text) (r : LogReader) (l : FrameLife) (t : TallyOf) :
+pub record MovesWereTaken (left left' : Option Text) (r : LogReader) (l : FrameLife) (t : TallyOf) :
     Type 0 where
   pub moves : List Move
   pub reading : Reading left left' r moves

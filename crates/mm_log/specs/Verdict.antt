@@ -24,13 +24,13 @@ StuckBefore None l bytes = Unit {0}
 StuckBefore (Some more) l bytes = IsStuck l (bytes ++ more)
 
 -- in front stands the line of this move, or that of none
-abbrev pub Spells : Option Move → Text → Type 0
-Spells (Some m) bytes = IsMove m × ((behind : Text) × (bytes ≡ move_onto m (10 ∷ behind)))
-Spells None bytes = (m : Move) (behind : Text) → IsMove m → bytes ≡ move_onto m (10 ∷ behind) → ⊥
+abbrev pub SpellsMove : Option Move → Text → Type 0
+SpellsMove (Some m) bytes = IsMove m × ((behind : Text) × (bytes ≡ move_onto m (10 ∷ behind)))
+SpellsMove None bytes = (m : Move) (behind : Text) → IsMove m → bytes ≡ move_onto m (10 ∷ behind) → ⊥
 
 abbrev pub SpellsBefore : Option Text → Option Move → Text → Type 0
 SpellsBefore None refused bytes = Unit {0}
-SpellsBefore (Some more) refused bytes = Spells refused (bytes ++ more)
+SpellsBefore (Some more) refused bytes = SpellsMove refused (bytes ++ more)
 
 -- After the moves of whole lines, which lead to this state, stand these bytes; so many were taken
 -- in all.
@@ -76,11 +76,11 @@ Shows took took' text status result = ((result ≡ status) × Appended took took
     ((result ≡ 5) × Tore took took' text)
 
 -- Memory was refused as the words were read, and nothing was written.
-abbrev pub IsRefused : Option Text → Option Text → ℕ → Type 0
-IsRefused took took' result = (result ≡ 1) × (took' ≡ took)
+abbrev pub IsRefusedLog : Option Text → Option Text → ℕ → Type 0
+IsRefusedLog took took' result = (result ≡ 1) × (took' ≡ took)
 
 -- The whole run, over words that are a form.
-pub record Ran (asked : Asked) (left left' took took' : Option Text) (result : ℕ) : Type 0 where
+pub record LogCheckRan (asked : Asked) (left left' took took' : Option Text) (result : ℕ) : Type 0 where
   pub ending : Ending
   pub life : FrameLife
   pub counts : CountsOfLog

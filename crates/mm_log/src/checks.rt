@@ -2,10 +2,10 @@ ghost use Rattle.std.specs.Prelude.{◌≡◌, ◌+◌, ◌<◌, ◌≤◌, ◌^
 ghost use Rattle.mm_types.specs.{Rose};
 ghost use Rattle.mm_life.specs.{unstarted, IsLegal};
 ghost use Rattle.mm_replay.specs.Standing.{life};
-ghost use Rattle.mm_log.specs.Counting.{IsNew};
+ghost use Rattle.mm_log.specs.Counting.{CountsNothing};
 ghost use Rattle.mm_log.specs.Verdict.{Came};
-ghost use Rattle.mm_log.specs.Stepping.{Steps, Halts, Stands};
-ghost use Rattle.mm_log.specs.Reading.{IsReady};
+ghost use Rattle.mm_log.specs.Stepping.{Steps, Halts, MovesWereTaken};
+ghost use Rattle.mm_log.specs.Reading.{IsReadyToRead};
 
 use crate::endings::Ending;
 use crate::readers::{LogReader, MOST_LINES};
@@ -25,7 +25,7 @@ pub(crate) struct Checker {
 impl Checker {
     pub(crate) fn new(alloc: Global) -> Checker
         ensures life { life result.life ≡ unstarted }
-        ensures tally { IsNew result.tally }
+        ensures tally { CountsNothing result.tally }
     {
         Checker {
             life: Life::new(alloc),
@@ -47,15 +47,15 @@ impl Checker {
 
     /// Reads the next move, makes it and counts it.
     fn next<S: Source>(&mut self, reader: &mut LogReader, source: &mut S) -> Result<(), Ending>
-        requires ready { IsReady reader.old }
+        requires ready { IsReadyToRead reader.old }
         requires few { self.old.tally.counts.moves + 1 < 2 ^ 63 }
         ensures went { (left : Option (List ℕ)) →
-            Stands left (S.left source.old) reader.old (life self.old.life) self.old.tally
+            MovesWereTaken left (S.left source.old) reader.old (life self.old.life) self.old.tally
             → MatchResult result
-            (λ u. Stands left (S.left source.new) reader.new (life self.new.life)
+            (λ u. MovesWereTaken left (S.left source.new) reader.new (life self.new.life)
             self.new.tally)
             (λ e. Came left (S.left source.new) e (life self.new.life) self.new.tally.counts) }
-        ensures ready { OnOk result (IsReady reader.new × (reader.new.lines ≡ reader.old.lines + 1)) }
+        ensures ready { OnOk result (IsReadyToRead reader.new × (reader.new.lines ≡ reader.old.lines + 1)) }
         ensures later { S.faults source.old ≤ S.faults source.new }
         ensures blame { result ≡ Err Ending.ReadFault →
             Rose (S.faults source.old) (S.faults source.new) }
@@ -76,7 +76,7 @@ impl Checker {
 #[tactic(auto, using(crate::proofs::Stories::stories))]
 pub(crate) fn check_log<S: Source>(checker: &mut Checker, source: &mut S) -> Ending
     requires life { life checker.old.life ≡ unstarted }
-    requires tally { IsNew checker.old.tally }
+    requires tally { CountsNothing checker.old.tally }
     ensures came { Came (S.left source.old) (S.left source.new) result (life checker.new.life)
         checker.new.tally.counts }
     ensures later { S.faults source.old ≤ S.faults source.new }

@@ -1,7 +1,7 @@
 ghost use Rattle.std.specs.Prelude.{◌≡◌, ◌∷◌, ◌++◌, IfSome, codes};
 ghost use Rattle.mm_types.specs.{decimal};
 ghost use Rattle.mm_life.specs.{place_onto, key_onto, stored_onto};
-ghost use Rattle.mm_log.specs.InFront.{StandsInFront, KindInFront};
+ghost use Rattle.mm_log.specs.{StandsInFront, KindInFront};
 
 use mm_types::{Area, Block, Frame, Key, LineKind, Move, Pid, Place, Slot, Stored, Vpn};
 

@@ -4,7 +4,7 @@ ghost use Rattle.mm_types.specs.{Rose, Move};
 ghost use Rattle.mm_io.specs.{HasLine};
 ghost use Rattle.mm_replay.specs.Standing.{life as life_of};
 ghost use Rattle.mm_log.specs.Verdict.{most_bytes};
-ghost use Rattle.mm_log.specs.Reading.{IsReady, Reading, Reads, Stops, Takes};
+ghost use Rattle.mm_log.specs.Reading.{IsReadyToRead, Reading, ReadsMoves, Stops, TakesNext};
 
 use crate::endings::Ending;
 use crate::fronts::front_move;
@@ -31,7 +31,7 @@ pub struct LogReader {
 impl LogReader {
     /// Nothing was read.
     pub fn new() -> LogReader
-        ensures ready { IsReady result }
+        ensures ready { IsReadyToRead result }
         ensures lines { result.lines ≡ 0 }
         ensures none { (left : Option (List ℕ)) → Reading left left result [] }
     {
@@ -48,14 +48,14 @@ impl LogReader {
     #[inline(never)]
     #[tactic(auto, using(crate::proofs::Readings::readings))]
     pub fn next_move<S: Source>(&mut self, life: &Life, source: &mut S) -> Result<Move, Ending>
-        requires { IsReady self.old }
+        requires { IsReadyToRead self.old }
         ensures read { (left : Option (List ℕ)) (moves : List Move) →
             Reading left (S.left source.old) self.old moves
             → MatchResult result
-            (λ m. Reads left (S.left source.new) self.new moves (life_of life.now) m)
+            (λ m. ReadsMoves left (S.left source.new) self.new moves (life_of life.now) m)
             (λ e. Stops left (S.left source.new) moves (life_of life.now) e) }
         ensures legal { IfOk result (λ m. IsLegal m (life_of life.now)) }
-        ensures ready { MatchResult result (λ m. IsReady self.new ×
+        ensures ready { MatchResult result (λ m. IsReadyToRead self.new ×
             (self.new.lines ≡ self.old.lines + 1)) (λ e. Unit {0}) }
         ensures later { S.faults source.old ≤ S.faults source.new }
         ensures blame { result ≡ Err Ending.ReadFault →
@@ -82,12 +82,12 @@ impl LogReader {
     /// a move that is legal in this state. Else it takes nothing.
     #[tactic(auto, using(crate::proofs::Readings::readings))]
     fn take_front(&mut self, life: &Life, m: &mut Move) -> bool
-        requires { IsReady self.old }
+        requires { IsReadyToRead self.old }
         ensures read { result ≡ true → (left left' : Option (List ℕ)) (moves : List Move) →
             Reading left left' self.old moves
-            → Reads left left' self.new moves (life_of life.now) m.new }
+            → ReadsMoves left left' self.new moves (life_of life.now) m.new }
         ensures legal { result ≡ true → IsLegal m.new (life_of life.now) }
-        ensures ready { result ≡ true → IsReady self.new ×
+        ensures ready { result ≡ true → IsReadyToRead self.new ×
             (self.new.lines ≡ self.old.lines + 1) }
         ensures none { result ≡ false → self.new ≡ self.old }
     {
@@ -113,14 +113,14 @@ impl LogReader {
         source: &mut S,
         m: &mut Move,
     ) -> Result<(), Ending>
-        requires { IsReady self.old }
+        requires { IsReadyToRead self.old }
         ensures read { (left : Option (List ℕ)) (moves : List Move) →
             Reading left (S.left source.old) self.old moves
             → MatchResult result
-            (λ u. Reads left (S.left source.new) self.new moves (life_of life.now) m.new)
+            (λ u. ReadsMoves left (S.left source.new) self.new moves (life_of life.now) m.new)
             (λ e. Stops left (S.left source.new) moves (life_of life.now) e) }
         ensures legal { IfOk result (λ u. IsLegal m.new (life_of life.now)) }
-        ensures ready { MatchResult result (λ u. IsReady self.new ×
+        ensures ready { MatchResult result (λ u. IsReadyToRead self.new ×
             (self.new.lines ≡ self.old.lines + 1)) (λ e. Unit {0}) }
         ensures later { S.faults source.old ≤ S.faults source.new }
         ensures blame { result ≡ Err Ending.ReadFault →
@@ -140,7 +140,7 @@ impl LogReader {
         requires few { self.old.bytes ≤ most_bytes }
         requires lines { self.old.lines + length self.old.held ≤ self.old.bytes }
         requires held { length self.old.held < len + 1 + 4096 }
-        ensures { Takes self.old self.new len (life_of life.now) result }
+        ensures { TakesNext self.old self.new len (life_of life.now) result }
     {
         let Some(m) = read_move(&self.held.bytes()[..len]) else {
             return Err(Ending::No(self.lines + 1, None));

@@ -1,5 +1,5 @@
 ghost use Rattle.std.specs.Prelude.{◌≡◌, ◌+◌, ◌<◌, ◌≤◌, ◌^◌, OnOk, if◌then◌else◌};
-ghost use Rattle.mm_log.specs.Counting.{IsNew, Counts};
+ghost use Rattle.mm_log.specs.Counting.{CountsNothing, Counts};
 
 use crate::marks::Brought;
 use mm_types::{Move, NoMemory};
@@ -43,7 +43,7 @@ fn one_if(b: bool) -> u64
 impl Tally {
     /// No move was counted.
     pub(crate) fn new(alloc: Global) -> Tally
-        ensures { IsNew result }
+        ensures { CountsNothing result }
     {
         Tally {
             moves: 0,

@@ -1,7 +1,7 @@
 ghost use Rattle.std.specs.Prelude.{◌≡◌, ◌≤◌, ◌+◌, ◌∷◌, ◌++◌, [], List, ℕ, length};
 ghost use Rattle.mm_life.specs.{numbered};
 ghost use Rattle.mm_replay.specs.Standing.{life};
-ghost use Rattle.mm_log.specs.LogText.{check_text, held_text, yes_text, text_of, status_of};
+ghost use Rattle.mm_log.specs.{check_text, held_text, yes_text, text_of, status_of};
 
 use crate::checks::Checker;
 use crate::endings::{Asked, Ending};

@@ -2,10 +2,8 @@ ghost use Rattle.std.specs.Prelude.{◌≡◌, ◌≢◌, ◌⊎◌, ◌≤◌, 
 ghost use Rattle.mm_types.specs.{Rose, Appended, HasCause, Move};
 ghost use Rattle.mm_io.specs.{Wrote};
 ghost use Rattle.mm_life.specs.{FrameLife, unstarted, IsSpelled, AreMoves, spelled_moves, Replays, counts_of_log};
-ghost use Rattle.mm_log.specs.declared.endings.Asked.{Asked};
-ghost use Rattle.mm_log.specs.LogText.{Asks, IsForm, usage_text, yes_text};
-ghost use Rattle.mm_log.specs.Verdict.{most_bytes, Shows, Ran, IsRefused, IsStuck};
-ghost use Rattle.mm_log.specs.Exact.{IsFault, SaysYes, SaysNo};
+ghost use Rattle.mm_log.specs.{Asked, Asks, IsForm, usage_text, yes_text, most_bytes, Shows, LogCheckRan, IsRefusedLog, IsStuck, IsFaultStatus};
+ghost use Rattle.mm_log.specs.{SaysYes, SaysNo};
 
 use crate::checks::{Checker, check_log};
 use crate::endings::{Asked, Ending};
@@ -84,7 +82,7 @@ pub fn write_text<O: Sink>(out: &mut O, text: &[u8], status: u8) -> u8
 
 /// Checks the log and answers what is asked.
 fn answer<S: Source, O: Sink>(alloc: Global, asked: Asked, source: &mut S, out: &mut O) -> u8
-    ensures ran { Ran asked (S.left source.old) (S.left source.new) (O.taken out.old)
+    ensures ran { LogCheckRan asked (S.left source.old) (S.left source.new) (O.taken out.old)
         (O.taken out.new) result }
     ensures source_later { S.faults source.old ≤ S.faults source.new }
     ensures out_later { O.faults out.old ≤ O.faults out.new }
@@ -110,24 +108,24 @@ pub fn run_log<S: Source, O: Sink>(
     out: &mut O,
 ) -> u8
     ensures ran { (a : Asked) → Asks (map string_bytes words.now) a →
-        Ran a (S.left source.old) (S.left source.new) (O.taken out.old) (O.taken out.new) result }
+        LogCheckRan a (S.left source.old) (S.left source.new) (O.taken out.old) (O.taken out.new) result }
     ensures yes { (a : Asked) (text : List ℕ) (moves : List Move) (l : FrameLife) →
         Asks (map string_bytes words.now) a → S.left source.old ≡ Some text →
         length text ≤ most_bytes
         → IsSpelled moves text → Replays moves unstarted l →
-        SaysYes a moves l (O.taken out.old) (O.taken out.new) result ⊎ IsFault result }
+        SaysYes a moves l (O.taken out.old) (O.taken out.new) result ⊎ IsFaultStatus result }
     ensures no { (a : Asked) (text rest : List ℕ) (moves : List Move) (l : FrameLife) →
         Asks (map string_bytes words.now) a → S.left source.old ≡ Some text →
         length text ≤ most_bytes
         → AreMoves moves → text ≡ spelled_moves moves ++ rest → Replays moves unstarted l →
         IsStuck l rest → SaysNo (length moves + 1) (O.taken out.old) (O.taken out.new) result ⊎
-        IsFault result }
+        IsFaultStatus result }
 
     // Words that are no form are answered by the usage line, or memory was refused and nothing is
     // written. Nothing is read.
     ensures usage { (IsForm (map string_bytes words.now) → ⊥) →
         Shows (O.taken out.old) (O.taken out.new) usage_text 2 result
-        ⊎ IsRefused (O.taken out.old) (O.taken out.new) result }
+        ⊎ IsRefusedLog (O.taken out.old) (O.taken out.new) result }
     ensures unread { (IsForm (map string_bytes words.now) → ⊥) →
         S.left source.new ≡ S.left source.old }
     ensures form { IsForm (map string_bytes words.now) → result ≢ 2 }

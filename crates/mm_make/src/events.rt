@@ -3,8 +3,7 @@ ghost use Rattle.mm_types.specs.declared.events.Event.TheVariants as line;
 ghost use Rattle.mm_types.specs.{reserve_and_commit_type, readwrite};
 ghost use Rattle.rand_pcg.specs.Lcg.{advance};
 ghost use Rattle.rand_pcg.specs.Pcg.{multiplier_64};
-ghost use Rattle.mm_make.specs.Outputs.{outputs};
-ghost use Rattle.mm_make.specs.Generated.{address_drawn, write_drawn, read_drawn, drawn, fixed_events, script_of};
+ghost use Rattle.mm_make.specs.{outputs, address_drawn, write_drawn, read_drawn, drawn, fixed_events, script_of};
 
 use crate::words::draw;
 use mm_types::{

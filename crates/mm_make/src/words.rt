@@ -1,7 +1,7 @@
 ghost use Rattle.std.specs.Prelude.{◌≡◌, ◌%◌, ◌<◌};
 ghost use Rattle.rand_pcg.specs.Lcg.{next};
 ghost use Rattle.rand_pcg.specs.Pcg.{multiplier_64};
-ghost use Rattle.mm_make.specs.Outputs.{outputs};
+ghost use Rattle.mm_make.specs.{outputs};
 
 use rand_core::utils::NextWord;
 use rand_pcg::Lcg64Xsh32;

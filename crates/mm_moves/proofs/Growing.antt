@@ -5,7 +5,7 @@ use Rattle.std.proofs.lemmas.List.{take-append-drop}
 use Rattle.mm_types.specs.{Rose, Appended}
 use Rattle.mm_types.proofs.{appended_then}
 use Rattle.mm_io.specs.{Wrote, GivesOn}
-use Rattle.mm_life.specs.{Log, Told, Grew}
+use Rattle.mm_life.specs.{Log, LogGrew, Grew}
 use Rattle.mm_life.proofs.{gave_nothing}
 use Rattle.mm_moves.specs.{IsCut, FailsExactly, WroteOrCut}
 
@@ -13,7 +13,7 @@ no_more : (xs ys : List ℕ) → xs ≡ xs ++ ys → ys ≡ []
 no_more xs [] e = refl
 no_more xs (y ∷ ys) e = absurd (omega (arith, ap length e, length-append xs (y ∷ ys)))
 
-told_of : (a b : Option (List ℕ)) (text front rest : List ℕ) (failed : Bool) → text ≡ front ++ rest → Appended a b front → (failed ≡ false → front ≡ text) → Told a b text false failed
+told_of : (a b : Option (List ℕ)) (text front rest : List ℕ) (failed : Bool) → text ≡ front ++ rest → Appended a b front → (failed ≡ false → front ≡ text) → LogGrew a b text false failed
 told_of None None text front rest failed whole written all = tt
 told_of None (Some b) text front rest failed whole written all = written
 told_of (Some a) None text front rest failed whole written all = written
@@ -53,7 +53,7 @@ module _ (a b c d : Option (List ℕ)) (m n : ℕ) (line text : List ℕ) (same 
   grew_cut false e w rose = subst (λ (t : List ℕ). Grew (log_at a c false m) (log_at b d true n) t) same (grew_by a b c d m n line true w.wrote gives later (λ h. rose) (λ h. cc))
   grew_cut true e w rose = cc
 
-told_failed : (a : Option (List ℕ)) (text : List ℕ) → Told a a text true true
+told_failed : (a : Option (List ℕ)) (text : List ℕ) → LogGrew a a text true true
 told_failed None text = tt
 told_failed (Some a) text = record { front = []; behind = text; whole = refl; written = sym (append_none a); all = λ h. cc; none = λ h. refl }
   where
@@ -96,7 +96,7 @@ exact_failed a text e some = record {
 
 -- ---- two pieces, one after the other
 
-cut_before : (a b c : Option (List ℕ)) (s t : List ℕ) (failed : Bool) → IsCut a b s → Told b c t true failed → IsCut a c (s ++ t)
+cut_before : (a b c : Option (List ℕ)) (s t : List ℕ) (failed : Bool) → IsCut a b s → LogGrew b c t true failed → IsCut a c (s ++ t)
 cut_before None None None s t failed cut told = tt
 cut_before None None (Some c) s t failed cut told = told
 cut_before None (Some b) c s t failed cut told = absurd cut
@@ -123,7 +123,7 @@ exact_then a b c s t first second grew = record {
 }
   where
     by_first : (was : Bool) → b.failed ≡ was → c.failed ≡ true → IsCut a.bytes c.bytes (s ++ t)
-    by_first true e h = cut_before a.bytes b.bytes c.bytes s t c.failed (first.cut e) (subst (λ (w : Bool). Told b.bytes c.bytes t w c.failed) e grew.told)
+    by_first true e h = cut_before a.bytes b.bytes c.bytes s t c.failed (first.cut e) (subst (λ (w : Bool). LogGrew b.bytes c.bytes t w c.failed) e grew.told)
     by_first false e h = cut_behind a.bytes b.bytes c.bytes s t (first.whole e) (second.cut h)
 
 -- after a failure nothing is written
@@ -137,7 +137,7 @@ grew_failed a text e = record {
   gave = gave_nothing a;
 }
   where
-    told_at : (b : Bool) → b ≡ true → Told a.bytes a.bytes text b b
+    told_at : (b : Bool) → b ≡ true → LogGrew a.bytes a.bytes text b b
     told_at true e = told_failed a.bytes text
     told_at false e = cc
 

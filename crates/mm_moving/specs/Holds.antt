@@ -4,8 +4,7 @@ use Rattle.std.specs.Prelude.{◌≡◌, ◌≤◌, ◌<◌, ℕ, ◌+◌, true,
 use Rattle.mm_types.specs.{end_of_user_pages, IsMachine, Frame, Key, Place}
 use Rattle.mm_types.specs.declared.frames.Held.TheVariants as held
 use Rattle.mm_life.specs.{record_at, is_read, is_write, is_live, is_touch, fits_place, ForFrame}
-use Rattle.mm_laws.specs.Reached.{Reached}
-use Rattle.mm_laws.specs.{is_backed, block_held, IsAdded, is_home_for, is_backing_for}
+use Rattle.mm_laws.specs.{ReachedByMoves, is_backed, block_held, IsAdded, is_home_for, is_backing_for}
 use Rattle.mm_pages.specs.{stored_of, is_on_device, bytes_at}
 use Rattle.mm_parts.specs.{is_own_line, own_is, HasSet}
 use Rattle.mm_moving.specs.Shown.{StateOf, HasHome}
@@ -14,7 +13,7 @@ pub record StateHolds (s : StateOf) : Type 0 where
   -- ages are at most 7
   pub young : (p : Place) → s.ages p ≤ 7
   -- the state was reached by legal moves from before the first line
-  pub reached : ∥ Reached s.life ∥₁
+  pub reached : ∥ ReachedByMoves s.life ∥₁
   pub machine : IsMachine s.life.machine
   pub begun : 1 ≤ s.life.line
   -- the line's own request and the key beside the tables stand within their line alone

@@ -9,7 +9,7 @@ use Rattle.mm_names.specs.declared.names.Given.{Given}
 use Rattle.mm_names.specs.declared.meanings.Meaning.{Meaning}
 use Rattle.mm_names.specs.declared.meanings.Meaning.TheVariants as meaning
 use Rattle.mm_names.specs.{tidy_of, value_of, windows_value, lowered, keyword_for, said_by, said_in, given_as, given_to, let_of, sentence, phrase}
-use Rattle.mm_names.specs.{most_line, meant_by, or_else, meant, plain_of, FormedIn, may_stand, placed}
+use Rattle.mm_names.specs.{most_line, meant_by, or_else, meant, plain_of, FormedIn, may_stand, placed_line}
 
 pub formed_choice : (b : Bool) (m n : Meaning) → FormedIn m → FormedIn n → FormedIn (if b then m else n)
 formed_choice true m n g h = g
@@ -70,7 +70,7 @@ formed_meant names line =
     formed_choice (nat_le (length line) most_line) (or_else (parse line) other) meaning.Wrong
     (formed_else line (parse line) other refl (formed_by names (tidy_of (without_return line)))) tt
 
-pub formed_placed : (begun : Bool) (m : Meaning) → FormedIn m → FormedIn (placed begun m)
+pub formed_placed : (begun : Bool) (m : Meaning) → FormedIn m → FormedIn (placed_line begun m)
 formed_placed begun meaning.Nothing h = tt
 formed_placed begun (meaning.Gives g) h = tt
 formed_placed begun (meaning.Says e) h = formed_choice (may_stand begun e) (meaning.Says e) meaning.Wrong h tt

@@ -6,7 +6,7 @@ use Rattle.mm_script.specs.{LineFault, without_return, parse}
 use Rattle.mm_names.specs.declared.names.Given.{Given}
 use Rattle.mm_names.specs.declared.meanings.Meaning.{Meaning}
 use Rattle.mm_names.specs.declared.meanings.Meaning.TheVariants as meaning
-use Rattle.mm_names.specs.{tidy_of, most_line, meant_by, or_else, meant, is_machine, may_stand, placed, goes_on, events_of, lines_of, script_of}
+use Rattle.mm_names.specs.{tidy_of, most_line, meant_by, or_else, meant, is_machine, may_stand, placed_line, goes_on, events_of, lines_of, script_of}
 use Rattle.mm_names.specs.{IsScript, ArePlain}
 
 -- what may follow: no machine once a script has begun
@@ -39,7 +39,7 @@ starts_said false begun e names ls es h later is = let bad : None ≡ Some es = 
 
 pub starts_line : (m : Meaning) (begun : Bool) (names : List Given) (ls : List Text) (es : List Event)
     → ((ns : List Given) (c : Bool) (fs : List Event) → events_of ns c ls ≡ Some fs → Starts c fs)
-    → goes_on (placed begun m) names begun (λ ns c. events_of ns c ls) ≡ Some es → Starts begun es
+    → goes_on (placed_line begun m) names begun (λ ns c. events_of ns c ls) ≡ Some es → Starts begun es
 starts_line meaning.Nothing begun names ls es later is = later names begun es is
 starts_line (meaning.Gives g) begun names ls es later is = later (names ++ g ∷ []) begun es is
 starts_line (meaning.Says e) begun names ls es later is =
@@ -77,9 +77,9 @@ plain_meant names l e h short =
 
 pub plain_goes : (begun : Bool) (m : Meaning) (e : Event) (names : List Given) (ls : List Text) (es : List Event)
     → m ≡ meaning.Says e → may_stand begun e ≡ true → events_of names true ls ≡ Some es
-    → goes_on (placed begun m) names begun (λ ns c. events_of ns c ls) ≡ Some (e ∷ es)
+    → goes_on (placed_line begun m) names begun (λ ns c. events_of ns c ls) ≡ Some (e ∷ es)
 plain_goes begun m e names ls es is stand later =
-    ap (λ n. goes_on (placed begun n) names begun (λ ns c. events_of ns c ls)) is
+    ap (λ n. goes_on (placed_line begun n) names begun (λ ns c. events_of ns c ls)) is
     ∙ ap (λ b. goes_on (if b then meaning.Says e else meaning.Wrong) names begun (λ ns c. events_of ns c ls)) stand
     ∙ ap (λ o. option_map (λ fs. e ∷ fs) o) later
 

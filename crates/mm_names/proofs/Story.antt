@@ -7,8 +7,8 @@ use Rattle.mm_script.specs.{printed, IsWellFormed}
 use Rattle.mm_names.specs.declared.names.Given.{Given}
 use Rattle.mm_names.specs.declared.meanings.Meaning.{Meaning}
 use Rattle.mm_names.specs.declared.meanings.Meaning.TheVariants as meaning
-use Rattle.mm_names.specs.{meant, FormedIn, placed, goes_on, events_of, lines_from, without_mark, script_of, spelled, ScriptOf, unread, with_event}
-use Rattle.mm_names.specs.{with_meaning, with_line, with_lines, is_whole, Spells, Ends}
+use Rattle.mm_names.specs.{meant, FormedIn, placed_line, goes_on, events_of, lines_from, without_mark, script_of, spelled, ScriptOf, unread}
+use Rattle.mm_names.specs.{with_event, with_meaning, with_line, with_lines, is_whole, SpellsScript, Ends}
 use Rattle.mm_names.proofs.Formed.{formed_meant, formed_placed}
 
 -- a script was spelled behind a text of some lines
@@ -30,7 +30,7 @@ unclean_meaning meaning.Wrong s h = refl
 pub stays_unclean : (ls : List Text) (s : ScriptOf) → s.clean ≡ false → (with_lines s ls).clean ≡ false
 stays_unclean [] s h = h
 stays_unclean (l ∷ ls) s h =
-    stays_unclean ls (with_line s l) (unclean_meaning (placed s.begun (meant s.names l)) s h)
+    stays_unclean ls (with_line s l) (unclean_meaning (placed_line s.begun (meant s.names l)) s h)
 
 pub not_whole : (s : ScriptOf) → s.clean ≡ false → is_whole s ≡ false
 not_whole s h = ap (λ b. b && s.begun) h
@@ -74,7 +74,7 @@ pub ends_from : (ls : List Text) (s : ScriptOf) → s.clean ≡ true
     → EndsFrom s.text s.lines (events_of s.names s.begun ls) (with_lines s ls)
 ends_from [] s h = ends_here s.begun s h refl
 ends_from (l ∷ ls) s h =
-    ends_line (placed s.begun (meant s.names l)) s ls
+    ends_line (placed_line s.begun (meant s.names l)) s ls
     (formed_placed s.begun (meant s.names l) (formed_meant s.names l)) h (ends_from ls)
 
 pub ends_whole : (o : Option (List Event)) (t : ScriptOf) → EndsFrom [] 0 o t → Ends o t

@@ -10,13 +10,13 @@ pub use Numbers.{latest, memory_names, nothing_yet, page_names, section_names, s
 pub use Numbers.{value_of, windows_value}
 pub use Words.{keyword_for, lowered, text_among}
 pub use Meaning.{FormedIn, given_as, given_to, let_of, meant_by, most_line, or_else, phrase}
-pub use Meaning.{plain_from, plain_of, said_by, said_in, sentence}
+pub use Meaning.{plain_from, plain_of, plain_word, said_by, said_in, sentence, unquoted, with_word}
 unfoldable pub use Meaning.{meant}
 pub use Scripts.{ArePlain, IsScript, events_of, goes_on, is_machine, lines_from, lines_of}
-pub use Scripts.{may_stand, placed, spelled, without_mark}
+pub use Scripts.{may_stand, placed_line, spelled, without_mark}
 unfoldable pub use Scripts.{script_of}
-pub use Stages.{Ends, ScriptOf, Spells, is_whole, unread, with_event, with_line, with_lines}
+pub use Stages.{Ends, ScriptOf, SpellsScript, is_whole, unread, with_event, with_line, with_lines}
 pub use Stages.{with_meaning}
-pub use Runs.{Came, IsManyBytes, IsManyLines, IsRefused, IsTorn, IsWritten, WasRead, most_bytes}
-pub use Runs.{most_lines, status_of}
+pub use Runs.{CameTo, IsManyBytes, IsManyLines, IsRefusedFile, IsTorn, IsWritten, WasRead}
+pub use Runs.{most_bytes, most_lines, names_status}
 pub use declared.endings.Ending.{Ending}

@@ -34,7 +34,7 @@ pub record IsWritten (left left' took took' : Option Text) : Type 0 where
 
 -- A line of the file means nothing that may stand there, or none means an event; nothing was
 -- written.
-pub record IsRefused (left left' took took' : Option Text) : Type 0 where
+pub record IsRefusedFile (left left' took took' : Option Text) : Type 0 where
   pub text : Text
   pub was_read : WasRead left left' text
   pub none : script_of text ≡ None
@@ -59,21 +59,21 @@ abbrev pub IsTorn : Option Text → Option Text → Type 0
 IsTorn took took' = (front : Text) × Appended took took' front
 
 -- what each ending says
-abbrev pub Came : Ending → (left left' took took' : Option Text) → Type 0
-Came ending.Written left left' took took' = IsWritten left left' took took'
-Came ending.Refused left left' took took' = IsRefused left left' took took'
-Came ending.TooLong left left' took took' =
+abbrev pub CameTo : Ending → (left left' took took' : Option Text) → Type 0
+CameTo ending.Written left left' took took' = IsWritten left left' took took'
+CameTo ending.Refused left left' took took' = IsRefusedFile left left' took took'
+CameTo ending.TooLong left left' took took' =
     (IsManyBytes left left' ⊎ IsManyLines left left') × (took' ≡ took)
-Came ending.NoMemory left left' took took' = took' ≡ took
-Came ending.ReadFault left left' took took' = took' ≡ took
-Came ending.OutFault left left' took took' = IsTorn took took'
-Came ending.Usage left left' took took' = (left' ≡ left) × (took' ≡ took)
+CameTo ending.NoMemory left left' took took' = took' ≡ took
+CameTo ending.ReadFault left left' took took' = took' ≡ took
+CameTo ending.OutFault left left' took took' = IsTorn took took'
+CameTo ending.Usage left left' took took' = (left' ≡ left) × (took' ≡ took)
 
-abbrev pub status_of : Ending → ℕ
-status_of ending.Written = 0
-status_of ending.NoMemory = 1
-status_of ending.Usage = 2
-status_of ending.Refused = 3
-status_of ending.ReadFault = 4
-status_of ending.OutFault = 5
-status_of ending.TooLong = 8
+abbrev pub names_status : Ending → ℕ
+names_status ending.Written = 0
+names_status ending.NoMemory = 1
+names_status ending.Usage = 2
+names_status ending.Refused = 3
+names_status ending.ReadFault = 4
+names_status ending.OutFault = 5
+names_status ending.TooLong = 8

@@ -39,9 +39,9 @@ abbrev pub may_stand : Bool → Event → Bool
 may_stand false e = is_machine e
 may_stand true e = not (is_machine e)
 
-abbrev pub placed : Bool → Meaning → Meaning
-placed begun (meaning.Says e) = if may_stand begun e then meaning.Says e else meaning.Wrong
-placed begun m = m
+abbrev pub placed_line : Bool → Meaning → Meaning
+placed_line begun (meaning.Says e) = if may_stand begun e then meaning.Says e else meaning.Wrong
+placed_line begun m = m
 
 abbrev pub goes_on : Meaning → List Given → Bool
     → (List Given → Bool → Option (List Event)) → Option (List Event)
@@ -55,7 +55,7 @@ goes_on meaning.Wrong names begun later = None
 abbrev pub events_of : List Given → Bool → List Text → Option (List Event)
 events_of names begun [] = if begun then Some [] else None
 events_of names begun (l ∷ ls) =
-    goes_on (placed begun (meant names l)) names begun (λ ns b. events_of ns b ls)
+    goes_on (placed_line begun (meant names l)) names begun (λ ns b. events_of ns b ls)
 
 -- the script that a written file means
 unfoldable pub script_of : Text → Option (List Event)

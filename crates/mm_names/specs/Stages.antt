@@ -7,7 +7,7 @@ use Rattle.mm_names.specs.declared.names.Given.{Given}
 use Rattle.mm_names.specs.declared.meanings.Meaning.{Meaning}
 use Rattle.mm_names.specs.declared.meanings.Meaning.TheVariants as meaning
 use Rattle.mm_names.specs.Meaning.{meant}
-use Rattle.mm_names.specs.Scripts.{placed, spelled}
+use Rattle.mm_names.specs.Scripts.{placed_line, spelled}
 
 -- what was read so far: the names, whether an event came, whether every line means something, the
 -- script's text and how many lines it has
@@ -32,7 +32,7 @@ with_meaning s (meaning.Says e) = with_event s e
 with_meaning s meaning.Wrong = record s { clean = false }
 
 abbrev pub with_line : ScriptOf → Text → ScriptOf
-with_line s line = with_meaning s (placed s.begun (meant s.names line))
+with_line s line = with_meaning s (placed_line s.begun (meant s.names line))
 
 abbrev pub with_lines : ScriptOf → List Text → ScriptOf
 with_lines s [] = s
@@ -43,11 +43,11 @@ abbrev pub is_whole : ScriptOf → Bool
 is_whole s = s.clean && s.begun
 
 -- These events are the script's, and each of its lines is in the grammar.
-pub record Spells (s : ScriptOf) (events : List Event) : Type 0 where
+pub record SpellsScript (s : ScriptOf) (events : List Event) : Type 0 where
   pub text : s.text ≡ spelled events
   pub lines : s.lines ≡ length events
   pub formed : AllByRecursion IsWellFormed events
 
 abbrev pub Ends : Option (List Event) → ScriptOf → Type 0
 Ends None s = is_whole s ≡ false
-Ends (Some events) s = (is_whole s ≡ true) × Spells s events
+Ends (Some events) s = (is_whole s ≡ true) × SpellsScript s events

@@ -1,6 +1,6 @@
 ghost use Rattle.std.specs.Prelude.{◌≡◌, ◌<◌, ◌+◌, ◌^◌, ◌++◌, ◌∷◌, length, IfOk, OnOk, Option, None, Some, option_map, if◌then◌else◌};
 ghost use Rattle.mm_text.specs.{hex_short, WordsOf, words_of};
-ghost use Rattle.mm_names.specs.Meaning.{unquoted, plain_word, plain_from, plain_of, with_word};
+ghost use Rattle.mm_names.specs.{unquoted, plain_word, plain_from, plain_of, with_word};
 
 use crate::names::Given;
 use crate::numbers::value_of;

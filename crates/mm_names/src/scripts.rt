@@ -1,6 +1,6 @@
 ghost use Rattle.std.specs.Prelude.{◌≡◌, ◌∷◌, [], List, Some, length, IfOk, OnOk};
 ghost use Rattle.mm_types.specs.{Event, Text};
-ghost use Rattle.mm_names.specs.Scripts.{is_machine, may_stand, placed, lines_from, lines_of, without_mark, script_of, IsScript, ArePlain};
+ghost use Rattle.mm_names.specs.Scripts.{is_machine, may_stand, placed_line, lines_from, lines_of, without_mark, script_of, IsScript, ArePlain};
 ghost use Rattle.mm_names.specs.Stages.{unread, with_event, with_meaning, with_line, with_lines, is_whole, Ends};
 
 use crate::meanings::{Meaning, meant};
@@ -122,7 +122,7 @@ impl Script {
     /// An event, where it may stand here.
     fn say(&mut self, event: &Event) -> Result<(), NoMemory>
         ensures { OnOk result (self.new
-            ≡ with_meaning self.old (placed self.old.begun (Meaning.Says event.now))) }
+            ≡ with_meaning self.old (placed_line self.old.begun (Meaning.Says event.now))) }
     {
         if may_stand(self.begun, event) {
             return self.put(event);
@@ -134,7 +134,7 @@ impl Script {
     /// A line of this meaning.
     fn take(&mut self, meaning: &Meaning) -> Result<(), NoMemory>
         ensures { OnOk result (self.new
-            ≡ with_meaning self.old (placed self.old.begun meaning.now)) }
+            ≡ with_meaning self.old (placed_line self.old.begun meaning.now)) }
     {
         match meaning {
             Meaning::Nothing => Ok(()),

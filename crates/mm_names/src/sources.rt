@@ -1,6 +1,6 @@
 ghost use Rattle.std.specs.Prelude.{◌≤◌, Option, length, IfOk, IfErr, IsErrOf};
 ghost use Rattle.mm_types.specs.{Rose, Text};
-ghost use Rattle.mm_names.specs.Runs.{WasRead, Came, most_bytes};
+ghost use Rattle.mm_names.specs.{WasRead, CameTo, most_bytes};
 
 use crate::endings::Ending;
 use mm_io::Source;
@@ -17,7 +17,7 @@ pub fn read_all<S: Source>(alloc: Global, source: &mut S) -> Result<Vec<u8>, End
         WasRead (S.left source.old) (S.left source.new) text.items) }
     ensures few { IfOk result (λ text. length text.items ≤ most_bytes) }
     ensures err { IfErr result (λ e. (took : Option Text)
-        → Came e (S.left source.old) (S.left source.new) took took) }
+        → CameTo e (S.left source.old) (S.left source.new) took took) }
     ensures later { S.faults source.old ≤ S.faults source.new }
     ensures blame { IsErrOf result Ending.ReadFault
         → Rose (S.faults source.old) (S.faults source.new) }

@@ -7,7 +7,7 @@ use Rattle.mm_pages.proofs.{accesses_then, walked_then}
 use Rattle.mm_life.specs.{Walk, Through, walked, walked_all, is_read_move, takes_frame, is_wrote_move}
 use Rattle.mm_moving.specs.{StateOf, Made, DoesMoves, walk_of}
 use Rattle.mm_moving.proofs.{does_nothing, does_one, does_then, count-append, walked_here}
-use Rattle.mm_paged.specs.{Anywhere, Piece, Went, Sought, Takes, IsFresh, walk_at, behind_of}
+use Rattle.mm_paged.specs.{Anywhere, Piece, Went, Sought, TakesFrame, IsFresh, walk_at, behind_of}
 
 -- ---- pieces
 
@@ -44,11 +44,11 @@ pub went_then : (a : Aim) (E : Walk → Type 0) (m n : ℕ) (s t z : StateOf) �
 went_then a E m n s t z p q = piece_then a IsFresh E m 0 0 n 0 0 s t z p (subst (λ (u : List ℕ). Piece a E n 0 0 u t z) (sym p.ends) q)
 
 -- a frame is found, and taken
-pub sought_then : (a : Aim) (E : Walk → Type 0) (n : ℕ) (s t z : StateOf) → Sought a s t → Takes a E n t z → Piece a E n 0 0 [] s z
+pub sought_then : (a : Aim) (E : Walk → Type 0) (n : ℕ) (s t z : StateOf) → Sought a s t → TakesFrame a E n t z → Piece a E n 0 0 [] s z
 sought_then a E n s t z p q = piece_as a E (0 + n) n 1 1 0 0 [] s z (omega arith) (omega arith) (piece_then a Anywhere E 0 0 1 n 1 0 s t z p (q (walked_all (walk_of s) p.moves).tried))
 
 -- a frame is taken that was there
-pub took_at_once : (a : Aim) (E : Walk → Type 0) (n : ℕ) (s z : StateOf) → Takes a E n s z → Piece a E n 0 0 [] s z
+pub took_at_once : (a : Aim) (E : Walk → Type 0) (n : ℕ) (s z : StateOf) → TakesFrame a E n s z → Piece a E n 0 0 [] s z
 took_at_once a E n s z q = piece_as a E n n 1 0 0 0 [] s z (omega arith) (omega arith) (q [])
 
 pub went_nothing : (a : Aim) (reads : ℕ) (s : StateOf) → Went a reads s s
@@ -60,7 +60,7 @@ went_one a x s z m h e r w = piece_of a IsFresh 0 0 0 [] (x ∷ []) s z (does_on
 
 -- a move in front, of which a search learns nothing
 unfoldable pub move_front : (a : Aim) (E : Walk → Type 0) (x : Move) (n : ℕ) (s y z : StateOf) → Made x s y → ((t : List ℕ) → (walked (walk_at t s) x).tried ≡ t) → count_by is_read_move (x ∷ []) ≡ 0 → count_by is_wrote_move (x ∷ []) ≡ 0
-    → (q : Takes a E n y z) → ((t : List ℕ) → AccessMove a (walk_at t s) x (q t).moves) → Takes a E n s z
+    → (q : TakesFrame a E n y z) → ((t : List ℕ) → AccessMove a (walk_at t s) x (q t).moves) → TakesFrame a E n s z
 move_front a E x n s y z m e r w q h = λ t.
     let p = q t in
     let reads = p.few_reads in

@@ -12,7 +12,7 @@ use Rattle.mm_parts.specs.{front_for_read, own_after, own_ended}
 use Rattle.mm_moving.specs.{StateOf, Made, Searched, moved, moved_with_call, names_after_give, StateHolds}
 use Rattle.mm_moving.proofs.{does_one}
 use Rattle.mm_paged.specs.{TookFrame, HasTried, IsFresh, IsFor, AccessBegins, ReadsFor, InQuietFrame, GivesFrame, FindsNone, Frees, Brings}
-use Rattle.mm_paged.specs.{FailsToBring, Faulted, Puts, Went}
+use Rattle.mm_paged.specs.{FailsToBring, Faulted, PutsAtPlace, Went}
 use Rattle.mm_paged.proofs.Doing.{piece_of, piece_as, sought_then, went_nothing, went_then}
 use Rattle.mm_paged.proofs.Keeping.{keeps_then, keeps_called, moved_on}
 use Rattle.mm_paged.proofs.Sought.{sought_by, stuck_by, search_fails, search_keeps}
@@ -148,7 +148,7 @@ module _ (k : Key) (f : Frame) (s t y m z : StateOf) (st : is_stored (s.life.sta
 
 -- ---- it becomes valid
 
-pub faulted : (k : Key) (f : Frame) (place : Place) (s y z : StateOf) → fits_place place k ≡ true → Brings k f s y → ((a : Aim) → a.place ≡ place → Went a 0 y z) → Puts k f place y z → Faulted k f place s z
+pub faulted : (k : Key) (f : Frame) (place : Place) (s y z : StateOf) → fits_place place k ≡ true → Brings k f s y → ((a : Aim) → a.place ≡ place → Went a 0 y z) → PutsAtPlace k f place y z → Faulted k f place s z
 faulted k f place s y z fits b w p = record {
   went = λ a e h. went_then a IsFresh 1 0 s y z (b.went a h) (w a e);
   calm = record { read = ap (λ (t : Told). t.last_failed_read) p.told ∙ b.calm.read; begun = λ h. ap (λ (t : Told). t.search_writes) p.told ∙ b.calm.begun h };

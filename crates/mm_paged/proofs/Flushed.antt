@@ -25,7 +25,7 @@ use Rattle.mm_moving.specs.{StateOf, CalledFor, Made, WrotePage, backing_of_fram
 use Rattle.mm_moving.proofs.{does_one, does_two, does_then, does_nothing}
 use Rattle.mm_frame_laws.specs.{blocks_written, slots_written}
 use Rattle.mm_paged.specs.{HoldsFilePage, WritesTo, WritesBack, EndedIf, WrittenIf, is_changed_then, EndsFlight, WritesChanged, FlushesFrame}
-use Rattle.mm_paged.specs.{FlushesPage, LifeKept, OwnOf, StoreKept, store_of, report_of, behind_of}
+use Rattle.mm_paged.specs.{FlushedOnePage, LifeKept, OwnOf, StoreKept, store_of, report_of, behind_of}
 use Rattle.mm_paged.proofs.Quiet.{kept_untouched}
 use Rattle.mm_paged.proofs.Completed.{called_by_write}
 use Rattle.mm_paged.proofs.Keeping.{kept_same, kept_then, blocks_kept, called_on, called_store, kept_made, with_told}
@@ -378,7 +378,7 @@ frame_flushed b f ok s y z p q =
 
 -- ---- a page is flushed
 
-pub page_framed : (k : Key) (b : Block) (f : Frame) (ok : Bool) (s z : StateOf) → s.life.stands k ≡ held.Frame f → FlushesFrame b f ok s z → FlushesPage k b ok s z
+pub page_framed : (k : Key) (b : Block) (f : Frame) (ok : Bool) (s z : StateOf) → s.life.stands k ≡ held.Frame f → FlushesFrame b f ok s z → FlushedOnePage k b ok s z
 page_framed k b f ok s z e p = record {
   moves = p.moves;
   writes = p.writes;
@@ -392,14 +392,14 @@ home_is : (l : FrameLife) (h : Held) (b : Block) → is_framed h ≡ false → b
 home_is l (held.Block c) b n e = let same : c.0 ≡ b.0 = cc in ap (λ (x : ℕ). held.Block (record { 0 = x })) same
 home_is l h b n e = cc
 
-pub page_home : (k : Key) (b : Block) (s : StateOf) → is_framed (s.life.stands k) ≡ false → block_at (backed_by s.life (s.life.stands k)) ≡ Some b.0 → FlushesPage k b true s s
+pub page_home : (k : Key) (b : Block) (s : StateOf) → is_framed (s.life.stands k) ≡ false → block_at (backed_by s.life (s.life.stands k)) ≡ Some b.0 → FlushedOnePage k b true s s
 page_home k b s n e =
     let h = home_is s.life (s.life.stands k) b n e in
     record { moves = []; writes = writes_none b s; page = subst (λ (x : Held). FlushedAt s.life x []) (sym h) refl; ends = refl; clean = λ q. ap (stored_of s.life) h }
 
 -- ---- what the store shows then
 
-pub flushed_store : (k : Key) (b : Block) (ok : Bool) (s z : StateOf) (o : OwnOf) → StateHolds s → StateHolds z → FlushesPage k b ok s z → store_of z o ≡ wrote (store_of s o) (store_of z o)
+pub flushed_store : (k : Key) (b : Block) (ok : Bool) (s z : StateOf) (o : OwnOf) → StateHolds s → StateHolds z → FlushedOnePage k b ok s z → store_of z o ≡ wrote (store_of s o) (store_of z o)
 flushed_store k b ok s z o h g p =
     called_store p.moves s z o o p.writes.does.replays p.writes.life (called_on s z p.writes.same) h g refl refl
     ∙ (λ i. record (fetched (store_of s o) (store_of z o)) {
@@ -417,7 +417,7 @@ on_err_if (Ok v) f = tt
 on_err_if (Err e) f = f refl
 
 -- its block holds its bytes
-pub flushed_bytes : (k : Key) (b : Block) (ok : Bool) (s z : StateOf) → StateHolds z → FlushesPage k b ok s z → ok ≡ true → slice_get z.blocks b.0 ≡ s.contents k
+pub flushed_bytes : (k : Key) (b : Block) (ok : Bool) (s z : StateOf) → StateHolds z → FlushedOnePage k b ok s z → ok ≡ true → slice_get z.blocks b.0 ≡ s.contents k
 flushed_bytes k b ok s z g p e =
     let at = p.clean e in
     sym (ap (bytes_at z.slots z.blocks) at) ∙ sym (g.stored k (ap is_on_device at)) ∙ ap (λ (x : StateOf). x.contents k) p.writes.same
@@ -446,10 +446,10 @@ flushed_in_line : (l : FrameLife) (h : Held) (ms : List Move) → FlushedAt l h 
 flushed_in_line l (held.Frame f) ms p = flush_in_line (record_at l.frames f.0).request (record_at l.frames f.0).changed f ms p
 flushed_in_line l h ms p = subst InLine (sym p) tt
 
-pub flushed_served : (k : Key) (b : Block) (ok : Bool) (s z : StateOf) (o : OwnOf) → FlushesPage k b ok s z → Served (store_of s o) (store_of z o)
+pub flushed_served : (k : Key) (b : Block) (ok : Bool) (s z : StateOf) (o : OwnOf) → FlushedOnePage k b ok s z → Served (store_of s o) (store_of z o)
 flushed_served k b ok s z o p = served_by p.moves s z o o (flushed_in_line s.life (s.life.stands k) p.moves p.page) p.writes.does
 
-pub flushed_passes : (k : Key) (b : Block) (ok : Bool) (s z : StateOf) (o : OwnOf) → FlushesPage k b ok s z → Passes (Flushes k ok) (store_of s o) (store_of z o) (behind_of s) (behind_of z)
+pub flushed_passes : (k : Key) (b : Block) (ok : Bool) (s z : StateOf) (o : OwnOf) → FlushedOnePage k b ok s z → Passes (Flushes k ok) (store_of s o) (store_of z o) (behind_of s) (behind_of z)
 flushed_passes k b ok s z o p = passes_of (Flushes k ok) p.moves s z o o p.writes.does (record {
   page = p.page;
   ends = p.ends;
@@ -457,7 +457,7 @@ flushed_passes k b ok s z o p = passes_of (Flushes k ok) p.moves s z o o p.write
   slots = p.writes.device.slots;
 })
 
-pub flushed_kept : (k : Key) (b : Block) (ok : Bool) (s z : StateOf) (o : OwnOf) → StoreKept s o → s.life.kind ≡ kind.Call → FlushesPage k b ok s z → StoreKept z o
+pub flushed_kept : (k : Key) (b : Block) (ok : Bool) (s z : StateOf) (o : OwnOf) → StoreKept s o → s.life.kind ≡ kind.Call → FlushedOnePage k b ok s z → StoreKept z o
 flushed_kept k b ok s z o h c p = kept_untouched s z o h (ap is_touch c) p.writes.life p.writes.same
 
 -- not in a frame
@@ -469,9 +469,9 @@ not_framed h n = refl
 pub record Flushing (k : Key) (ok : Bool) (s z : StateOf) : Type 0 where
   pub block : Block
   pub is : block_at (backed_by s.life (s.life.stands k)) ≡ Some block.0
-  pub page : FlushesPage k block ok s z
+  pub page : FlushedOnePage k block ok s z
 
-pub flushing_of : (k : Key) (ok : Bool) (s z : StateOf) → IsSome (block_at (backed_by s.life (s.life.stands k))) → ((b : Block) → block_at (backed_by s.life (s.life.stands k)) ≡ Some b.0 → FlushesPage k b ok s z) → Flushing k ok s z
+pub flushing_of : (k : Key) (ok : Bool) (s z : StateOf) → IsSome (block_at (backed_by s.life (s.life.stands k))) → ((b : Block) → block_at (backed_by s.life (s.life.stands k)) ≡ Some b.0 → FlushedOnePage k b ok s z) → Flushing k ok s z
 flushing_of k ok s z h f = let n = some_found (block_at (backed_by s.life (s.life.stands k))) (some_is (block_at (backed_by s.life (s.life.stands k))) h) in record { block = record { 0 = n.0 }; is = n.1; page = f (record { 0 = n.0 }) n.1 }
 
 -- that block is the only one

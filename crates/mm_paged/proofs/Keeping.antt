@@ -10,8 +10,7 @@ use Rattle.mm_types.specs.declared.moves.Move.TheVariants as move
 use Rattle.mm_types.specs.declared.moves.Stored.TheVariants as stored
 use Rattle.mm_life.specs.{ResidentSet, record_at, FrameLife, with_resident, resident_by, is_live, is_dead, changed, same_key, key_of_place}
 use Rattle.mm_life.specs.{after_move, after_unmap_at, Replays, Walk, Through, walked}
-use Rattle.mm_laws.specs.Reached.{Reached}
-use Rattle.mm_laws.specs.{block_held, block_in, block_of}
+use Rattle.mm_laws.specs.{ReachedByMoves, block_held, block_in, block_of}
 use Rattle.mm_laws.proofs.{paging_block, reached_sound, block_kept}
 use Rattle.mm_pages.specs.{Aim, AccessMove, touch, block_at, backed_by, in_backing, fetched}
 use Rattle.mm_moving.specs.{StateOf, Made, moved, moved_with_call, walk_of, StateHolds}
@@ -107,7 +106,7 @@ dead_block : (l : FrameLife) (h : Held) → not (is_dead h) ≡ false → block_
 dead_block l held.Dead e = refl
 dead_block l h e = cc
 
-blocks_by : (l m : FrameLife) (ms : List Move) (k : Key) → Reached l → Reached m → Replays ms l m → m.paging k ≡ l.paging k → is_live m k ≡ is_live l k → (x y : Bool) → is_live l k ≡ x → l.paging k ≡ y → block_held m k ≡ block_held l k
+blocks_by : (l m : FrameLife) (ms : List Move) (k : Key) → ReachedByMoves l → ReachedByMoves m → Replays ms l m → m.paging k ≡ l.paging k → is_live m k ≡ is_live l k → (x y : Bool) → is_live l k ≡ x → l.paging k ≡ y → block_held m k ≡ block_held l k
 blocks_by l m ms k p q r pg lv true true e f = paging_block m (reached_sound m q) k (pg ∙ f) ∙ sym (paging_block l (reached_sound l p) k f)
 blocks_by l m ms k p q r pg lv true false e f = block_kept l m p ms r k (grind (arith, e, f))
 blocks_by l m ms k p q r pg lv false y e f = dead_block m (m.stands k) (lv ∙ e) ∙ sym (dead_block l (l.stands k) e)

@@ -11,7 +11,7 @@ use Rattle.mm_blocks.specs.{DeviceOf}
 use Rattle.mm_life.specs.{FrameLife, same_key, Log, after_move, Waiting, waits_after, ages_after, wait_of}
 use Rattle.mm_world.specs.{same_key as same_in_world}
 use Rattle.mm_pages.specs.Behind.{Behind}
-use Rattle.mm_pages.specs.{IsLineKind, pid_after, OneMove, Turns, MakesFrom, number_of, Passes, begun, rearranged, block_at, backed_by, changed}
+use Rattle.mm_pages.specs.{IsLineKind, pid_after, OneMove, Turns, MakesFrom, key_number, Passes, begun, rearranged, block_at, backed_by, changed}
 use Rattle.mm_pages.specs.{none_told}
 use Rattle.mm_moving.specs.{StateOf, Made, moved, DoesMoves}
 use Rattle.mm_paged.specs.{OwnOf, report_of, store_of, behind_of}
@@ -50,7 +50,7 @@ none_passes That s z o u c a w e t = passes_beside That [] s s z o u s.bound s.n
 pub one_passes : (x : Move) (s z : StateOf) (o u : OwnOf) → Made x s z → z.slots ≡ s.slots → Passes (OneMove x) (store_of s o) (store_of z u) (behind_of s) (behind_of z)
 one_passes x s z o u m e = passes_of (OneMove x) (x ∷ []) s z o u (does_one x s z m) (record { one = refl; moved = record { waits = m.waits; ages = m.ages }; slots = e })
 
-pub adds_passes : (k : Key) (s z : StateOf) (o u : OwnOf) → Made (move.Add k None) s z → z.slots ≡ s.slots → (from to : ℕ) → from ≤ number_of k → number_of k < to → Passes (Turns (MakesFrom from to)) (store_of s o) (store_of z u) (behind_of s) (behind_of z)
+pub adds_passes : (k : Key) (s z : StateOf) (o u : OwnOf) → Made (move.Add k None) s z → z.slots ≡ s.slots → (from to : ℕ) → from ≤ key_number k → key_number k < to → Passes (Turns (MakesFrom from to)) (store_of s o) (store_of z u) (behind_of s) (behind_of z)
 adds_passes k s z o u m e from to l h = passes_of (Turns (MakesFrom from to)) (move.Add k None ∷ []) s z o u (does_one (move.Add k None) s z m)
     (record { turned = record { all = (refl, tt); order = (l, h, tt); lowest = (tt, tt) }; moved = record { waits = m.waits; ages = m.ages }; slots = e })
 

@@ -15,8 +15,8 @@ use Rattle.mm_pages.specs.declared.outcomes.Need.TheVariants as need
 use Rattle.mm_pages.specs.declared.outcomes.Start.TheVariants as start
 use Rattle.mm_parts.specs.{front_for_read, own_after, is_own_line}
 use Rattle.mm_moving.specs.{StateOf, Made, moved, moved_with_call, StateHolds}
-use Rattle.mm_paged.specs.{Went, IsFresh, Frees, GivesFrame, Puts, OwnOf, report_of, Came, AccessBegun, IsBeingRead, answered, reason_at_once}
-use Rattle.mm_paged.specs.{needs_copy}
+use Rattle.mm_paged.specs.{Went, IsFresh, Frees, GivesFrame, PutsAtPlace, OwnOf, report_of, AccessCame, AccessBegun, IsBeingRead, answered}
+use Rattle.mm_paged.specs.{reason_at_once, needs_copy}
 use Rattle.mm_paged.proofs.Doing.{piece_as, went_then, went_nothing, took_at_once}
 use Rattle.mm_paged.proofs.FaultSteps.{stored_unframed, zero_unframed}
 use Rattle.mm_paged.proofs.Keeping.{called_on}
@@ -77,13 +77,13 @@ once_stored k s o short e d h = once_where (Some InStore) k s o (where_stored s.
 
 -- ---- pages that have a frame
 
-came_nowhere : (k : Key) (place : Place) (s : StateOf) → Came k place s s
+came_nowhere : (k : Key) (place : Place) (s : StateOf) → AccessCame k place s s
 came_nowhere k place s = record { went = λ a e. went_nothing a 1 s; names = inl refl; slots = refl; blocks = refl; same = refl }
 
-begun_ready : (n : Need) (k : Key) (place : Place) (s z : StateOf) → Came k place s z → is_some (z.life.valid place) ≡ true → (needs_copy n ≡ true → is_short z.life ≡ false) → ((o : OwnOf) → waits_at_once s.life.machine.depth k (report_of s o) ≡ None) → AccessBegun n k place start.Ready s z
+begun_ready : (n : Need) (k : Key) (place : Place) (s z : StateOf) → AccessCame k place s z → is_some (z.life.valid place) ≡ true → (needs_copy n ≡ true → is_short z.life ≡ false) → ((o : OwnOf) → waits_at_once s.life.machine.depth k (report_of s o) ≡ None) → AccessBegun n k place start.Ready s z
 begun_ready n k place s z m valid room once = record { came = m; valid = λ e. valid; room = λ e. room; at_once = once; reading = λ e. cc; short = λ e. cc; wanting = λ e. cc }
 
-begun_pending : (n : Need) (k : Key) (place : Place) (w : Why) (s z : StateOf) → Came k place s z → ((o : OwnOf) → waits_at_once s.life.machine.depth k (report_of s o) ≡ reason_at_once (start.Pending w))
+begun_pending : (n : Need) (k : Key) (place : Place) (w : Why) (s z : StateOf) → AccessCame k place s z → ((o : OwnOf) → waits_at_once s.life.machine.depth k (report_of s o) ≡ reason_at_once (start.Pending w))
     → (start.Pending w ≡ start.Pending why.Read → IsBeingRead k z) → (start.Pending w ≡ start.Pending why.Frame → is_short z.life ≡ true) → (start.Pending w ≡ start.Pending why.Frame → (is_framed (z.life.stands k) ≡ false) ⊎ (needs_copy n ≡ true)) → AccessBegun n k place (start.Pending w) s z
 begun_pending n k place w s z m once reading short wanting = record { came = m; valid = λ e. cc; room = λ e c. cc; at_once = once; reading = reading; short = short; wanting = wanting }
 
@@ -95,14 +95,14 @@ begun_here k f place s h v n = begun_ready need.Touch k place s s (came_nowhere 
 pub begun_reading : (k : Key) (f : Frame) (place : Place) (s : StateOf) → s.life.stands k ≡ held.Frame f → is_read (record_at s.life.frames f.0).request ≡ true → AccessBegun need.Touch k place (start.Pending why.Read) s s
 begun_reading k f place s t r = begun_pending need.Touch k place why.Read s s (came_nowhere k place s) (λ o. once_where (Some BeingRead) k s o (where_framed k f true s t r)) (λ e. (f, t, r)) (λ e. cc) (λ e. cc)
 
-pub begun_put : (k : Key) (f : Frame) (place : Place) (s z : StateOf) → s.life.stands k ≡ held.Frame f → is_read (record_at s.life.frames f.0).request ≡ false → ((a : Aim) → a.place ≡ place → Went a 0 s z) → Puts k f place s z → AccessBegun need.Touch k place start.Ready s z
+pub begun_put : (k : Key) (f : Frame) (place : Place) (s z : StateOf) → s.life.stands k ≡ held.Frame f → is_read (record_at s.life.frames f.0).request ≡ false → ((a : Aim) → a.place ≡ place → Went a 0 s z) → PutsAtPlace k f place s z → AccessBegun need.Touch k place start.Ready s z
 begun_put k f place s z t r w p = begun_ready need.Touch k place s z
     (record { went = λ a e. piece_as a IsFresh 0 1 0 0 0 0 [] s z (omega arith) (omega arith) (w a e.at); names = inr p.placed.names; slots = p.stored.0; blocks = p.stored.1; same = p.placed.same })
     (ap is_some p.placed.valid) (λ c. cc) (λ o. once_where (Some InFrame) k s o (where_framed k f false s t r))
 
 -- ---- demand-zero pages
 
-pub begun_given : (k : Key) (f : Frame) (place : Place) (s y z : StateOf) → is_zero (s.life.stands k) ≡ true → GivesFrame k f s y → ((a : Aim) → a.place ≡ place → Went a 0 y z) → fits_place place k ≡ true → Puts k f place y z → AccessBegun need.Touch k place start.Ready s z
+pub begun_given : (k : Key) (f : Frame) (place : Place) (s y z : StateOf) → is_zero (s.life.stands k) ≡ true → GivesFrame k f s y → ((a : Aim) → a.place ≡ place → Went a 0 y z) → fits_place place k ≡ true → PutsAtPlace k f place y z → AccessBegun need.Touch k place start.Ready s z
 begun_given k f place s y z t g w fits p = begun_ready need.Touch k place s z
     (record {
       went = λ a e. piece_as a IsFresh 0 1 0 0 0 0 [] s z (omega arith) (omega arith) (went_then a IsFresh 0 0 s y z (took_at_once a IsFresh 0 s y (g.went a (inl (sym e.needs)))) (w a e.at));

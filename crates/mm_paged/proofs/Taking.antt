@@ -19,7 +19,8 @@ use Rattle.mm_pages.specs.Told.{Told}
 use Rattle.mm_moving.specs.{StateOf, Made, DoesMoves, SomeFault, moved_with_call, moved, StateHolds}
 use Rattle.mm_moving.proofs.{does_one, does_two}
 use Rattle.mm_parts.specs.{own_after, own_ended, front, front_for_read, is_own_line}
-use Rattle.mm_paged.specs.{Calm, Takes, TookFrame, HasTried, IsFresh, IsFor, ReadsFor, Fails, Frees, Free, Stolen, Readies, Zeroed, Cleared, LifeKept}
+use Rattle.mm_paged.specs.{Calm, TakesFrame, TookFrame, HasTried, IsFresh, IsFor, ReadsFor, Fails, Frees, Free, Stolen, Readies, Zeroed, Cleared}
+use Rattle.mm_paged.specs.{LifeKept}
 use Rattle.mm_paged.proofs.Doing.{piece_of, move_front}
 use Rattle.mm_paged.proofs.Keeping.{kept_made, kept_same, kept_then}
 use Rattle.mm_reclaim.proofs.{fault_by, moved_then}
@@ -89,16 +90,16 @@ none_zeroed s y (Stolen z f m e) none = ap (λ (l : FrameLife). is_empty l.frame
 stolen_alone : (s y : StateOf) (f : Frame) → is_empty s.life.frames.free ≡ true → Made (move.Steal f) s y → y.life.frames.free ≡ f.0 ∷ []
 stolen_alone s y f none m = ap (λ (l : FrameLife). l.frames.free) m.life ∙ ap (λ (xs : List ℕ). xs ++ f.0 ∷ []) (nothing_in s.life.frames.free none)
 
-pub took_freed : (a : Aim) (E : Walk → Type 0) (n : ℕ) (s y z : StateOf) → Frees s y → (q : Takes a E n y z) → ((f : Frame) → y.life.frames.free ≡ f.0 ∷ [] → (t : List ℕ) → IsTaken f (q t).moves) → Takes a E n s z
+pub took_freed : (a : Aim) (E : Walk → Type 0) (n : ℕ) (s y z : StateOf) → Frees s y → (q : TakesFrame a E n y z) → ((f : Frame) → y.life.frames.free ≡ f.0 ∷ [] → (t : List ℕ) → IsTaken f (q t).moves) → TakesFrame a E n s z
 unfolding move_front
-took_freed a E n s y z (Free e) q h = subst (λ (x : StateOf). Takes a E n x z) e q
+took_freed a E n s y z (Free e) q h = subst (λ (x : StateOf). TakesFrame a E n x z) e q
 took_freed a E n s y z (Stolen no_zeroed none m e) q h =
     let f = front s.life.frames.standby in
     move_front a E (move.Steal f) n s y z m (λ t. refl) refl refl q (h f (stolen_alone s y f none m))
 
-pub took_ready : (a : Aim) (E : Walk → Type 0) (n : ℕ) (s y z : StateOf) → Readies s y → (q : Takes a E n y z) → ((t : List ℕ) → IsTaken (front y.life.frames.zeroed) (q t).moves) → Takes a E n s z
+pub took_ready : (a : Aim) (E : Walk → Type 0) (n : ℕ) (s y z : StateOf) → Readies s y → (q : TakesFrame a E n y z) → ((t : List ℕ) → IsTaken (front y.life.frames.zeroed) (q t).moves) → TakesFrame a E n s z
 unfolding move_front
-took_ready a E n s y z (Zeroed e) q h = subst (λ (x : StateOf). Takes a E n x z) e q
+took_ready a E n s y z (Zeroed e) q h = subst (λ (x : StateOf). TakesFrame a E n x z) e q
 took_ready a E n s y z (Cleared x none f m e) q h =
     let g = front x.life.frames.free in
     let empty : x.life.frames.zeroed ≡ [] = nothing_in x.life.frames.zeroed (none_zeroed s x f none) in
@@ -168,7 +169,7 @@ module _ (a : Aim) (f : Frame) (k : Key) (s y m z : StateOf) (frees : Frees s y)
       (λ t. piece_of a IsFresh 1 1 0 t (move.Read f k ∷ move.Got f ∷ []) y z (does_two (move.Read f k) (move.Got f) y m z begins ends)
       ((sym h.needs, h.absent, λ e. inl refl), (got_there f k a.need.key y m holds begins h.needs, tt)) refl (omega arith) (omega arith)) (λ g only t. inl (first ∙ only_read y.life g only))
 
-  pub stuck_read : Made (move.Bad f) m z → Takes a (HasTried a fault.Read z) 1 s z
+  pub stuck_read : Made (move.Bad f) m z → TakesFrame a (HasTried a fault.Read z) 1 s z
   stuck_read ends = took_freed a (HasTried a fault.Read z) 1 s y z frees
       (λ t. piece_of a (HasTried a fault.Read z) 1 1 0 t (move.Read f k ∷ move.Bad f ∷ []) y z (does_two (move.Read f k) (move.Bad f) y m z begins ends)
       ((sym h.needs, h.absent, λ e. inr refl), (got_there f k a.need.key y m holds begins h.needs, tt)) (λ e. cc) (omega arith) (omega arith)) (λ g only t. inl (first ∙ only_read y.life g only))

@@ -100,7 +100,7 @@ pub record FailsToBring (k : Key) (e : PageFault) (s z : StateOf) : Type 0 where
 -- ---- it becomes valid
 
 -- a page became valid at a place, by no call of a device
-pub record Puts (k : Key) (f : Frame) (place : Place) (s z : StateOf) : Type 0 where
+pub record PutsAtPlace (k : Key) (f : Frame) (place : Place) (s z : StateOf) : Type 0 where
   pub stored : (z.slots ≡ s.slots) × (z.blocks ≡ s.blocks)
   pub placed : Placed k f place s z
   pub told : z.told ≡ s.told

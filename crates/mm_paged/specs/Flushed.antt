@@ -86,7 +86,7 @@ pub record FlushesFrame (b : Block) (f : Frame) (ok : Bool) (s z : StateOf) : Ty
   pub clean : ok ≡ true → (record_at z.life.frames f.0).changed ≡ false
 
 -- a page is flushed: where that succeeded, its block is where its bytes stand
-pub record FlushesPage (k : Key) (b : Block) (ok : Bool) (s z : StateOf) : Type 0 where
+pub record FlushedOnePage (k : Key) (b : Block) (ok : Bool) (s z : StateOf) : Type 0 where
   pub moves : List Move
   pub writes : WritesBack b ok moves s z
   pub page : FlushedAt s.life (s.life.stands k) moves

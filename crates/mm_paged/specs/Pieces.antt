@@ -55,11 +55,11 @@ abbrev pub Sought : Aim → StateOf → StateOf → Type 0
 Sought a s z = Piece a Anywhere 0 0 1 [] s z
 
 -- a frame is taken, whatever was tried in the search before, and so this holds where it ends
-abbrev pub Takes : Aim → (Walk → Type 0) → ℕ → StateOf → StateOf → Type 0
-Takes a End reads s z = (t : List ℕ) → Piece a End reads 1 0 t s z
+abbrev pub TakesFrame : Aim → (Walk → Type 0) → ℕ → StateOf → StateOf → Type 0
+TakesFrame a End reads s z = (t : List ℕ) → Piece a End reads 1 0 t s z
 
 abbrev pub TookFrame : Aim → ℕ → StateOf → StateOf → Type 0
-TookFrame a reads s z = Takes a IsFresh reads s z
+TookFrame a reads s z = TakesFrame a IsFresh reads s z
 
 -- a frame is for this page
 abbrev pub IsFor : Aim → Key → Type 0

@@ -29,7 +29,7 @@ IsBeingRead k s = (f : Frame) × (s.life.stands k ≡ held.Frame f) ×
     (is_read (record_at s.life.frames f.0).request ≡ true)
 
 -- what the access did, whatever it answers
-pub record Came (k : Key) (place : Place) (s z : StateOf) : Type 0 where
+pub record AccessCame (k : Key) (place : Place) (s z : StateOf) : Type 0 where
   pub went : (a : Aim) → Reaches a k place s → Went a 1 s z
   pub names : (z.names ≡ s.names) ⊎ (z.names ≡ changed same_place s.names place (Some k))
   pub slots : z.slots ≡ s.slots
@@ -39,7 +39,7 @@ pub record Came (k : Key) (place : Place) (s z : StateOf) : Type 0 where
 -- the access has begun so far as its moves go, and this is its answer
 pub record AccessBegun (n : Need) (k : Key) (place : Place) (result : Start) (s z : StateOf) :
     Type 0 where
-  pub came : Came k place s z
+  pub came : AccessCame k place s z
   -- its page is valid at its place, and for a copy there is a frame
   pub valid : result ≡ start.Ready → is_some (z.life.valid place) ≡ true
   pub room : result ≡ start.Ready → needs_copy n ≡ true → is_short z.life ≡ false

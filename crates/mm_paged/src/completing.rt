@@ -2,7 +2,7 @@ ghost use Rattle.std.specs.Prelude.{◌≡◌, ◌≤◌, ◌<◌, true, false, 
 ghost use Rattle.mm_types.specs.declared.moves.LineKind.TheVariants as kind;
 ghost use Rattle.mm_life.specs.{record_at, is_read, has_request, ending};
 ghost use Rattle.mm_moving.specs.{Made, moved_with_call};
-ghost use Rattle.mm_paged.specs.Pieces.{EndsAs};
+ghost use Rattle.mm_paged.specs.{EndsAs};
 
 use mm_moving::Moving;
 use mm_pages::Done;

@@ -3,9 +3,8 @@ ghost use Rattle.mm_types.specs.{limit_of};
 ghost use Rattle.mm_types.specs.declared.moves.LineKind.TheVariants as kind;
 ghost use Rattle.mm_life.specs.{key_of_place, is_access, touches, shows_shared, is_short};
 ghost use Rattle.mm_pages.specs.{Aim};
-ghost use Rattle.mm_paged.specs.Pieces.{Went, InQuietFrame};
-ghost use Rattle.mm_paged.specs.Faults.{FailsToBring, FindsNone};
-ghost use Rattle.mm_paged.specs.Copies.{Readied, Pins, Copied, MayHold, NeedsAccess, MayCopyHeld, MayCopy, CopyGiven, CopyPut, CopiesPage, FailsToCopyPage};
+ghost use Rattle.mm_paged.specs.{Went, InQuietFrame, FailsToBring, FindsNone, Readied, Pins, Copied, MayHold, NeedsAccess, MayCopyHeld, MayCopy};
+ghost use Rattle.mm_paged.specs.{CopyGiven, CopyPut, CopiesPage, FailsToCopyPage};
 
 use crate::faults::{fault, find, ready_frame};
 use mm_moving::Moving;

@@ -7,8 +7,8 @@ ghost use Rattle.mm_moving.specs.{Made, Searched};
 ghost use Rattle.mm_types.specs.{Frame, Place};
 ghost use Rattle.mm_frame_laws.specs.{IsSoiled};
 ghost use Rattle.mm_types.specs.declared.moves.Move.TheVariants as move;
-ghost use Rattle.mm_paged.specs.Pieces.{Went, InQuietFrame, Soils};
-ghost use Rattle.mm_paged.specs.Faults.{FindsNone, Frees, Readies, MayReadIn, MayUse, HasFullSet, MayFault, GivesFrame, Brings, FailsToBring, Puts, Faulted, FaultsToWrite};
+ghost use Rattle.mm_paged.specs.{Went, InQuietFrame, Soils, FindsNone, Frees, Readies, MayReadIn, MayUse, HasFullSet, MayFault, GivesFrame, Brings};
+ghost use Rattle.mm_paged.specs.{FailsToBring, PutsAtPlace, Faulted, FaultsToWrite};
 
 use mm_moving::Moving;
 use mm_reclaim::{NoFrame, find_frame};
@@ -159,7 +159,7 @@ fn put_below<T: Moving>(state: &mut T, key: Key, f: Frame, place: Place)
     requires free { (T.shown state.old).life.valid place ≡ None }
     requires below { is_below_max (set_of (T.shown state.old).life place.pid.0) ≡ true }
     ensures made { Made (move.Map f place) (T.shown state.old) (T.shown state.new) }
-    ensures puts { Puts key f place (T.shown state.old) (T.shown state.new) }
+    ensures puts { PutsAtPlace key f place (T.shown state.old) (T.shown state.new) }
     ensures loans { T.loans state.new ≡ T.loans state.old }
 {
     state.map(f, place);
@@ -173,7 +173,7 @@ fn put_full<T: Moving>(state: &mut T, key: Key, f: Frame, place: Place)
     requires free { (T.shown state.old).life.valid place ≡ None }
     requires set { HasFullSet (T.shown state.old).life place.pid.0 }
     ensures went { (a : Aim) → a.place ≡ place → Went a 0 (T.shown state.old) (T.shown state.new) }
-    ensures puts { Puts key f place (T.shown state.old) (T.shown state.new) }
+    ensures puts { PutsAtPlace key f place (T.shown state.old) (T.shown state.new) }
     ensures loans { T.loans state.new ≡ T.loans state.old }
 {
     match state.oldest(place.pid, None) {
@@ -196,7 +196,7 @@ pub(crate) fn put<T: Moving>(state: &mut T, key: Key, f: Frame, place: Place)
     requires usable { MayUse key place (T.shown state.old) }
     requires free { (T.shown state.old).life.valid place ≡ None }
     ensures went { (a : Aim) → a.place ≡ place → Went a 0 (T.shown state.old) (T.shown state.new) }
-    ensures puts { Puts key f place (T.shown state.old) (T.shown state.new) }
+    ensures puts { PutsAtPlace key f place (T.shown state.old) (T.shown state.new) }
     ensures loans { T.loans state.new ≡ T.loans state.old }
 {
     if state.is_full(place.pid) {

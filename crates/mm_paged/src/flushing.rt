@@ -5,7 +5,7 @@ ghost use Rattle.mm_types.specs.{Block};
 ghost use Rattle.mm_life.specs.{record_at, is_write};
 ghost use Rattle.mm_pages.specs.{wrote, backed_by, block_at};
 ghost use Rattle.mm_moving.specs.{backing_of_frame};
-ghost use Rattle.mm_paged.specs.Flushed.{HoldsFilePage, EndsFlight, WritesChanged, FlushesFrame, FlushesPage};
+ghost use Rattle.mm_paged.specs.{HoldsFilePage, EndsFlight, WritesChanged, FlushesFrame, FlushedOnePage};
 
 use mm_moving::Moving;
 use mm_types::{Frame, Held, Key, Record, Request, WriteFault};
@@ -81,7 +81,7 @@ pub(crate) fn flush_page<T: Moving>(state: &mut T, key: Key) -> Result<(), Write
     requires own { (T.shown state.old).own ≡ None }
     ensures flushed { (b : Block) → block_at (backed_by
         (T.shown state.old).life ((T.shown state.old).life.stands key)) ≡ Some b.0
-        → FlushesPage key b (is_ok result) (T.shown state.old) (T.shown state.new) }
+        → FlushedOnePage key b (is_ok result) (T.shown state.old) (T.shown state.new) }
     ensures loans { T.loans state.new ≡ T.loans state.old }
 {
     match state.stands(key) {

@@ -3,7 +3,7 @@ ghost use Rattle.mm_types.specs.declared.frames.Held.TheVariants as held;
 ghost use Rattle.mm_types.specs.declared.moves.LineKind.TheVariants as kind;
 ghost use Rattle.mm_types.specs.declared.numbers.Key.TheVariants.{Shared};
 ghost use Rattle.mm_pages.specs.{Makes};
-ghost use Rattle.mm_paged.specs.NewFiles.{BlocksWritten, PagesAdded, BuiltAs};
+ghost use Rattle.mm_paged.specs.{BlocksWritten, PagesAdded, BuiltAs};
 
 use mm_moving::Moving;
 use mm_types::{Area, Block, Key, MakeFault, NoMemory};

@@ -3,7 +3,7 @@ ghost use Rattle.mm_types.specs.declared.numbers.Key.TheVariants.{Private};
 ghost use Rattle.mm_types.specs.{Place};
 ghost use Rattle.mm_pages.specs.{AreAmong, place_at};
 ghost use Rattle.mm_pages.specs.Leaving.{Leaving};
-ghost use Rattle.mm_paged.specs.Pieces.{LetGo, LetsGo, MayLetGo, MayLetOwnGo, NextGone, OwnLetGo, Thins};
+ghost use Rattle.mm_paged.specs.{LetGo, LetsGo, MayLetGo, MayLetOwnGo, NextGone, OwnLetGo, Thins};
 
 use mm_moving::Moving;
 use mm_types::{Key, Pid, Place, Vpn};

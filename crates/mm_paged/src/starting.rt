@@ -7,9 +7,7 @@ ghost use Rattle.mm_life.specs.{is_live, is_zero, is_stored, is_short, is_thread
 ghost use Rattle.mm_pages.specs.{wait_begun, changed};
 ghost use Rattle.mm_pages.specs.declared.outcomes.Need.TheVariants as wanted;
 ghost use Rattle.mm_pages.specs.declared.outcomes.Start.TheVariants as start_of;
-ghost use Rattle.mm_paged.specs.Shown.{ready_at};
-ghost use Rattle.mm_paged.specs.Faults.{MayUse};
-ghost use Rattle.mm_paged.specs.Started.{AccessBegun, IsBeingRead, answered, ready_after};
+ghost use Rattle.mm_paged.specs.{ready_at, MayUse, AccessBegun, IsBeingRead, answered, ready_after};
 
 use crate::completing::is_reading;
 use crate::faults::{free_frame, give, is_starved, put};

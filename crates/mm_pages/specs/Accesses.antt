@@ -59,12 +59,12 @@ is_copied n l = unwrap_or (option_map (λ k. is_live l k) n.copy) false
 
 -- a page goes in an access: by a copy, of the access's own place; the oldest of a full set right
 -- before the map into it; or in shortage, where each frame that can be written was tried
-pub data Goes (a : Aim) (w : Walk) (p : Place) (rest : List Move) : Type 0 where
-  ByCopy : p ≡ a.place → is_copied a.need w.life ≡ true → Goes a w p rest
+pub data PageGoes (a : Aim) (w : Walk) (p : Place) (rest : List Move) : Type 0 where
+  ByCopy : p ≡ a.place → is_copied a.need w.life ≡ true → PageGoes a w p rest
   FromFull : p.pid ≡ a.place.pid → is_at_max (set_of w.life p.pid.0) ≡ true →
-      IsOldest w.life w.ages None p → IsMapped a.place rest → Goes a w p rest
+      IsOldest w.life w.ages None p → IsMapped a.place rest → PageGoes a w p rest
   InShortage : is_shortage a.need w.life ≡ true → next_writable w ≡ None →
-      IsVictim w.life w.ages (w.life.valid a.place) p → Goes a w p rest
+      IsVictim w.life w.ages (w.life.valid a.place) p → PageGoes a w p rest
 
 -- what each move of an access is
 abbrev pub AccessMove : Aim → Walk → Move → List Move → Type 0
@@ -81,7 +81,7 @@ AccessMove a w (move.Read f k) rest =
 AccessMove a w (move.Got f) rest = (record_at w.life.frames f.0).owner ≡ Some a.need.key
 AccessMove a w (move.Bad f) rest = (record_at w.life.frames f.0).owner ≡ Some a.need.key
 AccessMove a w (move.Map f p) rest = p ≡ a.place
-AccessMove a w (move.Unmap p) rest = Goes a w p rest
+AccessMove a w (move.Unmap p) rest = PageGoes a w p rest
 AccessMove a w (move.Soil f) rest = (a.writes ≡ true) × (w.life.valid a.place ≡ Some f)
 AccessMove a w (move.Write f s) rest = (is_shortage a.need w.life ≡ true) ×
     (next_writable w ≡ Some f.0) × IsWriteEnded f rest

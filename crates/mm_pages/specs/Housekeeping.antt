@@ -61,16 +61,16 @@ AllTurn t (m ∷ ms) = (is_turn t m ≡ true) × AllTurn t ms
 -- ---- the order in which pages come to be
 
 -- of a private key its page, of a shared one its index
-abbrev pub number_of : Key → ℕ
-number_of (key.Private pid vpn) = vpn.0
-number_of (key.Shared area index) = index
+abbrev pub key_number : Key → ℕ
+key_number (key.Private pid vpn) = vpn.0
+key_number (key.Shared area index) = index
 
 abbrev pub with_some : Option ℕ → List ℕ → List ℕ
 with_some None numbers = numbers
 with_some (Some number) numbers = number ∷ numbers
 
 abbrev pub number_made : Move → Option ℕ
-number_made (move.Add k b) = Some (number_of k)
+number_made (move.Add k b) = Some (key_number k)
 number_made _ = None
 
 abbrev pub numbers_made : List Move → List ℕ
@@ -172,7 +172,7 @@ pub record Exactly (ms : List Move) (b : Behind) (moves : List Move) (c : Behind
 abbrev pub Clears : ℕ → Behind → List Move → Behind → Type 0
 Clears n b moves c = Exactly (clearings n b.life) b moves c
 
-pub record Ages (pid : Pid) (b : Behind) (moves : List Move) (c : Behind) : Type 0 where
+pub record AgesAll (pid : Pid) (b : Behind) (moves : List Move) (c : Behind) : Type 0 where
   pub none : moves ≡ []
   pub same : c ≡ record b { ages = all_aged pid b.life b.ages }
 

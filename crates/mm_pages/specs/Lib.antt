@@ -26,16 +26,16 @@ pub use Told.{call_of, calls_of, file_traffic, in_block, in_slot, none_told, pag
 pub use Told.{told_after, told_of, told_through, with_read, with_write}
 pub use Shortage.{is_framed, is_shortage}
 pub use Accesses.{AccessEnds, AccessMove, AccessMoves, Aim, ByCopy, Copies, Failed, Forgets}
-pub use Accesses.{FromFull, Had, InShortage, IsGiven, IsMapped, IsReadEnded, IsTaken, ReadyMoves}
-pub use Accesses.{Starts, Touches, is_had, wait_begun, walk_from}
+pub use Accesses.{FromFull, Had, InShortage, IsGiven, IsMapped, IsReadEnded, IsTaken, PageGoes}
+pub use Accesses.{ReadyMoves, Starts, Touches, is_had, wait_begun, walk_from}
 pub use Flushing.{FlushMoves, FlushedAt, FlushesBy, IsEndOf, IsEndedFirst, IsWriteOf, IsWrittenIf}
 pub use Flushing.{IsWrittenNow, ends_lost, life_through}
-pub use Housekeeping.{Ages, AllTurn, ByMoves, Clears, Climbs, Completes, CompletesAs, Exactly}
-pub use Housekeeping.{Flushes, FlushesPage, Grows, GrowsAs, IsInOrder, IsLowest, IsStack}
+pub use Housekeeping.{AgesAll, AllTurn, ByMoves, Clears, Climbs, Completes, CompletesAs, Exactly}
+pub use Housekeeping.{Flushes, FlushesPage, Goes, Grows, GrowsAs, IsInOrder, IsLowest, IsStack}
 pub use Housekeeping.{LowestFirst, Makes, MakesFrom, MakesStack, NoMove, OneMove, Rises, Trims}
-pub use Housekeeping.{Turn, Turned, Turns, WritesOut, guard_told, is_turn, number_made, number_of}
+pub use Housekeeping.{Turn, Turned, Turns, WritesOut, guard_told, is_turn, key_number, number_made}
 pub use Housekeeping.{numbers_made, rank_gone, ranks_gone, with_some}
-pub use Standing.{Stands, StandsIn, backed_by, block_at, bytes_at, framed_where, in_backing}
+pub use Standing.{PagingStands, StandsIn, backed_by, block_at, bytes_at, framed_where, in_backing}
 pub use Standing.{is_on_device, stored_of, where_of}
 pub use Passing.{FileMade, Notes, NotesIn, Passes, PassesIn, WritesFile, last_write, writes_from}
 pub use declared.outcomes.Done.{Done}

@@ -66,7 +66,7 @@ backed_by l held.Zero = held.Zero
 backed_by l held.Dead = held.Dead
 
 -- what every store that pages keeps
-pub record Stands (contents : Key → Option Page) (s : StoreOf) (b : Behind) : Type 0 where
+pub record PagingStands (contents : Key → Option Page) (s : StoreOf) (b : Behind) : Type 0 where
   pub machine : b.life.machine ≡ s.machine
   pub line : b.life.line ≡ s.line
   pub kind : b.life.kind ≡ s.kind
@@ -101,4 +101,4 @@ pub record Rests (s : StoreOf) (b : Behind) : Type 0 where
 -- of any store
 abbrev pub StandsIn : Bool → (Key → Option Page) → StoreOf → Behind → Type 0
 StandsIn true contents s b = Rests s b
-StandsIn false contents s b = Stands contents s b
+StandsIn false contents s b = PagingStands contents s b

@@ -17,7 +17,7 @@ ghost use Rattle.mm_pages.specs.Behind.{Behind};
 ghost use Rattle.mm_pages.specs.Standing.{StandsIn};
 ghost use Rattle.mm_pages.specs.Passing.{PassesIn, NotesIn, FileMade};
 ghost use Rattle.mm_pages.specs.Accesses.{Touches, Copies, Starts, Forgets};
-ghost use Rattle.mm_pages.specs.Housekeeping.{Turn, Makes, MakesFrom, number_of, Ends as Ending, Turns, OneMove, Trims, Ages, Clears, WritesOut, CompletesAs, GrowsAs, FlushesPage};
+ghost use Rattle.mm_pages.specs.Housekeeping.{Turn, Makes, MakesFrom, key_number, Ends as Ending, Turns, OneMove, Trims, AgesAll, Clears, WritesOut, CompletesAs, GrowsAs, FlushesPage};
 ghost use Rattle.mm_pages.specs.Leaving.{Leaving};
 ghost use Rattle.mm_pages.specs.Store.{StoreOf, changed, changed_in, same_place, unnamed, own_key, with_file, with_blocks};
 ghost use Rattle.mm_pages.specs.Reports.{begun, rearranged, eased, called, with_named, with_named_paging, fetched, wrote, started, completed, IsBegun, Served, SomeFailed, HasCauses, Ends};
@@ -238,7 +238,7 @@ pub trait Pages {
           paging_keys = (store self.old).paging_keys + 1;
           report = rearranged (store self.old).report (store self.new).report;
         } }
-        ensures passes { (from to : ℕ) → from ≤ number_of key → number_of key < to →
+        ensures passes { (from to : ℕ) → from ≤ key_number key → key_number key < to →
             PassesIn unpaged (Turns (MakesFrom from to)) (store self.old) (store self.new)
             (behind self.old) (behind self.new) }
         ensures loans { loans self.new ≡ loans self.old };
@@ -416,7 +416,7 @@ pub trait Pages {
         requires open { (store self.old).is_open pid.0 ≡ true }
         ensures store { store self.new ≡ store self.old }
         ensures contents { contents self.new ≡ contents self.old }
-        ensures passes { PassesIn unpaged (Ages pid) (store self.old) (store self.new)
+        ensures passes { PassesIn unpaged (AgesAll pid) (store self.old) (store self.new)
             (behind self.old) (behind self.new) }
         ensures loans { loans self.new ≡ loans self.old };
 

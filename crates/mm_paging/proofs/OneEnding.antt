@@ -14,10 +14,10 @@ use Rattle.mm_life.specs.{after_move, after_unmap_at, dropped_at, Replays}
 use Rattle.mm_world.specs.{Page, RegionOf, ProcessOf, SectionOf, numbered, pages_of, process_of, is_handle_to, is_view_of, uses, LaidOut}
 use Rattle.mm_world.specs.World.{World}
 use Rattle.mm_pages.specs.{page_rank, or_else, last_rank, rank_behind, view_rank, handle_rank, section_rank, goes_with, leaving, Turned, AllTurn}
-use Rattle.mm_pages.specs.{is_turn, rank_gone, ranks_gone, Rises, IsLowest, LowestFirst}
+use Rattle.mm_pages.specs.{is_turn, rank_gone, ranks_gone, Rises, IsLowest, LowestFirst, Goes}
 use Rattle.mm_pages.specs.Leaving.{Leaving}
-use Rattle.mm_pages.specs.Housekeeping.{Ends, Goes}
-use Rattle.mm_paging.specs.{Stands}
+use Rattle.mm_pages.specs.Housekeeping.{Ends}
+use Rattle.mm_paging.specs.{StandsAlways}
 
 -- ---- what moves leave
 
@@ -390,7 +390,7 @@ goer w pid area some = at (position (uses area) w.sections) refl some
           which = subst (λ (r : ℕ). With n r p.0) rank p.1.1;
         }
 
-module _ (w : World) (pid : ℕ) (l : FrameLife) (stands : Stands w l) where
+module _ (w : World) (pid : ℕ) (l : FrameLife) (stands : StandsAlways w l) where
   goes_once : (a b : ℕ) → 1 ≤ goes_with w pid a → goes_with w pid a ≡ goes_with w pid b → a ≡ b
   goes_once a b some e =
       let x = goer w pid a some in

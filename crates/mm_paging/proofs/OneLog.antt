@@ -13,10 +13,10 @@ use Rattle.mm_life.specs.{record_at, FrameLife, is_live, is_dead, same_key, is_s
 use Rattle.mm_life.specs.{Aged, goes_before, TrimMove, spare_of, ending, frame_of, IsOldest, page_first, may_go, Walk, walked, Through}
 use Rattle.mm_world.specs.World.{World}
 use Rattle.mm_pages.specs.Behind.{Behind}
-use Rattle.mm_pages.specs.{Makes, MakesFrom, MakesStack, Turned, AllTurn, number_of, numbers_made, Climbs, IsStack, guard_told, Trims, Completes}
+use Rattle.mm_pages.specs.{Makes, MakesFrom, MakesStack, Turned, AllTurn, key_number, numbers_made, Climbs, IsStack, guard_told, Trims, Completes}
 use Rattle.mm_pages.specs.{backed_by, block_at}
-use Rattle.mm_paging.specs.{lives, Does, Agrees, GivesUp, Trimming, Completing, flushed_keys, is_uncommitted, has_one_log, AnsweredAlike, Did, Stands}
-use Rattle.mm_paging.specs.{StandsBefore}
+use Rattle.mm_paging.specs.{lives, Does, Agrees, GivesUp, Trimming, Completing, flushed_keys, is_uncommitted, has_one_log, AnsweredAlike, Did}
+use Rattle.mm_paging.specs.{StandsAlways, StandsBefore}
 use Rattle.mm_paging.proofs.OneEnding.{one_end_log}
 use Rattle.mm_paging.proofs.OneFlush.{flushed}
 
@@ -133,61 +133,61 @@ module _ (rank : ℕ → ℕ) where
   abbrev ranks : List Move → List ℕ
   ranks ms = map rank (numbers_made ms)
 
-  other_number : (k q : Key) (b : Bool) → same_key q k ≡ b → rank (number_of q) < rank (number_of k) → b ≡ false
-  other_number k q true e h = let same : rank (number_of q) ≡ rank (number_of k) = ap (λ (x : Key). rank (number_of x)) (same_key-true q k e) in absurd (omega (arith, same, h))
+  other_number : (k q : Key) (b : Bool) → same_key q k ≡ b → rank (key_number q) < rank (key_number k) → b ≡ false
+  other_number k q true e h = let same : rank (key_number q) ≡ rank (key_number k) = ap (λ (x : Key). rank (key_number x)) (same_key-true q k e) in absurd (omega (arith, same, h))
   other_number k q false e h = refl
 
   -- pages of greater numbers leave a key where it stands
-  untouched : (ms : List Move) (l m : FrameLife) (from to : ℕ) (q : Key) → AllTurn Makes ms → Climbs from to (ranks ms) → Replays ms l m → rank (number_of q) < from → m.stands q ≡ l.stands q
+  untouched : (ms : List Move) (l m : FrameLife) (from to : ℕ) (q : Key) → AllTurn Makes ms → Climbs from to (ranks ms) → Replays ms l m → rank (key_number q) < from → m.stands q ≡ l.stands q
   untouched [] l m from to q a c r h = ap (λ (x : FrameLife). x.stands q) r
   untouched (move.Add k b ∷ ms) l m from to q a c r h =
-      let less : rank (number_of q) < rank (number_of k) = omega (arith, c.0, h) in
-      untouched ms (after_add l k b) m (rank (number_of k) + 1) to q a.1 c.2 r.1 (omega (arith, less))
+      let less : rank (key_number q) < rank (key_number k) = omega (arith, c.0, h) in
+      untouched ms (after_add l k b) m (rank (key_number k) + 1) to q a.1 c.2 r.1 (omega (arith, less))
       ∙ stands_add l k q b ∙ ap (λ (x : Bool). cond x (made_at b) (l.stands q)) (other_number k q (same_key q k) refl less)
   untouched (_ ∷ ms) l m from to q a c r h = let bad = a.0 in cc
 
   -- the first of them lives at the end, where it came to be
-  made_stands : (ms : List Move) (l m : FrameLife) (to : ℕ) (k : Key) (b : Option Block) → AllTurn Makes ms → Climbs (rank (number_of k) + 1) to (ranks ms) → Replays ms (after_add l k b) m → m.stands k ≡ made_at b
-  made_stands ms l m to k b a c r = untouched ms (after_add l k b) m (rank (number_of k) + 1) to k a c r (omega arith) ∙ stands_add l k k b ∙ ap (λ (x : Bool). cond x (made_at b) (l.stands k)) (same_again k)
+  made_stands : (ms : List Move) (l m : FrameLife) (to : ℕ) (k : Key) (b : Option Block) → AllTurn Makes ms → Climbs (rank (key_number k) + 1) to (ranks ms) → Replays ms (after_add l k b) m → m.stands k ≡ made_at b
+  made_stands ms l m to k b a c r = untouched ms (after_add l k b) m (rank (key_number k) + 1) to k a c r (omega arith) ∙ stands_add l k k b ∙ ap (λ (x : Bool). cond x (made_at b) (l.stands k)) (same_again k)
 
   -- a key that did not live, and comes to be in one run, does in the other
-  comes_in_both : (xs ys : List Move) (l m n : FrameLife) (from to high : ℕ) (k : Key) (b : Option Block) → Alike m n → is_live l k ≡ false → AllTurn Makes xs → Climbs (rank (number_of k) + 1) high (ranks xs) → Replays xs (after_add l k b) m
-      → AllTurn Makes ys → Climbs from to (ranks ys) → Replays ys l n → rank (number_of k) < from → ⊥
+  comes_in_both : (xs ys : List Move) (l m n : FrameLife) (from to high : ℕ) (k : Key) (b : Option Block) → Alike m n → is_live l k ≡ false → AllTurn Makes xs → Climbs (rank (key_number k) + 1) high (ranks xs) → Replays xs (after_add l k b) m
+      → AllTurn Makes ys → Climbs from to (ranks ys) → Replays ys l n → rank (key_number k) < from → ⊥
   comes_in_both xs ys l m n from to high k b alike dead a c r p d q less =
       let lives : is_live m k ≡ true = lives_at m k b (made_stands xs l m high k b a c r) in
       let still : is_live n k ≡ is_live l k = ap (λ (h : Held). not (is_dead h)) (untouched ys l n from to k p d q less) in
       let bad : true ≡ false = sym lives ∙ alike.live k ∙ still ∙ dead in cc
 
   -- of two first keys of one number, each is the other
-  one_key : (xs ys : List Move) (l m n : FrameLife) (to high : ℕ) (k j : Key) (b e : Option Block) → Alike m n → is_live l k ≡ false → AllTurn Makes xs → Climbs (rank (number_of k) + 1) to (ranks xs) → Replays xs (after_add l k b) m
-      → AllTurn Makes ys → Climbs (rank (number_of j) + 1) high (ranks ys) → Replays ys (after_add l j e) n → rank (number_of k) ≡ rank (number_of j) → k ≡ j
+  one_key : (xs ys : List Move) (l m n : FrameLife) (to high : ℕ) (k j : Key) (b e : Option Block) → Alike m n → is_live l k ≡ false → AllTurn Makes xs → Climbs (rank (key_number k) + 1) to (ranks xs) → Replays xs (after_add l k b) m
+      → AllTurn Makes ys → Climbs (rank (key_number j) + 1) high (ranks ys) → Replays ys (after_add l j e) n → rank (key_number k) ≡ rank (key_number j) → k ≡ j
   one_key xs ys l m n to high k j b e alike dead a c r p d q same = at (same_key k j) refl
     where
       at : (t : Bool) → same_key k j ≡ t → k ≡ j
       at true h = same_key-true k j h
       at false h =
           let lives : is_live m k ≡ true = lives_at m k b (made_stands xs l m to k b a c r) in
-          let still : n.stands k ≡ l.stands k = untouched ys (after_add l j e) n (rank (number_of j) + 1) high k p d q (omega (arith, same)) ∙ stands_add l j k e ∙ ap (λ (x : Bool). cond x (made_at e) (l.stands k)) h in
+          let still : n.stands k ≡ l.stands k = untouched ys (after_add l j e) n (rank (key_number j) + 1) high k p d q (omega (arith, same)) ∙ stands_add l j k e ∙ ap (λ (x : Bool). cond x (made_at e) (l.stands k)) h in
           let bad : true ≡ false = sym lives ∙ alike.live k ∙ ap (λ (h : Held). not (is_dead h)) still ∙ dead in
           cc
 
   makes_one : (xs ys : List Move) (l m n : FrameLife) (from to : ℕ) → Alike m n → AllTurn Makes xs → Climbs from to (ranks xs) → Replays xs l m → AllTurn Makes ys → Climbs from to (ranks ys) → Replays ys l n → ys ≡ xs
   makes_one [] [] l m n from to alike a c r p d q = refl
   makes_one [] (move.Add k b ∷ ys) l m n from to alike a c r p d q =
-      absurd (comes_in_both ys [] l n m (rank (number_of k) + 1) to to k b (alike_back m n alike) (dead_before l k b q.0) p.1 d.2 q.1 tt tt r (omega arith))
+      absurd (comes_in_both ys [] l n m (rank (key_number k) + 1) to to k b (alike_back m n alike) (dead_before l k b q.0) p.1 d.2 q.1 tt tt r (omega arith))
   makes_one (move.Add k b ∷ xs) [] l m n from to alike a c r p d q =
-      absurd (comes_in_both xs [] l m n (rank (number_of k) + 1) to to k b alike (dead_before l k b r.0) a.1 c.2 r.1 tt tt q (omega arith))
-  makes_one (move.Add k b ∷ xs) (move.Add j e ∷ ys) l m n from to alike a c r p d q = elim (cases_lt (rank (number_of k)) (rank (number_of j))) [
-    | inl less ↦ absurd (comes_in_both xs (move.Add j e ∷ ys) l m n (rank (number_of j)) to to k b alike (dead_before l k b r.0) a.1 c.2 r.1 p (omega arith, d.1, d.2) q less)
-    | inr more ↦ elim (cases_lt (rank (number_of j)) (rank (number_of k))) [
-      | inl less ↦ absurd (comes_in_both ys (move.Add k b ∷ xs) l n m (rank (number_of k)) to to j e (alike_back m n alike) (dead_before l j e q.0) p.1 d.2 q.1 a (omega arith, c.1, c.2) r less)
+      absurd (comes_in_both xs [] l m n (rank (key_number k) + 1) to to k b alike (dead_before l k b r.0) a.1 c.2 r.1 tt tt q (omega arith))
+  makes_one (move.Add k b ∷ xs) (move.Add j e ∷ ys) l m n from to alike a c r p d q = elim (cases_lt (rank (key_number k)) (rank (key_number j))) [
+    | inl less ↦ absurd (comes_in_both xs (move.Add j e ∷ ys) l m n (rank (key_number j)) to to k b alike (dead_before l k b r.0) a.1 c.2 r.1 p (omega arith, d.1, d.2) q less)
+    | inr more ↦ elim (cases_lt (rank (key_number j)) (rank (key_number k))) [
+      | inl less ↦ absurd (comes_in_both ys (move.Add k b ∷ xs) l n m (rank (key_number k)) to to j e (alike_back m n alike) (dead_before l j e q.0) p.1 d.2 q.1 a (omega arith, c.1, c.2) r less)
       | inr most ↦
-          (let number : rank (number_of k) ≡ rank (number_of j) = omega (arith, more, most) in
+          (let number : rank (key_number k) ≡ rank (key_number j) = omega (arith, more, most) in
           let same = one_key xs ys l m n to to k j b e alike (dead_before l k b r.0) a.1 c.2 r.1 p.1 d.2 q.1 number in
-          let climbs : Climbs (rank (number_of k) + 1) to (ranks ys) = subst (λ (x : ℕ). Climbs (x + 1) to (ranks ys)) (sym number) d.2 in
+          let climbs : Climbs (rank (key_number k) + 1) to (ranks ys) = subst (λ (x : ℕ). Climbs (x + 1) to (ranks ys)) (sym number) d.2 in
           let as_k : Replays ys (after_add l k e) n = subst (λ (x : Key). Replays ys (after_add l x e) n) (sym same) q.1 in
           let block = one_made l m n k b e alike (made_stands xs l m to k b a.1 c.2 r.1) (made_stands ys l n to k e p.1 climbs as_k) in
-          let rest = makes_one xs ys (after_add l k b) m n (rank (number_of k) + 1) to alike a.1 c.2 r.1 p.1 climbs (subst (λ (x : Option Block). Replays ys (after_add l k x) n) block as_k) in
+          let rest = makes_one xs ys (after_add l k b) m n (rank (key_number k) + 1) to alike a.1 c.2 r.1 p.1 climbs (subst (λ (x : Option Block). Replays ys (after_add l k x) n) block as_k) in
           (λ i. move.Add (sym same i) (block i) ∷ rest i))
     ]
   ]
@@ -272,7 +272,7 @@ module _ (w v : World) (a : Answer) (b c d : Behind) (xs ys : List Move) where
           let row = h.agrees.places p frame f in
           let bad : false ≡ true = sym (ap (λ (o : Option Key). not (is_some o)) row.1.0) ∙ free in cc
 
-  gone_one : (e : Event) (pid : Pid) → Stands w b.life → GivesUp w pid v b.life xs → GivesUp w pid v b.life ys → Did w e a v b xs c → Did w e a v b ys d → ys ≡ xs
+  gone_one : (e : Event) (pid : Pid) → StandsAlways w b.life → GivesUp w pid v b.life xs → GivesUp w pid v b.life ys → Did w e a v b xs c → Did w e a v b ys d → ys ≡ xs
   gone_one e pid s g h p q =
       one_end_log w pid.0 b.life s (is_uncommitted v) c.life d.life xs ys (alike_by e p q).live (unmapped_by e c xs p) (unmapped_by e d ys q) g h p.replays q.replays
 

@@ -17,10 +17,9 @@ use Rattle.mm_world.specs.World.{World}
 use Rattle.mm_world.specs.Report.{Report}
 use Rattle.mm_blocks.specs.{DeviceOf, Call, AllServed, logged_call, KeepsOthers}
 use Rattle.mm_pages.specs.{changed, same_place, told_of, told_through, paging_traffic, file_traffic, Aim, AccessMoves, walk_from, Makes, MakesStack}
-use Rattle.mm_pages.specs.{Turned, guard_told, Trims, Completes, leaving, where_of, block_at, backed_by}
+use Rattle.mm_pages.specs.{Turned, guard_told, Trims, Completes, leaving, where_of, block_at, backed_by, Goes}
 use Rattle.mm_pages.specs.Behind.{Behind}
 use Rattle.mm_pages.specs.Flushing.{Flushing}
-use Rattle.mm_pages.specs.Housekeeping.{Goes}
 use Rattle.mm_paging.specs.Kinds.{row_key, file_block_of, kind_of_line, aim_of, lives}
 
 -- ---- the state after a line
@@ -263,7 +262,7 @@ pub record Line (w : World) (before : Report) (b : Behind) (paging files : Devic
 
 -- A line that was decided, of a store that pages: its piece of the log, by which the log grew, and
 -- which replays.
-pub record Noted (w : World) (before : Report) (b : Behind) (paging files : DeviceOf)
+pub record LineNoted (w : World) (before : Report) (b : Behind) (paging files : DeviceOf)
     (blocks : List Page) (e : Event) (a : Answer) (v : World) (after : Report) (c : Behind)
     (paging' files' : DeviceOf) (blocks' : List Page) : Type 0 where
   pub piece : List Move

@@ -58,17 +58,17 @@ pub record Did (w : World) (e : Event) (a : Answer) (v : World) (b : Behind) (mo
 
 -- What holds of each world and each state that lines reach: regions are laid out, handles have 32
 -- bits, and page-file keys live.
-pub record Stands (w : World) (l : FrameLife) : Type 0 where
+pub record StandsAlways (w : World) (l : FrameLife) : Type 0 where
   pub spaces : Spaces w
   pub few : (pid : ℕ) (p : ProcessOf Page) → process_of w pid ≡ Some p → length p.handles < 2 ^ 32
   pub live : (k : Key) → l.paging k ≡ true → is_live l k ≡ true
 
 -- before a line that takes pages away
 abbrev pub StandsBefore : Event → World → FrameLife → Type 0
-StandsBefore (line.Exit pid) w l = Stands w l
-StandsBefore (line.Free pid addr size type) w l = Stands w l
-StandsBefore (line.Unmap pid addr) w l = Stands w l
-StandsBefore (line.Close pid handle) w l = Stands w l
+StandsBefore (line.Exit pid) w l = StandsAlways w l
+StandsBefore (line.Free pid addr size type) w l = StandsAlways w l
+StandsBefore (line.Unmap pid addr) w l = StandsAlways w l
+StandsBefore (line.Close pid handle) w l = StandsAlways w l
 StandsBefore _ w l = Unit {0}
 
 -- two runs of a `flush`, over devices that answered alike

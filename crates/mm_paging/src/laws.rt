@@ -2,7 +2,7 @@ ghost use Rattle.std.specs.Prelude.{◌≡◌, true, List};
 ghost use Rattle.mm_types.specs.{Answer, Event, Move};
 ghost use Rattle.mm_world.specs.World.{World};
 ghost use Rattle.mm_pages.specs.Behind.{Behind};
-ghost use Rattle.mm_paging.specs.OneLog.{has_one_log, AnsweredAlike, Did, StandsBefore};
+ghost use Rattle.mm_paging.specs.{has_one_log, AnsweredAlike, Did, StandsBefore};
 
 /// A line of the system, a `flush`, or a call has one log: two runs of it that answer alike, over
 /// devices that answer alike, make the same moves.

@@ -4,9 +4,9 @@ ghost use Rattle.mm_types.specs.declared.moves.Move.TheVariants as move;
 ghost use Rattle.mm_types.specs.declared.moves.Stored.TheVariants as stored;
 ghost use Rattle.mm_life.specs.{rewritten_log, smallest_set_log, frame, slot, place, private, writes_begun, clearings};
 ghost use Rattle.mm_pages.specs.{AccessMoves, none_told, told_through, paging_traffic, page_rank, section_rank, FlushMoves, Makes, MakesStack};
-ghost use Rattle.mm_pages.specs.{Turned, LowestFirst};
-ghost use Rattle.mm_pages.specs.Housekeeping.{Goes};
-ghost use Rattle.mm_paging.specs.Worked.{changed_page, page_written_to, shared, section_log, life_after, behind_after, second_write, next_page, going, behind_page, before_all, with_sections};
+ghost use Rattle.mm_pages.specs.{Turned, LowestFirst, Goes};
+ghost use Rattle.mm_paging.specs.{changed_page, page_written_to, shared, section_log, life_after, behind_after, second_write, next_page, going};
+ghost use Rattle.mm_paging.specs.{behind_page, before_all, with_sections};
 
 /// The page that was trimmed is written to the lowest slot; its write, completed, is a call of the
 /// paging device.

@@ -7,7 +7,7 @@ use Rattle.mm_types.specs.{Area, Block, Frame, Key, Place}
 use Rattle.mm_types.specs.declared.numbers.Key.TheVariants.{Private, Shared}
 use Rattle.mm_types.specs.declared.frames.Held.TheVariants as held
 use Rattle.mm_life.specs.{ResidentSet, record_at, FrameLife, key_of_place, is_shared, set_in, owner_is}
-use Rattle.mm_laws.specs.Reached.{Reached}
+use Rattle.mm_laws.specs.{ReachedByMoves}
 use Rattle.mm_laws.proofs.{reached_sound, slot_free, slot_has, slot_one, slot_there, places_counted, same_place-true}
 use Rattle.mm_words.specs.{Entry, Aside, key_entry, own_word, place_from, is_valid_entry}
 use Rattle.mm_words.specs.declared.layout.Entry.TheVariants as entry
@@ -19,7 +19,7 @@ use Rattle.mm_parts.proofs.Reading.{in_frame, beside_word, beside_shared}
 use Rattle.mm_parts.proofs.Keeping.{valid_owned}
 use Rattle.mm_parts.proofs.LineSteps.{valid_is}
 
-pub slots_agree : (l : FrameLife) → ∥ Reached l ∥₁ → SlotsAgree l
+pub slots_agree : (l : FrameLife) → ∥ ReachedByMoves l ∥₁ → SlotsAgree l
 slots_agree l r = record {
   free = λ s h e g. ∥∥₁_elim r (hlevel props) (λ x. slot_free l (reached_sound l x) s h e g);
   held = λ s e. ∥∥₁_map r (λ x. slot_has l (reached_sound l x) s e);

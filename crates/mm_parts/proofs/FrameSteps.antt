@@ -2,7 +2,7 @@
 use Rattle.std.proofs.Common.{◌≡◌, ℕ, ◌<◌, Bool, true, false, List, [], ◌∷◌, ◌++◌, Option, Some, None, refl, sym, ap, ◌∙◌, arith, length}
 use Rattle.std.specs.Prelude.{◌==◌, ◌&&◌, ◌||◌, not, is_some, nat_lt, map, if◌then◌else◌, slice_set, slice_get}
 use Rattle.std.proofs.lemmas.Bool.{and_parts, or_left, or_right, not-true, ltb-true}
-use Rattle.mm_types.specs.{Frame, Block, Slot, Record, Backing, Move, Stored, Key, Place}
+use Rattle.mm_types.specs.{Frame, Block, Record, Backing, Move, Stored, Key, Place}
 use Rattle.mm_life.specs.{FrameLife, FrameTable, blank, record_at, has_request, is_read, is_write, is_again, slot_of, without, without_slot, soiled}
 use Rattle.mm_life.specs.{read_done, write_done, write_lost, being_written, with_record, settled, to_free, slot_after_soil, slot_after_read}
 use Rattle.mm_life.specs.{slot_after_wrote, slot_after_lost, after_clear, after_soil, after_got, after_write, after_wrote, after_lost, IsLegal}
@@ -29,7 +29,6 @@ use Rattle.mm_parts.proofs.KeyChanges.{Rewords, is_beside, rests, key_step, key_
 use Rattle.mm_parts.proofs.Reading.{resting_word, zero_word, stored_word, away_calm, home_held, home_paging, home_lands, home_resting, home_used}
 use Rattle.mm_parts.proofs.Reading.{home_aside, stored_paging, own_backing, stored_used}
 use Rattle.mm_types.specs.declared.frames.Backing.TheVariants as backing
-use Rattle.mm_types.specs.declared.frames.Request.TheVariants as request
 use Rattle.mm_types.specs.declared.moves.Move.TheVariants as move
 use Rattle.mm_types.specs.declared.moves.Stored.TheVariants as stored
 use Rattle.mm_types.specs.declared.frames.Held.TheVariants as held

@@ -25,6 +25,7 @@ pub use PlaceChanges.{map_any_step, unmap_any_step}
 pub use LineSteps.{ages_held, area_clear, area_step, at_step, bind_step, bytes_step, first_legal}
 pub use LineSteps.{givable, grow_machine, grow_step, next_shown, next_told, no_place, oldest_told}
 pub use LineSteps.{open_step, range_user, set_room, slots_small, start_step, unbind_step, used_step}
+pub use Agreeing.{entries_agree, requests_agree, sets_agree, slots_agree}
 pub use Conditions.{Leaving, frame_fits, frame_low, invalid_entry, leave_can, leaving_told}
 pub use Conditions.{lowest_is, mappable, name_can, new_in, read_backing, read_fewer, read_frame}
 pub use Conditions.{read_fresh, read_new, shares_room, steal_can, write_can, write_free, write_low}

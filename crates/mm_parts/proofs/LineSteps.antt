@@ -17,7 +17,7 @@ use Rattle.mm_parts.specs.{named_by, names_of, life_of, WordsKept, after_page}
 use Rattle.mm_parts.proofs.Keeping.{Step, known}
 use Rattle.std.proofs.lemmas.List.{length-replicate}
 use Rattle.mm_types.specs.declared.numbers.Key.TheVariants.{Private, Shared}
-use Rattle.mm_laws.specs.Reached.{Reached}
+use Rattle.mm_laws.specs.{ReachedByMoves}
 use Rattle.mm_parts.proofs.Stands.{same_life, at_if}
 use Rattle.mm_wset.specs.{GoesBefore, IsNextFrom}
 use Rattle.std.specs.Option.{ForSome}
@@ -166,7 +166,7 @@ nobody_waits (suc n) (suc t) f e = nobody_waits n t f e
 pub start_step : (m : MachineOf) → IsMachine m → Step (started_parts m) (first_parts m)
 start_step m h = record {
   kept = record {
-    reached = ∣ subst Reached (sym (life_at_start m)) (reached_next (first_move m) unstarted reached_start (first_legal m h)) ∣₁;
+    reached = ∣ subst ReachedByMoves (sym (life_at_start m)) (reached_next (first_move m) unstarted reached_start (first_legal m h)) ∣₁;
     line = record { machine = h; begun = omega arith; blocks = length-replicate {A = Bool} m.blocks false };
     words = record {
       transition = λ k f e. let bad = by k f e in absurd bad;
@@ -295,7 +295,7 @@ module _ (t : JoinedParts) (kept : PartsKept t) (pid : ℕ) (r : Range) (g : Giv
       (record (shown_of t) { bound = changed_in t.words.bound pid r false; names = changed_in (names_of (owners t.table) t.words) pid r None })
   unbind_step = record {
     kept = assumption (
-      subst (λ (l : FrameLife). ∥ Reached l ∥₁) (sym given_life) kept.reached,
+      subst (λ (l : FrameLife). ∥ ReachedByMoves l ∥₁) (sym given_life) kept.reached,
       given_kept,
       λ (x : Place) (h : changed_in t.words.bound pid r false x ≡ true). kept.ranges.user x (bound_less t.words.bound pid r x h),
     );

@@ -2,7 +2,7 @@
 use Rattle.std.proofs.Common.{◌≡◌, ◌⊎◌, ℕ, ◌≤◌, Bool, true, false, cond, Option, Some, refl, sym, ap, ◌∙◌, inl, inr, arith, None, List, [], ◌∷◌, ◌++◌}
 use Rattle.std.proofs.Common.{◌<◌, length}
 use Rattle.std.specs.Prelude.{not, if◌then◌else◌, slice_get, is_some, is_none, option_map, unwrap_or, nat_lt}
-use Rattle.mm_types.specs.{Frame, Slot, Key, Place, Backing, Held, Pid, Vpn}
+use Rattle.mm_types.specs.{Frame, Key, Place, Backing, Held, Pid, Vpn}
 use Rattle.mm_types.specs.declared.numbers.Key.TheVariants.{Private, Shared}
 use Rattle.mm_life.specs.{FrameTable, record_at, is_shared, is_live, is_dead, key_of_place, is_zero, is_stored, home_at, backing_of, is_empty, rest}
 use Rattle.mm_life.specs.{after_steal, taken_for_read, has_request}

@@ -4,8 +4,7 @@ use Rattle.std.specs.Prelude.{◌≡◌, ◌≤◌, ◌<◌, ℕ, true, false, l
 use Rattle.mm_types.specs.{end_of_user_pages, IsMachine, Frame, Key, Place}
 use Rattle.mm_types.specs.declared.frames.Held.TheVariants as held
 use Rattle.mm_life.specs.{ResidentSet, record_at, is_read, is_write, slot_of, FrameLife, is_live, set_of, is_touch, fits_place, slot_at}
-use Rattle.mm_laws.specs.Reached.{Reached}
-use Rattle.mm_laws.specs.{is_backed, block_held, IsAdded, is_home_for, is_backing_for}
+use Rattle.mm_laws.specs.{ReachedByMoves, is_backed, block_held, IsAdded, is_home_for, is_backing_for}
 use Rattle.mm_flight.specs.declared.flights.Waiting.TheVariants as waiting
 use Rattle.mm_parts.specs.Shown.{PartsOf, is_own_line, own_is}
 use Rattle.mm_parts.specs.Moves.{HasHome}
@@ -20,7 +19,7 @@ pub record HasSet (l : FrameLife) (pid : ℕ) : Type 0 where
 
 pub record LinesHold (s : PartsOf) : Type 0 where
   -- the state was reached by legal moves from before the first line
-  pub reached : ∥ Reached s.life ∥₁
+  pub reached : ∥ ReachedByMoves s.life ∥₁
   pub machine : IsMachine s.life.machine
   pub begun : 1 ≤ s.life.line
   -- the line's own request alone passes the depth, and it and the key beside the tables stand

@@ -2,7 +2,7 @@
 use Rattle.std.specs.Prelude.{◌≡◌, ◌≤◌, ◌<◌, ◌^◌, ℕ, true, length, Option, Some, is_some, slice_get}
 use Rattle.mm_types.specs.{end_of_user_pages, IsMachine, Frame, Place, LineKind}
 use Rattle.mm_life.specs.{ResidentSet, FrameTable, record_at, is_read, set_in, is_touch}
-use Rattle.mm_laws.specs.Reached.{Reached}
+use Rattle.mm_laws.specs.{ReachedByMoves}
 use Rattle.mm_flight.specs.{FlightOf, is_in}
 use Rattle.mm_flight.specs.declared.flights.Waiting.TheVariants as waiting
 use Rattle.mm_words.specs.{WordsOf}
@@ -35,7 +35,7 @@ pub record RangesKept (w : WordsOf) : Type 0 where
 
 pub record PartsKept (t : JoinedParts) : Type 0 where
   -- the state that they show was reached by legal moves
-  pub reached : ∥ Reached (life_in t) ∥₁
+  pub reached : ∥ ReachedByMoves (life_in t) ∥₁
   pub line : LineKept t.line
   pub words : WordsKept t.table t.words
   pub within : WithinLine t.line.kind t.own t.words

@@ -1,7 +1,7 @@
 ghost use Rattle.std.specs.Prelude.{◌≡◌, ℕ, Some, false, option_map, slice_get};
 ghost use Rattle.mm_life.specs.{freed};
 ghost use Rattle.mm_frame_laws.specs.{backing_to};
-ghost use Rattle.mm_parts.specs.Moves.{home_entry, entry_backing};
+ghost use Rattle.mm_parts.specs.{home_entry, entry_backing};
 
 use mm_slots::Slots;
 use mm_types::{Backing, Slot, Stored};

@@ -9,7 +9,7 @@ use crate::parts::Parts;
 use mm_types::{Area, NoMemory, Pid, Vpn};
 
 impl Parts {
-    ghost use Rattle.mm_parts.specs.PartsShown.{shown_parts};
+    ghost use Rattle.mm_parts.specs.{shown_parts};
 
     /// Opens a process that has begun, and takes the room of its working set. After `NoMemory`
     /// nothing has changed.

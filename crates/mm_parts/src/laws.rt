@@ -4,43 +4,26 @@ ghost use Rattle.mm_life.specs.{record_at, is_read, ended_by};
 ghost use Rattle.mm_ram.specs.{page_at, bytes_of, zero_page};
 ghost use Rattle.mm_frames.specs.{is_bound};
 ghost use Rattle.mm_flight.specs.{ended, Waiting};
-ghost use Rattle.mm_parts.specs.Agree.{EntriesAgree, SlotsAgree, RequestsAgree, SetsAgree};
-ghost use Rattle.mm_parts.specs.Holds.{LinesHold, PagesHold, StorageHolds};
-ghost use Rattle.mm_parts.specs.Reading.{waits_of};
+ghost use Rattle.mm_parts.specs.{EntriesAgree, SlotsAgree, RequestsAgree, SetsAgree, LinesHold, PagesHold, StorageHolds, waits_of};
 
 use crate::parts::Parts;
 
 impl Parts {
-    ghost use Rattle.mm_parts.specs.PartsShown.{shown_parts, parts_words, parts_ages, parts_flight};
+    ghost use Rattle.mm_parts.specs.{shown_parts, parts_words, parts_ages, parts_flight};
 
     /// Each key has one entry, which says where it stands, and the words of places name the frames
-    /// that they are valid for. It does nothing.
-    pub fn entries_agree(&self)
-        ensures { EntriesAgree (shown_parts self.now).life (parts_words self.now) }
-    {
-        let _words = &self.words;
-    }
-
-    /// A free slot has no holder, and each other slot one. It does nothing.
-    pub fn slots_agree(&self)
-        ensures { SlotsAgree (shown_parts self.now).life }
-    {
-        let _slots = &self.slots;
-    }
-
-    /// The requests are those of the frames' records, at most one more than the depth: those in
-    /// flight, and the line's own. It does nothing.
-    pub fn requests_agree(&self)
-        ensures { RequestsAgree (shown_parts self.now).life (parts_flight self.now)
+    /// that they are valid for. A free slot has no holder, and each other slot one. The requests
+    /// are those of the frames' records, at most one more than the depth: those in flight, and the
+    /// line's own. Each working set holds the valid places of its process, each with an age. It
+    /// does nothing.
+    pub fn parts_agree(&self)
+        ensures entries { EntriesAgree (shown_parts self.now).life (parts_words self.now) }
+        ensures slots { SlotsAgree (shown_parts self.now).life }
+        ensures requests { RequestsAgree (shown_parts self.now).life (parts_flight self.now)
             (shown_parts self.now).own }
+        ensures sets { SetsAgree (shown_parts self.now).life (parts_ages self.now) }
     {
         self.flight.requests_hold();
-    }
-
-    /// Each working set holds the valid places of its process, each with an age. It does nothing.
-    pub fn sets_agree(&self)
-        ensures { SetsAgree (shown_parts self.now).life (parts_ages self.now) }
-    {
         self.words.working_sets_hold();
     }
 

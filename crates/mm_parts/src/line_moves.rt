@@ -1,11 +1,9 @@
-ghost use Rattle.std.specs.Prelude.{◌≡◌, ◌≤◌, None, false, IfOk, OnOk, replicate};
+ghost use Rattle.std.specs.Prelude.{◌≡◌, ◌≤◌, None, IfOk, OnOk};
 ghost use Rattle.mm_types.specs.declared.moves.LineKind.TheVariants as kind;
 ghost use Rattle.mm_types.specs.declared.moves.Move.TheVariants as move;
 ghost use Rattle.mm_life.specs.{IsLegal};
 ghost use Rattle.mm_words.specs.Shown as tables;
-ghost use Rattle.mm_parts.specs.Moves.{parts_after, IsPlainLine, words_begun, CanBeginSet};
-ghost use Rattle.mm_types.specs.{IsMachine};
-ghost use Rattle.mm_parts.specs.Start.{first_parts, first_kind, more_slots};
+ghost use Rattle.mm_parts.specs.{parts_after, IsPlainLine, words_begun, CanBeginSet, first_parts, first_kind};
 
 use crate::parts::Parts;
 use mm_flight::Flight;
@@ -13,14 +11,7 @@ use mm_frames::Frames;
 use mm_slots::Slots;
 use mm_types::{LineKind, Machine, NoMemory};
 use mm_words::Words;
-use std::alloc::{AllocError, Global};
-
-/// No block was ever added.
-fn none_added(alloc: Global, blocks: u32) -> Result<Vec<bool>, AllocError>
-    ensures { IfOk result (λ v. v.items ≡ replicate blocks false) }
-{
-    vec![in alloc; false; blocks as usize]
-}
+use std::alloc::Global;
 
 /// The kind of the first line.
 fn kind_of(machine: Machine) -> LineKind
@@ -29,19 +20,6 @@ fn kind_of(machine: Machine) -> LineKind
     LineKind::Machine(
         machine.frames(),
         machine.slots(),
-        machine.depth(),
-        machine.blocks(),
-    )
-}
-
-/// The machine with further slots.
-fn with_slots(machine: Machine, n: u32) -> Machine
-    requires { IsMachine (more_slots machine n) }
-    ensures { result ≡ more_slots machine n }
-{
-    Machine::new(
-        machine.frames(),
-        machine.slots() + n,
         machine.depth(),
         machine.blocks(),
     )
@@ -59,14 +37,14 @@ fn begin_set(words: &mut Words, kind: LineKind)
 }
 
 impl Parts {
-    ghost use Rattle.mm_parts.specs.PartsShown.{shown_parts, spare_slots};
+    ghost use Rattle.mm_parts.specs.{shown_parts, spare_slots};
 
     /// A machine at rest, whose first line has begun. It takes the memory of all frames, slots,
     /// blocks and requests.
     pub fn new(alloc: Global, machine: Machine) -> Result<Parts, NoMemory>
         ensures { IfOk result (λ p. shown_parts p ≡ first_parts machine) }
     {
-        let added = none_added(alloc, machine.blocks())?;
+        let added = vec![in alloc; false; machine.blocks() as usize]?;
         let frames = Frames::new(alloc, machine.frames())?;
         let words = Words::new(alloc)?;
         let slots = Slots::new(alloc, machine.slots())?;
@@ -122,7 +100,13 @@ impl Parts {
     {
         self.line = line;
         self.kind = LineKind::Grow(n);
-        self.machine = with_slots(self.machine, n);
+        let machine = self.machine;
+        self.machine = Machine::new(
+            machine.frames(),
+            machine.slots() + n,
+            machine.depth(),
+            machine.blocks(),
+        );
         self.slots.grow(n);
     }
 }

@@ -2,9 +2,7 @@ ghost use Rattle.std.specs.Prelude.{◌≡◌, ◌<◌, true, Some, length, None
 ghost use Rattle.mm_types.specs.{Frame};
 ghost use Rattle.mm_life.specs.{record_at, set_of, is_at_max, is_above_min, IsOldest};
 ghost use Rattle.mm_words.specs.{valid_frame, place_from};
-ghost use Rattle.mm_parts.specs.Shown.{held_by};
-ghost use Rattle.mm_parts.specs.Moves.{HasHome, after_page};
-ghost use Rattle.mm_parts.specs.Reading.{is_own_page, is_private};
+ghost use Rattle.mm_parts.specs.{held_by, HasHome, after_page, is_own_page};
 ghost use Rattle.std.specs.Option.{ForSome};
 ghost use Rattle.mm_wset.specs.{IsNextFrom};
 ghost use Rattle.mm_frame_laws.specs.{IsNextPage, NoPageFollows};
@@ -38,16 +36,6 @@ fn held_in(entry: Entry, own: bool) -> Held
     }
 }
 
-/// Whether a page is a private one.
-fn is_private(owner: Option<Key>) -> bool
-    ensures { result ≡ is_private owner }
-{
-    match owner {
-        Some(Key::Private(_, _)) => true,
-        _ => false,
-    }
-}
-
 /// Whether the frame of a valid entry of a key is the key's own: the place of a private key may be
 /// valid for a shared page.
 fn is_own_page(frames: &Frames, key: Key, entry: Entry) -> bool
@@ -57,7 +45,7 @@ fn is_own_page(frames: &Frames, key: Key, entry: Entry) -> bool
 {
     match key {
         Key::Private(_, _) => match entry {
-            Entry::Valid(f, _) => is_private(frames.look(f).owner),
+            Entry::Valid(f, _) => matches!(frames.look(f).owner, Some(Key::Private(_, _))),
             _ => true,
         },
         Key::Shared(_, _) => true,
@@ -65,7 +53,7 @@ fn is_own_page(frames: &Frames, key: Key, entry: Entry) -> bool
 }
 
 impl Parts {
-    ghost use Rattle.mm_parts.specs.PartsShown.{shown_parts};
+    ghost use Rattle.mm_parts.specs.{shown_parts};
 
     /// The machine, with the slots that there are now.
     pub fn machine(&self) -> Machine
@@ -128,7 +116,7 @@ impl Parts {
         ensures { option_map (λ s. s.resident) (set_of (shown_parts self.now).life pid.0) ≡ Some
             result }
     {
-        self.words.valid_places(pid)
+        self.words.resident(pid).resident
     }
 
     /// The fewest pages, down to which a working set is trimmed.
@@ -136,7 +124,7 @@ impl Parts {
         requires { is_some (set_of (shown_parts self.now).life pid.0) ≡ true }
         ensures { option_map (λ s. s.min) (set_of (shown_parts self.now).life pid.0) ≡ Some result }
     {
-        self.words.min(pid)
+        self.words.resident(pid).min
     }
 
     /// The most pages that a working set has.
@@ -144,7 +132,7 @@ impl Parts {
         requires { is_some (set_of (shown_parts self.now).life pid.0) ≡ true }
         ensures { option_map (λ s. s.max) (set_of (shown_parts self.now).life pid.0) ≡ Some result }
     {
-        self.words.max(pid)
+        self.words.resident(pid).max
     }
 
     /// Whether a working set is full: a page goes before the next comes.

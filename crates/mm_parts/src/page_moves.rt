@@ -1,7 +1,8 @@
 ghost use Rattle.std.specs.Prelude.{◌≡◌, Some, None, option_map, true};
 ghost use Rattle.mm_life.specs.{IsLegal, record_at, changed, same_place, key_of_place, is_shared, is_dead, owner_is};
 ghost use Rattle.mm_ram.specs.{page_at, zero_page, with_page};
-ghost use Rattle.mm_parts.specs.Moves.{front, parts_after, names_after_give, HasHome, IsClear, aside_after_add, names_after_drop, table_released, slot_released, IsReleased, copy_place, left_by, names_after_map, MayMap, CanName, words_named, CanLeave, words_left};
+ghost use Rattle.mm_parts.specs.{front, parts_after, names_after_give, HasHome, IsClear, aside_after_add, names_after_drop, table_released};
+ghost use Rattle.mm_parts.specs.{slot_released, IsReleased, copy_place, left_by, names_after_map, MayMap, CanName, words_named, CanLeave, words_left};
 ghost use Rattle.mm_frames.specs.{FramesOf};
 ghost use Rattle.mm_words.specs.{is_valid_entry};
 ghost use Rattle.mm_types.specs.declared.moves.Move.TheVariants as move;
@@ -73,7 +74,7 @@ fn leave_place(words: &mut Words, place: Place, key: Key, f: Frame, last: bool)
 }
 
 impl Parts {
-    ghost use Rattle.mm_parts.specs.PartsShown.{shown_parts};
+    ghost use Rattle.mm_parts.specs.{shown_parts};
 
     /// The first free frame is cleared, and goes to the end of zeroed.
     pub fn clear(&mut self)
@@ -185,7 +186,7 @@ impl Parts {
         self.words.words_hold();
         let slot = release(&mut self.frames, self.words.word(key));
         give_back(&mut self.slots, slot);
-        self.words.clear_word(key);
+        self.words.set_word(key, Entry::Empty);
         self.paging_keys -= 1;
     }
 

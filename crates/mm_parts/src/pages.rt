@@ -2,14 +2,14 @@ ghost use Rattle.std.specs.Prelude.{◌≡◌, ◌≢◌, ◌≤◌, ◌+◌, �
 ghost use Rattle.mm_types.specs.{Frame};
 ghost use Rattle.mm_life.specs.{record_at, is_read, changed, same_place};
 ghost use Rattle.mm_ram.specs.{bytes_of, bytes_from, overwritten, with_page, page_at};
-ghost use Rattle.mm_parts.specs.Moves.{ages_older};
+ghost use Rattle.mm_parts.specs.{ages_older};
 
 use crate::parts::Parts;
 use mm_types::{Frame, Pid, Place};
 use mm_words::Entry;
 
 impl Parts {
-    ghost use Rattle.mm_parts.specs.PartsShown.{shown_parts};
+    ghost use Rattle.mm_parts.specs.{shown_parts};
 
     /// The frame of a valid place.
     fn frame_at(&self, place: Place) -> Frame

@@ -5,7 +5,8 @@ ghost use Rattle.mm_blocks.specs.{WasRead};
 ghost use Rattle.mm_ram.specs.{page_at};
 ghost use Rattle.mm_frames.specs.{IsDirty, has_block};
 ghost use Rattle.mm_flight.specs.{ended};
-ghost use Rattle.mm_parts.specs.Moves.{parts_after, own_after, own_ended, front_or, front_for_read, end_of_read, write_end, write_target, CanBegin, words_sent, CanSend, goes_to, lowest_free, slots_to};
+ghost use Rattle.mm_parts.specs.{parts_after, own_after, own_ended, front_or, front_for_read, end_of_read, write_end, write_target, CanBegin};
+ghost use Rattle.mm_parts.specs.{words_sent, CanSend, goes_to, lowest_free, slots_to};
 ghost use Rattle.mm_words.specs.Shown as tables;
 ghost use Rattle.mm_slots.specs.{free_count};
 
@@ -66,7 +67,7 @@ fn take_target(slots: &mut Slots, backing: Backing) -> Stored
 }
 
 impl Parts {
-    ghost use Rattle.mm_parts.specs.PartsShown.{shown_parts};
+    ghost use Rattle.mm_parts.specs.{shown_parts};
 
     /// A read of a page begins, into the first free frame, or where none is free the first zeroed
     /// one.

@@ -1,10 +1,8 @@
-ghost use Rattle.std.specs.Prelude.{◌≡◌, ◌<◌, Some, None, true, false, length, ◌+◌, ◌^◌, ◌==◌, ℕ, option_map, slice_set};
+ghost use Rattle.std.specs.Prelude.{◌≡◌, ◌<◌, Some, None, true, false, length, ◌+◌, ◌==◌, ℕ, option_map, slice_set};
 ghost use Rattle.mm_laws.specs.{times};
 ghost use Rattle.mm_flight.specs.{is_in, nth_oldest, place_in};
-ghost use Rattle.mm_parts.specs.Shown.{requests, own_is, is_own_line};
-ghost use Rattle.mm_parts.specs.Moves.{own_after, own_ended, flight_begun, flight_ended};
+ghost use Rattle.mm_parts.specs.{requests, own_is, is_own_line, own_after, own_ended, flight_begun, flight_ended, waits_of};
 ghost use Rattle.mm_life.specs.{record_at, is_read, changed, has_depth, Idle, ForFrame, wait_of as walked_wait};
-ghost use Rattle.mm_parts.specs.Reading.{waits_of};
 ghost use Rattle.mm_flight.specs.declared.flights.Waiting.TheVariants as waiting;
 
 use crate::parts::Parts;
@@ -48,51 +46,18 @@ pub(crate) fn end_request(flight: &mut Flight, own: &mut Option<Frame>, f: Frame
     }
 }
 
-/// How many requests there are: those in flight, and the line's own.
-fn number_of(flight: &Flight, own: Option<Frame>) -> u32
-    requires { length flight.now.frames + 1 < 2 ^ 32 }
-    ensures { result ≡ length (requests flight.now.frames own) }
-{
-    match own {
-        Some(_) => flight.len() + 1,
-        None => flight.len(),
-    }
-}
-
-/// The frame of the i-th oldest request, counted from 1: those in flight, and behind them the
-/// line's own.
-fn nth_request(flight: &Flight, own: Option<Frame>, i: u32) -> Option<Frame>
-    ensures { option_map (λ f. f.0) result ≡ nth_oldest i (requests flight.now.frames own) }
-{
-    let len = flight.len();
-    if len < i {
-        return if i - len == 1 { own } else { None };
-    }
-    flight.nth(i)
-}
-
-/// How old the request of a frame is: 1 is the oldest, and behind those in flight is the line's
-/// own.
-fn place_of_request(flight: &Flight, own: Option<Frame>, f: Frame) -> Option<u32>
-    requires few { length flight.now.frames + 1 < 2 ^ 32 }
-    requires apart { own_is own f.0 ≡ true → is_in f.0 flight.now.frames ≡ false }
-    ensures { result ≡ place_in f.0 (requests flight.now.frames own) }
-{
-    if is_own(&own, f) {
-        return Some(flight.len() + 1);
-    }
-    flight.place_of(f)
-}
-
 impl Parts {
-    ghost use Rattle.mm_parts.specs.PartsShown.{shown_parts};
+    ghost use Rattle.mm_parts.specs.{shown_parts};
 
     /// How many requests there are, the line's own among them.
     pub fn requests(&self) -> u32
         ensures { result ≡ length (shown_parts self.now).life.flight }
     {
         self.flight.requests_hold();
-        number_of(&self.flight, self.own)
+        match self.own {
+            Some(_) => self.flight.len() + 1,
+            None => self.flight.len(),
+        }
     }
 
     /// Whether there are fewer requests than the depth.
@@ -107,7 +72,11 @@ impl Parts {
     pub fn nth(&self, i: u32) -> Option<Frame>
         ensures { option_map (λ f. f.0) result ≡ nth_oldest i (shown_parts self.now).life.flight }
     {
-        nth_request(&self.flight, self.own, i)
+        let len = self.flight.len();
+        if len < i {
+            return if i - len == 1 { self.own } else { None };
+        }
+        self.flight.nth(i)
     }
 
     /// How old the request of a frame is: the i of `nth`. `None` comes exactly where it has none.
@@ -115,7 +84,10 @@ impl Parts {
         ensures { result ≡ place_in f.0 (shown_parts self.now).life.flight }
     {
         self.flight.requests_hold();
-        place_of_request(&self.flight, self.own, f)
+        if is_own(&self.own, f) {
+            return Some(self.flight.len() + 1);
+        }
+        self.flight.place_of(f)
     }
 
     /// A thread waits for a read in flight, which is not the line's own, from now on.

@@ -9,8 +9,8 @@ use Rattle.mm_types.specs.{Area, Key, Pid, Place, Vpn}
 use Rattle.mm_types.specs.declared.numbers.Key.TheVariants.{Private, Shared}
 use Rattle.mm_world.specs.{same_key, InFrame, Page, Tally, filled, written}
 use Rattle.mm_pages.specs.{changed, same_place}
-use Rattle.mm_plain.specs.{AreaPages, FilePage, size_of, pages_of, page_at, block_at, shared_page, contents_of, paging_of, blocks_of, sizes_of}
-use Rattle.mm_plain.specs.{whereabouts_of, unpaged_report}
+use Rattle.mm_plain.specs.{AreaPages, FilePage, size_of, area_pages, page_of_area, area_block, shared_page, contents_of, plain_paging, blocks_of}
+use Rattle.mm_plain.specs.{sizes_of, whereabouts_of, unpaged_report}
 use Rattle.mm_plain.specs.declared.areas.AreaPages.TheVariants.{Paged, Filed}
 use Rattle.mm_plain.specs.Files.{page_of}
 use Rattle.mm_plain.proofs.OpenAreas.{set_at}
@@ -61,15 +61,15 @@ written_to C off bytes {k = k} e same = e ∙ ap (λ q. changed same_key C k (So
 
 pub record Becomes (places late : Place → Option Page) (areas after : ℕ → Option AreaPages) (files : List FilePage) (k : Key) (new : Option Page) : Type 0 where
   pub contents : contents_of late after files ≡ changed same_key (contents_of places areas files) k new
-  pub paging : paging_of late after ≡ changed same_key (paging_of places areas) k (is_some new)
+  pub paging : plain_paging late after ≡ changed same_key (plain_paging places areas) k (is_some new)
   pub sizes : sizes_of after ≡ sizes_of areas
-  pub block : (b j : ℕ) → block_at (after b) j ≡ block_at (areas b) j
+  pub block : (b j : ℕ) → area_block (after b) j ≡ area_block (areas b) j
   pub blocks : blocks_of after ≡ blocks_of areas
 
 pub page_at_place : {places late : Place → Option Page} (areas : ℕ → Option AreaPages) (files : List FilePage) (p : Pid) (v : Vpn) (k : Key) (new : Option Page) → late ≡ changed same_place places (record { pid = p; vpn = v }) new → k ≡ Private p v → Becomes places late areas areas files k new
 page_at_place {places} {late} areas files p v k new e key = subst (λ (q : Key). Becomes places late areas areas files q new) (sym key) (record {
   contents = ap (λ ps. contents_of ps areas files) e ∙ (λ t. λ (q : Key). (at q) t);
-  paging = ap (λ ps. paging_of ps areas) e ∙ (λ t. λ (q : Key). (live q) t);
+  paging = ap (λ ps. plain_paging ps areas) e ∙ (λ t. λ (q : Key). (live q) t);
   sizes = refl;
   block = λ b j. refl;
   blocks = refl;
@@ -83,14 +83,14 @@ page_at_place {places} {late} areas files p v k new e key = subst (λ (q : Key).
     cases true old = refl
     cases false old = refl
 
-    live : (q : Key) → paging_of (changed same_place places (record { pid = p; vpn = v }) new) areas q ≡ changed same_key (paging_of places areas) (Private p v) (is_some new) q
+    live : (q : Key) → plain_paging (changed same_place places (record { pid = p; vpn = v }) new) areas q ≡ changed same_key (plain_paging places areas) (Private p v) (is_some new) q
     live (Private q w) = cases ((q.0 == p.0) && (w.0 == v.0)) (places (record { pid = q; vpn = w }))
     live (Shared a j) = refl
 
 -- ---- an area is another one
 
 -- an area with pages of its own is no file
-pub paged_of : (o : Option AreaPages) (i : ℕ) → i < length (pages_of o) → o ≡ Some (Paged (pages_of o))
+pub paged_of : (o : Option AreaPages) (i : ℕ) → i < length (area_pages o) → o ≡ Some (Paged (area_pages o))
 paged_of None i h = absurd (omega arith)
 paged_of (Some (Paged pages)) i h = refl
 paged_of (Some (Filed first count)) i h = absurd (omega arith)
@@ -98,8 +98,8 @@ paged_of (Some (Filed first count)) i h = absurd (omega arith)
 -- areas of which no key shows another page or block
 pub record Kept (places : Place → Option Page) (areas after : ℕ → Option AreaPages) (files : List FilePage) : Type 0 where
   pub contents : contents_of places after files ≡ contents_of places areas files
-  pub paging : paging_of places after ≡ paging_of places areas
-  pub block : (b j : ℕ) → block_at (after b) j ≡ block_at (areas b) j
+  pub paging : plain_paging places after ≡ plain_paging places areas
+  pub block : (b j : ℕ) → area_block (after b) j ≡ area_block (areas b) j
   pub blocks : blocks_of after ≡ blocks_of areas
 
 module _ (areas after : ℕ → Option AreaPages) (a : ℕ) (new : Option AreaPages) (is : after ≡ changed ◌==◌ areas a new) where
@@ -111,18 +111,18 @@ module _ (areas after : ℕ → Option AreaPages) (a : ℕ) (new : Option AreaPa
       go true e = same ∙ ap (λ (n : ℕ). g (areas n)) (sym (eqb-true b a e))
       go false e = refl
 
-  pub block_kept : ((j : ℕ) → block_at new j ≡ block_at (areas a) j) → (b j : ℕ) → block_at (after b) j ≡ block_at (areas b) j
-  block_kept same b j = kept_at (λ o. block_at o j) (same j) b
+  pub block_kept : ((j : ℕ) → area_block new j ≡ area_block (areas a) j) → (b j : ℕ) → area_block (after b) j ≡ area_block (areas b) j
+  block_kept same b j = kept_at (λ o. area_block o j) (same j) b
 
-  pub paging_kept : (places : Place → Option Page) → ((j : ℕ) → page_at new j ≡ page_at (areas a) j) → paging_of places after ≡ paging_of places areas
+  pub paging_kept : (places : Place → Option Page) → ((j : ℕ) → page_of_area new j ≡ page_of_area (areas a) j) → plain_paging places after ≡ plain_paging places areas
   paging_kept places same = λ t. λ (q : Key). (at q) t
     where
-      at : (q : Key) → paging_of places after q ≡ paging_of places areas q
+      at : (q : Key) → plain_paging places after q ≡ plain_paging places areas q
       at (Private p v) = refl
-      at (Shared b j) = kept_at (λ o. is_some (page_at o j)) (ap is_some (same j)) b.0
+      at (Shared b j) = kept_at (λ o. is_some (page_of_area o j)) (ap is_some (same j)) b.0
 
   -- an area with the blocks and the pages that it had
-  pub areas_kept : (places : Place → Option Page) (files : List FilePage) → ((j : ℕ) → block_at new j ≡ block_at (areas a) j) → ((j : ℕ) → page_at new j ≡ page_at (areas a) j) → Kept places areas after files
+  pub areas_kept : (places : Place → Option Page) (files : List FilePage) → ((j : ℕ) → area_block new j ≡ area_block (areas a) j) → ((j : ℕ) → page_of_area new j ≡ page_of_area (areas a) j) → Kept places areas after files
   areas_kept places files block page = record {
     contents = λ t. λ (q : Key). (at q) t;
     paging = paging_kept places page;
@@ -132,7 +132,7 @@ module _ (areas after : ℕ → Option AreaPages) (a : ℕ) (new : Option AreaPa
     where
       at : (q : Key) → contents_of places after files q ≡ contents_of places areas files q
       at (Private p v) = refl
-      at (Shared b j) = kept_at (λ o. shared_page files (block_at o j) (page_at o j)) (λ t. shared_page files (block j t) (page j t)) b.0
+      at (Shared b j) = kept_at (λ o. shared_page files (area_block o j) (page_of_area o j)) (λ t. shared_page files (block j t) (page j t)) b.0
 
       home : (q : Key) → blocks_of after q ≡ blocks_of areas q
       home (Private p v) = refl
@@ -150,26 +150,26 @@ module _ (areas after : ℕ → Option AreaPages) (a : ℕ) (new : Option AreaPa
 
 -- ---- an area has another page
 
-module _ (areas after : ℕ → Option AreaPages) (a : Area) (i : ℕ) (new : Option Page) (near : i < length (pages_of (areas a.0))) (is : after ≡ changed ◌==◌ areas a.0 (Some (Paged (slice_set (pages_of (areas a.0)) i new)))) where
-  paged : areas a.0 ≡ Some (Paged (pages_of (areas a.0)))
+module _ (areas after : ℕ → Option AreaPages) (a : Area) (i : ℕ) (new : Option Page) (near : i < length (area_pages (areas a.0))) (is : after ≡ changed ◌==◌ areas a.0 (Some (Paged (slice_set (area_pages (areas a.0)) i new)))) where
+  paged : areas a.0 ≡ Some (Paged (area_pages (areas a.0)))
   paged = paged_of (areas a.0) i near
 
-  at_page : {V : Type 0} (g : Option ℕ → Option Page → V) (b j : ℕ) → g (block_at (after b) j) (page_at (after b) j) ≡ (if (b == a.0) && (j == i) then g None new else g (block_at (areas b) j) (page_at (areas b) j))
-  at_page {V} g b j = ap (λ f. g (block_at (f b) j) (page_at (f b) j)) is ∙ go (b == a.0) refl
+  at_page : {V : Type 0} (g : Option ℕ → Option Page → V) (b j : ℕ) → g (area_block (after b) j) (page_of_area (after b) j) ≡ (if (b == a.0) && (j == i) then g None new else g (area_block (areas b) j) (page_of_area (areas b) j))
+  at_page {V} g b j = ap (λ f. g (area_block (f b) j) (page_of_area (f b) j)) is ∙ go (b == a.0) refl
     where
-      split : (t : Bool) → areas b ≡ Some (Paged (pages_of (areas a.0))) → g None (if t then new else page_at (Some (Paged (pages_of (areas a.0)))) j) ≡ (if t then g None new else g (block_at (areas b) j) (page_at (areas b) j))
+      split : (t : Bool) → areas b ≡ Some (Paged (area_pages (areas a.0))) → g None (if t then new else page_of_area (Some (Paged (area_pages (areas a.0)))) j) ≡ (if t then g None new else g (area_block (areas b) j) (page_of_area (areas b) j))
       split true e = refl
-      split false e = ap (λ o. g (block_at o j) (page_at o j)) (sym e)
+      split false e = ap (λ o. g (area_block o j) (page_of_area o j)) (sym e)
 
-      go : (t : Bool) → (b == a.0) ≡ t → g (block_at (if t then Some (Paged (slice_set (pages_of (areas a.0)) i new)) else areas b) j) (page_at (if t then Some (Paged (slice_set (pages_of (areas a.0)) i new)) else areas b) j) ≡ (if t && (j == i) then g None new else g (block_at (areas b) j) (page_at (areas b) j))
-      go true e = ap (g None) (set_at (pages_of (areas a.0)) i j new None near) ∙ split (j == i) (ap areas (eqb-true b a.0 e) ∙ paged)
+      go : (t : Bool) → (b == a.0) ≡ t → g (area_block (if t then Some (Paged (slice_set (area_pages (areas a.0)) i new)) else areas b) j) (page_of_area (if t then Some (Paged (slice_set (area_pages (areas a.0)) i new)) else areas b) j) ≡ (if t && (j == i) then g None new else g (area_block (areas b) j) (page_of_area (areas b) j))
+      go true e = ap (g None) (set_at (area_pages (areas a.0)) i j new None near) ∙ split (j == i) (ap areas (eqb-true b a.0 e) ∙ paged)
       go false e = refl
 
   pub page_in_area : (places : Place → Option Page) (files : List FilePage) (k : Key) → k ≡ Shared a i → Becomes places places areas after files k new
   page_in_area places files k key = subst (λ (q : Key). Becomes places places areas after files q new) (sym key) (record {
     contents = λ t. λ (q : Key). (at q) t;
     paging = λ t. λ (q : Key). (live q) t;
-    sizes = sizes_kept areas after a.0 _ is (ap Some (length-set (pages_of (areas a.0)) i new) ∙ ap size_of (sym paged));
+    sizes = sizes_kept areas after a.0 _ is (ap Some (length-set (area_pages (areas a.0)) i new) ∙ ap size_of (sym paged));
     block = block_kept areas after a.0 _ is no_block;
     blocks = λ t. λ (q : Key). (home q) t;
   })
@@ -178,12 +178,12 @@ module _ (areas after : ℕ → Option AreaPages) (a : Area) (i : ℕ) (new : Op
       at (Private p v) = refl
       at (Shared b j) = at_page (shared_page files) b.0 j
 
-      live : (q : Key) → paging_of places after q ≡ changed same_key (paging_of places areas) (Shared a i) (is_some new) q
+      live : (q : Key) → plain_paging places after q ≡ changed same_key (plain_paging places areas) (Shared a i) (is_some new) q
       live (Private p v) = refl
       live (Shared b j) = at_page (λ block page. is_some page) b.0 j
 
-      no_block : (j : ℕ) → None ≡ block_at (areas a.0) j
-      no_block j = ap (λ o. block_at o j) (sym paged)
+      no_block : (j : ℕ) → None ≡ area_block (areas a.0) j
+      no_block j = ap (λ o. area_block o j) (sym paged)
 
       home : (q : Key) → blocks_of after q ≡ blocks_of areas q
       home (Private p v) = refl
@@ -191,12 +191,12 @@ module _ (areas after : ℕ → Option AreaPages) (a : Area) (i : ℕ) (new : Op
 
 -- ---- a block has another page
 
-module _ (areas : ℕ → Option AreaPages) (files after : List FilePage) (a : Area) (i block : ℕ) (new : FilePage) (at_block : block_at (areas a.0) i ≡ Some block) (near : block < length files) (is : after ≡ slice_set files block new) where
-  pub contents_in_file : ((b j : ℕ) → block_at (areas b) j ≡ Some block → (b ≡ a.0) × (j ≡ i)) → (places : Place → Option Page) (k : Key) → k ≡ Shared a i → contents_of places areas after ≡ changed same_key (contents_of places areas files) k (Some new.page)
+module _ (areas : ℕ → Option AreaPages) (files after : List FilePage) (a : Area) (i block : ℕ) (new : FilePage) (at_block : area_block (areas a.0) i ≡ Some block) (near : block < length files) (is : after ≡ slice_set files block new) where
+  pub contents_in_file : ((b j : ℕ) → area_block (areas b) j ≡ Some block → (b ≡ a.0) × (j ≡ i)) → (places : Place → Option Page) (k : Key) → k ≡ Shared a i → contents_of places areas after ≡ changed same_key (contents_of places areas files) k (Some new.page)
   contents_in_file alone places k key =
       ap (λ fs. contents_of places areas fs) is ∙ (λ t. λ (q : Key). (at q) t) ∙ ap (λ q. changed same_key (contents_of places areas files) q (Some new.page)) (sym key)
     where
-      other : (b : Area) (j : ℕ) → ((b.0 == a.0) && (j == i)) ≡ false → (o : Option ℕ) → block_at (areas b.0) j ≡ o → shared_page (slice_set files block new) o (page_at (areas b.0) j) ≡ shared_page files o (page_at (areas b.0) j)
+      other : (b : Area) (j : ℕ) → ((b.0 == a.0) && (j == i)) ≡ false → (o : Option ℕ) → area_block (areas b.0) j ≡ o → shared_page (slice_set files block new) o (page_of_area (areas b.0) j) ≡ shared_page files o (page_of_area (areas b.0) j)
       other b j t None e = refl
       other b j t (Some k) e = elim (same_or_not k block) [
         | inl same ↦
@@ -208,12 +208,12 @@ module _ (areas : ℕ → Option AreaPages) (files after : List FilePage) (a : A
         | inr apart ↦ ap page_of (get_set_other files block k new apart)
       ]
 
-      split : (b : Area) (j : ℕ) (t : Bool) → ((b.0 == a.0) && (j == i)) ≡ t → shared_page (slice_set files block new) (block_at (areas b.0) j) (page_at (areas b.0) j) ≡ (if t then Some new.page else shared_page files (block_at (areas b.0) j) (page_at (areas b.0) j))
+      split : (b : Area) (j : ℕ) (t : Bool) → ((b.0 == a.0) && (j == i)) ≡ t → shared_page (slice_set files block new) (area_block (areas b.0) j) (page_of_area (areas b.0) j) ≡ (if t then Some new.page else shared_page files (area_block (areas b.0) j) (page_of_area (areas b.0) j))
       split b j true e =
           let h = and_parts (b.0 == a.0) (j == i) e in
-          let there : block_at (areas b.0) j ≡ Some block = ap (λ (n : ℕ). block_at (areas n) j) (eqb-true b.0 a.0 h.0) ∙ ap (λ (n : ℕ). block_at (areas a.0) n) (eqb-true j i h.1) ∙ at_block in
-          ap (λ o. shared_page (slice_set files block new) o (page_at (areas b.0) j)) there ∙ ap page_of (get_set_same files block new near)
-      split b j false e = other b j e (block_at (areas b.0) j) refl
+          let there : area_block (areas b.0) j ≡ Some block = ap (λ (n : ℕ). area_block (areas n) j) (eqb-true b.0 a.0 h.0) ∙ ap (λ (n : ℕ). area_block (areas a.0) n) (eqb-true j i h.1) ∙ at_block in
+          ap (λ o. shared_page (slice_set files block new) o (page_of_area (areas b.0) j)) there ∙ ap page_of (get_set_same files block new near)
+      split b j false e = other b j e (area_block (areas b.0) j) refl
 
       at : (q : Key) → contents_of places areas (slice_set files block new) q ≡ changed same_key (contents_of places areas files) (Shared a i) (Some new.page) q
       at (Private p v) = refl

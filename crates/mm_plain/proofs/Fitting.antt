@@ -7,7 +7,7 @@ use Rattle.mm_types.specs.{Pid, Place, Range, are_user_pages, holds_page, end_of
 use Rattle.mm_types.proofs.{same_or_not, get_set_same, get_set_other, get_within}
 use Rattle.mm_world.specs.{Page}
 use Rattle.mm_pages.specs.{changed_in, is_place_in}
-use Rattle.mm_plain.specs.{AreaPages, FilePage, block_at, count_in, no_area, Fits, FilesFit, bound_in, pages_in, no_place, StockOf}
+use Rattle.mm_plain.specs.{AreaPages, FilePage, area_block, count_in, no_area, Fits, FilesFit, bound_in, pages_in, no_place, StockOf}
 use Rattle.mm_plain.specs.declared.areas.Areas.{Areas}
 use Rattle.mm_plain.specs.declared.places.Places.{Places}
 
@@ -64,7 +64,7 @@ module _ {a b : Places} {x : Areas} {s : StockOf} (pid : Pid) (range : Range) wh
 
 module _ {areas : ℕ → Option AreaPages} {pages : List FilePage} {blocks : List Page} {count : ℕ} (fit : FilesFit areas pages blocks count) where
   -- no page of a file has another block
-  pub files_fit_areas : {after : ℕ → Option AreaPages} → ((a i : ℕ) → block_at (after a) i ≡ block_at (areas a) i) → FilesFit after pages blocks count
+  pub files_fit_areas : {after : ℕ → Option AreaPages} → ((a i : ℕ) → area_block (after a) i ≡ area_block (areas a) i) → FilesFit after pages blocks count
   files_fit_areas same = record {
     near = λ a i block e. fit.near a i block (sym (same a i) ∙ e);
     alone = λ a i b j block e f. fit.alone a i b j block (sym (same a i) ∙ e) (sym (same b j) ∙ f);
@@ -114,8 +114,8 @@ module _ {areas : ℕ → Option AreaPages} {pages : List FilePage} {blocks : Li
 -- no file, no area
 pub files_fit_new : (areas : ℕ → Option AreaPages) (pages : List FilePage) (blocks : List Page) (count : ℕ) → areas ≡ no_area → pages ≡ [] → length blocks ≡ count → count < 2 ^ 32 → FilesFit areas pages blocks count
 files_fit_new areas pages blocks count none empty long few = record {
-  near = λ a i b e. (let bad : None ≡ Some b = sym (ap (λ f. block_at (f a) i) none) ∙ e in cc);
-  alone = λ a i b j block e f. (let bad : None ≡ Some block = sym (ap (λ g. block_at (g a) i) none) ∙ e in cc);
+  near = λ a i b e. (let bad : None ≡ Some b = sym (ap (λ f. area_block (f a) i) none) ∙ e in cc);
+  alone = λ a i b j block e f. (let bad : None ≡ Some block = sym (ap (λ g. area_block (g a) i) none) ∙ e in cc);
   kept = λ b p e clean. (let bad : None ≡ Some p = sym (ap (λ ps. slice_get ps b) empty) ∙ e in cc);
   device = long;
   used = let n = ap length empty in omega (arith, n);

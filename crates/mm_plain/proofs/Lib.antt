@@ -12,11 +12,12 @@ pub use Contents.{changed_same, contents_in_file, report_kept, sizes_changed, wr
 pub use Fitting.{files_fit_areas, files_fit_new, files_fit_same, files_fit_set, files_fit_settled}
 pub use Fitting.{files_fit_unused, fits_areas, fits_bound, fits_kept, fits_new, fits_then}
 pub use Fitting.{fits_unbound}
-pub use OpenAreas.{has_place, in_file, live_place, live_within, none_at, none_live, pushed}
-pub use OpenAreas.{set_area}
+pub use OpenAreas.{has_place, in_file, live_place, live_within, none_at, none_live, open_place}
+pub use OpenAreas.{pushed, set_area}
 pub use Openings.{at_place, blocks_new, closed, contents_new, contents_settled, dead_count}
-pub use Openings.{file_opened, files_fit_made, home_near, in_area, live_near, none_counted, on_ok}
-pub use Openings.{opened, opened_or_not, own_live, paging_new, shown_by}
+pub use Openings.{file_opened, file_written, files_fit_made, home_near, in_area, live_near}
+pub use Openings.{none_counted, on_ok, opened, opened_or_not, own_live, page_got, page_here}
+pub use Openings.{paging_new, shown_by}
 pub use StoredFiles.{failed_write, none_failed, stored_more, wrote_one, wrote_then}
 pub use Stores.{copied_from, copied_to, copy_ends, eased_named, fetched_named, grown, named_after}
-pub use Stores.{same_parts, served_named, touch_ends, written_live}
+pub use Stores.{pid_stays, same_parts, served_named, touch_ends, written_live}

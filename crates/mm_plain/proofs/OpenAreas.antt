@@ -5,7 +5,7 @@ use Rattle.std.specs.Cmp.{unsigned_Decides}
 use Rattle.std.proofs.lemmas.Bool.{eqb-true}
 use Rattle.std.proofs.lemmas.List.{get_or-set_same, get_or-set_other, get_or_read}
 use Rattle.mm_pages.specs.{changed}
-use Rattle.mm_plain.specs.{AreaPages, pages_of, page_at, block_at, one_if_live}
+use Rattle.mm_plain.specs.{AreaPages, size_of, area_pages, page_of_area, area_block, one_if_live}
 use Rattle.std.specs.List.{sum_by}
 use Rattle.std.proofs.lemmas.List.Sums.{sum_by-cons}
 use Rattle.mm_plain.specs.declared.areas.AreaPages.TheVariants.{Filed}
@@ -40,7 +40,7 @@ none_at d (suc n) zero = refl
 none_at d (suc n) (suc j) = none_at d n j
 
 -- an area with pages has a place
-pub has_place : (xs : List (Option AreaPages)) (a i : ℕ) → i < length (pages_of (slice_index_or xs a None)) → a < length xs
+pub has_place : (xs : List (Option AreaPages)) (a i : ℕ) → i < length (area_pages (slice_index_or xs a None)) → a < length xs
 has_place [] a i h = absurd (omega arith)
 has_place (x ∷ xs) zero i h = omega arith
 has_place (x ∷ xs) (suc a) i h = let n = has_place xs a i h in omega arith
@@ -50,13 +50,19 @@ live_within [] i h = cc
 live_within (x ∷ xs) zero h = omega arith
 live_within (x ∷ xs) (suc i) h = let n = live_within xs i h in omega arith
 
-pub live_place : (xs : List (Option AreaPages)) (a i : ℕ) → IsSome (page_at (slice_index_or xs a None) i) → a < length xs
-live_place xs a i h = has_place xs a i (live_within (pages_of (slice_index_or xs a None)) i h)
+pub live_place : (xs : List (Option AreaPages)) (a i : ℕ) → IsSome (page_of_area (slice_index_or xs a None) i) → a < length xs
+live_place xs a i h = has_place xs a i (live_within (area_pages (slice_index_or xs a None)) i h)
+
+-- an open area has a place
+pub open_place : (xs : List (Option AreaPages)) (a : ℕ) → IsSome (size_of (slice_index_or xs a None)) → a < length xs
+open_place [] a h = cc
+open_place (x ∷ xs) zero h = omega arith
+open_place (x ∷ xs) (suc a) h = let n = open_place xs a h in omega arith
 
 -- a new segment has no live page
 pub none_live : (n : ℕ) → sum_by one_if_live (replicate n None) ≡ 0
 none_live zero = refl
 none_live (suc n) = let first = sum_by-cons one_if_live None (replicate n None) in omega (arith, first, none_live n)
 
-pub in_file : (first count i : ℕ) → i < count → block_at (Some (Filed first count)) i ≡ Some (first + i)
+pub in_file : (first count i : ℕ) → i < count → area_block (Some (Filed first count)) i ≡ Some (first + i)
 in_file first count i h = grind arith

@@ -10,7 +10,7 @@ use Rattle.mm_blocks.specs.{DeviceOf, Serves, CallFailed}
 use Rattle.mm_blocks.proofs.{serves_failed, all_served_then, all_served_one}
 use Rattle.mm_pages.specs.{with_outcome, tallied}
 use Rattle.mm_pages.proofs.{tallied_then}
-use Rattle.mm_plain.specs.{FilePage, Wrote, Stored}
+use Rattle.mm_plain.specs.{FilePage, WroteDevice, Stored}
 
 -- ---- what stands in the blocks
 
@@ -46,7 +46,7 @@ pub failed_write : {T E : Type 0} (r : Result T E) (block : ℕ) (named : Bool) 
 failed_write (Ok v) block named a b h = tt
 failed_write (Err e) block named a b h = serves_failed _ a b h refl
 
-pub wrote_one : (a b : DeviceOf) (t u : Tally) (block : ℕ) (ok named : Bool) → Serves (record { way = way.Write; block = block; succeeded = ok; named = named }) a b → u ≡ with_outcome ok t → Wrote a b t u
+pub wrote_one : (a b : DeviceOf) (t u : Tally) (block : ℕ) (ok named : Bool) → Serves (record { way = way.Write; block = block; succeeded = ok; named = named }) a b → u ≡ with_outcome ok t → WroteDevice a b t u
 wrote_one a b t u block ok named s e = record {
   calls = record { way = way.Write; block = block; succeeded = ok; named = named } ∷ [];
   served = all_served_one _ a b s;
@@ -54,7 +54,7 @@ wrote_one a b t u block ok named s e = record {
   none_read = λ r. refl;
 }
 
-pub wrote_then : (a b c : DeviceOf) (t u v : Tally) → Wrote a b t u → Wrote b c u v → Wrote a c t v
+pub wrote_then : (a b c : DeviceOf) (t u v : Tally) → WroteDevice a b t u → WroteDevice b c u v → WroteDevice a c t v
 wrote_then a b c t u v p q = record {
   calls = p.calls ++ q.calls;
   served = all_served_then p.calls q.calls a b c p.served q.served;

@@ -1,12 +1,13 @@
 -- Stores that differ in some parts, and what an access that called no device shows.
 use Rattle.std.proofs.Common.{◌≡◌, ℕ, Bool, true, false, List, Option, Some, None, refl, sym, ap, ◌∙◌, subst, arith}
 use Rattle.std.specs.Prelude.{IsSome, Ok, not, is_none, nat_lt, ◌==◌, if◌then◌else◌, ◌||◌, ◌&&◌, option_map}
-use Rattle.mm_types.specs.{LineKind, Key, Place, MachineOf}
+use Rattle.mm_types.specs.{LineKind, Key, Pid, Place, MachineOf}
+use Rattle.mm_types.specs.declared.moves.LineKind.TheVariants as line_kind
 use Rattle.mm_world.specs.{Page, Tally, InFrame, is_short, same_key, Need, has_frame, still_needs_frame, access_fails}
 use Rattle.mm_world.specs.Report.{Report}
 use Rattle.mm_world.proofs.{same_again}
 use Rattle.mm_blocks.specs.{DeviceOf}
-use Rattle.mm_pages.specs.{Served, begun, called, fetched, eased, StoreOf, Ready, changed, same_place, touch, copying, own_key}
+use Rattle.mm_pages.specs.{Served, begun, called, fetched, eased, StoreOf, Ready, changed, pid_after, same_place, touch, copying, own_key}
 use Rattle.mm_pages.specs.Reports.{Ends}
 use Rattle.mm_pages.proofs.{served_nothing}
 use Rattle.mm_plain.specs.{unpaged_report}
@@ -122,3 +123,17 @@ copied_from d e from to h g = subst (λ (f : Key → Option Page). IsSome (f fro
 
 pub copied_to : (d e : Key → Option Page) (from to : Key) (p : Place) → e ≡ changed same_key d to (d from) → to ≡ own_key p → IsSome (d from) → IsSome (e (own_key p))
 copied_to d e from to p h o g = subst (λ (k : Key). IsSome (e k)) o (subst (λ (f : Key → Option Page). IsSome (f to)) (sym h) (changed_here d to (d from) g))
+
+-- the last pid stays after a line that is no process
+pub pid_stays : (last : ℕ) (k : LineKind) → ((pid : Pid) (min max : ℕ) → k ≡ line_kind.Process pid min max → ⊥) → last ≡ pid_after last k
+pid_stays last (line_kind.Machine frames slots depth blocks) h = refl
+pid_stays last (line_kind.Process pid min max) h = absurd (h pid min max refl)
+pid_stays last (line_kind.Unbind pid) h = refl
+pid_stays last (line_kind.Access pid) h = refl
+pid_stays last (line_kind.Thread pid) h = refl
+pid_stays last (line_kind.Trim pid) h = refl
+pid_stays last line_kind.Writer h = refl
+pid_stays last line_kind.Zeroer h = refl
+pid_stays last line_kind.Io h = refl
+pid_stays last line_kind.Call h = refl
+pid_stays last (line_kind.Grow n) h = refl

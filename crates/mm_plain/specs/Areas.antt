@@ -17,19 +17,19 @@ size_of (Some (Paged pages)) = Some (length pages)
 size_of (Some (Filed first count)) = Some count
 
 -- the pages that stand with the area
-abbrev pub pages_of : Option AreaPages → List (Option Page)
-pages_of None = []
-pages_of (Some (Paged pages)) = pages
-pages_of (Some (Filed first count)) = []
+abbrev pub area_pages : Option AreaPages → List (Option Page)
+area_pages None = []
+area_pages (Some (Paged pages)) = pages
+area_pages (Some (Filed first count)) = []
 
-abbrev pub page_at : Option AreaPages → ℕ → Option Page
-page_at area index = slice_index_or (pages_of area) index None
+abbrev pub page_of_area : Option AreaPages → ℕ → Option Page
+page_of_area area index = slice_index_or (area_pages area) index None
 
 -- the block of a page of a file
-abbrev pub block_at : Option AreaPages → ℕ → Option ℕ
-block_at None index = None
-block_at (Some (Paged pages)) index = None
-block_at (Some (Filed first count)) index = if nat_lt index count then Some (first + index) else
+abbrev pub area_block : Option AreaPages → ℕ → Option ℕ
+area_block None index = None
+area_block (Some (Paged pages)) index = None
+area_block (Some (Filed first count)) index = if nat_lt index count then Some (first + index) else
     None
 
 abbrev pub one_if_live : Option Page → ℕ
@@ -37,7 +37,7 @@ one_if_live page = if is_some page then 1 else 0
 
 -- how many pages of an area are live and stand with it
 abbrev pub count_of : Option AreaPages → ℕ
-count_of area = sum_by one_if_live (pages_of area)
+count_of area = sum_by one_if_live (area_pages area)
 
 abbrev pub count_in : Areas → ℕ
 count_in areas = sum_by count_of areas.areas.items

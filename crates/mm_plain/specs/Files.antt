@@ -1,8 +1,9 @@
 -- The pages of files in memory, and the writes of their blocks.
-use Rattle.std.specs.Prelude.{◌≡◌, ◌<◌, ◌≤◌, ◌⊎◌, ℕ, ◌+◌, ◌%◌, Bool, false, List, length, slice_get, Option, Some, None, unwrap_or}
+use Rattle.std.specs.Prelude.{◌≡◌, ◌<◌, ◌≤◌, ◌⊎◌, ℕ, ◌+◌, ◌%◌, false, List, length, slice_get, Option, Some, None, unwrap_or}
 use Rattle.mm_types.specs.declared.devices.Direction.TheVariants as way
 use Rattle.mm_world.specs.{Tally, Page, filled}
-use Rattle.mm_blocks.specs.{DeviceOf, Call, AllServed}
+use Rattle.mm_blocks.specs.declared.Inject.{Ghosts}
+use Rattle.mm_blocks.specs.{DeviceOf, Call, AllServed, device_with}
 use Rattle.mm_pages.specs.{tallied}
 use Rattle.mm_plain.specs.declared.files.FilePage.{FilePage}
 
@@ -15,20 +16,20 @@ pub record IsMade (pages : List FilePage) (n byte : ℕ) : Type 0 where
   pub long : length pages ≡ n
   pub each : (i : ℕ) → i < n → slice_get pages i ≡ Some (made_page ((byte + i) % 256))
 
--- the page of a block, and whether it was changed since the block was last written
+-- the page of a block
 abbrev pub page_of : Option FilePage → Option Page
 page_of None = None
 page_of (Some page) = Some page.page
 
-abbrev pub changed_of : Option FilePage → Option Bool
-changed_of None = None
-changed_of (Some page) = Some page.changed
-
 abbrev pub page_in : List FilePage → ℕ → Page
 page_in pages block = unwrap_or (page_of (slice_get pages block)) (filled 0)
 
+-- a device as it stands
+abbrev pub seen : {F : Type 0} → Ghosts F → F → DeviceOf
+seen d f = device_with (d.log f) (d.named f) (d.faults f)
+
 -- some writes of a device, one after another, and its tally with them
-pub record Wrote (old new : DeviceOf) (before after : Tally) : Type 0 where
+pub record WroteDevice (old new : DeviceOf) (before after : Tally) : Type 0 where
   pub calls : List Call
   pub served : AllServed calls old new
   pub counted : after ≡ tallied way.Write calls before

@@ -6,7 +6,7 @@ use Rattle.mm_plain.specs.declared.areas.AreaPages.{AreaPages}
 use Rattle.mm_plain.specs.declared.areas.Areas.{Areas}
 use Rattle.mm_plain.specs.declared.files.FilePage.{FilePage}
 use Rattle.mm_plain.specs.declared.places.Places.{Places}
-use Rattle.mm_plain.specs.Areas.{block_at, count_in}
+use Rattle.mm_plain.specs.Areas.{area_block, count_in}
 use Rattle.mm_plain.specs.Places.{bound_in, pages_in}
 use Rattle.mm_plain.specs.Stocks.{StockOf}
 
@@ -21,11 +21,11 @@ pub record Fits (places : Places) (areas : Areas) (stock : StockOf) : Type 0 whe
 pub record FilesFit (areas : ℕ → Option AreaPages) (pages : List FilePage) (blocks : List Page)
     (count : ℕ) : Type 0 where
   -- each page of a file has a block with a page
-  pub near : (area index block : ℕ) → block_at (areas area) index ≡ Some block →
+  pub near : (area index block : ℕ) → area_block (areas area) index ≡ Some block →
       block < length pages
   -- no two pages of files have the same block
-  pub alone : (a i b j block : ℕ) → block_at (areas a) i ≡ Some block →
-      block_at (areas b) j ≡ Some block → (a ≡ b) × (i ≡ j)
+  pub alone : (a i b j block : ℕ) → area_block (areas a) i ≡ Some block →
+      area_block (areas b) j ≡ Some block → (a ≡ b) × (i ≡ j)
   -- where a page was not changed, its block holds it
   pub kept : (block : ℕ) (page : FilePage) → slice_get pages block ≡ Some page →
       page.changed ≡ false → slice_get blocks block ≡ Some page.page

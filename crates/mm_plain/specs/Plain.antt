@@ -8,7 +8,7 @@ use Rattle.mm_pages.specs.{StoreOf}
 use Rattle.mm_plain.specs.declared.plain.Plain.{Plain}
 use Rattle.mm_plain.specs.Areas.{area_in, count_in}
 use Rattle.mm_plain.specs.Places.{bound_in, names_in, pages_at, pages_in}
-use Rattle.mm_plain.specs.Shown.{contents_of, paging_of, blocks_of, sizes_of, ready_at, unpaged_report}
+use Rattle.mm_plain.specs.Shown.{contents_of, plain_paging, blocks_of, sizes_of, ready_at, unpaged_report}
 
 -- which processes are open, by pid
 abbrev pub is_open_in : List Bool → ℕ → Bool
@@ -16,7 +16,7 @@ is_open_in processes pid = slice_index_or processes pid false
 
 module _ {F : Type 0} {d : DeviceGhosts F} where
   abbrev pub contents_in : Plain F d → Key → Option Page
-  contents_in s = contents_of (pages_at s.places) (area_in s.areas) s.file_pages.pages.items
+  contents_in s = contents_of (pages_at s.places) (area_in s.areas) s.file_pages.items
 
   abbrev pub store_in : Plain F d → StoreOf
   store_in s = record {
@@ -25,11 +25,11 @@ module _ {F : Type 0} {d : DeviceGhosts F} where
     areas = sizes_of (area_in s.areas);
     bound = bound_in s.places;
     names = names_in s.places;
-    paging = paging_of (pages_at s.places) (area_in s.areas);
+    paging = plain_paging (pages_at s.places) (area_in s.areas);
     paging_keys = pages_in s.places + count_in s.areas;
     room = s.stock.room;
     block_of = blocks_of (area_in s.areas);
-    blocks_used = length s.file_pages.pages.items;
+    blocks_used = length s.file_pages.items;
     file_blocks = d.blocks s.files;
     line = s.line;
     kind = s.kind;

@@ -9,7 +9,7 @@ use Rattle.mm_pages.specs.{need_for, no_calls, Ready}
 use Rattle.mm_plain.specs.declared.plain.Wanted.{Wanted}
 use Rattle.mm_plain.specs.declared.areas.AreaPages.{AreaPages}
 use Rattle.mm_plain.specs.declared.files.FilePage.{FilePage}
-use Rattle.mm_plain.specs.Areas.{size_of, page_at, block_at}
+use Rattle.mm_plain.specs.Areas.{size_of, page_of_area, area_block}
 use Rattle.mm_plain.specs.Files.{page_of}
 
 -- the page of a file stands by its block, any other page of an area with the area
@@ -22,16 +22,16 @@ abbrev pub contents_of : (Place → Option Page) → (ℕ → Option AreaPages) 
     Option Page
 contents_of places areas files (key.Private pid vpn) = places (record { pid = pid; vpn = vpn })
 contents_of places areas files (key.Shared area index) =
-    shared_page files (block_at (areas area.0) index) (page_at (areas area.0) index)
+    shared_page files (area_block (areas area.0) index) (page_of_area (areas area.0) index)
 
 -- the live keys that no file has
-abbrev pub paging_of : (Place → Option Page) → (ℕ → Option AreaPages) → Key → Bool
-paging_of places areas (key.Private pid vpn) = is_some (places (record { pid = pid; vpn = vpn }))
-paging_of places areas (key.Shared area index) = is_some (page_at (areas area.0) index)
+abbrev pub plain_paging : (Place → Option Page) → (ℕ → Option AreaPages) → Key → Bool
+plain_paging places areas (key.Private pid vpn) = is_some (places (record { pid = pid; vpn = vpn }))
+plain_paging places areas (key.Shared area index) = is_some (page_of_area (areas area.0) index)
 
 abbrev pub blocks_of : (ℕ → Option AreaPages) → Key → Option ℕ
 blocks_of areas (key.Private pid vpn) = None
-blocks_of areas (key.Shared area index) = block_at (areas area.0) index
+blocks_of areas (key.Shared area index) = area_block (areas area.0) index
 
 abbrev pub sizes_of : (ℕ → Option AreaPages) → ℕ → Option ℕ
 sizes_of areas area = size_of (areas area)

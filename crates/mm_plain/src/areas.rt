@@ -1,12 +1,38 @@
-ghost use Rattle.std.specs.Prelude.{◌≡◌, ◌+◌, ◌-◌, ◌<◌, ◌≤◌, ◌^◌, ◌==◌, ℕ, Some, None, IsSome, OnOk, OnErr, length, replicate, slice_set, unwrap_or, vec_len};
+ghost use Rattle.std.specs.Prelude.{◌≡◌, ◌+◌, ◌-◌, ◌<◌, ◌≤◌, ◌^◌, ◌==◌, ℕ, Some, None, IsSome, IfOk, OnOk, OnErr, length, replicate, slice_set, unwrap_or, vec_len};
 ghost use Rattle.mm_world.specs.{filled, written};
 ghost use Rattle.mm_pages.specs.{changed};
 ghost use Rattle.mm_plain.specs.declared.areas.AreaPages.TheVariants.{Paged};
 
 use crate::boxes::PageBox;
-use crate::segments::Segment;
 use mm_types::{Area, NoMemory};
 use std::alloc::Global;
+use std::marker::Model;
+use std::mem;
+
+/// The pages of a page-file section, by index. Each live one stands in a box.
+#[derive(Drop)]
+pub(crate) struct Segment {
+    pages: Vec<Option<PageBox>>,
+}
+
+impl Model for Segment {
+    ghost use Rattle.std.specs.Prelude.{List, Option, ℕ};
+
+    ghost Value = { List (Option (List ℕ)) };
+
+    ghost view = { λ s. s.pages.items };
+}
+
+/// A segment of `n` pages, of which none is live.
+fn new_segment(alloc: Global, n: u32) -> Result<Segment, NoMemory>
+    ensures { IfOk result (λ s. s ≡ replicate n None) }
+{
+    let mut pages = Vec::with_capacity(alloc, n as usize)?;
+    for _ in 0..n {
+        pages.push(None)?;
+    }
+    Ok(Segment { pages })
+}
 
 /// The pages of an open area.
 #[derive(Drop)]
@@ -23,48 +49,33 @@ pub(crate) struct Areas {
     areas: Vec<Option<AreaPages>>,
 }
 
-ghost use Rattle.mm_plain.specs.Areas.{pages_of, page_at, block_at};
-
-/// The block of a page of a file; none where the area is no file or has fewer pages.
-#[tactic(auto, using(crate::proofs::OpenAreas::in_file))]
-fn file_block(area: &Option<AreaPages>, index: u32) -> Option<u32>
-    requires small { (block : ℕ) → block_at area.now index ≡ Some block → block < 2 ^ 32 }
-    ensures { result ≡ block_at area.now index }
-{
-    match area {
-        Some(AreaPages::Filed(first, count)) => {
-            if index < *count {
-                Some(*first + index)
-            } else {
-                None
-            }
-        }
-        _ => None,
-    }
-}
+ghost use Rattle.mm_plain.specs.Areas.{area_pages, page_of_area, area_block};
 
 /// Another page of a page-file section stands at an index, or none; the one that stood there.
 fn replace_page(area: &mut Option<AreaPages>, index: u32, page: Option<PageBox>) -> Option<PageBox>
-    requires { index < length (pages_of area.old) }
-    ensures page { result ≡ page_at area.old index }
-    ensures area { area.new ≡ Some (Paged (slice_set (pages_of area.old) index page)) }
+    requires { index < length (area_pages area.old) }
+    ensures page { result ≡ page_of_area area.old index }
+    ensures area { area.new ≡ Some (Paged (slice_set (area_pages area.old) index page)) }
 {
     match area {
-        Some(AreaPages::Paged(segment)) => segment.replace(index, page),
+        Some(AreaPages::Paged(segment)) => mem::replace(&mut segment.pages[index as usize], page),
         _ => unreachable!(),
     }
 }
 
 /// Writes bytes from `off` on into a live page of a page-file section.
 fn write_page(area: &mut Option<AreaPages>, index: u32, off: u16, bytes: &[u8])
-    requires live { IsSome (page_at area.old index) }
+    requires live { IsSome (page_of_area area.old index) }
     requires inside { off + length bytes.now ≤ 4096 }
     ensures { area.new ≡ Some
-        (Paged (slice_set (pages_of area.old) index
-        (Some (written (unwrap_or (page_at area.old index) (filled 0)) off bytes.now)))) }
+        (Paged (slice_set (area_pages area.old) index
+        (Some (written (unwrap_or (page_of_area area.old index) (filled 0)) off bytes.now)))) }
 {
     match area {
-        Some(AreaPages::Paged(segment)) => segment.write(index, off, bytes),
+        Some(AreaPages::Paged(segment)) => match &mut segment.pages[index as usize] {
+            Some(page) => page.write(off, bytes),
+            None => unreachable!(),
+        },
         _ => unreachable!(),
     }
 }
@@ -116,41 +127,35 @@ impl Areas {
         ensures err { OnErr result (area_in self.new ≡ area_in self.old) }
         ensures count { count_in self.new ≡ count_in self.old }
     {
-        let pages = Segment::new(alloc, n)?;
+        let pages = new_segment(alloc, n)?;
         self.make_place(area)?;
         self.set(area, Some(AreaPages::Paged(pages)));
         Ok(())
     }
 
-    /// Closes an area of which no page is live.
-    pub(crate) fn close(&mut self, area: Area)
-        requires open { IsSome (area_in self.old area.0) }
-        requires dead { count_of (area_in self.old area.0) ≡ 0 }
-        ensures areas { area_in self.new ≡ changed ◌==◌ (area_in self.old) area.0 None }
-        ensures count { count_in self.new ≡ count_in self.old }
-    {
-        self.set(area, None);
-    }
-
     /// The block of a page of a file; none where the area is no file or has fewer pages.
+    #[tactic(auto, using(crate::proofs::OpenAreas::in_file))]
     pub(crate) fn block(&self, area: Area, index: u32) -> Option<u32>
-        requires small { (block : ℕ) → block_at (area_in self.now area.0) index ≡ Some block →
+        requires small { (block : ℕ) → area_block (area_in self.now area.0) index ≡ Some block →
             block < 2 ^ 32 }
-        ensures { result ≡ block_at (area_in self.now area.0) index }
+        ensures { result ≡ area_block (area_in self.now area.0) index }
     {
         match self.areas.get(area.0 as usize) {
-            Some(area) => file_block(area, index),
-            None => None,
+            Some(Some(AreaPages::Filed(first, count))) if index < *count => Some(*first + index),
+            _ => None,
         }
     }
 
     /// A live page of a page-file section.
     pub(crate) fn page(&self, area: Area, index: u32) -> &PageBox
-        requires { IsSome (page_at (area_in self.now area.0) index) }
-        ensures { page_at (area_in self.now area.0) index ≡ Some result.now }
+        requires { IsSome (page_of_area (area_in self.now area.0) index) }
+        ensures { page_of_area (area_in self.now area.0) index ≡ Some result.now }
     {
         match &self.areas[area.0 as usize] {
-            Some(AreaPages::Paged(segment)) => segment.page(index),
+            Some(AreaPages::Paged(segment)) => match &segment.pages[index as usize] {
+                Some(page) => page,
+                None => unreachable!(),
+            },
             _ => unreachable!(),
         }
     }
@@ -163,10 +168,10 @@ impl Areas {
         index: u32,
         page: Option<PageBox>,
     ) -> Option<PageBox>
-        requires { index < length (pages_of (area_in self.old area.0)) }
-        ensures page { result ≡ page_at (area_in self.old area.0) index }
+        requires { index < length (area_pages (area_in self.old area.0)) }
+        ensures page { result ≡ page_of_area (area_in self.old area.0) index }
         ensures areas { area_in self.new ≡ changed ◌==◌ (area_in self.old) area.0
-            (Some (Paged (slice_set (pages_of (area_in self.old area.0)) index page))) }
+            (Some (Paged (slice_set (area_pages (area_in self.old area.0)) index page))) }
         ensures count { count_in self.new + one_if_live result ≡
             count_in self.old + one_if_live page }
     {
@@ -175,12 +180,12 @@ impl Areas {
 
     /// Writes bytes from `off` on into a live page of a page-file section.
     pub(crate) fn write(&mut self, area: Area, index: u32, off: u16, bytes: &[u8])
-        requires live { IsSome (page_at (area_in self.old area.0) index) }
+        requires live { IsSome (page_of_area (area_in self.old area.0) index) }
         requires inside { off + length bytes.now ≤ 4096 }
         ensures areas { area_in self.new ≡ changed ◌==◌ (area_in self.old) area.0
             (Some (Paged
-            (slice_set (pages_of (area_in self.old area.0)) index
-            (Some (written (unwrap_or (page_at (area_in self.old area.0) index) (filled 0)) off
+            (slice_set (area_pages (area_in self.old area.0)) index
+            (Some (written (unwrap_or (page_of_area (area_in self.old area.0) index) (filled 0)) off
             bytes.now))))) }
         ensures count { count_in self.new ≡ count_in self.old }
     {

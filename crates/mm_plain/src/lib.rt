@@ -10,7 +10,5 @@ mod boxes;
 mod files;
 mod places;
 mod plain;
-mod segments;
-mod stock;
 
 pub use plain::Plain;

@@ -3,17 +3,16 @@ ghost use Rattle.mm_types.specs.{IsMachine};
 ghost use Rattle.mm_world.specs.{filled, written, same_key};
 ghost use Rattle.mm_pages.specs.{IsNew, pid_after, nothing_behind, begun, changed, same_place};
 ghost use Rattle.mm_blocks.specs.{no_device};
-ghost use Rattle.mm_plain.specs.Areas.{area_in, block_at, count_in};
+ghost use Rattle.mm_plain.specs.Areas.{area_in, area_block, count_in};
 ghost use Rattle.mm_plain.specs.Files.{IsMade};
 ghost use Rattle.mm_plain.specs.Fitting.{Fits, FilesFit};
 ghost use Rattle.mm_plain.specs.Places.{pages_at};
 ghost use Rattle.mm_plain.specs.Shown.{contents_of};
 
 use crate::areas::{AreaPages, Areas};
-use crate::boxes::PageBox;
-use crate::files::{FilePages, Writes, write_block, write_file};
+use crate::boxes::{PageBox, Stock};
+use crate::files::{FilePages, Writes, made_pages, write_block, write_file};
 use crate::places::Places;
-use crate::stock::Stock;
 use mm_blocks::Inject;
 use mm_pages::{Done, Need, Pages, Start};
 use mm_types::{
@@ -52,35 +51,25 @@ pub struct Plain<F: Inject> {
     kind: LineKind,
     last_pid: u8,
     ghost fits: { Fits places areas stock },
-    ghost files_fit: { FilesFit (area_in areas) file_pages.pages.items
+    ghost files_fit: { FilesFit (area_in areas) file_pages.items
         (F.blocks files) machine.blocks },
     ghost numbers: { IsMachine machine },
 }
 
-/// The last pid that a `process` line had, after a line of this kind.
-fn pid_after(last: u8, kind: LineKind) -> u8
-    ensures { result ≡ pid_after last kind }
-{
-    match kind {
-        LineKind::Process(pid, _, _) => pid.0,
-        _ => last,
-    }
-}
-
 /// The page of a live key.
 fn page_of<'a>(places: &'a Places, areas: &'a Areas, files: &'a FilePages, key: Key) -> &'a PageBox
-    requires near { (area index block : ℕ) → block_at (area_in areas.now area) index ≡ Some block →
-        block < length files.now.pages.items }
-    requires few { length files.now.pages.items < 2 ^ 32 }
+    requires near { (area index block : ℕ) → area_block (area_in areas.now area) index ≡ Some block →
+        block < length files.now.items }
+    requires few { length files.now.items < 2 ^ 32 }
     requires live { IsSome (contents_of (pages_at places.now) (area_in areas.now)
-        files.now.pages.items key) }
-    ensures { contents_of (pages_at places.now) (area_in areas.now) files.now.pages.items key
+        files.now.items key) }
+    ensures { contents_of (pages_at places.now) (area_in areas.now) files.now.items key
         ≡ Some result.now }
 {
     match key {
         Key::Private(pid, vpn) => places.page(Place { pid, vpn }),
         Key::Shared(area, index) => match areas.block(area, index) {
-            Some(block) => files.page(block),
+            Some(block) => &files[block as usize].page,
             None => areas.page(area, index),
         },
     }
@@ -99,14 +88,14 @@ fn prepare_file(
     requires { area.0 < 2 ^ 28 }
     ensures areas { area_in areas.new ≡ area_in areas.old }
     ensures count { count_in areas.new ≡ count_in areas.old }
-    ensures files { files.new.pages.items ≡ files.old.pages.items }
+    ensures files { files.new.items ≡ files.old.items }
     ensures place { OnOk result (area.0 < vec_len areas.new.areas) }
-    ensures room { OnOk result (length files.new.pages.items + n ≤ vec_capacity files.new.pages) }
-    ensures made { IfOk result (λ made. IsMade made.pages.items n byte) }
+    ensures room { OnOk result (length files.new.items + n ≤ vec_capacity files.new) }
+    ensures made { IfOk result (λ made. IsMade made.items n byte) }
 {
-    let made = FilePages::made(alloc, n, byte)?;
+    let made = made_pages(alloc, n, byte)?;
     areas.make_place(area)?;
-    files.reserve(n)?;
+    files.reserve(n as usize)?;
     Ok(made)
 }
 
@@ -131,7 +120,7 @@ impl<F: Inject> Plain<F> {
             alloc,
             places: Places::new(alloc),
             areas: Areas::new(alloc),
-            file_pages: FilePages::new(alloc),
+            file_pages: Vec::new(alloc),
             stock: Stock::new(alloc),
             processes: [false; 256],
             files,
@@ -181,7 +170,7 @@ impl<F: Inject> Plain<F> {
         match key {
             Key::Private(pid, vpn) => self.places.write(Place { pid, vpn }, off, bytes),
             Key::Shared(area, index) => match self.areas.block(area, index) {
-                Some(block) => self.file_pages.write(block, off, bytes),
+                Some(block) => self.file_pages[block as usize].write(off, bytes),
                 None => self.areas.write(area, index, off, bytes),
             },
         }
@@ -241,11 +230,11 @@ impl<F: Inject> Pages for Plain<F> {
     }
 
     fn close_area(&mut self, area: Area) {
-        self.areas.close(area);
+        self.areas.set(area, None);
     }
 
     fn make_file(&mut self, area: Area, first: Block, n: u32, byte: u8) -> Result<(), MakeFault> {
-        let Ok(made) = prepare_file(
+        let Ok(mut made) = prepare_file(
             self.alloc,
             &mut self.areas,
             &mut self.file_pages,
@@ -258,7 +247,9 @@ impl<F: Inject> Pages for Plain<F> {
         let Ok(()) = write_file(&mut self.files, &mut self.writes, first.0, n, &made) else {
             return Err(MakeFault::Write);
         };
-        self.file_pages.append(made);
+        let Ok(()) = self.file_pages.append(&mut made) else {
+            unreachable!()
+        };
         self.areas.set(area, Some(AreaPages::Filed(first.0, n)));
         Ok(())
     }
@@ -320,18 +311,14 @@ impl<F: Inject> Pages for Plain<F> {
         let Some(block) = self.areas.block(area, index) else {
             unreachable!()
         };
-        if !self.file_pages.is_changed(block) {
+        if !self.file_pages[block as usize].changed {
             return Ok(());
         }
-        let Ok(()) = write_block(
-            &mut self.files,
-            &mut self.writes,
-            block,
-            self.file_pages.page(block),
-        ) else {
+        let page = &self.file_pages[block as usize].page;
+        let Ok(()) = write_block(&mut self.files, &mut self.writes, block, page) else {
             return Err(WriteFault);
         };
-        self.file_pages.settle(block);
+        self.file_pages[block as usize].changed = false;
         Ok(())
     }
 
@@ -383,8 +370,10 @@ impl<F: Inject> Pages for Plain<F> {
     }
 
     fn line(&mut self, line: u32, kind: LineKind) {
-        self.last_pid = pid_after(self.last_pid, kind);
         self.begin(line, kind);
+        if let LineKind::Process(pid, _, _) = kind {
+            self.last_pid = pid.0;
+        }
     }
 
     fn grow(&mut self, line: u32, n: u32) -> Result<(), GrowFault> {

@@ -2,7 +2,7 @@
 use Rattle.std.proofs.Common.{◌≡◌, ◌⊎◌, inl, inr, ℕ, ◌≤◌, Result, Ok, Err, IfErr, sym, subst, ◌∙◌, arith}
 use Rattle.mm_types.specs.{Rose}
 use Rattle.mm_types.proofs.{rose_later, rose_then}
-use Rattle.mm_names.specs.{Ending, status_of}
+use Rattle.mm_names.specs.{Ending, names_status}
 use Rattle.mm_names.specs.declared.endings.Ending.TheVariants as ending
 use Rattle.mm_reasons.specs.{WriteBlamed, Blamed}
 
@@ -54,7 +54,7 @@ put_blamed e a b x y (inl h) = subst (λ (d : Ending). WriteBlamed d a b x y) (s
 put_blamed e a b x y (inr h) = subst (λ (d : Ending). WriteBlamed d a b x y) (sym h.0) (inl h.1)
 
 -- what the statuses blame
-pub read_blamed : (e : Ending) (s t a b x y status : ℕ) → status ≡ status_of e → Blamed e s t a b x y → status ≡ 4 → Rose s t
+pub read_blamed : (e : Ending) (s t a b x y status : ℕ) → status ≡ names_status e → Blamed e s t a b x y → status ≡ 4 → Rose s t
 read_blamed ending.ReadFault s t a b x y status is h four = h
 read_blamed ending.OutFault s t a b x y status is h four = omega arith
 read_blamed ending.Written s t a b x y status is h four = omega arith
@@ -66,7 +66,7 @@ read_blamed ending.TooLong s t a b x y status is h four = omega arith
 never : {A : Type 0} → ⊥ → A
 never bad = absurd bad
 
-pub write_blamed : (e : Ending) (s t a b x y status : ℕ) → status ≡ status_of e → Blamed e s t a b x y → status ≡ 5
+pub write_blamed : (e : Ending) (s t a b x y status : ℕ) → status ≡ names_status e → Blamed e s t a b x y → status ≡ 5
     → Rose a b ⊎ Rose x y
 write_blamed ending.OutFault s t a b x y status is h five = h
 write_blamed ending.ReadFault s t a b x y status is h five = never (omega arith)

@@ -3,11 +3,11 @@ use Rattle.std.proofs.Common.{◌≡◌, ◌⊎◌, inl, inr, ℕ, ◌≤◌, �
 use Rattle.mm_types.specs.{Text, Appended, Rose, Event}
 use Rattle.mm_types.proofs.{appended_none}
 use Rattle.mm_io.specs.{Wrote}
-use Rattle.mm_names.specs.{Ending, script_of, ScriptOf, is_whole, Ends, most_lines, WasRead, IsWritten, IsRefused, IsManyBytes, IsManyLines, IsTorn}
-use Rattle.mm_names.specs.{Came, status_of}
+use Rattle.mm_names.specs.{Ending, script_of, ScriptOf, is_whole, Ends, most_lines, WasRead, IsWritten, IsRefusedFile, IsManyBytes, IsManyLines}
+use Rattle.mm_names.specs.{IsTorn, CameTo, names_status}
 use Rattle.mm_names.specs.declared.endings.Ending.TheVariants as ending
 use Rattle.mm_names.proofs.{opens}
-use Rattle.mm_reasons.specs.{Form, Talked, Ran, RanTalk, RanAs}
+use Rattle.mm_reasons.specs.{Form, Talked, NamesRan, RanTalk, RanAs}
 use Rattle.mm_reasons.specs.declared.forms.Form.TheVariants as form
 use Rattle.mm_reasons.proofs.Sayings.{said_none}
 
@@ -37,12 +37,12 @@ written left left' a b text s read ends h few w =
     written_as left left' a b text s (script_of text) refl read ends h few w
 
 pub refused_as : (left left' a : Option Text) (text : Text) (s : ScriptOf) (o : Option (List Event)) → script_of text ≡ o
-    → WasRead left left' text → Ends o s → is_whole s ≡ false → IsRefused left left' a a
+    → WasRead left left' text → Ends o s → is_whole s ≡ false → IsRefusedFile left left' a a
 refused_as left left' a text s None is read ends h = record { text = text; was_read = read; none = is; nothing = refl }
 refused_as left left' a text s (Some es) is read ends h = never_both s ends.0 h
 
 pub refused : (left left' a : Option Text) (text : Text) (s : ScriptOf) → WasRead left left' text
-    → Ends (script_of text) s → is_whole s ≡ false → IsRefused left left' a a
+    → Ends (script_of text) s → is_whole s ≡ false → IsRefusedFile left left' a a
 refused left left' a text s read ends h = refused_as left left' a text s (script_of text) refl read ends h
 
 pub many_as : (left left' a : Option Text) (text : Text) (s : ScriptOf) (o : Option (List Event)) → script_of text ≡ o
@@ -72,15 +72,15 @@ pub torn_none : (a : Option Text) → IsTorn a a
 torn_none a = ([], appended_none a)
 
 pub told : (r e : Ending) (left left' a : Option Text) (x y : ℕ) → (r ≡ e) ⊎ ((r ≡ ending.OutFault) × Rose x y)
-    → Came e left left' a a → Came r left left' a a
-told r e left left' a x y (inl h) came = subst (λ (z : Ending). Came z left left' a a) (sym h) came
-told r e left left' a x y (inr h) came = subst (λ (z : Ending). Came z left left' a a) (sym h.0) (torn_none a)
+    → CameTo e left left' a a → CameTo r left left' a a
+told r e left left' a x y (inl h) came = subst (λ (z : Ending). CameTo z left left' a a) (sym h) came
+told r e left left' a x y (inr h) came = subst (λ (z : Ending). CameTo z left left' a a) (sym h.0) (torn_none a)
 
-pub ran : (e : Ending) (left left' a b : Option Text) (status : ℕ) → status ≡ status_of e → Came e left left' a b
-    → Ran left left' a b status
+pub ran : (e : Ending) (left left' a b : Option Text) (status : ℕ) → status ≡ names_status e → CameTo e left left' a b
+    → NamesRan left left' a b status
 ran e left left' a b status is came = record { ending = e; status_is = is; came = came }
 
-pub ran_talk : (e : Ending) (a b : Option Text) (status : ℕ) → status ≡ status_of e → Talked e a b → RanTalk a b status
+pub ran_talk : (e : Ending) (a b : Option Text) (status : ℕ) → status ≡ names_status e → Talked e a b → RanTalk a b status
 ran_talk e a b status is talked = record { ending = e; status_is = is; talked = talked }
 
 -- memory was refused before anything was read or written

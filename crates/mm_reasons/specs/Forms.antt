@@ -4,7 +4,7 @@ use Rattle.std.specs.Prelude.{◌≡◌, ◌⊎◌, ℕ, List, [], ◌∷◌, by
 use Rattle.std.specs.List.{AllByRecursion}
 use Rattle.mm_types.specs.{Text, Appended, Rose, Event}
 use Rattle.mm_script.specs.{IsWellFormed}
-use Rattle.mm_names.specs.{Ending, spelled, Came, IsTorn, status_of}
+use Rattle.mm_names.specs.{Ending, spelled, CameTo, IsTorn, names_status}
 use Rattle.mm_names.specs.declared.endings.Ending.TheVariants as ending
 use Rattle.mm_reasons.specs.declared.forms.Form.{Form}
 use Rattle.mm_reasons.specs.declared.forms.Form.TheVariants as form
@@ -45,14 +45,14 @@ Blamed ending.OutFault left left' out out' err err' = Rose out out' ⊎ Rose err
 Blamed _ left left' out out' err err' = Unit {0}
 
 -- How a run ends: its status, and what was read and written.
-pub record Ran (left left' took took' : Option Text) (status : ℕ) : Type 0 where
+pub record NamesRan (left left' took took' : Option Text) (status : ℕ) : Type 0 where
   pub ending : Ending
-  pub status_is : status ≡ status_of ending
-  pub came : Came ending left left' took took'
+  pub status_is : status ≡ names_status ending
+  pub came : CameTo ending left left' took took'
 
 pub record RanTalk (took took' : Option Text) (status : ℕ) : Type 0 where
   pub ending : Ending
-  pub status_is : status ≡ status_of ending
+  pub status_is : status ≡ names_status ending
   pub talked : Talked ending took took'
 
 -- words that are no form are told of, or memory was refused; nothing is read or written
@@ -64,4 +64,4 @@ IsNoForm left left' took took' status =
 abbrev pub RanAs : Option Form → (left left' took took' : Option Text) → ℕ → Type 0
 RanAs None left left' took took' status = IsNoForm left left' took took' status
 RanAs (Some form.Talk) left left' took took' status = RanTalk took took' status
-RanAs (Some _) left left' took took' status = Ran left left' took took' status
+RanAs (Some _) left left' took took' status = NamesRan left left' took took' status

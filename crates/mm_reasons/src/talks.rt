@@ -1,7 +1,7 @@
 ghost use Rattle.std.specs.Prelude.{◌≡◌, ◌≤◌, ℕ, ◌∷◌, ◌++◌, [], IfOk, IfErr, MatchResult};
 ghost use Rattle.mm_script.specs.{printed, IsWellFormed};
 ghost use Rattle.mm_names.specs.{FormedIn};
-ghost use Rattle.mm_reasons.specs.Forms.{Said, Talked, WriteBlamed, Blamed};
+ghost use Rattle.mm_reasons.specs.{Said, Talked, WriteBlamed, Blamed};
 
 use crate::explainers::Explainer;
 use crate::top::write_flushed;

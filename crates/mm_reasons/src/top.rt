@@ -1,8 +1,8 @@
 ghost use Rattle.std.specs.Prelude.{◌≡◌, ◌⊎◌, ◌≤◌, Option, true, map, string_bytes, is_err};
 ghost use Rattle.mm_types.specs.{Text, HasCause, Rose};
 ghost use Rattle.mm_io.specs.{Wrote};
-ghost use Rattle.mm_names.specs.{script_of, is_whole, Ends, WasRead, Came, most_lines, status_of};
-ghost use Rattle.mm_reasons.specs.Forms.{form_of, RanAs, WriteBlamed, Blamed};
+ghost use Rattle.mm_names.specs.{script_of, is_whole, Ends, WasRead, CameTo, most_lines, names_status};
+ghost use Rattle.mm_reasons.specs.{form_of, RanAs, WriteBlamed, Blamed};
 
 use crate::explainers::explained;
 use crate::forms::{Form, form_of};
@@ -75,7 +75,7 @@ fn put_script<O: Sink>(script: &Script, out: &mut O) -> Ending
     ensures came { (left left' : Option Text) (text : Text) → WasRead left left' text
         → Ends (script_of text) script.now → is_whole script.now ≡ true
         → script.now.lines ≤ most_lines
-        → Came result left left' (O.taken out.old) (O.taken out.new) }
+        → CameTo result left left' (O.taken out.old) (O.taken out.new) }
     ensures blame { (result ≡ Ending.Written)
         ⊎ ((result ≡ Ending.OutFault) × Rose (O.faults out.old) (O.faults out.new)) }
 {
@@ -90,7 +90,7 @@ fn put_script<O: Sink>(script: &Script, out: &mut O) -> Ending
 fn finish<O: Sink, E: Sink>(script: &Script, notes: &[u8], out: &mut O, err: &mut E) -> Ending
     ensures came { (left left' : Option Text) (text : Text) → WasRead left left' text
         → Ends (script_of text) script.now
-        → Came result left left' (O.taken out.old) (O.taken out.new) }
+        → CameTo result left left' (O.taken out.old) (O.taken out.new) }
     ensures blame { WriteBlamed result (O.faults out.old) (O.faults out.new)
         (E.faults err.old) (E.faults err.new) }
 {
@@ -119,7 +119,7 @@ fn translate<S: Source, O: Sink, E: Sink>(
     out: &mut O,
     err: &mut E,
 ) -> Ending
-    ensures came { Came result (S.left source.old) (S.left source.new)
+    ensures came { CameTo result (S.left source.old) (S.left source.new)
         (O.taken out.old) (O.taken out.new) }
     ensures blame { Blamed result (S.faults source.old) (S.faults source.new)
         (O.faults out.old) (O.faults out.new) (E.faults err.old) (E.faults err.new) }
@@ -144,7 +144,7 @@ fn translate<S: Source, O: Sink, E: Sink>(
 
 /// The status of an ending.
 fn status_of(ending: Ending) -> u8
-    ensures { result ≡ status_of ending }
+    ensures { result ≡ names_status ending }
 {
     match ending {
         Ending::Written => 0,

@@ -6,8 +6,7 @@ use Rattle.std.proofs.lemmas.Bool.{or_left, or_right}
 use Rattle.mm_types.specs.{IsMachine, Frame, Place, Stored, Move}
 use Rattle.mm_types.specs.declared.moves.Move.TheVariants as move
 use Rattle.mm_life.specs.{record_at, is_on, without, FrameLife, IsLegal, is_access, is_thread, is_short, after_move, Replays, can_be_written}
-use Rattle.mm_laws.specs.{one_if, times, at_end_if}
-use Rattle.mm_laws.specs.Reached.{Reached}
+use Rattle.mm_laws.specs.{one_if, times, at_end_if, ReachedByMoves}
 use Rattle.mm_laws.specs.Sound.{Sound}
 use Rattle.mm_laws.proofs.{tally-append, times_on, reached_sound, kept_along, in_range, has_shares, modified_frame}
 use Rattle.mm_frame_laws.specs.{IsWithinDepth, list_in_search, is_last, Unmapped, after_failed, put_last, failed_write, lost_in, Walking}
@@ -30,7 +29,7 @@ walk_start l n e = record {
   count = omega (arith, e);
 }
 
-pub walk_done : (start l : FrameLife) (moves : List Move) (n i : ℕ) → n ≤ i → Reached start → Replays moves start l → is_access start.kind ≡ true → is_short start ≡ true → IsWithinDepth start
+pub walk_done : (start l : FrameLife) (moves : List Move) (n i : ℕ) → n ≤ i → ReachedByMoves start → Replays moves start l → is_access start.kind ≡ true → is_short start ≡ true → IsWithinDepth start
     → WalkedTo start l moves n i → SoughtTo start l moves
 walk_done start l moves n i end r replays access short few w =
     let range = in_range start r in
@@ -50,7 +49,7 @@ walk_done start l moves n i end r replays access short few w =
           (on_append g w.left w.lost ∙ or_right (is_on g w.left) (is_on g w.lost) (w.only g h)));
     }
 
-module _ (start l : FrameLife) (moves : List Move) (n i : ℕ) (w : WalkedTo start l moves n i) (r : Reached start) (replays : Replays moves start l) (low : i < n) where
+module _ (start l : FrameLife) (moves : List Move) (n i : ℕ) (w : WalkedTo start l moves n i) (r : ReachedByMoves start) (replays : Replays moves start l) (low : i < n) where
   sound : Sound l
   sound = kept_along moves start l (reached_sound start r) replays
 

@@ -22,10 +22,9 @@ use Rattle.std.proofs.Props.{props}
 use Rattle.mm_types.specs.declared.devices.Direction.TheVariants as way
 use Rattle.mm_types.specs.declared.moves.Stored.TheVariants as stored
 use Rattle.mm_blocks.specs.{DeviceOf, CallFailed}
-use Rattle.mm_laws.specs.Reached.{Reached}
+use Rattle.mm_laws.specs.{ReachedByMoves, is_backed}
 use Rattle.mm_laws.proofs.{reached_sound}
 use Rattle.mm_blocks.proofs.{serves_failed, failed_later, all_served_later}
-use Rattle.mm_laws.specs.{is_backed}
 
 -- ---- which frame is next
 
@@ -49,7 +48,7 @@ lost_then xs ys g = any_append (λ m. is_lost_of g m) xs ys
 -- ---- one write
 
 -- a modified frame that is being written has a home
-pub backed_mid : (s mid : StateOf) (f : Frame) (home : Stored) → ∥ Reached s.life ∥₁ → is_on f.0 s.life.frames.modified ≡ true → Made (move.Write f home) s mid → is_backed (record_at mid.life.frames f.0).backing ≡ true
+pub backed_mid : (s mid : StateOf) (f : Frame) (home : Stored) → ∥ ReachedByMoves s.life ∥₁ → is_on f.0 s.life.frames.modified ≡ true → Made (move.Write f home) s mid → is_backed (record_at mid.life.frames f.0).backing ≡ true
 backed_mid s mid f home r on m = ∥∥₁_elim r (hlevel props) (λ h.
     ap (λ (k : FrameLife). is_backed (record_at k.frames f.0).backing) m.life ∙ ap (λ (t : Record). is_backed t.backing) (write_record s.life (reached_sound s.life h) f on home) ∙ at home)
   where

@@ -9,8 +9,7 @@ use Rattle.mm_types.specs.declared.frames.Backing.TheVariants as backing
 use Rattle.mm_types.specs.declared.moves.Stored.TheVariants as stored
 use Rattle.mm_types.specs.declared.moves.Move.TheVariants as move
 use Rattle.mm_life.specs.{record_at, is_on, without, FrameLife, is_short, after_move}
-use Rattle.mm_laws.specs.Reached.{Reached}
-use Rattle.mm_laws.specs.{times, is_backed}
+use Rattle.mm_laws.specs.{ReachedByMoves, times, is_backed}
 use Rattle.mm_laws.proofs.{reached_sound, modified_frame, begun_ended, times_on}
 use Rattle.mm_frame_laws.specs.{after_written, after_failed, put_last, failed_write, next_try}
 use Rattle.mm_frame_laws.proofs.{failed, written_found}
@@ -59,8 +58,8 @@ two_life f s z t = t.ends.life ∙ ap (λ (l : FrameLife). after_move l (move.Lo
 two_written : (f : Frame) (s z : StateOf) (t : Tries f true s z) → z.life ≡ after_written s.life f t.home
 two_written f s z t = t.ends.life ∙ ap (λ (l : FrameLife). after_move l (move.Wrote f)) t.begins.life
 
-module _ (f : Frame) (s z : StateOf) (t : Tries f false s z) (reached : ∥ Reached s.life ∥₁) (on : is_on f.0 s.life.frames.modified ≡ true) where
-  same_life : Reached s.life → z.life ≡ put_last s.life f.0
+module _ (f : Frame) (s z : StateOf) (t : Tries f false s z) (reached : ∥ ReachedByMoves s.life ∥₁) (on : is_on f.0 s.life.frames.modified ≡ true) where
+  same_life : ReachedByMoves s.life → z.life ≡ put_last s.life f.0
   same_life r = two_life f s z t ∙ failed s.life (reached_sound s.life r) f on t.home t.begins.legal
 
   off_flight : times f.0 s.life.flight ≡ 0
@@ -97,7 +96,7 @@ module _ (f : Frame) (s z : StateOf) (t : Tries f false s z) (reached : ∥ Reac
 on_false : (f : ℕ) (xs : List ℕ) → times f xs ≡ 0 → is_on f xs ≡ false
 on_false f xs none = not_true (is_on f xs) (λ e. let some = times_on f xs e in absurd (omega (arith, none, some)))
 
-pub target_of : (pin : Option Frame) (z : StateOf) (moves : List Move) (f : Frame) → ∥ Reached z.life ∥₁ → is_on f.0 z.life.frames.modified ≡ true → next_try z.life moves ≡ Some f.0
+pub target_of : (pin : Option Frame) (z : StateOf) (moves : List Move) (f : Frame) → ∥ ReachedByMoves z.life ∥₁ → is_on f.0 z.life.frames.modified ≡ true → next_try z.life moves ≡ Some f.0
     → ((g : Frame) → pin ≡ Some g → 1 ≤ (record_at z.life.frames g.0).shares) → Target pin z moves f
 target_of pin z moves f reached on next pinned = record {
   on = on;
@@ -107,12 +106,12 @@ target_of pin z moves f reached on next pinned = record {
 }
 
 -- a write of it that failed, and one that succeeded
-pub failed_on : (pin : Option Frame) (s z y : StateOf) (moves : List Move) (k : Seeks pin s z moves) (f : Frame) → ∥ Reached z.life ∥₁ → Target pin z moves f → (t : Tries f false z y) → Seeks pin s y (moves ++ failed_write f t.home)
+pub failed_on : (pin : Option Frame) (s z y : StateOf) (moves : List Move) (k : Seeks pin s z moves) (f : Frame) → ∥ ReachedByMoves z.life ∥₁ → Target pin z moves f → (t : Tries f false z y) → Seeks pin s y (moves ++ failed_write f t.home)
 failed_on pin s z y moves k f reached target t =
     seeks_failed pin s z moves k f target y t (stays f z y t reached target.on) (shares_stay f z y t reached target.on pin k.pinned) (short_stays f z y t reached target.on k.short)
     (told_rose f z y t reached target.on) (told_kept f z y t reached target.on) (read_kept f z y t reached target.on)
 
-pub wrote_on : (pin : Option Frame) (s z y : StateOf) (moves : List Move) (k : Seeks pin s z moves) (f : Frame) → ∥ Reached z.life ∥₁ → Target pin z moves f → Tries f true z y → Searched pin true s y
+pub wrote_on : (pin : Option Frame) (s z y : StateOf) (moves : List Move) (k : Seeks pin s z moves) (f : Frame) → ∥ ReachedByMoves z.life ∥₁ → Target pin z moves f → Tries f true z y → Searched pin true s y
 wrote_on pin s z y moves k f reached target t =
     wrote_found pin s z moves k f target y t
     (∥∥₁_elim reached (Bool-set _ _) (λ r. ap is_short (two_written f z y t) ∙ written_found z.life (reached_sound z.life r) f target.on t.home))

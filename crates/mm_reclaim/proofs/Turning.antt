@@ -9,8 +9,7 @@ use Rattle.mm_types.specs.{MachineOf, Frame, Place, Record, Move}
 use Rattle.mm_types.specs.declared.moves.Move.TheVariants as move
 use Rattle.mm_life.specs.{record_at, is_on, FrameLife, IsLegal, is_short, after_move, after_unmap_at, can_be_written, walked_all, IsVictim, may_go}
 use Rattle.mm_life.specs.{is_unpinned, is_frame}
-use Rattle.mm_laws.specs.Reached.{Reached}
-use Rattle.mm_laws.specs.{valid_places}
+use Rattle.mm_laws.specs.{ReachedByMoves, valid_places}
 use Rattle.mm_laws.proofs.{reached_sound, reached_along, reached_next}
 use Rattle.mm_frame_laws.specs.{NoneMayGo, after_failed, Unmapped, failed_write, lost_in, next_try}
 use Rattle.mm_frame_laws.proofs.{unmapped, unmap_legal, failed, turns_end}
@@ -55,11 +54,11 @@ module _ (s m : StateOf) (place : Place) (f : Frame) (there : s.life.valid place
   low_after h = subst (λ (k : MachineOf). f.0 < k.frames) (sym stays.machine) (h.low place f there)
 
   module _ (h : StateHolds s) where
-    unmapped_here : Reached s.life → Unmapped s.life m.life place f.0
+    unmapped_here : ReachedByMoves s.life → Unmapped s.life m.life place f.0
     unmapped_here r = subst (λ (l : FrameLife). Unmapped s.life l place f.0) (sym made.life) (unmapped s.life (reached_sound s.life r) place f there)
 
-    pub reached_after : ∥ Reached m.life ∥₁
-    reached_after = ∥∥₁_map h.reached (λ r. subst Reached (sym made.life) (reached_next (move.Unmap place) s.life r made.legal))
+    pub reached_after : ∥ ReachedByMoves m.life ∥₁
+    reached_after = ∥∥₁_map h.reached (λ r. subst ReachedByMoves (sym made.life) (reached_next (move.Unmap place) s.life r made.legal))
 
     -- the pinned frame loses no share
     pub pinned_after : (pin : Option Frame) → may_go s.life pin place ≡ true → ((g : Frame) → pin ≡ Some g → 1 ≤ (record_at s.life.frames g.0).shares) → (g : Frame) → pin ≡ Some g → 1 ≤ (record_at m.life.frames g.0).shares

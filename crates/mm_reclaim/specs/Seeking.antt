@@ -5,7 +5,7 @@ use Rattle.mm_types.specs.{Frame, Stored, Move}
 use Rattle.mm_types.specs.declared.moves.Move.TheVariants as move
 use Rattle.mm_life.specs.{record_at, is_on, FrameLife, is_access, is_short, can_be_written, Through, walked_all, is_wrote_move, is_read_move}
 use Rattle.mm_life.specs.{SearchMove}
-use Rattle.mm_laws.specs.Reached.{Reached}
+use Rattle.mm_laws.specs.{ReachedByMoves}
 use Rattle.mm_frame_laws.specs.{lost_in, Walking, Emptying}
 use Rattle.mm_parts.specs.{write_end}
 use Rattle.mm_moving.specs.{StateOf, Made, moved_with_call, SomeFault, DoesMoves, walk_of, IsFlightOf}
@@ -71,9 +71,9 @@ pub record SoughtTo (l m : FrameLife) (moves : List Move) : Type 0 where
 pub record Walks (pin : Option Frame) (s z : StateOf) (n i : ℕ) : Type 0 where
   pub moves : List Move
   pub seeks : Seeks pin s z moves
-  pub to : Reached s.life → WalkedTo s.life z.life moves n i
+  pub to : ReachedByMoves s.life → WalkedTo s.life z.life moves n i
 
 pub record Seeking (pin : Option Frame) (s z : StateOf) : Type 0 where
   pub moves : List Move
   pub seeks : Seeks pin s z moves
-  pub to : Reached s.life → SoughtTo s.life z.life moves
+  pub to : ReachedByMoves s.life → SoughtTo s.life z.life moves

@@ -3,7 +3,7 @@ ghost use Rattle.std.specs.Option.{ForSome};
 ghost use Rattle.mm_types.specs.{Place};
 ghost use Rattle.mm_life.specs.{may_go as goes, IsOldest, IsVictim};
 ghost use Rattle.mm_frame_laws.specs.{NoneMayGo, takes_over as takes, BestBelow};
-ghost use Rattle.mm_reclaim.specs.Choosing.{NoneIn};
+ghost use Rattle.mm_reclaim.specs.{NoneIn};
 
 use mm_moving::Moving;
 use mm_types::{Frame, Pid, Place, Vpn};

@@ -2,7 +2,7 @@ ghost use Rattle.std.specs.Prelude.{◌≡◌, true};
 ghost use Rattle.mm_types.specs.declared.moves.LineKind.TheVariants as kind;
 ghost use Rattle.mm_life.specs.{clearings, writes_begun};
 ghost use Rattle.mm_moving.specs.{moved, DoesMoves};
-ghost use Rattle.mm_reclaim.specs.Chores.{TrimsOne, Trimmed, Rounds, writings};
+ghost use Rattle.mm_reclaim.specs.{TrimsOne, Trimmed, Rounds, writings};
 
 use crate::searching::first_writable;
 use mm_moving::Moving;

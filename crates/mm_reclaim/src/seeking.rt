@@ -2,7 +2,7 @@ ghost use Rattle.std.specs.Prelude.{◌≡◌, ◌||◌, ◌==◌, not, is_some,
 ghost use Rattle.mm_life.specs.{is_on, can_be_written as writable};
 ghost use Rattle.mm_laws.specs.{block_of};
 ghost use Rattle.mm_frame_laws.specs.{Writable};
-ghost use Rattle.mm_reclaim.specs.Seeking.{IsUnderWay, Tries, Tried};
+ghost use Rattle.mm_reclaim.specs.{IsUnderWay, Tries, Tried};
 
 use mm_moving::Moving;
 use mm_types::{Backing, Frame};

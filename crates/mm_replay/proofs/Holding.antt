@@ -5,7 +5,7 @@ use Rattle.std.proofs.lemmas.Bool.{eqb-true, and_parts}
 use Rattle.mm_types.specs.{Frame, Key, Place, Pid, Vpn, Area, Held}
 use Rattle.mm_types.specs.declared.numbers.Key.TheVariants.{Private, Shared}
 use Rattle.mm_life.specs.{changed, same_key, same_place, is_dead}
-use Rattle.mm_replay.specs.{Alive, Writes, Keeps, found, alive_at, Written, Stays, held_of, paging_of, no_keys, no_paging, no_places}
+use Rattle.mm_replay.specs.{Alive, Writes, Keeps, found, alive_at, Written, Stays, held_of, alive_paging, no_keys, no_paging, no_places}
 use Rattle.mm_replay.specs.declared.pairs.Pairs.{Pairs}
 use Rattle.mm_laws.proofs.{same_key-true}
 use Rattle.mm_replay.proofs.Outcomes.{kept_at}
@@ -59,8 +59,8 @@ module _ (pages indices : Pairs Alive) where
   pub stands_none : ((a b : ℕ) → found pages a b ≡ None) → ((a b : ℕ) → found indices a b ≡ None) → ◌≡◌ {A = Key → Held} (λ q. held_of (alive_at pages indices q)) no_keys
   stands_none f g = λ i. λ (q : Key). (ap held_of (none_alive f g q)) i
 
-  pub paging_none : ((a b : ℕ) → found pages a b ≡ None) → ((a b : ℕ) → found indices a b ≡ None) → ◌≡◌ {A = Key → Bool} (λ q. paging_of (alive_at pages indices q)) no_paging
-  paging_none f g = λ i. λ (q : Key). (ap paging_of (none_alive f g q)) i
+  pub paging_none : ((a b : ℕ) → found pages a b ≡ None) → ((a b : ℕ) → found indices a b ≡ None) → ◌≡◌ {A = Key → Bool} (λ q. alive_paging (alive_at pages indices q)) no_paging
+  paging_none f g = λ i. λ (q : Key). (ap alive_paging (none_alive f g q)) i
 
 -- ---- what is known of keys, as two functions
 
@@ -68,7 +68,7 @@ held_cond : (b : Bool) (x y : Option Alive) → held_of (cond b x y) ≡ cond b 
 held_cond true x y = refl
 held_cond false x y = refl
 
-paging_cond : (b : Bool) (x y : Option Alive) → paging_of (cond b x y) ≡ cond b (paging_of x) (paging_of y)
+paging_cond : (b : Bool) (x y : Option Alive) → alive_paging (cond b x y) ≡ cond b (alive_paging x) (alive_paging y)
 paging_cond true x y = refl
 paging_cond false x y = refl
 
@@ -76,14 +76,14 @@ module _ (old new : Key → Option Alive) where
   pub stands_written : (k : Key) (x : Option Alive) → Written old new k x → ◌≡◌ {A = Key → Held} (λ q. held_of (new q)) (changed same_key (λ q. held_of (old q)) k (held_of x))
   stands_written k x h = λ i. λ (q : Key). (ap held_of (h q) ∙ held_cond (same_key q k) x (old q)) i
 
-  pub paging_written : (k : Key) (x : Option Alive) → Written old new k x → ◌≡◌ {A = Key → Bool} (λ q. paging_of (new q)) (changed same_key (λ q. paging_of (old q)) k (paging_of x))
-  paging_written k x h = λ i. λ (q : Key). (ap paging_of (h q) ∙ paging_cond (same_key q k) x (old q)) i
+  pub paging_written : (k : Key) (x : Option Alive) → Written old new k x → ◌≡◌ {A = Key → Bool} (λ q. alive_paging (new q)) (changed same_key (λ q. alive_paging (old q)) k (alive_paging x))
+  paging_written k x h = λ i. λ (q : Key). (ap alive_paging (h q) ∙ paging_cond (same_key q k) x (old q)) i
 
   pub stands_same : Stays old new → ◌≡◌ {A = Key → Held} (λ q. held_of (new q)) (λ q. held_of (old q))
   stands_same h = λ i. λ (q : Key). (ap held_of (h q)) i
 
-  pub paging_same : Stays old new → ◌≡◌ {A = Key → Bool} (λ q. paging_of (new q)) (λ q. paging_of (old q))
-  paging_same h = λ i. λ (q : Key). (ap paging_of (h q)) i
+  pub paging_same : Stays old new → ◌≡◌ {A = Key → Bool} (λ q. alive_paging (new q)) (λ q. alive_paging (old q))
+  paging_same h = λ i. λ (q : Key). (ap alive_paging (h q)) i
 
 -- a key that is not dead is known
 pub known : (o : Option Alive) → is_dead (held_of o) ≡ false → is_some o ≡ true

@@ -1,5 +1,5 @@
 -- What numbers have in leaves, and what becomes of it where a place is written, leaves are added and a leaf gets its places.
-use Rattle.std.proofs.Common.{◌≡◌, ℕ, zero, suc, ◌-◌, ◌/◌, ◌%◌, ◌<◌, ◌≤◌, true, false, cond, List, [], ◌∷◌, ◌++◌, length, get_or, set, take, replicate, Option, Some, None, refl, sym, ap, ◌∙◌, inl, inr, arith, ltb, get_or-set_same, get_or-set_other}
+use Rattle.std.proofs.Common.{◌≡◌, ℕ, zero, suc, ◌-◌, ◌/◌, ◌%◌, ◌<◌, ◌≤◌, Bool, true, false, cond, List, [], ◌∷◌, ◌++◌, length, get_or, set, take, replicate, Option, Some, None, refl, sym, ap, ◌∙◌, inl, inr, arith, ltb, get_or-set_same, get_or-set_other}
 use Rattle.std.specs.Prelude.{◌==◌, ◌↔◌, slice_get, slice_set, IsTrue, IsSome, is_some}
 use Rattle.std.specs.Vec.{with_item}
 use Rattle.std.specs.declared.vec.Vec.{Vec}
@@ -96,9 +96,13 @@ module _ {X Z : Type 0} where
     | inr far ↦ get_or_past leaf.items j None far
   ]
 
-  pub none_of : (leaves : List (Vec (Option X) Z)) (n : ℕ) → (HasPlace leaves n → ⊥) → in_leaves leaves n ≡ None
+  none_of : (leaves : List (Vec (Option X) Z)) (n : ℕ) → (HasPlace leaves n → ⊥) → in_leaves leaves n ≡ None
   unfolding in_leaves
   none_of leaves n h = none_without (slice_get leaves (n / 256)) (n % 256) h
+
+  -- a number that was tested and has no place
+  pub none_placed : (leaves : List (Vec (Option X) Z)) (n : ℕ) (b : Bool) → IsTrue b ↔ HasPlace leaves n → b ≡ false → in_leaves leaves n ≡ None
+  none_placed leaves n b test e = none_of leaves n (λ place. let bad : false ≡ true = sym e ∙ test.1 place in cc)
 
   -- what is read at a place
   pub value_is : (leaves : List (Vec (Option X) Z)) (n : ℕ) (leaf : Vec (Option X) Z) (x : Option X) → HasPlace leaves n → leaf ≡ get_or leaves (n / 256) leaf → x ≡ get_or leaf.items (n % 256) x → x ≡ in_leaves leaves n

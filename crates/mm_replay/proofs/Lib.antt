@@ -15,10 +15,9 @@ pub mod Looked
 pub mod Soundness
 pub mod Flying
 pub use Sounds.{front_again, key_reads, move_reads, none_again, whole_again, whole_spelled}
-pub use Slotting.{given_before, given_behind, given_first, given_taken, grown_some, lowest_taken}
-pub use Slotting.{taken_next}
+pub use Slotting.{given_before, given_behind, given_first, grown_some, lowest_taken, taken_next}
 pub use Outcomes.{if_none, on_err_then, on_ok_then}
-pub use Leaves.{full_keeps, full_place, no_place, none_in, none_of, place_in, place_of_some}
+pub use Leaves.{full_keeps, full_place, no_place, none_in, none_placed, place_in, place_of_some}
 pub use Leaves.{place_tested, place_within, push_keeps, put_sets, resized, same_twice, set_after}
 pub use Leaves.{set_to_same, value_is}
 pub use Pairing.{mapped_at, mapped_none, mapped_same, mapped_through, mapped_written}

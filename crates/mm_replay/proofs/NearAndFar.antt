@@ -5,6 +5,7 @@ use Rattle.std.proofs.lemmas.Bool.{eqb-true, eq-eqb, ltb-true, and_parts, and_fr
 use Rattle.std.proofs.lemmas.Option.{cond_some, none-some}
 use Rattle.mm_types.proofs.{same_tests, not_true}
 use Rattle.mm_replay.proofs.Outcomes.{kept_at}
+use Rattle.mm_replay.proofs.Leaves.{none_placed}
 use Rattle.mm_replay.specs.{Sets, Same, Writes, Keeps, near_number, at_number, near_part, first_of, either_way}
 
 -- what two small numbers are as one
@@ -132,4 +133,4 @@ module _ {X : Type 0} where
   unfolding either_way
   nothing_found near far f g a b = nothing_of (near_part near a b) (far a b) (nothing_near near f a b) (g a b)
 
-pub ruleset parts = (part_far, part_empty)
+pub ruleset parts = (part_far, part_empty, none_placed)

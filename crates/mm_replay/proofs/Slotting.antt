@@ -85,9 +85,6 @@ given_first free others s a taken =
         h ∙ ap (λ (b : Bool). Some b) (none_free xs k (get_or xs k false) none h)
 
 module _ (free others : List Bool) (s t : ℕ) (a : AreApartFrom free (Some t) others) (taken : slice_get free s ≡ Some false) where
-  pub given_taken : slice_get others s ≡ Some false
-  given_taken = ap (λ (xs : List Bool). slice_get xs s) a.others_are ∙ get_set_other free t s false (not_both free s t taken a.is_lowest.is_free) ∙ taken
-
   pub lowest_taken : slice_get others t ≡ Some false
   lowest_taken = ap (λ (xs : List Bool). slice_get xs t) a.others_are ∙ get_set_same free t false (get_within free t true a.is_lowest.is_free)
 

@@ -6,19 +6,18 @@ use Rattle.mm_types.specs.{Move, Stored}
 use Rattle.mm_types.specs.declared.moves.Stored.TheVariants as stored
 use Rattle.mm_types.proofs.{or_left}
 use Rattle.mm_life.specs.{FrameTable, record_at, is_first, is_empty, has_request, FrameLife, IsLegal, is_legal_write, after_move}
-use Rattle.mm_laws.specs.{one_if, times}
-use Rattle.mm_laws.specs.Reached.{Reached}
+use Rattle.mm_laws.specs.{one_if, times, ReachedByMoves}
 use Rattle.mm_laws.proofs.{reached_by, kept_inside, owner_passes, times_on}
 use Rattle.mm_laws.proofs.Facts.{Facts}
-use Rattle.mm_replay.specs.{IsEmptyFrame}
-use Rattle.mm_replay.specs.Sound.{Listed, Sound}
+use Rattle.mm_replay.specs.{IsEmptyFrame, SoundReplay}
+use Rattle.mm_replay.specs.Sound.{Listed}
 use Rattle.mm_replay.proofs.Placing.{idle_quiet, on_there}
 
 asked : (b : Bool) (n : ℕ) → 1 ≤ n → n ≡ one_if b → b ≡ true
 asked true n h e = refl
 asked false n h e = absurd (omega arith)
 
-pub sound_of : (l : FrameLife) → Facts l → Sound l
+pub sound_of : (l : FrameLife) → Facts l → SoundReplay l
 sound_of l a = record {
   sized = a.framed;
   owned = record { there = a.owned; back = a.owner };
@@ -27,9 +26,9 @@ sound_of l a = record {
 }
 
 -- after a move that was made, or was not
-pub reached_made : {T E : Type 0} (r : Result T E) (l l' : FrameLife) (m : Move) → ∥ Reached l ∥₁ → IsLegal m l → OnOk r (l' ≡ after_move l m) → OnErr r (l' ≡ l) → ∥ Reached l' ∥₁
+pub reached_made : {T E : Type 0} (r : Result T E) (l l' : FrameLife) (m : Move) → ∥ ReachedByMoves l ∥₁ → IsLegal m l → OnOk r (l' ≡ after_move l m) → OnErr r (l' ≡ l) → ∥ ReachedByMoves l' ∥₁
 reached_made (Ok t) l l' m was h made same = reached_by l l' m h made was
-reached_made (Err e) l l' m was h made same = subst (λ (x : FrameLife). ∥ Reached x ∥₁) (sym same) was
+reached_made (Err e) l l' m was h made same = subst (λ (x : FrameLife). ∥ ReachedByMoves x ∥₁) (sym same) was
 
 low_owned : (d : FrameTable) (f : ℕ) → is_some (record_at d f).owner ≡ true → f < length d.records
 low_owned d f e = kept_inside d f (or_left (is_some (record_at d f).owner) (has_request (record_at d f).request) e)
@@ -39,10 +38,10 @@ pub record Ready (l : FrameLife) (f : ℕ) : Type 0 where
   pub low : f < length l.frames.records
   pub quiet : has_request (record_at l.frames f).request ≡ false
 
-pub ready_low : (l : FrameLife) → Sound l → (f : ℕ) → Ready l f → f < l.machine.frames
+pub ready_low : (l : FrameLife) → SoundReplay l → (f : ℕ) → Ready l f → f < l.machine.frames
 ready_low l s f r = subst (λ (n : ℕ). f < n) s.sized r.low
 
-pub ready_quiet : (l : FrameLife) → Sound l → (f : ℕ) → Ready l f → (k : ℕ) → slice_get l.flight k ≡ Some f → ⊥
+pub ready_quiet : (l : FrameLife) → SoundReplay l → (f : ℕ) → Ready l f → (k : ℕ) → slice_get l.flight k ≡ Some f → ⊥
 ready_quiet l s f r k e = let bad : true ≡ false = sym (s.requested k f e) ∙ r.quiet in cc
 
 module _ (l : FrameLife) (listed : Listed l.frames) where

@@ -14,9 +14,9 @@ abbrev pub held_of : Option Alive → Held
 held_of None = held.Dead
 held_of (Some a) = a.held
 
-abbrev pub paging_of : Option Alive → Bool
-paging_of None = false
-paging_of (Some a) = a.paging
+abbrev pub alive_paging : Option Alive → Bool
+alive_paging None = false
+alive_paging (Some a) = a.paging
 
 abbrev pub no_keys : Key → Held
 no_keys _ = held.Dead
@@ -46,7 +46,7 @@ abbrev pub stands_in : Keys → Key → Held
 stands_in keys k = held_of (alive_in keys k)
 
 abbrev pub paging_in : Keys → Key → Bool
-paging_in keys k = paging_of (alive_in keys k)
+paging_in keys k = alive_paging (alive_in keys k)
 
 abbrev pub frames_in : Places → Place → Option Frame
 frames_in places p = found places.frames p.pid.0 p.vpn.0

@@ -7,8 +7,8 @@ use Rattle.mm_replay.specs.Listed.{table_of, Kept, Off}
 abbrev pub table : Listing → FrameTable
 table s = table_of s.records.items s.lists
 
-abbrev pub IsKept : Listing → Type 0
-IsKept s = Kept s.records.items s.lists
+abbrev pub IsListingKept : Listing → Type 0
+IsListingKept s = Kept s.records.items s.lists
 
 abbrev pub IsOff : Listing → ℕ → Type 0
 IsOff s f = Off s.records.items s.lists f

@@ -1,9 +1,8 @@
 -- What a move has to know of the state before it: frames and keys agree on who is where, a frame
 -- with a valid place has a share, and the frames in flight have a request.
-use Rattle.std.specs.Prelude.{◌≡◌, ℕ, ◌<◌, ◌≤◌, Bool, true, false, List, length, Option, Some, None, slice_get}
-use Rattle.mm_types.specs.{Frame, Key, Place, Record, Held, Move}
+use Rattle.std.specs.Prelude.{◌≡◌, ℕ, ◌<◌, ◌≤◌, true, false, List, length, Option, Some, None, slice_get}
+use Rattle.mm_types.specs.{Frame, Key, Place, Record, Held}
 use Rattle.mm_types.specs.declared.frames.Held.TheVariants as held
-use Rattle.mm_types.specs.declared.moves.Move.TheVariants as move
 use Rattle.mm_life.specs.{FrameTable, record_at, is_first, is_on, is_idle, has_request, FrameLife}
 use Rattle.mm_replay.specs.Listed.{record_of, is_owned}
 
@@ -28,7 +27,7 @@ pub record Listed (d : FrameTable) : Type 0 where
 -- ---- owners
 
 -- a frame has the key as its owner exactly where the key stands in the frame
-pub record Owned (owner : ℕ → Option Key) (stands : Key → Held) : Type 0 where
+pub record AreOwned (owner : ℕ → Option Key) (stands : Key → Held) : Type 0 where
   pub there : (f : ℕ) (k : Key) → owner f ≡ Some k → stands k ≡ held.Frame (frame f)
   pub back : (k : Key) (f : Frame) → stands k ≡ held.Frame f → owner f.0 ≡ Some k
 
@@ -42,15 +41,8 @@ abbrev pub Requested : List Record → List ℕ → Type 0
 Requested records flight = (k f : ℕ) → slice_get flight k ≡ Some f →
     has_request (record_of records f).request ≡ true
 
-pub record Sound (l : FrameLife) : Type 0 where
+pub record SoundReplay (l : FrameLife) : Type 0 where
   pub sized : length l.frames.records ≡ l.machine.frames
-  pub owned : Owned (owner_in l.frames) l.stands
+  pub owned : AreOwned (owner_in l.frames) l.stands
   pub shared : (p : Place) (f : Frame) → l.valid p ≡ Some f → 1 ≤ (record_at l.frames f.0).shares
   pub requested : Requested l.frames.records l.flight
-
--- a move that takes no memory
-abbrev pub is_in_place : Move → Bool
-is_in_place (move.At n k) = false
-is_in_place (move.Add k b) = false
-is_in_place (move.Map f p) = false
-is_in_place m = true

@@ -1,8 +1,7 @@
 ghost use Rattle.std.specs.Prelude.{◌≡◌, ◌+◌, ◌-◌, ◌*◌, ◌<◌, true, false};
-ghost use Rattle.mm_life.specs.{is_call, is_io, is_access, is_thread, is_unbind, is_writer, is_zeroer, is_touch, touches, unbinds, trims, is_machine};
-ghost use Rattle.mm_life.specs.{is_legal_kind, has_depth, is_zero, is_stored, owner_is, shows_shared, may_copy, is_unmapped, fits_place};
-ghost use Rattle.mm_life.specs.{is_below_max, is_above_min, is_at_max, is_short, may_unmap, is_block, may_write_block, is_legal_add, is_legal_map};
-ghost use Rattle.mm_life.specs.{is_legal_soil, is_legal_write, is_legal, is_shared, is_live, is_dead, set_of, set_in};
+ghost use Rattle.mm_life.specs.{is_call, is_io, is_access, is_writer, is_touch, touches, unbinds, trims, is_valid_machine, is_legal_kind, has_depth};
+ghost use Rattle.mm_life.specs.{owner_is, shows_shared, may_copy, is_unmapped, fits_place, is_short, may_unmap, may_write_block, is_legal_add};
+ghost use Rattle.mm_life.specs.{is_legal_map, is_legal_soil, is_legal_write, is_legal, is_shared, is_live, is_dead, set_of, set_in};
 ghost use Rattle.mm_types.specs.declared.moves.Move.TheVariants as move;
 
 use crate::four_lists::FrameList;
@@ -32,34 +31,16 @@ fn is_access(kind: LineKind) -> bool
     matches!(kind, LineKind::Access(_))
 }
 
-fn is_thread(kind: LineKind) -> bool
-    ensures { result ≡ is_thread kind }
-{
-    matches!(kind, LineKind::Thread(_))
-}
-
 fn is_touch(kind: LineKind) -> bool
     ensures { result ≡ is_touch kind }
 {
     matches!(kind, LineKind::Access(_) | LineKind::Thread(_))
 }
 
-fn is_unbind(kind: LineKind) -> bool
-    ensures { result ≡ is_unbind kind }
-{
-    matches!(kind, LineKind::Unbind(_))
-}
-
 fn is_writer(kind: LineKind) -> bool
     ensures { result ≡ is_writer kind }
 {
     matches!(kind, LineKind::Writer)
-}
-
-fn is_zeroer(kind: LineKind) -> bool
-    ensures { result ≡ is_zeroer kind }
-{
-    matches!(kind, LineKind::Zeroer)
 }
 
 fn touches(pid: Pid, kind: LineKind) -> bool
@@ -83,7 +64,7 @@ fn trims(pid: Pid, kind: LineKind) -> bool
 // ---- keys, records, sets
 
 fn is_machine(frames: u32, slots: u32, depth: u32, blocks: u32) -> bool
-    ensures { result ≡ is_machine (record {
+    ensures { result ≡ is_valid_machine (record {
       frames = frames;
       slots = slots;
       depth = depth;
@@ -105,18 +86,6 @@ pub(crate) fn is_dead(held: Held) -> bool
     matches!(held, Held::Dead)
 }
 
-fn is_zero(held: Held) -> bool
-    ensures { result ≡ is_zero held }
-{
-    matches!(held, Held::Zero)
-}
-
-fn is_stored(held: Held) -> bool
-    ensures { result ≡ is_stored held }
-{
-    matches!(held, Held::Slot(_) | Held::Block(_))
-}
-
 fn is_shared(key: Key) -> bool
     ensures { result ≡ is_shared key }
 {
@@ -136,30 +105,6 @@ fn fits_place(place: Place, key: Key) -> bool
         Key::Private(pid, vpn) => pid.0 == place.pid.0 && vpn.0 == place.vpn.0,
         Key::Shared(_, _) => true,
     }
-}
-
-fn is_block(block: u32, backing: Backing) -> bool
-    ensures { result ≡ is_block block backing }
-{
-    matches!(backing, Backing::Block(b) if b.0 == block)
-}
-
-fn is_below_max(set: Option<ResidentSet>) -> bool
-    ensures { result ≡ is_below_max set }
-{
-    matches!(set, Some(set) if set.resident < set.max)
-}
-
-fn is_above_min(set: Option<ResidentSet>) -> bool
-    ensures { result ≡ is_above_min set }
-{
-    matches!(set, Some(set) if set.min < set.resident)
-}
-
-fn is_at_max(set: Option<ResidentSet>) -> bool
-    ensures { result ≡ is_at_max set }
-{
-    matches!(set, Some(set) if set.resident == set.max)
 }
 
 /// The working set of a pid, where a `process` line gave it.
@@ -242,8 +187,8 @@ fn may_unmap(l: &State, place: Place, r: &Record) -> bool
     let set = set_of(&l.sets, place.pid);
     let touching = touches(place.pid, l.kind);
     unbinds(place.pid, l.kind)
-        || (trims(place.pid, l.kind) && is_above_min(set))
-        || (touching && is_at_max(set))
+        || (trims(place.pid, l.kind) && matches!(set, Some(set) if set.min < set.resident))
+        || (touching && matches!(set, Some(set) if set.resident == set.max))
         || (is_access(l.kind) && is_short(l))
         || (touching && is_owner_shared(r) && is_live(l, Key::Private(place.pid, place.vpn)))
 }
@@ -273,7 +218,7 @@ fn is_legal_add(l: &State, key: Key, block: Option<Block>) -> bool
 fn is_legal_drop(l: &State, key: Key) -> bool
     ensures { result ≡ is_legal (life l.now) (move.Drop key) }
 {
-    (is_call(l.kind) || is_unbind(l.kind))
+    matches!(l.kind, LineKind::Call | LineKind::Unbind(_))
         && l.keys.is_paging(key)
         && is_unmapped(l, l.keys.held(key))
 }
@@ -282,7 +227,8 @@ fn is_legal_clear(l: &State, frame: Frame) -> bool
     ensures { result ≡ is_legal (life l.now) (move.Clear frame) }
 {
     l.table.is_first(FrameList::Free, frame.0)
-        && (is_zeroer(l.kind) || (is_touch(l.kind) && l.table.is_empty(FrameList::Zeroed)))
+        && (matches!(l.kind, LineKind::Zeroer)
+            || (is_touch(l.kind) && l.table.is_empty(FrameList::Zeroed)))
 }
 
 fn is_legal_steal(l: &State, frame: Frame) -> bool
@@ -297,7 +243,9 @@ fn is_legal_steal(l: &State, frame: Frame) -> bool
 fn is_legal_give(l: &State, frame: Frame, key: Key) -> bool
     ensures { result ≡ is_legal (life l.now) (move.Give frame key) }
 {
-    l.table.is_first(FrameList::Zeroed, frame.0) && is_zero(l.keys.held(key)) && is_touch(l.kind)
+    l.table.is_first(FrameList::Zeroed, frame.0)
+        && matches!(l.keys.held(key), Held::Zero)
+        && is_touch(l.kind)
 }
 
 fn is_legal_read(l: &State, frame: Frame, key: Key) -> bool
@@ -306,8 +254,8 @@ fn is_legal_read(l: &State, frame: Frame, key: Key) -> bool
     let first = l.table.is_first(FrameList::Free, frame.0)
         || (l.table.is_empty(FrameList::Free) && l.table.is_first(FrameList::Zeroed, frame.0));
     first
-        && is_stored(l.keys.held(key))
-        && (is_access(l.kind) || (is_thread(l.kind) && has_depth(l)))
+        && matches!(l.keys.held(key), Held::Slot(_) | Held::Block(_))
+        && (is_access(l.kind) || (matches!(l.kind, LineKind::Thread(_)) && has_depth(l)))
 }
 
 fn is_legal_read_end(l: &State, frame: Frame) -> bool
@@ -325,7 +273,7 @@ fn is_legal_map(l: &State, frame: Frame, place: Place) -> bool
         && !is_read(r.request)
         && l.places.get(place).is_none()
         && touches(place.pid, l.kind)
-        && is_below_max(set_of(&l.sets, place.pid))
+        && matches!(set_of(&l.sets, place.pid), Some(set) if set.resident < set.max)
 }
 
 fn is_legal_unmap(l: &State, place: Place) -> bool
@@ -341,12 +289,6 @@ fn is_legal_soil(l: &State, frame: Frame) -> bool
     let clean = !r.changed && !has_request(r.request);
     let writing = is_write(r.request) && !is_again(r.request);
     r.shares > 0 && (clean || writing) && is_touch(l.kind)
-}
-
-fn is_owner_paging(l: &State, r: &Record) -> bool
-    ensures { result ≡ owner_is (life l.now).paging r.now }
-{
-    matches!(r.owner, Some(key) if l.keys.is_paging(key))
 }
 
 fn may_write_block(l: &State, frame: u32) -> bool
@@ -365,7 +307,7 @@ fn is_legal_write(l: &State, frame: Frame, stored: Stored) -> bool
     match stored {
         Stored::Slot(slot) => {
             l.table.is_modified(frame.0)
-                && is_owner_paging(l, &r)
+                && matches!(r.owner, Some(key) if l.keys.is_paging(key))
                 && l.free_slots.is_lowest(slot.0)
                 && (is_access(l.kind) || (is_writer(l.kind) && has_depth(l)))
         }
@@ -373,7 +315,7 @@ fn is_legal_write(l: &State, frame: Frame, stored: Stored) -> bool
             r.changed
                 && r.owner.is_some()
                 && !has_request(r.request)
-                && is_block(block.0, r.backing)
+                && matches!(r.backing, Backing::Block(b) if b.0 == block.0)
                 && may_write_block(l, frame.0)
         }
     }
@@ -387,19 +329,15 @@ fn is_legal_write_end(l: &State, frame: Frame) -> bool
         && (is_io(l.kind) || is_access(l.kind) || is_call(l.kind))
 }
 
-fn is_legal_at(l: &State, line: u32, kind: LineKind) -> bool
-    ensures { result ≡ is_legal (life l.now) (move.At line kind) }
-{
-    u64::from(line) == u64::from(l.line) + 1 && l.flight.len() <= l.depth && is_legal_kind(l, kind)
-}
-
 /// Whether a move is legal.
 #[inline(always)]
 pub(crate) fn is_legal(l: &State, m: &Move) -> bool
     ensures { result ≡ is_legal (life l.now) m.now }
 {
     match *m {
-        Move::At(line, kind) => is_legal_at(l, line, kind),
+        Move::At(line, kind) => u64::from(line) == u64::from(l.line) + 1
+            && l.flight.len() <= l.depth
+            && is_legal_kind(l, kind),
         Move::Add(key, block) => is_legal_add(l, key, block),
         Move::Drop(key) => is_legal_drop(l, key),
         Move::Clear(frame) => is_legal_clear(l, frame),

@@ -59,13 +59,8 @@ impl SlotTree {
         ensures lowest { IsLowestIn self.old.free result }
         ensures taken { self.new.free ≡ without_slot self.old.free result }
     {
-        match &mut self.slots {
-            Some(slots) => match slots.take() {
-                Some(slot) => Some(slot.0),
-                None => None,
-            },
-            None => None,
-        }
+        let slot = self.slots.as_mut()?.take()?;
+        Some(slot.0)
     }
 
     /// Gives back a slot that was taken.
@@ -86,7 +81,8 @@ impl SlotTree {
         match &mut self.slots {
             Some(slots) => slots.reserve(n),
             None => {
-                let slots = with_room(alloc, n)?;
+                let mut slots = Slots::new(alloc, 0)?;
+                slots.reserve(n)?;
                 put(&mut self.slots, Some(slots));
                 Ok(())
             }
@@ -103,16 +99,6 @@ impl SlotTree {
             slots.grow(n);
         }
     }
-}
-
-/// No slot, and the memory for `n` further ones.
-fn with_room(alloc: Global, n: u32) -> Result<Slots, NoMemory>
-    ensures none { IfOk result (λ s. s.free ≡ []) }
-    ensures room { IfOk result (λ s. n ≤ s.spare) }
-{
-    let mut slots = Slots::new(alloc, 0)?;
-    slots.reserve(n)?;
-    Ok(slots)
 }
 
 /// For each slot whether it is free.
@@ -141,10 +127,7 @@ fn is_taken(free: &[bool], slot: u32) -> bool
     ensures taken { result ≡ true → slice_get free.now slot ≡ Some false }
     ensures free { result ≡ false → slice_set free.now slot true ≡ free.now }
 {
-    match free.get(slot as usize) {
-        Some(free) => !*free,
-        None => false,
-    }
+    matches!(free.get(slot as usize), Some(free) if !*free)
 }
 
 /// So many flags more that are set.
@@ -187,10 +170,7 @@ impl SlotMap {
     pub(crate) fn is_lowest(&self, slot: u32) -> bool
         ensures { result ≡ is_lowest slot self.now }
     {
-        match self.lowest {
-            Some(lowest) => lowest == slot,
-            None => false,
-        }
+        self.lowest == Some(slot)
     }
 
     /// Whether a slot is there and free.
@@ -215,24 +195,16 @@ impl SlotMap {
     pub(crate) fn give(&mut self, slot: Option<u32>)
         ensures { self.new ≡ freed self.old slot }
     {
-        if let Some(slot) = slot {
-            self.give_one(slot);
-        }
-    }
-
-    fn give_one(&mut self, slot: u32)
-        ensures { self.new ≡ slice_set self.old slot true }
-    {
+        let Some(slot) = slot else {
+            return;
+        };
         if is_taken(&self.free, slot) {
             set_at(&mut self.free, slot, true);
             match self.lowest {
+                Some(lowest) if lowest < slot => self.others.give(slot),
                 Some(lowest) => {
-                    if lowest < slot {
-                        self.others.give(slot);
-                    } else {
-                        self.others.give(lowest);
-                        self.lowest = Some(slot);
-                    }
+                    self.others.give(lowest);
+                    self.lowest = Some(slot);
                 }
                 None => self.lowest = Some(slot),
             }

@@ -1,4 +1,4 @@
-ghost use Rattle.std.specs.Prelude.{◌≡◌, ◌<◌, ◌≤◌, ◌^◌, ◌↔◌, ℕ, false, Some, None, IsTrue, IsSome, OnOk, OnErr, slice_index_or, vec_len};
+ghost use Rattle.std.specs.Prelude.{◌≡◌, ◌<◌, ◌≤◌, ◌^◌, ◌↔◌, ◌+◌, ◌/◌, ℕ, true, false, Some, None, IsTrue, OnOk, OnErr, slice_index_or, vec_len};
 ghost use Rattle.mm_replay.specs.Grids.{in_leaves, HasPlace, Sets, Same};
 
 use mm_types::NoMemory;
@@ -6,6 +6,29 @@ use std::alloc::Global;
 
 /// For how many numbers a leaf has places.
 const LEAF: usize = 256;
+
+/// How many leaves a table may have: 64, and one more for each 64 values that were written. So
+/// values whose numbers lie far apart take no leaf each.
+#[derive(Drop)]
+pub(crate) struct Budget {
+    pub(crate) values: u32,
+    pub(crate) leaves: u32,
+    ghost within: { leaves ≤ 64 + values / 64 },
+}
+
+impl Budget {
+    /// Takes a leaf more, if there may be one.
+    pub(crate) fn take(&mut self) -> bool
+        ensures taken { result ≡ true → self.new.leaves ≡ self.old.leaves + 1 }
+        ensures same { result ≡ false → self.new ≡ self.old }
+    {
+        if self.leaves >= 64 + self.values / 64 {
+            return false;
+        }
+        self.leaves += 1;
+        true
+    }
+}
 
 /// Values by a number, those of 256 numbers in a leaf; a leaf takes memory from its first value on.
 #[derive(Drop)]
@@ -24,8 +47,8 @@ impl<T: Copy + Drop> Grid<T> {
         }
     }
 
-    /// Whether the number has a place.
-    fn has_place(&self, n: usize) -> bool
+    /// Whether the number has a place. Where it has none it has no value.
+    pub(crate) fn has_place(&self, n: usize) -> bool
         ensures { IsTrue result ↔ HasPlace self.now.leaves.items n }
     {
         let leaf = n / LEAF;
@@ -34,13 +57,6 @@ impl<T: Copy + Drop> Grid<T> {
             return false;
         }
         n % LEAF < self.leaves[leaf].len()
-    }
-
-    /// Whether the number has a place in a leaf. Where it has none it has no value.
-    pub(crate) fn is_in_leaf(&self, n: u32) -> bool
-        ensures { result ≡ false → in_leaves self.now.leaves.items n ≡ None }
-    {
-        self.has_place(n as usize)
     }
 
     /// The value of a number, if any.
@@ -56,7 +72,7 @@ impl<T: Copy + Drop> Grid<T> {
     }
 
     /// Writes the value of a number that has a place.
-    fn put(&mut self, n: usize, value: Option<T>)
+    pub(crate) fn put(&mut self, n: usize, value: Option<T>)
         requires { HasPlace self.old.leaves.items n }
         ensures { Sets (in_leaves self.old.leaves.items) (in_leaves self.new.leaves.items) n value }
     {
@@ -90,28 +106,15 @@ impl<T: Copy + Drop> Grid<T> {
         Ok(())
     }
 
-    /// A number that has a value has this one from now on.
-    pub(crate) fn change(&mut self, n: u32, value: T)
-        requires { IsSome (in_leaves self.old.leaves.items n) }
-        ensures { Sets (in_leaves self.old.leaves.items) (in_leaves self.new.leaves.items) n
-            (Some value) }
-    {
-        self.put(n as usize, Some(value));
-    }
-
     /// The number has no value from now on. Answers the one that it had, if any.
     pub(crate) fn remove(&mut self, n: u32) -> Option<T>
         ensures value { result ≡ in_leaves self.old.leaves.items n }
         ensures removed { Sets (in_leaves self.old.leaves.items) (in_leaves self.new.leaves.items) n
             None }
     {
-        match self.get(n) {
-            Some(value) => {
-                self.put(n as usize, None);
-                Some(value)
-            }
-            None => None,
-        }
+        let value = self.get(n)?;
+        self.put(n as usize, None);
+        Some(value)
     }
 }
 
@@ -137,10 +140,8 @@ fn fill<T: Copy + Drop>(leaf: &mut Vec<Option<T>>) -> Result<(), NoMemory>
         slice_index_or leaf.old.items i None }
     ensures whole { OnOk result (256 ≤ vec_len leaf.new) }
 {
-    let count = leaf.len();
-    if count >= LEAF {
-        return Ok(());
+    if leaf.len() < LEAF {
+        leaf.resize(LEAF, None)?;
     }
-    leaf.resize(LEAF, None)?;
     Ok(())
 }

@@ -1,7 +1,6 @@
 //! Logs of moves read again: the move of a line, and the replay of a log as a running check.
 #![tactic(auto)]
 
-mod budgets;
 mod conditions;
 mod four_lists;
 mod free_slots;
@@ -11,7 +10,6 @@ mod in_flight;
 mod listings;
 mod lives;
 mod looks;
-mod ordered_pairs;
 mod pairs;
 mod readings;
 mod records;

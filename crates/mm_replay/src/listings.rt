@@ -1,5 +1,5 @@
-ghost use Rattle.std.specs.Prelude.{◌≡◌, ◌<◌, [], true, false, is_some, replicate, IfOk, Some, None};
-ghost use Rattle.mm_life.specs.{blank, record_at, is_idle, off_lists, with_record, settled, to_free, free_table, numbers_from};
+ghost use Rattle.std.specs.Prelude.{◌≡◌, ◌<◌, [], true, false, is_some, IfOk, Some, None};
+ghost use Rattle.mm_life.specs.{record_at, is_idle, off_lists, with_record, settled, to_free, free_table, numbers_from};
 ghost use Rattle.mm_lists.specs.{number_at};
 ghost use Rattle.mm_replay.specs.Listed.{AreLists, free_alone, belongs, is_owned, first_taken, put_behind};
 
@@ -28,18 +28,12 @@ fn push_all(lists: &mut FrameLists<4>, n: u32)
     }
 }
 
-fn blanks(alloc: Global, n: u32) -> Result<Vec<Record>, NoMemory>
-    ensures { IfOk result (λ v. v.items ≡ replicate n blank) }
-{
-    Ok(vec![in alloc; blank(); n as usize]?)
-}
-
 impl Listing {
-    ghost use Rattle.mm_replay.specs.Listings.{table, IsKept, IsOff};
+    ghost use Rattle.mm_replay.specs.Listings.{table, IsListingKept, IsOff};
 
     /// No frames, and no memory.
     pub(crate) fn none(alloc: Global) -> Listing
-        ensures kept { IsKept result }
+        ensures kept { IsListingKept result }
         ensures table { table result ≡ free_table 0 }
     {
         Listing {
@@ -50,10 +44,10 @@ impl Listing {
 
     /// All frames are free, in rising order.
     pub(crate) fn new(alloc: Global, frames: u32) -> Result<Listing, NoMemory>
-        ensures kept { IfOk result IsKept }
+        ensures kept { IfOk result IsListingKept }
         ensures table { IfOk result (λ s. table s ≡ free_table frames) }
     {
-        let records = blanks(alloc, frames)?;
+        let records = vec![in alloc; blank(); frames as usize]?;
         let mut lists = FrameLists::new(alloc, frames)?;
         push_all(&mut lists, frames);
         Ok(Listing { records, lists })
@@ -81,7 +75,7 @@ impl Listing {
 
     /// The first frame of a list, which is `f`, leaves it.
     pub(crate) fn take_first(&mut self, list: u32, f: u32)
-        requires kept { IsKept self.old }
+        requires kept { IsListingKept self.old }
         requires inside { list < 4 }
         requires first { number_at self.old.lists.lists list 0 ≡ Some f }
         ensures off { IsOff self.new f }
@@ -93,7 +87,7 @@ impl Listing {
 
     /// A frame with an owner leaves its list, if it is on one.
     pub(crate) fn leave(&mut self, f: u32)
-        requires kept { IsKept self.old }
+        requires kept { IsListingKept self.old }
         requires owned { is_some (record_at (table self.old) f).owner ≡ true }
         ensures off { IsOff self.new f }
         ensures table { table self.new ≡ off_lists (table self.old) f }
@@ -108,7 +102,7 @@ impl Listing {
         requires off { IsOff self.old f }
         requires inside { list < 4 }
         requires belongs { belongs (record_at (table self.old) f) list ≡ true }
-        ensures kept { IsKept self.new }
+        ensures kept { IsListingKept self.new }
         ensures table { table self.new ≡ put_behind (table self.old) list f }
     {
         self.lists.push_back(list, f);
@@ -119,7 +113,7 @@ impl Listing {
         requires off { IsOff self.old f }
         requires busy { is_idle r ≡ false }
         requires owned { is_owned r ≡ true }
-        ensures kept { IsKept self.new }
+        ensures kept { IsListingKept self.new }
         ensures table { table self.new ≡ with_record (table self.old) f r }
     {
         self.set(f, r);
@@ -128,7 +122,7 @@ impl Listing {
     /// A frame that is on no list becomes free.
     pub(crate) fn free(&mut self, f: u32)
         requires off { IsOff self.old f }
-        ensures kept { IsKept self.new }
+        ensures kept { IsListingKept self.new }
         ensures table { table self.new ≡ to_free (table self.old) f }
     {
         self.set(f, blank());
@@ -140,7 +134,7 @@ impl Listing {
         requires off { IsOff self.old f }
         requires owner { is_some r.owner ≡ true }
         requires owned { is_owned r ≡ true }
-        ensures kept { IsKept self.new }
+        ensures kept { IsListingKept self.new }
         ensures table { table self.new ≡ settled (with_record (table self.old) f r) f }
     {
         self.set(f, r);

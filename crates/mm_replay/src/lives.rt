@@ -1,10 +1,11 @@
 ghost use Rattle.std.specs.Prelude.{◌≡◌, ◌↔◌, false, OnOk, OnErr, Err};
 ghost use Rattle.mm_life.specs.{unstarted, is_legal, IsLegal, after_move, held_at};
 ghost use Rattle.mm_replay.specs.Replaying.{life as life_of};
-ghost use Rattle.mm_laws.specs.Reached.{Reached};
+ghost use Rattle.mm_laws.specs.{ReachedByMoves};
 
 use crate::conditions::is_legal;
-use crate::states::State;
+use crate::records::is_read;
+use crate::states::{State, home_of};
 use mm_types::{Held, Key, Move, NoMemory};
 use std::alloc::Global;
 
@@ -21,7 +22,7 @@ pub enum ApplyFault {
 #[derive(Drop)]
 pub struct Life {
     pub(crate) state: State,
-    ghost reached: { ∥ Reached (life_of state) ∥₁ },
+    ghost reached: { ∥ ReachedByMoves (life_of state) ∥₁ },
 }
 
 impl Life {
@@ -40,7 +41,17 @@ impl Life {
     pub fn held(&self, key: Key) -> Held
         ensures { result ≡ held_at (life self.now) key }
     {
-        self.state.held(key)
+        match self.state.keys.held(key) {
+            Held::Frame(frame) => {
+                let r = self.state.table.record(frame.0);
+                if is_read(r.request) {
+                    home_of(r.backing)
+                } else {
+                    Held::Frame(frame)
+                }
+            }
+            held => held,
+        }
     }
 
     /// Whether the next move may be this one.

@@ -1,6 +1,6 @@
 ghost use Rattle.std.specs.Prelude.{◌≡◌, ◌<◌, ◌^◌, false, count_by, length, slice_index_or};
 ghost use Rattle.mm_life.specs.{record_at, is_empty, is_on, counts_of, is_active, is_in_transition, is_live, set_of};
-ghost use Rattle.mm_replay.specs.Looking.{frames_on, frame_at, IsBehind};
+ghost use Rattle.mm_replay.specs.{frames_on, frame_at, IsBehind};
 ghost use Rattle.mm_laws.specs.{counted_frames};
 
 use crate::conditions::{is_dead, set_of};

@@ -1,35 +1,35 @@
 ghost use Rattle.std.specs.Prelude.{◌≡◌, ℕ, Some, None, IsSome, MatchOption, OnOk, OnErr};
 ghost use Rattle.mm_replay.specs.Grids.{in_leaves};
-ghost use Rattle.mm_replay.specs.OrderedPairs.{Writes};
-ghost use Rattle.mm_replay.specs.Pairs.{near_number, near_part};
+ghost use Rattle.mm_replay.specs.Pairs.{near_number, near_part, one_number, Writes};
 
-use crate::budgets::Budget;
-use crate::grids::Grid;
-use crate::ordered_pairs::OrderedPairs;
+use crate::grids::{Budget, Grid};
 use mm_types::NoMemory;
 use std::alloc::Global;
+use std::collections::BTreeMap;
 
 /// Values by two numbers each: a process and its page, or an area and an index there. Where the
 /// first is below 256 and the second is one that a user page has, they stand in leaves, as far as
-/// there may be leaves.
+/// there may be leaves. All others stand in an ordered map.
 #[derive(Drop)]
 pub(crate) struct Pairs<T> {
     near: Grid<T>,
-    far: OrderedPairs<T>,
+    far: BTreeMap<u64, T>,
     budget: Budget,
 }
 
 impl<T: Copy + Drop> Pairs<T> {
-    ghost use Rattle.mm_replay.specs.OrderedPairs.{Keeps};
-    ghost use Rattle.mm_replay.specs.Pairs.{near_of, found};
+    ghost use Rattle.mm_replay.specs.Pairs.{near_of, found, Keeps};
 
     pub(crate) fn new(alloc: Global) -> Pairs<T>
         ensures { (a b : ℕ) → found result a b ≡ None }
     {
         Pairs {
             near: Grid::new(alloc),
-            far: OrderedPairs::new(alloc),
-            budget: Budget::new(),
+            far: BTreeMap::new(alloc),
+            budget: Budget {
+                values: 0,
+                leaves: 0,
+            },
         }
     }
 
@@ -49,7 +49,7 @@ impl<T: Copy + Drop> Pairs<T> {
     {
         match self.near_value(a, b) {
             Some(value) => Some(value),
-            None => self.far.get(a, b),
+            None => self.far.get(&one_number(a, b)).copied(),
         }
     }
 
@@ -60,7 +60,10 @@ impl<T: Copy + Drop> Pairs<T> {
     {
         match leaf_number(&self.near, &mut self.budget, a, b) {
             Some(n) => self.near.set(n, value),
-            None => self.far.insert(a, b, value),
+            None => {
+                self.far.insert(one_number(a, b), value)?;
+                Ok(())
+            }
         }
     }
 
@@ -70,8 +73,13 @@ impl<T: Copy + Drop> Pairs<T> {
         ensures { Writes (found self.old) (found self.new) a b (Some value) }
     {
         match filled_number(&self.near, a, b) {
-            Some(n) => self.near.change(n, value),
-            None => self.far.change(a, b, value),
+            Some(n) => self.near.put(n as usize, Some(value)),
+            None => {
+                let Some(place) = self.far.get_mut(&one_number(a, b)) else {
+                    unreachable!()
+                };
+                *place = value;
+            }
         }
     }
 
@@ -80,7 +88,7 @@ impl<T: Copy + Drop> Pairs<T> {
         ensures value { result ≡ found self.old a b }
         ensures removed { Writes (found self.old) (found self.new) a b None }
     {
-        let far = self.far.remove(a, b);
+        let far = self.far.remove(&one_number(a, b));
         match remove_near(&mut self.near, a, b) {
             Some(value) => Some(value),
             None => far,
@@ -94,11 +102,9 @@ fn leaf_number<T: Copy + Drop>(near: &Grid<T>, budget: &mut Budget, a: u32, b: u
     ensures { MatchOption result (near_part (in_leaves near.now.leaves.items) a b ≡ None)
         (λ n. near_number a b ≡ Some n) }
 {
-    let Some(n) = near_number(a, b) else {
-        return None;
-    };
-    budget.note();
-    if near.is_in_leaf(n) || budget.take() {
+    let n = near_number(a, b)?;
+    budget.values = budget.values.saturating_add(1);
+    if near.has_place(n as usize) || budget.take() {
         Some(n)
     } else {
         None
@@ -111,9 +117,7 @@ fn filled_number<T: Copy + Drop>(near: &Grid<T>, a: u32, b: u32) -> Option<u32>
     ensures { MatchOption result (near_part (in_leaves near.now.leaves.items) a b ≡ None)
         (λ n. (near_number a b ≡ Some n) × IsSome (in_leaves near.now.leaves.items n)) }
 {
-    let Some(n) = near_number(a, b) else {
-        return None;
-    };
+    let n = near_number(a, b)?;
     if near.get(n).is_some() { Some(n) } else { None }
 }
 
@@ -127,6 +131,13 @@ fn remove_near<T: Copy + Drop>(near: &mut Grid<T>, a: u32, b: u32) -> Option<T>
         Some(n) => near.remove(n),
         None => None,
     }
+}
+
+/// Two numbers as one, whatever they are.
+fn one_number(a: u32, b: u32) -> u64
+    ensures { result ≡ one_number a b }
+{
+    u64::from(a) * 0x1_0000_0000 + u64::from(b)
 }
 
 /// Two small numbers as one.

@@ -1,7 +1,8 @@
 ghost use Rattle.std.specs.Prelude.{◌≡◌, ◌^◌, ℕ, List, Option, IfSome, Some, [], option_map};
 ghost use Rattle.mm_types.specs.{Move, Key};
 ghost use Rattle.mm_life.specs.{move_text, key_onto, IsMove, IsKey, move_onto};
-ghost use Rattle.mm_replay.specs.Reading.{strip, number_from, below, read_number, number_behind, read_pid, read_place, read_key, read_frame, read_plain_kind, read_kind, read_end, read_taking, read_text};
+ghost use Rattle.mm_replay.specs.{strip, number_from, below, read_number, number_behind, read_pid, read_place, read_key, read_frame, read_plain_kind};
+ghost use Rattle.mm_replay.specs.{read_kind, read_end, read_taking, read_text};
 
 use mm_types::{Area, Block, Frame, Key, LineKind, Move, Pid, Place, Slot, Stored, Vpn};
 
@@ -48,18 +49,16 @@ fn digits(first: u8, text: &[u8]) -> Option<(u32, &[u8])>
 fn number(text: &[u8]) -> Option<(u32, &[u8])>
     ensures { option_map (λ p. (p.0, p.1.now)) result ≡ read_number text.now }
 {
-    match text {
-        [byte, rest @ ..] => {
-            if *byte < b'0' || *byte > b'9' {
-                return None;
-            }
-            if *byte > b'0' {
-                return digits(*byte - b'0', rest);
-            }
-            Some((0, rest))
-        }
-        [] => None,
+    let [byte, rest @ ..] = text else {
+        return None;
+    };
+    if *byte < b'0' || *byte > b'9' {
+        return None;
     }
+    if *byte > b'0' {
+        return digits(*byte - b'0', rest);
+    }
+    Some((0, rest))
 }
 
 /// The number after a word.
@@ -111,22 +110,35 @@ fn key(text: &[u8]) -> Option<(Key, &[u8])>
     Some((Key::Shared(Area(area), index), last))
 }
 
+/// Each of these words, one after another: where the text begins with it, what it makes of the parts
+/// that stand behind it, with a blank between two, and what stands after them.
+macro_rules! words {
+    ($text:ident, $($word:literal => $make:path $(: $part:ident $($other:ident)?)?;)*) => {
+        $(
+            if let Some(rest) = behind($text, $word) {
+                $(
+                    let ($part, rest) = $part(rest)?;
+                    $(
+                        let rest = behind(rest, b" ")?;
+                        let ($other, rest) = $other(rest)?;
+                    )?
+                )?
+                return Some(($make $(($part $(, $other)?))?, rest));
+            }
+        )*
+    };
+}
+
 /// A kind of line that names no process.
 fn plain_kind(text: &[u8]) -> Option<(LineKind, &[u8])>
     ensures { option_map (λ p. (p.0, p.1.now)) result ≡ read_plain_kind text.now }
 {
-    if let Some(last) = behind(text, b"call") {
-        return Some((LineKind::Call, last));
-    }
-    if let Some(last) = behind(text, b"writer") {
-        return Some((LineKind::Writer, last));
-    }
-    if let Some(last) = behind(text, b"zeroer") {
-        return Some((LineKind::Zeroer, last));
-    }
-    if let Some(last) = behind(text, b"io") {
-        return Some((LineKind::Io, last));
-    }
+    words!(text,
+        b"call" => LineKind::Call;
+        b"writer" => LineKind::Writer;
+        b"zeroer" => LineKind::Zeroer;
+        b"io" => LineKind::Io;
+    );
     if let Some(rest) = behind(text, b"machine ") {
         let (frames, rest) = number(rest)?;
         let (slots, rest) = number_behind(rest, b" ")?;
@@ -141,22 +153,12 @@ fn plain_kind(text: &[u8]) -> Option<(LineKind, &[u8])>
 fn kind(text: &[u8]) -> Option<(LineKind, &[u8])>
     ensures { option_map (λ p. (p.0, p.1.now)) result ≡ read_kind text.now }
 {
-    if let Some(rest) = behind(text, b"access ") {
-        let (pid, last) = pid(rest)?;
-        return Some((LineKind::Access(pid), last));
-    }
-    if let Some(rest) = behind(text, b"thread ") {
-        let (pid, last) = pid(rest)?;
-        return Some((LineKind::Thread(pid), last));
-    }
-    if let Some(rest) = behind(text, b"unbind ") {
-        let (pid, last) = pid(rest)?;
-        return Some((LineKind::Unbind(pid), last));
-    }
-    if let Some(rest) = behind(text, b"trim ") {
-        let (pid, last) = pid(rest)?;
-        return Some((LineKind::Trim(pid), last));
-    }
+    words!(text,
+        b"access " => LineKind::Access: pid;
+        b"thread " => LineKind::Thread: pid;
+        b"unbind " => LineKind::Unbind: pid;
+        b"trim " => LineKind::Trim: pid;
+    );
     if let Some(rest) = behind(text, b"process ") {
         let (pid, rest) = pid(rest)?;
         let (min, rest) = number_behind(rest, b" ")?;
@@ -170,51 +172,26 @@ fn kind(text: &[u8]) -> Option<(LineKind, &[u8])>
 fn end_move(text: &[u8]) -> Option<(Move, &[u8])>
     ensures { option_map (λ p. (p.0, p.1.now)) result ≡ read_end text.now }
 {
-    if let Some(rest) = behind(text, b"wrote ") {
-        let (frame, last) = frame(rest)?;
-        return Some((Move::Wrote(frame), last));
-    }
-    if let Some(rest) = behind(text, b"got ") {
-        let (frame, last) = frame(rest)?;
-        return Some((Move::Got(frame), last));
-    }
-    if let Some(rest) = behind(text, b"soil ") {
-        let (frame, last) = frame(rest)?;
-        return Some((Move::Soil(frame), last));
-    }
-    if let Some(rest) = behind(text, b"lost ") {
-        let (frame, last) = frame(rest)?;
-        return Some((Move::Lost(frame), last));
-    }
-    let rest = behind(text, b"bad ")?;
-    let (frame, last) = frame(rest)?;
-    Some((Move::Bad(frame), last))
+    words!(text,
+        b"wrote " => Move::Wrote: frame;
+        b"got " => Move::Got: frame;
+        b"soil " => Move::Soil: frame;
+        b"lost " => Move::Lost: frame;
+        b"bad " => Move::Bad: frame;
+    );
+    None
 }
 
 /// The moves by which a frame is found and used.
 fn taking_move(text: &[u8]) -> Option<(Move, &[u8])>
     ensures { option_map (λ p. (p.0, p.1.now)) result ≡ read_taking text.now }
 {
-    if let Some(rest) = behind(text, b"give ") {
-        let (frame, rest) = frame(rest)?;
-        let rest = behind(rest, b" ")?;
-        let (key, last) = key(rest)?;
-        return Some((Move::Give(frame, key), last));
-    }
-    if let Some(rest) = behind(text, b"clear ") {
-        let (frame, last) = frame(rest)?;
-        return Some((Move::Clear(frame), last));
-    }
-    if let Some(rest) = behind(text, b"read ") {
-        let (frame, rest) = frame(rest)?;
-        let rest = behind(rest, b" ")?;
-        let (key, last) = key(rest)?;
-        return Some((Move::Read(frame, key), last));
-    }
-    if let Some(rest) = behind(text, b"steal ") {
-        let (frame, last) = frame(rest)?;
-        return Some((Move::Steal(frame), last));
-    }
+    words!(text,
+        b"give " => Move::Give: frame key;
+        b"clear " => Move::Clear: frame;
+        b"read " => Move::Read: frame key;
+        b"steal " => Move::Steal: frame;
+    );
     if let Some(rest) = behind(text, b"write ") {
         let (frame, rest) = frame(rest)?;
         if let Some(rest) = behind(rest, b" slot ") {
@@ -231,22 +208,11 @@ fn taking_move(text: &[u8]) -> Option<(Move, &[u8])>
 fn move_in_front(text: &[u8]) -> Option<(Move, &[u8])>
     ensures { option_map (λ p. (p.0, p.1.now)) result ≡ read_text text.now }
 {
-    if let Some(rest) = behind(text, b"at ") {
-        let (line, rest) = number(rest)?;
-        let rest = behind(rest, b" ")?;
-        let (kind, last) = kind(rest)?;
-        return Some((Move::At(line, kind), last));
-    }
-    if let Some(rest) = behind(text, b"map ") {
-        let (frame, rest) = frame(rest)?;
-        let rest = behind(rest, b" ")?;
-        let (place, last) = place(rest)?;
-        return Some((Move::Map(frame, place), last));
-    }
-    if let Some(rest) = behind(text, b"unmap ") {
-        let (place, last) = place(rest)?;
-        return Some((Move::Unmap(place), last));
-    }
+    words!(text,
+        b"at " => Move::At: number kind;
+        b"map " => Move::Map: frame place;
+        b"unmap " => Move::Unmap: place;
+    );
     if let Some(rest) = behind(text, b"add ") {
         let (key, rest) = key(rest)?;
         if let Some(last) = behind(rest, b" zero") {
@@ -255,10 +221,7 @@ fn move_in_front(text: &[u8]) -> Option<(Move, &[u8])>
         let (block, last) = number_behind(rest, b" block ")?;
         return Some((Move::Add(key, Some(Block(block))), last));
     }
-    if let Some(rest) = behind(text, b"drop ") {
-        let (key, last) = key(rest)?;
-        return Some((Move::Drop(key), last));
-    }
+    words!(text, b"drop " => Move::Drop: key;);
     taking_move(text)
 }
 

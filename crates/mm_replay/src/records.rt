@@ -1,9 +1,9 @@
 ghost use Rattle.std.specs.Prelude.{◌≡◌, ◌+◌, ◌-◌, ◌<◌, ◌^◌, true, false, is_some};
-ghost use Rattle.mm_life.specs.{blank, given, being_read, shared, soiled, write_done, write_lost, is_again, has_request, is_read, is_write};
-ghost use Rattle.mm_life.specs.{without_slot, slot_of, slot_after_soil, slot_after_drop, slot_after_read, slot_after_wrote, is_idle};
-ghost use Rattle.mm_replay.specs.Listed.{is_changed_page};
+ghost use Rattle.mm_life.specs.{blank, shared, soiled, write_done, write_lost, is_again, has_request, is_read, is_write, without_slot, slot_of};
+ghost use Rattle.mm_life.specs.{slot_after_soil, slot_after_drop, slot_after_read, slot_after_wrote, is_idle};
+ghost use Rattle.mm_replay.specs.{is_changed_page};
 
-use mm_types::{Backing, Key, Record, Request};
+use mm_types::{Backing, Record, Request};
 
 /// The record of a frame that holds nothing.
 pub(crate) fn blank() -> Record
@@ -61,27 +61,6 @@ pub(crate) fn slot_of(backing: Backing) -> Option<u32>
 }
 
 // ---- one record
-
-pub(crate) fn given(key: Key) -> Record
-    ensures { result ≡ given key }
-{
-    Record {
-        owner: Some(key),
-        changed: true,
-        ..blank()
-    }
-}
-
-pub(crate) fn being_read(key: Key, home: Backing) -> Record
-    ensures { result ≡ being_read key home }
-{
-    Record {
-        owner: Some(key),
-        backing: home,
-        request: Request::Read,
-        ..blank()
-    }
-}
 
 pub(crate) fn soiled(r: Record) -> Record
     ensures { result ≡ soiled r }

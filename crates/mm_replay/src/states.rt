@@ -1,18 +1,22 @@
 ghost use Rattle.std.specs.Prelude.{◌≡◌, ◌+◌, ◌-◌, true, false, if◌then◌else◌, OnOk, OnErr, IfSome, length};
 ghost use Rattle.mm_types.specs.declared.moves.Move.TheVariants as move;
 ghost use Rattle.mm_types.specs.declared.moves.LineKind.TheVariants as kind;
-ghost use Rattle.mm_life.specs.{unstarted, set_in, with_resident, is_dead, IsLegal, is_below_max, after_move, after_at, after_add, unlisted, home_at};
-ghost use Rattle.mm_life.specs.{backing_of, homed, held_at};
-ghost use Rattle.mm_replay.specs.Sound.{Listed, Sound, is_in_place};
+ghost use Rattle.mm_life.specs.{unstarted, set_in, with_resident, is_dead, IsLegal, is_below_max, after_move, after_at, after_add, home_at};
+ghost use Rattle.mm_life.specs.{backing_of, homed};
+ghost use Rattle.mm_replay.specs.Sound.{Listed, SoundReplay};
 
 use crate::free_slots::SlotMap;
 use crate::holdings::{Keys, Places};
 use crate::in_flight::InFlight;
-use crate::records::{is_read, slot_after_read, slot_after_soil, slot_after_wrote, slot_of};
+use crate::records::{
+    slot_after_read, slot_after_soil, slot_after_wrote, slot_of, write_done, write_lost,
+};
 use crate::tables::Table;
 use crate::values::{flags, put, set_at};
 use mm_life::ResidentSet;
-use mm_types::{Backing, Block, Frame, Held, Key, LineKind, Move, NoMemory, Pid, Place, Stored};
+use mm_types::{
+    Backing, Block, Frame, Held, Key, LineKind, Move, NoMemory, Pid, Place, Record, Request, Stored,
+};
 use std::alloc::Global;
 
 /// The state of a replay.
@@ -65,56 +69,19 @@ impl State {
         }
     }
 
-    /// Where the bytes of a key stand.
-    pub(crate) fn held(&self, key: Key) -> Held
-        ensures { result ≡ held_at (life self.now) key }
-    {
-        match self.keys.held(key) {
-            Held::Frame(frame) => {
-                let r = self.table.record(frame.0);
-                if is_read(r.request) {
-                    home_of(r.backing)
-                } else {
-                    Held::Frame(frame)
-                }
-            }
-            Held::Slot(slot) => Held::Slot(slot),
-            Held::Block(block) => Held::Block(block),
-            Held::Zero => Held::Zero,
-            Held::Dead => Held::Dead,
-        }
-    }
-
     /// Makes a legal move.
     #[inline(always)]
     pub(crate) fn make(&mut self, m: &Move) -> Result<(), NoMemory>
         requires legal { IsLegal m.now (life self.old) }
-        requires sound { Sound (life self.old) }
+        requires sound { SoundReplay (life self.old) }
         requires listed { Listed self.old.table }
         ensures ok { OnOk result (life self.new ≡ after_move (life self.old) m.now) }
         ensures err { OnErr result (life self.new ≡ life self.old) }
     {
         match *m {
-            Move::At(line, kind) => self.at(line, kind),
-            Move::Add(key, block) => self.add(key, block),
-            Move::Map(frame, place) => self.map(frame, place),
-            _ => {
-                self.make_in_place(m);
-                Ok(())
-            }
-        }
-    }
-
-    /// Makes a legal move that takes no memory.
-    #[inline(always)]
-    fn make_in_place(&mut self, m: &Move)
-        requires legal { IsLegal m.now (life self.old) }
-        requires sound { Sound (life self.old) }
-        requires listed { Listed self.old.table }
-        requires in_place { is_in_place m.now ≡ true }
-        ensures { life self.new ≡ after_move (life self.old) m.now }
-    {
-        match *m {
+            Move::At(line, kind) => return self.at(line, kind),
+            Move::Add(key, block) => return self.add(key, block),
+            Move::Map(frame, place) => return self.map(frame, place),
             Move::Drop(key) => self.drop_key(key),
             Move::Clear(frame) => self.table.clear(frame.0),
             Move::Steal(frame) => self.steal(frame),
@@ -127,8 +94,8 @@ impl State {
             Move::Write(frame, stored) => self.write(frame, stored),
             Move::Wrote(frame) => self.wrote(frame),
             Move::Lost(frame) => self.lost(frame),
-            Move::At(_, _) | Move::Add(_, _) | Move::Map(_, _) => unreachable!(),
         }
+        Ok(())
     }
 
     // ---- `at`
@@ -185,14 +152,7 @@ impl State {
                 self.free_slots.grow(self.alloc, count)?;
                 self.slots += count;
             }
-            LineKind::Unbind(_)
-            | LineKind::Access(_)
-            | LineKind::Thread(_)
-            | LineKind::Trim(_)
-            | LineKind::Writer
-            | LineKind::Zeroer
-            | LineKind::Io
-            | LineKind::Call => {}
+            _ => {}
         }
         self.line = line;
         self.kind = kind;
@@ -221,33 +181,22 @@ impl State {
         }
     }
 
-    /// A key is not live from now on.
-    fn unlist(&mut self, key: Key)
-        ensures { life self.new ≡ unlisted (life self.old) key }
-    {
-        self.keys.remove(key);
-        self.paging_keys = self.paging_keys.saturating_sub(1);
-    }
-
     fn drop_key(&mut self, key: Key)
         requires legal { IsLegal (move.Drop key) (life self.old) }
-        requires sound { Sound (life self.old) }
+        requires sound { SoundReplay (life self.old) }
         ensures { life self.new ≡ after_move (life self.old) (move.Drop key) }
     {
         match self.keys.held(key) {
             Held::Frame(frame) => {
-                let r = self.table.record(frame.0);
-                let slot = slot_after_soil(&r);
+                let slot = slot_after_soil(&self.table.record(frame.0));
                 self.table.drop_page(frame.0);
                 self.free_slots.give(slot);
-                self.unlist(key);
             }
-            Held::Slot(slot) => {
-                self.free_slots.give(Some(slot.0));
-                self.unlist(key);
-            }
-            Held::Block(_) | Held::Zero | Held::Dead => self.unlist(key),
+            Held::Slot(slot) => self.free_slots.give(Some(slot.0)),
+            Held::Block(_) | Held::Zero | Held::Dead => {}
         }
+        self.keys.remove(key);
+        self.paging_keys = self.paging_keys.saturating_sub(1);
     }
 
     // ---- frames that are found
@@ -266,7 +215,7 @@ impl State {
 
     fn steal(&mut self, frame: Frame)
         requires legal { IsLegal (move.Steal frame) (life self.old) }
-        requires sound { Sound (life self.old) }
+        requires sound { SoundReplay (life self.old) }
         ensures { life self.new ≡ after_move (life self.old) (move.Steal frame) }
     {
         let r = self.table.record(frame.0);
@@ -284,7 +233,7 @@ impl State {
 
     fn read(&mut self, frame: Frame, key: Key)
         requires legal { IsLegal (move.Read frame key) (life self.old) }
-        requires sound { Sound (life self.old) }
+        requires sound { SoundReplay (life self.old) }
         requires listed { Listed self.old.table }
         ensures { life self.new ≡ after_move (life self.old) (move.Read frame key) }
     {
@@ -300,15 +249,16 @@ impl State {
         requires { IsLegal (move.Got frame) (life self.old) }
         ensures { life self.new ≡ after_move (life self.old) (move.Got frame) }
     {
-        let slot = slot_after_read(&self.table.record(frame.0));
-        self.table.got(frame.0);
-        self.free_slots.give(slot);
+        let r = self.table.record(frame.0);
+        let request = Request::None;
+        self.table.end(frame.0, Record { request, ..r });
+        self.free_slots.give(slot_after_read(&r));
         self.flight.end(frame.0);
     }
 
     fn bad(&mut self, frame: Frame)
         requires legal { IsLegal (move.Bad frame) (life self.old) }
-        requires sound { Sound (life self.old) }
+        requires sound { SoundReplay (life self.old) }
         ensures { life self.new ≡ after_move (life self.old) (move.Bad frame) }
     {
         let r = self.table.record(frame.0);
@@ -322,9 +272,9 @@ impl State {
         requires { IsLegal (move.Wrote frame) (life self.old) }
         ensures { life self.new ≡ after_move (life self.old) (move.Wrote frame) }
     {
-        let slot = slot_after_wrote(&self.table.record(frame.0));
-        self.table.wrote(frame.0);
-        self.free_slots.give(slot);
+        let r = self.table.record(frame.0);
+        self.table.end(frame.0, write_done(r));
+        self.free_slots.give(slot_after_wrote(&r));
         self.flight.end(frame.0);
     }
 
@@ -332,9 +282,9 @@ impl State {
         requires { IsLegal (move.Lost frame) (life self.old) }
         ensures { life self.new ≡ after_move (life self.old) (move.Lost frame) }
     {
-        let slot = slot_of(self.table.record(frame.0).backing);
-        self.table.lost(frame.0);
-        self.free_slots.give(slot);
+        let r = self.table.record(frame.0);
+        self.table.end(frame.0, write_lost(r));
+        self.free_slots.give(slot_of(r.backing));
         self.flight.end(frame.0);
     }
 
@@ -355,15 +305,12 @@ impl State {
     }
 
     fn unmap(&mut self, place: Place)
-        requires { Sound (life self.old) }
+        requires { SoundReplay (life self.old) }
         ensures { life self.new ≡ after_move (life self.old) (move.Unmap place) }
     {
-        match self.places.remove(place) {
-            Some(frame) => {
-                self.table.unmap(frame.0);
-                change_resident(&mut self.sets, place.pid, false);
-            }
-            None => {}
+        if let Some(frame) = self.places.remove(place) {
+            self.table.unmap(frame.0);
+            change_resident(&mut self.sets, place.pid, false);
         }
     }
 
@@ -380,7 +327,7 @@ impl State {
 
     fn write(&mut self, frame: Frame, stored: Stored)
         requires legal { IsLegal (move.Write frame stored) (life self.old) }
-        requires sound { Sound (life self.old) }
+        requires sound { SoundReplay (life self.old) }
         requires listed { Listed self.old.table }
         ensures { life self.new ≡ after_move (life self.old) (move.Write frame stored) }
     {
@@ -428,7 +375,7 @@ fn change_resident(sets: &mut [ResidentSet], pid: Pid, more: bool)
 }
 
 /// The home that a backing is.
-fn home_of(backing: Backing) -> Held
+pub(crate) fn home_of(backing: Backing) -> Held
     ensures { result ≡ home_at backing }
 {
     match backing {

@@ -1,17 +1,14 @@
-ghost use Rattle.std.specs.Prelude.{◌≡◌, ◌+◌, ◌<◌, ◌≤◌, ◌^◌, ◌&&◌, ◌||◌, true, false, is_some, length, IfOk, slice_get};
+ghost use Rattle.std.specs.Prelude.{◌≡◌, ◌+◌, ◌<◌, ◌≤◌, ◌^◌, ◌&&◌, ◌||◌, true, false, if◌then◌else◌, is_some, length, IfOk, slice_get};
 ghost use Rattle.mm_replay.specs.Looking.{frames_on, IsBehind};
-ghost use Rattle.mm_life.specs.{record_at, is_first, is_empty, is_on, is_read, is_write, has_request, taken_for_read, after_clear, after_steal};
-ghost use Rattle.mm_life.specs.{after_give, after_read, after_got, after_bad, after_map, after_unmap, after_soil, after_write, after_wrote};
-ghost use Rattle.mm_life.specs.{after_lost, after_drop, free_table};
-ghost use Rattle.mm_replay.specs.Listings.{table, IsKept, IsOff};
+ghost use Rattle.mm_life.specs.{record_at, is_first, is_empty, is_on, is_read, has_request, taken_for_read, after_clear, after_steal, after_give};
+ghost use Rattle.mm_life.specs.{after_read, after_bad, after_map, after_unmap, after_soil, after_write, after_drop, free_table, settled, to_free};
+ghost use Rattle.mm_life.specs.{with_record};
+ghost use Rattle.mm_replay.specs.Listings.{table, IsListingKept, IsOff};
 ghost use Rattle.mm_replay.specs.Sound.{Listed};
 
 use crate::four_lists::{FREE, FrameList, MODIFIED, STANDBY, ZEROED};
 use crate::listings::Listing;
-use crate::records::{
-    being_read, given, has_request, is_changed_page, is_idle, shared, soiled, write_done,
-    write_lost,
-};
+use crate::records::{blank, has_request, is_changed_page, is_idle, shared, soiled};
 use crate::values::framed;
 use mm_types::{Backing, Frame, Key, NoMemory, Record, Request};
 use std::alloc::Global;
@@ -26,13 +23,13 @@ pub(crate) struct Table {
 
 impl Model for Table {
     ghost use Rattle.mm_life.specs.{FrameTable};
-    ghost use Rattle.mm_replay.specs.Listings.{table, IsKept};
+    ghost use Rattle.mm_replay.specs.Listings.{table, IsListingKept};
 
     ghost Value = { FrameTable };
 
     ghost view = { λ t. table t.listing };
 
-    ghost invariant = { λ t. IsKept t.listing };
+    ghost invariant = { λ t. IsListingKept t.listing };
 }
 
 #[tactic(auto, using(crate::proofs::Placing::placing))]
@@ -157,7 +154,12 @@ impl Table {
         ensures { self.new ≡ after_give self.old f key }
     {
         self.listing.take_first(ZEROED, f);
-        self.listing.set(f, given(key));
+        let r = Record {
+            owner: Some(key),
+            changed: true,
+            ..blank()
+        };
+        self.listing.set(f, r);
         self.listing.put(MODIFIED, f);
     }
 
@@ -168,18 +170,25 @@ impl Table {
         ensures { self.new ≡ after_read self.old f key home }
     {
         take_for_read(&mut self.listing, f);
-        self.listing.keep_busy(f, being_read(key, home));
+        let r = Record {
+            owner: Some(key),
+            backing: home,
+            request: Request::Read,
+            ..blank()
+        };
+        self.listing.keep_busy(f, r);
     }
 
-    /// A read succeeded.
-    pub(crate) fn got(&mut self, f: u32)
-        requires { is_read (record_at self.old f).request ≡ true }
-        ensures { self.new ≡ after_got self.old f }
+    /// A request has ended, after which the page, where it still lives, has this record.
+    pub(crate) fn end(&mut self, f: u32, r: Record)
+        requires busy { has_request (record_at self.old f).request ≡ true }
+        requires owner { r.owner ≡ (record_at self.old f).owner }
+        requires not_read { is_read r.request ≡ false }
+        ensures { self.new ≡ (if is_some r.owner then settled (with_record self.old f r) f
+            else to_free self.old f) }
     {
-        let r = self.listing.record(f);
         if r.owner.is_some() {
-            let request = Request::None;
-            self.listing.settle(f, Record { request, ..r });
+            self.listing.settle(f, r);
         } else {
             self.listing.free(f);
         }
@@ -239,32 +248,6 @@ impl Table {
         self.listing.keep_busy(f, r);
     }
 
-    /// A write succeeded.
-    pub(crate) fn wrote(&mut self, f: u32)
-        requires { is_write (record_at self.old f).request ≡ true }
-        ensures { self.new ≡ after_wrote self.old f }
-    {
-        let r = self.listing.record(f);
-        if r.owner.is_some() {
-            self.listing.settle(f, write_done(r));
-        } else {
-            self.listing.free(f);
-        }
-    }
-
-    /// A write failed.
-    pub(crate) fn lost(&mut self, f: u32)
-        requires { is_write (record_at self.old f).request ≡ true }
-        ensures { self.new ≡ after_lost self.old f }
-    {
-        let r = self.listing.record(f);
-        if r.owner.is_some() {
-            self.listing.settle(f, write_lost(r));
-        } else {
-            self.listing.free(f);
-        }
-    }
-
     /// The page of a frame, which is valid nowhere, is no more.
     pub(crate) fn drop_page(&mut self, f: u32)
         requires owned { is_some (record_at self.old f).owner ≡ true }
@@ -285,7 +268,7 @@ impl Table {
 /// one.
 #[tactic(auto, using(crate::proofs::Placing::placing))]
 fn take_for_read(listing: &mut Listing, f: u32)
-    requires kept { IsKept listing.old }
+    requires kept { IsListingKept listing.old }
     requires first { (is_first f (table listing.old).free ||
         (is_empty (table listing.old).free && is_first f (table listing.old).zeroed)) ≡ true }
     ensures off { IsOff listing.new f }

@@ -22,10 +22,7 @@ pub(crate) fn flags(alloc: Global, count: u32, flag: bool) -> Result<Vec<bool>, 
 pub(crate) fn flag_at(flags: &[bool], at: u32) -> bool
     ensures { result ≡ slice_index_or flags.now at false }
 {
-    match flags.get(at as usize) {
-        Some(flag) => *flag,
-        None => false,
-    }
+    matches!(flags.get(at as usize), Some(flag) if *flag)
 }
 
 /// Sets what stands at a place, where there is such a place.
@@ -42,8 +39,5 @@ pub(crate) fn set_at<T: Copy + Drop>(items: &mut Vec<T>, at: u32, value: T)
 pub(crate) fn framed(number: Option<u32>) -> Option<Frame>
     ensures { result ≡ option_map frame number }
 {
-    match number {
-        Some(number) => Some(Frame(number)),
-        None => None,
-    }
+    Some(Frame(number?))
 }

@@ -7,9 +7,9 @@ use Rattle.mm_types.specs.{MachineOf, limit_of, Answer, Event, Move}
 use Rattle.mm_types.specs.declared.answers.Answer.TheVariants as answer
 use Rattle.mm_types.specs.declared.events.Event.TheVariants as line
 use Rattle.mm_paging.specs.{first_move}
-use Rattle.mm_run.specs.{Ending, Outset, Stage, NotBegun, Running, Follows, HasNoted, log_of, MachineIsMade, Moved, BreaksLine, DecidedLine}
-use Rattle.mm_run.specs.{last_stage, answers_in, BreaksOff, AreDecided, IsEventNext, ClosesEvents, BulkStops, events_in, begins_ok, is_none}
-use Rattle.mm_run.specs.{FaultCounts, IsBlamed, Handled, Stopped}
+use Rattle.mm_run.specs.{Ending, Outset, Stage, NotBegun, Running, Follows, HasNoted, log_of, MachineIsMade, Moved, DecidedLine, last_stage}
+use Rattle.mm_run.specs.{answers_in, BreaksOff, AreDecided, IsEventNext, ClosesEvents, BulkStops, events_in, begins_ok, is_none, FaultCounts}
+use Rattle.mm_run.specs.{IsBlamed, IsUnanswered, Handled, Stopped}
 use Rattle.mm_run.specs.declared.endings.Ending.TheVariants as ending
 use Rattle.mm_core.specs.{Scene}
 use Rattle.mm_run.proofs.Stories.{follows_here, last-append, line_answers-append}
@@ -90,10 +90,10 @@ stopped_here s es e (inr q) some = subst (λ (k : Ending). Stopped s es k s) (sy
 
 -- how an event that was not noted stops the rest
 pub stopped_next : (s : Stage) (z y : Scene) (es left : List Event) (ok none : ℕ) (event : Event) (e : Ending) → Handled s es ok none (Running z) → 0 < length left
-    → ((e ≡ ending.NoMemory) × BreaksLine z y) ⊎ ((e ≡ ending.MovesFault) × ((a : Answer) × Moved (Running z) event a (Running y)) × (y.behind.log.failed ≡ true)) → Stopped s (es ++ left) e (Running y)
+    → IsUnanswered z event e y → Stopped s (es ++ left) e (Running y)
 stopped_next s z y es left ok none event e h some (inl b) =
     subst (λ (k : Ending). Stopped s (es ++ left) k (Running y)) (sym b.0)
-    (stopped_memory s (Running z) es left ok none h some (Running y) (inr (record { before = Running z; follows = follows_here (Running z); breaks = b.1 })))
+    (stopped_memory s (Running z) es left ok none h some (Running y) (inr (record { before = Running z; follows = follows_here (Running z); breaks = b.1.breaks })))
 stopped_next s z y es left ok none event e h some (inr m) =
     subst (λ (k : Ending). Stopped s (es ++ left) k (Running y)) (sym m.0)
     (stopped_moves s (Running z) es left ok none h some (Running y) event m.1.0 m.1.1 m.2)
@@ -159,7 +159,7 @@ handled_on s z end events i ok none x y e a within at h m noted p q =
 
 -- so many events of a list were decided, and the next was not
 pub stopped_on : (s : Stage) (z y : Scene) (events : List Event) (i ok none : ℕ) (event : Event) (e : Ending) → i < length events → Handled s (take i events) ok none (Running z)
-    → ((e ≡ ending.NoMemory) × BreaksLine z y) ⊎ ((e ≡ ending.MovesFault) × ((a : Answer) × Moved (Running z) event a (Running y)) × (y.behind.log.failed ≡ true)) → Stopped s events e (Running y)
+    → IsUnanswered z event e y → Stopped s events e (Running y)
 stopped_on s z y events i ok none event e within h why =
     subst (λ (es : List Event). Stopped s es e (Running y)) (take-append-drop i events)
     (stopped_next s z y (take i events) (drop i events) ok none event e h (omega (arith, length-drop i events)) why)

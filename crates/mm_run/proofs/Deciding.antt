@@ -5,7 +5,7 @@ use Rattle.mm_types.specs.{Key}
 use Rattle.mm_life.specs.{is_live}
 use Rattle.mm_world.specs.{Page, filled, content_of, Tables, world_with}
 use Rattle.mm_world.proofs.{holds_bytes}
-use Rattle.mm_pages.specs.{StoreOf, Stands}
+use Rattle.mm_pages.specs.{StoreOf, PagingStands}
 use Rattle.mm_pages.specs.Behind.{Behind}
 use Rattle.mm_paging.specs.{DevicesHold}
 use Rattle.mm_tables.specs.{key_bytes}
@@ -17,6 +17,6 @@ one_content (Some x) None e h = cc
 one_content (Some x) (Some y) e h = ap Some (h x refl)
 
 -- what a store keeps at all times of its devices, it keeps of the world over it
-pub devices_hold : (t : Tables) (c : Key → Option Page) (s : StoreOf) (b : Behind) → Stands c s b → ((k : Key) → is_live b.life k ≡ is_some (content_of (world_with t (key_bytes c)) k)) → DevicesHold (world_with t (key_bytes c)) b.life b.slots s.file_blocks
+pub devices_hold : (t : Tables) (c : Key → Option Page) (s : StoreOf) (b : Behind) → PagingStands c s b → ((k : Key) → is_live b.life k ≡ is_some (content_of (world_with t (key_bytes c)) k)) → DevicesHold (world_with t (key_bytes c)) b.life b.slots s.file_blocks
 devices_hold t c s b h keys = λ k on.
     one_content (content_of (world_with t (key_bytes c)) k) (c k) (sym (h.live k) ∙ keys k) (holds_bytes (key_bytes c) t k) ∙ h.stored k on

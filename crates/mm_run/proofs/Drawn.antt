@@ -1,5 +1,5 @@
 -- The events of a generated script: a machine first, and then other lines alone.
-use Rattle.std.proofs.Common.{◌≡◌, ℕ, zero, suc, ◌+◌, ◌%◌, ◌-◌, ◌<◌, ◌≤◌, ◌^◌, Bool, true, false, List, [], ◌∷◌, ◌++◌, length, take, drop, length-drop, Some, None, codes, refl, sym, ap, subst, arith}
+use Rattle.std.proofs.Common.{◌≡◌, ℕ, zero, suc, ◌+◌, ◌%◌, ◌-◌, ◌<◌, ◌≤◌, ◌^◌, Bool, true, false, List, [], ◌∷◌, ◌++◌, length, take, drop, length-drop, Some, None, codes, refl, sym, ap, subst, arith, get_or, ◌∙◌}
 use Rattle.std.specs.Prelude.{if◌then◌else◌, IsTrue, nat_le, ◌==◌}
 use Rattle.std.specs.List.{AllByRecursion}
 use Rattle.std.proofs.lemmas.Nat.{mod_below}
@@ -141,3 +141,7 @@ module _ (seed count : ℕ) (events : List Event) (are : events ≡ script_of se
 
   pub slice_few : count ≤ 100000 → length (take (length events - 1) (drop 1 events)) < 1000000
   slice_few few = omega (arith, ap length slice_is, length-drop 1 events, script_many)
+
+  -- the first event, and the others
+  pub script_whole : (first : Event) → first ≡ get_or events 0 first → first ∷ take (length events - 1) (drop 1 events) ≡ script_of seed count
+  script_whole first at = λ i. (at ∙ ap (λ xs. get_or xs 0 first) are) i ∷ (slice_is ∙ script_rest) i

@@ -3,7 +3,7 @@ use Rattle.std.proofs.Common.{◌≡◌, ◌≢◌, ◌≤◌, ℕ, arith, List,
 use Rattle.std.specs.Prelude.{Bool, true, false}
 use Rattle.mm_types.specs.{Appended, Text, Move}
 use Rattle.mm_types.proofs.{append_nil, appended_none, appended_then, rose_later, rose_then}
-use Rattle.mm_life.specs.{FrameLife, unstarted, Told, AreMoves, spelled_moves, Replays}
+use Rattle.mm_life.specs.{FrameLife, unstarted, LogGrew, AreMoves, spelled_moves, Replays}
 use Rattle.mm_life.proofs.{replays_then, spelled-append, moves-append}
 use Rattle.mm_world.specs.{Page}
 use Rattle.mm_paging.specs.{DevicesHold}
@@ -16,20 +16,20 @@ use Rattle.mm_run.proofs.Events.{decided_of, closed_of}
 
 -- ---- one piece
 
-abbrev front_of : (a b : Option (List ℕ)) (text : List ℕ) (p q : Bool) → Told a b text p q → TornText a b text
+abbrev front_of : (a b : Option (List ℕ)) (text : List ℕ) (p q : Bool) → LogGrew a b text p q → TornText a b text
 front_of None None text p q t = record { front = text; back = []; whole = sym (append_nil text); wrote = tt }
 front_of None (Some b) text p q t = absurd t
 front_of (Some a) None text p q t = absurd t
 front_of (Some a) (Some b) text p q t = record { front = t.front; back = t.behind; whole = t.whole; wrote = t.written }
 
 -- all of it, where the sink has not failed
-front_whole : (a b : Option (List ℕ)) (text : List ℕ) (p q : Bool) (t : Told a b text p q) → q ≡ false → (front_of a b text p q t).back ≡ []
+front_whole : (a b : Option (List ℕ)) (text : List ℕ) (p q : Bool) (t : LogGrew a b text p q) → q ≡ false → (front_of a b text p q t).back ≡ []
 front_whole None None text p q t e = refl
 front_whole None (Some b) text p q t e = absurd t
 front_whole (Some a) None text p q t e = absurd t
 front_whole (Some a) (Some b) text p q t e = t.all e
 
-all_of : (a b : Option (List ℕ)) (text : List ℕ) (p q : Bool) → q ≡ false → Told a b text p q → Appended a b text
+all_of : (a b : Option (List ℕ)) (text : List ℕ) (p q : Bool) → q ≡ false → LogGrew a b text p q → Appended a b text
 all_of None None text p q e t = tt
 all_of None (Some b) text p q e t = absurd t
 all_of (Some a) None text p q e t = absurd t

@@ -3,7 +3,7 @@ use Rattle.std.proofs.Common.{◌≡◌, ◌≢◌, ◌⊎◌, ℕ, ◌+◌, ◌
 use Rattle.std.specs.Prelude.{Ok, Err, map}
 use Rattle.mm_types.specs.{Appended, Took, Text, spelled, Event}
 use Rattle.mm_types.proofs.{append_nil}
-use Rattle.mm_io.specs.{NoFeed, IsLine, with_line_feed, text_of_lines}
+use Rattle.mm_io.specs.{NoFeed, FitsLine, with_line_feed, text_of_lines}
 use Rattle.mm_run.specs.{Ending, reading_of, Stage, DecidedLine, AreAnswered, texts_of, answers_in, status_of, last_text, SettlesRun, IsBad, IsOpen}
 use Rattle.mm_run.specs.{Around, RanOrRefused, begun_at, EachSays, IsVerdict, IsScriptOf, IsFault, IsComplete}
 use Rattle.mm_run.specs.declared.endings.Ending.TheVariants as ending
@@ -38,7 +38,7 @@ same_line l k front r more u v w q =
     let both = one_line l k r more u v (sym (feed_then l r) ∙ q ∙ ap (λ xs. xs ++ more) w ∙ feed_then k more) in both.0
 
 -- A line in the grammar settles nothing.
-goes_on : (n : ℕ) (l r front more : Text) (e : Ending) (event : Event) → n < 1000000 → IsLine l → reading_of n l ≡ Ok event → IsVerdict e → SettlesRun n front more (Some []) e → with_line_feed l ++ r ≡ front ++ more → ⊥
+goes_on : (n : ℕ) (l r front more : Text) (e : Ending) (event : Event) → n < 1000000 → FitsLine l → reading_of n l ≡ Ok event → IsVerdict e → SettlesRun n front more (Some []) e → with_line_feed l ++ r ≡ front ++ more → ⊥
 goes_on n l r front more ending.Done event few line p v s q =
     let len = ap length q in
     omega (arith, len, length-append (with_line_feed l) r, length-append l (10 ∷ []), length-append front more, ap length s.1, ap length s.2)
@@ -73,7 +73,7 @@ whole_and_open n line front more front' more' column q w o =
     omega (arith, ap length q, length-append front more, length-append front' more', ap length o.last, ap length w, length-append line (10 ∷ []))
 
 -- two whole lines at the same place
-two_whole : (line line' front more front' more' : Text) → front ++ more ≡ front' ++ more' → IsLine line → IsLine line' → front ≡ with_line_feed line → front' ≡ with_line_feed line' → line ≡ line'
+two_whole : (line line' front more front' more' : Text) → front ++ more ≡ front' ++ more' → FitsLine line → FitsLine line' → front ≡ with_line_feed line → front' ≡ with_line_feed line' → line ≡ line'
 two_whole line line' front more front' more' q u v w w' =
     same_line line line' front' more more' u.no_feed v.no_feed w' (ap (λ xs. xs ++ more) (sym w) ∙ q)
 

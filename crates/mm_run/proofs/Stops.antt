@@ -5,7 +5,7 @@ use Rattle.std.specs.Prelude.{Ok, Err, true}
 use Rattle.mm_types.specs.{Appended, IsEnd, Text, spelling, Event}
 use Rattle.mm_life.specs.{spelled_moves}
 use Rattle.mm_types.proofs.{append_nil, took_none, appended_none}
-use Rattle.mm_io.specs.{IsLine, with_line_feed, text_of_lines, HasLine, IsLong, Filled}
+use Rattle.mm_io.specs.{FitsLine, with_line_feed, text_of_lines, HasLine, IsLong, Filled}
 use Rattle.mm_io.proofs.{filled_none}
 use Rattle.mm_core.specs.{Scene, is_machine}
 use Rattle.mm_run.specs.{Stage, Running, HasNoted, Follows, log_of, Ending, reading_of, BreaksLine, DecidedLine, HoldMovesOf, IsNext, TornText}
@@ -46,7 +46,7 @@ came_here a b t kept x y n w end e front more f q l s few stands closes grows ks
 
 -- the line in front
 module _ (held : Text) (len n : ℕ) (h : HasLine held len) (small : n < 1000000) (behind : length held < len + 1 + 4096) where
-  pub is_line : IsLine (take len held)
+  pub is_line : FitsLine (take len held)
   is_line = record { no_feed = h.feed.first; short = let s = h.short in omega (arith, length-take len held) }
 
   split : held ≡ with_line_feed (take len held) ++ drop (len + 1) held
@@ -185,7 +185,7 @@ module _ (a b t : Option Text) (kept x y : Text) (n : ℕ) (w : Stage) (f : Fill
   empty [] e = refl
   empty (x ∷ xs) e = absurd (omega arith)
 
-  pub came_end : (e : Ending) → n < 1000000 → IsLine y → IsEnd b → InputEndsAt n (length y) e → CameToEnd (outside a t kept) (outside b t kept) (stand x n w) e w
+  pub came_end : (e : Ending) → n < 1000000 → FitsLine y → IsEnd b → InputEndsAt n (length y) e → CameToEnd (outside a t kept) (outside b t kept) (stand x n w) e w
   came_end e small l end s = elim s [
     | inl d ↦ subst (λ (k : Ending). CameToEnd (outside a t kept) (outside b t kept) (stand x n w) k w) (sym d.2)
         (came_here a b t kept x y n w w ending.Done [] [] f (empty y d.1) (omega arith) (d.0, refl, refl, end) (omega arith) (λ ks. refl) (follows_here w) (grows_here w))
@@ -199,7 +199,7 @@ module _ (a b t : Option Text) (kept x y : Text) (n : ℕ) (w : Stage) (f : Fill
       let m = l.many in
       came_here a b t kept x y n w w _ l.front l.more f l.whole (omega arith) (refl, inl (l.many, l.no_feed)) (omega (arith, ap length l.whole, length-append l.front l.more)) (λ ks. refl) (follows_here w) (grows_here w)
 
-  pub came_read : n ≤ 1000000 → IsLine y → CameToEnd (outside a t kept) (outside b t kept) (stand x n w) ending.ReadFault w
+  pub came_read : n ≤ 1000000 → FitsLine y → CameToEnd (outside a t kept) (outside b t kept) (stand x n w) ending.ReadFault w
   came_read small l = came_here a b t kept x y n w w _ y [] f (sym (append_nil y)) small (l, refl) (omega arith) (λ ks. refl) (follows_here w) (grows_here w)
 
   pub came_done : n ≡ 1000000 → y ≡ [] → IsEnd b → CameToEnd (outside a t kept) (outside b t kept) (stand x n w) ending.Done w
@@ -212,5 +212,5 @@ module _ (a b t : Option Text) (kept x y : Text) (n : ℕ) (w : Stage) (f : Fill
       go [] e s l = absurd (omega arith)
       go (z ∷ zs) e s l = came_here a b t kept x y n w w _ (z ∷ []) zs f e (omega arith) (refl, inr (full, refl)) (omega arith) (λ ks. refl) (follows_here w) (grows_here w)
 
-pub line_of_none : (xs : Text) → xs ≡ [] → IsLine xs
-line_of_none xs e = subst IsLine (sym e) (record { no_feed = tt; short = omega arith })
+pub line_of_none : (xs : Text) → xs ≡ [] → FitsLine xs
+line_of_none xs e = subst FitsLine (sym e) (record { no_feed = tt; short = omega arith })

@@ -10,7 +10,7 @@ use Rattle.mm_run.specs.{HoldMovesOf, last_stage, texts_of, answers_in, IsFront,
 use Rattle.mm_run.specs.{CameToEnd, Comes, SettlesRun, StandsAt, Outside, RunStand, outside, stand}
 use Rattle.mm_run.specs.declared.endings.Ending.TheVariants as ending
 use Rattle.mm_core.specs.{Scene}
-use Rattle.mm_life.specs.{Log, IsFrontOf, Told, Grew, Flushed, spelled_moves}
+use Rattle.mm_life.specs.{Log, IsFrontOf, LogGrew, Grew, Flushed, spelled_moves}
 use Rattle.mm_life.proofs.{front_of_then, gave_nothing, gave_then}
 
 pub joined-append : (xs ys : List Text) → text_of_lines (xs ++ ys) ≡ text_of_lines xs ++ text_of_lines ys
@@ -159,7 +159,7 @@ grows_follows a b h = record {
   given = h.gave.grows;
 }
 
-front_told : (a b : Option (List ℕ)) (text : List ℕ) (p q : Bool) → Told a b text p q → IsFrontOf a b
+front_told : (a b : Option (List ℕ)) (text : List ℕ) (p q : Bool) → LogGrew a b text p q → IsFrontOf a b
 front_told None None text p q t = ([], tt)
 front_told None (Some b) text p q t = absurd t
 front_told (Some a) None text p q t = absurd t

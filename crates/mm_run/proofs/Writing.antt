@@ -1,6 +1,6 @@
 -- Texts that were written, one behind the other.
-use Rattle.std.specs.Prelude.{Result, Ok, Err, is_err, MatchResult, OnOk}
-use Rattle.std.proofs.Common.{◌≡◌, Bool, true, false, [], ◌++◌, Option, refl, sym, ap, subst, ◌∙◌, append_assoc}
+use Rattle.std.specs.Prelude.{Result, Ok, Err, MatchResult, OnOk}
+use Rattle.std.proofs.Common.{◌≡◌, Bool, false, [], ◌++◌, Option, refl, sym, ap, subst, ◌∙◌, append_assoc}
 use Rattle.mm_types.specs.{Appended, Text}
 use Rattle.mm_types.proofs.{append_nil, appended_then}
 use Rattle.mm_io.specs.{Wrote}
@@ -17,20 +17,16 @@ module _ (a b : Option Text) (s t : Text) where
   torn_before u = record { front = u.front; back = u.back ++ t; whole = ap (λ xs. xs ++ t) u.whole ∙ append_assoc u.front u.back t; wrote = u.wrote }
 
 module _ (a b c : Option Text) (s t : Text) (u : Appended a b s) where
-  both_whole : Wrote b c t false → Appended a c (s ++ t)
+  pub both_whole : Wrote b c t false → Appended a c (s ++ t)
   both_whole w = appended_then a b c s t u (wrote_whole b c t w)
 
-  torn_behind : (failed : Bool) → Wrote b c t failed → TornText a c (s ++ t)
+  pub torn_behind : (failed : Bool) → Wrote b c t failed → TornText a c (s ++ t)
   torn_behind failed w = record {
     front = s ++ w.front;
     back = w.rest;
     whole = ap (λ xs. s ++ xs) w.whole ∙ sym (append_assoc s w.front w.rest);
     wrote = appended_then a b c s w.front u w.written;
   }
-
-  pub both_either : {T E : Type 0} (r : Result T E) → Wrote b c t (is_err r) → MatchResult r (λ _. Appended a c (s ++ t)) (λ _. TornText a c (s ++ t))
-  both_either (Ok x) w = both_whole w
-  both_either (Err e) w = torn_behind true w
 
 -- and given on, as far as the sink did not fail
 pub flushed_either : {T E : Type 0} (r : Result T E) (a b c given : Option Text) (text : Text) → Appended a b text → c ≡ b → OnOk r (given ≡ c)

@@ -4,7 +4,7 @@ use Rattle.std.specs.Prelude.{◌≡◌, ◌⊎◌, ℕ, suc, true, List, [], �
 use Rattle.std.specs.List.{flat_map}
 use Rattle.mm_types.specs.{Text, Answer, Event, Move}
 use Rattle.mm_life.specs.{IsFrontOf}
-use Rattle.mm_io.specs.{IsLine}
+use Rattle.mm_io.specs.{FitsLine}
 use Rattle.mm_script.specs.{IsLine as IsLineFor}
 use Rattle.mm_blocks.specs.{NamedMade}
 use Rattle.mm_core.specs.{IsFailure}
@@ -38,7 +38,7 @@ moves_of lines = flat_map (λ l. l.moves) lines
 
 -- After n others a text is a line in the grammar that says this event.
 pub record LineSays (n : ℕ) (text : Text) (event : Event) : Type 0 where
-  pub is_line : IsLine text
+  pub is_line : FitsLine text
   pub says : reading_of n text ≡ Ok event
   pub grammar : IsLineFor text event
 

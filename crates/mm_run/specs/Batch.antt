@@ -9,7 +9,8 @@ use Rattle.mm_run.specs.declared.endings.Ending.{Ending}
 use Rattle.mm_run.specs.declared.endings.Ending.TheVariants as ending
 use Rattle.mm_core.specs.{is_machine, Scene}
 use Rattle.mm_run.specs.Scenes.{Stage, Running}
-use Rattle.mm_run.specs.Steps.{Moved, BreaksLine}
+use Rattle.mm_run.specs.Steps.{Moved}
+use Rattle.mm_run.specs.Moments.{RunsShort}
 use Rattle.mm_run.specs.Answered.{DecidedLine, last_stage, answers_in}
 use Rattle.mm_run.specs.Ends.{Left, StageLeaves}
 use Rattle.mm_run.specs.Faults.{OpenFailed}
@@ -28,7 +29,7 @@ AreLater events = AllByRecursion IsLaterEvent events
 -- An event ran out of memory, or was decided and could not note all its moves.
 abbrev pub IsUnanswered : Scene → Event → Ending → Scene → Type 0
 IsUnanswered s event e z =
-    ((e ≡ ending.NoMemory) × BreaksLine s z)
+    ((e ≡ ending.NoMemory) × RunsShort s event z)
     ⊎ ((e ≡ ending.MovesFault)
     × ((a : Answer) × Moved (Running s) event a (Running z))
     × (z.behind.log.failed ≡ true))

@@ -16,7 +16,7 @@ pub mod Settings
 pub mod Seen
 pub mod Closing
 pub mod Faults
-pub use Reading.{reading_of}
+pub use Reading.{is_machine_word, reading_of}
 pub use Scenes.{Follows, HasNoted, NotBegun, Outset, Running, Stage, log_of, outset, replay_of}
 pub use Scenes.{with_flush}
 pub use Steps.{BreaksLine, DecidesLine, HoldsUnchanged, IsDecided, MachineBegins, MachineIsMade}
@@ -25,7 +25,7 @@ pub use Written.{AnsweredLine, GivesWritten, WriteMarks, keeps_after, no_write_m
 pub use Written.{write_marks_after, write_marks_over}
 pub use Answered.{AreAnswered, AreFaultless, DecidedLine, HoldMovesOf, IsNext, MadeNamed}
 pub use Answered.{answered_lines, answers_in, last_stage, moves_of, texts_of}
-pub use Texts.{IsFront, TornText, last_text, status_of}
+pub use Texts.{IsFront, ToldText, TornText, WroteText, last_text, status_of}
 pub use Ends.{BreaksAt, BreaksOff, ClosesRun, DeviceLeft, IsLeft, IsLogLeft, Left, StageLeaves}
 pub use Ends.{TakesMemory}
 pub use Story.{CameFrom, CameToEnd, Comes, FaultCounts, InputEndsAt, IsBad, IsBlamed, IsMisplaced}
@@ -33,14 +33,18 @@ pub use Story.{IsOpen, IsRunForm, KeepsAnswers, Outside, RunStand, SettlesRun, S
 pub use Story.{fault_counts_with, outside, stand}
 pub use Ran.{Around, EndsHolding, EndsTelling, GaveAll, LogRan, RanOrRefused, SomeRose, begun_at}
 pub use Script.{EachSays, IsComplete, IsFault, IsScriptOf, IsVerdict}
-pub use Bulk.{AreDecided, BulkEnds, BulkRan, BulkStops, ClosesEvents, IsBulk, IsEventNext, IsNoBulk}
-pub use Bulk.{begins_ok, below_64, bulk_text, events_in, four_lines, is_none, word_value}
+pub use Bulk.{AreDecided, BulkEnds, BulkRan, BulkRanOrRefused, BulkStops, ClosesEvents, IsBulk}
+pub use Bulk.{IsEventNext, IsNoBulk, begins_ok, below_64, bulk_text, events_in, four_lines, is_none}
+pub use Bulk.{word_value}
 pub use WordForms.{SaysForm}
-pub use Batch.{AccountsMoves, AreLater, BatchRan, Handled, IsLaterEvent, Stopped, Tallied}
-pub use Moments.{EndsRun, FindsLine, GoesOn, GoesOnOrEnds, HasDecided, HasNotedAll, IsBetween}
-pub use Moments.{Moment, RunsShort, fault_counts_of, moment, outside_of}
-pub use Seen.{input_seen, left_seen, moment_seen, output_seen, outset_seen, outside_seen}
-pub use Seen.{world_seen}
+pub use Batch.{AccountsMoves, AreLater, BatchRan, Handled, IsLaterEvent, IsUnanswered, Stopped}
+pub use Batch.{Tallied}
+pub use Moments.{EndsRun, FindsLine, GoesOn, GoesOnOrEnds, HasBegun, HasNotedAll, HoldsLine, Input}
+pub use Moments.{IsBetween, KeepsWorld, Moment, Output, RunsShort, StepsBetween, fault_counts_of}
+pub use Moments.{moment, outside_of}
+pub use Settings.{AreOpened, ComesTo, HoldsMachine, Setting}
+pub use Seen.{counts_seen, device_seen, input_seen, left_seen, moment_seen, open_failed}
+pub use Seen.{output_seen, outset_seen, outside_seen, seen, setting, sink_seen, world_seen}
 pub use Closing.{Closed, Drops, GaveMoves, SinkSeen, is_over}
 pub use Faults.{IsAccounted}
 pub use declared.bulk.Tally.{Tally}

@@ -1,13 +1,11 @@
 -- What the steps of a run ask and promise, once for each family of steps.
 -- Profile, "A run".
-use Rattle.std.specs.Prelude.{◌≡◌, ◌≢◌, ℕ, ◌+◌, ◌<◌, ◌≤◌, Bool, true, false, length, Option, Result, Ok, MatchOption, MatchResult}
-use Rattle.mm_types.specs.{Loans, Rose, Text, Event}
+use Rattle.std.specs.Prelude.{◌≡◌, ◌≢◌, ℕ, ◌+◌, ◌<◌, ◌≤◌, Bool, false, length, Option, Result, MatchOption, MatchResult}
+use Rattle.mm_types.specs.{Loans, Text, Event}
 use Rattle.mm_io.specs.{HasLine}
-use Rattle.mm_script.specs.{IsLine as IsLineFor, IsWellFormed}
 use Rattle.mm_core.specs.{Scene}
 use Rattle.mm_run.specs.declared.endings.Ending.{Ending}
 use Rattle.mm_run.specs.declared.endings.Ending.TheVariants as ending
-use Rattle.mm_run.specs.Reading.{reading_of}
 use Rattle.mm_run.specs.Scenes.{Stage, Running, log_of}
 use Rattle.mm_run.specs.Steps.{BreaksLine}
 use Rattle.mm_run.specs.Ends.{TakesMemory}
@@ -65,13 +63,6 @@ pub record HoldsLine (held : Text) (len : ℕ) : Type 0 where
   pub line : HasLine held len
   pub behind : length held < len + 1 + 4096
 
--- After n others, and not as the first, this text says this event.
-pub record SaysLater (n : ℕ) (text : Text) (event : Event) : Type 0 where
-  pub some : 0 < n
-  pub says : reading_of n text ≡ Ok event
-  pub grammar : IsLineFor text event
-  pub well_formed : IsWellFormed event
-
 -- A world over a store that pages has begun n lines, and can take another.
 pub record HasBegun (n : ℕ) (w : WorldSeen) : Type 0 where
   pub count : w.line ≡ n
@@ -96,16 +87,6 @@ pub record KeepsWorld (v w : WorldSeen) : Type 0 where
   pub ready : w.spent ≡ v.spent
   pub noted : w.scene.behind.log.failed ≡ v.scene.behind.log.failed
   pub loans : w.loans ≡ v.loans
-
--- A line was decided as line n of its world. Its moves were all written unless the sink's count of
--- faults rose.
-pub record HasDecided (n : ℕ) (v w : WorldSeen) : Type 0 where
-  pub count : w.line ≡ n
-  pub ready : w.spent ≡ false
-  pub blame : w.scene.behind.log.failed ≡ true →
-      Rose v.scene.behind.log.faults w.scene.behind.log.faults
-  pub same : w.scene.behind.log.failed ≡ false →
-      w.scene.behind.log.faults ≡ v.scene.behind.log.faults
 
 -- Memory ran out in a line that may take some.
 pub record RunsShort (s : Scene) (event : Event) (z : Scene) : Type 0 where

@@ -4,7 +4,7 @@ use Rattle.std.specs.Prelude.{◌≡◌, ◌⊎◌, ℕ, ◌+◌, ◌<◌, ◌�
 use Rattle.mm_life.specs.{IsFrontOf}
 use Rattle.std.specs.declared.alloc.Global.{Global}
 use Rattle.mm_types.specs.{Took, IsEnd, Appended, Rose, Text, spelled, Event}
-use Rattle.mm_io.specs.{IsLine, NoFeed, with_line_feed, text_of_lines}
+use Rattle.mm_io.specs.{FitsLine, NoFeed, with_line_feed, text_of_lines}
 use Rattle.mm_script.specs.{IsLine as IsLineFor}
 use Rattle.mm_run.specs.declared.endings.Ending.{Ending}
 use Rattle.mm_run.specs.declared.endings.Ending.TheVariants as ending
@@ -46,14 +46,14 @@ IsMisplaced n e = is_machine e ≡ nat_lt 0 n
 -- A whole line after n others that is not in the grammar, with its fault at this column.
 pub record IsBad (n : ℕ) (front : Text) (column : ℕ) : Type 0 where
   pub line : Text
-  pub is_line : IsLine line
+  pub is_line : FitsLine line
   pub whole : front ≡ with_line_feed line
   pub place : reading_of n line ≡ Err column
   pub refused : (e : Event) → IsLineFor line e → IsMisplaced n e
 
 -- A last line without a line feed, or no line at all.
 pub record IsOpen (n : ℕ) (front more : Text) (left : Option Text) (column : ℕ) : Type 0 where
-  pub is_line : IsLine front
+  pub is_line : FitsLine front
   pub last : more ≡ []
   pub at_end : IsEnd left
   pub some : (0 < length front) ⊎ (n ≡ 0)
@@ -76,7 +76,7 @@ SettlesRun n front more left ending.NoMemory = length front ≤ 257
 SettlesRun n front more left ending.Usage = (n ≡ 0) × (front ≡ []) × (more ≡ [])
 SettlesRun n front more left (ending.Script line column) =
     (line ≡ n + 1) × (n < most_lines) × (IsBad n front column ⊎ IsOpen n front more left column)
-SettlesRun n front more left ending.ReadFault = IsLine front × (more ≡ [])
+SettlesRun n front more left ending.ReadFault = FitsLine front × (more ≡ [])
 SettlesRun n front more left ending.OutFault = front ≡ []
 SettlesRun n front more left ending.MovesFault = length front ≤ 257
 SettlesRun n front more left ending.SetupFault = IsMachineLine n front

@@ -1,34 +1,32 @@
-ghost use Rattle.std.specs.Prelude.{◌≡◌, ◌<◌, ◌≤◌, ◌+◌, ◌*◌, ℕ, false, ◌∷◌, List, Option, length, IfOk, OnOk, MatchResult, cond};
-ghost use Rattle.mm_io.specs.{CountsFaults};
+ghost use Rattle.std.specs.Prelude.{◌≡◌, ◌<◌, ◌≤◌, ◌+◌, ◌*◌, ℕ, false, ◌∷◌, List, Option, length, cond};
 ghost use Rattle.mm_types.specs.declared.events.Event.TheVariants as event;
 ghost use Rattle.mm_make.specs.{script_of};
-ghost use Rattle.mm_core.specs.{line_number, loans, world_behind, scene};
+ghost use Rattle.mm_core.specs.{loans, world_behind, scene};
 ghost use Rattle.mm_run.specs.Scenes.{Outset, NotBegun, Running, outset};
-ghost use Rattle.mm_run.specs.Steps.{MachineIsMade, Moved};
-ghost use Rattle.mm_run.specs.Texts.{ToldText};
+ghost use Rattle.mm_run.specs.Steps.{MachineIsMade};
 ghost use Rattle.mm_run.specs.Ran.{around};
 ghost use Rattle.mm_run.specs.Story.{fault_counts_with};
 ghost use Rattle.mm_run.specs.Faults.{IsAccounted};
 ghost use Rattle.mm_run.specs.Bulk.{BulkRan, begins_ok, is_none, four_lines};
-ghost use Rattle.mm_run.specs.Batch.{IsLaterEvent, AreLater, Handled, Stopped, Finished, BatchRan, IsUnanswered, AccountsMoves, BatchEnds};
-ghost use Rattle.mm_run.specs.Moments.{HasBegun, HasNotedAll};
+ghost use Rattle.mm_run.specs.Batch.{AreLater, Finished, BatchRan, AccountsMoves, BatchEnds};
+ghost use Rattle.mm_run.specs.Moments.{HasBegun};
 ghost use Rattle.mm_run.specs.Settings.{AreOpened};
 ghost use Rattle.mm_run.specs.Seen.{device_seen, left_seen, open_failed, world_seen};
 
 use crate::decisions::decide;
 use crate::endings::Ending;
 use crate::machines::open_devices;
-use crate::top::put_number;
+use crate::top::{put_number, write_both};
 use mm_blocks::{Blocks, Injected};
 use mm_core::World;
-use mm_io::{Sink, write_all};
+use mm_io::Sink;
 use mm_make::script;
 use mm_moves::Recorder;
 use mm_paged::Paged;
 use mm_pages::FlushesMoves;
 use mm_state::State;
 use mm_text::LineBuf;
-use mm_types::{Answer, Event, Failed, Machine};
+use mm_types::{Answer, Event, Machine};
 use std::alloc::Global;
 
 /// What the four lines at the end of a generated script tell.
@@ -77,71 +75,6 @@ fn one_if(test: bool) -> u32
     if test { 1 } else { 0 }
 }
 
-/// Decides an event, which is not the first, with all its moves written.
-fn decide_event<G: FlushesMoves>(
-    alloc: Global,
-    n: u32,
-    event: &Event,
-    world: &mut World<G>,
-) -> Result<Answer, Ending>
-    requires later { IsLaterEvent event.now }
-    requires next { n ≡ line_number world.old + 1 }
-    requires few { n ≤ 1000000 }
-    requires ready { HasNotedAll (line_number world.old) (world_seen world.old) }
-    ensures came { MatchResult result
-        (λ a. Moved (Running (scene world.old)) event.now a (Running (scene world.new)))
-        (λ e. IsUnanswered (scene world.old) event.now e (scene world.new)) }
-    ensures faults { AccountsMoves result ⊥
-        (world_behind world.old).log.faults (world_behind world.new).log.faults }
-    ensures ready { OnOk result (HasNotedAll n (world_seen world.new)) }
-    ensures loans { loans world.new ≡ loans world.old }
-{
-    let mut answer = Answer::Ok;
-    match decide(alloc, n, event, world, &mut answer) {
-        Ok(()) => {
-            if world.pages.moves_failed() {
-                return Err(Ending::MovesFault);
-            }
-            Ok(answer)
-        }
-        Err(_) => Err(Ending::NoMemory),
-    }
-}
-
-/// Decides the events after the first one. It gives how many answers begin with `ok`, and how many
-/// are `none`.
-fn decide_later<G: FlushesMoves>(
-    alloc: Global,
-    events: &[Event],
-    world: &mut World<G>,
-) -> Result<(u32, u32), Ending>
-    requires later { AreLater events.now }
-    requires few { length events.now < 1000000 }
-    requires ready { HasNotedAll 1 (world_seen world.old) }
-    ensures came { MatchResult result
-        (λ r. Handled (Running (scene world.old)) events.now r.0 r.1 (Running (scene world.new)))
-        (λ e. Stopped (Running (scene world.old)) events.now e (Running (scene world.new))) }
-    ensures few { IfOk result (λ r. (r.0 ≤ length events.now) × (r.1 ≤ length events.now)) }
-    ensures faults { AccountsMoves result ⊥
-        (world_behind world.old).log.faults (world_behind world.new).log.faults }
-    ensures loans { loans world.new ≡ loans world.old }
-{
-    let mut n = 1u32;
-    let mut ok = 0u32;
-    let mut none = 0u32;
-    for event in events {
-        n += 1;
-        match decide_event(alloc, n, event, world) {
-            Ok(answer) => {
-                ok += one_if(begins_ok(&answer));
-                none += one_if(is_none(&answer));
-            }
-            Err(ending) => return Err(ending),
-        }
-    }
-    Ok((ok, none))
-}
-
 /// Decides all events over the world that the first one made, once its move is written.
 fn decide_events<G: FlushesMoves>(
     alloc: Global,
@@ -163,19 +96,28 @@ fn decide_events<G: FlushesMoves>(
     if world.pages.moves_failed() {
         return Err(Ending::MovesFault);
     }
-    match decide_later(alloc, events, world) {
-        Ok((ok, none)) => {
-            let (charge, limit) = world.charge();
-            Ok(Tally {
-                lines: events.len() as u32 + 1,
-                ok: ok + 1,
-                none,
-                charge,
-                limit,
-            })
+    let mut n = 1u32;
+    let mut ok = 0u32;
+    let mut none = 0u32;
+    let mut answer = Answer::Ok;
+    for event in events {
+        n += 1;
+        match decide(alloc, n, event, world, &mut answer) {
+            Ok(()) => {
+                ok += one_if(begins_ok(&answer));
+                none += one_if(is_none(&answer));
+            }
+            Err(ending) => return Err(ending),
         }
-        Err(ending) => Err(ending),
     }
+    let (charge, limit) = world.charge();
+    Ok(Tally {
+        lines: n,
+        ok: ok + 1,
+        none,
+        charge,
+        limit,
+    })
 }
 
 /// Decides all events over devices that were opened for their machine.
@@ -223,28 +165,7 @@ fn run_events<M: Sink, P: Blocks, F: Blocks>(
     decided
 }
 
-/// Opens the devices of a machine, and decides all events over them.
-fn start_events<M: Sink, P: Blocks, F: Blocks>(
-    alloc: Global,
-    machine: Machine,
-    events: &[Event],
-    moves: &mut M,
-    paging: &mut P,
-    files: &mut F,
-) -> Result<Tally, Ending>
-    requires later { AreLater events.now }
-    requires few { length events.now < 1000000 }
-    ensures ends { BatchEnds (event.Machine machine ∷ events.now) result
-        (left_seen M.Sink P.Blocks F.Blocks moves.old paging.old files.old)
-        (left_seen M.Sink P.Blocks F.Blocks moves.new paging.new files.new) }
-{
-    match open_devices(machine, paging, files) {
-        Ok(()) => run_events(alloc, machine, events, moves, paging, files),
-        Err(ending) => Err(ending),
-    }
-}
-
-/// Decides the events of a generated script.
+/// Opens the devices of a generated script's machine, and decides its events over them.
 fn decide_script<M: Sink, P: Blocks, F: Blocks>(
     alloc: Global,
     seed: u64,
@@ -263,11 +184,13 @@ fn decide_script<M: Sink, P: Blocks, F: Blocks>(
         Err(_) => return Err(Ending::NoMemory),
     };
     let events = events.as_slice();
-    match &events[0] {
-        Event::Machine(machine) => {
-            start_events(alloc, *machine, &events[1..], moves, paging, files)
-        }
+    let machine = match &events[0] {
+        Event::Machine(machine) => *machine,
         _ => unreachable!(),
+    };
+    match open_devices(machine, paging, files) {
+        Ok(()) => run_events(alloc, machine, &events[1..], moves, paging, files),
+        Err(ending) => Err(ending),
     }
 }
 
@@ -288,19 +211,6 @@ fn spell_tally(tally: Tally) -> LineBuf
     put_number(&mut text, tally.limit);
     text.push(b'\n');
     text
-}
-
-/// Writes the four lines of a tally, and has the sink give them on.
-fn tell_tally<O: Sink>(out: &mut O, tally: Tally) -> Result<(), Failed>
-    ensures told { ToldText result (O.taken out.old) (O.taken out.new) (O.given out.new)
-        (four_lines tally.lines tally.ok tally.none tally.charge tally.limit) }
-    ensures cause { CountsFaults (O.faults out.old) (O.faults out.new) result }
-{
-    let text = spell_tally(tally);
-    match write_all(out, text.as_slice()) {
-        Ok(()) => out.flush(),
-        Err(e) => Err(e),
-    }
 }
 
 /// Runs a generated script: decides its events, gives on their moves, and then the four lines.
@@ -331,7 +241,7 @@ pub(crate) fn bulk<O: Sink, M: Sink, P: Blocks, F: Blocks>(
         Err(_) => return 6,
     }
     match decided {
-        Ok(tally) => match tell_tally(out, tally) {
+        Ok(tally) => match write_both(out, b"", spell_tally(tally).as_slice()) {
             Ok(()) => Ending::Done.status(),
             Err(_) => Ending::OutFault.status(),
         },

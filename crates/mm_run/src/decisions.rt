@@ -1,14 +1,10 @@
-ghost use Rattle.std.specs.Prelude.{◌≡◌, ◌<◌, ◌≤◌, ◌+◌, ◌++◌, ℕ, List, [], length, drop, take, IfNone, IfOk, OnOk, OnErr};
+ghost use Rattle.std.specs.Prelude.{◌≡◌, ◌<◌, ◌≤◌, ◌+◌, ◌++◌, ℕ, List, [], length, drop, IfNone, IfOk, OnOk, MatchResult};
 ghost use Rattle.mm_types.specs.{spelling};
-ghost use Rattle.mm_life.specs.{Flushed};
 ghost use Rattle.mm_io.specs.{HasLine};
 ghost use Rattle.mm_core.specs.{line_number, loans, world_behind, Scene, scene};
-ghost use Rattle.mm_run.specs.Scenes.{Stage, Running, Follows};
-ghost use Rattle.mm_run.specs.Steps.{Moved};
-ghost use Rattle.mm_run.specs.Story.{InputEndsAt};
-ghost use Rattle.mm_run.specs.Batch.{IsLaterEvent};
-ghost use Rattle.mm_run.specs.Moments.{Input, Output, moment, HoldsLine, SaysLater, HasNotedAll, IsBetween, KeepsWorld, HasDecided, RunsShort, EndsRun, GoesOnOrEnds, FindsLine, StepsBetween};
-ghost use Rattle.mm_run.specs.Seen.{input_seen, output_seen, world_seen, moment_seen};
+ghost use Rattle.mm_run.specs.{Stage, Running, Moved, InputEndsAt, IsLaterEvent, Input, Output, moment, HoldsLine, HasNotedAll, IsBetween};
+ghost use Rattle.mm_run.specs.{KeepsWorld, IsUnanswered, AccountsMoves, EndsRun, GoesOnOrEnds, FindsLine, StepsBetween, input_seen, output_seen};
+ghost use Rattle.mm_run.specs.{world_seen, moment_seen};
 
 use crate::answers::Kept;
 use crate::endings::Ending;
@@ -16,7 +12,7 @@ use crate::readings::later_event;
 use mm_core::World;
 use mm_io::{Found, Held, Look, Sink, Source};
 use mm_pages::FlushesMoves;
-use mm_types::{Answer, Event, Failed, NoMemory};
+use mm_types::{Answer, Event, NoMemory};
 use std::alloc::Global;
 
 /// The lines that a script may have.
@@ -33,62 +29,37 @@ pub(crate) fn tell(held: &mut Held, len: usize, answer: &Answer, kept: &mut Kept
     kept.keep(answer);
 }
 
-/// Decides a line of a world over a store that pages, which is not the first: it is told whole. Its
-/// answer is written where it is wanted.
+/// Decides a line of a world over a store that pages, which is not the first, and writes its answer
+/// where it is wanted: it is told whole, and all its moves are written.
 pub(crate) fn decide<G: FlushesMoves>(
     alloc: Global,
     n: u32,
     event: &Event,
     world: &mut World<G>,
     answer: &mut Answer,
-) -> Result<(), NoMemory>
+) -> Result<(), Ending>
     requires later { IsLaterEvent event.now }
     requires next { n ≡ line_number world.old + 1 }
     requires few { n ≤ 1000000 }
     requires ready { HasNotedAll (line_number world.old) (world_seen world.old) }
-    ensures moved { OnOk result
-        (Moved (Running (scene world.old)) event.now answer.new (Running (scene world.new))) }
-    ensures decided { OnOk result (HasDecided n (world_seen world.old) (world_seen world.new)) }
-    ensures short { OnErr result (RunsShort (scene world.old) event.now (scene world.new)) }
+    ensures came { MatchResult result
+        (λ _. Moved (Running (scene world.old)) event.now answer.new (Running (scene world.new)))
+        (λ e. IsUnanswered (scene world.old) event.now e (scene world.new)) }
+    ensures faults { AccountsMoves result ⊥
+        (world_behind world.old).log.faults (world_behind world.new).log.faults }
+    ensures ready { OnOk result (HasNotedAll n (world_seen world.new)) }
     ensures loans { loans world.new ≡ loans world.old }
 {
     let decided = world.step(alloc, n, event, answer);
     world.pages.sound();
-    decided
-}
-
-/// Decides a line, which is not the first, and keeps its answer once its moves are written.
-fn answer_event<G: FlushesMoves>(
-    alloc: Global,
-    held: &mut Held,
-    len: usize,
-    n: u32,
-    event: &Event,
-    world: &mut World<G>,
-    kept: &mut Kept,
-) -> Option<Ending>
-    requires few { n < 1000000 }
-    requires line { HoldsLine held.old len }
-    requires room { length kept.old + 256 ≤ 65536 }
-    requires says { SaysLater n (take len held.old) event.now }
-    requires ready { HasNotedAll n (world_seen world.old) }
-    ensures steps { (input : Input) (out : Output) → GoesOnOrEnds result held.old n held.new (n + 1)
-        (moment input out kept.old (Running (scene world.old)))
-        (moment input out kept.new (Running (scene world.new))) }
-    ensures between { IfNone result (IsBetween (n + 1) held.new (world_seen world.new)) }
-    ensures loans { loans world.new ≡ loans world.old }
-{
-    let mut answer = Answer::Ok;
-    match decide(alloc, n + 1, event, world, &mut answer) {
-        Ok(()) => {
-            if world.pages.moves_failed() {
-                return Some(Ending::MovesFault);
-            }
-            tell(held, len, &answer, kept);
-            None
-        }
-        Err(_) => Some(Ending::NoMemory),
+    match decided {
+        Ok(()) => {}
+        Err(NoMemory) => return Err(Ending::NoMemory),
     }
+    if world.pages.moves_failed() {
+        return Err(Ending::MovesFault);
+    }
+    Ok(())
 }
 
 /// Decides and answers the line in front, which is not the first. Its event is large, and stays
@@ -115,13 +86,21 @@ fn answer_line<G: FlushesMoves>(
 {
     let line = &held.bytes()[..len];
     match later_event(line, event) {
-        Ok(()) => answer_event(alloc, held, len, n, event, world, kept),
-        Err(column) => Some(Ending::Script(n + 1, column)),
+        Ok(()) => {}
+        Err(column) => return Some(Ending::Script(n + 1, column)),
+    }
+    let mut answer = Answer::Ok;
+    match decide(alloc, n + 1, event, world, &mut answer) {
+        Ok(()) => {
+            tell(held, len, &answer, kept);
+            None
+        }
+        Err(ending) => Some(ending),
     }
 }
 
 /// What a run comes to at the input's end, after n lines and so many bytes.
-pub(crate) fn at_end(n: u32, len: usize) -> Ending
+fn at_end(n: u32, len: usize) -> Ending
     requires short { len ≤ 256 }
     requires few { n < 1000000 }
     ensures { InputEndsAt n len result }
@@ -135,7 +114,7 @@ pub(crate) fn at_end(n: u32, len: usize) -> Ending
 
 /// Reads until it is known what stands in front: a line of so many bytes, or what a run comes to
 /// there after n lines.
-fn next_line<S: Source>(held: &mut Held, n: u32, source: &mut S) -> Result<usize, Ending>
+pub(crate) fn next_line<S: Source>(held: &mut Held, n: u32, source: &mut S) -> Result<usize, Ending>
     requires few { n < 1000000 }
     requires held { length held.old < 4096 }
     ensures finds { (out : Output) (kept : List ℕ) (z : Stage) →
@@ -152,15 +131,6 @@ fn next_line<S: Source>(held: &mut Held, n: u32, source: &mut S) -> Result<usize
     }
 }
 
-/// Gives on the moves that were noted.
-fn flush_moves<G: FlushesMoves>(world: &mut World<G>) -> Result<(), Failed>
-    ensures follows { Follows (Running (scene world.old)) (Running (scene world.new)) }
-    ensures flushed { Flushed (world_behind world.old).log (world_behind world.new).log result }
-    ensures keeps { KeepsWorld (world_seen world.old) (world_seen world.new) }
-{
-    world.flush_moves()
-}
-
 /// Gives on the moves that were noted, and then the answers that are kept.
 fn flush<G: FlushesMoves, O: Sink>(
     world: &mut World<G>,
@@ -172,7 +142,7 @@ fn flush<G: FlushesMoves, O: Sink>(
     ensures none { IfNone result (kept.new ≡ []) }
     ensures keeps { KeepsWorld (world_seen world.old) (world_seen world.new) }
 {
-    match flush_moves(world) {
+    match world.flush_moves() {
         Ok(()) => {}
         Err(_) => return Some(Ending::MovesFault),
     }
@@ -217,31 +187,8 @@ fn flush_before_read<G: FlushesMoves, O: Sink>(
     }
 }
 
-/// Reads until a line stands in front, with no move or answer held back.
-fn read_line<G: FlushesMoves, S: Source, O: Sink>(
-    held: &mut Held,
-    n: u32,
-    world: &mut World<G>,
-    kept: &mut Kept,
-    source: &mut S,
-    out: &mut O,
-) -> Result<usize, Ending>
-    requires few { n < 1000000 }
-    requires held { length held.old < 4096 }
-    ensures finds { FindsLine result held.old n held.new
-        (moment_seen S.Source O.Sink source.old out.old kept.old world.old)
-        (moment_seen S.Source O.Sink source.new out.new kept.new world.new) }
-    ensures line { IfOk result (λ len. HoldsLine held.new len) }
-    ensures none { OnOk result (kept.new ≡ []) }
-    ensures keeps { KeepsWorld (world_seen world.old) (world_seen world.new) }
-{
-    match flush(world, kept, out) {
-        Some(ending) => Err(ending),
-        None => next_line(held, n, source),
-    }
-}
-
-/// Finds the line in front, by one search where it is held whole, as most are.
+/// Finds the line in front, by one search where it is held whole, as most are. Else it reads, with
+/// no move or answer held back.
 fn find_line<G: FlushesMoves, S: Source, O: Sink>(
     held: &mut Held,
     n: u32,
@@ -263,34 +210,10 @@ fn find_line<G: FlushesMoves, S: Source, O: Sink>(
     match held.look() {
         Look::Line(len) => Ok(len),
         Look::Long => Err(Ending::TooLong(n + 1)),
-        Look::Open => read_line(held, n, world, kept, source, out),
-    }
-}
-
-/// Decides and answers one line, which is not the first, where there is room for its answer.
-fn take_line<G: FlushesMoves, S: Source, O: Sink>(
-    alloc: Global,
-    held: &mut Held,
-    n: u32,
-    event: &mut Event,
-    world: &mut World<G>,
-    kept: &mut Kept,
-    source: &mut S,
-    out: &mut O,
-) -> Option<Ending>
-    requires room { length kept.old + 256 ≤ 65536 }
-    requires some { 0 < n }
-    requires few { n < 1000000 }
-    requires between { IsBetween n held.old (world_seen world.old) }
-    ensures steps { GoesOnOrEnds result held.old n held.new (n + 1)
-        (moment_seen S.Source O.Sink source.old out.old kept.old world.old)
-        (moment_seen S.Source O.Sink source.new out.new kept.new world.new) }
-    ensures between { IfNone result (IsBetween (n + 1) held.new (world_seen world.new)) }
-    ensures loans { loans world.new ≡ loans world.old }
-{
-    match find_line(held, n, world, kept, source, out) {
-        Ok(len) => answer_line(alloc, held, len, n, event, world, kept),
-        Err(ending) => Some(ending),
+        Look::Open => match flush(world, kept, out) {
+            Some(ending) => Err(ending),
+            None => next_line(held, n, source),
+        },
     }
 }
 
@@ -315,8 +238,12 @@ fn decide_line<G: FlushesMoves, S: Source, O: Sink>(
     ensures loans { loans world.new ≡ loans world.old }
 {
     match make_room(world, kept, out) {
-        Some(ending) => Some(ending),
-        None => take_line(alloc, held, n, event, world, kept, source, out),
+        Some(ending) => return Some(ending),
+        None => {}
+    }
+    match find_line(held, n, world, kept, source, out) {
+        Ok(len) => answer_line(alloc, held, len, n, event, world, kept),
+        Err(ending) => Some(ending),
     }
 }
 

@@ -1,7 +1,5 @@
 ghost use Rattle.std.specs.Prelude.{◌≡◌, ◌++◌, ◌∷◌, List};
-ghost use Rattle.mm_run.specs.Scenes.{Outset, NotBegun};
-ghost use Rattle.mm_run.specs.Answered.{DecidedLine, AreAnswered, answered_lines};
-ghost use Rattle.mm_run.specs.Written.{GivesWritten};
+ghost use Rattle.mm_run.specs.{Outset, NotBegun, DecidedLine, AreAnswered, answered_lines, GivesWritten};
 
 /// Each `watch` of a run that was answered with pages (GetWriteWatch) gave exactly those of its
 /// range that are written by the lines before it and their answers: the lowest ones, at most as

@@ -1,19 +1,15 @@
-ghost use Rattle.std.specs.Prelude.{◌≡◌, ◌≢◌, ◌⊎◌, ◌≤◌, ◌+◌, ℕ, false, [], length, IfErr, OnOk};
+ghost use Rattle.std.specs.Prelude.{◌≡◌, ◌≢◌, ◌⊎◌, ◌≤◌, ◌+◌, ℕ, true, false, [], length, IfErr, OnOk};
 ghost use Rattle.mm_core.specs.{loans, world_behind, scene};
-ghost use Rattle.mm_run.specs.Scenes.{Outset, NotBegun, Running, outset};
-ghost use Rattle.mm_run.specs.Steps.{MachineIsMade};
-ghost use Rattle.mm_run.specs.Story.{CameToEnd, Comes, IsBlamed, stand, fault_counts_with};
-ghost use Rattle.mm_run.specs.Moments.{HoldsLine, HasBegun};
-ghost use Rattle.mm_run.specs.Settings.{HoldsMachine, AreOpened, ComesTo};
-ghost use Rattle.mm_run.specs.Seen.{counts_seen, device_seen, left_seen, open_failed, outside_seen, setting, world_seen};
+ghost use Rattle.mm_run.specs.{Outset, NotBegun, Running, outset, MachineIsMade, CameToEnd, Comes, IsBlamed, stand, fault_counts_with, HasBegun};
+ghost use Rattle.mm_run.specs.{HoldsMachine, AreOpened, ComesTo, counts_seen, device_seen, left_seen, open_failed, outside_seen, setting, world_seen};
 
 use crate::answers::Kept;
-use crate::decisions::{at_end, decide_rest, tell};
+use crate::decisions::{decide_rest, next_line, tell};
 use crate::endings::Ending;
 use crate::readings::read_first;
 use mm_blocks::{Blocks, Injected};
 use mm_core::World;
-use mm_io::{Found, Held, Sink, Source};
+use mm_io::{Held, Sink, Source};
 use mm_moves::Recorder;
 use mm_paged::Paged;
 use mm_pages::FlushesMoves;
@@ -145,76 +141,11 @@ fn run_machine<S: Source, O: Sink, M: Sink, P: Blocks, F: Blocks>(
     ending
 }
 
-/// Opens the devices of a machine, and runs it.
-fn start_machine<S: Source, O: Sink, M: Sink, P: Blocks, F: Blocks>(
-    alloc: Global,
-    held: &mut Held,
-    len: usize,
-    machine: Machine,
-    kept: &mut Kept,
-    source: &mut S,
-    out: &mut O,
-    moves: &mut M,
-    paging: &mut P,
-    files: &mut F,
-) -> Ending
-    requires line { HoldsMachine held.old len machine }
-    requires room { length kept.old + 256 ≤ 65536 }
-    ensures ends { ComesTo held.old
-        (setting S.Source O.Sink M.Sink P.Blocks F.Blocks
-        source.old out.old kept.old moves.old paging.old files.old)
-        (setting S.Source O.Sink M.Sink P.Blocks F.Blocks
-        source.new out.new kept.new moves.new paging.new files.new) result }
-    ensures form { result ≢ Ending.Usage }
-{
-    match open_devices(machine, paging, files) {
-        Ok(()) => {
-            run_machine(
-                alloc, held, len, machine, kept, source, out, moves, paging, files,
-            )
-        }
-        Err(ending) => ending,
-    }
-}
-
-/// Decides the first line, and all that follow.
-fn decide_first<S: Source, O: Sink, M: Sink, P: Blocks, F: Blocks>(
-    alloc: Global,
-    held: &mut Held,
-    len: usize,
-    kept: &mut Kept,
-    source: &mut S,
-    out: &mut O,
-    moves: &mut M,
-    paging: &mut P,
-    files: &mut F,
-) -> Ending
-    requires line { HoldsLine held.old len }
-    requires room { length kept.old + 256 ≤ 65536 }
-    ensures ends { ComesTo held.old
-        (setting S.Source O.Sink M.Sink P.Blocks F.Blocks
-        source.old out.old kept.old moves.old paging.old files.old)
-        (setting S.Source O.Sink M.Sink P.Blocks F.Blocks
-        source.new out.new kept.new moves.new paging.new files.new) result }
-    ensures form { result ≢ Ending.Usage }
-{
-    let event = match read_first(&held.bytes()[..len]) {
-        Ok(event) => event,
-        Err(column) => return Ending::Script(1, column),
-    };
-    match &event {
-        Event::Machine(machine) => {
-            start_machine(
-                alloc, held, len, *machine, kept, source, out, moves, paging, files,
-            )
-        }
-        _ => unreachable!(),
-    }
-}
-
-/// Decides the lines of a source, and gives on or keeps their answers.
+/// Decides the lines of a source, and gives on or keeps their answers. Where the words of the run
+/// are no form, it comes to usage.
 pub(crate) fn decide_all<S: Source, O: Sink, M: Sink, P: Blocks, F: Blocks>(
     alloc: Global,
+    is_form: bool,
     kept: &mut Kept,
     source: &mut S,
     out: &mut O,
@@ -228,17 +159,31 @@ pub(crate) fn decide_all<S: Source, O: Sink, M: Sink, P: Blocks, F: Blocks>(
         source.old out.old kept.old moves.old paging.old files.old)
         (setting S.Source O.Sink M.Sink P.Blocks F.Blocks
         source.new out.new kept.new moves.new paging.new files.new) result }
-    ensures form { result ≢ Ending.Usage }
+    ensures form { is_form ≡ true → result ≢ Ending.Usage }
+    ensures no_form { (is_form ≡ true → ⊥) → result ≡ Ending.Usage }
 {
+    if !is_form {
+        return Ending::Usage;
+    }
     let mut held = Held::new();
-    match held.next(source) {
-        Ok(Found::Line(len)) => {
-            decide_first(
-                alloc, &mut held, len, kept, source, out, moves, paging, files,
+    let len = match next_line(&mut held, 0, source) {
+        Ok(len) => len,
+        Err(ending) => return ending,
+    };
+    let event = match read_first(&held.bytes()[..len]) {
+        Ok(event) => event,
+        Err(column) => return Ending::Script(1, column),
+    };
+    let machine = match &event {
+        Event::Machine(machine) => *machine,
+        _ => unreachable!(),
+    };
+    match open_devices(machine, paging, files) {
+        Ok(()) => {
+            run_machine(
+                alloc, &mut held, len, machine, kept, source, out, moves, paging, files,
             )
         }
-        Ok(Found::Long) => Ending::TooLong(1),
-        Ok(Found::End) => at_end(0, held.bytes().len()),
-        Err(_) => Ending::ReadFault,
+        Err(ending) => ending,
     }
 }

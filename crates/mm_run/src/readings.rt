@@ -1,9 +1,7 @@
 ghost use Rattle.std.specs.Prelude.{◌≡◌, ◌≤◌, ◌<◌, ◌+◌, ◌^◌, length, Ok, Err, IfOk, IfErr, OnOk, OnErr, MatchResult};
 ghost use Rattle.mm_types.specs.{Event};
 ghost use Rattle.mm_script.specs.{IsLine, IsWellFormed};
-ghost use Rattle.mm_run.specs.Story.{IsMisplaced};
-ghost use Rattle.mm_core.specs.{is_machine};
-ghost use Rattle.mm_run.specs.Reading.{reading_of, is_machine_word};
+ghost use Rattle.mm_run.specs.{IsLaterEvent, IsMisplaced, reading_of, is_machine_word};
 
 use mm_core::is_machine;
 use mm_script::{parse_into, parse_line, without_return};
@@ -51,7 +49,7 @@ pub(crate) fn later_event(line: &[u8], event: &mut Event) -> Result<(), u32>
     requires given { length line.now + 1 < 2 ^ 32 }
     ensures reads { MatchResult result (λ _. reading_of 1 line.now ≡ Ok event.new)
         (λ column. reading_of 1 line.now ≡ Err column) }
-    ensures well_formed { OnOk result (IsWellFormed event.new) }
+    ensures later { OnOk result (IsLaterEvent event.new) }
     ensures grammar { OnOk result (IsLine line.now event.new) }
     ensures refused { OnErr result ((e : Event) → IsLine line.now e → IsMisplaced 1 e) }
 {

@@ -1,16 +1,9 @@
-ghost use Rattle.std.specs.Prelude.{◌≡◌, ◌≢◌, ◌≤◌, ◌+◌, ◌⊎◌, true, ℕ, List, Some, [], length, ◌++◌};
+ghost use Rattle.std.specs.Prelude.{◌≡◌, ◌≢◌, ◌≤◌, ◌+◌, ◌⊎◌, true, ℕ, List, Some, length, ◌++◌};
 ghost use Rattle.mm_types.specs.{decimal};
 ghost use Rattle.mm_io.specs.{CountsFaults};
-ghost use Rattle.mm_run.specs.Script.{IsScriptOf, IsComplete, IsFault};
-ghost use Rattle.mm_run.specs.Story.{IsRunForm};
-ghost use Rattle.mm_run.specs.Ran.{RanOrRefused};
-ghost use Rattle.mm_run.specs.Texts.{WroteText, ToldText, last_text};
-ghost use Rattle.mm_run.specs.Closing.{Closed, is_over};
-ghost use Rattle.mm_run.specs.Faults.{IsAccounted};
+ghost use Rattle.mm_run.specs.{IsScriptOf, IsComplete, IsFault, IsRunForm, RanOrRefused, ToldText, last_text, Closed, is_over, IsAccounted, IsBulk};
+ghost use Rattle.mm_run.specs.{IsNoBulk, BulkRanOrRefused, counts_seen, open_failed, seen, sink_seen};
 ghost use Rattle.mm_make.specs.{script_of};
-ghost use Rattle.mm_run.specs.Bulk.{IsBulk, IsNoBulk, BulkRanOrRefused};
-ghost use Rattle.mm_run.specs.Settings.{ComesTo};
-ghost use Rattle.mm_run.specs.Seen.{counts_seen, open_failed, seen, setting, sink_seen};
 
 use crate::answers::Kept;
 use crate::bulk::bulk;
@@ -56,15 +49,15 @@ fn spell_last(ending: Ending) -> LineBuf
     text
 }
 
-/// Writes one text and then another.
-fn write_both<O: Sink>(out: &mut O, first: &[u8], second: &[u8]) -> Result<(), Failed>
-    ensures wrote { WroteText result (O.taken out.old) (O.taken out.new) (first.now ++ second.now) }
+/// Writes one text and then another, and has the sink give all on.
+pub(crate) fn write_both<O: Sink>(out: &mut O, first: &[u8], second: &[u8]) -> Result<(), Failed>
+    ensures told { ToldText result (O.taken out.old) (O.taken out.new) (O.given out.new)
+        (first.now ++ second.now) }
     ensures cause { CountsFaults (O.faults out.old) (O.faults out.new) result }
 {
-    match write_all(out, first) {
-        Ok(()) => write_all(out, second),
-        Err(e) => Err(e),
-    }
+    write_all(out, first)?;
+    write_all(out, second)?;
+    out.flush()
 }
 
 /// Writes the answers that are kept and the last text, and has the sink give all on.
@@ -74,37 +67,7 @@ fn tell_end<O: Sink>(kept: &Kept, out: &mut O, ending: Ending) -> Result<(), Fai
     ensures cause { CountsFaults (O.faults out.old) (O.faults out.new) result }
 {
     let text = spell_last(ending);
-    match write_both(out, kept.bytes(), text.as_slice()) {
-        Ok(()) => out.flush(),
-        Err(e) => Err(e),
-    }
-}
-
-/// What a run comes to. Where its words are no form, to usage.
-fn come_to<S: Source, O: Sink, M: Sink, P: Blocks, F: Blocks>(
-    alloc: Global,
-    is_form: bool,
-    kept: &mut Kept,
-    source: &mut S,
-    out: &mut O,
-    moves: &mut M,
-    paging: &mut P,
-    files: &mut F,
-) -> Ending
-    requires room { length kept.old + 256 ≤ 65536 }
-    ensures ends { ComesTo []
-        (setting S.Source O.Sink M.Sink P.Blocks F.Blocks
-        source.old out.old kept.old moves.old paging.old files.old)
-        (setting S.Source O.Sink M.Sink P.Blocks F.Blocks
-        source.new out.new kept.new moves.new paging.new files.new) result }
-    ensures form { is_form ≡ true → result ≢ Ending.Usage }
-    ensures no_form { (is_form ≡ true → ⊥) → result ≡ Ending.Usage }
-{
-    if is_form {
-        decide_all(alloc, kept, source, out, moves, paging, files)
-    } else {
-        Ending::Usage
-    }
+    write_both(out, kept.bytes(), text.as_slice())
 }
 
 /// Whether a sink has failed: nothing more is asked of it then, nor of the other one.
@@ -159,7 +122,7 @@ fn run_lines<S: Source, O: Sink, M: Sink, P: Blocks, F: Blocks>(
         Ok(kept) => kept,
         Err(NoMemory) => return Ending::NoMemory.status(),
     };
-    let ending = come_to(alloc, is_form, &mut kept, source, out, moves, paging, files);
+    let ending = decide_all(alloc, is_form, &mut kept, source, out, moves, paging, files);
     close(moves, &kept, out, ending)
 }
 
@@ -223,17 +186,12 @@ pub fn run<S: Source, O: Sink, M: Sink, P: Blocks, F: Blocks>(
         (counts_seen S.Source O.Sink M.Sink source.old out.old moves.old)
         (counts_seen S.Source O.Sink M.Sink source.new out.new moves.new) }
 {
-    let form = match words_form(alloc, words) {
-        Ok(form) => form,
-        Err(NoMemory) => return Ending::NoMemory.status(),
-    };
-    match form {
-        Some(form) => match form {
-            WordsForm::Bulk { seed, count } => {
-                bulk(alloc, seed, count, out, moves, paging, files)
-            }
-            WordsForm::Run => run_lines(alloc, true, source, out, moves, paging, files),
-        },
-        None => run_lines(alloc, false, source, out, moves, paging, files),
+    match words_form(alloc, words) {
+        Ok(Some(WordsForm::Bulk { seed, count })) => {
+            bulk(alloc, seed, count, out, moves, paging, files)
+        }
+        Ok(Some(WordsForm::Run)) => run_lines(alloc, true, source, out, moves, paging, files),
+        Ok(None) => run_lines(alloc, false, source, out, moves, paging, files),
+        Err(NoMemory) => Ending::NoMemory.status(),
     }
 }

@@ -2,7 +2,7 @@
 use Rattle.std.proofs.Common.{◌≡◌, ◌⊎◌, List, [], ◌∷◌, Option, Some, None, Result, Ok, Err, refl, sym, ap, ◌∙◌, inl, inr}
 use Rattle.mm_types.specs.{Text}
 use Rattle.mm_text.specs.Word.{Word}
-use Rattle.mm_script.specs.{LineFault, fault_at, ◌>>=◌, Rest, rest_behind, word_read, first_read, word_as, ends_at, ended}
+use Rattle.mm_script.specs.{LineFault, fault_at, ◌>>=◌, Rest, rest_behind, word_read, first_read, word_as, ends_at, ended_words}
 
 pub bind_ok : {A B : Type 0} (r : Result A LineFault) (f : A → Result B LineFault) (y : B) → (r >>= f) ≡ Ok y → (x : A) × (r ≡ Ok x) × (f x ≡ Ok y)
 bind_ok (Ok x) f y h = (x, refl, h)
@@ -56,8 +56,8 @@ unfolding word_as
 word_again reads rest x w ws l e = ap (first_read reads rest) l ∙ ap (λ o. word_read o rest w ws) e
 
 -- where a line ends, or the word that is too many
-pub ended_ok : (rest : Rest) (u : Unit {0}) → ended rest ≡ Ok u → rest.left ≡ []
-unfolding ended
+pub ended_ok : (rest : Rest) (u : Unit {0}) → ended_words rest ≡ Ok u → rest.left ≡ []
+unfolding ended_words
 ended_ok rest u h = at rest.left refl h where
   at : (ws : List Word) → rest.left ≡ ws → ends_at rest ws ≡ Ok u → rest.left ≡ []
   at [] l h = l
@@ -70,10 +70,10 @@ more_at : (rest : Rest) (f : LineFault) (ws : List Word) → rest.left ≡ ws �
 more_at rest f [] l h = cc
 more_at rest f (w ∷ ws) l h = More w ws l (sym (cc))
 
-pub ended_err : (rest : Rest) (f : LineFault) → ended rest ≡ Err f → IsMore rest f
-unfolding ended
+pub ended_err : (rest : Rest) (f : LineFault) → ended_words rest ≡ Err f → IsMore rest f
+unfolding ended_words
 ended_err rest f h = more_at rest f rest.left refl h
 
-pub ended_again : (rest : Rest) → rest.left ≡ [] → ended rest ≡ Ok tt
-unfolding ended
+pub ended_again : (rest : Rest) → rest.left ≡ [] → ended_words rest ≡ Ok tt
+unfolding ended_words
 ended_again rest l = ap (ends_at rest) l

@@ -7,9 +7,9 @@ use Rattle.std.proofs.lemmas.Option.{cond_some}
 use Rattle.mm_types.specs.{Text, Event}
 use Rattle.mm_text.specs.{number_of}
 use Rattle.mm_script.specs.{LineFault, Keyword, are_joined, read, Number, AnyNumber, PidNumber, TidNumber, FlagNumber, End, Then, ReadOrWrite, within}
-use Rattle.mm_script.specs.{number_in, pid_from, tid_from, flag_from, shape_of, joint_fault, Rest, word_as, ended, ◌>>=◌, Makes, make_of, event_in}
-use Rattle.mm_script.specs.{line_of, Range, leading, behind, with_numbers, numbers_as, numbers_in, is_end, is_free, is_plain, IfTrue, ranges_of}
-use Rattle.mm_script.specs.{whole_of, made_with}
+use Rattle.mm_script.specs.{number_in, pid_from, tid_from, flag_from, shape_of, joint_fault, Rest, word_as, ended_words, ◌>>=◌, MakesFromValues}
+use Rattle.mm_script.specs.{make_of, event_in, line_of, Range, leading, behind, with_numbers, numbers_as, numbers_in, is_end, is_free, is_plain}
+use Rattle.mm_script.specs.{IfTrue, ranges_of, whole_of, made_with}
 use Rattle.mm_script.specs.Shape.{Shape}
 use Rattle.mm_script.proofs.Binds.{bind_ok}
 use Rattle.mm_script.proofs.Narrowed.{mapped, as_number}
@@ -50,13 +50,13 @@ kept (r ∷ rs) i j ns ms rest later before h =
     kept rs i (j + 1) (set ns j p.0.0) ms p.0.1 later (omega arith) p.2 ∙ get_or-set_other ns j i p.0.0 0 other
 
 -- what is read once the numbers are, written from a place on
-abbrev by_numbers : (k : Keyword) (s : Shape) → Makes s Event → ℕ → List ℕ → Rest → Result Event LineFault
+abbrev by_numbers : (k : Keyword) (s : Shape) → MakesFromValues s Event → ℕ → List ℕ → Rest → Result Event LineFault
 by_numbers k s make i ns rest = numbers_as (leading s) i ns rest >>= λ y. event_in k (behind s) (with_numbers s make y.0 i) y.1
 
 abbrev IsRead : Keyword → Shape → Type 0
-IsRead k s = (make : Makes s Event) (i : ℕ) (ns : List ℕ) (rest : Rest) → i + length (leading s) ≤ length ns → event_in k s make rest ≡ by_numbers k s make i ns rest
+IsRead k s = (make : MakesFromValues s Event) (i : ℕ) (ns : List ℕ) (rest : Rest) → i + length (leading s) ≤ length ns → event_in k s make rest ≡ by_numbers k s make i ns rest
 
-module _ {A : Type 0} (k : Keyword) (s : Shape) (later : IsRead k s) (g : ℕ → A) (make : A → Makes s Event) (i : ℕ) (ns : List ℕ) (room : i + 1 + length (leading s) ≤ length ns) where
+module _ {A : Type 0} (k : Keyword) (s : Shape) (later : IsRead k s) (g : ℕ → A) (make : A → MakesFromValues s Event) (i : ℕ) (ns : List ℕ) (room : i + 1 + length (leading s) ≤ length ns) where
   abbrev after_number : ℕ → (List ℕ × Rest) → Result Event LineFault
   after_number n y = event_in k (behind s) (with_numbers s (make (g n)) y.0 (i + 1)) y.1
 
@@ -85,12 +85,12 @@ by_leading k s make i ns rest h = refl
 
 -- where no word is left behind the numbers, or one too many
 module _ (k : Keyword) (rest : Rest) where
-  end_fault : (s : Shape) (make : Makes s Event) (f : LineFault) → is_end s ≡ true → ended rest ≡ Err f → event_in k s make rest ≡ Err f
+  end_fault : (s : Shape) (make : MakesFromValues s Event) (f : LineFault) → is_end s ≡ true → ended_words rest ≡ Err f → event_in k s make rest ≡ Err f
   end_fault End make f t h = ap (λ r. r >>= λ _. cond (are_joined make) (Ok make) (Err (joint_fault k rest.last rest.number))) h
   end_fault (Then kind s) make f t h = cc
   end_fault (ReadOrWrite s t) make f e h = cc
 
-  end_made : (s : Shape) (make : Makes s Event) (e : Event) → ended rest ≡ Ok tt → whole_of s make ≡ Some e → event_in k s make rest ≡ Ok e
+  end_made : (s : Shape) (make : MakesFromValues s Event) (e : Event) → ended_words rest ≡ Ok tt → whole_of s make ≡ Some e → event_in k s make rest ≡ Ok e
   end_made End make e h w =
       let p = cond_some (are_joined make) make e w in
       ap (λ r. r >>= λ _. cond (are_joined make) (Ok make) (Err (joint_fault k rest.last rest.number))) h
@@ -117,10 +117,10 @@ module _ (k : Keyword) (rs : List Range) (old : Rest) (plain : is_plain k ≡ tr
 
   module _ (ns : List ℕ) (mid : Rest) (numbers : numbers_in rs old ≡ Ok (ns, mid)) where
     -- a word too many
-    pub end_missed : (f : LineFault) → Err f ≡ ended mid → line_of k old ≡ Err f
+    pub end_missed : (f : LineFault) → Err f ≡ ended_words mid → line_of k old ≡ Err f
     end_missed f h = after (Ok (ns, mid)) numbers ∙ end_fault k mid (behind (shape_of k)) (with_numbers (shape_of k) (make_of k) ns 0) f (and_parts (is_end (behind (shape_of k))) (is_free k) plain).0 (sym h)
 
-    pub numbers_made : (e : Event) → Ok tt ≡ ended mid → IfTrue (is_plain k) (made_with k ns ≡ Some e) → line_of k old ≡ Ok e
+    pub numbers_made : (e : Event) → Ok tt ≡ ended_words mid → IfTrue (is_plain k) (made_with k ns ≡ Some e) → line_of k old ≡ Ok e
     numbers_made e h made = after (Ok (ns, mid)) numbers ∙ end_made k mid (behind (shape_of k)) (with_numbers (shape_of k) (make_of k) ns 0) e (sym h) (given (made_with k ns ≡ Some e) made)
 
 -- one number more

@@ -5,8 +5,8 @@ use Rattle.std.specs.List.{list_all}
 use Rattle.std.proofs.lemmas.Bool.{eqb-true, ltb-true, leb-true, and_parts, false≢true}
 use Rattle.std.proofs.lemmas.Option.{cond_some, same_Some}
 use Rattle.mm_types.specs.{Text}
-use Rattle.mm_text.specs.{digit_value, digits_in, are_digits, hex_digits, limited, number_in, number_of, pair_of, byte_before, pairs_of, few_bytes}
-use Rattle.mm_text.specs.{bytes_of, is_letter, is_name_byte, is_name, name_of}
+use Rattle.mm_text.specs.{digit_value, digits_in, are_digits, hex_digits, limited, number_of_form, number_of, pair_of, byte_before, pairs_of}
+use Rattle.mm_text.specs.{few_bytes, bytes_of_pairs, is_letter, is_name_byte, is_name, name_of}
 use Rattle.mm_script.proofs.Joined.{is_plain, IsPlain}
 
 -- what was read was made of parts that were
@@ -59,12 +59,12 @@ plain_hex (a ∷ b ∷ cs) ds h p =
     let q = and_parts (eqb a 0x30) (eqb b 0x78) t.0 in
     (plain_by (λ c. eqb c 0x30) refl refl a q.0, (plain_by (λ c. eqb c 0x78) refl refl b q.1, subst IsPlain (sym t.1) p))
 
-plain_number_in : (cs : Text) (o : Option Text) (n : ℕ) → hex_digits cs ≡ o → number_in cs o ≡ Some n → IsPlain cs
+plain_number_in : (cs : Text) (o : Option Text) (n : ℕ) → hex_digits cs ≡ o → number_of_form cs o ≡ Some n → IsPlain cs
 plain_number_in cs None n e h = plain_digits 10 10 cs n refl h
 plain_number_in cs (Some ds) n e h = plain_hex cs ds e (plain_digits 16 8 ds n refl h)
 
 pub plain_number : (cs : Text) (n : ℕ) → number_of cs ≡ Some n → IsPlain cs
-plain_number cs n h = plain_number_in cs (hex_digits cs) n refl (limited_some (number_in cs (hex_digits cs)) n h).0
+plain_number cs n h = plain_number_in cs (hex_digits cs) n refl (limited_some (number_of_form cs (hex_digits cs)) n h).0
 
 plain_pairs : (cs : Text) (bs : List ℕ) → pairs_of cs ≡ Some bs → IsPlain cs
 plain_pairs [] bs h = tt
@@ -75,7 +75,7 @@ plain_pairs (c ∷ d ∷ cs) bs h =
     let q = and_parts (nat_lt (digit_value c) 16) (nat_lt (digit_value d) 16) t in
     (plain_by (λ x. nat_lt (digit_value x) 16) refl refl c q.0, (plain_by (λ x. nat_lt (digit_value x) 16) refl refl d q.1, plain_pairs cs p.1 p.3))
 
-pub plain_bytes : (cs : Text) (bs : List ℕ) → bytes_of cs ≡ Some bs → IsPlain cs
+pub plain_bytes : (cs : Text) (bs : List ℕ) → bytes_of_pairs cs ≡ Some bs → IsPlain cs
 plain_bytes cs bs h = plain_pairs cs bs (few_some (pairs_of cs) bs h).0
 
 plain_named : (cs : Text) → is_name cs ≡ true → IsPlain cs

@@ -5,13 +5,13 @@ use Rattle.std.specs.List.{AllByRecursion}
 use Rattle.std.proofs.lemmas.Bool.{ltb-true, and_parts}
 use Rattle.std.proofs.lemmas.Option.{cond_some}
 use Rattle.mm_types.specs.{Text, Event}
-use Rattle.mm_text.specs.{digit_value, hex_digits, number_in, number_of, pair_of, pairs_of, is_name, name_of}
+use Rattle.mm_text.specs.{digit_value, hex_digits, number_of_form, number_of, pair_of, pairs_of, is_name, name_of}
 use Rattle.mm_script.specs.{Exactly, Decimal, Hex, Bytes, Named, NamedOrDash, Spells, EachSpells, fields_of, IsLine, IsByte, IsInRange, IsWellFormed}
 use Rattle.mm_script.specs.Field.{Field}
 use Rattle.mm_script.proofs.Plain.{limited_some, before_some, few_some}
 
 pub number_below : (w : Text) (n : ℕ) → number_of w ≡ Some n → n < 2 ^ 32
-number_below w n h = (limited_some (number_in w (hex_digits w)) n h).1
+number_below w n h = (limited_some (number_of_form w (hex_digits w)) n h).1
 
 pair_below : (c d b : ℕ) → pair_of c d ≡ Some b → b < 256
 pair_below c d b h =

@@ -12,7 +12,7 @@ use Rattle.mm_text.specs.{number_of, name_of, is_letter}
 use Rattle.mm_script.specs.{Exactly, Decimal, Hex, Bytes, Named, NamedOrDash, Spells, EachSpells, pid_field, tid_field, flag_field, device_field}
 use Rattle.mm_script.specs.{direction_field, Kind, Number, AnyNumber, PidNumber, TidNumber, FlagNumber, ByteWord, NameWord, NameOrDash, DeviceWord}
 use Rattle.mm_script.specs.{DirectionWord, Value, within, number_in, pid_from, tid_from, flag_from, name_or_dash, device_of, direction_of, read, End}
-use Rattle.mm_script.specs.{Then, ReadOrWrite, Makes}
+use Rattle.mm_script.specs.{Then, ReadOrWrite, MakesFromValues}
 use Rattle.mm_script.specs.Field.{Field}
 use Rattle.mm_script.specs.Shape.{Shape}
 use Rattle.mm_script.proofs.Joined.{IsPlain, ArePlain}
@@ -37,7 +37,7 @@ Values End = Unit {0}
 Values (Then k s) = Value k × Values s
 Values (ReadOrWrite s t) = Values s ⊎ Values t
 
-abbrev pub made_of : {A : Type 0} (s : Shape) → Makes s A → Values s → A
+abbrev pub made_of : {A : Type 0} (s : Shape) → MakesFromValues s A → Values s → A
 made_of End make vs = make
 made_of (Then k s) make vs = made_of s (make vs.0) vs.1
 made_of (ReadOrWrite s t) make (inl vs) = made_of s make.0 vs

@@ -6,7 +6,7 @@ use Rattle.mm_types.specs.{Text, Direction, Event}
 use Rattle.mm_types.specs.declared.devices.Direction.TheVariants as direction
 use Rattle.mm_text.specs.Word.{Word}
 use Rattle.mm_script.specs.{LineFault, Keyword, Spells, EachSpells, are_joined, DirectionWord, read, End, Then, ReadOrWrite, fault_at, joint_fault}
-use Rattle.mm_script.specs.{first_fault, ◌>>=◌, Rest, rest_behind, word_as, ended, Makes, by_direction, event_in}
+use Rattle.mm_script.specs.{first_fault, ◌>>=◌, Rest, rest_behind, word_as, ended_words, MakesFromValues, by_direction, event_in}
 use Rattle.mm_script.specs.Field.{Field}
 use Rattle.mm_script.specs.Shape.{Shape}
 use Rattle.mm_script.proofs.Binds.{bind_ok, bind_err, IsRead, Missing, Bad, word_ok, word_err, word_again, ended_ok, More, ended_err, ended_again}
@@ -14,7 +14,7 @@ use Rattle.mm_script.proofs.Joined.{texts}
 use Rattle.mm_script.proofs.Shapes.{Values, made_of, field_for, fields_for, spells_read, read_spells}
 
 -- these values were read, and they make the event
-pub record IsMade (s : Shape) (make : Makes s Event) (ws : List Text) (e : Event) : Type 0 where
+pub record IsMade (s : Shape) (make : MakesFromValues s Event) (ws : List Text) (e : Event) : Type 0 where
   pub values : Values s
   pub spelled : EachSpells ws (fields_for s values)
   pub made : made_of s make values ≡ e
@@ -32,9 +32,9 @@ pub spelled_on : {A : Type 0} (reads : Text → Option A) (rest later : Rest) (x
 spelled_on reads rest later x f fs r s each =
     subst (λ (ws : List Word). EachSpells (texts ws) (f ∷ fs)) (sym r.left) (s, subst (λ (y : Rest). EachSpells (texts y.left) fs) r.left_then each)
 
-pub event_ok : (k : Keyword) (s : Shape) (make : Makes s Event) (rest : Rest) (e : Event) → event_in k s make rest ≡ Ok e → IsMade s make (texts rest.left) e
+pub event_ok : (k : Keyword) (s : Shape) (make : MakesFromValues s Event) (rest : Rest) (e : Event) → event_in k s make rest ≡ Ok e → IsMade s make (texts rest.left) e
 event_ok k End make rest e h =
-    let p = bind_ok (ended rest) _ e h in
+    let p = bind_ok (ended_words rest) _ e h in
     let q = tested_ok make e (joint_fault k rest.last rest.number) (are_joined make) refl p.2 in
     record { values = tt; spelled = none_left rest (ended_ok rest p.0 p.1); made = q.0; joined = q.1 }
 event_ok k (Then kind s) make rest e h =
@@ -70,7 +70,7 @@ event_ok k (ReadOrWrite s t) make rest e h =
     ] r p.2
 
 -- words that spell the values of an event are read as it
-pub event_again : (k : Keyword) (s : Shape) (make : Makes s Event) (vs : Values s) (rest : Rest) (ws : List Word) → rest.left ≡ ws → EachSpells (texts ws) (fields_for s vs) → are_joined (made_of s make vs) ≡ true → event_in k s make rest ≡ Ok (made_of s make vs)
+pub event_again : (k : Keyword) (s : Shape) (make : MakesFromValues s Event) (vs : Values s) (rest : Rest) (ws : List Word) → rest.left ≡ ws → EachSpells (texts ws) (fields_for s vs) → are_joined (made_of s make vs) ≡ true → event_in k s make rest ≡ Ok (made_of s make vs)
 event_again k End make vs rest [] l h j =
     ap (λ r. r >>= λ _. cond (are_joined make) (Ok make) (Err (joint_fault k rest.last rest.number))) (ended_again rest l)
     ∙ cond-true (are_joined make) (Ok make) (Err (joint_fault k rest.last rest.number)) j
@@ -119,8 +119,8 @@ chosen_write : (word : Text) (x y z : LineFault) → read DirectionWord word ≡
 chosen_write word x y z h = ap (λ t. choice t x y z) (spells_read DirectionWord direction.Write word h)
 
 -- a fault that is told is the first
-pub event_err : (k : Keyword) (s : Shape) (make : Makes s Event) (rest : Rest) (f : LineFault) → event_in k s make rest ≡ Err f → f ≡ fault_left k s rest
-event_err k End make rest f h = elim (bind_err (ended rest) _ f h) [
+pub event_err : (k : Keyword) (s : Shape) (make : MakesFromValues s Event) (rest : Rest) (f : LineFault) → event_in k s make rest ≡ Err f → f ≡ fault_left k s rest
+event_err k End make rest f h = elim (bind_err (ended_words rest) _ f h) [
   | inl e ↦ elim (ended_err rest f e) [ More w ws l p ↦ at_word k End rest (w ∷ ws) f l p ]
   | inr p ↦ at_word k End rest [] f (ended_ok rest p.0 p.1) (sym (tested_err (are_joined make) make (joint_fault k rest.last rest.number) f p.2))
 ]

@@ -33,6 +33,6 @@ pub record TakesWord (old : Rest) (text : Text) (new : Rest) : Type 0 where
   pub number : new.number ≡ old.number + 1
 
 -- the next word, or the fault after the line's end
-abbrev pub Takes : Rest → Result (Bor Text) LineFault → Rest → Type 0
-Takes old result new = MatchResult result (λ w. TakesWord old w.now new) (λ f. (old.left ≡ []) ×
+abbrev pub TakesNextWord : Rest → Result (Bor Text) LineFault → Rest → Type 0
+TakesNextWord old result new = MatchResult result (λ w. TakesWord old w.now new) (λ f. (old.left ≡ []) ×
     (f ≡ fault_at old.end old.number))

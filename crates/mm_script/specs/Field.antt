@@ -2,7 +2,7 @@
 -- Profile, "Script".
 use Rattle.std.specs.Prelude.{◌≡◌, ℕ, ◌≤◌, List, [], ◌∷◌, Option, Some, None, codes}
 use Rattle.mm_types.specs.{Text}
-use Rattle.mm_text.specs.{number_of, bytes_of, name_of}
+use Rattle.mm_text.specs.{number_of, bytes_of_pairs, name_of}
 
 pub data Field : Type 0 where
   Exactly : (text : Text) → Field  -- this very word
@@ -18,7 +18,7 @@ abbrev pub Spells : Text → Field → Type 0
 Spells word (Exactly text) = word ≡ text
 Spells word (Decimal least most n) = (number_of word ≡ Some n) × (least ≤ n) × (n ≤ most)
 Spells word (Hex n) = number_of word ≡ Some n
-Spells word (Bytes bytes) = bytes_of word ≡ Some bytes
+Spells word (Bytes bytes) = bytes_of_pairs word ≡ Some bytes
 Spells word (Named name) = name_of word ≡ Some name
 Spells word (NamedOrDash None) = word ≡ codes "-"
 Spells word (NamedOrDash (Some name)) = name_of word ≡ Some name

@@ -11,7 +11,7 @@ pub mod Numbers
 pub mod Cursor
 pub use Field.{Bytes, Decimal, EachSpells, Exactly, Hex, Named, NamedOrDash, Spells}
 pub use Grammar.{IsLine, IsText, are_joined, device_field, direction_field, fields_of, flag_field}
-pub use Grammar.{pid_field, tid_field}
+pub use Grammar.{lies_in_page, pid_field, tid_field}
 pub use Printed.{IsByte, IsInRange, IsWellFormed, print, printed, spaced_words}
 pub use Pieces.{room, shown}
 pub use Keywords.{keyword_among, keywords, text_of}
@@ -23,9 +23,9 @@ pub use Shape.{direction_of, flag_from, name_or_dash, pid_from, shape_of, tid_fr
 unfoldable pub use Shape.{number_in, read}
 pub use Place.{fault_among, fault_at, fault_behind, fault_place, first_fault, joint_fault}
 unfoldable pub use Place.{without_return}
-pub use Reading.{Gives, IsPut, Makes, Rest, by_direction, ends_at, event_in, first_read, make_of}
-pub use Reading.{rest_behind, whole_line, word_read, ◌>>=◌}
-unfoldable pub use Reading.{ended, line_of, parse, word_as}
+pub use Reading.{Gives, IsPut, MakesFromValues, Rest, by_direction, ends_at, event_in, first_read}
+pub use Reading.{make_of, rest_behind, whole_line, word_read, ◌>>=◌}
+unfoldable pub use Reading.{ended_words, line_of, parse, word_as}
 pub use Numbers.{IfTrue, behind, is_end, is_free, is_plain, leading, made_with, numbers_as}
 pub use Numbers.{numbers_in, ranges_of, whole_of, with_numbers}
 pub use Cursor.{TakesWord, rest_of, word_from}

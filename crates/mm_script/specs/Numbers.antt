@@ -8,7 +8,7 @@ use Rattle.mm_script.specs.declared.keywords.Keyword.{Keyword}
 use Rattle.mm_script.specs.declared.keywords.Keyword.TheVariants as keyword
 use Rattle.mm_script.specs.Grammar.{are_joined}
 use Rattle.mm_script.specs.Shape.{read, Number, AnyNumber, PidNumber, TidNumber, FlagNumber, Shape, End, Then, pid_from, tid_from, flag_from, shape_of}
-use Rattle.mm_script.specs.Reading.{Rest, word_as, ◌>>=◌, Makes, make_of}
+use Rattle.mm_script.specs.Reading.{Rest, word_as, ◌>>=◌, MakesFromValues, make_of}
 
 abbrev pub from_to : ℕ → ℕ → Range
 from_to least most = record { 0 = least; 1 = most }
@@ -32,7 +32,7 @@ behind (Then FlagNumber s) = behind s
 behind s = s
 
 -- what is made of these numbers, from a place on
-abbrev pub with_numbers : (s : Shape) → Makes s Event → List ℕ → ℕ → Makes (behind s) Event
+abbrev pub with_numbers : (s : Shape) → MakesFromValues s Event → List ℕ → ℕ → MakesFromValues (behind s) Event
 with_numbers (Then (Number least most) s) make ns i =
     with_numbers s (make (slice_index_or ns i 0)) ns (i + 1)
 with_numbers (Then AnyNumber s) make ns i =
@@ -57,8 +57,8 @@ abbrev pub numbers_in : List Range → Rest → Result (List ℕ × Rest) LineFa
 numbers_in rs rest = numbers_as rs 0 (0 ∷ 0 ∷ 0 ∷ 0 ∷ 0 ∷ 0 ∷ []) rest
 
 -- What a function wrote, and what is left, is what reading gives.
-abbrev pub PutsNumbers : Result (Unit {0}) LineFault → List ℕ → Rest → Result (List ℕ × Rest) LineFault →
-    Type 0
+abbrev pub PutsNumbers : Result (Unit {0}) LineFault → List ℕ → Rest →
+    Result (List ℕ × Rest) LineFault → Type 0
 PutsNumbers (Ok _) ns new read = read ≡ Ok (ns, new)
 PutsNumbers (Err f) ns new read = read ≡ Err f
 
@@ -84,7 +84,7 @@ abbrev pub ranges_of : Keyword → List Range
 ranges_of k = leading (shape_of k)
 
 -- the event that is made where nothing is left
-abbrev pub whole_of : (s : Shape) → Makes s Event → Option Event
+abbrev pub whole_of : (s : Shape) → MakesFromValues s Event → Option Event
 whole_of End make = if are_joined make then Some make else None
 whole_of _ make = None
 

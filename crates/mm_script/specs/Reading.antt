@@ -57,23 +57,23 @@ ends_at rest [] = Ok tt
 ends_at rest (w ∷ ws) = Err (fault_at w.from rest.number)
 
 -- no word is left, or the fault stands at the next
-unfoldable pub ended : Rest → Result (Unit {0}) LineFault
-ended rest = ends_at rest rest.left
+unfoldable pub ended_words : Rest → Result (Unit {0}) LineFault
+ended_words rest = ends_at rest rest.left
 
 -- a function of the values of words
-abbrev pub Makes : Shape → Type 0 → Type 0
-Makes End A = A
-Makes (Then k s) A = Value k → Makes s A
-Makes (ReadOrWrite s t) A = Makes s A × Makes t A
+abbrev pub MakesFromValues : Shape → Type 0 → Type 0
+MakesFromValues End A = A
+MakesFromValues (Then k s) A = Value k → MakesFromValues s A
+MakesFromValues (ReadOrWrite s t) A = MakesFromValues s A × MakesFromValues t A
 
 abbrev pub by_direction : {A : Type 0} → Direction → A → A → A
 by_direction direction.Read x y = x
 by_direction direction.Write x y = y
 
 -- the words of a shape, and the event that is made of their values
-abbrev pub event_in : Keyword → (s : Shape) → Makes s Event → Rest → Result Event LineFault
+abbrev pub event_in : Keyword → (s : Shape) → MakesFromValues s Event → Rest → Result Event LineFault
 event_in k End event rest =
-    ended rest >>= λ _. if are_joined event then Ok event else
+    ended_words rest >>= λ _. if are_joined event then Ok event else
     Err (joint_fault k rest.last rest.number)
 event_in k (Then kind s) make rest = word_as (read kind) rest >>= λ x. event_in k s (make x.0) x.1
 event_in k (ReadOrWrite s t) make rest =
@@ -81,7 +81,7 @@ event_in k (ReadOrWrite s t) make rest =
     by_direction x.0 (event_in k s make.0 x.1) (event_in k t make.1 x.1)
 
 -- the event of the values that stand after a keyword
-abbrev pub make_of : (k : Keyword) → Makes (shape_of k) Event
+abbrev pub make_of : (k : Keyword) → MakesFromValues (shape_of k) Event
 make_of keyword.Machine = λ frames slots depth blocks. line.Machine (record {
   frames = frames;
   slots = slots;

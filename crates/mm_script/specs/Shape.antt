@@ -4,7 +4,7 @@ use Rattle.std.specs.Prelude.{ℕ, Bool, nat_le, ◌&&◌, ◌==◌, if◌then�
 use Rattle.mm_types.specs.{Text, Pid, Tid, Device, Direction}
 use Rattle.mm_types.specs.declared.devices.Device.TheVariants as device
 use Rattle.mm_types.specs.declared.devices.Direction.TheVariants as direction
-use Rattle.mm_text.specs.{number_of, bytes_of, name_of}
+use Rattle.mm_text.specs.{number_of, bytes_of_pairs, name_of}
 use Rattle.mm_script.specs.declared.keywords.Keyword.{Keyword}
 use Rattle.mm_script.specs.declared.keywords.Keyword.TheVariants as keyword
 
@@ -69,7 +69,7 @@ read AnyNumber word = number_of word
 read PidNumber word = option_map pid_from (number_in 0 255 word)
 read TidNumber word = option_map tid_from (number_in 0 255 word)
 read FlagNumber word = option_map flag_from (number_in 0 1 word)
-read ByteWord word = bytes_of word
+read ByteWord word = bytes_of_pairs word
 read NameWord word = name_of word
 read NameOrDash word = name_or_dash word
 read DeviceWord word = device_of word

@@ -2,8 +2,8 @@ ghost use Rattle.std.specs.Prelude.{◌≡◌, ◌+◌, ◌-◌, ◌^◌, ◌<�
 ghost use Rattle.mm_script.specs.Shape.{read, Number, AnyNumber, PidNumber, TidNumber, ByteWord, NameWord, NameOrDash, DeviceWord, DirectionWord};
 ghost use Rattle.mm_script.specs.Place.{fault_at};
 ghost use Rattle.mm_script.specs.Keywords.{keyword_of};
-ghost use Rattle.mm_script.specs.Reading.{word_as, ended, whole_line, Gives};
-ghost use Rattle.mm_script.specs.Cursor.{Takes};
+ghost use Rattle.mm_script.specs.Reading.{word_as, ended_words, whole_line, Gives};
+ghost use Rattle.mm_script.specs.Cursor.{TakesNextWord};
 ghost use Rattle.mm_script.specs.Numbers.{numbers_in, PutsNumbers};
 
 use crate::keywords::Keyword;
@@ -62,7 +62,7 @@ impl<'a> Fields<'a> {
     #[inline(always)]
     fn next(&mut self) -> Result<&'a [u8], LineFault>
         requires few { self.old.number < MOST_WORDS }
-        ensures word { Takes self.old result self.new }
+        ensures word { TakesNextWord self.old result self.new }
         ensures counts { self.new.number ≡ self.old.number + 1 }
     {
         let line = self.line;
@@ -90,9 +90,9 @@ impl<'a> Fields<'a> {
 
     /// That no word is left; the fault stands at the next one.
     #[inline(always)]
-    #[tactic(auto, unfolding(crate::specs::Reading::ended))]
+    #[tactic(auto, unfolding(crate::specs::Reading::ended_words))]
     pub fn end(&mut self) -> Result<(), LineFault>
-        ensures ended { result ≡ ended self.old }
+        ensures ended { result ≡ ended_words self.old }
         ensures same { OnOk result (self.new ≡ self.old) }
     {
         match self.words.next() {

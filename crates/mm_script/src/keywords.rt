@@ -62,10 +62,7 @@ impl Keyword {
 fn is_read(word: &[u8]) -> bool
     ensures { result ≡ bytes_eq word.now (codes "read") }
 {
-    match word {
-        b"read" => true,
-        _ => false,
-    }
+    matches!(word, b"read")
 }
 
 /// Whether a word is `write`.
@@ -73,10 +70,7 @@ fn is_read(word: &[u8]) -> bool
 fn is_write(word: &[u8]) -> bool
     ensures { result ≡ bytes_eq word.now (codes "write") }
 {
-    match word {
-        b"write" => true,
-        _ => false,
-    }
+    matches!(word, b"write")
 }
 
 /// The first of some keywords that a word is: one test after another, each with a text that is

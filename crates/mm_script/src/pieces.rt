@@ -56,39 +56,11 @@ fn put_piece(out: &mut LineBuf, piece: Piece)
         Piece::Hex(n) => put_hex_short(out, n),
         Piece::Bytes(bytes) => put_bytes(out, bytes.as_slice()),
         Piece::Name(name) => out.push_slice(name.as_slice()),
-        Piece::NameOrDash(name) => out.push_slice(name_or_dash(name)),
-        Piece::Device(device) => out.push_slice(device_word(device)),
-        Piece::Direction(direction) => out.push_slice(direction_word(direction)),
-    }
-}
-
-/// A name, or `-` for none.
-fn name_or_dash(name: &Option<Name>) -> &[u8]
-    ensures word { result.now ≡ print (NamedOrDash name.now) }
-    ensures few { length result.now ≤ 32 }
-{
-    match name {
-        Some(name) => name.as_slice(),
-        None => b"-",
-    }
-}
-
-fn device_word(device: Device) -> &'static [u8]
-    ensures word { result.now ≡ print (device_field device) }
-    ensures few { length result.now ≤ 6 }
-{
-    match device {
-        Device::Paging => b"paging",
-        Device::File => b"file",
-    }
-}
-
-fn direction_word(direction: Direction) -> &'static [u8]
-    ensures word { result.now ≡ print (direction_field direction) }
-    ensures few { length result.now ≤ 5 }
-{
-    match direction {
-        Direction::Read => b"read",
-        Direction::Write => b"write",
+        Piece::NameOrDash(Some(name)) => out.push_slice(name.as_slice()),
+        Piece::NameOrDash(None) => out.push_slice(b"-"),
+        Piece::Device(Device::Paging) => out.push_slice(b"paging"),
+        Piece::Device(Device::File) => out.push_slice(b"file"),
+        Piece::Direction(Direction::Read) => out.push_slice(b"read"),
+        Piece::Direction(Direction::Write) => out.push_slice(b"write"),
     }
 }

@@ -1,214 +1,89 @@
 ghost use Rattle.std.specs.Prelude.{◌≡◌, ◌≤◌, ◌++◌, [], length};
 ghost use Rattle.mm_types.specs.declared.events.Event.TheVariants as line;
-ghost use Rattle.mm_script.specs.Grammar.{IsLine};
-ghost use Rattle.mm_script.specs.Printed.{IsWellFormed, printed};
+ghost use Rattle.mm_script.specs.{IsLine, IsWellFormed, printed};
 
 use crate::pieces::Piece::{Bytes, Decimal, Device, Direction, Hex, Name, NameOrDash, Small};
 use crate::pieces::put_line;
 use mm_text::LineBuf;
 use mm_types::{AccessSpec, Direction as Way, Event, Pid, Tid};
 
+/// A row for each form of a line: its event, and what is printed of it, the keyword and the words
+/// behind it.
+macro_rules! print_as {
+    (
+        $out:expr, $event:expr,
+        $($form:pat => $keyword:literal $pieces:tt,)*
+        $(; $other:pat => $call:expr)?
+    ) => {
+        match $event {
+            $($form => put_line($out, $keyword, &$pieces),)*
+            $($other => $call,)?
+        }
+    };
+}
+
 fn print_begin(out: &mut LineBuf, tid: Tid, pid: Pid, access: &AccessSpec)
     requires { length out.old ≤ 96 }
     ensures { out.new ≡ out.old ++ printed (line.Begin tid pid access.now) }
 {
-    match access {
-        AccessSpec::Read { addr, len } => put_line(
-            out,
-            b"begin",
-            &[
-                Small(tid.0),
-                Small(pid.0),
-                Direction(Way::Read),
-                Hex(*addr),
-                Decimal(*len),
-            ],
-        ),
-        AccessSpec::Write { addr, bytes } => put_line(
-            out,
-            b"begin",
-            &[
-                Small(tid.0),
-                Small(pid.0),
-                Direction(Way::Write),
-                Hex(*addr),
-                Bytes(bytes),
-            ],
-        ),
-    }
+    print_as!(out, access,
+        AccessSpec::Read { addr, len } => b"begin"
+            [Small(tid.0), Small(pid.0), Direction(Way::Read), Hex(*addr), Decimal(*len)],
+        AccessSpec::Write { addr, bytes } => b"begin"
+            [Small(tid.0), Small(pid.0), Direction(Way::Write), Hex(*addr), Bytes(bytes)],
+    )
 }
 
 fn print(event: &Event, out: &mut LineBuf)
     requires { length out.old ≤ 96 }
     ensures { out.new ≡ out.old ++ printed event.now }
 {
-    match event {
-        Event::Machine(machine) => put_line(
-            out,
-            b"machine",
-            &[
-                Decimal(machine.frames()),
-                Decimal(machine.slots()),
-                Decimal(machine.depth()),
-                Decimal(machine.blocks()),
-            ],
-        ),
-        Event::Process { min, max } => put_line(out, b"process", &[Decimal(*min), Decimal(*max)]),
-        Event::Exit { pid } => put_line(out, b"exit", &[Small(pid.0)]),
-        Event::File { name, pages, byte } => put_line(
-            out,
-            b"file",
-            &[Name(name), Decimal(*pages), Small(*byte)],
-        ),
-        Event::Alloc {
-            pid,
-            addr,
-            size,
-            form,
-            prot,
-        } => put_line(
-            out,
-            b"alloc",
-            &[Small(pid.0), Hex(*addr), Hex(*size), Hex(*form), Hex(*prot)],
-        ),
-        Event::Free {
-            pid,
-            addr,
-            size,
-            form,
-        } => put_line(
-            out,
-            b"free",
-            &[Small(pid.0), Hex(*addr), Hex(*size), Hex(*form)],
-        ),
-        Event::Protect {
-            pid,
-            addr,
-            size,
-            prot,
-        } => put_line(
-            out,
-            b"protect",
-            &[Small(pid.0), Hex(*addr), Hex(*size), Hex(*prot)],
-        ),
-        Event::Query { pid, addr } => put_line(out, b"query", &[Small(pid.0), Hex(*addr)]),
-        Event::Create {
-            pid,
-            size,
-            flags,
-            name,
-        } => put_line(
-            out,
-            b"create",
-            &[Small(pid.0), Hex(*size), Hex(*flags), NameOrDash(name)],
-        ),
-        Event::CreateFile {
-            pid,
-            file,
-            flags,
-            name,
-        } => put_line(
-            out,
-            b"createfile",
-            &[Small(pid.0), Name(file), Hex(*flags), NameOrDash(name)],
-        ),
-        Event::Open { pid, name } => put_line(out, b"open", &[Small(pid.0), Name(name)]),
-        Event::Close { pid, handle } => put_line(out, b"close", &[Small(pid.0), Decimal(*handle)]),
-        Event::Map {
-            pid,
-            handle,
-            access,
-            offset,
-            length: len,
-            addr,
-        } => put_line(
-            out,
-            b"map",
-            &[
-                Small(pid.0),
-                Decimal(*handle),
-                Hex(*access),
-                Hex(*offset),
-                Hex(*len),
-                Hex(*addr),
-            ],
-        ),
-        Event::Unmap { pid, addr } => put_line(out, b"unmap", &[Small(pid.0), Hex(*addr)]),
-        Event::Flush { pid, addr, size } => put_line(
-            out,
-            b"flush",
-            &[Small(pid.0), Hex(*addr), Hex(*size)],
-        ),
-        Event::Read { pid, addr, len } => put_line(
-            out,
-            b"read",
-            &[Small(pid.0), Hex(*addr), Decimal(*len)],
-        ),
-        Event::Write { pid, addr, bytes } => put_line(
-            out,
-            b"write",
-            &[Small(pid.0), Hex(*addr), Bytes(bytes)],
-        ),
-        Event::Exec { pid, addr } => put_line(out, b"exec", &[Small(pid.0), Hex(*addr)]),
-        Event::Begin { tid, pid, access } => print_begin(out, *tid, *pid, access),
-        Event::Resume { tid } => put_line(out, b"resume", &[Small(tid.0)]),
-        Event::Io { index: i } => put_line(out, b"io", &[Decimal(*i)]),
-        Event::Trim { pid, count: n } => put_line(out, b"trim", &[Small(pid.0), Decimal(*n)]),
-        Event::Age { pid } => put_line(out, b"age", &[Small(pid.0)]),
-        Event::Writer { count: n } => put_line(out, b"writer", &[Decimal(*n)]),
-        Event::Zeroer { count: n } => put_line(out, b"zeroer", &[Decimal(*n)]),
-        Event::Fail {
-            device,
-            direction,
-            nth: k,
-            count: n,
-        } => put_line(
-            out,
-            b"fail",
-            &[
-                Device(*device),
-                Direction(*direction),
-                Decimal(*k),
-                Decimal(*n),
-            ],
-        ),
-        Event::Charge => put_line(out, b"charge", &[]),
-        Event::Counts => put_line(out, b"counts", &[]),
-        Event::Grow { slots: n } => put_line(out, b"grow", &[Decimal(*n)]),
-        Event::Watch {
-            pid,
-            reset: flag,
-            addr,
-            size,
-            count,
-        } => put_line(
-            out,
-            b"watch",
-            &[
-                Small(pid.0),
-                Small(u8::from(*flag)),
-                Hex(*addr),
-                Hex(*size),
-                Decimal(*count),
-            ],
-        ),
-        Event::ResetWatch { pid, addr, size } => put_line(
-            out,
-            b"resetwatch",
-            &[Small(pid.0), Hex(*addr), Hex(*size)],
-        ),
-        Event::Stack {
-            tid,
-            pid,
-            reserve,
-            commit,
-        } => put_line(
-            out,
-            b"stack",
-            &[Small(tid.0), Small(pid.0), Hex(*reserve), Hex(*commit)],
-        ),
-        Event::Probe { tid, addr } => put_line(out, b"probe", &[Small(tid.0), Hex(*addr)]),
-    }
+    print_as!(out, event,
+        Event::Machine(m) => b"machine"
+            [Decimal(m.frames()), Decimal(m.slots()), Decimal(m.depth()), Decimal(m.blocks())],
+        Event::Process { min, max } => b"process" [Decimal(*min), Decimal(*max)],
+        Event::Exit { pid } => b"exit" [Small(pid.0)],
+        Event::File { name, pages, byte } => b"file" [Name(name), Decimal(*pages), Small(*byte)],
+        Event::Alloc { pid, addr, size, form, prot } => b"alloc"
+            [Small(pid.0), Hex(*addr), Hex(*size), Hex(*form), Hex(*prot)],
+        Event::Free { pid, addr, size, form } => b"free"
+            [Small(pid.0), Hex(*addr), Hex(*size), Hex(*form)],
+        Event::Protect { pid, addr, size, prot } => b"protect"
+            [Small(pid.0), Hex(*addr), Hex(*size), Hex(*prot)],
+        Event::Query { pid, addr } => b"query" [Small(pid.0), Hex(*addr)],
+        Event::Create { pid, size, flags, name } => b"create"
+            [Small(pid.0), Hex(*size), Hex(*flags), NameOrDash(name)],
+        Event::CreateFile { pid, file, flags, name } => b"createfile"
+            [Small(pid.0), Name(file), Hex(*flags), NameOrDash(name)],
+        Event::Open { pid, name } => b"open" [Small(pid.0), Name(name)],
+        Event::Close { pid, handle } => b"close" [Small(pid.0), Decimal(*handle)],
+        Event::Map { pid, handle, access, offset, length: len, addr } => b"map"
+            [Small(pid.0), Decimal(*handle), Hex(*access), Hex(*offset), Hex(*len), Hex(*addr)],
+        Event::Unmap { pid, addr } => b"unmap" [Small(pid.0), Hex(*addr)],
+        Event::Flush { pid, addr, size } => b"flush" [Small(pid.0), Hex(*addr), Hex(*size)],
+        Event::Read { pid, addr, len } => b"read" [Small(pid.0), Hex(*addr), Decimal(*len)],
+        Event::Write { pid, addr, bytes } => b"write" [Small(pid.0), Hex(*addr), Bytes(bytes)],
+        Event::Exec { pid, addr } => b"exec" [Small(pid.0), Hex(*addr)],
+        Event::Resume { tid } => b"resume" [Small(tid.0)],
+        Event::Io { index: i } => b"io" [Decimal(*i)],
+        Event::Trim { pid, count: n } => b"trim" [Small(pid.0), Decimal(*n)],
+        Event::Age { pid } => b"age" [Small(pid.0)],
+        Event::Writer { count: n } => b"writer" [Decimal(*n)],
+        Event::Zeroer { count: n } => b"zeroer" [Decimal(*n)],
+        Event::Fail { device, direction, nth: k, count: n } => b"fail"
+            [Device(*device), Direction(*direction), Decimal(*k), Decimal(*n)],
+        Event::Charge => b"charge" [],
+        Event::Counts => b"counts" [],
+        Event::Grow { slots: n } => b"grow" [Decimal(*n)],
+        Event::Watch { pid, reset, addr, size, count } => b"watch"
+            [Small(pid.0), Small(u8::from(*reset)), Hex(*addr), Hex(*size), Decimal(*count)],
+        Event::ResetWatch { pid, addr, size } => b"resetwatch"
+            [Small(pid.0), Hex(*addr), Hex(*size)],
+        Event::Stack { tid, pid, reserve, commit } => b"stack"
+            [Small(tid.0), Small(pid.0), Hex(*reserve), Hex(*commit)],
+        Event::Probe { tid, addr } => b"probe" [Small(tid.0), Hex(*addr)],
+        ; Event::Begin { tid, pid, access } => print_begin(out, *tid, *pid, access)
+    )
 }
 
 /// Writes the shortest line of an event at the end of `out`, without a line feed: hexadecimal with

@@ -1,9 +1,6 @@
 ghost use Rattle.std.specs.Prelude.{◌≡◌, ◌+◌, ◌^◌, ◌<◌, ◌≤◌, ℕ, List, length, IfOk, IfErr, OnOk, OnErr, Ok};
 ghost use Rattle.mm_types.specs.{Event};
-ghost use Rattle.mm_script.specs.Grammar.{IsLine};
-ghost use Rattle.mm_script.specs.Printed.{IsWellFormed};
-ghost use Rattle.mm_script.specs.Place.{without_return, fault_place};
-ghost use Rattle.mm_script.specs.Reading.{line_of, parse, IsPut};
+ghost use Rattle.mm_script.specs.{IsLine, IsWellFormed, without_return, fault_place, line_of, parse, IsPut};
 
 mod accesses;
 mod numbers;

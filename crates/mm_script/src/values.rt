@@ -1,5 +1,5 @@
 ghost use Rattle.std.specs.Prelude.{◌≡◌, bytes_eq, if◌then◌else◌};
-ghost use Rattle.mm_script.specs.Shape.{read, NameOrDash, DeviceWord, DirectionWord};
+ghost use Rattle.mm_script.specs.{read, NameOrDash, DeviceWord, DirectionWord};
 
 use mm_text::name;
 use mm_types::{Device, Direction, Name};

@@ -28,25 +28,11 @@ impl Model for SectionPages {
     ghost invariant = { λ p. length p.committed.items < 2 ^ 32 };
 }
 
-// So many pages, all committed or none.
-fn new_pages(alloc: Global, pages: u32, committed: bool) -> Result<Vec<bool>, NoMemory>
-    ensures { IfOk result (λ v. v.items ≡ replicate pages committed) }
-{
-    Ok(vec![in alloc; committed; pages as usize]?)
-}
-
 // How many pages are not committed.
 fn uncommitted_among(pages: &[bool]) -> usize
     ensures { result ≡ count_by not pages.now }
 {
     pages.iter().filter(|committed| !**committed).count()
-}
-
-// Commits each page.
-fn commit_all(pages: &mut [bool])
-    ensures { pages.new ≡ replicate (length pages.old) true }
-{
-    pages.fill(true);
 }
 
 impl SectionPages {
@@ -63,7 +49,7 @@ impl SectionPages {
     {
         Ok(SectionPages {
             first_block: None,
-            committed: new_pages(alloc, pages, committed)?,
+            committed: vec![in alloc; committed; pages as usize]?,
         })
     }
 
@@ -76,7 +62,7 @@ impl SectionPages {
     {
         Ok(SectionPages {
             first_block: Some(first),
-            committed: new_pages(alloc, pages, true)?,
+            committed: vec![in alloc; true; pages as usize]?,
         })
     }
 
@@ -143,6 +129,6 @@ impl SectionPages {
         requires inside { first + count ≤ length self.old.pages }
         ensures { self.new ≡ commit_shared blank first count self.old }
     {
-        commit_all(&mut self.committed[first as usize..(first + count) as usize]);
+        self.committed[first as usize..(first + count) as usize].fill(true);
     }
 }

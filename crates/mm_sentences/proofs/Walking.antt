@@ -5,7 +5,7 @@ use Rattle.std.proofs.lemmas.Bool.{eq-eqb, ne_eqb}
 use Rattle.std.proofs.lemmas.Option.{same_Some, none-some}
 use Rattle.mm_types.specs.{Frame, Text}
 use Rattle.mm_life.specs.{FrameTable, is_on, is_first}
-use Rattle.mm_sentences.specs.{first_is, counted}
+use Rattle.mm_sentences.specs.{first_is, counted_words}
 use Rattle.mm_replay.specs.{frame_at, frames_on, IsBehind}
 use Rattle.mm_replay.specs.declared.four_lists.FrameList.TheVariants as list
 use Rattle.mm_replay.specs.Sound.{frame}
@@ -56,9 +56,9 @@ next_there d k x next e b = b.behind list.Zeroed k (there d.zeroed k x e)
 
 pub ruleset walking = (found, passed, ended, next_there, first_some, first_none)
 
-pub head_is : (name : Text) (xs : List ℕ) (x : Frame) → frame_at xs 0 ≡ Some x → first_is name xs ≡ counted (codes "; the first is ") x.0
+pub head_is : (name : Text) (xs : List ℕ) (x : Frame) → frame_at xs 0 ≡ Some x → first_is name xs ≡ counted_words (codes "; the first is ") x.0
 head_is name [] x e = absurd (none-some x e)
-head_is name (n ∷ xs) x e = ap (λ m. counted (codes "; the first is ") m) (same_number n x e)
+head_is name (n ∷ xs) x e = ap (λ m. counted_words (codes "; the first is ") m) (same_number n x e)
 
 pub head_none : (name : Text) (xs : List ℕ) → frame_at xs 0 ≡ None → first_is name xs ≡ codes "; " ++ (name ++ codes ": none")
 head_none name [] e = refl

@@ -7,8 +7,9 @@ use Rattle.mm_types.specs.declared.moves.LineKind.TheVariants as kind
 use Rattle.mm_types.specs.declared.moves.Stored.TheVariants as stored
 use Rattle.mm_types.specs.declared.moves.Move.TheVariants as move
 use Rattle.mm_life.specs.{record_at, is_first, is_empty, is_on, has_request, is_read, is_write, is_again, FrameLife, set_of, is_shared, is_live}
-use Rattle.mm_life.specs.{is_call, is_io, is_access, is_thread, is_unbind, is_writer, is_zeroer, is_touch, touches, is_machine, has_depth, is_zero}
-use Rattle.mm_life.specs.{is_stored, owner_is, may_copy, is_unmapped, fits_place, is_below_max, may_unmap, is_block, is_lowest, may_write_block}
+use Rattle.mm_life.specs.{is_call, is_io, is_access, is_thread, is_unbind, is_writer, is_zeroer, is_touch, touches, is_valid_machine, has_depth}
+use Rattle.mm_life.specs.{is_zero, is_stored, owner_is, may_copy, is_unmapped, fits_place, is_below_max, may_unmap, is_block, is_lowest}
+use Rattle.mm_life.specs.{may_write_block}
 use Rattle.mm_sentences.specs.declared.parts.Part.{Part}
 use Rattle.mm_sentences.specs.declared.parts.Part.TheVariants as part
 
@@ -64,7 +65,7 @@ parts_of (move.Lost f) = part.BeingWritten f ∷ part.IoAccessOrCall ∷ []
 
 abbrev pub is_range : LineKind → Bool
 is_range (kind.Machine frames slots depth blocks) =
-    is_machine (record { frames = frames; slots = slots; depth = depth; blocks = blocks })
+    is_valid_machine (record { frames = frames; slots = slots; depth = depth; blocks = blocks })
 is_range _ = true
 
 abbrev pub is_clean : Record → Bool

@@ -21,8 +21,8 @@ abbrev pub about : Text → ℕ → Text → Text
 about front n behind = front ++ (decimal n ++ behind)
 
 -- words and a number
-abbrev pub counted : Text → ℕ → Text
-counted front n = front ++ decimal n
+abbrev pub counted_words : Text → ℕ → Text
+counted_words front n = front ++ decimal n
 
 -- `line 4 (access 1)`, and what it is not
 abbrev pub line_is : FrameLife → Text → Text
@@ -39,16 +39,16 @@ abbrev pub place_is : Place → Text → Text
 place_is p behind = place_onto p [] ++ behind
 
 -- the name of a list
-abbrev pub name_of : FrameList → Text
-name_of list.Zeroed = codes "zeroed"
-name_of list.Free = codes "free"
-name_of list.Standby = codes "standby"
-name_of list.Modified = codes "modified"
+abbrev pub name_of_list : FrameList → Text
+name_of_list list.Zeroed = codes "zeroed"
+name_of_list list.Free = codes "free"
+name_of_list list.Standby = codes "standby"
+name_of_list list.Modified = codes "modified"
 
 -- `; free: none`, or `; the first is 3`
 abbrev pub first_is : Text → List ℕ → Text
 first_is name [] = codes "; " ++ (name ++ codes ": none")
-first_is name (f ∷ fs) = counted (codes "; the first is ") f
+first_is name (f ∷ fs) = counted_words (codes "; the first is ") f
 
 -- `frame 0 is not the first free frame; free: none`
 abbrev pub not_first : Text → List ℕ → Frame → Text
@@ -62,12 +62,12 @@ not_empty name frames = name ++ (codes " is not empty" ++ first_is name frames)
 abbrev pub depth_is : FrameLife → Text
 depth_is l =
     decimal (length l.flight)
-    ++ counted (codes " requests are in flight, and the depth is ") l.machine.depth
+    ++ counted_words (codes " requests are in flight, and the depth is ") l.machine.depth
 
 abbrev pub stands_in : Key → Held → Text
-stands_in k (held.Frame f) = page_is k (counted (codes " is in frame ") f.0)
-stands_in k (held.Slot s) = page_is k (counted (codes " is in slot ") s.0)
-stands_in k (held.Block b) = page_is k (counted (codes " is in block ") b.0)
+stands_in k (held.Frame f) = page_is k (counted_words (codes " is in frame ") f.0)
+stands_in k (held.Slot s) = page_is k (counted_words (codes " is in slot ") s.0)
+stands_in k (held.Block b) = page_is k (counted_words (codes " is in block ") b.0)
 stands_in k held.Zero = page_is k (codes " is demand-zero")
 stands_in k held.Dead = codes "there is no " ++ page_is k []
 
@@ -89,14 +89,14 @@ holds_what f p (Some k) =
 abbrev pub pages_are : Text → ℕ → ℕ → Text
 pages_are name resident limit =
     about (codes " has ") resident
-    (codes " pages, and its " ++ (name ++ counted (codes " is ") limit))
+    (codes " pages, and its " ++ (name ++ counted_words (codes " is ") limit))
 
 abbrev pub set_is : Text → ℕ → ℕ → ℕ → Text
 set_is name pid resident limit =
     about (codes "the working set of process ") pid (pages_are name resident limit)
 
 abbrev pub no_process : ℕ → Text
-no_process pid = counted (codes "there is no process ") pid
+no_process pid = counted_words (codes "there is no process ") pid
 
 abbrev pub at_max : ℕ → Option ResidentSet → Text
 at_max pid None = no_process pid
@@ -112,7 +112,7 @@ keeps_place l pid =
     if trims pid l.kind then at_min pid (set_of l pid)
     else if touches pid l.kind then at_max pid (set_of l pid)
     else if is_access l.kind then codes "frames are left on zeroed, free or standby"
-    else line_is l (counted (codes " ends no place of process ") pid)
+    else line_is l (counted_words (codes " ends no place of process ") pid)
 
 abbrev pub no_paging : FrameLife → Key → Text
 no_paging l k =
@@ -139,12 +139,12 @@ keeps_block l f =
 -- ---- each part
 
 abbrev pub part_text : FrameLife → Part → Text
-part_text l (part.NextLine n) = counted (codes "the next line is ") (l.line + 1)
+part_text l (part.NextLine n) = counted_words (codes "the next line is ") (l.line + 1)
 part_text l part.InDepth = depth_is l
 part_text l part.FirstLine = codes "the machine is known already"
 part_text l (part.MachineRange k) = codes "its numbers are out of range"
 part_text l part.Started = codes "the machine is not known yet"
-part_text l (part.NextProcess pid) = counted (codes "the next process is ") (length l.sets + 1)
+part_text l (part.NextProcess pid) = counted_words (codes "the next process is ") (length l.sets + 1)
 part_text l (part.FewProcesses pid) = codes "there are at most 64 processes"
 part_text l (part.SomeSlots n) = codes "it grows by no slot"
 part_text l (part.FewSlots n) = codes "there are at most 262144 slots"
@@ -181,7 +181,7 @@ part_text l part.IoOrAccess = line_is l (codes " is no io and no access")
 part_text l (part.FitsPlace f p) = holds_what f p (record_at l.frames f.0).owner
 part_text l (part.NotBeingRead f) = frame_is f (codes " is being read")
 part_text l (part.NotValid p) = place_is p (codes " is valid already")
-part_text l (part.AccessOf pid) = line_is l (counted (codes " is no access of process ") pid.0)
+part_text l (part.AccessOf pid) = line_is l (counted_words (codes " is no access of process ") pid.0)
 part_text l (part.BelowMax pid) = at_max pid.0 (set_of l pid.0)
 part_text l (part.Valid p) = place_is p (codes " is not valid")
 part_text l (part.MayEnd p) = keeps_place l p.pid.0
@@ -196,18 +196,18 @@ part_text l part.WritesSlot =
 part_text l (part.Changed f) = frame_is f (codes " is not changed")
 part_text l (part.Owned f) = frame_is f (codes " holds no page")
 part_text l (part.Quiet f) = frame_is f (request_is (is_read (record_at l.frames f.0).request))
-part_text l (part.OfBlock f b) = frame_is f (counted (codes " holds no page of block ") b.0)
+part_text l (part.OfBlock f b) = frame_is f (counted_words (codes " holds no page of block ") b.0)
 part_text l (part.WritesBlock f) = keeps_block l f
 part_text l (part.BeingWritten f) = frame_is f (codes " is not being written")
 part_text l part.IoAccessOrCall = line_is l (codes " is no io, no access and no call")
 
-abbrev pub text_of : FrameLife → Option Part → Text
-text_of l None = []
-text_of l (Some p) = part_text l p
+abbrev pub part_words : FrameLife → Option Part → Text
+part_words l None = []
+part_words l (Some p) = part_text l p
 
 -- nothing of a legal move
 abbrev pub refusal_text : FrameLife → Move → Text
-refusal_text l m = text_of l (refusal l m)
+refusal_text l m = part_words l (refusal l m)
 
 -- `: give 0 p1.16: frame 0 is not the first zeroed frame; zeroed: none`, behind the number of its
 -- line

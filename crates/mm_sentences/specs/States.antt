@@ -58,17 +58,17 @@ request_text request.Read = codes "being read"
 request_text request.Write = codes "being written"
 request_text request.WriteAgain = codes "being written, changed since"
 
-abbrev pub listed : Text → Text
-listed text = text ++ codes ", "
+abbrev pub listed_text : Text → Text
+listed_text text = text ++ codes ", "
 
 -- the state, the page, whether it is changed, its copy on a device, the places where it is valid,
 -- and its request
-abbrev pub row_of : FrameState → Record → Text
-row_of s r =
-    listed (state_text s) ++ (listed (owner_text r.owner) ++ (listed (changed_text r.changed)
-    ++ (listed (copy_text r.backing) ++ (listed (decimal r.shares ++ codes " places")
+abbrev pub frame_row_text : FrameState → Record → Text
+frame_row_text s r =
+    listed_text (state_text s) ++ (listed_text (owner_text r.owner) ++ (listed_text (changed_text r.changed)
+    ++ (listed_text (copy_text r.backing) ++ (listed_text (decimal r.shares ++ codes " places")
     ++ request_text r.request))))
 
 -- `active, p1.17, changed, no copy, 1 places, no I/O`
 abbrev pub frame_row : FrameLife → ℕ → Text
-frame_row l f = row_of (state_of l f) (record_at l.frames f)
+frame_row l f = frame_row_text (state_of l f) (record_at l.frames f)

@@ -3,15 +3,9 @@ ghost use Rattle.mm_types.specs.{decimal};
 ghost use Rattle.mm_replay.specs.Standing.{life as life_of};
 ghost use Rattle.mm_replay.specs.{frames_on};
 ghost use Rattle.mm_life.specs.{is_read, set_of, move_text, place_onto};
-ghost use Rattle.mm_sentences.specs.Refusals.{name_of, about, counted, line_is, frame_is, page_is};
-ghost use Rattle.mm_sentences.specs.Refusals.{place_is};
-ghost use Rattle.mm_sentences.specs.Refusals.{first_is, not_first, not_empty, depth_is, stands_in};
-ghost use Rattle.mm_sentences.specs.Refusals.{mapped_at, holds_what, pages_are, set_is, no_process};
-ghost use Rattle.mm_sentences.specs.Refusals.{at_max};
-ghost use Rattle.mm_sentences.specs.Refusals.{at_min, keeps_place, no_paging, request_is};
-ghost use Rattle.mm_sentences.specs.Refusals.{not_lowest};
-ghost use Rattle.mm_sentences.specs.Refusals.{not_modified, keeps_block, part_text, text_of};
-ghost use Rattle.mm_sentences.specs.Refusals.{refusal_text, why_text};
+ghost use Rattle.mm_sentences.specs.{name_of_list, about, counted_words, line_is, frame_is, page_is, place_is, first_is, not_first, not_empty};
+ghost use Rattle.mm_sentences.specs.{depth_is, stands_in, mapped_at, holds_what, pages_are, set_is, no_process, at_max, at_min, keeps_place};
+ghost use Rattle.mm_sentences.specs.{no_paging, request_is, not_lowest, not_modified, keeps_block, part_text, part_words, refusal_text, why_text};
 ghost use Rattle.mm_sentences.specs.declared.parts.Part.TheVariants as part;
 
 use crate::parts::Part;
@@ -45,7 +39,7 @@ fn put_line_is(life: &Life, behind: &[u8], text: &mut Vec<u8>) -> Result<(), NoM
 #[tactic(auto, using(crate::proofs::Joined::joined))]
 fn put_line_of(life: &Life, words: &[u8], pid: Pid, text: &mut Vec<u8>) -> Result<(), NoMemory>
     ensures { OnOk result (text.new.items ≡ text.old.items
-        ++ line_is (life_of life.now) (counted words.now pid.0)) }
+        ++ line_is (life_of life.now) (counted_words words.now pid.0)) }
 {
     put_line_is(life, words, text)?;
     put_number(u64::from(pid.0), text)
@@ -69,7 +63,7 @@ fn put_page_is(key: Key, behind: &[u8], text: &mut Vec<u8>) -> Result<(), NoMemo
 /// Writes a page, words and a number.
 #[tactic(auto, using(crate::proofs::Joined::joined))]
 fn put_page_counted(key: Key, words: &[u8], n: u32, text: &mut Vec<u8>) -> Result<(), NoMemory>
-    ensures { OnOk result (text.new.items ≡ text.old.items ++ page_is key (counted words.now n)) }
+    ensures { OnOk result (text.new.items ≡ text.old.items ++ page_is key (counted_words words.now n)) }
 {
     put_page_is(key, words, text)?;
     put_number(u64::from(n), text)
@@ -95,7 +89,7 @@ fn put_place_is(place: Place, behind: &[u8], text: &mut Vec<u8>) -> Result<(), N
 
 /// The name of a list.
 fn list_name(list: FrameList) -> &'static [u8]
-    ensures { result.now ≡ name_of list }
+    ensures { result.now ≡ name_of_list list }
 {
     match list {
         FrameList::Zeroed => state_text(FrameState::Zeroed),
@@ -109,7 +103,7 @@ fn list_name(list: FrameList) -> &'static [u8]
 #[tactic(auto, using(crate::proofs::Joined::joined))]
 fn put_none(list: FrameList, text: &mut Vec<u8>) -> Result<(), NoMemory>
     ensures { OnOk result (text.new.items ≡ text.old.items
-        ++ (codes "; " ++ (name_of list ++ codes ": none"))) }
+        ++ (codes "; " ++ (name_of_list list ++ codes ": none"))) }
 {
     put_words(b"; ", text)?;
     put_words(list_name(list), text)?;
@@ -120,7 +114,7 @@ fn put_none(list: FrameList, text: &mut Vec<u8>) -> Result<(), NoMemory>
 #[tactic(auto, using(crate::proofs::Joined::joined, crate::proofs::Walking::heads))]
 fn put_first_is(life: &Life, list: FrameList, text: &mut Vec<u8>) -> Result<(), NoMemory>
     ensures { OnOk result (text.new.items ≡ text.old.items
-        ++ first_is (name_of list) (frames_on (life_of life.now).frames list)) }
+        ++ first_is (name_of_list list) (frames_on (life_of life.now).frames list)) }
 {
     match life.first_on(list) {
         Some(frame) => put_counted(b"; the first is ", u64::from(frame.0), text),
@@ -137,7 +131,7 @@ fn put_not_first(
     text: &mut Vec<u8>,
 ) -> Result<(), NoMemory>
     ensures { OnOk result (text.new.items ≡ text.old.items
-        ++ not_first (name_of list) (frames_on (life_of life.now).frames list) frame) }
+        ++ not_first (name_of_list list) (frames_on (life_of life.now).frames list) frame) }
 {
     put_frame_is(frame, b" is not the first ", text)?;
     put_words(list_name(list), text)?;
@@ -153,8 +147,8 @@ fn put_list_is(
     words: &[u8],
     text: &mut Vec<u8>,
 ) -> Result<(), NoMemory>
-    ensures { OnOk result (text.new.items ≡ text.old.items ++ (name_of list ++ (words.now
-        ++ first_is (name_of list) (frames_on (life_of life.now).frames list)))) }
+    ensures { OnOk result (text.new.items ≡ text.old.items ++ (name_of_list list ++ (words.now
+        ++ first_is (name_of_list list) (frames_on (life_of life.now).frames list)))) }
 {
     put_words(list_name(list), text)?;
     put_words(words, text)?;
@@ -164,7 +158,7 @@ fn put_list_is(
 /// Writes that a list is not empty.
 fn put_not_empty(life: &Life, list: FrameList, text: &mut Vec<u8>) -> Result<(), NoMemory>
     ensures { OnOk result (text.new.items ≡ text.old.items
-        ++ not_empty (name_of list) (frames_on (life_of life.now).frames list)) }
+        ++ not_empty (name_of_list list) (frames_on (life_of life.now).frames list)) }
 {
     put_list_is(life, list, b" is not empty", text)
 }
@@ -173,7 +167,7 @@ fn put_not_empty(life: &Life, list: FrameList, text: &mut Vec<u8>) -> Result<(),
 #[tactic(auto, using(crate::proofs::Joined::joined))]
 fn put_two(first: u32, words: &[u8], second: u32, text: &mut Vec<u8>) -> Result<(), NoMemory>
     ensures { OnOk result (text.new.items ≡ text.old.items
-        ++ (decimal first ++ counted words.now second)) }
+        ++ (decimal first ++ counted_words words.now second)) }
 {
     put_number(u64::from(first), text)?;
     put_counted(words, u64::from(second), text)
@@ -251,7 +245,7 @@ fn put_frame_page(
 #[tactic(auto, using(crate::proofs::Joined::joined))]
 fn put_frame_counted(frame: Frame, words: &[u8], n: u32, text: &mut Vec<u8>) -> Result<(), NoMemory>
     ensures { OnOk result (text.new.items ≡ text.old.items
-        ++ frame_is frame (counted words.now n)) }
+        ++ frame_is frame (counted_words words.now n)) }
 {
     put_frame_is(frame, words, text)?;
     put_number(u64::from(n), text)
@@ -283,7 +277,7 @@ fn put_limit(
     text: &mut Vec<u8>,
 ) -> Result<(), NoMemory>
     ensures { OnOk result (text.new.items ≡ text.old.items
-        ++ (words.now ++ (name.now ++ counted link.now limit))) }
+        ++ (words.now ++ (name.now ++ counted_words link.now limit))) }
 {
     put_words(words, text)?;
     put_words(name, text)?;
@@ -302,7 +296,7 @@ fn put_pages(
     text: &mut Vec<u8>,
 ) -> Result<(), NoMemory>
     ensures { OnOk result (text.new.items ≡ text.old.items
-        ++ about front.now resident (words.now ++ (name.now ++ counted link.now limit))) }
+        ++ about front.now resident (words.now ++ (name.now ++ counted_words link.now limit))) }
 {
     put_counted(front, u64::from(resident), text)?;
     put_limit(words, name, link, limit, text)
@@ -519,7 +513,7 @@ fn put_not_to_read(life: &Life, frame: Frame, text: &mut Vec<u8>) -> Result<(), 
 /// Writes which process comes next.
 fn put_next_process(life: &Life, text: &mut Vec<u8>) -> Result<(), NoMemory>
     ensures { OnOk result (text.new.items ≡ text.old.items
-        ++ counted (codes "the next process is ") (length (life_of life.now).sets + 1)) }
+        ++ counted_words (codes "the next process is ") (length (life_of life.now).sets + 1)) }
 {
     put_counted(b"the next process is ", life.sets().len() as u64 + 1, text)
 }
@@ -528,7 +522,7 @@ fn put_next_process(life: &Life, text: &mut Vec<u8>) -> Result<(), NoMemory>
 #[tactic(auto, using(crate::proofs::Joined::joined))]
 fn put_not_of_block(frame: Frame, block: Block, text: &mut Vec<u8>) -> Result<(), NoMemory>
     ensures { OnOk result (text.new.items ≡ text.old.items
-        ++ frame_is frame (counted (codes " holds no page of block ") block.0)) }
+        ++ frame_is frame (counted_words (codes " holds no page of block ") block.0)) }
 {
     put_frame_counted(frame, b" holds no page of block ", block.0, text)
 }

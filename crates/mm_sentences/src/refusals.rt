@@ -4,8 +4,7 @@ ghost use Rattle.mm_types.specs.{limit_of};
 ghost use Rattle.mm_life.specs.{is_first, is_zero, is_stored, owner_is, fits_place, is_block, is_lowest, is_legal, is_shared};
 ghost use Rattle.mm_replay.specs.{frames_on};
 ghost use Rattle.mm_replay.specs.Standing.{life as life_of};
-ghost use Rattle.mm_sentences.specs.Parts.{holds, parts_of, first_failing, is_clean, refusal};
-ghost use Rattle.mm_sentences.specs.Tested.{is_tested, are_tested, all_hold, none_free};
+ghost use Rattle.mm_sentences.specs.{holds, parts_of, first_failing, is_clean, refusal, is_tested, are_tested, all_hold, none_free};
 ghost use Rattle.mm_sentences.specs.declared.parts.Part.TheVariants as part;
 
 use crate::parts::Part;

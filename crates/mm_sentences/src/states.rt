@@ -3,7 +3,7 @@ ghost use Rattle.mm_types.specs.{decimal};
 ghost use Rattle.mm_life.specs.{record_at, is_on};
 ghost use Rattle.mm_replay.specs.Standing.{life as life_of};
 ghost use Rattle.mm_sentences.specs.States.{list_of, state_by, state_of, state_text, owner_text};
-ghost use Rattle.mm_sentences.specs.States.{changed_text, copy_text, request_text, listed, row_of};
+ghost use Rattle.mm_sentences.specs.States.{changed_text, copy_text, request_text, listed_text, frame_row_text};
 ghost use Rattle.mm_sentences.specs.States.{frame_row};
 
 use crate::words::{put_counted, put_key, put_numbered, put_words};
@@ -142,8 +142,8 @@ fn put_copy(backing: Backing, text: &mut Vec<u8>) -> Result<(), NoMemory>
 #[tactic(auto, using(crate::proofs::Joined::joined))]
 fn put_row_front(state: FrameState, r: &Record, text: &mut Vec<u8>) -> Result<(), NoMemory>
     ensures { OnOk result (text.new.items ≡ text.old.items
-        ++ (listed (state_text state) ++ (listed (owner_text r.now.owner)
-        ++ listed (changed_text r.now.changed)))) }
+        ++ (listed_text (state_text state) ++ (listed_text (owner_text r.now.owner)
+        ++ listed_text (changed_text r.now.changed)))) }
 {
     put_state(state, text)?;
     put_words(b", ", text)?;
@@ -157,7 +157,7 @@ fn put_row_front(state: FrameState, r: &Record, text: &mut Vec<u8>) -> Result<()
 #[tactic(auto, using(crate::proofs::Joined::joined))]
 fn put_row_back(r: &Record, text: &mut Vec<u8>) -> Result<(), NoMemory>
     ensures { OnOk result (text.new.items ≡ text.old.items
-        ++ (listed (copy_text r.now.backing) ++ (listed (decimal r.now.shares ++ codes " places")
+        ++ (listed_text (copy_text r.now.backing) ++ (listed_text (decimal r.now.shares ++ codes " places")
         ++ request_text r.now.request))) }
 {
     put_copy(r.backing, text)?;
@@ -170,7 +170,7 @@ fn put_row_back(r: &Record, text: &mut Vec<u8>) -> Result<(), NoMemory>
 /// copy, 1 places, no I/O`.
 #[tactic(auto, using(crate::proofs::Joined::joined))]
 pub fn put_row(state: FrameState, r: &Record, text: &mut Vec<u8>) -> Result<(), NoMemory>
-    ensures { OnOk result (text.new.items ≡ text.old.items ++ row_of state r.now) }
+    ensures { OnOk result (text.new.items ≡ text.old.items ++ frame_row_text state r.now) }
 {
     put_row_front(state, r, text)?;
     put_row_back(r, text)

@@ -6,9 +6,9 @@ use Rattle.std.proofs.lemmas.Bool.{eqb-true, eqb-false}
 use Rattle.mm_types.specs.{Text, Move, LineKind}
 use Rattle.mm_types.specs.declared.moves.Move.TheVariants as move
 use Rattle.mm_life.specs.{FrameLife, unstarted, after_move}
-use Rattle.mm_classes.specs.{MarksOf, no_marks, marks_after, classes, is_class, number_of, kind_code, code_of, Class}
+use Rattle.mm_classes.specs.{MarksOf, no_marks, marks_after, classes, is_class, class_count, kind_code, code_of, Class}
 use Rattle.mm_tell.specs.{pending, class_then, move_of, class_list, classes_rest, Pending}
-use Rattle.mm_show.specs.{is_kind, class_sums, kind_sums, sums_text, number_in, sums_left, of_class, of_kind, AreFew}
+use Rattle.mm_show.specs.{is_kind, class_sums, kind_sums, sums_text, code_count, sums_left, of_class, of_kind, AreFew}
 use Rattle.mm_tell.proofs.{classes_taken}
 
 bumped : (xs : List ℕ) (i k : ℕ) → i < length xs → get_or (set xs i (get_or xs i 0 + 1)) k 0 ≡ cond (i == k) 1 0 + get_or xs k 0
@@ -59,7 +59,7 @@ none_yet (suc n) zero = refl
 none_yet (suc n) (suc k) = none_yet n k
 
 -- no move comes
-same_number : (xs : List ℕ) (c : Class) → number_in xs c ≡ of_class xs [] c
+same_number : (xs : List ℕ) (c : Class) → code_count xs c ≡ of_class xs [] c
 same_number xs c = omega arith
 
 same_kind : (xs : List ℕ) (k : ℕ) → slice_index xs k ≡ of_kind xs [] k
@@ -67,9 +67,9 @@ same_kind xs k = omega arith
 
 pub sums_ended : (classes' classes0 kinds0 : List ℕ) (l : FrameLife) (v : MarksOf) (p : Option Pending)
     → ((cs : List (Option Class)) (c : Class) → of_class classes' cs c ≡ of_class classes0 (class_list (class_then p None) ++ cs) c)
-    → class_sums (number_in classes') ≡ class_sums (of_class classes0 (classes_rest v p l []))
+    → class_sums (code_count classes') ≡ class_sums (of_class classes0 (classes_rest v p l []))
 sums_ended classes' classes0 kinds0 l v p byclass =
-    let f : number_in classes' ≡ of_class classes0 (classes_rest v p l []) = λ i. λ c. (same_number classes' c ∙ byclass [] c) i in
+    let f : code_count classes' ≡ of_class classes0 (classes_rest v p l []) = λ i. λ c. (same_number classes' c ∙ byclass [] c) i in
     ap class_sums f
 
 kinds_ended : (kinds0 : List ℕ) → kind_sums (slice_index kinds0) ≡ kind_sums (of_kind kinds0 [])
@@ -86,12 +86,12 @@ few_none xs ys e f = record {
 
 pub sums_none : (moves : List Move) → class_sums (of_class (replicate 256 0) (classes_rest no_marks None unstarted moves)) ++ kind_sums (of_kind (replicate 256 0) moves) ≡ sums_text moves
 sums_none moves =
-    let f : of_class (replicate 256 0) (classes_rest no_marks None unstarted moves) ≡ (λ c. number_of c (classes moves)) =
-    λ i. λ c. (ap (λ (n : ℕ). n + number_of c (classes moves)) (none_yet 256 (code_of c)) ∙ zero-add (number_of c (classes moves))) i in
+    let f : of_class (replicate 256 0) (classes_rest no_marks None unstarted moves) ≡ (λ c. class_count c (classes moves)) =
+    λ i. λ c. (ap (λ (n : ℕ). n + class_count c (classes moves)) (none_yet 256 (code_of c)) ∙ zero-add (class_count c (classes moves))) i in
     let g : of_kind (replicate 256 0) moves ≡ (λ k. count_by (is_kind k) moves) =
     λ i. λ k. (ap (λ (n : ℕ). n + count_by (is_kind k) moves) (none_yet 256 k) ∙ zero-add (count_by (is_kind k) moves)) i in
     ap (λ (h : Class → ℕ). class_sums h ++ kind_sums (of_kind (replicate 256 0) moves)) f
-    ∙ ap (λ (h : ℕ → ℕ). class_sums (λ c. number_of c (classes moves)) ++ kind_sums h) g
+    ∙ ap (λ (h : ℕ → ℕ). class_sums (λ c. class_count c (classes moves)) ++ kind_sums h) g
 
 -- one more move was taken by the teller
 pub sum_taken : (classes0 classes' kinds0 kinds' : List ℕ) (v v' : MarksOf) (p p' : Option Pending) (l : FrameLife) (m : Move)
@@ -108,10 +108,10 @@ sum_taken classes0 classes' kinds0 kinds' v v' p p' l m byclass bykind marks pen
 -- no move comes
 pub sum_ended : (classes0 kinds0 : List ℕ) (v : MarksOf) (p : Option Pending) (l : FrameLife) (classes' : List ℕ) (text text1 text2 : Text)
     → ((cs : List (Option Class)) (c : Class) → of_class classes' cs c ≡ of_class classes0 (class_list (class_then p None) ++ cs) c)
-    → text1 ≡ text ++ class_sums (number_in classes') → text2 ≡ text1 ++ kind_sums (slice_index kinds0) → text2 ≡ text ++ sums_left classes0 kinds0 v p true l []
+    → text1 ≡ text ++ class_sums (code_count classes') → text2 ≡ text1 ++ kind_sums (slice_index kinds0) → text2 ≡ text ++ sums_left classes0 kinds0 v p true l []
 sum_ended classes0 kinds0 v p l classes' text text1 text2 byclass e1 e2 =
     let b : Text = kind_sums (of_kind kinds0 []) in
-    e2 ∙ ap (λ xs. text1 ++ xs) (kinds_ended kinds0) ∙ ap (λ xs. xs ++ b) e1 ∙ append_assoc text (class_sums (number_in classes')) b
+    e2 ∙ ap (λ xs. text1 ++ xs) (kinds_ended kinds0) ∙ ap (λ xs. xs ++ b) e1 ∙ append_assoc text (class_sums (code_count classes')) b
     ∙ ap (λ xs. text ++ (xs ++ b)) (sums_ended classes' classes0 kinds0 l v p byclass)
 
 pub sum_none : (classes0 kinds0 : List ℕ) (v : MarksOf) (p : Option Pending) → classes0 ≡ replicate 256 0 → kinds0 ≡ replicate 256 0 → v ≡ no_marks → p ≡ None

@@ -2,12 +2,12 @@
 -- Profile, "What a log shows".
 use Rattle.std.specs.Prelude.{ℕ, ◌+◌, ◌^◌, ◌<◌, ◌≤◌, List, Option, count_by, slice_index}
 use Rattle.mm_types.specs.{Move}
-use Rattle.mm_classes.specs.{number_of, code_of, Class}
+use Rattle.mm_classes.specs.{class_count, code_of, Class}
 use Rattle.mm_show.specs.Sums.{is_kind}
 
 -- the numbers by code
 abbrev pub of_class : List ℕ → List (Option Class) → Class → ℕ
-of_class counts cs c = slice_index counts (code_of c) + number_of c cs
+of_class counts cs c = slice_index counts (code_of c) + class_count c cs
 
 abbrev pub of_kind : List ℕ → List Move → ℕ → ℕ
 of_kind counts ms k = slice_index counts k + count_by (is_kind k) ms

@@ -25,8 +25,8 @@ word_at words place = slice_index_or words place []
 abbrev pub line_among : ℕ → Option ℕ
 line_among n = if nat_le 1 n && nat_le n 1000000 then Some n else None
 
-abbrev pub line_of : Text → Option ℕ
-line_of word = option_and_then line_among (number_of word)
+abbrev pub line_asked_for : Text → Option ℕ
+line_asked_for word = option_and_then line_among (number_of word)
 
 -- a process's number, below 256
 abbrev pub pid_among : ℕ → Option ℕ
@@ -95,8 +95,8 @@ form_in name values =
     let count : ℕ = length values in
     if bytes_eq name (codes "html") then option_map form.Html (files_beside count)
     else if bytes_eq name (codes "tell") then option_map form.Tell (files_beside count)
-    else if bytes_eq name (codes "counts") then counts_with (line_of first) count
-    else if bytes_eq name (codes "state") then with_one form.StateAt (line_of first) count
+    else if bytes_eq name (codes "counts") then counts_with (line_asked_for first) count
+    else if bytes_eq name (codes "state") then with_one form.StateAt (line_asked_for first) count
     else if bytes_eq name (codes "frame") then with_one form.FrameAt (number_of first) count
     else if bytes_eq name (codes "key") then with_one form.KeyAt (key_of first) count
     else if bytes_eq name (codes "faults") then alone form.Faults count

@@ -7,14 +7,17 @@ pub mod SumRest
 pub mod Forms
 pub mod Showing
 pub mod Texts
+pub use Words.{class_rows, class_words_row, group_word, move_word}
 pub use Data.{classed_data, data_rest}
 pub use PageRest.{page_rest}
-pub use Sums.{class_sums, is_kind, kind_row, kind_sums, number_in, sums_text}
+pub use Sums.{class_row, class_sums, code_count, is_kind, kind_row, kind_sums, sums_text}
 pub use Counted.{AreFew, of_class, of_kind}
 pub use SumRest.{sum_rest, sums_left}
-pub use Forms.{before, behind, files_of, has_answers, has_script}
-pub use Showing.{FileIs, IsUnread, PageOf, form_said, form_why, sums_said, unread_text}
-pub use Texts.{page_of}
+pub use Forms.{before, behind, files_of, form_of, has_answers, has_script, key_of, line_asked_for}
+pub use Forms.{page_at, pid_of, private_key, shared_key, word_at}
+pub use Showing.{FileFailed, FileIs, IsUnread, PageOf, form_said, form_why, sums_said, unread_text}
+pub use Showing.{usage_text}
+pub use Texts.{whole_page}
 pub use declared.data.PageTeller.{PageTeller}
 pub use declared.forms.Form.{Form}
 pub use declared.sums.SumTeller.{SumTeller}

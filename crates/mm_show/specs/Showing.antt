@@ -4,7 +4,7 @@ use Rattle.std.specs.Prelude.{◌≡◌, ◌⊎◌, ℕ, Bool, true, false, List
 use Rattle.std.specs.Prelude.{None, codes}
 use Rattle.mm_types.specs.{Text, Rose, Move}
 use Rattle.mm_classes.specs.{log_data}
-use Rattle.mm_log.specs.{Shows, IsRefused}
+use Rattle.mm_log.specs.{Shows, IsRefusedLog}
 use Rattle.mm_tell.specs.{lines_of, total_of, shown_file, answer_file, Said, Why, no_why}
 use Rattle.mm_sentences.specs.{why_text}
 use Rattle.mm_uses.specs.{counts_rows, use_rows, state_rows}
@@ -33,12 +33,12 @@ behind_text p script answers =
     p.up_to_script ++ (shown_file script ++ (p.up_to_answers ++ (answer_file answers
     ++ p.up_to_end)))
 
-abbrev pub page_text : PageOf → Option (List Text) → Option (List Text) → List Move → Text
-page_text p script answers moves = front_text p ++ (log_data moves ++ behind_text p script answers)
+abbrev pub whole_page_text : PageOf → Option (List Text) → Option (List Text) → List Move → Text
+whole_page_text p script answers moves = front_text p ++ (log_data moves ++ behind_text p script answers)
 
 -- nothing of a log that does not end well
 abbrev pub page_said : PageOf → Option (List Text) → Option (List Text) → Said
-page_said p script answers true moves = page_text p script answers moves
+page_said p script answers true moves = whole_page_text p script answers moves
 page_said p script answers false moves = []
 
 abbrev pub sums_said : Said
@@ -80,7 +80,7 @@ unread_text name = codes "cannot read " ++ (name ++ 10 ∷ [])
 -- the file of this name was not read, and this is said; or memory was refused for that
 abbrev pub IsUnread : Text → Option Text → Option Text → ℕ → Type 0
 IsUnread name took took' result =
-    Shows took took' (unread_text name) 4 result ⊎ IsRefused took took' result
+    Shows took took' (unread_text name) 4 result ⊎ IsRefusedLog took took' result
 
 abbrev pub usage_text : Text
 usage_text =

@@ -5,7 +5,7 @@ use Rattle.std.specs.Prelude.{◌++◌, flat_map}
 use Rattle.std.specs.Prelude.{count_by, codes}
 use Rattle.mm_types.specs.{Text, decimal, Move}
 use Rattle.mm_types.specs.declared.moves.Move.TheVariants as move
-use Rattle.mm_classes.specs.{classes, number_of, kind_code, code_of, Class}
+use Rattle.mm_classes.specs.{classes, class_count, kind_code, code_of, Class}
 use Rattle.mm_show.specs.Words.{all_classes}
 use Rattle.mm_show.specs.declared.sums.KindName.{KindName}
 use Rattle.mm_show.specs.declared.sums.KindName.TheVariants as kind
@@ -65,9 +65,9 @@ abbrev pub kind_sums : (ℕ → ℕ) → Text
 kind_sums count = flat_map (kind_row count) all_kinds
 
 -- numbers that are kept by code
-abbrev pub number_in : List ℕ → Class → ℕ
-number_in counts c = slice_index counts (code_of c)
+abbrev pub code_count : List ℕ → Class → ℕ
+code_count counts c = slice_index counts (code_of c)
 
 abbrev pub sums_text : List Move → Text
 sums_text moves =
-    class_sums (λ c. number_of c (classes moves)) ++ kind_sums (λ k. count_by (is_kind k) moves)
+    class_sums (λ c. class_count c (classes moves)) ++ kind_sums (λ k. count_by (is_kind k) moves)

@@ -3,8 +3,8 @@
 use Rattle.mm_show.specs.Showing.{PageOf}
 use Rattle.mm_show.specs.declared.pages.PageTexts.{PageTexts}
 
-abbrev pub page_of : PageTexts → PageOf
-page_of p = record {
+abbrev pub whole_page : PageTexts → PageOf
+whole_page p = record {
   up_to_classes = p.up_to_classes.now;
   up_to_moves = p.up_to_moves.now;
   up_to_script = p.up_to_script.now;

@@ -78,10 +78,10 @@ group_word (Some group.Write) = codes "write"
 group_word (Some group.Failed) = codes "failed"
 
 -- its code, its move, its group and its sentence
-abbrev pub class_row : Class → Text
-class_row c =
+abbrev pub class_words_row : Class → Text
+class_words_row c =
     code_of c ∷ 32 ∷ (move_word c ++ 32 ∷ (group_word (group_of c) ++ 32 ∷ (sentence_of c ++ 10
     ∷ [])))
 
 abbrev pub class_rows : Text
-class_rows = flat_map class_row all_classes
+class_rows = flat_map class_words_row all_classes

@@ -3,7 +3,7 @@ ghost use Rattle.mm_text.specs.{number_of};
 ghost use Rattle.mm_forms.specs.{texts};
 ghost use Rattle.mm_show.specs.declared.forms.Form.TheVariants as form;
 ghost use Rattle.mm_show.specs.Forms.{word_at, files_beside, alone, form_in, form_of};
-ghost use Rattle.mm_show.specs.Forms.{with_one, counts_with, line_of};
+ghost use Rattle.mm_show.specs.Forms.{with_one, counts_with, line_asked_for};
 ghost use Rattle.mm_show.specs.Forms.{key_of};
 
 use crate::keys::{key, line};
@@ -105,7 +105,7 @@ fn alone(form: Form, count: usize) -> Option<Form>
 }
 
 fn counts_form(first: &[u8], count: usize) -> Option<Form>
-    ensures { result ≡ counts_with (line_of first.now) count }
+    ensures { result ≡ counts_with (line_asked_for first.now) count }
 {
     if count == 0 {
         return Some(Form::Counts);
@@ -120,7 +120,7 @@ fn counts_form(first: &[u8], count: usize) -> Option<Form>
 }
 
 fn state_form(first: &[u8], count: usize) -> Option<Form>
-    ensures { result ≡ with_one form.StateAt (line_of first.now) count }
+    ensures { result ≡ with_one form.StateAt (line_asked_for first.now) count }
 {
     if count != 1 {
         return None;

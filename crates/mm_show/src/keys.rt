@@ -1,13 +1,12 @@
 ghost use Rattle.std.specs.Prelude.{◌≡◌, ◌/◌, option_map};
-ghost use Rattle.mm_show.specs.Forms.{line_of, pid_of, before, behind, private_key, shared_key};
-ghost use Rattle.mm_show.specs.Forms.{page_at, key_of};
+ghost use Rattle.mm_show.specs.{line_asked_for, pid_of, before, behind, private_key, shared_key, page_at, key_of};
 
 use mm_text::number;
 use mm_types::{Area, Key, Pid, Vpn};
 
 /// The number of a line that a word is, 1 to 1,000,000.
 pub(crate) fn line(word: &[u8]) -> Option<u32>
-    ensures { result ≡ line_of word.now }
+    ensures { result ≡ line_asked_for word.now }
 {
     match number(word) {
         Some(n) => {

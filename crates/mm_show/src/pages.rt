@@ -23,14 +23,14 @@ pub struct PageTexts<'a> {
     pub up_to_end: &'a [u8],
 }
 
-ghost use Rattle.mm_show.specs.Showing.{front_text, behind_text, page_text};
-ghost use Rattle.mm_show.specs.Texts.{page_of};
+ghost use Rattle.mm_show.specs.Showing.{front_text, behind_text, whole_page_text};
+ghost use Rattle.mm_show.specs.Texts.{whole_page};
 ghost use Rattle.mm_show.specs.PageRest.{page_rest};
 
 /// What stands in front of a page's moves.
 #[tactic(auto, using(mm_text::proofs::DigitCounts::joined))]
 fn front_of(alloc: Global, page: &PageTexts<'_>) -> Result<Vec<u8>, NoMemory>
-    ensures { IfOk result (λ v. v.items ≡ front_text (page_of page.now)) }
+    ensures { IfOk result (λ v. v.items ≡ front_text (whole_page page.now)) }
 {
     let mut text = Vec::new(alloc);
     text.extend_from_slice(page.up_to_classes)?;
@@ -47,7 +47,7 @@ fn behind_of(
     script: &Option<Lines>,
     answers: &Option<Lines>,
 ) -> Result<Vec<u8>, NoMemory>
-    ensures { IfOk result (λ v. v.items ≡ behind_text (page_of page.now) script.now answers.now) }
+    ensures { IfOk result (λ v. v.items ≡ behind_text (whole_page page.now) script.now answers.now) }
 {
     let mut text = Vec::new(alloc);
     text.extend_from_slice(page.up_to_script)?;
@@ -66,7 +66,7 @@ pub(crate) fn page_teller(
     answers: &Option<Lines>,
 ) -> Result<PageTeller, NoMemory>
     ensures { IfOk result (λ t. (moves : List Move) → page_rest t true unstarted moves
-        ≡ page_text (page_of page.now) script.now answers.now moves) }
+        ≡ whole_page_text (whole_page page.now) script.now answers.now moves) }
 {
     let front = front_of(alloc, page)?;
     let behind = behind_of(alloc, page, script, answers)?;

@@ -8,7 +8,7 @@ ghost use Rattle.mm_classes.specs.{Class};
 ghost use Rattle.mm_tell.specs.{class_list};
 ghost use Rattle.mm_show.specs.Sums.{sum_row, class_row, kind_row, class_sums, kind_sums};
 ghost use Rattle.mm_show.specs.Sums.{kind_text, kind_letter};
-ghost use Rattle.mm_show.specs.Sums.{sums_text, number_in};
+ghost use Rattle.mm_show.specs.Sums.{sums_text, code_count};
 ghost use Rattle.mm_show.specs.Counted.{of_class, of_kind, AreFew};
 ghost use Rattle.mm_sentences.specs.{why_text};
 
@@ -156,7 +156,7 @@ fn count_kind(kinds: &mut [u64; 256], m: &Move)
 /// A row for each of some classes that there is one of.
 fn put_class_rows(all: &[Class], classes: &[u64; 256], text: &mut Vec<u8>) -> Result<(), NoMemory>
     ensures { OnOk result (text.new.items
-        ≡ text.old.items ++ flat_map (class_row (number_in classes.now)) all.now) }
+        ≡ text.old.items ++ flat_map (class_row (code_count classes.now)) all.now) }
 {
     for class in all {
         let letter = code(*class);
@@ -167,7 +167,7 @@ fn put_class_rows(all: &[Class], classes: &[u64; 256], text: &mut Vec<u8>) -> Re
 
 fn put_classes(classes: &[u64; 256], text: &mut Vec<u8>) -> Result<(), NoMemory>
     ensures { OnOk result (text.new.items
-        ≡ text.old.items ++ class_sums (number_in classes.now)) }
+        ≡ text.old.items ++ class_sums (code_count classes.now)) }
 {
     put_class_rows(&CLASSES, classes, text)
 }

@@ -1,13 +1,10 @@
 ghost use Rattle.std.specs.Prelude.{◌≡◌, ◌≤◌, ◌⊎◌, ◌++◌, ◌∷◌, [], ℕ, List, Option, OnOk, true};
 ghost use Rattle.std.specs.Prelude.{Some, map, option_map, string_bytes, None};
 ghost use Rattle.mm_types.specs.{Rose};
-ghost use Rattle.mm_log.specs.{IsFault, Shows, IsRefused};
+ghost use Rattle.mm_log.specs.{IsFaultStatus, Shows, IsRefusedLog};
 ghost use Rattle.mm_tell.specs.{Answers, SaysExactly, total_of};
-ghost use Rattle.mm_show.specs.declared.forms.Form.{Form};
-ghost use Rattle.mm_show.specs.Forms.{form_of, word_at, files_of, has_script, has_answers};
-ghost use Rattle.mm_show.specs.Showing.{form_said, form_why, FileIs, FileFailed, unread_text};
-ghost use Rattle.mm_show.specs.Showing.{IsUnread, usage_text};
-ghost use Rattle.mm_show.specs.Texts.{page_of};
+ghost use Rattle.mm_show.specs.{Form, form_of, word_at, files_of, has_script, has_answers, form_said, form_why, FileIs, FileFailed, unread_text};
+ghost use Rattle.mm_show.specs.{IsUnread, usage_text, whole_page};
 
 use crate::forms::{Files, Form, asked, word_at};
 use crate::pages::{PageTexts, page_teller};
@@ -71,7 +68,7 @@ fn shown<S: Source, O: Sink>(
     out: &mut O,
 ) -> u8
     ensures answers { Answers (S.left log.old) (S.left log.new) (O.taken out.old) (O.taken out.new)
-        script.now (form_said form (page_of page.now) script.now answers.now) (form_why form)
+        script.now (form_said form (whole_page page.now) script.now answers.now) (form_why form)
         result }
     ensures later { (S.faults log.old ≤ S.faults log.new) × (O.faults out.old ≤ O.faults out.new) }
     ensures read_fault { result ≡ 4 → Rose (S.faults log.old) (S.faults log.new) }
@@ -161,7 +158,7 @@ fn show_form<S: Source, F: Source, O: Sink>(
         → FileIs (has_script (files_of form)) (option_map F.left script.old) s
         → FileIs (has_answers (files_of form)) (option_map F.left answers.old) a
         → Answers (S.left log.old) (S.left log.new) (O.taken out.old) (O.taken out.new) s
-        (form_said form (page_of page.now) s a) (form_why form) result }
+        (form_said form (whole_page page.now) s a) (form_why form) result }
     ensures no_script { has_script (files_of form) ≡ true → script.old ≡ None
         → IsUnread (word_at (map string_bytes words.now) 1) (O.taken out.old) (O.taken out.new)
         result }
@@ -169,7 +166,7 @@ fn show_form<S: Source, F: Source, O: Sink>(
         → FileIs (has_script (files_of form)) (option_map F.left script.old) s
         → has_answers (files_of form) ≡ true → answers.old ≡ None
         → IsUnread (word_at (map string_bytes words.now) 2) (O.taken out.old) (O.taken out.new)
-        result ⊎ IsFault result }
+        result ⊎ IsFaultStatus result }
     ensures later { (S.faults log.old ≤ S.faults log.new) × (O.faults out.old ≤ O.faults out.new) }
     ensures read_fault { result ≡ 4 → Rose (S.faults log.old) (S.faults log.new)
         ⊎ (FileFailed F.faults (has_script (files_of form)) script.old script.new
@@ -209,7 +206,7 @@ pub fn run_show<S: Source, F: Source, O: Sink>(
         → form_of (map string_bytes words.now) ≡ Some f
         → FileIs (has_script (files_of f)) (option_map F.left script.old) s
         → FileIs (has_answers (files_of f)) (option_map F.left answers.old) a
-        → SaysExactly s (form_said f (page_of page.now) s a) (form_why f) (S.left log.old)
+        → SaysExactly s (form_said f (whole_page page.now) s a) (form_why f) (S.left log.old)
         (O.taken out.old) (O.taken out.new) result }
     ensures no_script { (f : Form) → form_of (map string_bytes words.now) ≡ Some f
         → has_script (files_of f) ≡ true → script.old ≡ None
@@ -221,10 +218,10 @@ pub fn run_show<S: Source, F: Source, O: Sink>(
         → has_answers (files_of f) ≡ true → answers.old ≡ None
         → IsUnread (word_at (map string_bytes words.now) 2) (O.taken out.old) (O.taken out.new)
         result
-        ⊎ IsFault result }
+        ⊎ IsFaultStatus result }
     ensures usage { form_of (map string_bytes words.now) ≡ None
         → Shows (O.taken out.old) (O.taken out.new) usage_text 2 result
-        ⊎ IsRefused (O.taken out.old) (O.taken out.new) result }
+        ⊎ IsRefusedLog (O.taken out.old) (O.taken out.new) result }
     ensures unread { form_of (map string_bytes words.now) ≡ None → S.left log.new ≡ S.left log.old }
     ensures read_fault { (f : Form) → form_of (map string_bytes words.now) ≡ Some f → result ≡ 4
         → Rose (S.faults log.old) (S.faults log.new)

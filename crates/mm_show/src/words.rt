@@ -1,5 +1,5 @@
 ghost use Rattle.std.specs.Prelude.{◌≡◌, ◌++◌, OnOk, Some, None, flat_map};
-ghost use Rattle.mm_show.specs.Words.{move_word, group_word, class_row, class_rows};
+ghost use Rattle.mm_show.specs.{move_word, group_word, class_rows, class_words_row};
 
 use mm_classes::{Class, Group, code, group, sentence};
 use mm_types::NoMemory;
@@ -115,7 +115,7 @@ fn group_word(group: Option<Group>) -> &'static [u8]
 /// Writes what the page has to know of a class: its code, its move, its group and its sentence.
 #[tactic(auto, using(mm_text::proofs::DigitCounts::joined))]
 fn put_class(class: Class, text: &mut Vec<u8>) -> Result<(), NoMemory>
-    ensures { OnOk result (text.new.items ≡ text.old.items ++ class_row class) }
+    ensures { OnOk result (text.new.items ≡ text.old.items ++ class_words_row class) }
 {
     text.push(code(class))?;
     text.push(b' ')?;
@@ -130,7 +130,7 @@ fn put_class(class: Class, text: &mut Vec<u8>) -> Result<(), NoMemory>
 
 /// Writes a line for each of some classes.
 fn put_rows(classes: &[Class], text: &mut Vec<u8>) -> Result<(), NoMemory>
-    ensures { OnOk result (text.new.items ≡ text.old.items ++ flat_map class_row classes.now) }
+    ensures { OnOk result (text.new.items ≡ text.old.items ++ flat_map class_words_row classes.now) }
 {
     for class in classes {
         put_class(*class, text)?;

@@ -1,11 +1,11 @@
 -- Sets of numbers in words: one bit of one word changes, words are added, the lowest number is found.
-use Rattle.std.proofs.Common.{◌≡◌, ◌≢◌, ℕ, ◌+◌, ◌-◌, ◌*◌, ◌/◌, ◌%◌, ◌^◌, ◌<◌, Bool, true, false, List, length, get_or, set, sym, ap, ◌∙◌, inl, inr, arith, get_or-set_same, get_or-set_other}
+use Rattle.std.proofs.Common.{◌≡◌, ◌≢◌, ℕ, zero, suc, ◌+◌, ◌-◌, ◌*◌, ◌/◌, ◌%◌, ◌^◌, ◌<◌, ◌≤◌, Bool, true, false, List, [], ◌∷◌, ◌++◌, length, get_or, set, take, replicate, refl, sym, ap, ◌∙◌, inl, inr, arith, get_or-set_same, get_or-set_other}
 use Rattle.std.specs.Prelude.{◌==◌, not, bit_or, bit_and}
-use Rattle.std.proofs.lemmas.List.{get_or_past, get_or_read}
+use Rattle.std.proofs.lemmas.List.{get_or_past, get_or_read, take_all}
 use Rattle.std.specs.Int.{bit_not, trailing_zeros, w64}
 use Rattle.mm_types.proofs.{same_or_not, differ}
 use Rattle.mm_slots.specs.{has_bit, have_bit, IsLeast, ChangesOne}
-use Rattle.mm_slots.proofs.BitLemmas.{zero_has_none, none_above, lowest_bit, set_same, set_other, clear_same, clear_other}
+use Rattle.mm_slots.proofs.BitLemmas.{zero_has_none, lowest_bit, set_same, set_other, clear_same, clear_other}
 
 -- the word of a number, and its place there, are the number
 split_apart : (i j : ℕ) → j ≢ i → j / 64 ≡ i / 64 → j % 64 ≢ i % 64
@@ -95,18 +95,37 @@ above_kept above words i word h e some summary k =
       | inr d ↦ summary k ∙ sym (ap (λ (n : ℕ). not (n == 0)) (get_or-set_other words (i / 64) k new 0 d))
     ]
 
--- ---- a word becomes the first of a level
+-- ---- words are added
 
-module _ (words : List ℕ) (bits : ℕ) (zero : (k : ℕ) → get_or words k 0 ≡ 0) (some : 0 < length words) where
-  pub raised_same : bits < 2 ^ 64 → (i : ℕ) → have_bit (set words 0 bits) i ≡ has_bit bits i
-  unfolding have_bit
-  raised_same fits i = elim (same_or_not (i / 64) 0) [
-    | inl e ↦
-        let here : i % 64 ≡ i = omega (arith, e) in
-        ap (λ (q : ℕ). has_bit (get_or (set words 0 bits) q 0) (i % 64)) e
-        ∙ ap (λ (w : ℕ). has_bit w (i % 64)) (get_or-set_same words 0 bits 0 some)
-        ∙ ap (has_bit bits) here
-    | inr d ↦
-        ap (λ (w : ℕ). has_bit w (i % 64)) (get_or-set_other words 0 (i / 64) bits 0 d ∙ zero (i / 64))
-        ∙ zero_has_none (i % 64) ∙ sym (none_above bits i fits (omega (arith, d)))
+zeros : (m k : ℕ) → ◌≡◌ {A = ℕ} (get_or (replicate m 0) k 0) 0
+zeros zero k = refl
+zeros (suc m) zero = refl
+zeros (suc m) (suc k) = zeros m k
+
+padded : (words : List ℕ) (m k : ℕ) → get_or (words ++ replicate m 0) k 0 ≡ get_or words k 0
+padded [] m k = zeros m k
+padded (w ∷ words) m zero = refl
+padded (w ∷ words) m (suc k) = padded words m k
+
+pub words_added : (words : List ℕ) (n m : ℕ) → length words ≤ n → (k : ℕ) → get_or (take n words ++ replicate m 0) k 0 ≡ get_or words k 0
+words_added words n m h k = ap (λ (xs : List ℕ). get_or (xs ++ replicate m 0) k 0) (take_all n words h) ∙ padded words m k
+
+-- the level above, which was empty while there was one word at most
+module _ (above : ℕ → Bool) (words words' : List ℕ) (same : (k : ℕ) → get_or words' k 0 ≡ get_or words k 0) (bare : length words ≤ 1 → (k : ℕ) → above k ≡ false) where
+  few : length words ≤ 1 → (length words ≡ 1 → get_or words' 0 0 ≡ 0) → (k : ℕ) → get_or words k 0 ≡ 0
+  few short none k = elim (same_or_not (length words - k) 0) [
+    | inl e ↦ get_or_past words k 0 (omega arith)
+    | inr d ↦ let first : k ≡ 0 = omega (arith, short, d) in ap (λ (q : ℕ). get_or words q 0) first ∙ sym (same 0) ∙ none (omega (arith, short, d))
+  ]
+
+  pub above_same : (length words ≡ 1 → get_or words' 0 0 ≡ 0) → (1 < length words → (k : ℕ) → above k ≡ not (get_or words k 0 == 0)) → (k : ℕ) → above k ≡ not (get_or words' k 0 == 0)
+  above_same none summary k = elim (same_or_not (length words - 1) 0) [
+    | inl e ↦ bare (omega arith) k ∙ sym (ap (λ (w : ℕ). not (w == 0)) (same k ∙ few (omega arith) none k))
+    | inr d ↦ summary (omega arith) k ∙ sym (ap (λ (w : ℕ). not (w == 0)) (same k))
+  ]
+
+  pub first_above : (above' : ℕ → Bool) → length words ≡ 1 → get_or words' 0 0 ≢ 0 → ChangesOne above above' 0 true → (k : ℕ) → above' k ≡ not (get_or words' k 0 == 0)
+  first_above above' one some c k = elim (same_or_not k 0) [
+    | inl e ↦ ap above' e ∙ c.at ∙ sym (ap (λ (q : ℕ). not (get_or words' q 0 == 0)) e ∙ not_zero (get_or words' 0 0) some)
+    | inr d ↦ c.others k d ∙ bare (omega arith) k ∙ sym (ap (λ (w : ℕ). not (w == 0)) (same k ∙ get_or_past words k 0 (omega arith)))
   ]

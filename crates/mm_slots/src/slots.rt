@@ -1,13 +1,13 @@
 ghost use Rattle.std.specs.Prelude.{◌≡◌, ◌≢◌, ◌↔◌, ℕ, ◌+◌, ◌-◌, ◌^◌, ◌<◌, ◌≤◌, ◌++◌, Bool, true, false, length, replicate, Some, None, IfOk, OnOk, OnErr, IfSome, IfNone, slice_get, slice_set};
 ghost use Rattle.mm_slots.specs.Slots.{SlotsOf, free_count, IsLowest};
 
-use crate::tree::{Level, Numbers, Top, Word};
+use crate::tree::{Level, Numbers, Word};
 use mm_types::{NoMemory, Slot};
 use std::alloc::Global;
 use std::marker::Model;
 
-/// Of at most six levels, which hold 2^36 numbers: 262,144 slots stand in three.
-type Tree = Level<Top<Top<Top<Top<Word>>>>>;
+/// Of six levels, which hold 2^36 numbers. 262,144 slots use three.
+type Tree = Level<Level<Level<Level<Level<Word>>>>>;
 
 /// The slots of a paging file, each free or taken.
 ///

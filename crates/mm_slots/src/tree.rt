@@ -81,35 +81,17 @@ impl Numbers for Word {
     }
 }
 
-/// As many levels as the numbers want: one word where they are below 64, else words with levels
-/// above.
-#[derive(Drop)]
-pub enum Top<A: Numbers> {
-    One(Global, Word),
-    More(Level<A>),
-}
-
-/// Numbers as the bits of words. The words that are not zero are the numbers of the level above.
+/// Numbers as the bits of words. Where there are two words or more, those that are not zero are the
+/// numbers of the level above, which else is empty.
 #[derive(Drop)]
 pub struct Level<A: Numbers> {
     words: Vec<u64>,
     above: A,
-    ghost summary: { (k : ℕ) → A.has above k ≡ not (slice_index words.items k == 0) },
+    ghost summary: { 1 < length words.items →
+        (k : ℕ) → A.has above k ≡ not (slice_index words.items k == 0) },
+    ghost bare: { length words.items ≤ 1 → (k : ℕ) → A.has above k ≡ false },
     ghost covered: { length words.items ≤ A.room above },
     ghost small: { length words.items ≤ 2 ^ 26 },
-}
-
-/// Zeros after the words, until there are `n`.
-fn fill(words: &mut Vec<u64>, n: usize) -> Result<(), NoMemory>
-    ensures same { (k : ℕ) → slice_index words.new.items k ≡ slice_index words.old.items k }
-    ensures ok { OnOk result (n ≤ length words.new.items) }
-    ensures longer { length words.old.items ≤ length words.new.items }
-    ensures within { length words.new.items ≤ max n (length words.old.items) }
-{
-    while words.len() < n {
-        words.push(0)?;
-    }
-    Ok(())
 }
 
 impl<A: Numbers> Level<A> {
@@ -141,101 +123,53 @@ impl<A: Numbers> Numbers for Level<A> {
     }
 
     fn reserve(&mut self, end: usize) -> Result<(), NoMemory> {
-        let words = (end + (BITS - 1)) / BITS;
-        self.above.reserve(words)?;
-        fill(&mut self.words, words)
+        let n = (end + (BITS - 1)) / BITS;
+        let before = self.words.len();
+        if n <= before {
+            return Ok(());
+        }
+        self.above.reserve(n)?;
+        self.words.resize(n, 0)?;
+        let first = self.words[0];
+        if before != 1 {
+            return Ok(());
+        }
+        if first == 0 {
+            return Ok(());
+        }
+        self.above.insert(0);
+        Ok(())
     }
 
     fn insert(&mut self, i: usize) {
         let at = i / BITS;
         let word = self.words[at];
         self.words[at] = word | 1 << (i % BITS);
-        if word == 0 {
-            self.above.insert(at);
+        if word != 0 {
+            return;
         }
+        if self.words.len() == 1 {
+            return;
+        }
+        self.above.insert(at);
     }
 
     fn remove(&mut self, i: usize) {
         let at = i / BITS;
         let word = self.words[at] & !(1 << (i % BITS));
         self.words[at] = word;
-        if word == 0 {
-            self.above.remove(at);
+        if word != 0 {
+            return;
         }
+        if self.words.len() == 1 {
+            return;
+        }
+        self.above.remove(at);
     }
 
     fn lowest(&self) -> usize {
         let at = self.first_word();
         let word = self.words[at];
         at * BITS + word.trailing_zeros() as usize
-    }
-}
-
-/// A level with room for the numbers below `end`, in which the numbers of a word are.
-fn raised<A: Numbers>(alloc: Global, word: &Word, end: usize) -> Result<Level<A>, NoMemory>
-    requires most { end ≤ 64 * A.most }
-    requires small { end ≤ 2 ^ 32 }
-    requires some { 64 < end }
-    ensures same { IfOk result (λ l. (i : ℕ) → have_bit l.words.items i ≡ has_bit word.now.bits i) }
-    ensures room { IfOk result (λ l. end ≤ 64 * length l.words.items) }
-{
-    let n = (end + (BITS - 1)) / BITS;
-    let mut above = A::new(alloc);
-    above.reserve(n)?;
-    let mut words = Vec::new(alloc);
-    fill(&mut words, n)?;
-    let bits = word.bits;
-    words[0] = bits;
-    if bits != 0 {
-        above.insert(0);
-    }
-    Ok(Level { words, above })
-}
-
-impl<A: Numbers> Numbers for Top<A> {
-    ghost use Rattle.mm_slots.specs.Tops.{has_in, room_in};
-
-    ghost has = { has_in };
-
-    ghost room = { room_in };
-
-    ghost most = { 64 * A.most };
-
-    fn new(alloc: Global) -> Self {
-        Top::One(alloc, Word::new(alloc))
-    }
-
-    fn reserve(&mut self, end: usize) -> Result<(), NoMemory> {
-        match self {
-            Top::One(alloc, word) => {
-                if end > BITS {
-                    let level = raised(*alloc, word, end)?;
-                    *self = Top::More(level);
-                }
-                Ok(())
-            }
-            Top::More(level) => level.reserve(end),
-        }
-    }
-
-    fn insert(&mut self, i: usize) {
-        match self {
-            Top::One(_, word) => word.insert(i),
-            Top::More(level) => level.insert(i),
-        }
-    }
-
-    fn remove(&mut self, i: usize) {
-        match self {
-            Top::One(_, word) => word.remove(i),
-            Top::More(level) => level.remove(i),
-        }
-    }
-
-    fn lowest(&self) -> usize {
-        match self {
-            Top::One(_, word) => word.lowest(),
-            Top::More(level) => level.lowest(),
-        }
     }
 }

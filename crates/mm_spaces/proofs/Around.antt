@@ -7,7 +7,7 @@ use Rattle.std.specs.List.{position_or_len}
 use Rattle.std.proofs.lemmas.List.Sums.{sum_by-cons}
 use Rattle.std.proofs.lemmas.Bool.{leb-true, eqb-true}
 use Rattle.mm_types.specs.{Range, holds_page, lies_within, end_of, page_of, address_of}
-use Rattle.mm_vad.specs.{Region, region_holds, region_at, change_region, pages_of as kept_pages, LieApart, ranges_of as kept_ranges}
+use Rattle.mm_vad.specs.{Region, region_holds, region_at, change_region, region_range as kept_pages, LieApart, region_ranges as kept_ranges}
 use Rattle.mm_vad.proofs.{change_here, change_later}
 use Rattle.mm_vad.specs.Regions as vad
 use Rattle.mm_world.specs.{RegionOf, pages_of, Found, one_later, region_with, first_where, ranges_of, add_region, region_around, LaidOut}
@@ -78,11 +78,11 @@ whole_tail r rs w = All-tail (λ (r : Region). length r.rows ≡ r.pages) r rs w
 
 -- ---- pages
 
-pub ranges_shown : (rs : List Region) → Whole rs → ranges_of (shown_regions rs) ≡ vad.ranges_of rs
+pub ranges_shown : (rs : List Region) → Whole rs → ranges_of (shown_regions rs) ≡ vad.region_ranges rs
 ranges_shown [] w = refl
 ranges_shown (r ∷ rs) w =
     ap (λ (x : Range). x ∷ ranges_of (shown_regions rs)) (shown_pages r (whole_head r rs w))
-    ∙ ap (λ (xs : List Range). vad.pages_of r ∷ xs) (ranges_shown rs (whole_tail r rs w))
+    ∙ ap (λ (xs : List Range). vad.region_range r ∷ xs) (ranges_shown rs (whole_tail r rs w))
 
 -- ---- searches
 

@@ -48,7 +48,7 @@ is_at vs page r k e =
       flags = (found_has (λ (x : Region). vad.HasFlags x.pages x) (vad.region_holds page) vs r k.whole.flags e).1;
       low = row.0;
       high = row.1;
-      within = (found_has (λ x. FollowsFrom first_user_page (vad.pages_of x)) (vad.region_holds page) vs r (each_region vs k.whole) e).1.within;
+      within = (found_has (λ x. FollowsFrom first_user_page (vad.region_range x)) (vad.region_holds page) vs r (each_region vs k.whole) e).1.within;
       fit = each-at RowsFit (shown_regions vs) _ (region_of r) k.sound.rows stands.there;
     }
 

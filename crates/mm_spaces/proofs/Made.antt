@@ -45,18 +45,18 @@ by_address : (taken : List Range) (addr : ℕ) (wanted : Range) (count : ℕ) �
 by_address taken addr wanted count e = ap (λ (n : ℕ). placed taken n wanted count) e
 
 module _ (vs : List Region) (whole : Whole vs) (addr : ℕ) (wanted : Range) (count : ℕ) where
-  pub by_gap : (o : Option Vpn) → addr ≡ 0 → o ≡ option_map page_number (lowest_gap (vad.ranges_of vs) count) → placed (ranges_of (shown_regions vs)) addr wanted count ≡ option_map (λ (v : Vpn). range_by count v.0) o
+  pub by_gap : (o : Option Vpn) → addr ≡ 0 → o ≡ option_map page_number (lowest_gap (vad.region_ranges vs) count) → placed (ranges_of (shown_regions vs)) addr wanted count ≡ option_map (λ (v : Vpn). range_by count v.0) o
   by_gap o e found =
       by_address (ranges_of (shown_regions vs)) addr wanted count e
       ∙ ap (λ taken. option_map (range_by count) (lowest_gap taken count)) (ranges_shown vs whole)
-      ∙ by_number (lowest_gap (vad.ranges_of vs) count)
+      ∙ by_number (lowest_gap (vad.region_ranges vs) count)
       ∙ ap (option_map (λ (v : Vpn). range_by count v.0)) (sym found)
     where
       by_number : (o : Option ℕ) → option_map (range_by count) o ≡ option_map (λ (v : Vpn). range_by count v.0) (option_map page_number o)
       by_number None = refl
       by_number (Some n) = refl
 
-  pub by_wanted : (b : Bool) → (addr ≡ 0 → ⊥) → b ≡ is_free (vad.ranges_of vs) wanted → placed (ranges_of (shown_regions vs)) addr wanted count ≡ cond b (Some wanted) None
+  pub by_wanted : (b : Bool) → (addr ≡ 0 → ⊥) → b ≡ is_free (vad.region_ranges vs) wanted → placed (ranges_of (shown_regions vs)) addr wanted count ≡ cond b (Some wanted) None
   by_wanted b other e =
       ap (λ z. cond z (option_map (range_by count) (lowest_gap (ranges_of (shown_regions vs)) count)) (cond (is_free (ranges_of (shown_regions vs)) wanted) (Some wanted) None)) (ne_eqb addr 0 other)
       ∙ ap (λ taken. cond (is_free taken wanted) (Some wanted) None) (ranges_shown vs whole)
@@ -93,9 +93,9 @@ module _ (watched : Bool) (alloc_type prot : ℕ) (range : Range) (rows : List R
 
 -- ---- one region more
 
-pub free_among : (vs : List Region) (r : Region) → Whole vs → IsWholeRegion r → is_free (ranges_of (shown_regions vs)) (pages_of (region_of r)) ≡ true → is_free (vad.ranges_of vs) (vad.pages_of r) ≡ true
+pub free_among : (vs : List Region) (r : Region) → Whole vs → IsWholeRegion r → is_free (ranges_of (shown_regions vs)) (pages_of (region_of r)) ≡ true → is_free (vad.region_ranges vs) (vad.region_range r) ≡ true
 free_among vs r whole w e =
-    sym (ap (λ taken. is_free taken (pages_of (region_of r))) (ranges_shown vs whole) ∙ ap (is_free (vad.ranges_of vs)) (shown_pages r w.rows)) ∙ e
+    sym (ap (λ taken. is_free taken (pages_of (region_of r))) (ranges_shown vs whole) ∙ ap (is_free (vad.region_ranges vs)) (shown_pages r w.rows)) ∙ e
 
 pub record CanAdd (new : RegionOf (Unit {0})) (rs : List (RegionOf (Unit {0}))) : Type 0 where
   pub free : is_free (ranges_of rs) (pages_of new) ≡ true

@@ -12,7 +12,7 @@ use Rattle.mm_types.specs.{Kind, Range, first_user_page, end_of_user_pages, View
 use Rattle.mm_types.proofs.{some_found, both}
 use Rattle.mm_types.specs.declared.views.Kind.TheVariants as kind
 use Rattle.mm_vad.specs.{Row, Region, filled_rows, region_at, with_equal_rows, fill_rows, LieInRegion, IsSpace as IsVad, range_at, FollowsFrom}
-use Rattle.mm_vad.specs.{SpaceOf, region_holds, pages_of as kept_pages}
+use Rattle.mm_vad.specs.{SpaceOf, region_holds, region_range as kept_pages}
 use Rattle.mm_vad.proofs.{rows_whole, each_region}
 use Rattle.mm_world.specs.{RowOf, RegionOf, WorldOf, Found, region_around, is_private, reserved_row, row_at, is_committed, is_committed_at}
 use Rattle.mm_world.specs.{every_page, every_page_from, change_range, change_rows, region_with, is_one_of, is_protection_among, private_protections}

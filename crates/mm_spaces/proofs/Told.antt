@@ -45,7 +45,7 @@ next_shown vs page o e =
 
 pub next_behind : (vs : List Region) (page : ℕ) (r : Region) → IsKeptSpace vs → Some r ≡ vad.region_from vs (page + 1) → (page ≤ r.base.0) × (r.base.0 ≤ end_of_user_pages)
 next_behind vs page r k e =
-    let h = found_has (λ g. FollowsFrom first_user_page (vad.pages_of g)) (λ g. nat_le (page + 1) g.base.0) vs r (each_region vs k.whole) (sym e) in
+    let h = found_has (λ g. FollowsFrom first_user_page (vad.region_range g)) (λ g. nat_le (page + 1) g.base.0) vs r (each_region vs k.whole) (sym e) in
     let low : page + 1 ≤ r.base.0 = leb-true _ _ h.0 in
     (omega (arith, low), omega (arith, h.1.within))
 

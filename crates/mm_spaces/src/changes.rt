@@ -3,8 +3,7 @@ ghost use Rattle.mm_types.specs.{is_free, granule_pages};
 ghost use Rattle.mm_world.specs.{RowOf, RegionOf, pages_of, Found, ranges_of, region_with, region_around, add_region, is_private, private_at};
 ghost use Rattle.mm_world.specs.{view_at, row_at, is_protection_among, private_protections, all_protections, every_page, accepts, reserved_row};
 ghost use Rattle.mm_world.specs.{commit, protected, change_rows, RowsFit};
-ghost use Rattle.mm_spaces.specs.Tables.{owned_in};
-ghost use Rattle.mm_spaces.specs.RowChanges.{IsInRegion, CanChangeRow, CanChangeRows, RowChanged, RowsChanged};
+ghost use Rattle.mm_spaces.specs.{owned_in, IsInRegion, CanChangeRow, CanChangeRows, RowChanged, RowsChanged};
 
 use crate::rows::{RowChange, change_rows};
 use crate::{AddressSpace, NewRegion, PageRange};

@@ -10,7 +10,7 @@ use Rattle.mm_life.specs.{ResidentSet, blank, record_at, is_read, is_write, is_a
 use Rattle.mm_life.specs.{read_done, without_slot, FrameLife, set_in, set_of, with_resident, resident_by, IsLegal, owner_is, fits_place, touches}
 use Rattle.mm_life.specs.{is_touch, is_below_max, is_at_max, is_access, is_thread, is_io, is_zero, is_stored, has_depth, may_unmap, after_move}
 use Rattle.mm_life.specs.{after_unmap_at, backing_of}
-use Rattle.mm_laws.specs.Reached.{Reached}
+use Rattle.mm_laws.specs.{ReachedByMoves}
 use Rattle.mm_laws.proofs.{changes_give, changes_read, read_has, owner_passes, facts_of, stored_backed}
 use Rattle.mm_parts.specs.{end_of_read}
 use Rattle.mm_frame_laws.specs.{IsSoiled, is_calm}
@@ -26,7 +26,7 @@ calm_quiet : (q : Request) → has_request q ≡ false → is_calm q ≡ true
 calm_quiet request.None e = refl
 calm_quiet _ e = cc
 
-module _ (l : FrameLife) (reached : ∥ Reached l ∥₁) where
+module _ (l : FrameLife) (reached : ∥ ReachedByMoves l ∥₁) where
   pub give_quiet : (f : Frame) (k : Key) → IsLegal (move.Give f k) l → is_read (record_at (after_move l (move.Give f k)).frames f.0).request ≡ false
   give_quiet f k legal =
       let first = is_first f.0 l.frames.zeroed in
@@ -124,6 +124,6 @@ module _ (l : FrameLife) (reached : ∥ Reached l ∥₁) where
       by None e h = cc
       by (Some g) e h = sets p.pid.0 full
 
-pub read_quiet : (l : FrameLife) → ∥ Reached l ∥₁ → (ok : Bool) (f : Frame) → IsLegal (move.Got f) l → ok ≡ true → is_read (record_at (after_move l (end_of_read ok f)).frames f.0).request ≡ false
+pub read_quiet : (l : FrameLife) → ∥ ReachedByMoves l ∥₁ → (ok : Bool) (f : Frame) → IsLegal (move.Got f) l → ok ≡ true → is_read (record_at (after_move l (end_of_read ok f)).frames f.0).request ≡ false
 read_quiet l reached true f legal e = got_quiet l reached f legal
 read_quiet l reached false f legal e = cc

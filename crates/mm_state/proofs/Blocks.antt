@@ -4,7 +4,7 @@ use Rattle.std.specs.Prelude.{slice_set}
 use Rattle.std.specs.Bool.{OnTrue, OnFalse}
 use Rattle.std.proofs.lemmas.Bool.{OnTrue_at, OnFalse_at}
 use Rattle.mm_life.specs.{FrameLife, FrameBytes, BlockBytes, contents_of, BytesLocated, Log}
-use Rattle.mm_laws.specs.Reached.{Reached}
+use Rattle.mm_laws.specs.{ReachedByMoves}
 use Rattle.mm_parts.specs.{PartsOf}
 use Rattle.mm_blocks.specs.{DeviceOf}
 use Rattle.mm_pages.specs.Told.{Told}
@@ -17,7 +17,7 @@ pub block_written : (ok : Bool) (after before : BlockBytes) (write : BlockBytes 
 block_written true after before write there kept = OnTrue_at refl there
 block_written false after before write there kept = OnFalse_at refl kept
 
-pub block_carries : (ok : Bool) (l : FrameLife) → ∥ Reached l ∥₁ → (ram : FrameBytes) (slots blocks : BlockBytes) → BytesLocated l ram slots blocks → (b : ℕ) (page : List ℕ) → l.added b ≡ false
+pub block_carries : (ok : Bool) (l : FrameLife) → ∥ ReachedByMoves l ∥₁ → (ram : FrameBytes) (slots blocks : BlockBytes) → BytesLocated l ram slots blocks → (b : ℕ) (page : List ℕ) → l.added b ≡ false
     → (after : BlockBytes) → OnTrue ok (after ≡ slice_set blocks b page) → OnFalse ok (after ≡ blocks) → Carries l ram slots after (contents_of l ram slots blocks)
 block_carries ok l reached ram slots blocks kept b page new after there same =
     subst (λ (x : BlockBytes). Carries l ram slots x (contents_of l ram slots blocks)) (sym (block_written ok after blocks (λ xs. slice_set xs b page) there same)) (by ok)

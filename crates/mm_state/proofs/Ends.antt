@@ -7,11 +7,10 @@ use Rattle.mm_types.specs.declared.devices.Direction.TheVariants as way
 use Rattle.mm_blocks.specs.{KeepsOthers}
 use Rattle.mm_blocks.proofs.{keeps_same, keeps_written}
 use Rattle.mm_types.specs.declared.frames.Backing.TheVariants as backing
-use Rattle.mm_laws.specs.{block_of}
+use Rattle.mm_laws.specs.{block_of, ReachedByMoves}
 use Rattle.mm_types.specs.declared.moves.Move.TheVariants as move
 use Rattle.mm_life.specs.{record_at, has_request, is_read, is_write, FrameLife, IsLegal, is_io, is_access, is_call, after_move, home_at, FrameBytes}
-use Rattle.mm_life.specs.{BlockBytes, page_at, bytes_at, contents_of, BytesLocated, waits_after, Grew, IsMove, spelling_of_move}
-use Rattle.mm_laws.specs.Reached.{Reached}
+use Rattle.mm_life.specs.{BlockBytes, frame_page, bytes_at, contents_of, BytesLocated, waits_after, Grew, IsMove, spelling_of_move}
 use Rattle.mm_laws.proofs.{read_has, write_has, facts_of}
 use Rattle.mm_flight.specs.{ended, Waiting as Wait}
 use Rattle.mm_pages.specs.{with_write, in_slot, in_block}
@@ -25,7 +24,7 @@ use Rattle.mm_state.specs.{filled_if, read_told}
 use Rattle.mm_state.proofs.Making.{made_by, made_quiet}
 
 -- a request is one of the machine's frames
-asked_frame : (l : FrameLife) → ∥ Reached l ∥₁ → (f : Frame) → has_request (record_at l.frames f.0).request ≡ true → f.0 < l.machine.frames
+asked_frame : (l : FrameLife) → ∥ ReachedByMoves l ∥₁ → (f : Frame) → has_request (record_at l.frames f.0).request ≡ true → f.0 < l.machine.frames
 asked_frame l reached f asked =
     let low = asked_low l.frames f.0 asked in
     let size = (facts_of l reached).framed in
@@ -36,14 +35,14 @@ asked_frame l reached f asked =
 pub is_reading : (l : FrameLife) (f : Frame) → IsLegal (move.Got f) l → is_read (record_at l.frames f.0).request ≡ true
 is_reading l f legal = (and_parts (is_read (record_at l.frames f.0).request) (is_io l.kind || is_access l.kind) legal).0
 
-pub read_low : (l : FrameLife) → ∥ Reached l ∥₁ → (f : Frame) → IsLegal (move.Got f) l → f.0 < l.machine.frames
+pub read_low : (l : FrameLife) → ∥ ReachedByMoves l ∥₁ → (f : Frame) → IsLegal (move.Got f) l → f.0 < l.machine.frames
 read_low l reached f legal = asked_frame l reached f (read_has (record_at l.frames f.0).request (is_reading l f legal))
 
 there_is : (o : Option (List ℕ)) → IsSome o → (page : List ℕ) × (o ≡ Some page)
 there_is None s = let bad : false ≡ true = s in cc
 there_is (Some page) s = (page, refl)
 
-pub read_carries : (ok : Bool) (l : FrameLife) → ∥ Reached l ∥₁ → (ram : FrameBytes) (slots blocks : BlockBytes) → BytesLocated l ram slots blocks → (f : Frame) (home : Backing) → home ≡ (record_at l.frames f.0).backing → IsLegal (move.Got f) l
+pub read_carries : (ok : Bool) (l : FrameLife) → ∥ ReachedByMoves l ∥₁ → (ram : FrameBytes) (slots blocks : BlockBytes) → BytesLocated l ram slots blocks → (f : Frame) (home : Backing) → home ≡ (record_at l.frames f.0).backing → IsLegal (move.Got f) l
     → IsSome (bytes_at [] slots blocks (home_at home))
     → Carries (after_move l (end_of_read ok f)) (filled_if ok f.0 (bytes_at [] slots blocks (home_at home)) ram) slots blocks (contents_of l ram slots blocks)
 read_carries true l reached ram slots blocks kept f home is legal there =
@@ -70,7 +69,7 @@ made_by_read false f s z r is legal range grew life ages waits told calls slots 
 pub is_writing : (l : FrameLife) (f : Frame) → IsLegal (move.Wrote f) l → is_write (record_at l.frames f.0).request ≡ true
 is_writing l f legal = (and_parts (is_write (record_at l.frames f.0).request) (is_io l.kind || is_access l.kind || is_call l.kind) legal).0
 
-pub write_low : (l : FrameLife) → ∥ Reached l ∥₁ → (f : Frame) → IsLegal (move.Wrote f) l → f.0 < l.machine.frames
+pub write_low : (l : FrameLife) → ∥ ReachedByMoves l ∥₁ → (f : Frame) → IsLegal (move.Wrote f) l → f.0 < l.machine.frames
 write_low l reached f legal = asked_frame l reached f (write_has (record_at l.frames f.0).request (is_writing l f legal))
 
 pub write_legal : (ok : Bool) (l : FrameLife) (f : Frame) → IsLegal (move.Wrote f) l → IsLegal (write_end ok f) l
@@ -78,8 +77,8 @@ write_legal true l f legal = legal
 write_legal false l f legal = legal
 
 -- what the devices have is what they had, or with the page written where the frame is backed
-pub write_carries : (ok : Bool) (l : FrameLife) → ∥ Reached l ∥₁ → (ram : FrameBytes) (slots blocks : BlockBytes) → BytesLocated l ram slots blocks → (f : Frame) (page : List ℕ) → IsLegal (move.Wrote f) l
-    → page_at ram f.0 ≡ Some page → (home : Backing) → home ≡ (record_at l.frames f.0).backing
+pub write_carries : (ok : Bool) (l : FrameLife) → ∥ ReachedByMoves l ∥₁ → (ram : FrameBytes) (slots blocks : BlockBytes) → BytesLocated l ram slots blocks → (f : Frame) (page : List ℕ) → IsLegal (move.Wrote f) l
+    → frame_page ram f.0 ≡ Some page → (home : Backing) → home ≡ (record_at l.frames f.0).backing
     → (slots2 blocks2 : BlockBytes) → slots2 ≡ written_if ok (slots_written home page) slots → blocks2 ≡ written_if ok (blocks_written home page) blocks
     → Carries (after_move l (write_end ok f)) ram slots2 blocks2 (contents_of l ram slots blocks)
 write_carries ok l reached ram slots blocks kept f page legal there home is slots2 blocks2 se be =
@@ -126,7 +125,7 @@ pub same_page : (a b : List ℕ) → Some a ≡ Some b → a ≡ b
 same_page a b e = cc
 
 -- a frame without an owner is on no block
-pub no_block : (l : FrameLife) → ∥ Reached l ∥₁ → (f : Frame) → (record_at l.frames f.0).owner ≡ None → (ok : Bool) (page : List ℕ) (blocks : BlockBytes)
+pub no_block : (l : FrameLife) → ∥ ReachedByMoves l ∥₁ → (f : Frame) → (record_at l.frames f.0).owner ≡ None → (ok : Bool) (page : List ℕ) (blocks : BlockBytes)
     → written_if ok (blocks_written (record_at l.frames f.0).backing page) blocks ≡ blocks
 no_block l reached f none ok page blocks = by (record_at l.frames f.0).backing refl ok
   where

@@ -8,7 +8,7 @@ use Rattle.mm_types.specs.declared.moves.Move.TheVariants as move
 use Rattle.mm_life.specs.{is_first, is_empty, FrameLife, IsLegal, is_zeroer, is_touch, Log, Grew, IsMove, spelling_of_move, after_move, FrameBytes}
 use Rattle.mm_life.specs.{BlockBytes, zero_page, contents_of, BytesLocated}
 use Rattle.mm_parts.specs.{IsPlainLine, front}
-use Rattle.mm_laws.specs.Reached.{Reached}
+use Rattle.mm_laws.specs.{ReachedByMoves}
 use Rattle.mm_ram.specs.Ram as frames
 use Rattle.mm_ram.specs.{with_page}
 use Rattle.mm_frame_laws.specs.{Carries, slots_grown}
@@ -56,7 +56,7 @@ unfolding frames.zero_page
 zero_pages = refl
 
 -- a cleared frame, as the frames have it
-pub clear_carries : (l : FrameLife) → ∥ Reached l ∥₁ → (ram : FrameBytes) (slots blocks : BlockBytes) → BytesLocated l ram slots blocks → (f : Frame) → IsLegal (move.Clear f) l
+pub clear_carries : (l : FrameLife) → ∥ ReachedByMoves l ∥₁ → (ram : FrameBytes) (slots blocks : BlockBytes) → BytesLocated l ram slots blocks → (f : Frame) → IsLegal (move.Clear f) l
     → Carries (after_move l (move.Clear f)) (with_page ram f.0 frames.zero_page) slots blocks (contents_of l ram slots blocks)
 clear_carries l reached ram slots blocks kept f legal =
     subst (λ (z : List ℕ). Carries (after_move l (move.Clear f)) (with_page ram f.0 z) slots blocks (contents_of l ram slots blocks)) (sym zero_pages) (carries_clear l reached ram slots blocks kept f legal)

@@ -4,8 +4,8 @@ use Rattle.std.specs.Prelude.{IsSome, is_some, not, unwrap_or}
 use Rattle.std.proofs.lemmas.Bool.{lt-ltb}
 use Rattle.mm_types.specs.{Frame, Key, Place, Record, Held}
 use Rattle.mm_frame_laws.specs.{IsSoiled}
-use Rattle.mm_life.specs.{record_at, is_read, FrameLife, is_dead, FrameBytes, BlockBytes, zero_page, page_at, contents_of, BytesLocated}
-use Rattle.mm_laws.specs.Reached.{Reached}
+use Rattle.mm_life.specs.{record_at, is_read, FrameLife, is_dead, FrameBytes, BlockBytes, zero_page, frame_page, contents_of, BytesLocated}
+use Rattle.mm_laws.specs.{ReachedByMoves}
 use Rattle.mm_laws.proofs.{some_owner, facts_of}
 use Rattle.mm_ram.specs.{bytes_of}
 use Rattle.mm_words.specs.{Entry, WordsOf, valid_frame}
@@ -25,7 +25,7 @@ named_frame o place f _ h = cc
 pub valid_names : (o : Owners) (w : WordsOf) (place : Place) (f : Frame) → valid_of w place ≡ Some f → names_of o w place ≡ o f.0
 valid_names o w place f h = named_frame o place f (w.at place) h
 
-module _ (l : FrameLife) (reached : ∥ Reached l ∥₁) (ram : FrameBytes) (slots blocks : BlockBytes) (kept : BytesLocated l ram slots blocks) where
+module _ (l : FrameLife) (reached : ∥ ReachedByMoves l ∥₁) (ram : FrameBytes) (slots blocks : BlockBytes) (kept : BytesLocated l ram slots blocks) where
   -- the frame of a valid place has an owner, and no page is being read into it
   pub valid_calm : (place : Place) (f : Frame) → l.valid place ≡ Some f → is_read (record_at l.frames f.0).request ≡ false
   valid_calm place f v = shown_calm l (facts_of l reached) f.0 ((facts_of l reached).shares place f v)
@@ -40,9 +40,9 @@ module _ (l : FrameLife) (reached : ∥ Reached l ∥₁) (ram : FrameBytes) (sl
 
   -- the page of a key in a frame that is not being read
   pub own_page : (f : Frame) (k : Key) → (record_at l.frames f.0).owner ≡ Some k → is_read (record_at l.frames f.0).request ≡ false → contents_of l ram slots blocks k ≡ Some (bytes_of ram f.0)
-  own_page f k owner calm = by (page_at ram f.0) refl
+  own_page f k owner calm = by (frame_page ram f.0) refl
     where
-      by : (o : Option (List ℕ)) → page_at ram f.0 ≡ o → contents_of l ram slots blocks k ≡ Some (unwrap_or (page_at ram f.0) [])
+      by : (o : Option (List ℕ)) → frame_page ram f.0 ≡ o → contents_of l ram slots blocks k ≡ Some (unwrap_or (frame_page ram f.0) [])
       by None e =
           let bad : false ≡ true = sym (ap is_some (page_of_key l reached ram slots blocks kept f k owner calm ∙ e)) ∙ lives f k owner in cc
       by (Some p) e = page_of_key l reached ram slots blocks kept f k owner calm ∙ e ∙ sym (ap (λ (o : Option (List ℕ)). Some (unwrap_or o [])) e)

@@ -5,7 +5,7 @@ use Rattle.std.proofs.lemmas.List.{length-replicate}
 use Rattle.mm_types.specs.{Key, Backing, Held}
 use Rattle.mm_types.specs.declared.frames.Backing.TheVariants as backing
 use Rattle.mm_types.specs.declared.frames.Held.TheVariants as held
-use Rattle.mm_life.specs.{FrameLife, FrameBytes, BlockBytes, page_at, bytes_at, contents_of, held_at, zero_page}
+use Rattle.mm_life.specs.{FrameLife, FrameBytes, BlockBytes, frame_page, bytes_at, contents_of, held_at, zero_page}
 use Rattle.mm_blocks.specs.{empty_block}
 use Rattle.mm_frame_laws.specs.{slots_written, blocks_written}
 use Rattle.mm_moving.specs.{written_if}
@@ -63,7 +63,7 @@ block_whole true i page n xs ys e kept = whole_on ys _ e (whole_set xs kept i pa
 block_whole false i page n xs ys e kept = whole_on ys xs e kept
 
 -- the page of a key is whole, where those of frames and on devices are
-pub page_whole : (l : FrameLife) (ram : FrameBytes) (slots blocks : BlockBytes) → ((f : ℕ) (page : List ℕ) → page_at ram f ≡ Some page → length page ≡ 4096) → AreWhole slots → AreWhole blocks
+pub page_whole : (l : FrameLife) (ram : FrameBytes) (slots blocks : BlockBytes) → ((f : ℕ) (page : List ℕ) → frame_page ram f ≡ Some page → length page ≡ 4096) → AreWhole slots → AreWhole blocks
     → (k : Key) (page : List ℕ) → contents_of l ram slots blocks k ≡ Some page → length page ≡ 4096
 page_whole l ram slots blocks frames in_slot in_block k page = by (held_at l k)
   where

@@ -56,14 +56,14 @@ has_entry : (o : Option ℕ) → is_there (bare (entry_or o)) ≡ true → is_so
 has_entry None h = cc
 has_entry (Some word) h = refl
 
-bound_by : (o : Option Process) (v : ℕ) → is_there (read_or (λ p. at_of p v) entry.Empty o) ≡ true →
+bound_in_table : (o : Option Process) (v : ℕ) → is_there (read_or (λ p. at_of p v) entry.Empty o) ≡ true →
     read_or (λ p. bound_of p v) false o ≡ true
-bound_by None v h = cc
-bound_by (Some p) v h = has_entry (finite.get p.table v) h
+bound_in_table None v h = cc
+bound_in_table (Some p) v h = has_entry (finite.get p.table v) h
 
 -- a place that has an entry is bound
 place_bound : (ps : List Process) (x : Place) → is_there (at_in ps x) ≡ true → bound_in ps x ≡ true
-place_bound ps x h = bound_by (process_in ps x.pid.0) x.vpn.0 h
+place_bound ps x h = bound_in_table (process_in ps x.pid.0) x.vpn.0 h
 
 own_bound : (ps : List Process) (o : Option Aside) (x : Place) → AsideBound ps o →
     is_there (aside_or (tables.bare_aside o) x (at_in ps x)) ≡ true → bound_in ps x ≡ true

@@ -5,7 +5,7 @@ use Rattle.mm_types.specs.{Frame, Key, Backing, Held}
 use Rattle.mm_types.specs.declared.frames.Backing.TheVariants as backing
 use Rattle.mm_types.specs.declared.frames.Held.TheVariants as held
 use Rattle.mm_life.specs.{record_at, is_read, FrameLife, home_at, FrameBytes, BlockBytes, zero_page, bytes_at, located, contents_of, BytesLocated}
-use Rattle.mm_laws.specs.Reached.{Reached}
+use Rattle.mm_laws.specs.{ReachedByMoves}
 use Rattle.mm_world.specs.{filled}
 use Rattle.mm_pages.specs.Standing as pages
 use Rattle.mm_laws.proofs.Facts.{facts_of}
@@ -21,7 +21,7 @@ on_device ram slots blocks backing.None h = cc
 on_device ram slots blocks (backing.Slot s) h = refl
 on_device ram slots blocks (backing.Block c) h = refl
 
-module _ (l : FrameLife) (reached : ∥ Reached l ∥₁) (ram : FrameBytes) (slots blocks : BlockBytes)
+module _ (l : FrameLife) (reached : ∥ ReachedByMoves l ∥₁) (ram : FrameBytes) (slots blocks : BlockBytes)
     (kept : BytesLocated l ram slots blocks) where
   in_frame : (f : Frame) (k : Key) → (record_at l.frames f.0).owner ≡ Some k → (c r : Bool) →
       (record_at l.frames f.0).changed ≡ c → is_read (record_at l.frames f.0).request ≡ r

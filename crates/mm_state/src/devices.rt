@@ -10,7 +10,7 @@ ghost use Rattle.mm_moving.specs.{CalledFor, written_if};
 ghost use Rattle.mm_flight.specs.{ended};
 ghost use Rattle.mm_parts.specs.PartsShown as parts_of;
 ghost use Rattle.mm_parts.specs.{parts_after, own_ended, end_of_read};
-ghost use Rattle.mm_state.specs.Tallied.{filled_if};
+ghost use Rattle.mm_state.specs.{filled_if};
 ghost use Rattle.std.specs.Prelude.{[]};
 
 use crate::on_parts::read_from;

@@ -6,7 +6,7 @@ ghost use Rattle.mm_parts.specs.PartsShown as parts_of;
 ghost use Rattle.mm_parts.specs.{parts_after, front, own_ended, end_of_read, write_end};
 ghost use Rattle.mm_blocks.specs.{WasRead};
 ghost use Rattle.mm_types.specs.declared.moves.Move.TheVariants as move;
-ghost use Rattle.mm_state.specs.Tallied.{filled_if};
+ghost use Rattle.mm_state.specs.{filled_if};
 
 use mm_blocks::Inject;
 use mm_parts::Parts;

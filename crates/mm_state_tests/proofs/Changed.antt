@@ -6,7 +6,7 @@ use Rattle.mm_types.specs.{Backing, Held, Key}
 use Rattle.mm_types.specs.declared.frames.Backing.TheVariants as backing
 use Rattle.mm_types.specs.declared.frames.Held.TheVariants as held
 use Rattle.mm_life.specs.{home_at, record_at, FrameLife, is_live, FrameBytes, BlockBytes, bytes_at, contents_of, held_at, BytesLocated, Log}
-use Rattle.mm_laws.specs.Reached.{Reached}
+use Rattle.mm_laws.specs.{ReachedByMoves}
 use Rattle.mm_laws.proofs.{facts_of}
 use Rattle.mm_frame_laws.proofs.{owned_low}
 use Rattle.mm_blocks.specs.{DeviceOf, Call, Serves}
@@ -25,7 +25,7 @@ some_set (y ∷ ys) (suc i) zero x = refl
 some_set (y ∷ ys) (suc i) (suc j) x = some_set ys i j x
 
 -- a frame with an owner has nothing behind it
-bare : (l : FrameLife) → ∥ Reached l ∥₁ → NoneBacked l → (f : ℕ) → is_some (record_at l.frames f).owner ≡ true → (record_at l.frames f).backing ≡ backing.None
+bare : (l : FrameLife) → ∥ ReachedByMoves l ∥₁ → NoneBacked l → (f : ℕ) → is_some (record_at l.frames f).owner ≡ true → (record_at l.frames f).backing ≡ backing.None
 bare l reached none f some = none f (subst (λ (n : ℕ). f < n) (facts_of l reached).framed (owned_low l.frames f some))
 
 same_home : (ram : FrameBytes) (slots blocks slots' blocks' : BlockBytes) (home : Backing) → home ≡ backing.None → bytes_at ram slots blocks (home_at home) ≡ bytes_at ram slots' blocks' (home_at home)
@@ -33,7 +33,7 @@ same_home ram slots blocks slots' blocks' home e = subst (λ (h : Backing). byte
 
 -- ---- a block
 
-block_set : (l : FrameLife) → ∥ Reached l ∥₁ → (ram : FrameBytes) (slots blocks : BlockBytes) → BytesLocated l ram slots blocks → NoneBacked l → (b : ℕ) (page : List ℕ)
+block_set : (l : FrameLife) → ∥ ReachedByMoves l ∥₁ → (ram : FrameBytes) (slots blocks : BlockBytes) → BytesLocated l ram slots blocks → NoneBacked l → (b : ℕ) (page : List ℕ)
     → BytesLocated l ram slots (slice_set blocks b page)
 block_set l reached ram slots blocks kept none b page = record {
   clean = λ f some same calm. kept.clean f some same calm ∙ same_home ram slots blocks slots (slice_set blocks b page) (record_at l.frames f).backing (bare l reached none f some);
@@ -51,14 +51,14 @@ block_set l reached ram slots blocks kept none b page = record {
     still held.Zero = refl
     still held.Dead = refl
 
-pub block_behind : (ok : Bool) (l : FrameLife) → ∥ Reached l ∥₁ → (ram : FrameBytes) (slots blocks : BlockBytes) → BytesLocated l ram slots blocks → NoneBacked l → (b : ℕ) (page : List ℕ)
+pub block_behind : (ok : Bool) (l : FrameLife) → ∥ ReachedByMoves l ∥₁ → (ram : FrameBytes) (slots blocks : BlockBytes) → BytesLocated l ram slots blocks → NoneBacked l → (b : ℕ) (page : List ℕ)
     → (after : BlockBytes) → after ≡ written_if ok (λ xs. slice_set xs b page) blocks → BytesLocated l ram slots after
 block_behind true l reached ram slots blocks kept none b page after e = subst (λ (x : BlockBytes). BytesLocated l ram slots x) (sym e) (block_set l reached ram slots blocks kept none b page)
 block_behind false l reached ram slots blocks kept none b page after e = subst (λ (x : BlockBytes). BytesLocated l ram slots x) (sym e) kept
 
 -- ---- a slot
 
-slot_set : (l : FrameLife) → ∥ Reached l ∥₁ → (ram : FrameBytes) (slots blocks : BlockBytes) → BytesLocated l ram slots blocks → NoneBacked l → (s : ℕ) (page : List ℕ)
+slot_set : (l : FrameLife) → ∥ ReachedByMoves l ∥₁ → (ram : FrameBytes) (slots blocks : BlockBytes) → BytesLocated l ram slots blocks → NoneBacked l → (s : ℕ) (page : List ℕ)
     → BytesLocated l ram (slice_set slots s page) blocks
 slot_set l reached ram slots blocks kept none s page = record {
   clean = λ f some same calm. kept.clean f some same calm ∙ same_home ram slots blocks (slice_set slots s page) blocks (record_at l.frames f).backing (bare l reached none f some);
@@ -76,7 +76,7 @@ slot_set l reached ram slots blocks kept none s page = record {
     still held.Zero = refl
     still held.Dead = refl
 
-pub slot_behind : (ok : Bool) (l : FrameLife) → ∥ Reached l ∥₁ → (ram : FrameBytes) (slots blocks : BlockBytes) → BytesLocated l ram slots blocks → NoneBacked l → (s : ℕ) (page : List ℕ)
+pub slot_behind : (ok : Bool) (l : FrameLife) → ∥ ReachedByMoves l ∥₁ → (ram : FrameBytes) (slots blocks : BlockBytes) → BytesLocated l ram slots blocks → NoneBacked l → (s : ℕ) (page : List ℕ)
     → (after : BlockBytes) → after ≡ written_if ok (λ xs. slice_set xs s page) slots → BytesLocated l ram after blocks
 slot_behind true l reached ram slots blocks kept none s page after e = subst (λ (x : BlockBytes). BytesLocated l ram x blocks) (sym e) (slot_set l reached ram slots blocks kept none s page)
 slot_behind false l reached ram slots blocks kept none s page after e = subst (λ (x : BlockBytes). BytesLocated l ram x blocks) (sym e) kept

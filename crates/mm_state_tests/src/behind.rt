@@ -7,7 +7,7 @@ ghost use Rattle.mm_ram.specs.{bytes_of, overwritten, with_page};
 ghost use Rattle.mm_frame_laws.specs.{IsSoiled};
 ghost use Rattle.mm_parts.specs.PartsShown as parts_of;
 ghost use Rattle.mm_state.specs.{shown_state};
-ghost use Rattle.mm_state_tests.specs.Behind.{BytesChanged, NoneBacked};
+ghost use Rattle.mm_state_tests.specs.{BytesChanged, NoneBacked};
 
 use mm_blocks::Inject;
 use mm_moves::Moves;

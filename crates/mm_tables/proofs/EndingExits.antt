@@ -24,11 +24,10 @@ use Rattle.mm_pages.specs.Leaving.{Leaving}
 use Rattle.mm_pages.proofs.{ends_then, ends_meet, ends_wider}
 use Rattle.mm_commit.specs.{CommitOf}
 use Rattle.mm_sections.specs.{CountedSection, held, handle_at}
-use Rattle.mm_spaces.specs.{info_of, found_info, RegionInfo, owned_in}
+use Rattle.mm_spaces.specs.{info_of, found_info, RegionInfo, RegionsOf, owned_in}
 use Rattle.mm_tables.specs.{Fewer, Less, Toward, HasNoHandle, IsRankFor, IsTidy, handles_to, views_of, NobodyKeeps, AreKeptTables, FitsTables}
 use Rattle.mm_tables.specs.{Settled, store_beside, owned_among, own_at, is_owned_at, without_keys, without_paging, CanRelease, GivenUp, low_half}
-use Rattle.mm_tables.specs.{high_half, is_key_in, AreUnbound, is_page_live, passing, Process, process_regions, RegionsBecame, is_reserved}
-use Rattle.mm_tables.specs.{is_uncommitted}
+use Rattle.mm_tables.specs.{high_half, is_key_in, AreUnbound, is_page_live, passing, Process, with_space, is_reserved, is_uncommitted}
 use Rattle.mm_tables.proofs.EndingSettles.{process_same, at_each, less_then, beside_then, handles_put, views_put, holds_count, views_count, settle_same, tidy_settled, ends_same, key_is}
 use Rattle.mm_tables.proofs.Rows.{regions_in, paging-set_process, within, holds, holds_not, Inside, holds_too, passing_owned, region_key, reserved_is, own_rows, same_pages, has_own, in_range, private_charge, regions_of}
 use Rattle.mm_tables.proofs.Keeping.{keepers_less, sound_edit, Held, shown_with, still_kept, regions_by, sound_after}
@@ -600,37 +599,37 @@ given_unbound {pid} {range} {s = s} end a =
 
 -- ---- pages of a private region are given up, `n` of them with bytes: what the call's next steps are told, and what they come to
 
-pub record Freed (i : the_inside.Inside) (t : Tables) (pid : Pid) (p : ProcessOf (Unit {0})) (o new : Option Process) (ss : List (RegionOf (Unit {0}))) (n : ℕ) (c d : Key → Option Page) (s z : StoreOf) : Type 0 where
+pub record Freed (i : the_inside.Inside) (t : Tables) (pid : Pid) (p : ProcessOf (Unit {0})) (space : RegionsOf) (ss : List (RegionOf (Unit {0}))) (n : ℕ) (c d : Key → Option Page) (s z : StoreOf) : Type 0 where
   pub total : ℕ
   pub done : Done t pid p ss total c d s z
-  pub became : RegionsBecame o new ss
+  pub became : space.regions ≡ ss
   pub counted : n + total ≡ charge t
 
-module _ {i : the_inside.Inside} {t : Tables} {o new : Option Process} {ss : List (RegionOf (Unit {0}))} {n : ℕ} {c d : Key → Option Page} {s z : StoreOf} (pid : Pid) (h : Held i t pid.0 o) (f : Freed i t pid h.process o new ss n c d s z) where
+module _ {i : the_inside.Inside} {t : Tables} {o : Option Process} {rs ss : List (RegionOf (Unit {0}))} {space : RegionsOf} {n : ℕ} {c d : Key → Option Page} {s z : StoreOf} (pid : Pid) (h : Held i t pid.0 o rs) (f : Freed i t pid h.process space ss n c d s z) where
   pub freed_charged : n ≤ i.commit.charge
   freed_charged = omega (arith, f.counted, h.kept.charged)
 
-  pub freed_kept : (commit : CommitOf) → commit ≡ record i.commit { charge = i.commit.charge - n } → AreKeptTables (shown_with i (set i.processes.items (pid.0 - 1) new)) i.directory.entries commit
+  pub freed_kept : (commit : CommitOf) → commit ≡ record i.commit { charge = i.commit.charge - n } → AreKeptTables (shown_with i (set i.processes.items (pid.0 - 1) (with_space o space))) i.directory.entries commit
   freed_kept commit refunded =
-      still_kept h new ss commit f.total f.became f.done.stands f.done.charged (omega (arith, f.counted, h.kept.sound.charged))
+      still_kept h space ss commit f.total f.became f.done.stands f.done.charged (omega (arith, f.counted, h.kept.sound.charged))
       (omega (arith, ap (λ (k : CommitOf). k.charge) refunded, h.kept.charged, f.counted)) (ap (λ (k : CommitOf). k.limit) refunded)
 
-  pub freed_is : shown_with i (set i.processes.items (pid.0 - 1) new) ≡ set_regions t pid.0 h.process ss
-  freed_is = h.changed new h.process ss f.became h.lives
+  pub freed_is : shown_with i (set i.processes.items (pid.0 - 1) (with_space o space)) ≡ set_regions t pid.0 h.process ss
+  freed_is = h.changed space h.process ss f.became h.lives
 
-  pub freed_settled : Settled (shown_with i (set i.processes.items (pid.0 - 1) new)) c d s z
+  pub freed_settled : Settled (shown_with i (set i.processes.items (pid.0 - 1) (with_space o space))) c d s z
   freed_settled = settled_as freed_is f.done.settled
 
 -- by whatever names the process and its region have
-pub freed_named : {i : the_inside.Inside} {t : Tables} {pid : ℕ} {o : Option Process} (h : Held i t pid o) (new : Option Process) (pick : List (RegionOf (Unit {0})) → Option (Found (RegionOf (Unit {0})))) (put : List (RegionOf (Unit {0})) → Found (RegionOf (Unit {0})) → List (RegionOf (Unit {0})))
-    → ((r : Found (RegionOf (Unit {0}))) → pick (process_regions o) ≡ Some r → RegionsBecame o new (put (process_regions o) r)) → (q : ProcessOf (Unit {0})) (r : Found (RegionOf (Unit {0}))) → process_of t pid ≡ Some q → pick q.regions ≡ Some r → shown_with i (set i.processes.items (pid - 1) new) ≡ set_regions t pid q (put q.regions r)
-freed_named {o = o} h new pick put changed q r lives found =
+pub freed_named : {i : the_inside.Inside} {t : Tables} {pid : ℕ} {o : Option Process} {rs : List (RegionOf (Unit {0}))} (h : Held i t pid o rs) (space : RegionsOf) (pick : List (RegionOf (Unit {0})) → Option (Found (RegionOf (Unit {0})))) (put : List (RegionOf (Unit {0})) → Found (RegionOf (Unit {0})) → List (RegionOf (Unit {0})))
+    → ((r : Found (RegionOf (Unit {0}))) → pick rs ≡ Some r → space.regions ≡ put rs r) → (q : ProcessOf (Unit {0})) (r : Found (RegionOf (Unit {0}))) → process_of t pid ≡ Some q → pick q.regions ≡ Some r → shown_with i (set i.processes.items (pid - 1) (with_space o space)) ≡ set_regions t pid q (put q.regions r)
+freed_named h space pick put changed q r lives found =
     let regions = regions_by h q lives in
-    h.changed new q (put q.regions r) (subst (λ rs. RegionsBecame o new (put rs r)) regions (changed r (ap pick regions ∙ found))) lives
+    h.changed space q (put q.regions r) (changed r (ap pick regions ∙ found) ∙ ap (λ rs. put rs r) regions) lives
 
 -- ---- pages of a private region are decommitted
 
-module _ {i : the_inside.Inside} {t : Tables} {o : Option Process} (pid : Pid) (h : Held i t pid.0 o) (range : Range) (inside : (p : ProcessOf (Unit {0})) → process_of t pid.0 ≡ Some p → is_some (region_around p.regions range) ≡ true) (private : (p : ProcessOf (Unit {0})) (r : Found (RegionOf (Unit {0}))) → process_of t pid.0 ≡ Some p → region_around p.regions range ≡ Some r → is_private r.thing.kind ≡ true) {c : Key → Option Page} {s : StoreOf} (fits : FitsTables t c s) where
+module _ {i : the_inside.Inside} {t : Tables} {o : Option Process} {rs : List (RegionOf (Unit {0}))} (pid : Pid) (h : Held i t pid.0 o rs) (range : Range) (inside : (p : ProcessOf (Unit {0})) → process_of t pid.0 ≡ Some p → is_some (region_around p.regions range) ≡ true) (private : (p : ProcessOf (Unit {0})) (r : Found (RegionOf (Unit {0}))) → process_of t pid.0 ≡ Some p → region_around p.regions range ≡ Some r → is_private r.thing.kind ≡ true) {c : Key → Option Page} {s : StoreOf} (fits : FitsTables t c s) where
   pub found : (f : Found (RegionOf (Unit {0}))) × (region_around h.process.regions range ≡ Some f)
   found = some_found (region_around h.process.regions range) (inside h.process h.lives)
 
@@ -646,25 +645,25 @@ module _ {i : the_inside.Inside} {t : Tables} {o : Option Process} (pid : Pid) (
   pub decommit_end : end_of range ≤ end_of_user_pages
   decommit_end = ends t pid h.process c s h.lives h.kept.sound fits found.0.place found.0.thing range placed.at placed.inside
 
-  pub decommit_can : s.kind ≡ line_kind.Unbind pid → CanRelease false pid range (process_regions o) c s
+  pub decommit_can : s.kind ≡ line_kind.Unbind pid → CanRelease false pid range rs c s
   decommit_can unbinding =
       subst (λ rs. CanRelease false pid range rs c s) (sym h.same) (can_release t pid h.process c s h.lives h.kept.sound fits found.0.place found.0.thing range placed.at placed.inside false (λ stays. of_own) unbinding)
 
-  pub decommitted : {n : ℕ} {new : Option Process} {d : Key → Option Page} {z : StoreOf} → n ≡ owned_in (process_regions o) range
-      → ((r : Found (RegionOf (Unit {0}))) → region_around (process_regions o) range ≡ Some r → RegionsBecame o new (set (process_regions o) r.place (change_rows (λ row. reserved_row) range r.thing)))
-      → GivenUp false pid range (passing (is_page_live pid c) range.first range.count) c d s z → Freed i t pid h.process o new emptied_rows n c d s z
-  decommitted {n} {new} {d} {z} owned changed a =
+  pub decommitted : {n : ℕ} {space : RegionsOf} {d : Key → Option Page} {z : StoreOf} → n ≡ owned_in rs range
+      → ((r : Found (RegionOf (Unit {0}))) → region_around rs range ≡ Some r → space.regions ≡ set rs r.place (change_rows (λ row. reserved_row) range r.thing))
+      → GivenUp false pid range (passing (is_page_live pid c) range.first range.count) c d s z → Freed i t pid h.process space emptied_rows n c d s z
+  decommitted {n} {space} {d} {z} owned changed a =
       let few = decommit_charge t pid.0 h.process found.0.place found.0.thing range h.lives h.kept.sound placed.at placed.inside of_own in
       let some = owned ∙ ap (λ rs. owned_in rs range) h.same ∙ placed.owned in
       record {
         total = charge t - count_by has_own (in_range range found.0.thing);
         done = decommit_done t pid h.process range c d s z h.lives h.kept.sound fits found.0.place found.0.thing placed.at placed.inside of_own a;
-        became = subst (λ rs. RegionsBecame o new (set rs found.0.place (change_rows (λ row. reserved_row) range found.0.thing))) h.same (changed found.0 (ap (λ rs. region_around rs range) h.same ∙ found.1));
+        became = changed found.0 (ap (λ rs. region_around rs range) h.same ∙ found.1) ∙ ap (λ rs. set rs found.0.place (change_rows (λ row. reserved_row) range found.0.thing)) h.same;
         counted = omega (arith, some, few);
       }
 
-  pub decommit_among : {n m : ℕ} {new : Option Process} {d : Key → Option Page} {z : StoreOf} → Freed i t pid h.process o new emptied_rows n c d s z → GivenUp false pid range m c d s z → AreAmong (leaving t pid.0 (is_uncommitted (shown_with i (set i.processes.items (pid.0 - 1) new)))) 1 (page_rank end_of_user_pages) pid range
-  decommit_among {n} {new = new} {d = d} {z = z} f a =
+  pub decommit_among : {n m : ℕ} {space : RegionsOf} {d : Key → Option Page} {z : StoreOf} → Freed i t pid h.process space emptied_rows n c d s z → GivenUp false pid range m c d s z → AreAmong (leaving t pid.0 (is_uncommitted (shown_with i (set i.processes.items (pid.0 - 1) (with_space o space))))) 1 (page_rank end_of_user_pages) pid range
+  decommit_among {n} {space = space} {d = d} {z = z} f a =
       let row = change_rows (λ row. reserved_row) range found.0.thing in
       let q : ProcessOf (Unit {0}) = record h.process { regions = emptied_rows } in
       let u = set_regions t pid.0 h.process emptied_rows in
@@ -685,7 +684,7 @@ module _ {i : the_inside.Inside} {t : Tables} {o : Option Process} (pid : Pid) (
 
 -- ---- a private region is released
 
-module _ {i : the_inside.Inside} {t : Tables} {o : Option Process} (pid : Pid) (h : Held i t pid.0 o) (addr : ℕ) (range : Range) (there : (p : ProcessOf (Unit {0})) → process_of t pid.0 ≡ Some p → option_map (λ (r : Found (RegionOf (Unit {0}))). pages_of r.thing) (private_at p.regions addr) ≡ Some range) {c : Key → Option Page} {s : StoreOf} (fits : FitsTables t c s) where
+module _ {i : the_inside.Inside} {t : Tables} {o : Option Process} {rs : List (RegionOf (Unit {0}))} (pid : Pid) (h : Held i t pid.0 o rs) (addr : ℕ) (range : Range) (there : (p : ProcessOf (Unit {0})) → process_of t pid.0 ≡ Some p → option_map (λ (r : Found (RegionOf (Unit {0}))). pages_of r.thing) (private_at p.regions addr) ≡ Some range) {c : Key → Option Page} {s : StoreOf} (fits : FitsTables t c s) where
   pub begun : (f : Found (RegionOf (Unit {0}))) × ((private_at h.process.regions addr ≡ Some f) × (pages_of f.thing ≡ range))
   begun = pages_found (private_at h.process.regions addr) range (there h.process h.lives)
 
@@ -701,29 +700,32 @@ module _ {i : the_inside.Inside} {t : Tables} {o : Option Process} (pid : Pid) (
   pub release_end : end_of range ≤ end_of_user_pages
   release_end = ends t pid h.process c s h.lives h.kept.sound fits begun.0.place begun.0.thing range starts.at whole
 
-  pub release_inside : is_some (region_around (process_regions o) range) ≡ true
+  pub release_inside : is_some (region_around rs range) ≡ true
   release_inside =
       ap (λ rs. is_some (region_around rs range)) h.same
       ∙ is_around t pid.0 h.process begun.0.place begun.0.thing range h.lives h.kept.sound starts.at whole (some_pages t pid.0 h.process begun.0.place begun.0.thing range h.lives h.kept.sound starts.at begun.1.1)
 
-  pub release_can : s.kind ≡ line_kind.Unbind pid → CanRelease true pid range (process_regions o) c s
+  pub release_there : is_some (private_at rs addr) ≡ true
+  release_there = ap (λ rs. is_some (private_at rs addr)) h.same ∙ ap is_some begun.1.0
+
+  pub release_can : s.kind ≡ line_kind.Unbind pid → CanRelease true pid range rs c s
   release_can unbinding =
       subst (λ rs. CanRelease true pid range rs c s) (sym h.same) (can_release t pid h.process c s h.lives h.kept.sound fits begun.0.place begun.0.thing range starts.at whole true (λ stays. starts.private) unbinding)
 
-  pub release_freed : {n : ℕ} {new : Option Process} {d : Key → Option Page} {z : StoreOf} → n ≡ owned_in (process_regions o) range
-      → ((r : Found (RegionOf (Unit {0}))) → private_at (process_regions o) addr ≡ Some r → RegionsBecame o new (remove (process_regions o) r.place))
-      → GivenUp true pid range (passing (is_page_live pid c) range.first range.count) c d s z → Freed i t pid h.process o new without_it n c d s z
-  release_freed {n} {new} {d} {z} owned changed a =
+  pub release_freed : {n : ℕ} {space : RegionsOf} {d : Key → Option Page} {z : StoreOf} → n ≡ owned_in rs range
+      → ((r : Found (RegionOf (Unit {0}))) → private_at rs addr ≡ Some r → space.regions ≡ remove rs r.place)
+      → GivenUp true pid range (passing (is_page_live pid c) range.first range.count) c d s z → Freed i t pid h.process space without_it n c d s z
+  release_freed {n} {space} {d} {z} owned changed a =
       let some = owned ∙ ap (λ rs. owned_in rs range) h.same ∙ whole_owned t pid.0 h.process begun.0.place begun.0.thing range h.lives h.kept.sound starts.at begun.1.1 in
       let few = release_charge t pid.0 h.process begun.0.place begun.0.thing h.lives h.kept.sound starts.at in
       record {
         total = charge t - own_rows begun.0.thing;
         done = release_done t pid h.process range c d s z h.lives h.kept.sound fits begun.0.place begun.0.thing starts.at begun.1.1 starts.private a;
-        became = subst (λ rs. RegionsBecame o new (remove rs begun.0.place)) h.same (changed begun.0 (ap (λ rs. private_at rs addr) h.same ∙ begun.1.0));
+        became = changed begun.0 (ap (λ rs. private_at rs addr) h.same ∙ begun.1.0) ∙ ap (λ rs. remove rs begun.0.place) h.same;
         counted = omega (arith, some, few, private_charge begun.0.thing starts.private);
       }
 
-  pub release_among : {n m : ℕ} {new : Option Process} {d : Key → Option Page} {z : StoreOf} → Freed i t pid h.process o new without_it n c d s z → GivenUp true pid range m c d s z → AreAmong (leaving t pid.0 (is_uncommitted (shown_with i (set i.processes.items (pid.0 - 1) new)))) 1 (page_rank end_of_user_pages) pid range
-  release_among {n} {new = new} {d = d} {z = z} f a =
+  pub release_among : {n m : ℕ} {space : RegionsOf} {d : Key → Option Page} {z : StoreOf} → Freed i t pid h.process space without_it n c d s z → GivenUp true pid range m c d s z → AreAmong (leaving t pid.0 (is_uncommitted (shown_with i (set i.processes.items (pid.0 - 1) (with_space o space))))) 1 (page_rank end_of_user_pages) pid range
+  release_among {n} {space = space} {d = d} {z = z} f a =
       subst (λ (w : Tables). AreAmong (leaving t pid.0 (is_uncommitted w)) 1 (page_rank end_of_user_pages) pid range) (sym (freed_is pid h f))
       (among_unbound t (set_regions t pid.0 h.process without_it) d z pid range f.done.settled.fits (given_unbound release_end a))

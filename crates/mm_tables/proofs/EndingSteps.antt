@@ -18,21 +18,22 @@ use Rattle.mm_world.specs.{pages_of, region_around, set_regions, is_charged, reg
 use Rattle.mm_world.specs.WellFormed.{WellFormed}
 use Rattle.mm_world.proofs.{each-at, numbered_inside, charge-same_regions, charge-settle, Then, Nothing, HandleGoes, Settles, charge-remove_region}
 use Rattle.mm_world.proofs.{found_stands, RegionGoes}
-use Rattle.mm_pages.specs.{StoreOf, IsReleasing, section_rank, page_rank, Ghosts as PagesGhosts}
+use Rattle.mm_pages.specs.{StoreOf, IsReleasing, section_rank, page_rank}
 use Rattle.mm_commit.specs.{CommitOf}
-use Rattle.mm_sections.specs.{CountedSection, DirectoryOf, section_in, sections_of, section_settled, one_handle_less, held, one_view_less}
+use Rattle.mm_sections.specs.{CountedSection, DirectoryOf, section_in, sections_of, section_settled, one_handle_less, held, one_view_less, HandlesOf}
 use Rattle.mm_tables.specs.{handles_in, views_in, handles_to, views_of, IsCounted, AreKeptTables, FitsTables, Settled, store_beside, paging_count}
 use Rattle.mm_tables.specs.{LosesReference, Less, is_key_of_area, ended_area, CanEnd, Emptied, IsRankFor, EndsArea, Process, shown_process}
-use Rattle.mm_tables.specs.{shown_processes, shown_accesses, tables_with, passing, is_page_live, CanRelease, GivenUp, CanLose}
+use Rattle.mm_tables.specs.{shown_processes, shown_accesses, tables_with, passing, is_page_live, CanRelease, GivenUp, process_handles, with_handles}
+use Rattle.mm_tables.specs.{with_space}
 use Rattle.mm_tables.specs.declared.tables.Tables.TheInside.{Inside}
-use Rattle.mm_tables.proofs.Keeping.{lives_put, shown_set, shown_with, Held, sound_by}
+use Rattle.mm_tables.proofs.Keeping.{lives_put, shown_set, shown_with, Held, sound_by, spaced, handled, handles_by}
 use Rattle.mm_tables.proofs.EndingSettles.{holds_count, views_count, handles_put, views_put, ended_charge, area_sum, any_numbered, settle_put, tidy_settled, seen_by, at_each, carries_less, less_then, beside_then, fits_ended, closed_count, closed_rank, removed_views, removed_rank}
 use Rattle.mm_tables.proofs.PageByPage.{gone_same, given_less}
 use Rattle.mm_tables.proofs.SectionFits.{fits_processes, with_open_of}
 use Rattle.mm_tables.proofs.Rows.{paging-set_process, in_range, regions_of}
 use Rattle.mm_types.specs.declared.moves.LineKind.TheVariants as line_kind
 use Rattle.mm_world.proofs.Edits.{Regions}
-use Rattle.mm_spaces.specs.{rows_of, marked_in, found_info, RegionInfo}
+use Rattle.mm_spaces.specs.{rows_of, marked_in, found_info, RegionInfo, RegionsOf}
 use Rattle.mm_tables.proofs.Settled.{can_release, region_gone, ends, is_around, around_is, whole_inside, whole_range, some_pages}
 
 -- ---- counted sections
@@ -405,11 +406,7 @@ module _ {i : Inside} {t : Tables} {pid : ℕ} {q : ProcessOf (Unit {0})} {y : O
 
 -- ---- a process that lives in the tables
 
-module _ {i : Inside} {t : Tables} {pid : ℕ} {x : Option Process} (k : Held i t pid x) where
-  -- it has one name only
-  pub by_shown : (P : ProcessOf (Unit {0}) → Type 0) → P k.process → (p : ProcessOf (Unit {0})) → option_map shown_process x ≡ Some p → P p
-  by_shown P at p shown = subst P (same_found (option_map shown_process x) k.process p k.shown shown) at
-
+module _ {i : Inside} {t : Tables} {pid : ℕ} {x : Option Process} {rs : List (RegionOf (Unit {0}))} (k : Held i t pid x rs) where
   pub same_process : (p : ProcessOf (Unit {0})) → process_of t pid ≡ Some p → k.process ≡ p
   same_process p lives = same_found (process_of t pid) k.process p k.lives lives
 
@@ -452,7 +449,7 @@ has_entry entries ss n s sections there =
 abbrev pub closed : {B : Type 0} → ProcessOf B → ℕ → ProcessOf B
 closed p handle = record p { handles = set p.handles (handle / 4) None }
 
-module _ {i : Inside} {t : Tables} {pid : ℕ} {x : Option Process} (k : Held i t pid x) (handle : ℕ) (there : (p : ProcessOf (Unit {0})) → process_of t pid ≡ Some p → is_some (handle_section t p handle) ≡ true) where
+module _ {i : Inside} {t : Tables} {pid : ℕ} {x : Option Process} {rs : List (RegionOf (Unit {0}))} (k : Held i t pid x rs) (handle : ℕ) (there : (p : ProcessOf (Unit {0})) → process_of t pid ≡ Some p → is_some (handle_section t p handle) ≡ true) {hs : Numbered ℕ} (lent : hs ≡ process_handles x) where
   abbrev after_close : ProcessOf (Unit {0})
   after_close = closed k.process handle
 
@@ -471,14 +468,18 @@ module _ {i : Inside} {t : Tables} {pid : ℕ} {x : Option Process} (k : Held i 
   some_held : 1 ≤ closed_entry.0.handles
   some_held = omega (arith, (k.kept.counted h.number closed_entry.0 closed_entry.1).handles, handles_put t pid h.number k.process None k.lives, one_closed)
 
-  pub close_held : (p : ProcessOf (Unit {0})) → option_map shown_process x ≡ Some p → is_some (held p.handles handle) ≡ true
-  close_held = by_shown k (λ p. is_some (held p.handles handle) ≡ true) (ap is_some h.is_held)
+  lent_held : held hs handle ≡ Some h.number
+  lent_held = ap (λ hs. held hs handle) (lent ∙ handles_by x k.process k.shown) ∙ h.is_held
 
-  pub close_counted : (p : ProcessOf (Unit {0})) (n : ℕ) → option_map shown_process x ≡ Some p → held p.handles handle ≡ Some n → IsSomeAnd (numbered i.directory.entries n) (λ c. 1 ≤ c.handles)
-  close_counted p n shown is_held =
-      let both : Some n ≡ Some h.number = sym is_held ∙ by_shown k (λ p. held p.handles handle ≡ Some h.number) h.is_held p shown in
-      let number : n ≡ h.number = cc in
-      subst (λ (o : Option CountedSection). IsSomeAnd o (λ c. 1 ≤ c.handles)) (sym (ap (numbered i.directory.entries) number ∙ closed_entry.1)) some_held
+  pub close_held : is_some (held hs handle) ≡ true
+  close_held = ap is_some lent_held
+
+  number_is : (n : ℕ) → held hs handle ≡ Some n → h.number ≡ n
+  number_is n is_held = same_found (held hs handle) h.number n lent_held is_held
+
+  pub close_counted : (n : ℕ) → held hs handle ≡ Some n → IsSomeAnd (numbered i.directory.entries n) (λ c. 1 ≤ c.handles)
+  close_counted n is_held =
+      subst (λ (o : Option CountedSection). IsSomeAnd o (λ c. 1 ≤ c.handles)) (sym (ap (numbered i.directory.entries) (sym (number_is n is_held)) ∙ closed_entry.1)) some_held
 
   same_charge : charge (set_process t pid (Some after_close)) ≡ charge t
   same_charge = charge-same_regions t pid k.process (set k.process.handles (handle / 4) None) k.lives
@@ -503,11 +504,10 @@ module _ {i : Inside} {t : Tables} {pid : ℕ} {x : Option Process} (k : Held i 
         sound = sound;
       }
 
-  pub close_step : {dir : DirectoryOf} {result : Option Area} {c : Key → Option Page} {s : StoreOf} (y : Option Process) → ((p : ProcessOf (Unit {0})) → option_map shown_process x ≡ Some p → option_map shown_process y ≡ Some (closed p handle))
-      → ((p : ProcessOf (Unit {0})) (n : ℕ) → option_map shown_process x ≡ Some p → held p.handles handle ≡ Some n → LosesReference one_handle_less n i.directory dir result)
-      → FitsTables t c s → Step i t pid after_close y dir result i.commit c c s s (handle / 4 + 1)
-  close_step {dir} {result} {c} {s} y shut loses fits =
-      let lost = loses k.process h.number k.shown h.is_held in
+  pub close_step : {dir : DirectoryOf} {result : Option Area} {c : Key → Option Page} {s : StoreOf} (handles : HandlesOf) (n : ℕ) → handles.entries ≡ set hs (handle / 4) None → held hs handle ≡ Some n → LosesReference one_handle_less n i.directory dir result
+      → FitsTables t c s → Step i t pid after_close (with_handles x handles) dir result i.commit c c s s (handle / 4 + 1)
+  close_step {dir} {result} {c} {s} handles n shut is_held loses fits =
+      let lost = subst (λ (n : ℕ). LosesReference one_handle_less n i.directory dir result) (sym (number_is n is_held)) loses in
       record {
         p = k.process;
         m = h.number;
@@ -516,7 +516,7 @@ module _ {i : Inside} {t : Tables} {pid : ℕ} {x : Option Process} (k : Held i 
         view = k.view;
         low = k.low;
         one = close_one;
-        shown = shut k.process k.shown;
+        shown = handled x handles (λ hs. set hs (handle / 4) None) (shut ∙ ap (λ hs. set hs (handle / 4) None) lent) k.process k.shown;
         dir_is = lost.dropped closed_entry.0 closed_entry.1;
         told = lost.ended closed_entry.0 closed_entry.1;
         charged = k.kept.charged ∙ sym same_charge;
@@ -567,16 +567,6 @@ module _ (t : Tables) (pid : Pid) (p : ProcessOf (Unit {0})) (i : ℕ) (r : Regi
     pub can_go : s.kind ≡ line_kind.Unbind pid → CanRelease true pid range p.regions c s
     can_go unbinding = can_release t pid p c s lives sound f i r range at (whole_inside r range pages) true (λ stays. cc) unbinding
 
--- a region of a process that is known can be given up
-pub can_lose : {G : Type 0} (gs : PagesGhosts G) {i : Inside} {t : Tables} {x : Option Process} (pid : Pid) (k : Held i t pid.0 x) (place : ℕ) (r : RegionOf (Unit {0})) {range : Range} {g : G} → slice_get k.process.regions place ≡ Some r → pages_of r ≡ range → FitsTables t (gs.contents g) (gs.store g) → (gs.store g).kind ≡ line_kind.Unbind pid → CanLose gs x pid range g
-can_lose gs {t = t} pid k place r {range} {g} at pages fits unbinding =
-    record {
-      end = ends_within t pid k.process place r range k.lives at pages k.kept.sound (gs.contents g) (gs.store g) fits;
-      lives = k.there;
-      around = by_shown k (λ p. is_some (region_around p.regions range) ≡ true) (all_around t pid k.process place r range k.lives at pages k.kept.sound);
-      can = by_shown k (λ p. CanRelease true pid range p.regions (gs.contents g) (gs.store g)) (can_go t pid k.process place r range k.lives at pages k.kept.sound (gs.contents g) (gs.store g) fits unbinding);
-    }
-
 -- ---- A view of a process is unmapped: what the call's steps are told, and what they come to
 
 abbrev pub unmapped : {B : Type 0} → ProcessOf B → ℕ → ProcessOf B
@@ -609,7 +599,7 @@ has_view t pid p addr range view sound lives e = by_found (view_at p.regions add
           view_fits = each-at _ p.regions r.place r.thing (sound.references.processes pid p lives).views at view is;
         }
 
-module _ {i : Inside} {t : Tables} {x : Option Process} (pid : Pid) (k : Held i t pid.0 x) (addr : ℕ) {range : Range} {view : View} (there : (p : ProcessOf (Unit {0})) → process_of t pid.0 ≡ Some p → option_map found_info (view_at p.regions addr) ≡ Some (record { pages = range; kind = kind.View view })) where
+module _ {i : Inside} {t : Tables} {x : Option Process} {rs : List (RegionOf (Unit {0}))} (pid : Pid) (k : Held i t pid.0 x rs) (addr : ℕ) {range : Range} {view : View} (there : (p : ProcessOf (Unit {0})) → process_of t pid.0 ≡ Some p → option_map found_info (view_at p.regions addr) ≡ Some (record { pages = range; kind = kind.View view })) where
   pub v : HasView t k.process addr range view
   v = has_view t pid.0 k.process addr range view k.kept.sound k.lives (there k.process k.lives)
 
@@ -650,8 +640,14 @@ module _ {i : Inside} {t : Tables} {x : Option Process} (pid : Pid) (k : Held i 
         sound = unmap_sound;
       }
 
-  pub unmap_there : (p : ProcessOf (Unit {0})) → option_map shown_process x ≡ Some p → is_some (view_at p.regions addr) ≡ true
-  unmap_there = by_shown k (λ p. is_some (view_at p.regions addr) ≡ true) (ap is_some v.is_found)
+  lent_view : view_at rs addr ≡ Some v.found
+  lent_view = ap (λ rs. view_at rs addr) k.same ∙ v.is_found
+
+  pub unmap_there : is_some (view_at rs addr) ≡ true
+  unmap_there = ap is_some lent_view
+
+  pub unmap_around : is_some (region_around rs range) ≡ true
+  unmap_around = ap (λ rs. is_some (region_around rs range)) k.same ∙ all_around t pid k.process v.found.place v.found.thing range k.lives v.at v.pages k.kept.sound
 
   pub unmap_counted : IsSomeAnd (numbered i.directory.entries view.section.0) (λ c. 1 ≤ c.views)
   unmap_counted = subst (λ (o : Option CountedSection). IsSomeAnd o (λ c. 1 ≤ c.views)) (sym e.1) some_of
@@ -673,19 +669,21 @@ module _ {i : Inside} {t : Tables} {x : Option Process} (pid : Pid) (k : Held i 
       let place = same_found (view_at k.process.regions addr) v.found r v.is_found (ap (λ (p : ProcessOf (Unit {0})). view_at p.regions addr) same ∙ found) in
       λ j. settle (set_process t pid.0 (Some (unmapped (same j) (place j).place)))
 
-  pub unmap_can : {G : Type 0} (gs : PagesGhosts G) {g : G} → FitsTables t (gs.contents g) (gs.store g) → (gs.store g).kind ≡ line_kind.Unbind pid → CanLose gs x pid range g
-  unmap_can gs fits unbinding = can_lose gs pid k v.found.place v.found.thing v.at v.pages fits unbinding
-
   module _ {c : Key → Option Page} {s : StoreOf} (fits : FitsTables t c s) where
     pub unmap_end : end_of range ≤ end_of_user_pages
     unmap_end = ends_within t pid k.process v.found.place v.found.thing range k.lives v.at v.pages k.kept.sound c s fits
 
-    module _ {marked : ℕ} (counts : (p : ProcessOf (Unit {0})) → option_map shown_process x ≡ Some p → marked ≡ marked_in p.regions range) where
+    pub unmap_can : s.kind ≡ line_kind.Unbind pid → CanRelease true pid range rs c s
+    unmap_can unbinding =
+        subst (λ rs. CanRelease true pid range rs c s) (sym k.same) (can_go t pid k.process v.found.place v.found.thing range k.lives v.at v.pages k.kept.sound c s fits unbinding)
+
+    module _ {marked : ℕ} (counts : marked ≡ marked_in rs range) where
       charged_now : charge (set_process t pid.0 (Some q)) + marked ≡ charge t
       charged_now =
           omega (
             arith,
-            counts k.process k.shown,
+            counts,
+            ap (λ rs. marked_in rs range) k.same,
             marked_charge t pid k.process v.found.place v.found.thing range k.lives v.at v.pages k.kept.sound view v.is,
             charge_removed t pid k.process v.found.place v.found.thing range k.lives v.at v.pages k.kept.sound,
           )
@@ -693,11 +691,11 @@ module _ {i : Inside} {t : Tables} {x : Option Process} (pid : Pid) (k : Held i 
       pub unmap_charged : marked ≤ i.commit.charge
       unmap_charged = omega (arith, charged_now, k.kept.charged)
 
-      pub unmap_step : {dir : DirectoryOf} {result : Option Area} {commit : CommitOf} {d : Key → Option Page} {z : StoreOf} (y : Option Process) → ((p : ProcessOf (Unit {0})) (r : Found (RegionOf (Unit {0}))) → option_map shown_process x ≡ Some p → view_at p.regions addr ≡ Some r → option_map shown_process y ≡ Some (unmapped p r.place))
+      pub unmap_step : {dir : DirectoryOf} {result : Option Area} {commit : CommitOf} {d : Key → Option Page} {z : StoreOf} (space : RegionsOf) → ((r : Found (RegionOf (Unit {0}))) → view_at rs addr ≡ Some r → space.regions ≡ remove rs r.place)
           → GivenUp true pid range (passing (is_page_live pid c) range.first range.count) c d s z → commit ≡ record i.commit { charge = i.commit.charge - marked }
           → LosesReference one_view_less view.section.0 i.directory dir result
-          → Step i t pid.0 q y dir result commit c d s z (page_rank (end_of range) - 1)
-      unmap_step {dir} {result} {commit} {d} {z} y removed gone refunded lost =
+          → Step i t pid.0 q (with_space x space) dir result commit c d s z (page_rank (end_of range) - 1)
+      unmap_step {dir} {result} {commit} {d} {z} space removed gone refunded lost =
           let done = region_gone t pid k.process range c d s z k.lives k.kept.sound fits v.found.place v.found.thing v.at v.pages gone in
           record {
             p = k.process;
@@ -707,7 +705,7 @@ module _ {i : Inside} {t : Tables} {x : Option Process} (pid : Pid) (k : Held i 
             view = k.view;
             low = k.low;
             one = unmap_one;
-            shown = removed k.process v.found k.shown v.is_found;
+            shown = spaced x space (λ rs. remove k.process.regions v.found.place) (removed v.found lent_view ∙ ap (λ rs. remove rs v.found.place) k.same) k.process k.shown;
             dir_is = lost.dropped e.0 e.1;
             told = lost.ended e.0 e.1;
             charged = omega (arith, ap (λ (k : CommitOf). k.charge) refunded, k.kept.charged, charged_now);

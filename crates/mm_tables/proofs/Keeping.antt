@@ -1,5 +1,5 @@
 -- What tables keep where processes, sections, areas or accesses are others, and a process among those that are kept.
-use Rattle.std.proofs.Common.{◌≡◌, ◌≢◌, ◌⊎◌, inl, inr, ℕ, zero, suc, Bool, true, false, Option, Some, None, [], ◌∷◌, ◌++◌, refl, sym, ◌∙◌, ap, cond, map, is_some, set, ◌+◌, List, arith, get_or, nat_lt, ◌||◌, count_by, ◌≤◌, ◌<◌, subst, length, slice_get, ◌-◌, option_map, replicate, take, drop, length-set}
+use Rattle.std.proofs.Common.{unwrap_or, ◌≡◌, ◌≢◌, ◌⊎◌, inl, inr, ℕ, zero, suc, Bool, true, false, Option, Some, None, [], ◌∷◌, ◌++◌, refl, sym, ◌∙◌, ap, cond, map, is_some, set, ◌+◌, List, arith, get_or, nat_lt, ◌||◌, count_by, ◌≤◌, ◌<◌, subst, length, slice_get, ◌-◌, option_map, replicate, take, drop, length-set}
 use Rattle.std.specs.Prelude.{◌==◌}
 use Rattle.std.specs.Cmp.{unsigned_Decides}
 use Rattle.std.specs.List.{list_any}
@@ -15,7 +15,8 @@ use Rattle.mm_world.specs.{end_stacks}
 use Rattle.mm_world.proofs.{less, charge-same_regions, sum_by-put, numbered_inside, numbered_there, Edit, Nothing, Then, Beside, Rest as Others}
 use Rattle.mm_world.proofs.{RegionEdit, HandleComes, SectionComes, any_terms, numbers_kept, references_kept, spaces_kept, any_set}
 use Rattle.mm_tables.specs.{KeepersLive, NobodyKeeps, FileFits, IsTidy, handles_in, views_in, AreKeptTables, Process, shown_process, shown_processes}
-use Rattle.mm_tables.specs.{tables_with, shown_accesses, process_regions, RegionsBecame, Kept, kept_of, unless_of, StandBelow}
+use Rattle.mm_tables.specs.{tables_with, shown_accesses, process_handles, process_regions, with_handles, with_space, Kept, kept_of, unless_of}
+use Rattle.mm_tables.specs.{StandBelow}
 use Rattle.mm_tables.proofs.Lists.{none_replicated, one_if, same_some, area_before, same_number, area_in, area_at_end, any_more, any_last}
 use Rattle.std.proofs.lemmas.List.Folds.{list_any_at}
 use Rattle.mm_types.specs.declared.answers.Answer.TheVariants as answer
@@ -23,7 +24,8 @@ use Rattle.mm_types.specs.{MachineOf, limit_of, Range}
 use Rattle.mm_world.specs.WellFormed.{WellFormed}
 use Rattle.mm_world.proofs.Edits.{Edits, Regions}
 use Rattle.mm_commit.specs.{CommitOf}
-use Rattle.mm_sections.specs.{CountedSection}
+use Rattle.mm_spaces.specs.{RegionsOf}
+use Rattle.mm_sections.specs.{CountedSection, HandlesOf}
 use Rattle.std.proofs.Math.ListN.{get_or-map}
 use Rattle.mm_tables.specs.declared.tables.Tables.TheInside.{Inside}
 use Rattle.mm_tables.proofs.Rows.{process_is}
@@ -491,6 +493,27 @@ shown_set items (suc i) o some =
     let same : suc i - 1 ≡ i = omega arith in
     ap (λ (k : ℕ). shown_processes (set items k o)) same ∙ ap (λ ps. None ∷ ps) (map_set items i o)
 
+-- other regions, or other handles, at the place of a living process
+pub spaced : (o : Option Process) (space : RegionsOf) (f : List (RegionOf (Unit {0})) → List (RegionOf (Unit {0}))) → space.regions ≡ f (process_regions o) → (p : ProcessOf (Unit {0})) → option_map shown_process o ≡ Some p → option_map shown_process (with_space o space) ≡ Some (record p { regions = f p.regions })
+spaced None space f is p e = cc
+spaced (Some q) space f is p e =
+    ap (λ rs. let o : Option (ProcessOf (Unit {0})) = Some (record { regions = rs; handles = q.handles.entries }) in o) is
+    ∙ ap (option_map (λ (p : ProcessOf (Unit {0})). let r : ProcessOf (Unit {0}) = record p { regions = f p.regions } in r)) e
+
+pub handled : (o : Option Process) (handles : HandlesOf) (f : Numbered ℕ → Numbered ℕ) → handles.entries ≡ f (process_handles o) → (p : ProcessOf (Unit {0})) → option_map shown_process o ≡ Some p → option_map shown_process (with_handles o handles) ≡ Some (record p { handles = f p.handles })
+handled None handles f is p e = cc
+handled (Some q) handles f is p e =
+    ap (λ hs. let o : Option (ProcessOf (Unit {0})) = Some (record { regions = q.space.regions; handles = hs }) in o) is
+    ∙ ap (option_map (λ (p : ProcessOf (Unit {0})). let r : ProcessOf (Unit {0}) = record p { handles = f p.handles } in r)) e
+
+pub regions_as : (o : Option Process) (p : ProcessOf (Unit {0})) → option_map shown_process o ≡ Some p → process_regions o ≡ p.regions
+regions_as None p e = cc
+regions_as (Some q) p e = ap (λ (o : Option (ProcessOf (Unit {0}))). unwrap_or (option_map (λ (p : ProcessOf (Unit {0})). p.regions) o) []) e
+
+pub handles_by : (o : Option Process) (p : ProcessOf (Unit {0})) → option_map shown_process o ≡ Some p → process_handles o ≡ p.handles
+handles_by None p e = cc
+handles_by (Some q) p e = ap (λ (o : Option (ProcessOf (Unit {0}))). unwrap_or (option_map (λ (p : ProcessOf (Unit {0})). p.handles) o) []) e
+
 -- ---- a living process
 
 pub record Standing (t : Tables) (pid : ℕ) (items : List (Option Process)) (o : Option Process) : Type 0 where
@@ -513,30 +536,28 @@ module _ (i : Inside) (t : Tables) (view : shown_with i i.processes.items ≡ t)
       let x = some_found o (sym (some_map shown_process o) ∙ ap is_some (sym at ∙ here) ∙ alive) in
       record { process = x.0; is = x.1; lives = sym here ∙ at ∙ ap (option_map shown_process) x.1; some = w.0; few = w.1 }
 
-  new_tables : (pid : ℕ) (o new : Option Process) (p : ProcessOf (Unit {0})) (ss : List (RegionOf (Unit {0}))) → Standing t pid i.processes.items o → RegionsBecame o new ss → process_of t pid ≡ Some p → shown_with i (set i.processes.items (pid - 1) new) ≡ set_regions t pid p ss
-  new_tables pid o new p ss h b lives =
-      let process : b.process ≡ h.process = same_found o b.process h.process b.was h.is in
-      let shown : shown_process b.process ≡ p = ap shown_process process ∙ process_is t pid (shown_process h.process) p h.lives lives in
-      let now : option_map shown_process new ≡ Some (record p { regions = ss }) = b.now ∙ ap (λ (q : ProcessOf (Unit {0})). Some (record q { regions = ss })) shown in
-      (λ j. record (shown_with i i.processes.items) { processes = (shown_set i.processes.items pid new h.some ∙ ap (set (shown_processes i.processes.items) pid) now) j })
+  new_tables : (pid : ℕ) (o : Option Process) (space : RegionsOf) (p : ProcessOf (Unit {0})) (ss : List (RegionOf (Unit {0}))) → Standing t pid i.processes.items o → space.regions ≡ ss → process_of t pid ≡ Some p → shown_with i (set i.processes.items (pid - 1) (with_space o space)) ≡ set_regions t pid p ss
+  new_tables pid o space p ss h is lives =
+      let now = spaced o space (λ rs. ss) is p (ap (option_map shown_process) h.is ∙ sym h.lives ∙ lives) in
+      (λ j. record (shown_with i i.processes.items) { processes = (shown_set i.processes.items pid (with_space o space) h.some ∙ ap (set (shown_processes i.processes.items) pid) now) j })
       ∙ ap (λ (t : Tables). set_regions t pid p ss) view
 
 -- ---- The tables as they are kept, with a process that lives in them, after a step on it
 
--- what is known of tables that are kept and of what stands at the place of a process that lives
-pub record Held (i : Inside) (t : Tables) (pid : ℕ) (o : Option Process) : Type 0 where
+-- what is known of tables that are kept and of what stands at the place of a process that lives, whose regions these are
+pub record Held (i : Inside) (t : Tables) (pid : ℕ) (o : Option Process) (rs : List (RegionOf (Unit {0}))) : Type 0 where
   pub view : shown_with i i.processes.items ≡ t
   pub process : ProcessOf (Unit {0})
   pub there : is_some o ≡ true
   pub shown : option_map shown_process o ≡ Some process
   pub lives : process_of t pid ≡ Some process
   pub low : 1 ≤ pid
-  pub same : process_regions o ≡ process.regions
+  pub same : rs ≡ process.regions
   pub kept : AreKeptTables t i.directory.entries i.commit
-  pub changed : (new : Option Process) (p : ProcessOf (Unit {0})) (ss : List (RegionOf (Unit {0}))) → RegionsBecame o new ss → process_of t pid ≡ Some p → shown_with i (set i.processes.items (pid - 1) new) ≡ set_regions t pid p ss
+  pub changed : (space : RegionsOf) (p : ProcessOf (Unit {0})) (ss : List (RegionOf (Unit {0}))) → space.regions ≡ ss → process_of t pid ≡ Some p → shown_with i (set i.processes.items (pid - 1) (with_space o space)) ≡ set_regions t pid p ss
 
-pub held_by : (i : Inside) (t : Tables) → shown_with i i.processes.items ≡ t → AreKeptTables (shown_with i i.processes.items) i.directory.entries i.commit → (pid : ℕ) (o : Option Process) → is_some (process_of t pid) ≡ true → o ≡ get_or i.processes.items (pid - 1) o → Held i t pid o
-held_by i t view kept pid o alive found =
+pub held_by : (i : Inside) (t : Tables) {rs : List (RegionOf (Unit {0}))} → shown_with i i.processes.items ≡ t → AreKeptTables (shown_with i i.processes.items) i.directory.entries i.commit → (pid : ℕ) (o : Option Process) → is_some (process_of t pid) ≡ true → o ≡ get_or i.processes.items (pid - 1) o → rs ≡ process_regions o → Held i t pid o rs
+held_by i t view kept pid o alive found same =
     let s = standing i t view pid o alive found in
     record {
       view = view;
@@ -545,10 +566,14 @@ held_by i t view kept pid o alive found =
       shown = ap (option_map shown_process) s.is;
       lives = s.lives;
       low = s.some;
-      same = ap process_regions s.is;
+      same = same ∙ ap process_regions s.is;
       kept = subst (λ (t : Tables). AreKeptTables t i.directory.entries i.commit) view kept;
-      changed = λ new p ss b lives. new_tables i t view pid o new p ss s b lives;
+      changed = λ space p ss is lives. new_tables i t view pid o space p ss s is lives;
     }
+
+-- one lives there
+pub lives_there : (i : Inside) (t : Tables) → shown_with i i.processes.items ≡ t → (pid : ℕ) (o : Option Process) → is_some (process_of t pid) ≡ true → o ≡ get_or i.processes.items (pid - 1) o → is_some o ≡ true
+lives_there i t view pid o alive found = ap is_some (standing i t view pid o alive found).is
 
 -- the process that stands there is the one that lives
 pub shown_is : (i : Inside) (t : Tables) → shown_with i i.processes.items ≡ t → (pid : ℕ) (o : Option Process) → is_some (process_of t pid) ≡ true → o ≡ get_or i.processes.items (pid - 1) o → (x : Process) (p : ProcessOf (Unit {0})) → o ≡ Some x → process_of t pid ≡ Some p → shown_process x ≡ p
@@ -556,35 +581,35 @@ shown_is i t view pid o alive found x p e lives =
     let s = standing i t view pid o alive found in
     ap shown_process (same_found o x s.process e s.is) ∙ process_is t pid (shown_process s.process) p s.lives lives
 
-module _ {i : Inside} {t : Tables} {pid : ℕ} {o : Option Process} (h : Held i t pid o) where
+module _ {i : Inside} {t : Tables} {pid : ℕ} {o : Option Process} {rs : List (RegionOf (Unit {0}))} (h : Held i t pid o rs) where
   -- the regions of the process by whatever name it has
-  pub regions_by : (p : ProcessOf (Unit {0})) → process_of t pid ≡ Some p → process_regions o ≡ p.regions
+  pub regions_by : (p : ProcessOf (Unit {0})) → process_of t pid ≡ Some p → rs ≡ p.regions
   regions_by p lives = h.same ∙ ap (λ (p : ProcessOf (Unit {0})). p.regions) (process_is t pid h.process p h.lives lives)
 
   -- a step has changed the regions
-  pub still_kept : (new : Option Process) (ss : List (RegionOf (Unit {0}))) (commit : CommitOf) (total : ℕ) → RegionsBecame o new ss → StandIn t h.process.regions ss → charge (set_regions t pid h.process ss) ≡ total → total ≤ limit t → commit.charge ≡ total → commit.limit ≡ i.commit.limit → AreKeptTables (shown_with i (set i.processes.items (pid - 1) new)) i.directory.entries commit
-  still_kept new ss commit total b stands charged within counted limited =
-      subst (λ (t : Tables). AreKeptTables t i.directory.entries commit) (sym (h.changed new h.process ss b h.lives))
+  pub still_kept : (space : RegionsOf) (ss : List (RegionOf (Unit {0}))) (commit : CommitOf) (total : ℕ) → space.regions ≡ ss → StandIn t h.process.regions ss → charge (set_regions t pid h.process ss) ≡ total → total ≤ limit t → commit.charge ≡ total → commit.limit ≡ i.commit.limit → AreKeptTables (shown_with i (set i.processes.items (pid - 1) (with_space o space))) i.directory.entries commit
+  still_kept space ss commit total is stands charged within counted limited =
+      subst (λ (t : Tables). AreKeptTables t i.directory.entries commit) (sym (h.changed space h.process ss is h.lives))
       (kept_after t pid h.process ss h.lives stands i.directory.entries i.commit commit h.kept (counted ∙ sym charged) (limited ∙ h.kept.limited) (omega (arith, charged, within)))
 
   -- a step has changed nothing
-  pub same_tables : (new : Option Process) → RegionsBecame o new (process_regions o) → shown_with i (set i.processes.items (pid - 1) new) ≡ t
-  same_tables new b =
+  pub same_tables : (space : RegionsOf) → space.regions ≡ rs → shown_with i (set i.processes.items (pid - 1) (with_space o space)) ≡ t
+  same_tables space is =
       let same : set t.processes pid (Some h.process) ≡ t.processes = ap (set t.processes pid) (sym h.lives) ∙ set-get_or t.processes pid None in
-      h.changed new h.process h.process.regions (subst (λ rs. RegionsBecame o new rs) h.same b) h.lives ∙ (λ i. record t { processes = same i })
+      h.changed space h.process h.process.regions (is ∙ h.same) h.lives ∙ (λ i. record t { processes = same i })
 
-  pub kept_same : (new : Option Process) → RegionsBecame o new (process_regions o) → AreKeptTables (shown_with i (set i.processes.items (pid - 1) new)) i.directory.entries i.commit
-  kept_same new b = subst (λ (t : Tables). AreKeptTables t i.directory.entries i.commit) (sym (same_tables new b)) h.kept
+  pub kept_same : (space : RegionsOf) → space.regions ≡ rs → AreKeptTables (shown_with i (set i.processes.items (pid - 1) (with_space o space))) i.directory.entries i.commit
+  kept_same space is = subst (λ (t : Tables). AreKeptTables t i.directory.entries i.commit) (sym (same_tables space is)) h.kept
 
   -- a step has changed rows of the region around a range: the regions, and the tables then
-  module _ (range : Range) (new : Option Process) (change : RegionOf (Unit {0}) → RowOf (Unit {0}) → RowOf (Unit {0})) (changed : (r : Found (RegionOf (Unit {0}))) → region_around (process_regions o) range ≡ Some r → RegionsBecame o new (set (process_regions o) r.place (change_rows (change r.thing) range r.thing))) (p : ProcessOf (Unit {0})) (r : Found (RegionOf (Unit {0}))) (lives : process_of t pid ≡ Some p) (found : region_around p.regions range ≡ Some r) where
-    pub around_became : RegionsBecame o new (set p.regions r.place (change_rows (change r.thing) range r.thing))
+  module _ (range : Range) (space : RegionsOf) (change : RegionOf (Unit {0}) → RowOf (Unit {0}) → RowOf (Unit {0})) (changed : (r : Found (RegionOf (Unit {0}))) → region_around rs range ≡ Some r → space.regions ≡ set rs r.place (change_rows (change r.thing) range r.thing)) (p : ProcessOf (Unit {0})) (r : Found (RegionOf (Unit {0}))) (lives : process_of t pid ≡ Some p) (found : region_around p.regions range ≡ Some r) where
+    pub around_became : space.regions ≡ set p.regions r.place (change_rows (change r.thing) range r.thing)
     around_became =
         let same = regions_by p lives in
-        subst (λ rs. RegionsBecame o new (set rs r.place (change_rows (change r.thing) range r.thing))) same (changed r (ap (λ rs. region_around rs range) same ∙ found))
+        changed r (ap (λ rs. region_around rs range) same ∙ found) ∙ ap (λ rs. set rs r.place (change_rows (change r.thing) range r.thing)) same
 
-    pub around_changed : shown_with i (set i.processes.items (pid - 1) new) ≡ set_region t pid p r.place (change_rows (change r.thing) range r.thing)
-    around_changed = h.changed new p (set p.regions r.place (change_rows (change r.thing) range r.thing)) around_became lives
+    pub around_changed : shown_with i (set i.processes.items (pid - 1) (with_space o space)) ≡ set_region t pid p r.place (change_rows (change r.thing) range r.thing)
+    around_changed = h.changed space p (set p.regions r.place (change_rows (change r.thing) range r.thing)) around_became lives
 
 -- ---- tables whose threads keep other accesses, or have other stacks
 

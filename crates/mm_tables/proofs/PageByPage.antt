@@ -303,6 +303,12 @@ places_stored {s = s} n same = record {
   same = n.store ∙ ap (store_beside s) (sym n.store);
 }
 
+-- keys come to be, and nothing else of the range is other
+pub keys_stored : {pid : Pid} {range : Range} {n : ℕ} {c d : Key → Option Page} {s z : StoreOf} → Come (is_key_in pid range) n c d s z → RangeStored pid range Makes Leaves false c d s z
+keys_stored {pid} {range} {n} {c} {d} {s} {z} a =
+    subst (λ (z : StoreOf). RangeStored pid range Makes Leaves false c d s z) (sym a.store)
+    (record { contents = a.contents; paging = refl; bound = refl; names = refl; open_same = refl; areas_same = refl; same = refl })
+
 pub region_filled : {pid : Pid} {range : Range} {keys : Effect} {c d e : Key → Option Page} {s y z : StoreOf} → RangeStored pid range Leaves Makes true c d s y → RangeStored pid range keys Leaves false d e y z → RangeStored pid range keys Makes true c e s z
 region_filled {pid} {range} {keys} {z = z} a b = record {
   contents = b.contents ∙ ap (contents_by keys pid range) a.contents;

@@ -19,10 +19,9 @@ use Rattle.mm_world.proofs.{charge-set_region, charge-set_regions, charge-remove
 use Rattle.mm_world.proofs.{private_kind, flags_stay, and-true, free_of, IsPlaced, reserved_fits, commit_fits, private_flags, RegionChanges}
 use Rattle.mm_world.proofs.{RegionGoes, RegionComes, charge-set_row, charge-guard_off, each-at, each-set, Stands, found_stands, committed_is}
 use Rattle.mm_world.proofs.{IsCommitted, Inside as Within, flags_changed}
-use Rattle.mm_spaces.specs.{rows_of, PageRow, told_page_row, told_row}
+use Rattle.mm_spaces.specs.{rows_of, PageRow, told_page_row, told_row, RegionsOf}
 use Rattle.mm_tables.specs.{paging_count, new_pages, newly_marked, new_marks, Effect, Makes, Ends, Leaves, after, Moves, keys_of, key_in, FitsTables}
-use Rattle.mm_tables.specs.{CanCopy, copied, key_at, one_page_range, with_range_keys, flags_set_in, is_key_in, Process, AreKeptTables}
-use Rattle.mm_tables.specs.{process_regions, RegionsBecame}
+use Rattle.mm_tables.specs.{CanCopy, copied, key_at, one_page_range, with_range_keys, flags_set_in, is_key_in, Process, AreKeptTables, with_space}
 use Rattle.mm_tables.proofs.Keeping.{StandIn, Held, regions_by, still_kept, shown_with, same_tables, kept_same}
 use Rattle.mm_tables.proofs.Lists.{get-change_range, count-change_range, count-all, count-same, count-replicate, one_if}
 use Rattle.mm_tables.proofs.Rows.{own_rows, paging-set_region, paging-add_region, home_key, region_key, key_in_has, has, within, some_cond, SamePages, reserved_set, found_cond, has_set, has_at, has_added, has_removed, Inside, has_own, in_range, place_between, own_of_changed, same_pages, private_charge, outside, moved, regions_set_same, key_at_is}
@@ -493,22 +492,22 @@ in_area t pid page p row h lives found v is =
 
 -- ---- the tables as they are kept, after a step on one committed row
 
-module _ {i : InTables} {t : Tables} {pid : ℕ} {o : Option Process} (h : Held i t pid o) (new : Option Process) (page : ℕ) (change : RowOf (Unit {0}) → RowOf (Unit {0})) (changed : (r : Found (RegionOf (Unit {0}))) (row : RowOf (Unit {0})) → region_with (process_regions o) page ≡ Some r → row_at r.thing page ≡ Some row → RegionsBecame o new (set (process_regions o) r.place (record r.thing { rows = set r.thing.rows (page - r.thing.base) (change row) }))) where
+module _ {i : InTables} {t : Tables} {pid : ℕ} {o : Option Process} {rs : List (RegionOf (Unit {0}))} (h : Held i t pid o rs) (space : RegionsOf) (page : ℕ) (change : RowOf (Unit {0}) → RowOf (Unit {0})) (changed : (r : Found (RegionOf (Unit {0}))) (row : RowOf (Unit {0})) → region_with rs page ≡ Some r → row_at r.thing page ≡ Some row → space.regions ≡ set rs r.place (record r.thing { rows = set r.thing.rows (page - r.thing.base) (change row) })) where
   abbrev with_change : List (RegionOf (Unit {0})) → Committed (Unit {0}) → List (RegionOf (Unit {0}))
   with_change rs k = set rs k.region.place (record k.region.thing { rows = set k.region.thing.rows (page - k.region.thing.base) (change k.row) })
 
-  row_became : (p : ProcessOf (Unit {0})) (k : Committed (Unit {0})) → process_of t pid ≡ Some p → committed_at t p.regions page ≡ Some k → RegionsBecame o new (with_change p.regions k)
+  row_became : (p : ProcessOf (Unit {0})) (k : Committed (Unit {0})) → process_of t pid ≡ Some p → committed_at t p.regions page ≡ Some k → space.regions ≡ with_change p.regions k
   row_became p k lives there =
       let same = regions_by h p lives in
       let is = committed_is t p.regions page k there in
-      subst (λ rs. RegionsBecame o new (with_change rs k)) same (changed k.region k.row (ap (λ rs. region_with rs page) same ∙ is.region) is.row_there)
+      changed k.region k.row (ap (λ rs. region_with rs page) same ∙ is.region) is.row_there ∙ ap (λ rs. with_change rs k) same
 
-  pub row_changed : (p : ProcessOf (Unit {0})) (k : Committed (Unit {0})) → process_of t pid ≡ Some p → committed_at t p.regions page ≡ Some k → shown_with i (set i.processes.items (pid - 1) new) ≡ set_row t pid p k.region page (change k.row)
-  row_changed p k lives there = h.changed new p (with_change p.regions k) (row_became p k lives there) lives
+  pub row_changed : (p : ProcessOf (Unit {0})) (k : Committed (Unit {0})) → process_of t pid ≡ Some p → committed_at t p.regions page ≡ Some k → shown_with i (set i.processes.items (pid - 1) (with_space o space)) ≡ set_row t pid p k.region page (change k.row)
+  row_changed p k lives there = h.changed space p (with_change p.regions k) (row_became p k lives there) lives
 
-  pub row_kept : (k : Committed (Unit {0})) → committed_at t h.process.regions page ≡ Some k → StandIn t h.process.regions (with_change h.process.regions k) → charge (set_row t pid h.process k.region page (change k.row)) ≡ charge t → AreKeptTables (shown_with i (set i.processes.items (pid - 1) new)) i.directory.entries i.commit
+  pub row_kept : (k : Committed (Unit {0})) → committed_at t h.process.regions page ≡ Some k → StandIn t h.process.regions (with_change h.process.regions k) → charge (set_row t pid h.process k.region page (change k.row)) ≡ charge t → AreKeptTables (shown_with i (set i.processes.items (pid - 1) (with_space o space))) i.directory.entries i.commit
   row_kept k there stands same =
-      still_kept h new (with_change h.process.regions k) i.commit i.commit.charge (row_became h.process k h.lives there) stands (same ∙ sym h.kept.charged)
+      still_kept h space (with_change h.process.regions k) i.commit i.commit.charge (row_became h.process k h.lives there) stands (same ∙ sym h.kept.charged)
       (omega (arith, h.kept.charged, h.kept.sound.charged)) refl refl
 
 -- ---- the flags of a region of a process are others
@@ -550,49 +549,49 @@ module _ (t : Tables) (q : Pid) (p : ProcessOf (Unit {0})) (i : ℕ) (r : Region
 
 -- ---- the tables as they are kept, after a step on the flags of the region that a look-up finds
 
-module _ {i : InTables} {t : Tables} {q : Pid} {o : Option Process} (h : Held i t q.0 o) (new : Option Process) (test : RegionOf (Unit {0}) → Bool) (flags : RegionOf (Unit {0}) → List Bool → List Bool) (long : (r : RegionOf (Unit {0})) (ws : List Bool) → length (flags r ws) ≡ length ws) (changed : (r : Found (RegionOf (Unit {0}))) → first_where test (process_regions o) ≡ Some r → RegionsBecame o new (set (process_regions o) r.place (change_flags (flags r.thing) r.thing))) where
+module _ {i : InTables} {t : Tables} {q : Pid} {o : Option Process} {rs : List (RegionOf (Unit {0}))} (h : Held i t q.0 o rs) (space : RegionsOf) (test : RegionOf (Unit {0}) → Bool) (flags : RegionOf (Unit {0}) → List Bool → List Bool) (long : (r : RegionOf (Unit {0})) (ws : List Bool) → length (flags r ws) ≡ length ws) (changed : (r : Found (RegionOf (Unit {0}))) → first_where test rs ≡ Some r → space.regions ≡ set rs r.place (change_flags (flags r.thing) r.thing)) where
   abbrev with_flags : List (RegionOf (Unit {0})) → Found (RegionOf (Unit {0})) → List (RegionOf (Unit {0}))
   with_flags rs r = set rs r.place (change_flags (flags r.thing) r.thing)
 
-  flags_became : (p : ProcessOf (Unit {0})) (r : Found (RegionOf (Unit {0}))) → process_of t q.0 ≡ Some p → first_where test p.regions ≡ Some r → RegionsBecame o new (with_flags p.regions r)
+  flags_became : (p : ProcessOf (Unit {0})) (r : Found (RegionOf (Unit {0}))) → process_of t q.0 ≡ Some p → first_where test p.regions ≡ Some r → space.regions ≡ with_flags p.regions r
   flags_became p r lives found =
       let same = regions_by h p lives in
-      subst (λ rs. RegionsBecame o new (with_flags rs r)) same (changed r (ap (first_where test) same ∙ found))
+      changed r (ap (first_where test) same ∙ found) ∙ ap (λ rs. with_flags rs r) same
 
-  pub flagged : (p : ProcessOf (Unit {0})) (r : Found (RegionOf (Unit {0}))) → process_of t q.0 ≡ Some p → first_where test p.regions ≡ Some r → shown_with i (set i.processes.items (q.0 - 1) new) ≡ set_region t q.0 p r.place (change_flags (flags r.thing) r.thing)
-  flagged p r lives found = h.changed new p (with_flags p.regions r) (flags_became p r lives found) lives
+  pub flagged : (p : ProcessOf (Unit {0})) (r : Found (RegionOf (Unit {0}))) → process_of t q.0 ≡ Some p → first_where test p.regions ≡ Some r → shown_with i (set i.processes.items (q.0 - 1) (with_space o space)) ≡ set_region t q.0 p r.place (change_flags (flags r.thing) r.thing)
+  flagged p r lives found = h.changed space p (with_flags p.regions r) (flags_became p r lives found) lives
 
   module _ (r : Found (RegionOf (Unit {0}))) (found : first_where test h.process.regions ≡ Some r) where
     at : slice_get h.process.regions r.place ≡ Some r.thing
     at = (found_stands test h.process.regions r found).there
 
-    pub flags_kept : AreKeptTables (shown_with i (set i.processes.items (q.0 - 1) new)) i.directory.entries i.commit
+    pub flags_kept : AreKeptTables (shown_with i (set i.processes.items (q.0 - 1) (with_space o space))) i.directory.entries i.commit
     flags_kept =
         let same = flags_charge t q h.process r.place r.thing (flags r.thing) (long r.thing) h.lives at h.kept.sound in
-        still_kept h new (with_flags h.process.regions r) i.commit i.commit.charge (flags_became h.process r h.lives found)
+        still_kept h space (with_flags h.process.regions r) i.commit i.commit.charge (flags_became h.process r h.lives found)
         (flags_stand t q h.process r.place r.thing (flags r.thing) (long r.thing) h.lives at h.kept.sound) (same ∙ sym h.kept.charged)
         (omega (arith, h.kept.charged, h.kept.sound.charged)) refl refl
 
-    pub flags_fit : (contents : Key → Option Page) (s : StoreOf) → FitsTables t contents s → FitsTables (shown_with i (set i.processes.items (q.0 - 1) new)) contents s
+    pub flags_fit : (contents : Key → Option Page) (s : StoreOf) → FitsTables t contents s → FitsTables (shown_with i (set i.processes.items (q.0 - 1) (with_space o space))) contents s
     flags_fit contents s f =
         subst (λ (t : Tables). FitsTables t contents s) (sym (flagged h.process r h.lives found))
         (flags_moved t q h.process r.place r.thing (flags r.thing) (long r.thing) h.lives at h.kept.sound contents s f)
 
   -- a step on the region, if one is found
-  module _ (kept : first_where test (process_regions o) ≡ None → RegionsBecame o new (process_regions o)) where
-    pub none_found : (p : ProcessOf (Unit {0})) → process_of t q.0 ≡ Some p → first_where test p.regions ≡ None → shown_with i (set i.processes.items (q.0 - 1) new) ≡ t
-    none_found p lives none = same_tables h new (kept (ap (first_where test) (regions_by h p lives) ∙ none))
+  module _ (kept : first_where test rs ≡ None → space.regions ≡ rs) where
+    pub none_found : (p : ProcessOf (Unit {0})) → process_of t q.0 ≡ Some p → first_where test p.regions ≡ None → shown_with i (set i.processes.items (q.0 - 1) (with_space o space)) ≡ t
+    none_found p lives none = same_tables h space (kept (ap (first_where test) (regions_by h p lives) ∙ none))
 
-    pub either_kept : AreKeptTables (shown_with i (set i.processes.items (q.0 - 1) new)) i.directory.entries i.commit
+    pub either_kept : AreKeptTables (shown_with i (set i.processes.items (q.0 - 1) (with_space o space))) i.directory.entries i.commit
     either_kept = by_found (first_where test h.process.regions) refl
       where
-        by_found : (f : Option (Found (RegionOf (Unit {0})))) → first_where test h.process.regions ≡ f → AreKeptTables (shown_with i (set i.processes.items (q.0 - 1) new)) i.directory.entries i.commit
-        by_found None none = kept_same h new (kept (ap (first_where test) h.same ∙ none))
+        by_found : (f : Option (Found (RegionOf (Unit {0})))) → first_where test h.process.regions ≡ f → AreKeptTables (shown_with i (set i.processes.items (q.0 - 1) (with_space o space))) i.directory.entries i.commit
+        by_found None none = kept_same h space (kept (ap (first_where test) h.same ∙ none))
         by_found (Some r) found = flags_kept r found
 
-    pub either_fit : (contents : Key → Option Page) (s : StoreOf) → FitsTables t contents s → FitsTables (shown_with i (set i.processes.items (q.0 - 1) new)) contents s
+    pub either_fit : (contents : Key → Option Page) (s : StoreOf) → FitsTables t contents s → FitsTables (shown_with i (set i.processes.items (q.0 - 1) (with_space o space))) contents s
     either_fit contents s f = by_found (first_where test h.process.regions) refl
       where
-        by_found : (o : Option (Found (RegionOf (Unit {0})))) → first_where test h.process.regions ≡ o → FitsTables (shown_with i (set i.processes.items (q.0 - 1) new)) contents s
+        by_found : (found : Option (Found (RegionOf (Unit {0})))) → first_where test h.process.regions ≡ found → FitsTables (shown_with i (set i.processes.items (q.0 - 1) (with_space o space))) contents s
         by_found None none = subst (λ (t : Tables). FitsTables t contents s) (sym (none_found h.process h.lives none)) f
         by_found (Some r) found = flags_fit r found contents s f

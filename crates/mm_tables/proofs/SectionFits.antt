@@ -17,7 +17,7 @@ use Rattle.mm_pages.specs.{StoreOf}
 use Rattle.mm_sections.specs.{CountedSection, section_in, sections_of, new_entry, one_handle_more, DirectoryOf, page_if}
 use Rattle.mm_tables.specs.{key_in, handles_in, views_in, handles_to, views_of, IsFew, tables_with, shown_processes, shown_accesses, IsCounted}
 use Rattle.mm_tables.specs.{FitsTables, is_reserved, key_at, is_paging, open_pages, file_block_in, owned_keys, paging_count, CarriesPages, Settled}
-use Rattle.mm_tables.specs.{store_beside, AreKeptTables, is_page_of, Opens, Process, has_room, CanHold}
+use Rattle.mm_tables.specs.{store_beside, AreKeptTables, is_page_of, Opens}
 use Rattle.mm_tables.specs.declared.tables.Tables.TheInside.{Inside}
 use Rattle.mm_tables.proofs.Lists.{none_replicated, same_number, same_some, one_if, area_in, area_at_end, area_before, no_area_past, if_some, any_more}
 use Rattle.mm_tables.proofs.Rows.{regions_in, reserved_is, content_is, key_in_same, key_at_is, at_added, settled_same}
@@ -457,7 +457,7 @@ handle_few i number view k few =
     (λ c e. omega (arith, (k.counted number c e).handles, handles_few (as_kept i) here k.sound.numbers number))
 
 -- room was had, a reference was counted in the directory, and the process was given its handle
-module _ (i : Inside) {t : Tables} (pid number : ℕ) {mid ps : List (Option (ProcessOf (Unit {0})))} {d : DirectoryOf} (view : as_kept i ≡ t) (grown : mid ≡ shown_processes i.processes.items) (given : (p : ProcessOf (Unit {0})) → numbered mid pid ≡ Some p → ps ≡ set mid pid (Some (record p { handles = p.handles ++ Some number ∷ [] }))) (counted : d ≡ record (i.directory) { entries = set i.directory.entries number (option_map one_handle_more (numbered i.directory.entries number)) }) (p : ProcessOf (Unit {0})) (alive : process_of t pid ≡ Some p) where
+module _ (i : Inside) {t : Tables} (pid number : ℕ) {ps : List (Option (ProcessOf (Unit {0})))} {d : DirectoryOf} (view : as_kept i ≡ t) (given : (p : ProcessOf (Unit {0})) → numbered (shown_processes i.processes.items) pid ≡ Some p → ps ≡ set (shown_processes i.processes.items) pid (Some (record p { handles = p.handles ++ Some number ∷ [] }))) (counted : d ≡ record (i.directory) { entries = set i.directory.entries number (option_map one_handle_more (numbered i.directory.entries number)) }) (p : ProcessOf (Unit {0})) (alive : process_of t pid ≡ Some p) where
   lives : numbered (shown_processes i.processes.items) pid ≡ Some p
   lives = ap (λ (t : Tables). process_of t pid) view ∙ alive
 
@@ -466,9 +466,7 @@ module _ (i : Inside) {t : Tables} (pid number : ℕ) {mid ps : List (Option (Pr
 
   handle_is : now i ps d.entries i.areas.items d.files i.blocks_used ≡ with_handle (as_kept i) pid p number
   handle_is =
-      let made : ps ≡ set (shown_processes i.processes.items) pid (Some (record p { handles = p.handles ++ Some number ∷ [] })) =
-      given p (ap (λ ps. numbered ps pid) grown ∙ lives) ∙ ap (λ ps. set ps pid (Some (record p { handles = p.handles ++ Some number ∷ [] }))) grown in
-      λ j. record (as_kept i) { processes = made j; sections = sections_kept i.directory.entries d.entries number entries j; files = ap (λ (d : DirectoryOf). d.files) counted j }
+      λ j. record (as_kept i) { processes = given p lives j; sections = sections_kept i.directory.entries d.entries number entries j; files = ap (λ (d : DirectoryOf). d.files) counted j }
 
   pub handle_kept : is_some (section_of t number) ≡ true → AreKeptTables (as_kept i) i.directory.entries i.commit → AreKeptTables (now i ps d.entries i.areas.items d.files i.blocks_used) d.entries i.commit
   handle_kept known k =
@@ -511,12 +509,12 @@ pub record ListsSection (i : Inside) (t : Tables) (pid : ℕ) (s : SectionOf) (p
   pub files_are : files ≡ i.directory.files
 
 -- after room was had
-pub lists : (i : Inside) {t : Tables} (pid : ℕ) (s : SectionOf) {mid ps : List (Option (ProcessOf (Unit {0})))} {old es : Numbered CountedSection} {kept files : List FileOf} → as_kept i ≡ t → mid ≡ shown_processes i.processes.items → old ≡ i.directory.entries → kept ≡ i.directory.files → ((p : ProcessOf (Unit {0})) → numbered mid pid ≡ Some p → ps ≡ set mid pid (Some (record p { handles = p.handles ++ Some (length old) ∷ [] }))) → es ≡ old ++ Some (one_handle_more (new_entry s.prot s.name s.area)) ∷ [] → files ≡ kept → ListsSection i t pid s ps es files
-lists i pid s view grown grown_entries grown_files given entries files =
+pub lists : (i : Inside) {t : Tables} (pid : ℕ) (s : SectionOf) {ps : List (Option (ProcessOf (Unit {0})))} {old es : Numbered CountedSection} {kept files : List FileOf} → as_kept i ≡ t → old ≡ i.directory.entries → kept ≡ i.directory.files → ((p : ProcessOf (Unit {0})) → numbered (shown_processes i.processes.items) pid ≡ Some p → ps ≡ set (shown_processes i.processes.items) pid (Some (record p { handles = p.handles ++ Some (length old) ∷ [] }))) → es ≡ old ++ Some (one_handle_more (new_entry s.prot s.name s.area)) ∷ [] → files ≡ kept → ListsSection i t pid s ps es files
+lists i pid s view grown_entries grown_files given entries files =
     record {
       view = view;
       made = λ p here.
-          given p (ap (λ ps. numbered ps pid) grown ∙ here) ∙ (λ j. set (grown j) pid (Some (record p { handles = p.handles ++ Some (length (grown_entries j)) ∷ [] })));
+          given p here ∙ (λ j. set (shown_processes i.processes.items) pid (Some (record p { handles = p.handles ++ Some (length (grown_entries j)) ∷ [] })));
       entries = entries ∙ ap (λ es. es ++ Some (one_handle_more (new_entry s.prot s.name s.area)) ∷ []) grown_entries;
       files_are = files ∙ grown_files;
     }
@@ -556,6 +554,9 @@ module _ {i : Inside} {t : Tables} {pid : ℕ} {s : SectionOf} {ps : List (Optio
         alone = λ none n r at same. (let bad : Some first.0 ≡ None = sym first.1 ∙ none in cc);
         some = (k.tidy.files s.area first.0 first.1).some;
       }) k.counted k.charged k.limited)
+
+  pub file_section_now : now i ps es i.areas.items files i.blocks_used ≡ (new_section t pid p s).world
+  file_section_now = section_is refl ∙ ap (λ (t : Tables). (new_section t pid p s).world) l.view
 
   pub file_section_settled : (c : Key → Option Page) (z : StoreOf) → FitsTables t c z → Settled (now i ps es i.areas.items files i.blocks_used) c c z z
   file_section_settled c z f =
@@ -699,10 +700,3 @@ module _ {i : Inside} {t : Tables} {pid : ℕ} {s : SectionOf} {ps : List (Optio
         carries = opened_carries x area pages committed c d st z (same ∙ at) f o;
         rest = o.store ∙ ap (store_beside st) (sym o.store);
       })
-
--- ---- a living process can be given a handle, where room was had for it
-
-pub can_hold : (i : Inside) (t : Tables) (items : List (Option Process)) (pid : ℕ) → as_kept i ≡ t → shown_processes items ≡ shown_processes i.processes.items → is_some (process_of t pid) ≡ true → IsFew t → has_room items pid ≡ true → CanHold items pid
-can_hold i t items pid view same lives few room =
-    let here : numbered (shown_processes items) pid ≡ process_of t pid = ap (λ ps. numbered ps pid) same ∙ ap (λ (w : Tables). process_of w pid) view in
-    record { lives = ap (λ o. is_some o) here ∙ lives; room = room; few = λ p e. omega (arith, few.handles pid p (sym here ∙ e)) }

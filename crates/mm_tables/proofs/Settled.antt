@@ -114,8 +114,8 @@ module _ (t : Tables) (pid : Pid) (p : ProcessOf (Unit {0})) (c : Key → Option
           elim (s.names (place_at pid page)) as (λ o. s.names (place_at pid page) ≡ o → o ≡ None)
           [ None ↦ λ e. refl | Some k ↦ λ e. sym (f.named (place_at pid page) k e) ∙ uncommitted_is page held dead ] refl
 
-      pub can_add : (n total : ℕ) → n + count_by has_own (in_range range r) ≡ range.count → charge t + n ≤ total → s.kind ≡ kind.Call → CanAdd pid range p.regions c (record s { room = total })
-      can_add n total counted room called =
+      pub can_add : (n : ℕ) → n + count_by has_own (in_range range r) ≡ range.count → charge t + n ≤ s.room → s.kind ≡ kind.Call → CanAdd pid range p.regions c s
+      can_add n counted room called =
           record {
             live = λ page e. live_is page;
             bound = bound_in;
@@ -252,6 +252,11 @@ roomier_settled {t} {after} {c} {d} {s} {z} f same r =
       carries = carries_same c d r.contents;
       rest = roomier_beside c d s z r;
     }
+
+-- room was had before
+pub settled_then : {t : Tables} {c d e : Key → Option Page} {s y z : StoreOf} → Roomier c d s y → Settled t d e y z → Settled t c e s z
+settled_then {e = e} {z = z} more h =
+    record { fits = h.fits; carries = subst (λ (c : Key → Option Page). CarriesPages c e) more.contents h.carries; rest = h.rest ∙ ap (λ (x : StoreOf). store_beside x z) more.store }
 
 -- memory ran out
 pub out_of_memory : {G : Type 0} (gs : PagesGhosts G) {T : Type 0} (result : Result T NoMemory) {old new : Tables} {g h : G} → FitsTables old (gs.contents g) (gs.store g) → new ≡ old → Roomier (gs.contents g) (gs.contents h) (gs.store g) (gs.store h) → SettlesTables gs result old new g h

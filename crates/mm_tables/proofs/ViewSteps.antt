@@ -1,5 +1,5 @@
 -- A view more, or pages of a section more.
-use Rattle.std.proofs.Common.{◌≡◌, ℕ, zero, suc, ◌+◌, ◌-◌, ◌≤◌, ◌<◌, true, false, Option, Some, None, List, [], ◌∷◌, refl, sym, ◌∙◌, ap, subst, arith, length, set, get_or, slice_get, is_some, option_map, unwrap_or, cond, not, ◌&&◌, ◌||◌, ◌^◌, Bool, count_by, take, drop, ◌≢◌, nat_lt, replicate}
+use Rattle.std.proofs.Common.{◌++◌, ◌≡◌, ℕ, zero, suc, ◌+◌, ◌-◌, ◌≤◌, ◌<◌, true, false, Option, Some, None, List, [], ◌∷◌, refl, sym, ◌∙◌, ap, subst, arith, length, set, get_or, slice_get, is_some, option_map, unwrap_or, cond, not, ◌&&◌, ◌||◌, ◌^◌, Bool, count_by, take, drop, ◌≢◌, nat_lt, replicate}
 use Rattle.mm_types.proofs.{none_of, some_get, same_found, and_false, spread, not_true, get_set_other, get_set_same, some_found, differ}
 use Rattle.mm_world.specs.{RegionOf, ProcessOf, AreaOf, set_area, area_at, no_area, charge, limit, area_charge, Tables, Page, filled, numbered}
 use Rattle.mm_world.specs.{same_key, pages_of, Numbered, blank, is_view_of, LaidOut, RegionRefers, ViewFits, Found, process_of, region_around}
@@ -10,27 +10,28 @@ use Rattle.mm_world.specs.WellFormed.{WellFormed}
 use Rattle.mm_world.proofs.{sum_by-put, AreaChanges, charge-set_region, each-at, Stands, found_stands, length-change_range, view_rows_protected}
 use Rattle.mm_world.proofs.{charge-set_regions, each-replicate, numbered_there, no_flags, IsPlaced, free_of, new_view_fits, begins_before}
 use Rattle.mm_world.proofs.{RegionComes, any_insert}
-use Rattle.mm_tables.specs.{paging_count, IsTidy, shown_process, shown_processes, living, Process, is_shared_in, with_live, CanShare, has_room}
-use Rattle.mm_tables.specs.{has_spare, Shares, FitsTables, Settled, Carried, store_beside, newly_marked, new_marks, views_in, views_of, AreKeptTables}
-use Rattle.mm_tables.specs.{Roomier, Leaves, listed_area, Makes, new_pages, handles_in, handles_to, region_of_view, NewPlaces}
-use Rattle.mm_tables.proofs.Keeping.{Alike, alike_same, area_more, settle_by, section_settled, area_settled, rest_of, tidy_by, AreasFit, areas_rest, file_at, sound_edit, lives_where, shown_at, shown_set, StandIn, kept_after, put_tidy}
+use Rattle.mm_tables.specs.{paging_count, IsTidy, shown_process, shown_processes, living, Process, is_shared_in, with_live, CanShare, process_regions}
+use Rattle.mm_tables.specs.{process_handles, with_handles, with_space, Shares, FitsTables, Settled, Carried, store_beside, newly_marked, new_marks}
+use Rattle.mm_tables.specs.{views_in, views_of, AreKeptTables, Roomier, Leaves, listed_area, Makes, new_pages, handles_in, handles_to, region_of_view}
+use Rattle.mm_tables.specs.{NewPlaces}
+use Rattle.mm_tables.proofs.Keeping.{Alike, alike_same, area_more, settle_by, section_settled, area_settled, rest_of, tidy_by, AreasFit, areas_rest, file_at, sound_edit, lives_where, shown_at, shown_set, spaced, handled, regions_as, handles_by, StandIn, kept_after, put_tidy}
 use Rattle.std.specs.Prelude.{◌==◌, is_none, IfSome, ◌%◌, option_and_then}
 use Rattle.std.specs.Cmp.{unsigned_Decides}
 use Rattle.mm_types.specs.{Key, Area, Range, Kind, end_of_user_pages, first_user_page, end_of, lies_within, Pid, View, base_of, is_free, reserve_type}
 use Rattle.mm_types.specs.{limit_of}
 use Rattle.mm_types.specs.declared.numbers.Key.TheVariants as key
 use Rattle.mm_pages.specs.{StoreOf, changed, rearranged, AllBound}
-use Rattle.mm_sections.specs.{uncommitted_in, CountedSection, DirectoryOf, sections_of, one_view_more}
+use Rattle.mm_sections.specs.{uncommitted_in, CountedSection, DirectoryOf, HandlesOf, sections_of, one_view_more}
 use Rattle.mm_tables.proofs.Rows.{some_cond, holds_not, at_added, within, inside, Inside as LiesIn, own_rows, paging-add_region}
 use Rattle.mm_tables.proofs.Lists.{count-next, is_between, by_cell, numbered_got, get-change_range, count-change_range, count-all, length-range, area_in, same_number, same_some, count-replicate, if_some}
 use Rattle.mm_tables.proofs.PageByPage.{holds_only, holds_more, same_key_is, come_same, come_one, come_then, rises, places_stored}
-use Rattle.std.proofs.lemmas.List.{get_or_default, get_or-set_same, set-get_or, length-replicate}
+use Rattle.std.proofs.lemmas.List.{set-get_or, length-replicate}
 use Rattle.std.proofs.lemmas.Option.{slice_get-get_or}
 use Rattle.std.proofs.lemmas.List.Sums.{sum_by-cons, count_by-le-length, sum_by-insert}
 use Rattle.mm_types.specs.declared.views.Kind.TheVariants as kind
 use Rattle.mm_types.specs.declared.moves.LineKind.TheVariants as line_kind
 use Rattle.mm_commit.specs.{CommitOf}
-use Rattle.mm_spaces.specs.{unmarked_in, RegionInfo, found_info}
+use Rattle.mm_spaces.specs.{unmarked_in, RegionInfo, RegionsOf, found_info}
 use Rattle.mm_tables.specs.declared.tables.Tables.TheInside.{Inside}
 use Rattle.mm_tables.proofs.EndingSettles.{beside_then}
 use Rattle.mm_tables.proofs.Regional.{allowed, change_stands, protect_count, protect_moves, protect_paging, added_moves}
@@ -44,42 +45,52 @@ use Rattle.mm_world.proofs.Edits.{Regions}
 pub living_at : (ps : List (Option Process)) (pid : ℕ) (x : Option Process) → is_some (living ps pid) ≡ true → x ≡ get_or ps (pid - 1) x → living ps pid ≡ option_map shown_process x
 living_at ps pid x alive e = let w = lives_where ps pid alive in shown_at ps pid x w.0 w.1 e
 
-pub lives_at : (ps : List (Option Process)) (pid : ℕ) (x : Option Process) (p : Process) → is_some (living ps pid) ≡ true → x ≡ get_or ps (pid - 1) x → x ≡ Some p → living ps pid ≡ Some (shown_process p)
-lives_at ps pid x p alive at is = living_at ps pid x alive at ∙ ap (option_map shown_process) is
-
-pub not_none : (ps : List (Option Process)) (pid : ℕ) (x : Option Process) → is_some (living ps pid) ≡ true → x ≡ get_or ps (pid - 1) x → x ≡ None → ⊥
-not_none ps pid x alive at is =
-    let bad : true ≡ false = sym alive ∙ ap is_some (living_at ps pid x alive at ∙ ap (option_map shown_process) is) in
-    cc
-
 -- another is put there
 pub put_at : (ps : List (Option Process)) (pid : ℕ) (y : Option Process) → is_some (living ps pid) ≡ true → shown_processes (set ps (pid - 1) y) ≡ set (shown_processes ps) pid (option_map shown_process y)
 put_at ps pid y alive = shown_set ps pid y (lives_where ps pid alive).0
 
--- room for a handle, of the process at the place
-pub room_there : (ps : List (Option Process)) (pid : ℕ) (x : Option Process) → is_some (living ps pid) ≡ true → x ≡ get_or ps (pid - 1) x → has_room ps pid ≡ true → has_spare x ≡ true
-room_there ps pid x alive at room =
-    let w = lives_where ps pid alive in
-    ap has_spare (at ∙ sym (get_or_default ps (pid - 1) None x (omega (arith, w.0, w.1)))) ∙ room
-
-pub room_put : (ps : List (Option Process)) (pid : ℕ) (y : Option Process) → is_some (living ps pid) ≡ true → has_spare y ≡ true → has_room (set ps (pid - 1) y) pid ≡ true
-room_put ps pid y alive spare =
-    let w = lives_where ps pid alive in
-    ap has_spare (get_or-set_same ps (pid - 1) y None (omega (arith, w.0, w.1))) ∙ spare
-
--- one that shows as before
-pub still_at : (ps : List (Option Process)) (pid : ℕ) (x y : Option Process) → is_some (living ps pid) ≡ true → x ≡ get_or ps (pid - 1) x → option_map shown_process y ≡ option_map shown_process x → shown_processes (set ps (pid - 1) y) ≡ shown_processes ps
-still_at ps pid x y alive e same =
-    put_at ps pid y alive ∙ ap (λ o. set (shown_processes ps) pid o) (same ∙ sym (living_at ps pid x alive e)) ∙ set-get_or (shown_processes ps) pid None
-
 -- one with other regions
-pub changed_in : (ps : List (Option Process)) (pid : ℕ) (x : Option Process) (p q : Process) (f : List (RegionOf (Unit {0})) → List (RegionOf (Unit {0}))) → is_some (living ps pid) ≡ true → x ≡ get_or ps (pid - 1) x → x ≡ Some p → q.space.regions ≡ f p.space.regions → q.handles.entries ≡ p.handles.entries → (r : ProcessOf (Unit {0})) → living ps pid ≡ Some r → shown_processes (set ps (pid - 1) (Some q)) ≡ set (shown_processes ps) pid (Some (record r { regions = f r.regions }))
-changed_in ps pid x p q f alive at is regions handles r lives =
-    let same : shown_process p ≡ r = same_found (living ps pid) (shown_process p) r (lives_at ps pid x p alive at is) lives in
-    let now : shown_process q ≡ record { regions = f p.space.regions; handles = p.handles.entries } = λ i. record { regions = regions i; handles = handles i } in
-    put_at ps pid (Some q) alive
-    ∙ ap (λ (p : ProcessOf (Unit {0})). set (shown_processes ps) pid (Some p)) now
-    ∙ ap (λ (p : ProcessOf (Unit {0})). set (shown_processes ps) pid (Some (record p { regions = f p.regions }))) same
+module _ (ps : List (Option Process)) (pid : ℕ) (x : Option Process) (alive : is_some (living ps pid) ≡ true) (at : x ≡ get_or ps (pid - 1) x) where
+  shown_at_place : (r : ProcessOf (Unit {0})) → living ps pid ≡ Some r → option_map shown_process x ≡ Some r
+  shown_at_place r lives = sym (living_at ps pid x alive at) ∙ lives
+
+  pub regions_are : (r : ProcessOf (Unit {0})) → living ps pid ≡ Some r → process_regions x ≡ r.regions
+  regions_are r lives = regions_as x r (shown_at_place r lives)
+
+  pub changed_in : (space : RegionsOf) (f : List (RegionOf (Unit {0})) → List (RegionOf (Unit {0}))) → space.regions ≡ f (process_regions x) → (r : ProcessOf (Unit {0})) → living ps pid ≡ Some r → shown_processes (set ps (pid - 1) (with_space x space)) ≡ set (shown_processes ps) pid (Some (record r { regions = f r.regions }))
+  changed_in space f is r lives = put_at ps pid (with_space x space) alive ∙ ap (set (shown_processes ps) pid) (spaced x space f is r (shown_at_place r lives))
+
+-- the handles of a process that lives, lent from its place
+pub record Lent (i : Inside) (t : Tables) (pid : ℕ) (x : Option Process) (hs : Numbered ℕ) : Type 0 where
+  pub view : as_kept i ≡ t
+  pub lives : is_some (process_of t pid) ≡ true
+  pub at : x ≡ get_or i.processes.items (pid - 1) x
+  pub are : hs ≡ process_handles x
+
+module _ {i : Inside} {t : Tables} {pid : ℕ} {x : Option Process} {hs : Numbered ℕ} (l : Lent i t pid x hs) where
+  alive_here : is_some (living i.processes.items pid) ≡ true
+  alive_here = ap (λ (t : Tables). is_some (process_of t pid)) l.view ∙ l.lives
+
+  shown_here : (p : ProcessOf (Unit {0})) → living i.processes.items pid ≡ Some p → option_map shown_process x ≡ Some p
+  shown_here p lives = sym (living_at i.processes.items pid x alive_here l.at) ∙ lives
+
+  pub lent_are : (p : ProcessOf (Unit {0})) → process_of t pid ≡ Some p → hs ≡ p.handles
+  lent_are p lives = l.are ∙ handles_by x p (shown_here p (ap (λ (t : Tables). process_of t pid) l.view ∙ lives))
+
+  -- it has one more
+  pub one_given : (handles : HandlesOf) (number : ℕ) → handles.entries ≡ hs ++ Some number ∷ [] → (p : ProcessOf (Unit {0})) → living i.processes.items pid ≡ Some p
+      → shown_processes (set i.processes.items (pid - 1) (with_handles x handles)) ≡ set (shown_processes i.processes.items) pid (Some (record p { handles = p.handles ++ Some number ∷ [] }))
+  one_given handles number is p lives =
+      put_at i.processes.items pid (with_handles x handles) alive_here
+      ∙ ap (set (shown_processes i.processes.items) pid) (handled x handles (λ hs. hs ++ Some number ∷ []) (is ∙ ap (λ hs. hs ++ Some number ∷ []) l.are) p (shown_here p lives))
+
+  -- nothing but room for one is other
+  pub room_alone : (handles : HandlesOf) → handles.entries ≡ hs → shown_processes (set i.processes.items (pid - 1) (with_handles x handles)) ≡ shown_processes i.processes.items
+  room_alone handles is =
+      let p = some_found (living i.processes.items pid) alive_here in
+      put_at i.processes.items pid (with_handles x handles) alive_here
+      ∙ ap (set (shown_processes i.processes.items) pid) (handled x handles (λ hs. hs) (is ∙ l.are) p.0 (shown_here p.0 p.1) ∙ sym p.1)
+      ∙ set-get_or (shown_processes i.processes.items) pid None
 
 -- ---- one area has other pages
 

@@ -32,16 +32,20 @@ pub use Ranges.{with_live, with_range_keys}
 pub use Known.{KnownAt, KnownIn}
 pub use Effects.{CanMake, Effect, Ends, Leaves, Makes, Moves, RangeStored, Roomier, after, bound_by}
 pub use Effects.{contents_by, key_in, keys_of, names_by, paging_by}
-pub use Spaces.{RegionsBecame, process_regions}
-pub use SectionSteps.{CanFill, CanHold, GivesHandle, Opens, has_room, has_spare, is_page_of}
+pub use Spaces.{LendsHandles, LendsSpace, process_handles, process_regions, with_handles}
+pub use Spaces.{with_space}
+pub use SectionSteps.{CanFill, CanGive, IsListedAs, IsNewArea, Opens, is_page_of}
 pub use Endings.{AreUnbound, CanEnd, CanGiveUp, CanGo, CanGoAll, CanRelease, Emptied, EndsArea}
 pub use Endings.{Fewer, GivenUp, Gone, HasNoHandle, IsRankFor, Less, Toward, ended_area}
 pub use Endings.{is_committed_in, is_key_of_area, is_owned_among, is_owned_at, own_at, owned_among}
 pub use Endings.{places_by, shared_at, without_keys, without_names, without_paging}
 pub use ViewChanges.{CanShare, MoreRoom, NewPlaces, Shares, is_shared_in, listed_area, living}
 pub use ViewChanges.{region_of_view, section_of_view}
-pub use Promises.{CanLose, Frees, GivesUp, IsNewPlace, IsNewRange, IsReadyFor, LosesReference}
-pub use Promises.{MakesPages, MakesWithin, PassesAs, SettlesTables, SharesPages, StaysIdle}
+pub use Promises.{AddsKeys, AddsOwn, BindsPlaces, CanBind, CanProtectAll, CommitsInView}
+pub use Promises.{CommitsPages, Frees, GivesUp, GivesUpOwn, IdlesOver, IsNewPlace, IsNewRange}
+pub use Promises.{IsReadyFor, LosesReference, MakesPages, MakesWithin, Nears, PassesAs}
+pub use Promises.{SettlesTables, SharesPages, Shrinks, StartsProcess, StaysIdle}
+pub use FilePromises.{BlamesDevice, IsNewFile, MakesFile, NotesFile, StoresFile}
 pub use declared.looks.CommittedRow.{CommittedRow}
 pub use declared.tables.Process.{Process}
 pub use declared.waiting.Kept.{Kept}

@@ -1,39 +1,22 @@
 -- What a family of calls asks and promises of tables, store and moves together.
-use Rattle.std.specs.Prelude.{◌≡◌, ◌≤◌, ℕ, ◌+◌, ◌-◌, ◌%◌, Bool, true, false, is_some, List, Option, Some, None, Result, OnErr, option_map, slice_set, if◌then◌else◌}
-use Rattle.mm_types.specs.{Area, Range, end_of, end_of_user_pages, is_free, NoMemory, LineKind, Pid, View, limit_of}
+use Rattle.std.specs.Prelude.{◌≡◌, ◌≤◌, ℕ, ◌+◌, ◌-◌, ◌%◌, Bool, true, false, is_some, List, Option, Some, None, Result, OnErr, slice_set, if◌then◌else◌}
+use Rattle.mm_types.specs.{Area, Range, end_of_user_pages, is_free, NoMemory, LineKind, Pid, View, limit_of}
 use Rattle.mm_types.specs.declared.moves.LineKind.TheVariants as line_kind
 use Rattle.mm_types.specs.declared.views.Kind.TheVariants as kind
-use Rattle.mm_world.specs.{AreaOf, RegionOf, ProcessOf, numbered, pages_of, Found, process_of, region_around, ranges_of, area_at, is_private, Tables}
-use Rattle.mm_world.specs.{private_at, is_protection_among, private_protections, all_protections, is_committed_at, every_page, accepts}
+use Rattle.mm_world.specs.{AreaOf, RegionOf, ProcessOf, numbered, Found, process_of, region_around, ranges_of, area_at, is_private, Tables}
+use Rattle.mm_world.specs.{is_protection_among, private_protections, all_protections, is_committed_at, every_page, accepts}
 use Rattle.mm_sections.specs.{CountedSection, DirectoryOf, section_settled, uncommitted_in}
 use Rattle.mm_spaces.specs.{owned_in}
 use Rattle.mm_pages.specs.{Ghosts as PagesGhosts, AllBound, AreAmong, Turn, Turns, Makes as Making, MakesFrom, leaving, page_rank, PassesIn}
 use Rattle.mm_pages.specs.Housekeeping.{Ends as Ending}
 use Rattle.mm_pages.specs.Leaving.{Leaving}
-use Rattle.mm_tables.specs.declared.tables.Process.{Process}
-use Rattle.mm_tables.specs.Shown.{shown_process}
-use Rattle.mm_tables.specs.Effects.{Effect, RangeStored, Roomier}
-use Rattle.mm_tables.specs.Endings.{Less, Toward, CanRelease, GivenUp, is_owned_at, owned_among}
+use Rattle.mm_tables.specs.Effects.{Effect, RangeStored}
+use Rattle.mm_tables.specs.Endings.{Less, Toward, GivenUp, is_owned_at, owned_among}
 use Rattle.mm_tables.specs.Fits.{FitsTables, Settled, before_process, is_uncommitted, new_marks}
-use Rattle.mm_tables.specs.Ranges.{Adds, CanAdd, StandsFrom, passing, is_page_live}
-use Rattle.mm_tables.specs.Spaces.{process_regions, RegionsBecame}
+use Rattle.mm_tables.specs.Ranges.{Adds, StandsFrom, passing, is_page_live}
 use Rattle.mm_tables.specs.ViewChanges.{NewPlaces, Shares}
 
 -- ---- what is asked
-
--- the pages lie in one private region of a living process
-pub record LiesInPrivate (process : Option Process) (range : Range) : Type 0 where
-  pub lives : is_some process ≡ true
-  pub inside : is_some (region_around (process_regions process) range) ≡ true
-  pub private : (r : Found (RegionOf (Unit {0}))) →
-      region_around (process_regions process) range ≡ Some r → is_private r.thing.kind ≡ true
-
--- the private region of a living process that begins at the address has these pages
-pub record BeginsAt (process : Option Process) (addr : ℕ) (range : Range) : Type 0 where
-  pub lives : is_some process ≡ true
-  pub there : option_map (λ r. pages_of r.thing) (private_at (process_regions process) addr) ≡ Some
-      range
-  pub inside : is_some (region_around (process_regions process) range) ≡ true
 
 -- free pages from a granule's first on
 pub record IsNewPlace (regions : List (RegionOf (Unit {0}))) (range : Range) : Type 0 where
@@ -117,33 +100,11 @@ module _ {G : Type 0} (p : PagesGhosts G) where
     pub fits : FitsTables t (p.contents g) (before_process t (p.store g))
     pub last_pid : (p.store g).last_pid ≡ pid.0
 
-  -- keys can be added for these pages, where there is room for `total` keys
-  pub record CanAddUpTo (pid : Pid) (range : Range) (total : ℕ)
-      (regions : List (RegionOf (Unit {0}))) (g : G) : Type 0 where
-    pub within : total ≤ limit_of (p.store g).machine
-    pub end : end_of range ≤ end_of_user_pages
-    pub can : CanAdd pid range regions (p.contents g) (record (p.store g) { room = total })
-
-  -- these user pages can be given up
-  pub record CanRemoveIn (goes : Bool) (pid : Pid) (range : Range)
-      (regions : List (RegionOf (Unit {0}))) (g : G) : Type 0 where
-    pub end : end_of range ≤ end_of_user_pages
-    pub can : CanRelease goes pid range regions (p.contents g) (p.store g)
-
   -- places of an open process that are not bound can be, with room for `total` keys
   pub record CanBind (pid : Pid) (range : Range) (total : ℕ) (g : G) : Type 0 where
     pub within : total ≤ limit_of (p.store g).machine
     pub opened : (p.store g).is_open pid.0 ≡ true
     pub unbound : AllBound (p.store g) pid range false
-
-  -- the pages of a region of a living process can be given up
-  pub record CanLose (process : Option Process) (pid : Pid) (range : Range) (g : G) : Type 0 where
-    pub end : end_of range ≤ end_of_user_pages
-    pub lives : is_some process ≡ true
-    pub around : (q : ProcessOf (Unit {0})) → option_map shown_process process ≡ Some q →
-        is_some (region_around q.regions range) ≡ true
-    pub can : (q : ProcessOf (Unit {0})) → option_map shown_process process ≡ Some q →
-        CanRelease true pid range q.regions (p.contents g) (p.store g)
 
   -- ---- moves
 
@@ -224,11 +185,6 @@ module _ {G : Type 0} (p : PagesGhosts G) where
   pub record BindsPlaces (pid : Pid) (range : Range) (total : ℕ) (g h : G) : Type 0 where
     pub bound : NewPlaces pid range (p.store g) (p.store h)
     pub room : total ≤ (p.store h).room
-
-  -- memory ran out: a process keeps its regions, and there may be more room
-  pub record KeepsRegions (old new : Option Process) (g h : G) : Type 0 where
-    pub kept : RegionsBecame old new (process_regions old)
-    pub err : Roomier (p.contents g) (p.contents h) (p.store g) (p.store h)
 
   -- ---- tables and store
 

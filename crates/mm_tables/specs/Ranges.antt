@@ -87,6 +87,7 @@ high_half range = record {
 }
 
 -- what adding keys comes to
-abbrev pub Adds : Pid → Range → (Key → Option Page) → (Key → Option Page) → StoreOf → StoreOf → Type 0
+abbrev pub Adds : Pid → Range → (Key → Option Page) → (Key → Option Page) → StoreOf → StoreOf →
+    Type 0
 Adds pid range c d s z =
     Come (is_key_in pid range) (passing (is_page_dead pid c) range.first range.count) c d s z

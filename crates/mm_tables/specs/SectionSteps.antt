@@ -1,40 +1,17 @@
 -- The steps in which a section is made: room for a handle, and the keys of a new area.
-use Rattle.std.specs.Prelude.{◌≡◌, ◌≤◌, ◌<◌, ℕ, ◌+◌, ◌-◌, ◌^◌, Bool, true, false, ◌&&◌, ◌==◌, nat_le, nat_lt, if◌then◌else◌, is_some, List, length, Option, Some, None, ◌++◌, ◌∷◌, [], slice_set}
+use Rattle.std.specs.Prelude.{◌≡◌, ◌≤◌, ◌<◌, ℕ, ◌+◌, ◌^◌, Bool, false, ◌&&◌, ◌==◌, nat_lt, length, Option, Some, None}
 use Rattle.mm_types.specs.{Area, Key}
 use Rattle.mm_types.specs.declared.numbers.Key.TheVariants as key
 use Rattle.mm_types.specs.declared.moves.LineKind.TheVariants as kind
-use Rattle.mm_world.specs.{Page, ProcessOf, numbered, filled, next_handle}
+use Rattle.mm_world.specs.{Page}
 use Rattle.mm_pages.specs.{StoreOf, changed, rearranged}
-use Rattle.mm_sections.specs.{DirectoryOf}
-use Rattle.mm_tables.specs.declared.tables.Process.{Process}
+use Rattle.mm_sections.specs.{DirectoryOf, HandlesOf}
 use Rattle.mm_tables.specs.Ranges.{with_flags, with_live}
-use Rattle.mm_tables.specs.Shown.{shown_processes}
 
--- ---- handles
-
-abbrev pub has_spare : Option Process → Bool
-has_spare None = false
-has_spare (Some p) = nat_le 1 p.handles.spare
-
--- a handle can be given to the process without memory
-abbrev pub has_room : List (Option Process) → ℕ → Bool
-has_room processes pid = has_spare (numbered processes (pid - 1))
-
--- a living process can be given a handle
-pub record CanHold (processes : List (Option Process)) (pid : ℕ) : Type 0 where
-  pub lives : is_some (numbered (shown_processes processes) pid) ≡ true
-  pub room : has_room processes pid ≡ true
-  pub few : (p : ProcessOf (Unit {0})) → numbered (shown_processes processes) pid ≡ Some p →
-      length p.handles < 2 ^ 28
-
--- it was given the next one, to the section with this number
-pub record GivesHandle (old new : List (Option Process)) (pid number result : ℕ) : Type 0 where
-  pub handle : (p : ProcessOf (Unit {0})) → numbered (shown_processes old) pid ≡ Some p →
-      result ≡ next_handle p
-  pub given : (p : ProcessOf (Unit {0})) → numbered (shown_processes old) pid ≡ Some p →
-      shown_processes new ≡ slice_set (shown_processes old) pid (Some (record p {
-        handles = p.handles ++ Some number ∷ [];
-      }))
+-- a handle can be given without memory, and there is a number for it
+pub record CanGive (handles : HandlesOf) : Type 0 where
+  pub room : 1 ≤ handles.spare
+  pub few : length handles.entries < 2 ^ 28
 
 -- a directory of the same sections and files
 pub record IsListedAs (old new : DirectoryOf) : Type 0 where

@@ -1,11 +1,10 @@
 -- A store in which the places of a new view are bound, and one in which pages of a section come to
 -- be.
-use Rattle.std.specs.Prelude.{◌≡◌, ◌≤◌, ◌<◌, ℕ, ◌+◌, ◌==◌, ◌&&◌, Bool, true, false, nat_le, nat_lt, if◌then◌else◌, is_some, List, length, slice_get, Option, Some, None, unwrap_or}
+use Rattle.std.specs.Prelude.{◌≡◌, ◌≤◌, ◌<◌, ℕ, ◌+◌, ◌==◌, ◌&&◌, Bool, true, false, nat_le, nat_lt, is_some, List, length, slice_get, Option, Some, None, unwrap_or}
 use Rattle.mm_types.specs.{Area, Key, Pid, View, Range}
 use Rattle.mm_types.specs.declared.numbers.Key.TheVariants as key
 use Rattle.mm_types.specs.declared.moves.LineKind.TheVariants as kind
-use Rattle.mm_world.specs.{Page, AreaOf, ProcessOf, RegionOf, SectionOf, numbered, Found, no_area, region_around, is_private, accepts, every_page}
-use Rattle.mm_world.specs.{view_region}
+use Rattle.mm_world.specs.{Page, AreaOf, ProcessOf, RegionOf, SectionOf, numbered, Found, no_area, view_region}
 use Rattle.mm_pages.specs.{StoreOf, changed_in}
 use Rattle.mm_sections.specs.{uncommitted_in}
 use Rattle.mm_tables.specs.declared.tables.Process.{Process}
@@ -72,14 +71,3 @@ abbrev pub Shares : Area → ℕ → ℕ → AreaOf (Unit {0}) → (Key → Opti
     StoreOf → StoreOf → Type 0
 Shares area first count a c d s z =
     Come (is_shared_in area first count) (uncommitted_in a first count) c d s z
-
--- ---- protections
-
--- each page of the range, which lies in one view, accepts the protection
-pub record CanProtect (regions : List (RegionOf (Unit {0}))) (range : Range) (prot : ℕ) :
-    Type 0 where
-  pub inside : is_some (region_around regions range) ≡ true
-  pub view : (r : Found (RegionOf (Unit {0}))) → region_around regions range ≡ Some r →
-      is_private r.thing.kind ≡ false
-  pub accepted : (r : Found (RegionOf (Unit {0}))) → region_around regions range ≡ Some r →
-      every_page (accepts r.thing prot) range ≡ true

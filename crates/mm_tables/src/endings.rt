@@ -3,23 +3,20 @@ ghost use Rattle.std.specs.Prelude.{ℕ, ◌≡◌, ◌≤◌, ◌/◌, true, is
 ghost use Rattle.mm_world.specs.{RegionOf, ProcessOf, numbered, Found, view_at, process_of, set_regions, set_process, handle_section, settle};
 ghost use Rattle.mm_world.specs.{end_stacks, kept_of_others};
 ghost use Rattle.mm_sections.specs.{one_handle_less, one_view_less, held, handle_at};
-ghost use Rattle.mm_spaces.specs.{marked_in, found_info, info_of};
-ghost use Rattle.mm_tables.specs.Shown.{shown_process};
-ghost use Rattle.mm_tables.specs.Promises.{CanLose, GivesUp, LosesReference, IsReadyFor, PassesAs, Shrinks, Nears};
+ghost use Rattle.mm_spaces.specs.{found_info, info_of};
+ghost use Rattle.mm_tables.specs.{LosesReference, IsReadyFor, PassesAs, Shrinks, Nears, FitsTables, Settled, is_uncommitted, AreUnbound, IsRankFor};
+ghost use Rattle.mm_tables.specs.{Fewer, HasNoHandle, IsTidy, NobodyKeeps};
 ghost use Rattle.mm_types.specs.declared.moves.LineKind.TheVariants as line_kind;
 ghost use Rattle.mm_types.specs.declared.views.Kind.TheVariants as kind;
 ghost use Rattle.mm_types.specs.{Place, end_of, end_of_user_pages};
-ghost use Rattle.mm_pages.specs.Housekeeping.{Ends, Goes};
-ghost use Rattle.mm_pages.specs.{leaving, AreAmong, IsReleasing, place_at, Turn, page_rank};
+ghost use Rattle.mm_pages.specs.{Goes, leaving, AreAmong, IsReleasing, place_at, Turn, page_rank};
+ghost use Rattle.mm_pages.specs.Housekeeping.{Ends};
 ghost use Rattle.mm_pages.specs.Leaving.{Leaving};
-ghost use Rattle.mm_tables.specs.Fits.{FitsTables, Settled, is_uncommitted};
-ghost use Rattle.mm_tables.specs.Endings.{AreUnbound, IsRankFor, Fewer, HasNoHandle};
 ghost use Rattle.mm_world.specs.WellFormed.{WellFormed};
-ghost use Rattle.mm_tables.specs.References.{IsTidy, NobodyKeeps};
 
 use crate::Tables;
 use crate::keys::{end_area, release_pages};
-use crate::tables::Process;
+use crate::tables::{Process, handles_of, space_of};
 use mm_pages::Pages;
 use mm_sections::Directory;
 use mm_spaces::{PageRange, RegionInfo};
@@ -30,12 +27,8 @@ fn drop_handle_of(directory: &mut Directory, id: SectionId) -> Option<Area>
     requires lives { IsSomeAnd (numbered directory.old.entries id.0) (λ c. 1 ≤ c.handles) }
     ensures { LosesReference one_handle_less id.0 directory.old directory.new result }
 {
-    let section = directory.section(id);
-    if directory.drop_handle(id) {
-        section.map(|s| s.area)
-    } else {
-        None
-    }
+    let section = directory.section(id)?;
+    directory.drop_handle(id).then_some(section.area)
 }
 
 /// One view less refers to a section. Tells its control area, where it ended.
@@ -43,73 +36,8 @@ fn drop_view_of(directory: &mut Directory, id: SectionId) -> Option<Area>
     requires lives { IsSomeAnd (numbered directory.old.entries id.0) (λ c. 1 ≤ c.views) }
     ensures { LosesReference one_view_less id.0 directory.old directory.new result }
 {
-    let section = directory.section(id);
-    if directory.drop_view(id) {
-        section.map(|s| s.area)
-    } else {
-        None
-    }
-}
-
-/// Closes a handle that a process has. Tells the control area of its section, where that ended.
-fn close_in(process: &mut Option<Process>, directory: &mut Directory, handle: u32) -> Option<Area>
-    requires lives { is_some process.old ≡ true }
-    requires held { (p : ProcessOf (Unit {0})) → option_map shown_process process.old ≡ Some p →
-        is_some (held p.handles handle) ≡ true }
-    requires counted { (p : ProcessOf (Unit {0})) (n : ℕ) →
-        option_map shown_process process.old ≡ Some p → held p.handles handle ≡ Some n →
-        IsSomeAnd (numbered directory.old.entries n) (λ c. 1 ≤ c.handles) }
-    ensures closed { (p : ProcessOf (Unit {0})) → option_map shown_process process.old ≡ Some p →
-        option_map shown_process process.new ≡ Some (record p {
-          handles = slice_set p.handles (handle / 4) None;
-        }) }
-    ensures lost { (p : ProcessOf (Unit {0})) (n : ℕ) →
-        option_map shown_process process.old ≡ Some p → held p.handles handle ≡ Some n →
-        LosesReference one_handle_less n directory.old directory.new result }
-{
-    match process {
-        Some(process) => {
-            let section = process.handles.section(handle);
-            process.handles.close(handle);
-            match section {
-                Some(id) => drop_handle_of(directory, id),
-                None => unreachable!(),
-            }
-        }
-        None => unreachable!(),
-    }
-}
-
-/// Unmaps the view of a process that begins at the address and has these pages. Tells how many of
-/// them had a mark.
-fn unmap_in<G: Pages>(
-    process: &mut Option<Process>,
-    g: &mut G,
-    pid: Pid,
-    addr: u32,
-    range: PageRange,
-) -> u32
-    requires can { CanLose G.Pages process.old pid range g.old }
-    requires there { (p : ProcessOf (Unit {0})) → option_map shown_process process.old ≡ Some p →
-        is_some (view_at p.regions addr) ≡ true }
-    ensures removed { (p : ProcessOf (Unit {0})) (r : Found (RegionOf (Unit {0}))) →
-        option_map shown_process process.old ≡ Some p → view_at p.regions addr ≡ Some r →
-        option_map shown_process process.new ≡ Some (record p {
-          regions = remove p.regions r.place;
-        }) }
-    ensures marked { (p : ProcessOf (Unit {0})) → option_map shown_process process.old ≡ Some p →
-        result ≡ marked_in p.regions range }
-    ensures gives_up { GivesUp G.Pages true pid range g.old g.new }
-{
-    match process {
-        Some(process) => {
-            let marked = process.space.marked(range);
-            release_pages(g, &process.space, pid, range, true);
-            process.space.remove(addr);
-            marked
-        }
-        None => unreachable!(),
-    }
+    let section = directory.section(id)?;
+    directory.drop_view(id).then_some(section.area)
 }
 
 /// The place of a process is empty from now on.
@@ -137,8 +65,12 @@ impl Tables {
             → from ≤ handle / 4 + 1 → handle / 4 + 1 < to →
             PassesAs G.Pages (Ends held from to) g.old g.new }
     {
-        let process = &mut self.processes[pid.0 as usize - 1];
-        let ended = close_in(process, &mut self.directory, handle);
+        let handles = handles_of(&mut self.processes[pid.0 as usize - 1]);
+        let Some(id) = handles.section(handle) else {
+            unreachable!()
+        };
+        handles.close(handle);
+        let ended = drop_handle_of(&mut self.directory, id);
         if let Some(area) = ended {
             let pages = &mut self.areas[area.0 as usize];
             end_area(g, pages, &mut self.commit, area);
@@ -161,8 +93,10 @@ impl Tables {
         ensures passes { (held : Leaving) (from to : ℕ) → IsRankFor held.rank pid.0 self.old
             → AreAmong held from to pid range → PassesAs G.Pages (Ends held from to) g.old g.new }
     {
-        let process = &mut self.processes[pid.0 as usize - 1];
-        let marked = unmap_in(process, g, pid, addr, range);
+        let space = space_of(&mut self.processes[pid.0 as usize - 1]);
+        let marked = space.marked(range);
+        release_pages(g, space, pid, range, true);
+        space.remove(addr);
         self.commit.refund(marked);
         let ended = drop_view_of(&mut self.directory, view.section);
         if let Some(area) = ended {

@@ -2,10 +2,7 @@ ghost use Rattle.std.specs.Prelude.{◌≡◌, ℕ, true, is_some, map, replicat
 ghost use Rattle.mm_types.specs.{Key};
 ghost use Rattle.mm_world.specs.{Page, KeptOf, process_of, kept_of_others, threads, kept_by, keep};
 ghost use Rattle.mm_pages.specs.{StoreOf};
-ghost use Rattle.mm_tables.specs.Fits.{FitsTables};
-ghost use Rattle.mm_tables.specs.References.{NobodyKeeps};
-ghost use Rattle.mm_tables.specs.Threads.{FitsPage};
-ghost use Rattle.mm_tables.specs.Shown.{kept_of, shown_accesses, unless_of};
+ghost use Rattle.mm_tables.specs.{FitsTables, NobodyKeeps, FitsPage, kept_of, shown_accesses, unless_of};
 
 use crate::Tables;
 use crate::waiting::Kept;

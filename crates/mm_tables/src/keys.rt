@@ -1,14 +1,13 @@
 ghost use Rattle.std.specs.Prelude.{◌≡◌, ◌≤◌, ◌<◌, ◌+◌, ℕ, is_some, if◌then◌else◌, true, ◌&&◌, ◌-◌, None, length, count_by};
 ghost use Rattle.mm_types.specs.{end_of, end_of_user_pages};
-ghost use Rattle.mm_tables.specs.Ranges.{low_half, high_half, CanAdd, one_page_range};
+ghost use Rattle.mm_tables.specs.{low_half, high_half, CanAdd, one_page_range, KnownAt, KnownIn, is_owned_at, CanGo, CanGoAll, Gone, is_owned_among};
+ghost use Rattle.mm_tables.specs.{owned_among, shared_at, is_committed_in, CanGiveUp, GivenUp, CanRelease, CanEnd, Emptied, ended_area, EndsArea};
+ghost use Rattle.mm_tables.specs.{AddsOwn, GivesUp, GivesUpOwn, PassesAs};
 ghost use Rattle.mm_pages.specs.{IsAmong, place_at, page_rank};
 ghost use Rattle.mm_world.specs.{own_page, area_charge, same_key, no_area, region_around};
-ghost use Rattle.mm_tables.specs.Known.{KnownAt, KnownIn};
 ghost use Rattle.mm_pages.specs.Housekeeping.{Ends};
 ghost use Rattle.mm_pages.specs.Leaving.{Leaving};
 ghost use Rattle.mm_spaces.specs.{owned_in};
-ghost use Rattle.mm_tables.specs.Endings.{is_owned_at, CanGo, CanGoAll, Gone, is_owned_among, owned_among, shared_at, is_committed_in, CanGiveUp, GivenUp, CanRelease, CanEnd, Emptied, ended_area, EndsArea};
-ghost use Rattle.mm_tables.specs.Promises.{AddsOwn, GivesUp, GivesUpOwn, PassesAs};
 
 use mm_commit::Commit;
 use mm_pages::Pages;

@@ -1,20 +1,15 @@
-ghost use Rattle.std.specs.Prelude.{◌≡◌, ◌≤◌, ◌+◌, ◌-◌, ◌==◌, ℕ, true, false, is_some, Some, IsOk, OnOk, OnErr, slice_set, remove, ◌^◌, option_map};
+ghost use Rattle.std.specs.Prelude.{◌≡◌, ◌≤◌, ◌+◌, ◌-◌, ◌==◌, ℕ, true, false, is_some, Some, IsOk, OnOk, OnErr, remove, ◌^◌, option_map};
 ghost use Rattle.mm_types.specs.{end_of, end_of_user_pages, are_user_pages, holds_page, reserve_type};
 ghost use Rattle.mm_world.specs.{RegionOf, Found, region_around, add_region, is_private, private_region, blank, private_at, is_protection_among};
 ghost use Rattle.mm_world.specs.{private_protections, commit, reserved_row, change_rows, ProcessOf, pages_of, process_of, set_region, set_regions};
 ghost use Rattle.mm_world.specs.{end_stacks, charge, limit, is_stack_at};
 ghost use Rattle.mm_pages.specs.{MakesFrom, changed};
-ghost use Rattle.mm_spaces.specs.{owned_in};
-ghost use Rattle.mm_tables.specs.Effects.{Makes, Leaves, RangeStored, CanMake, keys_of};
-ghost use Rattle.mm_tables.specs.Fits.{new_pages};
-ghost use Rattle.mm_tables.specs.Promises.{LiesInPrivate, BeginsAt, IsNewRange, CanAddUpTo, CanRemoveIn, CanBind, PassesAs, IdlesOver, GivesUp, MakesWithin, AddsKeys, BindsPlaces, KeepsRegions, CommitsPages, IsReadyFor, SettlesTables, Frees};
-ghost use Rattle.mm_tables.specs.Ranges.{CanAdd, StandsFrom, passing, is_page_dead, is_page_live};
-ghost use Rattle.mm_tables.specs.Spaces.{process_regions, RegionsBecame};
-ghost use Rattle.mm_tables.specs.ViewChanges.{MoreRoom};
+ghost use Rattle.mm_tables.specs.{Makes, Leaves, RangeStored, Roomier, CanMake, keys_of, new_pages, IsNewRange, CanBind, PassesAs, IdlesOver};
+ghost use Rattle.mm_tables.specs.{MakesWithin, AddsKeys, BindsPlaces, CommitsPages, IsReadyFor, SettlesTables, Frees, CanAdd, StandsFrom};
+ghost use Rattle.mm_tables.specs.{is_page_live, MoreRoom, Less};
 ghost use Rattle.mm_types.specs.declared.moves.LineKind.TheVariants as line_kind;
-ghost use Rattle.mm_tables.specs.Endings.{Less};
 
-use crate::tables::Process;
+use crate::tables::space_of;
 use crate::{Tables, keys};
 use mm_commit::Commit;
 use mm_pages::Pages;
@@ -41,91 +36,6 @@ pub(crate) fn take(commit: &mut Commit, n: u32)
         Ok(()) => {}
         Err(_) => unreachable!(),
     }
-}
-
-/// Commits pages of one private region of a living process, and adds their keys. `total` is what
-/// all keys then come to at most. After `NoMemory` there may be more room.
-#[tactic(auto, using(mm_pages::proofs::Passed::turns_same, mm_pages::proofs::Passed::idle_before))]
-fn commit_pages<G: Pages>(
-    process: &mut Option<Process>,
-    g: &mut G,
-    pid: Pid,
-    range: PageRange,
-    prot: u32,
-    total: u32,
-) -> Result<(), NoMemory>
-    requires lies { LiesInPrivate process.old range }
-    requires prot { is_protection_among private_protections prot ≡ true }
-    requires can { CanAddUpTo G.Pages pid range total (process_regions process.old) g.old }
-    ensures changed { OnOk result ((r : Found (RegionOf (Unit {0}))) →
-        region_around (process_regions process.old) range ≡ Some r →
-        RegionsBecame process.old process.new
-        (slice_set (process_regions process.old) r.place
-        (change_rows (commit tt prot) range r.thing))) }
-    ensures adds { OnOk result (AddsKeys G.Pages pid range Makes Leaves false
-        (passing (is_page_dead pid (G.contents g.old)) range.first range.count) total g.old g.new) }
-    ensures enough { total ≤ (G.store g.old).room → IsOk result }
-    ensures keeps { OnErr result (KeepsRegions G.Pages process.old process.new g.old g.new) }
-    ensures makes { MakesWithin G.Pages (λ from to. StandsFrom from to range) result g.old g.new }
-{
-    let Some(process) = process else {
-        unreachable!()
-    };
-    g.reserve(total)?;
-    keys::add_pages(g, &process.space, pid, range, None);
-    process.space.commit(range, prot);
-    Ok(())
-}
-
-/// Decommits pages of one private region of a living process, and removes their keys. Tells how
-/// many were committed.
-fn decommit_pages<G: Pages>(
-    process: &mut Option<Process>,
-    g: &mut G,
-    pid: Pid,
-    range: PageRange,
-) -> u32
-    requires lies { LiesInPrivate process.old range }
-    requires can { CanRemoveIn G.Pages false pid range (process_regions process.old) g.old }
-    ensures owned { result ≡ owned_in (process_regions process.old) range }
-    ensures changed { (r : Found (RegionOf (Unit {0}))) →
-        region_around (process_regions process.old) range ≡ Some r →
-        RegionsBecame process.old process.new
-        (slice_set (process_regions process.old) r.place
-        (change_rows (λ row. reserved_row) range r.thing)) }
-    ensures gives_up { GivesUp G.Pages false pid range g.old g.new }
-{
-    let Some(process) = process else {
-        unreachable!()
-    };
-    let owned = keys::release_pages(g, &process.space, pid, range, false);
-    process.space.decommit(range);
-    owned
-}
-
-/// Releases the private region of a living process that begins at the address and has these pages:
-/// their keys and their places go, page by page. Tells how many were committed.
-fn release_pages<G: Pages>(
-    process: &mut Option<Process>,
-    g: &mut G,
-    pid: Pid,
-    addr: u32,
-    range: PageRange,
-) -> u32
-    requires begins { BeginsAt process.old addr range }
-    requires can { CanRemoveIn G.Pages true pid range (process_regions process.old) g.old }
-    ensures owned { result ≡ owned_in (process_regions process.old) range }
-    ensures changed { (r : Found (RegionOf (Unit {0}))) →
-        private_at (process_regions process.old) addr ≡ Some r →
-        RegionsBecame process.old process.new (remove (process_regions process.old) r.place) }
-    ensures gives_up { GivesUp G.Pages true pid range g.old g.new }
-{
-    let Some(process) = process else {
-        unreachable!()
-    };
-    let owned = keys::release_pages(g, &process.space, pid, range, true);
-    process.space.remove(addr);
-    owned
 }
 
 /// What a new region takes of an address space and of the store: room for it and for all keys, and
@@ -173,13 +83,12 @@ fn fill_region<G: Pages>(space: &AddressSpace, g: &mut G, pid: Pid, range: PageR
     }
 }
 
-/// Makes a private region of free pages in a living process, and adds its keys where it is
-/// committed. `total` is what all keys then come to at most. After `NoMemory` there may be more
-/// room.
+/// Makes a private region of free pages, and adds its keys where it is committed. `total` is what
+/// all keys then come to at most. After `NoMemory` there may be more room.
 #[tactic(auto, using(mm_pages::proofs::Passed::turns_same, mm_pages::proofs::Passed::idle_before))]
 fn make_region<G: Pages>(
     alloc: Global,
-    process: &mut Option<Process>,
+    space: &mut AddressSpace,
     g: &mut G,
     pid: Pid,
     range: PageRange,
@@ -188,27 +97,25 @@ fn make_region<G: Pages>(
     prot: u32,
     total: u32,
 ) -> Result<(), NoMemory>
-    requires lives { is_some process.old ≡ true }
-    requires new { IsNewRange (process_regions process.old) range }
+    requires new { IsNewRange space.old.regions range }
     requires prot { is_protection_among private_protections prot ≡ true }
-    requires can { CanMake pid range kind total (process_regions process.old) (G.contents g.old)
+    requires can { CanMake pid range kind total space.old.regions (G.contents g.old)
         (G.store g.old) }
-    ensures changed { OnOk result (RegionsBecame process.old process.new
-        (add_region (private_region blank watched kind prot range) (process_regions process.old))) }
+    ensures changed { OnOk result (space.new.regions ≡
+        add_region (private_region blank watched kind prot range) space.old.regions) }
     ensures adds { OnOk result (AddsKeys G.Pages pid range (keys_of kind) Makes true
         (new_pages kind range) total g.old g.new) }
     ensures makes { MakesWithin G.Pages (λ from to.
         (kind == reserve_type) ≡ false → StandsFrom from to range) result g.old g.new }
-    ensures keeps { OnErr result (KeepsRegions G.Pages process.old process.new g.old g.new) }
+    ensures kept { OnErr result (space.new.regions ≡ space.old.regions) }
+    ensures err { OnErr result (Roomier (G.contents g.old) (G.contents g.new) (G.store g.old)
+        (G.store g.new)) }
 {
-    let Some(process) = process else {
-        unreachable!()
-    };
     let region = NewRegion::private(alloc, watched, kind, prot, range)?;
-    match grow_for_region(&mut process.space, g, pid, range, total) {
+    match grow_for_region(space, g, pid, range, total) {
         Ok(()) => {
-            fill_region(&process.space, g, pid, range, kind);
-            process.space.add(region);
+            fill_region(space, g, pid, range, kind);
+            space.add(region);
             Ok(())
         }
         Err(NoMemory) => Err(NoMemory),
@@ -241,14 +148,10 @@ impl Tables {
         ensures among { StandsFrom 0 (2 ^ 32) range }
     {
         let total = self.commit.now() + n;
-        commit_pages(
-            &mut self.processes[pid.0 as usize - 1],
-            g,
-            pid,
-            range,
-            prot,
-            total,
-        )?;
+        g.reserve(total)?;
+        let space = space_of(&mut self.processes[pid.0 as usize - 1]);
+        keys::add_pages(g, space, pid, range, None);
+        space.commit(range, prot);
         take(&mut self.commit, n);
         Ok(())
     }
@@ -280,8 +183,8 @@ impl Tables {
     {
         let pages = new_pages(kind, range);
         let total = self.commit.now() + pages;
-        let process = &mut self.processes[pid.0 as usize - 1];
-        make_region(alloc, process, g, pid, range, watched, kind, prot, total)?;
+        let space = space_of(&mut self.processes[pid.0 as usize - 1]);
+        make_region(alloc, space, g, pid, range, watched, kind, prot, total)?;
         take(&mut self.commit, pages);
         Ok(())
     }
@@ -300,12 +203,14 @@ impl Tables {
             (change_rows (λ row. reserved_row) range r.thing) }
         ensures frees { Frees G.Pages pid range self.old self.new g.old g.new }
     {
-        let owned = decommit_pages(&mut self.processes[pid.0 as usize - 1], g, pid, range);
+        let space = space_of(&mut self.processes[pid.0 as usize - 1]);
+        let owned = keys::release_pages(g, space, pid, range, false);
+        space.decommit(range);
         self.commit.refund(owned);
     }
 
-    /// `release`, before the stack is looked at that may have had the region. Keys that live on keep
-    /// their bytes.
+    /// `release`, before the stack is looked at that may have had the region. Keys that live on
+    /// keep their bytes.
     pub(crate) fn release_region<G: Pages>(
         &mut self,
         g: &mut G,
@@ -322,7 +227,9 @@ impl Tables {
         ensures less { Less (G.contents g.old) (G.contents g.new) }
         ensures frees { Frees G.Pages pid range self.old self.new g.old g.new }
     {
-        let freed = release_pages(&mut self.processes[pid.0 as usize - 1], g, pid, addr, range);
+        let space = space_of(&mut self.processes[pid.0 as usize - 1]);
+        let freed = keys::release_pages(g, space, pid, range, true);
+        space.remove(addr);
         self.commit.refund(freed);
     }
 

@@ -1,65 +1,21 @@
-ghost use Rattle.std.specs.Prelude.{◌==◌, ◌≡◌, ◌≤◌, ◌+◌, ◌-◌, ◌++◌, [], ◌∷◌, true, false, is_some, Some, IsOk, OnOk, OnErr, slice_set, vec_len, vec_capacity, ◌<◌, length, Option, IsSomeAnd};
+ghost use Rattle.std.specs.Prelude.{◌==◌, ◌≡◌, ◌≤◌, ◌+◌, ◌-◌, ◌++◌, [], ◌∷◌, true, false, is_some, Some, IsOk, OnOk, OnErr, vec_len, vec_capacity, ◌<◌, length, Option, IsSomeAnd};
 ghost use Rattle.mm_types.specs.{limit_of, Key};
-ghost use Rattle.mm_world.specs.{RowOf, RegionOf, Found, region_with, region_around, is_private, row_at, is_protection_among, all_protections};
-ghost use Rattle.mm_world.specs.{every_page, accepts, protected, change_rows, no_regions, with_slots, most_slots, Page, ProcessOf, process_of};
-ghost use Rattle.mm_world.specs.{set_region, charge, limit, Committed, committed_at, guard_off, set_row, private_key, same_key, most_processes};
-ghost use Rattle.mm_world.specs.{most_fails};
+ghost use Rattle.mm_world.specs.{RegionOf, Found, region_around, protected, change_rows, no_regions, with_slots, most_slots, Page, ProcessOf};
+ghost use Rattle.mm_world.specs.{process_of, set_region, charge, limit, Committed, committed_at, guard_off, set_row, private_key, same_key};
+ghost use Rattle.mm_world.specs.{most_processes, most_fails};
 ghost use Rattle.mm_pages.specs.{changed, place_at, StoreOf};
-ghost use Rattle.mm_spaces.specs.{owned_in};
-ghost use Rattle.mm_tables.specs.Effects.{Roomier};
-ghost use Rattle.mm_tables.specs.Fits.{FitsTables, extended, copied, CanCopy, NamesAtMostOne};
-ghost use Rattle.mm_tables.specs.Promises.{StaysIdle, IdlesOver, CanProtectAll, IsReadyFor, StartsProcess, SettlesTables};
-ghost use Rattle.mm_tables.specs.Shown.{shown_processes};
-ghost use Rattle.mm_tables.specs.Spaces.{process_regions, RegionsBecame};
+ghost use Rattle.mm_tables.specs.{Roomier, FitsTables, extended, copied, CanCopy, NamesAtMostOne, StaysIdle, IdlesOver, CanProtectAll, IsReadyFor};
+ghost use Rattle.mm_tables.specs.{StartsProcess, SettlesTables, shown_processes};
 ghost use Rattle.mm_types.specs.declared.moves.LineKind.TheVariants as line_kind;
 
 use crate::Tables;
 use crate::private_pages::take;
-use crate::tables::Process;
+use crate::tables::{Process, space_of};
 use mm_pages::Pages;
 use mm_sections::Handles;
 use mm_spaces::{AddressSpace, PageRange};
 use mm_types::{Machine, NoMemory, Pid};
 use std::alloc::Global;
-
-/// Takes the guard off a page that lies in a region of a living process.
-fn take_guard_off(process: &mut Option<Process>, page: u32)
-    requires lives { is_some process.old ≡ true }
-    requires there { is_some (region_with (process_regions process.old) page) ≡ true }
-    ensures changed { (r : Found (RegionOf (Unit {0}))) (row : RowOf (Unit {0})) →
-        region_with (process_regions process.old) page ≡ Some r → row_at r.thing page ≡ Some row
-        → RegionsBecame process.old process.new
-        (slice_set (process_regions process.old) r.place (record r.thing {
-          rows = slice_set r.thing.rows (page - r.thing.base) (record row { guard = false });
-        })) }
-{
-    match process {
-        Some(process) => process.space.take_guard_off(page),
-        None => unreachable!(),
-    }
-}
-
-/// Gives a page of a view, which has a mark and was not copied, bytes of its own and the protection
-/// READWRITE.
-fn copy_page(process: &mut Option<Process>, page: u32)
-    requires lives { is_some process.old ≡ true }
-    requires there { is_some (region_with (process_regions process.old) page) ≡ true }
-    requires marked { (r : Found (RegionOf (Unit {0}))) (row : RowOf (Unit {0})) →
-        region_with (process_regions process.old) page ≡ Some r → row_at r.thing page ≡ Some row
-        → (is_private r.thing.kind ≡ false) × (row.marked ≡ true) }
-    ensures changed { (r : Found (RegionOf (Unit {0}))) (row : RowOf (Unit {0})) →
-        region_with (process_regions process.old) page ≡ Some r → row_at r.thing page ≡ Some row
-        → RegionsBecame process.old process.new
-        (slice_set (process_regions process.old) r.place (record r.thing {
-          rows = slice_set r.thing.rows (page - r.thing.base)
-              (record row { own = Some tt; prot = 0x04 });
-        })) }
-{
-    match process {
-        Some(process) => process.space.copy_page(page),
-        None => unreachable!(),
-    }
-}
 
 /// Sees that there is room for `total` keys, as there was where `n` is 0. After `NoMemory`, which
 /// comes only where it is not, there may be more room.
@@ -76,30 +32,6 @@ fn grow_for_marks<G: Pages>(g: &mut G, n: u32, total: u32) -> Result<(), NoMemor
         g.reserve(total)?;
     }
     Ok(())
-}
-
-/// Gives pages of one region of a living process another protection, which they accept.
-fn protect_pages(process: &mut Option<Process>, range: PageRange, prot: u32)
-    requires lives { is_some process.old ≡ true }
-    requires inside { is_some (region_around (process_regions process.old) range) ≡ true }
-    requires prot { is_protection_among all_protections prot ≡ true }
-    requires accepted { (r : Found (RegionOf (Unit {0}))) →
-        region_around (process_regions process.old) range ≡ Some r →
-        every_page (accepts r.thing prot) range ≡ true }
-    requires committed { (r : Found (RegionOf (Unit {0}))) →
-        region_around (process_regions process.old) range ≡ Some r →
-        is_private r.thing.kind ≡ true →
-        owned_in (process_regions process.old) range ≡ range.count }
-    ensures changed { (r : Found (RegionOf (Unit {0}))) →
-        region_around (process_regions process.old) range ≡ Some r →
-        RegionsBecame process.old process.new
-        (slice_set (process_regions process.old) r.place
-        (change_rows (protected r.thing.kind prot) range r.thing)) }
-{
-    match process {
-        Some(process) => process.space.protect(range, prot),
-        None => unreachable!(),
-    }
 }
 
 /// Puts a process without regions and handles at the end, for which there is room.
@@ -224,7 +156,7 @@ impl Tables {
             FitsTables self.old contents s →
             FitsTables self.new contents s }
     {
-        take_guard_off(&mut self.processes[pid.0 as usize - 1], page);
+        space_of(&mut self.processes[pid.0 as usize - 1]).take_guard_off(page);
     }
 
     /// A committed page of a view with a mark, which was not copied, has bytes of its own from now
@@ -244,7 +176,7 @@ impl Tables {
             FitsTables self.new (changed same_key contents (private_key pid.0 page) (Some bytes))
             (copied (place_at pid page) s) }
     {
-        copy_page(&mut self.processes[pid.0 as usize - 1], page);
+        space_of(&mut self.processes[pid.0 as usize - 1]).copy_page(page);
     }
 
     /// Gives a range of committed pages of one region of a process another protection, which they
@@ -271,7 +203,7 @@ impl Tables {
     {
         let total = self.commit.now() + n;
         grow_for_marks(g, n, total)?;
-        protect_pages(&mut self.processes[pid.0 as usize - 1], range, prot);
+        space_of(&mut self.processes[pid.0 as usize - 1]).protect(range, prot);
         take(&mut self.commit, n);
         Ok(())
     }

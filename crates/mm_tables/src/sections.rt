@@ -1,117 +1,81 @@
-ghost use Rattle.std.specs.Prelude.{◌≡◌, ◌≤◌, ◌<◌, ◌+◌, ◌^◌, ◌++◌, [], ◌∷◌, true, false, is_some, length, replicate, if◌then◌else◌, Option, Some, None, IfOk, OnOk, OnErr, IfSome, position, vec_len, vec_capacity, find, bytes_eq};
+ghost use Rattle.std.specs.Prelude.{◌≡◌, ◌≤◌, ◌<◌, ◌+◌, ◌*◌, ◌^◌, ◌++◌, [], ◌∷◌, true, false, is_some, length, replicate, if◌then◌else◌, Option, Some, None, IfOk, OnOk, OnErr, IfSome, position, vec_len, vec_capacity, find, bytes_eq};
 ghost use Rattle.mm_types.specs.declared.answers.Answer.TheVariants as answer;
 ghost use Rattle.mm_types.specs.{Key, limit_of};
-ghost use Rattle.mm_world.specs.{Page, ProcessOf, numbered, process_of, section_of, section_named, area_at, is_named, charge, limit, next_handle};
-ghost use Rattle.mm_world.specs.{with_handle, new_section};
+ghost use Rattle.mm_world.specs.{Page, ProcessOf, process_of, section_of, section_named, area_at, is_named, charge, limit, next_handle, with_handle};
+ghost use Rattle.mm_world.specs.{new_section};
 ghost use Rattle.mm_pages.specs.{Makes, StoreOf};
 ghost use Rattle.mm_sections.specs.{sections_of, new_entry, one_handle_more, page_if};
-ghost use Rattle.mm_tables.specs.Ranges.{Come};
-ghost use Rattle.mm_tables.specs.References.{IsFew};
-ghost use Rattle.mm_tables.specs.Shown.{shown_processes};
-ghost use Rattle.mm_tables.specs.Promises.{IsReadyFor, PassesAs, MakesPages, SettlesTables};
-ghost use Rattle.mm_tables.specs.SectionSteps.{has_room, CanFill, Opens, IsListedAs, CanHold, GivesHandle, IsNewArea, is_page_of};
-ghost use Rattle.mm_tables.specs.Effects.{Roomier};
-ghost use Rattle.mm_tables.specs.Fits.{FitsTables, Settled};
+ghost use Rattle.mm_tables.specs.{Come, IsFew, IsReadyFor, PassesAs, MakesPages, SettlesTables, CanFill, Opens, IsListedAs, IsNewArea, is_page_of};
+ghost use Rattle.mm_tables.specs.{Roomier, FitsTables, Settled, IsNewFile, MakesFile, StoresFile, BlamesDevice, NotesFile, CanGive};
 ghost use Rattle.mm_types.specs.declared.moves.LineKind.TheVariants as line_kind;
-ghost use Rattle.mm_tables.specs.FilePromises.{IsNewFile, MakesFile, StoresFile, BlamesDevice, NotesFile};
 
 use crate::Tables;
 use crate::private_pages::take;
-use crate::tables::Process;
+use crate::tables::handles_of;
 use mm_pages::Pages;
-use mm_sections::{Directory, SectionPages};
+use mm_sections::{Directory, Handles, SectionPages};
 use mm_types::{Area, Block, Key, MakeFault, Name, NoMemory, Pid, Prot, SectionId};
 use std::alloc::Global;
 
-/// Sees that there is room for one handle more of a living process.
-fn grow_handles(processes: &mut Vec<Option<Process>>, pid: Pid) -> Result<(), NoMemory>
-    requires lives { is_some (numbered (shown_processes processes.old.items) pid.0) ≡ true }
-    ensures same { shown_processes processes.new.items ≡ shown_processes processes.old.items }
-    ensures ok { OnOk result (has_room processes.new.items pid.0 ≡ true) }
-{
-    match &mut processes[pid.0 as usize - 1] {
-        Some(process) => process.handles.reserve(),
-        None => unreachable!(),
-    }
-}
-
-/// The next handle of a living process, to this section. There is room for it.
-fn give_handle(processes: &mut Vec<Option<Process>>, pid: Pid, id: SectionId) -> u32
-    requires holds { CanHold processes.old.items pid.0 }
-    ensures { GivesHandle processes.old.items processes.new.items pid.0 id.0 result }
-{
-    match &mut processes[pid.0 as usize - 1] {
-        Some(process) => process.handles.add(id),
-        None => unreachable!(),
-    }
-}
-
 /// Sees that there is room for one section more and a handle to it. After `NoMemory` all is as
 /// before but for room.
-fn grow_for_section(
-    directory: &mut Directory,
-    processes: &mut Vec<Option<Process>>,
-    pid: Pid,
-) -> Result<(), NoMemory>
-    requires lives { is_some (numbered (shown_processes processes.old.items) pid.0) ≡ true }
-    ensures processes { shown_processes processes.new.items ≡ shown_processes processes.old.items }
+fn grow_for_section(directory: &mut Directory, handles: &mut Handles) -> Result<(), NoMemory>
+    ensures same { handles.new.entries ≡ handles.old.entries }
     ensures listed { IsListedAs directory.old directory.new }
     ensures spare { OnOk result (1 ≤ directory.new.spare) }
-    ensures room { OnOk result (has_room processes.new.items pid.0 ≡ true) }
+    ensures room { OnOk result (1 ≤ handles.new.spare) }
 {
     directory.reserve()?;
-    grow_handles(processes, pid)
+    handles.reserve()
 }
 
 /// Makes a section to which one handle of the process refers, which is answered. There is room for
 /// both.
 fn list_section(
     directory: &mut Directory,
-    processes: &mut Vec<Option<Process>>,
-    pid: Pid,
+    handles: &mut Handles,
     area: Area,
     prot: Prot,
     name: Option<Name>,
 ) -> u32
-    requires holds { CanHold processes.old.items pid.0 }
+    requires can { CanGive handles.old }
     requires spare { 1 ≤ directory.old.spare }
     requires few { length directory.old.entries < 2 ^ 28 }
     requires unnamed { IfSome name (λ n. position (is_named n) (sections_of directory.old.entries) ≡
         None) }
-    ensures gives { GivesHandle processes.old.items processes.new.items pid.0
-        (length directory.old.entries) result }
+    ensures handle { result ≡ 4 * length handles.old.entries }
+    ensures given { handles.new.entries ≡
+        handles.old.entries ++ Some (length directory.old.entries) ∷ [] }
     ensures entries { directory.new.entries ≡ directory.old.entries ++
         Some (one_handle_more (new_entry prot.0 name area.0)) ∷ [] }
     ensures files { directory.new.files ≡ directory.old.files }
 {
     let id = directory.add_section(prot, name, area);
     directory.add_handle(id);
-    give_handle(processes, pid, id)
+    handles.add(id)
 }
 
 /// What a page-file section takes beside keys: room for it and a handle, and its control area.
 fn grow_for_paging(
     alloc: Global,
     directory: &mut Directory,
-    processes: &mut Vec<Option<Process>>,
+    handles: &mut Handles,
     areas: &mut Vec<SectionPages>,
-    pid: Pid,
     pages: u32,
     committed: bool,
 ) -> Result<SectionPages, NoMemory>
-    requires lives { is_some (numbered (shown_processes processes.old.items) pid.0) ≡ true }
     ensures made { IfOk result (λ a. a ≡ record {
       file_block = None;
       pages = replicate pages (page_if committed);
     }) }
-    ensures processes { shown_processes processes.new.items ≡ shown_processes processes.old.items }
+    ensures same { handles.new.entries ≡ handles.old.entries }
     ensures listed { IsListedAs directory.old directory.new }
     ensures areas { areas.new.items ≡ areas.old.items }
     ensures spare { OnOk result (1 ≤ directory.new.spare) }
-    ensures room { OnOk result (has_room processes.new.items pid.0 ≡ true) }
+    ensures room { OnOk result (1 ≤ handles.new.spare) }
     ensures space { OnOk result (vec_len areas.new + 1 ≤ vec_capacity areas.new) }
 {
-    grow_for_section(directory, processes, pid)?;
+    grow_for_section(directory, handles)?;
     areas.reserve(1)?;
     SectionPages::of_paging_file(alloc, pages, committed)
 }
@@ -241,24 +205,17 @@ impl Tables {
         let area = Area(self.areas.len() as u32);
         let n = pages_if(pages, committed);
         let total = self.commit.now() + n;
+        let handles = handles_of(&mut self.processes[pid.0 as usize - 1]);
         let made = grow_for_paging(
             alloc,
             &mut self.directory,
-            &mut self.processes,
+            handles,
             &mut self.areas,
-            pid,
             pages,
             committed,
         )?;
         open_paging_area(g, area, pages, n, total)?;
-        let handle = list_section(
-            &mut self.directory,
-            &mut self.processes,
-            pid,
-            area,
-            prot,
-            name,
-        );
+        let handle = list_section(&mut self.directory, handles, area, prot, name);
         self.areas.push_reserved(made);
         take(&mut self.commit, n);
         Ok(handle)
@@ -288,15 +245,9 @@ impl Tables {
         ensures settled { (c : Key → Option Page) (s : StoreOf) → FitsTables self.old c s →
             Settled self.new c c s s }
     {
-        grow_for_section(&mut self.directory, &mut self.processes, pid)?;
-        Ok(list_section(
-            &mut self.directory,
-            &mut self.processes,
-            pid,
-            area,
-            prot,
-            name,
-        ))
+        let handles = handles_of(&mut self.processes[pid.0 as usize - 1]);
+        grow_for_section(&mut self.directory, handles)?;
+        Ok(list_section(&mut self.directory, handles, area, prot, name))
     }
 
     /// A new handle to a section that lives. After `NoMemory` the tables are as before.
@@ -311,9 +262,10 @@ impl Tables {
         ensures settled { (c : Key → Option Page) (s : StoreOf) → FitsTables self.old c s →
             Settled self.new c c s s }
     {
-        grow_handles(&mut self.processes, pid)?;
+        let handles = handles_of(&mut self.processes[pid.0 as usize - 1]);
+        handles.reserve()?;
         self.directory.add_handle(id);
-        Ok(give_handle(&mut self.processes, pid, id))
+        Ok(handles.add(id))
     }
 
     /// Makes a file of `pages` pages in the lowest blocks that no file uses; no file has the name.

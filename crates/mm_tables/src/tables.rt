@@ -1,7 +1,9 @@
-ghost use Rattle.std.specs.Prelude.{◌≡◌, ◌≤◌, ◌+◌, nat_le};
+ghost use Rattle.std.specs.Borrow.{sem};
+ghost use Rattle.std.specs.Prelude.{◌≡◌, ◌≤◌, ◌+◌, nat_le, true, is_some};
 ghost use Rattle.mm_world.specs.{charge, limit, first_world};
 ghost use Rattle.mm_world.specs.WellFormed.{WellFormed};
 ghost use Rattle.mm_tables.specs.References.{IsTidy};
+ghost use Rattle.mm_tables.specs.Spaces.{LendsSpace, LendsHandles, process_regions, process_handles};
 
 use crate::kept_accesses::no_accesses;
 use crate::thread_stacks::Stacks;
@@ -18,6 +20,30 @@ use std::marker::Model;
 pub(crate) struct Process {
     pub(crate) space: AddressSpace,
     pub(crate) handles: Handles,
+}
+
+/// The regions of a living process, to be changed.
+pub(crate) fn space_of(process: &mut Option<Process>) -> &mut AddressSpace
+    requires lives { is_some process.old ≡ true }
+    ensures* writes_back { sem 𝓛 (LendsSpace process.entry result) }
+    ensures value { result.now.regions ≡ process_regions process.old }
+{
+    match process {
+        Some(process) => &mut process.space,
+        None => unreachable!(),
+    }
+}
+
+/// The handles of a living process, to be changed.
+pub(crate) fn handles_of(process: &mut Option<Process>) -> &mut Handles
+    requires lives { is_some process.old ≡ true }
+    ensures* writes_back { sem 𝓛 (LendsHandles process.entry result) }
+    ensures value { result.now.entries ≡ process_handles process.old }
+{
+    match process {
+        Some(process) => &mut process.handles,
+        None => unreachable!(),
+    }
 }
 
 /// What the calls go by: a machine, its processes with their regions and handles, its sections,

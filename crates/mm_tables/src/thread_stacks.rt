@@ -84,7 +84,8 @@ fn unless_in(pid: Pid, stack: Option<ThreadStack>) -> Option<ThreadStack>
     }
 }
 
-/// The stack, unless it is one of the process: the one at the address, where one is given, else any.
+/// The stack, unless it is one of the process: the one at the address, where one is given, else
+/// any.
 fn unless_ended(pid: Pid, addr: Option<u32>, stack: Option<ThreadStack>) -> Option<ThreadStack>
     ensures { result ≡ unless (is_stack_of pid.0 addr) stack }
 {

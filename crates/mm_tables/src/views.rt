@@ -1,19 +1,17 @@
-ghost use Rattle.std.specs.Option.{ForSome};
 ghost use Rattle.std.specs.Prelude.{◌≡◌, ◌≤◌, ◌<◌, ◌+◌, ◌-◌, ◌^◌, ℕ, true, false, is_some, if◌then◌else◌, Some, None, IsOk, OnOk, OnErr, length, slice_set};
 ghost use Rattle.mm_types.specs.declared.moves.LineKind.TheVariants as line_kind;
 ghost use Rattle.mm_types.specs.{View};
 ghost use Rattle.mm_types.specs.declared.views.Kind.TheVariants as kind;
 ghost use Rattle.mm_world.specs.{RegionOf, ProcessOf, SectionOf, Found, process_of, section_of, region_around, add_region, set_region, set_regions};
-ghost use Rattle.mm_world.specs.{set_area, area_at, is_private, commit_shared, charge, limit, blank, is_protection_among, all_protections, protected};
-ghost use Rattle.mm_world.specs.{change_rows, view_region, is_copy, ViewFits};
+ghost use Rattle.mm_world.specs.{set_area, area_at, is_private, commit_shared, charge, limit, blank, protected, change_rows, view_region, is_copy};
+ghost use Rattle.mm_world.specs.{ViewFits};
 ghost use Rattle.mm_pages.specs.{MakesFrom};
-ghost use Rattle.mm_tables.specs.Promises.{CommitsInView, IsNewPlace, IsReadyFor, CanBind, PassesAs, StaysIdle, IdlesOver, MakesPages, BindsPlaces, SettlesTables, SharesPages};
-ghost use Rattle.mm_tables.specs.Shown.{shown_processes};
-ghost use Rattle.mm_tables.specs.ViewChanges.{region_of_view, living, listed_area, MoreRoom, CanShare, Shares, CanProtect};
+ghost use Rattle.mm_tables.specs.{CommitsInView, IsNewPlace, IsReadyFor, CanBind, PassesAs, StaysIdle, IdlesOver, MakesPages, BindsPlaces};
+ghost use Rattle.mm_tables.specs.{SettlesTables, SharesPages, region_of_view, listed_area, MoreRoom, CanShare, Shares};
 
 use crate::Tables;
 use crate::private_pages::{grow_for_region, take};
-use crate::tables::Process;
+use crate::tables::space_of;
 use mm_pages::Pages;
 use mm_sections::SectionPages;
 use mm_spaces::{AddressSpace, NewRegion, PageRange};
@@ -60,38 +58,6 @@ fn make_view<G: Pages>(
             Ok(())
         }
         Err(NoMemory) => Err(NoMemory),
-    }
-}
-
-/// Makes a view in the address space of a living process.
-#[tactic(auto, using(mm_pages::proofs::Passed::turns_same))]
-fn make_view_in<G: Pages>(
-    alloc: Global,
-    processes: &mut Vec<Option<Process>>,
-    g: &mut G,
-    pid: Pid,
-    range: PageRange,
-    view: View,
-    total: u32,
-) -> Result<(), NoMemory>
-    requires lives { is_some (living processes.old.items pid.0) ≡ true }
-    requires new { ForSome (living processes.old.items pid.0) (λ p. IsNewPlace p.regions range) }
-    requires bind { CanBind G.Pages pid range total g.old }
-    ensures made { OnOk result ((p : ProcessOf (Unit {0})) →
-        living processes.old.items pid.0 ≡ Some p →
-        shown_processes processes.new.items ≡ slice_set (shown_processes processes.old.items) pid.0
-        (Some (record p {
-          regions = add_region (region_of_view view range) p.regions;
-        }))) }
-    ensures binds { OnOk result (BindsPlaces G.Pages pid range total g.old g.new) }
-    ensures idles { IdlesOver G.Pages g.old g.new }
-    ensures kept { OnErr result
-        (shown_processes processes.new.items ≡ shown_processes processes.old.items) }
-    ensures err { OnErr result (MoreRoom (G.store g.old) (G.store g.new)) }
-{
-    match &mut processes[pid.0 as usize - 1] {
-        Some(process) => make_view(alloc, &mut process.space, g, pid, range, view, total),
-        None => unreachable!(),
     }
 }
 
@@ -195,26 +161,6 @@ fn share_pages<G: Pages>(
     share_in(&mut areas[view.area.0 as usize], g, view, offset, count);
 }
 
-/// Gives pages of a view of a living process the protection, which they accept.
-fn protect_view(processes: &mut Vec<Option<Process>>, pid: Pid, range: PageRange, prot: u32)
-    requires lives { is_some (living processes.old.items pid.0) ≡ true }
-    requires inside { (p : ProcessOf (Unit {0})) → living processes.old.items pid.0 ≡ Some p →
-        CanProtect p.regions range prot }
-    requires prot { is_protection_among all_protections prot ≡ true }
-    ensures { (p : ProcessOf (Unit {0})) (r : Found (RegionOf (Unit {0}))) →
-        living processes.old.items pid.0 ≡ Some p → region_around p.regions range ≡ Some r →
-        shown_processes processes.new.items ≡ slice_set (shown_processes processes.old.items) pid.0
-        (Some (record p {
-          regions = slice_set p.regions r.place
-              (change_rows (protected r.thing.kind prot) range r.thing);
-        })) }
-{
-    match &mut processes[pid.0 as usize - 1] {
-        Some(process) => process.space.protect(range, prot),
-        None => unreachable!(),
-    }
-}
-
 impl Tables {
     /// Commits the section pages under a range of one view of a page-file section, and gives the
     /// view's rows the protection, which they accept. `n` of the section pages are not committed,
@@ -248,7 +194,7 @@ impl Tables {
         let total = self.commit.now() + n;
         g.reserve(total)?;
         share_pages(&mut self.areas, g, view, offset, range.count);
-        protect_view(&mut self.processes, pid, range, prot);
+        space_of(&mut self.processes[pid.0 as usize - 1]).protect(range, prot);
         take(&mut self.commit, n);
         Ok(())
     }
@@ -279,7 +225,8 @@ impl Tables {
     {
         let charged = marked_pages(view, range);
         let total = self.commit.now() + charged;
-        make_view_in(alloc, &mut self.processes, g, pid, range, view, total)?;
+        let space = space_of(&mut self.processes[pid.0 as usize - 1]);
+        make_view(alloc, space, g, pid, range, view, total)?;
         self.directory.add_view(view.section);
         take(&mut self.commit, charged);
         Ok(())

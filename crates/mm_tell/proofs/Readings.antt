@@ -6,7 +6,7 @@ use Rattle.mm_types.specs.declared.moves.Move.TheVariants as move
 use Rattle.mm_life.specs.{spelled_moves, AreMoves, FrameLife, unstarted, after_move, Replays}
 use Rattle.mm_life.proofs.{replays_then, replays_one}
 use Rattle.mm_replay.proofs.{one_move}
-use Rattle.mm_log.specs.{IsStuck, StuckBefore, Spells, SpellsBefore, IsFault, Lines}
+use Rattle.mm_log.specs.{IsStuck, StuckBefore, SpellsMove, SpellsBefore, IsFaultStatus, Lines}
 use Rattle.mm_log.proofs.{Ended, in_front, no_more, one_reading, taken_told, end_told}
 use Rattle.mm_log.specs.declared.endings.Ending.TheVariants as ending
 use Rattle.mm_tell.specs.{fits, AreFit, ClosesAt, Said, Why, ends_well, close_words, closing_text, closing_status, HasTold, Answers, Says, IsWhole}
@@ -63,7 +63,7 @@ lines_told left left' held ms total text r told =
     (t.0, (t.1.0, t.1.1 ∙ ap (λ xs. xs ++ t.0) r.whole ∙ append_assoc (spelled_moves ms) held t.0, omega (arith, r.total_is, ap length t.1.1, length-append r.taken t.0)))
 
 -- bytes begin with the line of one move
-same_spelled : (a b : Text) (o p : Option Move) → a ≡ b → Spells o a → Spells p b → o ≡ p
+same_spelled : (a b : Text) (o p : Option Move) → a ≡ b → SpellsMove o a → SpellsMove p b → o ≡ p
 same_spelled a b None None e s t = refl
 same_spelled a b None (Some n) e s t = absurd (s n t.1.0 t.0 (e ∙ t.1.1))
 same_spelled a b (Some m) None e s t = absurd (t m s.1.0 s.0 (sym e ∙ s.1.1))
@@ -116,7 +116,7 @@ module _ (script : Option (List Text)) (left left' : Option Text) (ms : List Mov
       let stuck : IsStuck l (stop.held ++ t.0) = subst (λ (o : Option Text). StuckBefore o l stop.held) t.1.0 stop.ends.1 in
       let same : spelled_moves moves ++ w.rest ≡ spelled_moves ms ++ (stop.held ++ t.0) = sym w.whole ∙ t.1.1 in
       let one = one_reading moves ms w.rest (stop.held ++ t.0) unstarted w.life l w.in_range stop.lines.in_range w.replays replays (inr w.stuck) (inr stuck) same in
-      let spelled : Spells o (stop.held ++ t.0) = subst (λ (x : Option Text). SpellsBefore x o stop.held) t.1.0 stop.ends.3 in
+      let spelled : SpellsMove o (stop.held ++ t.0) = subst (λ (x : Option Text). SpellsBefore x o stop.held) t.1.0 stop.ends.3 in
       let move : o ≡ w.refused = same_spelled (stop.held ++ t.0) w.rest o w.refused (sym one.1) spelled w.spelled in
       let line : n ≡ length moves + 1 = stop.ends.0 ∙ ap (λ (zs : List Move). length zs + 1) (sym one.0) in
       inl (
@@ -169,7 +169,7 @@ module _ (script : Option (List Text)) (left left' : Option Text) (ms : List Mov
 
 -- ---- what is written
 
-fault_of : (c : Closing) (status : ℕ) → status ≡ closing_status c → Broke c → IsFault status
+fault_of : (c : Closing) (status : ℕ) → status ≡ closing_status c → Broke c → IsFaultStatus status
 fault_of c status e (inl one) = inl (e ∙ one)
 fault_of c status e (inr four) = inr (inl (e ∙ four))
 

@@ -5,7 +5,7 @@ use Rattle.mm_types.proofs.{append_nil, appended_none, appended_then}
 use Rattle.mm_io.specs.{Wrote}
 use Rattle.mm_life.specs.{FrameLife, unstarted, after_move, IsLegal}
 use Rattle.mm_life.proofs.{replays_then}
-use Rattle.mm_log.specs.{most_bytes, IsReady, Lines, Reads, Stops, LogReader, Ending}
+use Rattle.mm_log.specs.{most_bytes, IsReadyToRead, Lines, ReadsMoves, Stops, LogReader, Ending}
 use Rattle.mm_log.specs.Reading.{Reading}
 use Rattle.mm_log.specs.declared.endings.Ending.TheVariants as ending
 use Rattle.mm_tell.specs.{fits, AreFit, IsMisfit, RestOf, Poured, Tells, Closes, Why, ends_well, close_words, said_by, closing_text, closing_status}
@@ -31,7 +31,7 @@ tells_none left took script r rest l kept reading e none = record {
 
 -- the next move was read, told and made, and some of what is kept was written
 pub tells_more : (left mid left' took now took' : Option Text) (script : Option (List Text)) (r r' : LogReader) (rest rest1 : RestOf) (l : FrameLife) (text1 : Text) (m : Move) (rest2 : RestOf) (l' : FrameLife) (text2 text3 : Text)
-    → (s : Tells left mid took now script r rest rest1 l text1) → Reads left left' r' s.moves l m → fits script m ≡ true → l' ≡ after_move l m
+    → (s : Tells left mid took now script r rest rest1 l text1) → ReadsMoves left left' r' s.moves l m → fits script m ≡ true → l' ≡ after_move l m
     → ((whole : Bool) (ms : List Move) → text2 ++ rest2 whole l' ms ≡ text1 ++ rest1 whole l (m ∷ ms)) → Poured now took' text2 text3
     → Tells left left' took took' script r' rest rest2 l' text3
 tells_more left mid left' took now took' script r r' rest rest1 l text1 m rest2 l' text2 text3 s n fit after step p = record {
@@ -59,7 +59,7 @@ closes_stop left mid left' took took' script r rest rest' l kept e s stop =
 
 -- the next move does not fit
 pub closes_misfit : (left mid left' took took' : Option Text) (script : Option (List Text)) (r r' : LogReader) (rest rest' : RestOf) (l : FrameLife) (kept : Text) (m : Move) (n : ℕ)
-    → (s : Tells left mid took took' script r rest rest' l kept) → Reads left left' r' s.moves l m → IsMisfit script m n → Closes left left' took took' script rest (closing.Misfit n) rest' l kept
+    → (s : Tells left mid took took' script r rest rest' l kept) → ReadsMoves left left' r' s.moves l m → IsMisfit script m n → Closes left left' took took' script rest (closing.Misfit n) rest' l kept
 closes_misfit left mid left' took took' script r r' rest rest' l kept m n s reads bad = record {
   moves = s.moves;
   replays = s.replays;
@@ -101,7 +101,7 @@ has_told left left' took now took' script rest why c rest' l kept closed s end w
 
 -- so many lines have more bytes than a log may have
 pub closes_full : (left left' took took' : Option Text) (script : Option (List Text)) (r : LogReader) (rest rest' : RestOf) (l : FrameLife) (kept : Text)
-    → IsReady r → most_bytes < r.lines → Closes left left' took took' script rest (closing.Ended ending.TooLong) rest' l kept
+    → IsReadyToRead r → most_bytes < r.lines → Closes left left' took took' script rest (closing.Ended ending.TooLong) rest' l kept
 closes_full left left' took took' script r rest rest' l kept ready many = absurd (omega (arith, ready.few, ready.lines, many))
 
 -- nothing of a text was written, or all

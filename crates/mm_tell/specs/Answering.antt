@@ -4,7 +4,7 @@ use Rattle.std.specs.Prelude.{◌≡◌, ◌⊎◌, ℕ, Bool, true, false, List
 use Rattle.std.specs.Prelude.{Some, None}
 use Rattle.mm_types.specs.{Text, Appended, Move}
 use Rattle.mm_life.specs.{numbered, FrameLife, unstarted, Replays}
-use Rattle.mm_log.specs.{IsFault}
+use Rattle.mm_log.specs.{IsFaultStatus}
 use Rattle.mm_log.specs.declared.endings.Ending.TheVariants as ending
 use Rattle.mm_tell.specs.Fitting.{AreFit}
 use Rattle.mm_tell.specs.Telling.{RestOf, ClosesAt}
@@ -73,4 +73,4 @@ pub record HasTold (left left' took took' : Option Text) (script : Option (List 
 abbrev pub Answers : Option Text → Option Text → Option Text → Option Text → Option (List Text)
     → Said → Why → ℕ → Type 0
 Answers left left' took took' script said why status =
-    HasTold left left' took took' script said why status ⊎ IsFault status
+    HasTold left left' took took' script said why status ⊎ IsFaultStatus status

@@ -5,7 +5,7 @@ use Rattle.std.specs.Prelude.{Option, Some}
 use Rattle.mm_types.specs.{Text, Appended, Move, LineKind}
 use Rattle.mm_types.specs.declared.moves.Move.TheVariants as move
 use Rattle.mm_life.specs.{IsSpelled, AreMoves, spelled_moves, FrameLife, unstarted, Replays}
-use Rattle.mm_log.specs.{most_bytes, IsStuck, Spells, IsFault}
+use Rattle.mm_log.specs.{most_bytes, IsStuck, SpellsMove, IsFaultStatus}
 use Rattle.mm_log.specs.declared.endings.Ending.TheVariants as ending
 use Rattle.mm_tell.specs.Fitting.{fits, AreFit}
 use Rattle.mm_tell.specs.Answering.{Said, Why, close_words}
@@ -13,7 +13,7 @@ use Rattle.mm_tell.specs.declared.closings.Closing.TheVariants as closing
 
 -- the status and the text; or memory was refused, or a source or the sink failed
 abbrev pub Says : Option Text → Option Text → ℕ → ℕ → Text → Type 0
-Says took took' result status text = ((result ≡ status) × Appended took took' text) ⊎ IsFault result
+Says took took' result status text = ((result ≡ status) × Appended took took' text) ⊎ IsFaultStatus result
 
 -- the bytes are the spelling of moves that replay and fit
 pub record IsWhole (script : Option (List Text)) (left : Option Text)
@@ -40,7 +40,7 @@ pub record IsCut (script : Option (List Text)) (left : Option Text)
   pub stuck : IsStuck life rest
   -- the move, if any, that the line after them spells
   pub refused : Option Move
-  pub spelled : Spells refused rest
+  pub spelled : SpellsMove refused rest
   pub fit : AreFit script moves
 
 -- the log replays up to the line n, which is the first that does not fit

@@ -17,8 +17,8 @@ abbrev pub RestOf : Type 0
 RestOf = Bool → FrameLife → List Move → Text
 
 -- From the first state on these moves were told, and this text came of it.
-abbrev pub Told : RestOf → List Move → RestOf → FrameLife → Text → Type 0
-Told rest moves rest' l text =
+abbrev pub WereTold : RestOf → List Move → RestOf → FrameLife → Text → Type 0
+WereTold rest moves rest' l text =
     (whole : Bool) (ms : List Move) → text ++ rest' whole l ms ≡ rest whole unstarted (moves ++ ms)
 
 -- of a text that was kept a front was written, and this is kept now
@@ -37,7 +37,7 @@ pub record Tells (left left' took took' : Option Text) (script : Option (List Te
   pub fit : AreFit script moves
   pub written : Text
   pub appended : Appended took took' written
-  pub told : Told rest moves rest' l (written ++ kept)
+  pub told : WereTold rest moves rest' l (written ++ kept)
 
 -- the next line is a legal move that does not fit the script
 pub record Misfits (left left' : Option Text) (script : Option (List Text)) (moves : List Move)
@@ -64,7 +64,7 @@ pub record Closes (left left' took took' : Option Text) (script : Option (List T
   pub fit : AreFit script moves
   pub written : Text
   pub appended : Appended took took' written
-  pub told : Told rest moves rest' l (written ++ kept)
+  pub told : WereTold rest moves rest' l (written ++ kept)
   pub at : ClosesAt c left left' script moves l
 
 -- memory was refused, or a write failed: nothing is said of what was written

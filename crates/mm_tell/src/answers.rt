@@ -2,10 +2,7 @@ ghost use Rattle.std.specs.Prelude.{◌≡◌, ◌≤◌, ◌++◌, ◌∷◌, [
 ghost use Rattle.mm_types.specs.{Rose, decimal};
 ghost use Rattle.mm_life.specs.{unstarted, numbered};
 ghost use Rattle.mm_replay.specs.Standing.{life as life_of};
-ghost use Rattle.mm_tell.specs.Telling.{is_broken};
-ghost use Rattle.mm_tell.specs.Answering.{ends_well, closing_status, close_words, refused_words};
-ghost use Rattle.mm_tell.specs.Answering.{said_by};
-ghost use Rattle.mm_tell.specs.Answering.{Answers};
+ghost use Rattle.mm_tell.specs.{is_broken, ends_well, closing_status, close_words, refused_words, said_by, Answers};
 
 use crate::closings::Closing;
 use crate::lines::Lines;

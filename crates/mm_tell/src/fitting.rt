@@ -1,8 +1,6 @@
 ghost use Rattle.std.specs.Prelude.{◌≡◌, true, MatchOption, bytes_eq, codes, option_map};
-ghost use Rattle.mm_tell.specs.Fitting.{first_word, is_ending_word, is_access_word, is_thread_word};
-ghost use Rattle.mm_tell.specs.Fitting.{is_section_word, is_memory_word, is_system_word};
-ghost use Rattle.mm_tell.specs.Fitting.{is_refusable_word, is_call_word, fits_word, fits_line};
-ghost use Rattle.mm_tell.specs.Fitting.{fits, IsMisfit};
+ghost use Rattle.mm_tell.specs.{first_word, is_ending_word, is_access_word, is_thread_word, is_section_word, is_memory_word, is_system_word};
+ghost use Rattle.mm_tell.specs.{is_refusable_word, is_call_word, fits_word, fits_line, fits, IsMisfit};
 
 use crate::lines::Lines;
 use mm_types::{LineKind, Move};

@@ -1,6 +1,6 @@
 ghost use Rattle.std.specs.Prelude.{OnOk};
 ghost use Rattle.mm_types.specs.{HasCause};
-ghost use Rattle.mm_tell.specs.Telling.{Poured};
+ghost use Rattle.mm_tell.specs.{Poured};
 
 use mm_io::{Sink, write_all};
 use mm_types::Failed;

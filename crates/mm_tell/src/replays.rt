@@ -3,8 +3,8 @@ ghost use Rattle.std.specs.Prelude.{Option, MatchResult, OnOk, Err};
 ghost use Rattle.mm_types.specs.{Move, Rose};
 ghost use Rattle.mm_life.specs.{unstarted, IsLegal, after_move};
 ghost use Rattle.mm_replay.specs.Standing.{life as life_of};
-ghost use Rattle.mm_log.specs.{Ending, IsReady};
-ghost use Rattle.mm_tell.specs.Telling.{RestOf, Tells, Closes, is_broken};
+ghost use Rattle.mm_log.specs.{Ending, IsReadyToRead};
+ghost use Rattle.mm_tell.specs.{RestOf, Tells, Closes, is_broken};
 
 use crate::closings::Closing;
 use crate::fitting::misfit;
@@ -45,7 +45,7 @@ fn next<S: Source, T: Teller, O: Sink>(
     text: &mut Vec<u8>,
     out: &mut O,
 ) -> Result<(), Closing>
-    requires ready { IsReady reader.old }
+    requires ready { IsReadyToRead reader.old }
     requires few { T.counted teller.old + 1 < 2 ^ 63 }
     ensures told { (left took : Option (List ℕ)) (rest : RestOf)
         → Tells left (S.left source.old) took (O.taken out.old) script.now reader.old rest
@@ -56,7 +56,7 @@ fn next<S: Source, T: Teller, O: Sink>(
         (λ c. is_broken c ≡ false
         → Closes left (S.left source.new) took (O.taken out.new) script.now rest c
         (T.rest teller.new) (life_of life.new) text.new.items) }
-    ensures ready { OnOk result (IsReady reader.new × (reader.new.lines ≡ reader.old.lines + 1)) }
+    ensures ready { OnOk result (IsReadyToRead reader.new × (reader.new.lines ≡ reader.old.lines + 1)) }
     ensures counted { T.counted teller.new ≤ T.counted teller.old + 1 }
     ensures later { (S.faults source.old ≤ S.faults source.new) ×
         (O.faults out.old ≤ O.faults out.new) }

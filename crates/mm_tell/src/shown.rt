@@ -1,8 +1,7 @@
 ghost use Rattle.std.specs.Prelude.{◌≡◌, ◌++◌, map, take, OnOk};
 ghost use Rattle.mm_types.specs.{Text};
-ghost use Rattle.mm_tell.specs.Shown.{is_plain, shown_byte, shown_line, shown_lines, shown_file};
-ghost use Rattle.mm_tell.specs.Shown.{answer_data, answer_line, answer_lines, answer_file};
-ghost use Rattle.mm_tell.specs.Shown.{answer_of};
+ghost use Rattle.mm_tell.specs.{is_plain, shown_byte, shown_line, shown_lines, shown_file, answer_data, answer_line, answer_lines, answer_file};
+ghost use Rattle.mm_tell.specs.{answer_of};
 
 use crate::lines::Lines;
 use mm_types::NoMemory;

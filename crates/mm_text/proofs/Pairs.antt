@@ -5,7 +5,7 @@ use Rattle.std.specs.Option.{option_and_then}
 use Rattle.std.proofs.lemmas.List.{take_more_set, append-nil}
 use Rattle.std.proofs.lemmas.Bool.{and_right, lt-leb}
 use Rattle.mm_types.specs.{Text}
-use Rattle.mm_text.specs.{pair_of, byte_before, pairs_of, few_bytes, bytes_of}
+use Rattle.mm_text.specs.{pair_of, byte_before, pairs_of, few_bytes, bytes_of_pairs}
 
 -- bytes after those that were read
 abbrev pub behind : List ℕ → Option (List ℕ) → Option (List ℕ)
@@ -44,10 +44,10 @@ pub pairs_end : (done rest : Text) → length rest ≡ 0 → behind done (pairs_
 pairs_end done [] h = ap (λ xs. Some xs) (append-nil done)
 pairs_end done (c ∷ cs) h = absurd (omega arith)
 
-pub bytes_none : (word : Text) → pairs_of word ≡ None → bytes_of word ≡ None
+pub bytes_none : (word : Text) → pairs_of word ≡ None → bytes_of_pairs word ≡ None
 bytes_none word e = ap (option_and_then few_bytes) e
 
-pub bytes_some : (word : Text) (bs : List ℕ) → pairs_of word ≡ Some bs → bytes_of word ≡ few_bytes bs
+pub bytes_some : (word : Text) (bs : List ℕ) → pairs_of word ≡ Some bs → bytes_of_pairs word ≡ few_bytes bs
 bytes_some word bs e = ap (option_and_then few_bytes) e
 
 abbrev length_in : Option (List ℕ) → ℕ → Type 0
@@ -70,7 +70,7 @@ many (Some bs) n h long =
     let over : 64 < length bs = omega (arith, h) in
     ap (λ b. cond b (Some bs) None) (and_right (nat_le 1 (length bs)) (nat_le (length bs) 64) (lt-leb (length bs) 64 over))
 
-pub pairs_long : (word : Text) → 128 < length word → bytes_of word ≡ None
+pub pairs_long : (word : Text) → 128 < length word → bytes_of_pairs word ≡ None
 pairs_long word long = many (pairs_of word) (length word) (pairs_length word) long
 
 pub ruleset pairs = (behind_none, pairs_bad, pairs_more, pairs_odd, pairs_end, bytes_none, bytes_some, pairs_long)

@@ -7,7 +7,7 @@ use Rattle.std.proofs.lemmas.List.Folds.{list_all-append}
 use Rattle.std.proofs.lemmas.Slice.{between_is}
 use Rattle.std.proofs.lemmas.Bool.{lt-ltb}
 use Rattle.mm_types.specs.{Text}
-use Rattle.mm_text.specs.{digit_value, value_in, are_digits, limited, number_in, number_of, words_from, rest_from, EndsWord, BeginsHex, IsRun}
+use Rattle.mm_text.specs.{digit_value, value_in, are_digits, limited, number_of_form, number_of, words_from, rest_from, EndsWord, BeginsHex, IsRun}
 use Rattle.mm_text.specs.{IsNumberAt, TakesNumber}
 use Rattle.mm_text.proofs.Splits.{word_longer, word_ended, word_over, word_begun, rest_some}
 use Rattle.mm_text.proofs.Spelled.{no_hex, read_digits}
@@ -81,7 +81,7 @@ decimal_at line from to value r = record {
   order = r.order;
   within = r.within;
   word = word_begun line from ∙ r.word from (omega arith);
-  reads = ap (λ o. limited (number_in (slice_range line from to) o)) (no_hex (slice_range line from to) r.digits) ∙ r.reads;
+  reads = ap (λ o. limited (number_of_form (slice_range line from to) o)) (no_hex (slice_range line from to) r.digits) ∙ r.reads;
 }
 
 -- what stands from a place on, after its first two bytes

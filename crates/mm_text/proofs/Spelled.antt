@@ -8,8 +8,8 @@ use Rattle.std.proofs.lemmas.Nat.{div-add-mod', div_below, mod_below}
 use Rattle.std.proofs.Math.Nat.{mod-eq_of_lt, pow-zero}
 use Rattle.std.proofs.lemmas.Grind.{pow_more}
 use Rattle.mm_types.specs.{Text, glyph, decimal, hex_onto, hex8, byte_pairs}
-use Rattle.mm_text.specs.{digits_onto, hex_short, digit_value, value_in, are_digits, digits_in, hex_digits, below_limit, limited, number_in}
-use Rattle.mm_text.specs.{number_of, pair_of, byte_before, pairs_of, few_bytes, bytes_of}
+use Rattle.mm_text.specs.{digits_onto, hex_short, digit_value, value_in, are_digits, digits_in, hex_digits, below_limit, limited, number_of_form}
+use Rattle.mm_text.specs.{number_of, pair_of, byte_before, pairs_of, few_bytes, bytes_of_pairs}
 use Rattle.mm_text.proofs.Digits.{decimal_is}
 use Rattle.mm_text.proofs.Values.{scan_is, scan_whole}
 
@@ -162,7 +162,7 @@ read_digits base most n cs some few good value low =
 
 pub number_of-decimal : (n : ℕ) → n < 2 ^ 32 → number_of (decimal n) ≡ Some n
 number_of-decimal n low =
-    ap (λ o. limited (number_in (decimal n) o)) (no_hex (decimal n) (are_decimal n))
+    ap (λ o. limited (number_of_form (decimal n) o)) (no_hex (decimal n) (are_decimal n))
     ∙ read_digits 10 10 n (decimal n) (length-decimal-some n) (length-decimal-32 n low) (are_decimal n) (decimal_value n (omega arith)) low
 
 -- ---- hexadecimal numbers
@@ -207,7 +207,7 @@ pairs_of-byte_pairs (b ∷ bs) low =
     ap (λ o. byte_before o (pairs_of (byte_pairs bs))) (pair_of-glyphs (b / 16 % 16) (b % 16) h l ∙ ap (λ (k : ℕ). Some k) whole)
     ∙ ap (byte_before (Some b)) (pairs_of-byte_pairs bs low.1)
 
-pub bytes_of-byte_pairs : (bs : List ℕ) → 1 ≤ length bs → length bs ≤ 64 → AllByRecursion (λ b. b < 256) bs → bytes_of (byte_pairs bs) ≡ Some bs
+pub bytes_of-byte_pairs : (bs : List ℕ) → 1 ≤ length bs → length bs ≤ 64 → AllByRecursion (λ b. b < 256) bs → bytes_of_pairs (byte_pairs bs) ≡ Some bs
 bytes_of-byte_pairs bs some few low =
     ap (option_and_then few_bytes) (pairs_of-byte_pairs bs low)
     ∙ ap (λ t. cond t (Some bs) None) (ap (λ t. t && nat_le (length bs) 64) (le-leb 1 (length bs) some) ∙ le-leb (length bs) 64 few)

@@ -39,13 +39,13 @@ abbrev pub limited : Option ℕ → Option ℕ
 limited n = option_and_then below_limit n
 
 -- up to 8 hexadecimal digits after `0x`, or else up to 10 decimal digits
-abbrev pub number_in : Text → Option Text → Option ℕ
-number_in cs (Some digits) = digits_in 16 8 digits
-number_in cs None = digits_in 10 10 cs
+abbrev pub number_of_form : Text → Option Text → Option ℕ
+number_of_form cs (Some digits) = digits_in 16 8 digits
+number_of_form cs None = digits_in 10 10 cs
 
 -- a number below 2 ^ 32
 abbrev pub number_of : Text → Option ℕ
-number_of cs = limited (number_in cs (hex_digits cs))
+number_of cs = limited (number_of_form cs (hex_digits cs))
 
 -- the byte of two hexadecimal digits
 abbrev pub pair_of : ℕ → ℕ → Option ℕ
@@ -66,8 +66,8 @@ abbrev pub few_bytes : List ℕ → Option (List ℕ)
 few_bytes bs = if nat_le 1 (length bs) && nat_le (length bs) 64 then Some bs else None
 
 -- 1 to 64 pairs of hexadecimal digits
-abbrev pub bytes_of : Text → Option (List ℕ)
-bytes_of cs = option_and_then few_bytes (pairs_of cs)
+abbrev pub bytes_of_pairs : Text → Option (List ℕ)
+bytes_of_pairs cs = option_and_then few_bytes (pairs_of cs)
 
 abbrev pub is_letter : ℕ → Bool
 is_letter c = (nat_le 0x41 c && nat_le c 0x5A) || (nat_le 0x61 c && nat_le c 0x7A)

@@ -1,6 +1,6 @@
 ghost use Rattle.std.specs.Prelude.{◌≡◌, ◌++◌, OnOk, replicate};
 ghost use Rattle.mm_types.specs.{decimal};
-ghost use Rattle.mm_text.specs.Columns.{left_in, right_in, numbers_in};
+ghost use Rattle.mm_text.specs.{left_in, right_in, numbers_in};
 
 use crate::{LineBuf, put_decimal};
 use mm_types::NoMemory;

@@ -1,6 +1,6 @@
-ghost use Rattle.std.specs.Prelude.{◌≡◌, ◌≤◌, option_map};
+ghost use Rattle.std.specs.Prelude.{◌≡◌, ◌≤◌};
 ghost use Rattle.std.specs.List.{list_all};
-ghost use Rattle.mm_text.specs.Field.{digit_value, hex_digits, is_letter, is_name_byte, limited, digits_in, number_of, pair_of, bytes_of, is_name, name_of};
+ghost use Rattle.mm_text.specs.{digit_value, is_letter, is_name_byte, limited, digits_in, number_of, pair_of, bytes_of_pairs, is_name, name_of};
 
 use mm_types::{ByteBuf, Name};
 
@@ -32,17 +32,6 @@ pub(crate) fn digit(byte: u8) -> u8
     ensures most { result ≤ 16 }
 {
     DIGIT_VALUES[byte as usize]
-}
-
-/// What stands after `0x`, where a word begins so.
-#[inline(always)]
-fn hex_digits(word: &[u8]) -> Option<&[u8]>
-    ensures { option_map (λ x. x.now) result ≡ hex_digits word.now }
-{
-    match word {
-        [b'0', b'x', digits @ ..] => Some(digits),
-        _ => None,
-    }
 }
 
 /// The number below 2^32 of 1 to `most` digits of a base. No more than ten digits of base 16 or
@@ -79,9 +68,9 @@ fn value(base: u8, most: usize, digits: &[u8]) -> Option<u32>
 pub fn number(word: &[u8]) -> Option<u32>
     ensures { result ≡ number_of word.now }
 {
-    match hex_digits(word) {
-        Some(digits) => value(16, 8, digits),
-        None => value(10, 10, word),
+    match word {
+        [b'0', b'x', digits @ ..] => value(16, 8, digits),
+        _ => value(10, 10, word),
     }
 }
 
@@ -104,7 +93,7 @@ fn pair(high: u8, low: u8) -> Option<u8>
 #[inline(always)]
 #[tactic(auto, using(crate::proofs::Pairs::pairs))]
 pub fn bytes(word: &[u8]) -> Option<ByteBuf>
-    ensures { result ≡ bytes_of word.now }
+    ensures { result ≡ bytes_of_pairs word.now }
 {
     if word.len() > 128 {
         return None;
@@ -126,19 +115,13 @@ pub fn bytes(word: &[u8]) -> Option<ByteBuf>
 fn is_letter(byte: u8) -> bool
     ensures { result ≡ is_letter byte }
 {
-    match byte {
-        b'A'..=b'Z' | b'a'..=b'z' => true,
-        _ => false,
-    }
+    matches!(byte, b'A'..=b'Z' | b'a'..=b'z')
 }
 
 fn is_name_byte(byte: u8) -> bool
     ensures { result ≡ is_name_byte byte }
 {
-    match byte {
-        b'0'..=b'9' | b'_' | b'.' | b'-' => true,
-        _ => is_letter(byte),
-    }
+    is_letter(byte) || matches!(byte, b'0'..=b'9' | b'_' | b'.' | b'-')
 }
 
 fn are_name_bytes(bytes: &[u8]) -> bool

@@ -1,6 +1,8 @@
+#![tactic(auto, using(crate::proofs::Digits::digits))]
+
 ghost use Rattle.std.specs.Prelude.{◌≡◌, ◌≤◌, ◌<◌, ◌+◌, ◌*◌, ◌++◌, [], length, take, drop};
 ghost use Rattle.mm_types.specs.{glyph, decimal, hex_onto, hex8, byte_pairs};
-ghost use Rattle.mm_text.specs.Shortest.{digits_onto, hex_short};
+ghost use Rattle.mm_text.specs.{digits_onto, hex_short};
 
 use crate::LineBuf;
 
@@ -21,7 +23,6 @@ fn glyph(digit: u8) -> u8
 /// Writes at most 64 bytes as pairs of hexadecimal digits in upper case at the front of `room`, and
 /// tells where they end.
 #[inline(always)]
-#[tactic(auto, using(crate::proofs::Digits::digits))]
 pub fn fill_pairs(bytes: &[u8], room: &mut [u8; 128]) -> usize
     requires { length bytes.now ≤ 64 }
     ensures pairs { take result room.new ≡ byte_pairs bytes.now }
@@ -39,7 +40,6 @@ pub fn fill_pairs(bytes: &[u8], room: &mut [u8; 128]) -> usize
 /// Writes a number's digits at the end of `digits`, without leading zeros, and answers where they
 /// begin.
 #[inline]
-#[tactic(auto, using(crate::proofs::Digits::digits))]
 fn fill_short(base: u64, n: u64, digits: &mut [u8]) -> usize
     requires low { 2 ≤ base }
     requires high { base ≤ 16 }
@@ -60,7 +60,6 @@ fn fill_short(base: u64, n: u64, digits: &mut [u8]) -> usize
 }
 
 /// Writes the last hexadecimal digits of a number, as many as `digits` has places.
-#[tactic(auto, using(crate::proofs::Digits::digits))]
 fn fill_hex(n: u32, digits: &mut [u8])
     ensures { digits.new ≡ hex_onto (length digits.old) n [] }
 {
@@ -107,7 +106,6 @@ pub fn put_hex8(out: &mut LineBuf, n: u32)
 }
 
 /// Writes each byte as a pair of hexadecimal digits in upper case at the end of a line.
-#[tactic(auto, using(crate::proofs::Digits::digits))]
 pub fn put_bytes(out: &mut LineBuf, bytes: &[u8])
     requires { length out.old + 2 * length bytes.now ≤ 256 }
     ensures { out.new ≡ out.old ++ byte_pairs bytes.now }

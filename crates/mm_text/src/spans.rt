@@ -145,10 +145,7 @@ fn end_of_word(line: &[u8], from: usize) -> usize
 fn ends_word(line: &[u8], at: usize) -> bool
     ensures { result ≡ true → EndsWord line.now at }
 {
-    if at >= line.len() {
-        return true;
-    }
-    line[at] == b' '
+    at >= line.len() || line[at] == b' '
 }
 
 /// Whether `0x` stands at a place.
@@ -157,13 +154,7 @@ fn begins_hex(line: &[u8], at: usize) -> bool
     requires { at ≤ length line.now }
     ensures { result ≡ true → BeginsHex line.now at }
 {
-    if line.len() - at < 2 {
-        return false;
-    }
-    if line[at] != b'0' {
-        return false;
-    }
-    line[at + 1] == b'x'
+    line.len() - at >= 2 && line[at] == b'0' && line[at + 1] == b'x'
 }
 
 /// The number of 1 to `most` digits of a base from a place on, up to the end of the word, and
@@ -189,14 +180,10 @@ fn run(base: u8, most: usize, line: &[u8], start: usize) -> Option<(u32, usize)>
         sum = sum * u64::from(base) + u64::from(digit);
         to += 1;
     }
-    if to == start || sum > 0xFFFF_FFFF {
+    if to == start || sum > 0xFFFF_FFFF || !ends_word(line, to) {
         return None;
     }
-    if ends_word(line, to) {
-        Some((sum as u32, to))
-    } else {
-        None
-    }
+    Some((sum as u32, to))
 }
 
 /// The digit that is all of the word that begins at a place, and where the word ends.
@@ -210,14 +197,10 @@ fn one_digit(line: &[u8], from: usize) -> Option<(u32, usize)>
         return None;
     }
     let digit = digit(line[from]);
-    if digit >= 10 {
+    if digit >= 10 || !ends_word(line, from + 1) {
         return None;
     }
-    if ends_word(line, from + 1) {
-        Some((u32::from(digit), from + 1))
-    } else {
-        None
-    }
+    Some((u32::from(digit), from + 1))
 }
 
 /// The number of digits that the word is that begins at a place, and where the word ends.

@@ -1,9 +1,11 @@
+#![tactic(auto, using(crate::proofs::Lines::steps))]
+
 ghost use Rattle.std.specs.Prelude.{◌≡◌, ◌≤◌, ◌+◌, ◌*◌, ◌++◌, length, map};
 ghost use Rattle.mm_types.specs.{spaced, code_number, status_number, why_text, answer_text, spelling};
-ghost use Rattle.mm_text.specs.Following.{following, number_word};
+ghost use Rattle.mm_text.specs.{following, number_word};
 
 use crate::{LineBuf, put_bytes, put_decimal, put_hex8};
-use mm_types::{Answer, ByteBuf, Code, Counts, PageList, QueryInfo, Raise, Why};
+use mm_types::{Answer, Code, Counts, QueryInfo, Raise, Why};
 
 /// The bytes of the longest answer line, which is that of `watch` with 16 addresses.
 pub const LONGEST: usize = 182;
@@ -50,7 +52,6 @@ fn why_word(why: Why) -> &'static [u8]
 
 /// Writes a number: addresses, sizes and the like by eight hexadecimal digits, others in decimal.
 #[inline(always)]
-#[tactic(auto, using(crate::proofs::Lines::steps))]
 fn put_word(out: &mut LineBuf, hex: bool, n: u32)
     requires { length out.old + 10 ≤ 256 }
     ensures text { out.new ≡ out.old ++ number_word hex n }
@@ -64,7 +65,6 @@ fn put_word(out: &mut LineBuf, hex: bool, n: u32)
 }
 
 /// Writes numbers, each after a space.
-#[tactic(auto, using(crate::proofs::Lines::steps))]
 fn put_words(out: &mut LineBuf, hex: bool, numbers: &[u32])
     requires { length out.old + 11 * length numbers.now ≤ 256 }
     ensures text { out.new ≡ out.old ++ following (map (number_word hex) numbers.now) }
@@ -77,7 +77,6 @@ fn put_words(out: &mut LineBuf, hex: bool, numbers: &[u32])
 }
 
 /// A word, and numbers after it.
-#[tactic(auto, using(crate::proofs::Lines::steps))]
 fn line_of(out: &mut LineBuf, hex: bool, word: &[u8], numbers: &[u32])
     requires { length out.old + (length word.now + 11 * length numbers.now) ≤ 256 }
     ensures text { out.new ≡ out.old ++ spaced word.now (map (number_word hex) numbers.now) }
@@ -88,7 +87,6 @@ fn line_of(out: &mut LineBuf, hex: bool, word: &[u8], numbers: &[u32])
 }
 
 /// `ok` and what VirtualQuery tells.
-#[tactic(auto, using(crate::proofs::Lines::steps))]
 fn line_of_info(out: &mut LineBuf, info: &QueryInfo)
     requires { length out.old + 79 ≤ 256 }
     ensures text { out.new ≡ out.old ++ answer_text (Answer.Info info.now) }
@@ -107,7 +105,6 @@ fn line_of_info(out: &mut LineBuf, info: &QueryInfo)
 }
 
 /// `ok` and the eight numbers of `counts`.
-#[tactic(auto, using(crate::proofs::Lines::steps))]
 fn line_of_counts(out: &mut LineBuf, counts: &Counts)
     requires { length out.old + 90 ≤ 256 }
     ensures text { out.new ≡ out.old ++ answer_text (Answer.Counts counts.now) }
@@ -126,58 +123,7 @@ fn line_of_counts(out: &mut LineBuf, counts: &Counts)
     line_of(out, false, b"ok", &numbers);
 }
 
-/// `ok` and bytes as pairs of digits.
-#[tactic(auto, using(crate::proofs::Lines::steps))]
-fn line_of_bytes(out: &mut LineBuf, bytes: &ByteBuf)
-    requires { length out.old + 131 ≤ 256 }
-    ensures text { out.new ≡ out.old ++ answer_text (Answer.Bytes bytes.now) }
-    ensures few { length out.new ≤ length out.old + 131 }
-{
-    out.push_slice(b"ok ");
-    put_bytes(out, bytes.as_slice());
-}
-
-/// `ok`, how many addresses there are, and the addresses.
-#[tactic(auto, using(crate::proofs::Lines::steps))]
-fn line_of_pages(out: &mut LineBuf, pages: &PageList)
-    requires { length out.old + 181 ≤ 256 }
-    ensures text { out.new ≡ out.old ++ answer_text (Answer.Watched pages.now) }
-    ensures few { length out.new ≤ length out.old + 181 }
-{
-    let addresses = pages.as_slice();
-    out.push_slice(b"ok ");
-    put_decimal(out, addresses.len() as u64);
-    put_words(out, true, addresses);
-}
-
-/// `ok`, a handle, and whether its name existed: 183 (ERROR_ALREADY_EXISTS) or 0.
-#[tactic(auto, using(crate::proofs::Lines::steps))]
-fn line_of_handle(out: &mut LineBuf, handle: u32, existed: bool)
-    requires { length out.old + 24 ≤ 256 }
-    ensures text { out.new ≡ out.old ++ answer_text (Answer.Created handle existed) }
-    ensures few { length out.new ≤ length out.old + 24 }
-{
-    let code = if existed {
-        code_number(Code::AlreadyExists)
-    } else {
-        0
-    };
-    line_of(out, false, b"ok", &[handle, code]);
-}
-
-/// `pending` and what the access waits for.
-#[tactic(auto, using(crate::proofs::Lines::steps))]
-fn line_of_pending(out: &mut LineBuf, why: Why)
-    requires { length out.old + 13 ≤ 256 }
-    ensures text { out.new ≡ out.old ++ answer_text (Answer.Pending why) }
-    ensures few { length out.new ≤ length out.old + 13 }
-{
-    out.push_slice(b"pending ");
-    out.push_slice(why_word(why));
-}
-
 /// Writes an answer's words.
-#[tactic(auto, using(crate::proofs::Lines::steps))]
 fn put_text(answer: &Answer, out: &mut LineBuf)
     requires { length out.old + 181 ≤ 256 }
     ensures text { out.new ≡ out.old ++ answer_text answer.now }
@@ -190,19 +136,38 @@ fn put_text(answer: &Answer, out: &mut LineBuf)
         Answer::At(address) => line_of(out, true, b"ok", &[*address]),
         Answer::OldProt(prot) => line_of(out, true, b"ok", &[prot.0]),
         Answer::Info(info) => line_of_info(out, info),
-        Answer::Created(handle, existed) => line_of_handle(out, *handle, *existed),
+        Answer::Created(handle, false) => line_of(out, false, b"ok", &[*handle, 0]),
+        Answer::Created(handle, true) => {
+            line_of(
+                out,
+                false,
+                b"ok",
+                &[*handle, code_number(Code::AlreadyExists)],
+            )
+        }
         Answer::Opened(handle) => line_of(out, false, b"ok", &[*handle]),
-        Answer::Bytes(bytes) => line_of_bytes(out, bytes),
+        Answer::Bytes(bytes) => {
+            out.push_slice(b"ok ");
+            put_bytes(out, bytes.as_slice());
+        }
         Answer::Charge(charge, limit) => line_of(out, false, b"ok", &[*charge, *limit]),
         Answer::Counts(counts) => line_of_counts(out, counts),
         Answer::Error(code) => line_of(out, false, b"error", &[code_number(*code)]),
         Answer::Raised(status) => line_of(out, true, b"raise", &[status_number(*status)]),
-        Answer::Pending(why) => line_of_pending(out, *why),
+        Answer::Pending(why) => {
+            out.push_slice(b"pending ");
+            out.push_slice(why_word(*why));
+        }
         Answer::Nothing => out.push_slice(b"none"),
         Answer::Busy => out.push_slice(b"busy"),
         Answer::Full => out.push_slice(b"full"),
         Answer::Fault => out.push_slice(b"fault"),
-        Answer::Watched(pages) => line_of_pages(out, pages),
+        Answer::Watched(pages) => {
+            let addresses = pages.as_slice();
+            out.push_slice(b"ok ");
+            put_decimal(out, addresses.len() as u64);
+            put_words(out, true, addresses);
+        }
         Answer::Stack(base, size, guard) => line_of(out, true, b"ok", &[*base, *size, *guard]),
     }
 }
@@ -210,7 +175,6 @@ fn put_text(answer: &Answer, out: &mut LineBuf)
 /// Writes an answer's line with its line feed at the end of `out`. Addresses, sizes, protections,
 /// states, types and statuses are `0x` and eight upper-case hexadecimal digits, other numbers
 /// decimal, bytes pairs of upper-case digits.
-#[tactic(auto, using(crate::proofs::Lines::steps))]
 pub fn spell(answer: &Answer, out: &mut LineBuf)
     requires { length out.old + LONGEST ≤ 256 }
     ensures line { out.new ≡ out.old ++ spelling answer.now }

@@ -4,7 +4,7 @@ use Rattle.std.specs.Prelude.{◌==◌, slice_index, Result, Ok, Err, OnOk, OnEr
 use Rattle.std.proofs.lemmas.Bool.{eqb-true}
 use Rattle.mm_types.specs.{Pid, Place, NoMemory}
 use Rattle.mm_life.specs.{same_place}
-use Rattle.mm_transcripts.specs.{at_place, older, older_of, one_more, age_by, age_in, AreEarlier}
+use Rattle.mm_transcripts.specs.{at_place, older, older_of, one_age_more, age_by, age_in, AreTouchedBefore}
 
 -- ---- the same place is of one process
 
@@ -20,7 +20,7 @@ some_is e = cc
 
 -- ---- no page is valid
 
-pub none_earlier : (counts : ℕ → ℕ) (stamps : Place → Option ℕ) → ((p : Place) → stamps p ≡ None) → AreEarlier counts stamps
+pub none_earlier : (counts : ℕ → ℕ) (stamps : Place → Option ℕ) → ((p : Place) → stamps p ≡ None) → AreTouchedBefore counts stamps
 none_earlier counts stamps none = record { earlier = λ p stamp e. let bad : None ≡ Some stamp = sym (none p) ∙ e in cc }
 
 pub no_ages_in : (counts : ℕ → ℕ) (stamps : Place → Option ℕ) → ((p : Place) → stamps p ≡ None) → age_in counts stamps ≡ (λ _. None)
@@ -29,7 +29,7 @@ no_ages_in counts stamps none = λ i. λ p. ap (option_map (age_by (counts p.pid
 -- ---- a page is mapped
 
 module _ (counts : ℕ → ℕ) (stamps : Place → Option ℕ) (p : Place) where
-  mapped_earlier : AreEarlier counts stamps → (q : Place) (stamp : ℕ) (b : Bool) → same_place p q ≡ b
+  mapped_earlier : AreTouchedBefore counts stamps → (q : Place) (stamp : ℕ) (b : Bool) → same_place p q ≡ b
       → cond b (Some (counts p.pid.0)) (stamps q) ≡ Some stamp → stamp ≤ counts q.pid.0
   mapped_earlier old q stamp true e s =
       let there : counts p.pid.0 ≡ counts q.pid.0 = ap counts (same_pid p q e) in
@@ -45,7 +45,7 @@ module _ (counts : ℕ → ℕ) (stamps : Place → Option ℕ) (p : Place) wher
       ap (λ (n : ℕ). Some n) none
   mapped_age q false e = refl
 
-  unmapped_earlier : AreEarlier counts stamps → (q : Place) (stamp : ℕ) (b : Bool)
+  unmapped_earlier : AreTouchedBefore counts stamps → (q : Place) (stamp : ℕ) (b : Bool)
       → cond b None (stamps q) ≡ Some stamp → stamp ≤ counts q.pid.0
   unmapped_earlier old q stamp true s = cc
   unmapped_earlier old q stamp false s = old.earlier q stamp s
@@ -56,11 +56,11 @@ module _ (counts : ℕ → ℕ) (stamps : Place → Option ℕ) (p : Place) wher
 
 pub earlier_mapped : (counts : ℕ → ℕ) (stamps new : Place → Option ℕ) (p : Place) (r : Result (Unit {0}) NoMemory)
     → OnOk r (new ≡ at_place p (Some (counts p.pid.0)) stamps) → OnErr r (new ≡ stamps)
-    → AreEarlier counts stamps → AreEarlier counts new
+    → AreTouchedBefore counts stamps → AreTouchedBefore counts new
 earlier_mapped counts stamps new p (Ok u) e f old =
-    subst (AreEarlier counts) (sym e)
+    subst (AreTouchedBefore counts) (sym e)
     (record { earlier = λ q stamp s. mapped_earlier counts stamps p old q stamp (same_place p q) refl s })
-earlier_mapped counts stamps new p (Err n) e f old = subst (AreEarlier counts) (sym f) old
+earlier_mapped counts stamps new p (Err n) e f old = subst (AreTouchedBefore counts) (sym f) old
 
 pub age_mapped : (counts : ℕ → ℕ) (stamps new : Place → Option ℕ) (p : Place) (r : Result (Unit {0}) NoMemory)
     → OnOk r (new ≡ at_place p (Some (counts p.pid.0)) stamps)
@@ -70,9 +70,9 @@ age_mapped counts stamps new p (Ok u) e =
 age_mapped counts stamps new p (Err n) e = e
 
 pub earlier_unmapped : (counts : ℕ → ℕ) (stamps new : Place → Option ℕ) (p : Place)
-    → new ≡ at_place p None stamps → AreEarlier counts stamps → AreEarlier counts new
+    → new ≡ at_place p None stamps → AreTouchedBefore counts stamps → AreTouchedBefore counts new
 earlier_unmapped counts stamps new p e old =
-    subst (AreEarlier counts) (sym e)
+    subst (AreTouchedBefore counts) (sym e)
     (record { earlier = λ q stamp s. unmapped_earlier counts stamps p old q stamp (same_place p q) s })
 
 pub age_unmapped : (counts : ℕ → ℕ) (stamps new : Place → Option ℕ) (p : Place)
@@ -97,15 +97,15 @@ module _ (counts : ℕ → ℕ) (k : ℕ) where
   older_age n false o h = refl
 
 pub earlier_older : (xs ys : List ℕ) (stamps : Place → Option ℕ) (k : ℕ) (r : Result (Unit {0}) NoMemory)
-    → OnOk r (slice_index ys ≡ one_more k (slice_index xs)) → OnErr r (ys ≡ xs)
-    → AreEarlier (slice_index xs) stamps → AreEarlier (slice_index ys) stamps
+    → OnOk r (slice_index ys ≡ one_age_more k (slice_index xs)) → OnErr r (ys ≡ xs)
+    → AreTouchedBefore (slice_index xs) stamps → AreTouchedBefore (slice_index ys) stamps
 earlier_older xs ys stamps k (Ok u) e f old =
-    subst (λ (c : ℕ → ℕ). AreEarlier c stamps) (sym e)
+    subst (λ (c : ℕ → ℕ). AreTouchedBefore c stamps) (sym e)
     (record { earlier = λ p stamp s. still_earlier (slice_index xs) k p.pid.0 stamp (p.pid.0 == k) (old.earlier p stamp s) })
-earlier_older xs ys stamps k (Err n) e f old = subst (λ (c : List ℕ). AreEarlier (slice_index c) stamps) (sym f) old
+earlier_older xs ys stamps k (Err n) e f old = subst (λ (c : List ℕ). AreTouchedBefore (slice_index c) stamps) (sym f) old
 
 pub age_older : (xs ys : List ℕ) (stamps : Place → Option ℕ) (pid : Pid) (r : Result (Unit {0}) NoMemory)
-    → OnOk r (slice_index ys ≡ one_more pid.0 (slice_index xs)) → AreEarlier (slice_index xs) stamps
+    → OnOk r (slice_index ys ≡ one_age_more pid.0 (slice_index xs)) → AreTouchedBefore (slice_index xs) stamps
     → OnOk r (age_in (slice_index ys) stamps ≡ older_of pid (age_in (slice_index xs) stamps))
 age_older xs ys stamps pid (Ok u) e old =
     ap (λ (c : ℕ → ℕ). age_in c stamps) e
@@ -114,7 +114,7 @@ age_older xs ys stamps pid (Err n) e old = e
 
 -- ---- the count is at least the stamp, so an age is a difference
 
-pub stamp_within : (counts : ℕ → ℕ) (stamps : Place → Option ℕ) (p : Place) (stamp : ℕ) → AreEarlier counts stamps
+pub stamp_within : (counts : ℕ → ℕ) (stamps : Place → Option ℕ) (p : Place) (stamp : ℕ) → AreTouchedBefore counts stamps
     → stamps p ≡ Some stamp → stamp ≤ counts p.pid.0
 stamp_within counts stamps p stamp old e = old.earlier p stamp e
 

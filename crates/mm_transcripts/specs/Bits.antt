@@ -3,5 +3,5 @@ use Rattle.std.specs.Prelude.{ℕ}
 use Rattle.mm_types.specs.{Text}
 use Rattle.mm_transcripts.specs.declared.numbers.NamedBit.{NamedBit}
 
-abbrev pub row_of : NamedBit → Text × ℕ
-row_of b = (b.0.now, b.1)
+abbrev pub bit_row : NamedBit → Text × ℕ
+bit_row b = (b.0.now, b.1)

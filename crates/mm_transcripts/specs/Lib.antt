@@ -13,15 +13,23 @@ pub mod TakenNumbers
 pub mod Transcripts
 pub mod Waiting
 pub mod Worked
-pub use Ages.{AgesOf, at_place, no_ages, older, older_of}
+pub use Ages.{AgesOf, at_place, at_thread, no_ages, older, older_of}
+pub use Bits.{bit_row}
 pub use Failures.{code_name, failure_name, raise_name}
-pub use Keeping.{AreEarlier, age_by, age_in, one_more}
-pub use Numbers.{union_text}
-pub use Remarks.{listed}
-pub use Rows.{Beside, is_none_left, row_text, trimmed}
+pub use Keeping.{AreTouchedBefore, age_by, age_in, one_age_more, same_thread}
+pub use Named.{failure_row}
+pub use Numbers.{has_name, union_text}
+pub use Reasons.{words_if}
+pub use Remarks.{answer_remark, bracketed, event_remark, named_numbers, named_or, numbers_of}
+pub use Remarks.{remark_by, told_names, told_remark}
+unfoldable pub use Remarks.{remark_text}
+pub use Rows.{Beside, answered_row, asked_row, class_sentence_row, is_none_left, line_row}
+pub use Rows.{names_text, padded, row_text, said_text, trimmed}
 pub use Shown.{ages_of}
 pub use TakenNumbers.{AreReadAgain, taken_numbers}
 pub use Transcripts.{ages_then, reason_then, rows_from, transcript}
 pub use Waiting.{beside_of, classed_row, rows_rest, transcript_rest}
+pub use Worked.{rewritten_rows, smallest_set_rows}
+pub use declared.numbers.Number.{Number}
 pub use declared.reasons.Reason.{Reason}
 pub use declared.transcripts.TranscriptTeller.{TranscriptTeller}

@@ -2,5 +2,5 @@
 use Rattle.mm_types.specs.{Text}
 use Rattle.mm_transcripts.specs.declared.failures.Failure.{Failure}
 
-abbrev pub row_of : Failure → Text × Text
-row_of f = (f.0.now, f.1.now)
+abbrev pub failure_row : Failure → Text × Text
+failure_row f = (f.0.now, f.1.now)

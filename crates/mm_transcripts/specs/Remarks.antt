@@ -17,37 +17,37 @@ use Rattle.mm_transcripts.specs.declared.numbers.Number.{Number}
 -- ---- names in brackets
 
 -- the names of those numbers that have one, between them a comma; one stands before them or none
-abbrev pub listed : Bool → List Number → Text
-listed after [] = []
-listed after (x ∷ xs) =
+abbrev pub named_numbers : Bool → List Number → Text
+named_numbers after [] = []
+named_numbers after (x ∷ xs) =
     (if has_name x then name_behind (codes ", ") after (name_text x) else [])
-    ++ listed (after || has_name x) xs
+    ++ named_numbers (after || has_name x) xs
 
 -- they stand in brackets, behind this; nothing where no number has a name
 abbrev pub bracketed : Text → List Number → Text
 bracketed front numbers =
-    if list_any has_name numbers then front ++ 0x5B ∷ (listed false numbers ++ 0x5D ∷ []) else []
+    if list_any has_name numbers then front ++ 0x5B ∷ (named_numbers false numbers ++ 0x5D ∷ []) else []
 
 -- ---- the numbers of a line that may have names
 
-abbrev pub placed : NumberPlace → ℕ → Number
-placed p n = record { place = p; value = n }
+abbrev pub placed_number : NumberPlace → ℕ → Number
+placed_number p n = record { place = p; value = n }
 
 abbrev pub numbers_of : Event → List Number
 numbers_of (line.Alloc pid addr size kind prot) =
-    placed place.Allocation kind ∷ placed place.Protection prot ∷ []
-numbers_of (line.Free pid addr size kind) = placed place.Allocation kind ∷ []
-numbers_of (line.Protect pid addr size prot) = placed place.Protection prot ∷ []
-numbers_of (line.Create pid size flags name) = placed place.Section flags ∷ []
-numbers_of (line.CreateFile pid file flags name) = placed place.Section flags ∷ []
-numbers_of (line.Map pid handle access offset len addr) = placed place.Access access ∷ []
+    placed_number place.Allocation kind ∷ placed_number place.Protection prot ∷ []
+numbers_of (line.Free pid addr size kind) = placed_number place.Allocation kind ∷ []
+numbers_of (line.Protect pid addr size prot) = placed_number place.Protection prot ∷ []
+numbers_of (line.Create pid size flags name) = placed_number place.Section flags ∷ []
+numbers_of (line.CreateFile pid file flags name) = placed_number place.Section flags ∷ []
+numbers_of (line.Map pid handle access offset len addr) = placed_number place.Access access ∷ []
 numbers_of _ = []
 
 -- ---- and of the answer of a `query`
 
 -- what is no number counts as 0, which has no name
 abbrev pub number_at : NumberPlace → Word → Number
-number_at p w = placed p (unwrap_or (number_of w.text) 0)
+number_at p w = placed_number p (unwrap_or (number_of w.text) 0)
 
 -- behind `ok` and four more words stand the state, the protection and the type
 abbrev pub told_names : List Word → Text

@@ -65,11 +65,11 @@ line_row n k line said =
 -- ---- the row of a move
 
 -- places have addresses where a script is named; `after` is the state after the move
-abbrev pub class_row : Bool → Option Class → Facts → Option Reason → FrameLife → Text
-class_row addressed None x r after = []
-class_row addressed (Some c) x r after =
+abbrev pub class_sentence_row : Bool → Option Class → Facts → Option Reason → FrameLife → Text
+class_sentence_row addressed None x r after = []
+class_sentence_row addressed (Some c) x r after =
     codes "     " ++ (sentence_text addressed c x after ++ (words_if c r ++ 10 ∷ []))
 
 abbrev pub row_text : Beside → Move → Option Class → Facts → Option Reason → FrameLife → Text
 row_text b (move.At n k) c x r after = line_row n k (line_of b.script n) (line_of b.answers n)
-row_text b _ c x r after = class_row (is_some b.script) c x r after
+row_text b _ c x r after = class_sentence_row (is_some b.script) c x r after

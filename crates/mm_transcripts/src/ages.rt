@@ -4,7 +4,7 @@ ghost use Rattle.mm_life.specs.{same_place};
 ghost use Rattle.mm_replay.specs.Standing.{life as life_of};
 ghost use Rattle.mm_transcripts.specs.Ages.{no_ages, made_valid, made_invalid, touched, aged, keeping};
 ghost use Rattle.mm_transcripts.specs.Ages.{after_move};
-ghost use Rattle.mm_transcripts.specs.Keeping.{AreEarlier};
+ghost use Rattle.mm_transcripts.specs.Keeping.{AreTouchedBefore};
 ghost use Rattle.mm_transcripts.specs.Lines.{is_ok, is_pending, page_at, address_of, after_access};
 ghost use Rattle.mm_transcripts.specs.Lines.{after_begin, touched_if, after_resume, after_age};
 ghost use Rattle.mm_transcripts.specs.Lines.{after_event, after_read, after_line};
@@ -28,7 +28,7 @@ pub struct Ages {
     counts: [u64; 256],
     /// The page of the access that each thread keeps.
     kept: IndexMap<Tid, Place>,
-    ghost earlier: { AreEarlier (slice_index counts) (get same_place stamps) },
+    ghost earlier: { AreTouchedBefore (slice_index counts) (get same_place stamps) },
 }
 
 fn is_ok(answer: &[u8]) -> bool

@@ -1,7 +1,7 @@
 ghost use Rattle.std.specs.Prelude.{◌≡◌, map, option_map};
 ghost use Rattle.mm_names.specs.{text_among};
 ghost use Rattle.mm_transcripts.specs.Failures.{failure_name};
-ghost use Rattle.mm_transcripts.specs.Named.{row_of};
+ghost use Rattle.mm_transcripts.specs.Named.{failure_row};
 
 /// An answer, and its name.
 #[derive(Clone, Copy)]
@@ -29,7 +29,7 @@ const STATUSES: [Failure; 4] = [
 
 /// The name of an answer that is one of these.
 fn name_among(failures: &'static [Failure], answer: &[u8]) -> Option<&'static [u8]>
-    ensures { option_map (λ n. n.now) result ≡ text_among (map row_of failures.now) answer.now }
+    ensures { option_map (λ n. n.now) result ≡ text_among (map failure_row failures.now) answer.now }
 {
     for failure in failures {
         if answer == failure.0 {

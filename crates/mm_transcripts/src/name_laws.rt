@@ -1,8 +1,7 @@
 ghost use Rattle.std.specs.Prelude.{◌≡◌, Some};
 ghost use Rattle.mm_types.specs.{answer_text, Code, Raise};
 ghost use Rattle.mm_types.specs.declared.answers.Answer.TheVariants as answer;
-ghost use Rattle.mm_transcripts.specs.Failures.{failure_name, code_name, raise_name};
-ghost use Rattle.mm_transcripts.specs.TakenNumbers.{taken_numbers, AreReadAgain};
+ghost use Rattle.mm_transcripts.specs.{failure_name, code_name, raise_name, taken_numbers, AreReadAgain};
 
 /// Each error and each status has its name, in the spelling of answers.
 #[tactic(auto, using(crate::proofs::Named::named))]

@@ -1,7 +1,7 @@
 ghost use Rattle.std.specs.Prelude.{◌≡◌, ◌++◌, ◌∷◌, ℕ, List, OnOk, IfOk, false, map};
 ghost use Rattle.mm_transcripts.specs.Numbers.{names_at, bits_of, lies_in, is_all_access, has_name};
 ghost use Rattle.mm_transcripts.specs.Numbers.{name_behind, union_text, name_text};
-ghost use Rattle.mm_transcripts.specs.Bits.{row_of};
+ghost use Rattle.mm_transcripts.specs.Bits.{bit_row};
 
 use mm_types::NoMemory;
 
@@ -50,7 +50,7 @@ const SECTION_BITS: [NamedBit; 11] = [
 
 /// The bits that have names at a place, in rising order.
 fn bits_at(place: NumberPlace) -> &'static [NamedBit]
-    ensures { map row_of result.now ≡ names_at place }
+    ensures { map bit_row result.now ≡ names_at place }
 {
     match place {
         NumberPlace::Allocation => &[
@@ -131,7 +131,7 @@ fn put_behind(mark: &[u8], after: bool, name: &[u8], text: &mut Vec<u8>) -> Resu
 fn put_bit(after: bool, bit: NamedBit, value: u32, text: &mut Vec<u8>) -> Result<bool, NoMemory>
     ensures { IfOk result (λ b. (rest : List (List ℕ × ℕ)) → text.new.items
         ++ union_text b rest value
-        ≡ text.old.items ++ union_text after (row_of bit ∷ rest) value) }
+        ≡ text.old.items ++ union_text after (bit_row bit ∷ rest) value) }
 {
     if !lies_in(bit.1, value) {
         return Ok(after);
@@ -143,7 +143,7 @@ fn put_bit(after: bool, bit: NamedBit, value: u32, text: &mut Vec<u8>) -> Result
 /// Writes the names of those of some bits that a number has, between them `|`.
 fn put_bits(bits: &[NamedBit], value: u32, text: &mut Vec<u8>) -> Result<(), NoMemory>
     ensures { OnOk result (text.new.items
-        ≡ text.old.items ++ union_text false (map row_of bits.now) value) }
+        ≡ text.old.items ++ union_text false (map bit_row bits.now) value) }
 {
     let mut after = false;
     for bit in bits {

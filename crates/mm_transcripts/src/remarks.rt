@@ -2,11 +2,8 @@ ghost use Rattle.std.specs.Prelude.{◌≡◌, ◌++◌, List, ◌<◌, ◌+◌,
 ghost use Rattle.std.specs.Prelude.{length, option_map, unwrap_or, [], ◌∷◌, Some};
 ghost use Rattle.std.specs.List.{list_any};
 ghost use Rattle.mm_text.specs.{number_of, words_of};
-ghost use Rattle.mm_transcripts.specs.declared.numbers.Number.{Number};
-ghost use Rattle.mm_transcripts.specs.Numbers.{has_name};
-ghost use Rattle.mm_transcripts.specs.Remarks.{listed, bracketed, numbers_of, told_names};
-ghost use Rattle.mm_transcripts.specs.Remarks.{told_remark, named_or, answer_remark, event_remark};
-ghost use Rattle.mm_transcripts.specs.Remarks.{remark_by, remark_text};
+ghost use Rattle.mm_transcripts.specs.{Number, has_name, named_numbers, bracketed, numbers_of, told_names, told_remark, named_or, answer_remark};
+ghost use Rattle.mm_transcripts.specs.{event_remark, remark_by, remark_text};
 
 use crate::failures::failure_name;
 use crate::numbers::{Number, NumberPlace, has_name, put_name};
@@ -38,8 +35,8 @@ fn any_has_name(numbers: &[Number]) -> bool
 /// Answers whether a name stands there now.
 #[tactic(auto, using(crate::proofs::Joins::joins))]
 fn put_listed(after: bool, number: Number, text: &mut Vec<u8>) -> Result<bool, NoMemory>
-    ensures { IfOk result (λ b. (rest : List Number) → text.new.items ++ listed b rest
-        ≡ text.old.items ++ listed after (number ∷ rest)) }
+    ensures { IfOk result (λ b. (rest : List Number) → text.new.items ++ named_numbers b rest
+        ≡ text.old.items ++ named_numbers after (number ∷ rest)) }
 {
     if !has_name(number) {
         return Ok(after);
@@ -53,7 +50,7 @@ fn put_listed(after: bool, number: Number, text: &mut Vec<u8>) -> Result<bool, N
 
 /// Writes the names of those numbers that have one, between them a comma.
 fn put_names(numbers: &[Number], text: &mut Vec<u8>) -> Result<(), NoMemory>
-    ensures { OnOk result (text.new.items ≡ text.old.items ++ listed false numbers.now) }
+    ensures { OnOk result (text.new.items ≡ text.old.items ++ named_numbers false numbers.now) }
 {
     let mut after = false;
     for number in numbers {

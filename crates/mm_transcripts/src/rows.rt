@@ -1,8 +1,6 @@
 ghost use Rattle.std.specs.Prelude.{◌≡◌, ◌-◌, ◌++◌, OnOk, replicate, option_map};
 ghost use Rattle.mm_replay.specs.Standing.{life as life_of};
-ghost use Rattle.mm_transcripts.specs.Reasons.{words_if};
-ghost use Rattle.mm_transcripts.specs.Rows.{trimmed, padded, answered_row, asked_row, said_text};
-ghost use Rattle.mm_transcripts.specs.Rows.{names_text, line_row, class_row};
+ghost use Rattle.mm_transcripts.specs.{words_if, trimmed, padded, answered_row, asked_row, said_text, names_text, line_row, class_sentence_row};
 
 use crate::reasons::{Reason, put_reason};
 use crate::remarks::put_remark;
@@ -138,7 +136,7 @@ pub(crate) fn put_class_row(
     text: &mut Vec<u8>,
 ) -> Result<(), NoMemory>
     ensures { OnOk result (text.new.items ≡ text.old.items
-        ++ class_row addressed class facts.now reason.now (life_of after.now)) }
+        ++ class_sentence_row addressed class facts.now reason.now (life_of after.now)) }
 {
     match class {
         Some(class) => {

@@ -1,8 +1,7 @@
 ghost use Rattle.std.specs.Prelude.{◌≡◌, OnOk, OnErr, None, Some, slice_index};
 ghost use Rattle.indexmap.specs.IndexMap.{get};
 ghost use Rattle.mm_life.specs.{same_place};
-ghost use Rattle.mm_transcripts.specs.Ages.{at_place, at_thread, older_of};
-ghost use Rattle.mm_transcripts.specs.Keeping.{AreEarlier, age_in, one_more, same_thread};
+ghost use Rattle.mm_transcripts.specs.{at_place, at_thread, older_of, AreTouchedBefore, age_in, one_age_more, same_thread};
 
 use indexmap::IndexMap;
 use mm_types::{NoMemory, Pid, Place, Tid};
@@ -68,7 +67,7 @@ pub(crate) fn count_of(counts: &[u64; 256], pid: Pid) -> u64
 /// One more. Memory is refused where they can no longer be counted.
 #[tactic(auto, using(crate::proofs::Kept::counted))]
 pub(crate) fn count_line(counts: &mut [u64; 256], pid: Pid) -> Result<(), NoMemory>
-    ensures ok { OnOk result (slice_index counts.new ≡ one_more pid.0 (slice_index counts.old)) }
+    ensures ok { OnOk result (slice_index counts.new ≡ one_age_more pid.0 (slice_index counts.old)) }
     ensures err { OnErr result (counts.new ≡ counts.old) }
 {
     let count = counts[pid.0 as usize];
@@ -86,8 +85,8 @@ pub(crate) fn touch_page(
     counts: &[u64; 256],
     place: Place,
 ) -> Result<(), NoMemory>
-    ensures earlier { AreEarlier (slice_index counts.now) (get same_place stamps.old)
-        → AreEarlier (slice_index counts.now) (get same_place stamps.new) }
+    ensures earlier { AreTouchedBefore (slice_index counts.now) (get same_place stamps.old)
+        → AreTouchedBefore (slice_index counts.now) (get same_place stamps.new) }
     ensures age { OnOk result (age_in (slice_index counts.now) (get same_place stamps.new)
         ≡ at_place place (Some 0) (age_in (slice_index counts.now) (get same_place stamps.old))) }
 {
@@ -97,8 +96,8 @@ pub(crate) fn touch_page(
 /// A page is valid no more.
 #[tactic(auto, using(crate::proofs::Aged::aged))]
 pub(crate) fn drop_page(stamps: &mut IndexMap<Place, u64>, counts: &[u64; 256], place: Place)
-    ensures earlier { AreEarlier (slice_index counts.now) (get same_place stamps.old)
-        → AreEarlier (slice_index counts.now) (get same_place stamps.new) }
+    ensures earlier { AreTouchedBefore (slice_index counts.now) (get same_place stamps.old)
+        → AreTouchedBefore (slice_index counts.now) (get same_place stamps.new) }
     ensures age { age_in (slice_index counts.now) (get same_place stamps.new)
         ≡ at_place place None (age_in (slice_index counts.now) (get same_place stamps.old)) }
 {
@@ -112,9 +111,9 @@ pub(crate) fn make_older(
     counts: &mut [u64; 256],
     pid: Pid,
 ) -> Result<(), NoMemory>
-    ensures earlier { AreEarlier (slice_index counts.old) (get same_place stamps.now)
-        → AreEarlier (slice_index counts.new) (get same_place stamps.now) }
-    ensures age { AreEarlier (slice_index counts.old) (get same_place stamps.now)
+    ensures earlier { AreTouchedBefore (slice_index counts.old) (get same_place stamps.now)
+        → AreTouchedBefore (slice_index counts.new) (get same_place stamps.now) }
+    ensures age { AreTouchedBefore (slice_index counts.old) (get same_place stamps.now)
         → OnOk result (age_in (slice_index counts.new) (get same_place stamps.now)
         ≡ older_of pid (age_in (slice_index counts.old) (get same_place stamps.now))) }
 {

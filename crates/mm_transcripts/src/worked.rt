@@ -1,7 +1,6 @@
 ghost use Rattle.std.specs.Prelude.{◌≡◌, None, true};
 ghost use Rattle.mm_life.specs.{rewritten_log, smallest_set_log};
-ghost use Rattle.mm_transcripts.specs.Transcripts.{transcript};
-ghost use Rattle.mm_transcripts.specs.Worked.{rewritten_rows, smallest_set_rows};
+ghost use Rattle.mm_transcripts.specs.{transcript, rewritten_rows, smallest_set_rows};
 
 #[tactic(auto, unfolding(mm_types::specs::Spelling::decimal_onto))]
 /// The transcript of a page that is rewritten while its write is in flight.

@@ -8,18 +8,18 @@ use Rattle.mm_types.specs.declared.moves.Move.TheVariants as move
 use Rattle.mm_life.specs.{FrameLife, after_move}
 
 -- the state in which the line ends that began last, if any did
-abbrev pub ended : FrameLife → List FrameLife
-ended l = if l.line == 0 then [] else l ∷ []
+abbrev pub ended_line : FrameLife → List FrameLife
+ended_line l = if l.line == 0 then [] else l ∷ []
 
 -- the line that ends as this move begins the next
 abbrev pub ended_by : FrameLife → Move → List FrameLife
-ended_by l (move.At n k) = ended l
+ended_by l (move.At n k) = ended_line l
 ended_by l _ = []
 
 -- the state at the end of each line that ends among these moves; at the end of a whole log its
 -- last line ends too
 abbrev pub line_ends : Bool → FrameLife → List Move → List FrameLife
-line_ends whole l [] = if whole then ended l else []
+line_ends whole l [] = if whole then ended_line l else []
 line_ends whole l (m ∷ ms) = ended_by l m ++ line_ends whole (after_move l m) ms
 
 -- the line of this number

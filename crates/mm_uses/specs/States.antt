@@ -11,7 +11,7 @@ use Rattle.mm_types.specs.{Text, decimal, Record, Move, Place}
 use Rattle.mm_types.specs.declared.moves.LineKind.TheVariants as kind
 use Rattle.mm_types.specs.declared.moves.Move.TheVariants as move
 use Rattle.mm_life.specs.{ResidentSet, after_move, FrameTable, record_at, FrameLife, counts_of, unstarted, numbered}
-use Rattle.mm_sentences.specs.{row_of, state_by}
+use Rattle.mm_sentences.specs.{frame_row_text, state_by}
 use Rattle.mm_uses.specs.Lines.{is_among, is_line, line_ends, unless_found}
 
 -- ---- the valid pages
@@ -43,7 +43,7 @@ abbrev pub list_row : Text → List ℕ → Text
 list_row name frames = name ++ (flat_map frame_word frames ++ 10 ∷ [])
 
 abbrev pub frame_line : FrameTable → ℕ → Record → Text
-frame_line d f r = numbered (codes "frame ") f (32 ∷ [] ++ (row_of (state_by d f r) r ++ 10 ∷ []))
+frame_line d f r = numbered (codes "frame ") f (32 ∷ [] ++ (frame_row_text (state_by d f r) r ++ 10 ∷ []))
 
 -- so many frames from this number on
 abbrev pub frame_lines : FrameTable → ℕ → ℕ → Text

@@ -39,16 +39,16 @@ is_use l u r = row_of (use_of l r) == row_of u
 -- ---- cells
 
 -- the frames on a list, by their records
-abbrev pub listed : FrameLife → List ℕ → List Record
-listed l frames = map (record_at l.frames) frames
+abbrev pub listed_records : FrameLife → List ℕ → List Record
+listed_records l frames = map (record_at l.frames) frames
 
 abbrev pub records_in : FrameLife → Column → List Record
 records_in l column.Active = filter is_active l.frames.records
-records_in l column.Standby = listed l l.frames.standby
-records_in l column.Modified = listed l l.frames.modified
+records_in l column.Standby = listed_records l l.frames.standby
+records_in l column.Modified = listed_records l l.frames.modified
 records_in l column.Transition = filter is_in_transition l.frames.records
-records_in l column.Zeroed = listed l l.frames.zeroed
-records_in l column.Free = listed l l.frames.free
+records_in l column.Zeroed = listed_records l l.frames.zeroed
+records_in l column.Free = listed_records l l.frames.free
 
 -- how many frames of this use stand so
 abbrev pub cell : FrameLife → Use → Column → ℕ

@@ -5,7 +5,7 @@ ghost use Rattle.mm_replay.specs.Standing.{life as life_of};
 ghost use Rattle.mm_classes.specs.{numbers_of};
 ghost use Rattle.mm_text.specs.{numbers_in};
 ghost use Rattle.mm_uses.specs.Counts.{counts_head, counts_row, counts_rows};
-ghost use Rattle.mm_uses.specs.Lines.{ended, ended_by, is_among, line_ends, said_of, unless_found};
+ghost use Rattle.mm_uses.specs.Lines.{ended_line, ended_by, is_among, line_ends, said_of, unless_found};
 ghost use Rattle.mm_uses.specs.Rest.{head_left, counts_rest, use_rest};
 ghost use Rattle.mm_uses.specs.Uses.{use_rows, use_text};
 ghost use Rattle.mm_sentences.specs.{why_text};
@@ -54,7 +54,7 @@ fn put_counts_row(life: &Life, text: &mut Vec<u8>) -> Result<(), NoMemory>
 /// Writes the row of the line that ends here, if any has begun.
 fn put_ended(life: &Life, text: &mut Vec<u8>) -> Result<(), NoMemory>
     ensures { OnOk result (text.new.items
-        ≡ text.old.items ++ flat_map counts_row (ended (life_of life.now))) }
+        ≡ text.old.items ++ flat_map counts_row (ended_line (life_of life.now))) }
 {
     if life.line() == 0 {
         return Ok(());
@@ -126,7 +126,7 @@ impl Teller for CountsTeller {
 /// Writes the use of frames, if the line that ends here is this one.
 fn put_said(alloc: Global, line: u32, life: &Life, text: &mut Vec<u8>) -> Result<(), NoMemory>
     ensures { OnOk result (text.new.items
-        ≡ text.old.items ++ said_of line use_text (ended (life_of life.now))) }
+        ≡ text.old.items ++ said_of line use_text (ended_line (life_of life.now))) }
 {
     if life.line() == 0 || life.line() != line {
         return Ok(());
@@ -153,7 +153,7 @@ fn put_said_by(
 
 /// Whether the line that ends here is this one.
 fn is_ended(line: u32, life: &Life) -> bool
-    ensures { result ≡ is_among line (ended (life_of life.now)) }
+    ensures { result ≡ is_among line (ended_line (life_of life.now)) }
 {
     life.line() != 0 && life.line() == line
 }
@@ -177,7 +177,7 @@ pub(crate) fn found_by(found: bool, line: u32, life: &Life, m: &Move) -> bool
 
 /// Whether the line has ended, now that the log ends.
 pub(crate) fn found_at(found: bool, line: u32, life: &Life) -> bool
-    ensures { result ≡ (found || is_among line (ended (life_of life.now))) }
+    ensures { result ≡ (found || is_among line (ended_line (life_of life.now))) }
 {
     found || is_ended(line, life)
 }

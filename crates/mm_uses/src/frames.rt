@@ -3,8 +3,7 @@ ghost use Rattle.std.specs.Prelude.{slice_index_or};
 ghost use Rattle.mm_life.specs.{is_on};
 ghost use Rattle.mm_replay.specs.Standing.{life as life_of};
 ghost use Rattle.mm_sentences.specs.{state_by};
-ghost use Rattle.mm_uses.specs.StateRest.{AreMarked};
-ghost use Rattle.mm_uses.specs.States.{frame_line, frame_lines};
+ghost use Rattle.mm_uses.specs.{AreMarked, frame_line, frame_lines};
 
 use mm_classes::{has_request, is_read};
 use mm_replay::Life;

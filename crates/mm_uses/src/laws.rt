@@ -1,5 +1,5 @@
 ghost use Rattle.mm_replay.specs.Standing.{life as life_of};
-ghost use Rattle.mm_uses.specs.Sums.{AddUp};
+ghost use Rattle.mm_uses.specs.{AddUp};
 
 use mm_replay::Life;
 

@@ -1,8 +1,7 @@
 ghost use Rattle.std.specs.Prelude.{◌≡◌, ◌<◌, ◌^◌, ◌++◌, OnOk, sum, flat_map, codes};
 ghost use Rattle.mm_replay.specs.Standing.{life as life_of};
-ghost use Rattle.mm_uses.specs.Listing.{AreListsOf};
-ghost use Rattle.mm_uses.specs.Uses.{name_of, sum_row, use_row, use_head, use_table, totals};
-ghost use Rattle.mm_uses.specs.Uses.{slots_row, requests_row, set_row, set_rows, use_text};
+ghost use Rattle.mm_uses.specs.{AreListsOf, name_of, sum_row, use_row, use_head, use_table, totals, slots_row, requests_row, set_row, set_rows};
+ghost use Rattle.mm_uses.specs.{use_text};
 
 use crate::lists::{FrameLists, frame_lists};
 use crate::uses::{Use, cells};

@@ -2,7 +2,7 @@ ghost use Rattle.std.specs.Prelude.{◌≡◌, ◌≤◌, ◌<◌, ◌^◌, leng
 ghost use Rattle.mm_life.specs.{is_active, is_in_transition};
 ghost use Rattle.mm_replay.specs.Standing.{life as life_of};
 ghost use Rattle.mm_uses.specs.Listing.{AreListsOf, AreFew};
-ghost use Rattle.mm_uses.specs.Uses.{use_by, row_of, is_use, cells, listed};
+ghost use Rattle.mm_uses.specs.Uses.{use_by, row_of, is_use, cells, listed_records};
 
 use crate::lists::FrameLists;
 use mm_classes::has_request;
@@ -126,7 +126,7 @@ fn count_in_transition(life: &Life, usage: Use, records: &[Record]) -> u64
 /// How many of these frames are used so.
 fn count_listed(life: &Life, usage: Use, frames: &[u32]) -> u64
     ensures value { result ≡ count_by (is_use (life_of life.now) usage)
-        (listed (life_of life.now) frames.now) }
+        (listed_records (life_of life.now) frames.now) }
     ensures few { result ≤ length frames.now }
 {
     let mut count = 0;

@@ -4,10 +4,9 @@ use Rattle.std.specs.Prelude.{IsTrue, IsSome, IsSomeAnd, IfSome, is_some, not, n
 use Rattle.std.specs.List.{list_any}
 use Rattle.std.specs.HashMap.{HashMap, get, spare, Updates, UpdatesBy, WritesThrough}
 use Rattle.std.proofs.lemmas.Bool.{ne_eqb, and_parts, not-true}
-use Rattle.std.proofs.lemmas.List.{length-set}
 use Rattle.mm_types.specs.{Range, Vpn, holds_page, meets, is_free, are_user_pages, page_of, first_user_page}
-use Rattle.mm_vad.specs.{GapsOf, LieApart, add_range, remove_range, Region, SpaceOf, IsSpace, HasFlags, HasPages, LieInRegion, LieAmong, pages_of}
-use Rattle.mm_vad.specs.{region_at, add_region, remove_region, change_region, Change, change_by, CanChange, FitsRegion, first_and_count, regions_of}
+use Rattle.mm_vad.specs.{GapsOf, LieApart, add_range, remove_range, Region, SpaceOf, IsSpace, HasFlags, HasPages, LieInRegion, LieAmong, region_range}
+use Rattle.mm_vad.specs.{region_at, add_region, remove_region, change_region, Change, change_by, CanChangeAt, FitsRegion, first_and_count, regions_of}
 use Rattle.mm_vad.specs.{space_of, AllHeld, IsIndex}
 use Rattle.mm_vad.specs.declared.regions.Change.TheVariants as change
 use Rattle.mm_world.specs.{change_range, unwritten}
@@ -33,10 +32,10 @@ not_at base q ne = ne_eqb base q (λ e. ne (sym e))
 
 module _ {S : Type 0} (m : HashMap ℕ Region S) (taken : GapsOf) (now : SpaceOf) (i : IsIndex (get nat_eq m) taken.ranges) (view : space_of (get nat_eq m) taken (spare m) ≡ now) where
   -- a region more
-  pub after_add : (n : HashMap ℕ Region S) (after : List Range) (region : Region) → IsTrue (is_free taken.ranges (pages_of region)) → Updates nat_eq m n region.base.0 (Some region)
-      → length region.rows ≡ region.pages → HasFlags region.pages region → 0 < region.pages → after ≡ add_range (pages_of region) taken.ranges → LieApart first_user_page after → Done (get nat_eq n) after (add_region now.regions region)
+  pub after_add : (n : HashMap ℕ Region S) (after : List Range) (region : Region) → IsTrue (is_free taken.ranges (region_range region)) → Updates nat_eq m n region.base.0 (Some region)
+      → length region.rows ≡ region.pages → HasFlags region.pages region → 0 < region.pages → after ≡ add_range (region_range region) taken.ranges → LieApart first_user_page after → Done (get nat_eq n) after (add_region now.regions region)
   after_add n after region free u whole flags some e apart =
-      let new = pages_of region in
+      let new = region_range region in
       let alone : list_any (meets new) taken.ranges ≡ false = not-true (list_any (meets new) taken.ranges) (and_parts (are_user_pages new) (not (list_any (meets new) taken.ranges)) free).1 in
       let adds : Adds (get nat_eq m) (get nat_eq n) new region = record {
         there = u.1;
@@ -58,17 +57,16 @@ module _ {S : Type 0} (m : HashMap ℕ Region S) (taken : GapsOf) (now : SpaceOf
 -- ---- the changes that there are
 
 -- where one of them can be made, a region holds the page
-pub can_none : (c : Change) (regions : List Region) (page : ℕ) → CanChange c regions page → region_at regions page ≡ None → ⊥
+pub can_none : (c : Change) (regions : List Region) (page : ℕ) → CanChangeAt c regions page → region_at regions page ≡ None → ⊥
 can_none c regions page can none = (let bad : false ≡ true = ap is_some (sym none) ∙ is_there c can in cc)
   where
-    is_there : (c : Change) → CanChange c regions page → IsSome (region_at regions page)
-    is_there (change.SetRow row) h = h
+    is_there : (c : Change) → CanChangeAt c regions page → IsSome (region_at regions page)
     is_there (change.FillRows n row) h = lies_in_one _ _ h
     is_there change.Mark h = h
     is_there (change.ClearMarks n) h = lies_in_one _ _ h
     is_there (change.Unwrite pages) h = lies_in_one _ _ h
 
-fits_region : (c : Change) (regions : List Region) (page : ℕ) (g : Region) → HasPages g page 1 → region_at regions page ≡ Some g → CanChange c regions page → FitsRegion c page g
+fits_region : (c : Change) (regions : List Region) (page : ℕ) (g : Region) → HasPages g page 1 → region_at regions page ≡ Some g → CanChangeAt c regions page → FitsRegion c page g
 fits_region c regions page g has at can = fits c can
   where
     pages : (n : ℕ) → LieInRegion regions page n → HasPages g page n
@@ -79,8 +77,7 @@ fits_region c regions page g has at can = fits c can
       flags = has.flags;
     }
 
-    fits : (c : Change) → CanChange c regions page → FitsRegion c page g
-    fits (change.SetRow row) h = has
+    fits : (c : Change) → CanChangeAt c regions page → FitsRegion c page g
     fits (change.FillRows n row) h = pages n h
     fits change.Mark h = has
     fits (change.ClearMarks n) h = pages n h
@@ -96,7 +93,6 @@ length-unwritten base [] flags = refl
 length-unwritten base (page ∷ pages) flags = length-unwritten base pages (change_range (λ was. false) (page - base) 1 flags) ∙ length-change (λ was. false) (page - base) 1 flags
 
 change_keeps : (c : Change) (page : ℕ) (g : Region) → FitsRegion c page g → Keeps (change_by c page) g
-change_keeps (change.SetRow row) page g has = record { pages = refl; rows = length-set g.rows (page - g.base.0) row; flags = λ n h. h }
 change_keeps (change.FillRows n row) page g has = record {
   pages = refl;
   rows = length-filled g.rows (page - g.base.0) n row (omega (arith, has.within, has.whole));
@@ -127,14 +123,14 @@ module _ {S : Type 0} (m : HashMap ℕ Region S) (taken : GapsOf) (page : ℕ) (
   none_missing e = (let bad : None ≡ Some found.region = e ∙ found.there in cc)
 
   -- the pages that change are the region's
-  pub fits : (region : Region) (c : Change) → Some region ≡ get nat_eq m base.0 → CanChange c now.regions page → FitsRegion c page region
+  pub fits : (region : Region) (c : Change) → Some region ≡ get nat_eq m base.0 → CanChangeAt c now.regions page → FitsRegion c page region
   fits region c e can =
       let both : Some region ≡ Some found.region = e ∙ found.there in
       let same : found.region ≡ region = cc in
       fits_region c now.regions page region (subst (λ (g : Region). HasPages g page 1) same found.has) (found.at ∙ sym both) can
 
   -- one change for all: it leaves the region what the index keeps of it
-  pub after_change : (n : HashMap ℕ Region S) (c : Change) (region written : Region) → Some region ≡ get nat_eq m base.0 → written ≡ change_by c page region → CanChange c now.regions page → WritesThrough nat_eq (nat_eq base.0) m written n → Changed n taken page (change_by c page) now
+  pub after_change : (n : HashMap ℕ Region S) (c : Change) (region written : Region) → Some region ≡ get nat_eq m base.0 → written ≡ change_by c page region → CanChangeAt c now.regions page → WritesThrough nat_eq (nat_eq base.0) m written n → Changed n taken page (change_by c page) now
   unfolding shown_as
   after_change n c region written there is can writes =
       let change = change_by c page in

@@ -1,7 +1,8 @@
 -- The flags of words, as some bits change, and searches among them.
-use Rattle.std.proofs.Common.{◌≡◌, ℕ, zero, suc, ◌+◌, ◌<◌, ◌≤◌, Bool, false, List, [], ◌∷◌, length, get_or, replicate, refl, sym, ap, ◌∙◌, arith}
+use Rattle.std.proofs.Common.{◌≡◌, ℕ, zero, suc, ◌+◌, ◌<◌, ◌≤◌, Bool, false, List, [], ◌∷◌, length, get_or, replicate, Option, Some, None, refl, sym, ap, ◌∙◌, arith}
 use Rattle.std.proofs.lemmas.List.{ext_get_or, length-replicate, get_or-replicate}
 use Rattle.std.proofs.lemmas.List.FromFn.{length-map-range_with_len, get_or-map-range_with_len}
+use Rattle.std.specs.Prelude.{IfNone, IfSome}
 use Rattle.mm_world.specs.{change_range}
 use Rattle.mm_bits.specs.{have_bit, Becomes}
 use Rattle.mm_bits.proofs.{zero_bit}
@@ -76,15 +77,20 @@ flags_become b words words' n first count end to c =
 
 -- ---- what a search in the words finds is found in the flags
 
-pub none_flagged : (words : List ℕ) (n first end : ℕ) → end ≤ n → NoneSet (have_bit words) first end → NoneSet (bit_flag (word_flags words n)) first end
-none_flagged words n first end h none = record {
+none_set : (words : List ℕ) (n first end : ℕ) → end ≤ n → NoneSet (have_bit words) first end → NoneSet (bit_flag (word_flags words n)) first end
+none_set words n first end h none = record {
   inside = λ i low high. get_or-flags words n i (omega arith) ∙ none.inside i low high;
 }
 
-pub next_flagged : (words : List ℕ) (n first end i : ℕ) → end ≤ n → IsNextSet (have_bit words) first end i → IsNextSet (bit_flag (word_flags words n)) first end i
-next_flagged words n first end i h next = record {
+pub none_flagged : (words : List ℕ) (n first end : ℕ) (o : Option ℕ) → end ≤ n → IfNone o (NoneSet (have_bit words) first end) → IfNone o (NoneSet (bit_flag (word_flags words n)) first end)
+none_flagged words n first end None h none = none_set words n first end h none
+none_flagged words n first end (Some i) h none = tt
+
+pub next_flagged : (words : List ℕ) (n first end : ℕ) (o : Option ℕ) → end ≤ n → IfSome o (IsNextSet (have_bit words) first end) → IfSome o (IsNextSet (bit_flag (word_flags words n)) first end)
+next_flagged words n first end None h next = tt
+next_flagged words n first end (Some i) h next = record {
   from = next.from;
   within = next.within;
   is_set = get_or-flags words n i (omega (arith, next.within)) ∙ next.is_set;
-  before = none_flagged words n first i (omega (arith, next.within)) next.before;
+  before = none_set words n first i (omega (arith, next.within)) next.before;
 }

@@ -5,8 +5,8 @@ use Rattle.std.specs.Prelude.{Option, None, Some, Box, IsTrue}
 use Rattle.std.specs.Option.{ForSome}
 use Rattle.std.specs.declared.alloc.Global.{Global}
 use Rattle.mm_types.specs.{Range, end_of, end_of_user_pages}
-use Rattle.mm_vad.specs.{LieApart, is_begun_at, remove_range, room, lowest, end_after, widest, TreeOf, IsShaped, IsBalanced, DifferByAtMost, range_of}
-use Rattle.mm_vad.specs.{range_in, ranges_under, tree_of, tree_at, IsSpan, IsNode, IsTree, Alike, MayLeanLeft, MayLeanRight, Became, Node, TakenRange}
+use Rattle.mm_vad.specs.{LieApart, is_begun_at, remove_range, room, lowest, end_after, widest, TreeOf, IsShaped, IsBalanced, DifferByAtMost}
+use Rattle.mm_vad.specs.{taken_range, range_in, ranges_under, tree_of, tree_at, IsSpan, IsNode, IsTree, Alike, MayLeanAt, Became, Node, TakenRange}
 use Rattle.mm_vad.specs.{Span}
 use Rattle.mm_vad.proofs.Edits.{remove_middle}
 use Rattle.mm_vad.proofs.Widest.{end_after-append, widest-append, widest_parts, lowest_front}
@@ -62,12 +62,12 @@ shaped_fork l u m a b near within = record {
 }
 
 -- a node made of two sides and what is kept of them
-pub node_fork : (l u : TreeOf) (p : TakenRange) (left_gap right_gap : ℕ) (s : Span) → IsShaped l → IsShaped u → DifferByAtMost 1 l.height u.height → end_of (range_of p) ≤ end_of_user_pages
-    → left_gap ≡ widest end_of_user_pages (l.ranges ++ range_of p ∷ []) → right_gap ≡ widest (end_of (range_of p)) u.ranges
-    → s.lowest ≡ lowest (l.ranges ++ range_of p ∷ u.ranges) → s.highest ≡ end_after end_of_user_pages (l.ranges ++ range_of p ∷ u.ranges) → s.gap ≡ max left_gap right_gap → s.height ≡ max l.height u.height + 1
-    → IsNode (record { left = l; pages = p; right = u; left_gap = left_gap; right_gap = right_gap; span = s }) (record { ranges = l.ranges ++ range_of p ∷ u.ranges; height = s.height })
+pub node_fork : (l u : TreeOf) (p : TakenRange) (left_gap right_gap : ℕ) (s : Span) → IsShaped l → IsShaped u → DifferByAtMost 1 l.height u.height → end_of (taken_range p) ≤ end_of_user_pages
+    → left_gap ≡ widest end_of_user_pages (l.ranges ++ taken_range p ∷ []) → right_gap ≡ widest (end_of (taken_range p)) u.ranges
+    → s.lowest ≡ lowest (l.ranges ++ taken_range p ∷ u.ranges) → s.highest ≡ end_after end_of_user_pages (l.ranges ++ taken_range p ∷ u.ranges) → s.gap ≡ max left_gap right_gap → s.height ≡ max l.height u.height + 1
+    → IsNode (record { left = l; pages = p; right = u; left_gap = left_gap; right_gap = right_gap; span = s }) (record { ranges = l.ranges ++ taken_range p ∷ u.ranges; height = s.height })
 node_fork l u p left_gap right_gap s shaped_l shaped_u near within left right low high gap height =
-    let m = range_of p in
+    let m = taken_range p in
     let t : ℕ → TreeOf = λ n. record { ranges = l.ranges ++ m ∷ u.ranges; height = n } in
     record {
       fork = record { ranges = refl; height = height; near = near };
@@ -139,32 +139,36 @@ module _ (n : Node) (t l u : TreeOf) (is : IsNode n t) where
   with_sides = record { left = l; pages = n.pages; right = u; left_gap = n.left_gap; right_gap = n.right_gap; span = n.span }
 
   -- where the right side is as it was, or the left one
-  pub may_lean_left : (d : Node) → d ≡ with_sides → u ≡ n.right → DifferByAtMost 2 l.height u.height → length l.ranges + length u.ranges + 1 < 2 ^ 32 → MayLeanLeft d
+  pub may_lean_left : (d : Node) → d ≡ with_sides → u ≡ n.right → DifferByAtMost 2 l.height u.height → length l.ranges + length u.ranges + 1 < 2 ^ 32 → MayLeanAt true d
   may_lean_left d e same near few =
       let m = range_in n in
-      let made : MayLeanLeft with_sides = record {
+      let made : MayLeanAt true with_sides = record {
         lean = record { near = near; within = is.within; few = few };
-        highest = is.span.highest_is
+        highest = λ _. is.span.highest_is
             ∙ ap (end_after end_of_user_pages) is.fork.ranges
             ∙ end_after-append end_of_user_pages n.left.ranges m n.right.ranges
             ∙ ap (λ (x : TreeOf). end_after (end_of m) x.ranges) (sym same)
             ∙ sym (end_after-append end_of_user_pages l.ranges m u.ranges);
-        right_gap = is.right_gap ∙ ap (λ (x : TreeOf). widest (end_of m) x.ranges) (sym same);
+        right_gap = λ _. is.right_gap ∙ ap (λ (x : TreeOf). widest (end_of m) x.ranges) (sym same);
+        lowest = λ no. cc;
+        left_gap = λ no. cc;
       } in
-      subst MayLeanLeft (sym e) made
+      subst (MayLeanAt true) (sym e) made
 
-  pub may_lean_right : (d : Node) → d ≡ with_sides → l ≡ n.left → DifferByAtMost 2 l.height u.height → length l.ranges + length u.ranges + 1 < 2 ^ 32 → MayLeanRight d
+  pub may_lean_right : (d : Node) → d ≡ with_sides → l ≡ n.left → DifferByAtMost 2 l.height u.height → length l.ranges + length u.ranges + 1 < 2 ^ 32 → MayLeanAt false d
   may_lean_right d e same near few =
       let m = range_in n in
-      let made : MayLeanRight with_sides = record {
+      let made : MayLeanAt false with_sides = record {
         lean = record { near = near; within = is.within; few = few };
-        lowest = is.span.lowest_is
+        highest = λ no. cc;
+        right_gap = λ no. cc;
+        lowest = λ _. is.span.lowest_is
             ∙ ap lowest is.fork.ranges
             ∙ ap (λ (x : TreeOf). lowest (x.ranges ++ m ∷ n.right.ranges)) (sym same)
             ∙ lowest_front l.ranges m n.right.ranges u.ranges;
-        left_gap = is.left_gap ∙ ap (λ (x : TreeOf). widest end_of_user_pages (x.ranges ++ m ∷ [])) (sym same);
+        left_gap = λ _. is.left_gap ∙ ap (λ (x : TreeOf). widest end_of_user_pages (x.ranges ++ m ∷ [])) (sym same);
       } in
-      subst MayLeanRight (sym e) made
+      subst (MayLeanAt false) (sym e) made
 
   module _ (d : Node) (e : d ≡ with_sides) (s : TreeOf) (r : Bool) (shaped : IsShaped s) (balanced : IsBalanced s (ranges_under d) d.left.height d.right.height) (same : r ≡ false → IsSpan d.span s)
       (ranges : List Range) (are : ranges ≡ l.ranges ++ range_in n ∷ u.ranges) where

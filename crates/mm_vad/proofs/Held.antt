@@ -6,37 +6,37 @@ use Rattle.std.proofs.lemmas.Bool.{eqb-true, eqb-false, ltb-true, ltb-false, lt-
 use Rattle.std.proofs.lemmas.List.Elements.{All-nil, All-cons}
 use Rattle.std.proofs.lemmas.List.Sums.{sum_by-cons}
 use Rattle.mm_types.specs.{Range, end_of, meets, holds_page, first_user_page}
-use Rattle.mm_vad.specs.{LieApart, add_range, remove_range, Region, IsSpace, HasFlags, pages_of, ranges_of, region_holds, begins_at, add_region}
-use Rattle.mm_vad.specs.{remove_region, change_region, regions_of, IsHeld, AllHeld, IsIndex}
+use Rattle.mm_vad.specs.{LieApart, add_range, remove_range, Region, IsSpace, HasFlags, region_range, region_ranges, region_holds, begins_at}
+use Rattle.mm_vad.specs.{add_region, remove_region, change_region, regions_of, IsHeld, AllHeld, IsIndex}
 
 -- a range and the region of just its pages
 pub record Pair (found : ℕ → Option Region) (r : Range) : Type 0 where
   pub region : Region
   pub there : found r.first ≡ Some region
-  pub pages : pages_of region ≡ r
+  pub pages : region_range region ≡ r
   pub whole : length region.rows ≡ r.count
   pub flags : HasFlags r.count region
 
 pub pair_of : (found : ℕ → Option Region) (r : Range) → IsHeld found r → Pair found r
 pair_of found r h =
-    elim (found r.first) as (λ o. found r.first ≡ o → IsSomeAnd o (λ region. (pages_of region ≡ r) × (length region.rows ≡ r.count) × HasFlags r.count region) → Pair found r) [
+    elim (found r.first) as (λ o. found r.first ≡ o → IsSomeAnd o (λ region. (region_range region ≡ r) × (length region.rows ≡ r.count) × HasFlags r.count region) → Pair found r) [
       | None ↦ λ e k. absurd k
       | Some region ↦ λ e k. record { region = region; there = e; pages = k.0; whole = k.1; flags = k.2 }
     ] refl h
 
-held_from : (found : ℕ → Option Region) (r : Range) (region : Region) → found r.first ≡ Some region → pages_of region ≡ r → length region.rows ≡ r.count → HasFlags r.count region → IsHeld found r
+held_from : (found : ℕ → Option Region) (r : Range) (region : Region) → found r.first ≡ Some region → region_range region ≡ r → length region.rows ≡ r.count → HasFlags r.count region → IsHeld found r
 held_from found r region e p w flags =
-    subst (λ (o : Option Region). IsSomeAnd o (λ g. (pages_of g ≡ r) × (length g.rows ≡ r.count) × HasFlags r.count g)) (sym e) (p, w, flags)
+    subst (λ (o : Option Region). IsSomeAnd o (λ g. (region_range g ≡ r) × (length g.rows ≡ r.count) × HasFlags r.count g)) (sym e) (p, w, flags)
 
 regions_cons : (found : ℕ → Option Region) (r : Range) (rs : List Range) (region : Region) → found r.first ≡ Some region → regions_of found (r ∷ rs) ≡ region ∷ regions_of found rs
 regions_cons found r rs region e = ap (λ (o : Option Region). cons_option o (regions_of found rs)) e
 
-pub ranges_of-regions_of : (found : ℕ → Option Region) (rs : List Range) → AllHeld found rs → ranges_of (regions_of found rs) ≡ rs
+pub ranges_of-regions_of : (found : ℕ → Option Region) (rs : List Range) → AllHeld found rs → region_ranges (regions_of found rs) ≡ rs
 ranges_of-regions_of found [] h = refl
 ranges_of-regions_of found (r ∷ rs) h =
     let p = pair_of found r h.0 in
-    ap ranges_of (regions_cons found r rs p.region p.there)
-    ∙ ap (λ (x : Range). x ∷ ranges_of (regions_of found rs)) p.pages
+    ap region_ranges (regions_cons found r rs p.region p.there)
+    ∙ ap (λ (x : Range). x ∷ region_ranges (regions_of found rs)) p.pages
     ∙ ap (λ (xs : List Range). r ∷ xs) (ranges_of-regions_of found rs h.1)
 
 all_whole : (found : ℕ → Option Region) (rs : List Range) → AllHeld found rs → All (λ g. length g.rows ≡ g.pages) (regions_of found rs)
@@ -65,12 +65,12 @@ is_space found rs i = record {
 
 -- ---- finding
 
-pub find_held : (found : ℕ → Option Region) (t : Range → Bool) (rs : List Range) → AllHeld found rs → find (λ g. t (pages_of g)) (regions_of found rs) ≡ option_and_then (λ r. found r.first) (find t rs)
+pub find_held : (found : ℕ → Option Region) (t : Range → Bool) (rs : List Range) → AllHeld found rs → find (λ g. t (region_range g)) (regions_of found rs) ≡ option_and_then (λ r. found r.first) (find t rs)
 find_held found t [] h = refl
 find_held found t (r ∷ rs) h =
     let p = pair_of found r h.0 in
-    let rest = find (λ (g : Region). t (pages_of g)) (regions_of found rs) in
-    ap (find (λ (g : Region). t (pages_of g))) (regions_cons found r rs p.region p.there)
+    let rest = find (λ (g : Region). t (region_range g)) (regions_of found rs) in
+    ap (find (λ (g : Region). t (region_range g))) (regions_cons found r rs p.region p.there)
     ∙ ap (λ (x : Range). cond (t x) (Some p.region) rest) p.pages
     ∙ elim (t r) as (λ b. cond b (Some p.region) rest ≡ option_and_then (λ x. found x.first) (cond b (Some r) (find t rs))) [
       | true ↦ sym p.there
@@ -121,7 +121,7 @@ pub record Becomes (other : ℕ → Option Region) (ranges : List Range) (region
 -- a region is found at its base, and elsewhere what was found before
 pub record Adds (found other : ℕ → Option Region) (new : Range) (region : Region) : Type 0 where
   pub there : other new.first ≡ Some region
-  pub pages : pages_of region ≡ new
+  pub pages : region_range region ≡ new
   pub whole : length region.rows ≡ new.count
   pub flags : HasFlags new.count region
   pub some : 0 < new.count
@@ -200,14 +200,6 @@ remove_after base g gs e =
     let next : 1 + place ≡ suc place = omega arith in
     ap (λ (b : Bool). remove (g ∷ gs) (cond (not b) (1 + place) 0)) e ∙ ap (λ (n : ℕ). remove (g ∷ gs) n) next
 
-pub remove_none : (base : ℕ) (gs : List Region) → find (begins_at base) gs ≡ None → remove_region gs base ≡ gs
-remove_none base [] e = refl
-remove_none base (g ∷ gs) e =
-    elim (begins_at base g) as (λ b. begins_at base g ≡ b → cond b (Some g) (find (begins_at base) gs) ≡ None → remove_region (g ∷ gs) base ≡ g ∷ gs) [
-      | true ↦ λ t k. (cc)
-      | false ↦ λ f k. remove_after base g gs f ∙ ap (λ (xs : List Region). g ∷ xs) (remove_none base gs k)
-    ] refl e
-
 pub remove_held : (low base : ℕ) (found other : ℕ → Option Region) (rs : List Range) → LieApart low rs → AllHeld found rs → ((q : ℕ) → q ≢ base → other q ≡ found q) → Becomes other (remove_range base rs) (remove_region (regions_of found rs) base)
 remove_held low base found other [] a h kept = record { shown = refl; held = tt }
 remove_held low base found other (x ∷ xs) a h kept =
@@ -241,7 +233,7 @@ remove_held low base found other (x ∷ xs) a h kept =
 
 -- the change leaves the region its pages, with a row for each and, where it is watched, a flag
 pub record Keeps (change : Region → Region) (g : Region) : Type 0 where
-  pub pages : pages_of (change g) ≡ pages_of g
+  pub pages : region_range (change g) ≡ region_range g
   pub rows : length (change g).rows ≡ length g.rows
   pub flags : (n : ℕ) → HasFlags n g → HasFlags n (change g)
 

@@ -1,5 +1,5 @@
 -- Rows in whole chunks and the rows behind them, as one list.
-use Rattle.std.proofs.Common.{◌≡◌, ◌⊎◌, ℕ, zero, suc, ◌+◌, ◌-◌, ◌*◌, ◌/◌, ◌%◌, ◌<◌, ◌≤◌, List, [], ◌∷◌, ◌++◌, length, get_or, set, take, drop, replicate, Some, Bool, true, false, not, ◌&&◌, eqb, refl, sym, ap, ◌∙◌, subst, inl, inr, arith, append_assoc, length-set, length-append, get_or-set_same, get_or-set_other}
+use Rattle.std.proofs.Common.{◌≡◌, ◌⊎◌, ℕ, zero, suc, ◌+◌, ◌-◌, ◌*◌, ◌/◌, ◌%◌, ◌<◌, ◌≤◌, List, [], ◌∷◌, ◌++◌, length, get_or, set, take, drop, replicate, Some, Bool, true, false, not, ◌&&◌, eqb, refl, sym, ap, ◌∙◌, subst, inl, inr, arith, append_assoc, length-set, length-append}
 use mathlib.Core.Bool.{beq}
 use Rattle.std.specs.List.{All}
 use Rattle.std.specs.Prelude.{slice_get}
@@ -209,13 +209,6 @@ filled_is rows rows' first n row h long before within behind =
 
 pub filled_none : (rows : List Row) (first : ℕ) (row : Row) → first ≤ length rows → rows ≡ filled_rows rows first 0 row
 filled_none rows first row h = filled_is rows rows first 0 row (omega arith) refl (λ k d low. refl) (λ k d low high. absurd (omega arith)) (λ k d high. refl)
-
-pub filled_one : (rows : List Row) (i : ℕ) (row : Row) → i < length rows → set rows i row ≡ filled_rows rows i 1 row
-filled_one rows i row h =
-    filled_is rows (set rows i row) i 1 row (omega arith) (length-set rows i row)
-    (λ k d low. get_or-set_other rows i k row d (omega arith))
-    (λ k d low high. let is : k ≡ i = omega arith in ap (λ (q : ℕ). get_or (set rows i row) q d) is ∙ get_or-set_same rows i row d h)
-    (λ k d high. get_or-set_other rows i k row d (omega arith))
 
 pub filled-more : (rows : List Row) (first a b : ℕ) (row : Row) → first + a + b ≤ length rows → filled_rows (filled_rows rows first a row) (first + a) b row ≡ filled_rows rows first (a + b) row
 filled-more rows first a b row h =

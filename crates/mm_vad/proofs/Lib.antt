@@ -25,9 +25,9 @@ pub mod BitLemmas
 pub mod FlagLemmas
 pub use Changes.{Changed, Done, after_add, after_change, after_none, after_remove, can_none, fits}
 pub use Changes.{none_missing}
-pub use Held.{change_here, change_later, remove_none}
-pub use Lookups.{begun_shown, found_shown, is_with_base_shown, none_shown, none_with_base_shown}
-pub use Lookups.{ranges_shown, row_there, rows_whole, space_shown, with_base_shown}
+pub use Held.{change_here, change_later}
+pub use Lookups.{begun_shown, found_shown, none_shown, ranges_shown, row_there, rows_whole}
+pub use Lookups.{space_shown, with_base_shown}
 pub use Nothing.{nothing_is_free}
 pub use Places.{each_region}
 pub use Runs.{are_alike_itself, first_of_run, prefix_run, run_from_is}
@@ -36,9 +36,9 @@ pub use Chunked.{chunk_filled, chunk_written, chunks_become, chunks_made, each_r
 pub use Chunked.{inside, length-chunks, no_chunks, owned_same, place_read, places_kept, room_left}
 pub use Chunked.{room_seen, rows_made, rows_read, rows_same, rows_seen, stands, written_out}
 pub use Joined.{equal_behind, equal_if_eq, equal_more, equal_part, equal_run, equal_unless_other}
-pub use Joined.{equal_within, filled-more, filled_behind_chunks, filled_none, filled_one}
-pub use Joined.{filled_same, filled_whole, filled_within_chunk, kept_behind, kept_within}
-pub use Joined.{length-filled, length-joined, read_behind, read_within}
+pub use Joined.{equal_within, filled-more, filled_behind_chunks, filled_none, filled_same}
+pub use Joined.{filled_whole, filled_within_chunk, kept_behind, kept_within, length-filled}
+pub use Joined.{length-joined, read_behind, read_within}
 pub use OneRow.{as_one, as_written, equal-rows, filled_equal, joined-equal, length-rows, no-rows}
 pub use OneRow.{room_written, written_as}
 pub use Apart.{apart_back, apart_from_below, apart_front, both_shorter, length-apart}

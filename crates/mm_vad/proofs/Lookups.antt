@@ -7,8 +7,8 @@ use Rattle.std.proofs.lemmas.Bool.{eqb-true, leb-true, ltb-true, and_parts, or_p
 use Rattle.std.proofs.lemmas.List.Elements.{All-head, All-tail}
 use Rattle.std.proofs.lemmas.Option.{some_pair_parts}
 use Rattle.mm_types.specs.{Vpn, Range, end_of, holds_page}
-use Rattle.mm_vad.specs.{page_number, is_begun_at, first_and_count as told_of, Region, HasFlags, HasPages, pages_of, region_holds, region_at}
-use Rattle.mm_vad.specs.{region_with_base, regions_of, IsHeld, AllHeld, IsIndex, GapsOf, SpaceOf, IsSpace, ranges_of, space_of}
+use Rattle.mm_vad.specs.{page_number, is_begun_at, first_and_count as told_of, Region, HasFlags, HasPages, region_range, region_holds, region_at}
+use Rattle.mm_vad.specs.{region_with_base, regions_of, IsHeld, AllHeld, IsIndex, GapsOf, SpaceOf, IsSpace, region_ranges, space_of}
 use Rattle.mm_vad.proofs.Held.{pair_of, find_held, is_space, ranges_of-regions_of}
 
 -- the range that a search told of by its first page
@@ -41,9 +41,9 @@ found_region t (x ∷ xs) g a e =
 pub row_there : (gs : List Region) (page : ℕ) (g : Region) → All (λ r. length r.rows ≡ r.pages) gs → region_at gs page ≡ Some g → (g.base.0 ≤ page) × (page - g.base.0 < length g.rows)
 row_there gs page g a e =
     let f = found_region (region_holds page) gs g a e in
-    let both = and_parts (nat_le g.base.0 page) (nat_lt page (end_of (pages_of g))) f.0 in
+    let both = and_parts (nat_le g.base.0 page) (nat_lt page (end_of (region_range g))) f.0 in
     let low = leb-true g.base.0 page both.0 in
-    let high = ltb-true page (end_of (pages_of g)) both.1 in
+    let high = ltb-true page (end_of (region_range g)) both.1 in
     (low, omega (arith, f.1))
 
 -- the region in which a page lies has a row for each of its pages
@@ -124,34 +124,28 @@ module _ {S : Type 0} (m : HashMap ℕ Region S) (taken : GapsOf) (now : SpaceOf
   pub space_shown : IsSpace now.regions
   space_shown = subst (λ (v : SpaceOf). IsSpace v.regions) view (is_space (get nat_eq m) taken.ranges i)
 
-  pub ranges_shown : taken.ranges ≡ ranges_of now.regions
-  ranges_shown = sym (ranges_of-regions_of (get nat_eq m) taken.ranges i.held) ∙ ap (λ (v : SpaceOf). ranges_of v.regions) view
+  pub ranges_shown : taken.ranges ≡ region_ranges now.regions
+  ranges_shown = sym (ranges_of-regions_of (get nat_eq m) taken.ranges i.held) ∙ ap (λ (v : SpaceOf). region_ranges v.regions) view
 
   -- a search among the regions gives what is found at the range that the same search gives
-  seen : (t : Range → Bool) (o : Option Range) → find t taken.ranges ≡ o → find (λ g. t (pages_of g)) now.regions ≡ option_and_then (λ r. get nat_eq m r.first) o
+  seen : (t : Range → Bool) (o : Option Range) → find t taken.ranges ≡ o → find (λ g. t (region_range g)) now.regions ≡ option_and_then (λ r. get nat_eq m r.first) o
   seen t o e =
-      ap (λ (v : SpaceOf). find (λ g. t (pages_of g)) v.regions) (sym view)
+      ap (λ (v : SpaceOf). find (λ g. t (region_range g)) v.regions) (sym view)
       ∙ find_held (get nat_eq m) t taken.ranges i.held
       ∙ ap (option_and_then (λ (r : Range). get nat_eq m r.first)) e
 
-  pub none_shown : (t : Range → Bool) → None ≡ option_map told_of (find t taken.ranges) → None ≡ find (λ g. t (pages_of g)) now.regions
+  pub none_shown : (t : Range → Bool) → None ≡ option_map told_of (find t taken.ranges) → None ≡ find (λ g. t (region_range g)) now.regions
   none_shown t none = sym (seen t None (told_none _ none))
 
-  pub found_shown : (t : Range → Bool) (base : Vpn) (n : ℕ) → Some (base, n) ≡ option_map told_of (find t taken.ranges) → get nat_eq m base.0 ≡ find (λ g. t (pages_of g)) now.regions
+  pub found_shown : (t : Range → Bool) (base : Vpn) (n : ℕ) → Some (base, n) ≡ option_map told_of (find t taken.ranges) → get nat_eq m base.0 ≡ find (λ g. t (region_range g)) now.regions
   found_shown t base n some =
       let told = told_some _ base n some in
       sym (seen t (Some told.range) told.is ∙ ap (get nat_eq m) told.first)
 
   -- a region has the base where a range begins there
   module _ (base : ℕ) where
-    pub none_with_base_shown : is_begun_at base taken.ranges ≡ false → region_with_base now.regions base ≡ None
+    none_with_base_shown : is_begun_at base taken.ranges ≡ false → region_with_base now.regions base ≡ None
     none_with_base_shown e = seen (λ r. r.first == base) None (none_begins (λ r. r.first == base) taken.ranges e)
-
-    pub is_with_base_shown : is_begun_at base taken.ranges ≡ true → IsSome (region_with_base now.regions base)
-    is_with_base_shown e =
-        let one = one_begins (λ r. r.first == base) taken.ranges e in
-        let p = pair_of (get nat_eq m) one.0 (found_range (get nat_eq m) (λ r. r.first == base) taken.ranges one.0 i.held one.1).1 in
-        subst IsSome (sym (seen (λ r. r.first == base) (Some one.0) one.1 ∙ p.there)) refl
 
     pub begun_shown : IsSome (region_with_base now.regions base) → is_begun_at base taken.ranges ≡ true
     begun_shown some =

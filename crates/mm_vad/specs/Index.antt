@@ -4,7 +4,7 @@ use Rattle.std.specs.List.{cons_option}
 use Rattle.mm_types.specs.{Range, first_user_page}
 use Rattle.mm_vad.specs.Ranges.{GapsOf, LieApart}
 use Rattle.mm_vad.specs.declared.regions.Region.{Region}
-use Rattle.mm_vad.specs.Regions.{SpaceOf, pages_of, HasFlags}
+use Rattle.mm_vad.specs.Regions.{SpaceOf, region_range, HasFlags}
 
 -- the regions that are found at the first pages of the ranges
 abbrev pub regions_of : (ℕ → Option Region) → List Range → List Region
@@ -22,7 +22,7 @@ space_of found taken more = record {
 -- watched, a flag
 abbrev pub IsHeld : (ℕ → Option Region) → Range → Type 0
 IsHeld found r =
-    IsSomeAnd (found r.first) (λ region. (pages_of region ≡ r) × (length region.rows ≡ r.count) ×
+    IsSomeAnd (found r.first) (λ region. (region_range region ≡ r) × (length region.rows ≡ r.count) ×
     HasFlags r.count region)
 
 abbrev pub AllHeld : (ℕ → Option Region) → List Range → Type 0

@@ -1,5 +1,5 @@
 -- What the nodes of a tree are seen as, and what holds of each.
-use Rattle.std.specs.Prelude.{◌≡◌, ℕ, ◌+◌, ◌^◌, ◌<◌, ◌≤◌, List, length, [], ◌∷◌, ◌++◌, Option, Some, None, Box, Bool, false}
+use Rattle.std.specs.Prelude.{◌≡◌, ℕ, ◌+◌, ◌^◌, ◌<◌, ◌≤◌, List, length, [], ◌∷◌, ◌++◌, Option, Some, None, Box, Bool, true, false}
 use Rattle.std.specs.declared.alloc.Global.{Global}
 use Rattle.mm_types.specs.{Range, end_of, end_of_user_pages}
 use Rattle.mm_vad.specs.Room.{lowest, end_after, widest}
@@ -8,11 +8,11 @@ use Rattle.mm_vad.specs.declared.trees.Node.{Node}
 use Rattle.mm_vad.specs.declared.trees.TakenRange.{TakenRange}
 use Rattle.mm_vad.specs.declared.trees.Span.{Span}
 
-abbrev pub range_of : TakenRange → Range
-range_of p = record { first = p.first; count = p.count }
+abbrev pub taken_range : TakenRange → Range
+taken_range p = record { first = p.first; count = p.count }
 
 abbrev pub range_in : Node → Range
-range_in n = range_of n.pages
+range_in n = taken_range n.pages
 
 abbrev pub tree_of : Option (Box Node Global) → TreeOf
 tree_of None = record { ranges = []; height = 0 }
@@ -53,17 +53,15 @@ pub record MayLean (n : Node) : Type 0 where
   pub within : end_of (range_in n) ≤ end_of_user_pages
   pub few : length n.left.ranges + length n.right.ranges + 1 < 2 ^ 32
 
--- the same, where all that it keeps of the range and the right side is right
-pub record MayLeanLeft (n : Node) : Type 0 where
+-- the same, where the left side or the right one changed: all that it keeps of the range and the
+-- other side is right
+pub record MayLeanAt (at_left : Bool) (n : Node) : Type 0 where
   pub lean : MayLean n
-  pub highest : n.span.highest ≡ end_after end_of_user_pages (ranges_under n)
-  pub right_gap : n.right_gap ≡ widest (end_of (range_in n)) n.right.ranges
-
--- and where all that it keeps of the range and the left side is
-pub record MayLeanRight (n : Node) : Type 0 where
-  pub lean : MayLean n
-  pub lowest : n.span.lowest ≡ lowest (ranges_under n)
-  pub left_gap : n.left_gap ≡ widest end_of_user_pages (n.left.ranges ++ range_in n ∷ [])
+  pub highest : at_left ≡ true → n.span.highest ≡ end_after end_of_user_pages (ranges_under n)
+  pub right_gap : at_left ≡ true → n.right_gap ≡ widest (end_of (range_in n)) n.right.ranges
+  pub lowest : at_left ≡ false → n.span.lowest ≡ lowest (ranges_under n)
+  pub left_gap : at_left ≡ false → n.left_gap
+      ≡ widest end_of_user_pages (n.left.ranges ++ range_in n ∷ [])
 
 -- what is kept of one tree is so of the other
 pub record Alike (t u : TreeOf) : Type 0 where

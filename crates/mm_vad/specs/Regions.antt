@@ -1,6 +1,6 @@
 -- The regions of an address space, in rising order of base, as contracts see them.
 -- Profile, "Regions, rows, sections".
-use Rattle.std.specs.Prelude.{◌≡◌, ℕ, ◌+◌, ◌-◌, ◌<◌, ◌≤◌, Bool, nat_le, nat_lt, ◌==◌, if◌then◌else◌, List, [], ◌∷◌, length, map, All, Option, IfSome, IsSomeAnd, option_map, find, insert, remove, count_by, slice_set}
+use Rattle.std.specs.Prelude.{◌≡◌, ℕ, ◌+◌, ◌-◌, ◌<◌, ◌≤◌, Bool, nat_le, nat_lt, ◌==◌, if◌then◌else◌, List, [], ◌∷◌, length, map, All, Option, IfSome, IsSomeAnd, option_map, find, insert, remove, count_by}
 use Rattle.std.specs.List.{position_or_len}
 use Rattle.mm_types.specs.{Range, holds_page, page_of, first_user_page}
 use Rattle.mm_world.specs.{change_range, unwritten}
@@ -14,11 +14,11 @@ pub record SpaceOf : Type 0 where
   pub regions : List Region
   pub spare : ℕ
 
-abbrev pub pages_of : Region → Range
-pages_of r = record { first = r.base.0; count = r.pages }
+abbrev pub region_range : Region → Range
+region_range r = record { first = r.base.0; count = r.pages }
 
-abbrev pub ranges_of : List Region → List Range
-ranges_of regions = map pages_of regions
+abbrev pub region_ranges : List Region → List Range
+region_ranges regions = map region_range regions
 
 -- a flag for each of so many pages, where the region is watched
 abbrev pub HasFlags : ℕ → Region → Type 0
@@ -35,12 +35,12 @@ pub record HasPages (r : Region) (page n : ℕ) : Type 0 where
 -- each region has a page, all are user pages, no page lies in two regions, and the bases rise; a
 -- region has as many rows as pages, and a watched one as many flags
 pub record IsSpace (regions : List Region) : Type 0 where
-  pub apart : LieApart first_user_page (ranges_of regions)
+  pub apart : LieApart first_user_page (region_ranges regions)
   pub whole : All (λ r. length r.rows ≡ r.pages) regions
   pub flags : All (λ r. HasFlags r.pages r) regions
 
 abbrev pub region_holds : ℕ → Region → Bool
-region_holds page r = holds_page (pages_of r) page
+region_holds page r = holds_page (region_range r) page
 
 -- the region in which the page lies
 abbrev pub region_at : List Region → ℕ → Option Region
@@ -64,18 +64,11 @@ add_region regions new = insert regions (count_by (λ r. nat_lt r.base.0 new.bas
 abbrev pub remove_region : List Region → ℕ → List Region
 remove_region regions base = remove regions (position_or_len (begins_at base) regions)
 
-abbrev pub with_row : ℕ → Row → Region → Region
-with_row page row r = record r { rows = slice_set r.rows (page - r.base.0) row }
-
 -- the regions with the one changed in which the page lies
 abbrev pub change_region : (Region → Region) → List Region → ℕ → List Region
 change_region change [] page = []
 change_region change (r ∷ rs) page = let later = change_region change rs page in
     if region_holds page r then change r ∷ rs else r ∷ later
-
--- the regions with the row of one page changed
-abbrev pub set_row : List Region → ℕ → Row → List Region
-set_row regions page row = change_region (with_row page row) regions page
 
 -- the region with the rows of `n` pages from this one on equal to one
 abbrev pub with_equal_rows : ℕ → ℕ → Row → Region → Region

@@ -1,4 +1,4 @@
-ghost use Rattle.std.specs.Prelude.{◌≡◌, ℕ, ◌+◌, ◌*◌, ◌^◌, ◌<◌, ◌≤◌, Bool, true, false, length, replicate, IfOk, IfSome, IfNone};
+ghost use Rattle.std.specs.Prelude.{◌≡◌, ℕ, ◌+◌, ◌*◌, ◌<◌, ◌≤◌, Bool, true, false, length, replicate, IfOk, IfSome, IfNone};
 ghost use Rattle.std.specs.Int.{bit_at};
 ghost use Rattle.mm_world.specs.{change_range};
 ghost use Rattle.mm_bits.specs.{have_bit};
@@ -12,18 +12,18 @@ use std::marker::Model;
 const BITS: usize = 64;
 
 /// The lowest bit that is set from `first` on and below `end`, by looking at one word at a time.
-fn next_set(words: &Vec<u64>, first: usize, end: usize) -> Option<usize>
-    requires within { end ≤ 64 * length words.now.items }
-    requires small { end ≤ 2 ^ 32 }
+fn next_set(words: &Vec<u64>, first: u32, end: u32) -> Option<u32>
+    requires { end ≤ 64 * length words.now.items }
     ensures found { IfSome result (IsNextSet (have_bit words.now.items) first end) }
     ensures none { IfNone result (NoneSet (have_bit words.now.items) first end) }
 {
-    let mut at = first;
+    let end = end as usize;
+    let mut at = first as usize;
     while at < end {
         let rest = words[at / BITS] >> (at % BITS);
         if rest != 0 {
             let next = at + rest.trailing_zeros() as usize;
-            return if next < end { Some(next) } else { None };
+            return if next < end { Some(next as u32) } else { None };
         }
         at = (at / BITS + 1) * BITS;
     }
@@ -60,13 +60,6 @@ impl Bits {
         })
     }
 
-    /// How many bits there are.
-    pub fn len(&self) -> u32
-        ensures { result ≡ length self.now }
-    {
-        self.len
-    }
-
     /// Sets one bit.
     pub fn set(&mut self, i: u32)
         requires { i < length self.old }
@@ -92,9 +85,6 @@ impl Bits {
         ensures found { IfSome result (IsNextSet (bit_flag self.now) first end) }
         ensures none { IfNone result (NoneSet (bit_flag self.now) first end) }
     {
-        match next_set(&self.words, first as usize, end as usize) {
-            Some(i) => Some(i as u32),
-            None => None,
-        }
+        next_set(&self.words, first, end)
     }
 }

@@ -108,17 +108,6 @@ impl Chunks {
         }
     }
 
-    // All rows of chunk `index` become `row`.
-    fn fill_whole(&mut self, index: usize, row: Row)
-        requires { index < length self.old.rows }
-        ensures { self.new ≡ record self.old {
-          rows = slice_set self.old.rows index (replicate 512 row);
-        } }
-    {
-        let place = self.chunks[index].own_place();
-        self.chunks[index] = Chunk::Equal(row, place);
-    }
-
     /// The `n` rows of chunk `index` from row `at` on become `row`.
     pub(crate) fn fill(&mut self, index: usize, at: usize, n: usize, row: Row)
         requires there { index < length self.old.rows }
@@ -129,11 +118,12 @@ impl Chunks {
               (filled_rows (slice_index_or self.old.rows index []) at n row);
         } }
     {
+        let chunk = self.chunks[index];
         if n == CHUNK {
-            self.fill_whole(index, row);
+            self.chunks[index] = Chunk::Equal(row, chunk.own_place());
             return;
         }
-        match self.chunks[index] {
+        match chunk {
             Chunk::Each(place) => fill_in(&mut self.places[place as usize], at, n, row),
             Chunk::Equal(before, place) => {
                 if before != row {

@@ -1,4 +1,4 @@
-ghost use Rattle.std.specs.Prelude.{◌≡◌, ◌+◌, ◌-◌, ◌<◌, ◌≤◌, length, replicate, slice_get, slice_set, Some, IfOk, IsTrue, ◌↔◌, take, drop};
+ghost use Rattle.std.specs.Prelude.{◌≡◌, ◌+◌, ◌-◌, ◌<◌, ◌≤◌, length, replicate, slice_get, Some, IfOk, take, drop};
 
 use crate::written::WrittenRows;
 use mm_types::{NoMemory, Prot};
@@ -79,13 +79,6 @@ impl Rows {
         self.written.room()
     }
 
-    /// Whether there is no row.
-    pub fn is_empty(&self) -> bool
-        ensures { IsTrue result ↔ (length self.now ≡ 0) }
-    {
-        self.len() == 0
-    }
-
     /// Row `i`, counted from 0.
     pub fn get(&self, i: u32) -> Row
         requires { i < length self.now }
@@ -95,14 +88,6 @@ impl Rows {
             Some(row) => row,
             None => self.written.get(i),
         }
-    }
-
-    /// Writes `row` over row `i`.
-    pub fn set(&mut self, i: u32, row: Row)
-        requires { i < length self.old }
-        ensures { self.new ≡ slice_set self.old i row }
-    {
-        self.fill_some(i, 1, row);
     }
 
     /// Row `i`, and how many rows from it on are known to be equal to it: at least one, at most

@@ -37,8 +37,6 @@ fn clear_pages(flags: &mut Bits, base: u32, addresses: &[u32])
 /// What becomes of some pages of a region, from one of them on.
 #[derive(Clone, Copy)]
 pub(crate) enum Change<'a> {
-    /// The page has this row.
-    SetRow(Row),
     /// So many pages have this row.
     FillRows(u32, Row),
     /// The page is written, where the region is watched.
@@ -57,7 +55,6 @@ impl Region {
         ensures { self.new ≡ change_by change.entry v.0 self.old }
     {
         match change {
-            Change::SetRow(row) => self.rows.set(v.0 - self.base.0, row),
             Change::FillRows(n, row) => self.rows.fill(v.0 - self.base.0, n, row),
             Change::Mark => {
                 if let Some(flags) = &mut self.watched {

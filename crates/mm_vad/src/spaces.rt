@@ -33,8 +33,8 @@ impl Model for Space {
 }
 
 impl Space {
-    ghost use Rattle.mm_vad.specs.Regions.{IsSpace, ranges_of, pages_of, region_at, region_from, region_with_base, HasFlags, LieInRegion, LieWithPage, add_region, remove_region, change_region, set_row, fill_rows, set_marks, with_unwritten};
-    ghost use Rattle.mm_vad.specs.Changes.{CanChange, change_by};
+    ghost use Rattle.mm_vad.specs.Regions.{IsSpace, region_ranges, region_range, region_at, region_from, region_with_base, HasFlags, LieInRegion, LieWithPage, add_region, remove_region, change_region, fill_rows, set_marks, with_unwritten};
+    ghost use Rattle.mm_vad.specs.Changes.{CanChangeAt, change_by};
 
     /// No region, and no spare room.
     pub fn new(alloc: Global) -> Space
@@ -67,7 +67,7 @@ impl Space {
     // Changes the region in which page `v` lies.
     #[inline(always)] // each caller knows which change it is
     fn change(&mut self, v: Vpn, change: Change)
-        requires { CanChange change self.old.regions v.0 }
+        requires { CanChangeAt change self.old.regions v.0 }
         ensures after { self.new ≡ record self.old {
           regions = change_region (change_by change.entry v.0) self.old.regions v.0;
         } }
@@ -80,15 +80,6 @@ impl Space {
             unreachable!()
         };
         region.change(v, change);
-    }
-
-    /// Writes the row of page `v`, which lies in a region.
-    pub fn set_row(&mut self, v: Vpn, row: Row)
-        requires { IsSome (region_at self.old.regions v.0) }
-        ensures after { self.new ≡ record self.old { regions = set_row self.old.regions v.0 row } }
-        ensures sound { IsSpace self.new.regions }
-    {
-        self.change(v, Change::SetRow(row));
     }
 
     /// Writes `row` over the rows of the `n` pages from `first` on, which lie in one region.
@@ -142,7 +133,7 @@ impl Space {
     /// there is none.
     pub fn lowest_gap(&self, n: u32) -> Option<Vpn>
         ensures found { result ≡ option_map page_number
-            (lowest_gap (ranges_of self.now.regions) n) }
+            (lowest_gap (region_ranges self.now.regions) n) }
         ensures sound { IsSpace self.now.regions }
     {
         let taken = &self.taken;
@@ -156,7 +147,7 @@ impl Space {
     /// Whether the `n` pages from `first` on are user pages that lie in no region.
     pub fn is_free(&self, first: Vpn, n: u32) -> bool
         requires { 0 < n }
-        ensures { result ≡ is_free (ranges_of self.now.regions) (record {
+        ensures { result ≡ is_free (region_ranges self.now.regions) (record {
           first = first.0;
           count = n;
         }) }
@@ -180,7 +171,7 @@ impl Space {
     /// Adds a region of free user pages.
     pub fn add(&mut self, region: Region)
         requires some { 0 < region.pages }
-        requires free { IsTrue (is_free (ranges_of self.old.regions) (pages_of region)) }
+        requires free { IsTrue (is_free (region_ranges self.old.regions) (region_range region)) }
         requires whole { length region.rows ≡ region.pages }
         requires flags { HasFlags region.pages region }
         requires room { 1 ≤ self.old.spare }
@@ -194,21 +185,7 @@ impl Space {
         };
     }
 
-    /// Takes the region out whose base is `base`. None exactly where none has it, and then nothing
-    /// changed.
-    pub fn remove(&mut self, base: Vpn) -> Option<Region>
-        ensures removed { result ≡ region_with_base self.old.regions base.0 }
-        ensures after { self.new.regions ≡ remove_region self.old.regions base.0 }
-        ensures room { self.old.spare ≤ self.new.spare }
-        ensures sound { IsSpace self.new.regions }
-    {
-        if !self.taken.is_begun_at(base) {
-            return None;
-        }
-        self.take_out(base)
-    }
-
-    /// The same of a region that is there, so that it is not searched for before.
+    /// Takes the region out whose base is `base`, which is there.
     pub fn take_out(&mut self, base: Vpn) -> Option<Region>
         requires { IsSome (region_with_base self.old.regions base.0) }
         ensures removed { result ≡ region_with_base self.old.regions base.0 }

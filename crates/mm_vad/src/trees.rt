@@ -4,7 +4,7 @@ ghost use Rattle.mm_types.specs.{end_of, end_of_user_pages, holds_page};
 ghost use Rattle.mm_vad.specs.Ranges.{LieApart, add_range, remove_range, is_begun_at, first_and_count};
 ghost use Rattle.mm_vad.specs.Room.{aligned, room, first_fit};
 ghost use Rattle.mm_vad.specs.Shape.{IsShaped, IsFork, IsTurned, IsBalanced, DifferByAtMost, VisitsAtMost};
-ghost use Rattle.mm_vad.specs.Nodes.{range_of, range_in, ranges_under, tree_of, tree_at, IsSpan, IsNode, IsTree, MayLean, MayLeanLeft, MayLeanRight, Became};
+ghost use Rattle.mm_vad.specs.Nodes.{taken_range, range_in, ranges_under, tree_of, tree_at, IsSpan, IsNode, IsTree, MayLean, MayLeanAt, Became};
 
 use crate::{Ledger, Steps, Uncounted};
 use mm_types::{END_OF_USER_PAGES, Vpn};
@@ -173,16 +173,6 @@ impl Tree {
         }
     }
 
-    /// The node at the root, with both of its sides.
-    fn opened(self) -> Option<Box<Node>>
-        ensures { MatchOption result (self ≡ record {
-          ranges = [];
-          height = 0;
-        }) (λ n. IsNode n.value self) }
-    {
-        self.root
-    }
-
     /// The range of `node` comes to its place. Answers whether what is kept of the ranges has
     /// changed.
     pub fn insert(&mut self, node: Box<Node>) -> bool
@@ -193,17 +183,17 @@ impl Tree {
             self.old.height (self.old.height + 1) result }
     {
         let Some(top) = &mut self.root else {
-            self.root = fork(Tree::new(), node, Tree::new()).opened();
+            *self = fork(Tree::new(), node, Tree::new());
             return true;
         };
         if node.pages.first < top.pages.first {
             if top.left.insert(node) {
-                return settle_left(top);
+                return settle(top, true);
             }
             return false;
         }
         if top.right.insert(node) {
-            return settle_right(top);
+            return settle(top, false);
         }
         false
     }
@@ -226,13 +216,13 @@ impl Tree {
         if first < top.pages.first {
             let (node, changed) = top.left.remove(first);
             if changed {
-                return (node, settle_left(top));
+                return (node, settle(top, true));
             }
             return (node, false);
         }
         let (node, changed) = top.right.remove(first);
         if changed {
-            return (node, settle_right(top));
+            return (node, settle(top, false));
         }
         (node, false)
     }
@@ -344,7 +334,7 @@ fn fork(left: Tree, mut node: Box<Node>, right: Tree) -> Tree
 #[inline(always)]
 fn node_over(left: Tree, pages: TakenRange, right: Tree) -> Node
     requires near { DifferByAtMost 1 left.height right.height }
-    requires within { end_of (range_of pages) ≤ end_of_user_pages }
+    requires within { end_of (taken_range pages) ≤ end_of_user_pages }
     requires few { length left.ranges + length right.ranges + 1 < 2 ^ 32 }
     ensures node { IsNode result (tree_at result) }
     ensures left { result.left ≡ left }
@@ -370,11 +360,11 @@ fn node_over(left: Tree, pages: TakenRange, right: Tree) -> Node
     }
 }
 
-/// Puts a node right whose left side may have changed and be two levels higher or lower than the
-/// other. Answers whether what it keeps of both has changed.
+/// Puts a node right of which one side, the left one or the right one, may have changed and be two
+/// levels higher or lower than the other. Answers whether what it keeps of both has changed.
 #[inline(always)] // each step of the way down to a range that comes or goes may end here
-fn settle_left(node: &mut Node) -> bool
-    requires { MayLeanLeft node.old }
+fn settle(node: &mut Node, at_left: bool) -> bool
+    requires { MayLeanAt at_left node.old }
     ensures is { IsNode node.new (tree_at node.new) }
     ensures balanced { IsBalanced (tree_at node.new) (ranges_under node.old) node.old.left.height
         node.old.right.height }
@@ -386,43 +376,16 @@ fn settle_left(node: &mut Node) -> bool
         return true;
     }
     let was = node.span;
-    let left_gap = room_up_to(node.pages, below);
-    let span = Span {
-        lowest: lowest_from(below, node.pages),
-        highest: was.highest,
-        gap: left_gap.max(node.right_gap),
-        height: below.height.max(above.height) + 1,
-    };
-    node.left_gap = left_gap;
-    node.span = span;
-    differ(was, span)
-}
-
-/// The same, where its right side may have changed.
-#[inline(always)]
-fn settle_right(node: &mut Node) -> bool
-    requires { MayLeanRight node.old }
-    ensures is { IsNode node.new (tree_at node.new) }
-    ensures balanced { IsBalanced (tree_at node.new) (ranges_under node.old) node.old.left.height
-        node.old.right.height }
-    ensures same { result ≡ false → IsSpan node.old.span (tree_at node.new) }
-{
-    let (below, above) = (node.left.span(), node.right.span());
-    if below.height.abs_diff(above.height) > 1 {
-        level(node);
-        return true;
+    if at_left {
+        node.left_gap = room_up_to(node.pages, below);
+        node.span.lowest = lowest_from(below, node.pages);
+    } else {
+        node.right_gap = room_from(node.pages, above);
+        node.span.highest = highest_from(node.pages, above);
     }
-    let was = node.span;
-    let right_gap = room_from(node.pages, above);
-    let span = Span {
-        lowest: was.lowest,
-        highest: highest_from(node.pages, above),
-        gap: node.left_gap.max(right_gap),
-        height: below.height.max(above.height) + 1,
-    };
-    node.right_gap = right_gap;
-    node.span = span;
-    differ(was, span)
+    node.span.gap = node.left_gap.max(node.right_gap);
+    node.span.height = below.height.max(above.height) + 1;
+    differ(was, node.span)
 }
 
 /// Puts a node right of whose sides one is two levels higher.
@@ -478,7 +441,7 @@ fn take_top(root: &mut Option<Box<Node>>) -> Box<Node>
     };
     let left = mem::replace(&mut top.left, Tree::new());
     let right = mem::replace(&mut top.right, Tree::new());
-    *root = join(left, right).opened();
+    *root = join(left, right).root;
     top
 }
 
@@ -492,8 +455,8 @@ fn room_up_to(pages: TakenRange, below: Span) -> u32
 
 /// The most room from a range on between the ranges above it, of which this is kept.
 fn room_from(pages: TakenRange, above: Span) -> u32
-    requires { end_of (range_of pages) ≤ end_of_user_pages }
-    ensures { result ≡ max (room (end_of (range_of pages)) above.lowest) above.gap }
+    requires { end_of (taken_range pages) ≤ end_of_user_pages }
+    ensures { result ≡ max (room (end_of (taken_range pages)) above.lowest) above.gap }
 {
     room_between(pages.end(), above.lowest).max(above.gap)
 }
@@ -511,8 +474,8 @@ fn lowest_from(below: Span, pages: TakenRange) -> u32
 
 /// The end of a range and of the ranges above it, of which this is kept.
 fn highest_from(pages: TakenRange, above: Span) -> u32
-    requires { end_of (range_of pages) ≤ end_of_user_pages }
-    ensures { result ≡ if above.height == 0 then end_of (range_of pages) else above.highest }
+    requires { end_of (taken_range pages) ≤ end_of_user_pages }
+    ensures { result ≡ if above.height == 0 then end_of (taken_range pages) else above.highest }
 {
     if above.height == 0 {
         pages.end()
@@ -538,9 +501,9 @@ fn balance(left: Tree, mut node: Box<Node>, right: Tree) -> Tree
 /// as high, and a range between these.
 fn turn(left: Tree, pages: TakenRange, right: Tree) -> (Tree, TakenRange, Tree)
     requires near { DifferByAtMost 2 left.height right.height }
-    requires within { end_of (range_of pages) ≤ end_of_user_pages }
+    requires within { end_of (taken_range pages) ≤ end_of_user_pages }
     requires few { length left.ranges + length right.ranges + 1 < 2 ^ 32 }
-    ensures { IsTurned left (range_of pages) right result.0 (range_of result.1) result.2 }
+    ensures { IsTurned left (taken_range pages) right result.0 (taken_range result.1) result.2 }
 {
     let (l, r) = (left.span().height, right.span().height);
     if l > r + 1 {
@@ -557,9 +520,9 @@ fn turn(left: Tree, pages: TakenRange, right: Tree) -> (Tree, TakenRange, Tree)
 #[inline(never)]
 fn turn_right(left: Tree, pages: TakenRange, right: Tree) -> (Tree, TakenRange, Tree)
     requires two_higher { left.height ≡ right.height + 2 }
-    requires within { end_of (range_of pages) ≤ end_of_user_pages }
+    requires within { end_of (taken_range pages) ≤ end_of_user_pages }
     requires few { length left.ranges + length right.ranges + 1 < 2 ^ 32 }
-    ensures { IsTurned left (range_of pages) right result.0 (range_of result.1) result.2 }
+    ensures { IsTurned left (taken_range pages) right result.0 (taken_range result.1) result.2 }
 {
     let Some((outer, mut top, inner)) = left.apart() else {
         unreachable!()
@@ -580,9 +543,9 @@ fn turn_right(left: Tree, pages: TakenRange, right: Tree) -> (Tree, TakenRange, 
 #[inline(never)]
 fn turn_left(left: Tree, pages: TakenRange, right: Tree) -> (Tree, TakenRange, Tree)
     requires two_higher { right.height ≡ left.height + 2 }
-    requires within { end_of (range_of pages) ≤ end_of_user_pages }
+    requires within { end_of (taken_range pages) ≤ end_of_user_pages }
     requires few { length left.ranges + length right.ranges + 1 < 2 ^ 32 }
-    ensures { IsTurned left (range_of pages) right result.0 (range_of result.1) result.2 }
+    ensures { IsTurned left (taken_range pages) right result.0 (taken_range result.1) result.2 }
 {
     let Some((inner, mut top, outer)) = right.apart() else {
         unreachable!()

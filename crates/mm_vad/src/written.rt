@@ -118,16 +118,9 @@ impl WrittenRows {
             result }
         ensures room { self.new.room ≡ self.old.room }
     {
-        self.renew(before);
-        self.fill_some(first, n, row)
-    }
-
-    // As many rows equal to `row` as there is room for.
-    fn renew(&mut self, row: Row)
-        ensures { self.new ≡ record self.old { rows = replicate self.old.room row } }
-    {
         let (whole, behind) = (self.room as usize / CHUNK, self.room as usize % CHUNK);
-        self.chunks.renew(whole, row);
-        refill(&mut self.rest, behind, row);
+        self.chunks.renew(whole, before);
+        refill(&mut self.rest, behind, before);
+        self.fill_some(first, n, row)
     }
 }

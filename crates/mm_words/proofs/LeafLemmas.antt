@@ -3,11 +3,10 @@ use Rattle.std.proofs.Common.{◌≡◌, ◌≢◌, ◌⊎◌, ℕ, ◌+◌, ◌
 use Rattle.std.proofs.Common.{Some, None, refl, sym, ap, ◌∙◌, subst, inl, inr, arith, cond, get_or-set_same, get_or-set_other, zero, suc}
 use Rattle.std.proofs.lemmas.Bool.{cases_lt, cases_eq}
 use Rattle.std.proofs.lemmas.List.{get_or_past, get_or_append_left, get_or-append_right, get_or-replicate, length-replicate, ext_get_or}
-use Rattle.std.proofs.lemmas.List.{get_or_default}
+use Rattle.std.proofs.lemmas.List.{get_or_default, length-append, length-take-le, length-drop, get_or-take, get_or-drop, take_at}
 use Rattle.std.proofs.lemmas.List.FromFn.{length-map-range_with_len, get_or-map-range_with_len}
 use Rattle.std.proofs.Math.ListN.{length-set, take, drop}
-use Rattle.std.proofs.Math.Seq.{take-append_seam}
-use Rattle.std.specs.Prelude.{IsSome, is_some, replicate, slice_index, ◌==◌, slice_get, if◌then◌else◌, ◌-◌}
+use Rattle.std.specs.Prelude.{IsSome, is_some, replicate, slice_index, ◌==◌, slice_get, if◌then◌else◌, ◌-◌, min}
 use Rattle.std.specs.Int.{bit_at}
 use Rattle.std.proofs.lemmas.Nat.Bits.{bit_at_ones, bit_at-zero}
 use Rattle.mm_bits.specs.{have_bit, Becomes, SameWordsFrom}
@@ -204,9 +203,64 @@ all_put on bits old new e done rest = record {
   above = λ i l. ap (λ (n : ℕ). bit_at n (i % 64) == 1) (rest (i / 64) (omega arith));
 }
 
--- a vector shows what its slice was left with
-pub whole_again : (n : ℕ) (new old : List ℕ) → n ≡ length new → take n (new ++ drop (length new) old) ≡ new
-whole_again n new old e = ap (λ (k : ℕ). take k (new ++ drop (length new) old)) e ∙ take-append_seam new (drop (length new) old)
+-- a vector shows what its slice was left with, k numbers filled from the first on
+abbrev pub filled : List ℕ → ℕ → ℕ → ℕ → List ℕ
+filled xs first k v = take first xs ++ (replicate k v ++ drop k (drop first xs))
+
+pub filled_slice : (n first k v : ℕ) (xs old new : List ℕ) → length xs ≡ n → old ≡ xs → first + k ≤ length xs → new ≡ replicate (length (take k (drop first old))) v
+    → (let ws = take first old ++ (new ++ drop k (drop first old)) in take n (ws ++ drop (length ws) xs)) ≡ filled xs first k v
+filled_slice n first k v xs old new e is inside all =
+    let ws = take first old ++ (new ++ drop k (drop first old)) in
+    let many : length (take k (drop first old)) ≡ k = length-take-le k (drop first old) (omega (arith, length-drop first old, ap length is, inside)) in
+    let long : length ws ≡ length old =
+    length-append (take first old) (new ++ drop k (drop first old)) ∙ ap (λ m. length (take first old) + m) (length-append new (drop k (drop first old)))
+    ∙ omega (arith, length-take-le first old (omega (arith, ap length is, inside)), ap length all, length-replicate (length (take k (drop first old))) v, many, length-drop first old, length-drop k (drop first old), ap length is, inside) in
+    let whole : n ≡ length ws = sym e ∙ ap length (sym is) ∙ sym long in
+    take_at ws (drop (length ws) xs) n (sym whole)
+    ∙ ap (λ (ns : List ℕ). take first old ++ (ns ++ drop k (drop first old))) (all ∙ ap (λ (m : ℕ). replicate m v) many)
+    ∙ ap (λ (ns : List ℕ). filled ns first k v) is
+
+module _ (xs : List ℕ) (first k v i : ℕ) (inside : first + k ≤ length xs) where
+  first_long : length (take first xs) ≡ first
+  first_long = length-take-le first xs (omega (arith, inside))
+
+  pub filled_below : i < first → get_or (filled xs first k v) i 0 ≡ get_or xs i 0
+  filled_below low = get_or_append_left (take first xs) (replicate k v ++ drop k (drop first xs)) 0 i (omega (arith, first_long, low)) ∙ get_or-take first xs i 0 low
+
+  filled_on : first ≤ i → get_or (filled xs first k v) i 0 ≡ get_or (replicate k v ++ drop k (drop first xs)) (i - first) 0
+  filled_on low = get_or-append_right (take first xs) (replicate k v ++ drop k (drop first xs)) first i 0 first_long low
+
+  pub filled_within : first ≤ i → i < first + k → get_or (filled xs first k v) i 0 ≡ v
+  filled_within low high =
+      filled_on low
+      ∙ get_or_append_left (replicate k v) (drop k (drop first xs)) 0 (i - first) (omega (arith, length-replicate k v, low, high))
+      ∙ get_or-replicate k (i - first) v 0 (omega (arith, low, high))
+
+  pub filled_above : first + k ≤ i → get_or (filled xs first k v) i 0 ≡ get_or xs i 0
+  filled_above high =
+      filled_on (omega (arith, high))
+      ∙ get_or-append_right (replicate k v) (drop k (drop first xs)) k (i - first) 0 (length-replicate k v) (omega (arith, high))
+      ∙ get_or-drop k (drop first xs) (i - first - k) 0
+      ∙ get_or-drop first xs (k + (i - first - k)) 0
+      ∙ ap (λ (q : ℕ). get_or xs q 0) (omega (arith, high))
+
+-- the numbers between two places that are there are 0
+pub cleared_numbers : (xs ys : List ℕ) (first end from to : ℕ) → end ≡ min to (length xs) → first ≡ min from end → ys ≡ filled xs first (end - first) 0 → Changed (number_when false) (slice_index xs) (slice_index ys) from to
+cleared_numbers xs ys first end from to at_end at_first is =
+    let inside : first + (end - first) ≤ length xs = omega (arith, at_end, at_first) in
+    let was : (i : ℕ) → get_or ys i 0 ≡ get_or (filled xs first (end - first) 0) i 0 = λ i. ap (λ (ns : List ℕ). get_or ns i 0) is in
+    let behind : (i : ℕ) → end ≤ i → get_or ys i 0 ≡ get_or xs i 0 = λ i l. was i ∙ filled_above xs first (end - first) 0 i inside (omega (arith, at_first, l)) in
+    record {
+      within = λ i l u. elim (cases_lt i end) [
+        | inl near ↦ was i ∙ filled_within xs first (end - first) 0 i inside (omega (arith, at_first, l)) (omega (arith, at_first, near))
+        | inr far ↦ behind i far ∙ get_or_past xs i 0 (omega (arith, at_end, far, u))
+      ];
+      below = λ i u. elim (cases_lt i first) [
+        | inl near ↦ was i ∙ filled_below xs first (end - first) 0 i inside near
+        | inr far ↦ behind i (omega (arith, at_first, far, u))
+      ];
+      above = λ i l. behind i (omega (arith, at_end, l));
+    }
 
 -- the word of a page after its bit, and of one whose bit is no longer set
 stored_when : (on b : Bool) (x y : ℕ) → y ≡ number_when on x → (b ≡ false → x ≡ 0) → cond on (Some y) None ≡ word_when on (cond b (Some x) None)

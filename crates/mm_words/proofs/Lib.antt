@@ -16,9 +16,10 @@ pub use TableChanges.{pushed_aside, pushed_words, rebound_words, same_bound, sam
 pub use TableChanges.{set_at_index, sets_move, sets_stay, still_words}
 pub use SetLaws.{aged, begun, bound_open, young}
 pub use AreaLemmas.{at_index, open_of_word, table_none, table_push, word_within, words_are}
-pub use LeafLemmas.{all_places, all_put, bit_there, get-words_of, most_places, place_of_some}
-pub use LeafLemmas.{placed, placed_leaf, placed_low, placed_map, places_shown, put_leaf, put_places}
-pub use LeafLemmas.{release_map, reserve_map, reserved_end, set_leaf, shown_none, shown_set}
-pub use LeafLemmas.{shown_zero, some_numbers, whole_again, worded, words_of-none}
+pub use LeafLemmas.{all_places, all_put, bit_there, cleared_numbers, filled, filled_above}
+pub use LeafLemmas.{filled_below, filled_slice, filled_within, get-words_of, most_places}
+pub use LeafLemmas.{place_of_some, placed, placed_leaf, placed_low, placed_map, places_shown}
+pub use LeafLemmas.{put_leaf, put_places, release_map, reserve_map, reserved_end, set_leaf}
+pub use LeafLemmas.{shown_none, shown_set, shown_zero, some_numbers, worded, words_of-none}
 pub use LeafLemmas.{words_of-with_word}
 pub use EntryLemmas.{bare_plain}

@@ -1,5 +1,5 @@
 -- What the words show after one of the processes changed, or one of the areas.
-use Rattle.std.proofs.Common.{◌≡◌, ◌≢◌, ℕ, zero, suc, ◌+◌, ◌<◌, Bool, true, false, cond, List, [], ◌∷◌, length, map, set, Option, Some, None, refl}
+use Rattle.std.proofs.Common.{◌≡◌, ◌≢◌, ℕ, zero, suc, ◌+◌, ◌<◌, Bool, true, false, cond, List, [], ◌∷◌, length, map, Option, Some, None, refl}
 use Rattle.std.proofs.Common.{sym, ap, ◌∙◌, inl, inr, arith, replicate}
 use Rattle.std.specs.Prelude.{◌==◌, ◌&&◌, is_some, if◌then◌else◌, slice_get, slice_set, slice_index_or, ◌++◌, option_map, Result, Ok, Err, OnOk}
 use Rattle.std.specs.Prelude.{OnErr, nat_lt, IsSome, unwrap_or}

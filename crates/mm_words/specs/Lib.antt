@@ -17,7 +17,7 @@ pub use Processes.{IsKeptProcess, place_in_set, set_place}
 pub use Changes.{EntryBecomes, KeepsPages, ProcessBegins, Rebinds, age_of, at_of, bound_of}
 pub use Changes.{resident_by_numbers, resident_of, resident_set}
 pub use Tables.{AsideBound, age_of_place, at_in, bound_in, is_open_in, process_in, read_or}
-pub use Shown.{bare_aside, no_ages, no_words, proto_in, shown_words, size_in}
+pub use Shown.{bare_aside, no_ages, no_words, proto_in, shown_words, size_in, words}
 pub use Oldest.{GoesBehind, IsOldestOf, NoneBehind, ages_in}
 pub use Prototypes.{AreaWords, area_words, proto_word, words_in}
 pub use Pages.{AreReserved, Releases, Reserves, pages, reserved_word}

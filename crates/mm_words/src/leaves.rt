@@ -1,4 +1,4 @@
-ghost use Rattle.std.specs.Prelude.{◌≡◌, ◌+◌, ◌-◌, ◌<◌, ◌≤◌, ◌++◌, ◌↔◌, ℕ, List, [], length, IsTrue, false, Option, Some, None, IfOk, IsSome, replicate, slice_index, slice_set, vec_len, vec_capacity};
+ghost use Rattle.std.specs.Prelude.{◌≡◌, ◌+◌, ◌-◌, ◌<◌, ◌≤◌, ◌++◌, ◌↔◌, ℕ, List, [], length, IsTrue, Option, Some, None, IfOk, IsSome, replicate, slice_index, slice_set, vec_len, vec_capacity};
 ghost use Rattle.mm_bits.specs.{have_bit, Becomes, SameWordsFrom};
 ghost use Rattle.mm_words.specs.LeafWords.{leaf_pages, bit_numbers, leaf_numbers, leaf_word, Changed, word_when, number_when};
 
@@ -70,20 +70,6 @@ fn reach(numbers: &mut Vec<u64>, i: usize)
     }
 }
 
-/// The bits of all pages stand like this from now on, in a slice, so that no address is read again
-/// for each number.
-fn fill_bits(numbers: &mut [u64], bits: u64)
-    requires { bit_numbers ≤ length numbers.old }
-    ensures done { (k : ℕ) → k < bit_numbers → slice_index numbers.new k ≡ bits }
-    ensures rest { (k : ℕ) → bit_numbers ≤ k →
-        slice_index numbers.new k ≡ slice_index numbers.old k }
-    ensures kept { length numbers.new ≡ length numbers.old }
-{
-    for i in 0..BIT_NUMBERS {
-        numbers[i] = bits;
-    }
-}
-
 /// The bits of all pages are like this from now on.
 fn put_all(numbers: &mut Vec<u64>, on: bool)
     requires { bit_numbers ≤ length numbers.old.items }
@@ -94,7 +80,7 @@ fn put_all(numbers: &mut Vec<u64>, on: bool)
     ensures capacity { vec_capacity numbers.new ≡ vec_capacity numbers.old }
 {
     let bits = if on { u64::MAX } else { 0 };
-    fill_bits(numbers.as_mut_slice(), bits);
+    numbers[0..BIT_NUMBERS].fill(bits);
 }
 
 /// The bits of the pages from index `from` up to `to` are like this from now on.
@@ -114,21 +100,8 @@ fn mark(numbers: &mut Vec<u64>, from: usize, to: usize, on: bool)
     }
 }
 
-/// Those of the numbers from `from` up to `to` that are there are 0 from now on.
-fn clear_numbers(numbers: &mut Vec<u64>, from: usize, to: usize)
-    requires { from ≤ to }
-    ensures cleared { Changed (number_when false) (slice_index numbers.old.items)
-        (slice_index numbers.new.items) from to }
-    ensures kept { length numbers.new.items ≡ length numbers.old.items }
-    ensures capacity { vec_capacity numbers.new ≡ vec_capacity numbers.old }
-{
-    let end = to.min(numbers.len());
-    for i in from..end {
-        numbers[i] = 0;
-    }
-}
-
-/// The same unless the pages are reserved.
+/// Unless the pages are reserved, those of the numbers from `from` up to `to` that are there are 0
+/// from now on.
 fn settle_numbers(numbers: &mut Vec<u64>, from: usize, to: usize, on: bool)
     requires { from ≤ to }
     ensures settled { Changed (number_when on) (slice_index numbers.old.items)
@@ -137,7 +110,8 @@ fn settle_numbers(numbers: &mut Vec<u64>, from: usize, to: usize, on: bool)
     ensures capacity { vec_capacity numbers.new ≡ vec_capacity numbers.old }
 {
     if !on {
-        clear_numbers(numbers, from, to);
+        let end = to.min(numbers.len());
+        numbers[from.min(end)..end].fill(0);
     }
 }
 
@@ -186,8 +160,8 @@ impl Leaf {
         self.numbers[BIT_NUMBERS + at] = word;
     }
 
-    /// Reserves the pages from index `from` up to `to`, of which those that were not reserved have a
-    /// word of 0; or takes their words away. The leaf keeps its room.
+    /// Reserves the pages from index `from` up to `to`, of which those that were not reserved have
+    /// a word of 0; or takes their words away. The leaf keeps its room.
     pub fn put(&mut self, from: usize, to: usize, on: bool)
         requires some { from < to }
         requires within { to ≤ length self.old }

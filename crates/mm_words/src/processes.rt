@@ -14,7 +14,6 @@ ghost use Rattle.mm_words.specs.Processes.{IsKeptProcess};
 
 use crate::layout::entry_of;
 use crate::{Entry, Table, encode};
-use mm_life::ResidentSet;
 use mm_types::{Frame, NoMemory, Vpn};
 use mm_wset::WorkingSet;
 use std::alloc::Global;
@@ -102,17 +101,6 @@ impl Process {
         }
     }
 
-    /// The sizes of the working set, and how many pages are valid.
-    pub fn resident(&self) -> ResidentSet
-        ensures { result ≡ resident_of self.now }
-    {
-        ResidentSet {
-            min: self.set.min(),
-            max: self.set.max(),
-            resident: self.set.len(),
-        }
-    }
-
     /// A closed process without a page, with these sizes of its working set. It takes no memory.
     pub fn begin(alloc: Global, min: u32, max: u32) -> Process
         ensures { ProcessBegins result min max }
@@ -182,7 +170,6 @@ impl Process {
     {
         self.set.age_all();
     }
-
     /// The page that goes first, or the one that goes next after a valid page.
     pub fn oldest(&self, after: Option<Vpn>) -> Option<Vpn>
         requires { ForSome after (λ v. is_some (age_of self.now v.0) ≡ true) }

@@ -2,7 +2,7 @@ ghost use Rattle.std.specs.Prelude.{◌≡◌, ◌≤◌, ◌<◌, ◌+◌, ◌^
 ghost use Rattle.mm_life.specs.{ResidentSet, changed, same_place, set_in, is_below_max};
 ghost use Rattle.mm_types.specs.declared.numbers.Key.TheVariants.{Private, Shared};
 ghost use Rattle.mm_words.specs.Layout.{IsEntry};
-ghost use Rattle.mm_words.specs.Words.{key_entry, has_word, own_word, with_own, is_valid_entry, is_there, is_aside, bare, keeps_places, with_entry, with_aside, without_aside, made_valid, made_invalid, changed_at, changed_in, place_from};
+ghost use Rattle.mm_words.specs.Words.{key_entry, has_word, own_word, with_own, is_valid_entry, is_there, is_aside, bare, keeps_places, with_entry, with_aside, without_aside, made_valid, made_invalid, changed_in, place_from};
 ghost use Rattle.mm_words.specs.declared.layout.Entry.TheVariants as entry;
 ghost use Rattle.mm_types.specs.{Key, Place, first_user_page, end_of_user_pages};
 ghost use Rattle.mm_wset.specs.{older, IsNextFrom};
@@ -186,14 +186,6 @@ impl Words {
         self.processes[at].entry(place.vpn)
     }
 
-    /// The entry at an index of an open area, within its words.
-    pub fn proto(&self, a: Area, i: u32) -> Entry
-        requires { has_word (words self.now) (Shared a i) ≡ true }
-        ensures { bare result ≡ (words self.now).proto a.0 i }
-    {
-        entry_of(self.protos.get(a, i))
-    }
-
     /// The entry of a private key, by its place.
     fn own(&self, place: Place) -> Entry
         requires { (words self.now).bound place ≡ true }
@@ -214,7 +206,7 @@ impl Words {
     {
         match key {
             Key::Private(pid, vpn) => self.own(Place { pid, vpn }),
-            Key::Shared(a, i) => self.proto(a, i),
+            Key::Shared(a, i) => entry_of(self.protos.get(a, i)),
         }
     }
 
@@ -256,22 +248,6 @@ impl Words {
         }
     }
 
-    /// The entry of a bound place that is not valid becomes another that is not.
-    #[inline(always)]
-    fn set_at(&mut self, place: Place, e: Entry)
-        requires bound { (words self.old).bound place ≡ true }
-        requires invalid { is_valid_entry ((words self.old).at place) ≡ false }
-        requires other { is_valid_entry e ≡ false }
-        requires fits { IsEntry e }
-        ensures words { words self.new ≡ record (words self.old) {
-          at = changed same_place (words self.old).at place e;
-        } }
-        ensures ages { place_ages self.new ≡ place_ages self.old }
-    {
-        let at = index_of(&self.processes, place.pid);
-        self.processes[at].set_entry(place.vpn, e);
-    }
-
     /// The entry of a private key becomes another; neither is valid.
     #[inline(always)]
     fn set_own(&mut self, place: Place, e: Entry)
@@ -285,23 +261,10 @@ impl Words {
     {
         if self.is_beside(place) {
             self.aside = Some(Aside { place, entry: e });
-        } else {
-            self.set_at(place, e);
+            return;
         }
-    }
-
-    /// The entry at an index of an open area, within its words, becomes another.
-    #[inline(always)]
-    fn set_proto(&mut self, a: Area, i: u32, e: Entry)
-        requires has { has_word (words self.old) (Shared a i) ≡ true }
-        requires plain { bare e ≡ e }
-        requires fits { IsEntry e }
-        ensures words { words self.new ≡ record (words self.old) {
-          proto = changed_at (words self.old).proto a.0 i e;
-        } }
-        ensures ages { place_ages self.new ≡ place_ages self.old }
-    {
-        self.protos.set(a, i, encode(e));
+        let at = index_of(&self.processes, place.pid);
+        self.processes[at].set_entry(place.vpn, e);
     }
 
     /// The entry of a key changes; no place comes to be valid or ceases to be.
@@ -316,18 +279,8 @@ impl Words {
     {
         match key {
             Key::Private(pid, vpn) => self.set_own(Place { pid, vpn }, e),
-            Key::Shared(a, i) => self.set_proto(a, i, e),
+            Key::Shared(a, i) => self.protos.set(a, i, encode(e)),
         }
-    }
-
-    /// A key that has a word and is not valid has no entry from now on.
-    pub fn clear_word(&mut self, key: Key)
-        requires has { has_word (words self.old) key ≡ true }
-        requires places { keeps_places (words self.old) key entry.Empty ≡ true }
-        ensures words { words self.new ≡ with_entry (words self.old) key entry.Empty }
-        ensures ages { place_ages self.new ≡ place_ages self.old }
-    {
-        self.set_word(key, Entry::Empty);
     }
 
     /// The entry of a private key is put beside the tables.
@@ -435,32 +388,12 @@ impl Words {
         requires { is_some (set_in (words self.now).sets pid.0) ≡ true }
         ensures { set_in (words self.now).sets pid.0 ≡ Some result }
     {
-        let at = index_of(&self.processes, pid);
-        self.processes[at].resident()
-    }
-
-    /// How many places of a process are valid.
-    pub fn valid_places(&self, pid: Pid) -> u32
-        requires { is_some (set_in (words self.now).sets pid.0) ≡ true }
-        ensures { option_map (λ s. s.resident) (set_in (words self.now).sets pid.0) ≡ Some result }
-    {
-        self.resident(pid).resident
-    }
-
-    /// The fewest pages, down to which the working set is trimmed.
-    pub fn min(&self, pid: Pid) -> u32
-        requires { is_some (set_in (words self.now).sets pid.0) ≡ true }
-        ensures { option_map (λ s. s.min) (set_in (words self.now).sets pid.0) ≡ Some result }
-    {
-        self.resident(pid).min
-    }
-
-    /// The most pages that the working set has.
-    pub fn max(&self, pid: Pid) -> u32
-        requires { is_some (set_in (words self.now).sets pid.0) ≡ true }
-        ensures { option_map (λ s. s.max) (set_in (words self.now).sets pid.0) ≡ Some result }
-    {
-        self.resident(pid).max
+        let set = &self.processes[index_of(&self.processes, pid)].set;
+        ResidentSet {
+            min: set.min(),
+            max: set.max(),
+            resident: set.len(),
+        }
     }
 
     /// Whether a process of this pid is open.

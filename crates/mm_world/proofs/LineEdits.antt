@@ -7,10 +7,10 @@ use Rattle.mm_types.proofs.{all_three}
 use Rattle.mm_world.specs.{StackOf, WorldOf, ProcessOf, RegionOf, RowOf, KeptOf, Page, filled, change_range, set_region, set_stack, process_of}
 use Rattle.mm_world.specs.{set_regions, add_region, ranges_of, area_at, shared_page, with_row, Home, InSection, Committed, committed_at, set_row}
 use Rattle.mm_world.specs.{set_shared, guard_off, OutcomeOf, done, Attempt, ReadOf, WriteOf, Execute, access, access_at, perform, write_to, written}
-use Rattle.mm_world.specs.{bytes_of, address_in, attempt_in, is_told, unpaged, step, world_told, begin, resume, store_line, kept_by, keep, is_charged}
-use Rattle.mm_world.specs.{region_charge, area_charge, alloc, stack, probe, grown, made, stack_region, PagesOf, line_ends, is_released_by, Each}
-use Rattle.mm_world.specs.{RowFits, RowsFit, FlagsFit, PrivateRowFits, held_protections, one_page, mark_written, is_one_of, reserved_row, commit}
-use Rattle.mm_world.specs.{Leaves, LineLeaves, is_alarm, is_limit_refusal, is_thread_line}
+use Rattle.mm_world.specs.{bytes_at_home, address_in, attempt_in, is_told, unpaged, step, world_told, begin, resume, store_line, kept_by, keep}
+use Rattle.mm_world.specs.{is_charged, region_charge, area_charge, alloc, stack, probe, grown, made, stack_region, PagesOf, line_ends, is_released_by}
+use Rattle.mm_world.specs.{Each, RowFits, RowsFit, FlagsFit, PrivateRowFits, held_protections, one_page, mark_written, is_one_of, reserved_row}
+use Rattle.mm_world.specs.{commit, Leaves, LineLeaves, is_alarm, is_limit_refusal, is_thread_line}
 use Rattle.mm_world.specs.World.{World}
 use Rattle.mm_world.specs.Report.{Report}
 use Rattle.mm_world.proofs.Determined.{decided}
@@ -138,7 +138,7 @@ pub in_section : (t : Terms) (w : World) (pid : ℕ) (p : ProcessOf Page) (c : C
 in_section t w pid p c page offset bytes v area i old lives committed is there = copied c.row.marked refl
   where
     new : Page
-    new = written (bytes_of w (InSection area i)) offset bytes
+    new = written (bytes_at_home w (InSection area i)) offset bytes
 
     copied : (b : Bool) → c.row.marked ≡ b → Edits t w (cond b (set_row w pid p c.region page (record c.row { own = Some new; prot = 0x04 })) (set_shared w area i new))
     copied true marked = Then w _ Nothing (by_row t w pid p c page (record c.row { own = Some new; prot = 0x04 }) lives committed (λ fits. copy_fits c.region.thing.kind v c.row new is marked) (view_charged c.region.thing.kind v c.row (record c.row { own = Some new; prot = 0x04 }) is refl))

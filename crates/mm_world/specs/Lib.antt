@@ -66,7 +66,7 @@ pub use Keys.{Committed, Home, InSection, Own, committed_at, committed_in, conte
 pub use Keys.{home_in, is_file_key, key_of, own_page, private_key, set_row, set_shared, shared_key}
 pub use Keys.{with_row}
 pub use Access.{Attempt, Execute, ReadOf, WriteOf, access, access_at, access_of, address_in}
-pub use Access.{attempt_in, bytes_of, is_permitted, perform, write_to, written}
+pub use Access.{attempt_in, bytes_at_home, is_permitted, perform, write_to, written}
 pub use Sections.{are_section_flags, close, create, create_file, file_named, handle_or}
 pub use Sections.{handle_section, holds, is_handle_to, is_reserve, is_view_of, largest_section}
 pub use Sections.{named_or, new_section, next_handle, open_section, paging_area, section_prot}
@@ -104,3 +104,20 @@ pub use Writes.{ends_none, page_written, unless_in, write_of, writes_after, writ
 pub use PrivateRegions.{PagesOf, holds_asked, is_asked_region, is_private_region, is_region_of}
 pub use PrivateRegions.{is_released_by, is_same_range, line_ends}
 pub use Stacked.{are_stacked, holds_stack, is_place, is_stack_region, is_stacked}
+pub use Worked.{GivesAnswers, machine}
+pub use WorkedPrivate.{commit_again_row, decommit_and_commit_row, execute_and_edges_row, guard_row}
+pub use WorkedPrivate.{half_in_half_out_row, query_runs_row, regions_side_by_side_row, rounding_row}
+pub use WorkedPrivate.{smallest_machine_row}
+pub use WorkedSections.{copy_on_write_row, copy_view_charged_whole_row, copy_view_refused_row}
+pub use WorkedSections.{files_and_flushing_row, handles_names_views_row, mark_refused_row}
+pub use WorkedSections.{marked_page_row, marks_last_row, protections_by_view_row, refusals_row}
+pub use WorkedSections.{reserve_section_read_view_row, reserve_section_row, views_at_an_offset_row}
+pub use WorkedRuns.{ends_of_processes_row, fail_lines_row, most_slots_row}
+pub use WorkedRuns.{paging_device_refuses_to_grow_row, paging_file_grows_row, what_an_exit_ends_row}
+pub use WorkedPaging.{collided_fault_and_full_queue_row, failing_writes_row}
+pub use WorkedPaging.{far_past_the_frames_row, given_up_while_read_row, guard_at_a_resume_row}
+pub use WorkedPaging.{oldest_first_row, plain_access_finishes_a_read_row, reads_that_fail_row}
+pub use WorkedPaging.{rewritten_while_written_row, shared_section_trimmed_row, short_of_frames_row}
+pub use WorkedBeside.{stack_grows_row, stack_out_of_commitment_row, watch_and_guard_row}
+pub use WorkedBeside.{watch_refusals_and_ends_row, write_watch_row}
+pub use WorkedRefusals.{order_of_refusals_row}

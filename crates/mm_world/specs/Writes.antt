@@ -7,13 +7,13 @@ use Rattle.mm_types.specs.declared.events.AccessSpec.TheVariants as spec
 use Rattle.mm_types.specs.declared.events.Event.TheVariants as line
 use Rattle.mm_world.specs.World.{KeptOf, WorldOf}
 
-abbrev pub place_of : ℕ → ℕ → Place
-place_of pid addr = record { pid = record { 0 = pid }; vpn = record { 0 = page_of addr } }
+abbrev pub written_place : ℕ → ℕ → Place
+written_place pid addr = record { pid = record { 0 = pid }; vpn = record { 0 = page_of addr } }
 
 -- the page that an access writes
 abbrev pub page_written : ℕ → AccessSpec → Option Place
 page_written pid (spec.Read addr len) = None
-page_written pid (spec.Write addr bytes) = Some (place_of pid addr)
+page_written pid (spec.Write addr bytes) = Some (written_place pid addr)
 
 abbrev pub write_of : Option KeptOf → Option Place
 write_of None = None

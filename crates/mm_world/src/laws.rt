@@ -2,29 +2,15 @@ ghost use Rattle.std.specs.Prelude.{◌≡◌, ◌≤◌, ◌%◌, ℕ, Bool, Li
 ghost use Rattle.mm_types.specs.declared.answers.Answer.TheVariants as answer;
 ghost use Rattle.mm_types.specs.{Event, Key, Pid, range_of, holds_page, are_user_pages, granule_pages, MachineOf, IsMachine, Text};
 ghost use Rattle.mm_types.specs.declared.events.Event.TheVariants as line;
-ghost use Rattle.mm_world.specs.World.{World, ProcessOf, RegionOf, Page, filled, pages_of};
-ghost use Rattle.mm_world.specs.Find.{process_of};
-ghost use Rattle.mm_world.specs.Charge.{charge, limit};
-ghost use Rattle.mm_world.specs.Keys.{Committed, committed_at, content_of, key_of, private_key};
-ghost use Rattle.mm_world.specs.Alloc.{alloc};
-ghost use Rattle.mm_world.specs.Contents.{Tables, tables_of, tables_outcome, blank, bytes_in, world_with, AcrossBytes, AcrossFile};
-ghost use Rattle.mm_world.specs.Free.{free};
-ghost use Rattle.mm_world.specs.Processes.{new_process, exit, new_file, take_fail, tell_charge, grow};
-ghost use Rattle.mm_world.specs.Protect.{protect};
-ghost use Rattle.mm_world.specs.Query.{query};
-ghost use Rattle.mm_world.specs.Sections.{create, create_file, open_section, close};
-ghost use Rattle.mm_world.specs.Views.{map_view, unmap, flush};
-ghost use Rattle.mm_world.specs.Access.{Attempt, access};
+ghost use Rattle.mm_world.specs.{ProcessOf, RegionOf, Page, filled, pages_of, process_of, charge, limit, Committed, committed_at, content_of, key_of};
+ghost use Rattle.mm_world.specs.{private_key, alloc, Tables, tables_of, tables_outcome, blank, bytes_in, world_with, AcrossBytes, AcrossFile, free};
+ghost use Rattle.mm_world.specs.{new_process, exit, new_file, take_fail, tell_charge, grow, protect, query, create, create_file, open_section, close};
+ghost use Rattle.mm_world.specs.{map_view, unmap, flush, Attempt, access, step, world_after, first_world, stack, probe, watch, reset_watch, Spaces};
+ghost use Rattle.mm_world.specs.{flag_of, FlagTold, GivesFlagged, writes_of, writes_after, PagesOf, is_region_of, line_ends, are_stacked, LineLeaves};
+ghost use Rattle.mm_world.specs.{HasCommittedRow, Reached, LimitDecides, is_charging_line, is_limit_refusal, more_slots};
+ghost use Rattle.mm_world.specs.World.{World};
 ghost use Rattle.mm_world.specs.Report.{Report};
-ghost use Rattle.mm_world.specs.Step.{step, world_after, first_world};
-ghost use Rattle.mm_world.specs.Stack.{stack, probe};
-ghost use Rattle.mm_world.specs.Watch.{watch, reset_watch};
-ghost use Rattle.mm_world.specs.WellFormed.{WellFormed, Spaces};
-ghost use Rattle.mm_world.specs.Flags.{flag_of, FlagTold, GivesFlagged};
-ghost use Rattle.mm_world.specs.Writes.{writes_of, writes_after};
-ghost use Rattle.mm_world.specs.PrivateRegions.{PagesOf, is_region_of, line_ends};
-ghost use Rattle.mm_world.specs.Stacked.{are_stacked};
-ghost use Rattle.mm_world.specs.Laws.{LineLeaves, HasCommittedRow, Reached, LimitDecides, is_charging_line, is_limit_refusal, more_slots};
+ghost use Rattle.mm_world.specs.WellFormed.{WellFormed};
 
 /// The answer and the old world determine the new one.
 pub fn answers_determine_worlds()

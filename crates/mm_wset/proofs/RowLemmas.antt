@@ -8,7 +8,7 @@ use Rattle.std.proofs.lemmas.List.{get_or_read, get_or_past, length-replicate}
 use Rattle.std.proofs.lemmas.Bool.{cases_lt, cases_eq, eq-eqb, ne_eqb, eqb-true, eqb-false, false_from_ne_true}
 use Rattle.mm_bits.specs.{have_bit, Becomes, WordBecomes}
 use Rattle.mm_bits.proofs.{at_bit, have_here, word_becomes, zero_bit}
-use Rattle.mm_wset.specs.{IsLowestFrom, is_filled, put_at, PutsBit, PutsBits, Sums, NoneFrom, NoneWithin, word_end, IsPageSet, Reaches}
+use Rattle.mm_wset.specs.{IsLowestFrom, is_filled, put_at, PutsBit, PutsBits, Sums, NoneFrom, NoneWithin, word_end, IsPageSet, ReachesIndex}
 
 -- ---- one bit changes
 
@@ -273,7 +273,7 @@ reached_sums : (old new upper : List ℕ) → ((w : ℕ) → get_or new w 0 ≡ 
 unfolding is_filled
 reached_sums old new upper same is w = is w ∙ ap (λ (n : ℕ). not (n == 0)) (sym (same w))
 
-module _ (b : Bool) (old pages pages' words words' tops tops' : List ℕ) (capacity capacity' capacity'' page : ℕ) (passes : Bool) (is : IsPageSet old capacity words tops) (reached : Reaches (page / 64) old pages capacity')
+module _ (b : Bool) (old pages pages' words words' tops tops' : List ℕ) (capacity capacity' capacity'' page : ℕ) (passes : Bool) (is : IsPageSet old capacity words tops) (reached : ReachesIndex (page / 64) old pages capacity')
     (puts : PutsBit b pages pages' page passes) (kept : length pages' ≡ length pages) (room : capacity'' ≡ capacity') where
   sums : Sums pages words
   sums = reached_sums old pages words reached.same is.words_are

@@ -18,8 +18,8 @@ abbrev pub age_of : AgeGroups → ℕ → Option ℕ
 age_of g = age_in g.newest g.sets.items
 
 -- whether pages may come
-abbrev pub has_room : AgeGroups → Bool
-has_room g = nat_lt 0 (length g.sets.items)
+abbrev pub has_age_room : AgeGroups → Bool
+has_age_room g = nat_lt 0 (length g.sets.items)
 
 -- from each place in use its page
 abbrev pub places_of : Slab ℕ → FinMap nat_cmp ℕ

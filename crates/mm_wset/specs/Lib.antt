@@ -8,7 +8,8 @@ pub use Ages.{AgesBy, EachAtOnePlace, GoesAfter, GoesBefore, IsOldestInSet, None
 pub use Ages.{WorkingSetOf, older}
 pub use InOrder.{IsLowestFrom, IsNextFrom}
 pub use Ring.{next_newest, turned}
-pub use Rows.{IsPageSet, NoneFrom, NoneWithin, PutsBit, PutsBits, Reaches, Sums, put_at, word_end}
+pub use Rows.{IsPageSet, NoneFrom, NoneWithin, PutsBit, PutsBits, ReachesIndex, Sums, put_at}
+pub use Rows.{word_end}
 unfoldable pub use Rows.{is_filled}
 pub use AgeGroups.{AreGrouped, GoesFirst, IsBelow, IsFirstOf, IsGrouped, Joins, NoAgeWithin}
 pub use AgeGroups.{NoneOlder, PutsPage, age_in, is_group, retired_to}

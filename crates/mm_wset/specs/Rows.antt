@@ -22,7 +22,7 @@ pub record PutsBit (b : Bool) (old new : List ℕ) (i : ℕ) (passes : Bool) : T
   pub stayed : passes ≡ false → (w : ℕ) → is_filled new w ≡ is_filled old w
 
 -- zeros were added until there is a word at this index
-pub record Reaches (i : ℕ) (old new : List ℕ) (capacity : ℕ) : Type 0 where
+pub record ReachesIndex (i : ℕ) (old new : List ℕ) (capacity : ℕ) : Type 0 where
   pub there : i < length new
   pub few : length new ≤ 8192
   pub room : 8192 ≤ capacity

@@ -134,7 +134,7 @@ fn oldest_below(sets: &Vec<PageSet>, newest: u8, limit: u8) -> Option<Vpn>
 }
 
 impl AgeGroups {
-    ghost use Rattle.mm_wset.specs.Held.{ages_of, age_of, has_room};
+    ghost use Rattle.mm_wset.specs.Held.{ages_of, age_of, has_age_room};
 
     /// No page, and no room for any.
     pub fn unreserved(alloc: Global) -> AgeGroups
@@ -150,7 +150,7 @@ impl AgeGroups {
     /// No page yet, and room for all.
     pub fn new(alloc: Global) -> Result<AgeGroups, NoMemory>
         ensures ages { IfOk result (λ g. ages_of g ≡ finite.empty) }
-        ensures room { IfOk result (λ g. has_room g ≡ true) }
+        ensures room { IfOk result (λ g. has_age_room g ≡ true) }
     {
         let mut sets = Vec::with_capacity(alloc, SETS)?;
         for _ in 0..SETS {
@@ -165,11 +165,11 @@ impl AgeGroups {
 
     /// A page comes, with age 0.
     pub fn insert(&mut self, page: u32)
-        requires room { has_room self.old ≡ true }
+        requires room { has_age_room self.old ≡ true }
         requires user { page < 2 ^ 19 }
         requires absent { finite.get (ages_of self.old) page ≡ None }
         ensures ages { ages_of self.new ≡ finite.insert (ages_of self.old) page 0 }
-        ensures room { has_room self.new ≡ has_room self.old }
+        ensures room { has_age_room self.new ≡ has_age_room self.old }
     {
         put(&mut self.sets, self.newest as usize, page);
         put(&mut self.sets, ALL, page);
@@ -180,7 +180,7 @@ impl AgeGroups {
         requires held { IsSome (finite.get (ages_of self.old) page) }
         requires known { age ≤ 7 }
         ensures ages { ages_of self.new ≡ finite.remove (ages_of self.old) page }
-        ensures room { has_room self.new ≡ has_room self.old }
+        ensures room { has_age_room self.new ≡ has_age_room self.old }
     {
         let group = group_of(&self.sets, turned(self.newest, age), page);
         take(&mut self.sets, group as usize, page);
@@ -192,7 +192,7 @@ impl AgeGroups {
         requires held { IsSome (finite.get (ages_of self.old) page) }
         requires known { age ≤ 7 }
         ensures ages { ages_of self.new ≡ finite.insert (ages_of self.old) page 0 }
-        ensures room { has_room self.new ≡ has_room self.old }
+        ensures room { has_age_room self.new ≡ has_age_room self.old }
     {
         let group = group_of(&self.sets, turned(self.newest, age), page);
         take(&mut self.sets, group as usize, page);
@@ -202,7 +202,7 @@ impl AgeGroups {
     /// Each page's age is one more, up to 7.
     pub fn age_all(&mut self)
         ensures ages { AgesBy older (ages_of self.old) (ages_of self.new) }
-        ensures room { has_room self.new ≡ has_room self.old }
+        ensures room { has_age_room self.new ≡ has_age_room self.old }
     {
         // the group of age 6 joins that of age 7, and is the one of age 0 from now on
         let newest = next_newest(self.newest);

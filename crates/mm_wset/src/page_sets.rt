@@ -1,7 +1,7 @@
 ghost use Rattle.std.specs.Prelude.{◌≡◌, ◌*◌, ◌/◌, ◌^◌, ◌<◌, ◌≤◌, ℕ, true, false, length, IfOk, IfSome, MatchOption, vec_capacity};
 ghost use Rattle.mm_bits.specs.{have_bit};
 ghost use Rattle.mm_wset.specs.InOrder.{IsLowestFrom, IsNextFrom};
-ghost use Rattle.mm_wset.specs.Rows.{is_filled, put_at, PutsBit, PutsBits, Sums, Reaches, NoneFrom, NoneWithin, word_end};
+ghost use Rattle.mm_wset.specs.Rows.{is_filled, put_at, PutsBit, PutsBits, Sums, ReachesIndex, NoneFrom, NoneWithin, word_end};
 
 use mm_types::{NoMemory, Vpn};
 use std::alloc::Global;
@@ -171,7 +171,7 @@ fn extend_to(words: &mut Vec<u64>, i: usize)
     requires within { i < 8192 }
     requires room { 8192 ≤ vec_capacity words.old }
     requires short { length words.old.items ≤ i }
-    ensures { Reaches i words.old.items words.new.items (vec_capacity words.new) }
+    ensures { ReachesIndex i words.old.items words.new.items (vec_capacity words.new) }
 {
     match words.resize((i + 64).min(PAGE_WORDS), 0) {
         Ok(()) => {}
@@ -185,7 +185,7 @@ fn reach(words: &mut Vec<u64>, i: usize)
     requires within { i < 8192 }
     requires room { 8192 ≤ vec_capacity words.old }
     requires few { length words.old.items ≤ 8192 }
-    ensures { Reaches i words.old.items words.new.items (vec_capacity words.new) }
+    ensures { ReachesIndex i words.old.items words.new.items (vec_capacity words.new) }
 {
     if i >= words.len() {
         extend_to(words, i);

@@ -36,7 +36,7 @@ pub struct WorkingSet {
 
 impl Model for WorkingSet {
     ghost use Rattle.mm_wset.specs.Ages.{WorkingSetOf, working_set_code};
-    ghost use Rattle.mm_wset.specs.Held.{ages_of, has_room, places_of, room_of, IsWorkingSet};
+    ghost use Rattle.mm_wset.specs.Held.{ages_of, has_age_room, places_of, room_of, IsWorkingSet};
 
     ghost Value = { WorkingSetOf };
 
@@ -51,7 +51,7 @@ impl Model for WorkingSet {
     } };
 
     ghost invariant = { λ s. IsWorkingSet (room_of s.is_reserved s.max) s.places (ages_of s.pages)
-        (has_room s.pages) s.rounds s.used_in.items };
+        (has_age_room s.pages) s.rounds s.used_in.items };
 }
 
 /// What is kept for a place whose page is used in a round; in the last round it is an earlier one.

@@ -1,10 +1,10 @@
+#![tactic(auto, unfolding(crate::specs::Reading::line_of))]
+
 ghost use Rattle.std.specs.Prelude.{◌≡◌, ◌<◌};
 ghost use Rattle.mm_types.specs.declared.events.AccessSpec.TheVariants as spec;
 ghost use Rattle.mm_types.specs.declared.events.Event.TheVariants as line;
 ghost use Rattle.mm_script.specs.declared.keywords.Keyword.TheVariants as keyword;
-ghost use Rattle.mm_script.specs.Grammar.{lies_in_page};
-ghost use Rattle.mm_script.specs.Shape.{Then, End, AnyNumber, Number, ByteWord};
-ghost use Rattle.mm_script.specs.Reading.{event_in, line_of, IsPut};
+ghost use Rattle.mm_script.specs.{lies_in_page, Then, End, AnyNumber, Number, ByteWord, event_in, line_of, IsPut};
 
 use crate::LineFault;
 use crate::fields::Fields;
@@ -20,7 +20,6 @@ fn lies_in_page(addr: u32, len: u32) -> bool
 
 /// `read <pid> <addr> <len>`
 #[inline(never)]
-#[tactic(auto, unfolding(crate::specs::Reading::line_of))]
 pub fn read(fields: &mut Fields, event: &mut Event) -> Result<(), LineFault>
     requires { fields.old.number ≡ 2 }
     ensures { IsPut result event.old event.new (line_of keyword.Read fields.old) }
@@ -38,7 +37,6 @@ pub fn read(fields: &mut Fields, event: &mut Event) -> Result<(), LineFault>
 
 /// `write <pid> <addr> <bytes>`
 #[inline(never)]
-#[tactic(auto, unfolding(crate::specs::Reading::line_of))]
 pub fn write(fields: &mut Fields, event: &mut Event) -> Result<(), LineFault>
     requires { fields.old.number ≡ 2 }
     ensures { IsPut result event.old event.new (line_of keyword.Write fields.old) }
@@ -55,7 +53,6 @@ pub fn write(fields: &mut Fields, event: &mut Event) -> Result<(), LineFault>
 }
 
 /// `begin <tid> <pid> read <addr> <len>`, `begin <tid> <pid> write <addr> <bytes>`
-#[tactic(auto, unfolding(crate::specs::Reading::line_of))]
 pub fn begin(fields: &mut Fields, event: &mut Event) -> Result<(), LineFault>
     requires { fields.old.number ≡ 2 }
     ensures { IsPut result event.old event.new (line_of keyword.Begin fields.old) }

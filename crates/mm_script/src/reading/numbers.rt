@@ -1,6 +1,5 @@
 ghost use Rattle.std.specs.Prelude.{◌≡◌, ◌≤◌, true, length, Some};
-ghost use Rattle.mm_script.specs.Numbers.{is_plain, IfTrue, made_with, ranges_of};
-ghost use Rattle.mm_script.specs.Reading.{line_of, IsPut};
+ghost use Rattle.mm_script.specs.{is_plain, IfTrue, made_with, ranges_of, line_of, IsPut};
 
 use crate::LineFault;
 use crate::fields::{Fields, MOST_NUMBERS, Range};
@@ -41,6 +40,16 @@ fn ranges_of(keyword: Keyword) -> &'static [Range]
     }
 }
 
+/// A row for each form of numbers alone: its keyword, and where the numbers stand in its event.
+macro_rules! put_as {
+    ($place:expr, $keyword:expr, $($form:ident => $event:expr,)*) => {
+        match $keyword {
+            $(Keyword::$form => *$place = $event,)*
+            _ => {}
+        }
+    };
+}
+
 /// Writes the event of a keyword and the numbers behind it.
 #[inline(always)]
 #[tactic(auto, using(crate::proofs::Numbers::made_told))]
@@ -51,86 +60,31 @@ fn put_numbers(keyword: Keyword, numbers: &[u32; MOST_NUMBERS], event: &mut Even
     // The number of a process or a thread was read as one below 256.
     let pid = Pid((a % 256) as u8);
     let tid = Tid((a % 256) as u8);
-    match keyword {
-        Keyword::Exit => *event = Event::Exit { pid },
-        Keyword::Alloc => {
-            *event = Event::Alloc {
-                pid,
-                addr: b,
-                size: c,
-                form: d,
-                prot: e,
-            }
-        }
-        Keyword::Free => {
-            *event = Event::Free {
-                pid,
-                addr: b,
-                size: c,
-                form: d,
-            }
-        }
-        Keyword::Protect => {
-            *event = Event::Protect {
-                pid,
-                addr: b,
-                size: c,
-                prot: d,
-            }
-        }
-        Keyword::Query => *event = Event::Query { pid, addr: b },
-        Keyword::Close => *event = Event::Close { pid, handle: b },
-        Keyword::Map => {
-            *event = Event::Map {
-                pid,
-                handle: b,
-                access: c,
-                offset: d,
-                length: e,
-                addr: f,
-            }
-        }
-        Keyword::Unmap => *event = Event::Unmap { pid, addr: b },
-        Keyword::Flush => *event = Event::Flush {
-            pid,
-            addr: b,
-            size: c,
-        },
-        Keyword::Exec => *event = Event::Exec { pid, addr: b },
-        Keyword::Resume => *event = Event::Resume { tid },
-        Keyword::Io => *event = Event::Io { index: a },
-        Keyword::Trim => *event = Event::Trim { pid, count: b },
-        Keyword::Age => *event = Event::Age { pid },
-        Keyword::Writer => *event = Event::Writer { count: a },
-        Keyword::Zeroer => *event = Event::Zeroer { count: a },
-        Keyword::Charge => *event = Event::Charge,
-        Keyword::Counts => *event = Event::Counts,
-        Keyword::Grow => *event = Event::Grow { slots: a },
-        Keyword::Watch => {
-            *event = Event::Watch {
-                pid,
-                reset: b == 1,
-                addr: c,
-                size: d,
-                count: e,
-            }
-        }
-        Keyword::ResetWatch => *event = Event::ResetWatch {
-            pid,
-            addr: b,
-            size: c,
-        },
-        Keyword::Stack => {
-            *event = Event::Stack {
-                tid,
-                pid: Pid((b % 256) as u8),
-                reserve: c,
-                commit: d,
-            }
-        }
-        Keyword::Probe => *event = Event::Probe { tid, addr: b },
-        _ => {}
-    }
+    put_as!(event, keyword,
+        Exit => Event::Exit { pid },
+        Alloc => Event::Alloc { pid, addr: b, size: c, form: d, prot: e },
+        Free => Event::Free { pid, addr: b, size: c, form: d },
+        Protect => Event::Protect { pid, addr: b, size: c, prot: d },
+        Query => Event::Query { pid, addr: b },
+        Close => Event::Close { pid, handle: b },
+        Map => Event::Map { pid, handle: b, access: c, offset: d, length: e, addr: f },
+        Unmap => Event::Unmap { pid, addr: b },
+        Flush => Event::Flush { pid, addr: b, size: c },
+        Exec => Event::Exec { pid, addr: b },
+        Resume => Event::Resume { tid },
+        Io => Event::Io { index: a },
+        Trim => Event::Trim { pid, count: b },
+        Age => Event::Age { pid },
+        Writer => Event::Writer { count: a },
+        Zeroer => Event::Zeroer { count: a },
+        Charge => Event::Charge,
+        Counts => Event::Counts,
+        Grow => Event::Grow { slots: a },
+        Watch => Event::Watch { pid, reset: b == 1, addr: c, size: d, count: e },
+        ResetWatch => Event::ResetWatch { pid, addr: b, size: c },
+        Stack => Event::Stack { tid, pid: Pid((b % 256) as u8), reserve: c, commit: d },
+        Probe => Event::Probe { tid, addr: b },
+    );
 }
 
 /// The lines of numbers alone, under no joint condition.

@@ -1,13 +1,14 @@
+#![tactic(auto, unfolding(crate::specs::Reading::line_of))]
+
 ghost use Rattle.std.specs.Prelude.{◌≡◌};
 ghost use Rattle.mm_script.specs.declared.keywords.Keyword.TheVariants as keyword;
-ghost use Rattle.mm_script.specs.Reading.{line_of, IsPut};
+ghost use Rattle.mm_script.specs.{line_of, IsPut};
 
 use crate::LineFault;
 use crate::fields::Fields;
 use mm_types::{Event, Machine};
 
 /// `machine <frames> <slots> <depth> <blocks>`
-#[tactic(auto, unfolding(crate::specs::Reading::line_of))]
 pub fn machine(fields: &mut Fields, event: &mut Event) -> Result<(), LineFault>
     requires { fields.old.number ≡ 2 }
     ensures { IsPut result event.old event.new (line_of keyword.Machine fields.old) }
@@ -26,7 +27,6 @@ pub fn machine(fields: &mut Fields, event: &mut Event) -> Result<(), LineFault>
 }
 
 /// `process <min> <max>`
-#[tactic(auto, unfolding(crate::specs::Reading::line_of))]
 pub fn process(fields: &mut Fields, event: &mut Event) -> Result<(), LineFault>
     requires { fields.old.number ≡ 2 }
     ensures { IsPut result event.old event.new (line_of keyword.Process fields.old) }
@@ -42,7 +42,6 @@ pub fn process(fields: &mut Fields, event: &mut Event) -> Result<(), LineFault>
 }
 
 /// `file <name> <pages> <byte>`
-#[tactic(auto, unfolding(crate::specs::Reading::line_of))]
 pub fn file(fields: &mut Fields, event: &mut Event) -> Result<(), LineFault>
     requires { fields.old.number ≡ 2 }
     ensures { IsPut result event.old event.new (line_of keyword.File fields.old) }
@@ -56,7 +55,6 @@ pub fn file(fields: &mut Fields, event: &mut Event) -> Result<(), LineFault>
 }
 
 /// `fail <paging|file> <read|write> <k> <n>`
-#[tactic(auto, unfolding(crate::specs::Reading::line_of))]
 pub fn fail(fields: &mut Fields, event: &mut Event) -> Result<(), LineFault>
     requires { fields.old.number ≡ 2 }
     ensures { IsPut result event.old event.new (line_of keyword.Fail fields.old) }
@@ -76,7 +74,6 @@ pub fn fail(fields: &mut Fields, event: &mut Event) -> Result<(), LineFault>
 }
 
 /// `create <pid> <size> <flags> <name|->`
-#[tactic(auto, unfolding(crate::specs::Reading::line_of))]
 pub fn create(fields: &mut Fields, event: &mut Event) -> Result<(), LineFault>
     requires { fields.old.number ≡ 2 }
     ensures { IsPut result event.old event.new (line_of keyword.Create fields.old) }
@@ -96,7 +93,6 @@ pub fn create(fields: &mut Fields, event: &mut Event) -> Result<(), LineFault>
 }
 
 /// `createfile <pid> <file name> <flags> <name|->`
-#[tactic(auto, unfolding(crate::specs::Reading::line_of))]
 pub fn create_file(fields: &mut Fields, event: &mut Event) -> Result<(), LineFault>
     requires { fields.old.number ≡ 2 }
     ensures { IsPut result event.old event.new (line_of keyword.CreateFile fields.old) }
@@ -116,7 +112,6 @@ pub fn create_file(fields: &mut Fields, event: &mut Event) -> Result<(), LineFau
 }
 
 /// `open <pid> <name>`
-#[tactic(auto, unfolding(crate::specs::Reading::line_of))]
 pub fn open(fields: &mut Fields, event: &mut Event) -> Result<(), LineFault>
     requires { fields.old.number ≡ 2 }
     ensures { IsPut result event.old event.new (line_of keyword.Open fields.old) }

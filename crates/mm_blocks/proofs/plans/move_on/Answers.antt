@@ -9,7 +9,7 @@ use Rattle.mm_blocks.proofs.plans.move_on.Goals as goal
 pub loop-i-preserved : goal.loop-i-preserved
 loop-i-preserved c =
     let long : length c.loop-i.entries ≡ length c.args.entries.now = ap length c.loop-i.invariant ∙ front_length (one_further c.args.direction) c.loop-i.i c.args.entries.now in
-    ap (λ w. slice_set c.loop-i.entries c.loop-i.i w) c.after_one.ensures
+    ap (λ w. slice_set c.loop-i.entries c.loop-i.i w) c.go_on.ensures
     ∙ map_over_more (one_further c.args.direction) c.args.entries.now c.loop-i.entries c.loop-i.i _ (omega (arith, c.told-entries, c.requires)) c.loop-i.invariant (get_or_default c.loop-i.entries c.loop-i.i _ _ (omega (arith, c.told-entries, c.requires, long)))
 
 pub returns : goal.returns

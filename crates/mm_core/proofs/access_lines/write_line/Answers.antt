@@ -9,7 +9,7 @@ returns-in-None-clause-done g c = c.in-None.ensures.refused (WriteOf c.args.byte
 pub write_row-requires-clause-can : goal.write_row-requires-clause-can
 write_row-requires-clause-can g c = c.in-Some.ensures.entered.can _
 
-pub returns-clause-done : goal.returns-clause-done
-returns-clause-done g c =
+pub returns-in-Some-clause-done : goal.returns-in-Some-clause-done
+returns-in-Some-clause-done g c =
     let began = c.in-Some.ensures.entered in
     line-made g.G.Pages c.args.pid c.args.addr (WriteOf c.args.bytes.now) began.on began.same c.write_row.ensures.done

@@ -1,5 +1,5 @@
 use Rattle.std.proofs.Common.{◌≡◌, true, false, sym, ◌∙◌, ap, subst}
-use Rattle.mm_types.specs.{Raise, page_of, permits}
+use Rattle.mm_types.specs.{page_of, permits}
 use Rattle.mm_types.specs.declared.answers.Answer.TheVariants as answer
 use Rattle.mm_types.specs.declared.codes.Raise.TheVariants as raise
 use Rattle.mm_tables.specs.{CommittedRow, MadeAtMost}
@@ -22,9 +22,8 @@ returns-then-row-clause-refused c =
     let l = lives-by t c.args.pid.0 c.requires.lives in
     let r = row-told t c.args.pid.0 (page_of c.args.addr) l.process c.in-Some.row c.committed_row.result l.lives c.in-Some.is c.committed_row.ensures in
     λ bytes what is.
-    subst (λ (why : Raise). Refuses (world_with t bytes) c.args.pid.0 c.args.addr what (answer.Raised why) (world_with c.alarm.new.t bytes)) (sym c.alarm.ensures.raised)
-    (subst (λ (v : Tables). Refuses (world_with t bytes) c.args.pid.0 c.args.addr what (answer.Raised raise.GuardPage) (world_with v bytes)) (sym (c.alarm.ensures.off l.process r.committed l.lives r.there))
-    (accesses.guarded t bytes c.args.pid.0 c.args.addr what l.process l.lives r.committed r.there (ap (λ (x : CommittedRow). x.guard) r.is ∙ c.if-row.true)))
+    subst (λ (v : Tables). Refuses (world_with t bytes) c.args.pid.0 c.args.addr what (answer.Raised raise.GuardPage) (world_with v bytes)) (sym (c.take_guard_off.ensures.off l.process r.committed l.lives r.there))
+    (accesses.guarded t bytes c.args.pid.0 c.args.addr what l.process l.lives r.committed r.there (ap (λ (x : CommittedRow). x.guard) r.is ∙ c.if-row.true))
 
 pub returns-then-row-clause-keeps : goal.returns-then-row-clause-keeps
 returns-then-row-clause-keeps c =
@@ -33,8 +32,8 @@ returns-then-row-clause-keeps c =
     let r = row-told t c.args.pid.0 (page_of c.args.addr) l.process c.in-Some.row c.committed_row.result l.lives c.in-Some.is c.committed_row.ensures in
     λ contents s k.
     record {
-      fits = c.alarm.ensures.fits contents s k.fits;
-      few = subst (λ (v : Tables). MadeAtMost s.line v) (sym (c.alarm.ensures.off l.process r.committed l.lives r.there)) (made-set_row t s.line c.args.pid.0 (page_of c.args.addr) l.process r.committed.region (record r.committed.row { guard = false }) l.lives k.few);
+      fits = c.take_guard_off.ensures.fits contents s k.fits;
+      few = subst (λ (v : Tables). MadeAtMost s.line v) (sym (c.take_guard_off.ensures.off l.process r.committed l.lives r.there)) (made-set_row t s.line c.args.pid.0 (page_of c.args.addr) l.process r.committed.region (record r.committed.row { guard = false }) l.lives k.few);
     }
 
 pub returns-then-not-permits-clause-refused : goal.returns-then-not-permits-clause-refused

@@ -1,5 +1,5 @@
 use Rattle.std.proofs.Common.{◌≡◌, ◌∙◌, sym, Some, subst, inl}
-use Rattle.mm_log.specs.{Asked, Ran}
+use Rattle.mm_log.specs.{Asked, LogCheckRan}
 use Rattle.mm_log.proofs.{says_yes, says_no, ran_refused}
 use Rattle.mm_log.proofs.top.run_log.Goals as goal
 
@@ -11,7 +11,7 @@ returns-in-Ok-Some-clause-yes g c = λ a text moves l asks told few whole replay
     let took' = g.O.Sink.taken c.answer.new.out in
     let found : Some c.in-Ok-Some.asked ≡ Some a = sym c.in-Ok-Some.field-0-is ∙ c.in-Ok-Some.ensures.all a asks in
     let same : c.in-Ok-Some.asked ≡ a = cc in
-    let ran : Ran a left left' took took' c.answer.result = subst (λ (x : Asked). Ran x left left' took took' c.answer.result) same c.answer.ensures.ran in
+    let ran : LogCheckRan a left left' took took' c.answer.result = subst (λ (x : Asked). LogCheckRan x left left' took took' c.answer.result) same c.answer.ensures.ran in
     says_yes a text moves l left left' took took' c.answer.result told few whole replays ran
 
 pub returns-in-Ok-Some-clause-no : goal.returns-in-Ok-Some-clause-no
@@ -22,7 +22,7 @@ returns-in-Ok-Some-clause-no g c = λ a text rest moves l asks told few in_range
     let took' = g.O.Sink.taken c.answer.new.out in
     let found : Some c.in-Ok-Some.asked ≡ Some a = sym c.in-Ok-Some.field-0-is ∙ c.in-Ok-Some.ensures.all a asks in
     let same : c.in-Ok-Some.asked ≡ a = cc in
-    let ran : Ran a left left' took took' c.answer.result = subst (λ (x : Asked). Ran x left left' took took' c.answer.result) same c.answer.ensures.ran in
+    let ran : LogCheckRan a left left' took took' c.answer.result = subst (λ (x : Asked). LogCheckRan x left left' took took' c.answer.result) same c.answer.ensures.ran in
     says_no a text rest moves l left left' took took' c.answer.result told few in_range whole replays stuck ran
 
 pub returns-in-Ok-None-clause-usage : goal.returns-in-Ok-None-clause-usage

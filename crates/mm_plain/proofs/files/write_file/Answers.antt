@@ -1,10 +1,10 @@
 use Rattle.std.proofs.Common.{◌≡◌, ◌+◌, Some, ap, sym, ◌∙◌, arith}
 use Rattle.std.specs.Prelude.{is_ok, slice_get}
+use Rattle.std.proofs.lemmas.Option.{get_or_from_slice_get}
 use Rattle.mm_types.proofs.{on_err}
 use Rattle.mm_blocks.specs.{device_with}
 use Rattle.mm_blocks.proofs.{all_served_later, failed_later}
 use Rattle.mm_plain.specs.{FilePage}
-use Rattle.mm_plain.specs.Files.{page_of}
 use Rattle.mm_plain.proofs.{stored_more, wrote_one, wrote_then, none_failed}
 use Rattle.mm_plain.proofs.files.write_file.Goals as goal
 
@@ -26,10 +26,10 @@ pub loop-i-preserved : goal.loop-i-preserved
 loop-i-preserved g c =
     let e = c.write_block.ensures in
     let before = c.loop-i.invariant in
-    let is : (p : FilePage) → slice_get c.args.made.now.pages.items c.loop-i.i ≡ Some p → p.page ≡ c.page.result.now =
-    λ p at. (let h : Some p.page ≡ Some c.page.result.now = sym (ap page_of at) ∙ c.page.ensures in cc) in
+    let is : (p : FilePage) → slice_get c.args.made.now.items c.loop-i.i ≡ Some p → p.page ≡ c.index.result.now.page =
+    λ p at. sym (ap (λ (x : FilePage). x.page) (c.index.ensures ∙ get_or_from_slice_get c.args.made.now.items c.loop-i.i p _ at)) in
     record {
-      stored = stored_more c.args.first c.loop-i.i c.args.made.now.pages.items _ _ _ c.page.result.now before.stored c.in_ok-write_block.ensures.ok (omega (arith, before.stored.long, c.requires.inside, c.loop-i-test.true)) is;
+      stored = stored_more c.args.first c.loop-i.i c.args.made.now.items _ _ _ c.index.result.now.page before.stored c.in_ok-write_block.ensures.ok (omega (arith, before.stored.long, c.requires.inside, c.loop-i-test.true)) is;
       wrote = wrote_then _ _ _ _ _ _ before.wrote (wrote_one _ _ _ _ (c.args.first + c.loop-i.i) (is_ok c.write_block.result) _ e.serves e.writes);
       quiet = none_failed _ _ (is_ok c.write_block.result) (ap is_ok c.in_ok-write_block.was) e.writes ∙ before.quiet;
       same_loans = e.loans ∙ before.same_loans;

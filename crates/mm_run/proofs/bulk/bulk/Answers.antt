@@ -1,7 +1,8 @@
-use Rattle.std.proofs.Common.{refl, ◌∙◌}
+use Rattle.std.proofs.Common.{ℕ, List, refl, ◌∙◌, subst}
+use Rattle.mm_types.specs.{Appended}
 use Rattle.mm_make.specs.{script_of}
 use Rattle.mm_run.specs.declared.endings.Ending.TheVariants as ending
-use Rattle.mm_run.specs.{fault_counts_with}
+use Rattle.mm_run.specs.{TornText, fault_counts_with}
 use Rattle.mm_run.proofs.{accounted, accounted_behind, ran_unflushed, ran_failed, all_told, all_torn, accounted_unflushed}
 use Rattle.mm_run.proofs.bulk.bulk.Goals as goal
 
@@ -19,24 +20,25 @@ returns-in-Err-clause-faults g c = λ s.
 
 -- all events were decided
 
-pub returns-in-Ok-tell_tally-clause-ran : goal.returns-in-Ok-tell_tally-clause-ran
-returns-in-Ok-tell_tally-clause-ran g c = λ left.
+pub returns-in-Ok-write_both-clause-ran : goal.returns-in-Ok-write_both-clause-ran
+returns-in-Ok-write_both-clause-ran g c = λ left.
     let f = c.flush.ensures in
-    let told = c.in-Ok-tell_tally.ensures.told in
+    let text = c.as_slice.ensures.bytes ∙ c.spell_tally.ensures in
+    let told = c.in-Ok-write_both.ensures.told in
     all_told _ _ (script_of c.args.seed c.args.count) c.status.result _ (record { took_is = f.taken; grows = f.given.grows; later = f.cause.later; paging_is = refl; files_is = refl })
-    c.in-Ok-decided.tally c.in-Ok-decided.ensures.ends.came c.in-Ok.ensures.all c.status.ensures told.0 told.1
+    c.in-Ok-decided.tally c.in-Ok-decided.ensures.ends.came c.in-Ok.ensures.all c.status.ensures (subst (λ (t : List ℕ). Appended (g.O.Sink.taken c.args.out.now) (g.O.Sink.taken c.write_both.new.out) t) text told.0) told.1
 
-pub returns-in-Ok-tell_tally-clause-faults : goal.returns-in-Ok-tell_tally-clause-faults
-returns-in-Ok-tell_tally-clause-faults g c = λ s.
+pub returns-in-Ok-write_both-clause-faults : goal.returns-in-Ok-write_both-clause-faults
+returns-in-Ok-write_both-clause-faults g c = λ s.
     let out = g.O.Sink.faults in
     accounted ending.Done _ _ _ c.status.result c.status.ensures
-    ((λ i. fault_counts_with s (c.in-Ok-tell_tally.ensures.cause.same i) (c.in-Ok.ensures.cause.same i)) ∙ c.in-Ok-decided.ensures.ends.faults s (out c.args.out.now))
+    ((λ i. fault_counts_with s (c.in-Ok-write_both.ensures.cause.same i) (c.in-Ok.ensures.cause.same i)) ∙ c.in-Ok-decided.ensures.ends.faults s (out c.args.out.now))
 
-pub returns-in-Err-tell_tally-clause-ran : goal.returns-in-Err-tell_tally-clause-ran
-returns-in-Err-tell_tally-clause-ran g c = λ left.
+pub returns-in-Err-write_both-clause-ran : goal.returns-in-Err-write_both-clause-ran
+returns-in-Err-write_both-clause-ran g c = λ left.
     let f = c.flush.ensures in
-    all_torn _ _ (script_of c.args.seed c.args.count) c.status-in-Err-tell_tally.result _ (record { took_is = f.taken; grows = f.given.grows; later = f.cause.later; paging_is = refl; files_is = refl })
-    c.in-Ok-decided.tally c.in-Ok-decided.ensures.ends.came c.in-Ok.ensures.all c.status-in-Err-tell_tally.ensures c.in-Err-tell_tally.ensures.told
+    all_torn _ _ (script_of c.args.seed c.args.count) c.status-in-Err-write_both.result _ (record { took_is = f.taken; grows = f.given.grows; later = f.cause.later; paging_is = refl; files_is = refl })
+    c.in-Ok-decided.tally c.in-Ok-decided.ensures.ends.came c.in-Ok.ensures.all c.status-in-Err-write_both.ensures (subst (λ (t : List ℕ). TornText (g.O.Sink.taken c.args.out.now) (g.O.Sink.taken c.write_both.new.out) t) (c.as_slice.ensures.bytes ∙ c.spell_tally.ensures) c.in-Err-write_both.ensures.told)
 
 -- some were not
 

@@ -1,7 +1,7 @@
 use Rattle.std.proofs.Common.{◌≡◌, Bool, List, Option, ℕ, sym, ap, ◌∙◌, subst, option_map}
 use Rattle.mm_types.specs.{Text}
 use Rattle.mm_tell.specs.{Answers}
-use Rattle.mm_show.specs.{files_of, has_script, has_answers, form_said, form_why, FileIs, IsUnread, page_of}
+use Rattle.mm_show.specs.{files_of, has_script, has_answers, form_said, form_why, FileIs, IsUnread, whole_page}
 use Rattle.mm_show.proofs.{file_lines}
 use Rattle.mm_show.proofs.top.show_form.Goals as goal
 
@@ -14,7 +14,7 @@ returns-clause-exact g c = λ s t fs ft.
     let took' = g.O.Sink.taken c.shown.new.out in
     let ls = option_map g.F.Source.left a.script.now in
     let lt = option_map g.F.Source.left a.answers.now in
-    let page = page_of a.page.now in
+    let page = whole_page a.page.now in
     let status = c.shown.result in
     let named : c.has_script.result ≡ has_script (files_of a.form) = c.has_script.ensures ∙ ap has_script c.files_of-files.ensures in
     let named' : c.has_answers.result ≡ has_answers (files_of a.form) = c.has_answers.ensures ∙ ap has_answers c.files_of-files.ensures in

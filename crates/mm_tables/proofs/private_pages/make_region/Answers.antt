@@ -1,8 +1,8 @@
-use Rattle.std.proofs.Common.{◌+◌, ◌∙◌, refl, sym, ap, arith}
+use Rattle.std.proofs.Common.{◌+◌, ◌∙◌, refl, ap, arith}
 use Rattle.mm_pages.specs.{MakesFrom, StoreOf}
 use Rattle.mm_pages.proofs.{idle_before}
 use Rattle.mm_types.proofs.{on_err}
-use Rattle.mm_tables.specs.{new_pages, process_regions}
+use Rattle.mm_tables.specs.{new_pages}
 use Rattle.mm_tables.proofs.{idle, places_stored, region_filled}
 use Rattle.mm_tables.proofs.PageByPage.{can_fill}
 use Rattle.mm_tables.proofs.private_pages.make_region.Goals as goal
@@ -14,10 +14,10 @@ returns-in_err-region-clause-makes g c =
 
 pub fill_region-requires-clause-can : goal.fill_region-requires-clause-can
 fill_region-requires-clause-can g c commits =
-    can_fill c.args.pid c.args.range c.args.kind c.args.total (process_regions c.args.process.now) c.grow_for_region.new.space.regions
+    can_fill c.args.pid c.args.range c.args.kind c.args.total c.args.space.now.regions c.grow_for_region.new.space.regions
     (g.G.Pages.contents c.args.g.now) (g.G.Pages.contents c.grow_for_region.new.g) (g.G.Pages.store c.args.g.now) (g.G.Pages.store c.grow_for_region.new.g)
     c.requires.can (places_stored c.in-Ok.ensures.binds.bound c.grow_for_region.ensures.idles.contents) (ap (λ (x : StoreOf). x.paging_keys) c.in-Ok.ensures.binds.bound.store) c.in-Ok.ensures.binds.room
-    (c.in-Ok.ensures.regions ∙ sym (ap process_regions c.in-Some.is)) commits
+    c.grow_for_region.ensures.regions commits
 
 pub returns-in-Ok-clause-adds : goal.returns-in-Ok-clause-adds
 returns-in-Ok-clause-adds g c = record {

@@ -1,13 +1,13 @@
 use Rattle.std.proofs.Common.{◌≡◌, ◌≤◌}
 use Rattle.mm_replay.specs.Standing.{life}
-use Rattle.mm_log.specs.{IsReady}
+use Rattle.mm_log.specs.{IsReadyToRead}
 use Rattle.mm_tell.specs.{Tells}
 use Rattle.mm_tell.proofs.replays.tell_log.Given as goal
 
 abbrev pub invariant-loop-n : goal.invariant-loop-n
 invariant-loop-n g l = record {
   tells : Tells (g.S.Source.left l.fn.source) (g.S.Source.left l.source) (g.O.Sink.taken l.fn.out) (g.O.Sink.taken l.out) l.script l.reader (g.T.Teller.rest l.fn.teller) (g.T.Teller.rest l.teller) (life l.life) l.text.items;
-  ready : IsReady l.reader;
+  ready : IsReadyToRead l.reader;
   lines : l.reader.lines ≡ l.n;
   counted : g.T.Teller.counted l.teller ≤ l.n;
   source_later : g.S.Source.faults l.fn.source ≤ g.S.Source.faults l.source;

@@ -1,5 +1,5 @@
 use Rattle.std.proofs.Common.{◌∙◌, arith}
-use Rattle.mm_vad.specs.{range_of}
+use Rattle.mm_vad.specs.{taken_range}
 use Rattle.mm_vad.proofs.{node_fork, lowest_fork, highest_fork, left_fork, right_fork}
 use Rattle.mm_vad.proofs.trees.node_over.Goals as goal
 
@@ -8,7 +8,7 @@ returns-clause-node c =
     let l = c.args.left in
     let u = c.args.right in
     let p = c.args.pages in
-    let m = range_of p in
+    let m = taken_range p in
     let below = c.span-below.ensures in
     let above = c.span-above.ensures in
     node_fork l u p c.room_up_to-left_gap.result c.room_from-right_gap.result _ below.shaped above.shaped c.requires.near c.requires.within

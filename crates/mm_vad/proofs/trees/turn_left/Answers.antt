@@ -1,5 +1,5 @@
 use Rattle.std.proofs.Common.{◌∷◌, ◌∙◌, length, ap, arith, length-append}
-use Rattle.mm_vad.specs.{range_of, range_in}
+use Rattle.mm_vad.specs.{taken_range, range_in}
 use Rattle.mm_vad.proofs.{left_once, left_twice}
 use Rattle.mm_vad.proofs.trees.turn_left.Goals as goal
 
@@ -15,9 +15,9 @@ fork-requires-3-clause-few c = omega (arith, c.requires.few, ap length c.in-Some
 pub returns-then-span : goal.returns-then-span
 returns-then-span c =
     let put = c.replace-between.ensures in
-    left_once c.in-Some.ensures.fork c.fork.ensures (ap range_of put.after) (ap range_of put.value ∙ ap range_in c.deref_mut.ensures.value) c.requires.two_higher (omega (arith, c.span.ensures.is.height_is, c.span-2.ensures.is.height_is, c.if-span.true)) c.in-Some.ensures.within
+    left_once c.in-Some.ensures.fork c.fork.ensures (ap taken_range put.after) (ap taken_range put.value ∙ ap range_in c.deref_mut.ensures.value) c.requires.two_higher (omega (arith, c.span.ensures.is.height_is, c.span-2.ensures.is.height_is, c.if-span.true)) c.in-Some.ensures.within
 
 pub returns : goal.returns
 returns c =
     let put = c.replace-between-2.ensures in
-    left_twice c.in-Some.ensures.fork c.in-Some-apart.ensures.fork c.fork-2.ensures c.fork-3.ensures (ap range_of put.after) (ap range_of put.value ∙ ap range_in c.deref_mut-2.ensures.value) c.requires.two_higher (omega (arith, c.span.ensures.is.height_is, c.span-2.ensures.is.height_is, c.if-span.false)) c.in-Some-apart.ensures.within
+    left_twice c.in-Some.ensures.fork c.in-Some-apart.ensures.fork c.fork-2.ensures c.fork-3.ensures (ap taken_range put.after) (ap taken_range put.value ∙ ap range_in c.deref_mut-2.ensures.value) c.requires.two_higher (omega (arith, c.span.ensures.is.height_is, c.span-2.ensures.is.height_is, c.if-span.false)) c.in-Some-apart.ensures.within

@@ -1,6 +1,6 @@
 use Rattle.std.proofs.Common.{arith, ◌≡◌, ℕ, List, length, map, sym, ap, ◌∙◌, subst}
 use Rattle.std.proofs.lemmas.List.{length-map}
-use Rattle.mm_flight.specs.{Waiting, IsKept, number_of, without, ended}
+use Rattle.mm_flight.specs.{Waiting, IsKept, frame_number, without, ended}
 use Rattle.mm_flight.proofs.{ended_view, numbers_without, kept_ended}
 use Rattle.mm_flight.proofs.flights.Flight.end.Goals as goal
 
@@ -8,10 +8,10 @@ pub invariant_of-self : goal.invariant_of-self
 invariant_of-self c =
     let f = c.args.f.0 in
     let items = c.self.inside.frames.items in
-    let frames : List ℕ = map number_of items in
+    let frames : List ℕ = map frame_number items in
     let waits = c.self.inside.waits.items in
-    let fewer : map number_of c.remove_frame.new.frames.items ≡ without f frames =
-    ap (map number_of) c.remove_frame.ensures.items ∙ numbers_without f items in
+    let fewer : map frame_number c.remove_frame.new.frames.items ≡ without f frames =
+    ap (map frame_number) c.remove_frame.ensures.items ∙ numbers_without f items in
     let ended_one : IsKept (without f frames) c.end_waits-self-inside.new.waits.items =
     subst (λ (ws : List Waiting). IsKept (without f frames) ws) (sym c.end_waits-self-inside.ensures.waits) (kept_ended frames waits c.self.invariant.kept f c.args.ok) in
     record {

@@ -1,5 +1,5 @@
 use Rattle.std.proofs.Common.{arith, ◌∙◌}
-use Rattle.mm_io.specs.{IsLine, HasLine}
+use Rattle.mm_io.specs.{FitsLine, HasLine}
 use Rattle.mm_io.proofs.{recent_line, filled_then, recent_after}
 use Rattle.mm_io.proofs.buffers.Held.next.Goals as goal
 
@@ -11,7 +11,7 @@ returns-in-Line-clause-finds g c =
 pub loop-n-preserved : goal.loop-n-preserved
 loop-n-preserved g c =
     let i = c.loop-n.invariant in
-    let opened : IsLine c.loop-n.self = c.in-Open.ensures in
+    let opened : FitsLine c.loop-n.self = c.in-Open.ensures in
     let read = c.in_ok-read_more.ensures in
     record {
       filled = filled_then _ _ _ _ _ _ i.filled read.filled;

@@ -1,5 +1,5 @@
 use Rattle.std.proofs.Common.{refl}
-use Rattle.mm_pages.specs.{Ages}
+use Rattle.mm_pages.specs.{AgesAll}
 use Rattle.mm_paged.specs.{own_in, paged_state}
 use Rattle.mm_paged.proofs.{none_passes}
 use Rattle.mm_paged.proofs.calls.PagedPages.age.Goals as goal
@@ -8,4 +8,4 @@ use Rattle.mm_life.specs.{all_aged}
 pub returns-clause-passes : goal.returns-clause-passes
 returns-clause-passes g c =
     let s = paged_state c.args.self.now in
-    none_passes (Ages c.args.pid) s (g.T.Moving.shown c.age_all.new.self) (own_in c.args.self.now) _ s.contents (all_aged c.args.pid s.life s.ages) s.waits c.age_all.ensures.rest (record { none = refl; same = refl })
+    none_passes (AgesAll c.args.pid) s (g.T.Moving.shown c.age_all.new.self) (own_in c.args.self.now) _ s.contents (all_aged c.args.pid s.life s.ages) s.waits c.age_all.ensures.rest (record { none = refl; same = refl })

@@ -23,7 +23,7 @@ made : (c : After-kind_of-kind) → IsMachine c.args.machine
     }) (first_parts c.args.machine)
 made c h =
     let m = c.args.machine in
-    let added : c.in_ok-added.added.items ≡ replicate m.blocks false = c.in_ok-added.ensures ∙ ap (λ (n : ℕ). replicate n false) c.blocks-2.ensures in
+    let added : c.in_ok-added.added.items ≡ replicate m.blocks false = search rules in
     let table : c.in_ok-frames.frames.table ≡ free_table m.frames = ap (λ (v : FramesOf). v.table) c.in_ok-frames.ensures ∙ ap free_table c.frames.ensures in
     let bytes : c.in_ok-frames.frames.bytes ≡ replicate m.frames None = ap (λ (v : FramesOf). v.bytes) c.in_ok-frames.ensures ∙ ap (λ (n : ℕ). replicate n None) c.frames.ensures in
     let free : c.in_ok-slots.slots.free ≡ replicate m.slots true = c.in_ok-slots.ensures ∙ ap (λ (n : ℕ). replicate n true) c.slots.ensures in

@@ -9,11 +9,11 @@ invariant_of-result-clause-fits g c = fits_new c.new.result c.new-2.result c.new
 
 pub invariant_of-result-clause-files_fit : goal.invariant_of-result-clause-files_fit
 invariant_of-result-clause-files_fit g c =
-    files_fit_new (area_in c.new-2.result) c.new-3.result.pages.items _ _ c.new-2.ensures.areas c.new-3.ensures c.requires.opened (omega (arith, c.blocks-blocks.ensures))
+    files_fit_new (area_in c.new-2.result) c.new-3.result.items _ _ c.new-2.ensures.areas c.new-3.ensures.items c.requires.opened (omega (arith, c.blocks-blocks.ensures))
 
 pub returns-clause-new : goal.returns-clause-new
 returns-clause-new g c = record {
-  empty = λ k. contents_new (pages_at c.new.result) (area_in c.new-2.result) c.new-3.result.pages.items k c.new.ensures.pages c.new-2.ensures.areas;
+  empty = λ k. contents_new (pages_at c.new.result) (area_in c.new-2.result) c.new-3.result.items k c.new.ensures.pages c.new-2.ensures.areas;
   machine = refl;
   closed = λ pid. none_at false 256 pid;
   no_area = λ area. ap (λ f. size_of (f area)) c.new-2.ensures.areas;
@@ -22,7 +22,7 @@ returns-clause-new g c = record {
   not_paging = λ k. paging_new (pages_at c.new.result) (area_in c.new-2.result) k c.new.ensures.pages c.new-2.ensures.areas;
   no_keys = omega (arith, c.new.ensures.count, c.new-2.ensures.count);
   no_block = λ k. blocks_new (area_in c.new-2.result) k c.new-2.ensures.areas;
-  unused = ap length c.new-3.ensures;
+  unused = ap length c.new-3.ensures.items;
   stored = c.requires.opened;
   line = refl;
   kind = λ i. kind.Machine (c.frames.ensures i) (c.slots.ensures i) (c.depth.ensures i) (c.blocks-blocks.ensures i);

@@ -1,8 +1,8 @@
-use Rattle.std.proofs.Common.{◌≡◌, ◌+◌, ◌∙◌, None, Some, true, length, refl, sym, ap}
+use Rattle.std.proofs.Common.{◌≡◌, ◌+◌, ◌∙◌, None, Some, true, refl, sym, ap}
 use Rattle.std.proofs.Math.ListN.{length-set}
-use Rattle.mm_plain.specs.{area_in, block_at, blocks_of, count_in, pages_at, pages_in, contents_in}
-use Rattle.mm_plain.proofs.{at_place, in_area, changed_same, contents_in_file, live_near, own_live, report_kept, shown_by, written_to, fits_kept}
-use Rattle.mm_plain.proofs.{fits_areas, files_fit_areas, files_fit_set, same_parts}
+use Rattle.mm_plain.specs.{area_in, area_block, blocks_of, count_in, pages_at, pages_in, contents_in}
+use Rattle.mm_plain.proofs.{at_place, in_area, changed_same, contents_in_file, file_written, live_near, own_live, report_kept, shown_by, written_to}
+use Rattle.mm_plain.proofs.{fits_kept, fits_areas, files_fit_areas, files_fit_set, same_parts}
 use Rattle.mm_plain.proofs.plain.Plain.write_page.Goals as goal
 
 pub invariant_of-self-clause-fits : goal.invariant_of-self-clause-fits
@@ -12,7 +12,7 @@ pub invariant_of-self-in-Some-clause-files_fit : goal.invariant_of-self-in-Some-
 invariant_of-self-in-Some-clause-files_fit g c =
     let fit = c.args.self.now.files_fit in
     let near = fit.near c.in-Shared.area.0 c.in-Shared.index c.in-Some.block (sym c.block.ensures ∙ c.in-Some.is) in
-    files_fit_set fit c.in-Some.block _ near c.write-in-Some.ensures refl (λ clean. cc) (λ b other. refl)
+    files_fit_set fit c.in-Some.block _ near (file_written _ c.in-Some.block c.args.off c.args.bytes.now _ _ near c.index_mut.ensures.value c.write-in-Some.ensures) refl (λ clean. cc) (λ b other. refl)
 
 pub invariant_of-self-in-None : goal.invariant_of-self-in-None
 invariant_of-self-in-None g c =
@@ -41,23 +41,24 @@ returns-in-Some-clause-contents g c =
     let s = c.args.self.now in
     let k = c.in-Shared in
     let block = c.in-Some.block in
-    let there : block_at (area_in s.areas k.area.0) k.index ≡ Some block = sym c.block.ensures ∙ c.in-Some.is in
+    let there : area_block (area_in s.areas k.area.0) k.index ≡ Some block = sym c.block.ensures ∙ c.in-Some.is in
+    let near = s.files_fit.near k.area.0 k.index block there in
     written_to (contents_in s) c.args.off c.args.bytes.now
-    (contents_in_file (area_in s.areas) s.file_pages.pages.items _ k.area k.index block _ there (s.files_fit.near k.area.0 k.index block there) c.write-in-Some.ensures
+    (contents_in_file (area_in s.areas) s.file_pages.items _ k.area k.index block _ there near (file_written _ block c.args.off c.args.bytes.now _ _ near c.index_mut.ensures.value c.write-in-Some.ensures)
     (λ b j e. s.files_fit.alone b j k.area.0 k.index block e there) (pages_at s.places) c.args.key k.is)
     (shown_by s k.is there)
 
 pub returns-in-Some-clause-store : goal.returns-in-Some-clause-store
 returns-in-Some-clause-store g c =
     let s = c.args.self.now in
-    same_parts _ _ _ _ _ _ _ _ _ refl refl refl refl refl refl refl (ap length c.write-in-Some.ensures ∙ length-set s.file_pages.pages.items c.in-Some.block _)
+    same_parts _ _ _ _ _ _ _ _ _ refl refl refl refl refl refl refl (length-set s.file_pages.items c.in-Some.block _)
     (report_kept s.writes (contents_in s) _ c.args.key _ (returns-in-Some-clause-contents g c) c.requires.live)
 
 pub returns-in-None-clause-contents : goal.returns-in-None-clause-contents
 returns-in-None-clause-contents g c =
     let s = c.args.self.now in
     let k = c.in-Shared in
-    let none : block_at (area_in s.areas k.area.0) k.index ≡ None = sym c.block.ensures ∙ c.in-None.is in
+    let none : area_block (area_in s.areas k.area.0) k.index ≡ None = sym c.block.ensures ∙ c.in-None.is in
     let live = own_live s c.args.key (ap (blocks_of (area_in s.areas)) k.is ∙ none) c.requires.live in
     written_to (contents_in s) c.args.off c.args.bytes.now (in_area s (live_near s k.is live) c.write-in-None.ensures.areas k.is).contents (shown_by s k.is none)
 

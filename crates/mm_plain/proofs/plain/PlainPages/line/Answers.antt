@@ -1,10 +1,17 @@
-use Rattle.std.proofs.Common.{ℕ, None, ap, ◌∙◌}
-use Rattle.mm_pages.specs.{begun}
+use Rattle.std.proofs.Common.{ℕ, None, ap, sym, ◌∙◌}
+use Rattle.mm_pages.specs.{StoreOf, begun, pid_after}
 use Rattle.mm_plain.specs.{store_in}
+use Rattle.mm_plain.proofs.{pid_stays}
 use Rattle.mm_plain.proofs.plain.PlainPages.line.Goals as goal
 
-pub returns-clause-store : goal.returns-clause-store
-returns-clause-store g c =
+pub returns-in-Process-clause-store : goal.returns-in-Process-clause-store
+returns-in-Process-clause-store g c =
+    let s = store_in c.args.self.now in
+    ap (λ (t : StoreOf). record t { last_pid = c.in-Process.pid.0 }) c.begin.ensures.store
+    ∙ ap (λ (n : ℕ). record s { line = c.args.line; kind = c.args.kind; last_pid = n; ready = None; report = begun s.report }) (sym (ap (pid_after s.last_pid) c.in-Process.is))
+
+pub returns-in_default-clause-store : goal.returns-in_default-clause-store
+returns-in_default-clause-store g c =
     let s = store_in c.args.self.now in
     c.begin.ensures.store
-    ∙ ap (λ (n : ℕ). record s { line = c.args.line; kind = c.args.kind; last_pid = n; ready = None; report = begun s.report }) c.pid_after-self.ensures
+    ∙ ap (λ (n : ℕ). record s { line = c.args.line; kind = c.args.kind; last_pid = n; ready = None; report = begun s.report }) (pid_stays s.last_pid c.args.kind c.in_default.not-Process)

@@ -11,7 +11,7 @@ pub invariant_of-self-in_default-write_file : goal.invariant_of-self-in_default-
 invariant_of-self-in_default-write_file g c =
     let s = c.args.self.now in
     let p = c.prepare_file in
-    let same = files_fit_same (area_in s.areas) (area_in p.new.areas) s.file_pages.pages.items p.new.files.pages.items (g.F.Inject.blocks s.files) s.machine.blocks p.ensures.areas p.ensures.files s.files_fit in
+    let same = files_fit_same (area_in s.areas) (area_in p.new.areas) s.file_pages.items p.new.files.items (g.F.Inject.blocks s.files) s.machine.blocks p.ensures.areas p.ensures.files s.files_fit in
     record {
       fits = fits_areas s.fits p.ensures.count;
       files_fit = files_fit_unused same _ (c.args.first.0 + c.args.n) c.write_file.ensures.long
@@ -32,7 +32,7 @@ invariant_of-self-2 g c =
     let none = none_counted (area_in s.areas) _ c.args.area.0 c.requires.new p.areas in
     record {
       fits = fits_areas s.fits (omega (arith, e.count, none, p.count));
-      files_fit = files_fit_made (area_in s.areas) _ (area_in c.set.new.self) c.args.area.0 c.args.first.0 c.args.n c.args.byte s.file_pages.pages.items _ c.in-Ok.made.pages.items c.append.new.self.pages.items c.requires.new p.areas e.areas c.requires.next c.in-Ok.ensures.made p.files c.append.ensures
+      files_fit = files_fit_made (area_in s.areas) _ (area_in c.set.new.self) c.args.area.0 c.args.first.0 c.args.n c.args.byte s.file_pages.items _ c.in-Ok.made.items c.append.new.self.items c.requires.new p.areas e.areas c.requires.next c.in-Ok.ensures.made p.files c.in-Ok-append.ensures.items
           (g.F.Inject.blocks s.files) _ s.machine.blocks s.files_fit c.requires.room c.in-Ok-write_file.ensures.ok;
       numbers = s.numbers;
     }
@@ -41,7 +41,7 @@ pub returns-clause-made : goal.returns-clause-made
 returns-clause-made g c =
     let s = c.args.self.now in
     let p = c.prepare_file.ensures in
-    (file_opened (area_in s.areas) _ (area_in c.set.new.self) c.args.area.0 c.args.first.0 c.args.n c.args.byte s.file_pages.pages.items _ c.in-Ok.made.pages.items c.append.new.self.pages.items c.requires.new p.areas c.set.ensures.areas c.requires.next c.in-Ok.ensures.made p.files c.append.ensures (pages_at s.places) s.files_fit.near).contents
+    (file_opened (area_in s.areas) _ (area_in c.set.new.self) c.args.area.0 c.args.first.0 c.args.n c.args.byte s.file_pages.items _ c.in-Ok.made.items c.append.new.self.items c.requires.new p.areas c.set.ensures.areas c.requires.next c.in-Ok.ensures.made p.files c.in-Ok-append.ensures.items (pages_at s.places) s.files_fit.near).contents
 
 pub returns-clause-ok : goal.returns-clause-ok
 returns-clause-ok g c =
@@ -49,7 +49,7 @@ returns-clause-ok g c =
     let p = c.prepare_file.ensures in
     let e = c.set.ensures in
     let none = none_counted (area_in s.areas) _ c.args.area.0 c.requires.new p.areas in
-    let file = file_opened (area_in s.areas) _ (area_in c.set.new.self) c.args.area.0 c.args.first.0 c.args.n c.args.byte s.file_pages.pages.items _ c.in-Ok.made.pages.items c.append.new.self.pages.items c.requires.new p.areas e.areas c.requires.next c.in-Ok.ensures.made p.files c.append.ensures (pages_at s.places) s.files_fit.near in
+    let file = file_opened (area_in s.areas) _ (area_in c.set.new.self) c.args.area.0 c.args.first.0 c.args.n c.args.byte s.file_pages.items _ c.in-Ok.made.items c.append.new.self.items c.requires.new p.areas e.areas c.requires.next c.in-Ok.ensures.made p.files c.in-Ok-append.ensures.items (pages_at s.places) s.files_fit.near in
     same_parts _ _ _ _ _ _ _ _ _ file.sizes refl refl file.paging (omega (arith, e.count, none, p.count)) refl file.blocks file.used refl
 
 pub returns-clause-served : goal.returns-clause-served

@@ -1,5 +1,5 @@
-use Rattle.std.proofs.Common.{◌≡◌, true, false, sym, ◌∙◌, arith}
-use Rattle.mm_replay.proofs.{place_within, place_in, value_is, none_of}
+use Rattle.std.proofs.Common.{sym, arith}
+use Rattle.mm_replay.proofs.{place_within, place_in, value_is, none_placed}
 use Rattle.mm_replay.proofs.grids.Grid.get.Goals as goal
 
 pub index-requires : goal.index-requires
@@ -15,5 +15,4 @@ returns-then-has_place g c =
     value_is c.args.self.now.leaves.items c.args.n c.index.result.now c.index-then-has_place.result.now (c.has_place.ensures.0 c.if-has_place.true) c.index.ensures c.index-then-has_place.ensures
 
 pub returns-else-has_place : goal.returns-else-has_place
-returns-else-has_place g c =
-    sym (none_of c.args.self.now.leaves.items c.args.n (λ place. (let bad : false ≡ true = sym c.if-has_place.false ∙ c.has_place.ensures.1 place in cc)))
+returns-else-has_place g c = sym (none_placed c.args.self.now.leaves.items c.args.n c.has_place.result c.has_place.ensures c.if-has_place.false)

@@ -1,7 +1,7 @@
 use Rattle.std.proofs.Common.{subst, sym}
-use Rattle.mm_laws.specs.Reached.{Reached}
+use Rattle.mm_laws.specs.{ReachedByMoves}
 use Rattle.mm_laws.proofs.{reached_start}
 use Rattle.mm_replay.proofs.lives.Life.new.Goals as goal
 
 pub invariant_of-result : goal.invariant_of-result
-invariant_of-result c = record { reached = ∣ subst Reached (sym c.new.ensures) reached_start ∣₁ }
+invariant_of-result c = record { reached = ∣ subst ReachedByMoves (sym c.new.ensures) reached_start ∣₁ }

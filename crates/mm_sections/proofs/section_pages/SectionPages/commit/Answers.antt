@@ -13,7 +13,7 @@ returns c =
     let k = first + count - first in
     let old = c.deref_mut.result.now in
     let area : List Bool → AreaOf (Unit {0}) = λ xs. record { file_block = option_map block_number s.first_block; pages = map page_if xs } in
-    ap area (refilled_whole s.committed.len first k s.committed.items old c.commit_all.new.pages (sym s.committed.ok.0) c.deref_mut.ensures.value c.commit_all.ensures)
-    ∙ committed_area (option_map block_number s.first_block) old c.commit_all.new.pages first count k (omega arith) c.commit_all.ensures
+    ap area (refilled_whole s.committed.len first k s.committed.items old c.fill.new.self (sym s.committed.ok.0) c.deref_mut.ensures.value (c.fill.ensures.after (λ y e. e)))
+    ∙ committed_area (option_map block_number s.first_block) old c.fill.new.self first count k (omega arith) (c.fill.ensures.after (λ y e. e))
     ∙ ap (λ (xs : List Bool). commit_shared blank first count (area xs)) c.deref_mut.ensures.value
     ∙ ap (commit_shared blank first count) c.self.view_is

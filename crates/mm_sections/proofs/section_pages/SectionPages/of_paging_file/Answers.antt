@@ -1,4 +1,4 @@
-use Rattle.std.proofs.Common.{ap, ◌∙◌, List, Option, Bool, None, map}
+use Rattle.std.proofs.Common.{◌≡◌, ap, ◌∙◌, replicate, rules, List, Option, Bool, None, map}
 use Rattle.mm_world.specs.{AreaOf}
 use Rattle.mm_world.proofs.{map-replicate}
 use Rattle.mm_sections.specs.{page_if}
@@ -6,5 +6,6 @@ use Rattle.mm_sections.proofs.section_pages.SectionPages.of_paging_file.Goals as
 
 pub returns : goal.returns
 returns c =
+    let made : c.in_ok-vec.field-0.items ≡ replicate c.args.pages c.args.committed = search rules in
     let area : List (Option (Unit {0})) → AreaOf (Unit {0}) = λ pages. record { file_block = None; pages = pages } in
-    ap (λ (xs : List Bool). area (map page_if xs)) c.in_ok-new_pages.ensures ∙ ap area (map-replicate page_if c.args.pages c.args.committed)
+    ap (λ (xs : List Bool). area (map page_if xs)) made ∙ ap area (map-replicate page_if c.args.pages c.args.committed)

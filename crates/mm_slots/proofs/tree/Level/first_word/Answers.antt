@@ -13,4 +13,5 @@ returns-then-len-eq1-clause-some g c = λ z.
 pub lowest-requires : goal.lowest-requires
 lowest-requires g c =
     let words = c.args.self.now.words.items in
-    (c.requires.0 / 64, c.args.self.now.summary (c.requires.0 / 64) ∙ not_zero _ (word_of words c.requires.0 c.requires.1))
+    let inside = some_inside words (c.requires.0 / 64) (word_of words c.requires.0 c.requires.1) in
+    (c.requires.0 / 64, c.args.self.now.summary (omega (arith, inside)) (c.requires.0 / 64) ∙ not_zero _ (word_of words c.requires.0 c.requires.1))

@@ -22,7 +22,7 @@ returns-then-addr-eq0 c =
 if_free : (c : After-is_free) → cond c.is_free.result (Some c.args.wanted) None ≡ placed (ranges_of c.args.self.now.regions) c.args.addr c.args.wanted c.args.count
 if_free c =
     let vs = c.self.inside.space.regions in
-    let free = c.is_free.ensures ∙ ap (λ (r : Range). is_free (vad.ranges_of vs) r) c.wanted.view_is in
+    let free = c.is_free.ensures ∙ ap (λ (r : Range). is_free (vad.region_ranges vs) r) c.wanted.view_is in
     sym (by_wanted vs c.self.invariant.whole.whole c.args.addr c.args.wanted c.args.count c.is_free.result c.if-addr-eq0.false free)
     ∙ ap (λ (v : RegionsOf). placed (ranges_of v.regions) c.args.addr c.args.wanted c.args.count) c.self.view_is
 

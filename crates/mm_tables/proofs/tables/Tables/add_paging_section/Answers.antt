@@ -1,26 +1,37 @@
-use Rattle.std.proofs.Common.{◌≡◌, ◌≤◌, ◌+◌, ◌++◌, ◌∷◌, [], ◌∙◌, ℕ, Bool, sym, ap, subst, length, arith, true, false, refl}
+use Rattle.std.proofs.Common.{◌≡◌, ◌≤◌, ◌+◌, ◌-◌, ◌*◌, ◌++◌, ◌∷◌, [], ◌∙◌, ℕ, Bool, Some, set, sym, ap, subst, length, arith, true, false, refl}
 use Rattle.std.specs.Prelude.{if◌then◌else◌}
 use Rattle.mm_types.specs.declared.answers.Answer.TheVariants as answer
-use Rattle.mm_world.specs.{numbered, charge, Tables, process_of}
+use Rattle.mm_world.specs.{Numbered, charge, Tables, process_of}
 use Rattle.mm_world.specs.WellFormed.{WellFormed}
-use Rattle.mm_tables.specs.{shown_processes}
-use Rattle.mm_tables.proofs.{idle, pages_as, pages_idle, can_hold, ListsSection, paging_pages, committed_pages, area_free, key_free, lists}
-use Rattle.mm_tables.proofs.{paging_kept, paging_now, paging_settled, same_kept, as_kept, paging_few, out_of_memory}
+use Rattle.mm_tables.specs.{shown_processes, with_handles}
+use Rattle.mm_tables.proofs.{idle, pages_as, pages_idle, ListsSection, paging_pages, committed_pages, area_free, key_free, lists, paging_kept}
+use Rattle.mm_tables.proofs.{paging_now, paging_settled, same_kept, as_kept, paging_few, out_of_memory, Lent, lent_are, lives_there, one_given}
+use Rattle.mm_tables.proofs.{room_alone}
 use Rattle.mm_tables.proofs.SectionFits.{same_tables}
 use Rattle.mm_types.proofs.{some_found, on_err}
 use Rattle.mm_tables.proofs.tables.Tables.add_paging_section.Given as given
 use Rattle.mm_tables.proofs.tables.Tables.add_paging_section.Goals as goal
+use Rattle.mm_tables.proofs.tables.Tables.add_paging_section.Goals.{After-handles_of-handles}
 
 -- no more pages are committed than there are
 committed_few : (pages : ℕ) (committed : Bool) (n : ℕ) → n ≡ (if committed then pages else 0) → n ≤ pages
 committed_few pages true n is = omega (arith, is)
 committed_few pages false n is = omega (arith, is)
 
+lent : (g : given.Over) (c : After-handles_of-handles g) → Lent c.self.inside c.args.self.now c.args.pid.0 c.index_mut.result.now c.handles_of-handles.result.now.entries
+lent g c = record { view = c.self.view_is; lives = c.requires.ready.lives; at = c.index_mut.ensures.value; are = c.handles_of-handles.ensures.value }
+
+pub handles_of-handles-requires : goal.handles_of-handles-requires
+handles_of-handles-requires g c = record { lives = lives_there c.self.inside c.args.self.now c.self.view_is c.args.pid.0 c.index_mut.result.now c.requires.ready.lives c.index_mut.ensures.value }
+
 -- what has become of the processes, the directory and the areas
-listed : (g : given.Over) (c : goal.After-take g) → ListsSection c.self.inside c.args.self.now c.args.pid.0 (record { prot = c.args.prot.0; name = c.args.name; area = c.len.result }) (shown_processes c.list_section-handle.new.processes.items) c.list_section-handle.new.directory.entries c.list_section-handle.new.directory.files
+listed : (g : given.Over) (c : goal.After-take g) → ListsSection c.self.inside c.args.self.now c.args.pid.0 (record { prot = c.args.prot.0; name = c.args.name; area = c.len.result }) (shown_processes (set c.self.inside.processes.items (c.args.pid.0 - 1) (with_handles c.index_mut.result.now c.list_section-handle.new.handles))) c.list_section-handle.new.directory.entries c.list_section-handle.new.directory.files
 listed g c =
-    lists c.self.inside c.args.pid.0 (record { prot = c.args.prot.0; name = c.args.name; area = c.len.result }) c.self.view_is c.grow_for_paging.ensures.processes
-    c.grow_for_paging.ensures.listed.entries c.grow_for_paging.ensures.listed.files c.list_section-handle.ensures.gives.given c.list_section-handle.ensures.entries c.list_section-handle.ensures.files
+    let l : Lent c.self.inside c.args.self.now c.args.pid.0 c.index_mut.result.now c.handles_of-handles.result.now.entries = record { view = c.self.view_is; lives = c.requires.ready.lives; at = c.index_mut.ensures.value; are = c.handles_of-handles.ensures.value } in
+    let grown = c.grow_for_paging.ensures in
+    let number = length c.grow_for_paging.new.directory.entries in
+    lists c.self.inside c.args.pid.0 (record { prot = c.args.prot.0; name = c.args.name; area = c.len.result }) c.self.view_is grown.listed.entries grown.listed.files
+    (one_given l c.list_section-handle.new.handles number (c.list_section-handle.ensures.given ∙ ap (λ hs. hs ++ Some number ∷ []) grown.same)) c.list_section-handle.ensures.entries c.list_section-handle.ensures.files
 
 at_end : (g : given.Over) (c : goal.After-take g) → c.len.result ≡ length c.self.inside.areas.items
 at_end g c = omega (arith, c.len.ensures, c.self.inside.areas.ok.0)
@@ -30,12 +41,12 @@ areas_are g c = c.push_reserved.ensures.items ∙ (λ i. c.grow_for_paging.ensur
 
 pub invariant_of-self : goal.invariant_of-self
 invariant_of-self g c =
-    same_kept c.self.inside c.grow_for_paging.ensures.processes c.grow_for_paging.ensures.listed.entries c.grow_for_paging.ensures.areas c.grow_for_paging.ensures.listed.files c.self.invariant
+    same_kept c.self.inside (room_alone (lent g (goal.at.invariant_of-self g c).After-handles_of-handles) c.grow_for_paging.new.handles c.grow_for_paging.ensures.same) c.grow_for_paging.ensures.listed.entries c.grow_for_paging.ensures.areas c.grow_for_paging.ensures.listed.files c.self.invariant
 
 pub returns-in_err-made-clause-settles : goal.returns-in_err-made-clause-settles
 returns-in_err-made-clause-settles g c =
     out_of_memory g.G.Pages c.from_residual.result c.requires.ready.fits
-    (same_tables c.self.inside c.grow_for_paging.ensures.processes c.grow_for_paging.ensures.listed.entries c.grow_for_paging.ensures.areas c.grow_for_paging.ensures.listed.files c.self.view_is)
+    (same_tables c.self.inside (room_alone (lent g (goal.at.returns-in_err-made-clause-settles g c).After-handles_of-handles) c.grow_for_paging.new.handles c.grow_for_paging.ensures.same) c.grow_for_paging.ensures.listed.entries c.grow_for_paging.ensures.areas c.grow_for_paging.ensures.listed.files c.self.view_is)
     (record { contents = refl; store = refl; later = omega arith })
 
 pub returns-in_err-made-clause-makes : goal.returns-in_err-made-clause-makes
@@ -59,22 +70,23 @@ open_paging_area-requires-clause-keys g c =
 
 pub invariant_of-self-in_err-open_paging_area : goal.invariant_of-self-in_err-open_paging_area
 invariant_of-self-in_err-open_paging_area g c =
-    same_kept c.self.inside c.grow_for_paging.ensures.processes c.grow_for_paging.ensures.listed.entries c.grow_for_paging.ensures.areas c.grow_for_paging.ensures.listed.files c.self.invariant
+    same_kept c.self.inside (room_alone (lent g (goal.at.invariant_of-self-in_err-open_paging_area g c).After-handles_of-handles) c.grow_for_paging.new.handles c.grow_for_paging.ensures.same) c.grow_for_paging.ensures.listed.entries c.grow_for_paging.ensures.areas c.grow_for_paging.ensures.listed.files c.self.invariant
 
 pub returns-in_err-open_paging_area-clause-settles : goal.returns-in_err-open_paging_area-clause-settles
 returns-in_err-open_paging_area-clause-settles g c =
     out_of_memory g.G.Pages c.from_residual-in_err-open_paging_area.result c.requires.ready.fits
-    (same_tables c.self.inside c.grow_for_paging.ensures.processes c.grow_for_paging.ensures.listed.entries c.grow_for_paging.ensures.areas c.grow_for_paging.ensures.listed.files c.self.view_is)
+    (same_tables c.self.inside (room_alone (lent g (goal.at.returns-in_err-open_paging_area-clause-settles g c).After-handles_of-handles) c.grow_for_paging.new.handles c.grow_for_paging.ensures.same) c.grow_for_paging.ensures.listed.entries c.grow_for_paging.ensures.areas c.grow_for_paging.ensures.listed.files c.self.view_is)
     c.in_err-open_paging_area.ensures.err
 
 pub returns-in_err-open_paging_area-clause-makes : goal.returns-in_err-open_paging_area-clause-makes
 returns-in_err-open_paging_area-clause-makes g c =
     pages_as g.G.Pages c.from_residual-in_err-open_paging_area.result (on_err c.from_residual-in_err-open_paging_area.result c.in_err-open_paging_area.ensures.makes.idle) c.open_paging_area.ensures.makes
 
-pub list_section-handle-requires-clause-holds : goal.list_section-handle-requires-clause-holds
-list_section-handle-requires-clause-holds g c =
-    can_hold c.self.inside c.args.self.now c.grow_for_paging.new.processes.items c.args.pid.0 c.self.view_is c.grow_for_paging.ensures.processes c.requires.ready.lives c.requires.few
-    c.in_ok-made.ensures.room
+pub list_section-handle-requires-clause-can : goal.list_section-handle-requires-clause-can
+list_section-handle-requires-clause-can g c =
+    let p = some_found (process_of c.args.self.now c.args.pid.0) c.requires.ready.lives in
+    let same = c.grow_for_paging.ensures.same ∙ lent_are (lent g (goal.at.list_section-handle-requires-clause-can g c).After-handles_of-handles) p.0 p.1 in
+    record { room = c.in_ok-made.ensures.room; few = omega (arith, c.requires.few.handles c.args.pid.0 p.0 p.1, ap (λ (hs : Numbered ℕ). length hs) same) }
 
 pub invariant_of-self-2 : goal.invariant_of-self-2
 invariant_of-self-2 g c =
@@ -84,7 +96,7 @@ invariant_of-self-2 g c =
 
 pub returns-clause-ok : goal.returns-clause-ok
 returns-clause-ok g c p lives =
-    let handle = c.list_section-handle.ensures.gives.handle p (ap (λ ps. numbered ps c.args.pid.0) c.grow_for_paging.ensures.processes ∙ ap (λ (t : Tables). process_of t c.args.pid.0) c.self.view_is ∙ lives) in
+    let handle = c.list_section-handle.ensures.handle ∙ ap (λ (hs : Numbered ℕ). 4 * length hs) (c.grow_for_paging.ensures.same ∙ lent_are (lent g (goal.at.returns-clause-ok g c).After-handles_of-handles) p lives) in
     let end = paging_now (listed g c) p lives c.args.pages c.args.committed (at_end g c) c.requires.some (areas_are g c) in
     λ i. record { answer = answer.Created (sym handle i) false; world = sym end i }
 

@@ -24,10 +24,10 @@ insert-requires t c =
     let few : length n.left.ranges + 1 < 4294967296 = omega (arith, all, c.requires.few) in
     (falls, (apart_front 0 n.left.ranges (range_in n ∷ n.right.ranges) (subst (LieApart 0) is.fork.ranges c.requires.apart), (c.requires.within, few)))
 
-pub settle_left-requires : goal.settle_left-requires
-settle_left-requires t c =
+pub settle-requires : goal.settle-requires
+settle-requires t c =
     let n = c.deref_mut.result.now in
-    let is = left_root (goal.at.settle_left-requires t c).After-deref_mut in
+    let is = left_root (goal.at.settle-requires t c).After-deref_mut in
     let all = both_shorter n.left.ranges (range_in n) n.right.ranges _ is.fork.ranges in
     let new = ap length c.insert.ensures.is ∙ length-add (range_in c.args.node.value) n.left.ranges in
     may_lean_left n c.args.self.now c.insert.new.self n.right is c.deref_mut-then-insert.result.now c.deref_mut-then-insert.ensures.value refl
@@ -38,7 +38,7 @@ returns-then-insert t c =
     let at = (goal.at.returns-then-insert t c).After-deref_mut in
     let n = c.deref_mut.result.now in
     settled_grown n c.args.self.now c.insert.new.self n.right (left_root at) c.deref_mut-then-insert.result.now c.deref_mut-then-insert.ensures.value
-    (tree_at c.settle_left.new.node) c.settle_left.result c.settle_left.ensures.is.shaped c.settle_left.ensures.balanced c.settle_left.ensures.same
+    (tree_at c.settle.new.node) c.settle.result c.settle.ensures.is.shaped c.settle.ensures.balanced c.settle.ensures.same
     (add_range (range_in c.args.node.value) c.args.self.now.ranges) (left_are at _ c.insert.ensures.is) c.insert.ensures.not_lower (omega arith) (omega (arith, c.insert.ensures.not_higher))
 
 pub returns-then-deref : goal.returns-then-deref
@@ -76,10 +76,10 @@ insert-requires-2 t c =
     let few : length n.right.ranges + 1 < 4294967296 = omega (arith, all, c.requires.few) in
     (falls, (apart_back 0 n.left.ranges (range_in n) n.right.ranges (subst (LieApart 0) is.fork.ranges c.requires.apart), (c.requires.within, few)))
 
-pub settle_right-requires : goal.settle_right-requires
-settle_right-requires t c =
+pub settle-requires-then-insert-2 : goal.settle-requires-then-insert-2
+settle-requires-then-insert-2 t c =
     let n = c.deref_mut-2.result.now in
-    let is = right_root (goal.at.settle_right-requires t c).After-deref_mut-2 in
+    let is = right_root (goal.at.settle-requires-then-insert-2 t c).After-deref_mut-2 in
     let all = both_shorter n.left.ranges (range_in n) n.right.ranges _ is.fork.ranges in
     let new = ap length c.insert-2.ensures.is ∙ length-add (range_in c.args.node.value) n.right.ranges in
     may_lean_right n c.args.self.now n.left c.insert-2.new.self is c.deref_mut-then-insert-2.result.now c.deref_mut-then-insert-2.ensures.value refl
@@ -90,7 +90,7 @@ returns-then-insert-2 t c =
     let at = (goal.at.returns-then-insert-2 t c).After-deref_mut-2 in
     let n = c.deref_mut-2.result.now in
     settled_grown n c.args.self.now n.left c.insert-2.new.self (right_root at) c.deref_mut-then-insert-2.result.now c.deref_mut-then-insert-2.ensures.value
-    (tree_at c.settle_right.new.node) c.settle_right.result c.settle_right.ensures.is.shaped c.settle_right.ensures.balanced c.settle_right.ensures.same
+    (tree_at c.settle-then-insert-2.new.node) c.settle-then-insert-2.result c.settle-then-insert-2.ensures.is.shaped c.settle-then-insert-2.ensures.balanced c.settle-then-insert-2.ensures.same
     (add_range (range_in c.args.node.value) c.args.self.now.ranges) (right_are at _ c.insert-2.ensures.is) (omega arith) c.insert-2.ensures.not_lower (omega (arith, c.insert-2.ensures.not_higher))
 
 pub returns : goal.returns

@@ -37,10 +37,10 @@ remove-node-requires t c =
     let few : length n.left.ranges < 4294967296 = omega (arith, all, c.requires.few) in
     (falls, (apart_front 0 n.left.ranges (range_in n ∷ n.right.ranges) (left_order at), (begun, few)))
 
-pub settle_left-requires : goal.settle_left-requires
-settle_left-requires t c =
+pub settle-requires : goal.settle-requires
+settle-requires t c =
     let n = c.deref_mut.result.now in
-    let is = left_root (goal.at.settle_left-requires t c).After-deref_mut in
+    let is = left_root (goal.at.settle-requires t c).After-deref_mut in
     let all = both_shorter n.left.ranges (range_in n) n.right.ranges _ is.fork.ranges in
     let new = ap length c.remove-node.ensures.is in
     may_lean_left n c.args.self.now c.remove-node.new.self n.right is c.deref_mut-then-changed.result.now c.deref_mut-then-changed.ensures.value refl
@@ -51,7 +51,7 @@ returns-then-changed t c =
     let at = (goal.at.returns-then-changed t c).After-deref_mut in
     let n = c.deref_mut.result.now in
     settled_shrunk n c.args.self.now c.remove-node.new.self n.right (left_root at) c.deref_mut-then-changed.result.now c.deref_mut-then-changed.ensures.value
-    (tree_at c.settle_left.new.node) c.settle_left.result c.settle_left.ensures.is.shaped c.settle_left.ensures.balanced c.settle_left.ensures.same
+    (tree_at c.settle.new.node) c.settle.result c.settle.ensures.is.shaped c.settle.ensures.balanced c.settle.ensures.same
     (remove_range c.args.first c.args.self.now.ranges) (left_are at _ c.remove-node.ensures.is) c.remove-node.ensures.not_higher (omega arith) (omega (arith, c.remove-node.ensures.not_lower))
 
 pub returns-then-first-deref : goal.returns-then-first-deref
@@ -94,10 +94,10 @@ remove-node-requires-2 t c =
     let few : length n.right.ranges < 4294967296 = omega (arith, all, c.requires.few) in
     (falls, (apart_back 0 n.left.ranges (range_in n) n.right.ranges (right_order at), (begun, few)))
 
-pub settle_right-requires : goal.settle_right-requires
-settle_right-requires t c =
+pub settle-requires-then-changed-2 : goal.settle-requires-then-changed-2
+settle-requires-then-changed-2 t c =
     let n = c.deref_mut-2.result.now in
-    let is = right_root (goal.at.settle_right-requires t c).After-deref_mut-2 in
+    let is = right_root (goal.at.settle-requires-then-changed-2 t c).After-deref_mut-2 in
     let all = both_shorter n.left.ranges (range_in n) n.right.ranges _ is.fork.ranges in
     let new = ap length c.remove-node-2.ensures.is in
     may_lean_right n c.args.self.now n.left c.remove-node-2.new.self is c.deref_mut-then-changed-2.result.now c.deref_mut-then-changed-2.ensures.value refl
@@ -108,7 +108,7 @@ returns-then-changed-2 t c =
     let at = (goal.at.returns-then-changed-2 t c).After-deref_mut-2 in
     let n = c.deref_mut-2.result.now in
     settled_shrunk n c.args.self.now n.left c.remove-node-2.new.self (right_root at) c.deref_mut-then-changed-2.result.now c.deref_mut-then-changed-2.ensures.value
-    (tree_at c.settle_right.new.node) c.settle_right.result c.settle_right.ensures.is.shaped c.settle_right.ensures.balanced c.settle_right.ensures.same
+    (tree_at c.settle-then-changed-2.new.node) c.settle-then-changed-2.result c.settle-then-changed-2.ensures.is.shaped c.settle-then-changed-2.ensures.balanced c.settle-then-changed-2.ensures.same
     (remove_range c.args.first c.args.self.now.ranges) (right_are at _ c.remove-node-2.ensures.is) (omega arith) c.remove-node-2.ensures.not_higher (omega (arith, c.remove-node-2.ensures.not_lower))
 
 pub returns : goal.returns
