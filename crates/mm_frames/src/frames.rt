@@ -474,7 +474,9 @@ impl Frames {
           table = with_record (off_lists self.old.table f.0) f.0 r;
         } }
         ensures settled { is_idle (record_at self.old.table f.0) ≡ false
-            → self.new ≡ record self.old { table = settled (with_record self.old.table f.0 r) f.0 } }
+            → self.new ≡ record self.old {
+              table = settled (with_record self.old.table f.0 r) f.0;
+            } }
         ensures stays { is_idle (record_at self.old.table f.0) ≡ false → is_idle r ≡ false
             → self.new ≡ record self.old { table = with_record self.old.table f.0 r } }
     {

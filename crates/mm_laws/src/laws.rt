@@ -140,9 +140,11 @@ pub fn file_keys_keep_their_blocks()
         (k : Key) → is_file_key l k ≡ true → block_held m k ≡ block_held l k }
     ensures none { (l : FrameLife) → Sound l → (k : Key) → l.paging k ≡ true →
         block_held l k ≡ None }
-    ensures one { (l : FrameLife) → ReachedByMoves l → (j k : Key) (b : ℕ) → block_held l j ≡ Some b →
+    ensures one { (l : FrameLife) → ReachedByMoves l → (j k : Key) (b : ℕ) →
+        block_held l j ≡ Some b →
         block_held l k ≡ Some b → j ≡ k }
-    ensures added { (l : FrameLife) → ReachedByMoves l → (k : Key) (b : ℕ) → block_held l k ≡ Some b →
+    ensures added { (l : FrameLife) → ReachedByMoves l → (k : Key) (b : ℕ) →
+        block_held l k ≡ Some b →
         IsAdded l b }
 {}
 

@@ -17,7 +17,8 @@ pub fn machines_are_in_range()
 /// What follows a state that a log reaches is reached too.
 pub fn logs_go_on()
     ensures start { ReachedByMoves unstarted }
-    ensures one { (x : Move) (l : FrameLife) → ReachedByMoves l → IsLegal x l → ReachedByMoves (after_move l x) }
+    ensures one { (x : Move) (l : FrameLife) → ReachedByMoves l → IsLegal x l →
+        ReachedByMoves (after_move l x) }
     ensures along { (moves : List Move) (l m : FrameLife) → ReachedByMoves l → Replays moves l m →
         ReachedByMoves m }
 {}

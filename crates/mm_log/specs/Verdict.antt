@@ -26,7 +26,8 @@ StuckBefore (Some more) l bytes = IsStuck l (bytes ++ more)
 -- in front stands the line of this move, or that of none
 abbrev pub SpellsMove : Option Move → Text → Type 0
 SpellsMove (Some m) bytes = IsMove m × ((behind : Text) × (bytes ≡ move_onto m (10 ∷ behind)))
-SpellsMove None bytes = (m : Move) (behind : Text) → IsMove m → bytes ≡ move_onto m (10 ∷ behind) → ⊥
+SpellsMove None bytes =
+    (m : Move) (behind : Text) → IsMove m → bytes ≡ move_onto m (10 ∷ behind) → ⊥
 
 abbrev pub SpellsBefore : Option Text → Option Move → Text → Type 0
 SpellsBefore None refused bytes = Unit {0}
@@ -80,7 +81,8 @@ abbrev pub IsRefusedLog : Option Text → Option Text → ℕ → Type 0
 IsRefusedLog took took' result = (result ≡ 1) × (took' ≡ took)
 
 -- The whole run, over words that are a form.
-pub record LogCheckRan (asked : Asked) (left left' took took' : Option Text) (result : ℕ) : Type 0 where
+pub record LogCheckRan (asked : Asked) (left left' took took' : Option Text) (result : ℕ)
+    : Type 0 where
   pub ending : Ending
   pub life : FrameLife
   pub counts : CountsOfLog

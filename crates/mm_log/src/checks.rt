@@ -55,7 +55,8 @@ impl Checker {
             (λ u. MovesWereTaken left (S.left source.new) reader.new (life self.new.life)
             self.new.tally)
             (λ e. Came left (S.left source.new) e (life self.new.life) self.new.tally.counts) }
-        ensures ready { OnOk result (IsReadyToRead reader.new × (reader.new.lines ≡ reader.old.lines + 1)) }
+        ensures ready { OnOk result
+            (IsReadyToRead reader.new × (reader.new.lines ≡ reader.old.lines + 1)) }
         ensures later { S.faults source.old ≤ S.faults source.new }
         ensures blame { result ≡ Err Ending.ReadFault →
             Rose (S.faults source.old) (S.faults source.new) }

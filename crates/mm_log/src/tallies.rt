@@ -26,11 +26,20 @@ impl Model for Tally {
     ghost Value = { TallyOf };
 
     ghost view = { λ t. record {
-      counts = record { moves = t.moves; zero_fills = t.zero_fills; soft_faults = t.soft_faults; hard_faults = t.hard_faults; steals = t.steals; write_outs = t.write_outs };
+      counts = record {
+        moves = t.moves;
+        zero_fills = t.zero_fills;
+        soft_faults = t.soft_faults;
+        hard_faults = t.hard_faults;
+        steals = t.steals;
+        write_outs = t.write_outs;
+      };
       brought = t.brought;
     } };
 
-    ghost invariant = { λ t. (t.zero_fills ≤ t.moves) × (t.soft_faults ≤ t.moves) × (t.hard_faults ≤ t.moves) × (t.steals ≤ t.moves) × (t.write_outs ≤ t.moves) × (t.brought.line ≤ t.moves + 1) };
+    ghost invariant = { λ t. (t.zero_fills ≤ t.moves) × (t.soft_faults ≤ t.moves)
+        × (t.hard_faults ≤ t.moves) × (t.steals ≤ t.moves) × (t.write_outs ≤ t.moves)
+        × (t.brought.line ≤ t.moves + 1) };
 }
 
 fn one_if(b: bool) -> u64

@@ -24,7 +24,8 @@ const NO_MEMORY: u8 = 1;
 /// An `Err` is memory that was refused.
 fn asked(alloc: Global, words: &[String]) -> Result<Option<Asked>, NoMemory>
     ensures forms { IfOk result (λ r. IfSome r (Asks (map string_bytes words.now))) }
-    ensures all { IfOk result (λ r. (a : Asked) → Asks (map string_bytes words.now) a → r ≡ Some a) }
+    ensures all { IfOk result (λ r. (a : Asked) →
+        Asks (map string_bytes words.now) a → r ≡ Some a) }
 {
     let forms = [
         Form {
@@ -108,7 +109,8 @@ pub fn run_log<S: Source, O: Sink>(
     out: &mut O,
 ) -> u8
     ensures ran { (a : Asked) → Asks (map string_bytes words.now) a →
-        LogCheckRan a (S.left source.old) (S.left source.new) (O.taken out.old) (O.taken out.new) result }
+        LogCheckRan a (S.left source.old) (S.left source.new)
+        (O.taken out.old) (O.taken out.new) result }
     ensures yes { (a : Asked) (text : List ℕ) (moves : List Move) (l : FrameLife) →
         Asks (map string_bytes words.now) a → S.left source.old ≡ Some text →
         length text ≤ most_bytes

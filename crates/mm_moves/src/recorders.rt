@@ -92,7 +92,12 @@ impl<'a, K: Sink> Recorder<'a, K> {
 }
 
 impl<'a, K: Sink> Moves for Recorder<'a, K> {
-    ghost log = { λ r. record { bytes = K.taken r.sink.now; given = K.given r.sink.now; failed = r.failed; faults = K.faults r.sink.now } };
+    ghost log = { λ r. record {
+      bytes = K.taken r.sink.now;
+      given = K.given r.sink.now;
+      failed = r.failed;
+      faults = K.faults r.sink.now;
+    } };
 
     ghost loans = { λ r. Loan r.sink.ghost_name };
 

@@ -58,7 +58,8 @@ pub struct Plain<F: Inject> {
 
 /// The page of a live key.
 fn page_of<'a>(places: &'a Places, areas: &'a Areas, files: &'a FilePages, key: Key) -> &'a PageBox
-    requires near { (area index block : ℕ) → area_block (area_in areas.now area) index ≡ Some block →
+    requires near { (area index block : ℕ) →
+        area_block (area_in areas.now area) index ≡ Some block →
         block < length files.now.items }
     requires few { length files.now.items < 2 ^ 32 }
     requires live { IsSome (contents_of (pages_at places.now) (area_in areas.now)

@@ -100,7 +100,8 @@ fn fill_place(
     ensures at { cells.new.at ≡ cells.old.at }
     ensures long { length cells.new.slots ≡ length cells.old.slots }
     ensures kept { ArePlaces cells.new.slots contents.new.items }
-    ensures same { shown contents.new.items cells.new.slots ≡ shown contents.old.items cells.old.slots }
+    ensures same { shown contents.new.items cells.new.slots
+        ≡ shown contents.old.items cells.old.slots }
     ensures there { IsFilled cells.new.slots i }
 {
     let was = contents[i];

@@ -125,7 +125,8 @@ impl<const COUNT: u32> FrameLists<COUNT> {
         requires inside { list < COUNT }
         requires below { x < self.old.numbers }
         requires on_none { IsOnNone self.old.lists x }
-        ensures pushed { self.new ≡ with_list self.old list (list_at self.old.lists list ++ x ∷ []) }
+        ensures pushed { self.new
+            ≡ with_list self.old list (list_at self.old.lists list ++ x ∷ []) }
         ensures kept { AreLists COUNT self.new }
     {
         if let Some(lists) = &mut self.lists {

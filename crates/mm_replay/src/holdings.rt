@@ -67,7 +67,8 @@ impl Keys {
 
     /// This is known of the key from now on.
     fn write(&mut self, key: Key, alive: Alive) -> Result<(), NoMemory>
-        ensures ok { OnOk result (Written (alive_in self.old) (alive_in self.new) key (Some alive)) }
+        ensures ok { OnOk result
+            (Written (alive_in self.old) (alive_in self.new) key (Some alive)) }
         ensures err { OnErr result (Stays (alive_in self.old) (alive_in self.new)) }
     {
         match key {

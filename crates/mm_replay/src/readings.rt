@@ -27,7 +27,8 @@ fn behind<'a>(text: &'a [u8], word: &[u8]) -> Option<&'a [u8]>
 /// Goes on with a number by the digits in front of a text. The number stays below 2^32.
 #[tactic(auto, using(crate::proofs::Numbers::numbers))]
 fn digits(first: u8, text: &[u8]) -> Option<(u32, &[u8])>
-    ensures { option_map (λ p. (p.0, p.1.now)) result ≡ below (2 ^ 32) (number_from first text.now) }
+    ensures { option_map (λ p. (p.0, p.1.now)) result
+        ≡ below (2 ^ 32) (number_from first text.now) }
 {
     let mut rest = text;
     let mut sum = u64::from(first);
@@ -110,20 +111,25 @@ fn key(text: &[u8]) -> Option<(Key, &[u8])>
     Some((Key::Shared(Area(area), index), last))
 }
 
-/// Each of these words, one after another: where the text begins with it, what it makes of the parts
-/// that stand behind it, with a blank between two, and what stands after them.
+/// Each of these words, one after another: where the text begins with it, what it makes of the
+/// parts that stand behind it, with a blank between two, and what stands after them. Behind a comma
+/// stand the names of further numbers.
 macro_rules! words {
-    ($text:ident, $($word:literal => $make:path $(: $part:ident $($other:ident)?)?;)*) => {
+    ($text:ident, $($word:literal => $make:path
+        $(: $part:ident $($other:ident)? $(, $($number:ident)*)?)?;)*) => {
         $(
             if let Some(rest) = behind($text, $word) {
                 $(
-                    let ($part, rest) = $part(rest)?;
+                    let Some(($part, rest)) = $part(rest) else { return None };
                     $(
-                        let rest = behind(rest, b" ")?;
-                        let ($other, rest) = $other(rest)?;
+                        let Some(rest) = behind(rest, b" ") else { return None };
+                        let Some(($other, rest)) = $other(rest) else { return None };
                     )?
+                    $($(
+                        let Some(($number, rest)) = number_behind(rest, b" ") else { return None };
+                    )*)?
                 )?
-                return Some(($make $(($part $(, $other)?))?, rest));
+                return Some(($make $(($part $(, $other)? $($(, $number)*)?))?, rest));
             }
         )*
     };
@@ -138,16 +144,10 @@ fn plain_kind(text: &[u8]) -> Option<(LineKind, &[u8])>
         b"writer" => LineKind::Writer;
         b"zeroer" => LineKind::Zeroer;
         b"io" => LineKind::Io;
+        b"machine " => LineKind::Machine: number, slots depth blocks;
+        b"grow " => LineKind::Grow: number;
     );
-    if let Some(rest) = behind(text, b"machine ") {
-        let (frames, rest) = number(rest)?;
-        let (slots, rest) = number_behind(rest, b" ")?;
-        let (depth, rest) = number_behind(rest, b" ")?;
-        let (blocks, last) = number_behind(rest, b" ")?;
-        return Some((LineKind::Machine(frames, slots, depth, blocks), last));
-    }
-    let (count, last) = number_behind(text, b"grow ")?;
-    Some((LineKind::Grow(count), last))
+    None
 }
 
 fn kind(text: &[u8]) -> Option<(LineKind, &[u8])>
@@ -158,13 +158,8 @@ fn kind(text: &[u8]) -> Option<(LineKind, &[u8])>
         b"thread " => LineKind::Thread: pid;
         b"unbind " => LineKind::Unbind: pid;
         b"trim " => LineKind::Trim: pid;
+        b"process " => LineKind::Process: pid, min max;
     );
-    if let Some(rest) = behind(text, b"process ") {
-        let (pid, rest) = pid(rest)?;
-        let (min, rest) = number_behind(rest, b" ")?;
-        let (max, last) = number_behind(rest, b" ")?;
-        return Some((LineKind::Process(pid, min, max), last));
-    }
     plain_kind(text)
 }
 

@@ -292,7 +292,8 @@ impl State {
 
     fn map(&mut self, frame: Frame, place: Place) -> Result<(), NoMemory>
         requires { IsLegal (move.Map frame place) (life self.old) }
-        ensures ok { OnOk result (life self.new ≡ after_move (life self.old) (move.Map frame place)) }
+        ensures ok { OnOk result
+            (life self.new ≡ after_move (life self.old) (move.Map frame place)) }
         ensures err { OnErr result (life self.new ≡ life self.old) }
     {
         if self.table.record(frame.0).shares == u32::MAX {

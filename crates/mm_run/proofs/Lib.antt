@@ -29,8 +29,8 @@ pub use Scripts.{exact, not_usage, usage}
 pub use Stops.{came_bad, came_broken, came_done, came_end, came_held_back, came_line, came_long}
 pub use Stops.{came_memory, came_read, came_setup, came_torn, few, line_of_none, went_told}
 pub use Writing.{both_whole, flushed_either, torn_before, torn_behind, wrote_torn, wrote_whole}
-pub use Stories.{comes_here, filled_comes, follows_here, grows_here, log_left_at, scene_follows}
-pub use Stories.{went_came, went_filled}
+pub use Stories.{comes_here, follows_here, grows_here, log_left_at, scene_follows, went_came}
+pub use Stories.{went_filled}
 pub use Firsts.{came_unanswered, came_unopened, first_answered, told_muted, told_went}
 pub use Later.{later_misplaced, later_reading}
 pub use Finding.{begins_ends, begins_then, blamed_then, finds_then, goes_ends, goes_here, goes_then}
@@ -38,7 +38,7 @@ pub use Finding.{steps_then}
 pub use Unpaged.{plain_answer, unpaged_answer}
 pub use Deciding.{devices_hold}
 pub use Closing.{accounted_closed, ran_closed}
-pub use Starting.{Opened, is_made, is_new, three_names}
+pub use Starting.{is_made, is_new, opened_over, starts_at, three_names}
 pub use Numbers.{scan}
 pub use Batches.{blamed_opened, first_handled, first_muted, first_stopped, handled_none, handled_on}
 pub use Batches.{stopped_here, stopped_on}

@@ -3,7 +3,8 @@ use Rattle.std.proofs.Common.{◌≡◌, ◌≤◌, ℕ, zero, suc, List, [], �
 use Rattle.mm_types.specs.{MachineOf, Key, Loan, Both}
 use Rattle.mm_life.specs.{IsLegal, unstarted, Log, Grew, AreMoves, spelled_moves, Idle, wait_of}
 use Rattle.std.specs.Borrow.{GName}
-use Rattle.mm_blocks.specs.{DeviceOf, NoneLogged, empty_block}
+use Rattle.mm_blocks.specs.{DeviceOf, NamedCalls, NoneLogged, device_with, empty_block}
+use Rattle.mm_blocks.specs.declared.Blocks.{Ghosts as DeviceGhosts}
 use Rattle.mm_world.specs.{Page, first_world}
 use Rattle.mm_world.specs.World.{World}
 use Rattle.mm_flight.specs.declared.flights.Waiting.TheVariants as waiting
@@ -15,7 +16,7 @@ use Rattle.mm_state.specs.{MachineStarts, joined_state}
 use Rattle.mm_paged.specs.{OwnOf, own_of, store_of, behind_of}
 use Rattle.mm_paging.specs.{Agrees, first_move}
 use Rattle.mm_core.specs.{Scene}
-use Rattle.mm_run.specs.{Outset, MachineIsMade}
+use Rattle.mm_run.specs.{AreOpened, Outset, MachineIsMade, Opened, Starts, device_seen}
 
 nobody_waits : (n t : ℕ) → walked_or (slice_get (replicate n waiting.Nothing) t) ≡ Idle
 nobody_waits zero t = refl
@@ -29,16 +30,8 @@ as_many : (n : ℕ) → length (replicate n empty_block) ≡ n
 as_many zero = refl
 as_many (suc n) = ap suc (as_many n)
 
--- what must hold of two devices that were opened
-pub record Opened (m : MachineOf) (o : Outset) (paging files : DeviceOf) (slots blocks : List Page) : Type 0 where
-  pub slots_are : slots ≡ replicate m.slots empty_block
-  pub blocks_are : blocks ≡ replicate m.blocks empty_block
-  pub paging_logged : NoneLogged paging.log
-  pub files_logged : NoneLogged files.log
-  pub paging_named : paging.named ≡ []
-  pub files_named : files.named ≡ []
-  pub paging_later : o.paging ≤ paging.faults
-  pub files_later : o.files ≤ files.faults
+abbrev scene_of : World → StoreOf → Behind → Scene
+scene_of y s b = record { world = y; report = s.report; paging = s.paging_device; files = s.file_device; blocks = s.file_blocks; behind = b }
 
 module _ (m : MachineOf) (o : Outset) (paging files : DeviceOf) (slots blocks : List Page) (opened : Opened m o paging files slots blocks) where
   abbrev begun : Log → StateOf
@@ -66,13 +59,10 @@ module _ (m : MachineOf) (o : Outset) (paging files : DeviceOf) (slots blocks : 
     none_named_file = opened.files_named;
   }
 
-  pub is_new : (log : Log) (z : StateOf) → MachineStarts m log paging files slots blocks z → (c : Key → Option Page) (s : StoreOf) → c ≡ z.contents → s ≡ store_of z own → IsNew m c s
-  is_new log z h c s ec es =
+  new_over : (log : Log) (z : StateOf) → MachineStarts m log paging files slots blocks z → (c : Key → Option Page) (s : StoreOf) → c ≡ z.contents → s ≡ store_of z own → IsNew m c s
+  new_over log z h c s ec es =
       let here : IsNew m z.contents (store_of z own) = subst (λ (x : StateOf). IsNew m x.contents (store_of x own)) (sym h.shows) (new_at z.log) in
       subst (λ (x : StoreOf). IsNew m c x) (sym es) (subst (λ (x : Key → Option Page). IsNew m x (store_of z own)) (sym ec) here)
-
-  abbrev scene_of : World → StoreOf → Behind → Scene
-  scene_of y s b = record { world = y; report = s.report; paging = s.paging_device; files = s.file_device; blocks = s.file_blocks; behind = b }
 
   made_at : (l : Log) → AreMoves (first_move m ∷ []) → Grew o.log l (spelled_moves (first_move m ∷ [])) → IsLegal (first_move m) unstarted → Agrees (first_world m) (store_of (begun l) own).report (behind_of (begun l))
       → MachineIsMade m o (scene_of (first_world m) (store_of (begun l) own) (behind_of (begun l)))
@@ -92,9 +82,9 @@ module _ (m : MachineOf) (o : Outset) (paging files : DeviceOf) (slots blocks : 
     holds = λ k on. (let no_way : false ≡ true = on in cc);
   }
 
-  pub is_made : (log : Log) (z : StateOf) → log ≡ o.log → MachineStarts m log paging files slots blocks z → IsLegal (first_move m) unstarted → (y : World) (s : StoreOf) (b : Behind) → y ≡ first_world m → s ≡ store_of z own → b ≡ behind_of z
+  made_over : (z : StateOf) → MachineStarts m o.log paging files slots blocks z → IsLegal (first_move m) unstarted → (y : World) (s : StoreOf) (b : Behind) → y ≡ first_world m → s ≡ store_of z own → b ≡ behind_of z
       → Agrees y s.report b → MachineIsMade m o (scene_of y s b)
-  is_made log z same h legal y s b ey es eb agrees =
+  made_over z h legal y s b ey es eb agrees =
       let there : Agrees (first_world m) (store_of z own).report (behind_of z) =
       subst (λ (x : World). Agrees x (store_of z own).report (behind_of z)) ey
       (subst (λ (x : StoreOf). Agrees y x.report (behind_of z)) es
@@ -103,10 +93,44 @@ module _ (m : MachineOf) (o : Outset) (paging files : DeviceOf) (slots blocks : 
       subst (λ (x : StateOf). Agrees (first_world m) (store_of x own).report (behind_of x)) h.shows there in
       let here : MachineIsMade m o (scene_of (first_world m) (store_of z own) (behind_of z)) =
       subst (λ (x : StateOf). MachineIsMade m o (scene_of (first_world m) (store_of x own) (behind_of x))) (sym h.shows)
-      (made_at z.log h.in_range (subst (λ (l : Log). Grew l z.log (spelled_moves (first_move m ∷ []))) same h.grew) legal begins) in
+      (made_at z.log h.in_range h.grew legal begins) in
       subst (λ (x : World). MachineIsMade m o (scene_of x s b)) (sym ey)
       (subst (λ (x : StoreOf). MachineIsMade m o (scene_of (first_world m) x b)) (sym es)
       (subst (λ (x : Behind). MachineIsMade m o (scene_of (first_world m) (store_of z own) x)) (sym eb) here))
+
+-- the devices that were opened, as what stands over them shows them
+pub opened_over : {P F : Type 0} (p : DeviceGhosts P) (f : DeviceGhosts F) (m : MachineOf) (o : Outset) (x x' : P) (y y' : F) (plan plan' : List NamedCalls) → AreOpened m (device_seen p x) (device_seen f y) → x' ≡ x → y' ≡ y → plan ≡ [] → plan' ≡ [] → o.paging ≤ p.faults x → o.files ≤ f.faults y
+    → Opened m o (device_with (p.log x') plan (p.faults x')) (device_with (f.log y') plan' (f.faults y')) (p.blocks x') (f.blocks y')
+opened_over p f m o x x' y y' plan plan' opened pd fd paging_named files_named later later' = record {
+  slots_are = ap p.blocks pd ∙ opened.slots;
+  blocks_are = ap f.blocks fd ∙ opened.blocks;
+  paging_logged = subst (λ d. NoneLogged (p.log d)) (sym pd) opened.paging_logged;
+  files_logged = subst (λ d. NoneLogged (f.log d)) (sym fd) opened.files_logged;
+  paging_named = paging_named;
+  files_named = files_named;
+  paging_later = subst (λ d. o.paging ≤ p.faults d) (sym pd) later;
+  files_later = subst (λ d. o.files ≤ f.faults d) (sym fd) later';
+}
+
+pub starts_at : (m : MachineOf) (o : Outset) (log : Log) (paging files : DeviceOf) (slots blocks : List Page) (z : StateOf) → log ≡ o.log → o.log.failed ≡ false → Opened m o paging files slots blocks → MachineStarts m log paging files slots blocks z → Starts m o z
+starts_at m o log paging files slots blocks z same unfailed opened noted = record {
+  paging = paging;
+  files = files;
+  slots = slots;
+  blocks = blocks;
+  opened = opened;
+  noted = subst (λ (l : Log). MachineStarts m l paging files slots blocks z) same noted;
+  unfailed = unfailed;
+}
+
+-- over a state that starts a store of pages is new
+pub is_new : (m : MachineOf) (o : Outset) (z : StateOf) → Starts m o z → (c : Key → Option Page) (s : StoreOf) → c ≡ z.contents → s ≡ store_of z own → IsNew m c s
+is_new m o z h = new_over m o h.paging h.files h.slots h.blocks h.opened o.log z h.noted
+
+-- and the machine is made
+pub is_made : (m : MachineOf) (o : Outset) (z : StateOf) → Starts m o z → IsLegal (first_move m) unstarted → (y : World) (s : StoreOf) (b : Behind) → y ≡ first_world m → s ≡ store_of z own → b ≡ behind_of z
+    → Agrees y s.report b → MachineIsMade m o (scene_of y s b)
+is_made m o z h = made_over m o h.paging h.files h.slots h.blocks h.opened z h.noted
 
 -- three loans of references
 pub three_names : (a b c x y z : GName) → Both (Both (Loan a) (Loan b)) (Loan c) ≡ Both (Both (Loan x) (Loan y)) (Loan z) → (a ≡ x) × (b ≡ y) × (c ≡ z)

@@ -267,43 +267,6 @@ module _ (a b c : Outside) (x y : RunStand) (end : Stage) where
         grows = front_of_then (log_of x.stage).given (log_of y.stage).given (log_of end).given g.grows h.grows;
       }
 
--- More was read first.
-module _ (a b : Outside) (x : RunStand) (left : Option Text) (held : Text) (f : Filled left a.left held x.held) where
-  regroup : (u w : Text) → x.held ++ u ≡ w → held ++ (f.taken ++ u) ≡ w
-  regroup u w e = sym (append_assoc held f.taken u) ∙ ap (λ xs. xs ++ u) (sym f.behind) ∙ e
-
-  pub filled_came : (end : Stage) (e : Ending) → CameToEnd a b x e end → CameToEnd (record a { left = left }) b (record x { held = held }) e end
-  filled_came end e came kept k =
-      let h = came kept k in
-      let d = h.decided in
-      record {
-        decided = record {
-          lines = d.lines;
-          taken = f.taken ++ d.taken;
-          front = d.front;
-          more = d.more;
-          read = took_then left a.left b.left _ _ f.took d.read;
-          whole = regroup d.taken _ d.whole;
-          answered = d.answered;
-          limit = d.limit;
-          settled = d.settled;
-          few = d.few;
-          closes = d.closes;
-        };
-        told = h.told;
-        still = h.still;
-        split = h.split;
-        written = h.written;
-        wrote = h.wrote;
-        stands = h.stands;
-        gave = h.gave;
-        keeps = h.keeps;
-        grows = h.grows;
-      }
-
-  pub filled_comes : (x_left : Left) (e : Ending) → Comes a b x e x_left → Comes (record a { left = left }) b (record x { held = held }) e x_left
-  filled_comes x_left e h = record { end = h.end; came = filled_came h.end e h.came; leaves = h.leaves }
-
 -- ---- nothing is decided
 
 -- bytes were read, and no line was decided

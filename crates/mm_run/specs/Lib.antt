@@ -13,6 +13,7 @@ pub mod WordForms
 pub mod Batch
 pub mod Moments
 pub mod Settings
+pub mod Starting
 pub mod Seen
 pub mod Closing
 pub mod Faults
@@ -43,6 +44,7 @@ pub use Moments.{EndsRun, FindsLine, GoesOn, GoesOnOrEnds, HasBegun, HasNotedAll
 pub use Moments.{IsBetween, KeepsWorld, Moment, Output, RunsShort, StepsBetween, fault_counts_of}
 pub use Moments.{moment, outside_of}
 pub use Settings.{AreOpened, ComesTo, HoldsMachine, Setting}
+pub use Starting.{HasStart, Opened, Starts, left_behind}
 pub use Seen.{counts_seen, device_seen, input_seen, left_seen, moment_seen, open_failed}
 pub use Seen.{output_seen, outset_seen, outside_seen, seen, setting, sink_seen, world_seen}
 pub use Closing.{Closed, Drops, GaveMoves, SinkSeen, is_over}

@@ -11,6 +11,7 @@ ghost use Rattle.mm_run.specs.Bulk.{BulkRan, begins_ok, is_none, four_lines};
 ghost use Rattle.mm_run.specs.Batch.{AreLater, Finished, BatchRan, AccountsMoves, BatchEnds};
 ghost use Rattle.mm_run.specs.Moments.{HasBegun};
 ghost use Rattle.mm_run.specs.Settings.{AreOpened};
+ghost use Rattle.mm_run.specs.Starting.{Starts, HasStart, left_behind};
 ghost use Rattle.mm_run.specs.Seen.{device_seen, left_seen, open_failed, world_seen};
 
 use crate::decisions::decide;
@@ -22,6 +23,7 @@ use mm_core::World;
 use mm_io::Sink;
 use mm_make::script;
 use mm_moves::Recorder;
+use mm_moving::Moving;
 use mm_paged::Paged;
 use mm_pages::FlushesMoves;
 use mm_state::State;
@@ -120,6 +122,27 @@ fn decide_events<G: FlushesMoves>(
     })
 }
 
+/// Decides all events over the world of a state that starts, and gives the state back.
+fn decide_over<T: Moving>(
+    alloc: Global,
+    machine: Machine,
+    events: &[Event],
+    state: T,
+) -> (Result<Tally, Ending>, T)
+    requires later { AreLater events.now }
+    requires few { length events.now < 1000000 }
+    requires starts { HasStart machine (T.shown state) }
+    ensures came { (o : Outset) → Starts machine o (T.shown state) → BatchRan (NotBegun o)
+        (event.Machine machine ∷ events.now) result.0 (left_behind (T.shown result.1)) }
+    ensures faults { (o : Outset) → Starts machine o (T.shown state) →
+        AccountsMoves result.0 ⊥ o.log.faults (T.shown result.1).log.faults }
+    ensures loans { T.loans result.1 ≡ T.loans state }
+{
+    let mut world = World::new(alloc, machine, Paged::over(state));
+    let decided = decide_events(alloc, machine, events, &mut world);
+    (decided, world.finish().finish())
+}
+
 /// Decides all events over devices that were opened for their machine.
 fn run_events<M: Sink, P: Blocks, F: Blocks>(
     alloc: Global,
@@ -156,9 +179,8 @@ fn run_events<M: Sink, P: Blocks, F: Blocks>(
             return Err(Ending::NoMemory);
         }
     };
-    let mut world = World::new(alloc, machine, Paged::over(state));
-    let decided = decide_events(alloc, machine, events, &mut world);
-    let (paging, files, moves) = world.finish().finish().finish();
+    let (decided, state) = decide_over(alloc, machine, events, state);
+    let (paging, files, moves) = state.finish();
     let _ = paging.finish();
     let _ = files.finish();
     let _ = moves.finish();

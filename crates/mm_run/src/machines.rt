@@ -1,7 +1,8 @@
 ghost use Rattle.std.specs.Prelude.{◌≡◌, ◌≢◌, ◌⊎◌, ◌≤◌, ◌+◌, ℕ, true, false, [], length, IfErr, OnOk};
 ghost use Rattle.mm_core.specs.{loans, world_behind, scene};
 ghost use Rattle.mm_run.specs.{Outset, NotBegun, Running, outset, MachineIsMade, CameToEnd, Comes, IsBlamed, stand, fault_counts_with, HasBegun};
-ghost use Rattle.mm_run.specs.{HoldsMachine, AreOpened, ComesTo, counts_seen, device_seen, left_seen, open_failed, outside_seen, setting, world_seen};
+ghost use Rattle.mm_run.specs.{HoldsMachine, AreOpened, Starts, HasStart, left_behind, ComesTo, counts_seen, device_seen, left_seen, open_failed};
+ghost use Rattle.mm_run.specs.{outside_seen, setting, world_seen};
 
 use crate::answers::Kept;
 use crate::decisions::{decide_rest, next_line, tell};
@@ -11,6 +12,7 @@ use mm_blocks::{Blocks, Injected};
 use mm_core::World;
 use mm_io::{Held, Sink, Source};
 use mm_moves::Recorder;
+use mm_moving::Moving;
 use mm_paged::Paged;
 use mm_pages::FlushesMoves;
 use mm_state::State;
@@ -86,6 +88,38 @@ fn answer_all<G: FlushesMoves, S: Source, O: Sink>(
     decide_rest(alloc, held, world, kept, source, out)
 }
 
+/// Decides the lines over the world of a state that starts, and gives the state back.
+fn answer_over<T: Moving, S: Source, O: Sink>(
+    alloc: Global,
+    held: &mut Held,
+    len: usize,
+    machine: Machine,
+    state: T,
+    kept: &mut Kept,
+    source: &mut S,
+    out: &mut O,
+) -> (Ending, T)
+    requires line { HoldsMachine held.old len machine }
+    requires room { length kept.old + 256 ≤ 65536 }
+    requires starts { HasStart machine (T.shown state) }
+    ensures came { (o : Outset) → Starts machine o (T.shown state) → Comes
+        (outside_seen S.Source O.Sink source.old out.old kept.old)
+        (outside_seen S.Source O.Sink source.new out.new kept.new)
+        (stand held.old 0 (NotBegun o)) result.0 (left_behind (T.shown result.1)) }
+    ensures faults { (o : Outset) → Starts machine o (T.shown state) →
+        IsBlamed result.0 ⊥
+        (fault_counts_with (S.faults source.old) (O.faults out.old) o.log.faults)
+        (fault_counts_with (S.faults source.new) (O.faults out.new)
+        (T.shown result.1).log.faults) }
+    ensures idle { S.idle source.new ≤ S.idle source.old + S.last_idle source.new }
+    ensures form { result.0 ≢ Ending.Usage }
+    ensures loans { T.loans result.1 ≡ T.loans state }
+{
+    let mut world = World::new(alloc, machine, Paged::over(state));
+    let ending = answer_all(alloc, held, len, machine, &mut world, kept, source, out);
+    (ending, world.finish().finish())
+}
+
 /// Runs a machine over devices that were opened for it.
 fn run_machine<S: Source, O: Sink, M: Sink, P: Blocks, F: Blocks>(
     alloc: Global,
@@ -132,9 +166,8 @@ fn run_machine<S: Source, O: Sink, M: Sink, P: Blocks, F: Blocks>(
             return Ending::NoMemory;
         }
     };
-    let mut world = World::new(alloc, machine, Paged::over(state));
-    let ending = answer_all(alloc, held, len, machine, &mut world, kept, source, out);
-    let (paging, files, moves) = world.finish().finish().finish();
+    let (ending, state) = answer_over(alloc, held, len, machine, state, kept, source, out);
+    let (paging, files, moves) = state.finish();
     let _ = paging.finish();
     let _ = files.finish();
     let _ = moves.finish();

@@ -86,6 +86,25 @@ fn status_of(
     run(alloc, words, source, out, moves, paging, files)
 }
 
+/// What a run over these comes to.
+fn ended_over(
+    alloc: Global,
+    words: &[String],
+    source: &mut MemSource,
+    out: &mut MemSink,
+    moves: &mut MemSink,
+    paging: &mut MemBlocks,
+    files: &mut MemBlocks,
+) -> Result<Ended, Fail> {
+    let status = status_of(alloc, words, source, out, moves, paging, files);
+    Ok(Ended {
+        status,
+        answers: text_of(alloc, out)?,
+        moves: text_of(alloc, moves)?,
+        first: first_bytes(files),
+    })
+}
+
 /// Runs a script by these words, where one call of the outside fails.
 pub(super) fn outcome(
     alloc: Global,
@@ -99,7 +118,7 @@ pub(super) fn outcome(
     let mut moves = sink(alloc, 65536, failing.note)?;
     let mut paging = device(alloc, failing.paging)?;
     let mut files = device(alloc, failing.file)?;
-    let status = status_of(
+    ended_over(
         alloc,
         form.as_slice(),
         &mut source,
@@ -107,13 +126,7 @@ pub(super) fn outcome(
         &mut moves,
         &mut paging,
         &mut files,
-    );
-    Ok(Ended {
-        status,
-        answers: text_of(alloc, &out)?,
-        moves: text_of(alloc, &moves)?,
-        first: first_bytes(&files),
-    })
+    )
 }
 
 /// Asserts that the checker of logs accepts these moves.

@@ -34,5 +34,5 @@ pub record TakesWord (old : Rest) (text : Text) (new : Rest) : Type 0 where
 
 -- the next word, or the fault after the line's end
 abbrev pub TakesNextWord : Rest → Result (Bor Text) LineFault → Rest → Type 0
-TakesNextWord old result new = MatchResult result (λ w. TakesWord old w.now new) (λ f. (old.left ≡ []) ×
-    (f ≡ fault_at old.end old.number))
+TakesNextWord old result new = MatchResult result (λ w. TakesWord old w.now new)
+    (λ f. (old.left ≡ []) × (f ≡ fault_at old.end old.number))

@@ -32,7 +32,8 @@ behind (Then FlagNumber s) = behind s
 behind s = s
 
 -- what is made of these numbers, from a place on
-abbrev pub with_numbers : (s : Shape) → MakesFromValues s Event → List ℕ → ℕ → MakesFromValues (behind s) Event
+abbrev pub with_numbers : (s : Shape) → MakesFromValues s Event → List ℕ → ℕ →
+    MakesFromValues (behind s) Event
 with_numbers (Then (Number least most) s) make ns i =
     with_numbers s (make (slice_index_or ns i 0)) ns (i + 1)
 with_numbers (Then AnyNumber s) make ns i =

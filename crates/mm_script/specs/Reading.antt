@@ -71,7 +71,8 @@ by_direction direction.Read x y = x
 by_direction direction.Write x y = y
 
 -- the words of a shape, and the event that is made of their values
-abbrev pub event_in : Keyword → (s : Shape) → MakesFromValues s Event → Rest → Result Event LineFault
+abbrev pub event_in : Keyword → (s : Shape) → MakesFromValues s Event → Rest →
+    Result Event LineFault
 event_in k End event rest =
     ended_words rest >>= λ _. if are_joined event then Ok event else
     Err (joint_fault k rest.last rest.number)

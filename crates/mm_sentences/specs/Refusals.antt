@@ -144,7 +144,8 @@ part_text l part.InDepth = depth_is l
 part_text l part.FirstLine = codes "the machine is known already"
 part_text l (part.MachineRange k) = codes "its numbers are out of range"
 part_text l part.Started = codes "the machine is not known yet"
-part_text l (part.NextProcess pid) = counted_words (codes "the next process is ") (length l.sets + 1)
+part_text l (part.NextProcess pid) =
+    counted_words (codes "the next process is ") (length l.sets + 1)
 part_text l (part.FewProcesses pid) = codes "there are at most 64 processes"
 part_text l (part.SomeSlots n) = codes "it grows by no slot"
 part_text l (part.FewSlots n) = codes "there are at most 262144 slots"
@@ -181,7 +182,8 @@ part_text l part.IoOrAccess = line_is l (codes " is no io and no access")
 part_text l (part.FitsPlace f p) = holds_what f p (record_at l.frames f.0).owner
 part_text l (part.NotBeingRead f) = frame_is f (codes " is being read")
 part_text l (part.NotValid p) = place_is p (codes " is valid already")
-part_text l (part.AccessOf pid) = line_is l (counted_words (codes " is no access of process ") pid.0)
+part_text l (part.AccessOf pid) =
+    line_is l (counted_words (codes " is no access of process ") pid.0)
 part_text l (part.BelowMax pid) = at_max pid.0 (set_of l pid.0)
 part_text l (part.Valid p) = place_is p (codes " is not valid")
 part_text l (part.MayEnd p) = keeps_place l p.pid.0

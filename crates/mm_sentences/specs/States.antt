@@ -65,9 +65,9 @@ listed_text text = text ++ codes ", "
 -- and its request
 abbrev pub frame_row_text : FrameState → Record → Text
 frame_row_text s r =
-    listed_text (state_text s) ++ (listed_text (owner_text r.owner) ++ (listed_text (changed_text r.changed)
-    ++ (listed_text (copy_text r.backing) ++ (listed_text (decimal r.shares ++ codes " places")
-    ++ request_text r.request))))
+    listed_text (state_text s) ++ (listed_text (owner_text r.owner)
+    ++ (listed_text (changed_text r.changed) ++ (listed_text (copy_text r.backing)
+    ++ (listed_text (decimal r.shares ++ codes " places") ++ request_text r.request))))
 
 -- `active, p1.17, changed, no copy, 1 places, no I/O`
 abbrev pub frame_row : FrameLife → ℕ → Text

@@ -63,7 +63,8 @@ fn put_page_is(key: Key, behind: &[u8], text: &mut Vec<u8>) -> Result<(), NoMemo
 /// Writes a page, words and a number.
 #[tactic(auto, using(crate::proofs::Joined::joined))]
 fn put_page_counted(key: Key, words: &[u8], n: u32, text: &mut Vec<u8>) -> Result<(), NoMemory>
-    ensures { OnOk result (text.new.items ≡ text.old.items ++ page_is key (counted_words words.now n)) }
+    ensures { OnOk result
+        (text.new.items ≡ text.old.items ++ page_is key (counted_words words.now n)) }
 {
     put_page_is(key, words, text)?;
     put_number(u64::from(n), text)

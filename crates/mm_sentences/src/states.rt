@@ -157,7 +157,8 @@ fn put_row_front(state: FrameState, r: &Record, text: &mut Vec<u8>) -> Result<()
 #[tactic(auto, using(crate::proofs::Joined::joined))]
 fn put_row_back(r: &Record, text: &mut Vec<u8>) -> Result<(), NoMemory>
     ensures { OnOk result (text.new.items ≡ text.old.items
-        ++ (listed_text (copy_text r.now.backing) ++ (listed_text (decimal r.now.shares ++ codes " places")
+        ++ (listed_text (copy_text r.now.backing)
+        ++ (listed_text (decimal r.now.shares ++ codes " places")
         ++ request_text r.now.request))) }
 {
     put_copy(r.backing, text)?;

@@ -34,7 +34,8 @@ behind_text p script answers =
     ++ p.up_to_end)))
 
 abbrev pub whole_page_text : PageOf → Option (List Text) → Option (List Text) → List Move → Text
-whole_page_text p script answers moves = front_text p ++ (log_data moves ++ behind_text p script answers)
+whole_page_text p script answers moves =
+    front_text p ++ (log_data moves ++ behind_text p script answers)
 
 -- nothing of a log that does not end well
 abbrev pub page_said : PageOf → Option (List Text) → Option (List Text) → Said

@@ -47,7 +47,8 @@ fn behind_of(
     script: &Option<Lines>,
     answers: &Option<Lines>,
 ) -> Result<Vec<u8>, NoMemory>
-    ensures { IfOk result (λ v. v.items ≡ behind_text (whole_page page.now) script.now answers.now) }
+    ensures { IfOk result (λ v. v.items
+        ≡ behind_text (whole_page page.now) script.now answers.now) }
 {
     let mut text = Vec::new(alloc);
     text.extend_from_slice(page.up_to_script)?;

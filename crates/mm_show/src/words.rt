@@ -130,7 +130,8 @@ fn put_class(class: Class, text: &mut Vec<u8>) -> Result<(), NoMemory>
 
 /// Writes a line for each of some classes.
 fn put_rows(classes: &[Class], text: &mut Vec<u8>) -> Result<(), NoMemory>
-    ensures { OnOk result (text.new.items ≡ text.old.items ++ flat_map class_words_row classes.now) }
+    ensures { OnOk result
+        (text.new.items ≡ text.old.items ++ flat_map class_words_row classes.now) }
 {
     for class in classes {
         put_class(*class, text)?;

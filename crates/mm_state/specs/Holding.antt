@@ -56,7 +56,8 @@ has_entry : (o : Option ℕ) → is_there (bare (entry_or o)) ≡ true → is_so
 has_entry None h = cc
 has_entry (Some word) h = refl
 
-bound_in_table : (o : Option Process) (v : ℕ) → is_there (read_or (λ p. at_of p v) entry.Empty o) ≡ true →
+bound_in_table : (o : Option Process) (v : ℕ) →
+    is_there (read_or (λ p. at_of p v) entry.Empty o) ≡ true →
     read_or (λ p. bound_of p v) false o ≡ true
 bound_in_table None v h = cc
 bound_in_table (Some p) v h = has_entry (finite.get p.table v) h

@@ -21,7 +21,8 @@ on_device ram slots blocks backing.None h = cc
 on_device ram slots blocks (backing.Slot s) h = refl
 on_device ram slots blocks (backing.Block c) h = refl
 
-module _ (l : FrameLife) (reached : ∥ ReachedByMoves l ∥₁) (ram : FrameBytes) (slots blocks : BlockBytes)
+module _ (l : FrameLife) (reached : ∥ ReachedByMoves l ∥₁)
+    (ram : FrameBytes) (slots blocks : BlockBytes)
     (kept : BytesLocated l ram slots blocks) where
   in_frame : (f : Frame) (k : Key) → (record_at l.frames f.0).owner ≡ Some k → (c r : Bool) →
       (record_at l.frames f.0).changed ≡ c → is_read (record_at l.frames f.0).request ≡ r

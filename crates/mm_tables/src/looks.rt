@@ -103,7 +103,7 @@ impl Tables {
         ensures { result ≡ option_map (λ page. Key.Shared view.area (view.first + index))
             (shared_page self.now view.area.0 (view.first + index)) }
     {
-        let pages = &self.areas[view.area.0 as usize];
+        let pages = self.area(view.area);
         // Their number bounds the sum.
         let _ = pages.len();
         let page = view.first + index;

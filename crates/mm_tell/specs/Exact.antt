@@ -13,7 +13,8 @@ use Rattle.mm_tell.specs.declared.closings.Closing.TheVariants as closing
 
 -- the status and the text; or memory was refused, or a source or the sink failed
 abbrev pub Says : Option Text → Option Text → ℕ → ℕ → Text → Type 0
-Says took took' result status text = ((result ≡ status) × Appended took took' text) ⊎ IsFaultStatus result
+Says took took' result status text =
+    ((result ≡ status) × Appended took took' text) ⊎ IsFaultStatus result
 
 -- the bytes are the spelling of moves that replay and fit
 pub record IsWhole (script : Option (List Text)) (left : Option Text)

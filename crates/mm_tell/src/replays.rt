@@ -56,7 +56,8 @@ fn next<S: Source, T: Teller, O: Sink>(
         (λ c. is_broken c ≡ false
         → Closes left (S.left source.new) took (O.taken out.new) script.now rest c
         (T.rest teller.new) (life_of life.new) text.new.items) }
-    ensures ready { OnOk result (IsReadyToRead reader.new × (reader.new.lines ≡ reader.old.lines + 1)) }
+    ensures ready { OnOk result
+        (IsReadyToRead reader.new × (reader.new.lines ≡ reader.old.lines + 1)) }
     ensures counted { T.counted teller.new ≤ T.counted teller.old + 1 }
     ensures later { (S.faults source.old ≤ S.faults source.new) ×
         (O.faults out.old ≤ O.faults out.new) }

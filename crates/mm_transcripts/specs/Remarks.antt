@@ -26,7 +26,8 @@ named_numbers after (x ∷ xs) =
 -- they stand in brackets, behind this; nothing where no number has a name
 abbrev pub bracketed : Text → List Number → Text
 bracketed front numbers =
-    if list_any has_name numbers then front ++ 0x5B ∷ (named_numbers false numbers ++ 0x5D ∷ []) else []
+    if list_any has_name numbers then
+    front ++ 0x5B ∷ (named_numbers false numbers ++ 0x5D ∷ []) else []
 
 -- ---- the numbers of a line that may have names
 

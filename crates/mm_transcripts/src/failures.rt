@@ -29,7 +29,8 @@ const STATUSES: [Failure; 4] = [
 
 /// The name of an answer that is one of these.
 fn name_among(failures: &'static [Failure], answer: &[u8]) -> Option<&'static [u8]>
-    ensures { option_map (λ n. n.now) result ≡ text_among (map failure_row failures.now) answer.now }
+    ensures { option_map (λ n. n.now) result
+        ≡ text_among (map failure_row failures.now) answer.now }
 {
     for failure in failures {
         if answer == failure.0 {

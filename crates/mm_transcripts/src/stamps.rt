@@ -67,7 +67,8 @@ pub(crate) fn count_of(counts: &[u64; 256], pid: Pid) -> u64
 /// One more. Memory is refused where they can no longer be counted.
 #[tactic(auto, using(crate::proofs::Kept::counted))]
 pub(crate) fn count_line(counts: &mut [u64; 256], pid: Pid) -> Result<(), NoMemory>
-    ensures ok { OnOk result (slice_index counts.new ≡ one_age_more pid.0 (slice_index counts.old)) }
+    ensures ok { OnOk result
+        (slice_index counts.new ≡ one_age_more pid.0 (slice_index counts.old)) }
     ensures err { OnErr result (counts.new ≡ counts.old) }
 {
     let count = counts[pid.0 as usize];

@@ -43,7 +43,8 @@ abbrev pub list_row : Text → List ℕ → Text
 list_row name frames = name ++ (flat_map frame_word frames ++ 10 ∷ [])
 
 abbrev pub frame_line : FrameTable → ℕ → Record → Text
-frame_line d f r = numbered (codes "frame ") f (32 ∷ [] ++ (frame_row_text (state_by d f r) r ++ 10 ∷ []))
+frame_line d f r =
+    numbered (codes "frame ") f (32 ∷ [] ++ (frame_row_text (state_by d f r) r ++ 10 ∷ []))
 
 -- so many frames from this number on
 abbrev pub frame_lines : FrameTable → ℕ → ℕ → Text

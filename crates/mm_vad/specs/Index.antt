@@ -22,8 +22,8 @@ space_of found taken more = record {
 -- watched, a flag
 abbrev pub IsHeld : (ℕ → Option Region) → Range → Type 0
 IsHeld found r =
-    IsSomeAnd (found r.first) (λ region. (region_range region ≡ r) × (length region.rows ≡ r.count) ×
-    HasFlags r.count region)
+    IsSomeAnd (found r.first) (λ region. (region_range region ≡ r)
+    × (length region.rows ≡ r.count) × HasFlags r.count region)
 
 abbrev pub AllHeld : (ℕ → Option Region) → List Range → Type 0
 AllHeld found [] = Unit {0}

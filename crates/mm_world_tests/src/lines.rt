@@ -56,8 +56,9 @@ fn is_spelled(answer: &Answer, wanted: &[u8]) -> bool {
     }
 }
 
-/// Decides line `n`, as it is written, whose answer has to be the one that is wanted. `Form` comes for
-/// what is no line after the first, `Memory` where memory was refused, `Answer` for another answer.
+/// Decides line `n`, as it is written, whose answer has to be the one that is wanted. `Form` comes
+/// for what is no line after the first, `Memory` where memory was refused, `Answer` for another
+/// answer.
 pub fn read_line<G: Pages>(
     alloc: Global,
     world: &mut World<G>,

@@ -1,5 +1,6 @@
 ghost use Rattle.std.specs.Prelude.{◌≡◌, false, replicate};
 ghost use Rattle.mm_blocks.specs.{empty_block};
+ghost use Rattle.mm_pages.specs.{IsNew};
 ghost use Rattle.mm_core.specs.{line_number};
 
 use crate::lines::{Stopped, opened, read_line};
@@ -107,6 +108,21 @@ fn all_lines<G: Pages>(
     Err(Stopped::Long)
 }
 
+/// The lines of a row over the new store of a machine, which is given back.
+fn over_store<G: Pages>(
+    alloc: Global,
+    machine: Machine,
+    store: G,
+    script: &[u8],
+    answers: &[u8],
+) -> (Result<u32, Stopped>, G)
+    requires { IsNew machine (G.contents store) (G.store store) }
+{
+    let mut world = World::new(alloc, machine, store);
+    let lines = all_lines(alloc, &mut world, script, answers);
+    (lines, world.finish())
+}
+
 /// The lines of a row over a machine whose file device was opened for it.
 fn over_machine(
     alloc: Global,
@@ -119,9 +135,8 @@ fn over_machine(
 {
     match Plain::new(alloc, machine, Injected::new(files)) {
         Ok(store) => {
-            let mut world = World::new(alloc, machine, store);
-            let lines = all_lines(alloc, &mut world, script, answers);
-            let _files = world.finish().finish();
+            let (lines, store) = over_store(alloc, machine, store, script, answers);
+            let _files = store.finish();
             lines
         }
         Err(_) => Err(Stopped::Memory),

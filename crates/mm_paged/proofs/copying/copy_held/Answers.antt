@@ -7,17 +7,13 @@ pub give_copy-own-requires-clause-may : goal.give_copy-own-requires-clause-may
 give_copy-own-requires-clause-may g c = may_copy c.args.from c.args.f c.args.place (g.T.Moving.shown c.args.state.now) (g.T.Moving.shown c.find.new.state) (g.met.T.Moving.holds c.find.new.state) c.requires.may c.in_ok-find.ensures.ok
 
 pub put_copy-requires-clause-shows : goal.put_copy-requires-clause-shows
-put_copy-requires-clause-shows g c = shows_held c.args.from c.args.f c.args.place (g.T.Moving.shown c.give_copy-own.new.state) (g.met.T.Moving.holds c.give_copy-own.new.state) c.requires.may.shared
-    (held_given c.args.from c.args.f c.give_copy-own.result c.args.place (g.T.Moving.shown c.args.state.now) (g.T.Moving.shown c.find.new.state) (g.T.Moving.shown c.give_copy-own.new.state) c.requires.may c.in_ok-find.ensures.ok c.give_copy-own.ensures.gave)
+put_copy-requires-clause-shows g c = shows_held c.args.from c.args.f c.args.place (g.T.Moving.shown c.give_copy-own.new.state) (g.met.T.Moving.holds c.give_copy-own.new.state) c.requires.may.shared (held_given c.args.from c.args.f c.give_copy-own.result c.args.place (g.T.Moving.shown c.args.state.now) (g.T.Moving.shown c.find.new.state) (g.T.Moving.shown c.give_copy-own.new.state) c.requires.may c.in_ok-find.ensures.ok c.give_copy-own.ensures.gave)
 
 pub copy-requires-clause-from_owned : goal.copy-requires-clause-from_owned
-copy-requires-clause-from_owned g c = some_of (record_at (g.T.Moving.shown c.put_copy.new.state).life.frames c.args.f.0).owner c.args.from
-    (copied_from c.args.from c.args.f c.give_copy-own.result c.args.place (g.T.Moving.shown c.args.state.now) (g.T.Moving.shown c.find.new.state) (g.T.Moving.shown c.give_copy-own.new.state) (g.T.Moving.shown c.put_copy.new.state) (g.met.T.Moving.holds c.give_copy-own.new.state) (g.met.T.Moving.holds c.put_copy.new.state) c.requires.may c.in_ok-find.ensures.ok c.give_copy-own.ensures.gave c.put_copy.ensures.put)
+copy-requires-clause-from_owned g c = some_of (record_at (g.T.Moving.shown c.put_copy.new.state).life.frames c.args.f.0).owner c.args.from (copied_from c.args.from c.args.f c.give_copy-own.result c.args.place (g.T.Moving.shown c.args.state.now) (g.T.Moving.shown c.find.new.state) (g.T.Moving.shown c.give_copy-own.new.state) (g.T.Moving.shown c.put_copy.new.state) (g.met.T.Moving.holds c.give_copy-own.new.state) (g.met.T.Moving.holds c.put_copy.new.state) c.requires.may c.in_ok-find.ensures.ok c.give_copy-own.ensures.gave c.put_copy.ensures.put)
 
 pub copy-requires-clause-other : goal.copy-requires-clause-other
-copy-requires-clause-other g c = other_frame c.args.from c.args.place c.args.f c.give_copy-own.result (g.T.Moving.shown c.put_copy.new.state) c.requires.may.shared
-    (copied_from c.args.from c.args.f c.give_copy-own.result c.args.place (g.T.Moving.shown c.args.state.now) (g.T.Moving.shown c.find.new.state) (g.T.Moving.shown c.give_copy-own.new.state) (g.T.Moving.shown c.put_copy.new.state) (g.met.T.Moving.holds c.give_copy-own.new.state) (g.met.T.Moving.holds c.put_copy.new.state) c.requires.may c.in_ok-find.ensures.ok c.give_copy-own.ensures.gave c.put_copy.ensures.put)
-    (copied_to c.give_copy-own.result c.args.place (g.T.Moving.shown c.find.new.state) (g.T.Moving.shown c.give_copy-own.new.state) (g.T.Moving.shown c.put_copy.new.state) (g.met.T.Moving.holds c.put_copy.new.state) c.give_copy-own.ensures.gave c.put_copy.ensures.put)
+copy-requires-clause-other g c = other_frame c.args.from c.args.place c.args.f c.give_copy-own.result (g.T.Moving.shown c.put_copy.new.state) c.requires.may.shared (copied_from c.args.from c.args.f c.give_copy-own.result c.args.place (g.T.Moving.shown c.args.state.now) (g.T.Moving.shown c.find.new.state) (g.T.Moving.shown c.give_copy-own.new.state) (g.T.Moving.shown c.put_copy.new.state) (g.met.T.Moving.holds c.give_copy-own.new.state) (g.met.T.Moving.holds c.put_copy.new.state) c.requires.may c.in_ok-find.ensures.ok c.give_copy-own.ensures.gave c.put_copy.ensures.put) (copied_to c.give_copy-own.result c.args.place (g.T.Moving.shown c.find.new.state) (g.T.Moving.shown c.give_copy-own.new.state) (g.T.Moving.shown c.put_copy.new.state) (g.met.T.Moving.holds c.put_copy.new.state) c.give_copy-own.ensures.gave c.put_copy.ensures.put)
 
 pub give_copy-own-requires-clause-touch : goal.give_copy-own-requires-clause-touch
 give_copy-own-requires-clause-touch g c = ap (touches c.args.place.pid.0) (search_left (Some c.args.f) true (g.T.Moving.shown c.args.state.now) (g.T.Moving.shown c.find.new.state) c.in_ok-find.ensures.ok).life.kind ∙ c.requires.touch
@@ -43,3 +39,12 @@ returns-clause-copied g c = made_copied c.args.from c.args.place c.args.f c.give
       (copied_to c.give_copy-own.result c.args.place (g.T.Moving.shown c.find.new.state) (g.T.Moving.shown c.give_copy-own.new.state) (g.T.Moving.shown c.put_copy.new.state) (g.met.T.Moving.holds c.put_copy.new.state) c.give_copy-own.ensures.gave c.put_copy.ensures.put);
   rest = c.copy.ensures.rest;
 })
+
+pub find-requires-clause-shares : goal.find-requires-clause-shares
+find-requires-clause-shares g c f e = (g.met.T.Moving.holds c.args.state.now).shared c.args.place f (c.requires.may.held.valid ∙ e)
+
+pub put_copy-requires-clause-bound : goal.put_copy-requires-clause-bound
+put_copy-requires-clause-bound g c = (g.met.T.Moving.holds c.give_copy-own.new.state).bound c.args.place c.args.f (held_given c.args.from c.args.f c.give_copy-own.result c.args.place (g.T.Moving.shown c.args.state.now) (g.T.Moving.shown c.find.new.state) (g.T.Moving.shown c.give_copy-own.new.state) c.requires.may c.in_ok-find.ensures.ok c.give_copy-own.ensures.gave).valid
+
+pub copy-requires-clause-to_owned : goal.copy-requires-clause-to_owned
+copy-requires-clause-to_owned g c = some_of (record_at (g.T.Moving.shown c.put_copy.new.state).life.frames c.give_copy-own.result.0).owner (key_of_place c.args.place) (copied_to c.give_copy-own.result c.args.place (g.T.Moving.shown c.find.new.state) (g.T.Moving.shown c.give_copy-own.new.state) (g.T.Moving.shown c.put_copy.new.state) (g.met.T.Moving.holds c.put_copy.new.state) c.give_copy-own.ensures.gave c.put_copy.ensures.put)
