@@ -14,7 +14,7 @@ use Rattle.mm_frames.specs.declared.standing.Standing.TheVariants.{Zeroed, Free,
 
 -- ---- which standing goes with which list
 
-list_low : (s : Standing) (r : Record) (i : ℕ) → list_for s r ≡ Some i → i < 4
+pub list_low : (s : Standing) (r : Record) (i : ℕ) → list_for s r ≡ Some i → i < 4
 list_low Zeroed r i e = let h : 0 ≡ i = same 0 i e in omega arith
 list_low Free r i e = let h : 1 ≡ i = same 1 i e in omega arith
 list_low Bound r i e = bound_low (is_idle r) r.changed e

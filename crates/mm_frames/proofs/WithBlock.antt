@@ -117,6 +117,13 @@ module _ {records : List Record} {standing : List Standing} {lists b : ListsOf} 
 pub one_list : {records : List Record} {lists : List (List ℕ)} {b : ListsOf} → AreBacked records lists b → length b.lists ≡ 1
 one_list s = ap (λ (w : ListsOf). length w.lists) s.same
 
+pub second_low : {records : List Record} {lists : List (List ℕ)} {b : ListsOf} → AreBacked records lists b → (r : Record) (i : ℕ) → second_for r ≡ Some i → i < length b.lists
+second_low {b = b} s r i = low (is_modified_with_block r)
+  where
+    low : (m : Bool) → cond m (Some 0) None ≡ Some i → i < length b.lists
+    low true e = let h : 0 ≡ i = same 0 i e in omega (arith, one_list s)
+    low false e = let bad : None ≡ Some i = e in cc
+
 -- ---- the second list, as a frame comes to stand elsewhere
 
 abbrev idle_list : Bool → Bool → Option ℕ

@@ -1,5 +1,5 @@
 -- One reading after another.
-use Rattle.std.proofs.Common.{ℕ, List, [], ◌++◌, sym, ap, ◌∙◌, Option, append_assoc}
+use Rattle.std.proofs.Common.{◌≡◌, ℕ, List, [], ◌∷◌, ◌++◌, length, sym, ap, ◌∙◌, Option, append_assoc, arith, length-append}
 use Rattle.mm_types.proofs.{append_nil, took_none, took_then}
 use Rattle.mm_io.specs.{FitsLine, Filled, HasRead}
 use Rattle.mm_io.proofs.Feeds.{Recent, recent_next}
@@ -16,5 +16,12 @@ filled_then a b c x y z u v = record {
 
 pub recent_after : (a b : Option (List ℕ)) (x y : List ℕ) (n : ℕ) → FitsLine x → Filled a b x y → HasRead a b x y n → Recent y
 recent_after a b x y n line f r = recent_next x f.taken y n line f.behind r.count r.few
+
+still : (x y taken : List ℕ) → y ≡ x ++ taken → length y ≡ length x → y ≡ x
+still x y [] e l = e ∙ append_nil x
+still x y (b ∷ taken) e l = absurd (omega (arith, ap length e, length-append x (b ∷ taken)))
+
+pub filled_still : (a b : Option (List ℕ)) (x y : List ℕ) (n : ℕ) → n ≡ 0 → Filled a b x y → HasRead a b x y n → y ≡ x
+filled_still a b x y n e f r = still x y f.taken f.behind (omega (arith, e, r.count))
 
 pub ruleset filling = (filled_none, filled_then)

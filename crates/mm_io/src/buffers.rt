@@ -95,9 +95,13 @@ impl Held {
         move_front(&mut self.bytes, self.start, n);
         self.start = 0;
         self.end = n;
-        let count = source.read(&mut self.bytes[n..n + 4096])?;
-        self.end = n + count;
-        Ok(count)
+        match source.read(&mut self.bytes[n..n + 4096]) {
+            Ok(count) => {
+                self.end = n + count;
+                Ok(count)
+            }
+            Err(failed) => Err(failed),
+        }
     }
 
     #[tactic(auto, using(crate::proofs::Fillings::filling))]
@@ -117,8 +121,10 @@ impl Held {
                 Look::Long => return Ok(Found::Long),
                 Look::Open => {}
             }
-            if self.read_more(source)? == 0 {
-                return Ok(Found::End);
+            match self.read_more(source) {
+                Ok(0) => return Ok(Found::End),
+                Ok(_) => {}
+                Err(failed) => return Err(failed),
             }
         }
     }

@@ -8,6 +8,7 @@
 
 mod adapters;
 mod buffers;
+mod failing;
 mod looks;
 mod mem_sink;
 mod mem_source;

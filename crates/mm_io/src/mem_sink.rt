@@ -4,6 +4,7 @@ ghost use Rattle.mm_io.specs.Io.{CountsFaults, Takes, GivesOn};
 ghost use Rattle.mm_io.specs.Calls.{NextFails, next_call};
 
 use crate::Sink;
+use crate::failing::is_to_fail;
 use mm_types::{Failed, NoMemory};
 use std::alloc::Global;
 
@@ -70,10 +71,7 @@ impl Sink for MemSink {
         ensures same_fails { self.new.fails ≡ self.old.fails }
     {
         self.calls = self.calls.saturating_add(1);
-        let call = self.calls;
-        if buf.len() > self.room as usize
-            || self.fails.iter().any(|fail| u64::from(*fail) == call)
-        {
+        if buf.len() > self.room as usize || is_to_fail(&self.fails, self.calls) {
             self.faults = self.faults.saturating_add(1);
             return Err(Failed);
         }

@@ -4,6 +4,7 @@ ghost use Rattle.mm_io.specs.Io.{CountsFaults, Reads, spare_read};
 ghost use Rattle.mm_io.specs.Calls.{NextFails, next_call};
 
 use crate::Source;
+use crate::failing::is_to_fail;
 use mm_types::Failed;
 
 /// Bytes in memory. The calls in `fails`, numbered from 1, fail, and no other.
@@ -72,8 +73,7 @@ impl Source for MemSource {
         ensures same_fails { self.new.fails ≡ self.old.fails }
     {
         self.calls = self.calls.saturating_add(1);
-        let call = self.calls;
-        if self.fails.iter().any(|fail| u64::from(*fail) == call) {
+        if is_to_fail(&self.fails, self.calls) {
             self.faults = self.faults.saturating_add(1);
             self.idle = self.idle.saturating_add(1);
             self.last_idle = 1;
@@ -82,12 +82,8 @@ impl Source for MemSource {
         let n = buf.len().min(self.bytes.len() - self.at);
         copy_front(buf, &self.bytes[self.at..], n);
         self.at += n;
-        if n == 0 {
-            self.idle = self.idle.saturating_add(1);
-            self.last_idle = 1;
-        } else {
-            self.last_idle = 0;
-        }
+        self.last_idle = u64::from(n == 0);
+        self.idle = self.idle.saturating_add(self.last_idle);
         Ok(n)
     }
 }

@@ -14,8 +14,10 @@ pub fn write_all<O: Sink>(out: &mut O, text: &[u8]) -> Result<(), Failed>
 {
     let mut rest = text;
     while !rest.is_empty() {
-        let n = out.write(rest)?;
-        rest = &rest[n..];
+        match out.write(rest) {
+            Ok(n) => rest = &rest[n..],
+            Err(failed) => return Err(failed),
+        }
     }
     Ok(())
 }

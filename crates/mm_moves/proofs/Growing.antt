@@ -3,7 +3,7 @@ use Rattle.std.proofs.Common.{◌≡◌, ℕ, ◌-◌, ◌≤◌, ◌<◌, Bool,
 use Rattle.std.proofs.Math.Seq.{take-length}
 use Rattle.std.proofs.lemmas.List.{take-append-drop}
 use Rattle.mm_types.specs.{Rose, Appended}
-use Rattle.mm_types.proofs.{appended_then}
+use Rattle.mm_types.proofs.{append_nil, appended_then}
 use Rattle.mm_io.specs.{Wrote, GivesOn}
 use Rattle.mm_life.specs.{Log, LogGrew, Grew}
 use Rattle.mm_life.proofs.{gave_nothing}
@@ -72,6 +72,27 @@ rest_of rest n =
 pub piece_more : (done rest line : List ℕ) (n : ℕ) → done ++ rest ≡ line → (done ++ take n rest) ++ take (length rest - n) (drop n rest) ≡ line
 piece_more done rest line n e =
     append_assoc done (take n rest) (take (length rest - n) (drop n rest)) ∙ ap (λ xs. done ++ xs) (rest_of rest n) ∙ e
+
+cut_at : (a b : Option (List ℕ)) (done rest : List ℕ) → 0 < length rest → Appended a b done → IsCut a b (done ++ rest)
+cut_at None None done rest some written = tt
+cut_at None (Some b) done rest some written = written
+cut_at (Some a) None done rest some written = written
+cut_at (Some a) (Some b) done rest some written = omega (arith, ap length written, length-append a done, length-append done rest)
+
+-- a line of which the rest was not taken
+pub line_cut : (a b : Option (List ℕ)) (done rest line : List ℕ) → done ++ rest ≡ line → 0 < length rest → Appended a b done → WroteOrCut a b line true
+line_cut a b done rest line e some written = record {
+  wrote = record { front = done; rest = rest; whole = sym e; written = written; all = λ h. cc };
+  cut = λ h. subst (IsCut a b) e (cut_at a b done rest some written);
+}
+
+-- a line of which no rest is left
+pub line_whole : (a b : Option (List ℕ)) (done rest line : List ℕ) → done ++ rest ≡ line → length rest ≡ 0 → Appended a b done → WroteOrCut a b line false
+line_whole a b done [] line e none written = record {
+  wrote = record { front = done; rest = []; whole = sym e; written = written; all = λ h. sym (append_nil done) ∙ e };
+  cut = λ h. cc;
+}
+line_whole a b done (x ∷ rest) line e none written = absurd (omega arith)
 
 -- ---- a recorder fails exactly where a line is cut
 

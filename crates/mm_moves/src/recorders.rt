@@ -47,7 +47,6 @@ pub struct Recorder<'a, K: Sink> {
 
 /// Writes a line. Where a call of the sink fails, the front that it took is not all of the line:
 /// `write_all` does not say that.
-#[tactic(auto, using(crate::proofs::Growing::growing))]
 fn write_line<K: Sink>(sink: &mut K, line: &[u8]) -> Result<(), Failed>
     ensures wrote { WroteOrCut (K.taken sink.old) (K.taken sink.new) line.now (is_err result) }
     ensures given { GivesOn (K.given sink.old) (K.given sink.new) (K.taken sink.old)
@@ -57,8 +56,10 @@ fn write_line<K: Sink>(sink: &mut K, line: &[u8]) -> Result<(), Failed>
 {
     let mut rest = line;
     while !rest.is_empty() {
-        let n = sink.write(rest)?;
-        rest = &rest[n..];
+        match sink.write(rest) {
+            Ok(n) => rest = &rest[n..],
+            Err(failed) => return Err(failed),
+        }
     }
     Ok(())
 }

@@ -9,6 +9,7 @@ mod numbers;
 mod plains;
 mod scripts;
 mod sources;
+mod texts;
 mod tidy;
 mod words;
 

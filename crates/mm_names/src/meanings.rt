@@ -9,7 +9,7 @@ use crate::numbers::value_of;
 use crate::plains::plain_of;
 use crate::tidy::{Last, tidied};
 use crate::words::{keyword_for, lowered};
-use mm_script::{parse_line, without_return};
+use mm_script::{is_text, parse_line, without_return};
 use mm_text::{Words, name};
 use mm_types::{Event, NoMemory};
 use std::alloc::Global;
@@ -58,7 +58,7 @@ fn let_of(
     let Some(number) = words.next() else {
         return Ok(Meaning::Wrong);
     };
-    if words.next().is_some() || equals.of(text) != b"=".as_slice() {
+    if words.next().is_some() || !is_text(equals.of(text), b"=") {
         return Ok(Meaning::Wrong);
     }
     given_to(alloc, names, word.of(text), number.of(text))
@@ -90,7 +90,7 @@ fn sentence(alloc: Global, names: &[Given], text: &[u8]) -> Result<Meaning, NoMe
         return Ok(Meaning::Wrong);
     };
     let first = lowered(alloc, span.of(text))?;
-    if first.as_slice() == b"let".as_slice() {
+    if is_text(first.as_slice(), b"let") {
         return let_of(alloc, names, text, &mut words);
     }
     match plain_of(

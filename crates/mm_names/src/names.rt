@@ -1,6 +1,8 @@
 ghost use Rattle.std.specs.Prelude.{◌≡◌, Option, ℕ, None, bytes_eq, if◌then◌else◌};
 ghost use Rattle.mm_names.specs.Numbers.{newer, latest, value_among, memory_names, page_names, section_names, windows_value};
 
+use crate::texts::among;
+use mm_script::is_text;
 use mm_types::Name;
 
 /// A name that a script gives to a number.
@@ -36,81 +38,44 @@ pub fn given_value(names: &[Given], word: &[u8]) -> Option<u32>
 fn memory_value(word: &[u8]) -> Option<u32>
     ensures { result ≡ value_among memory_names word.now }
 {
-    if word == b"MEM_COMMIT".as_slice() {
-        return Some(0x1000);
-    }
-    if word == b"MEM_RESERVE".as_slice() {
-        return Some(0x2000);
-    }
-    if word == b"MEM_DECOMMIT".as_slice() {
-        return Some(0x4000);
-    }
-    if word == b"MEM_RELEASE".as_slice() {
-        return Some(0x8000);
-    }
-    if word == b"MEM_WRITE_WATCH".as_slice() {
-        return Some(0x20_0000);
-    }
-    None
+    among!(word,
+        b"MEM_COMMIT" => 0x1000,
+        b"MEM_RESERVE" => 0x2000,
+        b"MEM_DECOMMIT" => 0x4000,
+        b"MEM_RELEASE" => 0x8000,
+        b"MEM_WRITE_WATCH" => 0x20_0000,
+    )
 }
 
 /// The value of one of Windows' names for protections.
 fn page_value(word: &[u8]) -> Option<u32>
     ensures { result ≡ value_among page_names word.now }
 {
-    if word == b"PAGE_NOACCESS".as_slice() {
-        return Some(0x01);
-    }
-    if word == b"PAGE_READONLY".as_slice() {
-        return Some(0x02);
-    }
-    if word == b"PAGE_READWRITE".as_slice() {
-        return Some(0x04);
-    }
-    if word == b"PAGE_WRITECOPY".as_slice() {
-        return Some(0x08);
-    }
-    if word == b"PAGE_EXECUTE".as_slice() {
-        return Some(0x10);
-    }
-    if word == b"PAGE_EXECUTE_READ".as_slice() {
-        return Some(0x20);
-    }
-    if word == b"PAGE_EXECUTE_READWRITE".as_slice() {
-        return Some(0x40);
-    }
-    if word == b"PAGE_EXECUTE_WRITECOPY".as_slice() {
-        return Some(0x80);
-    }
-    if word == b"PAGE_GUARD".as_slice() {
-        return Some(0x100);
-    }
-    None
+    among!(word,
+        b"PAGE_NOACCESS" => 0x01,
+        b"PAGE_READONLY" => 0x02,
+        b"PAGE_READWRITE" => 0x04,
+        b"PAGE_WRITECOPY" => 0x08,
+        b"PAGE_EXECUTE" => 0x10,
+        b"PAGE_EXECUTE_READ" => 0x20,
+        b"PAGE_EXECUTE_READWRITE" => 0x40,
+        b"PAGE_EXECUTE_WRITECOPY" => 0x80,
+        b"PAGE_GUARD" => 0x100,
+    )
 }
 
 /// The value of one of Windows' names for sections and views.
 fn section_value(word: &[u8]) -> Option<u32>
     ensures { result ≡ value_among section_names word.now }
 {
-    if word == b"SEC_RESERVE".as_slice() {
-        return Some(0x400_0000);
-    }
-    if word == b"SEC_COMMIT".as_slice() {
-        return Some(0x800_0000);
-    }
-    if word == b"FILE_MAP_COPY".as_slice() {
-        return Some(1);
-    }
-    if word == b"FILE_MAP_WRITE".as_slice() {
-        return Some(2);
-    }
-    if word == b"FILE_MAP_READ".as_slice() {
-        return Some(4);
-    }
-    if word == b"FILE_MAP_ALL_ACCESS".as_slice() {
-        return Some(0xF001F);
-    }
-    None
+    among!(word,
+        b"SEC_RESERVE" => 0x400_0000,
+        b"SEC_COMMIT" => 0x800_0000,
+        b"FILE_MAP_COPY" => 1,
+        b"FILE_MAP_WRITE" => 2,
+        b"FILE_MAP_READ" => 4,
+        b"FILE_MAP_ALL_ACCESS" => 0xF001F,
+    )
 }
 
 /// The value of a name of Windows.

@@ -1,6 +1,8 @@
 ghost use Rattle.std.specs.Prelude.{◌≡◌, IfOk, option_map, if◌then◌else◌};
 ghost use Rattle.mm_names.specs.Words.{lower, lowered, text_among, memory_calls, section_calls, keyword_for, verb_of, kind_at, next_number, verb_after};
 
+use crate::texts::among;
+use mm_script::is_text;
 use mm_types::NoMemory;
 use std::alloc::Global;
 
@@ -51,53 +53,29 @@ pub fn lowered(alloc: Global, word: &[u8]) -> Result<Vec<u8>, NoMemory>
 fn memory_call(word: &[u8]) -> Option<&'static [u8]>
     ensures { option_map (λ x. x.now) result ≡ text_among memory_calls word.now }
 {
-    if word == b"virtualalloc".as_slice() {
-        return Some(b"alloc");
-    }
-    if word == b"virtualfree".as_slice() {
-        return Some(b"free");
-    }
-    if word == b"virtualprotect".as_slice() {
-        return Some(b"protect");
-    }
-    if word == b"virtualquery".as_slice() {
-        return Some(b"query");
-    }
-    if word == b"getwritewatch".as_slice() {
-        return Some(b"watch");
-    }
-    if word == b"resetwritewatch".as_slice() {
-        return Some(b"resetwatch");
-    }
-    if word == b"exitprocess".as_slice() {
-        return Some(b"exit");
-    }
-    None
+    among!(word,
+        b"virtualalloc" => b"alloc",
+        b"virtualfree" => b"free",
+        b"virtualprotect" => b"protect",
+        b"virtualquery" => b"query",
+        b"getwritewatch" => b"watch",
+        b"resetwritewatch" => b"resetwatch",
+        b"exitprocess" => b"exit",
+    )
 }
 
 /// The keyword for one of Windows' calls on sections.
 fn section_call(word: &[u8]) -> Option<&'static [u8]>
     ensures { option_map (λ x. x.now) result ≡ text_among section_calls word.now }
 {
-    if word == b"createfilemapping".as_slice() {
-        return Some(b"create");
-    }
-    if word == b"openfilemapping".as_slice() {
-        return Some(b"open");
-    }
-    if word == b"closehandle".as_slice() {
-        return Some(b"close");
-    }
-    if word == b"mapviewoffile".as_slice() {
-        return Some(b"map");
-    }
-    if word == b"unmapviewoffile".as_slice() {
-        return Some(b"unmap");
-    }
-    if word == b"flushviewoffile".as_slice() {
-        return Some(b"flush");
-    }
-    None
+    among!(word,
+        b"createfilemapping" => b"create",
+        b"openfilemapping" => b"open",
+        b"closehandle" => b"close",
+        b"mapviewoffile" => b"map",
+        b"unmapviewoffile" => b"unmap",
+        b"flushviewoffile" => b"flush",
+    )
 }
 
 /// The keyword for a word in lower case: that of a call of Windows, or the word itself.
@@ -117,25 +95,25 @@ pub fn keyword_for(word: &[u8]) -> &[u8]
 pub fn verb_of(keyword: &[u8]) -> Verb
     ensures { result ≡ verb_of keyword.now }
 {
-    if keyword == b"file".as_slice() {
+    if is_text(keyword, b"file") {
         return Verb::File;
     }
-    if keyword == b"create".as_slice() {
+    if is_text(keyword, b"create") {
         return Verb::Create;
     }
-    if keyword == b"createfile".as_slice() {
+    if is_text(keyword, b"createfile") {
         return Verb::CreateFile;
     }
-    if keyword == b"open".as_slice() {
+    if is_text(keyword, b"open") {
         return Verb::Open;
     }
-    if keyword == b"write".as_slice() {
+    if is_text(keyword, b"write") {
         return Verb::Write;
     }
-    if keyword == b"begin".as_slice() {
+    if is_text(keyword, b"begin") {
         return Verb::Begin;
     }
-    if keyword == b"fail".as_slice() {
+    if is_text(keyword, b"fail") {
         return Verb::Fail;
     }
     Verb::Other
@@ -198,7 +176,7 @@ fn begin_after(alloc: Global, number: u32, word: &[u8]) -> Result<Verb, NoMemory
         return Ok(Verb::Begin);
     }
     let low = lowered(alloc, word)?;
-    if low.as_slice() == b"write".as_slice() {
+    if is_text(low.as_slice(), b"write") {
         return Ok(Verb::BeginWrite);
     }
     Ok(Verb::Begin)

@@ -44,11 +44,12 @@ impl Parts {
     pub fn new(alloc: Global, machine: Machine) -> Result<Parts, NoMemory>
         ensures { IfOk result (λ p. shown_parts p ≡ first_parts machine) }
     {
+        // What takes longest to let go comes last.
         let added = vec![in alloc; false; machine.blocks() as usize]?;
-        let frames = Frames::new(alloc, machine.frames())?;
-        let words = Words::new(alloc)?;
-        let slots = Slots::new(alloc, machine.slots())?;
         let flight = Flight::new(alloc, machine.depth())?;
+        let words = Words::new(alloc)?;
+        let frames = Frames::new(alloc, machine.frames())?;
+        let slots = Slots::new(alloc, machine.slots())?;
         let kind = kind_of(machine);
         Ok(Parts {
             machine,

@@ -1,5 +1,6 @@
 use crate::reasons::put_reason;
-use crate::texts::{put, put_number};
+use crate::texts::Piece::{Number, Text};
+use crate::texts::{put, put_form};
 use crate::warnings::put_warning;
 use mm_names::{Given, Meaning, may_stand, meant, without_mark};
 use mm_types::{AccessSpec, Event, Name, NoMemory};
@@ -64,21 +65,14 @@ impl Explainer {
         self.names.as_slice()
     }
 
-    /// `line N`, of the line that was read last.
-    fn put_line(&mut self) -> Result<(), NoMemory> {
-        put(&mut self.out, b"line ")?;
-        put_number(&mut self.out, u64::from(self.number))
-    }
-
     /// A fault of this reason, unless enough were told.
     fn fault(&mut self, reason: &[u8]) -> Result<(), NoMemory> {
         if self.faults >= MOST_TOLD {
             return Ok(());
         }
         self.faults += 1;
-        self.put_line()?;
-        put(&mut self.out, reason)?;
-        put(&mut self.out, b"\n")
+        let number = Number(u64::from(self.number));
+        put_form(&mut self.out, b"line %%\n", &[number, Text(reason)])
     }
 
     /// A warning, unless enough were told.
@@ -89,11 +83,9 @@ impl Explainer {
             return Ok(());
         }
         self.warnings += 1;
-        put(&mut self.out, b"warning: ")?;
-        self.put_line()?;
-        put(&mut self.out, b": ")?;
-        put(&mut self.out, warning.as_slice())?;
-        put(&mut self.out, b"\n")
+        let number = Number(u64::from(self.number));
+        let said = Text(warning.as_slice());
+        put_form(&mut self.out, b"warning: line %: %\n", &[number, said])
     }
 
     /// A line that means an event.

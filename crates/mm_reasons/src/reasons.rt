@@ -2,30 +2,17 @@ ghost use Rattle.std.specs.Prelude.{◌≤◌, length};
 
 use crate::lines::WordLine;
 use crate::nearest::{nearest_keyword, nearest_name};
-use crate::texts::{put, put_hex, put_number, put_word};
+use crate::texts::Piece::{self, Hex, Number, Place, Text, Usage, Word};
+use crate::texts::{put, put_form};
 use crate::usages::{field_at, fields_of, range_of};
 use mm_names::{
     Given, Kind, Last, Verb, keyword_for, kind_at, lowered, next_number, plain_of, value_of,
     verb_after, verb_of, windows_value,
 };
-use mm_script::parse_line;
+use mm_script::{is_text, parse_line};
 use mm_text::{Words, name};
 use mm_types::NoMemory;
 use std::alloc::Global;
-
-/// A column, where there is one, and the mark before a reason.
-fn put_column(out: &mut Vec<u8>, column: Option<u32>) -> Result<(), NoMemory> {
-    if let Some(column) = column {
-        put(out, b" column ")?;
-        put_number(out, u64::from(column))?;
-    }
-    put(out, b": ")
-}
-
-/// The place of a word, where the line has it, and the mark before a reason.
-fn put_place(out: &mut Vec<u8>, line: &WordLine, at: usize) -> Result<(), NoMemory> {
-    put_column(out, line.column_behind(at, 0))
-}
 
 /// That the first word is no keyword.
 fn put_no_keyword(
@@ -34,16 +21,16 @@ fn put_no_keyword(
     line: &WordLine,
     word: &[u8],
 ) -> Result<(), NoMemory> {
-    put_place(out, line, 0)?;
-    put(out, b"no such word '")?;
-    put_word(out, line.word(0))?;
-    put(out, b"'")?;
-    if let Some(near) = nearest_keyword(alloc, word)? {
-        put(out, b"; is '")?;
-        put_word(out, near)?;
-        put(out, b"' meant?")?;
+    let place = Place(line.column_behind(0, 0));
+    let first = Word(line.word(0));
+    match nearest_keyword(alloc, word)? {
+        Some(near) => put_form(
+            out,
+            b"%no such word '%'; is '%' meant?",
+            &[place, first, Word(near)],
+        ),
+        None => put_form(out, b"%no such word '%'", &[place, first]),
     }
-    Ok(())
 }
 
 /// Where a term of a number begins and ends.
@@ -94,7 +81,7 @@ fn is_bad(
 }
 
 /// Whether a word stood in quotes.
-fn is_text(word: &[u8]) -> bool {
+fn is_quoted(word: &[u8]) -> bool {
     match word {
         [first, ..] => *first == b'"',
         [] => false,
@@ -124,24 +111,35 @@ fn put_no_number(
         None => word,
     };
     if bad.is_empty() {
-        put_place(out, line, at)?;
-        return put(out, b"a number stands on each side of '+' and '|'");
+        return put_form(
+            out,
+            b"%a number stands on each side of '+' and '|'",
+            &[Place(line.column_behind(at, 0))],
+        );
     }
-    put_column(out, line.column_behind(at, term.from))?;
-    if is_text(bad) {
-        return put(out, b"a number is wanted, and here is text");
+    let place = Place(line.column_behind(at, term.from));
+    put_no_value(out, alloc, names, place, bad)
+}
+
+/// That a word at a place has no value.
+fn put_no_value(
+    out: &mut Vec<u8>,
+    alloc: Global,
+    names: &[Given],
+    place: Piece,
+    word: &[u8],
+) -> Result<(), NoMemory> {
+    let said = Word(word);
+    if is_quoted(word) {
+        return put_form(out, b"%a number is wanted, and here is text", &[place]);
     }
-    put_word(out, bad)?;
-    if begins_as_number(bad) {
-        return put(out, b" is no number below 4294967296");
+    if begins_as_number(word) {
+        return put_form(out, b"%% is no number below 4294967296", &[place, said]);
     }
-    put(out, b" is no name")?;
-    if let Some(near) = nearest_name(alloc, names, bad)? {
-        put(out, b"; ")?;
-        put_word(out, near)?;
-        put(out, b"?")?;
+    match nearest_name(alloc, names, word)? {
+        Some(near) => put_form(out, b"%% is no name; %?", &[place, said, Word(near)]),
+        None => put_form(out, b"%% is no name", &[place, said]),
     }
-    Ok(())
 }
 
 /// What is wrong with a line that begins with `let`.
@@ -151,39 +149,30 @@ fn put_bad_let(
     names: &[Given],
     line: &WordLine,
 ) -> Result<(), NoMemory> {
-    if line.count() != 4 || line.word(2) != b"=".as_slice() {
+    if line.count() != 4 || !is_text(line.word(2), b"=") {
         return put(out, b": a name is given so: let NAME = NUMBER");
     }
-    if name(line.word(1)).is_none() {
-        put_place(out, line, 1)?;
-        return put_bad_name(out, line.word(1));
+    let word = line.word(1);
+    if name(word).is_none() {
+        return put_bad_name(out, line, 1);
     }
-    if windows_value(line.word(1)).is_some() {
-        put_place(out, line, 1)?;
-        put_word(out, line.word(1))?;
-        return put(out, b" is a name of Windows");
+    if windows_value(word).is_some() {
+        return put_form(
+            out,
+            b"%% is a name of Windows",
+            &[Place(line.column_behind(1, 0)), Word(word)],
+        );
     }
     put_no_number(out, alloc, names, line, 3)
 }
 
 /// That a word is no name.
-fn put_bad_name(out: &mut Vec<u8>, word: &[u8]) -> Result<(), NoMemory> {
-    put(out, b"'")?;
-    put_word(out, word)?;
-    put(
+fn put_bad_name(out: &mut Vec<u8>, line: &WordLine, at: usize) -> Result<(), NoMemory> {
+    put_form(
         out,
-        b"' is no name: a letter, and at most 31 letters, digits, '_', '.' or '-'",
+        b"%'%' is no name: a letter, and at most 31 letters, digits, '_', '.' or '-'",
+        &[Place(line.column_behind(at, 0)), Word(line.word(at))],
     )
-}
-
-/// The form of a line.
-fn put_usage(out: &mut Vec<u8>, keyword: &[u8], fields: &'static str) -> Result<(), NoMemory> {
-    put(out, keyword)?;
-    if !fields.is_empty() {
-        put(out, b" ")?;
-        put(out, fields.as_bytes())?;
-    }
-    Ok(())
 }
 
 /// The number of a word; 0 where it has none.
@@ -196,29 +185,43 @@ fn number_at(alloc: Global, names: &[Given], line: &WordLine, at: usize) -> Resu
 
 /// That an access leaves its page.
 fn put_leaves(out: &mut Vec<u8>, access: &[u8], address: u32, len: u64) -> Result<(), NoMemory> {
-    put(out, b": a ")?;
-    put(out, access)?;
-    put(out, b" of ")?;
-    put_number(out, len)?;
-    put(out, b" bytes at ")?;
-    put_hex(out, address)?;
-    put(out, b" leaves its page")
+    put_form(
+        out,
+        b": a % of % bytes at % leaves its page",
+        &[Text(access), Number(len), Hex(address)],
+    )
 }
 
 /// That a machine has too few frames for its depth.
-fn put_few_frames(out: &mut Vec<u8>, frames: u32, depth: u32) -> Result<(), NoMemory> {
-    put(out, b": frames ")?;
-    put_number(out, u64::from(frames))?;
-    put(out, b" are fewer than 2 * depth + 4 = ")?;
-    put_number(out, 2 * u64::from(depth) + 4)
+fn put_few_frames(
+    out: &mut Vec<u8>,
+    alloc: Global,
+    names: &[Given],
+    line: &WordLine,
+) -> Result<(), NoMemory> {
+    let frames = number_at(alloc, names, line, 1)?;
+    let depth = number_at(alloc, names, line, 3)?;
+    put_form(
+        out,
+        b": frames % are fewer than 2 * depth + 4 = %",
+        &[Number(u64::from(frames)), Number(2 * u64::from(depth) + 4)],
+    )
 }
 
 /// That a working set has a maximum below its minimum.
-fn put_few_pages(out: &mut Vec<u8>, min: u32, max: u32) -> Result<(), NoMemory> {
-    put(out, b": max ")?;
-    put_number(out, u64::from(max))?;
-    put(out, b" is less than min ")?;
-    put_number(out, u64::from(min))
+fn put_few_pages(
+    out: &mut Vec<u8>,
+    alloc: Global,
+    names: &[Given],
+    line: &WordLine,
+) -> Result<(), NoMemory> {
+    let min = number_at(alloc, names, line, 1)?;
+    let max = number_at(alloc, names, line, 2)?;
+    put_form(
+        out,
+        b": max % is less than min %",
+        &[Number(u64::from(max)), Number(u64::from(min))],
+    )
 }
 
 /// The digits of a word of bytes, with or without the mark of a quote.
@@ -239,19 +242,14 @@ fn put_joint(
     keyword: &[u8],
     is_write: bool,
 ) -> Result<(), NoMemory> {
+    if is_text(keyword, b"machine") {
+        return put_few_frames(out, alloc, names, line);
+    }
+    if is_text(keyword, b"process") {
+        return put_few_pages(out, alloc, names, line);
+    }
     let last = line.count().saturating_sub(1);
-    let before = last.saturating_sub(1);
-    if keyword == b"machine".as_slice() {
-        let frames = number_at(alloc, names, line, 1)?;
-        let depth = number_at(alloc, names, line, 3)?;
-        return put_few_frames(out, frames, depth);
-    }
-    if keyword == b"process".as_slice() {
-        let min = number_at(alloc, names, line, 1)?;
-        let max = number_at(alloc, names, line, 2)?;
-        return put_few_pages(out, min, max);
-    }
-    let address = number_at(alloc, names, line, before)?;
+    let address = number_at(alloc, names, line, last.saturating_sub(1))?;
     if is_write {
         return put_leaves(out, b"write", address, bytes_in(line.word(last)));
     }
@@ -268,14 +266,17 @@ fn put_bad_range(
     value: u32,
 ) -> Result<(), NoMemory> {
     let (least, most) = range_of(field);
-    put_place(out, line, at)?;
-    put(out, field)?;
-    put(out, b" is ")?;
-    put_number(out, u64::from(value))?;
-    put(out, b", and goes from ")?;
-    put_number(out, u64::from(least))?;
-    put(out, b" to ")?;
-    put_number(out, u64::from(most))
+    put_form(
+        out,
+        b"%% is %, and goes from % to %",
+        &[
+            Place(line.column_behind(at, 0)),
+            Text(field),
+            Number(u64::from(value)),
+            Number(u64::from(least)),
+            Number(u64::from(most)),
+        ],
+    )
 }
 
 /// Whether a number is in the range of its field.
@@ -284,13 +285,13 @@ fn is_in_range(field: &[u8], value: u32) -> bool {
     least <= value && value <= most
 }
 
-/// What is wrong with bytes, where there is something.
-fn put_bad_bytes(out: &mut Vec<u8>, line: &WordLine, at: usize) -> Result<(), NoMemory> {
-    put_place(out, line, at)?;
-    put(
-        out,
-        b"bytes are 1 to 64 pairs of hexadecimal digits, or text in quotes",
-    )
+/// Whether a word, with or without the mark of a quote, is bytes.
+fn is_bytes(word: &[u8]) -> bool {
+    let digits = match word {
+        [b'"', digits @ ..] => digits,
+        _ => word,
+    };
+    mm_text::bytes(digits).is_some()
 }
 
 /// The field of numbers that a field is, or may be.
@@ -302,7 +303,26 @@ fn number_field(field: &'static [u8]) -> &'static [u8] {
     }
 }
 
-/// What is wrong with the word of a field. False where it is good by itself.
+/// Whether the word of a field is good by itself.
+fn is_good(
+    alloc: Global,
+    names: &[Given],
+    line: &WordLine,
+    at: usize,
+    field: &'static [u8],
+    kind: Kind,
+) -> Result<bool, NoMemory> {
+    match kind {
+        Kind::Name | Kind::Keyword => Ok(false),
+        Kind::Bytes => Ok(is_bytes(line.word(at))),
+        Kind::Number => {
+            let value = number_at(alloc, names, line, at)?;
+            Ok(is_in_range(number_field(field), value))
+        }
+    }
+}
+
+/// What is wrong with the word of a field.
 fn put_bad_word(
     out: &mut Vec<u8>,
     alloc: Global,
@@ -311,43 +331,43 @@ fn put_bad_word(
     at: usize,
     field: &'static [u8],
     kind: Kind,
-) -> Result<bool, NoMemory> {
-    let word = line.word(at);
+) -> Result<(), NoMemory> {
     match kind {
-        Kind::Name => {
-            put_place(out, line, at)?;
-            put_bad_name(out, word)?;
-            Ok(true)
-        }
-        Kind::Keyword => {
-            put_place(out, line, at)?;
-            put(out, b"'")?;
-            put_word(out, word)?;
-            put(out, b"' is none of ")?;
-            put(out, field)?;
-            Ok(true)
-        }
-        Kind::Bytes => {
-            let digits = match word {
-                [b'"', digits @ ..] => digits,
-                _ => word,
-            };
-            if mm_text::bytes(digits).is_some() {
-                return Ok(false);
-            }
-            put_bad_bytes(out, line, at)?;
-            Ok(true)
-        }
+        Kind::Name => put_bad_name(out, line, at),
+        Kind::Keyword => put_no_choice(out, line, at, field),
+        Kind::Bytes => put_bad_bytes(out, line, at),
         Kind::Number => {
-            let name = number_field(field);
             let value = number_at(alloc, names, line, at)?;
-            if is_in_range(name, value) {
-                return Ok(false);
-            }
-            put_bad_range(out, line, at, name, value)?;
-            Ok(true)
+            put_bad_range(out, line, at, number_field(field), value)
         }
     }
+}
+
+/// That a word is none of those that a field may be.
+fn put_no_choice(
+    out: &mut Vec<u8>,
+    line: &WordLine,
+    at: usize,
+    field: &'static [u8],
+) -> Result<(), NoMemory> {
+    put_form(
+        out,
+        b"%'%' is none of %",
+        &[
+            Place(line.column_behind(at, 0)),
+            Word(line.word(at)),
+            Text(field),
+        ],
+    )
+}
+
+/// That a word is no bytes.
+fn put_bad_bytes(out: &mut Vec<u8>, line: &WordLine, at: usize) -> Result<(), NoMemory> {
+    put_form(
+        out,
+        b"%bytes are 1 to 64 pairs of hexadecimal digits, or text in quotes",
+        &[Place(line.column_behind(at, 0))],
+    )
 }
 
 /// What is wrong with the fields behind a keyword, each of which has the form of its kind; the
@@ -361,29 +381,42 @@ fn put_bad_field(
     fields: &'static str,
     at: usize,
 ) -> Result<(), NoMemory> {
-    let verb = verb_at(alloc, line, keyword, at)?;
+    let usage = Usage(keyword, fields);
     let Some(field) = field_at(fields, at.saturating_sub(1)) else {
-        put_place(out, line, at)?;
-        put(out, b"a word too many: ")?;
-        return put_usage(out, keyword, fields);
+        return put_form(
+            out,
+            b"%a word too many: %",
+            &[Place(line.column_behind(at, 0)), usage],
+        );
     };
     if at >= line.count() {
-        put(out, b": a word is missing: ")?;
-        return put_usage(out, keyword, fields);
+        return put_form(out, b": a word is missing: %", &[usage]);
     }
+    put_bad_place(out, alloc, names, line, keyword, at, field)
+}
+
+/// What is wrong with the word of a field, or with it and others.
+fn put_bad_place(
+    out: &mut Vec<u8>,
+    alloc: Global,
+    names: &[Given],
+    line: &WordLine,
+    keyword: &[u8],
+    at: usize,
+    field: &'static [u8],
+) -> Result<(), NoMemory> {
+    let verb = verb_at(alloc, line, keyword, at)?;
     let number = if at < 6 { at as u32 + 1 } else { 7 };
     let kind = kind_at(verb, number);
-    if put_bad_word(out, alloc, names, line, at, field, kind)? {
-        return Ok(());
+    if is_good(alloc, names, line, at, field, kind)? {
+        return put_joint(out, alloc, names, line, keyword, is_write(verb));
     }
-    put_joint(
-        out,
-        alloc,
-        names,
-        line,
-        keyword,
-        verb == Verb::BeginWrite || verb == Verb::Write,
-    )
+    put_bad_word(out, alloc, names, line, at, field, kind)
+}
+
+/// Whether a line writes bytes.
+fn is_write(verb: Verb) -> bool {
+    verb == Verb::BeginWrite || verb == Verb::Write
 }
 
 /// Which words are no numbers, at a word of this number, counted from 0.
@@ -418,25 +451,22 @@ fn bad_number(
     Ok(None)
 }
 
-/// The plain line of a line whose numbers have values; empty where there is none.
+/// The plain line of a line whose numbers have values.
 fn plain_line(
     alloc: Global,
     names: &[Given],
     line: &WordLine,
     keyword: &[u8],
-) -> Result<Vec<u8>, NoMemory> {
+) -> Result<Option<Vec<u8>>, NoMemory> {
     let text = line.tidy().text();
     if text.len() > 65536 {
-        return Ok(Vec::new(alloc));
+        return Ok(None);
     }
     let mut words = Words::new(text);
     if words.next().is_none() {
-        return Ok(Vec::new(alloc));
+        return Ok(None);
     }
-    match plain_of(alloc, names, keyword, text, &mut words)? {
-        Some(plain) => Ok(plain),
-        None => Ok(Vec::new(alloc)),
-    }
+    plain_of(alloc, names, keyword, text, &mut words)
 }
 
 /// The first bad word of a plain line, counted from 0.
@@ -461,7 +491,10 @@ fn put_bad_fields(
     if let Some(at) = bad_number(alloc, names, line, keyword)? {
         return put_no_number(out, alloc, names, line, at);
     }
-    let plain = plain_line(alloc, names, line, keyword)?;
+    let plain = match plain_line(alloc, names, line, keyword)? {
+        Some(plain) => plain,
+        None => Vec::new(alloc),
+    };
     if plain.len() > 256 {
         return put(out, b": a line of a script has at most 256 bytes");
     }
@@ -479,19 +512,41 @@ pub(crate) fn put_reason(
     line: &[u8],
 ) -> Result<(), NoMemory> {
     let words = WordLine::new(alloc, line)?;
-    if words.tidy().last() == Last::Quote {
+    put_line_reason(out, alloc, names, line.len(), &words)
+}
+
+/// The same, of the words of a line of this many bytes.
+fn put_line_reason(
+    out: &mut Vec<u8>,
+    alloc: Global,
+    names: &[Given],
+    len: usize,
+    line: &WordLine,
+) -> Result<(), NoMemory> {
+    if line.tidy().last() == Last::Quote {
         return put(out, b": a quote is not closed");
     }
-    if words.tidy().text().len() > 65536 || line.len() > 65536 {
+    if line.tidy().text().len() > 65536 || len > 65536 {
         return put(out, b": a line has at most 65536 bytes");
     }
-    let first = lowered(alloc, words.word(0))?;
-    if first.as_slice() == b"let".as_slice() {
-        return put_bad_let(out, alloc, names, &words);
+    let first = lowered(alloc, line.word(0))?;
+    put_bad_line(out, alloc, names, line, first.as_slice())
+}
+
+/// What is wrong with a line of which this is the first word, in lower case.
+fn put_bad_line(
+    out: &mut Vec<u8>,
+    alloc: Global,
+    names: &[Given],
+    line: &WordLine,
+    first: &[u8],
+) -> Result<(), NoMemory> {
+    if is_text(first, b"let") {
+        return put_bad_let(out, alloc, names, line);
     }
-    let keyword = keyword_for(first.as_slice());
+    let keyword = keyword_for(first);
     match fields_of(keyword) {
-        None => put_no_keyword(out, alloc, &words, first.as_slice()),
-        Some(fields) => put_bad_fields(out, alloc, names, &words, keyword, fields),
+        None => put_no_keyword(out, alloc, line, first),
+        Some(fields) => put_bad_fields(out, alloc, names, line, keyword, fields),
     }
 }

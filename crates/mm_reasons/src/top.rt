@@ -7,7 +7,8 @@ ghost use Rattle.mm_reasons.specs.{form_of, RanAs, WriteBlamed, Blamed};
 use crate::explainers::explained;
 use crate::forms::{Form, form_of};
 use crate::talks::talk;
-use crate::texts::{put, put_number};
+use crate::texts::Piece::Number;
+use crate::texts::{put, put_form};
 use mm_io::{Sink, Source, write_all};
 use mm_names::{Ending, Script, read_all, translated};
 use mm_types::{Failed, NoMemory};
@@ -43,18 +44,14 @@ fn tell<E: Sink>(err: &mut E, text: &[u8], ending: Ending) -> Ending
 }
 
 /// From which written line each line of the script comes.
-fn line_map(alloc: Global, origins: &[u32]) -> Result<Vec<u8>, NoMemory> {
-    let mut text: Vec<u8> = Vec::new(alloc);
+fn put_line_map(out: &mut Vec<u8>, origins: &[u32]) -> Result<(), NoMemory> {
     let mut number = 0u64;
     for origin in origins {
         number = number.saturating_add(1);
-        put(&mut text, b"# ")?;
-        put_number(&mut text, number)?;
-        put(&mut text, b": line ")?;
-        put_number(&mut text, u64::from(*origin))?;
-        put(&mut text, b"\n")?;
+        let line = Number(u64::from(*origin));
+        put_form(out, b"# %: line %\n", &[Number(number), line])?;
     }
-    Ok(text)
+    Ok(())
 }
 
 /// What is told beside a script: the warnings, and where it is asked the map of its lines.
@@ -63,8 +60,7 @@ fn notes(alloc: Global, text: &[u8], script: &Script, form: Form) -> Result<Vec<
     let mut notes: Vec<u8> = Vec::new(alloc);
     put(&mut notes, explainer.text())?;
     if form == Form::Lines && script.is_whole() {
-        let map = line_map(alloc, script.origins())?;
-        put(&mut notes, map.as_slice())?;
+        put_line_map(&mut notes, script.origins())?;
     }
     Ok(notes)
 }

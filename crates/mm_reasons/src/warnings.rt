@@ -1,4 +1,5 @@
-use crate::texts::{put, put_hex};
+use crate::texts::Piece::Hex;
+use crate::texts::{put, put_form};
 use mm_types::{Event, NoMemory};
 
 /// Why `mmsim` would answer an error to a protection, if it would.
@@ -8,14 +9,12 @@ fn put_protection(out: &mut Vec<u8>, prot: u32) -> Result<(), NoMemory> {
     }
     match prot & 0xFFFF_FEFF {
         0x01 | 0x02 | 0x04 | 0x08 | 0x10 | 0x20 | 0x40 | 0x80 => Ok(()),
-        _ => {
-            put_hex(out, prot)?;
-            put(
-                out,
-                b" is no protection: one of PAGE_NOACCESS to PAGE_EXECUTE_WRITECOPY, \
+        _ => put_form(
+            out,
+            b"% is no protection: one of PAGE_NOACCESS to PAGE_EXECUTE_WRITECOPY, \
                 or with PAGE_GUARD",
-            )
-        }
+            &[Hex(prot)],
+        ),
     }
 }
 
@@ -26,13 +25,11 @@ fn put_allocation(out: &mut Vec<u8>, size: u32, form: u32, prot: u32) -> Result<
     }
     match form {
         0x1000 | 0x2000 | 0x3000 | 0x20_2000 | 0x20_3000 => put_protection(out, prot),
-        _ => {
-            put_hex(out, form)?;
-            put(
-                out,
-                b" is no type: MEM_COMMIT, MEM_RESERVE or both; MEM_WRITE_WATCH with MEM_RESERVE",
-            )
-        }
+        _ => put_form(
+            out,
+            b"% is no type: MEM_COMMIT, MEM_RESERVE or both; MEM_WRITE_WATCH with MEM_RESERVE",
+            &[Hex(form)],
+        ),
     }
 }
 
@@ -47,10 +44,11 @@ fn put_release(out: &mut Vec<u8>, size: u32, form: u32) -> Result<(), NoMemory> 
                 put(out, b"MEM_RELEASE goes with a size of 0")
             }
         }
-        _ => {
-            put_hex(out, form)?;
-            put(out, b" is no type: MEM_DECOMMIT or MEM_RELEASE")
-        }
+        _ => put_form(
+            out,
+            b"% is no type: MEM_DECOMMIT or MEM_RELEASE",
+            &[Hex(form)],
+        ),
     }
 }
 
@@ -60,14 +58,12 @@ fn put_flags(out: &mut Vec<u8>, flags: u32) -> Result<(), NoMemory> {
         0x02 | 0x04 | 0x08 => Ok(()),
         0x400_0002 | 0x400_0004 | 0x400_0008 => Ok(()),
         0x800_0002 | 0x800_0004 | 0x800_0008 => Ok(()),
-        _ => {
-            put_hex(out, flags)?;
-            put(
-                out,
-                b" are no flags: PAGE_READONLY, PAGE_READWRITE or PAGE_WRITECOPY, \
+        _ => put_form(
+            out,
+            b"% are no flags: PAGE_READONLY, PAGE_READWRITE or PAGE_WRITECOPY, \
                 or with SEC_COMMIT or SEC_RESERVE",
-            )
-        }
+            &[Hex(flags)],
+        ),
     }
 }
 
@@ -76,11 +72,11 @@ fn put_view(out: &mut Vec<u8>, access: u32, offset: u32, addr: u32) -> Result<()
     match access {
         1 | 2 | 4 | 6 | 0xF_001F => {}
         _ => {
-            put_hex(out, access)?;
-            return put(
+            return put_form(
                 out,
-                b" is no access: FILE_MAP_COPY, FILE_MAP_READ, FILE_MAP_WRITE \
+                b"% is no access: FILE_MAP_COPY, FILE_MAP_READ, FILE_MAP_WRITE \
                 or FILE_MAP_ALL_ACCESS",
+                &[Hex(access)],
             );
         }
     }

@@ -49,7 +49,7 @@ module _ (m : MachineOf) (o : Outset) (paging files : DeviceOf) (slots blocks : 
     no_keys = refl;
     no_block = λ k. refl;
     unused = refl;
-    stored = ap (λ (xs : List Page). length xs) opened.blocks_are ∙ as_many m.blocks;
+    stored = ap (λ (xs : List Page). length xs) opened.opened.blocks ∙ as_many m.blocks;
     line = refl;
     kind = refl;
     no_pid = refl;
@@ -69,10 +69,10 @@ module _ (m : MachineOf) (o : Outset) (paging files : DeviceOf) (slots blocks : 
   made_at l range grew legal agrees = record {
     first = record {
       world = refl;
-      slots = opened.slots_are;
-      blocks = opened.blocks_are;
-      paging = record { none_logged = opened.paging_logged; none_named = opened.paging_named; later = opened.paging_later };
-      files = record { none_logged = opened.files_logged; none_named = opened.files_named; later = opened.files_later };
+      slots = opened.opened.slots;
+      blocks = opened.opened.blocks;
+      paging = record { none_logged = opened.opened.paging_logged; none_named = opened.paging_named; later = opened.paging_later };
+      files = record { none_logged = opened.opened.files_logged; none_named = opened.files_named; later = opened.files_later };
       agrees = agrees;
       told = refl;
       extended = refl;
@@ -102,10 +102,7 @@ module _ (m : MachineOf) (o : Outset) (paging files : DeviceOf) (slots blocks : 
 pub opened_over : {P F : Type 0} (p : DeviceGhosts P) (f : DeviceGhosts F) (m : MachineOf) (o : Outset) (x x' : P) (y y' : F) (plan plan' : List NamedCalls) → AreOpened m (device_seen p x) (device_seen f y) → x' ≡ x → y' ≡ y → plan ≡ [] → plan' ≡ [] → o.paging ≤ p.faults x → o.files ≤ f.faults y
     → Opened m o (device_with (p.log x') plan (p.faults x')) (device_with (f.log y') plan' (f.faults y')) (p.blocks x') (f.blocks y')
 opened_over p f m o x x' y y' plan plan' opened pd fd paging_named files_named later later' = record {
-  slots_are = ap p.blocks pd ∙ opened.slots;
-  blocks_are = ap f.blocks fd ∙ opened.blocks;
-  paging_logged = subst (λ d. NoneLogged (p.log d)) (sym pd) opened.paging_logged;
-  files_logged = subst (λ d. NoneLogged (f.log d)) (sym fd) opened.files_logged;
+  opened = subst (λ d. AreOpened m (device_seen p d) (device_seen f y')) (sym pd) (subst (λ d. AreOpened m (device_seen p x) (device_seen f d)) (sym fd) opened);
   paging_named = paging_named;
   files_named = files_named;
   paging_later = subst (λ d. o.paging ≤ p.faults d) (sym pd) later;

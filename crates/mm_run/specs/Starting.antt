@@ -1,22 +1,22 @@
 -- A joined state with which a run of a machine starts, and what one leaves behind.
 -- Profile, "A run".
-use Rattle.std.specs.Prelude.{◌≡◌, ◌≤◌, false, [], List, replicate}
+use Rattle.std.specs.Prelude.{◌≡◌, ◌≤◌, false, [], List}
 use Rattle.mm_types.specs.{MachineOf}
 use Rattle.mm_world.specs.{Page}
-use Rattle.mm_blocks.specs.{DeviceOf, NoneLogged, empty_block}
+use Rattle.mm_blocks.specs.{DeviceOf}
 use Rattle.mm_moving.specs.{StateOf}
 use Rattle.mm_state.specs.{MachineStarts}
 use Rattle.mm_run.specs.Scenes.{Outset}
 use Rattle.mm_run.specs.Ends.{Left, device_left, left_with}
+use Rattle.mm_run.specs.Settings.{AreOpened}
 
--- Two devices that were opened for this machine: none of their calls is named or logged, and their
--- counts of faults have not fallen.
+-- Two devices that were opened for this machine: they hold zeros, none of their calls was made or
+-- is named, and their counts of faults have not fallen since.
 pub record Opened (m : MachineOf) (o : Outset) (paging files : DeviceOf) (slots blocks : List Page)
     : Type 0 where
-  pub slots_are : slots ≡ replicate m.slots empty_block
-  pub blocks_are : blocks ≡ replicate m.blocks empty_block
-  pub paging_logged : NoneLogged paging.log
-  pub files_logged : NoneLogged files.log
+  pub opened :
+      AreOpened m (device_left paging.log slots paging.faults)
+      (device_left files.log blocks files.faults)
   pub paging_named : paging.named ≡ []
   pub files_named : files.named ≡ []
   pub paging_later : o.paging ≤ paging.faults

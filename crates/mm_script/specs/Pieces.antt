@@ -1,6 +1,7 @@
 -- What is printed behind a keyword, word by word: a tool of proof.
-use Rattle.std.specs.Prelude.{ℕ, ◌+◌, List, [], ◌∷◌}
-use Rattle.mm_types.specs.{Text, decimal, byte_pairs}
+use Rattle.std.specs.Prelude.{ℕ, ◌+◌, Bool, true, false, List, [], ◌∷◌}
+use Rattle.mm_types.specs.{Text, decimal, byte_pairs, Event}
+use Rattle.mm_types.specs.declared.events.Event.TheVariants as line
 use Rattle.mm_text.specs.{hex_short}
 use Rattle.mm_script.specs.declared.pieces.Piece.{Piece}
 use Rattle.mm_script.specs.declared.pieces.Piece.TheVariants as piece
@@ -32,3 +33,36 @@ width (piece.Direction direction) = 6
 abbrev pub room : List Piece → ℕ
 room [] = 0
 room (p ∷ ps) = width p + room ps
+
+-- whether a line is about memory of its own
+abbrev pub is_memory : Event → Bool
+is_memory (line.Alloc _ _ _ _ _) = true
+is_memory (line.Free _ _ _ _) = true
+is_memory (line.Protect _ _ _ _) = true
+is_memory (line.Query _ _) = true
+is_memory (line.Watch _ _ _ _ _) = true
+is_memory (line.ResetWatch _ _ _) = true
+is_memory (line.Stack _ _ _ _) = true
+is_memory _ = false
+
+-- whether a line is about sections and their views
+abbrev pub is_view : Event → Bool
+is_view (line.Create _ _ _ _) = true
+is_view (line.CreateFile _ _ _ _) = true
+is_view (line.Open _ _) = true
+is_view (line.Close _ _) = true
+is_view (line.Map _ _ _ _ _ _) = true
+is_view (line.Unmap _ _) = true
+is_view (line.Flush _ _ _) = true
+is_view _ = false
+
+-- whether a line is about an access
+abbrev pub is_access : Event → Bool
+is_access (line.Read _ _ _) = true
+is_access (line.Write _ _ _) = true
+is_access (line.Exec _ _) = true
+is_access (line.Probe _ _) = true
+is_access (line.Resume _) = true
+is_access (line.Io _) = true
+is_access (line.Begin _ _ _) = true
+is_access _ = false

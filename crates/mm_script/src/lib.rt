@@ -13,3 +13,4 @@ mod values;
 pub use faults::LineFault;
 pub use printing::print_event;
 pub use reading::{one_event, parse_into, parse_line, without_return};
+pub use values::is_text;

@@ -1,6 +1,6 @@
 ghost use Rattle.std.specs.Prelude.{◌≡◌, ◌≤◌, ◌++◌, [], length};
 ghost use Rattle.mm_types.specs.declared.events.Event.TheVariants as line;
-ghost use Rattle.mm_script.specs.{IsLine, IsWellFormed, printed};
+ghost use Rattle.mm_script.specs.{IfTrue, IsLine, IsWellFormed, printed, is_access, is_memory, is_view};
 
 use crate::pieces::Piece::{Bytes, Decimal, Device, Direction, Hex, Name, NameOrDash, Small};
 use crate::pieces::put_line;
@@ -8,16 +8,16 @@ use mm_text::LineBuf;
 use mm_types::{AccessSpec, Direction as Way, Event, Pid, Tid};
 
 /// A row for each form of a line: its event, and what is printed of it, the keyword and the words
-/// behind it.
+/// behind it. Lines of other subjects are printed by other functions.
 macro_rules! print_as {
     (
         $out:expr, $event:expr,
         $($form:pat => $keyword:literal $pieces:tt,)*
-        $(; $other:pat => $call:expr)?
+        $(; $other:pat => $call:expr)*
     ) => {
         match $event {
             $($form => put_line($out, $keyword, &$pieces),)*
-            $($other => $call,)?
+            $($other => $call,)*
         }
     };
 }
@@ -34,16 +34,12 @@ fn print_begin(out: &mut LineBuf, tid: Tid, pid: Pid, access: &AccessSpec)
     )
 }
 
-fn print(event: &Event, out: &mut LineBuf)
+/// The lines of memory of its own.
+fn print_memory(event: &Event, out: &mut LineBuf)
     requires { length out.old ≤ 96 }
-    ensures { out.new ≡ out.old ++ printed event.now }
+    ensures { IfTrue (is_memory event.now) (out.new ≡ out.old ++ printed event.now) }
 {
     print_as!(out, event,
-        Event::Machine(m) => b"machine"
-            [Decimal(m.frames()), Decimal(m.slots()), Decimal(m.depth()), Decimal(m.blocks())],
-        Event::Process { min, max } => b"process" [Decimal(*min), Decimal(*max)],
-        Event::Exit { pid } => b"exit" [Small(pid.0)],
-        Event::File { name, pages, byte } => b"file" [Name(name), Decimal(*pages), Small(*byte)],
         Event::Alloc { pid, addr, size, form, prot } => b"alloc"
             [Small(pid.0), Hex(*addr), Hex(*size), Hex(*form), Hex(*prot)],
         Event::Free { pid, addr, size, form } => b"free"
@@ -51,6 +47,22 @@ fn print(event: &Event, out: &mut LineBuf)
         Event::Protect { pid, addr, size, prot } => b"protect"
             [Small(pid.0), Hex(*addr), Hex(*size), Hex(*prot)],
         Event::Query { pid, addr } => b"query" [Small(pid.0), Hex(*addr)],
+        Event::Watch { pid, reset, addr, size, count } => b"watch"
+            [Small(pid.0), Small(u8::from(*reset)), Hex(*addr), Hex(*size), Decimal(*count)],
+        Event::ResetWatch { pid, addr, size } => b"resetwatch"
+            [Small(pid.0), Hex(*addr), Hex(*size)],
+        Event::Stack { tid, pid, reserve, commit } => b"stack"
+            [Small(tid.0), Small(pid.0), Hex(*reserve), Hex(*commit)],
+        ; _ => {}
+    )
+}
+
+/// The lines of sections and their views.
+fn print_view(event: &Event, out: &mut LineBuf)
+    requires { length out.old ≤ 96 }
+    ensures { IfTrue (is_view event.now) (out.new ≡ out.old ++ printed event.now) }
+{
+    print_as!(out, event,
         Event::Create { pid, size, flags, name } => b"create"
             [Small(pid.0), Hex(*size), Hex(*flags), NameOrDash(name)],
         Event::CreateFile { pid, file, flags, name } => b"createfile"
@@ -61,11 +73,38 @@ fn print(event: &Event, out: &mut LineBuf)
             [Small(pid.0), Decimal(*handle), Hex(*access), Hex(*offset), Hex(*len), Hex(*addr)],
         Event::Unmap { pid, addr } => b"unmap" [Small(pid.0), Hex(*addr)],
         Event::Flush { pid, addr, size } => b"flush" [Small(pid.0), Hex(*addr), Hex(*size)],
+        ; _ => {}
+    )
+}
+
+/// The lines of accesses, and of what threads wait for.
+fn print_access(event: &Event, out: &mut LineBuf)
+    requires { length out.old ≤ 96 }
+    ensures { IfTrue (is_access event.now) (out.new ≡ out.old ++ printed event.now) }
+{
+    print_as!(out, event,
         Event::Read { pid, addr, len } => b"read" [Small(pid.0), Hex(*addr), Decimal(*len)],
         Event::Write { pid, addr, bytes } => b"write" [Small(pid.0), Hex(*addr), Bytes(bytes)],
         Event::Exec { pid, addr } => b"exec" [Small(pid.0), Hex(*addr)],
+        Event::Probe { tid, addr } => b"probe" [Small(tid.0), Hex(*addr)],
         Event::Resume { tid } => b"resume" [Small(tid.0)],
         Event::Io { index: i } => b"io" [Decimal(*i)],
+        ; Event::Begin { tid, pid, access } => print_begin(out, *tid, *pid, access)
+        ; _ => {}
+    )
+}
+
+/// The lines of the machine, its processes and its devices, and those of other subjects.
+fn print(event: &Event, out: &mut LineBuf)
+    requires { length out.old ≤ 96 }
+    ensures { out.new ≡ out.old ++ printed event.now }
+{
+    print_as!(out, event,
+        Event::Machine(m) => b"machine"
+            [Decimal(m.frames()), Decimal(m.slots()), Decimal(m.depth()), Decimal(m.blocks())],
+        Event::Process { min, max } => b"process" [Decimal(*min), Decimal(*max)],
+        Event::Exit { pid } => b"exit" [Small(pid.0)],
+        Event::File { name, pages, byte } => b"file" [Name(name), Decimal(*pages), Small(*byte)],
         Event::Trim { pid, count: n } => b"trim" [Small(pid.0), Decimal(*n)],
         Event::Age { pid } => b"age" [Small(pid.0)],
         Event::Writer { count: n } => b"writer" [Decimal(*n)],
@@ -75,14 +114,13 @@ fn print(event: &Event, out: &mut LineBuf)
         Event::Charge => b"charge" [],
         Event::Counts => b"counts" [],
         Event::Grow { slots: n } => b"grow" [Decimal(*n)],
-        Event::Watch { pid, reset, addr, size, count } => b"watch"
-            [Small(pid.0), Small(u8::from(*reset)), Hex(*addr), Hex(*size), Decimal(*count)],
-        Event::ResetWatch { pid, addr, size } => b"resetwatch"
-            [Small(pid.0), Hex(*addr), Hex(*size)],
-        Event::Stack { tid, pid, reserve, commit } => b"stack"
-            [Small(tid.0), Small(pid.0), Hex(*reserve), Hex(*commit)],
-        Event::Probe { tid, addr } => b"probe" [Small(tid.0), Hex(*addr)],
-        ; Event::Begin { tid, pid, access } => print_begin(out, *tid, *pid, access)
+        ; Event::Alloc { .. } | Event::Free { .. } | Event::Protect { .. } | Event::Query { .. }
+            | Event::Watch { .. } | Event::ResetWatch { .. } | Event::Stack { .. }
+            => print_memory(event, out)
+        ; Event::Create { .. } | Event::CreateFile { .. } | Event::Open { .. }
+            | Event::Close { .. } | Event::Map { .. } | Event::Unmap { .. } | Event::Flush { .. }
+            => print_view(event, out)
+        ; _ => print_access(event, out)
     )
 }
 

@@ -7,7 +7,7 @@ use std::alloc::Global;
 const BITS: usize = 64;
 
 /// A set of numbers, of which the lowest is found by looking at one word a level.
-pub trait Numbers: Drop {
+pub trait Numbers {
     /// Whether a number is in the set.
     ghost has: { Self → ℕ → Bool };
 

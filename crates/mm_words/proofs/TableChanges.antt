@@ -8,7 +8,7 @@ use Rattle.mm_types.proofs.{same_or_not, get_set_same, get_set_other, get_last, 
 use Rattle.mm_words.specs.{ages_in, Entry, entry_or, WordsOf, bare, changed_in, AreaWords, Aside, shown_words, Process, bound_of, place_from, at_of}
 use Rattle.mm_words.specs.{age_of, resident_of, resident_set, resident_by_numbers, EntryBecomes, Rebinds, ProcessBegins, KeepsPages, process_in}
 use Rattle.mm_words.specs.{read_or, bound_in, at_in, age_of_place, is_open_in, AsideBound, IsEntry, entry_word, proto_word, area_words, entry_in}
-use Rattle.mm_words.specs.{changed_at, proto_in, size_in, no_words}
+use Rattle.mm_words.specs.{changed_at, proto_in, size_in, no_words, is_valid_entry}
 use Rattle.mm_life.specs.{changed, same_place, with_resident, resident_by, set_in, ResidentSet}
 use Rattle.std.specs.Ordering.{nat_cmp}
 use Rattle.std.specs.FinMap.{FinMap}
@@ -30,6 +30,13 @@ there_by read (Some p) h = refl
 
 pub bound_there : (ps : List Process) (place : Place) → bound_in ps place ≡ true → is_some (process_in ps place.pid.0) ≡ true
 bound_there ps place h = there_by (λ p. bound_of p place.vpn.0) (process_in ps place.pid.0) h
+
+pub valid_there : (ps : List Process) (place : Place) → is_valid_entry (at_in ps place) ≡ true → is_some (process_in ps place.pid.0) ≡ true
+valid_there ps place h = by (process_in ps place.pid.0) h
+  where
+    by : (o : Option Process) → is_valid_entry (read_or (λ p. at_of p place.vpn.0) entry.Empty o) ≡ true → is_some o ≡ true
+    by None h = cc
+    by (Some p) h = refl
 
 pub open_there : (ps : List Process) (pid : ℕ) → is_open_in ps pid ≡ true → is_some (process_in ps pid) ≡ true
 open_there ps pid h = there_by (λ p. p.is_open) (process_in ps pid) h

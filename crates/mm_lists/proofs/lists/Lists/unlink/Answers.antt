@@ -16,6 +16,16 @@ on c =
     let list = list_is _ _ _ _ _ _ c.args.self.now (open_of c) c.args.x c.requires.0 c.requires.1 c.requires.2 c.index-list.result.now c.index-list.ensures in
     subst (λ (h : ℕ). number_at c.args.self.now.lists h c.requires.1 ≡ Some c.args.x) (sym list) c.requires.2
 
+inside : (c : After-index-list) → c.args.x < length c.self.inside.next.items
+inside c =
+    let o = open_of c in
+    omega (arith, o.numbers, (apart _ _ _ _ _ _ c.args.self.now o).below c.requires.0 c.requires.1 c.args.x c.requires.2)
+
+pub index-list-requires : goal.index-list-requires
+index-list-requires c =
+    let o = opened _ _ _ _ _ _ c.args.self.now c.self.view_is c.self.invariant in
+    omega (arith, o.numbers, o.stands.owners, (apart _ _ _ _ _ _ c.args.self.now o).below c.requires.0 c.requires.1 c.args.x c.requires.2)
+
 pub index-len-requires : goal.index-len-requires
 index-len-requires c =
     let at = (goal.at.index-len-requires c).After-index-list in
@@ -37,6 +47,11 @@ pub index-requires : goal.index-requires
 index-requires c =
     let at = (goal.at.index-requires c).After-index-list in
     omega (arith, (open_of at).stands.fronts, low at)
+
+pub index-requires-then-index-x : goal.index-requires-then-index-x
+index-requires-then-index-x c =
+    let at = (goal.at.index-requires-then-index-x c).After-index-list in
+    omega (arith, inside at)
 
 pub index_mut-requires-then-index-x : goal.index_mut-requires-then-index-x
 index_mut-requires-then-index-x c =
@@ -66,6 +81,11 @@ index-requires-else-index-x c =
     let at = (goal.at.index-requires-else-index-x c).After-index-list in
     omega (arith, (open_of at).stands.backs, low at)
 
+pub index-requires-then-index-x-2 : goal.index-requires-then-index-x-2
+index-requires-then-index-x-2 c =
+    let at = (goal.at.index-requires-then-index-x-2 c).After-index-list in
+    omega (arith, inside at, (open_of at).stands.prevs)
+
 pub index_mut-requires-then-index-x-2 : goal.index_mut-requires-then-index-x-2
 index_mut-requires-then-index-x-2 c =
     let at = (goal.at.index_mut-requires-then-index-x-2 c).After-index-list in
@@ -88,6 +108,16 @@ returns-then-index-x-2-clause-apart c =
     let at = (goal.at.returns-then-index-x-2-clause-apart c).After-index-list in
     let p = last_unlinked _ _ _ _ _ _ c.args.self.now (open_of at) c.args.x c.index-list.result.now c.requires.1 (on at) c.index-len.result.now c.index-else-index-x.result.now c.index-then-index-x-2.result.now c.index-len.ensures c.index-else-index-x.ensures c.if-index-x-2.true c.index-then-index-x-2.ensures in
     rw (shows _ _ _ _ _ _ _ p) (apart _ _ _ _ _ _ _ p)
+
+pub index-behind-requires : goal.index-behind-requires
+index-behind-requires c =
+    let at = (goal.at.index-behind-requires c).After-index-list in
+    omega (arith, inside at)
+
+pub index-before-requires : goal.index-before-requires
+index-before-requires c =
+    let at = (goal.at.index-before-requires c).After-index-list in
+    omega (arith, inside at, (open_of at).stands.prevs)
 
 pub index_mut-requires-else-index-x-2 : goal.index_mut-requires-else-index-x-2
 index_mut-requires-else-index-x-2 c =

@@ -1,9 +1,0 @@
-use Rattle.std.proofs.Common.{◌≡◌, ◌+◌, false}
-use Rattle.mm_core.specs.{line_number}
-use Rattle.mm_state_tests.proofs.worlds.all_lines.Given as goal
-
-abbrev pub invariant-loop-n : goal.invariant-loop-n
-invariant-loop-n g l = record {
-  line : line_number l.world + 1 ≡ l.n;
-  ready : l.world.spent ≡ false;
-}
