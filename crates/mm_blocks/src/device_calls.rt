@@ -1,7 +1,7 @@
 use mm_types::Direction;
 
 /// A read or a write that a device was asked for.
-#[derive(Clone, Copy, PartialEq, Eq, Debug)]
+#[derive(Clone, Copy)]
 pub struct DeviceCall {
     pub direction: Direction,
     /// The block's number, from 0.
@@ -10,7 +10,7 @@ pub struct DeviceCall {
 }
 
 /// Of the calls of one direction from now on, the first `passes` pass and the next `fails` fail.
-#[derive(Clone, Copy, PartialEq, Eq, Debug)]
+#[derive(Clone, Copy)]
 pub struct NamedCalls {
     pub direction: Direction,
     pub passes: u32,

@@ -64,12 +64,9 @@ fn is_due(entries: &[NamedCalls; ROOM], count: usize, direction: Direction) -> b
     requires { count ≤ 64 }
     ensures { result ≡ is_named direction (take count entries.now) }
 {
-    for i in 0..count {
-        if is_next(direction, entries[i]) {
-            return true;
-        }
-    }
-    false
+    entries[..count]
+        .iter()
+        .any(|named| is_next(direction, *named))
 }
 
 impl Plan {

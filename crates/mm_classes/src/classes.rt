@@ -1,5 +1,5 @@
 /// What a move is in the words of Windows. Each move but `at` is of one class.
-#[derive(Clone, Copy, PartialEq, Eq, Debug)]
+#[derive(Clone, Copy, PartialEq, Eq)]
 pub enum Class {
     /// `add`: a committed page of zeros comes to be; it has no frame yet.
     DemandZeroAdded,
@@ -82,7 +82,7 @@ pub enum Class {
 
 /// The kinds of events that a reader of a log looks for: faults, and what brings frames and takes
 /// them.
-#[derive(Clone, Copy, PartialEq, Eq, Debug)]
+#[derive(Clone, Copy, PartialEq, Eq)]
 pub enum Group {
     /// Hard faults: the page is read from a device.
     Hard,

@@ -7,7 +7,7 @@ use mm_types::{Frame, Move, NoMemory};
 use std::alloc::Global;
 
 /// What is remembered of a frame.
-#[derive(Clone, Copy, PartialEq, Eq, Debug)]
+#[derive(Clone, Copy, PartialEq, Eq)]
 pub(crate) struct FrameMark {
     /// The line that brought the frame in last, 0 for none.
     line: u64,

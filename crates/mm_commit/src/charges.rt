@@ -5,7 +5,7 @@ use std::marker::Model;
 
 /// A charge that would pass the commit limit (ERROR_COMMITMENT_LIMIT): the charge and the limit
 /// that stand.
-#[derive(Clone, Copy, PartialEq, Eq, Debug)]
+#[derive(Clone, Copy, PartialEq, Eq)]
 pub struct OverLimit {
     /// Pages charged, as before the call.
     pub charge: u32,

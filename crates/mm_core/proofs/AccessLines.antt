@@ -1,6 +1,7 @@
 -- The lines `read`, `write` and `exec`: decided and noted, by what the tables have and by how the store answered.
 use Rattle.std.proofs.Common.{◌≡◌, ℕ, Bool, true, false, Option, Some, None, refl, sym, ◌∙◌, ap, subst, cond, unwrap_or, List, rules, [], is_some}
 use Rattle.std.specs.Prelude.{Result, Ok, Err, IsOk, OnOk, OnErr}
+use Rattle.std.proofs.lemmas.Bool.{both_ways}
 use Rattle.mm_types.proofs.{or_left, or_right}
 use Rattle.mm_types.specs.{Answer, Code, Event, PageFault, Key, Move, Pid, page_of, LineKind}
 use Rattle.mm_world.specs.{Page, ProcessOf, filled, Attempt, ReadOf, WriteOf, Execute, access, access_at, perform, Need, access_fails, read_failed}
@@ -60,15 +61,11 @@ fails : {T : Type 0} (n : Need) (later : Report) (result : Result T PageFault) (
 fails n later result fault.Read is ends = or_left (read_failed n later) (search_failed n later) (ends.read is)
 fails n later result fault.NoFrame is ends = let h = ends.no_frame is in or_right (read_failed n later) (search_failed n later) h.1
 
-never : {A : Type 0} (b : Bool) → b ≡ true → b ≡ false → A
-never true e f = cc
-never false e f = cc
-
 module _ (u : Bool) (begun_world : World) (pid addr : ℕ) (what : Attempt) (m z : StoreOf) (n : Need) (needs : need_at begun_world pid addr what ≡ Some n) {T : Type 0} (result : Result T PageFault) (ends : Ends n z.report result) (served : Served m z) where
   pub accessed-had : (a : Answer) (v : World) (x : T) → result ≡ Ok x → access begun_world pid addr what ≡ done a v → Accessed u begun_world pid addr what m z a v
   accessed-had a v x is outcome =
       let fine : access_fails n z.report ≡ false = subst (λ r. OnOk r (access_fails n z.report ≡ false)) is ends.ok in
-      record { need = n; needs = needs; had = λ e. outcome; lost = λ e. never (access_fails n z.report) e fine; served = served }
+      record { need = n; needs = needs; had = λ e. outcome; lost = λ e. absurd (both_ways (access_fails n z.report) fine e); served = served }
 
   pub accessed-lost : (v : World) (x : PageFault) → result ≡ Err x → v ≡ begun_world → OnErr result (SomeFailed m z) → (u ≡ true → IsOk result) → Accessed u begun_world pid addr what m z (answer.Raised raise.InPageError) v
   accessed-lost v x is same blamed paged =
@@ -76,7 +73,7 @@ module _ (u : Bool) (begun_world : World) (pid addr : ℕ) (what : Attempt) (m z
       record {
         need = n;
         needs = needs;
-        had = λ e. never (access_fails n z.report) failed e;
+        had = λ e. absurd (both_ways (access_fails n z.report) e failed);
         lost = λ e. record { raised = refl; same = same; blamed = subst (λ r. OnErr r (SomeFailed m z)) is blamed; paged = never-fails u result x is paged };
         served = served;
       }

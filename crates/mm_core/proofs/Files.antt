@@ -3,7 +3,7 @@ use Rattle.std.proofs.Common.{◌≡◌, ◌≤◌, ◌<◌, ℕ, zero, suc, ◌
 use Rattle.std.proofs.Math.Path.{fun_ext}
 use Rattle.std.proofs.lemmas.Bool.{leb-true, lt-ltb}
 use Rattle.std.proofs.lemmas.List.{length-append}
-use Rattle.std.proofs.lemmas.List.Sums.{sum_by-cons}
+use Rattle.std.proofs.lemmas.List.Sums.{count_by-le-length, sum_by-cons}
 use Rattle.mm_types.specs.{Answer, Device, Direction, Key, Pid, View, Range, holds_page, lies_within, range_of, page_of, end_of, Text, LineKind, Move}
 use Rattle.mm_types.specs.{Name}
 use Rattle.mm_blocks.specs.{NamedCalls, DeviceOf}
@@ -105,14 +105,9 @@ mapped : {A B : Type 0} (f : A → B) (o : Option A) (y : B) → option_map f o 
 mapped f None y e = cc
 mapped f (Some x) y e = record { thing = x; there = refl; is = cc }
 
-count-most : {A : Type 0} (xs : List (Option A)) → count_by is_some xs ≤ length xs
-count-most [] = omega arith
-count-most (None ∷ xs) = omega (arith, sum_by-cons (λ (o : Option _). cond (is_some o) 1 0) None xs, count-most xs)
-count-most (Some x ∷ xs) = omega (arith, sum_by-cons (λ (o : Option _). cond (is_some o) 1 0) (Some x) xs, count-most xs)
-
 all-some : {A : Type 0} (xs : List (Option A)) (i : ℕ) → count_by is_some xs ≡ length xs → i < length xs → is_some (get_or xs i None) ≡ true
 all-some [] i e h = absurd (omega (arith, h))
-all-some (None ∷ xs) i e h = absurd (omega (arith, e, sum_by-cons (λ (o : Option _). cond (is_some o) 1 0) None xs, count-most xs))
+all-some (None ∷ xs) i e h = absurd (omega (arith, e, sum_by-cons (λ (o : Option _). cond (is_some o) 1 0) None xs, count_by-le-length is_some xs))
 all-some (Some x ∷ xs) zero e h = refl
 all-some (Some x ∷ xs) (suc i) e h = all-some xs i (omega (arith, e, sum_by-cons (λ (o : Option _). cond (is_some o) 1 0) (Some x) xs)) (omega (arith, h))
 

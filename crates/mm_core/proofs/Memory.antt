@@ -1,18 +1,15 @@
 -- Which lines may take memory is the same of a world and of its tables.
-use Rattle.std.proofs.Common.{◌≡◌, ℕ, suc, ◌+◌, false, [], ◌∷◌, length, nat_le, refl, sym, ap, ◌∙◌}
+use Rattle.std.proofs.Common.{◌≡◌, ℕ, false, nat_le, refl, sym, ap, ◌∙◌}
 use Rattle.std.specs.Prelude.{Result, IsOk}
 use Rattle.mm_types.specs.{Event, Key}
 use Rattle.mm_types.specs.declared.events.Event.TheVariants as line
-use Rattle.mm_world.specs.{Page, ProcessOf, Numbered, filled, is_success, OutcomeOf, grow, most_processes, new_file, create, create_file}
-use Rattle.mm_world.specs.{open_section, map_view, Tables, blank, map_outcome, no_bytes, processes_with, tables_of, world_with}
+use Rattle.mm_world.specs.{Page, filled, is_success, OutcomeOf, grow, most_processes, new_file, create, create_file, open_section, map_view, Tables}
+use Rattle.mm_world.specs.{blank, map_outcome, no_bytes, tables_of, world_with}
 use Rattle.mm_world.proofs.{in_create_file, in_grow, in_new_file, in_open, tables_back}
 use Rattle.mm_world.proofs.NaturalSections.{in_create, in_map}
 use Rattle.mm_calls.proofs.{allocates_with, marks_with, grows_with, stack_with}
 use Rattle.mm_core.specs.{takes_memory}
-
-processes-length : (bytes : Key → Page) (n : ℕ) (ps : Numbered (ProcessOf (Unit {0}))) → length (processes_with bytes n ps) ≡ length ps
-processes-length bytes n [] = refl
-processes-length bytes n (p ∷ ps) = ap suc (processes-length bytes (n + 1) ps)
+use Rattle.mm_core.proofs.Numbering.{numbers-length, processes-numbered}
 
 -- what a call answers
 answers : (t : Tables) (bytes : Key → Page) (on : Tables → OutcomeOf (Unit {0})) (o : OutcomeOf Page)
@@ -22,7 +19,7 @@ answers t bytes on o same =
 
 pub takes_with : (t : Tables) (bytes : Key → Page) (e : Event) → takes_memory filled (world_with t bytes) e ≡ takes_memory blank t e
 takes_with t bytes (line.Protect pid addr size prot) = marks_with t bytes pid.0 addr size prot
-takes_with t bytes (line.Process min max) = ap (λ (n : ℕ). nat_le n most_processes) (processes-length bytes 0 t.processes)
+takes_with t bytes (line.Process min max) = ap (λ (n : ℕ). nat_le n most_processes) (numbers-length (processes-numbered bytes) 0 t.processes)
 takes_with t bytes (line.Stack tid pid reserve commit) = ap is_success (stack_with t bytes tid.0 pid.0 reserve commit)
 takes_with t bytes (line.Probe tid addr) = grows_with t bytes tid.0 addr
 takes_with t bytes (line.Alloc pid addr size type prot) = allocates_with t bytes pid.0 addr size type prot

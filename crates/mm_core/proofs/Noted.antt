@@ -1,6 +1,7 @@
 -- What a line noted, and what its function ensures of tables and store, is the promise of a world over them.
 use Rattle.std.proofs.Common.{◌≡◌, ℕ, ◌+◌, List, [], ◌∷◌, Bool, true, false, Option, Some, None, refl, sym, ap, ◌∙◌, subst, cond, is_some, not, inl, inr, ◌≤◌, arith}
 use Rattle.std.specs.Prelude.{◌⊎◌, Result, Ok, Err, OnOk, OnErr}
+use Rattle.std.proofs.lemmas.Bool.{cond_both}
 use Rattle.mm_types.specs.{Answer, Event, LineKind, Move, Key, MachineOf}
 use Rattle.mm_life.specs.{FrameLife, is_live, is_dead, after_at, Replays}
 use Rattle.mm_world.specs.{Page, KeptOf, content_of, is_file_key, kept_by, Tables, world_with, charge, limit}
@@ -33,8 +34,7 @@ at_live : (l : FrameLife) (n : ℕ) (k : LineKind) → is_later k ≡ true → (
 at_live l n k e q = ap (λ f. not (is_dead (f q))) ((at_keeps l n k e).0)
 
 either_later : (b : Bool) (k : LineKind) → is_later k ≡ true → is_later (cond b k kind.Call) ≡ true
-either_later true k e = e
-either_later false k e = refl
+either_later b k e = cond_both b k kind.Call (λ k. is_later k ≡ true) (λ _. e) (λ _. refl)
 
 process_later : (a : Answer) (min max : ℕ) → is_later (made_process a min max) ≡ true
 process_later (answer.NewProcess pid) min max = refl
@@ -49,8 +49,7 @@ kept_later None = refl
 kept_later (Some k) = refl
 
 call_or_later : (b : Bool) (k : LineKind) → is_later k ≡ true → is_later (cond b kind.Call k) ≡ true
-call_or_later true k e = refl
-call_or_later false k e = e
+call_or_later b k e = cond_both b kind.Call k (λ k. is_later k ≡ true) (λ _. refl) (λ _. e)
 
 kind_later : (w : World) (e : Event) (a : Answer) → is_later (kind_of_line w e a) ≡ true
 kind_later w (event.Process min max) a = process_later a min max

@@ -1,12 +1,12 @@
 -- Lists that are made thing by thing, each thing by its number.
 use Rattle.std.proofs.Common.{◌≡◌, ◌≢◌, ◌≤◌, ◌<◌, ℕ, zero, suc, ◌+◌, Some, List, [], ◌∷◌, refl, sym, ◌∙◌, ap, arith, length, set, slice_get, get_or, option_map}
+use Rattle.std.proofs.lemmas.List.{set-get_or}
+use Rattle.std.proofs.lemmas.Option.{get_or_from_slice_get}
 use Rattle.mm_types.specs.{Key}
 use Rattle.mm_world.specs.{Page, row_with, rows_with, process_with, processes_with, pages_with, shared_key, area_with, areas_with}
 
 pub set_itself : {A : Type 0} (xs : List A) (i : ℕ) (x : A) → slice_get xs i ≡ Some x → set xs i x ≡ xs
-set_itself [] i x e = refl
-set_itself (y ∷ xs) zero x e = let same : x ≡ y = cc in ap (λ z. z ∷ xs) same
-set_itself (y ∷ xs) (suc i) x e = ap (λ ys. y ∷ ys) (set_itself xs i x e)
+set_itself xs i x e = ap (set xs i) (sym (get_or_from_slice_get xs i x x e)) ∙ set-get_or xs i x
 
 -- such a list, whose first thing has this number
 pub record Numbers {A B : Type 0} (f : ℕ → A → B) (F : ℕ → List A → List B) : Type 0 where

@@ -1,6 +1,6 @@
 -- The lines `io`, `counts` and `grow`.
 use Rattle.std.proofs.Common.{◌≡◌, ◌<◌, ℕ, Bool, true, false, Option, Some, refl, sym, ◌∙◌, ap, subst, cond, nat_lt, length, ◌≤◌, ◌+◌, inl, inr, [], nat_le, ◌&&◌, arith}
-use Rattle.std.proofs.lemmas.Bool.{lt-ltb, ltb-true}
+use Rattle.std.proofs.lemmas.Bool.{false_from_ne_true, lt-ltb, ltb-true}
 use Rattle.mm_types.specs.{Answer, Event, Key, LineKind, limit_of, Rose}
 use Rattle.mm_world.specs.{Page, done, failed_calls, step, stepped, when, Tables, world_with, OutcomeOf, grow, with_slots, most_slots}
 use Rattle.mm_world.specs.{is_failed_extension}
@@ -72,11 +72,7 @@ module _ {G : Type 0} (p : PagesGhosts G) {n : ℕ} {k : LineKind} {t : Tables} 
 
     module _ (found : m.report.counts.requests < i → ⊥) where
       many : nat_lt s.report.counts.requests i ≡ false
-      many = by_test (nat_lt s.report.counts.requests i) refl
-        where
-          by_test : (x : Bool) → nat_lt s.report.counts.requests i ≡ x → x ≡ false
-          by_test true e = absurd (found (subst (λ (r : Report). r.counts.requests < i) (sym starts.begins.report_is) (ltb-true _ _ e)))
-          by_test false e = refl
+      many = false_from_ne_true (nat_lt s.report.counts.requests i) (λ e. found (subst (λ (r : Report). r.counts.requests < i) (sym starts.begins.report_is) (ltb-true _ _ e)))
 
       pub io-ok : failed_calls z.report ≡ failed_calls m.report → PassesOver p (Completes i true) x y → AnswersLine p (line.Io i) n t g answer.Ok t y
       io-ok none passes =

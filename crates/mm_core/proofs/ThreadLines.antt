@@ -1,6 +1,7 @@
 -- The lines `begin` and `resume`, by what the thread keeps and by how its access went.
 use Rattle.std.proofs.Common.{◌≡◌, ◌⊎◌, inl, ℕ, Bool, true, false, Option, Some, None, refl, sym, ◌∙◌, ap, subst, cond, is_some}
 use Rattle.std.specs.Prelude.{option_map, ◌&&◌, ◌==◌}
+use Rattle.std.proofs.lemmas.Bool.{cond-false, cond_both}
 use Rattle.mm_types.specs.{Answer, Why, AccessSpec, Event, Key, Pid, Tid, LineKind}
 use Rattle.mm_world.specs.{Page, ProcessOf, KeptOf, Attempt, access, address_in, attempt_in, Need, pending, wait_failed, process_of, OutcomeOf, done}
 use Rattle.mm_world.specs.{find_or, step, stepped, unpaged, told, need_at, kept_by, keep, waiting, resume, resume_told, Tables, world_with}
@@ -38,10 +39,6 @@ use Rattle.mm_core.specs.declared.threads.Threaded.TheVariants as threaded
 pub none_either : {A : Type 0} (b : Bool) (o : Option A) → o ≡ None → cond b None o ≡ None
 none_either true o e = refl
 none_either false o e = e
-
-none_kept : {A : Type 0} (b : Bool) (x y : A) → b ≡ false → cond b x y ≡ y
-none_kept true x y e = cc
-none_kept false x y e = refl
 
 waits_none : (w : World) (o : Option Need) (before after : Report) → o ≡ None → waiting w o before after ≡ None
 waits_none w None before after e = refl
@@ -111,10 +108,10 @@ module _ (u : Bool) (n : ℕ) (t : Tables) (old mid : Key → Option Page) (s m 
       left = world_with after (key_bytes new)
 
       accessed : unpaged begun_world beginning ≡ access begun_world pid.0 (address_in what) (attempt_in what)
-      accessed = begin-lives l ∙ none_kept (is_some (kept_by t tid.0)) _ _ free
+      accessed = begin-lives l ∙ cond-false (is_some (kept_by t tid.0)) _ _ free
 
       tells : told begun_world beginning s.report z.report ≡ waiting begun_world (need_at begun_world pid.0 (address_in what) (attempt_in what)) s.report z.report
-      tells = none_kept (is_some (kept_by t tid.0)) _ _ free
+      tells = cond-false (is_some (kept_by t tid.0)) _ _ free
 
       pub begin-refused : (a : Answer) → Served m z → Refuses begun_world pid.0 (address_in what) (attempt_in what) a left → Decided u beginning n t old s a after new z
       begin-refused a served h =
@@ -210,8 +207,7 @@ module _ (u : Bool) (n : ℕ) (t : Tables) (old mid : Key → Option Page) (s m 
 -- ---- decided and noted
 
 idle_either : (b : Bool) → cond b Idle Idle ≡ Idle
-idle_either true = refl
-idle_either false = refl
+idle_either b = cond_both b Idle Idle (λ w. w ≡ Idle) (λ e. refl) (λ e. refl)
 
 -- ---- `begin`
 

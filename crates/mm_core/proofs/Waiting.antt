@@ -15,8 +15,8 @@ use Rattle.mm_core.specs.{Idles}
 use Rattle.mm_pages.proofs.{served_nothing, served_then}
 use Rattle.mm_paging.proofs.{not_pending}
 use Rattle.mm_core.proofs.Fitting.{fits_beside, names_either}
-use Rattle.std.proofs.lemmas.Bool.{lt-ltb, ltb-true, le-ltb, ltb-false}
-use Rattle.mm_types.proofs.{differ, same_found, same_or_not}
+use Rattle.std.proofs.lemmas.Bool.{lt-ltb, ltb-true, le-ltb}
+use Rattle.mm_types.proofs.{differ, same_found, same_or_not, same_tests}
 use Rattle.mm_life.specs.{Idle}
 use Rattle.mm_pages.specs.Behind.{Behind}
 use Rattle.mm_types.specs.declared.answers.Wait.TheVariants as wait
@@ -108,8 +108,6 @@ none_failed s m tid began idle fails =
     let fine : wait_failed (m.report.wait tid) ≡ false = ap wait_failed (ap (λ (r : Report). r.wait tid) began ∙ idle) in
     let bad : true ≡ false = sym fails ∙ fine in cc
 
--- ---- the waits that an `exit` ends
-
 -- ---- one thread more
 
 module _ {A : Type 0} (none : A) (t : Tables) (pid : ℕ) (w y z : ℕ → A) (i : ℕ) where
@@ -129,11 +127,7 @@ module _ {A : Type 0} (none : A) (t : Tables) (pid : ℕ) (w y z : ℕ → A) (i
   at_other tid other false is = ap (λ (f : ℕ → A). f tid) is
 
   same_test : (tid : ℕ) → tid ≢ i → nat_lt tid i ≡ nat_lt tid (i + 1)
-  same_test tid other = by_test (nat_lt tid i) refl
-    where
-      by_test : (x : Bool) → nat_lt tid i ≡ x → x ≡ nat_lt tid (i + 1)
-      by_test true e = let l = ltb-true tid i e in sym (lt-ltb tid (i + 1) (omega arith))
-      by_test false e = let l = ltb-false tid i e in sym (le-ltb tid (i + 1) (omega arith))
+  same_test tid other = same_tests (nat_lt tid i) (nat_lt tid (i + 1)) (λ e. lt-ltb tid (i + 1) (omega (arith, ltb-true tid i e))) (λ e. lt-ltb tid i (omega (arith, ltb-true tid (i + 1) e, other)))
 
   pub left_one_more : ((tid : ℕ) → y tid ≡ left i w tid) → z ≡ cond (of i) (changed ◌==◌ y i none) y → (tid : ℕ) → z tid ≡ left (i + 1) w tid
   left_one_more before is tid = elim (same_or_not tid i) [

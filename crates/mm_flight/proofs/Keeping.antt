@@ -1,30 +1,20 @@
 -- The frames in flight stay distinct, and each thread that waits waits for one of them.
-use Rattle.std.proofs.Common.{◌≡◌, ◌≢◌, ◌⊎◌, ℕ, zero, suc, ◌+◌, ◌-◌, Bool, true, false, not, cond, List, [], ◌∷◌, ◌++◌, length, map, take, drop, Option, Some, None, refl, sym, ap, ◌∙◌, ◌<◌, ◌≤◌, inl, inr, arith}
+use Rattle.std.proofs.Common.{◌≡◌, ◌≢◌, ℕ, zero, suc, ◌+◌, ◌-◌, Bool, true, false, not, cond, List, [], ◌∷◌, ◌++◌, length, map, take, drop, Option, Some, None, refl, sym, ap, ◌∙◌, ◌<◌, ◌≤◌, inl, inr, arith}
 use Rattle.std.specs.Prelude.{◌==◌, ◌||◌, slice_get, slice_set, option_map}
-use Rattle.std.specs.Cmp.{unsigned_Decides}
+use Rattle.std.proofs.lemmas.Bool.{cases_lt, cond_both, eq-eqb, eqb-false, eqb-true, or_from, or_parts}
+use Rattle.std.proofs.lemmas.List.{length-append, length-drop, length-map, length-take}
 use Rattle.std.proofs.lemmas.Option.{slice_get-map}
 use Rattle.std.proofs.lemmas.List.Folds.{list_any-append}
 use Rattle.mm_types.specs.{Frame}
 use Rattle.mm_types.proofs.{set_cases, differ, or_true}
 use Rattle.mm_flight.specs.{Waiting, FlightOf, HoldsRequests, IsKept, AreDistinct, NoneWaitsFrom, is_for, is_in, without, nth_oldest, ended}
-use Rattle.mm_flight.specs.{frame_number}
 use Rattle.mm_flight.specs.declared.flights.Waiting.TheVariants as waiting
 
 -- ---- membership
 
-or_false : (b c : Bool) → (b || c) ≡ false → (b ≡ false) × (c ≡ false)
-or_false true c e = cc
-or_false false c e = (refl, e)
-
-itself : (x f : ℕ) → x ≡ f → (x == f) ≡ true
-itself x f e = (unsigned_Decides x f).1 e
-
-other : (x f : ℕ) → (x == f) ≡ false → x ≢ f
-other x f e same = let t = itself x f same in cc
-
 in_at : (frames : List ℕ) (k f : ℕ) → slice_get frames k ≡ Some f → is_in f frames ≡ true
 in_at [] k f e = cc
-in_at (x ∷ xs) zero f e = let same : x ≡ f = cc in ap (λ b. b || is_in f xs) (itself x f same)
+in_at (x ∷ xs) zero f e = let same : x ≡ f = cc in ap (λ b. b || is_in f xs) (eq-eqb x f same)
 in_at (x ∷ xs) (suc k) f e = ap (λ b. (x == f) || b) (in_at xs k f e) ∙ or_true (x == f)
 
 -- a frame stands at one place alone
@@ -42,8 +32,8 @@ apart_at (x ∷ xs) d (suc i) (suc j) f e h = ap suc (apart_at xs d.1 i j f e h)
 pub distinct_more : (frames : List ℕ) (f : ℕ) → AreDistinct frames → is_in f frames ≡ false → AreDistinct (frames ++ f ∷ [])
 distinct_more [] f d new = (refl, tt)
 distinct_more (x ∷ xs) f d new =
-    let parts = or_false (x == f) (is_in f xs) new in
-    let back : (f == x) ≡ false = differ f x (λ e. other x f parts.0 (sym e)) in
+    let parts = or_parts (x == f) (is_in f xs) new in
+    let back : (f == x) ≡ false = differ f x (λ e. eqb-false x f parts.0 (sym e)) in
     let here : is_in x (xs ++ f ∷ []) ≡ false =
     list_any-append (λ y. y == x) xs (f ∷ []) ∙ ap (λ b. b || is_in x (f ∷ [])) d.0 ∙ ap (λ b. b || false) back in
     (here, distinct_more xs f d.1 parts.1)
@@ -56,7 +46,7 @@ in_more frames f g e = list_any-append (λ y. y == g) frames (f ∷ []) ∙ ap (
 by_first : (b : Bool) (x f g : ℕ) (xs : List ℕ) → (x == f) ≡ b → g ≢ f → is_in g (cond (not b) (x ∷ xs) xs) ≡ ((x == g) || is_in g xs)
 by_first false x f g xs e apart = refl
 by_first true x f g xs e apart =
-    let same = (unsigned_Decides x f).0 e in
+    let same = eqb-true x f e in
     sym (ap (λ b. b || is_in g xs) (differ x g (λ h. apart (sym h ∙ same))))
 
 in_without : (frames : List ℕ) (f g : ℕ) → g ≢ f → is_in g (without f frames) ≡ is_in g frames
@@ -66,27 +56,22 @@ in_without (x ∷ xs) f g apart = by_first (x == f) x f g (without f xs) refl ap
 none_without : (frames : List ℕ) (f g : ℕ) → is_in g frames ≡ false → is_in g (without f frames) ≡ false
 none_without [] f g none = refl
 none_without (x ∷ xs) f g none =
-    let parts = or_false (x == g) (is_in g xs) none in
-    none_first (x == f) x g (without f xs) parts.0 (none_without xs f g parts.1)
-  where
-    none_first : (b : Bool) (y h : ℕ) (ys : List ℕ) → (y == h) ≡ false → is_in h ys ≡ false → is_in h (cond (not b) (y ∷ ys) ys) ≡ false
-    none_first true y h ys apart e = e
-    none_first false y h ys apart e = ap (λ b. b || is_in h ys) apart ∙ e
+    let parts = or_parts (x == g) (is_in g xs) none in
+    let rest = none_without xs f g parts.1 in
+    cond_both (not (x == f)) (x ∷ without f xs) (without f xs) (λ ys. is_in g ys ≡ false) (λ e. or_from (x == g) (is_in g (without f xs)) parts.0 rest) (λ e. rest)
 
 pub distinct_without : (frames : List ℕ) (f : ℕ) → AreDistinct frames → AreDistinct (without f frames)
 distinct_without [] f d = tt
-distinct_without (x ∷ xs) f d = kept_first (x == f) x (without f xs) (none_without xs f x d.0) (distinct_without xs f d.1)
-  where
-    kept_first : (b : Bool) (y : ℕ) (ys : List ℕ) → is_in y ys ≡ false → AreDistinct ys → AreDistinct (cond (not b) (y ∷ ys) ys)
-    kept_first true y ys new e = e
-    kept_first false y ys new e = (new, e)
+distinct_without (x ∷ xs) f d =
+    let rest = distinct_without xs f d.1 in
+    cond_both (not (x == f)) (x ∷ without f xs) (without f xs) AreDistinct (λ e. (none_without xs f x d.0, rest)) (λ e. rest)
 
 -- a wait that is left was one for another frame
 by_wait : (b : Bool) (h g : Frame) (f : ℕ) (ok : Bool) → (h.0 == f) ≡ b → cond b (cond ok waiting.Done waiting.Failed) (waiting.For h) ≡ waiting.For g → (waiting.For h ≡ waiting.For g) × (g.0 ≢ f)
 by_wait true h g f true e left = cc
 by_wait true h g f false e left = cc
 by_wait false h g f ok e left =
-    let same : h ≡ g = cc in (left, λ k. other h.0 f e (ap (λ (q : Frame). q.0) same ∙ k))
+    let same : h ≡ g = cc in (left, λ k. eqb-false h.0 f e (ap (λ (q : Frame). q.0) same ∙ k))
 
 wait_left : (w : Waiting) (g : Frame) (f : ℕ) (ok : Bool) → ended f ok w ≡ waiting.For g → (w ≡ waiting.For g) × (g.0 ≢ f)
 wait_left waiting.Nothing g f ok e = cc
@@ -100,10 +85,6 @@ wait_before (Some w) g f ok e =
     let here : ended f ok w ≡ waiting.For g = cc in let h = wait_left w g f ok here in (ap (λ (v : Waiting). Some v) h.0, h.1)
 
 -- ---- frames and their numbers
-
-pub numbers_more : (xs : List Frame) (f : Frame) → map frame_number (xs ++ f ∷ []) ≡ map frame_number xs ++ f.0 ∷ []
-numbers_more [] f = refl
-numbers_more (x ∷ xs) f = ap (λ ys. x.0 ∷ ys) (numbers_more xs f)
 
 pub nth_at : (i : ℕ) (frames : List ℕ) → i ≢ 0 → nth_oldest i frames ≡ slice_get frames (i - 1)
 nth_at zero frames some = absurd (some refl)
@@ -131,10 +112,7 @@ all_ended f ok zero (w ∷ ws) h = sym (none_ends f ok (w ∷ ws) h)
 all_ended f ok (suc n) (w ∷ ws) h = ap (λ vs. ended f ok w ∷ vs) (all_ended f ok n ws (λ t v le e. h (suc t) v (omega arith) e))
 
 pub covered : (g : Waiting → Waiting) (n : ℕ) (ws : List Waiting) → length (map g (take n ws) ++ drop n ws) ≡ length ws
-covered g zero [] = refl
-covered g (suc n) [] = refl
-covered g zero (w ∷ ws) = refl
-covered g (suc n) (w ∷ ws) = ap suc (covered g n ws)
+covered g n ws = omega (arith, length-append (map g (take n ws)) (drop n ws), length-map (take n ws) g, length-take n ws, length-drop n ws)
 
 still_none : (f : ℕ) (ok : Bool) (o : Option Waiting) (w : Waiting) → ((v : Waiting) → o ≡ Some v → is_for v ≡ false) → option_map (ended f ok) o ≡ Some w → is_for w ≡ false
 still_none f ok None w h e = cc
@@ -144,14 +122,9 @@ still_none f ok (Some v) w h e =
 none_after : (f : ℕ) (ok : Bool) (n : ℕ) (ws : List Waiting) → NoneWaitsFrom n ws → NoneWaitsFrom n (map (ended f ok) ws)
 none_after f ok n ws h t w le e = still_none f ok (slice_get ws t) w (λ v s. h t v le s) (sym (slice_get-map (ended f ok) ws t) ∙ e)
 
-below_or_not : (a b : ℕ) → (a < b) ⊎ (b ≤ a)
-below_or_not a zero = inr (omega arith)
-below_or_not zero (suc b) = inl (omega arith)
-below_or_not (suc a) (suc b) = elim (below_or_not a b) [ inl h ↦ inl (omega (arith, h)) | inr h ↦ inr (omega (arith, h)) ]
-
 -- none waits below n, by one who asked, and none from n on
 pub none_left : (f : ℕ) (ok : Bool) (m n : ℕ) (ws vs : List Waiting) → NoneWaitsFrom n ws → vs ≡ map (ended f ok) ws → ((t : ℕ) (w : Waiting) → m ≤ t → t < n → slice_get vs t ≡ Some w → is_for w ≡ false) → NoneWaitsFrom m vs
-none_left f ok m n ws vs h is below t w le e = elim (below_or_not t n) [
+none_left f ok m n ws vs h is below t w le e = elim (cases_lt t n) [
   | inl low ↦ below t w le low e
   | inr high ↦ none_after f ok n ws h t w high (ap (λ us. slice_get us t) (sym is) ∙ e)
 ]
@@ -164,7 +137,7 @@ none_asked m t ws x inside idle before k w le lt e = elim (set_cases ws t k x w 
 ]
   where
     below : k ≢ t → k < t
-    below other = elim (below_or_not k t) [ inl low ↦ low | inr high ↦ absurd (other (omega (arith, high, lt))) ]
+    below other = elim (cases_lt k t) [ inl low ↦ low | inr high ↦ absurd (other (omega (arith, high, lt))) ]
 
 -- ---- what the type keeps
 

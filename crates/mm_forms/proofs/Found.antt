@@ -1,6 +1,7 @@
 -- From the matches to what the words say.
 use Rattle.std.proofs.Common.{◌≡◌, ◌≢◌, ◌∙◌, ap, ap₂, sym, refl, subst, Bool, cond, false, true, Option, None, Some, List, ◌∷◌, [], length, codes, inl, inr, arith}
-use Rattle.std.specs.Prelude.{Box, ◌⊎◌, ◌&&◌, MatchOption, option_map, unwrap_or}
+use Rattle.std.proofs.lemmas.Bool.{and_parts}
+use Rattle.std.specs.Prelude.{Box, ◌⊎◌, MatchOption, option_map, unwrap_or}
 use Rattle.std.specs.Box.{box_value}
 use Rattle.std.specs.List.{list_any}
 use Rattle.std.specs.Str.{bytes_eq}
@@ -111,12 +112,8 @@ pub accepted : (a : App) (ws : List Text) (c : Command) (m : ArgMatches) → app
     → (fault_of a ws ≡ []) × (subcommand_rows_of m ≡ subcommand_of a ws)
 accepted a ws c m same simple free has = (
   subst (λ (x : App). fault_of x ws ≡ []) same (free (ap is_simple_and_free same ∙ simple)),
-  (subst (λ (x : App). HasMatchesOf x ws m) same has (left_true (is_simple a) (is_free_app (built a)) simple)).1,
+  (subst (λ (x : App). HasMatchesOf x ws m) same has (and_parts (is_simple a) (is_free_app (built a)) simple).0).1,
 )
-  where
-    left_true : (b d : Bool) → (b && d) ≡ true → b ≡ true
-    left_true true d e = refl
-    left_true false d e = cc
 
 -- ---- the same, of a list that is not empty
 

@@ -3,7 +3,7 @@ use Rattle.std.proofs.Common.{◌≡◌, ◌∙◌, ap, ap₂, sym, refl, ℕ, z
 use Rattle.std.specs.Prelude.{◌||◌, ◌&&◌, ◌==◌, nat_lt}
 use Rattle.std.specs.List.{fold, list_any}
 use Rattle.std.proofs.lemmas.List.{append-nil}
-use Rattle.std.proofs.lemmas.Bool.{and_right, le-ltb, lt-ltb, ltb-false, eq-eqb, eqb-false, eqb-true, ne_eqb}
+use Rattle.std.proofs.lemmas.Bool.{and_right, le-ltb, lt-ltb, ltb-false, eq-eqb, eqb-false, eqb-true, ne_eqb, or_parts}
 use Rattle.clap.specs.Lexer.{usize_max}
 use Rattle.clap.specs.Words.{Rule, Shape, Text}
 use Rattle.clap.specs.Walk.{Held, Walk, arg_by_index, finished, idle, is_multiple, nothing_held, positional, pushed, rows_after, settled, takes_several, to_positional, value, walk, walk_from, walked}
@@ -51,10 +51,6 @@ pub record Takes (s : Shape) (least most : ℕ) (words : List Text) : Type 0 whe
 
 pub some_kind : {X : Type 0} (x : X) (xs : List X) → x ∷ xs ≡ [] → ⊥
 some_kind x xs e = cc
-
-pub both_plain : (a b : Bool) → (a || b) ≡ false → (a ≡ false) × (b ≡ false)
-both_plain false b e = (refl, e)
-both_plain true b e = cc
 
 -- ---- no value
 
@@ -144,7 +140,7 @@ module _ (name : Text) (least most : ℕ) (several : takes_several (the_rule lea
   unfolding walk_fault
   goes_on acc [] d = (ap state (sym (append-nil acc)), refl)
   goes_on acc (x ∷ ws) d =
-      let p = both_plain (is_dashed x) (list_any is_dashed ws) d in
+      let p = or_parts (is_dashed x) (list_any is_dashed ws) d in
       let on = goes_on (acc ++ x ∷ []) ws p.1 in
       let step = placed [] positional 1 x (collected acc) p.0 refl (λ c. refl) s.rules ∙ next_placed acc x in
       let fault = first_fault [] positional 1 x (collected acc) p.0 refl (λ c. refl) s ws in (
@@ -154,7 +150,7 @@ module _ (name : Text) (least most : ℕ) (several : takes_several (the_rule lea
 
   module _ (x : Text) (xs : List Text) (d : list_any is_dashed (x ∷ xs) ≡ false) where
     parts : (is_dashed x ≡ false) × (list_any is_dashed xs ≡ false)
-    parts = both_plain (is_dashed x) (list_any is_dashed xs) d
+    parts = or_parts (is_dashed x) (list_any is_dashed xs) d
 
     many_end : walk s.rules [] nothing_held (x ∷ xs) ≡ state (x ∷ xs)
     many_end = ap (λ (w : Walk). fold (walked s.rules []) w xs) (placed [] idle 1 x nothing_held parts.0 refl (λ c. refl) s.rules ∙ first_placed x) ∙ (goes_on (x ∷ []) xs parts.1).0
@@ -234,10 +230,10 @@ valued_reads name (suc least) most [] some low d none = absurd (none_refused nam
 valued_reads name least most (x ∷ xs) some low d none = go (least == 1) (most == 1) refl refl
   where
     one : (ys : List Text) → list_any is_dashed (x ∷ ys) ≡ false → leaf (valued_shape name 1 1) (x ∷ ys) ≡ [] → Takes (valued_shape name 1 1) 1 1 (x ∷ ys)
-    one [] e free = record { least_is = omega arith; most_is = omega arith; values = one_values name x (both_plain (is_dashed x) false e).0 }
+    one [] e free = record { least_is = omega arith; most_is = omega arith; values = one_values name x (or_parts (is_dashed x) false e).0 }
     one (y ∷ ys) e free =
-        let p = both_plain (is_dashed x) (is_dashed y || list_any is_dashed ys) e in
-        absurd (one_refuses name x y ys p.0 (both_plain (is_dashed y) (list_any is_dashed ys) p.1).0 free)
+        let p = or_parts (is_dashed x) (is_dashed y || list_any is_dashed ys) e in
+        absurd (one_refuses name x y ys p.0 (or_parts (is_dashed y) (list_any is_dashed ys) p.1).0 free)
 
     many : (least ≡ 1 → most ≡ 1 → ⊥) → Takes (valued_shape name least most) least most (x ∷ xs)
     many other =
@@ -262,7 +258,7 @@ valued_takes name (suc least) most [] some low high d = absurd (omega (arith, lo
 valued_takes name least most (x ∷ xs) some low high d = go (least == 1) (most == 1) refl refl
   where
     one : (ys : List Text) → length (x ∷ ys) ≤ 1 → list_any is_dashed (x ∷ ys) ≡ false → leaf (valued_shape name 1 1) (x ∷ ys) ≡ []
-    one [] few e = one_takes name x (both_plain (is_dashed x) false e).0
+    one [] few e = one_takes name x (or_parts (is_dashed x) false e).0
     one (y ∷ ys) few e = absurd (omega (arith, few))
 
     many : (least ≡ 1 → most ≡ 1 → ⊥) → leaf (valued_shape name least most) (x ∷ xs) ≡ []
@@ -282,4 +278,4 @@ valued_takes name least most (x ∷ xs) some low high d = go (least == 1) (most 
 -- a subcommand of no values takes no word
 pub bare_reads : (name : Text) (ws : List Text) → list_any is_dashed ws ≡ false → leaf (bare_shape name) ws ≡ [] → Takes (bare_shape name) 0 0 ws
 bare_reads name [] d none = record { least_is = omega arith; most_is = omega arith; values = refl }
-bare_reads name (x ∷ xs) d none = absurd (bare_refuses name x xs (both_plain (is_dashed x) (list_any is_dashed xs) d).0 none)
+bare_reads name (x ∷ xs) d none = absurd (bare_refuses name x xs (or_parts (is_dashed x) (list_any is_dashed xs) d).0 none)

@@ -5,7 +5,8 @@ use Rattle.std.specs.List.{fold, list_all, list_any}
 use Rattle.std.proofs.lemmas.List.{append-nil}
 use Rattle.std.specs.Option.{option_map_or}
 use Rattle.std.specs.Str.{bytes_eq}
-use Rattle.std.proofs.lemmas.Bool.{and_right, eqb-false, eqb-true}
+use Rattle.std.proofs.lemmas.Bool.{and_right, eqb-false, eqb-true, false_from_ne_true, or_parts}
+use Rattle.mm_types.proofs.{or_false}
 use Rattle.std.proofs.lemmas.Slice.Eq.{bytes_eq-Decides}
 use Rattle.clap.specs.Words.{App, Row, Rule, Shape, Text, fault_of, is_simple_and_free, subcommand_of}
 use Rattle.clap.specs.Walk.{Walk, answers_to, finished, idle, is_multiple, nothing_held, rows_after, settled, stop_after, subcommand_met, walk}
@@ -13,10 +14,11 @@ use Rattle.clap.specs.Simple.{built, built_leaf, entered, inherited, is_ready, i
 use Rattle.clap.specs.Kinds.{Kinds, or_else}
 use Rattle.clap.specs.Faults.{built_fault, check_fault, defaults_fault, entered_fault, has_free_rules, settle_fault}
 use Rattle.clap.proofs.OnLiterals.{clap_on_literals}
+use Rattle.clap.proofs.WalkLemmas.{find-map}
 use Rattle.mm_forms.specs.{Form, AreForms, IsNamed, NoneHas, is_dashed, form_rules, form_shape, top_shape, values_of, values_rule, with_form}
 use Rattle.mm_forms.specs.{words_app}
 use Rattle.mm_forms.proofs.Walks.{first_fault, no_stop_fault, stops}
-use Rattle.mm_forms.proofs.Taken.{Takes, bare_reads, bare_shape, bare_takes, both_plain, built_shape, leaf, no_kinds, some_kind, the_rule, valued_reads, valued_takes}
+use Rattle.mm_forms.proofs.Taken.{Takes, bare_reads, bare_shape, bare_takes, built_shape, leaf, no_kinds, some_kind, the_rule, valued_reads, valued_takes}
 
 -- ---- one form
 
@@ -36,6 +38,9 @@ max_is a b low = omega (arith, low)
 form_is : (f : Form) (b : Bool) → f.least ≤ f.most → (f.most == 0) ≡ b → built_form f ≡ form_by f f.most b
 form_is f b low p = ap₂ (form_by f) (max_is f.most f.least low) p
 
+some_of : (n : ℕ) → (n == 0) ≡ false → 1 ≤ n
+some_of n e = let other = eqb-false n 0 e in omega (arith, other)
+
 form_reads : (f : Form) (ws : List Text) → f.least ≤ f.most → list_any is_dashed ws ≡ false → leaf (built_form f) ws ≡ [] → Takes (built_form f) f.least f.most ws
 form_reads f ws low d none = go (f.most == 0) refl
   where
@@ -49,13 +54,7 @@ form_reads f ws low d none = go (f.most == 0) refl
     go true p =
         let h = bare_reads f.name.now ws d (by true p) in
         back true p (record { least_is = omega (arith, low, eqb-true f.most 0 p, h.least_is); most_is = omega (arith, eqb-true f.most 0 p, h.most_is); values = h.values })
-    go false p = back false p (valued_reads f.name.now f.least f.most ws (some p) low d (by false p))
-      where
-        some : (f.most == 0) ≡ false → 1 ≤ f.most
-        some q = go_on f.most (eqb-false f.most 0 q)
-          where
-            go_on : (n : ℕ) → (n ≡ 0 → ⊥) → 1 ≤ n
-            go_on n other = omega (arith, other)
+    go false p = back false p (valued_reads f.name.now f.least f.most ws (some_of f.most p) low d (by false p))
 
 form_takes : (f : Form) (ws : List Text) → f.least ≤ length ws → length ws ≤ f.most → list_any is_dashed ws ≡ false → leaf (built_form f) ws ≡ []
 form_takes f ws least most d = go (f.most == 0) refl
@@ -69,22 +68,9 @@ form_takes f ws least most d = go (f.most == 0) refl
 
     go : (b : Bool) → (f.most == 0) ≡ b → leaf (built_form f) ws ≡ []
     go true p = ap (λ (s : Shape). leaf s ws) (form_is f true low p) ∙ none ws (omega (arith, most, eqb-true f.most 0 p))
-    go false p = ap (λ (s : Shape). leaf s ws) (form_is f false low p) ∙ valued_takes f.name.now f.least f.most ws (some f.most (eqb-false f.most 0 p)) least most d
-      where
-        some : (n : ℕ) → (n ≡ 0 → ⊥) → 1 ≤ n
-        some n other = omega (arith, other)
+    go false p = ap (λ (s : Shape). leaf s ws) (form_is f false low p) ∙ valued_takes f.name.now f.least f.most ws (some_of f.most p) least most d
 
 -- ---- all forms
-
-same_bytes : (w : Text) → bytes_eq w w ≡ true
-same_bytes w = (bytes_eq-Decides w w).1 refl
-
-other_bytes : (v w : Text) → (v ≡ w → ⊥) → bytes_eq v w ≡ false
-other_bytes v w apart = go (bytes_eq v w) refl
-  where
-    go : (b : Bool) → bytes_eq v w ≡ b → bytes_eq v w ≡ false
-    go false p = p
-    go true p = absurd (apart ((bytes_eq-Decides v w).0 p))
 
 -- the form with this name
 abbrev pub form_named : Text → List Form → Option Form
@@ -112,65 +98,43 @@ built_is f fs = ap with_subs (maps (f ∷ fs))
 
 -- ---- finding a form by its name
 
-label_found : (w : Text) (fs : List Form) → find (answers_to w) (map label_of (map built_form fs)) ≡ option_map (λ f. label_of (built_form f)) (form_named w fs)
-label_found w [] = refl
-label_found w (f ∷ fs) = go (bytes_eq f.name.now w) (label_found w fs)
-  where
-    go : (b : Bool) → find (answers_to w) (map label_of (map built_form fs)) ≡ option_map (λ f. label_of (built_form f)) (form_named w fs) → cond (b || false) (Some (label_of (built_form f))) (find (answers_to w) (map label_of (map built_form fs)))
-        ≡ option_map (λ f. label_of (built_form f)) (cond b (Some f) (form_named w fs))
-    go true h = refl
-    go false h = h
-
 shape_found : (w : Text) (fs : List Form) → find (λ s. answers_to w (label_of s)) (map built_form fs) ≡ option_map built_form (form_named w fs)
-shape_found w [] = refl
-shape_found w (f ∷ fs) = go (bytes_eq f.name.now w) (shape_found w fs)
-  where
-    go : (b : Bool) → find (λ s. answers_to w (label_of s)) (map built_form fs) ≡ option_map built_form (form_named w fs) → cond (b || false) (Some (built_form f)) (find (λ s. answers_to w (label_of s)) (map built_form fs)) ≡ option_map built_form (cond b (Some f) (form_named w fs))
-    go true h = refl
-    go false h = h
+shape_found w fs = sym (find-map (λ s. answers_to w (label_of s)) built_form fs) ∙ (λ i. option_map built_form (find (λ f. or_false (bytes_eq f.name.now w) i) fs))
 
-name_of_label : (o : Option Form) → option_map (λ (s : Text × List Text). s.0) (option_map (λ f. label_of (built_form f)) o) ≡ option_map (λ f. f.name.now) o
+name_of_label : (o : Option Form) → option_map (λ (s : Text × List Text). s.0) (option_map label_of (option_map built_form o)) ≡ option_map (λ f. f.name.now) o
 name_of_label None = refl
 name_of_label (Some f) = refl
 
 met_is : (w : Text) (fs : List Form) → subcommand_met (names_of (whole fs)) idle w ≡ option_map (λ f. f.name.now) (form_named w fs)
-met_is w fs = ap (option_map (λ (s : Text × List Text). s.0)) (label_found w fs) ∙ name_of_label (form_named w fs)
+met_is w fs =
+    ap (option_map (λ (s : Text × List Text). s.0)) (sym (find-map (answers_to w) label_of (map built_form fs)) ∙ ap (option_map label_of) (shape_found w fs))
+    ∙ name_of_label (form_named w fs)
 
-named_is : (w : Text) (fs : List Form) (g : Form) → form_named w fs ≡ Some g → g.name.now ≡ w
-named_is w [] g e = cc
-named_is w (f ∷ fs) g e = go (bytes_eq f.name.now w) (named_is w fs g) refl e
+-- the form that is found has the name, and what is told of each form that may come first
+found_has : (R : List Form → Type 0) (P : Form → Type 0) → ((f : Form) (fs : List Form) → R (f ∷ fs) → P f × R fs) → (w : Text) (fs : List Form) (g : Form) → R fs → form_named w fs ≡ Some g → P g × (g.name.now ≡ w)
+found_has R P part w [] g r e = cc
+found_has R P part w (f ∷ fs) g r e = go (bytes_eq f.name.now w) (found_has R P part w fs g (part f fs r).1) refl e
   where
-    go : (b : Bool) → (form_named w fs ≡ Some g → g.name.now ≡ w) → bytes_eq f.name.now w ≡ b → cond b (Some f) (form_named w fs) ≡ Some g → g.name.now ≡ w
+    go : (b : Bool) → (form_named w fs ≡ Some g → P g × (g.name.now ≡ w)) → bytes_eq f.name.now w ≡ b → cond b (Some f) (form_named w fs) ≡ Some g → P g × (g.name.now ≡ w)
     go true more p q =
         let same : f ≡ g = cc in
-        subst (λ (h : Form). h.name.now ≡ w) same ((bytes_eq-Decides f.name.now w).0 p)
+        subst (λ (h : Form). P h × (h.name.now ≡ w)) same ((part f fs r).0, (bytes_eq-Decides f.name.now w).0 p)
     go false more p q = more q
 
+named_is : (w : Text) (fs : List Form) (g : Form) → form_named w fs ≡ Some g → g.name.now ≡ w
+named_is w fs g e = (found_has (λ _. Unit {0}) (λ _. Unit {0}) (λ f fs r. (tt, tt)) w fs g tt e).1
+
 pub has_range : (w : Text) (fs : List Form) (g : Form) → AreForms fs → form_named w fs ≡ Some g → g.least ≤ g.most
-has_range w [] g are e = cc
-has_range w (f ∷ fs) g are e = go (bytes_eq f.name.now w) (has_range w fs g are.2) e
-  where
-    go : (b : Bool) → (form_named w fs ≡ Some g → g.least ≤ g.most) → cond b (Some f) (form_named w fs) ≡ Some g → g.least ≤ g.most
-    go true more q =
-        let same : f ≡ g = cc in
-        subst (λ (h : Form). h.least ≤ h.most) same are.0
-    go false more q = more q
+has_range w fs g are e = (found_has AreForms (λ f. f.least ≤ f.most) (λ f fs r. (r.0, r.2)) w fs g are e).0
 
 pub apart_from : (name w : Text) (fs : List Form) (g : Form) → NoneHas name fs → form_named w fs ≡ Some g → name ≢ g.name.now
-apart_from name w [] g none e = cc
-apart_from name w (f ∷ fs) g none e = go (bytes_eq f.name.now w) (apart_from name w fs g none.1) e
-  where
-    go : (b : Bool) → (form_named w fs ≡ Some g → name ≢ g.name.now) → cond b (Some f) (form_named w fs) ≡ Some g → name ≢ g.name.now
-    go true more q =
-        let same : f ≡ g = cc in
-        subst (λ (h : Form). name ≢ h.name.now) same none.0
-    go false more q = more q
+apart_from name w fs g none e = (found_has (NoneHas name) (λ f. name ≢ f.name.now) (λ f fs r. r) w fs g none e).0
 
 pub first_found : (f : Form) (fs : List Form) → form_named f.name.now (f ∷ fs) ≡ Some f
-first_found f fs = ap (λ (b : Bool). cond b (Some f) (form_named f.name.now fs)) (same_bytes f.name.now)
+first_found f fs = ap (λ (b : Bool). cond b (Some f) (form_named f.name.now fs)) ((bytes_eq-Decides f.name.now f.name.now).1 refl)
 
 pub later_found : (f : Form) (fs : List Form) (g : Form) → f.name.now ≢ g.name.now → form_named g.name.now fs ≡ Some g → form_named g.name.now (f ∷ fs) ≡ Some g
-later_found f fs g apart e = ap (λ (b : Bool). cond b (Some f) (form_named g.name.now fs)) (other_bytes f.name.now g.name.now apart) ∙ e
+later_found f fs g apart e = ap (λ (b : Bool). cond b (Some f) (form_named g.name.now fs)) (false_from_ne_true (bytes_eq f.name.now g.name.now) (λ p. apart ((bytes_eq-Decides f.name.now g.name.now).0 p))) ∙ e
 
 -- ---- the whole parse
 
@@ -243,7 +207,7 @@ module _ (forms : List Form) where
   all_read are (w ∷ ws) d none = go (form_named w forms) refl
     where
       plain : (is_dashed w ≡ false) × (list_any is_dashed ws ≡ false)
-      plain = both_plain (is_dashed w) (list_any is_dashed ws) d
+      plain = or_parts (is_dashed w) (list_any is_dashed ws) d
 
       at_form : (f : Form) → form_named f.name.now forms ≡ Some f → app_fault (f.name.now ∷ ws) ≡ [] → Read forms (f.name.now ∷ ws) (app_entered (f.name.now ∷ ws))
       at_form f found free =
@@ -276,15 +240,12 @@ reads f fs are ws d none =
 
 pub takes : (f : Form) (fs : List Form) (g : Form) (ws values : List Text) → form_named g.name.now (f ∷ fs) ≡ Some g → IsNamed g ws values → fault_of (words_app (f ∷ fs)) ws ≡ []
 takes f fs g ws values found h =
-    let plain = both_plain (is_dashed g.name.now) (list_any is_dashed values) (sym (ap (list_any is_dashed) h.words_are) ∙ h.plain) in
+    let plain = or_parts (is_dashed g.name.now) (list_any is_dashed values) (sym (ap (list_any is_dashed) h.words_are) ∙ h.plain) in
     ap (fault_of (words_app (f ∷ fs))) h.words_are
     ∙ (ap (λ (a : App). built_fault a nothing_held (g.name.now ∷ values)) (built_is f fs)
     ∙ (fault_at (f ∷ fs) g values found ∙ ap (λ (ks : Kinds). or_else ks []) (form_takes g values h.least h.most plain.1)))
 
 -- ---- the command is built form by form
-
-abbrev pub start : App
-start = record { top = top_shape; subs = [] }
 
 abbrev grown : List Shape → App
 grown ss = record { top = record top_shape { is_leaf = false }; subs = ss }
@@ -293,7 +254,7 @@ forms_added : (ss : List Shape) (fs : List Form) → fold with_form (grown ss) f
 forms_added ss [] = ap grown (sym (append-nil ss))
 forms_added ss (f ∷ fs) = forms_added (ss ++ form_shape f ∷ []) fs ∙ ap grown (append_assoc ss (form_shape f ∷ []) (map form_shape fs))
 
-pub all_added : (fs : List Form) → fold with_form start fs ≡ words_app fs
+pub all_added : (fs : List Form) → fold with_form (words_app []) fs ≡ words_app fs
 all_added [] = refl
 all_added (f ∷ fs) = forms_added (form_shape f ∷ []) fs
 

@@ -1,18 +1,20 @@
 ghost use Rattle.std.specs.Prelude.{◌≡◌, ◌≢◌, [], false, None, IfOk, MatchOption, map};
 ghost use Rattle.std.specs.Prelude.{string_bytes};
+ghost use Rattle.std.specs.Bool.{OnFalse};
 ghost use Rattle.std.specs.List.{list_any};
-ghost use Rattle.clap.specs.Words.{app_of, fault_of, subcommand_of, subcommand_rows_of};
+ghost use Rattle.clap.specs.Words.{app_of, fault_of, kind_of, subcommand_of, subcommand_rows_of};
+ghost use Rattle.clap.specs.declared.error.ErrorKind.TheVariants.{OutOfMemory};
 ghost use Rattle.clap.specs.declared.builder.Command.TheViews.{out-Command};
 ghost use Rattle.mm_forms.specs.Forms.{AreForms, Says, SaysNone, is_dashed};
-ghost use Rattle.mm_forms.specs.Shapes.{form_app, GivesWords, words_app};
+ghost use Rattle.mm_forms.specs.Shapes.{form_app, GivesWords, with_form, words_app};
 
-use clap::error::ErrorKind;
+use clap::error::{Error, ErrorKind};
 use clap::{Arg, ArgAction, ArgMatches, Command};
 use mm_types::NoMemory;
 use std::alloc::{AllocError, Global};
 
 /// A form of a program's words: its name, and from `least` to `most` values after it.
-#[derive(Clone, Copy, Debug)]
+#[derive(Clone, Copy)]
 pub struct Form<'a> {
     pub name: &'a str,
     pub least: usize,
@@ -20,7 +22,7 @@ pub struct Form<'a> {
 }
 
 /// What the words say: which form they are, by its name, and its values.
-#[derive(Debug, Drop)]
+#[derive(Drop)]
 pub struct Said<'a> {
     pub name: &'a str,
     pub values: Vec<&'a str>,
@@ -64,20 +66,45 @@ fn form_command<'a>(alloc: Global, form: Form<'a>) -> Result<Command<'a>, AllocE
     command.arg(values)
 }
 
+/// The command that reads the words, as long as it has no form.
+fn bare_command<'a>(alloc: Global) -> Command<'a>
+    ensures { app_of result ≡ words_app [] }
+{
+    Command::new(alloc, "words")
+        .no_binary_name(true)
+        .disable_help_flag(true)
+        .disable_help_subcommand(true)
+        .subcommand_required(true)
+}
+
+/// The command with one form more.
+fn with_form<'a>(
+    alloc: Global,
+    command: Command<'a>,
+    form: Form<'a>,
+) -> Result<Command<'a>, AllocError>
+    ensures { IfOk result (λ c. app_of c ≡ with_form (app_of command.entry) form.entry) }
+{
+    let named = form_command(alloc, form)?;
+    command.subcommand(named)
+}
+
 /// The command that reads the words.
 fn command<'a>(alloc: Global, forms: &[Form<'a>]) -> Result<Command<'a>, AllocError>
     ensures { IfOk result (λ c. app_of c ≡ words_app forms.now) }
 {
-    let mut command = Command::new(alloc, "words")
-        .no_binary_name(true)
-        .disable_help_flag(true)
-        .disable_help_subcommand(true)
-        .subcommand_required(true);
+    let mut command = bare_command(alloc);
     for form in forms {
-        let named = form_command(alloc, *form)?;
-        command = command.subcommand(named)?;
+        command = with_form(alloc, command, *form)?;
     }
     Ok(command)
+}
+
+/// Whether clap gave up for memory that was refused.
+fn is_for_memory(error: Error) -> bool
+    ensures { OnFalse result (kind_of error ≡ OutOfMemory → ⊥) }
+{
+    matches!(error.kind(), ErrorKind::OutOfMemory)
 }
 
 /// What clap makes of the words, or `None` where it does not take them.
@@ -96,10 +123,13 @@ fn parsed<'a>(
     let command = command(alloc, forms)?;
     match command.try_get_matches_from(words) {
         Ok(matches) => Ok(Some(matches)),
-        Err(error) => match error.kind() {
-            ErrorKind::OutOfMemory => Err(NoMemory),
-            _ => Ok(None),
-        },
+        Err(error) => {
+            if is_for_memory(error) {
+                Err(NoMemory)
+            } else {
+                Ok(None)
+            }
+        }
     }
 }
 

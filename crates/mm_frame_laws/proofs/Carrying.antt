@@ -152,9 +152,8 @@ module _ (l : FrameLife) (facts : Facts l) (f : Frame) (ram : FrameBytes) (slots
   clean_after : (o a : Bool) → is_some (if o then (if a then record r { request = request.None; backing = without_slot r.backing } else record r { request = request.None; changed = false }) else blank).owner ≡ true
       → (if o then (if a then record r { request = request.None; backing = without_slot r.backing } else record r { request = request.None; changed = false }) else blank).changed ≡ false
       → (if o then (if a then record r { request = request.None; backing = without_slot r.backing } else record r { request = request.None; changed = false }) else blank).backing ≡ b
-  clean_after false a o c = cc
   clean_after true true o c = let was = ((facts.standing f.0).fit.writing writing).0 in let bad : true ≡ false = sym was ∙ c in cc
-  clean_after true false o c = refl
+  clean_after _ _ o c = cc
 
   pub located_wrote : BytesLocated l ram slots blocks → frame_page ram f.0 ≡ Some page → BytesLocated (after_move l (move.Wrote f)) ram (slots_written b page slots) (blocks_written b page blocks)
   located_wrote kept content = record {
@@ -247,21 +246,6 @@ module _ (l : FrameLife) (reached : ∥ ReachedByMoves l ∥₁) (ram : FrameByt
   stays ys q (held.Slot s) e = let low = facts.home_low q s.0 (ap slot_at e) in let size = kept.room in there_stays slots ys s.0 (omega (arith, low, size))
   stays ys q _ e = refl
 
-  grow_carries : (n c : ℕ) → Carries (after_move l (move.At n (kind.Grow c))) ram (slots ++ replicate c zero_page) blocks (contents_of l ram slots blocks)
-  grow_carries n c =
-      let ys = replicate c zero_page in
-      record {
-        located = record {
-          clean = λ g o d r. kept.clean g o d r ∙ sym (home_stays ys (record_at l.frames g).backing (backed_low g));
-          zeroed = kept.zeroed;
-          live = λ q. ap is_some (stays ys q (l.stands q) refl) ∙ kept.live q;
-          frame_room = kept.frame_room;
-          room = omega (arith, length-replicate c zero_page, length-append slots ys, kept.room);
-          file_room = kept.file_room;
-        };
-        bytes = λ i. λ q. stays ys q (l.stands q) refl i;
-      }
-
   pub carries_at : (n : ℕ) (k : LineKind) → 1 ≤ l.line → IsLegal (move.At n k) l → Carries (after_move l (move.At n k)) ram (slots ++ replicate (slots_grown k) zero_page) blocks (contents_of l ram slots blocks)
   carries_at n k begun legal = by k (kind_legal n k legal)
     where
@@ -269,7 +253,19 @@ module _ (l : FrameLife) (reached : ∥ ReachedByMoves l ∥₁) (ram : FrameByt
       none k e h = subst (λ (x : BlockBytes). Carries (after_move l (move.At n k)) ram x blocks (contents_of l ram slots blocks)) (sym (ap (λ (c : ℕ). slots ++ replicate c zero_page) e ∙ append_nil slots)) (plain_by n k begun e h)
 
       by : (k : LineKind) → is_legal_kind l k ≡ true → Carries (after_move l (move.At n k)) ram (slots ++ replicate (slots_grown k) zero_page) blocks (contents_of l ram slots blocks)
-      by (kind.Grow c) h = grow_carries n c
+      by (kind.Grow c) h =
+          let ys = replicate c zero_page in
+          record {
+            located = record {
+              clean = λ g o d r. kept.clean g o d r ∙ sym (home_stays ys (record_at l.frames g).backing (backed_low g));
+              zeroed = kept.zeroed;
+              live = λ q. ap is_some (stays ys q (l.stands q) refl) ∙ kept.live q;
+              frame_room = kept.frame_room;
+              room = omega (arith, length-replicate c zero_page, length-append slots ys, kept.room);
+              file_room = kept.file_room;
+            };
+            bytes = λ i. λ q. stays ys q (l.stands q) refl i;
+          }
       by kd h = none kd refl h
 
   -- ---- a block that no key ever had

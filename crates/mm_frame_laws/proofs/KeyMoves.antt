@@ -77,7 +77,6 @@ located_home m _ = refl
 
 stored_home : (l : FrameLife) (h : Held) → is_stored h ≡ true → home_at (backing_of h) ≡ located l h
 stored_home l (held.Slot s) e = refl
-stored_home l (held.Block b) e = refl
 stored_home l _ e = cc
 
 module _ (l : FrameLife) (reached : ∥ ReachedByMoves l ∥₁) (ram : FrameBytes) (slots blocks : BlockBytes) (kept : BytesLocated l ram slots blocks) where
@@ -253,8 +252,7 @@ page_else ram f page g n = get_or-set_other ram f g (Some page) None n
 
 pub calm_is : (q : Request) → is_calm q ≡ true → is_read q ≡ false
 calm_is request.Read e = cc
-calm_is request.Write e = cc
-calm_is _ e = refl
+calm_is _ e = cc
 
 module _ (l : FrameLife) (reached : ∥ ReachedByMoves l ∥₁) (ram : FrameBytes) (slots blocks : BlockBytes) (kept : BytesLocated l ram slots blocks) where
   known : Facts l

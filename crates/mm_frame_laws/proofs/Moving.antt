@@ -66,8 +66,7 @@ module _ (l m : FrameLife) (ram ram' : FrameBytes) (slots blocks : BlockBytes) (
   elsewhere (held.Frame g) other =
       let n = other g refl in
       ap (λ r. bytes_at ram' slots blocks (held_in g r)) (others g.0 n) ∙ in_frame ram ram' slots blocks (is_read (record_at l.frames g.0).request) (record_at l.frames g.0).backing g (pages g.0 n)
-  elsewhere (held.Slot s) other = refl
-  elsewhere _ other = refl
+  elsewhere _ other = cc
 
   -- no key's place changes, and what stands in the frame has the bytes that it had
   pub still : (h : Held) → ((g : Frame) → h ≡ held.Frame g → g.0 ≡ f → bytes_at ram' slots blocks (held_in g (record_at m.frames f)) ≡ bytes_at ram slots blocks (held_in g (record_at l.frames f)))
@@ -133,8 +132,7 @@ zeroed_settled r d f = by (is_idle r) r.changed
   where
     by : (i c : Bool) → (if i then (if c then record d { modified = d.modified ++ f ∷ [] } else record d { standby = d.standby ++ f ∷ [] }) else d).zeroed ≡ d.zeroed
     by true true = refl
-    by true false = refl
-    by false c = refl
+    by _ _ = cc
 
 -- a request ends: the frame settles, or is free
 pub records_ended : (b : Bool) (r : Record) (d : FrameTable) (f : ℕ) → (if b then settled (with_record d f r) f else to_free d f).records ≡ slice_set d.records f (if b then r else blank)
@@ -248,7 +246,6 @@ module _ (l : FrameLife) (reached : ∥ ReachedByMoves l ∥₁) (ram : FrameByt
 
   asked_calm : (q : Request) → has_request q ≡ true → is_read q ≡ false → is_write q ≡ true
   asked_calm request.Write h c = refl
-  asked_calm request.WriteAgain h c = refl
   asked_calm _ h c = cc
 
   pub carries_soil : (f : Frame) → IsLegal (move.Soil f) l → Carries (after_move l (move.Soil f)) ram slots blocks (contents_of l ram slots blocks)

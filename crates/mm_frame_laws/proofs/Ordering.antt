@@ -361,9 +361,8 @@ module _ (l : FrameLife) (ages : Ages) (pinned : Option Frame) where
   turn_test false false h = omega arith
 
   turn_over : (a b : Bool) → (a && not b) ≡ true → cond a 0 1 < cond b 0 1
-  turn_over true true h = cc
   turn_over true false h = omega arith
-  turn_over false b h = cc
+  turn_over _ _ h = cc
 
   same_turn : (q w : Place) → q.pid.0 ≡ w.pid.0 → process_first l q.pid.0 w.pid.0 ≡ false
   same_turn q w e = let t : turn_of l q.pid.0 ≡ turn_of l w.pid.0 = ap (turn_of l) e in process_from l q.pid.0 w.pid.0 (record { turn = omega (arith, t); pid = λ s. omega (arith, e) })
@@ -453,14 +452,11 @@ pub set_oldest : (l : FrameLife) (s : Sound l) (ages : Ages) (pid : ℕ) → 1 �
 set_oldest l s ages pid some = elim (search_places (is_of pid) s.shown.places) [
   | inl h ↦
       let mine : h.0.pid.0 ≡ pid = eqb-true h.0.pid.0 pid h.1.1 in
-      let old = some_oldest l s ages None h.0 (goes (l.valid h.0) (shown h.0 h.1.0)) in
+      let old = some_oldest l s ages None h.0 (goes (l.valid h.0) ((one_only_if (is_some (l.valid h.0)) (omega (arith, s.shown.once h.0, h.1.0))))) in
       (old.0, (old.1.0 ∙ mine, old.1.1))
   | inr h ↦ (let sizes = s.shown.resident pid in absurd (omega (arith, some, sizes, h)))
 ]
   where
-    shown : (q : Place) → 1 ≤ tally (same_place q) s.shown.places → is_some (l.valid q) ≡ true
-    shown q h = one_only_if (is_some (l.valid q)) (omega (arith, s.shown.once q, h))
-
     goes : (o : Option Frame) → is_some o ≡ true → is_unpinned None o ≡ true
     goes None e = cc
     goes (Some f) e = refl

@@ -5,8 +5,9 @@ use Rattle.std.specs.List.{list_any}
 use Rattle.std.specs.Cmp.{unsigned_Decides}
 use Rattle.std.proofs.lemmas.Bool.{or_left, or_right, or_cases, eqb-true}
 use Rattle.std.proofs.lemmas.List.{append-nil}
-use Rattle.std.proofs.lemmas.List.Folds.{list_any-append}
-use Rattle.mm_types.proofs.{same_or_not, untried_not, not_true, or_false}
+pub use Rattle.std.proofs.lemmas.List.Folds.{list_any-append as any_append}
+use Rattle.mm_types.proofs.{same_or_not, untried_not, not_true}
+pub use Rattle.mm_types.proofs.Booleans.{or_false as or_none}
 use Rattle.mm_types.specs.{IsMachine, Frame, Key, Place, Stored, Move, MachineOf}
 use Rattle.mm_life.specs.{record_at, is_on, without, FrameLife, IsLegal, is_short, owner_is, can_be_written, may_go, is_access, after_move, Replays}
 use Rattle.mm_life.specs.{Ages, IsVictim}
@@ -23,9 +24,6 @@ use Rattle.mm_types.specs.declared.moves.Move.TheVariants as move
 
 -- ---- the list in the walk
 
-pub walk_over : (passed left lost : List ℕ) (f : ℕ) → list_in_search (passed ++ f ∷ []) left lost ≡ list_in_search passed (f ∷ left) lost
-walk_over passed left lost f = append_assoc passed (f ∷ []) (left ++ lost)
-
 pub walk_lost : (passed left lost : List ℕ) (f : ℕ) → times f (list_in_search passed (f ∷ left) lost) ≡ 1 → without f (list_in_search passed (f ∷ left) lost) ++ f ∷ [] ≡ list_in_search passed left (lost ++ f ∷ [])
 walk_lost passed left lost f once =
     let a = tally-append (λ x. x == f) passed (f ∷ (left ++ lost)) in
@@ -38,21 +36,11 @@ walk_lost passed left lost f once =
 
 -- ---- lists and moves
 
-pub any_append : {A : Type 0} (p : A → Bool) (xs ys : List A) → list_any p (xs ++ ys) ≡ list_any p xs || list_any p ys
-any_append p xs ys = list_any-append p xs ys
-
 pub on_append : (g : ℕ) (xs ys : List ℕ) → is_on g (xs ++ ys) ≡ is_on g xs || is_on g ys
 on_append g xs ys = any_append (λ x. x == g) xs ys
 
-pub or_none : (a : Bool) → (a || false) ≡ a
-or_none = or_false
-
--- a list with one element
-on_one : (g f : ℕ) → is_on g (f ∷ []) ≡ true → g ≡ f
-on_one g f e = sym (eqb-true f g (sym (or_none (f == g)) ∙ e))
-
 pub on_push : (g f : ℕ) (xs : List ℕ) → is_on g (xs ++ f ∷ []) ≡ true → (is_on g xs ≡ true) ⊎ (g ≡ f)
-on_push g f xs e = elim (or_cases (is_on g xs) (is_on g (f ∷ [])) (sym (on_append g xs (f ∷ [])) ∙ e)) [ inl h ↦ inl h | inr h ↦ inr (on_one g f h) ]
+on_push g f xs e = elim (or_cases (is_on g xs) (is_on g (f ∷ [])) (sym (on_append g xs (f ∷ [])) ∙ e)) [ inl h ↦ inl h | inr h ↦ inr ((sym (eqb-true f g (sym (or_none (f == g)) ∙ h)))) ]
 
 pub on_last : (f : ℕ) (xs : List ℕ) → is_on f (xs ++ f ∷ []) ≡ true
 on_last f xs = on_append f xs (f ∷ []) ∙ or_right (is_on f xs) ((f == f) || false) (or_left (f == f) false ((unsigned_Decides f f).1 refl))
@@ -123,7 +111,7 @@ module _ (start l : FrameLife) (passed left lost : List ℕ) (moves : List Move)
   -- it cannot be written
   pub walk_passes : can_be_written l f.0 ≡ false → Walking start l (passed ++ f.0 ∷ []) left lost moves
   walk_passes bars = record {
-    now = w.now ∙ (λ i. with_modified start (sym (walk_over passed left lost f.0) i));
+    now = w.now ∙ (λ i. with_modified start (sym ((append_assoc passed (f.0 ∷ []) (left ++ lost))) i));
     over = λ g e. elim (on_push g f.0 passed e) [
       | inl h ↦ w.over g h
       | inr h ↦ ap (can_be_written start) h ∙ (sym (writes_same start l (list_in_search passed (f.0 ∷ left) lost) w.now f.0) ∙ bars)

@@ -49,7 +49,7 @@ impl Model for Frames {
 }
 
 /// How many frames stand where.
-#[derive(Clone, Copy, PartialEq, Eq, Debug)]
+#[derive(Clone, Copy)]
 pub struct FrameCounts {
     pub zeroed: u32,
     pub free: u32,

@@ -1,5 +1,5 @@
 /// Where a page frame stands, beside what its record says.
-#[derive(Clone, Copy, PartialEq, Eq, Debug)]
+#[derive(Clone, Copy, PartialEq, Eq)]
 pub enum Standing {
     /// On the zeroed list.
     Zeroed,

@@ -60,7 +60,7 @@ pub struct Stolen {
 }
 
 /// What a request left when it ended.
-#[derive(Clone, Copy, PartialEq, Eq, Debug)]
+#[derive(Clone, Copy, PartialEq, Eq)]
 pub struct Ended {
     /// The page of the frame, if it still had one.
     pub owner: Option<Key>,

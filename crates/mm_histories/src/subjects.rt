@@ -6,7 +6,7 @@ use mm_sentences::Facts;
 use mm_types::{Frame, Key};
 
 /// What a history is of.
-#[derive(Clone, Copy, PartialEq, Eq, Debug)]
+#[derive(Clone, Copy, PartialEq, Eq)]
 pub enum Subject {
     /// The page frame of this number.
     Frame(u32),

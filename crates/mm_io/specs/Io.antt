@@ -1,6 +1,6 @@
 -- What one read, one write and one flush do.
 -- Profile, "A run".
-use Rattle.std.specs.Prelude.{◌≡◌, ℕ, ◌-◌, ◌<◌, ◌≤◌, List, ◌++◌, length, take, Option, Result, Ok, Err, MatchResult, OnOk, OnErr, Bool, false}
+use Rattle.std.specs.Prelude.{◌≡◌, ℕ, ◌+◌, ◌-◌, ◌<◌, ◌≤◌, List, ◌++◌, length, take, Option, Some, None, Result, Ok, Err, MatchResult, OnOk, OnErr, Bool, false}
 use Rattle.mm_types.specs.declared.faults.Failed.{Failed}
 use Rattle.mm_types.specs.{Took, IsEnd, Appended, Rose}
 
@@ -36,6 +36,13 @@ pub record TakesFront (before after : Option (List ℕ)) (buf : List ℕ) (n : �
 
 abbrev pub Takes : Option (List ℕ) → Option (List ℕ) → List ℕ → Result ℕ Failed → Type 0
 Takes before after buf r = MatchResult r (λ n. TakesFront before after buf n) (λ _. after ≡ before)
+
+-- Not all of the text was taken, where the bytes are told.
+abbrev pub IsCut : Option (List ℕ) → Option (List ℕ) → List ℕ → Type 0
+IsCut None None text = Unit {0}
+IsCut None (Some b) text = ⊥
+IsCut (Some a) None text = ⊥
+IsCut (Some a) (Some b) text = length b < length a + length text
 
 -- The one are the first bytes of the other, where told.
 abbrev pub IsFrontOf : Option (List ℕ) → Option (List ℕ) → Type 0

@@ -3,7 +3,7 @@ pub mod Io
 pub mod Lines
 pub mod Looking
 pub mod Filling
-pub use Io.{CountsFaults, GivesOn, IsFrontOf, ReadsFront, Wrote}
+pub use Io.{CountsFaults, GivesOn, IsCut, IsFrontOf, ReadsFront, Wrote}
 pub use Lines.{FitsLine, NoFeed, text_of_lines, with_line_feed}
 pub use Looking.{FeedAt, HasLine, IsFeedAt, IsLong}
 pub use Filling.{Filled, Finds, HasRead}

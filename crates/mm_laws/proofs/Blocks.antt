@@ -1,15 +1,15 @@
 -- Keys keep their blocks, and no two have one.
-use Rattle.std.proofs.Common.{◌≡◌, ◌≢◌, ◌⊎◌, ℕ, ◌<◌, Bool, true, false, cond, not, List, [], ◌∷◌, ◌++◌, length, Option, Some, None, refl, sym, ap, ◌∙◌, subst, inl, inr, arith, get_or-set_same, get_or-set_other, length-set, ◌+◌, ◌≤◌}
+use Rattle.std.proofs.Common.{◌≡◌, ◌≢◌, ◌⊎◌, ℕ, ◌<◌, Bool, true, false, cond, not, List, [], ◌∷◌, length, Option, Some, None, refl, sym, ap, ◌∙◌, subst, inl, inr, arith, get_or-set_same, get_or-set_other, length-set, ◌+◌, ◌≤◌}
 use Rattle.std.specs.Prelude.{is_some, slice_set, ◌==◌, ◌&&◌, nat_le}
 use Rattle.std.proofs.lemmas.Bool.{and_parts, eqb-true, cases_lt, ltb-true, not-true}
 use Rattle.std.proofs.lemmas.List.{get_or_past}
 use Rattle.mm_types.proofs.Cells.{same_or_not}
-use Rattle.mm_types.specs.{Frame, Key, Slot, Block, Place, Record, Backing, Held, LineKind, Move}
-use Rattle.mm_life.specs.{FrameTable, blank, record_at, without_slot, with_record, off_lists, to_free, settled, has_request, is_again, is_idle}
-use Rattle.mm_life.specs.{taken_for_read, given, being_read, being_written, shared, unshared, disowned, soiled, read_done, write_done, write_lost}
-use Rattle.mm_life.specs.{after_clear, after_steal, after_give, after_read, after_bad, after_map, after_unmap, after_soil, after_write, after_drop}
-use Rattle.mm_life.specs.{FrameLife, same_key, changed, is_dead, IsLegal, is_stored, is_block, after_move, after_at, after_add, dropped_at}
-use Rattle.mm_life.specs.{after_unmap_at, homed, home_at, backing_of, unstarted, is_live, is_legal_kind, is_valid_machine, Replays}
+use Rattle.mm_types.specs.{Frame, Key, Block, Place, Record, Backing, Held, LineKind, Move}
+use Rattle.mm_life.specs.{FrameTable, blank, record_at, without_slot, with_record, off_lists, to_free, settled, has_request, is_again, taken_for_read}
+use Rattle.mm_life.specs.{given, being_read, being_written, shared, unshared, disowned, soiled, read_done, write_done, write_lost, after_clear}
+use Rattle.mm_life.specs.{after_steal, after_give, after_read, after_bad, after_map, after_unmap, after_soil, after_write, after_drop, FrameLife}
+use Rattle.mm_life.specs.{same_key, changed, is_dead, IsLegal, is_stored, is_block, after_move, after_at, after_add, dropped_at, after_unmap_at}
+use Rattle.mm_life.specs.{homed, home_at, backing_of, unstarted, is_live, is_legal_kind, is_valid_machine, Replays}
 use Rattle.mm_laws.specs.{is_home_for, is_backing_for, block_of, block_in, block_held, frame, owner_at, is_file_key, IsAdded}
 use Rattle.mm_laws.specs.Sound.{Sound}
 use Rattle.mm_laws.proofs.Taking.{first_zeroed, fresh_read}
@@ -42,7 +42,6 @@ home_block d _ = refl
 
 stored_block : (d : FrameTable) (h : Held) → is_stored h ≡ true → block_of (backing_of h) ≡ block_in d h
 stored_block d (held.Slot s) e = refl
-stored_block d (held.Block b) e = refl
 stored_block d _ e = cc
 
 is_block_is : (b : Block) (x : Backing) → is_block b.0 x ≡ true → Some b.0 ≡ block_of x
@@ -196,17 +195,6 @@ module _ (l : FrameLife) (s : Sound l) where
       (stored_block l.frames (l.stands j) parts.1)
       (λ g n. get_or-set_other (taken_for_read l.frames).records f.0 g (being_read j (backing_of (l.stands j))) blank n ∙ ap (λ (rs : List Record). record_at (record l.frames { records = rs }) g) same)
 
-  writes_slot : (f : Frame) (t : Slot) (k : Key) → IsLegal (move.Write f (stored.Slot t)) l → block_held (after_move l (move.Write f (stored.Slot t))) k ≡ block_held l k
-  writes_slot f t k h =
-      let owner = owner_passes l.paging (record_at l.frames f.0) (four_parts _ _ _ _ h).1 in
-      let was = paged_unblocked (l.paging owner.key) (record_at l.frames f.0).backing owner.passes (s.homed.backing f.0 owner.key owner.is) in
-      in_same l.frames (after_write l.frames f.0 (backing.Slot t)) (with_block (off_lists l.frames f.0) f.0 (being_written (backing.Slot t) (record_at l.frames f.0)) (sym was)) (l.stands k)
-
-  writes_block : (f : Frame) (b : Block) (k : Key) → IsLegal (move.Write f (stored.Block b)) l → block_held (after_move l (move.Write f (stored.Block b))) k ≡ block_held l k
-  writes_block f b k h =
-      let same = is_block_is b (record_at l.frames f.0).backing (and_parts _ _ (and_parts _ _ h).0).1 in
-      in_same l.frames (after_write l.frames f.0 (backing.Block b)) (with_block (off_lists l.frames f.0) f.0 (being_written (backing.Block b) (record_at l.frames f.0)) same) (l.stands k)
-
   adds_zero : (j k : Key) → IsLegal (move.Add j None) l → block_held (after_add l j None) k ≡ block_held l k
   adds_zero j k h =
       without_block l.frames j k held.Zero (dead_block l.frames (l.stands j) (dead_is (l.stands j) (three_parts _ _ _ h).0)) refl (λ n. refl)
@@ -240,8 +228,13 @@ block_stays (move.Bad f) l s h a m k = goes_home l s (after_bad l.frames f.0) f.
 block_stays (move.Map f place) l s h a m k = in_same l.frames (after_map l.frames f.0) (with_block (off_lists l.frames f.0) f.0 (shared (record_at l.frames f.0)) refl) (l.stands k)
 block_stays (move.Unmap place) l s h a m k = unmaps l s (l.valid place) place k
 block_stays (move.Soil f) l s h a m k = in_same l.frames (after_soil l.frames f.0) (with_block l.frames f.0 (soiled (record_at l.frames f.0)) (soiled_block (record_at l.frames f.0))) (l.stands k)
-block_stays (move.Write f (stored.Slot t)) l s h a m k = writes_slot l s f t k h
-block_stays (move.Write f (stored.Block b)) l s h a m k = writes_block l s f b k h
+block_stays (move.Write f (stored.Slot t)) l s h a m k =
+    let owner = owner_passes l.paging (record_at l.frames f.0) (four_parts _ _ _ _ h).1 in
+    let was = paged_unblocked (l.paging owner.key) (record_at l.frames f.0).backing owner.passes (s.homed.backing f.0 owner.key owner.is) in
+    in_same l.frames (after_write l.frames f.0 (backing.Slot t)) (with_block (off_lists l.frames f.0) f.0 (being_written (backing.Slot t) (record_at l.frames f.0)) (sym was)) (l.stands k)
+block_stays (move.Write f (stored.Block b)) l s h a m k =
+    let same = is_block_is b (record_at l.frames f.0).backing (and_parts _ _ (and_parts _ _ h).0).1 in
+    in_same l.frames (after_write l.frames f.0 (backing.Block b)) (with_block (off_lists l.frames f.0) f.0 (being_written (backing.Block b) (record_at l.frames f.0)) same) (l.stands k)
 block_stays (move.Wrote f) l s h a m k = ends l s f.0 (write_done (record_at l.frames f.0)) k (write_done_block (record_at l.frames f.0))
 block_stays (move.Lost f) l s h a m k = ends l s f.0 (write_lost (record_at l.frames f.0)) k (without_slot_block (record_at l.frames f.0).backing)
 
@@ -257,9 +250,6 @@ none_apart l none = record {
   one = λ j k b e g. let bad : None ≡ Some b = sym (none j) ∙ e in cc;
   there = λ k b e. let bad : None ≡ Some b = sym (none k) ∙ e in cc;
 }
-
-pub apart_unstarted : Apart unstarted
-apart_unstarted = none_apart unstarted (λ k. refl)
 
 -- each key has the block that it had
 same_apart : (l m : FrameLife) → ((k : Key) → block_held m k ≡ block_held l k) → m.machine.blocks ≡ l.machine.blocks → m.added ≡ l.added → Apart l → Apart m
@@ -315,7 +305,7 @@ apart_step (move.Write f (stored.Slot t)) l s h a = same_apart l (after_move l (
 apart_step x l s h a = same_apart l (after_move l x) (block_stays x l s h refl refl) refl refl a
 
 pub replay_apart : (xs : List Move) (l : FrameLife) → Replays xs unstarted l → Apart l
-replay_apart xs l r = (along (λ m. Sound m × Apart m) (λ x m p h. (keeps x m p.0 h, apart_step x m p.0 h p.1)) xs unstarted l (sound_unstarted, apart_unstarted) r).1
+replay_apart xs l r = (along (λ m. Sound m × Apart m) (λ x m p h. (keeps x m p.0 h, apart_step x m p.0 h p.1)) xs unstarted l (sound_unstarted, (none_apart unstarted (λ k. refl))) r).1
 
 -- ---- a file key and its block
 

@@ -1,5 +1,6 @@
 -- What follows of one state from `Sound` alone.
 use Rattle.std.proofs.Common.{◌≡◌, ◌≢◌, ℕ, ◌<◌, ◌≤◌, Bool, true, false, not, length, Option, Some, None, refl, sym, ap, ◌∙◌, arith, ◌+◌, List, [], ◌∷◌, ◌++◌, inl, inr}
+use Rattle.std.proofs.lemmas.List.{length_push}
 use Rattle.std.specs.Prelude.{◌&&◌, ◌==◌, is_some, slice_get, count_by}
 use Rattle.std.proofs.lemmas.Bool.{and_parts, or_left, not-true, lt-ltb, le-ltb, eqb-true}
 use Rattle.mm_types.specs.{Frame, Key, Pid, Vpn, Place, Block, Backing, Held, LineKind, Move}
@@ -12,7 +13,7 @@ use Rattle.mm_laws.specs.{one_if, times, standings, counted_frames, IsStandby, I
 use Rattle.mm_laws.specs.{CountsKeys, is_home_for, is_backing_for, block_of, sight, frame, is_file_key, block_held, may_begin, ReachedByMoves}
 use Rattle.mm_laws.specs.Sound.{Sound}
 use Rattle.mm_laws.proofs.Tallies.{times_on, length-left}
-use Rattle.mm_laws.proofs.Sound.{some_owner, begins_block, begins_read, begins_slot, ended_few, begun_long}
+use Rattle.mm_laws.proofs.Sound.{some_owner, begins_block, begins_read, begins_slot, ended_few}
 use Rattle.mm_laws.proofs.Sights.{on_fresh, on_standby, on_modified, kept_inside, three_fail}
 use Rattle.mm_laws.proofs.Taking.{idle_is}
 use Rattle.mm_laws.proofs.PlaceCounts.{has_shares}
@@ -157,9 +158,8 @@ module _ (l : FrameLife) (s : Sound l) where
   file_on b _ p e = let bad : false ≡ true = sym p ∙ e in cc
 
   paged_on : (b : Bool) (x : Backing) → b ≡ true → is_backing_for b x ≡ true → slot_of x ≡ None → x ≡ backing.None
-  paged_on b backing.None p e n = refl
-  paged_on b (backing.Slot t) p e n = cc
   paged_on b (backing.Block c) p e n = let bad : not b ≡ false = ap not p in cc
+  paged_on b _ p e n = cc
 
   -- a file page in a frame has a block
   pub file_backed : (f : ℕ) (k : Key) → (record_at l.frames f).owner ≡ Some k → l.paging k ≡ false → (b : Block) × ((record_at l.frames f).backing ≡ backing.Block b)
@@ -250,7 +250,7 @@ no_more : (l : FrameLife) (q : List ℕ) → length q ≤ length l.flight → le
 no_more l q h = omega (arith, h)
 
 one_more : (l : FrameLife) (f : ℕ) → may_begin l ≡ true → length (l.flight ++ f ∷ []) ≤ length l.flight + one_if (may_begin l)
-one_more l f b = let one : one_if (may_begin l) ≡ 1 = ap one_if b in let more = begun_long l.flight f in omega (arith, one, more)
+one_more l f b = let one : one_if (may_begin l) ≡ 1 = ap one_if b in let more = length_push l.flight f in omega (arith, one, more)
 
 pub move_flight : (l : FrameLife) (x : Move) → IsLegal x l → length (after_move l x).flight ≤ length l.flight + one_if (may_begin l)
 move_flight l (move.At n k) h = no_more l (after_at l n k).flight (at_flight l n k)

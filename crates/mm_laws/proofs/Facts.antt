@@ -92,11 +92,8 @@ facts_of_reached l h =
       few = s.few;
     }
 
-facts_prop : (l : FrameLife) → IsProp (Facts l)
-facts_prop l = hlevel props
-
 pub facts_of : (l : FrameLife) → ∥ ReachedByMoves l ∥₁ → Facts l
-facts_of l r = ∥∥₁_elim r (facts_prop l) (facts_of_reached l)
+facts_of l r = ∥∥₁_elim r ((hlevel props)) (facts_of_reached l)
 
 -- one more legal move
 pub reached_by : (l m : FrameLife) (x : Move) → IsLegal x l → m ≡ after_move l x → ∥ ReachedByMoves l ∥₁ → ∥ ReachedByMoves m ∥₁

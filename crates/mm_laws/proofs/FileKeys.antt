@@ -1,6 +1,6 @@
 -- The first line, and keys of files, which stay.
 use Rattle.std.proofs.Common.{◌≡◌, ◌≢◌, ◌⊎◌, ℕ, ◌+◌, ◌≤◌, Bool, true, false, not, List, [], ◌∷◌, length, Option, Some, None, refl, sym, ap, ◌∙◌, inl, inr, arith, subst}
-use Rattle.std.specs.Prelude.{◌==◌, ◌&&◌, nat_lt, nat_le}
+use Rattle.std.specs.Prelude.{◌==◌, ◌&&◌, nat_le}
 use Rattle.std.proofs.lemmas.Bool.{and_parts, and_from, eqb-true, le-ltb, not-true}
 use Rattle.mm_types.specs.{Key, Backing, Held, LineKind, Move}
 use Rattle.mm_life.specs.{record_at, FrameLife, unstarted, same_key, changed, is_dead, is_live, is_shared, is_legal, IsLegal, is_legal_kind}
@@ -25,13 +25,10 @@ first : (b m : Bool) → ((b && true) && (true && m)) ≡ (b && m)
 first true m = refl
 first false m = refl
 
-no_block : (s t : Bool) (b : ℕ) (a : Bool) → (((true && s) && t) && nat_lt b 0 && a) ≡ false
-no_block s t b a = ap (λ x. ((true && s) && t) && x && a) (le-ltb b 0 (omega arith)) ∙ (ap (λ x. x && a) (and_false ((true && s) && t)))
-
 pub only_machine : (x : Move) → is_legal unstarted x ≡ is_first_line x
 only_machine (move.At n (kind.Machine frames slots depth blocks)) = first (n == 1) (is_valid_machine (record { frames = frames; slots = slots; depth = depth; blocks = blocks }))
 only_machine (move.At n _) = and_false ((n == 1) && true)
-only_machine (move.Add k (Some b)) = no_block (is_shared k) true b.0 true
+only_machine (move.Add k (Some b)) = ap (λ x. ((true && (is_shared k)) && true) && x && true) (le-ltb b.0 0 (omega arith)) ∙ (ap (λ x. x && true) (and_false ((true && (is_shared k)) && true)))
 only_machine (move.Write f (stored.Slot t)) = refl
 only_machine _ = refl
 
@@ -69,9 +66,6 @@ record IsFile (alive : Bool) (paging : Bool) : Type 0 where
   living : alive ≡ true
   no_paging : paging ≡ false
 
-file_is : (l : FrameLife) (k : Key) → is_file_key l k ≡ true → IsFile (is_live l k) (l.paging k)
-file_is l k e = let p = and_parts (is_live l k) (not (l.paging k)) e in record { living = p.0; no_paging = not-true (l.paging k) p.1 }
-
 file_from : (alive paging : Bool) → alive ≡ true → paging ≡ false → (alive && not paging) ≡ true
 file_from alive paging a p = and_from alive (not paging) a (ap not p)
 
@@ -94,7 +88,7 @@ at_same l n _ k on h = refl
 
 module _ (l : FrameLife) (k : Key) (on : 1 ≤ l.line) (file : is_file_key l k ≡ true) where
   it : IsFile (is_live l k) (l.paging k)
-  it = file_is l k file
+  it = let p = and_parts (is_live l k) (not (l.paging k)) file in record { living = p.0; no_paging = not-true (l.paging k) p.1 }
 
   other_than_dead : (j : Key) → not (is_live l j) ≡ true → k ≢ j
   other_than_dead j dead e =

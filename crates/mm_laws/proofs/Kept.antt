@@ -29,9 +29,8 @@ first_stands n f =
     stand_blank (sight (free_table n) [] f) (record_at_start n f) (omega (arith, e, times-numbers n 0 f, none)) refl refl refl
 
 all_free : (n s : ℕ) (b : Bool) → slice_get (replicate n true) s ≡ Some b → b ≡ true
-all_free zero s b e = cc
-all_free (suc n) zero b e = cc
 all_free (suc n) (suc s) b e = all_free n s b e
+all_free _ _ b e = cc
 
 no_set : (pid : ℕ) → set_in [] pid ≡ None
 no_set zero = refl
@@ -85,9 +84,8 @@ more_free (x ∷ free) n zero b e = inl e
 more_free (x ∷ free) n (suc s) b e = more_free free n s b e
 
 past_more : (free : List Bool) (n s : ℕ) → slice_get (free ++ replicate n true) s ≡ None → slice_get free s ≡ None
-past_more [] n s e = refl
-past_more (x ∷ free) n zero e = cc
 past_more (x ∷ free) n (suc s) e = past_more free n s e
+past_more _ n _ e = cc
 
 slots_grown : (free : List Bool) (n : ℕ) (held_by : Holder → Option ℕ) → SlotsHeld free held_by → SlotsHeld (free ++ replicate n true) held_by
 slots_grown free n held_by s = record {
@@ -104,10 +102,6 @@ slots_grown free n held_by s = record {
 -- ---- `at`
 
 module _ (l : FrameLife) (s : Sound l) where
-  -- a line that changes nothing but the line
-  lines : (n : ℕ) (k : LineKind) → length l.flight ≤ l.machine.depth → Sound (record l { line = n; kind = k })
-  lines n k depth = assumption
-
   starts : (n : ℕ) (k : LineKind) → length l.flight ≤ l.machine.depth → Sound (after_at l n k)
   starts n (kind.Machine frames slots depth blocks) h = sound_at (record { frames = frames; slots = slots; depth = depth; blocks = blocks }) n (kind.Machine frames slots depth blocks)
   starts n (kind.Process pid min max) h = assumption (shown_process l.valid l.frames l.sets (record { min = min; max = max; resident = 0 }) refl s.shown)
@@ -115,7 +109,7 @@ module _ (l : FrameLife) (s : Sound l) where
       let limited : l.paging_keys ≤ limit_of (record l.machine { slots = l.machine.slots + count }) = let e = s.limited in omega (arith, e) in
       let slotted : length (l.free_slots ++ replicate count true) ≡ l.machine.slots + count = let e = s.slotted in omega (arith, e, length-append l.free_slots (replicate count true), length-replicate {A = Bool} count true) in
       assumption (slots_grown l.free_slots count (holding l.frames l.stands) s.held, limited, slotted)
-  starts n kd h = lines n kd h
+  starts n kd h = assumption
 
   pub at_depth : (n : ℕ) (k : LineKind) → IsLegal (move.At n k) l → length l.flight ≤ l.machine.depth
   at_depth n k h = leb-true (length l.flight) l.machine.depth (three_parts _ _ _ h).1

@@ -5,9 +5,9 @@ use Rattle.std.specs.Prelude.{is_some, ◌==◌, ◌&&◌, slice_set, option_map
 use Rattle.std.proofs.lemmas.Bool.{and_parts, or_left, ltb-true, eqb-true, or_cases, lt-ltb, not-true, and_left, and_right}
 use Rattle.mm_types.specs.{limit_of, Key, Block, Record, Held, Frame, Slot, Place, Backing}
 use Rattle.mm_life.specs.{FrameTable, record_at, blank, slot_of, with_record, off_lists, to_free, has_request, disowned, FrameLife, same_key, changed}
-use Rattle.mm_life.specs.{is_dead, IsLegal, is_unmapped, after_move, after_add, dropped_at, unlisted, slot_at, freed, ResidentSet, without_slot}
-use Rattle.mm_life.specs.{is_read, is_write, is_again, is_idle, shared, unshared, being_written, after_map, after_unmap, after_write, set_of}
-use Rattle.mm_life.specs.{fits_place, is_below_max, may_unmap, is_access, is_call, is_block, after_unmap_at}
+use Rattle.mm_life.specs.{is_dead, IsLegal, is_unmapped, after_move, dropped_at, unlisted, slot_at, freed, ResidentSet, without_slot, is_read}
+use Rattle.mm_life.specs.{is_write, is_again, is_idle, shared, unshared, being_written, after_map, after_unmap, after_write, set_of, fits_place}
+use Rattle.mm_life.specs.{is_below_max, may_unmap, is_access, is_call, is_block, after_unmap_at}
 use Rattle.mm_laws.specs.{one_if, times, holding, is_kept, sight, Stand, frame, owner_at, Owned, SlotsHeld, is_backing_for, Fit}
 use Rattle.mm_laws.specs.Sound.{Sound}
 use Rattle.mm_laws.proofs.Tallies.{times-without_same, times_on}
@@ -45,8 +45,8 @@ no_frame_owns d stands k o out f e = let h = o.owned f k e in let bad : false �
 
 module _ (l : FrameLife) (s : Sound l) where
   -- ---- `add`
-  keeps_add_zero : (k : Key) → IsLegal (move.Add k None) l → Sound (after_add l k None)
-  keeps_add_zero k h =
+  pub keeps_add : (k : Key) (b : Option Block) → IsLegal (move.Add k b) l → Sound (after_move l (move.Add k b))
+  keeps_add k None h =
       let parts = three_parts _ _ _ h in
       let dead = dead_is (l.stands k) parts.0 in
       let out = dead_no_frame (l.stands k) dead in
@@ -58,19 +58,13 @@ module _ (l : FrameLife) (s : Sound l) where
         homed_flag l.paging l.frames l.stands k true held.Zero refl (no_frame_owns l.frames l.stands k s.owned out) s.homed,
         limited,
       )
-
-  keeps_add_block : (k : Key) (b : Block) → IsLegal (move.Add k (Some b)) l → Sound (after_add l k (Some b))
-  keeps_add_block k b h =
+  keeps_add k (Some b) h =
       let dead = dead_is (l.stands k) (and_parts _ _ (and_parts _ _ (and_parts _ _ h).0).0).1 in
       assumption (
         owned_rehomed l.frames l.stands k (held.Block b) (dead_no_frame (l.stands k) dead) refl s.owned,
         slots_rehomed l.frames l.free_slots l.stands k (held.Block b) (sym (dead_no_slot (l.stands k) dead)) s.held,
         homed_key l.paging l.frames l.stands k (held.Block b) (ap not (dead_not_paging (l.paging k) (l.stands k) dead (s.homed.home k))) s.homed,
       )
-
-  pub keeps_add : (k : Key) (b : Option Block) → IsLegal (move.Add k b) l → Sound (after_move l (move.Add k b))
-  keeps_add k None h = keeps_add_zero k h
-  keeps_add k (Some b) h = keeps_add_block k b h
 
   -- ---- `drop`
   -- a key without a frame
@@ -174,9 +168,6 @@ room_in : (o : Option ResidentSet) → is_below_max o ≡ true → RoomInSet o
 room_in None e = cc
 room_in (Some s) e = record { set = s; is = refl; room = ltb-true s.resident s.max e }
 
-unread : (r : Record) → Fit r → 1 ≤ r.shares → is_read r.request ≡ false
-unread r f h = not_true (is_read r.request) (λ e. omega (arith, h, (f.reading e).0))
-
 not_zero : (n : ℕ) → 1 ≤ n → (n == 0) ≡ false
 not_zero n h = differ n 0 (λ e. absurd (omega (arith, h, e)))
 
@@ -222,7 +213,7 @@ module _ (l : FrameLife) (s : Sound l) where
       let busy : is_idle (record_at l.frames f.0) ≡ false = and_left ((record_at l.frames f.0).shares == 0) (not (has_request (record_at l.frames f.0).request)) (not_zero (record_at l.frames f.0).shares some) in
       let off = busy_off (sight l.frames l.flight f.0) (s.standing f.0) busy in
       let c = changes_settled l.frames l.flight l.flight f.0 (times f.0 l.flight) (unshared (record_at l.frames f.0)) (flights_same l.flight f.0) (kept_inside l.frames f.0 kept) owned
-      (fit_unshared (record_at l.frames f.0) fit owned (unread (record_at l.frames f.0) fit some))
+      (fit_unshared (record_at l.frames f.0) fit owned ((not_true (is_read (record_at l.frames f.0).request) (λ e. omega (arith, some, (fit.reading e).0)))))
       (kept_not_fresh (sight l.frames l.flight f.0) (s.standing f.0) kept) off.0 off.1 (s.standing f.0).flight in
       let d' = after_unmap l.frames f.0 in
       assumption (

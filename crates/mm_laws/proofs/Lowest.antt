@@ -31,11 +31,10 @@ lowest_from (b ∷ free) (suc s) e h =
     and_from (not b) (is_lowest s free) (ap not taken) (lowest_from free s e (λ k l. h (suc k) (omega (arith, l))))
 
 pub lowest_one : (free : List Bool) (s t : ℕ) → is_lowest s free ≡ true → is_lowest t free ≡ true → s ≡ t
-lowest_one [] s t e g = cc
-lowest_one (b ∷ free) zero zero e g = refl
 lowest_one (b ∷ free) zero (suc t) e g = let bad : not b ≡ true = (and_parts (not b) (is_lowest t free) g).0 in let no : false ≡ true = sym (ap not e) ∙ bad in cc
 lowest_one (b ∷ free) (suc s) zero e g = let bad : not b ≡ true = (and_parts (not b) (is_lowest s free) e).0 in let no : false ≡ true = sym (ap not g) ∙ bad in cc
 lowest_one (b ∷ free) (suc s) (suc t) e g = ap suc (lowest_one free s t (and_parts (not b) (is_lowest s free) e).1 (and_parts (not b) (is_lowest t free) g).1)
+lowest_one _ _ _ e g = cc
 
 -- where a slot is free there is a lowest
 pub lowest_there : (free : List Bool) → list_any (λ b. b) free ≡ true → (t : ℕ) × (is_lowest t free ≡ true)
@@ -45,9 +44,8 @@ lowest_there (false ∷ free) e = let h = lowest_there free e in (suc h.0, h.1)
 
 pub lowest_any : (t : ℕ) (free : List Bool) → is_lowest t free ≡ true → list_any (λ b. b) free ≡ true
 lowest_any t [] e = cc
-lowest_any t (true ∷ free) e = refl
-lowest_any zero (false ∷ free) e = cc
 lowest_any (suc t) (false ∷ free) e = lowest_any t free e
+lowest_any _ (_ ∷ free) e = cc
 
 pub lowest_nowhere : (free : List Bool) → list_any (λ b. b) free ≡ false → (t : ℕ) → is_lowest t free ≡ false
 lowest_nowhere free none t = not_true (is_lowest t free) (λ e. let bad : true ≡ false = sym (lowest_any t free e) ∙ none in cc)

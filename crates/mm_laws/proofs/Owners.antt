@@ -1,46 +1,18 @@
 -- Frames and the keys that they hold.
 use Rattle.std.proofs.Common.{◌≡◌, ◌≢◌, ◌⊎◌, ℕ, Bool, true, false, cond, List, length, Option, Some, None, refl, sym, ap, ◌∙◌, subst, inl, inr, ◌+◌, ◌-◌, not, ◌∷◌, arith}
-use Rattle.std.specs.Prelude.{◌==◌, filter}
-use Rattle.std.proofs.lemmas.Bool.{eqb-true, eq-eqb, and_parts, and_from}
+use Rattle.std.specs.Prelude.{filter}
 use Rattle.mm_types.proofs.Cells.{same_or_not}
 use Rattle.std.proofs.lemmas.List.{get_or_past}
-use Rattle.mm_types.specs.{Pid, Vpn, Area, Key, Record, Held, Frame, Backing}
-use Rattle.mm_types.specs.declared.numbers.Key.TheVariants.{Private, Shared}
+use Rattle.mm_types.specs.{Key, Record, Held, Frame, Backing}
 use Rattle.mm_life.specs.{FrameTable, blank, same_key, changed, record_at, without_slot, is_dead, home_at}
 use Rattle.mm_laws.specs.{Sight, frame, owner_at, Owned, one_if, tally, is_home_for, is_backing_for, block_of, Paged, Homed}
+pub use Rattle.mm_life.proofs.Keys.{same_key-true, same_key-self}
 use Rattle.mm_laws.proofs.Taking.{Changes}
 use Rattle.mm_laws.proofs.Tallies.{tally-without, length-left}
 use Rattle.mm_types.specs.declared.frames.Held.TheVariants as held
 use Rattle.mm_types.specs.declared.frames.Backing.TheVariants as backing
 
 -- ---- keys
-
-abbrev pub pid : ℕ → Pid
-pid n = record { 0 = n }
-
-abbrev pub vpn : ℕ → Vpn
-vpn n = record { 0 = n }
-
-abbrev pub area : ℕ → Area
-area n = record { 0 = n }
-
-pub same_key-true : (k q : Key) → same_key k q ≡ true → k ≡ q
-same_key-true (Private p v) (Private q w) e =
-    let h = and_parts (p.0 == q.0) (v.0 == w.0) e in
-    let a : p.0 ≡ q.0 = eqb-true p.0 q.0 h.0 in
-    let b : v.0 ≡ w.0 = eqb-true v.0 w.0 h.1 in
-    ap (λ (n : ℕ). Private (pid n) v) a ∙ ap (λ (n : ℕ). Private q (vpn n)) b
-same_key-true (Private p v) (Shared a i) e = cc
-same_key-true (Shared a i) (Private p v) e = cc
-same_key-true (Shared a i) (Shared b j) e =
-    let h = and_parts (a.0 == b.0) (i == j) e in
-    let c : a.0 ≡ b.0 = eqb-true a.0 b.0 h.0 in
-    let d : i ≡ j = eqb-true i j h.1 in
-    ap (λ (n : ℕ). Shared (area n) i) c ∙ ap (λ (n : ℕ). Shared b n) d
-
-pub same_key-self : (k : Key) → same_key k k ≡ true
-same_key-self (Private p v) = and_from (p.0 == p.0) (v.0 == v.0) (eq-eqb p.0 p.0 refl) (eq-eqb v.0 v.0 refl)
-same_key-self (Shared a i) = and_from (a.0 == a.0) (i == i) (eq-eqb a.0 a.0 refl) (eq-eqb i i refl)
 
 pub key_or_not : (k q : Key) → ((k ≡ q) × (same_key k q ≡ true)) ⊎ ((k ≢ q) × (same_key k q ≡ false))
 key_or_not k q = elim (same_key k q) as (λ b. same_key k q ≡ b → ((k ≡ q) × (b ≡ true)) ⊎ ((k ≢ q) × (b ≡ false))) [
@@ -215,8 +187,7 @@ homed_flag paging d stands k b v h none m = record {
 -- a dead key is no page-file key
 pub dead_not_paging : (b : Bool) (h : Held) → is_dead h ≡ true → is_home_for b h ≡ true → b ≡ false
 dead_not_paging true held.Dead e i = sym i
-dead_not_paging false h e i = refl
-dead_not_paging true _ e i = cc
+dead_not_paging _ _ e i = cc
 
 pub backing_is_home : (b : Bool) (x : Backing) → is_backing_for b x ≡ true → is_home_for b (home_at x) ≡ true
 backing_is_home b backing.None e = e

@@ -10,7 +10,6 @@ use Rattle.mm_types.proofs.Tables.{differ}
 use Rattle.mm_types.specs.{Frame, Key, Place, Record}
 use Rattle.mm_laws.proofs.Tallies.{tally-but, tally-without, tally-more}
 use Rattle.mm_laws.proofs.Taking.{Changes}
-use Rattle.mm_laws.proofs.Owners.{pid}
 
 abbrev pub resized : ResidentSet → (ℕ → ℕ) → ResidentSet
 resized s change = record s { resident = change s.resident }
@@ -21,20 +20,18 @@ set_here sets (suc k) change s e =
     ap (λ (o : Option ResidentSet). slice_get (resident_by o sets k change) k) e ∙ get_set_same sets k (resized s change) (get_within sets k s e)
 
 pub set_else : (sets : List ResidentSet) (pid q : ℕ) (change : ℕ → ℕ) → q ≢ pid → set_in (with_resident sets pid change) q ≡ set_in sets q
-set_else sets zero q change n = refl
-set_else sets (suc k) zero change n = refl
 set_else sets (suc k) (suc j) change n = at (slice_get sets k)
   where
     at : (o : Option ResidentSet) → slice_get (resident_by o sets k change) j ≡ slice_get sets j
     at None = refl
     at (Some s) = get_set_other sets k j (resized s change) (λ e. n (ap suc e))
+set_else sets _ _ change n = cc
 
 -- one process more
 at_end : (sets : List ResidentSet) (new : ResidentSet) (k : ℕ) → new.resident ≡ 0 → residents (slice_get (sets ++ new ∷ []) k) ≡ residents (slice_get sets k)
 at_end [] new zero e = e
-at_end [] new (suc k) e = refl
-at_end (s ∷ sets) new zero e = refl
 at_end (s ∷ sets) new (suc k) e = at_end sets new k e
+at_end _ new _ e = cc
 
 pub residents_more : (sets : List ResidentSet) (new : ResidentSet) (pid : ℕ) → new.resident ≡ 0 → residents (set_in (sets ++ new ∷ []) pid) ≡ residents (set_in sets pid)
 residents_more sets new zero e = refl
@@ -42,9 +39,8 @@ residents_more sets new (suc k) e = at_end sets new k e
 
 got_at_end : (sets : List ResidentSet) (new s : ResidentSet) (k : ℕ) → slice_get (sets ++ new ∷ []) k ≡ Some s → (slice_get sets k ≡ Some s) ⊎ (new ≡ s)
 got_at_end [] new s zero e = inr (let same : new ≡ s = cc in same)
-got_at_end [] new s (suc k) e = inl e
-got_at_end (t ∷ sets) new s zero e = inl e
 got_at_end (t ∷ sets) new s (suc k) e = got_at_end sets new s k e
+got_at_end _ new s _ e = inl e
 
 pub set_more : (sets : List ResidentSet) (new s : ResidentSet) (pid : ℕ) → set_in (sets ++ new ∷ []) pid ≡ Some s → (set_in sets pid ≡ Some s) ⊎ (new ≡ s)
 set_more sets new s zero e = inl e

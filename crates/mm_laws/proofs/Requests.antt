@@ -35,7 +35,6 @@ slot_of_home _ = refl
 
 pub stored_backed : (h : Held) → is_stored h ≡ true → is_backed (backing_of h) ≡ true
 stored_backed (held.Slot s) e = refl
-stored_backed (held.Block b) e = refl
 stored_backed _ e = cc
 
 stored_no_frame : (h : Held) → is_stored h ≡ true → is_frame_of h ≡ false

@@ -17,8 +17,7 @@ use Rattle.mm_life.proofs.{done_owner, records_settled}
 -- the lists after a frame settles
 lists_settle : (x : FrameTable) (f : ℕ) (i c : Bool) → ListsAre (cond i (cond c (record x { modified = x.modified ++ f ∷ [] }) (record x { standby = x.standby ++ f ∷ [] })) x) x.zeroed x.free (at_end_if (i && not c) f x.standby) (at_end_if (i && c) f x.modified)
 lists_settle x f true true = record { zeroed = refl; free = refl; standby = refl; modified = refl }
-lists_settle x f true false = record { zeroed = refl; free = refl; standby = refl; modified = refl }
-lists_settle x f false c = record { zeroed = refl; free = refl; standby = refl; modified = refl }
+lists_settle x f _ _ = record { zeroed = refl; free = refl; standby = refl; modified = refl }
 
 module _ (d : FrameTable) (f : ℕ) (low : f < length d.records) where
   -- a frame with an owner, that is on no list

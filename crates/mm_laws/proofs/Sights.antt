@@ -102,13 +102,11 @@ kept_not_fresh s h k = h.fresh ∙ ap (λ b. cond b 0 s.inside) k
 
 pub three_fail : (a b c : Bool) → c ≡ false → one_if (a && (b && c)) ≡ 0
 three_fail true true c e = ap one_if e
-three_fail true false c e = refl
-three_fail false b c e = refl
+three_fail _ _ c e = cc
 
 none_if : (a b c : Bool) → b ≡ false → one_if (a && (b && c)) ≡ 0
 none_if true true c e = cc
-none_if true false c e = refl
-none_if false b c e = refl
+none_if _ _ c e = cc
 
 pub busy_off : (s : Sight) → Stand s → is_idle s.what ≡ false → (s.standby ≡ 0) × (s.modified ≡ 0)
 busy_off s h n = (h.standby ∙ none_if (is_some s.what.owner) (is_idle s.what) (not s.what.changed) n, h.modified ∙ none_if (is_some s.what.owner) (is_idle s.what) s.what.changed n)

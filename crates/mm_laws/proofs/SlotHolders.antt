@@ -12,9 +12,8 @@ use Rattle.mm_laws.proofs.Owners.{key_or_not, changed_here, changed_else}
 
 pub holder_or_not : (g h : Holder) → (g ≡ h) ⊎ (g ≢ h)
 holder_or_not (Home k) (Home q) = elim (key_or_not k q) [ inl e ↦ inl (ap Home e.0) | inr e ↦ inr (λ s. e.0 (let same : k ≡ q = cc in same)) ]
-holder_or_not (Home k) (Behind f) = inr (λ s. cc)
-holder_or_not (Behind f) (Home k) = inr (λ s. cc)
 holder_or_not (Behind f) (Behind g) = elim (same_or_not f g) [ inl e ↦ inl (ap Behind e) | inr e ↦ inr (λ s. e (let same : f ≡ g = cc in same)) ]
+holder_or_not _ _ = inr (λ s. cc)
 
 pub slots_same : (free : List Bool) (held held' : Holder → Option ℕ) → ((h : Holder) → held' h ≡ held h) → SlotsHeld free held → SlotsHeld free held'
 slots_same free held held' same s = record {
@@ -114,24 +113,6 @@ slots_take free held held' h s unused had now others m = handed free (slice_set 
     set : slice_get (slice_set free s false) s ≡ Some false
     set = get_set_same free s false (get_within free s true unused)
 
--- a slot goes from one holder to another
-hand : (free : List Bool) (held held' : Holder → Option ℕ) (a h : Holder) (s : ℕ) → a ≢ h → held a ≡ Some s → held h ≡ None → held' a ≡ None → held' h ≡ Some s → ((g : Holder) → g ≢ a → g ≢ h → held' g ≡ held g) → SlotsHeld free held → SlotsHeld free held'
-hand free held held' a h s apart had was none now others m = handed free free held held' m s (Some h)
-    (λ g n e. elim (holder_or_not g h) [
-      | inl z ↦ let both : Some s ≡ Some n = sym now ∙ (ap held' (sym z) ∙ e) in let same : n ≡ s = cc in inl (same, ap Some (sym z))
-      | inr d ↦ elim (holder_or_not g a) [
-        | inl z ↦ let bad : None ≡ Some n = sym none ∙ (ap held' (sym z) ∙ e) in cc
-        | inr c ↦ let old = sym (others g c d) ∙ e in inr (apart_from free held m s a g n had c old, old)
-      ]
-    ])
-    (λ g e. let same : h ≡ g = cc in ap held' (sym same) ∙ now)
-    (λ g n d it. others g
-    (λ z. d (let both : Some n ≡ Some s = sym it ∙ (ap held z ∙ had) in let same : n ≡ s = cc in same))
-    (λ z. let bad : None ≡ Some n = sym was ∙ (ap held (sym z) ∙ it) in cc) ∙ it)
-    (λ b e. sym (ap is_some (m.found a s had)) ∙ m.taken s b e)
-    (λ e. let bad : Some a ≡ None = sym (m.found a s had) ∙ m.past s e in cc)
-    (λ n d. refl)
-
 -- the slot of a holder, if any, is free
 pub slots_freed : (free : List Bool) (held held' : Holder → Option ℕ) (h : Holder) (o : Option ℕ) → held h ≡ o → held' h ≡ None → ((g : Holder) → g ≢ h → held' g ≡ held g) → SlotsHeld free held → SlotsHeld (freed free o) held'
 slots_freed free held held' h None had none others m = slots_same free held held' (λ g. elim (holder_or_not g h) [
@@ -149,7 +130,21 @@ slots_hand free held held' a h None apart had was none now others m = slots_same
     | inr c ↦ others g c d
   ]
 ]) m
-slots_hand free held held' a h (Some s) apart had was none now others m = hand free held held' a h s apart had was none now others m
+slots_hand free held held' a h (Some s) apart had was none now others m = handed free free held held' m s (Some h)
+    (λ g n e. elim (holder_or_not g h) [
+      | inl z ↦ let both : Some s ≡ Some n = sym now ∙ (ap held' (sym z) ∙ e) in let same : n ≡ s = cc in inl (same, ap Some (sym z))
+      | inr d ↦ elim (holder_or_not g a) [
+        | inl z ↦ let bad : None ≡ Some n = sym none ∙ (ap held' (sym z) ∙ e) in cc
+        | inr c ↦ let old = sym (others g c d) ∙ e in inr (apart_from free held m s a g n had c old, old)
+      ]
+    ])
+    (λ g e. let same : h ≡ g = cc in ap held' (sym same) ∙ now)
+    (λ g n d it. others g
+    (λ z. d (let both : Some n ≡ Some s = sym it ∙ (ap held z ∙ had) in let same : n ≡ s = cc in same))
+    (λ z. let bad : None ≡ Some n = sym was ∙ (ap held (sym z) ∙ it) in cc) ∙ it)
+    (λ b e. sym (ap is_some (m.found a s had)) ∙ m.taken s b e)
+    (λ e. let bad : Some a ≡ None = sym (m.found a s had) ∙ m.past s e in cc)
+    (λ n d. refl)
 
 -- ---- slots and one frame that changes
 

@@ -1,5 +1,6 @@
 -- What holds of each state that a replay reaches, and what moves of one frame keep of it.
-use Rattle.std.proofs.Common.{◌≡◌, ℕ, ◌+◌, ◌≤◌, Bool, true, false, List, [], ◌∷◌, ◌++◌, length, Option, Some, None, refl, sym, ap, ◌∙◌, inl, inr, arith, length-append}
+use Rattle.std.proofs.Common.{◌≡◌, ℕ, ◌≤◌, Bool, true, false, List, [], ◌∷◌, ◌++◌, length, Option, Some, None, refl, sym, ap, ◌∙◌, inl, inr, arith}
+use Rattle.std.proofs.lemmas.List.{length_push}
 use Rattle.std.specs.Prelude.{is_some, nat_lt, option_map, unwrap_or, ◌&&◌, ◌||◌}
 use Rattle.std.proofs.lemmas.Bool.{ltb-false, ltb-true}
 use Rattle.mm_types.specs.{Key, Record, Held}
@@ -35,9 +36,6 @@ no_owner r e = none_of r.owner e
 
 pub ended_few : (q : List ℕ) (f : ℕ) → length (without f q) ≤ length q
 ended_few q f = let h = length-without f q in omega (arith, h)
-
-pub begun_long : (q : List ℕ) (f : ℕ) → length (q ++ f ∷ []) ≡ length q + 1
-begun_long q f = let h = length-append q (f ∷ []) in omega (arith, h)
 
 -- ---- what begins a request may begin one
 
@@ -79,7 +77,7 @@ module _ (l : FrameLife) where
   pub begun_few : (f : ℕ) → may_begin l ≡ true → is_access l.kind ≡ false → is_call l.kind ≡ false → length (l.flight ++ f ∷ []) ≤ l.machine.depth
   begun_few f h a c =
       let deep = in_depth (is_access l.kind) (is_call l.kind) _ (has_depth l) h a c in
-      omega (arith, ltb-true (length l.flight) l.machine.depth deep, begun_long l.flight f)
+      omega (arith, ltb-true (length l.flight) l.machine.depth deep, length_push l.flight f)
 
 -- no shares where there is no owner
 pub orphan_unshared : (r : Record) → Fit r → r.owner ≡ None → r.shares ≡ 0

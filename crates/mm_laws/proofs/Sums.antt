@@ -50,16 +50,13 @@ sum-one x (suc n) =
     let step : one_if (x == n) + one_if (nat_lt x n) ≡ one_if (nat_lt x (suc n)) = grind (arith, nat_tests) in
     omega (arith, sum-one x n, step)
 
-pub sum-alone : (x n : ℕ) → sum_to (λ f. one_if (x == f)) n ≤ 1
-sum-alone x n = let a = sum-one x n in let b = one_most (nat_lt x n) in omega (arith, a, b)
-
 pub sum-inside : (x n : ℕ) → x < n → sum_to (λ f. one_if (x == f)) n ≡ 1
 sum-inside x n l = sum-one x n ∙ ap one_if (lt-ltb x n l)
 
 -- one frame, if any, is one at most
 pub sum-frame : (o : Option Frame) (n : ℕ) → sum_to (λ f. one_if (is_frame f o)) n ≤ 1
 sum-frame None n = let a = sum-zeros n in omega (arith, a)
-sum-frame (Some g) n = sum-alone g.0 n
+sum-frame (Some g) n = let a = sum-one g.0 n in let b = one_most (nat_lt g.0 n) in omega (arith, a, b)
 
 -- the numbers on a list are below n
 pub sum-times : (xs : List ℕ) (n : ℕ) → ((f : ℕ) → n ≤ f → times f xs ≡ 0) → sum_to (λ f. times f xs) n ≡ length xs

@@ -9,10 +9,8 @@ use Rattle.mm_life.specs.{is_first, is_on, without, rest, numbers_from}
 use Rattle.mm_laws.specs.{one_if, tally, times}
 
 more_of : (s t : Bool) (m n : ℕ) → (s ≡ true → t ≡ true) → m ≤ n → one_if s + m ≤ one_if t + n
-more_of true true m n h l = omega (arith, l)
 more_of true false m n h l = let bad : false ≡ true = h refl in cc
-more_of false true m n h l = omega (arith, l)
-more_of false false m n h l = omega (arith, l)
+more_of _ _ m n h l = omega (arith, l)
 
 module _ {A : Type 0} where
   pub tally-append : (p : A → Bool) (xs ys : List A) → tally p (xs ++ ys) ≡ tally p xs + tally p ys

@@ -1,9 +1,8 @@
 -- How logs that grow compose.
-use Rattle.std.proofs.Common.{◌≡◌, ℕ, List, [], ◌∷◌, ◌++◌, Option, Some, None, refl, sym, ap, ◌∙◌, subst, inl, inr, arith, append_assoc}
+use Rattle.std.proofs.Common.{◌≡◌, ℕ, List, [], ◌++◌, Option, Some, None, refl, sym, ap, ◌∙◌, inl, inr, arith, append_assoc}
 use Rattle.std.specs.Prelude.{Bool, true, false}
-use Rattle.mm_types.proofs.{append_nil, appended_none, appended_then, rose_then, rose_later}
-use Rattle.mm_life.specs.{FrameLife, Log, Front, LogGrew, IsFrontOf, GaveOn, Grew, Noted}
-use Rattle.mm_life.proofs.Replays.{replays_then, spelled-append, moves-append}
+use Rattle.mm_types.proofs.{not_then, append_nil, appended_none, appended_then, rose_then, rose_later}
+use Rattle.mm_life.specs.{Log, Front, LogGrew, IsFrontOf, GaveOn, Grew}
 
 front_then : (a b c s t : List ℕ) (p q r : Bool) → (p ≡ true → q ≡ true) → (q ≡ true → r ≡ true) → Front a b s p q → Front b c t q r → Front a c (s ++ t) p r
 front_then a b c s t p false r pq qr u v =
@@ -28,11 +27,8 @@ front_then a b c s t p true r pq qr u v =
 
 told_then : (a b c : Option (List ℕ)) (s t : List ℕ) (p q r : Bool) → (p ≡ true → q ≡ true) → (q ≡ true → r ≡ true) → LogGrew a b s p q → LogGrew b c t q r → LogGrew a c (s ++ t) p r
 told_then None None None s t p q r pq qr u v = tt
-told_then None None (Some c) s t p q r pq qr u v = absurd v
-told_then None (Some b) c s t p q r pq qr u v = absurd u
-told_then (Some a) None c s t p q r pq qr u v = absurd u
-told_then (Some a) (Some b) None s t p q r pq qr u v = absurd v
 told_then (Some a) (Some b) (Some c) s t p q r pq qr u v = front_then a b c s t p q r pq qr u v
+told_then _ _ _ s t p q r pq qr u v = absurd (omega arith)
 
 front_of_same : (a : Option (List ℕ)) → IsFrontOf a a
 front_of_same a = ([], appended_none a)
@@ -49,11 +45,6 @@ gave_then a b c u v = record {
   front = λ h. v.front (u.front h);
 }
 
--- a log that has not failed since had not failed before
-kept : (p q : Bool) → (p ≡ true → q ≡ true) → q ≡ false → p ≡ false
-kept false q h e = refl
-kept true q h e = let bad = h refl in cc
-
 -- one text, and then another
 pub grew_then : (a b c : Log) (s t : List ℕ) → Grew a b s → Grew b c t → Grew a c (s ++ t)
 grew_then a b c s t u v =
@@ -64,7 +55,7 @@ grew_then a b c s t u v =
         | inl q ↦ elim (u.cause q) [ inl p ↦ inl p | inr p ↦ inr (rose_then a.faults b.faults c.faults p v.later) ]
         | inr q ↦ inr (rose_later a.faults b.faults c.faults u.later q)
       ];
-      same = λ h. v.same h ∙ u.same (kept b.failed c.failed v.stays h);
+      same = λ h. v.same h ∙ u.same (not_then b.failed c.failed v.stays h);
       told = told_then a.bytes b.bytes c.bytes s t a.failed b.failed c.failed u.stays v.stays u.told v.told;
       gave = gave_then a b c u.gave v.gave;
     }
@@ -75,13 +66,3 @@ told_none (Some a) p = record { front = []; behind = []; whole = refl; written =
 
 pub grew_nothing : (a : Log) → Grew a a []
 grew_nothing a = record { later = omega arith; stays = λ h. h; cause = λ h. inl h; same = λ h. refl; told = told_none a.bytes a.failed; gave = gave_nothing a }
-
--- some moves, and then others
-pub noted_then : (a b c : Log) (l m n : FrameLife) → Noted a b l m → Noted b c m n → Noted a c l n
-noted_then a b c l m n u v =
-    record {
-      moves = u.moves ++ v.moves;
-      in_range = moves-append u.moves v.moves u.in_range v.in_range;
-      grew = subst (λ xs. Grew a c xs) (sym (spelled-append u.moves v.moves)) (grew_then a b c _ _ u.grew v.grew);
-      replays = replays_then u.moves v.moves l m n u.replays v.replays;
-    }

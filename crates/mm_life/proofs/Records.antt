@@ -1,5 +1,5 @@
 -- What the records of frames are after a frame settles or is taken, and what a changed page keeps.
-use Rattle.std.proofs.Common.{◌≡◌, ℕ, zero, suc, Bool, true, false, ◌∷◌, [], ◌++◌, replicate, refl, sym, slice_index_or}
+use Rattle.std.proofs.Common.{◌≡◌, ℕ, suc, Bool, true, false, ◌∷◌, [], ◌++◌, replicate, refl, sym, slice_index_or}
 use Rattle.std.specs.Prelude.{if◌then◌else◌}
 use Rattle.mm_types.specs.{Record}
 use Rattle.mm_types.specs.declared.frames.Request.TheVariants as request
@@ -7,9 +7,8 @@ use Rattle.mm_life.specs.{FrameTable, blank, rest, is_empty, is_idle, is_again, 
 use Rattle.mm_life.specs.{write_done}
 
 pub all_blank : (n f : ℕ) → slice_index_or (replicate n blank) f blank ≡ blank
-all_blank zero f = refl
-all_blank (suc n) zero = refl
 all_blank (suc n) (suc f) = all_blank n f
+all_blank _ _ = cc
 
 -- ---- tables
 
@@ -18,8 +17,7 @@ records_settled r d f = by (is_idle r) r.changed
   where
     by : (i c : Bool) → (if i then (if c then record d { modified = d.modified ++ f ∷ [] } else record d { standby = d.standby ++ f ∷ [] }) else d).records ≡ d.records
     by true true = refl
-    by true false = refl
-    by false c = refl
+    by _ _ = cc
 
 pub records_taken : (d : FrameTable) → (taken_for_read d).records ≡ d.records
 records_taken d = by (is_empty d.free)

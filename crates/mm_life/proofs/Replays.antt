@@ -1,8 +1,8 @@
 -- The replay of two lists of moves in a row, and the spelling of them.
-use Rattle.std.proofs.Common.{◌≡◌, ℕ, List, [], ◌∷◌, ◌++◌, Bool, true, false, Option, Some, None, refl, sym, ap, ◌∙◌, subst, append_assoc}
+use Rattle.std.proofs.Common.{◌≡◌, List, [], ◌∷◌, ◌++◌, Bool, true, false, Option, Some, None, refl, sym, ap, ◌∙◌, subst, append_assoc}
 use Rattle.std.specs.Prelude.{IsTrue, if◌then◌else◌}
 use Rattle.mm_types.specs.{Move}
-use Rattle.mm_life.specs.{FrameLife, is_legal, after_move, Replays, replay, LeadsTo, spelling_of_move, spelled_moves, AreMoves}
+use Rattle.mm_life.specs.{FrameLife, is_legal, after_move, Replays, replay, spelling_of_move, spelled_moves, AreMoves}
 
 -- two pieces in a row
 pub replays_then : (xs ys : List Move) (l m n : FrameLife) → Replays xs l m → Replays ys m n → Replays (xs ++ ys) l n
@@ -17,17 +17,6 @@ spelled-append (x ∷ xs) ys =
 pub moves-append : (xs ys : List Move) → AreMoves xs → AreMoves ys → AreMoves (xs ++ ys)
 moves-append [] ys a b = b
 moves-append (x ∷ xs) ys a b = (a.0, moves-append xs ys a.1 b)
-
--- a piece and the piece behind it
-pub leads_then : (p q : List ℕ) (l m n : FrameLife) → LeadsTo p l m → LeadsTo q m n → LeadsTo (p ++ q) l n
-leads_then p q l m n u v = record {
-  moves = u.moves ++ v.moves;
-  spelled = record {
-    in_range = moves-append u.moves v.moves u.spelled.in_range v.spelled.in_range;
-    text = ap (λ t. t ++ q) u.spelled.text ∙ ap (λ t. spelled_moves u.moves ++ t) v.spelled.text ∙ sym (spelled-append u.moves v.moves);
-  };
-  replays = replays_then u.moves v.moves l m n u.replays v.replays;
-}
 
 -- the fold and the relation are one
 true_here : (b : Bool) (later : Option FrameLife) → IsTrue b → (if b then later else None) ≡ later

@@ -12,5 +12,5 @@ mod worked;
 pub use sets::ResidentSet;
 pub use worked::{
     any_bytes_fit_at_rest, bytes_stand_in_frames, nothing_but_line_one, other_frame_is_illegal,
-    rewritten_page_replays, smallest_set_replays,
+    replay_computes_where_moves_lead, rewritten_page_replays, smallest_set_replays,
 };

@@ -1,5 +1,5 @@
 /// The working set of a process, as the life of the frames has it.
-#[derive(Clone, Copy, PartialEq, Eq, Debug)]
+#[derive(Clone, Copy, PartialEq, Eq)]
 pub struct ResidentSet {
     /// The size that a trim leaves at least.
     pub min: u32,

@@ -1,7 +1,14 @@
 ghost use Rattle.std.specs.Prelude.{◌≡◌, ℕ, List, option_map, is_some, Some, None, [], ◌∷◌, ◌++◌, true, false, length};
-ghost use Rattle.mm_types.specs.{MachineOf, LineKind};
-ghost use Rattle.mm_life.specs.{counts_of, life_at, unstarted, FrameBytes, BlockBytes, BytesLocated, contents_of, is_legal, replay_log};
-ghost use Rattle.mm_life.specs.{counts_of_log, rewritten_log, rewritten_head, rewritten_tail, smallest_set_log, frame, private};
+ghost use Rattle.mm_types.specs.{MachineOf, LineKind, Move};
+ghost use Rattle.mm_life.specs.{counts_of, life_at, unstarted, FrameBytes, BlockBytes, BytesLocated, contents_of, is_legal, replay_log, FrameLife};
+ghost use Rattle.mm_life.specs.{Replays, replay, counts_of_log, rewritten_log, rewritten_head, rewritten_tail, smallest_set_log, frame, private};
+
+/// Moves lead from one state to another exactly where replaying them one by one comes to it: what
+/// is computed below holds of the relation that the contracts above cite.
+pub fn replay_computes_where_moves_lead()
+    ensures comes { (xs : List Move) (l m : FrameLife) → Replays xs l m → replay l xs ≡ Some m }
+    ensures leads { (xs : List Move) (l m : FrameLife) → replay l xs ≡ Some m → Replays xs l m }
+{}
 
 /// A page rewritten while its write is in flight: the 24 moves replay, and leave one frame active
 /// and seven free.

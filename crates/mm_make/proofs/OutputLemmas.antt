@@ -3,7 +3,7 @@ use Rattle.std.proofs.Common.{◌≡◌, ℕ, zero, suc, ◌+◌, ◌-◌, ◌%�
 use Rattle.rand_pcg.specs.Lcg.{Lcg, next, advance, state_after}
 use Rattle.rand_pcg.specs.Pcg.{multiplier_64, pcg32}
 use Rattle.mm_types.specs.{Event}
-use Rattle.mm_make.specs.{outputs, outputs_from, drawn, drawn_by, drawn_of_kind, drawn_events, read_drawn, write_drawn}
+use Rattle.mm_make.specs.{Drawn, Draws, outputs, outputs_from, drawn, drawn_by, drawn_of_kind, drawn_events, read_drawn, write_drawn}
 
 -- the first output is that of the next step
 pub first_output : (g : Lcg) → (pcg32 g).0 ≡ outputs g 0
@@ -60,6 +60,9 @@ low_kind zero words h = refl
 low_kind (suc zero) words h = refl
 low_kind (suc (suc kind)) words h = absurd (omega arith)
 
+pub draws : (g : Lcg) {d : Drawn} {e : Event} {after : Lcg} → d ≡ drawn (outputs g) → e ≡ d.event → after ≡ advance 64 multiplier_64 d.taken g → Draws g e after
+draws g same is step = record { event = is ∙ ap (λ (x : Drawn). x.event) same; after = step ∙ ap (λ (x : Drawn). advance 64 multiplier_64 x.taken g) same }
+
 -- a read and a write after the draw of their kind
 module _ (g later : Lcg) (step : later ≡ next 64 multiplier_64 g) where
   pub output_behind : (i : ℕ) → outputs later i ≡ outputs g (suc i)
@@ -82,14 +85,14 @@ two_steps g = refl
 
 -- ---- a script, as one more of its events is drawn, and when all are
 
-pub one_more : (items items' whole : List Event) (e : Event) (count k : ℕ) (g later : Lcg) → k < count → items' ≡ items ++ e ∷ [] → e ≡ (drawn (outputs g)).event → later ≡ advance 64 multiplier_64 (drawn (outputs g)).taken g → items ++ drawn_events (count - k) (outputs g) ≡ whole → items' ++ drawn_events (count - (k + 1)) (outputs later) ≡ whole
-one_more items items' whole e count k g later h pushed is step told =
+pub one_more : (items items' whole : List Event) (e : Event) (count k : ℕ) (g later : Lcg) → k < count → items' ≡ items ++ e ∷ [] → Draws g e later → items ++ drawn_events (count - k) (outputs g) ≡ whole → items' ++ drawn_events (count - (k + 1)) (outputs later) ≡ whole
+one_more items items' whole e count k g later h pushed d told =
     let left = count - (k + 1) in
     let more : suc left ≡ count - k = omega arith in
     ap (λ (xs : List Event). xs ++ drawn_events left (outputs later)) pushed
     ∙ append_assoc items (e ∷ []) (drawn_events left (outputs later))
-    ∙ ap (λ (x : Event). items ++ x ∷ drawn_events left (outputs later)) is
-    ∙ ap (λ (w : Lcg). items ++ (drawn (outputs g)).event ∷ drawn_events left (outputs w)) step
+    ∙ ap (λ (x : Event). items ++ x ∷ drawn_events left (outputs later)) d.event
+    ∙ ap (λ (w : Lcg). items ++ (drawn (outputs g)).event ∷ drawn_events left (outputs w)) d.after
     ∙ ap (λ (xs : List Event). items ++ xs) (sym (events_more left g))
     ∙ ap (λ (n : ℕ). items ++ drawn_events n (outputs g)) more
     ∙ told

@@ -1,8 +1,10 @@
 -- The events of a generated script: eleven fixed ones, and so many drawn ones.
 -- Profile, "A run".
-use Rattle.std.specs.Prelude.{ℕ, zero, suc, ◌+◌, ◌*◌, ◌%◌, nat_le, ◌==◌, if◌then◌else◌, List, [], ◌∷◌, ◌++◌, Some, None, codes}
+use Rattle.std.specs.Prelude.{◌≡◌, ℕ, zero, suc, ◌+◌, ◌*◌, ◌%◌, nat_le, ◌==◌, if◌then◌else◌, List, [], ◌∷◌, ◌++◌, Some, None, codes}
 use Rattle.mm_types.specs.{Event, page_size, reserve_and_commit_type, readwrite}
 use Rattle.mm_types.specs.declared.events.Event.TheVariants as line
+use Rattle.rand_pcg.specs.Lcg.{Lcg, advance}
+use Rattle.rand_pcg.specs.Pcg.{multiplier_64}
 use Rattle.mm_make.specs.Outputs.{outputs, seeded, outputs_from}
 
 -- two processes on a small machine, that share a section and the pages of a file
@@ -57,6 +59,11 @@ drawn_of_kind kind words =
 
 abbrev pub drawn : (ℕ → ℕ) → Drawn
 drawn words = drawn_of_kind (words 0 % 8) words
+
+-- a generator draws this event, and what it is then
+pub record Draws (g : Lcg) (e : Event) (later : Lcg) : Type 0 where
+  pub event : e ≡ (drawn (outputs g)).event
+  pub after : later ≡ advance 64 multiplier_64 (drawn (outputs g)).taken g
 
 -- so many events, each drawn by the outputs after those of the one before
 unfoldable pub drawn_events : ℕ → (ℕ → ℕ) → List Event

@@ -3,7 +3,7 @@ ghost use Rattle.mm_types.specs.declared.events.Event.TheVariants as line;
 ghost use Rattle.mm_types.specs.{reserve_and_commit_type, readwrite};
 ghost use Rattle.rand_pcg.specs.Lcg.{advance};
 ghost use Rattle.rand_pcg.specs.Pcg.{multiplier_64};
-ghost use Rattle.mm_make.specs.{outputs, address_drawn, write_drawn, read_drawn, drawn, fixed_events, script_of};
+ghost use Rattle.mm_make.specs.{outputs, address_drawn, write_drawn, read_drawn, Draws, fixed_events, script_of};
 
 use crate::words::draw;
 use mm_types::{
@@ -81,9 +81,7 @@ fn read(words: &mut Lcg64Xsh32, pid: u8, pages: u32) -> Event
 
 /// The event that the next outputs draw.
 fn event(words: &mut Lcg64Xsh32) -> Event
-    ensures drawn { result ≡ (drawn (outputs words.old)).event }
-    ensures after { words.new
-        ≡ advance 64 multiplier_64 (drawn (outputs words.old)).taken words.old }
+    ensures { Draws words.old result words.new }
 {
     match draw(words, 8) {
         0 | 1 => write(words, 1, 160),

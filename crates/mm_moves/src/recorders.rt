@@ -1,11 +1,10 @@
-ghost use Rattle.std.specs.Prelude.{◌≡◌, false, is_err};
+ghost use Rattle.std.specs.Prelude.{◌≡◌, false};
 ghost use Rattle.mm_types.specs.{Loans, Loan};
-ghost use Rattle.mm_io.specs.{CountsFaults, GivesOn};
 ghost use Rattle.mm_life.specs.{Log, Grew, Flushed, spelling_of_move, IsMove};
-ghost use Rattle.mm_moves.specs.Recorded.{FailsExactly, WroteOrCut};
+ghost use Rattle.mm_moves.specs.Recorded.{FailsExactly};
 
 use crate::spellings::{EMPTY, Line, put_line};
-use mm_io::Sink;
+use mm_io::{Sink, write_all};
 use mm_types::{Failed, Move};
 
 /// Takes note of moves, one after another.
@@ -43,25 +42,6 @@ pub struct Recorder<'a, K: Sink> {
     /// Room for the line of a move. It is kept, since a new one would be cleared for each move.
     line: Line,
     failed: bool,
-}
-
-/// Writes a line. Where a call of the sink fails, the front that it took is not all of the line:
-/// `write_all` does not say that.
-fn write_line<K: Sink>(sink: &mut K, line: &[u8]) -> Result<(), Failed>
-    ensures wrote { WroteOrCut (K.taken sink.old) (K.taken sink.new) line.now (is_err result) }
-    ensures given { GivesOn (K.given sink.old) (K.given sink.new) (K.taken sink.old)
-        (K.taken sink.new) }
-    ensures cause { CountsFaults (K.faults sink.old) (K.faults sink.new) result }
-    ensures loans { K.loans sink.new ≡ K.loans sink.old }
-{
-    let mut rest = line;
-    while !rest.is_empty() {
-        match sink.write(rest) {
-            Ok(n) => rest = &rest[n..],
-            Err(failed) => return Err(failed),
-        }
-    }
-    Ok(())
 }
 
 impl<'a, K: Sink> Recorder<'a, K> {
@@ -107,7 +87,7 @@ impl<'a, K: Sink> Moves for Recorder<'a, K> {
     fn note(&mut self, m: Move) {
         let end = put_line(&mut self.line, &m);
         if !self.failed {
-            match write_line(self.sink, &self.line[..end]) {
+            match write_all(self.sink, &self.line[..end]) {
                 Ok(()) => {}
                 Err(Failed) => self.failed = true,
             }

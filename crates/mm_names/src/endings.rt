@@ -1,5 +1,5 @@
 /// How a run ends.
-#[derive(Clone, Copy, PartialEq, Eq, Debug)]
+#[derive(Clone, Copy, PartialEq, Eq)]
 pub enum Ending {
     /// The script was written.
     Written,

@@ -23,11 +23,9 @@ use Rattle.mm_parts.specs.{end_of_read, write_end, own_ended}
 use Rattle.mm_moving.specs.{StateOf, Made, SomeFault, DoesMoves, moved_with_call, StateHolds}
 use Rattle.mm_moving.proofs.{does_nothing, does_one}
 use Rattle.mm_paged.specs.{LifeKept, EndsOne, EndsAs, OwnOf, StoreKept, store_of, report_of, behind_of}
-use Rattle.mm_paged.proofs.Keeping.{called_on, called_store, kept_same, kept_within}
-use Rattle.mm_paged.proofs.Serving.{InLine, served_by}
-use Rattle.mm_paged.proofs.Shows.{passes_of, none_passes}
+use Rattle.mm_paged.proofs.AccessMoves.{called_on, called_store, kept_same, kept_within, InLine, served_by}
+use Rattle.mm_paged.proofs.Shows.{passes_of, none_passes, kept_untouched}
 use Rattle.mm_types.proofs.{get_within, less}
-use Rattle.mm_paged.proofs.Quiet.{kept_untouched}
 use Rattle.mm_reclaim.proofs.{one_some, fault_by}
 
 -- ---- the move with which a request ends

@@ -26,14 +26,11 @@ use Rattle.mm_moving.proofs.{does_one, does_two, does_then, does_nothing}
 use Rattle.mm_frame_laws.specs.{blocks_written, slots_written}
 use Rattle.mm_paged.specs.{HoldsFilePage, WritesTo, WritesBack, EndedIf, WrittenIf, is_changed_then, EndsFlight, WritesChanged, FlushesFrame}
 use Rattle.mm_paged.specs.{FlushedOnePage, LifeKept, OwnOf, StoreKept, store_of, report_of, behind_of}
-use Rattle.mm_paged.proofs.Quiet.{kept_untouched}
+use Rattle.mm_paged.proofs.Shows.{kept_untouched, passes_of}
 use Rattle.mm_paged.proofs.Completed.{called_by_write}
-use Rattle.mm_paged.proofs.Keeping.{kept_same, kept_then, blocks_kept, called_on, called_store, kept_made, with_told}
+use Rattle.mm_paged.proofs.AccessMoves.{kept_same, kept_then, blocks_kept, called_on, called_store, kept_made, with_told, InLine, served_by, set_there}
 use Rattle.mm_paged.proofs.Ending.{some_is}
-use Rattle.mm_paged.proofs.Serving.{InLine, served_by}
-use Rattle.mm_paged.proofs.Shows.{passes_of}
 use Rattle.mm_reclaim.proofs.{one_some}
-use Rattle.mm_paged.proofs.Records.{set_there}
 
 -- ---- blocks
 

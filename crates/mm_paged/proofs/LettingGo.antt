@@ -29,10 +29,9 @@ use Rattle.mm_moving.specs.{StateOf, Made, moved, names_after_drop, StateHolds}
 use Rattle.mm_moving.proofs.{does_one, does_two}
 use Rattle.mm_paged.specs.{LifeBut, LifeKept, Thins, LetsGo, LetGo, Still, Gone, OwnLetGo, MayLetGo, MayLetOwnGo, NextGone, OwnOf, store_of}
 use Rattle.mm_paged.specs.{report_of, behind_of}
-use Rattle.mm_paged.proofs.Unmoved.{turns_still}
-use Rattle.mm_paged.proofs.Keeping.{kept_same, kept_then, blocks_kept, block_same, paging_has_none, dead_has_none, fetched_by, with_told, kept_made}
-use Rattle.mm_paged.proofs.Placing.{unmapped_stands, unmapped_still}
-use Rattle.mm_paged.proofs.Shows.{passes_of, changed_keys}
+use Rattle.mm_paged.proofs.Shows.{turns_still, passes_of, changed_keys}
+use Rattle.mm_paged.proofs.AccessMoves.{kept_same, kept_then, blocks_kept, block_same, paging_has_none, dead_has_none, fetched_by, with_told, kept_made}
+use Rattle.mm_paged.proofs.Taking.{unmapped_stands, unmapped_still}
 use Rattle.mm_reclaim.proofs.{moved_then}
 
 -- ---- one place

@@ -10,10 +10,9 @@ use Rattle.mm_pages.specs.Told.{Told}
 use Rattle.mm_moving.specs.{StateOf, moved, DoesMoves, walk_of, StateHolds}
 use Rattle.mm_reclaim.specs.{Trimmed}
 use Rattle.mm_paged.specs.{LifeKept, OwnOf, StoreKept, store_of, report_of, behind_of}
-use Rattle.mm_paged.proofs.Quiet.{kept_untouched}
-use Rattle.mm_paged.proofs.Keeping.{kept_same, kept_then, kept_within, blocks_kept}
+use Rattle.mm_paged.proofs.Shows.{kept_untouched, passes_of}
+use Rattle.mm_paged.proofs.AccessMoves.{kept_same, kept_then, kept_within, blocks_kept}
 use Rattle.mm_paged.proofs.LettingGo.{rearranged_by}
-use Rattle.mm_paged.proofs.Shows.{passes_of}
 use Rattle.mm_reclaim.proofs.{moved_called}
 
 -- ---- moves of chores

@@ -1,9 +1,9 @@
--- How a frame is made ready, and given or read into.
-use Rattle.std.proofs.Common.{◌≡◌, ℕ, Bool, true, false, List, [], ◌∷◌, ◌++◌, Option, Some, None, refl, sym, ap, ◌∙◌, subst, arith, inl, inr}
-use Rattle.mm_types.proofs.{parts}
-use Rattle.std.specs.Prelude.{◌&&◌, ◌||◌, if◌then◌else◌}
+-- A frame is taken and made ready, given to a key or read into, and its page becomes valid.
+use Rattle.std.proofs.Common.{◌≡◌, ℕ, Bool, true, false, List, [], ◌∷◌, ◌++◌, Option, Some, None, refl, sym, ap, ◌∙◌, subst, arith, inl, inr, ◌≤◌}
+use Rattle.mm_types.proofs.{parts, not_false}
+use Rattle.std.specs.Prelude.{◌&&◌, ◌||◌, if◌then◌else◌, is_none, is_some, option_map, unwrap_or}
 use Rattle.std.specs.Cmp.{unsigned_Decides}
-use Rattle.mm_types.specs.{Backing, Held, LineKind, Frame, Key, Move}
+use Rattle.mm_types.specs.{Backing, Held, LineKind, Frame, Key, Move, Record, Place, Pid}
 use Rattle.mm_types.specs.declared.moves.LineKind.TheVariants as kind
 use Rattle.mm_types.specs.declared.frames.Backing.TheVariants as backing
 use Rattle.mm_types.specs.declared.devices.Direction.TheVariants as way
@@ -11,19 +11,27 @@ use Rattle.mm_types.specs.declared.faults.PageFault.TheVariants as fault
 use Rattle.mm_types.specs.declared.frames.Held.TheVariants as held
 use Rattle.mm_types.specs.declared.moves.Move.TheVariants as move
 use Rattle.mm_life.specs.{FrameLife, changed, same_key, is_empty, is_first, is_read, record_at, IsLegal, is_touch, is_access, is_zero, is_stored}
-use Rattle.mm_life.specs.{after_move, homed, Walk, is_thread, has_depth, touches}
-use Rattle.mm_laws.proofs.{changed_else, changed_here}
+use Rattle.mm_life.specs.{after_move, homed, Walk, is_thread, has_depth, touches, given, same_place, key_of_place, ResidentSet, is_shared, is_dead}
+use Rattle.mm_life.specs.{set_of, fits_place, is_below_max, is_at_max, owner_is, after_unmap_at, IsOldest}
+use Rattle.mm_laws.proofs.{changed_else, changed_here, same_place-true, same_place-self, reached_sound}
 use Rattle.mm_blocks.proofs.{all_served_later, failed_later}
-use Rattle.mm_pages.specs.{Aim, IsTaken, is_had, with_read}
+use Rattle.mm_pages.specs.{Aim, IsTaken, is_had, with_read, FromFull}
 use Rattle.mm_pages.specs.Told.{Told}
-use Rattle.mm_moving.specs.{StateOf, Made, DoesMoves, SomeFault, moved_with_call, moved, StateHolds}
+use Rattle.mm_moving.specs.{StateOf, Made, DoesMoves, SomeFault, moved_with_call, moved, StateHolds, names_after_give, MayMap, names_after_map}
 use Rattle.mm_moving.proofs.{does_one, does_two}
-use Rattle.mm_parts.specs.{own_after, own_ended, front, front_for_read, is_own_line}
+use Rattle.mm_parts.specs.{own_after, own_ended, front, front_for_read, is_own_line, names_given, HasSet, left_by}
 use Rattle.mm_paged.specs.{Calm, TakesFrame, TookFrame, HasTried, IsFresh, IsFor, ReadsFor, Fails, Frees, Free, Stolen, Readies, Zeroed, Cleared}
-use Rattle.mm_paged.specs.{LifeKept}
-use Rattle.mm_paged.proofs.Doing.{piece_of, move_front}
-use Rattle.mm_paged.proofs.Keeping.{kept_made, kept_same, kept_then}
+use Rattle.mm_paged.specs.{LifeKept, NamesFor, Went, InQuietFrame, Placed}
+use Rattle.mm_paged.proofs.AccessMoves.{piece_of, move_front, kept_made, kept_same, kept_then, set_there, went_one, moved_on}
 use Rattle.mm_reclaim.proofs.{fault_by, moved_then}
+use Rattle.mm_types.specs.declared.numbers.Key.TheVariants.{Private, Shared}
+use Rattle.mm_frame_laws.specs.{IsSoiled, is_calm, NoPageFollows}
+use Rattle.std.proofs.Math.Logic.{∥∥₁_elim}
+use Rattle.std.proofs.Props.{props}
+use Rattle.mm_laws.specs.{residents}
+use Rattle.mm_frame_laws.proofs.{all_go, set_oldest}
+
+-- ---- how a frame is made ready, and given or read into
 
 -- ---- a frame is made ready
 
@@ -241,3 +249,143 @@ reads_for a k s n e h = record { needs = n; absent = absent a.start (a.start.sta
 pub fault_later : (ms : List Move) (s t z : StateOf) → DoesMoves ms s t → SomeFault t z → SomeFault s z
 fault_later ms s t z d (inl h) = inl (failed_later s.paging t.paging z.paging (all_served_later d.paging_calls s.paging t.paging d.paging) h)
 fault_later ms s t z d (inr h) = inr (failed_later s.files t.files z.files (all_served_later d.file_calls s.files t.files d.files) h)
+
+-- ---- what a page that is given a frame leaves, where its key may stand beside the tables
+
+-- changed twice
+pub changed_twice : {K V : Type 0} (same : K → K → Bool) (f : K → V) (k : K) (x v : V) → changed same (changed same f k x) k v ≡ changed same f k v
+changed_twice {K} {V} same f k x v = λ i. λ q. by (same q k) (f q) i
+  where
+    by : (b : Bool) (y : V) → (if b then v else (if b then x else y)) ≡ (if b then v else y)
+    by true y = refl
+    by false y = refl
+
+-- changed to what it was
+pub young_still : {V : Type 0} (g : Place → V) (p : Place) (v : V) → g p ≡ v → g ≡ changed same_place g p v
+young_still {V} g p v e = λ i. λ q. at q i
+  where
+    by : (q : Place) (b : Bool) → same_place q p ≡ b → g q ≡ (if b then v else g q)
+    by q true h = ap g (same_place-true q p h) ∙ e
+    by q false h = refl
+
+    at : (q : Place) → g q ≡ changed same_place g p v q
+    at q = by q (same_place q p) refl
+
+named_at : (n : Place → Option Key) (p place : Place) (v : Option Key) → p ≡ place → changed same_place (changed same_place n p (Some (key_of_place p))) place v ≡ changed same_place n place v
+named_at n p place v e = ap (λ (q : Place). changed same_place (changed same_place n q (Some (key_of_place q))) place v) e ∙ changed_twice same_place n place (Some (key_of_place place)) v
+
+given_at : (o : Option Place) (n : Place → Option Key) (p place : Place) (v : Option Key) → p ≡ place → changed same_place (names_given o n p) place v ≡ changed same_place n place v
+given_at None n p place v e = named_at n p place v e
+given_at (Some q) n p place v e = at (same_place p q)
+  where
+    at : (b : Bool) → changed same_place (if b then n else changed same_place n p (Some (key_of_place p))) place v ≡ changed same_place n place v
+    at true = refl
+    at false = named_at n p place v e
+
+pub given_names : (k : Key) (s y z : StateOf) → y.names ≡ s.names → z.names ≡ names_after_give y k → NamesFor k s z
+given_names (Private p w) s y z n e = λ place v h.
+    ap (λ (f : Place → Option Key). changed same_place f place v) e
+    ∙ given_at y.aside y.names (record { pid = p; vpn = w }) place v (same_place-true (record { pid = p; vpn = w }) place h)
+    ∙ ap (λ (f : Place → Option Key). changed same_place f place v) n
+given_names (Shared a i) s y z n e = λ place v h. ap (λ (f : Place → Option Key). changed same_place f place v) (e ∙ n)
+
+-- its place names what it named, where it stands beside the tables
+pub given_beside : (k : Key) (s y z : StateOf) → y.names ≡ s.names → y.aside ≡ s.aside → z.names ≡ names_after_give y k → (place : Place) → s.aside ≡ Some place → k ≡ key_of_place place → z.names ≡ s.names
+given_beside k s y z n o e place a q =
+    e ∙ ap (names_after_give y) q ∙ ap (λ (x : Option Place). names_given x y.names place) (o ∙ a)
+    ∙ ap (λ (b : Bool). if b then y.names else changed same_place y.names place (Some (key_of_place place))) (same_place-self place) ∙ n
+
+-- its frame can be written
+pub given_soiled : (l m : FrameLife) (f : Frame) (k : Key) → m ≡ after_move l (move.Give f k) → (record_at m.frames f.0).owner ≡ Some k → IsSoiled (record_at m.frames f.0)
+given_soiled l m f k e o = elim (set_there l.frames.records f.0 (given k)) [
+  | inl h ↦ let all = ap (λ (x : FrameLife). record_at x.frames f.0) e ∙ h in record { changed = ap (λ (r : Record). r.changed) all; calm = ap (λ (r : Record). is_calm r.request) all }
+  | inr h ↦ let bad : None ≡ Some k = sym (ap (λ (x : FrameLife). (record_at x.frames f.0).owner) e ∙ ap (λ (r : Record). r.owner) h.0) ∙ o in cc
+]
+
+-- ---- A page becomes valid at a place
+
+pub own_test : (test : Key → Bool) (r : Record) (k : Key) → r.owner ≡ Some k → owner_is test r ≡ test k
+own_test test r k e = ap (λ (o : Option Key). unwrap_or (option_map test o) false) e
+
+pub map_legal : (k : Key) (f : Frame) (place : Place) (s : StateOf) → StateHolds s → InQuietFrame k f s → fits_place place k ≡ true → s.life.valid place ≡ None → touches place.pid.0 s.life.kind ≡ true → is_below_max (set_of s.life place.pid.0) ≡ true → IsLegal (move.Map f place) s.life
+map_legal k f place s h i fits free touch below =
+    let own : owner_is (fits_place place) (record_at s.life.frames f.0) ≡ true = own_test (fits_place place) (record_at s.life.frames f.0) k (h.owner k f i.stands) ∙ fits in
+    let quiet = i.quiet in
+    let none : is_none (s.life.valid place) ≡ true = ap is_none free in
+    grind (arith, own, quiet, none, touch, below)
+
+-- a key without bytes is dead
+pub dead_of : (k : Key) (s : StateOf) → StateHolds s → s.contents k ≡ None → is_dead (s.life.stands k) ≡ true
+dead_of k s h e = not_false (is_dead (s.life.stands k)) (h.live k ∙ ap is_some e)
+
+pub may_map : (k : Key) (f : Frame) (place : Place) (s : StateOf) → StateHolds s → InQuietFrame k f s → (is_shared k ≡ true → s.contents (key_of_place place) ≡ None) → MayMap s f place
+may_map k f place s h i alone = λ e. dead_of (key_of_place place) s h (alone (sym (own_test is_shared (record_at s.life.frames f.0) k (h.owner k f i.stands)) ∙ e))
+
+placed_same : (s z : StateOf) (place : Place) (n : Place → Option Key) → s.aside ≡ None → z ≡ record (moved s z) { names = n; aside = left_by s.aside place } → z ≡ record (moved_with_call s z) { names = z.names }
+placed_same s z place n a e =
+    moved_on s z n s.aside (e ∙ ap (λ (x : Option Place). record (moved s z) { names = n; aside = x }) (ap (λ (x : Option Place). left_by x place) a ∙ sym a))
+    ∙ ap (λ (x : Place → Option Key). record (moved_with_call s z) { names = x }) (sym (ap (λ (x : StateOf). x.names) e))
+
+pub placed_by : (k : Key) (f : Frame) (place : Place) (s z : StateOf) → StateHolds s → InQuietFrame k f s → s.aside ≡ None → Made (move.Map f place) s z → z ≡ record (moved s z) { names = names_after_map s f place; aside = left_by s.aside place }
+    → is_read (record_at z.life.frames f.0).request ≡ false → Placed k f place s z
+placed_by k f place s z h i a m e quiet = record {
+  valid = ap (λ (l : FrameLife). l.valid place) m.life ∙ ap (λ (b : Bool). if b then Some f else s.life.valid place) (same_place-self place);
+  names = ap (λ (x : StateOf). x.names) e ∙ ap (λ (o : Option Key). changed same_place s.names place o) (h.owner k f i.stands);
+  kind = ap (λ (l : FrameLife). l.kind) m.life;
+  frame = record { stands = ap (λ (l : FrameLife). l.stands k) m.life ∙ i.stands; quiet = quiet };
+  same = placed_same s z place (names_after_map s f place) a e;
+}
+
+-- so it is after another page was unmapped
+pub placed_after : (k : Key) (f : Frame) (place : Place) (s y z : StateOf) → y.life.kind ≡ s.life.kind → y ≡ moved s y → Placed k f place y z → Placed k f place s z
+placed_after k f place s y z kind e q = record {
+  valid = q.valid;
+  names = q.names ∙ ap (λ (x : StateOf). changed same_place x.names place (Some k)) e;
+  kind = q.kind ∙ kind;
+  frame = q.frame;
+  same = q.same ∙ ap (λ (x : StateOf). record (moved_with_call x z) { names = z.names }) e;
+}
+
+-- ---- the piece
+
+pub went_map : (a : Aim) (f : Frame) (place : Place) (s z : StateOf) → a.place ≡ place → Made (move.Map f place) s z → Went a 0 s z
+went_map a f place s z e m = went_one a (move.Map f place) s z m (sym e) refl (omega arith) (omega arith)
+
+pub went_unmap_map : (a : Aim) (f : Frame) (place p : Place) (s y z : StateOf) → a.place ≡ place → p.pid ≡ place.pid → is_at_max (set_of s.life place.pid.0) ≡ true → IsOldest s.life s.ages None p → Made (move.Unmap p) s y → Made (move.Map f place) y z → Went a 0 s z
+went_unmap_map a f place p s y z e q full old u m = piece_of a IsFresh 0 0 0 [] (move.Unmap p ∷ move.Map f place ∷ []) s z (does_two (move.Unmap p) (move.Map f place) s y z u m)
+    (FromFull (q ∙ ap (λ (x : Place). x.pid) (sym e)) (ap (λ (x : Pid). is_at_max (set_of s.life x.0)) q ∙ full) old (f, ap (λ (x : Place). move.Map f x) (sym e)), (sym e, tt)) refl (omega arith) (omega arith)
+
+-- ---- the oldest page of a full set
+
+resident_full : (t : ResidentSet) → 1 ≤ t.max → is_at_max (Some t) ≡ true → 1 ≤ t.resident
+resident_full t m e = grind (arith, m, e)
+
+full_some : (l : FrameLife) (pid : ℕ) → HasSet l pid → is_at_max (set_of l pid) ≡ true → 1 ≤ residents (set_of l pid)
+full_some l pid h e =
+    let some = resident_full h.set h.some (ap is_at_max (sym h.found) ∙ e) in
+    subst (λ (o : Option ResidentSet). 1 ≤ residents o) (sym h.found) some
+
+-- a full set has a page
+pub some_page : (s : StateOf) (pid : ℕ) → StateHolds s → HasSet s.life pid → is_at_max (set_of s.life pid) ≡ true → NoPageFollows s.life s.ages pid None → ⊥
+some_page s pid h t full none = ∥∥₁_elim h.reached (hlevel props) (λ r.
+    let old = set_oldest s.life (reached_sound s.life r) s.ages pid (full_some s.life pid t full) in
+    none old.0 old.1.0 (sym (all_go s.life old.0) ∙ old.1.1.goes) tt)
+
+pub unmapped_stands : (l : FrameLife) (p : Place) (o : Option Frame) → (after_unmap_at o l p).stands ≡ l.stands
+unmapped_stands l p None = refl
+unmapped_stands l p (Some f) = refl
+
+-- a page stays in its frame where a place is valid no more
+pub in_frame_then : (k : Key) (f : Frame) (s y : StateOf) (p : Place) → InQuietFrame k f s → y.life ≡ after_move s.life (move.Unmap p) → ((g : Frame) → (record_at y.life.frames g.0).request ≡ (record_at s.life.frames g.0).request) → InQuietFrame k f y
+in_frame_then k f s y p i e r = record {
+  stands = ap (λ (x : FrameLife). x.stands k) e ∙ ap (λ (g : Key → Held). g k) (unmapped_stands s.life p (s.life.valid p)) ∙ i.stands;
+  quiet = ap is_read (r f) ∙ i.quiet;
+}
+
+pub unmapped_still : (l : FrameLife) (p q : Place) (o : Option Frame) → l.valid q ≡ None → (after_unmap_at o l p).valid q ≡ None
+unmapped_still l p q None e = e
+unmapped_still l p q (Some f) e = at (same_place q p)
+  where
+    at : (b : Bool) → (if b then None else l.valid q) ≡ None
+    at true = refl
+    at false = e

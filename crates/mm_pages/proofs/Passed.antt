@@ -41,8 +41,9 @@ module _ (on : Direction → Bool → Backing → List DeviceCall) where
 pub record Joins (P Q R : Behind → List Move → Behind → Type 0) : Type 0 where
   pub join : (b c d : Behind) (xs ys : List Move) → Replays xs b.life c.life → P b xs c → Q c ys d → R b (xs ++ ys) d
 
-passes_both : (P Q R : Behind → List Move → Behind → Type 0) (s y z : StoreOf) (b c d : Behind) → Joins P Q R → Passes P s y b c → Passes Q y z c d → Passes R s z b d
-passes_both P Q R s y z b c d j p q = record {
+pub passes_then : (u : Bool) (P Q R : Behind → List Move → Behind → Type 0) (s y z : StoreOf) (b c d : Behind) → Joins P Q R → PassesIn u P s y b c → PassesIn u Q y z c d → PassesIn u R s z b d
+passes_then true P Q R s y z b c d j p q = q ∙ p
+passes_then false P Q R s y z b c d j p q = record {
   moves = p.moves ++ q.moves;
   in_range = moves-append p.moves q.moves p.in_range q.in_range;
   grew = subst (λ xs. Grew b.log d.log xs) (sym (spelled-append p.moves q.moves)) (grew_then b.log c.log d.log _ _ p.grew q.grew);
@@ -58,10 +59,6 @@ passes_both P Q R s y z b c d j p q = record {
   slots_kept = subst (λ cs. KeepsOthers cs b.slots d.slots) (sym (calls_then in_slot p.moves q.moves b.life c.life p.replays)) (keeps_then _ _ b.slots c.slots d.slots p.slots_kept q.slots_kept);
   blocks_kept = subst (λ cs. KeepsOthers cs s.file_blocks z.file_blocks) (sym (calls_then in_block p.moves q.moves b.life c.life p.replays)) (keeps_then _ _ s.file_blocks y.file_blocks z.file_blocks p.blocks_kept q.blocks_kept);
 }
-
-pub passes_then : (u : Bool) (P Q R : Behind → List Move → Behind → Type 0) (s y z : StoreOf) (b c d : Behind) → Joins P Q R → PassesIn u P s y b c → PassesIn u Q y z c d → PassesIn u R s z b d
-passes_then true P Q R s y z b c d j p q = q ∙ p
-passes_then false P Q R s y z b c d j p q = passes_both P Q R s y z b c d j p q
 
 -- ---- more places, in a wider range
 
@@ -220,9 +217,8 @@ makes_wider u from to low high s z b c l h p =
 -- ---- calls that make no move
 
 pub turned_none : (t : Turn) (l : FrameLife) → Turned t l []
-turned_none (MakesFrom from to) l = record { all = tt; order = tt; lowest = tt }
 turned_none (MakesStack guard) l = record { all = tt; order = record { pages = []; last = []; whole = refl; above = tt; below = tt }; lowest = tt }
-turned_none (Ends held from to) l = record { all = tt; order = tt; lowest = tt }
+turned_none _ l = record { all = tt; order = tt; lowest = tt }
 
 -- where pages come to be and none has a number, none does
 pub none_made : (l : FrameLife) (ms : List Move) → Turned (MakesFrom 0 0) l ms → ms ≡ []
@@ -238,10 +234,6 @@ pub idle_then : (u : Bool) (turn : Turn) (s y z : StoreOf) (b c d : Behind) → 
 idle_then u turn s y z b c d p q =
     any_turn u turn s z b d (makes_then u 0 0 0 s y z b c d (omega arith) (omega arith) (p (MakesFrom 0 0)) (q (MakesFrom 0 0)))
 
--- a call that makes none before another, or behind it
-only_lists : (t : Turn) (xs : List Move) (l : FrameLife) → xs ≡ [] → (ys : List Move) → Turned t l ys → Turned t l (xs ++ ys)
-only_lists t xs l e ys h = subst (λ (zs : List Move). Turned t l (zs ++ ys)) (sym e) h
-
 pub idle_before : (u : Bool) (t : Turn) (s y z : StoreOf) (b c d : Behind) → ((turn : Turn) → PassesIn u (Turns turn) s y b c) → PassesIn u (Turns t) y z c d → PassesIn u (Turns t) s z b d
 idle_before u t s y z b c d p q =
     passes_then u (Turns (MakesFrom 0 0)) (Turns t) (Turns t) s y z b c d
@@ -250,7 +242,7 @@ idle_before u t s y z b c d p q =
           let none = none_made b.life xs v.turned in
           let same : c.life ≡ b.life = subst (λ (zs : List Move). Replays zs b.life c.life) none r in
           record {
-            turned = only_lists t xs b.life none ys (subst (λ (l : FrameLife). Turned t l ys) same w.turned);
+            turned = subst (λ (zs : List Move). Turned t b.life (zs ++ ys)) (sym none) (subst (λ (l : FrameLife). Turned t l ys) same w.turned);
             moved = moved_then b c d xs ys v.moved w.moved;
             slots = w.slots ∙ v.slots;
           };

@@ -3,7 +3,8 @@ use Rattle.std.proofs.Common.{◌≡◌, ◌≢◌, ◌≤◌, ◌<◌, ◌^◌,
 use Rattle.std.proofs.lemmas.Bool.{eqb-true, cases_lt}
 use Rattle.std.proofs.lemmas.List.Quantifiers.{position-Some}
 use Rattle.std.specs.Prelude.{◌==◌, ◌&&◌, ◌||◌, position}
-use Rattle.mm_types.proofs.{parts}
+use Rattle.mm_types.proofs.{parts, get_within}
+use Rattle.mm_life.proofs.{same_key-self}
 use Rattle.mm_types.specs.{end_of, end_of_user_pages, Held, Move, Area, Frame, Key, Place, Kind, first_user_page}
 use Rattle.mm_types.specs.declared.frames.Held.TheVariants as held
 use Rattle.mm_types.specs.declared.moves.Move.TheVariants as move
@@ -35,28 +36,15 @@ unmapped_other (Some f) l p q e = ap (λ b. cond b None (l.valid q)) e
 
 dropped_valid : (h : Held) (l : FrameLife) (k : Key) (p : Place) → (dropped_at h l k).valid p ≡ l.valid p
 dropped_valid (held.Frame f) l k p = refl
-dropped_valid (held.Slot s) l k p = refl
-dropped_valid (held.Block b) l k p = refl
-dropped_valid held.Zero l k p = refl
-dropped_valid held.Dead l k p = refl
+dropped_valid _ l k p = cc
 
 dropped_stands : (h : Held) (l : FrameLife) (k q : Key) → (dropped_at h l k).stands q ≡ cond (same_key q k) held.Dead (l.stands q)
 dropped_stands (held.Frame f) l k q = refl
-dropped_stands (held.Slot s) l k q = refl
-dropped_stands (held.Block b) l k q = refl
-dropped_stands held.Zero l k q = refl
-dropped_stands held.Dead l k q = refl
+dropped_stands _ l k q = cc
 
 dropped_paging : (h : Held) (l : FrameLife) (k q : Key) → (dropped_at h l k).paging q ≡ cond (same_key q k) false (l.paging q)
 dropped_paging (held.Frame f) l k q = refl
-dropped_paging (held.Slot s) l k q = refl
-dropped_paging (held.Block b) l k q = refl
-dropped_paging held.Zero l k q = refl
-dropped_paging held.Dead l k q = refl
-
-itself : (k : Key) → same_key k k ≡ true
-itself (key.Private p v) = grind arith
-itself (key.Shared a i) = grind arith
+dropped_paging _ l k q = cc
 
 -- the page-file keys live
 abbrev PagingLives : FrameLife → Type 0
@@ -85,7 +73,7 @@ unmap_valid l p h e =
 
 -- ---- two lists of moves that are one
 
-place_of : (p q : Place) → p.pid.0 ≡ q.pid.0 → p.vpn.0 ≡ q.vpn.0 → p ≡ q
+pub place_of : (p q : Place) → p.pid.0 ≡ q.pid.0 → p.vpn.0 ≡ q.vpn.0 → p ≡ q
 place_of p q e f = λ i. record { pid = record { 0 = e i }; vpn = record { 0 = f i } }
 
 -- what two lists of moves leave alike: which keys live; and which places are not valid
@@ -121,9 +109,8 @@ module _ (goes : Leaving) (pid from to : ℕ) (mine : (p : Place) → goes.place
 
   same_rank : (k q : Key) → same_key k q ≡ true → key_rank k ≡ key_rank q
   same_rank (key.Private p v) (key.Private q w) e = ap page_rank (eqb-true v.0 w.0 (parts (p.0 == q.0) (v.0 == w.0) e).1)
-  same_rank (key.Private p v) (key.Shared a i) e = cc
-  same_rank (key.Shared a i) (key.Private p v) e = cc
   same_rank (key.Shared a i) (key.Shared b j) e = ap goes.rank (eqb-true a.0 b.0 (parts (a.0 == b.0) (i == j) e).0)
+  same_rank _ _ e = cc
 
   other_key : (k q : Key) (b : Bool) → same_key k q ≡ b → key_rank k < key_rank q → b ≡ false
   other_key k q true e h = let same = same_rank k q e in absurd (omega (arith, same, h))
@@ -180,7 +167,7 @@ module _ (goes : Leaving) (pid from to : ℕ) (mine : (p : Place) → goes.place
       unmap_valid l p legal (sym (place_stays ys l n low p b r f less) ∙ h.second p t)
   missed (move.Drop k) xs ys l m n low lives h t legal a e b r f less =
       let here : l.stands k ≡ n.stands k = sym (key_stays ys l n low k b r f (rank_is k less)) in
-      let dead : m.stands k ≡ held.Dead = dead_stays xs (after_move l (move.Drop k)) m k a e (dropped_stands (l.stands k) l k k ∙ ap (λ b. cond b held.Dead (l.stands k)) (itself k)) in
+      let dead : m.stands k ≡ held.Dead = dead_stays xs (after_move l (move.Drop k)) m k a e (dropped_stands (l.stands k) l k k ∙ ap (λ b. cond b held.Dead (l.stands k)) (same_key-self k)) in
       let bad : true ≡ false = sym (lives k (drop_paging l k legal)) ∙ ap (λ (s : Held). not (is_dead s)) here ∙ sym (h.live k) ∙ ap (λ (s : Held). not (is_dead s)) dead in cc
     where
       rank_is : (k : Key) → move_rank (move.Drop k) < low → key_rank k < low
@@ -294,8 +281,6 @@ later_end from (suc i) (x ∷ rs) r h at =
     omega (arith, h.0.later, h.0.some, later)
 
 one_end : (from i j : ℕ) (rs : List (RegionOf Page)) (r q : RegionOf Page) → LaidOut from rs → slice_get rs i ≡ Some r → slice_get rs j ≡ Some q → end_of (pages_of r) ≡ end_of (pages_of q) → r ≡ q
-one_end from i j [] r q h at there e = cc
-one_end from zero zero (x ∷ rs) r q h at there e = cc
 one_end from zero (suc j) (x ∷ rs) r q h at there e =
     let same : x ≡ r = cc in
     let end : end_of (pages_of x) ≡ end_of (pages_of r) = ap (λ (r : RegionOf Page). end_of (pages_of r)) same in
@@ -305,6 +290,7 @@ one_end from (suc i) zero (x ∷ rs) r q h at there e =
     let end : end_of (pages_of x) ≡ end_of (pages_of q) = ap (λ (r : RegionOf Page). end_of (pages_of r)) same in
     let later = later_end (end_of (pages_of x)) i rs r h.1 at in absurd (omega (arith, end, e, later))
 one_end from (suc i) (suc j) (x ∷ rs) r q h at there e = one_end (end_of (pages_of x)) i j rs r q h.1 at there e
+one_end from _ _ _ r q h at there e = cc
 
 -- how a process gives up a section: with a view, or with a handle
 data With (n rank : ℕ) (p : ProcessOf Page) : Type 0 where
@@ -334,11 +320,6 @@ one_area : (a b : ℕ) (s : Option SectionOf) → uses a s ≡ true → uses b s
 one_area a b None e f = cc
 one_area a b (Some s) e f = sym (eqb-true s.area a e) ∙ eqb-true s.area b f
 
-inside : {A : Type 0} (xs : List A) (i : ℕ) (x : A) → slice_get xs i ≡ Some x → i < length xs
-inside [] i x at = cc
-inside (y ∷ xs) zero x at = omega arith
-inside (y ∷ xs) (suc i) x at = let h = inside xs i x at in omega (arith, h)
-
 module _ (p : ProcessOf Page) (space : LaidOut first_user_page p.regions) (few : length p.handles < 2 ^ 32) where
   one_section : (n m r q : ℕ) → r ≡ q → With n r p → With m q p → n ≡ m
   one_section n m r q e (View i x at is rank) (View j y there its rank') =
@@ -348,10 +329,10 @@ module _ (p : ProcessOf Page) (space : LaidOut first_user_page p.regions) (few :
       one_viewed n m y.kind (ap (λ (r : RegionOf Page). is_view_of n r.kind) (sym same) ∙ is) its
   one_section n m r q e (View i x at is rank) (Handle j h there its rank') =
       let first = later_end first_user_page i p.regions x space at in
-      let low = inside p.handles j h there in absurd (omega (arith, e, rank, rank', first, low, few))
+      let low = get_within p.handles j h there in absurd (omega (arith, e, rank, rank', first, low, few))
   one_section n m r q e (Handle j h there its rank') (View i x at is rank) =
       let first = later_end first_user_page i p.regions x space at in
-      let low = inside p.handles j h there in absurd (omega (arith, e, rank, rank', first, low, few))
+      let low = get_within p.handles j h there in absurd (omega (arith, e, rank, rank', first, low, few))
   one_section n m r q e (Handle i h at is rank) (Handle j k there its rank') =
       let index : i ≡ j = omega (arith, e, rank, rank') in
       let both : Some h ≡ Some k = sym at ∙ ap (slice_get p.handles) index ∙ there in
@@ -360,7 +341,7 @@ module _ (p : ProcessOf Page) (space : LaidOut first_user_page p.regions) (few :
 
   no_page : (n r page : ℕ) → r ≡ page_rank page → With n r p → ⊥
   no_page n r page e (View i x at is rank) = let first = later_end first_user_page i p.regions x space at in omega (arith, e, rank, first)
-  no_page n r page e (Handle i h at is rank) = let low = inside p.handles i h at in omega (arith, e, rank, low, few)
+  no_page n r page e (Handle i h at is rank) = let low = get_within p.handles i h at in omega (arith, e, rank, low, few)
 
 -- the section that an area goes with
 record Goer (w : World) (pid area : ℕ) : Type 0 where

@@ -28,9 +28,8 @@ no_slot l k a b c d e h =
     let bad : false ≡ true = never a b c d (subst (λ (x : LineKind). IsTrue (a && b && c && (is_access x || (is_writer x && d)))) e h) in cc
 
 one_backing : (b c : ℕ) (k : Backing) → is_block b k ≡ true → is_block c k ≡ true → c ≡ b
-one_backing b c backing.None p q = cc
-one_backing b c (backing.Slot s) p q = cc
 one_backing b c (backing.Block d) p q = sym (eqb-true d.0 c q) ∙ eqb-true d.0 b p
+one_backing b c _ p q = cc
 
 -- in a call a page is written to the block that backs it
 one_home : (l : FrameLife) (f : ℕ) (r : Record) (s t : Stored) → l.kind ≡ kind.Call → IsTrue (is_legal_write l f r s) → IsTrue (is_legal_write l f r t) → t ≡ s
@@ -58,30 +57,24 @@ ended_by f x y s e (inl d) = record { home = s; good = true; are = λ i. e i ∷
 ended_by f x y s e (inr d) = record { home = s; good = false; are = λ i. e i ∷ d i ∷ [] }
 
 now_is : (f : Frame) (ms : List Move) → IsWrittenNow f ms → Now f ms
-now_is f [] p = absurd p
-now_is f (x ∷ []) p = absurd p
 now_is f (x ∷ y ∷ []) p = ended_by f x y p.0.0 p.0.1 p.1
-now_is f (x ∷ y ∷ z ∷ ms) p = absurd p
+now_is f _ p = absurd (omega arith)
 
 same_good : (f : Frame) (s t : Stored) (g h : Bool) (us vs : List Move) → AnswerAlike (outcomes (move.Write f s ∷ ending f g ∷ us)) (outcomes (move.Write f t ∷ ending f h ∷ vs)) → h ≡ g
-same_good f s t true true us vs a = refl
 same_good f s t true false us vs a = sym a.0
 same_good f s t false true us vs a = sym a.0
-same_good f s t false false us vs a = refl
+same_good f s t _ _ us vs a = cc
 
 module _ (l m n : FrameLife) (f : Frame) (us vs : List Move) (call : l.kind ≡ kind.Call) where
-  one_now : (xs ys : List Move) → Now f xs → Now f ys → Replays (xs ++ us) l m → Replays (ys ++ vs) l n → AnswerAlike (outcomes (xs ++ us)) (outcomes (ys ++ vs)) → ys ≡ xs
-  one_now xs ys p q r t a =
-      let first = subst (λ (zs : List Move). Replays (zs ++ us) l m) p.are r in
-      let second = subst (λ (zs : List Move). Replays (zs ++ vs) l n) q.are t in
-      let alike = subst (λ (zs : List Move). AnswerAlike (outcomes (zs ++ us)) (outcomes (move.Write f q.home ∷ ending f q.good ∷ vs))) p.are
-      (subst (λ (zs : List Move). AnswerAlike (outcomes (xs ++ us)) (outcomes (zs ++ vs))) q.are a) in
-      let home = one_home l f.0 (record_at l.frames f.0) p.home q.home call first.0 second.0 in
-      let good = same_good f p.home q.home p.good q.good us vs alike in
-      q.are ∙ (λ i. move.Write f (home i) ∷ ending f (good i) ∷ []) ∙ sym p.are
-
   one_if : (changed : Bool) (xs ys : List Move) → IsWrittenIf changed f xs → IsWrittenIf changed f ys → Replays (xs ++ us) l m → Replays (ys ++ vs) l n → AnswerAlike (outcomes (xs ++ us)) (outcomes (ys ++ vs)) → ys ≡ xs
-  one_if true xs ys p q r t a = one_now xs ys (now_is f xs p) (now_is f ys q) r t a
+  one_if true xs ys p q r t a =
+      let first = subst (λ (zs : List Move). Replays (zs ++ us) l m) (now_is f xs p).are r in
+      let second = subst (λ (zs : List Move). Replays (zs ++ vs) l n) (now_is f ys q).are t in
+      let alike = subst (λ (zs : List Move). AnswerAlike (outcomes (zs ++ us)) (outcomes (move.Write f (now_is f ys q).home ∷ ending f (now_is f ys q).good ∷ vs))) (now_is f xs p).are
+      (subst (λ (zs : List Move). AnswerAlike (outcomes (xs ++ us)) (outcomes (zs ++ vs))) (now_is f ys q).are a) in
+      let home = one_home l f.0 (record_at l.frames f.0) (now_is f xs p).home (now_is f ys q).home call first.0 second.0 in
+      let good = same_good f (now_is f xs p).home (now_is f ys q).home (now_is f xs p).good (now_is f ys q).good us vs alike in
+      (now_is f ys q).are ∙ (λ i. move.Write f (home i) ∷ ending f (good i) ∷ []) ∙ sym (now_is f xs p).are
   one_if false xs ys p q r t a = q ∙ sym p
 
 -- ---- a page whose write is waited for
@@ -115,18 +108,14 @@ module _ (l m n : FrameLife) (f : Frame) (us vs : List Move) (call : l.kind ≡ 
   one_waited again xs ys (Failed e) (Failed d) r t a = d ∙ sym e
 
   one_by : (q : Request) (changed : Bool) (xs ys : List Move) → FlushesBy q changed f xs → FlushesBy q changed f ys → Replays (xs ++ us) l m → Replays (ys ++ vs) l n → AnswerAlike (outcomes (xs ++ us)) (outcomes (ys ++ vs)) → ys ≡ xs
-  one_by request.None changed xs ys p q r t a = one_if l m n f us vs call changed xs ys p q r t a
-  one_by request.Read changed xs ys p q r t a = one_if l m n f us vs call changed xs ys p q r t a
   one_by request.Write changed xs ys p q r t a = one_waited false xs ys (waited_is false f xs p) (waited_is false f ys q) r t a
   one_by request.WriteAgain changed xs ys p q r t a = one_waited true xs ys (waited_is true f xs p) (waited_is true f ys q) r t a
+  one_by _ changed xs ys p q r t a = one_if l m n f us vs call changed xs ys p q r t a
 
 one_page : (l m n : FrameLife) (us vs : List Move) → l.kind ≡ kind.Call → (h : Held) (xs ys : List Move) → FlushedAt l h xs → FlushedAt l h ys → Replays (xs ++ us) l m → Replays (ys ++ vs) l n → AnswerAlike (outcomes (xs ++ us)) (outcomes (ys ++ vs)) → ys ≡ xs
 one_page l m n us vs call (held.Frame f) xs ys p q r t a =
     let kept = record_at l.frames f.0 in one_by l m n f us vs call kept.request kept.changed xs ys p q r t a
-one_page l m n us vs call (held.Slot s) xs ys p q r t a = q ∙ sym p
-one_page l m n us vs call (held.Block b) xs ys p q r t a = q ∙ sym p
-one_page l m n us vs call held.Zero xs ys p q r t a = q ∙ sym p
-one_page l m n us vs call held.Dead xs ys p q r t a = q ∙ sym p
+one_page l m n us vs call _ xs ys p q r t a = q ∙ sym p
 
 -- ---- the line stays a call
 
@@ -138,12 +127,9 @@ ended_kind : (l : FrameLife) (f : Frame) (g : Bool) → (after_move l (ending f 
 ended_kind l f true = refl
 ended_kind l f false = refl
 
-now_kind : (l : FrameLife) (f : Frame) (xs : List Move) → Now f xs → (life_through l xs).kind ≡ l.kind
-now_kind l f xs p =
-    ap (λ (zs : List Move). (life_through l zs).kind) p.are ∙ ended_kind (after_move l (move.Write f p.home)) f p.good ∙ written_kind l f p.home
-
 if_kind : (l : FrameLife) (f : Frame) (changed : Bool) (xs : List Move) → IsWrittenIf changed f xs → (life_through l xs).kind ≡ l.kind
-if_kind l f true xs p = now_kind l f xs (now_is f xs p)
+if_kind l f true xs p =
+    ap (λ (zs : List Move). (life_through l zs).kind) (now_is f xs p).are ∙ ended_kind (after_move l (move.Write f (now_is f xs p).home)) f (now_is f xs p).good ∙ written_kind l f (now_is f xs p).home
 if_kind l f false xs p = ap (λ (zs : List Move). (life_through l zs).kind) p
 
 waited_kind : (l : FrameLife) (f : Frame) (again : Bool) (xs : List Move) → Waited again f xs → (life_through l xs).kind ≡ l.kind
@@ -151,17 +137,13 @@ waited_kind l f again xs (Good rest e p) = ap (λ (zs : List Move). (life_throug
 waited_kind l f again xs (Failed e) = ap (λ (zs : List Move). (life_through l zs).kind) e
 
 by_kind : (l : FrameLife) (f : Frame) (q : Request) (changed : Bool) (xs : List Move) → FlushesBy q changed f xs → (life_through l xs).kind ≡ l.kind
-by_kind l f request.None changed xs p = if_kind l f changed xs p
-by_kind l f request.Read changed xs p = if_kind l f changed xs p
 by_kind l f request.Write changed xs p = waited_kind l f false xs (waited_is false f xs p)
 by_kind l f request.WriteAgain changed xs p = waited_kind l f true xs (waited_is true f xs p)
+by_kind l f _ changed xs p = if_kind l f changed xs p
 
 page_kind : (l : FrameLife) (h : Held) (xs : List Move) → FlushedAt l h xs → (life_through l xs).kind ≡ l.kind
 page_kind l (held.Frame f) xs p = let kept = record_at l.frames f.0 in by_kind l f kept.request kept.changed xs p
-page_kind l (held.Slot s) xs p = ap (λ (zs : List Move). (life_through l zs).kind) p
-page_kind l (held.Block b) xs p = ap (λ (zs : List Move). (life_through l zs).kind) p
-page_kind l held.Zero xs p = ap (λ (zs : List Move). (life_through l zs).kind) p
-page_kind l held.Dead xs p = ap (λ (zs : List Move). (life_through l zs).kind) p
+page_kind l _ xs p = ap (λ (zs : List Move). (life_through l zs).kind) p
 
 -- ---- pages one after another
 
@@ -171,21 +153,11 @@ behind_replays (x ∷ xs) us l m r = behind_replays xs us (after_move l x) m r.1
 
 behind_alike : (xs us vs : List Move) → AnswerAlike (outcomes (xs ++ us)) (outcomes (xs ++ vs)) → AnswerAlike (outcomes us) (outcomes vs)
 behind_alike [] us vs a = a
-behind_alike (move.At n k ∷ xs) us vs a = behind_alike xs us vs a
-behind_alike (move.Add k b ∷ xs) us vs a = behind_alike xs us vs a
-behind_alike (move.Drop k ∷ xs) us vs a = behind_alike xs us vs a
-behind_alike (move.Clear f ∷ xs) us vs a = behind_alike xs us vs a
-behind_alike (move.Steal f ∷ xs) us vs a = behind_alike xs us vs a
-behind_alike (move.Give f k ∷ xs) us vs a = behind_alike xs us vs a
-behind_alike (move.Read f k ∷ xs) us vs a = behind_alike xs us vs a
 behind_alike (move.Got f ∷ xs) us vs a = behind_alike xs us vs a.1
 behind_alike (move.Bad f ∷ xs) us vs a = behind_alike xs us vs a.1
-behind_alike (move.Map f p ∷ xs) us vs a = behind_alike xs us vs a
-behind_alike (move.Unmap p ∷ xs) us vs a = behind_alike xs us vs a
-behind_alike (move.Soil f ∷ xs) us vs a = behind_alike xs us vs a
-behind_alike (move.Write f s ∷ xs) us vs a = behind_alike xs us vs a
 behind_alike (move.Wrote f ∷ xs) us vs a = behind_alike xs us vs a.1
 behind_alike (move.Lost f ∷ xs) us vs a = behind_alike xs us vs a.1
+behind_alike (_ ∷ xs) us vs a = behind_alike xs us vs a
 
 pub flushed : (ks : List Key) (l m n : FrameLife) (xs ys : List Move) → l.kind ≡ kind.Call → Flushing l ks xs → Flushing l ks ys → Replays xs l m → Replays ys l n → AnswerAlike (outcomes xs) (outcomes ys) → ys ≡ xs
 flushed [] l m n xs ys call p q r t a = q ∙ sym p

@@ -2,7 +2,8 @@
 use Rattle.std.proofs.Common.{◌≡◌, ◌≤◌, ◌<◌, ◌^◌, ℕ, ◌+◌, ◌-◌, Bool, true, false, cond, List, [], ◌∷◌, ◌++◌, map, Option, Some, None, refl, sym, ap, ◌∙◌, subst, inl, inr, ◌⊎◌, arith}
 use Rattle.std.proofs.lemmas.Bool.{eqb-true, and_parts, cases_lt}
 use Rattle.std.specs.Prelude.{IsTrue, not, ◌&&◌, ◌||◌, ◌==◌, nat_lt, if◌then◌else◌, is_some, length, min, slice_get}
-use Rattle.mm_types.proofs.{not_left, not_third}
+use Rattle.mm_types.proofs.{not_left, not_third, same_number}
+use Rattle.mm_life.proofs.{same_key-self, same_key-true}
 use Rattle.mm_types.specs.{Answer, Event, Held, Move, Block, Key, Pid, Place, Frame}
 use Rattle.mm_types.specs.declared.answers.Answer.TheVariants as answer
 use Rattle.mm_types.specs.declared.events.Event.TheVariants as line
@@ -17,7 +18,7 @@ use Rattle.mm_pages.specs.{Makes, MakesFrom, MakesStack, Turned, AllTurn, key_nu
 use Rattle.mm_pages.specs.{backed_by, block_at}
 use Rattle.mm_paging.specs.{lives, Does, Agrees, GivesUp, Trimming, Completing, flushed_keys, is_uncommitted, has_one_log, AnsweredAlike, Did}
 use Rattle.mm_paging.specs.{StandsAlways, StandsBefore}
-use Rattle.mm_paging.proofs.OneEnding.{one_end_log}
+use Rattle.mm_paging.proofs.OneEnding.{one_end_log, place_of}
 use Rattle.mm_paging.proofs.OneFlush.{flushed}
 
 -- ---- the oldest page is one
@@ -25,13 +26,10 @@ use Rattle.mm_paging.proofs.OneFlush.{flushed}
 same_aged : (a b : Aged) → goes_before a b ≡ false → goes_before b a ≡ false → a.page ≡ b.page
 same_aged a b p q = grind (arith, p, q)
 
-same_place : (p q : Place) → p.pid.0 ≡ q.pid.0 → p.vpn.0 ≡ q.vpn.0 → p ≡ q
-same_place p q e f = λ i. record { pid = record { 0 = e i }; vpn = record { 0 = f i } }
-
 one_oldest : (w : Walk) (p q : Place) → p.pid ≡ q.pid → IsOldest w.life w.ages None p → IsOldest w.life w.ages None q → q ≡ p
 one_oldest w p q e a b =
     let same : p.pid.0 ≡ q.pid.0 = ap (λ (x : Pid). x.0) e in
-    sym (same_place p q same (same_aged (record { page = p.vpn.0; age = w.ages p }) (record { page = q.vpn.0; age = w.ages q }) (b.first p same a.goes) (a.first q (sym same) b.goes)))
+    sym (place_of p q same (same_aged (record { page = p.vpn.0; age = w.ages p }) (record { page = q.vpn.0; age = w.ages q }) (b.first p same a.goes) (a.first q (sym same) b.goes)))
 
 trims_one : (pid : Pid) (w : Walk) (xs ys : List Move) → length xs ≡ length ys → Through (TrimMove pid) w xs → Through (TrimMove pid) w ys → ys ≡ xs
 trims_one pid w [] [] n p q = refl
@@ -62,24 +60,6 @@ ended i answer.Fault b c d xs ys p q = completed i false b c d xs ys p q
 ended i _ b c d xs ys p q = q ∙ sym p
 
 -- ---- pages that come to be
-
-same_key-true : (k q : Key) → same_key k q ≡ true → k ≡ q
-same_key-true (key.Private p v) (key.Private q w) e =
-    let h = and_parts (p.0 == q.0) (v.0 == w.0) e in
-    let a : p.0 ≡ q.0 = eqb-true p.0 q.0 h.0 in
-    let b : v.0 ≡ w.0 = eqb-true v.0 w.0 h.1 in
-    (λ i. key.Private (record { 0 = a i }) (record { 0 = b i }))
-same_key-true (key.Private p v) (key.Shared a i) e = cc
-same_key-true (key.Shared a i) (key.Private p v) e = cc
-same_key-true (key.Shared a i) (key.Shared b j) e =
-    let h = and_parts (a.0 == b.0) (i == j) e in
-    let c : a.0 ≡ b.0 = eqb-true a.0 b.0 h.0 in
-    let d : i ≡ j = eqb-true i j h.1 in
-    (λ t. key.Shared (record { 0 = c t }) (d t))
-
-same_again : (k : Key) → same_key k k ≡ true
-same_again (key.Private p v) = grind arith
-same_again (key.Shared a i) = grind arith
 
 -- where a page that came to be stands
 abbrev made_at : Option Block → Held
@@ -119,9 +99,8 @@ block_of_made l (Some b) = refl
 
 one_block : (b e : Option Block) → number_in e ≡ number_in b → e ≡ b
 one_block None None h = refl
-one_block None (Some e) h = cc
-one_block (Some b) None h = cc
 one_block (Some b) (Some e) h = let same : e.0 ≡ b.0 = cc in (λ i. Some (record { 0 = same i }))
+one_block _ _ h = cc
 
 one_made : (l m n : FrameLife) (k : Key) (b e : Option Block) → Alike m n → m.stands k ≡ made_at b → n.stands k ≡ made_at e → e ≡ b
 one_made l m n k b e alike p q =
@@ -148,7 +127,7 @@ module _ (rank : ℕ → ℕ) where
 
   -- the first of them lives at the end, where it came to be
   made_stands : (ms : List Move) (l m : FrameLife) (to : ℕ) (k : Key) (b : Option Block) → AllTurn Makes ms → Climbs (rank (key_number k) + 1) to (ranks ms) → Replays ms (after_add l k b) m → m.stands k ≡ made_at b
-  made_stands ms l m to k b a c r = untouched ms (after_add l k b) m (rank (key_number k) + 1) to k a c r (omega arith) ∙ stands_add l k k b ∙ ap (λ (x : Bool). cond x (made_at b) (l.stands k)) (same_again k)
+  made_stands ms l m to k b a c r = untouched ms (after_add l k b) m (rank (key_number k) + 1) to k a c r (omega arith) ∙ stands_add l k k b ∙ ap (λ (x : Bool). cond x (made_at b) (l.stands k)) (same_key-self k)
 
   -- a key that did not live, and comes to be in one run, does in the other
   comes_in_both : (xs ys : List Move) (l m n : FrameLife) (from to high : ℕ) (k : Key) (b : Option Block) → Alike m n → is_live l k ≡ false → AllTurn Makes xs → Climbs (rank (key_number k) + 1) high (ranks xs) → Replays xs (after_add l k b) m
@@ -209,9 +188,6 @@ made b c d xs ys alike p q r t =
 abbrev last_of : ℕ → ℕ → ℕ → ℕ
 last_of guard top n = cond (n == guard) top n
 
-itself : (n : ℕ) → (n == n) ≡ true
-itself n = grind arith
-
 above_it : (guard n : ℕ) → guard < n → (n == guard) ≡ false
 above_it guard n less = at (n == guard) refl
   where
@@ -228,7 +204,7 @@ module _ (guard top : ℕ) where
   guard_behind low [] h c = tt
   guard_behind low (n ∷ ns) h c =
       let same : n ≡ guard = omega (arith, c.0, c.1) in
-      let is : last_of guard top n ≡ top = ap (λ (k : ℕ). cond (k == guard) top k) same ∙ ap (λ (t : Bool). cond t top guard) (itself guard) in
+      let is : last_of guard top n ≡ top = ap (λ (k : ℕ). cond (k == guard) top k) same ∙ ap (λ (t : Bool). cond t top guard) (same_number guard) in
       let none = no_more guard ns (subst (λ (k : ℕ). Climbs (k + 1) (guard + 1) ns) same c.2) in
       (omega (arith, h, is), omega (arith, is), subst (λ (ks : List ℕ). Climbs (last_of guard top n + 1) (top + 1) (map (last_of guard top) ks)) (sym none) tt)
 

@@ -3,13 +3,13 @@ use Rattle.std.proofs.Common.{◌≡◌, ◌⊎◌, ℕ, ◌+◌, ◌≤◌, tru
 use Rattle.std.specs.Prelude.{is_some, option_map, unwrap_or}
 use Rattle.std.proofs.Math.Logic.{∥∥₁_elim, ∥∥₁_map}
 use Rattle.std.proofs.Props.{props}
-use Rattle.mm_types.specs.{Area, Block, Frame, Key, Place}
+use Rattle.mm_types.specs.{Area, Frame, Key, Place}
 use Rattle.mm_types.specs.declared.numbers.Key.TheVariants.{Private, Shared}
 use Rattle.mm_types.specs.declared.frames.Held.TheVariants as held
 use Rattle.mm_life.specs.{ResidentSet, record_at, FrameLife, key_of_place, is_shared, set_in, owner_is}
 use Rattle.mm_laws.specs.{ReachedByMoves}
 use Rattle.mm_laws.proofs.{reached_sound, slot_free, slot_has, slot_one, slot_there, places_counted, same_place-true}
-use Rattle.mm_words.specs.{Entry, Aside, key_entry, own_word, place_from, is_valid_entry}
+use Rattle.mm_words.specs.{Entry, Aside, key_entry, place_from, is_valid_entry}
 use Rattle.mm_words.specs.declared.layout.Entry.TheVariants as entry
 use Rattle.mm_parts.specs.{JoinedParts, owners, owned_by, held_by, life_in, requests, is_aside_entry, EntriesAgree, SlotsAgree, RequestsAgree}
 use Rattle.mm_parts.specs.{SetsAgree, InFrame, IsValidFor, EntrySays, PartsKept}
@@ -47,18 +47,14 @@ module _ (t : JoinedParts) (kept : PartsKept t) where
   pub valid_for : (p : Place) (f : Frame) → (life_in t).valid p ≡ Some f → IsValidFor (life_in t) p f
   valid_for p f v = record { valid = v; shared = (known t kept).shares p f v; page = valid_own p f v }
 
-  -- a private key is on no block
-  own_no_file : (p : Place) (b : Block) → own_word t.words p ≡ entry.InFile b → ⊥
-  own_no_file p b e = elim (beside_or_not t.words.aside p) [
-    | inl off ↦ kept.words.no_file p b (sym (in_table t.words.aside p (t.words.at p) off) ∙ e)
-    | inr x ↦ let bad : true ≡ false = sym (kept.words.beside x.aside x.is) ∙ ap is_aside_entry (sym (x.says (t.words.at p)) ∙ e) in cc
-  ]
-
   pub in_its_frame : (k : Key) (f : Frame) → (life_in t).stands k ≡ held.Frame f → InFrame (life_in t) k f
   in_its_frame k f stands = record { stands = stands; owner = (known t kept).owner k f stands }
 
   pub says_by : (k : Key) (e : Entry) → key_entry t.words k ≡ e → EntrySays (life_in t) k e
-  says_by (Private p v) (entry.InFile b) h = own_no_file (place_from p v) b h
+  says_by (Private p v) (entry.InFile b) h = elim (beside_or_not t.words.aside (place_from p v)) [
+    | inl off ↦ kept.words.no_file (place_from p v) b (sym (in_table t.words.aside (place_from p v) (t.words.at (place_from p v)) off) ∙ h)
+    | inr x ↦ let bad : true ≡ false = sym (kept.words.beside x.aside x.is) ∙ ap is_aside_entry (sym (x.says (t.words.at (place_from p v))) ∙ h) in cc
+  ]
   says_by (Shared a i) (entry.InFile b) h = ap (held_by (owned_by (owners t.table) (Shared a i))) h
   says_by k (entry.Transition f) h = (in_its_frame k f (ap (held_by (owned_by (owners t.table) k)) h), kept.words.transition k f h)
   says_by (Private p v) (entry.Valid f n) h = valid_for (place_from p v) f (at_place t.words (place_from p v) f n kept.words.beside h)

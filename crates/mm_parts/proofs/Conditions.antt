@@ -4,7 +4,7 @@ use Rattle.std.proofs.Common.{suc, Bool, List, [], ◌∷◌, subst, length-appe
 use Rattle.std.specs.Prelude.{◌&&◌, not, is_some, is_none, option_map, unwrap_or, nat_lt, slice_get, ◌==◌, ◌||◌}
 use Rattle.std.proofs.lemmas.Bool.{and_parts, or_left, not-true, ltb-true}
 use Rattle.mm_types.proofs.{get_within, none_is}
-use Rattle.mm_types.specs.{Frame, Area, Pid, Vpn, Key, Place, Backing, Slot, Block, Record, LineKind, Stored}
+use Rattle.mm_types.specs.{Frame, Area, Pid, Vpn, Key, Place, Backing, Slot, Record, LineKind, Stored}
 use Rattle.mm_types.specs.declared.numbers.Key.TheVariants.{Private, Shared}
 use Rattle.mm_life.specs.{record_at, is_first, is_empty, slot_of, is_read, has_request, set_in, set_of, same_place, key_of_place, IsLegal, owner_is}
 use Rattle.mm_life.specs.{fits_place, is_below_max, touches, is_touch, backing_of, is_on, is_access, is_thread, is_writer, is_call, is_stored}
@@ -134,9 +134,8 @@ shares_room t kept f = let most = (known t kept).most (λ pid s e. (kept.ranges.
 -- the prototype word of the page can be set, once the place is valid
 pub name_can : (t : JoinedParts) → PartsKept t → (f : Frame) (place : Place) → (o : Option Key) → (record_at t.table f.0).owner ≡ o → f.0 < length t.table.records
     → ((k : Key) → is_there (key_entry t.words k) ≡ true → has_word t.words k ≡ true) → CanName (made_valid t.words place f) o f
-name_can t kept f place None e low has = tt
-name_can t kept f place (Some (Private p v)) e low has = tt
 name_can t kept f place (Some (Shared a i)) e low has = (has (Shared a i) (framed_there t kept f (Shared a i) e), record { first = (frame_fits t kept f low).first; second = (frame_fits t kept f low).second }, refl)
+name_can t kept f place _ e low has = cc
 
 -- the place's own key, where the page is a private one
 pub own_place : (t : JoinedParts) (f : Frame) (place : Place) (p : Pid) (v : Vpn) → Mappable t f place → (record_at t.table f.0).owner ≡ Some (Private p v) → (record_at t.table f.0).owner ≡ Some (key_of_place place)
@@ -223,8 +222,7 @@ read_new t kept f k legal = new_in t kept f.0 (ap (λ (r : Record). has_request 
 
 some_frame : (free zeroed : List ℕ) (f : ℕ) → (is_first f free || (is_empty free && is_first f zeroed)) ≡ true → is_empty free ≡ true → is_empty zeroed ≡ false
 some_frame [] [] f h e = cc
-some_frame [] (x ∷ xs) f h e = refl
-some_frame (x ∷ xs) zeroed f h e = cc
+some_frame _ _ f h e = cc
 
 -- a frame can be taken for it
 pub read_frame : (t : JoinedParts) (f : Frame) (k : Key) → IsLegal (move.Read f k) (life_in t) → is_empty t.table.free ≡ true → is_empty t.table.zeroed ≡ false
@@ -240,8 +238,12 @@ pub record CanWrite (t : JoinedParts) (f : Frame) (s : Stored) : Type 0 where
   pub goes : can_go_to (backing_to s) (record_at t.table f.0) ≡ true
   pub fewer : is_own_line t.line.kind ≡ false → length t.flight.frames < t.flight.depth
 
-write_slot : (t : JoinedParts) → PartsKept t → (f : Frame) (s : Slot) → IsLegal (move.Write f (stored.Slot s)) (life_in t) → CanWrite t f (stored.Slot s)
-write_slot t kept f s legal =
+block_room : (a b c d e : Bool) → b ≡ false → e ≡ false → ((a && b) || (a && c && d) || e) ≡ true → d ≡ true
+block_room true false true false false x y h = h
+block_room _ _ _ _ _ x y h = cc
+
+pub write_can : (t : JoinedParts) → PartsKept t → (f : Frame) (s : Stored) → IsLegal (move.Write f s) (life_in t) → CanWrite t f s
+write_can t kept f (stored.Slot s) legal =
     let facts = known t kept in
     let r = record_at t.table f.0 in
     let l = life_in t in
@@ -260,14 +262,7 @@ write_slot t kept f s legal =
       goes = λ i. (idle.unshared i == 0) && not (blockless i);
       fewer = λ other. room_in t kept (or_split (is_access t.line.kind) (is_writer t.line.kind) (has_depth l) (not_own t.line.kind other).0 z.1);
     }
-
-block_room : (a b c d e : Bool) → b ≡ false → e ≡ false → ((a && b) || (a && c && d) || e) ≡ true → d ≡ true
-block_room true false true true false x y h = refl
-block_room true false true false false x y h = h
-block_room _ _ _ _ _ x y h = cc
-
-write_block : (t : JoinedParts) → PartsKept t → (f : Frame) (b : Block) → IsLegal (move.Write f (stored.Block b)) (life_in t) → CanWrite t f (stored.Block b)
-write_block t kept f b legal =
+write_can t kept f (stored.Block b) legal =
     let r = record_at t.table f.0 in
     let l = life_in t in
     let z = and_parts (r.changed && is_some r.owner && not (has_request r.request) && is_block b.0 r.backing) (may_write_block l f.0) legal in
@@ -281,10 +276,6 @@ write_block t kept f b legal =
       goes = c.1;
       fewer = λ other. let no = not_own t.line.kind other in room_in t kept (block_room (is_on f.0 t.table.modified) (is_access t.line.kind) (is_writer t.line.kind) (has_depth l) (is_call t.line.kind) no.0 no.1 z.1);
     }
-
-pub write_can : (t : JoinedParts) → PartsKept t → (f : Frame) (s : Stored) → IsLegal (move.Write f s) (life_in t) → CanWrite t f s
-write_can t kept f (stored.Slot s) legal = write_slot t kept f s legal
-write_can t kept f (stored.Block b) legal = write_block t kept f b legal
 
 -- ---- the slot that is written to
 
@@ -304,8 +295,7 @@ lowest_is (false ∷ rest) (suc s) h = let e = lowest_is rest s (lowest_tail res
 
 pub target_slot : (b : Backing) (s : ℕ) → has_block b ≡ false → goes_to b s ≡ stored.Slot (record { 0 = s })
 target_slot backing.None s h = refl
-target_slot (backing.Slot c) s h = refl
-target_slot (backing.Block c) s h = cc
+target_slot _ s h = cc
 
 pub slot_lowest : (t : JoinedParts) (f : Frame) (s : Slot) → IsLegal (move.Write f (stored.Slot s)) (life_in t) → is_lowest s.0 t.free ≡ true
 slot_lowest t f s legal =

@@ -4,10 +4,10 @@ use Rattle.std.specs.Prelude.{◌==◌, ◌&&◌, ◌||◌, not, is_some, nat_lt
 use Rattle.std.proofs.lemmas.Bool.{and_parts, or_left, or_right, not-true, ltb-true}
 use Rattle.mm_types.specs.{Frame, Block, Record, Backing, Move, Stored, Key, Place}
 use Rattle.mm_life.specs.{FrameLife, FrameTable, blank, record_at, has_request, is_read, is_write, is_again, slot_of, without, without_slot, soiled}
-use Rattle.mm_life.specs.{read_done, write_done, write_lost, being_written, with_record, settled, to_free, slot_after_soil, slot_after_read}
-use Rattle.mm_life.specs.{slot_after_wrote, slot_after_lost, after_clear, after_soil, after_got, after_write, after_wrote, after_lost, IsLegal}
-use Rattle.mm_life.specs.{is_touch, is_io, is_access, is_call, is_block, after_move, freed, is_first, is_empty, given, being_read, after_give}
-use Rattle.mm_life.specs.{after_read, after_steal, after_bad, changed, same_key, is_thread, is_zero, is_stored, has_depth, backing_of, homed}
+use Rattle.mm_life.specs.{read_done, write_done, write_lost, being_written, slot_after_soil, slot_after_read, slot_after_wrote, slot_after_lost}
+use Rattle.mm_life.specs.{after_clear, after_soil, after_got, after_write, after_wrote, after_lost, IsLegal, is_touch, is_io, is_access, is_call}
+use Rattle.mm_life.specs.{is_block, after_move, freed, is_first, is_empty, given, being_read, after_give, after_read, after_steal, after_bad, changed}
+use Rattle.mm_life.specs.{same_key, is_thread, is_zero, is_stored, has_depth, backing_of, homed}
 use Rattle.mm_laws.specs.{one_if, times, is_backed, Sight}
 use Rattle.mm_laws.proofs.{read_has, write_has, kept_inside, changes_give, first_zeroed, Standby, first_standby, Fresh, fresh_read}
 use Rattle.mm_frames.specs.{FramesOf, has_block, slot_after_write, write_ended, read_ended}
@@ -16,7 +16,8 @@ use Rattle.mm_parts.specs.{JoinedParts, life_in, shown_of, requests_in, own_is, 
 use Rattle.mm_parts.specs.{flight_begun, flight_ended, write_end, slots_to, owners, owned_by, held_by, stands_of, names_of, is_paging, life_of}
 use Rattle.mm_parts.specs.{requests, is_aside_entry, names_after_give, home_entry, words_sent, CanSend, end_of_read, PartsOf}
 use Rattle.mm_frame_laws.specs.{backing_to}
-use Rattle.mm_parts.proofs.Stands.{Rewrites, rewrites_by, rewrites_none, settled_records, waits_frame, Quiet, quiet_by}
+use Rattle.mm_frame_laws.proofs.{records_ended}
+use Rattle.mm_parts.proofs.Stands.{Rewrites, rewrites_by, rewrites_none, waits_frame, Quiet, quiet_by}
 use Rattle.mm_parts.proofs.Keeping.{Step, known, quiet_step, waits_shown, step_to}
 use Rattle.mm_parts.proofs.RequestLists.{ended_requests, ended_waits, ended_depth, ended_within, waits_ended, unread_waits, begun_requests}
 use Rattle.mm_parts.proofs.RequestLists.{begun_within, begun_depth, begun_waits, waits_begun}
@@ -82,10 +83,6 @@ held_by_request t kept f busy = record {
   once = ((known t kept).standing f).flight ∙ ap one_if busy;
 }
 
-records_ended : (b : Bool) (new : Record) (d : FrameTable) (f : ℕ) → (if b then settled (with_record d f new) f else to_free d f).records ≡ slice_set d.records f (if b then new else blank)
-records_ended true new d f = settled_records d f new
-records_ended false new d f = refl
-
 module _ (t : JoinedParts) (kept : PartsKept t) (x : Move) (legal : IsLegal x (life_in t)) (d' : FrameTable) (bytes' : List (Option (List ℕ))) (free' : List Bool) (f : ℕ) (r : Record) (ok : Bool)
     (busy : has_request (record_at t.table f).request ≡ true) (records : d'.records ≡ slice_set t.table.records f r) (quiet : Quiet t.table f r)
     (moves : record (life_in t) { frames = d'; free_slots = free'; flight = without f (requests_in t) } ≡ after_move (life_in t) x) where
@@ -104,16 +101,6 @@ module _ (t : JoinedParts) (kept : PartsKept t) (x : Move) (legal : IsLegal x (l
       (ended_depth (own_is t.own f) t.flight f ok)
       (λ h. kept.within.requesting (ended_within t.own f h)))
       (ended_waits t.table t.flight t.own f ok kept.waits once)
-
-pub got_step : (t : JoinedParts) → PartsKept t → (f : Frame) (bytes' : List (Option (List ℕ))) → IsLegal (move.Got f) (life_in t)
-    → Step (record t { table = after_got t.table f.0; bytes = bytes'; free = freed t.free (slot_after_read (record_at t.table f.0)); flight = flight_ended (own_is t.own f.0) t.flight f.0 true; own = own_ended t.own f.0 })
-    (record (parts_after (shown_of t) (move.Got f)) { bytes = bytes'; waits = map (ended f.0 true) t.flight.waits; own = own_ended t.own f.0 })
-got_step t kept f bytes' legal =
-    let r = record_at t.table f.0 in
-    let reading = (and_parts (is_read r.request) (is_io t.line.kind || is_access t.line.kind) legal).0 in
-    end_step t kept (move.Got f) legal (after_got t.table f.0) bytes' (freed t.free (slot_after_read r)) f.0 (if is_some r.owner then read_done r else blank) true
-    (read_has r.request reading) (records_ended (is_some r.owner) (read_done r) t.table f.0)
-    (quiet_by t.table f.0 (read_done r) ((known t kept).standing f.0).fit refl refl refl) refl
 
 abbrev pub table_end : Bool → FrameTable → ℕ → FrameTable
 table_end true d f = after_wrote d f
@@ -151,8 +138,7 @@ write_end_step t kept f ok legal =
 
 is_that_block : (b : Block) (x : Backing) → is_block b.0 x ≡ true → has_block (backing.Block b) ≡ has_block x
 is_that_block b backing.None h = cc
-is_that_block b (backing.Slot s) h = cc
-is_that_block b (backing.Block c) h = refl
+is_that_block b _ h = cc
 
 blocks_kept : (t : JoinedParts) (f : Frame) (s : Stored) → CanWrite t f s → has_block (backing_to s) ≡ has_block (record_at t.table f.0).backing
 blocks_kept t f (stored.Slot s) can = sym (not-true (has_block (record_at t.table f.0).backing) (and_parts ((record_at t.table f.0).shares == 0) (not (has_block (record_at t.table f.0).backing)) can.goes).1)
@@ -438,7 +424,12 @@ abbrev pub read_shows : Bool → JoinedParts → Frame → PartsOf
 read_shows ok t f = record (parts_after (shown_of t) (end_of_read ok f)) { waits = map (ended f.0 ok) t.flight.waits; own = own_ended t.own f.0 }
 
 pub read_over_step : (t : JoinedParts) → PartsKept t → (f : Frame) (ok : Bool) → IsLegal (end_of_read ok f) (life_in t) → Step (read_over ok t f) (read_shows ok t f)
-read_over_step t kept f true legal = got_step t kept f t.bytes legal
+read_over_step t kept f true legal =
+    let r = record_at t.table f.0 in
+    let reading = (and_parts (is_read r.request) (is_io t.line.kind || is_access t.line.kind) legal).0 in
+    end_step t kept (move.Got f) legal (after_got t.table f.0) t.bytes (freed t.free (slot_after_read r)) f.0 (if is_some r.owner then read_done r else blank) true
+    (read_has r.request reading) (records_ended (is_some r.owner) (read_done r) t.table f.0)
+    (quiet_by t.table f.0 (read_done r) ((known t kept).standing f.0).fit refl refl refl) refl
 read_over_step t kept f false legal = bad_step t kept f legal _ refl
 
 -- by whether it was read

@@ -83,14 +83,6 @@ valid_entry _ f h = cc
 
 -- ---- a call that may be refused memory: what the parts are after it
 
-pub on_ok : {A E : Type 0} (r : Result A E) {P Q : Type 0} → OnOk r P → (P → Q) → OnOk r Q
-on_ok (Ok x) p f = f p
-on_ok (Err e) p f = tt
-
-pub on_err : {A E : Type 0} (r : Result A E) {P Q : Type 0} → OnErr r P → (P → Q) → OnErr r Q
-on_err (Ok x) p f = tt
-on_err (Err e) p f = f p
-
 -- what is kept, whether it is refused or not
 pub kept_by : {A E : Type 0} (r : Result A E) (t u v : JoinedParts) (s : PartsOf) → PartsKept t → Step u s → OnOk r (v ≡ u) → OnErr r (v ≡ t) → PartsKept v
 kept_by (Ok x) t u v s kept step ok err = subst PartsKept (sym ok) step.kept

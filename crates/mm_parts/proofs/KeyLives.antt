@@ -53,8 +53,7 @@ word_only t kept k e resting beside still calm = record {
 
 not_touching : (k : LineKind) → (is_call k || is_unbind k) ≡ true → is_touch k ≡ false
 not_touching (kind.Access p) h = cc
-not_touching (kind.Thread p) h = cc
-not_touching _ h = refl
+not_touching _ h = cc
 
 not_beside : (a : Option Aside) (place : Place) → is_some a ≡ false → is_aside a place ≡ false
 not_beside None place h = refl
@@ -117,33 +116,6 @@ module _ (t : JoinedParts) (kept : PartsKept t) (k : Key) (legal : IsLegal (move
       (moves ∙ ap (λ x. dropped_at x (life_in t) k) (sym stands))
       (λ read. let bad : true ≡ false = sym read ∙ ap (λ (x : Record). is_read x.request) (beyond_blank t.table) in cc)
 
-  drop_framed : (f : Frame) → key_entry t.words k ≡ entry.Transition f → (life_in t).stands k ≡ held.Frame f
-      → Step (record t { line = record t.line { paging_keys = t.line.paging_keys - 1 }; table = after_drop t.table f.0; free = freed t.free (slot_after_drop (record_at t.table f.0)); words = with_entry t.words k entry.Empty })
-      (record (parts_after (shown_of t) (move.Drop k)) { names = names_after_drop (shown_of t) k })
-  drop_framed f word stands =
-      let r = record_at t.table f.0 in
-      let facts = known t kept in
-      let owner = facts.owner k f stands in
-      let unshared : r.shares ≡ 0 = kept.words.transition k f word in
-      let new = if has_request r.request then disowned r else blank in
-      let low = kept_inside t.table f.0 (or_left (is_some r.owner) (has_request r.request) (ap is_some owner)) in
-      let re : Rewords t (after_drop t.table f.0) f new k entry.Empty = record {
-        change = rewrites_by t.table (after_drop t.table f.0) f.0 new low
-            (elim (has_request r.request) as (λ b. (if b then with_record t.table f.0 (disowned r) else to_free (off_lists t.table f.0) f.0).records ≡ slice_set t.table.records f.0 (if b then disowned r else blank)) [ true ↦ refl | false ↦ refl ]);
-        unshared = unshared;
-        bare = elim (has_request r.request) as (λ b. (if b then disowned r else blank).shares ≡ 0) [ true ↦ unshared | false ↦ refl ];
-        only = own_in t kept f k owner;
-        resting = rests k entry.Empty refl refl refl;
-        beside = none_beside;
-        lands = λ g e. cc;
-        calm = ap is_valid_entry word;
-      } in
-      drop_by (after_drop t.table f.0) f new (freed t.free (slot_after_drop r)) re (ap (λ x. dropped_at x (life_in t) k) (sym stands))
-      (elim (has_request r.request) as (λ b. has_request r.request ≡ b → is_read r.request ≡ true → is_read (if b then disowned r else blank).request ≡ true) [
-        | true ↦ λ e h. h
-        | false ↦ λ e h. let bad : true ≡ false = sym (read_has r.request h) ∙ e in cc
-      ] refl)
-
   standing : (e : Entry) → key_entry t.words k ≡ e → (life_in t).stands k ≡ held_by (owned_by (owners t.table) k) e
   standing e h = ap (held_by (owned_by (owners t.table) k)) h
 
@@ -173,7 +145,29 @@ module _ (t : JoinedParts) (kept : PartsKept t) (k : Key) (legal : IsLegal (move
   drop_step (entry.InFile b) word =
       let stands = standing (entry.InFile b) word in
       let bad : is_home_for true (held.Block b) ≡ true = sym (ap (λ x. is_home_for x (held.Block b)) can.paging) ∙ ap (is_home_for ((life_in t).paging k)) (sym stands) ∙ (known t kept).home k in cc
-  drop_step (entry.Transition f) word = drop_framed f word (standing (entry.Transition f) word)
+  drop_step (entry.Transition f) word =
+      let r = record_at t.table f.0 in
+      let facts = known t kept in
+      let owner = facts.owner k f (standing (entry.Transition f) word) in
+      let unshared : r.shares ≡ 0 = kept.words.transition k f word in
+      let new = if has_request r.request then disowned r else blank in
+      let low = kept_inside t.table f.0 (or_left (is_some r.owner) (has_request r.request) (ap is_some owner)) in
+      let re : Rewords t (after_drop t.table f.0) f new k entry.Empty = record {
+        change = rewrites_by t.table (after_drop t.table f.0) f.0 new low
+            (elim (has_request r.request) as (λ b. (if b then with_record t.table f.0 (disowned r) else to_free (off_lists t.table f.0) f.0).records ≡ slice_set t.table.records f.0 (if b then disowned r else blank)) [ true ↦ refl | false ↦ refl ]);
+        unshared = unshared;
+        bare = elim (has_request r.request) as (λ b. (if b then disowned r else blank).shares ≡ 0) [ true ↦ unshared | false ↦ refl ];
+        only = own_in t kept f k owner;
+        resting = rests k entry.Empty refl refl refl;
+        beside = none_beside;
+        lands = λ g e. cc;
+        calm = ap is_valid_entry word;
+      } in
+      drop_by (after_drop t.table f.0) f new (freed t.free (slot_after_drop r)) re (ap (λ x. dropped_at x (life_in t) k) (sym (standing (entry.Transition f) word)))
+      (elim (has_request r.request) as (λ b. has_request r.request ≡ b → is_read r.request ≡ true → is_read (if b then disowned r else blank).request ≡ true) [
+        | true ↦ λ e h. h
+        | false ↦ λ e h. let bad : true ≡ false = sym (read_has r.request h) ∙ e in cc
+      ] refl)
   drop_step (entry.Valid f n) word = absurd (no_valid f n word)
   drop_step (entry.Proto a i) word = absurd (not_dead (standing (entry.Proto a i) word))
 

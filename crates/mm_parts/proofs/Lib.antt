@@ -11,9 +11,8 @@ pub mod Conditions
 pub mod Reading
 pub mod Holding
 pub mod Waiting
-pub use Keeping.{Step, frame_told, kept_by, known, not_valid_told, on_err, on_ok, step_to}
-pub use Keeping.{valid_calm, valid_entry, valid_owned, valid_there, valid_told, words_done}
-pub use Keeping.{words_step}
+pub use Keeping.{Step, frame_told, kept_by, known, not_valid_told, step_to, valid_calm, valid_entry}
+pub use Keeping.{valid_owned, valid_there, valid_told, words_done, words_step}
 pub use FrameSteps.{clear_step, ended_bytes, ended_table, give_step, held_by_request, read_frees}
 pub use FrameSteps.{read_left, read_over_by, read_shows, read_step, read_table, reading_busy}
 pub use FrameSteps.{send_can, soil_step, steal_step, table_end, table_read, write_busy}

@@ -6,8 +6,8 @@ use Rattle.std.specs.Prelude.{IfSome}
 use Rattle.std.proofs.lemmas.Bool.{and_parts, eqb-true, leb-true, le-leb, ltb-true}
 use Rattle.mm_types.proofs.{some_map, both}
 use Rattle.mm_types.specs.{IsMachine, Frame, Pid, LineKind, MachineOf, Key, Range, holds_page, end_of_user_pages, Area, Place, Vpn}
-use Rattle.mm_life.specs.{ResidentSet, FrameLife, set_in, IsLegal, is_legal_kind, after_at, free_table, unstarted, after_move, changed, same_place}
-use Rattle.mm_life.specs.{aged, IsOldest}
+use Rattle.mm_life.specs.{ResidentSet, FrameLife, set_in, IsLegal, is_legal_kind, free_table, unstarted, after_move, changed, same_place, aged}
+use Rattle.mm_life.specs.{IsOldest}
 use Rattle.mm_laws.proofs.{set_more, reached_by, reached_start, reached_next}
 use Rattle.mm_words.specs.{Aside, WordsOf, key_entry, no_words, Entry, own_word, aside_or, place_from, valid_frame, changed_in, is_valid_entry, pages}
 use Rattle.mm_words.specs.{ages_in, GoesBehind, IsOldestOf, NoneBehind}
@@ -49,16 +49,6 @@ within_line k own w e h = record {
   copying = λ x. let bad : true ≡ false = sym x ∙ sym (some_map (λ (y : Aside). y.place) w.aside) ∙ ap is_some h in cc;
 }
 
--- nothing but the line and its kind changes
-same_words : (t : JoinedParts) → PartsKept t → (n : ℕ) (k : LineKind) → IsLegal (move.At n k) (life_in t) → t.own ≡ None → (shown_of t).aside ≡ None
-    → after_at (life_in t) n k ≡ record (life_in t) { line = n; kind = k }
-    → Step (record t { line = record t.line { line = n; kind = k } }) (parts_after (shown_of t) (move.At n k))
-same_words t kept n k legal own aside e =
-    record {
-      kept = assumption (reached_by (life_in t) _ (move.At n k) legal (sym e) kept.reached, begun_line t n k legal, within_line k t.own t.words own aside);
-      shown = ap (λ (l : FrameLife). record (shown_of t) { life = l }) (sym e);
-    }
-
 process_line : (t : JoinedParts) → PartsKept t → (n : ℕ) (pid : Pid) (min max : ℕ) → IsLegal (move.At n (kind.Process pid min max)) (life_in t) → 1 ≤ max → max ≤ 65536 → t.own ≡ None → (shown_of t).aside ≡ None
     → Step (record t { line = record t.line { line = n; kind = kind.Process pid min max }; words = words_begun (kind.Process pid min max) t.words }) (parts_after (shown_of t) (move.At n (kind.Process pid min max)))
 process_line t kept n pid min max legal low high own aside =
@@ -87,7 +77,11 @@ at_step t kept n (kind.Machine frames slots depth blocks) legal plain own aside 
     absurd (omega (arith, zero_line, begun))
 at_step t kept n (kind.Process pid min max) legal plain own aside = process_line t kept n pid min max legal plain.0 plain.1 own aside
 at_step t kept n (kind.Grow count) legal plain own aside = absurd plain
-at_step t kept n k legal plain own aside = same_words t kept n k legal own aside refl
+at_step t kept n k legal plain own aside =
+    record {
+      kept = assumption (reached_by (life_in t) _ (move.At n k) legal (sym refl) kept.reached, begun_line t n k legal, within_line k t.own t.words own aside);
+      shown = ap (λ (l : FrameLife). record (shown_of t) { life = l }) (sym refl);
+    }
 
 -- ---- the paging file grows
 
@@ -144,9 +138,8 @@ dead_at_start m (Private p v) = refl
 dead_at_start m (Shared a i) = refl
 
 none_added : (n x : ℕ) → slice_index_or (replicate n false) x false ≡ false
-none_added zero x = refl
-none_added (suc n) zero = refl
 none_added (suc n) (suc x) = none_added n x
+none_added _ _ = cc
 
 life_at_start : (m : MachineOf) → life_in (started_parts m) ≡ after_move unstarted (first_move m)
 life_at_start m =
@@ -159,9 +152,8 @@ no_set zero s e = cc
 no_set (suc k) s e = cc
 
 nobody_waits : (n t : ℕ) (f : Frame) → slice_get (replicate n waiting.Nothing) t ≡ Some (waiting.For f) → ⊥
-nobody_waits zero t f e = cc
-nobody_waits (suc n) zero f e = cc
 nobody_waits (suc n) (suc t) f e = nobody_waits n t f e
+nobody_waits _ _ f e = cc
 
 pub start_step : (m : MachineOf) → IsMachine m → Step (started_parts m) (first_parts m)
 start_step m h = record {

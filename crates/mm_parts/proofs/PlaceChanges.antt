@@ -171,7 +171,6 @@ word_beside w place e x (Shared b i) = refl
 -- an entry that is not valid, and names a shared page, is a prototype's
 named_shared : (o : Owners) (p : Place) (e : Entry) (a : Area) (i : ℕ) → is_valid_entry e ≡ false → named_by o p e ≡ Some (Shared a i) → names_other e ≡ true
 named_shared o p (entry.Valid f n) a i v h = refl
-named_shared o p (entry.Proto b j) a i v h = refl
 named_shared o p _ a i v h = cc
 
 -- the place is valid for the frame no more, with these words

@@ -64,7 +64,6 @@ beside_shared t kept x at f v (Private q u) e =
 -- ---- a key in no frame
 
 pub zero_word : (own : Frame → Bool) (e : Entry) → is_zero (held_by own e) ≡ true → e ≡ entry.Zero
-zero_word own entry.Zero h = refl
 zero_word own (entry.Valid f n) h = elim (own f) as (λ b. is_zero (if b then held.Frame f else held.Dead) ≡ true → entry.Valid f n ≡ entry.Zero) [ true ↦ λ e. cc | false ↦ λ e. cc ] h
 zero_word own _ h = cc
 
@@ -75,8 +74,6 @@ is_away (entry.InFile b) = true
 is_away _ = false
 
 pub stored_word : (own : Frame → Bool) (e : Entry) → is_stored (held_by own e) ≡ true → is_away e ≡ true
-stored_word own (entry.Paged s) h = refl
-stored_word own (entry.InFile b) h = refl
 stored_word own (entry.Valid f n) h = elim (own f) as (λ b. is_stored (if b then held.Frame f else held.Dead) ≡ true → false ≡ true) [ true ↦ λ e. cc | false ↦ λ e. cc ] h
 stored_word own _ h = cc
 
@@ -100,8 +97,7 @@ home_lands _ g f e = cc
 
 home_own : (b : Backing) → has_block b ≡ false → is_aside_entry (home_entry b) ≡ true
 home_own backing.None h = refl
-home_own (backing.Slot s) h = refl
-home_own (backing.Block b) h = cc
+home_own _ h = cc
 
 pub home_resting : (k : Key) (b : Backing) → (is_shared k ≡ false → has_block b ≡ false) → is_resting k (home_entry b) ≡ true
 home_resting (Private p v) (backing.Block b) h = let bad : true ≡ false = h refl in cc
@@ -110,8 +106,7 @@ home_resting _ _ h = refl
 
 pub home_used : (b : Backing) → has_block b ≡ false → is_backed b ≡ true → is_used (home_entry b) ≡ true
 home_used backing.None h k = cc
-home_used (backing.Slot s) h k = refl
-home_used (backing.Block b) h k = cc
+home_used _ h k = cc
 
 pub backing_bare : (e : Entry) → entry_backing (bare e) ≡ entry_backing e
 backing_bare (entry.Paged s) = refl
@@ -129,9 +124,8 @@ stored_paging d d' _ f e b = cc
 -- ---- private pages are on no block
 
 pub no_block : (b : Bool) (x : Backing) → b ≡ true → is_backing_for b x ≡ true → has_block x ≡ false
-no_block b backing.None e h = refl
-no_block b (backing.Slot s) e h = refl
 no_block b (backing.Block c) e h = let bad : false ≡ true = sym (ap not e) ∙ h in cc
+no_block b _ e h = cc
 
 pub own_backing : (t : JoinedParts) → PartsKept t → (k : Key) (f : Frame) → (record_at t.table f.0).owner ≡ Some k → is_shared k ≡ false → has_block (record_at t.table f.0).backing ≡ false
 own_backing t kept k f owner own =
@@ -182,9 +176,8 @@ stolen_table v f e = ap (λ o. record v.table { records = emptied v.table.record
 
 pub first_is : (xs : List ℕ) (o : Option Frame) → option_map (λ f. f.0) o ≡ slice_get xs 0 → o ≡ first_frame xs
 first_is [] None e = refl
-first_is [] (Some f) e = cc
-first_is (x ∷ xs) None e = cc
 first_is (x ∷ xs) (Some f) e = let same : f.0 ≡ x = cc in λ i. Some (record { 0 = same i })
+first_is _ _ e = cc
 
 pub none_first : (xs : List ℕ) → is_none (first_frame xs) ≡ is_empty xs
 none_first [] = refl
@@ -208,9 +201,8 @@ own_by_page t kept p v f word = by (owners t.table f.0) refl
     there = at_place t.words (place_from p v) f 0 kept.words.beside word
 
     by : (o : Option Key) → owners t.table f.0 ≡ o → is_private o ≡ has_owner o (Private p v)
-    by None e = refl
     by (Some (Private q u)) e = sym ((known t kept).fits (place_from p v) f (Private q u) there e)
-    by (Some (Shared a i)) e = refl
+    by _ e = cc
 
 own_told : (t : JoinedParts) → PartsKept t → (k : Key) (f : Frame) → key_entry t.words k ≡ entry.Valid f 0 → is_own_page k (owners t.table f.0) ≡ owned_by (owners t.table) k f
 own_told t kept (Private p v) f word = own_by_page t kept p v f word

@@ -42,15 +42,12 @@ own_out f (Some g) xs once is =
     let none : times f xs ≡ 0 = omega (arith, once, one, sum) in
     sym (without_append f xs (g.0 ∷ []) ∙ ap (λ zs. zs ++ without f (g.0 ∷ [])) (without_none f xs none) ∙ ap (λ b. xs ++ (if not b then g.0 ∷ [] else [])) is)
 
-other_out : (f : ℕ) (own : Option Frame) (xs : List ℕ) → own_is own f ≡ false → requests (without f xs) own ≡ without f (requests xs own)
-other_out f own xs n = sym (without_append f xs (own_request own) ∙ ap (λ zs. without f xs ++ zs) (own_stays f own n))
-
 -- once a request has ended, the others are there in their order
 pub ended_requests : (q : FlightOf) (own : Option Frame) (f : ℕ) (ok : Bool) → times f (requests q.frames own) ≡ 1
     → requests (flight_ended (own_is own f) q f ok).frames (own_ended own f) ≡ without f (requests q.frames own)
 ended_requests q own f ok once = elim (own_is own f) as (λ b. own_is own f ≡ b → requests (flight_ended b q f ok).frames (own_ended own f) ≡ without f (requests q.frames own)) [
   | true ↦ λ e. ap (requests q.frames) (own_none f own e) ∙ own_out f own q.frames once e
-  | false ↦ λ e. ap (requests (without f q.frames)) (own_other f own e) ∙ other_out f own q.frames e
+  | false ↦ λ e. ap (requests (without f q.frames)) (own_other f own e) ∙ (sym (without_append f q.frames (own_request own) ∙ ap (λ zs. without f q.frames ++ zs) (own_stays f own e)))
 ] refl
 
 any_head : (f x : ℕ) (xs : List ℕ) (b : Bool) → (x == f) ≡ b → 1 ≤ times f (x ∷ xs) → (1 ≤ times f xs → is_in f xs ≡ true) → is_in f (x ∷ xs) ≡ true

@@ -175,7 +175,6 @@ is_used _ = false
 
 used_names : (o : Owners) (place : Place) (e : Entry) → is_used e ≡ true → named_by o place e ≡ Some (key_of_place place)
 used_names o place (entry.Paged s) h = refl
-used_names o place (entry.Transition f) h = refl
 used_names o place _ h = cc
 
 -- the entry of a place in the table changes

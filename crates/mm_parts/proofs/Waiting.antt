@@ -26,9 +26,6 @@ from_last t g i (x ∷ xs) none e = elim (t x) as (λ b. t x ≡ b → (b || lis
   | false ↦ λ h n. ap (λ b. cond b (Some i) (position_from t (i + 1) (xs ++ g ∷ []))) h ∙ from_last t g (i + 1) xs n e ∙ ap Some (omega arith)
 ] refl none
 
-place_is : (f : ℕ) (xs : List ℕ) → place_in f xs ≡ option_map (λ i. i + 1) (position_from (λ x. x == f) 0 xs)
-place_is f xs = ap (option_map (λ i. i + 1)) (position_from-zero (λ x. x == f) xs)
-
 own_once : (f : ℕ) (own : Option Frame) → own_is own f ≡ true → 1 ≤ times f (own_request own)
 own_once f None h = cc
 own_once f (Some g) h = let one = ap one_if h in omega (arith, one)
@@ -36,7 +33,7 @@ own_once f (Some g) h = let one = ap one_if h in omega (arith, one)
 -- the line's own request is the last
 pub place_last : (f : ℕ) (xs : List ℕ) (own : Option Frame) → own_is own f ≡ true → is_in f xs ≡ false → Some (length xs + 1) ≡ place_in f (requests xs own)
 place_last f xs None own none = cc
-place_last f xs (Some g) own none = sym (place_is f (xs ++ g.0 ∷ []) ∙ ap (option_map (λ i. i + 1)) (from_last (λ x. x == f) g.0 0 xs none own) ∙ ap Some (omega arith))
+place_last f xs (Some g) own none = sym ((ap (option_map (λ i. i + 1)) (position_from-zero (λ x. x == f) (xs ++ g.0 ∷ []))) ∙ ap (option_map (λ i. i + 1)) (from_last (λ x. x == f) g.0 0 xs none own) ∙ ap Some (omega arith))
 
 -- the line's own request is not in flight
 pub own_alone : (t : JoinedParts) → PartsKept t → (f : ℕ) → own_is t.own f ≡ true → is_in f t.flight.frames ≡ false
@@ -82,15 +79,13 @@ waits_set ws n x within u = elim (same_or_not u n) [
 ]
 
 ended_one : (f : ℕ) (ok : Bool) (x : Waiting) → wait_as_walked (ended f ok x) ≡ ended_by f ok (wait_as_walked x)
-ended_one f ok waiting.Nothing = refl
 ended_one f ok (waiting.For g) = by (g.0 == f) ok
   where
     by : (b c : Bool) → wait_as_walked (if b then (if c then waiting.Done else waiting.Failed) else waiting.For g) ≡ (if b then Ended c else ForFrame g.0)
     by true true = refl
     by true false = refl
     by false c = refl
-ended_one f ok waiting.Done = refl
-ended_one f ok waiting.Failed = refl
+ended_one f ok _ = cc
 
 -- the end of a read, to the waits
 pub waits_ended : (ws : List Waiting) (f t : ℕ) (ok : Bool) → waits_of (map (ended f ok) ws) t ≡ ended_by f ok (waits_of ws t)

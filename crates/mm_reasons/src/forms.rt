@@ -2,11 +2,12 @@ ghost use Rattle.std.specs.Prelude.{◌≡◌, IfOk, map, string_bytes};
 ghost use Rattle.mm_reasons.specs.Forms.{form_named, form_of};
 
 use mm_forms::{Form as Named, read_words};
+use mm_script::is_text;
 use mm_types::NoMemory;
 use std::alloc::Global;
 
 /// A form of the program's words.
-#[derive(Clone, Copy, PartialEq, Eq, Debug)]
+#[derive(Clone, Copy, PartialEq, Eq)]
 pub enum Form {
     /// No words: the script of a written file.
     Script,
@@ -20,10 +21,10 @@ pub enum Form {
 fn form_named(word: &[u8]) -> Option<Form>
     ensures { result ≡ form_named word.now }
 {
-    if word == b"lines".as_slice() {
+    if is_text(word, b"lines") {
         return Some(Form::Lines);
     }
-    if word == b"talk".as_slice() {
+    if is_text(word, b"talk") {
         return Some(Form::Talk);
     }
     None

@@ -296,7 +296,7 @@ fn is_bytes(word: &[u8]) -> bool {
 
 /// The field of numbers that a field is, or may be.
 fn number_field(field: &'static [u8]) -> &'static [u8] {
-    if field == b"LENGTH|BYTES".as_slice() {
+    if is_text(field, b"LENGTH|BYTES") {
         b"LENGTH"
     } else {
         field

@@ -1,3 +1,4 @@
+use mm_script::is_text;
 use mm_text::Words;
 
 /// Each keyword, with the fields behind it.
@@ -130,7 +131,7 @@ static RANGES: [(&str, u32, u32); 17] = [
 
 /// The least and the most of a field of numbers.
 pub(crate) fn range_of(field: &[u8]) -> (u32, u32) {
-    if field == b"FLAG".as_slice() {
+    if is_text(field, b"FLAG") {
         return (0, 1);
     }
     for range in &RANGES {

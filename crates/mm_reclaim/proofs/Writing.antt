@@ -1,30 +1,200 @@
--- Writes of modified frames begin, of those that can be written, in the order of their list.
-use Rattle.std.proofs.Common.{◌≡◌, ◌≢◌, ℕ, zero, suc, ◌+◌, ◌-◌, Bool, true, false, cond, List, [], ◌∷◌, ◌++◌, Some, None, refl, sym, ap, ◌∙◌, subst, arith, zero-add}
-use Rattle.std.specs.Prelude.{◌==◌, ◌&&◌, ◌||◌, not, nat_lt, filter, slice_get, slice_set}
-use Rattle.std.specs.List.{list_any}
-use Rattle.std.specs.Cmp.{unsigned_Decides}
-use Rattle.std.proofs.lemmas.Bool.{or_left, or_right, lt-ltb}
+-- The modified frames that can be written, where each is written to, and the writes that begin.
+use Rattle.std.proofs.Common.{◌≡◌, ℕ, zero, suc, ◌<◌, ◌≤◌, Bool, true, false, List, refl, sym, ap, ◌∙◌, subst, arith, ◌+◌, cond, [], ◌∷◌, ◌++◌, length, Some, ◌≢◌, ◌-◌, None, zero-add}
+use Rattle.std.specs.Prelude.{◌==◌, ◌&&◌, ◌||◌, not, is_some, nat_lt, count_by, filter, slice_get, slice_set}
+use Rattle.std.proofs.lemmas.Bool.{eqb-true, lt-ltb, or_left, or_right}
 use Rattle.std.proofs.Math.Logic.{∥∥₁_elim}
 use Rattle.std.proofs.Math.Bool.{Bool-set}
-use Rattle.mm_types.specs.{Backing, Record, LineKind, Move, Stored, Frame}
+use Rattle.std.proofs.Props.{props}
+use Rattle.mm_types.specs.{Backing, Frame, Stored, Record, LineKind, Move}
 use Rattle.mm_types.specs.declared.frames.Backing.TheVariants as backing
-use Rattle.mm_types.specs.declared.moves.LineKind.TheVariants as kind
-use Rattle.mm_types.specs.declared.moves.Move.TheVariants as move
 use Rattle.mm_types.specs.declared.moves.Stored.TheVariants as stored
-use Rattle.mm_life.specs.{record_at, is_on, without, FrameLife, IsLegal, owner_is, is_writer, has_depth, after_move, can_be_written, frame_of}
-use Rattle.mm_life.specs.{lowest_free as lowest_from, target, writes_begun}
-use Rattle.mm_laws.specs.{one_if, times}
-use Rattle.mm_laws.proofs.{reached_sound, modified_frame, without_none, without_append, without_self, tally-append}
-use Rattle.mm_frame_laws.specs.{first_passing}
-use Rattle.mm_frame_laws.proofs.{on_append, store_in_writer, write_others}
+use Rattle.mm_types.specs.declared.moves.Move.TheVariants as move
+use Rattle.mm_life.specs.{record_at, is_on, is_idle, has_request, FrameLife, IsLegal, can_be_written, without, owner_is, is_writer, has_depth}
+use Rattle.mm_life.specs.{after_move, frame_of, lowest_free as lowest_from, target, writes_begun}
+use Rattle.mm_laws.specs.{block_of, one_if, times, IsLowest}
+use Rattle.mm_laws.specs.Sound.{Sound}
+use Rattle.mm_laws.proofs.{reached_sound, modified_frame, lowest_is, free_counted, times_on, without_none, without_append, without_self, tally-append}
+use Rattle.mm_slots.specs.{IsLowest as LowestSlot}
+use Rattle.mm_frame_laws.specs.{Writable, first_passing}
+use Rattle.mm_frame_laws.proofs.{on_times, which_writes, store_there, wrote_legal, slot_parts, slot_backing, block_is, on_append, store_in_writer}
+use Rattle.mm_frame_laws.proofs.{write_others}
 use Rattle.mm_parts.specs.{goes_to, lowest_free, write_target, own_after}
-use Rattle.mm_moving.specs.{StateOf, Made, moved, StateHolds}
-use Rattle.mm_reclaim.specs.{Rounds, writings, writable_modified}
-use Rattle.mm_reclaim.proofs.Targets.{target_is}
+use Rattle.mm_parts.proofs.{lowest_is as lowest_number}
+use Rattle.mm_moving.specs.{StateOf, Made, StateHolds, moved}
+use Rattle.mm_reclaim.specs.{IsUnderWay, writable_modified, Rounds, writings}
+use Rattle.std.specs.Cmp.{unsigned_Decides}
+use Rattle.mm_frames.specs.{has_block, modified_with_block}
+use Rattle.std.specs.List.{list_any}
+use Rattle.mm_types.specs.declared.moves.LineKind.TheVariants as kind
 use Rattle.mm_types.proofs.{and_false}
 use Rattle.mm_reclaim.proofs.Trying.{kind_write}
 use Rattle.mm_world.proofs.{or-false}
-use Rattle.std.proofs.Props.{props}
+
+-- ---- where a modified frame is written to, and that it can be
+
+pub modified_low : (s : StateOf) → StateHolds s → (f : ℕ) → is_on f s.life.frames.modified ≡ true → f < s.life.machine.frames
+modified_low s h f on = ∥∥₁_elim h.reached (hlevel props) (λ r.
+    let low = (modified_frame s.life (reached_sound s.life r) f on).low in
+    let size = (reached_sound s.life r).framed in
+    omega (arith, low, size))
+
+none_free : (n : ℕ) → not (n == 0) ≡ nat_lt 0 n
+none_free zero = refl
+none_free (suc n) = ap not (by (suc n == 0) refl) ∙ sym (lt-ltb 0 (suc n) (omega arith))
+  where
+    by : (b : Bool) → (suc n == 0) ≡ b → b ≡ false
+    by false e = refl
+    by true e = let none = eqb-true (suc n) 0 e in absurd (omega (arith, none))
+
+pub writable_is : (s : StateOf) → StateHolds s → (f : ℕ) → is_on f s.life.frames.modified ≡ true → (n : ℕ) → n ≡ count_by (λ b. b) s.life.free_slots
+    → (is_some (block_of (record_at s.life.frames f).backing) || not (n == 0)) ≡ can_be_written s.life f
+writable_is s h f on n e = ∥∥₁_elim h.reached (Bool-set _ _) (λ r.
+    ap (λ b. is_some (block_of (record_at s.life.frames f).backing) || b) (none_free n ∙ ap (nat_lt 0) e ∙ free_counted s.life.free_slots)
+    ∙ sym (which_writes s.life (reached_sound s.life r) f on))
+
+-- a frame is modified where its record says so
+pub modified_is : (s : StateOf) → StateHolds s → (f : ℕ) → (is_some (record_at s.life.frames f).owner && (((record_at s.life.frames f).shares == 0) && not (has_request (record_at s.life.frames f).request) && (record_at s.life.frames f).changed)) ≡ is_on f s.life.frames.modified
+modified_is s h f = ∥∥₁_elim h.reached (Bool-set _ _) (λ r. by ((reached_sound s.life r).standing f).modified)
+  where
+    test : Bool
+    test = is_some (record_at s.life.frames f).owner && (is_idle (record_at s.life.frames f) && (record_at s.life.frames f).changed)
+
+    by : times f s.life.frames.modified ≡ one_if test → test ≡ is_on f s.life.frames.modified
+    by e = at test (is_on f s.life.frames.modified) refl refl
+      where
+        at : (a b : Bool) → test ≡ a → is_on f s.life.frames.modified ≡ b → a ≡ b
+        at true true x y = refl
+        at false false x y = refl
+        at true false x y = let more : 1 ≤ times f s.life.frames.modified = (let k = e ∙ ap one_if x in omega (arith, k)) in let bad : false ≡ true = sym y ∙ on_times f s.life.frames.modified more in cc
+        at false true x y = let more = times_on f s.life.frames.modified y in let k = e ∙ ap one_if x in absurd (omega (arith, more, k))
+
+-- the lowest free slot, in the words of the slots
+same_lowest : (free : List Bool) (s : ℕ) → IsLowest free s → LowestSlot free s
+same_lowest free s h = record { is_free = h.is_free; below = h.below }
+
+-- a frame is written to where the code writes it
+pub target_is : (l : FrameLife) → Sound l → (f : Frame) → is_on f.0 l.frames.modified ≡ true → (home : Stored) → IsLegal (move.Write f home) l → home ≡ write_target l f
+target_is l s f on (stored.Slot t) legal =
+    let low : t.0 ≡ lowest_free l.free_slots = lowest_number l.free_slots t.0 (same_lowest l.free_slots t.0 (lowest_is l.free_slots t.0 (slot_parts l s f on t legal).1)) in
+    let none : (record_at l.frames f.0).backing ≡ backing.None = slot_backing l s f on t legal in
+    ap (λ (n : ℕ). stored.Slot (record { 0 = n })) low ∙ sym (ap (λ (b : Backing). goes_to b (lowest_free l.free_slots)) none)
+target_is l s f on (stored.Block b) legal = sym (ap (λ (x : Backing). goes_to x (lowest_free l.free_slots)) (block_is l s f on b legal))
+
+pub target_legal : (s : StateOf) → StateHolds s → IsUnderWay s → (f : Frame) → Writable s.life f.0 → IsLegal (move.Write f (write_target s.life f)) s.life
+target_legal s h b f w = ∥∥₁_elim h.reached (Bool-set _ _) (λ r.
+    let sound = reached_sound s.life r in
+    let there = store_there s.life sound f w.modified b.access w.can in
+    subst (λ (x : Stored). IsLegal (move.Write f x) s.life) (target_is s.life sound f w.modified there.0 there.1) there.1)
+
+pub end_legal : (s : StateOf) → StateHolds s → IsUnderWay s → (f : Frame) → Writable s.life f.0 → (home : Stored) (m : StateOf) → Made (move.Write f home) s m → IsLegal (move.Wrote f) m.life
+end_legal s h b f w home m made = subst (λ (l : FrameLife). IsLegal (move.Wrote f) l) (sym made.life) (∥∥₁_elim h.reached (Bool-set _ _) (λ r. wrote_legal s.life (reached_sound s.life r) f w.modified home b.access))
+
+-- a frame that can be written, of the modified ones
+pub can_write : (l : FrameLife) (f : ℕ) → is_on f l.frames.modified ≡ true → can_be_written l f ≡ true → Writable l f
+can_write l f on can = record { modified = on; can = can }
+
+-- ---- the modified frames that can be written, in order: how many there are, and the first
+
+-- ---- lists that a test goes through
+
+-- the same test on the list
+filter_same : (p q : ℕ → Bool) (xs : List ℕ) → ((x : ℕ) → is_on x xs ≡ true → p x ≡ q x) → filter p xs ≡ filter q xs
+filter_same p q [] same = refl
+filter_same p q (x ∷ xs) same =
+    ap (λ (b : Bool). cond b (x ∷ filter p xs) (filter p xs)) (same x (or_left (x == x) (is_on x xs) ((unsigned_Decides x x).1 refl)))
+    ∙ ap (λ (ys : List ℕ). cond (q x) (x ∷ ys) ys) (filter_same p q xs (λ y h. same y (or_right (x == y) (is_on y xs) h)))
+
+-- each passes
+filter_all : (p : ℕ → Bool) (xs : List ℕ) → ((x : ℕ) → is_on x xs ≡ true → p x ≡ true) → filter p xs ≡ xs
+filter_all p [] all = refl
+filter_all p (x ∷ xs) all =
+    ap (λ (b : Bool). cond b (x ∷ filter p xs) (filter p xs)) (all x (or_left (x == x) (is_on x xs) ((unsigned_Decides x x).1 refl)))
+    ∙ ap (λ (ys : List ℕ). x ∷ ys) (filter_all p xs (λ y h. all y (or_right (x == y) (is_on y xs) h)))
+
+-- where none is left none passes
+pub none_passes : (p : ℕ → Bool) (xs : List ℕ) → length (filter p xs) ≡ 0 → (x : ℕ) → is_on x xs ≡ true → p x ≡ false
+none_passes p [] none x h = cc
+none_passes p (y ∷ xs) none x h = at (p y) refl (λ e on. none_passes p xs e x on)
+  where
+    at : (b : Bool) → p y ≡ b → (length (filter p xs) ≡ 0 → is_on x xs ≡ true → p x ≡ false) → p x ≡ false
+    at true e rest = let some = sym (ap (λ (b : Bool). length (cond b (y ∷ filter p xs) (filter p xs))) e) ∙ none in absurd (omega (arith, some))
+    at false e rest = here (y == x) refl
+      where
+        here : (c : Bool) → (y == x) ≡ c → p x ≡ false
+        here true k = ap p (sym ((unsigned_Decides y x).0 k)) ∙ e
+        here false k = rest (sym (ap (λ (b : Bool). length (cond b (y ∷ filter p xs) (filter p xs))) e) ∙ none) (sym (ap (λ (b : Bool). b || is_on x xs) k) ∙ h)
+
+-- the first that passes, and those around it
+pub record FirstOf (p : ℕ → Bool) (xs : List ℕ) : Type 0 where
+  pub more : List ℕ
+  pub first : ℕ
+  pub behind : List ℕ
+  pub is : xs ≡ more ++ (first ∷ behind)
+  pub none : (x : ℕ) → is_on x more ≡ true → p x ≡ false
+  pub passes : p first ≡ true
+  pub fewer : length (filter p behind) + 1 ≡ length (filter p xs)
+  pub front : (rest : List ℕ) → slice_get (filter p (xs ++ rest)) 0 ≡ Some first
+
+pub first_of : (p : ℕ → Bool) (xs : List ℕ) → 1 ≤ length (filter p xs) → FirstOf p xs
+first_of p [] some = absurd (omega (arith, some))
+first_of p (x ∷ xs) some = at (p x) refl (λ more. first_of p xs more)
+  where
+    at : (b : Bool) → p x ≡ b → (1 ≤ length (filter p xs) → FirstOf p xs) → FirstOf p (x ∷ xs)
+    at true e rest = record {
+      more = [];
+      first = x;
+      behind = xs;
+      is = refl;
+      none = λ y h. cc;
+      passes = e;
+      fewer = let n = ap (λ (b : Bool). length (cond b (x ∷ filter p xs) (filter p xs))) e in omega (arith, n);
+      front = λ rest. ap (λ (b : Bool). slice_get (cond b (x ∷ filter p (xs ++ rest)) (filter p (xs ++ rest))) 0) e;
+    }
+    at false e rest =
+        let same = ap (λ (b : Bool). length (cond b (x ∷ filter p xs) (filter p xs))) e in
+        let f = rest (omega (arith, same, some)) in
+        record {
+          more = x ∷ f.more;
+          first = f.first;
+          behind = f.behind;
+          is = ap (λ (ys : List ℕ). x ∷ ys) f.is;
+          none = λ y h. bars f y (x == y) refl h;
+          passes = f.passes;
+          fewer = f.fewer ∙ sym same;
+          front = λ rest. ap (λ (b : Bool). slice_get (cond b (x ∷ filter p (xs ++ rest)) (filter p (xs ++ rest))) 0) e ∙ f.front rest;
+        }
+      where
+        bars : (f : FirstOf p xs) (y : ℕ) (c : Bool) → (x == y) ≡ c → (c || is_on y f.more) ≡ true → p y ≡ false
+        bars f y true k h = ap p (sym ((unsigned_Decides x y).0 k)) ∙ e
+        bars f y false k h = f.none y h
+
+-- those that none passes lie in front
+pub front_behind : (p : ℕ → Bool) (xs ys : List ℕ) → ((x : ℕ) → is_on x xs ≡ true → p x ≡ false) → filter p (xs ++ ys) ≡ filter p ys
+front_behind p [] ys none = refl
+front_behind p (x ∷ xs) ys none =
+    ap (λ (b : Bool). cond b (x ∷ filter p (xs ++ ys)) (filter p (xs ++ ys))) (none x (or_left (x == x) (is_on x xs) ((unsigned_Decides x x).1 refl)))
+    ∙ front_behind p xs ys (λ y h. none y (or_right (x == y) (is_on y xs) h))
+
+-- ---- all where a slot is free, else those with a block
+
+pub has_block_is : (b : Backing) → is_some (block_of b) ≡ has_block b
+has_block_is backing.None = refl
+has_block_is b = refl
+
+or_false : (a b : Bool) → b ≡ false → (a || b) ≡ a
+or_false true b e = refl
+or_false false b e = e
+
+module _ (s : StateOf) (h : StateHolds s) (n : ℕ) (counted : n ≡ count_by (λ b. b) s.life.free_slots) where
+  pub all_writable : not (n == 0) ≡ true → writable_modified s.life ≡ s.life.frames.modified
+  all_writable some = filter_all (can_be_written s.life) s.life.frames.modified
+      (λ f on. sym (writable_is s h f on n counted) ∙ or_right (is_some (block_of (record_at s.life.frames f).backing)) (not (n == 0)) some)
+
+  pub blocks_writable : not (n == 0) ≡ false → writable_modified s.life ≡ modified_with_block s.life.frames
+  blocks_writable none = filter_same (can_be_written s.life) (λ f. has_block (record_at s.life.frames f).backing) s.life.frames.modified
+      (λ f on. sym (writable_is s h f on n counted) ∙ or_false (is_some (block_of (record_at s.life.frames f).backing)) (not (n == 0)) none ∙ has_block_is (record_at s.life.frames f).backing)
+
+-- ---- writes of modified frames begin, of those that can be written, in the order of their list
 
 -- ---- the first that passes a test
 

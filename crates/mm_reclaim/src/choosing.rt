@@ -45,7 +45,7 @@ fn oldest_to_go<T: Moving>(state: &T, pinned: Option<Frame>, pid: Pid) -> Option
 }
 
 /// Whether a process whose page may go takes over from the best so far.
-#[tactic(auto, using(crate::proofs::Bests::has_set))]
+#[tactic(auto, using(crate::proofs::ChoreMoves::has_set))]
 fn takes_over<T: Moving>(state: &T, pid: Pid, best: Option<Place>) -> bool
     requires open { (T.shown state.now).is_open pid.0 ≡ true }
     requires best { ForSome best (λ v. (T.shown state.now).is_open v.pid.0 ≡ true) }
@@ -84,7 +84,7 @@ fn better<T: Moving>(
 }
 
 /// Whether no later process takes over from the best so far: its process is above its minimum.
-#[tactic(auto, using(crate::proofs::Bests::has_set, crate::proofs::Bests::settled))]
+#[tactic(auto, using(crate::proofs::ChoreMoves::has_set, crate::proofs::ChoreMoves::settled))]
 fn is_settled<T: Moving>(state: &T, best: Option<Place>) -> bool
     requires open { ForSome best (λ v. (T.shown state.now).is_open v.pid.0 ≡ true) }
     ensures { result ≡ true → (n : ℕ) → takes (T.shown state.now).life n best ≡ false }
@@ -97,7 +97,7 @@ fn is_settled<T: Moving>(state: &T, best: Option<Place>) -> bool
 
 /// The page that a search unmaps: the oldest that may go in the first process that holds one, those
 /// above their minimum first, then the lowest pid. None exactly where no page may go.
-#[tactic(auto, using(crate::proofs::Bests::begins))]
+#[tactic(auto, using(crate::proofs::ChoreMoves::begins))]
 pub fn victim<T: Moving>(state: &T, pinned: Option<Frame>) -> Option<Place>
     ensures { MatchOption result (NoneMayGo (T.shown state.now).life pinned)
         (λ v. IsVictim (T.shown state.now).life (T.shown state.now).ages pinned v) }

@@ -10,7 +10,7 @@ use mm_types::{Pid, Place};
 
 /// Unmaps the oldest page of an open process that has more than its minimum. Answers whether it
 /// had.
-#[tactic(auto, using(crate::proofs::Trimming::some_page, crate::proofs::Trimming::trim_legal, crate::proofs::Trimming::unmaps))]
+#[tactic(auto, using(crate::proofs::ChoreMoves::some_page, crate::proofs::ChoreMoves::trim_legal, crate::proofs::ChoreMoves::unmaps))]
 fn trim_one<T: Moving>(state: &mut T, pid: Pid) -> bool
     requires open { (T.shown state.old).is_open pid.0 ≡ true }
     requires kind { (T.shown state.old).life.kind ≡ kind.Trim pid }
@@ -45,7 +45,7 @@ pub fn trim<T: Moving>(state: &mut T, pid: Pid, n: u32)
 }
 
 /// Clears the first free frame. Answers whether there was one.
-#[tactic(auto, using(crate::proofs::Clearing::clear_legal, crate::proofs::Clearing::clears, crate::proofs::Clearing::clears_none))]
+#[tactic(auto, using(crate::proofs::ChoreMoves::clear_legal, crate::proofs::ChoreMoves::clears, crate::proofs::ChoreMoves::clears_none))]
 fn clear_one<T: Moving>(state: &mut T) -> bool
     requires kind { (T.shown state.old).life.kind ≡ kind.Zeroer }
     ensures clears { Rounds clearings result (T.shown state.old) (T.shown state.new) }

@@ -13,11 +13,11 @@ use mm_types::{Frame, Place, Record, Request};
 
 /// No frame was found: a device write failed in the search, none succeeded, and no page may go but
 /// those of the pinned frame.
-#[derive(Clone, Copy, PartialEq, Eq, Debug)]
+#[derive(Clone, Copy)]
 pub struct NoFrame;
 
 /// Which list has a frame: the first of these that is not empty.
-#[derive(Clone, Copy, PartialEq, Eq, Debug)]
+#[derive(Clone, Copy)]
 pub enum Found {
     Zeroed,
     Free,
@@ -51,7 +51,7 @@ fn is_of_modified(r: &Record) -> bool
 }
 
 /// Whether a frame is modified.
-#[tactic(auto, using(crate::proofs::Targets::modified_is))]
+#[tactic(auto, using(crate::proofs::Writing::modified_is))]
 fn is_modified<T: Moving>(state: &T, f: Frame) -> bool
     requires { f.0 < (T.shown state.now).life.machine.frames }
     ensures { result ≡ is_on f.0 (T.shown state.now).life.frames.modified }
@@ -62,7 +62,7 @@ fn is_modified<T: Moving>(state: &T, f: Frame) -> bool
 
 /// How many modified frames can be written: all of them where a slot is free, else those that have
 /// a block.
-#[tactic(auto, using(crate::proofs::Writables::all_writable, crate::proofs::Writables::blocks_writable))]
+#[tactic(auto, using(crate::proofs::Writing::all_writable, crate::proofs::Writing::blocks_writable))]
 fn writable_count<T: Moving>(state: &T) -> u32
     ensures { result ≡ length (writable_modified (T.shown state.now).life) }
 {
@@ -74,7 +74,7 @@ fn writable_count<T: Moving>(state: &T) -> u32
 }
 
 /// The first modified frame that can be written.
-#[tactic(auto, using(crate::proofs::Writables::all_writable, crate::proofs::Writables::blocks_writable))]
+#[tactic(auto, using(crate::proofs::Writing::all_writable, crate::proofs::Writing::blocks_writable))]
 pub(crate) fn first_writable<T: Moving>(state: &T) -> Option<Frame>
     ensures { option_map (λ f. f.0) result ≡ slice_get (writable_modified (T.shown state.now).life)
         0 }
@@ -112,7 +112,7 @@ fn walk<T: Moving>(state: &mut T, pinned: Option<Frame>) -> bool
 }
 
 /// A page goes, and its frame is written where it can be. Answers whether there is a frame.
-#[tactic(auto, using(crate::proofs::Turning::may_unmap, crate::proofs::Turning::begun_after, crate::proofs::Turning::low_after))]
+#[tactic(auto, using(crate::proofs::Phases::may_unmap, crate::proofs::Phases::begun_after, crate::proofs::Phases::low_after))]
 fn turn<T: Moving>(state: &mut T, place: Place, f: Frame) -> bool
     requires begun { IsUnderWay (T.shown state.old) }
     requires short { lists_are_empty (T.shown state.old).life ≡ true }
@@ -131,7 +131,7 @@ fn turn<T: Moving>(state: &mut T, place: Place, f: Frame) -> bool
 }
 
 /// The frame of a page that may go.
-#[tactic(auto, using(crate::proofs::Turning::goes_bound, crate::proofs::Turning::goes_some))]
+#[tactic(auto, using(crate::proofs::Phases::goes_bound, crate::proofs::Phases::goes_some))]
 fn frame_of<T: Moving>(state: &T, pinned: Option<Frame>, place: Place) -> Frame
     requires { goes (T.shown state.now).life pinned place ≡ true }
     ensures { (T.shown state.now).life.valid place ≡ Some result }

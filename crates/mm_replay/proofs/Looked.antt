@@ -7,8 +7,7 @@ use Rattle.mm_lists.specs.{ListsOf, number_at}
 use Rattle.mm_lists.proofs.{list_within}
 use Rattle.mm_slots.specs.{free_count}
 use Rattle.mm_slots.proofs.{count_changed}
-use Rattle.mm_replay.specs.{Kept, table_of, frames_on, IsBehind, AreApartFrom, FrameList}
-use Rattle.mm_replay.specs.Sound.{frame}
+use Rattle.mm_replay.specs.{Kept, table_of, frames_on, IsBehind, AreApartFrom, FrameList, frame}
 use Rattle.mm_replay.specs.declared.four_lists.FrameList.TheVariants as list
 
 -- ---- lists

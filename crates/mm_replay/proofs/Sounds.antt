@@ -1,26 +1,25 @@
 -- What is read stands in the text: its spelling, in front of the text that is given after it.
 use Rattle.std.proofs.Common.{◌≡◌, ◌==◌, ◌⊎◌, length, ℕ, ◌+◌, ◌-◌, ◌*◌, ◌%◌, ◌^◌, ◌≤◌, ◌<◌, Bool, true, false, cond, [], ◌∷◌, ◌++◌, codes, Option, Some, None, refl, sym, ap, ◌∙◌, subst, inl, inr, arith, append_assoc, nat_le, nat_lt}
 use Rattle.std.proofs.lemmas.Bool.{lt-ltb, le-ltb, cases_lt, lt-leb, and_left, and_right, eqb-true, ltb-true}
-use Rattle.mm_types.specs.{Text, glyph, decimal, Pid, Frame, Key, LineKind, Move}
-use Rattle.mm_types.specs.declared.numbers.Key.TheVariants.{Private, Shared}
-use Rattle.mm_types.specs.declared.moves.LineKind.TheVariants as kind
-use Rattle.mm_types.specs.declared.moves.Stored.TheVariants as stored
-use Rattle.mm_types.specs.declared.moves.Move.TheVariants as move
+use Rattle.mm_types.specs.{Text, glyph, decimal, Pid, Frame, Key}
 use Rattle.mm_life.specs.{numbered, place_onto, key_onto, kind_onto, move_onto, IsKey, IsPlace, IsKind, IsMove}
-use Rattle.mm_replay.specs.{vpn, area, slot, block, place, reading, past, past_or, strip, number_from, below, is_digit, led_by, read_number, small}
-use Rattle.mm_replay.specs.{read_pid, number_behind, read_place, read_private, read_shared, read_key, read_frame, read_machine, read_process}
-use Rattle.mm_replay.specs.{read_unbind, read_access, read_thread, read_trim, read_grow, read_plain_kind, read_kind, kind_behind, read_at}
-use Rattle.mm_replay.specs.{home_behind, read_add, read_drop, read_give, read_read, read_map, read_unmap, stored_behind, read_write, read_clear}
-use Rattle.mm_replay.specs.{read_steal, read_got, read_bad, read_soil, read_wrote, read_lost, read_end, read_taking, read_text}
-use Rattle.mm_replay.specs.Reading.{frame}
+use Rattle.mm_replay.specs.{reading, past, past_or, strip, number_from, below, is_digit, led_by, read_number, number_behind, home_behind}
+use Rattle.mm_replay.specs.{stored_behind, read_pid, read_place, read_private, read_shared, read_key, read_frame, read_machine, read_process}
+use Rattle.mm_replay.specs.{read_plain_kind, read_kind, read_at, read_end, read_taking, read_text}
 use Rattle.mm_replay.proofs.Numbers.{next, short, led, led_more, glyph_is, number_digit, number_grows, is_digit-true}
 use Rattle.mm_replay.proofs.ReadAgain.{small_or, read_key-onto, read_text-onto, value_of, rest_of}
 use Rattle.mm_moves.proofs.{decimal_one, decimal_more}
 
+abbrev Told : {A : Type 0} → (A → Text → Text) → (A → Type 0) → Text → Option (A × Text) → Type 0
+Told onto Is text None = Unit {0}
+Told onto Is text (Some p) = (onto p.0 p.1 ≡ text) × Is p.0
+
 -- a value that was read is spelled in front of the text after it, and is one of those that are asked for
-abbrev pub Sounds : {A : Type 0} → (A → Text → Text) → (A → Type 0) → Text → Option (A × Text) → Type 0
-Sounds onto Is text None = Unit {0}
-Sounds onto Is text (Some p) = (onto p.0 p.1 ≡ text) × Is p.0
+pub record Sounds {A : Type 0} (onto : A → Text → Text) (Is : A → Type 0) (text : Text) (r : Option (A × Text)) : Type 0 where
+  pub told : Told onto Is text r
+
+said : {A : Type 0} {onto : A → Text → Text} {Is : A → Type 0} (a : A) (rest : Text) → Is a → Sounds onto Is (onto a rest) (Some (a, rest))
+said a rest is = record { told = (refl, is) }
 
 -- a word that was taken off stood in front
 abbrev Strips : Text → Text → Option Text → Type 0
@@ -32,27 +31,42 @@ if_same false w c ws cs behind same below = tt
 if_same true w c ws cs None same below = tt
 if_same true w c ws cs (Some rest) same below = ap (λ k. k ∷ (ws ++ rest)) (sym (same refl)) ∙ ap (λ t. c ∷ t) below
 
-pub strips : (word text : Text) → Strips word text (strip word text)
+strips : (word text : Text) → Strips word text (strip word text)
 strips [] text = refl
 strips (w ∷ ws) [] = tt
 strips (w ∷ ws) (c ∷ cs) = if_same (c == w) w c ws cs (strip ws cs) (eqb-true c w) (strips ws cs)
 
--- ---- readings one after the other
+-- ---- readings one after the other, behind what was read before
 
-then_reads : {A X : Type 0} (onto : A → Text → Text) (Is : A → Type 0) (onto_x : X → Text → Text) (IsX : X → Type 0) (inner outer : Text) (r : Option (A × Text)) (go : A → Text → Option (X × Text))
-    → Sounds onto Is inner r → ((a : A) (rest : Text) → onto a rest ≡ inner → Is a → Sounds onto_x IsX outer (go a rest)) → Sounds onto_x IsX outer (reading r go)
-then_reads onto Is onto_x IsX inner outer None go sound more = tt
-then_reads onto Is onto_x IsX inner outer (Some p) go sound more = more p.0 p.1 sound.0 sound.1
+module _ {X : Type 0} {onto_x : X → Text → Text} {IsX : X → Type 0} (around : Text → Text) where
+  then_by : {A : Type 0} {onto : A → Text → Text} {Is : A → Type 0} {inner : Text} (r : Option (A × Text)) (go : A → Text → Option (X × Text))
+      → Sounds onto Is inner r → ((a : A) (rest : Text) → Is a → Sounds onto_x IsX (around (onto a rest)) (go a rest)) → Sounds onto_x IsX (around inner) (reading r go)
+  then_by None go sound more = record { told = tt }
+  then_by (Some p) go sound more = subst (λ (t : Text). Sounds onto_x IsX (around t) (go p.0 p.1)) sound.told.0 (more p.0 p.1 sound.told.1)
 
-past_reads : {X : Type 0} (word : Text) (onto_x : X → Text → Text) (IsX : X → Type 0) (inner outer : Text) (r : Option Text) (go : Text → Option (X × Text))
-    → Strips word inner r → ((rest : Text) → word ++ rest ≡ inner → Sounds onto_x IsX outer (go rest)) → Sounds onto_x IsX outer (past r go)
-past_reads word onto_x IsX inner outer None go strips more = tt
-past_reads word onto_x IsX inner outer (Some rest) go strips more = more rest strips
+  past_by : (word text : Text) (r : Option Text) (go : Text → Option (X × Text))
+      → Strips word text r → ((rest : Text) → Sounds onto_x IsX (around (word ++ rest)) (go rest)) → Sounds onto_x IsX (around text) (past r go)
+  past_by word text None go e more = record { told = tt }
+  past_by word text (Some rest) go e more = subst (λ (t : Text). Sounds onto_x IsX (around t) (go rest)) e (more rest)
 
-either_reads : {X : Type 0} (word : Text) (onto_x : X → Text → Text) (IsX : X → Type 0) (inner outer : Text) (r : Option Text) (go : Text → Option (X × Text)) (other : Option (X × Text))
-    → Strips word inner r → ((rest : Text) → word ++ rest ≡ inner → Sounds onto_x IsX outer (go rest)) → Sounds onto_x IsX outer other → Sounds onto_x IsX outer (past_or r go other)
-either_reads word onto_x IsX inner outer None go other strips more last = last
-either_reads word onto_x IsX inner outer (Some rest) go other strips more last = more rest strips
+  either_by : (word text : Text) (r : Option Text) (go : Text → Option (X × Text)) (other : Option (X × Text))
+      → Strips word text r → ((rest : Text) → Sounds onto_x IsX (around (word ++ rest)) (go rest)) → Sounds onto_x IsX (around text) other → Sounds onto_x IsX (around text) (past_or r go other)
+  either_by word text None go other e more last = last
+  either_by word text (Some rest) go other e more last = subst (λ (t : Text). Sounds onto_x IsX (around t) (go rest)) e (more rest)
+
+  then_reads : {A : Type 0} {onto : A → Text → Text} {Is : A → Type 0} {inner : Text} {r : Option (A × Text)} {go : A → Text → Option (X × Text)}
+      → Sounds onto Is inner r → ((a : A) (rest : Text) → Is a → Sounds onto_x IsX (around (onto a rest)) (go a rest)) → Sounds onto_x IsX (around inner) (reading r go)
+  then_reads {r = r} {go = go} sound more = then_by r go sound more
+
+  past_reads : (word text : Text) {go : Text → Option (X × Text)} → ((rest : Text) → Sounds onto_x IsX (around (word ++ rest)) (go rest)) → Sounds onto_x IsX (around text) (past (strip word text) go)
+  past_reads word text {go = go} more = past_by word text (strip word text) go (strips word text) more
+
+  either_reads : (word text : Text) {go : Text → Option (X × Text)} {other : Option (X × Text)} → ((rest : Text) → Sounds onto_x IsX (around (word ++ rest)) (go rest)) → Sounds onto_x IsX (around text) other
+      → Sounds onto_x IsX (around text) (past_or (strip word text) go other)
+  either_reads word text {go = go} {other = other} more last = either_by word text (strip word text) go other (strips word text) more last
+
+abbrev whole : Text → Text
+whole t = t
 
 -- ---- numbers
 
@@ -99,8 +113,8 @@ digits_sound sum (c ∷ cs) some = elim (digit_or c) [
 ]
 
 below_sound : (text : Text) (p : ℕ × Text) (b : Bool) → nat_lt p.0 (2 ^ 32) ≡ b → (p.0 < 2 ^ 32 → decimal p.0 ++ p.1 ≡ text) → Sounds decimal_front IsWord text (short b p)
-below_sound text p false e sound = tt
-below_sound text p true e sound = let h : p.0 < 2 ^ 32 = ltb-true p.0 (2 ^ 32) e in (sound h, h)
+below_sound text p false e sound = record { told = tt }
+below_sound text p true e sound = let h : p.0 < 2 ^ 32 = ltb-true p.0 (2 ^ 32) e in record { told = (sound h, h) }
 
 led_sound : (c : ℕ) (cs : Text) → 0x30 ≤ c → c ≤ 0x39 → Sounds decimal_front IsWord (c ∷ cs) (led_by c cs)
 led_sound c cs low high = elim (cases_lt 0x30 c) [
@@ -112,25 +126,22 @@ led_sound c cs low high = elim (cases_lt 0x30 c) [
   | inr zero_is ↦
       (let e : 0x30 ≡ c = omega arith in
       subst (Sounds decimal_front IsWord (c ∷ cs)) (sym (ap (λ b. led_more b (below (2 ^ 32) (number_from (c - 0x30) cs)) 0 cs) (le-ltb 0x30 c zero_is)))
-      (ap (λ t. t ++ cs) (decimal_one 0 (omega arith)) ∙ ap (λ d. d ∷ cs) e, omega arith))
+      (record { told = (ap (λ t. t ++ cs) (decimal_one 0 (omega arith)) ∙ ap (λ d. d ∷ cs) e, omega arith) }))
 ]
 
-pub number_sound : (text : Text) → Sounds decimal_front IsWord text (read_number text)
-number_sound [] = tt
+number_sound : (text : Text) → Sounds decimal_front IsWord text (read_number text)
+number_sound [] = record { told = tt }
 number_sound (c ∷ cs) = elim (digit_or c) [
-  | inl none ↦ subst (Sounds decimal_front IsWord (c ∷ cs)) (sym (ap (λ b. led b (led_by c cs)) none)) tt
+  | inl none ↦ subst (Sounds decimal_front IsWord (c ∷ cs)) (sym (ap (λ b. led b (led_by c cs)) none)) (record { told = tt })
   | inr d ↦ subst (Sounds decimal_front IsWord (c ∷ cs)) (sym (ap (λ b. led b (led_by c cs)) (is_digit-true c d.0 d.1))) (led_sound c cs d.0 d.1)
 ]
 
--- the same spelling within a longer one
-carry : {A : Type 0} (onto longer : A → Text → Text) (Is : A → Type 0) (inner outer : Text) (r : Option (A × Text)) → Sounds onto Is inner r → ((a : A) (rest : Text) → onto a rest ≡ inner → longer a rest ≡ outer) → Sounds longer Is outer r
-carry onto longer Is inner outer None sound more = tt
-carry onto longer Is inner outer (Some p) sound more = (more p.0 p.1 sound.0, sound.1)
-
 behind_sound : (word text : Text) → Sounds (numbered word) IsWord text (number_behind word text)
-behind_sound word text =
-    past_reads word (numbered word) IsWord text text (strip word text) read_number (strips word text)
-    (λ rest e. carry decimal_front (numbered word) IsWord rest text (read_number rest) (number_sound rest) (λ n last f. ap (λ t. word ++ t) f ∙ e))
+behind_sound word text = past_reads whole word text (λ rest. behind_by word rest (read_number rest) (number_sound rest))
+  where
+    behind_by : (word rest : Text) (r : Option (ℕ × Text)) → Sounds decimal_front IsWord rest r → Sounds (numbered word) IsWord (word ++ rest) r
+    behind_by word rest None sound = record { told = tt }
+    behind_by word rest (Some p) sound = record { told = (ap (λ t. word ++ t) sound.told.0, sound.told.1) }
 
 -- ---- parts of a move
 
@@ -140,13 +151,12 @@ pid_front p behind = decimal p.0 ++ behind
 abbrev IsPid : Pid → Type 0
 IsPid p = p.0 < 2 ^ 8
 
-small_by : (b : Bool) (n : ℕ) (rest text : Text) → nat_lt n 256 ≡ b → decimal n ++ rest ≡ text → Sounds pid_front IsPid text (small_or b n rest)
-small_by false n rest text low e = tt
-small_by true n rest text low e = (e, ltb-true n 256 low)
+small_by : (b : Bool) (n : ℕ) (rest : Text) → nat_lt n 256 ≡ b → Sounds pid_front IsPid (decimal n ++ rest) (small_or b n rest)
+small_by false n rest low = record { told = tt }
+small_by true n rest low = said _ _ (ltb-true n 256 low)
 
 pid_sound : (text : Text) → Sounds pid_front IsPid text (read_pid text)
-pid_sound text =
-    then_reads decimal_front IsWord pid_front IsPid text text (read_number text) small (number_sound text) (λ n rest e h. small_by (nat_lt n 256) n rest text refl e)
+pid_sound text = then_reads whole (number_sound text) (λ n rest h. small_by (nat_lt n 256) n rest refl)
 
 abbrev frame_front : Frame → Text → Text
 frame_front f behind = decimal f.0 ++ behind
@@ -155,174 +165,112 @@ abbrev IsFrame : Frame → Type 0
 IsFrame f = f.0 < 2 ^ 32
 
 frame_sound : (text : Text) → Sounds frame_front IsFrame text (read_frame text)
-frame_sound text =
-    then_reads decimal_front IsWord frame_front IsFrame text text (read_number text) (λ n behind. Some (frame n, behind)) (number_sound text) (λ n rest e h. (e, h))
+frame_sound text = then_reads whole (number_sound text) (λ n rest h. said _ _ h)
 
 place_sound : (text : Text) → Sounds place_onto IsPlace text (read_place text)
 place_sound text =
-    then_reads pid_front IsPid place_onto IsPlace text text (read_pid text) (λ p behind. reading (number_behind (codes ".") behind) (λ v last. Some (place p v, last))) (pid_sound text)
-    (λ p rest e h. then_reads (numbered (codes ".")) IsWord place_onto IsPlace rest text (number_behind (codes ".") rest) (λ v last. Some (place p v, last)) (behind_sound (codes ".") rest)
-    (λ v last f k. (ap (λ t. decimal p.0 ++ t) f ∙ e, (h, k))))
+    then_reads whole (pid_sound text) (λ p t h. then_reads (λ x. decimal p.0 ++ x) (behind_sound (codes ".") t) (λ v last i. said _ _ (h, i)))
 
-private_sound : (inner text : Text) → codes "p" ++ inner ≡ text → Sounds key_onto IsKey text (read_private inner)
-private_sound inner text w =
-    then_reads pid_front IsPid key_onto IsKey inner text (read_pid inner) (λ p behind. reading (number_behind (codes ".") behind) (λ v last. Some (Private p (vpn v), last))) (pid_sound inner)
-    (λ p rest e h. then_reads (numbered (codes ".")) IsWord key_onto IsKey rest text (number_behind (codes ".") rest) (λ v last. Some (Private p (vpn v), last)) (behind_sound (codes ".") rest)
-    (λ v last f k. (ap (λ t. codes "p" ++ t) (ap (λ t. decimal p.0 ++ t) f ∙ e) ∙ w, (h, k))))
+private_sound : (text : Text) → Sounds key_onto IsKey (codes "p" ++ text) (read_private text)
+private_sound text =
+    then_reads (λ x. codes "p" ++ x) (pid_sound text)
+    (λ p t h. then_reads (numbered (codes "p") p.0) (behind_sound (codes ".") t) (λ v last i. said _ _ (h, i)))
 
-shared_sound : (inner text : Text) → codes "s" ++ inner ≡ text → Sounds key_onto IsKey text (read_shared inner)
-shared_sound inner text w =
-    then_reads decimal_front IsWord key_onto IsKey inner text (read_number inner) (λ a behind. reading (number_behind (codes ".") behind) (λ i last. Some (Shared (area a) i, last))) (number_sound inner)
-    (λ a rest e h. then_reads (numbered (codes ".")) IsWord key_onto IsKey rest text (number_behind (codes ".") rest) (λ i last. Some (Shared (area a) i, last)) (behind_sound (codes ".") rest)
-    (λ i last f k. (ap (λ t. codes "s" ++ t) (ap (λ t. decimal a ++ t) f ∙ e) ∙ w, (h, k))))
+shared_sound : (text : Text) → Sounds key_onto IsKey (codes "s" ++ text) (read_shared text)
+shared_sound text =
+    then_reads (λ x. codes "s" ++ x) (number_sound text)
+    (λ a t h. then_reads (numbered (codes "s") a) (behind_sound (codes ".") t) (λ i last k. said _ _ (h, k)))
 
 key_sound : (text : Text) → Sounds key_onto IsKey text (read_key text)
-key_sound text =
-    either_reads (codes "p") key_onto IsKey text text (strip (codes "p") text) read_private (past (strip (codes "s") text) read_shared) (strips (codes "p") text)
-    (λ rest e. private_sound rest text e)
-    (past_reads (codes "s") key_onto IsKey text text (strip (codes "s") text) read_shared (strips (codes "s") text) (λ rest e. shared_sound rest text e))
+key_sound text = either_reads whole (codes "p") text private_sound (past_reads whole (codes "s") text shared_sound)
 
 -- ---- kinds of lines
 
--- a word and a value
-word_then : {A X : Type 0} (onto : A → Text → Text) (Is : A → Type 0) (onto_x : X → Text → Text) (IsX : X → Type 0) (word inner text : Text) (x : A → X) (r : Option (A × Text)) → Sounds onto Is inner r → word ++ inner ≡ text
-    → ((a : A) (b : Text) → onto_x (x a) b ≡ word ++ onto a b) → ((a : A) → Is a → IsX (x a)) → Sounds onto_x IsX text (reading r (λ a last. Some (x a, last)))
-word_then onto Is onto_x IsX word inner text x r sound w spelled is =
-    then_reads onto Is onto_x IsX inner text r (λ a last. Some (x a, last)) sound (λ a rest e h. (spelled a rest ∙ ap (λ t. word ++ t) e ∙ w, is a h))
-
-machine_sound : (inner text : Text) → codes "machine " ++ inner ≡ text → Sounds kind_onto IsKind text (read_machine inner)
-machine_sound inner text w =
+machine_sound : (text : Text) → Sounds kind_onto IsKind (codes "machine " ++ text) (read_machine text)
+machine_sound text =
+    let word = numbered (codes "machine ") in
     let space = numbered (codes " ") in
-    then_reads decimal_front IsWord kind_onto IsKind inner text (read_number inner)
-    (λ frames t. reading (number_behind (codes " ") t) (λ slots u. reading (number_behind (codes " ") u) (λ depth v. reading (number_behind (codes " ") v) (λ blocks last. Some (kind.Machine frames slots depth blocks, last)))))
-    (number_sound inner)
-    (λ frames t e h. then_reads space IsWord kind_onto IsKind t text (number_behind (codes " ") t)
-    (λ slots u. reading (number_behind (codes " ") u) (λ depth v. reading (number_behind (codes " ") v) (λ blocks last. Some (kind.Machine frames slots depth blocks, last))))
-    (behind_sound (codes " ") t)
-    (λ slots u f i. then_reads space IsWord kind_onto IsKind u text (number_behind (codes " ") u)
-    (λ depth v. reading (number_behind (codes " ") v) (λ blocks last. Some (kind.Machine frames slots depth blocks, last)))
-    (behind_sound (codes " ") u)
-    (λ depth v g j. then_reads space IsWord kind_onto IsKind v text (number_behind (codes " ") v) (λ blocks last. Some (kind.Machine frames slots depth blocks, last)) (behind_sound (codes " ") v)
-    (λ blocks last l k. (
-      ap (λ x. codes "machine " ++ (decimal frames ++ x)) (ap (λ x. space slots x) (ap (λ x. space depth x) l ∙ g) ∙ f) ∙ ap (λ x. codes "machine " ++ x) e ∙ w,
-      (h, i, j, k),
-    )))))
+    then_reads (λ x. codes "machine " ++ x) (number_sound text)
+    (λ frames t h. then_reads (word frames) (behind_sound (codes " ") t)
+    (λ slots u i. then_reads (λ x. word frames (space slots x)) (behind_sound (codes " ") u)
+    (λ depth v j. then_reads (λ x. word frames (space slots (space depth x))) (behind_sound (codes " ") v) (λ blocks last k. said _ _ (h, i, j, k)))))
 
-process_sound : (inner text : Text) → codes "process " ++ inner ≡ text → Sounds kind_onto IsKind text (read_process inner)
-process_sound inner text w =
-    let space = numbered (codes " ") in
-    then_reads pid_front IsPid kind_onto IsKind inner text (read_pid inner)
-    (λ p t. reading (number_behind (codes " ") t) (λ min u. reading (number_behind (codes " ") u) (λ max last. Some (kind.Process p min max, last))))
-    (pid_sound inner)
-    (λ p t e h. then_reads space IsWord kind_onto IsKind t text (number_behind (codes " ") t)
-    (λ min u. reading (number_behind (codes " ") u) (λ max last. Some (kind.Process p min max, last)))
-    (behind_sound (codes " ") t)
-    (λ min u f i. then_reads space IsWord kind_onto IsKind u text (number_behind (codes " ") u) (λ max last. Some (kind.Process p min max, last)) (behind_sound (codes " ") u)
-    (λ max last g j. (
-      ap (λ x. codes "process " ++ (decimal p.0 ++ x)) (ap (λ x. space min x) g ∙ f) ∙ ap (λ x. codes "process " ++ x) e ∙ w,
-      (h, i, j),
-    ))))
-
-kind_or : (word text : Text) (go : Text → Option (LineKind × Text)) (other : Option (LineKind × Text)) → ((rest : Text) → word ++ rest ≡ text → Sounds kind_onto IsKind text (go rest)) → Sounds kind_onto IsKind text other
-    → Sounds kind_onto IsKind text (past_or (strip word text) go other)
-kind_or word text go other first last = either_reads word kind_onto IsKind text text (strip word text) go other (strips word text) first last
+process_sound : (text : Text) → Sounds kind_onto IsKind (codes "process " ++ text) (read_process text)
+process_sound text =
+    let word = numbered (codes "process ") in
+    then_reads (λ x. codes "process " ++ x) (pid_sound text)
+    (λ p t h. then_reads (word p.0) (behind_sound (codes " ") t)
+    (λ min u i. then_reads (λ x. word p.0 (numbered (codes " ") min x)) (behind_sound (codes " ") u) (λ max last j. said _ _ (h, i, j))))
 
 plain_kind_sound : (text : Text) → Sounds kind_onto IsKind text (read_plain_kind text)
 plain_kind_sound text =
-    kind_or (codes "call") text (λ t. Some (kind.Call, t)) _ (λ rest e. (e, tt))
-    (kind_or (codes "writer") text (λ t. Some (kind.Writer, t)) _ (λ rest e. (e, tt))
-    (kind_or (codes "zeroer") text (λ t. Some (kind.Zeroer, t)) _ (λ rest e. (e, tt))
-    (kind_or (codes "io") text (λ t. Some (kind.Io, t)) _ (λ rest e. (e, tt))
-    (kind_or (codes "machine ") text read_machine _ (λ rest e. machine_sound rest text e)
-    (past_reads (codes "grow ") kind_onto IsKind text text (strip (codes "grow ") text) read_grow (strips (codes "grow ") text) (λ rest e. word_then decimal_front IsWord kind_onto IsKind (codes "grow ") rest text kind.Grow (read_number rest) (number_sound rest) e (λ n b. refl) (λ n h. h)))))))
+    either_reads whole (codes "call") text (λ t. said _ _ tt)
+    (either_reads whole (codes "writer") text (λ t. said _ _ tt)
+    (either_reads whole (codes "zeroer") text (λ t. said _ _ tt)
+    (either_reads whole (codes "io") text (λ t. said _ _ tt)
+    (either_reads whole (codes "machine ") text machine_sound
+    (past_reads whole (codes "grow ") text (λ t. then_reads (λ x. codes "grow " ++ x) (number_sound t) (λ n last h. said _ _ h)))))))
 
 kind_sound : (text : Text) → Sounds kind_onto IsKind text (read_kind text)
 kind_sound text =
-    kind_or (codes "access ") text read_access _ (λ rest e. word_then pid_front IsPid kind_onto IsKind (codes "access ") rest text kind.Access (read_pid rest) (pid_sound rest) e (λ p b. refl) (λ p h. h))
-    (kind_or (codes "thread ") text read_thread _ (λ rest e. word_then pid_front IsPid kind_onto IsKind (codes "thread ") rest text kind.Thread (read_pid rest) (pid_sound rest) e (λ p b. refl) (λ p h. h))
-    (kind_or (codes "unbind ") text read_unbind _ (λ rest e. word_then pid_front IsPid kind_onto IsKind (codes "unbind ") rest text kind.Unbind (read_pid rest) (pid_sound rest) e (λ p b. refl) (λ p h. h))
-    (kind_or (codes "trim ") text read_trim _ (λ rest e. word_then pid_front IsPid kind_onto IsKind (codes "trim ") rest text kind.Trim (read_pid rest) (pid_sound rest) e (λ p b. refl) (λ p h. h))
-    (kind_or (codes "process ") text read_process _ (λ rest e. process_sound rest text e)
-    (plain_kind_sound text)))))
+    either_reads whole (codes "access ") text (λ t. then_reads (λ x. codes "access " ++ x) (pid_sound t) (λ p last h. said _ _ h))
+    (either_reads whole (codes "thread ") text (λ t. then_reads (λ x. codes "thread " ++ x) (pid_sound t) (λ p last h. said _ _ h))
+    (either_reads whole (codes "unbind ") text (λ t. then_reads (λ x. codes "unbind " ++ x) (pid_sound t) (λ p last h. said _ _ h))
+    (either_reads whole (codes "trim ") text (λ t. then_reads (λ x. codes "trim " ++ x) (pid_sound t) (λ p last h. said _ _ h))
+    (either_reads whole (codes "process ") text process_sound (plain_kind_sound text)))))
 
 -- ---- moves
 
-at_sound : (inner text : Text) → codes "at " ++ inner ≡ text → Sounds move_onto IsMove text (read_at inner)
-at_sound inner text w =
-    then_reads decimal_front IsWord move_onto IsMove inner text (read_number inner) kind_behind (number_sound inner)
-    (λ n t e h. past_reads (codes " ") move_onto IsMove t text (strip (codes " ") t) (λ behind. reading (read_kind behind) (λ k last. Some (move.At n k, last))) (strips (codes " ") t)
-    (λ u f. then_reads kind_onto IsKind move_onto IsMove u text (read_kind u) (λ k last. Some (move.At n k, last)) (kind_sound u)
-    (λ k last g i. (ap (λ x. codes "at " ++ (decimal n ++ x)) (ap (λ x. codes " " ++ x) g ∙ f) ∙ ap (λ x. codes "at " ++ x) e ∙ w, (h, i)))))
+at_sound : (text : Text) → Sounds move_onto IsMove (codes "at " ++ text) (read_at text)
+at_sound text =
+    then_reads (λ x. codes "at " ++ x) (number_sound text)
+    (λ n t h. past_reads (numbered (codes "at ") n) (codes " ") t
+    (λ u. then_reads (λ x. numbered (codes "at ") n (codes " " ++ x)) (kind_sound u) (λ k last i. said _ _ (h, i))))
 
-home_sound : (k : Key) (inner text : Text) → IsKey k → codes "add " ++ key_onto k inner ≡ text → Sounds move_onto IsMove text (home_behind k inner)
-home_sound k inner text is w =
-    either_reads (codes " zero") move_onto IsMove inner text (strip (codes " zero") inner) (λ last. Some (move.Add k None, last)) (reading (number_behind (codes " block ") inner) (λ b last. Some (move.Add k (Some (block b)), last)))
-    (strips (codes " zero") inner)
-    (λ rest e. (ap (λ x. codes "add " ++ key_onto k x) e ∙ w, (is, tt)))
-    (then_reads (numbered (codes " block ")) IsWord move_onto IsMove inner text (number_behind (codes " block ") inner) (λ b last. Some (move.Add k (Some (block b)), last)) (behind_sound (codes " block ") inner)
-    (λ b last e h. (ap (λ x. codes "add " ++ key_onto k x) e ∙ w, (is, h))))
+home_sound : (k : Key) (text : Text) → IsKey k → Sounds move_onto IsMove (codes "add " ++ key_onto k text) (home_behind k text)
+home_sound k text is =
+    let around = (λ (x : Text). codes "add " ++ key_onto k x) in
+    either_reads around (codes " zero") text (λ t. said _ _ (is, tt))
+    (then_reads around (behind_sound (codes " block ") text) (λ b last h. said _ _ (is, h)))
 
-add_sound : (inner text : Text) → codes "add " ++ inner ≡ text → Sounds move_onto IsMove text (read_add inner)
-add_sound inner text w =
-    then_reads key_onto IsKey move_onto IsMove inner text (read_key inner) home_behind (key_sound inner)
-    (λ k rest e h. home_sound k rest text h (ap (λ x. codes "add " ++ x) e ∙ w))
+-- a key or a place after a space
+spaced : {A : Type 0} {onto : A → Text → Text} {Is : A → Type 0} {read : Text → Option (A × Text)} → ((t : Text) → Sounds onto Is t (read t)) → (text : Text) → Sounds (λ a b. codes " " ++ onto a b) Is text (past (strip (codes " ") text) read)
+spaced {A = A} {onto = onto} {Is = Is} {read = read} sound text = past_reads whole (codes " ") text (λ t. spaced_by t (read t) (sound t))
+  where
+    spaced_by : (t : Text) (r : Option (A × Text)) → Sounds onto Is t r → Sounds (λ a b. codes " " ++ onto a b) Is (codes " " ++ t) r
+    spaced_by t None s = record { told = tt }
+    spaced_by t (Some p) s = record { told = (ap (λ x. codes " " ++ x) s.told.0, s.told.1) }
 
--- a word, a frame and, after a space, a key or a place
-frame_then : {A : Type 0} (onto : A → Text → Text) (Is : A → Type 0) (read : Text → Option (A × Text)) → ((t : Text) → Sounds onto Is t (read t)) → (word inner text : Text) (m : Frame → A → Move) → word ++ inner ≡ text
-    → ((f : Frame) (a : A) (b : Text) → move_onto (m f a) b ≡ numbered word f.0 (codes " " ++ onto a b)) → ((f : Frame) (a : A) → IsFrame f → Is a → IsMove (m f a))
-    → Sounds move_onto IsMove text (reading (read_frame inner) (λ f behind. reading (past (strip (codes " ") behind) read) (λ a last. Some (m f a, last))))
-frame_then {A = A} onto Is read sound word inner text m w spelled is =
-    let spaced = (λ (a : A) (b : Text). codes " " ++ onto a b) in
-    then_reads frame_front IsFrame move_onto IsMove inner text (read_frame inner) (λ f behind. reading (past (strip (codes " ") behind) read) (λ a last. Some (m f a, last))) (frame_sound inner)
-    (λ f t e h. then_reads spaced Is move_onto IsMove t text (past (strip (codes " ") t) read) (λ a last. Some (m f a, last))
-    (past_reads (codes " ") spaced Is t t (strip (codes " ") t) read (strips (codes " ") t)
-    (λ u g. carry onto spaced Is u t (read u) (sound u) (λ a last i. ap (λ x. codes " " ++ x) i ∙ g)))
-    (λ a last g i. (spelled f a last ∙ ap (λ x. word ++ (decimal f.0 ++ x)) g ∙ ap (λ x. word ++ x) e ∙ w, is f a h i)))
-
-stored_sound : (f : Frame) (inner text : Text) → IsFrame f → numbered (codes "write ") f.0 inner ≡ text → Sounds move_onto IsMove text (stored_behind f inner)
-stored_sound f inner text is w =
-    either_reads (codes " slot ") move_onto IsMove inner text (strip (codes " slot ") inner) (λ behind. reading (read_number behind) (λ s last. Some (move.Write f (stored.Slot (slot s)), last)))
-    (reading (number_behind (codes " block ") inner) (λ b last. Some (move.Write f (stored.Block (block b)), last)))
-    (strips (codes " slot ") inner)
-    (λ rest e. then_reads decimal_front IsWord move_onto IsMove rest text (read_number rest) (λ s last. Some (move.Write f (stored.Slot (slot s)), last)) (number_sound rest)
-    (λ s last g h. (ap (λ x. numbered (codes "write ") f.0 x) (ap (λ x. codes " slot " ++ x) g ∙ e) ∙ w, (is, h))))
-    (then_reads (numbered (codes " block ")) IsWord move_onto IsMove inner text (number_behind (codes " block ") inner) (λ b last. Some (move.Write f (stored.Block (block b)), last)) (behind_sound (codes " block ") inner)
-    (λ b last e h. (ap (λ x. numbered (codes "write ") f.0 x) e ∙ w, (is, h))))
-
-write_sound : (inner text : Text) → codes "write " ++ inner ≡ text → Sounds move_onto IsMove text (read_write inner)
-write_sound inner text w =
-    then_reads frame_front IsFrame move_onto IsMove inner text (read_frame inner) stored_behind (frame_sound inner)
-    (λ f rest e h. stored_sound f rest text h (ap (λ x. codes "write " ++ x) e ∙ w))
-
-move_or : (word text : Text) (go : Text → Option (Move × Text)) (other : Option (Move × Text)) → ((rest : Text) → word ++ rest ≡ text → Sounds move_onto IsMove text (go rest)) → Sounds move_onto IsMove text other
-    → Sounds move_onto IsMove text (past_or (strip word text) go other)
-move_or word text go other first last = either_reads word move_onto IsMove text text (strip word text) go other (strips word text) first last
+stored_sound : (f : Frame) (text : Text) → IsFrame f → Sounds move_onto IsMove (numbered (codes "write ") f.0 text) (stored_behind f text)
+stored_sound f text is =
+    let around = numbered (codes "write ") f.0 in
+    either_reads around (codes " slot ") text (λ t. then_reads (λ x. around (codes " slot " ++ x)) (number_sound t) (λ s last h. said _ _ (is, h)))
+    (then_reads around (behind_sound (codes " block ") text) (λ b last h. said _ _ (is, h)))
 
 end_sound : (text : Text) → Sounds move_onto IsMove text (read_end text)
 end_sound text =
-    move_or (codes "wrote ") text read_wrote _ (λ rest e. word_then frame_front IsFrame move_onto IsMove (codes "wrote ") rest text move.Wrote (read_frame rest) (frame_sound rest) e (λ f b. refl) (λ f h. h))
-    (move_or (codes "got ") text read_got _ (λ rest e. word_then frame_front IsFrame move_onto IsMove (codes "got ") rest text move.Got (read_frame rest) (frame_sound rest) e (λ f b. refl) (λ f h. h))
-    (move_or (codes "soil ") text read_soil _ (λ rest e. word_then frame_front IsFrame move_onto IsMove (codes "soil ") rest text move.Soil (read_frame rest) (frame_sound rest) e (λ f b. refl) (λ f h. h))
-    (move_or (codes "lost ") text read_lost _ (λ rest e. word_then frame_front IsFrame move_onto IsMove (codes "lost ") rest text move.Lost (read_frame rest) (frame_sound rest) e (λ f b. refl) (λ f h. h))
-    (past_reads (codes "bad ") move_onto IsMove text text (strip (codes "bad ") text) read_bad (strips (codes "bad ") text)
-    (λ rest e. word_then frame_front IsFrame move_onto IsMove (codes "bad ") rest text move.Bad (read_frame rest) (frame_sound rest) e (λ f b. refl) (λ f h. h))))))
+    either_reads whole (codes "wrote ") text (λ t. then_reads (λ x. codes "wrote " ++ x) (frame_sound t) (λ f last h. said _ _ h))
+    (either_reads whole (codes "got ") text (λ t. then_reads (λ x. codes "got " ++ x) (frame_sound t) (λ f last h. said _ _ h))
+    (either_reads whole (codes "soil ") text (λ t. then_reads (λ x. codes "soil " ++ x) (frame_sound t) (λ f last h. said _ _ h))
+    (either_reads whole (codes "lost ") text (λ t. then_reads (λ x. codes "lost " ++ x) (frame_sound t) (λ f last h. said _ _ h))
+    (past_reads whole (codes "bad ") text (λ t. then_reads (λ x. codes "bad " ++ x) (frame_sound t) (λ f last h. said _ _ h))))))
 
 taking_sound : (text : Text) → Sounds move_onto IsMove text (read_taking text)
 taking_sound text =
-    move_or (codes "give ") text read_give _ (λ rest e. frame_then key_onto IsKey read_key key_sound (codes "give ") rest text move.Give e (λ f k b. refl) (λ f k h i. (h, i)))
-    (move_or (codes "clear ") text read_clear _ (λ rest e. word_then frame_front IsFrame move_onto IsMove (codes "clear ") rest text move.Clear (read_frame rest) (frame_sound rest) e (λ f b. refl) (λ f h. h))
-    (move_or (codes "read ") text read_read _ (λ rest e. frame_then key_onto IsKey read_key key_sound (codes "read ") rest text move.Read e (λ f k b. refl) (λ f k h i. (h, i)))
-    (move_or (codes "steal ") text read_steal _ (λ rest e. word_then frame_front IsFrame move_onto IsMove (codes "steal ") rest text move.Steal (read_frame rest) (frame_sound rest) e (λ f b. refl) (λ f h. h))
-    (move_or (codes "write ") text read_write _ (λ rest e. write_sound rest text e)
+    either_reads whole (codes "give ") text (λ t. then_reads (λ x. codes "give " ++ x) (frame_sound t) (λ f u h. then_reads (numbered (codes "give ") f.0) (spaced key_sound u) (λ k last i. said _ _ (h, i))))
+    (either_reads whole (codes "clear ") text (λ t. then_reads (λ x. codes "clear " ++ x) (frame_sound t) (λ f last h. said _ _ h))
+    (either_reads whole (codes "read ") text (λ t. then_reads (λ x. codes "read " ++ x) (frame_sound t) (λ f u h. then_reads (numbered (codes "read ") f.0) (spaced key_sound u) (λ k last i. said _ _ (h, i))))
+    (either_reads whole (codes "steal ") text (λ t. then_reads (λ x. codes "steal " ++ x) (frame_sound t) (λ f last h. said _ _ h))
+    (either_reads whole (codes "write ") text (λ t. then_reads (λ x. codes "write " ++ x) (frame_sound t) (λ f u h. stored_sound f u h))
     (end_sound text)))))
 
 text_sound : (text : Text) → Sounds move_onto IsMove text (read_text text)
 text_sound text =
-    move_or (codes "at ") text read_at _ (λ rest e. at_sound rest text e)
-    (move_or (codes "map ") text read_map _ (λ rest e. frame_then place_onto IsPlace read_place place_sound (codes "map ") rest text move.Map e (λ f p b. refl) (λ f p h i. (h, i)))
-    (move_or (codes "unmap ") text read_unmap _ (λ rest e. word_then place_onto IsPlace move_onto IsMove (codes "unmap ") rest text move.Unmap (read_place rest) (place_sound rest) e (λ p b. refl) (λ p h. h))
-    (move_or (codes "add ") text read_add _ (λ rest e. add_sound rest text e)
-    (move_or (codes "drop ") text read_drop _ (λ rest e. word_then key_onto IsKey move_onto IsMove (codes "drop ") rest text move.Drop (read_key rest) (key_sound rest) e (λ k b. refl) (λ k h. h))
+    either_reads whole (codes "at ") text at_sound
+    (either_reads whole (codes "map ") text (λ t. then_reads (λ x. codes "map " ++ x) (frame_sound t) (λ f u h. then_reads (numbered (codes "map ") f.0) (spaced place_sound u) (λ p last i. said _ _ (h, i))))
+    (either_reads whole (codes "unmap ") text (λ t. then_reads (λ x. codes "unmap " ++ x) (place_sound t) (λ p last h. said _ _ h))
+    (either_reads whole (codes "add ") text (λ t. then_reads (λ x. codes "add " ++ x) (key_sound t) (λ k u h. home_sound k u h))
+    (either_reads whole (codes "drop ") text (λ t. then_reads (λ x. codes "drop " ++ x) (key_sound t) (λ k last h. said _ _ h))
     (taking_sound text)))))
 
 -- a text that is said to be empty
@@ -358,4 +306,4 @@ module _ {A : Type 0} {onto : A → Text → Text} {Is : A → Type 0} {text : T
   pub whole_spelled : (v : A) (rest : Text) (b : Bool) → Some (v, rest) ≡ r → b ≡ (length rest == 0) → b ≡ true → onto v [] ≡ text
   whole_spelled v rest b e empty all_of =
       let here : Sounds onto Is text (Some (v, rest)) = subst (Sounds onto Is text) (sym e) reads.sound in
-      ap (onto v) (sym (none_behind rest b empty all_of)) ∙ here.0
+      ap (onto v) (sym (none_behind rest b empty all_of)) ∙ here.told.0

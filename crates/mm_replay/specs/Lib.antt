@@ -28,7 +28,7 @@ unfoldable pub use Holdings.{alive_at}
 pub use Listed.{AreLists, Kept, Off, belongs, free_alone, is_changed_page, is_owned, no_lists}
 pub use Listed.{record_of, table_of}
 pub use Slotted.{AreApartFrom, IsLowestIn, without_slot}
-pub use Sound.{IsEmptyFrame, SoundReplay}
+pub use Sound.{IsEmptyFrame, SoundReplay, frame}
 pub use Looking.{IsBehind, frame_at, frames_on}
 pub use Replaying.{flagged}
 pub use Flying.{AreFlagged, FlightOf, flight_of}

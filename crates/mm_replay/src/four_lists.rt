@@ -17,7 +17,7 @@ pub(crate) const STANDBY: u32 = 2;
 pub(crate) const MODIFIED: u32 = 3;
 
 /// A list of page frames that hold no valid page and have no request.
-#[derive(Clone, Copy, PartialEq, Eq, Debug)]
+#[derive(Clone, Copy, PartialEq, Eq)]
 pub enum FrameList {
     /// Frames of zeros, for pages of zeros.
     Zeroed,

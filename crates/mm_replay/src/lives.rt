@@ -10,7 +10,7 @@ use mm_types::{Held, Key, Move, NoMemory};
 use std::alloc::Global;
 
 /// Why a move was not applied.
-#[derive(Clone, Copy, PartialEq, Eq, Debug)]
+#[derive(Clone, Copy, PartialEq, Eq)]
 pub enum ApplyFault {
     /// It is not legal in this state.
     Illegal,

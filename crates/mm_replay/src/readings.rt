@@ -1,8 +1,9 @@
-ghost use Rattle.std.specs.Prelude.{◌≡◌, ◌^◌, ℕ, List, Option, IfSome, Some, [], option_map};
+ghost use Rattle.std.specs.Prelude.{◌≡◌, ◌^◌, ℕ, List, Option, IfSome, Some, [], codes, option_map};
 ghost use Rattle.mm_types.specs.{Move, Key};
 ghost use Rattle.mm_life.specs.{move_text, key_onto, IsMove, IsKey, move_onto};
 ghost use Rattle.mm_replay.specs.{strip, number_from, below, read_number, number_behind, read_pid, read_place, read_key, read_frame, read_plain_kind};
-ghost use Rattle.mm_replay.specs.{read_kind, read_end, read_taking, read_text};
+ghost use Rattle.mm_replay.specs.{read_kind, read_end, read_taking, read_text, read_private, read_shared, home_behind, key_behind, past};
+ghost use Rattle.mm_replay.specs.{place_behind, stored_behind};
 
 use mm_types::{Area, Block, Frame, Key, LineKind, Move, Pid, Place, Slot, Stored, Vpn};
 
@@ -96,24 +97,52 @@ fn place(text: &[u8]) -> Option<(Place, &[u8])>
     Some((Place { pid, vpn: Vpn(vpn) }, last))
 }
 
+fn private_key(text: &[u8]) -> Option<(Key, &[u8])>
+    ensures { option_map (λ p. (p.0, p.1.now)) result ≡ read_private text.now }
+{
+    let (pid, rest) = pid(text)?;
+    let (vpn, last) = number_behind(rest, b".")?;
+    Some((Key::Private(pid, Vpn(vpn)), last))
+}
+
+fn shared_key(text: &[u8]) -> Option<(Key, &[u8])>
+    ensures { option_map (λ p. (p.0, p.1.now)) result ≡ read_shared text.now }
+{
+    let (area, rest) = number(text)?;
+    let (index, last) = number_behind(rest, b".")?;
+    Some((Key::Shared(Area(area), index), last))
+}
+
 /// The key in front of a text, and what stands after it.
 fn key(text: &[u8]) -> Option<(Key, &[u8])>
     ensures { option_map (λ p. (p.0, p.1.now)) result ≡ read_key text.now }
 {
     if let Some(rest) = behind(text, b"p") {
-        let (pid, rest) = pid(rest)?;
-        let (vpn, last) = number_behind(rest, b".")?;
-        return Some((Key::Private(pid, Vpn(vpn)), last));
+        return private_key(rest);
     }
     let rest = behind(text, b"s")?;
-    let (area, rest) = number(rest)?;
-    let (index, last) = number_behind(rest, b".")?;
-    Some((Key::Shared(Area(area), index), last))
+    shared_key(rest)
 }
 
-/// Each of these words, one after another: where the text begins with it, what it makes of the
-/// parts that stand behind it, with a blank between two, and what stands after them. Behind a comma
-/// stand the names of further numbers.
+/// The key after a blank.
+fn key_behind(text: &[u8]) -> Option<(Key, &[u8])>
+    ensures { option_map (λ p. (p.0, p.1.now)) result ≡ key_behind text.now }
+{
+    let rest = behind(text, b" ")?;
+    key(rest)
+}
+
+/// The place after a blank.
+fn place_behind(text: &[u8]) -> Option<(Place, &[u8])>
+    ensures { option_map (λ p. (p.0, p.1.now)) result ≡ place_behind text.now }
+{
+    let rest = behind(text, b" ")?;
+    place(rest)
+}
+
+/// Each of these words, one after another: where the text begins with it, what it makes of the one
+/// or two parts that stand behind it, and what stands after them. Behind a comma stand the names of
+/// further numbers, each behind a blank.
 macro_rules! words {
     ($text:ident, $($word:literal => $make:path
         $(: $part:ident $($other:ident)? $(, $($number:ident)*)?)?;)*) => {
@@ -121,10 +150,7 @@ macro_rules! words {
             if let Some(rest) = behind($text, $word) {
                 $(
                     let Some(($part, rest)) = $part(rest) else { return None };
-                    $(
-                        let Some(rest) = behind(rest, b" ") else { return None };
-                        let Some(($other, rest)) = $other(rest) else { return None };
-                    )?
+                    $(let Some(($other, rest)) = $other(rest) else { return None };)?
                     $($(
                         let Some(($number, rest)) = number_behind(rest, b" ") else { return None };
                     )*)?
@@ -163,6 +189,15 @@ fn kind(text: &[u8]) -> Option<(LineKind, &[u8])>
     plain_kind(text)
 }
 
+/// The kind after a blank.
+fn kind_behind(text: &[u8]) -> Option<(LineKind, &[u8])>
+    ensures { option_map (λ p. (p.0, p.1.now)) result
+        ≡ past (strip (codes " ") text.now) read_kind }
+{
+    let rest = behind(text, b" ")?;
+    kind(rest)
+}
+
 /// The ends of requests, and `soil`.
 fn end_move(text: &[u8]) -> Option<(Move, &[u8])>
     ensures { option_map (λ p. (p.0, p.1.now)) result ≡ read_end text.now }
@@ -177,26 +212,46 @@ fn end_move(text: &[u8]) -> Option<(Move, &[u8])>
     None
 }
 
+/// A write of a frame, of which stands in front where to.
+fn stored_move(frame: Frame, text: &[u8]) -> Option<(Move, &[u8])>
+    ensures { option_map (λ p. (p.0, p.1.now)) result ≡ stored_behind frame text.now }
+{
+    if let Some(rest) = behind(text, b" slot ") {
+        let (slot, last) = number(rest)?;
+        return Some((Move::Write(frame, Stored::Slot(Slot(slot))), last));
+    }
+    let (block, last) = number_behind(text, b" block ")?;
+    Some((Move::Write(frame, Stored::Block(Block(block))), last))
+}
+
 /// The moves by which a frame is found and used.
 fn taking_move(text: &[u8]) -> Option<(Move, &[u8])>
     ensures { option_map (λ p. (p.0, p.1.now)) result ≡ read_taking text.now }
 {
     words!(text,
-        b"give " => Move::Give: frame key;
+        b"give " => Move::Give: frame key_behind;
         b"clear " => Move::Clear: frame;
-        b"read " => Move::Read: frame key;
+        b"read " => Move::Read: frame key_behind;
         b"steal " => Move::Steal: frame;
     );
     if let Some(rest) = behind(text, b"write ") {
-        let (frame, rest) = frame(rest)?;
-        if let Some(rest) = behind(rest, b" slot ") {
-            let (slot, last) = number(rest)?;
-            return Some((Move::Write(frame, Stored::Slot(Slot(slot))), last));
-        }
-        let (block, last) = number_behind(rest, b" block ")?;
-        return Some((Move::Write(frame, Stored::Block(Block(block))), last));
+        let Some((frame, rest)) = frame(rest) else {
+            return None
+        };
+        return stored_move(frame, rest);
     }
     end_move(text)
+}
+
+/// A page added, of which stands in front where from.
+fn home_move(key: Key, text: &[u8]) -> Option<(Move, &[u8])>
+    ensures { option_map (λ p. (p.0, p.1.now)) result ≡ home_behind key text.now }
+{
+    if let Some(last) = behind(text, b" zero") {
+        return Some((Move::Add(key, None), last));
+    }
+    let (block, last) = number_behind(text, b" block ")?;
+    Some((Move::Add(key, Some(Block(block))), last))
 }
 
 /// The move in front of a text, and what stands after it.
@@ -204,17 +259,15 @@ fn move_in_front(text: &[u8]) -> Option<(Move, &[u8])>
     ensures { option_map (λ p. (p.0, p.1.now)) result ≡ read_text text.now }
 {
     words!(text,
-        b"at " => Move::At: number kind;
-        b"map " => Move::Map: frame place;
+        b"at " => Move::At: number kind_behind;
+        b"map " => Move::Map: frame place_behind;
         b"unmap " => Move::Unmap: place;
     );
     if let Some(rest) = behind(text, b"add ") {
-        let (key, rest) = key(rest)?;
-        if let Some(last) = behind(rest, b" zero") {
-            return Some((Move::Add(key, None), last));
-        }
-        let (block, last) = number_behind(rest, b" block ")?;
-        return Some((Move::Add(key, Some(Block(block))), last));
+        let Some((key, rest)) = key(rest) else {
+            return None
+        };
+        return home_move(key, rest);
     }
     words!(text, b"drop " => Move::Drop: key;);
     taking_move(text)

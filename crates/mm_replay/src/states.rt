@@ -1,4 +1,4 @@
-ghost use Rattle.std.specs.Prelude.{◌≡◌, ◌+◌, ◌-◌, true, false, if◌then◌else◌, OnOk, OnErr, IfSome, length};
+ghost use Rattle.std.specs.Prelude.{◌≡◌, ◌+◌, ◌-◌, true, false, if◌then◌else◌, IfOk, OnOk, OnErr, IfSome, length};
 ghost use Rattle.mm_types.specs.declared.moves.Move.TheVariants as move;
 ghost use Rattle.mm_types.specs.declared.moves.LineKind.TheVariants as kind;
 ghost use Rattle.mm_life.specs.{unstarted, set_in, with_resident, is_dead, IsLegal, is_below_max, after_move, after_at, after_add, home_at};
@@ -100,39 +100,42 @@ impl State {
 
     // ---- `at`
 
+    /// The state after the first move, which gives the machine.
     #[tactic(auto, using(crate::proofs::Flags::flags))]
-    fn at_machine(
-        &mut self,
+    fn of_machine(
+        alloc: Global,
         line: u32,
         frames: u32,
         slots: u32,
         depth: u32,
         blocks: u32,
-    ) -> Result<(), NoMemory>
-        ensures ok { OnOk result (life self.new ≡
-            after_at (life self.old) line (kind.Machine frames slots depth blocks)) }
-        ensures err { OnErr result (life self.new ≡ life self.old) }
+    ) -> Result<State, NoMemory>
+        ensures { IfOk result (λ s. life s ≡
+            after_at unstarted line (kind.Machine frames slots depth blocks)) }
     {
-        let alloc = self.alloc;
         let added = flags(alloc, blocks, false)?;
         let flight = InFlight::new(alloc, frames)?;
         let table = Table::new(alloc, frames)?;
         let free_slots = SlotMap::new(alloc, slots)?;
-        self.frames = frames;
-        self.slots = slots;
-        self.depth = depth;
-        self.blocks = blocks;
-        self.line = line;
-        self.kind = LineKind::Machine(frames, slots, depth, blocks);
-        self.sets.clear();
-        put(&mut self.table, table);
-        put(&mut self.free_slots, free_slots);
-        put(&mut self.keys, Keys::new(alloc));
-        self.paging_keys = 0;
-        put(&mut self.added, added);
-        put(&mut self.places, Places::new(alloc));
-        put(&mut self.flight, flight);
-        Ok(())
+        let keys = Keys::new(alloc);
+        let places = Places::new(alloc);
+        Ok(State {
+            alloc,
+            frames,
+            slots,
+            depth,
+            blocks,
+            line,
+            kind: LineKind::Machine(frames, slots, depth, blocks),
+            sets: Vec::new(alloc),
+            table,
+            free_slots,
+            keys,
+            paging_keys: 0,
+            added,
+            places,
+            flight,
+        })
     }
 
     fn at(&mut self, line: u32, kind: LineKind) -> Result<(), NoMemory>
@@ -142,7 +145,10 @@ impl State {
     {
         match kind {
             LineKind::Machine(frames, slots, depth, blocks) => {
-                return self.at_machine(line, frames, slots, depth, blocks);
+                let alloc = self.alloc;
+                let state = State::of_machine(alloc, line, frames, slots, depth, blocks)?;
+                put(self, state);
+                return Ok(());
             }
             LineKind::Process(_, min, max) => {
                 let resident = 0;

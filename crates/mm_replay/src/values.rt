@@ -1,5 +1,5 @@
 ghost use Rattle.std.specs.Prelude.{◌≡◌, false, IfOk, option_map, replicate, slice_index_or, slice_set};
-ghost use Rattle.mm_replay.specs.Sound.{frame};
+ghost use Rattle.mm_replay.specs.{frame};
 
 use mm_types::{Frame, NoMemory};
 use std::alloc::Global;

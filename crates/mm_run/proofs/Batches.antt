@@ -1,7 +1,7 @@
 -- Events decided one after another.
 use Rattle.std.proofs.Common.{◌≡◌, ◌⊎◌, ℕ, ◌+◌, take, drop, get_or, length-drop, ◌<◌, Bool, true, cond, List, [], ◌∷◌, ◌++◌, length, refl, sym, ap, ◌∙◌, subst, inl, inr, arith}
 use Rattle.std.specs.Prelude.{count_by, Result, Ok, Err, MatchResult}
-use Rattle.std.proofs.lemmas.List.{take_more, take-append-drop}
+use Rattle.std.proofs.lemmas.List.{map-append, take_more, take-append-drop}
 use Rattle.std.proofs.lemmas.List.Sums.{sum_by_push, sum_by-cons}
 use Rattle.mm_types.specs.{MachineOf, limit_of, Answer, Event, Move}
 use Rattle.mm_types.specs.declared.answers.Answer.TheVariants as answer
@@ -12,25 +12,13 @@ use Rattle.mm_run.specs.{answers_in, BreaksOff, AreDecided, IsEventNext, ClosesE
 use Rattle.mm_run.specs.{IsBlamed, IsUnanswered, Handled, Stopped}
 use Rattle.mm_run.specs.declared.endings.Ending.TheVariants as ending
 use Rattle.mm_core.specs.{Scene}
-use Rattle.mm_run.proofs.Stories.{follows_here, last-append, line_answers-append}
+use Rattle.mm_run.proofs.Stories.{follows_here, last-append}
 use Rattle.mm_run.proofs.Firsts.{first_answered}
 use Rattle.mm_run.proofs.Ends.{blamed_beside}
-
-pub events-append : (xs ys : List DecidedLine) → events_in (xs ++ ys) ≡ events_in xs ++ events_in ys
-events-append [] ys = refl
-events-append (x ∷ xs) ys = ap (λ t. x.event ∷ t) (events-append xs ys)
 
 pub decided_then : (old : Stage) (xs ys : List DecidedLine) → AreDecided old xs → AreDecided (last_stage old xs) ys → AreDecided old (xs ++ ys)
 decided_then old [] ys u v = v
 decided_then old (x ∷ xs) ys u v = (u.0, u.1, decided_then x.after xs ys u.2 v)
-
-pub answers_many : (lines : List DecidedLine) → length (answers_in lines) ≡ length lines
-answers_many [] = refl
-answers_many (l ∷ ls) = let more = answers_many ls in omega arith
-
-pub events_many : (lines : List DecidedLine) → length (events_in lines) ≡ length lines
-events_many [] = refl
-events_many (l ∷ ls) = let more = events_many ls in omega arith
 
 -- an event has no text
 abbrev pub decided_event : Event → Answer → List Move → Stage → Stage → DecidedLine
@@ -41,7 +29,7 @@ handled_none s = record { lines = []; events_are = refl; decided = tt; ok_is = r
 
 counted_more : (p : Answer → Bool) (xs : List DecidedLine) (l : DecidedLine) (k : ℕ) → k ≡ count_by p (answers_in xs) → k + cond (p l.answer) 1 0 ≡ count_by p (answers_in (xs ++ l ∷ []))
 counted_more p xs l k e =
-    ap (λ n. n + cond (p l.answer) 1 0) e ∙ sym (sum_by_push (λ x. cond (p x) 1 0) (answers_in xs) l.answer) ∙ ap (count_by p) (sym (line_answers-append xs (l ∷ [])))
+    ap (λ n. n + cond (p l.answer) 1 0) e ∙ sym (sum_by_push (λ x. cond (p x) 1 0) (answers_in xs) l.answer) ∙ ap (count_by p) (sym (map-append (λ (x : DecidedLine). x.answer) xs (l ∷ [])))
 
 -- one event more
 pub handled_more : (s z end : Stage) (es : List Event) (ok none : ℕ) (e : Event) (a : Answer) → Handled s es ok none z → Moved z e a end → HasNoted end → Handled s (es ++ e ∷ []) (ok + cond (begins_ok a) 1 0) (none + cond (is_none a) 1 0) end
@@ -49,7 +37,7 @@ handled_more s z end es ok none e a h m noted =
     let l = decided_event e a m.moves z end in
     record {
       lines = h.lines ++ l ∷ [];
-      events_are = events-append h.lines (l ∷ []) ∙ ap (λ xs. xs ++ e ∷ []) h.events_are;
+      events_are = map-append (λ (x : DecidedLine). x.event) h.lines (l ∷ []) ∙ ap (λ xs. xs ++ e ∷ []) h.events_are;
       decided = decided_then s h.lines (l ∷ []) h.decided
           (record { follows = subst (λ (x : Stage). Follows x z) h.end_is (follows_here z); decided = m.decided }, noted, tt);
       ok_is = counted_more begins_ok h.lines l ok h.ok_is;

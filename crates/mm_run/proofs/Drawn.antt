@@ -4,33 +4,13 @@ use Rattle.std.specs.Prelude.{if◌then◌else◌, IsTrue, nat_le, ◌==◌}
 use Rattle.std.specs.List.{AllByRecursion}
 use Rattle.std.proofs.lemmas.Nat.{mod_below}
 use Rattle.std.proofs.lemmas.Bool.{le-leb}
-use Rattle.std.proofs.lemmas.List.{take_all}
+use Rattle.std.proofs.lemmas.List.{take_rest}
 use Rattle.mm_types.specs.{MachineOf, Event}
 use Rattle.mm_types.specs.declared.events.Event.TheVariants as line
 use Rattle.mm_script.specs.{IsInRange, fields_of, are_joined}
 use Rattle.mm_make.specs.{outputs, seeded, outputs_from, Drawn, drawn, drawn_events, drawn_of_kind, write_drawn, read_drawn, address_drawn, script_of}
 use Rattle.mm_core.specs.{is_machine}
 use Rattle.mm_run.specs.{IsLaterEvent, AreLater}
-
-abbrev small_machine : MachineOf
-small_machine = record { frames = 64; slots = 256; depth = 4; blocks = 32 }
-
-abbrev fixed_later : List Event
-fixed_later =
-    line.Process 8 48
-    ∷ line.Process 8 48
-    ∷ line.File (codes "data") 32 1
-    ∷ line.Alloc (record { 0 = 1 }) 0x0 0x80000 0x3000 0x4
-    ∷ line.Create (record { 0 = 1 }) 0x20000 0x4 (Some (codes "pool"))
-    ∷ line.Open (record { 0 = 2 }) (codes "pool")
-    ∷ line.Map (record { 0 = 1 }) 4 0x2 0x0 0x0 0x0
-    ∷ line.Map (record { 0 = 2 }) 4 0x2 0x0 0x0 0x0
-    ∷ line.CreateFile (record { 0 = 2 }) (codes "data") 0x4 None
-    ∷ line.Map (record { 0 = 2 }) 8 0x1 0x0 0x0 0x0 ∷ []
-
--- the events after the first one
-abbrev pub later_events : ℕ → ℕ → List Event
-later_events seed count = fixed_later ++ drawn_events count (outputs (seeded seed))
 
 later_of : (e : Event) → AllByRecursion IsInRange (fields_of e) → IsTrue (are_joined e) → is_machine e ≡ false → IsLaterEvent e
 later_of e fields joined later = record { well_formed = record { fields = fields; joined = joined }; later = later }
@@ -40,23 +20,8 @@ later_of e fields joined later = record { well_formed = record { fields = fields
 process_later : IsLaterEvent (line.Process 8 48)
 process_later = later_of (line.Process 8 48) (tt, ((omega arith, omega arith), ((omega arith, omega arith), tt))) refl refl
 
-file_later : IsLaterEvent (line.File (codes "data") 32 1)
-file_later = later_of (line.File (codes "data") 32 1) (tt, (refl, ((omega arith, omega arith), ((omega arith, omega arith), tt)))) refl refl
-
-alloc_later : IsLaterEvent (line.Alloc (record { 0 = 1 }) 0x0 0x80000 0x3000 0x4)
-alloc_later = later_of (line.Alloc (record { 0 = 1 }) 0x0 0x80000 0x3000 0x4) (tt, ((omega arith, omega arith), (omega arith, (omega arith, (omega arith, (omega arith, tt)))))) refl refl
-
-create_later : IsLaterEvent (line.Create (record { 0 = 1 }) 0x20000 0x4 (Some (codes "pool")))
-create_later = later_of (line.Create (record { 0 = 1 }) 0x20000 0x4 (Some (codes "pool"))) (tt, ((omega arith, omega arith), (omega arith, (omega arith, (refl, tt))))) refl refl
-
-open_later : IsLaterEvent (line.Open (record { 0 = 2 }) (codes "pool"))
-open_later = later_of (line.Open (record { 0 = 2 }) (codes "pool")) (tt, ((omega arith, omega arith), (refl, tt))) refl refl
-
 map_later : (pid handle access : ℕ) → pid ≤ 255 → handle ≤ 0xFFFFFFFF → access < 2 ^ 32 → IsLaterEvent (line.Map (record { 0 = pid }) handle access 0x0 0x0 0x0)
 map_later pid handle access p h a = later_of (line.Map (record { 0 = pid }) handle access 0x0 0x0 0x0) (tt, ((omega arith, p), ((omega arith, h), (a, (omega arith, (omega arith, (omega arith, tt))))))) refl refl
-
-create_file_later : IsLaterEvent (line.CreateFile (record { 0 = 2 }) (codes "data") 0x4 None)
-create_file_later = later_of (line.CreateFile (record { 0 = 2 }) (codes "data") 0x4 None) (tt, ((omega arith, omega arith), (refl, (omega arith, (tt, tt))))) refl refl
 
 -- ---- the drawn ones
 
@@ -106,42 +71,39 @@ unfolding drawn_events
 all_drawn_later zero words = tt
 all_drawn_later (suc n) words = (of_kind_later (words 0 % 8) words, all_drawn_later n (outputs_from (drawn words).taken words))
 
-pub are_later : (seed count : ℕ) → AreLater (later_events seed count)
+also : {A B : Type 0} → A → B → A × B
+also first rest = (first, rest)
+
+are_later : (seed count : ℕ) → AreLater (drop 1 (script_of seed count))
 are_later seed count =
-    (process_later, (process_later, (file_later, (alloc_later, (create_later, (open_later, (map_later 1 4 0x2 (omega arith) (omega arith) (omega arith), (map_later 2 4 0x2 (omega arith) (omega arith) (omega arith), (create_file_later, (map_later 2 8 0x1 (omega arith) (omega arith) (omega arith), all_drawn_later count (outputs (seeded seed))))))))))))
+    also process_later
+    (also process_later
+    (also (later_of _ (tt, (refl, ((omega arith, omega arith), ((omega arith, omega arith), tt)))) refl refl)
+    (also (later_of _ (tt, ((omega arith, omega arith), (omega arith, (omega arith, (omega arith, (omega arith, tt)))))) refl refl)
+    (also (later_of _ (tt, ((omega arith, omega arith), (omega arith, (omega arith, (refl, tt))))) refl refl)
+    (also (later_of _ (tt, ((omega arith, omega arith), (refl, tt))) refl refl)
+    (also (map_later 1 4 0x2 (omega arith) (omega arith) (omega arith))
+    (also (map_later 2 4 0x2 (omega arith) (omega arith) (omega arith))
+    (also (later_of _ (tt, ((omega arith, omega arith), (refl, (omega arith, (tt, tt))))) refl refl)
+    (also (map_later 2 8 0x1 (omega arith) (omega arith) (omega arith)) (all_drawn_later count (outputs (seeded seed))))))))))))
 
 drawn_many : (n : ℕ) (words : ℕ → ℕ) → length (drawn_events n words) ≡ n
 unfolding drawn_events
 drawn_many zero words = refl
 drawn_many (suc n) words = ap suc (drawn_many n (outputs_from (drawn words).taken words))
 
-pub later_many : (seed count : ℕ) → length (later_events seed count) ≡ 10 + count
-later_many seed count = let many = drawn_many count (outputs (seeded seed)) in omega (arith, many)
-
 -- ---- the list of a script
 
-tail_of : {X : Type 0} (xs : List X) (x : X) (ys : List X) → xs ≡ x ∷ ys → drop 1 xs ≡ ys
-tail_of xs x ys q = ap (drop 1) q
-
 module _ (seed count : ℕ) (events : List Event) (are : events ≡ script_of seed count) where
-  pub script_rest : drop 1 events ≡ later_events seed count
-  script_rest = tail_of events (line.Machine small_machine) (later_events seed count) are
-
-  pub script_many : length events ≡ 11 + count
-  script_many = let many = later_many seed count in omega (arith, ap length are, many)
-
-  pub rest_later : AreLater (drop 1 events)
-  rest_later = subst AreLater (sym script_rest) (are_later seed count)
-
-  slice_is : take (length events - 1) (drop 1 events) ≡ drop 1 events
-  slice_is = take_all (length events - 1) (drop 1 events) (omega (arith, length-drop 1 events))
+  rest_is : take (length events - 1) (drop 1 events) ≡ drop 1 (script_of seed count)
+  rest_is = take_rest events 1 ∙ ap (drop 1) are
 
   pub slice_later : AreLater (take (length events - 1) (drop 1 events))
-  slice_later = subst AreLater (sym slice_is) rest_later
+  slice_later = subst AreLater (sym rest_is) (are_later seed count)
 
   pub slice_few : count ≤ 100000 → length (take (length events - 1) (drop 1 events)) < 1000000
-  slice_few few = omega (arith, ap length slice_is, length-drop 1 events, script_many)
+  slice_few few = let many = drawn_many count (outputs (seeded seed)) in omega (arith, ap length rest_is, many)
 
   -- the first event, and the others
   pub script_whole : (first : Event) → first ≡ get_or events 0 first → first ∷ take (length events - 1) (drop 1 events) ≡ script_of seed count
-  script_whole first at = λ i. (at ∙ ap (λ xs. get_or xs 0 first) are) i ∷ (slice_is ∙ script_rest) i
+  script_whole first at = λ i. (at ∙ ap (λ xs. get_or xs 0 first) are) i ∷ rest_is i

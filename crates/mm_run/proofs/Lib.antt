@@ -38,7 +38,7 @@ pub use Finding.{steps_then}
 pub use Unpaged.{plain_answer, unpaged_answer}
 pub use Deciding.{devices_hold}
 pub use Closing.{accounted_closed, ran_closed}
-pub use Starting.{is_made, is_new, opened_over, starts_at, three_names}
+pub use Starting.{is_made, is_new, lent, starts_over, three_names}
 pub use Numbers.{scan}
 pub use Batches.{blamed_opened, first_handled, first_muted, first_stopped, handled_none, handled_on}
 pub use Batches.{stopped_here, stopped_on}

@@ -2,6 +2,7 @@
 use Rattle.std.proofs.Common.{◌≡◌, ◌⊎◌, ℕ, Bool, true, false, List, [], ◌∷◌, ◌++◌, Option, Some, None, refl, sym, ap, ◌∙◌, inl, inr}
 use Rattle.std.specs.List.{list_any}
 use Rattle.std.specs.Prelude.{map, if◌then◌else◌, is_some, ◌&&◌, ◌||◌, ◌==◌, not, unwrap_or, option_map}
+use Rattle.std.proofs.lemmas.Bool.{and_parts}
 use Rattle.mm_types.proofs.{or_left, or_right}
 use Rattle.mm_types.specs.{Answer, Event, Backing, Record, Request, Move}
 use Rattle.mm_types.specs.declared.events.Event.TheVariants as line
@@ -69,10 +70,6 @@ later_failed : (xs ys : List DeviceCall) → any_failed ys ≡ true → any_fail
 later_failed [] ys h = h
 later_failed (x ∷ xs) ys h = or_right (not x.succeeded) (any_failed (xs ++ ys)) (later_failed xs ys h)
 
-and_first : (a b : Bool) → (a && b) ≡ true → a ≡ true
-and_first true b e = refl
-and_first false b e = e
-
 read_has : (r : Request) → is_read r ≡ true → has_request r ≡ true
 read_has request.None e = cc
 read_has r e = refl
@@ -99,7 +96,7 @@ bad_traffic : (ms : List Move) (l m : FrameLife) → Sound l → Replays ms l m 
 bad_traffic [] l m s r h = cc
 bad_traffic (move.Bad f ∷ ms) l m s r h =
     bad_calls (record_at l.frames f.0).backing (calls_of in_slot (after_move l (move.Bad f)) ms) (calls_of in_block (after_move l (move.Bad f)) ms)
-    (backed_read (record_at l.frames f.0) (s.standing f.0).fit (and_first (is_read (record_at l.frames f.0).request) (is_io l.kind || is_access l.kind) r.0))
+    (backed_read (record_at l.frames f.0) (s.standing f.0).fit (and_parts (is_read (record_at l.frames f.0).request) (is_io l.kind || is_access l.kind) r.0).0)
 bad_traffic (x ∷ ms) l m s r h = further x l ms (bad_traffic ms (after_move l x) m (keeps x l s r.0) r.1 h)
 
 any_call : (cs : List Call) → list_any (λ c. not c.succeeded) cs ≡ any_failed (map logged_call cs)

@@ -1,10 +1,13 @@
 -- A machine begins over a new store of pages, as a run tells it.
+use Rattle.std.proofs.lemmas.List.{length-replicate}
+use Rattle.std.specs.Prelude.{Bool}
 use Rattle.std.proofs.Common.{◌≡◌, ◌≤◌, ℕ, zero, suc, List, [], ◌∷◌, Option, None, true, false, length, replicate, slice_get, refl, sym, ap, ◌∙◌, subst}
 use Rattle.mm_types.specs.{MachineOf, Key, Loan, Both}
 use Rattle.mm_life.specs.{IsLegal, unstarted, Log, Grew, AreMoves, spelled_moves, Idle, wait_of}
 use Rattle.std.specs.Borrow.{GName}
 use Rattle.mm_blocks.specs.{DeviceOf, NamedCalls, NoneLogged, device_with, empty_block}
 use Rattle.mm_blocks.specs.declared.Blocks.{Ghosts as DeviceGhosts}
+use Rattle.mm_io.specs.declared.Sink.{Ghosts as SinkGhosts}
 use Rattle.mm_world.specs.{Page, first_world}
 use Rattle.mm_world.specs.World.{World}
 use Rattle.mm_flight.specs.declared.flights.Waiting.TheVariants as waiting
@@ -16,7 +19,7 @@ use Rattle.mm_state.specs.{MachineStarts, joined_state}
 use Rattle.mm_paged.specs.{OwnOf, own_of, store_of, behind_of}
 use Rattle.mm_paging.specs.{Agrees, first_move}
 use Rattle.mm_core.specs.{Scene}
-use Rattle.mm_run.specs.{AreOpened, Outset, MachineIsMade, Opened, Starts, device_seen}
+use Rattle.mm_run.specs.{AreOpened, Outset, MachineIsMade, Opened, Starts, device_seen, outset}
 
 nobody_waits : (n t : ℕ) → walked_or (slice_get (replicate n waiting.Nothing) t) ≡ Idle
 nobody_waits zero t = refl
@@ -25,10 +28,6 @@ nobody_waits (suc n) (suc t) = nobody_waits n t
 
 abbrev own : OwnOf
 own = own_of None None 0
-
-as_many : (n : ℕ) → length (replicate n empty_block) ≡ n
-as_many zero = refl
-as_many (suc n) = ap suc (as_many n)
 
 abbrev scene_of : World → StoreOf → Behind → Scene
 scene_of y s b = record { world = y; report = s.report; paging = s.paging_device; files = s.file_device; blocks = s.file_blocks; behind = b }
@@ -49,7 +48,7 @@ module _ (m : MachineOf) (o : Outset) (paging files : DeviceOf) (slots blocks : 
     no_keys = refl;
     no_block = λ k. refl;
     unused = refl;
-    stored = ap (λ (xs : List Page). length xs) opened.opened.blocks ∙ as_many m.blocks;
+    stored = ap (λ (xs : List Page). length xs) opened.opened.blocks ∙ length-replicate m.blocks empty_block;
     line = refl;
     kind = refl;
     no_pid = refl;
@@ -98,26 +97,26 @@ module _ (m : MachineOf) (o : Outset) (paging files : DeviceOf) (slots blocks : 
       (subst (λ (x : StoreOf). MachineIsMade m o (scene_of (first_world m) x b)) (sym es)
       (subst (λ (x : Behind). MachineIsMade m o (scene_of (first_world m) (store_of z own) x)) (sym eb) here))
 
--- the devices that were opened, as what stands over them shows them
-pub opened_over : {P F : Type 0} (p : DeviceGhosts P) (f : DeviceGhosts F) (m : MachineOf) (o : Outset) (x x' : P) (y y' : F) (plan plan' : List NamedCalls) → AreOpened m (device_seen p x) (device_seen f y) → x' ≡ x → y' ≡ y → plan ≡ [] → plan' ≡ [] → o.paging ≤ p.faults x → o.files ≤ f.faults y
-    → Opened m o (device_with (p.log x') plan (p.faults x')) (device_with (f.log y') plan' (f.faults y')) (p.blocks x') (f.blocks y')
-opened_over p f m o x x' y y' plan plan' opened pd fd paging_named files_named later later' = record {
-  opened = subst (λ d. AreOpened m (device_seen p d) (device_seen f y')) (sym pd) (subst (λ d. AreOpened m (device_seen p x) (device_seen f d)) (sym fd) opened);
-  paging_named = paging_named;
-  files_named = files_named;
-  paging_later = subst (λ d. o.paging ≤ p.faults d) (sym pd) later;
-  files_later = subst (λ d. o.files ≤ f.faults d) (sym fd) later';
-}
-
-pub starts_at : (m : MachineOf) (o : Outset) (log : Log) (paging files : DeviceOf) (slots blocks : List Page) (z : StateOf) → log ≡ o.log → o.log.failed ≡ false → Opened m o paging files slots blocks → MachineStarts m log paging files slots blocks z → Starts m o z
-starts_at m o log paging files slots blocks z same unfailed opened noted = record {
-  paging = paging;
-  files = files;
-  slots = slots;
-  blocks = blocks;
-  opened = opened;
-  noted = subst (λ (l : Log). MachineStarts m l paging files slots blocks z) same noted;
-  unfailed = unfailed;
+-- the state that was made over devices that were opened, and over the sink of moves, is one with which a run starts
+pub starts_over : {P F K : Type 0} (p : DeviceGhosts P) (f : DeviceGhosts F) (k : SinkGhosts K) (m : MachineOf) {x x' : P} {y y' : F} {w w' : K} {plan plan' : List NamedCalls} {failed : Bool} (z : StateOf)
+    → AreOpened m (device_seen p x) (device_seen f y) → x' ≡ x → y' ≡ y → w' ≡ w → plan ≡ [] → plan' ≡ [] → failed ≡ false
+    → MachineStarts m (record { bytes = k.taken w'; given = k.given w'; failed = failed; faults = k.faults w' }) (device_with (p.log x') plan (p.faults x')) (device_with (f.log y') plan' (f.faults y')) (p.blocks x') (f.blocks y') z
+    → (a b : ℕ) → a ≤ p.faults x → b ≤ f.faults y → Starts m (outset a b (k.taken w) (k.given w) (k.faults w)) z
+starts_over p f k m {x} {x'} {y} {y'} {w} {w'} {plan} {plan'} {failed} z opened xs ys ws named named' fresh noted a b later later' = record {
+  paging = device_with (p.log x') plan (p.faults x');
+  files = device_with (f.log y') plan' (f.faults y');
+  slots = p.blocks x';
+  blocks = f.blocks y';
+  opened = record {
+    opened = subst (λ d. AreOpened m (device_seen p d) (device_seen f y')) (sym xs) (subst (λ d. AreOpened m (device_seen p x) (device_seen f d)) (sym ys) opened);
+    paging_named = named;
+    files_named = named';
+    paging_later = subst (λ d. a ≤ p.faults d) (sym xs) later;
+    files_later = subst (λ d. b ≤ f.faults d) (sym ys) later';
+  };
+  noted = subst (λ (l : Log). MachineStarts m l (device_with (p.log x') plan (p.faults x')) (device_with (f.log y') plan' (f.faults y')) (p.blocks x') (f.blocks y') z)
+      (λ i. record { bytes = k.taken (ws i); given = k.given (ws i); failed = fresh i; faults = k.faults (ws i) }) noted;
+  unfailed = refl;
 }
 
 -- over a state that starts a store of pages is new
@@ -132,3 +131,7 @@ is_made m o z h = made_over m o h.paging h.files h.slots h.blocks h.opened z h.n
 -- three loans of references
 pub three_names : (a b c x y z : GName) → Both (Both (Loan a) (Loan b)) (Loan c) ≡ Both (Both (Loan x) (Loan y)) (Loan z) → (a ≡ x) × (b ≡ y) × (c ≡ z)
 three_names a b c x y z e = (let first : a ≡ x = cc in first, let second : b ≡ y = cc in second, let third : c ≡ z = cc in third)
+
+-- what was lent stands at the end as it was given back
+pub lent : {A : Type 0} {final back now : A} {entry first last name : GName} → (entry ≡ name → final ≡ back) → first ≡ entry → last ≡ first → name ≡ last → back ≡ now → now ≡ final
+lent ends made kept same is = sym (ends (sym made ∙ sym kept ∙ sym same) ∙ is)

@@ -1,6 +1,8 @@
 -- Lines decided one after another.
 use Rattle.std.specs.Prelude.{Result}
 use Rattle.std.proofs.Common.{◌≡◌, ℕ, suc, ◌+◌, Bool, List, [], ◌∷◌, ◌++◌, length, Option, Some, None, refl, sym, ap, ◌∙◌, subst, inl, inr, arith, append_assoc, length-append, add-zero}
+use Rattle.std.proofs.lemmas.List.{map-append}
+use Rattle.std.proofs.lemmas.List.Concat.{flat_map-append}
 use Rattle.mm_types.specs.{Appended, Text, spelling, spelled, Answer, Event}
 use Rattle.mm_types.proofs.{append_nil, took_then, appended_none, appended_then}
 use Rattle.mm_io.specs.{with_line_feed, text_of_lines, Filled}
@@ -13,23 +15,7 @@ use Rattle.mm_core.specs.{Scene}
 use Rattle.mm_life.specs.{Log, IsFrontOf, LogGrew, Grew, Flushed, spelled_moves}
 use Rattle.mm_life.proofs.{front_of_then, gave_nothing, gave_then}
 
-pub joined-append : (xs ys : List Text) → text_of_lines (xs ++ ys) ≡ text_of_lines xs ++ text_of_lines ys
-joined-append [] ys = refl
-joined-append (x ∷ xs) ys = ap (λ t. with_line_feed x ++ t) (joined-append xs ys) ∙ sym (append_assoc (with_line_feed x) (text_of_lines xs) (text_of_lines ys))
-
-pub spelled-append : (xs ys : List Answer) → spelled (xs ++ ys) ≡ spelled xs ++ spelled ys
-spelled-append [] ys = refl
-spelled-append (x ∷ xs) ys = ap (λ t. spelling x ++ t) (spelled-append xs ys) ∙ sym (append_assoc (spelling x) (spelled xs) (spelled ys))
-
 -- ---- the lists of lines
-
-pub line_texts-append : (xs ys : List DecidedLine) → texts_of (xs ++ ys) ≡ texts_of xs ++ texts_of ys
-line_texts-append [] ys = refl
-line_texts-append (x ∷ xs) ys = ap (λ t. x.text ∷ t) (line_texts-append xs ys)
-
-pub line_answers-append : (xs ys : List DecidedLine) → answers_in (xs ++ ys) ≡ answers_in xs ++ answers_in ys
-line_answers-append [] ys = refl
-line_answers-append (x ∷ xs) ys = ap (λ t. x.answer ∷ t) (line_answers-append xs ys)
 
 pub last-append : (old : Stage) (xs ys : List DecidedLine) → last_stage old (xs ++ ys) ≡ last_stage (last_stage old xs) ys
 last-append old [] ys = refl
@@ -124,7 +110,7 @@ last_at old mid xs ys q =
     subst (λ (s : Stage). Follows s (last_stage mid ys)) (sym (last-append old xs ys)) (last_from (last_stage old xs) mid ys q)
 
 pub spelled_lines : (xs ys : List DecidedLine) → spelled (answers_in (xs ++ ys)) ≡ spelled (answers_in xs) ++ spelled (answers_in ys)
-spelled_lines xs ys = ap spelled (line_answers-append xs ys) ∙ spelled-append (answers_in xs) (answers_in ys)
+spelled_lines xs ys = ap spelled (map-append (λ (l : DecidedLine). l.answer) xs ys) ∙ flat_map-append spelling (answers_in xs) (answers_in ys)
 
 -- ---- the bytes that hold the moves of lines
 
@@ -210,7 +196,7 @@ chain : (x t u y z : Text) (ls ks : List DecidedLine) → x ++ t ≡ text_of_lin
 chain x t u y z ls ks e f =
     sym (append_assoc x t u) ∙ ap (λ xs. xs ++ u) e ∙ append_assoc (text_of_lines (texts_of ls)) y u ∙ ap (λ xs. text_of_lines (texts_of ls) ++ xs) f
     ∙ sym (append_assoc (text_of_lines (texts_of ls)) (text_of_lines (texts_of ks)) z)
-    ∙ ap (λ xs. xs ++ z) (sym (ap text_of_lines (line_texts-append ls ks) ∙ joined-append (texts_of ls) (texts_of ks)))
+    ∙ ap (λ xs. xs ++ z) (sym (ap text_of_lines (map-append (λ (l : DecidedLine). l.text) ls ks) ∙ flat_map-append with_line_feed (texts_of ls) (texts_of ks)))
 
 module _ (a b c : Outside) (x y z : RunStand) where
   pub went_then : WentOn a b x y → WentOn b c y z → WentOn a c x z

@@ -8,7 +8,7 @@ use Rattle.mm_run.specs.{FaultCounts, IsBlamed, IsAccounted, Around, GaveAll, be
 use Rattle.mm_run.specs.{events_in, bulk_text, four_lines, Stopped, Tallied, BatchRan}
 use Rattle.mm_run.specs.declared.endings.Ending.TheVariants as ending
 use Rattle.mm_run.proofs.Stories.{follows_here}
-use Rattle.mm_run.proofs.Batches.{answers_many, events_many}
+use Rattle.std.proofs.lemmas.List.{length-map}
 use Rattle.mm_run.proofs.Closing.{MovesAfter, leaves_after}
 use Rattle.mm_run.proofs.Ends.{accounted_moves}
 use Rattle.mm_run.proofs.Logs.{events_logged, log_closed, log_left, events_hold}
@@ -41,7 +41,7 @@ module _ (a b : Around) (events : List Event) (status : ℕ) where
   module _ (t : Tally) (end : Stage) (h : Tallied (begun_at a.beside) events t end) (leaves : StageLeaves end b.beside) where
     text_is : four_lines t.lines t.ok t.none t.charge t.limit ≡ bulk_text (answers_in h.handled.lines) end
     text_is =
-        let many : t.lines ≡ length (answers_in h.handled.lines) = h.lines ∙ sym (ap length h.handled.events_are) ∙ events_many h.handled.lines ∙ sym (answers_many h.handled.lines) in
+        let many : t.lines ≡ length (answers_in h.handled.lines) = h.lines ∙ sym (ap length h.handled.events_are) ∙ length-map h.handled.lines (λ (l : DecidedLine). l.event) ∙ sym (length-map h.handled.lines (λ (l : DecidedLine). l.answer)) in
         λ i. four_lines (many i) (h.handled.ok_is i) (h.handled.none_is i) (h.charge i) (h.limit i)
 
     all_by : (written : Text) → Appended a.took b.took written → BulkEnds b status ending.Done (bulk_text (answers_in h.handled.lines) end) written → BulkRan a b events status
@@ -93,15 +93,12 @@ module _ (a b : Around) (events : List Event) (status : ℕ) where
 
 -- ---- the counts of faults
 
-rose_twice : (a b c : ℕ) → Rose a b → Rose b c → Rose a c
-rose_twice a b c h k = omega arith
-
 -- the sink of moves failed at last, whatever came before
 rose_then_moves : (e : Ending) (opening : Type 0) (c m : FaultCounts) (k : ℕ) → IsBlamed e opening c m → Rose m.moves k → Rose c.moves k
 rose_then_moves ending.NoMemory opening c m k b r = rose_later c.moves m.moves k b.0 r
 rose_then_moves ending.ReadFault opening c m k b r = subst (λ (x : ℕ). Rose x k) (ap (λ (x : FaultCounts). x.moves) b.1) r
 rose_then_moves ending.OutFault opening c m k b r = subst (λ (x : ℕ). Rose x k) (ap (λ (x : FaultCounts). x.moves) b.1) r
-rose_then_moves ending.MovesFault opening c m k b r = rose_twice c.moves m.moves k b.0 r
+rose_then_moves ending.MovesFault opening c m k b r = omega (arith, b.0, r)
 rose_then_moves ending.SetupFault opening c m k b r = subst (λ (x : FaultCounts). Rose x.moves k) b.1 r
 rose_then_moves e opening c m k b r = subst (λ (x : FaultCounts). Rose x.moves k) b r
 

@@ -1,6 +1,7 @@
 -- Where an answer is that of unpaged address spaces.
 use Rattle.std.proofs.Common.{◌≡◌, ℕ, zero, suc, ◌+◌, ◌<◌, Bool, true, false, Option, Some, None, refl, sym, ap, ◌∙◌, arith}
 use Rattle.std.specs.Prelude.{if◌then◌else◌, is_some, ◌&&◌, nat_le, nat_lt, option_map}
+use Rattle.std.proofs.lemmas.Bool.{le-ltb}
 use Rattle.mm_types.specs.{Answer, Why, Event}
 use Rattle.mm_types.specs.declared.answers.Answer.TheVariants as answer
 use Rattle.mm_types.specs.declared.codes.Raise.TheVariants as raise
@@ -77,10 +78,6 @@ unpaged_answer w v e a before after h q n = untold w v e a (told w e before afte
 
 -- ---- where no device call failed
 
-none_counted : (n : ℕ) → n ≡ 0 → nat_lt 0 n ≡ false
-none_counted zero h = refl
-none_counted (suc n) h = absurd (omega arith)
-
 when_none : (b c : Bool) (a : Answer) → c ≡ false → when (b && c) a ≡ None
 when_none true true a e = cc
 when_none true false a e = refl
@@ -92,7 +89,7 @@ when_never false a e = refl
 
 module _ (w : World) (before after : Report) (none : NoneFailed after) (search : 0 < after.search_writes.failed → 0 < after.paging_writes.failed + after.file_writes.failed) (read : is_some after.last_failed_read ≡ true → 0 < after.paging_reads.failed + after.file_reads.failed) where
   no_write : nat_lt 0 after.file_writes.failed ≡ false
-  no_write = let c = none.calls in none_counted after.file_writes.failed (omega arith)
+  no_write = let c = none.calls in le-ltb 0 after.file_writes.failed (omega arith)
 
   failing_none : (o : Option Need) → failing o after ≡ None
   failing_none None = refl

@@ -2,9 +2,9 @@
 use Rattle.std.proofs.Common.{◌≡◌, ◌≢◌, ℕ, zero, suc, ◌+◌, ◌<◌, ◌≤◌, Bool, true, false, cond, Option, Some, None, List, [], ◌∷◌, length, refl, sym, ap, ◌∙◌, arith, inl, inr}
 use Rattle.std.specs.Prelude.{◌==◌, ◌&&◌, not, map, take, filter, slice_index_or, slice_set, unwrap_or, is_some}
 use Rattle.std.specs.List.{range_with_len}
-use Rattle.std.proofs.lemmas.Bool.{eqb-true}
+use Rattle.std.proofs.lemmas.Bool.{cond_both, eq-eqb, eqb-true}
 use Rattle.std.proofs.lemmas.Bool.Decides.{eqb_tells}
-use Rattle.std.proofs.lemmas.List.{get_or-set_same, get_or-set_other, get_or-map}
+use Rattle.std.proofs.lemmas.List.{get_or-set_same, get_or-set_other, get_or-map, length-map, length-set}
 use Rattle.mm_types.specs.{Answer, AccessSpec, Event, Place, Range, address_of}
 use Rattle.mm_types.specs.declared.answers.Answer.TheVariants as answer
 use Rattle.mm_types.specs.declared.events.AccessSpec.TheVariants as spec
@@ -13,9 +13,6 @@ use Rattle.mm_world.specs.{KeptOf, kept_by, flag_of, is_flagged, FlagTold, Begun
 use Rattle.mm_world.specs.{line_clears, line_wrote, written_after, ends_none, page_written, write_of, writes_of, unless_in, writes_after}
 use Rattle.mm_world.specs.World.{World}
 use Rattle.mm_run.specs.{WriteMarks, keeps_after, write_marks_after}
-
-equal : (p q : ℕ) → p ≡ q → (p == q) ≡ true
-equal p q e = elim (eqb_tells p q) [ inl h ↦ h.0 | inr h ↦ absurd (h.1 e) ]
 
 -- ---- the write that a thread keeps
 
@@ -32,10 +29,6 @@ module _ (pid page : ℕ) where
   kept_access None = refl
   kept_access (Some k) = written_access k.pid k.access
 
-  same_or : (b : Bool) → false ≡ cond b false false
-  same_or true = refl
-  same_or false = refl
-
   left_or : (by : ℕ) (p : Place) (t : Bool) (u : Bool) → (p.pid.0 == by) ≡ t → (by == pid) ≡ u → writes_to (cond t None (Some p)) ≡ cond u false (writes_to (Some p))
   left_or by p true true e f = refl
   left_or by p true false e f =
@@ -49,7 +42,7 @@ module _ (pid page : ℕ) where
   left_or by p false false e f = refl
 
   left_by : (by : ℕ) (o : Option Place) → writes_to (unless_in by o) ≡ cond (by == pid) false (writes_to o)
-  left_by by None = same_or (by == pid)
+  left_by by None = cond_both (by == pid) false false (λ b. false ≡ b) (λ e. refl) (λ e. refl)
   left_by by (Some p) = left_or by p (p.pid.0 == by) (by == pid) refl refl
 
   -- what a line does to what one thread keeps
@@ -62,7 +55,7 @@ module _ (pid page : ℕ) where
       ap writes_to
       (ap (λ (n : ℕ). slice_index_or (slice_set writes n x) thread None) same ∙ get_or-set_same writes thread x None inside)
   put_one writes tid thread x false inside e =
-      let other : thread ≢ tid = λ same. (let bad : true ≡ false = sym (equal tid thread (sym same)) ∙ e in cc) in
+      let other : thread ≢ tid = λ same. (let bad : true ≡ false = sym (eq-eqb tid thread (sym same)) ∙ e in cc) in
       ap writes_to (get_or-set_other writes tid thread x None other)
 
   ended_one : (writes : List (Option Place)) (tid thread : ℕ) (n : Bool) (was : Bool) → thread < length writes → was ≡ keeps_at writes thread → cond ((tid == thread) && not n) false was ≡ keeps_at (cond n writes (slice_set writes tid None)) thread
@@ -94,24 +87,10 @@ module _ (pid page : ℕ) where
       ∙ sym (ap writes_to (map_index (unless_in by.0) writes thread inside) ∙ left_by by.0 (slice_index_or writes thread None))
   keeps_stays writes thread was e a inside same = same
 
-many_map : (f : Option Place → Option Place) (xs : List (Option Place)) → length (map f xs) ≡ length xs
-many_map f [] = refl
-many_map f (x ∷ xs) = ap suc (many_map f xs)
-
-many_set : (xs : List (Option Place)) (i : ℕ) (x : Option Place) → length (slice_set xs i x) ≡ length xs
-many_set [] zero x = refl
-many_set [] (suc i) x = refl
-many_set (y ∷ xs) zero x = refl
-many_set (y ∷ xs) (suc i) x = ap suc (many_set xs i x)
-
-many_either : (b : Bool) (xs ys : List (Option Place)) → length ys ≡ length xs → length (cond b xs ys) ≡ length xs
-many_either true xs ys e = refl
-many_either false xs ys e = e
-
 pub as_many : (writes : List (Option Place)) (e : Event) (a : Answer) → length (writes_after writes e a) ≡ length writes
-as_many writes (line.Begin tid by what) (answer.Pending why) = many_set writes tid.0 (page_written by.0 what)
-as_many writes (line.Resume tid) a = many_either (ends_none a) writes (slice_set writes tid.0 None) (many_set writes tid.0 None)
-as_many writes (line.Exit by) answer.Ok = many_map (unless_in by.0) writes
+as_many writes (line.Begin tid by what) (answer.Pending why) = length-set writes tid.0 (page_written by.0 what)
+as_many writes (line.Resume tid) a = cond_both (ends_none a) writes (slice_set writes tid.0 None) (λ xs. length xs ≡ length writes) (λ e. refl) (λ e. length-set writes tid.0 None)
+as_many writes (line.Exit by) answer.Ok = length-map writes (unless_in by.0)
 as_many writes e a = refl
 
 -- ---- one line

@@ -6,9 +6,8 @@ use Rattle.std.proofs.lemmas.Option.{same_Some, none-some}
 use Rattle.mm_types.specs.{Frame, Text}
 use Rattle.mm_life.specs.{FrameTable, is_on, is_first}
 use Rattle.mm_sentences.specs.{first_is, counted_words}
-use Rattle.mm_replay.specs.{frame_at, frames_on, IsBehind}
+use Rattle.mm_replay.specs.{frame_at, frames_on, IsBehind, frame}
 use Rattle.mm_replay.specs.declared.four_lists.FrameList.TheVariants as list
-use Rattle.mm_replay.specs.Sound.{frame}
 
 same_number : (n : ℕ) (x : Frame) → Some (frame n) ≡ Some x → n ≡ x.0
 same_number n x e = ap (λ (f : Frame). f.0) (same_Some (frame n) x e)

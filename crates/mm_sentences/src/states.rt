@@ -12,7 +12,7 @@ use mm_replay::{FrameList, Life};
 use mm_types::{Backing, Frame, Key, NoMemory, Record, Request};
 
 /// What a page frame is: its page is valid somewhere, or it has a request, or it stands on a list.
-#[derive(Clone, Copy, PartialEq, Eq, Debug)]
+#[derive(Clone, Copy, PartialEq, Eq)]
 pub enum FrameState {
     Active,
     BeingRead,

@@ -8,12 +8,13 @@ ghost use Rattle.mm_show.specs.Forms.{key_of};
 
 use crate::keys::{key, line};
 use mm_forms::read_words;
+use mm_script::is_text;
 use mm_text::number;
 use mm_types::{Key, NoMemory};
 use std::alloc::Global;
 
 /// What is shown of a log.
-#[derive(Clone, Copy, PartialEq, Eq, Debug)]
+#[derive(Clone, Copy, PartialEq, Eq)]
 pub enum Form {
     /// One page for a browser, with so many files beside the log.
     Html(Files),
@@ -36,7 +37,7 @@ pub enum Form {
 }
 
 /// Which files are named beside the log.
-#[derive(Clone, Copy, PartialEq, Eq, Debug)]
+#[derive(Clone, Copy, PartialEq, Eq)]
 pub enum Files {
     None,
     /// The script.
@@ -162,21 +163,21 @@ fn form_in(name: &[u8], values: &[&str]) -> Option<Form>
 {
     let first = value(values);
     let count = values.len();
-    if name == b"html".as_slice() {
+    if is_text(name, b"html") {
         html_form(count)
-    } else if name == b"tell".as_slice() {
+    } else if is_text(name, b"tell") {
         tell_form(count)
-    } else if name == b"counts".as_slice() {
+    } else if is_text(name, b"counts") {
         counts_form(first, count)
-    } else if name == b"state".as_slice() {
+    } else if is_text(name, b"state") {
         state_form(first, count)
-    } else if name == b"frame".as_slice() {
+    } else if is_text(name, b"frame") {
         frame_form(first, count)
-    } else if name == b"key".as_slice() {
+    } else if is_text(name, b"key") {
         key_form(first, count)
-    } else if name == b"faults".as_slice() {
+    } else if is_text(name, b"faults") {
         alone(Form::Faults, count)
-    } else if name == b"sums".as_slice() {
+    } else if is_text(name, b"sums") {
         alone(Form::Sums, count)
     } else {
         None

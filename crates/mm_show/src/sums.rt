@@ -22,7 +22,7 @@ use mm_types::{Move, NoMemory};
 use std::alloc::Global;
 
 /// The kind of a line, without its numbers.
-#[derive(Clone, Copy, PartialEq, Eq, Debug)]
+#[derive(Clone, Copy, PartialEq, Eq)]
 pub(crate) enum KindName {
     Machine,
     Process,

@@ -24,7 +24,7 @@ const PRIVATE: u32 = 0x20000;
 const MAPPED: u32 = 0x40000;
 
 /// What VirtualQuery tells of a page, where its region alone says it.
-#[derive(Clone, Copy, PartialEq, Eq, Debug)]
+#[derive(Clone, Copy)]
 pub enum PageInfo {
     /// All of it: the page is free or lies in a private region.
     Told(QueryInfo),
@@ -33,7 +33,7 @@ pub enum PageInfo {
 }
 
 /// What is asked of pages of one region before they get another protection.
-#[derive(Clone, Copy, PartialEq, Eq, Debug)]
+#[derive(Clone, Copy, PartialEq, Eq)]
 pub struct ProtectInfo {
     /// What the region is.
     pub kind: Kind,

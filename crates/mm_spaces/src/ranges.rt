@@ -5,7 +5,7 @@ use mm_types::{GRANULE_PAGES, GRANULE_SIZE, PAGE_SIZE};
 use std::marker::Model;
 
 /// Some pages in a row, at least one.
-#[derive(Clone, Copy, PartialEq, Eq, Debug)]
+#[derive(Clone, Copy, PartialEq, Eq)]
 pub struct PageRange {
     /// The first page's number.
     pub first: u32,

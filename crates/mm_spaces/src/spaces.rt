@@ -23,7 +23,7 @@ use std::marker::Model;
 const LOWEST: Vpn = Vpn(0);
 
 /// What is told of a region: its pages, and what it is.
-#[derive(Clone, Copy, PartialEq, Eq, Debug)]
+#[derive(Clone, Copy, PartialEq, Eq)]
 pub struct RegionInfo {
     /// Its pages.
     pub pages: PageRange,
@@ -32,7 +32,7 @@ pub struct RegionInfo {
 }
 
 /// What is told of a page that lies in a region.
-#[derive(Clone, Copy, PartialEq, Eq, Debug)]
+#[derive(Clone, Copy, PartialEq, Eq)]
 pub struct PageRow {
     /// What its region is.
     pub kind: Kind,

@@ -54,7 +54,7 @@ pub use PageByPage.{next_can, next_held, only_is, own, page_bound, page_can_go, 
 pub use PageByPage.{page_unbinding, passing_all, place_given, places_stored, region_filled}
 pub use PageByPage.{shared_dead}
 pub use EndingSteps.{close_counted, close_held, close_named, close_step, closed, ends_at}
-pub use EndingSteps.{ends_bound, its_area_inside, put_process, unmap_around, unmap_can}
+pub use EndingSteps.{ends_bound, has_entry, its_area_inside, put_process, unmap_around, unmap_can}
 pub use EndingSteps.{unmap_charged, unmap_counted, unmap_end, unmap_named, unmap_some, unmap_step}
 pub use EndingSteps.{unmap_there, unmapped, whole_can, whole_charged, whole_ends, whole_stays}
 pub use EndingSettles.{beside_then, carries_less, for_own, for_set, for_settled, less_then}

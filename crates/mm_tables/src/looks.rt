@@ -17,7 +17,7 @@ use mm_spaces::{AddressSpace, PageRow};
 use mm_types::{Area, Key, Kind, Name, Pid, Prot, SectionId, View, Vpn};
 
 /// What an access asks of a committed page.
-#[derive(Clone, Copy, PartialEq, Eq, Debug)]
+#[derive(Clone, Copy, PartialEq, Eq)]
 pub struct CommittedRow {
     /// The base protection.
     pub prot: Prot,
@@ -32,7 +32,7 @@ pub struct CommittedRow {
 }
 
 /// The section of a handle: its number, the protection that it was made with, and its control area.
-#[derive(Clone, Copy, PartialEq, Eq, Debug)]
+#[derive(Clone, Copy, PartialEq, Eq)]
 pub struct HandleSection {
     pub id: SectionId,
     pub prot: Prot,

@@ -11,7 +11,7 @@ use std::marker::Model;
 
 /// The stack of a thread. Its guard page stands above its lowest page, below the end of the user
 /// pages.
-#[derive(Clone, Copy, PartialEq, Eq, Debug)]
+#[derive(Clone, Copy, PartialEq, Eq)]
 pub struct ThreadStack {
     /// The process in which it lies.
     pub pid: Pid,

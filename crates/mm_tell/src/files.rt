@@ -10,7 +10,7 @@ use mm_types::{Failed, NoMemory};
 use std::alloc::Global;
 
 /// Why a file was not read to its end.
-#[derive(Clone, Copy, PartialEq, Eq, Debug)]
+#[derive(Clone, Copy, PartialEq, Eq)]
 pub enum FileFault {
     Failed,
     NoMemory,

@@ -3,6 +3,7 @@ ghost use Rattle.mm_tell.specs.{first_word, is_ending_word, is_access_word, is_t
 ghost use Rattle.mm_tell.specs.{is_refusable_word, is_call_word, fits_word, fits_line, fits, IsMisfit};
 
 use crate::lines::Lines;
+use mm_script::is_text;
 use mm_types::{LineKind, Move};
 
 /// The bytes of a line before its first space.
@@ -20,60 +21,60 @@ fn first_word(line: &[u8]) -> &[u8]
 fn is_ending_word(word: &[u8]) -> bool
     ensures { result ≡ is_ending_word word.now }
 {
-    word == b"exit".as_slice() || word == b"free".as_slice() || word == b"unmap".as_slice()
+    is_text(word, b"exit") || is_text(word, b"free") || is_text(word, b"unmap")
 }
 
 fn is_access_word(word: &[u8]) -> bool
     ensures { result ≡ is_access_word word.now }
 {
-    word == b"read".as_slice() || word == b"write".as_slice() || word == b"exec".as_slice()
+    is_text(word, b"read") || is_text(word, b"write") || is_text(word, b"exec")
 }
 
 fn is_thread_word(word: &[u8]) -> bool
     ensures { result ≡ is_thread_word word.now }
 {
-    word == b"begin".as_slice() || word == b"resume".as_slice()
+    is_text(word, b"begin") || is_text(word, b"resume")
 }
 
 fn is_section_word(word: &[u8]) -> bool
     ensures { result ≡ is_section_word word.now }
 {
-    word == b"create".as_slice()
-        || word == b"createfile".as_slice()
-        || word == b"open".as_slice()
-        || word == b"close".as_slice()
-        || word == b"map".as_slice()
-        || word == b"flush".as_slice()
-        || word == b"file".as_slice()
+    is_text(word, b"create")
+        || is_text(word, b"createfile")
+        || is_text(word, b"open")
+        || is_text(word, b"close")
+        || is_text(word, b"map")
+        || is_text(word, b"flush")
+        || is_text(word, b"file")
 }
 
 fn is_memory_word(word: &[u8]) -> bool
     ensures { result ≡ is_memory_word word.now }
 {
-    word == b"alloc".as_slice()
-        || word == b"protect".as_slice()
-        || word == b"query".as_slice()
-        || word == b"watch".as_slice()
-        || word == b"resetwatch".as_slice()
-        || word == b"stack".as_slice()
-        || word == b"probe".as_slice()
+    is_text(word, b"alloc")
+        || is_text(word, b"protect")
+        || is_text(word, b"query")
+        || is_text(word, b"watch")
+        || is_text(word, b"resetwatch")
+        || is_text(word, b"stack")
+        || is_text(word, b"probe")
 }
 
 fn is_system_word(word: &[u8]) -> bool
     ensures { result ≡ is_system_word word.now }
 {
-    word == b"age".as_slice()
-        || word == b"fail".as_slice()
-        || word == b"charge".as_slice()
-        || word == b"counts".as_slice()
+    is_text(word, b"age")
+        || is_text(word, b"fail")
+        || is_text(word, b"charge")
+        || is_text(word, b"counts")
 }
 
 fn is_refusable_word(word: &[u8]) -> bool
     ensures { result ≡ is_refusable_word word.now }
 {
-    word == b"process".as_slice()
-        || word == b"grow".as_slice()
-        || word == b"trim".as_slice()
+    is_text(word, b"process")
+        || is_text(word, b"grow")
+        || is_text(word, b"trim")
         || is_ending_word(word)
         || is_access_word(word)
         || is_thread_word(word)
@@ -89,16 +90,16 @@ fn fits_word(word: &[u8], kind: LineKind) -> bool
     ensures { result ≡ fits_word word.now kind }
 {
     match kind {
-        LineKind::Machine(..) => word == b"machine".as_slice(),
-        LineKind::Process(..) => word == b"process".as_slice(),
-        LineKind::Grow(_) => word == b"grow".as_slice(),
+        LineKind::Machine(..) => is_text(word, b"machine"),
+        LineKind::Process(..) => is_text(word, b"process"),
+        LineKind::Grow(_) => is_text(word, b"grow"),
         LineKind::Unbind(_) => is_ending_word(word),
         LineKind::Access(_) => is_access_word(word),
         LineKind::Thread(_) => is_thread_word(word),
-        LineKind::Trim(_) => word == b"trim".as_slice(),
-        LineKind::Writer => word == b"writer".as_slice(),
-        LineKind::Zeroer => word == b"zeroer".as_slice(),
-        LineKind::Io => word == b"io".as_slice(),
+        LineKind::Trim(_) => is_text(word, b"trim"),
+        LineKind::Writer => is_text(word, b"writer"),
+        LineKind::Zeroer => is_text(word, b"zeroer"),
+        LineKind::Io => is_text(word, b"io"),
         LineKind::Call => is_call_word(word),
     }
 }

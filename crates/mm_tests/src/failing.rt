@@ -129,12 +129,30 @@ pub(super) fn outcome(
     )
 }
 
-/// Asserts that the checker of logs accepts these moves.
-pub(super) fn assert_log(rt: &impl Abort, alloc: Global, moves: &str) -> Result<(), Fail> {
+/// The status of a check of a log; what else its contract says is not handed on.
+fn log_status(alloc: Global, words: &[String], source: &mut MemSource, out: &mut MemSink) -> u8 {
+    run_log(alloc, words, source, out)
+}
+
+/// Has the checker of logs read these moves, where one call of its source or its sink fails: its
+/// status, and how many bytes it wrote.
+pub(super) fn checked(
+    alloc: Global,
+    moves: &str,
+    read_fails: u32,
+    write_fails: u32,
+) -> Result<(u8, usize), Fail> {
     let form = owned(alloc, &["check"])?;
-    let mut source = source(alloc, moves, 0)?;
-    let mut out = sink(alloc, 300, 0)?;
-    assert_eq!(rt; run_log(alloc, form.as_slice(), &mut source, &mut out), 0);
+    let mut source = source(alloc, moves, read_fails)?;
+    let mut out = sink(alloc, 300, write_fails)?;
+    let status = log_status(alloc, form.as_slice(), &mut source, &mut out);
+    Ok((status, out.bytes().len()))
+}
+
+/// Asserts that the checker of logs accepts these moves.
+fn assert_log(rt: &impl Abort, alloc: Global, moves: &str) -> Result<(), Fail> {
+    let (status, _) = checked(alloc, moves, 0, 0)?;
+    assert_eq!(rt; status, 0);
     Ok(())
 }
 

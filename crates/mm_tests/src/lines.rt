@@ -12,7 +12,7 @@ use mm_types::{Answer, Event, NoMemory};
 use std::alloc::Global;
 
 /// Why a row was not gone through to its end.
-#[derive(Debug, PartialEq, Eq, Drop)]
+#[derive(PartialEq, Eq, Debug, Drop)]
 pub enum Stopped {
     /// Memory was refused.
     Memory,

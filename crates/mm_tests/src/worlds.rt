@@ -1,4 +1,4 @@
-ghost use Rattle.std.specs.Prelude.{◌≡◌, ◌≤◌, ◌+◌, false, OnOk, replicate};
+ghost use Rattle.std.specs.Prelude.{◌≡◌, ◌≤◌, ◌+◌, false, [], OnOk, replicate};
 ghost use Rattle.mm_blocks.specs.{empty_block};
 ghost use Rattle.mm_pages.specs.{IsNew};
 ghost use Rattle.mm_core.specs.{line_number};
@@ -117,6 +117,33 @@ fn first<G: Pages>(alloc: Global, pages: G) -> World<G>
     World::new(alloc, Machine::new(6, 8, 1, 1), pages)
 }
 
+/// A scene over what pages, files and moves go to, before anything was asked of them.
+fn over_new<P: Inject + Drop, F: Inject + Drop, M: Moves + Drop>(
+    alloc: Global,
+    paging: P,
+    files: F,
+    moves: M,
+    lines: &[(&str, &str)],
+    scene: (u32, Change),
+) -> Result<(), Stopped>
+    requires slots { P.blocks paging ≡ replicate 8 empty_block }
+    requires blocks { F.blocks files ≡ replicate 1 empty_block }
+    requires none_named { P.named paging ≡ [] }
+    requires no_file_named { F.named files ≡ [] }
+{
+    let machine = Machine::new(6, 8, 1, 1);
+    match State::new(alloc, machine, paging, files, moves) {
+        Ok(state) => {
+            let store = Paged::over(state);
+            let mut world = first(alloc, store);
+            let gone = all_lines(alloc, &mut world, lines, scene);
+            let _devices = world.finish().finish().finish();
+            gone
+        }
+        Err(_) => Err(Stopped::Memory),
+    }
+}
+
 /// A scene over devices that were opened.
 fn over_devices<'a>(
     alloc: Global,
@@ -129,20 +156,10 @@ fn over_devices<'a>(
     requires slots { paging.old.blocks ≡ replicate 8 empty_block }
     requires blocks { files.old.blocks ≡ replicate 1 empty_block }
 {
-    let machine = Machine::new(6, 8, 1, 1);
     let paging = Injected::new(paging);
     let files = Injected::new(files);
     let moves = Recorder::new(sink);
-    match State::new(alloc, machine, paging, files, moves) {
-        Ok(state) => {
-            let store = Paged::over(state);
-            let mut world = first(alloc, store);
-            let gone = all_lines(alloc, &mut world, lines, scene);
-            let _state = world.finish().finish();
-            gone
-        }
-        Err(_) => Err(Stopped::Memory),
-    }
+    over_new(alloc, paging, files, moves, lines, scene)
 }
 
 /// A scene, line by line.

@@ -8,7 +8,7 @@ use crate::fields::digit;
 use std::marker::Model;
 
 /// The place of a word in a line: from its first byte up to the byte after it, counted from 0.
-#[derive(Clone, Copy, PartialEq, Eq, Debug)]
+#[derive(Clone, Copy, PartialEq, Eq)]
 pub struct Span {
     pub from: u32,
     pub to: u32,
@@ -26,7 +26,7 @@ impl Span {
 }
 
 /// A number that is a word of a line, and the place of the word's first byte, counted from 0.
-#[derive(Clone, Copy, PartialEq, Eq, Debug)]
+#[derive(Clone, Copy, PartialEq, Eq)]
 pub struct Numbered {
     pub from: u32,
     pub value: u32,

@@ -9,7 +9,7 @@ use mm_text::{LineBuf, put_decimal};
 use mm_types::{NoMemory, Pid};
 
 /// How a page stood right before it left its working set.
-#[derive(Clone, Copy, PartialEq, Eq, Debug)]
+#[derive(Clone, Copy, PartialEq, Eq)]
 pub struct Reason {
     /// The process of the working set.
     pub pid: Pid,

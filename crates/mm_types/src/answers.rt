@@ -1,7 +1,7 @@
 use crate::{ByteBuf, Code, PageList, Pid, Prot, Raise};
 
 /// The read that a thread waits for.
-#[derive(Clone, Copy, PartialEq, Eq, Debug)]
+#[derive(Clone, Copy, PartialEq, Eq)]
 pub enum Wait {
     /// It waits for nothing.
     None,
@@ -14,7 +14,7 @@ pub enum Wait {
 }
 
 /// What a thread's access waits for.
-#[derive(Clone, Copy, PartialEq, Eq, Debug)]
+#[derive(Clone, Copy, PartialEq, Eq)]
 pub enum Why {
     /// A read of the page is in flight.
     Read,
@@ -25,7 +25,7 @@ pub enum Why {
 }
 
 /// The frame database and what else `counts` tells: how many frames, slots, requests.
-#[derive(Clone, Copy, PartialEq, Eq, Debug)]
+#[derive(Clone, Copy)]
 pub struct Counts {
     pub zeroed: u32,
     pub free: u32,
@@ -38,7 +38,7 @@ pub struct Counts {
 }
 
 /// What VirtualQuery tells (MEMORY_BASIC_INFORMATION), as numbers: addresses and sizes in bytes.
-#[derive(Clone, Copy, PartialEq, Eq, Debug)]
+#[derive(Clone, Copy)]
 pub struct QueryInfo {
     pub base: u32,
     pub alloc_base: u32,

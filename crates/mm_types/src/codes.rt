@@ -1,5 +1,5 @@
 /// A Windows error code, as GetLastError gives it.
-#[derive(Clone, Copy, PartialEq, Eq, Debug)]
+#[derive(Clone, Copy, PartialEq, Eq)]
 pub enum Code {
     /// ERROR_FILE_NOT_FOUND, 2.
     NotFound,
@@ -20,7 +20,7 @@ pub enum Code {
 }
 
 /// A status that an access raises.
-#[derive(Clone, Copy, PartialEq, Eq, Debug)]
+#[derive(Clone, Copy, PartialEq, Eq)]
 pub enum Raise {
     /// STATUS_GUARD_PAGE_VIOLATION, 0x80000001.
     GuardPage,

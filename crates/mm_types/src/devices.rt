@@ -1,5 +1,5 @@
 /// One of the two devices of a machine.
-#[derive(Clone, Copy, PartialEq, Eq, Debug)]
+#[derive(Clone, Copy, PartialEq, Eq)]
 pub enum Device {
     /// Keeps the page-file slots.
     Paging,
@@ -8,7 +8,7 @@ pub enum Device {
 }
 
 /// What a device is asked to do with a block.
-#[derive(Clone, Copy, PartialEq, Eq, Debug)]
+#[derive(Clone, Copy, PartialEq, Eq)]
 pub enum Direction {
     Read,
     Write,

@@ -18,11 +18,11 @@ impl<T: Drop> From<AllocFailed<T>> for NoMemory {
 }
 
 /// A call of a source, a sink or a device failed. Its count of faults rose in that call.
-#[derive(Clone, Copy, PartialEq, Eq, Debug)]
+#[derive(Clone, Copy, PartialEq, Eq)]
 pub struct Failed;
 
 /// A page could not be written to its block.
-#[derive(Clone, Copy, PartialEq, Eq, Debug)]
+#[derive(Clone, Copy, PartialEq, Eq)]
 pub struct WriteFault;
 
 /// Why a device was not opened or extended.

@@ -1,7 +1,7 @@
 use crate::{Block, Frame, Key, Slot};
 
 /// Where the bytes of a frame's page stand on a device, if anywhere.
-#[derive(Clone, Copy, PartialEq, Eq, Debug)]
+#[derive(Clone, Copy, PartialEq, Eq)]
 pub enum Backing {
     None,
     /// A page-file slot, a block of the paging device.
@@ -11,7 +11,7 @@ pub enum Backing {
 }
 
 /// The device request that holds a frame.
-#[derive(Clone, Copy, PartialEq, Eq, Debug)]
+#[derive(Clone, Copy, PartialEq, Eq)]
 pub enum Request {
     None,
     /// The page is being read.
@@ -23,7 +23,7 @@ pub enum Request {
 }
 
 /// What the frame database keeps of a page frame (an entry of the PFN database).
-#[derive(Clone, Copy, PartialEq, Eq, Debug)]
+#[derive(Clone, Copy)]
 pub struct Record {
     /// The page that the frame holds, if any.
     pub owner: Option<Key>,
@@ -36,7 +36,7 @@ pub struct Record {
 }
 
 /// Where a key's bytes stand.
-#[derive(Clone, Copy, PartialEq, Eq, Debug)]
+#[derive(Clone, Copy)]
 pub enum Held {
     Frame(Frame),
     Slot(Slot),

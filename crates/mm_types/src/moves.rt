@@ -1,7 +1,7 @@
 use crate::{Block, Frame, Key, Pid, Place, Slot};
 
 /// What a line is to the life of the frames.
-#[derive(Clone, Copy, PartialEq, Eq, Debug)]
+#[derive(Clone, Copy)]
 pub enum LineKind {
     /// `machine`: frames, slots, depth, blocks. The numbers may be any; the rules say which are
     /// legal.
@@ -26,14 +26,14 @@ pub enum LineKind {
 }
 
 /// Where a page is written to.
-#[derive(Clone, Copy, PartialEq, Eq, Debug)]
+#[derive(Clone, Copy)]
 pub enum Stored {
     Slot(Slot),
     Block(Block),
 }
 
 /// A move of page frames: one line of a log.
-#[derive(Clone, Copy, PartialEq, Eq, Debug)]
+#[derive(Clone, Copy)]
 pub enum Move {
     /// `at <line> <kind>`: a line begins.
     At(u32, LineKind),

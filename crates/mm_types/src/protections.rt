@@ -4,7 +4,7 @@ ghost use Rattle.mm_types.specs.Protection.{permits as permits_by_table};
 use bitflags::{Flag, Flags, bitflag_items};
 
 /// What an access does to a page.
-#[derive(Clone, Copy, PartialEq, Eq, Debug)]
+#[derive(Clone, Copy, PartialEq, Eq)]
 pub enum Access {
     Read,
     Write,
@@ -12,7 +12,7 @@ pub enum Access {
 }
 
 /// A memory protection constant: a base protection, with GUARD beside it or not.
-#[derive(Clone, Copy, PartialEq, Eq, Debug)]
+#[derive(Clone, Copy, PartialEq, Eq)]
 pub struct Prot(pub u32);
 
 bitflag_items! {
@@ -55,7 +55,7 @@ impl Flags for Prot {
 }
 
 /// The allocation type of VirtualAlloc and the free type of VirtualFree.
-#[derive(Clone, Copy, PartialEq, Eq, Debug)]
+#[derive(Clone, Copy, PartialEq, Eq)]
 pub struct AllocFlags(pub u32);
 
 bitflag_items! {

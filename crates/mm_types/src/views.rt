@@ -1,7 +1,7 @@
 use crate::{Area, SectionId};
 
 /// What a view of a section was mapped for (the access of MapViewOfFile).
-#[derive(Clone, Copy, PartialEq, Eq, Debug)]
+#[derive(Clone, Copy, PartialEq, Eq)]
 pub enum ViewAccess {
     /// FILE_MAP_READ: pages that can be read.
     Read,
@@ -13,7 +13,7 @@ pub enum ViewAccess {
 
 /// A view of a section: its section, that section's control area, and the section page of its first
 /// page.
-#[derive(Clone, Copy, PartialEq, Eq, Debug)]
+#[derive(Clone, Copy, PartialEq, Eq)]
 pub struct View {
     pub section: SectionId,
     pub area: Area,
@@ -22,7 +22,7 @@ pub struct View {
 }
 
 /// What a region of an address space is.
-#[derive(Clone, Copy, PartialEq, Eq, Debug)]
+#[derive(Clone, Copy, PartialEq, Eq)]
 pub enum Kind {
     /// A reservation of private memory.
     Private,

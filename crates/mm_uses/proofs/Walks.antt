@@ -5,8 +5,7 @@ use Rattle.std.proofs.lemmas.List.{append-nil, drop_all}
 use Rattle.std.proofs.lemmas.Option.{same_Some, none-some}
 use Rattle.mm_types.specs.{Frame}
 use Rattle.mm_life.specs.{FrameTable}
-use Rattle.mm_replay.specs.{frame_at, frames_on, IsBehind, FrameList}
-use Rattle.mm_replay.specs.Sound.{frame}
+use Rattle.mm_replay.specs.{frame_at, frames_on, IsBehind, FrameList, frame}
 
 number_of : (o : Option ℕ) (f : Frame) → option_map frame o ≡ Some f → o ≡ Some f.0
 number_of None f e = absurd (none-some f e)

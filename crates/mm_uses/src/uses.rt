@@ -10,7 +10,7 @@ use mm_replay::Life;
 use mm_types::{Frame, Key, Record, Request};
 
 /// What a page frame is used for.
-#[derive(Clone, Copy, PartialEq, Eq, Debug)]
+#[derive(Clone, Copy, PartialEq, Eq)]
 pub enum Use {
     /// A page of one process.
     ProcessPrivate,
@@ -25,7 +25,7 @@ pub enum Use {
 }
 
 /// How a page frame stands.
-#[derive(Clone, Copy, PartialEq, Eq, Debug)]
+#[derive(Clone, Copy, PartialEq, Eq)]
 pub enum Column {
     /// Its page is valid somewhere.
     Active,

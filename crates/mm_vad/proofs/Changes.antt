@@ -11,8 +11,7 @@ use Rattle.mm_vad.specs.{space_of, AllHeld, IsIndex}
 use Rattle.mm_vad.specs.declared.regions.Change.TheVariants as change
 use Rattle.mm_world.specs.{change_range, unwritten}
 use Rattle.mm_vad.proofs.FlagLemmas.{length-change}
-use Rattle.mm_vad.proofs.Held.{Adds, Becomes, Keeps, Rewrites, is_space, add_held, remove_held, change_held}
-use Rattle.mm_vad.proofs.Lookups.{Found, found_by, lies_in_one, told_some}
+use Rattle.mm_vad.proofs.Lookups.{Adds, Becomes, Keeps, Rewrites, is_space, add_held, remove_held, change_held, Found, found_by, lies_in_one, told_some}
 use Rattle.mm_vad.proofs.Joined.{length-filled}
 
 -- the index after a change, the regions that it shows, and what holds of them

@@ -1,16 +1,118 @@
--- What is kept of a tree, from what is kept of its two sides.
-use Rattle.std.proofs.Common.{◌≡◌, ◌≢◌, ℕ, ◌+◌, ◌-◌, ◌*◌, ◌^◌, ◌<◌, ◌≤◌, max, Bool, true, false, cond, eqb, List, [], ◌∷◌, ◌++◌, length, refl, sym, ap, ◌∙◌, subst, arith, length-append}
-use Rattle.std.proofs.lemmas.Bool.{eqb-true, eqb-false, eq-eqb}
-use Rattle.std.specs.Prelude.{Option, None, Some, Box, IsTrue}
-use Rattle.std.specs.Option.{ForSome}
-use Rattle.std.specs.declared.alloc.Global.{Global}
+-- A range between two trees: what is kept of both, and turns that put their heights right.
+use Rattle.std.proofs.Common.{◌≡◌, ℕ, ◌+◌, ◌*◌, ◌^◌, ◌≤◌, max, inl, inr, arith, ◌<◌, true, false, cond, leb, List, [], ◌∷◌, ◌++◌, Option, Some, None, refl, ap, ◌∙◌, ◌≢◌, ◌-◌, Bool, eqb, length, sym, subst, length-append, append_assoc}
+use Rattle.std.proofs.lemmas.Bool.{cases_order, cases_lt, le-leb, lt-leb, leb-false, eqb-true, eqb-false, eq-eqb}
+use Rattle.std.proofs.lemmas.Nat.{pow-add}
+use Rattle.std.proofs.Math.Nat.{mul-le-mul_left}
+use Rattle.mm_vad.specs.{DifferByAtMost, aligned, room, lowest, end_after, widest, first_fit, LieApart, is_begun_at, remove_range, TreeOf, IsShaped}
+use Rattle.mm_vad.specs.{IsBalanced, taken_range, range_in, ranges_under, tree_of, tree_at, IsSpan, IsNode, IsTree, Alike, MayLeanAt, Became, Node}
+use Rattle.mm_vad.specs.{TakenRange, Span, IsFork, IsTurned}
 use Rattle.mm_types.specs.{Range, end_of, end_of_user_pages}
-use Rattle.mm_vad.specs.{LieApart, is_begun_at, remove_range, room, lowest, end_after, widest, TreeOf, IsShaped, IsBalanced, DifferByAtMost}
-use Rattle.mm_vad.specs.{taken_range, range_in, ranges_under, tree_of, tree_at, IsSpan, IsNode, IsTree, Alike, MayLeanAt, Became, Node, TakenRange}
-use Rattle.mm_vad.specs.{Span}
-use Rattle.mm_vad.proofs.Edits.{remove_middle}
-use Rattle.mm_vad.proofs.Widest.{end_after-append, widest-append, widest_parts, lowest_front}
-use Rattle.mm_vad.proofs.Heights.{full_fork}
+use Rattle.std.specs.Option.{option_or, ForSome}
+use Rattle.std.specs.Prelude.{Box, IsTrue}
+use Rattle.std.specs.declared.alloc.Global.{Global}
+use Rattle.mm_vad.proofs.RangeLists.{remove_middle}
+
+-- ---- how high a balanced tree can be
+
+squares_same : (p a b : ℕ) → p ≤ a * a → p ≤ b * b → 2 * p ≤ (a + b) * (a + b)
+squares_same p a b h k = omega arith
+
+squares_apart : (p a b : ℕ) → p ≤ a * a → 2 * p ≤ b * b → 4 * p ≤ (a + b) * (a + b)
+squares_apart p a b h k =
+    elim (cases_lt a b) [
+      | inl less ↦ (let e : a ≤ b = omega arith in omega (arith, mul-le-mul_left a e))
+      | inr more ↦ omega (arith, mul-le-mul_left b more)
+    ]
+
+-- a square above 2 to the height grows with the tree
+pub full_fork : (l r a b : ℕ) → DifferByAtMost 1 l r → 2 ^ l ≤ a * a → 2 ^ r ≤ b * b → 2 ^ (max l r + 1) ≤ (a + b) * (a + b)
+full_fork l r a b near h k =
+    elim (cases_order l r) [
+      | inl same ↦ (let e : max l r + 1 ≡ l + 1 = omega arith in rw (e, pow-add 2 l 1) (let k2 : 2 ^ l ≤ b * b = rw same k in omega (arith, squares_same (2 ^ l) a b h k2)))
+      | inr (inl less) ↦ (let e : max l r + 1 ≡ l + 2 = omega (arith, near) in let f : r ≡ l + 1 = omega (arith, near) in let k2 : 2 ^ l * 2 ^ 1 ≤ b * b = rw (f, pow-add 2 l 1) at k in rw (e, pow-add 2 l 2) (omega (arith, squares_apart (2 ^ l) a b h (omega (arith, k2)))))
+      | inr (inr more) ↦ (let e : max l r + 1 ≡ r + 2 = omega (arith, near) in let f : l ≡ r + 1 = omega (arith, near) in let h2 : 2 ^ r * 2 ^ 1 ≤ a * a = rw (f, pow-add 2 r 1) at h in rw (e, pow-add 2 r 2) (omega (arith, squares_apart (2 ^ r) b a k (omega (arith, h2)))))
+    ]
+
+-- ---- the room before the ranges on both sides of one of them
+
+pub end_after-append : (low : ℕ) (xs : List Range) (m : Range) (ys : List Range) → end_after low (xs ++ m ∷ ys) ≡ end_after (end_of m) ys
+end_after-append low [] m ys = refl
+end_after-append low (x ∷ xs) m ys = end_after-append (end_of x) xs m ys
+
+pub widest-append : (low : ℕ) (xs : List Range) (m : Range) (ys : List Range) → widest low (xs ++ m ∷ ys) ≡ max (max (widest low xs) (room (end_after low xs) m.first)) (widest (end_of m) ys)
+widest-append low [] m ys = omega arith
+widest-append low (x ∷ xs) m ys = omega (arith, widest-append (end_of x) xs m ys)
+
+-- less room is left from a higher page on
+pub room_falls : (low high page : ℕ) → low ≤ high → room high page ≤ room low page
+room_falls low high page h = omega arith
+
+pub widest_falls : (low high : ℕ) (xs : List Range) → low ≤ high → widest high xs ≤ widest low xs
+widest_falls low high [] h = omega arith
+widest_falls low high (x ∷ xs) h = omega (arith, room_falls low high x.first h)
+
+-- the room before the first range, and the room between the ranges
+pub widest_parts : (low : ℕ) (xs : List Range) → low ≤ end_of_user_pages → widest low xs ≡ max (room low (lowest xs)) (widest end_of_user_pages xs)
+widest_parts low [] h = omega arith
+widest_parts low (x ∷ xs) h = omega (arith, room_falls low end_of_user_pages x.first h)
+
+pub fit-append : (low : ℕ) (xs : List Range) (m : Range) (ys : List Range) (high n : ℕ) → first_fit low (xs ++ m ∷ ys) high n ≡ option_or (first_fit low xs m.first n) (first_fit (end_of m) ys high n)
+fit-append low [] m ys high n = elim (leb n (room low m.first)) as (λ b. cond b (Some (aligned low)) (first_fit (end_of m) ys high n) ≡ option_or (cond b (Some (aligned low)) None) (first_fit (end_of m) ys high n)) [ true ↦ refl | false ↦ refl ]
+fit-append low (x ∷ xs) m ys high n =
+    elim (leb n (room low x.first)) as (λ b. cond b (Some (aligned low)) (first_fit (end_of x) (xs ++ m ∷ ys) high n) ≡ option_or (cond b (Some (aligned low)) (first_fit (end_of x) xs m.first n)) (first_fit (end_of m) ys high n)) [
+      | true ↦ refl
+      | false ↦ fit-append (end_of x) xs m ys high n
+    ]
+
+-- nothing fits where the room is less
+pub fit_none : (low : ℕ) (xs : List Range) (high n : ℕ) → widest low xs < n → room (end_after low xs) high < n → first_fit low xs high n ≡ None
+fit_none low [] high n h k = rw (lt-leb n (room low high) k)
+fit_none low (x ∷ xs) high n h k =
+    let here : room low x.first < n = omega (arith, h) in
+    let later : widest (end_of x) xs < n = omega (arith, h) in
+    rw (lt-leb n (room low x.first) here) (fit_none (end_of x) xs high n later k)
+
+abbrev pub is_place : Option ℕ → Type 0
+is_place None = ⊥
+is_place (Some x) = Unit {0}
+
+-- something fits where there is room before one of the ranges
+pub fit_some : (low : ℕ) (xs : List Range) (high n : ℕ) → n ≤ max (widest low xs) (room (end_after low xs) high) → is_place (first_fit low xs high n)
+fit_some low [] high n h =
+    let here : n ≤ room low high = omega (arith, h) in rw (le-leb n (room low high) here) tt
+fit_some low (x ∷ xs) high n h =
+    elim (leb n (room low x.first)) as (λ b. leb n (room low x.first) ≡ b → is_place (cond b (Some (aligned low)) (first_fit (end_of x) xs high n))) [
+      | true ↦ λ e. tt
+      | false ↦ λ e. fit_some (end_of x) xs high n (let here : room low x.first < n = leb-false n (room low x.first) e in omega (arith, here, h))
+    ] refl
+
+or_place : (o later : Option ℕ) → is_place o → option_or o later ≡ o
+or_place None later h = absurd h
+or_place (Some x) later h = refl
+
+pub lowest_front : (xs : List Range) (m : Range) (ys zs : List Range) → lowest (xs ++ m ∷ ys) ≡ lowest (xs ++ m ∷ zs)
+lowest_front [] m ys zs = refl
+lowest_front (x ∷ xs) m ys zs = refl
+
+-- the first place is below the middle one where there is enough room between the ranges up to it
+pub fit_left : (low : ℕ) (xs : List Range) (m : Range) (ys : List Range) (high n : ℕ) → low ≤ end_of_user_pages → n ≤ widest end_of_user_pages (xs ++ m ∷ []) → first_fit low (xs ++ m ∷ ys) high n ≡ first_fit low xs m.first n
+fit_left low xs m ys high n h enough =
+    let more = widest_falls low end_of_user_pages (xs ++ m ∷ []) h in
+    let parts = widest-append low xs m [] in
+    let place = fit_some low xs m.first n (omega (arith, enough, more, parts)) in
+    fit-append low xs m ys high n ∙ or_place (first_fit low xs m.first n) (first_fit (end_of m) ys high n) place
+
+-- and above it where there is not, nor below the lowest range
+pub fit_right : (low : ℕ) (xs : List Range) (m : Range) (ys : List Range) (high n : ℕ) → low ≤ end_of_user_pages → room low (lowest (xs ++ m ∷ ys)) < n → widest end_of_user_pages (xs ++ m ∷ []) < n → first_fit low (xs ++ m ∷ ys) high n ≡ first_fit (end_of m) ys high n
+fit_right low xs m ys high n h first small =
+    let same : room low (lowest (xs ++ m ∷ [])) < n = rw (lowest_front xs m [] ys) first in
+    let all = widest_parts low (xs ++ m ∷ []) h in
+    let parts = widest-append low xs m [] in
+    let before : widest low xs < n = omega (arith, same, small, all, parts) in
+    let last : room (end_after low xs) m.first < n = omega (arith, same, small, all, parts) in
+    fit-append low xs m ys high n ∙ ap (λ o. option_or o (first_fit (end_of m) ys high n)) (fit_none low xs m.first n before last)
+
+-- ---- what is kept of a tree, from what is kept of its two sides
 
 max-zero : (n : ℕ) → n ≡ max n 0
 max-zero n = omega arith
@@ -260,3 +362,47 @@ taken (Some n) new t first is view apart begun here tree ranges least most =
 
 pub apart : (a b : ℕ) → eqb a b ≡ false → a ≢ b
 apart a b unset e = let bad : true ≡ false = sym (eq-eqb a b e) ∙ unset in cc
+
+-- ---- two trees of which one is two levels higher, and a range between them, turned
+
+-- the range of the higher one's root comes between
+pub left_once : {l u inner outer f : TreeOf} {r q r' q' : Range} → IsFork u inner q outer → IsFork f l r' inner → r' ≡ r → q' ≡ q → u.height ≡ l.height + 2 → inner.height ≤ outer.height → end_of q ≤ end_of_user_pages → IsTurned l r u f q' outer
+left_once a b here there higher lean within = record {
+  ranges = rw (b.ranges, here, there, a.ranges, append_assoc);
+  within = rw there within;
+  about = (omega arith, omega arith);
+  least = omega arith;
+  most = omega arith;
+  near = λ e. absurd (omega arith);
+}
+
+pub right_once : {l u inner outer f : TreeOf} {r q r' q' : Range} → IsFork l outer q inner → IsFork f inner r' u → r' ≡ r → q' ≡ q → l.height ≡ u.height + 2 → inner.height ≤ outer.height → end_of q ≤ end_of_user_pages → IsTurned l r u outer q' f
+right_once a b here there higher lean within = record {
+  ranges = rw (b.ranges, here, there, a.ranges, append_assoc);
+  within = rw there within;
+  about = (omega arith, omega arith);
+  least = omega arith;
+  most = omega arith;
+  near = λ e. absurd (omega arith);
+}
+
+-- the range of its inner side's root does
+pub left_twice : {l u inner outer below above f g : TreeOf} {r q m r' m' : Range} → IsFork u inner q outer → IsFork inner below m above → IsFork f l r' below → IsFork g above q outer → r' ≡ r → m' ≡ m → u.height ≡ l.height + 2 → outer.height < inner.height → end_of m ≤ end_of_user_pages → IsTurned l r u f m' g
+left_twice a b low high here there higher lean within = record {
+  ranges = rw (low.ranges, high.ranges, here, there, a.ranges, b.ranges, append_assoc, append_assoc);
+  within = rw there within;
+  about = (omega arith, omega arith);
+  least = omega arith;
+  most = omega arith;
+  near = λ e. absurd (omega arith);
+}
+
+pub right_twice : {l u inner outer below above f g : TreeOf} {r q m r' m' : Range} → IsFork l outer q inner → IsFork inner below m above → IsFork f outer q below → IsFork g above r' u → r' ≡ r → m' ≡ m → l.height ≡ u.height + 2 → outer.height < inner.height → end_of m ≤ end_of_user_pages → IsTurned l r u f m' g
+right_twice a b low high here there higher lean within = record {
+  ranges = rw (low.ranges, high.ranges, here, there, a.ranges, b.ranges, append_assoc, append_assoc, append_assoc);
+  within = rw there within;
+  about = (omega arith, omega arith);
+  least = omega arith;
+  most = omega arith;
+  near = λ e. absurd (omega arith);
+}

@@ -1,13 +1,18 @@
--- Rows in whole chunks and the rows behind them, as one list.
-use Rattle.std.proofs.Common.{◌≡◌, ◌⊎◌, ℕ, zero, suc, ◌+◌, ◌-◌, ◌*◌, ◌/◌, ◌%◌, ◌<◌, ◌≤◌, List, [], ◌∷◌, ◌++◌, length, get_or, set, take, drop, replicate, Some, Bool, true, false, not, ◌&&◌, eqb, refl, sym, ap, ◌∙◌, subst, inl, inr, arith, append_assoc, length-set, length-append}
+-- Rows in chunks and behind them, as one list.
+use Rattle.std.proofs.Common.{◌≡◌, ◌⊎◌, ℕ, zero, suc, ◌+◌, ◌-◌, ◌*◌, ◌/◌, ◌%◌, ◌<◌, ◌≤◌, List, [], ◌∷◌, ◌++◌, length, get_or, set, take, drop, replicate, Some, Bool, true, false, not, ◌&&◌, eqb, refl, sym, ap, ◌∙◌, subst, inl, inr, arith, append_assoc, length-set, length-append, ◌^◌, Option, None, cond}
 use mathlib.Core.Bool.{beq}
-use Rattle.std.specs.List.{All}
-use Rattle.std.specs.Prelude.{slice_get}
+use Rattle.std.specs.List.{All, prefix_len}
+use Rattle.std.specs.Prelude.{slice_get, ◌==◌}
 use Rattle.std.proofs.lemmas.Nat.{div-add-mod', mod_below}
 use Rattle.std.proofs.lemmas.Option.{slice_get-get_or, get_or_from_slice_get}
 use Rattle.mm_types.proofs.{same_or_not}
-use Rattle.std.proofs.lemmas.List.{ext_get_or, same_lists, get_or_default, length-replicate, length-take-le, length-drop, get_or_past, get_or_append_left, get_or-append_right, take-append-le, drop-append-le, replicate-append-replicate, get_or-replicate, get_or-take, get_or-drop}
-use Rattle.mm_vad.specs.{Row, rows_joined, AreRows, filled_rows}
+use Rattle.std.proofs.lemmas.List.{ext_get_or, same_lists, get_or_default, length-replicate, length-take-le, length-drop, get_or_past, get_or_append_left, get_or-append_right, take-append-le, drop-append-le, replicate-append-replicate, get_or-replicate, get_or-take, get_or-drop, drop_more, drop-drop, take-append-drop}
+use Rattle.mm_vad.specs.{Row, rows_joined, AreRows, filled_rows, WrittenOf, rows_of, AreAll, FilledSome, Look, look_of, same_flag, same_look}
+use Rattle.mm_vad.specs.{are_alike, first_alike, run_from}
+use Rattle.std.proofs.lemmas.Bool.{and_from, eq-eqb}
+use Rattle.std.proofs.lemmas.List.Folds.{length-prefix_len}
+
+-- ---- rows in whole chunks and the rows behind them, as one list
 
 abbrev pub AreWhole : List (List Row) → Type 0
 AreWhole chunks = All (λ rows. length rows ≡ 512) chunks
@@ -287,3 +292,100 @@ filled_behind_chunks chunks rest shown i n row whole is high =
     filled_rest chunks rest (i - length chunks * 512) n row whole
     ∙ ap (λ (q : ℕ). filled_rows (rows_joined chunks rest) q n row) (omega (arith, div-add-mod' i 512, high))
     ∙ ap (λ (rs : List Row). filled_rows rs i n row) is
+
+-- ---- the rows of a region as they are seen: equal to one row, or written out
+
+pub rows_written : {seen now : WrittenOf} → seen ≡ now → seen.rows ≡ now.rows
+rows_written e = ap (λ (w : WrittenOf). w.rows) e
+
+pub room_written : {seen now : WrittenOf} → seen ≡ now → seen.room ≡ now.room
+room_written e = ap (λ (w : WrittenOf). w.room) e
+
+seen_as : List Row → ℕ → WrittenOf
+seen_as rows room = record { rows = rows; room = room }
+
+pub written_as : (rows rows' : List Row) (room room' : ℕ) → rows ≡ rows' → room ≡ room' → ◌≡◌ {A = WrittenOf} (record { rows = rows; room = room }) (record { rows = rows'; room = room' })
+unfolding seen_as
+written_as rows rows' room room' e f = ap (λ (rs : List Row). seen_as rs room) e ∙ ap (seen_as rows') f
+
+-- ---- n equal rows, in chunks and behind them
+
+pub joined-equal : (n : ℕ) (row : Row) (chunks : List (List Row)) (rest : List Row) → chunks ≡ replicate (n / 512) (replicate 512 row) → rest ≡ replicate (n % 512) row → rows_joined chunks rest ≡ replicate n row
+joined-equal n row chunks rest e f =
+    ap (λ (cs : List (List Row)). rows_joined cs rest) e
+    ∙ ap (λ (rs : List Row). rows_joined (replicate (n / 512) (replicate 512 row)) rs) f
+    ∙ joined-replicate (n / 512) (n % 512) row
+    ∙ ap (λ (q : ℕ). replicate q row) (div-add-mod' n 512)
+
+pub equal-rows : (n : ℕ) (row : Row) (chunks : List (List Row)) (rest : List Row) → n < 2 ^ 32 → chunks ≡ replicate (n / 512) (replicate 512 row) → rest ≡ replicate (n % 512) row → AreRows chunks rest
+equal-rows n row chunks rest small e f = record {
+  whole = subst AreWhole (sym e) (whole-replicate (n / 512) (replicate 512 row) (length-replicate 512 row));
+  few = omega (arith, small, ap length (joined-equal n row chunks rest e f), length-replicate n row);
+}
+
+pub no-rows : (chunks : List (List Row)) (rest : List Row) → chunks ≡ [] → rest ≡ [] → AreRows chunks rest
+no-rows chunks rest e f =
+    subst (λ (cs : List (List Row)). AreRows cs rest) (sym e) (subst (AreRows []) (sym f) (record { whole = λ k d h. absurd (omega arith); few = omega arith }))
+
+-- ---- one row, or all written out
+
+pub as_one : (equal : Option Row) (w : WrittenOf) (now : List Row) (row : Row) → rows_of equal w ≡ now → equal ≡ Some row → now ≡ replicate w.room row
+as_one equal w now row e is = sym e ∙ ap (λ (o : Option Row). rows_of o w) is
+
+pub as_written : (equal : Option Row) (w : WrittenOf) (now : List Row) → rows_of equal w ≡ now → equal ≡ None → now ≡ w.rows
+as_written equal w now e is = sym e ∙ ap (λ (o : Option Row). rows_of o w) is
+
+pub length-rows : (equal : Option Row) (w : WrittenOf) (now : List Row) → AreAll equal w → rows_of equal w ≡ now → w.room ≡ length now
+length-rows (Some row) w now all e = sym (length-replicate w.room row) ∙ ap length e
+length-rows None w now all e = sym all ∙ ap length e
+
+-- filling some of them changes nothing, since they were equal to the row
+pub filled_equal : (now : List Row) (first n room : ℕ) (before row : Row) → now ≡ replicate room before → before ≡ row → room < 2 ^ 32 → 0 < n → first + n ≤ length now → FilledSome now now first n row n
+filled_equal now first n room before row is same few some inside =
+    let long : length now ≡ room = ap length is ∙ length-replicate room before in
+    record {
+      some = some;
+      within = omega arith;
+      fits = omega (arith, inside, long, few);
+      after = filled_same now first n n row inside (omega arith) (equal_part now room first n before is (omega (arith, inside, long)) ∙ ap (λ (r : Row). replicate n r) same);
+    }
+
+-- ---- rows in a row that are alike
+
+same_flag_itself : (b : Bool) → same_flag b b ≡ true
+same_flag_itself true = refl
+same_flag_itself false = refl
+
+same_look_itself : (a : Look) → same_look a a ≡ true
+same_look_itself a =
+    and_from (same_flag a.committed a.committed && (a.prot == a.prot)) (same_flag a.guard a.guard)
+    (and_from (same_flag a.committed a.committed) (a.prot == a.prot) (same_flag_itself a.committed) (eq-eqb a.prot a.prot refl))
+    (same_flag_itself a.guard)
+
+pub are_alike_itself : (row : Row) → are_alike row row ≡ true
+are_alike_itself row = same_look_itself (look_of row)
+
+pub run_from_is : (rows : List Row) (i : ℕ) (first : Row) → i < length rows → get_or rows i first ≡ first → run_from rows i ≡ prefix_len (are_alike first) (drop i rows)
+run_from_is rows i first h e =
+    let here : drop i rows ≡ first ∷ drop (i + 1) rows = drop_more rows i first h ∙ ap (λ (row : Row). row ∷ drop (i + 1) rows) e in
+    ap first_alike here
+    ∙ length-prefix_len (are_alike first) (first ∷ drop (i + 1) rows)
+    ∙ sym (ap (prefix_len (are_alike first)) here)
+
+-- so many equal rows that pass a test, and those behind them
+prefix_repeated : (p : Row → Bool) (n : ℕ) (row : Row) (rest : List Row) → p row ≡ true → prefix_len p (replicate n row ++ rest) ≡ n + prefix_len p rest
+prefix_repeated p zero row rest e = omega arith
+prefix_repeated p (suc n) row rest e = ap (λ (b : Bool). cond b (1 + prefix_len p (replicate n row ++ rest)) 0) e ∙ omega (arith, prefix_repeated p n row rest e)
+
+pub prefix_run : (p : Row → Bool) (rows : List Row) (i n : ℕ) (row : Row) → p row ≡ true → take n (drop i rows) ≡ replicate n row → prefix_len p (drop i rows) ≡ n + prefix_len p (drop (i + n) rows)
+prefix_run p rows i n row passes e =
+    ap (prefix_len p) (sym (take-append-drop n (drop i rows)) ∙ ap (λ (xs : List Row). xs ++ drop n (drop i rows)) e ∙ ap (λ (xs : List Row). replicate n row ++ xs) (drop-drop n i rows))
+    ∙ prefix_repeated p n row (drop (i + n) rows) passes
+
+pub first_of_run : (rows : List Row) (i n : ℕ) (row d : Row) → 0 < n → take n (drop i rows) ≡ replicate n row → get_or rows i d ≡ row
+first_of_run rows i n row d some e =
+    ap (λ (q : ℕ). get_or rows q d) (let same : i ≡ i + 0 = omega arith in same)
+    ∙ sym (get_or-drop i rows 0 d)
+    ∙ sym (get_or-take n (drop i rows) 0 d some)
+    ∙ ap (λ (rs : List Row). get_or rs 0 d) e
+    ∙ get_or-replicate n 0 row d some

@@ -3,8 +3,7 @@ use Rattle.std.specs.Prelude.{ℕ, true, false, List, IsSome}
 use Rattle.mm_vad.specs.declared.regions.Change.{Change}
 use Rattle.mm_vad.specs.declared.regions.Change.TheVariants as change
 use Rattle.mm_vad.specs.declared.regions.Region.{Region}
-use Rattle.mm_vad.specs.Regions.{HasFlags, HasPages, LieAmong, LieInRegion, LieWithPage, region_at}
-use Rattle.mm_vad.specs.Regions.{with_equal_rows, with_marks, with_unwritten}
+use Rattle.mm_vad.specs.Regions.{HasFlags, HasPages, LieAmong, LieInRegion, LieWithPage, region_at, with_equal_rows, with_marks, with_unwritten}
 
 abbrev pub change_by : Change → ℕ → Region → Region
 change_by (change.FillRows n row) page = with_equal_rows page n row

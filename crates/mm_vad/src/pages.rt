@@ -6,7 +6,7 @@ use std::alloc::Global;
 use std::marker::Model;
 
 /// What a region knows of one of its pages (the software side of a page-table entry).
-#[derive(Clone, Copy, PartialEq, Eq, Debug)]
+#[derive(Clone, Copy, PartialEq, Eq)]
 pub struct Row {
     /// The base protection; the guard stands beside it.
     pub prot: Prot,

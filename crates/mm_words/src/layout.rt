@@ -5,7 +5,7 @@ ghost use Rattle.mm_words.specs.Entries.{entry_in};
 use mm_types::{Area, Block, Frame, Slot};
 
 /// What a page-table word or a prototype word says of its page.
-#[derive(Clone, Copy, PartialEq, Eq, Debug)]
+#[derive(Clone, Copy, PartialEq, Eq)]
 pub enum Entry {
     /// There is no page.
     Empty,

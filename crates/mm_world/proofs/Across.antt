@@ -444,11 +444,9 @@ new_file_across t c fits name pages byte =
 module _ {B : Type 0} where
   -- a row with the same bytes in the place of one
   row_same : (rows : List (RowOf B)) (k m : ℕ) (row new : RowOf B) → slice_get rows k ≡ Some row → new.own ≡ row.own → option_and_then (λ (row : RowOf B). row.own) (slice_get (set rows k new) m) ≡ option_and_then (λ (row : RowOf B). row.own) (slice_get rows m)
-  row_same [] k m row new there own = refl
   row_same (r ∷ rows) zero zero row new there own = let same : r ≡ row = cc in own ∙ ap (λ (row : RowOf B). row.own) (sym same)
-  row_same (r ∷ rows) zero (suc m) row new there own = refl
-  row_same (r ∷ rows) (suc k) zero row new there own = refl
   row_same (r ∷ rows) (suc k) (suc m) row new there own = row_same rows k m row new there own
+  row_same _ _ _ row new there own = cc
 
   pub guard_same : (w : WorldOf B) (pid : ℕ) (p : ProcessOf B) (c : Committed B) (page : ℕ) → Spaces w → process_of w pid ≡ Some p → committed_at w p.regions page ≡ Some c → (j at : ℕ) → own_of (process_of (guard_off w pid p c page) j) at ≡ own_of (process_of w j) at
   guard_same w pid p c page spaces lives committed j at =

@@ -22,13 +22,13 @@ use Rattle.mm_world.specs.{most_fails, most_slots, kept_of_others, with_slots, u
 use Rattle.mm_world.specs.{is_limit_code, is_limit_refusal, is_told, Each, RowFits, RowsFit, ViewFits, References}
 use Rattle.mm_world.specs.Alloc.{commit_pages}
 use Rattle.mm_world.proofs.Tables.{Holds, met, tables}
-use Rattle.mm_world.proofs.Finding.{found_stands}
+use Rattle.mm_world.proofs.Finding.{private_kind, found_stands}
 use Rattle.mm_world.proofs.RowsFit.{each-replicate, new_view_fits, rows_protected, view_rows_protected, rows_committed, rows_cleared, length-change_range}
 use Rattle.mm_world.proofs.Regions.{flags_stay, flags_changed, no_flags, less, IsPlaced, placed_is}
 use Rattle.mm_world.proofs.FlagRanges.{same_page as equals}
 use Rattle.mm_world.proofs.Charges.{stays_charged, decommit_less, not_charged}
-use Rattle.mm_world.proofs.Spaces.{base_allowed, some_bytes, some_pages, private_is, begins_before, private_flags, new_row_fits, length-unwritten, wanted_granule, count_some}
-use Rattle.mm_world.proofs.Edits.{Terms, Moves, Rises, Falls, Stays, Charged, Edits, RegionEdit, RegionComes, RegionGoes, RegionChanges, Edit, Rest, Regions, HandleComes, HandleGoes, SectionComes, AreaComes, AreaChanges, FileComes, Settles, ProcessComes, ProcessGoes, Nothing, Then, Edited, is_call_success}
+use Rattle.mm_world.proofs.Spaces.{base_allowed, some_bytes, some_pages, begins_before, private_flags, new_row_fits, length-unwritten, wanted_granule, count_some}
+use Rattle.mm_world.proofs.Edits.{Terms, Moves, Falls, Charged, Edits, RegionEdit, RegionComes, RegionGoes, RegionChanges, Edit, Rest, Regions, HandleComes, HandleGoes, SectionComes, AreaComes, AreaChanges, FileComes, Settles, ProcessComes, ProcessGoes, Nothing, Then, Edited, is_call_success}
 
 -- flags that change are flags still
 pub still_watched : (change : List Bool → List Bool) (o : Option (List Bool)) → is_some (option_map change o) ≡ is_some o
@@ -91,9 +91,8 @@ leaves_same w a quiet = record { alarm = λ e. (let bad : true ≡ false = sym e
 
 -- a charge that may rise does not just fall
 rising : (c : Moves) → Charged c 0 1 → c ≡ Falls → ⊥
-rising Rises h e = cc
 rising Falls h e = omega (arith, h)
-rising Stays h e = cc
+rising _ h e = cc
 
 module _ {B : Type 0} (t : Answer → Terms) where
   pub by_same : (w : WorldOf B) (a : Answer) → is_alarm a ≡ false → is_limit_refusal a ≡ false → is_told a ≡ false → Holds (Edited t w) (done a w)
@@ -202,14 +201,14 @@ module _ {B : Type 0} (t : Answer → Terms) where
 
   by_whole : (w : WorldOf B) (pid : ℕ) (p : ProcessOf B) (addr : ℕ) (r : Found (RegionOf B)) → ((old new : ℕ) → new ≤ old → Charged (t answer.Ok).charge old new) → process_of w pid ≡ Some p → private_at p.regions addr ≡ Some r → Holds (Edited t w) (decommit w pid p r (pages_of r.thing))
   by_whole w pid p addr r falls lives found =
-      let is = private_is r.thing.kind (parts (is_private r.thing.kind) (address_of r.thing.base == addr) (found_stands _ p.regions r found).passes).0 in
+      let is = private_kind r.thing.kind (parts (is_private r.thing.kind) (address_of r.thing.base == addr) (found_stands _ p.regions r found).passes).0 in
       by_change w pid p r _ (λ row. reserved_row) (pages_of r.thing) answer.Ok refl lives found (λ h. rows_cleared r.thing (pages_of r.thing) is h (omega arith)) (falls _ _ (decommit_less r.thing (pages_of r.thing)))
 
   by_part : (w : WorldOf B) (pid : ℕ) (p : ProcessOf B) (range : Range) (r : Found (RegionOf B)) → ((old new : ℕ) → new ≤ old → Charged (t answer.Ok).charge old new) → process_of w pid ≡ Some p → private_around p.regions range ≡ Some r → Holds (Edited t w) (decommit w pid p r range)
   by_part w pid p range r falls lives found =
       let passes = parts (is_private r.thing.kind) (lies_within range (pages_of r.thing)) (found_stands _ p.regions r found).passes in
       by_change w pid p r _ (λ row. reserved_row) range answer.Ok refl lives found
-      (λ h. rows_cleared r.thing range (private_is r.thing.kind passes.0) h (begins_before range r.thing passes.1)) (falls _ _ (decommit_less r.thing range))
+      (λ h. rows_cleared r.thing range (private_kind r.thing.kind passes.0) h (begins_before range r.thing passes.1)) (falls _ _ (decommit_less r.thing range))
 
   pub in_free : (w : WorldOf B) (pid addr size type : ℕ) → (t answer.Ok).stacks ≡ false → ((type == release_type) ≡ true → (x : PagesOf) → x.pid ≡ pid → address_of x.range.first ≡ addr → (t answer.Ok).ends x ≡ true) → ((old new : ℕ) → new ≤ old → Charged (t answer.Ok).charge old new) → Holds (Edited t w) (free w pid addr size type)
   in_free w pid addr size type loose gone falls = search (tables, by_refusal, released, by_whole, by_part) depth 14

@@ -1,5 +1,5 @@
 -- What lines do to the charge.
-use Rattle.std.proofs.Common.{zero, suc, subst, unwrap_or, nat_lt, ◌≡◌, ℕ, ◌+◌, ◌-◌, ◌≤◌, ◌<◌, Bool, true, false, Option, Some, None, List, [], ◌∷◌, ◌++◌, refl, sym, ◌∙◌, ap, cond, arith, length, is_some, is_none, sum_by, count_by, set, map, take, drop, ◌&&◌, ◌||◌, slice_get}
+use Rattle.std.proofs.Common.{suc, subst, unwrap_or, nat_lt, ◌≡◌, ℕ, ◌+◌, ◌-◌, ◌≤◌, ◌<◌, Bool, true, false, Option, Some, None, List, [], ◌∷◌, ◌++◌, refl, sym, ◌∙◌, ap, cond, arith, length, is_some, is_none, sum_by, count_by, set, map, take, drop, ◌&&◌, ◌||◌, slice_get}
 use Rattle.std.specs.Prelude.{remove}
 use Rattle.std.specs.List.{list_any}
 use Rattle.std.proofs.lemmas.List.{take-append-drop}
@@ -13,7 +13,7 @@ use Rattle.mm_world.specs.{OutcomeOf, done, refused, reserved_row, change_rows, 
 use Rattle.mm_world.specs.{settled_area, settled_areas, settled_sections, uses, map_view, no_regions, KeepsLimit, Committed, committed_at, set_row}
 use Rattle.mm_world.specs.{guard_off}
 use Rattle.mm_world.proofs.Tables.{Holds, tables}
-use Rattle.mm_world.proofs.Edits.{Moves, Rises, Falls, Stays, Charged, Terms, RegionEdit, RegionComes, RegionGoes, RegionChanges, Edit, Rest, Regions, HandleComes, HandleGoes, SectionComes, AreaComes, AreaChanges, FileComes, Settles, ProcessComes, ProcessGoes, Edits, Nothing, Then}
+use Rattle.mm_world.proofs.Edits.{Moves, Rises, Falls, Stays, Charged, Terms, RegionEdit, RegionComes, RegionGoes, RegionChanges, Edit, Rest, Regions, HandleComes, HandleGoes, AreaComes, AreaChanges, Settles, ProcessComes, ProcessGoes, Edits, Nothing, Then}
 use Rattle.mm_world.proofs.Finding.{numbered_inside, found_stands, IsCommitted, committed_is}
 use Rattle.mm_types.specs.declared.views.Kind.TheVariants as kind
 
@@ -64,8 +64,7 @@ stays_charged Stays old new same = same
 -- one thing in a sum is changed
 moved : (c : Moves) (old new before after : ℕ) → after + old ≡ before + new → Charged c old new → Charged c before after
 moved Rises old new before after sum h = tt
-moved Falls old new before after sum h = omega (arith, sum, h)
-moved Stays old new before after sum h = omega (arith, sum, h)
+moved _ old new before after sum h = omega (arith, sum, h)
 
 then_charged : (c : Moves) (before middle after : ℕ) → Charged c before middle → Charged c middle after → Charged c before after
 then_charged Rises before middle after h k = tt
@@ -141,9 +140,8 @@ module _ {B : Type 0} where
   set_area_charge areas at a c h = by_place (slice_get areas at) refl h
     where
       beyond : (areas : List (AreaOf B)) (at : ℕ) → slice_get areas at ≡ None → set areas at a ≡ areas
-      beyond [] at e = refl
-      beyond (b ∷ areas) zero e = cc
       beyond (b ∷ areas) (suc at) e = ap (λ (as' : List (AreaOf B)). b ∷ as') (beyond areas at e)
+      beyond _ _ e = cc
 
       by_place : (o : Option (AreaOf B)) → slice_get areas at ≡ o → Charged c (area_charge (unwrap_or o no_area)) (area_charge a) → Charged c (sum_by area_charge areas) (sum_by area_charge (set areas at a))
       by_place None e h = stays_charged c (sum_by area_charge areas) (sum_by area_charge (set areas at a)) (ap (sum_by area_charge) (beyond areas at e))
@@ -209,13 +207,12 @@ module _ {B : Type 0} (t : Terms) where
       stays_charged t.charge (charge w) (charge (record w { processes = w.processes ++ Some no_regions ∷ [] })) (omega (arith, sum_by_push process_charge w.processes (Some no_regions)))
   each w _ (ProcessGoes pid p lives ends charged) =
       moved t.charge (process_charge (Some p)) 0 (charge w) (charge (set_process w pid None)) (charge-set_process w pid p None lives) charged
-  each w _ (SectionComes s inside) = stays_charged t.charge (charge w) (charge w) refl
   each w _ (AreaComes a charged) =
       moved t.charge 0 (area_charge a) (charge w) (charge (record w { areas = w.areas ++ a ∷ [] })) (omega (arith, sum_by_push area_charge w.areas a)) charged
   each w _ (AreaChanges at a same charged) =
       moved t.charge (sum_by area_charge w.areas) (sum_by area_charge (set w.areas at a)) (charge w) (charge (set_area w at a)) (omega arith) (set_area_charge w.areas at a t.charge charged)
-  each w _ (FileComes f inside) = stays_charged t.charge (charge w) (charge w) refl
   each w _ (Settles falls) = falls (charge w) (charge (settle w)) (charge-settle w)
+  each w _ _ = stays_charged t.charge (charge w) (charge w) refl
 
   each_limit : (w v : WorldOf B) → Edit t w v → limit w ≤ limit v
   each_limit w _ (Rest v b) = b.limit

@@ -53,9 +53,8 @@ numbered_there (y ∷ ys) (suc i) x e = numbered_there ys i x e
 pub put_at : {A : Type 0} (P : Option A → Option A → Type 0) (xs : List (Option A)) (i j : ℕ) (x : A) (y : Option A) → get_or xs i None ≡ Some x → (j ≡ i → P (Some x) y) → (j ≢ i → P (get_or xs j None) (get_or xs j None)) → P (get_or xs j None) (get_or (set xs i y) j None)
 put_at P [] i j x y at here other = cc
 put_at P (o ∷ xs) zero zero x y at here other = subst (λ o. P o y) (sym at) (here refl)
-put_at P (o ∷ xs) zero (suc j) x y at here other = other (λ e. cc)
-put_at P (o ∷ xs) (suc i) zero x y at here other = other (λ e. cc)
 put_at P (o ∷ xs) (suc i) (suc j) x y at here other = put_at P xs i j x y at (λ e. here (ap suc e)) (λ n. other (λ e. n (let same : j ≡ i = cc in same)))
+put_at P (o ∷ xs) _ _ x y at here other = other (λ e. cc)
 
 -- and where one more was put behind
 pub push_at : {A : Type 0} (P : Option A → Option A → Type 0) (xs : List (Option A)) (j : ℕ) (y : Option A) → P None y → ((o : Option A) → P o o) → P (get_or xs j None) (get_or (xs ++ y ∷ []) j None)
@@ -119,12 +118,9 @@ module _ {B : Type 0} where
       ap (λ r. option_and_then (λ (r : Found (RegionOf B)). option_and_then (λ (row : RowOf B). row.own) (row_at r.thing page)) r) h.region
       ∙ ap (λ row. option_and_then (λ (row : RowOf B). row.own) row) h.row_there
 
-  in_process : (w : WorldOf B) (pid page : ℕ) (p : ProcessOf B) → process_of w pid ≡ Some p → content_of w (private_key pid page) ≡ own_page p.regions page
-  in_process w pid page p lives = ap (λ p. option_and_then (λ (p : ProcessOf B). own_page p.regions page) p) lives
-
   by_case : (w : WorldOf B) (pid page i : ℕ) (p : ProcessOf B) (c : Committed B) (home : Home B) → process_of w pid ≡ Some p → IsCommitted w p.regions page c → HomeCases w i c.region.thing.kind c.row.own home → is_some (content_of w (key_of pid page home)) ≡ true
   by_case w pid page i p c home lives h (IsOwn bytes own at_home) =
-      ap (λ home. is_some (content_of w (key_of pid page home))) at_home ∙ ap is_some (in_process w pid page p lives ∙ found_row w p.regions page c h ∙ own)
+      ap (λ home. is_some (content_of w (key_of pid page home))) at_home ∙ ap is_some ((ap (λ p. option_and_then (λ (p : ProcessOf B). own_page p.regions page) p) lives) ∙ found_row w p.regions page c h ∙ own)
   by_case w pid page i p c home lives h (IsShared v shared k own at_page at_home) =
       ap (λ home. is_some (content_of w (key_of pid page home))) at_home ∙ ap is_some at_page
 

@@ -3,6 +3,7 @@ use Rattle.std.proofs.Common.{◌≡◌, ◌≢◌, ℕ, zero, suc, ◌+◌, ◌
 use Rattle.std.specs.Prelude.{◌==◌, ◌||◌}
 use Rattle.std.specs.List.{list_any}
 use Rattle.std.specs.Cmp.{unsigned_Decides}
+pub use Rattle.std.proofs.lemmas.Bool.{eqb-true as same_page, eq-eqb as equal}
 use Rattle.mm_types.specs.{address_of, page_of}
 use Rattle.mm_world.specs.{change_range, unwritten, Each}
 use Rattle.mm_world.proofs.Regions.{less, not_less}
@@ -38,12 +39,6 @@ module _ {A : Type 0} (change : A → A) where
 
 -- ---- pages that are unwritten one by one
 
-pub equal : (a b : ℕ) → a ≡ b → (a == b) ≡ true
-equal a b same = (unsigned_Decides a b).1 same
-
-pub same_page : (q page : ℕ) → (q == page) ≡ true → q ≡ page
-same_page q page e = (unsigned_Decides q page).0 e
-
 pub page_of-address_of : (page : ℕ) → page_of (address_of page) ≡ page
 page_of-address_of page = omega arith
 
@@ -64,8 +59,7 @@ not_cleared (Some x) = refl
 cleared_twice : (a b : Bool) (o : Option Bool) → cleared b (cleared a o) ≡ cleared (a || b) o
 cleared_twice a b None = refl
 cleared_twice true true (Some x) = refl
-cleared_twice true false (Some x) = refl
-cleared_twice false b (Some x) = refl
+cleared_twice _ _ (Some x) = cc
 
 one_cleared : (base page q : ℕ) (ws : List Bool) (t : Bool) → (q == page) ≡ t → base ≤ page → base ≤ q → slice_get (change_range (λ was. false) (q - base) 1 ws) (page - base) ≡ cleared t (slice_get ws (page - base))
 one_cleared base page q ws true e low from =

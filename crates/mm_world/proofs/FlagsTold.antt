@@ -1,5 +1,5 @@
 -- An `alloc` of a watched region gives its pages flags, none of which is set; no other page's flag changes.
-use Rattle.std.proofs.Common.{◌≡◌, ◌≢◌, ℕ, zero, suc, ◌+◌, ◌-◌, Bool, true, false, Option, Some, None, List, refl, sym, ◌∙◌, ap, subst, cond, arith, set, slice_get, replicate, option_map, count_by, ◌&&◌, ◌||◌}
+use Rattle.std.proofs.Common.{◌≡◌, ◌≢◌, ℕ, suc, ◌+◌, ◌-◌, Bool, true, false, Option, Some, None, List, refl, sym, ◌∙◌, ap, subst, cond, arith, set, slice_get, replicate, option_map, count_by, ◌&&◌, ◌||◌}
 use Rattle.std.specs.Prelude.{◌==◌, nat_lt, option_and_then, insert}
 use Rattle.std.specs.List.{list_any}
 use Rattle.std.proofs.lemmas.List.{length-replicate}
@@ -33,9 +33,8 @@ use Rattle.mm_world.proofs.LineEdits as edits
 use Rattle.mm_world.proofs.FlagsWritten as writes
 
 got_replicate : (n i : ℕ) (x y : Bool) → slice_get (replicate n x) i ≡ Some y → y ≡ x
-got_replicate zero i x y e = cc
-got_replicate (suc n) zero x y e = cc
 got_replicate (suc n) (suc i) x y e = got_replicate n i x y e
+got_replicate _ _ x y e = cc
 
 -- ---- what the answer tells of the pages
 

@@ -187,10 +187,9 @@ slice_get-drop (suc k) i zero (w ∷ ws) e = absurd (omega (arith, e))
 slice_get-drop (suc k) i (suc j) (w ∷ ws) e = slice_get-drop k i j ws (omega (arith, e))
 
 slice_get-take : (n i : ℕ) (ws : List Bool) (b : Bool) → slice_get (take n ws) i ≡ Some b → slice_get ws i ≡ Some b
-slice_get-take zero i ws b e = cc
-slice_get-take (suc n) i [] b e = cc
 slice_get-take (suc n) zero (w ∷ ws) b e = e
 slice_get-take (suc n) (suc i) (w ∷ ws) b e = slice_get-take n i ws b e
+slice_get-take _ i _ b e = cc
 
 -- ---- the region around the range
 

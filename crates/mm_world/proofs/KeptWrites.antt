@@ -1,6 +1,6 @@
 -- What threads keep changes by `begin`, `resume` and `exit` alone, as their answers tell; so do their stacks by `free` and `exit`, but for lines
 -- of stacks.
-use Rattle.std.proofs.Common.{◌≡◌, ℕ, zero, suc, Bool, true, false, Option, Some, None, List, [], ◌∷◌, refl, sym, ◌∙◌, ap, cond, map, set}
+use Rattle.std.proofs.Common.{◌≡◌, ℕ, suc, Bool, true, false, Option, Some, None, List, [], ◌∷◌, refl, sym, ◌∙◌, ap, cond, map, set}
 use Rattle.std.specs.Prelude.{◌==◌, if◌then◌else◌, slice_set}
 use Rattle.mm_types.specs.{Answer, Code, AccessSpec, Event, Pid, Tid, Place, release_type}
 use Rattle.mm_types.specs.declared.answers.Answer.TheVariants as answer
@@ -8,8 +8,8 @@ use Rattle.mm_types.specs.declared.codes.Raise.TheVariants as raise
 use Rattle.mm_types.specs.declared.events.AccessSpec.TheVariants as spec
 use Rattle.mm_types.specs.declared.events.Event.TheVariants as line
 use Rattle.mm_world.specs.{WorldOf, ProcessOf, KeptOf, StackOf, Page, Numbered, unless, OutcomeOf, done, refused, Committed, free, is_stack_at, exit}
-use Rattle.mm_world.specs.{kept_of_others, Attempt, ReadOf, WriteOf, Execute, access, access_at, perform, address_in, attempt_in, step, world_told}
-use Rattle.mm_world.specs.{begin, resume, kept_by, page_written, write_of, writes_of, unless_in, ends_none, writes_after}
+use Rattle.mm_world.specs.{kept_of_others, Attempt, WriteOf, access, access_at, perform, address_in, attempt_in, step, world_told, begin, resume}
+use Rattle.mm_world.specs.{kept_by, page_written, write_of, writes_of, unless_in, ends_none, writes_after}
 use Rattle.mm_world.specs.World.{World}
 use Rattle.mm_world.specs.Report.{Report}
 use Rattle.mm_world.proofs.Determined.{may_tell, decided}
@@ -47,9 +47,8 @@ module _ {B : Type 0} (t : Answer → Terms) (w : WorldOf B) (o : OutcomeOf B) w
 -- ---- lists of what is kept
 
 map_set : (ks : Numbered KeptOf) (i : ℕ) (k : Option KeptOf) → map write_of (set ks i k) ≡ set (map write_of ks) i (write_of k)
-map_set [] i k = refl
-map_set (x ∷ ks) zero k = refl
 map_set (x ∷ ks) (suc i) k = ap (λ (xs : List (Option Place)). write_of x ∷ xs) (map_set ks i k)
+map_set _ _ k = cc
 
 by_process : (pid by : ℕ) (access : AccessSpec) → (b : Bool) → (by == pid) ≡ b → write_of (cond b None (Some (record { pid = by; access = access }))) ≡ unless_in pid (page_written by access)
 by_process pid by (spec.Read addr len) true e = refl
@@ -132,9 +131,8 @@ going_refusal : (w : World) (why : Code) → Holds GoesOn (refused w why)
 going_refusal w why = goes_on w _ refl
 
 going_perform : (w : World) (pid : ℕ) (p : ProcessOf Page) (c : Committed Page) (page offset : ℕ) (what : Attempt) → Holds GoesOn (perform w pid p c page offset what)
-going_perform w pid p c page offset (ReadOf len) = goes_on w _ refl
 going_perform w pid p c page offset (WriteOf bytes) = goes_on _ _ refl
-going_perform w pid p c page offset Execute = goes_on w _ refl
+going_perform w pid p c page offset _ = goes_on w _ refl
 
 going_at : (w : World) (pid : ℕ) (p : ProcessOf Page) (page offset : ℕ) (what : Attempt) (c : Option (Committed Page)) → Holds GoesOn (access_at w pid p page offset what c)
 going_at w pid p page offset what None = goes_on w _ refl
@@ -159,9 +157,6 @@ in_begin w tid pid what =
       stacks = λ other. same_stacks same_threads w o refl h;
     }
 
-after_resume : (writes : List (Option Place)) (tid : Tid) (a : Answer) → ends_none a ≡ false → writes_after writes (line.Resume tid) a ≡ slice_set writes tid.0 None
-after_resume writes tid a e = ap (λ b. cond b writes (slice_set writes tid.0 None)) e
-
 in_resume : (w : World) (tid : Tid) (kept : Option KeptOf) → TellsThreads w (line.Resume tid) (resume w tid.0 kept)
 in_resume w tid None = record { tells = refl; stacks = λ other. refl }
 in_resume w tid (Some k) =
@@ -171,7 +166,7 @@ in_resume w tid (Some k) =
       tells =
           map_set o.world.kept tid.0 None
           ∙ ap (λ (ks : Numbered KeptOf). set (map write_of ks) tid.0 None) (same_kept same_threads w o refl h)
-          ∙ sym (after_resume (writes_of w) tid o.answer (going_access w k.pid (address_in k.access) (attempt_in k.access)).it.goes);
+          ∙ sym ((ap (λ b. cond b (writes_of w) (slice_set (writes_of w) tid.0 None)) (going_access w k.pid (address_in k.access) (attempt_in k.access)).it.goes));
       stacks = λ other. same_stacks same_threads w o refl h;
     }
 

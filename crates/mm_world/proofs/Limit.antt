@@ -31,9 +31,6 @@ access_charge w pid addr what =
 keeps_made : (w : World) (tid pid : ℕ) (p : ProcessOf Page) (r c : ℕ) → Holds (KeepsLimit w) (made filled w tid pid p r c)
 keeps_made w tid pid p r c = search keeping depth 12
 
-keeps_stack : (w : World) (tid pid reserve commit : ℕ) → Holds (KeepsLimit w) (stack filled w tid pid reserve commit)
-keeps_stack w tid pid reserve commit = search (keeping, kept_same, keeps_made) depth 12
-
 by_guard : (w : World) (pid : ℕ) (p : ProcessOf Page) (c : Committed Page) (page : ℕ) (a : Answer) → process_of w pid ≡ Some p → committed_at w p.regions page ≡ Some c → Holds (KeepsLimit w) (done a (guard_off w pid p c page))
 by_guard w pid p c page a lives committed = record { it = record { kept = λ within. omega (arith, charge-guard_off w pid p c page lives committed) } }
 
@@ -42,16 +39,13 @@ in_grown w tid s p c page lives committed =
     let h = keeps_alloc filled (guard_off w s.pid p c page) s.pid (address_of (s.guard_page - 1)) 1 commit_type 0x104 in
     record { it = record { kept = λ within. h.it.kept (omega (arith, charge-guard_off w s.pid p c page lives committed)) } }
 
-keeps_probe : (w : World) (tid addr : ℕ) → Holds (KeepsLimit w) (probe filled w tid addr)
-keeps_probe w tid addr = at_probe filled w tid addr (kept_same w _) (kept_same w _) (λ s p c has lives committed. search (tables, kept_same, by_guard, in_grown) depth 14)
-
 pub in_step : (w : World) (e : Event) (before after : Report) → Holds (KeepsLimit w) (step w e before after)
 in_step w (line.Alloc pid addr size type prot) before after = keeps_alloc filled w pid.0 addr size type prot
 in_step w (line.Protect pid addr size prot) before after = keeps_protect w pid.0 addr size prot
 in_step w (line.Create pid size flags name) before after = keeps_create filled w pid.0 size flags name
 in_step w (line.Map pid handle access offset len addr) before after = keeps_map w pid.0 handle access offset len addr
-in_step w (line.Stack tid pid reserve commit) before after = keeps_stack w tid.0 pid.0 reserve commit
-in_step w (line.Probe tid addr) before after = keeps_probe w tid.0 addr
+in_step w (line.Stack tid pid reserve commit) before after = search (keeping, kept_same, keeps_made) depth 12
+in_step w (line.Probe tid addr) before after = at_probe filled w tid.0 addr (kept_same w _) (kept_same w _) (λ s p c has lives committed. search (tables, kept_same, by_guard, in_grown) depth 14)
 in_step w e before after = by_edits (edits.line_terms e) w (step w e before after) refl (edits.in_step w e before after).edits
 
 -- the charge is within the limit in each world that lines reach

@@ -153,10 +153,9 @@ in_home t loose w pid p c page offset bytes i lives committed (IsShared v old is
 
 module _ (t : Answer → Terms) where
   in_perform : (w : World) (pid : ℕ) (p : ProcessOf Page) (c : Committed Page) (page offset : ℕ) (what : Attempt) → (is_write what ≡ true → (t answer.Ok).plain ≡ false) → process_of w pid ≡ Some p → committed_at w p.regions page ≡ Some c → Holds (Edited t w) (perform w pid p c page offset what)
-  in_perform w pid p c page offset (ReadOf len) loose lives committed = by_same t w _ refl refl refl
   in_perform w pid p c page offset (WriteOf bytes) loose lives committed =
       success t w _ answer.Ok refl (in_home (t answer.Ok) (loose refl) w pid p c page offset bytes _ lives committed (home_cases w (page - c.region.thing.base) c.region.thing.kind c.row.own c.home (committed_is w p.regions page c committed).home_there))
-  in_perform w pid p c page offset Execute loose lives committed = by_same t w _ refl refl refl
+  in_perform w pid p c page offset _ loose lives committed = by_same t w _ refl refl refl
 
   in_access_at : (w : World) (pid : ℕ) (p : ProcessOf Page) (page offset : ℕ) (what : Attempt) (c : Option (Committed Page)) → (is_write what ≡ true → (t answer.Ok).plain ≡ false) → process_of w pid ≡ Some p → committed_at w p.regions page ≡ c → Holds (Edited t w) (access_at w pid p page offset what c)
   in_access_at w pid p page offset what None loose lives committed = by_same t w _ refl refl refl
@@ -316,7 +315,6 @@ in_resume w tid (Some k) =
     record { edited = then_keeps w o.world _ tid.0 None o.answer refl refl h.it.edits h.it.leaves h.it.granted; untold = h.it.untold }
 
 pub in_unpaged : (w : World) (e : Event) → LineDecided e w (unpaged w e)
-in_unpaged w (line.Machine m) = by_answer w _ _ refl refl refl
 in_unpaged w (line.Process min max) = by_call w _ _ (in_new_process _ w)
 in_unpaged w (line.Exit pid) = by_call w _ _ (in_exit _ w pid.0 refl refl (λ x here. equal x.pid pid.0 here) (λ n m h. h))
 in_unpaged w (line.File name pages byte) = by_call w _ _ (in_new_file _ filled w name pages byte)
@@ -336,19 +334,15 @@ in_unpaged w (line.Write pid addr bytes) = by_call w _ _ (in_access _ w pid.0 ad
 in_unpaged w (line.Exec pid addr) = by_call w _ _ (in_access _ w pid.0 addr Execute (λ e. cc))
 in_unpaged w (line.Begin tid pid what) = by_call w _ _ (in_begin _ w tid.0 pid.0 what refl)
 in_unpaged w (line.Resume tid) = in_resume w tid (kept_by w tid.0)
-in_unpaged w (line.Io i) = by_answer w _ _ refl refl refl
 in_unpaged w (line.Trim pid n) = by_call w _ _ (in_store_line _ w pid.0)
 in_unpaged w (line.Age pid) = by_call w _ _ (in_store_line _ w pid.0)
-in_unpaged w (line.Writer n) = by_answer w _ _ refl refl refl
-in_unpaged w (line.Zeroer n) = by_answer w _ _ refl refl refl
 in_unpaged w (line.Fail device direction k n) = by_call w _ _ (in_take_fail _ w)
-in_unpaged w line.Charge = by_answer w _ _ refl refl refl
-in_unpaged w line.Counts = by_answer w _ _ refl refl refl
 in_unpaged w (line.Grow n) = by_call w _ _ (in_grow _ w n)
 in_unpaged w (line.Watch pid unwrites addr size count) = by_call w _ _ (in_watch _ w pid.0 unwrites addr size count (λ a. refl))
 in_unpaged w (line.ResetWatch pid addr size) = by_call w _ _ (in_reset_watch _ w pid.0 addr size (λ a. refl))
 in_unpaged w (line.Stack tid pid reserve commit) = by_call w _ _ (in_stack filled _ (λ a. refl) (λ a n m. tt) w tid.0 pid.0 reserve commit)
 in_unpaged w (line.Probe tid addr) = by_call w _ _ (in_probe filled _ (λ a. refl) (λ a n m. tt) w tid.0 addr)
+in_unpaged w _ = by_answer w _ _ refl refl refl
 
 in_told : (w : World) (e : Event) (a : Answer) → is_alarm a ≡ false → is_limit_refusal a ≡ false → LineEdited e w (done a (world_told w e a))
 in_told w (line.Begin tid pid what) (answer.Pending why) quiet granted = then_keeps w w _ tid.0 _ _ refl refl Nothing (leaves_same w _ refl) (λ e. refl)

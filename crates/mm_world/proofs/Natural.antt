@@ -6,7 +6,7 @@ use Rattle.std.proofs.Math.ListN.{get_or-map}
 use Rattle.std.proofs.lemmas.List.{map-set, length-map, map-append, take-map, drop-map}
 use Rattle.std.proofs.lemmas.Option.{slice_get-map}
 use Rattle.std.proofs.lemmas.Iterator.Adapters.{option_map_id}
-use Rattle.mm_types.proofs.{some_map}
+pub use Rattle.mm_types.proofs.{some_map as some-map}
 use Rattle.std.proofs.lemmas.List.Sums.{sum_by-cons}
 use Rattle.mm_types.specs.{Code, Answer, Prot, Kind, Range, lies_within, address_of, base_of, reserve_type}
 use Rattle.mm_types.specs.declared.codes.Code.TheVariants as code
@@ -64,9 +64,6 @@ map-replicate g (suc n) x = ap (λ ys. g x ∷ ys) (map-replicate g n x)
 pub sum_by-map : {X Y : Type 0} (h : Y → ℕ) (g : X → Y) (xs : List X) → sum_by h (map g xs) ≡ sum_by (λ x. h (g x)) xs
 sum_by-map h g [] = refl
 sum_by-map h g (x ∷ xs) = sum_by-cons h (g x) (map g xs) ∙ ap (λ (n : ℕ). h (g x) + n) (sum_by-map h g xs) ∙ sym (sum_by-cons (λ x. h (g x)) x xs)
-
-pub some-map : {X Y : Type 0} (g : X → Y) (o : Option X) → is_some (option_map g o) ≡ is_some o
-some-map = some_map
 
 -- two readings of what there is, if there is anything
 pub read-map : {X Y V : Type 0} (g : X → Y) (p : Y → V) (q : X → V) → ((x : X) → p (g x) ≡ q x) → (d : V) (o : Option X) → unwrap_or (option_map p (option_map g o)) d ≡ unwrap_or (option_map q o) d

@@ -145,18 +145,6 @@ module _ {B : Type 0} where
     pub holds : holds_page (range_from s count) s.guard_page ≡ true
     pub private : list_any (is_private_region (range_from s count)) rs ≡ true
 
-  region_pages : (s : StackOf) (r : RegionOf B) (rest : List (RegionOf B)) → is_stack_region s r ≡ true → HasPages s (r ∷ rest)
-  region_pages s r rest e =
-      let private = parts (is_private r.kind) ((r.base == s.base) && holds_page (pages_of r) s.guard_page) e in
-      let at = parts (r.base == s.base) (holds_page (pages_of r) s.guard_page) private.1 in
-      record {
-        count = length r.rows;
-        holds = ap (λ (n : ℕ). holds_page (record { first = n; count = length r.rows }) s.guard_page) (sym (equals r.base s.base at.0)) ∙ at.1;
-        private = or_left (is_private_region (range_from s (length r.rows)) r) (list_any (is_private_region (range_from s (length r.rows))) rest)
-            (both (is_private r.kind) (is_same_range (pages_of r) (range_from s (length r.rows))) private.0
-            (both (r.base == s.base) (length r.rows == length r.rows) at.0 (equal (length r.rows) (length r.rows) refl)));
-      }
-
   later_pages : (s : StackOf) (r : RegionOf B) (rest : List (RegionOf B)) → HasPages s rest → HasPages s (r ∷ rest)
   later_pages s r rest h = record { count = h.count; holds = h.holds; private = or_right (is_private_region (range_from s h.count) r) (list_any (is_private_region (range_from s h.count)) rest) h.private }
 
@@ -165,7 +153,16 @@ module _ {B : Type 0} where
   has_pages s (r ∷ rest) e = by_first (is_stack_region s r) refl (has_pages s rest) e
     where
       by_first : (b : Bool) → is_stack_region s r ≡ b → (list_any (is_stack_region s) rest ≡ true → HasPages s rest) → (b || list_any (is_stack_region s) rest) ≡ true → HasPages s (r ∷ rest)
-      by_first true is later e = region_pages s r rest is
+      by_first true is later e =
+          let private = parts (is_private r.kind) ((r.base == s.base) && holds_page (pages_of r) s.guard_page) is in
+          let at = parts (r.base == s.base) (holds_page (pages_of r) s.guard_page) private.1 in
+          record {
+            count = length r.rows;
+            holds = ap (λ (n : ℕ). holds_page (record { first = n; count = length r.rows }) s.guard_page) (sym (equals r.base s.base at.0)) ∙ at.1;
+            private = or_left (is_private_region (range_from s (length r.rows)) r) (list_any (is_private_region (range_from s (length r.rows))) rest)
+                (both (is_private r.kind) (is_same_range (pages_of r) (range_from s (length r.rows))) private.0
+                (both (r.base == s.base) (length r.rows == length r.rows) at.0 (equal (length r.rows) (length r.rows) refl)));
+          }
       by_first false is later e = later_pages s r rest (later e)
 
   -- the other way round
@@ -338,8 +335,7 @@ module _ (w : World) (tid : ℕ) (s : StackOf) (has : stack_by w tid ≡ Some s)
 
   not_low : (a b c : Bool) → a ≡ true → (a && (b || c)) ≡ false → b ≡ false
   not_low true true c e f = cc
-  not_low true false c e f = refl
-  not_low false b c e f = cc
+  not_low _ _ c e f = cc
 
   stacks_grown : (p : ProcessOf Page) (c : Committed Page) (page : ℕ) → process_of w s.pid ≡ Some p → committed_at w p.regions page ≡ Some c → c.row.guard ≡ true → (c.row.guard && is_overflow w p s) ≡ false → Holds (KeepsStacked w) (grown filled (guard_off w s.pid p c page) tid s)
   stacks_grown p c page lives committed on fine =

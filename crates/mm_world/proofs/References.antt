@@ -6,12 +6,11 @@ use Rattle.std.proofs.lemmas.List.{length-append, length-set}
 use Rattle.mm_types.specs.{Answer, View, Event, MachineOf, IsMachine, Text}
 use Rattle.mm_types.proofs.{or_right, same_number, some_found}
 use Rattle.mm_world.specs.{WorldOf, ProcessOf, RegionOf, AreaOf, SectionOf, FileOf, Numbered, numbered, process_of, set_process, set_area, area_at}
-use Rattle.mm_world.specs.{no_area, section_of, OutcomeOf, done, settle, settled_section, settled_sections, settled_area, settled_areas, holds, views}
-use Rattle.mm_world.specs.{is_handle_to, is_view_of, uses, no_regions, Committed, committed_at, guard_off, Each, ViewFits, RegionRefers}
-use Rattle.mm_world.specs.{ProcessRefers, References, most_processes, NumbersFit, Page, new_file, step, first_world, Spaces, IsSpace, KeepsLimit}
-use Rattle.mm_world.specs.{Reached, First, Next}
+use Rattle.mm_world.specs.{no_area, section_of, OutcomeOf, settle, settled_section, settled_sections, settled_area, settled_areas, holds, views}
+use Rattle.mm_world.specs.{is_handle_to, is_view_of, uses, no_regions, Each, ViewFits, RegionRefers, ProcessRefers, References, most_processes}
+use Rattle.mm_world.specs.{NumbersFit, Page, new_file, step, first_world, Spaces, IsSpace, KeepsLimit, Reached, First, Next}
 use Rattle.mm_world.proofs.Tables.{Holds}
-use Rattle.mm_world.proofs.Edits.{Terms, any_terms, RegionEdit, RegionComes, RegionGoes, RegionChanges, Edit, Rest, Regions, HandleComes, HandleGoes, SectionComes, AreaComes, AreaChanges, FileComes, Settles, ProcessComes, ProcessGoes, Edits, fold, Falls, Edited}
+use Rattle.mm_world.proofs.Edits.{Terms, RegionEdit, RegionComes, RegionGoes, RegionChanges, Edit, Rest, Regions, HandleComes, HandleGoes, SectionComes, AreaComes, AreaChanges, FileComes, Settles, ProcessComes, ProcessGoes, Edits, fold, Falls, Edited}
 use Rattle.mm_world.proofs.Finding.{numbered_inside, numbered_there, push_at}
 use Rattle.mm_world.proofs.RowsFit.{each-weaker, each-append, each-insert, each-remove, each-set, each-at}
 use Rattle.mm_world.proofs.Spaces.{after_set, after_push, spaces_kept}
@@ -36,11 +35,9 @@ any-numbered : {A : Type 0} (test : Option A → Bool) (xs : Numbered A) (i : �
 any-numbered test xs i x there passes = any-at test xs i (Some x) (numbered_there xs i x there) passes
 
 still : (hs : Numbered ℕ) (place i n : ℕ) → numbered (set hs place None) i ≡ Some n → numbered hs i ≡ Some n
-still [] place i n e = e
 still (h ∷ hs) zero zero n e = cc
-still (h ∷ hs) zero (suc i) n e = e
-still (h ∷ hs) (suc place) zero n e = e
 still (h ∷ hs) (suc place) (suc i) n e = still hs place i n e
+still _ _ _ n e = e
 
 module _ {B : Type 0} where
   -- ---- a world in which more is there
@@ -67,9 +64,6 @@ module _ {B : Type 0} where
             let s = some_found (section_of w n) (h.handles place n e) in
             ap is_some (g.sections n s.0 s.1).1;
       }
-
-  pub record KeepsReferences (w : WorldOf B) (o : OutcomeOf B) : Type 0 where
-    pub kept : References w → References o.world
 
   put_refers : (w : WorldOf B) (pid : ℕ) (p : ProcessOf B) (q : Option (ProcessOf B)) → process_of w pid ≡ Some p → ((r : ProcessOf B) → q ≡ Some r → ProcessRefers w p → ProcessRefers w r) → References w → References (set_process w pid q)
   put_refers w pid p q lives keeps h =
@@ -109,11 +103,9 @@ module _ {B : Type 0} where
   -- ---- areas are changed, not shortened
 
   set_length : (areas : List (AreaOf B)) (at area : ℕ) (a : AreaOf B) → length a.pages ≡ length (unwrap_or (slice_get areas at) no_area).pages → length (unwrap_or (slice_get (set areas at a) area) no_area).pages ≡ length (unwrap_or (slice_get areas area) no_area).pages
-  set_length [] at area a e = refl
   set_length (b ∷ areas) zero zero a e = e
-  set_length (b ∷ areas) zero (suc area) a e = refl
-  set_length (b ∷ areas) (suc at) zero a e = refl
   set_length (b ∷ areas) (suc at) (suc area) a e = set_length areas at area a e
+  set_length _ _ _ a e = cc
 
   area_grows : (v : WorldOf B) (at : ℕ) (a : AreaOf B) → length a.pages ≡ length (area_at v at).pages → References v → References (set_area v at a)
   area_grows v at a e h =
@@ -126,34 +118,8 @@ module _ {B : Type 0} where
       }
 
   longer : (areas : List (AreaOf B)) (a : AreaOf B) (area : ℕ) → length (unwrap_or (slice_get areas area) no_area).pages ≤ length (unwrap_or (slice_get (areas ++ a ∷ []) area) no_area).pages
-  longer [] a area = omega arith
-  longer (b ∷ areas) a zero = omega arith
   longer (b ∷ areas) a (suc area) = longer areas a area
-
-  area_pushed : (w : WorldOf B) (a : AreaOf B) → References w → References (record w { areas = w.areas ++ a ∷ [] })
-  area_pushed w a h =
-      let v : WorldOf B = record w { areas = w.areas ++ a ∷ [] } in
-      let more : length w.areas < length v.areas = omega (arith, length-append w.areas (a ∷ [])) in
-      let g : Grows w v = record { sections = λ n s e. (s, e, refl); pages = λ area. longer w.areas a area } in
-      record {
-        processes = λ j q e. process_grows w v q g (h.processes j q e);
-        sections = λ n s e. omega (arith, h.sections n s e, more);
-        files = each-weaker _ _ w.files (λ f low. omega (arith, low, more)) h.files;
-      }
-
-  section_pushed : (w : WorldOf B) (s : SectionOf) → s.area < length w.areas → References w → References (record w { sections = w.sections ++ Some s ∷ [] })
-  section_pushed w s inside h =
-      let v : WorldOf B = record w { sections = w.sections ++ Some s ∷ [] } in
-      let g : Grows w v = record { sections = λ n t e. (t, push_at (λ o p. o ≡ Some t → p ≡ Some t) w.sections n (Some s) (λ e. cc) (λ o e. e) e, refl); pages = λ area. omega arith } in
-      record {
-        processes = λ j q e. process_grows w v q g (h.processes j q e);
-        sections = λ n t e.
-            elim (after_push w.sections (Some s) n t e) [
-              | inl is ↦ (let same : s ≡ t = cc in subst (λ (t : SectionOf). t.area < length w.areas) same inside)
-              | inr there ↦ h.sections n t there
-            ];
-        files = h.files;
-      }
+  longer _ a _ = omega arith
 
   -- ---- the end of sections
 
@@ -193,9 +159,6 @@ module _ {B : Type 0} where
       by_tests false true e = (s, refl, (let same : record s { name = None } ≡ t = cc in ap (λ (s : SectionOf). s.area) (sym same)))
       by_tests false false e = cc
 
-  used_area : (ss : Numbered SectionOf) (a : ℕ) (area : AreaOf B) → list_any (uses a) ss ≡ true → settled_area ss a area ≡ area
-  used_area ss a area e = ap (λ b. cond b area no_area) (or_right (is_some area.file_block) (list_any (uses a) ss) e)
-
   settle_refers : (v : WorldOf B) → References v → References (settle v)
   settle_refers v h =
       record {
@@ -228,7 +191,7 @@ module _ {B : Type 0} where
           let used : list_any (uses x.area.0) new ≡ true = any-numbered (uses x.area.0) new n t.0 stands (ap (λ (m : ℕ). m == x.area.0) (t.2 ∙ fits.same_area) ∙ same_number x.area.0) in
           let area : area_at (settle v) x.area.0 ≡ area_at v x.area.0 =
           at_area new 0 x.area.0 v.areas ∙ ap (λ (m : ℕ). settled_area new m (area_at v x.area.0)) (let same : 0 + x.area.0 ≡ x.area.0 = omega arith in same)
-          ∙ used_area new x.area.0 (area_at v x.area.0) used in
+          ∙ (ap (λ b. cond b (area_at v x.area.0) no_area) (or_right (is_some (area_at v x.area.0).file_block) (list_any (uses x.area.0) new) used)) in
           record {
             section = t.0;
             lives = stands;
@@ -282,8 +245,27 @@ module _ {B : Type 0} (t : Terms) where
   each w _ (HandleComes pid p number lives there) h = put_process w pid p _ lives (handle_refers w p number there) h
   each w _ (HandleGoes pid p i lives) h =
       put_process w pid p (record p { handles = set p.handles i None }) lives (λ k. record { views = k.views; handles = λ j n e. k.handles j n (still p.handles i j n e) }) h
-  each w _ (SectionComes s inside) h = section_pushed w s (inside h) h
-  each w _ (AreaComes a charged) h = area_pushed w a h
+  each w _ (SectionComes s inside) h =
+      let v : WorldOf B = record w { sections = w.sections ++ Some s ∷ [] } in
+      let g : Grows w v = record { sections = λ n t e. (t, push_at (λ o p. o ≡ Some t → p ≡ Some t) w.sections n (Some s) (λ e. cc) (λ o e. e) e, refl); pages = λ area. omega arith } in
+      record {
+        processes = λ j q e. process_grows w v q g (h.processes j q e);
+        sections = λ n t e.
+            elim (after_push w.sections (Some s) n t e) [
+              | inl is ↦ (let same : s ≡ t = cc in subst (λ (t : SectionOf). t.area < length w.areas) same (inside h))
+              | inr there ↦ h.sections n t there
+            ];
+        files = h.files;
+      }
+  each w _ (AreaComes a charged) h =
+      let v : WorldOf B = record w { areas = w.areas ++ a ∷ [] } in
+      let more : length w.areas < length v.areas = omega (arith, length-append w.areas (a ∷ [])) in
+      let g : Grows w v = record { sections = λ n s e. (s, e, refl); pages = λ area. longer w.areas a area } in
+      record {
+        processes = λ j q e. process_grows w v q g (h.processes j q e);
+        sections = λ n s e. omega (arith, h.sections n s e, more);
+        files = each-weaker _ _ w.files (λ f low. omega (arith, low, more)) h.files;
+      }
   each w _ (AreaChanges at a same charged) h = area_grows w at a same h
   each w _ (FileComes f inside) h =
       record {
@@ -298,17 +280,13 @@ module _ {B : Type 0} (t : Terms) where
   pub references_kept : (w v : WorldOf B) → Edits t w v → References w → References v
   references_kept = fold t References each
 
-pub by_guard : {B : Type 0} (w : WorldOf B) (pid : ℕ) (p : ProcessOf B) (c : Committed B) (page : ℕ) (a : Answer) → process_of w pid ≡ Some p → committed_at w p.regions page ≡ Some c → Holds (KeepsReferences w) (done a (guard_off w pid p c page))
-by_guard w pid p c page a lives committed = record { it = record { kept = references_kept (any_terms a) w _ (edits.guard_edits (any_terms a) w pid p c page lives committed) } }
-
 -- ---- the numbers that lines count stay in their ranges
 
 module _ {B : Type 0} where
   -- a process that lives is not process 0
   none_at_zero : (ps : Numbered (ProcessOf B)) (pid : ℕ) (p : ProcessOf B) (q : Option (ProcessOf B)) → numbered ps pid ≡ Some p → slice_get ps 0 ≡ Some None → slice_get (set ps pid q) 0 ≡ Some None
-  none_at_zero [] pid p q lives none = none
   none_at_zero (x ∷ ps) zero p q lives none = let bad : Some x ≡ Some None = none in cc
-  none_at_zero (x ∷ ps) (suc pid) p q lives none = none
+  none_at_zero _ _ p q lives none = none
 
   none_after_push : (ps : Numbered (ProcessOf B)) (q : Option (ProcessOf B)) → slice_get ps 0 ≡ Some None → slice_get (ps ++ q ∷ []) 0 ≡ Some None
   none_after_push [] q none = cc

@@ -1,32 +1,23 @@
 -- Regions stay laid out when one is added, removed, or changed in its rows.
-use Rattle.std.proofs.Common.{◌≡◌, ℕ, zero, suc, ◌+◌, ◌*◌, ◌%◌, ◌≤◌, ◌<◌, Bool, true, false, Option, Some, None, List, [], ◌∷◌, refl, sym, ◌∙◌, ap, subst, cond, arith, length, set, slice_get, ◌&&◌, ◌||◌, not, count_by, option_map, nat_lt, ◌⊎◌, inl, inr, nat_le}
+use Rattle.std.proofs.Common.{◌≡◌, ℕ, zero, suc, ◌+◌, ◌*◌, ◌%◌, ◌≤◌, ◌<◌, Bool, true, false, Option, Some, None, List, [], ◌∷◌, refl, sym, ◌∙◌, ap, subst, cond, arith, length, set, slice_get, ◌&&◌, not, count_by, option_map, nat_lt, ◌⊎◌, inl, inr, nat_le}
 use Rattle.std.specs.Prelude.{insert, remove, ◌==◌, option_and_then}
 use Rattle.std.specs.List.{list_any}
 use Rattle.std.specs.Option.{IfSome}
 use Rattle.std.proofs.lemmas.Option.{IfSome_then}
-use Rattle.std.proofs.lemmas.Bool.{leb-true, leb-false, le-leb, not-true}
+use Rattle.std.proofs.lemmas.Bool.{leb-false, le-leb, not-true}
 use Rattle.std.proofs.lemmas.List.Sums.{sum_by-cons}
 use Rattle.mm_types.specs.{Range, end_of, meets, is_free, are_user_pages, end_of_user_pages, granule_pages, granule_range, lowest_gap, least_from}
 use Rattle.mm_types.specs.{holds_page, first_user_page}
 use Rattle.mm_world.specs.{RegionOf, pages_of, is_private, add_region, ranges_of, placed, change_flags, FlagsFit, RegionFits, LaidOut, WorldOf}
 use Rattle.mm_world.specs.{ProcessOf, process_of, Found, one_later, region_with}
 use Rattle.mm_types.proofs.{both, not_true}
+pub use Rattle.mm_types.proofs.{less, parts as and-true}
+pub use Rattle.std.proofs.lemmas.Bool.{or_parts as or-false}
 use Rattle.mm_world.proofs.Ranges.{within, holds_not, apart, apart_too}
 use Rattle.mm_world.specs.WellFormed.{WellFormed}
 
-pub less : (a b : ℕ) → nat_lt a b ≡ true → a < b
-less a b e = leb-true (suc a) b e
-
 pub not_less : (a b : ℕ) → nat_lt a b ≡ false → b ≤ a
 not_less a b e = let h = leb-false (suc a) b e in omega (arith, h)
-
-pub and-true : (a b : Bool) → (a && b) ≡ true → (a ≡ true) × (b ≡ true)
-and-true true b e = (refl, e)
-and-true false b e = cc
-
-pub or-false : (a b : Bool) → (a || b) ≡ false → (a ≡ false) × (b ≡ false)
-or-false true b e = cc
-or-false false b e = (refl, e)
 
 -- ranges with a page each that do not meet: one lies behind the other
 pub record Apart (a b : Range) : Type 0 where
@@ -41,9 +32,6 @@ apart_by a b true false ex ey e some_a some_b =
 apart_by a b false y ex ey e some_a some_b =
     let low : end_of b ≤ a.first = not_less a.first (end_of b) ex in
     record { before = λ h. low; behind = λ h. absurd (omega (arith, low, h, some_b)) }
-
-pub apart_of : (a b : Range) → meets a b ≡ false → 1 ≤ a.count → 1 ≤ b.count → Apart a b
-apart_of a b e some_a some_b = apart_by a b _ _ refl refl e some_a some_b
 
 module _ {B : Type 0} where
   pub laid_lower : (from from' : ℕ) (rs : List (RegionOf B)) → from' ≤ from → LaidOut from rs → LaidOut from' rs
@@ -78,7 +66,7 @@ module _ {B : Type 0} where
       no_meets = or-false (meets (pages_of new) (pages_of r)) (list_any (meets (pages_of new)) (ranges_of rs)) free
 
       apart : Apart (pages_of new) (pages_of r)
-      apart = apart_of (pages_of new) (pages_of r) no_meets.0 fits.some h.0.some
+      apart = apart_by (pages_of new) (pages_of r) _ _ refl refl no_meets.0 fits.some h.0.some
 
       k : ℕ
       k = count_by (is_below new.base) rs
@@ -187,8 +175,6 @@ placed_is taken addr wanted count range granule e = by_addr (addr == 0) e
 
 module _ {B : Type 0} where
   one_place : (from page i j : ℕ) (rs : List (RegionOf B)) (a b : RegionOf B) → LaidOut from rs → slice_get rs i ≡ Some a → slice_get rs j ≡ Some b → holds_page (pages_of a) page ≡ true → holds_page (pages_of b) page ≡ true → i ≡ j
-  one_place from page i j [] a b h at_i at_j in_a in_b = cc
-  one_place from page zero zero (r ∷ rs) a b h at_i at_j in_a in_b = refl
   one_place from page zero (suc j) (r ∷ rs) a b h at_i at_j in_a in_b =
       let same : r ≡ a = cc in
       let later = (laid_at (end_of (pages_of r)) rs j b h.1 at_j).later in
@@ -201,6 +187,7 @@ module _ {B : Type 0} where
       absurd (omega (arith, (within (pages_of b) page in_b).high, (within (pages_of a) page in_a).low, later, ends))
   one_place from page (suc i) (suc j) (r ∷ rs) a b h at_i at_j in_a in_b =
       ap suc (one_place (end_of (pages_of r)) page i j rs a b h.1 at_i at_j in_a in_b)
+  one_place from page _ _ _ a b h at_i at_j in_a in_b = cc
 
   ends_low : (from i : ℕ) (rs : List (RegionOf B)) (r : RegionOf B) → LaidOut from rs → slice_get rs i ≡ Some r → end_of (pages_of r) ≤ end_of_user_pages
   ends_low from i [] r h e = cc
@@ -224,8 +211,7 @@ module _ {B : Type 0} where
 -- two tests that do not both pass, in either order
 swap : {X : Type 0} (a b : Bool) (p q o : X) → (a ≡ true → b ≡ false) → cond a p (cond b q o) ≡ cond b q (cond a p o)
 swap true true p q o never = let bad : true ≡ false = never refl in cc
-swap true false p q o never = refl
-swap false b p q o never = refl
+swap _ _ p q o never = cc
 
 unless : {X : Type 0} (b : Bool) (p o : Option X) → (b ≡ true → o ≡ None) → o ≡ cond b None (cond b p o)
 unless true p o none = none refl

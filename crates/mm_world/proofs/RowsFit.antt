@@ -1,5 +1,5 @@
 -- What is true of each element of a list, when the list is edited.
-use Rattle.std.proofs.Common.{◌≡◌, ℕ, zero, suc, ◌+◌, ◌≤◌, ◌<◌, Bool, true, false, Some, List, [], ◌∷◌, ◌++◌, refl, ◌∙◌, ap, subst, arith, set, map, take, drop, replicate, slice_get, ◌&&◌, ◌-◌, Option, None, ◌⊎◌, inl, inr, sym, cond, length, is_some, ◌||◌, option_map, unwrap_or}
+use Rattle.std.proofs.Common.{◌≡◌, ℕ, zero, suc, ◌+◌, ◌≤◌, ◌<◌, Bool, true, false, Some, List, [], ◌∷◌, ◌++◌, refl, ◌∙◌, ap, subst, arith, set, map, take, drop, replicate, slice_get, ◌-◌, Option, None, ◌⊎◌, inl, inr, sym, cond, length, is_some, ◌||◌, option_map, unwrap_or}
 use Rattle.std.specs.Prelude.{insert, remove, ◌==◌}
 use Rattle.std.proofs.Math.Decide.{dec_le}
 use Rattle.mm_world.specs.{change_range, every_page_from, Each, RowOf, RegionOf, WorldOf, is_one_of, private_protections, marked_protections}
@@ -9,7 +9,7 @@ use Rattle.mm_world.specs.{held_protections}
 use Rattle.std.specs.Cmp.{unsigned_Decides}
 use Rattle.std.proofs.lemmas.List.{take-append-drop, length-append, length-map}
 use Rattle.mm_types.specs.{Kind, View, ViewAccess, Range, base_of}
-use Rattle.mm_types.proofs.{or_left}
+use Rattle.mm_types.proofs.{or_left, parts}
 use Rattle.mm_types.specs.declared.views.Kind.TheVariants as kind
 use Rattle.mm_types.specs.declared.views.ViewAccess.TheVariants as view
 
@@ -23,9 +23,8 @@ module _ {A : Type 0} where
   each-append P (x ∷ xs) ys h k = (h.0, each-append P xs ys h.1 k)
 
   pub each-take : (P : A → Type 0) (n : ℕ) (xs : List A) → Each P xs → Each P (take n xs)
-  each-take P zero xs h = tt
-  each-take P (suc n) [] h = tt
   each-take P (suc n) (x ∷ xs) h = (h.0, each-take P n xs h.1)
+  each-take P _ _ h = cc
 
   pub each-drop : (P : A → Type 0) (n : ℕ) (xs : List A) → Each P xs → Each P (drop n xs)
   each-drop P zero xs h = h
@@ -62,10 +61,9 @@ module _ {A : Type 0} where
     pub there : slice_get xs i ≡ Some x
 
   pub get-take : (n : ℕ) (xs : List A) (i : ℕ) (x : A) → slice_get (take n xs) i ≡ Some x → GotOfTake n xs i x
-  get-take zero xs i x e = cc
-  get-take (suc n) [] i x e = cc
   get-take (suc n) (y ∷ xs) zero x e = record { within = omega arith; there = e }
   get-take (suc n) (y ∷ xs) (suc i) x e = let h = get-take n xs i x e in record { within = omega (arith, h.within); there = h.there }
+  get-take _ _ i x e = cc
 
   pub each-map : (P : A → Type 0) (f : A → A) (xs : List A) → Each P xs → ((i : ℕ) (x : A) → slice_get xs i ≡ Some x → P x → P (f x)) → Each P (map f xs)
   each-map P f [] h k = tt
@@ -83,15 +81,11 @@ module _ {A : Type 0} where
       k (first + i) x (omega arith) (omega (arith, got.within)) (get-drop first xs i x got.there))))
       (each-drop P count later behind)
 
-both : (a b : Bool) → (a && b) ≡ true → (a ≡ true) × (b ≡ true)
-both true b e = (refl, e)
-both false b e = cc
-
 -- a page among those that all pass the test
 pub every_page-at : (test : ℕ → Bool) (first count page : ℕ) → every_page_from test first count ≡ true → first ≤ page → page < first + count → test page ≡ true
 every_page-at test first zero page e low high = absurd (omega (arith, low, high))
 every_page-at test first (suc count) page e low high =
-    let h = both (test first) (every_page_from test (first + 1) count) e in
+    let h = parts (test first) (every_page_from test (first + 1) count) e in
     elim (dec_le page first) [
       | yes small ↦ ap test (let same : page ≡ first = omega (arith, low, small) in same) ∙ h.0
       | no big ↦ every_page-at test (first + 1) count page h.1 (omega (arith, low, big)) (omega (arith, high))
@@ -165,14 +159,6 @@ module _ {B : Type 0} where
   pub commit_fits : (fresh : B) (prot : ℕ) (row : RowOf B) → is_one_of private_protections (base_of prot) ≡ true → PrivateRowFits (commit fresh prot row)
   commit_fits fresh prot row e = record { unmarked = refl; reserved = λ n. cc; committed = λ n. e }
 
-  private_fits : (prot : ℕ) (row : RowOf B) → is_some row.own ≡ true → is_one_of private_protections (base_of prot) ≡ true → PrivateRowFits row → PrivateRowFits (protected kind.Private prot row)
-  private_fits prot row there e h =
-      record {
-        unmarked = h.unmarked;
-        reserved = λ n. let bad : true ≡ false = sym there ∙ ap is_some n in cc;
-        committed = λ n. e;
-      }
-
   view_fits : (v : View) (prot : ℕ) (row : RowOf B) → is_one_of (protections_of (kind.View v) row) (base_of prot) ≡ true → ViewRowFits v.access row → ViewRowFits v.access (protected (kind.View v) prot row)
   view_fits v prot row e h =
       record {
@@ -186,8 +172,7 @@ module _ {B : Type 0} where
     where
       by_access : (access : ViewAccess) → is_one_of (held_protections {B = B} access None (is_copy access)) (first_protection access) ≡ true
       by_access view.Read = refl
-      by_access view.Write = refl
-      by_access view.Copy = refl
+      by_access _ = cc
 
   -- ---- rows of a range
 
@@ -202,11 +187,13 @@ module _ {B : Type 0} where
   accepted r prot page row there e =
       sym (ap (λ o. unwrap_or (option_map (λ (row : RowOf B). is_one_of (protections_of r.kind row) (base_of prot)) o) false) there) ∙ e
 
-  committed_row : (w : WorldOf B) (r : RegionOf B) (page : ℕ) (row : RowOf B) → row_at r page ≡ Some row → is_committed_at w r page ≡ true → is_committed w r.kind (page - r.base) row ≡ true
-  committed_row w r page row there e = sym (ap (λ o. unwrap_or (option_map (is_committed w r.kind (page - r.base)) o) false) there) ∙ e
-
   protected_fits : (w : WorldOf B) (k : Kind) (i prot : ℕ) (row : RowOf B) → is_one_of (protections_of k row) (base_of prot) ≡ true → is_committed w k i row ≡ true → RowFits k row → RowFits k (protected k prot row)
-  protected_fits w kind.Private i prot row e there h = private_fits prot row there e h
+  protected_fits w kind.Private i prot row e there h =
+      record {
+        unmarked = h.unmarked;
+        reserved = λ n. let bad : true ≡ false = sym there ∙ ap is_some n in cc;
+        committed = λ n. e;
+      }
   protected_fits w (kind.View v) i prot row e there h = view_fits v prot row e h
 
   pub rows_protected : (w : WorldOf B) (r : RegionOf B) (prot : ℕ) (range : Range) → RowsFit r → r.base ≤ range.first → every_page (is_committed_at w r) range ≡ true → every_page (accepts r prot) range ≡ true → RowsFit (change_rows (protected r.kind prot) range r)
@@ -214,7 +201,7 @@ module _ {B : Type 0} where
       rows_change (protected r.kind prot) range r h low (λ page row at_least below at_page fits.
       protected_fits w r.kind (page - r.base) prot row
       (accepted r prot page row at_page (every_page-at (accepts r prot) range.first range.count page takes at_least below))
-      (committed_row w r page row at_page (every_page-at (is_committed_at w r) range.first range.count page there at_least below))
+      ((sym (ap (λ o. unwrap_or (option_map (is_committed w r.kind (page - r.base)) o) false) at_page) ∙ (every_page-at (is_committed_at w r) range.first range.count page there at_least below)))
       fits)
 
   view_protected : (k : Kind) (v : View) (prot : ℕ) (row : RowOf B) → k ≡ kind.View v → is_one_of (protections_of k row) (base_of prot) ≡ true → RowFits k row → RowFits k (protected k prot row)

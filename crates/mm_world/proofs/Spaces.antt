@@ -1,19 +1,18 @@
 -- Each process's regions stay laid out, and their rows fit.
 use Rattle.std.proofs.Common.{◌≡◌, ℕ, zero, suc, ◌-◌, ◌%◌, ◌≤◌, ◌<◌, Bool, true, false, Option, Some, None, List, [], ◌∷◌, ◌++◌, ◌⊎◌, inl, inr, refl, sym, ◌∙◌, ap, subst, cond, arith, length, set, get_or, slice_get, ◌&&◌, not, nat_lt, nat_le}
-use Rattle.std.specs.Prelude.{remove, ◌==◌}
+use Rattle.std.specs.Prelude.{◌==◌}
 use Rattle.std.specs.List.{list_any}
 use Rattle.std.specs.Cmp.{unsigned_Decides}
 use Rattle.std.proofs.lemmas.Bool.{leb-true}
 use Rattle.std.proofs.lemmas.List.{get_or-set_same, get_or-set_other, length-replicate}
 use Rattle.mm_types.proofs.{same_or_not}
-use Rattle.mm_types.specs.{Answer, Kind, Range, end_of, granule_range_of, pages_for, page_of, lies_within, meets, first_user_page, end_of_user_pages}
+use Rattle.mm_types.specs.{Answer, Range, end_of, granule_range_of, pages_for, page_of, lies_within, meets, first_user_page, end_of_user_pages}
 use Rattle.mm_types.specs.{granule_pages, granule_size, is_granule_address, base_of, reserve_type}
 use Rattle.mm_types.specs.declared.answers.Answer.TheVariants as answer
 use Rattle.mm_types.specs.declared.views.Kind.TheVariants as kind
-use Rattle.mm_world.specs.{unwritten, WorldOf, ProcessOf, RegionOf, Numbered, numbered, pages_of, change_range, process_of, set_process, set_regions}
-use Rattle.mm_world.specs.{add_region, ranges_of, is_private, OutcomeOf, done, is_one_of, is_protection_among, private_protections, reserved_row}
-use Rattle.mm_world.specs.{commit, private_region, new_row, are_alloc_parameters, alloc_types, free, no_regions, FlagsFit, RowFits, RowsFit, IsSpace}
-use Rattle.mm_world.specs.{Spaces}
+use Rattle.mm_world.specs.{unwritten, WorldOf, ProcessOf, RegionOf, Numbered, numbered, pages_of, change_range, process_of, set_process, add_region}
+use Rattle.mm_world.specs.{ranges_of, OutcomeOf, done, is_one_of, is_protection_among, private_protections, reserved_row, commit, private_region}
+use Rattle.mm_world.specs.{new_row, are_alloc_parameters, alloc_types, free, no_regions, FlagsFit, RowFits, RowsFit, IsSpace, Spaces}
 use Rattle.mm_world.proofs.Tables.{Holds, met}
 use Rattle.mm_world.proofs.Edits.{Terms, RegionEdit, RegionComes, RegionGoes, RegionChanges, Edit, Rest, Regions, HandleComes, HandleGoes, ProcessComes, ProcessGoes, Edits, fold}
 use Rattle.mm_world.proofs.Finding.{numbered_inside}
@@ -33,10 +32,6 @@ after_push [] x zero y e = inl e
 after_push [] x (suc j) y e = cc
 after_push (z ∷ xs) x zero y e = inr e
 after_push (z ∷ xs) x (suc j) y e = after_push xs x j y e
-
-pub private_is : (k : Kind) → is_private k ≡ true → k ≡ kind.Private
-private_is kind.Private e = refl
-private_is (kind.View v) e = cc
 
 not_zero : (n : ℕ) → not (n == 0) ≡ true → 1 ≤ n
 not_zero zero e = cc
@@ -88,9 +83,6 @@ module _ {B : Type 0} where
             ];
       })
 
-  pub by_regions : (w : WorldOf B) (pid : ℕ) (p : ProcessOf B) (rs : List (RegionOf B)) (a : Answer) → process_of w pid ≡ Some p → (IsSpace p.regions → IsSpace rs) → Holds (KeepsSpaces w) (done a (set_regions w pid p rs))
-  by_regions w pid p rs a lives keeps = by_process w pid p (record p { regions = rs }) a lives keeps
-
   -- ---- regions that come, change and go
 
   pub space_add : (new : RegionOf B) (rs : List (RegionOf B)) (range : Range) → IsPlaced (ranges_of rs) range → new.base ≡ range.first → length new.rows ≡ range.count → 1 ≤ range.count → FlagsFit new → RowsFit new → IsSpace rs → IsSpace (add_region new rs)
@@ -129,19 +121,16 @@ module _ {B : Type 0} where
   pub begins_before : (range : Range) (r : RegionOf B) → lies_within range (pages_of r) ≡ true → r.base ≤ range.first
   begins_before range r e = leb-true _ _ (and-true (nat_le r.base range.first) (nat_le (end_of range) (end_of (pages_of r))) e).0
 
-  space_remove : (rs : List (RegionOf B)) (i : ℕ) → IsSpace rs → IsSpace (remove rs i)
-  space_remove rs i h = record { laid_out = laid_remove first_user_page rs i h.laid_out; rows = each-remove RowsFit rs i h.rows }
-
 module _ {B : Type 0} (t : Terms) where
   after_region : (w : WorldOf B) (pid : ℕ) (rs new : List (RegionOf B)) → RegionEdit t w pid rs new → IsSpace rs → IsSpace new
   after_region w pid rs _ (RegionComes new h) k = space_add new rs (pages_of new) h.placed refl refl h.some h.flags h.rows k
-  after_region w pid rs _ (RegionGoes i r there gone charged) k = space_remove rs i k
+  after_region w pid rs _ (RegionGoes i r there gone charged) k = record { laid_out = laid_remove first_user_page rs i k.laid_out; rows = each-remove RowsFit rs i k.rows }
   after_region w pid rs _ (RegionChanges i r new there like) k = space_set rs i r new there like.base like.count like.flags like.rows k
 
   each : (w v : WorldOf B) → Edit t w v → Spaces w → Spaces v
   each w _ (Rest v b) h =
       subst (λ (ps : Numbered (ProcessOf B)). (pid : ℕ) (p : ProcessOf B) → numbered ps pid ≡ Some p → IsSpace p.regions) (sym b.processes) h
-  each w _ (Regions pid p rs lives e) h = (by_regions w pid p rs answer.Ok lives (after_region w pid p.regions rs e)).it.kept h
+  each w _ (Regions pid p rs lives e) h = ((by_process w pid p (record p { regions = rs }) answer.Ok lives (after_region w pid p.regions rs e))).it.kept h
   each w _ (HandleComes pid p number lives there) h = (by_process w pid p _ answer.Ok lives (λ k. k)).it.kept h
   each w _ (HandleGoes pid p i lives) h = (by_process w pid p _ answer.Ok lives (λ k. k)).it.kept h
   each w _ (ProcessComes room) h = λ j r e.

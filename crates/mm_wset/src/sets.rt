@@ -188,9 +188,7 @@ impl WorkingSet {
         if used_in == self.rounds {
             return;
         }
-        let Some(page) = self.places.get(place).copied() else {
-            unreachable!()
-        };
+        let page = self.places[place];
         self.pages.renew(page, age_since(self.rounds, used_in));
         self.used_in[place] = use_in(self.rounds);
     }

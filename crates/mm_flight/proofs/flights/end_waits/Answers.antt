@@ -1,7 +1,7 @@
 use Rattle.std.proofs.Common.{◌≡◌, ◌<◌, ap, sym, ◌∙◌, length, arith}
 use Rattle.std.specs.Prelude.{slice_set}
 use Rattle.std.proofs.lemmas.List.Edits.{map_over_more}
-use Rattle.mm_flight.specs.{ended, is_for}
+use Rattle.mm_flight.specs.{ended}
 use Rattle.mm_flight.proofs.{all_ended, covered, none_asked, none_left}
 use Rattle.mm_flight.proofs.flights.end_waits.Goals as goal
 use Rattle.mm_flight.proofs.flights.end_waits.Goals.{then-is_for, else-is_for}

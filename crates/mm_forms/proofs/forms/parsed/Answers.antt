@@ -1,4 +1,4 @@
-use Rattle.std.proofs.Common.{◌∙◌, map, string_bytes}
+use Rattle.std.proofs.Common.{map, string_bytes}
 use Rattle.mm_forms.specs.{words_app}
 use Rattle.mm_forms.proofs.{accepted, refused, simple_some}
 use Rattle.mm_forms.proofs.forms.parsed.Goals as goal
@@ -8,7 +8,7 @@ returns-in-Ok c =
     accepted (words_app c.args.forms.now) (map string_bytes c.args.words.now) c.in_ok-command.command c.in-Ok.matches c.in_ok-command.ensures
     (simple_some c.args.forms.now c.requires.some) c.in-Ok.ensures.kinds c.in-Ok.ensures.matches
 
-pub returns : goal.returns
-returns c free =
+pub returns-else-is_for_memory : goal.returns-else-is_for_memory
+returns-else-is_for_memory c free =
     refused (words_app c.args.forms.now) (map string_bytes c.args.words.now) c.in-Err.error c.in_ok-command.command c.in_ok-command.ensures
-    (simple_some c.args.forms.now c.requires.some) c.in-Err.ensures.kinds (λ p. c.in_default.not-OutOfMemory (c.kind.ensures ∙ p)) free
+    (simple_some c.args.forms.now c.requires.some) c.in-Err.ensures.kinds (rw c.if-is_for_memory.false at c.is_for_memory.ensures) free

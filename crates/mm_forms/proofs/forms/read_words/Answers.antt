@@ -1,4 +1,4 @@
-use Rattle.std.proofs.Common.{rules, ◌∙◌, sym, subst, true, false, length, map, string_bytes, eqb-true}
+use Rattle.std.proofs.Common.{rules, ◌∙◌, sym, subst, length, map, string_bytes, eqb-true}
 use Rattle.std.proofs.lemmas.Result.{IfOk-weaker}
 use Rattle.clap.specs.Words.{subcommand_rows_of}
 use Rattle.mm_forms.proofs.{dashed_none, none_empty, reads_some, said_from, says_none_some, Read}

@@ -8,7 +8,7 @@ loop-drawn-preserved c = record {
   len = omega (arith, c.push.ensures.len, c.loop-drawn.invariant.len);
   capacity = omega (arith, c.push.ensures.capacity, c.loop-drawn.invariant.capacity);
   events =
-      one_more c.loop-drawn.events.items c.push.new.events.items _ c.event.result c.args.count c.loop-drawn._drawn c.loop-drawn.words c.event.new.words c.loop-drawn-test.true c.push.ensures.items c.event.ensures.drawn c.event.ensures.after c.loop-drawn.invariant.events;
+      one_more c.loop-drawn.events.items c.push.new.events.items _ c.event.result c.args.count c.loop-drawn._drawn c.loop-drawn.words c.event.new.words c.loop-drawn-test.true c.push.ensures.items c.event.ensures c.loop-drawn.invariant.events;
 }
 
 pub returns : goal.returns

@@ -3,7 +3,7 @@ use Rattle.mm_types.specs.declared.events.Event.TheVariants as line
 use Rattle.mm_state.specs.{shown_state}
 use Rattle.mm_run.specs.declared.endings.Ending.TheVariants as ending
 use Rattle.mm_run.specs.{AccountsMoves, BatchRan, NotBegun, Starts, left_seen, outset}
-use Rattle.mm_run.proofs.{opened_over, starts_at, three_names, stopped_here, log_left_at}
+use Rattle.mm_run.proofs.{lent, starts_over, three_names, stopped_here, log_left_at}
 use Rattle.mm_run.proofs.bulk.run_events.Goals as goal
 use Rattle.mm_run.proofs.bulk.run_events.Goals.{In-Ok, After-moves-2-1}
 use Rattle.mm_run.proofs.bulk.run_events.Given as given
@@ -11,10 +11,7 @@ use Rattle.mm_run.proofs.bulk.run_events.Given as given
 -- the state over the devices is one with which a run starts
 starts : (g : given.Over) (c : In-Ok g) (p f : ℕ) → p ≤ g.P.Blocks.faults c.args.paging.now → f ≤ g.F.Blocks.faults c.args.files.now
     → Starts c.args.machine (outset p f (g.M.Sink.taken c.args.moves.now) (g.M.Sink.given c.args.moves.now) (g.M.Sink.faults c.args.moves.now)) (shown_state c.in-Ok.state)
-starts g c p f later later' =
-    let o = outset p f (g.M.Sink.taken c.args.moves.now) (g.M.Sink.given c.args.moves.now) (g.M.Sink.faults c.args.moves.now) in
-    let log : _ ≡ o.log = λ i. record { bytes = g.M.Sink.taken (c.new-3.ensures.sink i); given = g.M.Sink.given (c.new-3.ensures.sink i); failed = c.new-3.ensures.fresh i; faults = g.M.Sink.faults (c.new-3.ensures.sink i) } in
-    starts_at c.args.machine o _ _ _ _ _ _ log refl (opened_over g.P.Blocks g.F.Blocks c.args.machine o _ _ _ _ _ _ c.requires.opened c.new.ensures.device c.new-2.ensures.device c.new.ensures.named c.new-2.ensures.named later later') c.in-Ok.ensures.starts
+starts g c = starts_over g.P.Blocks g.F.Blocks g.M.Sink c.args.machine _ c.requires.opened c.new.ensures.device c.new-2.ensures.device c.new-3.ensures.sink c.new.ensures.named c.new-2.ensures.named c.new-3.ensures.fresh c.in-Ok.ensures.starts
 
 -- the point at which it is made, from the end
 abbrev at_made : (g : given.Over) (c : After-moves-2-1 g) → In-Ok g
@@ -26,23 +23,17 @@ left : (g : given.Over) (c : After-moves-2-1 g)
 left g c =
     let last = c.decide_over-decided.result.1 in
     let names = three_names last.paging.device.ghost_name last.files.device.ghost_name last.moves.sink.ghost_name c.new.result.device.ghost_name c.new-2.result.device.ghost_name c.new-3.result.sink.ghost_name (c.decide_over-decided.ensures.loans ∙ c.in-Ok.ensures.loans) in
-    let paging : c.finish-paging.result.0 ≡ last.paging = ap (λ x. x.0) c.finish-paging.ensures in
-    let files : c.finish-paging.result.1 ≡ last.files = ap (λ x. x.1) c.finish-paging.ensures in
-    let moves : c.finish-paging.result.2 ≡ last.moves = ap (λ x. x.2) c.finish-paging.ensures in
-    let end_p = c.paging-2-1.given.1 (sym c.new.ensures.same_reference ∙ sym names.0 ∙ sym (ap (λ x. x.device.ghost_name) paging) ∙ sym c.finish-2.ensures.same_reference) in
-    let end_f = c.files-2-1.given.1 (sym c.new-2.ensures.same_reference ∙ sym names.1 ∙ sym (ap (λ x. x.device.ghost_name) files) ∙ sym c.finish-3.ensures.same_reference) in
-    let end_m = c.moves-2-1.given.1 (sym c.new-3.ensures.same_reference ∙ sym names.2 ∙ sym (ap (λ x. x.sink.ghost_name) moves) ∙ sym c.finish-4.ensures.same_reference) in (
-      sym (end_p ∙ c.finish-2.ensures.device ∙ ap (λ x. x.device.now) paging),
-      sym (end_f ∙ c.finish-3.ensures.device ∙ ap (λ x. x.device.now) files),
-      sym (end_m ∙ c.finish-4.ensures.sink ∙ ap (λ x. x.sink.now) moves),
+    let was = c.finish-paging.ensures in (
+      lent c.paging-2-1.given.1 c.new.ensures.same_reference names.0 (c.finish-2.ensures.same_reference ∙ ap (λ x. x.0.device.ghost_name) was) (c.finish-2.ensures.device ∙ ap (λ x. x.0.device.now) was),
+      lent c.files-2-1.given.1 c.new-2.ensures.same_reference names.1 (c.finish-3.ensures.same_reference ∙ ap (λ x. x.1.device.ghost_name) was) (c.finish-3.ensures.device ∙ ap (λ x. x.1.device.now) was),
+      lent c.moves-2-1.given.1 c.new-3.ensures.same_reference names.2 (c.finish-4.ensures.same_reference ∙ ap (λ x. x.2.sink.ghost_name) was) (c.finish-4.ensures.sink ∙ ap (λ x. x.2.sink.now) was),
     )
 
 pub returns-in-Err-clause-came : goal.returns-in-Err-clause-came
 returns-in-Err-clause-came g c = λ p f later later'.
     let o = outset p f (g.M.Sink.taken c.args.moves.now) (g.M.Sink.given c.args.moves.now) (g.M.Sink.faults c.args.moves.now) in
     let err = c.in-Err.ensures.err in
-    let end = c.moves-1.given.1 (sym c.new-3.ensures.same_reference ∙ sym (ap (λ x. x.2.sink.ghost_name) err) ∙ sym c.finish-in-Err-2.ensures.same_reference) in
-    let sink = end ∙ c.finish-in-Err-2.ensures.sink ∙ ap (λ x. x.2.sink.now) err ∙ c.new-3.ensures.sink in
+    let sink = sym (lent c.moves-1.given.1 c.new-3.ensures.same_reference refl (c.finish-in-Err-2.ensures.same_reference ∙ ap (λ x. x.2.sink.ghost_name) err) (c.finish-in-Err-2.ensures.sink ∙ ap (λ x. x.2.sink.now) err ∙ c.new-3.ensures.sink)) in
     record {
       end = NotBegun o;
       finished = stopped_here (NotBegun o) (line.Machine c.args.machine ∷ c.args.events.now) ending.NoMemory (inl refl) (omega arith);
@@ -52,8 +43,7 @@ returns-in-Err-clause-came g c = λ p f later later'.
 pub returns-in-Err-clause-faults : goal.returns-in-Err-clause-faults
 returns-in-Err-clause-faults g c = λ s k.
     let err = c.in-Err.ensures.err in
-    let end = c.moves-1.given.1 (sym c.new-3.ensures.same_reference ∙ sym (ap (λ x. x.2.sink.ghost_name) err) ∙ sym c.finish-in-Err-2.ensures.same_reference) in
-    let sink = end ∙ c.finish-in-Err-2.ensures.sink ∙ ap (λ x. x.2.sink.now) err ∙ c.new-3.ensures.sink in
+    let sink = sym (lent c.moves-1.given.1 c.new-3.ensures.same_reference refl (c.finish-in-Err-2.ensures.same_reference ∙ ap (λ x. x.2.sink.ghost_name) err) (c.finish-in-Err-2.ensures.sink ∙ ap (λ x. x.2.sink.now) err ∙ c.new-3.ensures.sink)) in
     (let same = ap g.M.Sink.faults sink in omega (arith, same), refl)
 
 -- a run starts with the state over them

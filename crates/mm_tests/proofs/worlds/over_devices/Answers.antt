@@ -1,12 +1,9 @@
 use Rattle.std.proofs.Common.{ap, ◌∙◌}
 use Rattle.mm_blocks.specs.{MemBlocks}
-use Rattle.mm_moving.specs.{StateOf}
-use Rattle.mm_tests.proofs.{is_new}
 use Rattle.mm_tests.proofs.worlds.over_devices.Goals as goal
 
-pub over-store-requires-clause-unused : goal.over-store-requires-clause-unused
-over-store-requires-clause-unused c = λ b. ap (λ (z : StateOf). z.life.added b) c.in-Ok.ensures.starts.shows
+pub over_new-requires-clause-slots : goal.over_new-requires-clause-slots
+over_new-requires-clause-slots c = ap (λ (d : MemBlocks). d.blocks) c.new-paging.ensures.device ∙ c.requires.slots
 
-pub first-world-requires : goal.first-world-requires
-first-world-requires c =
-    is_new _ _ _ _ _ _ _ c.new-machine.ensures (ap (λ (d : MemBlocks). d.blocks) c.new-files.ensures.device ∙ c.requires.blocks) c.new-paging.ensures.named c.new-files.ensures.named c.in-Ok.ensures.starts _ _ c.over-store.ensures.contents c.over-store.ensures.store
+pub over_new-requires-clause-blocks : goal.over_new-requires-clause-blocks
+over_new-requires-clause-blocks c = ap (λ (d : MemBlocks). d.blocks) c.new-files.ensures.device ∙ c.requires.blocks

@@ -1,7 +1,7 @@
 use Rattle.std.proofs.Common.{arith, ◌≡◌, ◌<◌, ℕ, List, [], ◌∷◌, ◌++◌, length, map, false, sym, ap, ◌∙◌, subst}
-use Rattle.std.proofs.lemmas.List.{length-map}
+use Rattle.std.proofs.lemmas.List.{length-map, map_push}
 use Rattle.mm_flight.specs.{FlightOf, IsKept, is_in, frame_number}
-use Rattle.mm_flight.proofs.{numbers_more, kept_begun}
+use Rattle.mm_flight.proofs.{kept_begun}
 use Rattle.mm_flight.proofs.flights.Flight.begin.Goals as goal
 
 pub invariant_of-self : goal.invariant_of-self
@@ -12,7 +12,7 @@ invariant_of-self c =
     let new : is_in f frames ≡ false = ap (λ (v : FlightOf). is_in f v.frames) c.self.view_is ∙ c.requires.new in
     let fewer : length frames < c.self.inside.depth = subst (λ (v : FlightOf). length v.frames < v.depth) (sym c.self.view_is) c.requires.fewer in
     let more : map frame_number c.push.new.self.items ≡ frames ++ f ∷ [] =
-    ap (map frame_number) c.in-Ok.ensures.items ∙ numbers_more c.self.inside.frames.items c.args.f in
+    ap (map frame_number) c.in-Ok.ensures.items ∙ map_push frame_number c.self.inside.frames.items c.args.f in
     record {
       room = record {
         fits = c.self.invariant.room.fits;

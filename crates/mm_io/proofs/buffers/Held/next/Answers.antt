@@ -3,9 +3,6 @@ use Rattle.mm_io.specs.{FitsLine, HasLine}
 use Rattle.mm_io.proofs.{recent_line, filled_still, filled_then, recent_after}
 use Rattle.mm_io.proofs.buffers.Held.next.Goals as goal
 
-pub returns-in-Line-clause-filled : goal.returns-in-Line-clause-filled
-returns-in-Line-clause-filled g c = c.loop-n.invariant.filled
-
 pub returns-in-Line-clause-finds : goal.returns-in-Line-clause-finds
 returns-in-Line-clause-finds g c =
     let line : HasLine c.loop-n.self c.in-Line.n = c.in-Line.ensures in
@@ -15,9 +12,6 @@ pub returns-in-Line-clause-cause : goal.returns-in-Line-clause-cause
 returns-in-Line-clause-cause g c =
     let i = c.loop-n.invariant in
     record { later = omega (arith, i.faults); failed = tt; same = i.faults }
-
-pub returns-in-Long-clause-filled : goal.returns-in-Long-clause-filled
-returns-in-Long-clause-filled g c = c.loop-n.invariant.filled
 
 pub returns-in-Long-clause-finds : goal.returns-in-Long-clause-finds
 returns-in-Long-clause-finds g c =

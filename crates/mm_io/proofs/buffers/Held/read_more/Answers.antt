@@ -40,15 +40,6 @@ returns-in-Ok-clause-read g c =
     ∙ ap (λ xs. xs ++ take count c.read.new.buf) (c.move_front.ensures ∙ c.self.view_is))
     c.in-Ok.ensures.bytes (omega arith) (omega arith)
 
-pub returns-in-Ok-clause-cause : goal.returns-in-Ok-clause-cause
-returns-in-Ok-clause-cause g c = c.in-Ok.ensures.cause
-
-pub returns-in-Ok-clause-idle : goal.returns-in-Ok-clause-idle
-returns-in-Ok-clause-idle g c = c.in-Ok.ensures.idle
-
-pub returns-in-Ok-clause-last : goal.returns-in-Ok-clause-last
-returns-in-Ok-clause-last g c = c.in-Ok.ensures.last
-
 still : goal.returns-in-Err-clause-read
 still g c =
     let h = c.self.inside in
@@ -65,12 +56,3 @@ returns-in-Err-clause-filled g c = record {
 
 pub returns-in-Err-clause-read : goal.returns-in-Err-clause-read
 returns-in-Err-clause-read g c = still g c
-
-pub returns-in-Err-clause-cause : goal.returns-in-Err-clause-cause
-returns-in-Err-clause-cause g c = c.in-Err.ensures.cause
-
-pub returns-in-Err-clause-idle : goal.returns-in-Err-clause-idle
-returns-in-Err-clause-idle g c = c.in-Err.ensures.idle
-
-pub returns-in-Err-clause-last : goal.returns-in-Err-clause-last
-returns-in-Err-clause-last g c = c.in-Err.ensures.last

@@ -3,7 +3,7 @@ use Rattle.mm_world.specs.{Tables, add_region, charge, process_of}
 use Rattle.mm_types.specs.{limit_of}
 use Rattle.mm_tables.specs.{shown_processes, AreKeptTables, IsNewPlace, region_of_view, with_space}
 use Rattle.mm_tables.proofs.{Held, held_by, kept_same, changed_in, out_of_memory, as_kept, AddsView, unbound, few_views, view_done, view_kept}
-use Rattle.mm_tables.proofs.{view_settled, lives_there}
+use Rattle.mm_tables.proofs.{view_settled, lives_there, has_entry}
 use Rattle.mm_tables.proofs.Keeping.{same_tables}
 use Rattle.mm_types.proofs.{some_found}
 use Rattle.mm_tables.proofs.tables.Tables.add_view.Given as given
@@ -50,6 +50,10 @@ returns-in_err-make_view-clause-settles g c =
     out_of_memory g.G.Pages c.from_residual.result c.requires.ready.fits
     (same_tables (held g (goal.at.returns-in_err-make_view-clause-settles g c).After-space_of-space) c.make_view.new.space c.in_err-make_view.ensures.kept)
     (record { contents = c.make_view.ensures.idles.contents; store = c.in_err-make_view.ensures.err.store; later = c.in_err-make_view.ensures.err.later })
+
+pub add_view-requires-clause-lives : goal.add_view-requires-clause-lives
+add_view-requires-clause-lives g c =
+    ap is_some (has_entry c.self.inside.directory.entries c.args.self.now.sections c.args.view.section.0 c.requires.section.section (ap (λ (t : Tables). t.sections) c.self.view_is) c.requires.section.lives).1
 
 pub add_view-requires-clause-few : goal.add_view-requires-clause-few
 add_view-requires-clause-few g c =

@@ -1,6 +1,5 @@
-use Rattle.std.proofs.Common.{◌≡◌, ◌<◌, ℕ, [], List, Option, Some, None, get_or, set, replicate, refl, sym, ap, ◌∙◌, subst, arith, length-set}
+use Rattle.std.proofs.Common.{◌≡◌, ◌<◌, ℕ, [], List, Option, Some, None, get_or, set, replicate, refl, sym, ap, ◌∙◌, subst, arith, length-set, rules}
 use Rattle.std.specs.Prelude.{min, vec_capacity, IfSome}
-use Rattle.std.proofs.Common.{rules}
 use Rattle.std.proofs.lemmas.List.{get_or_read, set-get_or}
 use Rattle.mm_vad.specs.{Row, chunks_of, AreWritten, place_after, places_after, filled_rows, place_of_chunk}
 use Rattle.mm_vad.specs.declared.chunks.Chunk.TheVariants as chunk

@@ -1,7 +1,7 @@
 use Rattle.std.proofs.Common.{◌<◌, ◌≤◌, ◌-◌, ◌*◌, ◌/◌, ℕ, List, length, sym, ap, ◌∙◌, arith, take, drop}
 use Rattle.std.proofs.lemmas.Nat.{div-add-mod', mod_below}
 use Rattle.mm_vad.specs.{Row}
-use Rattle.mm_vad.proofs.OneRow.{rows_written}
+use Rattle.mm_vad.proofs.Joined.{rows_written}
 use Rattle.mm_vad.proofs.{length-joined, equal_within, equal_behind}
 use Rattle.mm_vad.proofs.written.WrittenRows.equal_from.Goals as goal
 

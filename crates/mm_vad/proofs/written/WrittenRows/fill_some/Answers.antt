@@ -4,7 +4,7 @@ use Rattle.std.proofs.lemmas.List.{take_all, take-append-le}
 use Rattle.mm_vad.specs.{Row, rows_joined, filled_rows}
 use Rattle.mm_vad.proofs.{rows_seen, room_seen, room_written, length-joined, kept_within, kept_behind, length-filled, filled_within_chunk}
 use Rattle.mm_vad.proofs.{filled_behind_chunks}
-use Rattle.mm_vad.proofs.OneRow.{rows_written}
+use Rattle.mm_vad.proofs.Joined.{rows_written}
 use Rattle.mm_vad.proofs.written.WrittenRows.fill_some.Goals as goal
 
 -- what a slice of all rows gives back

@@ -1,6 +1,6 @@
 use Rattle.std.proofs.Common.{ℕ, ◌-◌, ◌*◌, get_or, ◌∙◌, arith, length, ap}
 use Rattle.std.proofs.lemmas.Nat.{div-add-mod'}
-use Rattle.mm_vad.proofs.OneRow.{rows_written}
+use Rattle.mm_vad.proofs.Joined.{rows_written}
 use Rattle.mm_vad.proofs.{length-joined, read_within, read_behind}
 use Rattle.mm_vad.proofs.written.WrittenRows.get.Goals as goal
 
