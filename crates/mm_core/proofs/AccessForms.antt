@@ -6,7 +6,7 @@ use Rattle.mm_types.specs.{LineKind, Move, Stored, Place, Frame, Answer, PageFau
 use Rattle.mm_life.specs.{FrameLife, record_at, is_write as is_write_request, IsLegal, is_thread, is_access, is_io, is_call, after_move}
 use Rattle.mm_life.specs.{after_unmap_at, after_write_to, Replays, Waiting, Idle, ended_by, waits_after, Walk, walked, walked_all, Through}
 use Rattle.mm_life.specs.{waits_through, ages_through, tried_after, is_read_move, is_wrote_move, takes_frame}
-use Rattle.mm_pages.specs.{changed, Aim, AccessMove, ReadyMoves, ByCopy, FromFull, InShortage, walk_from, StoreOf, same_place, place_at, PassesIn}
+use Rattle.mm_pages.specs.{changed, Aim, AccessMove, ReadyMoves, key_written, ByCopy, FromFull, InShortage, walk_from, StoreOf, same_place, place_at, PassesIn}
 use Rattle.mm_pages.specs.{AccessEnds, Had, Failed, Touches, Copies, PageGoes}
 use Rattle.mm_pages.specs.Behind.{Behind}
 use Rattle.mm_world.specs.{WorldOf, Attempt, Need, same_key, need_at}
@@ -111,8 +111,8 @@ thread-after : (a : Aim) (w : Walk) (m : Move) (rest : List Move) → is_thread 
 thread-after a w m rest th h = ap is_thread (kind-after a w m rest h) ∙ th
 
 goes-start : (a : Aim) (l : FrameLife) (w : Walk) (p : Place) (ms : List Move) → PageGoes a w p ms → PageGoes (record a { start = l }) w p ms
-goes-start a l w p ms (ByCopy x c) = ByCopy x c
-goes-start a l w p ms (FromFull x full old next) = FromFull x full old next
+goes-start a l w p ms (ByCopy x c shows next) = ByCopy x c shows next
+goes-start a l w p ms (FromFull x none full old next) = FromFull x none full old next
 goes-start a l w p ms (InShortage s n v) = InShortage s n v
 
 -- a move that reads no page is one of the access however the frames stood when its line began
@@ -268,7 +268,7 @@ module _ {S T : Type 0} (u : Bool) (a : Aim) (Ready : Type 0) (first : Result S 
 
 -- ---- a write to a copy: the copy, and then the write, which is ready
 
-module _ (a own : Aim) (place : own.place ≡ a.place) (writes : a.writes ≡ true) (Was Ready : Type 0) (ready : Ready) where
+module _ (a own : Aim) (place : own.place ≡ a.place) (writes : a.writes ≡ true) (page : key_written own.need ≡ key_written a.need) (Was Ready : Type 0) (ready : Ready) where
   had_then : (b c d : Behind) (xs ys : List Move) → Replays xs b.life c.life → Had a b xs c → Had own c ys d → (Ready → ReadyMoves own ys c) → Had a b (xs ++ ys) d
   had_then b c d xs ys r p q calm =
       let still : ReadyMoves own ys c = calm ready in
@@ -281,7 +281,7 @@ module _ (a own : Aim) (place : own.place ≡ a.place) (writes : a.writes ≡ tr
       let all_takes = count-then takes_frame xs ys in
       record {
         made = record {
-          each = accesses_then a xs ys (walk_from b) p.made.each (ready_moves own a ys c (walked_all (walk_from b) xs) (sym place) writes (walked_life xs (walk_from b) c.life r) still);
+          each = accesses_then a xs ys (walk_from b) p.made.each (ready_moves own a ys c (walked_all (walk_from b) xs) (sym place) writes page (walked_life xs (walk_from b) c.life r) still);
           one_read = omega (arith, all_reads, reads, one);
           few_writes = omega (arith, all_wrote, all_takes, wrote, few);
         };

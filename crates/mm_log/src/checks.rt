@@ -1,4 +1,4 @@
-ghost use Rattle.std.specs.Prelude.{◌≡◌, ◌+◌, ◌<◌, ◌≤◌, ◌^◌, ℕ, List, Option, MatchResult, OnOk, OnErr, Err};
+ghost use Rattle.std.specs.Prelude.{◌≡◌, ◌≢◌, ◌+◌, ◌<◌, ◌≤◌, ◌^◌, ℕ, List, Option, MatchResult, OnOk, OnErr, Err};
 ghost use Rattle.mm_types.specs.{Rose};
 ghost use Rattle.mm_life.specs.{unstarted, IsLegal};
 ghost use Rattle.mm_replay.specs.Standing.{life};
@@ -60,6 +60,8 @@ impl Checker {
         ensures later { S.faults source.old ≤ S.faults source.new }
         ensures blame { result ≡ Err Ending.ReadFault →
             Rose (S.faults source.old) (S.faults source.new) }
+        ensures same { result ≢ Err Ending.ReadFault →
+            S.faults source.new ≡ S.faults source.old }
     {
         let mut m = Move::Clear(Frame(0));
         match reader.take_next(&self.life, source, &mut m) {
@@ -82,6 +84,7 @@ pub(crate) fn check_log<S: Source>(checker: &mut Checker, source: &mut S) -> End
         checker.new.tally.counts }
     ensures later { S.faults source.old ≤ S.faults source.new }
     ensures blame { result ≡ Ending.ReadFault → Rose (S.faults source.old) (S.faults source.new) }
+    ensures same { result ≢ Ending.ReadFault → S.faults source.new ≡ S.faults source.old }
 {
     let mut reader = LogReader::new();
     for n in 0..MOST_LINES {

@@ -1,4 +1,4 @@
-ghost use Rattle.std.specs.Prelude.{◌≡◌, ◌+◌, ◌<◌, ◌≤◌, true, false, [], ℕ, List, Option, MatchResult, IfOk, length, Err, None};
+ghost use Rattle.std.specs.Prelude.{◌≡◌, ◌≢◌, ◌+◌, ◌<◌, ◌≤◌, true, false, [], ℕ, List, Option, MatchResult, IfOk, length, Err, None};
 ghost use Rattle.mm_life.specs.{IsLegal};
 ghost use Rattle.mm_types.specs.{Rose, Move};
 ghost use Rattle.mm_io.specs.{HasLine};
@@ -60,6 +60,8 @@ impl LogReader {
         ensures later { S.faults source.old ≤ S.faults source.new }
         ensures blame { result ≡ Err Ending.ReadFault →
             Rose (S.faults source.old) (S.faults source.new) }
+        ensures same { result ≢ Err Ending.ReadFault →
+            S.faults source.new ≡ S.faults source.old }
     {
         let before = held_len(&self.held);
         let found = match self.held.next(source) {
@@ -125,6 +127,8 @@ impl LogReader {
         ensures later { S.faults source.old ≤ S.faults source.new }
         ensures blame { result ≡ Err Ending.ReadFault →
             Rose (S.faults source.old) (S.faults source.new) }
+        ensures same { result ≢ Err Ending.ReadFault →
+            S.faults source.new ≡ S.faults source.old }
     {
         if self.take_front(life, m) {
             return Ok(());

@@ -1,6 +1,6 @@
-ghost use Rattle.std.specs.Prelude.{◌≡◌, ◌≢◌, ◌⊎◌, ◌≤◌, ◌+◌, ◌++◌, ℕ, List, Option, Some, map, length, IfOk, IfSome, string_bytes, is_err};
-ghost use Rattle.mm_types.specs.{Rose, Appended, HasCause, Move};
-ghost use Rattle.mm_io.specs.{Wrote};
+ghost use Rattle.std.specs.Prelude.{◌≡◌, ◌≢◌, ◌⊎◌, ◌≤◌, ◌<◌, ◌+◌, ◌++◌, ℕ, List, Option, Some, map, length, IfOk, IfSome, OnOk, string_bytes, is_err};
+ghost use Rattle.mm_types.specs.{Rose, Appended, Move};
+ghost use Rattle.mm_io.specs.{CountsFaults, Wrote};
 ghost use Rattle.mm_life.specs.{FrameLife, unstarted, IsSpelled, AreMoves, spelled_moves, Replays, counts_of_log};
 ghost use Rattle.mm_log.specs.{Asked, Asks, IsForm, usage_text, yes_text, most_bytes, Shows, LogCheckRan, IsRefusedLog, IsStuck, IsFaultStatus};
 ghost use Rattle.mm_log.specs.{SaysYes, SaysNo};
@@ -56,7 +56,8 @@ fn asked(alloc: Global, words: &[String]) -> Result<Option<Asked>, NoMemory>
 /// Writes a text and flushes it. Where the flush fails all of the text was taken.
 pub fn write_flushed<O: Sink>(out: &mut O, text: &[u8]) -> Result<(), Failed>
     ensures wrote { Wrote (O.taken out.old) (O.taken out.new) text.now (is_err result) }
-    ensures cause { HasCause (O.faults out.old) (O.faults out.new) result }
+    ensures gave { OnOk result (O.given out.new ≡ O.taken out.new) }
+    ensures cause { CountsFaults (O.faults out.old) (O.faults out.new) result }
 {
     write_all(out, text)?;
     out.flush()
@@ -71,6 +72,8 @@ pub fn write_text<O: Sink>(out: &mut O, text: &[u8], status: u8) -> u8
     ensures later { O.faults out.old ≤ O.faults out.new }
     ensures blame { result ≡ 5 → Rose (O.faults out.old) (O.faults out.new) }
     ensures other { result ≢ 5 → result ≡ status }
+    ensures same { result ≢ 5 → O.faults out.new ≡ O.faults out.old }
+    ensures gave { result ≢ 5 → 0 < length text.now → O.given out.new ≡ O.taken out.new }
 {
     if text.is_empty() {
         return status;
@@ -89,6 +92,9 @@ fn answer<S: Source, O: Sink>(alloc: Global, asked: Asked, source: &mut S, out: 
     ensures out_later { O.faults out.old ≤ O.faults out.new }
     ensures read_fault { result ≡ 4 → Rose (S.faults source.old) (S.faults source.new) }
     ensures out_fault { result ≡ 5 → Rose (O.faults out.old) (O.faults out.new) }
+    ensures source_same { result ≢ 4 → S.faults source.new ≡ S.faults source.old }
+    ensures out_same { result ≢ 5 → O.faults out.new ≡ O.faults out.old }
+    ensures gave { (IsFaultStatus result → ⊥) → O.given out.new ≡ O.taken out.new }
     ensures no_usage { result ≢ 2 }
 {
     let mut checker = Checker::new(alloc);
@@ -132,11 +138,15 @@ pub fn run_log<S: Source, O: Sink>(
         S.left source.new ≡ S.left source.old }
     ensures form { IsForm (map string_bytes words.now) → result ≢ 2 }
 
-    // The counts of faults never fall, and a fault is blamed only where its count rose.
+    // The counts of faults never fall, and a fault is blamed where its count rose, and only there.
+    // With a status that blames nothing the sink has given on all that it took.
     ensures source_later { S.faults source.old ≤ S.faults source.new }
     ensures out_later { O.faults out.old ≤ O.faults out.new }
     ensures read_fault { result ≡ 4 → Rose (S.faults source.old) (S.faults source.new) }
     ensures out_fault { result ≡ 5 → Rose (O.faults out.old) (O.faults out.new) }
+    ensures source_same { result ≢ 4 → S.faults source.new ≡ S.faults source.old }
+    ensures out_same { result ≢ 5 → O.faults out.new ≡ O.faults out.old }
+    ensures gave { (IsFaultStatus result → ⊥) → O.given out.new ≡ O.taken out.new }
 {
     match asked(alloc, words) {
         Ok(Some(asked)) => answer(alloc, asked, source, out),

@@ -1,4 +1,4 @@
-ghost use Rattle.std.specs.Prelude.{◌≤◌, Option, length, IfOk, IfErr, IsErrOf};
+ghost use Rattle.std.specs.Prelude.{◌≡◌, ◌≤◌, Option, length, IfOk, IfErr, IsErrOf};
 ghost use Rattle.mm_types.specs.{Rose, Text};
 ghost use Rattle.mm_names.specs.{WasRead, CameTo, most_bytes};
 
@@ -21,6 +21,8 @@ pub fn read_all<S: Source>(alloc: Global, source: &mut S) -> Result<Vec<u8>, End
     ensures later { S.faults source.old ≤ S.faults source.new }
     ensures blame { IsErrOf result Ending.ReadFault
         → Rose (S.faults source.old) (S.faults source.new) }
+    ensures same { (IsErrOf result Ending.ReadFault → ⊥)
+        → S.faults source.new ≡ S.faults source.old }
 {
     let mut text: Vec<u8> = Vec::new(alloc);
     let mut buf = [0u8; 4096];

@@ -211,7 +211,7 @@ may_copy k f place s t h m p =
 took_added : (a : Aim) (k : Key) (f : Frame) (s x y z : StateOf) → Readies s x → Made (move.Add k None) x y → a.need.copy ≡ Some k → f ≡ front y.life.frames.zeroed → Made (move.Give f k) y z → TookFrame a 0 s z
 took_added a k f s x y z r m c q g = took_ready a IsFresh 0 s x z r
     (λ t. piece_of a IsFresh 0 1 0 t (move.Add k None ∷ move.Give f k ∷ []) x z (does_two (move.Add k None) (move.Give f k) x y z m g) ((c, (f, refl)), (inr c, tt)) refl (omega arith) (omega arith))
-    (λ t. inl (q ∙ ap (λ (l : FrameLife). front l.frames.zeroed) m.life))
+    (λ t. q ∙ ap (λ (l : FrameLife). front l.frames.zeroed) m.life)
 
 copy_life : (k : Key) (f : Frame) (s x y z : StateOf) → StateHolds s → Readies s x → Made (move.Add k None) x y → Made (move.Give f k) y z → KeyAdded k s.life z.life
 copy_life k f s x y z h r m g =
@@ -309,11 +309,12 @@ own_may_map place f y g i = λ e. let bad : false ≡ true = sym (own_test is_sh
 
 -- ---- the piece
 
-went_unmap : (a : Aim) (place : Place) (s y : StateOf) → a.place ≡ place → a.need.copy ≡ Some (key_of_place place) → is_live s.life (key_of_place place) ≡ true → Made (move.Unmap place) s y → Went a 0 s y
-went_unmap a place s y e c l m = went_one a (move.Unmap place) s y m (ByCopy (sym e) (ap (λ (o : Option Key). unwrap_or (option_map (λ k. is_live s.life k) o) false) c ∙ l)) refl (omega arith) (omega arith)
-
-went_put : (a : Aim) (place : Place) (f : Frame) (s y z : StateOf) → a.place ≡ place → a.need.copy ≡ Some (key_of_place place) → InQuietFrame (key_of_place place) f s → Made (move.Unmap place) s y → Made (move.Map f place) y z → Went a 0 s z
-went_put a place f s y z e c i u m = went_then a IsFresh 0 0 s y z (went_unmap a place s y e c (in_frame_live (key_of_place place) f s i) u) (went_map a f place y z e m)
+went_put : (a : Aim) (place : Place) (f : Frame) (s y z : StateOf) → a.place ≡ place → a.need.copy ≡ Some (key_of_place place) → shows_shared s.life place ≡ true → InQuietFrame (key_of_place place) f s → Made (move.Unmap place) s y → Made (move.Map f place) y z → Went a 0 s z
+went_put a place f s y z e c shows i u m =
+    let live = in_frame_live (key_of_place place) f s i in
+    let copied = ap (λ (o : Option Key). unwrap_or (option_map (λ k. is_live s.life k) o) false) c ∙ live in
+    piece_of a IsFresh 0 0 0 [] (move.Unmap place ∷ move.Map f place ∷ []) s z (does_two (move.Unmap place) (move.Map f place) s y z u m)
+    (ByCopy (sym e) copied shows (f, ap (λ (x : Place). move.Map f x) (sym e)), (sym e, tt)) refl (omega arith) (omega arith)
 
 -- ---- what stays
 
@@ -332,13 +333,13 @@ put_look look same place f s y z u m g =
 left_here : (o : Option Place) (place : Place) → o ≡ Some place → left_by o place ≡ None
 left_here o place e = ap (λ (q : Option Place). left_by q place) e ∙ ap (λ (b : Bool). if b then None else Some place) (same_place-self place)
 
-pub copy_put : (place : Place) (f : Frame) (s y z : StateOf) → StateHolds y → InQuietFrame (key_of_place place) f s → InQuietFrame (key_of_place place) f y → s.aside ≡ Some place → Made (move.Unmap place) s y → y ≡ moved s y → Made (move.Map f place) y z
+pub copy_put : (place : Place) (f : Frame) (s y z : StateOf) → StateHolds y → shows_shared s.life place ≡ true → InQuietFrame (key_of_place place) f s → InQuietFrame (key_of_place place) f y → s.aside ≡ Some place → Made (move.Unmap place) s y → y ≡ moved s y → Made (move.Map f place) y z
     → z ≡ record (moved y z) { names = names_after_map y f place; aside = left_by y.aside place } → CopyPut place f s z
-copy_put place f s y z h i j a u r m e =
+copy_put place f s y z h shows i j a u r m e =
     let none : left_by y.aside place ≡ None = left_here y.aside place (ap (λ (x : StateOf). x.aside) r ∙ a) in
     let names = ap (λ (x : StateOf). x.names) e in
     record {
-      went = λ b p c. went_put b place f s y z p c i u m;
+      went = λ b p c. went_put b place f s y z p c shows i u m;
       life = kept_then s.life y.life z.life (kept_made (move.Unmap place) s y u tt) (kept_made (move.Map f place) y z m tt);
       valid = ap (λ (l : FrameLife). l.valid place) m.life ∙ ap (λ (b : Bool). if b then Some f else y.life.valid place) (same_place-self place);
       young = ap (λ (ages : Place → ℕ). ages place) m.ages ∙ ap (λ (b : Bool). if b then 0 else y.ages place) (same_place-self place);

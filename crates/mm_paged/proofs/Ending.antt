@@ -8,7 +8,7 @@ use Rattle.mm_life.specs.{without_slot, same_key, counts_of, is_active, is_in_tr
 use Rattle.mm_world.specs.{same_key as same_in_world, has_frame, still_needs_frame, read_failed, search_failed, is_short as report_is_short}
 use Rattle.mm_world.specs.{BeingRead, InFrame, filled, written}
 use Rattle.mm_world.specs.Report.{Report}
-use Rattle.mm_pages.specs.{Touches, touch, IsReady, IsBegun, is_framed, where_of, framed_where, Passes, Aim, AccessMove, Served, fetched, StoreOf}
+use Rattle.mm_pages.specs.{Touches, touch, IsReady, IsBegun, is_framed, where_of, framed_where, Passes, Aim, AccessMove, Served, fetched, StoreOf, key_written}
 use Rattle.mm_pages.specs.{eased, block_at, backed_by, in_backing}
 use Rattle.mm_pages.specs.Reports.{Ends}
 use Rattle.mm_moving.specs.{StateOf, StateHolds, walk_of, moved, moved_with_call}
@@ -105,6 +105,10 @@ pub record Moves (w : Bool) (k : Key) (place : Place) (s y : StateOf) : Type 0 w
 pub of_went : (w : Bool) (k : Key) (place : Place) (s y : StateOf) → s.life.valid place ≡ None → ((a : Aim) → a.place ≡ place → a.writes ≡ w → AccessBegins a k s → Went a 1 s y) → IsCalledOn s y → Moves w k place s y
 of_went w k place s y e h same = record { piece = piece_anywhere (aim_at w k place s) IsFresh 1 s y (h (aim_at w k place s) refl refl (record { needs = refl; from = refl; at = e })); same = same }
 
+-- the same of a page that is written, and is no copy
+pub of_wrote : (k : Key) (place : Place) (s y : StateOf) → s.life.valid place ≡ None → ((a : Aim) → a.place ≡ place → a.writes ≡ true → a.need.copy ≡ None → AccessBegins a k s → Went a 1 s y) → IsCalledOn s y → Moves true k place s y
+of_wrote k place s y e h same = record { piece = piece_anywhere (aim_at true k place s) IsFresh 1 s y (h (aim_at true k place s) refl refl refl (record { needs = refl; from = refl; at = e })); same = same }
+
 pub of_stuck : (w : Bool) (why : PageFault) (k : Key) (place : Place) (s y : StateOf) → s.life.valid place ≡ None → FailsToBring k why s y → Moves w k place s y
 of_stuck w why k place s y e h = record { piece = piece_anywhere (aim_at w k place s) (HasTried (aim_at w k place s) why y) 1 s y (h.stuck (aim_at w k place s) (record { needs = refl; from = refl; at = e })); same = called_on s y h.fails.same }
 
@@ -169,9 +173,9 @@ stuck_passes w why k place s z o u IsNow none now h =
 
 -- ---- a page that is valid is soiled, and written
 
-pub went_soil : (a : Aim) (f : Frame) (s z : StateOf) → a.writes ≡ true → s.life.valid a.place ≡ Some f → Soils f s z → Went a 0 s z
-went_soil a f s z w v (Was e) = subst (λ (x : StateOf). Went a 0 s x) (sym e) (went_nothing a 0 s)
-went_soil a f s z w v (Is m e) = went_one a (move.Soil f) s z m (w, v) refl (omega arith) (omega arith)
+pub went_soil : (a : Aim) (f : Frame) (s z : StateOf) → a.writes ≡ true → s.life.valid a.place ≡ Some f → (record_at s.life.frames f.0).owner ≡ Some (key_written a.need) → Soils f s z → Went a 0 s z
+went_soil a f s z w v has (Was e) = subst (λ (x : StateOf). Went a 0 s x) (sym e) (went_nothing a 0 s)
+went_soil a f s z w v has (Is m e) = went_one a (move.Soil f) s z m (w, v, has) refl (omega arith) (omega arith)
 
 -- how an access that faulted and was had ends
 pub faulted_ends : (k : Key) (s y z : StateOf) (o : OwnOf) (x : Option Bool) (a : Place → ℕ) (c : Key → Option (List ℕ)) → z ≡ record y { ages = a; contents = c } → y.told.last_failed_read ≡ s.told.last_failed_read → is_framed (y.life.stands k) ≡ true → IsBegun (report_of s o)
@@ -272,20 +276,20 @@ wrote_eases f s y z o a c h u e =
     subst (λ (x : StateOf). Eases s o x) (sym e) (subst (λ (x : StateOf). Eases s o (record x { ages = a; contents = c })) (sym p.same)
     (by_life (λ (l : FrameLife). Eases s o (record s { life = l })) f s y p refl (soiled_eases s o f u)))
 
-pub wrote_passes : (k : Key) (f : Frame) (place : Place) (s y z : StateOf) (o : OwnOf) (c : Key → Option (List ℕ)) → s.life.valid place ≡ Some f → Soils f s y → z ≡ record y { ages = changed same_place y.ages place 0; contents = c }
+pub wrote_passes : (k : Key) (f : Frame) (place : Place) (s y z : StateOf) (o : OwnOf) (c : Key → Option (List ℕ)) → s.life.valid place ≡ Some f → (record_at s.life.frames f.0).owner ≡ Some k → Soils f s y → z ≡ record y { ages = changed same_place y.ages place 0; contents = c }
     → Passes (Touches {T = Unit {0}} (record { place = place; need = touch k; writes = true; start = s.life }) (IsReady (store_of s o) place (touch k)) (Ok tt)) (store_of s o) (store_of z o) (behind_of s) (behind_of z)
-wrote_passes k f place s y z o c v (Was e) q =
+wrote_passes k f place s y z o c v has (Was e) q =
     valid_passes true k place s z o c (ap is_some v) (q ∙ ap (λ (x : StateOf). record x { ages = changed same_place x.ages place 0; contents = c }) e)
-wrote_passes k f place s y z o c v (Is m e) q =
+wrote_passes k f place s y z o c v has (Is m e) q =
     let d = does_one (move.Soil f) s y m in
     passes_beside _ (move.Soil f ∷ []) s y z o o y.bound y.names c (changed same_place y.ages place 0) y.waits d q (record {
       ends = record {
-        made = record { each = ((refl, v), tt); one_read = omega arith; few_writes = omega arith };
+        made = record { each = ((refl, v, has), tt); one_read = omega arith; few_writes = omega arith };
         waits = d.waits;
         valid = ap (λ (l : FrameLife). is_some (l.valid place)) m.life ∙ ap is_some v;
         ages = ap (λ (g : Place → ℕ). changed same_place g place 0) d.ages;
       };
-      calm = λ r. (f, refl, refl, v);
+      calm = λ r. (f, refl, refl, v, has);
     })
 
 soils_stands : (f : Frame) (s y : StateOf) → Soils f s y → y.life.stands ≡ s.life.stands

@@ -23,7 +23,7 @@ pub use FaultSteps.{brings_given, brings_here, brings_read, brings_settled, fail
 pub use FaultSteps.{found_access, found_stands, gives, reading_fails, search_left, settling_fails}
 pub use FaultSteps.{stored_unframed, zero_unframed}
 pub use Ending.{brought_written, err_store, faulted_ends, faulted_kept, kept_in, named_here}
-pub use Ending.{named_then, not_here, of_stuck, of_went, ok_served, ok_store, piece_served}
+pub use Ending.{named_then, not_here, of_stuck, of_went, of_wrote, ok_served, ok_store, piece_served}
 pub use Ending.{read_named, served_in, soils_names, some_is, stuck_passes, valid_ends, valid_passes}
 pub use Ending.{went_passes, went_soil, written_in, wrote_eases, wrote_ends, wrote_named}
 pub use Ending.{wrote_passes}

@@ -115,7 +115,8 @@ pub record Faulted (k : Key) (f : Frame) (place : Place) (s z : StateOf) : Type 
 
 -- and can be written
 pub record FaultsToWrite (k : Key) (place : Place) (s z : StateOf) : Type 0 where
-  pub went : (a : Aim) → a.place ≡ place → a.writes ≡ true → AccessBegins a k s → Went a 1 s z
+  pub went : (a : Aim) → a.place ≡ place → a.writes ≡ true → a.need.copy ≡ None →
+      AccessBegins a k s → Went a 1 s z
   pub calm : Calm s z
   pub framed : is_framed (z.life.stands k) ≡ true
   pub valid : IsSome (z.life.valid place)

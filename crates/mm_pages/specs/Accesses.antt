@@ -5,7 +5,7 @@ use Rattle.mm_types.specs.{PageFault, Held, Move, Frame, Key, Place}
 use Rattle.mm_types.specs.declared.faults.PageFault.TheVariants as fault
 use Rattle.mm_types.specs.declared.frames.Held.TheVariants as held
 use Rattle.mm_types.specs.declared.moves.Move.TheVariants as move
-use Rattle.mm_life.specs.{record_at, is_on, is_read, FrameLife, set_of, is_live, is_access, is_at_max, Waiting, Idle, ForFrame, Walk, Through}
+use Rattle.mm_life.specs.{record_at, is_on, is_read, FrameLife, set_of, is_live, is_access, is_at_max, shows_shared, Waiting, Idle, ForFrame, Walk, Through}
 use Rattle.mm_life.specs.{walked_all, waits_through, ages_through, is_read_move, takes_frame, is_wrote_move, IsOldest, IsVictim, IsWriteEnded}
 use Rattle.mm_life.specs.{Starved, next_writable}
 use Rattle.mm_world.specs.{Need}
@@ -32,12 +32,25 @@ is_had l (held.Block b) = false
 is_had l held.Zero = false
 is_had l held.Dead = false
 
--- a `give` or a `read` after it takes the frame
-abbrev pub IsTaken : Frame → List Move → Type 0
-IsTaken f [] = ⊥
-IsTaken f (move.Give g k ∷ ms) = (g ≡ f) ⊎ IsTaken f ms
-IsTaken f (move.Read g k ∷ ms) = (g ≡ f) ⊎ IsTaken f ms
-IsTaken f (m ∷ ms) = IsTaken f ms
+-- the next move gives the frame to a page
+abbrev pub IsGivenAtOnce : Frame → List Move → Type 0
+IsGivenAtOnce f [] = ⊥
+IsGivenAtOnce f (move.Give g k ∷ ms) = g ≡ f
+IsGivenAtOnce f (m ∷ ms) = ⊥
+
+-- the same, where a page to be given it may come to be in between
+abbrev pub IsGivenNext : Frame → List Move → Type 0
+IsGivenNext f [] = ⊥
+IsGivenNext f (move.Give g k ∷ ms) = g ≡ f
+IsGivenNext f (move.Add k b ∷ ms) = IsGivenAtOnce f ms
+IsGivenNext f (m ∷ ms) = ⊥
+
+-- the next move clears the frame, or reads a page into it
+abbrev pub IsUsedNext : Frame → List Move → Type 0
+IsUsedNext f [] = ⊥
+IsUsedNext f (move.Clear g ∷ ms) = g ≡ f
+IsUsedNext f (move.Read g k ∷ ms) = g ≡ f
+IsUsedNext f (m ∷ ms) = ⊥
 
 -- the next move gives a frame to the key
 abbrev pub IsGiven : Key → List Move → Type 0
@@ -54,15 +67,22 @@ abbrev pub IsMapped : Place → List Move → Type 0
 IsMapped p [] = ⊥
 IsMapped p (m ∷ ms) = (f : Frame) × (m ≡ move.Map f p)
 
+-- the page that a write changes: the copy, where one is made
+abbrev pub key_written : Need → Key
+key_written n = unwrap_or n.copy n.key
+
 abbrev pub is_copied : Need → FrameLife → Bool
 is_copied n l = unwrap_or (option_map (λ k. is_live l k) n.copy) false
 
--- a page goes in an access: by a copy, of the access's own place; the oldest of a full set right
--- before the map into it; or in shortage, where each frame that can be written was tried
+-- a page goes in an access: the shared one of the access's own place, right before its copy is
+-- mapped there; the oldest of a full set, where the place is not valid, right before the map into
+-- it; or in shortage, where each frame that can be written was tried
 pub data PageGoes (a : Aim) (w : Walk) (p : Place) (rest : List Move) : Type 0 where
-  ByCopy : p ≡ a.place → is_copied a.need w.life ≡ true → PageGoes a w p rest
-  FromFull : p.pid ≡ a.place.pid → is_at_max (set_of w.life p.pid.0) ≡ true →
-      IsOldest w.life w.ages None p → IsMapped a.place rest → PageGoes a w p rest
+  ByCopy : p ≡ a.place → is_copied a.need w.life ≡ true → shows_shared w.life p ≡ true →
+      IsMapped a.place rest → PageGoes a w p rest
+  FromFull : p.pid ≡ a.place.pid → w.life.valid a.place ≡ None →
+      is_at_max (set_of w.life p.pid.0) ≡ true → IsOldest w.life w.ages None p →
+      IsMapped a.place rest → PageGoes a w p rest
   InShortage : is_shortage a.need w.life ≡ true → next_writable w ≡ None →
       IsVictim w.life w.ages (w.life.valid a.place) p → PageGoes a w p rest
 
@@ -72,8 +92,8 @@ AccessMove a w (move.At n k) rest = ⊥
 AccessMove a w (move.Add k None) rest = (a.need.copy ≡ Some k) × IsGiven k rest
 AccessMove a w (move.Add k (Some b)) rest = ⊥
 AccessMove a w (move.Drop k) rest = ⊥
-AccessMove a w (move.Clear f) rest = IsTaken f rest
-AccessMove a w (move.Steal f) rest = IsTaken f rest
+AccessMove a w (move.Clear f) rest = IsGivenNext f rest
+AccessMove a w (move.Steal f) rest = IsUsedNext f rest
 AccessMove a w (move.Give f k) rest = (k ≡ a.need.key) ⊎ (a.need.copy ≡ Some k)
 AccessMove a w (move.Read f k) rest =
     (k ≡ a.need.key) × (is_had a.start (a.start.stands k) ≡ false) ×
@@ -82,7 +102,8 @@ AccessMove a w (move.Got f) rest = (record_at w.life.frames f.0).owner ≡ Some 
 AccessMove a w (move.Bad f) rest = (record_at w.life.frames f.0).owner ≡ Some a.need.key
 AccessMove a w (move.Map f p) rest = p ≡ a.place
 AccessMove a w (move.Unmap p) rest = PageGoes a w p rest
-AccessMove a w (move.Soil f) rest = (a.writes ≡ true) × (w.life.valid a.place ≡ Some f)
+AccessMove a w (move.Soil f) rest = (a.writes ≡ true) × (w.life.valid a.place ≡ Some f) ×
+    ((record_at w.life.frames f.0).owner ≡ Some (key_written a.need))
 AccessMove a w (move.Write f s) rest = (is_shortage a.need w.life ≡ true) ×
     (next_writable w ≡ Some f.0) × IsWriteEnded f rest
 AccessMove a w (move.Wrote f) rest = is_on f.0 a.start.flight ≡ false
@@ -123,7 +144,8 @@ AccessEnds a (Err f) b moves c = Failed a f b moves c
 abbrev pub ReadyMoves : Aim → List Move → Behind → Type 0
 ReadyMoves a [] b = Unit {0}
 ReadyMoves a (m ∷ []) b = (f : Frame) × (m ≡ move.Soil f) × (a.writes ≡ true) ×
-    (b.life.valid a.place ≡ Some f)
+    (b.life.valid a.place ≡ Some f) ×
+    ((record_at b.life.frames f.0).owner ≡ Some (key_written a.need))
 ReadyMoves a (m ∷ n ∷ ms) b = ⊥
 
 -- of a `read` or a `write`, of a place that was ready or not

@@ -45,6 +45,37 @@ next_page = record {
   start = life_after 10 smallest_set_log;
 }
 
+-- the access of a page that is valid already, in a set of one page
+abbrev pub same_page : Aim
+same_page = record {
+  place = place 1 16;
+  need = touch (private 1 16);
+  writes = false;
+  start = life_after 10 smallest_set_log;
+}
+
+-- a file's page, read and mapped in a copy view
+abbrev pub copied_log : List Move
+copied_log =
+    move.At 1 (kind.Machine 6 0 1 4)
+    ∷ move.At 2 (kind.Process (pid 1) 0 4)
+    ∷ move.At 3 kind.Call
+    ∷ move.Add (shared 0 0) (Some (record { 0 = 0 }))
+    ∷ move.At 4 (kind.Access (pid 1))
+    ∷ move.Read (record { 0 = 0 }) (shared 0 0)
+    ∷ move.Got (record { 0 = 0 })
+    ∷ move.Map (record { 0 = 0 }) (place 1 16)
+    ∷ move.At 5 (kind.Access (pid 1))
+    ∷ []
+
+abbrev pub copy_of_page : Aim
+copy_of_page = record {
+  place = place 1 16;
+  need = record { key = shared 0 0; copy = Some (private 1 16) };
+  writes = true;
+  start = life_after 9 copied_log;
+}
+
 -- a section of two pages, and one page of a process beside it
 abbrev pub section_log : List Move
 section_log =

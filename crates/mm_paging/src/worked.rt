@@ -6,6 +6,9 @@ ghost use Rattle.mm_life.specs.{rewritten_log, smallest_set_log, frame, slot, pl
 ghost use Rattle.mm_pages.specs.{AccessMoves, none_told, told_through, paging_traffic, page_rank, section_rank, FlushMoves, Makes, MakesStack};
 ghost use Rattle.mm_pages.specs.{Turned, LowestFirst, Goes};
 ghost use Rattle.mm_paging.specs.{changed_page, page_written_to, shared, section_log, life_after, behind_after, second_write, next_page, going};
+ghost use Rattle.std.specs.Prelude.{is_some, ◌++◌, take};
+ghost use Rattle.mm_life.specs.{replay_log};
+ghost use Rattle.mm_paging.specs.{same_page, copied_log, copy_of_page};
 ghost use Rattle.mm_paging.specs.{behind_page, before_all, with_sections};
 
 /// The page that was trimmed is written to the lowest slot; its write, completed, is a call of the
@@ -89,4 +92,31 @@ pub fn page_flushed()
         []) }
     ensures lost { FlushMoves page_written_to (frame 0) (move.Lost (frame 0) ∷ []) }
     ensures once { FlushMoves page_written_to (frame 0) (move.Wrote (frame 0) ∷ []) → ⊥ }
+{}
+
+/// An access of a page that is valid makes no room for it in a full set: the place is not given up
+/// and mapped again, though each move would be legal.
+pub fn same_page_again()
+    ensures never { AccessMoves same_page (behind_after 10 smallest_set_log)
+        (move.Unmap (place 1 16) ∷ move.Map (frame 0) (place 1 16) ∷ move.Unmap (place 1 16) ∷
+        move.Map (frame 0) (place 1 16) ∷ []) → ⊥ }
+    ensures legal { is_some (replay_log (take 10 smallest_set_log ++
+        (move.Unmap (place 1 16) ∷ move.Map (frame 0) (place 1 16) ∷ move.Unmap (place 1 16) ∷
+        move.Map (frame 0) (place 1 16) ∷ []))) ≡ true }
+{}
+
+/// A write that copies soils no page that it copies from.
+pub fn copied_page_soiled()
+    ensures never { AccessMoves copy_of_page (behind_after 9 copied_log)
+        (move.Soil (frame 0) ∷ move.Clear (frame 1) ∷ move.Add (private 1 16) None ∷
+        move.Give (frame 1) (private 1 16) ∷ move.Unmap (place 1 16) ∷
+        move.Map (frame 1) (place 1 16) ∷ []) → ⊥ }
+    ensures legal { is_some (replay_log (copied_log ++
+        (move.Soil (frame 0) ∷ move.Clear (frame 1) ∷ move.Add (private 1 16) None ∷
+        move.Give (frame 1) (private 1 16) ∷ move.Unmap (place 1 16) ∷
+        move.Map (frame 1) (place 1 16) ∷ []))) ≡ true }
+    ensures copied { AccessMoves copy_of_page (behind_after 9 copied_log)
+        (move.Clear (frame 1) ∷ move.Add (private 1 16) None ∷
+        move.Give (frame 1) (private 1 16) ∷ move.Unmap (place 1 16) ∷
+        move.Map (frame 1) (place 1 16) ∷ []) }
 {}

@@ -5,3 +5,5 @@ pub mod Blames
 pub use Sayings.{matched_then, said_event, said_then, talked_then}
 pub use Endings.{out_of_memory}
 pub use Blames.{blamed_later, blamed_result, blamed_write}
+pub mod Wells
+pub use Wells.{well_here, well_then}

@@ -4,6 +4,7 @@ use Rattle.std.specs.Prelude.{◌≡◌, ◌⊎◌, ℕ, List, [], ◌∷◌, by
 use Rattle.std.specs.List.{AllByRecursion}
 use Rattle.mm_types.specs.{Text, Appended, Rose, Event}
 use Rattle.mm_script.specs.{IsWellFormed}
+use Rattle.mm_io.specs.declared.Sink.{Ghosts as SinkGhosts}
 use Rattle.mm_names.specs.{Ending, spelled, CameTo, IsTorn, names_status}
 use Rattle.mm_names.specs.declared.endings.Ending.TheVariants as ending
 use Rattle.mm_reasons.specs.declared.forms.Form.{Form}
@@ -65,3 +66,21 @@ abbrev pub RanAs : Option Form → (left left' took took' : Option Text) → ℕ
 RanAs None left left' took took' status = IsNoForm left left' took took' status
 RanAs (Some form.Talk) left left' took took' status = RanTalk took took' status
 RanAs (Some _) left left' took took' status = NamesRan left left' took took' status
+
+-- ---- sinks that did not fail
+
+-- What a sink shows: the bytes that it took and those that it gave on, where told, and its count of
+-- faults.
+pub record SinkSeen : Type 0 where
+  pub took : Option Text
+  pub gave : Option Text
+  pub faults : ℕ
+
+abbrev pub sink_seen : {K : Type 0} → SinkGhosts K → K → SinkSeen
+sink_seen k x = record { took = k.taken x; gave = k.given x; faults = k.faults x }
+
+-- A sink goes on well: its count of faults is as it was, and where it held nothing back it holds
+-- nothing back.
+pub record GoesWell (a b : SinkSeen) : Type 0 where
+  pub same : b.faults ≡ a.faults
+  pub gave : a.gave ≡ a.took → b.gave ≡ b.took

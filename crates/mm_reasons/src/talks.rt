@@ -1,7 +1,7 @@
-ghost use Rattle.std.specs.Prelude.{◌≡◌, ◌≤◌, ℕ, ◌∷◌, ◌++◌, [], IfOk, IfErr, MatchResult};
+ghost use Rattle.std.specs.Prelude.{◌≡◌, ◌≢◌, ◌≤◌, ℕ, ◌∷◌, ◌++◌, [], IfOk, IfErr, Err, MatchResult};
 ghost use Rattle.mm_script.specs.{printed, IsWellFormed};
 ghost use Rattle.mm_names.specs.{FormedIn};
-ghost use Rattle.mm_reasons.specs.{Said, Talked, WriteBlamed, Blamed};
+ghost use Rattle.mm_reasons.specs.{GoesWell, sink_seen, Said, Talked, WriteBlamed, Blamed};
 
 use crate::explainers::Explainer;
 use crate::top::write_flushed;
@@ -27,7 +27,7 @@ fn line_of(alloc: Global, event: &Event) -> Result<Vec<u8>, NoMemory>
 }
 
 /// Writes the line of an event.
-#[tactic(auto, using(crate::proofs::Sayings::sayings, crate::proofs::Blames::blames))]
+#[tactic(auto, using(crate::proofs::Sayings::sayings, crate::proofs::Blames::blames, crate::proofs::Wells::wells))]
 fn say<O: Sink>(alloc: Global, event: &Event, out: &mut O) -> Result<(), Ending>
     requires { IsWellFormed event.now }
     ensures said { MatchResult result (λ _. Said (O.taken out.old) (O.taken out.new))
@@ -35,6 +35,9 @@ fn say<O: Sink>(alloc: Global, event: &Event, out: &mut O) -> Result<(), Ending>
     ensures later { O.faults out.old ≤ O.faults out.new }
     ensures blame { IfErr result (λ e. (n : ℕ)
         → WriteBlamed e (O.faults out.old) (O.faults out.new) n n) }
+    ensures no_usage { result ≢ Err Ending.Usage }
+    ensures out_well { result ≢ Err Ending.OutFault →
+        GoesWell (sink_seen O.Sink out.old) (sink_seen O.Sink out.new) }
 {
     let line = match line_of(alloc, event) {
         Ok(line) => line,
@@ -47,7 +50,7 @@ fn say<O: Sink>(alloc: Global, event: &Event, out: &mut O) -> Result<(), Ending>
 }
 
 /// Writes the line of an event, where the meaning is one that may stand here.
-#[tactic(auto, using(crate::proofs::Sayings::sayings, crate::proofs::Blames::blames))]
+#[tactic(auto, using(crate::proofs::Sayings::sayings, crate::proofs::Blames::blames, crate::proofs::Wells::wells))]
 fn say_meaning<O: Sink>(
     alloc: Global,
     meaning: &Meaning,
@@ -60,6 +63,9 @@ fn say_meaning<O: Sink>(
     ensures later { O.faults out.old ≤ O.faults out.new }
     ensures blame { IfErr result (λ e. (n : ℕ)
         → WriteBlamed e (O.faults out.old) (O.faults out.new) n n) }
+    ensures no_usage { result ≢ Err Ending.Usage }
+    ensures out_well { result ≢ Err Ending.OutFault →
+        GoesWell (sink_seen O.Sink out.old) (sink_seen O.Sink out.new) }
 {
     match meaning {
         Meaning::Says(event) => {
@@ -73,7 +79,7 @@ fn say_meaning<O: Sink>(
 }
 
 /// Tells what is wrong with a line, or may be.
-#[tactic(auto, using(crate::proofs::Blames::blames))]
+#[tactic(auto, using(crate::proofs::Blames::blames, crate::proofs::Wells::wells))]
 fn explain<E: Sink>(
     alloc: Global,
     explainer: &mut Explainer,
@@ -84,6 +90,9 @@ fn explain<E: Sink>(
     ensures err_later { E.faults err.old ≤ E.faults err.new }
     ensures blame { IfErr result (λ e. (n : ℕ)
         → WriteBlamed e n n (E.faults err.old) (E.faults err.new)) }
+    ensures no_usage { result ≢ Err Ending.Usage }
+    ensures err_well { result ≢ Err Ending.OutFault →
+        GoesWell (sink_seen E.Sink err.old) (sink_seen E.Sink err.new) }
 {
     if explainer.explain(alloc, meaning, line).is_err() {
         return Err(Ending::NoMemory);
@@ -96,7 +105,7 @@ fn explain<E: Sink>(
 }
 
 /// Takes a line.
-#[tactic(auto, using(crate::proofs::Sayings::sayings, crate::proofs::Blames::blames))]
+#[tactic(auto, using(crate::proofs::Sayings::sayings, crate::proofs::Blames::blames, crate::proofs::Wells::wells))]
 fn take_line<O: Sink, E: Sink>(
     alloc: Global,
     explainer: &mut Explainer,
@@ -110,6 +119,11 @@ fn take_line<O: Sink, E: Sink>(
     ensures err_later { E.faults err.old ≤ E.faults err.new }
     ensures blame { IfErr result (λ e. WriteBlamed e (O.faults out.old) (O.faults out.new)
         (E.faults err.old) (E.faults err.new)) }
+    ensures no_usage { result ≢ Err Ending.Usage }
+    ensures out_well { result ≢ Err Ending.OutFault →
+        GoesWell (sink_seen O.Sink out.old) (sink_seen O.Sink out.new) }
+    ensures err_well { result ≢ Err Ending.OutFault →
+        GoesWell (sink_seen E.Sink err.old) (sink_seen E.Sink err.new) }
 {
     // The check of a meaning that is let go wants the types inside an event named here.
     let _event: Option<Event> = None;
@@ -134,7 +148,7 @@ fn whole_line<'a>(explainer: &Explainer, line: &'a [u8]) -> &'a [u8] {
 }
 
 /// Takes a byte: of the line that has begun, or its end.
-#[tactic(auto, using(crate::proofs::Sayings::sayings, crate::proofs::Blames::blames))]
+#[tactic(auto, using(crate::proofs::Sayings::sayings, crate::proofs::Blames::blames, crate::proofs::Wells::wells))]
 fn take_byte<O: Sink, E: Sink>(
     alloc: Global,
     explainer: &mut Explainer,
@@ -149,6 +163,11 @@ fn take_byte<O: Sink, E: Sink>(
     ensures err_later { E.faults err.old ≤ E.faults err.new }
     ensures blame { IfErr result (λ e. WriteBlamed e (O.faults out.old) (O.faults out.new)
         (E.faults err.old) (E.faults err.new)) }
+    ensures no_usage { result ≢ Err Ending.Usage }
+    ensures out_well { result ≢ Err Ending.OutFault →
+        GoesWell (sink_seen O.Sink out.old) (sink_seen O.Sink out.new) }
+    ensures err_well { result ≢ Err Ending.OutFault →
+        GoesWell (sink_seen E.Sink err.old) (sink_seen E.Sink err.new) }
 {
     if byte == b'\n' {
         let whole = whole_line(explainer, line.as_slice());
@@ -163,7 +182,7 @@ fn take_byte<O: Sink, E: Sink>(
 }
 
 /// Takes some bytes.
-#[tactic(auto, using(crate::proofs::Sayings::sayings, crate::proofs::Blames::blames))]
+#[tactic(auto, using(crate::proofs::Sayings::sayings, crate::proofs::Blames::blames, crate::proofs::Wells::wells))]
 fn take_bytes<O: Sink, E: Sink>(
     alloc: Global,
     explainer: &mut Explainer,
@@ -178,6 +197,11 @@ fn take_bytes<O: Sink, E: Sink>(
     ensures err_later { E.faults err.old ≤ E.faults err.new }
     ensures blame { IfErr result (λ e. WriteBlamed e (O.faults out.old) (O.faults out.new)
         (E.faults err.old) (E.faults err.new)) }
+    ensures no_usage { result ≢ Err Ending.Usage }
+    ensures out_well { result ≢ Err Ending.OutFault →
+        GoesWell (sink_seen O.Sink out.old) (sink_seen O.Sink out.new) }
+    ensures err_well { result ≢ Err Ending.OutFault →
+        GoesWell (sink_seen E.Sink err.old) (sink_seen E.Sink err.new) }
 {
     for byte in bytes {
         match take_byte(alloc, explainer, line, *byte, out, err) {
@@ -189,7 +213,7 @@ fn take_bytes<O: Sink, E: Sink>(
 }
 
 /// Takes what a source gives, to its end.
-#[tactic(auto, using(crate::proofs::Sayings::sayings, crate::proofs::Blames::blames))]
+#[tactic(auto, using(crate::proofs::Sayings::sayings, crate::proofs::Blames::blames, crate::proofs::Wells::wells))]
 fn listen<S: Source, O: Sink, E: Sink>(
     alloc: Global,
     explainer: &mut Explainer,
@@ -204,6 +228,13 @@ fn listen<S: Source, O: Sink, E: Sink>(
     ensures err_later { E.faults err.old ≤ E.faults err.new }
     ensures blame { IfErr result (λ e. Blamed e (S.faults source.old) (S.faults source.new)
         (O.faults out.old) (O.faults out.new) (E.faults err.old) (E.faults err.new)) }
+    ensures source_same { result ≢ Err Ending.ReadFault → result ≢ Err Ending.OutFault →
+        S.faults source.new ≡ S.faults source.old }
+    ensures no_usage { result ≢ Err Ending.Usage }
+    ensures out_well { result ≢ Err Ending.OutFault →
+        GoesWell (sink_seen O.Sink out.old) (sink_seen O.Sink out.new) }
+    ensures err_well { result ≢ Err Ending.OutFault →
+        GoesWell (sink_seen E.Sink err.old) (sink_seen E.Sink err.new) }
 {
     let mut buf = [0u8; 4096];
     for _turn in 0..u64::MAX {
@@ -223,7 +254,7 @@ fn listen<S: Source, O: Sink, E: Sink>(
 }
 
 /// Takes what a source gives, and a last line without its end.
-#[tactic(auto, using(crate::proofs::Sayings::sayings, crate::proofs::Blames::blames))]
+#[tactic(auto, using(crate::proofs::Sayings::sayings, crate::proofs::Blames::blames, crate::proofs::Wells::wells))]
 fn hear<S: Source, O: Sink, E: Sink>(
     alloc: Global,
     source: &mut S,
@@ -234,6 +265,13 @@ fn hear<S: Source, O: Sink, E: Sink>(
         (λ e. Talked e (O.taken out.old) (O.taken out.new)) }
     ensures blame { IfErr result (λ e. Blamed e (S.faults source.old) (S.faults source.new)
         (O.faults out.old) (O.faults out.new) (E.faults err.old) (E.faults err.new)) }
+    ensures source_same { result ≢ Err Ending.ReadFault → result ≢ Err Ending.OutFault →
+        S.faults source.new ≡ S.faults source.old }
+    ensures no_usage { result ≢ Err Ending.Usage }
+    ensures out_well { result ≢ Err Ending.OutFault →
+        GoesWell (sink_seen O.Sink out.old) (sink_seen O.Sink out.new) }
+    ensures err_well { result ≢ Err Ending.OutFault →
+        GoesWell (sink_seen E.Sink err.old) (sink_seen E.Sink err.new) }
 {
     let mut explainer = Explainer::new(alloc, true);
     let mut line: Vec<u8> = Vec::new(alloc);
@@ -242,7 +280,7 @@ fn hear<S: Source, O: Sink, E: Sink>(
 }
 
 /// Takes each line as it comes: its event's line is written at once, what is wrong with it is told.
-#[tactic(auto, using(crate::proofs::Blames::blames))]
+#[tactic(auto, using(crate::proofs::Blames::blames, crate::proofs::Wells::wells))]
 pub(crate) fn talk<S: Source, O: Sink, E: Sink>(
     alloc: Global,
     source: &mut S,
@@ -252,6 +290,13 @@ pub(crate) fn talk<S: Source, O: Sink, E: Sink>(
     ensures talked { Talked result (O.taken out.old) (O.taken out.new) }
     ensures blame { Blamed result (S.faults source.old) (S.faults source.new)
         (O.faults out.old) (O.faults out.new) (E.faults err.old) (E.faults err.new) }
+    ensures source_same { result ≢ Ending.ReadFault → result ≢ Ending.OutFault →
+        S.faults source.new ≡ S.faults source.old }
+    ensures no_usage { result ≢ Ending.Usage }
+    ensures out_well { result ≢ Ending.OutFault →
+        GoesWell (sink_seen O.Sink out.old) (sink_seen O.Sink out.new) }
+    ensures err_well { result ≢ Ending.OutFault →
+        GoesWell (sink_seen E.Sink err.old) (sink_seen E.Sink err.new) }
 {
     match hear(alloc, source, out, err) {
         Ok(()) => Ending::Written,

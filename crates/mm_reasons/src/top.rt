@@ -1,8 +1,8 @@
-ghost use Rattle.std.specs.Prelude.{◌≡◌, ◌⊎◌, ◌≤◌, Option, true, map, string_bytes, is_err};
-ghost use Rattle.mm_types.specs.{Text, HasCause, Rose};
-ghost use Rattle.mm_io.specs.{Wrote};
+ghost use Rattle.std.specs.Prelude.{◌≡◌, ◌≢◌, ◌⊎◌, ◌≤◌, Option, Some, OnOk, true, map, string_bytes, is_err};
+ghost use Rattle.mm_types.specs.{Text, Rose};
+ghost use Rattle.mm_io.specs.{CountsFaults, Wrote};
 ghost use Rattle.mm_names.specs.{script_of, is_whole, Ends, WasRead, CameTo, most_lines, names_status};
-ghost use Rattle.mm_reasons.specs.{form_of, RanAs, WriteBlamed, Blamed};
+ghost use Rattle.mm_reasons.specs.{Form, GoesWell, sink_seen, form_of, RanAs, WriteBlamed, Blamed};
 
 use crate::explainers::explained;
 use crate::forms::{Form, form_of};
@@ -23,16 +23,20 @@ const USAGE: &[u8] = b"usage: mmnames < WRITTEN > SCRIPT | mmnames lines | mmnam
 /// Writes a text and flushes it. Where the flush fails all of the text was taken.
 pub(crate) fn write_flushed<O: Sink>(out: &mut O, text: &[u8]) -> Result<(), Failed>
     ensures wrote { Wrote (O.taken out.old) (O.taken out.new) text.now (is_err result) }
-    ensures cause { HasCause (O.faults out.old) (O.faults out.new) result }
+    ensures gave { OnOk result (O.given out.new ≡ O.taken out.new) }
+    ensures cause { CountsFaults (O.faults out.old) (O.faults out.new) result }
 {
     write_all(out, text)?;
     out.flush()
 }
 
 /// Tells a text, and ends so.
+#[tactic(auto, using(crate::proofs::Wells::wells))]
 fn tell<E: Sink>(err: &mut E, text: &[u8], ending: Ending) -> Ending
-    ensures { (result ≡ ending)
+    ensures ends { (result ≡ ending)
         ⊎ ((result ≡ Ending.OutFault) × Rose (E.faults err.old) (E.faults err.new)) }
+    ensures well { result ≢ Ending.OutFault →
+        GoesWell (sink_seen E.Sink err.old) (sink_seen E.Sink err.new) }
 {
     if text.is_empty() {
         return ending;
@@ -65,7 +69,7 @@ fn notes(alloc: Global, text: &[u8], script: &Script, form: Form) -> Result<Vec<
     Ok(notes)
 }
 
-#[tactic(auto, using(crate::proofs::Endings::endings))]
+#[tactic(auto, using(crate::proofs::Endings::endings, crate::proofs::Wells::wells))]
 /// Writes a script's lines.
 fn put_script<O: Sink>(script: &Script, out: &mut O) -> Ending
     ensures came { (left left' : Option Text) (text : Text) → WasRead left left' text
@@ -74,6 +78,8 @@ fn put_script<O: Sink>(script: &Script, out: &mut O) -> Ending
         → CameTo result left left' (O.taken out.old) (O.taken out.new) }
     ensures blame { (result ≡ Ending.Written)
         ⊎ ((result ≡ Ending.OutFault) × Rose (O.faults out.old) (O.faults out.new)) }
+    ensures well { result ≢ Ending.OutFault →
+        GoesWell (sink_seen O.Sink out.old) (sink_seen O.Sink out.new) }
 {
     match write_flushed(out, script.text()) {
         Ok(()) => Ending::Written,
@@ -81,7 +87,7 @@ fn put_script<O: Sink>(script: &Script, out: &mut O) -> Ending
     }
 }
 
-#[tactic(auto, using(crate::proofs::Endings::endings, crate::proofs::Blames::blames))]
+#[tactic(auto, using(crate::proofs::Endings::endings, crate::proofs::Blames::blames, crate::proofs::Wells::wells))]
 /// Ends a run whose file was read: the script is written, or it is told why not.
 fn finish<O: Sink, E: Sink>(script: &Script, notes: &[u8], out: &mut O, err: &mut E) -> Ending
     ensures came { (left left' : Option Text) (text : Text) → WasRead left left' text
@@ -89,6 +95,11 @@ fn finish<O: Sink, E: Sink>(script: &Script, notes: &[u8], out: &mut O, err: &mu
         → CameTo result left left' (O.taken out.old) (O.taken out.new) }
     ensures blame { WriteBlamed result (O.faults out.old) (O.faults out.new)
         (E.faults err.old) (E.faults err.new) }
+    ensures no_usage { result ≢ Ending.Usage }
+    ensures out_well { result ≢ Ending.OutFault →
+        GoesWell (sink_seen O.Sink out.old) (sink_seen O.Sink out.new) }
+    ensures err_well { result ≢ Ending.OutFault →
+        GoesWell (sink_seen E.Sink err.old) (sink_seen E.Sink err.new) }
 {
     if !script.is_whole() {
         return tell(err, notes, Ending::Refused);
@@ -106,7 +117,7 @@ fn finish<O: Sink, E: Sink>(script: &Script, notes: &[u8], out: &mut O, err: &mu
     put_script(script, out)
 }
 
-#[tactic(auto, using(crate::proofs::Endings::endings, crate::proofs::Blames::blames))]
+#[tactic(auto, using(crate::proofs::Endings::endings, crate::proofs::Blames::blames, crate::proofs::Wells::wells))]
 /// Translates a file.
 fn translate<S: Source, O: Sink, E: Sink>(
     alloc: Global,
@@ -119,6 +130,13 @@ fn translate<S: Source, O: Sink, E: Sink>(
         (O.taken out.old) (O.taken out.new) }
     ensures blame { Blamed result (S.faults source.old) (S.faults source.new)
         (O.faults out.old) (O.faults out.new) (E.faults err.old) (E.faults err.new) }
+    ensures source_same { result ≢ Ending.ReadFault → result ≢ Ending.OutFault →
+        S.faults source.new ≡ S.faults source.old }
+    ensures no_usage { result ≢ Ending.Usage }
+    ensures out_well { result ≢ Ending.OutFault →
+        GoesWell (sink_seen O.Sink out.old) (sink_seen O.Sink out.new) }
+    ensures err_well { result ≢ Ending.OutFault →
+        GoesWell (sink_seen E.Sink err.old) (sink_seen E.Sink err.new) }
 {
     // reading writes to no sink
     let text = match read_all(alloc, source) {
@@ -153,7 +171,7 @@ fn status_of(ending: Ending) -> u8
     }
 }
 
-#[tactic(auto, using(crate::proofs::Endings::endings, crate::proofs::Blames::blames))]
+#[tactic(auto, using(crate::proofs::Endings::endings, crate::proofs::Blames::blames, crate::proofs::Wells::wells))]
 /// Reads a written file from the source and writes the script that it means to `out`; what is wrong
 /// with it, and what else is told, goes to `err`. No words translate the whole file, or nothing
 /// where a line of it means nothing; `lines` tells besides from which line each comes; `talk` takes
@@ -176,6 +194,16 @@ pub fn run_names<S: Source, O: Sink, E: Sink>(
     ensures read_fault { result ≡ 4 → Rose (S.faults source.old) (S.faults source.new) }
     ensures out_fault { result ≡ 5 → Rose (O.faults out.old) (O.faults out.new)
         ⊎ Rose (E.faults err.old) (E.faults err.new) }
+
+    ensures form { (f : Form) → form_of (map string_bytes words.now) ≡ Some f → result ≢ 2 }
+
+    // Where none failed no count is another; and a sink that held nothing back before holds nothing
+    // back then. That the words are no form may have been told in vain.
+    ensures source_same { result ≢ 4 → result ≢ 5 → S.faults source.new ≡ S.faults source.old }
+    ensures out_well { result ≢ 5 →
+        GoesWell (sink_seen O.Sink out.old) (sink_seen O.Sink out.new) }
+    ensures err_well { result ≢ 2 → result ≢ 5 →
+        GoesWell (sink_seen E.Sink err.old) (sink_seen E.Sink err.new) }
 {
     match form_of(alloc, words) {
         Err(NoMemory) => 1,

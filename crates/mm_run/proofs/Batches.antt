@@ -1,14 +1,14 @@
 -- Events decided one after another.
 use Rattle.std.proofs.Common.{◌≡◌, ◌⊎◌, ℕ, ◌+◌, take, drop, get_or, length-drop, ◌<◌, Bool, true, cond, List, [], ◌∷◌, ◌++◌, length, refl, sym, ap, ◌∙◌, subst, inl, inr, arith}
 use Rattle.std.specs.Prelude.{count_by, Result, Ok, Err, MatchResult}
-use Rattle.std.proofs.lemmas.List.{map-append, take_more, take-append-drop}
+use Rattle.std.proofs.lemmas.List.{map-append, take_more, drop_more, take-append-drop}
 use Rattle.std.proofs.lemmas.List.Sums.{sum_by_push, sum_by-cons}
 use Rattle.mm_types.specs.{MachineOf, limit_of, Answer, Event, Move}
 use Rattle.mm_types.specs.declared.answers.Answer.TheVariants as answer
 use Rattle.mm_types.specs.declared.events.Event.TheVariants as line
 use Rattle.mm_paging.specs.{first_move}
 use Rattle.mm_run.specs.{Ending, Outset, Stage, NotBegun, Running, Follows, HasNoted, log_of, MachineIsMade, Moved, DecidedLine, last_stage}
-use Rattle.mm_run.specs.{answers_in, BreaksOff, AreDecided, IsEventNext, ClosesEvents, BulkStops, events_in, begins_ok, is_none, FaultCounts}
+use Rattle.mm_run.specs.{answers_in, BreaksOff, AreDecided, IsEventNext, ClosesEvents, HeadIsMuted, MutesEvent, BulkStops, events_in, begins_ok, is_none, FaultCounts}
 use Rattle.mm_run.specs.{IsBlamed, IsUnanswered, Handled, Stopped}
 use Rattle.mm_run.specs.declared.endings.Ending.TheVariants as ending
 use Rattle.mm_core.specs.{Scene}
@@ -52,8 +52,8 @@ some_left e left (inr (inr q)) some = subst (λ (k : Ending). BulkStops k left) 
 
 -- the next event is not decided, or not noted
 module _ (s z : Stage) (es left : List Event) (ok none : ℕ) (h : Handled s es ok none z) (some : 0 < length left) where
-  stopped_by : (e : Ending) (end : Stage) → (e ≡ ending.NoMemory) ⊎ ((e ≡ ending.MovesFault) ⊎ (e ≡ ending.SetupFault)) → ClosesEvents e z end → Stopped s (es ++ left) e end
-  stopped_by e end which closes = record {
+  stopped_by : (e : Ending) (end : Stage) → (e ≡ ending.NoMemory) ⊎ ((e ≡ ending.MovesFault) ⊎ (e ≡ ending.SetupFault)) → ClosesEvents e z end → (e ≡ ending.MovesFault → HeadIsMuted left z end) → Stopped s (es ++ left) e end
+  stopped_by e end which closes muted = record {
     lines = h.lines;
     left = left;
     events_are = ap (λ xs. xs ++ left) (sym h.events_are);
@@ -61,30 +61,31 @@ module _ (s z : Stage) (es left : List Event) (ok none : ℕ) (h : Handled s es 
     stops = some_left e left which some;
     some = some;
     closes = subst (λ (x : Stage). ClosesEvents e x end) h.end_is closes;
+    muted = λ q. subst (λ (x : Stage). HeadIsMuted left x end) h.end_is (muted q);
   }
 
   pub stopped_memory : (end : Stage) → Follows z end ⊎ BreaksOff z end → Stopped s (es ++ left) ending.NoMemory end
-  stopped_memory end closes = stopped_by ending.NoMemory end (inl refl) closes
+  stopped_memory end closes = stopped_by ending.NoMemory end (inl refl) closes (λ q. cc)
 
-  pub stopped_moves : (end : Stage) (e : Event) (a : Answer) → Moved z e a end → (log_of end).failed ≡ true → Stopped s (es ++ left) ending.MovesFault end
-  stopped_moves end e a m failed =
-      stopped_by ending.MovesFault end (inr (inl refl))
-      (inr (record { line = decided_event e a m.moves z end; next = record { follows = follows_here z; decided = m.decided }; failed = failed; after = refl }))
+  pub stopped_moves : (end : Stage) (e : Event) (a : Answer) (rest : List Event) → left ≡ e ∷ rest → Moved z e a end → (log_of end).failed ≡ true → Stopped s (es ++ left) ending.MovesFault end
+  stopped_moves end e a rest head m failed =
+      let mutes : MutesEvent z end = record { line = decided_event e a m.moves z end; next = record { follows = follows_here z; decided = m.decided }; failed = failed; after = refl } in
+      stopped_by ending.MovesFault end (inr (inl refl)) (inr mutes) (λ q. inr (mutes, (rest, head)))
 
 -- nothing was decided
 pub stopped_here : (s : Stage) (es : List Event) (e : Ending) → (e ≡ ending.NoMemory) ⊎ (e ≡ ending.SetupFault) → 0 < length es → Stopped s es e s
-stopped_here s es e (inl q) some = subst (λ (k : Ending). Stopped s es k s) (sym q) (stopped_by s s [] es 0 0 (handled_none s) some ending.NoMemory s (inl refl) (inl (follows_here s)))
-stopped_here s es e (inr q) some = subst (λ (k : Ending). Stopped s es k s) (sym q) (stopped_by s s [] es 0 0 (handled_none s) some ending.SetupFault s (inr (inr refl)) (follows_here s))
+stopped_here s es e (inl q) some = subst (λ (k : Ending). Stopped s es k s) (sym q) (stopped_by s s [] es 0 0 (handled_none s) some ending.NoMemory s (inl refl) (inl (follows_here s)) (λ p. cc))
+stopped_here s es e (inr q) some = subst (λ (k : Ending). Stopped s es k s) (sym q) (stopped_by s s [] es 0 0 (handled_none s) some ending.SetupFault s (inr (inr refl)) (follows_here s) (λ p. cc))
 
 -- how an event that was not noted stops the rest
-pub stopped_next : (s : Stage) (z y : Scene) (es left : List Event) (ok none : ℕ) (event : Event) (e : Ending) → Handled s es ok none (Running z) → 0 < length left
+pub stopped_next : (s : Stage) (z y : Scene) (es left : List Event) (ok none : ℕ) (event : Event) (e : Ending) (rest : List Event) → left ≡ event ∷ rest → Handled s es ok none (Running z) → 0 < length left
     → IsUnanswered z event e y → Stopped s (es ++ left) e (Running y)
-stopped_next s z y es left ok none event e h some (inl b) =
+stopped_next s z y es left ok none event e rest head h some (inl b) =
     subst (λ (k : Ending). Stopped s (es ++ left) k (Running y)) (sym b.0)
     (stopped_memory s (Running z) es left ok none h some (Running y) (inr (record { before = Running z; follows = follows_here (Running z); breaks = b.1.breaks })))
-stopped_next s z y es left ok none event e h some (inr m) =
+stopped_next s z y es left ok none event e rest head h some (inr m) =
     subst (λ (k : Ending). Stopped s (es ++ left) k (Running y)) (sym m.0)
-    (stopped_moves s (Running z) es left ok none h some (Running y) event m.1.0 m.1.1 m.2)
+    (stopped_moves s (Running z) es left ok none h some (Running y) event m.1.0 rest head m.1.1 m.2)
 
 -- ---- the first event
 
@@ -120,18 +121,22 @@ module _ (m : MachineOf) (o : Outset) (s : Scene) (made : MachineIsMade m o s) w
       stops = h.stops;
       some = h.some;
       closes = h.closes;
+      muted = h.muted;
     }
 
   pub first_muted : (es : List Event) → s.behind.log.failed ≡ true → Stopped (NotBegun o) (line.Machine m ∷ es) ending.MovesFault (Running s)
-  first_muted es failed = record {
-    lines = [];
-    left = line.Machine m ∷ es;
-    events_are = refl;
-    decided = tt;
-    stops = omega arith;
-    some = omega arith;
-    closes = inr (record { line = first_line; next = first_next; failed = failed; after = refl });
-  }
+  first_muted es failed =
+      let mutes : MutesEvent (NotBegun o) (Running s) = record { line = first_line; next = first_next; failed = failed; after = refl } in
+      record {
+        lines = [];
+        left = line.Machine m ∷ es;
+        events_are = refl;
+        decided = tt;
+        stops = omega arith;
+        some = omega arith;
+        closes = inr mutes;
+        muted = λ q. inr (mutes, (es, refl));
+      }
 
 -- ---- the events of a list, from the first on
 
@@ -146,11 +151,12 @@ handled_on s z end events i ok none x y e a within at h m noted p q =
     (handled_more s z end (take i events) ok none e a h m noted)))
 
 -- so many events of a list were decided, and the next was not
-pub stopped_on : (s : Stage) (z y : Scene) (events : List Event) (i ok none : ℕ) (event : Event) (e : Ending) → i < length events → Handled s (take i events) ok none (Running z)
+pub stopped_on : (s : Stage) (z y : Scene) (events : List Event) (i ok none : ℕ) (event : Event) (e : Ending) → i < length events → event ≡ get_or events i event → Handled s (take i events) ok none (Running z)
     → IsUnanswered z event e y → Stopped s events e (Running y)
-stopped_on s z y events i ok none event e within h why =
+stopped_on s z y events i ok none event e within at h why =
+    let head : drop i events ≡ event ∷ drop (i + 1) events = drop_more events i event within ∙ ap (λ (d : Event). d ∷ drop (i + 1) events) (sym at) in
     subst (λ (es : List Event). Stopped s es e (Running y)) (take-append-drop i events)
-    (stopped_next s z y (take i events) (drop i events) ok none event e h (omega (arith, length-drop i events)) why)
+    (stopped_next s z y (take i events) (drop i events) ok none event e (drop (i + 1) events) head h (omega (arith, length-drop i events)) why)
 
 -- with devices that were opened beside
 pub blamed_opened : {A : Type 0} (r : Result A Ending) (opening : Type 0) (c d : FaultCounts) → MatchResult r (λ _. d ≡ c) (λ e. IsBlamed e ⊥ c d) → MatchResult r (λ _. d ≡ c) (λ e. IsBlamed e opening c d)

@@ -1,17 +1,17 @@
 -- What a run did, from what it came to and how it was closed.
-use Rattle.std.proofs.Common.{◌≡◌, ◌≢◌, ◌≤◌, ℕ, ◌+◌, true, false, List, [], ◌++◌, length, Option, refl, sym, ap, ◌∙◌, subst, inl, inr, arith, append_assoc}
-use Rattle.mm_types.specs.{Appended, Text, spelled}
+use Rattle.std.proofs.Common.{◌≡◌, ◌≢◌, ◌≤◌, ℕ, ◌+◌, true, false, List, [], ◌++◌, length, Option, refl, sym, ap, ◌∙◌, subst, inl, inr, arith, ◌∷◌, append_assoc, length-append}
+use Rattle.mm_types.specs.{Appended, Text, spelled, spelling, answer_text}
 use Rattle.mm_types.proofs.{append_nil, appended_then, rose_later}
 use Rattle.mm_life.specs.{Log, IsFrontOf}
 use Rattle.mm_life.proofs.{front_of_then, gave_nothing}
 use Rattle.mm_run.specs.{Ending, Stage, NotBegun, Running, outset, log_of, DecidedLine, HoldMovesOf, last_stage, answers_in, moves_of, last_text}
 use Rattle.mm_run.specs.{status_of, CameFrom, Comes, FaultCounts, IsBlamed, SettlesRun, StandsAt, fault_counts_with, outside, stand, ClosesRun}
 use Rattle.mm_run.specs.{DeviceLeft, Left, StageLeaves, IsLeft, IsLogLeft, SinkSeen, GaveMoves, Drops, Closed, is_over, IsAccounted, Around}
-use Rattle.mm_run.specs.{EndsTelling, begun_at}
+use Rattle.mm_run.specs.{EndsTelling, GaveAll, begun_at}
 use Rattle.mm_run.specs.declared.endings.Ending.TheVariants as ending
 use Rattle.mm_run.specs.Ran.{Ran}
 use Rattle.mm_run.proofs.Stories.{held_both, held_by_more, spelled_lines}
-use Rattle.mm_run.proofs.Ends.{stands_whole, out_stands, moves_stand, accounted_behind, accounted_out, accounted_moves, blamed_later}
+use Rattle.mm_run.proofs.Ends.{stands_whole, out_stands, moves_stand, accounted_behind, accounted_out, accounted_moves, blamed_later, blamed_beside_moves}
 use Rattle.mm_run.proofs.Logs.{all_logged, bytes_left, log_ran, log_left, holds_at_end}
 use Rattle.mm_run.proofs.Failures.{faultless}
 use Rattle.mm_run.proofs.WatchesTold.{watches_told}
@@ -48,12 +48,19 @@ gave_left (Running s) x h = h.0.gave_more
 
 -- ---- the end of a run
 
+-- lines whose answers make no text are none
+none_still : (ls : List DecidedLine) → spelled (answers_in ls) ≡ [] → ls ≡ []
+none_still [] e = refl
+none_still (l ∷ ls) e =
+    let short : length (spelling l.answer ++ spelled (answers_in ls)) ≡ 0 = ap length e in
+    absurd (omega (arith, short, length-append (spelling l.answer) (spelled (answers_in ls)), length-append (answer_text l.answer) (10 ∷ [])))
+
 module _ (a b : Around) (e : Ending) (form : Type 0) (yes_form : form → e ≢ ending.Usage) (not_form : (form → ⊥) → e ≡ ending.Usage) (o : Option Text) (kept : Text) (x : Left) (h : Comes (outside a.left a.took []) (outside b.left o kept) (stand [] 0 (begun_at a.beside)) e x) (status : ℕ) where
   abbrev came : CameFrom [] (outside a.left a.took []) (outside b.left o kept) (stand [] 0 (begun_at a.beside)) e h.end
   came = h.came [] (record { text_is = refl; noted = tt })
 
   module _ (moves : MovesAfter x b.beside) where
-    ran_by : (told still : List DecidedLine) (written : Text) → came.decided.lines ≡ told ++ still → HoldMovesOf told b.beside.gave → Appended a.took b.took written → EndsTelling b status e told still written → Ran a b form status
+    ran_by : (told still : List DecidedLine) (written : Text) → came.decided.lines ≡ told ++ still → HoldMovesOf told b.beside.gave → Appended a.took b.took written → EndsTelling a b status e told still written → Ran a b form status
     ran_by told still written split gave wrote ends =
         let d = came.decided in
         let none : 0 + length d.lines ≡ length d.lines = omega arith in
@@ -94,7 +101,7 @@ module _ (a b : Around) (e : Ending) (form : Type 0) (yes_form : form → e ≢ 
     gave_told : HoldMovesOf came.told b.beside.gave
     gave_told = held_by_more came.told (log_of h.end).given b.beside.gave (front_of_then (log_of h.end).given x.gave b.beside.gave (gave_left h.end x h.leaves) moves.grows) came.gave
 
-    ran_some : b.took ≡ o → EndsTelling b status e came.told came.still came.written → Ran a b form status
+    ran_some : b.took ≡ o → EndsTelling a b status e came.told came.still came.written → Ran a b form status
     ran_some same ends = ran_by came.told came.still came.written came.split gave_told (subst (λ (t : Option Text). Appended a.took t came.written) (sym same) came.wrote) ends
 
     -- all lines are told
@@ -110,21 +117,30 @@ module _ (a b : Around) (e : Ending) (form : Type 0) (yes_form : form → e ≢ 
           ∙ sym (append_assoc (spelled (answers_in came.told)) (spelled (answers_in came.still)) (last_text e))
           ∙ ap (λ t. t ++ last_text e) (sym (spelled_lines came.told came.still))
 
-      ran_all : (text : Text) → Appended o b.took text → EndsTelling b status e (came.told ++ came.still) [] (came.written ++ text) → Ran a b form status
+      ran_all : (text : Text) → Appended o b.took text → EndsTelling a b status e (came.told ++ came.still) [] (came.written ++ text) → Ran a b form status
       ran_all text w ends =
           ran_by (came.told ++ came.still) [] (came.written ++ text) (came.split ∙ sym (append_nil (came.told ++ came.still))) gave_all (appended_then a.took o b.took came.written text came.wrote w) ends
 
-  -- a sink had failed
-  ends_over : (f : Ending) (told still : List DecidedLine) (written : Text) → is_over f ≡ true → status ≡ status_of f → StandsAt f told still written → EndsTelling b status f told still written
-  ends_over ending.OutFault told still written q s stands =
+  -- a sink had failed, or the source
+  ends_over : (f : Ending) (told still : List DecidedLine) (written : Text) → is_over f ≡ true → status ≡ status_of f → StandsAt f told still written → (f ≡ ending.ReadFault → still ≡ []) → (f ≡ ending.ReadFault → GaveAll a → GaveAll b) → EndsTelling a b status f told still written
+  ends_over ending.ReadFault told still written q s stands none gave =
+      inl (record {
+        status_is = s;
+        out_stands = λ same. cc;
+        moves_stand = λ same. cc;
+        all_told = none refl;
+        text = stands ∙ sym (append_nil (spelled (answers_in told)));
+        gave = λ begun. gave refl (begun refl);
+      })
+  ends_over ending.OutFault told still written q s stands none gave =
       inr (inl (record {
         status_is = s;
         moves_stand = λ same. cc;
         all_told = stands.0;
         text = record { back = stands.1.back; whole = append_nil (spelled (answers_in told)) ∙ stands.1.whole };
       }))
-  ends_over ending.MovesFault told still written q s stands = inr (inr (record { status_is = s; out_stands = λ same. cc; text = stands }))
-  ends_over x told still written q s stands = cc
+  ends_over ending.MovesFault told still written q s stands none gave = inr (inr (record { status_is = s; out_stands = λ same. cc; text = stands }))
+  ends_over x told still written q s stands none gave = cc
 
 abbrev sink_of_moves : Left → SinkSeen
 sink_of_moves x = record { took = x.moves; gave = x.gave; faults = x.moves_faults }
@@ -155,40 +171,47 @@ module _ (a b : Around) (e : Ending) (form : Type 0) (yes_form : form → e ≢ 
   abbrev o' : SinkSeen
   o' = record { took = b.took; gave = b.gave; faults = faults }
 
-  pub ran_closed : Closed o o' (sink_of_moves x) (sink_of_moves b.beside) e kept status → Ran a b form status
-  ran_closed (inl s) =
-      let c = came a b e form yes_form not_form o.took kept x h status in
-      ran_some a b e form yes_form not_form o.took kept x h status (moves_same x b.beside p f s.moves_same) (ap (λ (k : SinkSeen). k.took) s.out_same)
-      (ends_over a b e form yes_form not_form o.took kept x h status e c.told c.still c.written s.over s.status_is c.stands)
-  ran_closed (inr (inl d)) =
-      let c = came a b e form yes_form not_form o.took kept x h status in
-      ran_some a b e form yes_form not_form o.took kept x h status (moves_dropped x b.beside p f o o' e status d) (ap (λ (k : SinkSeen). k.took) d.out_same)
-      (inr (inr (record { status_is = d.status_is; out_stands = out_stands e d.goes; text = stands_whole e c.told c.still c.written d.goes c.stands })))
-  ran_closed (inr (inr (inl t))) =
-      let m = moves_gave x b.beside p f t.moves in
-      ran_all a b e form yes_form not_form o.took kept x h status m t.goes t.moves.gave_all (kept ++ last_text e) t.wrote
-      (inl (record {
-        status_is = t.status_is;
-        out_stands = out_stands e t.goes;
-        moves_stand = moves_stand e t.goes;
-        all_told = refl;
-        text = text_all a b e form yes_form not_form o.took kept x h status m t.goes t.moves.gave_all;
-        gave = record { answers = t.gave_all; moves = t.moves.gave_all };
-      }))
-  ran_closed (inr (inr (inr t))) =
-      let c = came a b e form yes_form not_form o.took kept x h status in
-      let m = moves_gave x b.beside p f t.moves in
-      ran_all a b e form yes_form not_form o.took kept x h status m t.goes t.moves.gave_all t.wrote.front t.wrote.wrote
-      (inr (inl (record {
-        status_is = t.status_is;
-        moves_stand = moves_stand e t.goes;
-        all_told = refl;
-        text = record {
-          back = t.wrote.back;
-          whole = sym (text_all a b e form yes_form not_form o.took kept x h status m t.goes t.moves.gave_all)
-              ∙ ap (λ (ts : Text). c.written ++ ts) t.wrote.whole ∙ sym (append_assoc c.written t.wrote.front t.wrote.back);
-        };
-      })))
+  -- nothing was held back where a read failed
+  module _ (none : e ≡ ending.ReadFault → kept ≡ []) (answers : e ≡ ending.ReadFault → a.gave ≡ a.took → o.gave ≡ o.took) (moves : e ≡ ending.ReadFault → a.beside.gave ≡ a.beside.moves → x.gave ≡ x.moves) where
+    pub ran_closed : Closed o o' (sink_of_moves x) (sink_of_moves b.beside) e kept status → Ran a b form status
+    ran_closed (inl s) =
+        let c = came a b e form yes_form not_form o.took kept x h status in
+        ran_some a b e form yes_form not_form o.took kept x h status (moves_same x b.beside p f s.moves_same) (ap (λ (k : SinkSeen). k.took) s.out_same)
+        (ends_over a b e form yes_form not_form o.took kept x h status e c.told c.still c.written s.over s.status_is c.stands
+        (λ q. none_still c.still (sym c.keeps.text_is ∙ none q))
+        (λ q begun. record {
+          answers = ap (λ (k : SinkSeen). k.gave) s.out_same ∙ answers q begun.answers ∙ sym (ap (λ (k : SinkSeen). k.took) s.out_same);
+          moves = ap (λ (k : SinkSeen). k.gave) s.moves_same ∙ moves q begun.moves ∙ sym (ap (λ (k : SinkSeen). k.took) s.moves_same);
+        }))
+    ran_closed (inr (inl d)) =
+        let c = came a b e form yes_form not_form o.took kept x h status in
+        ran_some a b e form yes_form not_form o.took kept x h status (moves_dropped x b.beside p f o o' e status d) (ap (λ (k : SinkSeen). k.took) d.out_same)
+        (inr (inr (record { status_is = d.status_is; out_stands = out_stands e d.goes; text = stands_whole e c.told c.still c.written d.goes c.stands })))
+    ran_closed (inr (inr (inl t))) =
+        let m = moves_gave x b.beside p f t.moves in
+        ran_all a b e form yes_form not_form o.took kept x h status m t.goes t.moves.gave_all (kept ++ last_text e) t.wrote
+        (inl (record {
+          status_is = t.status_is;
+          out_stands = out_stands e t.goes;
+          moves_stand = moves_stand e t.goes;
+          all_told = refl;
+          text = text_all a b e form yes_form not_form o.took kept x h status m t.goes t.moves.gave_all;
+          gave = λ begun. record { answers = t.gave_all; moves = t.moves.gave_all };
+        }))
+    ran_closed (inr (inr (inr t))) =
+        let c = came a b e form yes_form not_form o.took kept x h status in
+        let m = moves_gave x b.beside p f t.moves in
+        ran_all a b e form yes_form not_form o.took kept x h status m t.goes t.moves.gave_all t.wrote.front t.wrote.wrote
+        (inr (inl (record {
+          status_is = t.status_is;
+          moves_stand = moves_stand e t.goes;
+          all_told = refl;
+          text = record {
+            back = t.wrote.back;
+            whole = sym (text_all a b e form yes_form not_form o.took kept x h status m t.goes t.moves.gave_all)
+                ∙ ap (λ (ts : Text). c.written ++ ts) t.wrote.whole ∙ sym (append_assoc c.written t.wrote.front t.wrote.back);
+          };
+        })))
 
 -- ---- the counts of faults
 
@@ -203,6 +226,7 @@ module _ (opening : Type 0) (e : Ending) (s : ℕ) (o o' m m' : SinkSeen) (c : F
   accounted_closed (inl t) = own (λ i. fault_counts_with s (t.out_same i).faults (t.moves_same i).faults) t.status_is
   accounted_closed (inr (inl d)) =
       accounted_moves opening c (fault_counts_with s o'.faults m'.faults) status d.status_is (rose_later c.moves m.faults m'.faults (blamed_later opening c mid e d.goes b).1 d.rose)
+      (λ i. fault_counts_with ((blamed_beside_moves opening c mid e d.goes b).0 i) ((ap (λ (k : SinkSeen). k.faults) d.out_same ∙ (blamed_beside_moves opening c mid e d.goes b).1) i) m'.faults)
   accounted_closed (inr (inr (inl t))) = own (λ i. fault_counts_with s (t.faults_are i) (t.moves.faults_are i)) t.status_is
   accounted_closed (inr (inr (inr t))) =
-      accounted_out opening c (fault_counts_with s o'.faults m'.faults) status t.status_is (rose_later c.out o.faults o'.faults (blamed_later opening c mid e t.goes b).0 t.rose)
+      accounted_out opening c (fault_counts_with s o'.faults m'.faults) status t.status_is (rose_later c.out o.faults o'.faults (blamed_later opening c mid e t.goes b).0 t.rose) (blamed_beside_moves opening c mid e t.goes b).0

@@ -62,11 +62,37 @@ module _ (opening : Type 0) (c d : FaultCounts) where
   -- no count fell
   pub blamed_later : (e : Ending) → is_over e ≡ false → IsBlamed e opening c d → (c.out ≤ d.out) × (c.moves ≤ d.moves)
   blamed_later ending.NoMemory q b = (let e = ap (λ (k : FaultCounts). k.out) b.1 in omega (arith, e), b.0)
-  blamed_later ending.ReadFault q b = (let e = ap (λ (k : FaultCounts). k.out) b.1 in omega (arith, e), let e = ap (λ (k : FaultCounts). k.moves) b.1 in omega (arith, e))
+  blamed_later ending.ReadFault q b = cc
   blamed_later ending.OutFault q b = cc
   blamed_later ending.MovesFault q b = cc
   blamed_later ending.SetupFault q b = same_later b.1
   blamed_later e q b = same_later b
+
+  -- nor did that of the source or of the sink of answers rise
+  pub blamed_beside_moves : (e : Ending) → is_over e ≡ false → IsBlamed e opening c d → (d.source ≡ c.source) × (d.out ≡ c.out)
+  blamed_beside_moves ending.NoMemory q b = (ap (λ (k : FaultCounts). k.source) b.1, ap (λ (k : FaultCounts). k.out) b.1)
+  blamed_beside_moves ending.ReadFault q b = cc
+  blamed_beside_moves ending.OutFault q b = cc
+  blamed_beside_moves ending.MovesFault q b = cc
+  blamed_beside_moves ending.SetupFault q b = (ap (λ (k : FaultCounts). k.source) b.1, ap (λ (k : FaultCounts). k.out) b.1)
+  blamed_beside_moves e q b = (ap (λ (k : FaultCounts). k.source) b, ap (λ (k : FaultCounts). k.out) b)
+
+  -- where one is to blame, no other count is another
+  read_only : (e : Ending) → status_of e ≡ 4 → IsBlamed e opening c d → d ≡ record c { source = d.source }
+  read_only ending.ReadFault q b = b.1
+  read_only e q b = absurd (omega arith)
+
+  out_only : (e : Ending) → status_of e ≡ 5 → IsBlamed e opening c d → d.source ≡ c.source
+  out_only ending.OutFault q b = ap (λ (k : FaultCounts). k.source) b.1
+  out_only e q b = absurd (omega arith)
+
+  moves_only : (e : Ending) → status_of e ≡ 6 → IsBlamed e opening c d → d ≡ record c { moves = d.moves }
+  moves_only ending.MovesFault q b = b.1
+  moves_only e q b = absurd (omega arith)
+
+  setup_only : (e : Ending) → status_of e ≡ 7 → IsBlamed e opening c d → d ≡ c
+  setup_only ending.SetupFault q b = b.1
+  setup_only e q b = absurd (omega arith)
 
 pub accounted : (e : Ending) (opening : Type 0) (c d : FaultCounts) (status : ℕ) → status ≡ status_of e → IsBlamed e opening c d → IsAccounted status opening c d
 accounted e opening c d status q b = record {
@@ -74,6 +100,10 @@ accounted e opening c d status q b = record {
   out_fault = λ s. blamed_out opening c d e (sym q ∙ s) b;
   moves_fault = λ s. blamed_moves opening c d e (sym q ∙ s) b;
   setup_fault = λ s. blamed_opening opening c d e (sym q ∙ s) b;
+  read_alone = λ s. read_only opening c d e (sym q ∙ s) b;
+  out_alone = λ s. out_only opening c d e (sym q ∙ s) b;
+  moves_alone = λ s. moves_only opening c d e (sym q ∙ s) b;
+  setup_alone = λ s. setup_only opening c d e (sym q ∙ s) b;
   no_memory = λ s. blamed_memory opening c d e (sym q ∙ s) b;
   no_fault = λ calm. blamed_none opening c d e (λ f. calm (subst IsFault (sym q) f)) b;
 }
@@ -82,22 +112,30 @@ accounted e opening c d status q b = record {
 pub accounted_behind : (e : Ending) (opening : Type 0) (c m d : FaultCounts) (status : ℕ) → d ≡ m → status ≡ status_of e → IsBlamed e opening c m → IsAccounted status opening c d
 accounted_behind e opening c m d status same q b = subst (λ (k : FaultCounts). IsAccounted status opening c k) (sym same) (accounted e opening c m status q b)
 
-pub accounted_out : (opening : Type 0) (c d : FaultCounts) (status : ℕ) → status ≡ 5 → Rose c.out d.out → IsAccounted status opening c d
-accounted_out opening c d status q rose = record {
+pub accounted_out : (opening : Type 0) (c d : FaultCounts) (status : ℕ) → status ≡ 5 → Rose c.out d.out → d.source ≡ c.source → IsAccounted status opening c d
+accounted_out opening c d status q rose same = record {
   read_fault = λ s. absurd (omega (arith, q, s));
   out_fault = λ s. rose;
   moves_fault = λ s. absurd (omega (arith, q, s));
   setup_fault = λ s. absurd (omega (arith, q, s));
+  read_alone = λ s. absurd (omega (arith, q, s));
+  out_alone = λ s. same;
+  moves_alone = λ s. absurd (omega (arith, q, s));
+  setup_alone = λ s. absurd (omega (arith, q, s));
   no_memory = λ s. absurd (omega (arith, q, s));
   no_fault = λ calm. absurd (calm (inr (inr (inl q))));
 }
 
-pub accounted_moves : (opening : Type 0) (c d : FaultCounts) (status : ℕ) → status ≡ 6 → Rose c.moves d.moves → IsAccounted status opening c d
-accounted_moves opening c d status q rose = record {
+pub accounted_moves : (opening : Type 0) (c d : FaultCounts) (status : ℕ) → status ≡ 6 → Rose c.moves d.moves → d ≡ record c { moves = d.moves } → IsAccounted status opening c d
+accounted_moves opening c d status q rose alone = record {
   read_fault = λ s. absurd (omega (arith, q, s));
   out_fault = λ s. absurd (omega (arith, q, s));
   moves_fault = λ s. rose;
   setup_fault = λ s. absurd (omega (arith, q, s));
+  read_alone = λ s. absurd (omega (arith, q, s));
+  out_alone = λ s. absurd (omega (arith, q, s));
+  moves_alone = λ s. alone;
+  setup_alone = λ s. absurd (omega (arith, q, s));
   no_memory = λ s. absurd (omega (arith, q, s));
   no_fault = λ calm. absurd (calm (inr (inr (inr (inl q)))));
 }

@@ -63,6 +63,11 @@ pub record MutesEvent (last end : Stage) : Type 0 where
   pub failed : (log_of end).failed ≡ true
   pub after : end ≡ line.after
 
+-- It is the first of those that are left.
+abbrev pub HeadIsMuted : List Event → Stage → Stage → Type 0
+HeadIsMuted left last end = Follows last end ⊎
+    ((m : MutesEvent last end) × ((rest : List Event) × (left ≡ m.line.event ∷ rest)))
+
 -- After the last event nothing happened, but that one ran out of memory, or could not note all its
 -- moves.
 abbrev pub ClosesEvents : Ending → Stage → Stage → Type 0
@@ -135,6 +140,7 @@ pub record BulkRan (a b : Around) (events : List Event) (status : ℕ) : Type 0 
   pub ends : BulkEnds b status e (bulk_text (answers_in lines) end) written
   -- What happened after the last event, and what the end leaves, as `Ran` has it.
   pub closes : ClosesEvents e (last_stage (begun_at a.beside) lines) end
+  pub muted : e ≡ ending.MovesFault → HeadIsMuted left (last_stage (begun_at a.beside) lines) end
   pub leaves : StageLeaves end b.beside
   pub log : LogRan a.beside.moves b.beside.moves a.beside.moves_faults b.beside.moves_faults
       (moves_of lines) e (last_stage (begun_at a.beside) lines) end

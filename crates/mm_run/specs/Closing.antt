@@ -15,8 +15,9 @@ pub record SinkSeen : Type 0 where
   pub gave : Option Text
   pub faults : ℕ
 
--- a sink has failed
+-- a sink has failed, or the source
 abbrev pub is_over : Ending → Bool
+is_over ending.ReadFault = true
 is_over ending.OutFault = true
 is_over ending.MovesFault = true
 is_over _ = false

@@ -34,15 +34,16 @@ pub use Story.{IsOpen, IsRunForm, KeepsAnswers, Outside, RunStand, SettlesRun, S
 pub use Story.{fault_counts_with, outside, stand}
 pub use Ran.{Around, EndsHolding, EndsTelling, GaveAll, LogRan, RanOrRefused, SomeRose, begun_at}
 pub use Script.{EachSays, IsComplete, IsFault, IsScriptOf, IsVerdict}
-pub use Bulk.{AreDecided, BulkEnds, BulkRan, BulkRanOrRefused, BulkStops, ClosesEvents, IsBulk}
+pub use Bulk.{AreDecided, BulkEnds, BulkRan, BulkRanOrRefused, BulkStops, ClosesEvents}
+pub use Bulk.{HeadIsMuted, IsBulk, MutesEvent}
 pub use Bulk.{IsEventNext, IsNoBulk, begins_ok, below_64, bulk_text, events_in, four_lines, is_none}
 pub use Bulk.{word_value}
 pub use WordForms.{SaysForm}
 pub use Batch.{AccountsMoves, AreLater, BatchRan, Handled, IsLaterEvent, IsUnanswered, Stopped}
 pub use Batch.{Tallied}
 pub use Moments.{EndsRun, FindsLine, GoesOn, GoesOnOrEnds, HasBegun, HasNotedAll, HoldsLine, Input}
-pub use Moments.{IsBetween, KeepsWorld, Moment, Output, RunsShort, StepsBetween, fault_counts_of}
-pub use Moments.{moment, outside_of}
+pub use Moments.{IsBetween, IsStill, KeepsWorld, Moment, Output, RunsShort, StepsBetween}
+pub use Moments.{fault_counts_of, moment, outside_of}
 pub use Settings.{AreOpened, ComesTo, HoldsMachine, Setting}
 pub use Starting.{HasStart, Opened, Starts, left_behind}
 pub use Seen.{counts_seen, device_seen, input_seen, left_seen, moment_seen, open_failed}

@@ -1,6 +1,6 @@
 -- What the steps of a run ask and promise, once for each family of steps.
 -- Profile, "A run".
-use Rattle.std.specs.Prelude.{◌≡◌, ◌≢◌, ℕ, ◌+◌, ◌<◌, ◌≤◌, Bool, false, length, Option, Result, MatchOption, MatchResult}
+use Rattle.std.specs.Prelude.{◌≡◌, ◌≢◌, ℕ, ◌+◌, ◌<◌, ◌≤◌, Bool, false, [], length, Option, Result, MatchOption, MatchResult}
 use Rattle.mm_types.specs.{Loans, Text, Event}
 use Rattle.mm_io.specs.{HasLine}
 use Rattle.mm_core.specs.{Scene}
@@ -80,6 +80,12 @@ pub record IsBetween (n : ℕ) (held : Text) (w : WorldSeen) : Type 0 where
   pub ready : HasNotedAll n w
 
 -- ---- what is promised
+
+-- Nothing is held back: no answer is kept, and both sinks gave on all that they took.
+pub record IsStill (kept : Text) (gave took moves_gave moves_took : Option Text) : Type 0 where
+  pub none : kept ≡ []
+  pub answers : gave ≡ took
+  pub moves : moves_gave ≡ moves_took
 
 -- Of a world only its log of moves may be another, and it has failed where it had.
 pub record KeepsWorld (v w : WorldSeen) : Type 0 where

@@ -38,15 +38,16 @@ pub record GaveAll (b : Around) : Type 0 where
   pub answers : b.gave ≡ b.took
   pub moves : b.beside.gave ≡ b.beside.moves
 
--- The status is the ending's own: all answers and its last text stand, and all was given on.
-pub record TellsAll (b : Around) (status : ℕ) (e : Ending) (told kept : List DecidedLine)
+-- The status is the ending's own: all answers and its last text stand, and all was given on; but
+-- where a read failed, after which no sink is called, only what the run wrote.
+pub record TellsAll (a b : Around) (status : ℕ) (e : Ending) (told kept : List DecidedLine)
     (written : Text) : Type 0 where
   pub status_is : status ≡ status_of e
   pub out_stands : e ≢ ending.OutFault
   pub moves_stand : e ≢ ending.MovesFault
   pub all_told : kept ≡ []
   pub text : written ≡ spelled (answers_in told) ++ last_text e
-  pub gave : GaveAll b
+  pub gave : (e ≡ ending.ReadFault → GaveAll a) → GaveAll b
 
 -- With status 5, as the sink of answers failed, a front of all that stands.
 pub record TellsFront (status : ℕ) (e : Ending) (told kept : List DecidedLine) (written : Text)
@@ -64,9 +65,10 @@ pub record TellsSome (status : ℕ) (e : Ending) (told : List DecidedLine) (writ
   pub out_stands : e ≢ ending.OutFault
   pub text : written ≡ spelled (answers_in told)
 
-abbrev pub EndsTelling : Around → ℕ → Ending → List DecidedLine → List DecidedLine → Text → Type 0
-EndsTelling b status e told kept written =
-    TellsAll b status e told kept written
+abbrev pub EndsTelling : Around → Around → ℕ → Ending → List DecidedLine → List DecidedLine → Text
+    → Type 0
+EndsTelling a b status e told kept written =
+    TellsAll a b status e told kept written
     ⊎ (TellsFront status e told kept written ⊎ TellsSome status e told written)
 
 -- The count of faults of a device rose.
@@ -129,7 +131,7 @@ pub record Ran (a b : Around) (form : Type 0) (status : ℕ) : Type 0 where
   pub gave : HoldMovesOf told b.beside.gave
   pub written : Text
   pub wrote : Appended a.took b.took written
-  pub ends : EndsTelling b status e told kept written
+  pub ends : EndsTelling a b status e told kept written
   -- What happened after the last answer, and what the end leaves: the log of moves, the devices.
   pub end : Stage
   pub closes : ClosesRun e (length lines) front (last_stage (begun_at a.beside) lines) end

@@ -1,4 +1,4 @@
-ghost use Rattle.std.specs.Prelude.{◌≡◌, ◌≤◌, ◌+◌, ◌++◌, ℕ, List, [], true, length, vec_capacity, IfOk};
+ghost use Rattle.std.specs.Prelude.{◌≡◌, ◌≤◌, ◌+◌, ◌++◌, ℕ, List, [], true, length, vec_capacity, IfOk, OnOk};
 ghost use Rattle.mm_types.specs.{spelling};
 ghost use Rattle.mm_io.specs.{CountsFaults};
 ghost use Rattle.mm_run.specs.Texts.{WroteText};
@@ -104,6 +104,7 @@ impl Kept {
     pub(crate) fn give_on<O: Sink>(&mut self, out: &mut O) -> Result<(), Failed>
         ensures none { self.new ≡ [] }
         ensures wrote { WroteText result (O.taken out.old) (O.taken out.new) self.old }
+        ensures gave { OnOk result (O.given out.new ≡ O.taken out.new) }
         ensures cause { CountsFaults (O.faults out.old) (O.faults out.new) result }
     {
         let wrote = write_all(out, self.bytes());

@@ -1,8 +1,8 @@
-ghost use Rattle.std.specs.Prelude.{◌≡◌, ◌<◌, ◌≤◌, ◌+◌, ◌++◌, ℕ, List, [], length, drop, IfNone, IfOk, OnOk, MatchResult};
+ghost use Rattle.std.specs.Prelude.{◌≡◌, ◌≢◌, ◌<◌, ◌≤◌, ◌+◌, ◌++◌, ℕ, List, [], length, drop, Some, Err, IfNone, IfOk, OnOk, MatchResult};
 ghost use Rattle.mm_types.specs.{spelling};
 ghost use Rattle.mm_io.specs.{HasLine};
 ghost use Rattle.mm_core.specs.{line_number, loans, world_behind, Scene, scene};
-ghost use Rattle.mm_run.specs.{Stage, Running, Moved, InputEndsAt, IsLaterEvent, Input, Output, moment, HoldsLine, HasNotedAll, IsBetween};
+ghost use Rattle.mm_run.specs.{Stage, Running, Moved, InputEndsAt, IsLaterEvent, Input, Output, moment, HoldsLine, HasNotedAll, IsBetween, IsStill};
 ghost use Rattle.mm_run.specs.{KeepsWorld, IsUnanswered, AccountsMoves, EndsRun, GoesOnOrEnds, FindsLine, StepsBetween, input_seen, output_seen};
 ghost use Rattle.mm_run.specs.{world_seen, moment_seen};
 
@@ -48,6 +48,7 @@ pub(crate) fn decide<G: FlushesMoves>(
     ensures faults { AccountsMoves result ⊥
         (world_behind world.old).log.faults (world_behind world.new).log.faults }
     ensures ready { OnOk result (HasNotedAll n (world_seen world.new)) }
+    ensures unread { result ≢ Err Ending.ReadFault }
     ensures loans { loans world.new ≡ loans world.old }
 {
     let decided = world.step(alloc, n, event, answer);
@@ -82,6 +83,7 @@ fn answer_line<G: FlushesMoves>(
         (moment input out kept.old (Running (scene world.old)))
         (moment input out kept.new (Running (scene world.new))) }
     ensures between { IfNone result (IsBetween (n + 1) held.new (world_seen world.new)) }
+    ensures unread { result ≢ Some Ending.ReadFault }
     ensures loans { loans world.new ≡ loans world.old }
 {
     let line = &held.bytes()[..len];
@@ -139,7 +141,9 @@ fn flush<G: FlushesMoves, O: Sink>(
 ) -> Option<Ending>
     ensures steps { StepsBetween result (output_seen O.Sink out.old) (output_seen O.Sink out.new)
         kept.old kept.new (Running (scene world.old)) (Running (scene world.new)) }
-    ensures none { IfNone result (kept.new ≡ []) }
+    ensures still { IfNone result (IsStill kept.new (O.given out.new) (O.taken out.new)
+        (world_behind world.new).log.given (world_behind world.new).log.bytes) }
+    ensures unread { result ≢ Some Ending.ReadFault }
     ensures keeps { KeepsWorld (world_seen world.old) (world_seen world.new) }
 {
     match world.flush_moves() {
@@ -161,30 +165,13 @@ fn make_room<G: FlushesMoves, O: Sink>(
     ensures steps { StepsBetween result (output_seen O.Sink out.old) (output_seen O.Sink out.new)
         kept.old kept.new (Running (scene world.old)) (Running (scene world.new)) }
     ensures room { IfNone result (length kept.new + 256 ≤ 65536) }
+    ensures unread { result ≢ Some Ending.ReadFault }
     ensures keeps { KeepsWorld (world_seen world.old) (world_seen world.new) }
 {
     if kept.has_room() {
         return None;
     }
     flush(world, kept, out)
-}
-
-/// Gives on moves and answers where more has to be read.
-fn flush_before_read<G: FlushesMoves, O: Sink>(
-    held: &Held,
-    world: &mut World<G>,
-    kept: &mut Kept,
-    out: &mut O,
-) -> Option<Ending>
-    ensures steps { StepsBetween result (output_seen O.Sink out.old) (output_seen O.Sink out.new)
-        kept.old kept.new (Running (scene world.old)) (Running (scene world.new)) }
-    ensures keeps { KeepsWorld (world_seen world.old) (world_seen world.new) }
-{
-    match held.look() {
-        Look::Line(_) => None,
-        Look::Long => None,
-        Look::Open => flush(world, kept, out),
-    }
 }
 
 /// Finds the line in front, by one search where it is held whole, as most are. Else it reads, with
@@ -205,6 +192,8 @@ fn find_line<G: FlushesMoves, S: Source, O: Sink>(
         (moment_seen S.Source O.Sink source.new out.new kept.new world.new) }
     ensures line { IfOk result (λ len. HoldsLine held.new len) }
     ensures room { OnOk result (length kept.new + 256 ≤ 65536) }
+    ensures still { result ≡ Err Ending.ReadFault → IsStill kept.new (O.given out.new) (O.taken out.new)
+        (world_behind world.new).log.given (world_behind world.new).log.bytes }
     ensures keeps { KeepsWorld (world_seen world.old) (world_seen world.new) }
 {
     match held.look() {
@@ -234,6 +223,8 @@ fn decide_line<G: FlushesMoves, S: Source, O: Sink>(
     ensures steps { GoesOnOrEnds result held.old n held.new (n + 1)
         (moment_seen S.Source O.Sink source.old out.old kept.old world.old)
         (moment_seen S.Source O.Sink source.new out.new kept.new world.new) }
+    ensures still { result ≡ Some Ending.ReadFault → IsStill kept.new (O.given out.new) (O.taken out.new)
+        (world_behind world.new).log.given (world_behind world.new).log.bytes }
     ensures between { IfNone result (IsBetween (n + 1) held.new (world_seen world.new)) }
     ensures loans { loans world.new ≡ loans world.old }
 {
@@ -274,6 +265,8 @@ pub(crate) fn decide_rest<G: FlushesMoves, S: Source, O: Sink>(
     ensures ends { EndsRun held.old 1
         (moment_seen S.Source O.Sink source.old out.old kept.old world.old)
         (moment_seen S.Source O.Sink source.new out.new kept.new world.new) result }
+    ensures still { result ≡ Ending.ReadFault → IsStill kept.new (O.given out.new) (O.taken out.new)
+        (world_behind world.new).log.given (world_behind world.new).log.bytes }
     ensures loans { loans world.new ≡ loans world.old }
 {
     let mut event = Event::Charge;
@@ -283,7 +276,7 @@ pub(crate) fn decide_rest<G: FlushesMoves, S: Source, O: Sink>(
             None => {}
         }
     }
-    match flush_before_read(held, world, kept, out) {
+    match flush(world, kept, out) {
         Some(ending) => ending,
         None => behind_last(held, source),
     }

@@ -1,6 +1,6 @@
 ghost use Rattle.std.specs.Prelude.{◌≡◌, ◌≢◌, ◌⊎◌, ◌≤◌, ◌+◌, ℕ, true, false, [], length, IfErr, OnOk};
 ghost use Rattle.mm_core.specs.{loans, world_behind, scene};
-ghost use Rattle.mm_run.specs.{Outset, NotBegun, Running, outset, MachineIsMade, CameToEnd, Comes, IsBlamed, stand, fault_counts_with, HasBegun};
+ghost use Rattle.mm_run.specs.{Outset, NotBegun, Running, outset, MachineIsMade, CameToEnd, Comes, IsBlamed, stand, fault_counts_with, HasBegun, IsStill};
 ghost use Rattle.mm_run.specs.{HoldsMachine, AreOpened, Starts, HasStart, left_behind, ComesTo, counts_seen, device_seen, left_seen, open_failed};
 ghost use Rattle.mm_run.specs.{outside_seen, setting, world_seen};
 
@@ -79,6 +79,8 @@ fn answer_all<G: FlushesMoves, S: Source, O: Sink>(
         (world_behind world.new).log.faults) }
     ensures idle { S.idle source.new ≤ S.idle source.old + S.last_idle source.new }
     ensures form { result ≢ Ending.Usage }
+    ensures still { result ≡ Ending.ReadFault → IsStill kept.new (O.given out.new) (O.taken out.new)
+        (world_behind world.new).log.given (world_behind world.new).log.bytes }
     ensures loans { loans world.new ≡ loans world.old }
 {
     if world.pages.moves_failed() {
@@ -113,6 +115,8 @@ fn answer_over<T: Moving, S: Source, O: Sink>(
         (T.shown result.1).log.faults) }
     ensures idle { S.idle source.new ≤ S.idle source.old + S.last_idle source.new }
     ensures form { result.0 ≢ Ending.Usage }
+    ensures still { result.0 ≡ Ending.ReadFault → IsStill kept.new (O.given out.new)
+        (O.taken out.new) (T.shown result.1).log.given (T.shown result.1).log.bytes }
     ensures loans { T.loans result.1 ≡ T.loans state }
 {
     let mut world = World::new(alloc, machine, Paged::over(state));
@@ -148,6 +152,8 @@ fn run_machine<S: Source, O: Sink, M: Sink, P: Blocks, F: Blocks>(
         (counts_seen S.Source O.Sink M.Sink source.new out.new moves.new) }
     ensures idle { S.idle source.new ≤ S.idle source.old + S.last_idle source.new }
     ensures form { result ≢ Ending.Usage }
+    ensures still { result ≡ Ending.ReadFault → IsStill kept.new (O.given out.new)
+        (O.taken out.new) (M.given moves.new) (M.taken moves.new) }
 {
     let made = State::new(
         alloc,
@@ -194,6 +200,13 @@ pub(crate) fn decide_all<S: Source, O: Sink, M: Sink, P: Blocks, F: Blocks>(
         source.new out.new kept.new moves.new paging.new files.new) result }
     ensures form { is_form ≡ true → result ≢ Ending.Usage }
     ensures no_form { (is_form ≡ true → ⊥) → result ≡ Ending.Usage }
+
+    // Where a read failed, nothing was held back when it was asked for.
+    ensures none { kept.old ≡ [] → result ≡ Ending.ReadFault → kept.new ≡ [] }
+    ensures gave { O.given out.old ≡ O.taken out.old → result ≡ Ending.ReadFault
+        → O.given out.new ≡ O.taken out.new }
+    ensures moves { M.given moves.old ≡ M.taken moves.old → result ≡ Ending.ReadFault
+        → M.given moves.new ≡ M.taken moves.new }
 {
     if !is_form {
         return Ending::Usage;

@@ -70,11 +70,14 @@ fn tell_end<O: Sink>(kept: &Kept, out: &mut O, ending: Ending) -> Result<(), Fai
     write_both(out, kept.bytes(), text.as_slice())
 }
 
-/// Whether a sink has failed: nothing more is asked of it then, nor of the other one.
+/// Whether a sink has failed, or the source: nothing more is asked of a sink then.
 fn is_over(ending: Ending) -> bool
     ensures { result ≡ is_over ending }
 {
-    matches!(ending, Ending::OutFault | Ending::MovesFault)
+    matches!(
+        ending,
+        Ending::ReadFault | Ending::OutFault | Ending::MovesFault
+    )
 }
 
 /// Gives on the moves, and then the answers that are kept with the last text, and says with which

@@ -4,7 +4,8 @@ use Rattle.std.specs.Prelude.{Result, Ok}
 use Rattle.mm_types.specs.{Text, Move}
 use Rattle.mm_tell.specs.{Said, said_by, Answers, RestOf, HasLines, FileFault}
 use Rattle.mm_life.specs.{unstarted}
-use Rattle.mm_show.specs.{PageOf, form_said, form_why, sums_said, FileIs, sums_text, sum_rest, SumTeller, Form}
+use Rattle.mm_show.specs.{PageOf, form_said, form_why, sums_said, FileIs, sums_text, sum_rest, SumTeller, Form, page_rest, PageTeller}
+use Rattle.mm_show.specs.Showing.{page_said, whole_page_text}
 
 abbrev read_as : Option (List Text) → Result (Option (List Text)) FileFault
 read_as lines = Ok lines
@@ -31,6 +32,14 @@ pub said_sums : (t : SumTeller) → ((moves : List Move) → sum_rest t true uns
 said_sums t e = λ i. λ whole. λ moves. by whole moves i
   where
     by : (whole : Bool) (moves : List Move) → said_by (sum_rest t) whole moves ≡ sums_said whole moves
+    by true moves = e moves
+    by false moves = refl
+
+-- a page says nothing of a log that does not end well
+pub said_page : (t : PageTeller) (p : PageOf) (script answers : Option (List Text)) → ((moves : List Move) → page_rest t true unstarted moves ≡ whole_page_text p script answers moves) → said_by (page_rest t) ≡ page_said p script answers
+said_page t p script answers e = λ i. λ whole. λ moves. by whole moves i
+  where
+    by : (whole : Bool) (moves : List Move) → page_rest t whole unstarted moves ≡ page_said p script answers whole moves
     by true moves = e moves
     by false moves = refl
 

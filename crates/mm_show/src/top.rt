@@ -1,4 +1,4 @@
-ghost use Rattle.std.specs.Prelude.{◌≡◌, ◌≤◌, ◌⊎◌, ◌++◌, ◌∷◌, [], ℕ, List, Option, OnOk, true};
+ghost use Rattle.std.specs.Prelude.{◌≡◌, ◌≢◌, ◌≤◌, ◌⊎◌, ◌++◌, ◌∷◌, [], ℕ, List, Option, OnOk, true};
 ghost use Rattle.std.specs.Prelude.{Some, map, option_map, string_bytes, None};
 ghost use Rattle.mm_types.specs.{Rose};
 ghost use Rattle.mm_log.specs.{IsFaultStatus, Shows, IsRefusedLog};
@@ -49,6 +49,9 @@ fn unread<O: Sink>(alloc: Global, name: &[u8], out: &mut O) -> u8
     ensures says { IsUnread name.now (O.taken out.old) (O.taken out.new) result }
     ensures later { O.faults out.old ≤ O.faults out.new }
     ensures out_fault { result ≡ 5 → Rose (O.faults out.old) (O.faults out.new) }
+    ensures out_same { result ≢ 5 → O.faults out.new ≡ O.faults out.old }
+    ensures gave { result ≢ 1 → result ≢ 5 → O.given out.new ≡ O.taken out.new }
+    ensures fault { IsFaultStatus result }
 {
     let mut text = Vec::new(alloc);
     match put_unread(name, &mut text) {
@@ -73,6 +76,9 @@ fn shown<S: Source, O: Sink>(
     ensures later { (S.faults log.old ≤ S.faults log.new) × (O.faults out.old ≤ O.faults out.new) }
     ensures read_fault { result ≡ 4 → Rose (S.faults log.old) (S.faults log.new) }
     ensures out_fault { result ≡ 5 → Rose (O.faults out.old) (O.faults out.new) }
+    ensures source_same { (IsFaultStatus result → ⊥) → S.faults log.new ≡ S.faults log.old }
+    ensures out_same { result ≢ 5 → O.faults out.new ≡ O.faults out.old }
+    ensures gave { result ≢ 1 → result ≢ 5 → O.given out.new ≡ O.taken out.new }
 {
     match form {
         Form::Html(_) => match page_teller(alloc, page, script, answers) {
@@ -172,6 +178,9 @@ fn show_form<S: Source, F: Source, O: Sink>(
         ⊎ (FileFailed F.faults (has_script (files_of form)) script.old script.new
         ⊎ FileFailed F.faults (has_answers (files_of form)) answers.old answers.new) }
     ensures out_fault { result ≡ 5 → Rose (O.faults out.old) (O.faults out.new) }
+    ensures source_same { (IsFaultStatus result → ⊥) → S.faults log.new ≡ S.faults log.old }
+    ensures out_same { result ≢ 5 → O.faults out.new ≡ O.faults out.old }
+    ensures gave { result ≢ 1 → result ≢ 5 → O.given out.new ≡ O.taken out.new }
 {
     let files = files_of(form);
     let script = match named_lines(alloc, has_script(files), script) {
@@ -229,6 +238,12 @@ pub fn run_show<S: Source, F: Source, O: Sink>(
         ⊎ FileFailed F.faults (has_answers (files_of f)) answers.old answers.new) }
     ensures out_fault { result ≡ 5 → Rose (O.faults out.old) (O.faults out.new) }
     ensures later { (S.faults log.old ≤ S.faults log.new) × (O.faults out.old ≤ O.faults out.new) }
+
+    // With a status that blames nothing no count rose; but where memory was refused or a write
+    // failed, the sink has given on all that it took.
+    ensures source_same { (IsFaultStatus result → ⊥) → S.faults log.new ≡ S.faults log.old }
+    ensures out_same { result ≢ 5 → O.faults out.new ≡ O.faults out.old }
+    ensures gave { result ≢ 1 → result ≢ 5 → O.given out.new ≡ O.taken out.new }
 {
     match asked(alloc, words) {
         Ok(Some(form)) => show_form(alloc, form, words, log, script, answers, page, out),

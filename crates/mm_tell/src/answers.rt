@@ -1,7 +1,8 @@
-ghost use Rattle.std.specs.Prelude.{◌≡◌, ◌≤◌, ◌++◌, ◌∷◌, [], length, codes, OnOk};
+ghost use Rattle.std.specs.Prelude.{◌≡◌, ◌≢◌, ◌≤◌, ◌++◌, ◌∷◌, [], length, codes, OnOk};
 ghost use Rattle.mm_types.specs.{Rose, decimal};
 ghost use Rattle.mm_life.specs.{unstarted, numbered};
 ghost use Rattle.mm_replay.specs.Standing.{life as life_of};
+ghost use Rattle.mm_log.specs.{IsFaultStatus};
 ghost use Rattle.mm_tell.specs.{is_broken, ends_well, closing_status, close_words, refused_words, said_by, Answers};
 
 use crate::closings::Closing;
@@ -170,6 +171,9 @@ fn told_on<S: Source, T: Teller, O: Sink>(
     ensures later { (S.faults log.old ≤ S.faults log.new) × (O.faults out.old ≤ O.faults out.new) }
     ensures read_fault { result ≡ 4 → Rose (S.faults log.old) (S.faults log.new) }
     ensures out_fault { result ≡ 5 → Rose (O.faults out.old) (O.faults out.new) }
+    ensures source_same { (IsFaultStatus result → ⊥) → S.faults log.new ≡ S.faults log.old }
+    ensures out_same { result ≢ 5 → O.faults out.new ≡ O.faults out.old }
+    ensures gave { result ≢ 1 → result ≢ 5 → O.given out.new ≡ O.taken out.new }
 {
     let mut text = Vec::new(alloc);
     let closing = tell_log(life, script, log, teller, &mut text, out);
@@ -204,6 +208,9 @@ pub fn answered<S: Source, T: Teller, O: Sink>(
     ensures later { (S.faults log.old ≤ S.faults log.new) × (O.faults out.old ≤ O.faults out.new) }
     ensures read_fault { result ≡ 4 → Rose (S.faults log.old) (S.faults log.new) }
     ensures out_fault { result ≡ 5 → Rose (O.faults out.old) (O.faults out.new) }
+    ensures source_same { (IsFaultStatus result → ⊥) → S.faults log.new ≡ S.faults log.old }
+    ensures out_same { result ≢ 5 → O.faults out.new ≡ O.faults out.old }
+    ensures gave { result ≢ 1 → result ≢ 5 → O.given out.new ≡ O.taken out.new }
 {
     let mut life = Life::new(alloc);
     told_on(&mut life, alloc, script, log, teller, out)

@@ -1,4 +1,4 @@
-ghost use Rattle.std.specs.Prelude.{◌≡◌, ◌+◌, ◌<◌, ◌≤◌, ◌^◌, ◌++◌, ◌∷◌, [], ℕ, Bool, false, List};
+ghost use Rattle.std.specs.Prelude.{◌≡◌, ◌≢◌, ◌+◌, ◌<◌, ◌≤◌, ◌^◌, ◌++◌, ◌∷◌, [], ℕ, Bool, false, List};
 ghost use Rattle.std.specs.Prelude.{Option, MatchResult, OnOk, Err};
 ghost use Rattle.mm_types.specs.{Move, Rose};
 ghost use Rattle.mm_life.specs.{unstarted, IsLegal, after_move};
@@ -64,6 +64,9 @@ fn next<S: Source, T: Teller, O: Sink>(
     ensures read_fault { result ≡ Err (Closing.Ended Ending.ReadFault)
         → Rose (S.faults source.old) (S.faults source.new) }
     ensures out_fault { result ≡ Err Closing.OutFault → Rose (O.faults out.old) (O.faults out.new) }
+    ensures source_same { result ≢ Err (Closing.Ended Ending.ReadFault)
+        → S.faults source.new ≡ S.faults source.old }
+    ensures out_same { result ≢ Err Closing.OutFault → O.faults out.new ≡ O.faults out.old }
 {
     let mut m = Move::Clear(Frame(0));
     match reader.take_next(life, source, &mut m) {
@@ -108,6 +111,9 @@ pub(crate) fn tell_log<S: Source, T: Teller, O: Sink>(
     ensures read_fault { result ≡ Closing.Ended Ending.ReadFault
         → Rose (S.faults source.old) (S.faults source.new) }
     ensures out_fault { result ≡ Closing.OutFault → Rose (O.faults out.old) (O.faults out.new) }
+    ensures source_same { result ≢ Closing.Ended Ending.ReadFault
+        → S.faults source.new ≡ S.faults source.old }
+    ensures out_same { result ≢ Closing.OutFault → O.faults out.new ≡ O.faults out.old }
 {
     let mut reader = LogReader::new();
     for n in 0..MOST_LINES {

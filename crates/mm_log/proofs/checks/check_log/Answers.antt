@@ -1,4 +1,4 @@
-use Rattle.std.proofs.Common.{arith}
+use Rattle.std.proofs.Common.{◌∙◌, refl, arith}
 use Rattle.mm_replay.specs.Standing.{life}
 use Rattle.mm_log.proofs.{stands_none, came_full}
 use Rattle.mm_log.proofs.checks.check_log.Goals as goal
@@ -9,6 +9,7 @@ loop-n-init g c = record {
   ready = c.new-reader.ensures.ready;
   lines = c.new-reader.ensures.lines;
   later = omega arith;
+  same = refl;
 }
 
 pub loop-n-preserved : goal.loop-n-preserved
@@ -17,6 +18,7 @@ loop-n-preserved g c = record {
   ready = c.in-Ok.ensures.ready.0;
   lines = omega (arith, c.in-Ok.ensures.ready.1, c.loop-n.invariant.lines);
   later = omega (arith, c.next.ensures.later, c.loop-n.invariant.later);
+  same = c.next.ensures.same (λ e. cc) ∙ c.loop-n.invariant.same;
 }
 
 pub returns-clause-came : goal.returns-clause-came

@@ -9,4 +9,5 @@ invariant-loop-n g l = record {
   ready : IsReadyToRead l.reader;
   lines : l.reader.lines ≡ l.n;
   later : g.S.Source.faults l.fn.source ≤ g.S.Source.faults l.source;
+  same : g.S.Source.faults l.source ≡ g.S.Source.faults l.fn.source;
 }

@@ -1,4 +1,4 @@
-use Rattle.std.proofs.Common.{rules, ◌≡◌, ◌<◌, ◌++◌, length, take, inl, refl, sym, subst, arith}
+use Rattle.std.proofs.Common.{rules, ◌≡◌, ◌<◌, ◌++◌, ◌∙◌, length, take, inl, refl, sym, subst, arith}
 use Rattle.std.proofs.lemmas.Grind.{common_steps}
 use Rattle.mm_types.specs.{Text, Took}
 use Rattle.mm_types.proofs.{took_then}
@@ -30,6 +30,7 @@ loop-n-preserved g c =
       few = first_of (omega arith, search rules);
       some = grind (arith, common_steps);
       later = first_of (search rules, omega arith);
+      same = c.in-Ok.ensures.cause.same ∙ c.loop-n.invariant.same;
     }
 
 pub returns-clause-err : goal.returns-clause-err

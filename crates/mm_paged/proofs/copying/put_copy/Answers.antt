@@ -9,4 +9,4 @@ pub map-requires-clause-alone : goal.map-requires-clause-alone
 map-requires-clause-alone g c = own_may_map c.args.place c.args.f (g.T.Moving.shown c.unmap.new.self) (g.met.T.Moving.holds c.unmap.new.self) (in_frame_then (key_of_place c.args.place) c.args.f (g.T.Moving.shown c.args.state.now) (g.T.Moving.shown c.unmap.new.self) c.args.place c.requires.frame c.unmap.ensures.made.life c.unmap.ensures.requests)
 
 pub returns-clause-put : goal.returns-clause-put
-returns-clause-put g c = copy_put c.args.place c.args.f (g.T.Moving.shown c.args.state.now) (g.T.Moving.shown c.unmap.new.self) (g.T.Moving.shown c.map.new.self) (g.met.T.Moving.holds c.unmap.new.self) c.requires.frame (in_frame_then (key_of_place c.args.place) c.args.f (g.T.Moving.shown c.args.state.now) (g.T.Moving.shown c.unmap.new.self) c.args.place c.requires.frame c.unmap.ensures.made.life c.unmap.ensures.requests) c.requires.aside c.unmap.ensures.made c.unmap.ensures.rest c.map.ensures.made c.map.ensures.rest
+returns-clause-put g c = copy_put c.args.place c.args.f (g.T.Moving.shown c.args.state.now) (g.T.Moving.shown c.unmap.new.self) (g.T.Moving.shown c.map.new.self) (g.met.T.Moving.holds c.unmap.new.self) c.requires.shows c.requires.frame (in_frame_then (key_of_place c.args.place) c.args.f (g.T.Moving.shown c.args.state.now) (g.T.Moving.shown c.unmap.new.self) c.args.place c.requires.frame c.unmap.ensures.made.life c.unmap.ensures.requests) c.requires.aside c.unmap.ensures.made c.unmap.ensures.rest c.map.ensures.made c.map.ensures.rest

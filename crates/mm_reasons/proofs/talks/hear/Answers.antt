@@ -1,4 +1,4 @@
-use Rattle.mm_reasons.proofs.{matched_then, blamed_result}
+use Rattle.mm_reasons.proofs.{matched_then, blamed_result, well_then}
 use Rattle.mm_reasons.proofs.talks.hear.Goals as goal
 
 pub returns-clause-said : goal.returns-clause-said
@@ -15,3 +15,9 @@ returns-clause-blame g c =
     (out c.args.out.now) (out c.listen.new.out) (out c.take_byte.new.out)
     (err c.args.err.now) (err c.listen.new.err) (err c.take_byte.new.err)
     c.listen.ensures.later c.listen.ensures.err_later c.take_byte.ensures.blame
+
+pub returns-clause-out_well : goal.returns-clause-out_well
+returns-clause-out_well g c = λ n. well_then _ _ _ (c.in_ok-listen.ensures.out_well (λ e. cc)) (c.take_byte.ensures.out_well n)
+
+pub returns-clause-err_well : goal.returns-clause-err_well
+returns-clause-err_well g c = λ n. well_then _ _ _ (c.in_ok-listen.ensures.err_well (λ e. cc)) (c.take_byte.ensures.err_well n)

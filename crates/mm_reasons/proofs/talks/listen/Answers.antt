@@ -1,6 +1,6 @@
-use Rattle.std.proofs.Common.{arith}
+use Rattle.std.proofs.Common.{◌∙◌, arith}
 use Rattle.mm_types.proofs.{rose_later}
-use Rattle.mm_reasons.proofs.{said_then, talked_then, blamed_write}
+use Rattle.mm_reasons.proofs.{said_then, talked_then, blamed_write, well_then}
 use Rattle.mm_reasons.proofs.talks.listen.Goals as goal
 
 pub returns-in-Err-clause-blame : goal.returns-in-Err-clause-blame
@@ -34,4 +34,13 @@ loop-turn-preserved g c =
       source_later = omega (arith, c.read.ensures.cause.later, i.source_later);
       later = omega (arith, c.take_bytes.ensures.later, i.later);
       err_later = omega (arith, c.take_bytes.ensures.err_later, i.err_later);
+      source_same = c.in-Ok.ensures.cause.same ∙ i.source_same;
+      out_well = well_then _ _ _ i.out_well (c.in-Ok-take_bytes.ensures.out_well (λ e. cc));
+      err_well = well_then _ _ _ i.err_well (c.in-Ok-take_bytes.ensures.err_well (λ e. cc));
     }
+
+pub returns-in-Err-take_bytes-clause-out_well : goal.returns-in-Err-take_bytes-clause-out_well
+returns-in-Err-take_bytes-clause-out_well g c = λ n. well_then _ _ _ c.loop-turn.invariant.out_well (c.in-Err-take_bytes.ensures.out_well n)
+
+pub returns-in-Err-take_bytes-clause-err_well : goal.returns-in-Err-take_bytes-clause-err_well
+returns-in-Err-take_bytes-clause-err_well g c = λ n. well_then _ _ _ c.loop-turn.invariant.err_well (c.in-Err-take_bytes.ensures.err_well n)

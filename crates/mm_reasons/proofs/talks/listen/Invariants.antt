@@ -1,5 +1,5 @@
-use Rattle.std.proofs.Common.{◌≤◌}
-use Rattle.mm_reasons.specs.{Said}
+use Rattle.std.proofs.Common.{◌≡◌, ◌≤◌}
+use Rattle.mm_reasons.specs.{GoesWell, sink_seen, Said}
 use Rattle.mm_reasons.proofs.talks.listen.Given as goal
 
 abbrev pub invariant-loop-turn : goal.invariant-loop-turn
@@ -8,4 +8,7 @@ invariant-loop-turn g l = record {
   source_later : g.S.Source.faults l.fn.source ≤ g.S.Source.faults l.source;
   later : g.O.Sink.faults l.fn.out ≤ g.O.Sink.faults l.out;
   err_later : g.E.Sink.faults l.fn.err ≤ g.E.Sink.faults l.err;
+  source_same : g.S.Source.faults l.source ≡ g.S.Source.faults l.fn.source;
+  out_well : GoesWell (sink_seen g.O.Sink l.fn.out) (sink_seen g.O.Sink l.out);
+  err_well : GoesWell (sink_seen g.E.Sink l.fn.err) (sink_seen g.E.Sink l.err);
 }

@@ -1,5 +1,5 @@
 use Rattle.std.proofs.Common.{arith}
-use Rattle.mm_reasons.proofs.{said_then, talked_then, blamed_later}
+use Rattle.mm_reasons.proofs.{said_then, talked_then, blamed_later, well_then}
 use Rattle.mm_reasons.proofs.talks.take_bytes.Goals as goal
 
 pub returns-in-Err-clause-said : goal.returns-in-Err-clause-said
@@ -24,4 +24,12 @@ loop-byte-preserved g c =
           c.loop-byte.invariant.said c.in-Ok.ensures.said;
       later = omega (arith, c.take_byte.ensures.later, c.loop-byte.invariant.later);
       err_later = omega (arith, c.take_byte.ensures.err_later, c.loop-byte.invariant.err_later);
+      out_well = well_then _ _ _ c.loop-byte.invariant.out_well (c.in-Ok.ensures.out_well (λ e. cc));
+      err_well = well_then _ _ _ c.loop-byte.invariant.err_well (c.in-Ok.ensures.err_well (λ e. cc));
     }
+
+pub returns-in-Err-clause-out_well : goal.returns-in-Err-clause-out_well
+returns-in-Err-clause-out_well g c = λ n. well_then _ _ _ c.loop-byte.invariant.out_well (c.in-Err.ensures.out_well n)
+
+pub returns-in-Err-clause-err_well : goal.returns-in-Err-clause-err_well
+returns-in-Err-clause-err_well g c = λ n. well_then _ _ _ c.loop-byte.invariant.err_well (c.in-Err.ensures.err_well n)

@@ -1,5 +1,5 @@
 use Rattle.std.proofs.Common.{◌≤◌}
-use Rattle.mm_reasons.specs.{Said}
+use Rattle.mm_reasons.specs.{GoesWell, sink_seen, Said}
 use Rattle.mm_reasons.proofs.talks.take_bytes.Given as goal
 
 abbrev pub invariant-loop-byte : goal.invariant-loop-byte
@@ -7,4 +7,6 @@ invariant-loop-byte g l = record {
   said : Said (g.O.Sink.taken l.fn.out) (g.O.Sink.taken l.out);
   later : g.O.Sink.faults l.fn.out ≤ g.O.Sink.faults l.out;
   err_later : g.E.Sink.faults l.fn.err ≤ g.E.Sink.faults l.err;
+  out_well : GoesWell (sink_seen g.O.Sink l.fn.out) (sink_seen g.O.Sink l.out);
+  err_well : GoesWell (sink_seen g.E.Sink l.fn.err) (sink_seen g.E.Sink l.err);
 }

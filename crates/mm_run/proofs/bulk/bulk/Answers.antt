@@ -16,7 +16,7 @@ returns-in-Err-clause-ran g c = λ left.
 
 pub returns-in-Err-clause-faults : goal.returns-in-Err-clause-faults
 returns-in-Err-clause-faults g c = λ s.
-    accounted_unflushed c.decide_script-decided.result _ _ _ (c.decide_script-decided.ensures.ends.faults s (g.O.Sink.faults c.args.out.now)) _ 6 refl c.in-Err.ensures.cause.failed
+    accounted_unflushed c.decide_script-decided.result _ _ _ (c.decide_script-decided.ensures.ends.faults s (g.O.Sink.faults c.args.out.now)) _ 6 refl c.in-Err.ensures.cause.failed refl
 
 -- all events were decided
 

@@ -53,7 +53,7 @@ pub returns-in-Err-clause-came : goal.returns-in-Err-clause-came
 returns-in-Err-clause-came g c = λ o made.
     let l = c.loop-event in
     first_stopped c.args.machine o (scene c.args.world.now) made (sym c.if-moves_failed.ensures) c.args.events.now (Running (scene c.decide.new.world)) c.in-Err.ending
-    (stopped_on (Running (scene c.args.world.now)) (scene l.world) (scene c.decide.new.world) c.args.events.now l.event-index l.ok l.none c.event-item.result c.in-Err.ending (omega arith) l.invariant.handled c.in-Err.ensures.came)
+    (stopped_on (Running (scene c.args.world.now)) (scene l.world) (scene c.decide.new.world) c.args.events.now l.event-index l.ok l.none c.event-item.result c.in-Err.ending (omega arith) c.event-item.is l.invariant.handled c.in-Err.ensures.came)
 
 pub returns-in-Err-clause-faults : goal.returns-in-Err-clause-faults
 returns-in-Err-clause-faults g c = λ o made fresh s k.

@@ -1,4 +1,4 @@
-use Rattle.std.proofs.Common.{refl, ap, arith}
+use Rattle.std.proofs.Common.{refl, sym, ap, ◌∙◌, arith}
 use Rattle.mm_core.specs.{scene}
 use Rattle.mm_run.specs.{Running, fault_counts_with}
 use Rattle.mm_run.proofs.{came_held_back, went_told, came_torn, scene_follows}
@@ -41,4 +41,13 @@ returns-in-Err-give_on-clause-steps g c = λ input held n few short.
       faults = (c.in-Err-give_on.ensures.cause.failed, λ i. fault_counts_with input.faults (g.O.Sink.faults gave.new.out) (c.in-Ok.ensures.flushed.all i).faults);
       idle = omega arith;
       form = λ q. cc;
+    }
+
+pub returns-in-Ok-give_on-clause-still : goal.returns-in-Ok-give_on-clause-still
+returns-in-Ok-give_on-clause-still g c =
+    let all = c.in-Ok.ensures.flushed.all in
+    record {
+      none = c.give_on.ensures.none;
+      answers = c.in-Ok-give_on.ensures.gave;
+      moves = ap (λ l. l.given) all ∙ sym (ap (λ l. l.bytes) all);
     }

@@ -1,8 +1,9 @@
-use Rattle.std.proofs.Common.{refl, sym, ap, ◌∙◌, subst, rules}
+use Rattle.std.proofs.Common.{◌≡◌, refl, sym, ap, ◌∙◌, subst, rules}
 use Rattle.mm_types.specs.{IsMachine}
 use Rattle.mm_core.specs.{world, world_behind, scene}
 use Rattle.mm_paged.specs.Store as paged
-use Rattle.mm_run.specs.{Comes, IsBlamed, MachineIsMade, NotBegun, Outset, Running, Starts, fault_counts_with, left_behind, outside_seen, stand}
+use Rattle.mm_run.specs.declared.endings.Ending.TheVariants as ending
+use Rattle.mm_run.specs.{Comes, IsBlamed, IsStill, MachineIsMade, NotBegun, Outset, Running, Starts, fault_counts_with, left_behind, outside_seen, stand}
 use Rattle.mm_run.proofs.{is_new, is_made, log_left_at}
 use Rattle.mm_parts.proofs.{first_legal}
 use Rattle.mm_run.proofs.machines.answer_over.Goals as goal
@@ -37,3 +38,7 @@ returns-clause-came g c = λ o h.
 pub returns-clause-faults : goal.returns-clause-faults
 returns-clause-faults g c = λ o h.
     subst (λ z. IsBlamed c.answer_all-ending.result ⊥ (fault_counts_with (g.S.Source.faults c.args.source.now) (g.O.Sink.faults c.args.out.now) o.log.faults) (fault_counts_with (g.S.Source.faults c.answer_all-ending.new.source) (g.O.Sink.faults c.answer_all-ending.new.out) (g.T.Moving.shown z).log.faults)) (sym (c.finish-2.ensures.state ∙ ap (λ x. x.state) c.finish.ensures)) (c.answer_all-ending.ensures.faults o (made g (goal.at.returns-clause-faults g c).After-finish-2 o h) h.unfailed)
+
+pub returns-clause-still : goal.returns-clause-still
+returns-clause-still g c =
+    subst (λ z. c.answer_all-ending.result ≡ ending.ReadFault → IsStill c.answer_all-ending.new.kept (g.O.Sink.given c.answer_all-ending.new.out) (g.O.Sink.taken c.answer_all-ending.new.out) (g.T.Moving.shown z).log.given (g.T.Moving.shown z).log.bytes) (sym (c.finish-2.ensures.state ∙ ap (λ x. x.state) c.finish.ensures)) c.answer_all-ending.ensures.still

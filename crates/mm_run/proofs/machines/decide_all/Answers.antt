@@ -63,3 +63,14 @@ returns-in-Err-open_devices-clause-ends g c =
       faults = blamed_open c.in-Err-open_devices.ending _ _ failed.ends failed.blame;
       idle = omega arith;
     })
+
+-- where a read failed nothing was held back
+
+pub returns-in-Ok-open_devices-clause-none : goal.returns-in-Ok-open_devices-clause-none
+returns-in-Ok-open_devices-clause-none g c = λ k q. (c.run_machine.ensures.still q).none
+
+pub returns-in-Ok-open_devices-clause-gave : goal.returns-in-Ok-open_devices-clause-gave
+returns-in-Ok-open_devices-clause-gave g c = λ k q. (c.run_machine.ensures.still q).answers
+
+pub returns-in-Ok-open_devices-clause-moves : goal.returns-in-Ok-open_devices-clause-moves
+returns-in-Ok-open_devices-clause-moves g c = λ k q. (c.run_machine.ensures.still q).moves

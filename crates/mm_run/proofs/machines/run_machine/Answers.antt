@@ -1,7 +1,8 @@
 use Rattle.std.proofs.Common.{ℕ, ◌≡◌, ◌≤◌, ◌<◌, refl, sym, ap, ◌∙◌, subst, inl, arith}
 use Rattle.mm_types.specs.declared.events.Event.TheVariants as line
 use Rattle.mm_state.specs.{shown_state}
-use Rattle.mm_run.specs.{Comes, IsBlamed, NotBegun, Starts, fault_counts_with, left_seen, outset, outside_seen, stand}
+use Rattle.mm_run.specs.declared.endings.Ending.TheVariants as ending
+use Rattle.mm_run.specs.{Comes, IsBlamed, IsStill, NotBegun, Starts, fault_counts_with, left_seen, outset, outside_seen, stand}
 use Rattle.mm_run.proofs.{lent, starts_over, three_names, comes_here, follows_here, grows_here, came_memory}
 use Rattle.mm_run.proofs.machines.run_machine.Goals as goal
 use Rattle.mm_run.proofs.machines.run_machine.Goals.{In-Ok, After-moves-2-1}
@@ -60,3 +61,9 @@ returns-clause-faults g c =
     let at = (goal.at.returns-clause-faults g c).After-moves-2-1 in
     subst (λ d. IsBlamed c.answer_over-ending.result.0 ⊥ (fault_counts_with (g.S.Source.faults c.args.source.now) (g.O.Sink.faults c.args.out.now) (g.M.Sink.faults c.args.moves.now)) (fault_counts_with (g.S.Source.faults c.answer_over-ending.new.source) (g.O.Sink.faults c.answer_over-ending.new.out) (g.M.Sink.faults d))) (left g at).2
     (c.answer_over-ending.ensures.faults _ (starts g (at_made g at) 0 0 (omega arith) (omega arith)))
+
+pub returns-clause-still : goal.returns-clause-still
+returns-clause-still g c =
+    let at = (goal.at.returns-clause-still g c).After-moves-2-1 in
+    subst (λ d. c.answer_over-ending.result.0 ≡ ending.ReadFault → IsStill c.answer_over-ending.new.kept (g.O.Sink.given c.answer_over-ending.new.out) (g.O.Sink.taken c.answer_over-ending.new.out) (g.M.Sink.given d) (g.M.Sink.taken d)) (left g at).2
+    c.answer_over-ending.ensures.still

@@ -1,10 +1,14 @@
 use Rattle.mm_show.specs.{whole_page}
-use Rattle.mm_show.proofs.{said_sums, told_as, said_is}
+use Rattle.mm_show.proofs.{said_page, said_sums, told_as, said_is}
 use Rattle.mm_transcripts.specs.{transcript_rest}
 use Rattle.mm_uses.specs.{counts_rest, use_rest, state_rest}
 use Rattle.mm_histories.specs.{history_rest}
 use Rattle.mm_faults.specs.{fault_rest}
 use Rattle.mm_show.proofs.top.shown.Goals as goal
+
+pub returns-in-Ok-clause-answers : goal.returns-in-Ok-clause-answers
+returns-in-Ok-clause-answers g c =
+    told_as c.args.form _ (whole_page c.args.page.now) c.args.script.now c.args.answers.now _ _ _ _ _ _ c.in-Html.is (said_page c.in-Ok.teller (whole_page c.args.page.now) c.args.script.now c.args.answers.now c.in-Ok.ensures) c.answered.ensures.answers
 
 pub returns-in-Tell-clause-answers : goal.returns-in-Tell-clause-answers
 returns-in-Tell-clause-answers g c =

@@ -1,4 +1,4 @@
-use Rattle.std.proofs.Common.{arith}
+use Rattle.std.proofs.Common.{◌∙◌, refl, arith}
 use Rattle.mm_replay.specs.Standing.{life}
 use Rattle.mm_tell.proofs.{tells_none, closes_full}
 use Rattle.mm_tell.proofs.replays.tell_log.Goals as goal
@@ -11,6 +11,8 @@ loop-n-init g c = record {
   counted = omega (arith, c.requires.counted);
   source_later = omega arith;
   out_later = omega arith;
+  source_same = refl;
+  out_same = refl;
 }
 
 pub loop-n-preserved : goal.loop-n-preserved
@@ -21,6 +23,8 @@ loop-n-preserved g c = record {
   counted = omega (arith, c.next.ensures.counted, c.loop-n.invariant.counted);
   source_later = omega (arith, c.next.ensures.later.0, c.loop-n.invariant.source_later);
   out_later = omega (arith, c.next.ensures.later.1, c.loop-n.invariant.out_later);
+  source_same = c.next.ensures.source_same (λ e. cc) ∙ c.loop-n.invariant.source_same;
+  out_same = c.next.ensures.out_same (λ e. cc) ∙ c.loop-n.invariant.out_same;
 }
 
 pub returns-clause-closes : goal.returns-clause-closes

@@ -12,4 +12,6 @@ invariant-loop-n g l = record {
   counted : g.T.Teller.counted l.teller ≤ l.n;
   source_later : g.S.Source.faults l.fn.source ≤ g.S.Source.faults l.source;
   out_later : g.O.Sink.faults l.fn.out ≤ g.O.Sink.faults l.out;
+  source_same : g.S.Source.faults l.source ≡ g.S.Source.faults l.fn.source;
+  out_same : g.O.Sink.faults l.out ≡ g.O.Sink.faults l.fn.out;
 }

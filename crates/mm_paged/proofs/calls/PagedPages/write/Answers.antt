@@ -5,7 +5,7 @@ use Rattle.mm_pages.specs.{Served, StoreOf}
 use Rattle.mm_pages.proofs.{served_nothing}
 use Rattle.mm_paged.specs.{store, own_in, paged_state}
 use Rattle.mm_paged.proofs.{brought_written, wrote_eases, wrote_passes, wrote_ends, written_in, soils_names, named_here, wrote_named, went_passes}
-use Rattle.mm_paged.proofs.{stuck_passes, of_went, of_stuck, served_in, ok_store, err_store, ok_served, stored_same, kept_in, some_is, not_here}
+use Rattle.mm_paged.proofs.{stuck_passes, of_wrote, of_stuck, served_in, ok_store, err_store, ok_served, stored_same, kept_in, some_is, not_here}
 use Rattle.mm_paged.proofs.{faulted_ends, named_then, faulted_kept}
 use Rattle.mm_paged.proofs.calls.PagedPages.write.Goals as goal
 
@@ -17,7 +17,9 @@ pub returns-in-Some-clause-fault : goal.returns-in-Some-clause-fault
 returns-in-Some-clause-fault g c b = wrote_ends c.args.key c.in-Some.f c.args.place _ _ _ (own_in c.args.self.now) _ _ (g.met.T.Moving.holds c.args.self.now.state) (sym c.valid.ensures ∙ c.in-Some.is) c.requires.at.named c.soil.ensures.soils c.write.ensures.rest b
 
 pub returns-in-Some-clause-passes : goal.returns-in-Some-clause-passes
-returns-in-Some-clause-passes g c = wrote_passes c.args.key c.in-Some.f c.args.place _ _ _ (own_in c.args.self.now) _ (sym c.valid.ensures ∙ c.in-Some.is) c.soil.ensures.soils c.write.ensures.rest
+returns-in-Some-clause-passes g c = wrote_passes c.args.key c.in-Some.f c.args.place _ _ _ (own_in c.args.self.now) _ (sym c.valid.ensures ∙ c.in-Some.is)
+    ((g.met.T.Moving.holds c.args.self.now.state).named c.args.place c.in-Some.f (sym c.valid.ensures ∙ c.in-Some.is) ∙ named_here c.args.key c.in-Some.f c.args.place (paged_state c.args.self.now) (g.met.T.Moving.holds c.args.self.now.state) (sym c.valid.ensures ∙ c.in-Some.is) c.requires.at.named)
+    c.soil.ensures.soils c.write.ensures.rest
 
 pub returns-in-Some-clause-served : goal.returns-in-Some-clause-served
 returns-in-Some-clause-served g c =
@@ -36,19 +38,19 @@ returns-in-Some-clause-eased g c r = ap (λ (x : StoreOf). x.report) (wrote_ease
 -- the page is brought
 
 pub returns-in_default-clause-served : goal.returns-in_default-clause-served
-returns-in_default-clause-served g c = ok_served true c.args.key c.args.place (paged_state c.args.self.now) (g.T.Moving.shown c.fault_to_write-done.new.state) (own_in c.args.self.now) _ (of_went true c.args.key c.args.place (paged_state c.args.self.now) (g.T.Moving.shown c.fault_to_write-done.new.state) (sym c.valid.ensures ∙ c.in-None.is) c.in_default.ensures.ok.went c.in_default.ensures.ok.same) _ _ c.write-in-None.ensures.rest
+returns-in_default-clause-served g c = ok_served true c.args.key c.args.place (paged_state c.args.self.now) (g.T.Moving.shown c.fault_to_write-done.new.state) (own_in c.args.self.now) _ (of_wrote c.args.key c.args.place (paged_state c.args.self.now) (g.T.Moving.shown c.fault_to_write-done.new.state) (sym c.valid.ensures ∙ c.in-None.is) c.in_default.ensures.ok.went c.in_default.ensures.ok.same) _ _ c.write-in-None.ensures.rest
 
 pub returns-in_default-clause-ok : goal.returns-in_default-clause-ok
-returns-in_default-clause-ok g c = ok_store true c.args.key c.args.place (paged_state c.args.self.now) (g.T.Moving.shown c.fault_to_write-done.new.state) (own_in c.args.self.now) _ (of_went true c.args.key c.args.place (paged_state c.args.self.now) (g.T.Moving.shown c.fault_to_write-done.new.state) (sym c.valid.ensures ∙ c.in-None.is) c.in_default.ensures.ok.went c.in_default.ensures.ok.same) _ _ (g.met.T.Moving.holds c.args.self.now.state) (g.met.T.Moving.holds c.fault_to_write-done.new.state) c.in_default.ensures.ok.names c.write-in-None.ensures.rest refl refl
+returns-in_default-clause-ok g c = ok_store true c.args.key c.args.place (paged_state c.args.self.now) (g.T.Moving.shown c.fault_to_write-done.new.state) (own_in c.args.self.now) _ (of_wrote c.args.key c.args.place (paged_state c.args.self.now) (g.T.Moving.shown c.fault_to_write-done.new.state) (sym c.valid.ensures ∙ c.in-None.is) c.in_default.ensures.ok.went c.in_default.ensures.ok.same) _ _ (g.met.T.Moving.holds c.args.self.now.state) (g.met.T.Moving.holds c.fault_to_write-done.new.state) c.in_default.ensures.ok.names c.write-in-None.ensures.rest refl refl
 
 pub returns-in_default-clause-stored : goal.returns-in_default-clause-stored
-returns-in_default-clause-stored g c = ap (λ (s : StateOf). length s.blocks) c.write-in-None.ensures.rest ∙ stored_same (paged_state c.args.self.now) (g.T.Moving.shown c.fault_to_write-done.new.state) (kept_in true c.args.key c.args.place (paged_state c.args.self.now) (g.T.Moving.shown c.fault_to_write-done.new.state) (own_in c.args.self.now) (own_in c.args.self.now) (of_went true c.args.key c.args.place (paged_state c.args.self.now) (g.T.Moving.shown c.fault_to_write-done.new.state) (sym c.valid.ensures ∙ c.in-None.is) c.in_default.ensures.ok.went c.in_default.ensures.ok.same)) (g.met.T.Moving.holds c.args.self.now.state) (g.met.T.Moving.holds c.fault_to_write-done.new.state)
+returns-in_default-clause-stored g c = ap (λ (s : StateOf). length s.blocks) c.write-in-None.ensures.rest ∙ stored_same (paged_state c.args.self.now) (g.T.Moving.shown c.fault_to_write-done.new.state) (kept_in true c.args.key c.args.place (paged_state c.args.self.now) (g.T.Moving.shown c.fault_to_write-done.new.state) (own_in c.args.self.now) (own_in c.args.self.now) (of_wrote c.args.key c.args.place (paged_state c.args.self.now) (g.T.Moving.shown c.fault_to_write-done.new.state) (sym c.valid.ensures ∙ c.in-None.is) c.in_default.ensures.ok.went c.in_default.ensures.ok.same)) (g.met.T.Moving.holds c.args.self.now.state) (g.met.T.Moving.holds c.fault_to_write-done.new.state)
 
 pub returns-in_default-clause-eased : goal.returns-in_default-clause-eased
 returns-in_default-clause-eased g c r = absurd (not_here _ (sym c.valid.ensures ∙ c.in-None.is) (c.args.self.now.kept.ready _ r))
 
 pub returns-in_default-clause-passes : goal.returns-in_default-clause-passes
-returns-in_default-clause-passes g c = went_passes true c.args.key c.args.place (paged_state c.args.self.now) (g.T.Moving.shown c.fault_to_write-done.new.state) _ (own_in c.args.self.now) _ _ _ (sym c.valid.ensures ∙ c.in-None.is) (λ r. c.args.self.now.kept.ready _ r) (of_went true c.args.key c.args.place (paged_state c.args.self.now) (g.T.Moving.shown c.fault_to_write-done.new.state) (sym c.valid.ensures ∙ c.in-None.is) c.in_default.ensures.ok.went c.in_default.ensures.ok.same) (some_is _ c.in_default.ensures.ok.valid) c.write-in-None.ensures.rest
+returns-in_default-clause-passes g c = went_passes true c.args.key c.args.place (paged_state c.args.self.now) (g.T.Moving.shown c.fault_to_write-done.new.state) _ (own_in c.args.self.now) _ _ _ (sym c.valid.ensures ∙ c.in-None.is) (λ r. c.args.self.now.kept.ready _ r) (of_wrote c.args.key c.args.place (paged_state c.args.self.now) (g.T.Moving.shown c.fault_to_write-done.new.state) (sym c.valid.ensures ∙ c.in-None.is) c.in_default.ensures.ok.went c.in_default.ensures.ok.same) (some_is _ c.in_default.ensures.ok.valid) c.write-in-None.ensures.rest
 
 pub returns-in_default-clause-written : goal.returns-in_default-clause-written
 returns-in_default-clause-written g c = brought_written c.args.key c.args.off c.args.bytes.now (paged_state c.args.self.now) (g.T.Moving.shown c.fault_to_write-done.new.state) _ _ _ c.in_default.ensures.ok.same c.write-in-None.ensures.rest (c.write-in-None.ensures.bytes c.args.key (named_then c.args.key c.args.place _ _ c.in_default.ensures.ok.names))
@@ -78,7 +80,7 @@ pub invariant_of-self-in-Err-1 : goal.invariant_of-self-in-Err-1
 invariant_of-self-in-Err-1 g c = record { kept = faulted_kept true c.args.key c.args.place (paged_state c.args.self.now) (g.T.Moving.shown c.fault_to_write-done.new.state) (own_in c.args.self.now) _ (of_stuck true c.in-Err.why c.args.key c.args.place (paged_state c.args.self.now) (g.T.Moving.shown c.fault_to_write-done.new.state) (sym c.valid.ensures ∙ c.in-None.is) c.in-Err.ensures.err) (g.T.Moving.shown c.fault_to_write-done.new.state) c.args.self.now.kept refl refl refl refl refl refl }
 
 pub invariant_of-self-in-None : goal.invariant_of-self-in-None
-invariant_of-self-in-None g c = record { kept = faulted_kept true c.args.key c.args.place (paged_state c.args.self.now) (g.T.Moving.shown c.fault_to_write-done.new.state) (own_in c.args.self.now) _ (of_went true c.args.key c.args.place (paged_state c.args.self.now) (g.T.Moving.shown c.fault_to_write-done.new.state) (sym c.valid.ensures ∙ c.in-None.is) c.in_default.ensures.ok.went c.in_default.ensures.ok.same) _ c.args.self.now.kept (ap (λ (s : StateOf). s.life) c.write-in-None.ensures.rest) (ap (λ (s : StateOf). s.own) c.write-in-None.ensures.rest) (ap (λ (s : StateOf). s.aside) c.write-in-None.ensures.rest) (ap (λ (s : StateOf). s.told) c.write-in-None.ensures.rest) refl refl }
+invariant_of-self-in-None g c = record { kept = faulted_kept true c.args.key c.args.place (paged_state c.args.self.now) (g.T.Moving.shown c.fault_to_write-done.new.state) (own_in c.args.self.now) _ (of_wrote c.args.key c.args.place (paged_state c.args.self.now) (g.T.Moving.shown c.fault_to_write-done.new.state) (sym c.valid.ensures ∙ c.in-None.is) c.in_default.ensures.ok.went c.in_default.ensures.ok.same) _ c.args.self.now.kept (ap (λ (s : StateOf). s.life) c.write-in-None.ensures.rest) (ap (λ (s : StateOf). s.own) c.write-in-None.ensures.rest) (ap (λ (s : StateOf). s.aside) c.write-in-None.ensures.rest) (ap (λ (s : StateOf). s.told) c.write-in-None.ensures.rest) refl refl }
 
 pub fault_to_write-done-requires : goal.fault_to_write-done-requires
 fault_to_write-done-requires g c = record {
